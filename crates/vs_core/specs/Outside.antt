@@ -3,6 +3,7 @@ use Rattle.std.specs.Prelude.{◌≡◌, ℕ, ◌+◌, ◌-◌, ◌^◌, ◌≤�
 use Rattle.std.specs.List.{list_any}
 use Rattle.std.specs.Option.{option_map, option_map_or}
 use Rattle.std.specs.Str.{bytes_eq}
+use Rattle.vs_core.specs.Path.{path_of}
 use Rattle.vs_core.specs.declared.flow.Flow.{Flow}
 use Rattle.vs_core.specs.declared.outside.Dialed.{Dialed}
 use Rattle.vs_core.specs.declared.outside.Dialed.TheVariants as dialed
@@ -33,6 +34,10 @@ pub record Host : Type 0 where
   pub base : List ℕ
   pub streams : List Stream
   pub listening : List (List ℕ)
+
+-- A further port is listened on.
+abbrev pub after_listen : ℕ → Host → Host
+after_listen port h = record h { listening = h.listening ++ path_of h.base port ∷ [] }
 
 -- The stream of that number. None has number 0.
 abbrev pub stream_at : ℕ → Host → Option Stream

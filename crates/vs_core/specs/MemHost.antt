@@ -1,0 +1,13 @@
+-- A host in memory.
+use Rattle.std.specs.Prelude.{ℕ, Bool, false, List, []}
+use Rattle.vs_core.specs.Outside.{Host}
+
+-- What it tells, how many of its calls failed, and whether one of them found no memory.
+pub record HostMemory : Type 0 where
+  pub host : Host
+  pub faults : ℕ
+  pub starved : Bool
+
+-- A host that was just made: no streams, and nothing is listened on.
+abbrev pub new_host : List ℕ → HostMemory
+new_host base = record { host = record { base = base; streams = []; listening = [] }; faults = 0; starved = false }

@@ -1,0 +1,196 @@
+//! A host in memory: a listening path leads to a stream that takes all bytes.
+ghost use Rattle.std.specs.Prelude.{◌≡◌, ◌≤◌, ◌<◌, length, true, Some, IfOk, OnOk, OnErr};
+ghost use Rattle.std.specs.Bool.{OnTrue, OnFalse};
+ghost use Rattle.std.specs.Option.{ForSome};
+ghost use Rattle.std.specs.List.{list_any};
+ghost use Rattle.std.specs.Str.{bytes_eq};
+ghost use Rattle.vs_core.specs.Outside.{IsOpen, one_more, dial_failed, write_failed, dialed_of, after_dial, written_of, after_write, after_close, after_listen};
+ghost use Rattle.vs_core.specs.MemHost.{new_host};
+
+use crate::flow::Flow;
+use crate::outside::{Dialed, HostNet, Written};
+use crate::path::{BASE_MAX, PathText, listen_path};
+use std::alloc::{AllocError, Global};
+use std::marker::Model;
+
+/// A stream of a host in memory.
+#[derive(Drop)]
+pub struct MemStream {
+    label: Option<Flow>,
+    given: Vec<u8>,
+    closed: bool,
+}
+
+impl Model for MemStream {
+    ghost use Rattle.std.specs.Prelude.{None, false};
+    ghost use Rattle.vs_core.specs.Outside.{Stream};
+
+    ghost Value = { Stream };
+
+    ghost view = { λ s. record { label = s.label; given = s.given.items; takes = None; gone = false; closed = s.closed } };
+}
+
+impl MemStream {
+    /// The flow that the stream was dialled for.
+    pub fn label(&self) -> Option<Flow>
+        ensures { result ≡ self.now.label }
+    {
+        self.label
+    }
+
+    /// The bytes given to the stream so far.
+    pub fn given(&self) -> &[u8]
+        ensures { result.now ≡ self.now.given }
+    {
+        &self.given
+    }
+
+    /// Whether the device closed the stream.
+    pub fn is_closed(&self) -> bool
+        ensures { result ≡ self.now.closed }
+    {
+        self.closed
+    }
+}
+
+/// A host in memory. Its streams take all bytes, and it fails only where it finds no memory.
+#[derive(Drop)]
+pub struct MemHost {
+    base: String,
+    streams: Vec<MemStream>,
+    listening: Vec<PathText>,
+    faults: u64,
+    starved: bool,
+}
+
+impl Model for MemHost {
+    ghost use Rattle.std.specs.Prelude.{◌≡◌, ◌≤◌, false, length};
+    ghost use Rattle.std.specs.String.{string_bytes};
+    ghost use Rattle.vs_core.specs.MemHost.{HostMemory};
+    ghost use Rattle.vs_core.specs.declared.path.TheConstants.{BASE_MAX};
+
+    ghost Value = { HostMemory };
+
+    ghost view = { λ m. record {
+      host = record { base = string_bytes m.base; streams = m.streams.items; listening = m.listening.items };
+      faults = m.faults;
+      starved = m.starved;
+    } };
+
+    ghost invariant = { λ m. (length (string_bytes m.base) ≤ BASE_MAX) × (m.starved ≡ false → m.faults ≡ 0) };
+}
+
+impl MemHost {
+    /// A host without streams at which nothing is listened on. The base has at most `BASE_MAX` bytes.
+    pub fn new(alloc: Global, base: &str) -> Result<MemHost, AllocError>
+        requires { length base.now ≤ BASE_MAX }
+        ensures { IfOk result (λ host. host ≡ new_host base.now) }
+    {
+        Ok(MemHost {
+            base: String::from_str(alloc, base)?,
+            streams: Vec::new(alloc),
+            listening: Vec::new(alloc),
+            faults: 0,
+            starved: false,
+        })
+    }
+
+    /// Listens on a further port, at its path. Where there is no memory for it, all is as before.
+    pub fn listen(&mut self, port: u32) -> Result<(), AllocError>
+        ensures ok { OnOk result (self.new ≡ record self.old { host = after_listen port self.old.host }) }
+        ensures err { OnErr result (self.new ≡ self.old) }
+    {
+        self.listening.push(listen_path(&self.base, port))?;
+        Ok(())
+    }
+
+    /// The streams, by rising number.
+    pub fn streams(&self) -> &[MemStream]
+        ensures { result.now ≡ self.now.host.streams }
+    {
+        &self.streams
+    }
+
+    /// Whether a call failed since it found no memory. While none did, no call has failed.
+    pub fn starved(&self) -> bool
+        ensures value { result ≡ self.now.starved }
+        ensures no_fault { OnFalse result (self.now.faults ≡ 0) }
+    {
+        self.starved
+    }
+
+    /// How many calls failed so far.
+    pub fn faults(&self) -> u64
+        ensures { result ≡ self.now.faults }
+    {
+        self.faults
+    }
+
+    /// Counts a call that found no memory.
+    fn starve(&mut self)
+        ensures { self.new ≡ record self.old { faults = one_more self.old.faults; starved = true } }
+    {
+        self.faults = self.faults.saturating_add(1);
+        self.starved = true;
+    }
+}
+
+/// Whether the path is one of those.
+fn is_listened(paths: &[PathText], path: &str) -> bool
+    ensures { result ≡ list_any (λ p. bytes_eq p path.now) paths.now }
+{
+    paths.iter().any(|p| p.as_str() == path)
+}
+
+impl HostNet for MemHost {
+    ghost faults = { λ m. m.faults };
+
+    ghost told = { λ m. Some m.host };
+
+    fn dial(&mut self, path: &str, flow: Flow) -> Dialed
+        ensures starves { OnTrue (dial_failed result) (self.new ≡ record self.old { faults = one_more self.old.faults; starved = true }) }
+        ensures value { OnFalse (dial_failed result) (result ≡ dialed_of path.now self.old.host) }
+        ensures after { OnFalse (dial_failed result) (self.new ≡ record self.old { host = after_dial path.now flow self.old.host }) }
+    {
+        if !is_listened(&self.listening, path) {
+            return Dialed::Refused;
+        }
+        let stream = MemStream {
+            label: Some(flow),
+            given: Vec::new(*self.streams.allocator()),
+            closed: false,
+        };
+        match self.streams.push(stream) {
+            Ok(()) => Dialed::Stream(self.streams.len() as u64),
+            Err(_) => {
+                self.starve();
+                Dialed::Failed
+            }
+        }
+    }
+
+    fn write(&mut self, id: u64, bytes: &[u8]) -> Written
+        requires is_open { IsOpen id self.old.host }
+        requires some { 0 < length bytes.now }
+        ensures starves { OnTrue (write_failed result) (self.new ≡ record self.old { faults = one_more self.old.faults; starved = true }) }
+        ensures value { OnFalse (write_failed result) (result ≡ written_of id bytes.now self.old.host) }
+        ensures after { OnFalse (write_failed result) (self.new ≡ record self.old { host = after_write id bytes.now self.old.host }) }
+    {
+        let stream = &mut self.streams[id as usize - 1];
+        match stream.given.extend_from_slice(bytes) {
+            Ok(()) => Written::Took(bytes.len()),
+            Err(_) => {
+                self.starve();
+                Written::Failed
+            }
+        }
+    }
+
+    fn close(&mut self, id: u64)
+        requires { IsOpen id self.old.host }
+        ensures { self.new ≡ record self.old { host = after_close id self.old.host } }
+    {
+        let stream = &mut self.streams[id as usize - 1];
+        stream.closed = true;
+    }
+}
