@@ -1,1 +1,3 @@
+pub mod Kind
+pub mod Op
 pub mod Packet

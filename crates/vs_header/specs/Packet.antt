@@ -18,10 +18,17 @@ field_at place n bytes = little_number n (drop place bytes)
 -- The header that 44 bytes hold.
 abbrev pub header_of : List ℕ → Header
 header_of bytes = record {
-    src_cid = field_at 0 8 bytes; dst_cid = field_at 8 8 bytes;
-    src_port = field_at 16 4 bytes; dst_port = field_at 20 4 bytes;
-    len = field_at 24 4 bytes; kind = field_at 28 2 bytes; op = field_at 30 2 bytes;
-    flags = field_at 32 4 bytes; buf_alloc = field_at 36 4 bytes; fwd_cnt = field_at 40 4 bytes }
+  src_cid = field_at 0 8 bytes;
+  dst_cid = field_at 8 8 bytes;
+  src_port = field_at 16 4 bytes;
+  dst_port = field_at 20 4 bytes;
+  len = field_at 24 4 bytes;
+  kind = field_at 28 2 bytes;
+  op = field_at 30 2 bytes;
+  flags = field_at 32 4 bytes;
+  buf_alloc = field_at 36 4 bytes;
+  fwd_cnt = field_at 40 4 bytes;
+}
 
 -- A packet: its header, and the bytes after it.
 pub record Packet : Type 0 where

@@ -1,7 +1,10 @@
-//! The packet header of the socket device (Virtio 1.2, section 5.10.6): its fields, and its 44 bytes.
+//! The packet header of the socket device (Virtio 1.2, section 5.10.6): its fields, its 44 bytes, and the numbers of
+//! operations and types.
 #![tactic(auto)]
 
-ghost use Rattle.std.specs.Prelude.{◌≡◌};
+ghost use Rattle.std.specs.Prelude.{◌≡◌, ◌≢◌, ◌≤◌, IfNone, IfSome};
+ghost use Rattle.vs_header.specs.Kind.{kind_named, kind_number};
+ghost use Rattle.vs_header.specs.Op.{op_named, op_number};
 ghost use Rattle.vs_header.specs.Packet.{header_bytes, header_of};
 
 use byteorder::{ByteOrder, LittleEndian};
@@ -37,25 +40,16 @@ pub struct Header {
 impl Header {
     /// The 44 bytes of the header.
     pub fn encode(&self) -> [u8; 44]
-        ensures { result ≡ header_bytes self.now }
+        ensures bytes { result ≡ header_bytes self.now }
+        ensures back { header_of result ≡ self.now }
     {
-        let mut bytes = [0; 44];
-        LittleEndian::write_u64(&mut bytes, self.src_cid);
-        LittleEndian::write_u64(&mut bytes[8..], self.dst_cid);
-        LittleEndian::write_u32(&mut bytes[16..], self.src_port);
-        LittleEndian::write_u32(&mut bytes[20..], self.dst_port);
-        LittleEndian::write_u32(&mut bytes[24..], self.len);
-        LittleEndian::write_u16(&mut bytes[28..], self.kind);
-        LittleEndian::write_u16(&mut bytes[30..], self.op);
-        LittleEndian::write_u32(&mut bytes[32..], self.flags);
-        LittleEndian::write_u32(&mut bytes[36..], self.buf_alloc);
-        LittleEndian::write_u32(&mut bytes[40..], self.fwd_cnt);
-        bytes
+        bytes_of(*self)
     }
 
     /// The header that 44 bytes hold. Every 44 bytes hold one.
     pub fn decode(bytes: &[u8; 44]) -> Header
-        ensures { result ≡ header_of bytes.now }
+        ensures fields { result ≡ header_of bytes.now }
+        ensures back { header_bytes result ≡ bytes.now }
     {
         Header {
             src_cid: LittleEndian::read_u64(bytes),
@@ -72,11 +66,134 @@ impl Header {
     }
 }
 
+// The 44 bytes of a header, which comes by value.
+fn bytes_of(header: Header) -> [u8; 44]
+    ensures bytes { result ≡ header_bytes header }
+    ensures back { header_of result ≡ header }
+{
+    let mut bytes = [0; 44];
+    LittleEndian::write_u64(&mut bytes, header.src_cid);
+    LittleEndian::write_u64(&mut bytes[8..], header.dst_cid);
+    LittleEndian::write_u32(&mut bytes[16..], header.src_port);
+    LittleEndian::write_u32(&mut bytes[20..], header.dst_port);
+    LittleEndian::write_u32(&mut bytes[24..], header.len);
+    LittleEndian::write_u16(&mut bytes[28..], header.kind);
+    LittleEndian::write_u16(&mut bytes[30..], header.op);
+    LittleEndian::write_u32(&mut bytes[32..], header.flags);
+    LittleEndian::write_u32(&mut bytes[36..], header.buf_alloc);
+    LittleEndian::write_u32(&mut bytes[40..], header.fwd_cnt);
+    bytes
+}
+
+/// The operation of a packet.
+#[derive(Clone, Copy, Debug, PartialEq, Eq)]
+pub enum Op {
+    /// No operation: a packet never carries it.
+    Invalid,
+    /// Asks for a connection.
+    Request,
+    /// Answers a request: the connection stands.
+    Response,
+    /// Ends the connection at once, or refuses one.
+    Rst,
+    /// Says that its sender will receive or send no more.
+    Shutdown,
+    /// Carries payload.
+    Rw,
+    /// Tells the sender's buffer space.
+    CreditUpdate,
+    /// Asks the receiver to tell its buffer space.
+    CreditRequest,
+}
+
+impl Op {
+    /// The number of the operation, as a header carries it.
+    pub fn number(self) -> u16
+        ensures number { result ≡ op_number self }
+        ensures back { op_named result ≡ Some self }
+    {
+        self as u16
+    }
+}
+
+/// The operation of a number; `None` for every number above 7.
+pub fn op_of(number: u16) -> Option<Op>
+    ensures exact { result ≡ op_named number }
+    ensures number { IfSome result (λ op. op_number op ≡ number) }
+    ensures none { IfNone result (8 ≤ number) }
+{
+    match number {
+        0 => Some(Op::Invalid),
+        1 => Some(Op::Request),
+        2 => Some(Op::Response),
+        3 => Some(Op::Rst),
+        4 => Some(Op::Shutdown),
+        5 => Some(Op::Rw),
+        6 => Some(Op::CreditUpdate),
+        7 => Some(Op::CreditRequest),
+        _ => None,
+    }
+}
+
+/// The type of a socket.
+#[derive(Clone, Copy, Debug, PartialEq, Eq)]
+pub enum Kind {
+    /// A stream of bytes.
+    Stream = 1,
+    /// Messages that keep their bounds.
+    Seqpacket = 2,
+}
+
+impl Kind {
+    /// The number of the type, as a header carries it.
+    pub fn number(self) -> u16
+        ensures number { result ≡ kind_number self }
+        ensures back { kind_named result ≡ Some self }
+    {
+        self as u16
+    }
+}
+
+/// The type of a number; `None` for every number but 1 and 2.
+pub fn kind_of(number: u16) -> Option<Kind>
+    ensures exact { result ≡ kind_named number }
+    ensures number { IfSome result (λ kind. kind_number kind ≡ number) }
+    ensures none { IfNone result ((number ≢ 1) × (number ≢ 2)) }
+{
+    match number {
+        1 => Some(Kind::Stream),
+        2 => Some(Kind::Seqpacket),
+        _ => None,
+    }
+}
+
 #[cfg(test)]
 mod tests {
     use super::*;
 
+    // The bytes of a REQUEST, written out by hand from the standard's layout.
+    const REQUEST: [u8; 44] = [
+        0x03, 0, 0, 0, 0, 0, 0, 0, 0x02, 0, 0, 0, 0, 0, 0, 0, 0x00, 0x04, 0, 0, 0x34, 0, 0, 0, 0,
+        0, 0, 0, 0x01, 0, 0x01, 0, 0, 0, 0, 0, 0x00, 0x00, 0x01, 0x00, 0, 0, 0, 0,
+    ];
+
     #[test]
-    fn x(rt: HostRuntime) {
+    fn request_to_and_from_bytes(rt: HostRuntime) {
+        let request = Header {
+            src_cid: 3,
+            dst_cid: 2,
+            src_port: 1024,
+            dst_port: 52,
+            len: 0,
+            kind: Kind::Stream.number(),
+            op: Op::Request.number(),
+            flags: 0,
+            buf_alloc: 65536,
+            fwd_cnt: 0,
+        };
+        assert_eq!(rt; request.encode(), REQUEST);
+        assert_eq!(rt; Header::decode(&REQUEST), request);
+        assert_eq!(rt; op_of(request.op), Some(Op::Request));
+        assert_eq!(rt; kind_of(request.kind), Some(Kind::Stream));
     }
 }
