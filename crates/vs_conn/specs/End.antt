@@ -17,7 +17,6 @@ use Rattle.vs_conn.specs.declared.end.Stop.{Stop}
 use Rattle.vs_conn.specs.declared.end.Stop.TheVariants.{NotOpen, Reset}
 use Rattle.vs_conn.specs.declared.end.Verdict.{Verdict}
 use Rattle.vs_conn.specs.declared.end.Verdict.TheVariants as verdict
-use Rattle.vs_conn.specs.declared.end.Why.{Why}
 use Rattle.vs_conn.specs.declared.end.Why.TheVariants.{BadKind, BadOp, Twice, NotAsked, NotLive, Overrun}
 
 -- One end of a connection: its state, whether its REQUEST was put, and its credit.
@@ -39,10 +38,14 @@ abbrev pub response_verdict : State → Verdict
 response_verdict Asked = verdict.Accept
 response_verdict _ = verdict.Rst NotAsked
 
+-- The verdict on an RW of len bytes at an end that is Live.
+abbrev pub payload_verdict : Credit → ℕ → Verdict
+payload_verdict c len =
+    if nat_lt (room_of c) len then verdict.Rst (Overrun (record { len = len; room = room_of c })) else verdict.Deliver
+
 -- The verdict on an RW of len bytes.
 abbrev pub rw_verdict : State → Credit → ℕ → Verdict
-rw_verdict Live c len =
-    if nat_lt (room_of c) len then verdict.Rst (Overrun (record { len = len; room = room_of c })) else verdict.Deliver
+rw_verdict Live c len = payload_verdict c len
 rw_verdict _ c len = verdict.Rst NotLive
 
 -- The verdict on a stream packet, by its operation, at an end that is not Ended.
@@ -53,13 +56,21 @@ op_verdict (Some op.Rst) state c len = verdict.Peer
 op_verdict (Some op.Rw) state c len = rw_verdict state c len
 op_verdict _ state c len = verdict.Rst BadOp
 
--- The verdict on a packet: of the wrong type, else by its operation. An end that is Ended hears an RST and nothing else.
-abbrev pub state_verdict : State → Credit → Header → Verdict
-state_verdict Ended c h = if is_stream h && is_rst h then verdict.Peer else verdict.Ignore
-state_verdict state c h =
+-- The verdict on a packet at an end that is not Ended: by the type of its socket, then by its operation.
+abbrev pub open_verdict : State → Credit → Header → Verdict
+open_verdict state c h =
     if is_stream h then op_verdict (op_named h.op) state c h.len
     else if is_rst h then verdict.Ignore
     else verdict.Rst BadKind
+
+-- The verdict on a packet at an end that is Ended: it hears an RST and nothing else.
+abbrev pub ended_verdict : Header → Verdict
+ended_verdict h = if is_stream h && is_rst h then verdict.Peer else verdict.Ignore
+
+-- The verdict on a packet in each state.
+abbrev pub state_verdict : State → Credit → Header → Verdict
+state_verdict Ended c h = ended_verdict h
+state_verdict state c h = open_verdict state c h
 
 -- What an end says to a packet.
 abbrev pub verdict_of : ConnectionEnd → Header → Verdict

@@ -1,6 +1,6 @@
 //! The credit of one end of a connection (Virtio 1.2, section 5.10.6.3).
 
-ghost use Rattle.std.specs.Prelude.{◌≡◌, ℕ, ◌+◌, ◌%◌, ◌^◌, ◌<◌, ◌≤◌, IfErr, OnOk};
+ghost use Rattle.std.specs.Prelude.{◌≡◌, ℕ, ◌+◌, ◌-◌, ◌%◌, ◌^◌, ◌<◌, ◌≤◌, IfErr, OnOk};
 ghost use Rattle.vs_conn.specs.Credit.{free_of, new_credit, room_of, unread_of, with_forwarded, with_heard, with_sent, with_taken};
 
 use crate::wrap::{add32, sub32};
@@ -99,15 +99,24 @@ impl Credit {
 
     /// Bytes that came in and were not forwarded yet.
     pub fn unread(&self) -> u32
-        ensures { result ≡ unread_of self.now }
+        ensures exact { result ≡ unread_of self.now }
+        // Of the plain numbers of bytes taken and forwarded, it is their difference.
+        ensures plain { (taken forwarded : ℕ) → taken % 2 ^ 32 ≡ self.now.rx_cnt → forwarded % 2 ^ 32 ≡ self.now.fwd_cnt
+            → forwarded ≤ taken → taken ≤ forwarded + (2 ^ 32 - 1)
+            → forwarded + result ≡ taken }
     {
         sub32(self.rx_cnt, self.fwd_cnt)
     }
 
     /// Bytes of room that this end has for payload.
     pub fn room(&self) -> u32
-        ensures { result ≡ room_of self.now }
+        ensures exact { result ≡ room_of self.now }
+        // Of the plain numbers of bytes taken and forwarded, it is what the buffer space leaves.
+        ensures plain { (taken forwarded : ℕ) → taken % 2 ^ 32 ≡ self.now.rx_cnt → forwarded % 2 ^ 32 ≡ self.now.fwd_cnt
+            → forwarded ≤ taken → taken ≤ forwarded + self.now.alloc
+            → result + taken ≡ forwarded + self.now.alloc }
     {
-        self.alloc.saturating_sub(self.unread())
+        let alloc = self.alloc;
+        alloc.saturating_sub(self.unread())
     }
 }

@@ -3,8 +3,9 @@
 
 ghost use Rattle.std.specs.Prelude.{◌≡◌, ◌≤◌, IsOkAnd, Some, Result};
 ghost use Rattle.vs_conn.specs.Credit.{unread_of, with_forwarded, with_sent};
-ghost use Rattle.vs_conn.specs.End.{answering, asked, end_after, may_send_of, owes_of, paid_of, verdict_of};
+ghost use Rattle.vs_conn.specs.End.{after_verdict, answering, asked, end_after, ended_verdict, may_send_of, open_verdict, owes_of, paid_of, payload_verdict, response_verdict, rw_verdict, verdict_of};
 ghost use Rattle.vs_conn.specs.declared.end.State.TheVariants.{Ended};
+ghost use Rattle.vs_conn.specs.declared.end.Verdict.TheVariants as verdict;
 
 use crate::credit::{Credit, Overrun};
 use std::marker::Model;
@@ -131,52 +132,65 @@ impl End {
         ensures verdict { result ≡ verdict_of self.old packet.now }
         ensures end { self.new ≡ end_after self.old packet.now }
     {
-        let is_stream = packet.kind == Kind::Stream.number();
-        let is_rst = packet.op == Op::Rst.number();
-        if self.state == State::Ended {
-            return if is_stream && is_rst {
-                Verdict::Peer
-            } else {
-                Verdict::Ignore
-            };
+        match self.state {
+            State::Ended => on_ended(packet),
+            State::Asked | State::Answering | State::Live => self.on_open(packet),
         }
-        if !is_stream {
-            return if is_rst {
-                Verdict::Ignore
-            } else {
-                self.refuse(Why::BadKind)
-            };
+    }
+
+    // Takes a packet at an end that is not ended.
+    fn on_open(&mut self, packet: &Header) -> Verdict
+        ensures verdict { result ≡ open_verdict self.old.state self.old.credit packet.now }
+        ensures end { self.new ≡ after_verdict self.old packet.now result }
+    {
+        if packet.kind != Kind::Stream.number() {
+            if packet.op == Op::Rst.number() {
+                return Verdict::Ignore;
+            }
+            return self.refuse(Why::BadKind);
         }
         match op_of(packet.op) {
             Some(Op::Request) => self.refuse(Why::Twice),
             Some(Op::Response) => self.on_response(packet),
             Some(Op::Rst) => Verdict::Peer,
             Some(Op::Rw) => self.on_rw(packet),
-            _ => self.refuse(Why::BadOp),
+            Some(Op::Invalid | Op::Shutdown | Op::CreditUpdate | Op::CreditRequest) | None => {
+                self.refuse(Why::BadOp)
+            }
         }
-    }
-
-    // Ends the connection for what a packet did.
-    fn refuse(&mut self, why: Why) -> Verdict {
-        self.state = State::Ended;
-        Verdict::Rst(why)
     }
 
     // Takes a RESPONSE at an end that is not ended.
-    fn on_response(&mut self, packet: &Header) -> Verdict {
-        if self.state != State::Asked {
-            return self.refuse(Why::NotAsked);
+    fn on_response(&mut self, packet: &Header) -> Verdict
+        ensures verdict { result ≡ response_verdict self.old.state }
+        ensures end { self.new ≡ after_verdict self.old packet.now result }
+    {
+        match self.state {
+            State::Asked => {
+                self.credit.heard(packet.buf_alloc, packet.fwd_cnt);
+                self.state = State::Live;
+                Verdict::Accept
+            }
+            State::Answering | State::Live | State::Ended => self.refuse(Why::NotAsked),
         }
-        self.credit.heard(packet.buf_alloc, packet.fwd_cnt);
-        self.state = State::Live;
-        Verdict::Accept
     }
 
     // Takes an RW at an end that is not ended.
-    fn on_rw(&mut self, packet: &Header) -> Verdict {
-        if self.state != State::Live {
-            return self.refuse(Why::NotLive);
+    fn on_rw(&mut self, packet: &Header) -> Verdict
+        ensures verdict { result ≡ rw_verdict self.old.state self.old.credit packet.now.len }
+        ensures end { self.new ≡ after_verdict self.old packet.now result }
+    {
+        match self.state {
+            State::Live => self.on_payload(packet),
+            State::Asked | State::Answering | State::Ended => self.refuse(Why::NotLive),
         }
+    }
+
+    // Takes an RW at an end that is live.
+    fn on_payload(&mut self, packet: &Header) -> Verdict
+        ensures verdict { result ≡ payload_verdict self.old.credit packet.now.len }
+        ensures end { self.new ≡ after_verdict self.old packet.now result }
+    {
         match self.credit.took(packet.len) {
             Ok(()) => {
                 self.credit.heard(packet.buf_alloc, packet.fwd_cnt);
@@ -184,6 +198,15 @@ impl End {
             }
             Err(overrun) => self.refuse(Why::Overrun(overrun)),
         }
+    }
+
+    // Ends the connection for what a packet did.
+    fn refuse(&mut self, why: Why) -> Verdict
+        ensures verdict { result ≡ verdict.Rst why }
+        ensures end { self.new ≡ record self.old { state = Ended } }
+    {
+        self.state = State::Ended;
+        Verdict::Rst(why)
     }
 
     /// Bytes that the end may send now, or why it may send none.
@@ -253,5 +276,16 @@ impl End {
             Owed::Request => self.request_put = true,
             Owed::Response => self.state = State::Live,
         }
+    }
+}
+
+// Takes a packet at an end that is ended.
+fn on_ended(packet: &Header) -> Verdict
+    ensures { result ≡ ended_verdict packet.now }
+{
+    if packet.kind == Kind::Stream.number() && packet.op == Op::Rst.number() {
+        Verdict::Peer
+    } else {
+        Verdict::Ignore
     }
 }
