@@ -3,3 +3,13 @@ pub mod Path
 pub mod Outside
 pub mod MemHost
 pub mod MemIo
+pub mod Profile
+pub mod Lists
+pub mod Interaction
+pub mod Reply
+pub mod Guest
+pub mod Driver
+pub mod Device
+pub mod DeviceCalls
+pub mod Told
+pub mod World

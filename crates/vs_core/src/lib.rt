@@ -1,14 +1,20 @@
-//! The world of a virtio socket device: flows, the world outside as traits, and memory forms of it.
+//! The core of a virtio socket device: the guest's driver and the device, over any rings and any host.
 #![tactic(auto)]
 
+mod device;
+mod driver;
 mod flow;
 mod mem_host;
 mod mem_io;
 mod outside;
 mod path;
+mod reply;
 
+pub use device::{Counters, Filled, Taken, Turn, Turned};
+pub use driver::{ConnId, ConnectError, ConnectionState, Polled, Received, Sent};
 pub use flow::{ASSIGNED_FIRST, ASSIGNED_LAST, Flow, is_assigned};
 pub use mem_host::{MemHost, MemStream};
 pub use mem_io::{FreeGate, MemSink, MemSource, StepClock};
 pub use outside::{Clock, Dialed, Gate, HostNet, Sink, SinkWrite, Source, SourceRead, Written};
 pub use path::{BASE_MAX, PathText, listen_path};
+pub use reply::Reply;
