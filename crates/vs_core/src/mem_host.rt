@@ -194,3 +194,33 @@ impl HostNet for MemHost {
         stream.closed = true;
     }
 }
+
+#[cfg(test)]
+mod tests {
+    use super::*;
+    use std::test::Fail;
+
+    #[test]
+    fn a_dial_to_a_listening_path_gives_a_stream_that_takes_bytes(
+        rt: HostRuntime,
+    ) -> Result<(), Fail> {
+        let flow = Flow {
+            guest: 1024,
+            host: 52,
+        };
+        let mut host = MemHost::new(rt.alloc(), "v.sock")?;
+        host.listen(52)?;
+        assert_eq!(rt; host.dial("v.sock_53", flow), Dialed::Refused);
+        assert_eq!(rt; host.dial("v.sock_52", flow), Dialed::Stream(1));
+        assert_eq!(rt; host.write(1, b"hello"), Written::Took(5));
+        host.close(1);
+        assert!(rt; !host.starved());
+        assert_eq!(rt; host.faults(), 0);
+        assert_eq!(rt; host.streams().len(), 1);
+        let stream = &host.streams()[0];
+        assert_eq!(rt; stream.label(), Some(flow));
+        assert_eq!(rt; stream.given(), b"hello".as_slice());
+        assert!(rt; stream.is_closed());
+        Ok(())
+    }
+}
