@@ -14,10 +14,23 @@ use Rattle.vs_core.specs.declared.outside.SourceRead.TheVariants as source_read
 use Rattle.vs_core.specs.declared.outside.SinkWrite.{SinkWrite}
 use Rattle.vs_core.specs.declared.outside.SinkWrite.TheVariants as sink_write
 
--- What is told only by some: where it is told, P holds of it before the call, and the call changes it by f.
+-- A call on what may tell what it holds. Where it tells, P holds of what it held before, and the call changes that by f.
 abbrev pub Tells : {T : Type 0} → Option T → Option T → (T → Type 0) → (T → T) → Type 0
 Tells None new P f = new ≡ None
 Tells (Some told) new P f = P told × (new ≡ Some (f told))
+
+-- A count after one more. It stands still at the last number of 64 bits.
+abbrev pub one_more : ℕ → ℕ
+one_more n = if nat_lt n (2 ^ 64 - 1) then n + 1 else n
+
+-- One more fault is counted.
+abbrev pub CountsFault : ℕ → ℕ → Type 0
+CountsFault old new = new ≡ one_more old
+
+-- One more fault is counted where the call failed, and none else.
+abbrev pub FaultRose : Bool → ℕ → ℕ → Type 0
+FaultRose true old new = CountsFault old new
+FaultRose false old new = new ≡ old
 
 -- One host stream: the flow that the device dialled it for, the bytes given to it, how many it takes now
 -- (none: any number), whether the host closed it, whether the device closed it.
@@ -56,7 +69,7 @@ with_stream id f h =
 abbrev pub is_listened : List ℕ → Host → Bool
 is_listened path h = list_any (λ p. bytes_eq p path) h.listening
 
--- A dial gives a new stream where the path is listened on. Its number is the next one.
+-- A dial gives a new stream, of the next number, where the path is listened on, and is refused else.
 abbrev pub dialed_of : List ℕ → Host → Dialed
 dialed_of path h = if is_listened path h then dialed.Stream (length h.streams + 1) else dialed.Refused
 
@@ -69,47 +82,32 @@ abbrev pub after_dial : List ℕ → Flow → Host → Host
 after_dial path flow h =
     if is_listened path h then record h { streams = h.streams ++ new_stream flow ∷ [] } else h
 
--- How many of n bytes the stream takes now.
-abbrev pub taken_of : ℕ → Stream → ℕ
-taken_of n s = if s.gone then 0 else option_map_or (λ room. min n room) s.takes n
-
--- A write to a stream that the host closed is answered by Closed, one that takes nothing by Again.
-abbrev pub write_answer : ℕ → Stream → Written
-write_answer n s =
-    if s.gone then written.Closed else (if taken_of n s == 0 then written.Again else written.Took (taken_of n s))
-
-abbrev pub written_of : ℕ → List ℕ → Host → Written
-written_of id bytes h = option_map_or (write_answer (length bytes)) (stream_at id h) written.Again
-
--- The stream with just the bytes given to it that it takes now.
-abbrev pub fed : List ℕ → Stream → Stream
-fed bytes s = let n = taken_of (length bytes) s in
-    record s { given = s.given ++ take n bytes; takes = option_map (λ room. room - n) s.takes }
-
-abbrev pub after_write : ℕ → List ℕ → Host → Host
-after_write id bytes h = with_stream id (fed bytes) h
-
--- The stream is closed.
-abbrev pub after_close : ℕ → Host → Host
-after_close id h = with_stream id (λ s. record s { closed = true }) h
-
--- A count of faults after one more: a count that has reached the last number of 64 bits stands still.
-abbrev pub one_more : ℕ → ℕ
-one_more n = if nat_lt n (2 ^ 64 - 1) then n + 1 else n
-
--- One more fault is counted.
-abbrev pub CountsFault : ℕ → ℕ → Type 0
-CountsFault old new = new ≡ one_more old
-
--- One more fault is counted where the call failed, and none else.
-abbrev pub FaultRose : Bool → ℕ → ℕ → Type 0
-FaultRose true old new = CountsFault old new
-FaultRose false old new = new ≡ old
-
 -- Whether a dial is answered by Failed.
 abbrev pub dial_failed : Dialed → Bool
 dial_failed dialed.Failed = true
 dial_failed _ = false
+
+-- How many of n bytes a stream takes now. One that the host closed takes none.
+abbrev pub taken_of : ℕ → Stream → ℕ
+taken_of n s = if s.gone then 0 else option_map_or (λ room. min n room) s.takes n
+
+-- What a write of n bytes to a stream is answered by.
+abbrev pub write_answer : ℕ → Stream → Written
+write_answer n s =
+    if s.gone then written.Closed else (if taken_of n s == 0 then written.Again else written.Took (taken_of n s))
+
+-- What a write of these bytes to the stream of that number is answered by. A stream that isn't there takes nothing.
+abbrev pub written_of : ℕ → List ℕ → Host → Written
+written_of id bytes h = option_map_or (write_answer (length bytes)) (stream_at id h) written.Again
+
+-- The stream after a write of these bytes: just those that it takes are given to it, and it takes so many less.
+abbrev pub fed : List ℕ → Stream → Stream
+fed bytes s = let n = taken_of (length bytes) s in
+    record s { given = s.given ++ take n bytes; takes = option_map (λ room. room - n) s.takes }
+
+-- A write changes the stream of that number alone.
+abbrev pub after_write : ℕ → List ℕ → Host → Host
+after_write id bytes h = with_stream id (fed bytes) h
 
 -- Whether a write to a stream is answered by Failed.
 abbrev pub write_failed : Written → Bool
@@ -120,6 +118,10 @@ write_failed _ = false
 abbrev pub TookSome : Written → ℕ → Type 0
 TookSome (written.Took n) len = (1 ≤ n) × (n ≤ len)
 TookSome _ len = Unit {0}
+
+-- The stream of that number is closed.
+abbrev pub after_close : ℕ → Host → Host
+after_close id h = with_stream id (λ s. record s { closed = true }) h
 
 -- Whether a read of a source is answered by Failed.
 abbrev pub read_failed : SourceRead → Bool

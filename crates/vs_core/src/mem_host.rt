@@ -1,11 +1,10 @@
 //! A host in memory: a listening path leads to a stream that takes all bytes.
-ghost use Rattle.std.specs.Prelude.{◌≡◌, ◌≤◌, ◌<◌, length, true, Some, IfOk, OnOk, OnErr};
+ghost use Rattle.std.specs.Prelude.{◌≡◌, ◌≤◌, ◌<◌, length, Some, IfOk, OnOk, OnErr};
 ghost use Rattle.std.specs.Bool.{OnTrue, OnFalse};
-ghost use Rattle.std.specs.Option.{ForSome};
 ghost use Rattle.std.specs.List.{list_any};
 ghost use Rattle.std.specs.Str.{bytes_eq};
-ghost use Rattle.vs_core.specs.Outside.{IsOpen, one_more, dial_failed, write_failed, dialed_of, after_dial, written_of, after_write, after_close, after_listen};
-ghost use Rattle.vs_core.specs.MemHost.{new_host};
+ghost use Rattle.vs_core.specs.Outside.{IsOpen, dial_failed, write_failed, dialed_of, after_dial, written_of, after_write, after_close, after_listen};
+ghost use Rattle.vs_core.specs.MemHost.{new_host, after_starving};
 
 use crate::flow::Flow;
 use crate::outside::{Dialed, HostNet, Written};
@@ -111,7 +110,7 @@ impl MemHost {
         &self.streams
     }
 
-    /// Whether a call failed since it found no memory. While none did, no call has failed.
+    /// Whether a call found no memory, and failed. As long as none did, no call has failed at all.
     pub fn starved(&self) -> bool
         ensures value { result ≡ self.now.starved }
         ensures no_fault { OnFalse result (self.now.faults ≡ 0) }
@@ -128,7 +127,7 @@ impl MemHost {
 
     /// Counts a call that found no memory.
     fn starve(&mut self)
-        ensures { self.new ≡ record self.old { faults = one_more self.old.faults; starved = true } }
+        ensures { self.new ≡ after_starving self.old }
     {
         self.faults = self.faults.saturating_add(1);
         self.starved = true;
@@ -148,9 +147,10 @@ impl HostNet for MemHost {
     ghost told = { λ m. Some m.host };
 
     fn dial(&mut self, path: &str, flow: Flow) -> Dialed
-        ensures starves { OnTrue (dial_failed result) (self.new ≡ record self.old { faults = one_more self.old.faults; starved = true }) }
+        ensures starves { OnTrue (dial_failed result) (self.new ≡ after_starving self.old) }
         ensures value { OnFalse (dial_failed result) (result ≡ dialed_of path.now self.old.host) }
-        ensures after { OnFalse (dial_failed result) (self.new ≡ record self.old { host = after_dial path.now flow self.old.host }) }
+        ensures after { OnFalse (dial_failed result)
+            (self.new ≡ record self.old { host = after_dial path.now flow self.old.host }) }
     {
         if !is_listened(&self.listening, path) {
             return Dialed::Refused;
@@ -172,9 +172,10 @@ impl HostNet for MemHost {
     fn write(&mut self, id: u64, bytes: &[u8]) -> Written
         requires is_open { IsOpen id self.old.host }
         requires some { 0 < length bytes.now }
-        ensures starves { OnTrue (write_failed result) (self.new ≡ record self.old { faults = one_more self.old.faults; starved = true }) }
+        ensures starves { OnTrue (write_failed result) (self.new ≡ after_starving self.old) }
         ensures value { OnFalse (write_failed result) (result ≡ written_of id bytes.now self.old.host) }
-        ensures after { OnFalse (write_failed result) (self.new ≡ record self.old { host = after_write id bytes.now self.old.host }) }
+        ensures after { OnFalse (write_failed result)
+            (self.new ≡ record self.old { host = after_write id bytes.now self.old.host }) }
     {
         let stream = &mut self.streams[id as usize - 1];
         match stream.given.extend_from_slice(bytes) {
@@ -192,5 +193,35 @@ impl HostNet for MemHost {
     {
         let stream = &mut self.streams[id as usize - 1];
         stream.closed = true;
+    }
+}
+
+#[cfg(test)]
+mod tests {
+    use super::*;
+    use std::test::Fail;
+
+    #[test]
+    fn a_dial_to_a_listening_path_gives_a_stream_that_takes_bytes(
+        rt: HostRuntime,
+    ) -> Result<(), Fail> {
+        let flow = Flow {
+            guest: 1024,
+            host: 52,
+        };
+        let mut host = MemHost::new(rt.alloc(), "v.sock")?;
+        host.listen(52)?;
+        assert_eq!(rt; host.dial("v.sock_53", flow), Dialed::Refused);
+        assert_eq!(rt; host.dial("v.sock_52", flow), Dialed::Stream(1));
+        assert_eq!(rt; host.write(1, b"hello"), Written::Took(5));
+        host.close(1);
+        assert!(rt; !host.starved());
+        assert_eq!(rt; host.faults(), 0);
+        assert_eq!(rt; host.streams().len(), 1);
+        let stream = &host.streams()[0];
+        assert_eq!(rt; stream.label(), Some(flow));
+        assert_eq!(rt; stream.given(), b"hello".as_slice());
+        assert!(rt; stream.is_closed());
+        Ok(())
     }
 }

@@ -211,3 +211,45 @@ impl Clock for StepClock {
 pub struct FreeGate;
 
 impl Gate for FreeGate {}
+
+#[cfg(test)]
+mod tests {
+    use super::*;
+    use std::test::Fail;
+
+    fn copied<S: Source, K: Sink>(source: &mut S, sink: &mut K) -> (SourceRead, SinkWrite) {
+        let mut room = [0; 4];
+        let read = source.read(&mut room);
+        (read, sink.write(&room))
+    }
+
+    #[test]
+    fn the_calls_that_are_to_fail_fail(rt: HostRuntime) -> Result<(), Fail> {
+        let bytes = Vec::from_slice(rt.alloc(), b"abcde")?;
+        let mut source = MemSource::new(bytes, 3, Vec::from_slice(rt.alloc(), &[2])?);
+        let mut sink = MemSink::new(rt.alloc(), 2, Vec::from_slice(rt.alloc(), &[3])?);
+        assert_eq!(rt;
+            copied(&mut source, &mut sink),
+            (SourceRead::Got(3), SinkWrite::Took(2))
+        );
+        assert_eq!(rt;
+            copied(&mut source, &mut sink),
+            (SourceRead::Failed, SinkWrite::Took(2))
+        );
+        assert_eq!(rt;
+            copied(&mut source, &mut sink),
+            (SourceRead::Got(2), SinkWrite::Failed)
+        );
+        assert_eq!(rt;
+            copied(&mut source, &mut sink),
+            (SourceRead::End, SinkWrite::Took(2))
+        );
+        assert_eq!(rt; source.faults(), 1);
+        assert_eq!(rt; sink.faults(), 1);
+        assert_eq!(rt; sink.bytes(), b"ab\0\0\0\0".as_slice());
+        let mut clock = StepClock::new();
+        clock.step(2_000);
+        assert_eq!(rt; clock.now(), 2_000);
+        Ok(())
+    }
+}

@@ -129,5 +129,6 @@ pub trait Clock {
         ensures never_falls { moment self.old ≤ result };
 }
 
-/// What is told of the steps of a run, so that a test can hold one up. Nothing is answered, so no result depends on it.
+/// What a run on threads passes before and after its steps, so that a test can hold one up. It answers nothing, so no
+/// result depends on it. A run on one thread passes none.
 pub trait Gate {}
