@@ -1,5 +1,5 @@
 -- A write into a buffer of which the first bytes are used.
-use Rattle.std.proofs.Common.{◌≡◌, ℕ, ◌+◌, ◌-◌, ◌<◌, ◌≤◌, max, List, ◌++◌, length, take, drop, sym, ap, ◌∙◌, arith, rules, append_assoc, length-append, length-take-le, length-drop}
+use Rattle.std.proofs.Common.{◌≡◌, ℕ, ◌+◌, ◌≤◌, max, List, ◌++◌, length, take, drop, sym, ap, ◌∙◌, arith, rules, append_assoc, length-append, length-take-le, length-drop}
 use Rattle.std.proofs.lemmas.List.{same_lists, places, take_at, drop-drop}
 use Rattle.vs_ring_list.specs.Page.{overwritten}
 

@@ -1,6 +1,6 @@
 -- The rings as plain lists: which pages are where, each as its used bytes, and what each call answers and leaves
 -- (Virtio 1.2, section 2.7).
-use Rattle.std.specs.Prelude.{ℕ, ◌+◌, ◌-◌, ◌%◌, ◌≤◌, ◌≡◌, ◌⊎◌, Bool, true, false, ◌&&◌, ◌==◌, if◌then◌else◌, List, [], ◌∷◌, ◌++◌, length, take, Option, Some, None, count_by}
+use Rattle.std.specs.Prelude.{ℕ, ◌+◌, ◌-◌, ◌%◌, ◌≤◌, ◌≡◌, ◌⊎◌, Bool, true, false, ◌&&◌, ◌==◌, if◌then◌else◌, List, [], ◌∷◌, ◌++◌, length, take, Option, Some, None, count_by, map}
 use Rattle.vs_ring_list.specs.Page.{overwritten}
 use Rattle.vs_ring_list.specs.declared.ring_port.Queue.{Queue}
 use Rattle.vs_ring_list.specs.declared.ring_port.Queue.TheVariants.{Rx, Tx, Event}
@@ -71,6 +71,9 @@ same_queue _ _ = false
 abbrev pub same_chain : Chain → Chain → Bool
 same_chain a b = same_queue a.queue b.queue && a.place == b.place && a.readable == b.readable && a.writable == b.writable
 
+abbrev pub chains_of : List Held → List Chain
+chains_of held = map (λ h. h.chain) held
+
 -- how many chains of a queue the device holds
 abbrev pub held_of : Queue → List Held → ℕ
 held_of queue held = count_by (λ h. same_queue queue h.chain.queue) held
@@ -119,6 +122,9 @@ room_in Event = 4096
 abbrev pub chain_with : Queue → ℕ → List ℕ → Chain
 chain_with queue place page = record { queue = queue; place = place; readable = length (to_read queue page); writable = room_in queue }
 
+abbrev pub held_by : Queue → ℕ → List ℕ → Held
+held_by queue place page = record { chain = chain_with queue place page; bytes = to_read queue page }
+
 -- The chain that is taken next, and the rings once it is held.
 abbrev pub chain_at : Queue → ℕ → List (List ℕ) → Next
 chain_at queue place [] = next.None
@@ -130,8 +136,8 @@ next_of queue w = chain_at queue (queue_of queue w).place (queue_of queue w).giv
 abbrev pub after_take : Queue → List (List ℕ) → Lists → Rings → Rings
 after_take queue [] q w = w
 after_take queue (page ∷ pages) q w =
-    let holds = record w { held = record { chain = chain_with queue q.place page; bytes = to_read queue page } ∷ w.held } in
-    with_queue queue (record q { given = pages; place = (q.place + 1) % w.size }) holds
+    let taken = with_queue queue (record q { given = pages; place = (q.place + 1) % w.size }) w in
+    record taken { held = held_by queue q.place page ∷ w.held }
 
 abbrev pub after_next : Queue → Rings → Rings
 after_next queue w = after_take queue (queue_of queue w).given (queue_of queue w) w
@@ -177,12 +183,17 @@ abbrev pub without_held : Chain → List Held → List Held
 without_held chain [] = []
 without_held chain (h ∷ held) = if same_chain chain h.chain then held else h ∷ without_held chain held
 
+-- A page is returned: it comes after those returned before.
+abbrev pub returned : Queue → List ℕ → Rings → Rings
+returned queue page w = let q = queue_of queue w in with_queue queue (record q { back = q.back ++ page ∷ [] }) w
+
+-- A chain is held no more.
+abbrev pub released : Chain → Rings → Rings
+released chain w = record w { held = without_held chain w.held }
+
 -- A chain is returned, with the first of its bytes.
 abbrev pub after_done : Chain → ℕ → Rings → Rings
-after_done chain len w =
-    let q = queue_of chain.queue w in
-    let returned = with_queue chain.queue (record q { back = q.back ++ take len (bytes_held chain w) ∷ [] }) w in
-    record returned { held = without_held chain w.held }
+after_done chain len w = returned chain.queue (take len (bytes_held chain w)) (released chain w)
 
 -- the rings of size n before the first call
 abbrev pub empty_rings : ℕ → Rings
