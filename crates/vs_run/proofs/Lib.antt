@@ -1,0 +1,4 @@
+mod Computes
+pub mod HexDigits
+pub mod Numerals
+pub mod Pieces

@@ -1,0 +1,2 @@
+-- Printed text.
+use Rattle.std.specs.Prelude.{ℕ}
