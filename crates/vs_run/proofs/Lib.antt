@@ -1,4 +1,5 @@
 mod Computes
 pub mod HexDigits
+pub mod Lines
 pub mod Numerals
 pub mod Pieces

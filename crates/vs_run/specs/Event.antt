@@ -114,3 +114,12 @@ line_of (name ∷ args) =
 -- What a line says. One of more than 4,200 bytes says nothing.
 abbrev pub reading_of : List ℕ → Option EventLine
 reading_of line = if nat_le (length line) 4200 then line_of (words_of line) else None
+
+abbrev pub is_connect : Option EventLine → Bool
+is_connect (Some (Connect port)) = true
+is_connect (Some (Send id bytes)) = false
+is_connect (Some (Recv id len)) = false
+is_connect (Some Poll) = false
+is_connect (Some Turn) = false
+is_connect (Some (HostListen port)) = false
+is_connect None = false

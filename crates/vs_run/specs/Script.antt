@@ -1,7 +1,8 @@
 -- Scripts: the event lines of a text, and the first line that is none.
-use Rattle.std.specs.Prelude.{ℕ, ◌==◌, ◌&&◌, ◌||◌, nat_le, if◌then◌else◌, Bool, true, false, not, List, [], ◌∷◌, ◌++◌, map, length, filter, filter_map, count_by, slice_index, Option, Some, None, is_some, Result, Ok, Err}
+use Rattle.std.specs.Prelude.{ℕ, ◌≡◌, ◌==◌, ◌&&◌, ◌||◌, nat_le, if◌then◌else◌, Bool, true, false, not, List, [], ◌∷◌, ◌++◌, map, length, filter, filter_map, count_by, slice_index, Option, Some, None, is_some, Result, Ok, Err}
 use Rattle.std.specs.List.{onto_first, enumerate_from, list_all}
-use Rattle.vs_run.specs.Event.{EventLine, Connect, Send, Recv, Poll, Turn, HostListen, is_empty, words_of, reading_of}
+use Rattle.vs_run.specs.Event.{EventLine, event_line, is_empty, words_of, reading_of, is_connect}
+use Rattle.vs_run.specs.declared.script.event.Line.{Line}
 use Rattle.vs_run.specs.declared.script.ParseFault.{ParseFault}
 use Rattle.vs_run.specs.declared.script.ParseFault.TheVariants.{Refused, OutOfMemory}
 use Rattle.vs_run.specs.declared.script.Why.TheVariants.{BadWord, TooLong}
@@ -22,15 +23,6 @@ readings lines = map (λ line. (line.0, reading_of line.1)) (filter (λ line. no
 -- Those of a text, whose lines are numbered from 1 on.
 abbrev pub event_lines : List ℕ → List (ℕ × Option EventLine)
 event_lines text = readings (enumerate_from 1 (lines_of text))
-
-abbrev pub is_connect : Option EventLine → Bool
-is_connect (Some (Connect port)) = true
-is_connect (Some (Send id bytes)) = false
-is_connect (Some (Recv id len)) = false
-is_connect (Some Poll) = false
-is_connect (Some Turn) = false
-is_connect (Some (HostListen port)) = false
-is_connect None = false
 
 -- Whether lines make a script: each is an event line, 20,000 of them at most, and one `connect` at most.
 abbrev pub is_script : List (Option EventLine) → Bool
@@ -53,3 +45,12 @@ abbrev pub script_of : List ℕ → Result (List EventLine) ParseFault
 script_of text =
     if nat_le (length text) 1048576 then judged (event_lines text) (first_fault [] (event_lines text))
     else Err (Refused 0 TooLong)
+
+-- A text is refused so. Want of memory says nothing of the text.
+abbrev pub IsRefused : List ℕ → ParseFault → Type 0
+IsRefused text (Refused line why) = script_of text ≡ Err (Refused line why)
+IsRefused text OutOfMemory = Unit {0}
+
+-- What lines say that were read.
+abbrev pub said : List Line → List (Option EventLine)
+said lines = map (λ line. Some (event_line line)) lines

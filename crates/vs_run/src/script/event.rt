@@ -1,10 +1,13 @@
 //! Event lines, and the words that spell them.
 
-ghost use Rattle.std.specs.Prelude.{◌≡◌, ◌≢◌, ◌∷◌, [], ℕ, List, IfOk, IfNone, IfSome, option_map};
-ghost use Rattle.vs_run.specs.Event.{event_line, words_of, connect_of, send_of, recv_of, alone_of, host_of, line_of};
+ghost use Rattle.std.specs.Prelude.{◌≡◌, ◌≢◌, ◌∷◌, [], ℕ, List, IfOk, IfNone, IfSome, Some, option_map};
+ghost use Rattle.vs_run.specs.Event.{event_line, words_of, connect_of, send_of, recv_of, alone_of, host_of, line_of, reading_of, is_connect};
 
 use crate::script::field::{hex_bytes, next_word, number};
 use std::alloc::{AllocError, Global};
+
+/// The most bytes of an event line, without its LF.
+const MAX_LINE: usize = 4200;
 
 /// The most bytes that one `recv` asks for.
 const MAX_RECV: u32 = 65_536;
@@ -26,8 +29,27 @@ pub enum Line {
     HostListen { port: u32 },
 }
 
-/// What the words of a line say, where they are those of an event line.
-pub fn event_line(alloc: Global, text: &[u8]) -> Result<Option<Line>, AllocError>
+impl Line {
+    /// What a line of a script says, where it is an event line.
+    pub fn read(alloc: Global, text: &[u8]) -> Result<Option<Line>, AllocError>
+        ensures { IfOk result (λ found. option_map event_line found ≡ reading_of text.now) }
+    {
+        if text.len() > MAX_LINE {
+            return Ok(None);
+        }
+        by_name(alloc, text)
+    }
+
+    /// Whether the line is `connect PORT`.
+    pub fn is_connect(&self) -> bool
+        ensures { result ≡ is_connect (Some (event_line self.now)) }
+    {
+        matches!(self, Line::Connect { .. })
+    }
+}
+
+/// What the words of a line say, by its name.
+fn by_name(alloc: Global, text: &[u8]) -> Result<Option<Line>, AllocError>
     ensures { IfOk result (λ found. option_map event_line found ≡ line_of (words_of text.now)) }
 {
     let Some((name, args)) = next_word(text) else {
