@@ -1,9 +1,9 @@
 -- The grammar computes on a script.
-use Rattle.std.proofs.Common.{◌≡◌, ℕ, List, [], ◌∷◌, ◌++◌, Ok, Err, codes, refl}
+use Rattle.std.proofs.Common.{◌≡◌, [], ◌∷◌, Ok, Err, codes, refl}
 use Rattle.vs_run.specs.Event.{Connect, Send, Recv, Poll, Turn, HostListen}
 use Rattle.vs_run.specs.Script.{script_of}
-use Rattle.vs_run.specs.declared.script.ParseFault.TheVariants.{Refused, OutOfMemory}
-use Rattle.vs_run.specs.declared.script.Why.TheVariants.{BadWord, TooLong}
+use Rattle.vs_run.specs.declared.script.ParseFault.TheVariants.{Refused}
+use Rattle.vs_run.specs.declared.script.Why.TheVariants.{BadWord}
 
 pub hello : script_of (codes "host listen 52\nconnect 52\nturn\npoll\nsend 1 68656c6c6f\nturn\nrecv 1 10\n")
     ≡ Ok (HostListen 52 ∷ Connect 52 ∷ Turn ∷ Poll ∷ Send 1 (codes "hello") ∷ Turn ∷ Recv 1 10 ∷ [])

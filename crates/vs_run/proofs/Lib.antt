@@ -3,3 +3,4 @@ pub mod HexDigits
 pub mod Lines
 pub mod Numerals
 pub mod Pieces
+pub mod Printed

@@ -1,6 +1,6 @@
 -- Scripts, one line more at a time.
-use Rattle.std.proofs.Common.{◌≡◌, ◌<◌, ◌≤◌, ◌+◌, ◌&&◌, ◌++◌, ◌∷◌, ℕ, suc, Bool, true, false, not, cond, nat_lt, nat_le, List, [], length, map, Option, Some, None, refl, sym, ap, ◌∙◌, arith, inl, inr, add-one, le-leb, leb-true, append-nil, append_assoc}
-use Rattle.std.specs.Prelude.{count_by, sum_by, is_some, filter_map}
+use Rattle.std.proofs.Common.{◌≡◌, ◌≤◌, ◌+◌, ◌&&◌, ◌++◌, ◌∷◌, ℕ, Bool, true, false, not, cond, nat_lt, nat_le, List, [], length, map, Option, Some, None, refl, sym, ap, ◌∙◌, arith, inl, inr, add-one, le-leb, leb-true, append-nil, append_assoc}
+use Rattle.std.specs.Prelude.{count_by, is_some, filter_map}
 use Rattle.std.specs.List.{list_any, list_all, cons_option}
 use Rattle.std.proofs.lemmas.Bool.{cases_Bool, lt-leb, and_parts, and_right}
 use Rattle.std.proofs.lemmas.List.Folds.{list_all-append}
@@ -38,7 +38,7 @@ is_script-more lines line h =
     let all = and_parts (list_all is_some lines && nat_le (length lines) 20000) (nat_le (count_by is_connect lines) 1) h in
     let front = and_parts (list_all is_some lines) (nat_le (length lines) 20000) all.0 in
     let once = at_most_one (count_by is_connect lines) (is_connect (Some line)) (list_any is_connect lines)
-      (leb-true _ _ all.1) (count_by-none is_connect lines) (count_by-some is_connect lines) in
+    (leb-true _ _ all.1) (count_by-none is_connect lines) (count_by-some is_connect lines) in
     rw (list_all-append is_some lines (Some line ∷ []), front.0, length_push lines (Some line), sum_by_push (λ x. cond (is_connect x) 1 0) lines (Some line), add-one)
     (ap (λ b. nat_lt (length lines) 20000 && b) once)
 
@@ -68,14 +68,13 @@ append-cons_option (Some y) xs ys = sym (append_assoc xs (y ∷ []) ys)
 
 -- a line that may stand behind the others: the first fault is behind it, and it is among the script's lines
 module _ (old new : List Line) (n : ℕ) (text : List ℕ) (rest : List (ℕ × List ℕ)) (says : is_skipped text ≡ false)
-  (added : said new ≡ said old ++ reading_of text ∷ []) where
-
+    (added : said new ≡ said old ++ reading_of text ∷ []) where
   pub first_fault-more : is_script (said new) ≡ true → first_fault (said old) (readings ((n, text) ∷ rest)) ≡ first_fault (said new) (readings rest)
   first_fault-more script = rw says (rw (← added, script) refl)
 
   pub whole-more : map event_line old ++ filter_map (λ line. line.1) (readings ((n, text) ∷ rest)) ≡ map event_line new ++ filter_map (λ line. line.1) (readings rest)
   whole-more =
       let same : map event_line new ≡ map event_line old ++ cons_option (reading_of text) [] =
-        sym (filter_map-said new) ∙ ap (λ xs. filter_map (λ x. x) xs) added ∙ filter_map-append (λ x. x) (said old) (reading_of text ∷ [])
-        ∙ ap (λ xs. xs ++ cons_option (reading_of text) []) (filter_map-said old) in
+      sym (filter_map-said new) ∙ ap (λ xs. filter_map (λ x. x) xs) added ∙ filter_map-append (λ x. x) (said old) (reading_of text ∷ [])
+      ∙ ap (λ xs. xs ++ cons_option (reading_of text) []) (filter_map-said old) in
       rw (says, same) (append-cons_option (reading_of text) (map event_line old) (filter_map (λ line. line.1) (readings rest)))

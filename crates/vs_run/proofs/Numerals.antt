@@ -1,5 +1,5 @@
 -- Numbers as words write them, and what `parse` makes of them.
-use Rattle.std.proofs.Common.{◌≡◌, ◌<◌, ◌≤◌, ◌^◌, ◌&&◌, ℕ, Bool, true, false, nat_le, List, [], ◌∷◌, length, Option, Some, None, Result, Ok, Err, refl, arith, inl, inr, subst, leb-true}
+use Rattle.std.proofs.Common.{◌≡◌, ◌<◌, ◌^◌, ◌&&◌, ℕ, true, nat_le, List, [], ◌∷◌, length, Some, None, Result, Ok, Err, refl, arith, inl, inr, subst, leb-true}
 use Rattle.std.proofs.lemmas.Bool.{lt-leb, and_right}
 use Rattle.std.specs.Prelude.{MatchResult}
 use Rattle.std.specs.Result.{result_ok}
@@ -7,12 +7,11 @@ use Rattle.std.specs.List.{list_all}
 use Rattle.std.specs.Char.{is_ascii_digit}
 use Rattle.std.specs.Str.{IsUtf8, all_ascii_digits}
 use Rattle.std.specs.Str.Parse.{digits_value, ParsesUnsigned}
-use Rattle.std.proofs.lemmas.Bool.{and_parts, and_from, cases_lt}
-use Rattle.std.proofs.lemmas.Result.{OkIff-at_err}
+use Rattle.std.proofs.lemmas.Bool.{and_parts, cases_lt}
 use Rattle.std.proofs.lemmas.Str.{IsUtf8-from_ascii}
 use Rattle.std.proofs.lemmas.Str.Parse.{IsNumeralModel, numerals_by_value, tells_all_ascii_digits, parse_digits}
 use Rattle.std.proofs.lemmas.Fmt.{IsAscii-from_digits}
-use Rattle.vs_run.specs.Event.{is_numeral, number_in, within}
+use Rattle.vs_run.specs.Event.{is_numeral, number_in}
 
 -- the test of each byte in turn
 pub all_ascii_digits-is : (word : List ℕ) → list_all is_ascii_digit word ≡ all_ascii_digits word

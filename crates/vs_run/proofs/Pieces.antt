@@ -1,7 +1,7 @@
 -- The first line of a text and the first word of a line, by the place where each ends.
-use Rattle.std.proofs.Common.{◌≡◌, ◌==◌, ◌<◌, ◌≤◌, ◌+◌, ℕ, zero, suc, Bool, true, false, not, cond, List, [], ◌∷◌, length, take, drop, Option, Some, None, arith, unwrap_or, ◌∙◌, sym, ap, subst, refl, inl, inr, nat_lt, add-one, one-add, suc-add, le_of_suc-le-suc}
-use Rattle.std.specs.Prelude.{filter, position, ◌⊎◌, ◌≢◌}
-use Rattle.std.specs.List.{position_or_len, prefix_len, slice_split, onto_first}
+use Rattle.std.proofs.Common.{◌≡◌, ◌==◌, ◌<◌, ◌≤◌, ◌+◌, ℕ, suc, Bool, false, not, List, [], ◌∷◌, length, take, drop, arith, unwrap_or, sym, subst, refl, inl, inr, one-add, suc-add}
+use Rattle.std.specs.Prelude.{filter, position, ◌≢◌}
+use Rattle.std.specs.List.{position_or_len, slice_split}
 use Rattle.std.proofs.lemmas.Bool.{cases_lt, cases_Bool, lt-ltb, le-ltb}
 use Rattle.std.proofs.lemmas.List.Sums.{prefix_len-le-length}
 use Rattle.vs_run.specs.Event.{is_empty, words_of}

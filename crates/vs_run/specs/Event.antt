@@ -1,5 +1,5 @@
 -- The event lines of a script: what each form says, and how it is spelled.
-use Rattle.std.specs.Prelude.{ℕ, ◌+◌, ◌*◌, ◌-◌, ◌==◌, ◌&&◌, nat_le, if◌then◌else◌, Bool, true, false, not, List, [], ◌∷◌, length, filter, codes, bytes_eq, Option, Some, None, option_map, option_and_then}
+use Rattle.std.specs.Prelude.{ℕ, ◌+◌, ◌*◌, ◌==◌, ◌&&◌, nat_le, if◌then◌else◌, Bool, true, false, not, List, [], ◌∷◌, length, filter, codes, bytes_eq, Option, Some, None, option_map, option_and_then}
 use Rattle.std.specs.List.{slice_split}
 use Rattle.std.specs.Str.{all_ascii_digits}
 use Rattle.std.specs.Str.Parse.{digits_value}

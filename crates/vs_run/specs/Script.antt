@@ -1,5 +1,5 @@
 -- Scripts: the event lines of a text, and the first line that is none.
-use Rattle.std.specs.Prelude.{ℕ, ◌≡◌, ◌==◌, ◌&&◌, ◌||◌, nat_le, if◌then◌else◌, Bool, true, false, not, List, [], ◌∷◌, ◌++◌, map, length, filter, filter_map, count_by, slice_index, Option, Some, None, is_some, Result, Ok, Err}
+use Rattle.std.specs.Prelude.{ℕ, ◌≡◌, ◌==◌, ◌&&◌, ◌||◌, nat_le, if◌then◌else◌, Bool, not, List, [], ◌∷◌, ◌++◌, map, length, filter, filter_map, count_by, slice_index, Option, Some, None, is_some, Result, Ok, Err}
 use Rattle.std.specs.List.{onto_first, enumerate_from, list_all}
 use Rattle.vs_run.specs.Event.{EventLine, event_line, is_empty, words_of, reading_of, is_connect}
 use Rattle.vs_run.specs.declared.script.event.Line.{Line}

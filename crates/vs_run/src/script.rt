@@ -9,12 +9,11 @@ ghost use Rattle.vs_run.specs.declared.script.ParseFault.TheVariants.{OutOfMemor
 mod event;
 mod field;
 
+pub use crate::script::event::Line;
 use crate::script::field::{next_line, next_word};
 use std::alloc::{AllocError, Global};
 use std::fmt;
 use std::marker::Model;
-
-pub use crate::script::event::Line;
 
 /// The most bytes of a script.
 const MAX_SCRIPT: usize = 1_048_576;
@@ -154,4 +153,48 @@ fn connects(lines: &[Line]) -> bool
     ensures { result ≡ list_any is_connect (said lines.now) }
 {
     lines.iter().any(|line| line.is_connect())
+}
+
+#[cfg(test)]
+mod tests {
+    use super::*;
+    use std::test::Fail;
+
+    /// How many event lines a text has, or the line that it is refused for.
+    fn outcome(alloc: Global, text: &[u8]) -> Result<Result<usize, u64>, AllocError> {
+        match parse(alloc, text) {
+            Ok(script) => Ok(Ok(script.lines().len())),
+            Err(ParseFault::Refused { line, .. }) => Ok(Err(line)),
+            Err(ParseFault::OutOfMemory) => Err(AllocError),
+        }
+    }
+
+    #[test]
+    fn the_first_faulty_line_is_named(rt: HostRuntime) -> Result<(), Fail> {
+        let cases: [(&[u8], Result<usize, u64>); 16] = [
+            (b"", Ok(0)),
+            (b"# only\n\n   \n#", Ok(0)),
+            (
+                b"host listen 52\nconnect 52\nturn\npoll\nsend 1 68656c6c6f\nrecv 1 10",
+                Ok(6),
+            ),
+            (b"  send   00000000000000000001  6A4b ", Ok(1)),
+            (b"poll\n\n#\n turn x\nbad", Err(4)),
+            (b"connect 1\nconnect 1\n", Err(2)),
+            (b"connect 4294967296", Err(1)),
+            (b"recv 1 65537", Err(1)),
+            (b"recv 0 1", Err(1)),
+            (b"recv 000000000000000000001 1", Err(1)),
+            (b"send 1 abc", Err(1)),
+            (b"send 1 -", Err(1)),
+            (b"host  listen", Err(1)),
+            (b"host write 1 00", Err(1)),
+            (b"poll\r\n", Err(1)),
+            (b"Poll", Err(1)),
+        ];
+        for (text, want) in cases {
+            assert_eq!(rt; outcome(rt.alloc(), text)?, want, "at {text:?}");
+        }
+        Ok(())
+    }
 }

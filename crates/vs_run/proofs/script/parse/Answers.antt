@@ -1,7 +1,6 @@
-use Rattle.std.proofs.Common.{◌≡◌, ◌+◌, ◌<◌, ◌≤◌, ◌++◌, ◌∷◌, [], true, false, length, Ok, sym, ap, ◌∙◌, arith}
+use Rattle.std.proofs.Common.{◌≡◌, ◌+◌, false, Ok, sym, ap, ◌∙◌, arith}
 use Rattle.std.specs.List.{enumerate_from}
-use Rattle.vs_run.specs.Event.{reading_of}
-use Rattle.vs_run.specs.Script.{is_skipped, lines_of, readings, first_fault, said, is_script}
+use Rattle.vs_run.specs.Script.{is_skipped, lines_of}
 use Rattle.vs_run.proofs.Lines.{first_fault-more, whole-more}
 use Rattle.vs_run.proofs.script.parse.Goals as goal
 

@@ -1,4 +1,4 @@
-use Rattle.std.proofs.Common.{◌≡◌, inl, inr}
+use Rattle.std.proofs.Common.{inl, inr}
 use Rattle.vs_run.proofs.HexDigits.{hex_of-ok, hex_of-err}
 use Rattle.vs_run.proofs.script.field.hex_bytes.Goals as goal
 

@@ -1,6 +1,5 @@
-use Rattle.std.proofs.Common.{◌≡◌, ◌<◌, ◌≤◌, ◌+◌, ◌∷◌, length, take, drop, arith}
+use Rattle.std.proofs.Common.{◌≡◌, ◌+◌, arith}
 use Rattle.std.proofs.lemmas.List.{take_rest}
-use Rattle.vs_run.specs.Script.{lines_of}
 use Rattle.vs_run.proofs.Pieces.{line_end, lines_of-first, lines_of-only}
 use Rattle.vs_run.proofs.script.field.next_line.Goals as goal
 

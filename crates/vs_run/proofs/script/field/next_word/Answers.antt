@@ -1,6 +1,6 @@
-use Rattle.std.proofs.Common.{◌≡◌, ◌<◌, ◌==◌, ◌≢◌, length, eqb-true, true, false, rules, arith, sym, ap, ◌∙◌}
+use Rattle.std.proofs.Common.{◌≡◌, ◌≢◌, length, eqb-true, sym, ap, ◌∙◌}
 use Rattle.std.proofs.lemmas.Bool.{eqb-false}
-use Rattle.vs_run.proofs.Pieces.{trimmed, word_start, word_end, words_of-some, words_of-none}
+use Rattle.vs_run.proofs.Pieces.{trimmed, words_of-some, words_of-none}
 use Rattle.vs_run.proofs.script.field.next_word.Goals as goal
 
 pub returns-then-is_empty : goal.returns-then-is_empty

@@ -1,4 +1,4 @@
-use Rattle.std.proofs.Common.{◌≡◌, sym, ◌∙◌, true, arith, ap}
+use Rattle.std.proofs.Common.{◌≡◌, sym, ◌∙◌, true, arith}
 use Rattle.std.specs.Str.Parse.{ParsesUnsigned}
 use Rattle.vs_run.specs.Event.{is_numeral}
 use Rattle.vs_run.proofs.Numerals.{IsUtf8-numeral, no_err-text, text_from-some, number_in-err}
@@ -15,4 +15,4 @@ returns-in_err-value c =
     let text : c.in_ok-ok.field-0.now ≡ c.args.word.now = (text_from-some _ _ _ _ c.from_utf8.ensures.cases (sym c.ok.ensures.value ∙ c.in_ok-ok.was)).0 in
     let read : ParsesUnsigned 32 10 c.args.word.now c.parse.result = rw text at c.parse.ensures.value.0 in
     rw c.from_residual-in_err-value.ensures
-      (sym (number_in-err c.args.low c.args.high c.args.word.now c.parse.result numeral (omega arith) read (sym c.ok-2.ensures.value ∙ c.in_err-value.was)))
+    (sym (number_in-err c.args.low c.args.high c.args.word.now c.parse.result numeral (omega arith) read (sym c.ok-2.ensures.value ∙ c.in_err-value.was)))
