@@ -1,0 +1,6 @@
+mod Computes
+pub mod HexDigits
+pub mod Lines
+pub mod Numerals
+pub mod Pieces
+pub mod Printed

@@ -1,0 +1,4 @@
+pub mod Event
+pub mod Script
+pub mod Text
+pub mod Why
