@@ -1,7 +1,7 @@
 -- Printed text, piece by piece.
 use Rattle.std.proofs.Common.{◌≡◌, ◌<◌, ◌+◌, ◌++◌, ◌∷◌, ◌/◌, ◌%◌, ℕ, List, [], length, take, get_or, refl, sym, ap, ◌∙◌, arith, length-append, take-take, take_at}
 use Rattle.std.proofs.lemmas.List.{take_more}
-use Rattle.vs_run.specs.Text.{hex_digit, hex_text, BeginsWith}
+use Rattle.vs_run.specs.Text.{hex_digit, hex_text}
 
 hex_text-append : (xs ys : List ℕ) → hex_text (xs ++ ys) ≡ hex_text xs ++ hex_text ys
 hex_text-append [] ys = refl
@@ -12,8 +12,3 @@ pub hex_text-more : (bytes : List ℕ) (i : ℕ) → i < length bytes
     → hex_text (take (i + 1) bytes) ≡ hex_text (take i bytes) ++ (hex_digit (get_or bytes i 0 / 16) ∷ hex_digit (get_or bytes i 0 % 16) ∷ [])
 hex_text-more bytes i h = ap hex_text (take_more bytes i 0 h) ∙ hex_text-append (take i bytes) (get_or bytes i 0 ∷ [])
 
--- what begins with more begins with less
-pub BeginsWith-append : (text front more : List ℕ) → BeginsWith text (front ++ more) → BeginsWith text front
-BeginsWith-append text front more h =
-    sym (take-take (length front) (length (front ++ more)) text (simp length-append (omega arith)))
-    ∙ ap (take (length front)) h ∙ take_at front more (length front) refl

@@ -18,6 +18,3 @@ data_text bytes =
     else if nat_le (length bytes) 64 then hex_text bytes
     else hex_text (take 16 bytes) ++ codes ".." ++ hex_text (drop (length bytes - 16) bytes)
 
--- A text begins with another.
-abbrev pub BeginsWith : List ℕ → List ℕ → Type 0
-BeginsWith text front = take (length front) text ≡ front

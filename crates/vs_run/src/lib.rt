@@ -1,5 +1,9 @@
-//! The command `vsock play`: the scripts that it reads, and the text that it prints.
+//! The command `vsock`: scripts that play a guest, a device and a host on one thread, and what they print.
 #![tactic(auto)]
 
+pub mod answer;
+pub mod emit;
+pub mod examples;
+pub mod read;
 pub mod script;
 pub mod text;

@@ -16,7 +16,7 @@ use std::fmt;
 use std::marker::Model;
 
 /// The most bytes of a script.
-const MAX_SCRIPT: usize = 1_048_576;
+pub const MAX_SCRIPT: usize = 1_048_576;
 
 /// The most event lines of a script.
 const MAX_EVENTS: usize = 20_000;

@@ -1,9 +1,8 @@
-//! The pieces of a printed line: texts, numbers and bytes, each put behind what a line holds so far.
+//! Bytes as they are printed in a line.
 
-ghost use Rattle.std.specs.Prelude.{◌≡◌, ◌<◌, ◌++◌, if◌then◌else◌, is_ok, OnOk, OnErr, decimal};
-ghost use Rattle.vs_run.specs.Text.{hex_digit, hex_text, data_text, BeginsWith};
+ghost use Rattle.std.specs.Prelude.{◌≡◌, ◌<◌, ◌++◌, OnOk, string_bytes};
+ghost use Rattle.vs_run.specs.Text.{hex_digit, hex_text, data_text};
 
-use itoa::Buffer;
 use std::alloc::AllocError;
 
 /// The most bytes that are printed in full.
@@ -15,55 +14,39 @@ const AT_EACH_END: usize = 16;
 /// The hex digits in lower case.
 const HEX_DIGITS: &[u8; 16] = b"0123456789abcdef";
 
-/// Appends a text. An `Err` appends nothing.
-pub fn push_text(out: &mut Vec<u8>, text: &str) -> Result<(), AllocError>
-    ensures ok { OnOk result (out.new.items ≡ out.old.items ++ text.now) }
-    ensures err { OnErr result (out.new.items ≡ out.old.items) }
-{
-    out.extend_from_slice(text.as_bytes())
-}
-
-/// Appends a number in decimal. An `Err` appends nothing.
-pub fn push_number(out: &mut Vec<u8>, n: u64) -> Result<(), AllocError>
-    ensures ok { OnOk result (out.new.items ≡ out.old.items ++ decimal n) }
-    ensures err { OnErr result (out.new.items ≡ out.old.items) }
-{
-    push_text(out, Buffer::new().format(n))
-}
-
 /// Appends bytes as they are printed: `-` for none, the hex digits of up to 64 bytes, and of more than
-/// that those of the first 16, `..` and those of the last 16. An `Err` may append a part.
-pub fn push_data(out: &mut Vec<u8>, bytes: &[u8]) -> Result<(), AllocError>
-    ensures ok { OnOk result (out.new.items ≡ out.old.items ++ data_text bytes.now) }
-    ensures err { OnErr result (BeginsWith out.new.items out.old.items) }
+/// that those of the first 16, `..` and those of the last 16. The only error is want of memory, and then a
+/// part may be appended.
+pub fn push_data(out: &mut String, bytes: &[u8]) -> Result<(), AllocError>
+    ensures { OnOk result (string_bytes out.new ≡ string_bytes out.old ++ data_text bytes.now) }
 {
     if bytes.is_empty() {
-        return push_text(out, "-");
+        return out.push_str("-");
     }
     if bytes.len() <= MAX_IN_FULL {
         return push_hex(out, bytes);
     }
     push_hex(out, &bytes[..AT_EACH_END])?;
-    push_text(out, "..")?;
+    out.push_str("..")?;
     push_hex(out, &bytes[bytes.len() - AT_EACH_END..])
 }
 
-/// Appends two hex digits for each byte. An `Err` may append a part.
-fn push_hex(out: &mut Vec<u8>, bytes: &[u8]) -> Result<(), AllocError>
-    ensures ok { OnOk result (out.new.items ≡ out.old.items ++ hex_text bytes.now) }
-    ensures err { OnErr result (BeginsWith out.new.items out.old.items) }
+/// Appends two hex digits for each byte.
+fn push_hex(out: &mut String, bytes: &[u8]) -> Result<(), AllocError>
+    ensures { OnOk result (string_bytes out.new ≡ string_bytes out.old ++ hex_text bytes.now) }
 {
     for byte in bytes {
-        let digits = [hex_digit(*byte / 16), hex_digit(*byte % 16)];
-        out.extend_from_slice(&digits)?;
+        out.push(hex_digit(*byte / 16))?;
+        out.push(hex_digit(*byte % 16))?;
     }
     Ok(())
 }
 
 /// The hex digit of four bits.
-fn hex_digit(bits: u8) -> u8
+fn hex_digit(bits: u8) -> char
     requires { bits < 16 }
-    ensures { result ≡ hex_digit bits }
+    ensures digit { result ≡ hex_digit bits }
+    ensures ascii { result < 128 }
 {
-    HEX_DIGITS[usize::from(bits)]
+    char::from(HEX_DIGITS[usize::from(bits)])
 }
