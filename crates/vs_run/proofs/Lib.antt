@@ -4,3 +4,4 @@ pub mod Lines
 pub mod Numerals
 pub mod Pieces
 pub mod Printed
+pub mod Spelled

@@ -1,4 +1,5 @@
 pub mod Event
 pub mod Script
+pub mod Spelling
 pub mod Text
 pub mod Why

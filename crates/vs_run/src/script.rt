@@ -1,9 +1,10 @@
 //! Scripts: the event lines that a text spells.
 
-ghost use Rattle.std.specs.Prelude.{◌≡◌, ◌++◌, ◌∷◌, [], true, false, map, Some, Ok, IfOk, IfErr};
-ghost use Rattle.std.specs.List.{list_any};
-ghost use Rattle.vs_run.specs.Event.{event_line, reading_of, is_connect};
+ghost use Rattle.std.specs.Prelude.{◌≡◌, ◌≤◌, List, length, ◌++◌, ◌∷◌, [], true, false, map, Some, Ok, IfOk, IfErr};
+ghost use Rattle.std.specs.List.{AllByRecursion, list_any};
+ghost use Rattle.vs_run.specs.Event.{EventLine, event_line, reading_of, is_connect};
 ghost use Rattle.vs_run.specs.Script.{script_of, is_skipped, is_script, said, IsRefused};
+ghost use Rattle.vs_run.specs.Spelling.{IsSayable, text_of};
 ghost use Rattle.vs_run.specs.declared.script.ParseFault.TheVariants.{OutOfMemory};
 
 mod event;
@@ -115,6 +116,14 @@ pub fn parse(alloc: Global, bytes: &[u8]) -> Result<Script, ParseFault>
         }
     }
     Ok(Script { lines })
+}
+
+/// Each script has a text: lines whose numbers and bytes are in their ranges, 20,000 of them and one
+/// `connect` at most, are read back from their spelling, unless that is longer than a script may be.
+pub fn each_script_is_spelled()
+    ensures { (lines : List EventLine) → AllByRecursion IsSayable lines → is_script (map Some lines) ≡ true
+        → length (text_of lines) ≤ 1048576 → script_of (text_of lines) ≡ Ok lines }
+{
 }
 
 /// Whether a line says nothing: it is a comment, or has no word.
