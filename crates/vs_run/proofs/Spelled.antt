@@ -1,18 +1,16 @@
 -- Event lines are read back from their spelling.
-use Rattle.std.proofs.Common.{◌≡◌, ◌<◌, ◌≤◌, ◌+◌, ◌*◌, ◌^◌, ◌/◌, ◌%◌, ◌==◌, ◌&&◌, ◌++◌, ◌∷◌, ℕ, Bool, true, false, not, cond, nat_lt, nat_le, List, [], length, map, Option, Some, None, Ok, refl, sym, ap, ◌∙◌, arith, codes, append_assoc, append-nil, le-leb, leb-true, lt-ltb, ltb-true, ne_eqb, length-append, div-add-mod'}
-use Rattle.std.specs.Prelude.{decimal, filter, filter_map, flat_map, count_by, is_some, sum_by, slice_index}
+use Rattle.std.proofs.Common.{◌≡◌, ◌<◌, ◌≤◌, ◌+◌, ◌*◌, ◌^◌, ◌/◌, ◌%◌, ◌==◌, ◌&&◌, ◌++◌, ◌∷◌, ℕ, Bool, true, false, not, cond, nat_lt, nat_le, List, [], length, map, Option, Some, None, Ok, refl, sym, ap, ◌∙◌, arith, append_assoc, le-leb, leb-true, lt-ltb, ltb-true, ne_eqb, length-append, div-add-mod'}
+use Rattle.std.specs.Prelude.{decimal, filter_map, count_by, is_some, slice_index}
 use Rattle.std.specs.List.{AllByRecursion, list_all, slice_split, join_with_byte, enumerate_from}
 use Rattle.std.specs.Str.{all_ascii_digits}
 use Rattle.std.specs.Char.{is_ascii_digit}
-use Rattle.std.specs.Str.Parse.{digits_value}
 use Rattle.std.proofs.lemmas.Bool.{and_parts, and_from, not-true, agree_below_at}
 use Rattle.std.proofs.lemmas.Fmt.{digits_decimal, digits_value-decimal, length-decimal-le, decimal_nonempty}
 use Rattle.std.proofs.lemmas.List.Folds.{list_all-append}
 use Rattle.std.proofs.lemmas.List.Sums.{sum_by-append}
-use Rattle.hex.specs.Hex.{hex_digit_value}
 use Rattle.hex.proofs.HexLemmas.{IsDigits-lower_digits}
-use Rattle.vs_run.specs.Event.{EventLine, Connect, Send, Recv, Poll, Turn, HostListen, is_connect, is_empty, words_of, is_numeral, number_in, bytes_of_digits, hex_of, line_of, reading_of}
-use Rattle.vs_run.specs.Script.{lines_of, is_skipped, readings, event_lines, is_script, first_fault, script_of}
+use Rattle.vs_run.specs.Event.{EventLine, Connect, Send, Recv, Poll, Turn, HostListen, is_connect, is_empty, words_of, number_in, bytes_of_digits, hex_of, line_of, reading_of}
+use Rattle.vs_run.specs.Script.{lines_of, is_skipped, readings, is_script, first_fault, script_of}
 use Rattle.vs_run.specs.Spelling.{IsSayable, words_for, spelling, text_of}
 use Rattle.vs_run.specs.Text.{hex_digit, hex_text}
 use Rattle.vs_run.proofs.Numerals.{own}
@@ -187,8 +185,10 @@ has_no_lf-join (word ∷ []) each =
     has_no_lf-word word (and_parts (not (is_empty word)) (is_above word) (and_parts (is_word word) true each).0).1
 has_no_lf-join (word ∷ next ∷ words) each =
     let parts = and_parts (is_word word) (list_all is_word (next ∷ words)) each in
-    rw (list_all-append (λ b. not (b == 10)) word (32 ∷ join_with_byte 32 (next ∷ words)),
-      has_no_lf-word word (and_parts (not (is_empty word)) (is_above word) parts.0).1) (has_no_lf-join (next ∷ words) parts.1)
+    rw (
+      list_all-append (λ b. not (b == 10)) word (32 ∷ join_with_byte 32 (next ∷ words)),
+      has_no_lf-word word (and_parts (not (is_empty word)) (is_above word) parts.0).1,
+    ) (has_no_lf-join (next ∷ words) parts.1)
 
 lines_of-line : (line text : List ℕ) → has_no_lf line ≡ true → lines_of (line ++ 10 ∷ text) ≡ line ∷ lines_of text
 lines_of-line [] text none = refl

@@ -1,5 +1,5 @@
 -- How event lines are spelled: of the texts that are read as a line, the plainest.
-use Rattle.std.specs.Prelude.{ℕ, ◌*◌, ◌^◌, ◌<◌, ◌≤◌, List, [], ◌∷◌, ◌++◌, length, codes, decimal, flat_map}
+use Rattle.std.specs.Prelude.{ℕ, ◌^◌, ◌<◌, ◌≤◌, List, [], ◌∷◌, ◌++◌, length, codes, decimal, flat_map}
 use Rattle.std.specs.List.{AllByRecursion, join_with_byte}
 use Rattle.vs_run.specs.Event.{EventLine, Connect, Send, Recv, Poll, Turn, HostListen}
 use Rattle.vs_run.specs.Text.{hex_text}

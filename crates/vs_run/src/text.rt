@@ -1,6 +1,6 @@
 //! The pieces of a printed line: texts, numbers and bytes, each put behind what a line holds so far.
 
-ghost use Rattle.std.specs.Prelude.{◌≡◌, ◌<◌, ◌++◌, if◌then◌else◌, is_ok, OnOk, OnErr, decimal};
+ghost use Rattle.std.specs.Prelude.{◌≡◌, ◌<◌, ◌++◌, OnOk, OnErr, decimal};
 ghost use Rattle.vs_run.specs.Text.{hex_digit, hex_text, data_text, BeginsWith};
 
 use itoa::Buffer;
