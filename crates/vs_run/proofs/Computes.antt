@@ -1,7 +1,9 @@
--- The grammar computes on a script.
-use Rattle.std.proofs.Common.{◌≡◌, [], ◌∷◌, Ok, Err, codes, refl}
+-- The definitions compute: scripts, and printed text.
+use Rattle.std.proofs.Common.{◌≡◌, [], ◌∷◌, ◌++◌, Ok, Err, codes, refl}
+use Rattle.std.specs.Fmt.{decimal, digits}
 use Rattle.vs_run.specs.Event.{Connect, Send, Recv, Poll, Turn, HostListen}
 use Rattle.vs_run.specs.Script.{script_of}
+use Rattle.vs_run.specs.Text.{data_text}
 use Rattle.vs_run.specs.declared.script.ParseFault.TheVariants.{Refused}
 use Rattle.vs_run.specs.declared.script.Why.TheVariants.{BadWord}
 
@@ -15,6 +17,6 @@ skips = refl
 pub twice : script_of (codes "connect 1\n#\nconnect 2\nconnect 3") ≡ Err (Refused 3 BadWord)
 twice = refl
 
-pub long : script_of (codes "host listen 52\nconnect 52\nturn\npoll\nsend 1 68656c6c6f\nturn\nrecv 1 10\nhost listen 52\nturn\npoll\nsend 1 68656c6c6f\nturn\nrecv 1 10\nhost listen 52\nturn\npoll\nsend 1 68656c6c6f\nturn\nrecv 1 10\nhost listen 52\nturn\npoll\nsend 1 68656c6c6f\nturn\nrecv 1 10\nhost listen 52\nturn\npoll\nsend 1 68656c6c6f\nturn\nrecv 1 10\nhost listen 52\nturn\npoll\nsend 1 68656c6c6f\nturn\nrecv 1 10\nhost listen 52\nturn\npoll\nsend 1 68656c6c6f\nturn\nrecv 1 65537")
-    ≡ Err (Refused 43 BadWord)
-long = refl
+pub printed : data_text (codes "hello") ++ codes " " ++ decimal 1024 ≡ codes "68656c6c6f 1024"
+unfolding digits
+printed = refl

@@ -5,3 +5,4 @@ pub mod Numerals
 pub mod Pieces
 pub mod Printed
 pub mod StreamLemmas
+pub mod Spelled

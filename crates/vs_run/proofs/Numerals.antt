@@ -18,7 +18,7 @@ pub all_ascii_digits-is : (word : List ℕ) → list_all is_ascii_digit word ≡
 all_ascii_digits-is [] = refl
 all_ascii_digits-is (b ∷ word) = rw (all_ascii_digits-is word) refl
 
-own : IsNumeralModel (λ ds. all_ascii_digits ds ≡ true) (digits_value 10)
+pub own : IsNumeralModel (λ ds. all_ascii_digits ds ≡ true) (digits_value 10)
 own = numerals_by_value _ tells_all_ascii_digits
 
 -- what the test of a numeral says

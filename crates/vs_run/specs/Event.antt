@@ -1,4 +1,4 @@
--- The event lines of a script: what each form says, and how it is spelled.
+-- The event lines of a script: the grammar of one line.
 use Rattle.std.specs.Prelude.{ℕ, ◌+◌, ◌*◌, ◌==◌, ◌&&◌, nat_le, if◌then◌else◌, Bool, true, false, not, List, [], ◌∷◌, length, filter, codes, bytes_eq, Option, Some, None, option_map, option_and_then}
 use Rattle.std.specs.List.{slice_split}
 use Rattle.std.specs.Str.{all_ascii_digits}
@@ -7,7 +7,7 @@ use Rattle.hex.specs.Hex.{hex_digit_value}
 use Rattle.vs_run.specs.declared.script.event.Line.{Line}
 use Rattle.vs_run.specs.declared.script.event.Line.TheVariants as code
 
--- What an event line says.
+-- An event line: what the guest does, the device's turn, or what a program of the host does.
 pub data EventLine : Type 0 where
   Connect : (port : ℕ) → EventLine
   Send : (id : ℕ) → (bytes : List ℕ) → EventLine
@@ -16,7 +16,7 @@ pub data EventLine : Type 0 where
   Turn : EventLine
   HostListen : (port : ℕ) → EventLine
 
--- The same of a line as the program holds it.
+-- What a line says, as the program holds it.
 abbrev pub event_line : Line → EventLine
 event_line (code.Connect port) = Connect port
 event_line (code.Send id bytes) = Send id bytes.items
@@ -25,6 +25,7 @@ event_line code.Poll = Poll
 event_line code.Turn = Turn
 event_line (code.HostListen port) = HostListen port
 
+-- Whether a list has no element.
 abbrev pub is_empty : {X : Type 0} → List X → Bool
 is_empty [] = true
 is_empty (x ∷ xs) = false
@@ -99,7 +100,7 @@ abbrev pub host_of : List (List ℕ) → Option EventLine
 host_of (act ∷ port ∷ []) = if bytes_eq act (codes "listen") then option_map HostListen (port_of port) else None
 host_of _ = None
 
--- What the words of a line say: its name, then what that name takes.
+-- What the words of a line say: a name, then what that name takes.
 abbrev pub line_of : List (List ℕ) → Option EventLine
 line_of [] = None
 line_of (name ∷ args) =
@@ -111,15 +112,11 @@ line_of (name ∷ args) =
     else if bytes_eq name (codes "host") then host_of args
     else None
 
--- What a line says. One of more than 4,200 bytes says nothing.
+-- What a line says, where it is an event line. One of more than 4,200 bytes is none.
 abbrev pub reading_of : List ℕ → Option EventLine
 reading_of line = if nat_le (length line) 4200 then line_of (words_of line) else None
 
+-- Whether what a line says is connect PORT.
 abbrev pub is_connect : Option EventLine → Bool
 is_connect (Some (Connect port)) = true
-is_connect (Some (Send id bytes)) = false
-is_connect (Some (Recv id len)) = false
-is_connect (Some Poll) = false
-is_connect (Some Turn) = false
-is_connect (Some (HostListen port)) = false
-is_connect None = false
+is_connect _ = false

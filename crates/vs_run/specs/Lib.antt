@@ -1,5 +1,6 @@
 pub mod Event
 pub mod Script
+pub mod Spelling
 pub mod Text
 pub mod Why
 pub mod Answer

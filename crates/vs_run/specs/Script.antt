@@ -1,4 +1,4 @@
--- Scripts: the event lines of a text, and the first line that is none.
+-- Scripts: the event lines of a text, and the line that a text is refused for.
 use Rattle.std.specs.Prelude.{ℕ, ◌≡◌, ◌==◌, ◌&&◌, ◌||◌, nat_le, if◌then◌else◌, Bool, not, List, [], ◌∷◌, ◌++◌, map, length, filter, filter_map, count_by, slice_index, Option, Some, None, is_some, Result, Ok, Err}
 use Rattle.std.specs.List.{onto_first, enumerate_from, list_all}
 use Rattle.vs_run.specs.Event.{EventLine, event_line, is_empty, words_of, reading_of, is_connect}
@@ -12,15 +12,15 @@ abbrev pub lines_of : List ℕ → List (List ℕ)
 lines_of [] = []
 lines_of (byte ∷ text) = if byte == 10 then [] ∷ lines_of text else onto_first byte (lines_of text)
 
--- A line that says nothing: a comment, which begins with `#` (35), or a line without a word.
+-- Whether a line is passed over: a comment, which begins with `#` (35), or a line without a word.
 abbrev pub is_skipped : List ℕ → Bool
 is_skipped line = slice_index line 0 == 35 || is_empty (words_of line)
 
--- The numbered lines that say something, with what they say.
+-- Of numbered lines, those that aren't passed over, each with what it says.
 abbrev pub readings : List (ℕ × List ℕ) → List (ℕ × Option EventLine)
 readings lines = map (λ line. (line.0, reading_of line.1)) (filter (λ line. not (is_skipped line.1)) lines)
 
--- Those of a text, whose lines are numbered from 1 on.
+-- The same of a text, whose lines are numbered from 1 on.
 abbrev pub event_lines : List ℕ → List (ℕ × Option EventLine)
 event_lines text = readings (enumerate_from 1 (lines_of text))
 
@@ -28,29 +28,29 @@ event_lines text = readings (enumerate_from 1 (lines_of text))
 abbrev pub is_script : List (Option EventLine) → Bool
 is_script lines = list_all is_some lines && nat_le (length lines) 20000 && nat_le (count_by is_connect lines) 1
 
--- The number of the first line with which the lines up to it are no script.
+-- Of lines behind those before, the number of the first with which all up to it make no script.
 abbrev pub first_fault : List (Option EventLine) → List (ℕ × Option EventLine) → Option ℕ
 first_fault before [] = None
 first_fault before (line ∷ lines) =
     if is_script (before ++ line.1 ∷ []) then first_fault (before ++ line.1 ∷ []) lines else Some line.0
 
--- Lines as a script, or refused for the first that is at fault.
+-- The script of lines, or their refusal for the first that is at fault.
 abbrev pub judged : List (ℕ × Option EventLine) → Option ℕ → Result (List EventLine) ParseFault
 judged lines None = Ok (filter_map (λ line. line.1) lines)
 judged lines (Some number) = Err (Refused number BadWord)
 
--- The script that a text of at most 1,048,576 bytes spells, or what it is refused for. A text that is
--- too long is refused as a whole, as line 0.
+-- The script that a text spells, or what it is refused for. A text of more than 1,048,576 bytes is
+-- refused as a whole, as line 0.
 abbrev pub script_of : List ℕ → Result (List EventLine) ParseFault
 script_of text =
     if nat_le (length text) 1048576 then judged (event_lines text) (first_fault [] (event_lines text))
     else Err (Refused 0 TooLong)
 
--- A text is refused so. Want of memory says nothing of the text.
+-- A text is refused for this fault. Want of memory says nothing of the text.
 abbrev pub IsRefused : List ℕ → ParseFault → Type 0
 IsRefused text (Refused line why) = script_of text ≡ Err (Refused line why)
 IsRefused text OutOfMemory = Unit {0}
 
--- What lines say that were read.
+-- What lines say, as the program holds them.
 abbrev pub said : List Line → List (Option EventLine)
 said lines = map (λ line. Some (event_line line)) lines

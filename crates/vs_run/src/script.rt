@@ -1,9 +1,28 @@
 //! Scripts: the event lines that a text spells.
+//!
+//! A script has at most 1,048,576 bytes, in lines that end with LF, which may be missing after the last.
+//! A line whose first byte is `#`, or that has no word, is passed over, however long it is; it counts in
+//! line numbers, which start at 1. Words stand between spaces, one or more. Any other line has at most
+//! 4,200 bytes without its LF, and is one of these:
+//!
+//! ```text
+//! connect PORT
+//! send C HEX
+//! recv C N
+//! poll
+//! turn
+//! host listen PORT
+//! ```
+//!
+//! PORT is 0 to 4,294,967,295, C, which names a connection, 1 to 4,294,967,295, and N 1 to 65,536, each
+//! of 1 to 20 decimal digits. HEX is 2 to 4,096 hex digits of either case, an even number of them. There
+//! are at most 20,000 such lines, and one `connect`.
 
-ghost use Rattle.std.specs.Prelude.{◌≡◌, ◌++◌, ◌∷◌, [], true, false, map, Some, Ok, IfOk, IfErr};
-ghost use Rattle.std.specs.List.{list_any};
-ghost use Rattle.vs_run.specs.Event.{event_line, reading_of, is_connect};
+ghost use Rattle.std.specs.Prelude.{◌≡◌, ◌≤◌, List, length, ◌++◌, ◌∷◌, [], true, false, map, Some, Ok, IfOk, IfErr};
+ghost use Rattle.std.specs.List.{AllByRecursion, list_any};
+ghost use Rattle.vs_run.specs.Event.{EventLine, event_line, reading_of, is_connect};
 ghost use Rattle.vs_run.specs.Script.{script_of, is_skipped, is_script, said, IsRefused};
+ghost use Rattle.vs_run.specs.Spelling.{IsSayable, text_of};
 ghost use Rattle.vs_run.specs.declared.script.ParseFault.TheVariants.{OutOfMemory};
 
 mod event;
@@ -22,7 +41,7 @@ pub const MAX_SCRIPT: usize = 1_048_576;
 const MAX_EVENTS: usize = 20_000;
 
 /// The event lines of a script.
-#[derive(Drop)]
+#[derive(Debug, Drop)]
 pub struct Script {
     lines: Vec<Line>,
 }
@@ -117,7 +136,14 @@ pub fn parse(alloc: Global, bytes: &[u8]) -> Result<Script, ParseFault>
     Ok(Script { lines })
 }
 
-/// Whether a line says nothing: it is a comment, or has no word.
+/// Each script has a text: lines whose numbers and bytes are in their ranges, 20,000 of them and one
+/// `connect` at most, are read back from their spelling, unless that is longer than a script may be.
+pub fn each_script_is_spelled()
+    ensures { (lines : List EventLine) → AllByRecursion IsSayable lines → is_script (map Some lines) ≡ true
+        → length (text_of lines) ≤ 1048576 → script_of (text_of lines) ≡ Ok lines }
+{}
+
+/// Whether a line is passed over: it is a comment, or has no word.
 fn is_skipped(text: &[u8]) -> bool
     ensures { result ≡ is_skipped text.now }
 {
