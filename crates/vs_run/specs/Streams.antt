@@ -1,8 +1,5 @@
 -- Reading all of a source, and writing a line to a sink, where they tell what they hold.
-use Rattle.std.specs.Prelude.{◌≡◌, ◌≤◌, ◌<◌, ◌⊎◌, ℕ, List, ◌++◌, length, take, Option, Some, None, Result, Ok, Err}
-use Rattle.vs_run.specs.declared.read.ReadError.{ReadError}
-use Rattle.vs_run.specs.declared.read.ReadError.TheVariants as read
-use Rattle.vs_run.specs.declared.emit.SinkFault.{SinkFault}
+use Rattle.std.specs.Prelude.{◌≡◌, ◌≤◌, ◌<◌, ◌⊎◌, ℕ, List, [], ◌∷◌, ◌++◌, length, take, Option, Some, None, Result, Ok, Err}
 
 -- The most bytes of a script.
 abbrev pub script_limit : ℕ
@@ -30,3 +27,13 @@ abbrev pub ReadsOn : Option (List ℕ) → Option (List ℕ) → List ℕ → Ty
 ReadsOn None now bytes = now ≡ None
 ReadsOn (Some left) None bytes = ⊥
 ReadsOn (Some left) (Some rest) bytes = left ≡ bytes ++ rest
+
+-- Lines one after another.
+abbrev pub joined : List (List ℕ) → List ℕ
+joined [] = []
+joined (l ∷ ls) = l ++ joined ls
+
+-- A sink that tells what it holds got a front of the bytes, maybe all of them.
+abbrev pub EmitsFront : Option (List ℕ) → Option (List ℕ) → List ℕ → Type 0
+EmitsFront None new bytes = new ≡ None
+EmitsFront (Some held) new bytes = (front : List ℕ) × (rest : List ℕ) × (front ++ rest ≡ bytes) × (new ≡ Some (held ++ front))

@@ -6,4 +6,5 @@ pub mod emit;
 pub mod examples;
 pub mod read;
 pub mod script;
+pub mod stdio;
 pub mod text;
