@@ -6,8 +6,11 @@ use Rattle.vs_core.specs.Interaction.{Tree, Done, Ask, Leads, played}
 use Rattle.vs_core.specs.Outside.{Host, FaultRose, one_more, dial_failed, write_failed, after_close}
 use Rattle.vs_core.specs.declared.outside.Dialed.TheVariants as dialed
 use Rattle.vs_core.specs.declared.outside.Written.TheVariants as written
-use Rattle.vs_core.specs.Driver.{RingCall, RingAnswer, Post, Reap, LoadCid}
-use Rattle.vs_core.specs.DeviceCalls.{DeviceCall, DeviceAnswer, Take, Read, Write, Return, Dial, Give, Close}
+use Rattle.vs_core.specs.Guest.{GuestPart}
+use Rattle.vs_core.specs.Device.{DevicePart}
+use Rattle.vs_core.specs.World.{World, guest_call, device_call}
+use Rattle.vs_core.specs.Driver.{RingCall, RingAnswer, GuestTree, Post, Reap, LoadCid}
+use Rattle.vs_core.specs.DeviceCalls.{DeviceCall, DeviceAnswer, DeviceTree, Take, Read, Write, Return, Dial, Give, Close}
 use Rattle.vs_core.specs.Told.{RingAllows, ring_answer, Situation, HostAllows, DeviceAllows, device_answer}
 
 -- what a call of a ring that tells is answered by, and leaves
@@ -76,3 +79,23 @@ leads_device (Ask call k) s x t zero h =
     let rest = subst (λ (m : Situation). Leads DeviceAllows (k h.0) m x t) one.1 h.3 in
     let there = subst (λ (a : DeviceAnswer call). Leads DeviceAllows (k a) (telling (device_answer call s).1) x t) one.0 rest in
     leads_device (k (device_answer call s).0) (device_answer call s).1 x t zero there
+
+-- A call of the driver over rings that tell is the one of the world that has them.
+pub guest_called : {A : Type 0} (call : GuestPart → GuestTree (GuestPart × A)) (w : World) (g : GuestPart) (x : A) (r : Rings) → Leads RingAllows (call w.guest) (Some w.rings) (g, x) (Some r) → (record w { guest = g; rings = r }, x) ≡ guest_call call w
+guest_called {A} call w g x r h =
+    let e = leads_ring (call w.guest) w.rings (g, x) (Some r) h in
+    let rings : r ≡ (played ring_answer (call w.guest) w.rings).1 = cc (e.1) in
+    ap (λ (p : (GuestPart × A) × Rings). (record w { guest = p.0.0; rings = p.1 }, p.0.1)) (ap (λ (p : GuestPart × A). (p, r)) e.0 ∙ ap (λ (q : Rings). ((played ring_answer (call w.guest) w.rings).0, q)) rings)
+
+-- The same of a call of the device, where no call of the host failed so far.
+pub device_called : {A : Type 0} (call : DevicePart → DeviceTree (DevicePart × A)) (w : World) (d : DevicePart) (x : A) (r : Rings) (host : Host) (old new : ℕ) → new ≡ 0 → Leads DeviceAllows (call w.device) (record { rings = Some w.rings; host = Some w.host; faults = old }) (d, x) (record { rings = Some r; host = Some host; faults = new }) → (record w { device = d; rings = r; host = host }, x) ≡ device_call call w
+device_called {A} call w d x r host old new zero h =
+    let low : old ≡ 0 = omega (arith, leads_faults (call w.device) _ (d, x) _ h, zero) in
+    let from = subst (λ (n : ℕ). Leads DeviceAllows (call w.device) (record { rings = Some w.rings; host = Some w.host; faults = n }) (d, x) (record { rings = Some r; host = Some host; faults = new })) low h in
+    let e = leads_device (call w.device) (w.rings, w.host) (d, x) (record { rings = Some r; host = Some host; faults = new }) zero from in
+    let rings : r ≡ (played device_answer (call w.device) (w.rings, w.host)).1.0 = cc (ap (λ (s : Situation). s.rings) e.1) in
+    let hosts : host ≡ (played device_answer (call w.device) (w.rings, w.host)).1.1 = cc (ap (λ (s : Situation). s.host) e.1) in
+    ap (λ (p : (DevicePart × A) × (Rings × Host)). (record w { device = p.0.0; rings = p.1.0; host = p.1.1 }, p.0.1))
+    (ap (λ (p : DevicePart × A). (p, (r, host))) e.0
+    ∙ (ap (λ (q : Rings). ((played device_answer (call w.device) (w.rings, w.host)).0, (q, host))) rings
+    ∙ ap (λ (q : Host). ((played device_answer (call w.device) (w.rings, w.host)).0, ((played device_answer (call w.device) (w.rings, w.host)).1.0, q))) hosts))
