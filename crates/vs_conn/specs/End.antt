@@ -1,5 +1,5 @@
--- The connection machine: what one end of a connection is, and what each packet does to it (Virtio 1.2, sections 5.10.6.4
--- to 5.10.6.6).
+-- The connection machine: what one end of a connection is, and what each packet does to it
+-- (Virtio 1.2, sections 5.10.6.4 to 5.10.6.6).
 use Rattle.std.specs.Prelude.{ℕ, ◌==◌, ◌&&◌, nat_lt, Bool, true, false, if◌then◌else◌, Option, Some, None, Result, Ok, Err}
 use Rattle.vs_header.specs.Kind.{kind_number}
 use Rattle.vs_header.specs.Op.{op_named, op_number}
@@ -33,7 +33,7 @@ is_stream h = h.kind == kind_number Stream
 abbrev pub is_rst : Header → Bool
 is_rst h = h.op == op_number op.Rst
 
--- The verdict on a RESPONSE.
+-- The verdict on a RESPONSE at an end that is not Ended.
 abbrev pub response_verdict : State → Verdict
 response_verdict Asked = verdict.Accept
 response_verdict _ = verdict.Rst NotAsked
@@ -41,9 +41,10 @@ response_verdict _ = verdict.Rst NotAsked
 -- The verdict on an RW of len bytes at an end that is Live.
 abbrev pub payload_verdict : Credit → ℕ → Verdict
 payload_verdict c len =
-    if nat_lt (room_of c) len then verdict.Rst (Overrun (record { len = len; room = room_of c })) else verdict.Deliver
+    if nat_lt (room_of c) len then verdict.Rst (Overrun (record { len = len; room = room_of c }))
+    else verdict.Deliver
 
--- The verdict on an RW of len bytes.
+-- The verdict on an RW of len bytes at an end that is not Ended.
 abbrev pub rw_verdict : State → Credit → ℕ → Verdict
 rw_verdict Live c len = payload_verdict c len
 rw_verdict _ c len = verdict.Rst NotLive

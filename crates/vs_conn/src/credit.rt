@@ -5,8 +5,8 @@ ghost use Rattle.vs_conn.specs.Credit.{free_of, new_credit, room_of, unread_of, 
 
 use crate::wrap::{add32, sub32};
 
-/// The counts of one end: how much it may send to its peer, and how much room it has itself. Counts of bytes run modulo
-/// 2^32, and only payload counts.
+/// The counts of one end: how much it may send to its peer, and how much room it has itself. Counts
+/// of bytes run modulo 2^32, and only payload counts.
 #[derive(Clone, Copy, Debug, PartialEq, Eq)]
 pub struct Credit {
     /// Bytes that this end sent.
@@ -47,11 +47,13 @@ impl Credit {
         }
     }
 
-    /// Bytes that this end may send now: the peer's buffer space less what is under way, and 0 where more is under way.
+    /// Bytes that this end may send now: the peer's buffer space less what is under way, and 0 where
+    /// more is under way than that.
     pub fn free(&self) -> u32
         ensures exact { result ≡ free_of self.now }
-        // Of the plain numbers of bytes put and forwarded, it is what the peer has room for and was not put yet.
-        ensures plain { (put forwarded : ℕ) → put % 2 ^ 32 ≡ self.now.tx_cnt → forwarded % 2 ^ 32 ≡ self.now.peer_fwd
+        // Of the plain numbers of bytes put and forwarded: what the peer has room for, less the bytes put.
+        ensures plain { (put forwarded : ℕ)
+            → put % 2 ^ 32 ≡ self.now.tx_cnt → forwarded % 2 ^ 32 ≡ self.now.peer_fwd
             → forwarded ≤ put → put ≤ forwarded + self.now.peer_alloc
             → result + put ≡ forwarded + self.now.peer_alloc }
     {
@@ -75,7 +77,8 @@ impl Credit {
         self.peer_fwd = fwd;
     }
 
-    /// Counts `n` bytes as come in. Where that is more than the room, it is an error and counts nothing.
+    /// Counts `n` bytes as come in. Where that is more than the room, it is an error, and nothing is
+    /// counted.
     pub fn took(&mut self, n: u32) -> Result<(), Overrun>
         ensures ok { OnOk result ((n ≤ room_of self.old) × (self.new ≡ with_taken self.old n)) }
         ensures err { IfErr result (λ e. (room_of self.old < n)
@@ -100,8 +103,9 @@ impl Credit {
     /// Bytes that came in and were not forwarded yet.
     pub fn unread(&self) -> u32
         ensures exact { result ≡ unread_of self.now }
-        // Of the plain numbers of bytes taken and forwarded, it is their difference.
-        ensures plain { (taken forwarded : ℕ) → taken % 2 ^ 32 ≡ self.now.rx_cnt → forwarded % 2 ^ 32 ≡ self.now.fwd_cnt
+        // Of the plain numbers of bytes taken and forwarded: their difference.
+        ensures plain { (taken forwarded : ℕ)
+            → taken % 2 ^ 32 ≡ self.now.rx_cnt → forwarded % 2 ^ 32 ≡ self.now.fwd_cnt
             → forwarded ≤ taken → taken ≤ forwarded + (2 ^ 32 - 1)
             → forwarded + result ≡ taken }
     {
@@ -111,8 +115,9 @@ impl Credit {
     /// Bytes of room that this end has for payload.
     pub fn room(&self) -> u32
         ensures exact { result ≡ room_of self.now }
-        // Of the plain numbers of bytes taken and forwarded, it is what the buffer space leaves.
-        ensures plain { (taken forwarded : ℕ) → taken % 2 ^ 32 ≡ self.now.rx_cnt → forwarded % 2 ^ 32 ≡ self.now.fwd_cnt
+        // Of the plain numbers of bytes taken and forwarded: what their difference leaves of the space.
+        ensures plain { (taken forwarded : ℕ)
+            → taken % 2 ^ 32 ≡ self.now.rx_cnt → forwarded % 2 ^ 32 ≡ self.now.fwd_cnt
             → forwarded ≤ taken → taken ≤ forwarded + self.now.alloc
             → result + taken ≡ forwarded + self.now.alloc }
     {

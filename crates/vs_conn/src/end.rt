@@ -1,5 +1,5 @@
-//! One end of a stream connection: the machine that answers each packet and says what is owed (Virtio 1.2, sections
-//! 5.10.6.4 to 5.10.6.6).
+//! One end of a stream connection: the machine that answers each packet and says what is owed
+//! (Virtio 1.2, sections 5.10.6.4 to 5.10.6.6).
 
 ghost use Rattle.std.specs.Prelude.{◌≡◌, ◌≤◌, IsOkAnd, Some, Result};
 ghost use Rattle.vs_conn.specs.Credit.{unread_of, with_forwarded, with_sent};
@@ -126,8 +126,8 @@ impl End {
         }
     }
 
-    /// What the end says to a packet of its connection, and does with it. An end takes over buf_alloc and fwd_cnt of the
-    /// packets that it accepts or delivers, and of no other.
+    /// What the end says to a packet of its connection, and does with it. An end takes over buf_alloc
+    /// and fwd_cnt of the packets that it accepts or delivers, and of no other.
     pub fn on_packet(&mut self, packet: &Header) -> Verdict
         ensures verdict { result ≡ verdict_of self.old packet.now }
         ensures end { self.new ≡ end_after self.old packet.now }

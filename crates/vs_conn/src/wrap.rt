@@ -14,7 +14,8 @@ pub fn add32(a: u32, b: u32) -> u32
 pub fn sub32(a: u32, b: u32) -> u32
     ensures exact { result ≡ difference32 a b }
     // Of two numbers less than 2^32 apart, what their counters show gives how far apart they are.
-    ensures plain { (m n : ℕ) → m % 2 ^ 32 ≡ a → n % 2 ^ 32 ≡ b → n ≤ m → m ≤ n + (2 ^ 32 - 1) → n + result ≡ m }
+    ensures plain { (m n : ℕ) → m % 2 ^ 32 ≡ a → n % 2 ^ 32 ≡ b
+        → n ≤ m → m ≤ n + (2 ^ 32 - 1) → n + result ≡ m }
 {
     a.wrapping_sub(b)
 }

@@ -1,1 +1,3 @@
 pub mod HostLemmas
+pub mod Played
+pub mod Kept

@@ -1,5 +1,5 @@
-//! The packet header of the socket device (Virtio 1.2, section 5.10.6): its fields, its 44 bytes, and the numbers of
-//! operations and types.
+//! The packet header of the socket device (Virtio 1.2, section 5.10.6): its fields, its 44 bytes,
+//! and the numbers of operations and types.
 #![tactic(auto)]
 
 ghost use Rattle.std.specs.Prelude.{◌≡◌, ◌≢◌, ◌≤◌, IfNone, IfSome};
@@ -88,7 +88,7 @@ fn bytes_of(header: Header) -> [u8; 44]
 /// The operation of a packet.
 #[derive(Clone, Copy, Debug, PartialEq, Eq)]
 pub enum Op {
-    /// No operation: a packet never carries it.
+    /// No operation: a packet that carries it breaks the protocol.
     Invalid,
     /// Asks for a connection.
     Request,

@@ -3,6 +3,7 @@ use Rattle.std.specs.Prelude.{List, map}
 use Rattle.vs_ring_list.specs.declared.held_chains.HeldPage.{HeldPage}
 use Rattle.vs_ring_list.specs.Rings.{Held}
 
+-- one chain with its page, and all of them, as chains with their bytes
 abbrev pub held_as : HeldPage → Held
 held_as h = record { chain = h.chain; bytes = h.page }
 

@@ -1,7 +1,7 @@
+pub mod HeldChains
 pub mod ListRings
 pub mod Page
-pub mod Rings
-pub mod Told
-pub mod HeldChains
 pub mod Queues
+pub mod Rings
 pub mod RingsView
+pub mod Told

@@ -4,23 +4,26 @@ use Rattle.vs_ring_list.specs.declared.ring_port.Queue.{Queue}
 use Rattle.vs_ring_list.specs.Rings.{Lists, Held, Rings, in_flight, all_but_oldest}
 
 -- A queue of a size: each of its lists has room for so many pages.
-pub record ListQueue : Type 0 where
+pub record SizedQueue : Type 0 where
   pub size : ℕ
   pub lists : Lists
 
+-- A queue before the first call.
 abbrev pub empty_lists : Lists
 empty_lists = record { given = []; back = []; place = 0 }
 
-abbrev pub empty_queue : ℕ → ListQueue
+abbrev pub empty_queue : ℕ → SizedQueue
 empty_queue n = record { size = n; lists = empty_lists }
 
-abbrev pub given_more : List ℕ → ListQueue → ListQueue
+-- A page comes to the end of those given, or of those given back.
+abbrev pub given_more : List ℕ → SizedQueue → SizedQueue
 given_more page q = record q { lists = record q.lists { given = q.lists.given ++ page ∷ [] } }
 
-abbrev pub returned_more : List ℕ → ListQueue → ListQueue
+abbrev pub returned_more : List ℕ → SizedQueue → SizedQueue
 returned_more page q = record q { lists = record q.lists { back = q.lists.back ++ page ∷ [] } }
 
-abbrev pub reaped_one : ListQueue → ListQueue
+-- The oldest page given back leaves.
+abbrev pub reaped_one : SizedQueue → SizedQueue
 reaped_one q = record q { lists = record q.lists { back = all_but_oldest q.lists.back } }
 
 -- The place and the page of the next chain, and the queue once it is taken.
@@ -28,12 +31,12 @@ abbrev pub taken_of : ℕ → List (List ℕ) → Option (ℕ × List ℕ)
 taken_of place [] = None
 taken_of place (page ∷ pages) = Some (place, page)
 
-abbrev pub taken_one : List (List ℕ) → ListQueue → ListQueue
+abbrev pub taken_one : List (List ℕ) → SizedQueue → SizedQueue
 taken_one [] q = q
 taken_one (page ∷ pages) q = record q { lists = record q.lists { given = pages; place = (q.lists.place + 1) % q.size } }
 
 -- The chains that the device holds, newest first, with room for so many.
-pub record HeldChains : Type 0 where
+pub record HeldList : Type 0 where
   pub room : ℕ
   pub chains : List Held
 

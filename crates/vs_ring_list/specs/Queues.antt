@@ -2,14 +2,15 @@
 use Rattle.vs_ring_list.specs.declared.ring_port.Queue.{Queue}
 use Rattle.vs_ring_list.specs.declared.ring_port.Queue.TheVariants.{Rx, Tx, Event}
 use Rattle.vs_ring_list.specs.declared.queues.Queues.{Queues}
-use Rattle.vs_ring_list.specs.ListRings.{ListQueue}
+use Rattle.vs_ring_list.specs.ListRings.{SizedQueue}
 
-abbrev pub queue_in : Queue → Queues → ListQueue
+-- the queue of a name, and the three with another in its place
+abbrev pub queue_in : Queue → Queues → SizedQueue
 queue_in Rx queues = queues.rx
 queue_in Tx queues = queues.tx
 queue_in Event queues = queues.event
 
-abbrev pub with_queue_in : Queue → ListQueue → Queues → Queues
+abbrev pub with_queue_in : Queue → SizedQueue → Queues → Queues
 with_queue_in Rx q queues = record queues { rx = q }
 with_queue_in Tx q queues = record queues { tx = q }
 with_queue_in Event q queues = record queues { event = q }

@@ -36,6 +36,7 @@ pub record Flight : Type 0 where
   pub tx : ℕ
   pub event : ℕ
 
+-- The lists of a queue, and the rings with other lists at that queue.
 abbrev pub queue_of : Queue → Rings → Lists
 queue_of Rx w = w.rx
 queue_of Tx w = w.tx
@@ -46,6 +47,7 @@ with_queue Rx q w = record w { rx = q }
 with_queue Tx q w = record w { tx = q }
 with_queue Event q w = record w { event = q }
 
+-- How many of a queue are in flight, and with one more or one less of that queue.
 abbrev pub flight_at : Queue → Flight → ℕ
 flight_at Rx f = f.rx
 flight_at Tx f = f.tx
@@ -61,6 +63,7 @@ one_less Rx f = record f { rx = f.rx - 1 }
 one_less Tx f = record f { tx = f.tx - 1 }
 one_less Event f = record f { event = f.event - 1 }
 
+-- the test whether two queues are one
 abbrev pub same_queue : Queue → Queue → Bool
 same_queue Rx Rx = true
 same_queue Tx Tx = true
@@ -71,6 +74,7 @@ same_queue _ _ = false
 abbrev pub same_chain : Chain → Chain → Bool
 same_chain a b = same_queue a.queue b.queue && a.place == b.place && a.readable == b.readable && a.writable == b.writable
 
+-- the chains that are held, without their bytes
 abbrev pub chains_of : List Held → List Chain
 chains_of held = map (λ h. h.chain) held
 
@@ -89,6 +93,7 @@ flight_of w = record { rx = in_flight Rx w; tx = in_flight Tx w; event = in_flig
 abbrev pub posted : Queue → List ℕ → Rings → Rings
 posted queue page w = let q = queue_of queue w in with_queue queue (record q { given = q.given ++ page ∷ [] }) w
 
+-- the oldest page of a list, and the others
 abbrev pub oldest : List (List ℕ) → Option (List ℕ)
 oldest [] = None
 oldest (page ∷ pages) = Some page
@@ -104,6 +109,7 @@ reaped_of queue w = oldest (queue_of queue w).back
 abbrev pub after_reap : Queue → Rings → Rings
 after_reap queue w = let q = queue_of queue w in with_queue queue (record q { back = all_but_oldest q.back }) w
 
+-- the page that came back, if one did
 abbrev pub page_of : Reaped → Option (List ℕ)
 page_of (reaped.Back page) = Some page
 page_of reaped.None = None
@@ -119,6 +125,7 @@ room_in Rx = 4096
 room_in Tx = 0
 room_in Event = 4096
 
+-- the chain that a page makes at a place, and how it is held
 abbrev pub chain_with : Queue → ℕ → List ℕ → Chain
 chain_with queue place page = record { queue = queue; place = place; readable = length (to_read queue page); writable = room_in queue }
 
@@ -142,11 +149,13 @@ after_take queue (page ∷ pages) q w =
 abbrev pub after_next : Queue → Rings → Rings
 after_next queue w = after_take queue (queue_of queue w).given (queue_of queue w) w
 
+-- the chain that was taken, if one was
 abbrev pub chain_of : Next → Option Chain
 chain_of (next.Chain chain) = Some chain
 chain_of next.None = None
 chain_of (next.Failed failure) = None
 
+-- the chains held after an answer of `next`
 abbrev pub held_after : Next → List Chain → List Chain
 held_after (next.Chain chain) held = chain ∷ held
 held_after next.None held = held
@@ -158,7 +167,7 @@ IsLongEnough Tx chain = 44 ≤ chain.readable
 IsLongEnough Rx chain = 45 ≤ chain.writable
 IsLongEnough Event chain = 4 ≤ chain.writable
 
--- the bytes of a chain that is held; of several that are the very same, the newest
+-- The bytes of a chain that is held; of several that are the very same, the newest.
 abbrev pub bytes_in : Chain → List Held → List ℕ
 bytes_in chain [] = []
 bytes_in chain (h ∷ held) = if same_chain chain h.chain then h.bytes else bytes_in chain held
@@ -166,6 +175,7 @@ bytes_in chain (h ∷ held) = if same_chain chain h.chain then h.bytes else byte
 abbrev pub bytes_held : Chain → Rings → List ℕ
 bytes_held chain w = bytes_in chain w.held
 
+-- the chains held, with other bytes at the first that is this very chain
 abbrev pub with_bytes : Chain → List ℕ → List Held → List Held
 with_bytes chain bytes [] = []
 with_bytes chain bytes (h ∷ held) = if same_chain chain h.chain then record h { bytes = bytes } ∷ held else h ∷ with_bytes chain bytes held
@@ -174,7 +184,7 @@ with_bytes chain bytes (h ∷ held) = if same_chain chain h.chain then record h 
 abbrev pub after_write : Chain → ℕ → List ℕ → Rings → Rings
 after_write chain at bytes w = record w { held = with_bytes chain (overwritten (bytes_held chain w) at bytes) w.held }
 
--- the list without the first that is this very chain
+-- The list without the first that is this very chain.
 abbrev pub without : Chain → List Chain → List Chain
 without chain [] = []
 without chain (c ∷ chains) = if same_chain chain c then chains else c ∷ without chain chains

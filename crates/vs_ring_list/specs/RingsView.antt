@@ -4,6 +4,7 @@ use Rattle.vs_ring_list.specs.declared.list_rings.ListRings.TheInside.{Inside}
 use Rattle.vs_ring_list.specs.Rings.{Rings}
 use Rattle.vs_ring_list.specs.ListRings.{IsSound}
 
+-- The rings of these parts.
 abbrev pub rings_in : Inside → Rings
 rings_in r = record { size = r.size; rx = r.queues.rx.lists; tx = r.queues.tx.lists; event = r.queues.event.lists; held = r.held.chains; cid = r.cid }
 

@@ -40,9 +40,9 @@ pub(crate) struct HeldChains {
 
 impl Model for HeldChains {
     ghost use Rattle.std.specs.VecDeque.{deque_capacity};
-    ghost use Rattle.vs_ring_list.specs.ListRings as seen;
+    ghost use Rattle.vs_ring_list.specs.ListRings.{HeldList};
 
-    ghost Value = { seen.HeldChains };
+    ghost Value = { HeldList };
 
     ghost use Rattle.vs_ring_list.specs.HeldChains.{all_held};
 

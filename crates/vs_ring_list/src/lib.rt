@@ -12,3 +12,5 @@ pub mod list_rings;
 pub mod page;
 mod queues;
 pub mod ring_port;
+#[cfg(test)]
+mod tests;

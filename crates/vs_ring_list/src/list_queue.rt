@@ -20,9 +20,9 @@ pub(crate) struct ListQueue {
 impl Model for ListQueue {
     ghost use Rattle.std.specs.Prelude.{◌<◌, ◌≤◌};
     ghost use Rattle.std.specs.VecDeque.{deque_capacity};
-    ghost use Rattle.vs_ring_list.specs.ListRings as seen;
+    ghost use Rattle.vs_ring_list.specs.ListRings.{SizedQueue};
 
-    ghost Value = { seen.ListQueue };
+    ghost Value = { SizedQueue };
 
     ghost view = { λ q. record { size = q.size; lists = record { given = q.given.items; back = q.back.items; place = q.place } } };
 

@@ -171,8 +171,8 @@ pub trait DriverRing {
 
         ensures same_size { size self.new ≡ size self.old };
 
-    /// Gets back the page that the device returned first of those not yet reaped. Of a page of tx nothing is left; a
-    /// page of rx or event holds what the device wrote.
+    /// Gets back the page that the device returned first of those not yet reaped, with as many of its bytes as the
+    /// device returned it with.
     fn reap(&mut self, queue: Queue) -> Reaped
         ensures back { OnSome (page_of result) (flight self.old ≡ one_more queue (flight self.new)) }
         ensures none { IfNone (page_of result) (flight self.new ≡ flight self.old) }
@@ -247,7 +247,7 @@ pub trait DeviceRing {
         ensures lists { Tells (lists self.old) (lists self.new) (λ _. ⊤) (after_write chain.now at bytes.now) }
         ensures same_size { size self.new ≡ size self.old };
 
-    /// Returns a chain with the first `len` bytes that were written into it.
+    /// Returns a chain with the first `len` of its bytes: those that were written into it, or none where it was read.
     fn done(&mut self, chain: Chain, len: u32)
         requires is_held { Contains (held self.old) chain }
         requires written { ForSome (lists self.old) (λ w. len ≤ length (bytes_held chain w)) }

@@ -1,5 +1,5 @@
 use Rattle.std.proofs.Common.{◌∙◌, sym, ap, ap₂, ℕ, List}
-use Rattle.vs_ring_list.specs.ListRings as seen
+use Rattle.vs_ring_list.specs.ListRings.{HeldList}
 use Rattle.vs_ring_list.specs.Rings.{Held}
 use Rattle.vs_ring_list.specs.HeldChains.{all_held}
 use Rattle.vs_ring_list.proofs.HeldPages.{IsFound, bytes_found, page_removed}
@@ -7,7 +7,7 @@ use Rattle.vs_ring_list.proofs.held_chains.HeldChains.release.Goals as goal
 
 found : (c : goal.After-unwrap-page) → IsFound c.args.chain.now c.self.inside.pages.items c.args.self.now.chains c.place_of-place.result c.unwrap-page.result
 found c = record {
-  seen = ap (λ (s : seen.HeldChains). s.chains) c.self.view_is;
+  seen = ap (λ (s : HeldList). s.chains) c.self.view_is;
   found = c.place_of-place.ensures;
   there = rw c.unwrap-page.ensures at c.remove.ensures.value;
 }
@@ -19,5 +19,5 @@ pub returns-clause-after : goal.returns-clause-after
 returns-clause-after c =
     let items = rw c.unwrap-page.ensures at c.remove.ensures.items in
     let chains = ap all_held items ∙ page_removed _ _ _ _ _ (found c) in
-    let room = c.remove.ensures.capacity ∙ ap (λ (s : seen.HeldChains). s.room) c.self.view_is in
-    ap₂ (λ (n : ℕ) (hs : List Held). let s : seen.HeldChains = record { room = n; chains = hs } in s) room chains
+    let room = c.remove.ensures.capacity ∙ ap (λ (s : HeldList). s.room) c.self.view_is in
+    ap₂ (λ (n : ℕ) (hs : List Held). let s : HeldList = record { room = n; chains = hs } in s) room chains

@@ -1,7 +1,7 @@
 use Rattle.std.proofs.Common.{◌∙◌, sym, ap, arith, subst, length, Contains}
 use Rattle.vs_ring_list.specs.Rings.{Lists, Rings, chains_of, without}
 use Rattle.vs_ring_list.specs.RingsView.{rings_in}
-use Rattle.vs_ring_list.specs.ListRings as parts
+use Rattle.vs_ring_list.specs.ListRings.{HeldList}
 use Rattle.vs_ring_list.proofs.Held.{chains_of-without_held}
 use Rattle.vs_ring_list.proofs.Soundness.{room_to_return}
 use Rattle.vs_ring_list.proofs.Views.{IsInOrder-returned, same_lists_of, same_size_of}
@@ -22,5 +22,5 @@ invariant_of-self c =
 
 pub returns-clause-held : goal.returns-clause-held
 returns-clause-held c =
-    ap (λ (h : parts.HeldChains). chains_of h.chains) c.release-page.ensures.after ∙ chains_of-without_held c.args.chain c.self.inside.held.chains
+    ap (λ (h : HeldList). chains_of h.chains) c.release-page.ensures.after ∙ chains_of-without_held c.args.chain c.self.inside.held.chains
     ∙ ap (λ (w : Rings). without c.args.chain (chains_of w.held)) c.self.view_is

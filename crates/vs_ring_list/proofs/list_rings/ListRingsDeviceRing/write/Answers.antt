@@ -1,7 +1,7 @@
 use Rattle.std.proofs.Common.{◌≤◌, ◌∙◌, refl, sym, ap, arith, subst, length, Contains}
 use Rattle.vs_ring_list.specs.Rings.{Rings, chains_of, bytes_held}
 use Rattle.vs_ring_list.specs.RingsView.{rings_in}
-use Rattle.vs_ring_list.specs.ListRings as parts
+use Rattle.vs_ring_list.specs.ListRings.{HeldList}
 use Rattle.vs_ring_list.proofs.Held.{chains_of-with_bytes}
 use Rattle.vs_ring_list.proofs.Soundness.{writable_held, IsSound-write}
 use Rattle.vs_ring_list.proofs.list_rings.ListRingsDeviceRing.write.Goals as goal
@@ -28,5 +28,5 @@ invariant_of-self c =
 
 pub returns-clause-held : goal.returns-clause-held
 returns-clause-held c =
-    ap (λ (h : parts.HeldChains). chains_of h.chains) c.write.ensures ∙ chains_of-with_bytes c.args.chain.now _ c.self.inside.held.chains
+    ap (λ (h : HeldList). chains_of h.chains) c.write.ensures ∙ chains_of-with_bytes c.args.chain.now _ c.self.inside.held.chains
     ∙ ap (λ (w : Rings). chains_of w.held) c.self.view_is
