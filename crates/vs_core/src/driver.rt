@@ -1,5 +1,7 @@
 //! The guest's driver of a socket device: it opens connections, sends and receives on them (Virtio 1.2, section 5.10.6).
 
+mod slot;
+
 /// Number of a connection, from 1 on. None is given twice.
 pub type ConnId = u32;
 

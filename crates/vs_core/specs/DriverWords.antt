@@ -1,0 +1,46 @@
+-- Words of the driver's own code: a slot that its REQUEST opened, and what holds of the fields of a slot.
+use Rattle.std.specs.Prelude.{ℕ, ◌^◌, ◌<◌, ◌≤◌, [], false, true, length}
+use Rattle.circular_buffer.specs.Buffer.{Buffer}
+use Rattle.vs_header.specs.declared.Header.{Header}
+use Rattle.vs_header.specs.declared.Op.{Op}
+use Rattle.vs_header.specs.Op.{op_number}
+use Rattle.vs_conn.specs.Credit.{unread_of}
+use Rattle.vs_conn.specs.End.{asked}
+use Rattle.vs_conn.specs.declared.credit.Credit.{Credit}
+use Rattle.vs_core.specs.declared.flow.Flow.{Flow}
+use Rattle.vs_core.specs.Profile.{host_cid, buffer_space}
+use Rattle.vs_core.specs.Guest.{GuestSlot}
+
+-- The header of a packet to the host on a flow.
+abbrev pub packet_header : ℕ → Flow → Credit → Op → ℕ → Header
+packet_header cid f c o len = record {
+  src_cid = cid;
+  dst_cid = host_cid;
+  src_port = f.guest;
+  dst_port = f.host;
+  len = len;
+  kind = 1;
+  op = op_number o;
+  flags = 0;
+  buf_alloc = c.alloc;
+  fwd_cnt = c.fwd_cnt;
+}
+
+-- A new slot whose REQUEST is put.
+abbrev pub asked_slot : ℕ → Flow → GuestSlot
+asked_slot id f = record {
+  id = id;
+  flow = f;
+  end = record (asked buffer_space) { request_put = true };
+  unread = [];
+  gone = false;
+}
+
+-- A buffer has room for all that an end may take: it holds as many bytes as the end's buffer space, and no more stand in it
+-- than the end counts as unread.
+pub record HasRoom (c : Credit) (b : Buffer ℕ) : Type 0 where
+  pub unread : length b.items ≤ unread_of c
+  pub space : c.alloc ≤ b.capacity
+  pub alloc : c.alloc < 2 ^ 32
+  pub rx_cnt : c.rx_cnt < 2 ^ 32
+  pub fwd_cnt : c.fwd_cnt < 2 ^ 32
