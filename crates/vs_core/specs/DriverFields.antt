@@ -1,5 +1,5 @@
 -- What always holds of a driver's fields.
-use Rattle.std.specs.Prelude.{◌≡◌, ℕ, ◌+◌, ◌<◌, ◌≤◌, [], length, vec_len, vec_capacity}
+use Rattle.std.specs.Prelude.{◌≡◌, ℕ, ◌+◌, ◌<◌, ◌≤◌, List, [], map, length, vec_len, vec_capacity}
 use Rattle.std.specs.List.{All, AllPairs}
 use Rattle.circular_buffer.specs.Buffer.{Buffer}
 use Rattle.vs_core.specs.Profile.{buffer_space, table_size, reply_limit}
@@ -10,9 +10,9 @@ use Rattle.vs_core.specs.declared.driver.Driver.TheInside.{Inside}
 abbrev pub IsSpare : Buffer ℕ → Type 0
 IsSpare b = (b.items ≡ []) × (buffer_space ≤ b.capacity)
 
--- Each slot has a greater number than those before it.
-abbrev pub IsBefore : GuestSlot → GuestSlot → Type 0
-IsBefore s t = s.id < t.id
+-- The numbers of the slots.
+abbrev pub ids_of : List GuestSlot → List ℕ
+ids_of slots = map (λ s. s.id) slots
 
 pub record AreKept (d : Inside) : Type 0 where
   -- At most as many pages are free as the queue has descriptors, and each that comes back has its place.
@@ -23,6 +23,6 @@ pub record AreKept (d : Inside) : Type 0 where
   pub buffers : table_size ≤ length d.slots.items + length d.buffers.items
   pub spare : All IsSpare d.buffers.items
   pub reply_room : reply_limit ≤ d.replies.capacity
-  -- No number is given twice.
-  pub rising : AllPairs IsBefore d.slots.items
-  pub below : All (λ s. s.id < d.next_id) d.slots.items
+  -- Numbers rise from slot to slot, so that none is given twice.
+  pub rising : AllPairs ◌<◌ (ids_of d.slots.items)
+  pub below : All (λ id. id < d.next_id) (ids_of d.slots.items)

@@ -1,5 +1,5 @@
 -- Words of the driver's own code: a slot that its REQUEST opened, and what holds of the fields of a slot.
-use Rattle.std.specs.Prelude.{ℕ, ◌^◌, ◌<◌, ◌≤◌, [], false, true, length}
+use Rattle.std.specs.Prelude.{◌≡◌, ℕ, ◌^◌, ◌<◌, ◌≤◌, [], false, true, length}
 use Rattle.circular_buffer.specs.Buffer.{Buffer}
 use Rattle.vs_header.specs.declared.Header.{Header}
 use Rattle.vs_header.specs.declared.Op.{Op}
@@ -9,7 +9,9 @@ use Rattle.vs_conn.specs.End.{asked}
 use Rattle.vs_conn.specs.declared.credit.Credit.{Credit}
 use Rattle.vs_core.specs.declared.flow.Flow.{Flow}
 use Rattle.vs_core.specs.Profile.{host_cid, buffer_space}
-use Rattle.vs_core.specs.Guest.{GuestSlot}
+use Rattle.vs_core.specs.declared.driver.ConnectError.{ConnectError}
+use Rattle.vs_core.specs.declared.driver.ConnectError.TheVariants as refused
+use Rattle.vs_core.specs.Guest.{GuestSlot, GuestPart, connected}
 
 -- The header of a packet to the host on a flow.
 abbrev pub packet_header : ℕ → Flow → Credit → Op → ℕ → Header
@@ -44,3 +46,18 @@ pub record HasRoom (c : Credit) (b : Buffer ℕ) : Type 0 where
   pub alloc : c.alloc < 2 ^ 32
   pub rx_cnt : c.rx_cnt < 2 ^ 32
   pub fwd_cnt : c.fwd_cnt < 2 ^ 32
+
+-- Nothing changes but how many transmit pages are in flight.
+abbrev pub ChangesPages : GuestPart → GuestPart → Type 0
+ChangesPages old new = new ≡ record old { in_flight = new.in_flight }
+
+-- A connection to a host port is opened under this number: pages were reaped, and its REQUEST was posted.
+abbrev pub Opens : ℕ → GuestPart → GuestPart → ℕ → Type 0
+Opens port old new id = (id ≡ old.next_id) × (new ≡ record (connected port old) { in_flight = new.in_flight })
+
+-- What a refusal leaves: all as before, but that pages may have come back before there was none free.
+abbrev pub Refuses : GuestPart → GuestPart → ConnectError → Type 0
+Refuses old new (refused.BadPort port) = new ≡ old
+Refuses old new (refused.Full slots) = new ≡ old
+Refuses old new (refused.PortsSpent port id) = new ≡ old
+Refuses old new (refused.NoDescriptor in_flight) = ChangesPages old new

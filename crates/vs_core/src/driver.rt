@@ -6,6 +6,7 @@ use slot::Slot;
 use std::marker::Model;
 use vs_ring_list::Page;
 
+mod connect;
 mod pages;
 mod slot;
 

@@ -6,6 +6,7 @@ ghost use Rattle.vs_header.specs.Packet.{header_bytes};
 ghost use Rattle.vs_core.specs.Interaction.{Leads};
 ghost use Rattle.vs_core.specs.Told.{RingAllows, IsRingOf};
 ghost use Rattle.vs_core.specs.Guest.{one_posted};
+ghost use Rattle.vs_core.specs.DriverWords.{ChangesPages};
 ghost use Rattle.vs_core.specs.Driver.{reap_of, reap_all, post_of};
 
 use crate::driver::Driver;
@@ -25,6 +26,7 @@ impl Driver {
         requires ring { IsRingOf (R.size ring.old) (R.flight ring.old) self.old }
         ensures ring { IsRingOf (R.size ring.new) (R.flight ring.new) self.new }
         ensures calls { Leads RingAllows (reap_of self.old) (R.lists ring.old) (self.new, result) (R.lists ring.new) }
+        ensures others { ChangesPages self.old self.new }
     {
         if self.in_flight() == 0 {
             return false;
@@ -43,6 +45,7 @@ impl Driver {
         requires ring { IsRingOf (R.size ring.old) (R.flight ring.old) self.old }
         ensures ring { IsRingOf (R.size ring.new) (R.flight ring.new) self.new }
         ensures calls { Leads RingAllows (reap_all self.old) (R.lists ring.old) self.new (R.lists ring.new) }
+        ensures others { ChangesPages self.old self.new }
     {
         let most = self.in_flight();
         for _ in 0..most {
