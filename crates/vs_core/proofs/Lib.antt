@@ -2,3 +2,4 @@ pub mod Leads
 pub mod Lists
 pub mod Pages
 pub mod Fields
+pub mod Connects
