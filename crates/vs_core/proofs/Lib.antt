@@ -3,3 +3,4 @@ pub mod Lists
 pub mod Pages
 pub mod Fields
 pub mod Connects
+pub mod Sends

@@ -51,6 +51,10 @@ pub record HasRoom (c : Credit) (b : Buffer ℕ) : Type 0 where
 abbrev pub ChangesPages : GuestPart → GuestPart → Type 0
 ChangesPages old new = new ≡ record old { in_flight = new.in_flight }
 
+-- Nothing changes but the slots.
+abbrev pub ChangesSlots : GuestPart → GuestPart → Type 0
+ChangesSlots old new = new ≡ record old { slots = new.slots }
+
 -- A connection to a host port is opened under this number: pages were reaped, and its REQUEST was posted.
 abbrev pub Opens : ℕ → GuestPart → GuestPart → ℕ → Type 0
 Opens port old new id = (id ≡ old.next_id) × (new ≡ record (connected port old) { in_flight = new.in_flight })

@@ -8,6 +8,7 @@ use vs_ring_list::Page;
 
 mod connect;
 mod pages;
+mod send;
 mod slot;
 
 /// Number of a connection, from 1 on. None is given twice.
