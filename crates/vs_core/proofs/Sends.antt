@@ -1,16 +1,19 @@
 -- What a send comes to, from what its steps did.
-use Rattle.std.proofs.Common.{◌≡◌, ◌≢◌, ℕ, ◌+◌, ◌==◌, Bool, true, false, List, [], ◌∷◌, ◌++◌, length, Option, Some, None, refl, sym, ap, ◌∙◌, subst, arith}
+use Rattle.std.proofs.Common.{◌≡◌, ◌≢◌, ℕ, ◌+◌, ◌==◌, Bool, true, false, List, [], ◌∷◌, ◌++◌, length, take, min, Option, Some, None, refl, sym, ap, ◌∙◌, subst, arith}
+use Rattle.std.proofs.lemmas.List.{take_min}
+use Rattle.std.proofs.lemmas.Bool.Decides.{nat_tests}
 use Rattle.vs_header.specs.declared.Header.{Header}
 use Rattle.vs_header.specs.declared.Op.TheVariants as op
 use Rattle.vs_header.specs.Packet.{header_bytes}
 use Rattle.vs_ring_list.specs.Rings.{Rings}
 use Rattle.vs_core.specs.declared.driver.Sent.{Sent}
 use Rattle.vs_core.specs.declared.driver.Sent.TheVariants as sent
-use Rattle.vs_core.specs.Interaction.{Leads}
-use Rattle.vs_core.specs.Guest.{GuestSlot, GuestPart, guest_header, sent_on}
-use Rattle.vs_core.specs.Driver.{post_of, put_payload}
+use Rattle.vs_core.specs.Interaction.{bind, Leads}
+use Rattle.vs_core.specs.Guest.{GuestSlot, GuestPart, guest_header, one_posted, sent_on}
+use Rattle.vs_core.specs.Driver.{reap_all, post_of, put_payload, payload_of, send_open}
+use Rattle.vs_core.specs.DriverWords.{ChangesPages, Sends}
 use Rattle.vs_core.specs.Told.{RingAllows}
-use Rattle.vs_core.proofs.Leads.{leads_bind}
+use Rattle.vs_core.proofs.Leads.{leads_of, leads_bind}
 
 module _ (s : GuestSlot) (bytes : List ℕ) (g h : GuestPart) (header : Header) (is : header ≡ guest_header g.cid s op.Rw (length bytes)) (r t : Option Rings) where
   -- a page was free
@@ -18,3 +21,46 @@ module _ (s : GuestSlot) (bytes : List ℕ) (g h : GuestPart) (header : Header) 
   payload_put k after posts =
       let P : Header → Type 0 = λ x. Leads RingAllows (post_of (header_bytes x ++ bytes) g) r (h, true) t in
       leads_bind RingAllows (post_of (header_bytes (guest_header g.cid s op.Rw (length bytes)) ++ bytes) g) _ r t t (h, true) (k, sent.Took (length bytes)) (subst P is posts) (ap (λ (x : GuestPart). (x, sent.Took (length bytes))) (sym after), refl)
+
+-- what a payload that was put leaves, seen from before its page was posted
+pub payload_sends : (slots_at : GuestPart → ℕ) (n : ℕ) (g h k : GuestPart) → h ≡ one_posted g → k ≡ sent_on (slots_at h) n h → slots_at (one_posted g) ≡ slots_at g → k ≡ record (sent_on (slots_at g) n g) { in_flight = k.in_flight }
+payload_sends slots_at n g h k posted after same =
+    let P : GuestPart → Type 0 = λ x. k ≡ sent_on (slots_at x) n x in
+    let direct : k ≡ sent_on (slots_at (one_posted g)) n (one_posted g) = subst P posted after in
+    let Q : ℕ → Type 0 = λ id. k ≡ sent_on id n (one_posted g) in
+    let here : k ≡ sent_on (slots_at g) n (one_posted g) = subst Q same direct in
+    here ∙ ap (λ (m : ℕ). record (sent_on (slots_at g) n g) { in_flight = m }) (sym (ap (λ (x : GuestPart). x.in_flight) here))
+
+payload_of-min : (bytes : List ℕ) (credit k n : ℕ) → k ≡ min (length bytes) credit → n ≡ min k 4052 → take n bytes ≡ payload_of bytes credit
+payload_of-min bytes credit k n first then =
+    let e : n ≡ min (min credit 4052) (length bytes) = omega arith in
+    ap (λ (m : ℕ). take m bytes) e ∙ take_min (min credit 4052) bytes
+
+sends_as : (s : GuestSlot) (credit : ℕ) (bytes : List ℕ) (g : GuestPart) → length bytes ≢ 0 → credit ≢ 0 → send_open reap_all s credit bytes g ≡ bind (reap_all g) (put_payload s (payload_of bytes credit))
+sends_as s credit bytes g some free =
+    let e : (length bytes == 0) ≡ false = grind (arith, nat_tests) in
+    let f : (credit == 0) ≡ false = grind (arith, nat_tests) in
+    rw (e, f) refl
+
+-- pages are reaped, and then the payload is put
+pub sends_open : (s : GuestSlot) (credit : ℕ) (bytes : List ℕ) (g h : GuestPart) (x : GuestPart × Sent) (k n : ℕ) (r m t : Option Rings) → length bytes ≢ 0 → credit ≢ 0 → k ≡ min (length bytes) credit → n ≡ min k 4052
+    → Leads RingAllows (reap_all g) r h m → Leads RingAllows (put_payload s (take n bytes) h) m x t → Leads RingAllows (send_open reap_all s credit bytes g) r x t
+sends_open s credit bytes g h x k n r m t some free first then reaps puts =
+    let P : List ℕ → Type 0 = λ ys. Leads RingAllows (put_payload s ys h) m x t in
+    leads_of RingAllows _ _ r t x (sends_as s credit bytes g some free)
+      (leads_bind RingAllows (reap_all g) (put_payload s (payload_of bytes credit)) r m t h x reaps (subst P (payload_of-min bytes credit k n first then) puts))
+
+sends_seen : (n id m : ℕ) (g k : GuestPart) (x : Sent) → Sends n id (record g { in_flight = m }) k x → Sends n id g k x
+sends_seen n id m g k (sent.Took l) says = says
+sends_seen n id m g k (sent.NoDescriptor l) says = says
+sends_seen n id m g k sent.Unknown says = says
+sends_seen n id m g k sent.NotOpen says = says
+sends_seen n id m g k sent.Reset says = says
+sends_seen n id m g k (sent.NoCredit tx alloc fwd) says = says
+
+-- what is sent after pages were reaped, seen from before
+pub sends_after_reap : (slots_at : GuestPart → ℕ) (n : ℕ) (g h k : GuestPart) (x : Sent) → ChangesPages g h → slots_at (record g { in_flight = h.in_flight }) ≡ slots_at g → Sends n (slots_at h) h k x → Sends n (slots_at g) g k x
+sends_after_reap slots_at n g h k x reaped same says =
+    let P : GuestPart → Type 0 = λ y. Sends n (slots_at y) y k x in
+    let Q : ℕ → Type 0 = λ id. Sends n id (record g { in_flight = h.in_flight }) k x in
+    sends_seen n (slots_at g) h.in_flight g k x (subst Q same (subst P reaped says))
