@@ -27,3 +27,22 @@ module _ {Call : Type 0} {Answer : Call → Type 0} {S A B : Type 0} (Allows : (
       let Q : S → Type 0 = λ w. Leads Allows (f x) w y t in
       subst P (sym h.0) (subst Q (sym h.1) rest)
   leads_bind (Ask call k) f s m t x y h rest = (h.0, h.1, h.2, leads_bind (k h.0) f h.1 m t x y h.3 rest)
+
+-- What holds of each end that a conversation may have.
+abbrev pub AllEnds : {Call : Type 0} {Answer : Call → Type 0} {A : Type 0} → (A → Type 0) → Tree Call Answer A → Type 0
+AllEnds P (Done x) = P x
+AllEnds {Call = Call} {Answer = Answer} P (Ask call k) = (a : Answer call) → AllEnds P (k a)
+
+module _ {Call : Type 0} {Answer : Call → Type 0} {A : Type 0} (P : A → Type 0) where
+
+  pub end_of : {S : Type 0} (Allows : (call : Call) → Answer call → S → S → Type 0) (p : Tree Call Answer A) (s t : S) (x : A) → AllEnds P p → Leads Allows p s x t → P x
+  end_of Allows (Done y) s t x all h = subst P h.0 all
+  end_of Allows (Ask call k) s t x all h = end_of Allows (k h.0) h.1 t x (all h.0) h.3
+
+  pub ends_weaker : (Q : A → Type 0) → ((x : A) → P x → Q x) → (p : Tree Call Answer A) → AllEnds P p → AllEnds Q p
+  ends_weaker Q then (Done x) all = then x all
+  ends_weaker Q then (Ask call k) all = λ a. ends_weaker Q then (k a) (all a)
+
+  pub ends_bind : {B : Type 0} (p : Tree Call Answer B) (f : B → Tree Call Answer A) → AllEnds (λ x. AllEnds P (f x)) p → AllEnds P (bind p f)
+  ends_bind (Done x) f all = all
+  ends_bind (Ask call k) f all = λ a. ends_bind (k a) f (all a)

@@ -4,3 +4,5 @@ pub mod Pages
 pub mod Fields
 pub mod Connects
 pub mod Sends
+pub mod Ends
+pub mod SendEnds

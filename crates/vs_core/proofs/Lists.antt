@@ -1,9 +1,10 @@
 -- Places in lists: code finds the first element with a property by its place, and writes through it.
-use Rattle.std.proofs.Common.{◌≡◌, ℕ, suc, zero, ◌+◌, ◌<◌, Bool, true, false, not, cond, List, [], ◌∷◌, ◌++◌, length, get_or, set, ltb, take, drop, Some, None, refl, sym, ap, ◌∙◌, arith, add-one, drop-cons}
+use Rattle.std.proofs.Common.{◌≡◌, ℕ, suc, zero, ◌+◌, ◌<◌, Bool, true, false, not, cond, List, [], ◌∷◌, ◌++◌, length, get_or, set, ltb, take, drop, Option, Some, None, refl, sym, ap, subst, ◌∙◌, arith, add-one, drop-cons}
 use Rattle.std.specs.Prelude.{if◌then◌else◌}
-use Rattle.std.specs.List.{find, position, position_or_len, slice_get}
+use Rattle.std.specs.List.{find, position, position_or_len, slice_get, HoldsAt}
+use Rattle.std.specs.Option.{IfSome, IfNone}
 use Rattle.std.proofs.lemmas.List.Folds.{find_at}
-use Rattle.std.proofs.lemmas.Option.{slice_get_read, slice_get_past, cond_some}
+use Rattle.std.proofs.lemmas.Option.{slice_get_read, slice_get_past, slice_get-get_or, cond_some}
 use Rattle.std.proofs.lemmas.Grind.{take_at_read}
 use Rattle.std.proofs.lemmas.Bool.Decides.{nat_tests}
 use borrow.Author.Tests.{ltb-true}
@@ -72,3 +73,23 @@ split_at [] i y lt = absurd (omega arith)
 -- an element in the middle, changed
 pub set_split : {X : Type 0} (xs : List X) (i : ℕ) (y : X) → i < length xs → set xs i y ≡ take i xs ++ y ∷ drop (i + 1) xs
 set_split xs i y lt = rw add-one (split_at xs i y lt)
+
+-- what the place says of the first element that passes
+pub found_place : {X : Type 0} (p : X → Bool) (xs : List X) (r : Option ℕ) → r ≡ position p xs → IfSome r (λ i. (i < length xs) × HoldsAt (λ x. find p xs ≡ Some x) xs i)
+found_place p xs None is = tt
+found_place p xs (Some i) is =
+    let first = first_place p xs i (sym is) in
+    (first.0, λ d. find_at p xs ∙ (ap (λ n. slice_get xs n) first.1 ∙ slice_get-get_or xs i d first.0))
+
+pub found_no_place : {X : Type 0} (p : X → Bool) (xs : List X) (r : Option ℕ) → r ≡ position p xs → IfNone r (find p xs ≡ None)
+found_no_place p xs None is = find_nowhere p xs (sym is)
+found_no_place p xs (Some i) is = tt
+
+-- what is found passes
+pub find_passes : {X : Type 0} (p : X → Bool) (xs : List X) (x : X) → find p xs ≡ Some x → p x ≡ true
+find_passes p [] x found = cc
+find_passes {X} p (y ∷ ys) x found =
+    (elim (p y) as (λ (b : Bool). p y ≡ b → cond b (Some y) (find p ys) ≡ Some x → p x ≡ true) [
+      | true ↦ λ passes same. let e : y ≡ x = cc in subst (λ (z : X). p z ≡ true) e passes
+      | false ↦ λ fails rest. find_passes p ys x rest
+    ]) refl found

@@ -22,15 +22,6 @@ module _ (s : GuestSlot) (bytes : List ℕ) (g h : GuestPart) (header : Header) 
       let P : Header → Type 0 = λ x. Leads RingAllows (post_of (header_bytes x ++ bytes) g) r (h, true) t in
       leads_bind RingAllows (post_of (header_bytes (guest_header g.cid s op.Rw (length bytes)) ++ bytes) g) _ r t t (h, true) (k, sent.Took (length bytes)) (subst P is posts) (ap (λ (x : GuestPart). (x, sent.Took (length bytes))) (sym after), refl)
 
--- what a payload that was put leaves, seen from before its page was posted
-pub payload_sends : (slots_at : GuestPart → ℕ) (n : ℕ) (g h k : GuestPart) → h ≡ one_posted g → k ≡ sent_on (slots_at h) n h → slots_at (one_posted g) ≡ slots_at g → k ≡ record (sent_on (slots_at g) n g) { in_flight = k.in_flight }
-payload_sends slots_at n g h k posted after same =
-    let P : GuestPart → Type 0 = λ x. k ≡ sent_on (slots_at x) n x in
-    let direct : k ≡ sent_on (slots_at (one_posted g)) n (one_posted g) = subst P posted after in
-    let Q : ℕ → Type 0 = λ id. k ≡ sent_on id n (one_posted g) in
-    let here : k ≡ sent_on (slots_at g) n (one_posted g) = subst Q same direct in
-    here ∙ ap (λ (m : ℕ). record (sent_on (slots_at g) n g) { in_flight = m }) (sym (ap (λ (x : GuestPart). x.in_flight) here))
-
 payload_of-min : (bytes : List ℕ) (credit k n : ℕ) → k ≡ min (length bytes) credit → n ≡ min k 4052 → take n bytes ≡ payload_of bytes credit
 payload_of-min bytes credit k n first then =
     let e : n ≡ min (min credit 4052) (length bytes) = omega arith in
@@ -50,17 +41,3 @@ sends_open s credit bytes g h x k n r m t some free first then reaps puts =
     leads_of RingAllows _ _ r t x (sends_as s credit bytes g some free)
       (leads_bind RingAllows (reap_all g) (put_payload s (payload_of bytes credit)) r m t h x reaps (subst P (payload_of-min bytes credit k n first then) puts))
 
-sends_seen : (n id m : ℕ) (g k : GuestPart) (x : Sent) → Sends n id (record g { in_flight = m }) k x → Sends n id g k x
-sends_seen n id m g k (sent.Took l) says = says
-sends_seen n id m g k (sent.NoDescriptor l) says = says
-sends_seen n id m g k sent.Unknown says = says
-sends_seen n id m g k sent.NotOpen says = says
-sends_seen n id m g k sent.Reset says = says
-sends_seen n id m g k (sent.NoCredit tx alloc fwd) says = says
-
--- what is sent after pages were reaped, seen from before
-pub sends_after_reap : (slots_at : GuestPart → ℕ) (n : ℕ) (g h k : GuestPart) (x : Sent) → ChangesPages g h → slots_at (record g { in_flight = h.in_flight }) ≡ slots_at g → Sends n (slots_at h) h k x → Sends n (slots_at g) g k x
-sends_after_reap slots_at n g h k x reaped same says =
-    let P : GuestPart → Type 0 = λ y. Sends n (slots_at y) y k x in
-    let Q : ℕ → Type 0 = λ id. Sends n id (record g { in_flight = h.in_flight }) k x in
-    sends_seen n (slots_at g) h.in_flight g k x (subst Q same (subst P reaped says))

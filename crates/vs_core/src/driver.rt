@@ -8,6 +8,7 @@ use vs_ring_list::Page;
 
 mod connect;
 mod pages;
+mod places;
 mod send;
 mod slot;
 

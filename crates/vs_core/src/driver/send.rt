@@ -1,12 +1,12 @@
 //! Sending on a connection (Virtio 1.2, section 5.10.6.4).
 
-ghost use Rattle.std.specs.Prelude.{◌≡◌, ℕ, ◌<◌, ◌≤◌, length, min, find, position, Some, None, Ok, Err, IfSome, IsOkAnd};
+ghost use Rattle.std.specs.Prelude.{◌≡◌, ℕ, ◌<◌, ◌≤◌, length, min, find, Some, None, Ok, Err, IfSome, IsOkAnd};
 ghost use Rattle.std.specs.List.{HoldsAt};
 ghost use Rattle.vs_core.specs.Interaction.{Leads};
 ghost use Rattle.vs_core.specs.Told.{RingAllows, IsRingOf};
 ghost use Rattle.vs_core.specs.Guest.{has_id, slot_may_send, sent_on};
 ghost use Rattle.vs_core.specs.DriverWords.{ChangesSlots, Sends, send_limit_of, no_credit_of};
-ghost use Rattle.vs_core.specs.Driver.{reap_all, put_payload, send_open, send_of};
+ghost use Rattle.vs_core.specs.Driver.{reap_all, put_payload, send_open, send_on, send_of};
 
 use crate::driver::{ConnId, Driver, Sent};
 use vs_conn::{Credit, Stop};
@@ -14,13 +14,6 @@ use vs_header::Op;
 use vs_ring_list::{DriverRing, PAYLOAD_MAX};
 
 impl Driver {
-    /// The place of the connection with a number.
-    pub(super) fn place_of(&self, id: ConnId) -> Option<usize>
-        ensures { result ≡ position (has_id id) self.now.slots }
-    {
-        self.slots.iter().position(|slot| slot.has_id(id))
-    }
-
     /// Sends bytes on a connection, as many from their front as its credit allows and one packet carries. Pages that the
     /// device returned are taken back before one is needed.
     pub fn send<R: DriverRing>(&mut self, ring: &mut R, id: ConnId, bytes: &[u8]) -> Sent
@@ -42,6 +35,16 @@ impl Driver {
         let Some(place) = self.place_of(id) else {
             return Sent::Unknown;
         };
+        self.send_at(ring, place, bytes)
+    }
+
+    // Sends bytes on the connection at a place.
+    fn send_at<R: DriverRing>(&mut self, ring: &mut R, place: usize, bytes: &[u8]) -> Sent
+        requires ring { IsRingOf (R.size ring.old) (R.flight ring.old) self.old }
+        requires place { place < length self.old.slots }
+        ensures ring { IsRingOf (R.size ring.new) (R.flight ring.new) self.new }
+        ensures calls { HoldsAt (λ s. Leads RingAllows (send_on reap_all s (slot_may_send s) bytes.now self.old) (R.lists ring.old) (self.new, result) (R.lists ring.new)) self.old.slots place }
+    {
         let slot = &self.slots[place];
         match slot.may_send() {
             Err(Stop::NotOpen) => Sent::NotOpen,
@@ -57,10 +60,6 @@ impl Driver {
         requires credit { HoldsAt (λ s. slot_may_send s ≡ Ok credit) self.old.slots place }
         ensures ring { IsRingOf (R.size ring.new) (R.flight ring.new) self.new }
         ensures calls { HoldsAt (λ s. Leads RingAllows (send_open reap_all s credit bytes.now self.old) (R.lists ring.old) (self.new, result) (R.lists ring.new)) self.old.slots place }
-        ensures took_none { length bytes.now ≡ 0 → (result ≡ Sent.Took 0) × (self.new ≡ self.old) }
-        ensures no_credit { credit ≡ 0 → 0 < length bytes.now → HoldsAt (λ s. result ≡ no_credit_of s.end.credit) self.old.slots place × (self.new ≡ self.old) }
-        ensures sends { 0 < credit → 0 < length bytes.now
-            → HoldsAt (λ s. Sends (min (length bytes.now) (min credit 4052)) s.id self.old self.new result) self.old.slots place }
     {
         if bytes.is_empty() {
             return Sent::Took(0);
@@ -82,7 +81,6 @@ impl Driver {
         requires credit { HoldsAt (λ s. IsOkAnd (slot_may_send s) (λ credit. length bytes.now ≤ credit)) self.old.slots place }
         ensures ring { IsRingOf (R.size ring.new) (R.flight ring.new) self.new }
         ensures calls { HoldsAt (λ s. Leads RingAllows (put_payload s bytes.now self.old) (R.lists ring.old) (self.new, result) (R.lists ring.new)) self.old.slots place }
-        ensures sends { HoldsAt (λ s. Sends (length bytes.now) s.id self.old self.new result) self.old.slots place }
     {
         let slot = &self.slots[place];
         let header = slot.header(self.cid, Op::Rw, bytes.len() as u32);

@@ -1,8 +1,8 @@
-use Rattle.std.proofs.Common.{◌≡◌, ◌<◌, refl, List, length, get_or, ap, subst, ◌∙◌, rules}
+use Rattle.std.proofs.Common.{◌≡◌, ◌<◌, List, length, get_or, ap, subst, ◌∙◌, rules}
 use Rattle.std.proofs.lemmas.List.{get_or_default}
 use Rattle.vs_header.specs.declared.Op.TheVariants as op
 use Rattle.vs_core.specs.Guest.{GuestSlot, GuestPart, guest_header, sent_on}
-use Rattle.vs_core.proofs.Sends.{payload_put, payload_sends}
+use Rattle.vs_core.proofs.Sends.{payload_put}
 use Rattle.vs_core.proofs.driver.Driver.put_payload.Goals as goal
 
 pub returns-clause-calls : goal.returns-clause-calls
@@ -19,6 +19,3 @@ returns-clause-calls g c = λ d.
     let P : List GuestSlot → Type 0 = λ xs. c.count_sent.new.self ≡ sent_on (get_or xs place d).id n c.post.new.self in
     payload_put (get_or old.slots place d) c.args.bytes.now old c.post.new.self c.header-header.result header _ _ c.count_sent.new.self (subst P same (c.count_sent.ensures.part d)) c.if-not-post.ensures.calls
 
-pub returns-clause-sends : goal.returns-clause-sends
-returns-clause-sends g c = λ d.
-    (refl, payload_sends (λ (x : GuestPart). (get_or x.slots c.args.place d).id) (length c.args.bytes.now) c.args.self.now c.post.new.self c.count_sent.new.self c.if-not-post.ensures.part (c.count_sent.ensures.part d) refl)
