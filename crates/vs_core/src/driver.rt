@@ -7,10 +7,12 @@ use std::marker::Model;
 use vs_ring_list::Page;
 
 mod connect;
+mod new;
 mod pages;
 mod places;
 mod send;
 mod slot;
+mod table;
 
 /// Number of a connection, from 1 on. None is given twice.
 pub type ConnId = u32;
