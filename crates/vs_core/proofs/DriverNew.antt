@@ -29,11 +29,6 @@ one_more_at queue.Event queue.Rx f = omega arith
 one_more_at queue.Event queue.Tx f = omega arith
 one_more_at queue.Event queue.Event f = refl
 
-same_as_itself : (q : Queue) → same_queue q q ≡ true
-same_as_itself queue.Rx = refl
-same_as_itself queue.Tx = refl
-same_as_itself queue.Event = refl
-
 sum_next : (b : Bool) (was is total n m : ℕ) → n ≡ suc m → is ≡ was + (if b then 1 else 0) → was + (if b then n else 0) ≡ total → is + (if b then m else 0) ≡ total
 sum_next true was is total n m count more sum = omega (arith, count, more, sum)
 sum_next false was is total n m count more sum = omega (arith, count, more, sum)
@@ -42,13 +37,6 @@ sum_next false was is total n m count more sum = omega (arith, count, more, sum)
 pub flight_next : (q other : Queue) (f g : Flight) (n m total : ℕ) → n ≡ suc m → g ≡ one_more q f → flight_at other f + (if same_queue other q then n else 0) ≡ total → flight_at other g + (if same_queue other q then m else 0) ≡ total
 flight_next q other f g n m total count more sum =
     sum_next (same_queue other q) (flight_at other f) (flight_at other g) total n m count (ap (λ (h : Flight). flight_at other h) more ∙ one_more_at q other f) sum
-
-pub room_next : (q : Queue) (f g : Flight) (n m size : ℕ) → n ≡ suc m → g ≡ one_more q f → flight_at q f + n ≤ size → flight_at q g + m ≤ size
-room_next q f g n m size count more room =
-    let P : Bool → Type 0 = λ b. flight_at q (one_more q f) ≡ flight_at q f + (if b then 1 else 0) in
-    let here : flight_at q (one_more q f) ≡ flight_at q f + 1 = subst P (same_as_itself q) (one_more_at q q f) in
-    let there : flight_at q g ≡ flight_at q (one_more q f) = ap (λ (h : Flight). flight_at q h) more in
-    omega (arith, count, here, there, room)
 
 -- all receive pages are posted, then all event pages, and the CID is loaded
 pub new_made : (size port id cid rx event : ℕ) (new : GuestPart) (r s t end : Option Rings) → rx ≡ size → event ≡ size

@@ -1,8 +1,7 @@
 //! Making a driver: its memory first, then all receive and event pages are posted (Virtio 1.2, section 5.10.6).
 
-ghost use Rattle.std.specs.Prelude.{◌≡◌, ◌≢◌, ℕ, ◌+◌, ◌≤◌, [], if◌then◌else◌, length, vec_capacity, Option, IfOk, OnErr};
+ghost use Rattle.std.specs.Prelude.{◌≡◌, ◌≢◌, ◌+◌, ◌≤◌, [], if◌then◌else◌, length, vec_capacity, Option, IfOk, OnErr};
 ghost use Rattle.std.specs.List.{All};
-ghost use Rattle.vs_ring_list.specs.declared.ring_port.Queue.{Queue as QueueName};
 ghost use Rattle.vs_ring_list.specs.Rings.{Rings, flight_at, same_queue};
 ghost use Rattle.vs_core.specs.Interaction.{Leads};
 ghost use Rattle.vs_core.specs.Told.{RingAllows, IsRingOf};
@@ -117,7 +116,7 @@ fn post_all<R: DriverRing>(ring: &mut R, queue: Queue, mut pages: Vec<Page>)
 
     // Whatever completes the rest completes the whole.
     ensures calls { (rest : GuestTree (Unit {0})) (end : Option Rings) → Leads RingAllows rest (R.lists ring.new) tt end → Leads RingAllows (posted_to queue (length pages.items) rest) (R.lists ring.old) tt end }
-    ensures flight { (other : QueueName) → flight_at other (R.flight ring.new) ≡ flight_at other (R.flight ring.old) + (if same_queue other queue then length pages.items else 0) }
+    ensures flight { (other : Queue) → flight_at other (R.flight ring.new) ≡ flight_at other (R.flight ring.old) + (if same_queue other queue then length pages.items else 0) }
     ensures same_size { R.size ring.new ≡ R.size ring.old }
 {
     while let Some(page) = pages.pop() {

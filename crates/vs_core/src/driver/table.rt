@@ -61,6 +61,9 @@ fn count_open(slots: &[Slot]) -> usize
 fn entry_at(slots: &[Slot], place: usize) -> Option<(Flow, State)>
     ensures { result ≡ option_map (λ s. (s.flow, s.end.state)) (slice_get (filter (λ s. not s.gone) slots.now) place) }
 {
-    let slot = slots.iter().filter(|slot| !slot.is_gone()).nth(place)?;
-    Some((slot.flow(), slot.end_state()))
+    slots
+        .iter()
+        .filter(|slot| !slot.is_gone())
+        .nth(place)
+        .map(|slot| (slot.flow(), slot.end_state()))
 }

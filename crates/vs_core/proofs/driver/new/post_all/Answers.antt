@@ -2,7 +2,7 @@ use Rattle.std.proofs.Common.{◌≡◌, ℕ, suc, ◌+◌, ◌∷◌, [], ◌++
 use Rattle.std.proofs.lemmas.List.Elements.{All-pop}
 use Rattle.std.specs.List.{All}
 use Rattle.std.proofs.Common.{Some}
-use Rattle.vs_core.proofs.DriverNew.{posted_next, flight_next, room_next}
+use Rattle.vs_core.proofs.DriverNew.{posted_next, flight_next}
 use Rattle.vs_core.proofs.driver.new.post_all.Goals as goal
 
 pub loop-page-preserved : goal.loop-page-preserved
