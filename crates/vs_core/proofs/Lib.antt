@@ -1,3 +1,12 @@
 pub mod HostLemmas
 pub mod Played
 pub mod Kept
+pub mod Leads
+pub mod Lists
+pub mod Pages
+pub mod Fields
+pub mod Connects
+pub mod Sends
+pub mod Ends
+pub mod SendEnds
+pub mod DriverNew

@@ -9,6 +9,8 @@ pub mod Interaction
 pub mod Reply
 pub mod Guest
 pub mod Driver
+pub mod DriverWords
+pub mod DriverFields
 pub mod Device
 pub mod DeviceCalls
 pub mod Told

@@ -1,0 +1,69 @@
+//! What the driver tells of its connections.
+
+ghost use Rattle.std.specs.Prelude.{◌≡◌, length, not, filter, option_map, slice_get};
+ghost use Rattle.vs_core.specs.Driver.{state_of, flow_of, guest_table};
+
+use crate::driver::slot::Slot;
+use crate::driver::{ConnId, ConnectionState, Driver};
+use crate::flow::Flow;
+use vs_conn::State;
+
+impl Driver {
+    /// How the connection with a number stands.
+    pub fn state(&self, id: ConnId) -> ConnectionState
+        ensures { result ≡ state_of id self.now }
+    {
+        match self.place_of(id) {
+            Some(place) => self.slots[place].state(),
+            None => ConnectionState::Unknown,
+        }
+    }
+
+    /// The flow of the connection with a number. `None` comes exactly where no connection has it.
+    pub fn flow(&self, id: ConnId) -> Option<Flow>
+        ensures { result ≡ flow_of id self.now }
+    {
+        let place = self.place_of(id)?;
+        Some(self.slots[place].flow())
+    }
+
+    /// Packets on known flows that were answered by RST. The count stands still at its last value.
+    pub fn broken(&self) -> u64
+        ensures { result ≡ self.now.broken }
+    {
+        self.broken
+    }
+
+    /// How many connections aren't over: the entries of the driver's table.
+    pub fn open_count(&self) -> usize
+        ensures { result ≡ length (guest_table self.now) }
+    {
+        count_open(&self.slots)
+    }
+
+    /// The entry at a place of the driver's table, its flow and the state of its end: the connections that aren't over, in
+    /// the order of their opening. `None` comes exactly where the table has no such place.
+    pub fn entry(&self, place: usize) -> Option<(Flow, State)>
+        ensures { result ≡ slice_get (guest_table self.now) place }
+    {
+        entry_at(&self.slots, place)
+    }
+}
+
+// How many slots have a connection that isn't over.
+fn count_open(slots: &[Slot]) -> usize
+    ensures { result ≡ length (filter (λ s. not s.gone) slots.now) }
+{
+    slots.iter().filter(|slot| !slot.is_gone()).count()
+}
+
+// The entry at a place among the slots whose connection isn't over.
+fn entry_at(slots: &[Slot], place: usize) -> Option<(Flow, State)>
+    ensures { result ≡ option_map (λ s. (s.flow, s.end.state)) (slice_get (filter (λ s. not s.gone) slots.now) place) }
+{
+    slots
+        .iter()
+        .filter(|slot| !slot.is_gone())
+        .nth(place)
+        .map(|slot| (slot.flow(), slot.end_state()))
+}
