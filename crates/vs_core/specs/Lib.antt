@@ -11,5 +11,6 @@ pub mod Guest
 pub mod Driver
 pub mod Device
 pub mod DeviceCalls
+pub mod DeviceEntries
 pub mod Told
 pub mod World

@@ -1,5 +1,7 @@
 //! The socket device: it joins the guest's connections to the host's streams (Virtio 1.2, section 5.10.6).
 
+mod entry;
+
 use vs_conn::Verdict;
 use vs_ring_list::Failure;
 
