@@ -1,1 +1,3 @@
+pub mod Leads
+pub mod Lists
 pub mod DeviceBytes
