@@ -1,3 +1,4 @@
 pub mod Leads
 pub mod Lists
 pub mod DeviceBytes
+pub mod DeviceTable

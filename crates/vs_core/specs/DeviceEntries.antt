@@ -1,6 +1,6 @@
 -- The device's entries: how one begins, and that its buffer has room for what its credit lets in.
 use Rattle.std.specs.Prelude.{◌≡◌, ℕ, ◌≤◌, ◌<◌, ◌^◌, false, List, [], length}
-use Rattle.circular_buffer.specs.Buffer.{Buffer}
+use Rattle.circular_buffer.specs.Buffer.{Buffer, buffer}
 use Rattle.vs_header.specs.declared.Header.{Header}
 use Rattle.vs_conn.specs.Credit.{unread_of}
 use Rattle.vs_conn.specs.End.{answering}
@@ -27,3 +27,7 @@ pub record HasRoom (credit : Credit) (pending : Buffer ℕ) : Type 0 where
   pub told : credit.alloc ≤ pending.capacity
   pub size : pending.capacity ≡ buffer_space
   pub wraps : credit.fwd_cnt < 2 ^ 32
+
+-- A buffer that no entry has.
+abbrev pub IsSpare : Buffer ℕ → Type 0
+IsSpare b = b ≡ buffer [] buffer_space

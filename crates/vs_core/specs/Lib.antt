@@ -12,5 +12,7 @@ pub mod Driver
 pub mod Device
 pub mod DeviceCalls
 pub mod DeviceEntries
+pub mod DeviceInside
+pub mod DeviceWords
 pub mod Told
 pub mod World

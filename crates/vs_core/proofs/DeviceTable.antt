@@ -1,0 +1,36 @@
+-- The device's table rises by slot: what follows for its length, its ends, and the entry of a slot.
+use Rattle.std.proofs.Common.{◌≡◌, ℕ, zero, suc, ◌+◌, ◌≤◌, ◌<◌, Bool, true, false, List, [], ◌∷◌, ◌++◌, length, get_or, set, map, take, drop, arith, refl, ap, sym, ◌∙◌, subst, add-one}
+use Rattle.std.specs.List.{AllByRecursion}
+use Rattle.vs_core.specs.DeviceInside.{RisesWithin}
+
+pub RisesWithin-length : (low high : ℕ) (ns : List ℕ) → RisesWithin low high ns → low + length ns ≤ high
+RisesWithin-length low high [] h = omega (arith, h)
+RisesWithin-length low high (n ∷ ns) h = omega (arith, RisesWithin-length (n + 1) high ns h.1, h.0)
+
+-- the greatest number that may come next does
+pub RisesWithin-push : (low high : ℕ) (ns : List ℕ) → RisesWithin low high ns → RisesWithin low (high + 1) (ns ++ high ∷ [])
+RisesWithin-push low high [] h = (h, omega arith)
+RisesWithin-push low high (n ∷ ns) h = (h.0, RisesWithin-push (n + 1) high ns h.1)
+
+RisesWithin-lower : (low lower high : ℕ) (ns : List ℕ) → lower ≤ low → RisesWithin low high ns → RisesWithin lower high ns
+RisesWithin-lower low lower high [] le h = omega (arith, h)
+RisesWithin-lower low lower high (n ∷ ns) le h = (omega (arith, h.0), h.1)
+
+-- one less
+pub RisesWithin-remove : (low high i : ℕ) (ns : List ℕ) → RisesWithin low high ns → RisesWithin low high (take i ns ++ drop (suc i) ns)
+RisesWithin-remove low high zero [] h = h
+RisesWithin-remove low high (suc i) [] h = h
+RisesWithin-remove low high zero (n ∷ ns) h = RisesWithin-lower (n + 1) low high ns (omega (arith, h.0)) h.1
+RisesWithin-remove low high (suc i) (n ∷ ns) h = (h.0, RisesWithin-remove (n + 1) high i ns h.1)
+
+pub AllByRecursion-append : {X : Type 0} (P : X → Type 0) (xs ys : List X) → AllByRecursion P xs → AllByRecursion P ys → AllByRecursion P (xs ++ ys)
+AllByRecursion-append P [] ys h k = k
+AllByRecursion-append P (x ∷ xs) ys h k = (h.0, AllByRecursion-append P xs ys h.1 k)
+
+pub AllByRecursion-front : {X : Type 0} (P : X → Type 0) (xs ys : List X) → AllByRecursion P (xs ++ ys) → AllByRecursion P xs
+AllByRecursion-front P [] ys h = tt
+AllByRecursion-front P (x ∷ xs) ys h = (h.0, AllByRecursion-front P xs ys h.1)
+
+pub AllByRecursion-back : {X : Type 0} (P : X → Type 0) (xs ys : List X) → AllByRecursion P (xs ++ ys) → AllByRecursion P ys
+AllByRecursion-back P [] ys h = h
+AllByRecursion-back P (x ∷ xs) ys h = AllByRecursion-back P xs ys h.1
