@@ -7,7 +7,9 @@ use Rattle.vs_ring_list.specs.declared.ring_port.Failure.{Failure}
 use Rattle.vs_core.specs.declared.device.Counters.{Counters}
 use Rattle.vs_core.specs.Outside.{Host, IsOpen}
 use Rattle.vs_core.specs.Device.{DeviceEntry, DevicePart}
-use Rattle.vs_core.specs.Told.{Situation}
+use Rattle.vs_core.specs.Interaction.{Done, Leads}
+use Rattle.vs_core.specs.DeviceCalls.{Pumped, closing}
+use Rattle.vs_core.specs.Told.{Situation, DeviceAllows}
 
 -- What ring and host tell at a moment, and how many of the host's calls failed so far.
 abbrev pub situation : Option Rings → Option Host → ℕ → Situation
@@ -35,6 +37,20 @@ IsOpenAt told id = ForSome told (IsOpen id)
 pub record KeepsOthers (e : DeviceEntry) (old new : Option Host) : Type 0 where
   pub tells : old ≡ None → new ≡ None
   pub others : (id : ℕ) → (e.closed ≡ false → id ≢ e.stream) → IsOpenAt old id → IsOpenAt new id
+
+-- The stream of an entry is closed, unless the device closed it before.
+abbrev pub Closes : DeviceEntry → Situation → Situation → Type 0
+Closes e old new = Leads {A = Unit {0}} DeviceAllows (closing e (Done tt)) old tt new
+
+-- What giving bytes to a stream came to: only the count of faults may differ, and the entry.
+abbrev pub pumped_to : DevicePart → ℕ → DeviceEntry → ℕ → Pumped
+pumped_to d faults e wrote = record { part = record d { faults = faults }; entry = e; wrote = wrote }
+
+-- The entry keeps its slot and its stream, which isn't opened again.
+pub record SameStream (old new : DeviceEntry) : Type 0 where
+  pub slot : new.slot ≡ old.slot
+  pub stream : new.stream ≡ old.stream
+  pub closed : new.closed ≡ false → old.closed ≡ false
 
 -- Entries opened are the slots given, those closed are the others of them that are there no more.
 abbrev pub counters_of : DevicePart → Counters
