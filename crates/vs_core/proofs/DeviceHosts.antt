@@ -91,3 +91,55 @@ close_keeps e s o p P same unclosed t = record {
   tells = tells_none o p P (after_close s) t;
   others = λ id ne is. told_then o p P (after_close s) id t (λ h. open-close s id h (λ is_s. ne unclosed (is_s ∙ same))) is;
 }
+
+-- what holds of each entry holds of the one at a place
+pub AllByRecursion-at : {X : Type 0} (P : X → Type 0) (xs : List X) (i : ℕ) (x : X) → AllByRecursion P xs → slice_get xs i ≡ Some x → P x
+AllByRecursion-at P [] i x all at = absurd (none-some x at)
+AllByRecursion-at P (y ∷ ys) zero x all at = subst P (same_Some y x at) all.0
+AllByRecursion-at P (y ∷ ys) (suc i) x all at = AllByRecursion-at P ys i x all.1 at
+
+AllByRecursion-set : {X : Type 0} (P : X → Type 0) (xs : List X) (i : ℕ) (x : X) → AllByRecursion P xs → P x → AllByRecursion P (set xs i x)
+AllByRecursion-set P [] i x all h = all
+AllByRecursion-set P (y ∷ ys) zero x all h = (h, all.1)
+AllByRecursion-set P (y ∷ ys) (suc i) x all h = (all.0, AllByRecursion-set P ys i x all.1 h)
+
+module _ (h k : Host) (e : DeviceEntry) (others : (id : ℕ) → (e.closed ≡ false → id ≢ e.stream) → IsOpen id h → IsOpen id k) where
+  open-rest : (es : List DeviceEntry) → AllByRecursion (AreApart e) es → AllByRecursion (HasOpenStream h) es → AllByRecursion (HasOpenStream k) es
+  open-rest [] apart open_ = tt
+  open-rest (x ∷ es) apart open_ = (λ unclosed. others x.stream (λ own same. apart.0 own unclosed (sym same)) (open_.0 unclosed), open-rest es apart.1 open_.1)
+
+  open-set : (new : DeviceEntry) → HasOpenStream k new → (es : List DeviceEntry) (i : ℕ) → AllByRecursion (HasOpenStream h) es → AreAllApart es → slice_get es i ≡ Some e → AllByRecursion (HasOpenStream k) (set es i new)
+  open-set new own [] i open_ apart at = tt
+  open-set new own (x ∷ es) zero open_ apart at = (own, open-rest es (subst (λ (y : DeviceEntry). AllByRecursion (AreApart y) es) (same_Some x e at) apart.0) open_.1)
+  open-set new own (x ∷ es) (suc i) open_ apart at =
+      (λ unclosed. others x.stream (λ mine same. AllByRecursion-at (AreApart x) es i e apart.0 at unclosed mine same) (open_.0 unclosed), open-set new own es i open_.1 apart.1 at)
+
+apart-same : (e new x : DeviceEntry) → SameStream e new → AreApart e x → AreApart new x
+apart-same e new x same apart mine other is = apart (same.closed mine) other (sym same.stream ∙ is)
+
+apart-same_right : (e new x : DeviceEntry) → SameStream e new → AreApart x e → AreApart x new
+apart-same_right e new x same apart other mine is = apart other (same.closed mine) (is ∙ same.stream)
+
+AllByRecursion-map : {X : Type 0} (P Q : X → Type 0) (xs : List X) → ((x : X) → P x → Q x) → AllByRecursion P xs → AllByRecursion Q xs
+AllByRecursion-map P Q [] f all = tt
+AllByRecursion-map P Q (x ∷ xs) f all = (f x all.0, AllByRecursion-map P Q xs f all.1)
+
+apart-set : (e new : DeviceEntry) → SameStream e new → (es : List DeviceEntry) (i : ℕ) → AreAllApart es → slice_get es i ≡ Some e → AreAllApart (set es i new)
+apart-set e new same [] i apart at = tt
+apart-set e new same (x ∷ es) zero apart at =
+    (AllByRecursion-map (AreApart e) (AreApart new) es (λ y. apart-same e new y same) (subst (λ (y : DeviceEntry). AllByRecursion (AreApart y) es) (same_Some x e at) apart.0), apart.1)
+apart-set e new same (x ∷ es) (suc i) apart at =
+    (AllByRecursion-set (AreApart x) es i new apart.0 (apart-same_right e new x same (AllByRecursion-at (AreApart x) es i e apart.0 at)), apart-set e new same es i apart.1 at)
+
+-- the host stays that of the table where an entry changes, and at most its stream
+pub IsHostOf-set : (o p : Option Host) (es : List DeviceEntry) (i : ℕ) (e new : DeviceEntry) → IsHostOf o es → slice_get es i ≡ Some e → KeepsOthers e o p → (new.closed ≡ false → IsOpenAt p new.stream) → SameStream e new → IsHostOf p (set es i new)
+IsHostOf-set None p es i e new host at keeps own same = subst (λ q. IsHostOf q (set es i new)) (sym (keeps.tells refl)) tt
+IsHostOf-set (Some h) None es i e new host at keeps own same = tt
+IsHostOf-set (Some h) (Some k) es i e new host at keeps own same =
+    let others : (id : ℕ) → (e.closed ≡ false → id ≢ e.stream) → IsOpen id h → IsOpen id k = λ id ne is. keeps.others id ne (λ x same_host. subst (λ g. IsOpen id g) (same_Some h x same_host) is) k refl in
+    (open-set h k e others new (λ unclosed. own unclosed k refl) es i host.0 host.1 at, apart-set e new same es i host.1 at)
+
+-- the stream of an entry of the table is open, unless the device closed it
+pub IsHostOf-at : (o : Option Host) (es : List DeviceEntry) (i : ℕ) (e : DeviceEntry) → IsHostOf o es → slice_get es i ≡ Some e → e.closed ≡ false → IsOpenAt o e.stream
+IsHostOf-at None es i e host at unclosed k is = absurd (none-some k is)
+IsHostOf-at (Some h) es i e host at unclosed k is = subst (λ g. IsOpen e.stream g) (same_Some h k is) (AllByRecursion-at (HasOpenStream h) es i e host.0 at unclosed)

@@ -1,7 +1,10 @@
 -- The device's table rises by slot: what follows for its length, its ends, and the entry of a slot.
 use Rattle.std.proofs.Common.{◌≡◌, ℕ, zero, suc, ◌+◌, ◌≤◌, ◌<◌, Bool, true, false, List, [], ◌∷◌, ◌++◌, length, get_or, set, map, take, drop, arith, refl, ap, sym, ◌∙◌, subst, add-one}
-use Rattle.std.specs.List.{AllByRecursion}
-use Rattle.vs_core.specs.DeviceInside.{RisesWithin}
+use Rattle.std.proofs.Common.{Some, None}
+use Rattle.std.specs.List.{AllByRecursion, slice_get}
+use Rattle.std.proofs.lemmas.Option.{same_Some, none-some}
+use Rattle.vs_core.specs.Device.{DeviceEntry}
+use Rattle.vs_core.specs.DeviceInside.{RisesWithin, slots_of}
 
 pub RisesWithin-length : (low high : ℕ) (ns : List ℕ) → RisesWithin low high ns → low + length ns ≤ high
 RisesWithin-length low high [] h = omega (arith, h)
@@ -34,3 +37,9 @@ AllByRecursion-front P (x ∷ xs) ys h = (h.0, AllByRecursion-front P xs ys h.1)
 pub AllByRecursion-back : {X : Type 0} (P : X → Type 0) (xs ys : List X) → AllByRecursion P (xs ++ ys) → AllByRecursion P ys
 AllByRecursion-back P [] ys h = h
 AllByRecursion-back P (x ∷ xs) ys h = AllByRecursion-back P xs ys h.1
+
+-- an entry that keeps its slot
+pub slots_of-set : (es : List DeviceEntry) (i : ℕ) (e new : DeviceEntry) → slice_get es i ≡ Some e → new.slot ≡ e.slot → slots_of (set es i new) ≡ slots_of es
+slots_of-set [] i e new at same = refl
+slots_of-set (x ∷ es) zero e new at same = ap (λ (n : ℕ). n ∷ slots_of es) (same ∙ ap (λ (y : DeviceEntry). y.slot) (sym (same_Some x e at)))
+slots_of-set (x ∷ es) (suc i) e new at same = ap (λ (ns : List ℕ). x.slot ∷ ns) (slots_of-set es i e new at same)

@@ -1,14 +1,57 @@
 //! The device and the host's streams: pending bytes are given to them, and they are closed.
-ghost use Rattle.std.specs.Prelude.{◌≡◌, ◌≤◌, ◌<◌, false, length, take, Option};
+ghost use Rattle.std.specs.Prelude.{◌≡◌, ◌≤◌, ◌<◌, false, length, take, List, Option, Some, slice_get, slice_set};
 ghost use Rattle.vs_ring_list.specs.Rings.{Rings};
 ghost use Rattle.vs_core.specs.Interaction.{Ask, Leads};
-ghost use Rattle.vs_core.specs.Device.{DevicePart};
-ghost use Rattle.vs_core.specs.DeviceCalls.{Give, after_give, pump_of};
-ghost use Rattle.vs_core.specs.Told.{DeviceAllows};
-ghost use Rattle.vs_core.specs.DeviceWords.{situation, pumped_to, Closes, IsOpenAt, KeepsOthers, SameStream};
+ghost use Rattle.vs_core.specs.Device.{DeviceEntry, DevicePart};
+ghost use Rattle.vs_core.specs.DeviceCalls.{Give, after_give, pump_of, pump_out_of};
+ghost use Rattle.vs_core.specs.Told.{DeviceAllows, IsHostOf};
+ghost use Rattle.vs_core.specs.DeviceWords.{situation, with_table, pumped_to, Closes, IsOpenAt, KeepsOthers, SameStream};
 
+use crate::device::Device;
 use crate::device::entry::{Entry, PIECE_MAX};
 use crate::outside::{HostNet, Written};
+
+impl Device {
+    /// Makes one host write for each connection whose stream the device hasn't closed, by rising slot, where bytes are
+    /// pending: of the first of them, at most `PIECE_MAX`. Returns how many bytes the streams took. A stream that failed or
+    /// was closed by the host ends its connection.
+    pub fn pump_out<H: HostNet>(&mut self, host: &mut H) -> u32
+        requires { IsHostOf (H.told host.old) self.old.entries }
+        ensures calls { (rings : Option Rings) → Leads DeviceAllows (pump_out_of self.old)
+            (situation rings (H.told host.old) (H.faults host.old))
+            (self.new, result)
+            (situation rings (H.told host.new) (H.faults host.new)) }
+        ensures host { IsHostOf (H.told host.new) self.new.entries }
+        ensures same { self.new ≡ record self.old { entries = self.new.entries; faults = self.new.faults } }
+        ensures count { length self.new.entries ≡ length self.old.entries }
+    {
+        let mut wrote = 0;
+        for place in 0..self.entries.len() {
+            wrote += self.pump(host, place);
+        }
+        wrote
+    }
+
+    /// Gives the first pending bytes of the entry at a place to its stream, and returns how many it took.
+    fn pump<H: HostNet>(&mut self, host: &mut H, place: usize) -> u32
+        requires in_table { place < length self.old.entries }
+        requires host { IsHostOf (H.told host.old) self.old.entries }
+        // Whatever table is beside it.
+        ensures calls { (table : List DeviceEntry) (e : DeviceEntry) (rings : Option Rings)
+            → slice_get self.old.entries place ≡ Some e
+            → (new : DeviceEntry) × (self.new.entries ≡ slice_set self.old.entries place new)
+            × Leads DeviceAllows (pump_of e (with_table table self.old))
+                (situation rings (H.told host.old) (H.faults host.old))
+                (record { part = with_table table self.new; entry = new; wrote = result })
+                (situation rings (H.told host.new) (H.faults host.new)) }
+        ensures host { IsHostOf (H.told host.new) self.new.entries }
+        ensures same { self.new ≡ record self.old { entries = self.new.entries; faults = self.new.faults } }
+        ensures count { length self.new.entries ≡ length self.old.entries }
+        ensures few { result ≤ PIECE_MAX }
+    {
+        pump_entry(&mut self.entries[place], &mut self.faults, host)
+    }
+}
 
 /// Closes the stream of an entry, unless the device closed it before.
 pub(super) fn close_stream<H: HostNet>(entry: &Entry, host: &mut H)
