@@ -43,3 +43,9 @@ pub slots_of-set : (es : List DeviceEntry) (i : ℕ) (e new : DeviceEntry) → s
 slots_of-set [] i e new at same = refl
 slots_of-set (x ∷ es) zero e new at same = ap (λ (n : ℕ). n ∷ slots_of es) (same ∙ ap (λ (y : DeviceEntry). y.slot) (sym (same_Some x e at)))
 slots_of-set (x ∷ es) (suc i) e new at same = ap (λ (ns : List ℕ). x.slot ∷ ns) (slots_of-set es i e new at same)
+
+-- there is an element at each place of a list
+pub some_at : {X : Type 0} (xs : List X) (i : ℕ) → i < length xs → (x : X) × (slice_get xs i ≡ Some x)
+some_at [] i lt = absurd (omega arith)
+some_at (x ∷ xs) zero lt = (x, refl)
+some_at (x ∷ xs) (suc i) lt = some_at xs i (omega arith)
