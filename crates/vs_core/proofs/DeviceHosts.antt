@@ -143,3 +143,29 @@ IsHostOf-set (Some h) (Some k) es i e new host at keeps own same =
 pub IsHostOf-at : (o : Option Host) (es : List DeviceEntry) (i : ℕ) (e : DeviceEntry) → IsHostOf o es → slice_get es i ≡ Some e → e.closed ≡ false → IsOpenAt o e.stream
 IsHostOf-at None es i e host at unclosed k is = absurd (none-some k is)
 IsHostOf-at (Some h) es i e host at unclosed k is = subst (λ g. IsOpen e.stream g) (same_Some h k is) (AllByRecursion-at (HasOpenStream h) es i e host.0 at unclosed)
+
+AllByRecursion-remove : {X : Type 0} (P : X → Type 0) (xs : List X) (i : ℕ) → AllByRecursion P xs → AllByRecursion P (take i xs ++ drop (suc i) xs)
+AllByRecursion-remove P [] zero all = tt
+AllByRecursion-remove P [] (suc i) all = tt
+AllByRecursion-remove P (x ∷ xs) zero all = all.1
+AllByRecursion-remove P (x ∷ xs) (suc i) all = (all.0, AllByRecursion-remove P xs i all.1)
+
+apart-remove : (es : List DeviceEntry) (i : ℕ) → AreAllApart es → AreAllApart (take i es ++ drop (suc i) es)
+apart-remove [] zero apart = tt
+apart-remove [] (suc i) apart = tt
+apart-remove (x ∷ es) zero apart = apart.1
+apart-remove (x ∷ es) (suc i) apart = (AllByRecursion-remove (AreApart x) es i apart.0, apart-remove es i apart.1)
+
+open-remove : (h k : Host) (e : DeviceEntry) → ((id : ℕ) → (e.closed ≡ false → id ≢ e.stream) → IsOpen id h → IsOpen id k) → (es : List DeviceEntry) (i : ℕ) → AllByRecursion (HasOpenStream h) es → AreAllApart es → slice_get es i ≡ Some e → AllByRecursion (HasOpenStream k) (take i es ++ drop (suc i) es)
+open-remove h k e others [] i open_ apart at = absurd (none-some e at)
+open-remove h k e others (x ∷ es) zero open_ apart at = open-rest h k e others es (subst (λ (y : DeviceEntry). AllByRecursion (AreApart y) es) (same_Some x e at) apart.0) open_.1
+open-remove h k e others (x ∷ es) (suc i) open_ apart at =
+    (λ unclosed. others x.stream (λ mine same. AllByRecursion-at (AreApart x) es i e apart.0 at unclosed mine same) (open_.0 unclosed), open-remove h k e others es i open_.1 apart.1 at)
+
+-- the host stays that of the table where an entry leaves it, and at most its stream changes
+pub IsHostOf-remove : (o p : Option Host) (es : List DeviceEntry) (i : ℕ) (e : DeviceEntry) → IsHostOf o es → slice_get es i ≡ Some e → KeepsOthers e o p → IsHostOf p (take i es ++ drop (suc i) es)
+IsHostOf-remove None p es i e host at keeps = subst (λ q. IsHostOf q (take i es ++ drop (suc i) es)) (sym (keeps.tells refl)) tt
+IsHostOf-remove (Some h) None es i e host at keeps = tt
+IsHostOf-remove (Some h) (Some k) es i e host at keeps =
+    let others : (id : ℕ) → (e.closed ≡ false → id ≢ e.stream) → IsOpen id h → IsOpen id k = λ id ne is. keeps.others id ne (λ x same_host. subst (λ g. IsOpen id g) (same_Some h x same_host) is) k refl in
+    (open-remove h k e others es i host.0 host.1 at, apart-remove es i host.1)

@@ -1,9 +1,9 @@
 //! The device and the host's streams: pending bytes are given to them, and they are closed.
-ghost use Rattle.std.specs.Prelude.{◌≡◌, ◌≤◌, ◌<◌, false, length, take, List, Option, Some, slice_get, slice_set};
+ghost use Rattle.std.specs.Prelude.{◌≡◌, ◌≤◌, ◌<◌, false, length, take, List, Option, Some, remove, slice_get, slice_set};
 ghost use Rattle.vs_ring_list.specs.Rings.{Rings};
 ghost use Rattle.vs_core.specs.Interaction.{Ask, Leads};
 ghost use Rattle.vs_core.specs.Device.{DeviceEntry, DevicePart};
-ghost use Rattle.vs_core.specs.DeviceCalls.{Give, after_give, pump_of, pump_out_of};
+ghost use Rattle.vs_core.specs.DeviceCalls.{Give, after_give, pump_of, pump_out_of, without_entry};
 ghost use Rattle.vs_core.specs.Told.{DeviceAllows, IsHostOf};
 ghost use Rattle.vs_core.specs.DeviceWords.{situation, with_table, pumped_to, Closes, IsOpenAt, KeepsOthers, SameStream};
 
@@ -50,6 +50,25 @@ impl Device {
         ensures few { result ≤ PIECE_MAX }
     {
         pump_entry(&mut self.entries[place], &mut self.faults, host)
+    }
+
+    /// The entry at a place leaves the table, and its stream is closed, unless the device closed it before. Its buffer is
+    /// spare from then on.
+    pub(super) fn remove<H: HostNet>(&mut self, host: &mut H, place: usize)
+        requires in_table { place < length self.old.entries }
+        requires host { IsHostOf (H.told host.old) self.old.entries }
+        ensures calls { (e : DeviceEntry) (rings : Option Rings) → slice_get self.old.entries place ≡ Some e
+            → Closes e
+                (situation rings (H.told host.old) (H.faults host.old))
+                (situation rings (H.told host.new) (H.faults host.new)) }
+        ensures host { IsHostOf (H.told host.new) self.new.entries }
+        ensures by_place { self.new ≡ with_table (remove self.old.entries place) self.old }
+        ensures by_slot { (e : DeviceEntry) → slice_get self.old.entries place ≡ Some e
+            → self.new ≡ without_entry e.slot self.old }
+    {
+        let entry = self.entries.remove(place);
+        close_stream(&entry, host);
+        self.spare.push_reserved(entry.into_buffer());
     }
 }
 
