@@ -169,3 +169,8 @@ IsHostOf-remove (Some h) None es i e host at keeps = tt
 IsHostOf-remove (Some h) (Some k) es i e host at keeps =
     let others : (id : ℕ) → (e.closed ≡ false → id ≢ e.stream) → IsOpen id h → IsOpen id k = λ id ne is. keeps.others id ne (λ x same_host. subst (λ g. IsOpen id g) (same_Some h x same_host) is) k refl in
     (open-remove h k e others es i host.0 host.1 at, apart-remove es i host.1)
+
+-- the host stays that of the table where an entry changes and keeps its stream
+pub IsHostOf-entry : (o : Option Host) (es : List DeviceEntry) (i : ℕ) (e new : DeviceEntry) → IsHostOf o es → slice_get es i ≡ Some e → SameStream e new → IsHostOf o (set es i new)
+IsHostOf-entry o es i e new host at same =
+    IsHostOf-set o o es i e new host at (keeps_same e o o refl) (λ unclosed. subst (λ (s : ℕ). IsOpenAt o s) (sym same.stream) (IsHostOf-at o es i e host at (same.closed unclosed))) same

@@ -101,3 +101,9 @@ filter-rising low high (suc i) (x ∷ es) e h at =
     let is_not : eqb x.slot e.slot ≡ false = ne_eqb x.slot e.slot (λ same. omega (arith, above, same)) in
     ap (λ (b : Bool). cond (not b) (x ∷ filter (λ y. not (entry_at e.slot y)) es) (filter (λ y. not (entry_at e.slot y)) es)) is_not
     ∙ ap (λ (ys : List DeviceEntry). x ∷ ys) (filter-rising (x.slot + 1) high i es e h.1 at)
+
+-- what stands at a place once it was put there
+pub slice_get-set : {X : Type 0} (xs : List X) (i : ℕ) (x y : X) → slice_get xs i ≡ Some x → slice_get (set xs i y) i ≡ Some y
+slice_get-set [] i x y at = absurd (none-some x at)
+slice_get-set (z ∷ xs) zero x y at = refl
+slice_get-set (z ∷ xs) (suc i) x y at = slice_get-set xs i x y at

@@ -1,12 +1,13 @@
 -- Words of the contracts of the device's calls and of their steps.
-use Rattle.std.specs.Prelude.{◌≡◌, ◌≢◌, ℕ, ◌+◌, ◌-◌, ◌≤◌, false, List, [], ◌∷◌, length, Option, Some, None}
+use Rattle.std.specs.Prelude.{◌≡◌, ◌≢◌, ℕ, ◌+◌, ◌-◌, ◌≤◌, false, List, [], ◌∷◌, length, slice_get, slice_set, Option, Some, None}
 use Rattle.std.specs.Option.{ForSome}
 use Rattle.vs_ring_list.specs.Rings.{Rings}
 use Rattle.vs_ring_list.specs.declared.ring_port.Chain.{Chain}
 use Rattle.vs_ring_list.specs.declared.ring_port.Failure.{Failure}
 use Rattle.vs_core.specs.declared.device.Counters.{Counters}
 use Rattle.vs_core.specs.Outside.{Host, IsOpen}
-use Rattle.vs_core.specs.Device.{DeviceEntry, DevicePart}
+use Rattle.vs_core.specs.Lists.{update_first}
+use Rattle.vs_core.specs.Device.{DeviceEntry, DevicePart, entry_at}
 use Rattle.vs_core.specs.Interaction.{Done, Leads}
 use Rattle.vs_core.specs.DeviceCalls.{Pumped, closing}
 use Rattle.vs_core.specs.Told.{Situation, DeviceAllows}
@@ -51,6 +52,11 @@ pub record SameStream (old new : DeviceEntry) : Type 0 where
   pub slot : new.slot ≡ old.slot
   pub stream : new.stream ≡ old.stream
   pub closed : new.closed ≡ false → old.closed ≡ false
+
+-- No other entry has the slot of the one at a place: a change by slot is a change of that one.
+abbrev pub IsAlone : ℕ → List DeviceEntry → Type 0
+IsAlone place es = (e : DeviceEntry) (f : DeviceEntry → DeviceEntry) → slice_get es place ≡ Some e
+    → update_first (entry_at e.slot) f es ≡ slice_set es place (f e)
 
 -- Entries opened are the slots given, those closed are the others of them that are there no more.
 abbrev pub counters_of : DevicePart → Counters

@@ -9,6 +9,7 @@ ghost use Rattle.vs_core.specs.DeviceEntries.{IsSpare};
 
 mod entry;
 mod streams;
+mod transmit;
 
 use crate::device::entry::{BUFFER_SPACE, Entry};
 use crate::flow::Flow;
