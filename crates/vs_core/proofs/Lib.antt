@@ -10,3 +10,8 @@ pub mod Sends
 pub mod Ends
 pub mod SendEnds
 pub mod DriverNew
+pub mod DeviceBytes
+pub mod DeviceTable
+pub mod DeviceHosts
+pub mod DevicePumps
+pub mod DeviceSound

@@ -13,5 +13,8 @@ pub mod DriverWords
 pub mod DriverFields
 pub mod Device
 pub mod DeviceCalls
+pub mod DeviceEntries
+pub mod DeviceInside
+pub mod DeviceWords
 pub mod Told
 pub mod World
