@@ -10,8 +10,8 @@ mod outside;
 mod path;
 mod reply;
 
-pub use device::{Counters, Filled, Taken, Turn, Turned};
-pub use driver::{ConnId, ConnectError, ConnectionState, Polled, Received, Sent};
+pub use device::{Counters, Device, Filled, Taken, Turn, Turned};
+pub use driver::{ConnId, ConnectError, ConnectionState, Driver, Polled, Received, Sent};
 pub use flow::{ASSIGNED_FIRST, ASSIGNED_LAST, Flow, is_assigned};
 pub use mem_host::{MemHost, MemStream};
 pub use mem_io::{FreeGate, MemSink, MemSource, StepClock};
