@@ -1,1 +1,4 @@
 pub mod HostLemmas
+pub mod WorldPlays
+pub mod WorldQueues
+pub mod WorldOpening
