@@ -2,3 +2,9 @@ pub mod HostLemmas
 pub mod WorldPlays
 pub mod WorldQueues
 pub mod WorldOpening
+pub mod WorldLists
+pub mod WorldOrder
+pub mod WorldFlows
+pub mod WorldSteps
+pub mod WorldPages
+pub mod WorldKept

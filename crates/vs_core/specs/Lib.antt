@@ -13,3 +13,4 @@ pub mod Device
 pub mod DeviceCalls
 pub mod Told
 pub mod World
+pub mod Laws
