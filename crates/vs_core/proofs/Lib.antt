@@ -8,3 +8,4 @@ pub mod WorldFlows
 pub mod WorldSteps
 pub mod WorldPages
 pub mod WorldKept
+pub mod WorldGuest

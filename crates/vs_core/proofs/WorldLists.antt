@@ -40,6 +40,11 @@ all_update_first P p f keeps [] a = tt
 all_update_first P p f keeps (x ∷ xs) a =
     cond_both (p x) (f x ∷ xs) (x ∷ update_first p f xs) (AllByRecursion P) (λ _. (keeps x a.0, a.1)) (λ _. (a.0, all_update_first P p f keeps xs a.1))
 
+pub all_set : {X : Type 0} (P : X → Type 0) (xs : List X) (k : ℕ) (y : X) → P y → AllByRecursion P xs → AllByRecursion P (set xs k y)
+all_set P [] k y p a = tt
+all_set P (x ∷ xs) zero y p a = (p, a.1)
+all_set P (x ∷ xs) (suc k) y p a = (a.0, all_set P xs k y p a.1)
+
 -- The first that passes a test, and where it stands.
 found_cases : {X : Type 0} (b : Bool) (y x : X) (rest : Option X) → cond b (Some y) rest ≡ Some x → ((b ≡ true) × (y ≡ x)) ⊎ ((b ≡ false) × (rest ≡ Some x))
 found_cases true y x rest e = inl (refl, cc)
