@@ -9,3 +9,6 @@ pub mod WorldSteps
 pub mod WorldPages
 pub mod WorldKept
 pub mod WorldGuest
+pub mod WorldStreams
+pub mod WorldVerdicts
+pub mod WorldTakes

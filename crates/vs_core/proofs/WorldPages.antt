@@ -19,6 +19,14 @@ packet_in page = record {
   payload = take (header_of (take header_size page)).len (drop header_size page);
 }
 
+pub reads_header : (page : List ℕ) → header_of (take header_size page) ≡ (packet_in page).header
+unfolding packet_in
+reads_header page = refl
+
+pub reads_after : (page : List ℕ) → take (packet_in page).header.len (drop header_size page) ≡ (packet_in page).payload
+unfolding packet_in
+reads_after page = refl
+
 -- A page that holds its payload, from this guest to the host.
 pub record IsPage (page : List ℕ) : Type 0 where
   pub for_host : is_for_host 3 (packet_in page).header ≡ true

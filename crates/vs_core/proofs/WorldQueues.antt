@@ -136,36 +136,36 @@ pay_moves : (place : ℕ) (g : GuestPart) (w : Rings) → RingsMoved w (played r
 pay_moves place g w = pay_slot_moves place (slice_get g.slots place) g w
 
 -- The device's steps. What is decided on a packet makes no call that moves a page.
-entry_keeps : (fails : Bool) (v : Verdict) (c : Chain) (h : Header) (e : DeviceEntry) (d : DevicePart) (s : Rings × Host)
+entry_still : (fails : Bool) (v : Verdict) (c : Chain) (h : Header) (e : DeviceEntry) (d : DevicePart) (s : Rings × Host)
     → (played (answer_on fails) (on_entry v c h e d) s).1.0 ≡ s.0
-entry_keeps fails verdict.Deliver c h e d s = refl
-entry_keeps fails verdict.Peer c h e d s = if_cases (answer_on fails) e.closed _ _ s (λ r. r.1.0 ≡ s.0) (λ _. refl) (λ _. refl)
-entry_keeps fails verdict.Accept c h e d s = refl
-entry_keeps fails verdict.Ignore c h e d s = refl
-entry_keeps fails (verdict.Rst w) c h e d s = refl
+entry_still fails verdict.Deliver c h e d s = refl
+entry_still fails verdict.Peer c h e d s = if_cases (answer_on fails) e.closed _ _ s (λ r. r.1.0 ≡ s.0) (λ _. refl) (λ _. refl)
+entry_still fails verdict.Accept c h e d s = refl
+entry_still fails verdict.Ignore c h e d s = refl
+entry_still fails (verdict.Rst w) c h e d s = refl
 
-dial_keeps : (fails : Bool) (h : Header) (d : DevicePart) (s : Rings × Host)
+dial_still : (fails : Bool) (h : Header) (d : DevicePart) (s : Rings × Host)
     → (played (answer_on fails) (Ask (Dial (path_of d.base h.dst_port) (flow_from_guest h)) (λ answer. Done (after_dial answer h d))) s).1.0 ≡ s.0
-dial_keeps true h d s = refl
-dial_keeps false h d s = refl
+dial_still true h d s = refl
+dial_still false h d s = refl
 
-stranger_keeps : (fails : Bool) (h : Header) (d : DevicePart) (s : Rings × Host) → (played (answer_on fails) (on_stranger h d) s).1.0 ≡ s.0
-stranger_keeps fails h d s =
+stranger_still : (fails : Bool) (h : Header) (d : DevicePart) (s : Rings × Host) → (played (answer_on fails) (on_stranger h d) s).1.0 ≡ s.0
+stranger_still fails h d s =
     if_cases (answer_on fails) (eqb h.op 3) _ _ s (λ r. r.1.0 ≡ s.0) (λ _. refl) (λ _.
     if_cases (answer_on fails) (eqb h.kind 1 && eqb h.op 1) _ _ s (λ r. r.1.0 ≡ s.0) (λ _.
-    if_cases (answer_on fails) (is_assigned h.dst_port || is_full d) _ _ s (λ r. r.1.0 ≡ s.0) (λ _. refl) (λ _. dial_keeps fails h d s))
+    if_cases (answer_on fails) (is_assigned h.dst_port || is_full d) _ _ s (λ r. r.1.0 ≡ s.0) (λ _. refl) (λ _. dial_still fails h d s))
     (λ _. refl))
 
-flow_keeps : (fails : Bool) (o : Option DeviceEntry) (c : Chain) (h : Header) (d : DevicePart) (s : Rings × Host)
+flow_still : (fails : Bool) (o : Option DeviceEntry) (c : Chain) (h : Header) (d : DevicePart) (s : Rings × Host)
     → (played (answer_on fails) (by_flow o c h d) s).1.0 ≡ s.0
-flow_keeps fails None c h d s = stranger_keeps fails h d s
-flow_keeps fails (Some e) c h d s = entry_keeps fails (verdict_of e.end h) c h e d s
+flow_still fails None c h d s = stranger_still fails h d s
+flow_still fails (Some e) c h d s = entry_still fails (verdict_of e.end h) c h e d s
 
-packet_keeps : (fails : Bool) (c : Chain) (h : Header) (d : DevicePart) (s : Rings × Host)
+pub packet_still : (fails : Bool) (c : Chain) (h : Header) (d : DevicePart) (s : Rings × Host)
     → (played (answer_on fails) (on_packet c h d) s).1.0 ≡ s.0
-packet_keeps fails c h d s =
+packet_still fails c h d s =
     if_cases (answer_on fails) (is_for_host d.cid h) _ _ s (λ r. r.1.0 ≡ s.0)
-    (λ _. flow_keeps fails (find (entry_has (flow_from_guest h)) d.entries) c h d s) (λ _. refl)
+    (λ _. flow_still fails (find (entry_has (flow_from_guest h)) d.entries) c h d s) (λ _. refl)
 
 -- A chain of tx is returned: only its page comes back.
 returned_tx : (c : Chain) (w : Rings) → c.queue ≡ queue.Tx → ((after_done c 0 w).tx.given ≡ w.tx.given) × ((after_done c 0 w).rx.back ≡ w.rx.back)
@@ -177,7 +177,7 @@ chain_moves : (fails : Bool) (c : Chain) (h : Header) (d : DevicePart) (old w : 
 chain_moves fails c h d old w host e tx rx =
     if_cases (answer_on fails) (ltb (c.readable - header_size) h.len) _ _ (w, host) (λ r. RingsMoved old r.1.0) (λ _. record { tx = tx; rx = rx }) (λ _.
     subst (λ r. RingsMoved old r.1.0) (sym (played-bind (answer_on fails) (on_packet c h d) _ (w, host)))
-    (subst (λ v. RingsMoved old (after_done c 0 v)) (sym (packet_keeps fails c h d (w, host)))
+    (subst (λ v. RingsMoved old (after_done c 0 v)) (sym (packet_still fails c h d (w, host)))
     (let same = returned_tx c w e in
     record { tx = subst (Moved old.tx.given) (sym same.0) tx; rx = subst (Moved old.rx.back) (sym same.1) rx })))
 
@@ -207,21 +207,21 @@ take_tx_moves : (fails : Bool) (d : DevicePart) (w : Rings) (host : Host) → Ri
 take_tx_moves fails d w host = take_unless_moves fails d.failed d w host
 
 -- A write to a stream moves no page.
-give_keeps : (fails : Bool) (e : DeviceEntry) (d : DevicePart) (a : Written) (s : Rings × Host)
+give_still : (fails : Bool) (e : DeviceEntry) (d : DevicePart) (a : Written) (s : Rings × Host)
     → (played (answer_on fails) (after_give a e d) s).1.0 ≡ s.0
-give_keeps fails e d (written.Took n) s = refl
-give_keeps fails e d written.Again s = refl
-give_keeps fails e d written.Closed s = refl
-give_keeps fails e d written.Failed s = refl
+give_still fails e d (written.Took n) s = refl
+give_still fails e d written.Again s = refl
+give_still fails e d written.Closed s = refl
+give_still fails e d written.Failed s = refl
 
-asked_keeps : (fails : Bool) (e : DeviceEntry) (d : DevicePart) (bytes : List ℕ) (s : Rings × Host)
+asked_still : (fails : Bool) (e : DeviceEntry) (d : DevicePart) (bytes : List ℕ) (s : Rings × Host)
     → (played (answer_on fails) (Ask (Give e.stream bytes) (λ answer. after_give answer e d)) s).1.0 ≡ s.0
-asked_keeps true e d bytes s = refl
-asked_keeps false e d bytes s = give_keeps false e d (written_of e.stream bytes s.1) (s.0, after_write e.stream bytes s.1)
+asked_still true e d bytes s = refl
+asked_still false e d bytes s = give_still false e d (written_of e.stream bytes s.1) (s.0, after_write e.stream bytes s.1)
 
-pump_keeps : (fails : Bool) (e : DeviceEntry) (d : DevicePart) (s : Rings × Host) → (played (answer_on fails) (pump_of e d) s).1.0 ≡ s.0
-pump_keeps fails e d s =
-    if_cases (answer_on fails) (e.closed || eqb (length e.pending) 0) _ _ s (λ r. r.1.0 ≡ s.0) (λ _. refl) (λ _. asked_keeps fails e d _ s)
+pump_still : (fails : Bool) (e : DeviceEntry) (d : DevicePart) (s : Rings × Host) → (played (answer_on fails) (pump_of e d) s).1.0 ≡ s.0
+pump_still fails e d s =
+    if_cases (answer_on fails) (e.closed || eqb (length e.pending) 0) _ _ s (λ r. r.1.0 ≡ s.0) (λ _. refl) (λ _. asked_still fails e d _ s)
 
 abbrev pump_entry : ℕ → Option DeviceEntry → DevicePart → DeviceTree (DevicePart × Unit {0})
 pump_entry place o d = elim o [
@@ -229,16 +229,16 @@ pump_entry place o d = elim o [
   | Some e ↦ bind (pump_of e d) (λ p. Done (record p.part { entries = set p.part.entries place p.entry }, tt))
 ]
 
-pump_entry_keeps : (fails : Bool) (place : ℕ) (o : Option DeviceEntry) (d : DevicePart) (s : Rings × Host)
+pump_entry_still : (fails : Bool) (place : ℕ) (o : Option DeviceEntry) (d : DevicePart) (s : Rings × Host)
     → (played (answer_on fails) (pump_entry place o d) s).1.0 ≡ s.0
-pump_entry_keeps fails place None d s = refl
-pump_entry_keeps fails place (Some e) d s = ap (λ r. r.1.0) (played-bind (answer_on fails) (pump_of e d) _ s) ∙ pump_keeps fails e d s
+pump_entry_still fails place None d s = refl
+pump_entry_still fails place (Some e) d s = ap (λ r. r.1.0) (played-bind (answer_on fails) (pump_of e d) _ s) ∙ pump_still fails e d s
 
 same_moves : (w v : Rings) → v ≡ w → RingsMoved w v
 same_moves w v e = subst (RingsMoved w) (sym e) (stays w)
 
 pump_moves : (fails : Bool) (place : ℕ) (d : DevicePart) (w : Rings) (host : Host) → RingsMoved w (played (answer_on fails) (pump_at place d) (w, host)).1.0
-pump_moves fails place d w host = same_moves w _ (pump_entry_keeps fails place (slice_get d.entries place) d (w, host))
+pump_moves fails place d w host = same_moves w _ (pump_entry_still fails place (slice_get d.entries place) d (w, host))
 
 -- One more page is given back on rx.
 puts_rx : (w new : Rings) (page : List ℕ) → new.tx ≡ w.tx → new.rx.back ≡ w.rx.back ++ page ∷ [] → RingsMoved w new
@@ -256,18 +256,18 @@ served_into place es s = Done (record s.part { entries = take place es ++ s.kept
 abbrev serve_entry : ℕ → Option DeviceEntry → DevicePart → DeviceTree (DevicePart × Unit {0})
 serve_entry place o d = elim o [ None ↦ Done (d, tt) | Some e ↦ bind (serve_of e d) (served_into place d.entries) ]
 
-after_put_keeps : (place : ℕ) (o : Owed) (e : DeviceEntry) (d : DevicePart) (es : List DeviceEntry) (s : Rings × Host)
+after_put_still : (place : ℕ) (o : Owed) (e : DeviceEntry) (d : DevicePart) (es : List DeviceEntry) (s : Rings × Host)
     → (played (answer_on false) (bind (after_put o e d) (served_into place es)) s).1.0 ≡ s.0
-after_put_keeps place owed.Rst e d es s = if_then_cases (answer_on false) e.closed _ _ (served_into place es) s (λ r. r.1.0 ≡ s.0) (λ _. refl) (λ _. refl)
-after_put_keeps place owed.Request e d es s = refl
-after_put_keeps place owed.Response e d es s = refl
+after_put_still place owed.Rst e d es s = if_then_cases (answer_on false) e.closed _ _ (served_into place es) s (λ r. r.1.0 ≡ s.0) (λ _. refl) (λ _. refl)
+after_put_still place owed.Request e d es s = refl
+after_put_still place owed.Response e d es s = refl
 
 serve_with_moves : (place : ℕ) (o : Option Owed) (e : DeviceEntry) (d : DevicePart) (es : List DeviceEntry) (w : Rings) (host : Host)
     → RingsMoved w (played (answer_on false) (bind (serve_with o e d) (served_into place es)) (w, host)).1.0
 serve_with_moves place None e d es w host = stays w
 serve_with_moves place (Some o) e d es w host =
     put_then_cases false _ d _ (served_into place es) w host (λ r. RingsMoved w r.1.0) (stays w) (λ new page tx rx.
-    subst (RingsMoved w) (sym (after_put_keeps place o e d es (new, host))) (puts_rx w new page tx rx))
+    subst (RingsMoved w) (sym (after_put_still place o e d es (new, host))) (puts_rx w new page tx rx))
 
 serve_entry_moves : (place : ℕ) (o : Option DeviceEntry) (d : DevicePart) (w : Rings) (host : Host)
     → RingsMoved w (played (answer_on false) (serve_entry place o d) (w, host)).1.0

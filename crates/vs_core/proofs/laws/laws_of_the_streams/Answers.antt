@@ -1,6 +1,8 @@
 use Rattle.std.proofs.Common.{◌≡◌, ◌∙◌, ◌++◌, List, ap, sym}
 use Rattle.vs_core.specs.World.{opening, run}
 use Rattle.vs_core.proofs.WorldGuest.{connect_keeps}
+use Rattle.vs_core.proofs.WorldStreams.{kept_streams}
+use Rattle.vs_core.proofs.WorldTakes.{take_keeps}
 use Rattle.vs_core.proofs.WorldSteps.{remove_entry}
 use Rattle.vs_core.proofs.laws.laws_of_the_streams.Goals as goal
 
