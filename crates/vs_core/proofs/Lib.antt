@@ -12,3 +12,4 @@ pub mod WorldGuest
 pub mod WorldStreams
 pub mod WorldVerdicts
 pub mod WorldTakes
+pub mod WorldServes

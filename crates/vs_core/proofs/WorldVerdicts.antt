@@ -81,7 +81,7 @@ brings_none p n is other f = rw (is, and_right (is_flow f (flow_from_guest p.hea
 carried_on : (given pending payload under all : List ℕ) → given ++ pending ++ (payload ++ under) ≡ all → given ++ (pending ++ payload) ++ under ≡ all
 carried_on given pending payload under all e = ap (λ xs. xs ++ under) (sym (append_assoc given pending payload)) ∙ append_assoc (given ++ pending) payload under ∙ e
 
-carried_over : (b : Bool) (given pending under all : List ℕ) → Carried b given pending under all → IsPrefix (given ++ pending) all
+pub carried_over : (b : Bool) (given pending under all : List ℕ) → Carried b given pending under all → IsPrefix (given ++ pending) all
 carried_over true given pending under all c = c
 carried_over false given pending under all c = (under, c)
 

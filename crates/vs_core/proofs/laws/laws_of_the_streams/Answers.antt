@@ -3,6 +3,7 @@ use Rattle.vs_core.specs.World.{opening, run}
 use Rattle.vs_core.proofs.WorldGuest.{connect_keeps}
 use Rattle.vs_core.proofs.WorldStreams.{kept_streams}
 use Rattle.vs_core.proofs.WorldTakes.{take_keeps}
+use Rattle.vs_core.proofs.WorldServes.{serve_keeps}
 use Rattle.vs_core.proofs.WorldSteps.{remove_entry}
 use Rattle.vs_core.proofs.laws.laws_of_the_streams.Goals as goal
 
