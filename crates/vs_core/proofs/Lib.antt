@@ -13,3 +13,4 @@ pub mod WorldStreams
 pub mod WorldVerdicts
 pub mod WorldTakes
 pub mod WorldServes
+pub mod WorldRuns

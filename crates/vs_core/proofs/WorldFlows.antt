@@ -1,13 +1,12 @@
 -- One flow: what a packet that is put, a packet that is taken, an entry that changes or leaves do to what it carries.
-use Rattle.std.proofs.Common.{◌≡◌, ℕ, suc, ◌+◌, ◌≤◌, Bool, true, false, ◌&&◌, cond, eqb, List, [], ◌∷◌, ◌++◌, length, flat_map, Option, Some, None, refl, sym, ap, ◌∙◌, subst, arith, append_assoc, append-nil, ◌⊎◌, inl, inr, eqb-true, eq-eqb}
-use Rattle.std.specs.List.{AllByRecursion}
+use Rattle.std.proofs.Common.{◌≡◌, ℕ, ◌≤◌, Bool, true, false, eqb, List, [], ◌∷◌, ◌++◌, length, refl, sym, ap, ◌∙◌, subst, arith, append_assoc, append-nil, ◌⊎◌, inl, inr, eqb-true, eq-eqb}
 use Rattle.std.proofs.lemmas.Bool.{and_parts, and_from, false≢true}
 use Rattle.std.proofs.lemmas.List.Concat.{flat_map-append}
 use Rattle.vs_header.specs.Packet.{Packet}
 use Rattle.vs_core.specs.declared.flow.Flow.{Flow}
 use Rattle.vs_core.specs.Lists.{IsPrefix}
 use Rattle.vs_core.specs.Guest.{is_flow}
-use Rattle.vs_core.specs.Device.{DeviceEntry, flow_from_guest}
+use Rattle.vs_core.specs.Device.{DeviceEntry}
 use Rattle.vs_core.proofs.WorldLists.{all_append, prefix_front, prefix_grown}
 use Rattle.vs_core.proofs.WorldOrder.{Shown, asks_on, brought_on, coming, NoneAsks, Waits, is_ended, Carried, Carries}
 
@@ -95,7 +94,7 @@ carries_changed f e d v u front qs ps sent follows moves c =
     (follows.asks c.0, moves (subst (λ xs. Carried (is_ended e.end.state) v.given e.pending xs sent) follows.comes c.1))
 
 -- The entry leaves.
-carried_given : (b : Bool) (given pending under sent : List ℕ) → Carried b given pending under sent → IsPrefix given sent
+pub carried_given : (b : Bool) (given pending under sent : List ℕ) → Carried b given pending under sent → IsPrefix given sent
 carried_given true given pending under sent c = prefix_front given pending sent c
 carried_given false given pending under sent c = (pending ++ under, sym (append_assoc given pending under) ∙ c)
 

@@ -1,11 +1,11 @@
 -- What each of the driver's events keeps.
-use Rattle.std.proofs.Common.{◌≡◌, ℕ, zero, suc, ◌+◌, ◌-◌, ◌^◌, ◌<◌, ◌≤◌, min, Bool, true, false, ◌&&◌, ◌||◌, cond, eqb, leb, ltb, List, [], ◌∷◌, ◌++◌, length, take, drop, set, map, find, slice_get, Option, Some, None, Result, Ok, Err, refl, sym, ap, ◌∙◌, subst, arith, append-nil, ltb-false, length-take, ne_eqb}
+use Rattle.std.proofs.Common.{◌≡◌, ℕ, ◌+◌, ◌^◌, ◌<◌, ◌≤◌, min, Bool, true, false, cond, eqb, leb, List, [], ◌∷◌, ◌++◌, length, take, drop, set, find, slice_get, Option, Some, None, Result, Ok, Err, refl, sym, ap, ◌∙◌, subst, arith, append-nil, ltb-false, length-take, ne_eqb}
 use Rattle.std.specs.List.{AllByRecursion}
 use Rattle.std.proofs.lemmas.Bool.{or_parts, and_left, cond_both}
 use Rattle.std.proofs.lemmas.List.{take_min}
 use Rattle.vs_header.specs.declared.Header.{Header}
 use Rattle.vs_header.specs.declared.Op.TheVariants as op
-use Rattle.vs_header.specs.Packet.{Packet, header_bytes, header_of}
+use Rattle.vs_header.specs.Packet.{header_bytes, header_of}
 use Rattle.vs_conn.specs.declared.end.Stop.{Stop}
 use Rattle.vs_conn.specs.declared.end.Stop.TheVariants as stop
 use Rattle.vs_conn.specs.declared.end.State.{State}
@@ -14,7 +14,7 @@ use Rattle.vs_conn.specs.declared.end.Owed.{Owed}
 use Rattle.vs_conn.specs.declared.end.Owed.TheVariants as owed
 use Rattle.vs_conn.specs.declared.end.Verdict.{Verdict}
 use Rattle.vs_conn.specs.declared.end.Verdict.TheVariants as verdict
-use Rattle.vs_conn.specs.End.{ConnectionEnd, verdict_of, end_after, after_verdict, state_owes, owes_of}
+use Rattle.vs_conn.specs.End.{ConnectionEnd, verdict_of, after_verdict, state_owes}
 use Rattle.vs_ring_list.specs.declared.ring_port.Queue.TheVariants as queue
 use Rattle.vs_ring_list.specs.Rings.{Rings, posted, oldest}
 use Rattle.vs_core.specs.declared.flow.Flow.{Flow}
@@ -22,20 +22,20 @@ use Rattle.vs_core.specs.declared.reply.Reply.{Reply}
 use Rattle.vs_core.specs.Flow.{is_assigned}
 use Rattle.vs_core.specs.Lists.{update_first}
 use Rattle.vs_core.specs.Reply.{reply_header}
-use Rattle.vs_core.specs.Profile.{host_cid, table_size, header_size, reply_limit, last_guest_port, last_id, most_payload}
-use Rattle.vs_core.specs.Interaction.{Done, Ask, bind, played}
-use Rattle.vs_core.specs.Outside.{Host, Stream}
-use Rattle.vs_core.specs.Guest.{GuestSlot, GuestPart, has_id, has_flow, is_flow, flow_to_guest, guest_header, new_slot, connected, one_posted, op_of_owed, slot_paid, slot_owes, slot_may_send, slot_sent, slot_after, on_known, on_flow, received, is_whole}
+use Rattle.vs_core.specs.Profile.{host_cid, table_size, header_size, reply_limit, last_guest_port, most_payload}
+use Rattle.vs_core.specs.Interaction.{Done, bind, played}
+use Rattle.vs_core.specs.Outside.{Host}
+use Rattle.vs_core.specs.Guest.{GuestSlot, GuestPart, has_id, has_flow, is_flow, flow_to_guest, guest_header, new_slot, connected, one_posted, slot_paid, slot_owes, slot_may_send, slot_sent, slot_after, on_flow, received, is_whole}
 use Rattle.vs_core.specs.Driver.{GuestTree, Paid, connect_with, as_they_stand, is_spent, put_payload, payload_of, send_with, send_on, send_slot, reap_of, reaped_page, slot_read, after_recv, take_rx_of, reply_with, pay_with, pay_of}
 use Rattle.vs_core.specs.declared.driver.Sent.{Sent}
 use Rattle.vs_core.specs.declared.driver.Sent.TheVariants as answered
-use Rattle.vs_core.specs.Device.{DeviceEntry, DevicePart, flow_from_guest}
+use Rattle.vs_core.specs.Device.{DevicePart}
 use Rattle.vs_core.specs.Told.{ring_answer}
 use Rattle.vs_core.specs.World.{taken_on, pay_at}
 use Rattle.vs_core.proofs.WorldPlays.{post_cases, post_then_cases, if_cases}
-use Rattle.vs_core.proofs.WorldLists.{all_update_first, all_append, all_at, all_set, found_among, stands_at}
-use Rattle.vs_core.proofs.WorldOrder.{asks_on, brought_on, IsOpened}
-use Rattle.vs_core.proofs.WorldPages.{packet_in, IsPage, page_of_packet, asks_nothing, brings_nothing, asks_own, brings_own}
+use Rattle.vs_core.proofs.WorldLists.{all_update_first, all_at, all_set, found_among, stands_at}
+use Rattle.vs_core.proofs.WorldOrder.{brought_on, IsOpened}
+use Rattle.vs_core.proofs.WorldPages.{packet_in, page_of_packet, asks_nothing, brings_nothing, asks_own, brings_own}
 use Rattle.vs_core.proofs.WorldKept.{Kept, KeptIn, kept_slots, kept_silent, kept_sent, kept_page, kept_request}
 
 -- connect
@@ -81,7 +81,7 @@ new_flow port s f o above = and_left (eqb f.guest s.flow.guest) (eqb f.host s.fl
 sent_page : (g : GuestPart) (d : DevicePart) (w : Rings) (h : Host) (sent : Flow → List ℕ) (s : GuestSlot) (payload : List ℕ)
     → length payload < 2 ^ 32 → IsOpened g.next_port s → KeptIn g d w h sent
     → Kept g.cid g.slots g.next_port d.cid d.entries d.next_slot (w.tx.given ++ (header_bytes (guest_header g.cid s op.Rw (length payload)) ++ payload) ∷ []) h.streams
-      (λ f. sent f ++ cond (is_flow f s.flow) payload [])
+    (λ f. sent f ++ cond (is_flow f s.flow) payload [])
 sent_page g d w h sent s payload fits o k =
     let head = guest_header g.cid s op.Rw (length payload) in
     let page = header_bytes head ++ payload in

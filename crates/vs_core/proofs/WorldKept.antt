@@ -1,5 +1,5 @@
 -- What each event keeps: the driver's CID and the device's, that each page under way holds a packet, and the order of the world.
-use Rattle.std.proofs.Common.{◌≡◌, ℕ, suc, ◌+◌, ◌-◌, ◌^◌, ◌<◌, ◌≤◌, Bool, true, false, ◌&&◌, cond, eqb, ltb, List, [], ◌∷◌, ◌++◌, length, take, drop, map, refl, sym, ap, ◌∙◌, subst, arith, append-nil}
+use Rattle.std.proofs.Common.{◌≡◌, ℕ, ◌+◌, ◌≤◌, true, false, List, [], ◌∷◌, ◌++◌, map, sym, subst, append-nil}
 use Rattle.std.specs.List.{AllByRecursion}
 use Rattle.std.proofs.lemmas.List.{map_push}
 use Rattle.vs_ring_list.specs.Rings.{Rings}
@@ -9,7 +9,7 @@ use Rattle.vs_core.specs.Outside.{Host, Stream}
 use Rattle.vs_core.specs.Guest.{GuestSlot, GuestPart}
 use Rattle.vs_core.specs.Device.{DeviceEntry, DevicePart}
 use Rattle.vs_core.proofs.WorldLists.{all_append}
-use Rattle.vs_core.proofs.WorldOrder.{Shown, shown, asks_on, brought_on, IsOpened, InOrder}
+use Rattle.vs_core.proofs.WorldOrder.{shown, asks_on, brought_on, IsOpened, InOrder}
 use Rattle.vs_core.proofs.WorldPages.{packet_in, IsPage}
 use Rattle.vs_core.proofs.WorldSteps.{put_packet, put_request_packet}
 

@@ -1,10 +1,10 @@
 -- Lemmas on lists: what holds of each element, an element among the others, and the elements that pass a test of which one does at
 -- most.
-use Rattle.std.proofs.Common.{◌≡◌, ℕ, zero, suc, ◌+◌, ◌-◌, ◌<◌, ◌≤◌, Bool, true, false, not, cond, List, [], ◌∷◌, ◌++◌, length, take, drop, set, map, filter, find, slice_get, Option, Some, None, refl, sym, ap, ◌∙◌, subst, arith, append_assoc, append-nil, inl, inr, ◌⊎◌}
+use Rattle.std.proofs.Common.{◌≡◌, ℕ, zero, suc, ◌+◌, ◌<◌, ◌≤◌, Bool, true, false, not, cond, List, [], ◌∷◌, ◌++◌, length, take, drop, set, filter, find, slice_get, Option, Some, None, refl, sym, ap, ◌∙◌, subst, arith, append_assoc, append-nil, inl, inr, ◌⊎◌}
 use Rattle.std.specs.List.{AllByRecursion}
 use Rattle.std.proofs.lemmas.List.Elements.{filter-append}
 use Rattle.std.proofs.lemmas.List.{length_push, length-append, set_at, take_at, drop_at, nil_from_length}
-use Rattle.std.proofs.lemmas.Bool.{cond_both}
+use Rattle.std.proofs.lemmas.Bool.{cond_both, false≢true}
 use Rattle.vs_core.specs.Lists.{IsPrefix, update_first}
 
 -- What holds of each element.
@@ -171,6 +171,18 @@ update_alone p f [] x ys e none = rw e refl
 update_alone p f (z ∷ zs) x ys e none =
     let h = none_here (p z) z (filter p zs) none in
     rw h.0 (ap (λ r. z ∷ r) (update_alone p f zs x ys e h.1))
+
+pub none_passes_at : {X : Type 0} (p : X → Bool) (xs : List X) (k : ℕ) (x : X) → filter p xs ≡ [] → slice_get xs k ≡ Some x → p x ≡ true → ⊥
+none_passes_at p [] k x none at passes = cc
+none_passes_at p (z ∷ zs) zero x none at passes =
+    let is : z ≡ x = cc in
+    false≢true (sym (none_here (p z) z (filter p zs) none).0 ∙ subst (λ y. p y ≡ true) (sym is) passes)
+none_passes_at p (z ∷ zs) (suc k) x none at passes = none_passes_at p zs k x (none_here (p z) z (filter p zs) none).1 at passes
+
+pub get_front : {X : Type 0} (xs ys : List X) (k : ℕ) → k < length xs → slice_get (xs ++ ys) k ≡ slice_get xs k
+get_front [] ys k within = absurd (omega arith)
+get_front (x ∷ xs) ys zero within = refl
+get_front (x ∷ xs) ys (suc k) within = get_front xs ys k (omega arith)
 
 all_stay : {X : Type 0} (p : X → Bool) (xs : List X) → filter p xs ≡ [] → filter (λ z. not (p z)) xs ≡ xs
 all_stay p [] none = refl

@@ -1,7 +1,7 @@
 -- What holds of the world between events, as far as bytes from the guest to the host go: for each flow, where its REQUEST is, where
 -- its stream and its entry are, and that the bytes sent on it are those given to the stream, those pending at the entry and those
 -- under way, in this order.
-use Rattle.std.proofs.Common.{◌≡◌, ℕ, zero, suc, ◌+◌, ◌-◌, ◌^◌, ◌<◌, ◌≤◌, Bool, true, false, ◌&&◌, cond, eqb, List, [], ◌∷◌, ◌++◌, length, filter, flat_map, slice_get, Option, Some, None, refl, sym, ap, ◌∙◌, subst, arith, append_assoc, append-nil}
+use Rattle.std.proofs.Common.{◌≡◌, ℕ, ◌+◌, ◌-◌, ◌^◌, ◌<◌, ◌≤◌, Bool, true, false, ◌&&◌, cond, eqb, List, [], ◌∷◌, ◌++◌, length, filter, flat_map, slice_get, Option, Some}
 use Rattle.std.specs.List.{AllByRecursion}
 use Rattle.vs_header.specs.Packet.{Packet}
 use Rattle.vs_conn.specs.declared.end.State.{State}

@@ -1,7 +1,7 @@
 -- What the device reads of a page that the driver posted: the packet that was written there.
-use Rattle.std.proofs.Common.{◌≡◌, ℕ, suc, ◌+◌, ◌-◌, ◌^◌, ◌<◌, ◌≤◌, Bool, true, false, ◌&&◌, cond, eqb, ltb, List, [], ◌∷◌, ◌++◌, length, take, drop, refl, sym, ap, ◌∙◌, subst, ap₂, arith, eq-eqb, le-ltb}
+use Rattle.std.proofs.Common.{◌≡◌, ℕ, ◌-◌, ◌^◌, ◌<◌, Bool, true, false, ◌&&◌, cond, eqb, ltb, List, [], ◌++◌, length, take, drop, refl, ap, ◌∙◌, ap₂, arith, eq-eqb, le-ltb}
 use Rattle.std.proofs.lemmas.Bool.{and_from, and_parts, and_right}
-use Rattle.std.proofs.lemmas.List.{take_all, length-append}
+use Rattle.std.proofs.lemmas.List.{take_all}
 use Rattle.vs_header.specs.declared.Header.{Header}
 use Rattle.vs_header.specs.Packet.{Packet, header_bytes, header_of}
 use Rattle.vs_header.proofs.RoundTrip.{little_number-little_bytes}

@@ -1,5 +1,5 @@
 -- What the device's writing to streams and its putting of packets keep.
-use Rattle.std.proofs.Common.{◌≡◌, ℕ, zero, suc, ◌+◌, ◌-◌, ◌≤◌, min, Bool, true, false, ◌&&◌, ◌||◌, cond, eqb, List, [], ◌∷◌, ◌++◌, length, take, drop, set, map, slice_get, Option, Some, None, refl, sym, ap, ◌∙◌, subst, subst₂, arith, append_assoc, append-nil, eqb-true, length-take}
+use Rattle.std.proofs.Common.{◌≡◌, ℕ, zero, suc, ◌+◌, ◌-◌, ◌≤◌, min, Bool, true, false, ◌||◌, cond, eqb, List, [], ◌∷◌, ◌++◌, length, take, drop, set, map, slice_get, Option, Some, None, refl, sym, ap, ◌∙◌, subst, subst₂, arith, append_assoc, append-nil, eqb-true, length-take}
 use Rattle.std.specs.List.{AllByRecursion}
 use Rattle.std.specs.Option.{option_map_or}
 use Rattle.std.proofs.lemmas.Bool.{cond_both}
@@ -8,16 +8,15 @@ use Rattle.vs_conn.specs.declared.end.State.{State}
 use Rattle.vs_conn.specs.declared.end.State.TheVariants as state
 use Rattle.vs_conn.specs.declared.end.Owed.{Owed}
 use Rattle.vs_conn.specs.declared.end.Owed.TheVariants as owed
-use Rattle.vs_conn.specs.End.{ConnectionEnd, state_owes, owes_of}
+use Rattle.vs_conn.specs.End.{state_owes, owes_of}
 use Rattle.vs_ring_list.specs.Rings.{Rings}
 use Rattle.vs_core.specs.declared.flow.Flow.{Flow}
 use Rattle.vs_core.specs.declared.reply.Reply.{Reply}
-use Rattle.vs_core.specs.declared.outside.Written.{Written}
 use Rattle.vs_core.specs.declared.outside.Written.TheVariants as written
 use Rattle.vs_core.specs.Profile.{page_size}
 use Rattle.vs_core.specs.Lists.{IsPrefix}
 use Rattle.vs_core.specs.Interaction.{Done, Ask, bind, played}
-use Rattle.vs_core.specs.Outside.{Host, Stream, stream_at, with_stream, taken_of, write_answer, written_of, fed, after_write, after_close}
+use Rattle.vs_core.specs.Outside.{Host, Stream, stream_at, taken_of, write_answer, fed, after_write, after_close}
 use Rattle.vs_core.specs.Guest.{GuestSlot, GuestPart}
 use Rattle.vs_core.specs.Device.{DevicePart, DeviceEntry, entry_written, entry_lost, entry_paid}
 use Rattle.vs_core.specs.DeviceCalls.{DeviceTree, Give, Pumped, after_give, pump_of, Served, serve_of, serve_with, after_put, answer_with}
@@ -126,7 +125,7 @@ page_within pending s = omega (arith, taken_within (length (take page_size pendi
 -- an entry and its stream after a write of a page
 fed_keeps : (place : ℕ) (e d' : DeviceEntry) (g : GuestPart) (d : DevicePart) (w : Rings) (h : Host) (sent : Flow → List ℕ) → (by : Served_by e place d.entries h.streams) → IsSameEntry e d'
     → ((under all : List ℕ) → Carried (is_ended e.end.state) by.stream.given e.pending under all
-      → Carried (is_ended d'.end.state) (by.stream.given ++ take (taken_of (length (take page_size e.pending)) by.stream) (take page_size e.pending)) d'.pending under all)
+    → Carried (is_ended d'.end.state) (by.stream.given ++ take (taken_of (length (take page_size e.pending)) by.stream) (take page_size e.pending)) d'.pending under all)
     → KeptIn g d w h sent
     → Kept g.cid g.slots g.next_port d.cid (set d.entries place d') d.next_slot w.tx.given (after_write e.stream (take page_size e.pending) h).streams sent
 fed_keeps place e d' g d w h sent by same moves k =
@@ -152,11 +151,11 @@ give_keeps : (place : ℕ) (e : DeviceEntry) (g : GuestPart) (d : DevicePart) (w
 give_keeps place e g d w h sent by k =
     subst (λ a. PumpKeeps place g sent (played (answer_on false) (after_give a e d) (w, new))) (sym (answer_there e (length bytes) h by.stream by.numbered by.there))
     (cond_both by.stream.gone written.Closed (cond (eqb n 0) written.Again (written.Took n)) (λ a. PumpKeeps place g sent (played (answer_on false) (after_give a e d) (w, new)))
-      (λ _. kept_streams new.streams _ (shown_still e.stream (λ s. record s { closed = true }) new (λ s. refl))
-      (fed_keeps place e (entry_lost e) g d w h sent by (record { slot = refl; flow = refl; stream = refl }) (λ under all c. carried_lost (is_ended e.end.state) _ _ under all (carried under all c)) k))
-      (λ _. cond_both (eqb n 0) written.Again (written.Took n) (λ a. PumpKeeps place g sent (played (answer_on false) (after_give a e d) (w, new)))
-        (λ none. fed_keeps place e e g d w h sent by (record { slot = refl; flow = refl; stream = refl }) (λ under all c. subst (λ j. Carried (is_ended e.end.state) (by.stream.given ++ take n bytes) (drop j e.pending) under all) (eqb-true n 0 none) (carried under all c)) k)
-        (λ _. fed_keeps place e (entry_written n e) g d w h sent by (record { slot = refl; flow = refl; stream = refl }) carried k)))
+    (λ _. kept_streams new.streams _ (shown_still e.stream (λ s. record s { closed = true }) new (λ s. refl))
+    (fed_keeps place e (entry_lost e) g d w h sent by (record { slot = refl; flow = refl; stream = refl }) (λ under all c. carried_lost (is_ended e.end.state) _ _ under all (carried under all c)) k))
+    (λ _. cond_both (eqb n 0) written.Again (written.Took n) (λ a. PumpKeeps place g sent (played (answer_on false) (after_give a e d) (w, new)))
+    (λ none. fed_keeps place e e g d w h sent by (record { slot = refl; flow = refl; stream = refl }) (λ under all c. subst (λ j. Carried (is_ended e.end.state) (by.stream.given ++ take n bytes) (drop j e.pending) under all) (eqb-true n 0 none) (carried under all c)) k)
+    (λ _. fed_keeps place e (entry_written n e) g d w h sent by (record { slot = refl; flow = refl; stream = refl }) carried k)))
   where
     bytes : List ℕ
     bytes = take page_size e.pending

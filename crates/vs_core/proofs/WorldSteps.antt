@@ -1,17 +1,17 @@
 -- What a step does to the order of the world: a packet is put, a REQUEST is put, a packet is taken, an entry is opened, an entry changes
 -- or leaves.
-use Rattle.std.proofs.Common.{◌≡◌, ◌≢◌, ℕ, zero, suc, ◌+◌, ◌-◌, ◌^◌, ◌<◌, ◌≤◌, Bool, true, false, ◌&&◌, cond, eqb, List, [], ◌∷◌, ◌++◌, length, filter, slice_get, Option, Some, None, refl, sym, ap, ◌∙◌, subst, subst₂, arith, append_assoc, append-nil, ◌⊎◌, inl, inr, eq-eqb, eqb-true, ne_eqb}
+use Rattle.std.proofs.Common.{◌≡◌, ℕ, ◌+◌, ◌-◌, ◌<◌, ◌≤◌, true, false, eqb, List, [], ◌∷◌, ◌++◌, length, filter, slice_get, Some, refl, sym, ap, ◌∙◌, subst, subst₂, arith, append-nil, ◌⊎◌, inl, inr, eqb-true, ne_eqb}
 use Rattle.std.specs.List.{AllByRecursion}
-use Rattle.std.proofs.lemmas.Bool.{cases_Bool, cases_eq, false≢true}
+use Rattle.std.proofs.lemmas.Bool.{cases_Bool, false≢true}
 use Rattle.std.proofs.lemmas.List.{nil_from_length}
 use Rattle.vs_core.specs.World.{is_labelled}
 use Rattle.vs_header.specs.Packet.{Packet}
 use Rattle.vs_core.specs.declared.flow.Flow.{Flow}
 use Rattle.vs_core.specs.Profile.{last_guest_port}
 use Rattle.vs_core.specs.Guest.{GuestSlot, is_flow}
-use Rattle.vs_core.specs.Device.{DeviceEntry, flow_from_guest, entry_has, entry_at}
+use Rattle.vs_core.specs.Device.{DeviceEntry, entry_has, entry_at}
 use Rattle.vs_core.proofs.WorldLists.{all_append, all_weaker, all_at, all_without, all_changed, stands_at, alone_front, alone_back, passing_changed, passing_without, passing_one, passing_none, passing_pushed, get_append, get_end, get_changed, as_many_pass, no_more_pass}
-use Rattle.vs_core.proofs.WorldOrder.{Shown, shows, asks_on, brought_on, coming, NoneAsks, Waits, is_ended, Carried, Carries, IsFresh, IsOpened, HasStream, IsLabelled, InOrder}
+use Rattle.vs_core.proofs.WorldOrder.{Shown, shows, asks_on, brought_on, coming, is_ended, Carried, Carries, IsFresh, IsOpened, HasStream, IsLabelled, InOrder}
 use Rattle.vs_core.proofs.WorldFlows.{same_flow, is_flow_itself, carries_more, carries_first, FollowsOn, follow_same, follow_next, carries_on, carries_changed, carries_left, Asked, carries_asked, one_entry, one_stream}
 
 -- A packet that isn't a REQUEST is put, and what it brings was sent.
@@ -218,8 +218,10 @@ change_entry {port = port} {qs = qs} {ps = ps} {next = next} {sent = sent} {came
     carries_at f (inl here) =
         subst (λ g. Carries g (filter (entry_has g) (front ++ d ∷ back)) (filter (shows g) (vfront ++ u ∷ vback)) ps (sent g)) (sym (same_flow f e.flow here)) own
     carries_at f (inr away) =
-        rw (passing_changed (entry_has f) front e d back away (ap (is_flow f) same.flow ∙ away),
-            passing_changed (shows f) vfront v u vback (ap (is_labelled f) old ∙ away) (ap (is_labelled f) new ∙ away))
+        rw (
+          passing_changed (entry_has f) front e d back away (ap (is_flow f) same.flow ∙ away),
+          passing_changed (shows f) vfront v u vback (ap (is_labelled f) old ∙ away) (ap (is_labelled f) new ∙ away),
+        )
         (carries_on f (filter (entry_has f) (front ++ e ∷ back)) (filter (shows f) (vfront ++ v ∷ vback)) (came f) qs ps (sent f) (follows.on f) (inr (follows.others f away)) (w.carries f))
 
 -- An entry leaves.

@@ -1,14 +1,14 @@
 -- What changes of one stream leave of the streams, as far as the laws speak of them; and what each of the host's events keeps.
-use Rattle.std.proofs.Common.{◌≡◌, ℕ, zero, suc, ◌+◌, ◌-◌, Bool, true, false, cond, eqb, List, [], ◌∷◌, ◌++◌, length, set, map, slice_get, Option, Some, None, refl, sym, ap, ◌∙◌, subst}
+use Rattle.std.proofs.Common.{◌≡◌, ℕ, ◌-◌, false, cond, eqb, List, ◌∷◌, ◌++◌, set, map, slice_get, Option, Some, None, refl, sym, ap, ◌∙◌, subst}
 use Rattle.std.specs.Option.{option_map_or}
 use Rattle.std.proofs.lemmas.Bool.{cond_both}
 use Rattle.std.proofs.lemmas.List.{map-append}
 use Rattle.vs_core.specs.declared.flow.Flow.{Flow}
-use Rattle.vs_core.specs.Outside.{Host, Stream, stream_at, with_stream}
+use Rattle.vs_core.specs.Outside.{Host, Stream, with_stream}
 use Rattle.vs_core.specs.Guest.{GuestSlot}
 use Rattle.vs_core.specs.Device.{DeviceEntry}
 use Rattle.vs_core.proofs.WorldLists.{Stands, stands_at, set_there}
-use Rattle.vs_core.proofs.WorldOrder.{Shown, shown, InOrder}
+use Rattle.vs_core.proofs.WorldOrder.{shown, InOrder}
 use Rattle.vs_core.proofs.WorldPages.{packet_in}
 use Rattle.vs_core.proofs.WorldKept.{Kept}
 

@@ -1,9 +1,7 @@
 -- What the device's taking of a packet keeps.
-use Rattle.std.proofs.Common.{◌≡◌, ℕ, suc, ◌+◌, ◌-◌, ◌%◌, ◌≤◌, Bool, true, false, not, ◌&&◌, ◌||◌, cond, eqb, leb, ltb, if◌then◌else◌, List, [], ◌∷◌, ◌++◌, length, take, drop, map, filter, find, Option, Some, None, refl, sym, ap, ◌∙◌, subst, arith, ◌⊎◌, inl, inr, eq-eqb, eqb-true}
-use Rattle.std.specs.List.{AllByRecursion}
-use Rattle.std.proofs.lemmas.Bool.{cases_Bool, cond_both, and_parts, and_from, false≢true}
+use Rattle.std.proofs.Common.{◌≡◌, ℕ, ◌+◌, ◌-◌, ◌≤◌, Bool, true, false, not, ◌&&◌, ◌||◌, cond, eqb, leb, ltb, if◌then◌else◌, List, [], ◌∷◌, ◌++◌, length, take, drop, map, filter, find, Option, Some, None, refl, sym, ap, ◌∙◌, subst, ◌⊎◌, inl, inr, eq-eqb}
+use Rattle.std.proofs.lemmas.Bool.{cases_Bool, and_parts, and_from, false≢true}
 use Rattle.std.proofs.lemmas.List.{map-append, length-map}
-use Rattle.vs_header.specs.declared.Header.{Header}
 use Rattle.vs_header.specs.Packet.{Packet, header_of}
 use Rattle.vs_conn.specs.End.{verdict_of}
 use Rattle.vs_conn.specs.declared.end.Verdict.{Verdict}
@@ -26,17 +24,17 @@ use Rattle.vs_core.specs.Flow.{is_assigned}
 use Rattle.vs_core.specs.Path.{path_of}
 use Rattle.vs_core.specs.Profile.{header_size, reply_limit}
 use Rattle.vs_core.specs.Lists.{update_first}
-use Rattle.vs_core.specs.Interaction.{Done, Ask, bind, played}
+use Rattle.vs_core.specs.Interaction.{Done, Ask, played}
 use Rattle.vs_core.specs.Outside.{Host, Stream, new_stream, is_listened}
 use Rattle.vs_core.specs.Guest.{GuestSlot, GuestPart, is_flow}
 use Rattle.vs_core.specs.Device.{DevicePart, DeviceEntry, flow_from_guest, is_for_host, is_full, entry_has, entry_at, entry_after, entry_delivered}
-use Rattle.vs_core.specs.DeviceCalls.{DeviceTree, Take, Dial, after_dial, overran, on_entry, on_request, on_stranger, by_flow, on_packet, on_chain, after_take, take_tx_of}
+use Rattle.vs_core.specs.DeviceCalls.{DeviceTree, Take, Dial, after_dial, overran, on_entry, on_stranger, by_flow, on_packet, on_chain, after_take, take_tx_of}
 use Rattle.vs_core.proofs.WorldPlays.{played-bind, if_cases, answer_on}
 use Rattle.vs_core.proofs.WorldQueues.{packet_still}
 use Rattle.vs_core.proofs.WorldLists.{Among, found_among, found_passes, none_passes, alone_front, alone_back, update_alone, leave_alone}
-use Rattle.vs_core.proofs.WorldOrder.{Shown, shown, asks_on, brought_on, is_ended, IsOpened, InOrder}
+use Rattle.vs_core.proofs.WorldOrder.{shown, brought_on, is_ended}
 use Rattle.vs_core.proofs.WorldFlows.{same_flow, is_flow_itself}
-use Rattle.vs_core.proofs.WorldPages.{packet_in, IsPage, reads_header, reads_after}
+use Rattle.vs_core.proofs.WorldPages.{packet_in, reads_header, reads_after}
 use Rattle.vs_core.proofs.WorldSteps.{take_packet, open_entry, keep_stream, remove_entry, follow_taken}
 use Rattle.vs_core.proofs.WorldKept.{Kept, KeptIn}
 use Rattle.vs_core.proofs.WorldStreams.{kept_streams, shown_still}
@@ -178,8 +176,8 @@ dial_keeps false page g d pages w h sent none asks k =
     let f = flow_from_guest p.header in
     let new : DeviceEntry = record { slot = d.next_slot; flow = f; end = answering buffer_space p.header; stream = length h.streams + 1; closed = false; pending = [] } in
     elim (is_listened (path_of d.base p.header.dst_port) h) as (λ b.
-      let r = after_dial (cond b (dialed.Stream (length h.streams + 1)) dialed.Refused) p.header d in
-      Kept g.cid g.slots g.next_port r.0.cid r.0.entries r.0.next_slot pages (cond b (record h { streams = h.streams ++ new_stream f ∷ [] }) h).streams sent) [
+    let r = after_dial (cond b (dialed.Stream (length h.streams + 1)) dialed.Refused) p.header d in
+    Kept g.cid g.slots g.next_port r.0.cid r.0.entries r.0.next_slot pages (cond b (record h { streams = h.streams ++ new_stream f ∷ [] }) h).streams sent) [
       | true ↦ kept_open page new refl asks none refl refl refl refl k
       | false ↦ kept_idle page none k
     ]
@@ -191,8 +189,8 @@ stranger_keeps fails page g d pages w h sent none k =
     let p = packet_in page in
     if_cases (answer_on fails) (eqb p.header.op 3) _ _ (w, h) (After g pages sent) (λ _. kept_idle page none k) (λ _.
     if_cases (answer_on fails) (eqb p.header.kind 1 && eqb p.header.op 1) _ _ (w, h) (After g pages sent) (λ asks.
-        if_cases (answer_on fails) (is_assigned p.header.dst_port || is_full d) _ _ (w, h) (After g pages sent) (λ _. kept_idle page none k)
-        (λ _. dial_keeps fails page g d pages w h sent none (and_parts (eqb p.header.kind 1) (eqb p.header.op 1) asks).1 k))
+    if_cases (answer_on fails) (is_assigned p.header.dst_port || is_full d) _ _ (w, h) (After g pages sent) (λ _. kept_idle page none k)
+    (λ _. dial_keeps fails page g d pages w h sent none (and_parts (eqb p.header.kind 1) (eqb p.header.op 1) asks).1 k))
     (λ _. kept_idle page none k))
 
 flow_keeps : (fails : Bool) (o : Option DeviceEntry) (c : Chain) (page : List ℕ) (g : GuestPart) (d : DevicePart) (pages : List (List ℕ)) (w : Rings) (h : Host) (sent : Flow → List ℕ)

@@ -1,5 +1,5 @@
 -- What each verdict says of a packet and of the end that hears it, and what it leaves of the bytes that a connection carries.
-use Rattle.std.proofs.Common.{◌≡◌, ℕ, zero, suc, ◌+◌, ◌≤◌, Bool, true, false, ◌&&◌, cond, eqb, ltb, List, [], ◌∷◌, ◌++◌, Option, Some, None, refl, sym, ap, ◌∙◌, subst, subst₂, append_assoc, append-nil, ◌⊎◌, inl, inr, eqb-true, eq-eqb}
+use Rattle.std.proofs.Common.{◌≡◌, ℕ, zero, suc, Bool, true, false, ◌&&◌, cond, eqb, ltb, List, [], ◌++◌, refl, sym, ap, ◌∙◌, subst, subst₂, append_assoc, ◌⊎◌, inl, inr, eqb-true}
 use Rattle.std.proofs.lemmas.Bool.{cond_both, and_right}
 use Rattle.vs_header.specs.declared.Header.{Header}
 use Rattle.vs_header.specs.Op.{op_named}
@@ -12,7 +12,7 @@ use Rattle.vs_conn.specs.declared.end.Verdict.TheVariants as verdict
 use Rattle.vs_conn.specs.declared.end.Why.{Why}
 use Rattle.vs_conn.specs.declared.end.Why.TheVariants as why
 use Rattle.vs_conn.specs.Credit.{room_of}
-use Rattle.vs_conn.specs.End.{ConnectionEnd, is_stream, is_rst, op_verdict, open_verdict, payload_verdict, state_verdict, verdict_of, end_after, after_verdict}
+use Rattle.vs_conn.specs.End.{ConnectionEnd, is_stream, is_rst, op_verdict, open_verdict, state_verdict, verdict_of, end_after, after_verdict}
 use Rattle.vs_core.specs.declared.flow.Flow.{Flow}
 use Rattle.vs_core.specs.Lists.{IsPrefix}
 use Rattle.vs_core.specs.Guest.{is_flow}

@@ -1,5 +1,5 @@
 -- What the laws over every list of events speak of.
-use Rattle.std.specs.Prelude.{◌≡◌, ◌≢◌, ℕ, ◌^◌, ◌<◌, List, Some}
+use Rattle.std.specs.Prelude.{◌≡◌, ◌≢◌, ◌^◌, ◌<◌, List, Some}
 use Rattle.vs_core.specs.declared.flow.Flow.{Flow}
 use Rattle.vs_core.specs.Lists.{IsPrefix}
 use Rattle.vs_core.specs.Outside.{Stream}
