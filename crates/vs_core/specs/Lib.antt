@@ -18,3 +18,4 @@ pub mod DeviceInside
 pub mod DeviceWords
 pub mod Told
 pub mod World
+pub mod Laws
