@@ -5,3 +5,4 @@ pub mod DeviceTable
 pub mod DeviceHosts
 pub mod DevicePumps
 pub mod DeviceSound
+pub mod DeviceTaken

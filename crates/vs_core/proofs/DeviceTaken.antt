@@ -1,0 +1,76 @@
+-- Taking a packet: what each verdict of an entry comes to.
+use Rattle.std.specs.Prelude.{if◌then◌else◌}
+use Rattle.std.proofs.Common.{◌≡◌, ℕ, zero, suc, Bool, true, false, List, [], ◌∷◌, ◌++◌, length, take, drop, set, Option, Some, None, refl, ap, sym, ◌∙◌, subst}
+use Rattle.std.specs.List.{slice_get}
+use Rattle.std.proofs.lemmas.List.{set-set}
+use Rattle.std.proofs.lemmas.Option.{same_Some, none-some}
+use Rattle.vs_header.specs.declared.Header.{Header}
+use Rattle.vs_ring_list.specs.Rings.{Rings, bytes_held}
+use Rattle.vs_ring_list.specs.declared.ring_port.Chain.{Chain}
+use Rattle.vs_conn.specs.End.{verdict_of, after_verdict}
+use Rattle.vs_conn.specs.declared.end.Verdict.{Verdict}
+use Rattle.vs_conn.specs.declared.end.Verdict.TheVariants as verdict
+use Rattle.vs_conn.specs.declared.end.Why.{Why}
+use Rattle.vs_core.specs.Interaction.{Ask, Done, Leads}
+use Rattle.vs_core.specs.Profile.{header_size}
+use Rattle.vs_core.specs.Outside.{Host, Tells}
+use Rattle.vs_core.specs.Device.{DeviceEntry, DevicePart, entry_after, entry_delivered}
+use Rattle.vs_core.specs.DeviceCalls.{DeviceTree, Read, Close, on_entry, closing, with_entry, without_entry, overran}
+use Rattle.vs_core.specs.Told.{Situation, DeviceAllows}
+use Rattle.vs_core.specs.DeviceWords.{situation, with_table, Closes, IsAlone}
+use Rattle.vs_core.proofs.Leads.{leads_of, leads_to, leads_done}
+use Rattle.vs_core.proofs.DeviceTable.{slice_get-set}
+
+-- a stream is closed, and then the rest
+pub closing_then : {A : Type 0} (e : DeviceEntry) (rest : DeviceTree A) (s m t : Situation) (x : A) → Closes e s m → Leads DeviceAllows rest m x t → Leads DeviceAllows (closing e rest) s x t
+closing_then e rest s m t x closes h =
+    (elim e.closed as (λ (b : Bool). Leads {A = Unit {0}} DeviceAllows (if b then Done tt else Ask (Close e.stream) (λ _. Done tt)) s tt m → Leads DeviceAllows (if b then rest else Ask (Close e.stream) (λ _. rest)) s x t) [
+      | true ↦ λ k. subst (λ (w : Situation). Leads DeviceAllows rest w x t) (sym k.1) h
+      | false ↦ λ k. (k.0, k.1, k.2, subst (λ (w : Situation). Leads DeviceAllows rest w x t) (sym k.3.1) h)
+    ]) closes
+
+-- an element that is put where it stands
+set-same : {X : Type 0} (xs : List X) (i : ℕ) (x : X) → slice_get xs i ≡ Some x → set xs i x ≡ xs
+set-same [] i x at = refl
+set-same (y ∷ xs) zero x at = ap (λ (z : _). z ∷ xs) (sym (same_Some y x at))
+set-same (y ∷ xs) (suc i) x at = ap (λ (zs : List _). y ∷ zs) (set-same xs i x at)
+
+module _ (c : Chain) (h : Header) (place : ℕ) (e : DeviceEntry) (d decided : DevicePart) (alone : IsAlone place d.entries) (at : slice_get d.entries place ≡ Some e) (after : decided ≡ with_table (set d.entries place (entry_after h e)) d) where
+  -- the change by slot is the one at the place
+  changed : (f : DeviceEntry → DeviceEntry) → with_entry e.slot f d ≡ with_table (set d.entries place (f e)) d
+  changed f = ap (λ (es : List DeviceEntry). with_table es d) (alone e f at)
+
+  decided-by_slot : with_entry e.slot (entry_after h) d ≡ decided
+  decided-by_slot = changed (entry_after h) ∙ sym after
+
+  pub leads_accept : (s : Situation) → verdict.Accept ≡ verdict_of e.end h → Leads DeviceAllows (on_entry (verdict_of e.end h) c h e d) s (decided, verdict.Accept) s
+  leads_accept s is = leads_of DeviceAllows _ _ s s _ (ap (λ (v : Verdict). on_entry v c h e d) (sym is)) (ap (λ (p : DevicePart). (p, verdict.Accept)) decided-by_slot, refl)
+
+  pub leads_ignore : (s : Situation) → verdict.Ignore ≡ verdict_of e.end h → Leads DeviceAllows (on_entry (verdict_of e.end h) c h e d) s (decided, verdict.Ignore) s
+  leads_ignore s is = leads_of DeviceAllows _ _ s s _ (ap (λ (v : Verdict). on_entry v c h e d) (sym is)) (ap (λ (p : DevicePart). (p, verdict.Ignore)) decided-by_slot, refl)
+
+  pub leads_rst : (s : Situation) (w : Why) (new : DevicePart) → verdict.Rst w ≡ verdict_of e.end h → new ≡ overran w decided → Leads DeviceAllows (on_entry (verdict_of e.end h) c h e d) s (new, verdict.Rst w) s
+  leads_rst s w new is counts = leads_of DeviceAllows _ _ s s _ (ap (λ (v : Verdict). on_entry v c h e d) (sym is)) (ap (λ (p : DevicePart). (p, verdict.Rst w)) (ap (λ (p : DevicePart). overran w p) decided-by_slot ∙ sym counts), refl)
+
+  -- the entry as it was decided stands at its place
+  pub decided-at : slice_get decided.entries place ≡ Some (entry_after h e)
+  decided-at = ap (λ (p : DevicePart). slice_get p.entries place) after ∙ slice_get-set d.entries place e (entry_after h e) at
+
+  pub leads_deliver : (old new : Option Rings) (host : Option Host) (faults : ℕ) (payload : List ℕ) (part : DevicePart) → verdict.Deliver ≡ verdict_of e.end h → Tells old new (λ w. payload ≡ take h.len (drop header_size (bytes_held c w))) (λ w. w)
+      → part ≡ with_table (set decided.entries place (entry_delivered h payload e)) decided → Leads DeviceAllows (on_entry (verdict_of e.end h) c h e d) (situation old host faults) (part, verdict.Deliver) (situation new host faults)
+  leads_deliver old new host faults payload part is read holds =
+      let twice : part ≡ with_table (set d.entries place (entry_delivered h payload e)) d =
+          holds ∙ (ap (λ (p : DevicePart). with_table (set p.entries place (entry_delivered h payload e)) p) after
+          ∙ ap (λ (es : List DeviceEntry). with_table es d) (set-set d.entries place (entry_after h e) (entry_delivered h payload e))) in
+      leads_of DeviceAllows _ _ _ _ _ (ap (λ (v : Verdict). on_entry v c h e d) (sym is))
+      (payload, situation new host faults, (read, (refl, refl)), (ap (λ (p : DevicePart). (p, verdict.Deliver)) (changed (entry_delivered h payload) ∙ sym twice), refl))
+
+  -- an RST leaves the entry as it is
+  pub decided-peer : verdict.Peer ≡ verdict_of e.end h → decided ≡ d
+  decided-peer is =
+      let as_it_was : entry_after h e ≡ e = ap (λ (v : Verdict). record e { end = after_verdict e.end h v }) (sym is) in
+      after ∙ ap (λ (es : List DeviceEntry). with_table es d) (ap (λ (x : DeviceEntry). set d.entries place x) as_it_was ∙ set-same d.entries place e at)
+
+  pub leads_peer : (s t : Situation) (new : DevicePart) → verdict.Peer ≡ verdict_of e.end h → Closes e s t → new ≡ without_entry e.slot d → Leads DeviceAllows (on_entry (verdict_of e.end h) c h e d) s (new, verdict.Peer) t
+  leads_peer s t new is closes without = leads_of DeviceAllows _ _ s t _ (ap (λ (v : Verdict). on_entry v c h e d) (sym is))
+      (closing_then e (Done (without_entry e.slot d, verdict.Peer)) s t t (new, verdict.Peer) closes (ap (λ (p : DevicePart). (p, verdict.Peer)) (sym without), refl))
