@@ -1,9 +1,10 @@
 -- Taking a packet: what each verdict of an entry comes to.
-use Rattle.std.specs.Prelude.{if◌then◌else◌}
-use Rattle.std.proofs.Common.{◌≡◌, ℕ, zero, suc, Bool, true, false, List, [], ◌∷◌, ◌++◌, length, take, drop, set, Option, Some, None, refl, ap, sym, ◌∙◌, subst}
+use Rattle.std.specs.Prelude.{if◌then◌else◌, ◌&&◌, find, position}
+use Rattle.std.proofs.Common.{◌≡◌, ℕ, zero, suc, Bool, true, false, eqb, List, [], ◌∷◌, ◌++◌, length, take, drop, set, Option, Some, None, refl, ap, sym, ◌∙◌, subst}
 use Rattle.std.specs.List.{slice_get}
 use Rattle.std.proofs.lemmas.List.{set-set}
-use Rattle.std.proofs.lemmas.Option.{same_Some, none-some}
+use Rattle.std.proofs.lemmas.Option.{same_Some, none-some, get_or_from_slice_get}
+use Rattle.std.proofs.lemmas.Bool.{eq-eqb}
 use Rattle.vs_header.specs.declared.Header.{Header}
 use Rattle.vs_ring_list.specs.Rings.{Rings, bytes_held}
 use Rattle.vs_ring_list.specs.declared.ring_port.Chain.{Chain}
@@ -14,11 +15,13 @@ use Rattle.vs_conn.specs.declared.end.Why.{Why}
 use Rattle.vs_core.specs.Interaction.{Ask, Done, Leads}
 use Rattle.vs_core.specs.Profile.{header_size}
 use Rattle.vs_core.specs.Outside.{Host, Tells}
-use Rattle.vs_core.specs.Device.{DeviceEntry, DevicePart, entry_after, entry_delivered}
-use Rattle.vs_core.specs.DeviceCalls.{DeviceTree, Read, Close, on_entry, closing, with_entry, without_entry, overran}
+use Rattle.vs_core.specs.Guest.{counted}
+use Rattle.vs_core.specs.Device.{DeviceEntry, DevicePart, entry_after, entry_delivered, entry_has, flow_from_guest, is_for_host}
+use Rattle.vs_core.specs.DeviceCalls.{DeviceTree, Read, Close, on_entry, on_packet, on_stranger, by_flow, closing, with_entry, without_entry, overran}
 use Rattle.vs_core.specs.Told.{Situation, DeviceAllows}
 use Rattle.vs_core.specs.DeviceWords.{situation, with_table, Closes, IsAlone}
 use Rattle.vs_core.proofs.Leads.{leads_of, leads_to, leads_done}
+use Rattle.vs_core.proofs.Lists.{find_there, find_nowhere}
 use Rattle.vs_core.proofs.DeviceTable.{slice_get-set}
 
 -- a stream is closed, and then the rest
@@ -74,3 +77,19 @@ module _ (c : Chain) (h : Header) (place : ℕ) (e : DeviceEntry) (d decided : D
   pub leads_peer : (s t : Situation) (new : DevicePart) → verdict.Peer ≡ verdict_of e.end h → Closes e s t → new ≡ without_entry e.slot d → Leads DeviceAllows (on_entry (verdict_of e.end h) c h e d) s (new, verdict.Peer) t
   leads_peer s t new is closes without = leads_of DeviceAllows _ _ s t _ (ap (λ (v : Verdict). on_entry v c h e d) (sym is))
       (closing_then e (Done (without_entry e.slot d, verdict.Peer)) s t t (new, verdict.Peer) closes (ap (λ (p : DevicePart). (p, verdict.Peer)) (sym without), refl))
+
+-- a packet with the CIDs of this guest and of the host
+on_packet-for_host : (c : Chain) (h : Header) (d : DevicePart) → h.src_cid ≡ d.cid → h.dst_cid ≡ 2 → on_packet c h d ≡ by_flow (find (entry_has (flow_from_guest h)) d.entries) c h d
+on_packet-for_host c h d from to =
+    let is : is_for_host d.cid h ≡ true = ap (λ (b : Bool). b && eqb h.dst_cid 2) (eq-eqb h.src_cid d.cid from) ∙ eq-eqb h.dst_cid 2 to in
+    ap (λ (b : Bool). if b then by_flow (find (entry_has (flow_from_guest h)) d.entries) c h d else Done (record d { dropped = counted d.dropped }, verdict.Ignore)) is
+
+-- of a known flow: the entry that is found stands at the place
+pub on_packet-known : (c : Chain) (h : Header) (d : DevicePart) (place : ℕ) (e : DeviceEntry) → h.src_cid ≡ d.cid → h.dst_cid ≡ 2 → position (entry_has (flow_from_guest h)) d.entries ≡ Some place → slice_get d.entries place ≡ Some e → on_packet c h d ≡ on_entry (verdict_of e.end h) c h e d
+on_packet-known c h d place e from to found at =
+    on_packet-for_host c h d from to ∙ ap (λ (o : Option DeviceEntry). by_flow o c h d) (find_there (entry_has (flow_from_guest h)) d.entries place e found (sym (get_or_from_slice_get d.entries place e e at)))
+
+-- of an unknown flow
+pub on_packet-unknown : (c : Chain) (h : Header) (d : DevicePart) → h.src_cid ≡ d.cid → h.dst_cid ≡ 2 → position (entry_has (flow_from_guest h)) d.entries ≡ None → on_packet c h d ≡ on_stranger h d
+on_packet-unknown c h d from to none =
+    on_packet-for_host c h d from to ∙ ap (λ (o : Option DeviceEntry). by_flow o c h d) (find_nowhere (entry_has (flow_from_guest h)) d.entries none)
