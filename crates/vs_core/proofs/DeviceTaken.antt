@@ -1,26 +1,32 @@
 -- Taking a packet: what each verdict of an entry comes to.
 use Rattle.std.specs.Prelude.{if◌then◌else◌, ◌&&◌, find, position}
-use Rattle.std.proofs.Common.{◌≡◌, ℕ, zero, suc, Bool, true, false, eqb, List, [], ◌∷◌, ◌++◌, length, take, drop, set, Option, Some, None, refl, ap, sym, ◌∙◌, subst}
+use Rattle.std.proofs.Common.{◌≡◌, ◌<◌, ◌≤◌, ◌-◌, ℕ, zero, suc, Bool, true, false, eqb, List, [], ◌∷◌, ◌++◌, length, take, drop, set, Option, Some, None, refl, ap, sym, ◌∙◌, subst}
 use Rattle.std.specs.List.{slice_get}
 use Rattle.std.proofs.lemmas.List.{set-set}
 use Rattle.std.proofs.lemmas.Option.{same_Some, none-some, get_or_from_slice_get}
-use Rattle.std.proofs.lemmas.Bool.{eq-eqb}
+use Rattle.std.proofs.lemmas.Bool.{eq-eqb, lt-ltb, le-ltb}
 use Rattle.vs_header.specs.declared.Header.{Header}
-use Rattle.vs_ring_list.specs.Rings.{Rings, bytes_held}
+use Rattle.vs_ring_list.specs.Rings.{Rings, bytes_held, after_done}
 use Rattle.vs_ring_list.specs.declared.ring_port.Chain.{Chain}
+use Rattle.vs_ring_list.specs.declared.ring_port.Failure.{Failure}
+use Rattle.vs_ring_list.specs.declared.ring_port.Failure.TheVariants as failure
+use Rattle.vs_ring_list.specs.declared.ring_port.Next.TheVariants as next
+use Rattle.vs_header.specs.Packet.{header_of}
+use Rattle.vs_core.specs.declared.device.Taken.{Taken}
+use Rattle.vs_core.specs.declared.device.Taken.TheVariants as taken
 use Rattle.vs_conn.specs.End.{verdict_of, after_verdict}
 use Rattle.vs_conn.specs.declared.end.Verdict.{Verdict}
 use Rattle.vs_conn.specs.declared.end.Verdict.TheVariants as verdict
 use Rattle.vs_conn.specs.declared.end.Why.{Why}
-use Rattle.vs_core.specs.Interaction.{Ask, Done, Leads}
+use Rattle.vs_core.specs.Interaction.{Ask, Done, bind, Leads}
 use Rattle.vs_core.specs.Profile.{header_size}
 use Rattle.vs_core.specs.Outside.{Host, Tells}
 use Rattle.vs_core.specs.Guest.{counted}
 use Rattle.vs_core.specs.Device.{DeviceEntry, DevicePart, entry_after, entry_delivered, entry_has, flow_from_guest, is_for_host}
-use Rattle.vs_core.specs.DeviceCalls.{DeviceTree, Read, Close, on_entry, on_packet, on_stranger, by_flow, closing, with_entry, without_entry, overran}
+use Rattle.vs_core.specs.DeviceCalls.{DeviceTree, Read, Return, Close, after_take, on_chain, failing, on_entry, on_packet, on_stranger, by_flow, closing, with_entry, without_entry, overran}
 use Rattle.vs_core.specs.Told.{Situation, DeviceAllows}
 use Rattle.vs_core.specs.DeviceWords.{situation, with_table, Closes, IsAlone}
-use Rattle.vs_core.proofs.Leads.{leads_of, leads_to, leads_done}
+use Rattle.vs_core.proofs.Leads.{leads_of, leads_bind}
 use Rattle.vs_core.proofs.Lists.{find_there, find_nowhere}
 use Rattle.vs_core.proofs.DeviceTable.{slice_get-set}
 
@@ -93,3 +99,32 @@ on_packet-known c h d place e from to found at =
 pub on_packet-unknown : (c : Chain) (h : Header) (d : DevicePart) → h.src_cid ≡ d.cid → h.dst_cid ≡ 2 → position (entry_has (flow_from_guest h)) d.entries ≡ None → on_packet c h d ≡ on_stranger h d
 on_packet-unknown c h d from to none =
     on_packet-for_host c h d from to ∙ ap (λ (o : Option DeviceEntry). by_flow o c h d) (find_nowhere (entry_has (flow_from_guest h)) d.entries none)
+
+-- the header is read, and then the chain decided on
+pub leads_chain : (c : Chain) (h : Header) (d : DevicePart) (bytes : List ℕ) (old new : Option Rings) (host : Option Host) (faults : ℕ) (t : Situation) (x : DevicePart × Taken) → h ≡ header_of bytes → Tells old new (λ w. bytes ≡ take header_size (drop 0 (bytes_held c w))) (λ w. w)
+    → Leads DeviceAllows (on_chain c h d) (situation new host faults) x t → Leads DeviceAllows (after_take (next.Chain c) d) (situation old host faults) x t
+leads_chain c h d bytes old new host faults t x is read rest =
+    (bytes, situation new host faults, (read, (refl, refl)), leads_of DeviceAllows (on_chain c h d) (on_chain c (header_of bytes) d) _ _ x (ap (λ (k : Header). on_chain c k d) (sym is)) rest)
+
+abbrev short_failure : Chain → Header → Failure
+short_failure c h = failure.PayloadShort h.len (c.readable - header_size)
+
+-- the header names more payload than the chain holds
+pub on_chain-short : (c : Chain) (h : Header) (d : DevicePart) → c.readable - header_size < h.len → on_chain c h d ≡ Done (failing (failure.PayloadShort h.len (c.readable - header_size)) d, taken.Failed (failure.PayloadShort h.len (c.readable - header_size)))
+on_chain-short c h d short =
+    ap (λ (b : Bool). if b then Done (failing (short_failure c h) d, taken.Failed (short_failure c h)) else bind (on_packet c h d) (λ r. Ask (Return c 0) (λ _. Done (r.0, taken.Packet r.1)))) (lt-ltb (c.readable - header_size) h.len short)
+
+on_chain-whole : (c : Chain) (h : Header) (d : DevicePart) → h.len ≤ c.readable - header_size → on_chain c h d ≡ bind (on_packet c h d) (λ r. Ask (Return c 0) (λ _. Done (r.0, taken.Packet r.1)))
+on_chain-whole c h d whole =
+    ap (λ (b : Bool). if b then Done (failing (short_failure c h) d, taken.Failed (short_failure c h)) else bind (on_packet c h d) (λ r. Ask (Return c 0) (λ _. Done (r.0, taken.Packet r.1)))) (le-ltb (c.readable - header_size) h.len whole)
+
+-- the packet is decided on, and its chain returned
+pub leads_whole : (c : Chain) (h : Header) (d part : DevicePart) (v : Verdict) (s : Situation) (old new : Option Rings) (host : Option Host) (faults : ℕ) → h.len ≤ c.readable - header_size → Leads DeviceAllows (on_packet c h d) s (part, v) (situation old host faults) → Tells old new (λ w. Unit {0}) (after_done c 0)
+    → Leads DeviceAllows (on_chain c h d) s (part, taken.Packet v) (situation new host faults)
+leads_whole c h d part v s old new host faults whole decided returned =
+    leads_of DeviceAllows _ _ _ _ _ (on_chain-whole c h d whole)
+    (leads_bind DeviceAllows (on_packet c h d) (λ r. Ask (Return c 0) (λ _. Done (r.0, taken.Packet r.1))) s (situation old host faults) (situation new host faults) (part, v) (part, taken.Packet v) decided
+    (tt, situation new host faults, (returned, (refl, refl)), (refl, refl)))
+
+pub pair_same : {A B : Type 0} (a b : A) (x y : B) → a ≡ b → x ≡ y → ◌≡◌ {A = A × B} (a, x) (b, y)
+pair_same {A} {B} a b x y p q = ap (λ (c : A). (c, x)) p ∙ ap (λ (z : B). (b, z)) q

@@ -6,3 +6,4 @@ pub mod DeviceHosts
 pub mod DevicePumps
 pub mod DeviceSound
 pub mod DeviceTaken
+pub mod DeviceRings
