@@ -1,15 +1,16 @@
 -- Taking a packet: what each verdict of an entry comes to.
-use Rattle.std.specs.Prelude.{if◌then◌else◌, ◌&&◌, find, position}
+use Rattle.std.specs.Prelude.{if◌then◌else◌, ◌&&◌, find, position, nat_le}
 use Rattle.std.proofs.Common.{◌≡◌, ◌<◌, ◌≤◌, ◌-◌, ℕ, zero, suc, Bool, true, false, eqb, List, [], ◌∷◌, ◌++◌, length, take, drop, set, Option, Some, None, refl, ap, sym, ◌∙◌, subst}
 use Rattle.std.specs.List.{slice_get}
 use Rattle.std.proofs.lemmas.List.{set-set}
 use Rattle.std.proofs.lemmas.Option.{same_Some, none-some, get_or_from_slice_get}
-use Rattle.std.proofs.lemmas.Bool.{eq-eqb, lt-ltb, le-ltb}
+use Rattle.std.proofs.lemmas.Bool.{eq-eqb, lt-ltb, le-ltb, lt-leb}
 use Rattle.vs_header.specs.declared.Header.{Header}
 use Rattle.vs_ring_list.specs.Rings.{Rings, bytes_held, after_done}
 use Rattle.vs_ring_list.specs.declared.ring_port.Chain.{Chain}
 use Rattle.vs_ring_list.specs.declared.ring_port.Failure.{Failure}
 use Rattle.vs_ring_list.specs.declared.ring_port.Failure.TheVariants as failure
+use Rattle.vs_ring_list.specs.declared.ring_port.Queue.TheVariants as queue
 use Rattle.vs_ring_list.specs.declared.ring_port.Next.TheVariants as next
 use Rattle.vs_header.specs.Packet.{header_of}
 use Rattle.vs_core.specs.declared.device.Taken.{Taken}
@@ -19,14 +20,15 @@ use Rattle.vs_conn.specs.declared.end.Verdict.{Verdict}
 use Rattle.vs_conn.specs.declared.end.Verdict.TheVariants as verdict
 use Rattle.vs_conn.specs.declared.end.Why.{Why}
 use Rattle.vs_core.specs.Interaction.{Ask, Done, bind, Leads}
-use Rattle.vs_core.specs.Profile.{header_size}
+use Rattle.vs_core.specs.Profile.{header_size, reply_limit}
 use Rattle.vs_core.specs.Outside.{Host, Tells}
 use Rattle.vs_core.specs.Guest.{counted}
 use Rattle.vs_core.specs.Device.{DeviceEntry, DevicePart, entry_after, entry_delivered, entry_has, flow_from_guest, is_for_host}
-use Rattle.vs_core.specs.DeviceCalls.{DeviceTree, Read, Return, Close, after_take, on_chain, failing, on_entry, on_packet, on_stranger, by_flow, closing, with_entry, without_entry, overran}
+use Rattle.vs_core.specs.DeviceCalls.{DeviceTree, Take, Read, Return, Close, take_tx_of, after_take, on_chain, failing, on_entry, on_packet, on_stranger, by_flow, closing, with_entry, without_entry, overran}
 use Rattle.vs_core.specs.Told.{Situation, DeviceAllows}
 use Rattle.vs_core.specs.DeviceWords.{situation, with_table, Closes, IsAlone}
 use Rattle.vs_core.proofs.Leads.{leads_of, leads_bind}
+use Rattle.vs_core.proofs.DeviceFailures.{unless-works}
 use Rattle.vs_core.proofs.Lists.{find_there, find_nowhere}
 use Rattle.vs_core.proofs.DeviceTable.{slice_get-set}
 
@@ -128,3 +130,10 @@ leads_whole c h d part v s old new host faults whole decided returned =
 
 pub pair_same : {A B : Type 0} (a b : A) (x y : B) → a ≡ b → x ≡ y → ◌≡◌ {A = A × B} (a, x) (b, y)
 pair_same {A} {B} a b x y p q = ap (λ (c : A). (c, x)) p ∙ ap (λ (z : B). (b, z)) q
+
+-- the ring is asked where it works and there is room for a reply
+pub take_tx_of-asks : (d : DevicePart) → d.failed ≡ None → length d.replies < 64 → take_tx_of d ≡ Ask (Take queue.Tx) (λ answer. after_take answer d)
+take_tx_of-asks d works room =
+    let asks : (if nat_le reply_limit (length d.replies) then Done (d, taken.RepliesFull reply_limit) else Ask (Take queue.Tx) (λ answer. after_take answer d)) ≡ Ask (Take queue.Tx) (λ answer. after_take answer d) =
+        ap (λ (b : Bool). if b then Done (d, taken.RepliesFull reply_limit) else Ask (Take queue.Tx) (λ answer. after_take answer d)) (lt-leb 64 (length d.replies) room) in
+    unless-works (λ f. taken.Failed f) d _ works ∙ asks

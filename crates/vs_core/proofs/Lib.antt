@@ -5,5 +5,6 @@ pub mod DeviceTable
 pub mod DeviceHosts
 pub mod DevicePumps
 pub mod DeviceSound
+pub mod DeviceFailures
 pub mod DeviceTaken
 pub mod DeviceRings
