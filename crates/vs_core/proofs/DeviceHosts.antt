@@ -174,3 +174,65 @@ IsHostOf-remove (Some h) (Some k) es i e host at keeps =
 pub IsHostOf-entry : (o : Option Host) (es : List DeviceEntry) (i : ℕ) (e new : DeviceEntry) → IsHostOf o es → slice_get es i ≡ Some e → SameStream e new → IsHostOf o (set es i new)
 IsHostOf-entry o es i e new host at same =
     IsHostOf-set o o es i e new host at (keeps_same e o o refl) (λ unclosed. subst (λ (s : ℕ). IsOpenAt o s) (sym same.stream) (IsHostOf-at o es i e host at (same.closed unclosed))) same
+
+slice_get-append : {X : Type 0} (xs ys : List X) (i : ℕ) (P : X → Type 0) → IsSomeAnd (slice_get xs i) P → IsSomeAnd (slice_get (xs ++ ys) i) P
+slice_get-append [] ys i P is = absurd is
+slice_get-append (x ∷ xs) ys zero P is = is
+slice_get-append (x ∷ xs) ys (suc i) P is = slice_get-append xs ys i P is
+
+slice_get-last : {X : Type 0} (xs : List X) (y : X) (P : X → Type 0) → P y → IsSomeAnd (slice_get (xs ++ y ∷ []) (length xs)) P
+slice_get-last [] y P h = h
+slice_get-last (x ∷ xs) y P h = slice_get-last xs y P h
+
+-- a stream that was there stays open where one more is made
+open-append : (h k : Host) (s : Stream) (id : ℕ) → k.streams ≡ h.streams ++ s ∷ [] → IsOpen id h → IsOpen id k
+open-append h k s id more is = subst (λ (ss : List Stream). IsSomeAnd (if eqb id 0 then None else slice_get ss (id - 1)) (λ x. x.closed ≡ false)) (sym more)
+    ((elim (eqb id 0) as (λ (b : Bool). IsSomeAnd (if b then None else slice_get h.streams (id - 1)) (λ x. x.closed ≡ false) → IsSomeAnd (if b then None else slice_get (h.streams ++ s ∷ []) (id - 1)) (λ x. x.closed ≡ false)) [
+      | true ↦ λ o. o
+      | false ↦ λ o. slice_get-append h.streams (s ∷ []) (id - 1) (λ x. x.closed ≡ false) o
+    ]) is)
+
+-- the new stream is open, and its number was nobody's
+open-new : (h k : Host) (s : Stream) → k.streams ≡ h.streams ++ s ∷ [] → s.closed ≡ false → IsOpen (length h.streams + 1) k
+open-new h k s more unclosed =
+    let positive : eqb (length h.streams + 1) 0 ≡ false = ne_eqb (length h.streams + 1) 0 (λ e. omega (arith, e)) in
+    let before : length h.streams + 1 - 1 ≡ length h.streams = omega arith in
+    subst (λ (ss : List Stream). IsSomeAnd (if eqb (length h.streams + 1) 0 then None else slice_get ss (length h.streams + 1 - 1)) (λ x. x.closed ≡ false)) (sym more)
+    (subst (λ (b : Bool). IsSomeAnd (if b then None else slice_get (h.streams ++ s ∷ []) (length h.streams + 1 - 1)) (λ x. x.closed ≡ false)) (sym positive)
+    (subst (λ (i : ℕ). IsSomeAnd (slice_get (h.streams ++ s ∷ []) i) (λ x. x.closed ≡ false)) (sym before)
+    (slice_get-last h.streams s (λ x. x.closed ≡ false) unclosed)))
+
+not-past : {X : Type 0} (xs : List X) (i : ℕ) (P : X → Type 0) → length xs ≤ i → IsSomeAnd (slice_get xs i) P → ⊥
+not-past [] i P le is = is
+not-past (x ∷ xs) zero P le is = omega (arith, le)
+not-past (x ∷ xs) (suc i) P le is = not-past xs i P (omega (arith, le)) is
+
+none-new : (h : Host) → IsOpen (length h.streams + 1) h → ⊥
+none-new h is =
+    let positive : eqb (length h.streams + 1) 0 ≡ false = ne_eqb (length h.streams + 1) 0 (λ e. omega (arith, e)) in
+    not-past h.streams (length h.streams + 1 - 1) (λ x. x.closed ≡ false) (omega arith)
+    (subst (λ (b : Bool). IsSomeAnd (if b then None else slice_get h.streams (length h.streams + 1 - 1)) (λ x. x.closed ≡ false)) positive is)
+
+AllByRecursion-push : {X : Type 0} (P : X → Type 0) (xs : List X) (y : X) → AllByRecursion P xs → P y → AllByRecursion P (xs ++ y ∷ [])
+AllByRecursion-push P [] y all h = (h, tt)
+AllByRecursion-push P (x ∷ xs) y all h = (all.0, AllByRecursion-push P xs y all.1 h)
+
+apart-push : (h : Host) (new : DeviceEntry) → (IsOpen new.stream h → ⊥) → (es : List DeviceEntry) → AllByRecursion (HasOpenStream h) es → AreAllApart es → AreAllApart (es ++ new ∷ [])
+apart-push h new fresh [] open_ apart = (tt, tt)
+apart-push h new fresh (x ∷ es) open_ apart =
+    (AllByRecursion-push (AreApart x) es new apart.0 (λ mine other same. fresh (subst (λ (s : ℕ). IsOpen s h) same (open_.0 mine))), apart-push h new fresh es open_.1 apart.1)
+
+-- the host stays that of the table where an entry is added for the stream that a dial gave
+pub IsHostOf-dialed : (o p : Option Host) (path : List ℕ) (flow : Flow) (id : ℕ) (es : List DeviceEntry) (new : DeviceEntry) → Tells o p (λ h. dialed.Stream id ≡ dialed_of path h) (after_dial path flow) → new.stream ≡ id → IsHostOf o es → IsHostOf p (es ++ new ∷ [])
+IsHostOf-dialed None p path flow id es new told is host = subst (λ q. IsHostOf q (es ++ new ∷ [])) (sym told) tt
+IsHostOf-dialed (Some h) p path flow id es new told is host = subst (λ q. IsHostOf q (es ++ new ∷ [])) (sym told.1)
+    ((elim (is_listened path h) as (λ (b : Bool). dialed.Stream id ≡ (if b then dialed.Stream (length h.streams + 1) else dialed.Refused) → IsHostOf (Some (if b then record h { streams = h.streams ++ new_stream flow ∷ [] } else h)) (es ++ new ∷ [])) [
+      | false ↦ λ e. cc
+      | true ↦ λ e.
+          let k : Host = record h { streams = h.streams ++ new_stream flow ∷ [] } in
+          let number : new.stream ≡ length h.streams + 1 = is ∙ cc e in
+          let own : IsOpen new.stream k = subst (λ (n : ℕ). IsOpen n k) (sym number) (open-new h k (new_stream flow) refl refl) in
+          let fresh : IsOpen new.stream h → ⊥ = λ o. none-new h (subst (λ (n : ℕ). IsOpen n h) number o) in
+          (AllByRecursion-push (HasOpenStream k) es new (AllByRecursion-map (HasOpenStream h) (HasOpenStream k) es (λ x o unclosed. open-append h k (new_stream flow) x.stream refl (o unclosed)) host.0) (λ _. own),
+          apart-push h new fresh es host.0 host.1)
+    ]) told.0)

@@ -30,3 +30,6 @@ pub mod WorldVerdicts
 pub mod WorldTakes
 pub mod WorldServes
 pub mod WorldRuns
+pub mod DeviceFailures
+pub mod DeviceTaken
+pub mod DeviceRings

@@ -181,6 +181,8 @@ impl Device {
             (λ e. length e.pending + packet.now.len ≤ unread_of e.end.credit) }
         ensures in_space { result ≡ Verdict.Deliver → packet.now.len ≤ buffer_space }
         ensures alone { IsAlone place self.old.entries }
+        ensures same { self.new ≡ with_table self.new.entries self.old }
+        ensures count { length self.new.entries ≡ length self.old.entries }
         ensures host { (told : Option Host) → IsHostOf told self.old.entries → IsHostOf told self.new.entries }
     {
         self.entries[place].on_packet(packet)
@@ -197,6 +199,8 @@ impl Device {
         ensures pending { (e : DeviceEntry) → slice_get self.old.entries place ≡ Some e → (payload : List ℕ)
             × Tells (R.lists ring.old) (R.lists ring.new) (λ w. payload ≡ take len (drop header_size (bytes_held chain.now w))) (λ w. w)
             × (self.new ≡ with_table (slice_set self.old.entries place (record e { pending = e.pending ++ payload })) self.old) }
+        ensures same { self.new ≡ with_table self.new.entries self.old }
+        ensures count { length self.new.entries ≡ length self.old.entries }
         ensures held { R.held ring.new ≡ R.held ring.old }
         ensures host { (told : Option Host) → IsHostOf told self.old.entries → IsHostOf told self.new.entries }
     {
@@ -206,7 +210,8 @@ impl Device {
 
     /// Counts a payload that had no room.
     fn count_overrun(&mut self, why: Why)
-        ensures { self.new ≡ overran why self.old }
+        ensures counts { self.new ≡ overran why self.old }
+        ensures same { self.new ≡ record self.old { overrun = self.new.overrun } }
     {
         if let Why::Overrun(_) = why {
             self.overrun = self.overrun.saturating_add(1);
