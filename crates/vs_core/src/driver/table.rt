@@ -1,11 +1,13 @@
 //! What the driver tells of its connections.
 
 ghost use Rattle.std.specs.Prelude.{◌≡◌, length, not, filter, option_map, slice_get};
+ghost use Rattle.std.specs.Iterator.{YieldsFirst, item_count};
 ghost use Rattle.vs_core.specs.Driver.{state_of, flow_of, guest_table};
 
 use crate::driver::slot::Slot;
 use crate::driver::{ConnId, ConnectionState, Driver};
 use crate::flow::Flow;
+use std::marker::Model;
 use vs_conn::State;
 
 impl Driver {
@@ -32,6 +34,14 @@ impl Driver {
         ensures { result ≡ self.now.broken }
     {
         self.broken
+    }
+
+    /// The entries of the driver's table, each its flow and the state of its end: the connections that aren't over, in the order
+    /// of their opening.
+    pub fn table(&self) -> Entries<'_>
+        ensures { result ≡ guest_table self.now }
+    {
+        Entries { slots: &self.slots }
     }
 
     /// How many connections aren't over: the entries of the driver's table.
@@ -66,4 +76,39 @@ fn entry_at(slots: &[Slot], place: usize) -> Option<(Flow, State)>
         .filter(|slot| !slot.is_gone())
         .nth(place)
         .map(|slot| (slot.flow(), slot.end_state()))
+}
+
+/// The entries of a driver's table, each its flow and the state of its end: the connections that aren't over, in the order of
+/// their opening. It is seen as the list of those that are left.
+#[derive(Drop)]
+pub struct Entries<'a> {
+    slots: &'a [Slot],
+}
+
+impl<'a> Model for Entries<'a> {
+    ghost use Rattle.std.specs.Prelude.{List, map, filter, not};
+    ghost use Rattle.vs_conn.specs.declared.end.State.{State};
+    ghost use Rattle.vs_core.specs.declared.flow.Flow.{Flow};
+
+    ghost Value = { List (Flow × State) };
+
+    ghost view = { λ e. map (λ s. (s.flow, s.end.state)) (filter (λ s. not s.gone) e.slots.now) };
+}
+
+impl<'a> Iterator for Entries<'a> {
+    type Item = (Flow, State);
+
+    ghost next_gives = { YieldsFirst (λ left. left) };
+
+    ghost remaining = { item_count (λ left. left) };
+
+    fn next(&mut self) -> Option<(Flow, State)> {
+        while let Some((slot, rest)) = self.slots.split_first() {
+            self.slots = rest;
+            if !slot.is_gone() {
+                return Some((slot.flow(), slot.end_state()));
+            }
+        }
+        None
+    }
 }
