@@ -45,7 +45,12 @@ impl Driver {
     /// connection numbers from `id` on, which is at least 1.
     ///
     /// The only error is want of memory. Then the ring is as it was.
-    pub fn new_at<R: DriverRing>(alloc: Global, ring: &mut R, port: u32, id: u32) -> Result<Driver, AllocError>
+    pub fn new_at<R: DriverRing>(
+        alloc: Global,
+        ring: &mut R,
+        port: u32,
+        id: u32,
+    ) -> Result<Driver, AllocError>
         requires unused { ((R.flight ring.old).rx ≡ 0) × ((R.flight ring.old).tx ≡ 0) × ((R.flight ring.old).event ≡ 0) }
         requires port { (first_guest_port ≤ port) × (port ≤ last_guest_port) }
         requires id { 1 ≤ id }

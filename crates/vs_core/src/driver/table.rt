@@ -1,6 +1,6 @@
 //! What the driver tells of its connections.
 
-ghost use Rattle.std.specs.Prelude.{◌≡◌, length, not, filter, option_map, slice_get};
+ghost use Rattle.std.specs.Prelude.{◌≡◌, ◌<◌, ◌^◌, length};
 ghost use Rattle.std.specs.Iterator.{YieldsFirst, item_count};
 ghost use Rattle.vs_core.specs.Driver.{state_of, flow_of, guest_table};
 
@@ -39,43 +39,11 @@ impl Driver {
     /// The entries of the driver's table, each its flow and the state of its end: the connections that aren't over, in the order
     /// of their opening.
     pub fn table(&self) -> Entries<'_>
-        ensures { result ≡ guest_table self.now }
+        ensures entries { result ≡ guest_table self.now }
+        ensures countable { length result < 2 ^ 64 }
     {
         Entries { slots: &self.slots }
     }
-
-    /// How many connections aren't over: the entries of the driver's table.
-    pub fn open_count(&self) -> usize
-        ensures { result ≡ length (guest_table self.now) }
-    {
-        count_open(&self.slots)
-    }
-
-    /// The entry at a place of the driver's table, its flow and the state of its end: the connections that aren't over, in
-    /// the order of their opening. `None` comes exactly where the table has no such place.
-    pub fn entry(&self, place: usize) -> Option<(Flow, State)>
-        ensures { result ≡ slice_get (guest_table self.now) place }
-    {
-        entry_at(&self.slots, place)
-    }
-}
-
-// How many slots have a connection that isn't over.
-fn count_open(slots: &[Slot]) -> usize
-    ensures { result ≡ length (filter (λ s. not s.gone) slots.now) }
-{
-    slots.iter().filter(|slot| !slot.is_gone()).count()
-}
-
-// The entry at a place among the slots whose connection isn't over.
-fn entry_at(slots: &[Slot], place: usize) -> Option<(Flow, State)>
-    ensures { result ≡ option_map (λ s. (s.flow, s.end.state)) (slice_get (filter (λ s. not s.gone) slots.now) place) }
-{
-    slots
-        .iter()
-        .filter(|slot| !slot.is_gone())
-        .nth(place)
-        .map(|slot| (slot.flow(), slot.end_state()))
 }
 
 /// The entries of a driver's table, each its flow and the state of its end: the connections that aren't over, in the order of

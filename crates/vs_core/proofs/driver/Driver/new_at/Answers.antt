@@ -1,4 +1,4 @@
-use Rattle.std.proofs.Common.{◌≡◌, ℕ, ◌+◌, length, ap, ◌∙◌, arith, rules}
+use Rattle.std.proofs.Common.{◌≡◌, length, ap, ◌∙◌, arith, rules}
 use Rattle.vs_ring_list.specs.Rings.{Flight}
 use Rattle.vs_ring_list.specs.declared.ring_port.Queue.TheVariants as queue
 use Rattle.vs_core.proofs.DriverNew.{new_made}
