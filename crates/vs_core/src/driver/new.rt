@@ -1,6 +1,6 @@
 //! Making a driver: its memory first, then all receive and event pages are posted (Virtio 1.2, section 5.10.6).
 
-ghost use Rattle.std.specs.Prelude.{◌≡◌, ◌≢◌, ◌+◌, ◌≤◌, [], if◌then◌else◌, length, vec_capacity, Option, IfOk, OnErr};
+ghost use Rattle.std.specs.Prelude.{◌≡◌, ◌≢◌, ◌+◌, ◌≤◌, [], if◌then◌else◌, length, vec_capacity, Option, IfOk, OnOk, OnErr};
 ghost use Rattle.std.specs.List.{All};
 ghost use Rattle.vs_ring_list.specs.Rings.{Rings, flight_at, same_queue};
 ghost use Rattle.vs_core.specs.Interaction.{Leads};
@@ -33,6 +33,7 @@ impl Driver {
         ensures ring { IfOk result (λ driver. IsRingOf (R.size ring.new) (R.flight ring.new) driver) }
         ensures calls { IfOk result (λ driver. Leads RingAllows (new_of (R.size ring.old) first_guest_port 1) (R.lists ring.old) driver (R.lists ring.new)) }
         ensures part { IfOk result (λ driver. driver ≡ new_guest (R.size ring.old) first_guest_port 1 driver.cid) }
+        ensures posted { OnOk result (((R.flight ring.new).rx ≡ R.size ring.new) × ((R.flight ring.new).event ≡ R.size ring.new)) }
 
         ensures same_size { R.size ring.new ≡ R.size ring.old }
         ensures same_flight { OnErr result (R.flight ring.new ≡ R.flight ring.old) }
@@ -58,6 +59,7 @@ impl Driver {
         ensures ring { IfOk result (λ driver. IsRingOf (R.size ring.new) (R.flight ring.new) driver) }
         ensures calls { IfOk result (λ driver. Leads RingAllows (new_of (R.size ring.old) port id) (R.lists ring.old) driver (R.lists ring.new)) }
         ensures part { IfOk result (λ driver. driver ≡ new_guest (R.size ring.old) port id driver.cid) }
+        ensures posted { OnOk result (((R.flight ring.new).rx ≡ R.size ring.new) × ((R.flight ring.new).event ≡ R.size ring.new)) }
 
         ensures same_size { R.size ring.new ≡ R.size ring.old }
         ensures same_flight { OnErr result (R.flight ring.new ≡ R.flight ring.old) }
