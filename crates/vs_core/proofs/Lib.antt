@@ -33,3 +33,4 @@ pub mod WorldRuns
 pub mod DeviceFailures
 pub mod DeviceTaken
 pub mod DeviceRings
+pub mod DriverTable

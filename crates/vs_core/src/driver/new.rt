@@ -1,6 +1,6 @@
 //! Making a driver: its memory first, then all receive and event pages are posted (Virtio 1.2, section 5.10.6).
 
-ghost use Rattle.std.specs.Prelude.{◌≡◌, ◌≢◌, ◌+◌, ◌≤◌, [], if◌then◌else◌, length, vec_capacity, Option, IfOk, OnErr};
+ghost use Rattle.std.specs.Prelude.{◌≡◌, ◌≢◌, ◌+◌, ◌≤◌, [], if◌then◌else◌, length, vec_capacity, Option, IfOk, OnOk, OnErr};
 ghost use Rattle.std.specs.List.{All};
 ghost use Rattle.vs_ring_list.specs.Rings.{Rings, flight_at, same_queue};
 ghost use Rattle.vs_core.specs.Interaction.{Leads};
@@ -33,6 +33,7 @@ impl Driver {
         ensures ring { IfOk result (λ driver. IsRingOf (R.size ring.new) (R.flight ring.new) driver) }
         ensures calls { IfOk result (λ driver. Leads RingAllows (new_of (R.size ring.old) first_guest_port 1) (R.lists ring.old) driver (R.lists ring.new)) }
         ensures part { IfOk result (λ driver. driver ≡ new_guest (R.size ring.old) first_guest_port 1 driver.cid) }
+        ensures posted { OnOk result (((R.flight ring.new).rx ≡ R.size ring.new) × ((R.flight ring.new).event ≡ R.size ring.new)) }
 
         ensures same_size { R.size ring.new ≡ R.size ring.old }
         ensures same_flight { OnErr result (R.flight ring.new ≡ R.flight ring.old) }
@@ -45,7 +46,12 @@ impl Driver {
     /// connection numbers from `id` on, which is at least 1.
     ///
     /// The only error is want of memory. Then the ring is as it was.
-    pub fn new_at<R: DriverRing>(alloc: Global, ring: &mut R, port: u32, id: u32) -> Result<Driver, AllocError>
+    pub fn new_at<R: DriverRing>(
+        alloc: Global,
+        ring: &mut R,
+        port: u32,
+        id: u32,
+    ) -> Result<Driver, AllocError>
         requires unused { ((R.flight ring.old).rx ≡ 0) × ((R.flight ring.old).tx ≡ 0) × ((R.flight ring.old).event ≡ 0) }
         requires port { (first_guest_port ≤ port) × (port ≤ last_guest_port) }
         requires id { 1 ≤ id }
@@ -53,6 +59,7 @@ impl Driver {
         ensures ring { IfOk result (λ driver. IsRingOf (R.size ring.new) (R.flight ring.new) driver) }
         ensures calls { IfOk result (λ driver. Leads RingAllows (new_of (R.size ring.old) port id) (R.lists ring.old) driver (R.lists ring.new)) }
         ensures part { IfOk result (λ driver. driver ≡ new_guest (R.size ring.old) port id driver.cid) }
+        ensures posted { OnOk result (((R.flight ring.new).rx ≡ R.size ring.new) × ((R.flight ring.new).event ≡ R.size ring.new)) }
 
         ensures same_size { R.size ring.new ≡ R.size ring.old }
         ensures same_flight { OnErr result (R.flight ring.new ≡ R.flight ring.old) }

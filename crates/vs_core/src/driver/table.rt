@@ -1,11 +1,13 @@
 //! What the driver tells of its connections.
 
-ghost use Rattle.std.specs.Prelude.{◌≡◌, length, not, filter, option_map, slice_get};
+ghost use Rattle.std.specs.Prelude.{◌≡◌, ◌<◌, ◌^◌, length};
+ghost use Rattle.std.specs.Iterator.{YieldsFirst, item_count};
 ghost use Rattle.vs_core.specs.Driver.{state_of, flow_of, guest_table};
 
 use crate::driver::slot::Slot;
 use crate::driver::{ConnId, ConnectionState, Driver};
 use crate::flow::Flow;
+use std::marker::Model;
 use vs_conn::State;
 
 impl Driver {
@@ -34,36 +36,47 @@ impl Driver {
         self.broken
     }
 
-    /// How many connections aren't over: the entries of the driver's table.
-    pub fn open_count(&self) -> usize
-        ensures { result ≡ length (guest_table self.now) }
+    /// The entries of the driver's table, each its flow and the state of its end: the connections that aren't over, in the order
+    /// of their opening.
+    pub fn table(&self) -> Entries<'_>
+        ensures entries { result ≡ guest_table self.now }
+        ensures countable { length result < 2 ^ 64 }
     {
-        count_open(&self.slots)
-    }
-
-    /// The entry at a place of the driver's table, its flow and the state of its end: the connections that aren't over, in
-    /// the order of their opening. `None` comes exactly where the table has no such place.
-    pub fn entry(&self, place: usize) -> Option<(Flow, State)>
-        ensures { result ≡ slice_get (guest_table self.now) place }
-    {
-        entry_at(&self.slots, place)
+        Entries { slots: &self.slots }
     }
 }
 
-// How many slots have a connection that isn't over.
-fn count_open(slots: &[Slot]) -> usize
-    ensures { result ≡ length (filter (λ s. not s.gone) slots.now) }
-{
-    slots.iter().filter(|slot| !slot.is_gone()).count()
+/// The entries of a driver's table, each its flow and the state of its end: the connections that aren't over, in the order of
+/// their opening. It is seen as the list of those that are left.
+#[derive(Drop)]
+pub struct Entries<'a> {
+    slots: &'a [Slot],
 }
 
-// The entry at a place among the slots whose connection isn't over.
-fn entry_at(slots: &[Slot], place: usize) -> Option<(Flow, State)>
-    ensures { result ≡ option_map (λ s. (s.flow, s.end.state)) (slice_get (filter (λ s. not s.gone) slots.now) place) }
-{
-    slots
-        .iter()
-        .filter(|slot| !slot.is_gone())
-        .nth(place)
-        .map(|slot| (slot.flow(), slot.end_state()))
+impl<'a> Model for Entries<'a> {
+    ghost use Rattle.std.specs.Prelude.{List, map, filter, not};
+    ghost use Rattle.vs_conn.specs.declared.end.State.{State};
+    ghost use Rattle.vs_core.specs.declared.flow.Flow.{Flow};
+
+    ghost Value = { List (Flow × State) };
+
+    ghost view = { λ e. map (λ s. (s.flow, s.end.state)) (filter (λ s. not s.gone) e.slots.now) };
+}
+
+impl<'a> Iterator for Entries<'a> {
+    type Item = (Flow, State);
+
+    ghost next_gives = { YieldsFirst (λ left. left) };
+
+    ghost remaining = { item_count (λ left. left) };
+
+    fn next(&mut self) -> Option<(Flow, State)> {
+        while let Some((slot, rest)) = self.slots.split_first() {
+            self.slots = rest;
+            if !slot.is_gone() {
+                return Some((slot.flow(), slot.end_state()));
+            }
+        }
+        None
+    }
 }

@@ -1,6 +1,5 @@
-use Rattle.std.proofs.Common.{◌≡◌, ℕ, suc, ◌+◌, ◌∷◌, [], ◌++◌, length, ap, ◌∙◌, arith, rules, length-append}
+use Rattle.std.proofs.Common.{◌≡◌, suc, ◌∷◌, [], ◌++◌, length, ◌∙◌, arith, rules, length-append}
 use Rattle.std.proofs.lemmas.List.Elements.{All-pop}
-use Rattle.std.specs.List.{All}
 use Rattle.std.proofs.Common.{Some}
 use Rattle.vs_core.proofs.DriverNew.{posted_next, flight_next}
 use Rattle.vs_core.proofs.driver.new.post_all.Goals as goal

@@ -1,4 +1,4 @@
-use Rattle.std.proofs.Common.{◌≡◌, ℕ, ◌+◌, ◌≤◌, [], if◌then◌else◌, length, vec_len, Option}
+use Rattle.std.proofs.Common.{◌≡◌, ◌+◌, ◌≤◌, [], if◌then◌else◌, length, vec_len, Option}
 use Rattle.std.specs.List.{All}
 use Rattle.vs_ring_list.specs.declared.ring_port.Queue.{Queue as QueueName}
 use Rattle.vs_ring_list.specs.Rings.{Rings, flight_at, same_queue}
