@@ -9,7 +9,13 @@ pub mod Interaction
 pub mod Reply
 pub mod Guest
 pub mod Driver
+pub mod DriverWords
+pub mod DriverFields
 pub mod Device
 pub mod DeviceCalls
+pub mod DeviceEntries
+pub mod DeviceInside
+pub mod DeviceWords
 pub mod Told
 pub mod World
+pub mod Laws

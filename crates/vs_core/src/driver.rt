@@ -1,5 +1,19 @@
 //! The guest's driver of a socket device: it opens connections, sends and receives on them (Virtio 1.2, section 5.10.6).
 
+use crate::reply::Reply;
+use circular_buffer::HeapCircularBuffer;
+use slot::Slot;
+use std::marker::Model;
+use vs_ring_list::Page;
+
+mod connect;
+mod new;
+mod pages;
+mod places;
+mod send;
+mod slot;
+mod table;
+
 /// Number of a connection, from 1 on. None is given twice.
 pub type ConnId = u32;
 
@@ -96,4 +110,44 @@ pub struct Polled {
     pub took: u32,
     /// Packets posted to the transmit queue.
     pub posted: u32,
+}
+
+/// The guest's driver. The ring is lent to each call that needs it, and must be the one that the driver was made with.
+#[derive(Drop)]
+pub struct Driver {
+    cid: u64,
+    size: u16,
+    next_port: u32,
+    next_id: u64,
+    last_port: u32,
+    last_id: u32,
+    slots: Vec<Slot>,
+    buffers: Vec<HeapCircularBuffer<u8>>,
+    replies: HeapCircularBuffer<Reply>,
+    broken: u64,
+    free: Vec<Page>,
+}
+
+impl Model for Driver {
+    ghost use Rattle.std.specs.Prelude.{◌-◌, length};
+    ghost use Rattle.vs_core.specs.Guest.{GuestPart};
+
+    ghost Value = { GuestPart };
+
+    ghost view = { λ d. record {
+        cid = d.cid;
+        next_port = d.next_port;
+        next_id = d.next_id;
+        last_port = d.last_port;
+        last_id = d.last_id;
+        slots = d.slots.items;
+        replies = d.replies.items;
+        broken = d.broken;
+        size = d.size;
+        in_flight = d.size - length d.free.items;
+    } };
+
+    ghost use Rattle.vs_core.specs.DriverFields.{AreKept};
+
+    ghost invariant = { AreKept };
 }

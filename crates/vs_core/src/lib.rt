@@ -4,15 +4,17 @@
 mod device;
 mod driver;
 mod flow;
+mod laws;
 mod mem_host;
 mod mem_io;
 mod outside;
 mod path;
 mod reply;
 
-pub use device::{Counters, Filled, Taken, Turn, Turned};
-pub use driver::{ConnId, ConnectError, ConnectionState, Polled, Received, Sent};
+pub use device::{Counters, Device, Filled, Taken, Turn, Turned};
+pub use driver::{ConnId, ConnectError, ConnectionState, Driver, Polled, Received, Sent};
 pub use flow::{ASSIGNED_FIRST, ASSIGNED_LAST, Flow, is_assigned};
+pub use laws::{laws_of_the_queues, laws_of_the_streams};
 pub use mem_host::{MemHost, MemStream};
 pub use mem_io::{FreeGate, MemSink, MemSource, StepClock};
 pub use outside::{Clock, Dialed, Gate, HostNet, Sink, SinkWrite, Source, SourceRead, Written};

@@ -1,0 +1,14 @@
+use Rattle.std.proofs.Common.{◌<◌, length, ap, rules}
+use Rattle.vs_core.specs.Guest.{GuestSlot, slot_sent}
+use Rattle.vs_core.proofs.Fields.{kept_with_slot, view_with_slot}
+use Rattle.vs_core.proofs.driver.Driver.count_sent.Goals as goal
+
+pub invariant_of-self : goal.invariant_of-self
+invariant_of-self c =
+    let within : c.args.place < length c.self.inside.slots.items = search rules in
+    kept_with_slot c.self.inside c.args.place c.index_mut-slot.result.now c.sent.new.self c.self.invariant within c.index_mut-slot.ensures.value (ap (λ (s : GuestSlot). s.id) c.sent.ensures)
+
+pub returns-clause-part : goal.returns-clause-part
+returns-clause-part c = λ d.
+    let within : c.args.place < length c.self.inside.slots.items = search rules in
+    rw (← c.self.view_is) (view_with_slot c.self.inside c.args.place c.index_mut-slot.result.now c.sent.new.self d (slot_sent c.args.n) c.self.invariant within c.index_mut-slot.ensures.value c.sent.ensures)
