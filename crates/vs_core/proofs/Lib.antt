@@ -6,3 +6,4 @@ pub mod Connects
 pub mod Sends
 pub mod Ends
 pub mod SendEnds
+pub mod Receives
