@@ -7,3 +7,4 @@ pub mod Sends
 pub mod Ends
 pub mod SendEnds
 pub mod Receives
+pub mod Packets
