@@ -1,10 +1,12 @@
 //! Packets that the driver takes from the device (Virtio 1.2, sections 5.10.6.4 to 5.10.6.6).
 
-ghost use Rattle.std.specs.Prelude.{◌≡◌, ◌<◌, ◌≤◌, length};
+ghost use Rattle.std.specs.Prelude.{◌≡◌, ◌<◌, ◌≤◌, length, take, drop, is_some, IfSome};
 ghost use Rattle.std.specs.List.{HoldsAt};
+ghost use Rattle.vs_header.specs.Packet.{header_of};
 ghost use Rattle.vs_conn.specs.End.{verdict_of};
+ghost use Rattle.vs_core.specs.Profile.{header_size};
 ghost use Rattle.vs_core.specs.Lists.{update_first};
-ghost use Rattle.vs_core.specs.Guest.{has_id, slot_after, broken_after, on_known, on_unknown, received};
+ghost use Rattle.vs_core.specs.Guest.{has_id, slot_after, broken_after, on_known, on_unknown, is_whole, received};
 
 use crate::driver::Driver;
 use crate::flow::Flow;
@@ -20,20 +22,15 @@ impl Driver {
         requires { length self.old.replies < 64 }
         ensures { self.new ≡ received page.now self.old }
     {
-        let Some(header) = packet_in(page) else {
+        let Some((header, payload)) = whole_packet(page) else {
             return;
         };
-        let rest = &page.bytes()[HEADER_LEN..];
-        let len = header.len as usize;
-        if header.op == Op::Rw.number() && rest.len() < len {
-            return;
-        }
         let flow = Flow {
             guest: header.dst_port,
             host: header.src_port,
         };
         match self.place_on(flow) {
-            Some(place) => self.on_known(place, &header, &rest[..len.min(rest.len())]),
+            Some(place) => self.on_known(place, &header, payload),
             None => self.on_unknown(&header),
         }
     }
@@ -78,4 +75,19 @@ impl Driver {
             self.replies.push_back(Reply::to(header));
         }
     }
+}
+
+// The header and the payload that a page holds; `None` exactly where it is too short for them.
+fn whole_packet(page: &Page) -> Option<(Header, &[u8])>
+    ensures whole { is_some result ≡ is_whole page.now }
+    ensures header { IfSome result (λ packet. packet.0 ≡ header_of page.now) }
+    ensures payload { IfSome result (λ packet. packet.1.now ≡ take (header_of page.now).len (drop header_size page.now)) }
+{
+    let header = packet_in(page)?;
+    let rest = &page.bytes()[HEADER_LEN..];
+    let len = header.len as usize;
+    if header.op == Op::Rw.number() && rest.len() < len {
+        return None;
+    }
+    Some((header, &rest[..len.min(rest.len())]))
 }
