@@ -8,3 +8,4 @@ pub mod Ends
 pub mod SendEnds
 pub mod Receives
 pub mod Packets
+pub mod Polls

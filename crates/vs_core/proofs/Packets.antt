@@ -1,6 +1,6 @@
 -- What a page of the receive queue comes to.
 use Rattle.std.proofs.Common.{◌≡◌, ℕ, zero, suc, ◌+◌, ◌-◌, ◌*◌, ◌<◌, ◌≤◌, ◌≢◌, ◌==◌, Bool, true, false, not, min, length-drop, List, [], ◌∷◌, ◌++◌, length, get_or, take, drop, refl, sym, ap, ◌∙◌, subst, arith}
-use Rattle.std.specs.Prelude.{◌&&◌, nat_lt, find, Option, Some}
+use Rattle.std.specs.Prelude.{◌&&◌, nat_lt, find, if◌then◌else◌, Option, Some, None}
 use Rattle.std.proofs.lemmas.Bool.Decides.{nat_tests}
 use Rattle.std.proofs.lemmas.List.{get_or-drop, get_or-take, take_min}
 use Rattle.std.proofs.Math.Seq.{take-length}
@@ -8,6 +8,7 @@ use Rattle.vs_header.specs.declared.Header.{Header}
 use Rattle.vs_header.specs.Packet.{field_at, header_of}
 use Rattle.vs_conn.specs.declared.end.Verdict.{Verdict}
 use Rattle.vs_conn.specs.declared.end.Verdict.TheVariants as verdict
+use Rattle.vs_core.specs.Reply.{reply_to}
 use Rattle.vs_core.specs.Guest.{GuestPart, GuestSlot, has_flow, flow_to_guest, slot_after, on_known, on_flow, is_whole, received}
 
 pub slot_after-id : (v : Verdict) (h : Header) (payload : List ℕ) (s : GuestSlot) → (slot_after v h payload s).id ≡ s.id
@@ -109,3 +110,20 @@ received_known page payload h s g k whole is rest found after =
     let bytes : taken h payload g ≡ taken h (take (header_of page).len (drop 44 page)) g = ap (λ (xs : List ℕ). taken h xs g) rest in
     let header : taken h (take (header_of page).len (drop 44 page)) g ≡ taken (header_of page) (take (header_of page).len (drop 44 page)) g = ap (λ (x : Header). taken x (take (header_of page).len (drop 44 page)) g) is in
     after ∙ (sym here ∙ (bytes ∙ (header ∙ sym whole_page)))
+
+-- a packet that is taken changes nothing of the transmit pages
+abbrev pub KeepsPages : GuestPart → GuestPart → Type 0
+KeepsPages g h = (h.size ≡ g.size) × (h.in_flight ≡ g.in_flight)
+
+on_flow_keeps : (h : Header) (payload : List ℕ) (o : Option GuestSlot) (g : GuestPart) → KeepsPages g (on_flow h payload o g)
+on_flow_keeps h payload (Some s) g = (refl, refl)
+on_flow_keeps h payload None g =
+    elim (h.op == 3) as (λ (b : Bool). KeepsPages g (if b then g else record g { replies = g.replies ++ reply_to h ∷ [] })) [ true ↦ (refl, refl) | false ↦ (refl, refl) ]
+
+pub received_keeps : (page : List ℕ) (g : GuestPart) → KeepsPages g (received page g)
+received_keeps page g =
+    let next : GuestPart = on_flow (header_of page) (take (header_of page).len (drop 44 page)) (find (has_flow (flow_to_guest (header_of page))) g.slots) g in
+    elim (is_whole page) as (λ (b : Bool). KeepsPages g (if b then next else g)) [
+      | true ↦ on_flow_keeps (header_of page) (take (header_of page).len (drop 44 page)) (find (has_flow (flow_to_guest (header_of page))) g.slots) g
+      | false ↦ (refl, refl)
+    ]

@@ -9,6 +9,7 @@ use vs_ring_list::Page;
 mod connect;
 mod pages;
 mod places;
+mod poll;
 mod receive;
 mod recv;
 mod send;
