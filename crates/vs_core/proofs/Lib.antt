@@ -9,3 +9,4 @@ pub mod SendEnds
 pub mod Receives
 pub mod Packets
 pub mod Polls
+pub mod Payments

@@ -14,4 +14,5 @@ pub mod DriverFields
 pub mod Device
 pub mod DeviceCalls
 pub mod Told
+pub mod DriverPays
 pub mod World

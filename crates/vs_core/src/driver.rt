@@ -8,6 +8,7 @@ use vs_ring_list::Page;
 
 mod connect;
 mod pages;
+mod pay;
 mod places;
 mod poll;
 mod receive;
