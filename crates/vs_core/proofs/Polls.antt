@@ -4,9 +4,10 @@ use Rattle.std.specs.Prelude.{nat_le}
 use Rattle.std.proofs.lemmas.Bool.Decides.{nat_tests}
 use Rattle.vs_ring_list.specs.Rings.{Rings}
 use Rattle.vs_ring_list.specs.declared.ring_port.Queue.TheVariants as queue
+use Rattle.vs_core.specs.declared.driver.Polled.{Polled}
 use Rattle.vs_core.specs.Interaction.{Tree, Done, Ask, bind, Leads}
 use Rattle.vs_core.specs.Guest.{GuestPart, received}
-use Rattle.vs_core.specs.Driver.{RingCall, RingAnswer, Post, Reap, GuestTree, take_rx_of, take_rx_up_to, reply_of, reply_up_to}
+use Rattle.vs_core.specs.Driver.{RingCall, RingAnswer, Post, Reap, GuestTree, take_rx_of, take_rx_up_to, reap_all, reply_of, reply_up_to, pay_each, poll_of}
 use Rattle.vs_core.specs.Told.{RingAllows}
 use Rattle.vs_core.proofs.Leads.{leads_of, leads_done, leads_ask, leads_bind}
 
@@ -41,3 +42,18 @@ module _ (n k count : ℕ) (g h : GuestPart) (r s : Option Rings) (left : k < n)
 
   pub reply_stop : Leads RingAllows (reply_of g) r (h, false) s → Leads RingAllows (reply_up_to (n - k) count g) r (h, count) s
   reply_stop one = leads_of RingAllows _ _ r s (h, count) reply_next (leads_bind RingAllows (reply_of g) _ r s s (h, false) (h, count) one (leads_done RingAllows (h, count) s))
+
+-- the four stages of a poll
+pub polls : (g a b d e : GuestPart) (took replied posted : ℕ) (r s t u v : Option Rings)
+    → Leads RingAllows (take_rx_up_to g.size 0 g) r (a, took) s
+    → Leads RingAllows (reap_all a) s b t
+    → Leads RingAllows (reply_up_to (length b.replies) 0 b) t (d, replied) u
+    → Leads RingAllows (pay_each [] d.slots replied d) u (e, posted) v
+    → Leads RingAllows (poll_of g) r (e, record { took = took; posted = posted }) v
+polls g a b d e took replied posted r s t u v takes reaps replies pays =
+    let x : GuestPart × Polled = (e, record { took = took; posted = posted }) in
+    leads_bind RingAllows (take_rx_up_to g.size 0 g) _ r s v (a, took) x takes
+    (leads_bind RingAllows (reap_all a) _ s t v b x reaps
+    (leads_bind RingAllows (reply_up_to (length b.replies) 0 b) _ t u v (d, replied) x replies
+    (leads_bind RingAllows (pay_each [] d.slots replied d) _ u v v (e, posted) x pays
+    (leads_done RingAllows x v))))

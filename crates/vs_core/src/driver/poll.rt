@@ -1,11 +1,10 @@
 //! What the driver does when it is polled: it takes packets, and puts what it owes (Virtio 1.2, section 5.10.6).
 
-ghost use Rattle.std.specs.Prelude.{◌≡◌, ◌<◌, ◌≤◌, ◌+◌, [], length, is_some, unwrap_or, slice_set, slice_index_or};
-ghost use Rattle.std.specs.List.{HoldsAt};
+ghost use Rattle.std.specs.Prelude.{◌≡◌, ◌<◌, ◌≤◌, [], length};
 ghost use Rattle.vs_ring_list.specs.Rings.{one_more};
 ghost use Rattle.vs_core.specs.Interaction.{Leads};
 ghost use Rattle.vs_core.specs.Told.{RingAllows, IsRingOf};
-ghost use Rattle.vs_core.specs.Driver.{Post, take_rx_of, take_rx_up_to, reply_of, reply_up_to, pay_of, pay_each, poll_of};
+ghost use Rattle.vs_core.specs.Driver.{Post, take_rx_of, take_rx_up_to, reply_of, reply_up_to, poll_of};
 
 use crate::driver::slot::HOST_CID;
 use crate::driver::{Driver, Polled};
@@ -15,6 +14,21 @@ use vs_ring_list::{DriverRing, Page, Queue, Reaped};
 pub const REPLY_LIMIT: usize = 64;
 
 impl Driver {
+    /// Takes the packets of the receive queue, at most as many as it has pages and while fewer than 64 replies are owed;
+    /// takes back the transmit pages that the device returned; puts the replies that are owed, and then what each
+    /// connection owes, by rising slot, while pages are free.
+    pub fn poll<R: DriverRing>(&mut self, ring: &mut R) -> Polled
+        requires ring { IsRingOf (R.size ring.old) (R.flight ring.old) self.old }
+        ensures ring { IsRingOf (R.size ring.new) (R.flight ring.new) self.new }
+        ensures calls { Leads RingAllows (poll_of self.old) (R.lists ring.old) (self.new, result) (R.lists ring.new) }
+    {
+        let took = self.take_all(ring);
+        self.reap_all(ring);
+        let replied = self.reply_all(ring);
+        let posted = self.pay_all(ring, replied);
+        Polled { took, posted }
+    }
+
     // Takes packets of the receive queue, and says how many.
     fn take_all<R: DriverRing>(&mut self, ring: &mut R) -> u32
         requires ring { IsRingOf (R.size ring.old) (R.flight ring.old) self.old }
