@@ -34,3 +34,7 @@ pub mod DeviceFailures
 pub mod DeviceTaken
 pub mod DeviceRings
 pub mod DriverTable
+pub mod Receives
+pub mod Packets
+pub mod Polls
+pub mod Payments

@@ -17,5 +17,6 @@ pub mod DeviceEntries
 pub mod DeviceInside
 pub mod DeviceWords
 pub mod Told
+pub mod DriverPays
 pub mod World
 pub mod Laws
