@@ -4,3 +4,4 @@ pub mod DeviceBytes
 pub mod DeviceTable
 pub mod DeviceHosts
 pub mod DevicePumps
+pub mod DeviceReceive
