@@ -17,10 +17,10 @@ use Rattle.vs_core.specs.declared.reply.Reply.{Reply}
 use Rattle.vs_core.specs.Interaction.{Ask, Done, Leads}
 use Rattle.vs_core.specs.Outside.{Host}
 use Rattle.vs_core.specs.Reply.{reply_header}
-use Rattle.vs_core.specs.Device.{DevicePart}
+use Rattle.vs_core.specs.Device.{DeviceEntry, DevicePart}
 use Rattle.vs_core.specs.DeviceCalls.{Return, Take, Write, put_of, answer_of, answer_with, answer_up_to}
 use Rattle.vs_core.specs.Told.{Situation, DeviceAllows}
-use Rattle.vs_core.specs.DeviceWords.{situation}
+use Rattle.vs_core.specs.DeviceWords.{situation, with_table}
 use Rattle.vs_core.proofs.Leads.{leads_of, leads_to, leads_bind}
 
 same_queue-refl : (q : Queue) → same_queue q q ≡ true
@@ -81,18 +81,25 @@ pub first_and_rest : {X : Type 0} (xs : List X) (x : X) → 0 < length xs → x 
 first_and_rest [] x lt at = absurd (omega (arith, lt))
 first_and_rest (y ∷ ys) x lt at = ap (λ z. z ∷ ys) (sym at)
 
-module _ (d p : DevicePart) (r : Reply) (rs : List Reply) (h : Header) (s t : Situation) (owed : d.replies ≡ r ∷ rs) (same : h ≡ reply_header 2 d.cid r) where
+-- the part with its own table
+own_table : (d p : DevicePart) → p ≡ record d { failed = p.failed } → with_table d.entries p ≡ p
+own_table d p same = ap (λ (es : List DeviceEntry). with_table es p) (sym (ap (λ (x : DevicePart). x.entries) same))
+
+own_put : (d p : DevicePart) (h : Header) (b : Bool) (s t : Situation) → p ≡ record d { failed = p.failed } → Leads DeviceAllows (put_of h d) s (with_table d.entries p, b) t → Leads DeviceAllows (put_of h d) s (p, b) t
+own_put d p h b s t same one = let P : DevicePart → Type 0 = λ x. Leads DeviceAllows (put_of h d) s (x, b) t in subst P (own_table d p same) one
+
+module _ (d p : DevicePart) (r : Reply) (rs : List Reply) (h : Header) (s t : Situation) (owed : d.replies ≡ r ∷ rs) (same : h ≡ reply_header 2 d.cid r) (rest : p ≡ record d { failed = p.failed }) where
   -- the oldest reply was put
-  pub leads_answered : Leads DeviceAllows (put_of h d) s (p, true) t → Leads DeviceAllows (answer_of d) s (record p { replies = rs }, true) t
+  pub leads_answered : Leads DeviceAllows (put_of h d) s (with_table d.entries p, true) t → Leads DeviceAllows (answer_of d) s (record p { replies = rs }, true) t
   leads_answered one =
       leads_of DeviceAllows _ _ s t _ (ap (λ (xs : List Reply). answer_with xs d) owed)
-      (leads_bind DeviceAllows (put_of (reply_header 2 d.cid r) d) _ s t t (p, true) _ (subst (λ (x : Header). Leads DeviceAllows (put_of x d) s (p, true) t) same one) (refl, refl))
+      (leads_bind DeviceAllows (put_of (reply_header 2 d.cid r) d) _ s t t (p, true) _ (subst (λ (x : Header). Leads DeviceAllows (put_of x d) s (p, true) t) same (own_put d p h true s t rest one)) (refl, refl))
 
   -- it was not
-  pub leads_unanswered : Leads DeviceAllows (put_of h d) s (p, false) t → Leads DeviceAllows (answer_of d) s (p, false) t
+  pub leads_unanswered : Leads DeviceAllows (put_of h d) s (with_table d.entries p, false) t → Leads DeviceAllows (answer_of d) s (p, false) t
   leads_unanswered one =
       leads_of DeviceAllows _ _ s t _ (ap (λ (xs : List Reply). answer_with xs d) owed)
-      (leads_bind DeviceAllows (put_of (reply_header 2 d.cid r) d) _ s t t (p, false) _ (subst (λ (x : Header). Leads DeviceAllows (put_of x d) s (p, false) t) same one) (refl, refl))
+      (leads_bind DeviceAllows (put_of (reply_header 2 d.cid r) d) _ s t t (p, false) _ (subst (λ (x : Header). Leads DeviceAllows (put_of x d) s (p, false) t) same (own_put d p h false s t rest one)) (refl, refl))
 
 -- one reply, and then the others
 pub answer_up_to-step : (n put : ℕ) (d p : DevicePart) (s m t : Situation) (end : DevicePart × ℕ) → put < n → Leads DeviceAllows (answer_of d) s (p, true) m → Leads DeviceAllows (answer_up_to (n - (put + 1)) (put + 1) p) m end t → Leads DeviceAllows (answer_up_to (n - put) put d) s end t

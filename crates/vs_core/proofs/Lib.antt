@@ -5,3 +5,5 @@ pub mod DeviceTable
 pub mod DeviceHosts
 pub mod DevicePumps
 pub mod DeviceReceive
+pub mod DeviceReceiveRuns
+pub mod DeviceReceiveRounds

@@ -14,5 +14,6 @@ pub mod DeviceCalls
 pub mod DeviceEntries
 pub mod DeviceInside
 pub mod DeviceWords
+pub mod DeviceReceive
 pub mod Told
 pub mod World

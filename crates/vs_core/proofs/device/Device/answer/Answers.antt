@@ -1,5 +1,5 @@
 -- The oldest reply is put, and leaves the queue.
-use Rattle.std.proofs.Common.{◌≡◌, ◌<◌, ◌∷◌, true, refl, List, length, drop, ap, arith, sym, ◌∙◌, subst}
+use Rattle.std.proofs.Common.{◌≡◌, ◌<◌, ◌∷◌, Bool, true, false, refl, List, length, drop, ap, arith, sym, ◌∙◌, subst}
 use Rattle.vs_core.specs.Device.{DevicePart}
 use Rattle.vs_core.specs.declared.reply.Reply.{Reply}
 use Rattle.vs_core.specs.Reply.{reply_header}
@@ -24,7 +24,7 @@ same g c = c.header-header.ensures ∙ ap (λ (d : DevicePart). reply_header 2 d
 pub returns-then-not-put-clause-calls : goal.returns-then-not-put-clause-calls
 returns-then-not-put-clause-calls g c = λ told faults.
     let put = (goal.at.returns-then-not-put-clause-calls g c).After-put in
-    leads_unanswered c.args.self.now c.put.new.self c.in-Some.reply.now _ c.header-header.result _ _ (owed g put) (same g put) (c.if-not-put.ensures.calls told faults)
+    leads_unanswered c.args.self.now c.put.new.self c.in-Some.reply.now _ c.header-header.result _ _ (owed g put) (same g put) c.if-not-put.ensures.same (c.if-not-put.ensures.calls c.args.self.now.entries told faults)
 
 pub returns-clause-calls : goal.returns-clause-calls
 returns-clause-calls g c = λ told faults.
@@ -34,4 +34,4 @@ returns-clause-calls g c = λ told faults.
     let end : record c.put.new.self { replies = drop 1 c.self.inside.replies.items } ≡ _ =
         ap (λ (rs : List Reply). record c.put.new.self { replies = rs }) (sym rest) ∙ ap (λ (d : DevicePart). record d { replies = c.pop_front.new.self.items }) (sym c.self-2.view_is) in
     leads_to DeviceAllows _ _ _ _ _ (ap (λ (d : DevicePart). (d, true)) end)
-    (leads_answered c.args.self.now c.put.new.self c.in-Some.reply.now (drop 1 c.self.inside.replies.items) c.header-header.result _ _ (owed g put) (same g put) (c.if-not-put.ensures.calls told faults))
+    (leads_answered c.args.self.now c.put.new.self c.in-Some.reply.now (drop 1 c.self.inside.replies.items) c.header-header.result _ _ (owed g put) (same g put) c.if-not-put.ensures.same (c.if-not-put.ensures.calls c.args.self.now.entries told faults))
