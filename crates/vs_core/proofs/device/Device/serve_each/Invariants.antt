@@ -11,7 +11,7 @@ use Rattle.vs_core.proofs.device.Device.serve_each.Given as goal
 abbrev pub invariant-loop : goal.invariant-loop
 invariant-loop g l = record {
   goes_on : (table : List DeviceEntry) → (before : List DeviceEntry)
-      × (l.first + length before ≡ l.first + l.kept)
+      × (length before ≡ l.kept)
       × (l.self.entries ≡ with_run l.first l.counter before l.fn.self.entries)
       × ((end : Served) (then : Situation)
           → Leads DeviceAllows (serve_each before (run_of l.counter l.end l.fn.self.entries) l.total (with_table table l.self)) (situation (g.R.DeviceRing.lists l.ring) (g.H.HostNet.told l.host) (g.H.HostNet.faults l.host)) end then
