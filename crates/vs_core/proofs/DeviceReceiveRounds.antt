@@ -1,15 +1,17 @@
 -- The round: the entries from a slot on stand behind those below it.
 use Rattle.std.specs.Prelude.{if◌then◌else◌, nat_le, nat_lt, filter}
-use Rattle.std.proofs.Common.{◌≡◌, ◌<◌, ◌≤◌, ℕ, suc, zero, ◌+◌, Bool, true, false, cond, not, ltb, leb, List, [], ◌∷◌, ◌++◌, length, take, drop, eqb, length-append, Option, Some, None, arith, refl, ap, sym, ◌∙◌, subst}
+use Rattle.std.proofs.Common.{◌≡◌, ◌<◌, ◌≤◌, ℕ, suc, zero, ◌+◌, Bool, true, false, cond, not, ltb, leb, List, [], ◌∷◌, ◌++◌, length, take, drop, eqb, length-append, Option, Some, None, Result, Ok, Err, arith, refl, ap, sym, ◌∙◌, subst}
 use Rattle.std.specs.List.{position, position_or_len, slice_get}
 use Rattle.std.proofs.lemmas.Option.{same_Some, none-some}
 use Rattle.vs_core.proofs.DeviceTable.{RisesWithin-length}
 use Rattle.std.specs.Option.{unwrap_or}
 use Rattle.std.proofs.lemmas.List.{append-nil, length-take, take_at, drop_at}
 use Rattle.std.proofs.lemmas.Bool.Decides.{nat_tests}
-use Rattle.vs_core.specs.Interaction.{Done, Leads}
+use Rattle.vs_ring_list.specs.declared.ring_port.Failure.{Failure}
+use Rattle.vs_core.specs.declared.device.Filled.{Filled}
+use Rattle.vs_core.specs.Interaction.{Done, Leads, bind}
 use Rattle.vs_core.specs.Device.{DeviceEntry, DevicePart}
-use Rattle.vs_core.specs.DeviceCalls.{DeviceTree, entries_from, entries_below, answer_up_to, serve_each, serve_round, fill_of}
+use Rattle.vs_core.specs.DeviceCalls.{DeviceTree, entries_from, entries_below, answer_up_to, serve_each, serve_round, fill_of, fill_rx_of}
 use Rattle.vs_core.specs.DeviceInside.{RisesWithin, slots_of}
 use Rattle.vs_core.specs.Told.{Situation, DeviceAllows}
 use Rattle.vs_core.specs.DeviceWords.{with_table}
@@ -51,7 +53,7 @@ from_all slot low high (x ∷ es) le h =
     let yes : leb slot x.slot ≡ true = grind (arith, nat_tests) in
     ap (λ (b : Bool). cond b (x ∷ entries_from slot es) (entries_from slot es)) yes ∙ ap (λ (ys : List DeviceEntry). x ∷ ys) (from_all slot (x.slot + 1) high es (omega (arith, at)) h.1)
 
-abbrev start_of : ℕ → List DeviceEntry → ℕ
+abbrev pub start_of : ℕ → List DeviceEntry → ℕ
 start_of slot es = position_or_len (λ (e : DeviceEntry). leb slot e.slot) es
 
 one_more_place : (n : ℕ) → 1 + n ≡ suc n
@@ -91,9 +93,9 @@ run_to_end es first = ap (λ (xs : List DeviceEntry). drop first xs) (ap (λ (xs
 none_behind : (es : List DeviceEntry) → drop (length es) es ≡ []
 none_behind es = ap (λ (xs : List DeviceEntry). drop (length es) xs) (sym (append-nil es)) ∙ drop_at es [] (length es) refl
 
-module _ (d p : DevicePart) (start put n : ℕ) (kept : List DeviceEntry) (rises : RisesWithin 0 d.next_slot (slots_of d.entries)) (place : start ≡ start_of d.round_start d.entries) (left : p.entries ≡ with_run start (length d.entries) kept d.entries) where
-  high_run : run_of start (length d.entries) d.entries ≡ entries_from d.round_start d.entries
-  high_run = run_to_end d.entries start ∙ (ap (λ (k : ℕ). drop k d.entries) place ∙ from_then d.round_start 0 d.next_slot d.entries rises)
+module _ (d p : DevicePart) (start end put n : ℕ) (kept : List DeviceEntry) (rises : RisesWithin 0 d.next_slot (slots_of d.entries)) (place : start ≡ start_of d.round_start d.entries) (whole : end ≡ length d.entries) (left : p.entries ≡ with_run start end kept d.entries) where
+  high_run : run_of start end d.entries ≡ entries_from d.round_start d.entries
+  high_run = ap (λ (k : ℕ). run_of start k d.entries) whole ∙ (run_to_end d.entries start ∙ (ap (λ (k : ℕ). drop k d.entries) place ∙ from_then d.round_start 0 d.next_slot d.entries rises))
 
   low_part : take start d.entries ≡ entries_below d.round_start d.entries
   low_part = ap (λ (k : ℕ). take k d.entries) place ∙ below_first d.round_start 0 d.next_slot d.entries rises
@@ -101,7 +103,7 @@ module _ (d p : DevicePart) (start put n : ℕ) (kept : List DeviceEntry) (rises
   -- the table after the first half of the round
   left_is : p.entries ≡ take start d.entries ++ kept
   left_is =
-      left ∙ (ap (λ (xs : List DeviceEntry). take start d.entries ++ kept ++ xs) (none_behind d.entries) ∙ append-nil (take start d.entries ++ kept))
+      left ∙ (ap (λ (k : ℕ). with_run start k kept d.entries) whole ∙ (ap (λ (xs : List DeviceEntry). take start d.entries ++ kept ++ xs) (none_behind d.entries) ∙ append-nil (take start d.entries ++ kept)))
 
   start_length : length (take start d.entries) ≡ start
   start_length = let le = start_within d.round_start d.entries in length-take start d.entries ∙ omega (arith, le, place)
@@ -110,17 +112,17 @@ module _ (d p : DevicePart) (start put n : ℕ) (kept : List DeviceEntry) (rises
   start_left = omega (arith, start_length, ap length left_is, length-append (take start d.entries) kept)
 
   -- a chain was missing in the first half
-  pub round-stop : (goes_on : Bool) (s t : Situation) → goes_on ≡ false → Leads DeviceAllows (serve_each [] (run_of start (length d.entries) d.entries) put d) s (served_to (with_table d.entries p) kept n goes_on) t → Leads DeviceAllows (serve_round put d) s (p, n) t
+  pub round-stop : (goes_on : Bool) (s t : Situation) → goes_on ≡ false → Leads DeviceAllows (serve_each [] (run_of start end d.entries) put d) s (served_to (with_table d.entries p) kept n goes_on) t → Leads DeviceAllows (serve_round put d) s (p, n) t
   round-stop goes_on s t stops high =
       let half : Leads DeviceAllows (serve_each [] (entries_from d.round_start d.entries) put d) s (served_to (with_table d.entries p) kept n false) t =
           subst (λ (b : Bool). Leads DeviceAllows (serve_each [] (entries_from d.round_start d.entries) put d) s (served_to (with_table d.entries p) kept n b) t) stops
           (subst (λ (es : List DeviceEntry). Leads DeviceAllows (serve_each [] es put d) s (served_to (with_table d.entries p) kept n goes_on) t) high_run high) in
-      let end : (with_table (entries_below d.round_start d.entries ++ kept) p, n) ≡ (p, n) =
+      let same : (with_table (entries_below d.round_start d.entries ++ kept) p, n) ≡ (p, n) =
           ap (λ (es : List DeviceEntry). (with_table es p, n)) (ap (λ (es : List DeviceEntry). es ++ kept) (sym low_part) ∙ sym left_is) in
-      leads_bind DeviceAllows (serve_each [] (entries_from d.round_start d.entries) put d) _ s t t (served_to (with_table d.entries p) kept n false) (p, n) half (end, refl)
+      leads_bind DeviceAllows (serve_each [] (entries_from d.round_start d.entries) put d) _ s t t (served_to (with_table d.entries p) kept n false) (p, n) half (same, refl)
 
   -- the whole round
-  pub round-whole : (q : DevicePart) (total : ℕ) (rest : List DeviceEntry) (goes_on last : Bool) (s m t : Situation) → goes_on ≡ true → q.entries ≡ with_run 0 start rest p.entries → Leads DeviceAllows (serve_each [] (run_of start (length d.entries) d.entries) put d) s (served_to (with_table d.entries p) kept n goes_on) m
+  pub round-whole : (q : DevicePart) (total : ℕ) (rest : List DeviceEntry) (goes_on last : Bool) (s m t : Situation) → goes_on ≡ true → q.entries ≡ with_run 0 start rest p.entries → Leads DeviceAllows (serve_each [] (run_of start end d.entries) put d) s (served_to (with_table d.entries p) kept n goes_on) m
       → Leads DeviceAllows (serve_each [] (run_of 0 start p.entries) n (with_table d.entries p)) m (served_to (with_table d.entries q) rest total last) t → Leads DeviceAllows (serve_round put d) s (q, total) t
   round-whole q total rest goes_on last s m t goes left_low high low =
       let half : Leads DeviceAllows (serve_each [] (entries_from d.round_start d.entries) put d) s (served_to (with_table d.entries p) kept n true) m =
@@ -131,9 +133,9 @@ module _ (d p : DevicePart) (start put n : ℕ) (kept : List DeviceEntry) (rises
       let other : Leads DeviceAllows (serve_each [] (entries_below d.round_start d.entries) n (with_table d.entries p)) m (served_to (with_table d.entries q) rest total last) t =
           subst (λ (es : List DeviceEntry). Leads DeviceAllows (serve_each [] es n (with_table d.entries p)) m (served_to (with_table d.entries q) rest total last) t) (front ∙ low_part) low in
       let table : rest ++ kept ≡ q.entries = ap (λ (es : List DeviceEntry). rest ++ es) (sym back) ∙ sym left_low in
-      let end : (with_table (rest ++ kept) q, total) ≡ (q, total) = ap (λ (es : List DeviceEntry). (with_table es q, total)) table in
+      let same : (with_table (rest ++ kept) q, total) ≡ (q, total) = ap (λ (es : List DeviceEntry). (with_table es q, total)) table in
       leads_bind DeviceAllows (serve_each [] (entries_from d.round_start d.entries) put d) _ s m t (served_to (with_table d.entries p) kept n true) (q, total) half
-      (leads_bind DeviceAllows (serve_each [] (entries_below d.round_start d.entries) n (with_table d.entries p)) _ m t t (served_to (with_table d.entries q) rest total last) (q, total) other (end, refl))
+      (leads_bind DeviceAllows (serve_each [] (entries_below d.round_start d.entries) n (with_table d.entries p)) _ m t t (served_to (with_table d.entries q) rest total last) (q, total) other (same, refl))
 
 -- the replies are owed still
 pub fill-stop : (d p : DevicePart) (put : ℕ) (s t : Situation) → eqb (length p.replies) 0 ≡ false → Leads DeviceAllows (answer_up_to (length d.replies) 0 d) s (p, put) t → Leads DeviceAllows (fill_of d) s (p, put) t
@@ -146,3 +148,13 @@ pub fill-round : (d p q : DevicePart) (put total : ℕ) (s m t : Situation) → 
 fill-round d p q put total s m t none one rest =
     leads_bind DeviceAllows (answer_up_to (length d.replies) 0 d) _ s m t (p, put) (q, total) one
     (leads_of {A = DevicePart × ℕ} DeviceAllows (serve_round put p) _ m t (q, total) (ap (λ (b : Bool). elim b as (λ x. DeviceTree (DevicePart × ℕ)) [ true ↦ serve_round put p | false ↦ Done (p, put) ]) none) rest)
+
+-- the ring works, and what is answered tells whether it does still
+pub fill_rx_works : (d p : DevicePart) (put : ℕ) (o : Option Failure) (answer : Result Filled Failure) (s t : Situation) → d.failed ≡ None → p.failed ≡ o → answer ≡ elim o as (λ x. Result Filled Failure) [ None ↦ Ok (record { put = put }) | Some f ↦ Err f ] → Leads DeviceAllows (fill_of d) s (p, put) t → Leads DeviceAllows (fill_rx_of d) s (p, answer) t
+fill_rx_works d p put o answer s t works told is one =
+    let rest : DeviceTree (DevicePart × Result Filled Failure) = bind (fill_of d) (λ r. Done (r.0, elim r.0.failed as (λ x. Result Filled Failure) [ None ↦ Ok (record { put = r.1 }) | Some f ↦ Err f ])) in
+    let end : (p, elim p.failed as (λ x. Result Filled Failure) [ None ↦ Ok (record { put = put }) | Some f ↦ Err f ]) ≡ (p, answer) =
+        ap (λ (x : Option Failure). (p, elim x as (λ y. Result Filled Failure) [ None ↦ Ok (record { put = put }) | Some f ↦ Err f ])) told ∙ ap (λ (x : Result Filled Failure). (p, x)) (sym is) in
+    leads_of {A = DevicePart × Result Filled Failure} DeviceAllows rest (fill_rx_of d) s t (p, answer)
+    (ap (λ (x : Option Failure). elim x as (λ y. DeviceTree (DevicePart × Result Filled Failure)) [ None ↦ rest | Some f ↦ Done (d, Err f) ]) works)
+    (leads_bind DeviceAllows (fill_of d) _ s t t (p, put) (p, answer) one (end, refl))

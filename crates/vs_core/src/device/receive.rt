@@ -1,5 +1,5 @@
 //! The device and the receive queue: owed replies are put, and then what the connections owe (Virtio 1.2, section 5.10.6).
-ghost use Rattle.std.specs.Prelude.{◌≡◌, ◌≤◌, ◌<◌, ◌+◌, true, ℕ, [], length, List, Option, None, Some, IfOk, slice_get, nat_le, position};
+ghost use Rattle.std.specs.Prelude.{◌≡◌, ◌≤◌, ◌<◌, ◌+◌, true, ℕ, [], length, List, Option, None, Some, Err, IfSome, IfOk, slice_get, nat_le, position};
 ghost use Rattle.std.specs.List.{position_or_len};
 ghost use Rattle.vs_ring_list.specs.Rings.{Rings};
 ghost use Rattle.vs_conn.specs.End.{owes_of};
@@ -13,7 +13,7 @@ ghost use Rattle.vs_core.specs.Told.{DeviceAllows, IsHostOf};
 ghost use Rattle.vs_core.specs.DeviceWords.{situation, with_table, IsIdle, OpensUpTo};
 ghost use Rattle.vs_core.specs.DeviceReceive.{run_of, with_run, served_to, with_served, with_filled};
 
-use crate::device::entry::{Entry, HOST_CID};
+use crate::device::entry::HOST_CID;
 use crate::device::{Device, Filled};
 use crate::outside::HostNet;
 use vs_conn::Owed;
@@ -48,6 +48,9 @@ impl Device {
             (situation (R.lists ring.new) (H.told host.new) (H.faults host.new)) }
         ensures host { IsHostOf (H.told host.new) self.new.entries }
         ensures idle { IsIdle self.new.failed (R.held ring.new) }
+        // A device that failed before answers that failure, and nothing changes.
+        ensures failed { IfSome self.old.failed (λ failure. (result ≡ Err failure) × (self.new ≡ self.old)
+            × (ring.new ≡ ring.old) × (host.new ≡ host.old)) }
         ensures few { IfOk result (λ filled. filled.put ≤ reply_limit + table_size) }
         ensures opens { OpensUpTo 0 self.old self.new }
     {
