@@ -1,6 +1,6 @@
 -- Packets that are put to the receive queue: one packet, and the owed replies.
 use Rattle.std.specs.Prelude.{if◌then◌else◌, ◌&&◌}
-use Rattle.std.proofs.Common.{◌≡◌, ◌<◌, ◌≤◌, ℕ, suc, zero, ◌+◌, ◌-◌, Bool, true, false, List, [], ◌∷◌, ◌++◌, length, take, drop, get_or, eqb, Option, Some, None, arith, refl, ap, sym, ◌∙◌, subst, length-append}
+use Rattle.std.proofs.Common.{◌≡◌, ◌<◌, ◌≤◌, ℕ, suc, ◌+◌, ◌-◌, Bool, true, false, List, [], ◌∷◌, ◌++◌, length, take, drop, get_or, eqb, Option, Some, None, arith, refl, ap, sym, ◌∙◌, subst, length-append}
 use Rattle.std.proofs.lemmas.Bool.{eq-eqb}
 use Rattle.std.proofs.lemmas.Option.{same_Some, none-some}
 use Rattle.vs_header.specs.declared.Header.{Header}
@@ -8,20 +8,19 @@ use Rattle.vs_header.specs.Packet.{header_bytes}
 use Rattle.vs_ring_list.specs.declared.ring_port.Chain.{Chain}
 use Rattle.vs_ring_list.specs.declared.ring_port.Queue.{Queue}
 use Rattle.vs_ring_list.specs.declared.ring_port.Queue.TheVariants as queue
-use Rattle.vs_ring_list.specs.declared.ring_port.Next.{Next}
 use Rattle.vs_ring_list.specs.declared.ring_port.Next.TheVariants as next
 use Rattle.vs_ring_list.specs.Page.{overwritten}
 use Rattle.vs_ring_list.specs.Rings.{Rings, Held, same_queue, same_chain, bytes_in, with_bytes, bytes_held, chain_at, chain_with, next_of, after_next, after_take, after_write, after_done}
 use Rattle.vs_ring_list.specs.Told.{Tells}
 use Rattle.vs_core.specs.declared.reply.Reply.{Reply}
-use Rattle.vs_core.specs.Interaction.{Ask, Done, Leads}
+use Rattle.vs_core.specs.Interaction.{Leads}
 use Rattle.vs_core.specs.Outside.{Host}
 use Rattle.vs_core.specs.Reply.{reply_header}
 use Rattle.vs_core.specs.Device.{DeviceEntry, DevicePart}
-use Rattle.vs_core.specs.DeviceCalls.{Return, Take, Write, put_of, answer_of, answer_with, answer_up_to}
+use Rattle.vs_core.specs.DeviceCalls.{put_of, answer_of, answer_with, answer_up_to}
 use Rattle.vs_core.specs.Told.{Situation, DeviceAllows}
 use Rattle.vs_core.specs.DeviceWords.{situation, with_table}
-use Rattle.vs_core.proofs.Leads.{leads_of, leads_to, leads_bind}
+use Rattle.vs_core.proofs.Leads.{leads_of, leads_bind}
 
 same_queue-refl : (q : Queue) → same_queue q q ≡ true
 same_queue-refl queue.Rx = refl

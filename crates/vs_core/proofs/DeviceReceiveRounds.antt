@@ -1,6 +1,5 @@
 -- The round: the entries from a slot on stand behind those below it.
-use Rattle.std.specs.Prelude.{if◌then◌else◌, nat_le, nat_lt, filter}
-use Rattle.std.proofs.Common.{◌≡◌, ◌<◌, ◌≤◌, ℕ, suc, zero, ◌+◌, Bool, true, false, cond, not, ltb, leb, List, [], ◌∷◌, ◌++◌, length, take, drop, eqb, length-append, Option, Some, None, Result, Ok, Err, arith, refl, ap, sym, ◌∙◌, subst}
+use Rattle.std.proofs.Common.{◌≡◌, ◌≤◌, ℕ, suc, zero, ◌+◌, Bool, true, false, cond, not, ltb, leb, List, [], ◌∷◌, ◌++◌, length, take, drop, eqb, length-append, Option, Some, None, Result, Ok, Err, arith, refl, ap, sym, ◌∙◌, subst}
 use Rattle.std.specs.List.{position, position_or_len, slice_get}
 use Rattle.std.proofs.lemmas.Option.{same_Some, none-some}
 use Rattle.vs_core.proofs.DeviceTable.{RisesWithin-length}
@@ -115,10 +114,10 @@ module _ (d p : DevicePart) (start end put n : ℕ) (kept : List DeviceEntry) (r
   pub round-stop : (goes_on : Bool) (s t : Situation) → goes_on ≡ false → Leads DeviceAllows (serve_each [] (run_of start end d.entries) put d) s (served_to (with_table d.entries p) kept n goes_on) t → Leads DeviceAllows (serve_round put d) s (p, n) t
   round-stop goes_on s t stops high =
       let half : Leads DeviceAllows (serve_each [] (entries_from d.round_start d.entries) put d) s (served_to (with_table d.entries p) kept n false) t =
-          subst (λ (b : Bool). Leads DeviceAllows (serve_each [] (entries_from d.round_start d.entries) put d) s (served_to (with_table d.entries p) kept n b) t) stops
-          (subst (λ (es : List DeviceEntry). Leads DeviceAllows (serve_each [] es put d) s (served_to (with_table d.entries p) kept n goes_on) t) high_run high) in
+      subst (λ (b : Bool). Leads DeviceAllows (serve_each [] (entries_from d.round_start d.entries) put d) s (served_to (with_table d.entries p) kept n b) t) stops
+      (subst (λ (es : List DeviceEntry). Leads DeviceAllows (serve_each [] es put d) s (served_to (with_table d.entries p) kept n goes_on) t) high_run high) in
       let same : (with_table (entries_below d.round_start d.entries ++ kept) p, n) ≡ (p, n) =
-          ap (λ (es : List DeviceEntry). (with_table es p, n)) (ap (λ (es : List DeviceEntry). es ++ kept) (sym low_part) ∙ sym left_is) in
+      ap (λ (es : List DeviceEntry). (with_table es p, n)) (ap (λ (es : List DeviceEntry). es ++ kept) (sym low_part) ∙ sym left_is) in
       leads_bind DeviceAllows (serve_each [] (entries_from d.round_start d.entries) put d) _ s t t (served_to (with_table d.entries p) kept n false) (p, n) half (same, refl)
 
   -- the whole round
@@ -126,12 +125,12 @@ module _ (d p : DevicePart) (start end put n : ℕ) (kept : List DeviceEntry) (r
       → Leads DeviceAllows (serve_each [] (run_of 0 start p.entries) n (with_table d.entries p)) m (served_to (with_table d.entries q) rest total last) t → Leads DeviceAllows (serve_round put d) s (q, total) t
   round-whole q total rest goes_on last s m t goes left_low high low =
       let half : Leads DeviceAllows (serve_each [] (entries_from d.round_start d.entries) put d) s (served_to (with_table d.entries p) kept n true) m =
-          subst (λ (b : Bool). Leads DeviceAllows (serve_each [] (entries_from d.round_start d.entries) put d) s (served_to (with_table d.entries p) kept n b) m) goes
-          (subst (λ (es : List DeviceEntry). Leads DeviceAllows (serve_each [] es put d) s (served_to (with_table d.entries p) kept n goes_on) m) high_run high) in
+      subst (λ (b : Bool). Leads DeviceAllows (serve_each [] (entries_from d.round_start d.entries) put d) s (served_to (with_table d.entries p) kept n b) m) goes
+      (subst (λ (es : List DeviceEntry). Leads DeviceAllows (serve_each [] es put d) s (served_to (with_table d.entries p) kept n goes_on) m) high_run high) in
       let front : take start p.entries ≡ take start d.entries = ap (λ (es : List DeviceEntry). take start es) left_is ∙ take_at (take start d.entries) kept start start_length in
       let back : drop start p.entries ≡ kept = ap (λ (es : List DeviceEntry). drop start es) left_is ∙ drop_at (take start d.entries) kept start start_length in
       let other : Leads DeviceAllows (serve_each [] (entries_below d.round_start d.entries) n (with_table d.entries p)) m (served_to (with_table d.entries q) rest total last) t =
-          subst (λ (es : List DeviceEntry). Leads DeviceAllows (serve_each [] es n (with_table d.entries p)) m (served_to (with_table d.entries q) rest total last) t) (front ∙ low_part) low in
+      subst (λ (es : List DeviceEntry). Leads DeviceAllows (serve_each [] es n (with_table d.entries p)) m (served_to (with_table d.entries q) rest total last) t) (front ∙ low_part) low in
       let table : rest ++ kept ≡ q.entries = ap (λ (es : List DeviceEntry). rest ++ es) (sym back) ∙ sym left_low in
       let same : (with_table (rest ++ kept) q, total) ≡ (q, total) = ap (λ (es : List DeviceEntry). (with_table es q, total)) table in
       leads_bind DeviceAllows (serve_each [] (entries_from d.round_start d.entries) put d) _ s m t (served_to (with_table d.entries p) kept n true) (q, total) half
@@ -154,7 +153,7 @@ pub fill_rx_works : (d p : DevicePart) (put : ℕ) (o : Option Failure) (answer 
 fill_rx_works d p put o answer s t works told is one =
     let rest : DeviceTree (DevicePart × Result Filled Failure) = bind (fill_of d) (λ r. Done (r.0, elim r.0.failed as (λ x. Result Filled Failure) [ None ↦ Ok (record { put = r.1 }) | Some f ↦ Err f ])) in
     let end : (p, elim p.failed as (λ x. Result Filled Failure) [ None ↦ Ok (record { put = put }) | Some f ↦ Err f ]) ≡ (p, answer) =
-        ap (λ (x : Option Failure). (p, elim x as (λ y. Result Filled Failure) [ None ↦ Ok (record { put = put }) | Some f ↦ Err f ])) told ∙ ap (λ (x : Result Filled Failure). (p, x)) (sym is) in
+    ap (λ (x : Option Failure). (p, elim x as (λ y. Result Filled Failure) [ None ↦ Ok (record { put = put }) | Some f ↦ Err f ])) told ∙ ap (λ (x : Result Filled Failure). (p, x)) (sym is) in
     leads_of {A = DevicePart × Result Filled Failure} DeviceAllows rest (fill_rx_of d) s t (p, answer)
     (ap (λ (x : Option Failure). elim x as (λ y. DeviceTree (DevicePart × Result Filled Failure)) [ None ↦ rest | Some f ↦ Done (d, Err f) ]) works)
     (leads_bind DeviceAllows (fill_of d) _ s t t (p, put) (p, answer) one (end, refl))

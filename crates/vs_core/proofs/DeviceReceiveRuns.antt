@@ -1,8 +1,8 @@
 -- What connections owe is put: one entry's packet, and then those of a run of entries.
 use Rattle.std.specs.Prelude.{if◌then◌else◌}
-use Rattle.std.proofs.Common.{◌≡◌, ◌⊎◌, inl, inr, ◌<◌, ◌≤◌, ℕ, suc, zero, ◌+◌, ◌-◌, Bool, true, false, not, List, [], ◌∷◌, ◌++◌, length, take, drop, set, get_or, Option, Some, None, arith, refl, ap, sym, ◌∙◌, subst, add-one, append_assoc, length-append, length-drop}
+use Rattle.std.proofs.Common.{◌≡◌, ◌⊎◌, inl, inr, ◌<◌, ◌≤◌, ℕ, suc, zero, ◌+◌, Bool, true, false, not, List, [], ◌∷◌, ◌++◌, length, take, drop, set, Option, Some, None, arith, refl, ap, sym, ◌∙◌, subst, add-one, append_assoc, length-append}
 use Rattle.std.specs.List.{slice_get}
-use Rattle.std.proofs.lemmas.List.{append-nil, take-append-drop, length-take, take_at, drop_at, drop-append-le, take-append-le, get_or-take}
+use Rattle.std.proofs.lemmas.List.{append-nil, take-append-drop, length-take, take_at, drop_at, drop-append-le, get_or-take}
 use Rattle.std.proofs.lemmas.Option.{slice_get_within, get_or_from_slice_get}
 use Rattle.vs_header.specs.declared.Header.{Header}
 use Rattle.vs_conn.specs.End.{owes_of}
@@ -11,9 +11,9 @@ use Rattle.vs_conn.specs.declared.end.Owed.TheVariants as owed
 use Rattle.vs_core.specs.Interaction.{Ask, Done, Leads}
 use Rattle.vs_core.specs.Guest.{op_of_owed}
 use Rattle.vs_core.specs.Device.{DeviceEntry, DevicePart, device_header, entry_paid}
-use Rattle.vs_core.specs.DeviceCalls.{Close, Served, DeviceTree, closing, put_of, served, after_put, serve_with, serve_of, serve_each}
+use Rattle.vs_core.specs.DeviceCalls.{Close, Served, closing, put_of, served, after_put, serve_with, serve_of, serve_each}
 use Rattle.vs_core.specs.Told.{Situation, DeviceAllows}
-use Rattle.vs_core.specs.DeviceWords.{with_table, Closes}
+use Rattle.vs_core.specs.DeviceWords.{Closes}
 use Rattle.vs_core.specs.DeviceReceive.{run_of, with_run, served_to}
 use Rattle.vs_core.proofs.Leads.{leads_of, leads_to, leads_bind}
 use Rattle.vs_core.proofs.Lists.{drop_next, set_split}
@@ -49,7 +49,7 @@ leads_reset o e d p s t is same closes =
 pub leads_paid : (o : Owed) (e new : DeviceEntry) (d p : DevicePart) (s : Situation) → (o ≡ owed.Request) ⊎ (o ≡ owed.Response) → new ≡ entry_paid o e → p ≡ record d { round_start = e.slot + 1 } → Leads DeviceAllows (after_put o e d) s (served_to p (new ∷ []) 1 true) s
 leads_paid o e new d p s is paid same =
     let end : served e (entry_paid o e ∷ []) d ≡ served_to p (new ∷ []) 1 true =
-        ap (λ (x : DevicePart). served_to x (entry_paid o e ∷ []) 1 true) (sym same) ∙ ap (λ (x : DeviceEntry). served_to p (x ∷ []) 1 true) (sym paid) in
+    ap (λ (x : DevicePart). served_to x (entry_paid o e ∷ []) 1 true) (sym same) ∙ ap (λ (x : DeviceEntry). served_to p (x ∷ []) 1 true) (sym paid) in
     let tree : after_put o e d ≡ Done (served e (entry_paid o e ∷ []) d) = elim is [
       | inl r ↦ subst (λ (x : Owed). after_put x e d ≡ Done (served e (entry_paid x e ∷ []) d)) (sym r) refl
       | inr r ↦ subst (λ (x : Owed). after_put x e d ≡ Done (served e (entry_paid x e ∷ []) d)) (sym r) refl
@@ -123,7 +123,7 @@ module _ (es fs : List DeviceEntry) (first end i kept : ℕ) (before : List Devi
   run_stopped gs k changed =
       let long : length (take end es) ≡ end = length-take end es ∙ omega (arith, le) in
       let rest : drop (i + 1) es ≡ run_of (i + 1) end es ++ drop end es =
-          ap (λ (xs : List DeviceEntry). drop (i + 1) xs) (sym (take-append-drop end es)) ∙ drop-append-le (i + 1) (take end es) (drop end es) (omega (arith, long, lt)) in
+      ap (λ (xs : List DeviceEntry). drop (i + 1) xs) (sym (take-append-drop end es)) ∙ drop-append-le (i + 1) (take end es) (drop end es) (omega (arith, long, lt)) in
       changed ∙ (ap (λ (xs : List DeviceEntry). take first es ++ k ++ xs) rest
       ∙ (sym (append_assoc (take first es ++ k) (run_of (i + 1) end es) (drop end es))
       ∙ ap (λ (xs : List DeviceEntry). xs ++ drop end es) (append_assoc (take first es) k (run_of (i + 1) end es))))

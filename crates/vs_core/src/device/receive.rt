@@ -21,7 +21,7 @@ use vs_header::{HEADER_LEN, Header, Op};
 use vs_ring_list::{DeviceRing, Failure, Next, Queue};
 
 /// What serving an entry came to.
-#[derive(Clone, Copy, Debug, PartialEq, Eq)]
+#[derive(Clone, Copy)]
 struct Progress {
     /// How many entries are left of it: none where it put its RST.
     kept: usize,
@@ -147,9 +147,9 @@ impl Device {
         ensures calls { (table : List DeviceEntry) → (kept : List DeviceEntry)
             × (self.new.entries ≡ with_run first end kept self.old.entries)
             × Leads DeviceAllows (serve_each [] (run_of first end self.old.entries) put (with_table table self.old))
-                (situation (R.lists ring.old) (H.told host.old) (H.faults host.old))
-                (served_to (with_table table self.new) kept result.0 result.1)
-                (situation (R.lists ring.new) (H.told host.new) (H.faults host.new)) }
+            (situation (R.lists ring.old) (H.told host.old) (H.faults host.old))
+            (served_to (with_table table self.new) kept result.0 result.1)
+            (situation (R.lists ring.new) (H.told host.new) (H.faults host.new)) }
         ensures host { IsHostOf (H.told host.new) self.new.entries }
         ensures held { R.held ring.new ≡ R.held ring.old }
         ensures same { self.new ≡ with_served self.new.entries self.new.round_start self.new.failed self.old }
@@ -185,9 +185,9 @@ impl Device {
             × (length kept ≡ result.kept)
             × (self.new.entries ≡ with_run place (place + 1) kept self.old.entries)
             × Leads DeviceAllows (serve_of e (with_table table self.old))
-                (situation (R.lists ring.old) (H.told host.old) (H.faults host.old))
-                (served_to (with_table table self.new) kept result.put result.goes_on)
-                (situation (R.lists ring.new) (H.told host.new) (H.faults host.new)) }
+            (situation (R.lists ring.old) (H.told host.old) (H.faults host.old))
+            (served_to (with_table table self.new) kept result.put result.goes_on)
+            (situation (R.lists ring.new) (H.told host.new) (H.faults host.new)) }
         ensures host { IsHostOf (H.told host.new) self.new.entries }
         ensures held { R.held ring.new ≡ R.held ring.old }
         ensures same { self.new ≡ with_served self.new.entries self.new.round_start self.new.failed self.old }
@@ -231,9 +231,9 @@ impl Device {
             × (length kept ≡ result)
             × (self.new.entries ≡ with_run place (place + 1) kept self.old.entries)
             × Leads DeviceAllows (after_put owed e (with_table table self.old))
-                (situation rings (H.told host.old) (H.faults host.old))
-                (served_to (with_table table self.new) kept 1 true)
-                (situation rings (H.told host.new) (H.faults host.new)) }
+            (situation rings (H.told host.old) (H.faults host.old))
+            (served_to (with_table table self.new) kept 1 true)
+            (situation rings (H.told host.new) (H.faults host.new)) }
         ensures host { IsHostOf (H.told host.new) self.new.entries }
         ensures same { self.new ≡ record self.old { entries = self.new.entries; round_start = self.new.round_start } }
         ensures count { length self.new.entries + 1 ≡ length self.old.entries + result }

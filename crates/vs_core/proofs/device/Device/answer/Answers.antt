@@ -1,11 +1,8 @@
 -- The oldest reply is put, and leaves the queue.
-use Rattle.std.proofs.Common.{◌≡◌, ◌<◌, ◌∷◌, Bool, true, false, refl, List, length, drop, ap, arith, sym, ◌∙◌, subst}
+use Rattle.std.proofs.Common.{◌≡◌, ◌<◌, ◌∷◌, true, refl, List, length, drop, ap, arith, sym, ◌∙◌}
 use Rattle.vs_core.specs.Device.{DevicePart}
 use Rattle.vs_core.specs.declared.reply.Reply.{Reply}
 use Rattle.vs_core.specs.Reply.{reply_header}
-use Rattle.vs_core.specs.Interaction.{Leads}
-use Rattle.vs_core.specs.DeviceWords.{situation}
-use Rattle.vs_core.specs.DeviceCalls.{answer_of}
 use Rattle.vs_core.specs.Told.{DeviceAllows}
 use Rattle.vs_core.proofs.Leads.{leads_to}
 use Rattle.vs_core.proofs.DeviceReceive.{first_and_rest, leads_answered, leads_unanswered}
@@ -32,6 +29,6 @@ returns-clause-calls g c = λ told faults.
     let unchanged : c.put.new.self ≡ c.args.self.now = c.if-not-put.ensures.put refl in
     let rest : c.pop_front.new.self.items ≡ drop 1 c.self.inside.replies.items = c.pop_front.ensures.rest ∙ ap (λ (d : DevicePart). drop 1 d.replies) (c.self-2.view_is ∙ (unchanged ∙ sym c.self.view_is)) in
     let end : record c.put.new.self { replies = drop 1 c.self.inside.replies.items } ≡ _ =
-        ap (λ (rs : List Reply). record c.put.new.self { replies = rs }) (sym rest) ∙ ap (λ (d : DevicePart). record d { replies = c.pop_front.new.self.items }) (sym c.self-2.view_is) in
+    ap (λ (rs : List Reply). record c.put.new.self { replies = rs }) (sym rest) ∙ ap (λ (d : DevicePart). record d { replies = c.pop_front.new.self.items }) (sym c.self-2.view_is) in
     leads_to DeviceAllows _ _ _ _ _ (ap (λ (d : DevicePart). (d, true)) end)
     (leads_answered c.args.self.now c.put.new.self c.in-Some.reply.now (drop 1 c.self.inside.replies.items) c.header-header.result _ _ (owed g put) (same g put) c.if-not-put.ensures.same (c.if-not-put.ensures.calls c.args.self.now.entries told faults))

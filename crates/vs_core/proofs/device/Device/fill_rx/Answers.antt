@@ -8,8 +8,8 @@ use Rattle.vs_core.proofs.device.Device.fill_rx.Goals.{in-Some-failed, in-None}
 pub returns-clause-calls : goal.returns-clause-calls
 returns-clause-calls g c =
     let works : c.args.self.now.failed ≡ None = ap (λ (d : DevicePart). d.failed) (sym c.self.view_is) ∙ c.in_default.is in
-    let same = ap (λ (d : DevicePart). d.failed) (sym c.self-2.view_is) in
+    let same : c.fill-put.new.self.failed ≡ c.self-2.inside.failed = ap (λ (d : DevicePart). d.failed) (sym c.self-2.view_is) in
     elim c.match-self-2.branch [
-      | in-Some-failed w ↦ let x = w.in-Some-failed in ?
-      | in-None w ↦ let x = w.in-None in let y = w.result-is in ?
+      | in-Some-failed w ↦ fill_rx_works c.args.self.now c.fill-put.new.self c.fill-put.result (Some w.in-Some-failed.failure) c.match-self-2.result _ _ works (same ∙ w.in-Some-failed.is) w.result-is c.fill-put.ensures.calls
+      | in-None w ↦ fill_rx_works c.args.self.now c.fill-put.new.self c.fill-put.result None c.match-self-2.result _ _ works (same ∙ w.in-None.is) w.result-is c.fill-put.ensures.calls
     ]

@@ -1,5 +1,5 @@
 -- The place that was found, or the end.
-use Rattle.std.proofs.Common.{◌≡◌, ◌≤◌, ℕ, Bool, true, false, cond, leb, Option, List, length, Some, None, arith, ap, sym, ◌∙◌}
+use Rattle.std.proofs.Common.{◌≡◌, ℕ, leb, Option, length, arith, ap, ◌∙◌}
 use Rattle.std.specs.Option.{unwrap_or}
 use Rattle.vs_core.specs.Device.{DeviceEntry, DevicePart}
 use Rattle.vs_core.proofs.DeviceReceiveRounds.{found_or_len}

@@ -1,5 +1,5 @@
 -- The header is written into a chain that was taken, and the chain returned.
-use Rattle.std.proofs.Common.{◌≡◌, length, ap, ◌∙◌}
+use Rattle.std.proofs.Common.{length, ap}
 use Rattle.vs_core.specs.DeviceWords.{with_table}
 use Rattle.vs_core.proofs.DeviceReceive.{put_written, leads_put}
 use Rattle.vs_core.proofs.device.Device.put.Goals as goal

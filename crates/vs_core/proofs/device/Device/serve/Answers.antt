@@ -1,5 +1,5 @@
 -- The entry at the place puts what it owes, and what was put is counted.
-use Rattle.std.proofs.Common.{◌≡◌, ◌<◌, ◌+◌, ℕ, None, Some, length, [], ◌∷◌, List, sym, ◌∙◌, ap, subst, refl, arith}
+use Rattle.std.proofs.Common.{◌≡◌, ◌+◌, Some, length, [], ◌∷◌, sym, ◌∙◌, ap, subst, refl, arith}
 use Rattle.std.specs.List.{slice_get}
 use Rattle.std.proofs.lemmas.Option.{slice_get_read, same_Some}
 use Rattle.vs_header.specs.declared.Op.{Op}
@@ -7,7 +7,7 @@ use Rattle.vs_conn.specs.End.{owes_of}
 use Rattle.vs_core.specs.Guest.{op_of_owed}
 use Rattle.vs_core.specs.Device.{DeviceEntry, DevicePart, device_header}
 use Rattle.vs_core.specs.DeviceReceive.{with_run}
-use Rattle.vs_core.specs.DeviceWords.{situation, with_table}
+use Rattle.vs_core.specs.DeviceWords.{with_table}
 use Rattle.vs_core.proofs.DeviceReceiveRuns.{same_run, leads_idle, leads_served, leads_stopped}
 use Rattle.vs_core.proofs.device.Device.serve.Goals as goal
 use Rattle.vs_core.proofs.device.Device.serve.Goals.{After-owes, After-put}
@@ -36,10 +36,13 @@ header_is g c e same =
 pub returns-then-not-put-clause-calls : goal.returns-then-not-put-clause-calls
 returns-then-not-put-clause-calls g c = λ table e at.
     let o = (goal.at.returns-then-not-put-clause-calls g c).After-owes in
-    let p = (goal.at.returns-then-not-put-clause-calls g c).After-put in
-    (e ∷ [], refl, ap (λ (d : DevicePart). d.entries) c.if-not-put.ensures.same ∙ same_run c.args.self.now.entries c.args.place e at,
-    leads_stopped e c.in-Some.owed (with_table table c.args.self.now) (with_table table c.put.new.self) c.header-header.result (owes g o e at ∙ c.in-Some.is) (header_is g p e (is_there g o e at)) _ _
-    (c.if-not-put.ensures.calls table (g.H.HostNet.told c.args.host.now) (g.H.HostNet.faults c.args.host.now)))
+    let p = (goal.at.returns-then-not-put-clause-calls g c).After-put in (
+      e ∷ [],
+      refl,
+      ap (λ (d : DevicePart). d.entries) c.if-not-put.ensures.same ∙ same_run c.args.self.now.entries c.args.place e at,
+      leads_stopped e c.in-Some.owed (with_table table c.args.self.now) (with_table table c.put.new.self) c.header-header.result (owes g o e at ∙ c.in-Some.is) (header_is g p e (is_there g o e at)) _ _
+          (c.if-not-put.ensures.calls table (g.H.HostNet.told c.args.host.now) (g.H.HostNet.faults c.args.host.now)),
+    )
 
 pub settle-kept-requires-clause-owes : goal.settle-kept-requires-clause-owes
 settle-kept-requires-clause-owes g c = λ e at.
@@ -51,7 +54,10 @@ returns-clause-calls g c = λ table e at.
     let o = (goal.at.returns-clause-calls g c).After-owes in
     let p = (goal.at.returns-clause-calls g c).After-put in
     let unchanged : c.put.new.self ≡ c.args.self.now = c.if-not-put.ensures.put refl in
-    let k = c.settle-kept.ensures.calls table e (g.R.DeviceRing.lists c.put.new.ring) (subst (λ (d : DevicePart). slice_get d.entries c.args.place ≡ Some e) (sym unchanged) at) in
-    (k.0, k.1, k.2 ∙ ap (λ (d : DevicePart). with_run c.args.place (c.args.place + 1) k.0 d.entries) unchanged,
-    leads_served e c.in-Some.owed (with_table table c.args.self.now) (with_table table c.put.new.self) c.header-header.result (owes g o e at ∙ c.in-Some.is) (header_is g p e (is_there g o e at)) _ _ _ _
-    (c.if-not-put.ensures.calls table (g.H.HostNet.told c.args.host.now) (g.H.HostNet.faults c.args.host.now)) k.3)
+    let k = c.settle-kept.ensures.calls table e (g.R.DeviceRing.lists c.put.new.ring) (subst (λ (d : DevicePart). slice_get d.entries c.args.place ≡ Some e) (sym unchanged) at) in (
+      k.0,
+      k.1,
+      k.2 ∙ ap (λ (d : DevicePart). with_run c.args.place (c.args.place + 1) k.0 d.entries) unchanged,
+      leads_served e c.in-Some.owed (with_table table c.args.self.now) (with_table table c.put.new.self) c.header-header.result (owes g o e at ∙ c.in-Some.is) (header_is g p e (is_there g o e at)) _ _ _ _
+          (c.if-not-put.ensures.calls table (g.H.HostNet.told c.args.host.now) (g.H.HostNet.faults c.args.host.now)) k.3,
+    )

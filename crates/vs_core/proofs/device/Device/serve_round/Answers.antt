@@ -1,9 +1,7 @@
 -- First the entries from the round's start on, and then those below it.
-use Rattle.std.proofs.Common.{◌≡◌, ◌≤◌, length, ap, sym, ◌∙◌, arith, subst, Some, true, leb}
-use Rattle.std.specs.List.{position_or_len}
-use Rattle.vs_core.specs.Device.{DeviceEntry, DevicePart}
+use Rattle.std.proofs.Common.{◌≡◌, ◌≤◌, length, ap, ◌∙◌, arith, subst}
+use Rattle.vs_core.specs.Device.{DevicePart}
 use Rattle.vs_core.specs.DeviceInside.{RisesWithin, slots_of}
-use Rattle.vs_core.specs.DeviceReceive.{with_run}
 use Rattle.vs_core.proofs.DeviceReceiveRounds.{start_of, start_within, start_left, round-stop, round-whole}
 use Rattle.vs_core.proofs.device.Device.serve_round.Goals as goal
 use Rattle.vs_core.proofs.device.Device.serve_round.Goals.{After-len-end, After-serve_each-high}

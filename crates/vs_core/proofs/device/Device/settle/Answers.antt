@@ -1,12 +1,12 @@
 -- The entry at the place leaves the table, or counts its packet.
-use Rattle.std.proofs.Common.{◌≡◌, ◌<◌, ◌≤◌, ◌+◌, ℕ, Some, length, set, length-set, [], ◌∷◌, List, sym, ◌∙◌, ap, subst, refl, arith}
+use Rattle.std.proofs.Common.{◌≡◌, ◌<◌, ◌≤◌, ◌+◌, ℕ, Some, length, set, length-set, [], ◌∷◌, sym, ◌∙◌, ap, subst, refl, arith}
 use Rattle.std.specs.List.{slice_get}
 use Rattle.std.proofs.lemmas.Option.{slice_get_read, same_Some}
 use Rattle.vs_core.specs.Device.{DeviceEntry, DevicePart, entry_paid}
 use Rattle.vs_core.specs.Told.{IsHostOf}
 use Rattle.vs_core.specs.contracts.device.Device.{the_view}
 use Rattle.vs_core.specs.DeviceInside.{RisesWithin}
-use Rattle.vs_core.specs.DeviceWords.{situation, with_table}
+use Rattle.vs_core.specs.DeviceWords.{with_table}
 use Rattle.vs_core.proofs.DeviceTable.{slots_of-set}
 use Rattle.vs_core.proofs.DeviceHosts.{IsHostOf-set, IsHostOf-at, keeps_same}
 use Rattle.vs_core.proofs.DeviceReceiveRounds.{rises-below}
@@ -62,9 +62,12 @@ returns-in-Rst-clause-calls g c = rw (← c.self.view_is) (λ table e rings at.
     let d = the_view c.self.inside in
     let slot : c.slot.result ≡ e.slot = c.slot.ensures ∙ ap (λ (x : DeviceEntry). x.slot) (same_Some _ _ (sym (at_place g (goal.at.returns-in-Rst-clause-calls g c).After-slot) ∙ at)) in
     let part : with_table table c.remove.new.self ≡ record (with_table table d) { round_start = e.slot + 1 } =
-        ap (λ (x : DevicePart). with_table table x) c.remove.ensures.by_place ∙ ap (λ (n : ℕ). record (with_table table d) { round_start = n + 1 }) slot in
-    ([], refl, ap (λ (x : DevicePart). x.entries) c.remove.ensures.by_place ∙ without_run c.self.inside.entries.items c.args.place,
-    leads_reset c.args.owed e (with_table table d) (with_table table c.remove.new.self) _ _ c.in-Rst.is part (c.remove.ensures.calls e rings at)))
+    ap (λ (x : DevicePart). with_table table x) c.remove.ensures.by_place ∙ ap (λ (n : ℕ). record (with_table table d) { round_start = n + 1 }) slot in (
+      [],
+      refl,
+      ap (λ (x : DevicePart). x.entries) c.remove.ensures.by_place ∙ without_run c.self.inside.entries.items c.args.place,
+      leads_reset c.args.owed e (with_table table d) (with_table table c.remove.new.self) _ _ c.in-Rst.is part (c.remove.ensures.calls e rings at),
+    ))
 
 pub returns-in-Request : goal.returns-in-Request
 returns-in-Request g c =
@@ -78,9 +81,12 @@ returns-in-Request g c =
       calls = rw (← c.self.view_is) (λ table e rings at.
           let same : e ≡ c.index_mut.result.now = same_Some _ _ (sym at ∙ here) in
           let slot : c.slot.result ≡ e.slot = c.slot.ensures ∙ ap (λ (x : DeviceEntry). x.slot) (same_Some _ _ (sym (at_place g before) ∙ at)) in
-          let paid : c.paid.new.self ≡ entry_paid c.args.owed e = c.paid.ensures ∙ ap (λ (x : DeviceEntry). entry_paid c.args.owed x) (sym same) in
-          (c.paid.new.self ∷ [], refl, set_run d.entries.items c.args.place c.paid.new.self lt,
-          leads_paid c.args.owed e c.paid.new.self (with_table table (the_view d)) _ _ c.in-Request.is paid (ap (λ (n : ℕ). record (with_table table (the_view d)) { round_start = n + 1 }) slot)));
+          let paid : c.paid.new.self ≡ entry_paid c.args.owed e = c.paid.ensures ∙ ap (λ (x : DeviceEntry). entry_paid c.args.owed x) (sym same) in (
+            c.paid.new.self ∷ [],
+            refl,
+            set_run d.entries.items c.args.place c.paid.new.self lt,
+            leads_paid c.args.owed e c.paid.new.self (with_table table (the_view d)) _ _ c.in-Request.is paid (ap (λ (n : ℕ). record (with_table table (the_view d)) { round_start = n + 1 }) slot),
+          ));
       host = subst (λ (x : DeviceEntry). IsHostOf (g.H.HostNet.told c.args.host.now) (set d.entries.items c.args.place x)) (sym c.paid.ensures)
           (IsHostOf-set _ _ d.entries.items c.args.place c.index_mut.result.now (entry_paid c.args.owed c.index_mut.result.now) own here (keeps_same _ _ _ refl)
           (IsHostOf-at _ d.entries.items c.args.place c.index_mut.result.now own here) (record { slot = refl; stream = refl; closed = λ h. h }));
