@@ -38,3 +38,6 @@ pub mod Receives
 pub mod Packets
 pub mod Polls
 pub mod Payments
+pub mod DeviceReceive
+pub mod DeviceReceiveRuns
+pub mod DeviceReceiveRounds

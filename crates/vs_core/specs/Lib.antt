@@ -16,6 +16,7 @@ pub mod DeviceCalls
 pub mod DeviceEntries
 pub mod DeviceInside
 pub mod DeviceWords
+pub mod DeviceReceive
 pub mod Told
 pub mod DriverPays
 pub mod World

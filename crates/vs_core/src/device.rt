@@ -8,6 +8,7 @@ ghost use Rattle.vs_core.specs.DeviceWords.{counters_of};
 ghost use Rattle.vs_core.specs.DeviceEntries.{IsSpare};
 
 mod entry;
+mod receive;
 mod streams;
 mod transmit;
 
