@@ -41,3 +41,4 @@ pub mod Payments
 pub mod DeviceReceive
 pub mod DeviceReceiveRuns
 pub mod DeviceReceiveRounds
+pub mod DeviceTurns
