@@ -23,16 +23,16 @@ use Rattle.vs_core.specs.Flow.{is_assigned}
 use Rattle.vs_core.specs.Lists.{update_first}
 use Rattle.vs_core.specs.Reply.{reply_header}
 use Rattle.vs_core.specs.Profile.{host_cid, table_size, header_size, reply_limit, last_guest_port, most_payload}
-use Rattle.vs_core.specs.Interaction.{Done, bind, played}
+use Rattle.vs_core.specs.Interaction.{bind, played}
 use Rattle.vs_core.specs.Outside.{Host}
 use Rattle.vs_core.specs.Guest.{GuestSlot, GuestPart, has_id, has_flow, is_flow, flow_to_guest, guest_header, new_slot, connected, one_posted, slot_paid, slot_owes, slot_may_send, slot_sent, slot_after, on_flow, received, is_whole}
-use Rattle.vs_core.specs.Driver.{GuestTree, Paid, connect_with, as_they_stand, is_spent, put_payload, payload_of, send_with, send_on, send_slot, reap_of, reaped_page, slot_read, after_recv, take_rx_of, reply_with, pay_with, pay_of}
+use Rattle.vs_core.specs.Driver.{connect_with, as_they_stand, is_spent, put_payload, payload_of, send_with, send_on, send_slot, reap_of, reaped_page, slot_read, after_recv, take_rx_of, reply_with, pay_with}
 use Rattle.vs_core.specs.declared.driver.Sent.{Sent}
 use Rattle.vs_core.specs.declared.driver.Sent.TheVariants as answered
 use Rattle.vs_core.specs.Device.{DevicePart}
 use Rattle.vs_core.specs.Told.{ring_answer}
 use Rattle.vs_core.specs.World.{taken_on, pay_at}
-use Rattle.vs_core.proofs.WorldPlays.{post_cases, post_then_cases, if_cases}
+use Rattle.vs_core.proofs.WorldPlays.{post_cases, post_then_cases, if_cases, rx_back, paid_into, pay_slot}
 use Rattle.vs_core.proofs.WorldLists.{all_update_first, all_at, all_set, found_among, stands_at}
 use Rattle.vs_core.proofs.WorldOrder.{brought_on, IsOpened}
 use Rattle.vs_core.proofs.WorldPages.{packet_in, page_of_packet, asks_nothing, brings_nothing, asks_own, brings_own}
@@ -181,9 +181,6 @@ received_keeps page g d w h sent k =
     (λ _. flow_keeps (header_of page) (take (header_of page).len (drop header_size page)) (find (has_flow (flow_to_guest (header_of page))) g.slots) g d w h sent k)
     (λ _. k)
 
-abbrev rx_back : List (List ℕ) → Rings → Rings
-rx_back pages w = record w { rx = record w.rx { back = pages } }
-
 took_rx : (pages : List (List ℕ)) (g : GuestPart) (d : DevicePart) (w : Rings) (h : Host) (sent : Flow → List ℕ) → KeptIn g d w h sent
     → let r = played ring_answer (take_rx_of g) (rx_back pages w) in KeptIn r.0.0 d r.1 h sent
 took_rx [] g d w h sent k = if_cases ring_answer (leb reply_limit (length g.replies)) _ _ (rx_back [] w) (λ r. KeptIn r.0.0 d r.1 h sent) (λ _. k) (λ _. k)
@@ -209,13 +206,6 @@ reply_keeps [] g d w h sent k = k
 reply_keeps (p ∷ ps) g d w h sent k =
     post_cases _ g _ w (λ r. KeptIn r.0.0 d r.1 h sent) k
     (quiet_page (reply_header g.cid host_cid p) g d w h sent refl refl refl (omega arith) refl refl k)
-
--- a slot pays what it owes, and no REQUEST
-abbrev paid_into : ℕ → Paid → GuestTree (GuestPart × Unit {0})
-paid_into place p = Done (record p.part { slots = set p.part.slots place p.slot }, tt)
-
-abbrev pay_slot : ℕ → Option GuestSlot → GuestPart → GuestTree (GuestPart × Unit {0})
-pay_slot place o g = elim o [ None ↦ Done (g, tt) | Some s ↦ bind (pay_of s g) (paid_into place) ]
 
 owes_no_request : (gone : Bool) (s : State) (put : Bool) → put ≡ true → cond gone None (state_owes s put) ≡ Some owed.Request → ⊥
 owes_no_request true s put was e = cc

@@ -15,13 +15,13 @@ use Rattle.vs_core.specs.declared.reply.Reply.{Reply}
 use Rattle.vs_core.specs.declared.outside.Written.TheVariants as written
 use Rattle.vs_core.specs.Profile.{page_size}
 use Rattle.vs_core.specs.Lists.{IsPrefix}
-use Rattle.vs_core.specs.Interaction.{Done, Ask, bind, played}
+use Rattle.vs_core.specs.Interaction.{Ask, bind, played}
 use Rattle.vs_core.specs.Outside.{Host, Stream, stream_at, taken_of, write_answer, fed, after_write, after_close}
 use Rattle.vs_core.specs.Guest.{GuestSlot, GuestPart}
 use Rattle.vs_core.specs.Device.{DevicePart, DeviceEntry, entry_written, entry_lost, entry_paid}
-use Rattle.vs_core.specs.DeviceCalls.{DeviceTree, Give, Pumped, after_give, pump_of, Served, serve_of, serve_with, after_put, answer_with}
+use Rattle.vs_core.specs.DeviceCalls.{Give, Pumped, after_give, pump_of, serve_with, after_put, answer_with}
 use Rattle.vs_core.specs.World.{pump_at, serve_at}
-use Rattle.vs_core.proofs.WorldPlays.{played-bind, if_cases, if_then_cases, put_cases, put_then_cases, answer_on}
+use Rattle.vs_core.proofs.WorldPlays.{played-bind, if_cases, if_then_cases, put_cases, put_then_cases, answer_on, pump_entry, served_into, serve_entry}
 use Rattle.vs_core.proofs.WorldLists.{Stands, stands_at, set_there, others_there, all_at, prefix_front}
 use Rattle.vs_core.proofs.WorldOrder.{Shown, shown, is_ended, Carried, HasStream, InOrder}
 use Rattle.vs_core.proofs.WorldPages.{packet_in}
@@ -88,17 +88,17 @@ carried_fed false given pending under all size n within c = ap (λ xs. xs ++ und
 carried_lost : (b : Bool) (given pending under all : List ℕ) → Carried b given pending under all → IsPrefix (given ++ []) all
 carried_lost b given pending under all c = subst (λ xs. IsPrefix xs all) (sym (append-nil given)) (prefix_front given pending all (carried_over b given pending under all c))
 
--- The stream of an entry at a place, and where both stand.
-pub record Served_by (e : DeviceEntry) (place : ℕ) (es : List DeviceEntry) (streams : List Stream) : Type 0 where
+-- An entry at a place, and its stream.
+pub record Placed (e : DeviceEntry) (place : ℕ) (es : List DeviceEntry) (streams : List Stream) : Type 0 where
   pub entry : Stands e place es
   pub numbered : eqb e.stream 0 ≡ false
   pub stream : Stream
   pub there : slice_get streams (e.stream - 1) ≡ Some stream
   pub label : stream.label ≡ Some e.flow
 
-served_by : (place : ℕ) (e : DeviceEntry) (es : List DeviceEntry) (streams : List Stream) → AllByRecursion (HasStream (map shown streams)) es → slice_get es place ≡ Some e
-    → Served_by e place es streams
-served_by place e es streams have at =
+placed_at : (place : ℕ) (e : DeviceEntry) (es : List DeviceEntry) (streams : List Stream) → AllByRecursion (HasStream (map shown streams)) es → slice_get es place ≡ Some e
+    → Placed e place es streams
+placed_at place e es streams have at =
     let m = stands_at es place e at in
     let has = all_at (HasStream (map shown streams)) m.front e m.back (subst (AllByRecursion (HasStream (map shown streams))) m.whole have) in
     let s = stream_shown streams (e.stream - 1) has.view has.there in
@@ -123,7 +123,7 @@ page_within : (pending : List ℕ) (s : Stream) → taken_of (length (take page_
 page_within pending s = omega (arith, taken_within (length (take page_size pending)) s, length-take page_size pending)
 
 -- an entry and its stream after a write of a page
-fed_keeps : (place : ℕ) (e d' : DeviceEntry) (g : GuestPart) (d : DevicePart) (w : Rings) (h : Host) (sent : Flow → List ℕ) → (by : Served_by e place d.entries h.streams) → IsSameEntry e d'
+fed_keeps : (place : ℕ) (e d' : DeviceEntry) (g : GuestPart) (d : DevicePart) (w : Rings) (h : Host) (sent : Flow → List ℕ) → (by : Placed e place d.entries h.streams) → IsSameEntry e d'
     → ((under all : List ℕ) → Carried (is_ended e.end.state) by.stream.given e.pending under all
     → Carried (is_ended d'.end.state) (by.stream.given ++ take (taken_of (length (take page_size e.pending)) by.stream) (take page_size e.pending)) d'.pending under all)
     → KeptIn g d w h sent
@@ -146,7 +146,7 @@ answer_there e n h s numbered there =
     ap (λ b. option_map_or (write_answer n) (cond b None (slice_get h.streams (e.stream - 1))) written.Again) numbered
     ∙ ap (λ o. option_map_or (write_answer n) o written.Again) there
 
-give_keeps : (place : ℕ) (e : DeviceEntry) (g : GuestPart) (d : DevicePart) (w : Rings) (h : Host) (sent : Flow → List ℕ) → Served_by e place d.entries h.streams → KeptIn g d w h sent
+give_keeps : (place : ℕ) (e : DeviceEntry) (g : GuestPart) (d : DevicePart) (w : Rings) (h : Host) (sent : Flow → List ℕ) → Placed e place d.entries h.streams → KeptIn g d w h sent
     → PumpKeeps place g sent (played (answer_on false) (Ask (Give e.stream (take page_size e.pending)) (λ answer. after_give answer e d)) (w, h))
 give_keeps place e g d w h sent by k =
     subst (λ a. PumpKeeps place g sent (played (answer_on false) (after_give a e d) (w, new))) (sym (answer_there e (length bytes) h by.stream by.numbered by.there))
@@ -170,7 +170,7 @@ give_keeps place e g d w h sent by k =
     carried under all c = carried_fed (is_ended e.end.state) by.stream.given e.pending under all page_size n (page_within e.pending by.stream) c
 
 -- a write that failed: the stream is closed, and the entry lost
-lost_keeps : (place : ℕ) (e : DeviceEntry) (g : GuestPart) (d : DevicePart) (w : Rings) (h : Host) (sent : Flow → List ℕ) → Served_by e place d.entries h.streams → KeptIn g d w h sent
+lost_keeps : (place : ℕ) (e : DeviceEntry) (g : GuestPart) (d : DevicePart) (w : Rings) (h : Host) (sent : Flow → List ℕ) → Placed e place d.entries h.streams → KeptIn g d w h sent
     → Kept g.cid g.slots g.next_port d.cid (set d.entries place (entry_lost e)) d.next_slot w.tx.given (after_close e.stream h).streams sent
 lost_keeps place e g d w h sent by k =
     let m = by.entry in
@@ -179,33 +179,27 @@ lost_keeps place e g d w h sent by k =
     (kept_entry m.front m.back e (entry_lost e) (record { slot = refl; flow = refl; stream = refl }) (λ given under all c. carried_lost (is_ended e.end.state) given e.pending under all c)
     (subst (λ es. Kept g.cid g.slots g.next_port d.cid es d.next_slot w.tx.given h.streams sent) m.whole k)))
 
-asked_keeps : (fails : Bool) (place : ℕ) (e : DeviceEntry) (g : GuestPart) (d : DevicePart) (w : Rings) (h : Host) (sent : Flow → List ℕ) → Served_by e place d.entries h.streams → KeptIn g d w h sent
+asked_keeps : (fails : Bool) (place : ℕ) (e : DeviceEntry) (g : GuestPart) (d : DevicePart) (w : Rings) (h : Host) (sent : Flow → List ℕ) → Placed e place d.entries h.streams → KeptIn g d w h sent
     → PumpKeeps place g sent (played (answer_on fails) (Ask (Give e.stream (take page_size e.pending)) (λ answer. after_give answer e d)) (w, h))
 asked_keeps true place e g d w h sent by k = lost_keeps place e g d w h sent by k
 asked_keeps false place e g d w h sent by k = give_keeps place e g d w h sent by k
 
-idle_keeps : (place : ℕ) (e : DeviceEntry) (g : GuestPart) (d : DevicePart) (w : Rings) (h : Host) (sent : Flow → List ℕ) → Served_by e place d.entries h.streams → KeptIn g d w h sent
+idle_keeps : (place : ℕ) (e : DeviceEntry) (g : GuestPart) (d : DevicePart) (w : Rings) (h : Host) (sent : Flow → List ℕ) → Placed e place d.entries h.streams → KeptIn g d w h sent
     → Kept g.cid g.slots g.next_port d.cid (set d.entries place e) d.next_slot w.tx.given h.streams sent
 idle_keeps place e g d w h sent by k =
     subst (λ es. Kept g.cid g.slots g.next_port d.cid es d.next_slot w.tx.given h.streams sent) (sym (set_same e place d.entries by.entry)) k
 
-pumped_keeps : (fails : Bool) (place : ℕ) (e : DeviceEntry) (g : GuestPart) (d : DevicePart) (w : Rings) (h : Host) (sent : Flow → List ℕ) → Served_by e place d.entries h.streams → KeptIn g d w h sent
+pumped_keeps : (fails : Bool) (place : ℕ) (e : DeviceEntry) (g : GuestPart) (d : DevicePart) (w : Rings) (h : Host) (sent : Flow → List ℕ) → Placed e place d.entries h.streams → KeptIn g d w h sent
     → PumpKeeps place g sent (played (answer_on fails) (pump_of e d) (w, h))
 pumped_keeps fails place e g d w h sent by k =
     if_cases (answer_on fails) (e.closed || eqb (length e.pending) 0) _ _ (w, h) (PumpKeeps place g sent) (λ _. idle_keeps place e g d w h sent by k) (λ _. asked_keeps fails place e g d w h sent by k)
-
-abbrev pump_entry : ℕ → Option DeviceEntry → DevicePart → DeviceTree (DevicePart × Unit {0})
-pump_entry place o d = elim o [
-  | None ↦ Done (d, tt)
-  | Some e ↦ bind (pump_of e d) (λ p. Done (record p.part { entries = set p.part.entries place p.entry }, tt))
-]
 
 pump_entry_keeps : (fails : Bool) (place : ℕ) (o : Option DeviceEntry) (g : GuestPart) (d : DevicePart) (w : Rings) (h : Host) (sent : Flow → List ℕ) → slice_get d.entries place ≡ o → KeptIn g d w h sent
     → let r = played (answer_on fails) (pump_entry place o d) (w, h) in KeptIn g r.0.0 r.1.0 r.1.1 sent
 pump_entry_keeps fails place None g d w h sent at k = k
 pump_entry_keeps fails place (Some e) g d w h sent at k =
     subst (λ r. KeptIn g r.0.0 r.1.0 r.1.1 sent) (sym (played-bind (answer_on fails) (pump_of e d) _ (w, h)))
-    (pumped_keeps fails place e g d w h sent (served_by place e d.entries h.streams k.order.streams at) k)
+    (pumped_keeps fails place e g d w h sent (placed_at place e d.entries h.streams k.order.streams at) k)
 
 pub pump_keeps : (fails : Bool) (place : ℕ) (g : GuestPart) (d : DevicePart) (w : Rings) (h : Host) (sent : Flow → List ℕ) → KeptIn g d w h sent
     → let r = played (answer_on fails) (pump_at place d) (w, h) in KeptIn g r.0.0 r.1.0 r.1.1 sent
@@ -220,13 +214,6 @@ pub answer_keeps : (replies : List Reply) (g : GuestPart) (d : DevicePart) (w : 
 answer_keeps [] g d w h sent k = k
 answer_keeps (p ∷ ps) g d w h sent k =
     put_cases false _ d _ w h (λ r. KeptIn g r.0.0 r.1.0 r.1.1 sent) k (λ new page tx rx. tx_still g d w new h sent tx k)
-
--- An entry puts what it owes.
-abbrev served_into : ℕ → List DeviceEntry → Served → DeviceTree (DevicePart × Unit {0})
-served_into place es s = Done (record s.part { entries = take place es ++ s.kept ++ drop (place + 1) es }, tt)
-
-abbrev serve_entry : ℕ → Option DeviceEntry → DevicePart → DeviceTree (DevicePart × Unit {0})
-serve_entry place o d = elim o [ None ↦ Done (d, tt) | Some e ↦ bind (serve_of e d) (served_into place d.entries) ]
 
 -- what stands at a place once these stand there
 there : (e : DeviceEntry) (place : ℕ) (es kept : List DeviceEntry) → (m : Stands e place es) → take place es ++ kept ++ drop (place + 1) es ≡ m.front ++ (kept ++ m.back)

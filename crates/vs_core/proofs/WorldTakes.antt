@@ -1,5 +1,5 @@
 -- What the device's taking of a packet keeps.
-use Rattle.std.proofs.Common.{◌≡◌, ℕ, ◌+◌, ◌-◌, ◌≤◌, Bool, true, false, not, ◌&&◌, ◌||◌, cond, eqb, leb, ltb, if◌then◌else◌, List, [], ◌∷◌, ◌++◌, length, take, drop, map, filter, find, Option, Some, None, refl, sym, ap, ◌∙◌, subst, ◌⊎◌, inl, inr, eq-eqb}
+use Rattle.std.proofs.Common.{◌≡◌, ℕ, ◌+◌, ◌-◌, ◌≤◌, Bool, true, false, not, ◌&&◌, ◌||◌, cond, eqb, leb, ltb, List, [], ◌∷◌, ◌++◌, length, take, drop, map, filter, find, Option, Some, None, refl, sym, ap, ◌∙◌, subst, ◌⊎◌, inl, inr, eq-eqb}
 use Rattle.std.proofs.lemmas.Bool.{cases_Bool, and_parts, and_from, false≢true}
 use Rattle.std.proofs.lemmas.List.{map-append, length-map}
 use Rattle.vs_header.specs.Packet.{Packet, header_of}
@@ -18,8 +18,6 @@ use Rattle.vs_ring_list.specs.declared.ring_port.Next.TheVariants as next
 use Rattle.vs_conn.specs.End.{answering}
 use Rattle.vs_core.specs.Profile.{buffer_space}
 use Rattle.vs_core.specs.declared.outside.Dialed.TheVariants as dialed
-use Rattle.vs_core.specs.declared.device.Taken.{Taken}
-use Rattle.vs_core.specs.declared.device.Taken.TheVariants as taken
 use Rattle.vs_core.specs.Flow.{is_assigned}
 use Rattle.vs_core.specs.Path.{path_of}
 use Rattle.vs_core.specs.Profile.{header_size, reply_limit}
@@ -28,8 +26,8 @@ use Rattle.vs_core.specs.Interaction.{Done, Ask, played}
 use Rattle.vs_core.specs.Outside.{Host, Stream, new_stream, is_listened}
 use Rattle.vs_core.specs.Guest.{GuestSlot, GuestPart, is_flow}
 use Rattle.vs_core.specs.Device.{DevicePart, DeviceEntry, flow_from_guest, is_for_host, is_full, entry_has, entry_at, entry_after, entry_delivered}
-use Rattle.vs_core.specs.DeviceCalls.{DeviceTree, Take, Dial, after_dial, overran, on_entry, on_stranger, by_flow, on_packet, on_chain, after_take, take_tx_of}
-use Rattle.vs_core.proofs.WorldPlays.{played-bind, if_cases, answer_on}
+use Rattle.vs_core.specs.DeviceCalls.{Take, Dial, after_dial, overran, on_entry, on_stranger, by_flow, on_packet, on_chain, after_take, take_tx_of}
+use Rattle.vs_core.proofs.WorldPlays.{played-bind, if_cases, answer_on, tx_given, take_unless}
 use Rattle.vs_core.proofs.WorldQueues.{packet_still}
 use Rattle.vs_core.proofs.WorldLists.{Among, found_among, found_passes, none_passes, alone_front, alone_back, update_alone, leave_alone}
 use Rattle.vs_core.proofs.WorldOrder.{shown, brought_on, is_ended}
@@ -255,20 +253,11 @@ read_keeps fails c page g d pages w h sent tx readable given held k =
     subst (λ q. let r = played (answer_on fails) (on_chain c q d) (w, h) in KeptIn g r.0.0 r.1.0 r.1.1 sent) (sym (ap (λ xs. header_of (take header_size xs)) held ∙ reads_header page))
     (chain_keeps fails c page g d pages w h sent tx readable given (ap (λ xs. take (packet_in page).header.len (drop header_size xs)) held ∙ reads_after page) k)
 
-abbrev tx_given : List (List ℕ) → Rings → Rings
-tx_given pages w = record w { tx = record w.tx { given = pages } }
-
 next_keeps : (fails : Bool) (pages : List (List ℕ)) (g : GuestPart) (d : DevicePart) (w : Rings) (h : Host) (sent : Flow → List ℕ) → KeptIn g d (tx_given pages w) h sent
     → let r = played (answer_on fails) (Ask (Take queue.Tx) (λ answer. after_take answer d)) (tx_given pages w, h) in KeptIn g r.0.0 r.1.0 r.1.1 sent
 next_keeps fails [] g d w h sent k = k
 next_keeps fails (page ∷ pages) g d w h sent k =
     read_keeps fails (chain_with queue.Tx w.tx.place page) page g d pages (after_next queue.Tx (tx_given (page ∷ pages) w)) h sent refl refl refl (held_newest (held_by queue.Tx w.tx.place page) w.held) k
-
-abbrev take_unless : Option Failure → DevicePart → DeviceTree (DevicePart × Taken)
-take_unless o d = elim o [
-  | None ↦ if leb reply_limit (length d.replies) then Done (d, taken.RepliesFull reply_limit) else Ask (Take queue.Tx) (λ answer. after_take answer d)
-  | Some f ↦ Done (d, taken.Failed f)
-]
 
 unless_keeps : (fails : Bool) (o : Option Failure) (g : GuestPart) (d : DevicePart) (w : Rings) (h : Host) (sent : Flow → List ℕ) → KeptIn g d w h sent
     → let r = played (answer_on fails) (take_unless o d) (w, h) in KeptIn g r.0.0 r.1.0 r.1.1 sent
