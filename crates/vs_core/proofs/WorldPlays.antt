@@ -1,12 +1,16 @@
 -- How a call's conversation is played: by the cases of what it asks next.
-use Rattle.std.proofs.Common.{Option, Some, None, ◌+◌, leb, length, take, drop, set, if◌then◌else◌, ◌≡◌, ℕ, Bool, true, false, cond, eqb, List, [], ◌∷◌, ◌++◌, refl, ap, ◌∙◌}
-use Rattle.std.proofs.lemmas.Bool.{cond_both}
+use Rattle.std.proofs.Common.{Option, Some, None, ◌+◌, leb, length, take, drop, set, if◌then◌else◌, ◌≡◌, ℕ, Bool, true, false, ◌&&◌, cond, eqb, eq-eqb, List, [], ◌∷◌, ◌++◌, refl, ap, ◌∙◌}
+use Rattle.std.proofs.lemmas.Bool.{cond_both, and_from}
+use Rattle.vs_ring_list.specs.declared.ring_port.Queue.{Queue}
 use Rattle.vs_ring_list.specs.declared.ring_port.Queue.TheVariants as queue
-use Rattle.vs_ring_list.specs.Rings.{Rings, posted, next_of, after_next, after_write as after_fill, after_done}
+use Rattle.vs_ring_list.specs.declared.ring_port.Chain.{Chain}
+use Rattle.vs_ring_list.specs.Page.{overwritten}
+use Rattle.vs_ring_list.specs.Rings.{Rings, Held, same_queue, same_chain, bytes_in, with_bytes, held_by, posted, next_of, after_next, after_write as after_fill, after_done}
 use Rattle.vs_core.specs.declared.outside.Dialed.TheVariants as dialed
 use Rattle.vs_core.specs.declared.outside.Written.TheVariants as written
 use Rattle.vs_core.specs.Outside.{Host, dialed_of, after_dial, written_of, after_write, after_close}
 use Rattle.vs_header.specs.declared.Header.{Header}
+use Rattle.vs_header.specs.Packet.{header_bytes}
 use Rattle.vs_ring_list.specs.declared.ring_port.Failure.{Failure}
 use Rattle.vs_core.specs.declared.device.Taken.{Taken}
 use Rattle.vs_core.specs.declared.device.Taken.TheVariants as taken
@@ -127,34 +131,55 @@ pub if_then_cases : {Call : Type 0} {Answer : Call → Type 0} {S A B : Type 0} 
     → (b ≡ true → P (played answer (bind t f) s)) → (b ≡ false → P (played answer (bind u f) s)) → P (played answer (bind (cond b t u) f) s)
 if_then_cases answer b t u f s P first second = cond_both b t u (λ x. P (played answer (bind x f) s)) first second
 
--- A packet is put where a receive chain is there: then the transmit queue stays, and the receive queue has one more page given back.
+-- The chain that was taken last: its bytes, and what was written into it.
+queue_itself : (q : Queue) → same_queue q q ≡ true
+queue_itself queue.Rx = refl
+queue_itself queue.Tx = refl
+queue_itself queue.Event = refl
+
+same_itself : (c : Chain) → same_chain c c ≡ true
+same_itself c =
+    let itself : (n : ℕ) → eqb n n ≡ true = λ n. eq-eqb n n refl in
+    and_from (same_queue c.queue c.queue && eqb c.place c.place && eqb c.readable c.readable) (eqb c.writable c.writable)
+    (and_from (same_queue c.queue c.queue && eqb c.place c.place) (eqb c.readable c.readable)
+    (and_from (same_queue c.queue c.queue) (eqb c.place c.place) (queue_itself c.queue) (itself c.place)) (itself c.readable)) (itself c.writable)
+
+pub held_newest : (h : Held) (held : List Held) → bytes_in h.chain (h ∷ held) ≡ h.bytes
+held_newest h held = rw (same_itself h.chain) refl
+
+written_newest : (h : Held) (held : List Held) (bytes : List ℕ) → bytes_in h.chain (with_bytes h.chain bytes (h ∷ held)) ≡ bytes
+written_newest h held bytes = rw (same_itself h.chain) (held_newest (record h { bytes = bytes }) held)
+
+-- A packet is put where a receive chain is there: then the transmit queue stays, and its header is given back on the receive queue.
+put_page : (h : Header) (c : Held) (held : List Held) → take 44 (bytes_in c.chain (with_bytes c.chain (overwritten (bytes_in c.chain (c ∷ held)) 0 (header_bytes h)) (c ∷ held))) ≡ header_bytes h
+put_page h c held = ap (take 44) (written_newest c held (overwritten (bytes_in c.chain (c ∷ held)) 0 (header_bytes h)))
 
 put_given : {A : Type 0} (fails : Bool) (h : Header) (d : DevicePart) (k : DevicePart × Bool → DeviceTree A) (pages : List (List ℕ))
     (w : Rings) (host : Host) (P : A × (Rings × Host) → Type 0)
     → P (played (answer_on fails) (k (d, false)) (rx_given pages w, host))
-    → ((new : Rings) (page : List ℕ) → new.tx ≡ w.tx → new.rx.back ≡ w.rx.back ++ page ∷ [] → P (played (answer_on fails) (k (d, true)) (new, host)))
+    → ((new : Rings) → new.tx ≡ w.tx → new.rx.back ≡ w.rx.back ++ header_bytes h ∷ [] → P (played (answer_on fails) (k (d, true)) (new, host)))
     → P (played (answer_on fails) (bind (put_of h d) k) (rx_given pages w, host))
 put_given fails h d k [] w host P none put = none
-put_given fails h d k (page ∷ pages) w host P none put = put _ _ refl refl
+put_given fails h d k (page ∷ pages) w host P none put = put _ refl (ap (λ xs. w.rx.back ++ xs ∷ []) (put_page h (held_by queue.Rx w.rx.place page) w.held))
 
 pub put_cases : {A : Type 0} (fails : Bool) (h : Header) (d : DevicePart) (k : DevicePart × Bool → DeviceTree A)
     (w : Rings) (host : Host) (P : A × (Rings × Host) → Type 0)
     → P (played (answer_on fails) (k (d, false)) (w, host))
-    → ((new : Rings) (page : List ℕ) → new.tx ≡ w.tx → new.rx.back ≡ w.rx.back ++ page ∷ [] → P (played (answer_on fails) (k (d, true)) (new, host)))
+    → ((new : Rings) → new.tx ≡ w.tx → new.rx.back ≡ w.rx.back ++ header_bytes h ∷ [] → P (played (answer_on fails) (k (d, true)) (new, host)))
     → P (played (answer_on fails) (bind (put_of h d) k) (w, host))
 put_cases fails h d k w host P none put = put_given fails h d k w.rx.given w host P none put
 
 put_given_then : {A B : Type 0} (fails : Bool) (h : Header) (d : DevicePart) (k : DevicePart × Bool → DeviceTree A) (f : A → DeviceTree B)
     (pages : List (List ℕ)) (w : Rings) (host : Host) (P : B × (Rings × Host) → Type 0)
     → P (played (answer_on fails) (bind (k (d, false)) f) (rx_given pages w, host))
-    → ((new : Rings) (page : List ℕ) → new.tx ≡ w.tx → new.rx.back ≡ w.rx.back ++ page ∷ [] → P (played (answer_on fails) (bind (k (d, true)) f) (new, host)))
+    → ((new : Rings) → new.tx ≡ w.tx → new.rx.back ≡ w.rx.back ++ header_bytes h ∷ [] → P (played (answer_on fails) (bind (k (d, true)) f) (new, host)))
     → P (played (answer_on fails) (bind (bind (put_of h d) k) f) (rx_given pages w, host))
 put_given_then fails h d k f [] w host P none put = none
-put_given_then fails h d k f (page ∷ pages) w host P none put = put _ _ refl refl
+put_given_then fails h d k f (page ∷ pages) w host P none put = put _ refl (ap (λ xs. w.rx.back ++ xs ∷ []) (put_page h (held_by queue.Rx w.rx.place page) w.held))
 
 pub put_then_cases : {A B : Type 0} (fails : Bool) (h : Header) (d : DevicePart) (k : DevicePart × Bool → DeviceTree A) (f : A → DeviceTree B)
     (w : Rings) (host : Host) (P : B × (Rings × Host) → Type 0)
     → P (played (answer_on fails) (bind (k (d, false)) f) (w, host))
-    → ((new : Rings) (page : List ℕ) → new.tx ≡ w.tx → new.rx.back ≡ w.rx.back ++ page ∷ [] → P (played (answer_on fails) (bind (k (d, true)) f) (new, host)))
+    → ((new : Rings) → new.tx ≡ w.tx → new.rx.back ≡ w.rx.back ++ header_bytes h ∷ [] → P (played (answer_on fails) (bind (k (d, true)) f) (new, host)))
     → P (played (answer_on fails) (bind (bind (put_of h d) k) f) (w, host))
 put_then_cases fails h d k f w host P none put = put_given_then fails h d k f w.rx.given w host P none put
