@@ -23,6 +23,7 @@ pub mod WorldOrder
 pub mod WorldFlows
 pub mod WorldSteps
 pub mod WorldPages
+pub mod WorldSlots
 pub mod WorldKept
 pub mod WorldGuest
 pub mod WorldStreams
