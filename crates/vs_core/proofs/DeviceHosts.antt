@@ -232,7 +232,8 @@ IsHostOf-dialed (Some h) p path flow id es new told is host = subst (λ q. IsHos
           let k : Host = record h { streams = h.streams ++ new_stream flow ∷ [] } in
           let number : new.stream ≡ length h.streams + 1 = is ∙ cc e in
           let own : IsOpen new.stream k = subst (λ (n : ℕ). IsOpen n k) (sym number) (open-new h k (new_stream flow) refl refl) in
-          let fresh : IsOpen new.stream h → ⊥ = λ o. none-new h (subst (λ (n : ℕ). IsOpen n h) number o) in
-          (AllByRecursion-push (HasOpenStream k) es new (AllByRecursion-map (HasOpenStream h) (HasOpenStream k) es (λ x o unclosed. open-append h k (new_stream flow) x.stream refl (o unclosed)) host.0) (λ _. own),
-          apart-push h new fresh es host.0 host.1)
+          let fresh : IsOpen new.stream h → ⊥ = λ o. none-new h (subst (λ (n : ℕ). IsOpen n h) number o) in (
+            AllByRecursion-push (HasOpenStream k) es new (AllByRecursion-map (HasOpenStream h) (HasOpenStream k) es (λ x o unclosed. open-append h k (new_stream flow) x.stream refl (o unclosed)) host.0) (λ _. own),
+            apart-push h new fresh es host.0 host.1,
+          )
     ]) told.0)

@@ -71,8 +71,8 @@ module _ (c : Chain) (h : Header) (place : ℕ) (e : DeviceEntry) (d decided : D
       → part ≡ with_table (set decided.entries place (entry_delivered h payload e)) decided → Leads DeviceAllows (on_entry (verdict_of e.end h) c h e d) (situation old host faults) (part, verdict.Deliver) (situation new host faults)
   leads_deliver old new host faults payload part is read holds =
       let twice : part ≡ with_table (set d.entries place (entry_delivered h payload e)) d =
-          holds ∙ (ap (λ (p : DevicePart). with_table (set p.entries place (entry_delivered h payload e)) p) after
-          ∙ ap (λ (es : List DeviceEntry). with_table es d) (set-set d.entries place (entry_after h e) (entry_delivered h payload e))) in
+      holds ∙ (ap (λ (p : DevicePart). with_table (set p.entries place (entry_delivered h payload e)) p) after
+      ∙ ap (λ (es : List DeviceEntry). with_table es d) (set-set d.entries place (entry_after h e) (entry_delivered h payload e))) in
       leads_of DeviceAllows _ _ _ _ _ (ap (λ (v : Verdict). on_entry v c h e d) (sym is))
       (payload, situation new host faults, (read, (refl, refl)), (ap (λ (p : DevicePart). (p, verdict.Deliver)) (changed (entry_delivered h payload) ∙ sym twice), refl))
 
@@ -135,5 +135,5 @@ pair_same {A} {B} a b x y p q = ap (λ (c : A). (c, x)) p ∙ ap (λ (z : B). (b
 pub take_tx_of-asks : (d : DevicePart) → d.failed ≡ None → length d.replies < 64 → take_tx_of d ≡ Ask (Take queue.Tx) (λ answer. after_take answer d)
 take_tx_of-asks d works room =
     let asks : (if nat_le reply_limit (length d.replies) then Done (d, taken.RepliesFull reply_limit) else Ask (Take queue.Tx) (λ answer. after_take answer d)) ≡ Ask (Take queue.Tx) (λ answer. after_take answer d) =
-        ap (λ (b : Bool). if b then Done (d, taken.RepliesFull reply_limit) else Ask (Take queue.Tx) (λ answer. after_take answer d)) (lt-leb 64 (length d.replies) room) in
+    ap (λ (b : Bool). if b then Done (d, taken.RepliesFull reply_limit) else Ask (Take queue.Tx) (λ answer. after_take answer d)) (lt-leb 64 (length d.replies) room) in
     unless-works (λ f. taken.Failed f) d _ works ∙ asks

@@ -28,7 +28,7 @@ reap_up_ends : (n : ℕ) (g h : GuestPart) → ChangesPages g h → AllEnds (Cha
 reap_up_ends zero g h changes = changes
 reap_up_ends (suc n) g h changes =
     ends_bind (ChangesPages g) (reap_of h) _
-      (ends_weaker (λ r. ChangesPages h r.0) (λ r. AllEnds (ChangesPages g) (elim r.1 [ true ↦ reap_up_to n r.0 | false ↦ Done r.0 ])) (λ r then. reaps_next n g (λ k more. reap_up_ends n g k more) r (changes_more g h r.0 changes then)) (reap_of h) (reap_ends h))
+    (ends_weaker (λ r. ChangesPages h r.0) (λ r. AllEnds (ChangesPages g) (elim r.1 [ true ↦ reap_up_to n r.0 | false ↦ Done r.0 ])) (λ r then. reaps_next n g (λ k more. reap_up_ends n g k more) r (changes_more g h r.0 changes then)) (reap_of h) (reap_ends h))
 
 pub reap_all_ends : (g : GuestPart) → AllEnds (ChangesPages g) (reap_all g)
 reap_all_ends g = reap_up_ends g.in_flight g g refl

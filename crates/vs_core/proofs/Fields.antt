@@ -56,11 +56,11 @@ place_by_number slots i s rising within at =
     let number : (k : ℕ) → k < length slots → get_or (ids_of slots) k s.id ≡ (get_or slots k s).id = λ k lt. get_or-map (λ (x : GuestSlot). x.id) slots k s s.id lt in
     let here : s.id ≡ (get_or slots i s).id = ap (λ (x : GuestSlot). x.id) at in
     let first : position_or_len (has_id s.id) slots ≡ i =
-        position_or_len_is (has_id s.id) slots i s (omega arith)
-          (λ k lt. let less : get_or (ids_of slots) k s.id < get_or (ids_of slots) i s.id = rising k i s.id lt (rw length-map within) in
-            let one = number k (omega arith) in let other = number i within in
-            let lower : (get_or slots k s).id < s.id = omega arith in grind (arith, nat_tests))
-          (λ _. eq-eqb _ _ (sym here)) in
+    position_or_len_is (has_id s.id) slots i s (omega arith)
+    (λ k lt. let less : get_or (ids_of slots) k s.id < get_or (ids_of slots) i s.id = rising k i s.id lt (rw length-map within) in
+    let one = number k (omega arith) in let other = number i within in
+    let lower : (get_or slots k s).id < s.id = omega arith in grind (arith, nat_tests))
+    (λ _. eq-eqb _ _ (sym here)) in
     rw first (let e : ltb i (length slots) ≡ true = grind (arith, nat_tests) in rw e refl)
 
 pub update_by_number : (f : GuestSlot → GuestSlot) (slots : List GuestSlot) (i : ℕ) (s : GuestSlot) → AllPairs ◌<◌ (ids_of slots) → i < length slots → s ≡ get_or slots i s → update_first (has_id s.id) f slots ≡ set slots i (f s)

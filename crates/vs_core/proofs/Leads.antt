@@ -34,7 +34,6 @@ AllEnds P (Done x) = P x
 AllEnds {Call = Call} {Answer = Answer} P (Ask call k) = (a : Answer call) → AllEnds P (k a)
 
 module _ {Call : Type 0} {Answer : Call → Type 0} {A : Type 0} (P : A → Type 0) where
-
   pub end_of : {S : Type 0} (Allows : (call : Call) → Answer call → S → S → Type 0) (p : Tree Call Answer A) (s t : S) (x : A) → AllEnds P p → Leads Allows p s x t → P x
   end_of Allows (Done y) s t x all h = subst P h.0 all
   end_of Allows (Ask call k) s t x all h = end_of Allows (k h.0) h.1 t x (all h.0) h.3
@@ -46,3 +45,17 @@ module _ {Call : Type 0} {Answer : Call → Type 0} {A : Type 0} (P : A → Type
   pub ends_bind : {B : Type 0} (p : Tree Call Answer B) (f : B → Tree Call Answer A) → AllEnds (λ x. AllEnds P (f x)) p → AllEnds P (bind p f)
   ends_bind (Done x) f all = all
   ends_bind (Ask call k) f all = λ a. ends_bind (k a) f (all a)
+
+-- What leads from one conversation and then the next leads from the one to its end, and from there on.
+pub record Split {Call : Type 0} {Answer : Call → Type 0} {S A B : Type 0} (Allows : (call : Call) → Answer call → S → S → Type 0) (p : Tree Call Answer A) (f : A → Tree Call Answer B) (s : S) (y : B) (t : S) : Type 0 where
+  pub end : A
+  pub middle : S
+  pub first : Leads Allows p s end middle
+  pub rest : Leads Allows (f end) middle y t
+
+module _ {Call : Type 0} {Answer : Call → Type 0} {S A B : Type 0} (Allows : (call : Call) → Answer call → S → S → Type 0) where
+  pub leads_split : (p : Tree Call Answer A) (f : A → Tree Call Answer B) (s t : S) (y : B) → Leads Allows (bind p f) s y t → Split Allows p f s y t
+  leads_split (Done x) f s t y h = record { end = x; middle = s; first = (refl, refl); rest = h }
+  leads_split (Ask call k) f s t y h =
+      let next = leads_split (k h.0) f h.1 t y h.3 in
+      record { end = next.end; middle = next.middle; first = (h.0, h.1, h.2, next.first); rest = next.rest }

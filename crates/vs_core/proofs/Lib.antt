@@ -23,6 +23,7 @@ pub mod WorldOrder
 pub mod WorldFlows
 pub mod WorldSteps
 pub mod WorldPages
+pub mod WorldSlots
 pub mod WorldKept
 pub mod WorldGuest
 pub mod WorldStreams
@@ -34,3 +35,11 @@ pub mod DeviceFailures
 pub mod DeviceTaken
 pub mod DeviceRings
 pub mod DriverTable
+pub mod Receives
+pub mod Packets
+pub mod Polls
+pub mod Payments
+pub mod DeviceReceive
+pub mod DeviceReceiveRuns
+pub mod DeviceReceiveRounds
+pub mod DeviceTurns

@@ -66,10 +66,10 @@ sent_after : (s : GuestSlot) (credit : ℕ) (bytes : List ℕ) (g h : GuestPart)
 sent_after s credit bytes g h some free changes =
     let n : length (payload_of bytes credit) ≡ min (length bytes) (min credit 4052) = simp length-take (omega arith) in
     ends_weaker (SendsOf (length (payload_of bytes credit)) s.id h) (OpenFactsOf s credit bytes g) (λ x says.
-      let P : GuestPart → Type 0 = λ y. Sends (length (payload_of bytes credit)) s.id y x.0 x.1 in
-      let Q : ℕ → Type 0 = λ k. Sends k s.id g x.0 x.1 in
-      some_sent s credit bytes g x.0 x.1 some free (subst Q n (sends_seen (length (payload_of bytes credit)) s.id h.in_flight g x.0 x.1 (subst P changes says))))
-      (put_payload s (payload_of bytes credit) h) (put_ends s (payload_of bytes credit) h)
+    let P : GuestPart → Type 0 = λ y. Sends (length (payload_of bytes credit)) s.id y x.0 x.1 in
+    let Q : ℕ → Type 0 = λ k. Sends k s.id g x.0 x.1 in
+    some_sent s credit bytes g x.0 x.1 some free (subst Q n (sends_seen (length (payload_of bytes credit)) s.id h.in_flight g x.0 x.1 (subst P changes says))))
+    (put_payload s (payload_of bytes credit) h) (put_ends s (payload_of bytes credit) h)
 
 open_ends : (s : GuestSlot) (credit : ℕ) (bytes : List ℕ) (g : GuestPart) → AllEnds (OpenFactsOf s credit bytes g) (send_open reap_all s credit bytes g)
 open_ends s credit bytes g =

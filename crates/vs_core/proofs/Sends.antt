@@ -39,5 +39,4 @@ pub sends_open : (s : GuestSlot) (credit : ℕ) (bytes : List ℕ) (g h : GuestP
 sends_open s credit bytes g h x k n r m t some free first then reaps puts =
     let P : List ℕ → Type 0 = λ ys. Leads RingAllows (put_payload s ys h) m x t in
     leads_of RingAllows _ _ r t x (sends_as s credit bytes g some free)
-      (leads_bind RingAllows (reap_all g) (put_payload s (payload_of bytes credit)) r m t h x reaps (subst P (payload_of-min bytes credit k n first then) puts))
-
+    (leads_bind RingAllows (reap_all g) (put_payload s (payload_of bytes credit)) r m t h x reaps (subst P (payload_of-min bytes credit k n first then) puts))

@@ -1,7 +1,7 @@
 -- What each of the driver's events keeps.
-use Rattle.std.proofs.Common.{◌≡◌, ℕ, ◌+◌, ◌^◌, ◌<◌, ◌≤◌, min, Bool, true, false, cond, eqb, leb, List, [], ◌∷◌, ◌++◌, length, take, drop, set, find, slice_get, Option, Some, None, Result, Ok, Err, refl, sym, ap, ◌∙◌, subst, arith, append-nil, ltb-false, length-take, ne_eqb}
+use Rattle.std.proofs.Common.{◌≡◌, ℕ, ◌+◌, ◌^◌, ◌<◌, ◌≤◌, min, Bool, true, false, cond, eqb, leb, List, [], ◌∷◌, ◌++◌, length, take, drop, set, filter, find, slice_get, Option, Some, None, Result, Ok, Err, refl, sym, ap, ◌∙◌, subst, arith, append-nil, ltb-false, length-take, ne_eqb, not, eq-eqb}
 use Rattle.std.specs.List.{AllByRecursion}
-use Rattle.std.proofs.lemmas.Bool.{or_parts, and_left, cond_both}
+use Rattle.std.proofs.lemmas.Bool.{or_parts, and_parts, and_left, cond_both, false≢true}
 use Rattle.std.proofs.lemmas.List.{take_min}
 use Rattle.vs_header.specs.declared.Header.{Header}
 use Rattle.vs_header.specs.declared.Op.TheVariants as op
@@ -14,7 +14,8 @@ use Rattle.vs_conn.specs.declared.end.Owed.{Owed}
 use Rattle.vs_conn.specs.declared.end.Owed.TheVariants as owed
 use Rattle.vs_conn.specs.declared.end.Verdict.{Verdict}
 use Rattle.vs_conn.specs.declared.end.Verdict.TheVariants as verdict
-use Rattle.vs_conn.specs.End.{ConnectionEnd, verdict_of, after_verdict, state_owes}
+use Rattle.vs_conn.specs.End.{ConnectionEnd, verdict_of, after_verdict, state_may_send, state_owes}
+use Rattle.vs_conn.specs.declared.credit.Credit.{Credit}
 use Rattle.vs_ring_list.specs.declared.ring_port.Queue.TheVariants as queue
 use Rattle.vs_ring_list.specs.Rings.{Rings, posted, oldest}
 use Rattle.vs_core.specs.declared.flow.Flow.{Flow}
@@ -23,40 +24,43 @@ use Rattle.vs_core.specs.Flow.{is_assigned}
 use Rattle.vs_core.specs.Lists.{update_first}
 use Rattle.vs_core.specs.Reply.{reply_header}
 use Rattle.vs_core.specs.Profile.{host_cid, table_size, header_size, reply_limit, last_guest_port, most_payload}
-use Rattle.vs_core.specs.Interaction.{Done, bind, played}
-use Rattle.vs_core.specs.Outside.{Host}
+use Rattle.vs_core.specs.Interaction.{bind, played}
+use Rattle.vs_core.specs.Outside.{Host, Stream}
 use Rattle.vs_core.specs.Guest.{GuestSlot, GuestPart, has_id, has_flow, is_flow, flow_to_guest, guest_header, new_slot, connected, one_posted, slot_paid, slot_owes, slot_may_send, slot_sent, slot_after, on_flow, received, is_whole}
-use Rattle.vs_core.specs.Driver.{GuestTree, Paid, connect_with, as_they_stand, is_spent, put_payload, payload_of, send_with, send_on, send_slot, reap_of, reaped_page, slot_read, after_recv, take_rx_of, reply_with, pay_with, pay_of}
+use Rattle.vs_core.specs.Driver.{connect_with, as_they_stand, is_spent, put_payload, payload_of, send_with, send_on, send_slot, reap_of, reaped_page, slot_read, after_recv, take_rx_of, reply_with, pay_with}
 use Rattle.vs_core.specs.declared.driver.Sent.{Sent}
 use Rattle.vs_core.specs.declared.driver.Sent.TheVariants as answered
-use Rattle.vs_core.specs.Device.{DevicePart}
+use Rattle.vs_core.specs.Device.{DevicePart, DeviceEntry}
 use Rattle.vs_core.specs.Told.{ring_answer}
 use Rattle.vs_core.specs.World.{taken_on, pay_at}
-use Rattle.vs_core.proofs.WorldPlays.{post_cases, post_then_cases, if_cases}
-use Rattle.vs_core.proofs.WorldLists.{all_update_first, all_at, all_set, found_among, stands_at}
-use Rattle.vs_core.proofs.WorldOrder.{brought_on, IsOpened}
-use Rattle.vs_core.proofs.WorldPages.{packet_in, page_of_packet, asks_nothing, brings_nothing, asks_own, brings_own}
+use Rattle.vs_core.proofs.WorldPlays.{post_cases, post_then_cases, if_cases, rx_back, paid_into, pay_slot}
+use Rattle.vs_core.proofs.WorldLists.{all_update_first, all_at, all_set, all_changed, alone_front, update_alone, found_among, found_passes, stands_at}
+use Rattle.vs_core.proofs.WorldQueues.{IsHeader}
+use Rattle.vs_core.proofs.WorldFlows.{same_flow}
+use Rattle.vs_core.proofs.WorldSlots.{numbered_updated, numbered_set}
+use Rattle.vs_core.proofs.WorldOrder.{brought_on, was_answered, AreNumbered, IsOpened}
+use Rattle.vs_core.proofs.WorldPages.{packet_in, page_of_packet, asks_nothing, brings_nothing, asks_own, brings_own, port_fits}
 use Rattle.vs_core.proofs.WorldKept.{Kept, KeptIn, kept_slots, kept_silent, kept_sent, kept_page, kept_request}
 
 -- connect
-requested : (port : ℕ) (g : GuestPart) (d : DevicePart) (w : Rings) (h : Host) (sent : Flow → List ℕ) → port < 2 ^ 32 → g.next_port ≤ last_guest_port → KeptIn g d w h sent
+requested : (port : ℕ) (g : GuestPart) (d : DevicePart) (w : Rings) (h : Host) (sent : Flow → List ℕ) → g.next_port ≤ last_guest_port → KeptIn g d w h sent
     → KeptIn (connected port (one_posted g)) d (posted queue.Tx (header_bytes (guest_header g.cid (new_slot port g) op.Request 0)) w) h sent
-requested port g d w h sent fits room k =
+requested port g d w h sent room k =
     let head = guest_header g.cid (new_slot port g) op.Request 0 in
     kept_request (slot_paid (new_slot port (one_posted g)) owed.Request) (header_bytes head)
     (page_of_packet head [] k.guest_cid refl refl (omega arith)) room
-    (record { below = omega arith; fits = fits; put = refl })
-    (λ f asks. ap (λ x. x.guest) (asks_own head [] f (omega arith) fits asks))
+    (record { below = omega arith; fits = λ answered. absurd (false≢true answered); put = refl }) refl
+    (λ f asks. asks_own head [] f (omega arith) asks)
     (brings_nothing head [] (omega arith) refl) k
 
-pub connect_keeps : (port : ℕ) (g : GuestPart) (d : DevicePart) (w : Rings) (h : Host) (sent : Flow → List ℕ) → port < 2 ^ 32 → KeptIn g d w h sent
+pub connect_keeps : (port : ℕ) (g : GuestPart) (d : DevicePart) (w : Rings) (h : Host) (sent : Flow → List ℕ) → KeptIn g d w h sent
     → let r = played ring_answer (connect_with as_they_stand port g) w in KeptIn r.0.0 d r.1 h sent
-connect_keeps port g d w h sent fits k =
+connect_keeps port g d w h sent k =
     if_cases ring_answer (is_assigned port) _ _ w (λ r. KeptIn r.0.0 d r.1 h sent) (λ _. k) (λ _.
     if_cases ring_answer (leb table_size (length g.slots)) _ _ w (λ r. KeptIn r.0.0 d r.1 h sent) (λ _. k) (λ _.
     if_cases ring_answer (is_spent g) _ _ w (λ r. KeptIn r.0.0 d r.1 h sent) (λ _. k) (λ fresh.
     let room = ltb-false last_guest_port g.next_port (or_parts _ _ fresh).0 in
-    post_cases _ g _ w (λ r. KeptIn r.0.0 d r.1 h sent) k (requested port g d w h sent fits room k))))
+    post_cases _ g _ w (λ r. KeptIn r.0.0 d r.1 h sent) k (requested port g d w h sent room k))))
 
 -- send
 no_bytes : (b : Bool) → cond {A = List ℕ} b [] [] ≡ []
@@ -79,14 +83,14 @@ new_flow port s f o above = and_left (eqb f.guest s.flow.guest) (eqb f.host s.fl
 
 -- an RW of a slot
 sent_page : (g : GuestPart) (d : DevicePart) (w : Rings) (h : Host) (sent : Flow → List ℕ) (s : GuestSlot) (payload : List ℕ)
-    → length payload < 2 ^ 32 → IsOpened g.next_port s → KeptIn g d w h sent
-    → Kept g.cid g.slots g.next_port d.cid d.entries d.next_slot (w.tx.given ++ (header_bytes (guest_header g.cid s op.Rw (length payload)) ++ payload) ∷ []) h.streams
+    → length payload < 2 ^ 32 → IsOpened g.next_port s → s.flow.host < 2 ^ 32 → KeptIn g d w h sent
+    → Kept g.cid g.slots g.next_port g.next_id d.cid d.entries d.next_slot (w.tx.given ++ (header_bytes (guest_header g.cid s op.Rw (length payload)) ++ payload) ∷ []) h.streams
     (λ f. sent f ++ cond (is_flow f s.flow) payload [])
-sent_page g d w h sent s payload fits o k =
+sent_page g d w h sent s payload fits o host k =
     let head = guest_header g.cid s op.Rw (length payload) in
     let page = header_bytes head ++ payload in
     let src : s.flow.guest < 2 ^ 32 = flow_fits g.next_port s k.order.ports o in
-    let brings : (f : Flow) → brought_on f (packet_in page) ≡ cond (is_flow f s.flow) payload [] = λ f. brings_own head payload f src o.fits refl fits refl in
+    let brings : (f : Flow) → brought_on f (packet_in page) ≡ cond (is_flow f s.flow) payload [] = λ f. brings_own head payload f src host refl fits refl in
     kept_sent (λ f. sent f ++ brought_on f (packet_in page)) (λ f. sent f ++ cond (is_flow f s.flow) payload []) (λ f. ap (λ xs. sent f ++ xs) (brings f))
     (kept_page page (page_of_packet head payload k.guest_cid refl refl fits) (asks_nothing head payload (omega arith) refl) (λ f above. brings f ∙ ap (λ b. cond b payload []) (new_flow g.next_port s f o above)) k)
 
@@ -98,32 +102,39 @@ slots_sent : (port id n : ℕ) (slots : List GuestSlot) → AllByRecursion (IsOp
 slots_sent port id n slots opened = all_update_first (IsOpened port) (has_id id) (slot_sent n) (λ s o. record { below = o.below; fits = o.fits; put = o.put }) slots opened
 
 payload_keeps : (s : GuestSlot) (bytes : List ℕ) (credit : ℕ) (g : GuestPart) (d : DevicePart) (w : Rings) (h : Host) (sent : Flow → List ℕ)
-    → IsOpened g.next_port s → KeptIn g d w h sent
+    → IsOpened g.next_port s → s.flow.host < 2 ^ 32 → KeptIn g d w h sent
     → SendKeeps s bytes d h sent (played ring_answer (put_payload s (payload_of bytes credit) g) w)
-payload_keeps s bytes credit g d w h sent o k =
+payload_keeps s bytes credit g d w h sent o host k =
     post_cases _ g _ w (SendKeeps s bytes d h sent) (kept_silent k)
     (kept_sent (λ f. sent f ++ cond (is_flow f s.flow) (payload_of bytes credit) []) _ (λ f. ap (λ xs. sent f ++ cond (is_flow f s.flow) xs []) (sym (took_all bytes credit)))
-    (kept_slots _ (slots_sent g.next_port s.id (length (payload_of bytes credit)) g.slots k.order.opened) (sent_page g d w h sent s (payload_of bytes credit) (payload_fits bytes credit) o k)))
+    (kept_slots _ (slots_sent g.next_port s.id (length (payload_of bytes credit)) g.slots k.order.opened) (numbered_updated (has_id s.id) (slot_sent (length (payload_of bytes credit))) (λ t. refl) k.numbered) (sent_page g d w h sent s (payload_of bytes credit) (payload_fits bytes credit) o host k)))
 
 nothing_keeps : (s : GuestSlot) (bytes : List ℕ) (g : GuestPart) (d : DevicePart) (w : Rings) (h : Host) (sent : Flow → List ℕ) → KeptIn g d w h sent
     → SendKeeps s bytes d h sent ((g, answered.Took 0), w)
 nothing_keeps s bytes g d w h sent k =
     kept_sent sent (λ f. sent f ++ cond (is_flow f s.flow) [] []) (λ f. sym (ap (λ xs. sent f ++ xs) (no_bytes (is_flow f s.flow)) ∙ append-nil (sent f))) k
 
+answers_live : (gone : Bool) (s : State) (c : Credit) (credit : ℕ) → cond gone (Err stop.Reset) (state_may_send s c) ≡ Ok credit → was_answered s ≡ true
+answers_live true s c credit e = cc
+answers_live false state.Live c credit e = refl
+answers_live false state.Asked c credit e = cc
+answers_live false state.Answering c credit e = refl
+answers_live false state.Ended c credit e = cc
+
 send_on_keeps : (s : GuestSlot) (may : Result ℕ Stop) (bytes : List ℕ) (g : GuestPart) (d : DevicePart) (w : Rings) (h : Host) (sent : Flow → List ℕ)
-    → IsOpened g.next_port s → KeptIn g d w h sent → SendKeeps s bytes d h sent (played ring_answer (send_on as_they_stand s may bytes g) w)
-send_on_keeps s (Ok credit) bytes g d w h sent o k =
+    → slot_may_send s ≡ may → IsOpened g.next_port s → KeptIn g d w h sent → SendKeeps s bytes d h sent (played ring_answer (send_on as_they_stand s may bytes g) w)
+send_on_keeps s (Ok credit) bytes g d w h sent may o k =
     if_cases ring_answer (eqb (length bytes) 0) _ _ w (SendKeeps s bytes d h sent) (λ _. nothing_keeps s bytes g d w h sent k) (λ _.
     if_cases ring_answer (eqb credit 0) _ _ w (SendKeeps s bytes d h sent) (λ _. kept_silent k) (λ _.
-    payload_keeps s bytes credit g d w h sent o k))
-send_on_keeps s (Err stop.NotOpen) bytes g d w h sent o k = kept_silent k
-send_on_keeps s (Err stop.Reset) bytes g d w h sent o k = kept_silent k
+    payload_keeps s bytes credit g d w h sent o (o.fits (answers_live s.gone s.end.state s.end.credit credit may)) k))
+send_on_keeps s (Err stop.NotOpen) bytes g d w h sent may o k = kept_silent k
+send_on_keeps s (Err stop.Reset) bytes g d w h sent may o k = kept_silent k
 
 send_slot_keeps : (slot : Option GuestSlot) (bytes : List ℕ) (g : GuestPart) (d : DevicePart) (w : Rings) (h : Host) (sent : Flow → List ℕ)
     → ((s : GuestSlot) → slot ≡ Some s → IsOpened g.next_port s) → KeptIn g d w h sent
     → let r = played ring_answer (send_slot as_they_stand slot bytes g) w in KeptIn r.0.0 d r.1 h (λ f. sent f ++ taken_on f slot bytes r.0.1)
 send_slot_keeps None bytes g d w h sent o k = kept_silent k
-send_slot_keeps (Some s) bytes g d w h sent o k = send_on_keeps s (slot_may_send s) bytes g d w h sent (o s refl) k
+send_slot_keeps (Some s) bytes g d w h sent o k = send_on_keeps s (slot_may_send s) bytes g d w h sent refl (o s refl) k
 
 slot_opened : (port : ℕ) (p : GuestSlot → Bool) (slots : List GuestSlot) → AllByRecursion (IsOpened port) slots → (s : GuestSlot) → find p slots ≡ Some s → IsOpened port s
 slot_opened port p slots opened s found =
@@ -140,7 +151,7 @@ slots_read : (port id n : ℕ) (slots : List GuestSlot) → AllByRecursion (IsOp
 slots_read port id n slots opened = all_update_first (IsOpened port) (has_id id) (slot_read n) (λ s o. record { below = o.below; fits = o.fits; put = o.put }) slots opened
 
 pub recv_keeps : (id len : ℕ) (g : GuestPart) (d : DevicePart) (w : Rings) (h : Host) (sent : Flow → List ℕ) → KeptIn g d w h sent → KeptIn (after_recv id len g) d w h sent
-recv_keeps id len g d w h sent k = kept_slots (update_first (has_id id) (slot_read len) g.slots) (slots_read g.next_port id len g.slots k.order.opened) k
+recv_keeps id len g d w h sent k = kept_slots (update_first (has_id id) (slot_read len) g.slots) (slots_read g.next_port id len g.slots k.order.opened) (numbered_updated (has_id id) (slot_read len) (λ t. refl) k.numbered) k
 
 -- a transmit page comes back
 pub reap_keeps : (g : GuestPart) (d : DevicePart) (w : Rings) (h : Host) (sent : Flow → List ℕ) → KeptIn g d w h sent
@@ -160,44 +171,69 @@ put_stays e p (verdict.Rst why) = refl
 put_stays e p verdict.Peer = refl
 put_stays e p verdict.Ignore = refl
 
-opened_after : (port : ℕ) (v : Verdict) (p : Header) (payload : List ℕ) (s : GuestSlot) → IsOpened port s → IsOpened port (slot_after v p payload s)
-opened_after port verdict.Peer p payload s o = record { below = o.below; fits = o.fits; put = put_stays s.end p (verdict_of s.end p) ∙ o.put }
-opened_after port verdict.Deliver p payload s o = record { below = o.below; fits = o.fits; put = put_stays s.end p (verdict_of s.end p) ∙ o.put }
-opened_after port verdict.Accept p payload s o = record { below = o.below; fits = o.fits; put = put_stays s.end p (verdict_of s.end p) ∙ o.put }
-opened_after port verdict.Ignore p payload s o = record { below = o.below; fits = o.fits; put = put_stays s.end p (verdict_of s.end p) ∙ o.put }
-opened_after port (verdict.Rst why) p payload s o = record { below = o.below; fits = o.fits; put = put_stays s.end p (verdict_of s.end p) ∙ o.put }
+same_after : (v : Verdict) (p : Header) (payload : List ℕ) (s : GuestSlot) → ((slot_after v p payload s).flow ≡ s.flow) × ((slot_after v p payload s).id ≡ s.id) × ((slot_after v p payload s).end.request_put ≡ s.end.request_put)
+same_after verdict.Peer p payload s = (refl, refl, put_stays s.end p (verdict_of s.end p))
+same_after verdict.Deliver p payload s = (refl, refl, put_stays s.end p (verdict_of s.end p))
+same_after verdict.Accept p payload s = (refl, refl, put_stays s.end p (verdict_of s.end p))
+same_after verdict.Ignore p payload s = (refl, refl, put_stays s.end p (verdict_of s.end p))
+same_after (verdict.Rst why) p payload s = (refl, refl, put_stays s.end p (verdict_of s.end p))
 
-flow_keeps : (p : Header) (payload : List ℕ) (o : Option GuestSlot) (g : GuestPart) (d : DevicePart) (w : Rings) (h : Host) (sent : Flow → List ℕ) → KeptIn g d w h sent
-    → KeptIn (on_flow p payload o g) d w h sent
-flow_keeps p payload (Some s) g d w h sent k =
-    kept_slots (update_first (has_id s.id) (slot_after (verdict_of s.end p) p payload) g.slots)
-    (all_update_first (IsOpened g.next_port) (has_id s.id) (slot_after (verdict_of s.end p) p payload) (opened_after g.next_port (verdict_of s.end p) p payload) g.slots k.order.opened) k
-flow_keeps p payload None g d w h sent k =
-    cond_both (eqb p.op 3) g _ (λ x. KeptIn x d w h sent) (λ _. k) (λ _. k)
+opened_after : (port : ℕ) (v : Verdict) (p : Header) (payload : List ℕ) (s : GuestSlot) → s.flow.host < 2 ^ 32 → IsOpened port s → IsOpened port (slot_after v p payload s)
+opened_after port v p payload s host o =
+    let same = same_after v p payload s in
+    record {
+      below = subst (λ f. f.guest < port) (sym same.0) o.below;
+      fits = λ answered. subst (λ f. f.host < 2 ^ 32) (sym same.0) host;
+      put = same.2 ∙ o.put;
+    }
 
-received_keeps : (page : List ℕ) (g : GuestPart) (d : DevicePart) (w : Rings) (h : Host) (sent : Flow → List ℕ) → KeptIn g d w h sent → KeptIn (received page g) d w h sent
-received_keeps page g d w h sent k =
+-- the slot of a packet's flow: its host port is the packet's, and no other slot has its id
+slot_host : (p : Header) (s : GuestSlot) → has_flow (flow_to_guest p) s ≡ true → p.src_port < 2 ^ 32 → s.flow.host < 2 ^ 32
+slot_host p s found fits =
+    let same = same_flow (flow_to_guest p) s.flow (and_parts (not s.gone) (is_flow (flow_to_guest p) s.flow) found).1 in
+    subst (λ f. f.host < 2 ^ 32) same fits
+
+known_opened : (port id : ℕ) (p : Header) (f : GuestSlot → GuestSlot) (slots : List GuestSlot) (s : GuestSlot) → find (has_flow (flow_to_guest p)) slots ≡ Some s → AreNumbered id slots
+    → IsOpened port (f s) → AllByRecursion (IsOpened port) slots → AllByRecursion (IsOpened port) (update_first (has_id s.id) f slots)
+known_opened port id p f slots s found n changed opened =
+    let m = found_among (has_flow (flow_to_guest p)) slots s found in
+    let here : has_id s.id s ≡ true = eq-eqb s.id s.id refl in
+    let alone = alone_front (has_id s.id) m.front s m.back here (subst (λ xs. length (filter (has_id s.id) xs) ≤ 1) m.whole (n.apart s.id)) in
+    subst (AllByRecursion (IsOpened port)) (sym (ap (update_first (has_id s.id) f) m.whole ∙ update_alone (has_id s.id) f m.front s m.back here alone))
+    (all_changed (IsOpened port) m.front s (f s) m.back changed (subst (AllByRecursion (IsOpened port)) m.whole opened))
+
+flow_keeps : (p : Header) (payload : List ℕ) (o : Option GuestSlot) (g : GuestPart) (d : DevicePart) (w : Rings) (h : Host) (sent : Flow → List ℕ)
+    → p.src_port < 2 ^ 32 → find (has_flow (flow_to_guest p)) g.slots ≡ o → KeptIn g d w h sent → KeptIn (on_flow p payload o g) d w h sent
+flow_keeps p payload (Some s) g d w h sent fits found k =
+    let after = slot_after (verdict_of s.end p) p payload in
+    let o = slot_opened g.next_port (has_flow (flow_to_guest p)) g.slots k.order.opened s found in
+    let host = slot_host p s (found_passes (has_flow (flow_to_guest p)) g.slots s found) fits in
+    kept_slots (update_first (has_id s.id) after g.slots)
+    (known_opened g.next_port g.next_id p after g.slots s found k.numbered (opened_after g.next_port (verdict_of s.end p) p payload s host o) k.order.opened)
+    (numbered_updated (has_id s.id) after (λ t. (same_after (verdict_of s.end p) p payload t).1) k.numbered) k
+flow_keeps p payload None g d w h sent fits found k = cond_both (eqb p.op 3) g _ (λ x. KeptIn x d w h sent) (λ _. k) (λ _. k)
+
+received_keeps : (page : List ℕ) (g : GuestPart) (d : DevicePart) (w : Rings) (h : Host) (sent : Flow → List ℕ) → (header_of page).src_port < 2 ^ 32 → KeptIn g d w h sent → KeptIn (received page g) d w h sent
+received_keeps page g d w h sent fits k =
     cond_both (is_whole page) (on_flow (header_of page) (take (header_of page).len (drop header_size page)) (find (has_flow (flow_to_guest (header_of page))) g.slots) g) g (λ x. KeptIn x d w h sent)
-    (λ _. flow_keeps (header_of page) (take (header_of page).len (drop header_size page)) (find (has_flow (flow_to_guest (header_of page))) g.slots) g d w h sent k)
+    (λ _. flow_keeps (header_of page) (take (header_of page).len (drop header_size page)) (find (has_flow (flow_to_guest (header_of page))) g.slots) g d w h sent fits refl k)
     (λ _. k)
 
-abbrev rx_back : List (List ℕ) → Rings → Rings
-rx_back pages w = record w { rx = record w.rx { back = pages } }
-
-took_rx : (pages : List (List ℕ)) (g : GuestPart) (d : DevicePart) (w : Rings) (h : Host) (sent : Flow → List ℕ) → KeptIn g d w h sent
+took_rx : (pages : List (List ℕ)) (g : GuestPart) (d : DevicePart) (w : Rings) (h : Host) (sent : Flow → List ℕ) → AllByRecursion IsHeader pages → KeptIn g d w h sent
     → let r = played ring_answer (take_rx_of g) (rx_back pages w) in KeptIn r.0.0 d r.1 h sent
-took_rx [] g d w h sent k = if_cases ring_answer (leb reply_limit (length g.replies)) _ _ (rx_back [] w) (λ r. KeptIn r.0.0 d r.1 h sent) (λ _. k) (λ _. k)
-took_rx (page ∷ pages) g d w h sent k =
-    if_cases ring_answer (leb reply_limit (length g.replies)) _ _ (rx_back (page ∷ pages) w) (λ r. KeptIn r.0.0 d r.1 h sent) (λ _. k) (λ _. received_keeps page g d w h sent k)
+took_rx [] g d w h sent heads k = if_cases ring_answer (leb reply_limit (length g.replies)) _ _ (rx_back [] w) (λ r. KeptIn r.0.0 d r.1 h sent) (λ _. k) (λ _. k)
+took_rx (page ∷ pages) g d w h sent heads k =
+    let fits : (header_of page).src_port < 2 ^ 32 = subst (λ xs. (header_of xs).src_port < 2 ^ 32) (sym heads.0.1) (port_fits heads.0.0) in
+    if_cases ring_answer (leb reply_limit (length g.replies)) _ _ (rx_back (page ∷ pages) w) (λ r. KeptIn r.0.0 d r.1 h sent) (λ _. k) (λ _. received_keeps page g d w h sent fits k)
 
-pub take_rx_keeps : (g : GuestPart) (d : DevicePart) (w : Rings) (h : Host) (sent : Flow → List ℕ) → KeptIn g d w h sent
+pub take_rx_keeps : (g : GuestPart) (d : DevicePart) (w : Rings) (h : Host) (sent : Flow → List ℕ) → AllByRecursion IsHeader w.rx.back → KeptIn g d w h sent
     → let r = played ring_answer (take_rx_of g) w in KeptIn r.0.0 d r.1 h sent
-take_rx_keeps g d w h sent k = took_rx w.rx.back g d w h sent k
+take_rx_keeps g d w h sent heads k = took_rx w.rx.back g d w h sent heads k
 
 -- a page with neither REQUEST nor RW
 quiet_page : (head : Header) (g : GuestPart) (d : DevicePart) (w : Rings) (h : Host) (sent : Flow → List ℕ)
     → head.src_cid ≡ g.cid → head.dst_cid ≡ host_cid → head.len ≡ 0 → head.op < 2 ^ 16 → eqb head.op 1 ≡ false → eqb head.op 5 ≡ false
-    → KeptIn g d w h sent → Kept g.cid g.slots g.next_port d.cid d.entries d.next_slot (w.tx.given ++ header_bytes head ∷ []) h.streams sent
+    → KeptIn g d w h sent → Kept g.cid g.slots g.next_port g.next_id d.cid d.entries d.next_slot (w.tx.given ++ header_bytes head ∷ []) h.streams sent
 quiet_page head g d w h sent src dst len fits request payload k =
     let nothing = brings_nothing head [] fits payload in
     kept_sent (λ f. sent f ++ brought_on f (packet_in (header_bytes head))) sent (λ f. ap (λ xs. sent f ++ xs) (nothing f) ∙ append-nil (sent f))
@@ -210,13 +246,6 @@ reply_keeps (p ∷ ps) g d w h sent k =
     post_cases _ g _ w (λ r. KeptIn r.0.0 d r.1 h sent) k
     (quiet_page (reply_header g.cid host_cid p) g d w h sent refl refl refl (omega arith) refl refl k)
 
--- a slot pays what it owes, and no REQUEST
-abbrev paid_into : ℕ → Paid → GuestTree (GuestPart × Unit {0})
-paid_into place p = Done (record p.part { slots = set p.part.slots place p.slot }, tt)
-
-abbrev pay_slot : ℕ → Option GuestSlot → GuestPart → GuestTree (GuestPart × Unit {0})
-pay_slot place o g = elim o [ None ↦ Done (g, tt) | Some s ↦ bind (pay_of s g) (paid_into place) ]
-
 owes_no_request : (gone : Bool) (s : State) (put : Bool) → put ≡ true → cond gone None (state_owes s put) ≡ Some owed.Request → ⊥
 owes_no_request true s put was e = cc
 owes_no_request false state.Ended put was e = cc
@@ -225,32 +254,40 @@ owes_no_request false state.Asked false was e = cc
 owes_no_request false state.Answering put was e = cc
 owes_no_request false state.Live put was e = cc
 
-slot_at_place : (port : ℕ) (slots : List GuestSlot) (place : ℕ) (s : GuestSlot) → IsOpened port s → AllByRecursion (IsOpened port) slots → AllByRecursion (IsOpened port) (set slots place s)
-slot_at_place port slots place s o opened = all_set (IsOpened port) slots place s o opened
+answering_owes : (gone : Bool) (s : State) (put : Bool) → cond gone None (state_owes s put) ≡ Some owed.Response → was_answered s ≡ true
+answering_owes true s put e = cc
+answering_owes false state.Answering put e = refl
+answering_owes false state.Live put e = refl
+answering_owes false state.Ended put e = cc
+answering_owes false state.Asked true e = cc
+answering_owes false state.Asked false e = cc
 
-pay_with_keeps : (place : ℕ) (o : Option Owed) (s : GuestSlot) (g : GuestPart) (d : DevicePart) (w : Rings) (h : Host) (sent : Flow → List ℕ)
-    → IsOpened g.next_port s → (o ≡ Some owed.Request → ⊥) → KeptIn g d w h sent
-    → let r = played ring_answer (bind (pay_with o s g) (paid_into place)) w in KeptIn r.0.0 d r.1 h sent
-pay_with_keeps place None s g d w h sent o never k = kept_slots (set g.slots place s) (slot_at_place g.next_port g.slots place s o k.order.opened) k
-pay_with_keeps place (Some owed.Request) s g d w h sent o never k = absurd (never refl)
-pay_with_keeps place (Some owed.Rst) s g d w h sent o never k =
-    post_then_cases _ g _ (paid_into place) w (λ r. KeptIn r.0.0 d r.1 h sent)
-    (kept_slots (set g.slots place s) (slot_at_place g.next_port g.slots place s o k.order.opened) k)
-    (kept_slots (set g.slots place (slot_paid s owed.Rst)) (slot_at_place g.next_port g.slots place (slot_paid s owed.Rst) (record { below = o.below; fits = o.fits; put = o.put }) k.order.opened)
+-- the slot at a place after its pay
+paid_slots : {guest : ℕ} {slots : List GuestSlot} {port id device : ℕ} {es : List DeviceEntry} {next : ℕ} {pages : List (List ℕ)} {streams : List Stream} {sent : Flow → List ℕ}
+    (place : ℕ) (s t : GuestSlot) → slice_get slots place ≡ Some s → t.id ≡ s.id → IsOpened port t
+    → Kept guest slots port id device es next pages streams sent → Kept guest (set slots place t) port id device es next pages streams sent
+paid_slots {slots = slots} {port = port} place s t at same o k = kept_slots (set slots place t) (all_set (IsOpened port) slots place t o k.order.opened) (numbered_set place s t at same k.numbered) k
+
+pay_with_keeps : (place : ℕ) (owes : Option Owed) (s : GuestSlot) (g : GuestPart) (d : DevicePart) (w : Rings) (h : Host) (sent : Flow → List ℕ)
+    → slice_get g.slots place ≡ Some s → slot_owes s ≡ owes → IsOpened g.next_port s → KeptIn g d w h sent
+    → let r = played ring_answer (bind (pay_with owes s g) (paid_into place)) w in KeptIn r.0.0 d r.1 h sent
+pay_with_keeps place None s g d w h sent at owes o k = paid_slots place s s at refl o k
+pay_with_keeps place (Some owed.Request) s g d w h sent at owes o k = absurd (owes_no_request s.gone s.end.state s.end.request_put o.put owes)
+pay_with_keeps place (Some owed.Rst) s g d w h sent at owes o k =
+    post_then_cases _ g _ (paid_into place) w (λ r. KeptIn r.0.0 d r.1 h sent) (paid_slots place s s at refl o k)
+    (paid_slots place s (slot_paid s owed.Rst) at refl (record { below = o.below; fits = o.fits; put = o.put })
     (quiet_page (guest_header g.cid s op.Rst 0) g d w h sent refl refl refl (omega arith) refl refl k))
-pay_with_keeps place (Some owed.Response) s g d w h sent o never k =
-    post_then_cases _ g _ (paid_into place) w (λ r. KeptIn r.0.0 d r.1 h sent)
-    (kept_slots (set g.slots place s) (slot_at_place g.next_port g.slots place s o k.order.opened) k)
-    (kept_slots (set g.slots place (slot_paid s owed.Response)) (slot_at_place g.next_port g.slots place (slot_paid s owed.Response) (record { below = o.below; fits = o.fits; put = o.put }) k.order.opened)
+pay_with_keeps place (Some owed.Response) s g d w h sent at owes o k =
+    let host = o.fits (answering_owes s.gone s.end.state s.end.request_put owes) in
+    post_then_cases _ g _ (paid_into place) w (λ r. KeptIn r.0.0 d r.1 h sent) (paid_slots place s s at refl o k)
+    (paid_slots place s (slot_paid s owed.Response) at refl (record { below = o.below; fits = λ answered. host; put = o.put })
     (quiet_page (guest_header g.cid s op.Response 0) g d w h sent refl refl refl (omega arith) refl refl k))
 
 pay_slot_keeps : (place : ℕ) (slot : Option GuestSlot) (g : GuestPart) (d : DevicePart) (w : Rings) (h : Host) (sent : Flow → List ℕ)
-    → ((s : GuestSlot) → slot ≡ Some s → IsOpened g.next_port s) → KeptIn g d w h sent
+    → slice_get g.slots place ≡ slot → ((s : GuestSlot) → slot ≡ Some s → IsOpened g.next_port s) → KeptIn g d w h sent
     → let r = played ring_answer (pay_slot place slot g) w in KeptIn r.0.0 d r.1 h sent
-pay_slot_keeps place None g d w h sent o k = k
-pay_slot_keeps place (Some s) g d w h sent o k =
-    let opened = o s refl in
-    pay_with_keeps place (slot_owes s) s g d w h sent opened (owes_no_request s.gone s.end.state s.end.request_put opened.put) k
+pay_slot_keeps place None g d w h sent at o k = k
+pay_slot_keeps place (Some s) g d w h sent at o k = pay_with_keeps place (slot_owes s) s g d w h sent at refl (o s refl) k
 
 slot_there : (port : ℕ) (slots : List GuestSlot) (place : ℕ) → AllByRecursion (IsOpened port) slots → (s : GuestSlot) → slice_get slots place ≡ Some s → IsOpened port s
 slot_there port slots place opened s there =
@@ -259,4 +296,4 @@ slot_there port slots place opened s there =
 
 pub pay_keeps : (place : ℕ) (g : GuestPart) (d : DevicePart) (w : Rings) (h : Host) (sent : Flow → List ℕ) → KeptIn g d w h sent
     → let r = played ring_answer (pay_at place g) w in KeptIn r.0.0 d r.1 h sent
-pay_keeps place g d w h sent k = pay_slot_keeps place (slice_get g.slots place) g d w h sent (slot_there g.next_port g.slots place k.order.opened) k
+pay_keeps place g d w h sent k = pay_slot_keeps place (slice_get g.slots place) g d w h sent refl (slot_there g.next_port g.slots place k.order.opened) k

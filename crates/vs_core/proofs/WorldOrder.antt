@@ -9,7 +9,7 @@ use Rattle.vs_conn.specs.declared.end.State.TheVariants as state
 use Rattle.vs_core.specs.declared.flow.Flow.{Flow}
 use Rattle.vs_core.specs.Profile.{last_guest_port}
 use Rattle.vs_core.specs.Lists.{IsPrefix}
-use Rattle.vs_core.specs.Guest.{GuestSlot, is_flow}
+use Rattle.vs_core.specs.Guest.{GuestSlot, has_id, is_flow}
 use Rattle.vs_core.specs.Outside.{Stream}
 use Rattle.vs_core.specs.Device.{DeviceEntry, flow_from_guest, entry_has, entry_at}
 use Rattle.vs_core.specs.World.{is_labelled}
@@ -73,11 +73,23 @@ pub record IsFresh (f : Flow) (ps : List Packet) (vs : List Shown) (sent : List 
   pub unasked : NoneAsks f ps
   pub unshown : filter (shows f) vs ≡ []
 
--- A slot of the driver, where guest ports below this one were given.
+-- An end that heard an answer to its REQUEST.
+abbrev pub was_answered : State → Bool
+was_answered state.Asked = false
+was_answered state.Answering = true
+was_answered state.Live = true
+was_answered state.Ended = false
+
+-- A slot of the driver, where guest ports below this one were given. An answer names a host port of 32 bits.
 pub record IsOpened (port : ℕ) (s : GuestSlot) : Type 0 where
   pub below : s.flow.guest < port
-  pub fits : s.flow.host < 2 ^ 32
+  pub fits : was_answered s.end.state ≡ true → s.flow.host < 2 ^ 32
   pub put : s.end.request_put ≡ true
+
+-- Slots with ids below this one, each with its own.
+pub record AreNumbered (id : ℕ) (slots : List GuestSlot) : Type 0 where
+  pub below : AllByRecursion (λ s. s.id < id) slots
+  pub apart : (k : ℕ) → length (filter (has_id k) slots) ≤ 1
 
 -- The stream of an entry is labelled with its flow.
 pub record HasStream (vs : List Shown) (e : DeviceEntry) : Type 0 where

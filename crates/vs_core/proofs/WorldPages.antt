@@ -93,11 +93,15 @@ brings_nothing h payload fits other f =
     ap (λ b. cond b (packet_in (header_bytes h ++ payload)).payload [])
     (and_right (is_flow f (flow_from_guest (packet_in (header_bytes h ++ payload)).header)) _ (ap (λ n. eqb n 5) (reads_op h payload fits) ∙ other))
 
--- A REQUEST is of its own flow, and an RW brings its payload on its own flow.
-pub asks_own : (h : Header) (payload : List ℕ) (f : Flow) → h.src_port < 2 ^ 32 → h.dst_port < 2 ^ 32
-    → asks_on f (packet_in (header_bytes h ++ payload)) ≡ true → f ≡ flow_from_guest h
-asks_own h payload f src dst asks =
-    same_flow f _ (and_parts (is_flow f (flow_from_guest (packet_in (header_bytes h ++ payload)).header)) _ asks).0 ∙ reads_flow h payload src dst
+-- A REQUEST is of its own guest port, and an RW brings its payload on its own flow.
+pub asks_own : (h : Header) (payload : List ℕ) (f : Flow) → h.src_port < 2 ^ 32 → asks_on f (packet_in (header_bytes h ++ payload)) ≡ true → f.guest ≡ h.src_port
+asks_own h payload f src asks =
+    ap (λ g. g.guest) (same_flow f (flow_from_guest (packet_in (header_bytes h ++ payload)).header) (and_parts (is_flow f (flow_from_guest (packet_in (header_bytes h ++ payload)).header)) _ asks).0)
+    ∙ reads_src_port h payload src
+
+-- A header has 32 bits for a port.
+pub port_fits : (h : Header) → (header_of (header_bytes h)).src_port < 2 ^ 32
+port_fits h = omega arith
 
 brought_at : (b c : Bool) (payload : List ℕ) → c ≡ true → cond (b && c) payload [] ≡ cond b payload []
 brought_at true c payload e = rw e refl

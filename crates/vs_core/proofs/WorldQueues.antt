@@ -1,6 +1,6 @@
 -- What an event does to the packets in flight: per queue nothing, one more at the end, or one less at the front. So over any run the
 -- packets that were in flight and those that were put are those that were got and those still in flight.
-use Rattle.std.proofs.Common.{◌≡◌, ℕ, suc, ◌+◌, ◌-◌, Bool, true, false, ◌&&◌, ◌||◌, eqb, leb, ltb, if◌then◌else◌, List, [], ◌∷◌, ◌++◌, length, take, drop, set, slice_get, find, Option, Some, None, Result, Ok, Err, refl, sym, ap, ◌∙◌, subst, arith, append_assoc, append-nil}
+use Rattle.std.proofs.Common.{◌≡◌, ℕ, suc, ◌-◌, Bool, true, false, ◌&&◌, ◌||◌, eqb, leb, ltb, List, [], ◌∷◌, ◌++◌, length, slice_get, find, Option, Some, None, Result, Ok, Err, refl, sym, ap, ◌∙◌, subst, arith, append_assoc, append-nil}
 use Rattle.std.proofs.lemmas.List.{drop_at, drop_all, length_push}
 use Rattle.vs_ring_list.specs.declared.ring_port.Queue.TheVariants as queue
 use Rattle.vs_ring_list.specs.Rings.{Rings, chain_with, after_done, posted}
@@ -10,33 +10,33 @@ use Rattle.vs_conn.specs.declared.end.Owed.{Owed}
 use Rattle.vs_conn.specs.declared.end.Owed.TheVariants as owed
 use Rattle.vs_core.specs.declared.reply.Reply.{Reply}
 use Rattle.vs_ring_list.specs.declared.ring_port.Failure.{Failure}
-use Rattle.vs_core.specs.declared.device.Taken.{Taken}
-use Rattle.vs_core.specs.declared.device.Taken.TheVariants as taken
 use Rattle.vs_core.specs.declared.outside.Written.{Written}
 use Rattle.vs_core.specs.declared.outside.Written.TheVariants as written
 use Rattle.vs_core.specs.Outside.{Host, written_of, after_write}
 use Rattle.vs_core.specs.Flow.{is_assigned}
-use Rattle.vs_core.specs.Profile.{table_size, header_size, reply_limit}
+use Rattle.vs_core.specs.Profile.{host_cid, table_size, header_size, reply_limit}
 use Rattle.vs_core.specs.Interaction.{Done, Ask, bind, played}
-use Rattle.vs_core.specs.Guest.{GuestPart, GuestSlot, has_id, slot_may_send, slot_owes}
-use Rattle.vs_core.specs.Driver.{Paid, payload_of, GuestTree, connect_with, as_they_stand, is_spent, send_slot, send_on, put_payload, reap_of, take_rx_of, reply_with, pay_with, pay_of}
+use Rattle.vs_core.specs.Guest.{op_of_owed, GuestPart, GuestSlot, has_id, slot_may_send, slot_owes}
+use Rattle.vs_core.specs.Driver.{payload_of, connect_with, as_they_stand, is_spent, send_slot, send_on, put_payload, reap_of, take_rx_of, reply_with, pay_with}
 use Rattle.vs_core.specs.Path.{path_of}
-use Rattle.vs_core.specs.Device.{DevicePart, DeviceEntry, flow_from_guest, is_for_host, is_full, entry_has}
-use Rattle.vs_core.specs.DeviceCalls.{DeviceTree, Served, serve_of, serve_with, after_put, answer_of, Take, Give, after_give, pump_of, answer_with, Dial, after_dial, on_entry, on_stranger, by_flow, on_packet, on_chain, after_take, take_tx_of}
+use Rattle.vs_core.specs.Reply.{reply_header}
+use Rattle.vs_core.specs.Device.{device_header, DevicePart, DeviceEntry, flow_from_guest, is_for_host, is_full, entry_has}
+use Rattle.vs_core.specs.DeviceCalls.{DeviceTree, serve_with, after_put, answer_of, Take, Give, after_give, pump_of, answer_with, Dial, after_dial, on_entry, on_stranger, by_flow, on_packet, on_chain, after_take, take_tx_of}
 use Rattle.vs_conn.specs.End.{verdict_of, owes_of}
 use Rattle.vs_conn.specs.declared.end.Verdict.{Verdict}
 use Rattle.vs_conn.specs.declared.end.Verdict.TheVariants as verdict
 use Rattle.vs_header.specs.declared.Header.{Header}
+use Rattle.vs_header.specs.Packet.{header_bytes}
 use Rattle.vs_ring_list.specs.declared.ring_port.Chain.{Chain}
 use Rattle.vs_core.specs.Told.{ring_answer}
 use Rattle.vs_core.specs.World.{World, Event, device_step, happens, run, added, removed, pay_at, pump_at, serve_at, tx_put, tx_got, rx_put, rx_got}
-use Rattle.vs_core.proofs.WorldPlays.{played-bind, post_cases, post_then_cases, if_cases, if_then_cases, put_cases, put_then_cases, answer_on, played_on}
+use Rattle.vs_core.proofs.WorldPlays.{played-bind, post_cases, post_then_cases, if_cases, if_then_cases, put_cases, put_then_cases, answer_on, played_on, rx_back, paid_into, pay_slot, tx_given, take_unless, pump_entry, served_into, serve_entry}
 
--- nothing, one more at the end, or one less at the front
-pub data Moved (old new : List (List ℕ)) : Type 0 where
-  Stays : new ≡ old → Moved old new
-  Puts : (page : List ℕ) → new ≡ old ++ page ∷ [] → Moved old new
-  Takes : (page : List ℕ) → old ≡ page ∷ new → Moved old new
+-- nothing, one more at the end, of which P holds, or one less at the front
+pub data Moved (P : List ℕ → Type 0) (old new : List (List ℕ)) : Type 0 where
+  Stays : new ≡ old → Moved P old new
+  Puts : (page : List ℕ) → P page → new ≡ old ++ page ∷ [] → Moved P old new
+  Takes : (page : List ℕ) → old ≡ page ∷ new → Moved P old new
 
 put_one : (old : List (List ℕ)) (page : List ℕ) → old ++ added old (old ++ page ∷ []) ≡ removed old (old ++ page ∷ []) ++ (old ++ page ∷ [])
 put_one old page =
@@ -53,21 +53,28 @@ same_both old =
     let none : length old - length old ≡ 0 = omega arith in
     rw (drop_all (length old) old (omega arith), append-nil old, none)
 
-balanced : (old new : List (List ℕ)) → Moved old new → old ++ added old new ≡ removed old new ++ new
-balanced old new (Stays e) = rw e (same_both old)
-balanced old new (Puts page e) = rw e (put_one old page)
-balanced old new (Takes page e) = rw e (took_one new page)
+balanced : (P : List ℕ → Type 0) (old new : List (List ℕ)) → Moved P old new → old ++ added old new ≡ removed old new ++ new
+balanced P old new (Stays e) = rw e (same_both old)
+balanced P old new (Puts page p e) = rw e (put_one old page)
+balanced P old new (Takes page e) = rw e (took_one new page)
+
+-- any page, and one that holds just a header
+abbrev pub IsAny : List ℕ → Type 0
+IsAny page = Unit {0}
+
+abbrev pub IsHeader : List ℕ → Type 0
+IsHeader page = (h : Header) × (page ≡ header_bytes h)
 
 -- both queues with packets: the driver puts into tx and gets from rx
 pub record RingsMoved (old new : Rings) : Type 0 where
-  pub tx : Moved old.tx.given new.tx.given
-  pub rx : Moved old.rx.back new.rx.back
+  pub tx : Moved IsAny old.tx.given new.tx.given
+  pub rx : Moved IsHeader old.rx.back new.rx.back
 
 stays : (w : Rings) → RingsMoved w w
 stays w = record { tx = Stays refl; rx = Stays refl }
 
 puts_tx : (bytes : List ℕ) (w : Rings) → RingsMoved w (posted queue.Tx bytes w)
-puts_tx bytes w = record { tx = Puts bytes refl; rx = Stays refl }
+puts_tx bytes w = record { tx = Puts bytes tt refl; rx = Stays refl }
 
 -- The driver's steps.
 connect_moves : (port : ℕ) (g : GuestPart) (w : Rings) → RingsMoved w (played ring_answer (connect_with as_they_stand port g) w).1
@@ -98,10 +105,6 @@ reap_moves : (g : GuestPart) (w : Rings) → RingsMoved w (played ring_answer (r
 reap_moves g w =
     if_cases ring_answer (eqb g.in_flight 0) _ _ w (λ r. RingsMoved w r.1) (λ _. stays w) (λ _. record { tx = Stays refl; rx = Stays refl })
 
--- rings with these pages given back on rx
-abbrev rx_back : List (List ℕ) → Rings → Rings
-rx_back pages w = record w { rx = record w.rx { back = pages } }
-
 take_rx_moves : (g : GuestPart) (pages : List (List ℕ)) (w : Rings)
     → RingsMoved (rx_back pages w) (played ring_answer (take_rx_of g) (rx_back pages w)).1
 take_rx_moves g [] w =
@@ -113,13 +116,6 @@ take_rx_moves g (page ∷ pages) w =
 reply_moves : (replies : List Reply) (g : GuestPart) (w : Rings) → RingsMoved w (played ring_answer (reply_with replies g) w).1
 reply_moves [] g w = stays w
 reply_moves (r ∷ rs) g w = post_cases _ g _ w (λ r. RingsMoved w r.1) (stays w) (puts_tx _ w)
-
--- what pay_at does once it has the slot's pay, and with the slot at the place
-abbrev paid_into : ℕ → Paid → GuestTree (GuestPart × Unit {0})
-paid_into place p = Done (record p.part { slots = set p.part.slots place p.slot }, tt)
-
-abbrev pay_slot : ℕ → Option GuestSlot → GuestPart → GuestTree (GuestPart × Unit {0})
-pay_slot place o g = elim o [ None ↦ Done (g, tt) | Some s ↦ bind (pay_of s g) (paid_into place) ]
 
 pay_with_moves : (place : ℕ) (o : Option Owed) (s : GuestSlot) (g : GuestPart) (w : Rings)
     → RingsMoved w (played ring_answer (bind (pay_with o s g) (paid_into place)) w).1
@@ -172,30 +168,20 @@ returned_tx : (c : Chain) (w : Rings) → c.queue ≡ queue.Tx → ((after_done 
 returned_tx c w e = rw e (refl, refl)
 
 chain_moves : (fails : Bool) (c : Chain) (h : Header) (d : DevicePart) (old w : Rings) (host : Host) → c.queue ≡ queue.Tx
-    → Moved old.tx.given w.tx.given → Moved old.rx.back w.rx.back
+    → Moved IsAny old.tx.given w.tx.given → Moved IsHeader old.rx.back w.rx.back
     → RingsMoved old (played (answer_on fails) (on_chain c h d) (w, host)).1.0
 chain_moves fails c h d old w host e tx rx =
     if_cases (answer_on fails) (ltb (c.readable - header_size) h.len) _ _ (w, host) (λ r. RingsMoved old r.1.0) (λ _. record { tx = tx; rx = rx }) (λ _.
     subst (λ r. RingsMoved old r.1.0) (sym (played-bind (answer_on fails) (on_packet c h d) _ (w, host)))
     (subst (λ v. RingsMoved old (after_done c 0 v)) (sym (packet_still fails c h d (w, host)))
     (let same = returned_tx c w e in
-    record { tx = subst (Moved old.tx.given) (sym same.0) tx; rx = subst (Moved old.rx.back) (sym same.1) rx })))
-
--- rings with these pages given on tx
-abbrev tx_given : List (List ℕ) → Rings → Rings
-tx_given pages w = record w { tx = record w.tx { given = pages } }
+    record { tx = subst (Moved IsAny old.tx.given) (sym same.0) tx; rx = subst (Moved IsHeader old.rx.back) (sym same.1) rx })))
 
 next_moves : (fails : Bool) (d : DevicePart) (pages : List (List ℕ)) (w : Rings) (host : Host)
     → RingsMoved (tx_given pages w) (played (answer_on fails) (Ask (Take queue.Tx) (λ answer. after_take answer d)) (tx_given pages w, host)).1.0
 next_moves fails d [] w host = stays (tx_given [] w)
 next_moves fails d (page ∷ pages) w host =
     chain_moves fails (chain_with queue.Tx w.tx.place page) _ d (tx_given (page ∷ pages) w) _ host refl (Takes page refl) (Stays refl)
-
-abbrev take_unless : Option Failure → DevicePart → DeviceTree (DevicePart × Taken)
-take_unless o d = elim o [
-  | None ↦ if leb reply_limit (length d.replies) then Done (d, taken.RepliesFull reply_limit) else Ask (Take queue.Tx) (λ answer. after_take answer d)
-  | Some f ↦ Done (d, taken.Failed f)
-]
 
 take_unless_moves : (fails : Bool) (o : Option Failure) (d : DevicePart) (w : Rings) (host : Host)
     → RingsMoved w (played (answer_on fails) (take_unless o d) (w, host)).1.0
@@ -223,12 +209,6 @@ pump_still : (fails : Bool) (e : DeviceEntry) (d : DevicePart) (s : Rings × Hos
 pump_still fails e d s =
     if_cases (answer_on fails) (e.closed || eqb (length e.pending) 0) _ _ s (λ r. r.1.0 ≡ s.0) (λ _. refl) (λ _. asked_still fails e d _ s)
 
-abbrev pump_entry : ℕ → Option DeviceEntry → DevicePart → DeviceTree (DevicePart × Unit {0})
-pump_entry place o d = elim o [
-  | None ↦ Done (d, tt)
-  | Some e ↦ bind (pump_of e d) (λ p. Done (record p.part { entries = set p.part.entries place p.entry }, tt))
-]
-
 pump_entry_still : (fails : Bool) (place : ℕ) (o : Option DeviceEntry) (d : DevicePart) (s : Rings × Host)
     → (played (answer_on fails) (pump_entry place o d) s).1.0 ≡ s.0
 pump_entry_still fails place None d s = refl
@@ -241,20 +221,13 @@ pump_moves : (fails : Bool) (place : ℕ) (d : DevicePart) (w : Rings) (host : H
 pump_moves fails place d w host = same_moves w _ (pump_entry_still fails place (slice_get d.entries place) d (w, host))
 
 -- One more page is given back on rx.
-puts_rx : (w new : Rings) (page : List ℕ) → new.tx ≡ w.tx → new.rx.back ≡ w.rx.back ++ page ∷ [] → RingsMoved w new
-puts_rx w new page tx rx = record { tx = Stays (ap (λ q. q.given) tx); rx = Puts page rx }
+puts_rx : (w new : Rings) (head : Header) → new.tx ≡ w.tx → new.rx.back ≡ w.rx.back ++ header_bytes head ∷ [] → RingsMoved w new
+puts_rx w new head tx rx = record { tx = Stays (ap (λ q. q.given) tx); rx = Puts (header_bytes head) (head, refl) rx }
 
 answer_moves : (replies : List Reply) (d : DevicePart) (w : Rings) (host : Host)
     → RingsMoved w (played (answer_on false) (answer_with replies d) (w, host)).1.0
 answer_moves [] d w host = stays w
-answer_moves (r ∷ rs) d w host = put_cases false _ d _ w host (λ r. RingsMoved w r.1.0) (stays w) (λ new page tx rx. puts_rx w new page tx rx)
-
--- what serve_at does once it has what is left of the entry, and with the entry at the place
-abbrev served_into : ℕ → List DeviceEntry → Served → DeviceTree (DevicePart × Unit {0})
-served_into place es s = Done (record s.part { entries = take place es ++ s.kept ++ drop (place + 1) es }, tt)
-
-abbrev serve_entry : ℕ → Option DeviceEntry → DevicePart → DeviceTree (DevicePart × Unit {0})
-serve_entry place o d = elim o [ None ↦ Done (d, tt) | Some e ↦ bind (serve_of e d) (served_into place d.entries) ]
+answer_moves (r ∷ rs) d w host = put_cases false _ d _ w host (λ r. RingsMoved w r.1.0) (stays w) (λ new tx rx. puts_rx w new (reply_header host_cid d.cid r) tx rx)
 
 after_put_still : (place : ℕ) (o : Owed) (e : DeviceEntry) (d : DevicePart) (es : List DeviceEntry) (s : Rings × Host)
     → (played (answer_on false) (bind (after_put o e d) (served_into place es)) s).1.0 ≡ s.0
@@ -266,8 +239,8 @@ serve_with_moves : (place : ℕ) (o : Option Owed) (e : DeviceEntry) (d : Device
     → RingsMoved w (played (answer_on false) (bind (serve_with o e d) (served_into place es)) (w, host)).1.0
 serve_with_moves place None e d es w host = stays w
 serve_with_moves place (Some o) e d es w host =
-    put_then_cases false _ d _ (served_into place es) w host (λ r. RingsMoved w r.1.0) (stays w) (λ new page tx rx.
-    subst (RingsMoved w) (sym (after_put_still place o e d es (new, host))) (puts_rx w new page tx rx))
+    put_then_cases false _ d _ (served_into place es) w host (λ r. RingsMoved w r.1.0) (stays w) (λ new tx rx.
+    subst (RingsMoved w) (sym (after_put_still place o e d es (new, host))) (puts_rx w new (device_header d.cid e (op_of_owed o)) tx rx))
 
 serve_entry_moves : (place : ℕ) (o : Option DeviceEntry) (d : DevicePart) (w : Rings) (host : Host)
     → RingsMoved w (played (answer_on false) (serve_entry place o d) (w, host)).1.0
@@ -282,7 +255,7 @@ device_moves : {A : Type 0} (fails : Bool) (call : DevicePart → DeviceTree (De
     → RingsMoved w.rings (played (answer_on fails) (call w.device) (w.rings, w.host)).1.0 → RingsMoved w.rings (device_step fails call w).rings
 device_moves fails call w m = subst (λ r. RingsMoved w.rings r.1.0) (sym (played_on fails (call w.device) (w.rings, w.host))) m
 
-event_moves : (w : World) (e : Event) → RingsMoved w.rings (happens w e).rings
+pub event_moves : (w : World) (e : Event) → RingsMoved w.rings (happens w e).rings
 event_moves w (Event.Connect port) = connect_moves port w.guest w.rings
 event_moves w (Event.Send id bytes) = send_slot_moves (find (has_id id) w.guest.slots) bytes w.guest w.rings
 event_moves w (Event.Recv id len) = stays w.rings
@@ -309,7 +282,7 @@ tx_balance w [] = append-nil w.rings.tx.given
 tx_balance w (e ∷ es) =
     let old = w.rings.tx.given in
     let new = (happens w e).rings.tx.given in
-    balance_on (added old new) (removed old new) old new (run (happens w e) es).rings.tx.given (balanced old new (event_moves w e).tx)
+    balance_on (added old new) (removed old new) old new (run (happens w e) es).rings.tx.given (balanced IsAny old new (event_moves w e).tx)
     (tx_put (happens w e) es) (tx_got (happens w e) es) (tx_balance (happens w e) es)
 
 pub rx_balance : (w : World) (es : List Event) → w.rings.rx.back ++ rx_put w es ≡ rx_got w es ++ (run w es).rings.rx.back
@@ -317,5 +290,5 @@ rx_balance w [] = append-nil w.rings.rx.back
 rx_balance w (e ∷ es) =
     let old = w.rings.rx.back in
     let new = (happens w e).rings.rx.back in
-    balance_on (added old new) (removed old new) old new (run (happens w e) es).rings.rx.back (balanced old new (event_moves w e).rx)
+    balance_on (added old new) (removed old new) old new (run (happens w e) es).rings.rx.back (balanced IsHeader old new (event_moves w e).rx)
     (rx_put (happens w e) es) (rx_got (happens w e) es) (rx_balance (happens w e) es)

@@ -1,7 +1,6 @@
 -- Runs: what each event keeps, what the opening world begins with, and what any run from there so ends with.
 use Rattle.std.proofs.Common.{◌≡◌, ℕ, ◌<◌, ◌≤◌, Bool, true, false, cond, List, [], ◌∷◌, ◌++◌, length, map, filter, flat_map, find, get_or, slice_get, option_map, All, AllPairs, Some, refl, sym, ap, ◌∙◌, subst, arith, append_assoc, append-nil}
 use Rattle.std.specs.List.{AllByRecursion}
-use Rattle.std.proofs.lemmas.List.Elements.{recursion_from_All}
 use Rattle.std.proofs.lemmas.Option.{slice_get-get_or, slice_get-map}
 use Rattle.vs_core.specs.declared.flow.Flow.{Flow}
 use Rattle.vs_core.specs.declared.driver.Sent.{Sent}
@@ -14,11 +13,12 @@ use Rattle.vs_core.specs.Driver.{send_with, as_they_stand}
 use Rattle.vs_core.specs.Device.{DeviceEntry, DevicePart, entry_has}
 use Rattle.vs_core.specs.DeviceCalls.{DeviceTree, take_tx_of, answer_of}
 use Rattle.vs_core.specs.Interaction.{played}
-use Rattle.vs_core.specs.Laws.{FitsEvent, HasOwnBytes, HasOtherLabel}
+use Rattle.vs_core.specs.Laws.{HasOwnBytes, HasOtherLabel}
 use Rattle.vs_core.specs.World.{World, Event, Connect, Send, Recv, GuestReaps, GuestTakes, GuestReplies, GuestPays, DeviceTakes, DevicePumps, DeviceReplies, DevicePays, HostTakes, HostCloses, HostListens, device_step, pump_at, serve_at, happens, run, opening, guest_call, taken_on, sent_by, sent_over, is_labelled, host_read}
 use Rattle.vs_core.proofs.WorldPlays.{answer_on, played_on}
+use Rattle.vs_core.proofs.WorldQueues.{Moved, Stays, Puts, Takes, IsHeader, event_moves}
 use Rattle.vs_core.proofs.WorldOpening.{made_at}
-use Rattle.vs_core.proofs.WorldLists.{stands_at, alone_front, alone_back, passing_one, all_at, get_front, none_passes_at}
+use Rattle.vs_core.proofs.WorldLists.{all_append, stands_at, alone_front, alone_back, passing_one, all_at, get_front, none_passes_at}
 use Rattle.vs_core.proofs.WorldOrder.{Shown, shown, shows, coming, is_ended, IsLabelled, Carries}
 use Rattle.vs_core.proofs.WorldPages.{packet_in}
 use Rattle.vs_header.specs.Packet.{Packet}
@@ -29,42 +29,61 @@ use Rattle.vs_core.proofs.WorldGuest.{connect_keeps, send_keeps, recv_keeps, rea
 use Rattle.vs_core.proofs.WorldTakes.{take_keeps}
 use Rattle.vs_core.proofs.WorldServes.{pump_keeps, answer_keeps, serve_keeps}
 
-abbrev KeptAt : World → (Flow → List ℕ) → Type 0
-KeptAt w sent = KeptIn w.guest w.device w.rings w.host sent
+-- What holds of a world: the order, and that each page given back to the driver holds a header.
+pub record KeptAt (w : World) (sent : Flow → List ℕ) : Type 0 where
+  pub kept : KeptIn w.guest w.device w.rings w.host sent
+  pub heads : AllByRecursion IsHeader w.rings.rx.back
 
 -- a step of the device, by its conversation over answers that may fail
 device_keeps : {A : Type 0} (fails : Bool) (call : DevicePart → DeviceTree (DevicePart × A)) (w : World) (sent : Flow → List ℕ)
-    → (let r = played (answer_on fails) (call w.device) (w.rings, w.host) in KeptIn w.guest r.0.0 r.1.0 r.1.1 sent) → KeptAt (device_step fails call w) sent
+    → (let r = played (answer_on fails) (call w.device) (w.rings, w.host) in KeptIn w.guest r.0.0 r.1.0 r.1.1 sent)
+    → let v = device_step fails call w in KeptIn v.guest v.device v.rings v.host sent
 device_keeps fails call w sent k = subst (λ r. KeptIn w.guest r.0.0 r.1.0 r.1.1 sent) (sym (played_on fails (call w.device) (w.rings, w.host))) k
 
-event_keeps : (w : World) (e : Event) (sent : Flow → List ℕ) → FitsEvent e → KeptAt w sent → KeptAt (happens w e) (λ f. sent f ++ sent_by f w e)
-event_keeps w (Connect port) sent fits k = kept_silent (connect_keeps port w.guest w.device w.rings w.host sent fits k)
-event_keeps w (Send id bytes) sent fits k = send_keeps id bytes w.guest w.device w.rings w.host sent k
-event_keeps w (Recv id len) sent fits k = kept_silent (recv_keeps id len w.guest w.device w.rings w.host sent k)
-event_keeps w GuestReaps sent fits k = kept_silent (reap_keeps w.guest w.device w.rings w.host sent k)
-event_keeps w GuestTakes sent fits k = kept_silent (take_rx_keeps w.guest w.device w.rings w.host sent k)
-event_keeps w GuestReplies sent fits k = kept_silent (reply_keeps w.guest.replies w.guest w.device w.rings w.host sent k)
-event_keeps w (GuestPays place) sent fits k = kept_silent (pay_keeps place w.guest w.device w.rings w.host sent k)
-event_keeps w (DeviceTakes fails) sent fits k = kept_silent (device_keeps fails take_tx_of w sent (take_keeps fails w.guest w.device w.rings w.host sent k))
-event_keeps w (DevicePumps place fails) sent fits k = kept_silent (device_keeps fails (pump_at place) w sent (pump_keeps fails place w.guest w.device w.rings w.host sent k))
-event_keeps w DeviceReplies sent fits k = kept_silent (device_keeps false answer_of w sent (answer_keeps w.device.replies w.guest w.device w.rings w.host sent k))
-event_keeps w (DevicePays place) sent fits k = kept_silent (device_keeps false (serve_at place) w sent (serve_keeps place w.guest w.device w.rings w.host sent k))
-event_keeps w (HostTakes stream room) sent fits k = kept_silent (kept_streams w.host.streams _ (shown_still stream (λ s. record s { takes = Some room }) w.host (λ s. refl)) k)
-event_keeps w (HostCloses stream) sent fits k = kept_silent (kept_streams w.host.streams _ (shown_still stream (λ s. record s { gone = true }) w.host (λ s. refl)) k)
-event_keeps w (HostListens path) sent fits k = kept_silent k
+order_kept : (w : World) (e : Event) (sent : Flow → List ℕ) → KeptAt w sent → let v = happens w e in KeptIn v.guest v.device v.rings v.host (λ f. sent f ++ sent_by f w e)
+order_kept w (Connect port) sent k = kept_silent (connect_keeps port w.guest w.device w.rings w.host sent k.kept)
+order_kept w (Send id bytes) sent k = send_keeps id bytes w.guest w.device w.rings w.host sent k.kept
+order_kept w (Recv id len) sent k = kept_silent (recv_keeps id len w.guest w.device w.rings w.host sent k.kept)
+order_kept w GuestReaps sent k = kept_silent (reap_keeps w.guest w.device w.rings w.host sent k.kept)
+order_kept w GuestTakes sent k = kept_silent (take_rx_keeps w.guest w.device w.rings w.host sent k.heads k.kept)
+order_kept w GuestReplies sent k = kept_silent (reply_keeps w.guest.replies w.guest w.device w.rings w.host sent k.kept)
+order_kept w (GuestPays place) sent k = kept_silent (pay_keeps place w.guest w.device w.rings w.host sent k.kept)
+order_kept w (DeviceTakes fails) sent k = kept_silent (device_keeps fails take_tx_of w sent (take_keeps fails w.guest w.device w.rings w.host sent k.kept))
+order_kept w (DevicePumps place fails) sent k = kept_silent (device_keeps fails (pump_at place) w sent (pump_keeps fails place w.guest w.device w.rings w.host sent k.kept))
+order_kept w DeviceReplies sent k = kept_silent (device_keeps false answer_of w sent (answer_keeps w.device.replies w.guest w.device w.rings w.host sent k.kept))
+order_kept w (DevicePays place) sent k = kept_silent (device_keeps false (serve_at place) w sent (serve_keeps place w.guest w.device w.rings w.host sent k.kept))
+order_kept w (HostTakes stream room) sent k = kept_silent (kept_streams w.host.streams _ (shown_still stream (λ s. record s { takes = Some room }) w.host (λ s. refl)) k.kept)
+order_kept w (HostCloses stream) sent k = kept_silent (kept_streams w.host.streams _ (shown_still stream (λ s. record s { gone = true }) w.host (λ s. refl)) k.kept)
+order_kept w (HostListens path) sent k = kept_silent k.kept
 
-run_keeps : (es : List Event) (w : World) (sent : Flow → List ℕ) → AllByRecursion FitsEvent es → KeptAt w sent → KeptAt (run w es) (λ f. sent f ++ sent_over f w es)
-run_keeps [] w sent fits k = kept_silent k
-run_keeps (e ∷ es) w sent fits k =
-    kept_sent (λ f. sent f ++ sent_by f w e ++ sent_over f (happens w e) es) (λ f. sent f ++ (sent_by f w e ++ sent_over f (happens w e) es))
+-- what holds of each page of a queue holds of each after a move
+all_moved : (P : List ℕ → Type 0) (old new : List (List ℕ)) → Moved P old new → AllByRecursion P old → AllByRecursion P new
+all_moved P old new (Stays e) a = subst (AllByRecursion P) (sym e) a
+all_moved P old new (Puts page p e) a = subst (AllByRecursion P) (sym e) (all_append P old (page ∷ []) a (p, tt))
+all_moved P old new (Takes page e) a = (subst (AllByRecursion P) e a).1
+
+event_keeps : (w : World) (e : Event) (sent : Flow → List ℕ) → KeptAt w sent → KeptAt (happens w e) (λ f. sent f ++ sent_by f w e)
+event_keeps w e sent k = record {
+  kept = order_kept w e sent k;
+  heads = all_moved IsHeader w.rings.rx.back (happens w e).rings.rx.back (event_moves w e).rx k.heads;
+}
+
+other_words : (w : World) (sent other : Flow → List ℕ) → ((f : Flow) → sent f ≡ other f) → KeptAt w sent → KeptAt w other
+other_words w sent other same k = record { kept = kept_sent sent other same k.kept; heads = k.heads }
+
+run_keeps : (es : List Event) (w : World) (sent : Flow → List ℕ) → KeptAt w sent → KeptAt (run w es) (λ f. sent f ++ sent_over f w es)
+run_keeps [] w sent k = other_words w sent (λ f. sent f ++ []) (λ f. sym (append-nil (sent f))) k
+run_keeps (e ∷ es) w sent k =
+    other_words (run (happens w e) es) (λ f. sent f ++ sent_by f w e ++ sent_over f (happens w e) es) (λ f. sent f ++ (sent_by f w e ++ sent_over f (happens w e) es))
     (λ f. append_assoc (sent f) (sent_by f w e) (sent_over f (happens w e) es))
-    (run_keeps es (happens w e) (λ f. sent f ++ sent_by f w e) fits.1 (event_keeps w e sent fits.0 k))
+    (run_keeps es (happens w e) (λ f. sent f ++ sent_by f w e) (event_keeps w e sent k))
 
 -- The opening world, with a host that has no streams yet.
-empty_kept : Kept 3 [] first_guest_port 3 [] 0 [] [] (λ f. [])
+empty_kept : Kept 3 [] first_guest_port 1 3 [] 0 [] [] (λ f. [])
 empty_kept = record {
   guest_cid = refl;
   device_cid = refl;
+  numbered = record { below = tt; apart = λ k. omega arith };
   packets = tt;
   order = record {
     opened = tt;
@@ -81,12 +100,16 @@ empty_kept = record {
 opening_kept : (n : ℕ) (host : Host) → host.streams ≡ [] → KeptAt (opening n host) (λ f. [])
 opening_kept n host none =
     let made = made_at n in
-    subst (λ (g : GuestPart). Kept g.cid g.slots g.next_port 3 [] 0 (opening n host).rings.tx.given host.streams (λ f. [])) (sym made.guest)
-    (subst (λ pages. Kept 3 [] first_guest_port 3 [] 0 pages host.streams (λ f. [])) (sym made.quiet.tx)
-    (subst (λ streams. Kept 3 [] first_guest_port 3 [] 0 [] streams (λ f. [])) (sym none) empty_kept))
+    record {
+      kept =
+          subst (λ (g : GuestPart). Kept g.cid g.slots g.next_port g.next_id 3 [] 0 (opening n host).rings.tx.given host.streams (λ f. [])) (sym made.guest)
+          (subst (λ pages. Kept 3 [] first_guest_port 1 3 [] 0 pages host.streams (λ f. [])) (sym made.quiet.tx)
+          (subst (λ streams. Kept 3 [] first_guest_port 1 3 [] 0 [] streams (λ f. [])) (sym none) empty_kept));
+      heads = subst (AllByRecursion IsHeader) (sym made.quiet.rx) tt;
+    }
 
-reached : (n : ℕ) (host : Host) (es : List Event) → host.streams ≡ [] → All FitsEvent es → KeptAt (run (opening n host) es) (λ f. sent_over f (opening n host) es)
-reached n host es none fits = run_keeps es (opening n host) (λ f. []) (recursion_from_All FitsEvent es fits) (opening_kept n host none)
+reached : (n : ℕ) (host : Host) (es : List Event) → host.streams ≡ [] → KeptAt (run (opening n host) es) (λ f. sent_over f (opening n host) es)
+reached n host es none = run_keeps es (opening n host) (λ f. []) (opening_kept n host none)
 
 -- A send puts no byte on another flow.
 taken_elsewhere : (f : Flow) (s : GuestSlot) (bytes : List ℕ) (answer : Sent) → is_flow f s.flow ≡ false → taken_on f (Some s) bytes answer ≡ []
@@ -121,10 +144,10 @@ read_shown f [] = refl
 read_shown f (s ∷ ss) =
     ap (λ xs. cond (is_labelled f s.label) s.given [] ++ xs) (read_shown f ss) ∙ read_one (is_labelled f s.label) (shown s) (filter (shows f) (map shown ss))
 
-pub reads_first : (n : ℕ) (host : Host) (es : List Event) (f : Flow) → host.streams ≡ [] → All FitsEvent es → IsPrefix (host_read f (run (opening n host) es).host) (sent_over f (opening n host) es)
-reads_first n host es f none fits =
+pub reads_first : (n : ℕ) (host : Host) (es : List Event) (f : Flow) → host.streams ≡ [] → IsPrefix (host_read f (run (opening n host) es).host) (sent_over f (opening n host) es)
+reads_first n host es f none =
     let w = run (opening n host) es in
-    let k = (reached n host es none fits).order in
+    let k = (reached n host es none).kept.order in
     subst (λ xs. IsPrefix xs (sent_over f (opening n host) es)) (sym (read_shown f w.host.streams))
     (carries_given f (filter (entry_has f) w.device.entries) (filter (shows f) (map shown w.host.streams)) (map packet_in w.rings.tx.given) (sent_over f (opening n host) es) (k.carries f))
 
@@ -141,10 +164,10 @@ own_given f es vs ps sent v k label at c =
     let one = ap (filter (shows f)) m.whole ∙ passing_one (shows f) m.front v m.back seen (alone_front (shows f) m.front v m.back seen most) (alone_back (shows f) m.front v m.back seen most) in
     subst (λ xs. IsPrefix xs sent) (append-nil v.given) (carries_given f es (v ∷ []) ps sent (subst (λ us. Carries f es us ps sent) one c))
 
-pub each_own : (n : ℕ) (host : Host) (es : List Event) → host.streams ≡ [] → All FitsEvent es → All (HasOwnBytes (opening n host) es) (run (opening n host) es).host.streams
-each_own n host es none fits = λ k d within.
+pub each_own : (n : ℕ) (host : Host) (es : List Event) → host.streams ≡ [] → All (HasOwnBytes (opening n host) es) (run (opening n host) es).host.streams
+each_own n host es none = λ k d within.
     let w = run (opening n host) es in
-    let o = (reached n host es none fits).order in
+    let o = (reached n host es none).kept.order in
     let s = get_or w.host.streams k d in
     let vs = map shown w.host.streams in
     let at = seen_at w.host.streams k d within in
@@ -167,10 +190,10 @@ apart_at vs i j f v u most before at_i at_j labelled_v labelled_u =
 other_label : (s t : Stream) (f : Flow) → s.label ≡ t.label → s.label ≡ Some f → t.label ≡ Some f
 other_label s t f same label = sym same ∙ label
 
-pub each_apart : (n : ℕ) (host : Host) (es : List Event) → host.streams ≡ [] → All FitsEvent es → AllPairs HasOtherLabel (run (opening n host) es).host.streams
-each_apart n host es none fits = λ i j d before within same.
+pub each_apart : (n : ℕ) (host : Host) (es : List Event) → host.streams ≡ [] → AllPairs HasOtherLabel (run (opening n host) es).host.streams
+each_apart n host es none = λ i j d before within same.
     let w = run (opening n host) es in
-    let o = (reached n host es none fits).order in
+    let o = (reached n host es none).kept.order in
     let vs = map shown w.host.streams in
     let at_i = seen_at w.host.streams i d (omega arith) in
     let at_j = seen_at w.host.streams j d within in

@@ -1,4 +1,4 @@
--- What changes of one stream leave of the streams, as far as the laws speak of them; and what each of the host's events keeps.
+-- What changes of one stream leave of the streams, as far as the laws speak of them.
 use Rattle.std.proofs.Common.{◌≡◌, ℕ, ◌-◌, false, cond, eqb, List, ◌∷◌, ◌++◌, set, map, slice_get, Option, Some, None, refl, sym, ap, ◌∙◌, subst}
 use Rattle.std.specs.Option.{option_map_or}
 use Rattle.std.proofs.lemmas.Bool.{cond_both}
@@ -39,12 +39,13 @@ changed_stream id f h s numbered there m =
     ∙ ap (λ xs. set xs (id - 1) (f s)) m.whole ∙ set_there m.front s (f s) m.back (id - 1) m.place
 
 -- Streams that show the same.
-pub kept_streams : {guest : ℕ} {slots : List GuestSlot} {port device : ℕ} {es : List DeviceEntry} {next : ℕ} {pages : List (List ℕ)} {sent : Flow → List ℕ}
+pub kept_streams : {guest : ℕ} {slots : List GuestSlot} {port id device : ℕ} {es : List DeviceEntry} {next : ℕ} {pages : List (List ℕ)} {sent : Flow → List ℕ}
     (streams others : List Stream) → map shown others ≡ map shown streams
-    → Kept guest slots port device es next pages streams sent → Kept guest slots port device es next pages others sent
+    → Kept guest slots port id device es next pages streams sent → Kept guest slots port id device es next pages others sent
 kept_streams {slots = slots} {port = port} {es = es} {next = next} {pages = pages} {sent = sent} streams others same k = record {
   guest_cid = k.guest_cid;
   device_cid = k.device_cid;
+  numbered = k.numbered;
   packets = k.packets;
   order = subst (λ vs. InOrder slots port (map packet_in pages) es next vs sent) (sym same) k.order;
 }

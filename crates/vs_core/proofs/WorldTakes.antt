@@ -1,5 +1,5 @@
 -- What the device's taking of a packet keeps.
-use Rattle.std.proofs.Common.{◌≡◌, ℕ, ◌+◌, ◌-◌, ◌≤◌, Bool, true, false, not, ◌&&◌, ◌||◌, cond, eqb, leb, ltb, if◌then◌else◌, List, [], ◌∷◌, ◌++◌, length, take, drop, map, filter, find, Option, Some, None, refl, sym, ap, ◌∙◌, subst, ◌⊎◌, inl, inr, eq-eqb}
+use Rattle.std.proofs.Common.{◌≡◌, ℕ, ◌+◌, ◌-◌, ◌≤◌, Bool, true, false, not, ◌&&◌, ◌||◌, cond, eqb, leb, ltb, List, [], ◌∷◌, ◌++◌, length, take, drop, map, filter, find, Option, Some, None, refl, sym, ap, ◌∙◌, subst, ◌⊎◌, inl, inr, eq-eqb}
 use Rattle.std.proofs.lemmas.Bool.{cases_Bool, and_parts, and_from, false≢true}
 use Rattle.std.proofs.lemmas.List.{map-append, length-map}
 use Rattle.vs_header.specs.Packet.{Packet, header_of}
@@ -8,18 +8,15 @@ use Rattle.vs_conn.specs.declared.end.Verdict.{Verdict}
 use Rattle.vs_conn.specs.declared.end.Verdict.TheVariants as verdict
 use Rattle.vs_conn.specs.declared.end.Why.{Why}
 use Rattle.vs_conn.specs.declared.end.Why.TheVariants as why
-use Rattle.vs_ring_list.specs.declared.ring_port.Queue.{Queue}
 use Rattle.vs_ring_list.specs.declared.ring_port.Queue.TheVariants as queue
 use Rattle.vs_ring_list.specs.declared.ring_port.Chain.{Chain}
 use Rattle.vs_ring_list.specs.declared.ring_port.Failure.{Failure}
-use Rattle.vs_ring_list.specs.Rings.{Rings, Held, same_queue, after_next, bytes_in, bytes_held, chain_with, same_chain, held_by, after_done}
+use Rattle.vs_ring_list.specs.Rings.{Rings, after_next, bytes_held, chain_with, held_by, after_done}
 use Rattle.vs_core.specs.declared.flow.Flow.{Flow}
 use Rattle.vs_ring_list.specs.declared.ring_port.Next.TheVariants as next
 use Rattle.vs_conn.specs.End.{answering}
 use Rattle.vs_core.specs.Profile.{buffer_space}
 use Rattle.vs_core.specs.declared.outside.Dialed.TheVariants as dialed
-use Rattle.vs_core.specs.declared.device.Taken.{Taken}
-use Rattle.vs_core.specs.declared.device.Taken.TheVariants as taken
 use Rattle.vs_core.specs.Flow.{is_assigned}
 use Rattle.vs_core.specs.Path.{path_of}
 use Rattle.vs_core.specs.Profile.{header_size, reply_limit}
@@ -28,8 +25,8 @@ use Rattle.vs_core.specs.Interaction.{Done, Ask, played}
 use Rattle.vs_core.specs.Outside.{Host, Stream, new_stream, is_listened}
 use Rattle.vs_core.specs.Guest.{GuestSlot, GuestPart, is_flow}
 use Rattle.vs_core.specs.Device.{DevicePart, DeviceEntry, flow_from_guest, is_for_host, is_full, entry_has, entry_at, entry_after, entry_delivered}
-use Rattle.vs_core.specs.DeviceCalls.{DeviceTree, Take, Dial, after_dial, overran, on_entry, on_stranger, by_flow, on_packet, on_chain, after_take, take_tx_of}
-use Rattle.vs_core.proofs.WorldPlays.{played-bind, if_cases, answer_on}
+use Rattle.vs_core.specs.DeviceCalls.{Take, Dial, after_dial, overran, on_entry, on_stranger, by_flow, on_packet, on_chain, after_take, take_tx_of}
+use Rattle.vs_core.proofs.WorldPlays.{held_newest, played-bind, if_cases, answer_on, tx_given, take_unless}
 use Rattle.vs_core.proofs.WorldQueues.{packet_still}
 use Rattle.vs_core.proofs.WorldLists.{Among, found_among, found_passes, none_passes, alone_front, alone_back, update_alone, leave_alone}
 use Rattle.vs_core.proofs.WorldOrder.{shown, brought_on, is_ended}
@@ -45,12 +42,13 @@ away_brings : (p : Packet) (f : Flow) → is_flow f (flow_from_guest p.header) �
 away_brings p f away = rw away refl
 
 -- The page is taken: no entry changes, one is opened, one changes, or one leaves.
-kept_idle : {guest : ℕ} {slots : List GuestSlot} {port device : ℕ} {es : List DeviceEntry} {next : ℕ} {pages : List (List ℕ)} {streams : List Stream} {sent : Flow → List ℕ}
+kept_idle : {guest : ℕ} {slots : List GuestSlot} {port id device : ℕ} {es : List DeviceEntry} {next : ℕ} {pages : List (List ℕ)} {streams : List Stream} {sent : Flow → List ℕ}
     (page : List ℕ) → filter (entry_has (flow_from_guest (packet_in page).header)) es ≡ []
-    → Kept guest slots port device es next (page ∷ pages) streams sent → Kept guest slots port device es next pages streams sent
+    → Kept guest slots port id device es next (page ∷ pages) streams sent → Kept guest slots port id device es next pages streams sent
 kept_idle {es = es} page none k = record {
   guest_cid = k.guest_cid;
   device_cid = k.device_cid;
+  numbered = k.numbered;
   packets = k.packets.1;
   order = take_packet (packet_in page) idle k.order;
 }
@@ -61,14 +59,15 @@ kept_idle {es = es} page none k = record {
       | inr away ↦ inr (away_brings (packet_in page) f away)
     ]
 
-kept_open : {guest : ℕ} {slots : List GuestSlot} {port device : ℕ} {es : List DeviceEntry} {next : ℕ} {pages : List (List ℕ)} {streams : List Stream} {sent : Flow → List ℕ}
+kept_open : {guest : ℕ} {slots : List GuestSlot} {port id device : ℕ} {es : List DeviceEntry} {next : ℕ} {pages : List (List ℕ)} {streams : List Stream} {sent : Flow → List ℕ}
     (page : List ℕ) (e : DeviceEntry) → e.flow ≡ flow_from_guest (packet_in page).header → eqb (packet_in page).header.op 1 ≡ true
     → filter (entry_has (flow_from_guest (packet_in page).header)) es ≡ [] → e.slot ≡ next → e.stream ≡ length streams + 1 → e.pending ≡ [] → is_ended e.end.state ≡ false
-    → Kept guest slots port device es next (page ∷ pages) streams sent
-    → Kept guest slots port device (es ++ e ∷ []) (next + 1) pages (streams ++ new_stream e.flow ∷ []) sent
+    → Kept guest slots port id device es next (page ∷ pages) streams sent
+    → Kept guest slots port id device (es ++ e ∷ []) (next + 1) pages (streams ++ new_stream e.flow ∷ []) sent
 kept_open {es = es} {streams = streams} page e own asks none slot number pending live k = record {
   guest_cid = k.guest_cid;
   device_cid = k.device_cid;
+  numbered = k.numbered;
   packets = k.packets.1;
   order = rw (map-append shown streams (new_stream e.flow ∷ []))
       (open_entry (packet_in page) e
@@ -78,22 +77,24 @@ kept_open {es = es} {streams = streams} page e own asks none slot number pending
       slot (number ∙ ap (λ n. n + 1) (sym (length-map streams shown))) pending live k.order);
 }
 
-kept_heard : {guest : ℕ} {slots : List GuestSlot} {port device : ℕ} {next : ℕ} {pages : List (List ℕ)} {streams : List Stream} {sent : Flow → List ℕ}
+kept_heard : {guest : ℕ} {slots : List GuestSlot} {port id device : ℕ} {next : ℕ} {pages : List (List ℕ)} {streams : List Stream} {sent : Flow → List ℕ}
     (page : List ℕ) (front back : List DeviceEntry) (e d : DeviceEntry) → e.flow ≡ flow_from_guest (packet_in page).header → Hears (packet_in page) e d
-    → Kept guest slots port device (front ++ e ∷ back) next (page ∷ pages) streams sent → Kept guest slots port device (front ++ d ∷ back) next pages streams sent
+    → Kept guest slots port id device (front ++ e ∷ back) next (page ∷ pages) streams sent → Kept guest slots port id device (front ++ d ∷ back) next pages streams sent
 kept_heard {pages = pages} page front back e d own heard k = record {
   guest_cid = k.guest_cid;
   device_cid = k.device_cid;
+  numbered = k.numbered;
   packets = k.packets.1;
   order = keep_stream front back e d (follow_taken (packet_in page) (map packet_in pages) e.flow (λ f away. away_brings (packet_in page) f (subst (λ g. is_flow f g ≡ false) own away))) heard.same heard.moves k.order;
 }
 
-kept_gone : {guest : ℕ} {slots : List GuestSlot} {port device : ℕ} {next : ℕ} {pages : List (List ℕ)} {streams : List Stream} {sent : Flow → List ℕ}
+kept_gone : {guest : ℕ} {slots : List GuestSlot} {port id device : ℕ} {next : ℕ} {pages : List (List ℕ)} {streams : List Stream} {sent : Flow → List ℕ}
     (page : List ℕ) (front back : List DeviceEntry) (e : DeviceEntry) → e.flow ≡ flow_from_guest (packet_in page).header
-    → Kept guest slots port device (front ++ e ∷ back) next (page ∷ pages) streams sent → Kept guest slots port device (front ++ back) next pages streams sent
+    → Kept guest slots port id device (front ++ e ∷ back) next (page ∷ pages) streams sent → Kept guest slots port id device (front ++ back) next pages streams sent
 kept_gone {pages = pages} page front back e own k = record {
   guest_cid = k.guest_cid;
   device_cid = k.device_cid;
+  numbered = k.numbered;
   packets = k.packets.1;
   order = remove_entry front back e (follow_taken (packet_in page) (map packet_in pages) e.flow (λ f away. away_brings (packet_in page) f (subst (λ g. is_flow f g ≡ false) own away))) k.order;
 }
@@ -115,31 +116,31 @@ without_there es e apart m =
     ap (filter (λ x. not (entry_at e.slot x))) m.whole
     ∙ leave_alone (entry_at e.slot) m.front e m.back (at_slot e) (alone_front (entry_at e.slot) m.front e m.back (at_slot e) one) (alone_back (entry_at e.slot) m.front e m.back (at_slot e) one)
 
-found_heard : {guest : ℕ} {slots : List GuestSlot} {port device : ℕ} {es : List DeviceEntry} {next : ℕ} {pages : List (List ℕ)} {streams : List Stream} {sent : Flow → List ℕ}
+found_heard : {guest : ℕ} {slots : List GuestSlot} {port id device : ℕ} {es : List DeviceEntry} {next : ℕ} {pages : List (List ℕ)} {streams : List Stream} {sent : Flow → List ℕ}
     (page : List ℕ) (e : DeviceEntry) (f : DeviceEntry → DeviceEntry) → e.flow ≡ flow_from_guest (packet_in page).header → Among e es → Hears (packet_in page) e (f e)
-    → Kept guest slots port device es next (page ∷ pages) streams sent → Kept guest slots port device (update_first (entry_at e.slot) f es) next pages streams sent
-found_heard {guest = guest} {slots = slots} {port = port} {device = device} {es = es} {next = next} {pages = pages} {streams = streams} {sent = sent} page e f own m heard k =
-    subst (λ xs. Kept guest slots port device xs next pages streams sent) (sym (with_there f es e k.order.apart m))
-    (kept_heard page m.front m.back e (f e) own heard (subst (λ xs. Kept guest slots port device xs next (page ∷ pages) streams sent) m.whole k))
+    → Kept guest slots port id device es next (page ∷ pages) streams sent → Kept guest slots port id device (update_first (entry_at e.slot) f es) next pages streams sent
+found_heard {guest = guest} {slots = slots} {port = port} {id = id} {device = device} {es = es} {next = next} {pages = pages} {streams = streams} {sent = sent} page e f own m heard k =
+    subst (λ xs. Kept guest slots port id device xs next pages streams sent) (sym (with_there f es e k.order.apart m))
+    (kept_heard page m.front m.back e (f e) own heard (subst (λ xs. Kept guest slots port id device xs next (page ∷ pages) streams sent) m.whole k))
 
-found_gone : {guest : ℕ} {slots : List GuestSlot} {port device : ℕ} {es : List DeviceEntry} {next : ℕ} {pages : List (List ℕ)} {streams : List Stream} {sent : Flow → List ℕ}
+found_gone : {guest : ℕ} {slots : List GuestSlot} {port id device : ℕ} {es : List DeviceEntry} {next : ℕ} {pages : List (List ℕ)} {streams : List Stream} {sent : Flow → List ℕ}
     (page : List ℕ) (e : DeviceEntry) → e.flow ≡ flow_from_guest (packet_in page).header → Among e es
-    → Kept guest slots port device es next (page ∷ pages) streams sent → Kept guest slots port device (filter (λ x. not (entry_at e.slot x)) es) next pages streams sent
-found_gone {guest = guest} {slots = slots} {port = port} {device = device} {es = es} {next = next} {pages = pages} {streams = streams} {sent = sent} page e own m k =
-    subst (λ xs. Kept guest slots port device xs next pages streams sent) (sym (without_there es e k.order.apart m))
-    (kept_gone page m.front m.back e own (subst (λ xs. Kept guest slots port device xs next (page ∷ pages) streams sent) m.whole k))
+    → Kept guest slots port id device es next (page ∷ pages) streams sent → Kept guest slots port id device (filter (λ x. not (entry_at e.slot x)) es) next pages streams sent
+found_gone {guest = guest} {slots = slots} {port = port} {id = id} {device = device} {es = es} {next = next} {pages = pages} {streams = streams} {sent = sent} page e own m k =
+    subst (λ xs. Kept guest slots port id device xs next pages streams sent) (sym (without_there es e k.order.apart m))
+    (kept_gone page m.front m.back e own (subst (λ xs. Kept guest slots port id device xs next (page ∷ pages) streams sent) m.whole k))
 
 -- What is kept once the packet is decided.
 abbrev After : GuestPart → List (List ℕ) → (Flow → List ℕ) → {A : Type 0} → (DevicePart × A) × (Rings × Host) → Type 0
-After g pages sent r = Kept g.cid g.slots g.next_port r.0.0.cid r.0.0.entries r.0.0.next_slot pages r.1.1.streams sent
+After g pages sent r = Kept g.cid g.slots g.next_port g.next_id r.0.0.cid r.0.0.entries r.0.0.next_slot pages r.1.1.streams sent
 
 abbrev Before : GuestPart → DevicePart → List ℕ → List (List ℕ) → Host → (Flow → List ℕ) → Type 0
-Before g d page pages h sent = Kept g.cid g.slots g.next_port d.cid d.entries d.next_slot (page ∷ pages) h.streams sent
+Before g d page pages h sent = Kept g.cid g.slots g.next_port g.next_id d.cid d.entries d.next_slot (page ∷ pages) h.streams sent
 
 -- a packet of a known flow
 overran_keeps : (g : GuestPart) (w : Why) (d : DevicePart) (pages : List (List ℕ)) (h : Host) (sent : Flow → List ℕ)
-    → Kept g.cid g.slots g.next_port d.cid d.entries d.next_slot pages h.streams sent
-    → Kept g.cid g.slots g.next_port (overran w d).cid (overran w d).entries (overran w d).next_slot pages h.streams sent
+    → Kept g.cid g.slots g.next_port g.next_id d.cid d.entries d.next_slot pages h.streams sent
+    → Kept g.cid g.slots g.next_port g.next_id (overran w d).cid (overran w d).entries (overran w d).next_slot pages h.streams sent
 overran_keeps g (why.Overrun o) d pages h sent k = k
 overran_keeps g why.BadKind d pages h sent k = k
 overran_keeps g why.BadOp d pages h sent k = k
@@ -153,7 +154,7 @@ entry_keeps : (fails : Bool) (v : Verdict) (c : Chain) (page : List ℕ) (e : De
     → Before g d page pages h sent → After g pages sent (played (answer_on fails) (on_entry v c (packet_in page).header e d) (w, h))
 entry_keeps fails verdict.Deliver c page e g d pages w h sent is own m payload k =
     let p = packet_in page in
-    subst (λ xs. Kept g.cid g.slots g.next_port d.cid (update_first (entry_at e.slot) (entry_delivered p.header xs) d.entries) d.next_slot pages h.streams sent) (sym payload)
+    subst (λ xs. Kept g.cid g.slots g.next_port g.next_id d.cid (update_first (entry_at e.slot) (entry_delivered p.header xs) d.entries) d.next_slot pages h.streams sent) (sym payload)
     (found_heard page e (entry_delivered p.header p.payload) own m (hears_deliver p e (subst (λ f. is_flow e.flow f ≡ true) own (is_flow_itself e.flow)) is) k)
 entry_keeps fails verdict.Peer c page e g d pages w h sent is own m payload k =
     let gone = found_gone page e own m k in
@@ -177,7 +178,7 @@ dial_keeps false page g d pages w h sent none asks k =
     let new : DeviceEntry = record { slot = d.next_slot; flow = f; end = answering buffer_space p.header; stream = length h.streams + 1; closed = false; pending = [] } in
     elim (is_listened (path_of d.base p.header.dst_port) h) as (λ b.
     let r = after_dial (cond b (dialed.Stream (length h.streams + 1)) dialed.Refused) p.header d in
-    Kept g.cid g.slots g.next_port r.0.cid r.0.entries r.0.next_slot pages (cond b (record h { streams = h.streams ++ new_stream f ∷ [] }) h).streams sent) [
+    Kept g.cid g.slots g.next_port g.next_id r.0.cid r.0.entries r.0.next_slot pages (cond b (record h { streams = h.streams ++ new_stream f ∷ [] }) h).streams sent) [
       | true ↦ kept_open page new refl asks none refl refl refl refl k
       | false ↦ kept_idle page none k
     ]
@@ -227,26 +228,10 @@ chain_keeps fails c page g d pages w h sent tx readable given payload k =
     (λ _. subst (λ r. KeptIn g r.0.0 r.1.0 r.1.1 sent) (sym (played-bind (answer_on fails) (on_packet c p.header d) _ (w, h))) (returned (played (answer_on fails) (on_packet c p.header d) (w, h)) (packet_still fails c p.header d (w, h)) (packet_keeps fails c page g d pages w h sent payload k)))
   where
     returned : (r : (DevicePart × Verdict) × (Rings × Host)) → r.1.0 ≡ w → After g pages sent r
-        → Kept g.cid g.slots g.next_port r.0.0.cid r.0.0.entries r.0.0.next_slot (after_done c 0 r.1.0).tx.given r.1.1.streams sent
+        → Kept g.cid g.slots g.next_port g.next_id r.0.0.cid r.0.0.entries r.0.0.next_slot (after_done c 0 r.1.0).tx.given r.1.1.streams sent
     returned r still a =
-        subst (λ xs. Kept g.cid g.slots g.next_port r.0.0.cid r.0.0.entries r.0.0.next_slot xs r.1.1.streams sent)
+        subst (λ xs. Kept g.cid g.slots g.next_port g.next_id r.0.0.cid r.0.0.entries r.0.0.next_slot xs r.1.1.streams sent)
         (sym (returned_given c r.1.0 tx ∙ ap (λ v. v.tx.given) still ∙ given)) a
-
--- the bytes of the chain that was taken last
-queue_itself : (q : Queue) → same_queue q q ≡ true
-queue_itself queue.Rx = refl
-queue_itself queue.Tx = refl
-queue_itself queue.Event = refl
-
-same_itself : (c : Chain) → same_chain c c ≡ true
-same_itself c =
-    let itself : (n : ℕ) → eqb n n ≡ true = λ n. eq-eqb n n refl in
-    and_from (same_queue c.queue c.queue && eqb c.place c.place && eqb c.readable c.readable) (eqb c.writable c.writable)
-    (and_from (same_queue c.queue c.queue && eqb c.place c.place) (eqb c.readable c.readable)
-    (and_from (same_queue c.queue c.queue) (eqb c.place c.place) (queue_itself c.queue) (itself c.place)) (itself c.readable)) (itself c.writable)
-
-held_newest : (h : Held) (held : List Held) → bytes_in h.chain (h ∷ held) ≡ h.bytes
-held_newest h held = rw (same_itself h.chain) refl
 
 read_keeps : (fails : Bool) (c : Chain) (page : List ℕ) (g : GuestPart) (d : DevicePart) (pages : List (List ℕ)) (w : Rings) (h : Host) (sent : Flow → List ℕ)
     → c.queue ≡ queue.Tx → c.readable ≡ length page → w.tx.given ≡ pages → bytes_held c w ≡ page → Before g d page pages h sent
@@ -255,20 +240,11 @@ read_keeps fails c page g d pages w h sent tx readable given held k =
     subst (λ q. let r = played (answer_on fails) (on_chain c q d) (w, h) in KeptIn g r.0.0 r.1.0 r.1.1 sent) (sym (ap (λ xs. header_of (take header_size xs)) held ∙ reads_header page))
     (chain_keeps fails c page g d pages w h sent tx readable given (ap (λ xs. take (packet_in page).header.len (drop header_size xs)) held ∙ reads_after page) k)
 
-abbrev tx_given : List (List ℕ) → Rings → Rings
-tx_given pages w = record w { tx = record w.tx { given = pages } }
-
 next_keeps : (fails : Bool) (pages : List (List ℕ)) (g : GuestPart) (d : DevicePart) (w : Rings) (h : Host) (sent : Flow → List ℕ) → KeptIn g d (tx_given pages w) h sent
     → let r = played (answer_on fails) (Ask (Take queue.Tx) (λ answer. after_take answer d)) (tx_given pages w, h) in KeptIn g r.0.0 r.1.0 r.1.1 sent
 next_keeps fails [] g d w h sent k = k
 next_keeps fails (page ∷ pages) g d w h sent k =
     read_keeps fails (chain_with queue.Tx w.tx.place page) page g d pages (after_next queue.Tx (tx_given (page ∷ pages) w)) h sent refl refl refl (held_newest (held_by queue.Tx w.tx.place page) w.held) k
-
-abbrev take_unless : Option Failure → DevicePart → DeviceTree (DevicePart × Taken)
-take_unless o d = elim o [
-  | None ↦ if leb reply_limit (length d.replies) then Done (d, taken.RepliesFull reply_limit) else Ask (Take queue.Tx) (λ answer. after_take answer d)
-  | Some f ↦ Done (d, taken.Failed f)
-]
 
 unless_keeps : (fails : Bool) (o : Option Failure) (g : GuestPart) (d : DevicePart) (w : Rings) (h : Host) (sent : Flow → List ℕ) → KeptIn g d w h sent
     → let r = played (answer_on fails) (take_unless o d) (w, h) in KeptIn g r.0.0 r.1.0 r.1.1 sent

@@ -16,6 +16,8 @@ pub mod DeviceCalls
 pub mod DeviceEntries
 pub mod DeviceInside
 pub mod DeviceWords
+pub mod DeviceReceive
 pub mod Told
+pub mod DriverPays
 pub mod World
 pub mod Laws

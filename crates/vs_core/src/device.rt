@@ -8,8 +8,10 @@ ghost use Rattle.vs_core.specs.DeviceWords.{counters_of};
 ghost use Rattle.vs_core.specs.DeviceEntries.{IsSpare};
 
 mod entry;
+mod receive;
 mod streams;
 mod transmit;
+mod turns;
 
 use crate::device::entry::{BUFFER_SPACE, Entry};
 use crate::flow::Flow;
@@ -44,6 +46,18 @@ pub enum Taken {
     },
     /// The ring failed, now or before.
     Failed(Failure),
+}
+
+impl Taken {
+    ghost use Rattle.std.specs.Prelude.{◌≡◌};
+    ghost use Rattle.vs_core.specs.DeviceCalls.{is_packet};
+
+    /// Whether a packet was taken.
+    pub fn is_packet(&self) -> bool
+        ensures { result ≡ is_packet self.now }
+    {
+        matches!(self, Taken::Packet(_))
+    }
 }
 
 /// What filling the receive queue came to.

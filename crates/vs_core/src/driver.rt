@@ -9,10 +9,16 @@ use vs_ring_list::Page;
 mod connect;
 mod new;
 mod pages;
+mod pay;
 mod places;
+mod poll;
+mod receive;
+mod recv;
 mod send;
 mod slot;
 mod table;
+
+pub use crate::driver::table::Entries;
 
 /// Number of a connection, from 1 on. None is given twice.
 pub type ConnId = u32;
@@ -135,16 +141,16 @@ impl Model for Driver {
     ghost Value = { GuestPart };
 
     ghost view = { λ d. record {
-        cid = d.cid;
-        next_port = d.next_port;
-        next_id = d.next_id;
-        last_port = d.last_port;
-        last_id = d.last_id;
-        slots = d.slots.items;
-        replies = d.replies.items;
-        broken = d.broken;
-        size = d.size;
-        in_flight = d.size - length d.free.items;
+      cid = d.cid;
+      next_port = d.next_port;
+      next_id = d.next_id;
+      last_port = d.last_port;
+      last_id = d.last_id;
+      slots = d.slots.items;
+      replies = d.replies.items;
+      broken = d.broken;
+      size = d.size;
+      in_flight = d.size - length d.free.items;
     } };
 
     ghost use Rattle.vs_core.specs.DriverFields.{AreKept};

@@ -3,23 +3,25 @@
 ghost use Rattle.std.specs.Prelude.{◌≡◌, ℕ, List, [], false, All, AllPairs, Some, find};
 ghost use Rattle.vs_core.specs.declared.flow.Flow.{Flow};
 ghost use Rattle.vs_core.specs.Guest.{GuestSlot, has_id, is_flow};
-ghost use Rattle.vs_core.specs.Laws.{FitsEvent, HasOwnBytes, HasOtherLabel};
+ghost use Rattle.vs_core.specs.Laws.{HasOwnBytes, HasOtherLabel};
 ghost use Rattle.vs_core.specs.Lists.{IsPrefix};
 ghost use Rattle.vs_core.specs.Outside.{Host};
 ghost use Rattle.vs_core.specs.World.{World, Event, Send, opening, run, tx_put, tx_got, rx_put, rx_got, sent_by, sent_over, host_read};
 
-/// Per queue the packets that were got are the first of those that were put, in their order.
+/// No queue loses, repeats or reorders a packet (Virtio 1.2, section 5.10.6). Over every list of events from the opening world the
+/// packets that were got of it are the first of those that were put.
 pub fn laws_of_the_queues()
     ensures transmitted { (n : ℕ) (host : Host) (es : List Event) → IsPrefix (tx_got (opening n host) es) (tx_put (opening n host) es) }
     ensures received { (n : ℕ) (host : Host) (es : List Event) → IsPrefix (rx_got (opening n host) es) (rx_put (opening n host) es) }
 {}
 
-/// Over any events from the opening world, with a host that has no streams yet: what the host read of a flow is the first of what
-/// the guest sent on it, each stream has bytes of its own flow alone, and no two streams are of one flow. A send puts no byte on
-/// another flow than its connection's.
+/// What the guest sends is read by the host in order, on its own connection (Virtio 1.2, section 5.10.6). Over every list of events
+/// from the opening world, with a host that has no streams yet: what the host read of a flow is the first of what the guest sent on
+/// it; each stream was made for a flow, and has the first bytes of that flow alone; no two streams were made for one flow. And in
+/// every world a send puts no byte on another flow than its connection's.
 pub fn laws_of_the_streams()
-    ensures host_reads { (n : ℕ) (host : Host) (es : List Event) (f : Flow) → host.streams ≡ [] → All FitsEvent es → IsPrefix (host_read f (run (opening n host) es).host) (sent_over f (opening n host) es) }
-    ensures own_bytes { (n : ℕ) (host : Host) (es : List Event) → host.streams ≡ [] → All FitsEvent es → All (HasOwnBytes (opening n host) es) (run (opening n host) es).host.streams }
-    ensures own_label { (n : ℕ) (host : Host) (es : List Event) → host.streams ≡ [] → All FitsEvent es → AllPairs HasOtherLabel (run (opening n host) es).host.streams }
+    ensures host_reads { (n : ℕ) (host : Host) (es : List Event) (f : Flow) → host.streams ≡ [] → IsPrefix (host_read f (run (opening n host) es).host) (sent_over f (opening n host) es) }
+    ensures own_bytes { (n : ℕ) (host : Host) (es : List Event) → host.streams ≡ [] → All (HasOwnBytes (opening n host) es) (run (opening n host) es).host.streams }
+    ensures own_label { (n : ℕ) (host : Host) (es : List Event) → host.streams ≡ [] → AllPairs HasOtherLabel (run (opening n host) es).host.streams }
     ensures send_is_a_pipe { (w : World) (id : ℕ) (bytes : List ℕ) (s : GuestSlot) (f : Flow) → find (has_id id) w.guest.slots ≡ Some s → is_flow f s.flow ≡ false → sent_by f w (Send id bytes) ≡ [] }
 {}

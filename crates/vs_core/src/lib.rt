@@ -12,7 +12,7 @@ mod path;
 mod reply;
 
 pub use device::{Counters, Device, Filled, Taken, Turn, Turned};
-pub use driver::{ConnId, ConnectError, ConnectionState, Driver, Polled, Received, Sent};
+pub use driver::{ConnId, ConnectError, ConnectionState, Driver, Entries, Polled, Received, Sent};
 pub use flow::{ASSIGNED_FIRST, ASSIGNED_LAST, Flow, is_assigned};
 pub use laws::{laws_of_the_queues, laws_of_the_streams};
 pub use mem_host::{MemHost, MemStream};

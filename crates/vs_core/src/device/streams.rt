@@ -41,9 +41,9 @@ impl Device {
             → slice_get self.old.entries place ≡ Some e
             → (new : DeviceEntry) × (self.new.entries ≡ slice_set self.old.entries place new)
             × Leads DeviceAllows (pump_of e (with_table table self.old))
-                (situation rings (H.told host.old) (H.faults host.old))
-                (record { part = with_table table self.new; entry = new; wrote = result })
-                (situation rings (H.told host.new) (H.faults host.new)) }
+            (situation rings (H.told host.old) (H.faults host.old))
+            (record { part = with_table table self.new; entry = new; wrote = result })
+            (situation rings (H.told host.new) (H.faults host.new)) }
         ensures host { IsHostOf (H.told host.new) self.new.entries }
         ensures same { self.new ≡ record self.old { entries = self.new.entries; faults = self.new.faults } }
         ensures count { length self.new.entries ≡ length self.old.entries }
@@ -59,8 +59,8 @@ impl Device {
         requires host { IsHostOf (H.told host.old) self.old.entries }
         ensures calls { (e : DeviceEntry) (rings : Option Rings) → slice_get self.old.entries place ≡ Some e
             → Closes e
-                (situation rings (H.told host.old) (H.faults host.old))
-                (situation rings (H.told host.new) (H.faults host.new)) }
+            (situation rings (H.told host.old) (H.faults host.old))
+            (situation rings (H.told host.new) (H.faults host.new)) }
         ensures host { IsHostOf (H.told host.new) self.new.entries }
         ensures by_place { self.new ≡ with_table (remove self.old.entries place) self.old }
         ensures by_slot { (e : DeviceEntry) → slice_get self.old.entries place ≡ Some e

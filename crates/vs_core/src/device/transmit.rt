@@ -145,9 +145,9 @@ impl Device {
         requires host { IsHostOf (H.told host.old) self.old.entries }
         ensures calls { (e : DeviceEntry) → slice_get self.old.entries place ≡ Some e
             → Leads DeviceAllows (on_entry (verdict_of e.end packet.now) chain.now packet.now e self.old)
-                (situation (R.lists ring.old) (H.told host.old) (H.faults host.old))
-                (self.new, result)
-                (situation (R.lists ring.new) (H.told host.new) (H.faults host.new)) }
+            (situation (R.lists ring.old) (H.told host.old) (H.faults host.old))
+            (self.new, result)
+            (situation (R.lists ring.new) (H.told host.new) (H.faults host.new)) }
         ensures host { IsHostOf (H.told host.new) self.new.entries }
         ensures held { R.held ring.new ≡ R.held ring.old }
         ensures failed { self.new.failed ≡ self.old.failed }

@@ -27,7 +27,11 @@ pub const LAST_ID: u64 = 4_294_967_295;
 impl Driver {
     /// Asks the host for a connection to one of its ports, and gives the connection its number. The answer comes with a
     /// later `poll`. Pages that the device returned are taken back before one is needed.
-    pub fn connect<R: DriverRing>(&mut self, ring: &mut R, host_port: u32) -> Result<ConnId, ConnectError>
+    pub fn connect<R: DriverRing>(
+        &mut self,
+        ring: &mut R,
+        host_port: u32,
+    ) -> Result<ConnId, ConnectError>
         requires ring { IsRingOf (R.size ring.old) (R.flight ring.old) self.old }
 
         ensures ring { IsRingOf (R.size ring.new) (R.flight ring.new) self.new }
@@ -69,7 +73,11 @@ impl Driver {
     }
 
     // Puts the REQUEST of a new connection, if a page is free.
-    fn put_request<R: DriverRing>(&mut self, ring: &mut R, host_port: u32) -> Result<ConnId, ConnectError>
+    fn put_request<R: DriverRing>(
+        &mut self,
+        ring: &mut R,
+        host_port: u32,
+    ) -> Result<ConnId, ConnectError>
         requires ring { IsRingOf (R.size ring.old) (R.flight ring.old) self.old }
         requires room { length self.old.slots < 64 }
         requires unspent { is_spent self.old ≡ false }

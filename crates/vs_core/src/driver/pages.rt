@@ -56,7 +56,12 @@ impl Driver {
     }
 
     /// Posts a packet with at most 4,052 bytes of payload, if a page is free.
-    pub(super) fn post<R: DriverRing>(&mut self, ring: &mut R, header: &Header, payload: &[u8]) -> bool
+    pub(super) fn post<R: DriverRing>(
+        &mut self,
+        ring: &mut R,
+        header: &Header,
+        payload: &[u8],
+    ) -> bool
         requires ring { IsRingOf (R.size ring.old) (R.flight ring.old) self.old }
         requires payload { length payload.now ≤ 4052 }
         ensures ring { IsRingOf (R.size ring.new) (R.flight ring.new) self.new }

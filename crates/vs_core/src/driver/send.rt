@@ -54,7 +54,13 @@ impl Driver {
     }
 
     // Sends bytes on the connection at a place, which has this much credit.
-    fn send_open<R: DriverRing>(&mut self, ring: &mut R, place: usize, credit: u32, bytes: &[u8]) -> Sent
+    fn send_open<R: DriverRing>(
+        &mut self,
+        ring: &mut R,
+        place: usize,
+        credit: u32,
+        bytes: &[u8],
+    ) -> Sent
         requires ring { IsRingOf (R.size ring.old) (R.flight ring.old) self.old }
         requires place { place < length self.old.slots }
         requires credit { HoldsAt (λ s. slot_may_send s ≡ Ok credit) self.old.slots place }

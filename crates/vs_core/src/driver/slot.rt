@@ -1,9 +1,9 @@
 //! A slot of the driver: one connection with its end, and the bytes that came in on it and were not read.
 
-ghost use Rattle.std.specs.Prelude.{◌≡◌, ◌≤◌, ◌==◌, [], ◌++◌, length, min, take, drop, Some, IsOkAnd};
+ghost use Rattle.std.specs.Prelude.{◌≡◌, ◌<◌, ◌≤◌, [], ◌++◌, length, min, take, drop, Some, IsOkAnd};
 ghost use Rattle.vs_conn.specs.End.{verdict_of};
 ghost use Rattle.vs_core.specs.Guest.{has_id, has_flow, guest_header, slot_paid, slot_owes, slot_sent, slot_may_send, slot_after};
-ghost use Rattle.vs_core.specs.Driver.{slot_read, nothing_read, slot_seen};
+ghost use Rattle.vs_core.specs.Driver.{slot_read, recv_slot, nothing_read, slot_seen};
 ghost use Rattle.vs_core.specs.DriverWords.{asked_slot, packet_header};
 ghost use Rattle.vs_core.specs.Profile.{buffer_space};
 
@@ -194,15 +194,22 @@ impl Slot {
         self.end.sent(n);
     }
 
-    /// Whether no byte is unread.
-    pub fn is_empty(&self) -> bool
-        ensures { result ≡ (length self.now.unread == 0) }
+    /// Moves unread bytes to the front of `out`, as many as it holds, and answers what a receive does.
+    pub fn recv(&mut self, out: &mut [u8]) -> Received
+        requires { 0 < length out.old }
+        ensures answer { result ≡ recv_slot (Some self.old) (length out.old) }
+        ensures bytes { out.new ≡ take (length out.old) self.old.unread ++ drop (length (take (length out.old) self.old.unread)) out.old }
+        ensures slot { self.new ≡ slot_read (length out.old) self.old }
     {
-        self.unread.is_empty()
+        let n = self.read(out);
+        if n == 0 {
+            return self.nothing_read();
+        }
+        Received::Got(n)
     }
 
-    /// Moves unread bytes to the front of `out`, as many as it holds, and says how many.
-    pub fn read(&mut self, out: &mut [u8]) -> usize
+    // Moves unread bytes to the front of `out`, as many as it holds, and says how many.
+    fn read(&mut self, out: &mut [u8]) -> usize
         ensures count { result ≡ min (length out.old) (length self.old.unread) }
         ensures read { out.new ≡ take result self.old.unread ++ drop result out.old }
         ensures slot { self.new ≡ slot_read (length out.old) self.old }
@@ -212,8 +219,8 @@ impl Slot {
         n
     }
 
-    /// What a receive answers where no byte is unread.
-    pub fn nothing_read(&self) -> Received
+    // What a receive answers where no byte is unread.
+    fn nothing_read(&self) -> Received
         ensures { result ≡ nothing_read self.now self.now.end.state }
     {
         if self.gone {

@@ -7,7 +7,7 @@ use Rattle.vs_core.proofs.DeviceTaken.{leads_accept, leads_ignore, leads_rst, le
 use Rattle.vs_core.proofs.device.Device.on_entry.Goals as goal
 
 pub returns-in-Deliver-clause-calls : goal.returns-in-Deliver-clause-calls
-returns-in-Deliver-clause-calls g c = λ e at. 
+returns-in-Deliver-clause-calls g c = λ e at.
     let p = c.deliver.ensures.pending _ (decided-at c.args.chain.now c.args.packet.now c.args.place e c.args.self.now c.decide.new.self c.decide.ensures.alone at (c.decide.ensures.entry e at)) in
     leads_deliver c.args.chain.now c.args.packet.now c.args.place e c.args.self.now c.decide.new.self c.decide.ensures.alone at (c.decide.ensures.entry e at) _ _ _ _ p.0 _ (c.in-Deliver.ensures.verdict e at) p.1 p.2
 

@@ -14,7 +14,7 @@ invariant_of-self c =
     let d = c.self.inside in
     let slot : c.new-entry.result.slot ≡ d.next_slot = ap (λ (e : DeviceEntry). e.slot) c.new-entry.ensures in
     let slots : slots_of c.push_reserved.new.self.items ≡ slots_of d.entries.items ++ d.next_slot ∷ [] =
-        ap slots_of c.push_reserved.ensures.items ∙ (map_push (λ (e : DeviceEntry). e.slot) d.entries.items c.new-entry.result ∙ ap (λ n. slots_of d.entries.items ++ n ∷ []) slot) in
+    ap slots_of c.push_reserved.ensures.items ∙ (map_push (λ (e : DeviceEntry). e.slot) d.entries.items c.new-entry.result ∙ ap (λ n. slots_of d.entries.items ++ n ∷ []) slot) in
     record {
       base = c.self.invariant.base;
       slots = subst (λ ns. RisesWithin 0 (d.next_slot + 1) ns) (sym slots) (RisesWithin-push 0 d.next_slot (slots_of d.entries.items) c.self.invariant.slots);

@@ -40,10 +40,12 @@ invariant_of-self g c =
 
 pub returns-clause-calls : goal.returns-clause-calls
 returns-clause-calls g c = rw (← c.self.view_is) (λ table e rings at.
-    let same : e ≡ c.index_mut.result.now = same_Some _ _ (sym at ∙ at_place g (goal.at.returns-clause-calls g c).After-pump_entry) in
-    (c.pump_entry.new.entry, refl,
-    leads_of DeviceAllows _ _ _ _ _ (ap (λ (x : DeviceEntry). pump_of x (with_table table (the_view c.self.inside))) same)
-    (c.pump_entry.ensures.calls (with_table table (the_view c.self.inside)) rings refl)))
+    let same : e ≡ c.index_mut.result.now = same_Some _ _ (sym at ∙ at_place g (goal.at.returns-clause-calls g c).After-pump_entry) in (
+      c.pump_entry.new.entry,
+      refl,
+      leads_of DeviceAllows _ _ _ _ _ (ap (λ (x : DeviceEntry). pump_of x (with_table table (the_view c.self.inside))) same)
+          (c.pump_entry.ensures.calls (with_table table (the_view c.self.inside)) rings refl),
+    ))
 
 pub returns-clause-host : goal.returns-clause-host
 returns-clause-host g c =

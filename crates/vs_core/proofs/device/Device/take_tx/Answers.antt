@@ -14,6 +14,9 @@ returns-in-Chain-clause-calls g c =
     let works : d.failed ≡ None = ap (λ (p : DevicePart). p.failed) (sym c.self.view_is) ∙ c.in_default.is in
     let as_many : length c.self.inside.replies.items ≡ length d.replies = ap (λ (p : DevicePart). length p.replies) c.self.view_is in
     let room : length d.replies < 64 = omega (arith, c.if-len-ge-REPLY_LIMIT.false, c.len.ensures, as_many, c.self.inside.replies.ok.0) in
-    leads_of DeviceAllows _ _ _ _ _ (take_tx_of-asks d works room)
-    (next.Chain c.in-Chain.chain, situation (g.R.DeviceRing.lists c.next.new.self) (g.H.HostNet.told c.args.host.now) (g.H.HostNet.faults c.args.host.now),
-    (c.in-Chain.ensures.lists, (refl, refl)), c.take_chain.ensures.calls)
+    leads_of DeviceAllows _ _ _ _ _ (take_tx_of-asks d works room) (
+      next.Chain c.in-Chain.chain,
+      situation (g.R.DeviceRing.lists c.next.new.self) (g.H.HostNet.told c.args.host.now) (g.H.HostNet.faults c.args.host.now),
+      (c.in-Chain.ensures.lists, (refl, refl)),
+      c.take_chain.ensures.calls,
+    )

@@ -49,10 +49,12 @@ pub returns-in-Closed-clause-calls : goal.returns-in-Closed-clause-calls
 returns-in-Closed-clause-calls g c = λ d rings same.
     let e = c.args.entry.now in
     let told : Tells (g.H.HostNet.told c.args.host.now) (g.H.HostNet.told c.write.new.self) (λ h. written.Closed ≡ written_of e.stream c.args.bytes.now h) (after_write e.stream c.args.bytes.now) =
-        subst (λ (s : ℕ). Tells (g.H.HostNet.told c.args.host.now) (g.H.HostNet.told c.write.new.self) (λ h. written.Closed ≡ written_of s c.args.bytes.now h) (after_write s c.args.bytes.now)) c.stream.ensures c.in-Closed.ensures.answered in
-    (written.Closed, situation rings (g.H.HostNet.told c.write.new.self) (g.H.HostNet.faults c.write.new.self),
-    (refl, c.in-Closed.ensures.counts, told),
-    leads_lost d d rings _ _ _ _ c.args.faults.now e c.lost.new.self c.stream-in-Closed.result c.stream-in-Closed.ensures c.close.ensures.closed c.close.ensures.counts (ap (λ (n : ℕ). record d { faults = n }) (sym same)) c.lost.ensures)
+    subst (λ (s : ℕ). Tells (g.H.HostNet.told c.args.host.now) (g.H.HostNet.told c.write.new.self) (λ h. written.Closed ≡ written_of s c.args.bytes.now h) (after_write s c.args.bytes.now)) c.stream.ensures c.in-Closed.ensures.answered in (
+      written.Closed,
+      situation rings (g.H.HostNet.told c.write.new.self) (g.H.HostNet.faults c.write.new.self),
+      (refl, c.in-Closed.ensures.counts, told),
+      leads_lost d d rings _ _ _ _ c.args.faults.now e c.lost.new.self c.stream-in-Closed.result c.stream-in-Closed.ensures c.close.ensures.closed c.close.ensures.counts (ap (λ (n : ℕ). record d { faults = n }) (sym same)) c.lost.ensures,
+    )
 
 pub returns-in-Closed-clause-others : goal.returns-in-Closed-clause-others
 returns-in-Closed-clause-others g c =
@@ -61,10 +63,12 @@ returns-in-Closed-clause-others g c =
 
 pub returns-in-Failed-clause-calls : goal.returns-in-Failed-clause-calls
 returns-in-Failed-clause-calls g c = λ d rings same.
-    let e = c.args.entry.now in
-    (written.Failed, situation rings (g.H.HostNet.told c.write.new.self) (g.H.HostNet.faults c.write.new.self),
-    (refl, c.in-Failed.ensures.counts, c.in-Failed.ensures.failed),
-    leads_lost d _ rings _ _ _ _ c.saturating_add.result e c.lost-in-Failed.new.self c.stream-in-Failed.result c.stream-in-Failed.ensures c.close-in-Failed.ensures.closed c.close-in-Failed.ensures.counts (ap (λ (n : ℕ). record d { faults = n }) (c.saturating_add.ensures ∙ ap counted (sym same))) c.lost-in-Failed.ensures)
+    let e = c.args.entry.now in (
+      written.Failed,
+      situation rings (g.H.HostNet.told c.write.new.self) (g.H.HostNet.faults c.write.new.self),
+      (refl, c.in-Failed.ensures.counts, c.in-Failed.ensures.failed),
+      leads_lost d _ rings _ _ _ _ c.saturating_add.result e c.lost-in-Failed.new.self c.stream-in-Failed.result c.stream-in-Failed.ensures c.close-in-Failed.ensures.closed c.close-in-Failed.ensures.counts (ap (λ (n : ℕ). record d { faults = n }) (c.saturating_add.ensures ∙ ap counted (sym same))) c.lost-in-Failed.ensures,
+    )
 
 pub returns-in-Failed-clause-others : goal.returns-in-Failed-clause-others
 returns-in-Failed-clause-others g c =

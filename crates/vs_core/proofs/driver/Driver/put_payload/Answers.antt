@@ -14,8 +14,7 @@ returns-clause-calls g c = λ d.
     let slot : GuestSlot = c.index-slot.result.now in
     let read : slot ≡ get_or c.self.inside.slots.items place d = c.index-slot.ensures ∙ get_or_default c.self.inside.slots.items place slot d within in
     let header : c.header-header.result ≡ guest_header old.cid (get_or old.slots place d) op.Rw n =
-        rw (← c.self.view_is) (c.header-header.ensures ∙ ap (λ (x : GuestSlot). guest_header c.self.inside.cid x op.Rw n) read) in
+    rw (← c.self.view_is) (c.header-header.ensures ∙ ap (λ (x : GuestSlot). guest_header c.self.inside.cid x op.Rw n) read) in
     let same : c.post.new.self.slots ≡ old.slots = ap (λ (x : GuestPart). x.slots) c.if-not-post.ensures.part in
     let P : List GuestSlot → Type 0 = λ xs. c.count_sent.new.self ≡ sent_on (get_or xs place d).id n c.post.new.self in
     payload_put (get_or old.slots place d) c.args.bytes.now old c.post.new.self c.header-header.result header _ _ c.count_sent.new.self (subst P same (c.count_sent.ensures.part d)) c.if-not-post.ensures.calls
-

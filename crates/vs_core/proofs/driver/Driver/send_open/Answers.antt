@@ -16,4 +16,3 @@ returns-clause-calls g c = λ d.
     let same : c.reap_all.new.self.slots ≡ old.slots = ap (λ (x : GuestPart). x.slots) c.reap_all.ensures.others in
     let P : List GuestSlot → Type 0 = λ xs. Leads RingAllows (put_payload (get_or xs c.args.place d) (take c.min-n.result bytes) c.reap_all.new.self) (g.R.DriverRing.lists c.reap_all.new.ring) (c.put_payload.new.self, c.put_payload.result) (g.R.DriverRing.lists c.put_payload.new.ring) in
     sends_open (get_or old.slots c.args.place d) c.args.credit bytes old c.reap_all.new.self (c.put_payload.new.self, c.put_payload.result) c.min.result c.min-n.result _ _ _ some c.if-credit-eq0.false c.min.ensures c.min-n.ensures c.reap_all.ensures.calls (subst P same (c.put_payload.ensures.calls d))
-
