@@ -5,5 +5,6 @@ pub mod Text
 pub mod Why
 pub mod Answer
 pub mod Play
+pub mod Ready
 pub mod Examples
 pub mod Streams

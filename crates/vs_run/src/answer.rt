@@ -1,11 +1,12 @@
 //! The printed lines, each with its LF: what each event line of a play answers, and the report after them.
 ghost use Rattle.std.specs.Prelude.{◌≡◌, ◌++◌, OnOk, string_bytes, codes, decimal};
 ghost use Rattle.vs_run.specs.Text.{data_text};
+ghost use Rattle.vs_run.specs.Play.{turn_answer};
 ghost use Rattle.vs_run.specs.Answer.{ok_text, connect_text, refused_text, opened_text, send_text, recv_text, poll_text, turn_text, label_text, read_text, stream_text, refusal_text};
 
 use std::alloc::AllocError;
 use std::fmt::Write;
-use vs_core::{ConnId, ConnectError, Counters, Flow, MemStream, Polled, Received, Sent, Turned};
+use vs_core::{ConnId, ConnectError, Counters, Flow, MemStream, Polled, Received, Sent, Turn, Turned};
 
 use crate::script::Why;
 use crate::text::push_data;
@@ -66,7 +67,7 @@ pub fn push_poll(out: &mut String, polled: Polled) -> Result<(), AllocError>
 }
 
 /// `turn`
-pub fn push_turn(out: &mut String, turned: Turned) -> Result<(), AllocError>
+fn push_turn(out: &mut String, turned: Turned) -> Result<(), AllocError>
     ensures { OnOk result (string_bytes out.new ≡ string_bytes out.old ++ turn_text turned) }
 {
     write!(
@@ -162,4 +163,14 @@ pub fn push_fault(out: &mut String, line: u64, why: Why) -> Result<(), AllocErro
     ensures { OnOk result (string_bytes out.new ≡ string_bytes out.old ++ refusal_text line why) }
 {
     write!(out, "line {line} {why}\n")
+}
+
+/// `turn`, also where the ring failed.
+pub fn push_turn_answer(out: &mut String, turn: Turn) -> Result<(), AllocError>
+    ensures { OnOk result (string_bytes out.new ≡ string_bytes out.old ++ turn_answer turn) }
+{
+    match turn {
+        Turn::Turned(turned) => push_turn(out, turned),
+        Turn::Failed(_) => write!(out, "failed\n"),
+    }
 }

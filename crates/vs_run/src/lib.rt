@@ -4,6 +4,7 @@
 pub mod answer;
 pub mod emit;
 pub mod examples;
+pub mod play;
 pub mod read;
 pub mod script;
 pub mod stdio;
