@@ -10,10 +10,12 @@ ghost use Rattle.vs_core.specs.DeviceEntries.{IsSpare};
 mod entry;
 mod receive;
 mod streams;
+mod table;
 mod transmit;
 mod turns;
 
 use crate::device::entry::{BUFFER_SPACE, Entry};
+pub use crate::device::table::Entries;
 use crate::flow::Flow;
 use crate::path::BASE_MAX;
 use crate::reply::Reply;

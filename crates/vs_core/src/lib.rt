@@ -11,7 +11,7 @@ mod outside;
 mod path;
 mod reply;
 
-pub use device::{Counters, Device, Filled, Taken, Turn, Turned};
+pub use device::{Counters, Device, Entries as DeviceEntries, Filled, Taken, Turn, Turned};
 pub use driver::{ConnId, ConnectError, ConnectionState, Driver, Entries, Polled, Received, Sent};
 pub use flow::{ASSIGNED_FIRST, ASSIGNED_LAST, Flow, is_assigned};
 pub use laws::{laws_of_the_queues, laws_of_the_streams};
