@@ -6,3 +6,4 @@ pub mod Pieces
 pub mod Printed
 pub mod StreamLemmas
 pub mod Spelled
+mod Playing

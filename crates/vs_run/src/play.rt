@@ -1,8 +1,10 @@
 //! A play: a guest's driver and a device on one thread, over rings that are lists, with a host in memory.
-ghost use Rattle.std.specs.Prelude.{◌≡◌, ◌≤◌, ◌++◌, OnOk, IfOk, string_bytes};
+ghost use Rattle.std.specs.Prelude.{◌≡◌, ◌≤◌, ◌++◌, length, OnOk, IfOk, string_bytes};
+ghost use Rattle.vs_core.specs.Driver.{recv_of, recv_bytes, after_recv};
+ghost use Rattle.vs_run.specs.Answer.{recv_text};
 ghost use Rattle.vs_run.specs.Event.{event_line, Connect, Send, Recv, Poll, Turn, HostListen};
 ghost use Rattle.vs_run.specs.Play.{line_played, opened_play};
-ghost use Rattle.vs_run.specs.Ready.{IsReady, Plays};
+ghost use Rattle.vs_run.specs.Ready.{IsReady, Plays, bytes_got};
 
 use std::alloc::{AllocError, Global};
 use std::marker::Model;
@@ -34,12 +36,12 @@ pub struct Play {
 }
 
 impl Model for Play {
-    ghost use Rattle.std.specs.Prelude.{◌≡◌};
+    ghost use Rattle.std.specs.Prelude.{vec_len};
     ghost use Rattle.vs_run.specs.Ready.{PlayState};
 
     ghost Value = { PlayState };
 
-    ghost view = { λ p. record { world = record { guest = p.driver; device = p.device; rings = p.rings; host = p.host.host }; buffer = p.buffer.items } };
+    ghost view = { λ p. record { world = record { guest = p.driver; device = p.device; rings = p.rings; host = p.host.host }; buffer = vec_len p.buffer } };
 }
 
 impl Play {
@@ -88,13 +90,7 @@ impl Play {
         requires room { len ≤ 65536 }
         ensures { OnOk result (Plays (Recv id len) self.old self.new (string_bytes text.old) (string_bytes text.new)) }
     {
-        let out = &mut self.buffer[..len as usize];
-        let answer = self.driver.recv(id, out);
-        let read = match answer {
-            Received::Got(n) => n,
-            _ => 0,
-        };
-        push_recv(text, answer, &out[..read])
+        read_into(&mut self.driver, &mut self.buffer, id, len, text)
     }
 
     // `poll`
@@ -125,5 +121,33 @@ impl Play {
     {
         self.host.listen(port)?;
         push_ok(text)
+    }
+}
+
+// Reads at most `len` bytes of a connection into a buffer, and prints them.
+fn read_into(
+    driver: &mut Driver,
+    buffer: &mut [u8],
+    id: u32,
+    len: u32,
+    text: &mut String,
+) -> Result<(), AllocError>
+    requires some { 1 ≤ len }
+    requires room { len ≤ length buffer.old }
+    ensures part { driver.new ≡ after_recv id len driver.old }
+    ensures printed { OnOk result (string_bytes text.new ≡ string_bytes text.old ++ recv_text (recv_of id len driver.old) (recv_bytes id len driver.old)) }
+{
+    let out = &mut buffer[..len as usize];
+    let answer = driver.recv(id, out);
+    push_recv(text, answer, &out[..bytes_got(answer)])
+}
+
+// Bytes that a `recv` got.
+fn bytes_got(answer: Received) -> usize
+    ensures { result ≡ bytes_got answer }
+{
+    match answer {
+        Received::Got(n) => n,
+        _ => 0,
     }
 }
