@@ -7,3 +7,4 @@ pub mod Printed
 pub mod StreamLemmas
 pub mod Spelled
 mod Playing
+mod Playable

@@ -7,6 +7,7 @@ use Rattle.vs_core.specs.DeviceWords.{IsIdle}
 use Rattle.vs_core.specs.declared.driver.Received.{Received}
 use Rattle.vs_core.specs.declared.driver.Received.TheVariants as received
 use Rattle.vs_run.specs.Event.{EventLine}
+use Rattle.vs_run.specs.Event as line
 use Rattle.vs_run.specs.Play.{play_size, line_played}
 
 -- The world, and how many bytes the buffer holds that `recv` reads into.
@@ -21,6 +22,15 @@ pub record IsReady (p : PlayState) : Type 0 where
   pub host : IsHostOf (Some p.world.host) p.world.device.entries
   pub idle : IsIdle p.world.device.failed (chains_of p.world.rings.held)
   pub buffer : p.buffer ≡ 65536
+
+-- A line that may be played. A `recv` asks for 1 to 65,536 bytes.
+abbrev pub IsPlayable : EventLine → Type 0
+IsPlayable (line.Recv id len) = (1 ≤ len) × (len ≤ 65536)
+IsPlayable (line.Connect port) = Unit {0}
+IsPlayable (line.Send id bytes) = Unit {0}
+IsPlayable line.Poll = Unit {0}
+IsPlayable line.Turn = Unit {0}
+IsPlayable (line.HostListen port) = Unit {0}
 
 -- A line was played: the world is the one that it leaves, its text stands behind what stood there, and the next line may be played.
 pub record Plays (line : EventLine) (old new : PlayState) (text text' : List ℕ) : Type 0 where

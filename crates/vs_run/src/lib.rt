@@ -6,6 +6,8 @@ pub mod emit;
 pub mod examples;
 pub mod play;
 pub mod read;
+pub mod run;
 pub mod script;
 pub mod stdio;
 pub mod text;
+pub mod top;

@@ -4,13 +4,14 @@ ghost use Rattle.vs_core.specs.Driver.{recv_of, recv_bytes, after_recv};
 ghost use Rattle.vs_run.specs.Answer.{recv_text};
 ghost use Rattle.vs_run.specs.Event.{event_line, Connect, Send, Recv, Poll, Turn, HostListen};
 ghost use Rattle.vs_run.specs.Play.{line_played, opened_play};
-ghost use Rattle.vs_run.specs.Ready.{IsReady, Plays, bytes_got};
+ghost use Rattle.vs_run.specs.Ready.{IsReady, IsPlayable, Plays, bytes_got};
 
 use std::alloc::{AllocError, Global};
 use std::marker::Model;
 use vs_core::{Device, Driver, MemHost, Received};
 use vs_ring_list::ListRings;
 
+use crate::script::Line;
 use crate::answer::{push_connect, push_ok, push_poll, push_recv, push_send, push_turn_answer};
 
 /// Pages of each queue.
@@ -59,6 +60,32 @@ impl Play {
             host: MemHost::new(alloc, BASE)?,
             buffer: vec![in alloc; 0; RECV_MAX]?,
         })
+    }
+
+    /// Plays a line: does what it says, and appends what it prints. The only error is want of memory, and then the play
+    /// may not go on.
+    pub fn line(&mut self, line: &Line, text: &mut String) -> Result<(), AllocError>
+        requires ready { IsReady self.old }
+        requires playable { IsPlayable (event_line line.now) }
+        ensures { OnOk result (Plays (event_line line.now) self.old self.new (string_bytes text.old) (string_bytes text.new)) }
+    {
+        match line {
+            Line::Connect { port } => self.connect(*port, text),
+            Line::Send { id, bytes } => self.send(*id, bytes, text),
+            Line::Recv { id, len } => self.recv(*id, *len, text),
+            Line::Poll => self.poll(text),
+            Line::Turn => self.turn(text),
+            Line::HostListen { port } => self.listen(*port, text),
+        }
+    }
+
+    /// The driver's and the device's tables and counts, and the host's streams.
+    pub fn parts(&self) -> (&Driver, &Device, &MemHost)
+        ensures guest { result.0.now ≡ self.now.world.guest }
+        ensures device { result.1.now ≡ self.now.world.device }
+        ensures host { result.2.now.host ≡ self.now.world.host }
+    {
+        (&self.driver, &self.device, &self.host)
     }
 
     // `connect PORT`

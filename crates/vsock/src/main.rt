@@ -24,7 +24,7 @@ fn main(rt: HostRuntime) -> ExitCode {
 fn run<W: io::Write>(rt: &HostRuntime, out: &mut WriteSink<W>) -> Result<u8, AllocError> {
     let words = words(rt)?;
     let mut host = MemHost::new(rt.alloc(), BASE)?;
-    let mut clock = StepClock::new(0);
+    let mut clock = StepClock::new();
     let mut script = ReadSource::new(rt.stdin());
     Ok(vsock_main(
         rt, &words, &mut script, &mut host, &mut clock, &FreeGate, out,
