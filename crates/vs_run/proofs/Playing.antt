@@ -53,9 +53,9 @@ guest_plays said call shown p g x r text text' means ready leads ring printed =
     let called = guest_called call p.world g x r leads in
     let whole = ap (λ (c : World × _). (c.0, shown c.1 c.0)) called ∙ sym (means p.world) in
     record {
-        world = ap (λ (c : World × List ℕ). c.0) whole;
-        printed = printed ∙ ap (λ (c : World × List ℕ). text ++ c.1) whole;
-        ready = guest_ready (call p.world.guest) p g x r ready leads ring
+      world = ap (λ (c : World × List ℕ). c.0) whole;
+      printed = printed ∙ ap (λ (c : World × List ℕ). text ++ c.1) whole;
+      ready = guest_ready (call p.world.guest) p g x r ready leads ring;
     }
 
 -- What the device's turn left.
@@ -75,13 +75,15 @@ turn_plays p d x r h old new text text' zero ready leads host idle printed =
     let rings : r ≡ (device_call (turn_of play_size) p.world).0.rings = ap (λ (c : World × Turn). c.0.rings) called in
     let kept = subst (λ (v : Rings). SameFlight p.world.rings v) (sym rings) (keeps_turn play_size p.world.device (p.world.rings, p.world.host)) in
     record {
-        world = ap (λ (c : World × Turn). c.0) called;
-        printed = printed ∙ ap (λ (c : World × Turn). text ++ turn_answer c.1) called;
-        ready = record {
-            ring = subst (λ (n : ℕ). IsRingOf n (flight_of r) p.world.guest) (sym kept.size) (subst (λ (f : Flight). IsRingOf p.world.rings.size f p.world.guest) (sym kept.flight) ready.ring);
-            size = kept.size ∙ ready.size;
-            host = host; idle = idle; buffer = ready.buffer
-        }
+      world = ap (λ (c : World × Turn). c.0) called;
+      printed = printed ∙ ap (λ (c : World × Turn). text ++ turn_answer c.1) called;
+      ready = record {
+        ring = subst (λ (n : ℕ). IsRingOf n (flight_of r) p.world.guest) (sym kept.size) (subst (λ (f : Flight). IsRingOf p.world.rings.size f p.world.guest) (sym kept.flight) ready.ring);
+        size = kept.size ∙ ready.size;
+        host = host;
+        idle = idle;
+        buffer = ready.buffer;
+      };
     }
 
 -- A driver and a device that were just made open a play.
@@ -106,11 +108,11 @@ opens_ready g d w r v h buffer held empty leads made ring room =
     let none : r.held ≡ (empty_rings play_size).held = kept.held ∙ ap (λ (v : Rings). v.held) empty in
     subst (λ (x : Rings). IsReady (record { world = record { guest = g; device = d; rings = x; host = h }; buffer = buffer })) (sym held)
     (record {
-        ring = ring;
-        size = kept.size ∙ ap (λ (v : Rings). v.size) empty;
-        host = subst (λ (x : DevicePart). IsHostOf (Some h) x.entries) (sym made) (tt, tt);
-        idle = subst (λ (held : List _). IsIdle d.failed (chains_of held)) (sym none) (λ _. refl);
-        buffer = room
+      ring = ring;
+      size = kept.size ∙ ap (λ (v : Rings). v.size) empty;
+      host = subst (λ (x : DevicePart). IsHostOf (Some h) x.entries) (sym made) (tt, tt);
+      idle = subst (λ (held : List _). IsIdle d.failed (chains_of held)) (sym none) (λ _. refl);
+      buffer = room;
     })
 
 -- What was read of a slot is what stands at the front of what it was read into.
@@ -129,13 +131,13 @@ front_of_none s state.Ended bytes out = refl
 
 front_of_if : (none : Bool) (s : GuestSlot) (n : ℕ) (rest : List ℕ)
     → let x = if none then nothing_read s s.end.state else received.Got (min n (length s.unread)) in
-      recv_text x (take (bytes_got x) (take n s.unread ++ rest)) ≡ recv_text x (take n s.unread)
+    recv_text x (take (bytes_got x) (take n s.unread ++ rest)) ≡ recv_text x (take n s.unread)
 front_of_if true s n rest = front_of_none s s.end.state _ _
 front_of_if false s n rest = ap (λ (t : List ℕ). recv_text (received.Got (min n (length s.unread))) t) (front_of_got n s.unread rest)
 
 front_of_slot : (slot : Option GuestSlot) (n : ℕ) (rest : List ℕ)
     → let bytes : List ℕ = elim slot [ None ↦ [] | Some s ↦ take n s.unread ] in
-      recv_text (recv_slot slot n) (take (bytes_got (recv_slot slot n)) (bytes ++ rest)) ≡ recv_text (recv_slot slot n) bytes
+    recv_text (recv_slot slot n) (take (bytes_got (recv_slot slot n)) (bytes ++ rest)) ≡ recv_text (recv_slot slot n) bytes
 front_of_slot None n rest = refl
 front_of_slot (Some s) n rest = front_of_if (length s.unread == 0) s n rest
 
@@ -150,7 +152,7 @@ pub read_text : (id len : ℕ) (g : GuestPart) (x : Received) (out out' : List �
     → text' ≡ text ++ recv_text (recv_of id len g) (recv_bytes id len g)
 read_text id len g x out out' n text text' size answer bytes got printed =
     let shown : recv_text x (take n out') ≡ recv_text (recv_of id (length out) g) (recv_bytes id (length out) g) =
-        cc (got, answer, bytes, read_front id (length out) g (drop (length (recv_bytes id (length out) g)) out)) in
+    cc (got, answer, bytes, read_front id (length out) g (drop (length (recv_bytes id (length out) g)) out)) in
     printed ∙ (ap (λ (t : List ℕ). text ++ t) shown ∙ ap (λ (n : ℕ). text ++ recv_text (recv_of id n g) (recv_bytes id n g)) size)
 
 -- The driver gave what a connection's host wrote, and the line was played.
@@ -159,10 +161,10 @@ pub recv_plays : (p : PlayState) (id len : ℕ) (g : GuestPart) (text text' : Li
     → text' ≡ text ++ recv_text (recv_of id len p.world.guest) (recv_bytes id len p.world.guest)
     → Plays (line.Recv id len) p (record { world = record p.world { guest = g }; buffer = p.buffer }) text text'
 recv_plays p id len g text text' ready part printed = record {
-    world = ap (λ (h : GuestPart). record p.world { guest = h }) part;
-    printed = printed;
-    ready = subst (λ (h : GuestPart). IsReady (record { world = record p.world { guest = h }; buffer = p.buffer })) (sym part)
-        (record { ring = ready.ring; size = ready.size; host = ready.host; idle = ready.idle; buffer = ready.buffer })
+  world = ap (λ (h : GuestPart). record p.world { guest = h }) part;
+  printed = printed;
+  ready = subst (λ (h : GuestPart). IsReady (record { world = record p.world { guest = h }; buffer = p.buffer })) (sym part)
+      (record { ring = ready.ring; size = ready.size; host = ready.host; idle = ready.idle; buffer = ready.buffer });
 }
 
 -- What a `connect` prints, whose connection was opened.

@@ -12,7 +12,6 @@ pub hex_text-more : (bytes : List ℕ) (i : ℕ) → i < length bytes
     → hex_text (take (i + 1) bytes) ≡ hex_text (take i bytes) ++ (hex_digit (get_or bytes i 0 / 16) ∷ hex_digit (get_or bytes i 0 % 16) ∷ [])
 hex_text-more bytes i h = ap hex_text (take_more bytes i 0 h) ∙ hex_text-append (take i bytes) (get_or bytes i 0 ∷ [])
 
-
 -- three pieces in a row
 pub three_pieces : (old one two new a b c : List ℕ) → one ≡ old ++ a → two ≡ one ++ b → new ≡ two ++ c → new ≡ old ++ (a ++ b ++ c)
 three_pieces old one two new a b c p q r =

@@ -4,12 +4,13 @@ ghost use Rattle.vs_run.specs.Text.{data_text};
 ghost use Rattle.vs_run.specs.Play.{turn_answer};
 ghost use Rattle.vs_run.specs.Answer.{ok_text, connect_text, refused_text, opened_text, send_text, recv_text, poll_text, turn_text, label_text, read_text, stream_text, refusal_text};
 
-use std::alloc::AllocError;
-use std::fmt::Write;
-use vs_core::{ConnId, ConnectError, Counters, Flow, MemStream, Polled, Received, Sent, Turn, Turned};
-
 use crate::script::Why;
 use crate::text::push_data;
+use std::alloc::AllocError;
+use std::fmt::Write;
+use vs_core::{
+    ConnId, ConnectError, Counters, Flow, MemStream, Polled, Received, Sent, Turn, Turned,
+};
 
 /// `host listen PORT`
 pub fn push_ok(out: &mut String) -> Result<(), AllocError>
@@ -143,11 +144,7 @@ pub fn push_device_open(out: &mut String, entries: usize) -> Result<(), AllocErr
 }
 
 /// What was counted: packets dropped, payloads without room, packets that broke a connection of the guest, host faults.
-pub fn push_counts(
-    out: &mut String,
-    counters: &Counters,
-    broken: u64,
-) -> Result<(), AllocError>
+pub fn push_counts(out: &mut String, counters: &Counters, broken: u64) -> Result<(), AllocError>
     ensures { OnOk result (string_bytes out.new ≡ string_bytes out.old ++ (codes "dropped " ++ decimal counters.now.dropped ++ codes " overrun " ++ decimal counters.now.overrun
         ++ codes " broken " ++ decimal broken ++ codes " faults " ++ decimal counters.now.faults ++ codes "\n")) }
 {

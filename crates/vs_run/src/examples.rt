@@ -7,5 +7,4 @@ ghost use Rattle.vs_run.specs.Examples.{hello, hello_answer, nobody_listens, nob
 pub fn worked_examples()
     ensures hello { play_of hello ≡ hello_answer }
     ensures nobody_listens { play_of nobody_listens ≡ nobody_listens_answer }
-{
-}
+{}

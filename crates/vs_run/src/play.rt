@@ -6,13 +6,12 @@ ghost use Rattle.vs_run.specs.Event.{event_line, Connect, Send, Recv, Poll, Turn
 ghost use Rattle.vs_run.specs.Play.{line_played, opened_play};
 ghost use Rattle.vs_run.specs.Ready.{IsReady, IsPlayable, Plays, bytes_got};
 
+use crate::answer::{push_connect, push_ok, push_poll, push_recv, push_send, push_turn_answer};
+use crate::script::Line;
 use std::alloc::{AllocError, Global};
 use std::marker::Model;
 use vs_core::{Device, Driver, MemHost, Received};
 use vs_ring_list::ListRings;
-
-use crate::script::Line;
-use crate::answer::{push_connect, push_ok, push_poll, push_recv, push_send, push_turn_answer};
 
 /// Pages of each queue.
 const SIZE: u16 = 64;

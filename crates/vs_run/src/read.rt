@@ -3,10 +3,9 @@ ghost use Rattle.std.specs.Prelude.{◌≡◌, ◌≤◌, IfOk, OnOk, IsErrOf};
 ghost use Rattle.vs_core.specs.Outside.{CountsFault};
 ghost use Rattle.vs_run.specs.Streams.{ReadsAll};
 
+use crate::script::MAX_SCRIPT;
 use std::alloc::{AllocError, Global};
 use vs_core::{Source, SourceRead};
-
-use crate::script::MAX_SCRIPT;
 
 /// Why a source wasn't read.
 #[derive(Clone, Copy, Debug, PartialEq, Eq)]

@@ -4,13 +4,12 @@ ghost use Rattle.std.specs.List.{AllByRecursion};
 ghost use Rattle.vs_run.specs.Event.{event_line};
 ghost use Rattle.vs_run.specs.Ready.{IsReady, IsPlayable};
 
-use std::alloc::{AllocError, Global};
-use vs_core::{MemStream, Sink};
-
 use crate::answer::{push_counts, push_device_open, push_guest_open, push_stream};
 use crate::emit::{SinkFault, emit};
 use crate::play::Play;
 use crate::script::{Line, Script};
+use std::alloc::{AllocError, Global};
+use vs_core::{MemStream, Sink};
 
 /// Why a play ended before its last line.
 #[derive(Clone, Copy, Debug, PartialEq, Eq)]
@@ -55,7 +54,12 @@ pub fn run<K: Sink>(alloc: Global, script: &Script, out: &mut K) -> Result<(), R
 }
 
 /// Plays the lines in order.
-fn play_lines<K: Sink>(play: &mut Play, lines: &[Line], text: &mut String, out: &mut K) -> Result<(), RunError>
+fn play_lines<K: Sink>(
+    play: &mut Play,
+    lines: &[Line],
+    text: &mut String,
+    out: &mut K,
+) -> Result<(), RunError>
     requires ready { IsReady play.old }
     requires playable { AllByRecursion IsPlayable (map event_line lines.now) }
     ensures ready { OnOk result (IsReady play.new) }
@@ -85,7 +89,11 @@ fn report<K: Sink>(play: &Play, text: &mut String, out: &mut K) -> Result<(), Ru
 }
 
 /// Gives what each stream's host read, numbered from 1 on.
-fn report_streams<K: Sink>(streams: &[MemStream], text: &mut String, out: &mut K) -> Result<(), RunError> {
+fn report_streams<K: Sink>(
+    streams: &[MemStream],
+    text: &mut String,
+    out: &mut K,
+) -> Result<(), RunError> {
     let mut number = 0;
     for stream in streams {
         number += 1;

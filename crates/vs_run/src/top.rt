@@ -1,13 +1,12 @@
 //! The command's top: its words, the script that it reads, and the status that it ends with.
 
-use std::alloc::{AllocGlobal, Global};
-use vs_core::{Clock, Gate, HostNet, Sink, Source};
-
 use crate::answer::push_fault;
 use crate::emit::emit;
 use crate::read::{ReadError, read_script};
 use crate::run::{RunError, run};
 use crate::script::{ParseFault, parse};
+use std::alloc::{AllocGlobal, Global};
+use vs_core::{Clock, Gate, HostNet, Sink, Source};
 
 /// The status of a command that did all that its words ask for.
 pub const DONE: u8 = 0;

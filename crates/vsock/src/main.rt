@@ -27,7 +27,13 @@ fn run<W: io::Write>(rt: &HostRuntime, out: &mut WriteSink<W>) -> Result<u8, All
     let mut clock = StepClock::new();
     let mut script = ReadSource::new(rt.stdin());
     Ok(vsock_main(
-        rt, &words, &mut script, &mut host, &mut clock, &FreeGate, out,
+        rt,
+        &words,
+        &mut script,
+        &mut host,
+        &mut clock,
+        &FreeGate,
+        out,
     ))
 }
 

@@ -12,6 +12,6 @@ returns c =
     let two = string_bytes c.push_label.new.out in
     let first : one ≡ old ++ (codes "stream " ++ decimal c.args.number ++ codes " ") = search rules in
     on_ok_weaker c.push_read.result
-      (λ e. three_pieces old one two (string_bytes c.push_read.new.out) (codes "stream " ++ decimal c.args.number ++ codes " ") (label_text s.label) (read_text s.given)
-        first (c.in_ok-push_label.ensures ∙ ap (λ label. one ++ label_text label) c.label.ensures) (e ∙ ap (λ given. two ++ read_text given) c.given.ensures))
-      c.push_read.ensures
+    (λ e. three_pieces old one two (string_bytes c.push_read.new.out) (codes "stream " ++ decimal c.args.number ++ codes " ") (label_text s.label) (read_text s.given)
+    first (c.in_ok-push_label.ensures ∙ ap (λ label. one ++ label_text label) c.label.ensures) (e ∙ ap (λ given. two ++ read_text given) c.given.ensures))
+    c.push_read.ensures
