@@ -1,5 +1,5 @@
 -- Each line of a script may be played.
-use Rattle.std.proofs.Common.{◌≡◌, ◌≤◌, ◌<◌, ◌&&◌, ◌==◌, if◌then◌else◌, ℕ, nat_le, Bool, true, false, List, [], ◌∷◌, map, length, Option, Some, None, Result, Ok, Err, option_map, option_and_then, codes, bytes_eq, refl, sym, ap, ◌∙◌, subst, slice_get, arith}
+use Rattle.std.proofs.Common.{◌≡◌, ◌≤◌, ◌&&◌, if◌then◌else◌, ℕ, nat_le, Bool, true, false, List, [], ◌∷◌, map, length, Option, Some, None, Ok, Err, option_map, option_and_then, codes, bytes_eq, refl, ap, ◌∙◌, subst, slice_get, arith}
 use Rattle.std.proofs.lemmas.Option.{slice_get-map}
 use Rattle.std.proofs.lemmas.Bool.Decides.{nat_tests}
 use Rattle.std.specs.Prelude.{filter_map, filter, not}
@@ -9,7 +9,6 @@ use Rattle.vs_run.specs.declared.script.event.Line.{Line}
 use Rattle.vs_run.specs.Event.{EventLine, event_line, Connect, Send, Recv, Poll, HostListen, of_both, within, number_in, number_of, port_of, id_of, hex_of, words_of, connect_of, send_of, recv_of, alone_of, host_of, line_of, reading_of}
 use Rattle.vs_run.specs.Event as line
 use Rattle.vs_run.specs.Script.{lines_of, is_skipped, readings, event_lines, first_fault, judged, script_of}
-use Rattle.vs_run.specs.declared.script.ParseFault.{ParseFault}
 use Rattle.vs_run.specs.declared.script.ParseFault.TheVariants as fault
 use Rattle.vs_run.specs.declared.script.Why.TheVariants as why
 use Rattle.vs_run.specs.Ready.{IsPlayable}

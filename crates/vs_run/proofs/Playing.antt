@@ -1,10 +1,9 @@
 -- One line of a play: what the driver or the device did is what the line does to the world.
 use Rattle.std.proofs.lemmas.List.{length-take}
 use Rattle.std.proofs.Math.Seq.{take-append_seam}
-use Rattle.std.proofs.Common.{◌≡◌, ◌==◌, if◌then◌else◌, Bool, true, false, [], min, find, Result, Ok, Err, ◌+◌, ◌≤◌, ◌++◌, ℕ, List, Option, Some, None, length, take, drop, refl, sym, ap, ◌∙◌, subst, arith}
+use Rattle.std.proofs.Common.{◌≡◌, ◌==◌, if◌then◌else◌, Bool, true, false, [], min, find, Result, Ok, Err, ◌++◌, ℕ, List, Option, Some, None, length, take, drop, refl, sym, ap, ◌∙◌, subst}
 use Rattle.vs_ring_list.specs.Rings.{Rings, Flight, empty_rings, flight_of, chains_of}
-use Rattle.vs_ring_list.specs.declared.ring_port.Chain.{Chain}
-use Rattle.vs_core.specs.Interaction.{Tree, Leads, played}
+use Rattle.vs_core.specs.Interaction.{Leads, played}
 use Rattle.vs_core.specs.Outside.{Host}
 use Rattle.vs_core.specs.Guest.{GuestPart, GuestSlot, has_id}
 use Rattle.vs_core.specs.Device.{DevicePart}
@@ -20,7 +19,7 @@ use Rattle.vs_conn.specs.declared.end.State.{State}
 use Rattle.vs_conn.specs.declared.end.State.TheVariants as state
 use Rattle.vs_core.specs.declared.driver.Received.{Received}
 use Rattle.vs_core.specs.Profile.{first_guest_port}
-use Rattle.vs_core.specs.Told.{RingAllows, DeviceAllows, ring_answer, device_answer, IsRingOf, IsHostOf}
+use Rattle.vs_core.specs.Told.{RingAllows, DeviceAllows, ring_answer, IsRingOf, IsHostOf}
 use Rattle.vs_core.specs.World.{World, guest_call, device_call}
 use Rattle.vs_core.proofs.Kept.{SameHeld, SameFlight, driver_keeps, keeps_turn}
 use Rattle.vs_core.proofs.Played.{leads_ring, guest_called, device_called}

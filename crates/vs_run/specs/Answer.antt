@@ -10,8 +10,6 @@ use Rattle.vs_core.specs.declared.driver.Received.{Received}
 use Rattle.vs_core.specs.declared.driver.Received.TheVariants as received
 use Rattle.vs_core.specs.declared.driver.Polled.{Polled}
 use Rattle.vs_core.specs.declared.device.Turned.{Turned}
-use Rattle.vs_core.specs.declared.device.Turn.{Turn}
-use Rattle.vs_core.specs.declared.device.Turn.TheVariants as turn
 use Rattle.vs_core.specs.Outside.{Stream}
 use Rattle.vs_core.specs.Guest.{GuestPart}
 use Rattle.vs_core.specs.Driver.{guest_table}

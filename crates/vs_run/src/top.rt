@@ -107,3 +107,166 @@ fn ended<K: Sink>(out: &mut K, line: &[u8], status: u8) -> u8 {
         Err(_) => SINK_FAULT,
     }
 }
+
+#[cfg(test)]
+mod tests {
+    use super::*;
+    use std::alloc::AllocError;
+    use std::test::Fail;
+    use vs_core::{FreeGate, MemHost, MemSink, MemSource, StepClock};
+
+    const NONE: &str = "guest open 0\ndevice open 0\ndropped 0 overrun 0 broken 0 faults 0\n";
+
+    const OPENING: &str = "host listen 52\nconnect 52\nturn\npoll\n";
+
+    /// A text in whose middle a piece stands so often.
+    fn repeated(
+        alloc: Global,
+        before: &str,
+        piece: &str,
+        count: usize,
+        after: &str,
+    ) -> Result<String, AllocError> {
+        let mut text = String::from_str(alloc, before)?;
+        for _ in 0..count {
+            text.push_str(piece)?;
+        }
+        text.push_str(after)?;
+        Ok(text)
+    }
+
+    /// Whether the words' play of a script, in pieces of 100 bytes, ends with this status and prints this.
+    fn prints(
+        rt: &HostRuntime,
+        words: &str,
+        script: &str,
+        status: u8,
+        printed: &str,
+    ) -> Result<bool, AllocError> {
+        let alloc = rt.alloc();
+        let mut all = Vec::new(alloc);
+        all.push(String::from_str(alloc, "vsock")?)?;
+        for word in words.split_ascii_whitespace() {
+            all.push(String::from_str(alloc, word)?)?;
+        }
+        let bytes = Vec::from_slice(alloc, script.as_bytes())?;
+        let mut source = MemSource::new(bytes, 100, Vec::new(alloc));
+        let mut sink = MemSink::new(alloc, 100, Vec::new(alloc));
+        let mut host = MemHost::new(alloc, "v.sock")?;
+        let mut clock = StepClock::new();
+        let answer = vsock_main(
+            rt,
+            &all,
+            &mut source,
+            &mut host,
+            &mut clock,
+            &FreeGate,
+            &mut sink,
+        );
+        Ok(answer == status && sink.bytes() == printed.as_bytes())
+    }
+
+    #[test]
+    fn short_plays_print_what_the_examples_show(rt: HostRuntime) -> Result<(), Fail> {
+        let cases: [(&str, &str, u8, &str); 9] = [
+            (
+                "play",
+                "connect 53\nturn\npoll\nrecv 1 1\nsend 1 61\npoll\n",
+                0,
+                "conn 1 on 1024 53\nturned 1 1 0 0 0 0\npolled 1 0 0\nreset\nreset\npolled 0 0 0\n\
+                 guest open 0\ndevice open 0\ndropped 0 overrun 0 broken 0 faults 0\n",
+            ),
+            ("play", "", 0, NONE),
+            ("", "", 1, "usage\n"),
+            (
+                "play",
+                "# a script\n\n   \nhost listen 52\n  poll  \nfrobnicate\n",
+                2,
+                "line 6 BadWord\n",
+            ),
+            (
+                "play --rings list",
+                "host listen 52\nconnect 52\nturn\npoll\nsend 1 68656c6c6f\nturn\nrecv 1 10\n",
+                0,
+                "ok\nconn 1 on 1024 52\nturned 1 1 0 0 1 0\npolled 1 0 0\ntook 5\nturned 1 0 0 5 0 0\nempty\n\
+                 guest open 1\ndevice open 1\nstream 1 1024 52 wrote 0 - read 5 68656c6c6f\n\
+                 dropped 0 overrun 0 broken 0 faults 0\n",
+            ),
+            (
+                "play",
+                "host listen 52\nconnect 52\nsend 1 61\nrecv 1 1\nturn\nsend 1 61\npoll\nsend 1 61\nturn\n",
+                0,
+                "ok\nconn 1 on 1024 52\nnot open\nnot open\nturned 1 1 0 0 1 0\nnot open\npolled 1 0 0\ntook 1\n\
+                 turned 1 0 0 1 0 0\nguest open 1\ndevice open 1\nstream 1 1024 52 wrote 0 - read 1 61\n\
+                 dropped 0 overrun 0 broken 0 faults 0\n",
+            ),
+            (
+                "play",
+                "connect 1073741824\n",
+                0,
+                "bad port 1073741824\nguest open 0\ndevice open 0\ndropped 0 overrun 0 broken 0 faults 0\n",
+            ),
+            (
+                "play",
+                "host listen 52\npoll",
+                0,
+                "ok\npolled 0 0 0\nguest open 0\ndevice open 0\ndropped 0 overrun 0 broken 0 faults 0\n",
+            ),
+            (
+                "play",
+                "send 1 61\nrecv 9 1\npoll\nturn\n",
+                0,
+                "unknown\nunknown\npolled 0 0 0\nturned 0 0 0 0 0 0\nguest open 0\ndevice open 0\n\
+                 dropped 0 overrun 0 broken 0 faults 0\n",
+            ),
+        ];
+        for (words, script, status, printed) in cases {
+            assert!(rt;
+                prints(&rt, words, script, status, printed)?,
+                "at {script:?}"
+            );
+        }
+        Ok(())
+    }
+
+    #[test]
+    fn long_plays_print_what_the_examples_show(rt: HostRuntime) -> Result<(), Fail> {
+        let alloc = rt.alloc();
+        let comment = repeated(alloc, "#", "x", 5_005, "\n")?;
+        assert!(rt; prints(&rt, "play", &comment, 0, NONE)?);
+        let script = repeated(alloc, OPENING, "send 1 61\n", 65, "turn\nsend 1 62\n")?;
+        let took = repeated(
+            alloc,
+            "ok\nconn 1 on 1024 52\nturned 1 1 0 0 1 0\npolled 1 0 0\n",
+            "took 1\n",
+            64,
+            "no descriptor 64\nturned 64 0 0 64 0 0\ntook 1\nguest open 1\ndevice open 1\nstream 1 1024 52 wrote 0 - read 64 ",
+        )?;
+        let printed = repeated(
+            alloc,
+            &took,
+            "61",
+            64,
+            "\ndropped 0 overrun 0 broken 0 faults 0\n",
+        )?;
+        assert!(rt; prints(&rt, "play", &script, 0, &printed)?);
+        let rounds = repeated(
+            alloc,
+            OPENING,
+            "send 1 61626364656162636465616263646561626364656162636465616263646561626364656162636465\nturn\n",
+            200,
+            "",
+        )?;
+        let printed = repeated(
+            alloc,
+            "ok\nconn 1 on 1024 52\nturned 1 1 0 0 1 0\npolled 1 0 0\n",
+            "took 40\nturned 1 0 0 40 0 0\n",
+            200,
+            "guest open 1\ndevice open 1\n\
+             stream 1 1024 52 wrote 0 - read 8000 61626364656162636465616263646561..65616263646561626364656162636465\n\
+             dropped 0 overrun 0 broken 0 faults 0\n",
+        )?;
+        assert!(rt; prints(&rt, "play", &rounds, 0, &printed)?);
+        Ok(())
+    }
+}

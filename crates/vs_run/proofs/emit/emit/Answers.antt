@@ -1,4 +1,4 @@
-use Rattle.std.proofs.Common.{◌≡◌, ◌∙◌, ℕ, ◌+◌, ◌≤◌, length, arith}
+use Rattle.std.proofs.Common.{◌∙◌, arith}
 use Rattle.vs_run.proofs.StreamLemmas.{emits_more, rest_length}
 use Rattle.vs_run.proofs.emit.emit.Goals as goal
 

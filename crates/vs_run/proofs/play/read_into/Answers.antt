@@ -1,4 +1,4 @@
-use Rattle.std.proofs.Common.{◌≡◌, ◌∙◌, ℕ, ap}
+use Rattle.std.proofs.Common.{◌∙◌, ℕ, ap}
 use Rattle.std.proofs.lemmas.List.{length-take-le}
 use Rattle.std.proofs.lemmas.Result.{on_ok_weaker}
 use Rattle.vs_core.specs.Driver.{after_recv}

@@ -1,4 +1,3 @@
-use Rattle.std.proofs.Common.{◌≡◌}
 use Rattle.vs_run.specs.Ready.{IsReady}
 use Rattle.vs_run.proofs.run.play_lines.Given as goal
 

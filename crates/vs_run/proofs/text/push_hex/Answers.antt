@@ -1,4 +1,4 @@
-use Rattle.std.proofs.Common.{refl, append_assoc, ◌∙◌}
+use Rattle.std.proofs.Common.{refl, append_assoc}
 use Rattle.vs_run.proofs.Printed.{hex_text-more}
 use Rattle.vs_run.proofs.text.push_hex.Goals as goal
 

@@ -1,9 +1,6 @@
-use Rattle.std.proofs.Common.{◌≡◌, ◌++◌, List, ℕ, Result, Ok, Err, Option, None, refl, sym, subst, ap, ◌∙◌, string_bytes}
+use Rattle.std.proofs.Common.{◌++◌, List, ℕ, refl, sym, subst, ap, ◌∙◌, string_bytes}
 use Rattle.std.proofs.lemmas.Result.{on_ok_weaker}
-use Rattle.vs_core.specs.Driver.{connect_of, flow_of}
-use Rattle.vs_core.specs.declared.flow.Flow.{Flow}
-use Rattle.vs_core.specs.declared.driver.ConnectError.{ConnectError}
-use Rattle.vs_run.specs.Answer.{connect_text}
+use Rattle.vs_core.specs.Driver.{connect_of}
 use Rattle.vs_run.specs.Play.{flow_opened}
 use Rattle.vs_run.specs.Event as line
 use Rattle.vs_run.specs.Ready.{IsReady}

@@ -1,4 +1,4 @@
-use Rattle.std.proofs.Common.{◌≡◌, refl, sym, subst, ap, ◌∙◌}
+use Rattle.std.proofs.Common.{ap}
 use Rattle.vs_run.proofs.Playing.{opens, opens_ready}
 use Rattle.vs_run.proofs.play.Play.new.Goals as goal
 
