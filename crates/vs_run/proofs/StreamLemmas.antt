@@ -1,5 +1,7 @@
 -- How reading and writing in pieces add up.
-use Rattle.std.proofs.Common.{◌≡◌, ℕ, ◌+◌, ◌-◌, ◌<◌, List, [], ◌++◌, length, take, drop, Option, Some, None, refl, sym, ap, ◌∙◌, subst, append_assoc, append-nil}
+use Rattle.vs_core.specs.Outside.{CountsFault}
+use Rattle.std.proofs.lemmas.Bool.Decides.{nat_tests}
+use Rattle.std.proofs.Common.{◌≡◌, ◌^◌, arith, ℕ, ◌+◌, ◌-◌, ◌<◌, List, [], ◌++◌, length, take, drop, Option, Some, None, refl, sym, ap, ◌∙◌, subst, append_assoc, append-nil}
 use Rattle.std.proofs.Math.Seq.{take-add}
 use Rattle.std.proofs.lemmas.List.{take_rest, length-drop, take-append-drop}
 use Rattle.vs_core.specs.Outside.{Tells}
@@ -51,3 +53,7 @@ front_of_some (Some held) new xs h = (take h.0 xs, drop h.0 xs, take-append-drop
 pub front_none : (old : Option (List ℕ)) (xs : List ℕ) → EmitsFront old old xs
 front_none None xs = refl
 front_none (Some held) xs = ([], xs, refl, ap (λ ys. Some ys) (sym (append-nil held)))
+
+-- A fault shows in a count that can rise.
+pub fault_shows : (old new : ℕ) → CountsFault old new → old < 2 ^ 64 - 1 → new ≡ old → ⊥
+fault_shows old new counts few same = grind (arith, nat_tests)

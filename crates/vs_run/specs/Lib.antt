@@ -8,3 +8,4 @@ pub mod Play
 pub mod Ready
 pub mod Examples
 pub mod Streams
+pub mod Ends

@@ -1,5 +1,12 @@
 //! The command's top: its words, the script that it reads, and the status that it ends with.
 
+ghost use Rattle.std.specs.Prelude.{◌≡◌, ◌≢◌, ◌<◌, ◌-◌, ◌^◌, ℕ, List, Some, Err, true, false, map, string_bytes};
+ghost use Rattle.vs_run.specs.Answer.{usage_text, read_fault_text, no_memory_text, refusal_text};
+ghost use Rattle.vs_run.specs.Ends.{is_play, Ends, EndsWith, EndsRefused};
+ghost use Rattle.vs_run.specs.Script.{script_of};
+ghost use Rattle.vs_run.specs.declared.script.ParseFault.TheVariants.{Refused};
+ghost use Rattle.vs_run.specs.declared.script.Why.{Why};
+
 use crate::answer::push_fault;
 use crate::emit::emit;
 use crate::read::{ReadError, read_script};
@@ -45,7 +52,18 @@ pub fn vsock_main<R: AllocGlobal, S: Source, K: Sink, H: HostNet, C: Clock, G: G
     _clock: &mut C,
     _gate: &G,
     out: &mut K,
-) -> u8 {
+) -> u8
+    // Words that are no command: nothing is read.
+    ensures usage { is_play (map string_bytes words.now) ≡ false
+        → Ends (K.held out.old) (K.held out.new) (K.faults out.old) (K.faults out.new) usage_text 1 result × (script.new ≡ script.old) }
+    // A call of the source failed.
+    ensures fault { is_play (map string_bytes words.now) ≡ true → S.faults script.new ≢ S.faults script.old
+        → EndsWith (K.held out.old) (K.held out.new) (K.faults out.old) (K.faults out.new) read_fault_text 3 result }
+    // The source told a text that is no script, and no call of it failed, which its count shows as long as it can rise.
+    ensures refused { is_play (map string_bytes words.now) ≡ true → S.faults script.old < 2 ^ 64 - 1 → S.faults script.new ≡ S.faults script.old
+        → (text : List ℕ) (line : ℕ) (why : Why) → S.left script.old ≡ Some text → script_of text ≡ Err (Refused line why)
+        → EndsWith (K.held out.old) (K.held out.new) (K.faults out.old) (K.faults out.new) (refusal_text line why) 2 result }
+{
     if !is_play(words) {
         return ended(out, b"usage\n", USAGE);
     }
@@ -58,12 +76,16 @@ pub fn vsock_main<R: AllocGlobal, S: Source, K: Sink, H: HostNet, C: Clock, G: G
 }
 
 /// Says that memory ran out, and answers the status for it.
-pub fn no_memory<K: Sink>(out: &mut K) -> u8 {
+pub fn no_memory<K: Sink>(out: &mut K) -> u8
+    ensures { Ends (K.held out.old) (K.held out.new) (K.faults out.old) (K.faults out.new) no_memory_text 9 result }
+{
     ended(out, b"no memory\n", NO_MEMORY)
 }
 
 /// Whether words, the program's name first, are `play`, alone or with `--rings list`.
-fn is_play(words: &[String]) -> bool {
+fn is_play(words: &[String]) -> bool
+    ensures { result ≡ is_play (map string_bytes words.now) }
+{
     match words {
         [_, command] => command.as_str() == "play",
         [_, command, option, rings] => {
@@ -74,7 +96,10 @@ fn is_play(words: &[String]) -> bool {
 }
 
 /// Plays the script that bytes spell.
-fn play<K: Sink>(alloc: Global, bytes: &[u8], out: &mut K) -> u8 {
+fn play<K: Sink>(alloc: Global, bytes: &[u8], out: &mut K) -> u8
+    ensures { (line : ℕ) (why : Why) → script_of bytes.now ≡ Err (Refused line why)
+        → EndsWith (K.held out.old) (K.held out.new) (K.faults out.old) (K.faults out.new) (refusal_text line why) 2 result }
+{
     let script = match parse(alloc, bytes) {
         Ok(script) => script,
         Err(fault) => return refused(alloc, fault, out),
@@ -87,7 +112,9 @@ fn play<K: Sink>(alloc: Global, bytes: &[u8], out: &mut K) -> u8 {
 }
 
 /// Says for which line a script is refused, and why.
-fn refused<K: Sink>(alloc: Global, fault: ParseFault, out: &mut K) -> u8 {
+fn refused<K: Sink>(alloc: Global, fault: ParseFault, out: &mut K) -> u8
+    ensures { EndsRefused (K.held out.old) (K.held out.new) (K.faults out.old) (K.faults out.new) fault result }
+{
     match fault {
         ParseFault::Refused { line, why } => {
             let mut text = String::new(alloc);
@@ -101,7 +128,9 @@ fn refused<K: Sink>(alloc: Global, fault: ParseFault, out: &mut K) -> u8 {
 }
 
 /// Writes the last line, and answers the status; that of the sink, where it fails.
-fn ended<K: Sink>(out: &mut K, line: &[u8], status: u8) -> u8 {
+fn ended<K: Sink>(out: &mut K, line: &[u8], status: u8) -> u8
+    ensures { Ends (K.held out.old) (K.held out.new) (K.faults out.old) (K.faults out.new) line.now status result }
+{
     match emit(out, line) {
         Ok(()) => status,
         Err(_) => SINK_FAULT,
