@@ -8,3 +8,7 @@ pub mod StreamLemmas
 pub mod Spelled
 mod Playing
 mod Playable
+pub mod Giving
+pub mod PlayEnds
+pub mod Playings
+pub mod Reports

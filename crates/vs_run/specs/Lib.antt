@@ -9,3 +9,4 @@ pub mod Ready
 pub mod Examples
 pub mod Streams
 pub mod Ends
+pub mod Gives

@@ -67,9 +67,12 @@ refusal fault.OutOfMemory = record { lines = no_memory_text ∷ []; status = 9 }
 abbrev pub opened_play : World
 opened_play = opening play_size play_host
 
--- The lines of a script in order, and then the report.
+-- What a play prints: the texts of its lines in order, and then the report.
+abbrev pub printed : List EventLine → List (List ℕ)
+printed lines = texts_of lines opened_play ++ report_of (world_after lines opened_play)
+
 abbrev pub answer_to : Result (List EventLine) ParseFault → Answer
-answer_to (Ok lines) = record { lines = texts_of lines opened_play ++ report_of (world_after lines opened_play); status = 0 }
+answer_to (Ok lines) = record { lines = printed lines; status = 0 }
 answer_to (Err e) = refusal e
 
 abbrev pub play_of : List ℕ → Answer

@@ -5,6 +5,7 @@ use Rattle.vs_run.specs.Event.{EventLine, event_line, is_empty, words_of, readin
 use Rattle.vs_run.specs.declared.script.event.Line.{Line}
 use Rattle.vs_run.specs.declared.script.ParseFault.{ParseFault}
 use Rattle.vs_run.specs.declared.script.ParseFault.TheVariants.{Refused, OutOfMemory}
+use Rattle.vs_run.specs.declared.script.Why.{Why}
 use Rattle.vs_run.specs.declared.script.Why.TheVariants.{BadWord, TooLong}
 
 -- The lines of a text: LF (10) ends each, and may be missing after the last.
@@ -45,6 +46,10 @@ abbrev pub script_of : List ℕ → Result (List EventLine) ParseFault
 script_of text =
     if nat_le (length text) 1048576 then judged (event_lines text) (first_fault [] (event_lines text))
     else Err (Refused 0 TooLong)
+
+-- A text is no script: it is refused for one of its lines, or as a whole.
+abbrev pub IsNoScript : List ℕ → Type 0
+IsNoScript text = (line : ℕ) × (why : Why) × (script_of text ≡ Err (Refused line why))
 
 -- A text is refused for this fault. Want of memory says nothing of the text.
 abbrev pub IsRefused : List ℕ → ParseFault → Type 0

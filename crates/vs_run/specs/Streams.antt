@@ -33,7 +33,8 @@ abbrev pub joined : List (List ℕ) → List ℕ
 joined [] = []
 joined (l ∷ ls) = l ++ joined ls
 
--- A sink that tells what it holds got a front of the bytes, maybe all of them.
-abbrev pub EmitsFront : Option (List ℕ) → Option (List ℕ) → List ℕ → Type 0
-EmitsFront None new bytes = new ≡ None
-EmitsFront (Some held) new bytes = (front : List ℕ) × (rest : List ℕ) × (front ++ rest ≡ bytes) × (new ≡ Some (held ++ front))
+-- A sink that tells what it holds got some of the lines whole, from the first on.
+abbrev pub EmitsLines : Option (List ℕ) → Option (List ℕ) → List (List ℕ) → Type 0
+EmitsLines None new lines = new ≡ None
+EmitsLines (Some held) new lines =
+    (first : List (List ℕ)) × (rest : List (List ℕ)) × (first ++ rest ≡ lines) × (new ≡ Some (held ++ joined first))

@@ -2,8 +2,11 @@
 
 ghost use Rattle.std.specs.Prelude.{◌≡◌, ◌≢◌, ◌<◌, ◌-◌, ◌^◌, ℕ, List, Some, Err, true, false, map, string_bytes};
 ghost use Rattle.vs_run.specs.Answer.{usage_text, read_fault_text, no_memory_text, refusal_text};
-ghost use Rattle.vs_run.specs.Ends.{is_play, Ends, EndsWith, EndsRefused};
-ghost use Rattle.vs_run.specs.Script.{script_of};
+ghost use Rattle.vs_core.specs.Outside.{CountsFault};
+ghost use Rattle.vs_run.specs.Ends.{is_play, is_status, Ends, EndsWith, EndsRefused, EndsPlay};
+ghost use Rattle.vs_run.specs.Play.{play_of};
+ghost use Rattle.vs_run.specs.Script.{script_of, IsNoScript};
+ghost use Rattle.vs_run.specs.Streams.{Emits, joined};
 ghost use Rattle.vs_run.specs.declared.script.ParseFault.TheVariants.{Refused};
 ghost use Rattle.vs_run.specs.declared.script.Why.{Why};
 
@@ -63,6 +66,18 @@ pub fn vsock_main<R: AllocGlobal, S: Source, K: Sink, H: HostNet, C: Clock, G: G
     ensures refused { is_play (map string_bytes words.now) ≡ true → S.faults script.old < 2 ^ 64 - 1 → S.faults script.new ≡ S.faults script.old
         → (text : List ℕ) (line : ℕ) (why : Why) → S.left script.old ≡ Some text → script_of text ≡ Err (Refused line why)
         → EndsWith (K.held out.old) (K.held out.new) (K.faults out.old) (K.faults out.new) (refusal_text line why) 2 result }
+    // The same of any text: the answer of its play is written, whatever the pieces in which it is read and written.
+    ensures plays { is_play (map string_bytes words.now) ≡ true → S.faults script.old < 2 ^ 64 - 1 → S.faults script.new ≡ S.faults script.old
+        → (text : List ℕ) → S.left script.old ≡ Some text
+        → EndsPlay (K.held out.old) (K.held out.new) (K.faults out.old) (K.faults out.new) (play_of text) result }
+    // Each status has its cause.
+    ensures status_0 { result ≡ 0 → (is_play (map string_bytes words.now) ≡ true) × ((text : List ℕ) → S.left script.old ≡ Some text
+        → ((play_of text).status ≡ 0) × Emits (K.held out.old) (K.held out.new) (joined (play_of text).lines)) }
+    ensures status_1 { result ≡ 1 → is_play (map string_bytes words.now) ≡ false }
+    ensures status_2 { result ≡ 2 → (text : List ℕ) → S.left script.old ≡ Some text → IsNoScript text }
+    ensures status_3 { result ≡ 3 → CountsFault (S.faults script.old) (S.faults script.new) }
+    ensures status_4 { result ≡ 4 → CountsFault (K.faults out.old) (K.faults out.new) }
+    ensures statuses { is_status result ≡ true }
 {
     if !is_play(words) {
         return ended(out, b"usage\n", USAGE);
@@ -97,7 +112,8 @@ fn is_play(words: &[String]) -> bool
 
 /// Plays the script that bytes spell.
 fn play<K: Sink>(alloc: Global, bytes: &[u8], out: &mut K) -> u8
-    ensures { (line : ℕ) (why : Why) → script_of bytes.now ≡ Err (Refused line why)
+    ensures plays { EndsPlay (K.held out.old) (K.held out.new) (K.faults out.old) (K.faults out.new) (play_of bytes.now) result }
+    ensures refused { (line : ℕ) (why : Why) → script_of bytes.now ≡ Err (Refused line why)
         → EndsWith (K.held out.old) (K.held out.new) (K.faults out.old) (K.faults out.new) (refusal_text line why) 2 result }
 {
     let script = match parse(alloc, bytes) {
@@ -146,6 +162,14 @@ mod tests {
 
     const NONE: &str = "guest open 0\ndevice open 0\ndropped 0 overrun 0 broken 0 faults 0\n";
 
+    const HELLO: &str =
+        "host listen 52\nconnect 52\nturn\npoll\nsend 1 68656c6c6f\nturn\nrecv 1 10\n";
+
+    const HELLO_PRINTED: &str =
+        "ok\nconn 1 on 1024 52\nturned 1 1 0 0 1 0\npolled 1 0 0\ntook 5\nturned 1 0 0 5 0 0\nempty\n\
+                                 guest open 1\ndevice open 1\nstream 1 1024 52 wrote 0 - read 5 68656c6c6f\n\
+                                 dropped 0 overrun 0 broken 0 faults 0\n";
+
     const OPENING: &str = "host listen 52\nconnect 52\nturn\npoll\n";
 
     /// A text in whose middle a piece stands so often.
@@ -164,28 +188,29 @@ mod tests {
         Ok(text)
     }
 
-    /// Whether the words' play of a script, in pieces of 100 bytes, ends with this status and prints this.
-    fn prints(
+    /// The words of a command line, the program's name first.
+    fn words_of(alloc: Global, line: &str) -> Result<Vec<String>, AllocError> {
+        let mut words = Vec::new(alloc);
+        for word in line.split_ascii_whitespace() {
+            words.push(String::from_str(alloc, word)?)?;
+        }
+        Ok(words)
+    }
+
+    /// Whether the command with these words, from this source to this sink, ends with this status and prints this.
+    fn ends(
         rt: &HostRuntime,
-        words: &str,
-        script: &str,
+        words: &[String],
+        mut source: MemSource,
+        mut sink: MemSink,
         status: u8,
         printed: &str,
     ) -> Result<bool, AllocError> {
-        let alloc = rt.alloc();
-        let mut all = Vec::new(alloc);
-        all.push(String::from_str(alloc, "vsock")?)?;
-        for word in words.split_ascii_whitespace() {
-            all.push(String::from_str(alloc, word)?)?;
-        }
-        let bytes = Vec::from_slice(alloc, script.as_bytes())?;
-        let mut source = MemSource::new(bytes, 100, Vec::new(alloc));
-        let mut sink = MemSink::new(alloc, 100, Vec::new(alloc));
-        let mut host = MemHost::new(alloc, "v.sock")?;
+        let mut host = MemHost::new(rt.alloc(), "v.sock")?;
         let mut clock = StepClock::new();
         let answer = vsock_main(
             rt,
-            &all,
+            words,
             &mut source,
             &mut host,
             &mut clock,
@@ -195,34 +220,69 @@ mod tests {
         Ok(answer == status && sink.bytes() == printed.as_bytes())
     }
 
+    /// Whether the command line's play of a script, in pieces of 100 bytes, ends with this status and prints this.
+    fn prints(
+        rt: &HostRuntime,
+        line: &str,
+        script: &str,
+        status: u8,
+        printed: &str,
+    ) -> Result<bool, AllocError> {
+        let alloc = rt.alloc();
+        let bytes = Vec::from_slice(alloc, script.as_bytes())?;
+        let source = MemSource::new(bytes, 100, Vec::new(alloc));
+        let sink = MemSink::new(alloc, 100, Vec::new(alloc));
+        ends(rt, &words_of(alloc, line)?, source, sink, status, printed)
+    }
+
+    #[test]
+    fn a_failed_call_ends_the_command(rt: HostRuntime) -> Result<(), Fail> {
+        let alloc = rt.alloc();
+        let words = words_of(alloc, "vsock play")?;
+        let script = Vec::from_slice(alloc, HELLO.as_bytes())?;
+        let source = MemSource::new(script, 100, Vec::new(alloc));
+        let sink = MemSink::new(alloc, 100, Vec::from_slice(alloc, &[2])?);
+        assert!(rt; ends(&rt, &words, source, sink, 4, "ok\n")?);
+        let script = Vec::from_slice(alloc, HELLO.as_bytes())?;
+        let source = MemSource::new(script, 100, Vec::from_slice(alloc, &[1])?);
+        let sink = MemSink::new(alloc, 100, Vec::new(alloc));
+        assert!(rt; ends(&rt, &words, source, sink, 3, "read fault\n")?);
+        Ok(())
+    }
+
+    #[test]
+    fn pieces_of_one_byte_print_the_same(rt: HostRuntime) -> Result<(), Fail> {
+        let alloc = rt.alloc();
+        let words = words_of(alloc, "vsock play")?;
+        let script = Vec::from_slice(alloc, HELLO.as_bytes())?;
+        let source = MemSource::new(script, 1, Vec::new(alloc));
+        let sink = MemSink::new(alloc, 1, Vec::new(alloc));
+        assert!(rt; ends(&rt, &words, source, sink, 0, HELLO_PRINTED)?);
+        Ok(())
+    }
+
     #[test]
     fn short_plays_print_what_the_examples_show(rt: HostRuntime) -> Result<(), Fail> {
-        let cases: [(&str, &str, u8, &str); 9] = [
+        let cases: [(&str, &str, u8, &str); 10] = [
             (
-                "play",
+                "vsock play",
                 "connect 53\nturn\npoll\nrecv 1 1\nsend 1 61\npoll\n",
                 0,
                 "conn 1 on 1024 53\nturned 1 1 0 0 0 0\npolled 1 0 0\nreset\nreset\npolled 0 0 0\n\
                  guest open 0\ndevice open 0\ndropped 0 overrun 0 broken 0 faults 0\n",
             ),
-            ("play", "", 0, NONE),
+            ("vsock play", "", 0, NONE),
+            ("vsock", "", 1, "usage\n"),
             ("", "", 1, "usage\n"),
             (
-                "play",
+                "vsock play",
                 "# a script\n\n   \nhost listen 52\n  poll  \nfrobnicate\n",
                 2,
                 "line 6 BadWord\n",
             ),
+            ("vsock play --rings list", HELLO, 0, HELLO_PRINTED),
             (
-                "play --rings list",
-                "host listen 52\nconnect 52\nturn\npoll\nsend 1 68656c6c6f\nturn\nrecv 1 10\n",
-                0,
-                "ok\nconn 1 on 1024 52\nturned 1 1 0 0 1 0\npolled 1 0 0\ntook 5\nturned 1 0 0 5 0 0\nempty\n\
-                 guest open 1\ndevice open 1\nstream 1 1024 52 wrote 0 - read 5 68656c6c6f\n\
-                 dropped 0 overrun 0 broken 0 faults 0\n",
-            ),
-            (
-                "play",
+                "vsock play",
                 "host listen 52\nconnect 52\nsend 1 61\nrecv 1 1\nturn\nsend 1 61\npoll\nsend 1 61\nturn\n",
                 0,
                 "ok\nconn 1 on 1024 52\nnot open\nnot open\nturned 1 1 0 0 1 0\nnot open\npolled 1 0 0\ntook 1\n\
@@ -230,19 +290,19 @@ mod tests {
                  dropped 0 overrun 0 broken 0 faults 0\n",
             ),
             (
-                "play",
+                "vsock play",
                 "connect 1073741824\n",
                 0,
                 "bad port 1073741824\nguest open 0\ndevice open 0\ndropped 0 overrun 0 broken 0 faults 0\n",
             ),
             (
-                "play",
+                "vsock play",
                 "host listen 52\npoll",
                 0,
                 "ok\npolled 0 0 0\nguest open 0\ndevice open 0\ndropped 0 overrun 0 broken 0 faults 0\n",
             ),
             (
-                "play",
+                "vsock play",
                 "send 1 61\nrecv 9 1\npoll\nturn\n",
                 0,
                 "unknown\nunknown\npolled 0 0 0\nturned 0 0 0 0 0 0\nguest open 0\ndevice open 0\n\
@@ -262,7 +322,7 @@ mod tests {
     fn long_plays_print_what_the_examples_show(rt: HostRuntime) -> Result<(), Fail> {
         let alloc = rt.alloc();
         let comment = repeated(alloc, "#", "x", 5_005, "\n")?;
-        assert!(rt; prints(&rt, "play", &comment, 0, NONE)?);
+        assert!(rt; prints(&rt, "vsock play", &comment, 0, NONE)?);
         let script = repeated(alloc, OPENING, "send 1 61\n", 65, "turn\nsend 1 62\n")?;
         let took = repeated(
             alloc,
@@ -278,7 +338,7 @@ mod tests {
             64,
             "\ndropped 0 overrun 0 broken 0 faults 0\n",
         )?;
-        assert!(rt; prints(&rt, "play", &script, 0, &printed)?);
+        assert!(rt; prints(&rt, "vsock play", &script, 0, &printed)?);
         let rounds = repeated(
             alloc,
             OPENING,
@@ -295,7 +355,7 @@ mod tests {
              stream 1 1024 52 wrote 0 - read 8000 61626364656162636465616263646561..65616263646561626364656162636465\n\
              dropped 0 overrun 0 broken 0 faults 0\n",
         )?;
-        assert!(rt; prints(&rt, "play", &rounds, 0, &printed)?);
+        assert!(rt; prints(&rt, "vsock play", &rounds, 0, &printed)?);
         Ok(())
     }
 }
