@@ -31,6 +31,8 @@ pub mod WorldVerdicts
 pub mod WorldTakes
 pub mod WorldServes
 pub mod WorldRuns
+pub mod WorldCalls
+pub mod WorldCallsGuest
 pub mod DeviceFailures
 pub mod DeviceTaken
 pub mod DeviceRings

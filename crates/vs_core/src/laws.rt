@@ -3,10 +3,12 @@
 ghost use Rattle.std.specs.Prelude.{◌≡◌, ℕ, List, [], false, All, AllPairs, Some, find};
 ghost use Rattle.vs_core.specs.declared.flow.Flow.{Flow};
 ghost use Rattle.vs_core.specs.Guest.{GuestSlot, has_id, is_flow};
-ghost use Rattle.vs_core.specs.Laws.{HasOwnBytes, HasOtherLabel};
+ghost use Rattle.vs_core.specs.Laws.{HasOwnBytes, HasOtherLabel, StepsSending, SilentSteps};
 ghost use Rattle.vs_core.specs.Lists.{IsPrefix};
 ghost use Rattle.vs_core.specs.Outside.{Host};
-ghost use Rattle.vs_core.specs.World.{World, Event, Send, opening, run, tx_put, tx_got, rx_put, rx_got, sent_by, sent_over, host_read};
+ghost use Rattle.vs_core.specs.Driver.{connect_of, send_of, after_recv};
+ghost use Rattle.vs_core.specs.DeviceCalls.{take_tx_of};
+ghost use Rattle.vs_core.specs.World.{World, Event, Send, opening, run, tx_put, tx_got, rx_put, rx_got, sent_by, sent_over, host_read, guest_call, device_call, taken_on};
 
 /// No queue loses, repeats or reorders a packet (Virtio 1.2, section 5.10.6). Over every list of events from the opening world the
 /// packets that were got of it are the first of those that were put.
@@ -24,4 +26,14 @@ pub fn laws_of_the_streams()
     ensures own_bytes { (n : ℕ) (host : Host) (es : List Event) → host.streams ≡ [] → All (HasOwnBytes (opening n host) es) (run (opening n host) es).host.streams }
     ensures own_label { (n : ℕ) (host : Host) (es : List Event) → host.streams ≡ [] → AllPairs HasOtherLabel (run (opening n host) es).host.streams }
     ensures send_is_a_pipe { (w : World) (id : ℕ) (bytes : List ℕ) (s : GuestSlot) (f : Flow) → find (has_id id) w.guest.slots ≡ Some s → is_flow f s.flow ≡ false → sent_by f w (Send id bytes) ≡ [] }
+{}
+
+/// Each call of driver and device is a list of the world's steps (Virtio 1.2, section 5.10.6), so that the laws over every list of
+/// events speak of every list of calls. Over a send's steps the guest sends just the bytes that its answer says, on its connection's
+/// flow; over the others' steps it sends nothing.
+pub fn laws_of_the_calls()
+    ensures connect { (w : World) (port : ℕ) → SilentSteps w (guest_call (connect_of port) w).0 }
+    ensures send { (w : World) (id : ℕ) (bytes : List ℕ) → let r = guest_call (send_of id bytes) w in StepsSending w r.0 (λ f. taken_on f (find (has_id id) w.guest.slots) bytes r.1) }
+    ensures recv { (w : World) (id len : ℕ) → SilentSteps w (record w { guest = after_recv id len w.guest }) }
+    ensures take_tx { (w : World) → SilentSteps w (device_call take_tx_of w).0 }
 {}

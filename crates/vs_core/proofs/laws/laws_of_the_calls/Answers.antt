@@ -1,0 +1,17 @@
+use Rattle.std.proofs.Common.{false}
+use Rattle.vs_core.specs.World.{DeviceTakes}
+use Rattle.vs_core.proofs.WorldCalls.{one_step}
+use Rattle.vs_core.proofs.WorldCallsGuest.{connect_steps, send_steps, recv_steps}
+use Rattle.vs_core.proofs.laws.laws_of_the_calls.Goals as goal
+
+pub returns-clause-connect : goal.returns-clause-connect
+returns-clause-connect c = λ w port. connect_steps port w
+
+pub returns-clause-send : goal.returns-clause-send
+returns-clause-send c = λ w id bytes. send_steps id bytes w
+
+pub returns-clause-recv : goal.returns-clause-recv
+returns-clause-recv c = λ w id len. recv_steps id len w
+
+pub returns-clause-take_tx : goal.returns-clause-take_tx
+returns-clause-take_tx c = λ w. one_step w (DeviceTakes false)
