@@ -33,6 +33,7 @@ pub mod WorldServes
 pub mod WorldRuns
 pub mod WorldCalls
 pub mod WorldCallsGuest
+pub mod WorldCallsPoll
 pub mod DeviceFailures
 pub mod DeviceTaken
 pub mod DeviceRings

@@ -1,5 +1,5 @@
 -- Lists of the world's steps, put together, and what a conversation that ends comes to.
-use Rattle.std.proofs.Common.{◌≡◌, ℕ, Bool, true, false, cond, List, [], ◌∷◌, ◌++◌, refl, sym, ap, ◌∙◌, append_assoc, append-nil}
+use Rattle.std.proofs.Common.{◌≡◌, ℕ, Bool, true, false, cond, List, [], ◌∷◌, ◌++◌, length, slice_get, Some, refl, sym, ap, ◌∙◌, append_assoc, append-nil}
 use Rattle.vs_core.specs.declared.flow.Flow.{Flow}
 use Rattle.vs_core.specs.Interaction.{Tree, Done, Ask, played}
 use Rattle.vs_core.specs.Laws.{StepsSending, SilentSteps}
@@ -61,3 +61,8 @@ pub end_played : {Call : Type 0} {Answer : Call → Type 0} {S A : Type 0} (answ
     (t : Tree Call Answer A) (s : S) → AllEnds P t → P (played answer t s).0
 end_played answer P (Done x) s h = h
 end_played answer P (Ask call k) s h = end_played answer P (k (answer call s).0) (answer call s).1 (h (answer call s).0)
+
+-- What stands behind a list.
+pub get_there : {X : Type 0} (xs : List X) (y : X) (ys : List X) → slice_get (xs ++ y ∷ ys) (length xs) ≡ Some y
+get_there [] y ys = refl
+get_there (x ∷ xs) y ys = get_there xs y ys

@@ -6,7 +6,7 @@ ghost use Rattle.vs_core.specs.Guest.{GuestSlot, has_id, is_flow};
 ghost use Rattle.vs_core.specs.Laws.{HasOwnBytes, HasOtherLabel, StepsSending, SilentSteps};
 ghost use Rattle.vs_core.specs.Lists.{IsPrefix};
 ghost use Rattle.vs_core.specs.Outside.{Host};
-ghost use Rattle.vs_core.specs.Driver.{connect_of, send_of, after_recv};
+ghost use Rattle.vs_core.specs.Driver.{connect_of, send_of, after_recv, poll_of};
 ghost use Rattle.vs_core.specs.DeviceCalls.{take_tx_of};
 ghost use Rattle.vs_core.specs.World.{World, Event, Send, opening, run, tx_put, tx_got, rx_put, rx_got, sent_by, sent_over, host_read, guest_call, device_call, taken_on};
 
@@ -35,5 +35,6 @@ pub fn laws_of_the_calls()
     ensures connect { (w : World) (port : ℕ) → SilentSteps w (guest_call (connect_of port) w).0 }
     ensures send { (w : World) (id : ℕ) (bytes : List ℕ) → let r = guest_call (send_of id bytes) w in StepsSending w r.0 (λ f. taken_on f (find (has_id id) w.guest.slots) bytes r.1) }
     ensures recv { (w : World) (id len : ℕ) → SilentSteps w (record w { guest = after_recv id len w.guest }) }
+    ensures poll { (w : World) → SilentSteps w (guest_call poll_of w).0 }
     ensures take_tx { (w : World) → SilentSteps w (device_call take_tx_of w).0 }
 {}

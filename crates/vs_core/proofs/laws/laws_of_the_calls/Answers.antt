@@ -2,6 +2,7 @@ use Rattle.std.proofs.Common.{false}
 use Rattle.vs_core.specs.World.{DeviceTakes}
 use Rattle.vs_core.proofs.WorldCalls.{one_step}
 use Rattle.vs_core.proofs.WorldCallsGuest.{connect_steps, send_steps, recv_steps}
+use Rattle.vs_core.proofs.WorldCallsPoll.{poll_steps}
 use Rattle.vs_core.proofs.laws.laws_of_the_calls.Goals as goal
 
 pub returns-clause-connect : goal.returns-clause-connect
@@ -12,6 +13,9 @@ returns-clause-send c = λ w id bytes. send_steps id bytes w
 
 pub returns-clause-recv : goal.returns-clause-recv
 returns-clause-recv c = λ w id len. recv_steps id len w
+
+pub returns-clause-poll : goal.returns-clause-poll
+returns-clause-poll c = poll_steps
 
 pub returns-clause-take_tx : goal.returns-clause-take_tx
 returns-clause-take_tx c = λ w. one_step w (DeviceTakes false)
