@@ -34,6 +34,9 @@ pub mod WorldRuns
 pub mod WorldCalls
 pub mod WorldCallsGuest
 pub mod WorldCallsPoll
+pub mod WorldRises
+pub mod WorldCallsDevice
+pub mod WorldCallsReceive
 pub mod DeviceFailures
 pub mod DeviceTaken
 pub mod DeviceRings

@@ -3,11 +3,11 @@
 ghost use Rattle.std.specs.Prelude.{◌≡◌, ℕ, List, [], false, All, AllPairs, Some, find};
 ghost use Rattle.vs_core.specs.declared.flow.Flow.{Flow};
 ghost use Rattle.vs_core.specs.Guest.{GuestSlot, has_id, is_flow};
-ghost use Rattle.vs_core.specs.Laws.{HasOwnBytes, HasOtherLabel, StepsSending, SilentSteps};
+ghost use Rattle.vs_core.specs.Laws.{HasOwnBytes, HasOtherLabel, StepsSending, SilentSteps, EntriesRise};
 ghost use Rattle.vs_core.specs.Lists.{IsPrefix};
 ghost use Rattle.vs_core.specs.Outside.{Host};
 ghost use Rattle.vs_core.specs.Driver.{connect_of, send_of, after_recv, poll_of};
-ghost use Rattle.vs_core.specs.DeviceCalls.{take_tx_of};
+ghost use Rattle.vs_core.specs.DeviceCalls.{take_tx_of, pump_out_of, fill_rx_of, turn_of};
 ghost use Rattle.vs_core.specs.World.{World, Event, Send, opening, run, tx_put, tx_got, rx_put, rx_got, sent_by, sent_over, host_read, guest_call, device_call, taken_on};
 
 /// No queue loses, repeats or reorders a packet (Virtio 1.2, section 5.10.6). Over every list of events from the opening world the
@@ -37,4 +37,8 @@ pub fn laws_of_the_calls()
     ensures recv { (w : World) (id len : ℕ) → SilentSteps w (record w { guest = after_recv id len w.guest }) }
     ensures poll { (w : World) → SilentSteps w (guest_call poll_of w).0 }
     ensures take_tx { (w : World) → SilentSteps w (device_call take_tx_of w).0 }
+    ensures pump_out { (w : World) → SilentSteps w (device_call pump_out_of w).0 }
+    ensures fill_rx { (w : World) → EntriesRise w → SilentSteps w (device_call fill_rx_of w).0 }
+    ensures turn { (w : World) (size : ℕ) → EntriesRise w → SilentSteps w (device_call (turn_of size) w).0 }
+    ensures rising { (n : ℕ) (host : Host) (es : List Event) → EntriesRise (run (opening n host) es) }
 {}

@@ -3,6 +3,9 @@ use Rattle.vs_core.specs.World.{DeviceTakes}
 use Rattle.vs_core.proofs.WorldCalls.{one_step}
 use Rattle.vs_core.proofs.WorldCallsGuest.{connect_steps, send_steps, recv_steps}
 use Rattle.vs_core.proofs.WorldCallsPoll.{poll_steps}
+use Rattle.vs_core.proofs.WorldCallsDevice.{pump_steps}
+use Rattle.vs_core.proofs.WorldCallsReceive.{fill_rx_steps, turn_steps}
+use Rattle.vs_core.proofs.WorldRises.{reached_rises}
 use Rattle.vs_core.proofs.laws.laws_of_the_calls.Goals as goal
 
 pub returns-clause-connect : goal.returns-clause-connect
@@ -19,3 +22,15 @@ returns-clause-poll c = poll_steps
 
 pub returns-clause-take_tx : goal.returns-clause-take_tx
 returns-clause-take_tx c = λ w. one_step w (DeviceTakes false)
+
+pub returns-clause-pump_out : goal.returns-clause-pump_out
+returns-clause-pump_out c = pump_steps
+
+pub returns-clause-fill_rx : goal.returns-clause-fill_rx
+returns-clause-fill_rx c = fill_rx_steps
+
+pub returns-clause-turn : goal.returns-clause-turn
+returns-clause-turn c = λ w size. turn_steps size w
+
+pub returns-clause-rising : goal.returns-clause-rising
+returns-clause-rising c = reached_rises
