@@ -1,4 +1,4 @@
-//! Laws over every list of events from the opening world.
+//! Laws over every list of events from the opening world, and over every call.
 
 ghost use Rattle.std.specs.Prelude.{◌≡◌, ℕ, List, [], false, All, AllPairs, Some, find};
 ghost use Rattle.vs_core.specs.declared.flow.Flow.{Flow};
@@ -28,9 +28,10 @@ pub fn laws_of_the_streams()
     ensures send_is_a_pipe { (w : World) (id : ℕ) (bytes : List ℕ) (s : GuestSlot) (f : Flow) → find (has_id id) w.guest.slots ≡ Some s → is_flow f s.flow ≡ false → sent_by f w (Send id bytes) ≡ [] }
 {}
 
-/// Each call of driver and device is a list of the world's steps (Virtio 1.2, section 5.10.6), so that the laws over every list of
-/// events speak of every list of calls. Over a send's steps the guest sends just the bytes that its answer says, on its connection's
-/// flow; over the others' steps it sends nothing.
+/// Each call of driver and device is a list of the world's steps (Virtio 1.2, section 5.10.6). Over a send's steps the guest sends on
+/// each flow just the bytes that the send's answer says it took; over the steps of the other calls it sends nothing. To fill the
+/// receive queue the device serves its entries from the round's start on first: that is a list of steps where the entries stand by
+/// rising slot, and they do in every world that is reached.
 pub fn laws_of_the_calls()
     ensures connect { (w : World) (port : ℕ) → SilentSteps w (guest_call (connect_of port) w).0 }
     ensures send { (w : World) (id : ℕ) (bytes : List ℕ) → let r = guest_call (send_of id bytes) w in StepsSending w r.0 (λ f. taken_on f (find (has_id id) w.guest.slots) bytes r.1) }
@@ -41,4 +42,6 @@ pub fn laws_of_the_calls()
     ensures fill_rx { (w : World) → EntriesRise w → SilentSteps w (device_call fill_rx_of w).0 }
     ensures turn { (w : World) (size : ℕ) → EntriesRise w → SilentSteps w (device_call (turn_of size) w).0 }
     ensures rising { (n : ℕ) (host : Host) (es : List Event) → EntriesRise (run (opening n host) es) }
+    ensures reached_fill_rx { (n : ℕ) (host : Host) (es : List Event) → let w = run (opening n host) es in SilentSteps w (device_call fill_rx_of w).0 }
+    ensures reached_turn { (n : ℕ) (host : Host) (es : List Event) (size : ℕ) → let w = run (opening n host) es in SilentSteps w (device_call (turn_of size) w).0 }
 {}

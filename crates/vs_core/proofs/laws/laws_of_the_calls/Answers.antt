@@ -4,7 +4,7 @@ use Rattle.vs_core.proofs.WorldCalls.{one_step}
 use Rattle.vs_core.proofs.WorldCallsGuest.{connect_steps, send_steps, recv_steps}
 use Rattle.vs_core.proofs.WorldCallsPoll.{poll_steps}
 use Rattle.vs_core.proofs.WorldCallsDevice.{pump_steps}
-use Rattle.vs_core.proofs.WorldCallsReceive.{fill_rx_steps, turn_steps}
+use Rattle.vs_core.proofs.WorldCallsReceive.{fill_rx_steps, turn_steps, reached_fill, reached_turn}
 use Rattle.vs_core.proofs.WorldRises.{reached_rises}
 use Rattle.vs_core.proofs.laws.laws_of_the_calls.Goals as goal
 
@@ -34,3 +34,9 @@ returns-clause-turn c = λ w size. turn_steps size w
 
 pub returns-clause-rising : goal.returns-clause-rising
 returns-clause-rising c = reached_rises
+
+pub returns-clause-reached_fill_rx : goal.returns-clause-reached_fill_rx
+returns-clause-reached_fill_rx c = reached_fill
+
+pub returns-clause-reached_turn : goal.returns-clause-reached_turn
+returns-clause-reached_turn c = reached_turn
