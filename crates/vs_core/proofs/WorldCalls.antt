@@ -3,7 +3,7 @@ use Rattle.std.proofs.Common.{◌≡◌, ℕ, Bool, true, false, cond, List, [],
 use Rattle.vs_core.specs.declared.flow.Flow.{Flow}
 use Rattle.vs_core.specs.Interaction.{Tree, Done, Ask, played}
 use Rattle.vs_core.specs.Laws.{StepsSending, SilentSteps}
-use Rattle.vs_core.specs.World.{World, Event, Steps, happens, run, sent_by, sent_over}
+use Rattle.vs_core.specs.World.{World, Event, happens, run, sent_by, sent_over}
 use Rattle.vs_core.proofs.Leads.{AllEnds}
 
 run-append : (es fs : List Event) (w : World) → run w (es ++ fs) ≡ run (run w es) fs

@@ -1,5 +1,5 @@
 -- The driver's calls as lists of the world's steps: each reaps what came back, and then makes its own step.
-use Rattle.std.proofs.Common.{◌≡◌, ℕ, zero, suc, ◌+◌, ◌-◌, Bool, true, false, ◌||◌, cond, eqb, leb, List, [], ◌∷◌, ◌++◌, length, take, find, Option, Some, None, Result, Ok, Err, refl, sym, ap, ◌∙◌, subst}
+use Rattle.std.proofs.Common.{◌≡◌, ℕ, zero, suc, true, false, cond, eqb, leb, List, [], length, take, find, Option, Some, None, Result, Ok, Err, refl, sym, ap, ◌∙◌, subst}
 use Rattle.vs_ring_list.specs.Rings.{Rings}
 use Rattle.vs_conn.specs.declared.end.Stop.{Stop}
 use Rattle.vs_conn.specs.declared.end.Stop.TheVariants as stop
@@ -11,10 +11,10 @@ use Rattle.vs_core.specs.Flow.{is_assigned}
 use Rattle.vs_core.specs.Profile.{table_size}
 use Rattle.vs_core.specs.Interaction.{Done, bind, played}
 use Rattle.vs_core.specs.Guest.{GuestSlot, GuestPart, has_id, is_flow, slot_may_send}
-use Rattle.vs_core.specs.Driver.{GuestTree, as_they_stand, reap_of, reap_up_to, reap_all, is_spent, put_request, connect_with, connect_of, payload_of, put_payload, send_open, send_on, send_slot, send_with, send_of, after_recv}
+use Rattle.vs_core.specs.Driver.{GuestTree, as_they_stand, reap_of, reap_up_to, reap_all, is_spent, put_request, connect_with, connect_of, payload_of, put_payload, send_on, send_slot, send_with, send_of, after_recv}
 use Rattle.vs_core.specs.Laws.{StepsSending, SilentSteps}
 use Rattle.vs_core.specs.Told.{ring_answer}
-use Rattle.vs_core.specs.World.{World, Connect, Send, Recv, GuestReaps, happens, guest_call, sent_by, taken_on}
+use Rattle.vs_core.specs.World.{World, Connect, Send, Recv, GuestReaps, guest_call, taken_on}
 use Rattle.vs_core.proofs.Ends.{reap_all_ends}
 use Rattle.vs_core.proofs.WorldPlays.{played-bind, if_cases}
 use Rattle.vs_core.proofs.WorldCalls.{no_step, one_step, then_steps, steps_say, again_cases, goes_on, end_played}

@@ -1,6 +1,6 @@
 -- The device's filling of the receive queue, and its whole turn, as lists of the world's steps: where its entries stand by rising slot
 -- the round serves them place by place.
-use Rattle.std.proofs.Common.{◌≡◌, ℕ, zero, suc, ◌+◌, Bool, true, false, cond, eqb, List, [], ◌∷◌, ◌++◌, length, take, drop, slice_get, Option, Some, None, Result, Ok, Err, refl, sym, ap, ◌∙◌, subst, append_assoc, append-nil}
+use Rattle.std.proofs.Common.{◌≡◌, ℕ, zero, suc, ◌+◌, Bool, true, false, cond, eqb, List, [], ◌∷◌, ◌++◌, length, take, drop, Option, Some, None, Result, Err, refl, sym, ap, ◌∙◌, subst, append_assoc, append-nil}
 use Rattle.std.proofs.lemmas.List.{take-append-drop}
 use Rattle.vs_header.specs.declared.Header.{Header}
 use Rattle.vs_header.specs.Packet.{header_bytes}
@@ -20,7 +20,7 @@ use Rattle.vs_core.specs.Outside.{Host}
 use Rattle.vs_core.specs.Guest.{op_of_owed}
 use Rattle.vs_core.specs.Interaction.{Done, Ask, bind, played}
 use Rattle.vs_core.specs.Device.{DevicePart, DeviceEntry, device_header}
-use Rattle.vs_core.specs.DeviceCalls.{DeviceTree, Take, Write, Return, Close, take_tx_up_to, pump_out_of, after_take_rx, answer_of, answer_up_to, Served, served, after_put, serve_with, serve_of, serve_each, entries_from, entries_below, serve_round, fill_of, fill_rx_of, turned_of, turn_of}
+use Rattle.vs_core.specs.DeviceCalls.{DeviceTree, Take, Write, Return, Close, take_tx_up_to, pump_out_of, after_take_rx, answer_of, answer_up_to, Served, served, after_put, serve_with, serve_of, serve_each, entries_from, entries_below, serve_round, fill_of, fill_rx_of, turn_of}
 use Rattle.vs_core.specs.DeviceInside.{RisesWithin, slots_of}
 use Rattle.vs_core.specs.Laws.{SilentSteps, EntriesRise}
 use Rattle.vs_core.specs.Told.{device_answer}

@@ -1,5 +1,5 @@
 -- The device's entries stand by rising slot in each world that is reached: each event keeps it so.
-use Rattle.std.proofs.Common.{◌≡◌, ℕ, suc, ◌+◌, ◌-◌, ◌≤◌, ◌<◌, Bool, true, false, ◌||◌, ◌&&◌, cond, eqb, ltb, leb, List, [], ◌∷◌, ◌++◌, length, take, drop, set, filter, find, map, slice_get, Option, Some, None, refl, sym, ap, ◌∙◌, subst, arith, add-one, append_assoc, append-nil}
+use Rattle.std.proofs.Common.{◌≡◌, ℕ, ◌+◌, ◌-◌, ◌≤◌, Bool, true, false, ◌||◌, ◌&&◌, cond, eqb, ltb, leb, List, [], ◌∷◌, ◌++◌, length, take, drop, set, filter, find, slice_get, Option, Some, None, refl, sym, ap, ◌∙◌, subst, arith, add-one, append_assoc, append-nil}
 use Rattle.std.proofs.lemmas.List.{map_push}
 use Rattle.std.proofs.lemmas.Option.{slice_get_within}
 use Rattle.vs_header.specs.declared.Header.{Header}
@@ -29,7 +29,7 @@ use Rattle.vs_core.specs.Guest.{op_of_owed}
 use Rattle.vs_core.specs.Interaction.{Tree, bind}
 use Rattle.vs_core.specs.Outside.{Host}
 use Rattle.vs_core.specs.Device.{DevicePart, DeviceEntry, entry_has, entry_at, flow_from_guest, is_for_host, is_full, device_header, entry_after, entry_delivered}
-use Rattle.vs_core.specs.DeviceCalls.{DeviceTree, on_entry, with_entry, overran, after_dial, on_request, on_stranger, by_flow, on_packet, on_chain, after_take, take_tx_of, Pumped, after_give, pump_of, failing, after_take_rx, answer_with, answer_of, Served, after_put, serve_with}
+use Rattle.vs_core.specs.DeviceCalls.{DeviceTree, on_entry, with_entry, overran, after_dial, on_stranger, by_flow, on_packet, on_chain, after_take, take_tx_of, Pumped, after_give, pump_of, failing, after_take_rx, answer_with, answer_of, Served, after_put, serve_with}
 use Rattle.vs_core.specs.DeviceInside.{RisesWithin, slots_of}
 use Rattle.vs_core.specs.Laws.{EntriesRise, StepsSending}
 use Rattle.vs_core.specs.Told.{device_answer}
