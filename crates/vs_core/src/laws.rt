@@ -2,12 +2,12 @@
 
 ghost use Rattle.std.specs.Prelude.{◌≡◌, ℕ, List, [], false, All, AllPairs, Some, find};
 ghost use Rattle.vs_core.specs.declared.flow.Flow.{Flow};
+ghost use Rattle.vs_core.specs.DeviceCalls.{take_tx_of, pump_out_of, fill_rx_of, turn_of};
+ghost use Rattle.vs_core.specs.Driver.{connect_of, send_of, after_recv, poll_of};
 ghost use Rattle.vs_core.specs.Guest.{GuestSlot, has_id, is_flow};
 ghost use Rattle.vs_core.specs.Laws.{HasOwnBytes, HasOtherLabel, StepsSending, SilentSteps, EntriesRise};
 ghost use Rattle.vs_core.specs.Lists.{IsPrefix};
 ghost use Rattle.vs_core.specs.Outside.{Host};
-ghost use Rattle.vs_core.specs.Driver.{connect_of, send_of, after_recv, poll_of};
-ghost use Rattle.vs_core.specs.DeviceCalls.{take_tx_of, pump_out_of, fill_rx_of, turn_of};
 ghost use Rattle.vs_core.specs.World.{World, Event, Send, opening, run, tx_put, tx_got, rx_put, rx_got, sent_by, sent_over, host_read, guest_call, device_call, taken_on};
 
 /// No queue loses, repeats or reorders a packet (Virtio 1.2, section 5.10.6). Over every list of events from the opening world the
