@@ -31,6 +31,12 @@ pub mod WorldVerdicts
 pub mod WorldTakes
 pub mod WorldServes
 pub mod WorldRuns
+pub mod WorldCalls
+pub mod WorldCallsGuest
+pub mod WorldCallsPoll
+pub mod WorldRises
+pub mod WorldCallsDevice
+pub mod WorldCallsReceive
 pub mod DeviceFailures
 pub mod DeviceTaken
 pub mod DeviceRings
