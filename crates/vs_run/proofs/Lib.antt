@@ -12,3 +12,4 @@ pub mod Giving
 pub mod PlayEnds
 pub mod Playings
 pub mod Reports
+pub mod Headline

@@ -10,3 +10,4 @@ pub mod Examples
 pub mod Streams
 pub mod Ends
 pub mod Gives
+pub mod Headline

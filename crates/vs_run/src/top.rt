@@ -1,9 +1,11 @@
 //! The command's top: its words, the script that it reads, and the status that it ends with.
 
-ghost use Rattle.std.specs.Prelude.{◌≡◌, ◌≢◌, ◌<◌, ◌-◌, ◌^◌, ℕ, List, Some, Err, true, false, map, string_bytes};
+ghost use Rattle.std.specs.Prelude.{◌≡◌, ◌≢◌, ◌<◌, ◌-◌, ◌^◌, ℕ, List, Some, Ok, Err, true, false, map, string_bytes};
 ghost use Rattle.vs_run.specs.Answer.{usage_text, read_fault_text, no_memory_text, refusal_text};
 ghost use Rattle.vs_core.specs.Outside.{CountsFault};
 ghost use Rattle.vs_run.specs.Ends.{is_play, is_status, Ends, EndsWith, EndsRefused, EndsPlay};
+ghost use Rattle.vs_run.specs.Event.{EventLine};
+ghost use Rattle.vs_run.specs.Headline.{IsLawful};
 ghost use Rattle.vs_run.specs.Play.{play_of};
 ghost use Rattle.vs_run.specs.Script.{script_of, IsNoScript};
 ghost use Rattle.vs_run.specs.Streams.{Emits, joined};
@@ -78,6 +80,8 @@ pub fn vsock_main<R: AllocGlobal, S: Source, K: Sink, H: HostNet, C: Clock, G: G
     ensures status_3 { result ≡ 3 → CountsFault (S.faults script.old) (S.faults script.new) }
     ensures status_4 { result ≡ 4 → CountsFault (K.faults out.old) (K.faults out.new) }
     ensures statuses { is_status result ≡ true }
+    // The world that a play reaches keeps the laws, over every script.
+    ensures headline { (text : List ℕ) (lines : List EventLine) → script_of text ≡ Ok lines → IsLawful lines }
 {
     if !is_play(words) {
         return ended(out, b"usage\n", USAGE);

@@ -1,4 +1,5 @@
 use Rattle.std.proofs.Common.{ap, Err, inl}
+use Rattle.vs_run.proofs.Headline.{each_play}
 use Rattle.vs_run.proofs.PlayEnds.{text_played, no_script_at_2}
 use Rattle.vs_run.proofs.StreamLemmas.{fault_shows}
 use Rattle.vs_run.proofs.top.vsock_main.Goals as goal
@@ -20,3 +21,15 @@ returns-in-Ok-clause-status_2 g c = λ two text told.
 
 pub returns-in-Err-Fault-clause-fault : goal.returns-in-Err-Fault-clause-fault
 returns-in-Err-Fault-clause-fault g c = λ command rose. inl c.ended-in-Err-Fault.ensures
+
+pub returns-then-not-is_play-clause-headline : goal.returns-then-not-is_play-clause-headline
+returns-then-not-is_play-clause-headline g c = λ text lines spelled. each_play lines
+
+pub returns-in-Ok-clause-headline : goal.returns-in-Ok-clause-headline
+returns-in-Ok-clause-headline g c = λ text lines spelled. each_play lines
+
+pub returns-in-Err-Fault-clause-headline : goal.returns-in-Err-Fault-clause-headline
+returns-in-Err-Fault-clause-headline g c = λ text lines spelled. each_play lines
+
+pub returns-in-Err-OutOfMemory-clause-headline : goal.returns-in-Err-OutOfMemory-clause-headline
+returns-in-Err-OutOfMemory-clause-headline g c = λ text lines spelled. each_play lines
