@@ -20,7 +20,7 @@ abbrev pub play_size : ℕ
 play_size = 64
 
 abbrev pub play_host : Host
-play_host = record { base = codes "v.sock"; streams = []; listening = [] }
+play_host = record { base = codes "v.sock"; streams = []; listening = []; fails = false }
 
 -- What a turn prints. Rings of lists never fail, so a turn always comes to its end.
 abbrev pub turn_answer : Turn → List ℕ
