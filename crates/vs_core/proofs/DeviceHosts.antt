@@ -236,4 +236,4 @@ IsHostOf-dialed (Some h) p path flow id es new told is host = subst (λ q. IsHos
             AllByRecursion-push (HasOpenStream k) es new (AllByRecursion-map (HasOpenStream h) (HasOpenStream k) es (λ x o unclosed. open-append h k (new_stream flow) x.stream refl (o unclosed)) host.0) (λ _. own),
             apart-push h new fresh es host.0 host.1,
           )
-    ]) told.0)
+    ]) told.0.1)

@@ -43,3 +43,4 @@ pub mod DeviceReceive
 pub mod DeviceReceiveRuns
 pub mod DeviceReceiveRounds
 pub mod DeviceTurns
+pub mod DeviceSteps

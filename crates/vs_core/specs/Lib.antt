@@ -10,6 +10,7 @@ pub mod Reply
 pub mod Guest
 pub mod Driver
 pub mod DriverWords
+pub mod DriverPages
 pub mod DriverFields
 pub mod Device
 pub mod DeviceCalls
