@@ -44,3 +44,5 @@ pub mod DeviceReceiveRuns
 pub mod DeviceReceiveRounds
 pub mod DeviceTurns
 pub mod DeviceSteps
+pub mod Failing
+pub mod Stepping

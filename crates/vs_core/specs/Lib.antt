@@ -21,4 +21,5 @@ pub mod DeviceReceive
 pub mod Told
 pub mod DriverPays
 pub mod World
+pub mod WorldEvents
 pub mod Laws

@@ -1,7 +1,6 @@
 -- The entry at the place, if there is one.
-use Rattle.std.proofs.Common.{◌≡◌, ◌≤◌, ◌<◌, length, sym, ap, subst, arith, rules}
+use Rattle.std.proofs.Common.{◌≤◌, ◌<◌, length, rules}
 use Rattle.std.proofs.lemmas.Option.{slice_get_past}
-use Rattle.vs_core.specs.Device.{DevicePart}
 use Rattle.vs_core.proofs.DeviceSteps.{entry_there, pumps_at, pumps_none_at}
 use Rattle.vs_core.proofs.device.Device.pump_at.Goals as goal
 

@@ -1,4 +1,4 @@
-use Rattle.std.proofs.Common.{◌≡◌, Option, Some, None, List, ℕ, get_or, sym, subst, refl, rules}
+use Rattle.std.proofs.Common.{◌≡◌, Option, Some, None, get_or, sym, subst, refl, rules}
 use Rattle.std.specs.Prelude.{find}
 use Rattle.vs_core.specs.declared.driver.Sent.TheVariants as sent
 use Rattle.vs_core.specs.Interaction.{Leads}
