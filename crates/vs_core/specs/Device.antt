@@ -1,21 +1,24 @@
 -- The device's part: what the device holds, as plain lists, and the small steps on it.
-use Rattle.std.specs.Prelude.{ℕ, ◌+◌, ◌==◌, ◌&&◌, ◌||◌, nat_lt, nat_le, Bool, true, false, if◌then◌else◌, List, [], ◌∷◌, ◌++◌, length, drop, map, Option, None}
+use Rattle.std.specs.Prelude.{ℕ, ◌+◌, ◌-◌, ◌==◌, ◌&&◌, ◌||◌, not, min, nat_lt, nat_le, Bool, true, false, if◌then◌else◌, List, [], ◌∷◌, ◌++◌, length, take, drop, find, filter, map, Option, Some, None}
 use Rattle.vs_header.specs.declared.Header.{Header}
 use Rattle.vs_header.specs.declared.Op.{Op}
+use Rattle.vs_header.specs.declared.Op.TheVariants as op
+use Rattle.vs_header.specs.Packet.{header_bytes, header_of}
 use Rattle.vs_header.specs.Op.{op_number}
 use Rattle.vs_conn.specs.Credit.{with_forwarded}
-use Rattle.vs_conn.specs.End.{ConnectionEnd, end_after, paid_of, answering}
+use Rattle.vs_conn.specs.End.{ConnectionEnd, verdict_of, end_after, owes_of, paid_of, answering}
 use Rattle.vs_conn.specs.declared.end.State.{State}
 use Rattle.vs_conn.specs.declared.end.State.TheVariants as state
+use Rattle.vs_conn.specs.declared.end.Verdict.{Verdict}
 use Rattle.vs_conn.specs.declared.end.Why.{Why}
 use Rattle.vs_conn.specs.declared.end.Why.TheVariants as why
 use Rattle.vs_conn.specs.declared.end.Owed.{Owed}
 use Rattle.vs_ring_list.specs.declared.ring_port.Failure.{Failure}
 use Rattle.vs_core.specs.declared.flow.Flow.{Flow}
 use Rattle.vs_core.specs.declared.reply.Reply.{Reply}
-use Rattle.vs_core.specs.Profile.{host_cid, buffer_space, table_size, last_count}
+use Rattle.vs_core.specs.Profile.{host_cid, buffer_space, page_size, table_size, last_count}
 use Rattle.vs_core.specs.Reply.{reply_to}
-use Rattle.vs_core.specs.Guest.{is_flow}
+use Rattle.vs_core.specs.Guest.{is_flow, counted}
 
 -- An entry of the device's table, with the bytes that the host's stream hasn't taken yet. `closed` says that the device
 -- closed the stream.

@@ -1,7 +1,8 @@
 -- The device's calls: the ring and host calls that each makes, in their order, and what it answers (Virtio 1.2, section
 -- 5.10.6; the order of a turn is this project's profile).
-use Rattle.std.specs.Prelude.{ℕ, zero, suc, ◌+◌, ◌-◌, ◌==◌, ◌&&◌, ◌||◌, nat_lt, nat_le, Bool, true, false, if◌then◌else◌, List, [], ◌∷◌, ◌++◌, length, take, find, filter, not, Option, Some, None, Result, Ok, Err}
+use Rattle.std.specs.Prelude.{ℕ, zero, suc, ◌+◌, ◌-◌, ◌==◌, ◌&&◌, ◌||◌, nat_lt, nat_le, Bool, true, false, if◌then◌else◌, List, [], ◌∷◌, ◌++◌, length, take, drop, find, filter, not, Option, Some, None, Result, Ok, Err}
 use Rattle.vs_header.specs.declared.Header.{Header}
+use Rattle.vs_header.specs.declared.Op.TheVariants as op
 use Rattle.vs_header.specs.Packet.{header_bytes, header_of}
 use Rattle.vs_conn.specs.End.{verdict_of, owes_of}
 use Rattle.vs_conn.specs.declared.end.Verdict.{Verdict}

@@ -1,5 +1,5 @@
 -- The device's entries: how one begins, and that its buffer has room for what its credit lets in.
-use Rattle.std.specs.Prelude.{◌≡◌, ℕ, ◌≤◌, ◌<◌, ◌^◌, false, [], length}
+use Rattle.std.specs.Prelude.{◌≡◌, ℕ, ◌≤◌, ◌<◌, ◌^◌, false, List, [], length}
 use Rattle.circular_buffer.specs.Buffer.{Buffer, buffer}
 use Rattle.vs_header.specs.declared.Header.{Header}
 use Rattle.vs_conn.specs.Credit.{unread_of}

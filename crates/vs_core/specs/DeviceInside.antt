@@ -1,5 +1,5 @@
 -- What holds of the fields of a device: its table rises by slot, and there is room for all that it may come to hold.
-use Rattle.std.specs.Prelude.{◌≡◌, ℕ, ◌+◌, ◌≤◌, List, [], ◌∷◌, length, map, vec_len}
+use Rattle.std.specs.Prelude.{◌≡◌, ℕ, ◌+◌, ◌≤◌, ◌<◌, List, [], ◌∷◌, length, map, vec_len}
 use Rattle.std.specs.List.{AllByRecursion}
 use Rattle.std.specs.String.{string_bytes}
 use Rattle.std.specs.Vec.{vec_capacity}

@@ -1,5 +1,5 @@
 -- Words of the contracts of the device's calls and of their steps.
-use Rattle.std.specs.Prelude.{◌≡◌, ◌≢◌, ℕ, ◌+◌, ◌-◌, ◌≤◌, false, List, [], length, slice_get, slice_set, Option, Some, None}
+use Rattle.std.specs.Prelude.{◌≡◌, ◌≢◌, ℕ, ◌+◌, ◌-◌, ◌≤◌, false, List, [], ◌∷◌, length, slice_get, slice_set, Option, Some, None}
 use Rattle.std.specs.Option.{ForSome}
 use Rattle.vs_ring_list.specs.Rings.{Rings}
 use Rattle.vs_ring_list.specs.declared.ring_port.Chain.{Chain}

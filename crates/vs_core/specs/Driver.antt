@@ -11,6 +11,7 @@ use Rattle.vs_conn.specs.declared.end.State.{State}
 use Rattle.vs_conn.specs.declared.end.State.TheVariants as state
 use Rattle.vs_ring_list.specs.declared.ring_port.Queue.{Queue}
 use Rattle.vs_ring_list.specs.declared.ring_port.Queue.TheVariants as queue
+use Rattle.vs_ring_list.specs.declared.ring_port.NoDescriptor.{NoDescriptor}
 use Rattle.vs_core.specs.declared.flow.Flow.{Flow}
 use Rattle.vs_core.specs.declared.reply.Reply.{Reply}
 use Rattle.vs_core.specs.Reply.{reply_header}
@@ -24,7 +25,7 @@ use Rattle.vs_core.specs.declared.driver.ConnectionState.{ConnectionState}
 use Rattle.vs_core.specs.declared.driver.ConnectionState.TheVariants as seen
 use Rattle.vs_core.specs.declared.driver.Polled.{Polled}
 use Rattle.vs_core.specs.Interaction.{Tree, Done, Ask, bind}
-use Rattle.vs_core.specs.Profile.{host_cid, last_guest_port, last_id, table_size, reply_limit, most_payload}
+use Rattle.vs_core.specs.Profile.{host_cid, first_guest_port, last_guest_port, last_id, table_size, reply_limit, most_payload}
 use Rattle.vs_core.specs.Flow.{is_assigned}
 use Rattle.vs_core.specs.Lists.{update_first}
 use Rattle.vs_core.specs.Guest.{GuestSlot, GuestPart, has_id, guest_header, op_of_owed, slot_paid, slot_owes, one_posted, new_slot, connected, sent_on, slot_may_send, received}

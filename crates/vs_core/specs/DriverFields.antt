@@ -1,5 +1,5 @@
 -- What always holds of a driver's fields.
-use Rattle.std.specs.Prelude.{◌≡◌, ℕ, ◌+◌, ◌<◌, ◌≤◌, List, [], map, length, vec_capacity}
+use Rattle.std.specs.Prelude.{◌≡◌, ℕ, ◌+◌, ◌<◌, ◌≤◌, List, [], map, length, vec_len, vec_capacity}
 use Rattle.std.specs.List.{All, AllPairs}
 use Rattle.circular_buffer.specs.Buffer.{Buffer}
 use Rattle.vs_core.specs.Profile.{buffer_space, table_size}

@@ -1,12 +1,13 @@
 -- The guest's part: what the driver holds, as plain lists, and the small steps on it.
-use Rattle.std.specs.Prelude.{ℕ, ◌+◌, ◌-◌, ◌==◌, ◌&&◌, not, min, nat_lt, Bool, true, false, if◌then◌else◌, List, [], ◌∷◌, ◌++◌, length, take, drop, find, Option, Some, None, Result, Err}
+use Rattle.std.specs.Prelude.{ℕ, ◌+◌, ◌-◌, ◌==◌, ◌&&◌, not, min, nat_lt, nat_le, Bool, true, false, if◌then◌else◌, List, [], ◌∷◌, ◌++◌, length, take, drop, find, Option, Some, None, Result, Ok, Err}
 use Rattle.vs_header.specs.declared.Header.{Header}
-use Rattle.vs_header.specs.Packet.{header_of}
+use Rattle.vs_header.specs.Packet.{header_bytes, header_of}
 use Rattle.vs_header.specs.Op.{op_number}
 use Rattle.vs_header.specs.declared.Op.{Op}
 use Rattle.vs_header.specs.declared.Op.TheVariants as op
 use Rattle.vs_conn.specs.Credit.{with_sent}
 use Rattle.vs_conn.specs.End.{ConnectionEnd, verdict_of, end_after, may_send_of, owes_of, paid_of, asked}
+use Rattle.vs_conn.specs.declared.end.State.{State}
 use Rattle.vs_conn.specs.declared.end.Verdict.{Verdict}
 use Rattle.vs_conn.specs.declared.end.Verdict.TheVariants as verdict
 use Rattle.vs_conn.specs.declared.end.Stop.{Stop}
@@ -16,7 +17,7 @@ use Rattle.vs_conn.specs.declared.end.Owed.TheVariants as owed
 use Rattle.vs_core.specs.declared.flow.Flow.{Flow}
 use Rattle.vs_core.specs.declared.reply.Reply.{Reply}
 use Rattle.vs_core.specs.Reply.{reply_to}
-use Rattle.vs_core.specs.Profile.{host_cid, buffer_space, header_size, last_count}
+use Rattle.vs_core.specs.Profile.{host_cid, buffer_space, header_size, most_payload, last_count}
 use Rattle.vs_core.specs.Lists.{update_first}
 
 -- A slot of the driver: an entry of its table, or one that is Gone and whose unread bytes stay.

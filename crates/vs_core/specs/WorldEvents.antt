@@ -1,5 +1,5 @@
 -- The program's events, and when the world may take one.
-use Rattle.std.specs.Prelude.{◌≡◌, Some, string_bytes}
+use Rattle.std.specs.Prelude.{◌≡◌, ◌<◌, false, Some, string_bytes}
 use Rattle.vs_ring_list.specs.Rings.{flight_of, chains_of}
 use Rattle.vs_core.specs.DeviceWords.{IsIdle}
 use Rattle.vs_core.specs.Told.{IsRingOf, IsHostOf}
@@ -40,3 +40,20 @@ pub record IsReady (w : World) : Type 0 where
 pub record Happened (event : Happening) (old new : World) : Type 0 where
   pub world : new ≡ happens old event
   pub ready : IsReady new
+
+-- The events that take memory: where they don't find it, they end in an error.
+abbrev pub TakesMemory : Happening → Type 0
+TakesMemory (on.Connect port) = ⊥
+TakesMemory (on.Send id bytes) = ⊥
+TakesMemory (on.Recv id len) = 0 < len
+TakesMemory on.GuestReaps = ⊥
+TakesMemory on.GuestTakes = ⊥
+TakesMemory on.GuestReplies = ⊥
+TakesMemory (on.GuestPays place) = ⊥
+TakesMemory (on.DeviceTakes fails) = fails ≡ false
+TakesMemory (on.DevicePumps place fails) = fails ≡ false
+TakesMemory on.DeviceReplies = ⊥
+TakesMemory (on.DevicePays place) = ⊥
+TakesMemory (on.HostTakes stream room) = ⊥
+TakesMemory (on.HostCloses stream) = ⊥
+TakesMemory (on.HostListens path) = Unit {0}

@@ -1,5 +1,5 @@
 //! A host in memory whose dials and writes can be made to fail.
-ghost use Rattle.std.specs.Prelude.{◌≡◌, false, Some, OnOk};
+ghost use Rattle.std.specs.Prelude.{◌≡◌, false, Some, OnOk, OnErr};
 ghost use Rattle.vs_core.specs.Outside.{with_fails, one_more};
 
 use crate::flow::Flow;
@@ -30,7 +30,8 @@ impl FaultyHost {
     /// Says whether all calls since `begin` went as they were meant to: where none was to fail, an error says that one
     /// found no memory.
     pub fn end(&self, fails: bool) -> Result<(), AllocError>
-        ensures { OnOk result (fails ≡ false → self.now.faults ≡ 0) }
+        ensures ok { OnOk result (fails ≡ false → self.now.faults ≡ 0) }
+        ensures err { OnErr result (fails ≡ false) }
     {
         if !fails && self.faults != 0 {
             return Err(AllocError);

@@ -1,11 +1,11 @@
 //! The world of one thread, step by step: a driver and a device over rings that are lists, with a host in memory. Each step
 //! is an event of the definitions, so what is proved of all lists of events holds of what this program does
 //! (Virtio 1.2, section 5.10.6).
-ghost use Rattle.std.specs.Prelude.{◌≡◌, ◌≤◌, length, map, OnOk, IfOk, string_bytes};
+ghost use Rattle.std.specs.Prelude.{◌≡◌, ◌≤◌, ◌<◌, false, length, map, OnOk, OnErr, IfOk, string_bytes};
 ghost use Rattle.vs_ring_list.specs.Rings.{IsQueueSize};
 ghost use Rattle.vs_core.specs.MemHost.{new_host};
 ghost use Rattle.vs_core.specs.World.{opening, run, Connect, Send, Recv, GuestReaps, GuestTakes, GuestReplies, GuestPays, DeviceTakes, DevicePumps, DeviceReplies, DevicePays, HostTakes, HostCloses, HostListens};
-ghost use Rattle.vs_core.specs.WorldEvents.{event_of, IsReady, Happened};
+ghost use Rattle.vs_core.specs.WorldEvents.{event_of, IsReady, Happened, TakesMemory};
 
 use crate::device::Device;
 use crate::driver::{ConnId, Driver};
@@ -151,27 +151,29 @@ impl World {
         Ok(())
     }
 
-    /// Lets an event happen. The only error is want of memory, and then the world may not go on.
+    /// Lets an event happen. The only error is want of memory, which comes of few events, and then the world may not go on.
     pub fn step(&mut self, event: &Event) -> Result<(), AllocError>
         requires { IsReady self.old }
-        ensures { OnOk result (Happened (event_of event.now) self.old self.new) }
+        ensures happened { OnOk result (Happened (event_of event.now) self.old self.new) }
+        ensures memory { OnErr result (TakesMemory (event_of event.now)) }
     {
         match event {
             Event::Connect { port } => self.connect(*port),
             Event::Send { id, bytes } => self.send(*id, bytes),
-            Event::Recv { id, len } => self.recv(*id, *len),
+            Event::Recv { id, len } => self.recv(*id, *len)?,
             Event::GuestReaps => self.guest_reaps(),
             Event::GuestTakes => self.guest_takes(),
             Event::GuestReplies => self.guest_replies(),
             Event::GuestPays { place } => self.guest_pays(*place),
-            Event::DeviceTakes { fails } => self.device_takes(*fails),
-            Event::DevicePumps { place, fails } => self.device_pumps(*place, *fails),
+            Event::DeviceTakes { fails } => self.device_takes(*fails)?,
+            Event::DevicePumps { place, fails } => self.device_pumps(*place, *fails)?,
             Event::DeviceReplies => self.device_replies(),
             Event::DevicePays { place } => self.device_pays(*place),
             Event::HostTakes { stream, room } => self.host_takes(*stream, *room),
             Event::HostCloses { stream } => self.host_closes(*stream),
-            Event::HostListens { path } => self.host_listens(path.as_str()),
+            Event::HostListens { path } => self.host_listens(path.as_str())?,
         }
+        Ok(())
     }
 
     /// The guest's driver.
@@ -196,27 +198,26 @@ impl World {
     }
 
     // The guest asks for a connection.
-    fn connect(&mut self, port: u32) -> Result<(), AllocError>
+    fn connect(&mut self, port: u32)
         requires { IsReady self.old }
-        ensures { OnOk result (Happened (Connect port) self.old self.new) }
+        ensures { Happened (Connect port) self.old self.new }
     {
         let _ = self.driver.connect_as_they_stand(&mut self.rings, port);
-        Ok(())
     }
 
     // The guest sends bytes on a connection.
-    fn send(&mut self, id: ConnId, bytes: &[u8]) -> Result<(), AllocError>
+    fn send(&mut self, id: ConnId, bytes: &[u8])
         requires { IsReady self.old }
-        ensures { OnOk result (Happened (Send id bytes.now) self.old self.new) }
+        ensures { Happened (Send id bytes.now) self.old self.new }
     {
         let _ = self.driver.send_as_they_stand(&mut self.rings, id, bytes);
-        Ok(())
     }
 
     // The guest reads what came in on a connection.
     fn recv(&mut self, id: ConnId, len: usize) -> Result<(), AllocError>
         requires { IsReady self.old }
-        ensures { OnOk result (Happened (Recv id len) self.old self.new) }
+        ensures happened { OnOk result (Happened (Recv id len) self.old self.new) }
+        ensures memory { OnErr result (0 < len) }
     {
         if len == 0 {
             self.driver.recv_none(id);
@@ -228,45 +229,42 @@ impl World {
     }
 
     // The driver takes back one transmit page.
-    fn guest_reaps(&mut self) -> Result<(), AllocError>
+    fn guest_reaps(&mut self)
         requires { IsReady self.old }
-        ensures { OnOk result (Happened GuestReaps self.old self.new) }
+        ensures { Happened GuestReaps self.old self.new }
     {
         let _ = self.driver.reap(&mut self.rings);
-        Ok(())
     }
 
     // The driver takes one packet of the receive queue.
-    fn guest_takes(&mut self) -> Result<(), AllocError>
+    fn guest_takes(&mut self)
         requires { IsReady self.old }
-        ensures { OnOk result (Happened GuestTakes self.old self.new) }
+        ensures { Happened GuestTakes self.old self.new }
     {
         let _ = self.driver.take_one(&mut self.rings);
-        Ok(())
     }
 
     // The driver puts the oldest reply that it owes.
-    fn guest_replies(&mut self) -> Result<(), AllocError>
+    fn guest_replies(&mut self)
         requires { IsReady self.old }
-        ensures { OnOk result (Happened GuestReplies self.old self.new) }
+        ensures { Happened GuestReplies self.old self.new }
     {
         let _ = self.driver.reply(&mut self.rings);
-        Ok(())
     }
 
     // The driver puts what the connection at a place owes.
-    fn guest_pays(&mut self, place: usize) -> Result<(), AllocError>
+    fn guest_pays(&mut self, place: usize)
         requires { IsReady self.old }
-        ensures { OnOk result (Happened (GuestPays place) self.old self.new) }
+        ensures { Happened (GuestPays place) self.old self.new }
     {
         self.driver.pay_at(&mut self.rings, place);
-        Ok(())
     }
 
     // The device takes one packet of the transmit queue.
     fn device_takes(&mut self, fails: bool) -> Result<(), AllocError>
         requires { IsReady self.old }
-        ensures { OnOk result (Happened (DeviceTakes fails) self.old self.new) }
+        ensures happened { OnOk result (Happened (DeviceTakes fails) self.old self.new) }
+        ensures memory { OnErr result (fails ≡ false) }
     {
         self.host.begin(fails);
         let _ = self.device.take_tx(&mut self.rings, &mut self.host);
@@ -276,7 +274,8 @@ impl World {
     // The device gives the pending bytes of the connection at a place to the host's stream.
     fn device_pumps(&mut self, place: usize, fails: bool) -> Result<(), AllocError>
         requires { IsReady self.old }
-        ensures { OnOk result (Happened (DevicePumps place fails) self.old self.new) }
+        ensures happened { OnOk result (Happened (DevicePumps place fails) self.old self.new) }
+        ensures memory { OnErr result (fails ≡ false) }
     {
         self.host.begin(fails);
         self.device.pump_at(&mut self.host, place);
@@ -284,40 +283,36 @@ impl World {
     }
 
     // The device puts the oldest reply that it owes.
-    fn device_replies(&mut self) -> Result<(), AllocError>
+    fn device_replies(&mut self)
         requires { IsReady self.old }
-        ensures { OnOk result (Happened DeviceReplies self.old self.new) }
+        ensures { Happened DeviceReplies self.old self.new }
     {
         let _ = self.device.answer(&mut self.rings);
-        Ok(())
     }
 
     // The device puts what the connection at a place owes.
-    fn device_pays(&mut self, place: usize) -> Result<(), AllocError>
+    fn device_pays(&mut self, place: usize)
         requires { IsReady self.old }
-        ensures { OnOk result (Happened (DevicePays place) self.old self.new) }
+        ensures { Happened (DevicePays place) self.old self.new }
     {
         self.host.begin(false);
         self.device.serve_at(&mut self.rings, &mut self.host, place);
-        self.host.end(false)
     }
 
     // A stream of the host takes at most so many bytes more.
-    fn host_takes(&mut self, stream: u64, room: usize) -> Result<(), AllocError>
+    fn host_takes(&mut self, stream: u64, room: usize)
         requires { IsReady self.old }
-        ensures { OnOk result (Happened (HostTakes stream room) self.old self.new) }
+        ensures { Happened (HostTakes stream room) self.old self.new }
     {
         self.host.host.limit(stream, room);
-        Ok(())
     }
 
     // The host closes a stream.
-    fn host_closes(&mut self, stream: u64) -> Result<(), AllocError>
+    fn host_closes(&mut self, stream: u64)
         requires { IsReady self.old }
-        ensures { OnOk result (Happened (HostCloses stream) self.old self.new) }
+        ensures { Happened (HostCloses stream) self.old self.new }
     {
         self.host.host.hang_up(stream);
-        Ok(())
     }
 
     // The host listens on a path.

@@ -1,5 +1,5 @@
 -- The answer of a play: the lines that a script prints and the status that it ends with, as a function of its bytes.
-use Rattle.std.specs.Prelude.{ℕ, List, [], ◌∷◌, ◌++◌, codes, None, Result, Ok, Err}
+use Rattle.std.specs.Prelude.{false, ℕ, List, [], ◌∷◌, ◌++◌, codes, None, Result, Ok, Err}
 use Rattle.vs_core.specs.declared.driver.ConnectError.{ConnectError}
 use Rattle.vs_core.specs.declared.device.Turn.{Turn}
 use Rattle.vs_core.specs.declared.device.Turn.TheVariants as turn
