@@ -323,3 +323,70 @@ impl World {
         self.host.host.listen_at(path)
     }
 }
+
+#[cfg(test)]
+mod tests {
+    use super::*;
+    use crate::driver::ConnectionState;
+    use std::test::Fail;
+
+    #[test]
+    fn bytes_reach_the_host_until_its_write_fails(rt: HostRuntime) -> Result<(), Fail> {
+        let mut world = World::new(rt.alloc(), 8, "v.sock")?;
+        let events = [
+            Event::HostListens {
+                path: String::from_str(rt.alloc(), "v.sock_52")?,
+            },
+            Event::Connect { port: 52 },
+            Event::DeviceTakes { fails: false },
+            Event::DevicePays { place: 0 },
+            Event::GuestTakes,
+            Event::Send {
+                id: 1,
+                bytes: Vec::from_slice(rt.alloc(), b"hello")?,
+            },
+            Event::DeviceTakes { fails: true },
+            Event::HostTakes { stream: 1, room: 3 },
+            Event::DevicePumps {
+                place: 0,
+                fails: false,
+            },
+            Event::DevicePumps {
+                place: 0,
+                fails: true,
+            },
+        ];
+        world.run(&events)?;
+        assert_eq!(rt; world.streams().len(), 1);
+        let stream = &world.streams()[0];
+        assert_eq!(rt; stream.given(), b"hel".as_slice());
+        assert!(rt; stream.is_closed());
+        assert_eq!(rt; world.device().counters().faults, 1);
+        assert_eq!(rt; world.driver().state(1), ConnectionState::Live);
+        Ok(())
+    }
+
+    #[test]
+    fn a_dial_that_fails_ends_in_an_rst(rt: HostRuntime) -> Result<(), Fail> {
+        let mut world = World::new(rt.alloc(), 8, "v.sock")?;
+        let events = [
+            Event::HostListens {
+                path: String::from_str(rt.alloc(), "v.sock_52")?,
+            },
+            Event::Connect { port: 52 },
+            Event::DeviceTakes { fails: true },
+            Event::GuestReaps,
+            Event::DeviceReplies,
+            Event::GuestTakes,
+            Event::GuestReplies,
+            Event::GuestPays { place: 0 },
+            Event::Recv { id: 1, len: 0 },
+            Event::Recv { id: 1, len: 9 },
+            Event::HostCloses { stream: 1 },
+        ];
+        world.run(&events)?;
+        assert_eq!(rt; world.streams().len(), 0);
+        assert_eq!(rt; world.driver().state(1), ConnectionState::Gone);
+        Ok(())
+    }
+}
