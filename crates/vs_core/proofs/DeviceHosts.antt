@@ -10,7 +10,7 @@ use Rattle.std.proofs.lemmas.Option.{same_Some, none-some}
 use Rattle.vs_core.specs.declared.flow.Flow.{Flow}
 use Rattle.vs_core.specs.declared.outside.Dialed.{Dialed}
 use Rattle.vs_core.specs.declared.outside.Dialed.TheVariants as dialed
-use Rattle.vs_core.specs.Outside.{Host, Stream, stream_at, with_stream, fed, new_stream, is_listened, IsOpen, Tells, dialed_of, after_dial, after_write, after_close}
+use Rattle.vs_core.specs.Outside.{Host, Stream, stream_at, with_stream, fed, new_stream, is_listened, IsOpen, Tells, IsDialed, after_dial, after_write, after_close}
 use Rattle.vs_core.specs.Device.{DeviceEntry}
 use Rattle.vs_core.specs.Told.{HasOpenStream, AreApart, AreAllApart, IsHostOf}
 use Rattle.vs_core.specs.DeviceWords.{IsOpenAt, KeepsOthers, SameStream}
@@ -223,7 +223,7 @@ apart-push h new fresh (x ∷ es) open_ apart =
     (AllByRecursion-push (AreApart x) es new apart.0 (λ mine other same. fresh (subst (λ (s : ℕ). IsOpen s h) same (open_.0 mine))), apart-push h new fresh es open_.1 apart.1)
 
 -- the host stays that of the table where an entry is added for the stream that a dial gave
-pub IsHostOf-dialed : (o p : Option Host) (path : List ℕ) (flow : Flow) (id : ℕ) (es : List DeviceEntry) (new : DeviceEntry) → Tells o p (λ h. dialed.Stream id ≡ dialed_of path h) (after_dial path flow) → new.stream ≡ id → IsHostOf o es → IsHostOf p (es ++ new ∷ [])
+pub IsHostOf-dialed : (o p : Option Host) (path : List ℕ) (flow : Flow) (id : ℕ) (es : List DeviceEntry) (new : DeviceEntry) → Tells o p (IsDialed path (dialed.Stream id)) (after_dial path flow) → new.stream ≡ id → IsHostOf o es → IsHostOf p (es ++ new ∷ [])
 IsHostOf-dialed None p path flow id es new told is host = subst (λ q. IsHostOf q (es ++ new ∷ [])) (sym told) tt
 IsHostOf-dialed (Some h) p path flow id es new told is host = subst (λ q. IsHostOf q (es ++ new ∷ [])) (sym told.1)
     ((elim (is_listened path h) as (λ (b : Bool). dialed.Stream id ≡ (if b then dialed.Stream (length h.streams + 1) else dialed.Refused) → IsHostOf (Some (if b then record h { streams = h.streams ++ new_stream flow ∷ [] } else h)) (es ++ new ∷ [])) [
@@ -236,4 +236,4 @@ IsHostOf-dialed (Some h) p path flow id es new told is host = subst (λ q. IsHos
             AllByRecursion-push (HasOpenStream k) es new (AllByRecursion-map (HasOpenStream h) (HasOpenStream k) es (λ x o unclosed. open-append h k (new_stream flow) x.stream refl (o unclosed)) host.0) (λ _. own),
             apart-push h new fresh es host.0 host.1,
           )
-    ]) told.0)
+    ]) told.0.1)

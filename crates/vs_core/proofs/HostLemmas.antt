@@ -4,7 +4,7 @@ use Rattle.std.specs.Prelude.{slice_get, IsSomeAnd}
 use Rattle.std.specs.Option.{option_map_or, ForSome}
 use Rattle.std.proofs.lemmas.Bool.{cases_eq}
 use Rattle.std.proofs.lemmas.Bool.Decides.{nat_tests}
-use Rattle.vs_core.specs.Outside.{Host, Stream, Tells, dialed_of, stream_at, with_stream, IsOpen, fed, after_write, after_close, after_dial, is_listened, new_stream}
+use Rattle.vs_core.specs.Outside.{Host, Stream, Tells, IsDialed, stream_at, with_stream, IsOpen, fed, after_write, after_close, after_dial, is_listened, new_stream}
 use Rattle.vs_core.specs.declared.flow.Flow.{Flow}
 use Rattle.vs_core.specs.declared.outside.Dialed.TheVariants as dialed
 
@@ -116,9 +116,9 @@ given_number true n id e = (refl, cc)
 given_number false n id e = cc
 
 -- a stream that a dial gave is open
-pub ForSome-dialed : (old new : Option Host) (path : List ℕ) (flow : Flow) (id : ℕ) → Tells old new (λ h. dialed.Stream id ≡ dialed_of path h) (after_dial path flow) → ForSome new (IsOpen id)
+pub ForSome-dialed : (old new : Option Host) (path : List ℕ) (flow : Flow) (id : ℕ) → Tells old new (IsDialed path (dialed.Stream id)) (after_dial path flow) → ForSome new (IsOpen id)
 ForSome-dialed None new path flow id t = λ x e. cc (t, e)
 ForSome-dialed (Some h) new path flow id t = λ x e.
-    let given = given_number (is_listened path h) (length h.streams + 1) id t.0 in
+    let given = given_number (is_listened path h) (length h.streams + 1) id t.0.1 in
     let same : after_dial path flow h ≡ x = cc (t.1, e) in
     subst (IsOpen id) same (subst (λ (n : ℕ). IsOpen n (after_dial path flow h)) (sym given.1) (IsOpen-dialed path flow h given.0))

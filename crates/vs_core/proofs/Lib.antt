@@ -49,3 +49,6 @@ pub mod DeviceReceive
 pub mod DeviceReceiveRuns
 pub mod DeviceReceiveRounds
 pub mod DeviceTurns
+pub mod DeviceSteps
+pub mod Failing
+pub mod Stepping

@@ -67,8 +67,8 @@ device_played (Take from) a s m zero h = (h.0.0, same_situation m _ _ h.0.1 h.1.
 device_played (Read chain place count) a s m zero h = (h.0.0, same_situation m _ _ h.0.1 h.1.0 zero)
 device_played (Write chain place bytes) a s m zero h = (refl, same_situation m _ _ h.0.1 h.1.0 zero)
 device_played (Return chain len) a s m zero h = (refl, same_situation m _ _ h.0.1 h.1.0 zero)
-device_played (Dial path flow) a s m zero h = let k = host_played (dial_failed a) s.0 s.1 m _ _ zero h in (k.1, k.2)
-device_played (Give stream bytes) a s m zero h = let k = host_played (write_failed a) s.0 s.1 m _ _ zero h in (k.1, k.2)
+device_played (Dial path flow) a s m zero h = let k = host_played (dial_failed a) s.0 s.1 m _ _ zero h in (k.1.1, k.2)
+device_played (Give stream bytes) a s m zero h = let k = host_played (write_failed a) s.0 s.1 m _ _ zero h in (k.1.1, k.2)
 device_played (Close stream) a s m zero h = let k = host_played false s.0 s.1 m (λ h. Unit {0}) (after_close stream) zero h in (refl, k.2)
 
 pub leads_device : {A : Type 0} (tree : Tree DeviceCall DeviceAnswer A) (s : Rings × Host) (x : A) (t : Situation) → t.faults ≡ 0 → Leads DeviceAllows tree (telling s) x t → (x ≡ (played device_answer tree s).0) × (t ≡ telling (played device_answer tree s).1)

@@ -10,7 +10,7 @@ use Rattle.vs_core.specs.declared.driver.Sent.{Sent}
 use Rattle.vs_core.specs.declared.driver.Sent.TheVariants as sent
 use Rattle.vs_core.specs.Interaction.{bind, Leads}
 use Rattle.vs_core.specs.Guest.{GuestSlot, GuestPart, guest_header, one_posted, sent_on}
-use Rattle.vs_core.specs.Driver.{reap_all, post_of, put_payload, payload_of, send_open}
+use Rattle.vs_core.specs.Driver.{Pages, post_of, put_payload, payload_of, send_open}
 use Rattle.vs_core.specs.DriverWords.{ChangesPages, Sends}
 use Rattle.vs_core.specs.Told.{RingAllows}
 use Rattle.vs_core.proofs.Leads.{leads_of, leads_bind}
@@ -27,16 +27,16 @@ payload_of-min bytes credit k n first then =
     let e : n ≡ min (min credit 4052) (length bytes) = omega arith in
     ap (λ (m : ℕ). take m bytes) e ∙ take_min (min credit 4052) bytes
 
-sends_as : (s : GuestSlot) (credit : ℕ) (bytes : List ℕ) (g : GuestPart) → length bytes ≢ 0 → credit ≢ 0 → send_open reap_all s credit bytes g ≡ bind (reap_all g) (put_payload s (payload_of bytes credit))
-sends_as s credit bytes g some free =
+sends_as : (pages : Pages) (s : GuestSlot) (credit : ℕ) (bytes : List ℕ) (g : GuestPart) → length bytes ≢ 0 → credit ≢ 0 → send_open pages s credit bytes g ≡ bind (pages g) (put_payload s (payload_of bytes credit))
+sends_as pages s credit bytes g some free =
     let e : (length bytes == 0) ≡ false = grind (arith, nat_tests) in
     let f : (credit == 0) ≡ false = grind (arith, nat_tests) in
     rw (e, f) refl
 
--- pages are reaped, and then the payload is put
-pub sends_open : (s : GuestSlot) (credit : ℕ) (bytes : List ℕ) (g h : GuestPart) (x : GuestPart × Sent) (k n : ℕ) (r m t : Option Rings) → length bytes ≢ 0 → credit ≢ 0 → k ≡ min (length bytes) credit → n ≡ min k 4052
-    → Leads RingAllows (reap_all g) r h m → Leads RingAllows (put_payload s (take n bytes) h) m x t → Leads RingAllows (send_open reap_all s credit bytes g) r x t
-sends_open s credit bytes g h x k n r m t some free first then reaps puts =
+-- pages come free, and then the payload is put
+pub sends_open : (pages : Pages) (s : GuestSlot) (credit : ℕ) (bytes : List ℕ) (g h : GuestPart) (x : GuestPart × Sent) (k n : ℕ) (r m t : Option Rings) → length bytes ≢ 0 → credit ≢ 0 → k ≡ min (length bytes) credit → n ≡ min k 4052
+    → Leads RingAllows (pages g) r h m → Leads RingAllows (put_payload s (take n bytes) h) m x t → Leads RingAllows (send_open pages s credit bytes g) r x t
+sends_open pages s credit bytes g h x k n r m t some free first then reaps puts =
     let P : List ℕ → Type 0 = λ ys. Leads RingAllows (put_payload s ys h) m x t in
-    leads_of RingAllows _ _ r t x (sends_as s credit bytes g some free)
-    (leads_bind RingAllows (reap_all g) (put_payload s (payload_of bytes credit)) r m t h x reaps (subst P (payload_of-min bytes credit k n first then) puts))
+    leads_of RingAllows _ _ r t x (sends_as pages s credit bytes g some free)
+    (leads_bind RingAllows (pages g) (put_payload s (payload_of bytes credit)) r m t h x reaps (subst P (payload_of-min bytes credit k n first then) puts))

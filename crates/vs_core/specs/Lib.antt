@@ -10,6 +10,7 @@ pub mod Reply
 pub mod Guest
 pub mod Driver
 pub mod DriverWords
+pub mod DriverPages
 pub mod DriverFields
 pub mod Device
 pub mod DeviceCalls
@@ -20,4 +21,5 @@ pub mod DeviceReceive
 pub mod Told
 pub mod DriverPays
 pub mod World
+pub mod WorldEvents
 pub mod Laws

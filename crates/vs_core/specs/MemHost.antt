@@ -10,7 +10,7 @@ pub record HostMemory : Type 0 where
 
 -- A host that was just made: no streams, and nothing is listened on.
 abbrev pub new_host : List ℕ → HostMemory
-new_host base = record { host = record { base = base; streams = []; listening = [] }; faults = 0; starved = false }
+new_host base = record { host = record { base = base; streams = []; listening = []; fails = false }; faults = 0; starved = false }
 
 -- The host after a call that found no memory: it failed, and nothing else changed.
 abbrev pub after_starving : HostMemory → HostMemory

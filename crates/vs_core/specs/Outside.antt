@@ -41,12 +41,17 @@ pub record Stream : Type 0 where
   pub gone : Bool
   pub closed : Bool
 
--- What a host tells: its base path, its streams, numbered from 1 in the order in which they were made, and the
--- paths that are listened on.
+-- What a host tells: its base path, its streams, numbered from 1 in the order in which they were made, the
+-- paths that are listened on, and whether its dials and its writes fail now.
 pub record Host : Type 0 where
   pub base : List ℕ
   pub streams : List Stream
   pub listening : List (List ℕ)
+  pub fails : Bool
+
+-- The host whose dials and writes fail now, or don't.
+abbrev pub with_fails : Bool → Host → Host
+with_fails fails h = record h { fails = fails }
 
 -- A further port is listened on.
 abbrev pub after_listen : ℕ → Host → Host
@@ -82,6 +87,10 @@ abbrev pub after_dial : List ℕ → Flow → Host → Host
 after_dial path flow h =
     if is_listened path h then record h { streams = h.streams ++ new_stream flow ∷ [] } else h
 
+-- A dial that didn't fail: the host's dials don't fail now, and the answer goes by what is listened on.
+abbrev pub IsDialed : List ℕ → Dialed → Host → Type 0
+IsDialed path answer h = (h.fails ≡ false) × (answer ≡ dialed_of path h)
+
 -- Whether a dial is answered by Failed.
 abbrev pub dial_failed : Dialed → Bool
 dial_failed dialed.Failed = true
@@ -99,6 +108,10 @@ write_answer n s =
 -- What a write of these bytes to the stream of that number is answered by. A stream that isn't there takes nothing.
 abbrev pub written_of : ℕ → List ℕ → Host → Written
 written_of id bytes h = option_map_or (write_answer (length bytes)) (stream_at id h) written.Again
+
+-- A write that didn't fail: the host's writes don't fail now, and the answer goes by the stream.
+abbrev pub IsWritten : ℕ → List ℕ → Written → Host → Type 0
+IsWritten id bytes answer h = (h.fails ≡ false) × (answer ≡ written_of id bytes h)
 
 -- The stream after a write of these bytes: just those that it takes are given to it, and it takes so many less.
 abbrev pub fed : List ℕ → Stream → Stream

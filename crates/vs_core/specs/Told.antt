@@ -3,7 +3,7 @@
 use Rattle.std.specs.Prelude.{◌≡◌, ◌≢◌, ℕ, Bool, true, false, Option, Some, None, List, [], ◌∷◌, take, drop}
 use Rattle.std.specs.List.{AllByRecursion}
 use Rattle.vs_ring_list.specs.Rings.{Rings, Flight, posted, reaped_of, after_reap, next_of, after_next, bytes_held, after_write, after_done}
-use Rattle.vs_core.specs.Outside.{Host, IsOpen, Tells, FaultRose, dial_failed, write_failed, dialed_of, after_dial, written_of, after_write as after_give, after_close}
+use Rattle.vs_core.specs.Outside.{Host, IsOpen, Tells, FaultRose, dial_failed, write_failed, dialed_of, after_dial, IsDialed, written_of, after_write as after_give, IsWritten, after_close}
 use Rattle.vs_core.specs.Guest.{GuestPart}
 use Rattle.vs_core.specs.Device.{DeviceEntry}
 use Rattle.vs_core.specs.Driver.{RingCall, RingAnswer, Post, Reap, LoadCid}
@@ -35,8 +35,8 @@ DeviceAllows (Read chain place count) bytes old new =
     Tells old.rings new.rings (λ w. bytes ≡ take count (drop place (bytes_held chain w))) (λ w. w) × SameHost old new
 DeviceAllows (Write chain place bytes) a old new = Tells old.rings new.rings (λ w. Unit {0}) (after_write chain place bytes) × SameHost old new
 DeviceAllows (Return chain len) a old new = Tells old.rings new.rings (λ w. Unit {0}) (after_done chain len) × SameHost old new
-DeviceAllows (Dial path flow) answer old new = HostAllows (dial_failed answer) old new (λ h. answer ≡ dialed_of path h) (after_dial path flow)
-DeviceAllows (Give stream bytes) answer old new = HostAllows (write_failed answer) old new (λ h. answer ≡ written_of stream bytes h) (after_give stream bytes)
+DeviceAllows (Dial path flow) answer old new = HostAllows (dial_failed answer) old new (IsDialed path answer) (after_dial path flow)
+DeviceAllows (Give stream bytes) answer old new = HostAllows (write_failed answer) old new (IsWritten stream bytes answer) (after_give stream bytes)
 DeviceAllows (Close stream) a old new = HostAllows false old new (λ h. Unit {0}) (after_close stream)
 
 -- Over plain lists and a host that doesn't fail each answer is determined.

@@ -3,6 +3,7 @@
 
 mod device;
 mod driver;
+mod faulty_host;
 mod flow;
 mod laws;
 mod mem_host;
@@ -10,6 +11,7 @@ mod mem_io;
 mod outside;
 mod path;
 mod reply;
+mod world;
 
 pub use device::{Counters, Device, Entries as DeviceEntries, Filled, Taken, Turn, Turned};
 pub use driver::{ConnId, ConnectError, ConnectionState, Driver, Entries, Polled, Received, Sent};
@@ -20,3 +22,4 @@ pub use mem_io::{FreeGate, MemSink, MemSource, StepClock};
 pub use outside::{Clock, Dialed, Gate, HostNet, Sink, SinkWrite, Source, SourceRead, Written};
 pub use path::{BASE_MAX, PathText, listen_path};
 pub use reply::Reply;
+pub use world::{Event, World};

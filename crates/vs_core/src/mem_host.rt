@@ -1,14 +1,15 @@
-//! A host in memory: a listening path leads to a stream that takes all bytes.
-ghost use Rattle.std.specs.Prelude.{◌≡◌, ◌≤◌, ◌<◌, length, Some, IfOk, OnOk, OnErr};
+//! A host in memory: a listening path leads to a stream, whose bytes the host's program takes all, or so many.
+ghost use Rattle.std.specs.Prelude.{◌≡◌, ◌≤◌, ◌<◌, ◌-◌, ◌++◌, ◌∷◌, [], true, false, length, Some, IfOk, OnOk, OnErr};
 ghost use Rattle.std.specs.Bool.{OnTrue, OnFalse};
 ghost use Rattle.std.specs.List.{list_any};
+ghost use Rattle.std.specs.Option.{option_map};
 ghost use Rattle.std.specs.Str.{bytes_eq};
-ghost use Rattle.vs_core.specs.Outside.{IsOpen, dial_failed, write_failed, dialed_of, after_dial, written_of, after_write, after_close, after_listen};
+ghost use Rattle.vs_core.specs.Outside.{IsOpen, dial_failed, write_failed, dialed_of, after_dial, written_of, write_answer, taken_of, fed, after_write, after_close, after_listen, with_stream};
 ghost use Rattle.vs_core.specs.MemHost.{new_host, after_starving};
 
 use crate::flow::Flow;
 use crate::outside::{Dialed, HostNet, Written};
-use crate::path::{BASE_MAX, PathText, listen_path};
+use crate::path::{BASE_MAX, listen_path};
 use std::alloc::{AllocError, Global};
 use std::marker::Model;
 
@@ -17,16 +18,17 @@ use std::marker::Model;
 pub struct MemStream {
     label: Option<Flow>,
     given: Vec<u8>,
+    takes: Option<usize>,
+    gone: bool,
     closed: bool,
 }
 
 impl Model for MemStream {
-    ghost use Rattle.std.specs.Prelude.{None, false};
     ghost use Rattle.vs_core.specs.Outside.{Stream};
 
     ghost Value = { Stream };
 
-    ghost view = { λ s. record { label = s.label; given = s.given.items; takes = None; gone = false; closed = s.closed } };
+    ghost view = { λ s. record { label = s.label; given = s.given.items; takes = s.takes; gone = s.gone; closed = s.closed } };
 }
 
 impl MemStream {
@@ -50,14 +52,88 @@ impl MemStream {
     {
         self.closed
     }
+
+    /// Whether the host closed the stream.
+    pub fn is_gone(&self) -> bool
+        ensures { result ≡ self.now.gone }
+    {
+        self.gone
+    }
+
+    /// How many of `n` bytes the stream takes now.
+    fn taken_of(&self, n: usize) -> usize
+        ensures value { result ≡ taken_of n self.now }
+        ensures most { result ≤ n }
+    {
+        if self.gone {
+            return 0;
+        }
+        match self.takes {
+            Some(room) => n.min(room),
+            None => n,
+        }
+    }
+
+    /// Takes as many of the bytes as it takes now. Where there is no memory for them, all is as before.
+    fn write(&mut self, bytes: &[u8]) -> Result<Written, AllocError>
+        ensures answer { IfOk result (λ written. written ≡ write_answer (length bytes.now) self.old) }
+        ensures ok { OnOk result (self.new ≡ fed bytes.now self.old) }
+        ensures err { OnErr result (self.new ≡ self.old) }
+    {
+        let n = self.taken_of(bytes.len());
+        self.given.extend_from_slice(&bytes[..n])?;
+        self.takes = room_left(self.takes, n);
+        if self.gone {
+            return Ok(Written::Closed);
+        }
+        if n == 0 {
+            return Ok(Written::Again);
+        }
+        Ok(Written::Took(n))
+    }
 }
 
-/// A host in memory. Its streams take all bytes, and it fails only where it finds no memory.
+/// What is left of the room for bytes, where there is a limit, after so many were taken.
+fn room_left(takes: Option<usize>, n: usize) -> Option<usize>
+    ensures { result ≡ option_map (λ room. room - n) takes }
+{
+    match takes {
+        Some(room) => Some(room.saturating_sub(n)),
+        None => None,
+    }
+}
+
+/// A path that is listened on.
+#[derive(Drop)]
+struct ListenedPath {
+    text: String,
+}
+
+impl Model for ListenedPath {
+    ghost use Rattle.std.specs.Prelude.{List, ℕ};
+    ghost use Rattle.std.specs.String.{string_bytes};
+
+    ghost Value = { List ℕ };
+
+    ghost view = { λ p. string_bytes p.text };
+}
+
+impl ListenedPath {
+    /// The path as text.
+    fn as_str(&self) -> &str
+        ensures { result.now ≡ self.now }
+    {
+        self.text.as_str()
+    }
+}
+
+/// A host in memory. Its streams take all bytes, unless the host's program takes fewer, and it fails only where it finds
+/// no memory.
 #[derive(Drop)]
 pub struct MemHost {
     base: String,
     streams: Vec<MemStream>,
-    listening: Vec<PathText>,
+    listening: Vec<ListenedPath>,
     faults: u64,
     starved: bool,
 }
@@ -71,7 +147,7 @@ impl Model for MemHost {
     ghost Value = { HostMemory };
 
     ghost view = { λ m. record {
-      host = record { base = string_bytes m.base; streams = m.streams.items; listening = m.listening.items };
+      host = record { base = string_bytes m.base; streams = m.streams.items; listening = m.listening.items; fails = false };
       faults = m.faults;
       starved = m.starved;
     } };
@@ -99,8 +175,38 @@ impl MemHost {
         ensures ok { OnOk result (self.new ≡ record self.old { host = after_listen port self.old.host }) }
         ensures err { OnErr result (self.new ≡ self.old) }
     {
-        self.listening.push(listen_path(&self.base, port))?;
+        let path = listen_path(&self.base, port);
+        self.listen_at(path.as_str())
+    }
+
+    /// Listens on a further path. Where there is no memory for it, all is as before.
+    pub fn listen_at(&mut self, path: &str) -> Result<(), AllocError>
+        ensures ok { OnOk result (self.new ≡ record self.old { host = record self.old.host { listening = self.old.host.listening ++ path.now ∷ [] } }) }
+        ensures err { OnErr result (self.new ≡ self.old) }
+    {
+        let text = String::from_str(*self.streams.allocator(), path)?;
+        self.listening.push(ListenedPath { text })?;
         Ok(())
+    }
+
+    /// A stream takes at most so many bytes more from now on. A number that no stream has changes nothing.
+    pub fn limit(&mut self, id: u64, room: usize)
+        ensures { self.new ≡ record self.old { host = with_stream id (λ s. record s { takes = Some room }) self.old.host } }
+    {
+        if id == 0 || id > self.streams.len() as u64 {
+            return;
+        }
+        self.streams[id as usize - 1].takes = Some(room);
+    }
+
+    /// The host closes a stream, which takes nothing more. A number that no stream has changes nothing.
+    pub fn hang_up(&mut self, id: u64)
+        ensures { self.new ≡ record self.old { host = with_stream id (λ s. record s { gone = true }) self.old.host } }
+    {
+        if id == 0 || id > self.streams.len() as u64 {
+            return;
+        }
+        self.streams[id as usize - 1].gone = true;
     }
 
     /// The streams, by rising number.
@@ -135,7 +241,7 @@ impl MemHost {
 }
 
 /// Whether the path is one of those.
-fn is_listened(paths: &[PathText], path: &str) -> bool
+fn is_listened(paths: &[ListenedPath], path: &str) -> bool
     ensures { result ≡ list_any (λ p. bytes_eq p path.now) paths.now }
 {
     paths.iter().any(|p| p.as_str() == path)
@@ -148,6 +254,7 @@ impl HostNet for MemHost {
 
     fn dial(&mut self, path: &str, flow: Flow) -> Dialed
         ensures starves { OnTrue (dial_failed result) (self.new ≡ after_starving self.old) }
+        ensures works { self.old.host.fails ≡ false }
         ensures value { OnFalse (dial_failed result) (result ≡ dialed_of path.now self.old.host) }
         ensures after { OnFalse (dial_failed result)
             (self.new ≡ record self.old { host = after_dial path.now flow self.old.host }) }
@@ -158,6 +265,8 @@ impl HostNet for MemHost {
         let stream = MemStream {
             label: Some(flow),
             given: Vec::new(*self.streams.allocator()),
+            takes: None,
+            gone: false,
             closed: false,
         };
         match self.streams.push(stream) {
@@ -173,13 +282,14 @@ impl HostNet for MemHost {
         requires is_open { IsOpen id self.old.host }
         requires some { 0 < length bytes.now }
         ensures starves { OnTrue (write_failed result) (self.new ≡ after_starving self.old) }
+        ensures works { self.old.host.fails ≡ false }
         ensures value { OnFalse (write_failed result) (result ≡ written_of id bytes.now self.old.host) }
         ensures after { OnFalse (write_failed result)
             (self.new ≡ record self.old { host = after_write id bytes.now self.old.host }) }
     {
         let stream = &mut self.streams[id as usize - 1];
-        match stream.given.extend_from_slice(bytes) {
-            Ok(()) => Written::Took(bytes.len()),
+        match stream.write(bytes) {
+            Ok(written) => written,
             Err(_) => {
                 self.starve();
                 Written::Failed
@@ -222,6 +332,25 @@ mod tests {
         assert_eq!(rt; stream.label(), Some(flow));
         assert_eq!(rt; stream.given(), b"hello".as_slice());
         assert!(rt; stream.is_closed());
+        Ok(())
+    }
+
+    #[test]
+    fn a_stream_takes_what_the_host_takes_of_it(rt: HostRuntime) -> Result<(), Fail> {
+        let flow = Flow {
+            guest: 1024,
+            host: 52,
+        };
+        let mut host = MemHost::new(rt.alloc(), "v.sock")?;
+        host.listen_at("v.sock_52")?;
+        assert_eq!(rt; host.dial("v.sock_52", flow), Dialed::Stream(1));
+        host.limit(1, 3);
+        host.limit(2, 0);
+        assert_eq!(rt; host.write(1, b"hello"), Written::Took(3));
+        assert_eq!(rt; host.write(1, b"lo"), Written::Again);
+        host.hang_up(1);
+        assert_eq!(rt; host.write(1, b"lo"), Written::Closed);
+        assert_eq!(rt; host.streams()[0].given(), b"hel".as_slice());
         Ok(())
     }
 }

@@ -2,7 +2,7 @@
 ghost use Rattle.std.specs.Prelude.{◌≡◌, ◌≤◌, ◌<◌, ℕ, Option, List, length};
 ghost use Rattle.std.specs.Bool.{OnTrue, OnFalse, ⊤};
 ghost use Rattle.std.specs.Option.{ForSome};
-ghost use Rattle.vs_core.specs.Outside.{Host, Tells, FaultRose, IsOpen, TookSome, GotSome, SankSome, ReadTells, SinkTells, dial_failed, write_failed, read_failed, sink_failed, dialed_of, after_dial, written_of, after_write, after_close};
+ghost use Rattle.vs_core.specs.Outside.{Host, Tells, FaultRose, IsOpen, TookSome, GotSome, SankSome, ReadTells, SinkTells, dial_failed, write_failed, read_failed, sink_failed, IsDialed, after_dial, IsWritten, after_write, after_close};
 
 use crate::flow::Flow;
 
@@ -64,7 +64,7 @@ pub trait HostNet {
         ensures never_falls { faults self.old ≤ faults self.new }
         ensures failed { OnTrue (dial_failed result) (told self.new ≡ told self.old) }
         ensures answered { OnFalse (dial_failed result)
-            (Tells (told self.old) (told self.new) (λ h. result ≡ dialed_of path.now h) (after_dial path.now flow)) };
+            (Tells (told self.old) (told self.new) (IsDialed path.now result) (after_dial path.now flow)) };
 
     /// Gives bytes, at least one, to a stream that the device hasn't closed.
     fn write(&mut self, id: u64, bytes: &[u8]) -> Written
@@ -75,7 +75,7 @@ pub trait HostNet {
         ensures never_falls { faults self.old ≤ faults self.new }
         ensures failed { OnTrue (write_failed result) (told self.new ≡ told self.old) }
         ensures answered { OnFalse (write_failed result)
-            (Tells (told self.old) (told self.new) (λ h. result ≡ written_of id bytes.now h) (after_write id bytes.now)) };
+            (Tells (told self.old) (told self.new) (IsWritten id bytes.now result) (after_write id bytes.now)) };
 
     /// Closes a stream that the device hasn't closed yet.
     fn close(&mut self, id: u64)

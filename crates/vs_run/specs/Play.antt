@@ -1,5 +1,5 @@
 -- The answer of a play: the lines that a script prints and the status that it ends with, as a function of its bytes.
-use Rattle.std.specs.Prelude.{ℕ, List, [], ◌∷◌, ◌++◌, codes, None, Result, Ok, Err}
+use Rattle.std.specs.Prelude.{false, ℕ, List, [], ◌∷◌, ◌++◌, codes, None, Result, Ok, Err}
 use Rattle.vs_core.specs.declared.driver.ConnectError.{ConnectError}
 use Rattle.vs_core.specs.declared.device.Turn.{Turn}
 use Rattle.vs_core.specs.declared.device.Turn.TheVariants as turn
@@ -20,7 +20,7 @@ abbrev pub play_size : ℕ
 play_size = 64
 
 abbrev pub play_host : Host
-play_host = record { base = codes "v.sock"; streams = []; listening = [] }
+play_host = record { base = codes "v.sock"; streams = []; listening = []; fails = false }
 
 -- What a turn prints. Rings of lists never fail, so a turn always comes to its end.
 abbrev pub turn_answer : Turn → List ℕ

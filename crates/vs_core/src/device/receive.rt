@@ -8,6 +8,7 @@ ghost use Rattle.vs_core.specs.Profile.{reply_limit, table_size};
 ghost use Rattle.vs_core.specs.Device.{DeviceEntry, DevicePart};
 ghost use Rattle.vs_core.specs.Outside.{Host};
 ghost use Rattle.vs_core.specs.Guest.{op_of_owed};
+ghost use Rattle.vs_core.specs.World.{serve_at};
 ghost use Rattle.vs_core.specs.DeviceCalls.{put_of, answer_of, answer_up_to, after_put, serve_of, serve_each, serve_round, fill_of, fill_rx_of};
 ghost use Rattle.vs_core.specs.Told.{DeviceAllows, IsHostOf};
 ghost use Rattle.vs_core.specs.DeviceWords.{situation, with_table, IsIdle, OpensUpTo};
@@ -169,6 +170,26 @@ impl Device {
         (total, true)
     }
 
+    /// The entry at a place puts what it owes. Where no entry is there, nothing is done.
+    pub(crate) fn serve_at<R: DeviceRing, H: HostNet>(
+        &mut self,
+        ring: &mut R,
+        host: &mut H,
+        place: usize,
+    )
+        requires { IsHostOf (H.told host.old) self.old.entries }
+        ensures calls { Leads DeviceAllows (serve_at place self.old)
+            (situation (R.lists ring.old) (H.told host.old) (H.faults host.old))
+            (self.new, tt)
+            (situation (R.lists ring.new) (H.told host.new) (H.faults host.new)) }
+        ensures host { IsHostOf (H.told host.new) self.new.entries }
+        ensures held { R.held ring.new ≡ R.held ring.old }
+    {
+        if place < self.entries.len() {
+            self.serve(ring, host, place);
+        }
+    }
+
     /// The entry at a place puts what it owes, if it owes anything. With its RST it leaves the table, and its stream is
     /// closed.
     fn serve<R: DeviceRing, H: HostNet>(
@@ -272,7 +293,7 @@ impl Device {
     }
 
     /// Puts the oldest owed reply, if there is one, and a chain for it. Says whether it was put.
-    fn answer<R: DeviceRing>(&mut self, ring: &mut R) -> bool
+    pub(crate) fn answer<R: DeviceRing>(&mut self, ring: &mut R) -> bool
         ensures calls { (told : Option Host) (faults : ℕ) → Leads DeviceAllows (answer_of self.old)
             (situation (R.lists ring.old) told faults)
             (self.new, result)

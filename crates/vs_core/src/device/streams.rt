@@ -3,6 +3,7 @@ ghost use Rattle.std.specs.Prelude.{◌≡◌, ◌≤◌, ◌<◌, false, length
 ghost use Rattle.vs_ring_list.specs.Rings.{Rings};
 ghost use Rattle.vs_core.specs.Interaction.{Ask, Leads};
 ghost use Rattle.vs_core.specs.Device.{DeviceEntry, DevicePart};
+ghost use Rattle.vs_core.specs.World.{pump_at};
 ghost use Rattle.vs_core.specs.DeviceCalls.{Give, after_give, pump_of, pump_out_of, without_entry};
 ghost use Rattle.vs_core.specs.Told.{DeviceAllows, IsHostOf};
 ghost use Rattle.vs_core.specs.DeviceWords.{situation, with_table, pumped_to, Closes, IsOpenAt, KeepsOthers, SameStream};
@@ -30,6 +31,21 @@ impl Device {
             wrote += self.pump(host, place);
         }
         wrote
+    }
+
+    /// Gives the first pending bytes of the entry at a place to its stream. Where no entry is there, nothing is done.
+    pub(crate) fn pump_at<H: HostNet>(&mut self, host: &mut H, place: usize)
+        requires { IsHostOf (H.told host.old) self.old.entries }
+        ensures calls { (rings : Option Rings) → Leads DeviceAllows (pump_at place self.old)
+            (situation rings (H.told host.old) (H.faults host.old))
+            (self.new, tt)
+            (situation rings (H.told host.new) (H.faults host.new)) }
+        ensures host { IsHostOf (H.told host.new) self.new.entries }
+        ensures failed { self.new.failed ≡ self.old.failed }
+    {
+        if place < self.entries.len() {
+            self.pump(host, place);
+        }
     }
 
     /// Gives the first pending bytes of the entry at a place to its stream, and returns how many it took.

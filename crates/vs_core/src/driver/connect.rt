@@ -5,7 +5,8 @@ ghost use Rattle.vs_core.specs.Interaction.{Leads};
 ghost use Rattle.vs_core.specs.Told.{RingAllows, IsRingOf};
 ghost use Rattle.vs_core.specs.Flow.{is_assigned};
 ghost use Rattle.vs_core.specs.Guest.{connected};
-ghost use Rattle.vs_core.specs.Driver.{is_spent, put_request, connect_of};
+ghost use Rattle.vs_core.specs.Driver.{is_spent, put_request, as_they_stand, connect_with, connect_of};
+ghost use Rattle.vs_core.specs.DriverPages.{pages_of};
 ghost use Rattle.vs_core.specs.DriverWords.{Opens, Refuses};
 
 use crate::driver::slot::{BUFFER_SPACE, Slot, packet_header};
@@ -47,6 +48,40 @@ impl Driver {
             ↔ ((is_assigned host_port ≡ false) × (length self.old.slots < 64) × IsTrue (is_spent self.old)) }
         ensures no_descriptor { (n : ℕ) → result ≡ Err (ConnectError.NoDescriptor n) → (n ≡ self.old.size) × (self.new.in_flight ≡ self.old.size) }
     {
+        self.connect_with(ring, host_port, true)
+    }
+
+    /// Asks for a connection as `connect` does, but takes no page back before.
+    pub(crate) fn connect_as_they_stand<R: DriverRing>(
+        &mut self,
+        ring: &mut R,
+        host_port: u32,
+    ) -> Result<ConnId, ConnectError>
+        requires ring { IsRingOf (R.size ring.old) (R.flight ring.old) self.old }
+        ensures ring { IsRingOf (R.size ring.new) (R.flight ring.new) self.new }
+        ensures calls { Leads RingAllows (connect_with as_they_stand host_port self.old) (R.lists ring.old) (self.new, result) (R.lists ring.new) }
+    {
+        self.connect_with(ring, host_port, false)
+    }
+
+    // Asks for a connection. Where `reaps` says so, pages that the device returned are taken back before one is needed.
+    fn connect_with<R: DriverRing>(
+        &mut self,
+        ring: &mut R,
+        host_port: u32,
+        reaps: bool,
+    ) -> Result<ConnId, ConnectError>
+        requires ring { IsRingOf (R.size ring.old) (R.flight ring.old) self.old }
+        ensures ring { IsRingOf (R.size ring.new) (R.flight ring.new) self.new }
+        ensures calls { Leads RingAllows (connect_with (pages_of reaps) host_port self.old) (R.lists ring.old) (self.new, result) (R.lists ring.new) }
+        ensures opened { IfOk result (Opens host_port self.old self.new) }
+        ensures refused { IfErr result (Refuses self.old self.new) }
+        ensures bad_port { (result ≡ Err (ConnectError.BadPort host_port)) ↔ IsTrue (is_assigned host_port) }
+        ensures full { (result ≡ Err (ConnectError.Full 64)) ↔ ((is_assigned host_port ≡ false) × (64 ≤ length self.old.slots)) }
+        ensures spent { (result ≡ Err (ConnectError.PortsSpent self.old.last_port self.old.last_id))
+            ↔ ((is_assigned host_port ≡ false) × (length self.old.slots < 64) × IsTrue (is_spent self.old)) }
+        ensures no_descriptor { (n : ℕ) → result ≡ Err (ConnectError.NoDescriptor n) → (n ≡ self.old.size) × (self.new.in_flight ≡ self.old.size) }
+    {
         if is_assigned(host_port) {
             return Err(ConnectError::BadPort { port: host_port });
         }
@@ -61,7 +96,7 @@ impl Driver {
                 id: self.last_id,
             });
         }
-        self.reap_all(ring);
+        self.free_pages(ring, reaps);
         self.put_request(ring, host_port)
     }
 

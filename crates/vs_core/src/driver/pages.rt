@@ -8,6 +8,7 @@ ghost use Rattle.vs_core.specs.Told.{RingAllows, IsRingOf};
 ghost use Rattle.vs_core.specs.Guest.{one_posted};
 ghost use Rattle.vs_core.specs.DriverWords.{ChangesPages};
 ghost use Rattle.vs_core.specs.Driver.{reap_of, reap_all, post_of};
+ghost use Rattle.vs_core.specs.DriverPages.{pages_of};
 
 use crate::driver::Driver;
 use vs_header::Header;
@@ -21,8 +22,8 @@ impl Driver {
         self.size - self.free.len() as u16
     }
 
-    // Takes back one transmit page, if one is in flight and the device returned one.
-    fn reap<R: DriverRing>(&mut self, ring: &mut R) -> bool
+    /// Takes back one transmit page, if one is in flight and the device returned one.
+    pub(crate) fn reap<R: DriverRing>(&mut self, ring: &mut R) -> bool
         requires ring { IsRingOf (R.size ring.old) (R.flight ring.old) self.old }
         ensures ring { IsRingOf (R.size ring.new) (R.flight ring.new) self.new }
         ensures calls { Leads RingAllows (reap_of self.old) (R.lists ring.old) (self.new, result) (R.lists ring.new) }
@@ -52,6 +53,18 @@ impl Driver {
             if !self.reap(ring) {
                 return;
             }
+        }
+    }
+
+    /// Takes back all transmit pages that the device returned, where `reaps` says so, and leaves them as they stand else.
+    pub(super) fn free_pages<R: DriverRing>(&mut self, ring: &mut R, reaps: bool)
+        requires ring { IsRingOf (R.size ring.old) (R.flight ring.old) self.old }
+        ensures ring { IsRingOf (R.size ring.new) (R.flight ring.new) self.new }
+        ensures calls { Leads RingAllows (pages_of reaps self.old) (R.lists ring.old) self.new (R.lists ring.new) }
+        ensures others { ChangesPages self.old self.new }
+    {
+        if reaps {
+            self.reap_all(ring);
         }
     }
 

@@ -7,6 +7,7 @@ ghost use Rattle.vs_core.specs.Told.{RingAllows, IsRingOf};
 ghost use Rattle.vs_core.specs.Guest.{op_of_owed, slot_owes, slot_paid};
 ghost use Rattle.vs_core.specs.Driver.{pay_each};
 ghost use Rattle.vs_core.specs.DriverPays.{Pays};
+ghost use Rattle.vs_core.specs.World.{pay_at};
 
 use crate::driver::Driver;
 use vs_conn::Owed;
@@ -30,6 +31,17 @@ impl Driver {
             put += n;
         }
         put
+    }
+
+    /// Puts what the connection at a place owes, where a page is free. Where no connection is there, nothing is done.
+    pub(crate) fn pay_at<R: DriverRing>(&mut self, ring: &mut R, place: usize)
+        requires ring { IsRingOf (R.size ring.old) (R.flight ring.old) self.old }
+        ensures ring { IsRingOf (R.size ring.new) (R.flight ring.new) self.new }
+        ensures calls { Leads RingAllows (pay_at place self.old) (R.lists ring.old) (self.new, tt) (R.lists ring.new) }
+    {
+        if place < self.slots.len() {
+            let _ = self.pay(ring, place);
+        }
     }
 
     // Puts what the connection at a place owes, and says how many packets that were; `None` where no page was free.

@@ -46,8 +46,8 @@ impl Driver {
         took
     }
 
-    // Takes one packet of the receive queue, if one is there and fewer than 64 replies are owed.
-    fn take_one<R: DriverRing>(&mut self, ring: &mut R) -> bool
+    /// Takes one packet of the receive queue, if one is there and fewer than 64 replies are owed.
+    pub(crate) fn take_one<R: DriverRing>(&mut self, ring: &mut R) -> bool
         requires ring { IsRingOf (R.size ring.old) (R.flight ring.old) self.old }
         ensures ring { IsRingOf (R.size ring.new) (R.flight ring.new) self.new }
         ensures calls { Leads RingAllows (take_rx_of self.old) (R.lists ring.old) (self.new, result) (R.lists ring.new) }
@@ -84,8 +84,8 @@ impl Driver {
         put
     }
 
-    // Puts the oldest reply, if one is owed and a page is free.
-    fn reply<R: DriverRing>(&mut self, ring: &mut R) -> bool
+    /// Puts the oldest reply, if one is owed and a page is free.
+    pub(crate) fn reply<R: DriverRing>(&mut self, ring: &mut R) -> bool
         requires ring { IsRingOf (R.size ring.old) (R.flight ring.old) self.old }
         ensures ring { IsRingOf (R.size ring.new) (R.flight ring.new) self.new }
         ensures calls { Leads RingAllows (reply_of self.old) (R.lists ring.old) (self.new, result) (R.lists ring.new) }

@@ -23,6 +23,24 @@ impl Driver {
         }
     }
 
+    /// Reads nothing of a connection, as a receive into a buffer without room would.
+    pub(crate) fn recv_none(&mut self, id: ConnId)
+        ensures { self.new ≡ after_recv id 0 self.old }
+    {
+        if let Some(place) = self.place_of(id) {
+            self.read_none_at(place);
+        }
+    }
+
+    // Reads nothing of the connection at a place.
+    fn read_none_at(&mut self, place: usize)
+        requires place { place < length self.old.slots }
+        ensures part { HoldsAt (λ s. self.new ≡ record self.old { slots = update_first (has_id s.id) (slot_read 0) self.old.slots }) self.old.slots place }
+    {
+        let slot = &mut self.slots[place];
+        slot.read(&mut []);
+    }
+
     // Moves the first unread bytes of the connection at a place.
     fn read_at(&mut self, place: usize, out: &mut [u8]) -> Received
         requires place { place < length self.old.slots }

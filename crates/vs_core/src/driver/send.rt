@@ -6,7 +6,8 @@ ghost use Rattle.vs_core.specs.Interaction.{Leads};
 ghost use Rattle.vs_core.specs.Told.{RingAllows, IsRingOf};
 ghost use Rattle.vs_core.specs.Guest.{has_id, slot_may_send, sent_on};
 ghost use Rattle.vs_core.specs.DriverWords.{ChangesSlots, Sends, send_limit_of, no_credit_of};
-ghost use Rattle.vs_core.specs.Driver.{reap_all, put_payload, send_open, send_on, send_of};
+ghost use Rattle.vs_core.specs.Driver.{as_they_stand, put_payload, send_open, send_on, send_with, send_of};
+ghost use Rattle.vs_core.specs.DriverPages.{pages_of};
 
 use crate::driver::{ConnId, Driver, Sent};
 use vs_conn::{Credit, Stop};
@@ -32,24 +33,59 @@ impl Driver {
         ensures sends { (credit : ℕ) → send_limit_of id self.old ≡ Some (Ok credit) → 0 < credit → 0 < length bytes.now
             → Sends (min (length bytes.now) (min credit 4052)) id self.old self.new result }
     {
+        self.send_with(ring, id, bytes, true)
+    }
+
+    /// Sends bytes as `send` does, but takes no page back before.
+    pub(crate) fn send_as_they_stand<R: DriverRing>(
+        &mut self,
+        ring: &mut R,
+        id: ConnId,
+        bytes: &[u8],
+    ) -> Sent
+        requires ring { IsRingOf (R.size ring.old) (R.flight ring.old) self.old }
+        ensures ring { IsRingOf (R.size ring.new) (R.flight ring.new) self.new }
+        ensures calls { Leads RingAllows (send_with as_they_stand id bytes.now self.old) (R.lists ring.old) (self.new, result) (R.lists ring.new) }
+    {
+        self.send_with(ring, id, bytes, false)
+    }
+
+    // Sends bytes on a connection. Where `reaps` says so, pages that the device returned are taken back before one is needed.
+    fn send_with<R: DriverRing>(
+        &mut self,
+        ring: &mut R,
+        id: ConnId,
+        bytes: &[u8],
+        reaps: bool,
+    ) -> Sent
+        requires ring { IsRingOf (R.size ring.old) (R.flight ring.old) self.old }
+        ensures ring { IsRingOf (R.size ring.new) (R.flight ring.new) self.new }
+        ensures calls { Leads RingAllows (send_with (pages_of reaps) id bytes.now self.old) (R.lists ring.old) (self.new, result) (R.lists ring.new) }
+    {
         let Some(place) = self.place_of(id) else {
             return Sent::Unknown;
         };
-        self.send_at(ring, place, bytes)
+        self.send_at(ring, place, bytes, reaps)
     }
 
     // Sends bytes on the connection at a place.
-    fn send_at<R: DriverRing>(&mut self, ring: &mut R, place: usize, bytes: &[u8]) -> Sent
+    fn send_at<R: DriverRing>(
+        &mut self,
+        ring: &mut R,
+        place: usize,
+        bytes: &[u8],
+        reaps: bool,
+    ) -> Sent
         requires ring { IsRingOf (R.size ring.old) (R.flight ring.old) self.old }
         requires place { place < length self.old.slots }
         ensures ring { IsRingOf (R.size ring.new) (R.flight ring.new) self.new }
-        ensures calls { HoldsAt (λ s. Leads RingAllows (send_on reap_all s (slot_may_send s) bytes.now self.old) (R.lists ring.old) (self.new, result) (R.lists ring.new)) self.old.slots place }
+        ensures calls { HoldsAt (λ s. Leads RingAllows (send_on (pages_of reaps) s (slot_may_send s) bytes.now self.old) (R.lists ring.old) (self.new, result) (R.lists ring.new)) self.old.slots place }
     {
         let slot = &self.slots[place];
         match slot.may_send() {
             Err(Stop::NotOpen) => Sent::NotOpen,
             Err(Stop::Reset) => Sent::Reset,
-            Ok(credit) => self.send_open(ring, place, credit, bytes),
+            Ok(credit) => self.send_open(ring, place, credit, bytes, reaps),
         }
     }
 
@@ -60,12 +96,13 @@ impl Driver {
         place: usize,
         credit: u32,
         bytes: &[u8],
+        reaps: bool,
     ) -> Sent
         requires ring { IsRingOf (R.size ring.old) (R.flight ring.old) self.old }
         requires place { place < length self.old.slots }
         requires credit { HoldsAt (λ s. slot_may_send s ≡ Ok credit) self.old.slots place }
         ensures ring { IsRingOf (R.size ring.new) (R.flight ring.new) self.new }
-        ensures calls { HoldsAt (λ s. Leads RingAllows (send_open reap_all s credit bytes.now self.old) (R.lists ring.old) (self.new, result) (R.lists ring.new)) self.old.slots place }
+        ensures calls { HoldsAt (λ s. Leads RingAllows (send_open (pages_of reaps) s credit bytes.now self.old) (R.lists ring.old) (self.new, result) (R.lists ring.new)) self.old.slots place }
     {
         if bytes.is_empty() {
             return Sent::Took(0);
@@ -74,7 +111,7 @@ impl Driver {
             let slot = &self.slots[place];
             return no_credit(&slot.credit());
         }
-        self.reap_all(ring);
+        self.free_pages(ring, reaps);
         let n = bytes.len().min(credit as usize).min(PAYLOAD_MAX);
         self.put_payload(ring, place, &bytes[..n])
     }

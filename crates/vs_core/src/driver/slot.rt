@@ -208,8 +208,8 @@ impl Slot {
         Received::Got(n)
     }
 
-    // Moves unread bytes to the front of `out`, as many as it holds, and says how many.
-    fn read(&mut self, out: &mut [u8]) -> usize
+    /// Moves unread bytes to the front of `out`, as many as it holds, and says how many.
+    pub fn read(&mut self, out: &mut [u8]) -> usize
         ensures count { result ≡ min (length out.old) (length self.old.unread) }
         ensures read { out.new ≡ take result self.old.unread ++ drop result out.old }
         ensures slot { self.new ≡ slot_read (length out.old) self.old }

@@ -2,7 +2,7 @@
 use Rattle.std.proofs.Common.{◌≡◌, ◌≤◌, ℕ, Some, Option, length, take, arith, ap, sym, refl, ◌∙◌, subst}
 use Rattle.std.proofs.lemmas.List.{length-take}
 use Rattle.vs_core.specs.declared.outside.Written.TheVariants as written
-use Rattle.vs_core.specs.Outside.{Host, IsOpen, Tells, written_of, after_write}
+use Rattle.vs_core.specs.Outside.{Host, IsOpen, Tells, IsWritten, after_write}
 use Rattle.vs_core.specs.Guest.{counted}
 use Rattle.vs_core.specs.Device.{DeviceEntry}
 use Rattle.vs_core.specs.DeviceWords.{situation, IsOpenAt, KeepsOthers}
@@ -48,8 +48,8 @@ returns-in-Again-clause-own g c = λ unclosed.
 pub returns-in-Closed-clause-calls : goal.returns-in-Closed-clause-calls
 returns-in-Closed-clause-calls g c = λ d rings same.
     let e = c.args.entry.now in
-    let told : Tells (g.H.HostNet.told c.args.host.now) (g.H.HostNet.told c.write.new.self) (λ h. written.Closed ≡ written_of e.stream c.args.bytes.now h) (after_write e.stream c.args.bytes.now) =
-    subst (λ (s : ℕ). Tells (g.H.HostNet.told c.args.host.now) (g.H.HostNet.told c.write.new.self) (λ h. written.Closed ≡ written_of s c.args.bytes.now h) (after_write s c.args.bytes.now)) c.stream.ensures c.in-Closed.ensures.answered in (
+    let told : Tells (g.H.HostNet.told c.args.host.now) (g.H.HostNet.told c.write.new.self) (IsWritten e.stream c.args.bytes.now written.Closed) (after_write e.stream c.args.bytes.now) =
+    subst (λ (s : ℕ). Tells (g.H.HostNet.told c.args.host.now) (g.H.HostNet.told c.write.new.self) (IsWritten s c.args.bytes.now written.Closed) (after_write s c.args.bytes.now)) c.stream.ensures c.in-Closed.ensures.answered in (
       written.Closed,
       situation rings (g.H.HostNet.told c.write.new.self) (g.H.HostNet.faults c.write.new.self),
       (refl, c.in-Closed.ensures.counts, told),
