@@ -5,7 +5,7 @@ ghost use Rattle.vs_core.specs.declared.flow.Flow.{Flow};
 ghost use Rattle.vs_core.specs.DeviceCalls.{take_tx_of, pump_out_of, fill_rx_of, turn_of};
 ghost use Rattle.vs_core.specs.Driver.{connect_of, send_of, after_recv, poll_of};
 ghost use Rattle.vs_core.specs.Guest.{GuestSlot, has_id, is_flow};
-ghost use Rattle.vs_core.specs.Laws.{HasOwnBytes, HasOtherLabel, StepsSending, SilentSteps, EntriesRise};
+ghost use Rattle.vs_core.specs.Laws.{HasOwnBytes, HasOtherLabel, IsFunctionOfGuest, IsFunctionOfDevice, StepsSending, SilentSteps, EntriesRise};
 ghost use Rattle.vs_core.specs.Lists.{IsPrefix};
 ghost use Rattle.vs_core.specs.Outside.{Host};
 ghost use Rattle.vs_core.specs.World.{World, Event, Send, opening, run, tx_put, tx_got, rx_put, rx_got, sent_by, sent_over, host_read, guest_call, device_call, taken_on};
@@ -26,6 +26,18 @@ pub fn laws_of_the_streams()
     ensures own_bytes { (n : ℕ) (host : Host) (es : List Event) → host.streams ≡ [] → All (HasOwnBytes (opening n host) es) (run (opening n host) es).host.streams }
     ensures own_label { (n : ℕ) (host : Host) (es : List Event) → host.streams ≡ [] → AllPairs HasOtherLabel (run (opening n host) es).host.streams }
     ensures send_is_a_pipe { (w : World) (id : ℕ) (bytes : List ℕ) (s : GuestSlot) (f : Flow) → find (has_id id) w.guest.slots ≡ Some s → is_flow f s.flow ≡ false → sent_by f w (Send id bytes) ≡ [] }
+{}
+
+/// Over rings that are lists, and a host that tells and of which no call fails, each call of driver and device is a function of the
+/// world: what its conversation leads to is the one end that it has there (Virtio 1.2, section 5.10.6).
+pub fn calls_are_functions()
+    ensures connect { (port : ℕ) → IsFunctionOfGuest (connect_of port) }
+    ensures send { (id : ℕ) (bytes : List ℕ) → IsFunctionOfGuest (send_of id bytes) }
+    ensures poll { IsFunctionOfGuest poll_of }
+    ensures take_tx { IsFunctionOfDevice take_tx_of }
+    ensures pump_out { IsFunctionOfDevice pump_out_of }
+    ensures fill_rx { IsFunctionOfDevice fill_rx_of }
+    ensures turn { (size : ℕ) → IsFunctionOfDevice (turn_of size) }
 {}
 
 /// Each call of driver and device is a list of the world's steps (Virtio 1.2, section 5.10.6). Over a send's steps the guest sends on

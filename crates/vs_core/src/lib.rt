@@ -16,7 +16,7 @@ mod world;
 pub use device::{Counters, Device, Entries as DeviceEntries, Filled, Taken, Turn, Turned};
 pub use driver::{ConnId, ConnectError, ConnectionState, Driver, Entries, Polled, Received, Sent};
 pub use flow::{ASSIGNED_FIRST, ASSIGNED_LAST, Flow, is_assigned};
-pub use laws::{laws_of_the_calls, laws_of_the_queues, laws_of_the_streams};
+pub use laws::{calls_are_functions, laws_of_the_calls, laws_of_the_queues, laws_of_the_streams};
 pub use mem_host::{MemHost, MemStream};
 pub use mem_io::{FreeGate, MemSink, MemSource, StepClock};
 pub use outside::{Clock, Dialed, Gate, HostNet, Sink, SinkWrite, Source, SourceRead, Written};
