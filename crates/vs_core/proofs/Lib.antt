@@ -52,3 +52,4 @@ pub mod DeviceTurns
 pub mod DeviceSteps
 pub mod Failing
 pub mod Stepping
+pub mod WorldPipes

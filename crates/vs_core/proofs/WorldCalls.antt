@@ -6,11 +6,11 @@ use Rattle.vs_core.specs.Laws.{StepsSending, SilentSteps}
 use Rattle.vs_core.specs.World.{World, Event, happens, run, sent_by, sent_over}
 use Rattle.vs_core.proofs.Leads.{AllEnds}
 
-run-append : (es fs : List Event) (w : World) → run w (es ++ fs) ≡ run (run w es) fs
+pub run-append : (es fs : List Event) (w : World) → run w (es ++ fs) ≡ run (run w es) fs
 run-append [] fs w = refl
 run-append (e ∷ es) fs w = run-append es fs (happens w e)
 
-sent_over-append : (f : Flow) (es fs : List Event) (w : World) → sent_over f w (es ++ fs) ≡ sent_over f w es ++ sent_over f (run w es) fs
+pub sent_over-append : (f : Flow) (es fs : List Event) (w : World) → sent_over f w (es ++ fs) ≡ sent_over f w es ++ sent_over f (run w es) fs
 sent_over-append f [] fs w = refl
 sent_over-append f (e ∷ es) fs w =
     ap (λ xs. sent_by f w e ++ xs) (sent_over-append f es fs (happens w e))

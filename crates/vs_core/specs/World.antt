@@ -235,3 +235,7 @@ pipe_next n p = take n (drop p.read p.written)
 
 abbrev pub pipe_read : ℕ → Pipe → Pipe
 pipe_read n p = record p { read = p.read + length (pipe_next n p) }
+
+-- The direction of a flow from guest to host, over a run: what the guest sent on it, and how much of that the host read.
+abbrev pub pipe_of : Flow → World → List Event → Pipe
+pipe_of f w es = record { written = sent_over f w es; read = length (host_read f (run w es).host) }

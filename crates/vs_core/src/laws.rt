@@ -1,6 +1,6 @@
 //! Laws over every list of events from the opening world, and over every call.
 
-ghost use Rattle.std.specs.Prelude.{◌≡◌, ℕ, List, [], false, All, AllPairs, Some, find};
+ghost use Rattle.std.specs.Prelude.{◌≡◌, ◌++◌, ◌∷◌, ℕ, List, [], false, All, AllPairs, Some, find};
 ghost use Rattle.vs_core.specs.declared.flow.Flow.{Flow};
 ghost use Rattle.vs_core.specs.DeviceCalls.{take_tx_of, pump_out_of, fill_rx_of, turn_of};
 ghost use Rattle.vs_core.specs.Driver.{connect_of, send_of, after_recv, poll_of};
@@ -8,7 +8,7 @@ ghost use Rattle.vs_core.specs.Guest.{GuestSlot, has_id, is_flow};
 ghost use Rattle.vs_core.specs.Laws.{HasOwnBytes, HasOtherLabel, IsFunctionOfGuest, IsFunctionOfDevice, StepsSending, SilentSteps, EntriesRise};
 ghost use Rattle.vs_core.specs.Lists.{IsPrefix};
 ghost use Rattle.vs_core.specs.Outside.{Host};
-ghost use Rattle.vs_core.specs.World.{World, Event, Send, opening, run, tx_put, tx_got, rx_put, rx_got, sent_by, sent_over, host_read, guest_call, device_call, taken_on};
+ghost use Rattle.vs_core.specs.World.{World, Event, Send, opening, run, tx_put, tx_got, rx_put, rx_got, sent_by, sent_over, host_read, guest_call, device_call, taken_on, pipe_of, pipe_written};
 
 /// No queue loses, repeats or reorders a packet (Virtio 1.2, section 5.10.6). Over every list of events from the opening world the
 /// packets that were got of it are the first of those that were put.
@@ -20,12 +20,14 @@ pub fn laws_of_the_queues()
 /// What the guest sends is read by the host in order, on its own connection (Virtio 1.2, section 5.10.6). Over every list of events
 /// from the opening world, with a host that has no streams yet: what the host read of a flow is the first of what the guest sent on
 /// it; each stream was made for a flow, and has the first bytes of that flow alone; no two streams were made for one flow. And in
-/// every world a send puts no byte on another flow than its connection's.
+/// every world a send is a write into the pipe of its connection's flow, of the bytes that it took, and puts no byte on another.
 pub fn laws_of_the_streams()
     ensures host_reads { (n : ℕ) (host : Host) (es : List Event) (f : Flow) → host.streams ≡ [] → IsPrefix (host_read f (run (opening n host) es).host) (sent_over f (opening n host) es) }
     ensures own_bytes { (n : ℕ) (host : Host) (es : List Event) → host.streams ≡ [] → All (HasOwnBytes (opening n host) es) (run (opening n host) es).host.streams }
     ensures own_label { (n : ℕ) (host : Host) (es : List Event) → host.streams ≡ [] → AllPairs HasOtherLabel (run (opening n host) es).host.streams }
-    ensures send_is_a_pipe { (w : World) (id : ℕ) (bytes : List ℕ) (s : GuestSlot) (f : Flow) → find (has_id id) w.guest.slots ≡ Some s → is_flow f s.flow ≡ false → sent_by f w (Send id bytes) ≡ [] }
+    ensures send_is_a_write { (w : World) (es : List Event) (id : ℕ) (bytes : List ℕ) (f : Flow)
+        → pipe_of f w (es ++ Send id bytes ∷ []) ≡ pipe_written (sent_by f (run w es) (Send id bytes)) (pipe_of f w es) }
+    ensures send_elsewhere { (w : World) (id : ℕ) (bytes : List ℕ) (s : GuestSlot) (f : Flow) → find (has_id id) w.guest.slots ≡ Some s → is_flow f s.flow ≡ false → sent_by f w (Send id bytes) ≡ [] }
 {}
 
 /// Over rings that are lists, and a host that tells and of which no call fails, each call of driver and device is a function of the

@@ -1,3 +1,4 @@
+use Rattle.vs_core.proofs.WorldPipes.{sends_write}
 use Rattle.vs_core.proofs.WorldRuns.{reads_first, each_own, each_apart, sent_elsewhere}
 use Rattle.vs_core.proofs.laws.laws_of_the_streams.Goals as goal
 
@@ -10,5 +11,8 @@ returns-clause-own_bytes c = each_own
 pub returns-clause-own_label : goal.returns-clause-own_label
 returns-clause-own_label c = each_apart
 
-pub returns-clause-send_is_a_pipe : goal.returns-clause-send_is_a_pipe
-returns-clause-send_is_a_pipe c = sent_elsewhere
+pub returns-clause-send_elsewhere : goal.returns-clause-send_elsewhere
+returns-clause-send_elsewhere c = sent_elsewhere
+
+pub returns-clause-send_is_a_write : goal.returns-clause-send_is_a_write
+returns-clause-send_is_a_write c = sends_write
