@@ -10,7 +10,8 @@ use Rattle.vs_ring_list.specs.Rings.{Rings}
 use Rattle.vs_core.specs.declared.outside.Written.{Written}
 use Rattle.vs_core.specs.declared.outside.Written.TheVariants as written
 use Rattle.vs_core.specs.Interaction.{Ask, Done, Leads}
-use Rattle.vs_core.specs.Outside.{Host, Tells, FaultRose, one_more, write_failed, written_of, after_write, after_close}
+use Rattle.vs_core.specs.Outside.{Host, FaultRose, one_more, write_failed, written_of, after_write, after_close}
+use Rattle.vs_ring_list.specs.Told.{Tells}
 use Rattle.vs_core.specs.Profile.{page_size}
 use Rattle.vs_core.specs.Guest.{counted}
 use Rattle.vs_core.specs.Device.{DeviceEntry, DevicePart, entry_lost}

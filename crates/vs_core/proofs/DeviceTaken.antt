@@ -21,7 +21,8 @@ use Rattle.vs_conn.specs.declared.end.Verdict.TheVariants as verdict
 use Rattle.vs_conn.specs.declared.end.Why.{Why}
 use Rattle.vs_core.specs.Interaction.{Ask, Done, bind, Leads}
 use Rattle.vs_core.specs.Profile.{header_size, reply_limit}
-use Rattle.vs_core.specs.Outside.{Host, Tells}
+use Rattle.vs_core.specs.Outside.{Host}
+use Rattle.vs_ring_list.specs.Told.{Tells}
 use Rattle.vs_core.specs.Guest.{counted}
 use Rattle.vs_core.specs.Device.{DeviceEntry, DevicePart, entry_after, entry_delivered, entry_has, flow_from_guest, is_for_host}
 use Rattle.vs_core.specs.DeviceCalls.{DeviceTree, Take, Read, Return, Close, take_tx_of, after_take, on_chain, failing, on_entry, on_packet, on_stranger, by_flow, closing, with_entry, without_entry, overran}

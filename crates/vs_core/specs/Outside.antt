@@ -3,6 +3,7 @@ use Rattle.std.specs.Prelude.{◌≡◌, ℕ, ◌+◌, ◌-◌, ◌^◌, ◌≤�
 use Rattle.std.specs.List.{list_any}
 use Rattle.std.specs.Option.{option_map, option_map_or}
 use Rattle.std.specs.Str.{bytes_eq}
+use Rattle.vs_ring_list.specs.Told.{Tells}
 use Rattle.vs_core.specs.Path.{path_of}
 use Rattle.vs_core.specs.declared.flow.Flow.{Flow}
 use Rattle.vs_core.specs.declared.outside.Dialed.{Dialed}
@@ -13,11 +14,6 @@ use Rattle.vs_core.specs.declared.outside.SourceRead.{SourceRead}
 use Rattle.vs_core.specs.declared.outside.SourceRead.TheVariants as source_read
 use Rattle.vs_core.specs.declared.outside.SinkWrite.{SinkWrite}
 use Rattle.vs_core.specs.declared.outside.SinkWrite.TheVariants as sink_write
-
--- A call on what may tell what it holds. Where it tells, P holds of what it held before, and the call changes that by f.
-abbrev pub Tells : {T : Type 0} → Option T → Option T → (T → Type 0) → (T → T) → Type 0
-Tells None new P f = new ≡ None
-Tells (Some told) new P f = P told × (new ≡ Some (f told))
 
 -- A count after one more. It stands still at the last number of 64 bits.
 abbrev pub one_more : ℕ → ℕ

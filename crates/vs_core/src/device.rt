@@ -14,10 +14,11 @@ mod table;
 mod transmit;
 mod turns;
 
-use crate::device::entry::{BUFFER_SPACE, Entry};
+use crate::device::entry::Entry;
 pub use crate::device::table::Entries;
 use crate::flow::Flow;
 use crate::path::BASE_MAX;
+use crate::profile::{BUFFER_SPACE, REPLY_LIMIT, TABLE_SIZE};
 use crate::reply::Reply;
 use circular_buffer::HeapCircularBuffer;
 use std::alloc::{AllocError, Global};
@@ -26,12 +27,6 @@ use std::marker::Model;
 use vs_conn::Verdict;
 use vs_header::Header;
 use vs_ring_list::Failure;
-
-/// Entries of the device's table.
-const TABLE_SIZE: usize = 64;
-
-/// At so many owed replies no further packet is taken.
-const REPLY_LIMIT: usize = 64;
 
 /// What taking a transmit packet came to.
 #[derive(Clone, Copy, Debug, PartialEq, Eq)]

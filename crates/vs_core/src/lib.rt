@@ -10,6 +10,7 @@ mod mem_host;
 mod mem_io;
 mod outside;
 mod path;
+mod profile;
 mod reply;
 mod world;
 

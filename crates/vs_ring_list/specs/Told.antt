@@ -1,8 +1,7 @@
--- What a ring tells, where it tells.
+-- What a ring, a host, a source or a sink tells, where it tells.
 use Rattle.std.specs.Prelude.{◌≡◌, Option, Some, None}
-use Rattle.vs_ring_list.specs.Rings.{Rings}
 
--- a call over a ring that told `old` and tells `new`: where it tells, P holds before the call, and f gives what it tells after it
-abbrev pub Tells : Option Rings → Option Rings → (Rings → Type 0) → (Rings → Rings) → Type 0
+-- A call on what told `old` and tells `new`. Where it tells, P holds of what it told before, and the call changes that by f.
+abbrev pub Tells : {T : Type 0} → Option T → Option T → (T → Type 0) → (T → T) → Type 0
 Tells None new P f = new ≡ None
-Tells (Some w) new P f = P w × (new ≡ Some (f w))
+Tells (Some told) new P f = P told × (new ≡ Some (f told))

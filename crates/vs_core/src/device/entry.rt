@@ -8,19 +8,14 @@ ghost use Rattle.vs_core.specs.Device.{device_header, entry_after, entry_written
 ghost use Rattle.vs_core.specs.DeviceEntries.{new_entry};
 
 use crate::flow::Flow;
+use crate::profile::{BUFFER_SPACE, HOST_CID};
 use circular_buffer::HeapCircularBuffer;
 use std::marker::Model;
 use vs_conn::{End, Owed, State, Verdict};
 use vs_header::{Header, Kind, Op};
 
-/// Bytes of buffer space of each connection.
-pub const BUFFER_SPACE: u32 = 65_536;
-
 /// The most bytes that are given to a stream at once.
 pub const PIECE_MAX: usize = 4_096;
-
-/// The CID of the host (Virtio 1.2, section 5.10.4).
-pub const HOST_CID: u64 = 2;
 
 /// An entry of the device's table. Its pending bytes are those that were delivered and that the host's stream hasn't
 /// taken yet.

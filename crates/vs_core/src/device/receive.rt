@@ -14,9 +14,9 @@ ghost use Rattle.vs_core.specs.Told.{DeviceAllows, IsHostOf};
 ghost use Rattle.vs_core.specs.DeviceWords.{situation, with_table, IsIdle, OpensUpTo};
 ghost use Rattle.vs_core.specs.DeviceReceive.{run_of, with_run, served_to, with_served, with_filled};
 
-use crate::device::entry::HOST_CID;
 use crate::device::{Device, Filled};
 use crate::outside::HostNet;
+use crate::profile::HOST_CID;
 use vs_conn::Owed;
 use vs_header::{HEADER_LEN, Header, Op};
 use vs_ring_list::{DeviceRing, Failure, Next, Queue};

@@ -13,11 +13,12 @@ ghost use Rattle.vs_core.specs.DeviceCalls.{after_take, overran, on_entry, on_pa
 ghost use Rattle.vs_core.specs.Told.{DeviceAllows, IsHostOf};
 ghost use Rattle.vs_core.specs.DeviceWords.{situation, with_table, IsAlone, IsIdle, OpensUpTo};
 
-use crate::device::entry::{Entry, HOST_CID};
-use crate::device::{Device, REPLY_LIMIT, Taken};
+use crate::device::entry::Entry;
+use crate::device::{Device, Taken};
 use crate::flow::{Flow, is_assigned};
 use crate::outside::{Dialed, HostNet};
 use crate::path::listen_path;
+use crate::profile::{HOST_CID, REPLY_LIMIT};
 use vs_conn::{Verdict, Why};
 use vs_header::{HEADER_LEN, Header, Kind, Op};
 use vs_ring_list::{Chain, DeviceRing, Failure, Next, Queue};

@@ -9,15 +9,13 @@ ghost use Rattle.vs_core.specs.Driver.{is_spent, put_request, as_they_stand, con
 ghost use Rattle.vs_core.specs.DriverPages.{pages_of};
 ghost use Rattle.vs_core.specs.DriverWords.{Opens, Refuses};
 
-use crate::driver::slot::{BUFFER_SPACE, Slot, packet_header};
+use crate::driver::slot::{Slot, packet_header};
 use crate::driver::{ConnId, ConnectError, Driver};
 use crate::flow::{Flow, is_assigned};
+use crate::profile::{BUFFER_SPACE, TABLE_SIZE};
 use vs_conn::Credit;
 use vs_header::Op;
 use vs_ring_list::DriverRing;
-
-/// Slots of a driver.
-pub const TABLE_SIZE: usize = 64;
 
 /// The last guest port that the driver gives.
 pub const LAST_GUEST_PORT: u32 = 1_073_741_823;

@@ -10,8 +10,7 @@ ghost use Rattle.vs_core.specs.Profile.{first_guest_port, last_guest_port};
 ghost use Rattle.vs_core.specs.Driver.{GuestTree, posted_to, new_guest, new_of};
 
 use crate::driver::Driver;
-use crate::driver::connect::TABLE_SIZE;
-use crate::driver::slot::BUFFER_SPACE;
+use crate::profile::{BUFFER_SPACE, TABLE_SIZE};
 use circular_buffer::HeapCircularBuffer;
 use std::alloc::{AllocError, Global};
 use vs_ring_list::{DriverRing, Page, Queue};

@@ -6,12 +6,9 @@ ghost use Rattle.vs_core.specs.Interaction.{Leads};
 ghost use Rattle.vs_core.specs.Told.{RingAllows, IsRingOf};
 ghost use Rattle.vs_core.specs.Driver.{Post, take_rx_of, take_rx_up_to, reply_of, reply_up_to, poll_of};
 
-use crate::driver::slot::HOST_CID;
 use crate::driver::{Driver, Polled};
+use crate::profile::{HOST_CID, REPLY_LIMIT};
 use vs_ring_list::{DriverRing, Page, Queue, Reaped};
-
-/// At so many owed replies the driver takes no further packet.
-pub const REPLY_LIMIT: usize = 64;
 
 impl Driver {
     /// Takes the packets of the receive queue, at most as many as it has pages and while fewer than 64 replies are owed;

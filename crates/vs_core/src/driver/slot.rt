@@ -9,16 +9,11 @@ ghost use Rattle.vs_core.specs.Profile.{buffer_space};
 
 use crate::driver::{ConnId, ConnectionState, Received};
 use crate::flow::Flow;
+use crate::profile::{BUFFER_SPACE, HOST_CID};
 use circular_buffer::HeapCircularBuffer;
 use std::marker::Model;
 use vs_conn::{Credit, End, Owed, State, Stop, Verdict};
 use vs_header::{Header, Kind, Op};
-
-/// The host's CID (Virtio 1.2, section 5.10.4).
-pub const HOST_CID: u64 = 2;
-
-/// Bytes of buffer space of a connection.
-pub const BUFFER_SPACE: u32 = 65_536;
 
 /// One connection of the driver. It stays when the connection is over, and its unread bytes with it.
 #[derive(Drop)]
