@@ -39,9 +39,15 @@ fn run<W: io::Write>(rt: &HostRuntime, out: &mut WriteSink<W>) -> Result<u8, All
 
 /// The program's words, its name first. Where one isn't text there are none.
 fn words(rt: &HostRuntime) -> Result<Vec<String>, AllocError> {
+    let mut words = Vec::new(rt.alloc());
     match env::args(rt) {
-        Ok(args) => args.collect(rt.alloc()),
-        Err(e) if e.kind() == ErrorKind::OutOfMemory => Err(AllocError),
-        Err(_) => Ok(Vec::new(rt.alloc())),
+        Ok(args) => {
+            for arg in args {
+                words.push(arg)?;
+            }
+        }
+        Err(e) if e.kind() == ErrorKind::OutOfMemory => return Err(AllocError),
+        Err(_) => {}
     }
+    Ok(words)
 }
