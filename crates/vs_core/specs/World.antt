@@ -126,10 +126,6 @@ abbrev pub run : World → List Event → World
 run w [] = w
 run w (e ∷ es) = run (happens w e) es
 
--- From one world to another by some steps.
-abbrev pub Steps : World → World → Type 0
-Steps w v = (es : List Event) × (run w es ≡ v)
-
 -- What a send put on its way on a flow: the bytes that it took.
 abbrev pub taken_on : Flow → Option GuestSlot → List ℕ → Sent → List ℕ
 taken_on f (Some s) bytes (sent.Took n) = if is_flow f s.flow then take n bytes else []

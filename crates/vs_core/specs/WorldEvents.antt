@@ -3,7 +3,7 @@ use Rattle.std.specs.Prelude.{◌≡◌, ◌<◌, false, Some, string_bytes}
 use Rattle.vs_ring_list.specs.Rings.{flight_of, chains_of}
 use Rattle.vs_core.specs.DeviceWords.{IsIdle}
 use Rattle.vs_core.specs.Told.{IsRingOf, IsHostOf}
-use Rattle.vs_core.specs.World.{World, happens}
+use Rattle.vs_core.specs.World.{World, Step}
 use Rattle.vs_core.specs.World.{Event as Happening}
 use Rattle.vs_core.specs.World as on
 use Rattle.vs_core.specs.declared.world.Event.{Event}
@@ -38,7 +38,7 @@ pub record IsReady (w : World) : Type 0 where
 
 -- The event happened, and a further one may.
 pub record Happened (event : Happening) (old new : World) : Type 0 where
-  pub world : new ≡ happens old event
+  pub world : Step old event new
   pub ready : IsReady new
 
 -- The events that take memory: where they don't find it, they end in an error.

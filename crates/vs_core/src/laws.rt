@@ -1,6 +1,6 @@
 //! Laws over every list of events from the opening world, and over every call.
 
-ghost use Rattle.std.specs.Prelude.{◌≡◌, ◌++◌, ◌∷◌, ℕ, List, [], false, All, AllPairs, Some, find};
+ghost use Rattle.std.specs.Prelude.{◌≡◌, ◌++◌, ◌∷◌, ℕ, List, [], false, All, AllPairs, Some, find, take};
 ghost use Rattle.vs_core.specs.declared.flow.Flow.{Flow};
 ghost use Rattle.vs_core.specs.DeviceCalls.{take_tx_of, pump_out_of, fill_rx_of, turn_of};
 ghost use Rattle.vs_core.specs.Driver.{connect_of, send_of, after_recv, poll_of};
@@ -23,6 +23,8 @@ pub fn laws_of_the_queues()
 /// every world a send is a write into the pipe of its connection's flow, of the bytes that it took, and puts no byte on another.
 pub fn laws_of_the_streams()
     ensures host_reads { (n : ℕ) (host : Host) (es : List Event) (f : Flow) → host.streams ≡ [] → IsPrefix (host_read f (run (opening n host) es).host) (sent_over f (opening n host) es) }
+    ensures reads_the_pipe { (n : ℕ) (host : Host) (es : List Event) (f : Flow) → host.streams ≡ []
+        → let p = pipe_of f (opening n host) es in host_read f (run (opening n host) es).host ≡ take p.read p.written }
     ensures own_bytes { (n : ℕ) (host : Host) (es : List Event) → host.streams ≡ [] → All (HasOwnBytes (opening n host) es) (run (opening n host) es).host.streams }
     ensures own_label { (n : ℕ) (host : Host) (es : List Event) → host.streams ≡ [] → AllPairs HasOtherLabel (run (opening n host) es).host.streams }
     ensures send_is_a_write { (w : World) (es : List Event) (id : ℕ) (bytes : List ℕ) (f : Flow)

@@ -1,4 +1,4 @@
-use Rattle.vs_core.proofs.WorldPipes.{sends_write}
+use Rattle.vs_core.proofs.WorldPipes.{sends_write, reads_pipe}
 use Rattle.vs_core.proofs.WorldRuns.{reads_first, each_own, each_apart, sent_elsewhere}
 use Rattle.vs_core.proofs.laws.laws_of_the_streams.Goals as goal
 
@@ -16,3 +16,6 @@ returns-clause-send_elsewhere c = sent_elsewhere
 
 pub returns-clause-send_is_a_write : goal.returns-clause-send_is_a_write
 returns-clause-send_is_a_write c = sends_write
+
+pub returns-clause-reads_the_pipe : goal.returns-clause-reads_the_pipe
+returns-clause-reads_the_pipe c = reads_pipe
