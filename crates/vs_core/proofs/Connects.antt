@@ -2,7 +2,7 @@
 use Rattle.std.proofs.Common.{◌≡◌, ℕ, ◌<◌, false, length, Option, refl, arith, ltb, leb}
 use Rattle.std.specs.Prelude.{Result, nat_le}
 use Rattle.std.proofs.lemmas.Bool.Decides.{nat_tests}
-use Rattle.vs_ring_list.specs.Rings.{Rings}
+use Rattle.vs_first_rings.specs.Rings.{Rings}
 use Rattle.vs_core.specs.declared.driver.ConnectError.{ConnectError}
 use Rattle.vs_core.specs.Interaction.{bind, Leads}
 use Rattle.vs_core.specs.Flow.{is_assigned}

@@ -1,6 +1,6 @@
 -- What a call does where the ring failed before, and where it didn't.
 use Rattle.std.proofs.Common.{◌≡◌, Option, Some, None, ap}
-use Rattle.vs_ring_list.specs.declared.ring_port.Failure.{Failure}
+use Rattle.vs_first_rings.specs.declared.ring_port.Failure.{Failure}
 use Rattle.vs_core.specs.Interaction.{Done}
 use Rattle.vs_core.specs.Device.{DevicePart}
 use Rattle.vs_core.specs.DeviceCalls.{DeviceTree, unless_failed}

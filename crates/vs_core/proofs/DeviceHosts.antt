@@ -11,7 +11,7 @@ use Rattle.vs_core.specs.declared.flow.Flow.{Flow}
 use Rattle.vs_core.specs.declared.outside.Dialed.{Dialed}
 use Rattle.vs_core.specs.declared.outside.Dialed.TheVariants as dialed
 use Rattle.vs_core.specs.Outside.{Host, Stream, stream_at, with_stream, fed, new_stream, is_listened, IsOpen, IsDialed, after_dial, after_write, after_close}
-use Rattle.vs_ring_list.specs.Told.{Tells}
+use Rattle.vs_first_rings.specs.Told.{Tells}
 use Rattle.vs_core.specs.Device.{DeviceEntry}
 use Rattle.vs_core.specs.Told.{HasOpenStream, AreApart, AreAllApart, IsHostOf}
 use Rattle.vs_core.specs.DeviceWords.{IsOpenAt, KeepsOthers, SameStream}

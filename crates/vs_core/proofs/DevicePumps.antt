@@ -6,12 +6,12 @@ use Rattle.std.proofs.lemmas.List.{take_more_set, drop-set-lt}
 use Rattle.std.proofs.lemmas.Option.{slice_get_within, get_or_from_slice_get}
 use Rattle.vs_core.proofs.Leads.{leads_of, leads_bind}
 use Rattle.vs_core.proofs.Lists.{drop_next}
-use Rattle.vs_ring_list.specs.Rings.{Rings}
+use Rattle.vs_first_rings.specs.Rings.{Rings}
 use Rattle.vs_core.specs.declared.outside.Written.{Written}
 use Rattle.vs_core.specs.declared.outside.Written.TheVariants as written
 use Rattle.vs_core.specs.Interaction.{Ask, Done, Leads}
 use Rattle.vs_core.specs.Outside.{Host, FaultRose, one_more, write_failed, written_of, after_write, after_close}
-use Rattle.vs_ring_list.specs.Told.{Tells}
+use Rattle.vs_first_rings.specs.Told.{Tells}
 use Rattle.vs_core.specs.Profile.{page_size}
 use Rattle.vs_core.specs.Guest.{counted}
 use Rattle.vs_core.specs.Device.{DeviceEntry, DevicePart, entry_lost}

@@ -5,13 +5,13 @@ use Rattle.std.proofs.lemmas.Bool.{eq-eqb}
 use Rattle.std.proofs.lemmas.Option.{same_Some, none-some}
 use Rattle.vs_header.specs.declared.Header.{Header}
 use Rattle.vs_header.specs.Packet.{header_bytes}
-use Rattle.vs_ring_list.specs.declared.ring_port.Chain.{Chain}
-use Rattle.vs_ring_list.specs.declared.ring_port.Queue.{Queue}
-use Rattle.vs_ring_list.specs.declared.ring_port.Queue.TheVariants as queue
-use Rattle.vs_ring_list.specs.declared.ring_port.Next.TheVariants as next
-use Rattle.vs_ring_list.specs.Page.{overwritten}
-use Rattle.vs_ring_list.specs.Rings.{Rings, Held, same_queue, same_chain, bytes_in, with_bytes, bytes_held, chain_at, chain_with, next_of, after_next, after_take, after_write, after_done}
-use Rattle.vs_ring_list.specs.Told.{Tells}
+use Rattle.vs_first_rings.specs.declared.ring_port.Chain.{Chain}
+use Rattle.vs_first_rings.specs.declared.ring_port.Queue.{Queue}
+use Rattle.vs_first_rings.specs.declared.ring_port.Queue.TheVariants as queue
+use Rattle.vs_first_rings.specs.declared.ring_port.Next.TheVariants as next
+use Rattle.vs_first_rings.specs.Page.{overwritten}
+use Rattle.vs_first_rings.specs.Rings.{Rings, Held, same_queue, same_chain, bytes_in, with_bytes, bytes_held, chain_at, chain_with, next_of, after_next, after_take, after_write, after_done}
+use Rattle.vs_first_rings.specs.Told.{Tells}
 use Rattle.vs_core.specs.declared.reply.Reply.{Reply}
 use Rattle.vs_core.specs.Interaction.{Leads}
 use Rattle.vs_core.specs.Outside.{Host}

@@ -6,7 +6,7 @@ use Rattle.vs_core.proofs.DeviceTable.{RisesWithin-length}
 use Rattle.std.specs.Option.{unwrap_or}
 use Rattle.std.proofs.lemmas.List.{append-nil, length-take, take_at, drop_at}
 use Rattle.std.proofs.lemmas.Bool.Decides.{nat_tests}
-use Rattle.vs_ring_list.specs.declared.ring_port.Failure.{Failure}
+use Rattle.vs_first_rings.specs.declared.ring_port.Failure.{Failure}
 use Rattle.vs_core.specs.declared.device.Filled.{Filled}
 use Rattle.vs_core.specs.Interaction.{Done, Leads, bind}
 use Rattle.vs_core.specs.Device.{DeviceEntry, DevicePart}

@@ -5,9 +5,9 @@ use Rattle.std.specs.List.{slice_get}
 use Rattle.std.proofs.lemmas.List.{append-nil, take-append-drop, length-take, take_at, drop_at, drop-append-le, get_or-take}
 use Rattle.std.proofs.lemmas.Option.{slice_get_within, get_or_from_slice_get}
 use Rattle.vs_header.specs.declared.Header.{Header}
-use Rattle.vs_conn.specs.End.{owes_of}
-use Rattle.vs_conn.specs.declared.end.Owed.{Owed}
-use Rattle.vs_conn.specs.declared.end.Owed.TheVariants as owed
+use Rattle.vs_first_conn.specs.End.{owes_of}
+use Rattle.vs_first_conn.specs.declared.end.Owed.{Owed}
+use Rattle.vs_first_conn.specs.declared.end.Owed.TheVariants as owed
 use Rattle.vs_core.specs.Interaction.{Ask, Done, Leads}
 use Rattle.vs_core.specs.Guest.{op_of_owed}
 use Rattle.vs_core.specs.Device.{DeviceEntry, DevicePart, device_header, entry_paid}

@@ -6,23 +6,23 @@ use Rattle.std.proofs.lemmas.List.{set-set}
 use Rattle.std.proofs.lemmas.Option.{same_Some, none-some, get_or_from_slice_get}
 use Rattle.std.proofs.lemmas.Bool.{eq-eqb, lt-ltb, le-ltb, lt-leb}
 use Rattle.vs_header.specs.declared.Header.{Header}
-use Rattle.vs_ring_list.specs.Rings.{Rings, bytes_held, after_done}
-use Rattle.vs_ring_list.specs.declared.ring_port.Chain.{Chain}
-use Rattle.vs_ring_list.specs.declared.ring_port.Failure.{Failure}
-use Rattle.vs_ring_list.specs.declared.ring_port.Failure.TheVariants as failure
-use Rattle.vs_ring_list.specs.declared.ring_port.Queue.TheVariants as queue
-use Rattle.vs_ring_list.specs.declared.ring_port.Next.TheVariants as next
+use Rattle.vs_first_rings.specs.Rings.{Rings, bytes_held, after_done}
+use Rattle.vs_first_rings.specs.declared.ring_port.Chain.{Chain}
+use Rattle.vs_first_rings.specs.declared.ring_port.Failure.{Failure}
+use Rattle.vs_first_rings.specs.declared.ring_port.Failure.TheVariants as failure
+use Rattle.vs_first_rings.specs.declared.ring_port.Queue.TheVariants as queue
+use Rattle.vs_first_rings.specs.declared.ring_port.Next.TheVariants as next
 use Rattle.vs_header.specs.Packet.{header_of}
 use Rattle.vs_core.specs.declared.device.Taken.{Taken}
 use Rattle.vs_core.specs.declared.device.Taken.TheVariants as taken
-use Rattle.vs_conn.specs.End.{verdict_of, after_verdict}
-use Rattle.vs_conn.specs.declared.end.Verdict.{Verdict}
-use Rattle.vs_conn.specs.declared.end.Verdict.TheVariants as verdict
-use Rattle.vs_conn.specs.declared.end.Why.{Why}
+use Rattle.vs_first_conn.specs.End.{verdict_of, after_verdict}
+use Rattle.vs_first_conn.specs.declared.end.Verdict.{Verdict}
+use Rattle.vs_first_conn.specs.declared.end.Verdict.TheVariants as verdict
+use Rattle.vs_first_conn.specs.declared.end.Why.{Why}
 use Rattle.vs_core.specs.Interaction.{Ask, Done, bind, Leads}
 use Rattle.vs_core.specs.Profile.{header_size, reply_limit}
 use Rattle.vs_core.specs.Outside.{Host}
-use Rattle.vs_ring_list.specs.Told.{Tells}
+use Rattle.vs_first_rings.specs.Told.{Tells}
 use Rattle.vs_core.specs.Guest.{counted}
 use Rattle.vs_core.specs.Device.{DeviceEntry, DevicePart, entry_after, entry_delivered, entry_has, flow_from_guest, is_for_host}
 use Rattle.vs_core.specs.DeviceCalls.{DeviceTree, Take, Read, Return, Close, take_tx_of, after_take, on_chain, failing, on_entry, on_packet, on_stranger, by_flow, closing, with_entry, without_entry, overran}

@@ -1,9 +1,9 @@
 -- What the steps of making a driver come to.
 use Rattle.std.proofs.Common.{◌≡◌, ℕ, suc, ◌+◌, Bool, true, false, List, [], Option, refl, sym, ap, ◌∙◌, subst, arith}
 use Rattle.std.specs.Prelude.{if◌then◌else◌}
-use Rattle.vs_ring_list.specs.Rings.{Rings, Flight, flight_at, one_more, same_queue}
-use Rattle.vs_ring_list.specs.declared.ring_port.Queue.{Queue}
-use Rattle.vs_ring_list.specs.declared.ring_port.Queue.TheVariants as queue
+use Rattle.vs_first_rings.specs.Rings.{Rings, Flight, flight_at, one_more, same_queue}
+use Rattle.vs_first_rings.specs.declared.ring_port.Queue.{Queue}
+use Rattle.vs_first_rings.specs.declared.ring_port.Queue.TheVariants as queue
 use Rattle.vs_core.specs.Interaction.{Done, Ask, Leads}
 use Rattle.vs_core.specs.Guest.{GuestPart}
 use Rattle.vs_core.specs.Driver.{Post, LoadCid, GuestTree, posted_to, new_guest, new_of}

@@ -2,7 +2,7 @@
 use Rattle.std.proofs.Common.{◌≡◌, ◌≢◌, ℕ, zero, suc, ◌+◌, ◌-◌, ◌==◌, ◌<◌, Bool, true, false, cond, List, [], ◌∷◌, ◌++◌, length, take, min, Option, Some, None, refl, sym, ap, ◌∙◌, subst, arith, eqb}
 use Rattle.std.specs.Bool.{MatchBool}
 use Rattle.std.proofs.lemmas.Bool.Decides.{nat_tests}
-use Rattle.vs_ring_list.specs.declared.ring_port.Queue.TheVariants as queue
+use Rattle.vs_first_rings.specs.declared.ring_port.Queue.TheVariants as queue
 use Rattle.vs_core.specs.Interaction.{Tree, Done, Ask, bind}
 use Rattle.vs_core.specs.Guest.{GuestPart, GuestSlot, one_posted}
 use Rattle.vs_core.specs.Driver.{RingCall, RingAnswer, Post, Reap, GuestTree, reap_of, reap_up_to, reap_all, reaped_page, post_of}

@@ -1,15 +1,15 @@
 -- A host that tells that its dials and writes fail: what leads to an end over it is the play in which they fail. And how much
 -- of a host that flag touches.
 use Rattle.std.proofs.Common.{◌≡◌, ℕ, Bool, true, false, cond, Option, Some, refl, sym, ap, ◌∙◌, subst}
-use Rattle.vs_ring_list.specs.Rings.{Rings, next_of, after_next, bytes_held, after_write as after_fill, after_done}
+use Rattle.vs_first_rings.specs.Rings.{Rings, next_of, after_next, bytes_held, after_write as after_fill, after_done}
 use Rattle.std.specs.Prelude.{List, None, ◌+◌, take, drop, ◌++◌, ◌∷◌, []}
 use Rattle.std.specs.List.{slice_get}
 use Rattle.vs_header.specs.declared.Header.{Header}
-use Rattle.vs_conn.specs.End.{owes_of}
-use Rattle.vs_conn.specs.declared.end.Owed.{Owed}
-use Rattle.vs_conn.specs.declared.end.Owed.TheVariants as owed
-use Rattle.vs_ring_list.specs.declared.ring_port.Next.{Next}
-use Rattle.vs_ring_list.specs.declared.ring_port.Next.TheVariants as next
+use Rattle.vs_first_conn.specs.End.{owes_of}
+use Rattle.vs_first_conn.specs.declared.end.Owed.{Owed}
+use Rattle.vs_first_conn.specs.declared.end.Owed.TheVariants as owed
+use Rattle.vs_first_rings.specs.declared.ring_port.Next.{Next}
+use Rattle.vs_first_rings.specs.declared.ring_port.Next.TheVariants as next
 use Rattle.vs_core.specs.Guest.{op_of_owed}
 use Rattle.vs_core.specs.Device.{DeviceEntry, DevicePart, device_header}
 use Rattle.vs_core.specs.declared.outside.Dialed.{Dialed}

@@ -3,19 +3,19 @@
 use Rattle.std.proofs.Common.{◌≡◌, ◌+◌, ◌-◌, ◌==◌, ◌&&◌, ◌||◌, ℕ, zero, suc, Bool, true, false, cond, nat_lt, nat_le, List, [], ◌∷◌, ◌++◌, length, set, take, drop, find, Contains, Option, Some, None, refl, sym, ap, ◌∙◌, subst, arith}
 use Rattle.vs_header.specs.declared.Header.{Header}
 use Rattle.vs_header.specs.Packet.{header_bytes, header_of}
-use Rattle.vs_conn.specs.declared.end.Verdict.{Verdict}
-use Rattle.vs_conn.specs.declared.end.Verdict.TheVariants as verdict
-use Rattle.vs_conn.specs.declared.end.Owed.{Owed}
-use Rattle.vs_conn.specs.declared.end.Owed.TheVariants as owed
-use Rattle.vs_ring_list.specs.declared.ring_port.Chain.{Chain}
-use Rattle.vs_ring_list.specs.declared.ring_port.Next.{Next}
-use Rattle.vs_ring_list.specs.declared.ring_port.Next.TheVariants as next
-use Rattle.vs_ring_list.specs.declared.ring_port.Queue.{Queue}
-use Rattle.vs_ring_list.specs.declared.ring_port.Queue.TheVariants as queue
-use Rattle.vs_ring_list.specs.Rings.{Rings, flight_of, queue_of, chains_of, chain_with, chain_at, after_take, after_write, after_done, bytes_held, returned, released}
-use Rattle.vs_ring_list.specs.Page.{overwritten}
-use Rattle.vs_ring_list.specs.declared.ring_port.Failure.{Failure}
-use Rattle.vs_ring_list.specs.declared.ring_port.Failure.TheVariants as failure
+use Rattle.vs_first_conn.specs.declared.end.Verdict.{Verdict}
+use Rattle.vs_first_conn.specs.declared.end.Verdict.TheVariants as verdict
+use Rattle.vs_first_conn.specs.declared.end.Owed.{Owed}
+use Rattle.vs_first_conn.specs.declared.end.Owed.TheVariants as owed
+use Rattle.vs_first_rings.specs.declared.ring_port.Chain.{Chain}
+use Rattle.vs_first_rings.specs.declared.ring_port.Next.{Next}
+use Rattle.vs_first_rings.specs.declared.ring_port.Next.TheVariants as next
+use Rattle.vs_first_rings.specs.declared.ring_port.Queue.{Queue}
+use Rattle.vs_first_rings.specs.declared.ring_port.Queue.TheVariants as queue
+use Rattle.vs_first_rings.specs.Rings.{Rings, flight_of, queue_of, chains_of, chain_with, chain_at, after_take, after_write, after_done, bytes_held, returned, released}
+use Rattle.vs_first_rings.specs.Page.{overwritten}
+use Rattle.vs_first_rings.specs.declared.ring_port.Failure.{Failure}
+use Rattle.vs_first_rings.specs.declared.ring_port.Failure.TheVariants as failure
 use Rattle.vs_core.specs.declared.device.Turn.{Turn}
 use Rattle.vs_core.specs.declared.device.Turn.TheVariants as turn
 use Rattle.vs_core.specs.declared.reply.Reply.{Reply}
@@ -23,8 +23,8 @@ use Rattle.vs_core.specs.Reply.{reply_header}
 use Rattle.vs_core.specs.declared.device.Taken.{Taken}
 use Rattle.vs_core.specs.declared.device.Taken.TheVariants as taken
 use Rattle.vs_core.specs.Profile.{header_size, page_size, host_cid, reply_limit}
-use Rattle.vs_ring_list.proofs.Flights.{flight_of-take, flight_of-write, flight_of-done}
-use Rattle.vs_ring_list.proofs.Held.{chains_of-with_bytes}
+use Rattle.vs_first_rings.proofs.Flights.{flight_of-take, flight_of-write, flight_of-done}
+use Rattle.vs_first_rings.proofs.Held.{chains_of-with_bytes}
 use Rattle.vs_core.specs.declared.outside.Written.{Written}
 use Rattle.vs_core.specs.declared.outside.Written.TheVariants as written
 use Rattle.vs_core.specs.declared.outside.Dialed.TheVariants as dialed
@@ -34,7 +34,7 @@ use Rattle.std.specs.List.{slice_get}
 use Rattle.vs_core.specs.Interaction.{Tree, Done, Ask, bind, played}
 use Rattle.vs_core.specs.Outside.{Host, dialed_of, after_dial, written_of, after_write as after_write_to, after_close}
 use Rattle.vs_core.specs.Device.{DeviceEntry, DevicePart, entry_has, flow_from_guest, is_for_host, is_full, device_header}
-use Rattle.vs_conn.specs.End.{verdict_of, owes_of}
+use Rattle.vs_first_conn.specs.End.{verdict_of, owes_of}
 use Rattle.vs_core.specs.Guest.{op_of_owed}
 use Rattle.vs_core.specs.Flow.{is_assigned}
 use Rattle.vs_core.specs.DeviceCalls.{DeviceCall, DeviceAnswer, DeviceTree, Take, Read, Write, Return, Dial, Close, closing, on_entry, on_request, on_stranger, by_flow, on_packet, on_chain, failing, unless_failed, after_take as after_take_tx, is_packet, take_tx_of, take_tx_up_to, Give, after_give, pump_of, pump_each, pump_out_of, after_take_rx, put_of, answer_with, answer_of, answer_up_to, after_put, serve_with, Served, serve_of, serve_each, entries_from, entries_below, serve_round, fill_of, turned_of, turn_of}

@@ -6,8 +6,8 @@ use Rattle.std.proofs.lemmas.List.{get_or-drop, get_or-take, take_min}
 use Rattle.std.proofs.Math.Seq.{take-length}
 use Rattle.vs_header.specs.declared.Header.{Header}
 use Rattle.vs_header.specs.Packet.{field_at, header_of}
-use Rattle.vs_conn.specs.declared.end.Verdict.{Verdict}
-use Rattle.vs_conn.specs.declared.end.Verdict.TheVariants as verdict
+use Rattle.vs_first_conn.specs.declared.end.Verdict.{Verdict}
+use Rattle.vs_first_conn.specs.declared.end.Verdict.TheVariants as verdict
 use Rattle.vs_core.specs.Reply.{reply_to}
 use Rattle.vs_core.specs.Guest.{GuestPart, GuestSlot, has_flow, flow_to_guest, slot_after, on_known, on_flow, is_whole, received}
 

@@ -1,8 +1,8 @@
 -- What the steps of the driver's transmit pages come to.
 use Rattle.std.proofs.Common.{◌≡◌, ◌≢◌, ℕ, suc, ◌<◌, ◌+◌, ◌-◌, ◌==◌, Bool, true, false, List, [], ◌∷◌, ◌++◌, length, Option, Some, None, refl, sym, ap, ◌∙◌, subst, arith}
 use Rattle.std.proofs.lemmas.Bool.Decides.{nat_tests}
-use Rattle.vs_ring_list.specs.Rings.{Rings}
-use Rattle.vs_ring_list.specs.declared.ring_port.Queue.TheVariants as queue
+use Rattle.vs_first_rings.specs.Rings.{Rings}
+use Rattle.vs_first_rings.specs.declared.ring_port.Queue.TheVariants as queue
 use Rattle.vs_core.specs.Interaction.{Tree, Done, Ask, bind, Leads}
 use Rattle.vs_core.specs.Guest.{GuestPart, one_posted}
 use Rattle.vs_core.specs.Driver.{RingCall, RingAnswer, Post, Reap, GuestTree, post_of, reap_of, reap_up_to, reaped_page}

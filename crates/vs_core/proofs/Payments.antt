@@ -5,10 +5,10 @@ use Rattle.std.proofs.lemmas.Grind.{drop_more_same, take-set_at}
 use Rattle.vs_header.specs.declared.Header.{Header}
 use Rattle.vs_header.specs.declared.Op.{Op}
 use Rattle.vs_header.specs.Packet.{header_bytes}
-use Rattle.vs_conn.specs.declared.end.Owed.{Owed}
-use Rattle.vs_conn.specs.declared.end.Owed.TheVariants as owed
-use Rattle.vs_ring_list.specs.Rings.{Rings}
-use Rattle.vs_ring_list.specs.declared.ring_port.Queue.TheVariants as queue
+use Rattle.vs_first_conn.specs.declared.end.Owed.{Owed}
+use Rattle.vs_first_conn.specs.declared.end.Owed.TheVariants as owed
+use Rattle.vs_first_rings.specs.Rings.{Rings}
+use Rattle.vs_first_rings.specs.declared.ring_port.Queue.TheVariants as queue
 use Rattle.vs_core.specs.Interaction.{Tree, Done, Ask, bind, Leads}
 use Rattle.vs_core.specs.Guest.{GuestPart, GuestSlot, guest_header, op_of_owed, one_posted, slot_owes, slot_paid}
 use Rattle.vs_core.specs.Driver.{GuestTree, Paid, Post, post_of, pay_with, pay_of, pay_each}

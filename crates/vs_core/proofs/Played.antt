@@ -1,7 +1,7 @@
 -- Where ring and host tell what they hold, a conversation that leads to an end is the one that is played over it.
 use Rattle.std.proofs.Common.{◌≡◌, ◌+◌, ◌≤◌, ◌<◌, ℕ, Bool, true, false, List, [], Option, Some, None, refl, sym, ap, ◌∙◌, subst, arith}
 use Rattle.std.proofs.lemmas.Bool.Decides.{nat_tests}
-use Rattle.vs_ring_list.specs.Rings.{Rings, posted, reaped_of, after_reap, next_of, after_next, bytes_held, after_write, after_done}
+use Rattle.vs_first_rings.specs.Rings.{Rings, posted, reaped_of, after_reap, next_of, after_next, bytes_held, after_write, after_done}
 use Rattle.vs_core.specs.Interaction.{Tree, Done, Ask, Leads, played}
 use Rattle.vs_core.specs.Outside.{Host, FaultRose, one_more, dial_failed, write_failed, after_close}
 use Rattle.vs_core.specs.declared.outside.Dialed.TheVariants as dialed

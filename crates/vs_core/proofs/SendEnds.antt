@@ -5,14 +5,14 @@ use Rattle.std.proofs.lemmas.Bool.Decides.{nat_tests}
 use Rattle.std.proofs.lemmas.List.{length-take}
 use Rattle.vs_header.specs.declared.Op.TheVariants as op
 use Rattle.vs_header.specs.Packet.{header_bytes}
-use Rattle.vs_conn.specs.declared.end.Stop.{Stop}
-use Rattle.vs_conn.specs.declared.end.Stop.TheVariants as stop
+use Rattle.vs_first_conn.specs.declared.end.Stop.{Stop}
+use Rattle.vs_first_conn.specs.declared.end.Stop.TheVariants as stop
 use Rattle.vs_core.specs.declared.driver.Sent.{Sent}
 use Rattle.vs_core.specs.declared.driver.Sent.TheVariants as sent
 use Rattle.vs_core.specs.Interaction.{Done, bind, Leads}
 use Rattle.vs_core.specs.Guest.{GuestPart, GuestSlot, has_id, one_posted, guest_header, slot_may_send, sent_on}
 use Rattle.vs_core.specs.Driver.{GuestTree, reap_all, post_of, put_payload, payload_of, send_open, send_on, send_slot, send_of}
-use Rattle.vs_ring_list.specs.Rings.{Rings}
+use Rattle.vs_first_rings.specs.Rings.{Rings}
 use Rattle.vs_core.specs.Told.{RingAllows}
 use Rattle.vs_core.specs.DriverWords.{ChangesPages, Sends, send_limit_of, no_credit_of}
 use Rattle.vs_core.proofs.Leads.{AllEnds, end_of, ends_weaker, ends_bind}

@@ -5,7 +5,7 @@ use Rattle.std.proofs.lemmas.Bool.Decides.{nat_tests}
 use Rattle.vs_header.specs.declared.Header.{Header}
 use Rattle.vs_header.specs.declared.Op.TheVariants as op
 use Rattle.vs_header.specs.Packet.{header_bytes}
-use Rattle.vs_ring_list.specs.Rings.{Rings}
+use Rattle.vs_first_rings.specs.Rings.{Rings}
 use Rattle.vs_core.specs.declared.driver.Sent.{Sent}
 use Rattle.vs_core.specs.declared.driver.Sent.TheVariants as sent
 use Rattle.vs_core.specs.Interaction.{bind, Leads}

@@ -1,13 +1,13 @@
 -- A call of the driver or the device is a step of the world, and the next step may follow.
 use Rattle.std.proofs.Common.{◌≡◌, ℕ, Bool, true, false, cond, List, [], ◌∷◌, ◌++◌, ◌+◌, take, drop, Option, Some, None, refl, sym, ap, ◌∙◌, subst}
 use Rattle.std.specs.List.{slice_get}
-use Rattle.vs_ring_list.specs.Rings.{Rings, Flight, empty_rings, flight_of, chains_of}
-use Rattle.vs_ring_list.specs.declared.ring_port.Next.{Next}
-use Rattle.vs_ring_list.specs.declared.ring_port.Next.TheVariants as next
+use Rattle.vs_first_rings.specs.Rings.{Rings, Flight, empty_rings, flight_of, chains_of}
+use Rattle.vs_first_rings.specs.declared.ring_port.Next.{Next}
+use Rattle.vs_first_rings.specs.declared.ring_port.Next.TheVariants as next
 use Rattle.vs_header.specs.declared.Header.{Header}
-use Rattle.vs_conn.specs.End.{owes_of}
-use Rattle.vs_conn.specs.declared.end.Owed.{Owed}
-use Rattle.vs_conn.specs.declared.end.Owed.TheVariants as owed
+use Rattle.vs_first_conn.specs.End.{owes_of}
+use Rattle.vs_first_conn.specs.declared.end.Owed.{Owed}
+use Rattle.vs_first_conn.specs.declared.end.Owed.TheVariants as owed
 use Rattle.vs_core.specs.declared.reply.Reply.{Reply}
 use Rattle.vs_core.specs.Reply.{reply_header}
 use Rattle.vs_core.specs.Profile.{host_cid, first_guest_port}

@@ -1,8 +1,8 @@
 -- The driver's calls as lists of the world's steps: each reaps what came back, and then makes its own step.
 use Rattle.std.proofs.Common.{◌≡◌, ℕ, zero, suc, true, false, cond, eqb, leb, List, [], length, take, find, Option, Some, None, Result, Ok, Err, refl, sym, ap, ◌∙◌, subst}
-use Rattle.vs_ring_list.specs.Rings.{Rings}
-use Rattle.vs_conn.specs.declared.end.Stop.{Stop}
-use Rattle.vs_conn.specs.declared.end.Stop.TheVariants as stop
+use Rattle.vs_first_rings.specs.Rings.{Rings}
+use Rattle.vs_first_conn.specs.declared.end.Stop.{Stop}
+use Rattle.vs_first_conn.specs.declared.end.Stop.TheVariants as stop
 use Rattle.vs_core.specs.declared.flow.Flow.{Flow}
 use Rattle.vs_core.specs.declared.driver.Sent.{Sent}
 use Rattle.vs_core.specs.declared.driver.Sent.TheVariants as sent

@@ -1,9 +1,9 @@
 -- The driver's poll as a list of the world's steps: it takes packets, reaps pages, puts replies, and each slot puts what it owes.
 use Rattle.std.proofs.Common.{◌≡◌, ℕ, zero, suc, ◌+◌, Bool, true, false, cond, eqb, List, [], ◌∷◌, ◌++◌, length, set, Option, Some, None, refl, sym, ap, ◌∙◌, subst, append_assoc, append-nil}
 use Rattle.vs_header.specs.Packet.{header_bytes}
-use Rattle.vs_conn.specs.declared.end.Owed.{Owed}
-use Rattle.vs_ring_list.specs.declared.ring_port.Queue.TheVariants as queue
-use Rattle.vs_ring_list.specs.Rings.{Rings}
+use Rattle.vs_first_conn.specs.declared.end.Owed.{Owed}
+use Rattle.vs_first_rings.specs.declared.ring_port.Queue.TheVariants as queue
+use Rattle.vs_first_rings.specs.Rings.{Rings}
 use Rattle.vs_core.specs.Interaction.{Done, Ask, bind, played}
 use Rattle.vs_core.specs.Guest.{GuestSlot, GuestPart, guest_header, op_of_owed, slot_paid, slot_owes, one_posted}
 use Rattle.vs_core.specs.Driver.{GuestTree, Post, take_rx_of, take_rx_up_to, reap_all, reply_of, reply_up_to, Paid, pay_with, pay_of, pay_each, poll_of}

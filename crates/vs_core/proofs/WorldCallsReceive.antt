@@ -4,14 +4,14 @@ use Rattle.std.proofs.Common.{◌≡◌, ℕ, zero, suc, ◌+◌, Bool, true, fa
 use Rattle.std.proofs.lemmas.List.{take-append-drop}
 use Rattle.vs_header.specs.declared.Header.{Header}
 use Rattle.vs_header.specs.Packet.{header_bytes}
-use Rattle.vs_conn.specs.End.{owes_of}
-use Rattle.vs_conn.specs.declared.end.Owed.{Owed}
-use Rattle.vs_conn.specs.declared.end.Owed.TheVariants as owed
-use Rattle.vs_ring_list.specs.declared.ring_port.Failure.{Failure}
-use Rattle.vs_ring_list.specs.declared.ring_port.Next.{Next}
-use Rattle.vs_ring_list.specs.declared.ring_port.Next.TheVariants as next
-use Rattle.vs_ring_list.specs.declared.ring_port.Queue.TheVariants as queue
-use Rattle.vs_ring_list.specs.Rings.{Rings}
+use Rattle.vs_first_conn.specs.End.{owes_of}
+use Rattle.vs_first_conn.specs.declared.end.Owed.{Owed}
+use Rattle.vs_first_conn.specs.declared.end.Owed.TheVariants as owed
+use Rattle.vs_first_rings.specs.declared.ring_port.Failure.{Failure}
+use Rattle.vs_first_rings.specs.declared.ring_port.Next.{Next}
+use Rattle.vs_first_rings.specs.declared.ring_port.Next.TheVariants as next
+use Rattle.vs_first_rings.specs.declared.ring_port.Queue.TheVariants as queue
+use Rattle.vs_first_rings.specs.Rings.{Rings}
 use Rattle.vs_core.specs.declared.device.Filled.{Filled}
 use Rattle.vs_core.specs.declared.device.Turn.{Turn}
 use Rattle.vs_core.specs.declared.device.Turn.TheVariants as turn

@@ -1,8 +1,8 @@
 -- The opening world: a driver just made, and nothing in flight.
 use Rattle.std.proofs.Common.{◌≡◌, ℕ, zero, suc, [], ap, refl}
-use Rattle.vs_ring_list.specs.declared.ring_port.Queue.{Queue}
-use Rattle.vs_ring_list.specs.declared.ring_port.Queue.TheVariants as queue
-use Rattle.vs_ring_list.specs.Rings.{Rings, posted, empty_rings}
+use Rattle.vs_first_rings.specs.declared.ring_port.Queue.{Queue}
+use Rattle.vs_first_rings.specs.declared.ring_port.Queue.TheVariants as queue
+use Rattle.vs_first_rings.specs.Rings.{Rings, posted, empty_rings}
 use Rattle.vs_core.specs.Profile.{first_guest_port}
 use Rattle.vs_core.specs.Interaction.{bind, played}
 use Rattle.vs_core.specs.Guest.{GuestPart}

@@ -4,8 +4,8 @@
 use Rattle.std.proofs.Common.{◌≡◌, ℕ, ◌+◌, ◌-◌, ◌^◌, ◌<◌, ◌≤◌, Bool, true, false, ◌&&◌, cond, eqb, List, [], ◌∷◌, ◌++◌, length, filter, flat_map, slice_get, Option, Some}
 use Rattle.std.specs.List.{AllByRecursion}
 use Rattle.vs_header.specs.Packet.{Packet}
-use Rattle.vs_conn.specs.declared.end.State.{State}
-use Rattle.vs_conn.specs.declared.end.State.TheVariants as state
+use Rattle.vs_first_conn.specs.declared.end.State.{State}
+use Rattle.vs_first_conn.specs.declared.end.State.TheVariants as state
 use Rattle.vs_core.specs.declared.flow.Flow.{Flow}
 use Rattle.vs_core.specs.Profile.{last_guest_port}
 use Rattle.vs_core.specs.Lists.{IsPrefix}

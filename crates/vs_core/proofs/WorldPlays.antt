@@ -1,17 +1,17 @@
 -- How a call's conversation is played: by the cases of what it asks next.
 use Rattle.std.proofs.Common.{Option, Some, None, ◌+◌, leb, length, take, drop, set, if◌then◌else◌, ◌≡◌, ℕ, Bool, true, false, ◌&&◌, cond, eqb, eq-eqb, List, [], ◌∷◌, ◌++◌, refl, ap, ◌∙◌}
 use Rattle.std.proofs.lemmas.Bool.{cond_both, and_from}
-use Rattle.vs_ring_list.specs.declared.ring_port.Queue.{Queue}
-use Rattle.vs_ring_list.specs.declared.ring_port.Queue.TheVariants as queue
-use Rattle.vs_ring_list.specs.declared.ring_port.Chain.{Chain}
-use Rattle.vs_ring_list.specs.Page.{overwritten}
-use Rattle.vs_ring_list.specs.Rings.{Rings, Held, same_queue, same_chain, bytes_in, with_bytes, held_by, posted, next_of, after_next, after_write as after_fill, after_done}
+use Rattle.vs_first_rings.specs.declared.ring_port.Queue.{Queue}
+use Rattle.vs_first_rings.specs.declared.ring_port.Queue.TheVariants as queue
+use Rattle.vs_first_rings.specs.declared.ring_port.Chain.{Chain}
+use Rattle.vs_first_rings.specs.Page.{overwritten}
+use Rattle.vs_first_rings.specs.Rings.{Rings, Held, same_queue, same_chain, bytes_in, with_bytes, held_by, posted, next_of, after_next, after_write as after_fill, after_done}
 use Rattle.vs_core.specs.declared.outside.Dialed.TheVariants as dialed
 use Rattle.vs_core.specs.declared.outside.Written.TheVariants as written
 use Rattle.vs_core.specs.Outside.{Host, dialed_of, after_dial, written_of, after_write, after_close}
 use Rattle.vs_header.specs.declared.Header.{Header}
 use Rattle.vs_header.specs.Packet.{header_bytes}
-use Rattle.vs_ring_list.specs.declared.ring_port.Failure.{Failure}
+use Rattle.vs_first_rings.specs.declared.ring_port.Failure.{Failure}
 use Rattle.vs_core.specs.declared.device.Taken.{Taken}
 use Rattle.vs_core.specs.declared.device.Taken.TheVariants as taken
 use Rattle.vs_core.specs.Profile.{reply_limit}

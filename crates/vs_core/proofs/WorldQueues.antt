@@ -2,14 +2,14 @@
 -- packets that were in flight and those that were put are those that were got and those still in flight.
 use Rattle.std.proofs.Common.{◌≡◌, ℕ, suc, ◌-◌, Bool, true, false, ◌&&◌, ◌||◌, eqb, leb, ltb, List, [], ◌∷◌, ◌++◌, length, slice_get, find, Option, Some, None, Result, Ok, Err, refl, sym, ap, ◌∙◌, subst, arith, append_assoc, append-nil}
 use Rattle.std.proofs.lemmas.List.{drop_at, drop_all, length_push}
-use Rattle.vs_ring_list.specs.declared.ring_port.Queue.TheVariants as queue
-use Rattle.vs_ring_list.specs.Rings.{Rings, chain_with, after_done, posted}
-use Rattle.vs_conn.specs.declared.end.Stop.{Stop}
-use Rattle.vs_conn.specs.declared.end.Stop.TheVariants as stop
-use Rattle.vs_conn.specs.declared.end.Owed.{Owed}
-use Rattle.vs_conn.specs.declared.end.Owed.TheVariants as owed
+use Rattle.vs_first_rings.specs.declared.ring_port.Queue.TheVariants as queue
+use Rattle.vs_first_rings.specs.Rings.{Rings, chain_with, after_done, posted}
+use Rattle.vs_first_conn.specs.declared.end.Stop.{Stop}
+use Rattle.vs_first_conn.specs.declared.end.Stop.TheVariants as stop
+use Rattle.vs_first_conn.specs.declared.end.Owed.{Owed}
+use Rattle.vs_first_conn.specs.declared.end.Owed.TheVariants as owed
 use Rattle.vs_core.specs.declared.reply.Reply.{Reply}
-use Rattle.vs_ring_list.specs.declared.ring_port.Failure.{Failure}
+use Rattle.vs_first_rings.specs.declared.ring_port.Failure.{Failure}
 use Rattle.vs_core.specs.declared.outside.Written.{Written}
 use Rattle.vs_core.specs.declared.outside.Written.TheVariants as written
 use Rattle.vs_core.specs.Outside.{Host, written_of, after_write}
@@ -22,12 +22,12 @@ use Rattle.vs_core.specs.Path.{path_of}
 use Rattle.vs_core.specs.Reply.{reply_header}
 use Rattle.vs_core.specs.Device.{device_header, DevicePart, DeviceEntry, flow_from_guest, is_for_host, is_full, entry_has}
 use Rattle.vs_core.specs.DeviceCalls.{DeviceTree, serve_with, after_put, answer_of, Take, Give, after_give, pump_of, answer_with, Dial, after_dial, on_entry, on_stranger, by_flow, on_packet, on_chain, after_take, take_tx_of}
-use Rattle.vs_conn.specs.End.{verdict_of, owes_of}
-use Rattle.vs_conn.specs.declared.end.Verdict.{Verdict}
-use Rattle.vs_conn.specs.declared.end.Verdict.TheVariants as verdict
+use Rattle.vs_first_conn.specs.End.{verdict_of, owes_of}
+use Rattle.vs_first_conn.specs.declared.end.Verdict.{Verdict}
+use Rattle.vs_first_conn.specs.declared.end.Verdict.TheVariants as verdict
 use Rattle.vs_header.specs.declared.Header.{Header}
 use Rattle.vs_header.specs.Packet.{header_bytes}
-use Rattle.vs_ring_list.specs.declared.ring_port.Chain.{Chain}
+use Rattle.vs_first_rings.specs.declared.ring_port.Chain.{Chain}
 use Rattle.vs_core.specs.Told.{ring_answer}
 use Rattle.vs_core.specs.World.{World, Event, device_step, happens, run, added, removed, pay_at, pump_at, serve_at, tx_put, tx_got, rx_put, rx_got}
 use Rattle.vs_core.proofs.WorldPlays.{played-bind, post_cases, post_then_cases, if_cases, if_then_cases, put_cases, put_then_cases, answer_on, played_on, rx_back, paid_into, pay_slot, tx_given, take_unless, pump_entry, served_into, serve_entry}

@@ -4,17 +4,17 @@ use Rattle.std.proofs.lemmas.List.{map_push}
 use Rattle.std.proofs.lemmas.Option.{slice_get_within}
 use Rattle.vs_header.specs.declared.Header.{Header}
 use Rattle.vs_header.specs.Packet.{header_of}
-use Rattle.vs_conn.specs.End.{verdict_of, owes_of}
-use Rattle.vs_conn.specs.declared.end.Verdict.{Verdict}
-use Rattle.vs_conn.specs.declared.end.Verdict.TheVariants as verdict
-use Rattle.vs_conn.specs.declared.end.Why.{Why}
-use Rattle.vs_conn.specs.declared.end.Why.TheVariants as why
-use Rattle.vs_conn.specs.declared.end.Owed.{Owed}
-use Rattle.vs_conn.specs.declared.end.Owed.TheVariants as owed
-use Rattle.vs_ring_list.specs.declared.ring_port.Chain.{Chain}
-use Rattle.vs_ring_list.specs.declared.ring_port.Failure.{Failure}
-use Rattle.vs_ring_list.specs.declared.ring_port.Next.{Next}
-use Rattle.vs_ring_list.specs.declared.ring_port.Next.TheVariants as next
+use Rattle.vs_first_conn.specs.End.{verdict_of, owes_of}
+use Rattle.vs_first_conn.specs.declared.end.Verdict.{Verdict}
+use Rattle.vs_first_conn.specs.declared.end.Verdict.TheVariants as verdict
+use Rattle.vs_first_conn.specs.declared.end.Why.{Why}
+use Rattle.vs_first_conn.specs.declared.end.Why.TheVariants as why
+use Rattle.vs_first_conn.specs.declared.end.Owed.{Owed}
+use Rattle.vs_first_conn.specs.declared.end.Owed.TheVariants as owed
+use Rattle.vs_first_rings.specs.declared.ring_port.Chain.{Chain}
+use Rattle.vs_first_rings.specs.declared.ring_port.Failure.{Failure}
+use Rattle.vs_first_rings.specs.declared.ring_port.Next.{Next}
+use Rattle.vs_first_rings.specs.declared.ring_port.Next.TheVariants as next
 use Rattle.vs_core.specs.declared.outside.Dialed.{Dialed}
 use Rattle.vs_core.specs.declared.outside.Dialed.TheVariants as dialed
 use Rattle.vs_core.specs.declared.outside.Written.{Written}

@@ -3,18 +3,18 @@ use Rattle.std.proofs.Common.{◌≡◌, ℕ, ◌+◌, ◌-◌, ◌≤◌, Bool,
 use Rattle.std.proofs.lemmas.Bool.{cases_Bool, and_parts, and_from, false≢true}
 use Rattle.std.proofs.lemmas.List.{map-append, length-map}
 use Rattle.vs_header.specs.Packet.{Packet, header_of}
-use Rattle.vs_conn.specs.End.{verdict_of}
-use Rattle.vs_conn.specs.declared.end.Verdict.{Verdict}
-use Rattle.vs_conn.specs.declared.end.Verdict.TheVariants as verdict
-use Rattle.vs_conn.specs.declared.end.Why.{Why}
-use Rattle.vs_conn.specs.declared.end.Why.TheVariants as why
-use Rattle.vs_ring_list.specs.declared.ring_port.Queue.TheVariants as queue
-use Rattle.vs_ring_list.specs.declared.ring_port.Chain.{Chain}
-use Rattle.vs_ring_list.specs.declared.ring_port.Failure.{Failure}
-use Rattle.vs_ring_list.specs.Rings.{Rings, after_next, bytes_held, chain_with, held_by, after_done}
+use Rattle.vs_first_conn.specs.End.{verdict_of}
+use Rattle.vs_first_conn.specs.declared.end.Verdict.{Verdict}
+use Rattle.vs_first_conn.specs.declared.end.Verdict.TheVariants as verdict
+use Rattle.vs_first_conn.specs.declared.end.Why.{Why}
+use Rattle.vs_first_conn.specs.declared.end.Why.TheVariants as why
+use Rattle.vs_first_rings.specs.declared.ring_port.Queue.TheVariants as queue
+use Rattle.vs_first_rings.specs.declared.ring_port.Chain.{Chain}
+use Rattle.vs_first_rings.specs.declared.ring_port.Failure.{Failure}
+use Rattle.vs_first_rings.specs.Rings.{Rings, after_next, bytes_held, chain_with, held_by, after_done}
 use Rattle.vs_core.specs.declared.flow.Flow.{Flow}
-use Rattle.vs_ring_list.specs.declared.ring_port.Next.TheVariants as next
-use Rattle.vs_conn.specs.End.{answering}
+use Rattle.vs_first_rings.specs.declared.ring_port.Next.TheVariants as next
+use Rattle.vs_first_conn.specs.End.{answering}
 use Rattle.vs_core.specs.Profile.{buffer_space}
 use Rattle.vs_core.specs.declared.outside.Dialed.TheVariants as dialed
 use Rattle.vs_core.specs.Flow.{is_assigned}

@@ -4,15 +4,15 @@ use Rattle.std.proofs.lemmas.Bool.{cond_both, and_right}
 use Rattle.vs_header.specs.declared.Header.{Header}
 use Rattle.vs_header.specs.Op.{op_named}
 use Rattle.vs_header.specs.Packet.{Packet}
-use Rattle.vs_conn.specs.declared.credit.Credit.{Credit}
-use Rattle.vs_conn.specs.declared.end.State.{State}
-use Rattle.vs_conn.specs.declared.end.State.TheVariants as state
-use Rattle.vs_conn.specs.declared.end.Verdict.{Verdict}
-use Rattle.vs_conn.specs.declared.end.Verdict.TheVariants as verdict
-use Rattle.vs_conn.specs.declared.end.Why.{Why}
-use Rattle.vs_conn.specs.declared.end.Why.TheVariants as why
-use Rattle.vs_conn.specs.Credit.{room_of}
-use Rattle.vs_conn.specs.End.{ConnectionEnd, is_stream, is_rst, op_verdict, open_verdict, state_verdict, verdict_of, end_after, after_verdict}
+use Rattle.vs_first_conn.specs.declared.credit.Credit.{Credit}
+use Rattle.vs_first_conn.specs.declared.end.State.{State}
+use Rattle.vs_first_conn.specs.declared.end.State.TheVariants as state
+use Rattle.vs_first_conn.specs.declared.end.Verdict.{Verdict}
+use Rattle.vs_first_conn.specs.declared.end.Verdict.TheVariants as verdict
+use Rattle.vs_first_conn.specs.declared.end.Why.{Why}
+use Rattle.vs_first_conn.specs.declared.end.Why.TheVariants as why
+use Rattle.vs_first_conn.specs.Credit.{room_of}
+use Rattle.vs_first_conn.specs.End.{ConnectionEnd, is_stream, is_rst, op_verdict, open_verdict, state_verdict, verdict_of, end_after, after_verdict}
 use Rattle.vs_core.specs.declared.flow.Flow.{Flow}
 use Rattle.vs_core.specs.Lists.{IsPrefix}
 use Rattle.vs_core.specs.Guest.{is_flow}

@@ -5,15 +5,15 @@ use Rattle.vs_header.specs.declared.Op.{Op}
 use Rattle.vs_header.specs.declared.Op.TheVariants as op
 use Rattle.vs_header.specs.Packet.{header_bytes, header_of}
 use Rattle.vs_header.specs.Op.{op_number}
-use Rattle.vs_conn.specs.Credit.{with_forwarded}
-use Rattle.vs_conn.specs.End.{ConnectionEnd, verdict_of, end_after, owes_of, paid_of, answering}
-use Rattle.vs_conn.specs.declared.end.State.{State}
-use Rattle.vs_conn.specs.declared.end.State.TheVariants as state
-use Rattle.vs_conn.specs.declared.end.Verdict.{Verdict}
-use Rattle.vs_conn.specs.declared.end.Why.{Why}
-use Rattle.vs_conn.specs.declared.end.Why.TheVariants as why
-use Rattle.vs_conn.specs.declared.end.Owed.{Owed}
-use Rattle.vs_ring_list.specs.declared.ring_port.Failure.{Failure}
+use Rattle.vs_first_conn.specs.Credit.{with_forwarded}
+use Rattle.vs_first_conn.specs.End.{ConnectionEnd, verdict_of, end_after, owes_of, paid_of, answering}
+use Rattle.vs_first_conn.specs.declared.end.State.{State}
+use Rattle.vs_first_conn.specs.declared.end.State.TheVariants as state
+use Rattle.vs_first_conn.specs.declared.end.Verdict.{Verdict}
+use Rattle.vs_first_conn.specs.declared.end.Why.{Why}
+use Rattle.vs_first_conn.specs.declared.end.Why.TheVariants as why
+use Rattle.vs_first_conn.specs.declared.end.Owed.{Owed}
+use Rattle.vs_first_rings.specs.declared.ring_port.Failure.{Failure}
 use Rattle.vs_core.specs.declared.flow.Flow.{Flow}
 use Rattle.vs_core.specs.declared.reply.Reply.{Reply}
 use Rattle.vs_core.specs.Profile.{host_cid, buffer_space, page_size, table_size, last_count}

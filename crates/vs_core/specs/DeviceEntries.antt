@@ -2,9 +2,9 @@
 use Rattle.std.specs.Prelude.{◌≡◌, ℕ, ◌≤◌, ◌<◌, ◌^◌, false, List, [], length}
 use Rattle.circular_buffer.specs.Buffer.{Buffer, buffer}
 use Rattle.vs_header.specs.declared.Header.{Header}
-use Rattle.vs_conn.specs.Credit.{unread_of}
-use Rattle.vs_conn.specs.End.{answering}
-use Rattle.vs_conn.specs.declared.credit.Credit.{Credit}
+use Rattle.vs_first_conn.specs.Credit.{unread_of}
+use Rattle.vs_first_conn.specs.End.{answering}
+use Rattle.vs_first_conn.specs.declared.credit.Credit.{Credit}
 use Rattle.vs_core.specs.Profile.{buffer_space}
 use Rattle.vs_core.specs.Device.{DeviceEntry, flow_from_guest}
 

@@ -1,6 +1,6 @@
 -- Words of the receive stage.
 use Rattle.std.specs.Prelude.{ℕ, List, ◌++◌, take, drop, Bool, Option}
-use Rattle.vs_ring_list.specs.declared.ring_port.Failure.{Failure}
+use Rattle.vs_first_rings.specs.declared.ring_port.Failure.{Failure}
 use Rattle.vs_core.specs.declared.reply.Reply.{Reply}
 use Rattle.vs_core.specs.Device.{DeviceEntry, DevicePart}
 use Rattle.vs_core.specs.DeviceCalls.{Served}

@@ -1,9 +1,9 @@
 -- Words of the contracts of the device's calls and of their steps.
 use Rattle.std.specs.Prelude.{◌≡◌, ◌≢◌, ℕ, ◌+◌, ◌-◌, ◌≤◌, false, List, [], ◌∷◌, length, slice_get, slice_set, Option, Some, None}
 use Rattle.std.specs.Option.{ForSome}
-use Rattle.vs_ring_list.specs.Rings.{Rings}
-use Rattle.vs_ring_list.specs.declared.ring_port.Chain.{Chain}
-use Rattle.vs_ring_list.specs.declared.ring_port.Failure.{Failure}
+use Rattle.vs_first_rings.specs.Rings.{Rings}
+use Rattle.vs_first_rings.specs.declared.ring_port.Chain.{Chain}
+use Rattle.vs_first_rings.specs.declared.ring_port.Failure.{Failure}
 use Rattle.vs_core.specs.declared.device.Counters.{Counters}
 use Rattle.vs_core.specs.Outside.{Host, IsOpen}
 use Rattle.vs_core.specs.Lists.{update_first}

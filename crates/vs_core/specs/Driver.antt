@@ -2,16 +2,16 @@
 -- answers and their order are this project's profile).
 use Rattle.std.specs.Prelude.{ℕ, zero, suc, ◌+◌, ◌-◌, ◌==◌, ◌||◌, min, nat_lt, nat_le, Bool, true, false, if◌then◌else◌, List, [], ◌∷◌, ◌++◌, length, take, drop, find, filter, map, not, option_map, Option, Some, None, Result, Ok, Err}
 use Rattle.vs_header.specs.Packet.{header_bytes}
-use Rattle.vs_conn.specs.Credit.{with_forwarded}
+use Rattle.vs_first_conn.specs.Credit.{with_forwarded}
 use Rattle.vs_header.specs.declared.Op.TheVariants as op
-use Rattle.vs_conn.specs.declared.end.Stop.{Stop}
-use Rattle.vs_conn.specs.declared.end.Stop.TheVariants as stop
-use Rattle.vs_conn.specs.declared.end.Owed.{Owed}
-use Rattle.vs_conn.specs.declared.end.State.{State}
-use Rattle.vs_conn.specs.declared.end.State.TheVariants as state
-use Rattle.vs_ring_list.specs.declared.ring_port.Queue.{Queue}
-use Rattle.vs_ring_list.specs.declared.ring_port.Queue.TheVariants as queue
-use Rattle.vs_ring_list.specs.declared.ring_port.NoDescriptor.{NoDescriptor}
+use Rattle.vs_first_conn.specs.declared.end.Stop.{Stop}
+use Rattle.vs_first_conn.specs.declared.end.Stop.TheVariants as stop
+use Rattle.vs_first_conn.specs.declared.end.Owed.{Owed}
+use Rattle.vs_first_conn.specs.declared.end.State.{State}
+use Rattle.vs_first_conn.specs.declared.end.State.TheVariants as state
+use Rattle.vs_first_rings.specs.declared.ring_port.Queue.{Queue}
+use Rattle.vs_first_rings.specs.declared.ring_port.Queue.TheVariants as queue
+use Rattle.vs_first_rings.specs.declared.ring_port.NoDescriptor.{NoDescriptor}
 use Rattle.vs_core.specs.declared.flow.Flow.{Flow}
 use Rattle.vs_core.specs.declared.reply.Reply.{Reply}
 use Rattle.vs_core.specs.Reply.{reply_header}

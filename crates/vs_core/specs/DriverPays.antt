@@ -1,6 +1,6 @@
 -- What it means that the driver pays what one of its slots owes.
 use Rattle.std.specs.Prelude.{◌≡◌, ℕ, Option, is_some, unwrap_or, slice_set}
-use Rattle.vs_ring_list.specs.Rings.{Rings}
+use Rattle.vs_first_rings.specs.Rings.{Rings}
 use Rattle.vs_core.specs.Interaction.{Leads}
 use Rattle.vs_core.specs.Guest.{GuestSlot, GuestPart}
 use Rattle.vs_core.specs.Driver.{pay_of}

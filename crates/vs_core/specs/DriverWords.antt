@@ -4,10 +4,10 @@ use Rattle.circular_buffer.specs.Buffer.{Buffer}
 use Rattle.vs_header.specs.declared.Header.{Header}
 use Rattle.vs_header.specs.declared.Op.{Op}
 use Rattle.vs_header.specs.Op.{op_number}
-use Rattle.vs_conn.specs.Credit.{unread_of}
-use Rattle.vs_conn.specs.End.{asked}
-use Rattle.vs_conn.specs.declared.end.Stop.{Stop}
-use Rattle.vs_conn.specs.declared.credit.Credit.{Credit}
+use Rattle.vs_first_conn.specs.Credit.{unread_of}
+use Rattle.vs_first_conn.specs.End.{asked}
+use Rattle.vs_first_conn.specs.declared.end.Stop.{Stop}
+use Rattle.vs_first_conn.specs.declared.credit.Credit.{Credit}
 use Rattle.vs_core.specs.declared.flow.Flow.{Flow}
 use Rattle.vs_core.specs.Profile.{host_cid, buffer_space}
 use Rattle.vs_core.specs.declared.driver.ConnectError.{ConnectError}

@@ -5,15 +5,15 @@ use Rattle.vs_header.specs.Packet.{header_bytes, header_of}
 use Rattle.vs_header.specs.Op.{op_number}
 use Rattle.vs_header.specs.declared.Op.{Op}
 use Rattle.vs_header.specs.declared.Op.TheVariants as op
-use Rattle.vs_conn.specs.Credit.{with_sent}
-use Rattle.vs_conn.specs.End.{ConnectionEnd, verdict_of, end_after, may_send_of, owes_of, paid_of, asked}
-use Rattle.vs_conn.specs.declared.end.State.{State}
-use Rattle.vs_conn.specs.declared.end.Verdict.{Verdict}
-use Rattle.vs_conn.specs.declared.end.Verdict.TheVariants as verdict
-use Rattle.vs_conn.specs.declared.end.Stop.{Stop}
-use Rattle.vs_conn.specs.declared.end.Stop.TheVariants as stop
-use Rattle.vs_conn.specs.declared.end.Owed.{Owed}
-use Rattle.vs_conn.specs.declared.end.Owed.TheVariants as owed
+use Rattle.vs_first_conn.specs.Credit.{with_sent}
+use Rattle.vs_first_conn.specs.End.{ConnectionEnd, verdict_of, end_after, may_send_of, owes_of, paid_of, asked}
+use Rattle.vs_first_conn.specs.declared.end.State.{State}
+use Rattle.vs_first_conn.specs.declared.end.Verdict.{Verdict}
+use Rattle.vs_first_conn.specs.declared.end.Verdict.TheVariants as verdict
+use Rattle.vs_first_conn.specs.declared.end.Stop.{Stop}
+use Rattle.vs_first_conn.specs.declared.end.Stop.TheVariants as stop
+use Rattle.vs_first_conn.specs.declared.end.Owed.{Owed}
+use Rattle.vs_first_conn.specs.declared.end.Owed.TheVariants as owed
 use Rattle.vs_core.specs.declared.flow.Flow.{Flow}
 use Rattle.vs_core.specs.declared.reply.Reply.{Reply}
 use Rattle.vs_core.specs.Reply.{reply_to}

@@ -9,7 +9,7 @@ use Rattle.vs_core.specs.Guest.{GuestPart}
 use Rattle.vs_core.specs.Interaction.{Leads}
 use Rattle.vs_core.specs.Outside.{Host, Stream}
 use Rattle.vs_core.specs.Told.{RingAllows, DeviceAllows}
-use Rattle.vs_ring_list.specs.Rings.{Rings}
+use Rattle.vs_first_rings.specs.Rings.{Rings}
 use Rattle.vs_core.specs.DeviceInside.{RisesWithin, slots_of}
 use Rattle.vs_core.specs.World.{World, Event, run, sent_over, guest_call, device_call}
 

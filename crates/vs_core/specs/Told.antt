@@ -2,9 +2,9 @@
 -- or the host its streams, the answer is the one that follows from it.
 use Rattle.std.specs.Prelude.{◌≡◌, ◌≢◌, ℕ, Bool, true, false, Option, Some, None, List, [], ◌∷◌, take, drop}
 use Rattle.std.specs.List.{AllByRecursion}
-use Rattle.vs_ring_list.specs.Rings.{Rings, Flight, posted, reaped_of, after_reap, next_of, after_next, bytes_held, after_write, after_done}
+use Rattle.vs_first_rings.specs.Rings.{Rings, Flight, posted, reaped_of, after_reap, next_of, after_next, bytes_held, after_write, after_done}
 use Rattle.vs_core.specs.Outside.{Host, IsOpen, FaultRose, dial_failed, write_failed, dialed_of, after_dial, IsDialed, written_of, after_write as after_give, IsWritten, after_close}
-use Rattle.vs_ring_list.specs.Told.{Tells}
+use Rattle.vs_first_rings.specs.Told.{Tells}
 use Rattle.vs_core.specs.Guest.{GuestPart}
 use Rattle.vs_core.specs.Device.{DeviceEntry}
 use Rattle.vs_core.specs.Driver.{RingCall, RingAnswer, Post, Reap, LoadCid}

@@ -1,7 +1,7 @@
 -- The world of one thread: the guest's part, the device's part, what is in flight between them, and the host. What may
 -- happen in it, step by step, and what each end of a connection sent, received and read.
 use Rattle.std.specs.Prelude.{◌≡◌, ℕ, ◌+◌, ◌-◌, Bool, true, false, if◌then◌else◌, List, [], ◌∷◌, ◌++◌, length, take, drop, find, flat_map, slice_get, slice_set, Option, Some, None}
-use Rattle.vs_ring_list.specs.Rings.{Rings, empty_rings}
+use Rattle.vs_first_rings.specs.Rings.{Rings, empty_rings}
 use Rattle.vs_core.specs.declared.flow.Flow.{Flow}
 use Rattle.vs_core.specs.declared.outside.Dialed.TheVariants as dialed
 use Rattle.vs_core.specs.declared.outside.Written.TheVariants as written

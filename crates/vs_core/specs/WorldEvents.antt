@@ -1,6 +1,6 @@
 -- The program's events, and when the world may take one.
 use Rattle.std.specs.Prelude.{◌≡◌, ◌<◌, false, Some, string_bytes}
-use Rattle.vs_ring_list.specs.Rings.{flight_of, chains_of}
+use Rattle.vs_first_rings.specs.Rings.{flight_of, chains_of}
 use Rattle.vs_core.specs.DeviceWords.{IsIdle}
 use Rattle.vs_core.specs.Told.{IsRingOf, IsHostOf}
 use Rattle.vs_core.specs.World.{World, Step}

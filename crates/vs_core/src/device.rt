@@ -24,9 +24,9 @@ use circular_buffer::HeapCircularBuffer;
 use std::alloc::{AllocError, Global};
 use std::collections::VecDeque;
 use std::marker::Model;
-use vs_conn::Verdict;
+use vs_first_conn::Verdict;
+use vs_first_rings::Failure;
 use vs_header::Header;
-use vs_ring_list::Failure;
 
 /// What taking a transmit packet came to.
 #[derive(Clone, Copy, Debug, PartialEq, Eq)]

@@ -4,7 +4,7 @@ use crate::reply::Reply;
 use circular_buffer::HeapCircularBuffer;
 use slot::Slot;
 use std::marker::Model;
-use vs_ring_list::Page;
+use vs_first_rings::Page;
 
 mod connect;
 mod new;

@@ -3,7 +3,7 @@ ghost use Rattle.std.specs.Prelude.{◌≡◌, ◌≤◌, ◌<◌, ℕ, Option, 
 ghost use Rattle.std.specs.Bool.{OnTrue, OnFalse, ⊤};
 ghost use Rattle.std.specs.Option.{ForSome};
 ghost use Rattle.vs_core.specs.Outside.{Host, FaultRose, IsOpen, TookSome, GotSome, SankSome, ReadTells, SinkTells, dial_failed, write_failed, read_failed, sink_failed, IsDialed, after_dial, IsWritten, after_write, after_close};
-ghost use Rattle.vs_ring_list.specs.Told.{Tells};
+ghost use Rattle.vs_first_rings.specs.Told.{Tells};
 
 use crate::flow::Flow;
 

@@ -2,7 +2,7 @@
 //! is an event of the definitions, so what is proved of all lists of events holds of what this program does
 //! (Virtio 1.2, section 5.10.6).
 ghost use Rattle.std.specs.Prelude.{◌≡◌, ◌≤◌, ◌<◌, false, length, map, OnOk, OnErr, IfOk, string_bytes};
-ghost use Rattle.vs_ring_list.specs.Rings.{IsQueueSize};
+ghost use Rattle.vs_first_rings.specs.Rings.{IsQueueSize};
 ghost use Rattle.vs_core.specs.MemHost.{new_host};
 ghost use Rattle.vs_core.specs.World.{opening, run, Connect, Send, Recv, GuestReaps, GuestTakes, GuestReplies, GuestPays, DeviceTakes, DevicePumps, DeviceReplies, DevicePays, HostTakes, HostCloses, HostListens};
 ghost use Rattle.vs_core.specs.WorldEvents.{event_of, IsReady, Happened, TakesMemory};
@@ -14,7 +14,7 @@ use crate::mem_host::{MemHost, MemStream};
 use crate::path::BASE_MAX;
 use std::alloc::{AllocError, Global};
 use std::marker::Model;
-use vs_ring_list::ListRings;
+use vs_first_rings::ListRings;
 
 /// The guest's CID.
 const GUEST_CID: u64 = 3;

@@ -2,7 +2,7 @@
 use Rattle.std.proofs.lemmas.List.{length-take}
 use Rattle.std.proofs.Math.Seq.{take-append_seam}
 use Rattle.std.proofs.Common.{◌≡◌, ◌==◌, if◌then◌else◌, Bool, true, false, [], min, find, Result, Ok, Err, ◌++◌, ℕ, List, Option, Some, None, length, take, drop, refl, sym, ap, ◌∙◌, subst}
-use Rattle.vs_ring_list.specs.Rings.{Rings, Flight, empty_rings, flight_of, chains_of}
+use Rattle.vs_first_rings.specs.Rings.{Rings, Flight, empty_rings, flight_of, chains_of}
 use Rattle.vs_core.specs.Interaction.{Leads, played}
 use Rattle.vs_core.specs.Outside.{Host}
 use Rattle.vs_core.specs.Guest.{GuestPart, GuestSlot, has_id}
@@ -15,8 +15,8 @@ use Rattle.vs_core.specs.Driver.{GuestTree, new_of, recv_of, recv_slot, nothing_
 use Rattle.vs_core.specs.declared.flow.Flow.{Flow}
 use Rattle.vs_core.specs.declared.driver.ConnectError.{ConnectError}
 use Rattle.vs_core.specs.declared.driver.Received.TheVariants as received
-use Rattle.vs_conn.specs.declared.end.State.{State}
-use Rattle.vs_conn.specs.declared.end.State.TheVariants as state
+use Rattle.vs_first_conn.specs.declared.end.State.{State}
+use Rattle.vs_first_conn.specs.declared.end.State.TheVariants as state
 use Rattle.vs_core.specs.declared.driver.Received.{Received}
 use Rattle.vs_core.specs.Profile.{first_guest_port}
 use Rattle.vs_core.specs.Told.{RingAllows, DeviceAllows, ring_answer, IsRingOf, IsHostOf}

@@ -1,6 +1,6 @@
 -- What a play holds between two lines.
 use Rattle.std.specs.Prelude.{◌≡◌, ℕ, ◌≤◌, ◌++◌, Some, List}
-use Rattle.vs_ring_list.specs.Rings.{flight_of, chains_of}
+use Rattle.vs_first_rings.specs.Rings.{flight_of, chains_of}
 use Rattle.vs_core.specs.World.{World}
 use Rattle.vs_core.specs.Told.{IsRingOf, IsHostOf}
 use Rattle.vs_core.specs.DeviceWords.{IsIdle}

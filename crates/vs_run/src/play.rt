@@ -11,7 +11,7 @@ use crate::script::Line;
 use std::alloc::{AllocError, Global};
 use std::marker::Model;
 use vs_core::{Device, Driver, MemHost, Received};
-use vs_ring_list::ListRings;
+use vs_first_rings::ListRings;
 
 /// Pages of each queue.
 const SIZE: u16 = 64;

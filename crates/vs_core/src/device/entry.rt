@@ -1,8 +1,8 @@
 //! An entry of the device's table: the connection of a flow, joined to a stream of the host.
 ghost use Rattle.std.specs.Prelude.{◌≡◌, ◌≤◌, ◌+◌, ℕ, [], ◌++◌, length, take, min, Some};
 ghost use Rattle.circular_buffer.specs.Buffer.{buffer};
-ghost use Rattle.vs_conn.specs.Credit.{unread_of};
-ghost use Rattle.vs_conn.specs.End.{verdict_of, owes_of};
+ghost use Rattle.vs_first_conn.specs.Credit.{unread_of};
+ghost use Rattle.vs_first_conn.specs.End.{verdict_of, owes_of};
 ghost use Rattle.vs_core.specs.Guest.{is_flow};
 ghost use Rattle.vs_core.specs.Device.{device_header, entry_after, entry_written, entry_lost, entry_paid};
 ghost use Rattle.vs_core.specs.DeviceEntries.{new_entry};
@@ -11,7 +11,7 @@ use crate::flow::Flow;
 use crate::profile::{BUFFER_SPACE, HOST_CID};
 use circular_buffer::HeapCircularBuffer;
 use std::marker::Model;
-use vs_conn::{End, Owed, State, Verdict};
+use vs_first_conn::{End, Owed, State, Verdict};
 use vs_header::{Header, Kind, Op};
 
 /// The most bytes that are given to a stream at once.

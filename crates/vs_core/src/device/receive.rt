@@ -1,8 +1,8 @@
 //! The device and the receive queue: owed replies are put, and then what the connections owe (Virtio 1.2, section 5.10.6).
 ghost use Rattle.std.specs.Prelude.{◌≡◌, ◌≤◌, ◌<◌, ◌+◌, true, ℕ, [], length, List, Option, None, Some, Err, IfSome, IfOk, slice_get, nat_le, position};
 ghost use Rattle.std.specs.List.{position_or_len};
-ghost use Rattle.vs_ring_list.specs.Rings.{Rings};
-ghost use Rattle.vs_conn.specs.End.{owes_of};
+ghost use Rattle.vs_first_rings.specs.Rings.{Rings};
+ghost use Rattle.vs_first_conn.specs.End.{owes_of};
 ghost use Rattle.vs_core.specs.Interaction.{Leads};
 ghost use Rattle.vs_core.specs.Profile.{reply_limit, table_size};
 ghost use Rattle.vs_core.specs.Device.{DeviceEntry, DevicePart};
@@ -17,9 +17,9 @@ ghost use Rattle.vs_core.specs.DeviceReceive.{run_of, with_run, served_to, with_
 use crate::device::{Device, Filled};
 use crate::outside::HostNet;
 use crate::profile::HOST_CID;
-use vs_conn::Owed;
+use vs_first_conn::Owed;
+use vs_first_rings::{DeviceRing, Failure, Next, Queue};
 use vs_header::{HEADER_LEN, Header, Op};
-use vs_ring_list::{DeviceRing, Failure, Next, Queue};
 
 /// What serving an entry came to.
 #[derive(Clone, Copy)]

@@ -1,6 +1,6 @@
 //! The device and the host's streams: pending bytes are given to them, and they are closed.
 ghost use Rattle.std.specs.Prelude.{◌≡◌, ◌≤◌, ◌<◌, false, length, take, List, Option, Some, remove, slice_get, slice_set};
-ghost use Rattle.vs_ring_list.specs.Rings.{Rings};
+ghost use Rattle.vs_first_rings.specs.Rings.{Rings};
 ghost use Rattle.vs_core.specs.Interaction.{Ask, Leads};
 ghost use Rattle.vs_core.specs.Device.{DeviceEntry, DevicePart};
 ghost use Rattle.vs_core.specs.World.{pump_at};

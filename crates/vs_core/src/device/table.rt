@@ -8,7 +8,7 @@ use crate::device::Device;
 use crate::device::entry::Entry;
 use crate::flow::Flow;
 use std::marker::Model;
-use vs_conn::State;
+use vs_first_conn::State;
 
 impl Device {
     /// The entries of the device's table, each its flow and the state of its end, in the order of their opening.
@@ -31,7 +31,7 @@ pub struct Entries<'a> {
 
 impl<'a> Model for Entries<'a> {
     ghost use Rattle.std.specs.Prelude.{List, map};
-    ghost use Rattle.vs_conn.specs.declared.end.State.{State};
+    ghost use Rattle.vs_first_conn.specs.declared.end.State.{State};
     ghost use Rattle.vs_core.specs.declared.flow.Flow.{Flow};
 
     ghost Value = { List (Flow × State) };

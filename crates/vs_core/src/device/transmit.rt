@@ -1,10 +1,10 @@
 //! The device and the transmit queue: a packet is taken, decided on, and its chain returned (Virtio 1.2, section 5.10.6).
 ghost use Rattle.std.specs.Prelude.{◌≡◌, ◌≤◌, ◌<◌, ◌+◌, length, take, drop, [], ◌∷◌, ◌++◌, List, Option, None, Some, slice_get, slice_set, ℕ};
 ghost use Rattle.std.specs.Option.{ForSome};
-ghost use Rattle.vs_ring_list.specs.Rings.{Rings, bytes_held};
-ghost use Rattle.vs_ring_list.specs.Told.{Tells};
-ghost use Rattle.vs_conn.specs.Credit.{unread_of};
-ghost use Rattle.vs_conn.specs.End.{verdict_of};
+ghost use Rattle.vs_first_rings.specs.Rings.{Rings, bytes_held};
+ghost use Rattle.vs_first_rings.specs.Told.{Tells};
+ghost use Rattle.vs_first_conn.specs.Credit.{unread_of};
+ghost use Rattle.vs_first_conn.specs.End.{verdict_of};
 ghost use Rattle.vs_core.specs.Interaction.{Leads};
 ghost use Rattle.vs_core.specs.Outside.{Host};
 ghost use Rattle.vs_core.specs.Profile.{buffer_space, header_size, reply_limit};
@@ -19,9 +19,9 @@ use crate::flow::{Flow, is_assigned};
 use crate::outside::{Dialed, HostNet};
 use crate::path::listen_path;
 use crate::profile::{HOST_CID, REPLY_LIMIT};
-use vs_conn::{Verdict, Why};
+use vs_first_conn::{Verdict, Why};
+use vs_first_rings::{Chain, DeviceRing, Failure, Next, Queue};
 use vs_header::{HEADER_LEN, Header, Kind, Op};
-use vs_ring_list::{Chain, DeviceRing, Failure, Next, Queue};
 
 impl Device {
     /// Takes the next packet of the transmit queue and decides on it. Its chain is returned before another is taken.

@@ -7,7 +7,7 @@ ghost use Rattle.vs_core.specs.DeviceWords.{situation, IsIdle, OpensUpTo};
 
 use crate::device::{Device, Turn, Turned};
 use crate::outside::HostNet;
-use vs_ring_list::DeviceRing;
+use vs_first_rings::DeviceRing;
 
 impl Device {
     /// Makes a turn: takes packets of the transmit queue, at most as many as it has pages and while fewer than 64 replies are

@@ -13,9 +13,9 @@ use crate::driver::slot::{Slot, packet_header};
 use crate::driver::{ConnId, ConnectError, Driver};
 use crate::flow::{Flow, is_assigned};
 use crate::profile::{BUFFER_SPACE, TABLE_SIZE};
-use vs_conn::Credit;
+use vs_first_conn::Credit;
+use vs_first_rings::DriverRing;
 use vs_header::Op;
-use vs_ring_list::DriverRing;
 
 /// The last guest port that the driver gives.
 pub const LAST_GUEST_PORT: u32 = 1_073_741_823;

@@ -2,7 +2,7 @@
 
 ghost use Rattle.std.specs.Prelude.{◌≡◌, ◌≢◌, ◌+◌, ◌≤◌, [], if◌then◌else◌, length, vec_capacity, Option, IfOk, OnOk, OnErr};
 ghost use Rattle.std.specs.List.{All};
-ghost use Rattle.vs_ring_list.specs.Rings.{Rings, flight_at, same_queue};
+ghost use Rattle.vs_first_rings.specs.Rings.{Rings, flight_at, same_queue};
 ghost use Rattle.vs_core.specs.Interaction.{Leads};
 ghost use Rattle.vs_core.specs.Told.{RingAllows, IsRingOf};
 ghost use Rattle.vs_core.specs.DriverFields.{IsSpare};
@@ -13,7 +13,7 @@ use crate::driver::Driver;
 use crate::profile::{BUFFER_SPACE, TABLE_SIZE};
 use circular_buffer::HeapCircularBuffer;
 use std::alloc::{AllocError, Global};
-use vs_ring_list::{DriverRing, Page, Queue};
+use vs_first_rings::{DriverRing, Page, Queue};
 
 /// The first guest port that the driver gives.
 pub const FIRST_GUEST_PORT: u32 = 1024;

@@ -11,8 +11,8 @@ ghost use Rattle.vs_core.specs.Driver.{reap_of, reap_all, post_of};
 ghost use Rattle.vs_core.specs.DriverPages.{pages_of};
 
 use crate::driver::Driver;
+use vs_first_rings::{DriverRing, Queue, Reaped, put_packet};
 use vs_header::Header;
-use vs_ring_list::{DriverRing, Queue, Reaped, put_packet};
 
 impl Driver {
     /// Transmit pages that are posted and not reaped.

@@ -10,9 +10,9 @@ ghost use Rattle.vs_core.specs.DriverPays.{Pays};
 ghost use Rattle.vs_core.specs.World.{pay_at};
 
 use crate::driver::Driver;
-use vs_conn::Owed;
+use vs_first_conn::Owed;
+use vs_first_rings::DriverRing;
 use vs_header::Op;
-use vs_ring_list::DriverRing;
 
 impl Driver {
     /// Puts what each connection owes, by rising slot, while pages are free. Where `put` packets were put before, it says

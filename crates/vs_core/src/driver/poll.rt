@@ -1,14 +1,14 @@
 //! What the driver does when it is polled: it takes packets, and puts what it owes (Virtio 1.2, section 5.10.6).
 
 ghost use Rattle.std.specs.Prelude.{◌≡◌, ◌<◌, ◌≤◌, [], length};
-ghost use Rattle.vs_ring_list.specs.Rings.{one_more};
+ghost use Rattle.vs_first_rings.specs.Rings.{one_more};
 ghost use Rattle.vs_core.specs.Interaction.{Leads};
 ghost use Rattle.vs_core.specs.Told.{RingAllows, IsRingOf};
 ghost use Rattle.vs_core.specs.Driver.{Post, take_rx_of, take_rx_up_to, reply_of, reply_up_to, poll_of};
 
 use crate::driver::{Driver, Polled};
 use crate::profile::{HOST_CID, REPLY_LIMIT};
-use vs_ring_list::{DriverRing, Page, Queue, Reaped};
+use vs_first_rings::{DriverRing, Page, Queue, Reaped};
 
 impl Driver {
     /// Takes the packets of the receive queue, at most as many as it has pages and while fewer than 64 replies are owed;

@@ -3,7 +3,7 @@
 ghost use Rattle.std.specs.Prelude.{◌≡◌, ◌<◌, ◌≤◌, length, take, drop, is_some, IfSome};
 ghost use Rattle.std.specs.List.{HoldsAt};
 ghost use Rattle.vs_header.specs.Packet.{header_of};
-ghost use Rattle.vs_conn.specs.End.{verdict_of};
+ghost use Rattle.vs_first_conn.specs.End.{verdict_of};
 ghost use Rattle.vs_core.specs.Profile.{header_size};
 ghost use Rattle.vs_core.specs.Lists.{update_first};
 ghost use Rattle.vs_core.specs.Guest.{has_id, slot_after, broken_after, on_known, on_unknown, is_whole, received};
@@ -11,9 +11,9 @@ ghost use Rattle.vs_core.specs.Guest.{has_id, slot_after, broken_after, on_known
 use crate::driver::Driver;
 use crate::flow::Flow;
 use crate::reply::Reply;
-use vs_conn::Verdict;
+use vs_first_conn::Verdict;
+use vs_first_rings::{Page, packet_in};
 use vs_header::{HEADER_LEN, Header, Op};
-use vs_ring_list::{Page, packet_in};
 
 impl Driver {
     /// Takes a page of the receive queue. One that is too short for a header, or for the payload that its RW names, does

@@ -10,9 +10,9 @@ ghost use Rattle.vs_core.specs.Driver.{as_they_stand, put_payload, send_open, se
 ghost use Rattle.vs_core.specs.DriverPages.{pages_of};
 
 use crate::driver::{ConnId, Driver, Sent};
-use vs_conn::{Credit, Stop};
+use vs_first_conn::{Credit, Stop};
+use vs_first_rings::{DriverRing, PAYLOAD_MAX};
 use vs_header::Op;
-use vs_ring_list::{DriverRing, PAYLOAD_MAX};
 
 impl Driver {
     /// Sends bytes on a connection, as many from their front as its credit allows and one packet carries. Pages that the

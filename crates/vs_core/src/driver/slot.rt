@@ -1,7 +1,7 @@
 //! A slot of the driver: one connection with its end, and the bytes that came in on it and were not read.
 
 ghost use Rattle.std.specs.Prelude.{◌≡◌, ◌<◌, ◌≤◌, [], ◌++◌, length, min, take, drop, Some, IsOkAnd};
-ghost use Rattle.vs_conn.specs.End.{verdict_of};
+ghost use Rattle.vs_first_conn.specs.End.{verdict_of};
 ghost use Rattle.vs_core.specs.Guest.{has_id, has_flow, guest_header, slot_paid, slot_owes, slot_sent, slot_may_send, slot_after};
 ghost use Rattle.vs_core.specs.Driver.{slot_read, recv_slot, nothing_read, slot_seen};
 ghost use Rattle.vs_core.specs.DriverWords.{asked_slot, packet_header};
@@ -12,7 +12,7 @@ use crate::flow::Flow;
 use crate::profile::{BUFFER_SPACE, HOST_CID};
 use circular_buffer::HeapCircularBuffer;
 use std::marker::Model;
-use vs_conn::{Credit, End, Owed, State, Stop, Verdict};
+use vs_first_conn::{Credit, End, Owed, State, Stop, Verdict};
 use vs_header::{Header, Kind, Op};
 
 /// One connection of the driver. It stays when the connection is over, and its unread bytes with it.

@@ -8,7 +8,7 @@ use crate::driver::slot::Slot;
 use crate::driver::{ConnId, ConnectionState, Driver};
 use crate::flow::Flow;
 use std::marker::Model;
-use vs_conn::State;
+use vs_first_conn::State;
 
 impl Driver {
     /// How the connection with a number stands.
@@ -55,7 +55,7 @@ pub struct Entries<'a> {
 
 impl<'a> Model for Entries<'a> {
     ghost use Rattle.std.specs.Prelude.{List, map, filter, not};
-    ghost use Rattle.vs_conn.specs.declared.end.State.{State};
+    ghost use Rattle.vs_first_conn.specs.declared.end.State.{State};
     ghost use Rattle.vs_core.specs.declared.flow.Flow.{Flow};
 
     ghost Value = { List (Flow × State) };

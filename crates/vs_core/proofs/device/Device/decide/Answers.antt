@@ -2,8 +2,8 @@
 use Rattle.std.proofs.Common.{◌≡◌, ◌<◌, ◌≤◌, ◌+◌, ℕ, List, Some, length, set, sym, ◌∙◌, ap, subst, refl, arith}
 use Rattle.std.specs.List.{slice_get}
 use Rattle.std.proofs.lemmas.Option.{slice_get_read, same_Some}
-use Rattle.vs_conn.specs.Credit.{unread_of}
-use Rattle.vs_conn.specs.End.{verdict_of}
+use Rattle.vs_first_conn.specs.Credit.{unread_of}
+use Rattle.vs_first_conn.specs.End.{verdict_of}
 use Rattle.vs_core.specs.contracts.device.Device.{the_view}
 use Rattle.vs_core.specs.Device.{DeviceEntry, DevicePart, entry_after}
 use Rattle.vs_core.specs.DeviceWords.{with_table, SameStream}

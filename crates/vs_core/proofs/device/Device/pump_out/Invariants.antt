@@ -1,5 +1,5 @@
 use Rattle.std.proofs.Common.{◌≡◌, ℕ, ◌*◌, ◌≤◌, length, take, drop, Option}
-use Rattle.vs_ring_list.specs.Rings.{Rings}
+use Rattle.vs_first_rings.specs.Rings.{Rings}
 use Rattle.vs_core.specs.Interaction.{Leads}
 use Rattle.vs_core.specs.Device.{DevicePart}
 use Rattle.vs_core.specs.DeviceCalls.{pump_each, pump_out_of}

@@ -3,7 +3,7 @@ use Rattle.std.proofs.Common.{◌≡◌, ◌+◌, Some, length, [], ◌∷◌, s
 use Rattle.std.specs.List.{slice_get}
 use Rattle.std.proofs.lemmas.Option.{slice_get_read, same_Some}
 use Rattle.vs_header.specs.declared.Op.{Op}
-use Rattle.vs_conn.specs.End.{owes_of}
+use Rattle.vs_first_conn.specs.End.{owes_of}
 use Rattle.vs_core.specs.Guest.{op_of_owed}
 use Rattle.vs_core.specs.Device.{DeviceEntry, DevicePart, device_header}
 use Rattle.vs_core.specs.DeviceReceive.{with_run}

@@ -1,7 +1,7 @@
 -- The header is read, the packet decided on, and the chain returned.
 use Rattle.std.proofs.Common.{◌≡◌, ◌<◌, ◌≤◌, ◌-◌, List, [], ◌∷◌, sym, ap, ◌∙◌, refl, subst, arith}
 use Rattle.std.specs.List.{Contains}
-use Rattle.vs_ring_list.specs.declared.ring_port.Chain.{Chain}
+use Rattle.vs_first_rings.specs.declared.ring_port.Chain.{Chain}
 use Rattle.vs_core.specs.Told.{DeviceAllows}
 use Rattle.vs_core.proofs.Leads.{leads_of}
 use Rattle.vs_core.proofs.DeviceTaken.{leads_chain, leads_whole, on_chain-short, pair_same}

@@ -1,6 +1,6 @@
 -- A chain is taken where the ring works and there is room for a reply.
 use Rattle.std.proofs.Common.{◌≡◌, ◌<◌, None, length, ap, sym, ◌∙◌, refl, arith}
-use Rattle.vs_ring_list.specs.declared.ring_port.Next.TheVariants as next
+use Rattle.vs_first_rings.specs.declared.ring_port.Next.TheVariants as next
 use Rattle.vs_core.specs.Device.{DevicePart}
 use Rattle.vs_core.specs.Told.{DeviceAllows}
 use Rattle.vs_core.specs.DeviceWords.{situation}

@@ -1,5 +1,5 @@
 use Rattle.std.proofs.Common.{◌≡◌, ◌+◌, ◌-◌, ℕ, Option, None, Some, length, sym, ap, ◌∙◌, subst, arith}
-use Rattle.vs_ring_list.specs.declared.ring_port.Failure.{Failure}
+use Rattle.vs_first_rings.specs.declared.ring_port.Failure.{Failure}
 use Rattle.vs_core.specs.declared.device.Turn.{Turn}
 use Rattle.vs_core.specs.Interaction.{Leads}
 use Rattle.vs_core.specs.Device.{DevicePart}

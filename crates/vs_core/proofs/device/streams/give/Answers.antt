@@ -3,7 +3,7 @@ use Rattle.std.proofs.Common.{◌≡◌, ◌≤◌, ℕ, Some, Option, length, t
 use Rattle.std.proofs.lemmas.List.{length-take}
 use Rattle.vs_core.specs.declared.outside.Written.TheVariants as written
 use Rattle.vs_core.specs.Outside.{Host, IsOpen, IsWritten, after_write}
-use Rattle.vs_ring_list.specs.Told.{Tells}
+use Rattle.vs_first_rings.specs.Told.{Tells}
 use Rattle.vs_core.specs.Guest.{counted}
 use Rattle.vs_core.specs.Device.{DeviceEntry}
 use Rattle.vs_core.specs.DeviceWords.{situation, IsOpenAt, KeepsOthers}

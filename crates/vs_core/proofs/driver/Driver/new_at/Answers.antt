@@ -1,6 +1,6 @@
 use Rattle.std.proofs.Common.{◌≡◌, length, ap, ◌∙◌, arith, rules}
-use Rattle.vs_ring_list.specs.Rings.{Flight}
-use Rattle.vs_ring_list.specs.declared.ring_port.Queue.TheVariants as queue
+use Rattle.vs_first_rings.specs.Rings.{Flight}
+use Rattle.vs_first_rings.specs.declared.ring_port.Queue.TheVariants as queue
 use Rattle.vs_core.proofs.DriverNew.{new_made}
 use Rattle.vs_core.proofs.driver.Driver.new_at.Goals as goal
 

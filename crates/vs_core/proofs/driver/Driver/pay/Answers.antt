@@ -1,6 +1,6 @@
 use Rattle.std.proofs.Common.{◌≡◌, Some, None, List, ap, sym, subst, ◌∙◌, get_or, set}
 use Rattle.vs_header.specs.declared.Header.{Header}
-use Rattle.vs_conn.specs.declared.end.Owed.{Owed}
+use Rattle.vs_first_conn.specs.declared.end.Owed.{Owed}
 use Rattle.vs_core.specs.Guest.{GuestPart, GuestSlot, guest_header, op_of_owed, slot_owes, slot_paid, new_slot}
 use Rattle.vs_core.specs.DriverPays.{Pays}
 use Rattle.vs_core.proofs.Payments.{pays_nothing, pays_not, pays_one, read_at, stays, header_for}

@@ -1,5 +1,5 @@
 use Rattle.std.proofs.Common.{◌≡◌, ◌≢◌, ℕ, List, length, get_or, min, take, ap, sym, ◌∙◌, subst, refl, arith, rules, length-take-le}
-use Rattle.vs_ring_list.specs.Rings.{Rings}
+use Rattle.vs_first_rings.specs.Rings.{Rings}
 use Rattle.vs_core.specs.Interaction.{Leads}
 use Rattle.vs_core.specs.Guest.{GuestSlot, GuestPart}
 use Rattle.vs_core.specs.Driver.{put_payload}

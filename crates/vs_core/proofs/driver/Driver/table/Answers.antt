@@ -1,5 +1,5 @@
 use Rattle.std.proofs.Common.{◌<◌, ◌^◌, length, not, arith, rules}
-use Rattle.vs_conn.specs.declared.end.State.{State}
+use Rattle.vs_first_conn.specs.declared.end.State.{State}
 use Rattle.vs_core.specs.declared.flow.Flow.{Flow}
 use Rattle.vs_core.specs.Guest.{GuestSlot}
 use Rattle.vs_core.proofs.DriverTable.{length-kept}

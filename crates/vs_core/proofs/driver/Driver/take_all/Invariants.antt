@@ -1,5 +1,5 @@
 use Rattle.std.proofs.Common.{ℕ, ◌-◌, ◌≤◌, Option}
-use Rattle.vs_ring_list.specs.Rings.{Rings}
+use Rattle.vs_first_rings.specs.Rings.{Rings}
 use Rattle.vs_core.specs.Interaction.{Leads}
 use Rattle.vs_core.specs.Guest.{GuestPart}
 use Rattle.vs_core.specs.Driver.{take_rx_up_to}

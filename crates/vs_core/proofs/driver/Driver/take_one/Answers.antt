@@ -1,5 +1,5 @@
 use Rattle.std.proofs.Common.{◌≡◌, ◌<◌, length, ap, sym, ◌∙◌, arith, rules}
-use Rattle.vs_ring_list.specs.Rings.{Flight}
+use Rattle.vs_first_rings.specs.Rings.{Flight}
 use Rattle.vs_core.specs.Guest.{GuestPart}
 use Rattle.vs_core.proofs.Packets.{received_keeps}
 use Rattle.vs_core.proofs.Polls.{took_one}

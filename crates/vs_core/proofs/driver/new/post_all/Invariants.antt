@@ -1,7 +1,7 @@
 use Rattle.std.proofs.Common.{◌≡◌, ◌+◌, ◌≤◌, [], if◌then◌else◌, length, vec_len, Option}
 use Rattle.std.specs.List.{All}
-use Rattle.vs_ring_list.specs.declared.ring_port.Queue.{Queue as QueueName}
-use Rattle.vs_ring_list.specs.Rings.{Rings, flight_at, same_queue}
+use Rattle.vs_first_rings.specs.declared.ring_port.Queue.{Queue as QueueName}
+use Rattle.vs_first_rings.specs.Rings.{Rings, flight_at, same_queue}
 use Rattle.vs_core.specs.Interaction.{Leads}
 use Rattle.vs_core.specs.Told.{RingAllows}
 use Rattle.vs_core.specs.Driver.{GuestTree, posted_to}

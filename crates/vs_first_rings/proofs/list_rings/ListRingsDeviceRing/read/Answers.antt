@@ -1,0 +1,10 @@
+use Rattle.std.proofs.Common.{sym, ap, arith, subst, length, Contains}
+use Rattle.vs_first_rings.specs.Rings.{Rings, chains_of}
+use Rattle.vs_first_rings.specs.RingsView.{rings_in}
+use Rattle.vs_first_rings.proofs.Soundness.{readable_held}
+use Rattle.vs_first_rings.proofs.list_rings.ListRingsDeviceRing.read.Goals as goal
+
+pub slice_bounds-part-end : goal.slice_bounds-part-end
+slice_bounds-part-end c =
+    let has = subst (λ (w : Rings). Contains (chains_of w.held) c.args.chain.now) (sym c.self.view_is) c.requires.is_held in
+    omega (arith, c.requires.in_range, readable_held c.args.chain.now (rings_in c.self.inside) c.self.invariant.sound has, ap length c.bytes-bytes.ensures)
