@@ -1,0 +1,15 @@
+//! What passed at one end of a connection, and when that is fair (Virtio 1.2, section 5.10.6.3 on credit).
+//!
+//! A history has the packets that an end put and got, newest first. It is fair where each packet was allowed by what stands before it: the
+//! handshake is in order, payload stays within the credit that the peer advertised, nothing follows a shutdown that rules it out. An end
+//! that keeps to these rules need not know what else its peer did, and what it puts its peer may always take: both are laws here, over
+//! plain lists, so that every kind of ring and every order of calls rests on them alike.
+#![tactic(auto)]
+
+pub mod laws;
+
+/// Bytes of buffer space that an end advertises at first (`buf_alloc`).
+pub const BUF_ALLOC: u32 = 65_536;
+
+/// The most bytes of buffer space that an end may advertise.
+pub const BUF_ALLOC_MAX: u32 = 262_144;
