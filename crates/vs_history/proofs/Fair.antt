@@ -1,7 +1,7 @@
 -- What a fair history says of all that was put and got.
 use Rattle.std.proofs.Common.{◌≤◌, List, [], ◌∷◌, ◌++◌, arith}
 use Rattle.std.proofs.lemmas.Grind.{common_steps}
-use Rattle.vs_header.specs.Packet.{Packet}
+use Rattle.vs_history.specs.declared.packet.Packet.{Packet}
 use Rattle.vs_history.specs.declared.TheConstants.{BUF_ALLOC_MAX}
 use Rattle.vs_history.specs.Packets.{bytes, told_forwarded, told_alloc, allowance}
 use Rattle.vs_history.specs.History.{History, Entry, Put, Got, Side, puts, gots, MayPut, Allows, IsFair, IsOpening}

@@ -1,7 +1,7 @@
 -- Two ends: what the peer was allowed to put is allowed when it is got.
 use Rattle.std.proofs.Common.{◌≡◌, ◌≤◌, Bool, true, List, [], ◌∷◌, ◌++◌, refl, sym, ap, ◌∙◌, subst, append_assoc, arith}
 use Rattle.std.proofs.lemmas.Grind.{common_steps}
-use Rattle.vs_header.specs.Packet.{Packet}
+use Rattle.vs_history.specs.declared.packet.Packet.{Packet}
 use Rattle.vs_history.specs.Packets.{bytes, has, told_forwarded, told_alloc}
 use Rattle.vs_history.specs.History.{History, Put, Got, Side, peer, puts, gots, MayPut, Allows, IsFair, HasGot, IsNext}
 use Rattle.vs_history.proofs.Fair.{AllRise, fair_rises}

@@ -1,7 +1,7 @@
 -- What passed at one end of a connection, and when that is fair. Histories run newest first.
 use Rattle.std.specs.Prelude.{◌≡◌, ◌+◌, ◌≤◌, Bool, true, false, ◌&&◌, List, [], ◌∷◌, ◌++◌, Option, Some, None}
 use Rattle.vs_header.specs.Op.{op_named}
-use Rattle.vs_header.specs.Packet.{Packet}
+use Rattle.vs_history.specs.declared.packet.Packet.{Packet}
 use Rattle.vs_header.specs.declared.Op.{Op}
 use Rattle.vs_header.specs.declared.Op.TheVariants.{Invalid, Request, Response, Rst}
 use Rattle.vs_history.specs.declared.TheConstants.{BUF_ALLOC, BUF_ALLOC_MAX}

@@ -1,8 +1,9 @@
 -- What the packets of one connection in one direction say. Lists of packets run newest first.
-use Rattle.std.specs.Prelude.{◌≡◌, ℕ, ◌+◌, ◌<◌, ◌/◌, ◌%◌, ◌^◌, ◌==◌, Bool, false, ◌&&◌, ◌||◌, if◌then◌else◌, List, [], ◌∷◌, length}
+use Rattle.std.specs.Prelude.{◌≡◌, ℕ, ◌+◌, ◌<◌, ◌/◌, ◌%◌, ◌^◌, ◌==◌, Bool, false, ◌&&◌, ◌||◌, if◌then◌else◌, List, [], ◌∷◌, ◌++◌, length}
 use Rattle.vs_header.specs.Kind.{kind_number}
+use Rattle.vs_header.specs.Packet.{header_bytes}
 use Rattle.vs_header.specs.Op.{op_number}
-use Rattle.vs_header.specs.Packet.{Packet}
+use Rattle.vs_history.specs.declared.packet.Packet.{Packet}
 use Rattle.vs_header.specs.declared.Kind.TheVariants.{Stream}
 use Rattle.vs_header.specs.declared.Op.{Op}
 use Rattle.vs_header.specs.declared.Op.TheVariants.{Request, Response, Rst, Shutdown, Rw}
@@ -75,3 +76,7 @@ pub record IsFormed (p : Packet) : Type 0 where
   pub len : p.header.len ≡ size p
   pub payload : is_rw p ≡ false → p.payload ≡ []
   pub fwd_cnt : p.header.fwd_cnt < 2 ^ 32
+
+-- The bytes of a packet.
+abbrev pub packet_bytes : Packet → List ℕ
+packet_bytes p = header_bytes p.header ++ p.payload

@@ -7,6 +7,9 @@
 #![tactic(auto)]
 
 pub mod laws;
+pub mod packet;
+
+pub use packet::Packet;
 
 /// Bytes of buffer space that an end advertises at first (`buf_alloc`).
 pub const BUF_ALLOC: u32 = 65_536;
