@@ -1,0 +1,5 @@
+pub mod Overwriting
+pub mod Held
+pub mod Log
+pub mod Open
+pub mod Fair
