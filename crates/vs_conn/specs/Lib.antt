@@ -1,0 +1,3 @@
+pub mod Shut
+pub mod End
+pub mod Headers
