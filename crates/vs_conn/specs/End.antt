@@ -140,6 +140,10 @@ state_verdict Live e h = open_verdict e h
 abbrev pub verdict_of : ConnectionEnd → Header → Verdict
 verdict_of e h = state_verdict e.state e h
 
+abbrev pub is_refused : Verdict → Bool
+is_refused (verdict.Rst why) = true
+is_refused _ = false
+
 -- The end after it took over a packet's buf_alloc and fwd_cnt. Once it has credit it may ask for credit again.
 abbrev pub with_heard_packet : ConnectionEnd → Header → ConnectionEnd
 with_heard_packet e h =

@@ -3,6 +3,7 @@
 #![tactic(auto)]
 
 pub mod end;
+pub mod laws;
 pub mod route;
 pub mod shut;
 
