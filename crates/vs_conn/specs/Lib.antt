@@ -1,0 +1,4 @@
+pub mod Shut
+pub mod End
+pub mod Headers
+pub mod Follows
