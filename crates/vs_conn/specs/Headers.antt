@@ -45,3 +45,18 @@ owed_header e route what = header_from e route (owed_op what) (owed_flags what) 
 
 abbrev pub payload_header : ConnectionEnd → Route → ℕ → Header
 payload_header e route len = header_from e route op.Rw 0 len
+
+-- The header of an RST to a flow that has no end here: it tells neither buf_alloc nor fwd_cnt.
+abbrev pub reset_header : Route → Header
+reset_header route = record {
+  src_cid = route.src_cid;
+  dst_cid = route.dst_cid;
+  src_port = route.src_port;
+  dst_port = route.dst_port;
+  len = 0;
+  kind = kind_number Stream;
+  op = op_number op.Rst;
+  flags = 0;
+  buf_alloc = 0;
+  fwd_cnt = 0;
+}

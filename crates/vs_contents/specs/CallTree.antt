@@ -1,6 +1,6 @@
 -- A call as a conversation: what it asks of a ring or a host next, and how it goes on with each answer. One definition of a call so serves
 -- every ring and every host.
-use Rattle.std.specs.Prelude.{◌≡◌, ℕ, zero, suc, List, [], ◌∷◌}
+use Rattle.std.specs.Prelude.{◌≡◌, ℕ, zero, suc, Bool, true, false, List, [], ◌∷◌}
 
 pub data CallTree (Call : Type 0) (Answer : Call → Type 0) (A : Type 0) : Type 0 where
   Done : A → CallTree Call Answer A
@@ -16,10 +16,10 @@ abbrev pub for_each : {Call : Type 0} {Answer : Call → Type 0} {A X : Type 0} 
 for_each step [] x = Done x
 for_each step (i ∷ is) x = bind (step i x) (for_each step is)
 
--- The same step at most so many times.
-abbrev pub up_to : {Call : Type 0} {Answer : Call → Type 0} {A : Type 0} → ℕ → (A → CallTree Call Answer A) → A → CallTree Call Answer A
-up_to zero step x = Done x
-up_to (suc n) step x = bind (step x) (up_to n step)
+-- The same step at most so many times, while it says that it goes on.
+abbrev pub while_up_to : {Call : Type 0} {Answer : Call → Type 0} {A : Type 0} → ℕ → (A → CallTree Call Answer (A × Bool)) → A → CallTree Call Answer A
+while_up_to zero step x = Done x
+while_up_to (suc n) step x = bind (step x) (λ r. elim r.1 [ true ↦ while_up_to n step r.0 | false ↦ Done r.0 ])
 
 -- From the state s the conversation may end in x with the state t, where Allows says which answer a call may get in a state, and in which
 -- state that leaves: each of its calls is made, in its order, and no other.

@@ -1,0 +1,5 @@
+pub mod State
+pub mod Listening
+pub mod Connections
+pub mod Receiving
+pub mod Conversations
