@@ -1,5 +1,5 @@
 -- The end that the packets put and got at it leave. Lists of packets run newest first.
-use Rattle.std.specs.Prelude.{◌≡◌, ◌≢◌, ℕ, ◌<◌, ◌≤◌, ◌%◌, ◌^◌, Bool, true, false, if◌then◌else◌, List, [], length}
+use Rattle.std.specs.Prelude.{◌≡◌, ◌≢◌, ℕ, ◌<◌, ◌≤◌, ◌%◌, ◌^◌, true, false, if◌then◌else◌, List, [], length}
 use Rattle.vs_wrap.specs.Wrap.{unwrap32}
 use Rattle.vs_history.specs.declared.TheConstants.{BUF_ALLOC, BUF_ALLOC_MAX}
 use Rattle.vs_history.specs.declared.packet.Packet.{Packet}
@@ -7,7 +7,7 @@ use Rattle.vs_history.specs.Packets.{bytes, has, is_request, is_rst, is_rw, shut
 use Rattle.vs_history.specs.History.{Side, Asker, Answerer, is_answered, is_begun}
 use Rattle.vs_conn.specs.End.{ConnectionEnd, IsSettled}
 use Rattle.vs_conn.specs.Headers.{owed_header, payload_header}
-use Rattle.vs_conn.specs.Shut.{is_within}
+use Rattle.vs_conn.specs.Shut.{is_within, neither}
 use Rattle.vs_conn.specs.declared.end.Owed.{Owed}
 use Rattle.vs_conn.specs.declared.end.State.{State}
 use Rattle.vs_conn.specs.declared.end.State.TheVariants.{Asked, Answering, Live, Ended}
@@ -33,7 +33,6 @@ pub record IsLeftBy (side : Side) (put got : List Packet) (e : ConnectionEnd) : 
   pub tx_cnt : e.credit.tx_cnt ≡ bytes put % 2 ^ 32
   pub rx_cnt : e.credit.rx_cnt ≡ bytes got % 2 ^ 32
   -- It forwarded at least what it last told, and at most the payload got.
-  pub fwd_cnt : e.credit.fwd_cnt < 2 ^ 32
   pub told_fwd : e.told_fwd ≡ told_forwarded put % 2 ^ 32
   pub forwarded_got : forwarded_of put e ≤ bytes got
   -- Of its peer's credit it knows what the newest packet told.
@@ -43,10 +42,11 @@ pub record IsLeftBy (side : Side) (put got : List Packet) (e : ConnectionEnd) : 
   pub alloc_told : told_alloc put ≤ e.credit.alloc
   pub alloc_first : BUF_ALLOC ≤ e.credit.alloc
   pub alloc_most : e.credit.alloc ≤ BUF_ALLOC_MAX
-  -- The directions told are those of the SHUTDOWNs put, and it decided them. The peer's are those of the SHUTDOWNs got.
+  -- The directions told are those of the SHUTDOWNs put, and it decided them. Before it is Live it tells none. The peer's are those of the SHUTDOWNs got.
   pub told_receive : e.told.receive ≡ has shuts_receive put
   pub told_send : e.told.send ≡ has shuts_send put
   pub decided : is_within e.told e.own ≡ true
+  pub quiet : e.state ≢ Live → e.told ≡ neither
   pub peer_receive : e.peer.receive ≡ has shuts_receive got
   pub peer_send : e.peer.send ≡ has shuts_send got
   pub settled : IsSettled e.state e.peer e.credit
@@ -57,6 +57,9 @@ pub record IsLeftBy (side : Side) (put got : List Packet) (e : ConnectionEnd) : 
 -- has to precede.
 pub record Follows (side : Side) (put got : List Packet) (e : ConnectionEnd) : Type 0 where
   pub begun : is_begun side put got ≡ true
+  -- Counters have 32 bits.
+  pub fwd_cnt : e.credit.fwd_cnt < 2 ^ 32
+  pub rx_cnt : e.credit.rx_cnt < 2 ^ 32
   pub left : e.state ≢ Ended → IsLeftBy side put got e
 
 -- A packet as it is taken from a page, whatever the peer wrote there: its fwd_cnt is a field of 32 bits, and only an RW has payload, of
