@@ -34,9 +34,9 @@ module _ {X : Type 0} where
   option_map-option_or f (Some x) b = refl
 
   -- what the first of two references that is there shows
-  pub option_copied-option_or : (a b : Option (Bor X)) (n : Bor X) → option_or a b ≡ Some n → option_or (option_copied a) (option_copied b) ≡ Some n.now
-  option_copied-option_or None b n e = ap option_copied e
-  option_copied-option_or (Some x) b n e = ap option_copied e
+  pub option_copied-option_or : (a b o : Option (Bor X)) → option_or a b ≡ o → option_or (option_copied a) (option_copied b) ≡ option_copied o
+  option_copied-option_or None b o e = ap option_copied e
+  option_copied-option_or (Some x) b o e = ap option_copied e
 
   first_passes : (p : X → Bool) (b : Bool) (y : X) → b ≡ p y → (rest : Option X) (x : X) → cond b (Some y) rest ≡ Some x → (rest ≡ Some x → p x ≡ true) → p x ≡ true
   first_passes p true y is rest x e later = cc
@@ -130,10 +130,10 @@ module _ {T : Type 0} where
       grind (arith, nat_tests, rising i j d, λ (same : i ≡ j). ap (λ n. (get_or es n d).slot) same)
 
   -- the slot of that entry, or of the first entry where there is none
-  pub next_found : (es : List (Entry T)) (slot i : ℕ) (e : Entry T) → option_or (slice_get es i) (slice_get es 0) ≡ Some e
+  pub next_found : (es : List (Entry T)) (slot i : ℕ) (o : Option (Entry T)) → option_or (slice_get es i) (slice_get es 0) ≡ o
       → AllWithin (λ e. nat_le e.slot slot ≡ true) es 0 i → AllWithin (λ e. nat_le e.slot slot ≡ false) es i (length es)
-      → Some e.slot ≡ option_or (find (λ held. nat_lt slot held) (map (λ e. e.slot) es)) (slice_get (map (λ e. e.slot) es) 0)
-  next_found es slot i e found below above =
+      → option_map (λ e. e.slot) o ≡ option_or (find (λ held. nat_lt slot held) (map (λ e. e.slot) es)) (slice_get (map (λ e. e.slot) es) 0)
+  next_found es slot i o found below above =
       let f : Entry T → ℕ = λ e. e.slot in
       sym (ap (option_map f) found) ∙ option_map-option_or f (slice_get es i) (slice_get es 0)
       ∙ (λ j. option_or (first_above es slot i below above j) (sym (slice_get-map f es 0) j))
