@@ -1,1 +1,4 @@
 pub mod Flow
+pub mod Table
+pub mod TableFields
+pub mod TableLends

@@ -1,0 +1,159 @@
+-- Lists of entries whose slots rise: where a slot stands, and what an edit at its place leaves.
+use Rattle.std.proofs.Common.{◌≡◌, ◌≢◌, ℕ, zero, suc, ◌+◌, ◌<◌, ◌≤◌, Bool, true, false, not, cond, ◌==◌, nat_le, nat_lt, List, [], ◌∷◌, length, map, get_or, set, Option, Some, None, Result, Ok, Err, refl, ap, sym, subst, inl, inr, arith, ◌∙◌}
+use Rattle.std.specs.List.{All, AllPairs, AllWithin, find, filter, remove, slice_get}
+use Rattle.std.specs.List.Sorted.{IsSearchInRange, IsBinarySearchResult, IsNonDecreasingBy, IsPartitionedBy}
+use Rattle.std.specs.Option.{option_and_then, option_map, option_or, option_copied}
+use Rattle.std.specs.Borrow.{Bor}
+use Rattle.std.specs.Result.{result_ok}
+use Rattle.std.specs.Ordering.{nat_cmp, ordering_index}
+use Rattle.std.proofs.lemmas.Cmp.{ranked}
+use Rattle.std.proofs.lemmas.Bool.Decides.{nat_tests}
+use Rattle.std.proofs.lemmas.Grind.{common_steps}
+use Rattle.std.proofs.lemmas.List.Folds.{map_fixed}
+use Rattle.std.proofs.lemmas.Option.{slice_get_cases, slice_get_read, slice_get-map, get_or_from_slice_get, slice_get_within}
+use Rattle.vs_flow.specs.declared.table.Entry.{Entry}
+use Rattle.vs_flow.specs.Table.{IsRising, revalued}
+
+module _ {X : Type 0} where
+  -- where the first element fails, the others decide
+  pub find_none : (p : X → Bool) (xs : List X) → All (λ x. p x ≡ false) xs → find p xs ≡ None
+  find_none p [] h = refl
+  find_none p (x ∷ xs) h = rw (h 0 x (omega arith)) (find_none p xs (λ k d lt. h (suc k) d (omega arith)))
+
+  failed_first : (b : Bool) (x : X) (rest : Option X) → cond b (Some x) rest ≡ None → (b ≡ false) × (rest ≡ None)
+  failed_first true x rest e = absurd (cc)
+  failed_first false x rest e = (refl, e)
+
+  pub none_found : (p : X → Bool) (xs : List X) → find p xs ≡ None → All (λ x. p x ≡ false) xs
+  none_found p [] e k d lt = absurd (omega arith)
+  none_found p (x ∷ xs) e zero d lt = (failed_first (p x) x (find p xs) e).0
+  none_found p (x ∷ xs) e (suc k) d lt = none_found p xs (failed_first (p x) x (find p xs) e).1 k d (omega arith)
+
+  pub option_map-option_or : {Y : Type 0} (f : X → Y) (a b : Option X) → option_map f (option_or a b) ≡ option_or (option_map f a) (option_map f b)
+  option_map-option_or f None b = refl
+  option_map-option_or f (Some x) b = refl
+
+  -- what the first of two references that is there shows
+  pub option_copied-option_or : (a b o : Option (Bor X)) → option_or a b ≡ o → option_or (option_copied a) (option_copied b) ≡ option_copied o
+  option_copied-option_or None b o e = ap option_copied e
+  option_copied-option_or (Some x) b o e = ap option_copied e
+
+  first_passes : (p : X → Bool) (b : Bool) (y : X) → b ≡ p y → (rest : Option X) (x : X) → cond b (Some y) rest ≡ Some x → (rest ≡ Some x → p x ≡ true) → p x ≡ true
+  first_passes p true y is rest x e later = cc
+  first_passes p false y is rest x e later = later e
+
+  pub found_passes : (p : X → Bool) (xs : List X) (x : X) → find p xs ≡ Some x → p x ≡ true
+  found_passes p [] x e = absurd (cc)
+  found_passes p (y ∷ ys) x e = first_passes p (p y) y refl (find p ys) x e (found_passes p ys x)
+
+  pub filter_all : (p : X → Bool) (xs : List X) → All (λ x. p x ≡ true) xs → filter p xs ≡ xs
+  filter_all p [] h = refl
+  filter_all p (x ∷ xs) h = rw (h 0 x (omega arith)) (ap (λ ys. x ∷ ys) (filter_all p xs (λ k d lt. h (suc k) d (omega arith))))
+
+  pub All_at : (P : X → Type 0) (xs : List X) (i : ℕ) (x : X) → All P xs → slice_get xs i ≡ Some x → P x
+  All_at P xs i x h e = subst P (get_or_from_slice_get xs i x x e) (h i x (slice_get_within xs i x e))
+
+module _ {T : Type 0} where
+  pub rising_tail : (e : Entry T) (es : List (Entry T)) → IsRising (e ∷ es) → IsRising es
+  rising_tail e es h i j d lt within = h (suc i) (suc j) d (omega arith) (omega arith)
+
+  pub above_head : (e : Entry T) (es : List (Entry T)) → IsRising (e ∷ es) → All (λ x. e.slot < x.slot) es
+  above_head e es h k d within = h 0 (suc k) d (omega arith) (omega arith)
+
+  -- the entry at a place is the one under its slot
+  pub found_at : (es : List (Entry T)) (i : ℕ) (x : Entry T) → IsRising es → slice_get es i ≡ Some x → find (λ e. e.slot == x.slot) es ≡ Some x
+  found_at [] i x rising at = absurd (cc)
+  found_at (e ∷ es) zero x rising at = grind (arith, nat_tests)
+  found_at (e ∷ es) (suc i) x rising at =
+      let above : e.slot < x.slot = All_at (λ y. e.slot < y.slot) es i x (above_head e es rising) at in
+      grind (arith, nat_tests, above, found_at es i x (rising_tail e es rising) at)
+
+  -- taking out the entry at a place leaves the entries under other slots
+  pub remove_at : (es : List (Entry T)) (i : ℕ) (x : Entry T) → IsRising es → slice_get es i ≡ Some x → remove es i ≡ filter (λ e. not (e.slot == x.slot)) es
+  remove_at [] i x rising at = absurd (cc)
+  remove_at (e ∷ es) zero x rising at =
+      let rest : filter (λ y. not (y.slot == x.slot)) es ≡ es =
+          filter_all (λ y. not (y.slot == x.slot)) es (λ k d lt. let above = above_head e es rising k d lt in grind (arith, nat_tests, above)) in
+      grind (arith, nat_tests, rest)
+  remove_at (e ∷ es) (suc i) x rising at =
+      let above : e.slot < x.slot = All_at (λ y. e.slot < y.slot) es i x (above_head e es rising) at in
+      grind (arith, nat_tests, above, remove_at es i x (rising_tail e es rising) at)
+
+  -- writing a value at a place changes the value under its slot
+  pub set_at : (es : List (Entry T)) (i : ℕ) (x : Entry T) (w : T) → IsRising es → slice_get es i ≡ Some x
+      → set es i (record x { value = w }) ≡ map (revalued x.slot w) es
+  set_at [] i x w rising at = absurd (cc)
+  set_at (e ∷ es) zero x w rising at =
+      let rest : map (revalued x.slot w) es ≡ es =
+          map_fixed (revalued x.slot w) es (λ k d lt. let above = above_head e es rising k d lt in grind (arith, nat_tests, above)) in
+      grind (arith, nat_tests, rest)
+  set_at (e ∷ es) (suc i) x w rising at =
+      let above : e.slot < x.slot = All_at (λ y. e.slot < y.slot) es i x (above_head e es rising) at in
+      grind (arith, nat_tests, above, set_at es i x w (rising_tail e es rising) at)
+
+  -- a binary search by slot ends at the entry under the slot, or where there is none
+  pub searched : (es : List (Entry T)) (slot : ℕ) (r : Result ℕ ℕ) → IsRising es → IsSearchInRange r (length es)
+      → IsBinarySearchResult (λ e. nat_cmp e.slot slot) es r → option_and_then (slice_get es) (result_ok r) ≡ find (λ e. e.slot == slot) es
+  searched es slot (Ok i) rising within equal =
+      elim (slice_get_cases es i).1 [
+        inl w ↦
+          let here : w.0.slot ≡ slot = ap (λ (e : Entry T). e.slot) (sym w.3) ∙ ranked _ slot _ (sym (equal w.0)) in
+          w.2 ∙ subst (λ n. Some w.0 ≡ find (λ (e : Entry T). e.slot == n) es) here (sym (found_at es i w.0 rising w.2))
+        | inr w ↦ absurd (omega (arith, within))
+      ]
+  searched es slot (Err i) rising within parted =
+      let rise : IsNonDecreasingBy (λ (e : Entry T). ordering_index (nat_cmp e.slot slot)) es =
+          λ j k d le lt. grind (arith, nat_tests, rising j k d, λ (same : j ≡ k). ap (λ n. (get_or es n d).slot) same) in
+      let halves = parted rise in
+      sym (find_none (λ e. e.slot == slot) es (λ k d lt.
+        let before : k < i → (get_or es k d).slot < slot = λ below. ranked _ slot _ (sym (halves.0 k d (omega arith) below)) in
+        let behind : i ≤ k → slot < (get_or es k d).slot = λ above. ranked _ slot _ (sym (halves.1 k d above lt)) in
+        grind (arith, nat_tests, before, behind)))
+
+  -- where no entry has the slot, leaving it out leaves all
+  pub all_others : (es : List (Entry T)) (slot : ℕ) → find (λ e. e.slot == slot) es ≡ None → filter (λ e. not (e.slot == slot)) es ≡ es
+  all_others es slot none = filter_all (λ e. not (e.slot == slot)) es (λ k d lt. let other = none_found (λ (e : Entry T). e.slot == slot) es none k d lt in rw other refl)
+
+  -- the first entry above a slot stands where those at most that slot end
+  pub first_above : (es : List (Entry T)) (slot i : ℕ) → AllWithin (λ e. nat_le e.slot slot ≡ true) es 0 i → AllWithin (λ e. nat_le e.slot slot ≡ false) es i (length es)
+      → option_map (λ e. e.slot) (slice_get es i) ≡ find (λ held. nat_lt slot held) (map (λ e. e.slot) es)
+  first_above [] slot i below above = refl
+  first_above (e ∷ es) slot zero below above = let here = above 0 e (omega arith) (omega arith) in grind (arith, nat_tests, here)
+  first_above (e ∷ es) slot (suc i) below above =
+      let here = below 0 e (omega arith) (omega arith) in
+      let rest = first_above es slot i (λ k d low lt. below (suc k) d (omega arith) (omega arith)) (λ k d low lt. above (suc k) d (omega arith) (omega arith)) in
+      grind (arith, nat_tests, here, rest)
+
+  -- the entries at most a slot come first
+  pub parted_by : (es : List (Entry T)) (slot : ℕ) → IsRising es → IsPartitionedBy (λ e. nat_le e.slot slot) es
+  parted_by es slot rising i j d le lt passes =
+      grind (arith, nat_tests, rising i j d, λ (same : i ≡ j). ap (λ n. (get_or es n d).slot) same)
+
+  -- the slot of that entry, or of the first entry where there is none
+  pub next_found : (es : List (Entry T)) (slot i : ℕ) (o : Option (Entry T)) → option_or (slice_get es i) (slice_get es 0) ≡ o
+      → AllWithin (λ e. nat_le e.slot slot ≡ true) es 0 i → AllWithin (λ e. nat_le e.slot slot ≡ false) es i (length es)
+      → option_map (λ e. e.slot) o ≡ option_or (find (λ held. nat_lt slot held) (map (λ e. e.slot) es)) (slice_get (map (λ e. e.slot) es) 0)
+  next_found es slot i o found below above =
+      let f : Entry T → ℕ = λ e. e.slot in
+      sym (ap (option_map f) found) ∙ option_map-option_or f (slice_get es i) (slice_get es 0)
+      ∙ (λ j. option_or (first_above es slot i below above j) (sym (slice_get-map f es 0) j))
+
+  -- the entry that a search by slot ended at: it is the one under the slot, and an edit at its place is one by its slot
+  pub record IsPlaceOf (es : List (Entry T)) (slot i : ℕ) (x : Entry T) : Type 0 where
+    pub at : slice_get es i ≡ Some x
+    pub found : Some x ≡ find (λ e. e.slot == slot) es
+    pub removed : remove es i ≡ filter (λ e. not (e.slot == slot)) es
+    pub written : (w : T) → set es i (record x { value = w }) ≡ map (revalued slot w) es
+
+  pub place_found : (es : List (Entry T)) (slot i : ℕ) (x : Entry T) → IsRising es → slice_get es i ≡ find (λ e. e.slot == slot) es
+      → i < length es → x ≡ get_or es i x → IsPlaceOf es slot i x
+  place_found es slot i x rising search_end within read =
+      let at : slice_get es i ≡ Some x = slice_get_read es (length es) i x refl within read in
+      let passes = found_passes (λ (e : Entry T). e.slot == slot) es x (sym search_end ∙ at) in
+      let same : x.slot ≡ slot = grind (arith, nat_tests, passes) in
+      subst (λ n. IsPlaceOf es n i x) same (record {
+        at = at;
+        found = sym (found_at es i x rising at);
+        removed = remove_at es i x rising at;
+        written = λ w. set_at es i x w rising at;
+      })

@@ -1,0 +1,194 @@
+//! The table of an end's connections: by flow, by slot, and in the order in which they were opened.
+ghost use Rattle.std.specs.Prelude.{◌≡◌, ◌<◌, ◌==◌, [], length, find, Some, None, IfOk, IfErr, OnOk, OnErr, IfSome, filter, not, slice_get, option_copied, vec_capacity};
+ghost use Rattle.std.specs.Option.{option_map, option_and_then, option_copied_mut};
+ghost use Rattle.std.specs.Borrow.{sem};
+ghost use Rattle.vs_flow.specs.Table.{IsTable, IsRising, entry_under, entry_of, value_under, slot_after, refusal, with_entry, without, emptied};
+
+use crate::flow::Flow;
+use std::alloc::{AllocError, Global};
+use std::marker::Model;
+
+/// The number of an entry. A table counts its slots up from 0 and gives none twice, so rising slot is order of opening.
+pub type Slot = u64;
+
+/// One connection in a table.
+#[derive(Drop)]
+pub struct Entry<T> {
+    /// The slot that it has in its table.
+    pub slot: Slot,
+    /// The flow that names it. A table holds a flow once.
+    pub flow: Flow,
+    /// What is kept of the connection.
+    pub value: T,
+}
+
+/// Why a table takes no entry for a flow.
+#[derive(Clone, Copy, Debug, PartialEq, Eq)]
+pub enum TableFault {
+    /// The table holds its `n` entries, or has given its last slot.
+    Full { n: usize },
+    /// The flow is there.
+    Taken { flow: Flow },
+}
+
+/// The connections of an end, at most `n` at once, each with its flow and a value.
+///
+/// `new` makes the room for all of them, and no other call takes memory.
+#[derive(Drop)]
+pub struct FlowTable<T> {
+    n: usize,
+    entries: Vec<Entry<T>>,
+    // `None` once the last slot was given.
+    next: Option<Slot>,
+}
+
+impl<T> Model for FlowTable<T> {
+    ghost use Rattle.vs_flow.specs.Table.{Table};
+
+    ghost Value = { Table T };
+
+    ghost use Rattle.vs_flow.specs.TableFields.{table_of, IsSound};
+
+    ghost view = { table_of };
+
+    ghost invariant = { IsSound };
+}
+
+impl<T> FlowTable<T> {
+    ghost use Rattle.vs_flow.specs.TableLends.{lends_value};
+
+    /// Makes an empty table with room for `n` entries.
+    pub fn new(alloc: Global, n: usize) -> Result<Self, AllocError>
+        ensures empty { IfOk result (λ t. t ≡ record { room = n; entries = []; given = 0 }) }
+    {
+        Ok(FlowTable {
+            n,
+            entries: Vec::with_capacity(alloc, n)?,
+            next: Some(0),
+        })
+    }
+
+    /// Returns the number of entries.
+    pub fn len(&self) -> usize
+        ensures len { result ≡ length self.now.entries }
+        ensures sound { IsTable self.now }
+    {
+        self.entries.len()
+    }
+
+    /// Adds an entry for a flow, under the next slot, and returns that slot.
+    ///
+    /// Gives the value back with `Taken` where the flow is there, else with `Full` where `n` entries are held or the last slot was
+    /// given. The table is then as it was.
+    pub fn insert(&mut self, flow: Flow, value: T) -> Result<Slot, (TableFault, T)>
+        ensures slot { IfOk result (λ slot. slot ≡ self.old.given) }
+        ensures opened { OnOk result (self.new ≡ with_entry self.old flow value) }
+        ensures accepted { OnOk result (refusal self.old flow ≡ None) }
+        ensures refused { IfErr result (λ e. refusal self.old flow ≡ Some e.0) }
+        ensures value_returned { IfErr result (λ e. e.1 ≡ value) }
+        ensures unchanged { OnErr result (self.new ≡ self.old) }
+        ensures sound { IsTable self.new }
+    {
+        if self.by_flow(flow).is_some() {
+            return Err((TableFault::Taken { flow }, value));
+        }
+        let full = TableFault::Full { n: self.n };
+        match self.next {
+            Some(slot) if self.entries.len() < self.n => {
+                self.entries.push_reserved(Entry { slot, flow, value });
+                self.next = slot.checked_add(1);
+                Ok(slot)
+            }
+            _ => Err((full, value)),
+        }
+    }
+
+    /// Returns the value under a slot, or `None` where the slot isn't held.
+    pub fn get(&self, slot: Slot) -> Option<&T>
+        ensures value { option_copied result ≡ value_under self.now slot }
+    {
+        let place = place_of(&self.entries, slot)?;
+        Some(&self.entries[place].value)
+    }
+
+    /// Returns the value under a slot to write to, or `None` where the slot isn't held. Nothing else of the table can change.
+    pub fn get_mut(&mut self, slot: Slot) -> Option<&mut T>
+        ensures* writes_back { sem 𝓛 (lends_value T.row self.entry slot result) }
+        ensures value { option_copied_mut result ≡ value_under self.old slot }
+    {
+        let place = place_of(&self.entries, slot)?;
+        Some(&mut self.entries[place].value)
+    }
+
+    /// Returns the slot of a flow, or `None` where the flow isn't there.
+    pub fn by_flow(&self, flow: Flow) -> Option<Slot>
+        ensures slot { result ≡ option_map (λ e. e.slot) (entry_of self.now flow) }
+    {
+        let entry = self.entries.iter().find(|e| e.flow == flow)?;
+        Some(entry.slot)
+    }
+
+    /// Returns the flow under a slot, or `None` where the slot isn't held.
+    pub fn flow_of(&self, slot: Slot) -> Option<Flow>
+        ensures flow { result ≡ option_map (λ e. e.flow) (entry_under self.now slot) }
+    {
+        let place = place_of(&self.entries, slot)?;
+        Some(self.entries[place].flow)
+    }
+
+    /// Returns the entry at a place, counted from 0 by rising slot, or `None` where there are no more.
+    pub fn at(&self, place: usize) -> Option<&Entry<T>>
+        ensures entry { option_copied result ≡ slice_get self.now.entries place }
+    {
+        self.entries.get(place)
+    }
+
+    /// Takes the entry under a slot out and returns its value, or `None` where the slot isn't held. The other entries keep their
+    /// slots, flows, values and order.
+    pub fn remove(&mut self, slot: Slot) -> Option<T>
+        ensures value { result ≡ value_under self.old slot }
+        ensures removed { self.new ≡ without self.old slot }
+        ensures sound { IsTable self.new }
+    {
+        let entry = take_under(&mut self.entries, slot)?;
+        Some(entry.value)
+    }
+
+    /// Returns the least slot held that is greater, else the least slot held, or `None` where no entry is held.
+    pub fn next_after(&self, slot: Slot) -> Option<Slot>
+        ensures next { result ≡ slot_after self.now slot }
+    {
+        let place = self.entries.partition_point(|e| e.slot <= slot);
+        let next = self.at(place).or(self.at(0))?;
+        Some(next.slot)
+    }
+
+    /// Lets go of all entries. The slots that were given stay given.
+    pub fn clear(&mut self)
+    where
+        T: Drop,
+        ensures { self.new ≡ emptied self.old }
+    {
+        self.entries.clear();
+    }
+}
+
+// The place of the entry under a slot, by rising slot.
+fn place_of<T>(entries: &[Entry<T>], slot: Slot) -> Option<usize>
+    requires { IsRising entries.now }
+    ensures found { IfSome result (λ i. i < length entries.now) }
+    ensures entry { option_and_then (slice_get entries.now) result ≡ find (λ e. e.slot == slot) entries.now }
+{
+    entries.binary_search_by_key(&slot, |e| e.slot).ok()
+}
+
+// Takes the entry under a slot out. The others keep their order.
+fn take_under<T>(entries: &mut Vec<Entry<T>>, slot: Slot) -> Option<Entry<T>>
+    requires { IsRising entries.old.items }
+    ensures entry { result ≡ find (λ e. e.slot == slot) entries.old.items }
+    ensures others { entries.new.items ≡ filter (λ e. not (e.slot == slot)) entries.old.items }
+    ensures capacity { vec_capacity entries.new ≡ vec_capacity entries.old }
+{
+    let place = place_of(entries, slot)?;
+    Some(entries.remove(place))
+}
