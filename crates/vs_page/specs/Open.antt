@@ -1,5 +1,5 @@
 -- The connections that a log left open.
-use Rattle.std.specs.Prelude.{ℕ, ◌==◌, Bool, true, false, ◌&&◌, not, if◌then◌else◌, List, [], ◌∷◌}
+use Rattle.std.specs.Prelude.{ℕ, ◌==◌, Bool, true, false, ◌&&◌, not, if◌then◌else◌, [], ◌∷◌}
 use Rattle.vs_header.specs.Kind.{kind_number}
 use Rattle.vs_header.specs.declared.Header.{Header}
 use Rattle.vs_header.specs.declared.Kind.TheVariants.{Stream}
@@ -8,7 +8,7 @@ use Rattle.vs_flow.specs.declared.flow.Flow.{Flow}
 use Rattle.vs_history.specs.declared.packet.Packet.{Packet}
 use Rattle.vs_history.specs.Packets.{is_request, is_rst}
 use Rattle.vs_page.specs.Log.{Log, Role, Driver, Device, flow_put, flow_got}
-use Rattle.vs_page.specs.declared.log.LogEntry.TheVariants.{PutPacket, GotPacket, PutEvent, GotEvent, Mark}
+use Rattle.vs_page.specs.declared.log.LogEntry.TheVariants.{PutPacket, GotPacket, Mark}
 use Rattle.vs_page.specs.declared.log.TheConstants.{HOST_CID}
 
 -- The guest's CID after a log, where it was this at first.
