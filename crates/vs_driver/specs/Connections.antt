@@ -144,10 +144,14 @@ after_read n c = record c { unread = drop n c.unread; end = with_payload_forward
 abbrev pub gone_after_read : ℕ → ℕ → GoneConnection → GoneConnection
 gone_after_read id n g = if g.id == id then record g { unread = drop n g.unread } else g
 
+abbrev pub all_gone_after_read : ℕ → ℕ → List GoneConnection → List GoneConnection
+all_gone_after_read id n [] = []
+all_gone_after_read id n (g ∷ gs) = gone_after_read id n g ∷ all_gone_after_read id n gs
+
 abbrev pub after_recv : ℕ → ℕ → DriverState → DriverState
 after_recv id n s = elim (entry_known_as id s) [
   | Some e ↦ if length e.value.unread == 0 then s else with_connection e.slot (after_read n e.value) s
-  | None ↦ record s { gone = map (gone_after_read id n) s.gone }
+  | None ↦ record s { gone = all_gone_after_read id n s.gone }
 ]
 
 -- shutdown. What is not to be received any more is dropped.

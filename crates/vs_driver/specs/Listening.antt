@@ -12,7 +12,8 @@ listener_on port ls = find (λ l. l.port == port) ls
 
 -- The listeners with others waiting at a port.
 abbrev pub with_waiting : ℕ → (List ℕ → List ℕ) → List Listener → List Listener
-with_waiting port change ls = map (λ l. if l.port == port then record l { waiting = change l.waiting } else l) ls
+with_waiting port change [] = []
+with_waiting port change (l ∷ ls) = (if l.port == port then record l { waiting = change l.waiting } else l) ∷ with_waiting port change ls
 
 -- A connection waits at the end, or waits no more.
 abbrev pub waiting_too : ℕ → List ℕ → List ℕ

@@ -1,5 +1,5 @@
 -- What the driver does with the packets and events that it takes.
-use Rattle.std.specs.Prelude.{ℕ, ◌+◌, ◌^◌, ◌==◌, ◌&&◌, not, min, nat_lt, nat_le, Bool, true, false, if◌then◌else◌, List, [], ◌∷◌, ◌++◌, length, map, find, Option, Some, None, is_some}
+use Rattle.std.specs.Prelude.{ℕ, ◌+◌, ◌-◌, ◌^◌, ◌==◌, ◌&&◌, not, min, nat_lt, nat_le, Bool, true, false, if◌then◌else◌, List, [], ◌∷◌, ◌++◌, length, map, find, Option, Some, None, is_some}
 use Rattle.vs_header.specs.Kind.{kind_number}
 use Rattle.vs_header.specs.Op.{op_number}
 use Rattle.vs_header.specs.declared.Header.{Header}
