@@ -1,0 +1,64 @@
+-- The calls that a device makes on its ring and on its host, and the answers that they may get.
+use Rattle.std.specs.Prelude.{◌≡◌, ℕ, Bool, false, List, length, Option}
+use Rattle.vs_contents.specs.CallTree.{CallTree}
+use Rattle.vs_contents.specs.Contents.{Exposes}
+use Rattle.vs_flow.specs.declared.flow.Flow.{Flow}
+use Rattle.vs_outside.specs.Faults.{CountsFault}
+use Rattle.vs_outside.specs.Host.{HostContents, accept_answer, after_accept, IsDialed, after_dial, after_label, IsRead, after_read, IsWritten, after_write, after_shut_write, after_close, accept_failed, dial_failed, read_failed, write_failed, read_answer, next_bytes}
+use Rattle.vs_outside.specs.declared.host_net.Accepted.{Accepted}
+use Rattle.vs_outside.specs.declared.host_net.Dialed.{Dialed}
+use Rattle.vs_outside.specs.declared.host_net.StreamRead.{StreamRead}
+use Rattle.vs_outside.specs.declared.host_net.StreamRead.TheVariants as read
+use Rattle.vs_outside.specs.declared.host_net.StreamWrite.{StreamWrite}
+use Rattle.vs_ring_port.specs.Contents.{RingContents, DeviceCall, DeviceAnswer}
+use Rattle.vs_ring_port.specs.DeviceCalls.{DeviceAllows}
+
+-- A call on the ring or on the host. A read of a stream is into a buffer of so many bytes.
+pub data Call : Type 0 where
+  Ring : DeviceCall → Call
+  Accept : Call
+  Dial : List ℕ → Flow → Call
+  Label : ℕ → Flow → Call
+  ReadStream : ℕ → ℕ → Call
+  WriteStream : ℕ → List ℕ → Call
+  ShutWrite : ℕ → Call
+  CloseStream : ℕ → Call
+
+-- What is read of a stream: the answer, and the bytes where there are some.
+abbrev pub Answer : Call → Type 0
+Answer (Ring call) = DeviceAnswer call
+Answer Accept = Accepted
+Answer (Dial path flow) = Dialed
+Answer (ReadStream stream n) = StreamRead × List ℕ
+Answer (WriteStream stream bytes) = StreamWrite
+Answer _ = Unit {0}
+
+abbrev pub DeviceTree : Type 0 → Type 0
+DeviceTree A = CallTree Call Answer A
+
+-- What ring and host expose, and how many of the host's calls failed.
+pub record Situation : Type 0 where
+  pub ring : RingContents
+  pub host : Option HostContents
+  pub faults : ℕ
+
+-- A call on the host, which failed or not: the ring stays; where the host exposes its contents, P holds of them and f changes them.
+pub record HostMoves (failed : Bool) (P : HostContents → Type 0) (f : HostContents → HostContents) (old new : Situation) : Type 0 where
+  pub ring : new.ring ≡ old.ring
+  pub faults : CountsFault failed old.faults new.faults
+  pub host : Exposes old.host new.host P f
+
+-- The bytes of an answer are the next ones of the stream.
+abbrev pub IsReadOf : ℕ → ℕ → StreamRead × List ℕ → HostContents → Type 0
+IsReadOf stream n (read.Got k, bytes) c = (read.Got k ≡ read_answer stream n c) × (bytes ≡ next_bytes stream k c)
+IsReadOf stream n (answer, bytes) c = answer ≡ read_answer stream n c
+
+abbrev pub Allows : (call : Call) → Answer call → Situation → Situation → Type 0
+Allows (Ring call) a old new = DeviceAllows call a old.ring new.ring × (new.host ≡ old.host) × (new.faults ≡ old.faults)
+Allows Accept a old new = HostMoves (accept_failed a) (λ c. a ≡ accept_answer c) (after_accept a) old new
+Allows (Dial path flow) a old new = HostMoves (dial_failed a) (IsDialed path a) (after_dial flow a) old new
+Allows (Label stream flow) a old new = HostMoves false (λ c. Unit {0}) (after_label stream flow) old new
+Allows (ReadStream stream n) a old new = HostMoves (read_failed a.0) (IsReadOf stream n a) (after_read stream a.0) old new
+Allows (WriteStream stream bytes) a old new = HostMoves (write_failed a) (IsWritten stream (length bytes) a) (after_write stream bytes a) old new
+Allows (ShutWrite stream) a old new = HostMoves false (λ c. Unit {0}) (after_shut_write stream) old new
+Allows (CloseStream stream) a old new = HostMoves false (λ c. Unit {0}) (after_close stream) old new

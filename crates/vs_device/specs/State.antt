@@ -1,0 +1,49 @@
+-- What the device holds, as plain lists.
+use Rattle.std.specs.Prelude.{ℕ, ◌==◌, Bool, List, Option}
+use Rattle.vs_conn.specs.End.{ConnectionEnd}
+use Rattle.vs_flow.specs.Table.{Table}
+use Rattle.vs_flow.specs.declared.table.Entry.{Entry}
+use Rattle.vs_replies.specs.declared.Reply.{Reply}
+use Rattle.vs_ring_port.specs.declared.device_ring.Chain.{Chain}
+use Rattle.vs_ring_port.specs.declared.failure.Failure.{Failure}
+
+-- A connection of the table: its end, and the host's stream that it is joined to.
+pub record DeviceConnection : Type 0 where
+  pub end : ConnectionEnd
+  pub stream : ℕ
+  -- A client of the host asked for it.
+  pub by_client : Bool
+  -- What is left to write of the OK line, and of the payload after it.
+  pub ok_line : List ℕ
+  pub pending : List ℕ
+  -- The moments at which its REQUEST was put, and at which it had decided to shut both directions.
+  pub asked_at : Option ℕ
+  pub shut_at : Option ℕ
+  -- The device closed the stream; it shut the side that it writes to.
+  pub closed : Bool
+  pub write_shut : Bool
+
+abbrev pub DeviceEntry : Type 0
+DeviceEntry = Entry DeviceConnection
+
+pub record DeviceState : Type 0 where
+  -- The guest's CID, and the base path.
+  pub cid : ℕ
+  pub base : List ℕ
+  -- The moment of the last tick, in milliseconds.
+  pub now : ℕ
+  pub table : Table DeviceConnection
+  -- RSTs owed to unknown flows, oldest first.
+  pub replies : List Reply
+  pub event_owed : Bool
+  -- The rx chain that is held for the next packet.
+  pub chain : Option Chain
+  -- The slot that last put a packet.
+  pub last_put : Option ℕ
+  -- The failure of the ring, which is kept.
+  pub failed : Option Failure
+  pub dropped : ℕ
+  pub overrun : ℕ
+  pub faults : ℕ
+  pub opened : ℕ
+  pub closed : ℕ

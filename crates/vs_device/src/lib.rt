@@ -1,0 +1,8 @@
+//! The device of a host: it takes packets from the guest and puts packets to it, and moves bytes to and from the host's streams
+//! (Virtio 1.2, section 5.10.6).
+#![tactic(auto)]
+
+pub mod answers;
+pub mod limits;
+
+pub use answers::{Counters, Filled, Taken};
