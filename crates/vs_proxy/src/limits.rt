@@ -1,0 +1,4 @@
+//! The proxy's limits.
+
+/// Handshakes at once.
+pub const HANDSHAKES: usize = 16;
