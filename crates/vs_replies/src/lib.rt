@@ -1,0 +1,177 @@
+//! Replies that are owed to packets of no known connection: each such packet, where it is no RST, gets RST (Virtio 1.2,
+//! section 5.10.6.5). They wait in a bounded queue until they are put, so that packets still come in while none can be
+//! put (section 5.10.6.1).
+#![tactic(auto)]
+
+ghost use Rattle.std.specs.Prelude.{◌≡◌, ◌+◌, ◌-◌, ◌<◌, ◌≤◌, ◌==◌, ◌↔◌};
+ghost use Rattle.std.specs.Prelude.{[], ◌∷◌, ◌++◌, IfErr, IfOk, IsErr, OnErr, OnOk, drop, length, slice_get};
+ghost use Rattle.vs_replies.specs.Owed.{reply_to};
+
+use circular_buffer::HeapCircularBuffer;
+use std::alloc::{AllocError, Global};
+use std::marker::Model;
+use vs_header::Header;
+
+/// An RST that is owed to a packet of no known connection.
+#[derive(Clone, Copy, Debug, PartialEq, Eq)]
+pub struct Reply {
+    /// Port of the side that replies.
+    pub src_port: u32,
+    /// Port of the side that gets the reply.
+    pub dst_port: u32,
+}
+
+impl Reply {
+    /// The reply to a packet: the ports change places.
+    pub fn to(packet: &Header) -> Reply
+        ensures exact { result ≡ reply_to packet.now }
+        ensures from { result.src_port ≡ packet.now.dst_port }
+        ensures to { result.dst_port ≡ packet.now.src_port }
+    {
+        Reply {
+            src_port: packet.dst_port,
+            dst_port: packet.src_port,
+        }
+    }
+}
+
+/// As many replies are owed as there may be.
+#[derive(Clone, Copy, Debug, PartialEq, Eq)]
+pub struct Full {
+    /// How many replies are owed.
+    pub n: usize,
+}
+
+/// A bounded queue of the replies that are owed. All its memory is taken when it is made.
+#[derive(Drop)]
+pub struct Replies {
+    ring: HeapCircularBuffer<Reply>,
+}
+
+impl Model for Replies {
+    ghost use Rattle.vs_replies.specs.Owed.{OwedReplies};
+
+    ghost Value = { OwedReplies };
+
+    ghost view = { λ r. record { owed = r.ring.items; capacity = r.ring.capacity } };
+}
+
+impl Replies {
+    /// An empty queue for at most `n` replies, or an error where there is no memory for them.
+    pub fn new(alloc: Global, n: usize) -> Result<Replies, AllocError>
+        ensures { IfOk result (λ r. r ≡ record { owed = []; capacity = n }) }
+    {
+        let ring = HeapCircularBuffer::with_capacity(alloc, n)?;
+        Ok(Replies { ring })
+    }
+
+    /// Owes one more reply, after all others. Where as many are owed as there may be it is an error that tells how many,
+    /// and all stays as it was.
+    pub fn owe(&mut self, reply: Reply) -> Result<(), Full>
+        ensures refused { IsErr result ↔ (length self.old.owed ≡ self.old.capacity) }
+        ensures ok { OnOk result (self.new ≡ record self.old { owed = self.old.owed ++ reply ∷ [] }) }
+        ensures full { IfErr result (λ e. e ≡ record { n = self.old.capacity }) }
+        ensures kept { OnErr result (self.new ≡ self.old) }
+    {
+        match self.ring.try_push_back(reply) {
+            Ok(()) => Ok(()),
+            Err(_) => Err(Full { n: self.ring.len() }),
+        }
+    }
+
+    /// The reply that is owed longest, if one is owed.
+    pub fn front(&self) -> Option<Reply>
+        ensures { result ≡ slice_get self.now.owed 0 }
+    {
+        self.ring.front().copied()
+    }
+
+    /// Counts the reply that is owed longest as put. One has to be owed.
+    pub fn paid(&mut self)
+        requires { 0 < length self.old.owed }
+        ensures { self.new ≡ record self.old { owed = drop 1 self.old.owed } }
+    {
+        self.ring.pop_front();
+    }
+
+    /// How many replies are owed.
+    pub fn len(&self) -> usize
+        ensures exact { result ≡ length self.now.owed }
+        ensures within { result ≤ self.now.capacity }
+    {
+        self.ring.len()
+    }
+
+    /// Whether no reply is owed.
+    pub fn is_empty(&self) -> bool
+        ensures { result ≡ (length self.now.owed == 0) }
+    {
+        self.ring.is_empty()
+    }
+
+    /// How many more replies may be owed.
+    pub fn room(&self) -> usize
+        ensures exact { result ≡ self.now.capacity - length self.now.owed }
+        ensures within { length self.now.owed + result ≡ self.now.capacity }
+    {
+        self.ring.capacity() - self.ring.len()
+    }
+
+    /// Drops all replies: none is owed.
+    pub fn clear(&mut self)
+        ensures { self.new ≡ record self.old { owed = [] } }
+    {
+        self.ring.clear();
+    }
+}
+
+#[cfg(test)]
+mod tests {
+    use super::*;
+    use std::test::Fail;
+    use vs_header::{Kind, Op};
+
+    // The reply to an RW from port 2000 to port 52.
+    fn reply() -> Reply {
+        Reply::to(&Header {
+            src_cid: 3,
+            dst_cid: 2,
+            src_port: 2000,
+            dst_port: 52,
+            len: 1,
+            kind: Kind::Stream.number(),
+            op: Op::Rw.number(),
+            flags: 0,
+            buf_alloc: 65_536,
+            fwd_cnt: 0,
+        })
+    }
+
+    #[test]
+    fn replies_are_paid_in_order(rt: HostRuntime) -> Result<(), Fail> {
+        let second = Reply {
+            src_port: 52,
+            dst_port: 2001,
+        };
+        let mut replies = Replies::new(rt.alloc(), 2)?;
+        assert_eq!(rt; replies.front(), None);
+        assert_eq!(rt; replies.owe(reply()), Ok(()));
+        assert_eq!(rt; replies.owe(second), Ok(()));
+        assert_eq!(rt; replies.owe(second), Err(Full { n: 2 }));
+        assert_eq!(rt;
+            replies.front(),
+            Some(Reply {
+                src_port: 52,
+                dst_port: 2000
+            })
+        );
+        if !replies.is_empty() {
+            replies.paid();
+        }
+        assert_eq!(rt; replies.front(), Some(second));
+        assert_eq!(rt; replies.room(), 1);
+        replies.clear();
+        assert!(rt; replies.is_empty());
+        Ok(())
+    }
+}
