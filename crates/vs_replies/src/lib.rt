@@ -1,6 +1,6 @@
 //! Replies that are owed to packets of no known connection: each such packet, where it is no RST, gets RST (Virtio 1.2,
-//! section 5.10.6.4). They wait in a bounded queue until they are put, so that packets still come in while none can be
-//! put.
+//! section 5.10.6.5). They wait in a bounded queue until they are put, so that packets still come in while none can be
+//! put (section 5.10.6.1).
 #![tactic(auto)]
 
 ghost use Rattle.std.specs.Prelude.{◌≡◌, ◌+◌, ◌-◌, ◌<◌, ◌≤◌, ◌==◌, ◌↔◌};
