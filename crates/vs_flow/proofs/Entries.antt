@@ -1,5 +1,5 @@
 -- Lists of entries whose slots rise: where a slot stands, and what an edit at its place leaves.
-use Rattle.std.proofs.Common.{◌≡◌, ◌≢◌, ℕ, zero, suc, ◌+◌, ◌<◌, ◌≤◌, Bool, true, false, not, cond, ◌==◌, nat_le, nat_lt, List, [], ◌∷◌, length, map, get_or, set, Option, Some, None, Result, Ok, Err, refl, ap, sym, subst, inl, inr, arith, ◌∙◌}
+use Rattle.std.proofs.Common.{◌≡◌, ◌≢◌, ℕ, zero, suc, ◌+◌, ◌<◌, ◌≤◌, Bool, true, false, not, cond, ◌==◌, nat_le, nat_lt, List, [], ◌∷◌, ◌++◌, length, map, take, get_or, set, Option, Some, None, Result, Ok, Err, refl, ap, sym, subst, inl, inr, arith, ◌∙◌}
 use Rattle.std.specs.List.{All, AllPairs, AllWithin, find, filter, remove, slice_get}
 use Rattle.std.specs.List.Sorted.{IsSearchInRange, IsBinarySearchResult, IsNonDecreasingBy, IsPartitionedBy}
 use Rattle.std.specs.Option.{option_and_then, option_map, option_or, option_copied}
@@ -10,9 +10,24 @@ use Rattle.std.proofs.lemmas.Cmp.{ranked}
 use Rattle.std.proofs.lemmas.Bool.Decides.{nat_tests}
 use Rattle.std.proofs.lemmas.Grind.{common_steps}
 use Rattle.std.proofs.lemmas.List.Folds.{map_fixed}
+use Rattle.std.proofs.lemmas.List.{map_more, get_or-take, get_or_default, length-take}
 use Rattle.std.proofs.lemmas.Option.{slice_get_cases, slice_get_read, slice_get-map, get_or_from_slice_get, slice_get_within}
 use Rattle.vs_flow.specs.declared.table.Entry.{Entry}
+use Rattle.std.specs.Map.{lookup}
+use Rattle.vs_flow.specs.declared.flow.Flow.{Flow}
+use Rattle.vs_flow.specs.Flow.{same_flow}
+use Rattle.vs_flow.specs.Entries.{slots_by_flow}
 use Rattle.vs_flow.specs.Table.{IsRising, revalued}
+
+same_flow_false : (f g : Flow) → f ≢ g → same_flow f g ≡ false
+same_flow_false f g differ = by (same_flow f g) refl
+  where
+    by : (b : Bool) → b ≡ same_flow f g → b ≡ false
+    by true is =
+        let guest : f.guest ≡ g.guest = grind (arith, nat_tests, is) in
+        let host : f.host ≡ g.host = grind (arith, nat_tests, is) in
+        absurd (differ (λ i. record { guest = guest i; host = host i }))
+    by false is = refl
 
 module _ {X : Type 0} where
   -- where the first element fails, the others decide
@@ -54,6 +69,34 @@ module _ {X : Type 0} where
   All_at P xs i x h e = subst P (get_or_from_slice_get xs i x x e) (h i x (slice_get_within xs i x e))
 
 module _ {T : Type 0} where
+  -- a look-up among the slots is a search by flow
+  pub lookup-slots_by_flow : (test : Flow → Bool) (es : List (Entry T)) → lookup test (slots_by_flow es) ≡ option_map (λ e. e.slot) (find (λ e. test e.flow) es)
+  lookup-slots_by_flow test [] = refl
+  lookup-slots_by_flow test (e ∷ es) = grind (arith, lookup-slots_by_flow test es)
+
+  -- another value changes no slot and no flow
+  pub slots_by_flow-revalued : (slot : ℕ) (w : T) (es : List (Entry T)) → slots_by_flow (map (revalued slot w) es) ≡ slots_by_flow es
+  slots_by_flow-revalued slot w [] = refl
+  slots_by_flow-revalued slot w (e ∷ es) = grind (arith, slots_by_flow-revalued slot w es)
+
+  -- a step of the loop that fills the map of slots
+  pub record IsNextSlot (es : List (Entry T)) (i : ℕ) (e : Entry T) : Type 0 where
+    pub absent : lookup (same_flow e.flow) (slots_by_flow (take i es)) ≡ None
+    pub more : slots_by_flow (take (i + 1) es) ≡ slots_by_flow (take i es) ++ (e.flow, e.slot) ∷ []
+
+  pub next_slot : (es : List (Entry T)) (i : ℕ) (e : Entry T) → AllPairs (λ d e. d.flow ≢ e.flow) es → i < length es → e ≡ get_or es i e → IsNextSlot es i e
+  next_slot es i e distinct within read =
+      let none : find (λ (d : Entry T). same_flow e.flow d.flow) (take i es) ≡ None =
+          find_none (λ (d : Entry T). same_flow e.flow d.flow) (take i es) (λ k d lt.
+            let before : k < i = omega (arith, length-take i es) in
+            let there : get_or (take i es) k d ≡ get_or es k e = get_or-take i es k d before ∙ get_or_default es k d e (omega arith) in
+            let here : e.flow ≡ (get_or es i e).flow = ap (λ (x : Entry T). x.flow) read in
+            rw there (same_flow_false _ _ (λ same. distinct k i e before within (sym same ∙ here)))) in
+      record {
+        absent = lookup-slots_by_flow (same_flow e.flow) (take i es) ∙ ap (option_map (λ (d : Entry T). d.slot)) none;
+        more = map_more (λ (d : Entry T). (d.flow, d.slot)) es i e within ∙ sym (ap (λ (d : Entry T). slots_by_flow (take i es) ++ (d.flow, d.slot) ∷ []) read);
+      }
+
   pub rising_tail : (e : Entry T) (es : List (Entry T)) → IsRising (e ∷ es) → IsRising es
   rising_tail e es h i j d lt within = h (suc i) (suc j) d (omega arith) (omega arith)
 

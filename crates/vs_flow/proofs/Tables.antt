@@ -54,8 +54,8 @@ module _ {T : Type 0} where
         within = omega (arith, length-append t.entries (new ∷ []), free.place);
         rising = all_pairs_push (λ (d : Entry T) (e : Entry T). d.slot < e.slot) t.entries new sound.rising sound.were_given;
         distinct = all_pairs_push (λ (d : Entry T) (e : Entry T). d.flow ≢ e.flow) t.entries new sound.distinct
-            (λ k d lt same. let differ = none_found (λ (e : Entry T). same_flow e.flow flow) t.entries free.absent k d lt in
-              cc (differ, same_flow-refl (get_or t.entries k d).flow flow same));
+            (λ k d lt same. let differ = none_found (λ (e : Entry T). same_flow flow e.flow) t.entries free.absent k d lt in
+              cc (differ, same_flow-refl flow (get_or t.entries k d).flow (sym same)));
         were_given = All-push (λ (e : Entry T). e.slot < t.given + 1) t.entries new (λ k d lt. omega (arith, sound.were_given k d lt)) (omega arith);
         slots_left = omega (arith, free.slot);
       }

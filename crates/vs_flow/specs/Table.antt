@@ -29,7 +29,7 @@ module _ {T : Type 0} where
 
   -- the entry of a flow
   abbrev pub entry_of : Table T → Flow → Option (Entry T)
-  entry_of t flow = find (λ e. same_flow e.flow flow) t.entries
+  entry_of t flow = find (λ e. same_flow flow e.flow) t.entries
 
   -- the value under a slot
   abbrev pub value_under : Table T → ℕ → Option T

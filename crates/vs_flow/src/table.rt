@@ -1,10 +1,13 @@
 //! The table of an end's connections: by flow, by slot, and in the order in which they were opened.
-ghost use Rattle.std.specs.Prelude.{◌≡◌, ◌<◌, ◌==◌, [], length, find, Some, None, IfOk, IfErr, OnOk, OnErr, IfSome, filter, not, slice_get, option_copied, vec_capacity};
+ghost use Rattle.std.specs.Prelude.{◌≡◌, ◌≢◌, ◌+◌, ◌<◌, ◌≤◌, ◌==◌, AllPairs, [], length, find, Some, None, IfOk, IfErr, OnOk, OnErr, IfSome, filter, not, slice_get, option_copied, vec_capacity};
 ghost use Rattle.std.specs.Option.{option_map, option_and_then, option_copied_mut};
 ghost use Rattle.std.specs.Borrow.{sem};
+ghost use Rattle.indexmap.specs.IndexMap.{index_map_len, spare};
+ghost use Rattle.vs_flow.specs.Entries.{slots_by_flow};
 ghost use Rattle.vs_flow.specs.Table.{IsTable, IsRising, entry_under, entry_of, value_under, slot_after, refusal, with_entry, without, emptied};
 
 use crate::flow::Flow;
+use indexmap::IndexMap;
 use std::alloc::{AllocError, Global};
 use std::marker::Model;
 
@@ -37,7 +40,10 @@ pub enum TableFault {
 #[derive(Drop)]
 pub struct FlowTable<T> {
     n: usize,
+    // By rising slot.
     entries: Vec<Entry<T>>,
+    // The slot of each flow.
+    slots: IndexMap<Flow, Slot>,
     // `None` once the last slot was given.
     next: Option<Slot>,
 }
@@ -61,9 +67,11 @@ impl<T> FlowTable<T> {
     pub fn new(alloc: Global, n: usize) -> Result<Self, AllocError>
         ensures empty { IfOk result (λ t. t ≡ record { room = n; entries = []; given = 0 }) }
     {
+        let slots = IndexMap::with_capacity(alloc, n)?;
         Ok(FlowTable {
             n,
             entries: Vec::with_capacity(alloc, n)?,
+            slots,
             next: Some(0),
         })
     }
@@ -95,6 +103,7 @@ impl<T> FlowTable<T> {
         let full = TableFault::Full { n: self.n };
         match self.next {
             Some(slot) if self.entries.len() < self.n => {
+                self.slots.insert(flow, slot).unwrap();
                 self.entries.push_reserved(Entry { slot, flow, value });
                 self.next = slot.checked_add(1);
                 Ok(slot)
@@ -124,8 +133,7 @@ impl<T> FlowTable<T> {
     pub fn by_flow(&self, flow: Flow) -> Option<Slot>
         ensures slot { result ≡ option_map (λ e. e.slot) (entry_of self.now flow) }
     {
-        let entry = self.entries.iter().find(|e| e.flow == flow)?;
-        Some(entry.slot)
+        self.slots.get(&flow).copied()
     }
 
     /// Returns the flow under a slot, or `None` where the slot isn't held.
@@ -150,7 +158,9 @@ impl<T> FlowTable<T> {
         ensures removed { self.new ≡ without self.old slot }
         ensures sound { IsTable self.new }
     {
-        let entry = take_under(&mut self.entries, slot)?;
+        let place = place_of(&self.entries, slot)?;
+        let entry = self.entries.remove(place);
+        refill(&mut self.slots, &self.entries);
         Some(entry.value)
     }
 
@@ -170,6 +180,7 @@ impl<T> FlowTable<T> {
         ensures { self.new ≡ emptied self.old }
     {
         self.entries.clear();
+        self.slots.clear();
     }
 }
 
@@ -182,13 +193,15 @@ fn place_of<T>(entries: &[Entry<T>], slot: Slot) -> Option<usize>
     entries.binary_search_by_key(&slot, |e| e.slot).ok()
 }
 
-// Takes the entry under a slot out. The others keep their order.
-fn take_under<T>(entries: &mut Vec<Entry<T>>, slot: Slot) -> Option<Entry<T>>
-    requires { IsRising entries.old.items }
-    ensures entry { result ≡ find (λ e. e.slot == slot) entries.old.items }
-    ensures others { entries.new.items ≡ filter (λ e. not (e.slot == slot)) entries.old.items }
-    ensures capacity { vec_capacity entries.new ≡ vec_capacity entries.old }
+// Fills the map of slots anew. A map that forgets a single flow may have lost that flow's room, and `clear` gives all room back.
+fn refill<T>(slots: &mut IndexMap<Flow, Slot>, entries: &[Entry<T>])
+    requires distinct { AllPairs (λ d e. d.flow ≢ e.flow) entries.now }
+    requires room { length entries.now ≤ index_map_len slots.old + spare slots.old }
+    ensures filled { slots.new.entries ≡ slots_by_flow entries.now }
+    ensures room { index_map_len slots.old + spare slots.old ≤ index_map_len slots.new + spare slots.new }
 {
-    let place = place_of(entries, slot)?;
-    Some(entries.remove(place))
+    slots.clear();
+    for entry in entries {
+        slots.insert(entry.flow, entry.slot).unwrap();
+    }
 }
