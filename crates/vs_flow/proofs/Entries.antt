@@ -87,11 +87,11 @@ module _ {T : Type 0} where
   pub next_slot : (es : List (Entry T)) (i : ℕ) (e : Entry T) → AllPairs (λ d e. d.flow ≢ e.flow) es → i < length es → e ≡ get_or es i e → IsNextSlot es i e
   next_slot es i e distinct within read =
       let none : find (λ (d : Entry T). same_flow e.flow d.flow) (take i es) ≡ None =
-          find_none (λ (d : Entry T). same_flow e.flow d.flow) (take i es) (λ k d lt.
-            let before : k < i = omega (arith, length-take i es) in
-            let there : get_or (take i es) k d ≡ get_or es k e = get_or-take i es k d before ∙ get_or_default es k d e (omega arith) in
-            let here : e.flow ≡ (get_or es i e).flow = ap (λ (x : Entry T). x.flow) read in
-            rw there (same_flow_false _ _ (λ same. distinct k i e before within (sym same ∙ here)))) in
+      find_none (λ (d : Entry T). same_flow e.flow d.flow) (take i es) (λ k d lt.
+      let before : k < i = omega (arith, length-take i es) in
+      let there : get_or (take i es) k d ≡ get_or es k e = get_or-take i es k d before ∙ get_or_default es k d e (omega arith) in
+      let here : e.flow ≡ (get_or es i e).flow = ap (λ (x : Entry T). x.flow) read in
+      rw there (same_flow_false _ _ (λ same. distinct k i e before within (sym same ∙ here)))) in
       record {
         absent = lookup-slots_by_flow (same_flow e.flow) (take i es) ∙ ap (option_map (λ (d : Entry T). d.slot)) none;
         more = map_more (λ (d : Entry T). (d.flow, d.slot)) es i e within ∙ sym (ap (λ (d : Entry T). slots_by_flow (take i es) ++ (d.flow, d.slot) ∷ []) read);
@@ -116,7 +116,7 @@ module _ {T : Type 0} where
   remove_at [] i x rising at = absurd (cc)
   remove_at (e ∷ es) zero x rising at =
       let rest : filter (λ y. not (y.slot == x.slot)) es ≡ es =
-          filter_all (λ y. not (y.slot == x.slot)) es (λ k d lt. let above = above_head e es rising k d lt in grind (arith, nat_tests, above)) in
+      filter_all (λ y. not (y.slot == x.slot)) es (λ k d lt. let above = above_head e es rising k d lt in grind (arith, nat_tests, above)) in
       grind (arith, nat_tests, rest)
   remove_at (e ∷ es) (suc i) x rising at =
       let above : e.slot < x.slot = All_at (λ y. e.slot < y.slot) es i x (above_head e es rising) at in
@@ -128,7 +128,7 @@ module _ {T : Type 0} where
   set_at [] i x w rising at = absurd (cc)
   set_at (e ∷ es) zero x w rising at =
       let rest : map (revalued x.slot w) es ≡ es =
-          map_fixed (revalued x.slot w) es (λ k d lt. let above = above_head e es rising k d lt in grind (arith, nat_tests, above)) in
+      map_fixed (revalued x.slot w) es (λ k d lt. let above = above_head e es rising k d lt in grind (arith, nat_tests, above)) in
       grind (arith, nat_tests, rest)
   set_at (e ∷ es) (suc i) x w rising at =
       let above : e.slot < x.slot = All_at (λ y. e.slot < y.slot) es i x (above_head e es rising) at in
@@ -139,19 +139,19 @@ module _ {T : Type 0} where
       → IsBinarySearchResult (λ e. nat_cmp e.slot slot) es r → option_and_then (slice_get es) (result_ok r) ≡ find (λ e. e.slot == slot) es
   searched es slot (Ok i) rising within equal =
       elim (slice_get_cases es i).1 [
-        inl w ↦
-          let here : w.0.slot ≡ slot = ap (λ (e : Entry T). e.slot) (sym w.3) ∙ ranked _ slot _ (sym (equal w.0)) in
-          w.2 ∙ subst (λ n. Some w.0 ≡ find (λ (e : Entry T). e.slot == n) es) here (sym (found_at es i w.0 rising w.2))
+        | inl w ↦
+            let here : w.0.slot ≡ slot = ap (λ (e : Entry T). e.slot) (sym w.3) ∙ ranked _ slot _ (sym (equal w.0)) in
+            w.2 ∙ subst (λ n. Some w.0 ≡ find (λ (e : Entry T). e.slot == n) es) here (sym (found_at es i w.0 rising w.2))
         | inr w ↦ absurd (omega (arith, within))
       ]
   searched es slot (Err i) rising within parted =
       let rise : IsNonDecreasingBy (λ (e : Entry T). ordering_index (nat_cmp e.slot slot)) es =
-          λ j k d le lt. grind (arith, nat_tests, rising j k d, λ (same : j ≡ k). ap (λ n. (get_or es n d).slot) same) in
+      λ j k d le lt. grind (arith, nat_tests, rising j k d, λ (same : j ≡ k). ap (λ n. (get_or es n d).slot) same) in
       let halves = parted rise in
       sym (find_none (λ e. e.slot == slot) es (λ k d lt.
-        let before : k < i → (get_or es k d).slot < slot = λ below. ranked _ slot _ (sym (halves.0 k d (omega arith) below)) in
-        let behind : i ≤ k → slot < (get_or es k d).slot = λ above. ranked _ slot _ (sym (halves.1 k d above lt)) in
-        grind (arith, nat_tests, before, behind)))
+      let before : k < i → (get_or es k d).slot < slot = λ below. ranked _ slot _ (sym (halves.0 k d (omega arith) below)) in
+      let behind : i ≤ k → slot < (get_or es k d).slot = λ above. ranked _ slot _ (sym (halves.1 k d above lt)) in
+      grind (arith, nat_tests, before, behind)))
 
   -- where no entry has the slot, leaving it out leaves all
   pub all_others : (es : List (Entry T)) (slot : ℕ) → find (λ e. e.slot == slot) es ≡ None → filter (λ e. not (e.slot == slot)) es ≡ es

@@ -55,7 +55,7 @@ module _ {T : Type 0} where
         rising = all_pairs_push (λ (d : Entry T) (e : Entry T). d.slot < e.slot) t.entries new sound.rising sound.were_given;
         distinct = all_pairs_push (λ (d : Entry T) (e : Entry T). d.flow ≢ e.flow) t.entries new sound.distinct
             (λ k d lt same. let differ = none_found (λ (e : Entry T). same_flow flow e.flow) t.entries free.absent k d lt in
-              cc (differ, same_flow-refl flow (get_or t.entries k d).flow (sym same)));
+            cc (differ, same_flow-refl flow (get_or t.entries k d).flow (sym same)));
         were_given = All-push (λ (e : Entry T). e.slot < t.given + 1) t.entries new (λ k d lt. omega (arith, sound.were_given k d lt)) (omega arith);
         slots_left = omega (arith, free.slot);
       }
@@ -83,9 +83,9 @@ module _ {T : Type 0} where
       let f : Entry T → Entry T = revalued slot w in
       let long : length (map f t.entries) ≡ length t.entries = length-map t.entries f in
       let slot_at : (k : ℕ) (d : Entry T) → k < length t.entries → (get_or (map f t.entries) k d).slot ≡ (get_or t.entries k d).slot =
-          λ k d lt. rw (get_or-map f t.entries k d d lt) (revalued-slot slot w (get_or t.entries k d)) in
+      λ k d lt. rw (get_or-map f t.entries k d d lt) (revalued-slot slot w (get_or t.entries k d)) in
       let flow_at : (k : ℕ) (d : Entry T) → k < length t.entries → (get_or (map f t.entries) k d).flow ≡ (get_or t.entries k d).flow =
-          λ k d lt. rw (get_or-map f t.entries k d d lt) (revalued-flow slot w (get_or t.entries k d)) in
+      λ k d lt. rw (get_or-map f t.entries k d d lt) (revalued-flow slot w (get_or t.entries k d)) in
       record {
         within = omega (arith, sound.within, long);
         rising = λ i j d lt within. rw (slot_at i d (omega arith), slot_at j d (omega arith)) (sound.rising i j d lt (omega arith));

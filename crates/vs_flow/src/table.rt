@@ -66,6 +66,7 @@ impl<T> FlowTable<T> {
     /// Makes an empty table with room for `n` entries.
     pub fn new(alloc: Global, n: usize) -> Result<Self, AllocError>
         ensures empty { IfOk result (λ t. t ≡ record { room = n; entries = []; given = 0 }) }
+        ensures sound { IfOk result IsTable }
     {
         let slots = IndexMap::with_capacity(alloc, n)?;
         Ok(FlowTable {
@@ -115,6 +116,7 @@ impl<T> FlowTable<T> {
     /// Returns the value under a slot, or `None` where the slot isn't held.
     pub fn get(&self, slot: Slot) -> Option<&T>
         ensures value { option_copied result ≡ value_under self.now slot }
+        ensures sound { IsTable self.now }
     {
         let place = place_of(&self.entries, slot)?;
         Some(&self.entries[place].value)
@@ -124,6 +126,7 @@ impl<T> FlowTable<T> {
     pub fn get_mut(&mut self, slot: Slot) -> Option<&mut T>
         ensures* writes_back { sem 𝓛 (lends_value T.row self.entry slot result) }
         ensures value { option_copied_mut result ≡ value_under self.old slot }
+        ensures sound { IsTable self.old }
     {
         let place = place_of(&self.entries, slot)?;
         Some(&mut self.entries[place].value)
@@ -132,6 +135,7 @@ impl<T> FlowTable<T> {
     /// Returns the slot of a flow, or `None` where the flow isn't there.
     pub fn by_flow(&self, flow: Flow) -> Option<Slot>
         ensures slot { result ≡ option_map (λ e. e.slot) (entry_of self.now flow) }
+        ensures sound { IsTable self.now }
     {
         self.slots.get(&flow).copied()
     }
@@ -139,6 +143,7 @@ impl<T> FlowTable<T> {
     /// Returns the flow under a slot, or `None` where the slot isn't held.
     pub fn flow_of(&self, slot: Slot) -> Option<Flow>
         ensures flow { result ≡ option_map (λ e. e.flow) (entry_under self.now slot) }
+        ensures sound { IsTable self.now }
     {
         let place = place_of(&self.entries, slot)?;
         Some(self.entries[place].flow)
@@ -147,6 +152,7 @@ impl<T> FlowTable<T> {
     /// Returns the entry at a place, counted from 0 by rising slot, or `None` where there are no more.
     pub fn at(&self, place: usize) -> Option<&Entry<T>>
         ensures entry { option_copied result ≡ slice_get self.now.entries place }
+        ensures sound { IsTable self.now }
     {
         self.entries.get(place)
     }
@@ -167,6 +173,7 @@ impl<T> FlowTable<T> {
     /// Returns the least slot held that is greater, else the least slot held, or `None` where no entry is held.
     pub fn next_after(&self, slot: Slot) -> Option<Slot>
         ensures next { result ≡ slot_after self.now slot }
+        ensures sound { IsTable self.now }
     {
         let place = self.entries.partition_point(|e| e.slot <= slot);
         let next = self.at(place).or(self.at(0))?;
@@ -177,7 +184,8 @@ impl<T> FlowTable<T> {
     pub fn clear(&mut self)
     where
         T: Drop,
-        ensures { self.new ≡ emptied self.old }
+        ensures emptied { self.new ≡ emptied self.old }
+        ensures sound { IsTable self.new }
     {
         self.entries.clear();
         self.slots.clear();
@@ -203,5 +211,35 @@ fn refill<T>(slots: &mut IndexMap<Flow, Slot>, entries: &[Entry<T>])
     slots.clear();
     for entry in entries {
         slots.insert(entry.flow, entry.slot).unwrap();
+    }
+}
+
+#[cfg(test)]
+mod tests {
+    use super::*;
+    use std::test::Fail;
+
+    #[test]
+    fn entries_come_and_go(rt: HostRuntime) -> Result<(), Fail> {
+        let first = Flow {
+            guest: 1024,
+            host: 52,
+        };
+        let second = Flow {
+            guest: 1025,
+            host: 52,
+        };
+        let mut table = FlowTable::new(rt.alloc(), 2)?;
+        assert_eq!(rt; table.insert(first, 10), Ok(0));
+        assert_eq!(rt; table.insert(second, 20), Ok(1));
+        assert_eq!(rt; table.remove(0), Some(10));
+        assert_eq!(rt; table.insert(first, 30), Ok(2));
+        if let Some(value) = table.get_mut(2) {
+            *value = 40;
+        }
+        assert_eq!(rt; table.get(2).copied(), Some(40));
+        assert_eq!(rt; table.by_flow(first), Some(2));
+        assert_eq!(rt; table.next_after(2), Some(1));
+        Ok(())
     }
 }

@@ -10,4 +10,5 @@ returns g c =
     rw (← c.self.view_is) (record {
       slot = c.copied.ensures ∙ c.get.ensures.value ∙ ap (lookup test) c.self.invariant.by_flow
           ∙ lookup-slots_by_flow test c.self.inside.entries.items;
+      sound = c.self.invariant.table;
     })

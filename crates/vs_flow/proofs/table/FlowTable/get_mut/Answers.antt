@@ -20,8 +20,8 @@ invariant_of-self-lent g c = λ w.
 pub returns : goal.returns
 returns g c =
     let place = place_found c.self.inside.entries.items c.args.slot c.in_ok-place.place c.index_mut.result.now c.self.invariant.table.rising
-        (rw c.deref.ensures.value at c.in_ok-place.ensures.entry) (rw c.deref.ensures.value at c.in_ok-place.ensures.found) c.index_mut.ensures.value in
+    (rw c.deref.ensures.value at c.in_ok-place.ensures.entry) (rw c.deref.ensures.value at c.in_ok-place.ensures.found) c.index_mut.ensures.value in
     rw (← c.self.view_is) (
       simp place.written,
-      record { writes_back = tt; value = ap (λ o. option_map (λ e. e.value) o) place.found },
+      record { writes_back = tt; value = ap (λ o. option_map (λ e. e.value) o) place.found; sound = c.self.invariant.table },
     )

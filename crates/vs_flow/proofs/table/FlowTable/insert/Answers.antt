@@ -17,11 +17,11 @@ invariant_of-self g c =
     let old = table_of t in
     let left : option_map_or (λ slot. slot) t.next slots_in_all < slots_in_all = rw c.in-Some.is (omega arith) in
     let free : IsAccepted old c.args.flow =
-        found_free old c.args.flow c.by_flow.result (rw (← c.self.view_is) at c.by_flow.ensures.slot) (search rules) (omega arith) left in
+    found_free old c.args.flow c.by_flow.result (rw (← c.self.view_is) at c.by_flow.ensures.slot) (search rules) (omega arith) left in
     let grown : with_entry old c.args.flow c.args.value ≡ table_of (record { n = t.n; entries = c.push_reserved.new.self; slots = c.insert.new.self; next = c.checked_add-self-inside.result }) = search rules in
     let none = ap (lookup (same_flow c.args.flow)) c.self.invariant.by_flow ∙ lookup-slots_by_flow (same_flow c.args.flow) t.entries.items ∙ ap (option_map (λ e. e.slot)) free.absent in
     let put : c.insert.new.self.entries ≡ t.slots.entries ++ (c.args.flow, c.in-Some.slot) ∷ [] =
-        (rw c.unwrap-self-inside.ensures at c.insert.ensures.entries) ∙ insert_entry-new same_flow t.slots c.args.flow c.in-Some.slot none in
+    (rw c.unwrap-self-inside.ensures at c.insert.ensures.entries) ∙ insert_entry-new same_flow t.slots c.args.flow c.in-Some.slot none in
     record {
       table = subst IsTable grown (with_entry_sound old c.args.flow c.args.value c.self.invariant.table free);
       by_flow = put ∙ ap (λ xs. xs ++ (c.args.flow, c.in-Some.slot) ∷ []) c.self.invariant.by_flow

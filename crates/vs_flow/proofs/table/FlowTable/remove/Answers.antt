@@ -16,7 +16,7 @@ gone : (g : _) (c : goal.After-refill g) → without (table_of c.self.inside) c.
     ≡ table_of (record { n = c.self.inside.n; entries = c.remove-entry.new.self; slots = c.refill.new.slots; next = c.self.inside.next })
 gone g c =
     let place = place_found c.self.inside.entries.items c.args.slot c.in_ok-place.place c.remove-entry.result c.self.invariant.table.rising
-        (rw c.deref.ensures.value at c.in_ok-place.ensures.entry) (rw c.deref.ensures.value at c.in_ok-place.ensures.found) c.remove-entry.ensures.value in
+    (rw c.deref.ensures.value at c.in_ok-place.ensures.entry) (rw c.deref.ensures.value at c.in_ok-place.ensures.found) c.remove-entry.ensures.value in
     let others = place.removed in
     search rules
 
