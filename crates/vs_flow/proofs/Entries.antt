@@ -1,5 +1,5 @@
 -- Lists of entries whose slots rise: where a slot stands, and what an edit at its place leaves.
-use Rattle.std.proofs.Common.{◌≡◌, ◌≢◌, ℕ, zero, suc, ◌+◌, ◌<◌, ◌≤◌, Bool, true, false, not, cond, ◌==◌, nat_le, nat_lt, List, [], ◌∷◌, length, map, get_or, set, Option, Some, None, Result, Ok, Err, refl, ap, sym, subst, inl, inr, arith, ◌∙◌}
+use Rattle.std.proofs.Common.{◌≡◌, ◌≢◌, ℕ, zero, suc, ◌+◌, ◌<◌, ◌≤◌, Bool, true, false, not, cond, ◌==◌, nat_le, nat_lt, List, [], ◌∷◌, ◌++◌, length, map, take, get_or, set, Option, Some, None, Result, Ok, Err, refl, ap, sym, subst, inl, inr, arith, ◌∙◌}
 use Rattle.std.specs.List.{All, AllPairs, AllWithin, find, filter, remove, slice_get}
 use Rattle.std.specs.List.Sorted.{IsSearchInRange, IsBinarySearchResult, IsNonDecreasingBy, IsPartitionedBy}
 use Rattle.std.specs.Option.{option_and_then, option_map, option_or, option_copied}
@@ -8,11 +8,28 @@ use Rattle.std.specs.Result.{result_ok}
 use Rattle.std.specs.Ordering.{nat_cmp, ordering_index}
 use Rattle.std.proofs.lemmas.Cmp.{ranked}
 use Rattle.std.proofs.lemmas.Bool.Decides.{nat_tests}
-use Rattle.std.proofs.lemmas.Grind.{common_steps}
 use Rattle.std.proofs.lemmas.List.Folds.{map_fixed}
+use Rattle.std.proofs.lemmas.List.{map_more, get_or-take, get_or_default, length-take}
 use Rattle.std.proofs.lemmas.Option.{slice_get_cases, slice_get_read, slice_get-map, get_or_from_slice_get, slice_get_within}
 use Rattle.vs_flow.specs.declared.table.Entry.{Entry}
+use Rattle.std.specs.Map.{lookup}
+use Rattle.vs_flow.specs.declared.flow.Flow.{Flow}
+use Rattle.vs_flow.specs.Flow.{same_flow}
+use Rattle.vs_flow.specs.Entries.{slots_by_flow}
 use Rattle.vs_flow.specs.Table.{IsRising, revalued}
+
+pub same_flow_true : (f g : Flow) → same_flow f g ≡ true → f ≡ g
+same_flow_true f g is =
+    let guest : f.guest ≡ g.guest = grind (arith, nat_tests, is) in
+    let host : f.host ≡ g.host = grind (arith, nat_tests, is) in
+    λ i. record { guest = guest i; host = host i }
+
+pub same_flow_false : (f g : Flow) → f ≢ g → same_flow f g ≡ false
+same_flow_false f g differ = by (same_flow f g) refl
+  where
+    by : (b : Bool) → b ≡ same_flow f g → b ≡ false
+    by true is = absurd (differ (same_flow_true f g (sym is)))
+    by false is = refl
 
 module _ {X : Type 0} where
   -- where the first element fails, the others decide
@@ -29,16 +46,19 @@ module _ {X : Type 0} where
   none_found p (x ∷ xs) e zero d lt = (failed_first (p x) x (find p xs) e).0
   none_found p (x ∷ xs) e (suc k) d lt = none_found p xs (failed_first (p x) x (find p xs) e).1 k d (omega arith)
 
-  pub option_map-option_or : {Y : Type 0} (f : X → Y) (a b : Option X) → option_map f (option_or a b) ≡ option_or (option_map f a) (option_map f b)
+  pub option_map-option_or : {Y : Type 0} (f : X → Y) (a b : Option X)
+      → option_map f (option_or a b) ≡ option_or (option_map f a) (option_map f b)
   option_map-option_or f None b = refl
   option_map-option_or f (Some x) b = refl
 
   -- what the first of two references that is there shows
-  pub option_copied-option_or : (a b o : Option (Bor X)) → option_or a b ≡ o → option_or (option_copied a) (option_copied b) ≡ option_copied o
+  pub option_copied-option_or : (a b o : Option (Bor X)) → option_or a b ≡ o
+      → option_or (option_copied a) (option_copied b) ≡ option_copied o
   option_copied-option_or None b o e = ap option_copied e
   option_copied-option_or (Some x) b o e = ap option_copied e
 
-  first_passes : (p : X → Bool) (b : Bool) (y : X) → b ≡ p y → (rest : Option X) (x : X) → cond b (Some y) rest ≡ Some x → (rest ≡ Some x → p x ≡ true) → p x ≡ true
+  first_passes : (p : X → Bool) (b : Bool) (y : X) → b ≡ p y → (rest : Option X) (x : X) → cond b (Some y) rest ≡ Some x
+      → (rest ≡ Some x → p x ≡ true) → p x ≡ true
   first_passes p true y is rest x e later = cc
   first_passes p false y is rest x e later = later e
 
@@ -54,6 +74,37 @@ module _ {X : Type 0} where
   All_at P xs i x h e = subst P (get_or_from_slice_get xs i x x e) (h i x (slice_get_within xs i x e))
 
 module _ {T : Type 0} where
+  -- a look-up among the slots is a search by flow
+  pub lookup-slots_by_flow : (test : Flow → Bool) (es : List (Entry T))
+      → lookup test (slots_by_flow es) ≡ option_map (λ e. e.slot) (find (λ e. test e.flow) es)
+  lookup-slots_by_flow test [] = refl
+  lookup-slots_by_flow test (e ∷ es) = grind (arith, lookup-slots_by_flow test es)
+
+  -- another value changes no slot and no flow
+  pub slots_by_flow-revalued : (slot : ℕ) (w : T) (es : List (Entry T)) → slots_by_flow (map (revalued slot w) es) ≡ slots_by_flow es
+  slots_by_flow-revalued slot w [] = refl
+  slots_by_flow-revalued slot w (e ∷ es) = grind (arith, slots_by_flow-revalued slot w es)
+
+  -- a step of the loop that fills the map of slots
+  pub record IsNextSlot (es : List (Entry T)) (i : ℕ) (e : Entry T) : Type 0 where
+    pub absent : lookup (same_flow e.flow) (slots_by_flow (take i es)) ≡ None
+    pub more : slots_by_flow (take (i + 1) es) ≡ slots_by_flow (take i es) ++ (e.flow, e.slot) ∷ []
+
+  pub next_slot : (es : List (Entry T)) (i : ℕ) (e : Entry T) → AllPairs (λ d e. d.flow ≢ e.flow) es → i < length es → e ≡ get_or es i e
+      → IsNextSlot es i e
+  next_slot es i e distinct within read =
+      let none : find (λ (d : Entry T). same_flow e.flow d.flow) (take i es) ≡ None =
+      find_none (λ (d : Entry T). same_flow e.flow d.flow) (take i es) (λ k d lt.
+      let before : k < i = omega (arith, length-take i es) in
+      let there : get_or (take i es) k d ≡ get_or es k e = get_or-take i es k d before ∙ get_or_default es k d e (omega arith) in
+      let here : e.flow ≡ (get_or es i e).flow = ap (λ (x : Entry T). x.flow) read in
+      rw there (same_flow_false _ _ (λ same. distinct k i e before within (sym same ∙ here)))) in
+      record {
+        absent = lookup-slots_by_flow (same_flow e.flow) (take i es) ∙ ap (option_map (λ (d : Entry T). d.slot)) none;
+        more = map_more (λ (d : Entry T). (d.flow, d.slot)) es i e within
+            ∙ sym (ap (λ (d : Entry T). slots_by_flow (take i es) ++ (d.flow, d.slot) ∷ []) read);
+      }
+
   pub rising_tail : (e : Entry T) (es : List (Entry T)) → IsRising (e ∷ es) → IsRising es
   rising_tail e es h i j d lt within = h (suc i) (suc j) d (omega arith) (omega arith)
 
@@ -61,7 +112,8 @@ module _ {T : Type 0} where
   above_head e es h k d within = h 0 (suc k) d (omega arith) (omega arith)
 
   -- the entry at a place is the one under its slot
-  pub found_at : (es : List (Entry T)) (i : ℕ) (x : Entry T) → IsRising es → slice_get es i ≡ Some x → find (λ e. e.slot == x.slot) es ≡ Some x
+  pub found_at : (es : List (Entry T)) (i : ℕ) (x : Entry T) → IsRising es → slice_get es i ≡ Some x
+      → find (λ e. e.slot == x.slot) es ≡ Some x
   found_at [] i x rising at = absurd (cc)
   found_at (e ∷ es) zero x rising at = grind (arith, nat_tests)
   found_at (e ∷ es) (suc i) x rising at =
@@ -69,11 +121,13 @@ module _ {T : Type 0} where
       grind (arith, nat_tests, above, found_at es i x (rising_tail e es rising) at)
 
   -- taking out the entry at a place leaves the entries under other slots
-  pub remove_at : (es : List (Entry T)) (i : ℕ) (x : Entry T) → IsRising es → slice_get es i ≡ Some x → remove es i ≡ filter (λ e. not (e.slot == x.slot)) es
+  pub remove_at : (es : List (Entry T)) (i : ℕ) (x : Entry T) → IsRising es → slice_get es i ≡ Some x
+      → remove es i ≡ filter (λ e. not (e.slot == x.slot)) es
   remove_at [] i x rising at = absurd (cc)
   remove_at (e ∷ es) zero x rising at =
       let rest : filter (λ y. not (y.slot == x.slot)) es ≡ es =
-          filter_all (λ y. not (y.slot == x.slot)) es (λ k d lt. let above = above_head e es rising k d lt in grind (arith, nat_tests, above)) in
+      filter_all (λ y. not (y.slot == x.slot)) es
+      (λ k d lt. let above = above_head e es rising k d lt in grind (arith, nat_tests, above)) in
       grind (arith, nat_tests, rest)
   remove_at (e ∷ es) (suc i) x rising at =
       let above : e.slot < x.slot = All_at (λ y. e.slot < y.slot) es i x (above_head e es rising) at in
@@ -85,7 +139,7 @@ module _ {T : Type 0} where
   set_at [] i x w rising at = absurd (cc)
   set_at (e ∷ es) zero x w rising at =
       let rest : map (revalued x.slot w) es ≡ es =
-          map_fixed (revalued x.slot w) es (λ k d lt. let above = above_head e es rising k d lt in grind (arith, nat_tests, above)) in
+      map_fixed (revalued x.slot w) es (λ k d lt. let above = above_head e es rising k d lt in grind (arith, nat_tests, above)) in
       grind (arith, nat_tests, rest)
   set_at (e ∷ es) (suc i) x w rising at =
       let above : e.slot < x.slot = All_at (λ y. e.slot < y.slot) es i x (above_head e es rising) at in
@@ -96,32 +150,36 @@ module _ {T : Type 0} where
       → IsBinarySearchResult (λ e. nat_cmp e.slot slot) es r → option_and_then (slice_get es) (result_ok r) ≡ find (λ e. e.slot == slot) es
   searched es slot (Ok i) rising within equal =
       elim (slice_get_cases es i).1 [
-        inl w ↦
-          let here : w.0.slot ≡ slot = ap (λ (e : Entry T). e.slot) (sym w.3) ∙ ranked _ slot _ (sym (equal w.0)) in
-          w.2 ∙ subst (λ n. Some w.0 ≡ find (λ (e : Entry T). e.slot == n) es) here (sym (found_at es i w.0 rising w.2))
+        | inl w ↦
+            let here : w.0.slot ≡ slot = ap (λ (e : Entry T). e.slot) (sym w.3) ∙ ranked _ slot _ (sym (equal w.0)) in
+            w.2 ∙ subst (λ n. Some w.0 ≡ find (λ (e : Entry T). e.slot == n) es) here (sym (found_at es i w.0 rising w.2))
         | inr w ↦ absurd (omega (arith, within))
       ]
   searched es slot (Err i) rising within parted =
       let rise : IsNonDecreasingBy (λ (e : Entry T). ordering_index (nat_cmp e.slot slot)) es =
-          λ j k d le lt. grind (arith, nat_tests, rising j k d, λ (same : j ≡ k). ap (λ n. (get_or es n d).slot) same) in
+      λ j k d le lt. grind (arith, nat_tests, rising j k d, λ (same : j ≡ k). ap (λ n. (get_or es n d).slot) same) in
       let halves = parted rise in
       sym (find_none (λ e. e.slot == slot) es (λ k d lt.
-        let before : k < i → (get_or es k d).slot < slot = λ below. ranked _ slot _ (sym (halves.0 k d (omega arith) below)) in
-        let behind : i ≤ k → slot < (get_or es k d).slot = λ above. ranked _ slot _ (sym (halves.1 k d above lt)) in
-        grind (arith, nat_tests, before, behind)))
+      let before : k < i → (get_or es k d).slot < slot = λ below. ranked _ slot _ (sym (halves.0 k d (omega arith) below)) in
+      let behind : i ≤ k → slot < (get_or es k d).slot = λ above. ranked _ slot _ (sym (halves.1 k d above lt)) in
+      grind (arith, nat_tests, before, behind)))
 
   -- where no entry has the slot, leaving it out leaves all
   pub all_others : (es : List (Entry T)) (slot : ℕ) → find (λ e. e.slot == slot) es ≡ None → filter (λ e. not (e.slot == slot)) es ≡ es
-  all_others es slot none = filter_all (λ e. not (e.slot == slot)) es (λ k d lt. let other = none_found (λ (e : Entry T). e.slot == slot) es none k d lt in rw other refl)
+  all_others es slot none =
+      filter_all (λ e. not (e.slot == slot)) es
+      (λ k d lt. let other = none_found (λ (e : Entry T). e.slot == slot) es none k d lt in rw other refl)
 
   -- the first entry above a slot stands where those at most that slot end
-  pub first_above : (es : List (Entry T)) (slot i : ℕ) → AllWithin (λ e. nat_le e.slot slot ≡ true) es 0 i → AllWithin (λ e. nat_le e.slot slot ≡ false) es i (length es)
+  pub first_above : (es : List (Entry T)) (slot i : ℕ) → AllWithin (λ e. nat_le e.slot slot ≡ true) es 0 i
+      → AllWithin (λ e. nat_le e.slot slot ≡ false) es i (length es)
       → option_map (λ e. e.slot) (slice_get es i) ≡ find (λ held. nat_lt slot held) (map (λ e. e.slot) es)
   first_above [] slot i below above = refl
   first_above (e ∷ es) slot zero below above = let here = above 0 e (omega arith) (omega arith) in grind (arith, nat_tests, here)
   first_above (e ∷ es) slot (suc i) below above =
       let here = below 0 e (omega arith) (omega arith) in
-      let rest = first_above es slot i (λ k d low lt. below (suc k) d (omega arith) (omega arith)) (λ k d low lt. above (suc k) d (omega arith) (omega arith)) in
+      let rest = first_above es slot i (λ k d low lt. below (suc k) d (omega arith) (omega arith))
+      (λ k d low lt. above (suc k) d (omega arith) (omega arith)) in
       grind (arith, nat_tests, here, rest)
 
   -- the entries at most a slot come first

@@ -1,10 +1,13 @@
 //! The table of an end's connections: by flow, by slot, and in the order in which they were opened.
-ghost use Rattle.std.specs.Prelude.{◌≡◌, ◌<◌, ◌==◌, [], length, find, Some, None, IfOk, IfErr, OnOk, OnErr, IfSome, filter, not, slice_get, option_copied, vec_capacity};
+ghost use Rattle.std.specs.Prelude.{◌≡◌, ◌≢◌, ◌+◌, ◌<◌, ◌≤◌, ◌==◌, AllPairs, [], length, find, Some, None, IfOk, IfErr, OnOk, OnErr, IfSome, filter, not, slice_get, option_copied, vec_capacity};
 ghost use Rattle.std.specs.Option.{option_map, option_and_then, option_copied_mut};
 ghost use Rattle.std.specs.Borrow.{sem};
+ghost use Rattle.indexmap.specs.IndexMap.{index_map_len, spare};
+ghost use Rattle.vs_flow.specs.Entries.{slots_by_flow};
 ghost use Rattle.vs_flow.specs.Table.{IsTable, IsRising, entry_under, entry_of, value_under, slot_after, refusal, with_entry, without, emptied};
 
 use crate::flow::Flow;
+use indexmap::IndexMap;
 use std::alloc::{AllocError, Global};
 use std::marker::Model;
 
@@ -37,7 +40,10 @@ pub enum TableFault {
 #[derive(Drop)]
 pub struct FlowTable<T> {
     n: usize,
+    // By rising slot.
     entries: Vec<Entry<T>>,
+    // The slot of each flow.
+    slots: IndexMap<Flow, Slot>,
     // `None` once the last slot was given.
     next: Option<Slot>,
 }
@@ -60,10 +66,13 @@ impl<T> FlowTable<T> {
     /// Makes an empty table with room for `n` entries.
     pub fn new(alloc: Global, n: usize) -> Result<Self, AllocError>
         ensures empty { IfOk result (λ t. t ≡ record { room = n; entries = []; given = 0 }) }
+        ensures sound { IfOk result IsTable }
     {
+        let slots = IndexMap::with_capacity(alloc, n)?;
         Ok(FlowTable {
             n,
             entries: Vec::with_capacity(alloc, n)?,
+            slots,
             next: Some(0),
         })
     }
@@ -95,6 +104,7 @@ impl<T> FlowTable<T> {
         let full = TableFault::Full { n: self.n };
         match self.next {
             Some(slot) if self.entries.len() < self.n => {
+                self.slots.insert(flow, slot).unwrap();
                 self.entries.push_reserved(Entry { slot, flow, value });
                 self.next = slot.checked_add(1);
                 Ok(slot)
@@ -106,6 +116,7 @@ impl<T> FlowTable<T> {
     /// Returns the value under a slot, or `None` where the slot isn't held.
     pub fn get(&self, slot: Slot) -> Option<&T>
         ensures value { option_copied result ≡ value_under self.now slot }
+        ensures sound { IsTable self.now }
     {
         let place = place_of(&self.entries, slot)?;
         Some(&self.entries[place].value)
@@ -115,6 +126,7 @@ impl<T> FlowTable<T> {
     pub fn get_mut(&mut self, slot: Slot) -> Option<&mut T>
         ensures* writes_back { sem 𝓛 (lends_value T.row self.entry slot result) }
         ensures value { option_copied_mut result ≡ value_under self.old slot }
+        ensures sound { IsTable self.old }
     {
         let place = place_of(&self.entries, slot)?;
         Some(&mut self.entries[place].value)
@@ -123,14 +135,15 @@ impl<T> FlowTable<T> {
     /// Returns the slot of a flow, or `None` where the flow isn't there.
     pub fn by_flow(&self, flow: Flow) -> Option<Slot>
         ensures slot { result ≡ option_map (λ e. e.slot) (entry_of self.now flow) }
+        ensures sound { IsTable self.now }
     {
-        let entry = self.entries.iter().find(|e| e.flow == flow)?;
-        Some(entry.slot)
+        self.slots.get(&flow).copied()
     }
 
     /// Returns the flow under a slot, or `None` where the slot isn't held.
     pub fn flow_of(&self, slot: Slot) -> Option<Flow>
         ensures flow { result ≡ option_map (λ e. e.flow) (entry_under self.now slot) }
+        ensures sound { IsTable self.now }
     {
         let place = place_of(&self.entries, slot)?;
         Some(self.entries[place].flow)
@@ -139,6 +152,7 @@ impl<T> FlowTable<T> {
     /// Returns the entry at a place, counted from 0 by rising slot, or `None` where there are no more.
     pub fn at(&self, place: usize) -> Option<&Entry<T>>
         ensures entry { option_copied result ≡ slice_get self.now.entries place }
+        ensures sound { IsTable self.now }
     {
         self.entries.get(place)
     }
@@ -150,13 +164,16 @@ impl<T> FlowTable<T> {
         ensures removed { self.new ≡ without self.old slot }
         ensures sound { IsTable self.new }
     {
-        let entry = take_under(&mut self.entries, slot)?;
+        let place = place_of(&self.entries, slot)?;
+        let entry = self.entries.remove(place);
+        refill(&mut self.slots, &self.entries);
         Some(entry.value)
     }
 
     /// Returns the least slot held that is greater, else the least slot held, or `None` where no entry is held.
     pub fn next_after(&self, slot: Slot) -> Option<Slot>
         ensures next { result ≡ slot_after self.now slot }
+        ensures sound { IsTable self.now }
     {
         let place = self.entries.partition_point(|e| e.slot <= slot);
         let next = self.at(place).or(self.at(0))?;
@@ -167,9 +184,11 @@ impl<T> FlowTable<T> {
     pub fn clear(&mut self)
     where
         T: Drop,
-        ensures { self.new ≡ emptied self.old }
+        ensures emptied { self.new ≡ emptied self.old }
+        ensures sound { IsTable self.new }
     {
         self.entries.clear();
+        self.slots.clear();
     }
 }
 
@@ -182,13 +201,45 @@ fn place_of<T>(entries: &[Entry<T>], slot: Slot) -> Option<usize>
     entries.binary_search_by_key(&slot, |e| e.slot).ok()
 }
 
-// Takes the entry under a slot out. The others keep their order.
-fn take_under<T>(entries: &mut Vec<Entry<T>>, slot: Slot) -> Option<Entry<T>>
-    requires { IsRising entries.old.items }
-    ensures entry { result ≡ find (λ e. e.slot == slot) entries.old.items }
-    ensures others { entries.new.items ≡ filter (λ e. not (e.slot == slot)) entries.old.items }
-    ensures capacity { vec_capacity entries.new ≡ vec_capacity entries.old }
+// Fills the map of slots anew. A map that forgets a single flow may have lost that flow's room, and `clear` gives all room back.
+fn refill<T>(slots: &mut IndexMap<Flow, Slot>, entries: &[Entry<T>])
+    requires distinct { AllPairs (λ d e. d.flow ≢ e.flow) entries.now }
+    requires room { length entries.now ≤ index_map_len slots.old + spare slots.old }
+    ensures filled { slots.new.entries ≡ slots_by_flow entries.now }
+    ensures room { index_map_len slots.old + spare slots.old ≤ index_map_len slots.new + spare slots.new }
 {
-    let place = place_of(entries, slot)?;
-    Some(entries.remove(place))
+    slots.clear();
+    for entry in entries {
+        slots.insert(entry.flow, entry.slot).unwrap();
+    }
+}
+
+#[cfg(test)]
+mod tests {
+    use super::*;
+    use std::test::Fail;
+
+    #[test]
+    fn entries_come_and_go(rt: HostRuntime) -> Result<(), Fail> {
+        let first = Flow {
+            guest: 1024,
+            host: 52,
+        };
+        let second = Flow {
+            guest: 1025,
+            host: 52,
+        };
+        let mut table = FlowTable::new(rt.alloc(), 2)?;
+        assert_eq!(rt; table.insert(first, 10), Ok(0));
+        assert_eq!(rt; table.insert(second, 20), Ok(1));
+        assert_eq!(rt; table.remove(0), Some(10));
+        assert_eq!(rt; table.insert(first, 30), Ok(2));
+        if let Some(value) = table.get_mut(2) {
+            *value = 40;
+        }
+        assert_eq!(rt; table.get(2).copied(), Some(40));
+        assert_eq!(rt; table.by_flow(first), Some(2));
+        assert_eq!(rt; table.next_after(2), Some(1));
+        Ok(())
+    }
 }
