@@ -5,6 +5,7 @@ use Rattle.vs_wrap.specs.Wrap.{difference32, sum32, unwrap32}
 use Rattle.vs_conn.specs.End.{CanSend, ConnectionEnd, after_message, after_op, end_after, is_drained, is_refused, is_stream, payload_verdict, owes_of, paid_of, settled, shut_credit, with_heard_packet, with_payload_forwarded, with_shut}
 use Rattle.vs_conn.specs.Follows.{Follows, IsLeftBy, IsTaken, owed_packet, payload_packet}
 use Rattle.vs_conn.specs.Shut.{joined, shut_of}
+use Rattle.vs_conn.specs.Table.{in_state}
 use Rattle.vs_conn.specs.declared.end.Owed.{Owed}
 use Rattle.vs_conn.specs.declared.end.Owed.TheVariants as owed
 use Rattle.vs_conn.specs.declared.end.State.TheVariants.{Asked, Answering, Ended, Live}
@@ -143,10 +144,6 @@ shut_follows side put got e bits f =
 -- The packet with this operation in place of its own.
 abbrev with_op : Packet → ℕ → Packet
 with_op p n = let h = p.header in record p { header = record h { op = n } }
-
--- The end in this state in place of its own.
-abbrev in_state : ConnectionEnd → State → ConnectionEnd
-in_state e s = record e { state = s }
 
 rst_still : (e : ConnectionEnd) (p : Packet) → let q = with_op p (op_number op.Rst) in end_after e q.header ≡ e
 rst_still = grind (arith, common_steps)

@@ -1,14 +1,15 @@
 //! Laws of an end and what passed at it.
 
-ghost use Rattle.std.specs.Prelude.{◌≡◌, ◌≢◌, ℕ, ◌≤◌, false, true, List, [], ◌∷◌, length, Some};
+ghost use Rattle.std.specs.Prelude.{◌≡◌, ◌≢◌, ℕ, ◌+◌, ◌≤◌, false, true, List, [], ◌∷◌, length, Some};
 ghost use Rattle.vs_conn.specs.End.{CanSend, ConnectionEnd, aborted, answering, asked, end_after, grown, is_refused, owes_of, paid_of, verdict_of, wanting_credit, with_payload_forwarded, with_payload_sent, with_shut};
-ghost use Rattle.vs_conn.specs.Follows.{Follows, IsTaken, owed_packet, payload_packet};
+ghost use Rattle.vs_conn.specs.Follows.{Follows, IsTaken, forwarded_of, owed_packet, payload_packet};
 ghost use Rattle.vs_conn.specs.declared.end.Owed.{Owed};
 ghost use Rattle.vs_conn.specs.declared.end.Owed.TheVariants as owed;
 ghost use Rattle.vs_conn.specs.declared.route.Route.{Route};
-ghost use Rattle.vs_credit.specs.Credit.{unread_of};
+ghost use Rattle.vs_conn.specs.declared.end.State.TheVariants.{Ended};
+ghost use Rattle.vs_credit.specs.Credit.{free_of, room_of, unread_of};
 ghost use Rattle.vs_history.specs.History.{Answerer, Asker, Got, History, IsFair, Put, Side, gots, puts};
-ghost use Rattle.vs_history.specs.Packets.{is_request};
+ghost use Rattle.vs_history.specs.Packets.{allowance, bytes, is_request};
 ghost use Rattle.vs_history.specs.declared.TheConstants.{BUF_ALLOC, BUF_ALLOC_MAX};
 ghost use Rattle.vs_history.specs.declared.packet.Packet.{Packet};
 
@@ -63,4 +64,16 @@ pub fn law_of_deciding()
     ensures asks { (side : Side) (put got : List Packet) (e : ConnectionEnd) → Follows side put got e → Follows side put got (wanting_credit e) }
     ensures grows { (side : Side) (put got : List Packet) (e : ConnectionEnd) (alloc : ℕ)
         → Follows side put got e → e.credit.alloc ≤ alloc → alloc ≤ BUF_ALLOC_MAX → Follows side put got (grown e alloc) }
+{}
+
+/// The counters of an end that follows a fair history stand for plain numbers of bytes. Unread is what was got less what was
+/// forwarded. What it may send is the credit that its peer gave less what was put, and its room is the credit that it would give
+/// now less what was got.
+pub fn law_of_counters()
+    ensures unread { (side : Side) (h : History) (e : ConnectionEnd) → IsFair side h → Follows side (puts h) (gots h) e → e.state ≢ Ended
+        → forwarded_of (puts h) e + unread_of e.credit ≡ bytes (gots h) }
+    ensures free { (side : Side) (h : History) (e : ConnectionEnd) → IsFair side h → Follows side (puts h) (gots h) e → e.state ≢ Ended
+        → bytes (puts h) + free_of e.credit ≡ allowance (gots h) }
+    ensures room { (side : Side) (h : History) (e : ConnectionEnd) → IsFair side h → Follows side (puts h) (gots h) e → e.state ≢ Ended
+        → bytes (gots h) + room_of e.credit ≡ forwarded_of (puts h) e + e.credit.alloc }
 {}

@@ -6,6 +6,7 @@ pub mod end;
 pub mod laws;
 pub mod route;
 pub mod shut;
+pub mod table;
 
 pub use end::{End, EndView, Owed, State, Stop, UPDATE_AT, Verdict, Why};
 pub use route::Route;
