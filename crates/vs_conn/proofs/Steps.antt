@@ -2,9 +2,10 @@
 use Rattle.std.proofs.Common.{rules, ◌≡◌, ◌≢◌, ℕ, ◌+◌, ◌<◌, ◌≤◌, ◌%◌, ◌^◌, Bool, true, false, List, ◌∷◌, length, Some, zero, suc, refl, sym, subst, arith}
 use Rattle.std.proofs.lemmas.Grind.{common_steps}
 use Rattle.vs_wrap.specs.Wrap.{difference32, sum32, unwrap32}
-use Rattle.vs_conn.specs.End.{CanSend, ConnectionEnd, after_message, after_op, end_after, is_drained, is_refused, is_stream, payload_verdict, owes_of, paid_of, settled, shut_credit, with_heard_packet, with_payload_forwarded, with_shut}
+use Rattle.vs_conn.specs.End.{CanSend, ConnectionEnd, after_message, after_op, end_after, is_drained, is_refused, is_stream, payload_verdict, owes_of, paid_of, settled, shut_credit, verdict_of, with_heard_packet, with_payload_forwarded, with_payload_sent, with_shut}
 use Rattle.vs_conn.specs.Follows.{Follows, IsLeftBy, IsTaken, owed_packet, payload_packet}
 use Rattle.vs_conn.specs.Shut.{joined, shut_of}
+use Rattle.vs_conn.specs.Table.{in_state}
 use Rattle.vs_conn.specs.declared.end.Owed.{Owed}
 use Rattle.vs_conn.specs.declared.end.Owed.TheVariants as owed
 use Rattle.vs_conn.specs.declared.end.State.TheVariants.{Asked, Answering, Ended, Live}
@@ -17,7 +18,7 @@ use Rattle.vs_credit.specs.Credit.{unread_of, with_forwarded}
 use Rattle.vs_header.specs.Op.{op_number}
 use Rattle.vs_header.specs.declared.Op.{Op}
 use Rattle.vs_header.specs.declared.Op.TheVariants as op
-use Rattle.vs_history.specs.History.{MayPut, Side, is_begun}
+use Rattle.vs_history.specs.History.{Got, History, IsFair, MayPut, Side, gots, is_begun, puts}
 use Rattle.vs_history.specs.Packets.{bytes, flags_receive, flags_send, told_forwarded}
 use Rattle.vs_history.specs.declared.packet.Packet.{Packet}
 use Rattle.vs_history.proofs.Fair.{BothSound}
@@ -114,6 +115,10 @@ forward_left side put got e n fwd left fits undrained =
     let most = forward_most (told_forwarded put) (bytes got) e.credit.fwd_cnt n fwd left.forwarded_got fits' in
     search rules
 
+pub send_follows : (side : Side) (put got : List Packet) (e : ConnectionEnd) (route : Route) (payload : List ℕ)
+    → Follows side put got e → CanSend e (length payload) → Follows side (payload_packet e route payload ∷ put) got (with_payload_sent e (length payload))
+send_follows = search rules
+
 pub forward_follows : (side : Side) (put got : List Packet) (e : ConnectionEnd) (n : ℕ)
     → Follows side put got e → n ≤ unread_of e.credit → Follows side put got (with_payload_forwarded e n)
 forward_follows side put got e n f fits =
@@ -143,10 +148,6 @@ shut_follows side put got e bits f =
 -- The packet with this operation in place of its own.
 abbrev with_op : Packet → ℕ → Packet
 with_op p n = let h = p.header in record p { header = record h { op = n } }
-
--- The end in this state in place of its own.
-abbrev in_state : ConnectionEnd → State → ConnectionEnd
-in_state e s = record e { state = s }
 
 rst_still : (e : ConnectionEnd) (p : Packet) → let q = with_op p (op_number op.Rst) in end_after e q.header ≡ e
 rst_still = grind (arith, common_steps)
@@ -273,3 +274,7 @@ get_number side put got e p (suc (suc (suc (suc (suc (suc (suc (suc n)))))))) ta
 pub get_follows : (side : Side) (put got : List Packet) (e : ConnectionEnd) (p : Packet)
     → IsTaken p → Follows side put got e → Follows side put (p ∷ got) (end_after e p.header)
 get_follows side put got e p taken f = get_number side put got e p p.header.op taken f
+
+pub get_taken : (side : Side) (h : History) (e : ConnectionEnd) (p : Packet)
+    → IsFair side (Got p ∷ h) → Follows side (puts h) (gots h) e → is_refused (verdict_of e p.header) ≡ false
+get_taken = search rules

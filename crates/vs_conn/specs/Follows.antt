@@ -25,6 +25,10 @@ state_of side put got = if is_answered side put got then Live else first_state s
 abbrev pub forwarded_of : List Packet → ConnectionEnd → ℕ
 forwarded_of put e = unwrap32 (told_forwarded put) e.credit.fwd_cnt
 
+-- Bytes of buffer space that an end may have.
+abbrev pub IsSpace : ℕ → Type 0
+IsSpace alloc = (BUF_ALLOC ≤ alloc) × (alloc ≤ BUF_ALLOC_MAX)
+
 -- An end that is not Ended is as the packets leave it.
 pub record IsLeftBy (side : Side) (put got : List Packet) (e : ConnectionEnd) : Type 0 where
   pub state : e.state ≡ state_of side put got
@@ -40,8 +44,7 @@ pub record IsLeftBy (side : Side) (put got : List Packet) (e : ConnectionEnd) : 
   pub peer_alloc : e.credit.peer_alloc ≡ told_alloc got
   -- Its buffer space is at least what it last told, and within bounds.
   pub alloc_told : told_alloc put ≤ e.credit.alloc
-  pub alloc_first : BUF_ALLOC ≤ e.credit.alloc
-  pub alloc_most : e.credit.alloc ≤ BUF_ALLOC_MAX
+  pub space : IsSpace e.credit.alloc
   -- The directions told are those of the SHUTDOWNs put, and it decided them. Before it is Live it tells none. The peer's are those of the SHUTDOWNs got.
   pub told_receive : e.told.receive ≡ has shuts_receive put
   pub told_send : e.told.send ≡ has shuts_send put

@@ -1,26 +1,28 @@
 //! Laws of an end and what passed at it.
 
-ghost use Rattle.std.specs.Prelude.{◌≡◌, ◌≢◌, ℕ, ◌≤◌, false, true, List, [], ◌∷◌, length, Some};
+ghost use Rattle.std.specs.Prelude.{◌≡◌, ◌≢◌, ℕ, ◌+◌, ◌≤◌, false, true, List, [], ◌∷◌, length, Some};
 ghost use Rattle.vs_conn.specs.End.{CanSend, ConnectionEnd, aborted, answering, asked, end_after, grown, is_refused, owes_of, paid_of, verdict_of, wanting_credit, with_payload_forwarded, with_payload_sent, with_shut};
-ghost use Rattle.vs_conn.specs.Follows.{Follows, IsTaken, owed_packet, payload_packet};
+ghost use Rattle.vs_conn.specs.Follows.{Follows, IsSpace, IsTaken, forwarded_of, owed_packet, payload_packet};
+ghost use Rattle.vs_conn.specs.Pair.{Happening, IsSound, MayRun, opening, run};
 ghost use Rattle.vs_conn.specs.declared.end.Owed.{Owed};
 ghost use Rattle.vs_conn.specs.declared.end.Owed.TheVariants as owed;
 ghost use Rattle.vs_conn.specs.declared.route.Route.{Route};
-ghost use Rattle.vs_credit.specs.Credit.{unread_of};
-ghost use Rattle.vs_history.specs.History.{Answerer, Asker, Got, History, IsFair, Put, Side, gots, puts};
-ghost use Rattle.vs_history.specs.Packets.{is_request};
-ghost use Rattle.vs_history.specs.declared.TheConstants.{BUF_ALLOC, BUF_ALLOC_MAX};
+ghost use Rattle.vs_conn.specs.declared.end.State.TheVariants.{Ended};
+ghost use Rattle.vs_credit.specs.Credit.{free_of, room_of, unread_of};
+ghost use Rattle.vs_history.specs.History.{Answerer, Asker, Got, History, IsFair, IsNext, Put, Side, gots, peer, puts};
+ghost use Rattle.vs_history.specs.Packets.{allowance, bytes, is_request};
+ghost use Rattle.vs_history.specs.declared.TheConstants.{BUF_ALLOC_MAX};
 ghost use Rattle.vs_history.specs.declared.packet.Packet.{Packet};
 
 /// A connection begins by the asker's REQUEST. An end that was made to ask owes it and may put it, and follows what passed then. An end
 /// made to answer a REQUEST follows what passed: that it got this. Until its REQUEST is put an end that asks follows nothing.
 pub fn law_of_making()
     ensures owes { (alloc : ℕ) → owes_of (asked alloc) ≡ Some owed.Request }
-    ensures fair { (alloc : ℕ) (route : Route) → BUF_ALLOC ≤ alloc → alloc ≤ BUF_ALLOC_MAX
+    ensures fair { (alloc : ℕ) (route : Route) → IsSpace alloc
         → IsFair Asker (Put (owed_packet (asked alloc) route owed.Request) ∷ []) }
-    ensures asks { (alloc : ℕ) (route : Route) → BUF_ALLOC ≤ alloc → alloc ≤ BUF_ALLOC_MAX
+    ensures asks { (alloc : ℕ) (route : Route) → IsSpace alloc
         → Follows Asker (owed_packet (asked alloc) route owed.Request ∷ []) [] (paid_of (asked alloc) owed.Request) }
-    ensures answers { (alloc : ℕ) (p : Packet) → BUF_ALLOC ≤ alloc → alloc ≤ BUF_ALLOC_MAX → IsTaken p → is_request p ≡ true
+    ensures answers { (alloc : ℕ) (p : Packet) → IsSpace alloc → IsTaken p → is_request p ≡ true
         → Follows Answerer [] (p ∷ []) (answering alloc p.header) }
 {}
 
@@ -63,4 +65,30 @@ pub fn law_of_deciding()
     ensures asks { (side : Side) (put got : List Packet) (e : ConnectionEnd) → Follows side put got e → Follows side put got (wanting_credit e) }
     ensures grows { (side : Side) (put got : List Packet) (e : ConnectionEnd) (alloc : ℕ)
         → Follows side put got e → e.credit.alloc ≤ alloc → alloc ≤ BUF_ALLOC_MAX → Follows side put got (grown e alloc) }
+{}
+
+/// The counters of an end that follows a fair history stand for plain numbers of bytes. Unread is what was got less what was
+/// forwarded. What it may send is the credit that its peer gave less what was put, and its room is the credit that it would give
+/// now less what was got.
+pub fn law_of_counters()
+    ensures unread { (side : Side) (h : History) (e : ConnectionEnd) → IsFair side h → Follows side (puts h) (gots h) e → e.state ≢ Ended
+        → forwarded_of (puts h) e + unread_of e.credit ≡ bytes (gots h) }
+    ensures free { (side : Side) (h : History) (e : ConnectionEnd) → IsFair side h → Follows side (puts h) (gots h) e → e.state ≢ Ended
+        → bytes (puts h) + free_of e.credit ≡ allowance (gots h) }
+    ensures room { (side : Side) (h : History) (e : ConnectionEnd) → IsFair side h → Follows side (puts h) (gots h) e → e.state ≢ Ended
+        → bytes (gots h) + room_of e.credit ≡ forwarded_of (puts h) e + e.credit.alloc }
+{}
+
+/// Over every order of what two ends do from the opening on, each where it may happen: both histories are fair, each end follows its
+/// own, and each got what the other put first. So no packet is ever refused, and all the payload that an end put is within the credit
+/// that its peer gave.
+pub fn law_of_the_pair()
+    ensures sound { (ours theirs : ℕ) (route : Route) (xs : List Happening) → IsSpace ours → IsSpace theirs
+        → MayRun xs (opening ours theirs route) → IsSound (run xs (opening ours theirs route)) }
+    ensures never_refused { (ours theirs : ℕ) (route : Route) (xs : List Happening) (side : Side) (p : Packet) → IsSpace ours → IsSpace theirs
+        → MayRun xs (opening ours theirs route) → let w = run xs (opening ours theirs route) in
+        IsNext (w.history side) (w.history (peer side)) p → is_refused (verdict_of (w.end side) p.header) ≡ false }
+    ensures fits { (ours theirs : ℕ) (route : Route) (xs : List Happening) (side : Side) → IsSpace ours → IsSpace theirs
+        → MayRun xs (opening ours theirs route) → let h = (run xs (opening ours theirs route)).history in
+        bytes (puts (h side)) ≤ allowance (puts (h (peer side))) }
 {}
