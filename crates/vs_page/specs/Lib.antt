@@ -3,3 +3,4 @@ pub mod Held
 pub mod Log
 pub mod Open
 pub mod Fair
+pub mod Frame

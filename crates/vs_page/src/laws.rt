@@ -1,9 +1,17 @@
 //! Laws of packets in pages and of logs.
 
-ghost use Rattle.std.specs.Prelude.{◌≡◌, ℕ, ◌<◌, ◌≤◌, ◌+◌, ◌^◌, ◌++◌, List, length, Some};
+ghost use Rattle.std.specs.Prelude.{◌≡◌, ℕ, ◌<◌, ◌≤◌, ◌+◌, ◌^◌, ◌↔◌, true, false, List, [], ◌∷◌, ◌++◌, length, Some};
 ghost use Rattle.byteorder.specs.Endian.{little_bytes};
+ghost use Rattle.vs_flow.specs.declared.flow.Flow.{Flow};
 ghost use Rattle.vs_history.specs.declared.packet.Packet.{Packet};
-ghost use Rattle.vs_history.specs.Packets.{IsFormed, packet_bytes, size};
+ghost use Rattle.vs_history.specs.declared.TheConstants.{BUF_ALLOC, BUF_ALLOC_MAX};
+ghost use Rattle.vs_history.specs.History.{Allows, Entry, Got, History, IsOpening, Put, gots, puts};
+ghost use Rattle.vs_history.specs.Packets.{IsFormed, allowance, bytes, forwarded_by, has, is_rst, is_rw, packet_bytes, shuts_send, size, told_alloc, told_forwarded};
+ghost use Rattle.vs_page.specs.Fair.{IsFairLog};
+ghost use Rattle.vs_page.specs.Frame.{IsStill, is_about};
+ghost use Rattle.vs_page.specs.Log.{HasGotAll, IsNextEvent, IsNextPacket, Log, Role, flow_got, flow_put, history_of, other_role, side_of};
+ghost use Rattle.vs_page.specs.declared.log.LogEntry.{LogEntry};
+ghost use Rattle.vs_page.specs.declared.log.LogEntry.TheVariants.{GotEvent, GotPacket, Mark, PutEvent, PutPacket};
 ghost use Rattle.vs_page.specs.Held.{FitsWire, IsWhole, event_held, packet_held};
 
 use vs_header::HEADER_LEN;
@@ -17,4 +25,54 @@ pub fn laws_of_bytes()
     ensures whole { (bytes : List ℕ) (p : Packet) → packet_held bytes ≡ Some p → IsWhole p × (HEADER_LEN + size p ≤ length bytes) }
     ensures formed { (p : Packet) → IsFormed p → IsWhole p }
     ensures event { (id : ℕ) (more : List ℕ) → id < 2 ^ 32 → event_held (little_bytes 4 id ++ more) ≡ Some id }
+{}
+
+/// An entry about another flow leaves a flow alone: what passed on it, whether it is left open, and the payload of its connections.
+pub fn law_of_other_flows()
+    ensures { (role : Role) (first : ℕ) (f : Flow) (entry : LogEntry) (log : Log) → is_about role f entry ≡ false → IsStill role first f log (entry ∷ log) }
+{}
+
+/// A log with one more packet is fair exactly where it was fair and what passed on the packet's flow allows it. Events and transport resets
+/// change nothing in this.
+pub fn laws_of_entries()
+    ensures put { (role : Role) (log : Log) (p : Packet) → let f = flow_put role p in
+        IsFairLog role (PutPacket p ∷ log) ↔ (IsFairLog role log × Allows (side_of role f) (history_of role f log) (Put p)) }
+    ensures got { (role : Role) (log : Log) (p : Packet) → let f = flow_got role p in
+        IsFairLog role (GotPacket p ∷ log) ↔ (IsFairLog role log × Allows (side_of role f) (history_of role f log) (Got p)) }
+    ensures event_put { (role : Role) (log : Log) (id : ℕ) → IsFairLog role (PutEvent id ∷ log) ↔ IsFairLog role log }
+    ensures event_got { (role : Role) (log : Log) (id : ℕ) → IsFairLog role (GotEvent id ∷ log) ↔ IsFairLog role log }
+    ensures mark { (role : Role) (log : Log) (cid : ℕ) → IsFairLog role (Mark cid ∷ log) ↔ IsFairLog role log }
+{}
+
+/// Both ends of the rings, whose logs are fair: what each got is what the other put first. Then the next packet of the other's is allowed
+/// here, so the log stays fair, and all that was got stays what the other put first.
+pub fn law_of_two_logs()
+    ensures fair { (role : Role) (mine other : Log) (p : Packet) → IsFairLog role mine → IsFairLog (other_role role) other → HasGotAll other mine
+        → IsNextPacket mine other p → IsFairLog role (GotPacket p ∷ mine) }
+    ensures got { (mine other : Log) (p : Packet) → HasGotAll mine other → IsNextPacket mine other p → HasGotAll (GotPacket p ∷ mine) other }
+    ensures put { (mine other : Log) (p : Packet) → HasGotAll mine other → HasGotAll mine (PutPacket p ∷ other) }
+    ensures event_got { (mine other : Log) (id : ℕ) → HasGotAll mine other → IsNextEvent mine other id → HasGotAll (GotEvent id ∷ mine) other }
+    ensures event_put { (mine other : Log) (id : ℕ) → HasGotAll mine other → HasGotAll mine (PutEvent id ∷ other) }
+{}
+
+/// Credit and order on each flow of a fair log. Its first entry is its REQUEST. The payload put, the next packet's included, is within what
+/// the newest packet got gives, and what is said to be forwarded is at most the payload got; in the other direction, what is got fits in
+/// what was advertised, and says at most as much was forwarded as was put. The buffer space begins at `BUF_ALLOC` at least, never falls, and
+/// is at most `BUF_ALLOC_MAX`. No payload follows a SHUTDOWN that says 'no more is sent' (Virtio 1.2, sections 5.10.6.3 and 5.10.6.5).
+pub fn laws_of_credit()
+    ensures opening { (role : Role) (log : Log) (f : Flow) (h : History) (entry : Entry) → IsFairLog role log → history_of role f log ≡ h ++ entry ∷ []
+        → IsOpening (side_of role f) entry }
+    ensures credit { (role : Role) (log : Log) (p : Packet) → IsFairLog role (PutPacket p ∷ log) → is_rst p ≡ false
+        → let h = history_of role (flow_put role p) log in bytes (puts h) + size p ≤ allowance (gots h) }
+    ensures forwarded { (role : Role) (log : Log) (f : Flow) → IsFairLog role log
+        → let h = history_of role f log in told_forwarded (puts h) ≤ bytes (gots h) }
+    ensures room { (role : Role) (log : Log) (p : Packet) → IsFairLog role (GotPacket p ∷ log) → is_rst p ≡ false
+        → let h = history_of role (flow_got role p) log in bytes (gots h) + size p ≤ allowance (puts h) }
+    ensures told { (role : Role) (log : Log) (p : Packet) → IsFairLog role (GotPacket p ∷ log) → is_rst p ≡ false
+        → let h = history_of role (flow_got role p) log in forwarded_by (gots h) p ≤ bytes (puts h) }
+    ensures space { (role : Role) (log : Log) (p : Packet) → IsFairLog role (PutPacket p ∷ log) → is_rst p ≡ false
+        → let h = history_of role (flow_put role p) log in
+        (BUF_ALLOC ≤ p.header.buf_alloc) × (told_alloc (puts h) ≤ p.header.buf_alloc) × (p.header.buf_alloc ≤ BUF_ALLOC_MAX) }
+    ensures shut { (role : Role) (log : Log) (p : Packet) → IsFairLog role (PutPacket p ∷ log) → is_rw p ≡ true
+        → has shuts_send (puts (history_of role (flow_put role p) log)) ≡ false }
 {}
