@@ -22,6 +22,11 @@ puts-append [] h = refl
 puts-append (Put p ∷ more) h = ap (λ (ps : List Packet). p ∷ ps) (puts-append more h)
 puts-append (Got p ∷ more) h = puts-append more h
 
+pub gots-append : (more h : History) → gots (more ++ h) ≡ gots more ++ gots h
+gots-append [] h = refl
+gots-append (Put p ∷ more) h = gots-append more h
+gots-append (Got p ∷ more) h = ap (λ (ps : List Packet). p ∷ ps) (gots-append more h)
+
 -- An instance of more packets is more of the instance.
 more_of : (p : Packet) (b : Bool) (xs ys : List Packet) → (front : List Packet) × (xs ≡ front ++ ys) → (front : List Packet) × ((if b then p ∷ xs else xs) ≡ front ++ ys)
 more_of p true xs ys rest = (p ∷ rest.0, ap (λ (ps : List Packet). p ∷ ps) rest.1)

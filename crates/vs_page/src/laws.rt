@@ -7,7 +7,7 @@ ghost use Rattle.vs_history.specs.declared.packet.Packet.{Packet};
 ghost use Rattle.vs_history.specs.declared.TheConstants.{BUF_ALLOC, BUF_ALLOC_MAX};
 ghost use Rattle.vs_history.specs.History.{Allows, Entry, Got, History, IsOpening, Put, gots, puts};
 ghost use Rattle.vs_history.specs.Packets.{IsFormed, allowance, bytes, forwarded_by, has, is_rst, is_rw, packet_bytes, shuts_send, size, told_alloc, told_forwarded};
-ghost use Rattle.vs_page.specs.Fair.{IsFairLog};
+ghost use Rattle.vs_page.specs.Fair.{IsFairLog, IsPrefixOf, payload_got, payload_of, payload_put};
 ghost use Rattle.vs_page.specs.Frame.{IsStill, is_about};
 ghost use Rattle.vs_page.specs.Log.{HasGotAll, IsNextEvent, IsNextPacket, Log, Role, flow_got, flow_put, history_of, other_role, side_of};
 ghost use Rattle.vs_page.specs.declared.log.LogEntry.{LogEntry};
@@ -75,4 +75,34 @@ pub fn laws_of_credit()
         (BUF_ALLOC ≤ p.header.buf_alloc) × (told_alloc (puts h) ≤ p.header.buf_alloc) × (p.header.buf_alloc ≤ BUF_ALLOC_MAX) }
     ensures shut { (role : Role) (log : Log) (p : Packet) → IsFairLog role (PutPacket p ∷ log) → is_rw p ≡ true
         → has shuts_send (puts (history_of role (flow_put role p) log)) ≡ false }
+{}
+
+/// The payload of each connection. Where all packets that an end got are those that the other put first, the payload that it got is a prefix
+/// of the payload that the other put, on each flow and each connection of it. Payload once put or got stays, and more follows it. On a fair
+/// log a flow has one connection, which has all payload: a packet adds its own, and only an RW has any.
+pub fn laws_of_payload()
+    ensures prefix { (role : Role) (mine other : Log) (f : Flow) (k : ℕ) → HasGotAll mine other
+        → IsPrefixOf (payload_got role f k mine) (payload_put (other_role role) f k other) }
+    ensures put_stays { (role : Role) (newer log : Log) (f : Flow) (k : ℕ) → IsPrefixOf (payload_put role f k log) (payload_put role f k (newer ++ log)) }
+    ensures got_stays { (role : Role) (newer log : Log) (f : Flow) (k : ℕ) → IsPrefixOf (payload_got role f k log) (payload_got role f k (newer ++ log)) }
+    ensures all_put { (role : Role) (log : Log) (f : Flow) → IsFairLog role log → payload_put role f 1 log ≡ payload_of (puts (history_of role f log)) }
+    ensures all_got { (role : Role) (log : Log) (f : Flow) → IsFairLog role log → payload_got role f 1 log ≡ payload_of (gots (history_of role f log)) }
+    ensures counted { (ps : List Packet) → length (payload_of ps) ≡ bytes ps }
+    ensures put { (role : Role) (log : Log) (p : Packet) → IsFairLog role (PutPacket p ∷ log)
+        → let f = flow_put role p in payload_put role f 1 (PutPacket p ∷ log) ≡ payload_put role f 1 log ++ p.payload }
+    ensures got { (role : Role) (log : Log) (p : Packet) → IsFairLog role (GotPacket p ∷ log)
+        → let f = flow_got role p in payload_got role f 1 (GotPacket p ∷ log) ≡ payload_got role f 1 log ++ p.payload }
+    ensures put_none { (role : Role) (log : Log) (p : Packet) (f : Flow) (k : ℕ) → IsWhole p → is_rw p ≡ false
+        → payload_put role f k (PutPacket p ∷ log) ≡ payload_put role f k log }
+    ensures got_none { (role : Role) (log : Log) (p : Packet) (f : Flow) (k : ℕ) → IsWhole p → is_rw p ≡ false
+        → payload_got role f k (GotPacket p ∷ log) ≡ payload_got role f k log }
+{}
+
+/// After a SHUTDOWN that says 'no more is sent', the payload of a flow doesn't grow: neither that put by the end that put the SHUTDOWN,
+/// nor that got from the end that it was got from (Virtio 1.2, section 5.10.6.5).
+pub fn laws_of_shutdown()
+    ensures put { (role : Role) (newer log : Log) (f : Flow) (k : ℕ) → IsFairLog role (newer ++ log)
+        → has shuts_send (puts (history_of role f log)) ≡ true → payload_put role f k (newer ++ log) ≡ payload_put role f k log }
+    ensures got { (role : Role) (newer log : Log) (f : Flow) (k : ℕ) → IsFairLog role (newer ++ log)
+        → has shuts_send (gots (history_of role f log)) ≡ true → payload_got role f k (newer ++ log) ≡ payload_got role f k log }
 {}
