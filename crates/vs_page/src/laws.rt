@@ -1,6 +1,6 @@
 //! Laws of packets in pages and of logs.
 
-ghost use Rattle.std.specs.Prelude.{◌≡◌, ℕ, ◌<◌, ◌≤◌, ◌+◌, ◌^◌, ◌↔◌, true, false, List, [], ◌∷◌, ◌++◌, length, Some};
+ghost use Rattle.std.specs.Prelude.{◌≡◌, ℕ, ◌<◌, ◌≤◌, ◌+◌, ◌^◌, ◌↔◌, Bool, true, false, List, [], ◌∷◌, ◌++◌, length, Some};
 ghost use Rattle.byteorder.specs.Endian.{little_bytes};
 ghost use Rattle.vs_flow.specs.declared.flow.Flow.{Flow};
 ghost use Rattle.vs_history.specs.declared.packet.Packet.{Packet};
@@ -10,6 +10,7 @@ ghost use Rattle.vs_history.specs.Packets.{IsFormed, allowance, bytes, forwarded
 ghost use Rattle.vs_page.specs.Fair.{IsFairLog, IsPrefixOf, payload_got, payload_of, payload_put};
 ghost use Rattle.vs_page.specs.Frame.{IsStill, is_about};
 ghost use Rattle.vs_page.specs.Log.{HasGotAll, IsNextEvent, IsNextPacket, Log, Role, flow_got, flow_put, history_of, other_role, side_of};
+ghost use Rattle.vs_page.specs.Open.{WasOpened, is_left_open, is_open};
 ghost use Rattle.vs_page.specs.declared.log.LogEntry.{LogEntry};
 ghost use Rattle.vs_page.specs.declared.log.LogEntry.TheVariants.{GotEvent, GotPacket, Mark, PutEvent, PutPacket};
 ghost use Rattle.vs_page.specs.Held.{FitsWire, IsWhole, event_held, packet_held};
@@ -105,4 +106,13 @@ pub fn laws_of_shutdown()
         → has shuts_send (puts (history_of role f log)) ≡ true → payload_put role f k (newer ++ log) ≡ payload_put role f k log }
     ensures got { (role : Role) (newer log : Log) (f : Flow) (k : ℕ) → IsFairLog role (newer ++ log)
         → has shuts_send (gots (history_of role f log)) ≡ true → payload_got role f k (newer ++ log) ≡ payload_got role f k log }
+{}
+
+/// A log leaves a flow open exactly where an entry of it opened the flow, and no newer one ended it. A fresh log leaves none open, nor does
+/// one that ends by a transport reset, over which the histories go on.
+pub fn laws_of_open_flows()
+    ensures opened { (role : Role) (first : ℕ) (f : Flow) (log : Log) → is_left_open role first f log ≡ true ↔ WasOpened role first f log }
+    ensures fresh { (role : Role) (first : ℕ) (f : Flow) (reply_owed : Bool) → is_open role first f [] reply_owed ≡ false }
+    ensures reset { (role : Role) (first cid : ℕ) (f : Flow) (log : Log) (reply_owed : Bool) → is_open role first f (Mark cid ∷ log) reply_owed ≡ false }
+    ensures history { (role : Role) (cid : ℕ) (f : Flow) (log : Log) → history_of role f (Mark cid ∷ log) ≡ history_of role f log }
 {}
