@@ -1,16 +1,20 @@
 //! Laws of packets in pages and of logs.
 
-ghost use Rattle.std.specs.Prelude.{◌≡◌, ℕ, ◌<◌, ◌≤◌, ◌+◌, ◌^◌, ◌↔◌, Bool, true, false, List, [], ◌∷◌, ◌++◌, length, Some};
+ghost use Rattle.std.specs.Prelude.{◌≡◌, ◌≢◌, ℕ, ◌<◌, ◌≤◌, ◌+◌, ◌^◌, ◌↔◌, Bool, true, false, List, [], ◌∷◌, ◌++◌, length, Some};
 ghost use Rattle.byteorder.specs.Endian.{little_bytes};
+ghost use Rattle.vs_header.specs.Kind.{kind_number};
+ghost use Rattle.vs_header.specs.declared.Kind.TheVariants.{Stream};
+ghost use Rattle.vs_header.specs.declared.Op.TheVariants.{Rst, Rw};
 ghost use Rattle.vs_flow.specs.declared.flow.Flow.{Flow};
 ghost use Rattle.vs_history.specs.declared.packet.Packet.{Packet};
 ghost use Rattle.vs_history.specs.declared.TheConstants.{BUF_ALLOC, BUF_ALLOC_MAX};
-ghost use Rattle.vs_history.specs.History.{Allows, Entry, Got, History, IsOpening, Put, gots, puts};
+ghost use Rattle.vs_history.specs.History.{Allows, Entry, Got, History, IsFair, IsOpening, Put, gots, puts};
 ghost use Rattle.vs_history.specs.Packets.{IsFormed, allowance, bytes, forwarded_by, has, is_rst, is_rw, packet_bytes, shuts_send, size, told_alloc, told_forwarded};
+ghost use Rattle.vs_page.specs.Example.{device_log, driver_log, flow, guest_cid, hello, hi, to_host};
 ghost use Rattle.vs_page.specs.Fair.{IsFairLog, IsPrefixOf, payload_got, payload_of, payload_put};
 ghost use Rattle.vs_page.specs.Frame.{IsStill, is_about};
-ghost use Rattle.vs_page.specs.Log.{HasGotAll, IsNextEvent, IsNextPacket, Log, Role, flow_got, flow_put, history_of, other_role, side_of};
-ghost use Rattle.vs_page.specs.Open.{WasOpened, is_left_open, is_open};
+ghost use Rattle.vs_page.specs.Log.{Device, Driver, HasGotAll, IsNextEvent, IsNextPacket, Log, Role, flow_got, flow_put, history_of, other_role, packets_got, packets_put, side_of};
+ghost use Rattle.vs_page.specs.Open.{WasOpened, cid_of, is_dropped, is_left_open, is_open, opened_by, opened_by_got};
 ghost use Rattle.vs_page.specs.declared.log.LogEntry.{LogEntry};
 ghost use Rattle.vs_page.specs.declared.log.LogEntry.TheVariants.{GotEvent, GotPacket, Mark, PutEvent, PutPacket};
 ghost use Rattle.vs_page.specs.Held.{FitsWire, IsWhole, event_held, packet_held};
@@ -31,6 +35,16 @@ pub fn laws_of_bytes()
 /// An entry about another flow leaves a flow alone: what passed on it, whether it is left open, and the payload of its connections.
 pub fn law_of_other_flows()
     ensures { (role : Role) (first : ℕ) (f : Flow) (entry : LogEntry) (log : Log) → is_about role f entry ≡ false → IsStill role first f log (entry ∷ log) }
+{}
+
+/// What a packet does to its own flow: it is the newest entry of the flow's history, and a REQUEST opens the flow, an RST ends it.
+pub fn law_of_own_flow()
+    ensures put { (role : Role) (p : Packet) (log : Log) → let f = flow_put role p in history_of role f (PutPacket p ∷ log) ≡ Put p ∷ history_of role f log }
+    ensures got { (role : Role) (p : Packet) (log : Log) → let f = flow_got role p in history_of role f (GotPacket p ∷ log) ≡ Got p ∷ history_of role f log }
+    ensures open_put { (role : Role) (first : ℕ) (p : Packet) (log : Log) → let f = flow_put role p in
+        is_left_open role first f (PutPacket p ∷ log) ≡ opened_by p (is_left_open role first f log) }
+    ensures open_got { (role : Role) (first : ℕ) (p : Packet) (log : Log) → let f = flow_got role p in
+        is_left_open role first f (GotPacket p ∷ log) ≡ opened_by_got role (cid_of first log) p (is_left_open role first f log) }
 {}
 
 /// A log with one more packet is fair exactly where it was fair and what passed on the packet's flow allows it. Events and transport resets
@@ -109,10 +123,28 @@ pub fn laws_of_shutdown()
 {}
 
 /// A log leaves a flow open exactly where an entry of it opened the flow, and no newer one ended it. A fresh log leaves none open, nor does
-/// one that ends by a transport reset, over which the histories go on.
+/// one that ends by a transport reset, over which the histories go on. A packet that is dropped opens and ends none, and an RST of another
+/// type of socket ends none.
 pub fn laws_of_open_flows()
     ensures opened { (role : Role) (first : ℕ) (f : Flow) (log : Log) → is_left_open role first f log ≡ true ↔ WasOpened role first f log }
     ensures fresh { (role : Role) (first : ℕ) (f : Flow) (reply_owed : Bool) → is_open role first f [] reply_owed ≡ false }
     ensures reset { (role : Role) (first cid : ℕ) (f : Flow) (log : Log) (reply_owed : Bool) → is_open role first f (Mark cid ∷ log) reply_owed ≡ false }
+    ensures dropped { (role : Role) (first : ℕ) (f : Flow) (p : Packet) (log : Log) → is_dropped role (cid_of first log) p.header ≡ true
+        → is_left_open role first f (GotPacket p ∷ log) ≡ is_left_open role first f log }
+    ensures other_type { (role : Role) (first : ℕ) (f : Flow) (p : Packet) (log : Log) → is_rst p ≡ true → p.header.kind ≢ kind_number Stream
+        → is_left_open role first f (GotPacket p ∷ log) ≡ is_left_open role first f log }
     ensures history { (role : Role) (cid : ℕ) (f : Flow) (log : Log) → history_of role f (Mark cid ∷ log) ≡ history_of role f log }
+{}
+
+/// A guest's connection, computed: what was put and got while it stands, and after its RST at the device.
+pub fn examples()
+    ensures stands { is_left_open Driver guest_cid flow driver_log ≡ true }
+    ensures put { payload_put Driver flow 1 driver_log ≡ hello }
+    ensures got { payload_got Driver flow 1 driver_log ≡ hi }
+    ensures next { packets_put (PutPacket (to_host Rst []) ∷ driver_log) ≡ packets_got device_log }
+    ensures ended { is_left_open Device guest_cid flow device_log ≡ false }
+    ensures put_there { payload_put Device flow 1 device_log ≡ hi }
+    ensures got_there { payload_got Device flow 1 device_log ≡ hello }
+    ensures held { packet_held (packet_bytes (to_host Rw hello)) ≡ Some (to_host Rw hello) }
+    ensures fair { IsFair (side_of Driver flow) (history_of Driver flow driver_log) }
 {}
