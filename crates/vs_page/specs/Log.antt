@@ -81,3 +81,7 @@ pub record HasGotAll (mine other : Log) : Type 0 where
 -- The next packet that this end gets of those that the other put.
 abbrev pub IsNextPacket : Log → Log → Packet → Type 0
 IsNextPacket mine other p = (rest : List Packet) × (packets_put other ≡ rest ++ p ∷ packets_got mine)
+
+-- The next event that this end gets of those that the other put.
+abbrev pub IsNextEvent : Log → Log → ℕ → Type 0
+IsNextEvent mine other id = (rest : List ℕ) × (events_put other ≡ rest ++ id ∷ events_got mine)
