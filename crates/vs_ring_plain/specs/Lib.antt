@@ -1,0 +1,4 @@
+pub mod Accesses
+pub mod Chain
+pub mod Examples
+pub mod Failure
