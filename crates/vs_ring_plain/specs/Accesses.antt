@@ -20,16 +20,10 @@ with_values (Read addr len next) [] = None
 with_values (Read addr len next) (bytes ∷ values) = with_values (next bytes) values
 with_values (Write addr bytes next) values = with_values next values
 
--- It makes k accesses at most, whatever it reads.
-abbrev pub MakesAtMost : {A : Type 0} → ℕ → Accesses A → Type 0
-MakesAtMost k (Done a) = ⊤
-MakesAtMost zero (Read addr len next) = ⊥
-MakesAtMost (suc k) (Read addr len next) = (bytes : List ℕ) → MakesAtMost k (next bytes)
-MakesAtMost zero (Write addr bytes next) = ⊥
-MakesAtMost (suc k) (Write addr bytes next) = MakesAtMost k next
-
--- P holds of the address and length of each piece that it reads or writes, whatever it reads.
-abbrev pub EachAccess : {A : Type 0} → (ℕ → ℕ → Type 0) → Accesses A → Type 0
-EachAccess P (Done a) = ⊤
-EachAccess P (Read addr len next) = P addr len × ((bytes : List ℕ) → EachAccess P (next bytes))
-EachAccess P (Write addr bytes next) = P addr (length bytes) × EachAccess P next
+-- It makes k accesses at most, whatever it reads, and P holds of the address and length of each piece.
+unfoldable pub MakesAtMost : {A : Type 0} → ℕ → (ℕ → ℕ → Type 0) → Accesses A → Type 0
+MakesAtMost k P (Done a) = ⊤
+MakesAtMost zero P (Read addr len next) = ⊥
+MakesAtMost (suc k) P (Read addr len next) = P addr len × ((bytes : List ℕ) → MakesAtMost k P (next bytes))
+MakesAtMost zero P (Write addr bytes next) = ⊥
+MakesAtMost (suc k) P (Write addr bytes next) = P addr (length bytes) × MakesAtMost k P next

@@ -1,9 +1,28 @@
-//! Worked examples of taking a chain.
-ghost use Rattle.std.specs.Prelude.{◌≡◌, [], ◌∷◌, false, true, Some};
-ghost use Rattle.vs_ring_plain.specs.Accesses.{with_values};
-ghost use Rattle.vs_ring_plain.specs.Chain.{taking, Chain, NoChain, Failed, total_len};
+//! What holds of taking a chain, and worked examples.
+ghost use Rattle.std.specs.Prelude.{◌≡◌, ℕ, ◌+◌, [], ◌∷◌, false, true, IsTrue, Some};
+ghost use Rattle.vs_guest_mem.specs.Memory.{is_within};
+ghost use Rattle.vs_layout.specs.Layout.{AreInside};
+ghost use Rattle.vs_ring_plain.specs.Accesses.{MakesAtMost, with_values};
+ghost use Rattle.vs_ring_plain.specs.Chain.{Ring, taking, Chain, NoChain, Failed, total_len};
 ghost use Rattle.vs_ring_plain.specs.Examples.{ring, word, desc, first_chain, first_chain_indirect};
 ghost use Rattle.vs_ring_plain.specs.Failure.{Rx, Tx, Event, AvailJump, HeadRange, Indirect, TxWritable, RxReadable, AddrRange, ChainLong, NextRange, TxShort, RxSmall, EventSmall, IndirectNested, IndirectNext, IndirectLen};
+ghost use Rattle.vs_ring_plain.specs.Pieces.{reading, spans};
+
+/// Where a queue of n places lies in the memory, taking a chain makes n + 3 accesses at most, and each of them lies there too.
+pub fn taking_ends_inside_the_memory()
+    ensures { (r : Ring) (taken : ℕ) → AreInside r.areas r.n record { at = r.base; len = r.size }
+        → MakesAtMost (r.n + 3) (λ addr len. IsTrue (is_within r.base r.size addr len)) (taking r taken) }
+{}
+
+/// The header of a packet whose chain has pieces of 20, 24 and 7 bytes is read by two accesses, and six bytes behind it by one.
+pub fn chain_read()
+    ensures header { spans (record { at = 8192; len = 20 } ∷ record { at = 9000; len = 24 } ∷ record { at = 9500; len = 7 } ∷ []) 0 44
+        ≡ record { at = 8192; len = 20 } ∷ record { at = 9000; len = 24 } ∷ [] }
+    ensures payload { spans (record { at = 8192; len = 20 } ∷ record { at = 9000; len = 24 } ∷ record { at = 9500; len = 7 } ∷ []) 44 6
+        ≡ record { at = 9500; len = 6 } ∷ [] }
+    ensures bytes { with_values (reading (record { at = 8192; len = 2 } ∷ record { at = 9000; len = 1 } ∷ []) []) ((1 ∷ 2 ∷ []) ∷ (3 ∷ []) ∷ [])
+        ≡ Some (1 ∷ 2 ∷ 3 ∷ []) }
+{}
 
 /// Chains that are taken, in queues of 8 places.
 pub fn chains_taken()
