@@ -88,8 +88,7 @@ impl PlainMem {
         ensures unchanged { OnErr result ((self.new ≡ self.old) × (out.new ≡ out.old)) }
     {
         self.refuse_outside(addr, out.len())?;
-        self.access(out.len());
-        self.copy(addr, out);
+        self.load(addr, out);
         Ok(())
     }
 
@@ -102,9 +101,29 @@ impl PlainMem {
         ensures unchanged { OnErr result (self.new ≡ self.old) }
     {
         self.refuse_outside(addr, bytes.len())?;
+        self.store(addr, bytes);
+        Ok(())
+    }
+
+    /// Reads a piece that lies inside: one access, or none for an empty piece.
+    pub fn load(&mut self, addr: u64, out: &mut [u8])
+        requires inside { IsTrue (is_inside self.old addr (length out.old)) }
+        ensures bytes { out.new ≡ bytes_at self.new addr (length out.old) }
+        ensures memory { self.new ≡ accessed self.old (length out.old) }
+        ensures size { length self.new.bytes ≡ length self.old.bytes }
+    {
+        self.access(out.len());
+        self.copy(addr, out);
+    }
+
+    /// Writes a piece that lies inside: one access, or none for an empty piece.
+    pub fn store(&mut self, addr: u64, bytes: &[u8])
+        requires inside { IsTrue (is_inside self.old addr (length bytes.now)) }
+        ensures memory { self.new ≡ after_write (accessed self.old (length bytes.now)) addr bytes.now }
+        ensures size { length self.new.bytes ≡ length self.old.bytes }
+    {
         self.access(bytes.len());
         self.set(addr, bytes);
-        Ok(())
     }
 
     /// Reads a piece without an access. `AddrRange` where a byte lies outside; `out` is as before then.

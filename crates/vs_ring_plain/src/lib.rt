@@ -1,0 +1,4 @@
+//! The standard split ring over a guest's memory (Virtio 1.2, section 2.7).
+#![tactic(auto)]
+
+pub mod examples;
