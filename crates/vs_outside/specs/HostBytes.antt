@@ -1,0 +1,34 @@
+-- What the programs of a host wrote and read on a flow, without the two handshake lines of a client (Firecracker's vsock documentation).
+use Rattle.std.specs.Prelude.{ℕ, ◌+◌, ◌-◌, ◌==◌, Bool, false, if◌then◌else◌, List, [], filter, drop, slice_get, Option}
+use Rattle.std.specs.List.{position_or_len}
+use Rattle.std.specs.Option.{option_map_or, option_and_then}
+use Rattle.vs_flow.specs.declared.flow.Flow.{Flow}
+use Rattle.vs_flow.specs.Flow.{same_flow}
+use Rattle.vs_outside.specs.Host.{Stream, HostContents, stream_at}
+
+-- The bytes after the first line, which ends at the first LF. There are none while the line isn't whole.
+abbrev pub after_line : List ℕ → List ℕ
+after_line bytes = drop (position_or_len (λ b. b == 10) bytes + 1) bytes
+
+-- What the host's program wrote and the proxy took: behind the CONNECT line, where a client made the stream.
+abbrev pub wrote_after_connect : Stream → List ℕ
+wrote_after_connect s = if s.by_client then after_line s.taken else s.taken
+
+-- What the host's program was given to read: behind the OK line, where a client made the stream.
+abbrev pub read_after_ok : Stream → List ℕ
+read_after_ok s = if s.by_client then after_line s.given else s.given
+
+-- whether the stream of that id has that label
+abbrev pub is_labelled : Flow → HostContents → ℕ → Bool
+is_labelled f c id = option_map_or (λ s. option_map_or (same_flow f) s.label false) (stream_at id c) false
+
+-- The kth stream of a flow, counted from 1 in the order in which streams were labelled.
+abbrev pub stream_of : Flow → ℕ → HostContents → Option Stream
+stream_of f k c = option_and_then (λ id. stream_at id c) (slice_get (filter (is_labelled f c) c.labelled) (k - 1))
+
+-- What the host wrote on the kth stream of a flow, and what it read there. Nothing, where there is no such stream.
+abbrev pub host_wrote : Flow → ℕ → HostContents → List ℕ
+host_wrote f k c = option_map_or wrote_after_connect (stream_of f k c) []
+
+abbrev pub host_read : Flow → ℕ → HostContents → List ℕ
+host_read f k c = option_map_or read_after_ok (stream_of f k c) []

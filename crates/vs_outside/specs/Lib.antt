@@ -1,0 +1,5 @@
+pub mod Faults
+pub mod InOut
+pub mod Host
+pub mod HostProgram
+pub mod HostBytes
