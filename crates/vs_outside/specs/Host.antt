@@ -1,6 +1,6 @@
 -- A host and its streams, as far as it exposes them to contracts: what each call of the proxy is answered by, and what it changes.
 -- (The mapping of sockets is that of Firecracker's vsock documentation.)
-use Rattle.std.specs.Prelude.{◌≡◌, ℕ, ◌+◌, ◌-◌, min, ◌==◌, Bool, true, false, if◌then◌else◌, List, [], ◌∷◌, ◌++◌, length, take, drop, position, slice_get, slice_set, Option, None, Some, IsSomeAnd}
+use Rattle.std.specs.Prelude.{◌≡◌, ◌≢◌, ℕ, ◌+◌, ◌-◌, min, ◌==◌, Bool, true, false, if◌then◌else◌, List, [], ◌∷◌, ◌++◌, length, take, drop, position, slice_get, slice_set, Option, None, Some, IsSomeAnd}
 use Rattle.std.specs.List.{list_any}
 use Rattle.std.specs.Option.{is_some, option_map, option_map_or}
 use Rattle.std.specs.Str.{bytes_eq}
@@ -45,6 +45,15 @@ pub record Stream : Type 0 where
   -- whether the proxy shut the side that it writes to
   pub write_shut : Bool
 
+-- What a stream is like when a dial makes it, at the end of the host's program: the bytes that wait to be taken, whether no more
+-- come, how many it takes (none: any number), whether the program writes back what it is given, whether it closed the stream.
+pub record Prepared : Type 0 where
+  pub untaken : List ℕ
+  pub ended : Bool
+  pub room : Option ℕ
+  pub echoes : Bool
+  pub host_closed : Bool
+
 -- A host.
 pub record HostContents : Type 0 where
   -- the base path
@@ -55,8 +64,8 @@ pub record HostContents : Type 0 where
   pub labelled : List ℕ
   -- the paths at which a dial finds a listener
   pub listening : List (List ℕ)
-  -- what the stream is like that a dial makes, but for its label
-  pub prepared : Stream
+  -- what a stream is like when a dial makes it
+  pub prepared : Prepared
   -- which of the accepts, dials, reads and writes to come are to fail, and which of the starts
   pub to_fail : List ℕ
   pub starts_to_fail : List ℕ
@@ -122,9 +131,24 @@ dial_answer path c =
     if fails_now c then dialed.Failed
     else (if is_listened path c then dialed.Stream (length c.streams + 1) else dialed.Refused)
 
+abbrev pub dialed_stream : Flow → Prepared → Stream
+dialed_stream flow p = record {
+  label = Some flow;
+  by_client = false;
+  state = state.Open;
+  taken = [];
+  untaken = p.untaken;
+  ended = p.ended;
+  given = [];
+  room = p.room;
+  echoes = p.echoes;
+  host_closed = p.host_closed;
+  write_shut = false;
+}
+
 abbrev pub after_dial : Flow → Dialed → HostContents → HostContents
 after_dial flow (dialed.Stream id) c =
-    record (called c) { streams = c.streams ++ record c.prepared { label = Some flow } ∷ []; labelled = c.labelled ++ id ∷ [] }
+    record (called c) { streams = c.streams ++ dialed_stream flow c.prepared ∷ []; labelled = c.labelled ++ id ∷ [] }
 after_dial flow dialed.Refused c = called c
 after_dial flow dialed.Failed c = after_failed c
 
@@ -181,16 +205,16 @@ write_of n s =
 abbrev pub write_answer : ℕ → ℕ → HostContents → StreamWrite
 write_answer id n c = if fails_now c then write.Failed else option_map_or (write_of n) (stream_at id c) write.Again
 
--- the stream after these bytes were given to it
-abbrev pub give_bytes : List ℕ → Stream → Stream
-give_bytes bytes s = record s {
-  given = s.given ++ bytes;
-  room = option_map (λ room. room - length bytes) s.room;
-  untaken = if s.echoes then s.untaken ++ bytes else s.untaken;
+-- the stream after the first n of these bytes were given to it
+abbrev pub give_bytes : ℕ → List ℕ → Stream → Stream
+give_bytes n bytes s = record s {
+  given = s.given ++ take n bytes;
+  room = option_map (λ room. room - n) s.room;
+  untaken = if s.echoes then s.untaken ++ take n bytes else s.untaken;
 }
 
 abbrev pub after_write : ℕ → List ℕ → StreamWrite → HostContents → HostContents
-after_write id bytes (write.Took n) c = with_stream id (give_bytes (take n bytes)) (called c)
+after_write id bytes (write.Took n) c = with_stream id (give_bytes n bytes) (called c)
 after_write id bytes write.Failed c = after_failed c
 after_write id bytes _ c = called c
 
@@ -240,3 +264,7 @@ ReadsSome _ room = Unit {0}
 abbrev pub TakesSome : StreamWrite → ℕ → Type 0
 TakesSome (write.Took n) len = MovesSome n len
 TakesSome _ len = Unit {0}
+
+-- Every stream but that of the id is as before.
+abbrev pub KeepsOthers : ℕ → HostContents → HostContents → Type 0
+KeepsOthers id before after = (other : ℕ) → other ≢ id → stream_at other after ≡ stream_at other before

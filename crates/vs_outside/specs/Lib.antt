@@ -3,3 +3,4 @@ pub mod InOut
 pub mod Host
 pub mod HostProgram
 pub mod HostBytes
+pub mod MemIo

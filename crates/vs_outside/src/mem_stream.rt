@@ -1,0 +1,366 @@
+//! A stream of a host in memory.
+ghost use Rattle.std.specs.Prelude.{◌≡◌, ◌≤◌, ◌<◌, ◌-◌, ◌==◌, true, length, min, take, position, IfSome, IfOk, OnOk, OnErr, is_none};
+ghost use Rattle.std.specs.Option.{option_map};
+ghost use Rattle.vs_outside.specs.Host.{dialed_stream, is_waiting, read_of, taken_of, write_of};
+ghost use Rattle.vs_outside.specs.HostProgram.{plain, client_stream, ReadsStream, stream_after_write, is_over, with_bytes, allowed, ended, closed};
+ghost use Rattle.vs_outside.specs.HostBytes.{after_line, wrote_after_connect, read_after_ok};
+
+use crate::host_net::{StreamRead, StreamState, StreamWrite};
+use std::alloc::{AllocError, Global};
+use std::marker::Model;
+use vs_flow::Flow;
+
+/// The byte that ends a line, LF.
+const LINE_END: u8 = b'\n';
+
+/// What the host's program is answered when it writes to a stream.
+#[derive(Clone, Copy, Debug, PartialEq, Eq)]
+pub enum HostWritten {
+    /// All bytes wait to be taken by the proxy.
+    Ok,
+    /// The host's program ended the stream, or the proxy closed it.
+    Ended,
+    /// There is no stream of that id.
+    NoStream,
+}
+
+/// What a stream is like when a dial makes it, at the end of the host's program.
+#[derive(Drop)]
+pub struct PreparedStream {
+    /// The bytes that wait to be taken by the proxy.
+    pub bytes: Vec<u8>,
+    /// Whether no more bytes come.
+    pub ended: bool,
+    /// How many bytes the stream takes; none: any number.
+    pub room: Option<usize>,
+    /// Whether the host's program closed it.
+    pub closed: bool,
+}
+
+impl Model for PreparedStream {
+    ghost use Rattle.std.specs.Prelude.{false};
+    ghost use Rattle.vs_outside.specs.Host.{Prepared};
+
+    ghost Value = { Prepared };
+
+    ghost view = { λ p. record { untaken = p.bytes.items; ended = p.ended; room = p.room; echoes = false; host_closed = p.closed } };
+}
+
+impl PreparedStream {
+    /// A stream to which the host's program wrote nothing yet, and which takes all.
+    pub fn plain(alloc: Global) -> PreparedStream
+        ensures { result ≡ plain }
+    {
+        PreparedStream {
+            bytes: Vec::new(alloc),
+            ended: false,
+            room: None,
+            closed: false,
+        }
+    }
+}
+
+/// A stream of a host in memory.
+#[derive(Drop)]
+pub struct MemStream {
+    label: Option<Flow>,
+    by_client: bool,
+    state: StreamState,
+    /// All bytes that the host's program wrote, of which the proxy took the first `at`.
+    written: Vec<u8>,
+    at: usize,
+    ended: bool,
+    given: Vec<u8>,
+    room: Option<usize>,
+    host_closed: bool,
+    write_shut: bool,
+}
+
+impl Model for MemStream {
+    ghost use Rattle.std.specs.Prelude.{◌≤◌, false, take, drop, vec_len};
+    ghost use Rattle.vs_outside.specs.Host.{Stream};
+
+    ghost Value = { Stream };
+
+    ghost view = { λ s. record {
+      label = s.label;
+      by_client = s.by_client;
+      state = s.state;
+      taken = take s.at s.written.items;
+      untaken = drop s.at s.written.items;
+      ended = s.ended;
+      given = s.given.items;
+      room = s.room;
+      echoes = false;
+      host_closed = s.host_closed;
+      write_shut = s.write_shut;
+    } };
+
+    ghost invariant = { λ s. s.at ≤ vec_len s.written };
+}
+
+impl MemStream {
+    /// A client's stream, which waits to be accepted.
+    pub(crate) fn client(alloc: Global) -> MemStream
+        ensures { result ≡ client_stream }
+    {
+        MemStream {
+            label: None,
+            by_client: true,
+            state: StreamState::Waiting,
+            written: Vec::new(alloc),
+            at: 0,
+            ended: false,
+            given: Vec::new(alloc),
+            room: None,
+            host_closed: false,
+            write_shut: false,
+        }
+    }
+
+    /// A stream that the proxy dialled.
+    pub(crate) fn dialed(
+        alloc: Global,
+        flow: Flow,
+        prepared: &PreparedStream,
+    ) -> Result<MemStream, AllocError>
+        ensures { IfOk result (λ stream. stream ≡ dialed_stream flow prepared.now) }
+    {
+        Ok(MemStream {
+            label: Some(flow),
+            by_client: false,
+            state: StreamState::Open,
+            written: Vec::from_slice(alloc, &prepared.bytes)?,
+            at: 0,
+            ended: prepared.ended,
+            given: Vec::new(alloc),
+            room: prepared.room,
+            host_closed: prepared.closed,
+            write_shut: false,
+        })
+    }
+
+    /// The flow that the proxy gave the stream.
+    pub fn label(&self) -> Option<Flow>
+        ensures { result ≡ self.now.label }
+    {
+        self.label
+    }
+
+    /// Whether a client of the host made the stream, or else a dial of the proxy.
+    pub fn is_by_client(&self) -> bool
+        ensures { result ≡ self.now.by_client }
+    {
+        self.by_client
+    }
+
+    /// Whether the proxy was given the stream, and whether it closed it.
+    pub fn state(&self) -> StreamState
+        ensures { result ≡ self.now.state }
+    {
+        self.state
+    }
+
+    /// The bytes that the proxy took of the stream.
+    pub fn taken(&self) -> &[u8]
+        ensures { result.now ≡ self.now.taken }
+    {
+        &self.written[..self.at]
+    }
+
+    /// The bytes that the host's program wrote and the proxy hasn't taken yet.
+    pub fn untaken(&self) -> &[u8]
+        ensures { result.now ≡ self.now.untaken }
+    {
+        self.written.split_at(self.at).1
+    }
+
+    /// The bytes that the proxy gave the stream.
+    pub fn given(&self) -> &[u8]
+        ensures { result.now ≡ self.now.given }
+    {
+        &self.given
+    }
+
+    /// Whether the proxy shut the side that it writes to.
+    pub fn is_write_shut(&self) -> bool
+        ensures { result ≡ self.now.write_shut }
+    {
+        self.write_shut
+    }
+
+    /// What the host's program wrote and the proxy took, without the CONNECT line of a client.
+    pub fn wrote_after_connect(&self) -> &[u8]
+        ensures { result.now ≡ wrote_after_connect self.now }
+    {
+        if self.by_client {
+            after_line(self.taken())
+        } else {
+            self.taken()
+        }
+    }
+
+    /// What the host's program was given to read, without the OK line that a client gets.
+    pub fn read_after_ok(&self) -> &[u8]
+        ensures { result.now ≡ read_after_ok self.now }
+    {
+        if self.by_client {
+            after_line(self.given())
+        } else {
+            self.given()
+        }
+    }
+
+    /// Whether a client made the stream and it isn't accepted yet.
+    pub(crate) fn is_waiting(&self) -> bool
+        ensures { result ≡ is_waiting self.now }
+    {
+        self.state == StreamState::Waiting
+    }
+
+    /// The stream has that label from now on. Answers whether it had none.
+    pub(crate) fn set_label(&mut self, flow: Flow) -> bool
+        ensures first { result ≡ is_none self.old.label }
+        ensures after { self.new ≡ record self.old { label = Some flow } }
+    {
+        let first = self.label.is_none();
+        self.label = Some(flow);
+        first
+    }
+
+    /// The proxy was given the stream, or closed it.
+    pub(crate) fn set_state(&mut self, state: StreamState)
+        ensures { self.new ≡ record self.old { state = state } }
+    {
+        self.state = state;
+    }
+
+    /// The proxy shuts the side that it writes to.
+    pub(crate) fn shut_write(&mut self)
+        ensures { self.new ≡ record self.old { write_shut = true } }
+    {
+        self.write_shut = true;
+    }
+
+    /// The proxy reads the next bytes into the front of `out`.
+    #[tactic(auto, using(crate::proofs::Bytes::take_more, crate::proofs::Bytes::drop_more))]
+    pub(crate) fn read(&mut self, out: &mut [u8]) -> StreamRead
+        ensures answer { result ≡ read_of (length out.old) self.old }
+        ensures reads { ReadsStream result out.new self.old self.new }
+    {
+        let left = self.untaken();
+        if left.is_empty() {
+            return if self.ended {
+                StreamRead::End
+            } else {
+                StreamRead::Again
+            };
+        }
+        let n = copy_front(left, out);
+        self.at += n;
+        StreamRead::Got(n)
+    }
+
+    /// How many of `n` bytes the stream takes now.
+    fn taken_of(&self, n: usize) -> usize
+        ensures value { result ≡ taken_of n self.now }
+        ensures most { result ≤ n }
+    {
+        match self.room {
+            Some(room) => n.min(room),
+            None => n,
+        }
+    }
+
+    /// The proxy writes the first ones of these bytes. Where there is no memory for them, all is as before.
+    pub(crate) fn write(&mut self, bytes: &[u8]) -> Result<StreamWrite, AllocError>
+        ensures answer { IfOk result (λ answer. answer ≡ write_of (length bytes.now) self.old) }
+        ensures ok { IfOk result (λ answer. self.new ≡ stream_after_write bytes.now answer self.old) }
+        ensures err { OnErr result (self.new ≡ self.old) }
+    {
+        if self.host_closed {
+            return Ok(StreamWrite::Closed);
+        }
+        let n = self.taken_of(bytes.len());
+        if n == 0 {
+            return Ok(StreamWrite::Again);
+        }
+        self.given.extend_from_slice(&bytes[..n])?;
+        self.room = room_left(self.room, n);
+        Ok(StreamWrite::Took(n))
+    }
+
+    /// Whether the host's program can write no more: it ended the stream, or the proxy closed it.
+    pub(crate) fn is_over(&self) -> bool
+        ensures { result ≡ is_over self.now }
+    {
+        self.ended || self.state == StreamState::Closed
+    }
+
+    /// The host's program writes bytes. Where there is no memory for them, all is as before.
+    pub(crate) fn append(&mut self, bytes: &[u8]) -> Result<(), AllocError>
+        ensures ok { OnOk result (self.new ≡ with_bytes bytes.now self.old) }
+        ensures err { OnErr result (self.new ≡ self.old) }
+    {
+        self.written.extend_from_slice(bytes)
+    }
+
+    /// The host's program takes `n` bytes more.
+    pub(crate) fn allow(&mut self, n: usize)
+        ensures { self.new ≡ allowed usize.MAX n self.old }
+    {
+        self.room = Some(self.room.unwrap_or(0).saturating_add(n));
+    }
+
+    /// The host's program ends the stream.
+    pub(crate) fn end(&mut self)
+        ensures { self.new ≡ ended self.old }
+    {
+        self.ended = true;
+    }
+
+    /// The host's program closes the stream.
+    pub(crate) fn close_by_host(&mut self)
+        ensures { self.new ≡ closed self.old }
+    {
+        self.host_closed = true;
+    }
+}
+
+/// What is left of the room for bytes, where there is a limit, after so many were taken.
+fn room_left(room: Option<usize>, n: usize) -> Option<usize>
+    ensures { result ≡ option_map (λ room. room - n) room }
+{
+    match room {
+        Some(room) => Some(room.saturating_sub(n)),
+        None => None,
+    }
+}
+
+/// The bytes after the first line; none while the line isn't whole.
+fn after_line(bytes: &[u8]) -> &[u8]
+    ensures { result.now ≡ after_line bytes.now }
+{
+    match line_end(bytes) {
+        Some(place) => bytes.split_at(place + 1).1,
+        None => &[],
+    }
+}
+
+/// Where the first LF stands.
+fn line_end(bytes: &[u8]) -> Option<usize>
+    ensures first { result ≡ position (λ b. b == LINE_END) bytes.now }
+    ensures within { IfSome result (λ place. place < length bytes.now) }
+{
+    bytes.iter().position(|b| *b == LINE_END)
+}
+
+/// Copies the first bytes of `from` to the front of `out`, as many as there are and as there is room for.
+fn copy_front(from: &[u8], out: &mut [u8]) -> usize
+    ensures count { result ≡ min (length out.old) (length from.now) }
+    ensures front { take result out.new ≡ take result from.now }
+{
+    let n = out.len().min(from.len());
+    out[..n].copy_from_slice(&from[..n]);
+    n
+}
