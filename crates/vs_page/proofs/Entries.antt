@@ -4,10 +4,11 @@ use Rattle.std.proofs.lemmas.Grind.{common_steps}
 use Rattle.vs_flow.specs.Flow.{same_flow, is_assigned}
 use Rattle.vs_flow.specs.declared.flow.Flow.{Flow}
 use Rattle.vs_history.specs.declared.packet.Packet.{Packet}
-use Rattle.vs_history.specs.History.{History, Entry, Put, Got, Side, Allows, IsFair, IsNext, puts, gots}
+use Rattle.vs_history.specs.History.{peer, History, Entry, Put, Got, Side, Allows, IsFair, IsNext, puts, gots}
 use Rattle.vs_history.proofs.Ties.{next_allowed}
-use Rattle.vs_page.specs.Log.{Log, Role, other_role, flow_put, flow_got, history_of, side_of, packets_put, packets_got, HasGotAll, IsNextPacket}
-use Rattle.vs_page.specs.Fair.{IsFairLog}
+use Rattle.vs_page.specs.Log.{Log, Role, other_role, flow_put, flow_got, history_of, side_of, packets_put, packets_got, HasGotAll}
+use Rattle.vs_page.specs.Log.{IsNextPacket}
+use Rattle.vs_page.specs.Fair.{IsFairLog, IsFairOn}
 use Rattle.vs_page.specs.declared.log.LogEntry.TheVariants.{PutPacket, GotPacket, PutEvent, GotEvent, Mark}
 use Rattle.vs_page.proofs.Flows.{same_self, same_is, opposite_by, other_twice}
 
@@ -22,7 +23,8 @@ fair_more side h f g entry false is fair allows = fair
 
 -- Histories by flow, one of which gets one more entry.
 one_more : (side : Flow → Side) (h : Flow → History) (f : Flow) (entry : Entry)
-    → ((g : Flow) → IsFair (side g) (if same_flow g f then entry ∷ h g else h g)) ↔ (((g : Flow) → IsFair (side g) (h g)) × Allows (side f) (h f) entry)
+    → ((g : Flow) → IsFair (side g) (if same_flow g f then entry ∷ h g else h g)) ↔ (((g : Flow)
+    → IsFair (side g) (h g)) × Allows (side f) (h f) entry)
 one_more side h f entry = (
   λ fair. (λ g. fair_rest (side g) (h g) entry (same_flow g f) (fair g), (rw (same_self f) at (fair f)).0),
   λ two g. fair_more side h f g entry (same_flow g f) refl (two.0 g) two.1,
@@ -82,14 +84,22 @@ next_on role mine other p next =
           (on_own (flow_got role) p (packets_got mine) ∙ ap (λ (ps : List Packet). p ∷ ps) (sym (gots_on role f mine))),
     )
 
+-- The logs need be fair on the packet's flow alone.
+pub next_allows : (role : Role) (mine other : Log) (p : Packet) → let f = flow_got role p in IsFairOn role f mine
+    → IsFairOn (other_role role) f other → HasGotAll other mine → IsNextPacket mine other p
+    → Allows (side_of role f) (history_of role f mine) (Got p)
+next_allows role mine other p fair fair_other got next =
+    let f = flow_got role p in
+    let there = history_of (other_role role) f other in
+    let rest = on_flow (flow_got (other_role role)) f got.packets.0 in
+    let here : puts (history_of role f mine) ≡ rest ++ gots there =
+    subst (λ r. puts (history_of r f mine) ≡ rest ++ gots there) (other_twice role)
+    (got_on (other_role role) f other mine got.packets.0 got.packets.1) in
+    let fair_there : IsFair (peer (side_of role f)) there =
+    subst (λ side. IsFair side there) (opposite_by role (is_assigned f.host)) fair_other in
+    next_allowed (side_of role f) (history_of role f mine) there p fair fair_there (next_on role mine other p next) (rest, here)
+
 pub next_fair : (role : Role) (mine other : Log) (p : Packet) → IsFairLog role mine → IsFairLog (other_role role) other
     → HasGotAll other mine → IsNextPacket mine other p → IsFairLog role (GotPacket p ∷ mine)
 next_fair role mine other p fair fair_other got next =
-    let f = flow_got role p in
-    let back = got_on (other_role role) f other mine got.packets.0 got.packets.1 in
-    let here : puts (history_of role f mine) ≡ on_flow (flow_got (other_role role)) f got.packets.0 ++ gots (history_of (other_role role) f other) =
-    subst (λ r. puts (history_of r f mine) ≡ on_flow (flow_got (other_role role)) f got.packets.0 ++ gots (history_of (other_role role) f other)) (other_twice role) back in
-    let allows = next_allowed (side_of role f) (history_of role f mine) (history_of (other_role role) f other) p (fair f)
-    (subst (λ s. IsFair s (history_of (other_role role) f other)) (opposite_by role (is_assigned f.host)) (fair_other f))
-    (next_on role mine other p next) (on_flow (flow_got (other_role role)) f got.packets.0, here) in
-    (one_got role mine p).1 (fair, allows)
+    let f = flow_got role p in (one_got role mine p).1 (fair, next_allows role mine other p (fair f) (fair_other f) got next)

@@ -28,7 +28,8 @@ still_by role first f old new h o = record {
   got = λ k. ap (λ (h : History). payload_of (instance_from (peer (side_of role f)) k (gots h))) h;
 }
 
-pub still : (role : Role) (first : ℕ) (f : Flow) (entry : LogEntry) (log : Log) → is_about role f entry ≡ false → IsStill role first f log (entry ∷ log)
+pub still : (role : Role) (first : ℕ) (f : Flow) (entry : LogEntry) (log : Log) → is_about role f entry ≡ false
+    → IsStill role first f log (entry ∷ log)
 still role first f (PutPacket p) log other = still_by _ _ _ _ _ (rw other refl) (rw other refl)
 still role first f (GotPacket p) log other = still_by _ _ _ _ _ (rw other refl) (rw other refl)
 still role first f (PutEvent id) log other = still_by _ _ _ _ _ refl refl

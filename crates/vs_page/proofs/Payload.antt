@@ -1,6 +1,7 @@
 -- The payload of connections: what was put is a prefix of what is put, an instance of a fair log is all its payload, and nothing is put
 -- after a shutdown.
-use Rattle.std.proofs.Common.{◌≡◌, ℕ, ◌+◌, ◌==◌, Bool, true, false, if◌then◌else◌, List, [], ◌∷◌, ◌++◌, length, refl, sym, ap, ◌∙◌, subst, arith, append_assoc, length-append}
+use Rattle.std.proofs.Common.{◌≡◌, ℕ, ◌+◌, ◌==◌, Bool, true, false, if◌then◌else◌, List, [], ◌∷◌, ◌++◌, length, refl, sym, ap, ◌∙◌, subst}
+use Rattle.std.proofs.Common.{arith, append_assoc, length-append}
 use Rattle.std.proofs.lemmas.Grind.{common_steps}
 use Rattle.std.proofs.lemmas.List.{append-nil}
 use Rattle.vs_history.specs.declared.packet.Packet.{Packet}
@@ -28,11 +29,13 @@ gots-append (Put p ∷ more) h = gots-append more h
 gots-append (Got p ∷ more) h = ap (λ (ps : List Packet). p ∷ ps) (gots-append more h)
 
 -- An instance of more packets is more of the instance.
-more_of : (p : Packet) (b : Bool) (xs ys : List Packet) → (front : List Packet) × (xs ≡ front ++ ys) → (front : List Packet) × ((if b then p ∷ xs else xs) ≡ front ++ ys)
+more_of : (p : Packet) (b : Bool) (xs ys : List Packet) → (front : List Packet) × (xs ≡ front ++ ys)
+    → (front : List Packet) × ((if b then p ∷ xs else xs) ≡ front ++ ys)
 more_of p true xs ys rest = (p ∷ rest.0, ap (λ (ps : List Packet). p ∷ ps) rest.1)
 more_of p false xs ys rest = rest
 
-pub instance-append : (side : Side) (k : ℕ) (more ps : List Packet) → (front : List Packet) × (instance_from side k (more ++ ps) ≡ front ++ instance_from side k ps)
+pub instance-append : (side : Side) (k : ℕ) (more ps : List Packet)
+    → (front : List Packet) × (instance_from side k (more ++ ps) ≡ front ++ instance_from side k ps)
 instance-append side k [] ps = ([], refl)
 instance-append Asker k (p ∷ more) ps =
     more_of p (count is_request (p ∷ (more ++ ps)) == k) _ (instance_from Asker k ps) (instance-append Asker k more ps)
@@ -59,7 +62,8 @@ peer_twice : (side : Side) → peer (peer side) ≡ side
 peer_twice Asker = refl
 peer_twice Answerer = refl
 
-may_as : (a b : Side) (put put_b got got_b : List Packet) (p : Packet) → a ≡ b → put ≡ put_b → got ≡ got_b → MayPut a put got p → MayPut b put_b got_b p
+may_as : (a b : Side) (put put_b got got_b : List Packet) (p : Packet) → a ≡ b → put ≡ put_b → got ≡ got_b → MayPut a put got p
+    → MayPut b put_b got_b p
 may_as a b put put_b got got_b p s x y may =
     subst (λ side. MayPut side put_b got_b p) s (subst (λ ps. MayPut a ps got_b p) x (subst (λ ps. MayPut a put ps p) y may))
 
@@ -78,7 +82,8 @@ fair-mirrored side (Got p ∷ h) fair = (
 begun_at : (side : Side) (entry : Entry) → Allows side [] entry → is_begun side (puts (entry ∷ [])) (gots (entry ∷ [])) ≡ true
 begun_at = grind (arith, common_steps)
 
-begun_on : (side : Side) (h : History) (entry : Entry) → is_begun side (puts h) (gots h) ≡ true → is_begun side (puts (entry ∷ h)) (gots (entry ∷ h)) ≡ true
+begun_on : (side : Side) (h : History) (entry : Entry) → is_begun side (puts h) (gots h) ≡ true
+    → is_begun side (puts (entry ∷ h)) (gots (entry ∷ h)) ≡ true
 begun_on = grind (arith, common_steps)
 
 begun : (side : Side) (h : History) (entry : Entry) → IsFair side (entry ∷ h) → is_begun side (puts (entry ∷ h)) (gots (entry ∷ h)) ≡ true
@@ -139,10 +144,12 @@ first_all_put Answerer h fair = answered_all h fair
 
 pub first_all_got : (side : Side) (h : History) → IsFair side h → payload_of (instance_from (peer side) 1 (gots h)) ≡ payload_of (gots h)
 first_all_got side h fair =
-    subst (λ (ps : List Packet). payload_of (instance_from (peer side) 1 ps) ≡ payload_of ps) (puts-mirrored h) (first_all_put (peer side) (mirrored h) (fair-mirrored side h fair))
+    subst (λ (ps : List Packet). payload_of (instance_from (peer side) 1 ps) ≡ payload_of ps) (puts-mirrored h)
+    (first_all_put (peer side) (mirrored h) (fair-mirrored side h fair))
 
 -- After a SHUTDOWN that says 'no more is sent' no payload is put.
-none_after_shutdown : (side : Side) (put got : List Packet) (p : Packet) → MayPut side put got p → has shuts_send put ≡ true → p.payload ≡ []
+none_after_shutdown : (side : Side) (put got : List Packet) (p : Packet) → MayPut side put got p → has shuts_send put ≡ true
+    → p.payload ≡ []
 none_after_shutdown = grind (arith, common_steps)
 
 has-append : (test : Packet → Bool) (more ps : List Packet) → has test ps ≡ true → has test (more ++ ps) ≡ true
@@ -150,7 +157,8 @@ has-append test [] ps is = is
 has-append test (p ∷ more) ps is = let rest = has-append test more ps is in grind (arith, common_steps)
 
 -- What a packet without payload adds to a connection.
-pub silent : (side : Side) (k : ℕ) (p : Packet) (ps : List Packet) → p.payload ≡ [] → payload_of (instance_from side k (p ∷ ps)) ≡ payload_of (instance_from side k ps)
+pub silent : (side : Side) (k : ℕ) (p : Packet) (ps : List Packet) → p.payload ≡ []
+    → payload_of (instance_from side k (p ∷ ps)) ≡ payload_of (instance_from side k ps)
 silent Asker k p ps none = adds_nothing (count is_request (p ∷ ps) == k) p (instance_from Asker k ps) none
 silent Answerer k p ps none = adds_nothing (count is_clean_rst ps + 1 == k) p (instance_from Answerer k ps) none
 
@@ -158,8 +166,10 @@ pub stays_put : (side : Side) (k : ℕ) (more h : History) → IsFair side (more
     → payload_of (instance_from side k (puts (more ++ h))) ≡ payload_of (instance_from side k (puts h))
 stays_put side k [] h fair shut = refl
 stays_put side k (Put p ∷ more) h fair shut =
-    let still_shut = subst (λ (ps : List Packet). has shuts_send ps ≡ true) (sym (puts-append more h)) (has-append shuts_send (puts more) (puts h) shut) in
-    silent side k p (puts (more ++ h)) (none_after_shutdown side (puts (more ++ h)) (gots (more ++ h)) p fair.0 still_shut) ∙ stays_put side k more h fair.1 shut
+    let still_shut = subst (λ (ps : List Packet). has shuts_send ps ≡ true) (sym (puts-append more h))
+    (has-append shuts_send (puts more) (puts h) shut) in
+    silent side k p (puts (more ++ h)) (none_after_shutdown side (puts (more ++ h)) (gots (more ++ h)) p fair.0 still_shut)
+    ∙ stays_put side k more h fair.1 shut
 stays_put side k (Got p ∷ more) h fair shut = stays_put side k more h fair.1 shut
 
 mirrored-append : (more h : History) → mirrored (more ++ h) ≡ mirrored more ++ mirrored h

@@ -6,9 +6,13 @@ use Rattle.vs_history.specs.Packets.{is_request, is_rst, flags_receive, flags_se
 use Rattle.vs_history.specs.History.{IsFair, Side, Asker, Answerer, peer, puts, gots}
 use Rattle.vs_page.specs.Log.{Log, Role, history_of, side_of}
 
--- A log is fair where the history of each flow is.
+-- What passed on a flow is fair.
+abbrev pub IsFairOn : Role → Flow → Log → Type 0
+IsFairOn role f log = IsFair (side_of role f) (history_of role f log)
+
+-- A log is fair where it is on each flow.
 abbrev pub IsFairLog : Role → Log → Type 0
-IsFairLog role log = (f : Flow) → IsFair (side_of role f) (history_of role f log)
+IsFairLog role log = (f : Flow) → IsFairOn role f log
 
 -- How many packets are of this kind.
 abbrev pub count : (Packet → Bool) → List Packet → ℕ

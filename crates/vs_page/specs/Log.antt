@@ -35,7 +35,8 @@ flow_put Device p = flow_to_guest p.header
 abbrev pub flow_got : Role → Packet → Flow
 flow_got role p = flow_put (other_role role) p
 
--- What passed on one flow. It goes on over marks: packets that were under way at a reset pass after it, and so do the RSTs that it makes owed.
+-- What passed on one flow. It goes on over marks: packets that were under way at a reset pass after it, and so do the RSTs that it
+-- makes owed.
 abbrev pub history_of : Role → Flow → Log → History
 history_of role f [] = []
 history_of role f (PutPacket p ∷ log) = if same_flow f (flow_put role p) then Put p ∷ history_of role f log else history_of role f log

@@ -31,4 +31,5 @@ returns-clause-space c = λ role log p fair other.
     let honest = ((one_put role log p).0 fair).1.honest other in (honest.alloc_first, honest.alloc_rises, honest.alloc_most)
 
 pub returns-clause-shut : goal.returns-clause-shut
-returns-clause-shut c = λ role log p fair rw_op. let may = ((one_put role log p).0 fair).1 in (may.honest (rw_goes_on p rw_op)).not_shut rw_op
+returns-clause-shut c = λ role log p fair rw_op.
+    let may = ((one_put role log p).0 fair).1 in (may.honest (rw_goes_on p rw_op)).not_shut rw_op
