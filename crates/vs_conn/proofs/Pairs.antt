@@ -1,17 +1,19 @@
 -- Each event keeps a pair sound.
-use Rattle.std.proofs.Common.{rules, ◌≡◌, ℕ, ◌≤◌, true, List, [], ◌∷◌, refl, sym, ap, subst, arith}
-use Rattle.vs_history.specs.declared.TheConstants.{BUF_ALLOC_MAX}
+use Rattle.std.proofs.Common.{ℕ, ◌≤◌, List, [], ◌∷◌, refl, sym, ap, subst, arith}
 use Rattle.vs_history.specs.declared.packet.Packet.{Packet}
 use Rattle.vs_history.specs.History.{History, Put, Got, Side, Asker, Answerer, peer, puts, gots, MayPut, IsFair, HasGot, IsNext}
-use Rattle.vs_history.specs.Packets.{IsFormed, allowance, bytes, is_request}
+use Rattle.vs_history.specs.Packets.{allowance, bytes}
 use Rattle.vs_history.proofs.Fair.{AllRise, fair_rises, sound}
 use Rattle.vs_history.proofs.Ties.{later, next_allowed}
-use Rattle.vs_conn.specs.End.{ConnectionEnd, aborted, answering, asked, grown, paid_of, wanting_credit}
-use Rattle.vs_conn.specs.Follows.{Follows, IsSpace, IsTaken, owed_packet}
-use Rattle.vs_conn.specs.Pair.{Aborts, Asks, Event, Forwards, Gets, Grows, Happening, IsSound, MayHappen, MayRun, Pair, Pays, Sends, Shuts, happens, opening, run, with_side}
+use Rattle.vs_conn.specs.End.{ConnectionEnd, asked}
+use Rattle.vs_conn.specs.Follows.{Follows, IsSpace, owed_packet}
+use Rattle.vs_conn.specs.Pair.{Aborts, Asks, Event, Forwards, Gets, Grows, Happening, IsSound, MayHappen, MayRun, Pair}
+use Rattle.vs_conn.specs.Pair.{Pays, Sends, Shuts, happens, opening, run, with_side}
 use Rattle.vs_conn.specs.declared.end.Owed.TheVariants as owed
 use Rattle.vs_conn.specs.declared.route.Route.{Route}
-use Rattle.vs_conn.proofs.Steps.{forward_follows, get_follows, pay_follows, pay_may, send_follows, send_may, shut_follows}
+use Rattle.vs_conn.proofs.Getting.{get_follows}
+use Rattle.vs_conn.proofs.Steps.{abort_follows, answer_follows, ask_follows, asked_follows, forward_follows, grow_follows, opening_may, taken_of}
+use Rattle.vs_conn.proofs.Steps.{pay_follows, pay_may, send_follows, send_may, shut_follows}
 
 by_side : (P : Side → Type 0) → P Asker → P Answerer → (side : Side) → P side
 by_side P a b Asker = a
@@ -67,19 +69,6 @@ pair_fits side w s =
     let fits = (sound side (w.history side) (s.fair side)).out.fits in
     omega arith
 
-taken_of : (p : Packet) → IsFormed p → IsTaken p
-taken_of p formed = record { len = λ rw. formed.len; payload = formed.payload; fwd_cnt = formed.fwd_cnt }
-
-abort_follows : (side : Side) (put got : List Packet) (e : ConnectionEnd) → Follows side put got e → Follows side put got (aborted e)
-abort_follows = search rules
-
-ask_follows : (side : Side) (put got : List Packet) (e : ConnectionEnd) → Follows side put got e → Follows side put got (wanting_credit e)
-ask_follows = search rules
-
-grow_follows : (side : Side) (put got : List Packet) (e : ConnectionEnd) (alloc : ℕ)
-    → Follows side put got e → e.credit.alloc ≤ alloc → alloc ≤ BUF_ALLOC_MAX → Follows side put got (grown e alloc)
-grow_follows = search rules
-
 event_keeps : (side : Side) (x : Event) (w : Pair) → IsSound w → MayHappen side x w → IsSound (happens side x w)
 event_keeps side (Sends route payload) w s may =
     let h = w.history side in
@@ -92,30 +81,23 @@ event_keeps side (Pays route what) w s may =
 event_keeps side (Gets p) w s may =
     let h = w.history side in
     let fair = got_fair side p w s may in
-    sound_with side _ (Got p ∷ h) w fair (get_follows side (puts h) (gots h) (w.end side) p (taken_of p fair.0.formed) (s.follows side)) may (tie_back side w s) s
+    sound_with side _ (Got p ∷ h) w fair
+    (get_follows side (puts h) (gots h) (w.end side) p (taken_of p fair.0.formed) (s.follows side))
+    may (tie_back side w s) s
 event_keeps side (Forwards n) w s may =
     let h = w.history side in sound_still side _ w (forward_follows side (puts h) (gots h) (w.end side) n (s.follows side) may) s
 event_keeps side (Shuts bits) w s may =
     let h = w.history side in sound_still side _ w (shut_follows side (puts h) (gots h) (w.end side) bits (s.follows side)) s
-event_keeps side Aborts w s may = let h = w.history side in sound_still side _ w (abort_follows side (puts h) (gots h) (w.end side) (s.follows side)) s
-event_keeps side Asks w s may = let h = w.history side in sound_still side _ w (ask_follows side (puts h) (gots h) (w.end side) (s.follows side)) s
+event_keeps side Aborts w s may =
+    let h = w.history side in sound_still side _ w (abort_follows side (puts h) (gots h) (w.end side) (s.follows side)) s
+event_keeps side Asks w s may =
+    let h = w.history side in sound_still side _ w (ask_follows side (puts h) (gots h) (w.end side) (s.follows side)) s
 event_keeps side (Grows alloc) w s may =
     let h = w.history side in sound_still side _ w (grow_follows side (puts h) (gots h) (w.end side) alloc (s.follows side) may.0 may.1) s
 
 pub run_keeps : (xs : List Happening) (w : Pair) → IsSound w → MayRun xs w → IsSound (run xs w)
 run_keeps [] w s may = s
 run_keeps (x ∷ xs) w s may = run_keeps xs (happens x.side x.event w) (event_keeps x.side x.event w s may.0) may.1
-
-opening_may : (alloc : ℕ) (route : Route) → IsSpace alloc → MayPut Asker [] [] (owed_packet (asked alloc) route owed.Request)
-opening_may = search rules
-
-asked_follows : (alloc : ℕ) (route : Route) → IsSpace alloc
-    → Follows Asker (owed_packet (asked alloc) route owed.Request ∷ []) [] (paid_of (asked alloc) owed.Request)
-asked_follows = search rules
-
-answer_follows : (alloc : ℕ) (p : Packet) → IsSpace alloc → IsTaken p → is_request p ≡ true
-    → Follows Answerer [] (p ∷ []) (answering alloc p.header)
-answer_follows = search rules
 
 pub opening_sound : (ours theirs : ℕ) (route : Route) → IsSpace ours → IsSpace theirs
     → IsSound (opening ours theirs route)

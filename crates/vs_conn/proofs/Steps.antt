@@ -1,28 +1,39 @@
 -- What an end does keeps its history fair, and the end following it.
-use Rattle.std.proofs.Common.{rules, ◌≡◌, ◌≢◌, ℕ, ◌+◌, ◌<◌, ◌≤◌, ◌%◌, ◌^◌, Bool, true, false, List, ◌∷◌, length, Some, zero, suc, refl, sym, subst, arith}
+use Rattle.std.proofs.Common.{rules, ◌≡◌, ◌≢◌, ℕ, ◌+◌, ◌<◌, ◌≤◌, ◌%◌, ◌^◌, Bool, true, false, List, [], ◌∷◌, length, Some}
+use Rattle.std.proofs.Common.{refl, arith}
 use Rattle.std.proofs.lemmas.Grind.{common_steps}
 use Rattle.vs_wrap.specs.Wrap.{difference32, sum32, unwrap32}
-use Rattle.vs_conn.specs.End.{CanSend, ConnectionEnd, after_message, after_op, end_after, is_drained, is_refused, is_stream, payload_verdict, owes_of, paid_of, settled, shut_credit, verdict_of, with_heard_packet, with_payload_forwarded, with_payload_sent, with_shut}
-use Rattle.vs_conn.specs.Follows.{Follows, IsLeftBy, IsTaken, owed_packet, payload_packet}
+use Rattle.vs_conn.specs.End.{CanSend, ConnectionEnd, aborted, answering, asked, grown, wanting_credit}
+use Rattle.vs_conn.specs.End.{is_drained}
+use Rattle.vs_conn.specs.End.{owes_of, paid_of, settled, shut_credit}
+use Rattle.vs_conn.specs.End.{with_payload_forwarded, with_payload_sent, with_shut}
+use Rattle.vs_conn.specs.Follows.{Follows, IsLeftBy, IsSpace, IsTaken, forwarded_of, owed_packet, payload_packet}
 use Rattle.vs_conn.specs.Shut.{joined, shut_of}
-use Rattle.vs_conn.specs.Table.{in_state}
 use Rattle.vs_conn.specs.declared.end.Owed.{Owed}
 use Rattle.vs_conn.specs.declared.end.Owed.TheVariants as owed
-use Rattle.vs_conn.specs.declared.end.State.TheVariants.{Asked, Answering, Ended, Live}
-use Rattle.vs_conn.specs.declared.end.State.{State}
-use Rattle.vs_conn.specs.declared.end.Verdict.{Verdict}
-use Rattle.vs_conn.specs.declared.end.Verdict.TheVariants as verdict
+use Rattle.vs_conn.specs.declared.end.State.TheVariants.{Answering, Ended, Live}
 use Rattle.vs_conn.specs.declared.route.Route.{Route}
 use Rattle.vs_conn.specs.declared.shut.Shut.{Shut}
-use Rattle.vs_credit.specs.Credit.{unread_of, with_forwarded}
-use Rattle.vs_header.specs.Op.{op_number}
-use Rattle.vs_header.specs.declared.Op.{Op}
-use Rattle.vs_header.specs.declared.Op.TheVariants as op
-use Rattle.vs_history.specs.History.{Got, History, IsFair, MayPut, Side, gots, is_begun, puts}
-use Rattle.vs_history.specs.Packets.{bytes, flags_receive, flags_send, told_forwarded}
+use Rattle.vs_credit.specs.Credit.{free_of, room_of, unread_of, with_forwarded}
+use Rattle.vs_history.specs.declared.TheConstants.{BUF_ALLOC_MAX}
+use Rattle.vs_history.specs.History.{Answerer, Asker, MayPut, Side, is_begun}
+use Rattle.vs_history.specs.Packets.{IsFormed, allowance, bytes, is_request, flags_receive, flags_send, told_forwarded}
 use Rattle.vs_history.specs.declared.packet.Packet.{Packet}
 use Rattle.vs_history.proofs.Fair.{BothSound}
 
+-- Making an end.
+pub opening_may : (alloc : ℕ) (route : Route) → IsSpace alloc → MayPut Asker [] [] (owed_packet (asked alloc) route owed.Request)
+opening_may = search rules
+
+pub asked_follows : (alloc : ℕ) (route : Route) → IsSpace alloc
+    → Follows Asker (owed_packet (asked alloc) route owed.Request ∷ []) [] (paid_of (asked alloc) owed.Request)
+asked_follows = search rules
+
+pub answer_follows : (alloc : ℕ) (p : Packet) → IsSpace alloc → IsTaken p → is_request p ≡ true
+    → Follows Answerer [] (p ∷ []) (answering alloc p.header)
+answer_follows = search rules
+
+-- Putting.
 pub send_may : (side : Side) (put got : List Packet) (e : ConnectionEnd) (route : Route) (payload : List ℕ)
     → BothSound put got → Follows side put got e → CanSend e (length payload) → MayPut side put got (payload_packet e route payload)
 send_may = grind (arith, common_steps)
@@ -46,15 +57,18 @@ not_request : (side : Side) (put got : List Packet) (e : ConnectionEnd) → Foll
 not_request = grind (arith, common_steps)
 
 update_may : (side : Side) (put got : List Packet) (e : ConnectionEnd) (route : Route)
-    → BothSound put got → Follows side put got e → owes_of e ≡ Some owed.CreditUpdate → MayPut side put got (owed_packet e route owed.CreditUpdate)
+    → BothSound put got → Follows side put got e → owes_of e ≡ Some owed.CreditUpdate
+    → MayPut side put got (owed_packet e route owed.CreditUpdate)
 update_may = grind (arith, common_steps)
 
 credit_request_may : (side : Side) (put got : List Packet) (e : ConnectionEnd) (route : Route)
-    → BothSound put got → Follows side put got e → owes_of e ≡ Some owed.CreditRequest → MayPut side put got (owed_packet e route owed.CreditRequest)
+    → BothSound put got → Follows side put got e → owes_of e ≡ Some owed.CreditRequest
+    → MayPut side put got (owed_packet e route owed.CreditRequest)
 credit_request_may = grind (arith, common_steps)
 
 shutdown_may : (side : Side) (put got : List Packet) (e : ConnectionEnd) (route : Route) (bits : ℕ)
-    → BothSound put got → Follows side put got e → owes_of e ≡ Some (owed.Shutdown bits) → MayPut side put got (owed_packet e route (owed.Shutdown bits))
+    → BothSound put got → Follows side put got e → owes_of e ≡ Some (owed.Shutdown bits)
+    → MayPut side put got (owed_packet e route (owed.Shutdown bits))
 shutdown_may = grind (arith, common_steps)
 
 pub pay_may : (side : Side) (put got : List Packet) (e : ConnectionEnd) (route : Route) (what : Owed)
@@ -76,7 +90,8 @@ owes_shutdown : (e : ConnectionEnd) (bits : ℕ) → owes_of e ≡ Some (owed.Sh
 owes_shutdown = grind (arith, common_steps)
 
 shutdown_follows : (side : Side) (put got : List Packet) (e : ConnectionEnd) (route : Route) (bits : ℕ)
-    → Follows side put got e → OwesShutdown e bits → Follows side (owed_packet e route (owed.Shutdown bits) ∷ put) got (paid_of e (owed.Shutdown bits))
+    → Follows side put got e → OwesShutdown e bits
+    → Follows side (owed_packet e route (owed.Shutdown bits) ∷ put) got (paid_of e (owed.Shutdown bits))
 shutdown_follows = grind (arith, common_steps)
 
 pub pay_follows : (side : Side) (put got : List Packet) (e : ConnectionEnd) (route : Route) (what : Owed)
@@ -116,7 +131,8 @@ forward_left side put got e n fwd left fits undrained =
     search rules
 
 pub send_follows : (side : Side) (put got : List Packet) (e : ConnectionEnd) (route : Route) (payload : List ℕ)
-    → Follows side put got e → CanSend e (length payload) → Follows side (payload_packet e route payload ∷ put) got (with_payload_sent e (length payload))
+    → Follows side put got e → CanSend e (length payload)
+    → Follows side (payload_packet e route payload ∷ put) got (with_payload_sent e (length payload))
 send_follows = search rules
 
 pub forward_follows : (side : Side) (put got : List Packet) (e : ConnectionEnd) (n : ℕ)
@@ -145,136 +161,31 @@ shut_follows side put got e bits f =
     f.begun (grind (arith, common_steps, f.fwd_cnt, f.rx_cnt)) (grind (arith, common_steps, f.rx_cnt))
     (λ not undrained. shut_left side put got e s (f.left not) undrained)
 
--- The packet with this operation in place of its own.
-abbrev with_op : Packet → ℕ → Packet
-with_op p n = let h = p.header in record p { header = record h { op = n } }
+pub abort_follows : (side : Side) (put got : List Packet) (e : ConnectionEnd) → Follows side put got e → Follows side put got (aborted e)
+abort_follows = search rules
 
-rst_still : (e : ConnectionEnd) (p : Packet) → let q = with_op p (op_number op.Rst) in end_after e q.header ≡ e
-rst_still = grind (arith, common_steps)
+pub ask_follows : (side : Side) (put got : List Packet) (e : ConnectionEnd) → Follows side put got e → Follows side put got (wanting_credit e)
+ask_follows = search rules
 
-rst_follows : (side : Side) (put got : List Packet) (e : ConnectionEnd) (p : Packet) → let q = with_op p (op_number op.Rst) in
-    IsTaken q → Follows side put got e → Follows side put (q ∷ got) e
-rst_follows = search rules
+pub grow_follows : (side : Side) (put got : List Packet) (e : ConnectionEnd) (alloc : ℕ)
+    → Follows side put got e → e.credit.alloc ≤ alloc → alloc ≤ BUF_ALLOC_MAX → Follows side put got (grown e alloc)
+grow_follows = search rules
 
-shutdown_left : (side : Side) (put got : List Packet) (e : ConnectionEnd) (p : Packet) → let q = with_op p (op_number op.Shutdown) in
-    let after = record (with_heard_packet e q.header) { peer = joined e.peer (shut_of q.header.flags) } in
-    IsTaken q → IsLeftBy side put got e → e.state ≡ Live → is_drained after.peer after.credit ≡ false → IsLeftBy side put (q ∷ got) after
-shutdown_left = search rules
+-- A packet that the peer may put.
+pub taken_of : (p : Packet) → IsFormed p → IsTaken p
+taken_of p formed = record { len = λ rw. formed.len; payload = formed.payload; fwd_cnt = formed.fwd_cnt }
 
-get_shutdown : (side : Side) (put got : List Packet) (e : ConnectionEnd) (p : Packet) (b : Bool) → is_stream p.header ≡ b
-    → let q = with_op p (op_number op.Shutdown) in
-    IsTaken q → Follows side put got (in_state e Live) → Follows side put (q ∷ got) (end_after (in_state e Live) q.header)
-get_shutdown side put got e p true is taken f =
-    rw is (let q = with_op p (op_number op.Shutdown) in
-    let live = in_state e Live in
-    settles side put (q ∷ got) (record (with_heard_packet live q.header) { peer = joined e.peer (shut_of q.header.flags) })
-    (grind (arith, common_steps, f.begun)) f.fwd_cnt f.rx_cnt
-    (λ not undrained. shutdown_left side put got live p taken (f.left not) refl undrained))
-get_shutdown side put got e p false is taken f = rw is (search rules)
+-- What counters stand for.
+pub unread_plain : (side : Side) (put got : List Packet) (e : ConnectionEnd)
+    → BothSound put got → e.credit.fwd_cnt < 2 ^ 32 → IsLeftBy side put got e
+    → forwarded_of put e + unread_of e.credit ≡ bytes got
+unread_plain = grind (arith, common_steps)
 
-deliver_left : (side : Side) (put got : List Packet) (e : ConnectionEnd) (p : Packet) → let q = with_op p (op_number op.Rw) in
-    IsTaken q → IsLeftBy side put got e → e.state ≡ Live → e.peer.send ≡ false
-    → IsLeftBy side put (q ∷ got) (after_op (Some op.Rw) e q.header verdict.Deliver)
-deliver_left = search rules
+pub free_plain : (side : Side) (put got : List Packet) (e : ConnectionEnd) → BothSound put got → IsLeftBy side put got e
+    → bytes put + free_of e.credit ≡ allowance got
+free_plain = grind (arith, common_steps)
 
-forward_more : (told taken fwd n : ℕ) → unwrap32 told fwd ≤ taken → unwrap32 told (sum32 fwd n) ≤ n + taken
-forward_more = grind arith
-
-discard_left : (side : Side) (put got : List Packet) (e : ConnectionEnd) (p : Packet) → let q = with_op p (op_number op.Rw) in
-    IsTaken q → IsLeftBy side put got e → e.state ≡ Live → e.peer.send ≡ false
-    → IsLeftBy side put (q ∷ got) (after_op (Some op.Rw) e q.header verdict.Discard)
-discard_left side put got e p taken left is send =
-    let more = forward_more (told_forwarded put) (bytes got) e.credit.fwd_cnt p.header.len left.forwarded_got in
-    search rules
-
-sends_on : (e : ConnectionEnd) (len : ℕ) → is_refused (payload_verdict e len) ≡ false → e.peer.send ≡ false
-sends_on = grind (arith, common_steps)
-
-get_payload : (side : Side) (put got : List Packet) (e : ConnectionEnd) (p : Packet) (v : Verdict) → payload_verdict e p.header.len ≡ v
-    → let q = with_op p (op_number op.Rw) in let live = in_state e Live in
-    IsTaken q → Follows side put got live → Follows side put (q ∷ got) (after_op (Some op.Rw) live q.header v)
-get_payload side put got e p verdict.Deliver is taken f =
-    let send = sends_on e p.header.len (rw is refl) in
-    let left = f.left (λ ended. absurd cc) in
-    let after = deliver_left side put got (in_state e Live) p taken left refl send in
-    search rules
-get_payload side put got e p verdict.Discard is taken f =
-    let send = sends_on e p.header.len (rw is refl) in
-    let left = f.left (λ ended. absurd cc) in
-    let after = discard_left side put got (in_state e Live) p taken left refl send in
-    search rules
-get_payload side put got e p (verdict.Rst why) is taken f = search rules
-get_payload side put got e p verdict.Accept is taken f = absurd (grind (arith, common_steps))
-get_payload side put got e p verdict.Peer is taken f = absurd (grind (arith, common_steps))
-get_payload side put got e p verdict.Ignore is taken f = absurd (grind (arith, common_steps))
-
-get_rw : (side : Side) (put got : List Packet) (e : ConnectionEnd) (p : Packet) (b : Bool) → is_stream p.header ≡ b
-    → let q = with_op p (op_number op.Rw) in
-    IsTaken q → Follows side put got (in_state e Live) → Follows side put (q ∷ got) (end_after (in_state e Live) q.header)
-get_rw side put got e p true is taken f = rw is (get_payload side put got e p (payload_verdict e p.header.len) refl taken f)
-get_rw side put got e p false is taken f = rw is (search rules)
-
-update_left : (side : Side) (put got : List Packet) (e : ConnectionEnd) (p : Packet) → let q = with_op p (op_number op.CreditUpdate) in
-    IsTaken q → IsLeftBy side put got e → e.state ≡ Live → IsLeftBy side put (q ∷ got) (after_message (Some op.CreditUpdate) e q.header)
-update_left = search rules
-
-get_update : (side : Side) (put got : List Packet) (e : ConnectionEnd) (p : Packet) (b : Bool) → is_stream p.header ≡ b
-    → let q = with_op p (op_number op.CreditUpdate) in
-    IsTaken q → Follows side put got (in_state e Live) → Follows side put (q ∷ got) (end_after (in_state e Live) q.header)
-get_update side put got e p true is taken f =
-    let after = update_left side put got (in_state e Live) p taken (f.left (λ ended. absurd cc)) refl in
-    rw is (search rules)
-get_update side put got e p false is taken f = rw is (search rules)
-
-request_left : (side : Side) (put got : List Packet) (e : ConnectionEnd) (p : Packet) → let q = with_op p (op_number op.CreditRequest) in
-    IsTaken q → IsLeftBy side put got e → e.state ≡ Live → IsLeftBy side put (q ∷ got) (after_message (Some op.CreditRequest) e q.header)
-request_left = search rules
-
-get_request : (side : Side) (put got : List Packet) (e : ConnectionEnd) (p : Packet) (b : Bool) → is_stream p.header ≡ b
-    → let q = with_op p (op_number op.CreditRequest) in
-    IsTaken q → Follows side put got (in_state e Live) → Follows side put (q ∷ got) (end_after (in_state e Live) q.header)
-get_request side put got e p true is taken f =
-    let after = request_left side put got (in_state e Live) p taken (f.left (λ ended. absurd cc)) refl in
-    rw is (search rules)
-get_request side put got e p false is taken f = rw is (search rules)
-
-get_op : (side : Side) (put got : List Packet) (e : ConnectionEnd) (s : State) (p : Packet) (o : Op) → let q = with_op p (op_number o) in
-    IsTaken q → Follows side put got (in_state e s) → Follows side put (q ∷ got) (end_after (in_state e s) q.header)
-get_op side put got e Asked p op.Response taken f = search rules
-get_op side put got e Live p op.Shutdown taken f = get_shutdown side put got e p (is_stream p.header) refl taken f
-get_op side put got e Live p op.Rw taken f = get_rw side put got e p (is_stream p.header) refl taken f
-get_op side put got e Live p op.CreditUpdate taken f = get_update side put got e p (is_stream p.header) refl taken f
-get_op side put got e Live p op.CreditRequest taken f = get_request side put got e p (is_stream p.header) refl taken f
-get_op side put got e s p op.Invalid taken f = search rules
-get_op side put got e s p op.Request taken f = search rules
-get_op side put got e s p op.Response taken f = search rules
-get_op side put got e s p op.Rst taken f =
-    subst (Follows side put (with_op p (op_number op.Rst) ∷ got)) (sym (rst_still (in_state e s) p)) (rst_follows side put got (in_state e s) p taken f)
-get_op side put got e s p op.Shutdown taken f = search rules
-get_op side put got e s p op.Rw taken f = search rules
-get_op side put got e s p op.CreditUpdate taken f = search rules
-get_op side put got e s p op.CreditRequest taken f = search rules
-
-get_unknown : (side : Side) (put got : List Packet) (e : ConnectionEnd) (p : Packet) (n : ℕ) → let q = with_op p (suc (suc (suc (suc (suc (suc (suc (suc n)))))))) in
-    IsTaken q → Follows side put got e → Follows side put (q ∷ got) (end_after e q.header)
-get_unknown side put got e p n taken f = search rules
-
-get_number : (side : Side) (put got : List Packet) (e : ConnectionEnd) (p : Packet) (n : ℕ) → let q = with_op p n in
-    IsTaken q → Follows side put got e → Follows side put (q ∷ got) (end_after e q.header)
-get_number side put got e p zero taken f = get_op side put got e e.state p op.Invalid taken f
-get_number side put got e p (suc zero) taken f = get_op side put got e e.state p op.Request taken f
-get_number side put got e p (suc (suc zero)) taken f = get_op side put got e e.state p op.Response taken f
-get_number side put got e p (suc (suc (suc zero))) taken f = get_op side put got e e.state p op.Rst taken f
-get_number side put got e p (suc (suc (suc (suc zero)))) taken f = get_op side put got e e.state p op.Shutdown taken f
-get_number side put got e p (suc (suc (suc (suc (suc zero))))) taken f = get_op side put got e e.state p op.Rw taken f
-get_number side put got e p (suc (suc (suc (suc (suc (suc zero)))))) taken f = get_op side put got e e.state p op.CreditUpdate taken f
-get_number side put got e p (suc (suc (suc (suc (suc (suc (suc zero))))))) taken f = get_op side put got e e.state p op.CreditRequest taken f
-get_number side put got e p (suc (suc (suc (suc (suc (suc (suc (suc n)))))))) taken f = get_unknown side put got e p n taken f
-
-pub get_follows : (side : Side) (put got : List Packet) (e : ConnectionEnd) (p : Packet)
-    → IsTaken p → Follows side put got e → Follows side put (p ∷ got) (end_after e p.header)
-get_follows side put got e p taken f = get_number side put got e p p.header.op taken f
-
-pub get_taken : (side : Side) (h : History) (e : ConnectionEnd) (p : Packet)
-    → IsFair side (Got p ∷ h) → Follows side (puts h) (gots h) e → is_refused (verdict_of e p.header) ≡ false
-get_taken = search rules
+pub room_plain : (side : Side) (put got : List Packet) (e : ConnectionEnd)
+    → BothSound put got → e.credit.fwd_cnt < 2 ^ 32 → IsLeftBy side put got e
+    → bytes got + room_of e.credit ≡ forwarded_of put e + e.credit.alloc
+room_plain = grind (arith, common_steps)

@@ -1,6 +1,7 @@
 -- The connection machine: what one end of a connection is, and what each packet and each decision of its own does to it
 -- (Virtio 1.2, sections 5.10.6.3 to 5.10.6.6).
-use Rattle.std.specs.Prelude.{◌≡◌, ℕ, ◌≤◌, ◌==◌, ◌&&◌, ◌||◌, not, nat_lt, nat_le, Bool, true, false, if◌then◌else◌, Option, Some, None, Result, Ok, Err, IsOkAnd}
+use Rattle.std.specs.Prelude.{◌≡◌, ℕ, ◌≤◌, ◌==◌, ◌&&◌, ◌||◌, not, nat_lt, nat_le, Bool, true, false, if◌then◌else◌}
+use Rattle.std.specs.Prelude.{Option, Some, None, Result, Ok, Err, IsOkAnd}
 use Rattle.vs_wrap.specs.Wrap.{difference32}
 use Rattle.vs_header.specs.Kind.{kind_number}
 use Rattle.vs_header.specs.Op.{op_named, op_number}

@@ -45,7 +45,7 @@ pub record IsLeftBy (side : Side) (put got : List Packet) (e : ConnectionEnd) : 
   -- Its buffer space is at least what it last told, and within bounds.
   pub alloc_told : told_alloc put ≤ e.credit.alloc
   pub space : IsSpace e.credit.alloc
-  -- The directions told are those of the SHUTDOWNs put, and it decided them. Before it is Live it tells none. The peer's are those of the SHUTDOWNs got.
+  -- The directions told are those of the SHUTDOWNs put. It decided them, and was Live. The peer's are those of the SHUTDOWNs got.
   pub told_receive : e.told.receive ≡ has shuts_receive put
   pub told_send : e.told.send ≡ has shuts_send put
   pub decided : is_within e.told e.own ≡ true

@@ -21,4 +21,5 @@ stream_packet h o = record h { kind = kind_number Stream; op = op_number o }
 -- A row of the table: what the end says to the packet where it is Asked, Answering, Live and Ended.
 abbrev pub row : ConnectionEnd → Header → List Verdict
 row e h =
-    verdict_of (in_state e Asked) h ∷ verdict_of (in_state e Answering) h ∷ verdict_of (in_state e Live) h ∷ verdict_of (in_state e Ended) h ∷ []
+    let says = λ (s : State). verdict_of (in_state e s) h in
+    says Asked ∷ says Answering ∷ says Live ∷ says Ended ∷ []

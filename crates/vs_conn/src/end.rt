@@ -2,7 +2,11 @@
 //! 5.10.6.3 to 5.10.6.6).
 
 ghost use Rattle.std.specs.Prelude.{◌≡◌, ◌≤◌, Some, true};
-ghost use Rattle.vs_conn.specs.End.{CanSend, aborted, after_op, answering, asked, end_after, ended_verdict, grown, live_verdict, may_send_of, may_shut, open_verdict, owes_of, live_owes, owes_update, paid_of, payload_verdict, response_verdict, settled_state, shut_credit, telling, verdict_of, view_of, wanting_credit, with_heard_packet, with_payload_forwarded, with_payload_sent, with_shut};
+ghost use Rattle.vs_conn.specs.End.{CanSend, aborted, after_op, answering, asked, end_after, ended_verdict, grown};
+ghost use Rattle.vs_conn.specs.End.{live_verdict, may_send_of, may_shut, open_verdict, owes_of, live_owes, owes_update};
+ghost use Rattle.vs_conn.specs.End.{paid_of, payload_verdict, response_verdict, settled_state, shut_credit, telling};
+ghost use Rattle.vs_conn.specs.End.{verdict_of, view_of, wanting_credit, with_heard_packet, with_payload_forwarded};
+ghost use Rattle.vs_conn.specs.End.{with_payload_sent, with_shut};
 ghost use Rattle.vs_conn.specs.Headers.{header_from, owed_flags, owed_header, owed_op, payload_header};
 ghost use Rattle.vs_conn.specs.Shut.{shut_of};
 ghost use Rattle.vs_conn.specs.declared.end.State.TheVariants.{Ended, Live};

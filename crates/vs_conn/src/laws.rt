@@ -1,7 +1,9 @@
 //! Laws of an end and what passed at it.
 
 ghost use Rattle.std.specs.Prelude.{◌≡◌, ◌≢◌, ℕ, ◌+◌, ◌≤◌, false, true, List, [], ◌∷◌, length, Some};
-ghost use Rattle.vs_conn.specs.End.{CanSend, ConnectionEnd, aborted, answering, asked, end_after, grown, is_refused, owes_of, paid_of, verdict_of, wanting_credit, with_payload_forwarded, with_payload_sent, with_shut};
+ghost use Rattle.vs_conn.specs.End.{CanSend, ConnectionEnd, aborted, answering, asked, end_after, grown, is_refused};
+ghost use Rattle.vs_conn.specs.End.{owes_of, paid_of, verdict_of, wanting_credit, with_payload_forwarded};
+ghost use Rattle.vs_conn.specs.End.{with_payload_sent, with_shut};
 ghost use Rattle.vs_conn.specs.Follows.{Follows, IsSpace, IsTaken, forwarded_of, owed_packet, payload_packet};
 ghost use Rattle.vs_conn.specs.Pair.{Happening, IsSound, MayRun, opening, run};
 ghost use Rattle.vs_conn.specs.declared.end.Owed.{Owed};
@@ -61,8 +63,10 @@ pub fn law_of_deciding()
         → Follows side put got e → n ≤ unread_of e.credit → Follows side put got (with_payload_forwarded e n) }
     ensures shuts { (side : Side) (put got : List Packet) (e : ConnectionEnd) (bits : ℕ)
         → Follows side put got e → Follows side put got (with_shut e bits) }
-    ensures aborts { (side : Side) (put got : List Packet) (e : ConnectionEnd) → Follows side put got e → Follows side put got (aborted e) }
-    ensures asks { (side : Side) (put got : List Packet) (e : ConnectionEnd) → Follows side put got e → Follows side put got (wanting_credit e) }
+    ensures aborts { (side : Side) (put got : List Packet) (e : ConnectionEnd)
+        → Follows side put got e → Follows side put got (aborted e) }
+    ensures asks { (side : Side) (put got : List Packet) (e : ConnectionEnd)
+        → Follows side put got e → Follows side put got (wanting_credit e) }
     ensures grows { (side : Side) (put got : List Packet) (e : ConnectionEnd) (alloc : ℕ)
         → Follows side put got e → e.credit.alloc ≤ alloc → alloc ≤ BUF_ALLOC_MAX → Follows side put got (grown e alloc) }
 {}
@@ -85,7 +89,8 @@ pub fn law_of_counters()
 pub fn law_of_the_pair()
     ensures sound { (ours theirs : ℕ) (route : Route) (xs : List Happening) → IsSpace ours → IsSpace theirs
         → MayRun xs (opening ours theirs route) → IsSound (run xs (opening ours theirs route)) }
-    ensures never_refused { (ours theirs : ℕ) (route : Route) (xs : List Happening) (side : Side) (p : Packet) → IsSpace ours → IsSpace theirs
+    ensures never_refused { (ours theirs : ℕ) (route : Route) (xs : List Happening) (side : Side) (p : Packet)
+        → IsSpace ours → IsSpace theirs
         → MayRun xs (opening ours theirs route) → let w = run xs (opening ours theirs route) in
         IsNext (w.history side) (w.history (peer side)) p → is_refused (verdict_of (w.end side) p.header) ≡ false }
     ensures fits { (ours theirs : ℕ) (route : Route) (xs : List Happening) (side : Side) → IsSpace ours → IsSpace theirs

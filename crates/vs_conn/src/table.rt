@@ -1,7 +1,9 @@
 //! The state table of an end, and what each verdict does (Virtio 1.2, sections 5.10.6.4 to 5.10.6.6).
 
 ghost use Rattle.std.specs.Prelude.{◌≡◌, ◌≢◌, ℕ, ◌+◌, ◌<◌, ◌≤◌, ◌^◌, false, true, List, [], ◌∷◌, None, Some};
-ghost use Rattle.vs_conn.specs.End.{ConnectionEnd, aborted, end_after, is_refused, is_reset, is_stream, owes_of, payload_verdict, owes_update, paid_of, settled_state, verdict_of, with_payload_sent};
+ghost use Rattle.vs_conn.specs.End.{ConnectionEnd, aborted, end_after, is_refused, is_reset, is_stream, owes_of};
+ghost use Rattle.vs_conn.specs.End.{payload_verdict, owes_update, paid_of, settled_state, verdict_of};
+ghost use Rattle.vs_conn.specs.End.{with_payload_sent};
 ghost use Rattle.vs_conn.specs.Shut.{bits_of, is_both, joined, shut_of};
 ghost use Rattle.vs_conn.specs.Table.{in_state, row, stream_packet};
 ghost use Rattle.vs_conn.specs.declared.end.Owed.{Owed};
