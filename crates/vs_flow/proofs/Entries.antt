@@ -101,8 +101,8 @@ module _ {T : Type 0} where
       rw there (same_flow_false _ _ (λ same. distinct k i e before within (sym same ∙ here)))) in
       record {
         absent = lookup-slots_by_flow (same_flow e.flow) (take i es) ∙ ap (option_map (λ (d : Entry T). d.slot)) none;
-        more = map_more (λ (d : Entry T). (d.flow, d.slot)) es i e within
-            ∙ sym (ap (λ (d : Entry T). slots_by_flow (take i es) ++ (d.flow, d.slot) ∷ []) read);
+        more = subst (λ (d : Entry T). slots_by_flow (take (i + 1) es) ≡ slots_by_flow (take i es) ++ (d.flow, d.slot) ∷ [])
+            (sym read) (map_more (λ (d : Entry T). (d.flow, d.slot)) es i e within);
       }
 
   pub rising_tail : (e : Entry T) (es : List (Entry T)) → IsRising (e ∷ es) → IsRising es

@@ -36,7 +36,10 @@ pub enum TableFault {
 
 /// The connections of an end, at most `n` at once, each with its flow and a value.
 ///
-/// `new` makes the room for all of them, and no other call takes memory.
+/// Virtio 1.2, section 5.10.6.2, names a flow by the CIDs and ports of both ends. Between one guest and its host the ports suffice.
+///
+/// `new` makes the room for all entries, and no other call takes memory. A flow is found by its hash and a slot by a binary search;
+/// `remove` takes time in proportion to the entries.
 #[derive(Drop)]
 pub struct FlowTable<T> {
     n: usize,
