@@ -1,0 +1,5 @@
+pub mod Leading
+pub mod Ports
+pub mod Readings
+pub mod OkLines
+pub mod ConnectLines
