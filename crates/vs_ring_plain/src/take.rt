@@ -104,3 +104,45 @@ fn check_size(queue: Queue, total: u64) -> Result<(), Failure>
         _ => Ok(()),
     }
 }
+
+// Reads the descriptors of a table to the chain's end.
+fn walk_table(
+    mem: &mut PlainMem,
+    queue: &PlainQueue,
+    at: u64,
+    entries: u32,
+    pieces: &mut Vec<Span>,
+) -> Result<(), Failure>
+    requires inside { IsTrue (is_inside mem.old at (16 * entries)) }
+    requires size { mem.old.base + length mem.old.bytes < 2 ^ 64 }
+    requires room { (length pieces.old.items ≤ queue.now.n) × (queue.now.n ≤ vec_capacity pieces.old) }
+    ensures exact { (ends : List Span → Accesses Taken)
+        → over (in_table (ring_in queue.now mem.old) at entries (queue.now.n - length pieces.old.items) 0 pieces.old.items ends) mem.old
+        ≡ comes_to ends result pieces.new.items mem.new }
+    ensures size { length mem.new.bytes ≡ length mem.old.bytes }
+    ensures capacity { vec_capacity pieces.new ≡ vec_capacity pieces.old }
+{
+    let mut number = 0;
+    'walk: while pieces.len() < queue.n as usize {
+        if number as u32 >= entries {
+            return Err(Failure::NextRange {
+                next: number,
+                n: entries as u16,
+            });
+        }
+        let desc = load_desc(mem, at + DESC_LEN as u64 * number as u64);
+        if desc.flags & INDIRECT != 0 {
+            return Err(Failure::IndirectNested { number });
+        }
+        check_piece(mem, queue, number, &desc)?;
+        pieces.push_reserved(Span {
+            at: desc.addr,
+            len: desc.len as u64,
+        });
+        if desc.flags & NEXT == 0 {
+            return Ok(());
+        }
+        number = desc.next;
+    }
+    Err(Failure::ChainLong { n: queue.n })
+}
