@@ -10,8 +10,9 @@ use Rattle.vs_layout.specs.declared.entry.Desc.{Desc}
 use Rattle.vs_layout.specs.declared.entry.TheConstants.{INDIRECT, NEXT}
 use Rattle.vs_layout.specs.declared.span.Span.{Span}
 use Rattle.vs_ring_plain.specs.Accesses.{Accesses, Done, Read, Write, MakesAtMost}
-use Rattle.vs_ring_plain.specs.Chain.{Ring, Taken, Chain, NoChain, Failed, unless, piece, in_table, refers, in_queue, taking, has, wrong_way, outside, piece_of, ahead, too_small, total_len}
-use Rattle.vs_ring_plain.specs.Failure.{Failure, AddrRange, AvailJump, HeadRange, Indirect, IndirectLen, IndirectNested, IndirectNext, NextRange}
+use Rattle.vs_ring_plain.specs.Chain.{Ring, Taken, Chain, NoChain, Failed, unless, piece, in_table, table_faults, in_queue, taking, has, wrong_way, outside, piece_of, ahead, too_small, total_len}
+use Rattle.vs_ring_plain.specs.declared.port.Failure.{Failure}
+use Rattle.vs_ring_plain.specs.declared.port.Failure.TheVariants.{AddrRange, AvailJump, HeadRange, Indirect, IndirectLen, IndirectNested, IndirectNext, NextRange}
 
 -- what holds of both, each under its case, holds of the choice
 choice : {X : Type 0} (P : X → Type 0) (b : Bool) (x y : X) → (b ≡ true → P x) → (b ≡ false → P y) → P (cond b x y)
@@ -56,9 +57,9 @@ in_table_bounded P (suc left) r at entries number before ends inside last =
     (λ now. in_table_bounded P left r at entries d.next now ends inside last)) in
     fails_or (suc left) P (nat_le entries number) (NextRange number entries) _ (λ ok. reads left P (at + 16 * number) 16 _ (inside number (below entries number ok)) (λ bytes. next (desc_of bytes)))
 
-refers_bounded : (k : ℕ) (P : ℕ → ℕ → Type 0) (r : Ring) (number : ℕ) (d : Desc) (next : Accesses Taken)
-    → (IsTrue (is_within r.base r.size d.addr d.len) → MakesAtMost k P next) → MakesAtMost k P (refers r number d next)
-refers_bounded k P r number d next comes =
+table_bounded : (k : ℕ) (P : ℕ → ℕ → Type 0) (r : Ring) (number : ℕ) (d : Desc) (next : Accesses Taken)
+    → (IsTrue (is_within r.base r.size d.addr d.len) → MakesAtMost k P next) → MakesAtMost k P (unless (table_faults r number d) next)
+table_bounded k P r number d next comes =
     fails_or k P (not r.indirect) (Indirect number) _ (λ _.
     fails_or k P (not (is_within r.base r.size d.addr d.len)) (AddrRange d.addr d.len) _ (λ inside.
     fails_or k P (has d NEXT) (IndirectNext number) _ (λ _.
@@ -74,8 +75,8 @@ in_queue_bounded : (P : ℕ → ℕ → Type 0) (left : ℕ) (r : Ring) (number 
     → ((k : ℕ) (now : List Span) → MakesAtMost k P (ends now)) → MakesAtMost (suc left) P (in_queue r left number before ends)
 in_queue_bounded P zero r number before ends inside tables last = done 1 P _
 in_queue_bounded P (suc left) r number before ends inside tables last =
-    let table : (d : Desc) → MakesAtMost (suc left) P (refers r number d (in_table r d.addr (d.len / 16) (suc left) 0 before ends)) =
-    λ d. refers_bounded (suc left) P r number d _ (λ lies. in_table_bounded P (suc left) r d.addr (d.len / 16) 0 before ends
+    let table : (d : Desc) → MakesAtMost (suc left) P (unless (table_faults r number d) (in_table r d.addr (d.len / 16) (suc left) 0 before ends)) =
+    λ d. table_bounded (suc left) P r number d _ (λ lies. in_table_bounded P (suc left) r d.addr (d.len / 16) 0 before ends
     (λ place short. tables d.addr d.len place lies short) last) in
     let one : (d : Desc) → MakesAtMost (suc left) P (piece r number d before ends (λ now. in_queue r left d.next now ends)) =
     λ d. piece_bounded (suc left) P r number d before ends _ (last (suc left)) (λ now. in_queue_bounded P left r d.next now ends inside tables last) in

@@ -1,6 +1,6 @@
 -- Taking a chain from a queue (Virtio 1.2, section 2.7): which pieces of memory are read, in which order, each once, and what comes
 -- of the values read: no chain, a chain, or the first rule that the driver broke. What lies in the memory plays no other part.
-use Rattle.std.specs.Prelude.{ℕ, zero, suc, ◌+◌, ◌-◌, ◌*◌, ◌/◌, ◌%◌, ◌^◌, ◌==◌, ◌||◌, Bool, not, nat_le, nat_lt, List, [], ◌∷◌, ◌++◌, sum_by, if◌then◌else◌, bit_and}
+use Rattle.std.specs.Prelude.{ℕ, zero, suc, ◌+◌, ◌-◌, ◌*◌, ◌/◌, ◌%◌, ◌^◌, ◌==◌, ◌||◌, Bool, not, nat_le, nat_lt, List, [], ◌∷◌, ◌++◌, sum_by, Result, Ok, Err, if◌then◌else◌, bit_and}
 use Rattle.byteorder.specs.Endian.{little_number}
 use Rattle.vs_guest_mem.specs.Memory.{is_within}
 use Rattle.vs_header.specs.declared.TheConstants.{HEADER_LEN}
@@ -11,7 +11,10 @@ use Rattle.vs_layout.specs.declared.entry.TheConstants.{DESC_LEN, INDIRECT, NEXT
 use Rattle.vs_layout.specs.declared.place.Areas.{Areas}
 use Rattle.vs_layout.specs.declared.span.Span.{Span}
 use Rattle.vs_ring_plain.specs.Accesses.{Accesses, Done, Read}
-use Rattle.vs_ring_plain.specs.Failure.{Queue, Rx, Tx, Event, Failure, AvailJump, HeadRange, Indirect, TxWritable, RxReadable, AddrRange, ChainLong, NextRange, TxShort, RxSmall, EventSmall, IndirectNested, IndirectNext, IndirectLen}
+use Rattle.vs_ring_plain.specs.declared.port.Failure.{Failure}
+use Rattle.vs_ring_plain.specs.declared.port.Failure.TheVariants.{AvailJump, HeadRange, Indirect, TxWritable, RxReadable, AddrRange, ChainLong, NextRange, TxShort, RxSmall, EventSmall, IndirectNested, IndirectNext, IndirectLen}
+use Rattle.vs_ring_plain.specs.declared.port.Queue.{Queue}
+use Rattle.vs_ring_plain.specs.declared.port.Queue.TheVariants.{Rx, Tx, Event}
 
 -- A queue of n places, in size bytes of memory from base on. `indirect`: whether indirect descriptors were agreed on.
 pub record Ring : Type 0 where
@@ -28,7 +31,12 @@ pub data Taken : Type 0 where
   Chain : ℕ → List Span → Taken
   Failed : Failure → Taken
 
--- The failure of the first test that is true, or else what comes next.
+-- The failure of the first test that is true.
+abbrev pub checked : List (Bool × Failure) → Result (Unit {0}) Failure
+checked [] = Ok tt
+checked (test ∷ tests) = if test.0 then Err test.1 else checked tests
+
+-- That failure, or else what comes next.
 abbrev pub unless : List (Bool × Failure) → Accesses Taken → Accesses Taken
 unless [] next = next
 unless (test ∷ tests) next = if test.0 then Done (Failed test.1) else unless tests next
@@ -49,6 +57,16 @@ wrong_way Tx number d = (has d WRITE, TxWritable number)
 wrong_way Rx number d = (not (has d WRITE), RxReadable number)
 wrong_way Event number d = (not (has d WRITE), RxReadable number)
 
+-- What is checked of a descriptor that is a piece of the chain.
+abbrev pub piece_faults : Ring → ℕ → Desc → List (Bool × Failure)
+piece_faults r number d = wrong_way r.queue number d ∷ outside r d ∷ []
+
+-- What is checked of a descriptor that refers to a table. It is no piece of the chain, and its flag WRITE plays no part.
+abbrev pub table_faults : Ring → ℕ → Desc → List (Bool × Failure)
+table_faults r number d =
+    (not r.indirect, Indirect number) ∷ outside r d ∷ (has d NEXT, IndirectNext number)
+    ∷ ((d.len == 0) || not (d.len % DESC_LEN == 0), IndirectLen d.len) ∷ []
+
 -- A packet's header is 44 bytes. An rx chain holds a byte of payload too. An event is 4 bytes.
 abbrev pub too_small : Queue → ℕ → Bool × Failure
 too_small Tx readable = (nat_lt readable HEADER_LEN, TxShort readable)
@@ -63,7 +81,7 @@ total_len pieces = sum_by (λ (s : Span). s.len) pieces
 -- `goes_on` where it isn't.
 abbrev pub piece : Ring → ℕ → Desc → List Span → (List Span → Accesses Taken) → (List Span → Accesses Taken) → Accesses Taken
 piece r number d before ends goes_on =
-    unless (wrong_way r.queue number d ∷ outside r d ∷ []) (
+    unless (piece_faults r number d) (
     let now = before ++ piece_of d ∷ [] in
     if has d NEXT then goes_on now else ends now)
 
@@ -77,12 +95,6 @@ in_table r at entries (suc left) number before ends =
     unless ((has d INDIRECT, IndirectNested number) ∷ []) (
     piece r number d before ends (λ now. in_table r at entries left d.next now ends))))
 
--- A descriptor that refers to a table. It is no piece of the chain, and its flag WRITE plays no part.
-abbrev pub refers : Ring → ℕ → Desc → Accesses Taken → Accesses Taken
-refers r number d next =
-    unless ((not r.indirect, Indirect number) ∷ outside r d ∷ (has d NEXT, IndirectNext number)
-    ∷ ((d.len == 0) || not (d.len % DESC_LEN == 0), IndirectLen d.len) ∷ []) next
-
 -- The queue's descriptors from a number on, of which `left` more may be read.
 abbrev pub in_queue : Ring → ℕ → ℕ → List Span → (List Span → Accesses Taken) → Accesses Taken
 in_queue r zero number before ends = Done (Failed (ChainLong r.n))
@@ -91,7 +103,7 @@ in_queue r (suc left) number before ends =
     Read (desc_entry r.areas number).at DESC_LEN (λ bytes.
     let d = desc_of bytes in
     if has d INDIRECT
-    then refers r number d (in_table r d.addr (d.len / DESC_LEN) (suc left) 0 before ends)
+    then unless (table_faults r number d) (in_table r d.addr (d.len / DESC_LEN) (suc left) 0 before ends)
     else piece r number d before ends (λ now. in_queue r left d.next now ends)))
 
 -- How far an index lies above the number of chains taken, both modulo 2^16.

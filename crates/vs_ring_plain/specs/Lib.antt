@@ -1,5 +1,5 @@
 pub mod Accesses
 pub mod Chain
 pub mod Examples
-pub mod Failure
 pub mod Pieces
+pub mod Take

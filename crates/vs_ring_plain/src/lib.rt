@@ -2,3 +2,5 @@
 #![tactic(auto)]
 
 pub mod examples;
+pub mod port;
+pub mod take;
