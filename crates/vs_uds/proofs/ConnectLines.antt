@@ -7,43 +7,22 @@ use Rattle.std.proofs.lemmas.Slice.Eq.{bytes_eq-Decides}
 use Rattle.std.specs.Char.{is_ascii_digit, to_ascii_lowercase}
 use Rattle.std.specs.List.{list_all, prefix_len}
 use Rattle.std.specs.Str.{bytes_eq}
-<<<<<<< HEAD
-use Rattle.vs_uds.specs.ConnectLine.{IsConnectLine, IsWordLine, connect_answers, connect_port, connect_step, connect_text, connect_word, is_end, is_word, word_port}
-use Rattle.vs_uds.specs.Port.{port_in}
-use Rattle.vs_uds.specs.Reading.{port_at_end}
-use Rattle.vs_uds.specs.Scan.{behind_digits, front_digits, without_spaces}
-use Rattle.vs_uds.proofs.Fronts.{behind_digits-append, chosen, digit_no_space, front_digits-append, has_lf-digits, spaces_and_rest, without_spaces-append}
-=======
 use Rattle.vs_uds.specs.ConnectLine.{IsConnectLine, IsWordLine, connect_answers, connect_port, connect_step, connect_text, connect_word, is_line_end, is_word, word_port}
 use Rattle.vs_uds.specs.Port.{port_in}
 use Rattle.vs_uds.specs.Reading.{port_at_end}
 use Rattle.vs_uds.specs.Scan.{after_digits, leading_digits, without_leading_spaces}
 use Rattle.vs_uds.proofs.Leading.{after_digits-append, chosen, digit_no_space, leading_digits-append, has_lf-digits, spaces_and_rest, without_leading_spaces-append}
->>>>>>> 78d7893fcf874d973ca9489cefb047193bb94afd
 use Rattle.vs_uds.proofs.Ports.{WritesPort-decimal, WritesPort-port_in, port_in-WritesPort}
 use Rattle.vs_uds.proofs.Readings.{answers_to-line, has_lf, none_append, none_replicate, port-step_of, step_of-port}
 use Rattle.vs_uds.specs.declared.scan.Step.TheVariants.{Port}
 
-<<<<<<< HEAD
--- what stands behind the digits begins with none
-=======
 -- what stands after the digits begins with none
->>>>>>> 78d7893fcf874d973ca9489cefb047193bb94afd
 stops : (after returns : ℕ) → prefix_len is_ascii_digit (replicate after 32 ++ (replicate returns 13 ++ 10 ∷ [])) ≡ 0
 stops zero zero = refl
 stops zero (suc returns) = refl
 stops (suc after) returns = refl
 
 -- and is an end
-<<<<<<< HEAD
-ends : (after returns : ℕ) → returns ≤ 1 → is_end (without_spaces (replicate after 32 ++ (replicate returns 13 ++ 10 ∷ []))) ≡ true
-ends after zero few = rw (without_spaces-append after (10 ∷ [])) refl
-ends after (suc zero) few = rw (without_spaces-append after (13 ∷ 10 ∷ [])) refl
-ends after (suc (suc returns)) few = absurd (omega arith)
-
--- an end is at most one CR, and LF
-end_parts : (end : List ℕ) → is_end end ≡ true → (returns : ℕ) × (returns ≤ 1) × (end ≡ replicate returns 13 ++ 10 ∷ [])
-=======
 ends : (after returns : ℕ) → returns ≤ 1
     → is_line_end (without_leading_spaces (replicate after 32 ++ (replicate returns 13 ++ 10 ∷ []))) ≡ true
 ends after zero few = rw (without_leading_spaces-append after (10 ∷ [])) refl
@@ -52,18 +31,13 @@ ends after (suc (suc returns)) few = absurd (omega arith)
 
 -- an end is at most one CR, and LF
 end_parts : (end : List ℕ) → is_line_end end ≡ true → (returns : ℕ) × (returns ≤ 1) × (end ≡ replicate returns 13 ++ 10 ∷ [])
->>>>>>> 78d7893fcf874d973ca9489cefb047193bb94afd
 end_parts end h = elim (cases_Bool (bytes_eq end (10 ∷ []))) [
   | inl plain ↦ (0, omega arith, (bytes_eq-Decides end (10 ∷ [])).0 plain)
   | inr other ↦ (1, omega arith, (bytes_eq-Decides end (13 ∷ 10 ∷ [])).0 (rw other at h))
 ]
 
 -- a number begins with no space
-<<<<<<< HEAD
-number_first : (ds rest : List ℕ) → list_all is_ascii_digit ds ≡ true → 1 ≤ length ds → without_spaces (ds ++ rest) ≡ ds ++ rest
-=======
 number_first : (ds rest : List ℕ) → list_all is_ascii_digit ds ≡ true → 1 ≤ length ds → without_leading_spaces (ds ++ rest) ≡ ds ++ rest
->>>>>>> 78d7893fcf874d973ca9489cefb047193bb94afd
 number_first [] rest each some = absurd (omega arith)
 number_first (d ∷ ds) rest each some = rw (digit_no_space d (and_parts (is_ascii_digit d) (list_all is_ascii_digit ds) each).0) refl
 
@@ -85,16 +59,10 @@ word_port-IsWordLine word line port w =
     omega (arith, ap length w.spelled, length-map w.letters to_ascii_lowercase, length-map word to_ascii_lowercase) in
     let front : take (length word) line ≡ w.letters = ap (take (length word)) whole ∙ take_at w.letters rest (length word) len in
     let back : drop (length word) line ≡ rest = ap (drop (length word)) whole ∙ drop_at w.letters rest (length word) len in
-<<<<<<< HEAD
-    let spelled : is_word word w.letters ≡ true = (bytes_eq-Decides (map to_ascii_lowercase w.letters) (map to_ascii_lowercase word)).1 w.spelled in
-    let number : without_spaces rest ≡ w.digits ++ end =
-    without_spaces-append w.before (w.digits ++ end) ∙ number_first w.digits end w.number.each w.number.some in
-=======
     let spelled : is_word word w.letters ≡ true =
     (bytes_eq-Decides (map to_ascii_lowercase w.letters) (map to_ascii_lowercase word)).1 w.spelled in
     let number : without_leading_spaces rest ≡ w.digits ++ end =
     without_leading_spaces-append w.before (w.digits ++ end) ∙ number_first w.digits end w.number.each w.number.some in
->>>>>>> 78d7893fcf874d973ca9489cefb047193bb94afd
     let stop = stops w.after w.returns in
     rw (
       front,
@@ -102,15 +70,9 @@ word_port-IsWordLine word line port w =
       spelled,
       first_space w.before (w.digits ++ end) w.apart,
       number,
-<<<<<<< HEAD
-      behind_digits-append w.digits end w.number.each stop,
-      ends w.after w.returns w.one_return,
-      front_digits-append w.digits end w.number.each stop,
-=======
       after_digits-append w.digits end w.number.each stop,
       ends w.after w.returns w.one_return,
       leading_digits-append w.digits end w.number.each stop,
->>>>>>> 78d7893fcf874d973ca9489cefb047193bb94afd
     )
     (port_in-WritesPort w.digits port w.number)
 
@@ -124,27 +86,6 @@ pub IsWordLine-word_port : (word line : List ℕ) (port : ℕ) → length line �
 IsWordLine-word_port word line port short h =
     let letters : List ℕ = take (length word) line in
     let rest : List ℕ = drop (length word) line in
-<<<<<<< HEAD
-    let number : List ℕ = without_spaces rest in
-    let end : List ℕ = behind_digits number in
-    let found = chosen _ (port_in (front_digits number)) port h in
-    let tests = and_parts (is_word word letters && slice_index rest 0 == 32) (is_end (without_spaces end)) found.0 in
-    let fronts = and_parts (is_word word letters) (slice_index rest 0 == 32) tests.0 in
-    let last = end_parts (without_spaces end) tests.1 in
-    let before : rest ≡ replicate (prefix_len (λ byte. byte == 32) rest) 32 ++ number = spaces_and_rest rest in
-    let after : end ≡ replicate (prefix_len (λ byte. byte == 32) end) 32 ++ without_spaces end = spaces_and_rest end in
-    let digits : number ≡ front_digits number ++ end = sym (take-append-drop _ number) in
-    record {
-      letters = letters;
-      before = prefix_len (λ byte. byte == 32) rest;
-      digits = front_digits number;
-      after = prefix_len (λ byte. byte == 32) end;
-      returns = last.0;
-      parts = joined line letters rest _ number _ end _ (without_spaces end) _ (10 ∷ []) (take-append-drop (length word) line) before digits after last.2;
-      spelled = (bytes_eq-Decides (map to_ascii_lowercase letters) (map to_ascii_lowercase word)).0 fronts.0;
-      apart = some_space rest fronts.1;
-      number = WritesPort-port_in (front_digits number) port found.1;
-=======
     let number : List ℕ = without_leading_spaces rest in
     let end : List ℕ = after_digits number in
     let found = chosen _ (port_in (leading_digits number)) port h in
@@ -167,7 +108,6 @@ IsWordLine-word_port word line port short h =
       spelled = (bytes_eq-Decides (map to_ascii_lowercase letters) (map to_ascii_lowercase word)).0 fronts.0;
       apart = some_space rest fronts.1;
       number = WritesPort-port_in (leading_digits number) port found.1;
->>>>>>> 78d7893fcf874d973ca9489cefb047193bb94afd
       one_return = last.1;
       short = short;
     }
@@ -195,16 +135,6 @@ pub connect_answers-IsConnectLine : (line : List ℕ) (port : ℕ) → IsConnect
 connect_answers-IsConnectLine line port w =
     let letters : has_lf w.letters ≡ false = sym (has_lf-lower w.letters) ∙ ap has_lf w.spelled in
     let to_number : List ℕ = w.letters ++ replicate w.before 32 in
-<<<<<<< HEAD
-    let behind : List ℕ = to_number ++ w.digits in
-    let to_end : List ℕ = behind ++ replicate w.after 32 in
-    let none_before : has_lf to_number ≡ false = none_append w.letters (replicate w.before 32) letters (none_replicate w.before 32 refl) in
-    let none_behind : has_lf behind ≡ false = none_append to_number w.digits none_before (has_lf-digits w.digits w.number.each) in
-    let none_after : has_lf to_end ≡ false = none_append behind (replicate w.after 32) none_behind (none_replicate w.after 32 refl) in
-    let none : has_lf (to_end ++ replicate w.returns 13) ≡ false =
-    none_append to_end (replicate w.returns 13) none_after (none_replicate w.returns 13 refl) in
-    answers_to-line 32 connect_port (to_end ++ replicate w.returns 13) line port w.parts none w.short (word_port-IsWordLine connect_word line port w)
-=======
     let to_spaces : List ℕ = to_number ++ w.digits in
     let to_end : List ℕ = to_spaces ++ replicate w.after 32 in
     let none_before : has_lf to_number ≡ false = none_append w.letters (replicate w.before 32) letters (none_replicate w.before 32 refl) in
@@ -214,7 +144,6 @@ connect_answers-IsConnectLine line port w =
     none_append to_end (replicate w.returns 13) none_after (none_replicate w.returns 13 refl) in
     answers_to-line 32 connect_port (to_end ++ replicate w.returns 13) line port w.parts none w.short
     (word_port-IsWordLine connect_word line port w)
->>>>>>> 78d7893fcf874d973ca9489cefb047193bb94afd
 
 -- the answer is a port where the line has it, and only there
 pub connect_step-IsConnectLine : (line : List ℕ) → length line ≤ 32 → (port : ℕ) → (connect_step line ≡ Port port) ↔ IsConnectLine line port
@@ -230,16 +159,10 @@ same_port-connect line p q a b =
     let other = word_port-IsWordLine connect_word line q b in
     cc
 
-<<<<<<< HEAD
--- one space, and neither spaces nor CR behind
-plain : (digits : List ℕ)
-    → connect_word ++ codes " " ++ digits ++ 10 ∷ [] ≡ connect_word ++ replicate 1 32 ++ digits ++ replicate 0 32 ++ replicate 0 13 ++ 10 ∷ []
-=======
 -- one space, and neither spaces nor CR after the digits
 plain : (digits : List ℕ)
     → connect_word ++ codes " " ++ digits ++ 10 ∷ []
     ≡ connect_word ++ replicate 1 32 ++ digits ++ replicate 0 32 ++ replicate 0 13 ++ 10 ∷ []
->>>>>>> 78d7893fcf874d973ca9489cefb047193bb94afd
 plain digits = rw (append-nil digits, append-nil digits) refl
 
 -- the line as it is written

@@ -7,13 +7,8 @@ use Rattle.std.specs.Str.{bytes_eq}
 use Rattle.vs_uds.specs.OkLine.{IsOkLine, ok_answers, ok_port, ok_step, ok_text}
 use Rattle.vs_uds.specs.Port.{port_in}
 use Rattle.vs_uds.specs.Reading.{port_at_end}
-<<<<<<< HEAD
-use Rattle.vs_uds.specs.Scan.{behind_digits, front_digits}
-use Rattle.vs_uds.proofs.Fronts.{behind_digits-append, chosen, front_digits-append, has_lf-digits}
-=======
 use Rattle.vs_uds.specs.Scan.{after_digits, leading_digits}
 use Rattle.vs_uds.proofs.Leading.{after_digits-append, chosen, leading_digits-append, has_lf-digits}
->>>>>>> 78d7893fcf874d973ca9489cefb047193bb94afd
 use Rattle.vs_uds.proofs.Ports.{WritesPort-decimal, WritesPort-port_in, length-decimal_ten, port_in-WritesPort}
 use Rattle.vs_uds.proofs.Readings.{answers_to-line, has_lf, port-step_of, step_of-port}
 use Rattle.vs_uds.specs.declared.scan.Step.TheVariants.{Port}
@@ -21,29 +16,13 @@ use Rattle.vs_uds.specs.declared.scan.Step.TheVariants.{Port}
 -- the port of an OK line is read
 pub ok_port-IsOkLine : (line : List ℕ) (port : ℕ) → IsOkLine line port → ok_port line ≡ Some port
 ok_port-IsOkLine line port w =
-<<<<<<< HEAD
-    rw (w.parts, behind_digits-append w.digits (10 ∷ []) w.number.each refl, front_digits-append w.digits (10 ∷ []) w.number.each refl)
-=======
     rw (w.parts, after_digits-append w.digits (10 ∷ []) w.number.each refl, leading_digits-append w.digits (10 ∷ []) w.number.each refl)
->>>>>>> 78d7893fcf874d973ca9489cefb047193bb94afd
     (port_in-WritesPort w.digits port w.number)
 
 -- a port is read of an OK line alone
 pub IsOkLine-ok_port : (line : List ℕ) (port : ℕ) → length line ≤ 14 → ok_port line ≡ Some port → IsOkLine line port
 IsOkLine-ok_port line port short h =
     let number : List ℕ = drop 3 line in
-<<<<<<< HEAD
-    let found = chosen _ (port_in (front_digits number)) port h in
-    let tests = and_parts (bytes_eq (take 3 line) (codes "OK ")) (bytes_eq (behind_digits number) (10 ∷ [])) found.0 in
-    let front : take 3 line ≡ codes "OK " = (bytes_eq-Decides (take 3 line) (codes "OK ")).0 tests.0 in
-    let end : behind_digits number ≡ 10 ∷ [] = (bytes_eq-Decides (behind_digits number) (10 ∷ [])).0 tests.1 in
-    let whole : take 3 line ++ (front_digits number ++ behind_digits number) ≡ line =
-    ap (λ (rest : List ℕ). take 3 line ++ rest) (take-append-drop _ number) ∙ take-append-drop 3 line in
-    record {
-      digits = front_digits number;
-      parts = sym (rw (front, end) at whole);
-      number = WritesPort-port_in (front_digits number) port found.1;
-=======
     let found = chosen _ (port_in (leading_digits number)) port h in
     let tests = and_parts (bytes_eq (take 3 line) (codes "OK ")) (bytes_eq (after_digits number) (10 ∷ [])) found.0 in
     let front : take 3 line ≡ codes "OK " = (bytes_eq-Decides (take 3 line) (codes "OK ")).0 tests.0 in
@@ -54,7 +33,6 @@ IsOkLine-ok_port line port short h =
       digits = leading_digits number;
       parts = sym (rw (front, end) at whole);
       number = WritesPort-port_in (leading_digits number) port found.1;
->>>>>>> 78d7893fcf874d973ca9489cefb047193bb94afd
       short = short;
     }
 
@@ -89,9 +67,5 @@ IsOkLine-ok_text port fits =
     }
 
 -- and its length, where the port has ten digits
-<<<<<<< HEAD
-pub length-ok_text : (port : ℕ) → 1000000000 ≤ port → port < 2 ^ 32 → length (ok_text port) ≡ 14
-=======
 pub length-ok_text : (port : ℕ) → 10 ^ 9 ≤ port → port < 2 ^ 32 → length (ok_text port) ≡ 14
->>>>>>> 78d7893fcf874d973ca9489cefb047193bb94afd
 length-ok_text port large fits = omega (arith, length-append (decimal port) (10 ∷ []), length-decimal_ten port large fits)

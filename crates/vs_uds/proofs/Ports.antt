@@ -58,11 +58,7 @@ WritesPort-decimal port fits =
     }
 
 -- a port of ten digits
-<<<<<<< HEAD
-pub length-decimal_ten : (port : ℕ) → 1000000000 ≤ port → port < 2 ^ 32 → length (decimal port) ≡ 10
-=======
 pub length-decimal_ten : (port : ℕ) → 10 ^ 9 ≤ port → port < 2 ^ 32 → length (decimal port) ≡ 10
->>>>>>> 78d7893fcf874d973ca9489cefb047193bb94afd
 length-decimal_ten port large fits =
     let value = digits_value-decimal own port (omega arith) in
     elim (cases_lt (length (decimal port)) 10) [
@@ -77,12 +73,8 @@ pub IsUtf8-numeral : (text : List ℕ) → is_numeral text ≡ true → IsUtf8 t
 IsUtf8-numeral text h = IsUtf8-from_ascii text (IsAscii-from_digits text (own.to text (numeral_parts text h).2))
 
 -- what `parse` makes of a numeral
-<<<<<<< HEAD
-pub result_ok-parse : {E : Type 0} (text : List ℕ) (r : Result ℕ E) → is_numeral text ≡ true → ParsesUnsigned 32 10 text r → result_ok r ≡ port_in text
-=======
 pub result_ok-parse : {E : Type 0} (text : List ℕ) (r : Result ℕ E) → is_numeral text ≡ true → ParsesUnsigned 32 10 text r
     → result_ok r ≡ port_in text
->>>>>>> 78d7893fcf874d973ca9489cefb047193bb94afd
 result_ok-parse {E = E} text (Ok x) numeral read =
     let parts = numeral_parts text numeral in
     let found = parse_digits own {E = E} 32 text (Ok x) read parts.2 in
@@ -102,11 +94,7 @@ no_err-text (Ok x) P Q U h text e = cc
 no_err-text (Err x) P Q U h text e = h.0 text
 
 -- and that text is what was read
-<<<<<<< HEAD
-pub text_from-some : {T E : Type 0} (r : Result T E) (P : T → Type 0) (Q : E → Type 0) (x : T) → MatchResult r P Q → result_ok r ≡ Some x → P x
-=======
 pub text_from-some : {T E : Type 0} (r : Result T E) (P : T → Type 0) (Q : E → Type 0) (x : T)
     → MatchResult r P Q → result_ok r ≡ Some x → P x
->>>>>>> 78d7893fcf874d973ca9489cefb047193bb94afd
 text_from-some (Ok y) P Q x h e = let same : y ≡ x = cc in subst P same h
 text_from-some (Err y) P Q x h e = cc

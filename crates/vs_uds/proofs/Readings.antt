@@ -36,14 +36,9 @@ front_none xs ys none = (neither (has_lf xs) (has_lf ys) (sym (list_any-append (
 kept : (most : ℕ) (line : List ℕ) (byte : ℕ) → has_lf line ≡ false → length line < most → fed most line byte ≡ line ++ byte ∷ []
 kept most line byte none short = rw (undecided most line none short) refl
 
-<<<<<<< HEAD
--- the answers to bytes without LF and to an LF behind them
-pub answers_to-front : (most : ℕ) (f : List ℕ → Option ℕ) (before xs : List ℕ) → has_lf (before ++ xs) ≡ false → length (before ++ xs) < most
-=======
 -- the answers to bytes without LF, and to an LF after them
 pub answers_to-front : (most : ℕ) (f : List ℕ → Option ℕ) (before xs : List ℕ)
     → has_lf (before ++ xs) ≡ false → length (before ++ xs) < most
->>>>>>> 78d7893fcf874d973ca9489cefb047193bb94afd
     → answers_to most f before (xs ++ 10 ∷ []) ≡ replicate (length xs) More ++ port_or_bad (f (before ++ xs ++ 10 ∷ [])) ∷ []
 answers_to-front most f before [] none short =
     let none' : has_lf before ≡ false = rw (append-nil before) at none in
@@ -53,12 +48,8 @@ answers_to-front most f before (x ∷ xs) none short =
     let moved : before ++ x ∷ xs ≡ before ++ x ∷ [] ++ xs = sym (append_assoc before (x ∷ []) xs) in
     let none' : has_lf (before ++ x ∷ [] ++ xs) ≡ false = rw moved at none in
     let short' : length (before ++ x ∷ [] ++ xs) < most = rw moved at short in
-<<<<<<< HEAD
-    let more = undecided most (before ++ x ∷ []) (front_none (before ++ x ∷ []) xs none') (omega (arith, length-append (before ++ x ∷ []) xs)) in
-=======
     let short_front : length (before ++ x ∷ []) < most = omega (arith, length-append (before ++ x ∷ []) xs) in
     let more = undecided most (before ++ x ∷ []) (front_none (before ++ x ∷ []) xs none') short_front in
->>>>>>> 78d7893fcf874d973ca9489cefb047193bb94afd
     rw (kept most before x (front_none before (x ∷ xs) none) (omega (arith, length-append before (x ∷ xs))), more, moved)
     (ap (λ (answers : List Step). More ∷ answers) (answers_to-front most f (before ++ x ∷ []) xs none' short'))
 

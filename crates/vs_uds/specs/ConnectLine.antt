@@ -4,11 +4,7 @@ use Rattle.std.specs.Char.{to_ascii_lowercase}
 use Rattle.std.specs.Str.{bytes_eq}
 use Rattle.vs_uds.specs.Port.{WritesPort, port_in}
 use Rattle.vs_uds.specs.Reading.{answers_to, step_of}
-<<<<<<< HEAD
-use Rattle.vs_uds.specs.Scan.{behind_digits, front_digits, without_spaces}
-=======
 use Rattle.vs_uds.specs.Scan.{after_digits, leading_digits, without_leading_spaces}
->>>>>>> 78d7893fcf874d973ca9489cefb047193bb94afd
 use Rattle.vs_uds.specs.declared.connect.TheConstants.{CONNECT_MAX}
 use Rattle.vs_uds.specs.declared.scan.TheConstants.{CR, LF, SPACE}
 use Rattle.vs_uds.specs.declared.scan.Step.{Step}
@@ -40,30 +36,14 @@ IsConnectLine line port = IsWordLine connect_word line port
 abbrev pub connect_text : ℕ → List ℕ
 connect_text port = connect_word ++ codes " " ++ decimal port ++ LF ∷ []
 
-<<<<<<< HEAD
--- Whether a line ends so behind its port.
-abbrev pub is_end : List ℕ → Bool
-is_end end = bytes_eq end (LF ∷ []) || bytes_eq end (CR ∷ LF ∷ [])
-=======
 -- Whether bytes may end a line: at most one CR, and LF.
 abbrev pub is_line_end : List ℕ → Bool
 is_line_end end = bytes_eq end (LF ∷ []) || bytes_eq end (CR ∷ LF ∷ [])
->>>>>>> 78d7893fcf874d973ca9489cefb047193bb94afd
 
 -- Whether letters are a word, in any case.
 abbrev pub is_word : List ℕ → List ℕ → Bool
 is_word word letters = bytes_eq (map to_ascii_lowercase letters) (map to_ascii_lowercase word)
 
-<<<<<<< HEAD
--- The port of a line with this word, as a function that computes: from the left the word, spaces, the digits behind them,
--- and no more than spaces and the end behind these.
-abbrev pub word_port : List ℕ → List ℕ → Option ℕ
-word_port word line =
-    let rest = drop (length word) line in
-    let number = without_spaces rest in
-    if is_word word (take (length word) line) && slice_index rest 0 == SPACE && is_end (without_spaces (behind_digits number))
-    then port_in (front_digits number)
-=======
 -- The port of a line with this word, as a function that computes. From the left: the word, spaces, the leading digits of the
 -- rest, and after them nothing but spaces and what ends a line.
 abbrev pub word_port : List ℕ → List ℕ → Option ℕ
@@ -72,17 +52,12 @@ word_port word line =
     let number = without_leading_spaces rest in
     if is_word word (take (length word) line) && slice_index rest 0 == SPACE && is_line_end (without_leading_spaces (after_digits number))
     then port_in (leading_digits number)
->>>>>>> 78d7893fcf874d973ca9489cefb047193bb94afd
     else None
 
 abbrev pub connect_port : List ℕ → Option ℕ
 connect_port line = word_port connect_word line
 
-<<<<<<< HEAD
--- What a `ConnectLine` answers that was fed these bytes, and the answers to bytes as they come.
-=======
 -- What a `ConnectLine` answers that holds these bytes, and what a new one answers to bytes that are fed in turn.
->>>>>>> 78d7893fcf874d973ca9489cefb047193bb94afd
 abbrev pub connect_step : List ℕ → Step
 connect_step line = step_of CONNECT_MAX connect_port line
 

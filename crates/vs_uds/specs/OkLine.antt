@@ -3,11 +3,7 @@ use Rattle.std.specs.Prelude.{ℕ, ◌≡◌, ◌≤◌, ◌&&◌, if◌then◌e
 use Rattle.std.specs.Str.{bytes_eq}
 use Rattle.vs_uds.specs.Port.{WritesPort, port_in}
 use Rattle.vs_uds.specs.Reading.{answers_to, step_of}
-<<<<<<< HEAD
-use Rattle.vs_uds.specs.Scan.{behind_digits, front_digits}
-=======
 use Rattle.vs_uds.specs.Scan.{after_digits, leading_digits}
->>>>>>> 78d7893fcf874d973ca9489cefb047193bb94afd
 use Rattle.vs_uds.specs.declared.ok.TheConstants.{OK_MAX}
 use Rattle.vs_uds.specs.declared.scan.TheConstants.{LF}
 use Rattle.vs_uds.specs.declared.scan.Step.{Step}
@@ -23,16 +19,6 @@ pub record IsOkLine (line : List ℕ) (port : ℕ) : Type 0 where
 abbrev pub ok_text : ℕ → List ℕ
 ok_text port = codes "OK " ++ decimal port ++ LF ∷ []
 
-<<<<<<< HEAD
--- The port of a line, as a function that computes: from the left `OK `, the digits behind it, and nothing but LF behind
--- these.
-abbrev pub ok_port : List ℕ → Option ℕ
-ok_port line =
-    let number = drop 3 line in
-    if bytes_eq (take 3 line) (codes "OK ") && bytes_eq (behind_digits number) (LF ∷ []) then port_in (front_digits number) else None
-
--- What an `OkLine` answers that was fed these bytes, and the answers to bytes as they come.
-=======
 -- The port of a line, as a function that computes. From the left: `OK `, the leading digits of the rest, and after them LF
 -- alone.
 abbrev pub ok_port : List ℕ → Option ℕ
@@ -41,7 +27,6 @@ ok_port line =
     if bytes_eq (take 3 line) (codes "OK ") && bytes_eq (after_digits number) (LF ∷ []) then port_in (leading_digits number) else None
 
 -- What an `OkLine` answers that holds these bytes, and what a new one answers to bytes that are fed in turn.
->>>>>>> 78d7893fcf874d973ca9489cefb047193bb94afd
 abbrev pub ok_step : List ℕ → Step
 ok_step line = step_of OK_MAX ok_port line
 

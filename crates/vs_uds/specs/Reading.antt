@@ -5,11 +5,7 @@ use Rattle.vs_uds.specs.declared.scan.TheConstants.{LF}
 use Rattle.vs_uds.specs.declared.scan.Step.{Step}
 use Rattle.vs_uds.specs.declared.scan.Step.TheVariants.{More, Port, Bad}
 
-<<<<<<< HEAD
--- Whether a line is decided: an LF came, or the most bytes that it may have.
-=======
 -- Whether a line is decided: an LF has come, or the most bytes that it may have.
->>>>>>> 78d7893fcf874d973ca9489cefb047193bb94afd
 abbrev pub is_decided : ℕ → List ℕ → Bool
 is_decided most line = list_any (λ byte. byte == LF) line || nat_le most (length line)
 
@@ -26,11 +22,7 @@ port_or_bad (Some port) = Port port
 abbrev pub step_of : ℕ → (List ℕ → Option ℕ) → List ℕ → Step
 step_of most port_of line = if is_decided most line then port_or_bad (port_of line) else More
 
-<<<<<<< HEAD
--- The answers to bytes that come one after another behind a line.
-=======
 -- The answers to bytes that are fed in turn to a reader that holds a line.
->>>>>>> 78d7893fcf874d973ca9489cefb047193bb94afd
 abbrev pub answers_to : ℕ → (List ℕ → Option ℕ) → List ℕ → List ℕ → List Step
 answers_to most port_of line [] = []
 answers_to most port_of line (byte ∷ bytes) =

@@ -5,17 +5,6 @@ use Rattle.std.specs.Char.{is_ascii_digit}
 use Rattle.vs_uds.specs.declared.scan.TheConstants.{SPACE}
 
 -- A text without the spaces that it begins with.
-<<<<<<< HEAD
-abbrev pub without_spaces : List ℕ → List ℕ
-without_spaces text = drop (prefix_len (λ byte. byte == SPACE) text) text
-
--- The digits that a text begins with, and the text behind them.
-abbrev pub front_digits : List ℕ → List ℕ
-front_digits text = take (prefix_len is_ascii_digit text) text
-
-abbrev pub behind_digits : List ℕ → List ℕ
-behind_digits text = drop (prefix_len is_ascii_digit text) text
-=======
 abbrev pub without_leading_spaces : List ℕ → List ℕ
 without_leading_spaces text = drop (prefix_len (λ byte. byte == SPACE) text) text
 
@@ -25,4 +14,3 @@ leading_digits text = take (prefix_len is_ascii_digit text) text
 
 abbrev pub after_digits : List ℕ → List ℕ
 after_digits text = drop (prefix_len is_ascii_digit text) text
->>>>>>> 78d7893fcf874d973ca9489cefb047193bb94afd

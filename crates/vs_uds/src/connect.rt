@@ -1,11 +1,5 @@
 //! The line `CONNECT PORT`, by which a client of the host asks for a port of the guest (Firecracker's vsock documentation).
 ghost use Rattle.std.specs.Prelude.{◌≡◌, ◌≤◌, ◌↔◌, ℕ, [], length, false};
-<<<<<<< HEAD
-ghost use Rattle.vs_uds.specs.ConnectLine.{IsConnectLine, connect_answers, connect_port, connect_step, connect_text, word_port, is_end};
-ghost use Rattle.vs_uds.specs.Reading.{fed, is_decided, port_at_end};
-
-use crate::scan::{CR, LF, SPACE, Step, feed, is_decided, port_in, split_digits, without_spaces};
-=======
 ghost use Rattle.vs_uds.specs.ConnectLine.{IsConnectLine, connect_answers, connect_port, connect_step, connect_text, word_port, is_line_end};
 ghost use Rattle.vs_uds.specs.Reading.{fed, is_decided, port_at_end};
 
@@ -13,7 +7,6 @@ use crate::scan::{
     CR, DIGITS_MAX, LF, SPACE, Step, feed, is_decided, port_in, split_digits,
     without_leading_spaces,
 };
->>>>>>> 78d7893fcf874d973ca9489cefb047193bb94afd
 use crate::text::Text;
 use arrayvec::{ArrayString, ArrayVec};
 use itoa::Buffer;
@@ -23,11 +16,7 @@ use std::marker::Model;
 pub const CONNECT_MAX: usize = 32;
 
 /// Room for `CONNECT `, ten digits and LF.
-<<<<<<< HEAD
-const CONNECT_TEXT_MAX: usize = 19;
-=======
 const CONNECT_TEXT_MAX: usize = 9 + DIGITS_MAX;
->>>>>>> 78d7893fcf874d973ca9489cefb047193bb94afd
 
 /// The text of a CONNECT line.
 pub type ConnectText = Text<CONNECT_TEXT_MAX>;
@@ -104,28 +93,17 @@ fn word_port(word: &[u8], line: &[u8]) -> Option<u32>
     if !letters.eq_ignore_ascii_case(word) || rest.first() != Some(&SPACE) {
         return None;
     }
-<<<<<<< HEAD
-    let (number, end) = split_digits(without_spaces(rest));
-    if is_end(without_spaces(end)) {
-=======
     let (number, end) = split_digits(without_leading_spaces(rest));
     if is_line_end(without_leading_spaces(end)) {
->>>>>>> 78d7893fcf874d973ca9489cefb047193bb94afd
         port_in(number)
     } else {
         None
     }
 }
 
-<<<<<<< HEAD
-/// Whether a line ends so behind its port: at most one CR, and LF.
-fn is_end(end: &[u8]) -> bool
-    ensures { result ≡ is_end end.now }
-=======
 /// Whether bytes may end a line: at most one CR, and LF.
 fn is_line_end(end: &[u8]) -> bool
     ensures { result ≡ is_line_end end.now }
->>>>>>> 78d7893fcf874d973ca9489cefb047193bb94afd
 {
     matches!(end, [LF] | [CR, LF])
 }

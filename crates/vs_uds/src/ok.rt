@@ -1,9 +1,5 @@
 //! The line `OK PORT`, by which the host answers a client whose connection stands (Firecracker's vsock documentation).
-<<<<<<< HEAD
-ghost use Rattle.std.specs.Prelude.{◌≡◌, ◌≤◌, ◌↔◌, ℕ, [], length, false};
-=======
 ghost use Rattle.std.specs.Prelude.{◌≡◌, ◌^◌, ◌≤◌, ◌↔◌, ℕ, [], length, false};
->>>>>>> 78d7893fcf874d973ca9489cefb047193bb94afd
 ghost use Rattle.vs_uds.specs.OkLine.{IsOkLine, ok_answers, ok_port, ok_step, ok_text};
 ghost use Rattle.vs_uds.specs.Reading.{fed, is_decided, port_at_end};
 
@@ -28,11 +24,7 @@ pub fn ok_line(port: u32) -> OkText
     ensures back { ok_answers result ≡ port_at_end result port }
 
     // A port of ten digits, as each is that the device assigns, fills the text.
-<<<<<<< HEAD
-    ensures whole { 1000000000 ≤ port → length result ≡ OK_MAX }
-=======
     ensures whole { 10 ^ 9 ≤ port → length result ≡ OK_MAX }
->>>>>>> 78d7893fcf874d973ca9489cefb047193bb94afd
 {
     let mut text = ArrayString::new();
     text.push_str("OK ");

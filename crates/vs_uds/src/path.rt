@@ -2,10 +2,7 @@
 ghost use Rattle.std.specs.Prelude.{◌≡◌, ◌≤◌, length};
 ghost use Rattle.vs_uds.specs.Path.{path_of};
 
-<<<<<<< HEAD
-=======
 use crate::scan::DIGITS_MAX;
->>>>>>> 78d7893fcf874d973ca9489cefb047193bb94afd
 use crate::text::Text;
 use arrayvec::ArrayString;
 use itoa::Buffer;
@@ -14,11 +11,7 @@ use itoa::Buffer;
 pub const BASE_MAX: usize = 90;
 
 /// Room for a base path of `BASE_MAX` bytes, the `_` and ten digits.
-<<<<<<< HEAD
-const PATH_MAX: usize = 101;
-=======
 const PATH_MAX: usize = BASE_MAX + 1 + DIGITS_MAX;
->>>>>>> 78d7893fcf874d973ca9489cefb047193bb94afd
 
 /// The text of a listening path.
 pub type PathText = Text<PATH_MAX>;

@@ -4,11 +4,7 @@ ghost use Rattle.std.specs.List.{prefix_len};
 ghost use Rattle.std.specs.Char.{is_ascii_digit};
 ghost use Rattle.vs_uds.specs.Port.{is_numeral, port_in};
 ghost use Rattle.vs_uds.specs.Reading.{fed, is_decided, port_or_bad};
-<<<<<<< HEAD
-ghost use Rattle.vs_uds.specs.Scan.{behind_digits, front_digits, without_spaces};
-=======
 ghost use Rattle.vs_uds.specs.Scan.{after_digits, leading_digits, without_leading_spaces};
->>>>>>> 78d7893fcf874d973ca9489cefb047193bb94afd
 
 use arrayvec::ArrayVec;
 use std::str;
@@ -28,11 +24,7 @@ pub const DIGITS_MAX: usize = 10;
 /// What the reader of a line answers to a byte.
 #[derive(Clone, Copy, Debug, PartialEq, Eq)]
 pub enum Step {
-<<<<<<< HEAD
-    /// The line isn't decided: neither an LF came, nor the most bytes that it may have.
-=======
     /// The line isn't decided: neither an LF has come, nor the most bytes that it may have.
->>>>>>> 78d7893fcf874d973ca9489cefb047193bb94afd
     More,
     /// The bytes are a line, with this port.
     Port(u32),
@@ -52,11 +44,7 @@ impl Step {
     }
 }
 
-<<<<<<< HEAD
-/// Whether a line is decided: an LF came, or the most bytes that it may have.
-=======
 /// Whether a line is decided: an LF has come, or the most bytes that it may have.
->>>>>>> 78d7893fcf874d973ca9489cefb047193bb94afd
 pub fn is_decided(line: &[u8], most: usize) -> bool
     ensures { result ≡ is_decided most line.now }
 {
@@ -87,32 +75,18 @@ fn digits(text: &[u8]) -> usize
 }
 
 /// A text without the spaces that it begins with.
-<<<<<<< HEAD
-#[tactic(auto, using(crate::proofs::Fronts::fronts))]
-pub fn without_spaces(text: &[u8]) -> &[u8]
-    ensures { result.now ≡ without_spaces text.now }
-=======
 #[tactic(auto, using(crate::proofs::Leading::leading))]
 pub fn without_leading_spaces(text: &[u8]) -> &[u8]
     ensures { result.now ≡ without_leading_spaces text.now }
->>>>>>> 78d7893fcf874d973ca9489cefb047193bb94afd
 {
     &text[spaces(text)..]
 }
 
-<<<<<<< HEAD
-/// The digits that a text begins with, and the text behind them.
-#[tactic(auto, using(crate::proofs::Fronts::fronts))]
-pub fn split_digits(text: &[u8]) -> (&[u8], &[u8])
-    ensures digits { result.0.now ≡ front_digits text.now }
-    ensures rest { result.1.now ≡ behind_digits text.now }
-=======
 /// The digits that a text begins with, and the text after them.
 #[tactic(auto, using(crate::proofs::Leading::leading))]
 pub fn split_digits(text: &[u8]) -> (&[u8], &[u8])
     ensures digits { result.0.now ≡ leading_digits text.now }
     ensures rest { result.1.now ≡ after_digits text.now }
->>>>>>> 78d7893fcf874d973ca9489cefb047193bb94afd
 {
     text.split_at(digits(text))
 }
