@@ -12,7 +12,8 @@ use Rattle.vs_conn.specs.Pair.{Pays, Sends, Shuts, happens, opening, run, with_s
 use Rattle.vs_conn.specs.declared.end.Owed.TheVariants as owed
 use Rattle.vs_conn.specs.declared.route.Route.{Route}
 use Rattle.vs_conn.proofs.Getting.{get_follows}
-use Rattle.vs_conn.proofs.Steps.{abort_follows, answer_follows, ask_follows, asked_follows, forward_follows, grow_follows, opening_may, taken_of}
+use Rattle.vs_conn.proofs.Steps.{abort_follows, answer_follows, ask_follows, asked_follows}
+use Rattle.vs_conn.proofs.Steps.{forward_follows, grow_follows, opening_may, taken_of}
 use Rattle.vs_conn.proofs.Steps.{pay_follows, pay_may, send_follows, send_may, shut_follows}
 
 by_side : (P : Side → Type 0) → P Asker → P Answerer → (side : Side) → P side

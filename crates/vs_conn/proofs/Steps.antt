@@ -161,10 +161,12 @@ shut_follows side put got e bits f =
     f.begun (grind (arith, common_steps, f.fwd_cnt, f.rx_cnt)) (grind (arith, common_steps, f.rx_cnt))
     (λ not undrained. shut_left side put got e s (f.left not) undrained)
 
-pub abort_follows : (side : Side) (put got : List Packet) (e : ConnectionEnd) → Follows side put got e → Follows side put got (aborted e)
+pub abort_follows : (side : Side) (put got : List Packet) (e : ConnectionEnd)
+    → Follows side put got e → Follows side put got (aborted e)
 abort_follows = search rules
 
-pub ask_follows : (side : Side) (put got : List Packet) (e : ConnectionEnd) → Follows side put got e → Follows side put got (wanting_credit e)
+pub ask_follows : (side : Side) (put got : List Packet) (e : ConnectionEnd)
+    → Follows side put got e → Follows side put got (wanting_credit e)
 ask_follows = search rules
 
 pub grow_follows : (side : Side) (put got : List Packet) (e : ConnectionEnd) (alloc : ℕ)

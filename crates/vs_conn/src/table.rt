@@ -3,7 +3,7 @@
 ghost use Rattle.std.specs.Prelude.{◌≡◌, ◌≢◌, ℕ, ◌+◌, ◌<◌, ◌≤◌, ◌^◌, false, true, List, [], ◌∷◌, None, Some};
 ghost use Rattle.vs_conn.specs.End.{ConnectionEnd, aborted, end_after, is_refused, is_reset, is_stream, owes_of};
 ghost use Rattle.vs_conn.specs.End.{payload_verdict, owes_update, paid_of, settled_state, verdict_of};
-ghost use Rattle.vs_conn.specs.End.{with_payload_sent};
+ghost use Rattle.vs_conn.specs.End.{grown, with_payload_forwarded, with_payload_sent, with_shut};
 ghost use Rattle.vs_conn.specs.Shut.{bits_of, is_both, joined, shut_of};
 ghost use Rattle.vs_conn.specs.Table.{in_state, row, stream_packet};
 ghost use Rattle.vs_conn.specs.declared.end.Owed.{Owed};
@@ -16,7 +16,7 @@ ghost use Rattle.vs_header.specs.Op.{op_named};
 ghost use Rattle.vs_header.specs.declared.Header.{Header};
 ghost use Rattle.vs_header.specs.declared.Op.TheVariants as op;
 
-/// What an end says to a packet that is Asked, Answering, Live and Ended, in this order, whatever else it is and whatever
+/// What an end says to a packet where it is Asked, Answering, Live and Ended, in this order, whatever else it is and whatever
 /// else the packet tells. The type is looked at first, then the operation.
 pub fn state_table()
     ensures other_type { (e : ConnectionEnd) (h : Header) → is_stream h ≡ false → is_reset h ≡ false
@@ -78,6 +78,20 @@ pub fn law_of_verdicts()
     ensures told_fwd { (e : ConnectionEnd) (h : Header) → (end_after e h).told_fwd ≡ e.told_fwd }
     ensures alloc { (e : ConnectionEnd) (h : Header) → (end_after e h).credit.alloc ≡ e.credit.alloc }
     ensures tx_cnt { (e : ConnectionEnd) (h : Header) → (end_after e h).credit.tx_cnt ≡ e.credit.tx_cnt }
+{}
+
+/// How much is unread after what an end does itself: forwarding takes bytes away, receiving no more takes all, and nothing else
+/// changes it.
+pub fn law_of_unread()
+    ensures forwarded { (e : ConnectionEnd) (n : ℕ) → e.credit.fwd_cnt < 2 ^ 32 → n ≤ unread_of e.credit
+        → unread_of (with_payload_forwarded e n).credit + n ≡ unread_of e.credit }
+    ensures dropped { (e : ConnectionEnd) (bits : ℕ) → (with_shut e bits).own.receive ≡ true
+        → unread_of (with_shut e bits).credit ≡ 0 }
+    ensures kept { (e : ConnectionEnd) (bits : ℕ) → (with_shut e bits).own.receive ≡ false
+        → (with_shut e bits).credit ≡ e.credit }
+    ensures sent { (e : ConnectionEnd) (n : ℕ) → unread_of (with_payload_sent e n).credit ≡ unread_of e.credit }
+    ensures grown { (e : ConnectionEnd) (alloc : ℕ) → unread_of (grown e alloc).credit ≡ unread_of e.credit }
+    ensures paid { (e : ConnectionEnd) (what : Owed) → (paid_of e what).credit ≡ e.credit }
 {}
 
 /// In which order an end owes. RST comes first and alone; once both shutdown bits were told nothing but RST is owed; what
