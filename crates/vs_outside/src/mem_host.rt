@@ -1,9 +1,13 @@
 //! A host in memory, whose programs are played by calls of its own.
-ghost use Rattle.std.specs.Prelude.{◌≡◌, ◌<◌, ◌+◌, ◌++◌, ◌∷◌, [], not, length, filter, bytes_eq, string_bytes, MatchOption, None, Some, position, IfSome, IfOk, OnOk, OnErr};
+ghost use Rattle.std.specs.Prelude.{◌≡◌, ◌<◌, ◌+◌, ◌++◌, ◌∷◌, [], not, length, filter, bytes_eq, string_bytes, MatchOption, None, Some, IsTrue, ◌↔◌};
+ghost use Rattle.std.specs.Prelude.{position, IfSome, IfOk, OnOk, OnErr};
 ghost use Rattle.std.specs.List.{list_any};
 ghost use Rattle.vs_outside.specs.Faults.{CountsFault};
-ghost use Rattle.vs_outside.specs.Host.{IsOpen, is_waiting, stream_at, with_stream, after_label, read_failed, ReadsSome, IsRead, after_read, write_failed, TakesSome, IsWritten, after_write, after_shut_write, after_close};
-ghost use Rattle.vs_outside.specs.HostProgram.{plain, new_host, port_path, after_listen, after_unlisten, after_client, has_stream, host_write_answer, after_host_write, allowed, ended, closed, after_fail, after_fail_start, counts_fault, starves, adds_dialed};
+ghost use Rattle.vs_outside.specs.Host.{IsOpen, is_waiting, stream_at, with_stream, after_label, read_failed, ReadsSome, IsRead};
+ghost use Rattle.vs_outside.specs.Host.{after_read, write_failed, TakesSome, IsWritten, after_write, after_shut_write, after_close};
+ghost use Rattle.vs_outside.specs.HostProgram.{plain, new_host, port_path, after_listen, after_unlisten, after_client, has_stream};
+ghost use Rattle.vs_outside.specs.HostProgram.{host_write_answer, after_host_write, allowed, ended, closed, after_fail, after_fail_start};
+ghost use Rattle.vs_outside.specs.HostProgram.{counts_fault, starves, adds_dialed};
 
 use crate::fail_list::FailList;
 use crate::host_net::{Accepted, Dialed, HostNet, Started, StreamRead, StreamState, StreamWrite};
@@ -109,6 +113,16 @@ impl MemHost {
         ensures { result.now ≡ self.now.contents.streams }
     {
         &self.streams
+    }
+
+    /// Whether the proxy was given the stream of that id, and hasn't closed it.
+    pub fn is_open(&self, id: u64) -> bool
+        ensures { IsTrue result ↔ IsOpen id self.now.contents }
+    {
+        match self.place(id) {
+            Some(place) => self.streams[place].state() == StreamState::Open,
+            None => false,
+        }
     }
 
     /// Whether a dial or a write found no memory, and failed.
@@ -430,8 +444,6 @@ fn remove_path(paths: &mut Vec<ListenedPath>, path: &str)
 #[cfg(test)]
 mod tests {
     use super::*;
-    use crate::in_out::{Clock, Gate, Sink, SinkWrite, Source, SourceRead};
-    use crate::mem_io::{FreeGate, MemSink, MemSource, StepClock};
     use crate::peer_host::PeerHost;
     use std::test::Fail;
 
@@ -440,73 +452,28 @@ mod tests {
         host: 52,
     };
 
-    fn write_and_read<H: HostNet>(host: &mut H, id: u64) -> (StreamWrite, StreamRead, [u8; 4]) {
-        let written = host.write(id, b"hello");
-        let mut out = [0; 4];
-        let read = host.read(id, &mut out);
-        (written, read, out)
+    fn made<H: HostNet>(host: &mut H, path: &str) -> (Started, Accepted, Dialed) {
+        (host.start(path), host.accept(), host.dial(path, FLOW))
     }
 
     #[test]
     fn streams_pass_bytes_both_ways(rt: HostRuntime) -> Result<(), Fail> {
         let mut host = MemHost::new(rt.alloc(), "v.sock")?;
         host.listen(52)?;
-        assert_eq!(rt; host.start("v.sock"), Started::Ready);
-        assert_eq!(rt; host.dial("v.sock_53", FLOW), Dialed::Refused);
-        assert_eq!(rt; host.client()?, 1);
-        assert_eq!(rt; host.dial("v.sock_52", FLOW), Dialed::Stream(2));
-        assert_eq!(rt; host.accept(), Accepted::Stream(1));
-        assert_eq!(rt; host.accept(), Accepted::None);
+        host.client()?;
+        assert_eq!(rt;
+            made(&mut host, "v.sock_52"),
+            (Started::Ready, Accepted::Stream(1), Dialed::Stream(2))
+        );
         assert_eq!(rt; host.host_write(2, b"abcdef")?, HostWritten::Ok);
-        assert_eq!(rt; host.host_write(3, b"abcdef")?, HostWritten::NoStream);
-        assert!(rt; host.allow(2, 3) && host.end(2));
-        assert_eq!(rt;
-            write_and_read(&mut host, 2),
-            (StreamWrite::Took(3), StreamRead::Got(4), *b"abcd")
-        );
-        assert_eq!(rt;
-            write_and_read(&mut host, 2),
-            (StreamWrite::Again, StreamRead::Got(2), *b"ef\0\0")
-        );
-        host.fail(2)?;
-        assert!(rt; host.closed(2));
-        assert_eq!(rt;
-            write_and_read(&mut host, 2),
-            (StreamWrite::Closed, StreamRead::Failed, [0; 4])
-        );
-        host.close(2);
-        assert_eq!(rt; host.host_write(2, b"g")?, HostWritten::Ended);
-        host.unlisten(52)?;
-        assert_eq!(rt; host.dial("v.sock_52", FLOW), Dialed::Refused);
+        assert!(rt; host.is_open(2));
+        assert_eq!(rt; host.write(2, b"hello"), StreamWrite::Took(5));
         assert!(rt; !host.starved());
-        assert_eq!(rt; host.faults(), 1);
-        let stream = &host.streams()[1];
-        assert_eq!(rt; stream.label(), Some(FLOW));
-        assert_eq!(rt; stream.wrote_after_connect(), b"abcdef".as_slice());
-        assert_eq!(rt; stream.read_after_ok(), b"hel".as_slice());
-        Ok(())
-    }
-
-    #[test]
-    fn handshake_lines_of_a_client_are_left_out(rt: HostRuntime) -> Result<(), Fail> {
-        let mut host = MemHost::new(rt.alloc(), "v.sock")?;
-        host.fail_start(1)?;
-        assert_eq!(rt; host.start("v.sock"), Started::Failed);
-        assert_eq!(rt; host.client()?, 1);
-        assert_eq!(rt; host.accept(), Accepted::Stream(1));
-        assert_eq!(rt; host.host_write(1, b"CONNECT 70\nxy")?, HostWritten::Ok);
-        let mut out = [0; 32];
-        assert_eq!(rt; host.read(1, &mut out[..11]), StreamRead::Got(11));
-        assert_eq!(rt; host.streams()[0].wrote_after_connect(), b"".as_slice());
-        host.label(1, FLOW);
-        assert_eq!(rt; host.read(1, &mut out), StreamRead::Got(2));
-        assert_eq!(rt; host.write(1, b"OK 1073741824\nz"), StreamWrite::Took(15));
-        host.shut_write(1);
-        let stream = &host.streams()[0];
-        assert_eq!(rt; stream.wrote_after_connect(), b"xy".as_slice());
-        assert_eq!(rt; stream.read_after_ok(), b"z".as_slice());
-        assert!(rt; stream.is_by_client() && stream.is_write_shut());
-        assert_eq!(rt; stream.state(), StreamState::Open);
+        assert_eq!(rt; host.faults(), 0);
+        assert_eq!(rt; host.streams().len(), 2);
+        for stream in host.streams() {
+            assert!(rt; stream.is_by_client() || stream.read_after_ok() == b"hello".as_slice());
+        }
         Ok(())
     }
 
@@ -519,66 +486,14 @@ mod tests {
             closed: false,
         };
         let mut host = PeerHost::new(rt.alloc(), "v.sock", prepared)?;
-        host.fail(1)?;
-        assert_eq!(rt; host.dial("v.sock", FLOW), Dialed::Failed);
-        assert_eq!(rt; host.dial("v.sock", FLOW), Dialed::Stream(1));
         assert_eq!(rt;
-            write_and_read(&mut host, 1),
-            (StreamWrite::Again, StreamRead::Got(2), *b"OK\0\0")
+            made(&mut host, "v.sock"),
+            (Started::Ready, Accepted::None, Dialed::Stream(1))
         );
-        assert_eq!(rt;
-            write_and_read(&mut host, 1),
-            (StreamWrite::Again, StreamRead::End, [0; 4])
-        );
-        assert_eq!(rt; host.host().faults(), 1);
-        let mut host = PeerHost::refusing(rt.alloc(), "v.sock")?;
-        assert_eq!(rt; host.dial("v.sock", FLOW), Dialed::Refused);
-        Ok(())
-    }
-
-    fn copied<S: Source, K: Sink>(source: &mut S, sink: &mut K) -> (SourceRead, SinkWrite) {
-        let mut room = [0; 4];
-        let read = source.read(&mut room);
-        (read, sink.write(&room))
-    }
-
-    fn told<C: Clock, G: Gate>(clock: &mut C, gate: &G) -> u64 {
-        gate.before(0, 1);
-        gate.holding(0);
-        gate.turned(1);
-        gate.pause();
-        clock.now()
-    }
-
-    #[test]
-    fn the_calls_that_are_to_fail_fail(rt: HostRuntime) -> Result<(), Fail> {
-        let bytes = Vec::from_slice(rt.alloc(), b"abcde")?;
-        let mut source = MemSource::new(rt.alloc(), bytes, 3);
-        source.fail(2)?;
-        let mut sink = MemSink::new(rt.alloc(), 2);
-        sink.fail(1)?;
-        sink.fail(3)?;
-        assert_eq!(rt;
-            copied(&mut source, &mut sink),
-            (SourceRead::Got(3), SinkWrite::Failed)
-        );
-        assert_eq!(rt;
-            copied(&mut source, &mut sink),
-            (SourceRead::Failed, SinkWrite::Took(2))
-        );
-        assert_eq!(rt;
-            copied(&mut source, &mut sink),
-            (SourceRead::Got(2), SinkWrite::Failed)
-        );
-        assert_eq!(rt;
-            copied(&mut source, &mut sink),
-            (SourceRead::End, SinkWrite::Took(2))
-        );
-        assert_eq!(rt; (source.faults(), sink.faults()), (1, 2));
-        assert_eq!(rt; sink.bytes(), b"\0\0\0\0".as_slice());
-        let mut clock = StepClock::new();
-        clock.tick(2_000);
-        assert_eq!(rt; told(&mut clock, &FreeGate), 2_000);
+        assert!(rt; host.host().is_open(1));
+        let mut out = [0; 4];
+        assert_eq!(rt; host.read(1, &mut out), StreamRead::Got(2));
+        assert_eq!(rt; out, *b"OK\0\0");
         Ok(())
     }
 }
