@@ -1,5 +1,6 @@
 -- The streams of a host, by id: where they stand, and what a call does to one of them and to the others.
-use Rattle.std.proofs.Common.{◌≡◌, ℕ, zero, suc, ◌+◌, ◌-◌, ◌<◌, Bool, true, false, cond, eqb, List, [], ◌∷◌, ◌++◌, length, get_or, set, Option, None, Some, refl, sym, ap, ◌∙◌, arith}
+use Rattle.std.proofs.Common.{◌≡◌, ℕ, zero, suc, ◌+◌, ◌-◌, ◌<◌, Bool, true, false, cond, eqb, List, [], ◌∷◌, ◌++◌, length, get_or, set}
+use Rattle.std.proofs.Common.{Option, None, Some, refl, sym, ap, ◌∙◌, arith}
 use Rattle.std.specs.Prelude.{slice_get, IsSomeAnd}
 use Rattle.std.specs.Option.{is_none, is_some}
 use Rattle.std.proofs.lemmas.List.Sums.{sum_by-set}
@@ -15,7 +16,8 @@ use Rattle.vs_outside.specs.declared.host_net.StreamWrite.{StreamWrite}
 use Rattle.vs_outside.specs.declared.host_net.StreamWrite.TheVariants as write
 
 -- the stream at a place
-pub stream_there : (id place : ℕ) (c : HostContents) (d : Stream) → id ≡ place + 1 → place < length c.streams → stream_at id c ≡ Some (get_or c.streams place d)
+pub stream_there : (id place : ℕ) (c : HostContents) (d : Stream) → id ≡ place + 1 → place < length c.streams →
+    stream_at id c ≡ Some (get_or c.streams place d)
 stream_there id place c d e h =
     let counted : eqb id 0 ≡ false = grind (arith, nat_tests) in
     let back : id - 1 ≡ place = omega arith in
@@ -28,7 +30,8 @@ set_same (z ∷ zs) zero s e = ap (λ x. x ∷ zs) e
 set_same (z ∷ zs) (suc place) s e = ap (λ xs. z ∷ xs) (set_same zs place s e)
 
 -- an open stream stands at the place before its id
-open_behind : (b : Bool) (o : Option Stream) → IsSomeAnd (cond b None o) (λ s. s.state ≡ state.Open) → (s : Stream) × (b ≡ false) × (o ≡ Some s) × (s.state ≡ state.Open)
+open_behind : (b : Bool) (o : Option Stream) → IsSomeAnd (cond b None o) (λ s. s.state ≡ state.Open) →
+    (s : Stream) × (b ≡ false) × (o ≡ Some s) × (s.state ≡ state.Open)
 open_behind true o h = absurd h
 open_behind false None h = absurd h
 open_behind false (Some s) h = (s, refl, refl, h)
@@ -44,26 +47,39 @@ open_at id c s opened at = open_there id c s opened ∙ ap Some (sym at)
 pub open_within : (id : ℕ) (c : HostContents) → IsOpen id c → id - 1 < length c.streams
 open_within id c h = let o = open_behind (eqb id 0) (slice_get c.streams (id - 1)) h in slice_get_within c.streams (id - 1) o.0 o.2
 
+-- the host with a stream put back as it was
+put_back : (id : ℕ) (c : HostContents) (old new : Stream) → old ≡ get_or c.streams (id - 1) old → new ≡ old →
+    record (called c) { streams = set c.streams (id - 1) new } ≡ called c
+put_back id c old new at same = ap (λ (xs : List Stream). record (called c) { streams = xs }) (rw same (set_same c.streams (id - 1) old at))
+
 -- the host after a read of a stream, and after a write to one
-pub after_reads : (id : ℕ) (answer : StreamRead) (out : List ℕ) (c : HostContents) (old new : Stream) → IsOpen id c → old ≡ get_or c.streams (id - 1) old → ReadsStream answer out old new → record (called c) { streams = set c.streams (id - 1) new } ≡ after_read id answer c
+pub after_reads : (id : ℕ) (answer : StreamRead) (out : List ℕ) (c : HostContents) (old new : Stream) → IsOpen id c →
+    old ≡ get_or c.streams (id - 1) old → ReadsStream answer out old new →
+    record (called c) { streams = set c.streams (id - 1) new } ≡ after_read id answer c
 after_reads id (read.Got n) out c old new opened at h = rw (open_at id c old opened at, h.1) refl
-after_reads id read.End out c old new opened at h = ap (λ (xs : List Stream). record (called c) { streams = xs }) (rw h (set_same c.streams (id - 1) old at))
-after_reads id read.Again out c old new opened at h = ap (λ (xs : List Stream). record (called c) { streams = xs }) (rw h (set_same c.streams (id - 1) old at))
-after_reads id read.Failed out c old new opened at h = ap (λ (xs : List Stream). record (called c) { streams = xs }) (rw h (set_same c.streams (id - 1) old at))
+after_reads id read.End out c old new opened at h = put_back id c old new at h
+after_reads id read.Again out c old new opened at h = put_back id c old new at h
+after_reads id read.Failed out c old new opened at h = put_back id c old new at h
 
 never_failed : (a b : Bool) (n : ℕ) → write.Failed ≡ cond a write.Closed (cond b write.Again (write.Took n)) → ⊥
 never_failed true b n h = cc
 never_failed false true n h = cc
 never_failed false false n h = cc
 
-pub after_writes : (id : ℕ) (answer : StreamWrite) (bytes : List ℕ) (c : HostContents) (old new : Stream) → answer ≡ write_of (length bytes) old → IsOpen id c → old ≡ get_or c.streams (id - 1) old → new ≡ stream_after_write bytes answer old → record (called c) { streams = set c.streams (id - 1) new } ≡ after_write id bytes answer c
+pub after_writes : (id : ℕ) (answer : StreamWrite) (bytes : List ℕ) (c : HostContents) (old new : Stream) →
+    answer ≡ write_of (length bytes) old → IsOpen id c → old ≡ get_or c.streams (id - 1) old →
+    new ≡ stream_after_write bytes answer old →
+    record (called c) { streams = set c.streams (id - 1) new } ≡ after_write id bytes answer c
 after_writes id (write.Took n) bytes c old new by opened at h = rw (open_at id c old opened at, h) refl
-after_writes id write.Again bytes c old new by opened at h = ap (λ (xs : List Stream). record (called c) { streams = xs }) (rw h (set_same c.streams (id - 1) old at))
-after_writes id write.Closed bytes c old new by opened at h = ap (λ (xs : List Stream). record (called c) { streams = xs }) (rw h (set_same c.streams (id - 1) old at))
-after_writes id write.Failed bytes c old new by opened at h = absurd (never_failed old.host_closed (eqb (taken_of (length bytes) old) 0) (taken_of (length bytes) old) by)
+after_writes id write.Again bytes c old new by opened at h = put_back id c old new at h
+after_writes id write.Closed bytes c old new by opened at h = put_back id c old new at h
+after_writes id write.Failed bytes c old new by opened at h =
+    absurd (never_failed old.host_closed (eqb (taken_of (length bytes) old) 0) (taken_of (length bytes) old) by)
 
 -- one stream less has no label once a stream got its first
-pub labels_one : (id : ℕ) (c : HostContents) (streams : List Stream) (old new : Stream) → IsOpen id c → streams ≡ c.streams → old ≡ get_or streams (id - 1) old → is_none old.label ≡ true → is_none new.label ≡ false → unlabelled (set streams (id - 1) new) + 1 ≡ unlabelled streams
+pub labels_one : (id : ℕ) (c : HostContents) (streams : List Stream) (old new : Stream) → IsOpen id c → streams ≡ c.streams →
+    old ≡ get_or streams (id - 1) old → is_none old.label ≡ true → is_none new.label ≡ false →
+    unlabelled (set streams (id - 1) new) + 1 ≡ unlabelled streams
 labels_one id c streams old new opened same at none some =
     let count : Stream → ℕ = λ s. cond (is_none s.label) 1 0 in
     let before : count (get_or streams (id - 1) old) ≡ 1 = rw (← at, none) refl in
@@ -76,5 +92,8 @@ none_or_some None h = refl
 none_or_some (Some f) h = cc
 
 -- the host after a stream got its first label
-pub after_labels : (id : ℕ) (flow : Flow) (c : HostContents) (old : Stream) → IsOpen id c → old ≡ get_or c.streams (id - 1) old → is_none old.label ≡ true → record c { streams = set c.streams (id - 1) (record old { label = Some flow }); labelled = c.labelled ++ id ∷ [] } ≡ after_label id flow c
+pub after_labels : (id : ℕ) (flow : Flow) (c : HostContents) (old : Stream) → IsOpen id c → old ≡ get_or c.streams (id - 1) old →
+    is_none old.label ≡ true →
+    record c { streams = set c.streams (id - 1) (record old { label = Some flow }); labelled = c.labelled ++ id ∷ [] } ≡
+    after_label id flow c
 after_labels id flow c old opened at none = rw (open_at id c old opened at, none_or_some old.label none) refl

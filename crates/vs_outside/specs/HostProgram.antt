@@ -1,5 +1,6 @@
 -- What the programs of a host in memory do: listeners, clients, and the other ends of the streams.
-use Rattle.std.specs.Prelude.{◌≡◌, ℕ, ◌+◌, min, Bool, true, false, not, ◌||◌, if◌then◌else◌, List, [], ◌∷◌, ◌++◌, filter, None, Some, is_some, is_none, unwrap_or, count_by, take, codes, decimal, bytes_eq}
+use Rattle.std.specs.Prelude.{◌≡◌, ℕ, ◌+◌, min, Bool, true, false, not, ◌||◌, if◌then◌else◌, List, [], ◌∷◌, ◌++◌, filter, None, Some}
+use Rattle.std.specs.Prelude.{is_some, is_none, unwrap_or, count_by, take, codes, decimal, bytes_eq}
 use Rattle.std.specs.Option.{option_map_or}
 use Rattle.vs_outside.specs.Faults.{one_more}
 use Rattle.vs_outside.specs.Host.{Stream, Prepared, HostContents, stream_at, with_stream, take_bytes, give_bytes, dialed_stream}

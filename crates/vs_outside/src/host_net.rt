@@ -4,7 +4,9 @@ ghost use Rattle.std.specs.Bool.{⊤};
 ghost use Rattle.std.specs.Option.{ForSome};
 ghost use Rattle.vs_contents.specs.Contents.{Exposes};
 ghost use Rattle.vs_outside.specs.Faults.{CountsFault};
-ghost use Rattle.vs_outside.specs.Host.{HostContents, IsOpen, start_failed, start_answer, after_start, accept_failed, accept_answer, after_accept, dial_failed, IsDialed, after_dial, after_label, read_failed, ReadsSome, IsRead, after_read, write_failed, TakesSome, IsWritten, after_write, after_shut_write, after_close};
+ghost use Rattle.vs_outside.specs.Host.{HostContents, IsOpen, start_failed, start_answer, after_start, accept_failed, accept_answer};
+ghost use Rattle.vs_outside.specs.Host.{after_accept, dial_failed, IsDialed, after_dial, after_label, read_failed, ReadsSome, IsRead};
+ghost use Rattle.vs_outside.specs.Host.{after_read, write_failed, TakesSome, IsWritten, after_write, after_shut_write, after_close};
 
 use vs_flow::Flow;
 

@@ -1,9 +1,13 @@
 //! A host in memory, whose programs are played by calls of its own.
-ghost use Rattle.std.specs.Prelude.{◌≡◌, ◌<◌, ◌+◌, ◌++◌, ◌∷◌, [], not, length, filter, bytes_eq, string_bytes, MatchOption, None, Some, position, IfSome, IfOk, OnOk, OnErr};
+ghost use Rattle.std.specs.Prelude.{◌≡◌, ◌<◌, ◌+◌, ◌++◌, ◌∷◌, [], not, length, filter, bytes_eq, string_bytes, MatchOption, None, Some, IsTrue, ◌↔◌};
+ghost use Rattle.std.specs.Prelude.{position, IfSome, IfOk, OnOk, OnErr};
 ghost use Rattle.std.specs.List.{list_any};
 ghost use Rattle.vs_outside.specs.Faults.{CountsFault};
-ghost use Rattle.vs_outside.specs.Host.{IsOpen, is_waiting, stream_at, with_stream, after_label, read_failed, ReadsSome, IsRead, after_read, write_failed, TakesSome, IsWritten, after_write, after_shut_write, after_close};
-ghost use Rattle.vs_outside.specs.HostProgram.{plain, new_host, port_path, after_listen, after_unlisten, after_client, has_stream, host_write_answer, after_host_write, allowed, ended, closed, after_fail, after_fail_start, counts_fault, starves, adds_dialed};
+ghost use Rattle.vs_outside.specs.Host.{IsOpen, is_waiting, stream_at, with_stream, after_label, read_failed, ReadsSome, IsRead};
+ghost use Rattle.vs_outside.specs.Host.{after_read, write_failed, TakesSome, IsWritten, after_write, after_shut_write, after_close};
+ghost use Rattle.vs_outside.specs.HostProgram.{plain, new_host, port_path, after_listen, after_unlisten, after_client, has_stream};
+ghost use Rattle.vs_outside.specs.HostProgram.{host_write_answer, after_host_write, allowed, ended, closed, after_fail, after_fail_start};
+ghost use Rattle.vs_outside.specs.HostProgram.{counts_fault, starves, adds_dialed};
 
 use crate::fail_list::FailList;
 use crate::host_net::{Accepted, Dialed, HostNet, Started, StreamRead, StreamState, StreamWrite};
@@ -109,6 +113,16 @@ impl MemHost {
         ensures { result.now ≡ self.now.contents.streams }
     {
         &self.streams
+    }
+
+    /// Whether the proxy was given the stream of that id, and hasn't closed it.
+    pub fn is_open(&self, id: u64) -> bool
+        ensures { IsTrue result ↔ IsOpen id self.now.contents }
+    {
+        match self.place(id) {
+            Some(place) => self.streams[place].state() == StreamState::Open,
+            None => false,
+        }
     }
 
     /// Whether a dial or a write found no memory, and failed.
@@ -425,4 +439,61 @@ fn remove_path(paths: &mut Vec<ListenedPath>, path: &str)
     ensures { paths.new.items ≡ filter (λ p. not (bytes_eq p path.now)) paths.old.items }
 {
     paths.retain(|p| p.as_str() != path);
+}
+
+#[cfg(test)]
+mod tests {
+    use super::*;
+    use crate::peer_host::PeerHost;
+    use std::test::Fail;
+
+    const FLOW: Flow = Flow {
+        guest: 1024,
+        host: 52,
+    };
+
+    fn made<H: HostNet>(host: &mut H, path: &str) -> (Started, Accepted, Dialed) {
+        (host.start(path), host.accept(), host.dial(path, FLOW))
+    }
+
+    #[test]
+    fn streams_pass_bytes_both_ways(rt: HostRuntime) -> Result<(), Fail> {
+        let mut host = MemHost::new(rt.alloc(), "v.sock")?;
+        host.listen(52)?;
+        host.client()?;
+        assert_eq!(rt;
+            made(&mut host, "v.sock_52"),
+            (Started::Ready, Accepted::Stream(1), Dialed::Stream(2))
+        );
+        assert_eq!(rt; host.host_write(2, b"abcdef")?, HostWritten::Ok);
+        assert!(rt; host.is_open(2));
+        assert_eq!(rt; host.write(2, b"hello"), StreamWrite::Took(5));
+        assert!(rt; !host.starved());
+        assert_eq!(rt; host.faults(), 0);
+        assert_eq!(rt; host.streams().len(), 2);
+        for stream in host.streams() {
+            assert!(rt; stream.is_by_client() || stream.read_after_ok() == b"hello".as_slice());
+        }
+        Ok(())
+    }
+
+    #[test]
+    fn a_peer_gives_what_is_prepared(rt: HostRuntime) -> Result<(), Fail> {
+        let prepared = PreparedStream {
+            bytes: Vec::from_slice(rt.alloc(), b"OK")?,
+            ended: true,
+            room: Some(0),
+            closed: false,
+        };
+        let mut host = PeerHost::new(rt.alloc(), "v.sock", prepared)?;
+        assert_eq!(rt;
+            made(&mut host, "v.sock"),
+            (Started::Ready, Accepted::None, Dialed::Stream(1))
+        );
+        assert!(rt; host.host().is_open(1));
+        let mut out = [0; 4];
+        assert_eq!(rt; host.read(1, &mut out), StreamRead::Got(2));
+        assert_eq!(rt; out, *b"OK\0\0");
+        Ok(())
+    }
 }

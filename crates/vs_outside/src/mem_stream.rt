@@ -2,7 +2,8 @@
 ghost use Rattle.std.specs.Prelude.{◌≡◌, ◌≤◌, ◌<◌, ◌-◌, ◌==◌, true, length, min, take, position, IfSome, IfOk, OnOk, OnErr, is_none};
 ghost use Rattle.std.specs.Option.{option_map};
 ghost use Rattle.vs_outside.specs.Host.{dialed_stream, is_waiting, read_of, taken_of, write_of};
-ghost use Rattle.vs_outside.specs.HostProgram.{plain, client_stream, ReadsStream, stream_after_write, is_over, with_bytes, allowed, ended, closed};
+ghost use Rattle.vs_outside.specs.HostProgram.{plain, client_stream, ReadsStream, stream_after_write, is_over, with_bytes, allowed};
+ghost use Rattle.vs_outside.specs.HostProgram.{ended, closed};
 ghost use Rattle.vs_outside.specs.HostBytes.{after_line, wrote_after_connect, read_after_ok};
 
 use crate::host_net::{StreamRead, StreamState, StreamWrite};

@@ -8,7 +8,8 @@ use Rattle.vs_outside.proofs.mem_host.MemHostHostNet.label.Goals as goal
 pub push_reserved-requires : goal.push_reserved-requires
 push_reserved-requires c =
     let none : is_none c.index_mut.result.now.label ≡ true = sym c.set_label.ensures.first ∙ c.if-not-set_label.false in
-    let one = labels_one c.args.id c.args.self.now.contents c.self.inside.streams.items c.index_mut.result.now c.set_label.new.self c.requires
+    let one = labels_one c.args.id c.args.self.now.contents c.self.inside.streams.items c.index_mut.result.now c.set_label.new.self
+    c.requires
     (ap (λ (m : HostMemory). m.contents.streams) c.self.view_is) c.index_mut.ensures.value none (rw c.set_label.ensures.after refl)
     in
     omega (arith, one, c.self.invariant)
@@ -16,7 +17,8 @@ push_reserved-requires c =
 pub invariant_of-self-2 : goal.invariant_of-self-2
 invariant_of-self-2 c =
     let none : is_none c.index_mut.result.now.label ≡ true = sym c.set_label.ensures.first ∙ c.if-not-set_label.false in
-    let one = labels_one c.args.id c.args.self.now.contents c.self.inside.streams.items c.index_mut.result.now c.set_label.new.self c.requires
+    let one = labels_one c.args.id c.args.self.now.contents c.self.inside.streams.items c.index_mut.result.now c.set_label.new.self
+    c.requires
     (ap (λ (m : HostMemory). m.contents.streams) c.self.view_is) c.index_mut.ensures.value none (rw c.set_label.ensures.after refl)
     in
     omega (arith, one, c.self.invariant, c.push_reserved.ensures.len, c.push_reserved.ensures.capacity)

@@ -8,4 +8,5 @@ pub returns-in-Ok-clause-after : goal.returns-in-Ok-clause-after
 returns-in-Ok-clause-after c =
     let opened = subst (λ (m : HostMemory). IsOpen c.args.id m.contents) (sym c.self.view_is) c.requires in
     rw (c.call.ensures.after, ← c.self.view_is)
-    (after_writes c.args.id c.in-Ok.answer c.args.bytes.now _ c.index_mut-stream.result.now c.write.new.self c.in-Ok.ensures.answer opened c.index_mut-stream.ensures.value c.in-Ok.ensures.ok)
+    (after_writes c.args.id c.in-Ok.answer c.args.bytes.now _ c.index_mut-stream.result.now c.write.new.self
+    c.in-Ok.ensures.answer opened c.index_mut-stream.ensures.value c.in-Ok.ensures.ok)
