@@ -1,0 +1,164 @@
+-- How many pages are in flight after each call.
+use Rattle.std.proofs.Common.{◌≡◌, ℕ, zero, suc, ◌+◌, ◌*◌, ◌<◌, ◌≤◌, true, false, cond, List, [], ◌∷◌, ◌++◌, length, Contains, Option, Some, None, refl, sym, ap, ap₂, ◌∙◌, subst, arith, length-append}
+use Rattle.std.proofs.lemmas.List.{length_push}
+use Rattle.std.proofs.lemmas.List.Sums.{sum_by-cons}
+use Rattle.vs_ring_port.specs.Chains.{Held, held_of, same_queue, same_chain, chains_of, with_bytes, without_held}
+use Rattle.vs_ring_port.specs.Counts.{Counts, at, one_more, without_queue}
+use Rattle.vs_ring_port.specs.EndLog.{pages_at}
+use Rattle.vs_ring_port.specs.Lists.{queue_of, chain_with, to_read}
+use Rattle.vs_ring_port.specs.declared.device_ring.Chain.{Chain}
+use Rattle.vs_ring_port.specs.declared.queue.Queue.{Queue}
+use Rattle.vs_ring_port.specs.declared.queue.Queue.TheVariants.{Rx, Tx, Event}
+use Rattle.vs_ring_list.specs.Ends.{Ends, in_flight, flight_of, staged_of}
+use Rattle.vs_ring_list.proofs.Held.{IsFirst, next_first, first_held, same_chain_is}
+use Rattle.vs_ring_list.proofs.Steps.{staged, published, reaped, loaded, taken, written, returned, reset}
+
+same_counts : (f g : Counts) → f.rx ≡ g.rx → f.tx ≡ g.tx → f.event ≡ g.event → f ≡ g
+same_counts f g rx tx event =
+    let of : ℕ → ℕ → ℕ → Counts = λ a b c. record { rx = a; tx = b; event = c } in
+    ap₂ (λ a b. of a b f.event) rx tx ∙ ap (of g.rx g.tx) event
+
+pub at-flight_of : (queue : Queue) (w : Ends) → at queue (flight_of w) ≡ in_flight queue w
+at-flight_of Rx w = refl
+at-flight_of Tx w = refl
+at-flight_of Event w = refl
+
+pub at-staged_of : (queue : Queue) (w : Ends) → at queue (staged_of w) ≡ length (pages_at queue w.driver.staged)
+at-staged_of Rx w = refl
+at-staged_of Tx w = refl
+at-staged_of Event w = refl
+
+-- staged pages are in flight
+pub staged_within : (queue : Queue) (w : Ends) → length (pages_at queue w.driver.staged) + length (queue_of queue w.lists).back ≤ in_flight queue w
+staged_within queue w = omega arith
+
+-- a page is staged
+pub flight_of-staged : (queue : Queue) (page : List ℕ) (w : Ends) → flight_of (staged queue page w) ≡ one_more queue (flight_of w)
+flight_of-staged Rx page w = same_counts _ _ (omega (arith, length_push w.driver.staged.rx page)) refl refl
+flight_of-staged Tx page w = same_counts _ _ refl (omega (arith, length_push w.driver.staged.tx page)) refl
+flight_of-staged Event page w = same_counts _ _ refl refl (omega (arith, length_push w.driver.staged.event page))
+
+pub staged_of-staged : (queue : Queue) (page : List ℕ) (w : Ends) → staged_of (staged queue page w) ≡ one_more queue (staged_of w)
+staged_of-staged Rx page w = same_counts _ _ (length_push w.driver.staged.rx page) refl refl
+staged_of-staged Tx page w = same_counts _ _ refl (length_push w.driver.staged.tx page) refl
+staged_of-staged Event page w = same_counts _ _ refl refl (length_push w.driver.staged.event page)
+
+-- those staged are published
+pub flight_of-published : (queue : Queue) (w : Ends) → flight_of (published queue w) ≡ flight_of w
+flight_of-published Rx w = same_counts _ _ (omega (arith, length-append w.lists.rx.given w.driver.staged.rx)) refl refl
+flight_of-published Tx w = same_counts _ _ refl (omega (arith, length-append w.lists.tx.given w.driver.staged.tx)) refl
+flight_of-published Event w = same_counts _ _ refl refl (omega (arith, length-append w.lists.event.given w.driver.staged.event))
+
+pub staged_of-published : (queue : Queue) (w : Ends) → staged_of (published queue w) ≡ without_queue queue (staged_of w)
+staged_of-published Rx w = refl
+staged_of-published Tx w = refl
+staged_of-published Event w = refl
+
+-- a page is got back, or none
+pub flight_before-reaped : (queue : Queue) (page : List ℕ) (pages : List (List ℕ)) (w : Ends) → (queue_of queue w.lists).back ≡ page ∷ pages → flight_of w ≡ one_more queue (flight_of (reaped queue w))
+flight_before-reaped Rx page pages w e = same_counts _ _ (rw e (omega arith)) refl refl
+flight_before-reaped Tx page pages w e = same_counts _ _ refl (rw e (omega arith)) refl
+flight_before-reaped Event page pages w e = same_counts _ _ refl refl (rw e (omega arith))
+
+pub flight_of-none_reaped : (queue : Queue) (w : Ends) → (queue_of queue w.lists).back ≡ [] → flight_of (reaped queue w) ≡ flight_of w
+flight_of-none_reaped Rx w e = same_counts _ _ (rw e (omega arith)) refl refl
+flight_of-none_reaped Tx w e = same_counts _ _ refl (rw e (omega arith)) refl
+flight_of-none_reaped Event w e = same_counts _ _ refl refl (rw e (omega arith))
+
+pub staged_of-reaped : (queue : Queue) (w : Ends) → staged_of (reaped queue w) ≡ staged_of w
+staged_of-reaped Rx w = refl
+staged_of-reaped Tx w = refl
+staged_of-reaped Event w = refl
+
+-- one more chain that is held
+pub held_of-cons : (q : Queue) (h : Held) (held : List Held) → held_of q (h ∷ held) ≡ cond (same_queue q h.chain.queue) 1 0 + held_of q held
+held_of-cons q h held = sum_by-cons (λ (x : Held). cond (same_queue q x.chain.queue) 1 0) h held
+
+-- a page is taken: those given are one less, and those held one more
+abbrev pub held_by : Queue → ℕ → List ℕ → Held
+held_by queue place page = record { chain = chain_with queue place page; bytes = to_read queue page }
+
+pub flight_of-taken : (queue : Queue) (page : List ℕ) (pages : List (List ℕ)) (w : Ends) → (queue_of queue w.lists).given ≡ page ∷ pages → flight_of (taken queue w) ≡ flight_of w
+flight_of-taken Rx page pages w e =
+    let h = held_by Rx w.lists.rx.place page in
+    let held = w.device.held in
+    rw e (same_counts _ _ (omega (arith, ap length e, held_of-cons Rx h held)) (omega (arith, held_of-cons Tx h held)) (omega (arith, held_of-cons Event h held)))
+flight_of-taken Tx page pages w e =
+    let h = held_by Tx w.lists.tx.place page in
+    let held = w.device.held in
+    rw e (same_counts _ _ (omega (arith, held_of-cons Rx h held)) (omega (arith, ap length e, held_of-cons Tx h held)) (omega (arith, held_of-cons Event h held)))
+flight_of-taken Event page pages w e =
+    let h = held_by Event w.lists.event.place page in
+    let held = w.device.held in
+    rw e (same_counts _ _ (omega (arith, held_of-cons Rx h held)) (omega (arith, held_of-cons Tx h held)) (omega (arith, ap length e, held_of-cons Event h held)))
+
+-- bytes are written
+held_of-with_bytes : (q : Queue) (c : Chain) (bytes : List ℕ) (held : List Held) → held_of q (with_bytes c bytes held) ≡ held_of q held
+held_of-with_bytes q c bytes [] = refl
+held_of-with_bytes q c bytes (h ∷ held) =
+    elim (same_chain c h.chain) as (λ b. held_of q (cond b (record h { bytes = bytes } ∷ held) (h ∷ with_bytes c bytes held)) ≡ cond (same_queue q h.chain.queue) 1 0 + held_of q held) [
+      | true ↦ held_of-cons q (record h { bytes = bytes }) held
+      | false ↦ held_of-cons q h (with_bytes c bytes held) ∙ ap (λ n. cond (same_queue q h.chain.queue) 1 0 + n) (held_of-with_bytes q c bytes held)
+    ] ∙ sym (held_of-cons q h held)
+
+pub in_flight-written : (queue : Queue) (c : Chain) (place : ℕ) (bytes : List ℕ) (w : Ends) → in_flight queue (written c place bytes w) ≡ in_flight queue w
+in_flight-written queue c place bytes w =
+    ap (λ n. length (pages_at queue w.driver.staged) + length (queue_of queue w.lists).given + n + length (queue_of queue w.lists).back)
+    (held_of-with_bytes queue c _ w.device.held)
+
+-- a chain is returned
+held_of-without_held : (q : Queue) (c : Chain) (held : List Held) (i : ℕ) (d : Held) → IsFirst c held i d → held_of q (without_held c held) + cond (same_queue q c.queue) 1 0 ≡ held_of q held
+held_of-without_held q c [] i d f = absurd (omega (arith, f.within))
+held_of-without_held q c (h ∷ held) zero d f =
+    rw (f.here, same_chain_is c h.chain f.here) (omega (arith, held_of-cons q h held))
+held_of-without_held q c (h ∷ held) (suc i) d f =
+    rw (f.below 0 (omega arith)) (omega (arith, held_of-cons q h held, held_of-cons q h (without_held c held), held_of-without_held q c held i d (next_first c h held i d f)))
+
+pub held_before-returned : (q : Queue) (c : Chain) (w : Ends) → Contains (chains_of w.device.held) c → held_of q (without_held c w.device.held) + cond (same_queue q c.queue) 1 0 ≡ held_of q w.device.held
+held_before-returned q c w has =
+    let f = first_held c w.device.held has in
+    held_of-without_held q c w.device.held f.0 _ f.1
+
+returned_at : (of q : Queue) (c : Chain) (len : ℕ) (w : Ends) → c.queue ≡ of → Contains (chains_of w.device.held) c → in_flight q (returned c len w) ≡ in_flight q w
+returned_at Rx Rx c len w is has = rw is (omega (arith, length_push w.lists.rx.back _, held_before-returned Rx c w has, ap (λ k. cond {A = ℕ} (same_queue Rx k) 1 0) is))
+returned_at Rx Tx c len w is has = rw is (omega (arith, held_before-returned Tx c w has, ap (λ k. cond {A = ℕ} (same_queue Tx k) 1 0) is))
+returned_at Rx Event c len w is has = rw is (omega (arith, held_before-returned Event c w has, ap (λ k. cond {A = ℕ} (same_queue Event k) 1 0) is))
+returned_at Tx Rx c len w is has = rw is (omega (arith, held_before-returned Rx c w has, ap (λ k. cond {A = ℕ} (same_queue Rx k) 1 0) is))
+returned_at Tx Tx c len w is has = rw is (omega (arith, length_push w.lists.tx.back _, held_before-returned Tx c w has, ap (λ k. cond {A = ℕ} (same_queue Tx k) 1 0) is))
+returned_at Tx Event c len w is has = rw is (omega (arith, held_before-returned Event c w has, ap (λ k. cond {A = ℕ} (same_queue Event k) 1 0) is))
+returned_at Event Rx c len w is has = rw is (omega (arith, held_before-returned Rx c w has, ap (λ k. cond {A = ℕ} (same_queue Rx k) 1 0) is))
+returned_at Event Tx c len w is has = rw is (omega (arith, held_before-returned Tx c w has, ap (λ k. cond {A = ℕ} (same_queue Tx k) 1 0) is))
+returned_at Event Event c len w is has = rw is (omega (arith, length_push w.lists.event.back _, held_before-returned Event c w has, ap (λ k. cond {A = ℕ} (same_queue Event k) 1 0) is))
+
+pub in_flight-returned : (q : Queue) (c : Chain) (len : ℕ) (w : Ends) → Contains (chains_of w.device.held) c → in_flight q (returned c len w) ≡ in_flight q w
+in_flight-returned q c len w has = returned_at c.queue q c len w refl has
+
+-- there is room for one more page of the queue that a chain comes back to
+pub room_to_return : (c : Chain) (w : Ends) → ((q : Queue) → in_flight q w ≤ w.lists.size) → Contains (chains_of w.device.held) c → length (queue_of c.queue w.lists).back < w.lists.size
+room_to_return c w within has = at_queue c.queue refl
+  where
+    at_queue : (q : Queue) → c.queue ≡ q → length (queue_of c.queue w.lists).back < w.lists.size
+    at_queue Rx is = rw is (omega (arith, within Rx, held_before-returned Rx c w has, ap (λ k. cond {A = ℕ} (same_queue Rx k) 1 0) is))
+    at_queue Tx is = rw is (omega (arith, within Tx, held_before-returned Tx c w has, ap (λ k. cond {A = ℕ} (same_queue Tx k) 1 0) is))
+    at_queue Event is = rw is (omega (arith, within Event, held_before-returned Event c w has, ap (λ k. cond {A = ℕ} (same_queue Event k) 1 0) is))
+
+-- each chain that is held is of one of the three queues
+length-held : (held : List Held) → length held ≡ held_of Rx held + held_of Tx held + held_of Event held
+length-held [] = refl
+length-held (h ∷ held) =
+    omega (arith, length-held held, one_of_three h.chain.queue, held_of-cons Rx h held, held_of-cons Tx h held, held_of-cons Event h held)
+  where
+    one_of_three : (q : Queue) → cond (same_queue Rx q) 1 0 + cond (same_queue Tx q) 1 0 + cond (same_queue Event q) 1 0 ≡ 1
+    one_of_three Rx = omega arith
+    one_of_three Tx = omega arith
+    one_of_three Event = omega arith
+
+-- there is room to hold one more chain while a page waits to be taken
+pub room_to_hold : (queue : Queue) (page : List ℕ) (pages : List (List ℕ)) (w : Ends) → ((q : Queue) → in_flight q w ≤ w.lists.size) → (queue_of queue w.lists).given ≡ page ∷ pages → length w.device.held < 3 * w.lists.size
+room_to_hold queue page pages w within e =
+    omega (arith, length-held w.device.held, within Rx, within Tx, within Event, waits queue e)
+  where
+    waits : (q : Queue) → (queue_of q w.lists).given ≡ page ∷ pages → held_of Rx w.device.held + held_of Tx w.device.held + held_of Event w.device.held < in_flight Rx w + in_flight Tx w + in_flight Event w
+    waits Rx g = omega (arith, ap length g)
+    waits Tx g = omega (arith, ap length g)
+    waits Event g = omega (arith, ap length g)
