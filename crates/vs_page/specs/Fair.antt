@@ -1,5 +1,5 @@
 -- A fair log, and the connections of a flow one after another.
-use Rattle.std.specs.Prelude.{ℕ, ◌+◌, ◌-◌, ◌==◌, ◌%◌, Bool, true, false, ◌&&◌, if◌then◌else◌, List, [], ◌∷◌, ◌++◌}
+use Rattle.std.specs.Prelude.{◌≡◌, ℕ, ◌+◌, ◌==◌, Bool, ◌&&◌, if◌then◌else◌, List, [], ◌∷◌, ◌++◌}
 use Rattle.vs_flow.specs.declared.flow.Flow.{Flow}
 use Rattle.vs_history.specs.declared.packet.Packet.{Packet}
 use Rattle.vs_history.specs.Packets.{is_request, is_rst, flags_receive, flags_send}
@@ -37,3 +37,7 @@ payload_put role f k log = payload_of (instance_from (side_of role f) k (puts (h
 
 abbrev pub payload_got : Role → Flow → ℕ → Log → List ℕ
 payload_got role f k log = payload_of (instance_from (peer (side_of role f)) k (gots (history_of role f log)))
+
+-- Bytes that begin by these.
+abbrev pub IsPrefixOf : List ℕ → List ℕ → Type 0
+IsPrefixOf front whole = (more : List ℕ) × (whole ≡ front ++ more)

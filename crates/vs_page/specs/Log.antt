@@ -1,14 +1,12 @@
 -- The log of one end of the rings: what it put and got, newest entry first.
-use Rattle.std.specs.Prelude.{◌≡◌, ℕ, ◌-◌, ◌==◌, Bool, true, false, ◌&&◌, not, if◌then◌else◌, List, [], ◌∷◌, ◌++◌}
+use Rattle.std.specs.Prelude.{◌≡◌, ℕ, Bool, true, false, if◌then◌else◌, List, [], ◌∷◌, ◌++◌}
 use Rattle.vs_header.specs.declared.Header.{Header}
 use Rattle.vs_flow.specs.Flow.{is_assigned, same_flow}
 use Rattle.vs_flow.specs.declared.flow.Flow.{Flow}
 use Rattle.vs_history.specs.declared.packet.Packet.{Packet}
-use Rattle.vs_history.specs.Packets.{is_request, is_rst}
 use Rattle.vs_history.specs.History.{History, Put, Got, Side, Asker, Answerer}
 use Rattle.vs_page.specs.declared.log.LogEntry.{LogEntry}
-use Rattle.vs_page.specs.declared.log.LogEntry.TheVariants.{PutPacket, GotPacket, PutEvent, GotEvent, Mark}
-use Rattle.vs_page.specs.declared.log.TheConstants.{HOST_CID}
+use Rattle.vs_page.specs.declared.log.LogEntry.TheVariants.{PutPacket, GotPacket, PutEvent, GotEvent}
 
 abbrev pub Log : Type 0
 Log = List LogEntry
@@ -83,3 +81,7 @@ pub record HasGotAll (mine other : Log) : Type 0 where
 -- The next packet that this end gets of those that the other put.
 abbrev pub IsNextPacket : Log → Log → Packet → Type 0
 IsNextPacket mine other p = (rest : List Packet) × (packets_put other ≡ rest ++ p ∷ packets_got mine)
+
+-- The next event that this end gets of those that the other put.
+abbrev pub IsNextEvent : Log → Log → ℕ → Type 0
+IsNextEvent mine other id = (rest : List ℕ) × (events_put other ≡ rest ++ id ∷ events_got mine)
