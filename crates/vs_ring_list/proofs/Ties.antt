@@ -253,3 +253,9 @@ pub tied-load : (cid : ℕ) (lists : Rings) (driver device : Log) → IsTied lis
 tied-load cid lists [] device tied = tied
 tied-load cid lists (entry ∷ driver) device tied =
     record { driver_fair = tied.driver_fair; device_fair = tied.device_fair; tx = tied.tx; rx = tied.rx; event = tied.event; no_event = tied.no_event }
+
+-- pages published one after another
+pub published_next : (queue : Queue) (page : List ℕ) (pages : List (List ℕ)) (driver : Log) → entries_published queue (page ∷ pages) driver ≡ entries_published queue pages (entries_published queue (page ∷ []) driver)
+published_next Rx page pages driver = refl
+published_next Tx page pages driver = refl
+published_next Event page pages driver = refl
