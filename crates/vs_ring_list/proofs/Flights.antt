@@ -5,7 +5,8 @@ use Rattle.std.proofs.lemmas.List.Sums.{sum_by-cons}
 use Rattle.vs_ring_port.specs.Chains.{Held, held_of, same_queue, same_chain, chains_of, with_bytes, without_held}
 use Rattle.vs_ring_port.specs.Counts.{Counts, at, one_more, without_queue}
 use Rattle.vs_ring_port.specs.EndLog.{pages_at}
-use Rattle.vs_ring_port.specs.Lists.{queue_of, chain_with, to_read}
+use Rattle.vs_page.specs.Log.{Log}
+use Rattle.vs_ring_port.specs.Lists.{after_return, queue_of, chain_with, to_read}
 use Rattle.vs_ring_port.specs.declared.device_ring.Chain.{Chain}
 use Rattle.vs_ring_port.specs.declared.queue.Queue.{Queue}
 use Rattle.vs_ring_port.specs.declared.queue.Queue.TheVariants.{Rx, Tx, Event}
@@ -119,28 +120,31 @@ held_before-returned q c w has =
     let f = first_held c w.device.held has in
     held_of-without_held q c w.device.held f.0 _ f.1
 
-returned_at : (of q : Queue) (c : Chain) (len : ℕ) (w : Ends) → c.queue ≡ of → Contains (chains_of w.device.held) c → in_flight q (returned c len w) ≡ in_flight q w
-returned_at Rx Rx c len w is has = rw is (omega (arith, length_push w.lists.rx.back _, held_before-returned Rx c w has, ap (λ k. cond {A = ℕ} (same_queue Rx k) 1 0) is))
-returned_at Rx Tx c len w is has = rw is (omega (arith, held_before-returned Tx c w has, ap (λ k. cond {A = ℕ} (same_queue Tx k) 1 0) is))
-returned_at Rx Event c len w is has = rw is (omega (arith, held_before-returned Event c w has, ap (λ k. cond {A = ℕ} (same_queue Event k) 1 0) is))
-returned_at Tx Rx c len w is has = rw is (omega (arith, held_before-returned Rx c w has, ap (λ k. cond {A = ℕ} (same_queue Rx k) 1 0) is))
-returned_at Tx Tx c len w is has = rw is (omega (arith, length_push w.lists.tx.back _, held_before-returned Tx c w has, ap (λ k. cond {A = ℕ} (same_queue Tx k) 1 0) is))
-returned_at Tx Event c len w is has = rw is (omega (arith, held_before-returned Event c w has, ap (λ k. cond {A = ℕ} (same_queue Event k) 1 0) is))
-returned_at Event Rx c len w is has = rw is (omega (arith, held_before-returned Rx c w has, ap (λ k. cond {A = ℕ} (same_queue Rx k) 1 0) is))
-returned_at Event Tx c len w is has = rw is (omega (arith, held_before-returned Tx c w has, ap (λ k. cond {A = ℕ} (same_queue Tx k) 1 0) is))
-returned_at Event Event c len w is has = rw is (omega (arith, length_push w.lists.event.back _, held_before-returned Event c w has, ap (λ k. cond {A = ℕ} (same_queue Event k) 1 0) is))
+returned_at : (of q : Queue) (page : List ℕ) (entries : Log) (held : List Held) (w : Ends) → held_of q held + cond (same_queue q of) 1 0 ≡ held_of q w.device.held
+    → in_flight q (record w { lists = after_return of page w.lists; device = record w.device { entries = entries; held = held } }) ≡ in_flight q w
+returned_at Rx Rx page entries held w less = omega (arith, less, length_push w.lists.rx.back page)
+returned_at Rx Tx page entries held w less = omega (arith, less)
+returned_at Rx Event page entries held w less = omega (arith, less)
+returned_at Tx Rx page entries held w less = omega (arith, less)
+returned_at Tx Tx page entries held w less = omega (arith, less, length_push w.lists.tx.back page)
+returned_at Tx Event page entries held w less = omega (arith, less)
+returned_at Event Rx page entries held w less = omega (arith, less)
+returned_at Event Tx page entries held w less = omega (arith, less)
+returned_at Event Event page entries held w less = omega (arith, less, length_push w.lists.event.back page)
 
 pub in_flight-returned : (q : Queue) (c : Chain) (len : ℕ) (w : Ends) → Contains (chains_of w.device.held) c → in_flight q (returned c len w) ≡ in_flight q w
-in_flight-returned q c len w has = returned_at c.queue q c len w refl has
+in_flight-returned q c len w has =
+    returned_at c.queue q _ (returned c len w).device.entries (without_held c w.device.held) w (held_before-returned q c w has)
 
 -- there is room for one more page of the queue that a chain comes back to
 pub room_to_return : (c : Chain) (w : Ends) → ((q : Queue) → in_flight q w ≤ w.lists.size) → Contains (chains_of w.device.held) c → length (queue_of c.queue w.lists).back < w.lists.size
-room_to_return c w within has = at_queue c.queue refl
+room_to_return c w within has =
+    omega (arith, within c.queue, held_before-returned c.queue c w has, one c.queue)
   where
-    at_queue : (q : Queue) → c.queue ≡ q → length (queue_of c.queue w.lists).back < w.lists.size
-    at_queue Rx is = rw is (omega (arith, within Rx, held_before-returned Rx c w has, ap (λ k. cond {A = ℕ} (same_queue Rx k) 1 0) is))
-    at_queue Tx is = rw is (omega (arith, within Tx, held_before-returned Tx c w has, ap (λ k. cond {A = ℕ} (same_queue Tx k) 1 0) is))
-    at_queue Event is = rw is (omega (arith, within Event, held_before-returned Event c w has, ap (λ k. cond {A = ℕ} (same_queue Event k) 1 0) is))
+    one : (q : Queue) → cond {A = ℕ} (same_queue q q) 1 0 ≡ 1
+    one Rx = refl
+    one Tx = refl
+    one Event = refl
 
 -- each chain that is held is of one of the three queues
 length-held : (held : List Held) → length held ≡ held_of Rx held + held_of Tx held + held_of Event held

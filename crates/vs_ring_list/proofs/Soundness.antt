@@ -11,7 +11,7 @@ use Rattle.vs_ring_port.specs.Counts.{Counts, at, one_more}
 use Rattle.vs_ring_port.specs.DeviceCalls.{CanReturn, IsWholePacket}
 use Rattle.vs_ring_port.specs.DriverCalls.{CanPublish, MayPublish}
 use Rattle.vs_ring_port.specs.EndLog.{EndLog, pages_at, log_published, entries_returned, entries_taken}
-use Rattle.vs_ring_port.specs.Lists.{Rings, queue_of, with_queue, room_in, chain_with, to_read}
+use Rattle.vs_ring_port.specs.Lists.{Rings, after_return, queue_of, with_queue, room_in, chain_with, to_read}
 use Rattle.vs_ring_port.specs.declared.device_ring.Chain.{Chain}
 use Rattle.vs_ring_port.specs.declared.queue.Queue.{Queue}
 use Rattle.vs_ring_port.specs.declared.queue.Queue.TheVariants.{Rx, Tx, Event}
@@ -83,7 +83,7 @@ sound-published queue w sound can = at_queue queue (still_within (published queu
       nonzero = sound.nonzero;
       limit = sound.limit;
       within = within;
-      staged = tt;
+      staged = λ k d h. absurd (omega (arith, h));
       given = All-append HasHeader w.lists.tx.given w.driver.staged.tx sound.given sound.staged;
       readable = sound.readable;
       writable = sound.writable;
@@ -207,15 +207,16 @@ fair-returned c len w sound can = at_queue c.queue (can.whole refl w.device refl
 
 pub sound-returned : (c : Chain) (len : ℕ) (w : Ends) → IsSound w → Contains (chains_of w.device.held) c → CanReturn c len (contents_with w.device w) → IsSound (returned c len w)
 sound-returned c len w sound has can =
+    let page = take len (bytes_in c w.device.held) in
     record {
-      nonzero = omega (arith, sound.nonzero, same_size c.queue refl);
-      limit = omega (arith, sound.limit, same_size c.queue refl);
-      within = λ q. omega (arith, sound.within q, in_flight-returned q c len w has, same_size c.queue refl);
+      nonzero = omega (arith, sound.nonzero, same_size c.queue page);
+      limit = omega (arith, sound.limit, same_size c.queue page);
+      within = λ q. omega (arith, sound.within q, in_flight-returned q c len w has, same_size c.queue page);
       staged = sound.staged;
-      given = subst (λ (pages : List (List ℕ)). All HasHeader pages) (sym (same_given c.queue refl)) sound.given;
+      given = subst (λ (pages : List (List ℕ)). All HasHeader pages) (sym (same_given c.queue page)) sound.given;
       readable = readable;
       writable = writable;
-      tied = tied-return w.lists w.driver.entries w.device.entries sound.tied c.queue (take len (bytes_in c w.device.held)) (fair-returned c len w sound can);
+      tied = tied-return w.lists w.driver.entries w.device.entries sound.tied c.queue page (fair-returned c len w sound can);
     }
   where
     removed : without_held c w.device.held ≡ remove w.device.held (first_held c w.device.held has).0
@@ -227,15 +228,15 @@ sound-returned c len w sound has can =
     writable : All IsWritable (without_held c w.device.held)
     writable = rw removed (All-remove IsWritable w.device.held (first_held c w.device.held has).0 sound.writable)
 
-    same_size : (q : Queue) → c.queue ≡ q → (returned c len w).lists.size ≡ w.lists.size
-    same_size Rx is = rw is refl
-    same_size Tx is = rw is refl
-    same_size Event is = rw is refl
+    same_size : (q : Queue) (page : List ℕ) → (after_return q page w.lists).size ≡ w.lists.size
+    same_size Rx page = refl
+    same_size Tx page = refl
+    same_size Event page = refl
 
-    same_given : (q : Queue) → c.queue ≡ q → (returned c len w).lists.tx.given ≡ w.lists.tx.given
-    same_given Rx is = rw is refl
-    same_given Tx is = rw is refl
-    same_given Event is = rw is refl
+    same_given : (q : Queue) (page : List ℕ) → (after_return q page w.lists).tx.given ≡ w.lists.tx.given
+    same_given Rx page = refl
+    same_given Tx page = refl
+    same_given Event page = refl
 
 -- what may be read of a chain that is held lies in its bytes, and what may be written in its page
 pub readable_held : (c : Chain) (w : Ends) → IsSound w → Contains (chains_of w.device.held) c → c.readable ≤ length (bytes_in c w.device.held)
