@@ -1,5 +1,5 @@
 -- How a change of the parts of list rings is seen as a change of both ends.
-use Rattle.std.proofs.Common.{◌≡◌, ℕ, ◌+◌, List, Some, Contains, take, [], ◌∷◌, ◌++◌, length, refl, sym, ap, ◌∙◌, subst, arith}
+use Rattle.std.proofs.Common.{◌≡◌, ℕ, ◌+◌, List, Option, Some, Contains, take, [], ◌∷◌, ◌++◌, length, refl, sym, ap, ◌∙◌, subst, arith}
 use Rattle.vs_ring_port.specs.Chains.{Held, bytes_in, chains_of, held_of, without_held}
 use Rattle.vs_ring_port.specs.EndLog.{entries_published, entries_reaped, entries_taken, entries_returned}
 use Rattle.vs_ring_port.specs.Lists.{Lists, after_return, queue_of, next_back}
@@ -59,29 +59,35 @@ seen-published Rx r = refl
 seen-published Tx r = refl
 seen-published Event r = refl
 
-abbrev pub reaped_in : Queue → Inside → Inside
-reaped_in queue r =
-    record r { queues = with_queue_in queue (reaped_one (queue_in queue r.queues)) r.queues; journal = record r.journal { driver = entries_reaped queue (next_back queue (ends_in r).lists) r.journal.driver } }
+abbrev pub reaped_in : Queue → Option (List ℕ) → Inside → Inside
+reaped_in queue page r =
+    record r { queues = with_queue_in queue (reaped_one (queue_in queue r.queues)) r.queues; journal = record r.journal { driver = entries_reaped queue page r.journal.driver } }
 
-pub seen-reaped : (queue : Queue) (r : Inside) → ends_in (reaped_in queue r) ≡ reaped queue (ends_in r)
-seen-reaped Rx r = refl
-seen-reaped Tx r = refl
-seen-reaped Event r = refl
+pub seen-reaped : (queue : Queue) (page : Option (List ℕ)) (r : Inside) → page ≡ next_back queue (ends_in r).lists → ends_in (reaped_in queue page r) ≡ reaped queue (ends_in r)
+seen-reaped queue page r is = ap (λ p. ends_in (reaped_in queue p r)) is ∙ seen queue
+  where
+    seen : (q : Queue) → ends_in (reaped_in q (next_back q (ends_in r).lists) r) ≡ reaped q (ends_in r)
+    seen Rx = refl
+    seen Tx = refl
+    seen Event = refl
 
-abbrev pub taken_in : Queue → List ℕ → Inside → Inside
-taken_in queue page r =
+abbrev pub taken_in : Queue → List ℕ → Held → Inside → Inside
+taken_in queue page h r =
     let q = queue_in queue r.queues in
     record r {
       queues = with_queue_in queue (taken_one q) r.queues;
-      held = record r.held { chains = held_by queue q.lists.place page ∷ r.held.chains };
+      held = record r.held { chains = h ∷ r.held.chains };
       journal = record r.journal { device = entries_taken queue page r.journal.device };
     }
 
-pub seen-taken : (queue : Queue) (page : List ℕ) (pages : List (List ℕ)) (r : Inside) → IsInOrder r → (queue_in queue r.queues).lists.given ≡ page ∷ pages
-    → ends_in (taken_in queue page r) ≡ taken queue (ends_in r)
-seen-taken Rx page pages r order e = rw (e, order.rx_size) refl
-seen-taken Tx page pages r order e = rw (e, order.tx_size) refl
-seen-taken Event page pages r order e = rw (e, order.event_size) refl
+pub seen-taken : (queue : Queue) (page : List ℕ) (pages : List (List ℕ)) (h : Held) (r : Inside) → IsInOrder r → (queue_of queue (ends_in r).lists).given ≡ page ∷ pages
+    → h ≡ held_by queue (queue_of queue (ends_in r).lists).place page → ends_in (taken_in queue page h r) ≡ taken queue (ends_in r)
+seen-taken queue page pages h r order e is = ap (λ k. ends_in (taken_in queue page k r)) is ∙ seen queue e
+  where
+    seen : (q : Queue) → (queue_of q (ends_in r).lists).given ≡ page ∷ pages → ends_in (taken_in q page (held_by q (queue_of q (ends_in r).lists).place page) r) ≡ taken q (ends_in r)
+    seen Rx e = rw (e, order.rx_size) refl
+    seen Tx e = rw (e, order.tx_size) refl
+    seen Event e = rw (e, order.event_size) refl
 
 abbrev pub returned_in : Chain → List ℕ → Inside → Inside
 returned_in c page r =
