@@ -1,17 +1,18 @@
-use Rattle.std.proofs.Common.{rules, ◌≡◌, ℕ, ◌+◌, ◌-◌, ◌*◌, ◌<◌, ◌≤◌, length, ◌/◌, ◌%◌, Bool, true, false, nat_eq, nat_lt, List, [], ◌∷◌, ◌++◌, slice_index_or, slice_set, bit_and, bit_or, Fits, w8, w32, w64, Bor, MutBor}
-use Rattle.vs_ring_port.specs.Lists.{chain_with, to_read}
-use Rattle.vs_ring_port.specs.Chains.{chains_of}
-use Rattle.vs_ring_list.specs.Ends.{contents_with}
+use Rattle.std.proofs.Common.{◌≤◌, ◌+◌, ap, length, arith}
+use Rattle.vs_ring_list.specs.Ends.{Ends, in_flight}
+use Rattle.vs_ring_list.specs.View.{ends_in}
+use Rattle.vs_ring_list.proofs.Views.{counted}
 use Rattle.vs_ring_list.proofs.list_rings.ListRingsDeviceRing.given.Goals as goal
 
--- src/list_rings.rt:196:10
+-- those given and held are in flight
+within : (c : goal.After-count) → c.given.result + c.count.result ≤ c.self.inside.size
+within c = omega (arith, c.given.ensures, c.count.ensures, counted c.args.queue c.self.inside, c.self.invariant.sound.within c.args.queue)
+
 pub overflow_add-result : goal.overflow_add-result
-overflow_add-result c = ?
+overflow_add-result c = omega (arith, within c, c.self.invariant.sound.limit)
 
--- src/list_rings.rt:196:9
 pub overflow_cast-result : goal.overflow_cast-result
-overflow_cast-result c = ?
+overflow_cast-result c = omega (arith, within c, c.self.invariant.sound.limit)
 
--- src/list_rings.rt:195:5
 pub returns-clause-within : goal.returns-clause-within
-returns-clause-within c = ?
+returns-clause-within c = omega (arith, within c, ap (λ (w : Ends). w.lists.size) c.self.view_is)

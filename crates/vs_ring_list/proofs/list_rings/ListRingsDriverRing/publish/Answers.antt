@@ -11,8 +11,8 @@ publish-requires c =
 
 pub invariant_of-self : goal.invariant_of-self
 invariant_of-self c =
-    rw (c.publish.ensures.queues, c.publish.ensures.journal) (order-published c.self.inside c.self.invariant c.args.queue c.args.self.now c.self.view_is c.requires)
+    rw (c.publish.ensures.queues, c.publish.ensures.journal) (order-published c.self.inside c.self.invariant c.args.queue c.args.self.now c.self.view_is c.requires.fair)
 
 pub returns-clause-contents : goal.returns-clause-contents
 returns-clause-contents c =
-    rw (c.publish.ensures.queues, c.publish.ensures.journal) (allows-published c.self.inside c.self.invariant c.args.queue c.args.self.now c.self.view_is c.requires)
+    rw (c.publish.ensures.queues, c.publish.ensures.journal) (allows-published c.self.inside c.self.invariant c.args.queue c.args.self.now c.self.view_is c.requires.fair)
