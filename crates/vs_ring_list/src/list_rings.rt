@@ -1,6 +1,10 @@
 //! Rings that are plain lists in one thread.
-ghost use Rattle.std.specs.Prelude.{◌≡◌};
+ghost use Rattle.std.specs.Prelude.{◌≡◌, ◌++◌};
+ghost use Rattle.vs_page.specs.Fair.{IsFairLog};
+ghost use Rattle.vs_page.specs.Held.{event_held, packet_held};
+ghost use Rattle.vs_page.specs.Log.{Driver, Device, HasGotAll, events_got, events_put, packets_got, packets_put};
 ghost use Rattle.vs_ring_port.specs.Lists.{chain_with, to_read};
+ghost use Rattle.vs_ring_list.specs.Sound.{held_in};
 
 use crate::held_chains::HeldChains;
 use crate::journal::Journal;
@@ -57,6 +61,20 @@ impl ListRings {
             journal: Journal::new(alloc)?,
         })
     }
+}
+
+/// What is true of list rings between any two calls. Both logs are fair, and what each end got is what the other put first: packets on tx
+/// and rx, ids on event. What was put and not got is what the pages in flight hold: those given on tx, those returned on rx and on event.
+pub fn laws_of_list_rings(rings: &ListRings)
+    ensures driver_fair { IsFairLog Driver rings.now.driver.entries }
+    ensures device_fair { IsFairLog Device rings.now.device.entries }
+    ensures driver_got { HasGotAll rings.now.driver.entries rings.now.device.entries }
+    ensures device_got { HasGotAll rings.now.device.entries rings.now.driver.entries }
+    ensures tx { packets_put rings.now.driver.entries ≡ held_in packet_held rings.now.lists.tx.given ++ packets_got rings.now.device.entries }
+    ensures rx { packets_put rings.now.device.entries ≡ held_in packet_held rings.now.lists.rx.back ++ packets_got rings.now.driver.entries }
+    ensures event { events_put rings.now.device.entries ≡ held_in event_held rings.now.lists.event.back ++ events_got rings.now.driver.entries }
+{
+    let _size = rings.size;
 }
 
 impl DriverRing for ListRings {
