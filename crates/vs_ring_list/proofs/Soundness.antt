@@ -15,7 +15,7 @@ use Rattle.vs_ring_port.specs.Lists.{Rings, after_return, queue_of, with_queue, 
 use Rattle.vs_ring_port.specs.declared.device_ring.Chain.{Chain}
 use Rattle.vs_ring_port.specs.declared.queue.Queue.{Queue}
 use Rattle.vs_ring_port.specs.declared.queue.Queue.TheVariants.{Rx, Tx, Event}
-use Rattle.vs_ring_list.specs.Ends.{Ends, in_flight, flight_of, contents_with}
+use Rattle.vs_ring_list.specs.Ends.{Ends, in_flight, flight_of, driver_contents, device_contents}
 use Rattle.vs_ring_list.specs.Sound.{IsSound, IsTied, HasHeader, IsReadable, IsWritable}
 use Rattle.vs_ring_list.proofs.Held.{first_held, same_chain_is, bytes_in_first, with_bytes_first, without_held_first}
 use Rattle.vs_ring_list.proofs.Flights.{at-flight_of, flight_of-staged, flight_of-published, flight_before-reaped, flight_of-none_reaped, flight_of-taken, held_by, in_flight-written, in_flight-returned}
@@ -68,12 +68,12 @@ sound-staged queue page w sound room header = record {
     headers Event h = sound.staged
 
 -- those staged are published
-pub fair-published : (queue : Queue) (w : Ends) → IsSound w → CanPublish queue (contents_with w.driver w) → IsFairLog Driver (published queue w).driver.entries
+pub fair-published : (queue : Queue) (w : Ends) → IsSound w → CanPublish queue (driver_contents w) → IsFairLog Driver (published queue w).driver.entries
 fair-published Rx w sound can = sound.tied.driver_fair
 fair-published Tx w sound can = (can refl w.driver refl).1
 fair-published Event w sound can = sound.tied.driver_fair
 
-pub sound-published : (queue : Queue) (w : Ends) → IsSound w → CanPublish queue (contents_with w.driver w) → IsSound (published queue w)
+pub sound-published : (queue : Queue) (w : Ends) → IsSound w → CanPublish queue (driver_contents w) → IsSound (published queue w)
 sound-published queue w sound can = at_queue queue (still_within (published queue w) w (flight_of-published queue w) sound.within)
     (tied-publish queue (pages_at queue w.driver.staged) w.lists w.driver.entries w.device.entries sound.tied (fair-published queue w sound can))
   where
@@ -197,7 +197,7 @@ sound-written c place bytes w sound has no_gap =
 All-remove : (P : Held → Type 0) (held : List Held) (i : ℕ) → All P held → All P (remove held i)
 All-remove P held i h = All-append P (take i held) (drop (suc i) held) (All-take P i held h) (All-drop P (suc i) held h)
 
-pub fair-returned : (c : Chain) (len : ℕ) (w : Ends) → IsSound w → CanReturn c len (contents_with w.device w) → IsFairLog Device (returned c len w).device.entries
+pub fair-returned : (c : Chain) (len : ℕ) (w : Ends) → IsSound w → CanReturn c len (device_contents w) → IsFairLog Device (returned c len w).device.entries
 fair-returned c len w sound can = at_queue c.queue (can.whole refl w.device refl)
   where
     at_queue : (q : Queue) → IsWholePacket q (take len (bytes_in c w.device.held)) w.device → IsFairLog Device (entries_returned q (take len (bytes_in c w.device.held)) w.device.entries)
@@ -205,7 +205,7 @@ fair-returned c len w sound can = at_queue c.queue (can.whole refl w.device refl
     at_queue Tx whole = sound.tied.device_fair
     at_queue Event whole = fair-return_event w.lists w.driver.entries w.device.entries sound.tied (take len (bytes_in c w.device.held))
 
-pub sound-returned : (c : Chain) (len : ℕ) (w : Ends) → IsSound w → Contains (chains_of w.device.held) c → CanReturn c len (contents_with w.device w) → IsSound (returned c len w)
+pub sound-returned : (c : Chain) (len : ℕ) (w : Ends) → IsSound w → Contains (chains_of w.device.held) c → CanReturn c len (device_contents w) → IsSound (returned c len w)
 sound-returned c len w sound has can =
     let page = take len (bytes_in c w.device.held) in
     record {

@@ -32,6 +32,9 @@ flight_of w = record { rx = in_flight Rx w; tx = in_flight Tx w; event = in_flig
 abbrev pub staged_of : Ends → Counts
 staged_of w = record { rx = length w.driver.staged.rx; tx = length w.driver.staged.tx; event = length w.driver.staged.event }
 
--- What list rings expose to an end with this log. Both ends are honest.
-abbrev pub contents_with : EndLog → Ends → RingContents
-contents_with log w = record { lists = Some w.lists; log = Some log; plain = None; honest = true }
+-- What list rings expose to each end. Both are honest.
+abbrev pub driver_contents : Ends → RingContents
+driver_contents w = record { lists = Some w.lists; log = Some w.driver; other = Some w.device; plain = None; honest = true }
+
+abbrev pub device_contents : Ends → RingContents
+device_contents w = record { lists = Some w.lists; log = Some w.device; other = Some w.driver; plain = None; honest = true }

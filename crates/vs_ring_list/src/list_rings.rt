@@ -78,7 +78,7 @@ pub fn laws_of_list_rings(rings: &ListRings)
 }
 
 impl DriverRing for ListRings {
-    ghost use Rattle.vs_ring_list.specs.Ends.{contents_with, flight_of, staged_of};
+    ghost use Rattle.vs_ring_list.specs.Ends.{driver_contents, flight_of, staged_of};
 
     ghost size = { λ r. r.lists.size };
 
@@ -86,7 +86,7 @@ impl DriverRing for ListRings {
 
     ghost staged = { staged_of };
 
-    ghost contents = { λ r. contents_with r.driver r };
+    ghost contents = { driver_contents };
 
     fn size(&self) -> u16 {
         self.size
@@ -162,13 +162,13 @@ fn twin(chain: &Chain) -> Chain
 
 impl DeviceRing for ListRings {
     ghost use Rattle.vs_ring_port.specs.Chains.{chains_of};
-    ghost use Rattle.vs_ring_list.specs.Ends.{contents_with};
+    ghost use Rattle.vs_ring_list.specs.Ends.{device_contents};
 
     ghost size = { λ r. r.lists.size };
 
     ghost held = { λ r. chains_of r.device.held };
 
-    ghost contents = { λ r. contents_with r.device r };
+    ghost contents = { device_contents };
 
     fn size(&self) -> u16 {
         self.size
