@@ -8,4 +8,4 @@ mod list_queue;
 pub mod list_rings;
 mod queues;
 
-pub use list_rings::{ListRings, laws_of_list_rings};
+pub use list_rings::{ListRings, law_of_answers, laws_of_list_rings};

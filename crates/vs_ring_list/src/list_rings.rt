@@ -3,7 +3,11 @@ ghost use Rattle.std.specs.Prelude.{◌≡◌, ◌++◌};
 ghost use Rattle.vs_page.specs.Fair.{IsFairLog};
 ghost use Rattle.vs_page.specs.Held.{event_held, packet_held};
 ghost use Rattle.vs_page.specs.Log.{Driver, Device, HasGotAll, events_got, events_put, packets_got, packets_put};
+ghost use Rattle.vs_ring_port.specs.Contents.{DeviceAnswer, DeviceCall};
+ghost use Rattle.vs_ring_port.specs.DeviceCalls.{DeviceAllows, device_answer};
+ghost use Rattle.vs_ring_port.specs.DriverCalls.{DriverAllows, DriverAnswer, DriverCall, driver_answer};
 ghost use Rattle.vs_ring_port.specs.Lists.{chain_with, to_read};
+ghost use Rattle.vs_ring_list.specs.Ends.{Ends, device_contents, driver_contents};
 ghost use Rattle.vs_ring_list.specs.Sound.{held_in};
 
 use crate::held_chains::HeldChains;
@@ -76,6 +80,15 @@ pub fn laws_of_list_rings(rings: &ListRings)
 {
     let _size = rings.size;
 }
+
+/// Over list rings each call has one answer, and leaves both ends in one state: the plain lists of pages in flight and the two logs say
+/// which. No answer is left open.
+pub fn law_of_answers()
+    ensures driver { (call : DriverCall) (answer : DriverAnswer call) (old new : Ends) → DriverAllows call answer (driver_contents old) (driver_contents new)
+        → (driver_answer call (old.lists, old.driver) ≡ (answer, (new.lists, new.driver))) × (new.device ≡ old.device) }
+    ensures device { (call : DeviceCall) (answer : DeviceAnswer call) (old new : Ends) → DeviceAllows call answer (device_contents old) (device_contents new)
+        → (device_answer call (old.lists, old.device) ≡ (answer, (new.lists, new.device))) × (new.driver ≡ old.driver) }
+{}
 
 impl DriverRing for ListRings {
     ghost use Rattle.vs_ring_list.specs.Ends.{driver_contents, flight_of, staged_of};
