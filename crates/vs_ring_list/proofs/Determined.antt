@@ -1,11 +1,10 @@
 -- Over list rings each call has one answer, and both ends after it are determined.
-use Rattle.std.proofs.Common.{◌≡◌, ℕ, ◌+◌, List, length, take, drop, Option, Some, refl, sym, ap, ap₂, ◌∙◌}
-use Rattle.vs_ring_port.specs.Chains.{bytes_in, held_of}
+use Rattle.std.proofs.Common.{◌≡◌, ◌+◌, length, take, sym, ap, ap₂, ◌∙◌}
 use Rattle.vs_ring_port.specs.Contents.{DeviceCall, DeviceAnswer, Take, Read, Write, Return, Given, PublishCid}
 use Rattle.vs_ring_port.specs.DeviceCalls.{DeviceAllows, DeviceMoves, device_answer}
 use Rattle.vs_ring_port.specs.DriverCalls.{DriverCall, DriverAnswer, Stage, Publish, Reap, LoadCid, DriverAllows, DriverMoves, driver_answer}
-use Rattle.vs_ring_port.specs.EndLog.{EndLog, pages_at, log_staged, log_published, log_reaped, log_loaded, log_taken, log_returned}
-use Rattle.vs_ring_port.specs.Lists.{Rings, after_publish, after_reap, after_take, after_return, next_back, next_given, next_at, queue_of}
+use Rattle.vs_ring_port.specs.EndLog.{EndLog, log_reaped, log_loaded, log_taken}
+use Rattle.vs_ring_port.specs.Lists.{Rings, after_publish, after_reap, after_take, after_return, next_at, queue_of}
 use Rattle.vs_ring_list.specs.Ends.{Ends, driver_contents, device_contents}
 
 record IsMoved (P : Rings → Type 0) (f : Rings → Rings) (Q : EndLog → Type 0) (g : EndLog → EndLog) (lists : Rings) (log other : EndLog) (lists' : Rings) (log' other' : EndLog) : Type 0 where

@@ -1,18 +1,18 @@
 -- How many pages are in flight after each call.
-use Rattle.std.proofs.Common.{◌≡◌, ℕ, zero, suc, ◌+◌, ◌*◌, ◌<◌, ◌≤◌, true, false, cond, List, [], ◌∷◌, ◌++◌, length, Contains, Option, Some, None, refl, sym, ap, ap₂, ◌∙◌, subst, arith, length-append}
+use Rattle.std.proofs.Common.{◌≡◌, ℕ, zero, suc, ◌+◌, ◌*◌, ◌<◌, ◌≤◌, true, false, cond, List, [], ◌∷◌, length, Contains, refl, sym, ap, ap₂, ◌∙◌, arith, length-append}
 use Rattle.std.proofs.lemmas.List.{length_push}
 use Rattle.std.proofs.lemmas.List.Sums.{sum_by-cons}
 use Rattle.vs_ring_port.specs.Chains.{Held, held_of, same_queue, same_chain, chains_of, with_bytes, without_held}
-use Rattle.vs_ring_port.specs.Counts.{Counts, at, one_more, without_queue}
+use Rattle.vs_ring_port.specs.Counts.{Counts, at, one_more}
 use Rattle.vs_ring_port.specs.EndLog.{pages_at}
 use Rattle.vs_page.specs.Log.{Log}
 use Rattle.vs_ring_port.specs.Lists.{after_return, queue_of, chain_with, to_read}
 use Rattle.vs_ring_port.specs.declared.device_ring.Chain.{Chain}
 use Rattle.vs_ring_port.specs.declared.queue.Queue.{Queue}
 use Rattle.vs_ring_port.specs.declared.queue.Queue.TheVariants.{Rx, Tx, Event}
-use Rattle.vs_ring_list.specs.Ends.{Ends, in_flight, flight_of, staged_of}
+use Rattle.vs_ring_list.specs.Ends.{Ends, in_flight, flight_of}
 use Rattle.vs_ring_list.proofs.Held.{IsFirst, next_first, first_held, same_chain_is}
-use Rattle.vs_ring_list.proofs.Steps.{staged, published, reaped, loaded, taken, written, returned, reset}
+use Rattle.vs_ring_list.proofs.Steps.{published, reaped, taken, written, returned}
 
 same_counts : (f g : Counts) → f.rx ≡ g.rx → f.tx ≡ g.tx → f.event ≡ g.event → f ≡ g
 same_counts f g rx tx event =
@@ -24,36 +24,11 @@ at-flight_of Rx w = refl
 at-flight_of Tx w = refl
 at-flight_of Event w = refl
 
-pub at-staged_of : (queue : Queue) (w : Ends) → at queue (staged_of w) ≡ length (pages_at queue w.driver.staged)
-at-staged_of Rx w = refl
-at-staged_of Tx w = refl
-at-staged_of Event w = refl
-
--- staged pages are in flight
-pub staged_within : (queue : Queue) (w : Ends) → length (pages_at queue w.driver.staged) + length (queue_of queue w.lists).back ≤ in_flight queue w
-staged_within queue w = omega arith
-
--- a page is staged
-pub flight_of-staged : (queue : Queue) (page : List ℕ) (w : Ends) → flight_of (staged queue page w) ≡ one_more queue (flight_of w)
-flight_of-staged Rx page w = same_counts _ _ (omega (arith, length_push w.driver.staged.rx page)) refl refl
-flight_of-staged Tx page w = same_counts _ _ refl (omega (arith, length_push w.driver.staged.tx page)) refl
-flight_of-staged Event page w = same_counts _ _ refl refl (omega (arith, length_push w.driver.staged.event page))
-
-pub staged_of-staged : (queue : Queue) (page : List ℕ) (w : Ends) → staged_of (staged queue page w) ≡ one_more queue (staged_of w)
-staged_of-staged Rx page w = same_counts _ _ (length_push w.driver.staged.rx page) refl refl
-staged_of-staged Tx page w = same_counts _ _ refl (length_push w.driver.staged.tx page) refl
-staged_of-staged Event page w = same_counts _ _ refl refl (length_push w.driver.staged.event page)
-
 -- those staged are published
 pub flight_of-published : (queue : Queue) (w : Ends) → flight_of (published queue w) ≡ flight_of w
 flight_of-published Rx w = same_counts _ _ (omega (arith, length-append w.lists.rx.given w.driver.staged.rx)) refl refl
 flight_of-published Tx w = same_counts _ _ refl (omega (arith, length-append w.lists.tx.given w.driver.staged.tx)) refl
 flight_of-published Event w = same_counts _ _ refl refl (omega (arith, length-append w.lists.event.given w.driver.staged.event))
-
-pub staged_of-published : (queue : Queue) (w : Ends) → staged_of (published queue w) ≡ without_queue queue (staged_of w)
-staged_of-published Rx w = refl
-staged_of-published Tx w = refl
-staged_of-published Event w = refl
 
 -- a page is got back, or none
 pub flight_before-reaped : (queue : Queue) (page : List ℕ) (pages : List (List ℕ)) (w : Ends) → (queue_of queue w.lists).back ≡ page ∷ pages → flight_of w ≡ one_more queue (flight_of (reaped queue w))
@@ -65,11 +40,6 @@ pub flight_of-none_reaped : (queue : Queue) (w : Ends) → (queue_of queue w.lis
 flight_of-none_reaped Rx w e = same_counts _ _ (rw e (omega arith)) refl refl
 flight_of-none_reaped Tx w e = same_counts _ _ refl (rw e (omega arith)) refl
 flight_of-none_reaped Event w e = same_counts _ _ refl refl (rw e (omega arith))
-
-pub staged_of-reaped : (queue : Queue) (w : Ends) → staged_of (reaped queue w) ≡ staged_of w
-staged_of-reaped Rx w = refl
-staged_of-reaped Tx w = refl
-staged_of-reaped Event w = refl
 
 -- one more chain that is held
 pub held_of-cons : (q : Queue) (h : Held) (held : List Held) → held_of q (h ∷ held) ≡ cond (same_queue q h.chain.queue) 1 0 + held_of q held

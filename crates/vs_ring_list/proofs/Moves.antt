@@ -1,56 +1,33 @@
 -- Each call over the parts of list rings: they stay in order, and the call is one that each end's contract allows.
-use Rattle.std.proofs.Common.{◌≡◌, ℕ, ◌+◌, ◌%◌, ◌<◌, ◌≤◌, List, [], ◌∷◌, length, take, Option, Some, None, Contains, refl, sym, ap, ap₂, ◌∙◌, subst, arith}
+use Rattle.std.proofs.Common.{◌≡◌, ℕ, ◌≤◌, List, ◌∷◌, length, take, Option, Some, Contains, refl, sym, ap, ◌∙◌, subst}
 use Rattle.std.specs.Option.{ForSome}
 use Rattle.vs_page.specs.Fair.{IsFairLog}
 use Rattle.vs_page.specs.Log.{Role, Driver, Device}
 use Rattle.vs_page.specs.Overwriting.{overwritten}
 use Rattle.vs_ring_port.specs.Chains.{Held, bytes_in, chains_of, with_bytes, without_held}
-use Rattle.vs_ring_port.specs.Contents.{Take, Write, Return, PublishCid}
-use Rattle.vs_ring_port.specs.Counts.{at}
-use Rattle.vs_ring_port.specs.DeviceCalls.{CanReturn, DeviceAllows, LeavesNoGap}
-use Rattle.vs_ring_port.specs.DriverCalls.{Stage, Publish, Reap, LoadCid, CanPublish, DriverAllows}
+use Rattle.vs_ring_port.specs.Contents.{Take, Return}
+use Rattle.vs_ring_port.specs.DeviceCalls.{CanReturn, DeviceAllows}
+use Rattle.vs_ring_port.specs.DriverCalls.{Publish, Reap, LoadCid, CanPublish, DriverAllows}
 use Rattle.vs_ring_port.specs.EndLog.{EndLog, pages_at, entries_marked, entries_published, entries_reaped, entries_taken, entries_returned}
-use Rattle.vs_ring_port.specs.Lists.{chain_with, next_at, next_back, next_given, queue_of}
+use Rattle.vs_ring_port.specs.Lists.{next_at, next_back, next_given, queue_of}
 use Rattle.vs_ring_port.specs.declared.device_ring.Chain.{Chain}
 use Rattle.vs_ring_port.specs.declared.device_ring.Next.TheVariants as next
 use Rattle.vs_ring_port.specs.declared.queue.Queue.{Queue}
-use Rattle.vs_ring_port.specs.declared.queue.Queue.TheVariants.{Tx}
 use Rattle.vs_ring_list.specs.declared.list_rings.ListRings.TheInside.{Inside}
-use Rattle.vs_ring_list.specs.Ends.{Ends, driver_contents, device_contents, flight_of}
-use Rattle.vs_ring_list.specs.Parts.{published_all, reaped_one, returned_more, staged_more, taken_one}
+use Rattle.vs_ring_list.specs.Ends.{Ends, driver_contents, device_contents}
+use Rattle.vs_ring_list.specs.Parts.{published_all, reaped_one, returned_more, taken_one}
 use Rattle.vs_ring_list.specs.Queues.{queue_in}
-use Rattle.vs_ring_list.specs.Sound.{IsSound, HasHeader}
+use Rattle.vs_ring_list.specs.Sound.{IsSound}
 use Rattle.vs_ring_list.specs.View.{ends_in, IsInOrder}
 use Rattle.vs_ring_list.proofs.Flights.{held_by}
-use Rattle.vs_ring_list.proofs.Soundness.{fair-published, fair-returned, sound-loaded, sound-published, sound-reaped, sound-returned, sound-staged, sound-taken, sound-written}
-use Rattle.vs_ring_list.proofs.Steps.{loaded, published, reaped, returned, staged, taken, written}
-use Rattle.vs_ring_list.proofs.Views.{order-changed, published_in, reaped_in, returned_in, same_size_of, seen-published, seen-reaped, seen-returned, seen-staged, seen-taken, staged_in, taken_in}
+use Rattle.vs_ring_list.proofs.Soundness.{fair-published, fair-returned, sound-loaded, sound-published, sound-reaped, sound-returned, sound-taken, sound-written}
+use Rattle.vs_ring_list.proofs.Steps.{loaded, published, reaped, returned, taken}
+use Rattle.vs_ring_list.proofs.Views.{order-changed, published_in, reaped_in, returned_in, same_size_of, seen-published, seen-reaped, seen-returned, seen-taken, taken_in}
 
 sound_log : (role : Role) (log : EndLog) → IsFairLog role log.entries → ForSome (Some log) (λ l. IsFairLog role l.entries)
 sound_log role log fair l e = let same : log ≡ l = cc in subst (λ (k : EndLog). IsFairLog role k.entries) same fair
 
 module _ (r : Inside) (order : IsInOrder r) where
-  -- a page is staged
-  pub order-staged : (queue : Queue) (page : List ℕ) → at queue (flight_of (ends_in r)) < r.size → (queue ≡ Tx → HasHeader page) → IsInOrder (staged_in queue page r)
-  order-staged queue page room header =
-      order-changed queue (staged_more page (queue_in queue r.queues)) r.held r.journal r order (same_size_of queue r order) refl
-      (subst (λ (w : Ends). IsSound w) (sym (seen-staged queue page r)) (sound-staged queue page (ends_in r) order.sound room header))
-
-  pub allows-staged : (queue : Queue) (page : List ℕ) (now : Ends) → ends_in r ≡ now
-      → let new = ends_in (staged_in queue page r) in DriverAllows (Stage queue page) tt (driver_contents now) (driver_contents new)
-  allows-staged queue page now same =
-      let w = ends_in r in
-      let new = ends_in (staged_in queue page r) in
-      subst (λ (v : Ends). DriverAllows (Stage queue page) tt (driver_contents v) (driver_contents new)) same
-      (subst (λ (v : Ends). DriverAllows (Stage queue page) tt (driver_contents w) (driver_contents v)) (sym (seen-staged queue page r)) (record {
-        lists = (tt, refl);
-        log = (tt, refl);
-        other = refl;
-        plain = refl;
-        honest = refl;
-        fair = λ _. sound_log Driver (staged queue page w).driver order.sound.tied.driver_fair;
-      }))
-
   -- those staged are published
   pub order-published : (queue : Queue) (now : Ends) → ends_in r ≡ now → CanPublish queue (driver_contents now) → IsInOrder (published_in queue r)
   order-published queue now same can =
@@ -66,15 +43,17 @@ module _ (r : Inside) (order : IsInOrder r) where
       let new = ends_in (published_in queue r) in
       let can_here = subst (λ (v : Ends). CanPublish queue (driver_contents v)) (sym same) can in
       subst (λ (v : Ends). DriverAllows (Publish queue) tt (driver_contents v) (driver_contents new)) same
-      (subst (λ (v : Ends). DriverAllows (Publish queue) tt (driver_contents w) (driver_contents v)) (sym (seen-published queue r))
-      (pages_at queue w.driver.staged, record {
-        lists = (tt, refl);
-        log = (refl, refl);
-        other = refl;
-        plain = refl;
-        honest = refl;
-        fair = λ _. sound_log Driver (published queue w).driver (fair-published queue w order.sound can_here);
-      }))
+      (subst (λ (v : Ends). DriverAllows (Publish queue) tt (driver_contents w) (driver_contents v)) (sym (seen-published queue r)) (
+        pages_at queue w.driver.staged,
+        record {
+          lists = (tt, refl);
+          log = (refl, refl);
+          other = refl;
+          plain = refl;
+          honest = refl;
+          fair = λ _. sound_log Driver (published queue w).driver (fair-published queue w order.sound can_here);
+        },
+      ))
 
   -- a page is got back
   pub order-reaped : (queue : Queue) (page : Option (List ℕ)) → page ≡ next_back queue (ends_in r).lists → IsInOrder (reaped_in queue page r)
@@ -133,15 +112,17 @@ module _ (r : Inside) (order : IsInOrder r) where
       let answer : next.Chain h.chain ≡ next_at queue (queue_of queue w.lists).place (next_given queue w.lists) = ap (λ (k : Held). next.Chain k.chain) is ∙ rw e refl in
       subst (λ (v : Ends). DeviceAllows (Take queue) (next.Chain h.chain) (device_contents v) (device_contents new)) same
       (subst (λ (v : Ends). DeviceAllows (Take queue) (next.Chain h.chain) (device_contents w) (device_contents v)) (sym (seen-taken queue page pages h r order e is))
-      (subst (λ a. DeviceAllows (Take queue) a (device_contents w) (device_contents (taken queue w))) (sym answer)
-      (next_given queue w.lists, record {
-        lists = ((refl, refl), refl);
-        log = (tt, refl);
-        other = refl;
-        plain = refl;
-        honest = refl;
-        fair = λ _. sound_log Device (taken queue w).device (sound-taken queue page pages w order.sound e).tied.device_fair;
-      })))
+      (subst (λ a. DeviceAllows (Take queue) a (device_contents w) (device_contents (taken queue w))) (sym answer) (
+        next_given queue w.lists,
+        record {
+          lists = ((refl, refl), refl);
+          log = (tt, refl);
+          other = refl;
+          plain = refl;
+          honest = refl;
+          fair = λ _. sound_log Device (taken queue w).device (sound-taken queue page pages w order.sound e).tied.device_fair;
+        },
+      )))
 
   -- bytes are written
   pub order-written : (c : Chain) (place : ℕ) (bytes : List ℕ) → Contains (chains_of r.held.chains) c → place ≤ length (bytes_in c r.held.chains)
@@ -172,12 +153,14 @@ module _ (r : Inside) (order : IsInOrder r) where
       let new = ends_in (returned_in c (take len (bytes_in c r.held.chains)) r) in
       let can_here = subst (λ (v : Ends). CanReturn c len (device_contents v)) (sym same) can in
       subst (λ (v : Ends). DeviceAllows (Return c len) tt (device_contents v) (device_contents new)) same
-      (subst (λ (v : Ends). DeviceAllows (Return c len) tt (device_contents w) (device_contents v)) (sym (seen-returned c len r))
-      (bytes_in c w.device.held, record {
-        lists = (tt, refl);
-        log = (refl, refl);
-        other = refl;
-        plain = refl;
-        honest = refl;
-        fair = λ _. sound_log Device (returned c len w).device (fair-returned c len w order.sound can_here);
-      }))
+      (subst (λ (v : Ends). DeviceAllows (Return c len) tt (device_contents w) (device_contents v)) (sym (seen-returned c len r)) (
+        bytes_in c w.device.held,
+        record {
+          lists = (tt, refl);
+          log = (refl, refl);
+          other = refl;
+          plain = refl;
+          honest = refl;
+          fair = λ _. sound_log Device (returned c len w).device (fair-returned c len w order.sound can_here);
+        },
+      ))

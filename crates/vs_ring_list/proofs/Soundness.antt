@@ -1,42 +1,30 @@
 -- Each call keeps list rings sound.
-use Rattle.std.proofs.Common.{◌≡◌, ℕ, zero, suc, ◌+◌, ◌*◌, ◌%◌, ◌<◌, ◌≤◌, true, List, [], ◌∷◌, ◌++◌, length, take, drop, get_or, Contains, Option, Some, None, refl, sym, ap, ◌∙◌, subst, arith, All, length-append, length-drop, length-take-le}
+use Rattle.std.proofs.Common.{◌≡◌, ℕ, suc, ◌+◌, ◌%◌, ◌≤◌, List, [], ◌∷◌, length, take, drop, get_or, Contains, refl, sym, ap, ◌∙◌, subst, arith, All, length-append, length-drop, length-take-le}
 use Rattle.std.specs.List.{remove}
-use Rattle.std.proofs.lemmas.List.Elements.{All-cons, All-tail, All-head, All-push, All-set, All-append, All-take, All-drop, All-get_or}
+use Rattle.std.proofs.lemmas.List.Elements.{All-cons, All-tail, All-head, All-set, All-append, All-take, All-drop, All-get_or}
 use Rattle.vs_page.specs.Fair.{IsFairLog}
 use Rattle.vs_page.specs.Log.{Driver, Device}
 use Rattle.vs_page.specs.Overwriting.{overwritten}
-use Rattle.vs_ring_port.specs.Chains.{Held, chains_of, bytes_in, with_bytes, without_held, IsLongEnough}
-use Rattle.vs_ring_port.specs.Contents.{IsSound as IsSoundLog}
-use Rattle.vs_ring_port.specs.Counts.{Counts, at, one_more}
+use Rattle.vs_ring_port.specs.Chains.{Held, chains_of, bytes_in, without_held, IsLongEnough}
+use Rattle.vs_ring_port.specs.Counts.{at, one_more}
 use Rattle.vs_ring_port.specs.DeviceCalls.{CanReturn, IsWholePacket}
-use Rattle.vs_ring_port.specs.DriverCalls.{CanPublish, MayPublish}
-use Rattle.vs_ring_port.specs.EndLog.{EndLog, pages_at, log_published, entries_returned, entries_taken}
-use Rattle.vs_ring_port.specs.Lists.{Rings, after_return, queue_of, with_queue, room_in, chain_with, to_read}
+use Rattle.vs_ring_port.specs.DriverCalls.{CanPublish}
+use Rattle.vs_ring_port.specs.EndLog.{pages_at, entries_returned, entries_taken}
+use Rattle.vs_ring_port.specs.Lists.{after_return, queue_of, with_queue, room_in, chain_with}
 use Rattle.vs_ring_port.specs.declared.device_ring.Chain.{Chain}
 use Rattle.vs_ring_port.specs.declared.queue.Queue.{Queue}
 use Rattle.vs_ring_port.specs.declared.queue.Queue.TheVariants.{Rx, Tx, Event}
 use Rattle.vs_ring_list.specs.Ends.{Ends, in_flight, flight_of, driver_contents, device_contents}
 use Rattle.vs_ring_list.specs.Sound.{IsSound, IsTied, HasHeader, IsReadable, IsWritable}
 use Rattle.vs_ring_list.proofs.Held.{first_held, same_chain_is, bytes_in_first, with_bytes_first, without_held_first}
-use Rattle.vs_ring_list.proofs.Flights.{at-flight_of, flight_of-staged, flight_of-published, flight_before-reaped, flight_of-none_reaped, flight_of-taken, held_by, in_flight-written, in_flight-returned}
-use Rattle.vs_ring_list.proofs.Steps.{staged, published, reaped, loaded, taken, written, returned, reset}
-use Rattle.vs_ring_list.proofs.Ties.{tied-publish, tied-reap, tied-take, tied-return, tied-load, tied-reset, fair-return_event}
+use Rattle.vs_ring_list.proofs.Flights.{at-flight_of, flight_of-published, flight_before-reaped, flight_of-none_reaped, flight_of-taken, held_by, in_flight-written, in_flight-returned}
+use Rattle.vs_ring_list.proofs.Steps.{published, reaped, loaded, taken, written, returned}
+use Rattle.vs_ring_list.proofs.Ties.{tied-publish, tied-reap, tied-take, tied-return, tied-load, fair-return_event}
 
 -- as many pages in flight as before, and no more at any queue
 still_within : (v w : Ends) → flight_of v ≡ flight_of w → ((queue : Queue) → in_flight queue w ≤ w.lists.size) → (queue : Queue) → in_flight queue v ≤ w.lists.size
 still_within v w same h queue =
     omega (arith, h queue, sym (at-flight_of queue v) ∙ ap (at queue) same ∙ at-flight_of queue w)
-
-one_more_within : (queue : Queue) (v w : Ends) → flight_of v ≡ one_more queue (flight_of w) → at queue (flight_of w) < w.lists.size → ((q : Queue) → in_flight q w ≤ w.lists.size) → (q : Queue) → in_flight q v ≤ w.lists.size
-one_more_within Rx v w more room h Rx = omega (arith, ap (at Rx) more)
-one_more_within Rx v w more room h Tx = omega (arith, ap (at Tx) more, h Tx)
-one_more_within Rx v w more room h Event = omega (arith, ap (at Event) more, h Event)
-one_more_within Tx v w more room h Rx = omega (arith, ap (at Rx) more, h Rx)
-one_more_within Tx v w more room h Tx = omega (arith, ap (at Tx) more)
-one_more_within Tx v w more room h Event = omega (arith, ap (at Event) more, h Event)
-one_more_within Event v w more room h Rx = omega (arith, ap (at Rx) more, h Rx)
-one_more_within Event v w more room h Tx = omega (arith, ap (at Tx) more, h Tx)
-one_more_within Event v w more room h Event = omega (arith, ap (at Event) more)
 
 one_less_within : (queue : Queue) (v w : Ends) → flight_of w ≡ one_more queue (flight_of v) → ((q : Queue) → in_flight q w ≤ w.lists.size) → (q : Queue) → in_flight q v ≤ w.lists.size
 one_less_within Rx v w less h Rx = omega (arith, ap (at Rx) less, h Rx)
@@ -48,24 +36,6 @@ one_less_within Tx v w less h Event = omega (arith, ap (at Event) less, h Event)
 one_less_within Event v w less h Rx = omega (arith, ap (at Rx) less, h Rx)
 one_less_within Event v w less h Tx = omega (arith, ap (at Tx) less, h Tx)
 one_less_within Event v w less h Event = omega (arith, ap (at Event) less, h Event)
-
--- a page is staged
-pub sound-staged : (queue : Queue) (page : List ℕ) (w : Ends) → IsSound w → at queue (flight_of w) < w.lists.size → (queue ≡ Tx → HasHeader page) → IsSound (staged queue page w)
-sound-staged queue page w sound room header = record {
-  nonzero = sound.nonzero;
-  limit = sound.limit;
-  within = one_more_within queue (staged queue page w) w (flight_of-staged queue page w) room sound.within;
-  staged = headers queue header;
-  given = sound.given;
-  readable = sound.readable;
-  writable = sound.writable;
-  tied = sound.tied;
-}
-  where
-    headers : (q : Queue) → (q ≡ Tx → HasHeader page) → All HasHeader (staged q page w).driver.staged.tx
-    headers Rx h = sound.staged
-    headers Tx h = All-push HasHeader w.driver.staged.tx page sound.staged (h refl)
-    headers Event h = sound.staged
 
 -- those staged are published
 pub fair-published : (queue : Queue) (w : Ends) → IsSound w → CanPublish queue (driver_contents w) → IsFairLog Driver (published queue w).driver.entries
@@ -105,7 +75,7 @@ sound-reaped queue w sound =
     at_queue Tx within tied = record { nonzero = sound.nonzero; limit = sound.limit; within = within; staged = sound.staged; given = sound.given; readable = sound.readable; writable = sound.writable; tied = tied }
     at_queue Event within tied = record { nonzero = sound.nonzero; limit = sound.limit; within = within; staged = sound.staged; given = sound.given; readable = sound.readable; writable = sound.writable; tied = tied }
 
--- the guest's CID is loaded, and published
+-- the guest's CID is loaded
 pub sound-loaded : (w : Ends) → IsSound w → IsSound (loaded w)
 sound-loaded w sound = record {
   nonzero = sound.nonzero;
@@ -117,23 +87,6 @@ sound-loaded w sound = record {
   writable = sound.writable;
   tied = tied-load w.lists.cid w.lists w.driver.entries w.device.entries sound.tied;
 }
-
-pub sound-reset : (cid : ℕ) (w : Ends) → IsSound w → IsSound (reset cid w)
-sound-reset cid w sound = record {
-  nonzero = sound.nonzero;
-  limit = sound.limit;
-  within = at_queue;
-  staged = sound.staged;
-  given = sound.given;
-  readable = sound.readable;
-  writable = sound.writable;
-  tied = tied-reset w.lists w.driver.entries w.device.entries sound.tied cid;
-}
-  where
-    at_queue : (q : Queue) → in_flight q (reset cid w) ≤ w.lists.size
-    at_queue Rx = sound.within Rx
-    at_queue Tx = sound.within Tx
-    at_queue Event = sound.within Event
 
 room_in-le : (queue : Queue) → room_in queue ≤ 4096
 room_in-le Rx = omega arith

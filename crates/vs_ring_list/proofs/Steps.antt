@@ -1,14 +1,11 @@
 -- What each call makes of both ends.
 use Rattle.std.proofs.Common.{ℕ, List, take}
 use Rattle.vs_ring_port.specs.Chains.{bytes_in}
-use Rattle.vs_ring_port.specs.EndLog.{pages_at, log_staged, log_published, log_reaped, log_loaded, log_taken, log_written, log_returned, log_reset}
+use Rattle.vs_ring_port.specs.EndLog.{pages_at, log_published, log_reaped, log_loaded, log_taken, log_written, log_returned}
 use Rattle.vs_ring_port.specs.Lists.{after_publish, after_reap, after_take, after_return, next_at, next_back, next_given, queue_of}
 use Rattle.vs_ring_port.specs.declared.device_ring.Chain.{Chain}
 use Rattle.vs_ring_port.specs.declared.queue.Queue.{Queue}
 use Rattle.vs_ring_list.specs.Ends.{Ends}
-
-abbrev pub staged : Queue → List ℕ → Ends → Ends
-staged queue page w = record w { driver = log_staged queue page w.driver }
 
 abbrev pub published : Queue → Ends → Ends
 published queue w = record w { lists = after_publish queue (pages_at queue w.driver.staged) w.lists; driver = log_published queue w.driver }
@@ -30,6 +27,3 @@ written chain place bytes w = record w { device = log_written chain place bytes 
 abbrev pub returned : Chain → ℕ → Ends → Ends
 returned chain len w =
     record w { lists = after_return chain.queue (take len (bytes_in chain w.device.held)) w.lists; device = log_returned chain len w.device }
-
-abbrev pub reset : ℕ → Ends → Ends
-reset cid w = record w { lists = record w.lists { cid = cid }; device = log_reset cid w.device }

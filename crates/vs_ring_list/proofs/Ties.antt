@@ -1,15 +1,14 @@
 -- What each call does to the two logs and to what is under way between them.
-use Rattle.std.proofs.Common.{◌≡◌, ℕ, ◌+◌, List, [], ◌∷◌, ◌++◌, length, take, Option, Some, None, refl, sym, ap, ◌∙◌, subst, arith, append_assoc}
+use Rattle.std.proofs.Common.{◌≡◌, ℕ, List, [], ◌∷◌, ◌++◌, Option, Some, None, refl, sym, ap, ◌∙◌, append_assoc}
 use Rattle.std.proofs.lemmas.List.{append-nil}
 use Rattle.vs_history.specs.declared.packet.Packet.{Packet}
 use Rattle.vs_page.specs.Fair.{IsFairLog}
 use Rattle.vs_page.specs.Held.{packet_held, event_held}
 use Rattle.vs_page.specs.Log.{Log, Role, Driver, Device, other_role, HasGotAll, packets_put, packets_got, events_put, events_got}
-use Rattle.vs_page.specs.declared.log.LogEntry.{LogEntry}
-use Rattle.vs_page.specs.declared.log.LogEntry.TheVariants.{PutPacket, GotPacket, PutEvent, GotEvent, Mark}
+use Rattle.vs_page.specs.declared.log.LogEntry.TheVariants.{PutPacket, GotPacket, PutEvent, GotEvent}
 use Rattle.vs_page.proofs.Entries.{next_fair}
 use Rattle.vs_ring_port.specs.EndLog.{all_put, with_packet, with_event, entries_published, entries_reaped, entries_marked, entries_taken, entries_returned}
-use Rattle.vs_ring_port.specs.Lists.{Lists, Rings, queue_of, with_queue, all_but_oldest, after_publish, after_reap, after_take, after_return, next_back, next_given, oldest}
+use Rattle.vs_ring_port.specs.Lists.{Rings, queue_of, with_queue, all_but_oldest, after_publish, after_reap, after_return, next_back, oldest}
 use Rattle.vs_ring_port.specs.declared.queue.Queue.{Queue}
 use Rattle.vs_ring_port.specs.declared.queue.Queue.TheVariants.{Rx, Tx, Event}
 use Rattle.vs_ring_list.specs.Sound.{IsTied, held_in, listed}
@@ -86,8 +85,8 @@ tied-all_put pages lists driver device tied fair =
       driver_fair = fair;
       device_fair = tied.device_fair;
       tx = put-all_put pages driver ∙ ap (λ ps. held_in packet_held pages ++ ps) tied.tx
-        ∙ sym (append_assoc (held_in packet_held pages) (held_in packet_held lists.tx.given) (packets_got device))
-        ∙ ap (λ ps. ps ++ packets_got device) (sym (held_in-append packet_held lists.tx.given pages));
+          ∙ sym (append_assoc (held_in packet_held pages) (held_in packet_held lists.tx.given) (packets_got device))
+          ∙ ap (λ ps. ps ++ packets_got device) (sym (held_in-append packet_held lists.tx.given pages));
       rx = tied.rx ∙ ap (λ ps. held_in packet_held lists.rx.back ++ ps) (sym same.packets);
       event = tied.event ∙ ap (λ ids. held_in event_held lists.event.back ++ ids) (sym same.events);
       no_event = tied.no_event;
@@ -180,8 +179,8 @@ module _ (lists : Rings) (driver device : Log) (tied : IsTied lists driver devic
         tx = same.put ∙ tied.tx;
         rx = tied.rx ∙ ap (λ ps. held_in packet_held lists.rx.back ++ ps) (sym same.got);
         event = tied.event ∙ ap (λ (back : List (List ℕ)). held_in event_held back ++ events_got driver) is
-          ∙ append_assoc (held_in event_held pages) (listed (event_held page)) (events_got driver)
-          ∙ ap (λ ids. held_in event_held pages ++ ids) (sym (got-with_event (event_held page) driver));
+            ∙ append_assoc (held_in event_held pages) (listed (event_held page)) (events_got driver)
+            ∙ ap (λ ids. held_in event_held pages ++ ids) (sym (got-with_event (event_held page) driver));
         no_event = tied.no_event;
       }
 
@@ -223,8 +222,8 @@ module _ (lists : Rings) (driver device : Log) (tied : IsTied lists driver devic
     device_fair = fair;
     tx = tied.tx ∙ ap (λ ps. held_in packet_held lists.tx.given ++ ps) (sym (same_got-put (packet_held page) device).packets);
     rx = put-with_packet (packet_held page) device ∙ ap (λ ps. listed (packet_held page) ++ ps) tied.rx
-      ∙ sym (append_assoc (listed (packet_held page)) (held_in packet_held lists.rx.back) (packets_got driver))
-      ∙ ap (λ ps. ps ++ packets_got driver) (sym (held_in-append packet_held lists.rx.back (page ∷ [])));
+        ∙ sym (append_assoc (listed (packet_held page)) (held_in packet_held lists.rx.back) (packets_got driver))
+        ∙ ap (λ ps. ps ++ packets_got driver) (sym (held_in-append packet_held lists.rx.back (page ∷ [])));
     event = events_put-put (packet_held page) device ∙ tied.event;
     no_event = (same_got-put (packet_held page) device).events ∙ tied.no_event;
   }
@@ -237,25 +236,15 @@ module _ (lists : Rings) (driver device : Log) (tied : IsTied lists driver devic
         tx = tied.tx ∙ ap (λ ps. held_in packet_held lists.tx.given ++ ps) (sym same.got);
         rx = same.put ∙ tied.rx;
         event = put-with_event (event_held page) device ∙ ap (λ ids. listed (event_held page) ++ ids) tied.event
-          ∙ sym (append_assoc (listed (event_held page)) (held_in event_held lists.event.back) (events_got driver))
-          ∙ ap (λ ids. ids ++ events_got driver) (sym (held_in-append event_held lists.event.back (page ∷ [])));
+            ∙ sym (append_assoc (listed (event_held page)) (held_in event_held lists.event.back) (events_got driver))
+            ∙ ap (λ ids. ids ++ events_got driver) (sym (held_in-append event_held lists.event.back (page ∷ [])));
         no_event = events_got-put (event_held page) device ∙ tied.no_event;
       }
 
   pub fair-return_event : (page : List ℕ) → IsFairLog Device (entries_returned Event page device)
   fair-return_event page = (but_event_put Device (event_held page) device).fair tied.device_fair
 
-  -- the guest's CID is loaded, and published
-  pub tied-reset : (cid : ℕ) → IsTied (record lists { cid = cid }) driver (Mark cid ∷ device)
-  tied-reset cid = record { driver_fair = tied.driver_fair; device_fair = tied.device_fair; tx = tied.tx; rx = tied.rx; event = tied.event; no_event = tied.no_event }
-
 pub tied-load : (cid : ℕ) (lists : Rings) (driver device : Log) → IsTied lists driver device → IsTied lists (entries_marked cid driver) device
 tied-load cid lists [] device tied = tied
 tied-load cid lists (entry ∷ driver) device tied =
     record { driver_fair = tied.driver_fair; device_fair = tied.device_fair; tx = tied.tx; rx = tied.rx; event = tied.event; no_event = tied.no_event }
-
--- pages published one after another
-pub published_next : (queue : Queue) (page : List ℕ) (pages : List (List ℕ)) (driver : Log) → entries_published queue (page ∷ pages) driver ≡ entries_published queue pages (entries_published queue (page ∷ []) driver)
-published_next Rx page pages driver = refl
-published_next Tx page pages driver = refl
-published_next Event page pages driver = refl

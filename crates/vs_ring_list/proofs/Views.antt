@@ -1,6 +1,6 @@
 -- How a change of the parts of list rings is seen as a change of both ends.
-use Rattle.std.proofs.Common.{◌≡◌, ℕ, ◌+◌, List, Option, Some, Contains, take, [], ◌∷◌, ◌++◌, length, refl, sym, ap, ◌∙◌, subst, arith}
-use Rattle.vs_ring_port.specs.Chains.{Held, bytes_in, chains_of, held_of, without_held}
+use Rattle.std.proofs.Common.{◌≡◌, ℕ, ◌+◌, List, Option, Some, take, [], ◌∷◌, length, refl, sym, ap, ◌∙◌, arith}
+use Rattle.vs_ring_port.specs.Chains.{Held, bytes_in, held_of, without_held}
 use Rattle.vs_ring_port.specs.EndLog.{entries_published, entries_reaped, entries_taken, entries_returned}
 use Rattle.vs_ring_port.specs.Lists.{Lists, after_return, queue_of, next_back}
 use Rattle.vs_ring_port.specs.declared.device_ring.Chain.{Chain}
@@ -8,13 +8,13 @@ use Rattle.vs_ring_port.specs.declared.queue.Queue.{Queue}
 use Rattle.vs_ring_port.specs.declared.queue.Queue.TheVariants.{Rx, Tx, Event}
 use Rattle.vs_ring_list.specs.declared.entries.Logs.{Logs}
 use Rattle.vs_ring_list.specs.declared.list_rings.ListRings.TheInside.{Inside}
-use Rattle.vs_ring_list.specs.Ends.{Ends, in_flight}
-use Rattle.vs_ring_list.specs.Parts.{SizedQueue, HeldList, staged_more, published_all, returned_more, reaped_one, taken_of, taken_one}
+use Rattle.vs_ring_list.specs.Ends.{in_flight}
+use Rattle.vs_ring_list.specs.Parts.{SizedQueue, HeldList, published_all, returned_more, reaped_one, taken_of, taken_one}
 use Rattle.vs_ring_list.specs.Queues.{queue_in, with_queue_in}
 use Rattle.vs_ring_list.specs.Sound.{IsSound}
 use Rattle.vs_ring_list.specs.View.{ends_in, IsInOrder}
 use Rattle.vs_ring_list.proofs.Flights.{held_by}
-use Rattle.vs_ring_list.proofs.Steps.{staged, published, reaped, taken, returned}
+use Rattle.vs_ring_list.proofs.Steps.{published, reaped, taken, returned}
 
 -- what is counted in a queue's lists and among the chains held is in flight
 pub counted : (queue : Queue) (r : Inside) → let q = queue_in queue r.queues in
@@ -39,15 +39,6 @@ pub order-changed : (queue : Queue) (q : SizedQueue) (held : HeldList) (journal 
 order-changed Rx q held journal r order size room sound = record { rx_size = size; tx_size = order.tx_size; event_size = order.event_size; room = room ∙ order.room; sound = sound }
 order-changed Tx q held journal r order size room sound = record { rx_size = order.rx_size; tx_size = size; event_size = order.event_size; room = room ∙ order.room; sound = sound }
 order-changed Event q held journal r order size room sound = record { rx_size = order.rx_size; tx_size = order.tx_size; event_size = size; room = room ∙ order.room; sound = sound }
-
--- the parts after each call, and how they are seen
-abbrev pub staged_in : Queue → List ℕ → Inside → Inside
-staged_in queue page r = record r { queues = with_queue_in queue (staged_more page (queue_in queue r.queues)) r.queues }
-
-pub seen-staged : (queue : Queue) (page : List ℕ) (r : Inside) → ends_in (staged_in queue page r) ≡ staged queue page (ends_in r)
-seen-staged Rx page r = refl
-seen-staged Tx page r = refl
-seen-staged Event page r = refl
 
 abbrev pub published_in : Queue → Inside → Inside
 published_in queue r =

@@ -1,5 +1,5 @@
 -- List rings as both ends see them: the pages in flight, and what each end did so far.
-use Rattle.std.specs.Prelude.{◌≡◌, ◌⊎◌, ℕ, ◌+◌, true, List, length, Some, None}
+use Rattle.std.specs.Prelude.{◌≡◌, ◌⊎◌, ℕ, ◌+◌, true, length, Some, None}
 use Rattle.vs_ring_port.specs.Chains.{held_of}
 use Rattle.vs_ring_port.specs.Contents.{RingContents}
 use Rattle.vs_ring_port.specs.Counts.{Counts}

@@ -1,5 +1,5 @@
 -- How the parts of list rings are seen: a queue's lists with its size, and the chains held with the room for them.
-use Rattle.std.specs.Prelude.{ℕ, ◌+◌, List, [], ◌∷◌, ◌++◌, Option, Some, None}
+use Rattle.std.specs.Prelude.{ℕ, List, [], ◌∷◌, ◌++◌, Option, Some, None}
 use Rattle.vs_ring_port.specs.Chains.{Held}
 use Rattle.vs_ring_port.specs.Lists.{Lists, all_but_oldest, place_after}
 

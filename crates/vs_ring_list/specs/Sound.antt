@@ -1,5 +1,5 @@
 -- What is true of list rings between calls.
-use Rattle.std.specs.Prelude.{◌≡◌, ℕ, ◌+◌, ◌<◌, ◌≤◌, List, [], ◌∷◌, ◌++◌, length, All, Option, Some, None}
+use Rattle.std.specs.Prelude.{◌≡◌, ℕ, ◌<◌, ◌≤◌, List, [], ◌∷◌, ◌++◌, length, All, Option, Some, None}
 use Rattle.vs_header.specs.declared.TheConstants.{HEADER_LEN}
 use Rattle.vs_page.specs.declared.page.TheConstants.{PAGE_LEN}
 use Rattle.vs_page.specs.Fair.{IsFairLog}

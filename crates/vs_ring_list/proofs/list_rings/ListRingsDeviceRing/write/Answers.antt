@@ -1,4 +1,4 @@
-use Rattle.std.proofs.Common.{◌≤◌, ◌∙◌, Some, refl, sym, ap, arith, subst, length, Contains}
+use Rattle.std.proofs.Common.{◌≤◌, ◌∙◌, refl, sym, ap, arith, subst, length, Contains}
 use Rattle.vs_ring_port.specs.Chains.{bytes_in, chains_of}
 use Rattle.vs_ring_list.specs.Ends.{Ends}
 use Rattle.vs_ring_list.specs.Parts.{HeldList}
