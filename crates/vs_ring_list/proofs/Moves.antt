@@ -29,7 +29,8 @@ sound_log role log fair l e = let same : log ≡ l = cc in subst (λ (k : EndLog
 
 module _ (r : Inside) (order : IsInOrder r) where
   -- those staged are published
-  pub order-published : (queue : Queue) (now : Ends) → ends_in r ≡ now → CanPublish queue (driver_contents now) → IsInOrder (published_in queue r)
+  pub order-published : (queue : Queue) (now : Ends) → ends_in r ≡ now → CanPublish queue (driver_contents now)
+      → IsInOrder (published_in queue r)
   order-published queue now same can =
       let q = queue_in queue r.queues in
       let can_here = subst (λ (v : Ends). CanPublish queue (driver_contents v)) (sym same) can in
@@ -56,10 +57,12 @@ module _ (r : Inside) (order : IsInOrder r) where
       ))
 
   -- a page is got back
-  pub order-reaped : (queue : Queue) (page : Option (List ℕ)) → page ≡ next_back queue (ends_in r).lists → IsInOrder (reaped_in queue page r)
+  pub order-reaped : (queue : Queue) (page : Option (List ℕ)) → page ≡ next_back queue (ends_in r).lists
+      → IsInOrder (reaped_in queue page r)
   order-reaped queue page is =
       let q = queue_in queue r.queues in
-      order-changed queue (reaped_one q) r.held (record r.journal { driver = entries_reaped queue page r.journal.driver }) r order (same_size_of queue r order) refl
+      order-changed queue (reaped_one q) r.held (record r.journal { driver = entries_reaped queue page r.journal.driver }) r order
+      (same_size_of queue r order) refl
       (subst (λ (w : Ends). IsSound w) (sym (seen-reaped queue page r is)) (sound-reaped queue (ends_in r) order.sound))
 
   pub allows-reaped : (queue : Queue) (page : Option (List ℕ)) (now : Ends) → ends_in r ≡ now → page ≡ next_back queue (ends_in r).lists
@@ -69,7 +72,8 @@ module _ (r : Inside) (order : IsInOrder r) where
       let new = ends_in (reaped_in queue page r) in
       subst (λ (v : Ends). DriverAllows (Reap queue) page (driver_contents v) (driver_contents new)) same
       (subst (λ (v : Ends). DriverAllows (Reap queue) page (driver_contents w) (driver_contents v)) (sym (seen-reaped queue page r is))
-      (subst (λ (p : Option (List ℕ)). DriverAllows (Reap queue) p (driver_contents w) (driver_contents (reaped queue w))) (sym is) (record {
+      (subst (λ (p : Option (List ℕ)). DriverAllows (Reap queue) p (driver_contents w) (driver_contents (reaped queue w))) (sym is)
+      (record {
         lists = (refl, refl);
         log = (tt, refl);
         other = refl;
@@ -80,9 +84,16 @@ module _ (r : Inside) (order : IsInOrder r) where
 
   -- the guest's CID is loaded
   pub order-loaded : IsInOrder (record r { journal = record r.journal { driver = entries_marked r.cid r.journal.driver } })
-  order-loaded = record { rx_size = order.rx_size; tx_size = order.tx_size; event_size = order.event_size; room = order.room; sound = sound-loaded (ends_in r) order.sound }
+  order-loaded = record {
+    rx_size = order.rx_size;
+    tx_size = order.tx_size;
+    event_size = order.event_size;
+    room = order.room;
+    sound = sound-loaded (ends_in r) order.sound;
+  }
 
-  pub allows-loaded : (now : Ends) → ends_in r ≡ now → let new = loaded (ends_in r) in DriverAllows LoadCid r.cid (driver_contents now) (driver_contents new)
+  pub allows-loaded : (now : Ends) → ends_in r ≡ now → let new = loaded (ends_in r) in DriverAllows LoadCid r.cid
+      (driver_contents now) (driver_contents new)
   allows-loaded now same =
       let w = ends_in r in
       let new = loaded w in
@@ -96,22 +107,29 @@ module _ (r : Inside) (order : IsInOrder r) where
       })
 
   -- a page is taken
-  pub order-taken : (queue : Queue) (page : List ℕ) (pages : List (List ℕ)) (h : Held) → (queue_of queue (ends_in r).lists).given ≡ page ∷ pages
+  pub order-taken : (queue : Queue) (page : List ℕ) (pages : List (List ℕ)) (h : Held)
+      → (queue_of queue (ends_in r).lists).given ≡ page ∷ pages
       → h ≡ held_by queue (queue_of queue (ends_in r).lists).place page → IsInOrder (taken_in queue page h r)
   order-taken queue page pages h e is =
       let q = queue_in queue r.queues in
-      order-changed queue (taken_one q) (record r.held { chains = h ∷ r.held.chains }) (record r.journal { device = entries_taken queue page r.journal.device }) r order (same_size_of queue r order) refl
-      (subst (λ (w : Ends). IsSound w) (sym (seen-taken queue page pages h r order e is)) (sound-taken queue page pages (ends_in r) order.sound e))
+      order-changed queue (taken_one q) (record r.held { chains = h ∷ r.held.chains })
+      (record r.journal { device = entries_taken queue page r.journal.device }) r order (same_size_of queue r order) refl
+      (subst (λ (w : Ends). IsSound w) (sym (seen-taken queue page pages h r order e is)) (sound-taken queue page pages
+      (ends_in r) order.sound e))
 
-  pub allows-taken : (queue : Queue) (page : List ℕ) (pages : List (List ℕ)) (h : Held) (now : Ends) → ends_in r ≡ now → (queue_of queue (ends_in r).lists).given ≡ page ∷ pages
+  pub allows-taken : (queue : Queue) (page : List ℕ) (pages : List (List ℕ)) (h : Held) (now : Ends) → ends_in r ≡ now
+      → (queue_of queue (ends_in r).lists).given ≡ page ∷ pages
       → h ≡ held_by queue (queue_of queue (ends_in r).lists).place page
-      → let new = ends_in (taken_in queue page h r) in DeviceAllows (Take queue) (next.Chain h.chain) (device_contents now) (device_contents new)
+      → let new = ends_in (taken_in queue page h r) in DeviceAllows (Take queue) (next.Chain h.chain) (device_contents now)
+      (device_contents new)
   allows-taken queue page pages h now same e is =
       let w = ends_in r in
       let new = ends_in (taken_in queue page h r) in
-      let answer : next.Chain h.chain ≡ next_at queue (queue_of queue w.lists).place (next_given queue w.lists) = ap (λ (k : Held). next.Chain k.chain) is ∙ rw e refl in
+      let answer : next.Chain h.chain ≡ next_at queue (queue_of queue w.lists).place (next_given queue w.lists) = ap (λ
+      (k : Held). next.Chain k.chain) is ∙ rw e refl in
       subst (λ (v : Ends). DeviceAllows (Take queue) (next.Chain h.chain) (device_contents v) (device_contents new)) same
-      (subst (λ (v : Ends). DeviceAllows (Take queue) (next.Chain h.chain) (device_contents w) (device_contents v)) (sym (seen-taken queue page pages h r order e is))
+      (subst (λ (v : Ends). DeviceAllows (Take queue) (next.Chain h.chain) (device_contents w) (device_contents v)) (sym
+      (seen-taken queue page pages h r order e is))
       (subst (λ a. DeviceAllows (Take queue) a (device_contents w) (device_contents (taken queue w))) (sym answer) (
         next_given queue w.lists,
         record {
@@ -125,8 +143,14 @@ module _ (r : Inside) (order : IsInOrder r) where
       )))
 
   -- bytes are written
-  pub order-written : (c : Chain) (place : ℕ) (bytes : List ℕ) → Contains (chains_of r.held.chains) c → place ≤ length (bytes_in c r.held.chains)
-      → IsInOrder (record r { held = record r.held { chains = with_bytes c (overwritten (bytes_in c r.held.chains) place bytes) r.held.chains } })
+  pub order-written : (c : Chain) (place : ℕ) (bytes : List ℕ) → Contains (chains_of r.held.chains) c
+      → place ≤ length (bytes_in c r.held.chains)
+      → IsInOrder (record r {
+        held = record r.held {
+          chains = with_bytes c (overwritten
+              (bytes_in c r.held.chains) place bytes) r.held.chains;
+        };
+      })
   order-written c place bytes has no_gap = record {
     rx_size = order.rx_size;
     tx_size = order.tx_size;
@@ -136,7 +160,8 @@ module _ (r : Inside) (order : IsInOrder r) where
   }
 
   -- a chain is returned
-  pub order-returned : (c : Chain) (len : ℕ) (now : Ends) → ends_in r ≡ now → Contains (chains_of now.device.held) c → CanReturn c len (device_contents now)
+  pub order-returned : (c : Chain) (len : ℕ) (now : Ends) → ends_in r ≡ now → Contains (chains_of now.device.held) c
+      → CanReturn c len (device_contents now)
       → IsInOrder (returned_in c (take len (bytes_in c r.held.chains)) r)
   order-returned c len now same has can =
       let page = take len (bytes_in c r.held.chains) in
@@ -147,7 +172,8 @@ module _ (r : Inside) (order : IsInOrder r) where
       (subst (λ (w : Ends). IsSound w) (sym (seen-returned c len r)) (sound-returned c len (ends_in r) order.sound has_here can_here))
 
   pub allows-returned : (c : Chain) (len : ℕ) (now : Ends) → ends_in r ≡ now → CanReturn c len (device_contents now)
-      → let new = ends_in (returned_in c (take len (bytes_in c r.held.chains)) r) in DeviceAllows (Return c len) tt (device_contents now) (device_contents new)
+      → let new = ends_in (returned_in c (take len (bytes_in c r.held.chains)) r) in DeviceAllows (Return c len) tt
+      (device_contents now) (device_contents new)
   allows-returned c len now same can =
       let w = ends_in r in
       let new = ends_in (returned_in c (take len (bytes_in c r.held.chains)) r) in

@@ -13,10 +13,12 @@ use Rattle.vs_ring_port.specs.declared.queue.Queue.{Queue}
 use Rattle.vs_ring_port.specs.declared.queue.Queue.TheVariants.{Rx, Tx, Event}
 use Rattle.vs_ring_list.specs.Sound.{IsTied, held_in, listed}
 
-held_in-append : {A : Type 0} (held : List ℕ → Option A) (older newer : List (List ℕ)) → held_in held (older ++ newer) ≡ held_in held newer ++ held_in held older
+held_in-append : {A : Type 0} (held : List ℕ → Option A) (older newer : List (List ℕ))
+    → held_in held (older ++ newer) ≡ held_in held newer ++ held_in held older
 held_in-append held [] newer = sym (append-nil (held_in held newer))
 held_in-append held (page ∷ older) newer =
-    ap (λ xs. xs ++ listed (held page)) (held_in-append held older newer) ∙ append_assoc (held_in held newer) (held_in held older) (listed (held page))
+    ap (λ xs. xs ++ listed (held page)) (held_in-append held older newer) ∙ append_assoc (held_in held newer) (held_in held older)
+    (listed (held page))
 
 -- one more entry, and what it adds
 put-with_packet : (p : Option Packet) (log : Log) → packets_put (with_packet (λ p. PutPacket p) p log) ≡ listed p ++ packets_put log
@@ -74,10 +76,15 @@ device_got lists driver device tied = record {
 }
 
 pub driver_got : (lists : Rings) (driver device : Log) → IsTied lists driver device → HasGotAll driver device
-driver_got lists driver device tied = record { packets = (held_in packet_held lists.rx.back, tied.rx); events = (held_in event_held lists.event.back, tied.event) }
+driver_got lists driver device tied = record {
+  packets = (held_in packet_held lists.rx.back, tied.rx);
+  events =
+      (held_in event_held lists.event.back, tied.event);
+}
 
 -- pages of tx are published
-tied-all_put : (pages : List (List ℕ)) (lists : Rings) (driver device : Log) → IsTied lists driver device → IsFairLog Driver (all_put pages driver)
+tied-all_put : (pages : List (List ℕ)) (lists : Rings) (driver device : Log) → IsTied lists driver device
+    → IsFairLog Driver (all_put pages driver)
     → IsTied (after_publish Tx pages lists) (all_put pages driver) device
 tied-all_put pages lists driver device tied fair =
     let same = same_got-all_put pages driver in
@@ -92,20 +99,37 @@ tied-all_put pages lists driver device tied fair =
       no_event = tied.no_event;
     }
 
-pub tied-publish : (queue : Queue) (pages : List (List ℕ)) (lists : Rings) (driver device : Log) → IsTied lists driver device → IsFairLog Driver (entries_published queue pages driver)
+pub tied-publish : (queue : Queue) (pages : List (List ℕ)) (lists : Rings) (driver device : Log) → IsTied lists driver device
+    → IsFairLog Driver (entries_published queue pages driver)
     → IsTied (after_publish queue pages lists) (entries_published queue pages driver) device
-tied-publish Rx pages lists driver device tied fair = record { driver_fair = fair; device_fair = tied.device_fair; tx = tied.tx; rx = tied.rx; event = tied.event; no_event = tied.no_event }
+tied-publish Rx pages lists driver device tied fair = record {
+  driver_fair = fair;
+  device_fair = tied.device_fair;
+  tx = tied.tx;
+  rx = tied.rx;
+  event = tied.event;
+  no_event = tied.no_event;
+}
 tied-publish Tx pages lists driver device tied fair = tied-all_put pages lists driver device tied fair
-tied-publish Event pages lists driver device tied fair = record { driver_fair = fair; device_fair = tied.device_fair; tx = tied.tx; rx = tied.rx; event = tied.event; no_event = tied.no_event }
+tied-publish Event pages lists driver device tied fair = record {
+  driver_fair = fair;
+  device_fair = tied.device_fair;
+  tx = tied.tx;
+  rx = tied.rx;
+  event = tied.event;
+  no_event = tied.no_event;
+}
 
 -- the oldest packet under way is got: what is left under way, and the getter's log
-next_got : (role : Role) (mine : Log) (page : List ℕ) (pages : List (List ℕ)) (put : List Packet) → put ≡ held_in packet_held (page ∷ pages) ++ packets_got mine
+next_got : (role : Role) (mine : Log) (page : List ℕ) (pages : List (List ℕ)) (put : List Packet)
+    → put ≡ held_in packet_held (page ∷ pages) ++ packets_got mine
     → put ≡ held_in packet_held pages ++ packets_got (with_packet (λ p. GotPacket p) (packet_held page) mine)
 next_got role mine page pages put is =
     is ∙ append_assoc (held_in packet_held pages) (listed (packet_held page)) (packets_got mine)
     ∙ ap (λ ps. held_in packet_held pages ++ ps) (sym (got-with_packet (packet_held page) mine))
 
-fair_got : (role : Role) (mine other : Log) (p : Option Packet) (rest : List Packet) → IsFairLog role mine → IsFairLog (other_role role) other → HasGotAll other mine
+fair_got : (role : Role) (mine other : Log) (p : Option Packet) (rest : List Packet) → IsFairLog role mine
+    → IsFairLog (other_role role) other → HasGotAll other mine
     → packets_put other ≡ (rest ++ listed p) ++ packets_got mine → IsFairLog role (with_packet (λ p. GotPacket p) p mine)
 fair_got role mine other None rest fair_mine fair_other got is = fair_mine
 fair_got role mine other (Some p) rest fair_mine fair_other got is =
@@ -153,7 +177,8 @@ module _ (lists : Rings) (driver device : Log) (tied : IsTied lists driver devic
       let put : packets_put device ≡ held_in packet_held (page ∷ pages) ++ packets_got driver =
       tied.rx ∙ ap (λ (back : List (List ℕ)). held_in packet_held back ++ packets_got driver) is in
       record {
-        driver_fair = fair_got Driver driver device (packet_held page) (held_in packet_held pages) tied.driver_fair tied.device_fair (device_got lists driver device tied) put;
+        driver_fair = fair_got Driver driver device (packet_held page) (held_in packet_held pages) tied.driver_fair tied.device_fair
+            (device_got lists driver device tied) put;
         device_fair = tied.device_fair;
         tx = (same_put-got (packet_held page) driver).packets ∙ tied.tx;
         rx = next_got Driver driver page pages (packets_put device) put;
@@ -162,7 +187,8 @@ module _ (lists : Rings) (driver device : Log) (tied : IsTied lists driver devic
       }
 
   reap_event : (back : List (List ℕ)) → lists.event.back ≡ back
-      → IsTied (record lists { event = record lists.event { back = all_but_oldest back } }) (entries_reaped Event (oldest back) driver) device
+      → IsTied (record lists { event = record lists.event { back = all_but_oldest back } }) (entries_reaped Event
+      (oldest back) driver) device
   reap_event [] is = record {
     driver_fair = tied.driver_fair;
     device_fair = tied.device_fair;
@@ -184,9 +210,24 @@ module _ (lists : Rings) (driver device : Log) (tied : IsTied lists driver devic
         no_event = tied.no_event;
       }
 
-  reap_tx : (page : Option (List ℕ)) (back : List (List ℕ)) → IsTied (record lists { tx = record lists.tx { back = back } }) (entries_reaped Tx page driver) device
-  reap_tx None back = record { driver_fair = tied.driver_fair; device_fair = tied.device_fair; tx = tied.tx; rx = tied.rx; event = tied.event; no_event = tied.no_event }
-  reap_tx (Some page) back = record { driver_fair = tied.driver_fair; device_fair = tied.device_fair; tx = tied.tx; rx = tied.rx; event = tied.event; no_event = tied.no_event }
+  reap_tx : (page : Option (List ℕ)) (back : List (List ℕ)) → IsTied (record lists { tx = record lists.tx { back = back } })
+      (entries_reaped Tx page driver) device
+  reap_tx None back = record {
+    driver_fair = tied.driver_fair;
+    device_fair = tied.device_fair;
+    tx = tied.tx;
+    rx = tied.rx;
+    event = tied.event;
+    no_event = tied.no_event;
+  }
+  reap_tx (Some page) back = record {
+    driver_fair = tied.driver_fair;
+    device_fair = tied.device_fair;
+    tx = tied.tx;
+    rx = tied.rx;
+    event = tied.event;
+    no_event = tied.no_event;
+  }
 
   pub tied-reap : (queue : Queue) → IsTied (after_reap queue lists) (entries_reaped queue (next_back queue lists) driver) device
   tied-reap Rx = reap_rx lists.rx.back refl
@@ -201,7 +242,8 @@ module _ (lists : Rings) (driver device : Log) (tied : IsTied lists driver devic
       tied.tx ∙ ap (λ (given : List (List ℕ)). held_in packet_held given ++ packets_got device) is in
       record {
         driver_fair = tied.driver_fair;
-        device_fair = fair_got Device device driver (packet_held page) (held_in packet_held pages) tied.device_fair tied.driver_fair (driver_got lists driver device tied) put;
+        device_fair = fair_got Device device driver (packet_held page) (held_in packet_held pages) tied.device_fair tied.driver_fair
+            (driver_got lists driver device tied) put;
         tx = next_got Device device page pages (packets_put driver) put;
         rx = (same_put-got (packet_held page) device).packets ∙ tied.rx;
         event = (same_put-got (packet_held page) device).events ∙ tied.event;
@@ -209,10 +251,25 @@ module _ (lists : Rings) (driver device : Log) (tied : IsTied lists driver devic
       }
 
   pub tied-take : (queue : Queue) (page : List ℕ) (pages : List (List ℕ)) (place : ℕ) → (queue_of queue lists).given ≡ page ∷ pages
-      → IsTied (with_queue queue (record (queue_of queue lists) { given = pages; place = place }) lists) driver (entries_taken queue page device)
-  tied-take Rx page pages place is = record { driver_fair = tied.driver_fair; device_fair = tied.device_fair; tx = tied.tx; rx = tied.rx; event = tied.event; no_event = tied.no_event }
+      → IsTied (with_queue queue (record (queue_of queue lists) { given = pages; place = place }) lists) driver
+      (entries_taken queue page device)
+  tied-take Rx page pages place is = record {
+    driver_fair = tied.driver_fair;
+    device_fair = tied.device_fair;
+    tx = tied.tx;
+    rx = tied.rx;
+    event = tied.event;
+    no_event = tied.no_event;
+  }
   tied-take Tx page pages place is = take_tx page pages place is
-  tied-take Event page pages place is = record { driver_fair = tied.driver_fair; device_fair = tied.device_fair; tx = tied.tx; rx = tied.rx; event = tied.event; no_event = tied.no_event }
+  tied-take Event page pages place is = record {
+    driver_fair = tied.driver_fair;
+    device_fair = tied.device_fair;
+    tx = tied.tx;
+    rx = tied.rx;
+    event = tied.event;
+    no_event = tied.no_event;
+  }
 
   -- the device returns a page
   pub tied-return : (queue : Queue) (page : List ℕ) → IsFairLog Device (entries_returned queue page device)
@@ -227,7 +284,14 @@ module _ (lists : Rings) (driver device : Log) (tied : IsTied lists driver devic
     event = events_put-put (packet_held page) device ∙ tied.event;
     no_event = (same_got-put (packet_held page) device).events ∙ tied.no_event;
   }
-  tied-return Tx page fair = record { driver_fair = tied.driver_fair; device_fair = tied.device_fair; tx = tied.tx; rx = tied.rx; event = tied.event; no_event = tied.no_event }
+  tied-return Tx page fair = record {
+    driver_fair = tied.driver_fair;
+    device_fair = tied.device_fair;
+    tx = tied.tx;
+    rx = tied.rx;
+    event = tied.event;
+    no_event = tied.no_event;
+  }
   tied-return Event page fair =
       let same = but_event_put Device (event_held page) device in
       record {
@@ -244,7 +308,15 @@ module _ (lists : Rings) (driver device : Log) (tied : IsTied lists driver devic
   pub fair-return_event : (page : List ℕ) → IsFairLog Device (entries_returned Event page device)
   fair-return_event page = (but_event_put Device (event_held page) device).fair tied.device_fair
 
-pub tied-load : (cid : ℕ) (lists : Rings) (driver device : Log) → IsTied lists driver device → IsTied lists (entries_marked cid driver) device
+pub tied-load : (cid : ℕ) (lists : Rings) (driver device : Log) → IsTied lists driver device
+    → IsTied lists (entries_marked cid driver) device
 tied-load cid lists [] device tied = tied
 tied-load cid lists (entry ∷ driver) device tied =
-    record { driver_fair = tied.driver_fair; device_fair = tied.device_fair; tx = tied.tx; rx = tied.rx; event = tied.event; no_event = tied.no_event }
+    record {
+      driver_fair = tied.driver_fair;
+      device_fair = tied.device_fair;
+      tx = tied.tx;
+      rx = tied.rx;
+      event = tied.event;
+      no_event = tied.no_event;
+    }

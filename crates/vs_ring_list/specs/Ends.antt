@@ -24,7 +24,8 @@ IsQueueSize n = (n ≡ 8) ⊎ (n ≡ 16) ⊎ (n ≡ 32) ⊎ (n ≡ 64) ⊎ (n �
 -- The pages of a queue that are in flight: staged, given, held by the device, or returned.
 abbrev pub in_flight : Queue → Ends → ℕ
 in_flight queue w =
-    length (pages_at queue w.driver.staged) + length (queue_of queue w.lists).given + held_of queue w.device.held + length (queue_of queue w.lists).back
+    let lists = queue_of queue w.lists in
+    length (pages_at queue w.driver.staged) + length lists.given + held_of queue w.device.held + length lists.back
 
 abbrev pub flight_of : Ends → Counts
 flight_of w = record { rx = in_flight Rx w; tx = in_flight Tx w; event = in_flight Event w }

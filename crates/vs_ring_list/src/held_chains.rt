@@ -103,7 +103,8 @@ impl HeldChains {
         requires is_held { Contains (chains_of self.old.chains) chain.now }
         requires no_gap { at ≤ length (bytes_in chain.now self.old.chains) }
         requires in_page { at + length bytes.now ≤ 4096 }
-        ensures { self.new ≡ record self.old { chains = with_bytes chain.now (overwritten (bytes_in chain.now self.old.chains) at bytes.now) self.old.chains } }
+        ensures { let old = self.old.chains in
+            self.new ≡ record self.old { chains = with_bytes chain.now (overwritten (bytes_in chain.now old) at bytes.now) old } }
     {
         let place = self.place_of(chain);
         self.pages[place].page.write(at, bytes);

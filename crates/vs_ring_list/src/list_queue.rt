@@ -31,9 +31,14 @@ impl Model for ListQueue {
 
     ghost Value = { SizedQueue };
 
-    ghost view = { λ q. record { size = q.size; staged = q.staged.items; lists = record { given = q.given.items; back = q.back.items; place = q.place } } };
+    ghost view = { λ q. record {
+      size = q.size;
+      staged = q.staged.items;
+      lists = record { given = q.given.items; back = q.back.items; place = q.place };
+    } };
 
-    ghost invariant = { λ q. (q.place < q.size) × (STAGED_MAX ≤ deque_capacity q.staged) × (q.size ≤ deque_capacity q.given) × (q.size ≤ deque_capacity q.back) };
+    ghost invariant = { λ q. (q.place < q.size) × (STAGED_MAX ≤ deque_capacity q.staged)
+        × (q.size ≤ deque_capacity q.given) × (q.size ≤ deque_capacity q.back) };
 }
 
 /// Moves the staged pages behind those given, and tells the journal of each.

@@ -74,9 +74,9 @@ pub fn laws_of_list_rings(rings: &ListRings)
     ensures device_fair { IsFairLog Device rings.now.device.entries }
     ensures driver_got { HasGotAll rings.now.driver.entries rings.now.device.entries }
     ensures device_got { HasGotAll rings.now.device.entries rings.now.driver.entries }
-    ensures tx { packets_put rings.now.driver.entries ≡ held_in packet_held rings.now.lists.tx.given ++ packets_got rings.now.device.entries }
-    ensures rx { packets_put rings.now.device.entries ≡ held_in packet_held rings.now.lists.rx.back ++ packets_got rings.now.driver.entries }
-    ensures event { events_put rings.now.device.entries ≡ held_in event_held rings.now.lists.event.back ++ events_got rings.now.driver.entries }
+    ensures tx { let w = rings.now in packets_put w.driver.entries ≡ held_in packet_held w.lists.tx.given ++ packets_got w.device.entries }
+    ensures rx { let w = rings.now in packets_put w.device.entries ≡ held_in packet_held w.lists.rx.back ++ packets_got w.driver.entries }
+    ensures event { let w = rings.now in events_put w.device.entries ≡ held_in event_held w.lists.event.back ++ events_got w.driver.entries }
 {
     let _size = rings.size;
 }
@@ -84,9 +84,11 @@ pub fn laws_of_list_rings(rings: &ListRings)
 /// Over list rings each call has one answer, and leaves both ends in one state: the plain lists of pages in flight and the two logs say
 /// which. No answer is left open.
 pub fn law_of_answers()
-    ensures driver { (call : DriverCall) (answer : DriverAnswer call) (old new : Ends) → DriverAllows call answer (driver_contents old) (driver_contents new)
+    ensures driver { (call : DriverCall) (answer : DriverAnswer call) (old new : Ends)
+        → DriverAllows call answer (driver_contents old) (driver_contents new)
         → (driver_answer call (old.lists, old.driver) ≡ (answer, (new.lists, new.driver))) × (new.device ≡ old.device) }
-    ensures device { (call : DeviceCall) (answer : DeviceAnswer call) (old new : Ends) → DeviceAllows call answer (device_contents old) (device_contents new)
+    ensures device { (call : DeviceCall) (answer : DeviceAnswer call) (old new : Ends)
+        → DeviceAllows call answer (device_contents old) (device_contents new)
         → (device_answer call (old.lists, old.device) ≡ (answer, (new.lists, new.device))) × (new.driver ≡ old.driver) }
 {}
 

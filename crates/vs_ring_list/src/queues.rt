@@ -72,7 +72,8 @@ impl Queues {
     pub(crate) fn publish(&mut self, queue: Queue, journal: &mut Journal)
         requires { let q = queue_in queue self.old in length q.lists.given + length q.staged ≤ q.size }
         ensures queues { self.new ≡ with_queue_in queue (published_all (queue_in queue self.old)) self.old }
-        ensures journal { journal.new ≡ record journal.old { driver = entries_published queue (queue_in queue self.old).staged journal.old.driver } }
+        ensures journal { let pages = (queue_in queue self.old).staged in
+            journal.new ≡ record journal.old { driver = entries_published queue pages journal.old.driver } }
     {
         match queue {
             Queue::Rx => self.rx.publish(queue, journal),
