@@ -35,11 +35,13 @@ plain_answer call state = state [] call
 abbrev pub plain_after : DeviceCall → PlainState → PlainState
 plain_after call state = λ calls. state (call ∷ calls)
 
--- The pages in flight, where the ring exposes them; what this end did so far, where it exposes that; the device's plain state, where it
--- exposes that; and whether the ring is honest: each end gets just what the other put, in order, and both logs are fair.
+-- The pages in flight, where the ring exposes them; what this end did so far, where it exposes that; what the other end did, where one
+-- value is both ends; the device's plain state, where the ring exposes that; and whether the ring is honest: each end gets just what the
+-- other put, in order, and both logs are fair.
 pub record RingContents : Type 0 where
   pub lists : Option Rings
   pub log : Option EndLog
+  pub other : Option EndLog
   pub plain : Option PlainState
   pub honest : Bool
 

@@ -14,12 +14,13 @@ use Rattle.vs_ring_port.specs.Contents.{RingContents, IsSound, DeviceCall, Take,
 use Rattle.vs_ring_port.specs.DriverCalls.{HoldsPacket}
 
 -- A call of the device with its answer. Where the pages in flight are exposed, P holds of them before it, and it changes them by f; the same
--- of what this end did so far, with Q and g. Where the plain state is exposed, it gives the answer, and the state after it. The log of an
--- honest ring stays fair.
+-- of what this end did so far, with Q and g. What the other end did stays. Where the plain state is exposed, it gives the answer, and the
+-- state after it. The log of an honest ring stays fair.
 pub record DeviceMoves (call : DeviceCall) (answer : DeviceAnswer call) (P : Rings → Type 0) (f : Rings → Rings)
     (Q : EndLog → Type 0) (g : EndLog → EndLog) (old new : RingContents) : Type 0 where
   pub lists : Exposes old.lists new.lists P f
   pub log : Exposes old.log new.log Q g
+  pub other : new.other ≡ old.other
   pub plain : Exposes old.plain new.plain (λ s. answer ≡ plain_answer call s) (plain_after call)
   pub honest : new.honest ≡ old.honest
   pub fair : IsSound Device new

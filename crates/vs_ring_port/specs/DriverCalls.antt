@@ -33,10 +33,11 @@ page_of (reaped.Back page) = Some page
 page_of reaped.None = None
 
 -- A call of the driver. Where the pages in flight are exposed, P holds of them before it, and it changes them by f; the same of what this
--- end did so far, with Q and g. The log of an honest ring stays fair.
+-- end did so far, with Q and g. What the other end did stays. The log of an honest ring stays fair.
 pub record DriverMoves (P : Rings → Type 0) (f : Rings → Rings) (Q : EndLog → Type 0) (g : EndLog → EndLog) (old new : RingContents) : Type 0 where
   pub lists : Exposes old.lists new.lists P f
   pub log : Exposes old.log new.log Q g
+  pub other : new.other ≡ old.other
   pub plain : new.plain ≡ old.plain
   pub honest : new.honest ≡ old.honest
   pub fair : IsSound Driver new
