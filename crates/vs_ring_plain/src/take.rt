@@ -27,6 +27,47 @@ pub struct PlainQueue {
 
 ghost use Rattle.vs_ring_plain.specs.Take.{comes_to, ring_in, taken_of, whole};
 
+/// Takes the next chain of a queue from which `taken` chains were taken, modulo 2^16. The answer is the number of its first descriptor,
+/// with its pieces in `pieces`, or none where no chain is given, or the first rule that the driver broke.
+pub fn take_chain(mem: &mut PlainMem, queue: &PlainQueue, taken: u16, pieces: &mut Vec<Span>) -> Result<Option<u16>, Failure>
+    requires inside { AreInside queue.now.areas queue.now.n (whole mem.old) }
+    requires room { queue.now.n ≤ vec_capacity pieces.old }
+    ensures exact { over (taking (ring_in queue.now mem.old) taken) mem.old ≡ (taken_of result pieces.new.items, mem.new) }
+    ensures size { length mem.new.bytes ≡ length mem.old.bytes }
+    ensures capacity { vec_capacity pieces.new ≡ vec_capacity pieces.old }
+{
+    let _fits = mem.size();
+    pieces.clear();
+    let idx = load_u16(mem, queue.areas.avail_idx_at());
+    let ahead = idx.wrapping_sub(taken);
+    if ahead > queue.n {
+        return Err(Failure::AvailJump { taken, idx });
+    }
+    if ahead == 0 {
+        return Ok(None);
+    }
+    let head = load_u16(mem, queue.areas.avail_entry_at(taken % queue.n));
+    if head >= queue.n {
+        return Err(Failure::HeadRange { head, n: queue.n });
+    }
+    walk_queue(mem, queue, head, pieces)?;
+    check_size(queue.queue, total_len(pieces))?;
+    Ok(Some(head))
+}
+
+// The bytes of a chain's pieces, which are at most 2^15, of 2^32 bytes at most.
+fn total_len(pieces: &[Span]) -> u64
+    requires few { length pieces.now ≤ 32768 }
+    requires short { All (λ (s : Span). s.len < 2 ^ 32) pieces.now }
+    ensures { result ≡ total_len pieces.now }
+{
+    let mut total = 0;
+    for piece in pieces {
+        total += piece.len;
+    }
+    total
+}
+
 // A number of 2 bytes.
 fn load_u16(mem: &mut PlainMem, addr: u64) -> u16
     requires inside { IsTrue (is_inside mem.old addr 2) }
@@ -133,6 +174,48 @@ fn walk_table(
         let desc = load_desc(mem, at + DESC_LEN as u64 * number as u64);
         if desc.flags & INDIRECT != 0 {
             return Err(Failure::IndirectNested { number });
+        }
+        check_piece(mem, queue, number, &desc)?;
+        pieces.push_reserved(Span {
+            at: desc.addr,
+            len: desc.len as u64,
+        });
+        if desc.flags & NEXT == 0 {
+            return Ok(());
+        }
+        number = desc.next;
+    }
+    Err(Failure::ChainLong { n: queue.n })
+}
+
+// Reads the queue's descriptors from a number on to the chain's end.
+fn walk_queue(
+    mem: &mut PlainMem,
+    queue: &PlainQueue,
+    head: u16,
+    pieces: &mut Vec<Span>,
+) -> Result<(), Failure>
+    requires inside { AreInside queue.now.areas queue.now.n (whole mem.old) }
+    requires size { mem.old.base + length mem.old.bytes < 2 ^ 64 }
+    requires empty { pieces.old.items ≡ [] }
+    requires room { queue.now.n ≤ vec_capacity pieces.old }
+    ensures exact { (ends : List Span → Accesses Taken)
+        → over (in_queue (ring_in queue.now mem.old) queue.now.n head [] ends) mem.old ≡ comes_to ends result pieces.new.items mem.new }
+    ensures size { length mem.new.bytes ≡ length mem.old.bytes }
+    ensures capacity { vec_capacity pieces.new ≡ vec_capacity pieces.old }
+{
+    let mut number = head;
+    'walk: while pieces.len() < queue.n as usize {
+        if number >= queue.n {
+            return Err(Failure::NextRange {
+                next: number,
+                n: queue.n,
+            });
+        }
+        let desc = load_desc(mem, queue.areas.desc_at(number));
+        if desc.flags & INDIRECT != 0 {
+            check_table(mem, queue, number, &desc)?;
+            return walk_table(mem, queue, desc.addr, desc.len / DESC_LEN as u32, pieces);
         }
         check_piece(mem, queue, number, &desc)?;
         pieces.push_reserved(Span {
