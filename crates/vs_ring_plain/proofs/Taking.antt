@@ -1,16 +1,16 @@
 -- Taking a chain makes few accesses, and none outside the memory.
-use Rattle.std.proofs.Common.{◌≡◌, ℕ, zero, suc, ◌+◌, ◌*◌, ◌/◌, ◌%◌, ◌<◌, ◌≤◌, ◌==◌, ◌||◌, ◌&&◌, Bool, true, false, cond, not, IsTrue, List, [], ◌∷◌, ◌++◌, refl, arith}
+use Rattle.std.proofs.Common.{◌≡◌, ℕ, zero, suc, ◌+◌, ◌*◌, ◌/◌, ◌%◌, ◌<◌, ◌≤◌, ◌==◌, ◌||◌, Bool, true, false, cond, not, IsTrue, List, [], ◌∷◌, refl, arith}
 use Rattle.std.proofs.lemmas.Bool.Decides.{nat_tests}
-use Rattle.std.specs.Prelude.{◌^◌, nat_le, nat_lt, ⊤}
+use Rattle.std.specs.Prelude.{◌^◌, nat_le, nat_lt}
 use Rattle.byteorder.specs.Endian.{little_number}
 use Rattle.vs_guest_mem.specs.Memory.{is_within}
 use Rattle.vs_layout.specs.Entry.{desc_of}
-use Rattle.vs_layout.specs.Layout.{AreInside, avail_entry, avail_idx, desc_entry}
+use Rattle.vs_layout.specs.Layout.{AreInside, avail_entry, desc_entry}
 use Rattle.vs_layout.specs.declared.entry.Desc.{Desc}
 use Rattle.vs_layout.specs.declared.entry.TheConstants.{INDIRECT, NEXT}
-use Rattle.vs_layout.specs.declared.span.Span.{Span}
-use Rattle.vs_ring_plain.specs.Accesses.{Accesses, Done, Read, Write, MakesAtMost}
-use Rattle.vs_ring_plain.specs.Chain.{Ring, Taken, Chain, NoChain, Failed, unless, piece, in_table, table_faults, in_queue, taking, has, wrong_way, outside, piece_of, ahead, too_small, total_len}
+use Rattle.vs_ring_plain.specs.declared.piece.Piece.{Piece}
+use Rattle.vs_ring_plain.specs.Accesses.{Accesses, Done, Read, MakesAtMost}
+use Rattle.vs_ring_plain.specs.Chain.{Ring, Taken, Chain, NoChain, Failed, unless, piece, in_table, table_faults, in_queue, taking, has, ahead, too_small, total_len}
 use Rattle.vs_ring_plain.specs.declared.port.Failure.{Failure}
 use Rattle.vs_ring_plain.specs.declared.port.Failure.TheVariants.{AddrRange, AvailJump, HeadRange, Indirect, IndirectLen, IndirectNested, IndirectNext, NextRange}
 
@@ -38,8 +38,8 @@ fails_or k P b f next comes = choice (MakesAtMost k P) b (Done (Failed f)) next 
 either : (k : ℕ) (P : ℕ → ℕ → Type 0) (b : Bool) (x y : Accesses Taken) → MakesAtMost k P x → MakesAtMost k P y → MakesAtMost k P (cond b x y)
 either k P b x y here there = choice (MakesAtMost k P) b x y (λ _. here) (λ _. there)
 
-piece_bounded : (k : ℕ) (P : ℕ → ℕ → Type 0) (r : Ring) (number : ℕ) (d : Desc) (before : List Span) (ends goes_on : List Span → Accesses Taken)
-    → ((now : List Span) → MakesAtMost k P (ends now)) → ((now : List Span) → MakesAtMost k P (goes_on now))
+piece_bounded : (k : ℕ) (P : ℕ → ℕ → Type 0) (r : Ring) (number : ℕ) (d : Desc) (before : List Piece) (ends goes_on : List Piece → Accesses Taken)
+    → ((now : List Piece) → MakesAtMost k P (ends now)) → ((now : List Piece) → MakesAtMost k P (goes_on now))
     → MakesAtMost k P (piece r number d before ends goes_on)
 piece_bounded k P r number d before ends goes_on last more =
     search (fails_or, either, done)
@@ -47,9 +47,9 @@ piece_bounded k P r number d before ends goes_on last more =
 below : (a b : ℕ) → nat_le a b ≡ false → b < a
 below a b h = grind (arith, nat_tests)
 
-in_table_bounded : (P : ℕ → ℕ → Type 0) (left : ℕ) (r : Ring) (at entries number : ℕ) (before : List Span) (ends : List Span → Accesses Taken)
+in_table_bounded : (P : ℕ → ℕ → Type 0) (left : ℕ) (r : Ring) (at entries number : ℕ) (before : List Piece) (ends : List Piece → Accesses Taken)
     → ((number : ℕ) → number < entries → P (at + 16 * number) 16)
-    → ((k : ℕ) (now : List Span) → MakesAtMost k P (ends now)) → MakesAtMost left P (in_table r at entries left number before ends)
+    → ((k : ℕ) (now : List Piece) → MakesAtMost k P (ends now)) → MakesAtMost left P (in_table r at entries left number before ends)
 in_table_bounded P zero r at entries number before ends inside last = done 0 P _
 in_table_bounded P (suc left) r at entries number before ends inside last =
     let next : (d : Desc) → MakesAtMost left P (unless ((has d INDIRECT, IndirectNested number) ∷ []) (piece r number d before ends (λ now. in_table r at entries left d.next now ends))) =
@@ -69,10 +69,10 @@ table_bounded k P r number d next comes =
     not_false true h = refl
     not_false false h = cc
 
-in_queue_bounded : (P : ℕ → ℕ → Type 0) (left : ℕ) (r : Ring) (number : ℕ) (before : List Span) (ends : List Span → Accesses Taken)
+in_queue_bounded : (P : ℕ → ℕ → Type 0) (left : ℕ) (r : Ring) (number : ℕ) (before : List Piece) (ends : List Piece → Accesses Taken)
     → ((number : ℕ) → number < r.n → P (desc_entry r.areas number).at 16)
     → ((addr len number : ℕ) → IsTrue (is_within r.base r.size addr len) → number < len / 16 → P (addr + 16 * number) 16)
-    → ((k : ℕ) (now : List Span) → MakesAtMost k P (ends now)) → MakesAtMost (suc left) P (in_queue r left number before ends)
+    → ((k : ℕ) (now : List Piece) → MakesAtMost k P (ends now)) → MakesAtMost (suc left) P (in_queue r left number before ends)
 in_queue_bounded P zero r number before ends inside tables last = done 1 P _
 in_queue_bounded P (suc left) r number before ends inside tables last =
     let table : (d : Desc) → MakesAtMost (suc left) P (unless (table_faults r number d) (in_table r d.addr (d.len / 16) (suc left) 0 before ends)) =
