@@ -21,24 +21,28 @@ unless-Ok ((true, f) ∷ tests) next ok = cc
 unless-Ok ((false, f) ∷ tests) next ok = unless-Ok tests next ok
 
 -- what comes where one is
-unless-Err : (tests : List (Bool × Failure)) (next : Accesses Taken) (f : Failure) → checked tests ≡ Err f → unless tests next ≡ Done (Failed f)
+unless-Err : (tests : List (Bool × Failure)) (next : Accesses Taken) (f : Failure) → checked tests ≡ Err f
+    → unless tests next ≡ Done (Failed f)
 unless-Err [] next f err = cc
 unless-Err ((true, g) ∷ tests) next f err = cc
 unless-Err ((false, g) ∷ tests) next f err = unless-Err tests next f err
 
 -- a descriptor that is a piece
-piece_fault : (r : Ring) (number : ℕ) (d : Desc) (before : List Piece) (ends goes_on : List Piece → Accesses Taken) (m : Memory) (f : Failure)
+piece_fault : (r : Ring) (number : ℕ) (d : Desc) (before : List Piece) (ends goes_on : List Piece → Accesses Taken) (m : Memory)
+    (f : Failure)
     → checked (piece_faults r number d) ≡ Err f → over (piece r number d before ends goes_on) m ≡ (Failed f, m)
 piece_fault r number d before ends goes_on m f err =
     ap (λ (t : Accesses Taken). over t m) (unless-Err (piece_faults r number d) _ f err)
 
 piece_ends : (r : Ring) (number : ℕ) (d : Desc) (before : List Piece) (ends goes_on : List Piece → Accesses Taken) (m : Memory)
-    → checked (piece_faults r number d) ≡ Ok tt → has d NEXT ≡ false → over (piece r number d before ends goes_on) m ≡ over (ends (before ++ piece_of d ∷ [])) m
+    → checked (piece_faults r number d) ≡ Ok tt → has d NEXT ≡ false → over (piece r number d before ends goes_on) m ≡ over (ends
+    (before ++ piece_of d ∷ [])) m
 piece_ends r number d before ends goes_on m ok last =
     ap (λ (t : Accesses Taken). over t m) (unless-Ok (piece_faults r number d) _ ok) ∙ rw last refl
 
 piece_goes_on : (r : Ring) (number : ℕ) (d : Desc) (before : List Piece) (ends goes_on : List Piece → Accesses Taken) (m : Memory)
-    → checked (piece_faults r number d) ≡ Ok tt → has d NEXT ≡ true → over (piece r number d before ends goes_on) m ≡ over (goes_on (before ++ piece_of d ∷ [])) m
+    → checked (piece_faults r number d) ≡ Ok tt → has d NEXT ≡ true → over (piece r number d before ends goes_on) m ≡ over (goes_on
+    (before ++ piece_of d ∷ [])) m
 piece_goes_on r number d before ends goes_on m ok more =
     ap (λ (t : Accesses Taken). over t m) (unless-Ok (piece_faults r number d) _ ok) ∙ rw more refl
 
@@ -52,9 +56,11 @@ pub record IsWalk (r : Ring) (entries : ℕ) (place : ℕ → ℕ) (walk : Walk)
       → over (walk 0 number before ends) m ≡ (Failed (ChainLong r.n), m)
   pub range : (rest number : ℕ) (before : List Piece) (ends : List Piece → Accesses Taken) (m : Memory) → nat_le entries number ≡ true
       → over (walk (suc rest) number before ends) m ≡ (Failed (NextRange number entries), m)
-  pub piece : (rest number : ℕ) (before : List Piece) (ends : List Piece → Accesses Taken) (m : Memory) (d : Desc) → nat_le entries number ≡ false
+  pub piece : (rest number : ℕ) (before : List Piece) (ends : List Piece → Accesses Taken) (m : Memory) (d : Desc)
+      → nat_le entries number ≡ false
       → d ≡ desc_of (bytes_at (after_access m) (place number) 16) → has d INDIRECT ≡ false
-      → over (walk (suc rest) number before ends) m ≡ over (piece r number d before ends (λ now. walk rest d.next now ends)) (after_access m)
+      → over (walk (suc rest) number before ends) m ≡ over (piece r number d before ends (λ now. walk rest d.next now ends))
+      (after_access m)
 
 -- what is done with a descriptor of a table
 abbrev pub after_desc : Ring → ℕ → ℕ → ℕ → ℕ → List Piece → (List Piece → Accesses Taken) → Desc → Accesses Taken
@@ -63,7 +69,8 @@ after_desc r at entries rest number before ends d =
 
 table_reads : (r : Ring) (at entries rest number : ℕ) (before : List Piece) (ends : List Piece → Accesses Taken) (m : Memory) (d : Desc)
     → nat_le entries number ≡ false → d ≡ desc_of (bytes_at (after_access m) (at + 16 * number) 16)
-    → over (in_table r at entries (suc rest) number before ends) m ≡ over (after_desc r at entries rest number before ends d) (after_access m)
+    → over (in_table r at entries (suc rest) number before ends) m ≡ over (after_desc r at entries rest number before ends d)
+    (after_access m)
 table_reads r at entries rest number before ends m d near is =
     rw near (ap (λ (e : Desc). over (after_desc r at entries rest number before ends e) (after_access m)) (sym is))
 
@@ -173,7 +180,8 @@ exit_long a m pieces number w full ends =
     let none : a.queue.n - length pieces ≡ 0 = omega arith in
     sym (w.rest ends) ∙ ap (λ (k : ℕ). over (a.walk k number pieces ends) m) none ∙ a.is_walk.long number pieces ends m
 
-pub exit_range : (a : Along) (m : Memory) (pieces : List Piece) (number : ℕ) → Comes a m pieces number → length pieces < a.queue.n → a.entries ≤ number
+pub exit_range : (a : Along) (m : Memory) (pieces : List Piece) (number : ℕ) → Comes a m pieces number → length pieces < a.queue.n
+    → a.entries ≤ number
     → (ends : List Piece → Accesses Taken) → a.whole ends ≡ (Failed (NextRange number a.entries), m)
 exit_range a m pieces number w some far ends =
     one_more a m pieces number w some ends ∙ a.is_walk.range (fewer a pieces) number pieces ends m (far_test a.entries number far)
@@ -182,22 +190,28 @@ was_read : (a : Along) (m now : Memory) (pieces : List Piece) (number : ℕ) (d 
     → d ≡ desc_of (bytes_at (after_access m) (a.place number) 16)
 was_read a m now pieces number d e = e.is ∙ ap (λ (x : Memory). desc_of (bytes_at x (a.place number) 16)) e.memory
 
-at_piece : (a : Along) (m now : Memory) (pieces : List Piece) (number : ℕ) (d : Desc) → Comes a m pieces number → ReadsEntry a m now pieces number d
+at_piece : (a : Along) (m now : Memory) (pieces : List Piece) (number : ℕ) (d : Desc) → Comes a m pieces number
+    → ReadsEntry a m now pieces number d
     → bit_and d.flags INDIRECT ≡ 0 → (ends : List Piece → Accesses Taken)
     → a.whole ends ≡ over (piece (ring_in a.queue a.first) number d pieces ends (λ found. a.walk (fewer a pieces) d.next found ends)) now
 at_piece a m now pieces number d w e plain ends =
     one_more a m pieces number w e.some ends
-    ∙ a.is_walk.piece (fewer a pieces) number pieces ends m d (near_test a.entries number e.near) (was_read a m now pieces number d e) (unset (bit_and d.flags INDIRECT) plain)
-    ∙ ap (λ (x : Memory). over (piece (ring_in a.queue a.first) number d pieces ends (λ found. a.walk (fewer a pieces) d.next found ends)) x) (sym e.memory)
+    ∙ a.is_walk.piece (fewer a pieces) number pieces ends m d (near_test a.entries number e.near)
+    (was_read a m now pieces number d e) (unset (bit_and d.flags INDIRECT) plain)
+    ∙ ap (λ (x : Memory). over (piece (ring_in a.queue a.first) number d pieces ends (λ found. a.walk
+    (fewer a pieces) d.next found ends)) x) (sym e.memory)
 
 -- the ring is the one that the walk began with
-pub ring_now : (a : Along) (m now : Memory) (pieces : List Piece) (number : ℕ) (d : Desc) → Comes a m pieces number → ReadsEntry a m now pieces number d
+pub ring_now : (a : Along) (m now : Memory) (pieces : List Piece) (number : ℕ) (d : Desc) → Comes a m pieces number
+    → ReadsEntry a m now pieces number d
     → ring_in a.queue now ≡ ring_in a.queue a.first
 ring_now a m now pieces number d w e = same_ring a.queue now a.first (ap (λ (x : Memory). x.base) e.memory ∙ w.base) (e.size ∙ w.size)
 
-checked_first : (a : Along) (m now : Memory) (pieces : List Piece) (number : ℕ) (d : Desc) → Comes a m pieces number → ReadsEntry a m now pieces number d
+checked_first : (a : Along) (m now : Memory) (pieces : List Piece) (number : ℕ) (d : Desc) → Comes a m pieces number
+    → ReadsEntry a m now pieces number d
     → checked (piece_faults (ring_in a.queue a.first) number d) ≡ checked (piece_faults (ring_in a.queue now) number d)
-checked_first a m now pieces number d w e = ap (λ (r : Ring). checked (piece_faults r number d)) (sym (ring_now a m now pieces number d w e))
+checked_first a m now pieces number d w e = ap (λ (r : Ring). checked (piece_faults r number d)) (sym
+    (ring_now a m now pieces number d w e))
 
 pub exit_fault : (a : Along) (m now : Memory) (pieces : List Piece) (number : ℕ) (d : Desc) (f : Failure) → Comes a m pieces number
     → ReadsEntry a m now pieces number d → bit_and d.flags INDIRECT ≡ 0 → checked (piece_faults (ring_in a.queue now) number d) ≡ Err f
@@ -238,14 +252,16 @@ goes_on a m now pieces after number d w e plain ok more is = record {
     longer = ap length is ∙ longer_by_one
 
 -- a descriptor of a table that refers to a table
-pub exit_nested : (q : PlainQueue) (at entries : ℕ) (first : Memory) (found : List Piece) (m now : Memory) (pieces : List Piece) (number : ℕ) (d : Desc)
+pub exit_nested : (q : PlainQueue) (at entries : ℕ) (first : Memory) (found : List Piece) (m now : Memory) (pieces : List Piece)
+    (number : ℕ) (d : Desc)
     → Comes (along_table q first at entries found) m pieces number → ReadsEntry (along_table q first at entries found) m now pieces number d
     → bit_and d.flags INDIRECT ≢ 0 → (ends : List Piece → Accesses Taken)
     → (along_table q first at entries found).whole ends ≡ (Failed (IndirectNested number), now)
 exit_nested q at entries first found m now pieces number d w e nested ends =
     let a = along_table q first at entries found in
     one_more a m pieces number w e.some ends
-    ∙ table_reads (ring_in q first) at entries (fewer a pieces) number pieces ends m d (near_test entries number e.near) (was_read a m now pieces number d e)
+    ∙ table_reads (ring_in q first) at entries (fewer a pieces) number pieces ends m d (near_test entries number e.near)
+    (was_read a m now pieces number d e)
     ∙ rw (set (bit_and d.flags INDIRECT) nested) refl
     ∙ ap (λ (x : Memory). (Failed (IndirectNested number), x)) (sym e.memory)
 
@@ -254,15 +270,19 @@ to_table : (q : PlainQueue) (first : Memory) (head : ℕ) (m now : Memory) (piec
     → Comes (along_queue q first head) m pieces number → ReadsEntry (along_queue q first head) m now pieces number d
     → bit_and d.flags INDIRECT ≢ 0 → (ends : List Piece → Accesses Taken)
     → (along_queue q first head).whole ends
-    ≡ over (unless (table_faults (ring_in q first) number d) (in_table (ring_in q first) d.addr (d.len / 16) (suc (fewer (along_queue q first head) pieces)) 0 pieces ends)) now
+    ≡ over (unless (table_faults (ring_in q first) number d) (in_table (ring_in q first) d.addr (d.len / 16) (suc (fewer
+    (along_queue q first head) pieces)) 0 pieces ends)) now
 to_table q first head m now pieces number d w e refers ends =
     let a = along_queue q first head in
     one_more a m pieces number w e.some ends
-    ∙ queue_reads (ring_in q first) (fewer a pieces) number pieces ends m d (near_test q.n number e.near) (was_read a m now pieces number d e)
+    ∙ queue_reads (ring_in q first) (fewer a pieces) number pieces ends m d (near_test q.n number e.near)
+    (was_read a m now pieces number d e)
     ∙ rw (set (bit_and d.flags INDIRECT) refers) refl
-    ∙ ap (λ (x : Memory). over (unless (table_faults (ring_in q first) number d) (in_table (ring_in q first) d.addr (d.len / 16) (suc (fewer a pieces)) 0 pieces ends)) x) (sym e.memory)
+    ∙ ap (λ (x : Memory). over (unless (table_faults (ring_in q first) number d) (in_table (ring_in q first) d.addr (d.len / 16)
+    (suc (fewer a pieces)) 0 pieces ends)) x) (sym e.memory)
 
-pub exit_table_fault : (q : PlainQueue) (first : Memory) (head : ℕ) (m now : Memory) (pieces : List Piece) (number : ℕ) (d : Desc) (f : Failure)
+pub exit_table_fault : (q : PlainQueue) (first : Memory) (head : ℕ) (m now : Memory) (pieces : List Piece) (number : ℕ) (d : Desc)
+    (f : Failure)
     → Comes (along_queue q first head) m pieces number → ReadsEntry (along_queue q first head) m now pieces number d
     → bit_and d.flags INDIRECT ≢ 0 → checked (table_faults (ring_in q now) number d) ≡ Err f → (ends : List Piece → Accesses Taken)
     → (along_queue q first head).whole ends ≡ (Failed f, now)

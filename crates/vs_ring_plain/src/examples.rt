@@ -19,9 +19,13 @@ pub fn taking_ends_inside_the_memory()
 pub fn chain_read()
     ensures header { spans (record { addr = 8192; len = 20 } ∷ record { addr = 9000; len = 24 } ∷ record { addr = 9500; len = 7 } ∷ []) 0 44
         ≡ record { addr = 8192; len = 20 } ∷ record { addr = 9000; len = 24 } ∷ [] }
-    ensures payload { spans (record { addr = 8192; len = 20 } ∷ record { addr = 9000; len = 24 } ∷ record { addr = 9500; len = 7 } ∷ []) 44 6
+    ensures payload { spans (record { addr = 8192; len = 20 } ∷ record { addr = 9000; len = 24 } ∷ record {
+      addr = 9500;
+      len = 7;
+    } ∷ []) 44 6
         ≡ record { addr = 9500; len = 6 } ∷ [] }
-    ensures bytes { with_values (reading (record { addr = 8192; len = 2 } ∷ record { addr = 9000; len = 1 } ∷ []) []) ((1 ∷ 2 ∷ []) ∷ (3 ∷ []) ∷ [])
+    ensures bytes { with_values (reading (record { addr = 8192; len = 2 } ∷ record { addr = 9000; len = 1 } ∷ []) [])
+        ((1 ∷ 2 ∷ []) ∷ (3 ∷ []) ∷ [])
         ≡ Some (1 ∷ 2 ∷ 3 ∷ []) }
 {}
 
@@ -29,7 +33,10 @@ pub fn chain_read()
 pub fn chains_taken()
     ensures three_pieces { first_chain Tx (desc 8192 20 1 1 ∷ desc 9000 24 1 2 ∷ desc 9500 7 0 0 ∷ [])
         ≡ Some (Chain 0 (record { addr = 8192; len = 20 } ∷ record { addr = 9000; len = 24 } ∷ record { addr = 9500; len = 7 } ∷ [])) }
-    ensures readable { total_len (record { addr = 8192; len = 20 } ∷ record { addr = 9000; len = 24 } ∷ record { addr = 9500; len = 7 } ∷ []) ≡ 51 }
+    ensures readable { total_len (record { addr = 8192; len = 20 } ∷ record { addr = 9000; len = 24 } ∷ record {
+      addr = 9500;
+      len = 7;
+    } ∷ []) ≡ 51 }
     ensures none_given { with_values (taking (ring Tx false) 5) (word 5 ∷ []) ≡ Some NoChain }
     ensures index_wraps { with_values (taking (ring Tx false) 65534) (word 65535 ∷ word 3 ∷ desc 8192 44 0 0 ∷ [])
         ≡ Some (Chain 3 (record { addr = 8192; len = 44 } ∷ [])) }

@@ -28,8 +28,9 @@ pub struct PlainQueue {
 
 ghost use Rattle.vs_ring_plain.specs.Take.{comes_to, ring_in, taken_of, whole};
 
-/// Takes the next chain of a queue from which `taken` chains were taken, modulo 2^16. The answer is the number of its first descriptor,
-/// with its pieces in `pieces`, or none where no chain is given, or the first rule that the driver broke.
+/// Takes the next chain of a queue from which `taken` chains were taken, modulo 2^16 (Virtio 1.2, section 2.7). The answer is the number
+/// of its first descriptor, with its pieces in `pieces`, which has room for n; or none where no chain is given; or the first rule that
+/// the driver broke. Each thing is read once, and nothing outside the memory. Takes no memory.
 pub fn take_chain(
     mem: &mut PlainMem,
     queue: &PlainQueue,
