@@ -162,7 +162,9 @@ impl PlainMem {
     ) -> Result<(), AllocError>
         requires later { 1 ≤ nth }
         requires inside { IsTrue (is_inside self.old addr (length bytes.now)) }
-        ensures ok { OnOk result (self.new ≡ record self.old { changes = self.old.changes ++ record { nth = nth; addr = addr; bytes = bytes.now } ∷ [] }) }
+        ensures ok { OnOk result (self.new ≡ record self.old {
+          changes = self.old.changes ++ record { nth = nth; addr = addr; bytes = bytes.now } ∷ [];
+        }) }
         ensures err { OnErr result (self.new ≡ self.old) }
     {
         let change = PlannedWrite::new(alloc, nth, addr, bytes)?;

@@ -9,7 +9,7 @@ use Rattle.vs_layout.specs.Layout.{avail_entry, avail_idx, desc_entry}
 use Rattle.vs_layout.specs.declared.entry.Desc.{Desc}
 use Rattle.vs_layout.specs.declared.entry.TheConstants.{DESC_LEN, INDIRECT, NEXT, WRITE}
 use Rattle.vs_layout.specs.declared.place.Areas.{Areas}
-use Rattle.vs_layout.specs.declared.span.Span.{Span}
+use Rattle.vs_ring_plain.specs.declared.piece.Piece.{Piece}
 use Rattle.vs_ring_plain.specs.Accesses.{Accesses, Done, Read}
 use Rattle.vs_ring_plain.specs.declared.port.Failure.{Failure}
 use Rattle.vs_ring_plain.specs.declared.port.Failure.TheVariants.{AvailJump, HeadRange, Indirect, TxWritable, RxReadable, AddrRange, ChainLong, NextRange, TxShort, RxSmall, EventSmall, IndirectNested, IndirectNext, IndirectLen}
@@ -28,7 +28,7 @@ pub record Ring : Type 0 where
 -- What comes of taking: none is there, or the number of its first descriptor and its pieces, or a failure.
 pub data Taken : Type 0 where
   NoChain : Taken
-  Chain : ℕ → List Span → Taken
+  Chain : ℕ → List Piece → Taken
   Failed : Failure → Taken
 
 -- The failure of the first test that is true.
@@ -44,8 +44,8 @@ unless (test ∷ tests) next = if test.0 then Done (Failed test.1) else unless t
 abbrev pub has : Desc → ℕ → Bool
 has d flag = not (bit_and d.flags flag == 0)
 
-abbrev pub piece_of : Desc → Span
-piece_of d = record { at = d.addr; len = d.len }
+abbrev pub piece_of : Desc → Piece
+piece_of d = record { addr = d.addr; len = d.len }
 
 -- A byte of the piece lies outside the memory.
 abbrev pub outside : Ring → Desc → Bool × Failure
@@ -74,19 +74,19 @@ too_small Rx writable = (nat_lt writable (HEADER_LEN + 1), RxSmall writable)
 too_small Event writable = (nat_lt writable 4, EventSmall writable)
 
 -- The bytes of a chain's pieces.
-abbrev pub total_len : List Span → ℕ
-total_len pieces = sum_by (λ (s : Span). s.len) pieces
+abbrev pub total_len : List Piece → ℕ
+total_len pieces = sum_by (λ (s : Piece). s.len) pieces
 
 -- A descriptor that is a piece of the chain: `before` are the pieces before it, `ends` is what comes where it is the last one, and
 -- `goes_on` where it isn't.
-abbrev pub piece : Ring → ℕ → Desc → List Span → (List Span → Accesses Taken) → (List Span → Accesses Taken) → Accesses Taken
+abbrev pub piece : Ring → ℕ → Desc → List Piece → (List Piece → Accesses Taken) → (List Piece → Accesses Taken) → Accesses Taken
 piece r number d before ends goes_on =
     unless (piece_faults r number d) (
     let now = before ++ piece_of d ∷ [] in
     if has d NEXT then goes_on now else ends now)
 
 -- The descriptors of a table from a number on, of which `left` more may be read.
-abbrev pub in_table : Ring → ℕ → ℕ → ℕ → ℕ → List Span → (List Span → Accesses Taken) → Accesses Taken
+abbrev pub in_table : Ring → ℕ → ℕ → ℕ → ℕ → List Piece → (List Piece → Accesses Taken) → Accesses Taken
 in_table r at entries zero number before ends = Done (Failed (ChainLong r.n))
 in_table r at entries (suc left) number before ends =
     unless ((nat_le entries number, NextRange number entries) ∷ []) (
@@ -96,7 +96,7 @@ in_table r at entries (suc left) number before ends =
     piece r number d before ends (λ now. in_table r at entries left d.next now ends))))
 
 -- The queue's descriptors from a number on, of which `left` more may be read.
-abbrev pub in_queue : Ring → ℕ → ℕ → List Span → (List Span → Accesses Taken) → Accesses Taken
+abbrev pub in_queue : Ring → ℕ → ℕ → List Piece → (List Piece → Accesses Taken) → Accesses Taken
 in_queue r zero number before ends = Done (Failed (ChainLong r.n))
 in_queue r (suc left) number before ends =
     unless ((nat_le r.n number, NextRange number r.n) ∷ []) (

@@ -4,28 +4,28 @@ use Rattle.std.specs.Prelude.{ℕ, ◌+◌, ◌-◌, ◌%◌, ◌^◌, ◌==◌,
 use Rattle.byteorder.specs.Endian.{little_bytes, little_number}
 use Rattle.vs_layout.specs.Entry.{used_elem_bytes}
 use Rattle.vs_layout.specs.Layout.{avail_idx, used_elem, used_idx}
-use Rattle.vs_layout.specs.declared.span.Span.{Span}
+use Rattle.vs_ring_plain.specs.declared.piece.Piece.{Piece}
 use Rattle.vs_ring_plain.specs.Accesses.{Accesses, Done, Read, Write}
 use Rattle.vs_ring_plain.specs.Chain.{Ring, ahead}
 
 -- Where the len bytes from a place in a chain on lie in memory: piece by piece, without empty ones.
-abbrev pub spans : List Span → ℕ → ℕ → List Span
+abbrev pub spans : List Piece → ℕ → ℕ → List Piece
 spans [] place len = []
 spans (s ∷ pieces) place len =
     let skipped = min place s.len in
     let used = min (s.len - skipped) len in
     let more = spans pieces (place - skipped) (len - used) in
-    if used == 0 then more else record { at = s.at + skipped; len = used } ∷ more
+    if used == 0 then more else record { addr = s.addr + skipped; len = used } ∷ more
 
 -- Reads memory piece by piece; `before` was read before.
-abbrev pub reading : List Span → List ℕ → Accesses (List ℕ)
+abbrev pub reading : List Piece → List ℕ → Accesses (List ℕ)
 reading [] before = Done before
-reading (s ∷ pieces) before = Read s.at s.len (λ bytes. reading pieces (before ++ bytes))
+reading (s ∷ pieces) before = Read s.addr s.len (λ bytes. reading pieces (before ++ bytes))
 
 -- Writes bytes to memory piece by piece.
-abbrev pub writing : List Span → List ℕ → Accesses (Unit {0})
+abbrev pub writing : List Piece → List ℕ → Accesses (Unit {0})
 writing [] bytes = Done tt
-writing (s ∷ pieces) bytes = Write s.at (take s.len bytes) (writing pieces (drop s.len bytes))
+writing (s ∷ pieces) bytes = Write s.addr (take s.len bytes) (writing pieces (drop s.len bytes))
 
 -- Returns the chain of a first descriptor, into which the device wrote len bytes, where `returned` were returned before: the used
 -- element, then the index of the used ring.

@@ -2,6 +2,7 @@
 use Rattle.std.specs.Prelude.{ℕ, List, length, Option, None, Some, Result, Ok, Err}
 use Rattle.vs_guest_mem.specs.Memory.{Memory}
 use Rattle.vs_layout.specs.declared.span.Span.{Span}
+use Rattle.vs_ring_plain.specs.declared.piece.Piece.{Piece}
 use Rattle.vs_ring_plain.specs.Accesses.{Accesses, over}
 use Rattle.vs_ring_plain.specs.Chain.{Ring, Taken, NoChain, Chain, Failed}
 use Rattle.vs_ring_plain.specs.declared.port.Failure.{Failure}
@@ -16,12 +17,12 @@ abbrev pub whole : Memory → Span
 whole m = record { at = m.base; len = length m.bytes }
 
 -- The answer, with the pieces that were found.
-abbrev pub taken_of : Result (Option ℕ) Failure → List Span → Taken
+abbrev pub taken_of : Result (Option ℕ) Failure → List Piece → Taken
 taken_of (Ok None) pieces = NoChain
 taken_of (Ok (Some head)) pieces = Chain head pieces
 taken_of (Err failure) pieces = Failed failure
 
 -- What comes of reading descriptors to the end of a chain, where `ends` comes then.
-abbrev pub comes_to : (List Span → Accesses Taken) → Result (Unit {0}) Failure → List Span → Memory → Taken × Memory
+abbrev pub comes_to : (List Piece → Accesses Taken) → Result (Unit {0}) Failure → List Piece → Memory → Taken × Memory
 comes_to ends (Ok _) pieces m = over (ends pieces) m
 comes_to ends (Err failure) pieces m = (Failed failure, m)

@@ -17,24 +17,31 @@ pub fn taking_ends_inside_the_memory()
 
 /// The header of a packet whose chain has pieces of 20, 24 and 7 bytes is read by two accesses, and six bytes behind it by one.
 pub fn chain_read()
-    ensures header { spans (record { at = 8192; len = 20 } ∷ record { at = 9000; len = 24 } ∷ record { at = 9500; len = 7 } ∷ []) 0 44
-        ≡ record { at = 8192; len = 20 } ∷ record { at = 9000; len = 24 } ∷ [] }
-    ensures payload { spans (record { at = 8192; len = 20 } ∷ record { at = 9000; len = 24 } ∷ record { at = 9500; len = 7 } ∷ []) 44 6
-        ≡ record { at = 9500; len = 6 } ∷ [] }
-    ensures bytes { with_values (reading (record { at = 8192; len = 2 } ∷ record { at = 9000; len = 1 } ∷ []) []) ((1 ∷ 2 ∷ []) ∷ (3 ∷ []) ∷ [])
+    ensures header { spans (record { addr = 8192; len = 20 } ∷ record { addr = 9000; len = 24 } ∷ record { addr = 9500; len = 7 } ∷ []) 0 44
+        ≡ record { addr = 8192; len = 20 } ∷ record { addr = 9000; len = 24 } ∷ [] }
+    ensures payload { spans (record { addr = 8192; len = 20 } ∷ record { addr = 9000; len = 24 } ∷ record {
+      addr = 9500;
+      len = 7;
+    } ∷ []) 44 6
+        ≡ record { addr = 9500; len = 6 } ∷ [] }
+    ensures bytes { with_values (reading (record { addr = 8192; len = 2 } ∷ record { addr = 9000; len = 1 } ∷ []) [])
+        ((1 ∷ 2 ∷ []) ∷ (3 ∷ []) ∷ [])
         ≡ Some (1 ∷ 2 ∷ 3 ∷ []) }
 {}
 
 /// Chains that are taken, in queues of 8 places.
 pub fn chains_taken()
     ensures three_pieces { first_chain Tx (desc 8192 20 1 1 ∷ desc 9000 24 1 2 ∷ desc 9500 7 0 0 ∷ [])
-        ≡ Some (Chain 0 (record { at = 8192; len = 20 } ∷ record { at = 9000; len = 24 } ∷ record { at = 9500; len = 7 } ∷ [])) }
-    ensures readable { total_len (record { at = 8192; len = 20 } ∷ record { at = 9000; len = 24 } ∷ record { at = 9500; len = 7 } ∷ []) ≡ 51 }
+        ≡ Some (Chain 0 (record { addr = 8192; len = 20 } ∷ record { addr = 9000; len = 24 } ∷ record { addr = 9500; len = 7 } ∷ [])) }
+    ensures readable { total_len (record { addr = 8192; len = 20 } ∷ record { addr = 9000; len = 24 } ∷ record {
+      addr = 9500;
+      len = 7;
+    } ∷ []) ≡ 51 }
     ensures none_given { with_values (taking (ring Tx false) 5) (word 5 ∷ []) ≡ Some NoChain }
     ensures index_wraps { with_values (taking (ring Tx false) 65534) (word 65535 ∷ word 3 ∷ desc 8192 44 0 0 ∷ [])
-        ≡ Some (Chain 3 (record { at = 8192; len = 44 } ∷ [])) }
+        ≡ Some (Chain 3 (record { addr = 8192; len = 44 } ∷ [])) }
     ensures table { first_chain_indirect Rx (desc 8192 32 4 0 ∷ desc 12288 40 3 1 ∷ desc 16384 5 2 0 ∷ [])
-        ≡ Some (Chain 0 (record { at = 12288; len = 40 } ∷ record { at = 16384; len = 5 } ∷ [])) }
+        ≡ Some (Chain 0 (record { addr = 12288; len = 40 } ∷ record { addr = 16384; len = 5 } ∷ [])) }
 {}
 
 /// Rules that are broken, in queues of 8 places.

@@ -2,5 +2,6 @@
 #![tactic(auto)]
 
 pub mod examples;
+pub mod piece;
 pub mod port;
 pub mod take;

@@ -7,11 +7,12 @@ ghost use Rattle.vs_layout.specs.Layout.{AreInside};
 ghost use Rattle.vs_ring_plain.specs.Accesses.{Accesses, over};
 ghost use Rattle.vs_ring_plain.specs.Chain.{Taken, checked, in_queue, in_table, piece_faults, table_faults, too_small, taking, total_len};
 
+use crate::piece::Piece;
 use crate::port::{Failure, Queue};
 use byteorder::{ByteOrder, LittleEndian};
 use vs_guest_mem::PlainMem;
 use vs_header::HEADER_LEN;
-use vs_layout::{Areas, DESC_LEN, Desc, INDIRECT, NEXT, Span, WRITE};
+use vs_layout::{Areas, DESC_LEN, Desc, INDIRECT, NEXT, WRITE};
 
 /// A queue in a guest's memory.
 #[derive(Clone, Copy, Debug, PartialEq, Eq)]
@@ -26,6 +27,52 @@ pub struct PlainQueue {
 }
 
 ghost use Rattle.vs_ring_plain.specs.Take.{comes_to, ring_in, taken_of, whole};
+
+/// Takes the next chain of a queue from which `taken` chains were taken, modulo 2^16 (Virtio 1.2, section 2.7). The answer is the number
+/// of its first descriptor, with its pieces in `pieces`, which has room for n; or none where no chain is given; or the first rule that
+/// the driver broke. Each thing is read once, and nothing outside the memory. Takes no memory.
+pub fn take_chain(
+    mem: &mut PlainMem,
+    queue: &PlainQueue,
+    taken: u16,
+    pieces: &mut Vec<Piece>,
+) -> Result<Option<u16>, Failure>
+    requires inside { AreInside queue.now.areas queue.now.n (whole mem.old) }
+    requires room { queue.now.n ≤ vec_capacity pieces.old }
+    ensures exact { over (taking (ring_in queue.now mem.old) taken) mem.old ≡ (taken_of result pieces.new.items, mem.new) }
+    ensures size { length mem.new.bytes ≡ length mem.old.bytes }
+    ensures capacity { vec_capacity pieces.new ≡ vec_capacity pieces.old }
+{
+    let _fits = mem.size();
+    pieces.clear();
+    let idx = load_u16(mem, queue.areas.avail_idx_at());
+    let ahead = idx.wrapping_sub(taken);
+    if ahead > queue.n {
+        return Err(Failure::AvailJump { taken, idx });
+    }
+    if ahead == 0 {
+        return Ok(None);
+    }
+    let head = load_u16(mem, queue.areas.avail_entry_at(taken % queue.n));
+    if head >= queue.n {
+        return Err(Failure::HeadRange { head, n: queue.n });
+    }
+    walk_queue(mem, queue, head, pieces)?;
+    check_size(queue.queue, total_len(pieces))?;
+    Ok(Some(head))
+}
+
+// The bytes of a chain's pieces.
+fn total_len(pieces: &[Piece]) -> u64
+    requires few { length pieces.now < 2 ^ 16 }
+    ensures { result ≡ total_len pieces.now }
+{
+    let mut total = 0;
+    for piece in pieces {
+        total += piece.len as u64;
+    }
+    total
+}
 
 // A number of 2 bytes.
 fn load_u16(mem: &mut PlainMem, addr: u64) -> u16
@@ -111,15 +158,16 @@ fn walk_table(
     queue: &PlainQueue,
     at: u64,
     entries: u32,
-    pieces: &mut Vec<Span>,
+    pieces: &mut Vec<Piece>,
 ) -> Result<(), Failure>
     requires inside { IsTrue (is_inside mem.old at (16 * entries)) }
     requires size { mem.old.base + length mem.old.bytes < 2 ^ 64 }
     requires room { (length pieces.old.items ≤ queue.now.n) × (queue.now.n ≤ vec_capacity pieces.old) }
-    ensures exact { (ends : List Span → Accesses Taken)
+    ensures exact { (ends : List Piece → Accesses Taken)
         → over (in_table (ring_in queue.now mem.old) at entries (queue.now.n - length pieces.old.items) 0 pieces.old.items ends) mem.old
         ≡ comes_to ends result pieces.new.items mem.new }
     ensures size { length mem.new.bytes ≡ length mem.old.bytes }
+    ensures few { length pieces.new.items ≤ queue.now.n }
     ensures capacity { vec_capacity pieces.new ≡ vec_capacity pieces.old }
 {
     let mut number = 0;
@@ -135,9 +183,52 @@ fn walk_table(
             return Err(Failure::IndirectNested { number });
         }
         check_piece(mem, queue, number, &desc)?;
-        pieces.push_reserved(Span {
-            at: desc.addr,
-            len: desc.len as u64,
+        pieces.push_reserved(Piece {
+            addr: desc.addr,
+            len: desc.len,
+        });
+        if desc.flags & NEXT == 0 {
+            return Ok(());
+        }
+        number = desc.next;
+    }
+    Err(Failure::ChainLong { n: queue.n })
+}
+
+// Reads the queue's descriptors from a number on to the chain's end.
+fn walk_queue(
+    mem: &mut PlainMem,
+    queue: &PlainQueue,
+    head: u16,
+    pieces: &mut Vec<Piece>,
+) -> Result<(), Failure>
+    requires inside { AreInside queue.now.areas queue.now.n (whole mem.old) }
+    requires size { mem.old.base + length mem.old.bytes < 2 ^ 64 }
+    requires empty { pieces.old.items ≡ [] }
+    requires room { queue.now.n ≤ vec_capacity pieces.old }
+    ensures exact { (ends : List Piece → Accesses Taken)
+        → over (in_queue (ring_in queue.now mem.old) queue.now.n head [] ends) mem.old ≡ comes_to ends result pieces.new.items mem.new }
+    ensures size { length mem.new.bytes ≡ length mem.old.bytes }
+    ensures few { length pieces.new.items ≤ queue.now.n }
+    ensures capacity { vec_capacity pieces.new ≡ vec_capacity pieces.old }
+{
+    let mut number = head;
+    'walk: while pieces.len() < queue.n as usize {
+        if number >= queue.n {
+            return Err(Failure::NextRange {
+                next: number,
+                n: queue.n,
+            });
+        }
+        let desc = load_desc(mem, queue.areas.desc_at(number));
+        if desc.flags & INDIRECT != 0 {
+            check_table(mem, queue, number, &desc)?;
+            return walk_table(mem, queue, desc.addr, desc.len / DESC_LEN as u32, pieces);
+        }
+        check_piece(mem, queue, number, &desc)?;
+        pieces.push_reserved(Piece {
+            addr: desc.addr,
+            len: desc.len,
         });
         if desc.flags & NEXT == 0 {
             return Ok(());

@@ -8,4 +8,5 @@ use Rattle.vs_ring_plain.proofs.examples.taking_ends_inside_the_memory.Goals as 
 pub returns : goal.returns
 returns c r taken areas =
     let three : suc (suc (suc r.n)) ≡ r.n + 3 = omega arith in
-    subst (λ (k : ℕ). MakesAtMost k (λ addr len. IsTrue (is_within r.base r.size addr len)) (taking r taken)) three (taking_bounded r taken areas)
+    subst (λ (k : ℕ). MakesAtMost k (λ addr len. IsTrue (is_within r.base r.size addr len)) (taking r taken)) three
+    (taking_bounded r taken areas)

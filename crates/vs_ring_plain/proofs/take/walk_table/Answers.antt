@@ -1,27 +1,41 @@
-use Rattle.std.proofs.Common.{◌≡◌, ◌-◌, length, List, Result, Ok, Err, arith, rules, sym, ap, ◌∙◌, refl}
-use Rattle.vs_layout.specs.declared.span.Span.{Span}
+use Rattle.std.proofs.Common.{◌≡◌, List, Result, Err, arith, sym, ap, ◌∙◌}
+use Rattle.vs_ring_plain.specs.declared.piece.Piece.{Piece}
 use Rattle.vs_ring_plain.specs.Accesses.{over}
 use Rattle.vs_ring_plain.specs.Take.{comes_to}
 use Rattle.vs_ring_plain.specs.declared.port.Failure.{Failure}
-use Rattle.vs_ring_plain.proofs.Walk.{ReadsEntry, exit_long, exit_range, exit_nested, exit_fault, exit_ends, goes_on}
+use Rattle.vs_ring_plain.proofs.Walk.{along_table, exit_range, exit_nested, exit_fault, exit_ends, goes_on}
 use Rattle.vs_ring_plain.proofs.take.walk_table.Goals as goal
 
 pub returns-then-number-entries-clause-exact : goal.returns-then-number-entries-clause-exact
 returns-then-number-entries-clause-exact c ends =
-    exit_range c.args.queue.now c.args.at c.args.entries c.args.mem.now c.args.pieces.now.items c.walk.mem c.walk.pieces.items c.walk.number
-    c.walk.invariant.0 (omega arith) (omega arith) ends
+    exit_range (along_table c.args.queue.now c.args.mem.now c.args.at c.args.entries c.args.pieces.now.items)
+    c.walk.mem c.walk.pieces.items c.walk.number c.walk.invariant.0 (omega arith) (omega arith) ends
 
 pub returns-then-desc-ne0-clause-exact : goal.returns-then-desc-ne0-clause-exact
 returns-then-desc-ne0-clause-exact c ends =
-    exit_nested c.args.queue.now c.args.at c.args.entries c.args.mem.now c.args.pieces.now.items c.walk.mem c.load_desc-desc.new.mem c.walk.pieces.items
-    c.walk.number c.load_desc-desc.result c.walk.invariant.0 (record { some = omega arith; near = omega arith; memory = c.load_desc-desc.ensures.memory; size = c.load_desc-desc.ensures.size; is = c.load_desc-desc.ensures.value })
+    exit_nested c.args.queue.now c.args.at c.args.entries c.args.mem.now c.args.pieces.now.items c.walk.mem c.load_desc-desc.new.mem
+    c.walk.pieces.items c.walk.number c.load_desc-desc.result c.walk.invariant.0
+    (record {
+      some = omega arith;
+      near = omega arith;
+      memory = c.load_desc-desc.ensures.memory;
+      size = c.load_desc-desc.ensures.size;
+      is = c.load_desc-desc.ensures.value;
+    })
     c.if-desc-ne0.true ends
 
 pub returns-in_err-check_piece-clause-exact : goal.returns-in_err-check_piece-clause-exact
 returns-in_err-check_piece-clause-exact c ends =
-    exit_fault c.args.queue.now c.args.at c.args.entries c.args.mem.now c.args.pieces.now.items c.walk.mem c.load_desc-desc.new.mem c.walk.pieces.items
-    c.walk.number c.load_desc-desc.result c.in_err-check_piece.field-0.0 c.walk.invariant.0
-    (record { some = omega arith; near = omega arith; memory = c.load_desc-desc.ensures.memory; size = c.load_desc-desc.ensures.size; is = c.load_desc-desc.ensures.value })
+    exit_fault (along_table c.args.queue.now c.args.mem.now c.args.at c.args.entries c.args.pieces.now.items)
+    c.walk.mem c.load_desc-desc.new.mem c.walk.pieces.items c.walk.number c.load_desc-desc.result
+    c.in_err-check_piece.field-0.0 c.walk.invariant.0
+    (record {
+      some = omega arith;
+      near = omega arith;
+      memory = c.load_desc-desc.ensures.memory;
+      size = c.load_desc-desc.ensures.size;
+      is = c.load_desc-desc.ensures.value;
+    })
     c.if-desc-ne0.false (sym c.check_piece.ensures ∙ c.in_err-check_piece.was) ends
     ∙ ap (λ (r : Result (Unit {0}) Failure). comes_to ends r c.walk.pieces.items c.load_desc-desc.new.mem) (sym gives)
   where
@@ -30,16 +44,30 @@ returns-in_err-check_piece-clause-exact c ends =
 
 pub returns-then-desc-eq0-clause-exact : goal.returns-then-desc-eq0-clause-exact
 returns-then-desc-eq0-clause-exact c ends =
-    exit_ends c.args.queue.now c.args.at c.args.entries c.args.mem.now c.args.pieces.now.items c.walk.mem c.load_desc-desc.new.mem c.walk.pieces.items
-    c.walk.number c.load_desc-desc.result c.walk.invariant.0
-    (record { some = omega arith; near = omega arith; memory = c.load_desc-desc.ensures.memory; size = c.load_desc-desc.ensures.size; is = c.load_desc-desc.ensures.value })
+    exit_ends (along_table c.args.queue.now c.args.mem.now c.args.at c.args.entries c.args.pieces.now.items)
+    c.walk.mem c.load_desc-desc.new.mem c.walk.pieces.items c.walk.number c.load_desc-desc.result c.walk.invariant.0
+    (record {
+      some = omega arith;
+      near = omega arith;
+      memory = c.load_desc-desc.ensures.memory;
+      size = c.load_desc-desc.ensures.size;
+      is = c.load_desc-desc.ensures.value;
+    })
     c.if-desc-ne0.false (sym c.check_piece.ensures ∙ c.in_ok-check_piece.was) c.if-desc-eq0.true ends
-    ∙ ap (λ (found : List Span). over (ends found) c.load_desc-desc.new.mem) (sym c.push_reserved.ensures.items)
+    ∙ ap (λ (found : List Piece). over (ends found) c.load_desc-desc.new.mem) (sym c.push_reserved.ensures.items)
 
 pub walk-preserved : goal.walk-preserved
 walk-preserved c = (
-    goes_on c.args.queue.now c.args.at c.args.entries c.args.mem.now c.args.pieces.now.items c.walk.mem c.load_desc-desc.new.mem c.walk.pieces.items
-    c.push_reserved.new.self.items c.walk.number c.load_desc-desc.result c.walk.invariant.0
-    (record { some = omega arith; near = omega arith; memory = c.load_desc-desc.ensures.memory; size = c.load_desc-desc.ensures.size; is = c.load_desc-desc.ensures.value })
-    c.if-desc-ne0.false (sym c.check_piece.ensures ∙ c.in_ok-check_piece.was) c.if-desc-eq0.false c.push_reserved.ensures.items,
-    c.push_reserved.ensures.capacity ∙ c.walk.invariant.1)
+  goes_on (along_table c.args.queue.now c.args.mem.now c.args.at c.args.entries c.args.pieces.now.items)
+      c.walk.mem c.load_desc-desc.new.mem c.walk.pieces.items
+      c.push_reserved.new.self.items c.walk.number c.load_desc-desc.result c.walk.invariant.0
+      (record {
+        some = omega arith;
+        near = omega arith;
+        memory = c.load_desc-desc.ensures.memory;
+        size = c.load_desc-desc.ensures.size;
+        is = c.load_desc-desc.ensures.value;
+      })
+      c.if-desc-ne0.false (sym c.check_piece.ensures ∙ c.in_ok-check_piece.was) c.if-desc-eq0.false c.push_reserved.ensures.items,
+  c.push_reserved.ensures.capacity ∙ c.walk.invariant.1,
+)
