@@ -66,7 +66,7 @@ pub record IsAlone (role : Role) (first : ℕ) (old : Ends) (older : Log) (new :
   pub ends : ends_of f new.entries ≡ ends_of f old.entries
   pub replies : is_among f new.replies ≡ is_among f old.replies
 
-left_alone : (role : Role) (side : Side) (h older : History) (left_open was_open owed was_owed : Bool) (ends had : List ConnectionEnd)
+pub left_alone : (role : Role) (side : Side) (h older : History) (left_open was_open owed was_owed : Bool) (ends had : List ConnectionEnd)
     → IsLeftOn role side older was_open was_owed had → h ≡ older → left_open ≡ was_open → owed ≡ was_owed → ends ≡ had
     → IsLeftOn role side h left_open owed ends
 left_alone role side h older left_open was_open owed was_owed ends had l a b c d =

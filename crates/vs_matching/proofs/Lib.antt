@@ -1,3 +1,4 @@
 pub mod Entries
 pub mod OnFlow
 pub mod Frame
+pub mod Steps
