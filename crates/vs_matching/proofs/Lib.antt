@@ -2,3 +2,4 @@ pub mod Entries
 pub mod OnFlow
 pub mod Frame
 pub mod Steps
+pub mod Fair

@@ -92,11 +92,11 @@ given_by_heard : (role : Role) (first : ℕ) (part : Ends) (log : Log) (f : Flow
 given_by_heard role first part log f m some asker later =
     let both : true ≡ false = sym (ap is_empty (m.unused f asker later).silent) ∙ some asker in absurd cc
 
-some_of : (h : History) → (is_empty h ≡ true → ⊥) → is_empty h ≡ false
+pub some_of : (h : History) → (is_empty h ≡ true → ⊥) → is_empty h ≡ false
 some_of [] not = absurd (not refl)
 some_of (x ∷ h) not = refl
 
-cid_heard : (role : Role) (first : ℕ) (part : Ends) (log : Log) (p : Packet) (b : Bool) → Matches role first part log
+pub cid_heard : (role : Role) (first : ℕ) (part : Ends) (log : Log) (p : Packet) (b : Bool) → Matches role first part log
     → is_dropped role part.cid p.header ≡ b → is_dropped role (cid_of first log) p.header ≡ b
 cid_heard role first part log p b m is = subst (λ x. is_dropped role x p.header ≡ b) m.cid is
 
@@ -150,7 +150,7 @@ accept_keeps role first alloc p part log m kept none order is_taken asks space =
     }) m
 
 -- Connections put.
-asking_sends_none : (side : Side) (e : ConnectionEnd) (n : ℕ) → IsAsking side e → CanSend e n → ⊥
+pub asking_sends_none : (side : Side) (e : ConnectionEnd) (n : ℕ) → IsAsking side e → CanSend e n → ⊥
 asking_sends_none = search rules
 
 pub send_keeps : (role : Role) (first cid : ℕ) (f : Flow) (e : ConnectionEnd) (payload : List ℕ) (part : Ends) (log : Log) → Matches role first part log
@@ -173,7 +173,7 @@ send_keeps role first cid f e payload part log m has can =
     }) m
 
 -- A new end owes its REQUEST.
-pays_new : (side : Side) (e : ConnectionEnd) (what : Owed) → IsAsking side e → owes_of e ≡ Some what → what ≡ owed.Request
+pub pays_new : (side : Side) (e : ConnectionEnd) (what : Owed) → IsAsking side e → owes_of e ≡ Some what → what ≡ owed.Request
 pays_new = search rules
 
 pays_first : (side : Side) (e : ConnectionEnd) (route : Route) → IsAsking side e

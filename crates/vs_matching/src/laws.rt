@@ -104,3 +104,8 @@ pub fn law_of_events()
     ensures reset_made { (role : Role) (first cid : ℕ) (part : Ends) (log : Log) → Matches role first part log
         → Matches role first (emptied cid part) (Mark cid ∷ log) }
 {}
+
+/// x
+pub fn first()
+    ensures { (f : ℕ) → f ≡ f }
+{}

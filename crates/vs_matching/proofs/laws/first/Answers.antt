@@ -1,0 +1,6 @@
+use Rattle.vs_matching.proofs.Fair.{heard_less}
+use Rattle.std.proofs.Common.{refl}
+use Rattle.vs_matching.proofs.laws.first.Goals as goal
+
+pub returns : goal.returns
+returns c = λ f. refl
