@@ -20,7 +20,8 @@ use Rattle.vs_page.specs.Log.{Log, Role, Driver, Device, flow_put, flow_got, his
 use Rattle.vs_page.specs.Open.{cid_of, is_dropped}
 use Rattle.vs_page.specs.declared.log.LogEntry.TheVariants.{PutPacket, GotPacket, PutEvent, GotEvent, Mark}
 use Rattle.vs_page.proofs.Entries.{one_put}
-use Rattle.vs_matching.specs.Ends.{Ends}
+use Rattle.vs_page.proofs.Flows.{same_self}
+use Rattle.vs_matching.specs.Ends.{Ends, is_among}
 use Rattle.vs_matching.specs.Heard.{IsHeardFair, IsInOrder, heard_of, is_empty, route_of}
 use Rattle.vs_matching.specs.Matches.{IsAsking, Matches}
 use Rattle.vs_matching.specs.Steps.{HasEnd, IsNextFlow, owed_on, payload_on, reply_on, request_on}
@@ -179,3 +180,113 @@ fair_order : (side : Side) (h heard : History) (p : Packet) → IsFair side (Got
 fair_order side [] heard p fair none same = let e = none refl in grind (arith, common_steps)
 fair_order side (x ∷ h) [] p fair none same = let begun = fair_begun side h x fair.1 in grind (arith, common_steps)
 fair_order side (x ∷ h) (y ∷ heard) p fair none same = let begun = fair_begun side h x fair.1 in grind (arith, common_steps)
+
+-- Each put keeps the log fair, and what was heard on the flow.
+heard_fair : (role : Role) (first : ℕ) (f : Flow) (p : Packet) (log : Log) → flow_put role p ≡ f → IsHeardFair role first f log
+    → (let h = heard_of role first f log in MayPut (side_of role f) (puts h) (gots h) p) → IsHeardFair role first f (PutPacket p ∷ log)
+heard_fair role first f p log is fair may = subst (IsFair (side_of role f)) (sym (heard_put role first f p log is)) (may, fair)
+
+pub open_fair : (role : Role) (first cid : ℕ) (f : Flow) (alloc : ℕ) (part : Ends) (log : Log) → Matches role first part log → IsFairLog role log
+    → IsNextFlow role f part → IsSpace alloc → IsFairLog role (PutPacket (request_on role cid f alloc) ∷ log)
+open_fair role first cid f alloc part log m fair next space =
+    put_fair role first f (request_on role cid f alloc) log (request_flow role cid f alloc) fair (open_may role first cid f alloc part log m next space)
+
+pub send_fair : (role : Role) (first cid : ℕ) (f : Flow) (e : ConnectionEnd) (payload : List ℕ) (part : Ends) (log : Log) → Matches role first part log
+    → IsFairLog role log → IsHeardFair role first f log → HasEnd f e part → CanSend e (length payload)
+    → IsFairLog role (PutPacket (payload_on role cid f e payload) ∷ log)
+send_fair role first cid f e payload part log m fair heard has can =
+    put_fair role first f (payload_on role cid f e payload) log (payload_flow role cid f e payload) fair
+    (send_may_on role first cid f e payload part log m has can heard)
+
+pub pay_fair : (role : Role) (first cid : ℕ) (f : Flow) (e : ConnectionEnd) (what : Owed) (part : Ends) (log : Log) → Matches role first part log
+    → IsFairLog role log → IsHeardFair role first f log → HasEnd f e part → owes_of e ≡ Some what
+    → IsFairLog role (PutPacket (owed_on role cid f e what) ∷ log)
+pay_fair role first cid f e what part log m fair heard has owes =
+    put_fair role first f (owed_on role cid f e what) log (owed_flow role cid f e what) fair
+    (pay_may_on role first cid f e what part log m has owes heard)
+
+history_some : (role : Role) (first : ℕ) (f : Flow) (log : Log) (h : History) → history_of role f log ≡ h → is_empty (heard_of role first f log) ≡ false
+    → is_empty h ≡ false
+history_some role first f log [] is some = let none = ap is_empty (heard_none role first f log is) in absurd cc
+history_some role first f log (x ∷ h) is some = refl
+
+pub reply_fair : (role : Role) (first cid : ℕ) (f : Flow) (part : Ends) (log : Log) → Matches role first part log → IsFairLog role log
+    → is_among f part.replies ≡ true → IsFairLog role (PutPacket (reply_on role cid f) ∷ log)
+reply_fair role first cid f part log m fair owed_is =
+    let p = reply_on role cid f in
+    let some = history_some role first f log (history_of role f log) refl (reply_heard role first f part log m owed_is) in
+    let may = reply_may (side_of role f) (history_of role f log) (route_of role cid f) role cid f (fair f) some in
+    (one_put role log p).1
+    (fair, subst (λ x. MayPut (side_of role x) (puts (history_of role x log)) (gots (history_of role x log)) p) (sym (reply_flow role cid f)) may)
+
+pub open_heard_fair : (role : Role) (first cid : ℕ) (f : Flow) (alloc : ℕ) (part : Ends) (log : Log) → Matches role first part log
+    → IsNextFlow role f part → IsSpace alloc → IsHeardFair role first f (PutPacket (request_on role cid f alloc) ∷ log)
+open_heard_fair role first cid f alloc part log m next space =
+    heard_fair role first f (request_on role cid f alloc) log (request_flow role cid f alloc)
+    (subst (IsFair (side_of role f)) (sym (m.unused f next.asker next.port).silent) tt) (open_may role first cid f alloc part log m next space)
+
+pub send_heard_fair : (role : Role) (first cid : ℕ) (f : Flow) (e : ConnectionEnd) (payload : List ℕ) (part : Ends) (log : Log)
+    → Matches role first part log → IsHeardFair role first f log → HasEnd f e part → CanSend e (length payload)
+    → IsHeardFair role first f (PutPacket (payload_on role cid f e payload) ∷ log)
+send_heard_fair role first cid f e payload part log m heard has can =
+    heard_fair role first f (payload_on role cid f e payload) log (payload_flow role cid f e payload) heard
+    (send_may_on role first cid f e payload part log m has can heard)
+
+pub pay_heard_fair : (role : Role) (first cid : ℕ) (f : Flow) (e : ConnectionEnd) (what : Owed) (part : Ends) (log : Log)
+    → Matches role first part log → IsHeardFair role first f log → HasEnd f e part → owes_of e ≡ Some what
+    → IsHeardFair role first f (PutPacket (owed_on role cid f e what) ∷ log)
+pay_heard_fair role first cid f e what part log m heard has owes =
+    heard_fair role first f (owed_on role cid f e what) log (owed_flow role cid f e what) heard
+    (pay_may_on role first cid f e what part log m has owes heard)
+
+pub reply_heard_fair : (role : Role) (first cid : ℕ) (f : Flow) (part : Ends) (log : Log) → Matches role first part log
+    → IsHeardFair role first f log → is_among f part.replies ≡ true → IsHeardFair role first f (PutPacket (reply_on role cid f) ∷ log)
+reply_heard_fair role first cid f part log m heard owed_is =
+    heard_fair role first f (reply_on role cid f) log (reply_flow role cid f) heard
+    (reply_may (side_of role f) (heard_of role first f log) (route_of role cid f) role cid f heard (reply_heard role first f part log m owed_is))
+
+-- A packet got that is fair comes in order, and its fields fit.
+pub got_in_order : (role : Role) (first : ℕ) (p : Packet) (log : Log) → let f = flow_got role p in IsFairOn role f (GotPacket p ∷ log)
+    → IsInOrder (side_of role f) (heard_of role first f log) p
+got_in_order role first p log fair =
+    let f = flow_got role p in
+    let own : history_of role f (GotPacket p ∷ log) ≡ Got p ∷ history_of role f log = rw (same_self f) refl in
+    fair_order (side_of role f) (history_of role f log) (heard_of role first f log) p (subst (IsFair (side_of role f)) own fair)
+    (heard_none role first f log) (heard_puts role first f log)
+
+pub got_is_taken : (role : Role) (p : Packet) (log : Log) → let f = flow_got role p in IsFairOn role f (GotPacket p ∷ log) → IsTaken p
+got_is_taken role p log fair =
+    let f = flow_got role p in
+    let own : history_of role f (GotPacket p ∷ log) ≡ Got p ∷ history_of role f log = rw (same_self f) refl in
+    taken_of p (subst (IsFair (side_of role f)) own fair).0.formed
+
+heard_got_fair : (role : Role) (first : ℕ) (p : Packet) (part : Ends) (log : Log) → let f = flow_got role p in Matches role first part log
+    → is_dropped role part.cid p.header ≡ false → IsHeardFair role first f (GotPacket p ∷ log)
+    → IsFair (side_of role f) (Got p ∷ heard_of role first f log)
+heard_got_fair role first p part log m kept fair =
+    let f = flow_got role p in
+    subst (IsFair (side_of role f)) (heard_got role first f p log refl (cid_heard role first part log p false m kept)) fair
+
+pub got_not_refused : (role : Role) (first : ℕ) (p : Packet) (e : ConnectionEnd) (part : Ends) (log : Log) → let f = flow_got role p in
+    Matches role first part log → is_dropped role part.cid p.header ≡ false → HasEnd f e part → IsHeardFair role first f (GotPacket p ∷ log)
+    → is_refused (verdict_of e p.header) ≡ false
+got_not_refused role first p e part log m kept has fair =
+    let f = flow_got role p in
+    let h = heard_of role first f log in
+    let now = heard_got_fair role first p part log m kept fair in
+    let order = fair_order (side_of role f) h h p now (λ none. none) refl in
+    let some = some_of h (λ none.
+      let a = end_asks role (side_of role f) h _ _ _ e (m.on f) has none in
+      let both : true ≡ false = sym none ∙ order.asked a.asker in absurd cc) in
+    get_taken (side_of role f) h e p now (end_follows role (side_of role f) h _ _ _ e (m.on f) has some).follows
+
+first_asks : (side : Side) (h : History) (p : Packet) → IsFair side (Got p ∷ h) → is_request p ≡ is_empty h
+first_asks side [] p fair = grind (arith, common_steps)
+first_asks side (x ∷ h) p fair = let begun = fair_begun side h x fair.1 in grind (arith, common_steps)
+
+pub got_asks : (role : Role) (first : ℕ) (p : Packet) (part : Ends) (log : Log) → let f = flow_got role p in Matches role first part log
+    → is_dropped role part.cid p.header ≡ false → IsHeardFair role first f (GotPacket p ∷ log)
+    → is_request p ≡ is_empty (heard_of role first f log)
+got_asks role first p part log m kept fair =
+    let f = flow_got role p in
+    first_asks (side_of role f) (heard_of role first f log) p (heard_got_fair role first p part log m kept fair)

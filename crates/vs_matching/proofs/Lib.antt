@@ -3,3 +3,4 @@ pub mod OnFlow
 pub mod Frame
 pub mod Steps
 pub mod Fair
+pub mod Tables

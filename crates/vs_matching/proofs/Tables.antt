@@ -1,0 +1,122 @@
+-- The table of an end that matches its log.
+use Rattle.std.proofs.Common.{rules, ◌≡◌, ◌≢◌, ℕ, Bool, true, false, ◌&&◌, ◌||◌, not, List, [], ◌∷◌, refl, sym, ap, ◌∙◌, subst, arith}
+use Rattle.std.proofs.lemmas.Grind.{common_steps}
+use Rattle.std.specs.List.{All, AllPairs}
+use Rattle.std.proofs.lemmas.List.Kept.{AllPairs-cons}
+use Rattle.vs_conn.specs.End.{ConnectionEnd}
+use Rattle.vs_conn.specs.Follows.{Follows}
+use Rattle.vs_flow.specs.Flow.{same_flow}
+use Rattle.vs_flow.specs.declared.flow.Flow.{Flow}
+use Rattle.vs_history.specs.History.{History, Side, puts, gots}
+use Rattle.vs_page.specs.Log.{Log, Role, Driver, Device, side_of}
+use Rattle.vs_page.specs.Open.{is_left_open, is_open}
+use Rattle.vs_page.specs.declared.log.LogEntry.TheVariants.{Mark}
+use Rattle.vs_matching.specs.Ends.{Ends, FlowEnd, begun_flows, ends_of, flows_of, is_among, is_new}
+use Rattle.vs_matching.specs.Heard.{heard_of, is_empty}
+use Rattle.vs_matching.specs.Matches.{IsAsking, IsBefore, IsHeld, IsLeftOn, Matches}
+use Rattle.vs_matching.specs.Steps.{HasEnd, HasNone}
+use Rattle.vs_matching.proofs.Frame.{silent_closed}
+use Rattle.vs_matching.proofs.OnFlow.{asking_is_new, at_most_one, end_follows}
+use Rattle.vs_page.proofs.Flows.{same_self}
+
+-- An end that follows what was heard has its REQUEST put or got.
+pub follows_begun : (side : Side) (h : History) (e : ConnectionEnd) → Follows side (puts h) (gots h) e → is_new e ≡ false
+follows_begun = search rules
+
+abbrev any_begun : List ConnectionEnd → Bool
+any_begun [] = false
+any_begun (e ∷ es) = not (is_new e) || any_begun es
+
+begun_among : (f : Flow) (xs : List FlowEnd) → is_among f (begun_flows xs) ≡ any_begun (ends_of f xs)
+begun_among f [] = refl
+begun_among f (x ∷ xs) = let rest = begun_among f xs in grind (arith, common_steps)
+
+held_begun : (b : Bool) (side : Side) (h : History) (ends : List ConnectionEnd) → IsHeld b side h ends → any_begun ends ≡ b
+held_begun true side h ends held = let begun = follows_begun side h held.0 held.2 in let one = held.1 in grind (arith, common_steps)
+held_begun false side h ends held = rw held refl
+
+before_begun : (role : Role) (side : Side) (ends : List ConnectionEnd) → IsBefore role side ends → any_begun ends ≡ false
+before_begun Driver side ends before = rw before refl
+before_begun Device side [] before = refl
+before_begun Device side (e ∷ more) before = let new = asking_is_new side e before.1 in let none = before.0 in grind (arith, common_steps)
+
+left_begun : (role : Role) (side : Side) (h : History) (left_open reply_owed : Bool) (ends : List ConnectionEnd)
+    → IsLeftOn role side h left_open reply_owed ends → (is_empty h ≡ true → left_open ≡ false) → any_begun ends ≡ (left_open && not reply_owed)
+left_begun role side [] left_open reply_owed ends left silent =
+    let none = before_begun role side ends left.1 in
+    let closed = silent refl in
+    grind (arith, common_steps)
+left_begun role side (x ∷ h) left_open reply_owed ends left silent = held_begun (left_open && not reply_owed) side (x ∷ h) ends left
+
+-- The flows of the connections that have begun are those that are open.
+pub table_open : (role : Role) (first : ℕ) (part : Ends) (log : Log) (f : Flow) → Matches role first part log
+    → is_among f (begun_flows part.entries) ≡ is_open role first f log (is_among f part.replies)
+table_open role first part log f m =
+    begun_among f part.entries
+    ∙ left_begun role (side_of role f) (heard_of role first f log) (is_left_open role first f log) (is_among f part.replies) (ends_of f part.entries)
+    (m.on f) (silent_closed role first f log)
+
+-- All of the driver's have begun.
+pub driver_begun : (first : ℕ) (part : Ends) (log : Log) (f : Flow) (e : ConnectionEnd) → Matches Driver first part log → HasEnd f e part
+    → is_new e ≡ false
+driver_begun first part log f e m has = driver_begun_on (side_of Driver f) (heard_of Driver first f log) _ _ _ e (m.on f) has where
+  driver_begun_on : (side : Side) (h : History) (left_open reply_owed : Bool) (ends : List ConnectionEnd) (e : ConnectionEnd)
+      → IsLeftOn Driver side h left_open reply_owed ends → ends ≡ e ∷ [] → is_new e ≡ false
+  driver_begun_on side [] left_open reply_owed ends e left one = let none = left.1 in absurd cc
+  driver_begun_on side (x ∷ h) left_open reply_owed ends e left one =
+      follows_begun side (x ∷ h) e (end_follows Driver side (x ∷ h) left_open reply_owed ends e left one refl).follows
+
+pub end_begun : (role : Role) (first : ℕ) (part : Ends) (log : Log) (f : Flow) (e : ConnectionEnd) → Matches role first part log → HasEnd f e part
+    → is_empty (heard_of role first f log) ≡ false → let h = heard_of role first f log in Follows (side_of role f) (puts h) (gots h) e
+end_begun role first part log f e m has some = (end_follows role (side_of role f) (heard_of role first f log) _ _ _ e (m.on f) has some).follows
+
+all_begun : (xs : List FlowEnd) → ((f : Flow) (e : ConnectionEnd) → ends_of f xs ≡ e ∷ [] → is_new e ≡ false)
+    → ((f : Flow) (e : ConnectionEnd) (more : List ConnectionEnd) → ends_of f xs ≡ e ∷ more → more ≡ []) → (f : Flow)
+    → is_among f (flows_of xs) ≡ is_among f (begun_flows xs)
+all_begun xs old one f = by_ends (ends_of f xs) refl where
+  any_flow : (f : Flow) (xs : List FlowEnd) → ends_of f xs ≡ [] → is_among f (flows_of xs) ≡ false
+  any_flow f [] none = refl
+  any_flow f (x ∷ xs) none = let rest = any_flow f xs in grind (arith, common_steps)
+  some_flow : (f : Flow) (e : ConnectionEnd) (more : List ConnectionEnd) (xs : List FlowEnd) → ends_of f xs ≡ e ∷ more
+      → is_among f (flows_of xs) ≡ true
+  some_flow f e more [] is = absurd cc
+  some_flow f e more (x ∷ xs) is = let rest = some_flow f e more xs in grind (arith, common_steps)
+  by_ends : (es : List ConnectionEnd) → ends_of f xs ≡ es → is_among f (flows_of xs) ≡ is_among f (begun_flows xs)
+  by_ends [] is = any_flow f xs is ∙ sym (begun_among f xs ∙ ap any_begun is)
+  by_ends (e ∷ more) is =
+      let none = one f e more is in
+      let begun = old f e (is ∙ ap (λ es. e ∷ es) none) in
+      let b = begun_among f xs ∙ ap any_begun is in
+      some_flow f e more xs is ∙ sym (b ∙ (grind (arith, common_steps)))
+
+one_at_most : (role : Role) (side : Side) (h : History) (left_open reply_owed : Bool) (ends : List ConnectionEnd) (e : ConnectionEnd) (more : List ConnectionEnd)
+    → IsLeftOn role side h left_open reply_owed ends → ends ≡ e ∷ more → more ≡ []
+one_at_most role side h left_open reply_owed ends e more left is =
+    at_most_one role side h left_open reply_owed e more (subst (IsLeftOn role side h left_open reply_owed) is left)
+
+pub only_end : (role : Role) (first : ℕ) (part : Ends) (log : Log) (f : Flow) (e : ConnectionEnd) (more : List ConnectionEnd) → Matches role first part log
+    → ends_of f part.entries ≡ e ∷ more → more ≡ []
+only_end role first part log f e more m is = one_at_most role (side_of role f) (heard_of role first f log) _ _ _ e more (m.on f) is
+
+pub driver_open : (first : ℕ) (part : Ends) (log : Log) (f : Flow) → Matches Driver first part log
+    → is_among f (flows_of part.entries) ≡ is_open Driver first f log (is_among f part.replies)
+driver_open first part log f m =
+    all_begun part.entries (λ g e has. driver_begun first part log g e m has) (λ g e more is. only_end Driver first part log g e more m is) f
+    ∙ table_open Driver first part log f m
+
+-- A flow without an end isn't open.
+pub none_open : (role : Role) (first : ℕ) (part : Ends) (log : Log) (f : Flow) → Matches role first part log → HasNone f part
+    → is_open role first f log (is_among f part.replies) ≡ false
+none_open role first part log f m none = sym (table_open role first part log f m) ∙ begun_among f part.entries ∙ ap any_begun none
+
+-- No flow stands twice.
+none_again : (f : Flow) (x : FlowEnd) (xs : List FlowEnd) → same_flow f x.flow ≡ true → ends_of f (x ∷ xs) ≡ x.end ∷ [] → ends_of f xs ≡ []
+none_again = grind (arith, common_steps)
+
+-- After a transport reset no connection is left that has begun.
+none_among : (fs : List Flow) → ((f : Flow) → is_among f fs ≡ false) → fs ≡ []
+none_among [] none = refl
+none_among (f ∷ fs) none = let own = same_self f in let n = none f in absurd (grind (arith, common_steps))
+
+pub reset_empty : (role : Role) (first cid : ℕ) (part : Ends) (log : Log) → Matches role first part (Mark cid ∷ log) → begun_flows part.entries ≡ []
+reset_empty role first cid part log m = none_among (begun_flows part.entries) (λ f. table_open role first part (Mark cid ∷ log) f m)
