@@ -4,3 +4,4 @@ pub mod Frame
 pub mod Steps
 pub mod Fair
 pub mod Tables
+pub mod Slots

@@ -1,5 +1,5 @@
 -- The table of an end that matches its log.
-use Rattle.std.proofs.Common.{rules, ◌≡◌, ◌≢◌, ℕ, Bool, true, false, ◌&&◌, ◌||◌, not, List, [], ◌∷◌, refl, sym, ap, ◌∙◌, subst, arith}
+use Rattle.std.proofs.Common.{rules, ◌≡◌, ◌≢◌, ℕ, zero, suc, ◌<◌, length, slice_index_or, Bool, true, false, ◌&&◌, ◌||◌, not, List, [], ◌∷◌, refl, sym, ap, ◌∙◌, subst, arith}
 use Rattle.std.proofs.lemmas.Grind.{common_steps}
 use Rattle.std.specs.List.{All, AllPairs}
 use Rattle.std.proofs.lemmas.List.Kept.{AllPairs-cons}
@@ -109,10 +109,6 @@ pub none_open : (role : Role) (first : ℕ) (part : Ends) (log : Log) (f : Flow)
     → is_open role first f log (is_among f part.replies) ≡ false
 none_open role first part log f m none = sym (table_open role first part log f m) ∙ begun_among f part.entries ∙ ap any_begun none
 
--- No flow stands twice.
-none_again : (f : Flow) (x : FlowEnd) (xs : List FlowEnd) → same_flow f x.flow ≡ true → ends_of f (x ∷ xs) ≡ x.end ∷ [] → ends_of f xs ≡ []
-none_again = grind (arith, common_steps)
-
 -- After a transport reset no connection is left that has begun.
 none_among : (fs : List Flow) → ((f : Flow) → is_among f fs ≡ false) → fs ≡ []
 none_among [] none = refl
@@ -120,3 +116,31 @@ none_among (f ∷ fs) none = let own = same_self f in let n = none f in absurd (
 
 pub reset_empty : (role : Role) (first cid : ℕ) (part : Ends) (log : Log) → Matches role first part (Mark cid ∷ log) → begun_flows part.entries ≡ []
 reset_empty role first cid part log m = none_among (begun_flows part.entries) (λ f. table_open role first part (Mark cid ∷ log) f m)
+
+-- At most one end a flow.
+abbrev IsOnce : List FlowEnd → Type 0
+IsOnce xs = (f : Flow) (e : ConnectionEnd) (more : List ConnectionEnd) → ends_of f xs ≡ e ∷ more → more ≡ []
+
+once_rest : (x : FlowEnd) (xs : List FlowEnd) → IsOnce (x ∷ xs) → IsOnce xs
+once_rest x xs once f e more is =
+    let one = once f x.end (e ∷ more) in
+    let two = once f e more in
+    grind (arith, common_steps)
+
+no_flow_at : (f : Flow) (xs : List FlowEnd) (k : ℕ) (d : FlowEnd) → ends_of f xs ≡ [] → k < length xs → f ≢ (slice_index_or xs k d).flow
+no_flow_at f [] k d none less is = absurd (omega (arith, less))
+no_flow_at f (x ∷ xs) zero d none less is =
+    let own : same_flow f x.flow ≡ true = subst (λ g. same_flow f g ≡ true) is (same_self f) in absurd (grind (arith, common_steps))
+no_flow_at f (x ∷ xs) (suc k) d none less is =
+    let rest : ends_of f xs ≡ [] = (grind (arith, common_steps)) in no_flow_at f xs k d rest (omega (arith, less)) is
+
+own_none : (x : FlowEnd) (xs : List FlowEnd) → IsOnce (x ∷ xs) → ends_of x.flow xs ≡ []
+own_none x xs once = once x.flow x.end (ends_of x.flow xs) (rw (same_self x.flow) refl)
+
+all_distinct : (xs : List FlowEnd) → IsOnce xs → AllPairs (λ d e. d.flow ≢ e.flow) xs
+all_distinct [] once = λ i j d before less. absurd (omega (arith, less))
+all_distinct (x ∷ xs) once =
+    AllPairs-cons (λ d e. d.flow ≢ e.flow) x xs (λ k d less. no_flow_at x.flow xs k d (own_none x xs once) less) (all_distinct xs (once_rest x xs once))
+
+pub table_distinct : (role : Role) (first : ℕ) (part : Ends) (log : Log) → Matches role first part log → AllPairs (λ d e. d.flow ≢ e.flow) part.entries
+table_distinct role first part log m = all_distinct part.entries (λ f e more is. only_end role first part log f e more m is)

@@ -1,5 +1,6 @@
 use Rattle.vs_matching.proofs.Fair.{heard_less}
 use Rattle.vs_matching.proofs.Tables.{table_open}
+use Rattle.vs_matching.proofs.Slots.{changed_slot}
 use Rattle.std.proofs.Common.{refl}
 use Rattle.vs_matching.proofs.laws.first.Goals as goal
 
