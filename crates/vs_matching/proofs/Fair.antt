@@ -1,20 +1,22 @@
 -- What is put keeps a log fair, and what a fair log says of the packets that are got.
-use Rattle.std.proofs.Common.{rules, ◌≡◌, ◌↔◌, ◌⊎◌, inl, inr, ℕ, ◌≤◌, Bool, true, false, ◌&&◌, not, if◌then◌else◌, List, [], ◌∷◌, length, Some, refl, sym, ap, ◌∙◌, subst, arith}
+use Rattle.std.proofs.Common.{rules, ◌≡◌, ◌≢◌, ℕ, ◌+◌, ◌≤◌, Bool, true, false, ◌&&◌, not, if◌then◌else◌, List, [], ◌∷◌, length, Some, refl, sym, ap, ◌∙◌, subst, arith}
 use Rattle.std.proofs.lemmas.Grind.{common_steps}
 use Rattle.vs_wrap.specs.Wrap.{unwrap32}
 use Rattle.vs_conn.specs.End.{CanSend, ConnectionEnd, asked, is_refused, owes_of, verdict_of}
 use Rattle.vs_conn.specs.Follows.{Follows, IsSpace, IsTaken, owed_packet, payload_packet}
 use Rattle.vs_conn.specs.declared.end.Owed.{Owed}
 use Rattle.vs_conn.specs.declared.end.Owed.TheVariants as owed
+use Rattle.vs_conn.specs.declared.end.State.TheVariants.{Ended}
 use Rattle.vs_conn.specs.declared.route.Route.{Route}
+use Rattle.vs_credit.specs.Credit.{room_of}
 use Rattle.vs_conn.proofs.Getting.{get_taken}
-use Rattle.vs_conn.proofs.Steps.{opening_may, pay_may, send_may, taken_of}
+use Rattle.vs_conn.proofs.Steps.{opening_may, pay_may, room_plain, send_may, taken_of}
 use Rattle.vs_flow.specs.Flow.{same_flow}
 use Rattle.vs_flow.specs.declared.flow.Flow.{Flow}
 use Rattle.vs_history.specs.History.{History, Entry, Put, Got, Side, Asker, Answerer, peer, puts, gots, is_begun, MayPut, Allows, IsFair}
-use Rattle.vs_history.specs.Packets.{bytes, has, is_request, is_response, is_rst, told_alloc, told_forwarded}
+use Rattle.vs_history.specs.Packets.{allowance, bytes, has, is_request, is_response, is_rst, told_alloc, told_forwarded}
 use Rattle.vs_history.specs.declared.packet.Packet.{Packet}
-use Rattle.vs_history.proofs.Fair.{sound}
+use Rattle.vs_history.proofs.Fair.{BothSound, sound}
 use Rattle.vs_page.specs.Fair.{IsFairLog, IsFairOn}
 use Rattle.vs_page.specs.Log.{Log, Role, Driver, Device, flow_put, flow_got, history_of, side_of}
 use Rattle.vs_page.specs.Open.{cid_of, is_dropped}
@@ -22,7 +24,7 @@ use Rattle.vs_page.specs.declared.log.LogEntry.TheVariants.{PutPacket, GotPacket
 use Rattle.vs_page.proofs.Entries.{one_put}
 use Rattle.vs_page.proofs.Flows.{same_self}
 use Rattle.vs_matching.specs.Ends.{Ends, is_among}
-use Rattle.vs_matching.specs.Heard.{IsHeardFair, IsInOrder, heard_of, is_empty, route_of}
+use Rattle.vs_matching.specs.Heard.{IsAllHeard, IsInOrder, IsWithin, IsWithinCredit, heard_of, is_empty, route_of}
 use Rattle.vs_matching.specs.Matches.{IsAsking, Matches}
 use Rattle.vs_matching.specs.Steps.{HasEnd, IsNextFlow, owed_on, payload_on, reply_on, request_on}
 use Rattle.vs_matching.proofs.Frame.{heard_got, heard_put}
@@ -128,7 +130,34 @@ put_fair role first f p log is fair may =
     (heard_less role first f log (fair f)) may) in
     (one_put role log p).1 (fair, subst (λ x. MayPut (side_of role x) (puts (history_of role x log)) (gots (history_of role x log)) p) (sym is) all)
 
--- Packets that are put.
+-- A packet that is got: what a fair log says.
+fair_order : (side : Side) (h heard : History) (p : Packet) → IsFair side (Got p ∷ h) → (h ≡ [] → heard ≡ []) → puts heard ≡ puts h
+    → IsInOrder side heard p
+fair_order side [] heard p fair none same = let e = none refl in grind (arith, common_steps)
+fair_order side (x ∷ h) [] p fair none same = let begun = fair_begun side h x fair.1 in grind (arith, common_steps)
+fair_order side (x ∷ h) (y ∷ heard) p fair none same = let begun = fair_begun side h x fair.1 in grind (arith, common_steps)
+
+-- Where the log is fair and what an end put is within the credit that it heard, its credit is sound.
+both_sound : (side : Side) (h heard : History) → IsFair side h → puts heard ≡ puts h → SaysLess (gots heard) (gots h) → IsWithin heard
+    → BothSound (puts heard) (gots heard)
+both_sound side h heard fair same less within =
+    let s = subst (λ ps. BothSound ps (gots h)) (sym same) (sound side h fair) in
+    grind (arith, s.out.alloc, s.back.fits, s.back.forwarded, s.back.alloc, less.bytes_less, less.forwarded_less, less.alloc_less, within.fits, within.forwarded)
+
+sound_heard : (role : Role) (first : ℕ) (f : Flow) (log : Log) → IsFairOn role f log → IsWithinCredit role first f log
+    → let h = heard_of role first f log in BothSound (puts h) (gots h)
+sound_heard role first f log fair within =
+    both_sound (side_of role f) (history_of role f log) (heard_of role first f log) fair (heard_puts role first f log)
+    (heard_less role first f log fair) within
+
+put_within : (side : Side) (put got : List Packet) (p : Packet) → MayPut side put got p → bytes put ≤ allowance got → told_forwarded put ≤ bytes got
+    → (bytes (p ∷ put) ≤ allowance got) × (told_forwarded (p ∷ put) ≤ bytes got)
+put_within = grind (arith, common_steps)
+
+allowance_rises : (got : List Packet) (p : Packet) → (is_rst p ≡ false → told_alloc got ≤ p.header.buf_alloc) → allowance got ≤ allowance (p ∷ got)
+allowance_rises got p rises = grind (arith, common_steps)
+
+-- The packets that may be put, by what was heard.
 open_may : (role : Role) (first cid : ℕ) (f : Flow) (alloc : ℕ) (part : Ends) (log : Log) → Matches role first part log → IsNextFlow role f part → IsSpace alloc
     → (let h = heard_of role first f log in MayPut (side_of role f) (puts h) (gots h) (request_on role cid f alloc))
 open_may role first cid f alloc part log m next space =
@@ -138,13 +167,13 @@ open_may role first cid f alloc part log m next space =
     (subst (λ x. MayPut x [] [] p) (sym next.asker) (opening_may alloc (route_of role cid f) space))
 
 send_may_on : (role : Role) (first cid : ℕ) (f : Flow) (e : ConnectionEnd) (payload : List ℕ) (part : Ends) (log : Log) → Matches role first part log
-    → HasEnd f e part → CanSend e (length payload) → IsHeardFair role first f log
+    → HasEnd f e part → CanSend e (length payload) → IsFairOn role f log → IsWithinCredit role first f log
     → (let h = heard_of role first f log in MayPut (side_of role f) (puts h) (gots h) (payload_on role cid f e payload))
-send_may_on role first cid f e payload part log m has can fair =
+send_may_on role first cid f e payload part log m has can fair within =
     let h = heard_of role first f log in
     let some = some_of h (λ none. asking_sends_none (side_of role f) e (length payload) (end_asks role (side_of role f) h _ _ _ e (m.on f) has none) can) in
     let o = end_follows role (side_of role f) h _ _ _ e (m.on f) has some in
-    send_may (side_of role f) (puts h) (gots h) e (route_of role cid f) payload (sound (side_of role f) h fair) o.follows can
+    send_may (side_of role f) (puts h) (gots h) e (route_of role cid f) payload (sound_heard role first f log fair within) o.follows can
 
 pay_first_may : (side : Side) (e : ConnectionEnd) (route : Route) → IsAsking side e → MayPut side [] [] (owed_packet e route owed.Request)
 pay_first_may side e route a =
@@ -152,141 +181,183 @@ pay_first_may side e route a =
     (subst (λ x. MayPut Asker [] [] (owed_packet x route owed.Request)) (sym a.asks) (opening_may e.credit.alloc route a.space))
 
 pay_may_by : (side : Side) (h : History) (e : ConnectionEnd) (route : Route) (what : Owed) → (is_empty h ≡ true → IsAsking side e)
-    → (is_empty h ≡ false → Follows side (puts h) (gots h) e) → owes_of e ≡ Some what → IsFair side h
+    → (is_empty h ≡ false → Follows side (puts h) (gots h) e) → owes_of e ≡ Some what → BothSound (puts h) (gots h)
     → MayPut side (puts h) (gots h) (owed_packet e route what)
-pay_may_by side [] e route what asks follows owes fair =
+pay_may_by side [] e route what asks follows owes sound_is =
     let a = asks refl in
     subst (λ x. MayPut side [] [] (owed_packet e route x)) (sym (pays_new side e what a owes)) (pay_first_may side e route a)
-pay_may_by side (x ∷ h) e route what asks follows owes fair =
-    pay_may side (puts (x ∷ h)) (gots (x ∷ h)) e route what (sound side (x ∷ h) fair) (follows refl) owes
+pay_may_by side (x ∷ h) e route what asks follows owes sound_is =
+    pay_may side (puts (x ∷ h)) (gots (x ∷ h)) e route what sound_is (follows refl) owes
 
 pay_may_on : (role : Role) (first cid : ℕ) (f : Flow) (e : ConnectionEnd) (what : Owed) (part : Ends) (log : Log) → Matches role first part log
-    → HasEnd f e part → owes_of e ≡ Some what → IsHeardFair role first f log
+    → HasEnd f e part → owes_of e ≡ Some what → IsFairOn role f log → IsWithinCredit role first f log
     → (let h = heard_of role first f log in MayPut (side_of role f) (puts h) (gots h) (owed_on role cid f e what))
-pay_may_on role first cid f e what part log m has owes fair =
+pay_may_on role first cid f e what part log m has owes fair within =
     let h = heard_of role first f log in
     pay_may_by (side_of role f) h e (route_of role cid f) what (end_asks role (side_of role f) h _ _ _ e (m.on f) has)
-    (λ some. (end_follows role (side_of role f) h _ _ _ e (m.on f) has some).follows) owes fair
+    (λ some. (end_follows role (side_of role f) h _ _ _ e (m.on f) has some).follows) owes (sound_heard role first f log fair within)
 
-reply_may : (side : Side) (h : History) (route : Route) (role : Role) (cid : ℕ) (f : Flow) → IsFair side h → is_empty h ≡ false
+reply_may : (side : Side) (h : History) (role : Role) (cid : ℕ) (f : Flow) → IsFair side h → is_empty h ≡ false
     → MayPut side (puts h) (gots h) (reply_on role cid f)
-reply_may side [] route role cid f fair some = absurd cc
-reply_may side (x ∷ h) route Driver cid f fair some = let begun = fair_begun side h x fair in grind (arith, common_steps)
-reply_may side (x ∷ h) route Device cid f fair some = let begun = fair_begun side h x fair in grind (arith, common_steps)
+reply_may side [] role cid f fair some = absurd cc
+reply_may side (x ∷ h) Driver cid f fair some = let begun = fair_begun side h x fair in grind (arith, common_steps)
+reply_may side (x ∷ h) Device cid f fair some = let begun = fair_begun side h x fair in grind (arith, common_steps)
 
--- A packet that is got: what a fair log says.
-fair_order : (side : Side) (h heard : History) (p : Packet) → IsFair side (Got p ∷ h) → (h ≡ [] → heard ≡ []) → puts heard ≡ puts h
-    → IsInOrder side heard p
-fair_order side [] heard p fair none same = let e = none refl in grind (arith, common_steps)
-fair_order side (x ∷ h) [] p fair none same = let begun = fair_begun side h x fair.1 in grind (arith, common_steps)
-fair_order side (x ∷ h) (y ∷ heard) p fair none same = let begun = fair_begun side h x fair.1 in grind (arith, common_steps)
-
--- Each put keeps the log fair, and what was heard on the flow.
-heard_fair : (role : Role) (first : ℕ) (f : Flow) (p : Packet) (log : Log) → flow_put role p ≡ f → IsHeardFair role first f log
-    → (let h = heard_of role first f log in MayPut (side_of role f) (puts h) (gots h) p) → IsHeardFair role first f (PutPacket p ∷ log)
-heard_fair role first f p log is fair may = subst (IsFair (side_of role f)) (sym (heard_put role first f p log is)) (may, fair)
-
+-- Each put keeps the log fair.
 pub open_fair : (role : Role) (first cid : ℕ) (f : Flow) (alloc : ℕ) (part : Ends) (log : Log) → Matches role first part log → IsFairLog role log
     → IsNextFlow role f part → IsSpace alloc → IsFairLog role (PutPacket (request_on role cid f alloc) ∷ log)
 open_fair role first cid f alloc part log m fair next space =
     put_fair role first f (request_on role cid f alloc) log (request_flow role cid f alloc) fair (open_may role first cid f alloc part log m next space)
 
 pub send_fair : (role : Role) (first cid : ℕ) (f : Flow) (e : ConnectionEnd) (payload : List ℕ) (part : Ends) (log : Log) → Matches role first part log
-    → IsFairLog role log → IsHeardFair role first f log → HasEnd f e part → CanSend e (length payload)
+    → IsFairLog role log → IsWithinCredit role first f log → HasEnd f e part → CanSend e (length payload)
     → IsFairLog role (PutPacket (payload_on role cid f e payload) ∷ log)
-send_fair role first cid f e payload part log m fair heard has can =
+send_fair role first cid f e payload part log m fair within has can =
     put_fair role first f (payload_on role cid f e payload) log (payload_flow role cid f e payload) fair
-    (send_may_on role first cid f e payload part log m has can heard)
+    (send_may_on role first cid f e payload part log m has can (fair f) within)
 
 pub pay_fair : (role : Role) (first cid : ℕ) (f : Flow) (e : ConnectionEnd) (what : Owed) (part : Ends) (log : Log) → Matches role first part log
-    → IsFairLog role log → IsHeardFair role first f log → HasEnd f e part → owes_of e ≡ Some what
+    → IsFairLog role log → IsWithinCredit role first f log → HasEnd f e part → owes_of e ≡ Some what
     → IsFairLog role (PutPacket (owed_on role cid f e what) ∷ log)
-pay_fair role first cid f e what part log m fair heard has owes =
+pay_fair role first cid f e what part log m fair within has owes =
     put_fair role first f (owed_on role cid f e what) log (owed_flow role cid f e what) fair
-    (pay_may_on role first cid f e what part log m has owes heard)
+    (pay_may_on role first cid f e what part log m has owes (fair f) within)
 
 history_some : (role : Role) (first : ℕ) (f : Flow) (log : Log) (h : History) → history_of role f log ≡ h → is_empty (heard_of role first f log) ≡ false
     → is_empty h ≡ false
 history_some role first f log [] is some = let none = ap is_empty (heard_none role first f log is) in absurd cc
 history_some role first f log (x ∷ h) is some = refl
 
+reply_may_on : (role : Role) (first cid : ℕ) (f : Flow) (part : Ends) (log : Log) → Matches role first part log → IsFairOn role f log
+    → is_among f part.replies ≡ true → (let h = history_of role f log in MayPut (side_of role f) (puts h) (gots h) (reply_on role cid f))
+reply_may_on role first cid f part log m fair owed_is =
+    let some = history_some role first f log (history_of role f log) refl (reply_heard role first f part log m owed_is) in
+    reply_may (side_of role f) (history_of role f log) role cid f fair some
+
 pub reply_fair : (role : Role) (first cid : ℕ) (f : Flow) (part : Ends) (log : Log) → Matches role first part log → IsFairLog role log
     → is_among f part.replies ≡ true → IsFairLog role (PutPacket (reply_on role cid f) ∷ log)
 reply_fair role first cid f part log m fair owed_is =
     let p = reply_on role cid f in
-    let some = history_some role first f log (history_of role f log) refl (reply_heard role first f part log m owed_is) in
-    let may = reply_may (side_of role f) (history_of role f log) (route_of role cid f) role cid f (fair f) some in
     (one_put role log p).1
-    (fair, subst (λ x. MayPut (side_of role x) (puts (history_of role x log)) (gots (history_of role x log)) p) (sym (reply_flow role cid f)) may)
+    (fair, subst (λ x. MayPut (side_of role x) (puts (history_of role x log)) (gots (history_of role x log)) p) (sym (reply_flow role cid f))
+      (reply_may_on role first cid f part log m (fair f) owed_is))
 
-pub open_heard_fair : (role : Role) (first cid : ℕ) (f : Flow) (alloc : ℕ) (part : Ends) (log : Log) → Matches role first part log
-    → IsNextFlow role f part → IsSpace alloc → IsHeardFair role first f (PutPacket (request_on role cid f alloc) ∷ log)
-open_heard_fair role first cid f alloc part log m next space =
-    heard_fair role first f (request_on role cid f alloc) log (request_flow role cid f alloc)
-    (subst (IsFair (side_of role f)) (sym (m.unused f next.asker next.port).silent) tt) (open_may role first cid f alloc part log m next space)
+-- Each keeps what was put within credit.
+put_keeps_within : (role : Role) (first : ℕ) (f : Flow) (p : Packet) (log : Log) → flow_put role p ≡ f
+    → (let h = heard_of role first f log in MayPut (side_of role f) (puts h) (gots h) p) → IsWithinCredit role first f log
+    → IsWithinCredit role first f (PutPacket p ∷ log)
+put_keeps_within role first f p log is may within =
+    let h = heard_of role first f log in
+    let two = put_within (side_of role f) (puts h) (gots h) p may within.fits within.forwarded in
+    subst IsWithin (sym (heard_put role first f p log is)) (record { fits = two.0; forwarded = two.1 })
 
-pub send_heard_fair : (role : Role) (first cid : ℕ) (f : Flow) (e : ConnectionEnd) (payload : List ℕ) (part : Ends) (log : Log)
-    → Matches role first part log → IsHeardFair role first f log → HasEnd f e part → CanSend e (length payload)
-    → IsHeardFair role first f (PutPacket (payload_on role cid f e payload) ∷ log)
-send_heard_fair role first cid f e payload part log m heard has can =
-    heard_fair role first f (payload_on role cid f e payload) log (payload_flow role cid f e payload) heard
-    (send_may_on role first cid f e payload part log m has can heard)
+pub open_within : (role : Role) (first cid : ℕ) (f : Flow) (alloc : ℕ) (part : Ends) (log : Log) → Matches role first part log
+    → IsNextFlow role f part → IsSpace alloc → IsWithinCredit role first f log → IsWithinCredit role first f (PutPacket (request_on role cid f alloc) ∷ log)
+open_within role first cid f alloc part log m next space within =
+    put_keeps_within role first f (request_on role cid f alloc) log (request_flow role cid f alloc)
+    (open_may role first cid f alloc part log m next space) within
 
-pub pay_heard_fair : (role : Role) (first cid : ℕ) (f : Flow) (e : ConnectionEnd) (what : Owed) (part : Ends) (log : Log)
-    → Matches role first part log → IsHeardFair role first f log → HasEnd f e part → owes_of e ≡ Some what
-    → IsHeardFair role first f (PutPacket (owed_on role cid f e what) ∷ log)
-pay_heard_fair role first cid f e what part log m heard has owes =
-    heard_fair role first f (owed_on role cid f e what) log (owed_flow role cid f e what) heard
-    (pay_may_on role first cid f e what part log m has owes heard)
+pub send_within : (role : Role) (first cid : ℕ) (f : Flow) (e : ConnectionEnd) (payload : List ℕ) (part : Ends) (log : Log)
+    → Matches role first part log → IsFairLog role log → IsWithinCredit role first f log → HasEnd f e part → CanSend e (length payload)
+    → IsWithinCredit role first f (PutPacket (payload_on role cid f e payload) ∷ log)
+send_within role first cid f e payload part log m fair within has can =
+    put_keeps_within role first f (payload_on role cid f e payload) log (payload_flow role cid f e payload)
+    (send_may_on role first cid f e payload part log m has can (fair f) within) within
 
-pub reply_heard_fair : (role : Role) (first cid : ℕ) (f : Flow) (part : Ends) (log : Log) → Matches role first part log
-    → IsHeardFair role first f log → is_among f part.replies ≡ true → IsHeardFair role first f (PutPacket (reply_on role cid f) ∷ log)
-reply_heard_fair role first cid f part log m heard owed_is =
-    heard_fair role first f (reply_on role cid f) log (reply_flow role cid f) heard
-    (reply_may (side_of role f) (heard_of role first f log) (route_of role cid f) role cid f heard (reply_heard role first f part log m owed_is))
+pub pay_within : (role : Role) (first cid : ℕ) (f : Flow) (e : ConnectionEnd) (what : Owed) (part : Ends) (log : Log)
+    → Matches role first part log → IsFairLog role log → IsWithinCredit role first f log → HasEnd f e part → owes_of e ≡ Some what
+    → IsWithinCredit role first f (PutPacket (owed_on role cid f e what) ∷ log)
+pay_within role first cid f e what part log m fair within has owes =
+    put_keeps_within role first f (owed_on role cid f e what) log (owed_flow role cid f e what)
+    (pay_may_on role first cid f e what part log m has owes (fair f) within) within
+
+reply_is_small : (role : Role) (cid : ℕ) (f : Flow) (h : History) → IsWithin h → IsWithin (Put (reply_on role cid f) ∷ h)
+reply_is_small role cid f h within = grind (arith, common_steps)
+
+pub reply_within : (role : Role) (first cid : ℕ) (f : Flow) (log : Log) → IsWithinCredit role first f log
+    → IsWithinCredit role first f (PutPacket (reply_on role cid f) ∷ log)
+reply_within role first cid f log within =
+    subst IsWithin (sym (heard_put role first f (reply_on role cid f) log (reply_flow role cid f))) (reply_is_small role cid f (heard_of role first f log) within)
+
+got_within_by : (side : Side) (h heard : History) (p : Packet) (same dropped : Bool) → IsFair side (if same then Got p ∷ h else h)
+    → (IsFair side h → SaysLess (gots heard) (gots h)) → IsWithin heard → IsWithin (if same && not dropped then Got p ∷ heard else heard)
+got_within_by side h heard p true true fair less within = within
+got_within_by side h heard p true false fair less within =
+    let l = less fair.1 in
+    let rises = got_rises side h p fair.0 in
+    let a = allowance_rises (gots heard) p (λ other. omega (arith, rises other, l.alloc_less)) in
+    record { fits = omega (arith, a, within.fits); forwarded = omega (arith, within.forwarded) }
+got_within_by side h heard p false dropped fair less within = within
+
+pub got_within : (role : Role) (first : ℕ) (f : Flow) (p : Packet) (log : Log) → IsFairOn role f (GotPacket p ∷ log) → IsWithinCredit role first f log
+    → IsWithinCredit role first f (GotPacket p ∷ log)
+got_within role first f p log fair within =
+    got_within_by (side_of role f) (history_of role f log) (heard_of role first f log) p (same_flow f (flow_got role p))
+    (is_dropped role (cid_of first log) p.header) fair (heard_less role first f log) within
+
+within_by : (side : Side) (h heard : History) → IsFair side h → heard ≡ h → IsWithin heard
+within_by side h heard fair is = let s = sound side h fair in subst IsWithin (sym is) (record { fits = s.out.fits; forwarded = s.out.forwarded })
+
+pub all_within : (role : Role) (first : ℕ) (f : Flow) (log : Log) → IsFairOn role f log → IsAllHeard role first f log → IsWithinCredit role first f log
+all_within role first f log fair all = within_by (side_of role f) (history_of role f log) (heard_of role first f log) fair all
+
+pub driver_within : (first : ℕ) (f : Flow) (log : Log) → IsFairOn Driver f log → IsWithinCredit Driver first f log
+driver_within first f log fair = all_within Driver first f log fair (heard_all first f log)
+
 
 -- A packet got that is fair comes in order, and its fields fit.
+own_got_fair : (role : Role) (p : Packet) (log : Log) → let f = flow_got role p in IsFairOn role f (GotPacket p ∷ log)
+    → IsFair (side_of role f) (Got p ∷ history_of role f log)
+own_got_fair role p log fair =
+    let f = flow_got role p in
+    let own : history_of role f (GotPacket p ∷ log) ≡ Got p ∷ history_of role f log = rw (same_self f) refl in
+    subst (IsFair (side_of role f)) own fair
+
 pub got_in_order : (role : Role) (first : ℕ) (p : Packet) (log : Log) → let f = flow_got role p in IsFairOn role f (GotPacket p ∷ log)
     → IsInOrder (side_of role f) (heard_of role first f log) p
 got_in_order role first p log fair =
     let f = flow_got role p in
-    let own : history_of role f (GotPacket p ∷ log) ≡ Got p ∷ history_of role f log = rw (same_self f) refl in
-    fair_order (side_of role f) (history_of role f log) (heard_of role first f log) p (subst (IsFair (side_of role f)) own fair)
+    fair_order (side_of role f) (history_of role f log) (heard_of role first f log) p (own_got_fair role p log fair)
     (heard_none role first f log) (heard_puts role first f log)
 
 pub got_is_taken : (role : Role) (p : Packet) (log : Log) → let f = flow_got role p in IsFairOn role f (GotPacket p ∷ log) → IsTaken p
-got_is_taken role p log fair =
-    let f = flow_got role p in
-    let own : history_of role f (GotPacket p ∷ log) ≡ Got p ∷ history_of role f log = rw (same_self f) refl in
-    taken_of p (subst (IsFair (side_of role f)) own fair).0.formed
-
-heard_got_fair : (role : Role) (first : ℕ) (p : Packet) (part : Ends) (log : Log) → let f = flow_got role p in Matches role first part log
-    → is_dropped role part.cid p.header ≡ false → IsHeardFair role first f (GotPacket p ∷ log)
-    → IsFair (side_of role f) (Got p ∷ heard_of role first f log)
-heard_got_fair role first p part log m kept fair =
-    let f = flow_got role p in
-    subst (IsFair (side_of role f)) (heard_got role first f p log refl (cid_heard role first part log p false m kept)) fair
-
-pub got_not_refused : (role : Role) (first : ℕ) (p : Packet) (e : ConnectionEnd) (part : Ends) (log : Log) → let f = flow_got role p in
-    Matches role first part log → is_dropped role part.cid p.header ≡ false → HasEnd f e part → IsHeardFair role first f (GotPacket p ∷ log)
-    → is_refused (verdict_of e p.header) ≡ false
-got_not_refused role first p e part log m kept has fair =
-    let f = flow_got role p in
-    let h = heard_of role first f log in
-    let now = heard_got_fair role first p part log m kept fair in
-    let order = fair_order (side_of role f) h h p now (λ none. none) refl in
-    let some = some_of h (λ none.
-      let a = end_asks role (side_of role f) h _ _ _ e (m.on f) has none in
-      let both : true ≡ false = sym none ∙ order.asked a.asker in absurd cc) in
-    get_taken (side_of role f) h e p now (end_follows role (side_of role f) h _ _ _ e (m.on f) has some).follows
+got_is_taken role p log fair = taken_of p (own_got_fair role p log fair).0.formed
 
 first_asks : (side : Side) (h : History) (p : Packet) → IsFair side (Got p ∷ h) → is_request p ≡ is_empty h
 first_asks side [] p fair = grind (arith, common_steps)
 first_asks side (x ∷ h) p fair = let begun = fair_begun side h x fair.1 in grind (arith, common_steps)
 
-pub got_asks : (role : Role) (first : ℕ) (p : Packet) (part : Ends) (log : Log) → let f = flow_got role p in Matches role first part log
-    → is_dropped role part.cid p.header ≡ false → IsHeardFair role first f (GotPacket p ∷ log)
-    → is_request p ≡ is_empty (heard_of role first f log)
-got_asks role first p part log m kept fair =
+pub got_asks : (role : Role) (p : Packet) (log : Log) → let f = flow_got role p in IsFairOn role f (GotPacket p ∷ log)
+    → is_request p ≡ is_empty (history_of role f log)
+got_asks role p log fair = first_asks (side_of role (flow_got role p)) (history_of role (flow_got role p) log) p (own_got_fair role p log fair)
+
+-- The end of a flow on which a fair packet is got follows what was heard.
+got_follows : (role : Role) (first : ℕ) (p : Packet) (e : ConnectionEnd) (part : Ends) (log : Log) → let f = flow_got role p in
+    Matches role first part log → HasEnd f e part → IsFairOn role f (GotPacket p ∷ log)
+    → (let h = heard_of role first f log in Follows (side_of role f) (puts h) (gots h) e)
+got_follows role first p e part log m has fair =
     let f = flow_got role p in
-    first_asks (side_of role f) (heard_of role first f log) p (heard_got_fair role first p part log m kept fair)
+    let h = heard_of role first f log in
+    let order = got_in_order role first p log fair in
+    let some = some_of h (λ none.
+      let a = end_asks role (side_of role f) h _ _ _ e (m.on f) has none in
+      let both : true ≡ false = sym none ∙ order.asked a.asker in absurd cc) in
+    (end_follows role (side_of role f) h _ _ _ e (m.on f) has some).follows
+
+pub got_not_refused : (role : Role) (first : ℕ) (p : Packet) (e : ConnectionEnd) (part : Ends) (log : Log) → let f = flow_got role p in
+    Matches role first part log → HasEnd f e part → IsFairOn role f (GotPacket p ∷ log) → IsAllHeard role first f log
+    → is_refused (verdict_of e p.header) ≡ false
+got_not_refused role first p e part log m has fair all =
+    let f = flow_got role p in
+    let h = history_of role f log in
+    let follows = subst (λ x. Follows (side_of role f) (puts x) (gots x) e) all (got_follows role first p e part log m has fair) in
+    get_taken (side_of role f) h e p (own_got_fair role p log fair) follows
+
+-- Payload of a fair packet has room.
+has_room : (side : Side) (put got : List Packet) (e : ConnectionEnd) (more : ℕ) → BothSound put got → Follows side put got e → e.state ≢ Ended
+    → bytes got + more ≤ allowance put → more ≤ room_of e.credit
+has_room side put got e more sound_is follows alive fits =
+    let left = follows.left alive in
+    let plain = room_plain side put got e sound_is follows.fwd_cnt left in
+    let told = left.alloc_told in
+    grind (arith, plain, told, fits)

@@ -1,10 +1,10 @@
 -- What an end heard on a flow, and the order in which packets come.
-use Rattle.std.specs.Prelude.{◌≡◌, ℕ, Bool, true, false, ◌&&◌, not, if◌then◌else◌, [], ◌∷◌}
+use Rattle.std.specs.Prelude.{◌≡◌, ◌≤◌, ℕ, Bool, true, false, ◌&&◌, not, if◌then◌else◌, [], ◌∷◌}
 use Rattle.vs_conn.specs.declared.route.Route.{Route}
 use Rattle.vs_flow.specs.Flow.{same_flow}
 use Rattle.vs_flow.specs.declared.flow.Flow.{Flow}
-use Rattle.vs_history.specs.History.{History, Put, Got, Side, Asker, Answerer, IsFair}
-use Rattle.vs_history.specs.Packets.{is_request}
+use Rattle.vs_history.specs.History.{History, Put, Got, Side, Asker, Answerer, puts, gots}
+use Rattle.vs_history.specs.Packets.{allowance, bytes, is_request, told_forwarded}
 use Rattle.vs_history.specs.declared.packet.Packet.{Packet}
 use Rattle.vs_page.specs.Log.{Log, Role, Driver, Device, flow_put, flow_got, history_of, side_of}
 use Rattle.vs_page.specs.Open.{cid_of, is_dropped}
@@ -21,12 +21,17 @@ heard_of role first f (GotPacket p ∷ log) =
     else heard_of role first f log
 heard_of role first f (_ ∷ log) = heard_of role first f log
 
--- No packet of a flow was dropped; what was heard on it is fair.
+-- No packet of a flow was dropped.
 abbrev pub IsAllHeard : Role → ℕ → Flow → Log → Type 0
 IsAllHeard role first f log = heard_of role first f log ≡ history_of role f log
 
-abbrev pub IsHeardFair : Role → ℕ → Flow → Log → Type 0
-IsHeardFair role first f log = IsFair (side_of role f) (heard_of role first f log)
+-- The payload that an end put is within the credit that it heard, and it says that no more was forwarded than it heard.
+pub record IsWithin (h : History) : Type 0 where
+  pub fits : bytes (puts h) ≤ allowance (gots h)
+  pub forwarded : told_forwarded (puts h) ≤ bytes (gots h)
+
+abbrev pub IsWithinCredit : Role → ℕ → Flow → Log → Type 0
+IsWithinCredit role first f log = IsWithin (heard_of role first f log)
 
 abbrev pub is_empty : History → Bool
 is_empty [] = true

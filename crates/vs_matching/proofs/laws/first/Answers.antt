@@ -1,4 +1,4 @@
-use Rattle.vs_matching.proofs.Fair.{heard_less}
+use Rattle.vs_matching.proofs.Fair.{all_within}
 use Rattle.vs_matching.proofs.Tables.{table_open}
 use Rattle.vs_matching.proofs.Slots.{changed_slot}
 use Rattle.std.proofs.Common.{refl}
