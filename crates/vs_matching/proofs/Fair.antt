@@ -14,7 +14,8 @@ use Rattle.vs_conn.proofs.Steps.{opening_may, pay_may, room_plain, send_may, tak
 use Rattle.vs_flow.specs.Flow.{same_flow}
 use Rattle.vs_flow.specs.declared.flow.Flow.{Flow}
 use Rattle.vs_history.specs.History.{History, Entry, Put, Got, Side, Asker, Answerer, peer, puts, gots, is_begun, MayPut, Allows, IsFair}
-use Rattle.vs_history.specs.Packets.{allowance, bytes, has, is_request, is_response, is_rst, told_alloc, told_forwarded}
+use Rattle.vs_header.specs.declared.Header.{Header}
+use Rattle.vs_history.specs.Packets.{allowance, bytes, has, is_request, is_response, is_rst, size, told_alloc, told_forwarded}
 use Rattle.vs_history.specs.declared.packet.Packet.{Packet}
 use Rattle.vs_history.proofs.Fair.{BothSound, sound}
 use Rattle.vs_page.specs.Fair.{IsFairLog, IsFairOn}
@@ -26,7 +27,7 @@ use Rattle.vs_page.proofs.Flows.{same_self}
 use Rattle.vs_matching.specs.Ends.{Ends, is_among}
 use Rattle.vs_matching.specs.Heard.{IsAllHeard, IsInOrder, IsWithin, IsWithinCredit, heard_of, is_empty, route_of}
 use Rattle.vs_matching.specs.Matches.{IsAsking, Matches}
-use Rattle.vs_matching.specs.Steps.{HasEnd, IsNextFlow, owed_on, payload_on, reply_on, request_on}
+use Rattle.vs_matching.specs.Steps.{HasEnd, IsNextFlow, is_overrun, owed_on, payload_on, reply_on, request_on}
 use Rattle.vs_matching.proofs.Frame.{heard_got, heard_put}
 use Rattle.vs_matching.proofs.OnFlow.{end_asks, end_follows}
 use Rattle.vs_matching.proofs.Steps.{asking_sends_none, cid_heard, owed_flow, payload_flow, pays_new, reply_flow, reply_heard, request_flow, some_of}
@@ -361,3 +362,26 @@ has_room side put got e more sound_is follows alive fits =
     let plain = room_plain side put got e sound_is follows.fwd_cnt left in
     let told = left.alloc_told in
     grind (arith, plain, told, fits)
+
+overrun_by : (e : ConnectionEnd) (h : Header) → (e.state ≢ Ended → h.len ≤ room_of e.credit) → is_overrun (verdict_of e h) ≡ false
+overrun_by = search rules
+
+size_fits : (side : Side) (h : History) (p : Packet) → Allows side h (Got p) → bytes (gots h) ≤ allowance (puts h)
+    → (p.header.len ≡ size p) × (bytes (gots h) + size p ≤ allowance (puts h))
+size_fits = grind (arith, common_steps)
+
+pub got_no_overrun : (role : Role) (first : ℕ) (p : Packet) (e : ConnectionEnd) (part : Ends) (log : Log) → let f = flow_got role p in
+    Matches role first part log → HasEnd f e part → IsFairOn role f (GotPacket p ∷ log) → IsWithinCredit role first f log
+    → is_overrun (verdict_of e p.header) ≡ false
+got_no_overrun role first p e part log m has fair within =
+    let f = flow_got role p in
+    let h = history_of role f log in
+    let heard = heard_of role first f log in
+    let own = own_got_fair role p log fair in
+    let follows = got_follows role first p e part log m has fair in
+    let sound_is = sound_heard role first f log own.1 within in
+    let less = heard_less role first f log own.1 in
+    let two = size_fits (side_of role f) h p own.0 (sound (side_of role f) h own.1).back.fits in
+    let same = ap allowance (heard_puts role first f log) in
+    overrun_by e p.header (λ alive. has_room (side_of role f) (puts heard) (gots heard) e p.header.len sound_is follows alive
+      (omega (arith, two.0, two.1, less.bytes_less, same)))

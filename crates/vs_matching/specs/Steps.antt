@@ -1,10 +1,13 @@
 -- The small steps of an end of many connections: what each does to it. A step that puts or gets a packet adds that to the log.
-use Rattle.std.specs.Prelude.{◌≡◌, ◌≤◌, ℕ, ◌+◌, ◌&&◌, if◌then◌else◌, List, [], ◌∷◌, ◌++◌}
+use Rattle.std.specs.Prelude.{◌≡◌, ◌≤◌, ℕ, ◌+◌, Bool, true, false, ◌&&◌, if◌then◌else◌, List, [], ◌∷◌, ◌++◌}
 use Rattle.vs_conn.specs.End.{ConnectionEnd, answering, asked, end_after, is_stream, paid_of}
 use Rattle.vs_conn.specs.Follows.{owed_packet, payload_packet}
 use Rattle.vs_conn.specs.Headers.{reset_header}
 use Rattle.vs_conn.specs.declared.end.Owed.{Owed}
 use Rattle.vs_conn.specs.declared.end.Owed.TheVariants as owed
+use Rattle.vs_conn.specs.declared.end.Verdict.{Verdict}
+use Rattle.vs_conn.specs.declared.end.Verdict.TheVariants as verdict
+use Rattle.vs_conn.specs.declared.end.Why.TheVariants.{Overrun}
 use Rattle.vs_flow.specs.declared.flow.Flow.{Flow}
 use Rattle.vs_header.specs.declared.Header.{Header}
 use Rattle.vs_history.specs.History.{Asker}
@@ -88,3 +91,8 @@ payload_on role cid f e payload = payload_packet e (route_of role cid f) payload
 
 abbrev pub reply_on : Role → ℕ → Flow → Packet
 reply_on role cid f = record { header = reset_header (route_of role cid f); payload = [] }
+
+-- Whether a packet is refused for more payload than there is room for.
+abbrev pub is_overrun : Verdict → Bool
+is_overrun (verdict.Rst (Overrun o)) = true
+is_overrun _ = false
