@@ -385,3 +385,11 @@ got_no_overrun role first p e part log m has fair within =
     let same = ap allowance (heard_puts role first f log) in
     overrun_by e p.header (λ alive. has_room (side_of role f) (puts heard) (gots heard) e p.header.len sound_is follows alive
       (omega (arith, two.0, two.1, less.bytes_less, same)))
+
+-- What one more entry does where no packet of a flow was dropped.
+pub all_put : (role : Role) (first : ℕ) (f : Flow) (p : Packet) (log : Log) → IsAllHeard role first f log → IsAllHeard role first f (PutPacket p ∷ log)
+all_put role first f p log all = grind (arith, common_steps)
+
+pub all_got : (role : Role) (first : ℕ) (f : Flow) (p : Packet) (log : Log) → is_dropped role (cid_of first log) p.header ≡ false
+    → IsAllHeard role first f log → IsAllHeard role first f (GotPacket p ∷ log)
+all_got role first f p log kept all = grind (arith, common_steps)

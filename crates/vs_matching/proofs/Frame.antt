@@ -8,6 +8,8 @@ use Rattle.vs_history.specs.History.{History, Put, Got, Side, Asker}
 use Rattle.vs_history.specs.declared.packet.Packet.{Packet}
 use Rattle.vs_page.specs.Log.{Log, Role, flow_put, flow_got, side_of}
 use Rattle.vs_page.specs.Open.{cid_of, is_dropped, is_left_open, opened_by, opened_by_got}
+use Rattle.vs_page.specs.Frame.{is_about}
+use Rattle.vs_page.specs.declared.log.LogEntry.{LogEntry}
 use Rattle.vs_page.specs.declared.log.LogEntry.TheVariants.{PutPacket, GotPacket, PutEvent, GotEvent, Mark}
 use Rattle.vs_matching.specs.Ends.{Ends, ends_of, is_among}
 use Rattle.vs_matching.specs.Heard.{heard_of, is_empty, own_port}
@@ -136,3 +138,11 @@ pub alone_got : (role : Role) (first : ℕ) (old new : Ends) (log : Log) (p : Pa
 alone_got role first old new log p f g is other ends replies =
     let not_own : same_flow g (flow_got role p) ≡ false = subst (λ x. same_flow g x ≡ false) (sym is) other in
     record { heard = rw not_own refl; left_open = rw not_own refl; ends = ends; replies = replies }
+
+pub heard_other : (role : Role) (first : ℕ) (f : Flow) (entry : LogEntry) (log : Log) → is_about role f entry ≡ false
+    → heard_of role first f (entry ∷ log) ≡ heard_of role first f log
+heard_other role first f (PutPacket p) log other = rw other refl
+heard_other role first f (GotPacket p) log other = rw other refl
+heard_other role first f (PutEvent id) log other = refl
+heard_other role first f (GotEvent id) log other = refl
+heard_other role first f (Mark cid) log other = refl

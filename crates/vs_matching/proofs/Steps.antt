@@ -241,7 +241,7 @@ pay_keeps role first cid f e owed.CreditRequest part log m has owes = pay_other 
 pay_keeps role first cid f e (owed.Shutdown bits) part log m has owes = pay_other role first cid f e (owed.Shutdown bits) part log m has owes refl
 
 -- A reply.
-next_owed : (f : Flow) (rest replies : List Flow) → replies ≡ f ∷ rest → is_among f replies ≡ true
+pub next_owed : (f : Flow) (rest replies : List Flow) → replies ≡ f ∷ rest → is_among f replies ≡ true
 next_owed f rest replies is = rw is (rw (same_self f) refl)
 
 rest_owed : (f g : Flow) (rest replies : List Flow) → replies ≡ f ∷ rest → same_flow g f ≡ false → is_among g rest ≡ is_among g replies

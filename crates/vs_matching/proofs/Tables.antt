@@ -16,7 +16,7 @@ use Rattle.vs_matching.specs.Heard.{heard_of, is_empty}
 use Rattle.vs_matching.specs.Matches.{IsAsking, IsBefore, IsHeld, IsLeftOn, Matches}
 use Rattle.vs_matching.specs.Steps.{HasEnd, HasNone}
 use Rattle.vs_matching.proofs.Frame.{silent_closed}
-use Rattle.vs_matching.proofs.OnFlow.{asking_is_new, at_most_one, end_follows}
+use Rattle.vs_matching.proofs.OnFlow.{asks_before, asking_is_new, at_most_one, end_follows}
 use Rattle.vs_page.proofs.Flows.{same_self}
 
 -- An end that follows what was heard has its REQUEST put or got.
@@ -66,9 +66,16 @@ driver_begun first part log f e m has = driver_begun_on (side_of Driver f) (hear
   driver_begun_on side (x ∷ h) left_open reply_owed ends e left one =
       follows_begun side (x ∷ h) e (end_follows Driver side (x ∷ h) left_open reply_owed ends e left one refl).follows
 
+begun_by : (role : Role) (side : Side) (h : History) (left_open reply_owed : Bool) (ends : List ConnectionEnd) (e : ConnectionEnd)
+    → IsLeftOn role side h left_open reply_owed ends → ends ≡ e ∷ [] → is_new e ≡ false → Follows side (puts h) (gots h) e
+begun_by role side [] left_open reply_owed ends e left one old =
+    let new = asking_is_new side e (asks_before role side ends e left.1 one) in absurd cc
+begun_by role side (x ∷ h) left_open reply_owed ends e left one old =
+    (end_follows role side (x ∷ h) left_open reply_owed ends e left one refl).follows
+
 pub end_begun : (role : Role) (first : ℕ) (part : Ends) (log : Log) (f : Flow) (e : ConnectionEnd) → Matches role first part log → HasEnd f e part
-    → is_empty (heard_of role first f log) ≡ false → let h = heard_of role first f log in Follows (side_of role f) (puts h) (gots h) e
-end_begun role first part log f e m has some = (end_follows role (side_of role f) (heard_of role first f log) _ _ _ e (m.on f) has some).follows
+    → is_new e ≡ false → let h = heard_of role first f log in Follows (side_of role f) (puts h) (gots h) e
+end_begun role first part log f e m has old = begun_by role (side_of role f) (heard_of role first f log) _ _ _ e (m.on f) has old
 
 all_begun : (xs : List FlowEnd) → ((f : Flow) (e : ConnectionEnd) → ends_of f xs ≡ e ∷ [] → is_new e ≡ false)
     → ((f : Flow) (e : ConnectionEnd) (more : List ConnectionEnd) → ends_of f xs ≡ e ∷ more → more ≡ []) → (f : Flow)
@@ -144,3 +151,14 @@ all_distinct (x ∷ xs) once =
 
 pub table_distinct : (role : Role) (first : ℕ) (part : Ends) (log : Log) → Matches role first part log → AllPairs (λ d e. d.flow ≢ e.flow) part.entries
 table_distinct role first part log m = all_distinct part.entries (λ f e more is. only_end role first part log f e more m is)
+
+-- A connection that has not begun is one that asks, on a flow on which nothing was heard.
+new_by : (role : Role) (side : Side) (h : History) (left_open reply_owed : Bool) (ends : List ConnectionEnd) (e : ConnectionEnd)
+    → IsLeftOn role side h left_open reply_owed ends → ends ≡ e ∷ [] → is_new e ≡ true → (h ≡ []) × IsAsking side e
+new_by role side [] left_open reply_owed ends e left one new = (refl, asks_before role side ends e left.1 one)
+new_by role side (x ∷ h) left_open reply_owed ends e left one new =
+    let old = follows_begun side (x ∷ h) e (end_follows role side (x ∷ h) left_open reply_owed ends e left one refl).follows in absurd cc
+
+pub end_new : (role : Role) (first : ℕ) (part : Ends) (log : Log) (f : Flow) (e : ConnectionEnd) → Matches role first part log → HasEnd f e part
+    → is_new e ≡ true → (heard_of role first f log ≡ []) × IsAsking (side_of role f) e
+end_new role first part log f e m has new = new_by role (side_of role f) (heard_of role first f log) _ _ _ e (m.on f) has new

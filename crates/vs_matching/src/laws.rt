@@ -1,23 +1,28 @@
 //! Laws of an end of many connections.
 
-ghost use Rattle.std.specs.Prelude.{◌≡◌, ℕ, ◌≤◌, false, true, List, [], ◌∷◌, length, Some};
-ghost use Rattle.vs_conn.specs.End.{CanSend, ConnectionEnd, aborted, grown, owes_of, wanting_credit, with_payload_forwarded};
-ghost use Rattle.vs_conn.specs.End.{with_payload_sent, with_shut};
+ghost use Rattle.std.specs.Prelude.{◌≡◌, ◌≢◌, ℕ, ◌≤◌, Bool, false, true, List, [], ◌∷◌, ◌++◌, length, find, AllPairs, Contains, Some, None};
+ghost use Rattle.vs_conn.specs.End.{CanSend, ConnectionEnd, aborted, grown, is_refused, owes_of, verdict_of, wanting_credit};
+ghost use Rattle.vs_conn.specs.End.{with_payload_forwarded, with_payload_sent, with_shut};
 ghost use Rattle.vs_conn.specs.Follows.{Follows, IsSpace, IsTaken};
 ghost use Rattle.vs_conn.specs.declared.end.Owed.{Owed};
 ghost use Rattle.vs_credit.specs.Credit.{unread_of};
+ghost use Rattle.vs_flow.specs.Table.{IsTable, Table, entry_of, with_entry, with_value, without};
 ghost use Rattle.vs_flow.specs.declared.flow.Flow.{Flow};
-ghost use Rattle.vs_history.specs.History.{gots, puts};
+ghost use Rattle.vs_flow.specs.declared.table.Entry.{Entry};
+ghost use Rattle.vs_history.specs.History.{Put, Got, gots, puts};
 ghost use Rattle.vs_history.specs.Packets.{is_request, is_rst};
 ghost use Rattle.vs_history.specs.declared.TheConstants.{BUF_ALLOC_MAX};
 ghost use Rattle.vs_history.specs.declared.packet.Packet.{Packet};
-ghost use Rattle.vs_matching.specs.Ends.{Ends, is_new};
-ghost use Rattle.vs_matching.specs.Heard.{IsInOrder, heard_of};
-ghost use Rattle.vs_matching.specs.Matches.{Matches};
-ghost use Rattle.vs_matching.specs.Steps.{HasEnd, HasNone, IsNextFlow, accepted, asking, emptied, opened, owed_on, paid, payload_on};
-ghost use Rattle.vs_matching.specs.Steps.{refused, reply_on, request_on, reset, taken, with_end, with_replies};
-ghost use Rattle.vs_page.specs.Log.{Device, Driver, Log, Role, flow_got, side_of};
-ghost use Rattle.vs_page.specs.Open.{is_dropped};
+ghost use Rattle.vs_matching.specs.Ends.{Ends, begun_flows, ends_of, entries_of, flows_of, is_among, is_new, replaced, without_flow};
+ghost use Rattle.vs_matching.specs.Heard.{IsAllHeard, IsInOrder, IsWithinCredit, heard_of, is_empty};
+ghost use Rattle.vs_matching.specs.Matches.{IsAsking, Matches};
+ghost use Rattle.vs_matching.specs.Steps.{HasEnd, HasNone, IsNextFlow, accepted, asking, emptied, is_overrun, opened, owed_on, paid};
+ghost use Rattle.vs_matching.specs.Steps.{payload_on, refused, reply_on, request_on, reset, taken, with_end, with_replies};
+ghost use Rattle.vs_page.specs.Fair.{IsFairLog, IsFairOn};
+ghost use Rattle.vs_page.specs.Frame.{is_about};
+ghost use Rattle.vs_page.specs.Log.{Device, Driver, Log, Role, flow_got, flow_put, history_of, side_of};
+ghost use Rattle.vs_page.specs.Open.{cid_of, is_dropped, is_open};
+ghost use Rattle.vs_page.specs.declared.log.LogEntry.{LogEntry};
 ghost use Rattle.vs_page.specs.declared.log.LogEntry.TheVariants.{GotEvent, GotPacket, Mark, PutEvent, PutPacket};
 
 /// An end without connections matches the empty log. It still matches after it opens a connection whose REQUEST it puts at once, after
@@ -105,7 +110,120 @@ pub fn law_of_events()
         → Matches role first (emptied cid part) (Mark cid ∷ log) }
 {}
 
-/// x
-pub fn first()
-    ensures { (f : ℕ) → f ≡ f }
+/// What an end heard on a flow is what passed there without the packets that were dropped, and the driver drops none. A packet that is put
+/// or got is the newest that was heard on its flow. A packet of another flow, an event and a transport reset change nothing in it.
+pub fn law_of_hearing()
+    ensures driver { (first : ℕ) (f : Flow) (log : Log) → IsAllHeard Driver first f log }
+    ensures puts { (role : Role) (first : ℕ) (f : Flow) (log : Log) → puts (heard_of role first f log) ≡ puts (history_of role f log) }
+    ensures put { (role : Role) (first : ℕ) (f : Flow) (p : Packet) (log : Log) → flow_put role p ≡ f
+        → heard_of role first f (PutPacket p ∷ log) ≡ Put p ∷ heard_of role first f log }
+    ensures got { (role : Role) (first : ℕ) (f : Flow) (p : Packet) (log : Log) → flow_got role p ≡ f
+        → is_dropped role (cid_of first log) p.header ≡ false
+        → heard_of role first f (GotPacket p ∷ log) ≡ Got p ∷ heard_of role first f log }
+    ensures dropped { (role : Role) (first : ℕ) (f : Flow) (p : Packet) (log : Log) → is_dropped role (cid_of first log) p.header ≡ true
+        → heard_of role first f (GotPacket p ∷ log) ≡ heard_of role first f log }
+    ensures other { (role : Role) (first : ℕ) (f : Flow) (entry : LogEntry) (log : Log) → is_about role f entry ≡ false
+        → heard_of role first f (entry ∷ log) ≡ heard_of role first f log }
+    ensures reset { (role : Role) (first cid : ℕ) (f : Flow) (log : Log)
+        → heard_of role first f (Mark cid ∷ log) ≡ heard_of role first f log }
+    ensures all_put { (role : Role) (first : ℕ) (f : Flow) (p : Packet) (log : Log) → IsAllHeard role first f log
+        → IsAllHeard role first f (PutPacket p ∷ log) }
+    ensures all_got { (role : Role) (first : ℕ) (f : Flow) (p : Packet) (log : Log) → is_dropped role (cid_of first log) p.header ≡ false
+        → IsAllHeard role first f log → IsAllHeard role first f (GotPacket p ∷ log) }
+{}
+
+/// Each packet that an end puts keeps its log fair, where what it put on the flow so far is within the credit that it heard.
+pub fn law_of_fairness()
+    ensures opens { (role : Role) (first cid : ℕ) (f : Flow) (alloc : ℕ) (part : Ends) (log : Log) → Matches role first part log
+        → IsFairLog role log → IsNextFlow role f part → IsSpace alloc
+        → IsFairLog role (PutPacket (request_on role cid f alloc) ∷ log) }
+    ensures sends { (role : Role) (first cid : ℕ) (f : Flow) (e : ConnectionEnd) (payload : List ℕ) (part : Ends) (log : Log)
+        → Matches role first part log → IsFairLog role log → IsWithinCredit role first f log → HasEnd f e part → CanSend e (length payload)
+        → IsFairLog role (PutPacket (payload_on role cid f e payload) ∷ log) }
+    ensures pays { (role : Role) (first cid : ℕ) (f : Flow) (e : ConnectionEnd) (what : Owed) (part : Ends) (log : Log)
+        → Matches role first part log → IsFairLog role log → IsWithinCredit role first f log → HasEnd f e part → owes_of e ≡ Some what
+        → IsFairLog role (PutPacket (owed_on role cid f e what) ∷ log) }
+    ensures replies { (role : Role) (first cid : ℕ) (f : Flow) (rest : List Flow) (part : Ends) (log : Log) → Matches role first part log
+        → IsFairLog role log → part.replies ≡ f ∷ rest → IsFairLog role (PutPacket (reply_on role cid f) ∷ log) }
+{}
+
+/// What an end put on a flow is within the credit that it heard. This holds at the driver over any fair log, and at the device where no packet
+/// of the flow was dropped. Each packet that is put keeps it, and each that is got where the log is fair with it.
+pub fn law_of_credit()
+    ensures driver { (first : ℕ) (f : Flow) (log : Log) → IsFairOn Driver f log → IsWithinCredit Driver first f log }
+    ensures all_heard { (role : Role) (first : ℕ) (f : Flow) (log : Log) → IsFairOn role f log → IsAllHeard role first f log
+        → IsWithinCredit role first f log }
+    ensures opens { (role : Role) (first cid : ℕ) (f : Flow) (alloc : ℕ) (part : Ends) (log : Log) → Matches role first part log
+        → IsNextFlow role f part → IsSpace alloc → IsWithinCredit role first f log
+        → IsWithinCredit role first f (PutPacket (request_on role cid f alloc) ∷ log) }
+    ensures sends { (role : Role) (first cid : ℕ) (f : Flow) (e : ConnectionEnd) (payload : List ℕ) (part : Ends) (log : Log)
+        → Matches role first part log → IsFairLog role log → IsWithinCredit role first f log → HasEnd f e part → CanSend e (length payload)
+        → IsWithinCredit role first f (PutPacket (payload_on role cid f e payload) ∷ log) }
+    ensures pays { (role : Role) (first cid : ℕ) (f : Flow) (e : ConnectionEnd) (what : Owed) (part : Ends) (log : Log)
+        → Matches role first part log → IsFairLog role log → IsWithinCredit role first f log → HasEnd f e part → owes_of e ≡ Some what
+        → IsWithinCredit role first f (PutPacket (owed_on role cid f e what) ∷ log) }
+    ensures replies { (role : Role) (first cid : ℕ) (f : Flow) (log : Log) → IsWithinCredit role first f log
+        → IsWithinCredit role first f (PutPacket (reply_on role cid f) ∷ log) }
+    ensures got { (role : Role) (first : ℕ) (f : Flow) (p : Packet) (log : Log) → IsFairOn role f (GotPacket p ∷ log)
+        → IsWithinCredit role first f log → IsWithinCredit role first f (GotPacket p ∷ log) }
+{}
+
+/// A packet that keeps the log fair comes in order, and its fields fit; it is a REQUEST exactly where nothing passed on its flow before. A
+/// connection never refuses it where no packet of the flow was dropped, which at the driver is always. It has room for its payload in
+/// any case (Virtio 1.2, sections 5.10.6.3 and 5.10.6.5).
+pub fn law_of_fair_packets()
+    ensures in_order { (role : Role) (first : ℕ) (p : Packet) (log : Log) → let f = flow_got role p in IsFairOn role f (GotPacket p ∷ log)
+        → IsInOrder (side_of role f) (heard_of role first f log) p }
+    ensures fits { (role : Role) (p : Packet) (log : Log) → IsFairOn role (flow_got role p) (GotPacket p ∷ log) → IsTaken p }
+    ensures asks { (role : Role) (p : Packet) (log : Log) → let f = flow_got role p in IsFairOn role f (GotPacket p ∷ log)
+        → is_request p ≡ is_empty (history_of role f log) }
+    ensures never_refused { (role : Role) (first : ℕ) (p : Packet) (e : ConnectionEnd) (part : Ends) (log : Log) → let f = flow_got role p in
+        Matches role first part log → HasEnd f e part → IsFairOn role f (GotPacket p ∷ log) → IsAllHeard role first f log
+        → is_refused (verdict_of e p.header) ≡ false }
+    ensures driver { (first : ℕ) (p : Packet) (e : ConnectionEnd) (part : Ends) (log : Log) → let f = flow_got Driver p in
+        Matches Driver first part log → HasEnd f e part → IsFairOn Driver f (GotPacket p ∷ log)
+        → is_refused (verdict_of e p.header) ≡ false }
+    ensures no_overrun { (role : Role) (first : ℕ) (p : Packet) (e : ConnectionEnd) (part : Ends) (log : Log) → let f = flow_got role p in
+        Matches role first part log → HasEnd f e part → IsFairOn role f (GotPacket p ∷ log) → IsWithinCredit role first f log
+        → is_overrun (verdict_of e p.header) ≡ false }
+{}
+
+/// The table of an end that matches its log. No flow stands twice in it. The flows of its connections that have begun are exactly those that
+/// the log left open, less those to which an RST is owed as a reply; all of the driver's have begun. After a transport reset there is none.
+/// Each follows what was heard on its flow. One that has not begun asks for its flow, on which nothing was heard.
+pub fn law_of_the_table()
+    ensures once { (role : Role) (first : ℕ) (part : Ends) (log : Log) → Matches role first part log
+        → AllPairs (λ d e. d.flow ≢ e.flow) part.entries }
+    ensures open { (role : Role) (first : ℕ) (part : Ends) (log : Log) (f : Flow) → Matches role first part log
+        → is_among f (begun_flows part.entries) ≡ is_open role first f log (is_among f part.replies) }
+    ensures driver { (first : ℕ) (part : Ends) (log : Log) (f : Flow) → Matches Driver first part log
+        → is_among f (flows_of part.entries) ≡ is_open Driver first f log (is_among f part.replies) }
+    ensures closed { (role : Role) (first : ℕ) (part : Ends) (log : Log) (f : Flow) → Matches role first part log → HasNone f part
+        → is_open role first f log (is_among f part.replies) ≡ false }
+    ensures reset { (role : Role) (first cid : ℕ) (part : Ends) (log : Log) → Matches role first part (Mark cid ∷ log)
+        → begun_flows part.entries ≡ [] }
+    ensures begun { (first : ℕ) (part : Ends) (log : Log) (f : Flow) (e : ConnectionEnd) → Matches Driver first part log → HasEnd f e part
+        → is_new e ≡ false }
+    ensures follows { (role : Role) (first : ℕ) (part : Ends) (log : Log) (f : Flow) (e : ConnectionEnd) → Matches role first part log
+        → HasEnd f e part → is_new e ≡ false
+        → let h = heard_of role first f log in Follows (side_of role f) (puts h) (gots h) e }
+    ensures new { (role : Role) (first : ℕ) (part : Ends) (log : Log) (f : Flow) (e : ConnectionEnd) → Matches role first part log
+        → HasEnd f e part → is_new e ≡ true → (heard_of role first f log ≡ []) × IsAsking (side_of role f) e }
+{}
+
+/// In a flow table a step under a slot is one on the slot's flow: another value changes that flow's end, a removal takes the flow out, and an
+/// insertion adds one behind all others. An entry's flow has one end, and a flow without an entry none. An entry that is found is there.
+pub fn law_of_slots()
+    ensures changed { (T : Type 0) (end_of : T → ConnectionEnd) (t : Table T) (x : Entry T) (v : T) → IsTable t → Contains t.entries x
+        → entries_of end_of (with_value t x.slot v) ≡ replaced x.flow (end_of v) (entries_of end_of t) }
+    ensures removed { (T : Type 0) (end_of : T → ConnectionEnd) (t : Table T) (x : Entry T) → IsTable t → Contains t.entries x
+        → entries_of end_of (without t x.slot) ≡ without_flow x.flow (entries_of end_of t) }
+    ensures added { (T : Type 0) (end_of : T → ConnectionEnd) (t : Table T) (f : Flow) (v : T)
+        → entries_of end_of (with_entry t f v) ≡ entries_of end_of t ++ record { flow = f; end = end_of v } ∷ [] }
+    ensures one { (T : Type 0) (end_of : T → ConnectionEnd) (t : Table T) (x : Entry T) → IsTable t → Contains t.entries x
+        → ends_of x.flow (entries_of end_of t) ≡ end_of x.value ∷ [] }
+    ensures none { (T : Type 0) (end_of : T → ConnectionEnd) (t : Table T) (f : Flow) → entry_of t f ≡ None
+        → ends_of f (entries_of end_of t) ≡ [] }
+    ensures found { (T : Type 0) (test : Entry T → Bool) (xs : List (Entry T)) (x : Entry T) → find test xs ≡ Some x
+        → Contains xs x × (test x ≡ true) }
 {}
