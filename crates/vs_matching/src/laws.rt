@@ -213,17 +213,17 @@ pub fn law_of_the_table()
 
 /// In a flow table a step under a slot is one on the slot's flow: another value changes that flow's end, a removal takes the flow out, and an
 /// insertion adds one behind all others. An entry's flow has one end, and a flow without an entry none. An entry that is found is there.
-pub fn law_of_slots()
-    ensures changed { (T : Type 0) (end_of : T → ConnectionEnd) (t : Table T) (x : Entry T) (v : T) → IsTable t → Contains t.entries x
+pub fn law_of_slots<T>()
+    ensures changed { (end_of : T → ConnectionEnd) (t : Table T) (x : Entry T) (v : T) → IsTable t → Contains t.entries x
         → entries_of end_of (with_value t x.slot v) ≡ replaced x.flow (end_of v) (entries_of end_of t) }
-    ensures removed { (T : Type 0) (end_of : T → ConnectionEnd) (t : Table T) (x : Entry T) → IsTable t → Contains t.entries x
+    ensures removed { (end_of : T → ConnectionEnd) (t : Table T) (x : Entry T) → IsTable t → Contains t.entries x
         → entries_of end_of (without t x.slot) ≡ without_flow x.flow (entries_of end_of t) }
-    ensures added { (T : Type 0) (end_of : T → ConnectionEnd) (t : Table T) (f : Flow) (v : T)
+    ensures added { (end_of : T → ConnectionEnd) (t : Table T) (f : Flow) (v : T)
         → entries_of end_of (with_entry t f v) ≡ entries_of end_of t ++ record { flow = f; end = end_of v } ∷ [] }
-    ensures one { (T : Type 0) (end_of : T → ConnectionEnd) (t : Table T) (x : Entry T) → IsTable t → Contains t.entries x
+    ensures one { (end_of : T → ConnectionEnd) (t : Table T) (x : Entry T) → IsTable t → Contains t.entries x
         → ends_of x.flow (entries_of end_of t) ≡ end_of x.value ∷ [] }
-    ensures none { (T : Type 0) (end_of : T → ConnectionEnd) (t : Table T) (f : Flow) → entry_of t f ≡ None
+    ensures none { (end_of : T → ConnectionEnd) (t : Table T) (f : Flow) → entry_of t f ≡ None
         → ends_of f (entries_of end_of t) ≡ [] }
-    ensures found { (T : Type 0) (test : Entry T → Bool) (xs : List (Entry T)) (x : Entry T) → find test xs ≡ Some x
+    ensures found { (test : Entry T → Bool) (xs : List (Entry T)) (x : Entry T) → find test xs ≡ Some x
         → Contains xs x × (test x ≡ true) }
 {}
