@@ -2,3 +2,4 @@ pub mod Ends
 pub mod Heard
 pub mod Matches
 pub mod Steps
+pub mod Counterexamples

@@ -1,7 +1,7 @@
 //! Laws of an end of many connections.
 
 ghost use Rattle.std.specs.Prelude.{◌≡◌, ◌≢◌, ℕ, ◌≤◌, Bool, false, true, List, [], ◌∷◌, ◌++◌, length, find, AllPairs, Contains, Some, None};
-ghost use Rattle.vs_conn.specs.End.{CanSend, ConnectionEnd, aborted, grown, is_refused, owes_of, verdict_of, wanting_credit};
+ghost use Rattle.vs_conn.specs.End.{CanSend, ConnectionEnd, aborted, asked, grown, is_refused, owes_of, verdict_of, wanting_credit};
 ghost use Rattle.vs_conn.specs.End.{with_payload_forwarded, with_payload_sent, with_shut};
 ghost use Rattle.vs_conn.specs.Follows.{Follows, IsSpace, IsTaken};
 ghost use Rattle.vs_conn.specs.declared.end.Owed.{Owed};
@@ -9,10 +9,12 @@ ghost use Rattle.vs_credit.specs.Credit.{unread_of};
 ghost use Rattle.vs_flow.specs.Table.{IsTable, Table, entry_of, with_entry, with_value, without};
 ghost use Rattle.vs_flow.specs.declared.flow.Flow.{Flow};
 ghost use Rattle.vs_flow.specs.declared.table.Entry.{Entry};
-ghost use Rattle.vs_history.specs.History.{Put, Got, gots, puts};
+ghost use Rattle.vs_history.specs.History.{Asker, Got, Put, gots, puts};
 ghost use Rattle.vs_history.specs.Packets.{is_request, is_rst};
 ghost use Rattle.vs_history.specs.declared.TheConstants.{BUF_ALLOC_MAX};
 ghost use Rattle.vs_history.specs.declared.packet.Packet.{Packet};
+ghost use Rattle.vs_matching.specs.Counterexamples.{after_two, asking_end, guest_cid, guest_flow, host_flow, log_of_two, log_with_drop};
+ghost use Rattle.vs_matching.specs.Counterexamples.{lost_response, payload_after};
 ghost use Rattle.vs_matching.specs.Ends.{Ends, begun_flows, ends_of, entries_of, flows_of, is_among, is_new, replaced, without_flow};
 ghost use Rattle.vs_matching.specs.Heard.{IsAllHeard, IsInOrder, IsWithinCredit, heard_of, is_empty};
 ghost use Rattle.vs_matching.specs.Matches.{IsAsking, Matches};
@@ -226,4 +228,17 @@ pub fn law_of_slots<T>()
         → ends_of f (entries_of end_of t) ≡ [] }
     ensures found { (test : Entry T → Bool) (xs : List (Entry T)) (x : Entry T) → find test xs ≡ Some x
         → Contains xs x × (test x ≡ true) }
+{}
+
+/// Why the definitions say no less, by example. An end that has not put its REQUEST follows no history. Where a RESPONSE was dropped, the
+/// payload after it is refused, though the log with it is fair. Where a second REQUEST is accepted on a flow while an RST is owed for the
+/// first, the flow has a connection but isn't open.
+pub fn counterexamples()
+    ensures asks { (alloc : ℕ) → Follows Asker [] [] (asked alloc) → ⊥ }
+    ensures dropped { is_dropped Device guest_cid lost_response.header ≡ true }
+    ensures taken { is_dropped Device guest_cid payload_after.header ≡ false }
+    ensures fair { IsFairOn Device host_flow (GotPacket payload_after ∷ log_with_drop) }
+    ensures refused { is_refused (verdict_of asking_end payload_after.header) ≡ true }
+    ensures has_connection { is_among guest_flow (begun_flows after_two.entries) ≡ true }
+    ensures not_open { is_open Device guest_cid guest_flow log_of_two (is_among guest_flow after_two.replies) ≡ false }
 {}
