@@ -3,3 +3,4 @@ pub mod Heard
 pub mod Matches
 pub mod Steps
 pub mod Counterexamples
+pub mod Both

@@ -96,3 +96,8 @@ reply_on role cid f = record { header = reset_header (route_of role cid f); payl
 abbrev pub is_overrun : Verdict → Bool
 is_overrun (verdict.Rst (Overrun o)) = true
 is_overrun _ = false
+
+-- Whether a verdict is that the packet is a message of the peer's.
+abbrev pub is_message : Verdict → Bool
+is_message verdict.Peer = true
+is_message _ = false

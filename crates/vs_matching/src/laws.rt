@@ -1,7 +1,7 @@
 //! Laws of an end of many connections.
 
-ghost use Rattle.std.specs.Prelude.{◌≡◌, ◌≢◌, ℕ, ◌≤◌, Bool, false, true, List, [], ◌∷◌, ◌++◌, length, find, AllPairs, Contains, Some, None};
-ghost use Rattle.vs_conn.specs.End.{CanSend, ConnectionEnd, aborted, asked, grown, is_refused, owes_of, verdict_of, wanting_credit};
+ghost use Rattle.std.specs.Prelude.{◌≡◌, ◌≢◌, ℕ, ◌≤◌, ◌&&◌, Bool, false, true, List, [], ◌∷◌, ◌++◌, length, find, AllPairs, Contains, Some, None};
+ghost use Rattle.vs_conn.specs.End.{CanSend, ConnectionEnd, aborted, asked, grown, is_refused, is_reset, is_stream, owes_of, verdict_of, wanting_credit};
 ghost use Rattle.vs_conn.specs.End.{with_payload_forwarded, with_payload_sent, with_shut};
 ghost use Rattle.vs_conn.specs.Follows.{Follows, IsSpace, IsTaken};
 ghost use Rattle.vs_conn.specs.declared.end.Owed.{Owed};
@@ -9,6 +9,7 @@ ghost use Rattle.vs_credit.specs.Credit.{unread_of};
 ghost use Rattle.vs_flow.specs.Table.{IsTable, Table, entry_of, with_entry, with_value, without};
 ghost use Rattle.vs_flow.specs.declared.flow.Flow.{Flow};
 ghost use Rattle.vs_flow.specs.declared.table.Entry.{Entry};
+ghost use Rattle.vs_header.specs.declared.Header.{Header};
 ghost use Rattle.vs_history.specs.History.{Asker, Got, Put, gots, puts};
 ghost use Rattle.vs_history.specs.Packets.{is_request, is_rst};
 ghost use Rattle.vs_history.specs.declared.TheConstants.{BUF_ALLOC_MAX};
@@ -18,7 +19,7 @@ ghost use Rattle.vs_matching.specs.Counterexamples.{lost_response, payload_after
 ghost use Rattle.vs_matching.specs.Ends.{Ends, begun_flows, ends_of, entries_of, flows_of, is_among, is_new, replaced, without_flow};
 ghost use Rattle.vs_matching.specs.Heard.{IsAllHeard, IsInOrder, IsWithinCredit, heard_of, is_empty};
 ghost use Rattle.vs_matching.specs.Matches.{IsAsking, Matches};
-ghost use Rattle.vs_matching.specs.Steps.{HasEnd, HasNone, IsNextFlow, accepted, asking, emptied, is_overrun, opened, owed_on, paid};
+ghost use Rattle.vs_matching.specs.Steps.{HasEnd, HasNone, IsNextFlow, accepted, asking, emptied, is_message, is_overrun, opened, owed_on, paid};
 ghost use Rattle.vs_matching.specs.Steps.{payload_on, refused, reply_on, request_on, reset, taken, with_end, with_replies};
 ghost use Rattle.vs_page.specs.Fair.{IsFairLog, IsFairOn};
 ghost use Rattle.vs_page.specs.Frame.{is_about};
@@ -72,6 +73,8 @@ pub fn law_of_taking()
         → IsInOrder (side_of role f) (heard_of role first f log) p → Matches role first part (GotPacket p ∷ log) }
     ensures dropped { (role : Role) (first : ℕ) (p : Packet) (part : Ends) (log : Log) → Matches role first part log
         → is_dropped role part.cid p.header ≡ true → Matches role first part (GotPacket p ∷ log) }
+    // A connection leaves at an RST exactly where its end takes it for a message of its peer's.
+    ensures leaves { (e : ConnectionEnd) (h : Header) → (is_message (verdict_of e h) && is_reset h) ≡ (is_reset h && is_stream h) }
 {}
 
 /// An end still matches its log after one of its connections forwards payload or decides something, where the connection's REQUEST was put
