@@ -5,3 +5,4 @@ pub mod Steps
 pub mod Fair
 pub mod Tables
 pub mod Slots
+pub mod Both

@@ -14,6 +14,7 @@ ghost use Rattle.vs_history.specs.History.{Asker, Got, Put, gots, puts};
 ghost use Rattle.vs_history.specs.Packets.{is_request, is_rst};
 ghost use Rattle.vs_history.specs.declared.TheConstants.{BUF_ALLOC_MAX};
 ghost use Rattle.vs_history.specs.declared.packet.Packet.{Packet};
+ghost use Rattle.vs_matching.specs.Both.{Both, Happening, IsSound, MayRun, run, start};
 ghost use Rattle.vs_matching.specs.Counterexamples.{after_two, asking_end, guest_cid, guest_flow, host_flow, log_of_two, log_with_drop};
 ghost use Rattle.vs_matching.specs.Counterexamples.{lost_response, payload_after};
 ghost use Rattle.vs_matching.specs.Ends.{Ends, begun_flows, ends_of, entries_of, flows_of, is_among, is_new, replaced, without_flow};
@@ -23,7 +24,7 @@ ghost use Rattle.vs_matching.specs.Steps.{HasEnd, HasNone, IsNextFlow, accepted,
 ghost use Rattle.vs_matching.specs.Steps.{payload_on, refused, reply_on, request_on, reset, taken, with_end, with_replies};
 ghost use Rattle.vs_page.specs.Fair.{IsFairLog, IsFairOn};
 ghost use Rattle.vs_page.specs.Frame.{is_about};
-ghost use Rattle.vs_page.specs.Log.{Device, Driver, Log, Role, flow_got, flow_put, history_of, side_of};
+ghost use Rattle.vs_page.specs.Log.{Device, Driver, IsNextPacket, Log, Role, flow_got, flow_put, history_of, side_of};
 ghost use Rattle.vs_page.specs.Open.{cid_of, is_dropped, is_open};
 ghost use Rattle.vs_page.specs.declared.log.LogEntry.{LogEntry};
 ghost use Rattle.vs_page.specs.declared.log.LogEntry.TheVariants.{GotEvent, GotPacket, Mark, PutEvent, PutPacket};
@@ -231,6 +232,28 @@ pub fn law_of_slots<T>()
         → ends_of f (entries_of end_of t) ≡ [] }
     ensures found { (test : Entry T → Bool) (xs : List (Entry T)) (x : Entry T) → find test xs ≡ Some x
         → Contains xs x × (test x ≡ true) }
+{}
+
+/// Driver and device over every order of their steps, each where it may happen, from a fresh pair on, transport resets and changes of the
+/// guest's CID included. Both match their logs, both logs are fair, and each got what the other put first. So the driver's table is what its log
+/// left open, and the device's connections that have begun are. The driver refuses no packet, the device none of a flow of which no packet
+/// was dropped, and no payload is too much.
+pub fn law_of_both()
+    ensures sound { (first guest_port host_port : ℕ) (xs : List Happening) → MayRun xs (start first guest_port host_port)
+        → IsSound first (run xs (start first guest_port host_port)) }
+    ensures driver_table { (first guest_port host_port : ℕ) (xs : List Happening) (f : Flow) → MayRun xs (start first guest_port host_port)
+        → let w = (run xs (start first guest_port host_port)).driver in
+        is_among f (flows_of w.part.entries) ≡ is_open Driver first f w.log (is_among f w.part.replies) }
+    ensures device_table { (first guest_port host_port : ℕ) (xs : List Happening) (f : Flow) → MayRun xs (start first guest_port host_port)
+        → let w = (run xs (start first guest_port host_port)).device in
+        is_among f (begun_flows w.part.entries) ≡ is_open Device first f w.log (is_among f w.part.replies) }
+    ensures driver_accepts { (first : ℕ) (p : Packet) (e : ConnectionEnd) (b : Both) → IsSound first b
+        → IsNextPacket b.driver.log b.device.log p → HasEnd (flow_got Driver p) e b.driver.part → is_refused (verdict_of e p.header) ≡ false }
+    ensures device_accepts { (first : ℕ) (p : Packet) (e : ConnectionEnd) (b : Both) → IsSound first b
+        → IsNextPacket b.device.log b.driver.log p → HasEnd (flow_got Device p) e b.device.part
+        → IsAllHeard Device first (flow_got Device p) b.device.log → is_refused (verdict_of e p.header) ≡ false }
+    ensures device_has_room { (first : ℕ) (p : Packet) (e : ConnectionEnd) (b : Both) → IsSound first b
+        → IsNextPacket b.device.log b.driver.log p → HasEnd (flow_got Device p) e b.device.part → is_overrun (verdict_of e p.header) ≡ false }
 {}
 
 /// Why the definitions say no less, by example. An end that has not put its REQUEST follows no history. Where a RESPONSE was dropped, the
