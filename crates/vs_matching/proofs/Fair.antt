@@ -21,11 +21,12 @@ use Rattle.vs_history.proofs.Fair.{BothSound, sound}
 use Rattle.vs_page.specs.Fair.{IsFairLog, IsFairOn}
 use Rattle.vs_page.specs.Log.{Log, Role, Driver, Device, flow_put, flow_got, history_of, side_of}
 use Rattle.vs_page.specs.Open.{cid_of, is_dropped}
+use Rattle.vs_page.specs.declared.log.LogEntry.{LogEntry}
 use Rattle.vs_page.specs.declared.log.LogEntry.TheVariants.{PutPacket, GotPacket, PutEvent, GotEvent, Mark}
 use Rattle.vs_page.proofs.Entries.{one_put}
 use Rattle.vs_page.proofs.Flows.{same_self}
 use Rattle.vs_matching.specs.Ends.{Ends, is_among}
-use Rattle.vs_matching.specs.Heard.{IsAllHeard, IsInOrder, IsWithin, IsWithinCredit, heard_of, is_empty, route_of}
+use Rattle.vs_matching.specs.Heard.{IsAllHeard, IsInOrder, IsOrdered, IsOrderedLog, IsWithin, IsWithinCredit, heard_of, is_empty, route_of}
 use Rattle.vs_matching.specs.Matches.{IsAsking, Matches}
 use Rattle.vs_matching.specs.Steps.{HasEnd, IsNextFlow, is_overrun, owed_on, payload_on, reply_on, request_on}
 use Rattle.vs_matching.proofs.Frame.{heard_got, heard_put}
@@ -393,3 +394,61 @@ all_put role first f p log all = grind (arith, common_steps)
 pub all_got : (role : Role) (first : ℕ) (f : Flow) (p : Packet) (log : Log) → is_dropped role (cid_of first log) p.header ≡ false
     → IsAllHeard role first f log → IsAllHeard role first f (GotPacket p ∷ log)
 all_got role first f p log kept all = grind (arith, common_steps)
+
+-- A history in which the first packet is the only REQUEST.
+fair_put_asks : (side : Side) (h : History) (p : Packet) → IsFair side (Put p ∷ h) → is_request p ≡ is_empty h
+fair_put_asks side [] p fair = grind (arith, common_steps)
+fair_put_asks side (x ∷ h) p fair = let begun = fair_begun side h x fair.1 in grind (arith, common_steps)
+
+fair_got_side : (side : Side) (h : History) (p : Packet) → Allows side h (Got p) → is_request p ≡ true → side ≡ Answerer
+fair_got_side = grind (arith, common_steps)
+
+pub fair_ordered : (side : Side) (h : History) → IsFair side h → IsOrdered side h
+fair_ordered side [] fair = tt
+fair_ordered side (Put p ∷ h) fair = (fair_put_asks side h p fair, fair_ordered side h fair.1)
+fair_ordered side (Got p ∷ h) fair = (first_asks side h p fair, fair_got_side side h p fair.0, fair_ordered side h fair.1)
+
+asked_ordered : (h : History) (entry : Entry) → IsOrdered Asker (entry ∷ h) → has is_request (puts (entry ∷ h)) ≡ true
+asked_ordered [] (Put p) o = let first = o.0 in grind (arith, common_steps)
+asked_ordered [] (Got p) o = let none = o.1 o.0 in absurd cc
+asked_ordered (x ∷ h) (Put p) o = let rest = asked_ordered h x o.1 in grind (arith, common_steps)
+asked_ordered (x ∷ h) (Got p) o = asked_ordered h x o.2
+
+some_put : (h : History) → has is_request (puts h) ≡ true → is_empty h ≡ false
+some_put [] is = absurd cc
+some_put (x ∷ h) is = refl
+
+ordered_asked : (h heard : History) (p : Packet) → IsOrdered Asker (Got p ∷ h) → puts heard ≡ puts h → is_empty heard ≡ false
+ordered_asked [] heard p o same = let none = o.1 o.0 in absurd cc
+ordered_asked (x ∷ h) heard p o same = some_put heard (ap (has is_request) same ∙ asked_ordered h x o.2)
+
+empty_is : (h : History) → is_empty h ≡ true → h ≡ []
+empty_is [] is = refl
+empty_is (x ∷ h) is = absurd cc
+
+pub ordered_in_order : (role : Role) (first : ℕ) (p : Packet) (log : Log) → let f = flow_got role p in IsOrderedLog role (GotPacket p ∷ log)
+    → IsInOrder (side_of role f) (heard_of role first f log) p
+ordered_in_order role first p log ordered =
+    let f = flow_got role p in
+    let h = history_of role f log in
+    let own : history_of role f (GotPacket p ∷ log) ≡ Got p ∷ h = rw (same_self f) refl in
+    let o = subst (IsOrdered (side_of role f)) own (ordered f) in
+    record {
+      request = λ asks. (o.1 asks, heard_none role first f log (empty_is h (sym o.0 ∙ asks)));
+      asked = λ asker. ordered_asked h (heard_of role first f log) p (subst (λ x. IsOrdered x (Got p ∷ h)) asker o) (heard_puts role first f log);
+    }
+
+older_put : (side : Side) (h : History) (p : Packet) (b : Bool) → IsOrdered side (if b then Put p ∷ h else h) → IsOrdered side h
+older_put side h p true o = o.1
+older_put side h p false o = o
+
+older_got : (side : Side) (h : History) (p : Packet) (b : Bool) → IsOrdered side (if b then Got p ∷ h else h) → IsOrdered side h
+older_got side h p true o = o.2
+older_got side h p false o = o
+
+pub older_ordered : (role : Role) (entry : LogEntry) (log : Log) → IsOrderedLog role (entry ∷ log) → IsOrderedLog role log
+older_ordered role (PutPacket p) log o = λ f. older_put (side_of role f) (history_of role f log) p (same_flow f (flow_put role p)) (o f)
+older_ordered role (GotPacket p) log o = λ f. older_got (side_of role f) (history_of role f log) p (same_flow f (flow_got role p)) (o f)
+older_ordered role (PutEvent id) log o = o
+older_ordered role (GotEvent id) log o = o
+older_ordered role (Mark cid) log o = o

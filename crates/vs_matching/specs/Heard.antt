@@ -44,6 +44,15 @@ pub record IsInOrder (side : Side) (h : History) (p : Packet) : Type 0 where
   -- Nothing comes before the REQUEST that this end puts.
   pub asked : side ≡ Asker → is_empty h ≡ false
 
+-- The first packet of a history is its only REQUEST, and the side that asks put it.
+abbrev pub IsOrdered : Side → History → Type 0
+IsOrdered side [] = Unit {0}
+IsOrdered side (Put p ∷ h) = (is_request p ≡ is_empty h) × IsOrdered side h
+IsOrdered side (Got p ∷ h) = (is_request p ≡ is_empty h) × (is_request p ≡ true → side ≡ Answerer) × IsOrdered side h
+
+abbrev pub IsOrderedLog : Role → Log → Type 0
+IsOrderedLog role log = (f : Flow) → IsOrdered (side_of role f) (history_of role f log)
+
 -- The port of a flow that an end gives to a connection that it asks for.
 abbrev pub own_port : Role → Flow → ℕ
 own_port Driver f = f.guest

@@ -6,6 +6,7 @@ ghost use Rattle.vs_conn.specs.End.{with_payload_forwarded, with_payload_sent, w
 ghost use Rattle.vs_conn.specs.Follows.{Follows, IsSpace, IsTaken};
 ghost use Rattle.vs_conn.specs.declared.end.Owed.{Owed};
 ghost use Rattle.vs_credit.specs.Credit.{unread_of};
+ghost use Rattle.vs_flow.specs.Flow.{same_flow};
 ghost use Rattle.vs_flow.specs.Table.{IsTable, Table, entry_of, with_entry, with_value, without};
 ghost use Rattle.vs_flow.specs.declared.flow.Flow.{Flow};
 ghost use Rattle.vs_flow.specs.declared.table.Entry.{Entry};
@@ -18,10 +19,10 @@ ghost use Rattle.vs_matching.specs.Both.{Both, Happening, IsSound, MayRun, run, 
 ghost use Rattle.vs_matching.specs.Counterexamples.{after_two, asking_end, guest_cid, guest_flow, host_flow, log_of_two, log_with_drop};
 ghost use Rattle.vs_matching.specs.Counterexamples.{lost_response, payload_after};
 ghost use Rattle.vs_matching.specs.Ends.{Ends, begun_flows, ends_of, entries_of, flows_of, is_among, is_new, replaced, without_flow};
-ghost use Rattle.vs_matching.specs.Heard.{IsAllHeard, IsInOrder, IsWithinCredit, heard_of, is_empty};
+ghost use Rattle.vs_matching.specs.Heard.{IsAllHeard, IsInOrder, IsOrderedLog, IsWithinCredit, heard_of, is_empty};
 ghost use Rattle.vs_matching.specs.Matches.{IsAsking, Matches};
-ghost use Rattle.vs_matching.specs.Steps.{HasEnd, HasNone, IsNextFlow, accepted, asking, emptied, is_message, is_overrun, opened, owed_on, paid};
-ghost use Rattle.vs_matching.specs.Steps.{payload_on, refused, reply_on, request_on, reset, taken, with_end, with_replies};
+ghost use Rattle.vs_matching.specs.Steps.{HasEnd, HasNone, IsNextFlow, accepted, asking, emptied, is_message, is_overrun, left, opened, owed_on, paid};
+ghost use Rattle.vs_matching.specs.Steps.{payload_on, refused, reply_on, request_on, reset, taken, with_connection, with_end, with_replies};
 ghost use Rattle.vs_page.specs.Fair.{IsFairLog, IsFairOn};
 ghost use Rattle.vs_page.specs.Frame.{is_about};
 ghost use Rattle.vs_page.specs.Log.{Device, Driver, IsNextPacket, Log, Role, flow_got, flow_put, history_of, side_of};
@@ -114,6 +115,26 @@ pub fn law_of_events()
         → Matches Driver first (reset cid part) (Mark cid ∷ log) }
     ensures reset_made { (role : Role) (first cid : ℕ) (part : Ends) (log : Log) → Matches role first part log
         → Matches role first (emptied cid part) (Mark cid ∷ log) }
+{}
+
+/// Packets come in order over every log in which each flow's first packet is its only REQUEST and its own side's to put. A fair log is one.
+pub fn law_of_order()
+    ensures in_order { (role : Role) (first : ℕ) (p : Packet) (log : Log) → let f = flow_got role p in
+        IsOrderedLog role (GotPacket p ∷ log) → IsInOrder (side_of role f) (heard_of role first f log) p }
+    ensures older { (role : Role) (entry : LogEntry) (log : Log) → IsOrderedLog role (entry ∷ log) → IsOrderedLog role log }
+    ensures fair { (role : Role) (log : Log) → IsFairLog role log → IsOrderedLog role log }
+{}
+
+/// What a step on a flow's connection does to the ends of that flow and of others.
+pub fn law_of_ends()
+    ensures replaced { (f : Flow) (e now : ConnectionEnd) (part : Ends) → HasEnd f e part → HasEnd f now (with_end f now part) }
+    ensures left { (f : Flow) (part : Ends) → HasNone f (left f part) }
+    ensures added { (f : Flow) (e : ConnectionEnd) (part : Ends) → HasNone f part → HasEnd f e (with_connection f e part) }
+    ensures others_replaced { (f g : Flow) (e : ConnectionEnd) (part : Ends) → same_flow g f ≡ false
+        → ends_of g (with_end f e part).entries ≡ ends_of g part.entries }
+    ensures others_left { (f g : Flow) (part : Ends) → same_flow g f ≡ false → ends_of g (left f part).entries ≡ ends_of g part.entries }
+    ensures others_added { (f g : Flow) (e : ConnectionEnd) (part : Ends) → same_flow g f ≡ false
+        → ends_of g (with_connection f e part).entries ≡ ends_of g part.entries }
 {}
 
 /// What an end heard on a flow is what passed there without the packets that were dropped, and the driver drops none. A packet that is put
