@@ -1,5 +1,5 @@
 -- Each step at either seat keeps both sound.
-use Rattle.std.proofs.Common.{◌≡◌, ℕ, Bool, true, false, if◌then◌else◌, List, [], ◌∷◌, length, Option, Some, None, refl, sym, ap, ◌∙◌, subst, arith}
+use Rattle.std.proofs.Common.{◌≡◌, ℕ, Bool, true, false, if◌then◌else◌, List, [], ◌∷◌, Option, Some, None, refl, sym, ap, ◌∙◌, subst, arith}
 use Rattle.vs_conn.specs.End.{ConnectionEnd, is_refused, verdict_of}
 use Rattle.vs_conn.specs.Follows.{Follows, IsTaken}
 use Rattle.vs_conn.proofs.Steps.{abort_follows, ask_follows, forward_follows, grow_follows, shut_follows}
@@ -15,18 +15,20 @@ use Rattle.vs_page.specs.declared.log.LogEntry.TheVariants.{GotEvent, GotPacket,
 use Rattle.vs_page.proofs.Entries.{next_fair}
 use Rattle.vs_page.proofs.Flows.{same_is}
 use Rattle.vs_matching.specs.Both.{Aborts, Asks, Both, Decides, Decision, Forwards, Grows, Happening, IsAnswer, IsSound, MakesReset}
-use Rattle.vs_matching.specs.Both.{MayDecide, MayHappen, MayRun, Opens, Pays, PutsEvent, Replies, Seat, Sends, Shuts, Step, Takes, TakesEvent}
-use Rattle.vs_matching.specs.Both.{TakesReset, WantsCredit, after, after_packet, after_taking, answered, at, decided, happens, new_seat}
+use Rattle.vs_matching.specs.Both.{MayDecide, MayHappen, MayRun, Opens, Pays, PutsEvent, Replies, Seat, Sends, Shuts, Step, Takes}
+use Rattle.vs_matching.specs.Both.{TakesEvent}
+use Rattle.vs_matching.specs.Both.{TakesReset, WantsCredit, after, after_packet, answered, at, decided, happens}
 use Rattle.vs_matching.specs.Both.{run, start, with_seat}
 use Rattle.vs_matching.specs.Ends.{Ends, ends_of}
 use Rattle.vs_matching.specs.Heard.{IsAllHeard, IsInOrder, IsWithin, IsWithinCredit, heard_of}
 use Rattle.vs_matching.specs.Matches.{Matches}
 use Rattle.vs_matching.specs.Steps.{HasEnd, is_overrun, owed_on, payload_on, reply_on, request_on}
-use Rattle.vs_matching.proofs.Fair.{driver_within, got_in_order, got_is_taken, got_no_overrun, got_not_refused, got_within, heard_all, open_fair}
+use Rattle.vs_matching.proofs.Fair.{got_in_order, got_is_taken, got_no_overrun, got_not_refused, got_within, heard_all, open_fair}
 use Rattle.vs_matching.proofs.Fair.{open_within, pay_fair, pay_within, reply_fair, reply_within, send_fair, send_within}
 use Rattle.vs_matching.proofs.Frame.{heard_other}
 use Rattle.vs_matching.proofs.Steps.{accept_keeps, ask_keeps, change_keeps, drop_keeps, empty_keeps, event_got_keeps, event_put_keeps}
-use Rattle.vs_matching.proofs.Steps.{ignore_keeps, next_owed, open_keeps, owed_flow, pay_keeps, payload_flow, refuse_keeps, reply_flow, reply_keeps}
+use Rattle.vs_matching.proofs.Steps.{ignore_keeps, next_owed, open_keeps, owed_flow, pay_keeps, payload_flow, refuse_keeps}
+use Rattle.vs_matching.proofs.Steps.{reply_flow, reply_keeps}
 use Rattle.vs_matching.proofs.Steps.{request_flow, reset_keeps, send_keeps, start_matches, take_keeps}
 use Rattle.vs_matching.proofs.Tables.{only_end}
 
@@ -72,12 +74,14 @@ credit_by role first f g p log false is same own before =
     let other : same_flow g (flow_put role p) ≡ false = subst (λ x. same_flow g x ≡ false) (sym is) same in
     subst IsWithin (sym (heard_other role first g (PutPacket p) log other)) before
 
-credit_put : (role : Role) (first : ℕ) (f : Flow) (p : Packet) (log : Log) → flow_put role p ≡ f → IsWithinCredit role first f (PutPacket p ∷ log)
+credit_put : (role : Role) (first : ℕ) (f : Flow) (p : Packet) (log : Log) → flow_put role p ≡ f
+    → IsWithinCredit role first f (PutPacket p ∷ log)
     → ((g : Flow) → IsWithinCredit role first g log) → (g : Flow) → IsWithinCredit role first g (PutPacket p ∷ log)
 credit_put role first f p log is own before g = credit_by role first f g p log (same_flow g f) is refl own (before g)
 
 -- A step that puts a packet.
-put_keeps : (role : Role) (first : ℕ) (p : Packet) (part : Ends) (b : Both) → IsKept role first (record { part = part; log = PutPacket p ∷ (at role b).log })
+put_keeps : (role : Role) (first : ℕ) (p : Packet) (part : Ends) (b : Both)
+    → IsKept role first (record { part = part; log = PutPacket p ∷ (at role b).log })
     → IsSound first b → IsSound first (with_seat role (record { part = part; log = PutPacket p ∷ (at role b).log }) b)
 put_keeps role first p part b k s =
     let here = s.ties role in
@@ -90,7 +94,8 @@ put_keeps role first p part b k s =
 still_keeps : (role : Role) (first : ℕ) (part : Ends) (b : Both) → Matches role first part (at role b).log → IsSound first b
     → IsSound first (with_seat role (record { part = part; log = (at role b).log }) b)
 still_keeps role first part b m s =
-    sound_with role first (record { part = part; log = (at role b).log }) b (record { matches = m; fair = s.fair role; credit = s.credit role })
+    sound_with role first (record { part = part; log = (at role b).log }) b
+    (record { matches = m; fair = s.fair role; credit = s.credit role })
     (s.ties role) (tie_back role first b s) s
 
 -- A decision.
@@ -103,15 +108,19 @@ decided_follows side put got e WantsCredit may follows = ask_follows side put go
 decided_follows side put got e (Grows alloc) may follows = grow_follows side put got e alloc follows may.0 may.1
 
 -- A packet that is taken, where the log is fair with it.
-answer_keeps : (role : Role) (first : ℕ) (p : Packet) (answer : Option ℕ) (part : Ends) (log : Log) (asks : Bool) → let f = flow_got role p in
-    is_request p ≡ asks → Matches role first part log → is_dropped role part.cid p.header ≡ false → ends_of f part.entries ≡ [] → IsAnswer answer
+answer_keeps : (role : Role) (first : ℕ) (p : Packet) (answer : Option ℕ) (part : Ends) (log : Log) (asks : Bool)
+    → let f = flow_got role p in
+    is_request p ≡ asks → Matches role first part log → is_dropped role part.cid p.header ≡ false → ends_of f part.entries ≡ []
+    → IsAnswer answer
     → IsInOrder (side_of role f) (heard_of role first f log) p → IsTaken p
     → Matches role first (answered asks answer p f part) (GotPacket p ∷ log)
-answer_keeps role first p (Some alloc) part log true is m kept none may order fits = accept_keeps role first alloc p part log m kept none order fits is may
+answer_keeps role first p (Some alloc) part log true is m kept none may order fits =
+    accept_keeps role first alloc p part log m kept none order fits is may
 answer_keeps role first p None part log true is m kept none may order fits = refuse_keeps role first p part log m kept none order
 answer_keeps role first p answer part log false is m kept none may order fits = refuse_keeps role first p part log m kept none order
 
-unknown_keeps : (role : Role) (first : ℕ) (p : Packet) (answer : Option ℕ) (part : Ends) (log : Log) (rst : Bool) → let f = flow_got role p in
+unknown_keeps : (role : Role) (first : ℕ) (p : Packet) (answer : Option ℕ) (part : Ends) (log : Log) (rst : Bool)
+    → let f = flow_got role p in
     is_rst p ≡ rst → Matches role first part log → is_dropped role part.cid p.header ≡ false → ends_of f part.entries ≡ [] → IsAnswer answer
     → IsInOrder (side_of role f) (heard_of role first f log) p → IsTaken p
     → Matches role first (if rst then part else answered (is_request p) answer p f part) (GotPacket p ∷ log)
@@ -119,7 +128,8 @@ unknown_keeps role first p answer part log true is m kept none may order fits = 
 unknown_keeps role first p answer part log false is m kept none may order fits =
     answer_keeps role first p answer part log (is_request p) refl m kept none may order fits
 
-heard_keeps : (role : Role) (first : ℕ) (p : Packet) (answer : Option ℕ) (part : Ends) (log : Log) (ends : List ConnectionEnd) → let f = flow_got role p in
+heard_keeps : (role : Role) (first : ℕ) (p : Packet) (answer : Option ℕ) (part : Ends) (log : Log) (ends : List ConnectionEnd)
+    → let f = flow_got role p in
     ends_of f part.entries ≡ ends → Matches role first part log → is_dropped role part.cid p.header ≡ false → IsAnswer answer
     → IsInOrder (side_of role f) (heard_of role first f log) p → IsTaken p
     → Matches role first (after_packet ends p f answer part) (GotPacket p ∷ log)
@@ -129,7 +139,8 @@ heard_keeps role first p answer part log (e ∷ more) are m kept may order fits 
     let none = only_end role first part log (flow_got role p) e more m are in
     take_keeps role first p e part log m kept (are ∙ ap (λ es. e ∷ es) none) order fits
 
-taking_keeps : (role : Role) (first : ℕ) (p : Packet) (answer : Option ℕ) (part : Ends) (log : Log) (dropped : Bool) → let f = flow_got role p in
+taking_keeps : (role : Role) (first : ℕ) (p : Packet) (answer : Option ℕ) (part : Ends) (log : Log) (dropped : Bool)
+    → let f = flow_got role p in
     is_dropped role part.cid p.header ≡ dropped → Matches role first part log → IsAnswer answer
     → IsInOrder (side_of role f) (heard_of role first f log) p → IsTaken p
     → Matches role first (if dropped then part else after_packet (ends_of f part.entries) p f answer part) (GotPacket p ∷ log)
@@ -138,7 +149,8 @@ taking_keeps role first p answer part log false is m may order fits =
     heard_keeps role first p answer part log (ends_of (flow_got role p) part.entries) refl m is may order fits
 
 -- The next packet that the other seat put keeps the log fair.
-pub next_is_fair : (role : Role) (first : ℕ) (p : Packet) (b : Both) → IsSound first b → IsNextPacket (at role b).log (at (other_role role) b).log p
+pub next_is_fair : (role : Role) (first : ℕ) (p : Packet) (b : Both) → IsSound first b
+    → IsNextPacket (at role b).log (at (other_role role) b).log p
     → IsFairLog role (GotPacket p ∷ (at role b).log)
 next_is_fair role first p b s next =
     next_fair role (at role b).log (at (other_role role) b).log p (s.fair role) (s.fair (other_role role)) (tie_back role first b s) next
@@ -152,7 +164,7 @@ take_sound role first p answer b s next may =
     let there = tie_back role first b s in
     sound_with role first (after role (Takes p answer) w) b (record {
       matches = taking_keeps role first p answer w.part w.log (is_dropped role w.part.cid p.header) refl (s.matches role) may
-      (got_in_order role first p w.log (fair f)) (got_is_taken role p w.log (fair f));
+          (got_in_order role first p w.log (fair f)) (got_is_taken role p w.log (fair f));
       fair = fair;
       credit = λ g. got_within role first g p w.log (fair g) (s.credit role g);
     }) (record { packets = next; events = (s.ties role).events }) (record { packets = there.packets; events = there.events }) s
@@ -163,10 +175,12 @@ mark_keeps : (role : Role) (first cid : ℕ) (part : Ends) (b : Both) → Matche
 mark_keeps role first cid part b m s =
     let here = s.ties role in
     let there = tie_back role first b s in
-    sound_with role first (record { part = part; log = Mark cid ∷ (at role b).log }) b (record { matches = m; fair = s.fair role; credit = s.credit role })
+    sound_with role first (record { part = part; log = Mark cid ∷ (at role b).log }) b
+    (record { matches = m; fair = s.fair role; credit = s.credit role })
     (record { packets = here.packets; events = here.events }) (record { packets = there.packets; events = there.events }) s
 
-step_keeps : (role : Role) (first : ℕ) (step : Step) (b : Both) → IsSound first b → MayHappen role step b → IsSound first (happens role step b)
+step_keeps : (role : Role) (first : ℕ) (step : Step) (b : Both) → IsSound first b → MayHappen role step b
+    → IsSound first (happens role step b)
 step_keeps role first (Opens f alloc) b s may =
     let w = at role b in
     let m = s.matches role in
@@ -175,7 +189,7 @@ step_keeps role first (Opens f alloc) b s may =
       matches = open_keeps role first cid f alloc w.part w.log m may.0 may.1;
       fair = open_fair role first cid f alloc w.part w.log m (s.fair role) may.0 may.1;
       credit = credit_put role first f (request_on role cid f alloc) w.log (request_flow role cid f alloc)
-      (open_within role first cid f alloc w.part w.log m may.0 may.1 (s.credit role f)) (s.credit role);
+          (open_within role first cid f alloc w.part w.log m may.0 may.1 (s.credit role f)) (s.credit role);
     }) s
 step_keeps Device first (Asks f alloc) b s may =
     let w = at Device b in still_keeps Device first _ b (ask_keeps first f alloc w.part w.log (s.matches Device) may.1 may.2) s
@@ -188,7 +202,7 @@ step_keeps role first (Sends f e payload) b s may =
       matches = send_keeps role first cid f e payload w.part w.log m may.0 may.1;
       fair = send_fair role first cid f e payload w.part w.log m (s.fair role) (s.credit role f) may.0 may.1;
       credit = credit_put role first f (payload_on role cid f e payload) w.log (payload_flow role cid f e payload)
-      (send_within role first cid f e payload w.part w.log m (s.fair role) (s.credit role f) may.0 may.1) (s.credit role);
+          (send_within role first cid f e payload w.part w.log m (s.fair role) (s.credit role f) may.0 may.1) (s.credit role);
     }) s
 step_keeps role first (Pays f e what) b s may =
     let w = at role b in
@@ -198,7 +212,7 @@ step_keeps role first (Pays f e what) b s may =
       matches = pay_keeps role first cid f e what w.part w.log m may.0 may.1;
       fair = pay_fair role first cid f e what w.part w.log m (s.fair role) (s.credit role f) may.0 may.1;
       credit = credit_put role first f (owed_on role cid f e what) w.log (owed_flow role cid f e what)
-      (pay_within role first cid f e what w.part w.log m (s.fair role) (s.credit role f) may.0 may.1) (s.credit role);
+          (pay_within role first cid f e what w.part w.log m (s.fair role) (s.credit role f) may.0 may.1) (s.credit role);
     }) s
 step_keeps role first (Replies f rest) b s may =
     let w = at role b in
@@ -208,12 +222,13 @@ step_keeps role first (Replies f rest) b s may =
       matches = reply_keeps role first cid f rest w.part w.log m may;
       fair = reply_fair role first cid f w.part w.log m (s.fair role) (next_owed f rest w.part.replies may);
       credit = credit_put role first f (reply_on role cid f) w.log (reply_flow role cid f)
-      (reply_within role first cid f w.log (s.credit role f)) (s.credit role);
+          (reply_within role first cid f w.log (s.credit role f)) (s.credit role);
     }) s
 step_keeps role first (Decides f e what) b s may =
     let w = at role b in
     still_keeps role first _ b (change_keeps role first f e (decided e what) w.part w.log (s.matches role) may.0 may.1
-    (λ follows. decided_follows (side_of role f) (puts (heard_of role first f w.log)) (gots (heard_of role first f w.log)) e what may.2 follows)) s
+    (λ follows. decided_follows (side_of role f) (puts (heard_of role first f w.log))
+    (gots (heard_of role first f w.log)) e what may.2 follows)) s
 step_keeps role first (Takes p answer) b s may = take_sound role first p answer b s may.0 may.1
 step_keeps role first (PutsEvent id) b s may =
     let w = at role b in
@@ -248,7 +263,8 @@ pub start_sound : (first guest_port host_port : ℕ) → IsSound first (start fi
 start_sound first guest_port host_port = record {
   matches = by_role _ (start_matches Driver first guest_port) (start_matches Device first host_port);
   fair = by_role _ (λ f. tt) (λ f. tt);
-  credit = by_role _ (λ f. record { fits = omega arith; forwarded = omega arith }) (λ f. record { fits = omega arith; forwarded = omega arith });
+  credit = by_role _ (λ f. record { fits = omega arith; forwarded = omega arith })
+      (λ f. record { fits = omega arith; forwarded = omega arith });
   ties = by_role _ (record { packets = ([], refl); events = ([], refl) }) (record { packets = ([], refl); events = ([], refl) });
 }
 
@@ -256,16 +272,20 @@ start_sound first guest_port host_port = record {
 pub driver_accepts : (first : ℕ) (p : Packet) (e : ConnectionEnd) (b : Both) → IsSound first b → IsNextPacket b.driver.log b.device.log p
     → HasEnd (flow_got Driver p) e b.driver.part → is_refused (verdict_of e p.header) ≡ false
 driver_accepts first p e b s next has =
-    got_not_refused Driver first p e b.driver.part b.driver.log (s.matches Driver) has (next_is_fair Driver first p b s next (flow_got Driver p))
+    got_not_refused Driver first p e b.driver.part b.driver.log (s.matches Driver) has
+    (next_is_fair Driver first p b s next (flow_got Driver p))
     (heard_all first (flow_got Driver p) b.driver.log)
 
 pub device_accepts : (first : ℕ) (p : Packet) (e : ConnectionEnd) (b : Both) → IsSound first b → IsNextPacket b.device.log b.driver.log p
-    → HasEnd (flow_got Device p) e b.device.part → IsAllHeard Device first (flow_got Device p) b.device.log → is_refused (verdict_of e p.header) ≡ false
+    → HasEnd (flow_got Device p) e b.device.part → IsAllHeard Device first (flow_got Device p) b.device.log
+    → is_refused (verdict_of e p.header) ≡ false
 device_accepts first p e b s next has all =
-    got_not_refused Device first p e b.device.part b.device.log (s.matches Device) has (next_is_fair Device first p b s next (flow_got Device p)) all
+    got_not_refused Device first p e b.device.part b.device.log (s.matches Device) has
+    (next_is_fair Device first p b s next (flow_got Device p)) all
 
 pub device_has_room : (first : ℕ) (p : Packet) (e : ConnectionEnd) (b : Both) → IsSound first b → IsNextPacket b.device.log b.driver.log p
     → HasEnd (flow_got Device p) e b.device.part → is_overrun (verdict_of e p.header) ≡ false
 device_has_room first p e b s next has =
-    got_no_overrun Device first p e b.device.part b.device.log (s.matches Device) has (next_is_fair Device first p b s next (flow_got Device p))
+    got_no_overrun Device first p e b.device.part b.device.log (s.matches Device) has
+    (next_is_fair Device first p b s next (flow_got Device p))
     (s.credit Device (flow_got Device p))

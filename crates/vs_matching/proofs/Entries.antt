@@ -1,10 +1,10 @@
 -- What each change of the entries does to a flow's ends.
-use Rattle.std.proofs.Common.{◌≡◌, Bool, true, false, ◌||◌, List, [], ◌∷◌, ◌++◌, refl, sym, ap, ◌∙◌, arith}
+use Rattle.std.proofs.Common.{◌≡◌, true, false, ◌||◌, List, [], ◌∷◌, ◌++◌, refl, arith}
 use Rattle.std.proofs.lemmas.Grind.{common_steps}
 use Rattle.vs_conn.specs.End.{ConnectionEnd}
 use Rattle.vs_flow.specs.Flow.{same_flow}
 use Rattle.vs_flow.specs.declared.flow.Flow.{Flow}
-use Rattle.vs_matching.specs.Ends.{FlowEnd, begun_flows, ends_of, flows_of, is_among, is_new, replaced, without_flow}
+use Rattle.vs_matching.specs.Ends.{FlowEnd, ends_of, flows_of, is_among, replaced, without_flow}
 use Rattle.vs_page.proofs.Flows.{same_self, same_is}
 
 -- Flows that are one, and another.
@@ -15,14 +15,16 @@ replaced_none : (f : Flow) (e : ConnectionEnd) (xs : List FlowEnd) → ends_of f
 replaced_none f e [] none = refl
 replaced_none f e (x ∷ xs) none = let rest = replaced_none f e xs in grind (arith, common_steps)
 
-pub replaced_same : (f : Flow) (e now : ConnectionEnd) (xs : List FlowEnd) → ends_of f xs ≡ e ∷ [] → ends_of f (replaced f now xs) ≡ now ∷ []
+pub replaced_same : (f : Flow) (e now : ConnectionEnd) (xs : List FlowEnd) → ends_of f xs ≡ e ∷ []
+    → ends_of f (replaced f now xs) ≡ now ∷ []
 replaced_same f e now [] one = absurd cc
 replaced_same f e now (x ∷ xs) one =
     let rest = replaced_same f e now xs in
     let none = replaced_none f now xs in
     grind (arith, common_steps)
 
-pub replaced_other : (f g : Flow) (e : ConnectionEnd) (xs : List FlowEnd) → same_flow g f ≡ false → ends_of g (replaced f e xs) ≡ ends_of g xs
+pub replaced_other : (f g : Flow) (e : ConnectionEnd) (xs : List FlowEnd) → same_flow g f ≡ false
+    → ends_of g (replaced f e xs) ≡ ends_of g xs
 replaced_other f g e [] other = refl
 replaced_other f g e (x ∷ xs) other =
     let one = other_of g f x.flow other in
@@ -44,7 +46,8 @@ pub ends_append : (f : Flow) (xs ys : List FlowEnd) → ends_of f (xs ++ ys) ≡
 ends_append f [] ys = refl
 ends_append f (x ∷ xs) ys = let rest = ends_append f xs ys in grind (arith, common_steps)
 
-pub added_same : (f : Flow) (e : ConnectionEnd) (xs : List FlowEnd) → ends_of f xs ≡ [] → ends_of f (xs ++ record { flow = f; end = e } ∷ []) ≡ e ∷ []
+pub added_same : (f : Flow) (e : ConnectionEnd) (xs : List FlowEnd) → ends_of f xs ≡ []
+    → ends_of f (xs ++ record { flow = f; end = e } ∷ []) ≡ e ∷ []
 added_same f e xs none =
     let all = ends_append f xs (record { flow = f; end = e } ∷ []) in
     let own = same_self f in
@@ -70,6 +73,7 @@ pub among_flows : (f : Flow) (xs : List FlowEnd) → ends_of f xs ≡ [] → is_
 among_flows f [] none = refl
 among_flows f (x ∷ xs) none = let rest = among_flows f xs in grind (arith, common_steps)
 
-pub among_flows_has : (f : Flow) (e : ConnectionEnd) (more : List ConnectionEnd) (xs : List FlowEnd) → ends_of f xs ≡ e ∷ more → is_among f (flows_of xs) ≡ true
+pub among_flows_has : (f : Flow) (e : ConnectionEnd) (more : List ConnectionEnd) (xs : List FlowEnd) → ends_of f xs ≡ e ∷ more
+    → is_among f (flows_of xs) ≡ true
 among_flows_has f e more [] one = absurd cc
 among_flows_has f e more (x ∷ xs) one = let rest = among_flows_has f e more xs in grind (arith, common_steps)

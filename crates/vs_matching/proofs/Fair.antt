@@ -1,9 +1,10 @@
 -- What is put keeps a log fair, and what a fair log says of the packets that are got.
-use Rattle.std.proofs.Common.{rules, ◌≡◌, ◌≢◌, ℕ, ◌+◌, ◌≤◌, Bool, true, false, ◌&&◌, not, if◌then◌else◌, List, [], ◌∷◌, length, Some, refl, sym, ap, ◌∙◌, subst, arith}
+use Rattle.std.proofs.Common.{rules, ◌≡◌, ◌≢◌, ℕ, ◌+◌, ◌≤◌, Bool, true, false, ◌&&◌, not, if◌then◌else◌, List, [], ◌∷◌, length, Some}
+use Rattle.std.proofs.Common.{refl, sym, ap, ◌∙◌, subst, arith}
 use Rattle.std.proofs.lemmas.Grind.{common_steps}
 use Rattle.vs_wrap.specs.Wrap.{unwrap32}
-use Rattle.vs_conn.specs.End.{CanSend, ConnectionEnd, asked, is_refused, owes_of, verdict_of}
-use Rattle.vs_conn.specs.Follows.{Follows, IsSpace, IsTaken, owed_packet, payload_packet}
+use Rattle.vs_conn.specs.End.{CanSend, ConnectionEnd, is_refused, owes_of, verdict_of}
+use Rattle.vs_conn.specs.Follows.{Follows, IsSpace, IsTaken, owed_packet}
 use Rattle.vs_conn.specs.declared.end.Owed.{Owed}
 use Rattle.vs_conn.specs.declared.end.Owed.TheVariants as owed
 use Rattle.vs_conn.specs.declared.end.State.TheVariants.{Ended}
@@ -13,7 +14,7 @@ use Rattle.vs_conn.proofs.Getting.{get_taken}
 use Rattle.vs_conn.proofs.Steps.{opening_may, pay_may, room_plain, send_may, taken_of}
 use Rattle.vs_flow.specs.Flow.{same_flow}
 use Rattle.vs_flow.specs.declared.flow.Flow.{Flow}
-use Rattle.vs_history.specs.History.{History, Entry, Put, Got, Side, Asker, Answerer, peer, puts, gots, is_begun, MayPut, Allows, IsFair}
+use Rattle.vs_history.specs.History.{History, Entry, Put, Got, Side, Asker, Answerer, puts, gots, is_begun, MayPut, Allows, IsFair}
 use Rattle.vs_header.specs.declared.Header.{Header}
 use Rattle.vs_history.specs.Packets.{allowance, bytes, has, is_request, is_response, is_rst, size, told_alloc, told_forwarded}
 use Rattle.vs_history.specs.declared.packet.Packet.{Packet}
@@ -29,9 +30,9 @@ use Rattle.vs_matching.specs.Ends.{Ends, is_among}
 use Rattle.vs_matching.specs.Heard.{IsAllHeard, IsInOrder, IsOrdered, IsOrderedLog, IsWithin, IsWithinCredit, heard_of, is_empty, route_of}
 use Rattle.vs_matching.specs.Matches.{IsAsking, Matches}
 use Rattle.vs_matching.specs.Steps.{HasEnd, IsNextFlow, is_overrun, owed_on, payload_on, reply_on, request_on}
-use Rattle.vs_matching.proofs.Frame.{heard_got, heard_put}
+use Rattle.vs_matching.proofs.Frame.{heard_put}
 use Rattle.vs_matching.proofs.OnFlow.{end_asks, end_follows}
-use Rattle.vs_matching.proofs.Steps.{asking_sends_none, cid_heard, owed_flow, payload_flow, pays_new, reply_flow, reply_heard, request_flow, some_of}
+use Rattle.vs_matching.proofs.Steps.{asking_sends_none, owed_flow, payload_flow, pays_new, reply_flow, reply_heard, request_flow, some_of}
 
 -- A fair history that has begun has the REQUEST.
 allows_begins : (side : Side) (entry : Entry) → Allows side [] entry → is_begun side (puts (entry ∷ [])) (gots (entry ∷ [])) ≡ true
@@ -41,7 +42,8 @@ begun_later : (side : Side) (h : History) (entry : Entry) → is_begun side (put
     → is_begun side (puts (entry ∷ h)) (gots (entry ∷ h)) ≡ true
 begun_later = grind (arith, common_steps)
 
-fair_begun : (side : Side) (h : History) (entry : Entry) → IsFair side (entry ∷ h) → is_begun side (puts (entry ∷ h)) (gots (entry ∷ h)) ≡ true
+fair_begun : (side : Side) (h : History) (entry : Entry) → IsFair side (entry ∷ h)
+    → is_begun side (puts (entry ∷ h)) (gots (entry ∷ h)) ≡ true
 fair_begun side [] entry fair = allows_begins side entry fair.0
 fair_begun side (x ∷ h) entry fair = begun_later side (x ∷ h) entry (fair_begun side h x fair.1)
 
@@ -82,7 +84,8 @@ unwrap_rises : (a b word : ℕ) → a ≤ b → unwrap32 a word ≤ unwrap32 b w
 unwrap_rises a b word less = grind arith
 
 less_both : (some all : List Packet) (p : Packet) → SaysLess some all → SaysLess (p ∷ some) (p ∷ all)
-less_both some all p s = let u = unwrap_rises (told_forwarded some) (told_forwarded all) p.header.fwd_cnt s.forwarded_less in grind (arith, common_steps)
+less_both some all p s =
+    let u = unwrap_rises (told_forwarded some) (told_forwarded all) p.header.fwd_cnt s.forwarded_less in grind (arith, common_steps)
 
 less_more : (some all : List Packet) (p : Packet) → (is_rst p ≡ false → told_alloc all ≤ p.header.buf_alloc) → SaysLess some all
     → SaysLess some (p ∷ all)
@@ -111,7 +114,8 @@ pub heard_less : (role : Role) (first : ℕ) (f : Flow) (log : Log) → IsFairOn
     → SaysLess (gots (heard_of role first f log)) (gots (history_of role f log))
 heard_less role first f [] fair = less_none
 heard_less role first f (PutPacket p ∷ log) fair =
-    less_put (side_of role f) (history_of role f log) (heard_of role first f log) p (same_flow f (flow_put role p)) fair (heard_less role first f log)
+    less_put (side_of role f) (history_of role f log) (heard_of role first f log) p (same_flow f (flow_put role p)) fair
+    (heard_less role first f log)
 heard_less role first f (GotPacket p ∷ log) fair =
     less_got (side_of role f) (history_of role f log) (heard_of role first f log) p (same_flow f (flow_got role p))
     (is_dropped role (cid_of first log) p.header) fair (heard_less role first f log)
@@ -130,7 +134,11 @@ put_fair role first f p log is fair may =
     let all = subst (λ x. MayPut (side_of role f) x (gots (history_of role f log)) p) (heard_puts role first f log)
     (may_more (side_of role f) (puts (heard_of role first f log)) (gots (heard_of role first f log)) (gots (history_of role f log)) p
     (heard_less role first f log (fair f)) may) in
-    (one_put role log p).1 (fair, subst (λ x. MayPut (side_of role x) (puts (history_of role x log)) (gots (history_of role x log)) p) (sym is) all)
+    (one_put role log p).1 (
+      fair,
+      subst (λ x. MayPut (side_of role x) (puts (history_of role x log)) (gots (history_of role x log)) p)
+          (sym is) all,
+    )
 
 -- A packet that is got: what a fair log says.
 fair_order : (side : Side) (h heard : History) (p : Packet) → IsFair side (Got p ∷ h) → (h ≡ [] → heard ≡ []) → puts heard ≡ puts h
@@ -144,7 +152,18 @@ both_sound : (side : Side) (h heard : History) → IsFair side h → puts heard 
     → BothSound (puts heard) (gots heard)
 both_sound side h heard fair same less within =
     let s = subst (λ ps. BothSound ps (gots h)) (sym same) (sound side h fair) in
-    grind (arith, s.out.alloc, s.back.fits, s.back.forwarded, s.back.alloc, less.bytes_less, less.forwarded_less, less.alloc_less, within.fits, within.forwarded)
+    grind (
+      arith,
+      s.out.alloc,
+      s.back.fits,
+      s.back.forwarded,
+      s.back.alloc,
+      less.bytes_less,
+      less.forwarded_less,
+      less.alloc_less,
+      within.fits,
+      within.forwarded,
+    )
 
 sound_heard : (role : Role) (first : ℕ) (f : Flow) (log : Log) → IsFairOn role f log → IsWithinCredit role first f log
     → let h = heard_of role first f log in BothSound (puts h) (gots h)
@@ -152,15 +171,18 @@ sound_heard role first f log fair within =
     both_sound (side_of role f) (history_of role f log) (heard_of role first f log) fair (heard_puts role first f log)
     (heard_less role first f log fair) within
 
-put_within : (side : Side) (put got : List Packet) (p : Packet) → MayPut side put got p → bytes put ≤ allowance got → told_forwarded put ≤ bytes got
+put_within : (side : Side) (put got : List Packet) (p : Packet) → MayPut side put got p → bytes put ≤ allowance got
+    → told_forwarded put ≤ bytes got
     → (bytes (p ∷ put) ≤ allowance got) × (told_forwarded (p ∷ put) ≤ bytes got)
 put_within = grind (arith, common_steps)
 
-allowance_rises : (got : List Packet) (p : Packet) → (is_rst p ≡ false → told_alloc got ≤ p.header.buf_alloc) → allowance got ≤ allowance (p ∷ got)
+allowance_rises : (got : List Packet) (p : Packet) → (is_rst p ≡ false → told_alloc got ≤ p.header.buf_alloc)
+    → allowance got ≤ allowance (p ∷ got)
 allowance_rises got p rises = grind (arith, common_steps)
 
 -- The packets that may be put, by what was heard.
-open_may : (role : Role) (first cid : ℕ) (f : Flow) (alloc : ℕ) (part : Ends) (log : Log) → Matches role first part log → IsNextFlow role f part → IsSpace alloc
+open_may : (role : Role) (first cid : ℕ) (f : Flow) (alloc : ℕ) (part : Ends) (log : Log) → Matches role first part log
+    → IsNextFlow role f part → IsSpace alloc
     → (let h = heard_of role first f log in MayPut (side_of role f) (puts h) (gots h) (request_on role cid f alloc))
 open_may role first cid f alloc part log m next space =
     let p = request_on role cid f alloc in
@@ -168,12 +190,15 @@ open_may role first cid f alloc part log m next space =
     subst (λ x. MayPut (side_of role f) (puts x) (gots x) p) (sym u.silent)
     (subst (λ x. MayPut x [] [] p) (sym next.asker) (opening_may alloc (route_of role cid f) space))
 
-send_may_on : (role : Role) (first cid : ℕ) (f : Flow) (e : ConnectionEnd) (payload : List ℕ) (part : Ends) (log : Log) → Matches role first part log
+send_may_on : (role : Role) (first cid : ℕ) (f : Flow) (e : ConnectionEnd) (payload : List ℕ) (part : Ends) (log : Log)
+    → Matches role first part log
     → HasEnd f e part → CanSend e (length payload) → IsFairOn role f log → IsWithinCredit role first f log
     → (let h = heard_of role first f log in MayPut (side_of role f) (puts h) (gots h) (payload_on role cid f e payload))
 send_may_on role first cid f e payload part log m has can fair within =
     let h = heard_of role first f log in
-    let some = some_of h (λ none. asking_sends_none (side_of role f) e (length payload) (end_asks role (side_of role f) h _ _ _ e (m.on f) has none) can) in
+    let some =
+    some_of h (λ none. asking_sends_none (side_of role f) e (length payload)
+    (end_asks role (side_of role f) h _ _ _ e (m.on f) has none) can) in
     let o = end_follows role (side_of role f) h _ _ _ e (m.on f) has some in
     send_may (side_of role f) (puts h) (gots h) e (route_of role cid f) payload (sound_heard role first f log fair within) o.follows can
 
@@ -191,7 +216,8 @@ pay_may_by side [] e route what asks follows owes sound_is =
 pay_may_by side (x ∷ h) e route what asks follows owes sound_is =
     pay_may side (puts (x ∷ h)) (gots (x ∷ h)) e route what sound_is (follows refl) owes
 
-pay_may_on : (role : Role) (first cid : ℕ) (f : Flow) (e : ConnectionEnd) (what : Owed) (part : Ends) (log : Log) → Matches role first part log
+pay_may_on : (role : Role) (first cid : ℕ) (f : Flow) (e : ConnectionEnd) (what : Owed) (part : Ends) (log : Log)
+    → Matches role first part log
     → HasEnd f e part → owes_of e ≡ Some what → IsFairOn role f log → IsWithinCredit role first f log
     → (let h = heard_of role first f log in MayPut (side_of role f) (puts h) (gots h) (owed_on role cid f e what))
 pay_may_on role first cid f e what part log m has owes fair within =
@@ -206,26 +232,31 @@ reply_may side (x ∷ h) Driver cid f fair some = let begun = fair_begun side h 
 reply_may side (x ∷ h) Device cid f fair some = let begun = fair_begun side h x fair in grind (arith, common_steps)
 
 -- Each put keeps the log fair.
-pub open_fair : (role : Role) (first cid : ℕ) (f : Flow) (alloc : ℕ) (part : Ends) (log : Log) → Matches role first part log → IsFairLog role log
+pub open_fair : (role : Role) (first cid : ℕ) (f : Flow) (alloc : ℕ) (part : Ends) (log : Log) → Matches role first part log
+    → IsFairLog role log
     → IsNextFlow role f part → IsSpace alloc → IsFairLog role (PutPacket (request_on role cid f alloc) ∷ log)
 open_fair role first cid f alloc part log m fair next space =
-    put_fair role first f (request_on role cid f alloc) log (request_flow role cid f alloc) fair (open_may role first cid f alloc part log m next space)
+    put_fair role first f (request_on role cid f alloc) log (request_flow role cid f alloc) fair
+    (open_may role first cid f alloc part log m next space)
 
-pub send_fair : (role : Role) (first cid : ℕ) (f : Flow) (e : ConnectionEnd) (payload : List ℕ) (part : Ends) (log : Log) → Matches role first part log
+pub send_fair : (role : Role) (first cid : ℕ) (f : Flow) (e : ConnectionEnd) (payload : List ℕ) (part : Ends) (log : Log)
+    → Matches role first part log
     → IsFairLog role log → IsWithinCredit role first f log → HasEnd f e part → CanSend e (length payload)
     → IsFairLog role (PutPacket (payload_on role cid f e payload) ∷ log)
 send_fair role first cid f e payload part log m fair within has can =
     put_fair role first f (payload_on role cid f e payload) log (payload_flow role cid f e payload) fair
     (send_may_on role first cid f e payload part log m has can (fair f) within)
 
-pub pay_fair : (role : Role) (first cid : ℕ) (f : Flow) (e : ConnectionEnd) (what : Owed) (part : Ends) (log : Log) → Matches role first part log
+pub pay_fair : (role : Role) (first cid : ℕ) (f : Flow) (e : ConnectionEnd) (what : Owed) (part : Ends) (log : Log)
+    → Matches role first part log
     → IsFairLog role log → IsWithinCredit role first f log → HasEnd f e part → owes_of e ≡ Some what
     → IsFairLog role (PutPacket (owed_on role cid f e what) ∷ log)
 pay_fair role first cid f e what part log m fair within has owes =
     put_fair role first f (owed_on role cid f e what) log (owed_flow role cid f e what) fair
     (pay_may_on role first cid f e what part log m has owes (fair f) within)
 
-history_some : (role : Role) (first : ℕ) (f : Flow) (log : Log) (h : History) → history_of role f log ≡ h → is_empty (heard_of role first f log) ≡ false
+history_some : (role : Role) (first : ℕ) (f : Flow) (log : Log) (h : History) → history_of role f log ≡ h
+    → is_empty (heard_of role first f log) ≡ false
     → is_empty h ≡ false
 history_some role first f log [] is some = let none = ap is_empty (heard_none role first f log is) in absurd cc
 history_some role first f log (x ∷ h) is some = refl
@@ -240,9 +271,11 @@ pub reply_fair : (role : Role) (first cid : ℕ) (f : Flow) (part : Ends) (log :
     → is_among f part.replies ≡ true → IsFairLog role (PutPacket (reply_on role cid f) ∷ log)
 reply_fair role first cid f part log m fair owed_is =
     let p = reply_on role cid f in
-    (one_put role log p).1
-    (fair, subst (λ x. MayPut (side_of role x) (puts (history_of role x log)) (gots (history_of role x log)) p) (sym (reply_flow role cid f))
-      (reply_may_on role first cid f part log m (fair f) owed_is))
+    (one_put role log p).1 (
+      fair,
+      subst (λ x. MayPut (side_of role x) (puts (history_of role x log)) (gots (history_of role x log)) p) (sym (reply_flow role cid f))
+          (reply_may_on role first cid f part log m (fair f) owed_is),
+    )
 
 -- Each keeps what was put within credit.
 put_keeps_within : (role : Role) (first : ℕ) (f : Flow) (p : Packet) (log : Log) → flow_put role p ≡ f
@@ -254,7 +287,8 @@ put_keeps_within role first f p log is may within =
     subst IsWithin (sym (heard_put role first f p log is)) (record { fits = two.0; forwarded = two.1 })
 
 pub open_within : (role : Role) (first cid : ℕ) (f : Flow) (alloc : ℕ) (part : Ends) (log : Log) → Matches role first part log
-    → IsNextFlow role f part → IsSpace alloc → IsWithinCredit role first f log → IsWithinCredit role first f (PutPacket (request_on role cid f alloc) ∷ log)
+    → IsNextFlow role f part → IsSpace alloc → IsWithinCredit role first f log
+    → IsWithinCredit role first f (PutPacket (request_on role cid f alloc) ∷ log)
 open_within role first cid f alloc part log m next space within =
     put_keeps_within role first f (request_on role cid f alloc) log (request_flow role cid f alloc)
     (open_may role first cid f alloc part log m next space) within
@@ -279,7 +313,8 @@ reply_is_small role cid f h within = grind (arith, common_steps)
 pub reply_within : (role : Role) (first cid : ℕ) (f : Flow) (log : Log) → IsWithinCredit role first f log
     → IsWithinCredit role first f (PutPacket (reply_on role cid f) ∷ log)
 reply_within role first cid f log within =
-    subst IsWithin (sym (heard_put role first f (reply_on role cid f) log (reply_flow role cid f))) (reply_is_small role cid f (heard_of role first f log) within)
+    subst IsWithin (sym (heard_put role first f (reply_on role cid f) log (reply_flow role cid f)))
+    (reply_is_small role cid f (heard_of role first f log) within)
 
 got_within_by : (side : Side) (h heard : History) (p : Packet) (same dropped : Bool) → IsFair side (if same then Got p ∷ h else h)
     → (IsFair side h → SaysLess (gots heard) (gots h)) → IsWithin heard → IsWithin (if same && not dropped then Got p ∷ heard else heard)
@@ -291,21 +326,23 @@ got_within_by side h heard p true false fair less within =
     record { fits = omega (arith, a, within.fits); forwarded = omega (arith, within.forwarded) }
 got_within_by side h heard p false dropped fair less within = within
 
-pub got_within : (role : Role) (first : ℕ) (f : Flow) (p : Packet) (log : Log) → IsFairOn role f (GotPacket p ∷ log) → IsWithinCredit role first f log
+pub got_within : (role : Role) (first : ℕ) (f : Flow) (p : Packet) (log : Log) → IsFairOn role f (GotPacket p ∷ log)
+    → IsWithinCredit role first f log
     → IsWithinCredit role first f (GotPacket p ∷ log)
 got_within role first f p log fair within =
     got_within_by (side_of role f) (history_of role f log) (heard_of role first f log) p (same_flow f (flow_got role p))
     (is_dropped role (cid_of first log) p.header) fair (heard_less role first f log) within
 
 within_by : (side : Side) (h heard : History) → IsFair side h → heard ≡ h → IsWithin heard
-within_by side h heard fair is = let s = sound side h fair in subst IsWithin (sym is) (record { fits = s.out.fits; forwarded = s.out.forwarded })
+within_by side h heard fair is = let s = sound side h fair in subst IsWithin (sym is)
+    (record { fits = s.out.fits; forwarded = s.out.forwarded })
 
-pub all_within : (role : Role) (first : ℕ) (f : Flow) (log : Log) → IsFairOn role f log → IsAllHeard role first f log → IsWithinCredit role first f log
+pub all_within : (role : Role) (first : ℕ) (f : Flow) (log : Log) → IsFairOn role f log → IsAllHeard role first f log
+    → IsWithinCredit role first f log
 all_within role first f log fair all = within_by (side_of role f) (history_of role f log) (heard_of role first f log) fair all
 
 pub driver_within : (first : ℕ) (f : Flow) (log : Log) → IsFairOn Driver f log → IsWithinCredit Driver first f log
 driver_within first f log fair = all_within Driver first f log fair (heard_all first f log)
-
 
 -- A packet got that is fair comes in order, and its fields fit.
 own_got_fair : (role : Role) (p : Packet) (log : Log) → let f = flow_got role p in IsFairOn role f (GotPacket p ∷ log)
@@ -331,7 +368,8 @@ first_asks side (x ∷ h) p fair = let begun = fair_begun side h x fair.1 in gri
 
 pub got_asks : (role : Role) (p : Packet) (log : Log) → let f = flow_got role p in IsFairOn role f (GotPacket p ∷ log)
     → is_request p ≡ is_empty (history_of role f log)
-got_asks role p log fair = first_asks (side_of role (flow_got role p)) (history_of role (flow_got role p) log) p (own_got_fair role p log fair)
+got_asks role p log fair =
+    first_asks (side_of role (flow_got role p)) (history_of role (flow_got role p) log) p (own_got_fair role p log fair)
 
 -- The end of a flow on which a fair packet is got follows what was heard.
 got_follows : (role : Role) (first : ℕ) (p : Packet) (e : ConnectionEnd) (part : Ends) (log : Log) → let f = flow_got role p in
@@ -342,8 +380,8 @@ got_follows role first p e part log m has fair =
     let h = heard_of role first f log in
     let order = got_in_order role first p log fair in
     let some = some_of h (λ none.
-      let a = end_asks role (side_of role f) h _ _ _ e (m.on f) has none in
-      let both : true ≡ false = sym none ∙ order.asked a.asker in absurd cc) in
+    let a = end_asks role (side_of role f) h _ _ _ e (m.on f) has none in
+    let both : true ≡ false = sym none ∙ order.asked a.asker in absurd cc) in
     (end_follows role (side_of role f) h _ _ _ e (m.on f) has some).follows
 
 pub got_not_refused : (role : Role) (first : ℕ) (p : Packet) (e : ConnectionEnd) (part : Ends) (log : Log) → let f = flow_got role p in
@@ -356,7 +394,8 @@ got_not_refused role first p e part log m has fair all =
     get_taken (side_of role f) h e p (own_got_fair role p log fair) follows
 
 -- Payload of a fair packet has room.
-has_room : (side : Side) (put got : List Packet) (e : ConnectionEnd) (more : ℕ) → BothSound put got → Follows side put got e → e.state ≢ Ended
+has_room : (side : Side) (put got : List Packet) (e : ConnectionEnd) (more : ℕ) → BothSound put got → Follows side put got e
+    → e.state ≢ Ended
     → bytes got + more ≤ allowance put → more ≤ room_of e.credit
 has_room side put got e more sound_is follows alive fits =
     let left = follows.left alive in
@@ -385,10 +424,11 @@ got_no_overrun role first p e part log m has fair within =
     let two = size_fits (side_of role f) h p own.0 (sound (side_of role f) h own.1).back.fits in
     let same = ap allowance (heard_puts role first f log) in
     overrun_by e p.header (λ alive. has_room (side_of role f) (puts heard) (gots heard) e p.header.len sound_is follows alive
-      (omega (arith, two.0, two.1, less.bytes_less, same)))
+    (omega (arith, two.0, two.1, less.bytes_less, same)))
 
 -- What one more entry does where no packet of a flow was dropped.
-pub all_put : (role : Role) (first : ℕ) (f : Flow) (p : Packet) (log : Log) → IsAllHeard role first f log → IsAllHeard role first f (PutPacket p ∷ log)
+pub all_put : (role : Role) (first : ℕ) (f : Flow) (p : Packet) (log : Log) → IsAllHeard role first f log
+    → IsAllHeard role first f (PutPacket p ∷ log)
 all_put role first f p log all = grind (arith, common_steps)
 
 pub all_got : (role : Role) (first : ℕ) (f : Flow) (p : Packet) (log : Log) → is_dropped role (cid_of first log) p.header ≡ false
@@ -435,7 +475,8 @@ ordered_in_order role first p log ordered =
     let o = subst (IsOrdered (side_of role f)) own (ordered f) in
     record {
       request = λ asks. (o.1 asks, heard_none role first f log (empty_is h (sym o.0 ∙ asks)));
-      asked = λ asker. ordered_asked h (heard_of role first f log) p (subst (λ x. IsOrdered x (Got p ∷ h)) asker o) (heard_puts role first f log);
+      asked = λ asker. ordered_asked h (heard_of role first f log) p (subst (λ x. IsOrdered x (Got p ∷ h)) asker o)
+          (heard_puts role first f log);
     }
 
 older_put : (side : Side) (h : History) (p : Packet) (b : Bool) → IsOrdered side (if b then Put p ∷ h else h) → IsOrdered side h

@@ -1,5 +1,5 @@
 -- What an entry does to its own flow, and to others; and what a step has to show.
-use Rattle.std.proofs.Common.{◌≡◌, ℕ, ◌≤◌, Bool, true, false, ◌&&◌, not, List, [], ◌∷◌, refl, sym, ap, ◌∙◌, subst, arith}
+use Rattle.std.proofs.Common.{◌≡◌, ℕ, ◌≤◌, Bool, true, false, List, [], ◌∷◌, refl, sym, ◌∙◌, subst, arith}
 use Rattle.std.proofs.lemmas.Grind.{common_steps}
 use Rattle.vs_conn.specs.End.{ConnectionEnd}
 use Rattle.vs_flow.specs.Flow.{same_flow}
@@ -46,7 +46,8 @@ pub open_dropped : (role : Role) (first : ℕ) (f : Flow) (p : Packet) (log : Lo
 open_dropped role first f p log dropped = grind (arith, common_steps)
 
 -- On a flow that is left open something was heard.
-pub open_heard : (role : Role) (first : ℕ) (f : Flow) (log : Log) → is_left_open role first f log ≡ true → is_empty (heard_of role first f log) ≡ false
+pub open_heard : (role : Role) (first : ℕ) (f : Flow) (log : Log) → is_left_open role first f log ≡ true
+    → is_empty (heard_of role first f log) ≡ false
 open_heard role first f [] open_now = absurd cc
 open_heard role first f (PutPacket p ∷ log) open_now = let rest = open_heard role first f log in grind (arith, common_steps)
 open_heard role first f (GotPacket p ∷ log) open_now = let rest = open_heard role first f log in grind (arith, common_steps)
@@ -58,8 +59,10 @@ not_open_by : (h : History) (b : Bool) → (b ≡ true → is_empty h ≡ false)
 not_open_by h true some none = let s = some refl in absurd cc
 not_open_by h false some none = refl
 
-pub silent_closed : (role : Role) (first : ℕ) (f : Flow) (log : Log) → is_empty (heard_of role first f log) ≡ true → is_left_open role first f log ≡ false
-silent_closed role first f log none = not_open_by (heard_of role first f log) (is_left_open role first f log) (open_heard role first f log) none
+pub silent_closed : (role : Role) (first : ℕ) (f : Flow) (log : Log) → is_empty (heard_of role first f log) ≡ true
+    → is_left_open role first f log ≡ false
+silent_closed role first f log none =
+    not_open_by (heard_of role first f log) (is_left_open role first f log) (open_heard role first f log) none
 
 -- A flow is left alone by a step: what was heard on it, whether it is left open, its ends, and whether a reply is owed.
 pub record IsAlone (role : Role) (first : ℕ) (old : Ends) (older : Log) (new : Ends) (newer : Log) (f : Flow) : Type 0 where
@@ -125,14 +128,16 @@ still_keeps role first old older new newer alone rises cid m = record {
 }
 
 -- A packet of another flow leaves a flow alone, where its ends and replies are.
-pub alone_put : (role : Role) (first : ℕ) (old new : Ends) (log : Log) (p : Packet) (f g : Flow) → flow_put role p ≡ f → same_flow g f ≡ false
+pub alone_put : (role : Role) (first : ℕ) (old new : Ends) (log : Log) (p : Packet) (f g : Flow) → flow_put role p ≡ f
+    → same_flow g f ≡ false
     → ends_of g new.entries ≡ ends_of g old.entries → is_among g new.replies ≡ is_among g old.replies
     → IsAlone role first old log new (PutPacket p ∷ log) g
 alone_put role first old new log p f g is other ends replies =
     let not_own : same_flow g (flow_put role p) ≡ false = subst (λ x. same_flow g x ≡ false) (sym is) other in
     record { heard = rw not_own refl; left_open = rw not_own refl; ends = ends; replies = replies }
 
-pub alone_got : (role : Role) (first : ℕ) (old new : Ends) (log : Log) (p : Packet) (f g : Flow) → flow_got role p ≡ f → same_flow g f ≡ false
+pub alone_got : (role : Role) (first : ℕ) (old new : Ends) (log : Log) (p : Packet) (f g : Flow) → flow_got role p ≡ f
+    → same_flow g f ≡ false
     → ends_of g new.entries ≡ ends_of g old.entries → is_among g new.replies ≡ is_among g old.replies
     → IsAlone role first old log new (GotPacket p ∷ log) g
 alone_got role first old new log p f g is other ends replies =

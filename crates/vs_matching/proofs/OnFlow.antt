@@ -1,10 +1,7 @@
 -- Each step on the flow that it is about, over plain values.
-use Rattle.std.proofs.Common.{rules, ◌≡◌, ℕ, Bool, true, false, ◌&&◌, not, List, [], ◌∷◌, Some, refl, arith}
-use Rattle.std.proofs.lemmas.Grind.{common_steps}
-use Rattle.vs_conn.specs.End.{ConnectionEnd, asked, owes_of}
+use Rattle.std.proofs.Common.{rules, ◌≡◌, ℕ, Bool, true, false, ◌&&◌, not, List, [], ◌∷◌, refl}
+use Rattle.vs_conn.specs.End.{ConnectionEnd, asked}
 use Rattle.vs_conn.specs.Follows.{Follows, IsSpace}
-use Rattle.vs_conn.specs.declared.end.Owed.{Owed}
-use Rattle.vs_conn.specs.declared.end.Owed.TheVariants as owed
 use Rattle.vs_history.specs.History.{History, Entry, Side, Asker, puts, gots}
 use Rattle.vs_page.specs.Log.{Role, Driver, Device}
 use Rattle.vs_matching.specs.Ends.{is_new}
@@ -22,7 +19,8 @@ one_held : (side : Side) (h : History) (left_open reply_owed : Bool) (ends : Lis
 one_held = search rules
 
 -- Where nothing was heard, the one end asks.
-pub asks_before : (role : Role) (side : Side) (ends : List ConnectionEnd) (e : ConnectionEnd) → IsBefore role side ends → ends ≡ e ∷ [] → IsAsking side e
+pub asks_before : (role : Role) (side : Side) (ends : List ConnectionEnd) (e : ConnectionEnd) → IsBefore role side ends → ends ≡ e ∷ []
+    → IsAsking side e
 asks_before = search rules
 
 pub asking_is_new : (side : Side) (e : ConnectionEnd) → IsAsking side e → is_new e ≡ true
@@ -45,7 +43,8 @@ at_most_one Device side [] left_open reply_owed e more left = left.1.0
 at_most_one role side (x ∷ h) left_open reply_owed e more left = search rules
 
 -- The end of a flow changed, and nothing passed.
-pub changes_on : (role : Role) (side : Side) (h : History) (left_open reply_owed : Bool) (ends now : List ConnectionEnd) (e after : ConnectionEnd)
+pub changes_on : (role : Role) (side : Side) (h : History) (left_open reply_owed : Bool) (ends now : List ConnectionEnd)
+    (e after : ConnectionEnd)
     → IsLeftOn role side h left_open reply_owed ends → ends ≡ e ∷ [] → is_new e ≡ false → now ≡ after ∷ []
     → (Follows side (puts h) (gots h) e → Follows side (puts h) (gots h) after) → IsLeftOn role side h left_open reply_owed now
 changes_on role side [] left_open reply_owed ends now e after left one old now_is keeps =
@@ -54,7 +53,8 @@ changes_on role side (x ∷ h) left_open reply_owed ends now e after left one ol
     let o = one_held side (x ∷ h) left_open reply_owed ends e left one in search rules
 
 -- A packet passed on a flow that has an end, on which something was heard.
-pub passes_on : (role : Role) (side : Side) (h : History) (entry : Entry) (left_open still_open reply_owed : Bool) (ends now : List ConnectionEnd)
+pub passes_on : (role : Role) (side : Side) (h : History) (entry : Entry) (left_open still_open reply_owed : Bool)
+    (ends now : List ConnectionEnd)
     (e after : ConnectionEnd) → IsLeftOn role side h left_open reply_owed ends → ends ≡ e ∷ [] → is_empty h ≡ false → now ≡ after ∷ []
     → (left_open ≡ true → still_open ≡ true)
     → (Follows side (puts h) (gots h) e → Follows side (puts (entry ∷ h)) (gots (entry ∷ h)) after)
@@ -66,7 +66,8 @@ passes_on role side h entry left_open still_open reply_owed ends now e after lef
     search rules
 
 -- The first packet passed on a flow: a REQUEST.
-pub begins_on : (role : Role) (side : Side) (h : History) (entry : Entry) (left_open now_open reply_owed : Bool) (ends now : List ConnectionEnd)
+pub begins_on : (role : Role) (side : Side) (h : History) (entry : Entry) (left_open now_open reply_owed : Bool)
+    (ends now : List ConnectionEnd)
     (after : ConnectionEnd) → IsLeftOn role side h left_open reply_owed ends → h ≡ [] → now ≡ after ∷ [] → now_open ≡ true
     → Follows side (puts (entry ∷ [])) (gots (entry ∷ [])) after → IsLeftOn role side (entry ∷ h) now_open reply_owed now
 begins_on role side [] entry left_open now_open reply_owed ends now after left none now_is opens follows = search rules
@@ -83,20 +84,25 @@ pub refuses_on : (role : Role) (side : Side) (h : History) (entry : Entry) (now_
 refuses_on = search rules
 
 ignored_open : (left_open reply_owed now_open : Bool) (side : Side) (h : History) (ends : List ConnectionEnd)
-    → IsHeld (left_open && not reply_owed) side h ends → ends ≡ [] → (now_open ≡ true → left_open ≡ true) → (now_open && not reply_owed) ≡ false
+    → IsHeld (left_open && not reply_owed) side h ends → ends ≡ [] → (now_open ≡ true → left_open ≡ true)
+    → (now_open && not reply_owed) ≡ false
 ignored_open = search rules
 
 -- A packet of a flow without an end was ignored.
-pub ignores_on : (role : Role) (side : Side) (h : History) (entry : Entry) (left_open now_open reply_owed : Bool) (ends : List ConnectionEnd)
-    → IsLeftOn role side h left_open reply_owed ends → (is_empty h ≡ true → left_open ≡ false) → ends ≡ [] → (now_open ≡ true → left_open ≡ true)
+pub ignores_on : (role : Role) (side : Side) (h : History) (entry : Entry) (left_open now_open reply_owed : Bool)
+    (ends : List ConnectionEnd)
+    → IsLeftOn role side h left_open reply_owed ends → (is_empty h ≡ true → left_open ≡ false) → ends ≡ []
+    → (now_open ≡ true → left_open ≡ true)
     → IsLeftOn role side (entry ∷ h) now_open reply_owed ends
 ignores_on role side [] entry left_open now_open reply_owed ends left silent none opens = let s = silent refl in search rules
 ignores_on role side (x ∷ h) entry left_open now_open reply_owed ends left silent none opens =
     rw (ignored_open left_open reply_owed now_open side (x ∷ h) ends left none opens) none
 
 -- A reply was put.
-pub replies_on : (role : Role) (side : Side) (h : History) (entry : Entry) (left_open now_open was_owed is_owed : Bool) (ends : List ConnectionEnd)
-    → IsLeftOn role side h left_open was_owed ends → was_owed ≡ true → now_open ≡ false → IsLeftOn role side (entry ∷ h) now_open is_owed ends
+pub replies_on : (role : Role) (side : Side) (h : History) (entry : Entry) (left_open now_open was_owed is_owed : Bool)
+    (ends : List ConnectionEnd)
+    → IsLeftOn role side h left_open was_owed ends → was_owed ≡ true → now_open ≡ false
+    → IsLeftOn role side (entry ∷ h) now_open is_owed ends
 replies_on role side [] entry left_open now_open was_owed is_owed ends left owed closed = absurd cc
 replies_on role side (x ∷ h) entry left_open now_open was_owed is_owed ends left owed closed = search rules
 

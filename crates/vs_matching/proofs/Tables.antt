@@ -1,7 +1,8 @@
 -- The table of an end that matches its log.
-use Rattle.std.proofs.Common.{rules, ◌≡◌, ◌≢◌, ℕ, zero, suc, ◌<◌, length, slice_index_or, Bool, true, false, ◌&&◌, ◌||◌, not, List, [], ◌∷◌, refl, sym, ap, ◌∙◌, subst, arith}
+use Rattle.std.proofs.Common.{rules, ◌≡◌, ◌≢◌, ℕ, zero, suc, ◌<◌, length, slice_index_or, Bool, true, false, ◌&&◌, ◌||◌, not, List}
+use Rattle.std.proofs.Common.{[], ◌∷◌, refl, sym, ap, ◌∙◌, subst, arith}
 use Rattle.std.proofs.lemmas.Grind.{common_steps}
-use Rattle.std.specs.List.{All, AllPairs}
+use Rattle.std.specs.List.{AllPairs}
 use Rattle.std.proofs.lemmas.List.Kept.{AllPairs-cons}
 use Rattle.vs_conn.specs.End.{ConnectionEnd}
 use Rattle.vs_conn.specs.Follows.{Follows}
@@ -41,7 +42,8 @@ before_begun Device side [] before = refl
 before_begun Device side (e ∷ more) before = let new = asking_is_new side e before.1 in let none = before.0 in grind (arith, common_steps)
 
 left_begun : (role : Role) (side : Side) (h : History) (left_open reply_owed : Bool) (ends : List ConnectionEnd)
-    → IsLeftOn role side h left_open reply_owed ends → (is_empty h ≡ true → left_open ≡ false) → any_begun ends ≡ (left_open && not reply_owed)
+    → IsLeftOn role side h left_open reply_owed ends → (is_empty h ≡ true → left_open ≡ false)
+    → any_begun ends ≡ (left_open && not reply_owed)
 left_begun role side [] left_open reply_owed ends left silent =
     let none = before_begun role side ends left.1 in
     let closed = silent refl in
@@ -53,7 +55,8 @@ pub table_open : (role : Role) (first : ℕ) (part : Ends) (log : Log) (f : Flow
     → is_among f (begun_flows part.entries) ≡ is_open role first f log (is_among f part.replies)
 table_open role first part log f m =
     begun_among f part.entries
-    ∙ left_begun role (side_of role f) (heard_of role first f log) (is_left_open role first f log) (is_among f part.replies) (ends_of f part.entries)
+    ∙ left_begun role (side_of role f) (heard_of role first f log) (is_left_open role first f log) (is_among f part.replies)
+    (ends_of f part.entries)
     (m.on f) (silent_closed role first f log)
 
 -- All of the driver's have begun.
@@ -73,7 +76,8 @@ begun_by role side [] left_open reply_owed ends e left one old =
 begun_by role side (x ∷ h) left_open reply_owed ends e left one old =
     (end_follows role side (x ∷ h) left_open reply_owed ends e left one refl).follows
 
-pub end_begun : (role : Role) (first : ℕ) (part : Ends) (log : Log) (f : Flow) (e : ConnectionEnd) → Matches role first part log → HasEnd f e part
+pub end_begun : (role : Role) (first : ℕ) (part : Ends) (log : Log) (f : Flow) (e : ConnectionEnd) → Matches role first part log
+    → HasEnd f e part
     → is_new e ≡ false → let h = heard_of role first f log in Follows (side_of role f) (puts h) (gots h) e
 end_begun role first part log f e m has old = begun_by role (side_of role f) (heard_of role first f log) _ _ _ e (m.on f) has old
 
@@ -84,10 +88,12 @@ all_begun xs old one f = by_ends (ends_of f xs) refl where
   any_flow : (f : Flow) (xs : List FlowEnd) → ends_of f xs ≡ [] → is_among f (flows_of xs) ≡ false
   any_flow f [] none = refl
   any_flow f (x ∷ xs) none = let rest = any_flow f xs in grind (arith, common_steps)
+
   some_flow : (f : Flow) (e : ConnectionEnd) (more : List ConnectionEnd) (xs : List FlowEnd) → ends_of f xs ≡ e ∷ more
       → is_among f (flows_of xs) ≡ true
   some_flow f e more [] is = absurd cc
   some_flow f e more (x ∷ xs) is = let rest = some_flow f e more xs in grind (arith, common_steps)
+
   by_ends : (es : List ConnectionEnd) → ends_of f xs ≡ es → is_among f (flows_of xs) ≡ is_among f (begun_flows xs)
   by_ends [] is = any_flow f xs is ∙ sym (begun_among f xs ∙ ap any_begun is)
   by_ends (e ∷ more) is =
@@ -96,19 +102,22 @@ all_begun xs old one f = by_ends (ends_of f xs) refl where
       let b = begun_among f xs ∙ ap any_begun is in
       some_flow f e more xs is ∙ sym (b ∙ (grind (arith, common_steps)))
 
-one_at_most : (role : Role) (side : Side) (h : History) (left_open reply_owed : Bool) (ends : List ConnectionEnd) (e : ConnectionEnd) (more : List ConnectionEnd)
+one_at_most : (role : Role) (side : Side) (h : History) (left_open reply_owed : Bool) (ends : List ConnectionEnd) (e : ConnectionEnd)
+    (more : List ConnectionEnd)
     → IsLeftOn role side h left_open reply_owed ends → ends ≡ e ∷ more → more ≡ []
 one_at_most role side h left_open reply_owed ends e more left is =
     at_most_one role side h left_open reply_owed e more (subst (IsLeftOn role side h left_open reply_owed) is left)
 
-pub only_end : (role : Role) (first : ℕ) (part : Ends) (log : Log) (f : Flow) (e : ConnectionEnd) (more : List ConnectionEnd) → Matches role first part log
+pub only_end : (role : Role) (first : ℕ) (part : Ends) (log : Log) (f : Flow) (e : ConnectionEnd) (more : List ConnectionEnd)
+    → Matches role first part log
     → ends_of f part.entries ≡ e ∷ more → more ≡ []
 only_end role first part log f e more m is = one_at_most role (side_of role f) (heard_of role first f log) _ _ _ e more (m.on f) is
 
 pub driver_open : (first : ℕ) (part : Ends) (log : Log) (f : Flow) → Matches Driver first part log
     → is_among f (flows_of part.entries) ≡ is_open Driver first f log (is_among f part.replies)
 driver_open first part log f m =
-    all_begun part.entries (λ g e has. driver_begun first part log g e m has) (λ g e more is. only_end Driver first part log g e more m is) f
+    all_begun part.entries (λ g e has. driver_begun first part log g e m has)
+    (λ g e more is. only_end Driver first part log g e more m is) f
     ∙ table_open Driver first part log f m
 
 -- A flow without an end isn't open.
@@ -121,7 +130,8 @@ none_among : (fs : List Flow) → ((f : Flow) → is_among f fs ≡ false) → f
 none_among [] none = refl
 none_among (f ∷ fs) none = let own = same_self f in let n = none f in absurd (grind (arith, common_steps))
 
-pub reset_empty : (role : Role) (first cid : ℕ) (part : Ends) (log : Log) → Matches role first part (Mark cid ∷ log) → begun_flows part.entries ≡ []
+pub reset_empty : (role : Role) (first cid : ℕ) (part : Ends) (log : Log) → Matches role first part (Mark cid ∷ log)
+    → begun_flows part.entries ≡ []
 reset_empty role first cid part log m = none_among (begun_flows part.entries) (λ f. table_open role first part (Mark cid ∷ log) f m)
 
 -- At most one end a flow.
@@ -147,9 +157,11 @@ own_none x xs once = once x.flow x.end (ends_of x.flow xs) (rw (same_self x.flow
 all_distinct : (xs : List FlowEnd) → IsOnce xs → AllPairs (λ d e. d.flow ≢ e.flow) xs
 all_distinct [] once = λ i j d before less. absurd (omega (arith, less))
 all_distinct (x ∷ xs) once =
-    AllPairs-cons (λ d e. d.flow ≢ e.flow) x xs (λ k d less. no_flow_at x.flow xs k d (own_none x xs once) less) (all_distinct xs (once_rest x xs once))
+    AllPairs-cons (λ d e. d.flow ≢ e.flow) x xs (λ k d less. no_flow_at x.flow xs k d (own_none x xs once) less)
+    (all_distinct xs (once_rest x xs once))
 
-pub table_distinct : (role : Role) (first : ℕ) (part : Ends) (log : Log) → Matches role first part log → AllPairs (λ d e. d.flow ≢ e.flow) part.entries
+pub table_distinct : (role : Role) (first : ℕ) (part : Ends) (log : Log) → Matches role first part log
+    → AllPairs (λ d e. d.flow ≢ e.flow) part.entries
 table_distinct role first part log m = all_distinct part.entries (λ f e more is. only_end role first part log f e more m is)
 
 -- A connection that has not begun is one that asks, on a flow on which nothing was heard.
@@ -159,6 +171,7 @@ new_by role side [] left_open reply_owed ends e left one new = (refl, asks_befor
 new_by role side (x ∷ h) left_open reply_owed ends e left one new =
     let old = follows_begun side (x ∷ h) e (end_follows role side (x ∷ h) left_open reply_owed ends e left one refl).follows in absurd cc
 
-pub end_new : (role : Role) (first : ℕ) (part : Ends) (log : Log) (f : Flow) (e : ConnectionEnd) → Matches role first part log → HasEnd f e part
+pub end_new : (role : Role) (first : ℕ) (part : Ends) (log : Log) (f : Flow) (e : ConnectionEnd) → Matches role first part log
+    → HasEnd f e part
     → is_new e ≡ true → (heard_of role first f log ≡ []) × IsAsking (side_of role f) e
 end_new role first part log f e m has new = new_by role (side_of role f) (heard_of role first f log) _ _ _ e (m.on f) has new

@@ -1,6 +1,7 @@
 -- The driver and the device, each with its connections and its log, over any order of their steps.
-use Rattle.std.specs.Prelude.{◌≡◌, ℕ, ◌≤◌, Bool, true, false, ◌&&◌, if◌then◌else◌, List, [], ◌∷◌, length, Option, Some, None}
-use Rattle.vs_conn.specs.End.{CanSend, ConnectionEnd, aborted, grown, owes_of, wanting_credit, with_payload_forwarded, with_payload_sent, with_shut}
+use Rattle.std.specs.Prelude.{◌≡◌, ℕ, ◌≤◌, Bool, true, false, if◌then◌else◌, List, [], ◌∷◌, length, Option, Some, None}
+use Rattle.vs_conn.specs.End.{CanSend, ConnectionEnd, aborted, grown, owes_of, wanting_credit, with_payload_forwarded}
+use Rattle.vs_conn.specs.End.{with_payload_sent, with_shut}
 use Rattle.vs_conn.specs.Follows.{IsSpace}
 use Rattle.vs_conn.specs.declared.end.Owed.{Owed}
 use Rattle.vs_credit.specs.Credit.{unread_of}

@@ -16,7 +16,8 @@ use Rattle.vs_matching.specs.Steps.{accepted, refused, request_on}
 abbrev pub guest_cid : ℕ
 guest_cid = 3
 
--- A connection that the host asked for. The guest answers from another CID, so that its RESPONSE is dropped, and then puts payload from its own.
+-- A connection that the host asked for. The guest answers from another CID, so that its RESPONSE is dropped, and then puts payload from
+-- its own.
 abbrev pub host_flow : Flow
 host_flow = record { guest = 1024; host = ASSIGNED_FIRST }
 
@@ -43,7 +44,8 @@ abbrev pub request : Packet
 request = request_on Driver guest_cid guest_flow BUF_ALLOC
 
 abbrev pub after_two : Ends
-after_two = accepted guest_flow BUF_ALLOC request.header (refused guest_flow (record { entries = []; replies = []; next_port = 0; cid = guest_cid }))
+after_two = accepted guest_flow BUF_ALLOC request.header
+    (refused guest_flow (record { entries = []; replies = []; next_port = 0; cid = guest_cid }))
 
 abbrev pub log_of_two : Log
 log_of_two = GotPacket request ∷ GotPacket request ∷ []

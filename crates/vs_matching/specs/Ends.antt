@@ -6,7 +6,6 @@ use Rattle.vs_conn.specs.declared.end.State.TheVariants.{Asked}
 use Rattle.vs_flow.specs.Flow.{same_flow}
 use Rattle.vs_flow.specs.Table.{Table}
 use Rattle.vs_flow.specs.declared.flow.Flow.{Flow}
-use Rattle.vs_flow.specs.declared.table.Entry.{Entry}
 
 -- A connection of the table: its flow and its end.
 pub record FlowEnd : Type 0 where

@@ -1,7 +1,9 @@
 //! Laws of an end of many connections.
 
-ghost use Rattle.std.specs.Prelude.{◌≡◌, ◌≢◌, ℕ, ◌≤◌, ◌&&◌, Bool, false, true, List, [], ◌∷◌, ◌++◌, length, find, AllPairs, Contains, Some, None};
-ghost use Rattle.vs_conn.specs.End.{CanSend, ConnectionEnd, aborted, asked, grown, is_refused, is_reset, is_stream, owes_of, verdict_of, wanting_credit};
+ghost use Rattle.std.specs.Prelude.{◌≡◌, ◌≢◌, ℕ, ◌≤◌, ◌&&◌, Bool, false, true, List, [], ◌∷◌, ◌++◌, length, find, AllPairs, Contains};
+ghost use Rattle.std.specs.Prelude.{Some, None};
+ghost use Rattle.vs_conn.specs.End.{CanSend, ConnectionEnd, aborted, asked, grown, is_refused, is_reset, is_stream, owes_of};
+ghost use Rattle.vs_conn.specs.End.{verdict_of, wanting_credit};
 ghost use Rattle.vs_conn.specs.End.{with_payload_forwarded, with_payload_sent, with_shut};
 ghost use Rattle.vs_conn.specs.Follows.{Follows, IsSpace, IsTaken};
 ghost use Rattle.vs_conn.specs.declared.end.Owed.{Owed};
@@ -21,7 +23,8 @@ ghost use Rattle.vs_matching.specs.Counterexamples.{lost_response, payload_after
 ghost use Rattle.vs_matching.specs.Ends.{Ends, begun_flows, ends_of, entries_of, flows_of, is_among, is_new, replaced, without_flow};
 ghost use Rattle.vs_matching.specs.Heard.{IsAllHeard, IsInOrder, IsOrderedLog, IsWithinCredit, heard_of, is_empty};
 ghost use Rattle.vs_matching.specs.Matches.{IsAsking, Matches};
-ghost use Rattle.vs_matching.specs.Steps.{HasEnd, HasNone, IsNextFlow, accepted, asking, emptied, is_message, is_overrun, left, opened, owed_on, paid};
+ghost use Rattle.vs_matching.specs.Steps.{HasEnd, HasNone, IsNextFlow, accepted, asking, emptied, is_message, is_overrun, left};
+ghost use Rattle.vs_matching.specs.Steps.{opened, owed_on, paid};
 ghost use Rattle.vs_matching.specs.Steps.{payload_on, refused, reply_on, request_on, reset, taken, with_connection, with_end, with_replies};
 ghost use Rattle.vs_page.specs.Fair.{IsFairLog, IsFairOn};
 ghost use Rattle.vs_page.specs.Frame.{is_about};
@@ -85,7 +88,7 @@ pub fn law_of_changing()
     ensures changes { (role : Role) (first : ℕ) (f : Flow) (e after : ConnectionEnd) (part : Ends) (log : Log)
         → Matches role first part log → HasEnd f e part → is_new e ≡ false
         → (let h = heard_of role first f log in
-          Follows (side_of role f) (puts h) (gots h) e → Follows (side_of role f) (puts h) (gots h) after)
+        Follows (side_of role f) (puts h) (gots h) e → Follows (side_of role f) (puts h) (gots h) after)
         → Matches role first (with_end f after part) log }
     ensures forwards { (role : Role) (first : ℕ) (f : Flow) (e : ConnectionEnd) (n : ℕ) (part : Ends) (log : Log)
         → Matches role first part log → HasEnd f e part → is_new e ≡ false → n ≤ unread_of e.credit
@@ -174,7 +177,8 @@ pub fn law_of_fairness()
         → IsFairLog role log → part.replies ≡ f ∷ rest → IsFairLog role (PutPacket (reply_on role cid f) ∷ log) }
 {}
 
-/// What an end put on a flow is within the credit that it heard. This holds at the driver over any fair log, and at the device where no packet
+/// What an end put on a flow is within the credit that it heard. This holds at the driver over any fair log, and at the device where no
+/// packet
 /// of the flow was dropped. Each packet that is put keeps it, and each that is got where the log is fair with it.
 pub fn law_of_credit()
     ensures driver { (first : ℕ) (f : Flow) (log : Log) → IsFairOn Driver f log → IsWithinCredit Driver first f log }
@@ -204,7 +208,8 @@ pub fn law_of_fair_packets()
     ensures fits { (role : Role) (p : Packet) (log : Log) → IsFairOn role (flow_got role p) (GotPacket p ∷ log) → IsTaken p }
     ensures asks { (role : Role) (p : Packet) (log : Log) → let f = flow_got role p in IsFairOn role f (GotPacket p ∷ log)
         → is_request p ≡ is_empty (history_of role f log) }
-    ensures never_refused { (role : Role) (first : ℕ) (p : Packet) (e : ConnectionEnd) (part : Ends) (log : Log) → let f = flow_got role p in
+    ensures never_refused { (role : Role) (first : ℕ) (p : Packet) (e : ConnectionEnd) (part : Ends) (log : Log)
+        → let f = flow_got role p in
         Matches role first part log → HasEnd f e part → IsFairOn role f (GotPacket p ∷ log) → IsAllHeard role first f log
         → is_refused (verdict_of e p.header) ≡ false }
     ensures driver { (first : ℕ) (p : Packet) (e : ConnectionEnd) (part : Ends) (log : Log) → let f = flow_got Driver p in
@@ -215,7 +220,8 @@ pub fn law_of_fair_packets()
         → is_overrun (verdict_of e p.header) ≡ false }
 {}
 
-/// The table of an end that matches its log. No flow stands twice in it. The flows of its connections that have begun are exactly those that
+/// The table of an end that matches its log. No flow stands twice in it. The flows of its connections that have begun are exactly those
+/// that
 /// the log left open, less those to which an RST is owed as a reply; all of the driver's have begun. After a transport reset there is none.
 /// Each follows what was heard on its flow. One that has not begun asks for its flow, on which nothing was heard.
 pub fn law_of_the_table()
@@ -238,7 +244,8 @@ pub fn law_of_the_table()
         → HasEnd f e part → is_new e ≡ true → (heard_of role first f log ≡ []) × IsAsking (side_of role f) e }
 {}
 
-/// In a flow table a step under a slot is one on the slot's flow: another value changes that flow's end, a removal takes the flow out, and an
+/// In a flow table a step under a slot is one on the slot's flow: another value changes that flow's end, a removal takes the flow out,
+/// and an
 /// insertion adds one behind all others. An entry's flow has one end, and a flow without an entry none. An entry that is found is there.
 pub fn law_of_slots<T>()
     ensures changed { (end_of : T → ConnectionEnd) (t : Table T) (x : Entry T) (v : T) → IsTable t → Contains t.entries x
@@ -256,7 +263,8 @@ pub fn law_of_slots<T>()
 {}
 
 /// Driver and device over every order of their steps, each where it may happen, from a fresh pair on, transport resets and changes of the
-/// guest's CID included. Both match their logs, both logs are fair, and each got what the other put first. So the driver's table is what its log
+/// guest's CID included. Both match their logs, both logs are fair, and each got what the other put first. So the driver's table is what
+/// its log
 /// left open, and the device's connections that have begun are. The driver refuses no packet, the device none of a flow of which no packet
 /// was dropped, and no payload is too much.
 pub fn law_of_both()
@@ -269,12 +277,14 @@ pub fn law_of_both()
         → let w = (run xs (start first guest_port host_port)).device in
         is_among f (begun_flows w.part.entries) ≡ is_open Device first f w.log (is_among f w.part.replies) }
     ensures driver_accepts { (first : ℕ) (p : Packet) (e : ConnectionEnd) (b : Both) → IsSound first b
-        → IsNextPacket b.driver.log b.device.log p → HasEnd (flow_got Driver p) e b.driver.part → is_refused (verdict_of e p.header) ≡ false }
+        → IsNextPacket b.driver.log b.device.log p → HasEnd (flow_got Driver p) e b.driver.part
+        → is_refused (verdict_of e p.header) ≡ false }
     ensures device_accepts { (first : ℕ) (p : Packet) (e : ConnectionEnd) (b : Both) → IsSound first b
         → IsNextPacket b.device.log b.driver.log p → HasEnd (flow_got Device p) e b.device.part
         → IsAllHeard Device first (flow_got Device p) b.device.log → is_refused (verdict_of e p.header) ≡ false }
     ensures device_has_room { (first : ℕ) (p : Packet) (e : ConnectionEnd) (b : Both) → IsSound first b
-        → IsNextPacket b.device.log b.driver.log p → HasEnd (flow_got Device p) e b.device.part → is_overrun (verdict_of e p.header) ≡ false }
+        → IsNextPacket b.device.log b.driver.log p → HasEnd (flow_got Device p) e b.device.part
+        → is_overrun (verdict_of e p.header) ≡ false }
 {}
 
 /// Why the definitions say no less, by example. An end that has not put its REQUEST follows no history. Where a RESPONSE was dropped, the

@@ -1,4 +1,3 @@
-use Rattle.std.proofs.Common.{refl}
 use Rattle.vs_matching.proofs.Fair.{all_got, all_put, heard_all, heard_puts}
 use Rattle.vs_matching.proofs.Frame.{heard_dropped, heard_got, heard_other, heard_put}
 use Rattle.vs_matching.proofs.laws.law_of_hearing.Goals as goal
