@@ -179,7 +179,7 @@ mark_keeps role first cid part b m s =
     (record { matches = m; fair = s.fair role; credit = s.credit role })
     (record { packets = here.packets; events = here.events }) (record { packets = there.packets; events = there.events }) s
 
-step_keeps : (role : Role) (first : ℕ) (step : Step) (b : Both) → IsSound first b → MayHappen role step b
+pub step_keeps : (role : Role) (first : ℕ) (step : Step) (b : Both) → IsSound first b → MayHappen role step b
     → IsSound first (happens role step b)
 step_keeps role first (Opens f alloc) b s may =
     let w = at role b in
@@ -275,13 +275,6 @@ driver_accepts first p e b s next has =
     got_not_refused Driver first p e b.driver.part b.driver.log (s.matches Driver) has
     (next_is_fair Driver first p b s next (flow_got Driver p))
     (heard_all first (flow_got Driver p) b.driver.log)
-
-pub device_accepts : (first : ℕ) (p : Packet) (e : ConnectionEnd) (b : Both) → IsSound first b → IsNextPacket b.device.log b.driver.log p
-    → HasEnd (flow_got Device p) e b.device.part → IsAllHeard Device first (flow_got Device p) b.device.log
-    → is_refused (verdict_of e p.header) ≡ false
-device_accepts first p e b s next has all =
-    got_not_refused Device first p e b.device.part b.device.log (s.matches Device) has
-    (next_is_fair Device first p b s next (flow_got Device p)) all
 
 pub device_has_room : (first : ℕ) (p : Packet) (e : ConnectionEnd) (b : Both) → IsSound first b → IsNextPacket b.device.log b.driver.log p
     → HasEnd (flow_got Device p) e b.device.part → is_overrun (verdict_of e p.header) ≡ false

@@ -21,7 +21,7 @@ use Rattle.vs_history.specs.declared.packet.Packet.{Packet}
 use Rattle.vs_history.proofs.Fair.{BothSound, sound}
 use Rattle.vs_page.specs.Fair.{IsFairLog, IsFairOn}
 use Rattle.vs_page.specs.Log.{Log, Role, Driver, Device, flow_put, flow_got, history_of, side_of}
-use Rattle.vs_page.specs.Open.{cid_of, is_dropped}
+use Rattle.vs_page.specs.Open.{cid_of, is_dropped, is_left_open}
 use Rattle.vs_page.specs.declared.log.LogEntry.{LogEntry}
 use Rattle.vs_page.specs.declared.log.LogEntry.TheVariants.{PutPacket, GotPacket, PutEvent, GotEvent, Mark}
 use Rattle.vs_page.proofs.Entries.{one_put}
@@ -31,7 +31,7 @@ use Rattle.vs_matching.specs.Heard.{IsAllHeard, IsInOrder, IsOrdered, IsOrderedL
 use Rattle.vs_matching.specs.Matches.{IsAsking, Matches}
 use Rattle.vs_matching.specs.Steps.{HasEnd, IsNextFlow, is_overrun, owed_on, payload_on, reply_on, request_on}
 use Rattle.vs_matching.proofs.Frame.{heard_put}
-use Rattle.vs_matching.proofs.OnFlow.{end_asks, end_follows}
+use Rattle.vs_matching.proofs.OnFlow.{IsOne, end_asks, end_follows}
 use Rattle.vs_matching.proofs.Steps.{asking_sends_none, owed_flow, payload_flow, pays_new, reply_flow, reply_heard, request_flow, some_of}
 
 -- A fair history that has begun has the REQUEST.
@@ -345,7 +345,7 @@ pub driver_within : (first : ℕ) (f : Flow) (log : Log) → IsFairOn Driver f l
 driver_within first f log fair = all_within Driver first f log fair (heard_all first f log)
 
 -- A packet got that is fair comes in order, and its fields fit.
-own_got_fair : (role : Role) (p : Packet) (log : Log) → let f = flow_got role p in IsFairOn role f (GotPacket p ∷ log)
+pub own_got_fair : (role : Role) (p : Packet) (log : Log) → let f = flow_got role p in IsFairOn role f (GotPacket p ∷ log)
     → IsFair (side_of role f) (Got p ∷ history_of role f log)
 own_got_fair role p log fair =
     let f = flow_got role p in
@@ -362,7 +362,7 @@ got_in_order role first p log fair =
 pub got_is_taken : (role : Role) (p : Packet) (log : Log) → let f = flow_got role p in IsFairOn role f (GotPacket p ∷ log) → IsTaken p
 got_is_taken role p log fair = taken_of p (own_got_fair role p log fair).0.formed
 
-first_asks : (side : Side) (h : History) (p : Packet) → IsFair side (Got p ∷ h) → is_request p ≡ is_empty h
+pub first_asks : (side : Side) (h : History) (p : Packet) → IsFair side (Got p ∷ h) → is_request p ≡ is_empty h
 first_asks side [] p fair = grind (arith, common_steps)
 first_asks side (x ∷ h) p fair = let begun = fair_begun side h x fair.1 in grind (arith, common_steps)
 
@@ -371,18 +371,23 @@ pub got_asks : (role : Role) (p : Packet) (log : Log) → let f = flow_got role 
 got_asks role p log fair =
     first_asks (side_of role (flow_got role p)) (history_of role (flow_got role p) log) p (own_got_fair role p log fair)
 
--- The end of a flow on which a fair packet is got follows what was heard.
-got_follows : (role : Role) (first : ℕ) (p : Packet) (e : ConnectionEnd) (part : Ends) (log : Log) → let f = flow_got role p in
+-- The end of a flow on which a fair packet is got follows what was heard, and the flow is open.
+pub got_one : (role : Role) (first : ℕ) (p : Packet) (e : ConnectionEnd) (part : Ends) (log : Log) → let f = flow_got role p in
     Matches role first part log → HasEnd f e part → IsFairOn role f (GotPacket p ∷ log)
-    → (let h = heard_of role first f log in Follows (side_of role f) (puts h) (gots h) e)
-got_follows role first p e part log m has fair =
+    → IsOne (side_of role f) (heard_of role first f log) (is_left_open role first f log) (is_among f part.replies) e
+got_one role first p e part log m has fair =
     let f = flow_got role p in
     let h = heard_of role first f log in
     let order = got_in_order role first p log fair in
     let some = some_of h (λ none.
-    let a = end_asks role (side_of role f) h _ _ _ e (m.on f) has none in
-    let both : true ≡ false = sym none ∙ order.asked a.asker in absurd cc) in
-    (end_follows role (side_of role f) h _ _ _ e (m.on f) has some).follows
+      let a = end_asks role (side_of role f) h _ _ _ e (m.on f) has none in
+      let both : true ≡ false = sym none ∙ order.asked a.asker in absurd cc) in
+    end_follows role (side_of role f) h _ _ _ e (m.on f) has some
+
+got_follows : (role : Role) (first : ℕ) (p : Packet) (e : ConnectionEnd) (part : Ends) (log : Log) → let f = flow_got role p in
+    Matches role first part log → HasEnd f e part → IsFairOn role f (GotPacket p ∷ log)
+    → (let h = heard_of role first f log in Follows (side_of role f) (puts h) (gots h) e)
+got_follows role first p e part log m has fair = (got_one role first p e part log m has fair).follows
 
 pub got_not_refused : (role : Role) (first : ℕ) (p : Packet) (e : ConnectionEnd) (part : Ends) (log : Log) → let f = flow_got role p in
     Matches role first part log → HasEnd f e part → IsFairOn role f (GotPacket p ∷ log) → IsAllHeard role first f log
@@ -436,7 +441,7 @@ pub all_got : (role : Role) (first : ℕ) (f : Flow) (p : Packet) (log : Log) �
 all_got role first f p log kept all = grind (arith, common_steps)
 
 -- A history in which the first packet is the only REQUEST.
-fair_put_asks : (side : Side) (h : History) (p : Packet) → IsFair side (Put p ∷ h) → is_request p ≡ is_empty h
+pub fair_put_asks : (side : Side) (h : History) (p : Packet) → IsFair side (Put p ∷ h) → is_request p ≡ is_empty h
 fair_put_asks side [] p fair = grind (arith, common_steps)
 fair_put_asks side (x ∷ h) p fair = let begun = fair_begun side h x fair.1 in grind (arith, common_steps)
 
@@ -462,7 +467,7 @@ ordered_asked : (h heard : History) (p : Packet) → IsOrdered Asker (Got p ∷ 
 ordered_asked [] heard p o same = let none = o.1 o.0 in absurd cc
 ordered_asked (x ∷ h) heard p o same = some_put heard (ap (has is_request) same ∙ asked_ordered h x o.2)
 
-empty_is : (h : History) → is_empty h ≡ true → h ≡ []
+pub empty_is : (h : History) → is_empty h ≡ true → h ≡ []
 empty_is [] is = refl
 empty_is (x ∷ h) is = absurd cc
 

@@ -16,7 +16,7 @@ use Rattle.vs_matching.specs.Heard.{heard_of, is_empty, own_port}
 use Rattle.vs_matching.specs.Matches.{IsLeftOn, IsUnused, Matches, MatchesOn}
 use Rattle.vs_page.proofs.Flows.{same_self, same_is}
 
-same_of : (f g : Flow) → g ≡ f → same_flow f g ≡ true
+pub same_of : (f g : Flow) → g ≡ f → same_flow f g ≡ true
 same_of f g is = rw is (same_self f)
 
 -- A packet that is put or got on a flow is the newest that was heard on it, where it isn't dropped.

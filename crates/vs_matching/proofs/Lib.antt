@@ -6,3 +6,4 @@ pub mod Fair
 pub mod Tables
 pub mod Slots
 pub mod Both
+pub mod Voices

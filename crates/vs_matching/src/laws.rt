@@ -279,9 +279,10 @@ pub fn law_of_both()
     ensures driver_accepts { (first : ℕ) (p : Packet) (e : ConnectionEnd) (b : Both) → IsSound first b
         → IsNextPacket b.driver.log b.device.log p → HasEnd (flow_got Driver p) e b.driver.part
         → is_refused (verdict_of e p.header) ≡ false }
-    ensures device_accepts { (first : ℕ) (p : Packet) (e : ConnectionEnd) (b : Both) → IsSound first b
-        → IsNextPacket b.device.log b.driver.log p → HasEnd (flow_got Device p) e b.device.part
-        → IsAllHeard Device first (flow_got Device p) b.device.log → is_refused (verdict_of e p.header) ≡ false }
+    ensures device_accepts { (first guest_port host_port : ℕ) (xs : List Happening) (p : Packet) (e : ConnectionEnd)
+        → MayRun xs (start first guest_port host_port) → let b = run xs (start first guest_port host_port) in
+        IsNextPacket b.device.log b.driver.log p → HasEnd (flow_got Device p) e b.device.part
+        → is_dropped Device b.device.part.cid p.header ≡ false → is_refused (verdict_of e p.header) ≡ false }
     ensures device_has_room { (first : ℕ) (p : Packet) (e : ConnectionEnd) (b : Both) → IsSound first b
         → IsNextPacket b.device.log b.driver.log p → HasEnd (flow_got Device p) e b.device.part
         → is_overrun (verdict_of e p.header) ≡ false }

@@ -1,6 +1,7 @@
 use Rattle.vs_matching.specs.Both.{run, start}
-use Rattle.vs_matching.proofs.Both.{device_accepts, device_has_room, driver_accepts, run_keeps, start_sound}
+use Rattle.vs_matching.proofs.Both.{device_has_room, driver_accepts, run_keeps, start_sound}
 use Rattle.vs_matching.proofs.Tables.{driver_open, table_open}
+use Rattle.vs_matching.proofs.Voices.{device_takes}
 use Rattle.vs_page.specs.Log.{Device, Driver}
 use Rattle.vs_matching.proofs.laws.law_of_both.Goals as goal
 
@@ -21,7 +22,7 @@ pub returns-clause-driver_accepts : goal.returns-clause-driver_accepts
 returns-clause-driver_accepts c = driver_accepts
 
 pub returns-clause-device_accepts : goal.returns-clause-device_accepts
-returns-clause-device_accepts c = device_accepts
+returns-clause-device_accepts c = device_takes
 
 pub returns-clause-device_has_room : goal.returns-clause-device_has_room
 returns-clause-device_has_room c = device_has_room
