@@ -2,5 +2,5 @@ pub mod Ends
 pub mod Heard
 pub mod Matches
 pub mod Steps
-pub mod Counterexamples
+pub mod Examples
 pub mod Both

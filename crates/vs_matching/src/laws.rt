@@ -2,15 +2,17 @@
 
 ghost use Rattle.std.specs.Prelude.{◌≡◌, ◌≢◌, ℕ, ◌≤◌, ◌&&◌, Bool, false, true, List, [], ◌∷◌, ◌++◌, length, find, AllPairs, Contains};
 ghost use Rattle.std.specs.Prelude.{Some, None};
-ghost use Rattle.vs_conn.specs.End.{CanSend, ConnectionEnd, aborted, asked, grown, is_refused, is_reset, is_stream, owes_of};
-ghost use Rattle.vs_conn.specs.End.{verdict_of, wanting_credit};
+ghost use Rattle.vs_conn.specs.End.{CanSend, ConnectionEnd, aborted, asked, end_after, grown, is_refused, is_reset, is_stream, owes_of};
+ghost use Rattle.vs_conn.specs.End.{paid_of, verdict_of, wanting_credit};
 ghost use Rattle.vs_conn.specs.End.{with_payload_forwarded, with_payload_sent, with_shut};
 ghost use Rattle.vs_conn.specs.Follows.{Follows, IsSpace, IsTaken};
 ghost use Rattle.vs_conn.specs.declared.end.Owed.{Owed};
+ghost use Rattle.vs_conn.specs.declared.end.Owed.TheVariants.{Response};
 ghost use Rattle.vs_credit.specs.Credit.{unread_of};
 ghost use Rattle.vs_flow.specs.Flow.{same_flow};
 ghost use Rattle.vs_flow.specs.Table.{IsTable, Table, entry_of, with_entry, with_value, without};
 ghost use Rattle.vs_flow.specs.declared.flow.Flow.{Flow};
+ghost use Rattle.vs_flow.specs.declared.flow.TheConstants.{ASSIGNED_FIRST};
 ghost use Rattle.vs_flow.specs.declared.table.Entry.{Entry};
 ghost use Rattle.vs_header.specs.declared.Header.{Header};
 ghost use Rattle.vs_history.specs.History.{Asker, Got, Put, gots, puts};
@@ -18,8 +20,9 @@ ghost use Rattle.vs_history.specs.Packets.{is_request, is_rst};
 ghost use Rattle.vs_history.specs.declared.TheConstants.{BUF_ALLOC_MAX};
 ghost use Rattle.vs_history.specs.declared.packet.Packet.{Packet};
 ghost use Rattle.vs_matching.specs.Both.{Both, Happening, IsSound, MayRun, run, start};
-ghost use Rattle.vs_matching.specs.Counterexamples.{after_two, asking_end, guest_cid, guest_flow, host_flow, log_of_two, log_with_drop};
-ghost use Rattle.vs_matching.specs.Counterexamples.{lost_response, payload_after};
+ghost use Rattle.vs_matching.specs.Examples.{after_two, asking_end, guest_cid, guest_flow, host_end, host_flow, log_of_two};
+ghost use Rattle.vs_matching.specs.Examples.{log_with_drop, new_cid, opening, resetting};
+ghost use Rattle.vs_matching.specs.Examples.{lost_response, payload_after};
 ghost use Rattle.vs_matching.specs.Ends.{Ends, begun_flows, ends_of, entries_of, flows_of, is_among, is_new, replaced, without_flow};
 ghost use Rattle.vs_matching.specs.Heard.{IsAllHeard, IsInOrder, IsOrderedLog, IsWithinCredit, heard_of, is_empty};
 ghost use Rattle.vs_matching.specs.Matches.{IsAsking, Matches};
@@ -286,6 +289,18 @@ pub fn law_of_both()
     ensures device_has_room { (first : ℕ) (p : Packet) (e : ConnectionEnd) (b : Both) → IsSound first b
         → IsNextPacket b.device.log b.driver.log p → HasEnd (flow_got Device p) e b.device.part
         → is_overrun (verdict_of e p.header) ≡ false }
+{}
+
+/// A connection of the guest's may open and stand in both tables, and after a transport reset it stands in neither, and nothing is owed.
+pub fn example()
+    ensures may { MayRun (opening ++ resetting) (start guest_cid 1024 ASSIGNED_FIRST) }
+    ensures driver_has { HasEnd guest_flow (end_after asking_end (owed_on Device guest_cid guest_flow host_end Response).header)
+        (run opening (start guest_cid 1024 ASSIGNED_FIRST)).driver.part }
+    ensures device_has { HasEnd guest_flow (paid_of host_end Response) (run opening (start guest_cid 1024 ASSIGNED_FIRST)).device.part }
+    ensures driver_left { (run (opening ++ resetting) (start guest_cid 1024 ASSIGNED_FIRST)).driver.part
+        ≡ record { entries = []; replies = []; next_port = 1025; cid = new_cid } }
+    ensures device_left { (run (opening ++ resetting) (start guest_cid 1024 ASSIGNED_FIRST)).device.part
+        ≡ record { entries = []; replies = []; next_port = ASSIGNED_FIRST; cid = new_cid } }
 {}
 
 /// Why the definitions say no less, by example. An end that has not put its REQUEST follows no history. Where a RESPONSE was dropped, the
