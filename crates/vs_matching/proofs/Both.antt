@@ -20,7 +20,7 @@ use Rattle.vs_matching.specs.Both.{TakesEvent}
 use Rattle.vs_matching.specs.Both.{TakesReset, WantsCredit, after, after_packet, answered, at, decided, happens}
 use Rattle.vs_matching.specs.Both.{run, start, with_seat}
 use Rattle.vs_matching.specs.Ends.{Ends, ends_of}
-use Rattle.vs_matching.specs.Heard.{IsAllHeard, IsInOrder, IsWithin, IsWithinCredit, heard_of}
+use Rattle.vs_matching.specs.Heard.{IsInOrder, IsWithin, IsWithinCredit, heard_of}
 use Rattle.vs_matching.specs.Matches.{Matches}
 use Rattle.vs_matching.specs.Steps.{HasEnd, is_overrun, owed_on, payload_on, reply_on, request_on}
 use Rattle.vs_matching.proofs.Fair.{got_in_order, got_is_taken, got_no_overrun, got_not_refused, got_within, heard_all, open_fair}

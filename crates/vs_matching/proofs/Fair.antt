@@ -380,8 +380,8 @@ got_one role first p e part log m has fair =
     let h = heard_of role first f log in
     let order = got_in_order role first p log fair in
     let some = some_of h (λ none.
-      let a = end_asks role (side_of role f) h _ _ _ e (m.on f) has none in
-      let both : true ≡ false = sym none ∙ order.asked a.asker in absurd cc) in
+    let a = end_asks role (side_of role f) h _ _ _ e (m.on f) has none in
+    let both : true ≡ false = sym none ∙ order.asked a.asker in absurd cc) in
     end_follows role (side_of role f) h _ _ _ e (m.on f) has some
 
 got_follows : (role : Role) (first : ℕ) (p : Packet) (e : ConnectionEnd) (part : Ends) (log : Log) → let f = flow_got role p in

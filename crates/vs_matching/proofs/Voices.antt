@@ -15,21 +15,22 @@ use Rattle.vs_history.specs.declared.packet.Packet.{Packet}
 use Rattle.vs_page.specs.Fair.{IsFairLog, IsFairOn}
 use Rattle.vs_page.specs.Log.{Driver, Device, IsNextPacket, Log, Role, flow_got, flow_put, history_of, side_of}
 use Rattle.vs_page.specs.Open.{cid_of, is_dropped, is_left_open, opened_by, opened_by_got}
-use Rattle.vs_page.specs.declared.log.LogEntry.TheVariants.{GotEvent, GotPacket, Mark, PutEvent, PutPacket}
+use Rattle.vs_page.specs.declared.log.LogEntry.TheVariants.{GotPacket, PutPacket}
 use Rattle.vs_page.specs.declared.log.TheConstants.{HOST_CID}
 use Rattle.vs_page.proofs.Entries.{got_on, on_flow}
 use Rattle.vs_page.proofs.Flows.{same_is, same_self}
 use Rattle.vs_matching.specs.Both.{Asks, Both, Decides, Happening, IsSound, MakesReset, MayHappen, MayRun, Opens, Pays, PutsEvent, Replies}
-use Rattle.vs_matching.specs.Both.{Seat, Sends, Step, Takes, TakesEvent, TakesReset, after_packet, answered, at, decided, happens, run, start}
+use Rattle.vs_matching.specs.Both.{Seat, Sends, Step, Takes, TakesEvent, TakesReset, after_packet, answered, decided, happens}
+use Rattle.vs_matching.specs.Both.{run, start}
 use Rattle.vs_matching.specs.Ends.{Ends, ends_of}
-use Rattle.vs_matching.specs.Heard.{IsInOrder, heard_of, is_empty}
+use Rattle.vs_matching.specs.Heard.{IsInOrder, heard_of}
 use Rattle.vs_matching.specs.Matches.{Matches}
-use Rattle.vs_matching.specs.Steps.{HasEnd, left, opened, owed_on, paid, payload_on, reply_on, request_on, taken, with_end}
+use Rattle.vs_matching.specs.Steps.{HasEnd, left, owed_on, paid, payload_on, reply_on, request_on, with_end}
 use Rattle.vs_matching.proofs.Both.{next_is_fair, run_keeps, start_sound, step_keeps}
-use Rattle.vs_matching.proofs.Entries.{added_other, replaced_other, without_other, without_same}
+use Rattle.vs_matching.proofs.Entries.{added_other, replaced_other, without_other}
 use Rattle.vs_matching.proofs.Fair.{empty_is, fair_put_asks, first_asks, got_in_order, got_one, heard_none, heard_puts, own_got_fair}
-use Rattle.vs_matching.proofs.Frame.{heard_other, same_of}
-use Rattle.vs_matching.proofs.Steps.{cid_heard, owed_flow, payload_flow, reply_flow, request_flow}
+use Rattle.vs_matching.proofs.Frame.{same_of}
+use Rattle.vs_matching.proofs.Steps.{cid_heard}
 use Rattle.vs_matching.proofs.Tables.{only_end}
 
 -- The device drops a packet exactly where the guest's CID isn't this.
@@ -90,7 +91,8 @@ voices_put f g p part log true same is speaks before voices =
 voices_put f g p part log false same is speaks before voices =
     subst (λ h. IsOneVoice (puts h)) (sym (history_put_other Driver f g p log is same)) (voices g)
 
-spoken_put : (f g : Flow) (p : Packet) (part new : Ends) (log : Log) (e : ConnectionEnd) (b : Bool) → same_flow g f ≡ b → flow_put Driver p ≡ f
+spoken_put : (f g : Flow) (p : Packet) (part new : Ends) (log : Log) (e : ConnectionEnd) (b : Bool) → same_flow g f ≡ b
+    → flow_put Driver p ≡ f
     → Speaks part.cid p → ((x : ConnectionEnd) → HasEnd f x new → AllSpeak part.cid (puts (history_of Driver f log)))
     → (same_flow g f ≡ false → ends_of g new.entries ≡ ends_of g part.entries)
     → ((x : Flow) (y : ConnectionEnd) → HasEnd x y part → AllSpeak part.cid (puts (history_of Driver x log)))
@@ -111,7 +113,7 @@ voiced_put : (f : Flow) (p : Packet) (part new : Ends) (log : Log) → flow_put 
 voiced_put f p part new log is speaks cid before had others v = record {
   voices = λ g. voices_put f g p part log (same_flow g f) refl is speaks before v.voices;
   spoken = λ g e has. subst (λ x. AllSpeak x (puts (history_of Driver g (PutPacket p ∷ log)))) (sym cid)
-  (spoken_put f g p part new log e (same_flow g f) refl is speaks had (others g) v.spoken has);
+      (spoken_put f g p part new log e (same_flow g f) refl is speaks had (others g) v.spoken has);
 }
 
 spoken_got : (f g : Flow) (p : Packet) (part new : Ends) (log : Log) (e : ConnectionEnd) (b : Bool) → same_flow g f ≡ b
@@ -131,8 +133,8 @@ voiced_got : (f : Flow) (p : Packet) (part new : Ends) (log : Log) → new.cid �
 voiced_got f p part new log cid had others v = record {
   voices = λ g. subst IsOneVoice (sym (puts_got Driver g p log)) (v.voices g);
   spoken = λ g e has. subst (λ x. AllSpeak x (puts (history_of Driver g (GotPacket p ∷ log)))) (sym cid)
-  (subst (AllSpeak part.cid) (sym (puts_got Driver g p log))
-  (spoken_got f g p part new log e (same_flow g f) refl had (others g) v.spoken has));
+      (subst (AllSpeak part.cid) (sym (puts_got Driver g p log))
+      (spoken_got f g p part new log e (same_flow g f) refl had (others g) v.spoken has));
 }
 
 -- What steps do to the CID and to other flows.
@@ -169,7 +171,8 @@ packet_other : (ends : List ConnectionEnd) (f g : Flow) (p : Packet) (answer : O
 packet_other [] f g p answer part other = unknown_other f g p answer part (is_rst p) other
 packet_other (e ∷ more) f g p answer part other = taken_other f g _ part (is_rst p && is_stream p.header) other
 
-packet_cid : (ends : List ConnectionEnd) (f : Flow) (p : Packet) (answer : Option ℕ) (part : Ends) → (after_packet ends p f answer part).cid ≡ part.cid
+packet_cid : (ends : List ConnectionEnd) (f : Flow) (p : Packet) (answer : Option ℕ) (part : Ends)
+    → (after_packet ends p f answer part).cid ≡ part.cid
 packet_cid = grind (arith, common_steps)
 
 -- A packet that gives a flow its connection is a REQUEST.
@@ -183,7 +186,8 @@ unknown_asks : (f : Flow) (p : Packet) (answer : Option ℕ) (part : Ends) (e : 
 unknown_asks f p answer part e true none has = let both : [] ≡ e ∷ [] = sym none ∙ has in absurd cc
 unknown_asks f p answer part e false none has = answered_asks f p answer part e (is_request p) refl none has
 
-packet_had : (first : ℕ) (ends : List ConnectionEnd) (p : Packet) (answer : Option ℕ) (part : Ends) (log : Log) (e : ConnectionEnd) → let f = flow_got Driver p in
+packet_had : (first : ℕ) (ends : List ConnectionEnd) (p : Packet) (answer : Option ℕ) (part : Ends) (log : Log) (e : ConnectionEnd)
+    → let f = flow_got Driver p in
     ends_of f part.entries ≡ ends → Matches Driver first part log → IsInOrder (side_of Driver f) (heard_of Driver first f log) p
     → IsVoiced (record { part = part; log = log }) → HasEnd f e (after_packet ends p f answer part)
     → AllSpeak part.cid (puts (history_of Driver f log))
@@ -232,21 +236,27 @@ one_more : (first : ℕ) (f : Flow) (p : Packet) (log : Log) → KeepsOn first f
     → KeepsOn first f (GotPacket p ∷ log)
 one_more first f p log keeps same = grind (arith, common_steps)
 
-keeps_put_at : (first : ℕ) (g : Flow) (p : Packet) (log : Log) (b : Bool) → same_flow g (flow_put Device p) ≡ b → IsFairLog Device (PutPacket p ∷ log)
+keeps_put_at : (first : ℕ) (g : Flow) (p : Packet) (log : Log) (b : Bool) → same_flow g (flow_put Device p) ≡ b
+    → IsFairLog Device (PutPacket p ∷ log)
     → IsKeeping first log → is_left_open Device first g (PutPacket p ∷ log) ≡ true → KeepsOn first g (PutPacket p ∷ log)
 keeps_put_at first g p log true same fair before opens =
     let own : history_of Device g (PutPacket p ∷ log) ≡ Put p ∷ history_of Device g log = rw same refl in
     let opens_now : opened_by p (is_left_open Device first g log) ≡ true = rw same at opens in
-    let k = keeps_put_by first g p log (is_left_open Device first g log) refl (subst (IsFair (side_of Device g)) own (fair g)) (before g) opens_now in
+    let k =
+    keeps_put_by first g p log (is_left_open Device first g log) refl (subst (IsFair (side_of Device g)) own (fair g))
+    (before g) opens_now in
     rw same k
 keeps_put_at first g p log false same fair before opens = rw same (before g (rw same at opens))
 
-keeps_got_at : (first : ℕ) (g : Flow) (p : Packet) (log : Log) (b : Bool) → same_flow g (flow_got Device p) ≡ b → IsFairLog Device (GotPacket p ∷ log)
+keeps_got_at : (first : ℕ) (g : Flow) (p : Packet) (log : Log) (b : Bool) → same_flow g (flow_got Device p) ≡ b
+    → IsFairLog Device (GotPacket p ∷ log)
     → IsKeeping first log → is_left_open Device first g (GotPacket p ∷ log) ≡ true → KeepsOn first g (GotPacket p ∷ log)
 keeps_got_at first g p log true same fair before opens =
     let own : history_of Device g (GotPacket p ∷ log) ≡ Got p ∷ history_of Device g log = rw same refl in
     let opens_now : opened_by_got Device (cid_of first log) p (is_left_open Device first g log) ≡ true = rw same at opens in
-    let k = keeps_got_by first g p log (is_left_open Device first g log) refl (subst (IsFair (side_of Device g)) own (fair g)) (before g) opens_now in
+    let k =
+    keeps_got_by first g p log (is_left_open Device first g log) refl (subst (IsFair (side_of Device g)) own (fair g))
+    (before g) opens_now in
     one_more first g p log k same
 keeps_got_at first g p log false same fair before opens = rw same (before g (rw same at opens))
 
@@ -255,14 +265,17 @@ record AreVoiced (first : ℕ) (b : Both) : Type 0 where
   driver : IsVoiced b.driver
   device : IsKeeping first b.device.log
 
-open_silent : (first : ℕ) (f : Flow) (part : Ends) (log : Log) → heard_of Driver first f log ≡ [] → AllSpeak part.cid (puts (history_of Driver f log))
+open_silent : (first : ℕ) (f : Flow) (part : Ends) (log : Log) → heard_of Driver first f log ≡ []
+    → AllSpeak part.cid (puts (history_of Driver f log))
 open_silent first f part log silent = subst (AllSpeak part.cid) (ap puts (sym silent) ∙ heard_puts Driver first f log) tt
 
-driver_step : (first : ℕ) (step : Step) (b : Both) → IsSound first b → MayHappen Driver step b → IsVoiced b.driver → IsVoiced (happens Driver step b).driver
+driver_step : (first : ℕ) (step : Step) (b : Both) → IsSound first b → MayHappen Driver step b → IsVoiced b.driver
+    → IsVoiced (happens Driver step b).driver
 driver_step first (Opens f alloc) b s may v =
     let part = b.driver.part in
     let silent = open_silent first f part b.driver.log ((s.matches Driver).unused f may.0.asker may.0.port).silent in
-    voiced_put f (request_on Driver part.cid f alloc) part _ b.driver.log refl (speaks_by part.cid (request_on Driver part.cid f alloc) refl refl) refl
+    voiced_put f (request_on Driver part.cid f alloc) part _ b.driver.log refl
+    (speaks_by part.cid (request_on Driver part.cid f alloc) refl refl) refl
     (λ other. silent) (λ x has. silent) (λ g other. added_other f g _ part.entries other) v
 driver_step first (Asks f alloc) b s may v = let no = may.0 in absurd cc
 driver_step first (Sends f e payload) b s may v =
@@ -282,8 +295,9 @@ driver_step first (Replies f rest) b s may v =
     (λ other. absurd cc) (λ x has. v.spoken f x has) (λ g other. refl) v
 driver_step first (Decides f e what) b s may v = record {
   voices = v.voices;
-  spoken = λ g x has. spoken_got f g (reply_on Driver 0 f) b.driver.part (with_end f (decided e what) b.driver.part) b.driver.log x (same_flow g f) refl
-  (λ y now. v.spoken f e may.0) (λ other. replaced_other f g (decided e what) b.driver.part.entries other) v.spoken has;
+  spoken = λ g x has. spoken_got f g (reply_on Driver 0 f) b.driver.part (with_end f (decided e what) b.driver.part) b.driver.log x
+      (same_flow g f) refl
+      (λ y now. v.spoken f e may.0) (λ other. replaced_other f g (decided e what) b.driver.part.entries other) v.spoken has;
 }
 driver_step first (Takes p answer) b s may v =
     let part = b.driver.part in
@@ -300,13 +314,18 @@ driver_step first (TakesReset cid) b s may v = record { voices = v.voices; spoke
 
 device_step : (first : ℕ) (step : Step) (b : Both) → IsSound first b → MayHappen Device step b → IsKeeping first b.device.log
     → IsKeeping first (happens Device step b).device.log
-device_step first (Opens f alloc) b s may k = λ g. keeps_put_at first g _ b.device.log _ refl ((step_keeps Device first (Opens f alloc) b s may).fair Device) k
+device_step first (Opens f alloc) b s may k =
+    λ g. keeps_put_at first g _ b.device.log _ refl ((step_keeps Device first (Opens f alloc) b s may).fair Device) k
 device_step first (Asks f alloc) b s may k = k
-device_step first (Sends f e payload) b s may k = λ g. keeps_put_at first g _ b.device.log _ refl ((step_keeps Device first (Sends f e payload) b s may).fair Device) k
-device_step first (Pays f e what) b s may k = λ g. keeps_put_at first g _ b.device.log _ refl ((step_keeps Device first (Pays f e what) b s may).fair Device) k
-device_step first (Replies f rest) b s may k = λ g. keeps_put_at first g _ b.device.log _ refl ((step_keeps Device first (Replies f rest) b s may).fair Device) k
+device_step first (Sends f e payload) b s may k =
+    λ g. keeps_put_at first g _ b.device.log _ refl ((step_keeps Device first (Sends f e payload) b s may).fair Device) k
+device_step first (Pays f e what) b s may k =
+    λ g. keeps_put_at first g _ b.device.log _ refl ((step_keeps Device first (Pays f e what) b s may).fair Device) k
+device_step first (Replies f rest) b s may k =
+    λ g. keeps_put_at first g _ b.device.log _ refl ((step_keeps Device first (Replies f rest) b s may).fair Device) k
 device_step first (Decides f e what) b s may k = k
-device_step first (Takes p answer) b s may k = λ g. keeps_got_at first g p b.device.log _ refl ((step_keeps Device first (Takes p answer) b s may).fair Device) k
+device_step first (Takes p answer) b s may k =
+    λ g. keeps_got_at first g p b.device.log _ refl ((step_keeps Device first (Takes p answer) b s may).fair Device) k
 device_step first (PutsEvent id) b s may k = k
 device_step first (TakesEvent id) b s may k = k
 device_step first (MakesReset cid) b s may k = λ g opens. absurd cc
@@ -320,7 +339,8 @@ voices_step Device first step b s may v = record { driver = v.driver; device = d
 voices_run : (first : ℕ) (xs : List Happening) (b : Both) → IsSound first b → MayRun xs b → AreVoiced first b → AreVoiced first (run xs b)
 voices_run first [] b s may v = v
 voices_run first (x ∷ xs) b s may v =
-    voices_run first xs (happens x.role x.step b) (step_keeps x.role first x.step b s may.0) may.1 (voices_step x.role first x.step b s may.0 v)
+    voices_run first xs (happens x.role x.step b) (step_keeps x.role first x.step b s may.0) may.1
+    (voices_step x.role first x.step b s may.0 v)
 
 voices_start : (first guest_port host_port : ℕ) → AreVoiced first (start first guest_port host_port)
 voices_start first guest_port host_port = record {
@@ -355,9 +375,11 @@ taken_by first p e b false is s k one fair has heard =
     (subst (λ x. Follows (side_of Device f) (puts (heard_of Device first f log)) x e) same_gots own.follows) in
     get_taken (side_of Device f) h e p (own_got_fair Device p log fair) follows
 
-pub device_takes : (first guest_port host_port : ℕ) (xs : List Happening) (p : Packet) (e : ConnectionEnd) → MayRun xs (start first guest_port host_port)
+pub device_takes : (first guest_port host_port : ℕ) (xs : List Happening) (p : Packet) (e : ConnectionEnd)
+    → MayRun xs (start first guest_port host_port)
     → (let b = run xs (start first guest_port host_port) in IsNextPacket b.device.log b.driver.log p
-    → HasEnd (flow_got Device p) e b.device.part → is_dropped Device b.device.part.cid p.header ≡ false → is_refused (verdict_of e p.header) ≡ false)
+    → HasEnd (flow_got Device p) e b.device.part → is_dropped Device b.device.part.cid p.header ≡ false
+    → is_refused (verdict_of e p.header) ≡ false)
 device_takes first guest_port host_port xs p e may next has heard =
     let zero_is = start first guest_port host_port in
     let b = run xs zero_is in
@@ -369,5 +391,6 @@ device_takes first guest_port host_port xs p e may next has heard =
     let own : history_of Device f (GotPacket p ∷ log) ≡ Got p ∷ history_of Device f log = rw (same_self f) refl in
     let all : puts (history_of Driver f b.driver.log) ≡ on_flow (flow_got Device) f next.0 ++ p ∷ gots (history_of Device f log) =
     tie ∙ ap (λ h. on_flow (flow_got Device) f next.0 ++ gots h) own in
-    let one = one_older (on_flow (flow_got Device) f next.0) (p ∷ gots (history_of Device f log)) (subst IsOneVoice all (v.driver.voices f)) in
+    let one =
+    one_older (on_flow (flow_got Device) f next.0) (p ∷ gots (history_of Device f log)) (subst IsOneVoice all (v.driver.voices f)) in
     taken_by first p e b (is_rst p) refl s v.device one (next_is_fair Device first p b s next f) has heard

@@ -1,5 +1,5 @@
 -- A connection over a transport reset, and packets and logs that show why the definitions say no less.
-use Rattle.std.specs.Prelude.{ℕ, List, [], ◌∷◌, ◌++◌, Some, None}
+use Rattle.std.specs.Prelude.{ℕ, List, [], ◌∷◌, Some, None}
 use Rattle.vs_conn.specs.End.{ConnectionEnd, answering, asked, paid_of}
 use Rattle.vs_conn.specs.Follows.{owed_packet, payload_packet}
 use Rattle.vs_conn.specs.declared.end.Owed.TheVariants as owed

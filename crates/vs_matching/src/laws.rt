@@ -52,8 +52,8 @@ pub fn law_of_opening()
         → Matches role first (accepted f alloc p.header part) (GotPacket p ∷ log) }
 {}
 
-/// An end still matches its log after it puts payload that a connection may send, a packet that a connection owes, or the oldest reply that
-/// is owed.
+/// An end still matches its log after it puts payload that a connection may send, a packet that a connection owes, or the oldest reply
+/// that is owed.
 pub fn law_of_putting()
     ensures sends { (role : Role) (first cid : ℕ) (f : Flow) (e : ConnectionEnd) (payload : List ℕ) (part : Ends) (log : Log)
         → Matches role first part log → HasEnd f e part → CanSend e (length payload)
@@ -85,8 +85,8 @@ pub fn law_of_taking()
     ensures leaves { (e : ConnectionEnd) (h : Header) → (is_message (verdict_of e h) && is_reset h) ≡ (is_reset h && is_stream h) }
 {}
 
-/// An end still matches its log after one of its connections forwards payload or decides something, where the connection's REQUEST was put
-/// or got. No packet passes.
+/// An end still matches its log after one of its connections forwards payload or decides something, where the connection's REQUEST was
+/// put or got. No packet passes.
 pub fn law_of_changing()
     ensures changes { (role : Role) (first : ℕ) (f : Flow) (e after : ConnectionEnd) (part : Ends) (log : Log)
         → Matches role first part log → HasEnd f e part → is_new e ≡ false
@@ -123,7 +123,8 @@ pub fn law_of_events()
         → Matches role first (emptied cid part) (Mark cid ∷ log) }
 {}
 
-/// Packets come in order over every log in which each flow's first packet is its only REQUEST and its own side's to put. A fair log is one.
+/// Packets come in order over every log in which each flow's first packet is its only REQUEST and its own side's to put. A fair log is
+/// one.
 pub fn law_of_order()
     ensures in_order { (role : Role) (first : ℕ) (p : Packet) (log : Log) → let f = flow_got role p in
         IsOrderedLog role (GotPacket p ∷ log) → IsInOrder (side_of role f) (heard_of role first f log) p }
@@ -143,8 +144,8 @@ pub fn law_of_ends()
         → ends_of g (with_connection f e part).entries ≡ ends_of g part.entries }
 {}
 
-/// What an end heard on a flow is what passed there without the packets that were dropped, and the driver drops none. A packet that is put
-/// or got is the newest that was heard on its flow. A packet of another flow, an event and a transport reset change nothing in it.
+/// What an end heard on a flow is what passed there without the packets that were dropped, and the driver drops none. A packet that is
+/// put or got is the newest that was heard on its flow. A packet of another flow, an event and a transport reset change nothing in it.
 pub fn law_of_hearing()
     ensures driver { (first : ℕ) (f : Flow) (log : Log) → IsAllHeard Driver first f log }
     ensures puts { (role : Role) (first : ℕ) (f : Flow) (log : Log) → puts (heard_of role first f log) ≡ puts (history_of role f log) }
@@ -181,8 +182,7 @@ pub fn law_of_fairness()
 {}
 
 /// What an end put on a flow is within the credit that it heard. This holds at the driver over any fair log, and at the device where no
-/// packet
-/// of the flow was dropped. Each packet that is put keeps it, and each that is got where the log is fair with it.
+/// packet of the flow was dropped. Each packet that is put keeps it, and each that is got where the log is fair with it.
 pub fn law_of_credit()
     ensures driver { (first : ℕ) (f : Flow) (log : Log) → IsFairOn Driver f log → IsWithinCredit Driver first f log }
     ensures all_heard { (role : Role) (first : ℕ) (f : Flow) (log : Log) → IsFairOn role f log → IsAllHeard role first f log
@@ -202,8 +202,8 @@ pub fn law_of_credit()
         → IsWithinCredit role first f log → IsWithinCredit role first f (GotPacket p ∷ log) }
 {}
 
-/// A packet that keeps the log fair comes in order, and its fields fit; it is a REQUEST exactly where nothing passed on its flow before. A
-/// connection never refuses it where no packet of the flow was dropped, which at the driver is always. It has room for its payload in
+/// A packet that keeps the log fair comes in order, and its fields fit; it is a REQUEST exactly where nothing passed on its flow before.
+/// A connection never refuses it where no packet of the flow was dropped, which at the driver is always. It has room for its payload in
 /// any case (Virtio 1.2, sections 5.10.6.3 and 5.10.6.5).
 pub fn law_of_fair_packets()
     ensures in_order { (role : Role) (first : ℕ) (p : Packet) (log : Log) → let f = flow_got role p in IsFairOn role f (GotPacket p ∷ log)
@@ -224,9 +224,8 @@ pub fn law_of_fair_packets()
 {}
 
 /// The table of an end that matches its log. No flow stands twice in it. The flows of its connections that have begun are exactly those
-/// that
-/// the log left open, less those to which an RST is owed as a reply; all of the driver's have begun. After a transport reset there is none.
-/// Each follows what was heard on its flow. One that has not begun asks for its flow, on which nothing was heard.
+/// that the log left open, less those to which an RST is owed as a reply; all of the driver's have begun. After a transport reset there
+/// is none. Each follows what was heard on its flow. One that has not begun asks for its flow, on which nothing was heard.
 pub fn law_of_the_table()
     ensures once { (role : Role) (first : ℕ) (part : Ends) (log : Log) → Matches role first part log
         → AllPairs (λ d e. d.flow ≢ e.flow) part.entries }
@@ -248,8 +247,8 @@ pub fn law_of_the_table()
 {}
 
 /// In a flow table a step under a slot is one on the slot's flow: another value changes that flow's end, a removal takes the flow out,
-/// and an
-/// insertion adds one behind all others. An entry's flow has one end, and a flow without an entry none. An entry that is found is there.
+/// and an insertion adds one behind all others. An entry's flow has one end, and a flow without an entry none. An entry that is found is
+/// there.
 pub fn law_of_slots<T>()
     ensures changed { (end_of : T → ConnectionEnd) (t : Table T) (x : Entry T) (v : T) → IsTable t → Contains t.entries x
         → entries_of end_of (with_value t x.slot v) ≡ replaced x.flow (end_of v) (entries_of end_of t) }
@@ -267,9 +266,8 @@ pub fn law_of_slots<T>()
 
 /// Driver and device over every order of their steps, each where it may happen, from a fresh pair on, transport resets and changes of the
 /// guest's CID included. Both match their logs, both logs are fair, and each got what the other put first. So the driver's table is what
-/// its log
-/// left open, and the device's connections that have begun are. The driver refuses no packet, the device none of a flow of which no packet
-/// was dropped, and no payload is too much.
+/// its log left open, and the device's connections that have begun are. The driver refuses no packet, the device none of a flow of which
+/// no packet was dropped, and no payload is too much.
 pub fn law_of_both()
     ensures sound { (first guest_port host_port : ℕ) (xs : List Happening) → MayRun xs (start first guest_port host_port)
         → IsSound first (run xs (start first guest_port host_port)) }
