@@ -72,8 +72,3 @@ among_other f g fs other = let all = among_append g fs (f ∷ []) in grind (arit
 pub among_flows : (f : Flow) (xs : List FlowEnd) → ends_of f xs ≡ [] → is_among f (flows_of xs) ≡ false
 among_flows f [] none = refl
 among_flows f (x ∷ xs) none = let rest = among_flows f xs in grind (arith, common_steps)
-
-pub among_flows_has : (f : Flow) (e : ConnectionEnd) (more : List ConnectionEnd) (xs : List FlowEnd) → ends_of f xs ≡ e ∷ more
-    → is_among f (flows_of xs) ≡ true
-among_flows_has f e more [] one = absurd cc
-among_flows_has f e more (x ∷ xs) one = let rest = among_flows_has f e more xs in grind (arith, common_steps)

@@ -28,7 +28,7 @@ use Rattle.vs_page.proofs.Entries.{one_put}
 use Rattle.vs_page.proofs.Flows.{same_self}
 use Rattle.vs_matching.specs.Ends.{Ends, is_among}
 use Rattle.vs_matching.specs.Heard.{IsAllHeard, IsInOrder, IsOrdered, IsOrderedLog, IsWithin, IsWithinCredit, heard_of, is_empty, route_of}
-use Rattle.vs_matching.specs.Matches.{IsAsking, Matches}
+use Rattle.vs_matching.specs.Matches.{IsAsking, MatchesFlows}
 use Rattle.vs_matching.specs.Steps.{HasEnd, IsNextFlow, is_overrun, owed_on, payload_on, reply_on, request_on}
 use Rattle.vs_matching.proofs.Frame.{heard_put}
 use Rattle.vs_matching.proofs.OnFlow.{IsOne, end_asks, end_follows}
@@ -181,7 +181,7 @@ allowance_rises : (got : List Packet) (p : Packet) → (is_rst p ≡ false → t
 allowance_rises got p rises = grind (arith, common_steps)
 
 -- The packets that may be put, by what was heard.
-open_may : (role : Role) (first cid : ℕ) (f : Flow) (alloc : ℕ) (part : Ends) (log : Log) → Matches role first part log
+open_may : (role : Role) (first cid : ℕ) (f : Flow) (alloc : ℕ) (part : Ends) (log : Log) → MatchesFlows role first part log
     → IsNextFlow role f part → IsSpace alloc
     → (let h = heard_of role first f log in MayPut (side_of role f) (puts h) (gots h) (request_on role cid f alloc))
 open_may role first cid f alloc part log m next space =
@@ -191,7 +191,7 @@ open_may role first cid f alloc part log m next space =
     (subst (λ x. MayPut x [] [] p) (sym next.asker) (opening_may alloc (route_of role cid f) space))
 
 send_may_on : (role : Role) (first cid : ℕ) (f : Flow) (e : ConnectionEnd) (payload : List ℕ) (part : Ends) (log : Log)
-    → Matches role first part log
+    → MatchesFlows role first part log
     → HasEnd f e part → CanSend e (length payload) → IsFairOn role f log → IsWithinCredit role first f log
     → (let h = heard_of role first f log in MayPut (side_of role f) (puts h) (gots h) (payload_on role cid f e payload))
 send_may_on role first cid f e payload part log m has can fair within =
@@ -217,7 +217,7 @@ pay_may_by side (x ∷ h) e route what asks follows owes sound_is =
     pay_may side (puts (x ∷ h)) (gots (x ∷ h)) e route what sound_is (follows refl) owes
 
 pay_may_on : (role : Role) (first cid : ℕ) (f : Flow) (e : ConnectionEnd) (what : Owed) (part : Ends) (log : Log)
-    → Matches role first part log
+    → MatchesFlows role first part log
     → HasEnd f e part → owes_of e ≡ Some what → IsFairOn role f log → IsWithinCredit role first f log
     → (let h = heard_of role first f log in MayPut (side_of role f) (puts h) (gots h) (owed_on role cid f e what))
 pay_may_on role first cid f e what part log m has owes fair within =
@@ -232,7 +232,7 @@ reply_may side (x ∷ h) Driver cid f fair some = let begun = fair_begun side h 
 reply_may side (x ∷ h) Device cid f fair some = let begun = fair_begun side h x fair in grind (arith, common_steps)
 
 -- Each put keeps the log fair.
-pub open_fair : (role : Role) (first cid : ℕ) (f : Flow) (alloc : ℕ) (part : Ends) (log : Log) → Matches role first part log
+pub open_fair : (role : Role) (first cid : ℕ) (f : Flow) (alloc : ℕ) (part : Ends) (log : Log) → MatchesFlows role first part log
     → IsFairLog role log
     → IsNextFlow role f part → IsSpace alloc → IsFairLog role (PutPacket (request_on role cid f alloc) ∷ log)
 open_fair role first cid f alloc part log m fair next space =
@@ -240,7 +240,7 @@ open_fair role first cid f alloc part log m fair next space =
     (open_may role first cid f alloc part log m next space)
 
 pub send_fair : (role : Role) (first cid : ℕ) (f : Flow) (e : ConnectionEnd) (payload : List ℕ) (part : Ends) (log : Log)
-    → Matches role first part log
+    → MatchesFlows role first part log
     → IsFairLog role log → IsWithinCredit role first f log → HasEnd f e part → CanSend e (length payload)
     → IsFairLog role (PutPacket (payload_on role cid f e payload) ∷ log)
 send_fair role first cid f e payload part log m fair within has can =
@@ -248,7 +248,7 @@ send_fair role first cid f e payload part log m fair within has can =
     (send_may_on role first cid f e payload part log m has can (fair f) within)
 
 pub pay_fair : (role : Role) (first cid : ℕ) (f : Flow) (e : ConnectionEnd) (what : Owed) (part : Ends) (log : Log)
-    → Matches role first part log
+    → MatchesFlows role first part log
     → IsFairLog role log → IsWithinCredit role first f log → HasEnd f e part → owes_of e ≡ Some what
     → IsFairLog role (PutPacket (owed_on role cid f e what) ∷ log)
 pay_fair role first cid f e what part log m fair within has owes =
@@ -261,13 +261,13 @@ history_some : (role : Role) (first : ℕ) (f : Flow) (log : Log) (h : History) 
 history_some role first f log [] is some = let none = ap is_empty (heard_none role first f log is) in absurd cc
 history_some role first f log (x ∷ h) is some = refl
 
-reply_may_on : (role : Role) (first cid : ℕ) (f : Flow) (part : Ends) (log : Log) → Matches role first part log → IsFairOn role f log
+reply_may_on : (role : Role) (first cid : ℕ) (f : Flow) (part : Ends) (log : Log) → MatchesFlows role first part log → IsFairOn role f log
     → is_among f part.replies ≡ true → (let h = history_of role f log in MayPut (side_of role f) (puts h) (gots h) (reply_on role cid f))
 reply_may_on role first cid f part log m fair owed_is =
     let some = history_some role first f log (history_of role f log) refl (reply_heard role first f part log m owed_is) in
     reply_may (side_of role f) (history_of role f log) role cid f fair some
 
-pub reply_fair : (role : Role) (first cid : ℕ) (f : Flow) (part : Ends) (log : Log) → Matches role first part log → IsFairLog role log
+pub reply_fair : (role : Role) (first cid : ℕ) (f : Flow) (part : Ends) (log : Log) → MatchesFlows role first part log → IsFairLog role log
     → is_among f part.replies ≡ true → IsFairLog role (PutPacket (reply_on role cid f) ∷ log)
 reply_fair role first cid f part log m fair owed_is =
     let p = reply_on role cid f in
@@ -286,7 +286,7 @@ put_keeps_within role first f p log is may within =
     let two = put_within (side_of role f) (puts h) (gots h) p may within.fits within.forwarded in
     subst IsWithin (sym (heard_put role first f p log is)) (record { fits = two.0; forwarded = two.1 })
 
-pub open_within : (role : Role) (first cid : ℕ) (f : Flow) (alloc : ℕ) (part : Ends) (log : Log) → Matches role first part log
+pub open_within : (role : Role) (first cid : ℕ) (f : Flow) (alloc : ℕ) (part : Ends) (log : Log) → MatchesFlows role first part log
     → IsNextFlow role f part → IsSpace alloc → IsWithinCredit role first f log
     → IsWithinCredit role first f (PutPacket (request_on role cid f alloc) ∷ log)
 open_within role first cid f alloc part log m next space within =
@@ -294,14 +294,14 @@ open_within role first cid f alloc part log m next space within =
     (open_may role first cid f alloc part log m next space) within
 
 pub send_within : (role : Role) (first cid : ℕ) (f : Flow) (e : ConnectionEnd) (payload : List ℕ) (part : Ends) (log : Log)
-    → Matches role first part log → IsFairLog role log → IsWithinCredit role first f log → HasEnd f e part → CanSend e (length payload)
+    → MatchesFlows role first part log → IsFairLog role log → IsWithinCredit role first f log → HasEnd f e part → CanSend e (length payload)
     → IsWithinCredit role first f (PutPacket (payload_on role cid f e payload) ∷ log)
 send_within role first cid f e payload part log m fair within has can =
     put_keeps_within role first f (payload_on role cid f e payload) log (payload_flow role cid f e payload)
     (send_may_on role first cid f e payload part log m has can (fair f) within) within
 
 pub pay_within : (role : Role) (first cid : ℕ) (f : Flow) (e : ConnectionEnd) (what : Owed) (part : Ends) (log : Log)
-    → Matches role first part log → IsFairLog role log → IsWithinCredit role first f log → HasEnd f e part → owes_of e ≡ Some what
+    → MatchesFlows role first part log → IsFairLog role log → IsWithinCredit role first f log → HasEnd f e part → owes_of e ≡ Some what
     → IsWithinCredit role first f (PutPacket (owed_on role cid f e what) ∷ log)
 pay_within role first cid f e what part log m fair within has owes =
     put_keeps_within role first f (owed_on role cid f e what) log (owed_flow role cid f e what)
@@ -333,17 +333,6 @@ got_within role first f p log fair within =
     got_within_by (side_of role f) (history_of role f log) (heard_of role first f log) p (same_flow f (flow_got role p))
     (is_dropped role (cid_of first log) p.header) fair (heard_less role first f log) within
 
-within_by : (side : Side) (h heard : History) → IsFair side h → heard ≡ h → IsWithin heard
-within_by side h heard fair is = let s = sound side h fair in subst IsWithin (sym is)
-    (record { fits = s.out.fits; forwarded = s.out.forwarded })
-
-pub all_within : (role : Role) (first : ℕ) (f : Flow) (log : Log) → IsFairOn role f log → IsAllHeard role first f log
-    → IsWithinCredit role first f log
-all_within role first f log fair all = within_by (side_of role f) (history_of role f log) (heard_of role first f log) fair all
-
-pub driver_within : (first : ℕ) (f : Flow) (log : Log) → IsFairOn Driver f log → IsWithinCredit Driver first f log
-driver_within first f log fair = all_within Driver first f log fair (heard_all first f log)
-
 -- A packet got that is fair comes in order, and its fields fit.
 pub own_got_fair : (role : Role) (p : Packet) (log : Log) → let f = flow_got role p in IsFairOn role f (GotPacket p ∷ log)
     → IsFair (side_of role f) (Got p ∷ history_of role f log)
@@ -373,7 +362,7 @@ got_asks role p log fair =
 
 -- The end of a flow on which a fair packet is got follows what was heard, and the flow is open.
 pub got_one : (role : Role) (first : ℕ) (p : Packet) (e : ConnectionEnd) (part : Ends) (log : Log) → let f = flow_got role p in
-    Matches role first part log → HasEnd f e part → IsFairOn role f (GotPacket p ∷ log)
+    MatchesFlows role first part log → HasEnd f e part → IsFairOn role f (GotPacket p ∷ log)
     → IsOne (side_of role f) (heard_of role first f log) (is_left_open role first f log) (is_among f part.replies) e
 got_one role first p e part log m has fair =
     let f = flow_got role p in
@@ -385,12 +374,12 @@ got_one role first p e part log m has fair =
     end_follows role (side_of role f) h _ _ _ e (m.on f) has some
 
 got_follows : (role : Role) (first : ℕ) (p : Packet) (e : ConnectionEnd) (part : Ends) (log : Log) → let f = flow_got role p in
-    Matches role first part log → HasEnd f e part → IsFairOn role f (GotPacket p ∷ log)
+    MatchesFlows role first part log → HasEnd f e part → IsFairOn role f (GotPacket p ∷ log)
     → (let h = heard_of role first f log in Follows (side_of role f) (puts h) (gots h) e)
 got_follows role first p e part log m has fair = (got_one role first p e part log m has fair).follows
 
 pub got_not_refused : (role : Role) (first : ℕ) (p : Packet) (e : ConnectionEnd) (part : Ends) (log : Log) → let f = flow_got role p in
-    Matches role first part log → HasEnd f e part → IsFairOn role f (GotPacket p ∷ log) → IsAllHeard role first f log
+    MatchesFlows role first part log → HasEnd f e part → IsFairOn role f (GotPacket p ∷ log) → IsAllHeard role first f log
     → is_refused (verdict_of e p.header) ≡ false
 got_not_refused role first p e part log m has fair all =
     let f = flow_got role p in
@@ -416,7 +405,7 @@ size_fits : (side : Side) (h : History) (p : Packet) → Allows side h (Got p) �
 size_fits = grind (arith, common_steps)
 
 pub got_no_overrun : (role : Role) (first : ℕ) (p : Packet) (e : ConnectionEnd) (part : Ends) (log : Log) → let f = flow_got role p in
-    Matches role first part log → HasEnd f e part → IsFairOn role f (GotPacket p ∷ log) → IsWithinCredit role first f log
+    MatchesFlows role first part log → HasEnd f e part → IsFairOn role f (GotPacket p ∷ log) → IsWithinCredit role first f log
     → is_overrun (verdict_of e p.header) ≡ false
 got_no_overrun role first p e part log m has fair within =
     let f = flow_got role p in

@@ -13,7 +13,7 @@ use Rattle.vs_page.specs.declared.log.LogEntry.{LogEntry}
 use Rattle.vs_page.specs.declared.log.LogEntry.TheVariants.{PutPacket, GotPacket, PutEvent, GotEvent, Mark}
 use Rattle.vs_matching.specs.Ends.{Ends, ends_of, is_among}
 use Rattle.vs_matching.specs.Heard.{heard_of, is_empty, own_port}
-use Rattle.vs_matching.specs.Matches.{IsLeftOn, IsUnused, Matches, MatchesOn}
+use Rattle.vs_matching.specs.Matches.{IsLeftOn, IsUnused, MatchesFlows, MatchesOn}
 use Rattle.vs_page.proofs.Flows.{same_self, same_is}
 
 pub same_of : (f g : Flow) → g ≡ f → same_flow f g ≡ true
@@ -96,12 +96,13 @@ pub record IsStepOn (role : Role) (first : ℕ) (old : Ends) (older : Log) (new 
   pub cid : new.cid ≡ cid_of first newer
 
 step_on : (role : Role) (first : ℕ) (old : Ends) (older : Log) (new : Ends) (newer : Log) (f g : Flow) (b : Bool) → same_flow g f ≡ b
-    → IsStepOn role first old older new newer f → Matches role first old older → MatchesOn role first new newer g
+    → IsStepOn role first old older new newer f → MatchesFlows role first old older → MatchesOn role first new newer g
 step_on role first old older new newer f g true is s m = subst (MatchesOn role first new newer) (sym (same_is g f is)) s.own
 step_on role first old older new newer f g false is s m = on_alone role first old older new newer g (s.others g is) (m.on g)
 
 step_unused : (role : Role) (first : ℕ) (old : Ends) (older : Log) (new : Ends) (newer : Log) (f g : Flow) (b : Bool) → same_flow g f ≡ b
-    → IsStepOn role first old older new newer f → Matches role first old older → side_of role g ≡ Asker → new.next_port ≤ own_port role g
+    → IsStepOn role first old older new newer f → MatchesFlows role first old older → side_of role g ≡ Asker
+    → new.next_port ≤ own_port role g
     → IsUnused role first new newer g
 step_unused role first old older new newer f g true is s m asker later =
     let e = same_is g f is in
@@ -110,7 +111,7 @@ step_unused role first old older new newer f g false is s m asker later =
     unused_alone role first old older new newer g (s.others g is) (m.unused g asker (omega (arith, later, s.rises)))
 
 pub step_keeps : (role : Role) (first : ℕ) (old : Ends) (older : Log) (new : Ends) (newer : Log) (f : Flow)
-    → IsStepOn role first old older new newer f → Matches role first old older → Matches role first new newer
+    → IsStepOn role first old older new newer f → MatchesFlows role first old older → MatchesFlows role first new newer
 step_keeps role first old older new newer f s m = record {
   on = λ g. step_on role first old older new newer f g (same_flow g f) refl s m;
   unused = λ g asker later. step_unused role first old older new newer f g (same_flow g f) refl s m asker later;
@@ -120,7 +121,7 @@ step_keeps role first old older new newer f s m = record {
 -- A step that leaves every flow alone.
 pub still_keeps : (role : Role) (first : ℕ) (old : Ends) (older : Log) (new : Ends) (newer : Log)
     → ((f : Flow) → IsAlone role first old older new newer f) → old.next_port ≤ new.next_port → new.cid ≡ cid_of first newer
-    → Matches role first old older → Matches role first new newer
+    → MatchesFlows role first old older → MatchesFlows role first new newer
 still_keeps role first old older new newer alone rises cid m = record {
   on = λ f. on_alone role first old older new newer f (alone f) (m.on f);
   unused = λ f asker later. unused_alone role first old older new newer f (alone f) (m.unused f asker (omega (arith, later, rises)));

@@ -5,5 +5,6 @@ pub mod Steps
 pub mod Fair
 pub mod Tables
 pub mod Slots
+pub mod Keeps
 pub mod Both
 pub mod Voices

@@ -19,7 +19,7 @@ use Rattle.vs_page.specs.Open.{cid_of, is_dropped, is_left_open, opened_by, open
 use Rattle.vs_page.specs.declared.log.LogEntry.TheVariants.{PutPacket, GotPacket, PutEvent, GotEvent, Mark}
 use Rattle.vs_matching.specs.Ends.{Ends, ends_of, flows_of, is_among, is_new}
 use Rattle.vs_matching.specs.Heard.{IsInOrder, heard_of, is_empty, own_port, route_of}
-use Rattle.vs_matching.specs.Matches.{IsAsking, IsLeftOn, Matches, MatchesOn}
+use Rattle.vs_matching.specs.Matches.{IsAsking, IsLeftOn, MatchesFlows, MatchesOn}
 use Rattle.vs_matching.specs.Steps.{HasEnd, HasNone, IsNextFlow, accepted, asking, emptied, left, opened, owed_on, paid, payload_on}
 use Rattle.vs_matching.specs.Steps.{refused}
 use Rattle.vs_matching.specs.Steps.{reply_on, request_on, reset, taken, with_end, with_replies}
@@ -89,13 +89,13 @@ own_got role first f p part log is heard own =
     left_alone role (side_of role f) _ _ _ _ _ _ _ _ own (heard_got role first f p log is heard) (open_got role first f p log is) refl refl
 
 -- The port of a flow is given that has an end, or on which something was heard.
-given_by_end : (role : Role) (first : ℕ) (part : Ends) (log : Log) (f : Flow) (e : ConnectionEnd) → Matches role first part log
+given_by_end : (role : Role) (first : ℕ) (part : Ends) (log : Log) (f : Flow) (e : ConnectionEnd) → MatchesFlows role first part log
     → HasEnd f e part
     → side_of role f ≡ Asker → part.next_port ≤ own_port role f → ⊥
 given_by_end role first part log f e m has asker later =
     let both : [] ≡ e ∷ [] = sym (m.unused f asker later).no_end ∙ has in absurd cc
 
-given_by_heard : (role : Role) (first : ℕ) (part : Ends) (log : Log) (f : Flow) → Matches role first part log
+given_by_heard : (role : Role) (first : ℕ) (part : Ends) (log : Log) (f : Flow) → MatchesFlows role first part log
     → (side_of role f ≡ Asker → is_empty (heard_of role first f log) ≡ false) → side_of role f ≡ Asker → part.next_port ≤ own_port role f
     → ⊥
 given_by_heard role first part log f m some asker later =
@@ -105,13 +105,14 @@ pub some_of : (h : History) → (is_empty h ≡ true → ⊥) → is_empty h ≡
 some_of [] not = absurd (not refl)
 some_of (x ∷ h) not = refl
 
-pub cid_heard : (role : Role) (first : ℕ) (part : Ends) (log : Log) (p : Packet) (b : Bool) → Matches role first part log
+pub cid_heard : (role : Role) (first : ℕ) (part : Ends) (log : Log) (p : Packet) (b : Bool) → MatchesFlows role first part log
     → is_dropped role part.cid p.header ≡ b → is_dropped role (cid_of first log) p.header ≡ b
 cid_heard role first part log p b m is = subst (λ x. is_dropped role x p.header ≡ b) m.cid is
 
 -- Connections come.
-pub open_keeps : (role : Role) (first cid : ℕ) (f : Flow) (alloc : ℕ) (part : Ends) (log : Log) → Matches role first part log
-    → IsNextFlow role f part → IsSpace alloc → Matches role first (opened role f alloc part) (PutPacket (request_on role cid f alloc) ∷ log)
+pub open_keeps : (role : Role) (first cid : ℕ) (f : Flow) (alloc : ℕ) (part : Ends) (log : Log) → MatchesFlows role first part log
+    → IsNextFlow role f part → IsSpace alloc
+    → MatchesFlows role first (opened role f alloc part) (PutPacket (request_on role cid f alloc) ∷ log)
 open_keeps role first cid f alloc part log m next space =
     let p = request_on role cid f alloc in
     let is = request_flow role cid f alloc in
@@ -129,8 +130,8 @@ open_keeps role first cid f alloc part log m next space =
       cid = m.cid;
     }) m
 
-pub ask_keeps : (first : ℕ) (f : Flow) (alloc : ℕ) (part : Ends) (log : Log) → Matches Device first part log
-    → IsNextFlow Device f part → IsSpace alloc → Matches Device first (asking Device f alloc part) log
+pub ask_keeps : (first : ℕ) (f : Flow) (alloc : ℕ) (part : Ends) (log : Log) → MatchesFlows Device first part log
+    → IsNextFlow Device f part → IsSpace alloc → MatchesFlows Device first (asking Device f alloc part) log
 ask_keeps first f alloc part log m next space =
     let u = m.unused f next.asker next.port in
     step_keeps Device first part log (asking Device f alloc part) log f (record {
@@ -149,9 +150,9 @@ ask_keeps first f alloc part log m next space =
     }) m
 
 pub accept_keeps : (role : Role) (first alloc : ℕ) (p : Packet) (part : Ends) (log : Log) → let f = flow_got role p in
-    Matches role first part log → is_dropped role part.cid p.header ≡ false → HasNone f part
+    MatchesFlows role first part log → is_dropped role part.cid p.header ≡ false → HasNone f part
     → IsInOrder (side_of role f) (heard_of role first f log) p → IsTaken p → is_request p ≡ true → IsSpace alloc
-    → Matches role first (accepted f alloc p.header part) (GotPacket p ∷ log)
+    → MatchesFlows role first (accepted f alloc p.header part) (GotPacket p ∷ log)
 accept_keeps role first alloc p part log m kept none order is_taken asks space =
     let f = flow_got role p in
     let heard = cid_heard role first part log p false m kept in
@@ -174,9 +175,9 @@ pub asking_sends_none : (side : Side) (e : ConnectionEnd) (n : ℕ) → IsAsking
 asking_sends_none = search rules
 
 pub send_keeps : (role : Role) (first cid : ℕ) (f : Flow) (e : ConnectionEnd) (payload : List ℕ) (part : Ends) (log : Log)
-    → Matches role first part log
+    → MatchesFlows role first part log
     → HasEnd f e part → CanSend e (length payload)
-    → Matches role first (with_end f (with_payload_sent e (length payload)) part) (PutPacket (payload_on role cid f e payload) ∷ log)
+    → MatchesFlows role first (with_end f (with_payload_sent e (length payload)) part) (PutPacket (payload_on role cid f e payload) ∷ log)
 send_keeps role first cid f e payload part log m has can =
     let p = payload_on role cid f e payload in
     let is = payload_flow role cid f e payload in
@@ -227,9 +228,9 @@ pays_end role side (y ∷ h) left_open reply_owed ends now e route what l one ow
     (λ follows. pay_follows side (puts (y ∷ h)) (gots (y ∷ h)) e route what follows owes)
 
 pay_other : (role : Role) (first cid : ℕ) (f : Flow) (e : ConnectionEnd) (what : Owed) (part : Ends) (log : Log)
-    → Matches role first part log
+    → MatchesFlows role first part log
     → HasEnd f e part → owes_of e ≡ Some what → is_rst (owed_on role cid f e what) ≡ false
-    → Matches role first (with_end f (paid_of e what) part) (PutPacket (owed_on role cid f e what) ∷ log)
+    → MatchesFlows role first (with_end f (paid_of e what) part) (PutPacket (owed_on role cid f e what) ∷ log)
 pay_other role first cid f e what part log m has owes other =
     let p = owed_on role cid f e what in
     let is = owed_flow role cid f e what in
@@ -245,9 +246,9 @@ pay_other role first cid f e what part log m has owes other =
       cid = m.cid;
     }) m
 
-pay_rst : (role : Role) (first cid : ℕ) (f : Flow) (e : ConnectionEnd) (part : Ends) (log : Log) → Matches role first part log
+pay_rst : (role : Role) (first cid : ℕ) (f : Flow) (e : ConnectionEnd) (part : Ends) (log : Log) → MatchesFlows role first part log
     → HasEnd f e part
-    → Matches role first (left f part) (PutPacket (owed_on role cid f e owed.Rst) ∷ log)
+    → MatchesFlows role first (left f part) (PutPacket (owed_on role cid f e owed.Rst) ∷ log)
 pay_rst role first cid f e part log m has =
     let p = owed_on role cid f e owed.Rst in
     let is = owed_flow role cid f e owed.Rst in
@@ -263,8 +264,8 @@ pay_rst role first cid f e part log m has =
     }) m
 
 pub pay_keeps : (role : Role) (first cid : ℕ) (f : Flow) (e : ConnectionEnd) (what : Owed) (part : Ends) (log : Log)
-    → Matches role first part log
-    → HasEnd f e part → owes_of e ≡ Some what → Matches role first (paid f e what part) (PutPacket (owed_on role cid f e what) ∷ log)
+    → MatchesFlows role first part log
+    → HasEnd f e part → owes_of e ≡ Some what → MatchesFlows role first (paid f e what part) (PutPacket (owed_on role cid f e what) ∷ log)
 pay_keeps role first cid f e owed.Rst part log m has owes = pay_rst role first cid f e part log m has
 pay_keeps role first cid f e owed.Request part log m has owes = pay_other role first cid f e owed.Request part log m has owes refl
 pay_keeps role first cid f e owed.Response part log m has owes = pay_other role first cid f e owed.Response part log m has owes refl
@@ -281,7 +282,7 @@ next_owed f rest replies is = rw is (rw (same_self f) refl)
 rest_owed : (f g : Flow) (rest replies : List Flow) → replies ≡ f ∷ rest → same_flow g f ≡ false → is_among g rest ≡ is_among g replies
 rest_owed f g rest replies is other = rw is (rw other refl)
 
-pub reply_heard : (role : Role) (first : ℕ) (f : Flow) (part : Ends) (log : Log) → Matches role first part log
+pub reply_heard : (role : Role) (first : ℕ) (f : Flow) (part : Ends) (log : Log) → MatchesFlows role first part log
     → is_among f part.replies ≡ true
     → is_empty (heard_of role first f log) ≡ false
 reply_heard role first f part log m owed_is =
@@ -289,8 +290,8 @@ reply_heard role first f part log m owed_is =
     (subst (λ x. IsLeftOn role (side_of role f) (heard_of role first f log) (is_left_open role first f log) x
     (ends_of f part.entries)) owed_is (m.on f))
 
-pub reply_keeps : (role : Role) (first cid : ℕ) (f : Flow) (rest : List Flow) (part : Ends) (log : Log) → Matches role first part log
-    → part.replies ≡ f ∷ rest → Matches role first (with_replies rest part) (PutPacket (reply_on role cid f) ∷ log)
+pub reply_keeps : (role : Role) (first cid : ℕ) (f : Flow) (rest : List Flow) (part : Ends) (log : Log) → MatchesFlows role first part log
+    → part.replies ≡ f ∷ rest → MatchesFlows role first (with_replies rest part) (PutPacket (reply_on role cid f) ∷ log)
 reply_keeps role first cid f rest part log m next =
     let p = reply_on role cid f in
     let is = reply_flow role cid f in
@@ -308,9 +309,9 @@ reply_keeps role first cid f rest part log m next =
 
 -- A packet that is got, on a flow that has an end.
 take_by : (role : Role) (first : ℕ) (p : Packet) (e : ConnectionEnd) (part : Ends) (log : Log) (b : Bool) → let f = flow_got role p in
-    (is_rst p && is_stream p.header) ≡ b → Matches role first part log → is_dropped role part.cid p.header ≡ false → HasEnd f e part
+    (is_rst p && is_stream p.header) ≡ b → MatchesFlows role first part log → is_dropped role part.cid p.header ≡ false → HasEnd f e part
     → IsInOrder (side_of role f) (heard_of role first f log) p → IsTaken p
-    → Matches role first (if b then left f part else with_end f (end_after e p.header) part) (GotPacket p ∷ log)
+    → MatchesFlows role first (if b then left f part else with_end f (end_after e p.header) part) (GotPacket p ∷ log)
 take_by role first p e part log true is m kept has order is_taken =
     let f = flow_got role p in
     let heard = cid_heard role first part log p false m kept in
@@ -344,16 +345,16 @@ take_by role first p e part log false is m kept has order is_taken =
     }) m
 
 pub take_keeps : (role : Role) (first : ℕ) (p : Packet) (e : ConnectionEnd) (part : Ends) (log : Log) → let f = flow_got role p in
-    Matches role first part log → is_dropped role part.cid p.header ≡ false → HasEnd f e part
+    MatchesFlows role first part log → is_dropped role part.cid p.header ≡ false → HasEnd f e part
     → IsInOrder (side_of role f) (heard_of role first f log) p → IsTaken p
-    → Matches role first (taken f e p part) (GotPacket p ∷ log)
+    → MatchesFlows role first (taken f e p part) (GotPacket p ∷ log)
 take_keeps role first p e part log m kept has order is_taken =
     take_by role first p e part log (is_rst p && is_stream p.header) refl m kept has order is_taken
 
 -- A packet of a flow that has none: it is refused, or an RST and ignored.
 pub refuse_keeps : (role : Role) (first : ℕ) (p : Packet) (part : Ends) (log : Log) → let f = flow_got role p in
-    Matches role first part log → is_dropped role part.cid p.header ≡ false → HasNone f part
-    → IsInOrder (side_of role f) (heard_of role first f log) p → Matches role first (refused f part) (GotPacket p ∷ log)
+    MatchesFlows role first part log → is_dropped role part.cid p.header ≡ false → HasNone f part
+    → IsInOrder (side_of role f) (heard_of role first f log) p → MatchesFlows role first (refused f part) (GotPacket p ∷ log)
 refuse_keeps role first p part log m kept none order =
     let f = flow_got role p in
     let heard = cid_heard role first part log p false m kept in
@@ -367,8 +368,8 @@ refuse_keeps role first p part log m kept none order =
     }) m
 
 pub ignore_keeps : (role : Role) (first : ℕ) (p : Packet) (part : Ends) (log : Log) → let f = flow_got role p in
-    Matches role first part log → is_dropped role part.cid p.header ≡ false → HasNone f part → is_rst p ≡ true
-    → IsInOrder (side_of role f) (heard_of role first f log) p → Matches role first part (GotPacket p ∷ log)
+    MatchesFlows role first part log → is_dropped role part.cid p.header ≡ false → HasNone f part → is_rst p ≡ true
+    → IsInOrder (side_of role f) (heard_of role first f log) p → MatchesFlows role first part (GotPacket p ∷ log)
 ignore_keeps role first p part log m kept none rst order =
     let f = flow_got role p in
     let heard = cid_heard role first part log p false m kept in
@@ -382,8 +383,8 @@ ignore_keeps role first p part log m kept none rst order =
       cid = m.cid;
     }) m
 
-pub drop_keeps : (role : Role) (first : ℕ) (p : Packet) (part : Ends) (log : Log) → Matches role first part log
-    → is_dropped role part.cid p.header ≡ true → Matches role first part (GotPacket p ∷ log)
+pub drop_keeps : (role : Role) (first : ℕ) (p : Packet) (part : Ends) (log : Log) → MatchesFlows role first part log
+    → is_dropped role part.cid p.header ≡ true → MatchesFlows role first part (GotPacket p ∷ log)
 drop_keeps role first p part log m dropped =
     let is = cid_heard role first part log p true m dropped in
     still_keeps role first part log part (GotPacket p ∷ log) (λ f. record {
@@ -394,10 +395,11 @@ drop_keeps role first p part log m dropped =
     }) (omega arith) m.cid m
 
 -- An end decides something: it follows what was heard as before.
-pub change_keeps : (role : Role) (first : ℕ) (f : Flow) (e after : ConnectionEnd) (part : Ends) (log : Log) → Matches role first part log
+pub change_keeps : (role : Role) (first : ℕ) (f : Flow) (e after : ConnectionEnd) (part : Ends) (log : Log)
+    → MatchesFlows role first part log
     → HasEnd f e part → is_new e ≡ false
     → (let h = heard_of role first f log in Follows (side_of role f) (puts h) (gots h) e → Follows (side_of role f) (puts h) (gots h) after)
-    → Matches role first (with_end f after part) log
+    → MatchesFlows role first (with_end f after part) log
 change_keeps role first f e after part log m has old keeps =
     step_keeps role first part log (with_end f after part) log f (record {
       own = changes_on role (side_of role f) (heard_of role first f log) _ _ _ _ e after (m.on f) has old
@@ -409,14 +411,14 @@ change_keeps role first f e after part log m has old keeps =
     }) m
 
 -- Events, and transport resets.
-pub event_put_keeps : (role : Role) (first id : ℕ) (part : Ends) (log : Log) → Matches role first part log
-    → Matches role first part (PutEvent id ∷ log)
+pub event_put_keeps : (role : Role) (first id : ℕ) (part : Ends) (log : Log) → MatchesFlows role first part log
+    → MatchesFlows role first part (PutEvent id ∷ log)
 event_put_keeps role first id part log m =
     still_keeps role first part log part (PutEvent id ∷ log)
     (λ f. record { heard = refl; left_open = refl; ends = refl; replies = refl }) (omega arith) m.cid m
 
-pub event_got_keeps : (role : Role) (first id : ℕ) (part : Ends) (log : Log) → Matches role first part log
-    → Matches role first part (GotEvent id ∷ log)
+pub event_got_keeps : (role : Role) (first id : ℕ) (part : Ends) (log : Log) → MatchesFlows role first part log
+    → MatchesFlows role first part (GotEvent id ∷ log)
 event_got_keeps role first id part log m =
     still_keeps role first part log part (GotEvent id ∷ log)
     (λ f. record { heard = refl; left_open = refl; ends = refl; replies = refl }) (omega arith) m.cid m
@@ -428,8 +430,8 @@ owed_after side [] left_open reply_owed among owed_now ends l none is now_owed =
     let a = none l.1 in let b = l.0 in absurd (grind (arith, common_steps))
 owed_after side (x ∷ h) left_open reply_owed among owed_now ends l none is now_owed = refl
 
-pub reset_keeps : (first cid : ℕ) (part : Ends) (log : Log) → Matches Driver first part log
-    → Matches Driver first (reset cid part) (Mark cid ∷ log)
+pub reset_keeps : (first cid : ℕ) (part : Ends) (log : Log) → MatchesFlows Driver first part log
+    → MatchesFlows Driver first (reset cid part) (Mark cid ∷ log)
 reset_keeps first cid part log m = record {
   on = λ f. empties_on Driver (side_of Driver f) (heard_of Driver first f log) (is_among f (part.replies ++ flows_of part.entries))
       (owed_after (side_of Driver f) (heard_of Driver first f log) _ _ _ _ _ (m.on f) (among_flows f part.entries)
@@ -438,8 +440,8 @@ reset_keeps first cid part log m = record {
   cid = refl;
 }
 
-pub empty_keeps : (role : Role) (first cid : ℕ) (part : Ends) (log : Log) → Matches role first part log
-    → Matches role first (emptied cid part) (Mark cid ∷ log)
+pub empty_keeps : (role : Role) (first cid : ℕ) (part : Ends) (log : Log) → MatchesFlows role first part log
+    → MatchesFlows role first (emptied cid part) (Mark cid ∷ log)
 empty_keeps role first cid part log m = record {
   on = λ f. empties_on role (side_of role f) (heard_of role first f log) false (λ is. absurd cc);
   unused = λ f asker later. record { silent = (m.unused f asker later).silent; no_end = refl };
@@ -447,7 +449,7 @@ empty_keeps role first cid part log m = record {
 }
 
 pub start_matches : (role : Role) (first port : ℕ)
-    → Matches role first (record { entries = []; replies = []; next_port = port; cid = first }) []
+    → MatchesFlows role first (record { entries = []; replies = []; next_port = port; cid = first }) []
 start_matches role first port = record {
   on = λ f. empties_on role (side_of role f) [] false (λ is. absurd cc);
   unused = λ f asker later. record { silent = refl; no_end = refl };

@@ -14,7 +14,7 @@ use Rattle.vs_page.specs.Open.{is_left_open, is_open}
 use Rattle.vs_page.specs.declared.log.LogEntry.TheVariants.{Mark}
 use Rattle.vs_matching.specs.Ends.{Ends, FlowEnd, begun_flows, ends_of, flows_of, is_among, is_new}
 use Rattle.vs_matching.specs.Heard.{heard_of, is_empty}
-use Rattle.vs_matching.specs.Matches.{IsAsking, IsBefore, IsHeld, IsLeftOn, Matches}
+use Rattle.vs_matching.specs.Matches.{IsAsking, IsBefore, IsHeld, IsLeftOn, MatchesFlows}
 use Rattle.vs_matching.specs.Steps.{HasEnd, HasNone}
 use Rattle.vs_matching.proofs.Frame.{silent_closed}
 use Rattle.vs_matching.proofs.OnFlow.{asks_before, asking_is_new, at_most_one, end_follows}
@@ -51,7 +51,7 @@ left_begun role side [] left_open reply_owed ends left silent =
 left_begun role side (x ∷ h) left_open reply_owed ends left silent = held_begun (left_open && not reply_owed) side (x ∷ h) ends left
 
 -- The flows of the connections that have begun are those that are open.
-pub table_open : (role : Role) (first : ℕ) (part : Ends) (log : Log) (f : Flow) → Matches role first part log
+pub table_open : (role : Role) (first : ℕ) (part : Ends) (log : Log) (f : Flow) → MatchesFlows role first part log
     → is_among f (begun_flows part.entries) ≡ is_open role first f log (is_among f part.replies)
 table_open role first part log f m =
     begun_among f part.entries
@@ -60,7 +60,8 @@ table_open role first part log f m =
     (m.on f) (silent_closed role first f log)
 
 -- All of the driver's have begun.
-pub driver_begun : (first : ℕ) (part : Ends) (log : Log) (f : Flow) (e : ConnectionEnd) → Matches Driver first part log → HasEnd f e part
+pub driver_begun : (first : ℕ) (part : Ends) (log : Log) (f : Flow) (e : ConnectionEnd) → MatchesFlows Driver first part log
+    → HasEnd f e part
     → is_new e ≡ false
 driver_begun first part log f e m has = driver_begun_on (side_of Driver f) (heard_of Driver first f log) _ _ _ e (m.on f) has where
   driver_begun_on : (side : Side) (h : History) (left_open reply_owed : Bool) (ends : List ConnectionEnd) (e : ConnectionEnd)
@@ -76,7 +77,7 @@ begun_by role side [] left_open reply_owed ends e left one old =
 begun_by role side (x ∷ h) left_open reply_owed ends e left one old =
     (end_follows role side (x ∷ h) left_open reply_owed ends e left one refl).follows
 
-pub end_begun : (role : Role) (first : ℕ) (part : Ends) (log : Log) (f : Flow) (e : ConnectionEnd) → Matches role first part log
+pub end_begun : (role : Role) (first : ℕ) (part : Ends) (log : Log) (f : Flow) (e : ConnectionEnd) → MatchesFlows role first part log
     → HasEnd f e part
     → is_new e ≡ false → let h = heard_of role first f log in Follows (side_of role f) (puts h) (gots h) e
 end_begun role first part log f e m has old = begun_by role (side_of role f) (heard_of role first f log) _ _ _ e (m.on f) has old
@@ -109,11 +110,11 @@ one_at_most role side h left_open reply_owed ends e more left is =
     at_most_one role side h left_open reply_owed e more (subst (IsLeftOn role side h left_open reply_owed) is left)
 
 pub only_end : (role : Role) (first : ℕ) (part : Ends) (log : Log) (f : Flow) (e : ConnectionEnd) (more : List ConnectionEnd)
-    → Matches role first part log
+    → MatchesFlows role first part log
     → ends_of f part.entries ≡ e ∷ more → more ≡ []
 only_end role first part log f e more m is = one_at_most role (side_of role f) (heard_of role first f log) _ _ _ e more (m.on f) is
 
-pub driver_open : (first : ℕ) (part : Ends) (log : Log) (f : Flow) → Matches Driver first part log
+pub driver_open : (first : ℕ) (part : Ends) (log : Log) (f : Flow) → MatchesFlows Driver first part log
     → is_among f (flows_of part.entries) ≡ is_open Driver first f log (is_among f part.replies)
 driver_open first part log f m =
     all_begun part.entries (λ g e has. driver_begun first part log g e m has)
@@ -121,7 +122,7 @@ driver_open first part log f m =
     ∙ table_open Driver first part log f m
 
 -- A flow without an end isn't open.
-pub none_open : (role : Role) (first : ℕ) (part : Ends) (log : Log) (f : Flow) → Matches role first part log → HasNone f part
+pub none_open : (role : Role) (first : ℕ) (part : Ends) (log : Log) (f : Flow) → MatchesFlows role first part log → HasNone f part
     → is_open role first f log (is_among f part.replies) ≡ false
 none_open role first part log f m none = sym (table_open role first part log f m) ∙ begun_among f part.entries ∙ ap any_begun none
 
@@ -130,7 +131,7 @@ none_among : (fs : List Flow) → ((f : Flow) → is_among f fs ≡ false) → f
 none_among [] none = refl
 none_among (f ∷ fs) none = let own = same_self f in let n = none f in absurd (grind (arith, common_steps))
 
-pub reset_empty : (role : Role) (first cid : ℕ) (part : Ends) (log : Log) → Matches role first part (Mark cid ∷ log)
+pub reset_empty : (role : Role) (first cid : ℕ) (part : Ends) (log : Log) → MatchesFlows role first part (Mark cid ∷ log)
     → begun_flows part.entries ≡ []
 reset_empty role first cid part log m = none_among (begun_flows part.entries) (λ f. table_open role first part (Mark cid ∷ log) f m)
 
@@ -160,7 +161,7 @@ all_distinct (x ∷ xs) once =
     AllPairs-cons (λ d e. d.flow ≢ e.flow) x xs (λ k d less. no_flow_at x.flow xs k d (own_none x xs once) less)
     (all_distinct xs (once_rest x xs once))
 
-pub table_distinct : (role : Role) (first : ℕ) (part : Ends) (log : Log) → Matches role first part log
+pub table_distinct : (role : Role) (first : ℕ) (part : Ends) (log : Log) → MatchesFlows role first part log
     → AllPairs (λ d e. d.flow ≢ e.flow) part.entries
 table_distinct role first part log m = all_distinct part.entries (λ f e more is. only_end role first part log f e more m is)
 
@@ -171,7 +172,7 @@ new_by role side [] left_open reply_owed ends e left one new = (refl, asks_befor
 new_by role side (x ∷ h) left_open reply_owed ends e left one new =
     let old = follows_begun side (x ∷ h) e (end_follows role side (x ∷ h) left_open reply_owed ends e left one refl).follows in absurd cc
 
-pub end_new : (role : Role) (first : ℕ) (part : Ends) (log : Log) (f : Flow) (e : ConnectionEnd) → Matches role first part log
+pub end_new : (role : Role) (first : ℕ) (part : Ends) (log : Log) (f : Flow) (e : ConnectionEnd) → MatchesFlows role first part log
     → HasEnd f e part
     → is_new e ≡ true → (heard_of role first f log ≡ []) × IsAsking (side_of role f) e
 end_new role first part log f e m has new = new_by role (side_of role f) (heard_of role first f log) _ _ _ e (m.on f) has new

@@ -24,7 +24,7 @@ use Rattle.vs_matching.specs.Both.{Seat, Sends, Step, Takes, TakesEvent, TakesRe
 use Rattle.vs_matching.specs.Both.{run, start}
 use Rattle.vs_matching.specs.Ends.{Ends, ends_of}
 use Rattle.vs_matching.specs.Heard.{IsInOrder, heard_of}
-use Rattle.vs_matching.specs.Matches.{Matches}
+use Rattle.vs_matching.specs.Matches.{MatchesFlows}
 use Rattle.vs_matching.specs.Steps.{HasEnd, left, owed_on, paid, payload_on, reply_on, request_on, with_end}
 use Rattle.vs_matching.proofs.Both.{next_is_fair, run_keeps, start_sound, step_keeps}
 use Rattle.vs_matching.proofs.Entries.{added_other, replaced_other, without_other}
@@ -188,7 +188,7 @@ unknown_asks f p answer part e false none has = answered_asks f p answer part e 
 
 packet_had : (first : ℕ) (ends : List ConnectionEnd) (p : Packet) (answer : Option ℕ) (part : Ends) (log : Log) (e : ConnectionEnd)
     → let f = flow_got Driver p in
-    ends_of f part.entries ≡ ends → Matches Driver first part log → IsInOrder (side_of Driver f) (heard_of Driver first f log) p
+    ends_of f part.entries ≡ ends → MatchesFlows Driver first part log → IsInOrder (side_of Driver f) (heard_of Driver first f log) p
     → IsVoiced (record { part = part; log = log }) → HasEnd f e (after_packet ends p f answer part)
     → AllSpeak part.cid (puts (history_of Driver f log))
 packet_had first [] p answer part log e are m order v has =
@@ -273,7 +273,7 @@ driver_step : (first : ℕ) (step : Step) (b : Both) → IsSound first b → May
     → IsVoiced (happens Driver step b).driver
 driver_step first (Opens f alloc) b s may v =
     let part = b.driver.part in
-    let silent = open_silent first f part b.driver.log ((s.matches Driver).unused f may.0.asker may.0.port).silent in
+    let silent = open_silent first f part b.driver.log ((s.matches Driver).flows.unused f may.0.asker may.0.port).silent in
     voiced_put f (request_on Driver part.cid f alloc) part _ b.driver.log refl
     (speaks_by part.cid (request_on Driver part.cid f alloc) refl refl) refl
     (λ other. silent) (λ x has. silent) (λ g other. added_other f g _ part.entries other) v
@@ -305,7 +305,7 @@ driver_step first (Takes p answer) b s may v =
     let f = flow_got Driver p in
     let order = got_in_order Driver first p log (next_is_fair Driver first p b s may.0 f) in
     voiced_got f p part (after_packet (ends_of f part.entries) p f answer part) log (packet_cid (ends_of f part.entries) f p answer part)
-    (λ x has. packet_had first (ends_of f part.entries) p answer part log x refl (s.matches Driver) order v has)
+    (λ x has. packet_had first (ends_of f part.entries) p answer part log x refl (s.matches Driver).flows order v has)
     (λ g other. packet_other (ends_of f part.entries) f g p answer part other) v
 driver_step first (PutsEvent id) b s may v = absurd cc
 driver_step first (TakesEvent id) b s may v = record { voices = v.voices; spoken = v.spoken }
@@ -366,9 +366,9 @@ taken_by first p e b false is s k one fair has heard =
     let f = flow_got Device p in
     let log = b.device.log in
     let h = history_of Device f log in
-    let own = got_one Device first p e b.device.part log (s.matches Device) has fair in
+    let own = got_one Device first p e b.device.part log (s.matches Device).flows has fair in
     let voice = one.0 is in
-    let now = cid_heard Device first b.device.part log p false (s.matches Device) heard in
+    let now = cid_heard Device first b.device.part log p false (s.matches Device).flows heard in
     let all = keep_all voice.0 (cid_of first log) (gots h) (sym (voice.1 (cid_of first log)) ∙ now) voice.2 in
     let same_gots : gots (heard_of Device first f log) ≡ gots h = k f own.left_open_is ∙ all in
     let follows = subst (λ x. Follows (side_of Device f) x (gots h) e) (heard_puts Device first f log)

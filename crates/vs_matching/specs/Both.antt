@@ -14,7 +14,6 @@ use Rattle.vs_page.specs.Log.{Driver, Device, HasGotAll, IsNextEvent, IsNextPack
 use Rattle.vs_page.specs.Open.{is_dropped}
 use Rattle.vs_page.specs.declared.log.LogEntry.TheVariants.{GotEvent, GotPacket, Mark, PutEvent, PutPacket}
 use Rattle.vs_matching.specs.Ends.{Ends, ends_of, is_new}
-use Rattle.vs_matching.specs.Heard.{IsWithinCredit}
 use Rattle.vs_matching.specs.Matches.{Matches}
 use Rattle.vs_matching.specs.Steps.{HasEnd, IsNextFlow, accepted, asking, emptied, opened, owed_on, paid, payload_on, refused}
 use Rattle.vs_matching.specs.Steps.{reply_on, request_on, reset, taken, with_end, with_replies}
@@ -156,10 +155,8 @@ new_seat first port = record { part = record { entries = []; replies = []; next_
 abbrev pub start : ℕ → ℕ → ℕ → Both
 start first guest_port host_port = record { driver = new_seat first guest_port; device = new_seat first host_port }
 
--- Each seat matches its log, which is fair, with what it put on each flow within the credit that it heard; and it got what the other put
--- first.
+-- Each seat matches its log, which is fair, and it got what the other put first.
 pub record IsSound (first : ℕ) (b : Both) : Type 0 where
   pub matches : (role : Role) → Matches role first (at role b).part (at role b).log
   pub fair : (role : Role) → IsFairLog role (at role b).log
-  pub credit : (role : Role) (f : Flow) → IsWithinCredit role first f (at role b).log
   pub ties : (role : Role) → HasGotAll (at role b).log (at (other_role role) b).log

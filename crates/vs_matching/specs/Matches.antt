@@ -4,10 +4,11 @@ use Rattle.vs_conn.specs.End.{ConnectionEnd, asked}
 use Rattle.vs_conn.specs.Follows.{Follows, IsSpace}
 use Rattle.vs_flow.specs.declared.flow.Flow.{Flow}
 use Rattle.vs_history.specs.History.{History, Side, Asker, puts, gots}
+use Rattle.vs_page.specs.Fair.{IsFairLog}
 use Rattle.vs_page.specs.Log.{Log, Role, Driver, Device, side_of}
 use Rattle.vs_page.specs.Open.{cid_of, is_left_open}
 use Rattle.vs_matching.specs.Ends.{Ends, ends_of, is_among}
-use Rattle.vs_matching.specs.Heard.{heard_of, own_port}
+use Rattle.vs_matching.specs.Heard.{IsWithinCredit, heard_of, own_port}
 
 -- An end that asks for a connection, and has put nothing.
 pub record IsAsking (side : Side) (e : ConnectionEnd) : Type 0 where
@@ -42,9 +43,16 @@ pub record IsUnused (role : Role) (first : ℕ) (part : Ends) (log : Log) (f : F
   pub silent : heard_of role first f log ≡ []
   pub no_end : ends_of f part.entries ≡ []
 
--- An end of many connections matches its log: each flow is as the log leaves it, flows whose port is still to be given are unused, and the
--- guest's CID is the one that the log tells, where it was this at first.
-pub record Matches (role : Role) (first : ℕ) (part : Ends) (log : Log) : Type 0 where
+-- Each flow is as the log leaves it, flows whose port is still to be given are unused, and the guest's CID is the one that the log tells,
+-- where it was this at first.
+pub record MatchesFlows (role : Role) (first : ℕ) (part : Ends) (log : Log) : Type 0 where
   pub on : (f : Flow) → MatchesOn role first part log f
   pub unused : (f : Flow) → side_of role f ≡ Asker → part.next_port ≤ own_port role f → IsUnused role first part log f
   pub cid : part.cid ≡ cid_of first log
+
+-- An end of many connections matches its log: its flows do, and where the log is fair, what it put on each flow is within the credit
+-- that it
+-- heard.
+pub record Matches (role : Role) (first : ℕ) (part : Ends) (log : Log) : Type 0 where
+  pub flows : MatchesFlows role first part log
+  pub credit : IsFairLog role log → (f : Flow) → IsWithinCredit role first f log

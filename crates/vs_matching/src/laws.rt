@@ -24,7 +24,7 @@ ghost use Rattle.vs_matching.specs.Examples.{after_two, asking_end, guest_cid, g
 ghost use Rattle.vs_matching.specs.Examples.{log_with_drop, new_cid, opening, resetting};
 ghost use Rattle.vs_matching.specs.Examples.{lost_response, payload_after};
 ghost use Rattle.vs_matching.specs.Ends.{Ends, begun_flows, ends_of, entries_of, flows_of, is_among, is_new, replaced, without_flow};
-ghost use Rattle.vs_matching.specs.Heard.{IsAllHeard, IsInOrder, IsOrderedLog, IsWithinCredit, heard_of, is_empty};
+ghost use Rattle.vs_matching.specs.Heard.{IsAllHeard, IsInOrder, IsOrderedLog, heard_of, is_empty};
 ghost use Rattle.vs_matching.specs.Matches.{IsAsking, Matches};
 ghost use Rattle.vs_matching.specs.Steps.{HasEnd, HasNone, IsNextFlow, accepted, asking, emptied, is_message, is_overrun, left};
 ghost use Rattle.vs_matching.specs.Steps.{opened, owed_on, paid};
@@ -166,40 +166,20 @@ pub fn law_of_hearing()
         → IsAllHeard role first f log → IsAllHeard role first f (GotPacket p ∷ log) }
 {}
 
-/// Each packet that an end puts keeps its log fair, where what it put on the flow so far is within the credit that it heard.
+/// Each packet that an end puts keeps its log fair, where it matches it: the payload put, also that of this packet, is within the credit
+/// that was heard, and so on (Virtio 1.2, section 5.10.6.3).
 pub fn law_of_fairness()
     ensures opens { (role : Role) (first cid : ℕ) (f : Flow) (alloc : ℕ) (part : Ends) (log : Log) → Matches role first part log
         → IsFairLog role log → IsNextFlow role f part → IsSpace alloc
         → IsFairLog role (PutPacket (request_on role cid f alloc) ∷ log) }
     ensures sends { (role : Role) (first cid : ℕ) (f : Flow) (e : ConnectionEnd) (payload : List ℕ) (part : Ends) (log : Log)
-        → Matches role first part log → IsFairLog role log → IsWithinCredit role first f log → HasEnd f e part → CanSend e (length payload)
+        → Matches role first part log → IsFairLog role log → HasEnd f e part → CanSend e (length payload)
         → IsFairLog role (PutPacket (payload_on role cid f e payload) ∷ log) }
     ensures pays { (role : Role) (first cid : ℕ) (f : Flow) (e : ConnectionEnd) (what : Owed) (part : Ends) (log : Log)
-        → Matches role first part log → IsFairLog role log → IsWithinCredit role first f log → HasEnd f e part → owes_of e ≡ Some what
+        → Matches role first part log → IsFairLog role log → HasEnd f e part → owes_of e ≡ Some what
         → IsFairLog role (PutPacket (owed_on role cid f e what) ∷ log) }
     ensures replies { (role : Role) (first cid : ℕ) (f : Flow) (rest : List Flow) (part : Ends) (log : Log) → Matches role first part log
         → IsFairLog role log → part.replies ≡ f ∷ rest → IsFairLog role (PutPacket (reply_on role cid f) ∷ log) }
-{}
-
-/// What an end put on a flow is within the credit that it heard. This holds at the driver over any fair log, and at the device where no
-/// packet of the flow was dropped. Each packet that is put keeps it, and each that is got where the log is fair with it.
-pub fn law_of_credit()
-    ensures driver { (first : ℕ) (f : Flow) (log : Log) → IsFairOn Driver f log → IsWithinCredit Driver first f log }
-    ensures all_heard { (role : Role) (first : ℕ) (f : Flow) (log : Log) → IsFairOn role f log → IsAllHeard role first f log
-        → IsWithinCredit role first f log }
-    ensures opens { (role : Role) (first cid : ℕ) (f : Flow) (alloc : ℕ) (part : Ends) (log : Log) → Matches role first part log
-        → IsNextFlow role f part → IsSpace alloc → IsWithinCredit role first f log
-        → IsWithinCredit role first f (PutPacket (request_on role cid f alloc) ∷ log) }
-    ensures sends { (role : Role) (first cid : ℕ) (f : Flow) (e : ConnectionEnd) (payload : List ℕ) (part : Ends) (log : Log)
-        → Matches role first part log → IsFairLog role log → IsWithinCredit role first f log → HasEnd f e part → CanSend e (length payload)
-        → IsWithinCredit role first f (PutPacket (payload_on role cid f e payload) ∷ log) }
-    ensures pays { (role : Role) (first cid : ℕ) (f : Flow) (e : ConnectionEnd) (what : Owed) (part : Ends) (log : Log)
-        → Matches role first part log → IsFairLog role log → IsWithinCredit role first f log → HasEnd f e part → owes_of e ≡ Some what
-        → IsWithinCredit role first f (PutPacket (owed_on role cid f e what) ∷ log) }
-    ensures replies { (role : Role) (first cid : ℕ) (f : Flow) (log : Log) → IsWithinCredit role first f log
-        → IsWithinCredit role first f (PutPacket (reply_on role cid f) ∷ log) }
-    ensures got { (role : Role) (first : ℕ) (f : Flow) (p : Packet) (log : Log) → IsFairOn role f (GotPacket p ∷ log)
-        → IsWithinCredit role first f log → IsWithinCredit role first f (GotPacket p ∷ log) }
 {}
 
 /// A packet that keeps the log fair comes in order, and its fields fit; it is a REQUEST exactly where nothing passed on its flow before.
@@ -219,7 +199,7 @@ pub fn law_of_fair_packets()
         Matches Driver first part log → HasEnd f e part → IsFairOn Driver f (GotPacket p ∷ log)
         → is_refused (verdict_of e p.header) ≡ false }
     ensures no_overrun { (role : Role) (first : ℕ) (p : Packet) (e : ConnectionEnd) (part : Ends) (log : Log) → let f = flow_got role p in
-        Matches role first part log → HasEnd f e part → IsFairOn role f (GotPacket p ∷ log) → IsWithinCredit role first f log
+        Matches role first part log → HasEnd f e part → IsFairLog role (GotPacket p ∷ log)
         → is_overrun (verdict_of e p.header) ≡ false }
 {}
 

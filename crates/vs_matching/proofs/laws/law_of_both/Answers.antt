@@ -11,12 +11,13 @@ returns-clause-sound c = λ first guest host xs may. run_keeps first xs (start f
 pub returns-clause-driver_table : goal.returns-clause-driver_table
 returns-clause-driver_table c = λ first guest host xs f may.
     let w = (run xs (start first guest host)).driver in
-    driver_open first w.part w.log f ((run_keeps first xs (start first guest host) (start_sound first guest host) may).matches Driver)
+    driver_open first w.part w.log f ((run_keeps first xs (start first guest host) (start_sound first guest host) may).matches Driver).flows
 
 pub returns-clause-device_table : goal.returns-clause-device_table
 returns-clause-device_table c = λ first guest host xs f may.
     let w = (run xs (start first guest host)).device in
-    table_open Device first w.part w.log f ((run_keeps first xs (start first guest host) (start_sound first guest host) may).matches Device)
+    table_open Device first w.part w.log f ((run_keeps first xs (start first guest host)
+    (start_sound first guest host) may).matches Device).flows
 
 pub returns-clause-driver_accepts : goal.returns-clause-driver_accepts
 returns-clause-driver_accepts c = driver_accepts
