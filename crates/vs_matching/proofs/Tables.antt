@@ -12,7 +12,7 @@ use Rattle.vs_history.specs.History.{History, Side, puts, gots}
 use Rattle.vs_page.specs.Log.{Log, Role, Driver, Device, side_of}
 use Rattle.vs_page.specs.Open.{is_left_open, is_open}
 use Rattle.vs_page.specs.declared.log.LogEntry.TheVariants.{Mark}
-use Rattle.vs_matching.specs.Ends.{Ends, FlowEnd, begun_flows, ends_of, flows_of, is_among, is_new}
+use Rattle.vs_matching.specs.Ends.{Ends, FlowEnd, begun_flows, ends_of, flows_of, is_among, is_new, new_flows}
 use Rattle.vs_matching.specs.Heard.{heard_of, is_empty}
 use Rattle.vs_matching.specs.Matches.{IsAsking, IsBefore, IsHeld, IsLeftOn, MatchesFlows}
 use Rattle.vs_matching.specs.Steps.{HasEnd, HasNone}
@@ -176,3 +176,13 @@ pub end_new : (role : Role) (first : ℕ) (part : Ends) (log : Log) (f : Flow) (
     → HasEnd f e part
     → is_new e ≡ true → (heard_of role first f log ≡ []) × IsAsking (side_of role f) e
 end_new role first part log f e m has new = new_by role (side_of role f) (heard_of role first f log) _ _ _ e (m.on f) has new
+
+-- Each connection has begun or is new.
+begun_or_new : (f : Flow) (xs : List FlowEnd) → is_among f (flows_of xs) ≡ (is_among f (begun_flows xs) || is_among f (new_flows xs))
+begun_or_new f [] = refl
+begun_or_new f (x ∷ xs) = let rest = begun_or_new f xs in grind (arith, common_steps)
+
+pub all_open : (role : Role) (first : ℕ) (part : Ends) (log : Log) (f : Flow) → MatchesFlows role first part log
+    → is_among f (flows_of part.entries) ≡ (is_open role first f log (is_among f part.replies) || is_among f (new_flows part.entries))
+all_open role first part log f m =
+    begun_or_new f part.entries ∙ ap (λ b. b || is_among f (new_flows part.entries)) (table_open role first part log f m)

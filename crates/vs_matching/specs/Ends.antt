@@ -57,6 +57,11 @@ abbrev pub begun_flows : List FlowEnd → List Flow
 begun_flows [] = []
 begun_flows (x ∷ xs) = if is_new x.end then begun_flows xs else x.flow ∷ begun_flows xs
 
+-- The flows of those that ask and have not put their REQUEST.
+abbrev pub new_flows : List FlowEnd → List Flow
+new_flows [] = []
+new_flows (x ∷ xs) = if is_new x.end then x.flow ∷ new_flows xs else new_flows xs
+
 -- The entries of a flow table, whose values have ends.
 abbrev pub entries_of : {T : Type 0} → (T → ConnectionEnd) → Table T → List FlowEnd
 entries_of end_of t = map (λ x. record { flow = x.flow; end = end_of x.value }) t.entries

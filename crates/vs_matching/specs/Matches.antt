@@ -50,9 +50,8 @@ pub record MatchesFlows (role : Role) (first : ℕ) (part : Ends) (log : Log) : 
   pub unused : (f : Flow) → side_of role f ≡ Asker → part.next_port ≤ own_port role f → IsUnused role first part log f
   pub cid : part.cid ≡ cid_of first log
 
--- An end of many connections matches its log: its flows do, and where the log is fair, what it put on each flow is within the credit
--- that it
--- heard.
+-- An end of many connections matches its log: its flows do, and what it put on each flow is within the credit that it heard, where the log
+-- is fair.
 pub record Matches (role : Role) (first : ℕ) (part : Ends) (log : Log) : Type 0 where
   pub flows : MatchesFlows role first part log
   pub credit : IsFairLog role log → (f : Flow) → IsWithinCredit role first f log

@@ -1,7 +1,7 @@
 //! Laws of an end of many connections.
 
-ghost use Rattle.std.specs.Prelude.{◌≡◌, ◌≢◌, ℕ, ◌≤◌, ◌&&◌, Bool, false, true, List, [], ◌∷◌, ◌++◌, length, find, AllPairs, Contains};
-ghost use Rattle.std.specs.Prelude.{Some, None};
+ghost use Rattle.std.specs.Prelude.{◌≡◌, ◌≢◌, ℕ, ◌≤◌, ◌&&◌, ◌||◌, Bool, false, true, List, [], ◌∷◌, ◌++◌, length, find, AllPairs};
+ghost use Rattle.std.specs.Prelude.{Contains, Some, None};
 ghost use Rattle.vs_conn.specs.End.{CanSend, ConnectionEnd, aborted, asked, end_after, grown, is_refused, is_reset, is_stream, owes_of};
 ghost use Rattle.vs_conn.specs.End.{paid_of, verdict_of, wanting_credit};
 ghost use Rattle.vs_conn.specs.End.{with_payload_forwarded, with_payload_sent, with_shut};
@@ -23,7 +23,8 @@ ghost use Rattle.vs_matching.specs.Both.{Both, Happening, IsSound, MayRun, run, 
 ghost use Rattle.vs_matching.specs.Examples.{after_two, asking_end, guest_cid, guest_flow, host_end, host_flow, log_of_two};
 ghost use Rattle.vs_matching.specs.Examples.{log_with_drop, new_cid, opening, resetting};
 ghost use Rattle.vs_matching.specs.Examples.{lost_response, payload_after};
-ghost use Rattle.vs_matching.specs.Ends.{Ends, begun_flows, ends_of, entries_of, flows_of, is_among, is_new, replaced, without_flow};
+ghost use Rattle.vs_matching.specs.Ends.{Ends, begun_flows, ends_of, entries_of, flows_of, is_among, is_new, new_flows};
+ghost use Rattle.vs_matching.specs.Ends.{replaced, without_flow};
 ghost use Rattle.vs_matching.specs.Heard.{IsAllHeard, IsInOrder, IsOrderedLog, heard_of, is_empty};
 ghost use Rattle.vs_matching.specs.Matches.{IsAsking, Matches};
 ghost use Rattle.vs_matching.specs.Steps.{HasEnd, HasNone, IsNextFlow, accepted, asking, emptied, is_message, is_overrun, left};
@@ -204,13 +205,17 @@ pub fn law_of_fair_packets()
 {}
 
 /// The table of an end that matches its log. No flow stands twice in it. The flows of its connections that have begun are exactly those
-/// that the log left open, less those to which an RST is owed as a reply; all of the driver's have begun. After a transport reset there
-/// is none. Each follows what was heard on its flow. One that has not begun asks for its flow, on which nothing was heard.
+/// that the log left open, less those to which an RST is owed as a reply; the others ask for their flows and have not put their REQUEST.
+/// All of the driver's have begun. After a transport reset none has. One that has begun follows what was heard on its flow; where one is
+/// new, nothing was heard.
 pub fn law_of_the_table()
     ensures once { (role : Role) (first : ℕ) (part : Ends) (log : Log) → Matches role first part log
         → AllPairs (λ d e. d.flow ≢ e.flow) part.entries }
     ensures open { (role : Role) (first : ℕ) (part : Ends) (log : Log) (f : Flow) → Matches role first part log
         → is_among f (begun_flows part.entries) ≡ is_open role first f log (is_among f part.replies) }
+    ensures all { (role : Role) (first : ℕ) (part : Ends) (log : Log) (f : Flow) → Matches role first part log
+        → is_among f (flows_of part.entries)
+        ≡ (is_open role first f log (is_among f part.replies) || is_among f (new_flows part.entries)) }
     ensures driver { (first : ℕ) (part : Ends) (log : Log) (f : Flow) → Matches Driver first part log
         → is_among f (flows_of part.entries) ≡ is_open Driver first f log (is_among f part.replies) }
     ensures closed { (role : Role) (first : ℕ) (part : Ends) (log : Log) (f : Flow) → Matches role first part log → HasNone f part
@@ -246,8 +251,8 @@ pub fn law_of_slots<T>()
 
 /// Driver and device over every order of their steps, each where it may happen, from a fresh pair on, transport resets and changes of the
 /// guest's CID included. Both match their logs, both logs are fair, and each got what the other put first. So the driver's table is what
-/// its log left open, and the device's connections that have begun are. The driver refuses no packet, the device none of a flow of which
-/// no packet was dropped, and no payload is too much.
+/// its log left open, and of the device's the connections that have begun. The driver refuses no packet, the device none that it doesn't
+/// drop, and neither gets more payload than it has room for.
 pub fn law_of_both()
     ensures sound { (first guest_port host_port : ℕ) (xs : List Happening) → MayRun xs (start first guest_port host_port)
         → IsSound first (run xs (start first guest_port host_port)) }

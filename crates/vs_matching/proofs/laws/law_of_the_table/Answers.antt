@@ -1,3 +1,4 @@
+use Rattle.vs_matching.proofs.Tables.{all_open}
 use Rattle.vs_matching.proofs.Tables.{driver_begun, driver_open, end_begun, end_new, none_open, reset_empty, table_distinct, table_open}
 use Rattle.vs_matching.proofs.laws.law_of_the_table.Goals as goal
 
@@ -9,6 +10,9 @@ returns-clause-open c = λ role first part log f m. table_open role first part l
 
 pub returns-clause-driver : goal.returns-clause-driver
 returns-clause-driver c = λ first part log f m. driver_open first part log f m.flows
+
+pub returns-clause-all : goal.returns-clause-all
+returns-clause-all c = λ role first part log f m. all_open role first part log f m.flows
 
 pub returns-clause-closed : goal.returns-clause-closed
 returns-clause-closed c = λ role first part log f m none. none_open role first part log f m.flows none
