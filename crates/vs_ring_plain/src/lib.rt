@@ -3,5 +3,4 @@
 
 pub mod examples;
 pub mod piece;
-pub mod port;
 pub mod take;

@@ -1,18 +1,18 @@
 //! Takes chains from a queue in a guest's memory.
 ghost use Rattle.std.specs.Prelude.{◌≡◌, ◌+◌, ◌-◌, ◌*◌, ◌<◌, ◌≤◌, ◌^◌, List, IsTrue, length, vec_len, vec_capacity, not, [], ◌∷◌};
 ghost use Rattle.byteorder.specs.Endian.{little_number};
-ghost use Rattle.vs_guest_mem.specs.Memory.{after_access, bytes_at, is_inside};
+ghost use Rattle.vs_guest_mem.specs.Memory.{Memory, after_access, bytes_at, is_inside};
 ghost use Rattle.vs_layout.specs.Entry.{desc_of};
 ghost use Rattle.vs_layout.specs.Layout.{AreInside};
-ghost use Rattle.vs_ring_plain.specs.Accesses.{Accesses, over};
-ghost use Rattle.vs_ring_plain.specs.Chain.{Taken, checked, in_queue, in_table, piece_faults, table_faults, too_small, taking, total_len};
+ghost use Rattle.vs_ring_plain.specs.Accesses.{Accesses, Done, over};
+ghost use Rattle.vs_ring_plain.specs.Chain.{Chain, Taken, checked, in_queue, in_table, piece_faults, table_faults, too_small, taking, total_len, unless};
 
 use crate::piece::Piece;
-use crate::port::{Failure, Queue};
 use byteorder::{ByteOrder, LittleEndian};
 use vs_guest_mem::PlainMem;
 use vs_header::HEADER_LEN;
 use vs_layout::{Areas, DESC_LEN, Desc, INDIRECT, NEXT, WRITE};
+use vs_ring_port::{Failure, Queue};
 
 /// A queue in a guest's memory.
 #[derive(Clone, Copy, Debug, PartialEq, Eq)]
@@ -58,7 +58,16 @@ pub fn take_chain(
         return Err(Failure::HeadRange { head, n: queue.n });
     }
     walk_queue(mem, queue, head, pieces)?;
-    check_size(queue.queue, total_len(pieces))?;
+    close_chain(queue.queue, head, pieces)
+}
+
+// The chain of these pieces, where it is long enough.
+fn close_chain(queue: Queue, head: u16, pieces: &[Piece]) -> Result<Option<u16>, Failure>
+    requires few { length pieces.now < 2 ^ 16 }
+    ensures { (m : Memory) → over (unless (too_small queue (total_len pieces.now) ∷ []) (Done (Chain head pieces.now))) m
+        ≡ (taken_of result pieces.now, m) }
+{
+    check_size(queue, total_len(pieces))?;
     Ok(Some(head))
 }
 
