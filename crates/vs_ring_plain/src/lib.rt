@@ -1,6 +1,8 @@
 //! The standard split ring over a guest's memory (Virtio 1.2, section 2.7).
 #![tactic(auto)]
 
+mod access;
+pub mod counts;
 pub mod examples;
 pub mod piece;
 pub mod take;

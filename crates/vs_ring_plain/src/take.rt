@@ -84,7 +84,7 @@ fn total_len(pieces: &[Piece]) -> u64
 }
 
 // A number of 2 bytes.
-fn load_u16(mem: &mut PlainMem, addr: u64) -> u16
+pub(crate) fn load_u16(mem: &mut PlainMem, addr: u64) -> u16
     requires inside { IsTrue (is_inside mem.old addr 2) }
     ensures value { result ≡ little_number 2 (bytes_at mem.new addr 2) }
     ensures memory { mem.new ≡ after_access mem.old }
