@@ -1,5 +1,5 @@
 -- Reading and writing a chain piece by piece.
-use Rattle.std.proofs.Common.{◌≡◌, ℕ, zero, suc, ◌+◌, ◌-◌, ◌≤◌, ◌<◌, ◌==◌, Bool, true, false, cond, List, [], ◌∷◌, ◌++◌, length, take, drop, refl, sym, ap, ◌∙◌, arith, All, IsTrue}
+use Rattle.std.proofs.Common.{◌≡◌, ℕ, ◌+◌, ◌-◌, ◌≤◌, ◌==◌, Bool, true, false, cond, List, [], ◌∷◌, ◌++◌, length, take, drop, refl, sym, ap, ◌∙◌, arith}
 use Rattle.std.specs.Prelude.{min}
 use Rattle.std.proofs.lemmas.Bool.Decides.{nat_tests}
 use Rattle.std.proofs.lemmas.List.{drop-drop, take-append-drop}
@@ -20,7 +20,7 @@ used p place len = min (p.len - skipped p place) len
 is_zero : (n : ℕ) → (n == 0) ≡ true → n ≡ 0
 is_zero n h = grind (arith, nat_tests)
 
-same_base : (m : Memory) (n : ℕ) → (accessed m n).base ≡ m.base
+pub same_base : (m : Memory) (n : ℕ) → (accessed m n).base ≡ m.base
 same_base m n = elim (n == 0) as (λ b. (cond b m (after_access m)).base ≡ m.base) [ true ↦ refl | false ↦ refl ]
 
 append_nil : (xs : List ℕ) → xs ++ [] ≡ xs

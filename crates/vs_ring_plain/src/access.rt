@@ -19,6 +19,7 @@ pub(crate) fn read_pieces(mem: &mut PlainMem, pieces: &[Piece], at: u64, out: &m
     requires inside { All (λ p. IsTrue (is_inside mem.old p.addr p.len)) pieces.now }
     requires in_range { at + length out.old ≤ total_len pieces.now }
     ensures exact { over (reading (spans pieces.now at (length out.old)) []) mem.old ≡ (out.new, mem.new) }
+    ensures base { mem.new.base ≡ mem.old.base }
     ensures size { length mem.new.bytes ≡ length mem.old.bytes }
 {
     let _fits = mem.size();
@@ -38,6 +39,7 @@ pub(crate) fn write_pieces(mem: &mut PlainMem, pieces: &[Piece], at: u64, bytes:
     requires inside { All (λ p. IsTrue (is_inside mem.old p.addr p.len)) pieces.now }
     requires in_range { at + length bytes.now ≤ total_len pieces.now }
     ensures exact { over (writing (spans pieces.now at (length bytes.now)) bytes.now) mem.old ≡ (tt, mem.new) }
+    ensures base { mem.new.base ≡ mem.old.base }
     ensures size { length mem.new.bytes ≡ length mem.old.bytes }
 {
     let _fits = mem.size();

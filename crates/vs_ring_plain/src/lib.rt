@@ -2,7 +2,8 @@
 #![tactic(auto)]
 
 mod access;
-pub mod counts;
+pub mod device;
 pub mod examples;
 pub mod piece;
 pub mod take;
+pub mod turns;

@@ -40,7 +40,9 @@ pub fn take_chain(
     requires inside { AreInside queue.now.areas queue.now.n (whole mem.old) }
     requires room { queue.now.n ≤ vec_capacity pieces.old }
     ensures exact { over (taking (ring_in queue.now mem.old) taken) mem.old ≡ (taken_of result pieces.new.items, mem.new) }
+    ensures base { mem.new.base ≡ mem.old.base }
     ensures size { length mem.new.bytes ≡ length mem.old.bytes }
+    ensures few { length pieces.new.items ≤ queue.now.n }
     ensures capacity { vec_capacity pieces.new ≡ vec_capacity pieces.old }
 {
     let _fits = mem.size();
@@ -72,7 +74,7 @@ fn close_chain(queue: Queue, head: u16, pieces: &[Piece]) -> Result<Option<u16>,
 }
 
 // The bytes of a chain's pieces.
-fn total_len(pieces: &[Piece]) -> u64
+pub(crate) fn total_len(pieces: &[Piece]) -> u64
     requires few { length pieces.now < 2 ^ 16 }
     ensures { result ≡ total_len pieces.now }
 {
@@ -175,6 +177,7 @@ fn walk_table(
     ensures exact { (ends : List Piece → Accesses Taken)
         → over (in_table (ring_in queue.now mem.old) at entries (queue.now.n - length pieces.old.items) 0 pieces.old.items ends) mem.old
         ≡ comes_to ends result pieces.new.items mem.new }
+    ensures base { mem.new.base ≡ mem.old.base }
     ensures size { length mem.new.bytes ≡ length mem.old.bytes }
     ensures few { length pieces.new.items ≤ queue.now.n }
     ensures capacity { vec_capacity pieces.new ≡ vec_capacity pieces.old }
@@ -217,6 +220,7 @@ fn walk_queue(
     requires room { queue.now.n ≤ vec_capacity pieces.old }
     ensures exact { (ends : List Piece → Accesses Taken)
         → over (in_queue (ring_in queue.now mem.old) queue.now.n head [] ends) mem.old ≡ comes_to ends result pieces.new.items mem.new }
+    ensures base { mem.new.base ≡ mem.old.base }
     ensures size { length mem.new.bytes ≡ length mem.old.bytes }
     ensures few { length pieces.new.items ≤ queue.now.n }
     ensures capacity { vec_capacity pieces.new ≡ vec_capacity pieces.old }

@@ -1,4 +1,4 @@
-use Rattle.std.proofs.Common.{◌≡◌, ℕ, ◌+◌, ◌-◌, rules, arith, length, take, drop, ap, ◌∙◌, List, ◌++◌, slice_index_or}
+use Rattle.std.proofs.Common.{◌≡◌, ℕ, ◌+◌, rules, arith, length, take, ap, ◌∙◌, List, ◌++◌, slice_index_or}
 use Rattle.vs_guest_mem.specs.Memory.{accessed, bytes_at}
 use Rattle.std.proofs.lemmas.Slice.{take-put_mid}
 use Rattle.std.proofs.lemmas.List.{drop_more}

@@ -1,4 +1,4 @@
-use Rattle.std.proofs.Common.{◌≡◌, ℕ, ◌+◌, ◌-◌, arith, length, take, drop, ap, ◌∙◌, sym}
+use Rattle.std.proofs.Common.{arith}
 use Rattle.std.proofs.lemmas.List.{drop_more}
 use Rattle.vs_ring_plain.proofs.Moving.{writes_more}
 use Rattle.vs_ring_plain.proofs.access.write_pieces.Goals as goal
