@@ -1,7 +1,7 @@
 -- The device's end of the three queues in a guest's memory, as a plain value: each call's answer and what is left are functions of it
 -- (Virtio 1.2, section 2.7).
-use Rattle.std.specs.Prelude.{ℕ, ◌+◌, ◌%◌, ◌^◌, Bool, false, List, [], ◌∷◌, length, map, Option, None, Some, if◌then◌else◌}
-use Rattle.vs_guest_mem.specs.Memory.{Memory}
+use Rattle.std.specs.Prelude.{ℕ, ◌+◌, ◌%◌, ◌^◌, Bool, false, List, [], ◌∷◌, ◌++◌, length, map, Option, None, Some, if◌then◌else◌}
+use Rattle.vs_guest_mem.specs.Memory.{Change, Memory}
 use Rattle.vs_layout.specs.declared.place.Areas.{Areas}
 use Rattle.vs_layout.specs.declared.placement.QueueAreas.{QueueAreas}
 use Rattle.vs_ring_port.specs.Chains.{same_chain}
@@ -67,8 +67,13 @@ ring_at queue d = record {
   indirect = d.indirect;
 }
 
+-- The device with another memory.
 abbrev pub with_memory : DeviceState → Memory → DeviceState
 with_memory d m = record d { memory = m }
+
+-- The memory with one more change to come.
+abbrev pub with_change : Memory → Change → Memory
+with_change m change = record m { changes = m.changes ++ change ∷ [] }
 
 -- The chain of pieces: the device reads tx and writes rx and event.
 abbrev pub readable_in : Queue → List Piece → ℕ

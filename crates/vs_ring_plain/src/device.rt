@@ -1,8 +1,9 @@
 //! The device's end of the three queues in a guest's memory.
-ghost use Rattle.std.specs.Prelude.{◌≡◌, ◌<◌, ◌≤◌, IfOk, Contains, length, ◌+◌, ◌^◌};
+ghost use Rattle.std.specs.Prelude.{◌≡◌, ◌<◌, ◌≤◌, IfOk, Contains, length, ◌+◌, ◌^◌, IsTrue, IfErr, OnErr, OnOk, is_ok};
+ghost use Rattle.vs_guest_mem.specs.Memory.{after_write, is_inside};
 ghost use Rattle.vs_layout.specs.Layout.{AreInside};
 ghost use Rattle.vs_ring_port.specs.declared.queue.TheConstants.{QUEUE_SIZE_MAX};
-ghost use Rattle.vs_ring_plain.specs.Device.{answer_to, areas_at, chain_at, chains_held, new_device};
+ghost use Rattle.vs_ring_plain.specs.Device.{answer_to, areas_at, chain_at, chains_held, new_device, with_change, with_memory};
 ghost use Rattle.vs_ring_plain.specs.Chain.{total_len};
 ghost use Rattle.vs_ring_plain.specs.Take.{whole};
 ghost use Rattle.vs_ring_port.specs.Contents.{Take, Read, Write, Return, Given};
@@ -13,7 +14,7 @@ use crate::take::{PlainQueue, take_chain, total_len};
 use crate::turns::{QueueTurns, Turns};
 use std::alloc::{AllocError, Global};
 use std::marker::Model;
-use vs_guest_mem::PlainMem;
+use vs_guest_mem::{AddrRange, PlainMem};
 use vs_layout::{Areas, QueueAreas};
 use vs_ring_port::{Chain, DeviceRing, Next, Queue};
 
@@ -92,6 +93,38 @@ impl DeviceSide {
         ensures { result.now ≡ self.now.memory }
     {
         &self.mem
+    }
+
+    /// Writes bytes as somebody else does, without an access of the device. `AddrRange` where a byte lies outside the memory; all is as
+    /// before then.
+    pub fn poke(&mut self, addr: u64, bytes: &[u8]) -> Result<(), AddrRange>
+        ensures ok { is_ok result ≡ is_inside self.old.memory addr (length bytes.now) }
+        ensures written { OnOk result (self.new ≡ with_memory self.old (after_write self.old.memory addr bytes.now)) }
+        ensures err { IfErr result (λ e. e ≡ record { addr = addr; len = length bytes.now }) }
+        ensures unchanged { OnErr result (self.new ≡ self.old) }
+    {
+        self.mem.poke(addr, bytes)
+    }
+
+    /// Adds a change: bytes that somebody else writes before the nth access of the device from now on, 1 being the next one. Takes
+    /// memory; without it all is as before.
+    pub fn change_before(
+        &mut self,
+        alloc: Global,
+        nth: u64,
+        addr: u64,
+        bytes: &[u8],
+    ) -> Result<(), AllocError>
+        requires later { 1 ≤ nth }
+        requires inside { IsTrue (is_inside self.old.memory addr (length bytes.now)) }
+        ensures ok { OnOk result (self.new ≡ with_memory self.old (with_change self.old.memory record {
+          nth = nth;
+          addr = addr;
+          bytes = bytes.now;
+        })) }
+        ensures err { OnErr result (self.new ≡ self.old) }
+    {
+        self.mem.change_before(alloc, nth, addr, bytes)
     }
 
     /// Takes the next chain of a queue. While a chain is held there is none, and no access is made.

@@ -6,4 +6,6 @@ pub mod device;
 pub mod examples;
 pub mod piece;
 pub mod take;
+#[cfg(test)]
+mod tests;
 pub mod turns;
