@@ -10,8 +10,8 @@ use Rattle.vs_ring_plain.specs.declared.piece.Piece.{Piece}
 use Rattle.vs_ring_plain.specs.Accesses.{Accesses, Done, over}
 use Rattle.vs_ring_plain.specs.Chain.{Ring, Taken, Failed, checked, unless, has, piece, piece_faults, piece_of, table_faults, in_queue, in_table}
 use Rattle.vs_ring_plain.specs.Take.{ring_in}
-use Rattle.vs_ring_plain.specs.declared.port.Failure.{Failure}
-use Rattle.vs_ring_plain.specs.declared.port.Failure.TheVariants.{ChainLong, IndirectNested, NextRange}
+use Rattle.vs_ring_port.specs.declared.failure.Failure.{Failure}
+use Rattle.vs_ring_port.specs.declared.failure.Failure.TheVariants.{ChainLong, IndirectNested, NextRange}
 use Rattle.vs_ring_plain.specs.declared.take.PlainQueue.{PlainQueue}
 
 -- what comes where no test is true

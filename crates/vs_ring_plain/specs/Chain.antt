@@ -11,10 +11,10 @@ use Rattle.vs_layout.specs.declared.entry.TheConstants.{DESC_LEN, INDIRECT, NEXT
 use Rattle.vs_layout.specs.declared.place.Areas.{Areas}
 use Rattle.vs_ring_plain.specs.declared.piece.Piece.{Piece}
 use Rattle.vs_ring_plain.specs.Accesses.{Accesses, Done, Read}
-use Rattle.vs_ring_plain.specs.declared.port.Failure.{Failure}
-use Rattle.vs_ring_plain.specs.declared.port.Failure.TheVariants.{AvailJump, HeadRange, Indirect, TxWritable, RxReadable, AddrRange, ChainLong, NextRange, TxShort, RxSmall, EventSmall, IndirectNested, IndirectNext, IndirectLen}
-use Rattle.vs_ring_plain.specs.declared.port.Queue.{Queue}
-use Rattle.vs_ring_plain.specs.declared.port.Queue.TheVariants.{Rx, Tx, Event}
+use Rattle.vs_ring_port.specs.declared.failure.Failure.{Failure}
+use Rattle.vs_ring_port.specs.declared.failure.Failure.TheVariants.{AvailJump, HeadRange, Indirect, TxWritable, RxReadable, AddrRange, ChainLong, NextRange, TxShort, RxSmall, EventSmall, IndirectNested, IndirectNext, IndirectLen}
+use Rattle.vs_ring_port.specs.declared.queue.Queue.{Queue}
+use Rattle.vs_ring_port.specs.declared.queue.Queue.TheVariants.{Rx, Tx, Event}
 
 -- A queue of n places, in size bytes of memory from base on. `indirect`: whether indirect descriptors were agreed on.
 pub record Ring : Type 0 where

@@ -5,7 +5,7 @@ use Rattle.vs_layout.specs.Entry.{desc_bytes}
 use Rattle.vs_layout.specs.Layout.{areas_of}
 use Rattle.vs_ring_plain.specs.Accesses.{with_values}
 use Rattle.vs_ring_plain.specs.Chain.{Ring, Taken, taking}
-use Rattle.vs_ring_plain.specs.declared.port.Queue.{Queue}
+use Rattle.vs_ring_port.specs.declared.queue.Queue.{Queue}
 
 abbrev pub ring : Queue → Bool → Ring
 ring queue indirect = record { queue = queue; n = 8; areas = areas_of 4096 8; base = 4096; size = 65536; indirect = indirect }

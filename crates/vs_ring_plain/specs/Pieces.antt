@@ -34,6 +34,6 @@ returning r returned head len =
     Write (used_elem r.areas (returned % r.n)).at (used_elem_bytes record { id = head; len = len }) (
     Write (used_idx r.areas).at (little_bytes 2 ((returned + 1) % 2 ^ 16)) (Done tt))
 
--- How many chains are given and not returned, by the index of the available ring.
+-- How many chains are given and not returned, by the index of the available ring: no more than the queue has places.
 abbrev pub given : Ring → ℕ → Accesses ℕ
-given r returned = Read (avail_idx r.areas).at 2 (λ bytes. Done (ahead (little_number 2 bytes) returned))
+given r returned = Read (avail_idx r.areas).at 2 (λ bytes. Done (min (ahead (little_number 2 bytes) returned) r.n))

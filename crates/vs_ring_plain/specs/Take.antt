@@ -5,7 +5,7 @@ use Rattle.vs_layout.specs.declared.span.Span.{Span}
 use Rattle.vs_ring_plain.specs.declared.piece.Piece.{Piece}
 use Rattle.vs_ring_plain.specs.Accesses.{Accesses, over}
 use Rattle.vs_ring_plain.specs.Chain.{Ring, Taken, NoChain, Chain, Failed}
-use Rattle.vs_ring_plain.specs.declared.port.Failure.{Failure}
+use Rattle.vs_ring_port.specs.declared.failure.Failure.{Failure}
 use Rattle.vs_ring_plain.specs.declared.take.PlainQueue.{PlainQueue}
 
 -- A queue in a memory.

@@ -1,7 +1,11 @@
 //! The standard split ring over a guest's memory (Virtio 1.2, section 2.7).
 #![tactic(auto)]
 
+mod access;
+pub mod device;
 pub mod examples;
 pub mod piece;
-pub mod port;
 pub mod take;
+#[cfg(test)]
+mod tests;
+pub mod turns;

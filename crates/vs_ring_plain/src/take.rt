@@ -1,18 +1,18 @@
 //! Takes chains from a queue in a guest's memory.
 ghost use Rattle.std.specs.Prelude.{◌≡◌, ◌+◌, ◌-◌, ◌*◌, ◌<◌, ◌≤◌, ◌^◌, List, IsTrue, length, vec_len, vec_capacity, not, [], ◌∷◌};
 ghost use Rattle.byteorder.specs.Endian.{little_number};
-ghost use Rattle.vs_guest_mem.specs.Memory.{after_access, bytes_at, is_inside};
+ghost use Rattle.vs_guest_mem.specs.Memory.{Memory, after_access, bytes_at, is_inside};
 ghost use Rattle.vs_layout.specs.Entry.{desc_of};
 ghost use Rattle.vs_layout.specs.Layout.{AreInside};
-ghost use Rattle.vs_ring_plain.specs.Accesses.{Accesses, over};
-ghost use Rattle.vs_ring_plain.specs.Chain.{Taken, checked, in_queue, in_table, piece_faults, table_faults, too_small, taking, total_len};
+ghost use Rattle.vs_ring_plain.specs.Accesses.{Accesses, Done, over};
+ghost use Rattle.vs_ring_plain.specs.Chain.{Chain, Taken, checked, in_queue, in_table, piece_faults, table_faults, too_small, taking, total_len, unless};
 
 use crate::piece::Piece;
-use crate::port::{Failure, Queue};
 use byteorder::{ByteOrder, LittleEndian};
 use vs_guest_mem::PlainMem;
 use vs_header::HEADER_LEN;
 use vs_layout::{Areas, DESC_LEN, Desc, INDIRECT, NEXT, WRITE};
+use vs_ring_port::{Failure, Queue};
 
 /// A queue in a guest's memory.
 #[derive(Clone, Copy, Debug, PartialEq, Eq)]
@@ -40,7 +40,9 @@ pub fn take_chain(
     requires inside { AreInside queue.now.areas queue.now.n (whole mem.old) }
     requires room { queue.now.n ≤ vec_capacity pieces.old }
     ensures exact { over (taking (ring_in queue.now mem.old) taken) mem.old ≡ (taken_of result pieces.new.items, mem.new) }
+    ensures base { mem.new.base ≡ mem.old.base }
     ensures size { length mem.new.bytes ≡ length mem.old.bytes }
+    ensures few { length pieces.new.items ≤ queue.now.n }
     ensures capacity { vec_capacity pieces.new ≡ vec_capacity pieces.old }
 {
     let _fits = mem.size();
@@ -58,12 +60,21 @@ pub fn take_chain(
         return Err(Failure::HeadRange { head, n: queue.n });
     }
     walk_queue(mem, queue, head, pieces)?;
-    check_size(queue.queue, total_len(pieces))?;
+    close_chain(queue.queue, head, pieces)
+}
+
+// The chain of these pieces, where it is long enough.
+fn close_chain(queue: Queue, head: u16, pieces: &[Piece]) -> Result<Option<u16>, Failure>
+    requires few { length pieces.now < 2 ^ 16 }
+    ensures { (m : Memory) → over (unless (too_small queue (total_len pieces.now) ∷ []) (Done (Chain head pieces.now))) m
+        ≡ (taken_of result pieces.now, m) }
+{
+    check_size(queue, total_len(pieces))?;
     Ok(Some(head))
 }
 
 // The bytes of a chain's pieces.
-fn total_len(pieces: &[Piece]) -> u64
+pub(crate) fn total_len(pieces: &[Piece]) -> u64
     requires few { length pieces.now < 2 ^ 16 }
     ensures { result ≡ total_len pieces.now }
 {
@@ -75,7 +86,7 @@ fn total_len(pieces: &[Piece]) -> u64
 }
 
 // A number of 2 bytes.
-fn load_u16(mem: &mut PlainMem, addr: u64) -> u16
+pub(crate) fn load_u16(mem: &mut PlainMem, addr: u64) -> u16
     requires inside { IsTrue (is_inside mem.old addr 2) }
     ensures value { result ≡ little_number 2 (bytes_at mem.new addr 2) }
     ensures memory { mem.new ≡ after_access mem.old }
@@ -166,6 +177,7 @@ fn walk_table(
     ensures exact { (ends : List Piece → Accesses Taken)
         → over (in_table (ring_in queue.now mem.old) at entries (queue.now.n - length pieces.old.items) 0 pieces.old.items ends) mem.old
         ≡ comes_to ends result pieces.new.items mem.new }
+    ensures base { mem.new.base ≡ mem.old.base }
     ensures size { length mem.new.bytes ≡ length mem.old.bytes }
     ensures few { length pieces.new.items ≤ queue.now.n }
     ensures capacity { vec_capacity pieces.new ≡ vec_capacity pieces.old }
@@ -208,6 +220,7 @@ fn walk_queue(
     requires room { queue.now.n ≤ vec_capacity pieces.old }
     ensures exact { (ends : List Piece → Accesses Taken)
         → over (in_queue (ring_in queue.now mem.old) queue.now.n head [] ends) mem.old ≡ comes_to ends result pieces.new.items mem.new }
+    ensures base { mem.new.base ≡ mem.old.base }
     ensures size { length mem.new.bytes ≡ length mem.old.bytes }
     ensures few { length pieces.new.items ≤ queue.now.n }
     ensures capacity { vec_capacity pieces.new ≡ vec_capacity pieces.old }

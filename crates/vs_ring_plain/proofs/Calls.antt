@@ -1,0 +1,124 @@
+-- Each call of the device over its plain state is one that the ring's port allows.
+use Rattle.std.proofs.Common.{◌≡◌, ℕ, true, false, cond, List, [], ◌∷◌, map, None, Some, refl, sym, ap, ◌∙◌, subst, arith}
+use Rattle.std.proofs.lemmas.Bool.{false≢true}
+use Rattle.std.specs.Prelude.{◌%◌, IfSome}
+use Rattle.std.proofs.lemmas.Bool.Decides.{nat_tests}
+use Rattle.vs_ring_port.specs.Chains.{chain_of, held_after, IsLongEnough, same_chain, without}
+use Rattle.vs_ring_port.specs.Contents.{DeviceCall, DeviceAnswer, Take, Read, Write, Return, Given, PublishCid}
+use Rattle.vs_ring_port.specs.DeviceCalls.{DeviceAllows, DeviceMoves}
+use Rattle.vs_ring_port.specs.EndLog.{EndLog}
+use Rattle.vs_ring_port.specs.Lists.{Rings}
+use Rattle.vs_ring_port.specs.declared.device_ring.Chain.{Chain}
+use Rattle.vs_ring_port.specs.declared.device_ring.Next.{Next}
+use Rattle.vs_ring_port.specs.declared.queue.Queue.{Queue}
+use Rattle.vs_ring_port.specs.declared.queue.Queue.TheVariants.{Rx, Tx, Event}
+use Rattle.vs_ring_plain.specs.declared.piece.Piece.{Piece}
+use Rattle.vs_ring_plain.specs.Accesses.{over}
+use Rattle.vs_ring_plain.specs.Chain.{Ring, Taken, taking, too_small, total_len, NoChain, Failed, Chain as Found}
+use Rattle.vs_ring_plain.specs.Device.{DeviceState, HeldChain, answer_next, answer_taken, answer_to, chain_at, chains_held, contents_of, plain_state, ring_at, turns_at, with_memory, without_hold}
+use Rattle.vs_ring_plain.proofs.Outcomes.{IsGoodTaken, good_taken}
+
+-- where the plain state alone is exposed, a call and its answer by that state are allowed
+moves : (call : DeviceCall) (answer : DeviceAnswer call) (P : Rings → Type 0) (f : Rings → Rings) (Q : EndLog → Type 0)
+    (g : EndLog → EndLog) (old new : DeviceState) → answer_to call old ≡ (answer, new)
+    → DeviceMoves call answer P f Q g (contents_of old) (contents_of new)
+moves call answer P f Q g old new is = record {
+  lists = refl;
+  log = refl;
+  other = refl;
+  plain = (
+    sym (ap (λ (r : DeviceAnswer call × DeviceState). r.0) is),
+    ap (λ (r : DeviceAnswer call × DeviceState). Some (plain_state r.1)) (sym is),
+  );
+  honest = refl;
+  fair = λ honest. absurd (false≢true honest);
+}
+
+pub allowed : (call : DeviceCall) (answer : DeviceAnswer call) (old new : DeviceState) → answer_to call old ≡ (answer, new)
+    → DeviceAllows call answer (contents_of old) (contents_of new)
+allowed (Take queue) answer old new is = (None, moves (Take queue) answer _ _ _ _ old new is)
+allowed (Read chain place count) answer old new is = moves (Read chain place count) answer _ _ _ _ old new is
+allowed (Write chain place bytes) answer old new is = moves (Write chain place bytes) answer _ _ _ _ old new is
+allowed (Return chain len) answer old new is = ([], moves (Return chain len) answer _ _ _ _ old new is)
+allowed (Given queue) answer old new is = (0, moves (Given queue) answer _ _ _ _ old new is)
+allowed (PublishCid cid) answer old new is = moves (PublishCid cid) answer _ _ _ _ old new is
+
+-- what is so of a chain that was taken
+pub record Takes (queue : Queue) (result : Next) (old new : DeviceState) : Type 0 where
+  pub held : chains_held new ≡ held_after result (chains_held old)
+  pub queue_is : IfSome (chain_of result) (λ chain. chain.queue ≡ queue)
+  pub long_enough : IfSome (chain_of result) (IsLongEnough queue)
+  pub same_size : new.size ≡ old.size
+
+long_chain : (queue : Queue) (place : ℕ) (pieces : List Piece) → (too_small queue (total_len pieces)).0 ≡ false
+    → IsLongEnough queue (chain_at queue place pieces)
+long_chain Rx place pieces long = grind (arith, nat_tests)
+long_chain Tx place pieces long = grind (arith, nat_tests)
+long_chain Event place pieces long = grind (arith, nat_tests)
+
+takes : (queue : Queue) (r : Ring) (t : Taken) (d : DeviceState) → r.queue ≡ queue → IsGoodTaken r t
+    → let a = answer_taken queue t d in Takes queue a.0 d a.1
+takes queue r NoChain d is good = record { held = refl; queue_is = tt; long_enough = tt; same_size = refl }
+takes queue r (Found head pieces) d is good = record {
+  held = refl;
+  queue_is = refl;
+  long_enough = long_chain queue ((turns_at queue d.turns).taken % d.size) pieces
+      (subst (λ (q : Queue). (too_small q (total_len pieces)).0 ≡ false) is good.long);
+  same_size = refl;
+}
+takes queue r (Failed failure) d is good = record { held = refl; queue_is = tt; long_enough = tt; same_size = refl }
+
+takes_next : (queue : Queue) (held : List HeldChain) (d : DeviceState) → let a = answer_next queue held d in Takes queue a.0 d a.1
+takes_next queue [] d =
+    let r = ring_at queue d in let found = over (taking r (turns_at queue d.turns).taken) d.memory in
+    let t = takes queue r found.0 (with_memory d found.1) refl (good_taken r (turns_at queue d.turns).taken d.memory) in
+    record { held = t.held; queue_is = t.queue_is; long_enough = t.long_enough; same_size = t.same_size }
+takes_next queue (h ∷ held) d = record { held = refl; queue_is = tt; long_enough = tt; same_size = refl }
+
+pub takes_by : (queue : Queue) (result : Next) (old new : DeviceState) → answer_to (Take queue) old ≡ (result, new)
+    → Takes queue result old new
+takes_by queue result old new is =
+    subst (λ (a : Next × DeviceState). Takes queue a.0 old a.1) is (takes_next queue old.held old)
+
+-- the chains alone, after a return
+pub chains-without_hold : (c : Chain) (held : List HeldChain)
+    → map (λ (h : HeldChain). h.chain) (without_hold c held) ≡ without c (map (λ (h : HeldChain). h.chain) held)
+chains-without_hold c [] = refl
+chains-without_hold c (h ∷ held) =
+    elim (same_chain c h.chain) as (λ b. map (λ (h : HeldChain). h.chain) (cond b held (h ∷ without_hold c held))
+    ≡ cond b (map (λ (h : HeldChain). h.chain) held) (h.chain ∷ without c (map (λ (h : HeldChain). h.chain) held))) [
+      | true ↦ refl
+      | false ↦ ap (λ (cs : List Chain). h.chain ∷ cs) (chains-without_hold c held)
+    ]
+
+pub returns_by : (chain : Chain) (len : ℕ) (old new : DeviceState) → answer_to (Return chain len) old ≡ (tt, new)
+    → (chains_held new ≡ without chain (chains_held old)) × (new.size ≡ old.size)
+returns_by chain len old new is = (
+  ap (λ (r : Unit {0} × DeviceState). chains_held r.1) (sym is) ∙ chains-without_hold chain old.held,
+  ap (λ (r : Unit {0} × DeviceState). r.1.size) (sym is),
+)
+
+-- the other calls keep the chains and the size
+pub record Keeps (old new : DeviceState) : Type 0 where
+  pub held : chains_held new ≡ chains_held old
+  pub same_size : new.size ≡ old.size
+
+pub reads_by : (chain : Chain) (place count : ℕ) (bytes : List ℕ) (old new : DeviceState)
+    → answer_to (Read chain place count) old ≡ (bytes, new) → Keeps old new
+reads_by chain place count bytes old new is = record {
+  held = ap (λ (r : List ℕ × DeviceState). chains_held r.1) (sym is);
+  same_size = ap (λ (r : List ℕ × DeviceState). r.1.size) (sym is);
+}
+
+pub writes_by : (chain : Chain) (place : ℕ) (bytes : List ℕ) (old new : DeviceState)
+    → answer_to (Write chain place bytes) old ≡ (tt, new) → Keeps old new
+writes_by chain place bytes old new is = record {
+  held = ap (λ (r : Unit {0} × DeviceState). chains_held r.1) (sym is);
+  same_size = ap (λ (r : Unit {0} × DeviceState). r.1.size) (sym is);
+}
+
+pub counts_by : (queue : Queue) (count : ℕ) (old new : DeviceState) → answer_to (Given queue) old ≡ (count, new) → Keeps old new
+counts_by queue count old new is = record {
+  held = ap (λ (r : ℕ × DeviceState). chains_held r.1) (sym is);
+  same_size = ap (λ (r : ℕ × DeviceState). r.1.size) (sym is);
+}

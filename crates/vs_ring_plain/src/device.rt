@@ -1,0 +1,301 @@
+//! The device's end of the three queues in a guest's memory.
+ghost use Rattle.std.specs.Prelude.{◌≡◌, ◌<◌, ◌≤◌, IfOk, Contains, length, ◌+◌, ◌^◌, IsTrue, IfErr, OnErr, OnOk, is_ok};
+ghost use Rattle.vs_guest_mem.specs.Memory.{after_write, is_inside};
+ghost use Rattle.vs_layout.specs.Layout.{AreInside};
+ghost use Rattle.vs_ring_port.specs.declared.queue.TheConstants.{QUEUE_SIZE_MAX};
+ghost use Rattle.vs_ring_plain.specs.Device.{answer_to, areas_at, chain_at, chains_held, new_device, with_change, with_memory};
+ghost use Rattle.vs_ring_plain.specs.Chain.{total_len};
+ghost use Rattle.vs_ring_plain.specs.Take.{whole};
+ghost use Rattle.vs_ring_port.specs.Contents.{Take, Read, Write, Return, Given};
+
+use crate::access::{count_given, read_pieces, return_chain, write_pieces};
+use crate::piece::Piece;
+use crate::take::{PlainQueue, take_chain, total_len};
+use crate::turns::{QueueTurns, Turns};
+use std::alloc::{AllocError, Global};
+use std::marker::Model;
+use vs_guest_mem::{AddrRange, PlainMem};
+use vs_layout::{Areas, QueueAreas};
+use vs_ring_port::{Chain, DeviceRing, Next, Queue};
+
+/// A chain that is held, and the number of its first descriptor.
+#[derive(Debug, Drop)]
+struct Hold {
+    chain: Chain,
+    head: u16,
+}
+
+/// The device's end of the three queues in a guest's memory (Virtio 1.2, section 2.7), whatever lies in it and whoever writes there. It
+/// holds one chain at a time: until that is returned, `next` finds none.
+///
+/// Seen as the memory, where the queues lie, how many chains of each were taken and returned, and the chain held with its pieces.
+#[derive(Drop)]
+pub struct DeviceSide {
+    mem: PlainMem,
+    size: u16,
+    areas: QueueAreas,
+    indirect: bool,
+    turns: QueueTurns,
+    hold: Option<Hold>,
+    // The pieces of the chain held. Room for as many as a queue has descriptors.
+    pieces: Vec<Piece>,
+}
+
+impl Model for DeviceSide {
+    ghost use Rattle.vs_ring_plain.specs.Device.{DeviceState};
+
+    ghost Value = { DeviceState };
+
+    ghost use Rattle.vs_ring_plain.specs.Side.{state_in, IsInOrder};
+
+    ghost view = { state_in };
+
+    ghost invariant = { IsInOrder };
+}
+
+impl DeviceSide {
+    /// The device's end of queues of `n` descriptors each in a memory, from which no chain was taken. `indirect` says whether indirect
+    /// descriptors were agreed on.
+    ///
+    /// The only error is want of memory.
+    pub fn new(
+        alloc: Global,
+        mem: PlainMem,
+        areas: QueueAreas,
+        n: u16,
+        indirect: bool,
+    ) -> Result<DeviceSide, AllocError>
+        requires nonzero { 0 < n }
+        requires limit { n ≤ QUEUE_SIZE_MAX }
+        requires rx_inside { AreInside areas.rx n (whole mem) }
+        requires tx_inside { AreInside areas.tx n (whole mem) }
+        requires event_inside { AreInside areas.event n (whole mem) }
+        ensures { IfOk result (λ d. d ≡ new_device mem n areas indirect) }
+    {
+        let none = Turns { taken: 0, used: 0 };
+        Ok(DeviceSide {
+            mem,
+            size: n,
+            areas,
+            indirect,
+            turns: QueueTurns {
+                rx: none,
+                tx: none,
+                event: none,
+            },
+            hold: None,
+            pieces: Vec::with_capacity(alloc, n as usize)?,
+        })
+    }
+
+    /// The memory.
+    pub fn mem(&self) -> &PlainMem
+        ensures { result.now ≡ self.now.memory }
+    {
+        &self.mem
+    }
+
+    /// Writes bytes as somebody else does, without an access of the device. `AddrRange` where a byte lies outside the memory; all is as
+    /// before then.
+    pub fn poke(&mut self, addr: u64, bytes: &[u8]) -> Result<(), AddrRange>
+        ensures ok { is_ok result ≡ is_inside self.old.memory addr (length bytes.now) }
+        ensures written { OnOk result (self.new ≡ with_memory self.old (after_write self.old.memory addr bytes.now)) }
+        ensures err { IfErr result (λ e. e ≡ record { addr = addr; len = length bytes.now }) }
+        ensures unchanged { OnErr result (self.new ≡ self.old) }
+    {
+        self.mem.poke(addr, bytes)
+    }
+
+    /// Adds a change: bytes that somebody else writes before the nth access of the device from now on, 1 being the next one. Takes
+    /// memory; without it all is as before.
+    pub fn change_before(
+        &mut self,
+        alloc: Global,
+        nth: u64,
+        addr: u64,
+        bytes: &[u8],
+    ) -> Result<(), AllocError>
+        requires later { 1 ≤ nth }
+        requires inside { IsTrue (is_inside self.old.memory addr (length bytes.now)) }
+        ensures ok { OnOk result (self.new ≡ with_memory self.old (with_change self.old.memory record {
+          nth = nth;
+          addr = addr;
+          bytes = bytes.now;
+        })) }
+        ensures err { OnErr result (self.new ≡ self.old) }
+    {
+        self.mem.change_before(alloc, nth, addr, bytes)
+    }
+
+    /// Takes the next chain of a queue. While a chain is held there is none, and no access is made.
+    #[tactic(auto, using(crate::proofs::Holds::sound_found))]
+    pub fn take(&mut self, queue: Queue) -> Next
+        ensures { answer_to (Take queue) self.old ≡ (result, self.new) }
+    {
+        if self.hold.is_some() {
+            return Next::None;
+        }
+        let ring = queue_in(queue, self.size, &self.areas, self.indirect);
+        let taken = self.turns.at(queue).taken;
+        match take_chain(&mut self.mem, &ring, taken, &mut self.pieces) {
+            Ok(None) => Next::None,
+            Err(failure) => Next::Failed(failure),
+            Ok(Some(head)) => {
+                let chain = chain_of(queue, taken % self.size, &self.pieces);
+                self.hold = Some(Hold {
+                    chain: twin(&chain),
+                    head,
+                });
+                self.turns.take(queue);
+                Next::Chain(chain)
+            }
+        }
+    }
+
+    /// Reads the bytes of a chain from place `at` on: one access for each piece that they lie in.
+    #[tactic(auto, using(crate::proofs::Holds::held_inside, crate::proofs::Holds::held_pieces, crate::proofs::Holds::held_readable))]
+    pub fn read_chain(&mut self, chain: &Chain, at: u64, out: &mut [u8])
+        requires is_held { Contains (chains_held self.old) chain.now }
+        requires in_range { at + length out.old ≤ chain.now.readable }
+        ensures { answer_to (Read chain.now at (length out.old)) self.old ≡ (out.new, self.new) }
+    {
+        read_pieces(&mut self.mem, &self.pieces, at, out);
+    }
+
+    /// Writes into a chain from place `at` on: one access for each piece that the bytes lie in.
+    #[tactic(auto, using(crate::proofs::Holds::held_inside, crate::proofs::Holds::held_pieces, crate::proofs::Holds::held_writable))]
+    pub fn write_chain(&mut self, chain: &Chain, at: u64, bytes: &[u8])
+        requires is_held { Contains (chains_held self.old) chain.now }
+        requires in_range { at + length bytes.now ≤ chain.now.writable }
+        ensures { answer_to (Write chain.now at bytes.now) self.old ≡ (tt, self.new) }
+    {
+        write_pieces(&mut self.mem, &self.pieces, at, bytes);
+    }
+
+    /// Returns a chain into which `len` bytes were written: the used element, then the index of the used ring, one access each.
+    pub fn give_back(&mut self, chain: Chain, len: u32)
+        requires is_held { Contains (chains_held self.old) chain }
+        ensures { answer_to (Return chain len) self.old ≡ (tt, self.new) }
+    {
+        let queue = chain.queue;
+        let ring = queue_in(queue, self.size, &self.areas, self.indirect);
+        if let Some(hold) = self.hold.take() {
+            return_chain(
+                &mut self.mem,
+                &ring,
+                self.turns.at(queue).used,
+                hold.head,
+                len,
+            );
+            self.turns.give_back(queue);
+        }
+    }
+
+    /// How many chains of a queue are given and not returned, by the index of the available ring: one access. No more than the queue has
+    /// places.
+    pub fn given_of(&mut self, queue: Queue) -> u16
+        ensures exact { answer_to (Given queue) self.old ≡ (result, self.new) }
+        ensures within { result ≤ self.old.size }
+    {
+        let ring = queue_in(queue, self.size, &self.areas, self.indirect);
+        count_given(&mut self.mem, &ring, self.turns.at(queue).used)
+    }
+}
+
+// The queue in the memory.
+fn queue_in(queue: Queue, n: u16, areas: &QueueAreas, indirect: bool) -> PlainQueue
+    ensures { result ≡ record { queue = queue; n = n; areas = areas_at queue areas.now; indirect = indirect } }
+{
+    let areas = match queue {
+        Queue::Rx => areas.rx,
+        Queue::Tx => areas.tx,
+        Queue::Event => areas.event,
+    };
+    PlainQueue {
+        queue,
+        n,
+        areas,
+        indirect,
+    }
+}
+
+// The chain of these pieces: the device reads tx and writes rx and event.
+fn chain_of(queue: Queue, place: u16, pieces: &[Piece]) -> Chain
+    requires few { length pieces.now < 2 ^ 16 }
+    ensures { result ≡ chain_at queue place pieces.now }
+{
+    let total = total_len(pieces);
+    let (readable, writable) = match queue {
+        Queue::Tx => (total, 0),
+        Queue::Rx | Queue::Event => (0, total),
+    };
+    Chain {
+        queue,
+        place,
+        readable,
+        writable,
+    }
+}
+
+// The same chain once more: one for the device, one for this end.
+fn twin(chain: &Chain) -> Chain
+    ensures { result ≡ chain.now }
+{
+    Chain {
+        queue: chain.queue,
+        place: chain.place,
+        readable: chain.readable,
+        writable: chain.writable,
+    }
+}
+
+impl DeviceRing for DeviceSide {
+    ghost use Rattle.vs_ring_plain.specs.Device.{chains_held, contents_of};
+
+    ghost size = { λ d. d.size };
+
+    ghost held = { chains_held };
+
+    ghost contents = { contents_of };
+
+    fn size(&self) -> u16 {
+        self.size
+    }
+
+    #[tactic(auto, using(crate::proofs::Calls::allowed, crate::proofs::Calls::takes_by))]
+    fn next(&mut self, queue: Queue) -> Next {
+        self.take(queue)
+    }
+
+    fn readable(&self, chain: &Chain) -> u64 {
+        chain.readable
+    }
+
+    fn writable(&self, chain: &Chain) -> u64 {
+        chain.writable
+    }
+
+    #[tactic(auto, using(crate::proofs::Calls::allowed, crate::proofs::Calls::reads_by))]
+    fn read(&mut self, chain: &Chain, at: u64, out: &mut [u8]) {
+        self.read_chain(chain, at, out);
+    }
+
+    #[tactic(auto, using(crate::proofs::Calls::allowed, crate::proofs::Calls::writes_by))]
+    fn write(&mut self, chain: &Chain, at: u64, bytes: &[u8]) {
+        self.write_chain(chain, at, bytes);
+    }
+
+    #[tactic(auto, using(crate::proofs::Calls::allowed, crate::proofs::Calls::returns_by))]
+    fn done(&mut self, chain: Chain, len: u32) {
+        self.give_back(chain, len);
+    }
+
+    #[tactic(auto, using(crate::proofs::Calls::allowed, crate::proofs::Calls::counts_by))]
+    fn given(&mut self, queue: Queue) -> u16 {
+        self.given_of(queue)
+    }
+
+    // The CID doesn't lie in the guest's memory.
+    #[tactic(auto, using(crate::proofs::Calls::allowed))]
+    fn publish_cid(&mut self, _cid: u64) {}
+}
