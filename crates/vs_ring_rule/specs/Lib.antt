@@ -1,2 +1,5 @@
+pub mod Sections
 pub mod OneQueue
 pub mod Steps
+pub mod Says
+pub mod Rule
