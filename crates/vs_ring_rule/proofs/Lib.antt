@@ -1,3 +1,4 @@
 pub mod Ways
 pub mod Cores
 pub mod Says
+pub mod Pairs

@@ -256,6 +256,10 @@ marked (entry ∷ log) cid v is says = record { put = says.put; got = says.got; 
 pub driver_marks : (v : View) (cid : ℕ) → IsDriverLog v → IsDriverLog (record v { log = entries_marked cid v.log })
 driver_marks v cid says = marked v.log cid v refl says
 
+pub marked_fair : (log : Log) (cid : ℕ) → IsFairLog Driver log → IsFairLog Driver (entries_marked cid log)
+marked_fair [] cid fair = fair
+marked_fair (entry ∷ log) cid fair = fair
+
 -- What was taken was given first, so what a log says was got is what the other says was put first.
 pub got_first : {A : Type 0} (held : Page → Option A) (put got rest : List Page) (puts gots : List A) → put ≡ got ++ rest
     → puts ≡ held_in held put → gots ≡ held_in held got → puts ≡ held_in held rest ++ gots

@@ -3,3 +3,4 @@ pub mod OneQueue
 pub mod Steps
 pub mod Says
 pub mod Rule
+pub mod Moves

@@ -33,10 +33,16 @@ queue_in Rx v = v.rx
 queue_in Tx v = v.tx
 queue_in Event v = v.event
 
+-- Of two things, the new one at the queue that it is for.
+abbrev pub in_place : {A : Type 0} → Queue → Queue → A → A → A
+in_place Rx Rx new old = new
+in_place Tx Tx new old = new
+in_place Event Event new old = new
+in_place _ _ new old = old
+
 abbrev pub with_queue_in : Queue → QueueView → View → View
-with_queue_in Rx q v = record v { rx = q }
-with_queue_in Tx q v = record v { tx = q }
-with_queue_in Event q v = record v { event = q }
+with_queue_in queue q v =
+    record v { rx = in_place queue Rx q v.rx; tx = in_place queue Tx q v.tx; event = in_place queue Event q v.event }
 
 -- The slots of the three queues.
 pub record Slots : Type 0 where
@@ -50,9 +56,8 @@ homes_in Tx s = s.tx
 homes_in Event s = s.event
 
 abbrev pub with_homes_in : Queue → Homes → Slots → Slots
-with_homes_in Rx h s = record s { rx = h }
-with_homes_in Tx h s = record s { tx = h }
-with_homes_in Event h s = record s { event = h }
+with_homes_in queue h s =
+    record { rx = in_place queue Rx h s.rx; tx = in_place queue Tx h s.tx; event = in_place queue Event h s.event }
 
 abbrev pub all_slots : Slots → Homes
 all_slots s = flat (s.rx ∷ s.tx ∷ s.event ∷ [])
