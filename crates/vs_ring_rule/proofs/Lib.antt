@@ -2,3 +2,5 @@ pub mod Ways
 pub mod Cores
 pub mod Says
 pub mod Pairs
+pub mod Sections
+pub mod Places

@@ -4,3 +4,4 @@ pub mod Steps
 pub mod Says
 pub mod Rule
 pub mod Moves
+pub mod Tells
