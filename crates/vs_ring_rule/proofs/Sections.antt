@@ -6,6 +6,10 @@ use lib.ListN.{get_elem?}
 use Rattle.vs_ring_rule.specs.Sections.{flat}
 
 module _ {A : Type 0} where
+  abbrev pub tail : List (List A) → List (List A)
+  tail [] = []
+  tail (s ∷ ss) = ss
+
   -- where the section q begins
   abbrev pub base : List (List A) → ℕ → ℕ
   base ss zero = 0
