@@ -4,3 +4,5 @@ pub mod Says
 pub mod Pairs
 pub mod Sections
 pub mod Places
+pub mod Olders
+pub mod Seats
