@@ -6,3 +6,6 @@ pub mod Sections
 pub mod Places
 pub mod Olders
 pub mod Seats
+pub mod Told
+pub mod Carried
+pub mod Driver
