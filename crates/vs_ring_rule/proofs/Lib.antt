@@ -9,3 +9,4 @@ pub mod Seats
 pub mod Told
 pub mod Carried
 pub mod Driver
+pub mod Device
