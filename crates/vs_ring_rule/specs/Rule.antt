@@ -129,7 +129,7 @@ below (suc m) = m ∷ below m
 
 -- Before there are two ends: one seat, with all slots.
 abbrev pub queue_with : List ℕ → List ℕ → QueueView
-queue_with words held = record { words = words; put = []; got = []; held = held; out = None; seen = 0; entry = None }
+queue_with words held = record { words = words; put = []; got = []; held = held; out = None; seen = 0; loads = 0; entry = None }
 
 abbrev pub view_with : Owner → QueueView → View
 view_with owner q = record { owner = owner; log = []; rx = q; tx = q; event = q; heard = []; whole = false }
@@ -143,12 +143,18 @@ pub record OneEnd (n : ℕ) (t : Table) : Type 0 where
   pub words : t.words ≡ FIRST_CID ∷ replicate (9 * n + 6) 0
   pub homes : t.homes ≡ replicate (3 * n) (some None)
 
--- The two ends of rings in which nothing was put.
+-- The two ends of rings in which nothing was put, from the first seat's view.
 abbrev pub driver_view : ℕ → View
 driver_view n = view_with Driver (queue_with (replicate (2 * n + 1) 0) (below n))
 
 abbrev pub device_view : ℕ → View
 device_view n = view_with Device (queue_with (replicate (n + 1) 0) [])
+
+abbrev pub driver_from : View → View
+driver_from v = driver_view (length v.rx.held)
+
+abbrev pub device_from : View → View
+device_from v = device_view (length v.rx.held)
 
 -- The rule of shared rings of size n.
 abbrev pub Rule : ℕ → Table → Type 0

@@ -1,5 +1,5 @@
 -- What each kind of step does to the view that an end has of one queue.
-use Rattle.std.specs.Prelude.{ℕ, ◌==◌, cond, List, [], ◌∷◌, ◌++◌, Some, None, slice_set}
+use Rattle.std.specs.Prelude.{ℕ, ◌+◌, ◌==◌, cond, List, [], ◌∷◌, ◌++◌, Some, None, slice_set}
 use Rattle.vs_ring_rule.specs.declared.view.QueueView.{QueueView}
 use Rattle.vs_ring_rule.specs.OneQueue.{Page}
 
@@ -25,7 +25,7 @@ gave i x k page q = record q { words = slice_set q.words i x; put = q.put ++ pag
 
 -- It loads the other end's index, which shows g pages.
 abbrev pub looked : ℕ → QueueView → QueueView
-looked g q = record q { seen = g }
+looked g q = record q { seen = g; loads = q.loads + 1 }
 
 -- It loads the next available entry, slot k.
 abbrev pub entered : ℕ → QueueView → QueueView

@@ -31,6 +31,8 @@ pub struct QueueView {
     pub out: Option<u64>,
     /// How many pages it knows the other end to have given.
     pub seen: u64,
+    /// How often it loaded the other end's index.
+    pub loads: u64,
     /// The descriptor that it loaded from the next available entry.
     pub entry: Option<u64>,
 }
