@@ -141,6 +141,21 @@ module _ (n flags : ℕ) (h : Homes) (d e : QueueView) (c : Core n flags h d e) 
   abbrev Back : ℕ → List Page → List Page → ℕ → List ℕ → List ℕ → Homes → Type 0
   Back index put got seen slots words h' = WayOf (Returned n words) h' index put got seen slots
 
+  -- each way, where a slot that is not in it changes
+  ahead_beside : (k : ℕ) (y : maybe.Option (Option Page)) → times k ahead ≡ 0
+      → Ahead (get_or d.words (2 * n) 0) d.put e.got e.seen ahead d.words (set h k y)
+  ahead_beside k y away =
+      way_stays (Offered n flags d.words) (Offered n flags d.words) h (set h k y) (get_or d.words (2 * n) 0) d.put e.got e.seen c.forward
+      (get_or d.words (2 * n) 0) e.seen refl c.forward.not_less c.forward.not_more (same_face (Offered n flags d.words) (taken e) ahead)
+      (homes_beside h k y ahead away)
+
+  back_beside : (k : ℕ) (y : maybe.Option (Option Page)) → times k back ≡ 0
+      → Back (get_or e.words n 0) e.put d.got d.seen back e.words (set h k y)
+  back_beside k y away =
+      way_stays (Returned n e.words) (Returned n e.words) h (set h k y) (get_or e.words n 0) e.put d.got d.seen c.backward
+      (get_or e.words n 0) d.seen refl c.backward.not_less c.backward.not_more (same_face (Returned n e.words) (taken d) back)
+      (homes_beside h k y back away)
+
   -- the driver stores a word that the device may not read yet
   pub driver_stores : (i x : ℕ) → i < 2 * n → OfferStays (set d.words i x) → Core n flags h (stored i x d) e
   driver_stores i x near stays =
@@ -190,8 +205,7 @@ module _ (n flags : ℕ) (h : Homes) (d e : QueueView) (c : Core n flags h d e) 
       let stored : get_or words' (2 * n) 0 ≡ (given d + 1) % 65536 = get_or-set_same d.words (2 * n) x 0 (omega (arith, c.driver_words)) ∙ index in
       let f = (way_given (Offered n flags d.words) (Offered n flags words') h h' (get_or d.words (2 * n) 0) d.put e.got e.seen c.forward (get_or words' (2 * n) 0) k p stored
       (indexes_beside x) (homes_beside h k (some (Some p)) ahead m.1) face (set_here h k (some (Some p)) (omega (arith, m.0)))) in
-      let b = (way_stays (Returned n e.words) (Returned n e.words) h h' (get_or e.words n 0) e.put d.got d.seen c.backward (get_or e.words n 0) d.seen refl c.backward.not_less c.backward.not_more
-      (same_face (Returned n e.words) (taken d) back) (homes_beside h k (some (Some p)) back m.2)) in
+      let b = back_beside k (some (Some p)) m.2 in
       let more = length-append d.put (p ∷ []) in
       record {
         some_slot = c.some_slot;
@@ -219,8 +233,7 @@ module _ (n flags : ℕ) (h : Homes) (d e : QueueView) (c : Core n flags h d e) 
       let stored : get_or words' n 0 ≡ (given e + 1) % 65536 = get_or-set_same e.words n x 0 (omega (arith, c.device_words)) ∙ index in
       let b = (way_given (Returned n e.words) (Returned n words') h h' (get_or e.words n 0) e.put d.got d.seen c.backward (get_or words' n 0) k p stored
       (used_beside x) (homes_beside h k (some (Some p)) back m.2) face (set_here h k (some (Some p)) (omega (arith, m.0)))) in
-      let f = (way_stays (Offered n flags d.words) (Offered n flags d.words) h h' (get_or d.words (2 * n) 0) d.put e.got e.seen c.forward (get_or d.words (2 * n) 0) e.seen refl c.forward.not_less c.forward.not_more
-      (same_face (Offered n flags d.words) (taken e) ahead) (homes_beside h k (some (Some p)) ahead m.1)) in
+      let f = ahead_beside k (some (Some p)) m.1 in
       let more = length-append e.put (p ∷ []) in
       record {
         some_slot = c.some_slot;
@@ -334,8 +347,7 @@ module _ (n flags : ℕ) (h : Homes) (d e : QueueView) (c : Core n flags h d e) 
       let h' : Homes = set h k none in
       let f = (way_taken (Offered n flags d.words) (Offered n flags d.words) h h' (get_or d.words (2 * n) 0) d.put e.got e.seen c.forward x known
       (same_face (Offered n flags d.words) (suc (taken e)) x.later_slots) (homes_beside h k none x.later_slots gone)) in
-      let b = (way_stays (Returned n e.words) (Returned n e.words) h h' (get_or e.words n 0) e.put d.got d.seen c.backward (get_or e.words n 0) d.seen refl c.backward.not_less c.backward.not_more
-      (same_face (Returned n e.words) (taken d) back) (homes_beside h k none back m.2)) in
+      let b = back_beside k none m.2 in
       let more = length-append e.got (p ∷ []) in (
         p,
         record {
@@ -380,8 +392,7 @@ module _ (n flags : ℕ) (h : Homes) (d e : QueueView) (c : Core n flags h d e) 
       let h' : Homes = set h k none in
       let b = (way_taken (Returned n e.words) (Returned n e.words) h h' (get_or e.words n 0) e.put d.got d.seen c.backward x known
       (same_face (Returned n e.words) (suc (taken d)) x.later_slots) (homes_beside h k none x.later_slots gone)) in
-      let f = (way_stays (Offered n flags d.words) (Offered n flags d.words) h h' (get_or d.words (2 * n) 0) d.put e.got e.seen c.forward (get_or d.words (2 * n) 0) e.seen refl c.forward.not_less c.forward.not_more
-      (same_face (Offered n flags d.words) (taken e) ahead) (homes_beside h k none ahead m.2)) in
+      let f = ahead_beside k none m.2 in
       let more = length-append d.got (p ∷ []) in (
         k,
         p,
@@ -407,13 +418,12 @@ module _ (n flags : ℕ) (h : Homes) (d e : QueueView) (c : Core n flags h d e) 
       )
 
   -- an empty slot comes out, and goes home
-  pub driver_lifts : (k : ℕ) → 0 < times k d.held → d.out ≡ None → Core n flags (set h k none) (lifted k d) e
-  driver_lifts k mine out =
+  driver_outs : (k : ℕ) (y : maybe.Option (Option Page)) (out : Option ℕ) → 0 < times k d.held → Empty (set h k y) d.held out
+      → Core n flags (set h k y) (record d { out = out }) e
+  driver_outs k y out mine empty =
       let m = driver_slot k mine in
-      let f = way_stays (Offered n flags d.words) (Offered n flags d.words) h (set h k none) (get_or d.words (2 * n) 0) d.put e.got e.seen c.forward (get_or d.words (2 * n) 0) e.seen refl
-      c.forward.not_less c.forward.not_more (same_face (Offered n flags d.words) (taken e) ahead) (homes_beside h k none ahead m.1) in
-      let b = way_stays (Returned n e.words) (Returned n e.words) h (set h k none) (get_or e.words n 0) e.put d.got d.seen c.backward (get_or e.words n 0) d.seen refl
-      c.backward.not_less c.backward.not_more (same_face (Returned n e.words) (taken d) back) (homes_beside h k none back m.2) in
+      let f = ahead_beside k y m.1 in
+      let b = back_beside k y m.2 in
       record {
         some_slot = c.some_slot;
         driver_words = c.driver_words;
@@ -421,72 +431,43 @@ module _ (n flags : ℕ) (h : Homes) (d e : QueueView) (c : Core n flags h d e) 
         forward = f.0;
         backward = b.0;
         owned = λ j. omega (arith, c.owned j, ap (times j) f.1, ap (times j) b.1);
-        driver_empty = empty_lifts h k d.held d.out out c.driver_empty;
-        device_empty = empty_beside h k none e.held e.out m.3 c.device_empty;
+        driver_empty = empty;
+        device_empty = empty_beside h k y e.held e.out m.3 c.device_empty;
         room = c.room;
         behind = c.behind;
         entry = subst (EntryIs e.entry) (sym f.1) c.entry;
       }
+
+  device_outs : (k : ℕ) (y : maybe.Option (Option Page)) (out : Option ℕ) → 0 < times k e.held → Empty (set h k y) e.held out
+      → Core n flags (set h k y) d (record e { out = out })
+  device_outs k y out mine empty =
+      let m = device_slot k mine in
+      let f = ahead_beside k y m.1 in
+      let b = back_beside k y m.2 in
+      record {
+        some_slot = c.some_slot;
+        driver_words = c.driver_words;
+        device_words = c.device_words;
+        forward = f.0;
+        backward = b.0;
+        owned = λ j. omega (arith, c.owned j, ap (times j) f.1, ap (times j) b.1);
+        driver_empty = empty_beside h k y d.held d.out m.3 c.driver_empty;
+        device_empty = empty;
+        room = c.room;
+        behind = c.behind;
+        entry = subst (EntryIs e.entry) (sym f.1) c.entry;
+      }
+
+  pub driver_lifts : (k : ℕ) → 0 < times k d.held → d.out ≡ None → Core n flags (set h k none) (lifted k d) e
+  driver_lifts k mine out = driver_outs k none (Some k) mine (empty_lifts h k d.held d.out out c.driver_empty)
 
   pub driver_lays : (k : ℕ) → 0 < times k d.held → length h ≡ n → d.out ≡ Some k → Core n flags (set h k (some None)) (laid d) e
   driver_lays k mine wide out =
-      let m = driver_slot k mine in
-      let f = way_stays (Offered n flags d.words) (Offered n flags d.words) h (set h k (some None)) (get_or d.words (2 * n) 0) d.put e.got e.seen c.forward (get_or d.words (2 * n) 0) e.seen refl
-      c.forward.not_less c.forward.not_more (same_face (Offered n flags d.words) (taken e) ahead) (homes_beside h k (some None) ahead m.1) in
-      let b = way_stays (Returned n e.words) (Returned n e.words) h (set h k (some None)) (get_or e.words n 0) e.put d.got d.seen c.backward (get_or e.words n 0) d.seen refl
-      c.backward.not_less c.backward.not_more (same_face (Returned n e.words) (taken d) back) (homes_beside h k (some None) back m.2) in
-      record {
-        some_slot = c.some_slot;
-        driver_words = c.driver_words;
-        device_words = c.device_words;
-        forward = f.0;
-        backward = b.0;
-        owned = λ j. omega (arith, c.owned j, ap (times j) f.1, ap (times j) b.1);
-        driver_empty = empty_lays h k d.held d.out (omega (arith, m.0)) out c.driver_empty;
-        device_empty = empty_beside h k (some None) e.held e.out m.3 c.device_empty;
-        room = c.room;
-        behind = c.behind;
-        entry = subst (EntryIs e.entry) (sym f.1) c.entry;
-      }
+      driver_outs k (some None) None mine (empty_lays h k d.held d.out (omega (arith, (driver_slot k mine).0)) out c.driver_empty)
 
   pub device_lifts : (k : ℕ) → 0 < times k e.held → e.out ≡ None → Core n flags (set h k none) d (lifted k e)
-  device_lifts k mine out =
-      let m = device_slot k mine in
-      let f = way_stays (Offered n flags d.words) (Offered n flags d.words) h (set h k none) (get_or d.words (2 * n) 0) d.put e.got e.seen c.forward (get_or d.words (2 * n) 0) e.seen refl
-      c.forward.not_less c.forward.not_more (same_face (Offered n flags d.words) (taken e) ahead) (homes_beside h k none ahead m.1) in
-      let b = way_stays (Returned n e.words) (Returned n e.words) h (set h k none) (get_or e.words n 0) e.put d.got d.seen c.backward (get_or e.words n 0) d.seen refl
-      c.backward.not_less c.backward.not_more (same_face (Returned n e.words) (taken d) back) (homes_beside h k none back m.2) in
-      record {
-        some_slot = c.some_slot;
-        driver_words = c.driver_words;
-        device_words = c.device_words;
-        forward = f.0;
-        backward = b.0;
-        owned = λ j. omega (arith, c.owned j, ap (times j) f.1, ap (times j) b.1);
-        device_empty = empty_lifts h k e.held e.out out c.device_empty;
-        driver_empty = empty_beside h k none d.held d.out m.3 c.driver_empty;
-        room = c.room;
-        behind = c.behind;
-        entry = subst (EntryIs e.entry) (sym f.1) c.entry;
-      }
+  device_lifts k mine out = device_outs k none (Some k) mine (empty_lifts h k e.held e.out out c.device_empty)
 
   pub device_lays : (k : ℕ) → 0 < times k e.held → length h ≡ n → e.out ≡ Some k → Core n flags (set h k (some None)) d (laid e)
   device_lays k mine wide out =
-      let m = device_slot k mine in
-      let f = way_stays (Offered n flags d.words) (Offered n flags d.words) h (set h k (some None)) (get_or d.words (2 * n) 0) d.put e.got e.seen c.forward (get_or d.words (2 * n) 0) e.seen refl
-      c.forward.not_less c.forward.not_more (same_face (Offered n flags d.words) (taken e) ahead) (homes_beside h k (some None) ahead m.1) in
-      let b = way_stays (Returned n e.words) (Returned n e.words) h (set h k (some None)) (get_or e.words n 0) e.put d.got d.seen c.backward (get_or e.words n 0) d.seen refl
-      c.backward.not_less c.backward.not_more (same_face (Returned n e.words) (taken d) back) (homes_beside h k (some None) back m.2) in
-      record {
-        some_slot = c.some_slot;
-        driver_words = c.driver_words;
-        device_words = c.device_words;
-        forward = f.0;
-        backward = b.0;
-        owned = λ j. omega (arith, c.owned j, ap (times j) f.1, ap (times j) b.1);
-        device_empty = empty_lays h k e.held e.out (omega (arith, m.0)) out c.device_empty;
-        driver_empty = empty_beside h k (some None) d.held d.out m.3 c.driver_empty;
-        room = c.room;
-        behind = c.behind;
-        entry = subst (EntryIs e.entry) (sym f.1) c.entry;
-      }
+      device_outs k (some None) None mine (empty_lays h k e.held e.out (omega (arith, (device_slot k mine).0)) out c.device_empty)

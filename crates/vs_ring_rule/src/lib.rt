@@ -3,4 +3,5 @@
 
 pub use view::{FIRST_CID, Owner, QueueView, View};
 
+pub mod laws;
 pub mod view;
