@@ -1,5 +1,6 @@
 -- Each kind of step of the device is one that the table allows under the rule, and tells what specs/Tells.antt says.
-use Rattle.std.proofs.Common.{◌≡◌, ℕ, ◌+◌, ◌*◌, ◌%◌, ◌<◌, List, [], ◌∷◌, ◌++◌, length, get_or, set, sym, refl, ap, ◌∙◌, subst, arith, length-set}
+use Rattle.std.proofs.Common.{◌≡◌, ℕ, ◌+◌, ◌*◌, ◌%◌, ◌<◌, List, [], ◌∷◌, get_or, set, sym, refl, ap, ◌∙◌, subst, arith}
+use Rattle.std.proofs.Common.{length-set}
 use Rattle.std.proofs.lemmas.List.{set-get_or}
 use Rattle.std.proofs.Math.Nat.{mod-lt}
 use Rattle.std.specs.Prelude.{Option, Some, None}
@@ -13,16 +14,18 @@ use Rattle.vs_page.specs.Log.{Log}
 use Rattle.vs_page.specs.Open.{cid_of}
 use Rattle.vs_page.specs.declared.log.LogEntry.TheVariants.{Mark}
 use Rattle.vs_ring_rule.specs.declared.view.TheConstants.{FIRST_CID}
-use Rattle.vs_ring_port.specs.EndLog.{entries_returned, entries_taken}
+use Rattle.vs_ring_port.specs.EndLog.{entries_returned}
 use Rattle.vs_ring_port.specs.declared.queue.Queue.{Queue}
 use Rattle.vs_ring_rule.specs.declared.view.Owner.TheVariants.{Device}
 use Rattle.vs_ring_rule.specs.declared.view.QueueView.{QueueView}
 use Rattle.vs_ring_rule.specs.declared.view.View.{View}
-use Rattle.vs_ring_rule.specs.OneQueue.{Page, given, taken, descriptor, element, times}
+use Rattle.vs_ring_rule.specs.OneQueue.{Page, given, taken, element, times}
 use Rattle.vs_ring_rule.specs.Steps.{stored, lifted, laid, gave, looked, entered, took}
-use Rattle.vs_ring_rule.specs.Rule.{Table, Seated, Slots, homes_in, with_homes_in, all_slots, queue_in, with_queue_in, flags_of, all_words, Rule}
+use Rattle.vs_ring_rule.specs.Rule.{Table, Seated, homes_in, with_homes_in, all_slots, queue_in, with_queue_in, flags_of}
+use Rattle.vs_ring_rule.specs.Rule.{all_words, Rule}
 use Rattle.vs_ring_rule.specs.Moves.{after_lift, after_lay, after_look, after_entry, device_gave, device_took, device_reset}
-use Rattle.vs_ring_rule.specs.Tells.{driver_base, device_base, slots_base, at_driver, at_device, at_cid, slot_in, device_looks, device_reads, device_takes, device_returns, device_gives, device_resets, lays}
+use Rattle.vs_ring_rule.specs.Tells.{driver_base, device_base, slots_base, at_driver, at_device, at_cid, slot_in, device_looks}
+use Rattle.vs_ring_rule.specs.Tells.{device_reads, device_takes, device_returns, device_gives, device_resets, lays}
 use Rattle.vs_ring_rule.proofs.Cores as core
 use Rattle.vs_ring_rule.proofs.Pairs as pair
 use Rattle.vs_ring_rule.proofs.Places as place
@@ -49,12 +52,14 @@ module _ (n id : ℕ) (v : View) (t : Table) (p : DeviceSits n id v t) where
   -- what lies in a slot, and a change of it
   home_is : (queue : Queue) (k : ℕ) → k < n → get_elem? t.homes (slots_base n queue + k) ≡ get_elem? (homes_in queue p.slots) k
   home_is queue k near =
-      ap (λ (h : List (maybe.Option (Option Page))). get_elem? h (slots_base n queue + k)) p.homes ∙ place.slot_home n p.slots p.pair.size queue k near
+      ap (λ (h : List (maybe.Option (Option Page))). get_elem? h (slots_base n queue + k)) p.homes
+      ∙ place.slot_home n p.slots p.pair.size queue k near
 
   change_is : (queue : Queue) (k : ℕ) (y : maybe.Option (Option Page)) → k < n
       → set t.homes (slots_base n queue + k) y ≡ all_slots (with_homes_in queue (set (homes_in queue p.slots) k y) p.slots)
   change_is queue k y near =
-      ap (λ (h : List (maybe.Option (Option Page))). set h (slots_base n queue + k) y) p.homes ∙ place.set_home n p.slots p.pair.size queue k y near
+      ap (λ (h : List (maybe.Option (Option Page))). set h (slots_base n queue + k) y) p.homes
+      ∙ place.set_home n p.slots p.pair.size queue k y near
 
   -- the driver's word as the table has it
   word_is : (queue : Queue) (i : ℕ) → i < 2 * n + 1
@@ -86,7 +91,8 @@ counts n id queue me mine t law wide at _ =
       w,
       keeps,
       tt,
-      device_moved n id v w t (set t.words i r) t.homes p.slots p wide mine (load_is n id v t p queue i (looked g q) v.log refl refl) p.homes
+      device_moved n id v w t (set t.words i r) t.homes p.slots p wide mine
+          (load_is n id v t p queue i (looked g q) v.log refl refl) p.homes
           (older_self v.log) p.device_heard (pair.device_looks n p.slots p.driver v p.pair queue),
       driver_told (device_looks queue) queue n (2 * n) 0 me r (w, me.1) (
         g,
@@ -118,7 +124,8 @@ reads n id queue me mine known t law wide at _ =
       w,
       keeps,
       tt,
-      device_moved n id v w t (set t.words i r) t.homes p.slots p wide mine (load_is n id v t p queue i (entered x.0 q) v.log refl refl) p.homes
+      device_moved n id v w t (set t.words i r) t.homes p.slots p wide mine
+          (load_is n id v t p queue i (entered x.0 q) v.log refl refl) p.homes
           (older_self v.log) p.device_heard x.1.pair,
       driver_told (device_reads queue) queue n g 0 me r (w, me.1)
           (omega (arith, word, x.1.near), ap (λ (k : ℕ). (after_entry queue k v, me.1)) (sym word)),
@@ -143,7 +150,8 @@ collects n id queue me k mine known entry in_it t law wide at _ =
       takes j (Some page),
       home_is n id v t p queue k x.1.near ∙ x.1.home,
       device_moved n id v w t (set t.words i r) (set t.homes j none) (with_homes_in queue (set (homes_in queue p.slots) k none) p.slots) p
-          (length-set t.homes j none ∙ wide) mine (load_is n id v t p queue i (took k page q) w.log refl (cid_taken FIRST_CID queue page v.log))
+          (length-set t.homes j none ∙ wide) mine (load_is n id v t p queue i (took k page q) w.log refl
+          (cid_taken FIRST_CID queue page v.log))
           (change_is n id v t p queue k none x.1.near) (older_taken queue page v.log) p.device_heard x.1.pair,
       driver_told (device_takes queue) queue n k 0 me r (w, (j, Some page) ∷ me.1) (
         page,
@@ -202,7 +210,8 @@ returns n id queue me x k page more mine has held out word index holds fair t la
       gives,
       tt,
       device_moved n id v w t (set t.words i x) (set t.homes j (some (Some page)))
-          (with_homes_in queue (set (homes_in queue p.slots) k (some (Some page))) p.slots) p (length-set t.homes j (some (Some page)) ∙ wide)
+          (with_homes_in queue (set (homes_in queue p.slots) k (some (Some page))) p.slots) p
+          (length-set t.homes j (some (Some page)) ∙ wide)
           mine (store_is n id v t p queue n x (gave n x k page q) w.log refl (omega arith) (cid_returned FIRST_CID queue page v.log))
           (change_is n id v t p queue k (some (Some page)) slot.0) (older_returned queue page v.log) p.device_heard
           (pair.device_gives n p.slots p.driver v p.pair queue k x page held out word index holds fair),

@@ -1,5 +1,6 @@
 -- Each kind of step of the driver is one that the table allows under the rule, and tells what specs/Tells.antt says.
-use Rattle.std.proofs.Common.{◌≡◌, ℕ, ◌+◌, ◌*◌, ◌%◌, ◌<◌, List, [], ◌∷◌, ◌++◌, length, get_or, set, sym, refl, ap, ◌∙◌, subst, arith, length-set}
+use Rattle.std.proofs.Common.{◌≡◌, ℕ, ◌+◌, ◌*◌, ◌%◌, ◌<◌, List, [], ◌∷◌, get_or, set, sym, refl, ap, ◌∙◌, subst, arith}
+use Rattle.std.proofs.Common.{length-set}
 use Rattle.std.proofs.lemmas.List.{set-get_or}
 use Rattle.std.proofs.Math.Nat.{mod-lt}
 use Rattle.std.specs.Prelude.{Option, Some, None}
@@ -10,16 +11,18 @@ use Rattle.atomic_table.specs.Table.{step, Act, keeps, takes, gives, stepped, ca
 use Rattle.vs_page.specs.Fair.{IsFairLog}
 use Rattle.vs_page.specs.Log as log
 use Rattle.vs_page.specs.Log.{Log}
-use Rattle.vs_ring_port.specs.EndLog.{entries_published, entries_reaped}
+use Rattle.vs_ring_port.specs.EndLog.{entries_published}
 use Rattle.vs_ring_port.specs.declared.queue.Queue.{Queue}
 use Rattle.vs_ring_rule.specs.declared.view.Owner.TheVariants.{Driver}
 use Rattle.vs_ring_rule.specs.declared.view.QueueView.{QueueView}
 use Rattle.vs_ring_rule.specs.declared.view.View.{View}
-use Rattle.vs_ring_rule.specs.OneQueue.{Page, given, taken, descriptor, element, times}
+use Rattle.vs_ring_rule.specs.OneQueue.{Page, given, taken, descriptor, times}
 use Rattle.vs_ring_rule.specs.Steps.{stored, lifted, laid, gave, looked, took}
-use Rattle.vs_ring_rule.specs.Rule.{Table, Seated, Slots, homes_in, with_homes_in, all_slots, queue_in, with_queue_in, flags_of, all_words, Rule}
+use Rattle.vs_ring_rule.specs.Rule.{Table, Seated, homes_in, with_homes_in, all_slots, queue_in, with_queue_in, flags_of}
+use Rattle.vs_ring_rule.specs.Rule.{all_words, Rule}
 use Rattle.vs_ring_rule.specs.Moves.{after_store, after_lift, after_lay, after_look, driver_gave, driver_took, driver_loaded}
-use Rattle.vs_ring_rule.specs.Tells.{driver_base, device_base, slots_base, at_driver, at_device, at_cid, driver_describes, driver_enters, driver_gives, driver_looks, driver_takes, driver_loads, lays}
+use Rattle.vs_ring_rule.specs.Tells.{driver_base, device_base, slots_base, at_driver, at_device, at_cid, driver_describes, driver_enters}
+use Rattle.vs_ring_rule.specs.Tells.{driver_gives, driver_looks, driver_takes, driver_loads, lays}
 use Rattle.vs_ring_rule.proofs.Cores as core
 use Rattle.vs_ring_rule.proofs.Pairs as pair
 use Rattle.vs_ring_rule.proofs.Places as place
@@ -44,12 +47,14 @@ module _ (n id : ℕ) (v : View) (t : Table) (p : DriverSits n id v t) where
   -- what lies in a slot, and a change of it
   home_is : (queue : Queue) (k : ℕ) → k < n → get_elem? t.homes (slots_base n queue + k) ≡ get_elem? (homes_in queue p.slots) k
   home_is queue k near =
-      ap (λ (h : List (maybe.Option (Option Page))). get_elem? h (slots_base n queue + k)) p.homes ∙ place.slot_home n p.slots p.pair.size queue k near
+      ap (λ (h : List (maybe.Option (Option Page))). get_elem? h (slots_base n queue + k)) p.homes
+      ∙ place.slot_home n p.slots p.pair.size queue k near
 
   change_is : (queue : Queue) (k : ℕ) (y : maybe.Option (Option Page)) → k < n
       → set t.homes (slots_base n queue + k) y ≡ all_slots (with_homes_in queue (set (homes_in queue p.slots) k y) p.slots)
   change_is queue k y near =
-      ap (λ (h : List (maybe.Option (Option Page))). set h (slots_base n queue + k) y) p.homes ∙ place.set_home n p.slots p.pair.size queue k y near
+      ap (λ (h : List (maybe.Option (Option Page))). set h (slots_base n queue + k) y) p.homes
+      ∙ place.set_home n p.slots p.pair.size queue k y near
 
   -- the device's word as the table has it
   word_is : (queue : Queue) (i : ℕ) → i < n + 1 → get_or t.words (device_base n queue + i) 0 ≡ get_or (queue_in queue p.device).words i 0
@@ -78,7 +83,8 @@ describes n id queue me k x mine has in_it t law wide at _ =
       takes (slots_base n queue + k) None,
       home_is n id v t p queue k slot.0 ∙ c.driver_empty k has (λ (is : q.out ≡ Some k). absurd cc),
       driver_moved n id v w t (set t.words (driver_base n queue + k) x) (set t.homes (slots_base n queue + k) none)
-          (with_homes_in queue (set (homes_in queue p.slots) k none) p.slots) p (length-set t.homes (slots_base n queue + k) none ∙ wide) mine
+          (with_homes_in queue (set (homes_in queue p.slots) k none) p.slots) p
+          (length-set t.homes (slots_base n queue + k) none ∙ wide) mine
           (store_is n id v t p queue k x (lifted k (stored k x q)) v.log refl (omega (arith, slot.0)))
           (change_is n id v t p queue k none slot.0) p.stands (older_self v.log) p.driver_heard
           (pair.driver_describes n p.slots v p.device p.pair queue k x has in_it),
@@ -129,7 +135,8 @@ publishes n id queue me x k page more mine has held out entry word index free fa
       gives,
       tt,
       driver_moved n id v w t (set t.words i x) (set t.homes j (some (Some page)))
-          (with_homes_in queue (set (homes_in queue p.slots) k (some (Some page))) p.slots) p (length-set t.homes j (some (Some page)) ∙ wide)
+          (with_homes_in queue (set (homes_in queue p.slots) k (some (Some page))) p.slots) p
+          (length-set t.homes j (some (Some page)) ∙ wide)
           mine (store_is n id v t p queue (2 * n) x (gave (2 * n) x k page q) w.log refl (omega arith))
           (change_is n id v t p queue k (some (Some page)) slot.0) p.stands (older_published queue page v.log) p.driver_heard
           (pair.driver_gives n p.slots v p.device p.pair queue k x page held out entry word index free fair),
@@ -156,7 +163,8 @@ counts n id queue me mine t law wide at _ =
       w,
       keeps,
       tt,
-      driver_moved n id v w t (set t.words i r) t.homes p.slots p wide mine (load_is n id v t p queue i (looked g q) v.log refl) p.homes p.stands
+      driver_moved n id v w t (set t.words i r) t.homes p.slots p wide mine
+          (load_is n id v t p queue i (looked g q) v.log refl) p.homes p.stands
           (older_self v.log) p.driver_heard (pair.driver_looks n p.slots v p.device p.pair queue),
       device_told (driver_looks queue) queue n n 0 me r (w, me.1) (
         g,

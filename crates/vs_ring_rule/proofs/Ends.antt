@@ -1,5 +1,6 @@
 -- How the two ends come to be: the first seat is split.
-use Rattle.std.proofs.Common.{◌≡◌, ℕ, zero, suc, ◌+◌, ◌*◌, ◌<◌, ◌⊎◌, inl, inr, cond, ltb, List, [], ◌∷◌, ◌++◌, map, length, get_or, set, replicate, sym, refl, ap, ◌∙◌, subst, arith}
+use Rattle.std.proofs.Common.{◌≡◌, ℕ, zero, suc, ◌+◌, ◌*◌, ◌<◌, ◌⊎◌, inl, inr, cond, ltb, List, [], ◌∷◌, ◌++◌, map, length, get_or, set}
+use Rattle.std.proofs.Common.{replicate, sym, refl, ap, ◌∙◌, subst, arith}
 use Rattle.std.proofs.lemmas.List.{replicate-append-replicate, length-replicate}
 use Rattle.std.proofs.lemmas.Bool.Decides.{nat_tests}
 use Rattle.std.specs.Prelude.{Option, None}
@@ -9,13 +10,12 @@ use lib.ListN.{get_elem?}
 use Rattle.atomic_table.specs.Table.{Splits, opening}
 use Rattle.vs_ring_port.specs.declared.queue.Queue.{Queue}
 use Rattle.vs_ring_port.specs.declared.queue.Queue.TheVariants.{Rx, Tx, Event}
-use Rattle.vs_ring_rule.specs.declared.view.Owner.TheVariants.{Maker, Driver, Device}
+use Rattle.vs_ring_rule.specs.declared.view.Owner.TheVariants.{Maker}
 use Rattle.vs_ring_rule.specs.declared.view.TheConstants.{FIRST_CID}
-use Rattle.vs_ring_rule.specs.declared.view.QueueView.{QueueView}
 use Rattle.vs_ring_rule.specs.declared.view.View.{View}
 use Rattle.vs_ring_rule.specs.OneQueue.{Page, Homes, times, Core}
-use Rattle.vs_ring_rule.specs.Rule.{Table, Slots, homes_in, queue_in, flags_of, all_slots, all_words, Pair, OneEnd, TwoEnds, Rule, below, queue_with, first_view, driver_view, device_view, driver_from, device_from}
-use Rattle.vs_ring_rule.specs.Sections.{flat}
+use Rattle.vs_ring_rule.specs.Rule.{Table, Slots, homes_in, queue_in, flags_of, all_slots, all_words, Pair, OneEnd, TwoEnds, Rule, below}
+use Rattle.vs_ring_rule.specs.Rule.{queue_with, first_view, driver_view, device_view, driver_from, device_from}
 use Rattle.vs_ring_rule.proofs.Ways.{counted}
 use Rattle.vs_ring_rule.proofs.Olders.{older_self}
 use Rattle.vs_ring_rule.proofs.Seats.{no_maker, only_one}

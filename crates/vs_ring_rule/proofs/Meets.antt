@@ -1,5 +1,6 @@
 -- Copies of a log, and the join of the two ends.
-use Rattle.std.proofs.Common.{◌≡◌, ◌≢◌, ℕ, zero, suc, ◌*◌, inl, inr, Bool, true, false, cond, List, [], ◌∷◌, ◌++◌, get_or, set, sym, refl, ap, ◌∙◌, subst, arith, append_assoc}
+use Rattle.std.proofs.Common.{◌≡◌, ◌≢◌, ℕ, zero, suc, ◌*◌, inl, inr, Bool, true, false, cond, List, [], ◌∷◌, ◌++◌, get_or, set, sym, refl}
+use Rattle.std.proofs.Common.{ap, ◌∙◌, subst, arith, append_assoc}
 use Rattle.std.proofs.lemmas.List.{set-get_or}
 use mathlib.Core.Option.{none, some, some-injective}
 use lib.ListN.{get_elem?}
@@ -16,7 +17,6 @@ use Rattle.vs_ring_rule.specs.declared.view.Owner.{Owner}
 use Rattle.vs_ring_rule.specs.declared.view.Owner.TheVariants.{Driver, Device, DriverCopy, DeviceCopy, Nobody}
 use Rattle.vs_ring_rule.specs.declared.view.View.{View}
 use Rattle.vs_ring_rule.specs.OneQueue.{Core}
-use Rattle.vs_ring_rule.specs.Says.{IsDriverLog, IsDeviceLog}
 use Rattle.vs_ring_rule.specs.Rule.{Seated, Slots, homes_in, queue_in, flags_of, Pair, IsOlder, IsCopy, Copies, Stands, Rule}
 use Rattle.vs_ring_rule.specs.Meets.{nobody_view, copy_owner, copy_of, told, joined, knows, ties}
 use Rattle.vs_ring_rule.specs.Tells.{at_cid}
@@ -91,7 +91,8 @@ record Beside (views others : List View) (d e : View) (other : ℕ) (w : View) :
   other_is : other ≡ suc (suc index)
   copy : IsCopy w.owner w.log d e
 
-beside : (a b : View) (others : List View) (d e : View) (other : ℕ) (w : View) → Copies others d e → a.owner ≢ w.owner → b.owner ≢ w.owner → get_elem? (a ∷ b ∷ others) other ≡ some w → Beside (a ∷ b ∷ others) others d e other w
+beside : (a b : View) (others : List View) (d e : View) (other : ℕ) (w : View) → Copies others d e → a.owner ≢ w.owner
+    → b.owner ≢ w.owner → get_elem? (a ∷ b ∷ others) other ≡ some w → Beside (a ∷ b ∷ others) others d e other w
 beside a b others d e zero w c not_a not_b at = absurd (not_a (ap (λ (z : View). z.owner) (some-injective a w at)))
 beside a b others d e (suc zero) w c not_a not_b at = absurd (not_b (ap (λ (z : View). z.owner) (some-injective b w at)))
 beside a b others d e (suc (suc i)) w c not_a not_b at = record { index = i; other_is = omega arith; copy = copy_there others d e i w c at }
@@ -118,7 +119,12 @@ driver_hears : (n : ℕ) (slots : Slots) (v e : View) (l : Log) (b : Bool) → P
 driver_hears n slots v e l b p = record {
   size = p.size;
   core = driver_cores n slots v e l b p;
-  driver_says = record { put = p.driver_says.put; got = p.driver_says.got; events = p.driver_says.events; no_event = p.driver_says.no_event };
+  driver_says = record {
+    put = p.driver_says.put;
+    got = p.driver_says.got;
+    events = p.driver_says.events;
+    no_event = p.driver_says.no_event;
+  };
   device_says = p.device_says;
   driver_fair = p.driver_fair;
   device_fair = p.device_fair;
@@ -130,7 +136,12 @@ device_hears n slots d v l b p = record {
   size = p.size;
   core = device_cores n slots d v l b p;
   driver_says = p.driver_says;
-  device_says = record { put = p.device_says.put; got = p.device_says.got; events = p.device_says.events; no_event = p.device_says.no_event };
+  device_says = record {
+    put = p.device_says.put;
+    got = p.device_says.got;
+    events = p.device_says.events;
+    no_event = p.device_says.no_event;
+  };
   driver_fair = p.driver_fair;
   device_fair = p.device_fair;
 }
@@ -210,11 +221,15 @@ told_device n id v other w mine still_open is t law at apart there =
     )
 
 -- where the device's seat stands
-device_there : (a x d e : View) (others : List View) (other : ℕ) (w : View) → a.owner ≡ Driver → Stands d e x → Copies others d e → w.owner ≡ Device → get_elem? (a ∷ x ∷ others) other ≡ some w → (other ≡ 1) × (w ≡ e)
-device_there a x d e others zero w is_a stands copies is at = let same : a.owner ≡ w.owner = ap (λ (z : View). z.owner) (some-injective a w at) in absurd cc
+device_there : (a x d e : View) (others : List View) (other : ℕ) (w : View) → a.owner ≡ Driver → Stands d e x → Copies others d e
+    → w.owner ≡ Device → get_elem? (a ∷ x ∷ others) other ≡ some w → (other ≡ 1) × (w ≡ e)
+device_there a x d e others zero w is_a stands copies is at = let same : a.owner ≡ w.owner = ap (λ (z : View). z.owner)
+    (some-injective a w at) in absurd cc
 device_there a x d e others (suc zero) w is_a (inl two) copies is at = (omega arith, sym (some-injective x w at) ∙ two.0)
-device_there a x d e others (suc zero) w is_a (inr one) copies is at = let same : x.owner ≡ w.owner = ap (λ (z : View). z.owner) (some-injective x w at) in let r = one.0 in absurd cc
-device_there a x d e others (suc (suc i)) w is_a stands copies is at = absurd ((not_end w.owner w.log d e (copy_there others d e i w copies at)).1 is)
+device_there a x d e others (suc zero) w is_a (inr one) copies is at = let same : x.owner ≡ w.owner = ap (λ (z : View). z.owner)
+    (some-injective x w at) in let r = one.0 in absurd cc
+device_there a x d e others (suc (suc i)) w is_a stands copies is at = absurd
+    ((not_end w.owner w.log d e (copy_there others d e i w copies at)).1 is)
 
 -- the device's seat comes into the driver's
 pub joins : (n id : ℕ) (v : View) (other : ℕ) (w : View) → v.owner ≡ Driver → w.owner ≡ Device

@@ -1,23 +1,23 @@
 -- Each kind of step keeps what holds of the two ends.
-use Rattle.std.proofs.Common.{◌≡◌, ℕ, ◌+◌, ◌*◌, ◌%◌, ◌^◌, ◌<◌, List, [], ◌∷◌, ◌++◌, length, get_or, set, sym, refl, ap, ◌∙◌, subst, arith, length-set, length-append}
+use Rattle.std.proofs.Common.{◌≡◌, ℕ, ◌+◌, ◌*◌, ◌%◌, ◌<◌, [], ◌∷◌, length, get_or, set, refl, ◌∙◌, subst, arith}
+use Rattle.std.proofs.Common.{length-set}
 use Rattle.std.proofs.Math.Nat.{mod-lt}
-use Rattle.std.specs.Prelude.{Option, Some, None}
+use Rattle.std.specs.Prelude.{Some, None}
 use mathlib.Core.Option.{some, none}
 use lib.ListN.{get_elem?}
 use Rattle.vs_page.specs.Fair.{IsFairLog}
 use Rattle.vs_page.specs.Log as log
 use Rattle.vs_page.specs.Log.{Log, HasGotAll}
-use Rattle.vs_page.specs.declared.log.LogEntry.TheVariants.{Mark}
-use Rattle.vs_ring_port.specs.EndLog.{entries_published, entries_reaped, entries_marked, entries_taken, entries_returned}
+use Rattle.vs_ring_port.specs.EndLog.{entries_published, entries_reaped, entries_taken, entries_returned}
 use Rattle.vs_ring_port.specs.declared.queue.Queue.{Queue}
 use Rattle.vs_ring_port.specs.declared.queue.Queue.TheVariants.{Rx, Tx, Event}
 use Rattle.vs_ring_rule.specs.declared.view.QueueView.{QueueView}
 use Rattle.vs_ring_rule.specs.declared.view.View.{View}
 use Rattle.vs_ring_rule.specs.OneQueue.{Page, Homes, Core, given, taken, descriptor, element, times}
-use Rattle.vs_ring_rule.specs.Says.{IsDriverLog, IsDeviceLog}
 use Rattle.vs_ring_rule.specs.Steps.{stored, lifted, laid, gave, looked, entered, took}
 use Rattle.vs_ring_rule.specs.Rule.{Slots, homes_in, with_homes_in, queue_in, with_queue_in, flags_of, Pair}
-use Rattle.vs_ring_rule.specs.Moves.{after_store, after_lift, after_lay, after_look, after_entry, driver_gave, device_gave, driver_took, device_took, device_reset, driver_loaded}
+use Rattle.vs_ring_rule.specs.Moves.{after_store, after_lift, after_lay, after_look, after_entry, driver_gave, device_gave, driver_took}
+use Rattle.vs_ring_rule.specs.Moves.{device_took, device_reset, driver_loaded}
 use Rattle.vs_ring_rule.proofs.Cores as core
 use Rattle.vs_ring_rule.proofs.Says as says
 
@@ -40,7 +40,8 @@ Cores n slots driver device = (q : Queue) → Core n (flags_of q) (homes_in q sl
 -- a step on one queue leaves the others
 driver_cores : (n : ℕ) (slots : Slots) (driver device : View) (queue : Queue) (h : Homes) (x : QueueView) (l : Log)
     → Cores n slots driver device
-    → Core n (flags_of queue) h x (queue_in queue device) → Cores n (with_homes_in queue h slots) (record (with_queue_in queue x driver) { log = l }) device
+    → Core n (flags_of queue) h x (queue_in queue device) → Cores n (with_homes_in queue h slots)
+    (record (with_queue_in queue x driver) { log = l }) device
 driver_cores n slots driver device Rx h x l was is Rx = is
 driver_cores n slots driver device Rx h x l was is Tx = was Tx
 driver_cores n slots driver device Rx h x l was is Event = was Event
@@ -53,7 +54,8 @@ driver_cores n slots driver device Event h x l was is Event = is
 
 device_cores : (n : ℕ) (slots : Slots) (driver device : View) (queue : Queue) (h : Homes) (x : QueueView) (l : Log)
     → Cores n slots driver device
-    → Core n (flags_of queue) h (queue_in queue driver) x → Cores n (with_homes_in queue h slots) driver (record (with_queue_in queue x device) { log = l })
+    → Core n (flags_of queue) h (queue_in queue driver) x → Cores n (with_homes_in queue h slots) driver
+    (record (with_queue_in queue x device) { log = l })
 device_cores n slots driver device Rx h x l was is Rx = is
 device_cores n slots driver device Rx h x l was is Tx = was Tx
 device_cores n slots driver device Rx h x l was is Event = was Event

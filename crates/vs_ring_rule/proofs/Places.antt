@@ -1,5 +1,5 @@
 -- Where the words and the slots of a queue stand in the table.
-use Rattle.std.proofs.Common.{◌≡◌, ℕ, ◌+◌, ◌*◌, ◌<◌, List, [], ◌∷◌, length, get_or, set, sym, refl, ap, ◌∙◌, arith}
+use Rattle.std.proofs.Common.{◌≡◌, ℕ, ◌+◌, ◌*◌, ◌<◌, List, [], ◌∷◌, length, get_or, set, sym, ap, ◌∙◌, arith}
 use Rattle.std.specs.Prelude.{Option}
 use mathlib.Core.Option as maybe
 use lib.ListN.{get_elem?}
@@ -14,7 +14,7 @@ use Rattle.vs_ring_rule.specs.OneQueue.{Page, Homes}
 use Rattle.vs_ring_rule.specs.Rule.{Slots, homes_in, with_homes_in, all_slots, queue_in, with_queue_in, all_words}
 use Rattle.vs_ring_rule.specs.Sections.{flat}
 use Rattle.vs_ring_rule.specs.Tells.{driver_base, device_base, slots_base}
-use Rattle.vs_ring_rule.proofs.Sections.{base, part, with_part, tail, set-flat, get_or-flat, get_elem-flat}
+use Rattle.vs_ring_rule.proofs.Sections.{base, with_part, tail, set-flat, get_or-flat, get_elem-flat}
 
 -- the number of words of each queue that the driver stores, and the device
 pub record Sized (n : ℕ) (driver device : View) : Type 0 where
@@ -112,7 +112,8 @@ module _ (n : ℕ) (slots : Slots) (size : (q : Queue) → length (homes_in q sl
   abbrev sections : List Homes
   sections = slots.rx ∷ slots.tx ∷ slots.event ∷ []
 
-  pub slot_home : (queue : Queue) (k : ℕ) → k < n → get_elem? (all_slots slots) (slots_base n queue + k) ≡ get_elem? (homes_in queue slots) k
+  pub slot_home : (queue : Queue) (k : ℕ) → k < n → get_elem? (all_slots slots) (slots_base n queue + k) ≡ get_elem?
+      (homes_in queue slots) k
   slot_home Rx k near = get_elem-flat sections 0 k (omega (arith, size Rx))
   slot_home Tx k near =
       ap (λ (z : ℕ). get_elem? (all_slots slots) z) (let e : slots_base n Tx + k ≡ base sections 1 + k = omega (arith, size Rx) in e)

@@ -1,5 +1,6 @@
 -- From a seat's view to the end whose view it is, and back to the rule after a step of that end.
-use Rattle.std.proofs.Common.{◌≡◌, ◌≢◌, ℕ, zero, suc, ◌+◌, ◌*◌, ◌⊎◌, inl, inr, true, false, List, [], ◌∷◌, ◌++◌, length, set, sym, refl, ap, ◌∙◌, subst, arith}
+use Rattle.std.proofs.Common.{◌≡◌, ◌≢◌, ℕ, zero, suc, ◌*◌, ◌⊎◌, inl, inr, false, List, [], ◌∷◌, length, set, sym, refl}
+use Rattle.std.proofs.Common.{ap, ◌∙◌, subst, arith}
 use mathlib.Core.Option.{some, some-injective, some-ne-none}
 use lib.ListN.{get_elem?}
 use Rattle.vs_page.specs.Log.{Log}
@@ -7,7 +8,8 @@ use Rattle.vs_ring_rule.specs.declared.view.Owner.{Owner}
 use Rattle.vs_ring_rule.specs.declared.view.Owner.TheVariants.{Maker, Driver, Device, DriverCopy, DeviceCopy, Nobody}
 use Rattle.vs_ring_rule.specs.declared.view.View.{View}
 use Rattle.vs_ring_rule.specs.OneQueue.{Homes}
-use Rattle.vs_ring_rule.specs.Rule.{Table, Slots, Pair, IsOlder, IsCopy, Copies, Stands, TwoEnds, OneEnd, Rule, first_view, all_words, all_slots}
+use Rattle.vs_ring_rule.specs.Rule.{Table, Slots, Pair, IsOlder, IsCopy, Copies, Stands, TwoEnds, OneEnd, Rule, first_view, all_words}
+use Rattle.vs_ring_rule.specs.Rule.{all_slots}
 use Rattle.vs_ring_rule.proofs.Olders.{older_self, older_on}
 use Rattle.vs_ring_rule.proofs.Places.{Sized}
 use Rattle.vs_ring_port.specs.declared.queue.Queue.TheVariants.{Rx, Tx, Event}
@@ -63,7 +65,8 @@ not_end DriverCopy log d e c = ((λ h. cc), (λ h. cc), λ h. cc)
 not_end DeviceCopy log d e c = ((λ h. cc), (λ h. cc), λ h. cc)
 not_end Nobody log d e c = ((λ h. cc), (λ h. cc), λ h. cc)
 
-pub copy_there : (others : List View) (d e : View) (i : ℕ) (v : View) → Copies others d e → get_elem? others i ≡ some v → IsCopy v.owner v.log d e
+pub copy_there : (others : List View) (d e : View) (i : ℕ) (v : View) → Copies others d e → get_elem? others i ≡ some v
+    → IsCopy v.owner v.log d e
 copy_there [] d e i v c at = absurd (some-ne-none v (sym at))
 copy_there (x ∷ xs) d e zero v c at = subst (λ (z : View). IsCopy z.owner z.log d e) (some-injective x v at) c.0
 copy_there (x ∷ xs) d e (suc i) v c at = copy_there xs d e i v c.1 at
@@ -73,22 +76,33 @@ second_owner : (d e x : View) → e.owner ≡ Device → Stands d e x → (x.own
 second_owner d e x is_e (inl a) = let r : x.owner ≡ Device = ap (λ (z : View). z.owner) a.0 ∙ is_e in ((λ h. cc), λ h. cc)
 second_owner d e x is_e (inr b) = let r = b.0 in ((λ h. cc), λ h. cc)
 
-driver_among : (d e x : View) (others : List View) (id : ℕ) (v : View) → e.owner ≡ Device → Stands d e x → Copies others d e → get_elem? (d ∷ x ∷ others) id ≡ some v → v.owner ≡ Driver → (id ≡ 0) × (v ≡ d)
+driver_among : (d e x : View) (others : List View) (id : ℕ) (v : View) → e.owner ≡ Device → Stands d e x → Copies others d e
+    → get_elem? (d ∷ x ∷ others) id ≡ some v → v.owner ≡ Driver → (id ≡ 0) × (v ≡ d)
 driver_among d e x others zero v owner stands copies at mine = (refl, sym (some-injective d v at))
-driver_among d e x others (suc zero) v owner stands copies at mine = absurd ((second_owner d e x owner stands).0 (ap (λ (z : View). z.owner) (some-injective x v at) ∙ mine))
-driver_among d e x others (suc (suc i)) v owner stands copies at mine = absurd ((not_end v.owner v.log d e (copy_there others d e i v copies at)).0 mine)
+driver_among d e x others (suc zero) v owner stands copies at mine = absurd
+    ((second_owner d e x owner stands).0 (ap (λ (z : View). z.owner) (some-injective x v at) ∙ mine))
+driver_among d e x others (suc (suc i)) v owner stands copies at mine = absurd
+    ((not_end v.owner v.log d e (copy_there others d e i v copies at)).0 mine)
 
-device_among : (d e x : View) (others : List View) (id : ℕ) (v : View) → d.owner ≡ Driver → Stands d e x → Copies others d e → get_elem? (d ∷ x ∷ others) id ≡ some v → v.owner ≡ Device
+device_among : (d e x : View) (others : List View) (id : ℕ) (v : View) → d.owner ≡ Driver → Stands d e x → Copies others d e
+    → get_elem? (d ∷ x ∷ others) id ≡ some v → v.owner ≡ Device
     → (id ≡ 1) × (v ≡ e) × (d.whole ≡ false) × (x ≡ e)
-device_among d e x others zero v owner stands copies at mine = let same : v.owner ≡ d.owner = ap (λ (z : View). z.owner) (sym (some-injective d v at)) in absurd cc
+device_among d e x others zero v owner stands copies at mine = let same : v.owner ≡ d.owner = ap (λ (z : View). z.owner)
+    (sym (some-injective d v at)) in absurd cc
 device_among d e x others (suc zero) v owner (inl a) copies at mine = (omega arith, sym (some-injective x v at) ∙ a.0, a.1, a.0)
-device_among d e x others (suc zero) v owner (inr b) copies at mine = let same : v.owner ≡ x.owner = ap (λ (z : View). z.owner) (sym (some-injective x v at)) in let r = b.0 in absurd cc
-device_among d e x others (suc (suc i)) v owner stands copies at mine = absurd ((not_end v.owner v.log d e (copy_there others d e i v copies at)).1 mine)
+device_among d e x others (suc zero) v owner (inr b) copies at mine = let same : v.owner ≡ x.owner = ap (λ (z : View). z.owner)
+    (sym (some-injective x v at)) in let r = b.0 in absurd cc
+device_among d e x others (suc (suc i)) v owner stands copies at mine = absurd
+    ((not_end v.owner v.log d e (copy_there others d e i v copies at)).1 mine)
 
-pub no_maker : (d e x : View) (others : List View) (id : ℕ) (v : View) → d.owner ≡ Driver → e.owner ≡ Device → Stands d e x → Copies others d e → get_elem? (d ∷ x ∷ others) id ≡ some v → v.owner ≡ Maker → ⊥
-no_maker d e x others zero v is_d is_e stands copies at maker = let same : v.owner ≡ d.owner = ap (λ (z : View). z.owner) (sym (some-injective d v at)) in cc
-no_maker d e x others (suc zero) v is_d is_e stands copies at maker = (second_owner d e x is_e stands).1 (ap (λ (z : View). z.owner) (some-injective x v at) ∙ maker)
-no_maker d e x others (suc (suc i)) v is_d is_e stands copies at maker = (not_end v.owner v.log d e (copy_there others d e i v copies at)).2 maker
+pub no_maker : (d e x : View) (others : List View) (id : ℕ) (v : View) → d.owner ≡ Driver → e.owner ≡ Device → Stands d e x
+    → Copies others d e → get_elem? (d ∷ x ∷ others) id ≡ some v → v.owner ≡ Maker → ⊥
+no_maker d e x others zero v is_d is_e stands copies at maker = let same : v.owner ≡ d.owner = ap (λ (z : View). z.owner)
+    (sym (some-injective d v at)) in cc
+no_maker d e x others (suc zero) v is_d is_e stands copies at maker = (second_owner d e x is_e stands).1
+    (ap (λ (z : View). z.owner) (some-injective x v at) ∙ maker)
+no_maker d e x others (suc (suc i)) v is_d is_e stands copies at maker =
+    (not_end v.owner v.log d e (copy_there others d e i v copies at)).2 maker
 
 pub only_one : (x v : View) (id : ℕ) → get_elem? (x ∷ []) id ≡ some v → (id ≡ 0) × (v ≡ x)
 only_one x v zero at = (refl, sym (some-injective x v at))
@@ -151,7 +165,8 @@ device_is n id v t (inr g) at mine =
 pub device_sits : (n id : ℕ) (v : View) (t : Table) → Rule n t → get_elem? t.views id ≡ some v → v.owner ≡ Device → DeviceSits n id v t
 device_sits n id v t law at mine = device_is n id v t law.1 at mine
 
-copy_stays : (r : Owner) (old : Log) (d d' e e' : View) → IsOlder d.log d'.log → IsOlder e.log e'.log → IsCopy r old d e → IsCopy r old d' e'
+copy_stays : (r : Owner) (old : Log) (d d' e e' : View) → IsOlder d.log d'.log → IsOlder e.log e'.log → IsCopy r old d e
+    → IsCopy r old d' e'
 copy_stays Maker old d d' e e' p q c = c
 copy_stays Driver old d d' e e' p q c = c
 copy_stays Device old d d' e e' p q c = c

@@ -1,5 +1,6 @@
 -- One direction of the queue: what a step leaves as it was, a page given, and a page taken.
-use Rattle.std.proofs.Common.{◌≡◌, ℕ, suc, ◌+◌, ◌%◌, ◌<◌, ◌≤◌, cond, eqb, ltb, List, [], ◌∷◌, ◌++◌, length, sym, refl, ap, ◌∙◌, subst, arith, append_assoc, length-append, eq-eqb}
+use Rattle.std.proofs.Common.{◌≡◌, ℕ, suc, ◌+◌, ◌%◌, ◌<◌, ◌≤◌, cond, eqb, ltb, List, [], ◌∷◌, ◌++◌, length, sym, refl, ap, ◌∙◌, subst}
+use Rattle.std.proofs.Common.{arith, append_assoc, length-append, eq-eqb}
 use Rattle.std.proofs.lemmas.Bool.Decides.{nat_tests}
 use Rattle.std.specs.Prelude.{Some}
 use mathlib.Core.Option.{some}
@@ -36,15 +37,20 @@ face_tail F F' g k ks stays i j p low high there = stays i j p (omega arith) (om
 homes_tail : (h h' : Homes) (k : ℕ) (ks : List ℕ) → HomesStay h h' (k ∷ ks) → HomesStay h h' ks
 homes_tail h h' k ks stays j there = stays j (omega arith)
 
-pub shown_stays : (F F' : Face) (h h' : Homes) (g : ℕ) (ks : List ℕ) (ps : List Page) → FaceStays F F' g ks → HomesStay h h' ks → Shown F h g ks ps → Shown F' h' g ks ps
+pub shown_stays : (F F' : Face) (h h' : Homes) (g : ℕ) (ks : List ℕ) (ps : List Page) → FaceStays F F' g ks → HomesStay h h' ks
+    → Shown F h g ks ps → Shown F' h' g ks ps
 shown_stays F F' h h' g [] [] f s w = tt
 shown_stays F F' h h' g [] (p ∷ ps) f s w = absurd w
 shown_stays F F' h h' g (k ∷ ks) [] f s w = absurd w
 shown_stays F F' h h' g (k ∷ ks) (p ∷ ps) f s w =
-    let here = times_here k ks in
-    (f g k p (omega arith) (omega arith) here w.0, s k here ∙ w.1, shown_stays F F' h h' (suc g) ks ps (face_tail F F' g k ks f) (homes_tail h h' k ks s) w.2)
+    let here = times_here k ks in (
+      f g k p (omega arith) (omega arith) here w.0,
+      s k here ∙ w.1,
+      shown_stays F F' h h' (suc g) ks ps (face_tail F F' g k ks f) (homes_tail h h' k ks s) w.2,
+    )
 
-pub shown_snoc : (F : Face) (h : Homes) (g : ℕ) (ks : List ℕ) (ps : List Page) (i k : ℕ) (p : Page) → i ≡ g + length ks → Shown F h g ks ps → F i k p → get_elem? h k ≡ some (some (Some p)) → Shown F h g (ks ++ k ∷ []) (ps ++ p ∷ [])
+pub shown_snoc : (F : Face) (h : Homes) (g : ℕ) (ks : List ℕ) (ps : List Page) (i k : ℕ) (p : Page) → i ≡ g + length ks
+    → Shown F h g ks ps → F i k p → get_elem? h k ≡ some (some (Some p)) → Shown F h g (ks ++ k ∷ []) (ps ++ p ∷ [])
 shown_snoc F h g [] [] i k p at w f home = let same : i ≡ g = omega arith in (subst (λ (j : ℕ). F j k p) same f, home, tt)
 shown_snoc F h g [] (q ∷ ps) i k p at w f home = absurd w
 shown_snoc F h g (j ∷ ks) [] i k p at w f home = absurd w
@@ -94,7 +100,8 @@ module _ (F : Face) (h : Homes) (index : ℕ) (put got : List Page) (seen : ℕ)
 
 module _ (F F' : Face) (h h' : Homes) (index : ℕ) (put got : List Page) (seen : ℕ) (w : Way F h index put got seen) where
   -- a step beside it, or a load of the index
-  pub way_stays : (index' seen' : ℕ) → index' ≡ index → length got ≤ seen' → seen' ≤ length put → FaceStays F F' (length got) w.slots → HomesStay h h' w.slots
+  pub way_stays : (index' seen' : ℕ) → index' ≡ index → length got ≤ seen' → seen' ≤ length put → FaceStays F F' (length got) w.slots
+      → HomesStay h h' w.slots
       → (x : Way F' h' index' put got seen') × (x.slots ≡ w.slots)
   way_stays index' seen' same low high f s = (
     record {
@@ -109,22 +116,26 @@ module _ (F F' : Face) (h h' : Homes) (index : ℕ) (put got : List Page) (seen 
     refl,
   )
 
-  pub way_given : (index' k : ℕ) (p : Page) → index' ≡ (length put + 1) % 65536 → FaceStays F F' (length got) w.slots → HomesStay h h' w.slots
-      → F' (length put) k p → get_elem? h' k ≡ some (some (Some p)) → (x : Way F' h' index' (put ++ p ∷ []) got seen) × (x.slots ≡ w.slots ++ k ∷ [])
+  pub way_given : (index' k : ℕ) (p : Page) → index' ≡ (length put + 1) % 65536 → FaceStays F F' (length got) w.slots
+      → HomesStay h h' w.slots
+      → F' (length put) k p → get_elem? h' k ≡ some (some (Some p))
+      → (x : Way F' h' index' (put ++ p ∷ []) got seen) × (x.slots ≡ w.slots ++ k ∷ [])
   way_given index' k p next f s face home = let more : length (put ++ p ∷ []) ≡ length put + 1 = length-append put (p ∷ []) in (
     record {
       slots = w.slots ++ k ∷ [];
       pages = w.pages ++ p ∷ [];
       put_is = ap (λ (l : List Page). l ++ p ∷ []) w.put_is ∙ append_assoc got w.pages (p ∷ []);
       index_is = next ∙ ap (λ (z : ℕ). z % 65536) (sym more);
-      shown = shown_snoc F' h' (length got) w.slots w.pages (length put) k p (sym (length_way F h index put got seen w)) (shown_stays F F' h h' (length got) w.slots w.pages f s w.shown) face home;
+      shown = shown_snoc F' h' (length got) w.slots w.pages (length put) k p (sym (length_way F h index put got seen w))
+          (shown_stays F F' h h' (length got) w.slots w.pages f s w.shown) face home;
       not_less = w.not_less;
       not_more = omega (arith, w.not_more);
     },
     refl,
   )
 
-  pub way_taken : (x : Next F h index put got seen w) → length got < seen → FaceStays F F' (suc (length got)) x.later_slots → HomesStay h h' x.later_slots
+  pub way_taken : (x : Next F h index put got seen w) → length got < seen → FaceStays F F' (suc (length got)) x.later_slots
+      → HomesStay h h' x.later_slots
       → (y : Way F' h' index put (got ++ x.page ∷ []) seen) × (y.slots ≡ x.later_slots)
   way_taken x known f s = let more : length (got ++ x.page ∷ []) ≡ suc (length got) = omega (arith, length-append got (x.page ∷ [])) in (
     record {
@@ -132,7 +143,8 @@ module _ (F F' : Face) (h h' : Homes) (index : ℕ) (put got : List Page) (seen 
       pages = x.later;
       put_is = x.put_is ∙ sym (append_assoc got (x.page ∷ []) x.later);
       index_is = w.index_is;
-      shown = subst (λ (g : ℕ). Shown F' h' g x.later_slots x.later) (sym more) (shown_stays F F' h h' (suc (length got)) x.later_slots x.later f s x.shown);
+      shown = subst (λ (g : ℕ). Shown F' h' g x.later_slots x.later) (sym more)
+          (shown_stays F F' h h' (suc (length got)) x.later_slots x.later f s x.shown);
       not_less = omega arith;
       not_more = w.not_more;
     },

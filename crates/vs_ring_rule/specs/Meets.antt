@@ -1,11 +1,11 @@
 -- How one thread that has both ends learns of both logs: each end gives the other a copy of its log, or the device's seat is joined into
 -- the driver's; a load after that tells how the two logs fit.
-use Rattle.std.specs.Prelude.{true, cond, ◌≡◌, ℕ, []}
+use Rattle.std.specs.Prelude.{true, cond, ◌≡◌, []}
 use Rattle.vs_page.specs.Fair.{IsFairLog}
 use Rattle.vs_page.specs.Log as log
 use Rattle.vs_page.specs.Log.{HasGotAll}
 use Rattle.vs_ring_rule.specs.declared.view.Owner.{Owner}
-use Rattle.vs_ring_rule.specs.declared.view.Owner.TheVariants.{Maker, Driver, Device, DriverCopy, DeviceCopy, Nobody}
+use Rattle.vs_ring_rule.specs.declared.view.Owner.TheVariants.{Driver, Device, DriverCopy, DeviceCopy, Nobody}
 use Rattle.vs_ring_rule.specs.declared.view.View.{View}
 use Rattle.vs_ring_rule.specs.Rule.{queue_with, view_with}
 use Rattle.vs_ring_rule.specs.Tells.{Tells}

@@ -1,9 +1,8 @@
 -- What holds of the shared rings between any two atomic steps. A table of words and slots has word 0, the guest's CID, and then for each
 -- queue the words of the driver and those of the device; and for each queue n slots.
-use Rattle.std.specs.Prelude.{◌≡◌, ℕ, zero, suc, ◌+◌, ◌*◌, ◌<◌, ◌⊎◌, true, false, List, [], ◌∷◌, ◌++◌, length, replicate, Option, None, Some}
+use Rattle.std.specs.Prelude.{◌≡◌, ℕ, zero, suc, ◌+◌, ◌*◌, ◌<◌, ◌⊎◌, true, false, List, [], ◌∷◌, ◌++◌, length, replicate, Option, None}
 use mathlib.Core.Option.{some}
 use Rattle.atomic_table.specs.Table.{State, Me}
-use lib.ListN.{get_elem?}
 use Rattle.vs_layout.specs.declared.entry.TheConstants.{WRITE}
 use Rattle.vs_page.specs.Fair.{IsFairLog}
 use Rattle.vs_page.specs.Log as log
@@ -16,7 +15,7 @@ use Rattle.vs_ring_rule.specs.declared.view.Owner.{Owner}
 use Rattle.vs_ring_rule.specs.declared.view.Owner.TheVariants.{Maker, Driver, Device, DriverCopy, DeviceCopy, Nobody}
 use Rattle.vs_ring_rule.specs.declared.view.QueueView.{QueueView}
 use Rattle.vs_ring_rule.specs.declared.view.View.{View}
-use Rattle.vs_ring_rule.specs.OneQueue.{Page, Homes, Core, given, taken}
+use Rattle.vs_ring_rule.specs.OneQueue.{Page, Homes, Core}
 use Rattle.vs_ring_rule.specs.Says.{IsDriverLog, IsDeviceLog}
 use Rattle.vs_ring_rule.specs.Sections.{flat}
 

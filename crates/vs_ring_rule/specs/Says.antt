@@ -1,7 +1,7 @@
 -- What an end's log says is what its pages hold.
-use Rattle.std.specs.Prelude.{◌≡◌, ℕ, List, [], ◌∷◌, ◌++◌, Option, Some, None}
+use Rattle.std.specs.Prelude.{◌≡◌, List, [], ◌∷◌, ◌++◌, Option, Some, None}
 use Rattle.vs_page.specs.Held.{packet_held, event_held}
-use Rattle.vs_page.specs.Log.{Log, packets_put, packets_got, events_put, events_got}
+use Rattle.vs_page.specs.Log.{packets_put, packets_got, events_put, events_got}
 use Rattle.vs_ring_rule.specs.declared.view.View.{View}
 use Rattle.vs_ring_rule.specs.OneQueue.{Page}
 

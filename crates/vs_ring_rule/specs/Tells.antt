@@ -1,5 +1,6 @@
 -- What each kind of step tells the seat that makes it: of the seat before, the number found and the seat after. The size n of the
--- rings, the place i of the word among the end's own or the other's words of the queue, and the number x that is stored, are those of the step.
+-- rings, the place i of the word among the end's own or the other's words of the queue, and the number x that is stored, are those of
+-- the step.
 use Rattle.std.specs.Prelude.{◌≡◌, ℕ, ◌+◌, ◌-◌, ◌*◌, ◌/◌, ◌%◌, ◌^◌, ◌<◌, ◌≤◌, List, ◌∷◌, ◌++◌, Option, Some, None}
 use Rattle.atomic_table.specs.Table.{Step}
 use Rattle.vs_history.specs.declared.packet.Packet.{Packet}
@@ -10,7 +11,8 @@ use Rattle.vs_ring_port.specs.declared.queue.Queue.{Queue}
 use Rattle.vs_ring_port.specs.declared.queue.Queue.TheVariants.{Rx, Tx, Event}
 use Rattle.vs_ring_rule.specs.OneQueue.{Page, given, taken, descriptor, element}
 use Rattle.vs_ring_rule.specs.Rule.{Seated, queue_in, flags_of}
-use Rattle.vs_ring_rule.specs.Moves.{after_store, after_lift, after_lay, after_look, after_entry, driver_gave, device_gave, driver_took, device_took, device_reset, driver_loaded}
+use Rattle.vs_ring_rule.specs.Moves.{after_store, after_lift, after_lay, after_look, after_entry, driver_gave, device_gave, driver_took}
+use Rattle.vs_ring_rule.specs.Moves.{device_took, device_reset, driver_loaded}
 
 abbrev pub Move : Type 0
 Move = Step (Option Page)
