@@ -24,7 +24,7 @@ use Rattle.vs_ring_rule.specs.Steps.{stored, lifted, laid, gave, looked, entered
 use Rattle.vs_ring_rule.specs.Rule.{Table, Seated, homes_in, with_homes_in, all_slots, queue_in, with_queue_in, flags_of}
 use Rattle.vs_ring_rule.specs.Rule.{all_words, Rule}
 use Rattle.vs_ring_rule.specs.Moves.{after_lift, after_lay, after_look, after_entry, device_gave, device_took, device_reset}
-use Rattle.vs_ring_rule.specs.Tells.{driver_base, device_base, slots_base, at_driver, at_device, at_cid, slot_in, device_looks}
+use Rattle.vs_ring_rule.specs.Tells.{Stores, Loads, driver_base, device_base, slots_base, at_driver, at_device, at_cid, slot_in, device_looks}
 use Rattle.vs_ring_rule.specs.Tells.{device_reads, device_takes, device_returns, device_gives, device_resets, lays}
 use Rattle.vs_ring_rule.proofs.Cores as core
 use Rattle.vs_ring_rule.proofs.Pairs as pair
@@ -75,8 +75,7 @@ Goes n t i id v cs y told =
 
 -- the load of the available index
 pub counts : (n id : ℕ) (queue : Queue) (me : Seated) → me.0.owner ≡ Device
-    → Allows (Rule n) (3 * n) id me (driver_base n queue + 2 * n) (λ r. r)
-    (at_driver queue (device_looks queue) (step (3 * n) (driver_base n queue + 2 * n) 0 0 none) me)
+    → Loads n id me (driver_base n queue + 2 * n) (at_driver queue (device_looks queue))
 counts n id queue me mine t law wide at _ =
     let v = me.0 in
     let q = queue_in queue v in
@@ -107,8 +106,7 @@ counts n id queue me mine t law wide at _ =
 
 -- the load of the next available entry
 pub reads : (n id : ℕ) (queue : Queue) (me : Seated) → me.0.owner ≡ Device → let q = queue_in queue me.0 in taken q < q.seen
-    → Allows (Rule n) (3 * n) id me (driver_base n queue + (n + taken q % n)) (λ r. r)
-    (at_driver queue (device_reads queue) (step (3 * n) (driver_base n queue + (n + taken q % n)) 0 0 none) me)
+    → Loads n id me (driver_base n queue + (n + taken q % n)) (at_driver queue (device_reads queue))
 reads n id queue me mine known t law wide at _ =
     let v = me.0 in
     let q = queue_in queue v in
@@ -134,8 +132,7 @@ reads n id queue me mine known t law wide at _ =
 -- the load of the descriptor word
 pub collects : (n id : ℕ) (queue : Queue) (me : Seated) (k : ℕ) → me.0.owner ≡ Device → let q = queue_in queue me.0 in taken q < q.seen
     → q.entry ≡ Some k → q.out ≡ None
-    → Allows (Rule n) (3 * n) id me (driver_base n queue + k) (λ r. r)
-    (at_driver queue (device_takes queue) (step (3 * n) (driver_base n queue + k) 0 0 none) me)
+    → Loads n id me (driver_base n queue + k) (at_driver queue (device_takes queue))
 collects n id queue me k mine known entry in_it t law wide at _ =
     let v = me.0 in
     let q = queue_in queue v in
@@ -164,8 +161,7 @@ collects n id queue me k mine known entry in_it t law wide at _ =
 -- the store of the next used element
 pub answers : (n id : ℕ) (queue : Queue) (me : Seated) (x : ℕ) → me.0.owner ≡ Device
     → let q = queue_in queue me.0 in 0 < times (slot_in x) q.held → q.out ≡ None → given q < taken q
-    → Allows (Rule n) (3 * n) id me (device_base n queue + given q % n) (λ _. x)
-    (λ _. at_device queue (device_returns queue) (step (3 * n) (device_base n queue + given q % n) x 0 none) me x)
+    → Stores n id me (device_base n queue + given q % n) x (at_device queue (device_returns queue))
 answers n id queue me x mine has in_it holds t law wide at _ =
     let v = me.0 in
     let q = queue_in queue v in
@@ -193,8 +189,7 @@ pub returns : (n id : ℕ) (queue : Queue) (me : Seated) (x k : ℕ) (page : Pag
     → me.1 ≡ (slots_base n queue + k, Some page) ∷ more → let q = queue_in queue me.0 in 0 < times k q.held → q.out ≡ Some k
     → get_or q.words (given q % n) 0 ≡ element k page → x ≡ (given q + 1) % 65536 → given q < taken q
     → IsFairLog log.Device (entries_returned queue page me.0.log)
-    → Allows (Rule n) (3 * n) id me (device_base n queue + n) (λ _. x)
-    (λ _. at_device queue (device_gives queue) (step (3 * n) (device_base n queue + n) x 0 none) me x)
+    → Stores n id me (device_base n queue + n) x (at_device queue (device_gives queue))
 returns n id queue me x k page more mine has held out word index holds fair t law wide at _ =
     let v = me.0 in
     let q = queue_in queue v in
@@ -223,7 +218,7 @@ returns n id queue me x k page more mine has held out word index holds fair t la
 -- a load by which the slot, emptied, goes home
 pub device_empties : (n id : ℕ) (queue : Queue) (me : Seated) (k : ℕ) (more : List (ℕ × Option Page)) → me.0.owner ≡ Device
     → me.1 ≡ (slots_base n queue + k, None) ∷ more → let q = queue_in queue me.0 in 0 < times k q.held → q.out ≡ Some k
-    → Allows (Rule n) (3 * n) id me 0 (λ r. r) (at_cid (lays queue) (step (3 * n) 0 0 0 none) me)
+    → Loads n id me 0 (at_cid (lays queue))
 device_empties n id queue me k more mine has held out t law wide at _ =
     let v = me.0 in
     let q = queue_in queue v in
@@ -248,7 +243,7 @@ device_empties n id queue me k more mine has held out t law wide at _ =
 
 -- the store of the guest's CID
 pub resets : (n id : ℕ) (me : Seated) (x : ℕ) → me.0.owner ≡ Device
-    → Allows (Rule n) (3 * n) id me 0 (λ _. x) (λ _. at_cid device_resets (step (3 * n) 0 x 0 none) me x)
+    → Stores n id me 0 x (at_cid device_resets)
 resets n id me x mine t law wide at _ =
     let v = me.0 in
     let p = device_sits n id v t law at mine in

@@ -21,7 +21,7 @@ use Rattle.vs_ring_rule.specs.Steps.{stored, lifted, laid, gave, looked, took}
 use Rattle.vs_ring_rule.specs.Rule.{Table, Seated, homes_in, with_homes_in, all_slots, queue_in, with_queue_in, flags_of}
 use Rattle.vs_ring_rule.specs.Rule.{all_words, Rule}
 use Rattle.vs_ring_rule.specs.Moves.{after_store, after_lift, after_lay, after_look, driver_gave, driver_took, driver_loaded}
-use Rattle.vs_ring_rule.specs.Tells.{driver_base, device_base, slots_base, at_driver, at_device, at_cid, driver_describes, driver_enters}
+use Rattle.vs_ring_rule.specs.Tells.{Stores, Loads, driver_base, device_base, slots_base, at_driver, at_device, at_cid, driver_describes, driver_enters}
 use Rattle.vs_ring_rule.specs.Tells.{driver_gives, driver_looks, driver_takes, driver_loads, lays}
 use Rattle.vs_ring_rule.proofs.Cores as core
 use Rattle.vs_ring_rule.proofs.Pairs as pair
@@ -70,8 +70,7 @@ Goes n t i id v cs y told =
 -- the store of a descriptor word
 pub describes : (n id : ℕ) (queue : Queue) (me : Seated) (k x : ℕ) → me.0.owner ≡ Driver → 0 < times k (queue_in queue me.0).held
     → (queue_in queue me.0).out ≡ None
-    → Allows (Rule n) (3 * n) id me (driver_base n queue + k) (λ _. x)
-    (λ _. at_driver queue (driver_describes queue) (step (3 * n) (driver_base n queue + k) x 0 none) me x)
+    → Stores n id me (driver_base n queue + k) x (at_driver queue (driver_describes queue))
 describes n id queue me k x mine has in_it t law wide at _ =
     let v = me.0 in
     let q = queue_in queue v in
@@ -94,8 +93,7 @@ describes n id queue me k x mine has in_it t law wide at _ =
 -- and of an available entry
 pub enters : (n id : ℕ) (queue : Queue) (me : Seated) (x : ℕ) → me.0.owner ≡ Driver
     → let q = queue_in queue me.0 in given q < taken q + n
-    → Allows (Rule n) (3 * n) id me (driver_base n queue + (n + given q % n)) (λ _. x)
-    (λ _. at_driver queue (driver_enters queue) (step (3 * n) (driver_base n queue + (n + given q % n)) x 0 none) me x)
+    → Stores n id me (driver_base n queue + (n + given q % n)) x (at_driver queue (driver_enters queue))
 enters n id queue me x mine free t law wide at _ =
     let v = me.0 in
     let q = queue_in queue v in
@@ -118,8 +116,7 @@ pub publishes : (n id : ℕ) (queue : Queue) (me : Seated) (x k : ℕ) (page : P
     → me.1 ≡ (slots_base n queue + k, Some page) ∷ more → let q = queue_in queue me.0 in 0 < times k q.held → q.out ≡ Some k
     → get_or q.words (n + given q % n) 0 ≡ k → get_or q.words k 0 ≡ descriptor (flags_of queue) page
     → x ≡ (given q + 1) % 65536 → given q < taken q + n → IsFairLog log.Driver (entries_published queue (page ∷ []) me.0.log)
-    → Allows (Rule n) (3 * n) id me (driver_base n queue + 2 * n) (λ _. x)
-    (λ _. at_driver queue (driver_gives queue) (step (3 * n) (driver_base n queue + 2 * n) x 0 none) me x)
+    → Stores n id me (driver_base n queue + 2 * n) x (at_driver queue (driver_gives queue))
 publishes n id queue me x k page more mine has held out entry word index free fair t law wide at _ =
     let v = me.0 in
     let q = queue_in queue v in
@@ -147,8 +144,7 @@ publishes n id queue me x k page more mine has held out entry word index free fa
 
 -- the load of the used index
 pub counts : (n id : ℕ) (queue : Queue) (me : Seated) → me.0.owner ≡ Driver
-    → Allows (Rule n) (3 * n) id me (device_base n queue + n) (λ r. r)
-    (at_device queue (driver_looks queue) (step (3 * n) (device_base n queue + n) 0 0 none) me)
+    → Loads n id me (device_base n queue + n) (at_device queue (driver_looks queue))
 counts n id queue me mine t law wide at _ =
     let v = me.0 in
     let q = queue_in queue v in
@@ -180,8 +176,7 @@ counts n id queue me mine t law wide at _ =
 
 -- the load of the next used element
 pub reaps : (n id : ℕ) (queue : Queue) (me : Seated) → me.0.owner ≡ Driver → let q = queue_in queue me.0 in taken q < q.seen → q.out ≡ None
-    → Allows (Rule n) (3 * n) id me (device_base n queue + taken q % n) (λ r. r)
-    (at_device queue (driver_takes queue) (step (3 * n) (device_base n queue + taken q % n) 0 0 none) me)
+    → Loads n id me (device_base n queue + taken q % n) (at_device queue (driver_takes queue))
 reaps n id queue me mine known in_it t law wide at _ =
     let v = me.0 in
     let q = queue_in queue v in
@@ -215,7 +210,7 @@ reaps n id queue me mine known in_it t law wide at _ =
 -- a load by which the slot, emptied, goes home
 pub driver_empties : (n id : ℕ) (queue : Queue) (me : Seated) (k : ℕ) (more : List (ℕ × Option Page)) → me.0.owner ≡ Driver
     → me.1 ≡ (slots_base n queue + k, None) ∷ more → let q = queue_in queue me.0 in 0 < times k q.held → q.out ≡ Some k
-    → Allows (Rule n) (3 * n) id me 0 (λ r. r) (at_cid (lays queue) (step (3 * n) 0 0 0 none) me)
+    → Loads n id me 0 (at_cid (lays queue))
 driver_empties n id queue me k more mine has held out t law wide at _ =
     let v = me.0 in
     let q = queue_in queue v in
@@ -240,7 +235,7 @@ driver_empties n id queue me k more mine has held out t law wide at _ =
 
 -- the load of the guest's CID
 pub loads : (n id : ℕ) (me : Seated) → me.0.owner ≡ Driver
-    → Allows (Rule n) (3 * n) id me 0 (λ r. r) (at_cid driver_loads (step (3 * n) 0 0 0 none) me)
+    → Loads n id me 0 (at_cid driver_loads)
 loads n id me mine t law wide at _ =
     let v = me.0 in
     let p = driver_sits n id v t law at mine in

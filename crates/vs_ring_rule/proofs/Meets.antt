@@ -19,7 +19,7 @@ use Rattle.vs_ring_rule.specs.declared.view.View.{View}
 use Rattle.vs_ring_rule.specs.OneQueue.{Core}
 use Rattle.vs_ring_rule.specs.Rule.{Seated, Slots, homes_in, queue_in, flags_of, Pair, IsOlder, IsCopy, Copies, Stands, Rule}
 use Rattle.vs_ring_rule.specs.Meets.{nobody_view, copy_owner, copy_of, told, joined, knows, ties}
-use Rattle.vs_ring_rule.specs.Tells.{at_cid}
+use Rattle.vs_ring_rule.specs.Tells.{Stores, Loads, at_cid}
 use Rattle.vs_ring_rule.proofs.Olders.{older_self}
 use Rattle.vs_ring_rule.proofs.Pairs.{device_has_got, driver_has_got}
 use Rattle.vs_ring_rule.proofs.Seats.{driver_sits, device_sits, driver_moved, device_moved, not_end, copy_there, copies_stay}
@@ -295,7 +295,7 @@ got_before old mine other older got = record {
 
 -- a load after a copy came
 pub knows_driver : (n id : ℕ) (me : Seated) → me.0.owner ≡ Driver
-    → Allows (Rule n) (3 * n) id me 0 (λ r. r) (at_cid (knows log.Driver) (step (3 * n) 0 0 0 none) me)
+    → Loads n id me 0 (at_cid (knows log.Driver))
 knows_driver n id me mine t law wide at _ =
     let v = me.0 in
     let p = driver_sits n id v t law at mine in
@@ -313,7 +313,7 @@ knows_driver n id me mine t law wide at _ =
     )
 
 pub knows_device : (n id : ℕ) (me : Seated) → me.0.owner ≡ Device
-    → Allows (Rule n) (3 * n) id me 0 (λ r. r) (at_cid (knows log.Device) (step (3 * n) 0 0 0 none) me)
+    → Loads n id me 0 (at_cid (knows log.Device))
 knows_device n id me mine t law wide at _ =
     let v = me.0 in
     let p = device_sits n id v t law at mine in
@@ -336,7 +336,7 @@ heard_all d e x all (inr one) = one.2
 
 -- a load after the join
 pub ties_driver : (n id : ℕ) (me : Seated) → me.0.owner ≡ Driver → me.0.whole ≡ true
-    → Allows (Rule n) (3 * n) id me 0 (λ r. r) (at_cid ties (step (3 * n) 0 0 0 none) me)
+    → Loads n id me 0 (at_cid ties)
 ties_driver n id me mine all t law wide at _ =
     let v = me.0 in
     let p = driver_sits n id v t law at mine in

@@ -2,7 +2,8 @@
 -- rings, the place i of the word among the end's own or the other's words of the queue, and the number x that is stored, are those of
 -- the step.
 use Rattle.std.specs.Prelude.{◌≡◌, ℕ, ◌+◌, ◌-◌, ◌*◌, ◌/◌, ◌%◌, ◌^◌, ◌<◌, ◌≤◌, List, ◌∷◌, ◌++◌, Option, Some, None}
-use Rattle.atomic_table.specs.Table.{Step}
+use mathlib.Core.Option.{none}
+use Rattle.atomic_table.specs.Table.{Allows, Step, step}
 use Rattle.vs_history.specs.declared.packet.Packet.{Packet}
 use Rattle.vs_page.specs.Fair.{IsFairLog}
 use Rattle.vs_page.specs.Log as log
@@ -10,7 +11,7 @@ use Rattle.vs_page.specs.Log.{Log, packets_put, packets_got, events_put, events_
 use Rattle.vs_ring_port.specs.declared.queue.Queue.{Queue}
 use Rattle.vs_ring_port.specs.declared.queue.Queue.TheVariants.{Rx, Tx, Event}
 use Rattle.vs_ring_rule.specs.OneQueue.{Page, given, taken, descriptor, element}
-use Rattle.vs_ring_rule.specs.Rule.{Seated, queue_in, flags_of}
+use Rattle.vs_ring_rule.specs.Rule.{Rule, Seated, queue_in, flags_of}
 use Rattle.vs_ring_rule.specs.Moves.{after_store, after_lift, after_lay, after_look, after_entry, driver_gave, device_gave, driver_took}
 use Rattle.vs_ring_rule.specs.Moves.{device_took, device_reset, driver_loaded}
 
@@ -44,6 +45,13 @@ at_device queue tells st m r m' = tells (st.slots / 3) (st.word - device_base (s
 
 abbrev pub at_cid : Tells → Move → Seated → ℕ → Seated → Type 0
 at_cid tells st m r m' = tells (st.slots / 3) 0 st.first m r m'
+
+-- Under the rule the table allows a step of this seat that stores x in a word, or loads a word, and tells this.
+abbrev pub Stores : ℕ → ℕ → Seated → ℕ → ℕ → (Move → Seated → ℕ → Seated → Type 0) → Type 0
+Stores n id me word x tells = Allows (Rule n) (3 * n) id me word (λ _. x) (λ _. tells (step (3 * n) word x 0 none) me x)
+
+abbrev pub Loads : ℕ → ℕ → Seated → ℕ → (Move → Seated → ℕ → Seated → Type 0) → Type 0
+Loads n id me word tells = Allows (Rule n) (3 * n) id me word (λ r. r) (tells (step (3 * n) word 0 0 none) me)
 
 -- The driver stores a descriptor word, and its empty slot comes out; it stores an available entry.
 abbrev pub driver_describes : Queue → Tells
