@@ -4,4 +4,5 @@
 pub use view::{FIRST_CID, Owner, QueueView, View};
 
 pub mod laws;
+pub mod steps;
 pub mod view;
