@@ -7,7 +7,7 @@ use Rattle.std.specs.Prelude.{Option, Some, None}
 use mathlib.Core.Option.{some, none}
 use mathlib.Core.Option as maybe
 use lib.ListN.{get_elem?}
-use Rattle.atomic_table.specs.Table.{step, Act, keeps, takes, gives, stepped, carried_after, Valid, Allows}
+use Rattle.atomic_table.specs.Table.{step, Act, keeps, takes, gives, stepped, carried_after, Valid}
 use Rattle.vs_page.specs.Fair.{IsFairLog}
 use Rattle.vs_page.specs.Log as log
 use Rattle.vs_page.specs.Log.{Log}
@@ -21,7 +21,8 @@ use Rattle.vs_ring_rule.specs.Steps.{stored, lifted, laid, gave, looked, took}
 use Rattle.vs_ring_rule.specs.Rule.{Table, Seated, homes_in, with_homes_in, all_slots, queue_in, with_queue_in, flags_of}
 use Rattle.vs_ring_rule.specs.Rule.{all_words, Rule}
 use Rattle.vs_ring_rule.specs.Moves.{after_store, after_lift, after_lay, after_look, driver_gave, driver_took, driver_loaded}
-use Rattle.vs_ring_rule.specs.Tells.{Stores, Loads, driver_base, device_base, slots_base, at_driver, at_device, at_cid, driver_describes, driver_enters}
+use Rattle.vs_ring_rule.specs.Tells.{Stores, Loads, driver_base, device_base, slots_base, at_driver, at_device, at_cid, driver_describes}
+use Rattle.vs_ring_rule.specs.Tells.{driver_enters}
 use Rattle.vs_ring_rule.specs.Tells.{driver_gives, driver_looks, driver_takes, driver_loads, lays}
 use Rattle.vs_ring_rule.proofs.Cores as core
 use Rattle.vs_ring_rule.proofs.Pairs as pair

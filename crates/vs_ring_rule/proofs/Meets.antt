@@ -1,10 +1,10 @@
 -- Copies of a log, and the join of the two ends.
-use Rattle.std.proofs.Common.{◌≡◌, ◌≢◌, ℕ, zero, suc, ◌*◌, inl, inr, Bool, true, false, cond, List, [], ◌∷◌, ◌++◌, get_or, set, sym, refl}
+use Rattle.std.proofs.Common.{◌≡◌, ◌≢◌, ℕ, zero, suc, inl, inr, Bool, true, false, cond, List, [], ◌∷◌, ◌++◌, get_or, set, sym, refl}
 use Rattle.std.proofs.Common.{ap, ◌∙◌, subst, arith, append_assoc}
 use Rattle.std.proofs.lemmas.List.{set-get_or}
-use mathlib.Core.Option.{none, some, some-injective}
+use mathlib.Core.Option.{some, some-injective}
 use lib.ListN.{get_elem?}
-use Rattle.atomic_table.specs.Table.{step, keeps, Allows, Splits, Joins}
+use Rattle.atomic_table.specs.Table.{keeps, Splits, Joins}
 use Rattle.atomic_table.proofs.Lists.{set_again}
 use Rattle.vs_history.specs.declared.packet.Packet.{Packet}
 use Rattle.vs_page.specs.Fair.{IsFairLog}
@@ -19,10 +19,11 @@ use Rattle.vs_ring_rule.specs.declared.view.View.{View}
 use Rattle.vs_ring_rule.specs.OneQueue.{Core}
 use Rattle.vs_ring_rule.specs.Rule.{Seated, Slots, homes_in, queue_in, flags_of, Pair, IsOlder, IsCopy, Copies, Stands, Rule}
 use Rattle.vs_ring_rule.specs.Meets.{nobody_view, copy_owner, copy_of, told, joined, knows, ties}
-use Rattle.vs_ring_rule.specs.Tells.{Stores, Loads, at_cid}
+use Rattle.vs_ring_rule.specs.Tells.{Loads, at_cid}
 use Rattle.vs_ring_rule.proofs.Olders.{older_self}
 use Rattle.vs_ring_rule.proofs.Pairs.{device_has_got, driver_has_got}
-use Rattle.vs_ring_rule.proofs.Seats.{driver_sits, device_sits, driver_moved, device_moved, not_end, copy_there, copies_stay}
+use Rattle.vs_ring_rule.proofs.Seats.{set_first, set_second, driver_sits, device_sits, driver_moved, device_moved, not_end, copy_there}
+use Rattle.vs_ring_rule.proofs.Seats.{copies_stay}
 use Rattle.vs_ring_rule.proofs.Told.{cid_told}
 
 copies_snoc : (others : List View) (v d e : View) → Copies others d e → IsCopy v.owner v.log d e → Copies (others ++ v ∷ []) d e
@@ -150,14 +151,19 @@ still_two : (v e x : View) (l : Log) → v.whole ≡ false → Stands v e x → 
 still_two v e x l still_open (inl a) = inl a
 still_two v e x l still_open (inr b) = let t = b.1 in absurd cc
 
+-- a copy's seat is nobody's from then on
+spent : (views : List View) (a b : View) (others : List View) (other index : ℕ) → views ≡ a ∷ b ∷ others → other ≡ suc (suc index)
+    → set views other nobody_view ≡ a ∷ b ∷ set others index nobody_view
+spent views a b others other index is at =
+    ap (λ (l : List View). set l other nobody_view) is ∙ ap (λ (i : ℕ). set (a ∷ b ∷ others) i nobody_view) at
+
 -- a copy of the device's log comes into the driver's seat
 pub told_driver : (n id : ℕ) (v : View) (other : ℕ) (w : View) → v.owner ≡ Driver → v.whole ≡ false → w.owner ≡ DeviceCopy
     → Joins (Rule n) id v other w (told v w) nobody_view
 told_driver n id v other w mine still_open is t law at apart there =
     let p = driver_sits n id v t law at mine in
     let both : View = told v w in
-    let views : set t.views id both ≡ both ∷ p.second ∷ p.others =
-    ap (λ (i : ℕ). set t.views i both) p.id_is ∙ ap (λ (l : List View). set l 0 both) p.views in
+    let views : set t.views id both ≡ both ∷ p.second ∷ p.others = set_first t.views id v p.second both p.others p.id_is p.views in
     let b = beside both p.second p.others v p.device other w p.copies
     (λ (same : v.owner ≡ w.owner). let e : Driver ≡ DeviceCopy = sym mine ∙ same ∙ is in cc)
     (λ (same : p.second.owner ≡ w.owner). stands_owner v p.device p.second DeviceCopy p.device_is p.stands (λ e. cc) (λ e. cc) (same ∙ is))
@@ -170,8 +176,7 @@ told_driver n id v other w mine still_open is t law at apart there =
         second = p.second;
         others = set p.others b.index nobody_view;
         slots = p.slots;
-        views = ap (λ (l : List View). set l other nobody_view) views
-            ∙ ap (λ (i : ℕ). set (both ∷ p.second ∷ p.others) i nobody_view) b.other_is;
+        views = spent (set t.views id both) both p.second p.others other b.index views b.other_is;
         stands = still_two v p.device p.second both.heard still_open p.stands;
         driver_is = mine;
         device_is = p.device_is;
@@ -192,8 +197,7 @@ told_device n id v other w mine still_open is t law at apart there =
     let p = device_sits n id v t law at mine in
     let d = p.driver in
     let both : View = told v w in
-    let views : set t.views id both ≡ d ∷ both ∷ p.others =
-    ap (λ (i : ℕ). set t.views i both) p.id_is ∙ ap (λ (l : List View). set l 1 both) p.views in
+    let views : set t.views id both ≡ d ∷ both ∷ p.others = set_second t.views id d v both p.others p.id_is p.views in
     let b = beside d both p.others d v other w p.copies
     (λ (same : d.owner ≡ w.owner). let e : Driver ≡ DriverCopy = sym p.driver_is ∙ same ∙ is in cc)
     (λ (same : v.owner ≡ w.owner). let e : Device ≡ DriverCopy = sym mine ∙ same ∙ is in cc)
@@ -206,7 +210,7 @@ told_device n id v other w mine still_open is t law at apart there =
         second = both;
         others = set p.others b.index nobody_view;
         slots = p.slots;
-        views = ap (λ (l : List View). set l other nobody_view) views ∙ ap (λ (i : ℕ). set (d ∷ both ∷ p.others) i nobody_view) b.other_is;
+        views = spent (set t.views id both) d both p.others other b.index views b.other_is;
         stands = inl (refl, p.open_yet);
         driver_is = p.driver_is;
         device_is = mine;
@@ -237,8 +241,7 @@ pub joins : (n id : ℕ) (v : View) (other : ℕ) (w : View) → v.owner ≡ Dri
 joins n id v other w mine is t law at apart there =
     let p = driver_sits n id v t law at mine in
     let both : View = joined v w in
-    let views : set t.views id both ≡ both ∷ p.second ∷ p.others =
-    ap (λ (i : ℕ). set t.views i both) p.id_is ∙ ap (λ (l : List View). set l 0 both) p.views in
+    let views : set t.views id both ≡ both ∷ p.second ∷ p.others = set_first t.views id v p.second both p.others p.id_is p.views in
     let d = device_there both p.second v p.device p.others other w mine p.stands p.copies is
     (subst (λ (l : List View). get_elem? l other ≡ some w) views there) in
     let log : w.log ≡ p.device.log = ap (λ (z : View). z.log) d.1 in (

@@ -179,6 +179,15 @@ pub copies_stay : (others : List View) (d d' e e' : View) → IsOlder d.log d'.l
 copies_stay [] d d' e e' p q c = tt
 copies_stay (v ∷ vs) d d' e e' p q c = (copy_stays v.owner v.log d d' e e' p q c.0, copies_stay vs d d' e e' p q c.1)
 
+-- another view in the first seat, and in the second
+pub set_first : (views : List View) (id : ℕ) (a b w : View) (others : List View) → id ≡ 0 → views ≡ a ∷ b ∷ others
+    → set views id w ≡ w ∷ b ∷ others
+set_first views id a b w others first is = ap (λ (i : ℕ). set views i w) first ∙ ap (λ (l : List View). set l 0 w) is
+
+pub set_second : (views : List View) (id : ℕ) (a b w : View) (others : List View) → id ≡ 1 → views ≡ a ∷ b ∷ others
+    → set views id w ≡ a ∷ w ∷ others
+set_second views id a b w others second is = ap (λ (i : ℕ). set views i w) second ∙ ap (λ (l : List View). set l 1 w) is
+
 -- the rule after a step of the driver, which leaves it with the view w
 pub driver_moved : (n id : ℕ) (v w : View) (t : Table) (words : List ℕ) (homes : Homes) (slots : Slots) (p : DriverSits n id v t)
     → length homes ≡ 3 * n → w.owner ≡ Driver → words ≡ all_words w p.device → homes ≡ all_slots slots → Stands w p.device p.second
@@ -192,7 +201,7 @@ driver_moved n id v w t words homes slots p wide owner is homes_are stands more 
     second = p.second;
     others = p.others;
     slots = slots;
-    views = ap (λ (i : ℕ). set t.views i w) p.id_is ∙ ap (λ (l : List View). set l 0 w) p.views;
+    views = set_first t.views id v p.second w p.others p.id_is p.views;
     stands = stands;
     driver_is = owner;
     device_is = p.device_is;
@@ -217,7 +226,7 @@ device_moved n id v w t words homes slots p wide owner is homes_are more heard p
     second = w;
     others = p.others;
     slots = slots;
-    views = ap (λ (i : ℕ). set t.views i w) p.id_is ∙ ap (λ (l : List View). set l 1 w) p.views;
+    views = set_second t.views id p.driver v w p.others p.id_is p.views;
     stands = inl (refl, p.open_yet);
     driver_is = p.driver_is;
     device_is = owner;
