@@ -8,7 +8,8 @@ ghost use Rattle.vs_ring_port.specs.declared.queue.Queue.{Queue};
 ghost use Rattle.vs_ring_rule.specs.Meets.{copy_of, joined, knows, nobody_view, ties, told};
 ghost use Rattle.vs_ring_rule.specs.OneQueue.{Page, descriptor, element, given, taken, times};
 ghost use Rattle.vs_ring_rule.specs.Rule.{Rule, Seated, device_from, driver_from, flags_of, queue_in};
-ghost use Rattle.vs_ring_rule.specs.Tells.{Loads, Stores, at_cid, at_device, at_driver, device_base, device_gives, device_looks, device_reads};
+ghost use Rattle.vs_ring_rule.specs.Tells.{Loads, Stores, at_cid, at_device, at_driver, device_base, device_gives};
+ghost use Rattle.vs_ring_rule.specs.Tells.{device_looks, device_reads};
 ghost use Rattle.vs_ring_rule.specs.Tells.{device_resets, device_returns, device_takes, driver_base, driver_describes, driver_enters};
 ghost use Rattle.vs_ring_rule.specs.Tells.{driver_gives, driver_loads, driver_looks, driver_takes, lays, slot_in, slots_base};
 ghost use Rattle.vs_ring_rule.specs.declared.view.Owner.TheVariants.{Device, DeviceCopy, Driver, DriverCopy, Maker};
@@ -21,7 +22,8 @@ ghost use Rattle.vs_ring_rule.specs.declared.view.View.{View};
 pub fn laws_of_driver_steps()
     ensures descriptor { (n id : ℕ) (queue : Queue) (me : Seated) (k x : ℕ) → me.0.owner ≡ Driver → 0 < times k (queue_in queue me.0).held
         → (queue_in queue me.0).out ≡ None → Stores n id me (driver_base n queue + k) x (at_driver queue (driver_describes queue)) }
-    ensures entry { (n id : ℕ) (queue : Queue) (me : Seated) (x : ℕ) → me.0.owner ≡ Driver → let q = queue_in queue me.0 in given q < taken q + n
+    ensures entry { (n id : ℕ) (queue : Queue) (me : Seated) (x : ℕ) → me.0.owner ≡ Driver
+        → let q = queue_in queue me.0 in given q < taken q + n
         → Stores n id me (driver_base n queue + (n + given q % n)) x (at_driver queue (driver_enters queue)) }
     ensures index { (n id : ℕ) (queue : Queue) (me : Seated) (x k : ℕ) (page : Page) (more : List (ℕ × Option Page)) → me.0.owner ≡ Driver
         → me.1 ≡ (slots_base n queue + k, Some page) ∷ more → let q = queue_in queue me.0 in 0 < times k q.held → q.out ≡ Some k
@@ -30,7 +32,8 @@ pub fn laws_of_driver_steps()
         → Stores n id me (driver_base n queue + 2 * n) x (at_driver queue (driver_gives queue)) }
     ensures look { (n id : ℕ) (queue : Queue) (me : Seated) → me.0.owner ≡ Driver
         → Loads n id me (device_base n queue + n) (at_device queue (driver_looks queue)) }
-    ensures take { (n id : ℕ) (queue : Queue) (me : Seated) → me.0.owner ≡ Driver → let q = queue_in queue me.0 in taken q < q.seen → q.out ≡ None
+    ensures take { (n id : ℕ) (queue : Queue) (me : Seated) → me.0.owner ≡ Driver
+        → let q = queue_in queue me.0 in taken q < q.seen → q.out ≡ None
         → Loads n id me (device_base n queue + taken q % n) (at_device queue (driver_takes queue)) }
     ensures lay { (n id : ℕ) (queue : Queue) (me : Seated) (k : ℕ) (more : List (ℕ × Option Page)) → me.0.owner ≡ Driver
         → me.1 ≡ (slots_base n queue + k, None) ∷ more → let q = queue_in queue me.0 in 0 < times k q.held → q.out ≡ Some k
@@ -38,16 +41,18 @@ pub fn laws_of_driver_steps()
     ensures load { (n id : ℕ) (me : Seated) → me.0.owner ≡ Driver → Loads n id me 0 (at_cid driver_loads) }
 {}
 
-/// Each step of the device on a queue keeps the rule. It loads the available index, an available entry, and the descriptor word, by which it
-/// takes a page; it stores a used element of a slot that it holds, and the used index, by which it gives the page back: the log with the
+/// Each step of the device on a queue keeps the rule. It loads the available index, an available entry, and the descriptor word, by
+/// which it takes a page; it stores a used element of a slot that it holds, and the used index, by which it gives the page back: the log with the
 /// page's packet has to be fair. It loads word 0, by which an emptied slot goes home, and stores another CID there (Virtio 1.2, section
 /// 2.7.14).
 pub fn laws_of_device_steps()
     ensures look { (n id : ℕ) (queue : Queue) (me : Seated) → me.0.owner ≡ Device
         → Loads n id me (driver_base n queue + 2 * n) (at_driver queue (device_looks queue)) }
-    ensures entry { (n id : ℕ) (queue : Queue) (me : Seated) → me.0.owner ≡ Device → let q = queue_in queue me.0 in taken q < q.seen
+    ensures entry { (n id : ℕ) (queue : Queue) (me : Seated) → me.0.owner ≡ Device
+        → let q = queue_in queue me.0 in taken q < q.seen
         → Loads n id me (driver_base n queue + (n + taken q % n)) (at_driver queue (device_reads queue)) }
-    ensures take { (n id : ℕ) (queue : Queue) (me : Seated) (k : ℕ) → me.0.owner ≡ Device → let q = queue_in queue me.0 in taken q < q.seen
+    ensures take { (n id : ℕ) (queue : Queue) (me : Seated) (k : ℕ) → me.0.owner ≡ Device
+        → let q = queue_in queue me.0 in taken q < q.seen
         → q.entry ≡ Some k → q.out ≡ None → Loads n id me (driver_base n queue + k) (at_driver queue (device_takes queue)) }
     ensures element { (n id : ℕ) (queue : Queue) (me : Seated) (x : ℕ) → me.0.owner ≡ Device
         → let q = queue_in queue me.0 in 0 < times (slot_in x) q.held → q.out ≡ None → given q < taken q
