@@ -1,14 +1,16 @@
 -- Logs grow: what an entry leaves of the CID, and what an end was told of the other's log.
-use Rattle.std.proofs.Common.{◌≡◌, ℕ, List, [], ◌∷◌, ◌++◌, Option, Some, None, length, refl, sym, ap, ◌∙◌, arith, append_assoc}
+use Rattle.std.proofs.Common.{◌≡◌, ℕ, List, [], ◌∷◌, ◌++◌, Option, Some, None, length, refl, sym, ap, ◌∙◌, subst, arith, append_assoc}
 use Rattle.std.proofs.Common.{length-append}
 use Rattle.std.proofs.lemmas.List.{append-nil}
 use Rattle.vs_history.specs.declared.packet.Packet.{Packet}
 use Rattle.vs_page.specs.declared.log.LogEntry.{LogEntry}
 use Rattle.vs_page.specs.declared.log.LogEntry.TheVariants.{PutPacket, GotPacket, PutEvent, GotEvent, Mark}
 use Rattle.vs_page.specs.Held.{packet_held, event_held}
-use Rattle.vs_page.specs.Log.{Log, packets_put, events_put}
+use Rattle.vs_page.specs.Fair.{IsFairLog}
+use Rattle.vs_page.proofs.Entries.{one_put, one_got}
+use Rattle.vs_page.specs.Log.{Role, Driver, Log, packets_put, events_put}
 use Rattle.vs_page.specs.Open.{cid_of}
-use Rattle.vs_ring_port.specs.EndLog.{with_packet, with_event, entries_published, entries_reaped, entries_marked, entries_taken}
+use Rattle.vs_ring_port.specs.EndLog.{all_put, with_packet, with_event, entries_published, entries_reaped, entries_marked, entries_taken}
 use Rattle.vs_ring_port.specs.EndLog.{entries_returned}
 use Rattle.vs_ring_port.specs.declared.queue.Queue.{Queue}
 use Rattle.vs_ring_port.specs.declared.queue.Queue.TheVariants.{Rx, Tx, Event}
@@ -55,6 +57,31 @@ older_returned Event page log = older_event (λ id. PutEvent id) (event_held pag
 pub older_marked : (cid : ℕ) (log : Log) → IsOlder log (entries_marked cid log)
 older_marked cid [] = ([], refl)
 older_marked cid (entry ∷ log) = (Mark cid ∷ [], refl)
+
+-- a fair log was fair before
+pub older_fair : (role : Role) (more old : Log) → IsFairLog role (more ++ old) → IsFairLog role old
+older_fair role [] old fair = fair
+older_fair role (PutPacket p ∷ more) old fair = older_fair role more old ((one_put role (more ++ old) p).0 fair).0
+older_fair role (GotPacket p ∷ more) old fair = older_fair role more old ((one_got role (more ++ old) p).0 fair).0
+older_fair role (PutEvent id ∷ more) old fair = older_fair role more old fair
+older_fair role (GotEvent id ∷ more) old fair = older_fair role more old fair
+older_fair role (Mark cid ∷ more) old fair = older_fair role more old fair
+
+older_all_put : (pages : List Page) (log : Log) → IsOlder log (all_put pages log)
+older_all_put [] log = older_self log
+older_all_put (page ∷ pages) log =
+    let one = with_packet (λ p. PutPacket p) (packet_held page) log in
+    older_on log one (all_put pages one) (older_packet (λ p. PutPacket p) (packet_held page) log) (older_all_put pages one)
+
+-- a log that is fair with the packets of several pages is fair with the first
+pub first_fair : (queue : Queue) (page : Page) (pages : List Page) (log : Log) → IsFairLog Driver (entries_published queue (page ∷ pages) log)
+    → IsFairLog Driver (entries_published queue (page ∷ []) log)
+first_fair Rx page pages log fair = fair
+first_fair Tx page pages log fair =
+    let one = with_packet (λ p. PutPacket p) (packet_held page) log in
+    let all = older_all_put pages one in
+    older_fair Driver all.0 one (subst (IsFairLog Driver) all.1 fair)
+first_fair Event page pages log fair = fair
 
 -- packets and events leave the CID
 cid_packet_got : (first : ℕ) (p : Option Packet) (log : Log) → cid_of first (with_packet (λ p. GotPacket p) p log) ≡ cid_of first log

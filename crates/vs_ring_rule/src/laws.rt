@@ -1,12 +1,13 @@
 //! What the rule says of the two ends. It holds of the table as it is made, and each kind of step of specs/Tells.antt keeps it, so it
 //! holds between any two atomic steps, whatever their order.
-ghost use Rattle.std.specs.Prelude.{◌≡◌, ℕ, ◌+◌, ◌*◌, ◌%◌, ◌^◌, ◌<◌, ◌≤◌, ◌∷◌, None, length, replicate, slice_index};
+ghost use Rattle.std.specs.Prelude.{◌≡◌, ℕ, ◌+◌, ◌*◌, ◌%◌, ◌^◌, ◌<◌, ◌≤◌, List, ◌∷◌, [], None, length, replicate, slice_index};
 ghost use mathlib.Core.Option.{some};
 ghost use lib.ListN.{get_elem?};
 ghost use Rattle.atomic_table.specs.Table.{opening};
 ghost use Rattle.vs_page.specs.Fair.{IsFairLog};
-ghost use Rattle.vs_page.specs.Log.{Device, Driver, HasGotAll};
+ghost use Rattle.vs_page.specs.Log.{Device, Driver, HasGotAll, Log};
 ghost use Rattle.vs_page.specs.Open.{cid_of};
+ghost use Rattle.vs_ring_port.specs.EndLog.{entries_published};
 ghost use Rattle.vs_ring_port.specs.declared.queue.Queue.{Queue};
 ghost use Rattle.vs_ring_rule.specs.OneQueue.{Page, descriptor, element, given, taken, times};
 ghost use Rattle.vs_ring_rule.specs.Rule.{Pair, Rule, Slots, Table, TwoEnds, first_view, queue_in};
@@ -44,4 +45,10 @@ pub fn laws_of_words()
     ensures descriptor_fits { (flags : ℕ) (page : Page) → flags < 2 ^ 16 → length page < 2 ^ 32 → descriptor flags page < 2 ^ 64 }
     ensures element_fits { (k : ℕ) (page : Page) → k < 2 ^ 32 → length page < 2 ^ 32 → element k page < 2 ^ 64 }
     ensures slot { (k : ℕ) (page : Page) → k < 2 ^ 32 → slot_in (element k page) ≡ k }
+{}
+
+/// Pages that are published one after another: a log that is fair with all of them is fair with the first.
+pub fn law_of_publishing()
+    ensures { (queue : Queue) (page : Page) (pages : List Page) (log : Log) → IsFairLog Driver (entries_published queue (page ∷ pages) log)
+        → IsFairLog Driver (entries_published queue (page ∷ []) log) }
 {}

@@ -42,9 +42,9 @@ pub fn laws_of_driver_steps()
 {}
 
 /// Each step of the device on a queue keeps the rule. It loads the available index, an available entry, and the descriptor word, by
-/// which it takes a page; it stores a used element of a slot that it holds, and the used index, by which it gives the page back: the log with the
-/// page's packet has to be fair. It loads word 0, by which an emptied slot goes home, and stores another CID there (Virtio 1.2, section
-/// 2.7.14).
+/// which it takes a page; it stores a used element of a slot that it holds, and the used index, by which it gives the page back: the log
+/// with the page's packet has to be fair. It loads word 0, by which an emptied slot goes home, and stores another CID there (Virtio 1.2,
+/// section 2.7.14).
 pub fn laws_of_device_steps()
     ensures look { (n id : ℕ) (queue : Queue) (me : Seated) → me.0.owner ≡ Device
         → Loads n id me (driver_base n queue + 2 * n) (at_driver queue (device_looks queue)) }
