@@ -154,6 +154,11 @@ after_recv id n s = elim (entry_known_as id s) [
   | None ↦ record s { gone = all_gone_after_read id n s.gone }
 ]
 
+-- The connection after it put what it owed. Its RESPONSE answers it.
+abbrev pub paid_connection : Owed → DriverConnection → DriverConnection
+paid_connection owed.Response c = record c { end = paid_of c.end owed.Response; unanswered = false }
+paid_connection what c = record c { end = paid_of c.end what }
+
 -- shutdown. What is not to be received any more is dropped.
 abbrev pub kept_unread : ConnectionEnd → List ℕ → List ℕ
 kept_unread end unread = if end.own.receive then [] else unread

@@ -1,5 +1,10 @@
 pub mod State
+pub mod Room
 pub mod Listening
+pub mod ListenerFields
 pub mod Connections
 pub mod Receiving
 pub mod Conversations
+pub mod Held
+pub mod SlotFields
+pub mod Conditions

@@ -33,8 +33,11 @@ listen_of port s =
     else if nat_le LISTENERS (length s.listeners) then Err (refused.Full LISTENERS)
     else Ok tt
 
+abbrev pub with_port : ℕ → List Listener → List Listener
+with_port port ls = ls ++ record { port = port; waiting = [] } ∷ []
+
 abbrev pub listening : ℕ → DriverState → DriverState
-listening port s = record s { listeners = s.listeners ++ record { port = port; waiting = [] } ∷ [] }
+listening port s = record s { listeners = with_port port s.listeners }
 
 -- Whether the RESPONSE of a connection was put.
 abbrev pub is_answered : DriverState → ℕ → Bool

@@ -2,7 +2,11 @@
 #![tactic(auto)]
 
 pub mod answers;
+mod connection;
+mod gone;
 pub mod limits;
+mod listeners;
+mod slots;
 
 pub use answers::{
     Accepted, Closed, ConnId, ConnectError, ConnectionState, ListenError, NotListening, Polled,
