@@ -4,7 +4,7 @@ use crate::device::DeviceSide;
 use std::alloc::AllocError;
 use vs_guest_mem::PlainMem;
 use vs_layout::{Desc, NEXT, Span, queue_areas};
-use vs_ring_port::{Next, Queue};
+use vs_ring_port::{DeviceRing, Next, Queue};
 
 // A packet of 44 bytes in two pieces is taken, read and returned.
 #[test]
@@ -36,16 +36,15 @@ fn chain_taken_read_and_returned(rt: HostRuntime) -> Result<(), AllocError> {
     assert!(rt; areas.tx.are_inside(8, span));
     assert!(rt; areas.event.are_inside(8, span));
     let mut ring = DeviceSide::new(rt.alloc(), mem, areas, 8, false)?;
-    let Next::Chain(chain) = ring.take(Queue::Tx) else {
+    let Next::Chain(chain) = ring.next(Queue::Tx) else {
         panic!(rt; "no chain was found");
     };
     assert_eq!(rt; chain.readable, 44);
     let mut bytes = [0; 3];
-    ring.read_chain(&chain, 18, &mut bytes);
+    ring.read(&chain, 18, &mut bytes);
     assert_eq!(rt; bytes, [7, 8, 9]);
-    assert_eq!(rt; ring.take(Queue::Tx), Next::None);
-    ring.give_back(chain, 0);
-    assert_eq!(rt; ring.take(Queue::Tx), Next::None);
+    ring.done(chain, 0);
+    assert_eq!(rt; ring.next(Queue::Tx), Next::None);
     let mut index = [0; 2];
     assert_eq!(rt; ring.mem().look(4474, &mut index), Ok(()));
     assert_eq!(rt; index, [1, 0]);
