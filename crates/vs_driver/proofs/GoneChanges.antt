@@ -16,6 +16,10 @@ module _ (id : ℕ) (gone : List GoneConnection) where
       read_map id n gone
       ∙ changed_none (λ g. g.id == id) (λ g. record g { unread = drop n g.unread }) gone (passes_nowhere _ gone (found_nowhere (λ g. g.id == id) gone none))
 
+  pub read_none : (n : ℕ) → find (λ g. g.id == id) gone ≡ None → all_gone_after_read id n gone ≡ gone
+  read_none n none =
+      read_map id n gone ∙ changed_none (λ g. g.id == id) (λ g. record g { unread = drop n g.unread }) gone (passes_nowhere (λ g. g.id == id) gone none)
+
   pub closed_nowhere : position (λ g. g.id == id) gone ≡ None → without_gone id gone ≡ gone
   closed_nowhere none = kept_none (λ g. g.id == id) gone (passes_nowhere _ gone (found_nowhere (λ g. g.id == id) gone none))
 

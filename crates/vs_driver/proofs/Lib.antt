@@ -6,4 +6,14 @@ pub mod Numbers
 pub mod SlotChanges
 pub mod SameIds
 pub mod GoneChanges
+pub mod Known
+pub mod Reading
+pub mod RingPages
+pub mod Connecting
+pub mod Sending
+pub mod Packets
+pub mod Taking
+pub mod Paying
+pub mod Posting
 pub mod Conditions
+pub mod Loops

@@ -19,6 +19,8 @@ use Rattle.vs_driver.specs.declared.answers.ConnectionState.{ConnectionState}
 use Rattle.vs_driver.specs.declared.answers.ConnectionState.TheVariants as seen
 use Rattle.vs_driver.specs.declared.answers.ConnectError.{ConnectError}
 use Rattle.vs_driver.specs.declared.answers.ConnectError.TheVariants as refused
+use Rattle.vs_driver.specs.declared.answers.Closed.{Closed}
+use Rattle.vs_driver.specs.declared.answers.Closed.TheVariants as closed
 use Rattle.vs_driver.specs.declared.answers.Received.{Received}
 use Rattle.vs_driver.specs.declared.answers.Received.TheVariants as got
 use Rattle.vs_driver.specs.declared.answers.Shut.{Shut}
@@ -124,10 +126,16 @@ abbrev pub read_of : ℕ → List ℕ → Received → Received
 read_of n [] none = none
 read_of n unread none = got.Got (min n (length unread))
 
+abbrev pub entry_answer : ℕ → DriverEntry → Received
+entry_answer n e = read_of n e.value.unread (if is_at_end e.value.end then got.End else nothing_read e.value.end.state)
+
+abbrev pub gone_answer : ℕ → GoneConnection → Received
+gone_answer n g = read_of n g.unread (if is_at_end g.end then got.End else got.Reset)
+
 abbrev pub recv_of : ℕ → ℕ → DriverState → Received
 recv_of id n s = elim (entry_known_as id s) [
-  | Some e ↦ read_of n e.value.unread (if is_at_end e.value.end then got.End else nothing_read e.value.end.state)
-  | None ↦ elim (gone_known_as id s) [ None ↦ got.Unknown | Some g ↦ read_of n g.unread (if is_at_end g.end then got.End else got.Reset) ]
+  | Some e ↦ entry_answer n e
+  | None ↦ elim (gone_known_as id s) [ None ↦ got.Unknown | Some g ↦ gone_answer n g ]
 ]
 
 -- The bytes that it gives: of the connection's unread ones the first.
@@ -136,6 +144,10 @@ unread_of_id id s = elim (entry_known_as id s) [
   | Some e ↦ e.value.unread
   | None ↦ option_map_or (λ g. g.unread) (gone_known_as id s) []
 ]
+
+-- A buffer into which as many of the unread bytes as it holds were read. The rest of it stays.
+abbrev pub bytes_read : List ℕ → List ℕ → List ℕ
+bytes_read unread out = let n = min (length out) (length unread) in take n unread ++ drop n out
 
 -- The connection after n bytes at most were read: they count as forwarded.
 abbrev pub after_read : ℕ → DriverConnection → DriverConnection
@@ -148,9 +160,12 @@ abbrev pub all_gone_after_read : ℕ → ℕ → List GoneConnection → List Go
 all_gone_after_read id n [] = []
 all_gone_after_read id n (g ∷ gs) = gone_after_read id n g ∷ all_gone_after_read id n gs
 
+abbrev pub entry_read : ℕ → DriverEntry → DriverState → DriverState
+entry_read n e s = if length e.value.unread == 0 then s else with_connection e.slot (after_read n e.value) s
+
 abbrev pub after_recv : ℕ → ℕ → DriverState → DriverState
 after_recv id n s = elim (entry_known_as id s) [
-  | Some e ↦ if length e.value.unread == 0 then s else with_connection e.slot (after_read n e.value) s
+  | Some e ↦ entry_read n e s
   | None ↦ record s { gone = all_gone_after_read id n s.gone }
 ]
 
@@ -178,9 +193,13 @@ shutdown_of id s = elim (entry_known_as id s) [
   | None ↦ if is_some (gone_known_as id s) then shut.Reset else shut.Unknown
 ]
 
+abbrev pub shut_in : State → ℕ → DriverEntry → DriverState → DriverState
+shut_in state.Live bits e s = with_connection e.slot (after_shut bits e.value) s
+shut_in _ bits e s = s
+
 abbrev pub after_shutdown : ℕ → ℕ → DriverState → DriverState
 after_shutdown id bits s = elim (entry_known_as id s) [
-  | Some e ↦ elim e.value.end.state [ state.Live ↦ with_connection e.slot (after_shut bits e.value) s | _ ↦ s ]
+  | Some e ↦ shut_in e.value.end.state bits e s
   | None ↦ s
 ]
 
@@ -195,14 +214,20 @@ after_closing _ c = record c { end = aborted c.end; closed = true }
 abbrev pub is_known : ℕ → DriverState → Bool
 is_known id s = is_some (entry_known_as id s) || is_some (gone_known_as id s)
 
-abbrev pub after_close : ℕ → DriverState → DriverState
-after_close id s = elim (entry_known_as id s) [
-  | Some e ↦ waits_no_more e (with_connection e.slot (after_closing e.value.end.state e.value) s)
-  | None ↦ elim (gone_known_as id s) [
-    | None ↦ s
-    | Some g ↦ record s { gone = without_gone id s.gone; listeners = with_waiting g.flow.guest (without_id id) s.listeners }
-  ]
+abbrev pub close_of : ℕ → DriverState → Closed
+close_of id s = if is_known id s then closed.Done else closed.Unknown
+
+abbrev pub entry_closed : DriverEntry → DriverState → DriverState
+entry_closed e s = waits_no_more e (with_connection e.slot (after_closing e.value.end.state e.value) s)
+
+abbrev pub gone_closed : ℕ → DriverState → DriverState
+gone_closed id s = elim (gone_known_as id s) [
+  | None ↦ s
+  | Some g ↦ record s { gone = without_gone id s.gone; listeners = with_waiting g.flow.guest (without_id id) s.listeners }
 ]
+
+abbrev pub after_close : ℕ → DriverState → DriverState
+after_close id s = elim (entry_known_as id s) [ Some e ↦ entry_closed e s | None ↦ gone_closed id s ]
 
 abbrev pub without_listener : ℕ → List Listener → List Listener
 without_listener port ls = filter (λ l. not (l.port == port)) ls

@@ -5,6 +5,10 @@ pub mod ListenerFields
 pub mod Connections
 pub mod Receiving
 pub mod Conversations
+pub mod Playing
+pub mod Outcomes
 pub mod Held
+pub mod PageCounts
+pub mod PageFields
 pub mod SlotFields
 pub mod Conditions

@@ -67,6 +67,13 @@ impl Gone {
         self.end.view()
     }
 
+    /// Whether no byte is unread.
+    pub fn is_empty(&self) -> bool
+        ensures { result ≡ (length self.now.unread == 0) }
+    {
+        self.unread.is_empty()
+    }
+
     /// Moves the first unread bytes to the front of `out`, as many as it holds. The rest of `out` stays.
     pub fn read(&mut self, out: &mut [u8]) -> usize
         ensures count { result ≡ min (length out.old) (length self.old.unread) }

@@ -56,6 +56,16 @@ impl PortListener {
         self.waiting.as_slice()
     }
 
+    fn all_waiting(&self) -> ArrayVec<ConnId, WAITING>
+        ensures { result.items ≡ self.now.waiting }
+    {
+        let mut all = ArrayVec::new();
+        match all.try_extend_from_slice(self.waiting.as_slice()) {
+            Ok(()) => all,
+            Err(_) => unreachable!(),
+        }
+    }
+
     fn wait(&mut self, id: ConnId)
         requires place { length self.old.waiting < WAITING }
         ensures { self.new ≡ record self.old { waiting = waiting_too id self.old.waiting } }
@@ -139,6 +149,16 @@ impl Listeners {
         match place_of(&self.ports, port) {
             Some(place) => self.ports[place].waiting(),
             None => &[],
+        }
+    }
+
+    /// A copy of these ids.
+    pub fn all_waiting(&self, port: u32) -> ArrayVec<ConnId, WAITING>
+        ensures { result.items ≡ option_map_or (λ l. l.waiting) (listener_on port self.now) [] }
+    {
+        match place_of(&self.ports, port) {
+            Some(place) => self.ports[place].all_waiting(),
+            None => ArrayVec::new(),
         }
     }
 

@@ -1,30 +1,33 @@
 //! The driver's slots: connections of the table, those that are gone and not closed, and the buffers of free slots.
 
-ghost use Rattle.std.specs.Prelude.{◌≡◌, ◌<◌, ◌≤◌, ◌++◌, ◌==◌, true, false, length, min, take, drop, find, Some, None, IfOk, IfSome, option_copied, position, remove, slice_get, ◌^◌, vec_capacity};
+ghost use Rattle.std.specs.Prelude.{◌≡◌, ◌<◌, ◌≤◌, ◌++◌, ◌==◌, true, false, length, min, take, drop, find, Some, None, IfOk, IfSome, IfNone, IsSomeAnd, option_copied, position, remove, slice_get, ◌^◌, vec_capacity};
 ghost use Rattle.std.specs.List.{All};
-ghost use Rattle.std.specs.Option.{option_map};
-ghost use Rattle.vs_conn.specs.End.{CanSend, answering, owes_of, verdict_of, may_shut, with_payload_sent, wanting_credit};
+ghost use Rattle.std.specs.Option.{option_map, option_and_then};
+ghost use Rattle.vs_conn.specs.Headers.{owed_header, payload_header};
+ghost use Rattle.vs_conn.specs.End.{CanSend, answering, may_send_of, owes_of, verdict_of, may_shut, with_payload_sent, wanting_credit};
 ghost use Rattle.vs_conn.specs.declared.end.State.TheVariants.{Live};
 ghost use Rattle.vs_credit.specs.Credit.{free_of};
 ghost use Rattle.vs_flow.specs.Flow.{is_assigned};
-ghost use Rattle.vs_flow.specs.Table.{IsTable, entry_of, entry_under, value_under, with_entry};
+ghost use Rattle.vs_flow.specs.Table.{IsTable, entry_of, entry_under, slots, value_under, with_entry};
 ghost use Rattle.vs_history.specs.declared.packet.Packet.{Packet};
 ghost use Rattle.vs_page.specs.Held.{IsWhole};
 ghost use Rattle.vs_driver.specs.declared.limits.TheConstants.{FIRST_PORT, LAST_PORT, LAST_ID, SLOTS};
 ghost use Rattle.vs_driver.specs.State.{DriverEntry, DriverConnection, GoneConnection, is_known_as};
-ghost use Rattle.vs_driver.specs.Connections.{after_read, after_shut, after_closing, paid_connection, without_gone, all_gone_after_read};
+ghost use Rattle.vs_driver.specs.Connections.{route_to_host, after_read, after_shut, after_closing, paid_connection, without_gone, all_gone_after_read};
 ghost use Rattle.vs_driver.specs.Receiving.{after_packet};
 ghost use Rattle.vs_driver.specs.Room.{IsSpare};
 ghost use Rattle.vs_driver.specs.Held.{no_slots, held_in, with_asked_in, with_answering_in, with_connection_in, left_in};
 
 use crate::answers::ConnId;
+use crate::connect::route_to_host;
 use crate::connection::Connection;
 use crate::gone::Gone;
 use crate::limits::SLOTS;
+use arrayvec::ArrayVec;
 use std::alloc::{AllocError, Global};
 use std::marker::Model;
 use vs_buffer::ByteFifo;
-use vs_conn::{Owed, Verdict};
+use vs_conn::{Owed, Stop, Verdict};
 use vs_flow::{Entry, Flow, FlowTable, Slot};
 use vs_header::Header;
 use vs_history::BUF_ALLOC;
@@ -136,6 +139,14 @@ impl Slots {
         Some(slot)
     }
 
+    /// The connection of the table that the application knows by an id.
+    pub fn known(&self, id: ConnId) -> Option<&Connection>
+        ensures { option_copied result ≡ option_map (λ e. e.value) (find (is_known_as id) self.now.table.entries) }
+    {
+        let slot = self.known_as(id)?;
+        self.table.get(slot)
+    }
+
     /// The slot of the connection of a flow.
     pub fn by_flow(&self, flow: Flow) -> Option<Slot>
         ensures slot { result ≡ option_map (λ e. e.slot) (entry_of self.now.table flow) }
@@ -158,11 +169,61 @@ impl Slots {
         self.table.get(slot)
     }
 
+    /// The bytes that may be sent now on the connection in a slot, or why none may.
+    pub fn may_send(&self, slot: Slot) -> Option<Result<u32, Stop>>
+        ensures { result ≡ option_map (λ e. may_send_of e.value.end) (entry_under self.now.table slot) }
+    {
+        Some(self.table.get(slot)?.may_send())
+    }
+
+    /// The header of an RW with `len` bytes of payload on the connection in a slot.
+    pub fn payload_header(&self, slot: Slot, cid: u64, len: u32) -> Option<Header>
+        ensures { result ≡ option_map (λ e. payload_header e.value.end (route_to_host cid e.flow) len) (entry_under self.now.table slot) }
+    {
+        let flow = self.table.flow_of(slot)?;
+        let connection = self.table.get(slot)?;
+        Some(connection.payload_header(route_to_host(cid, flow), len))
+    }
+
+    /// The packet that the connection in a slot owes, if it owes one, and its header.
+    pub fn owed(&self, slot: Slot, cid: u64) -> Option<(Owed, Header)>
+        ensures none { IfNone result (IfSome (entry_under self.now.table slot) (λ e. owes_of e.value.end ≡ None)) }
+        ensures some { IfSome result (λ (what, header). IsSomeAnd (entry_under self.now.table slot) (λ e. (owes_of e.value.end ≡ Some what) × (header ≡ owed_header e.value.end (route_to_host cid e.flow) what))) }
+    {
+        let flow = self.table.flow_of(slot)?;
+        let connection = self.table.get(slot)?;
+        let what = connection.owes()?;
+        Some((what, connection.owed_header(route_to_host(cid, flow), what)))
+    }
+
+    /// All slots of the table, by rising slot.
+    pub fn all(&self) -> ArrayVec<Slot, SLOTS>
+        ensures all { result.items ≡ slots self.now.table }
+        ensures most { length (slots self.now.table) ≤ SLOTS }
+    {
+        let mut all = ArrayVec::new();
+        let mut place = 0;
+        while let Some(entry) = self.table.at(place) {
+            all.push(entry.slot);
+            place += 1;
+        }
+        all
+    }
+
     /// The connection at a place of the table, counted from 0 by rising slot.
     pub fn at(&self, place: usize) -> Option<&Entry<Connection>>
         ensures { option_copied result ≡ slice_get self.now.table.entries place }
     {
         self.table.at(place)
+    }
+
+    /// The slot and the flow of the connection that was opened first of those in the table.
+    pub fn first(&self) -> Option<(Slot, Flow)>
+        ensures first { result ≡ option_map (λ e. (e.slot, e.flow)) (slice_get self.now.table.entries 0) }
+        ensures sound { IsTable self.now.table }
+    {
+        let entry = self.table.at(0)?;
+        Some((entry.slot, entry.flow))
     }
 
     /// The connection that is gone, and that the application knows by an id.
@@ -333,6 +394,7 @@ impl Slots {
     pub fn close_gone(&mut self, id: ConnId) -> Option<Flow>
         ensures flow { result ≡ option_map (λ g. g.flow) (find (λ g. g.id == id) self.old.gone) }
         ensures left { self.new ≡ record self.old { gone = without_gone id self.old.gone } }
+        ensures none { IfNone result (self.new ≡ self.old) }
     {
         match place_of(&self.gone, id) {
             Some(place) => Some(self.release(place)),

@@ -1,0 +1,34 @@
+-- What taking events comes to.
+use Rattle.std.proofs.Common.{◌≡◌, ℕ, Bool, true, false, cond, List, [], length, nat_lt, Option, Some, None, refl, sym, ap, subst, ◌∙◌}
+use Rattle.vs_contents.specs.CallTree.{Done, Ask, bind, Leads}
+use Rattle.vs_contents.proofs.Leads.{leads_of, leads_bind}
+use Rattle.vs_driver.proofs.Conditions.{may_first}
+use Rattle.vs_ring_port.specs.declared.queue.Queue.{Queue}
+use Rattle.vs_ring_port.specs.declared.queue.Queue.TheVariants.{Event}
+use Rattle.vs_ring_port.specs.Contents.{RingContents}
+use Rattle.vs_ring_port.specs.DriverCalls.{Reap, DriverAllows}
+use Rattle.vs_driver.specs.declared.limits.TheConstants.{REPLIES_FULL}
+use Rattle.vs_driver.specs.State.{DriverState}
+use Rattle.vs_driver.specs.Conversations.{DriverTree, Round, take_event, event_reaped, event_taken, staged_again, goes_on_with, stage_of, publish_of, published, with_state}
+use Rattle.vs_driver.specs.Playing.{CanMake, MayPublishAll, Plays}
+
+reaps_event : (r : Round) → nat_lt REPLIES_FULL (length r.state.replies) ≡ false → take_event r ≡ Ask (Reap Event) (event_reaped r)
+reaps_event r few = rw (few, take_event) refl
+
+pub took_event : (r after : Round) (s : DriverState) (bytes : List ℕ) (c m n e : RingContents) → nat_lt REPLIES_FULL (length r.state.replies) ≡ false
+    → DriverAllows (Reap Event) (Some bytes) c m → Plays (event_taken bytes r) m after n → Plays (stage_of Event [] after.state) n s e
+    → Plays (take_event r) c (record after { state = s }, true) e
+took_event r after s bytes c m n e few reaped taken staged =
+    let x : Round × Bool = (record after { state = s }, true) in
+    let again : Plays (staged_again Event after) n x e =
+    leads_bind DriverAllows (stage_of Event [] after.state) (goes_on_with after) n e e s x staged (refl, refl) in
+    leads_of DriverAllows _ _ c e x (reaps_event r few)
+    (Some bytes, m, reaped, leads_bind DriverAllows (event_taken bytes r) (staged_again Event) m n e after x taken again)
+
+-- what is staged is published
+pub may_published : (queue : Queue) (r : Round) (c : RingContents) → MayPublishAll (published queue r) c → MayPublishAll (publish_of queue r.state) c
+may_published queue r c may = may_first CanMake DriverAllows (publish_of queue r.state) (with_state r) c may
+
+pub round_published : (queue : Queue) (r : Round) (s : DriverState) (c m : RingContents) → Plays (publish_of queue r.state) c s m
+    → Plays (published queue r) c (record r { state = s }) m
+round_published queue r s c m plays = leads_bind DriverAllows (publish_of queue r.state) (with_state r) c m m s (record r { state = s }) plays (refl, refl)

@@ -1,0 +1,26 @@
+use Rattle.std.proofs.Common.{◌≡◌, ℕ, List, Bool, true, false, Some, None, is_some, not, min, length, take, drop, ◌++◌, ◌==◌, refl, sym, ap, subst, ◌∙◌, rules}
+use Rattle.std.specs.List.{find}
+use Rattle.std.specs.Option.{option_map}
+use Rattle.vs_flow.specs.Table.{entry_under, value_under}
+use Rattle.vs_flow.specs.declared.flow.Flow.{Flow}
+use Rattle.vs_driver.specs.State.{DriverConnection, DriverEntry, DriverState, GoneConnection, Listener, entry_known_as, gone_known_as, is_known_as}
+use Rattle.vs_driver.specs.Held.{HeldSlots}
+use Rattle.vs_driver.specs.contracts.driver.Driver.{the_view}
+use Rattle.vs_driver.proofs.Ids.{value_of, has_slot}
+use Rattle.vs_driver.proofs.Known.{IsMapped, mapped, unmapped, KnownAt, known_at, close_known, after_close_known, shutdown_known, after_shutdown_known, recv_known, unread_known, after_recv_known, flow_known, state_known, answered_known, recv_gone_none, recv_gone_some, flow_gone, after_recv_gone, unread_gone_none, unread_gone_some}
+use Rattle.vs_driver.specs.Connections.{with_connection, after_closing}
+use Rattle.vs_driver.proofs.Reading.{closed_entry}
+use Rattle.vs_driver.proofs.driver.Driver.close_in.Goals as goal
+
+pub returns-clause-state : goal.returns-clause-state
+returns-clause-state c = λ e found id.
+    let d = c.self.inside in
+    let s : DriverState = the_view d in
+    let there : entry_under d.slots.table c.args.slot ≡ Some e = rw (← c.self.view_is) at found in
+    let slots = c.close.ensures.left e.value (value_of d.slots.table c.args.slot e there) in
+    let both : Some c.in-Some.flow ≡ Some e.flow = c.in-Some.ensures ∙ ap (option_map (λ (x : DriverEntry). x.flow)) there in
+    let flow : c.in-Some.flow ≡ e.flow = cc in
+    let slot = has_slot d.slots.table c.args.slot e there in
+    rw (← c.self.view_is) (ap (λ (h : HeldSlots). the_view (record d { slots = h; listeners = c.leave.new.self })) slots
+    ∙ (ap (λ (l : List Listener). let x : DriverState = the_view (record d { listeners = l }) in with_connection c.args.slot (after_closing e.value.end.state e.value) x) c.leave.ensures
+    ∙ closed_entry c.args.slot c.args.id e c.in-Some.flow s slot flow id))

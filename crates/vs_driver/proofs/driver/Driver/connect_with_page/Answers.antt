@@ -1,0 +1,34 @@
+use Rattle.std.proofs.Common.{◌≡◌, ◌≢◌, ℕ, List, [], Bool, true, false, Some, None, ◌++◌, ◌+◌, ◌-◌, ◌<◌, ◌≤◌, length, refl, sym, ap, subst, ◌∙◌, rules, arith}
+use Rattle.std.proofs.lemmas.List.{append-nil}
+use Rattle.vs_header.specs.Packet.{header_bytes}
+use Rattle.vs_ring_port.specs.declared.queue.Queue.TheVariants.{Rx, Tx, Event}
+use Rattle.vs_ring_port.specs.Contents.{RingContents}
+use Rattle.vs_ring_port.specs.DriverCalls.{Stage, Publish, Reap, LoadCid, DriverAllows}
+use Rattle.vs_driver.proofs.Loops.{while_more, while_stop, while_end, may_step, may_more}
+use Rattle.vs_contents.proofs.Leads.{leads_bind, leads_of}
+use Rattle.vs_driver.proofs.Conditions.{may_first, may_rest, may_of}
+use Rattle.vs_driver.specs.State.{DriverConnection, DriverEntry, DriverState}
+use Rattle.vs_driver.specs.PageCounts.{PageCounts}
+use Rattle.vs_driver.specs.Playing.{CanMake, MayPublishAll, Plays, IsRingOf, IsAtWork}
+use Rattle.vs_driver.specs.Conversations.{DriverTree, reap_one, reap_all, stage_of, after_stage, publish_of, post_packet, stage_packet, one_more_in_flight, has_page}
+use Rattle.vs_driver.specs.contracts.driver.Driver.{the_view}
+use Rattle.std.proofs.Common.{Ok}
+use Rattle.vs_header.specs.declared.Header.{Header}
+use Rattle.vs_driver.specs.Conversations.{connect_with_page}
+use Rattle.vs_driver.proofs.Connecting.{may_post_request, connect_posted}
+use Rattle.vs_driver.proofs.driver.Driver.connect_with_page.Goals as goal
+
+pub post_header-requires-clause-may : goal.post_header-requires-clause-may
+post_header-requires-clause-may g c =
+    let free : has_page c.args.self.now ≡ true = search rules in
+    let P : Header → Type 0 = λ h. MayPublishAll (post_packet (header_bytes h) c.args.self.now) (g.R.DriverRing.contents c.args.ring.now) in
+    subst P (sym c.request_header-header.ensures) (may_post_request c.args.host_port c.args.self.now (g.R.DriverRing.contents c.args.ring.now) free c.requires.may)
+
+pub returns-clause-calls : goal.returns-clause-calls
+returns-clause-calls g c =
+    let free : has_page c.args.self.now ≡ true = search rules in
+    let P : Header → Type 0 = λ h. Plays (post_packet (header_bytes h) c.args.self.now) (g.R.DriverRing.contents c.args.ring.now) c.post_header.new.self (g.R.DriverRing.contents c.post_header.new.ring) in
+    let posted = subst P c.request_header-header.ensures c.post_header.ensures.calls in
+    let E : ℕ → Type 0 = λ n. Plays (connect_with_page c.args.host_port c.args.self.now) (g.R.DriverRing.contents c.args.ring.now) (c.open.new.self, Ok n) (g.R.DriverRing.contents c.post_header.new.ring) in
+    subst E (sym c.open.ensures.id) (connect_posted c.args.host_port c.args.self.now (g.R.DriverRing.contents c.args.ring.now) c.post_header.new.self c.open.new.self
+    (g.R.DriverRing.contents c.post_header.new.ring) free posted c.open.ensures.opened)

@@ -1,0 +1,52 @@
+use Rattle.std.proofs.Common.{◌≡◌, ◌≢◌, ℕ, List, [], Bool, true, false, Some, None, ◌++◌, ◌+◌, ◌-◌, ◌<◌, ◌≤◌, length, refl, sym, ap, subst, ◌∙◌, rules, arith}
+use Rattle.std.proofs.lemmas.List.{append-nil}
+use Rattle.vs_header.specs.Packet.{header_bytes}
+use Rattle.vs_ring_port.specs.declared.queue.Queue.TheVariants.{Rx, Tx, Event}
+use Rattle.vs_ring_port.specs.Contents.{RingContents}
+use Rattle.vs_ring_port.specs.DriverCalls.{Stage, Publish, Reap, LoadCid, DriverAllows}
+use Rattle.vs_driver.proofs.Loops.{while_more, while_stop, while_end, may_step, may_more}
+use Rattle.vs_contents.proofs.Leads.{leads_bind, leads_of}
+use Rattle.vs_driver.proofs.Conditions.{may_first, may_rest, may_of}
+use Rattle.vs_driver.specs.State.{DriverConnection, DriverEntry, DriverState}
+use Rattle.vs_driver.specs.PageCounts.{PageCounts}
+use Rattle.vs_driver.specs.Playing.{CanMake, MayPublishAll, Plays, IsRingOf, IsAtWork}
+use Rattle.vs_driver.specs.Conversations.{DriverTree, reap_one, reap_all, stage_of, after_stage, publish_of, post_packet, stage_packet, one_more_in_flight, has_page}
+use Rattle.vs_driver.specs.contracts.driver.Driver.{the_view}
+use Rattle.vs_driver.specs.Conversations.{new_state, post_all, post_events, load_cid}
+use Rattle.vs_driver.proofs.driver.Driver.new_at.Goals as goal
+
+pub post_all-requires-clause-may : goal.post_all-requires-clause-may
+post_all-requires-clause-may g c =
+    let n = g.R.DriverRing.size c.args.ring.now in
+    let s : DriverState = new_state n c.args.port c.args.id 0 in
+    let c0 = g.R.DriverRing.contents c.args.ring.now in
+    let start : c.in_ok-driver.driver ≡ s = c.in_ok-driver.ensures ∙ ap (λ (k : ℕ). new_state k c.args.port c.args.id 0) c.size-size.ensures.value in
+    let P : DriverState → Type 0 = λ x. MayPublishAll (post_all Rx x) c0 in
+    subst P (sym start) (may_first CanMake DriverAllows (post_all Rx s) post_events c0 c.requires.may)
+
+pub post_all-requires-2-clause-may : goal.post_all-requires-2-clause-may
+post_all-requires-2-clause-may g c =
+    let n = g.R.DriverRing.size c.args.ring.now in
+    let s : DriverState = new_state n c.args.port c.args.id 0 in
+    let c0 = g.R.DriverRing.contents c.args.ring.now in
+    let start : c.in_ok-driver.driver ≡ s = c.in_ok-driver.ensures ∙ ap (λ (k : ℕ). new_state k c.args.port c.args.id 0) c.size-size.ensures.value in
+    let c1 = g.R.DriverRing.contents c.post_all.new.ring in
+    let packets : Plays (post_all Rx s) c0 c.post_all.new.self c1 = let P : DriverState → Type 0 = λ x. Plays (post_all Rx x) c0 c.post_all.new.self c1 in subst P start c.post_all.ensures.calls in
+    may_first CanMake DriverAllows (post_all Event c.post_all.new.self) load_cid c1
+    (may_rest CanMake DriverAllows (post_all Rx s) post_events c0 c1 c.post_all.new.self c.requires.may packets)
+
+pub returns-clause-calls : goal.returns-clause-calls
+returns-clause-calls g c =
+    let n = g.R.DriverRing.size c.args.ring.now in
+    let s : DriverState = new_state n c.args.port c.args.id 0 in
+    let c0 = g.R.DriverRing.contents c.args.ring.now in
+    let start : c.in_ok-driver.driver ≡ s = c.in_ok-driver.ensures ∙ ap (λ (k : ℕ). new_state k c.args.port c.args.id 0) c.size-size.ensures.value in
+    let c1 = g.R.DriverRing.contents c.post_all.new.ring in
+    let packets : Plays (post_all Rx s) c0 c.post_all.new.self c1 = let P : DriverState → Type 0 = λ x. Plays (post_all Rx x) c0 c.post_all.new.self c1 in subst P start c.post_all.ensures.calls in
+    let c2 = g.R.DriverRing.contents c.post_all-2.new.ring in
+    let c3 = g.R.DriverRing.contents c.cid.new.self in
+    let end : DriverState = the_view (record c.driver-2.inside { cid = c.cid.result }) in
+    let is : record c.post_all-2.new.self { cid = c.cid.result } ≡ end = ap (λ (x : DriverState). record x { cid = c.cid.result }) (sym c.driver-2.view_is) in
+    leads_bind DriverAllows (post_all Rx s) post_events c0 c1 c3 c.post_all.new.self end packets
+    (leads_bind DriverAllows (post_all Event c.post_all.new.self) load_cid c1 c2 c3 c.post_all-2.new.self end c.post_all-2.ensures.calls
+    (c.cid.result, c3, c.cid.ensures.contents, (is, refl)))

@@ -1,0 +1,52 @@
+use Rattle.std.proofs.Common.{◌≡◌, ◌≢◌, ℕ, List, [], Bool, true, false, Some, None, ◌++◌, ◌+◌, ◌-◌, ◌<◌, ◌≤◌, length, refl, sym, ap, subst, ◌∙◌, rules, arith}
+use Rattle.std.proofs.lemmas.List.{append-nil}
+use Rattle.vs_header.specs.Packet.{header_bytes}
+use Rattle.vs_ring_port.specs.declared.queue.Queue.TheVariants.{Rx, Tx, Event}
+use Rattle.vs_ring_port.specs.Contents.{RingContents}
+use Rattle.vs_ring_port.specs.DriverCalls.{Stage, Publish, Reap, LoadCid, DriverAllows}
+use Rattle.vs_driver.proofs.Loops.{while_more, while_stop, while_end, may_step, may_more}
+use Rattle.vs_contents.proofs.Leads.{leads_bind, leads_of}
+use Rattle.vs_driver.proofs.Conditions.{may_first, may_rest, may_of}
+use Rattle.vs_driver.specs.State.{DriverConnection, DriverEntry, DriverState}
+use Rattle.vs_driver.specs.PageCounts.{PageCounts}
+use Rattle.vs_driver.specs.Playing.{CanMake, MayPublishAll, Plays, IsRingOf, IsAtWork}
+use Rattle.vs_driver.specs.Conversations.{DriverTree, reap_one, reap_all, stage_of, after_stage, publish_of, post_packet, stage_packet, one_more_in_flight, has_page}
+use Rattle.vs_driver.specs.contracts.driver.Driver.{the_view}
+use Rattle.vs_driver.proofs.Sending.{IsThere, there}
+use Rattle.vs_driver.proofs.Ids.{value_of, has_slot}
+use Rattle.vs_flow.specs.Table.{Table, entry_under, value_under}
+use Rattle.vs_driver.specs.Held.{HeldSlots, with_connection_in}
+use Rattle.vs_conn.specs.End.{wanting_credit}
+use Rattle.vs_conn.specs.declared.end.State.TheVariants as state
+use Rattle.vs_credit.specs.Credit.{free_of}
+use Rattle.vs_driver.specs.Connections.{with_connection}
+use Rattle.vs_driver.proofs.Sending.{may_send_live, if_there}
+use Rattle.vs_driver.proofs.driver.Driver.no_credit.Goals as goal
+
+pub want_credit-requires-clause-live : goal.want_credit-requires-clause-live
+want_credit-requires-clause-live c =
+    let d = c.self.inside in
+    let t = there (entry_under c.args.self.now.table c.args.slot) c.requires.held in
+    let e : DriverEntry = t.one in
+    let found : entry_under d.slots.table c.args.slot ≡ Some e = ap (λ (s : DriverState). entry_under s.table c.args.slot) c.self.view_is ∙ t.is in
+    let may = may_send_live e.value.end 0 (c.requires.credit e t.is) in
+    if_there (λ (x : DriverConnection). x.end.state ≡ state.Live) d.slots.table c.args.slot e found may.live
+
+pub want_credit-requires-clause-none : goal.want_credit-requires-clause-none
+want_credit-requires-clause-none c =
+    let d = c.self.inside in
+    let t = there (entry_under c.args.self.now.table c.args.slot) c.requires.held in
+    let e : DriverEntry = t.one in
+    let found : entry_under d.slots.table c.args.slot ≡ Some e = ap (λ (s : DriverState). entry_under s.table c.args.slot) c.self.view_is ∙ t.is in
+    let may = may_send_live e.value.end 0 (c.requires.credit e t.is) in
+    if_there (λ (x : DriverConnection). free_of x.end.credit ≡ 0) d.slots.table c.args.slot e found may.free
+
+pub returns-clause-state : goal.returns-clause-state
+returns-clause-state c = λ e is.
+    let d = c.self.inside in
+    let s : DriverState = the_view d in
+    let found : entry_under d.slots.table c.args.slot ≡ Some e = rw (← c.self.view_is) at is in
+    let slots = c.want_credit.ensures.left e.value (value_of d.slots.table c.args.slot e found) in
+    let v : DriverConnection = e.value in
+    rw (← c.self.view_is) (ap (λ (h : HeldSlots). the_view (record d { slots = h })) slots
+    ∙ ap (λ (n : ℕ). with_connection n (record v { end = wanting_credit v.end }) s) (sym (has_slot d.slots.table c.args.slot e found)))

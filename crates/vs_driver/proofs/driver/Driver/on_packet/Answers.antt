@@ -1,0 +1,39 @@
+use Rattle.std.proofs.Common.{◌≡◌, ℕ, List, Bool, true, false, Some, None, is_some, not, min, length, take, drop, ◌++◌, ◌==◌, ◌<◌, ◌≤◌, ◌+◌, refl, sym, ap, subst, ◌∙◌, rules, arith}
+use Rattle.std.specs.List.{find}
+use Rattle.std.specs.Option.{option_map}
+use Rattle.vs_flow.specs.Table.{entry_under, value_under}
+use Rattle.vs_flow.specs.declared.flow.Flow.{Flow}
+use Rattle.vs_driver.specs.State.{DriverConnection, DriverEntry, DriverState, GoneConnection, Listener, entry_known_as, gone_known_as, is_known_as}
+use Rattle.vs_driver.specs.Held.{HeldSlots}
+use Rattle.vs_driver.specs.contracts.driver.Driver.{the_view}
+use Rattle.vs_driver.proofs.Ids.{value_of, has_slot}
+use Rattle.vs_driver.proofs.Known.{IsMapped, mapped, unmapped, KnownAt, known_at, close_known, after_close_known, shutdown_known, after_shutdown_known, recv_known, unread_known, after_recv_known, flow_known, state_known, answered_known, recv_gone_none, recv_gone_some, flow_gone, after_recv_gone, unread_gone_none, unread_gone_some}
+use Rattle.vs_flow.specs.Flow.{same_flow}
+use Rattle.vs_flow.specs.Table.{Table, entry_of}
+use Rattle.vs_history.specs.declared.packet.Packet.{Packet}
+use Rattle.vs_page.specs.Log.{flow_to_guest}
+use Rattle.vs_driver.proofs.Ids.{found_under}
+use Rattle.vs_driver.proofs.Packets.{packet_known, packet_unknown}
+use Rattle.vs_driver.proofs.driver.Driver.on_packet.Goals as goal
+
+pub returns-in-Some-clause-state : goal.returns-in-Some-clause-state
+returns-in-Some-clause-state c =
+    let p : Packet = record { header = c.args.header.now; payload = c.args.payload.now } in
+    let t = c.self.inside.slots.table in
+    let m = mapped (λ (e : DriverEntry). e.slot) (entry_of t c.flow_to_guest-flow.result) c.in-Some.slot c.in-Some.ensures.slot in
+    let at : entry_under t m.from.slot ≡ Some m.from = found_under (λ (e : DriverEntry). same_flow c.flow_to_guest-flow.result e.flow) t m.from c.in-Some.ensures.sound m.some in
+    let same : t ≡ c.args.self.now.table = ap (λ (s : DriverState). s.table) c.self.view_is in
+    let under : entry_under c.args.self.now.table c.in-Some.slot ≡ Some m.from = ap (λ (x : Table DriverConnection). entry_under x c.in-Some.slot) (sym same) ∙ (ap (λ (n : ℕ). entry_under t n) (sym m.gives) ∙ at) in
+    let known : entry_of c.args.self.now.table (flow_to_guest c.args.header.now) ≡ Some m.from =
+    ap (λ (x : Table DriverConnection). entry_of x (flow_to_guest c.args.header.now)) (sym same) ∙ (ap (λ (f : Flow). entry_of t f) (sym c.flow_to_guest-flow.ensures) ∙ m.some) in
+    c.on_known.ensures.state m.from under ∙ sym (packet_known p c.args.self.now m.from known)
+
+pub returns-in-None-clause-state : goal.returns-in-None-clause-state
+returns-in-None-clause-state c =
+    let p : Packet = record { header = c.args.header.now; payload = c.args.payload.now } in
+    let t = c.self.inside.slots.table in
+    let none = unmapped (λ (e : DriverEntry). e.slot) (entry_of t c.flow_to_guest-flow.result) c.in-None.ensures.slot in
+    let same : t ≡ c.args.self.now.table = ap (λ (s : DriverState). s.table) c.self.view_is in
+    let unknown : entry_of c.args.self.now.table (flow_to_guest c.args.header.now) ≡ None =
+    ap (λ (x : Table DriverConnection). entry_of x (flow_to_guest c.args.header.now)) (sym same) ∙ (ap (λ (f : Flow). entry_of t f) (sym c.flow_to_guest-flow.ensures) ∙ none) in
+    c.on_unknown.ensures.state c.args.payload.now ∙ sym (packet_unknown p c.args.self.now unknown)

@@ -1,0 +1,36 @@
+use Rattle.std.proofs.Common.{◌≡◌, ◌≢◌, ℕ, List, [], Bool, true, false, Some, None, ◌++◌, ◌+◌, ◌-◌, ◌<◌, ◌≤◌, length, refl, sym, ap, subst, ◌∙◌, rules, arith}
+use Rattle.std.proofs.lemmas.List.{append-nil}
+use Rattle.vs_header.specs.Packet.{header_bytes}
+use Rattle.vs_ring_port.specs.declared.queue.Queue.TheVariants.{Rx, Tx, Event}
+use Rattle.vs_ring_port.specs.Contents.{RingContents}
+use Rattle.vs_ring_port.specs.DriverCalls.{Stage, Publish, Reap, LoadCid, DriverAllows}
+use Rattle.vs_driver.proofs.Loops.{while_more, while_stop, while_end, may_step, may_more}
+use Rattle.vs_contents.proofs.Leads.{leads_bind, leads_of}
+use Rattle.vs_driver.proofs.Conditions.{may_first, may_rest, may_of}
+use Rattle.vs_driver.specs.State.{DriverConnection, DriverEntry, DriverState}
+use Rattle.vs_driver.specs.PageCounts.{PageCounts}
+use Rattle.vs_driver.specs.Playing.{CanMake, MayPublishAll, Plays, IsRingOf, IsAtWork}
+use Rattle.vs_driver.specs.Conversations.{DriverTree, reap_one, reap_all, stage_of, after_stage, publish_of, post_packet, stage_packet, one_more_in_flight, has_page}
+use Rattle.vs_driver.specs.contracts.driver.Driver.{the_view}
+use Rattle.vs_driver.specs.Conversations.{posts}
+use Rattle.vs_driver.proofs.driver.Driver.post_all.Goals as goal
+
+pub stage_all-requires-clause-may : goal.stage_all-requires-clause-may
+stage_all-requires-clause-may g c =
+    may_first CanMake DriverAllows (posts c.args.queue c.args.self.now) (publish_of c.args.queue) (g.R.DriverRing.contents c.args.ring.now) c.requires.may
+
+pub publish_staged-requires-clause-may : goal.publish_staged-requires-clause-may
+publish_staged-requires-clause-may g c =
+    may_rest CanMake DriverAllows (posts c.args.queue c.args.self.now) (publish_of c.args.queue) (g.R.DriverRing.contents c.args.ring.now)
+    (g.R.DriverRing.contents c.stage_all.new.ring) c.stage_all.new.self c.requires.may c.stage_all.ensures.calls
+
+pub returns-clause-calls : goal.returns-clause-calls
+returns-clause-calls g c =
+    leads_bind DriverAllows (posts c.args.queue c.args.self.now) (publish_of c.args.queue) (g.R.DriverRing.contents c.args.ring.now)
+    (g.R.DriverRing.contents c.stage_all.new.ring) (g.R.DriverRing.contents c.publish_staged.new.ring) c.stage_all.new.self c.publish_staged.new.self
+    c.stage_all.ensures.calls c.publish_staged.ensures.calls
+
+pub returns-clause-state : goal.returns-clause-state
+returns-clause-state g c =
+    c.publish_staged.ensures.state ∙ (ap (λ (x : DriverState). record x { staged = 0 }) c.stage_all.ensures.state
+    ∙ ap (λ (n : ℕ). let s : DriverState = c.args.self.now in record s { staged = n }) (sym c.requires.none))

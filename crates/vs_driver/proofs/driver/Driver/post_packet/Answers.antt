@@ -1,0 +1,32 @@
+use Rattle.std.proofs.Common.{◌≡◌, ◌≢◌, ℕ, List, [], Bool, true, false, Some, None, ◌++◌, ◌+◌, ◌-◌, ◌<◌, ◌≤◌, length, refl, sym, ap, subst, ◌∙◌, rules, arith}
+use Rattle.std.proofs.lemmas.List.{append-nil}
+use Rattle.vs_header.specs.Packet.{header_bytes}
+use Rattle.vs_ring_port.specs.declared.queue.Queue.TheVariants.{Rx, Tx, Event}
+use Rattle.vs_ring_port.specs.Contents.{RingContents}
+use Rattle.vs_ring_port.specs.DriverCalls.{Stage, Publish, Reap, LoadCid, DriverAllows}
+use Rattle.vs_driver.proofs.Loops.{while_more, while_stop, while_end, may_step, may_more}
+use Rattle.vs_contents.proofs.Leads.{leads_bind, leads_of}
+use Rattle.vs_driver.proofs.Conditions.{may_first, may_rest, may_of}
+use Rattle.vs_driver.specs.State.{DriverConnection, DriverEntry, DriverState}
+use Rattle.vs_driver.specs.PageCounts.{PageCounts}
+use Rattle.vs_driver.specs.Playing.{CanMake, MayPublishAll, Plays, IsRingOf, IsAtWork}
+use Rattle.vs_driver.specs.Conversations.{DriverTree, reap_one, reap_all, stage_of, after_stage, publish_of, post_packet, stage_packet, one_more_in_flight, has_page}
+use Rattle.vs_driver.specs.contracts.driver.Driver.{the_view}
+use Rattle.vs_driver.proofs.RingPages.{posted}
+use Rattle.vs_driver.proofs.driver.Driver.post_packet.Goals as goal
+
+pub publish-requires : goal.publish-requires
+publish-requires g c =
+    let bytes : List ℕ = header_bytes c.args.header.now ++ c.args.payload.now in
+    let P : List ℕ → Type 0 = λ b. DriverAllows (Stage Tx b) tt (g.R.DriverRing.contents c.args.ring.now) (g.R.DriverRing.contents c.stage.new.self) in
+    let staged : P bytes = subst P c.put_packet.ensures.bytes c.in-Ok.ensures.contents in
+    record { fair = (c.requires.may.1 tt (g.R.DriverRing.contents c.stage.new.self) staged).0 }
+
+pub returns-clause-calls : goal.returns-clause-calls
+returns-clause-calls g c =
+    let d = c.self.inside in
+    let state : the_view (record d { pages = c.take-page.new.self }) ≡ one_more_in_flight c.args.self.now =
+    rw (← c.self.view_is) (ap (λ (p : PageCounts). the_view (record d { pages = p })) c.take-page.ensures) in
+    posted (header_bytes c.args.header.now ++ c.args.payload.now) c.put_packet.new.page c.args.self.now (the_view (record d { pages = c.take-page.new.self }))
+    (g.R.DriverRing.contents c.args.ring.now) (g.R.DriverRing.contents c.stage.new.self) (g.R.DriverRing.contents c.publish.new.self)
+    c.put_packet.ensures.bytes state c.in-Ok.ensures.contents c.publish.ensures.contents

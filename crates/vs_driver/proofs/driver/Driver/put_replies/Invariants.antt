@@ -1,0 +1,18 @@
+use Rattle.std.proofs.Common.{◌-◌, ◌≤◌}
+use Rattle.vs_contents.specs.CallTree.{while_up_to}
+use Rattle.vs_ring_port.specs.declared.queue.Queue.TheVariants.{Tx}
+use Rattle.vs_ring_port.specs.Contents.{RingContents}
+use Rattle.vs_driver.specs.declared.limits.TheConstants.{REPLIES}
+use Rattle.vs_driver.specs.Conversations.{Round, round_of, put_replies, put_reply}
+use Rattle.vs_driver.specs.Playing.{IsAtWork, MayPublishAll, Plays}
+use Rattle.vs_driver.proofs.driver.Driver.put_replies.Given as goal
+
+-- whatever completes the rest completes the whole
+abbrev pub invariant-loop : goal.invariant-loop
+invariant-loop g l = record {
+  goes_on : (x : Round) (t : RingContents) → Plays (while_up_to (l.most - l.counter) put_reply (round_of l.self l.tally)) (g.R.DriverRing.contents l.ring) x t → Plays (put_replies l.fn.self) (g.R.DriverRing.contents l.fn.ring) x t;
+  may : MayPublishAll (while_up_to (l.most - l.counter) put_reply (round_of l.self l.tally)) (g.R.DriverRing.contents l.ring);
+  ring : IsAtWork Tx (g.R.DriverRing.size l.ring) (g.R.DriverRing.flight l.ring) (g.R.DriverRing.staged l.ring) l.self;
+  small : l.tally.count ≤ l.counter;
+  most : l.most ≤ REPLIES;
+}

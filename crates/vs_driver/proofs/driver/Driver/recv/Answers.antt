@@ -1,0 +1,27 @@
+use Rattle.std.proofs.Common.{◌≡◌, ℕ, List, Bool, true, false, Some, None, is_some, not, min, length, take, drop, ◌++◌, ◌==◌, refl, sym, ap, ◌∙◌, rules}
+use Rattle.std.specs.List.{find}
+use Rattle.std.specs.Option.{option_map}
+use Rattle.vs_flow.specs.Table.{entry_under, value_under}
+use Rattle.vs_flow.specs.declared.flow.Flow.{Flow}
+use Rattle.vs_driver.specs.State.{DriverConnection, DriverEntry, DriverState, GoneConnection, Listener, entry_known_as, gone_known_as, is_known_as}
+use Rattle.vs_driver.specs.Held.{HeldSlots}
+use Rattle.vs_driver.specs.contracts.driver.Driver.{the_view}
+use Rattle.vs_driver.proofs.Ids.{value_of, has_slot}
+use Rattle.vs_driver.proofs.Known.{IsMapped, mapped, unmapped, KnownAt, known_at, close_known, after_close_known, shutdown_known, after_shutdown_known, recv_known, unread_known, after_recv_known, flow_known, state_known, answered_known, recv_gone_none, recv_gone_some, flow_gone, after_recv_gone, unread_gone_none, unread_gone_some}
+use Rattle.vs_driver.specs.Connections.{bytes_read}
+use Rattle.vs_driver.proofs.driver.Driver.recv.Goals as goal
+
+pub returns-in-Some-clause-answer : goal.returns-in-Some-clause-answer
+returns-in-Some-clause-answer c =
+    let k : KnownAt c.args.id c.in-Some.slot c.args.self.now = rw (← c.self.view_is) (known_at c.args.id c.in-Some.slot (the_view c.self.inside) c.in-Some.ensures.sound c.in-Some.ensures.slot) in
+    c.recv_in.ensures.answer k.entry k.found ∙ sym (recv_known c.args.id c.args.self.now k.entry k.known (length c.args.out.now))
+
+pub returns-in-Some-clause-bytes : goal.returns-in-Some-clause-bytes
+returns-in-Some-clause-bytes c =
+    let k : KnownAt c.args.id c.in-Some.slot c.args.self.now = rw (← c.self.view_is) (known_at c.args.id c.in-Some.slot (the_view c.self.inside) c.in-Some.ensures.sound c.in-Some.ensures.slot) in
+    c.recv_in.ensures.bytes k.entry k.found ∙ ap (λ (unread : List ℕ). bytes_read unread c.args.out.now) (sym (unread_known c.args.id c.args.self.now k.entry k.known))
+
+pub returns-in-Some-clause-state : goal.returns-in-Some-clause-state
+returns-in-Some-clause-state c =
+    let k : KnownAt c.args.id c.in-Some.slot c.args.self.now = rw (← c.self.view_is) (known_at c.args.id c.in-Some.slot (the_view c.self.inside) c.in-Some.ensures.sound c.in-Some.ensures.slot) in
+    c.recv_in.ensures.state k.entry k.found ∙ sym (after_recv_known c.args.id c.args.self.now k.entry k.known (length c.args.out.now))

@@ -1,0 +1,25 @@
+use Rattle.std.proofs.Common.{◌≡◌, ℕ, List, Bool, true, false, Some, None, is_some, not, min, length, take, drop, ◌++◌, ◌==◌, refl, sym, ap, ◌∙◌, rules}
+use Rattle.std.specs.List.{find}
+use Rattle.std.specs.Option.{option_map}
+use Rattle.vs_flow.specs.Table.{entry_under, value_under}
+use Rattle.vs_flow.specs.declared.flow.Flow.{Flow}
+use Rattle.vs_driver.specs.State.{DriverConnection, DriverEntry, DriverState, GoneConnection, Listener, entry_known_as, gone_known_as, is_known_as}
+use Rattle.vs_driver.specs.Held.{HeldSlots}
+use Rattle.vs_driver.specs.contracts.driver.Driver.{the_view}
+use Rattle.vs_driver.proofs.Ids.{value_of, has_slot}
+use Rattle.vs_driver.proofs.Known.{IsMapped, mapped, unmapped, KnownAt, known_at, close_known, after_close_known, shutdown_known, after_shutdown_known, recv_known, unread_known, after_recv_known, flow_known, state_known, answered_known, recv_gone_none, recv_gone_some, flow_gone, after_recv_gone, unread_gone_none, unread_gone_some}
+use Rattle.vs_driver.proofs.Reading.{entry_read_some}
+use Rattle.vs_driver.proofs.driver.Driver.recv_in.Goals as goal
+
+pub returns-clause-state : goal.returns-clause-state
+returns-clause-state c = λ e found.
+    let d = c.self.inside in
+    let s : DriverState = the_view d in
+    let there : entry_under d.slots.table c.args.slot ≡ Some e = rw (← c.self.view_is) at found in
+    let value = value_of d.slots.table c.args.slot e there in
+    let slots = c.read.ensures.left e.value value in
+    let both : Some c.in-Some.connection.now ≡ Some e.value = c.in-Some.ensures ∙ value in
+    let same : c.in-Some.connection.now ≡ e.value = cc in
+    let some : (length e.value.unread == 0) ≡ false = ap (λ (x : DriverConnection). length x.unread == 0) (sym same) ∙ search rules in
+    rw (← c.self.view_is) (ap (λ (h : HeldSlots). the_view (record d { slots = h })) slots
+    ∙ entry_read_some (length c.args.out.now) c.args.slot e s some (has_slot d.slots.table c.args.slot e there))

@@ -1,0 +1,85 @@
+use Rattle.std.proofs.Common.{◌≡◌, ℕ, List, Bool, true, false, Some, None, is_some, not, min, length, take, drop, ◌++◌, ◌==◌, ◌<◌, ◌≤◌, ◌+◌, refl, sym, ap, subst, ◌∙◌, rules, arith}
+use Rattle.std.specs.List.{find}
+use Rattle.std.specs.Option.{option_map}
+use Rattle.vs_flow.specs.Table.{entry_under, value_under}
+use Rattle.vs_flow.specs.declared.flow.Flow.{Flow}
+use Rattle.vs_driver.specs.State.{DriverConnection, DriverEntry, DriverState, GoneConnection, Listener, entry_known_as, gone_known_as, is_known_as}
+use Rattle.vs_driver.specs.Held.{HeldSlots}
+use Rattle.vs_driver.specs.contracts.driver.Driver.{the_view}
+use Rattle.vs_driver.proofs.Ids.{value_of, has_slot}
+use Rattle.vs_driver.proofs.Known.{IsMapped, mapped, unmapped, KnownAt, known_at, close_known, after_close_known, shutdown_known, after_shutdown_known, recv_known, unread_known, after_recv_known, flow_known, state_known, answered_known, recv_gone_none, recv_gone_some, flow_gone, after_recv_gone, unread_gone_none, unread_gone_some}
+use Rattle.std.specs.List.{slice_get}
+use Rattle.vs_flow.specs.Table.{Table, IsTable}
+use Rattle.std.proofs.lemmas.Option.{slice_get_within}
+use Rattle.vs_driver.specs.Connections.{after_leaving}
+use Rattle.vs_driver.specs.Receiving.{with_reply, reset_reply}
+use Rattle.vs_driver.proofs.Packets.{leaving-replies, first_left, first_under, none_left}
+use Rattle.vs_driver.proofs.driver.Driver.reset.Goals as goal
+
+pub owe-requires : goal.owe-requires
+owe-requires c =
+    let s : DriverState = c.loop-slot.self in
+    let t = c.self-in-loop-slot.inside.slots.table in
+    let same : t ≡ s.table = ap (λ (x : DriverState). x.table) c.self-in-loop-slot.view_is in
+    let pair : DriverEntry → ℕ × Flow = λ (x : DriverEntry). (x.slot, x.flow) in
+    let both : ℕ × Flow = (c.in-Some.slot, c.in-Some.flow) in
+    let m = mapped pair (slice_get t.entries 0) both c.in-Some.ensures.first in
+    let first_is : slice_get s.table.entries 0 ≡ Some m.from = ap (λ (x : Table DriverConnection). slice_get x.entries 0) (sym same) ∙ m.some in
+    let sound : IsTable s.table = let P : Table DriverConnection → Type 0 = λ x. IsTable x in subst P same c.in-Some.ensures.sound in
+    let e : DriverEntry = m.from in
+    let slot : e.slot ≡ c.in-Some.slot = ap (λ (x : ℕ × Flow). x.0) m.gives in
+    let flow : e.flow ≡ c.in-Some.flow = ap (λ (x : ℕ × Flow). x.1) m.gives in
+    let under : entry_under s.table c.in-Some.slot ≡ Some e = ap (λ (n : ℕ). entry_under s.table n) (sym slot) ∙ first_under s.table e sound first_is in
+    let left : c.leave.new.self ≡ after_leaving e s = c.leave.ensures.state e under in
+    let replies : length c.leave.new.self.replies ≡ length s.replies = ap (λ (x : DriverState). length x.replies) left ∙ ap length (leaving-replies e s) in
+    record { room = omega (arith, replies, c.loop-slot.invariant.room, slice_get_within s.table.entries 0 e first_is) }
+
+pub loop-slot-smaller : goal.loop-slot-smaller
+loop-slot-smaller c =
+    let s : DriverState = c.loop-slot.self in
+    let t = c.self-in-loop-slot.inside.slots.table in
+    let same : t ≡ s.table = ap (λ (x : DriverState). x.table) c.self-in-loop-slot.view_is in
+    let pair : DriverEntry → ℕ × Flow = λ (x : DriverEntry). (x.slot, x.flow) in
+    let both : ℕ × Flow = (c.in-Some.slot, c.in-Some.flow) in
+    let m = mapped pair (slice_get t.entries 0) both c.in-Some.ensures.first in
+    let first_is : slice_get s.table.entries 0 ≡ Some m.from = ap (λ (x : Table DriverConnection). slice_get x.entries 0) (sym same) ∙ m.some in
+    let sound : IsTable s.table = let P : Table DriverConnection → Type 0 = λ x. IsTable x in subst P same c.in-Some.ensures.sound in
+    let e : DriverEntry = m.from in
+    let slot : e.slot ≡ c.in-Some.slot = ap (λ (x : ℕ × Flow). x.0) m.gives in
+    let flow : e.flow ≡ c.in-Some.flow = ap (λ (x : ℕ × Flow). x.1) m.gives in
+    let under : entry_under s.table c.in-Some.slot ≡ Some e = ap (λ (n : ℕ). entry_under s.table n) (sym slot) ∙ first_under s.table e sound first_is in
+    let left : c.leave.new.self ≡ after_leaving e s = c.leave.ensures.state e under in
+    let new : c.owe.new.self ≡ with_reply (reset_reply e.flow) (after_leaving e s) =
+    c.owe.ensures.state ∙ (ap (λ (f : Flow). with_reply (reset_reply f) c.leave.new.self) (sym flow) ∙ ap (λ (x : DriverState). with_reply (reset_reply e.flow) x) left) in
+    let first = first_left s c.owe.new.self e sound first_is new in
+    let fewer : length c.owe.new.self.table.entries < length s.table.entries = omega (arith, first.fewer) in
+    fewer
+
+pub loop-slot-preserved : goal.loop-slot-preserved
+loop-slot-preserved c =
+    let s : DriverState = c.loop-slot.self in
+    let t = c.self-in-loop-slot.inside.slots.table in
+    let same : t ≡ s.table = ap (λ (x : DriverState). x.table) c.self-in-loop-slot.view_is in
+    let pair : DriverEntry → ℕ × Flow = λ (x : DriverEntry). (x.slot, x.flow) in
+    let both : ℕ × Flow = (c.in-Some.slot, c.in-Some.flow) in
+    let m = mapped pair (slice_get t.entries 0) both c.in-Some.ensures.first in
+    let first_is : slice_get s.table.entries 0 ≡ Some m.from = ap (λ (x : Table DriverConnection). slice_get x.entries 0) (sym same) ∙ m.some in
+    let sound : IsTable s.table = let P : Table DriverConnection → Type 0 = λ x. IsTable x in subst P same c.in-Some.ensures.sound in
+    let e : DriverEntry = m.from in
+    let slot : e.slot ≡ c.in-Some.slot = ap (λ (x : ℕ × Flow). x.0) m.gives in
+    let flow : e.flow ≡ c.in-Some.flow = ap (λ (x : ℕ × Flow). x.1) m.gives in
+    let under : entry_under s.table c.in-Some.slot ≡ Some e = ap (λ (n : ℕ). entry_under s.table n) (sym slot) ∙ first_under s.table e sound first_is in
+    let left : c.leave.new.self ≡ after_leaving e s = c.leave.ensures.state e under in
+    let new : c.owe.new.self ≡ with_reply (reset_reply e.flow) (after_leaving e s) =
+    c.owe.ensures.state ∙ (ap (λ (f : Flow). with_reply (reset_reply f) c.leave.new.self) (sym flow) ∙ ap (λ (x : DriverState). with_reply (reset_reply e.flow) x) left) in
+    let first = first_left s c.owe.new.self e sound first_is new in
+    record { same = first.same ∙ c.loop-slot.invariant.same; room = omega (arith, first.fewer, first.replies, c.loop-slot.invariant.room); pages = (c.owe.ensures.pages.0 ∙ (c.leave.ensures.pages.0 ∙ c.loop-slot.invariant.pages.0), c.owe.ensures.pages.1 ∙ (c.leave.ensures.pages.1 ∙ c.loop-slot.invariant.pages.1), c.owe.ensures.pages.2 ∙ (c.leave.ensures.pages.2 ∙ c.loop-slot.invariant.pages.2)) }
+
+pub returns-clause-state : goal.returns-clause-state
+returns-clause-state c =
+    let s : DriverState = c.loop-slot.self in
+    let t = c.self-in-loop-slot.inside.slots.table in
+    let same : t ≡ s.table = ap (λ (x : DriverState). x.table) c.self-in-loop-slot.view_is in
+    let none_there : slice_get t.entries 0 ≡ None = search rules in
+    let none : slice_get s.table.entries 0 ≡ None = ap (λ (x : Table DriverConnection). slice_get x.entries 0) (sym same) ∙ none_there in
+    none_left s none ∙ c.loop-slot.invariant.same

@@ -1,0 +1,41 @@
+use Rattle.std.proofs.Common.{◌≡◌, ◌≢◌, ℕ, List, [], Bool, true, false, Some, None, ◌++◌, ◌+◌, ◌-◌, ◌<◌, ◌≤◌, length, refl, sym, ap, subst, ◌∙◌, rules, arith}
+use Rattle.std.proofs.lemmas.List.{append-nil}
+use Rattle.vs_header.specs.Packet.{header_bytes}
+use Rattle.vs_ring_port.specs.declared.queue.Queue.TheVariants.{Rx, Tx, Event}
+use Rattle.vs_ring_port.specs.Contents.{RingContents}
+use Rattle.vs_ring_port.specs.DriverCalls.{Stage, Publish, Reap, LoadCid, DriverAllows}
+use Rattle.vs_driver.proofs.Loops.{while_more, while_stop, while_end, may_step, may_more}
+use Rattle.vs_contents.proofs.Leads.{leads_bind, leads_of}
+use Rattle.vs_driver.proofs.Conditions.{may_first, may_rest, may_of}
+use Rattle.vs_driver.specs.State.{DriverConnection, DriverEntry, DriverState}
+use Rattle.vs_driver.specs.PageCounts.{PageCounts}
+use Rattle.vs_driver.specs.Playing.{CanMake, MayPublishAll, Plays, IsRingOf, IsAtWork}
+use Rattle.vs_driver.specs.Conversations.{DriverTree, reap_one, reap_all, stage_of, after_stage, publish_of, post_packet, stage_packet, one_more_in_flight, has_page}
+use Rattle.vs_driver.specs.contracts.driver.Driver.{the_view}
+use Rattle.vs_driver.proofs.Sending.{IsThere, there}
+use Rattle.vs_driver.proofs.Ids.{value_of, has_slot}
+use Rattle.vs_flow.specs.Table.{Table, entry_under, value_under}
+use Rattle.vs_driver.specs.Held.{HeldSlots, with_connection_in}
+use Rattle.std.proofs.Common.{is_some}
+use Rattle.vs_driver.specs.State.{entry_known_as}
+use Rattle.vs_driver.proofs.Known.{KnownAt, known_at, some_inj}
+use Rattle.vs_driver.proofs.Sending.{may_send_on, sent_on}
+use Rattle.vs_driver.proofs.driver.Driver.send.Goals as goal
+
+pub send_in-requires-clause-may : goal.send_in-requires-clause-may
+send_in-requires-clause-may g c = λ e is.
+    let k : KnownAt c.args.id c.in-Some.slot c.args.self.now = rw (← c.self.view_is) (known_at c.args.id c.in-Some.slot (the_view c.self.inside) c.in-Some.ensures.sound c.in-Some.ensures.slot) in
+    let same : k.entry ≡ e = some_inj k.entry e (sym k.found ∙ is) in
+    let known : entry_known_as c.args.id c.args.self.now ≡ Some e = k.known ∙ ap (λ (x : DriverEntry). Some x) same in
+    may_send_on c.args.id c.args.bytes.now c.args.self.now e known (g.R.DriverRing.contents c.args.ring.now) c.requires.may
+
+pub send_in-requires-clause-held : goal.send_in-requires-clause-held
+send_in-requires-clause-held g c =
+    let k : KnownAt c.args.id c.in-Some.slot c.args.self.now = rw (← c.self.view_is) (known_at c.args.id c.in-Some.slot (the_view c.self.inside) c.in-Some.ensures.sound c.in-Some.ensures.slot) in
+    ap is_some k.found
+
+pub returns-in-Some-clause-calls : goal.returns-in-Some-clause-calls
+returns-in-Some-clause-calls g c =
+    let k : KnownAt c.args.id c.in-Some.slot c.args.self.now = rw (← c.self.view_is) (known_at c.args.id c.in-Some.slot (the_view c.self.inside) c.in-Some.ensures.sound c.in-Some.ensures.slot) in
+    sent_on c.args.id c.args.bytes.now c.args.self.now k.entry k.known (g.R.DriverRing.contents c.args.ring.now) (g.R.DriverRing.contents c.send_in.new.ring)
+    (c.send_in.new.self, c.send_in.result) (c.send_in.ensures.calls k.entry k.found)

@@ -1,0 +1,50 @@
+use Rattle.std.proofs.Common.{◌≡◌, ◌≢◌, ℕ, List, [], Bool, true, false, Some, None, ◌++◌, ◌+◌, ◌-◌, ◌<◌, ◌≤◌, length, refl, sym, ap, subst, ◌∙◌, rules, arith}
+use Rattle.std.proofs.lemmas.List.{append-nil}
+use Rattle.vs_header.specs.Packet.{header_bytes}
+use Rattle.vs_ring_port.specs.declared.queue.Queue.TheVariants.{Rx, Tx, Event}
+use Rattle.vs_ring_port.specs.Contents.{RingContents}
+use Rattle.vs_ring_port.specs.DriverCalls.{Stage, Publish, Reap, LoadCid, DriverAllows}
+use Rattle.vs_driver.proofs.Loops.{while_more, while_stop, while_end, may_step, may_more}
+use Rattle.vs_contents.proofs.Leads.{leads_bind, leads_of}
+use Rattle.vs_driver.proofs.Conditions.{may_first, may_rest, may_of}
+use Rattle.vs_driver.specs.State.{DriverConnection, DriverEntry, DriverState}
+use Rattle.vs_driver.specs.PageCounts.{PageCounts}
+use Rattle.vs_driver.specs.Playing.{CanMake, MayPublishAll, Plays, IsRingOf, IsAtWork}
+use Rattle.vs_driver.specs.Conversations.{DriverTree, reap_one, reap_all, stage_of, after_stage, publish_of, post_packet, stage_packet, one_more_in_flight, has_page}
+use Rattle.vs_driver.specs.contracts.driver.Driver.{the_view}
+use Rattle.vs_driver.proofs.Sending.{IsThere, there}
+use Rattle.vs_driver.proofs.Ids.{value_of, has_slot}
+use Rattle.vs_flow.specs.Table.{Table, entry_under, value_under}
+use Rattle.vs_driver.specs.Held.{HeldSlots, with_connection_in}
+use Rattle.std.proofs.Common.{take, ◌==◌}
+use Rattle.std.proofs.lemmas.List.{take_min}
+use Rattle.vs_driver.specs.Conversations.{payload_of}
+use Rattle.vs_driver.proofs.Sending.{ring_same, may_send_page, sent_reaped}
+use Rattle.vs_driver.proofs.driver.Driver.send_with_credit.Goals as goal
+
+pub returns-then-credit-eq0-clause-ring : goal.returns-then-credit-eq0-clause-ring
+returns-then-credit-eq0-clause-ring g c =
+    ring_same _ _ _ c.args.self.now c.no_credit.new.self c.requires.ring c.no_credit.ensures.pages.0 c.no_credit.ensures.pages.1 c.no_credit.ensures.pages.2
+
+pub send_with_page-requires-clause-may : goal.send_with_page-requires-clause-may
+send_with_page-requires-clause-may g c = λ e is.
+    let some : (length c.args.bytes.now == 0) ≡ false = search rules in
+    let has : (c.args.credit == 0) ≡ false = search rules in
+    let most = c.min-most.result in
+    let payload : take most c.args.bytes.now ≡ payload_of c.args.credit c.args.bytes.now =
+    ap (λ (n : ℕ). take n c.args.bytes.now) c.min-most.ensures ∙ (take_min c.min.result c.args.bytes.now ∙ ap (λ (n : ℕ). take n c.args.bytes.now) c.min.ensures) in
+    let same : (e : DriverEntry) → entry_under c.reap_all.new.self.table c.args.slot ≡ entry_under c.args.self.now.table c.args.slot = λ e. ap (λ (s : DriverState). entry_under s.table c.args.slot) c.reap_all.ensures.others in
+    may_send_page e c.args.credit c.args.bytes.now c.args.self.now (g.R.DriverRing.contents c.args.ring.now) c.reap_all.new.self (g.R.DriverRing.contents c.reap_all.new.ring)
+    (take most c.args.bytes.now) some has payload (c.requires.may e (sym (same e) ∙ is)) c.reap_all.ensures.calls
+
+pub returns-clause-calls : goal.returns-clause-calls
+returns-clause-calls g c = λ e is.
+    let some : (length c.args.bytes.now == 0) ≡ false = search rules in
+    let has : (c.args.credit == 0) ≡ false = search rules in
+    let most = c.min-most.result in
+    let payload : take most c.args.bytes.now ≡ payload_of c.args.credit c.args.bytes.now =
+    ap (λ (n : ℕ). take n c.args.bytes.now) c.min-most.ensures ∙ (take_min c.min.result c.args.bytes.now ∙ ap (λ (n : ℕ). take n c.args.bytes.now) c.min.ensures) in
+    let same : (e : DriverEntry) → entry_under c.reap_all.new.self.table c.args.slot ≡ entry_under c.args.self.now.table c.args.slot = λ e. ap (λ (s : DriverState). entry_under s.table c.args.slot) c.reap_all.ensures.others in
+    sent_reaped e c.args.credit c.args.bytes.now c.args.self.now (g.R.DriverRing.contents c.args.ring.now) c.reap_all.new.self (g.R.DriverRing.contents c.reap_all.new.ring)
+    (g.R.DriverRing.contents c.send_with_page.new.ring) (c.send_with_page.new.self, c.send_with_page.result)
+    (take most c.args.bytes.now) some has payload c.reap_all.ensures.calls (c.send_with_page.ensures.calls e (same e ∙ is))

@@ -1,0 +1,34 @@
+use Rattle.std.proofs.Common.{◌≡◌, ◌≢◌, ℕ, List, [], Bool, true, false, Some, None, ◌++◌, ◌+◌, ◌-◌, ◌<◌, ◌≤◌, length, refl, sym, ap, subst, ◌∙◌, rules, arith}
+use Rattle.std.proofs.lemmas.List.{append-nil}
+use Rattle.vs_header.specs.Packet.{header_bytes}
+use Rattle.vs_ring_port.specs.declared.queue.Queue.TheVariants.{Rx, Tx, Event}
+use Rattle.vs_ring_port.specs.Contents.{RingContents}
+use Rattle.vs_ring_port.specs.DriverCalls.{Stage, Publish, Reap, LoadCid, DriverAllows}
+use Rattle.vs_driver.proofs.Loops.{while_more, while_stop, while_end, may_step, may_more}
+use Rattle.vs_contents.proofs.Leads.{leads_bind, leads_of}
+use Rattle.vs_driver.proofs.Conditions.{may_first, may_rest, may_of}
+use Rattle.vs_driver.specs.State.{DriverConnection, DriverEntry, DriverState}
+use Rattle.vs_driver.specs.PageCounts.{PageCounts}
+use Rattle.vs_driver.specs.Playing.{CanMake, MayPublishAll, Plays, IsRingOf, IsAtWork}
+use Rattle.vs_driver.specs.Conversations.{DriverTree, reap_one, reap_all, stage_of, after_stage, publish_of, post_packet, stage_packet, one_more_in_flight, has_page}
+use Rattle.vs_driver.specs.contracts.driver.Driver.{the_view}
+use Rattle.vs_driver.proofs.RingPages.{may_stage, packet_staged}
+use Rattle.vs_driver.proofs.driver.Driver.stage_packet.Goals as goal
+
+pub stage-requires-clause-may : goal.stage-requires-clause-may
+stage-requires-clause-may g c =
+    let d = c.self.inside in
+    let c0 = g.R.DriverRing.contents c.args.ring.now in
+    let state : the_view (record d { pages = c.take-page.new.self }) ≡ one_more_in_flight c.args.self.now =
+    rw (← c.self.view_is) (ap (λ (p : PageCounts). the_view (record d { pages = p })) c.take-page.ensures) in
+    let bytes : c.put_packet.new.page ≡ header_bytes c.args.header.now = c.put_packet.ensures.bytes ∙ append-nil (header_bytes c.args.header.now) in
+    may_stage (header_bytes c.args.header.now) c.put_packet.new.page c.args.self.now (the_view (record d { pages = c.take-page.new.self })) c0 bytes state c.requires.may
+
+pub returns-clause-calls : goal.returns-clause-calls
+returns-clause-calls g c =
+    let d = c.self.inside in
+    let state : the_view (record d { pages = c.take-page.new.self }) ≡ one_more_in_flight c.args.self.now =
+    rw (← c.self.view_is) (ap (λ (p : PageCounts). the_view (record d { pages = p })) c.take-page.ensures) in
+    let bytes : c.put_packet.new.page ≡ header_bytes c.args.header.now = c.put_packet.ensures.bytes ∙ append-nil (header_bytes c.args.header.now) in
+    packet_staged (header_bytes c.args.header.now) c.put_packet.new.page c.args.self.now (the_view (record d { pages = c.take-page.new.self })) c.stage.new.self
+    (g.R.DriverRing.contents c.args.ring.now) (g.R.DriverRing.contents c.stage.new.ring) bytes state c.stage.ensures.calls

@@ -1,0 +1,40 @@
+use Rattle.std.proofs.Common.{◌≡◌, ℕ, List, Bool, true, false, Some, None, is_some, not, min, length, take, drop, ◌++◌, ◌==◌, get_or, ◌<◌, ◌≤◌, ◌+◌, refl, sym, ap, subst, ◌∙◌, rules, arith}
+use Rattle.std.specs.List.{find}
+use Rattle.std.specs.Option.{option_map}
+use Rattle.vs_flow.specs.Table.{entry_under, value_under}
+use Rattle.vs_flow.specs.declared.flow.Flow.{Flow}
+use Rattle.vs_driver.specs.State.{DriverConnection, DriverEntry, DriverState, GoneConnection, Listener, entry_known_as, gone_known_as, is_known_as}
+use Rattle.vs_driver.specs.Held.{HeldSlots}
+use Rattle.vs_driver.specs.contracts.driver.Driver.{the_view}
+use Rattle.vs_driver.proofs.Ids.{value_of, has_slot}
+use Rattle.vs_driver.proofs.Known.{IsMapped, mapped, unmapped, KnownAt, known_at, close_known, after_close_known, shutdown_known, after_shutdown_known, recv_known, unread_known, after_recv_known, flow_known, state_known, answered_known, recv_gone_none, recv_gone_some, flow_gone, after_recv_gone, unread_gone_none, unread_gone_some}
+use Rattle.vs_driver.specs.Connections.{waiting_on, all_closed, after_close, without_listener}
+use Rattle.vs_driver.proofs.Reading.{closed_next, closed_ended}
+use Rattle.vs_driver.proofs.driver.Driver.unlisten.Goals as goal
+
+pub loop-id-preserved : goal.loop-id-preserved
+loop-id-preserved c =
+    let xs = c.as_slice-id-items.result.now in
+    let i = c.loop-id.id-index in
+    let within : i < length xs = search rules in
+    let waiting : xs ≡ c.all_waiting-waiting.result.items = search rules in
+    let is : xs ≡ waiting_on c.args.port c.args.self.now = subst (λ (x : DriverState). xs ≡ waiting_on c.args.port x) c.self.view_is (waiting ∙ c.all_waiting-waiting.ensures) in
+    let ids = waiting_on c.args.port c.args.self.now in
+    let below : i < length ids = rw (← is) within in
+    let element : get_or xs i 0 ≡ get_or ids i 0 = ap (λ (l : List ℕ). get_or l i 0) is in
+    let next : all_closed (drop i ids) c.loop-id.self ≡ all_closed (drop (i + 1) ids) (after_close (get_or ids i 0) c.loop-id.self) = closed_next ids i 0 c.loop-id.self below in
+    let closed : c.close.new.self ≡ after_close (get_or ids i 0) c.loop-id.self = c.close.ensures.state ∙ ap (λ (n : ℕ). after_close n c.loop-id.self) element in
+    ap (λ (n : DriverState). all_closed (drop (i + 1) ids) n) closed ∙ (sym next ∙ c.loop-id.invariant)
+
+pub returns-clause-state : goal.returns-clause-state
+returns-clause-state c =
+    let d = c.self-2.inside in
+    let xs = c.as_slice-id-items.result.now in
+    let i = c.loop-id.id-index in
+    let ends : length xs ≤ i = search rules in
+    let waiting : xs ≡ c.all_waiting-waiting.result.items = search rules in
+    let is : xs ≡ waiting_on c.args.port c.args.self.now = subst (λ (x : DriverState). xs ≡ waiting_on c.args.port x) c.self.view_is (waiting ∙ c.all_waiting-waiting.ensures) in
+    let all : c.loop-id.self ≡ all_closed (waiting_on c.args.port c.args.self.now) c.args.self.now =
+    sym (closed_ended (waiting_on c.args.port c.args.self.now) i c.loop-id.self (rw (← is) ends)) ∙ c.loop-id.invariant in
+    ap (λ (l : List Listener). the_view (record d { listeners = l })) c.unlisten.ensures
+    ∙ ap (λ (x : DriverState). record x { listeners = without_listener c.args.port x.listeners }) (c.self-2.view_is ∙ all)

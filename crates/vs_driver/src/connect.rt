@@ -1,0 +1,125 @@
+//! Opening a connection from the guest (Virtio 1.2, section 5.10.6.4).
+
+ghost use Rattle.std.specs.Prelude.{◌≡◌, ◌==◌, ◌||◌, ◌<◌, ◌≤◌, nat_lt, nat_le, Some, None, Err, IfOk, IfErr};
+ghost use Rattle.vs_conn.specs.End.{asked};
+ghost use Rattle.vs_conn.specs.Headers.{owed_header};
+ghost use Rattle.vs_conn.specs.declared.end.Owed.TheVariants as owed;
+ghost use Rattle.vs_flow.specs.declared.flow.Flow.{Flow};
+ghost use Rattle.vs_history.specs.declared.TheConstants.{BUF_ALLOC};
+ghost use Rattle.vs_driver.specs.declared.answers.ConnectError.{ConnectError};
+ghost use Rattle.vs_driver.specs.Connections.{connect_refusal, connected, is_full, is_spent, next_flow, route_to_host};
+ghost use Rattle.vs_driver.specs.Conversations.{connect_of, connect_with_page};
+ghost use Rattle.vs_driver.specs.Outcomes.{Opens, Refuses, FindsNoPage};
+ghost use Rattle.vs_driver.specs.Playing.{IsRingOf, MayPublishAll, Plays};
+
+use crate::answers::{ConnId, ConnectError};
+use crate::driver::Driver;
+use crate::limits::{LAST_ID, LAST_PORT, SLOTS};
+use vs_conn::{End, Owed, Route};
+use vs_flow::{Flow, is_assigned};
+use vs_header::Header;
+use vs_history::BUF_ALLOC;
+use vs_page::HOST_CID;
+use vs_ring_port::DriverRing;
+
+impl Driver {
+    /// Asks the host for a connection to one of its ports, and gives the connection its id. The answer comes with a later `poll`. Pages that
+    /// the device returned are taken back before one is needed.
+    ///
+    /// In this order: `BadPort` comes exactly where the device assigns the port itself, `Full` exactly where 64 slots are held, `PortsSpent`
+    /// exactly where the last guest port or the last id was given, and `NoDescriptor` exactly where as many transmit pages are in flight as
+    /// the queue has descriptors.
+    pub fn connect<R: DriverRing>(
+        &mut self,
+        ring: &mut R,
+        host_port: u32,
+    ) -> Result<ConnId, ConnectError>
+        requires ring { IsRingOf (R.size ring.old) (R.flight ring.old) (R.staged ring.old) self.old }
+        requires may { MayPublishAll (connect_of host_port self.old) (R.contents ring.old) }
+        ensures ring { IsRingOf (R.size ring.new) (R.flight ring.new) (R.staged ring.new) self.new }
+        ensures calls { Plays (connect_of host_port self.old) (R.contents ring.old) (self.new, result) (R.contents ring.new) }
+        ensures opened { IfOk result (Opens host_port self.old self.new) }
+        ensures refused { IfErr result (Refuses host_port self.old self.new) }
+    {
+        if let Some(refusal) = self.connect_refusal(host_port) {
+            return Err(refusal);
+        }
+        self.reap_all(ring);
+        self.connect_with_page(ring, host_port)
+    }
+
+    // Why a connect is refused before a page is looked for.
+    fn connect_refusal(&self, host_port: u32) -> Option<ConnectError>
+        ensures { result ≡ connect_refusal host_port self.now }
+    {
+        if is_assigned(host_port) {
+            return Some(ConnectError::BadPort { port: host_port });
+        }
+        if self.slots.held() >= SLOTS {
+            return Some(ConnectError::Full {
+                slots: SLOTS as u32,
+            });
+        }
+        if self.slots.next_port() > LAST_PORT || self.slots.next_id() > LAST_ID as u64 {
+            let (port, id) = self.slots.last();
+            return Some(ConnectError::PortsSpent { port, id });
+        }
+        None
+    }
+
+    // Puts the REQUEST of a new connection, if a page is free.
+    fn connect_with_page<R: DriverRing>(
+        &mut self,
+        ring: &mut R,
+        host_port: u32,
+    ) -> Result<ConnId, ConnectError>
+        requires ring { IsRingOf (R.size ring.old) (R.flight ring.old) (R.staged ring.old) self.old }
+        requires free { connect_refusal host_port self.old ≡ None }
+        requires may { MayPublishAll (connect_with_page host_port self.old) (R.contents ring.old) }
+        ensures ring { IsRingOf (R.size ring.new) (R.flight ring.new) (R.staged ring.new) self.new }
+        ensures calls { Plays (connect_with_page host_port self.old) (R.contents ring.old) (self.new, result) (R.contents ring.new) }
+        ensures opened { IfOk result (Opens host_port self.old self.new) }
+        ensures refused { IfErr result (FindsNoPage self.old self.new) }
+    {
+        if !self.pages.has_page() {
+            return Err(ConnectError::NoDescriptor {
+                in_flight: self.pages.in_flight(),
+            });
+        }
+        let header = self.request_header(host_port);
+        self.post_header(ring, &header);
+        Ok(self.open(host_port))
+    }
+
+    // Opens the connection whose REQUEST was put.
+    fn open(&mut self, host_port: u32) -> ConnId
+        requires free { connect_refusal host_port self.old ≡ None }
+        ensures opened { self.new ≡ connected host_port self.old }
+        ensures id { result ≡ self.old.next_id }
+    {
+        self.slots.open_asked(host_port)
+    }
+
+    // The header of the REQUEST of the next connection.
+    fn request_header(&self, host_port: u32) -> Header
+        ensures { result ≡ owed_header (asked BUF_ALLOC) (route_to_host self.now.cid (next_flow host_port self.now)) owed.Request }
+    {
+        let flow = Flow {
+            guest: self.slots.next_port(),
+            host: host_port,
+        };
+        End::ask(BUF_ALLOC).owed_header(route_to_host(self.cid, flow), Owed::Request)
+    }
+}
+
+/// The route of packets on a flow to the host.
+pub(crate) fn route_to_host(cid: u64, flow: Flow) -> Route
+    ensures { result ≡ route_to_host cid flow }
+{
+    Route {
+        src_cid: cid,
+        dst_cid: HOST_CID,
+        src_port: flow.guest,
+        dst_port: flow.host,
+    }
+}

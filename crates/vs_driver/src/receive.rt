@@ -1,0 +1,200 @@
+//! What the driver does with the packets that it takes, and at a transport reset (Virtio 1.2, sections 5.10.6.4 to 5.10.6.7).
+
+ghost use Rattle.std.specs.Prelude.{◌≡◌, ℕ, List, ◌<◌, ◌≤◌, ◌==◌, ◌&&◌, ◌+◌, ◌++◌, ◌∷◌, [], true, length, is_some, nat_le, Some, None};
+ghost use Rattle.vs_conn.specs.End.{is_refused};
+ghost use Rattle.vs_flow.specs.Table.{IsTable, entry_of, entry_under};
+ghost use Rattle.vs_flow.specs.declared.flow.Flow.{Flow};
+ghost use Rattle.vs_history.specs.declared.packet.Packet.{Packet};
+ghost use Rattle.vs_page.specs.Held.{IsWhole};
+ghost use Rattle.vs_page.specs.Log.{flow_to_guest};
+ghost use Rattle.vs_driver.specs.declared.limits.TheConstants.{REPLIES, REPLIES_FULL};
+ghost use Rattle.vs_driver.specs.State.{DriverEntry};
+ghost use Rattle.vs_driver.specs.Connections.{after_leaving, leaves_list, waits_no_more, with_request};
+ghost use Rattle.vs_driver.specs.Playing.{SamePages};
+ghost use Rattle.vs_driver.specs.Receiving.{ends_connection, on_page, on_packet, on_known, on_unknown, is_request, may_open, with_reply, counted, after_reset, all_left, reset_reply};
+
+use crate::driver::Driver;
+use crate::limits::{LAST_ID, SLOTS};
+use vs_conn::Verdict;
+use vs_flow::{Flow, Slot, is_assigned};
+use vs_header::{Header, Kind, Op};
+use vs_page::{Page, packet_in, packet_payload};
+use vs_replies::Reply;
+
+impl Driver {
+    /// Takes a page of the receive queue. One that holds no packet does nothing.
+    pub(crate) fn on_page(&mut self, page: &Page)
+        requires room { length self.old.replies < REPLIES }
+        ensures state { self.new ≡ on_page page.now self.old }
+        ensures pages { SamePages self.old self.new }
+    {
+        let Some(header) = packet_in(page) else {
+            return;
+        };
+        let Some(payload) = packet_payload(page, &header) else {
+            return;
+        };
+        self.on_packet(&header, payload);
+    }
+
+    // Takes a packet.
+    fn on_packet(&mut self, header: &Header, payload: &[u8])
+        requires room { length self.old.replies < REPLIES }
+        requires whole { let p : Packet = record { header = header.now; payload = payload.now } in IsWhole p }
+        ensures state { let p : Packet = record { header = header.now; payload = payload.now } in self.new ≡ on_packet p self.old }
+        ensures pages { SamePages self.old self.new }
+    {
+        let flow = flow_to_guest(header);
+        match self.slots.by_flow(flow) {
+            Some(slot) => self.on_known(slot, header, payload),
+            None => self.on_unknown(flow, header),
+        }
+    }
+
+    // Takes a packet of the connection in a slot.
+    fn on_known(&mut self, slot: Slot, header: &Header, payload: &[u8])
+        requires whole { let p : Packet = record { header = header.now; payload = payload.now } in IsWhole p }
+        ensures state { (e : DriverEntry) → entry_under self.old.table slot ≡ Some e → let p : Packet = record { header = header.now; payload = payload.now } in self.new ≡ on_known p e self.old }
+        ensures pages { SamePages self.old self.new }
+    {
+        let verdict = self.slots.on_packet(slot, header, payload);
+        if is_refused(verdict) {
+            self.refuse(slot);
+        } else if ends_connection(verdict, header) {
+            self.leave(slot);
+        }
+    }
+
+    // Counts a packet that got RST on the connection in a slot, which waits no more where it isn't answered.
+    fn refuse(&mut self, slot: Slot)
+        ensures state { (e : DriverEntry) → entry_under self.old.table slot ≡ Some e → self.new ≡ leaves_list e (record self.old { broken = counted self.old.broken }) }
+        ensures pages { SamePages self.old self.new }
+    {
+        self.broken = self.broken.saturating_add(1);
+        self.leave_list(slot);
+    }
+
+    // The connection in a slot waits no more on its port, where its RESPONSE isn't put.
+    fn leave_list(&mut self, slot: Slot)
+        ensures state { (e : DriverEntry) → entry_under self.old.table slot ≡ Some e → self.new ≡ leaves_list e self.old }
+        ensures pages { SamePages self.old self.new }
+    {
+        if let (Some(flow), Some(connection)) = (
+            self.slots.flow_of(slot),
+            self.slots.connection(slot),
+        )
+            && connection.is_unanswered()
+        {
+            self.listeners.leave(flow.guest, connection.id());
+        }
+    }
+
+    /// The connection in a slot leaves the table.
+    pub(crate) fn leave(&mut self, slot: Slot)
+        ensures state { (e : DriverEntry) → entry_under self.old.table slot ≡ Some e → self.new ≡ after_leaving e self.old }
+        ensures pages { SamePages self.old self.new }
+    {
+        self.leave_list(slot);
+        self.slots.leave(slot);
+    }
+
+    // Takes a packet of an unknown flow.
+    fn on_unknown(&mut self, flow: Flow, header: &Header)
+        requires room { length self.old.replies < REPLIES }
+        requires flow { flow ≡ flow_to_guest header.now }
+        requires unknown { entry_of self.old.table flow ≡ None }
+        ensures state { (payload : List ℕ) → let p : Packet = record { header = header.now; payload = payload } in self.new ≡ on_unknown p self.old }
+        ensures pages { SamePages self.old self.new }
+    {
+        if header.op == Op::Rst.number() {
+            return;
+        }
+        if is_request(header) && self.may_open(flow) {
+            self.open_for_request(flow, header);
+        } else {
+            self.owe(Reply::to(header));
+        }
+    }
+
+    // Whether a REQUEST of this flow opens a connection.
+    fn may_open(&self, flow: Flow) -> bool
+        ensures { result ≡ may_open flow self.now }
+    {
+        is_assigned(flow.host)
+            && self.listeners.has_place(flow.guest)
+            && self.slots.held() < SLOTS
+            && self.slots.next_id() <= LAST_ID as u64
+    }
+
+    // Opens the connection that a REQUEST asks for. It waits on its port.
+    fn open_for_request(&mut self, flow: Flow, request: &Header)
+        requires may { may_open flow self.old ≡ true }
+        requires unknown { entry_of self.old.table flow ≡ None }
+        ensures state { self.new ≡ with_request flow request.now self.old }
+        ensures pages { SamePages self.old self.new }
+    {
+        let id = self.slots.open_answering(flow, request);
+        self.listeners.wait(flow.guest, id);
+    }
+
+    // Owes one more reply, for which there is room.
+    fn owe(&mut self, reply: Reply)
+        requires room { length self.old.replies < REPLIES }
+        ensures state { self.new ≡ with_reply reply self.old }
+        ensures pages { SamePages self.old self.new }
+    {
+        match self.replies.owe(reply) {
+            Ok(()) => {}
+            Err(_) => unreachable!(),
+        }
+    }
+
+    /// A transport reset: each connection leaves the table, by rising slot, and RST is owed for its flow. The guest has a CID from now on.
+    pub(crate) fn reset(&mut self, cid: u64)
+        requires room { length self.old.replies ≤ REPLIES_FULL }
+        ensures state { self.new ≡ after_reset cid self.old }
+        ensures pages { SamePages self.old self.new }
+    {
+        let connections = self.slots.open();
+        prove!(connections <= SLOTS);
+        self.cid = cid;
+        while let Some((slot, flow)) = self.slots.first() {
+            self.leave(slot);
+            self.owe(Reply {
+                src_port: flow.guest,
+                dst_port: flow.host,
+            });
+        }
+    }
+}
+
+// The flow of a packet to the guest.
+fn flow_to_guest(header: &Header) -> Flow
+    ensures { result ≡ flow_to_guest header.now }
+{
+    Flow {
+        guest: header.dst_port,
+        host: header.src_port,
+    }
+}
+
+// Whether a packet asks for a stream connection.
+fn is_request(header: &Header) -> bool
+    ensures { result ≡ is_request header.now }
+{
+    header.kind == Kind::Stream.number() && header.op == Op::Request.number()
+}
+
+// Whether a verdict refuses its packet.
+fn is_refused(verdict: Verdict) -> bool
+    ensures { result ≡ is_refused verdict }
+{
+    matches!(verdict, Verdict::Rst(_))
+}
+
+// Whether a packet ends its connection: an RST of the peer.
+fn ends_connection(verdict: Verdict, header: &Header) -> bool
+    ensures { result ≡ ends_connection verdict header.now }
+{
+    verdict == Verdict::Peer && header.op == Op::Rst.number()
+}

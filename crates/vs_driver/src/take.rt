@@ -1,0 +1,180 @@
+//! The first stages of a poll: events and packets are taken from the ring, and their pages given back to it.
+
+ghost use Rattle.std.specs.Prelude.{◌≡◌, ◌+◌, ◌-◌, ◌<◌, ◌≤◌, ◌==◌, [], length, false, true, ◌^◌};
+ghost use Rattle.vs_ring_port.specs.declared.queue.Queue.TheVariants.{Rx, Tx, Event};
+ghost use Rattle.vs_driver.specs.Conversations.{take_all, all_taken, take_event, take_packet, event_taken, stage_of, round_of, start};
+ghost use Rattle.vs_driver.specs.declared.limits.TheConstants.{REPLIES_FULL};
+ghost use Rattle.vs_driver.specs.Receiving.{is_reset_event};
+ghost use Rattle.vs_driver.specs.Playing.{IsRingOf, IsAtWork, IsStaging, MayPublishAll, Plays};
+
+use crate::driver::Driver;
+use crate::limits::REPLIES_FULL;
+use byteorder::{ByteOrder, LittleEndian};
+use vs_page::Page;
+use vs_ring_port::{DriverRing, Queue, Reaped};
+
+/// What a stage of a poll did so far.
+#[derive(Clone, Copy, Debug, PartialEq, Eq)]
+pub struct Tally {
+    /// Pages taken, or packets put.
+    pub count: u32,
+    /// Whether a transport reset was taken.
+    pub reset: bool,
+}
+
+impl Tally {
+    /// Nothing yet.
+    pub fn none() -> Tally
+        ensures { result ≡ record { count = 0; reset = false } }
+    {
+        Tally {
+            count: 0,
+            reset: false,
+        }
+    }
+}
+
+impl Driver {
+    /// Takes events, while 64 or fewer replies are owed, and publishes their pages again.
+    pub(crate) fn take_events<R: DriverRing>(&mut self, ring: &mut R) -> Tally
+        requires ring { IsRingOf (R.size ring.old) (R.flight ring.old) (R.staged ring.old) self.old }
+        requires may { MayPublishAll (take_all Event take_event self.old) (R.contents ring.old) }
+        ensures ring { IsRingOf (R.size ring.new) (R.flight ring.new) (R.staged ring.new) self.new }
+        ensures calls { Plays (take_all Event take_event self.old) (R.contents ring.old) (round_of self.new result) (R.contents ring.new) }
+    {
+        let tally = self.stage_events(ring);
+        self.publish(ring, Queue::Event);
+        tally
+    }
+
+    // Takes events, and stages their pages again.
+    fn stage_events<R: DriverRing>(&mut self, ring: &mut R) -> Tally
+        requires ring { IsRingOf (R.size ring.old) (R.flight ring.old) (R.staged ring.old) self.old }
+        requires may { MayPublishAll (all_taken take_event self.old) (R.contents ring.old) }
+        ensures ring { IsAtWork Event (R.size ring.new) (R.flight ring.new) (R.staged ring.new) self.new }
+        ensures calls { Plays (all_taken take_event self.old) (R.contents ring.old) (round_of self.new result) (R.contents ring.new) }
+    {
+        let most = self.pages.size();
+        let mut tally = Tally::none();
+        for _ in 0..most {
+            if !self.take_event(ring, &mut tally) {
+                return tally;
+            }
+        }
+        tally
+    }
+
+    // Takes an event, and stages its page again. False where none is taken.
+    fn take_event<R: DriverRing>(&mut self, ring: &mut R, tally: &mut Tally) -> bool
+        requires ring { IsAtWork Event (R.size ring.old) (R.flight ring.old) (R.staged ring.old) self.old }
+        requires few { tally.old.count < 2 ^ 16 }
+        requires may { MayPublishAll (take_event (round_of self.old tally.old)) (R.contents ring.old) }
+        ensures ring { IsAtWork Event (R.size ring.new) (R.flight ring.new) (R.staged ring.new) self.new }
+        ensures calls { Plays (take_event (round_of self.old tally.old)) (R.contents ring.old) (round_of self.new tally.new, result) (R.contents ring.new) }
+        ensures count { tally.new.count ≤ tally.old.count + 1 }
+    {
+        if self.replies.len() > REPLIES_FULL {
+            return false;
+        }
+        match ring.reap(Queue::Event) {
+            Reaped::Back(page) => {
+                self.on_event(ring, &page, tally);
+                self.stage_empty(ring, Queue::Event, page);
+                true
+            }
+            Reaped::None => false,
+        }
+    }
+
+    // Takes a page of the event queue. At a transport reset the guest's CID is loaded.
+    fn on_event<R: DriverRing>(&mut self, ring: &mut R, page: &Page, tally: &mut Tally)
+        requires ring { IsStaging Event (R.size ring.old) (R.flight ring.old) (R.staged ring.old) self.old }
+        requires few { tally.old.count < 2 ^ 16 }
+        requires replies { length self.old.replies ≤ REPLIES_FULL }
+        ensures ring { IsStaging Event (R.size ring.new) (R.flight ring.new) (R.staged ring.new) self.new }
+        ensures calls { Plays (event_taken page.now (round_of self.old tally.old)) (R.contents ring.old) (round_of self.new tally.new) (R.contents ring.new) }
+        ensures count { tally.new.count ≡ tally.old.count + 1 }
+    {
+        if !is_reset_event(page) {
+            tally.count += 1;
+            return;
+        }
+        let cid = ring.cid();
+        self.reset(cid);
+        tally.count += 1;
+        tally.reset = true;
+    }
+
+    /// Takes packets, while fewer than 64 replies are owed, and publishes their pages again.
+    pub(crate) fn take_packets<R: DriverRing>(&mut self, ring: &mut R) -> Tally
+        requires ring { IsRingOf (R.size ring.old) (R.flight ring.old) (R.staged ring.old) self.old }
+        requires may { MayPublishAll (take_all Rx take_packet self.old) (R.contents ring.old) }
+        ensures ring { IsRingOf (R.size ring.new) (R.flight ring.new) (R.staged ring.new) self.new }
+        ensures calls { Plays (take_all Rx take_packet self.old) (R.contents ring.old) (round_of self.new result) (R.contents ring.new) }
+    {
+        let tally = self.stage_packets(ring);
+        self.publish(ring, Queue::Rx);
+        tally
+    }
+
+    // Takes packets, and stages their pages again.
+    fn stage_packets<R: DriverRing>(&mut self, ring: &mut R) -> Tally
+        requires ring { IsRingOf (R.size ring.old) (R.flight ring.old) (R.staged ring.old) self.old }
+        requires may { MayPublishAll (all_taken take_packet self.old) (R.contents ring.old) }
+        ensures ring { IsAtWork Rx (R.size ring.new) (R.flight ring.new) (R.staged ring.new) self.new }
+        ensures calls { Plays (all_taken take_packet self.old) (R.contents ring.old) (round_of self.new result) (R.contents ring.new) }
+    {
+        let most = self.pages.size();
+        let mut tally = Tally::none();
+        for _ in 0..most {
+            if !self.take_packet(ring, &mut tally) {
+                return tally;
+            }
+        }
+        tally
+    }
+
+    // Takes a packet, and stages its page again. False where none is taken.
+    fn take_packet<R: DriverRing>(&mut self, ring: &mut R, tally: &mut Tally) -> bool
+        requires ring { IsAtWork Rx (R.size ring.old) (R.flight ring.old) (R.staged ring.old) self.old }
+        requires few { tally.old.count < 2 ^ 16 }
+        requires may { MayPublishAll (take_packet (round_of self.old tally.old)) (R.contents ring.old) }
+        ensures ring { IsAtWork Rx (R.size ring.new) (R.flight ring.new) (R.staged ring.new) self.new }
+        ensures calls { Plays (take_packet (round_of self.old tally.old)) (R.contents ring.old) (round_of self.new tally.new, result) (R.contents ring.new) }
+        ensures count { tally.new.count ≤ tally.old.count + 1 }
+    {
+        if self.replies.len() >= REPLIES_FULL {
+            return false;
+        }
+        match ring.reap(Queue::Rx) {
+            Reaped::Back(page) => {
+                self.on_page(&page);
+                tally.count += 1;
+                self.stage_empty(ring, Queue::Rx, page);
+                true
+            }
+            Reaped::None => false,
+        }
+    }
+
+    // Stages a page for the device to write into.
+    fn stage_empty<R: DriverRing>(&mut self, ring: &mut R, queue: Queue, page: Page)
+        requires ring { IsStaging queue (R.size ring.old) (R.flight ring.old) (R.staged ring.old) self.old }
+        requires queue { queue ≡ Tx → ⊥ }
+        requires may { MayPublishAll (stage_of queue [] self.old) (R.contents ring.old) }
+        ensures ring { IsAtWork queue (R.size ring.new) (R.flight ring.new) (R.staged ring.new) self.new }
+        ensures calls { Plays (stage_of queue [] self.old) (R.contents ring.old) self.new (R.contents ring.new) }
+    {
+        let mut page = page;
+        page.clear();
+        self.stage(ring, queue, page);
+    }
+}
+
+// Whether a page of the event queue tells a transport reset.
+fn is_reset_event(page: &Page) -> bool
+    ensures { result ≡ is_reset_event page.now }
+{
+    let bytes = page.bytes();
+    bytes.len() >= 4 && LittleEndian::read_u32(bytes) == 0
+}
