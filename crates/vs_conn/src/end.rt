@@ -26,6 +26,9 @@ use vs_wrap::sub32;
 /// Bytes forwarded, and not told to the peer, at which a CREDIT_UPDATE is owed.
 pub const UPDATE_AT: u32 = 32_768;
 
+/// The most packets that one connection owes in a row: RESPONSE, CREDIT_UPDATE, CREDIT_REQUEST and SHUTDOWN.
+pub const OWED_MAX: usize = 4;
+
 /// The state of an end.
 #[derive(Clone, Copy, Debug, PartialEq, Eq)]
 pub enum State {

@@ -8,7 +8,7 @@ pub mod route;
 pub mod shut;
 pub mod table;
 
-pub use end::{End, EndView, Owed, State, Stop, UPDATE_AT, Verdict, Why};
+pub use end::{End, EndView, OWED_MAX, Owed, State, Stop, UPDATE_AT, Verdict, Why};
 pub use route::Route;
 pub use shut::Shut;
 

@@ -1,1 +1,3 @@
 pub mod Leads
+pub mod Conditions
+pub mod Loops

@@ -31,3 +31,9 @@ Leads {Call = Call} {Answer = Answer} {S = S} Allows (Ask call k) s x t = (a : A
 abbrev pub played : {Call : Type 0} {Answer : Call → Type 0} {S A : Type 0} → ((call : Call) → S → Answer call × S) → CallTree Call Answer A → S → A × S
 played answer (Done x) s = (x, s)
 played answer (Ask call k) s = let r = answer call s in played answer (k r.0) r.1
+
+-- Each call of the conversation may be made in the state that it finds, whatever answers were allowed to those before it.
+abbrev pub MayPlay : {Call : Type 0} {Answer : Call → Type 0} {S A : Type 0} → ((call : Call) → S → Type 0) → ((call : Call) → Answer call → S → S → Type 0) → CallTree Call Answer A → S → Type 0
+MayPlay Can Allows (Done x) s = Unit {0}
+MayPlay {Call = Call} {Answer = Answer} {S = S} Can Allows (Ask call k) s =
+    Can call s × ((a : Answer call) (t : S) → Allows call a s t → MayPlay Can Allows (k a) t)

@@ -12,11 +12,8 @@ use Rattle.vs_history.specs.declared.TheConstants.{BUF_ALLOC}
 use Rattle.vs_page.specs.declared.log.TheConstants.{HOST_CID}
 use Rattle.vs_replies.specs.declared.Reply.{Reply}
 use Rattle.vs_device.specs.declared.limits.TheConstants.{TIMEOUT}
+use Rattle.vs_wrap.specs.Wrap.{counted}
 use Rattle.vs_device.specs.State.{DeviceConnection, DeviceState, DeviceEntry}
-
--- One more, up to the last count of 64 bits.
-abbrev pub counted : ℕ → ℕ
-counted n = min (n + 1) (2 ^ 64 - 1)
 
 abbrev pub with_fault : DeviceState → DeviceState
 with_fault s = record s { faults = counted s.faults }

@@ -32,7 +32,8 @@ use Rattle.vs_device.specs.declared.answers.Taken.{Taken}
 use Rattle.vs_device.specs.declared.answers.Taken.TheVariants as taken
 use Rattle.vs_device.specs.declared.limits.TheConstants.{REPLIES}
 use Rattle.vs_device.specs.Calls.{DeviceTree, Ring, Dial}
-use Rattle.vs_device.specs.Connections.{counted, with_connection, with_reply, with_fault, with_dialed}
+use Rattle.vs_device.specs.Connections.{with_connection, with_reply, with_fault, with_dialed}
+use Rattle.vs_wrap.specs.Wrap.{counted}
 use Rattle.vs_device.specs.State.{DeviceConnection, DeviceState, DeviceEntry}
 use Rattle.vs_device.specs.Streams.{leaving}
 

@@ -11,6 +11,3 @@ pub const TIMEOUT: u64 = 2_000;
 
 /// The most bytes of one write to a host's stream.
 pub const WRITE_MAX: usize = 4_096;
-
-/// The most packets that one connection owes in a row: RESPONSE, CREDIT_UPDATE, CREDIT_REQUEST and SHUTDOWN.
-pub const OWED_MAX: usize = 4;

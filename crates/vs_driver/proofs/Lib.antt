@@ -15,5 +15,3 @@ pub mod Packets
 pub mod Taking
 pub mod Paying
 pub mod Posting
-pub mod Conditions
-pub mod Loops

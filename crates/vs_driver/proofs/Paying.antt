@@ -5,7 +5,7 @@ use Rattle.std.proofs.Math.ListN.{drop_of_length-le}
 use Rattle.std.specs.Option.{IsSomeAnd}
 use Rattle.vs_contents.specs.CallTree.{Done, Ask, bind, for_each, Leads}
 use Rattle.vs_contents.proofs.Leads.{leads_of, leads_bind}
-use Rattle.vs_driver.proofs.Conditions.{may_first, may_rest, may_of}
+use Rattle.vs_contents.proofs.Conditions.{may_first, may_rest, may_of}
 use Rattle.vs_header.specs.Packet.{header_bytes}
 use Rattle.vs_conn.specs.End.{owes_of}
 use Rattle.vs_conn.specs.declared.end.Owed.{Owed}

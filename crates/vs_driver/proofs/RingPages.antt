@@ -2,9 +2,9 @@
 use Rattle.std.proofs.Common.{◌≡◌, ◌≢◌, ℕ, suc, ◌<◌, ◌≤◌, ◌+◌, ◌-◌, ◌==◌, Bool, true, false, cond, List, [], ◌∷◌, ◌++◌, length, Option, Some, None, refl, sym, ap, ◌∙◌, subst, arith}
 use Rattle.std.proofs.lemmas.Bool.Decides.{nat_tests}
 use Rattle.vs_contents.specs.CallTree.{CallTree, Done, Ask, bind, Leads}
-use Rattle.vs_driver.specs.Conditions.{MayPlay}
+use Rattle.vs_contents.specs.CallTree.{MayPlay}
 use Rattle.vs_contents.proofs.Leads.{leads_of}
-use Rattle.vs_driver.proofs.Conditions.{may_of}
+use Rattle.vs_contents.proofs.Conditions.{may_of}
 use Rattle.vs_ring_port.specs.declared.queue.Queue.{Queue}
 use Rattle.vs_ring_port.specs.declared.queue.Queue.TheVariants.{Tx}
 use Rattle.vs_ring_port.specs.declared.queue.TheConstants.{STAGED_MAX}

@@ -4,7 +4,7 @@ use Rattle.std.specs.Option.{IfSome}
 use Rattle.std.proofs.lemmas.Bool.Decides.{nat_tests}
 use Rattle.vs_contents.specs.CallTree.{Done, Ask, bind, Leads}
 use Rattle.vs_contents.proofs.Leads.{leads_of, leads_bind}
-use Rattle.vs_driver.proofs.Conditions.{may_first, may_rest, may_of}
+use Rattle.vs_contents.proofs.Conditions.{may_first, may_rest, may_of}
 use Rattle.vs_conn.specs.End.{ConnectionEnd, may_send_of, state_may_send, with_payload_sent}
 use Rattle.vs_conn.specs.declared.end.State.{State}
 use Rattle.vs_conn.specs.declared.end.State.TheVariants as state

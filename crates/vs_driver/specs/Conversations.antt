@@ -27,7 +27,8 @@ use Rattle.vs_driver.specs.declared.answers.Polled.{Polled}
 use Rattle.vs_driver.specs.declared.answers.Sent.{Sent}
 use Rattle.vs_driver.specs.declared.answers.Sent.TheVariants as sent
 use Rattle.vs_driver.specs.declared.take.Tally.{Tally}
-use Rattle.vs_driver.specs.declared.limits.TheConstants.{OWED_MAX, REPLIES_FULL, SLOTS}
+use Rattle.vs_driver.specs.declared.limits.TheConstants.{REPLIES_FULL, SLOTS}
+use Rattle.vs_conn.specs.declared.end.TheConstants.{OWED_MAX}
 use Rattle.vs_driver.specs.State.{DriverConnection, DriverState, DriverEntry, entry_known_as, gone_known_as}
 use Rattle.vs_driver.specs.Connections.{with_end, with_connection, route_to_host, next_flow, connect_refusal, connected, after_leaving, paid_connection}
 use Rattle.vs_driver.specs.Receiving.{on_page, is_reset_event, after_reset}

@@ -11,4 +11,3 @@ pub mod Held
 pub mod PageCounts
 pub mod PageFields
 pub mod SlotFields
-pub mod Conditions

@@ -1,7 +1,6 @@
 -- How a driver and its ring belong together, and what it takes to make a call.
 use Rattle.std.specs.Prelude.{◌≡◌, ℕ, ◌+◌, ◌<◌}
-use Rattle.vs_contents.specs.CallTree.{Leads}
-use Rattle.vs_driver.specs.Conditions.{MayPlay}
+use Rattle.vs_contents.specs.CallTree.{Leads, MayPlay}
 use Rattle.vs_ring_port.specs.declared.queue.Queue.{Queue}
 use Rattle.vs_ring_port.specs.declared.queue.TheConstants.{STAGED_MAX}
 use Rattle.vs_ring_port.specs.Contents.{RingContents}

@@ -19,11 +19,8 @@ use Rattle.vs_replies.specs.declared.Reply.{Reply}
 use Rattle.vs_driver.specs.declared.limits.TheConstants.{LAST_ID}
 use Rattle.vs_driver.specs.State.{DriverConnection, DriverState, DriverEntry}
 use Rattle.vs_driver.specs.Listening.{has_place}
+use Rattle.vs_wrap.specs.Wrap.{counted}
 use Rattle.vs_driver.specs.Connections.{with_connection, with_request, is_full, leaves_list, after_leaving}
-
--- One more, up to the last count of 64 bits.
-abbrev pub counted : ℕ → ℕ
-counted n = min (n + 1) (2 ^ 64 - 1)
 
 abbrev pub with_reply : Reply → DriverState → DriverState
 with_reply reply s = record s { replies = s.replies ++ reply ∷ [] }

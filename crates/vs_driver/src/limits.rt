@@ -23,6 +23,3 @@ pub const REPLIES: usize = 128;
 
 /// With so many owed replies a driver takes no further packet; with more it takes no event.
 pub const REPLIES_FULL: usize = 64;
-
-/// The most packets that one connection owes in a row: RESPONSE, CREDIT_UPDATE, CREDIT_REQUEST and SHUTDOWN.
-pub const OWED_MAX: usize = 4;

@@ -7,15 +7,15 @@ ghost use Rattle.vs_conn.specs.declared.end.Owed.TheVariants as owed;
 ghost use Rattle.vs_flow.specs.Table.{entry_under};
 ghost use Rattle.vs_page.specs.declared.log.TheConstants.{HOST_CID};
 ghost use Rattle.vs_ring_port.specs.declared.queue.Queue.TheVariants.{Tx};
-ghost use Rattle.vs_driver.specs.declared.limits.TheConstants.{OWED_MAX, REPLIES};
+ghost use Rattle.vs_driver.specs.declared.limits.TheConstants.{REPLIES};
+ghost use Rattle.vs_conn.specs.declared.end.TheConstants.{OWED_MAX};
 ghost use Rattle.vs_driver.specs.State.{DriverEntry};
 ghost use Rattle.vs_driver.specs.Conversations.{put_all, put_replies, put_reply, pay_all, pay_slot, put_owed, after_paying, is_rst, reply_header, round_of};
 ghost use Rattle.vs_driver.specs.Playing.{IsRingOf, IsAtWork, MayPublishAll, Plays, SamePages};
 
 use crate::driver::Driver;
-use crate::limits::OWED_MAX;
 use crate::take::Tally;
-use vs_conn::{Owed, Route};
+use vs_conn::{OWED_MAX, Owed, Route};
 use vs_flow::Slot;
 use vs_header::{Header, Kind, Op};
 use vs_page::HOST_CID;

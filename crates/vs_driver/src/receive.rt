@@ -11,7 +11,8 @@ ghost use Rattle.vs_driver.specs.declared.limits.TheConstants.{REPLIES, REPLIES_
 ghost use Rattle.vs_driver.specs.State.{DriverEntry};
 ghost use Rattle.vs_driver.specs.Connections.{after_leaving, leaves_list, waits_no_more, with_request};
 ghost use Rattle.vs_driver.specs.Playing.{SamePages};
-ghost use Rattle.vs_driver.specs.Receiving.{ends_connection, on_page, on_packet, on_known, on_unknown, is_request, may_open, with_reply, counted, after_reset, all_left, reset_reply};
+ghost use Rattle.vs_driver.specs.Receiving.{ends_connection, on_page, on_packet, on_known, on_unknown, is_request, may_open, with_reply, after_reset, all_left, reset_reply};
+ghost use Rattle.vs_wrap.specs.Wrap.{counted};
 
 use crate::driver::Driver;
 use crate::limits::{LAST_ID, SLOTS};

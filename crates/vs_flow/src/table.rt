@@ -4,7 +4,7 @@ ghost use Rattle.std.specs.Option.{option_map, option_and_then, option_copied_mu
 ghost use Rattle.std.specs.Borrow.{sem};
 ghost use Rattle.indexmap.specs.IndexMap.{index_map_len, spare};
 ghost use Rattle.vs_flow.specs.Entries.{slots_by_flow};
-ghost use Rattle.vs_flow.specs.Table.{IsTable, IsRising, entry_under, entry_of, value_under, slot_after, refusal, with_entry, without, emptied};
+ghost use Rattle.vs_flow.specs.Table.{IsTable, IsRising, entry_under, entry_of, value_under, slot_after, has_place, refusal, with_entry, without, emptied};
 
 use crate::flow::Flow;
 use indexmap::IndexMap;
@@ -86,6 +86,25 @@ impl<T> FlowTable<T> {
         ensures sound { IsTable self.now }
     {
         self.entries.len()
+    }
+
+    /// Tells whether a place is free and a slot is left, so that a flow that isn't there can be inserted.
+    pub fn has_place(&self) -> bool
+        ensures place { result ≡ has_place self.now }
+        ensures sound { IsTable self.now }
+    {
+        match self.next {
+            Some(_slot) => self.entries.len() < self.n,
+            None => false,
+        }
+    }
+
+    /// Returns the entries, by rising slot.
+    pub fn entries(&self) -> &[Entry<T>]
+        ensures entries { result.now ≡ self.now.entries }
+        ensures sound { IsTable self.now }
+    {
+        &self.entries
     }
 
     /// Adds an entry for a flow, under the next slot, and returns that slot.
@@ -235,7 +254,10 @@ mod tests {
         let mut table = FlowTable::new(rt.alloc(), 2)?;
         assert_eq!(rt; table.insert(first, 10), Ok(0));
         assert_eq!(rt; table.insert(second, 20), Ok(1));
+        assert!(rt; !table.has_place());
+        assert_eq!(rt; table.entries().len(), 2);
         assert_eq!(rt; table.remove(0), Some(10));
+        assert!(rt; table.has_place());
         assert_eq!(rt; table.insert(first, 30), Ok(2));
         if let Some(value) = table.get_mut(2) {
             *value = 40;

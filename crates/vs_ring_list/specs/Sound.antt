@@ -3,21 +3,12 @@ use Rattle.std.specs.Prelude.{◌≡◌, ℕ, ◌<◌, ◌≤◌, List, [], ◌�
 use Rattle.vs_header.specs.declared.TheConstants.{HEADER_LEN}
 use Rattle.vs_page.specs.declared.page.TheConstants.{PAGE_LEN}
 use Rattle.vs_page.specs.Fair.{IsFairLog}
-use Rattle.vs_page.specs.Held.{packet_held, event_held}
+use Rattle.vs_page.specs.Held.{packet_held, event_held, held_in}
 use Rattle.vs_page.specs.Log.{Log, Driver, Device, packets_put, packets_got, events_put, events_got}
 use Rattle.vs_ring_port.specs.Chains.{Held}
 use Rattle.vs_ring_port.specs.Lists.{Rings}
 use Rattle.vs_ring_port.specs.declared.queue.Queue.{Queue}
 use Rattle.vs_ring_list.specs.Ends.{Ends, in_flight}
-
--- What these pages hold, newest first; the pages stand oldest first.
-abbrev pub listed : {A : Type 0} → Option A → List A
-listed None = []
-listed (Some x) = x ∷ []
-
-abbrev pub held_in : {A : Type 0} → (List ℕ → Option A) → List (List ℕ) → List A
-held_in held [] = []
-held_in held (page ∷ pages) = held_in held pages ++ listed (held page)
 
 -- Both logs are fair, and what is under way is just what one end put and the other didn't get: packets in the pages given on tx and in
 -- those returned on rx, events in the pages returned on event.

@@ -1,25 +1,21 @@
 //! Rings that are plain lists in one thread.
 ghost use Rattle.std.specs.Prelude.{◌≡◌, ◌++◌};
 ghost use Rattle.vs_page.specs.Fair.{IsFairLog};
-ghost use Rattle.vs_page.specs.Held.{event_held, packet_held};
+ghost use Rattle.vs_page.specs.Held.{event_held, held_in, packet_held};
 ghost use Rattle.vs_page.specs.Log.{Driver, Device, HasGotAll, events_got, events_put, packets_got, packets_put};
 ghost use Rattle.vs_ring_port.specs.Contents.{DeviceAnswer, DeviceCall};
 ghost use Rattle.vs_ring_port.specs.DeviceCalls.{DeviceAllows, device_answer};
 ghost use Rattle.vs_ring_port.specs.DriverCalls.{DriverAllows, DriverAnswer, DriverCall, driver_answer};
 ghost use Rattle.vs_ring_port.specs.Lists.{chain_with, to_read};
 ghost use Rattle.vs_ring_list.specs.Ends.{Ends, device_contents, driver_contents};
-ghost use Rattle.vs_ring_list.specs.Sound.{held_in};
 
 use crate::held_chains::HeldChains;
 use crate::journal::Journal;
 use crate::queues::Queues;
 use std::alloc::{AllocError, Global};
 use std::marker::Model;
-use vs_page::{PAGE_LEN, Page};
+use vs_page::{FIRST_CID, PAGE_LEN, Page};
 use vs_ring_port::{Chain, DeviceRing, DriverRing, Next, NoDescriptor, Queue, Reaped};
-
-/// The guest's CID before the device publishes one.
-const FIRST_CID: u64 = 3;
 
 /// Both ends of the three virtqueues, as lists that one thread lends to each end in turn. Seen as the pages in flight, and what each end
 /// did so far.

@@ -13,7 +13,7 @@ use Rattle.vs_page.specs.Log as log
 use Rattle.vs_page.specs.Log.{Log}
 use Rattle.vs_page.specs.Open.{cid_of}
 use Rattle.vs_page.specs.declared.log.LogEntry.TheVariants.{Mark}
-use Rattle.vs_ring_rule.specs.declared.view.TheConstants.{FIRST_CID}
+use Rattle.vs_page.specs.declared.log.TheConstants.{FIRST_CID}
 use Rattle.vs_ring_port.specs.EndLog.{entries_returned}
 use Rattle.vs_ring_port.specs.declared.queue.Queue.{Queue}
 use Rattle.vs_ring_rule.specs.declared.view.Owner.TheVariants.{Device}

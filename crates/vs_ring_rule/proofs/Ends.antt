@@ -11,7 +11,7 @@ use Rattle.atomic_table.specs.Table.{Splits, opening}
 use Rattle.vs_ring_port.specs.declared.queue.Queue.{Queue}
 use Rattle.vs_ring_port.specs.declared.queue.Queue.TheVariants.{Rx, Tx, Event}
 use Rattle.vs_ring_rule.specs.declared.view.Owner.TheVariants.{Maker}
-use Rattle.vs_ring_rule.specs.declared.view.TheConstants.{FIRST_CID}
+use Rattle.vs_page.specs.declared.log.TheConstants.{FIRST_CID}
 use Rattle.vs_ring_rule.specs.declared.view.View.{View}
 use Rattle.vs_ring_rule.specs.OneQueue.{Page, Homes, times, Core}
 use Rattle.vs_ring_rule.specs.Rule.{Table, Slots, homes_in, queue_in, flags_of, all_slots, all_words, Pair, OneEnd, TwoEnds, Rule, below}

@@ -16,7 +16,8 @@ use Rattle.vs_ring_port.specs.declared.queue.Queue.{Queue}
 use Rattle.vs_ring_port.specs.declared.queue.Queue.TheVariants.{Rx, Tx, Event}
 use Rattle.vs_ring_rule.specs.declared.view.View.{View}
 use Rattle.vs_ring_rule.specs.OneQueue.{Page}
-use Rattle.vs_ring_rule.specs.Says.{held_in, IsDriverLog, IsDeviceLog}
+use Rattle.vs_ring_rule.specs.Says.{IsDriverLog, IsDeviceLog}
+use Rattle.vs_page.specs.Held.{held_in}
 use Rattle.vs_ring_rule.specs.Rule.{IsOlder, queue_in}
 use Rattle.vs_ring_rule.specs.Tells.{DriverHas, DeviceHas}
 

@@ -14,7 +14,9 @@ use Rattle.vs_ring_port.specs.declared.queue.Queue.TheVariants.{Rx, Tx, Event}
 use Rattle.vs_ring_rule.specs.declared.view.QueueView.{QueueView}
 use Rattle.vs_ring_rule.specs.declared.view.View.{View}
 use Rattle.vs_ring_rule.specs.OneQueue.{Page}
-use Rattle.vs_ring_rule.specs.Says.{listed, held_in, IsDriverLog, IsDeviceLog}
+use Rattle.vs_ring_rule.specs.Says.{IsDriverLog, IsDeviceLog}
+use Rattle.vs_page.specs.Held.{listed}
+use Rattle.vs_page.specs.Held.{held_in}
 use Rattle.vs_ring_rule.specs.Rule.{queue_in, with_queue_in}
 
 pub held_in-append : {A : Type 0} (held : Page → Option A) (older newer : List Page)

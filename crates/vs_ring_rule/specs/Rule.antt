@@ -10,7 +10,7 @@ use Rattle.vs_page.specs.Log.{Log}
 use Rattle.vs_page.specs.Open.{cid_of}
 use Rattle.vs_ring_port.specs.declared.queue.Queue.{Queue}
 use Rattle.vs_ring_port.specs.declared.queue.Queue.TheVariants.{Rx, Tx, Event}
-use Rattle.vs_ring_rule.specs.declared.view.TheConstants.{FIRST_CID}
+use Rattle.vs_page.specs.declared.log.TheConstants.{FIRST_CID}
 use Rattle.vs_ring_rule.specs.declared.view.Owner.{Owner}
 use Rattle.vs_ring_rule.specs.declared.view.Owner.TheVariants.{Maker, Driver, Device, DriverCopy, DeviceCopy, Nobody}
 use Rattle.vs_ring_rule.specs.declared.view.QueueView.{QueueView}

@@ -1,18 +1,9 @@
 -- What an end's log says is what its pages hold.
 use Rattle.std.specs.Prelude.{◌≡◌, List, [], ◌∷◌, ◌++◌, Option, Some, None}
-use Rattle.vs_page.specs.Held.{packet_held, event_held}
+use Rattle.vs_page.specs.Held.{packet_held, event_held, held_in}
 use Rattle.vs_page.specs.Log.{packets_put, packets_got, events_put, events_got}
 use Rattle.vs_ring_rule.specs.declared.view.View.{View}
 use Rattle.vs_ring_rule.specs.OneQueue.{Page}
-
--- What these pages hold, newest first; the pages stand oldest first.
-abbrev pub listed : {A : Type 0} → Option A → List A
-listed None = []
-listed (Some x) = x ∷ []
-
-abbrev pub held_in : {A : Type 0} → (Page → Option A) → List Page → List A
-held_in held [] = []
-held_in held (page ∷ pages) = held_in held pages ++ listed (held page)
 
 -- The driver puts packets on tx; it gets packets on rx, and events.
 pub record IsDriverLog (v : View) : Type 0 where

@@ -12,7 +12,7 @@ ghost use Rattle.vs_ring_port.specs.declared.queue.Queue.{Queue};
 ghost use Rattle.vs_ring_rule.specs.OneQueue.{Page, descriptor, element, given, taken, times};
 ghost use Rattle.vs_ring_rule.specs.Rule.{Pair, Rule, Slots, Table, TwoEnds, first_view, queue_in};
 ghost use Rattle.vs_ring_rule.specs.Tells.{slot_in};
-ghost use Rattle.vs_ring_rule.specs.declared.view.TheConstants.{FIRST_CID};
+ghost use Rattle.vs_page.specs.declared.log.TheConstants.{FIRST_CID};
 ghost use Rattle.vs_ring_rule.specs.declared.view.View.{View};
 
 /// The rule holds of a table with all words 0 but the guest's CID, and no page.

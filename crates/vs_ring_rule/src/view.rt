@@ -2,9 +2,6 @@
 use std::collections::LinkedList;
 use vs_page::LogEntry;
 
-/// The guest's CID at first, which word 0 shows until the device stores another.
-pub const FIRST_CID: u64 = 3;
-
 /// Whose view it is.
 pub enum Owner {
     /// The first seat, before there are two ends.

@@ -1,5 +1,5 @@
 -- Counters of 16 and 32 bits, which wrap: their sums and differences, and the plain numbers that they stand for.
-use Rattle.std.specs.Prelude.{ℕ, ◌+◌, ◌-◌, ◌%◌, ◌^◌}
+use Rattle.std.specs.Prelude.{ℕ, ◌+◌, ◌-◌, ◌%◌, ◌^◌, min}
 
 -- What a 16-bit counter shows after b more.
 abbrev pub sum16 : ℕ → ℕ → ℕ
@@ -24,3 +24,7 @@ unwrap16 near word = near + difference16 word (near % 2 ^ 16)
 -- The least number from `near` on that a 32-bit counter shows as `word`.
 abbrev pub unwrap32 : ℕ → ℕ → ℕ
 unwrap32 near word = near + difference32 word (near % 2 ^ 32)
+
+-- A count of 64 bits after one more. It stands still at its last number.
+abbrev pub counted : ℕ → ℕ
+counted n = min (n + 1) (2 ^ 64 - 1)

@@ -4,9 +4,9 @@ use Rattle.vs_header.specs.Packet.{header_bytes}
 use Rattle.vs_ring_port.specs.declared.queue.Queue.TheVariants.{Rx, Tx, Event}
 use Rattle.vs_ring_port.specs.Contents.{RingContents}
 use Rattle.vs_ring_port.specs.DriverCalls.{Stage, Publish, Reap, LoadCid, DriverAllows}
-use Rattle.vs_driver.proofs.Loops.{while_more, while_stop, while_end, may_step, may_more}
+use Rattle.vs_contents.proofs.Loops.{while_more, while_stop, while_end, may_step, may_more}
 use Rattle.vs_contents.proofs.Leads.{leads_bind, leads_of}
-use Rattle.vs_driver.proofs.Conditions.{may_first, may_rest, may_of}
+use Rattle.vs_contents.proofs.Conditions.{may_first, may_rest, may_of}
 use Rattle.vs_driver.specs.State.{DriverConnection, DriverEntry, DriverState}
 use Rattle.vs_driver.specs.PageCounts.{PageCounts}
 use Rattle.vs_driver.specs.Playing.{CanMake, MayPublishAll, Plays, IsRingOf, IsAtWork}

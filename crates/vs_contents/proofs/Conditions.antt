@@ -1,7 +1,6 @@
 -- What may be played of a conversation that is put together of others.
 use Rattle.std.proofs.Common.{◌≡◌, subst}
-use Rattle.vs_contents.specs.CallTree.{CallTree, Done, Ask, bind, Leads}
-use Rattle.vs_driver.specs.Conditions.{MayPlay}
+use Rattle.vs_contents.specs.CallTree.{CallTree, Done, Ask, bind, Leads, MayPlay}
 
 module _ {Call : Type 0} {Answer : Call → Type 0} {S A B : Type 0} (Can : (call : Call) → S → Type 0) (Allows : (call : Call) → Answer call → S → S → Type 0) where
   -- the first of two conversations
