@@ -5,12 +5,12 @@ use Rattle.vs_contents.proofs.Leads.{leads_of, leads_bind}
 use Rattle.vs_contents.proofs.Conditions.{may_first, may_rest, may_of}
 use Rattle.vs_ring_port.specs.Contents.{RingContents}
 use Rattle.vs_ring_port.specs.DriverCalls.{DriverAllows}
-use Rattle.vs_driver.specs.declared.answers.ConnectError.{ConnectError}
-use Rattle.vs_driver.specs.declared.answers.ConnectError.TheVariants as refused
-use Rattle.vs_driver.specs.State.{DriverState}
-use Rattle.vs_driver.specs.Connections.{connect_refusal, connected}
-use Rattle.vs_driver.specs.Conversations.{DriverTree, connect_of, connect_with_page, request_bytes, post_packet, reap_all, has_page}
-use Rattle.vs_driver.specs.Playing.{CanMake, MayPublishAll, Plays}
+use Rattle.vs_driver_parts.specs.declared.answers.ConnectError.{ConnectError}
+use Rattle.vs_driver_parts.specs.declared.answers.ConnectError.TheVariants as refused
+use Rattle.vs_driver_parts.specs.State.{DriverState}
+use Rattle.vs_driver_parts.specs.Connections.{connect_refusal, connected}
+use Rattle.vs_driver_parts.specs.Conversations.{DriverTree, connect_of, connect_with_page, request_bytes, post_packet, reap_all, has_page}
+use Rattle.vs_driver_parts.specs.Playing.{CanMake, MayPublishAll, Plays}
 
 after_post : ℕ → DriverState → DriverTree (DriverState × Result ℕ ConnectError)
 after_post host t = Done (connected host t, Ok t.next_id)

@@ -1,12 +1,3 @@
-pub mod Delivers
-pub mod Lists
-pub mod ListenerChanges
-pub mod Ids
-pub mod Numbers
-pub mod SlotChanges
-pub mod SameIds
-pub mod GoneChanges
-pub mod Known
 pub mod Reading
 pub mod RingPages
 pub mod Connecting

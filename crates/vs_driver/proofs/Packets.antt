@@ -13,11 +13,11 @@ use Rattle.vs_flow.proofs.Tables.{revalued-slot}
 use Rattle.vs_flow.proofs.Lookups.{entry_under-with_value}
 use Rattle.vs_history.specs.declared.packet.Packet.{Packet}
 use Rattle.vs_page.specs.Log.{flow_to_guest}
-use Rattle.vs_driver.specs.State.{DriverConnection, DriverEntry, DriverState}
-use Rattle.vs_driver.specs.Connections.{with_connection, leaves_list, after_leaving, waits_no_more, is_let_go, gone_as}
-use Rattle.vs_driver.specs.Receiving.{on_packet, on_known, on_unknown, after_verdict, after_packet, ends_connection, with_reply, reset_reply, all_left}
+use Rattle.vs_driver_parts.specs.State.{DriverConnection, DriverEntry, DriverState}
+use Rattle.vs_driver_parts.specs.Connections.{with_connection, leaves_list, after_leaving, waits_no_more, is_let_go, gone_as}
+use Rattle.vs_driver_parts.specs.Receiving.{on_packet, on_known, on_unknown, after_verdict, after_packet, ends_connection, with_reply, reset_reply, all_left}
 use Rattle.vs_wrap.specs.Wrap.{counted}
-use Rattle.vs_driver.proofs.Lists.{AtMostOnePasses, NonePasses, one_passes, kept_none}
+use Rattle.vs_driver_parts.proofs.Lists.{AtMostOnePasses, NonePasses, one_passes, kept_none}
 
 -- an entry with another value
 abbrev pub with_its : DriverEntry → DriverConnection → DriverEntry

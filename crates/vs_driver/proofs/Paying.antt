@@ -14,10 +14,10 @@ use Rattle.vs_flow.specs.Table.{entry_under}
 use Rattle.vs_replies.specs.declared.Reply.{Reply}
 use Rattle.vs_ring_port.specs.Contents.{RingContents}
 use Rattle.vs_ring_port.specs.DriverCalls.{DriverAllows}
-use Rattle.vs_driver.specs.State.{DriverConnection, DriverEntry, DriverState}
-use Rattle.vs_driver.specs.Connections.{with_connection, paid_connection, after_leaving}
-use Rattle.vs_driver.specs.Conversations.{DriverTree, Round, stage_packet, one_put, has_page, put_reply, put_reply_of, reply_header, put_owed, put_owed_of, owed_bytes, after_paying, is_rst, pay_slot}
-use Rattle.vs_driver.specs.Playing.{CanMake, MayPublishAll, Plays}
+use Rattle.vs_driver_parts.specs.State.{DriverConnection, DriverEntry, DriverState}
+use Rattle.vs_driver_parts.specs.Connections.{with_connection, paid_connection, after_leaving}
+use Rattle.vs_driver_parts.specs.Conversations.{DriverTree, Round, stage_packet, one_put, has_page, put_reply, put_reply_of, reply_header, put_owed, put_owed_of, owed_bytes, after_paying, is_rst, pay_slot}
+use Rattle.vs_driver_parts.specs.Playing.{CanMake, MayPublishAll, Plays}
 
 pub paid_other : (what : Owed) (slot : ℕ) (e : DriverEntry) (s : DriverState) → is_rst what ≡ false → e.slot ≡ slot
     → with_connection slot (paid_connection what e.value) s ≡ after_paying what e s

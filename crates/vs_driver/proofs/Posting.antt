@@ -8,9 +8,9 @@ use Rattle.vs_ring_port.specs.declared.queue.Queue.TheVariants.{Rx, Tx, Event}
 use Rattle.vs_ring_port.specs.Counts.{Counts, at, one_more, with_count, no_counts}
 use Rattle.vs_ring_port.specs.Contents.{RingContents}
 use Rattle.vs_ring_port.specs.DriverCalls.{DriverAllows}
-use Rattle.vs_driver.specs.State.{DriverState}
-use Rattle.vs_driver.specs.Conversations.{DriverTree, stage_of, post_one}
-use Rattle.vs_driver.specs.Playing.{CanMake, MayPublishAll, Plays}
+use Rattle.vs_driver_parts.specs.State.{DriverState}
+use Rattle.vs_driver_parts.specs.Conversations.{DriverTree, stage_of, post_one}
+use Rattle.vs_driver_parts.specs.Playing.{CanMake, MayPublishAll, Plays}
 
 pub at_count : (queue : Queue) (n : ℕ) (f : Counts) → at queue (with_count queue n f) ≡ n
 at_count Rx n f = refl

@@ -10,9 +10,9 @@ use Rattle.vs_ring_port.specs.declared.queue.Queue.TheVariants.{Tx}
 use Rattle.vs_ring_port.specs.declared.queue.TheConstants.{STAGED_MAX}
 use Rattle.vs_ring_port.specs.Contents.{RingContents}
 use Rattle.vs_ring_port.specs.DriverCalls.{DriverCall, DriverAnswer, Stage, Publish, Reap, DriverAllows, CanPublish}
-use Rattle.vs_driver.specs.State.{DriverState}
-use Rattle.vs_driver.specs.Conversations.{DriverTree, reap_one, reaped, stage_of, after_stage, publish_of, post_packet, stage_packet, one_more_in_flight}
-use Rattle.vs_driver.specs.Playing.{CanMake, MayPublishAll, Plays}
+use Rattle.vs_driver_parts.specs.State.{DriverState}
+use Rattle.vs_driver_parts.specs.Conversations.{DriverTree, reap_one, reaped, stage_of, after_stage, publish_of, post_packet, stage_packet, one_more_in_flight}
+use Rattle.vs_driver_parts.specs.Playing.{CanMake, MayPublishAll, Plays}
 
 reap_asks : (g : DriverState) → g.in_flight ≢ 0 → reap_one g ≡ Ask (Reap Tx) (λ page. Done (reaped g page))
 reap_asks g some = let e : (g.in_flight == 0) ≡ false = grind (arith, nat_tests) in rw e refl

@@ -15,13 +15,13 @@ use Rattle.vs_flow.specs.Table.{Table, entry_under, value_under}
 use Rattle.vs_ring_port.specs.Counts.{Counts}
 use Rattle.vs_ring_port.specs.Contents.{RingContents}
 use Rattle.vs_ring_port.specs.DriverCalls.{DriverAllows}
-use Rattle.vs_driver.specs.declared.answers.Sent.{Sent}
-use Rattle.vs_driver.specs.declared.answers.Sent.TheVariants as sent
-use Rattle.vs_driver.specs.State.{DriverConnection, DriverEntry, DriverState, entry_known_as}
-use Rattle.vs_driver.specs.Connections.{with_end}
-use Rattle.vs_driver.specs.Conversations.{DriverTree, send_of, send_on, send_with_credit, send_with_page, payload_of, payload_bytes, post_packet, reap_all, has_page}
-use Rattle.vs_driver.specs.Playing.{CanMake, MayPublishAll, Plays, IsRingOf, all_flown}
-use Rattle.vs_driver.proofs.Ids.{value_of}
+use Rattle.vs_driver_parts.specs.declared.answers.Sent.{Sent}
+use Rattle.vs_driver_parts.specs.declared.answers.Sent.TheVariants as sent
+use Rattle.vs_driver_parts.specs.State.{DriverConnection, DriverEntry, DriverState, entry_known_as}
+use Rattle.vs_driver_parts.specs.Connections.{with_end}
+use Rattle.vs_driver_parts.specs.Conversations.{DriverTree, send_of, send_on, send_with_credit, send_with_page, payload_of, payload_bytes, post_packet, reap_all, has_page}
+use Rattle.vs_driver_parts.specs.Playing.{CanMake, MayPublishAll, Plays, IsRingOf, all_flown}
+use Rattle.vs_driver_parts.proofs.Ids.{value_of}
 
 -- a ring stays the driver's where its pages stay
 pub ring_same : (n : ℕ) (f w : Counts) (g h : DriverState) → IsRingOf n f w g → h.size ≡ g.size → h.in_flight ≡ g.in_flight → h.staged ≡ g.staged → IsRingOf n f w h

@@ -7,10 +7,10 @@ use Rattle.vs_ring_port.specs.declared.queue.Queue.{Queue}
 use Rattle.vs_ring_port.specs.declared.queue.Queue.TheVariants.{Event}
 use Rattle.vs_ring_port.specs.Contents.{RingContents}
 use Rattle.vs_ring_port.specs.DriverCalls.{Reap, DriverAllows}
-use Rattle.vs_driver.specs.declared.limits.TheConstants.{REPLIES_FULL}
-use Rattle.vs_driver.specs.State.{DriverState}
-use Rattle.vs_driver.specs.Conversations.{DriverTree, Round, take_event, event_reaped, event_taken, staged_again, goes_on_with, stage_of, publish_of, published, with_state}
-use Rattle.vs_driver.specs.Playing.{CanMake, MayPublishAll, Plays}
+use Rattle.vs_driver_parts.specs.declared.limits.TheConstants.{REPLIES_FULL}
+use Rattle.vs_driver_parts.specs.State.{DriverState}
+use Rattle.vs_driver_parts.specs.Conversations.{DriverTree, Round, take_event, event_reaped, event_taken, staged_again, goes_on_with, stage_of, publish_of, published, with_state}
+use Rattle.vs_driver_parts.specs.Playing.{CanMake, MayPublishAll, Plays}
 
 reaps_event : (r : Round) → nat_lt REPLIES_FULL (length r.state.replies) ≡ false → take_event r ≡ Ask (Reap Event) (event_reaped r)
 reaps_event r few = rw (few, take_event) refl

@@ -1,10 +1,10 @@
 -- What connect and send leave, for each answer.
 use Rattle.std.specs.Prelude.{◌≡◌, ℕ, ◌≤◌, List, length, min, Option, Some, None, Result, Ok, Err}
 use Rattle.vs_conn.specs.End.{ConnectionEnd, may_send_of, with_payload_sent, wanting_credit}
-use Rattle.vs_driver.specs.declared.answers.ConnectError.{ConnectError}
-use Rattle.vs_driver.specs.declared.answers.ConnectError.TheVariants as refused
-use Rattle.vs_driver.specs.State.{DriverState}
-use Rattle.vs_driver.specs.Connections.{connect_refusal, connected}
+use Rattle.vs_driver_parts.specs.declared.answers.ConnectError.{ConnectError}
+use Rattle.vs_driver_parts.specs.declared.answers.ConnectError.TheVariants as refused
+use Rattle.vs_driver_parts.specs.State.{DriverState}
+use Rattle.vs_driver_parts.specs.Connections.{connect_refusal, connected}
 
 -- Nothing changes, but that transmit pages may have come back.
 abbrev pub KeepsAllButPages : DriverState → DriverState → Type 0

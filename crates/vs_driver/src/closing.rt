@@ -2,14 +2,14 @@
 
 ghost use Rattle.std.specs.Prelude.{◌≡◌, ◌≤◌, true, Some, is_some, if◌then◌else◌, OnOk, OnErr, IsOk, ◌↔◌, IsTrue};
 ghost use Rattle.vs_flow.specs.Table.{entry_under};
-ghost use Rattle.vs_driver.specs.declared.answers.Closed.TheVariants as closed;
-ghost use Rattle.vs_driver.specs.State.{DriverEntry, entry_known_as, gone_known_as};
-ghost use Rattle.vs_driver.specs.Listening.{listener_on};
-ghost use Rattle.vs_driver.specs.Connections.{shutdown_of, after_shutdown, after_close, close_of, after_unlisten, shut_answer, shut_in, entry_closed, gone_closed};
+ghost use Rattle.vs_driver_parts.specs.declared.answers.Closed.TheVariants as closed;
+ghost use Rattle.vs_driver_parts.specs.State.{DriverEntry, entry_known_as, gone_known_as};
+ghost use Rattle.vs_driver_parts.specs.Listening.{listener_on};
+ghost use Rattle.vs_driver_parts.specs.Connections.{shutdown_of, after_shutdown, after_close, close_of, after_unlisten, shut_answer, shut_in, entry_closed, gone_closed};
 
-use crate::answers::{Closed, ConnId, NotListening, Shut};
 use crate::driver::Driver;
 use vs_conn::State;
+use vs_driver_parts::answers::{Closed, ConnId, NotListening, Shut};
 use vs_flow::Slot;
 
 impl Driver {

@@ -6,20 +6,20 @@ ghost use Rattle.vs_conn.specs.Headers.{owed_header};
 ghost use Rattle.vs_conn.specs.declared.end.Owed.TheVariants as owed;
 ghost use Rattle.vs_flow.specs.declared.flow.Flow.{Flow};
 ghost use Rattle.vs_history.specs.declared.TheConstants.{BUF_ALLOC};
-ghost use Rattle.vs_driver.specs.declared.answers.ConnectError.{ConnectError};
-ghost use Rattle.vs_driver.specs.Connections.{connect_refusal, connected, is_full, is_spent, next_flow, route_to_host};
-ghost use Rattle.vs_driver.specs.Conversations.{connect_of, connect_with_page};
+ghost use Rattle.vs_driver_parts.specs.declared.answers.ConnectError.{ConnectError};
+ghost use Rattle.vs_driver_parts.specs.Connections.{connect_refusal, connected, is_full, is_spent, next_flow, route_to_host};
+ghost use Rattle.vs_driver_parts.specs.Conversations.{connect_of, connect_with_page};
 ghost use Rattle.vs_driver.specs.Outcomes.{Opens, Refuses, FindsNoPage};
-ghost use Rattle.vs_driver.specs.Playing.{IsRingOf, MayPublishAll, Plays};
+ghost use Rattle.vs_driver_parts.specs.Playing.{IsRingOf, MayPublishAll, Plays};
 
-use crate::answers::{ConnId, ConnectError};
 use crate::driver::Driver;
-use crate::limits::{LAST_ID, LAST_PORT, SLOTS};
-use vs_conn::{End, Owed, Route};
+use vs_conn::{End, Owed};
+use vs_driver_parts::answers::{ConnId, ConnectError};
+use vs_driver_parts::limits::{LAST_ID, LAST_PORT, SLOTS};
+use vs_driver_parts::route::route_to_host;
 use vs_flow::{Flow, is_assigned};
 use vs_header::Header;
 use vs_history::BUF_ALLOC;
-use vs_page::HOST_CID;
 use vs_ring_port::DriverRing;
 
 impl Driver {
@@ -109,17 +109,5 @@ impl Driver {
             host: host_port,
         };
         End::ask(BUF_ALLOC).owed_header(route_to_host(self.cid, flow), Owed::Request)
-    }
-}
-
-/// The route of packets on a flow to the host.
-pub(crate) fn route_to_host(cid: u64, flow: Flow) -> Route
-    ensures { result ≡ route_to_host cid flow }
-{
-    Route {
-        src_cid: cid,
-        dst_cid: HOST_CID,
-        src_port: flow.guest,
-        dst_port: flow.host,
     }
 }

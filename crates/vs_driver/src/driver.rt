@@ -1,9 +1,9 @@
 //! The driver: its connections, the ports that it listens on, what it owes to unknown flows, and its transmit pages.
 
-use crate::listeners::Listeners;
-use crate::pages::Pages;
-use crate::slots::Slots;
 use std::marker::Model;
+use vs_driver_parts::listeners::Listeners;
+use vs_driver_parts::pages::Pages;
+use vs_driver_parts::slots::Slots;
 use vs_replies::Replies;
 
 /// The guest's driver of a socket device (Virtio 1.2, section 5.10.6). The ring is lent to each call that needs it, and must be the one that
@@ -20,8 +20,8 @@ pub struct Driver {
 
 impl Model for Driver {
     ghost use Rattle.std.specs.Prelude.{◌≡◌};
-    ghost use Rattle.vs_driver.specs.declared.limits.TheConstants.{REPLIES};
-    ghost use Rattle.vs_driver.specs.State.{DriverState};
+    ghost use Rattle.vs_driver_parts.specs.declared.limits.TheConstants.{REPLIES};
+    ghost use Rattle.vs_driver_parts.specs.State.{DriverState};
 
     ghost Value = { DriverState };
 

@@ -1,11 +1,11 @@
 //! Listening on ports, and accepting the connections that wait there (Virtio 1.2, section 5.10.6.4).
 
 ghost use Rattle.std.specs.Prelude.{◌≡◌, ◌↔◌, OnOk, OnErr, IfErr, IsErr, true, Some, length, is_some};
-ghost use Rattle.vs_driver.specs.Listening.{listen_of, listening, accept_of, after_accept, is_answered, next_accepted};
+ghost use Rattle.vs_driver_parts.specs.Listening.{listen_of, listening, accept_of, after_accept, is_answered, next_accepted};
 
-use crate::answers::{Accepted, ConnId, ListenError};
 use crate::driver::Driver;
-use crate::limits::LISTENERS;
+use vs_driver_parts::answers::{Accepted, ConnId, ListenError};
+use vs_driver_parts::limits::LISTENERS;
 
 impl Driver {
     /// Listens on a guest port: a REQUEST of the host for it opens a connection, which waits to be accepted.

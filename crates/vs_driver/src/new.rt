@@ -4,17 +4,17 @@ ghost use Rattle.std.specs.Prelude.{◌≡◌, ◌≢◌, ◌+◌, ◌<◌, ◌�
 ghost use Rattle.std.specs.List.{All};
 ghost use Rattle.vs_ring_port.specs.declared.queue.Queue.TheVariants.{Rx, Tx, Event};
 ghost use Rattle.vs_ring_port.specs.Counts.{at, no_counts, with_count};
-ghost use Rattle.vs_driver.specs.declared.limits.TheConstants.{FIRST_PORT, LAST_PORT};
-ghost use Rattle.vs_driver.specs.Conversations.{new_of, new_state, post_all, posts};
-ghost use Rattle.vs_driver.specs.Playing.{IsRingOf, MayPublishAll, Plays};
+ghost use Rattle.vs_driver_parts.specs.declared.limits.TheConstants.{FIRST_PORT, LAST_PORT};
+ghost use Rattle.vs_driver_parts.specs.Conversations.{new_of, new_state, post_all, posts};
+ghost use Rattle.vs_driver_parts.specs.Playing.{IsRingOf, MayPublishAll, Plays};
 
-use crate::answers::ConnId;
 use crate::driver::Driver;
-use crate::limits::{FIRST_PORT, REPLIES};
-use crate::listeners::Listeners;
-use crate::pages::{Pages, free_pages};
-use crate::slots::Slots;
 use std::alloc::{AllocError, Global};
+use vs_driver_parts::answers::ConnId;
+use vs_driver_parts::limits::{FIRST_PORT, REPLIES};
+use vs_driver_parts::listeners::Listeners;
+use vs_driver_parts::pages::{Pages, free_pages};
+use vs_driver_parts::slots::Slots;
 use vs_page::Page;
 use vs_replies::Replies;
 use vs_ring_port::{DriverRing, Queue};

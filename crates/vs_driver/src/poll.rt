@@ -1,10 +1,10 @@
 //! A poll of the driver's ring: events and packets are taken, pages come back, and what is owed is put (Virtio 1.2, section 5.10.6).
 
-ghost use Rattle.vs_driver.specs.Conversations.{poll_of};
-ghost use Rattle.vs_driver.specs.Playing.{IsRingOf, MayPublishAll, Plays};
+ghost use Rattle.vs_driver_parts.specs.Conversations.{poll_of};
+ghost use Rattle.vs_driver_parts.specs.Playing.{IsRingOf, MayPublishAll, Plays};
 
-use crate::answers::Polled;
 use crate::driver::Driver;
+use vs_driver_parts::answers::Polled;
 use vs_ring_port::DriverRing;
 
 impl Driver {

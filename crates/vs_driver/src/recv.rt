@@ -4,13 +4,13 @@ ghost use Rattle.std.specs.Prelude.{◌≡◌, ◌++◌, ◌==◌, ◌||◌, len
 ghost use Rattle.vs_conn.specs.End.{ConnectionEnd, view_of};
 ghost use Rattle.vs_conn.specs.Shut.{shut_of};
 ghost use Rattle.vs_flow.specs.Table.{entry_under};
-ghost use Rattle.vs_driver.specs.declared.answers.Received.TheVariants as got;
-ghost use Rattle.vs_driver.specs.State.{DriverEntry, GoneConnection, gone_known_as};
-ghost use Rattle.vs_driver.specs.Connections.{recv_of, unread_of_id, after_recv, is_at_end, nothing_read, all_gone_after_read, gone_answer, entry_answer, entry_read, bytes_read};
+ghost use Rattle.vs_driver_parts.specs.declared.answers.Received.TheVariants as got;
+ghost use Rattle.vs_driver_parts.specs.State.{DriverEntry, GoneConnection, gone_known_as};
+ghost use Rattle.vs_driver_parts.specs.Connections.{recv_of, unread_of_id, after_recv, is_at_end, nothing_read, all_gone_after_read, gone_answer, entry_answer, entry_read, bytes_read};
 
-use crate::answers::{ConnId, Received};
 use crate::driver::Driver;
 use vs_conn::{EndView, Shut, State};
+use vs_driver_parts::answers::{ConnId, Received};
 use vs_flow::Slot;
 
 impl Driver {

@@ -2,14 +2,14 @@
 
 ghost use Rattle.std.specs.Prelude.{◌≡◌, ◌<◌, ◌^◌, length};
 ghost use Rattle.std.specs.Iterator.{YieldsFirst, item_count};
-ghost use Rattle.vs_driver.specs.Connections.{state_of, state_shown, flow_of, table_shown};
+ghost use Rattle.vs_driver_parts.specs.Connections.{state_of, state_shown, flow_of, table_shown};
 
-use crate::answers::{ConnId, ConnectionState};
 use crate::driver::Driver;
-use crate::limits::SLOTS;
-use crate::slots::Slots;
 use std::marker::Model;
 use vs_conn::State;
+use vs_driver_parts::answers::{ConnId, ConnectionState};
+use vs_driver_parts::limits::SLOTS;
+use vs_driver_parts::slots::Slots;
 use vs_flow::Flow;
 
 impl Driver {

@@ -2,37 +2,17 @@
 
 ghost use Rattle.std.specs.Prelude.{◌≡◌, ◌+◌, ◌-◌, ◌<◌, ◌≤◌, ◌==◌, [], length, false, true, ◌^◌};
 ghost use Rattle.vs_ring_port.specs.declared.queue.Queue.TheVariants.{Rx, Tx, Event};
-ghost use Rattle.vs_driver.specs.Conversations.{take_all, all_taken, take_event, take_packet, event_taken, stage_of, round_of, start};
-ghost use Rattle.vs_driver.specs.declared.limits.TheConstants.{REPLIES_FULL};
-ghost use Rattle.vs_driver.specs.Receiving.{is_reset_event};
-ghost use Rattle.vs_driver.specs.Playing.{IsRingOf, IsAtWork, IsStaging, MayPublishAll, Plays};
+ghost use Rattle.vs_driver_parts.specs.Conversations.{take_all, all_taken, take_event, take_packet, event_taken, stage_of, round_of, start};
+ghost use Rattle.vs_driver_parts.specs.declared.limits.TheConstants.{REPLIES_FULL};
+ghost use Rattle.vs_driver_parts.specs.Receiving.{is_reset_event};
+ghost use Rattle.vs_driver_parts.specs.Playing.{IsRingOf, IsAtWork, IsStaging, MayPublishAll, Plays};
 
 use crate::driver::Driver;
-use crate::limits::REPLIES_FULL;
 use byteorder::{ByteOrder, LittleEndian};
+use vs_driver_parts::limits::REPLIES_FULL;
+use vs_driver_parts::tally::Tally;
 use vs_page::Page;
 use vs_ring_port::{DriverRing, Queue, Reaped};
-
-/// What a stage of a poll did so far.
-#[derive(Clone, Copy, Debug, PartialEq, Eq)]
-pub struct Tally {
-    /// Pages taken, or packets put.
-    pub count: u32,
-    /// Whether a transport reset was taken.
-    pub reset: bool,
-}
-
-impl Tally {
-    /// Nothing yet.
-    pub fn none() -> Tally
-        ensures { result ≡ record { count = 0; reset = false } }
-    {
-        Tally {
-            count: 0,
-            reset: false,
-        }
-    }
-}
 
 impl Driver {
     /// Takes events, while 64 or fewer replies are owed, and publishes their pages again.

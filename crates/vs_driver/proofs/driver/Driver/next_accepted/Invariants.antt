@@ -1,6 +1,6 @@
 use Rattle.std.proofs.Common.{◌≡◌, drop}
 use Rattle.std.specs.List.{find}
-use Rattle.vs_driver.specs.Listening.{is_answered}
+use Rattle.vs_driver_parts.specs.Listening.{is_answered}
 use Rattle.vs_driver.proofs.driver.Driver.next_accepted.Given as goal
 
 -- the first of those that are left is the first of all

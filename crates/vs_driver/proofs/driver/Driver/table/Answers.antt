@@ -2,7 +2,7 @@ use Rattle.std.proofs.Common.{◌≡◌, ℕ, List, ◌<◌, ◌≤◌, ◌^◌,
 use Rattle.std.proofs.lemmas.List.{length-map}
 use Rattle.vs_conn.specs.declared.end.State.{State}
 use Rattle.vs_flow.specs.declared.flow.Flow.{Flow}
-use Rattle.vs_driver.specs.State.{DriverEntry}
+use Rattle.vs_driver_parts.specs.State.{DriverEntry}
 use Rattle.vs_driver.proofs.driver.Driver.table.Goals as goal
 
 pub returns-clause-countable : goal.returns-clause-countable

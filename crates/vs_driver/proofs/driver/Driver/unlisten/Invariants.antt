@@ -1,5 +1,5 @@
 use Rattle.std.proofs.Common.{◌≡◌, drop}
-use Rattle.vs_driver.specs.Connections.{all_closed, waiting_on}
+use Rattle.vs_driver_parts.specs.Connections.{all_closed, waiting_on}
 use Rattle.vs_driver.proofs.driver.Driver.unlisten.Given as goal
 
 -- closing those that are left closes all

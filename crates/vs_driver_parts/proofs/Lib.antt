@@ -1,0 +1,9 @@
+pub mod Delivers
+pub mod Lists
+pub mod ListenerChanges
+pub mod Ids
+pub mod Numbers
+pub mod SlotChanges
+pub mod SameIds
+pub mod GoneChanges
+pub mod Known

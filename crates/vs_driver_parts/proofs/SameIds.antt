@@ -1,0 +1,34 @@
+-- What a connection does leaves its id.
+use Rattle.std.proofs.Common.{◌≡◌, refl}
+use Rattle.vs_conn.specs.declared.end.Owed.{Owed}
+use Rattle.vs_conn.specs.declared.end.Owed.TheVariants as owed
+use Rattle.vs_conn.specs.declared.end.State.{State}
+use Rattle.vs_conn.specs.declared.end.State.TheVariants as state
+use Rattle.vs_conn.specs.declared.end.Verdict.{Verdict}
+use Rattle.vs_conn.specs.declared.end.Verdict.TheVariants as verdict
+use Rattle.vs_history.specs.declared.packet.Packet.{Packet}
+use Rattle.vs_driver_parts.specs.State.{DriverConnection}
+use Rattle.vs_driver_parts.specs.Connections.{paid_connection, after_closing}
+use Rattle.vs_driver_parts.specs.Receiving.{after_packet}
+
+pub paid_id : (what : Owed) (c : DriverConnection) → (paid_connection what c).id ≡ c.id
+paid_id owed.Response c = refl
+paid_id owed.Rst c = refl
+paid_id owed.Request c = refl
+paid_id owed.CreditUpdate c = refl
+paid_id owed.CreditRequest c = refl
+paid_id (owed.Shutdown bits) c = refl
+
+pub closing_id : (s : State) (c : DriverConnection) → (after_closing s c).id ≡ c.id
+closing_id state.Live c = refl
+closing_id state.Asked c = refl
+closing_id state.Answering c = refl
+closing_id state.Ended c = refl
+
+pub packet_id : (v : Verdict) (p : Packet) (c : DriverConnection) → (after_packet v p c).id ≡ c.id
+packet_id verdict.Deliver p c = refl
+packet_id verdict.Accept p c = refl
+packet_id verdict.Discard p c = refl
+packet_id verdict.Peer p c = refl
+packet_id (verdict.Rst why) p c = refl
+packet_id verdict.Ignore p c = refl

@@ -1,0 +1,103 @@
+-- What always holds of the slots after a change of the table.
+use Rattle.std.proofs.Common.{◌≡◌, ◌≢◌, ℕ, ◌+◌, ◌<◌, ◌≤◌, ◌==◌, Bool, true, false, not, cond, List, [], ◌∷◌, ◌++◌, length, map, get_or, Option, Some, None, refl, sym, ap, subst, ◌∙◌, arith, rules, length-append}
+use Rattle.std.specs.List.{All, AllPairs, find, filter, remove}
+use Rattle.std.specs.Option.{option_map}
+use Rattle.std.proofs.lemmas.List.{length-map, get_or_append_left}
+use Rattle.std.proofs.Math.Seq.{get_or-append_seam}
+use Rattle.std.proofs.lemmas.List.Edits.{length-remove}
+use Rattle.std.proofs.lemmas.Option.{slice_get_within, get_or_from_slice_get}
+use Rattle.vs_flow.specs.Flow.{is_assigned, same_flow}
+use Rattle.vs_flow.specs.Table.{Table, IsTable, entry_of, entry_under, value_under, with_value, without, revalued}
+use Rattle.vs_flow.specs.declared.flow.Flow.{Flow}
+use Rattle.vs_flow.proofs.Entries.{find_none, found_passes, same_flow_false}
+use Rattle.vs_flow.proofs.Lookups.{find_place}
+use Rattle.vs_flow.proofs.Tables.{with_value_sound}
+use Rattle.vs_driver_parts.specs.State.{DriverConnection, DriverEntry, GoneConnection}
+use Rattle.vs_driver_parts.specs.Connections.{gone_as, is_let_go}
+use Rattle.vs_driver_parts.specs.Held.{HeldSlots, left_in}
+use Rattle.vs_driver_parts.specs.SlotFields.{AreKept, AreNumbered}
+use Rattle.vs_driver_parts.specs.declared.slots.Slots.TheInside.{Inside}
+use Rattle.vs_driver_parts.proofs.Ids.{value_of, has_slot}
+use Rattle.vs_driver_parts.proofs.Lists.{one_passes, removed_one}
+use Rattle.vs_driver_parts.proofs.Numbers.{numbers_with_value}
+
+pub kept_with_connection : (s : Inside) (slot : ℕ) (c d : DriverConnection) → AreKept s → value_under s.table slot ≡ Some c → d.id ≡ c.id
+    → AreKept (record s { table = with_value s.table slot d })
+kept_with_connection s slot c d kept is id = record {
+  numbers = numbers_with_value s.first_id s.next_port s.next_id s.table s.gone.items kept.numbers slot c d is id;
+  last_port = kept.last_port;
+  last_id = kept.last_id;
+  table = with_value_sound s.table slot d kept.table;
+  table_room = kept.table_room;
+  gone_room = kept.gone_room;
+  buffers = omega (arith, kept.buffers, length-map s.table.entries (revalued slot d));
+  buffer_room = kept.buffer_room;
+  spare = kept.spare;
+}
+
+-- A connection leaves: what the slots are then.
+left_with : Bool → ℕ → GoneConnection → HeldSlots → HeldSlots
+left_with free slot g s = record s { table = without s.table slot; gone = cond free s.gone (s.gone ++ g ∷ []) }
+
+module _ (s : HeldSlots) (slot : ℕ) (e : DriverEntry) (c : DriverConnection) (found : entry_under s.table slot ≡ Some e) (is : Some c ≡ value_under s.table slot) where
+  value_is : c ≡ e.value
+  value_is = let same : Some c ≡ Some e.value = is ∙ value_of s.table slot e found in cc
+
+  slot_is : e.slot ≡ slot
+  slot_is = has_slot s.table slot e found
+
+  pub left_free : is_let_go c ≡ true → ◌≡◌ {A = HeldSlots} (record s { table = without s.table slot }) (left_in e s)
+  unfolding left_with
+  left_free free =
+      let go : true ≡ is_let_go e.value = sym free ∙ ap is_let_go value_is in
+      ap (λ (b : Bool). left_with b slot (gone_as e) s) go ∙ ap (λ (n : ℕ). left_with (is_let_go e.value) n (gone_as e) s) (sym slot_is)
+
+  pub left_kept : (f : Flow) (g : GoneConnection) → is_let_go c ≡ false → Some f ≡ option_map (λ x. x.flow) (entry_under s.table slot)
+      → g ≡ record { id = c.id; flow = f; end = c.end; unread = c.unread }
+      → ◌≡◌ {A = HeldSlots} (record s { table = without s.table slot; gone = s.gone ++ g ∷ [] }) (left_in e s)
+  unfolding left_with
+  left_kept f g kept flow new =
+      let go : false ≡ is_let_go e.value = sym kept ∙ ap is_let_go value_is in
+      let same : Some f ≡ Some e.flow = flow ∙ ap (option_map (λ (x : DriverEntry). x.flow)) found in
+      let flow_is : f ≡ e.flow = cc in
+      let gone_is : g ≡ gone_as e = new
+      ∙ (ap (λ (x : DriverConnection). let k : GoneConnection = record { id = x.id; flow = f; end = x.end; unread = x.unread } in k) value_is
+      ∙ ap (λ (x : Flow). let k : GoneConnection = record { id = e.value.id; flow = x; end = e.value.end; unread = e.value.unread } in k) flow_is) in
+      ap (λ (b : Bool). left_with b slot g s) go
+      ∙ (ap (λ (n : ℕ). left_with (is_let_go e.value) n g s) (sym slot_is) ∙ ap (λ (x : GoneConnection). left_with (is_let_go e.value) e.slot x s) gone_is)
+
+rising_differ : (es : List DriverEntry) → AllPairs (λ d e. d.slot < e.slot) es → AllPairs (λ d e. d.slot ≢ e.slot) es
+rising_differ es rising i j d less within same = let above = rising i j d less within in absurd (omega (arith, above, same))
+
+pub one_fewer : (t : Table DriverConnection) (slot : ℕ) (e : DriverEntry) → IsTable t → entry_under t slot ≡ Some e
+    → length (without t slot).entries + 1 ≡ length t.entries
+one_fewer t slot e sound found =
+    let here : DriverEntry → Bool = λ x. x.slot == slot in
+    let place = find_place here t.entries e found in
+    let within : place.0 < length t.entries = slice_get_within t.entries place.0 e place.1 in
+    let at : get_or t.entries place.0 e ≡ e = get_or_from_slice_get t.entries place.0 e e place.1 in
+    let passes : here (get_or t.entries place.0 e) ≡ true = ap here at ∙ found_passes here t.entries e found in
+    let removed = removed_one here t.entries place.0 e (one_passes (λ (x : DriverEntry). x.slot) slot t.entries (rising_differ t.entries sound.rising)) within passes in
+    let fewer = length-remove t.entries place.0 within in
+    rw removed fewer
+
+pub new_flow : (first port next : ℕ) (t : Table DriverConnection) (gone : List GoneConnection) (host : ℕ) → AreNumbered first port next t gone
+    → is_assigned host ≡ false → entry_of t (record { guest = port; host = host }) ≡ None
+new_flow first port next t gone host kept mine =
+    let flow : Flow = record { guest = port; host = host } in
+    find_none (λ (e : DriverEntry). same_flow flow e.flow) t.entries (λ k d lt. same_flow_false flow (get_or t.entries k d).flow (λ same.
+    let host_is : host ≡ (get_or t.entries k d).flow.host = ap (λ (f : Flow). f.host) same in
+    let guest_is : port ≡ (get_or t.entries k d).flow.guest = ap (λ (f : Flow). f.guest) same in
+    let less = kept.ports k d lt (ap is_assigned (sym host_is) ∙ mine) in
+    absurd (omega (arith, less, guest_is))))
+
+pub all_front : {X : Type 0} (P : X → Type 0) (xs : List X) (x : X) (ys : List X) → ys ≡ xs ++ x ∷ [] → All P ys → All P xs
+all_front {X} P xs x ys is all k d lt =
+    let whole : All P (xs ++ x ∷ []) = let Q : List X → Type 0 = λ zs. All P zs in subst Q is all in
+    let longer : k < length (xs ++ x ∷ []) = omega (arith, length-append xs (x ∷ [])) in
+    subst P (get_or_append_left xs (x ∷ []) d k lt) (whole k d longer)
+
+pub last_of : {X : Type 0} (P : X → Type 0) (xs : List X) (x : X) (ys : List X) → ys ≡ xs ++ x ∷ [] → All P ys → P x
+last_of {X} P xs x ys is all =
+    let whole : All P (xs ++ x ∷ []) = let Q : List X → Type 0 = λ zs. All P zs in subst Q is all in
+    subst P (get_or-append_seam xs x [] x) (whole (length xs) x (omega (arith, length-append xs (x ∷ []))))

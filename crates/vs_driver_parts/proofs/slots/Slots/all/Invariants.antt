@@ -1,0 +1,14 @@
+use Rattle.std.proofs.Common.{◌≡◌, ◌-◌, ◌≤◌, length, take}
+use Rattle.vs_driver_parts.specs.declared.limits.TheConstants.{SLOTS}
+use Rattle.vs_flow.specs.Table.{slots}
+use Rattle.vs_driver_parts.proofs.slots.Slots.all.Given as goal
+
+-- the slots so far
+abbrev pub invariant-loop-entry : goal.invariant-loop-entry
+invariant-loop-entry l = record {
+  items : l.all.items ≡ take l.place (slots l.self.table);
+  within : l.place ≤ length (slots l.self.table);
+}
+
+abbrev pub decreases-loop-entry : goal.decreases-loop-entry
+decreases-loop-entry l = length (slots l.self.table) - l.place

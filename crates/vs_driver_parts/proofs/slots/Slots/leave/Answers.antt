@@ -1,0 +1,74 @@
+use Rattle.std.proofs.Common.{◌≡◌, ℕ, ◌+◌, ◌≤◌, List, length, Some, true, false, sym, ap, ◌∙◌, rules, arith, ◌∷◌, [], ◌++◌, length-append}
+use Rattle.std.proofs.lemmas.List.Elements.{All-push}
+use Rattle.vs_flow.specs.Table.{Table, value_under, entry_under, without}
+use Rattle.vs_driver_parts.specs.Room.{IsSpare}
+use Rattle.vs_driver_parts.specs.State.{DriverEntry, DriverConnection, GoneConnection}
+use Rattle.vs_driver_parts.specs.Connections.{is_let_go}
+use Rattle.vs_driver_parts.specs.Held.{HeldSlots}
+use Rattle.vs_driver_parts.specs.contracts.slots.Slots.{the_view}
+use Rattle.vs_driver_parts.proofs.Ids.{IsUnder, under}
+use Rattle.vs_driver_parts.proofs.Numbers.{numbers_without, numbers_left}
+use Rattle.vs_driver_parts.proofs.SlotChanges.{left_free, left_kept, one_fewer}
+use Rattle.vs_driver_parts.proofs.slots.Slots.leave.Goals as goal
+
+pub invariant_of-self-then-let_go : goal.invariant_of-self-then-let_go
+invariant_of-self-then-let_go c =
+    let s = c.self.inside in
+    let kept = c.self.invariant in
+    let u : IsUnder s.table c.args.slot c.in-Some-remove.connection = under s.table c.args.slot c.in-Some-remove.connection (sym c.in-Some-remove.ensures.value) in
+    let table : c.remove.new.self ≡ without s.table c.args.slot = c.in-Some-remove.ensures.removed in
+    let entries = ap (λ (t : Table DriverConnection). length t.entries) table in
+    record {
+      numbers = rw table (numbers_without s.first_id s.next_port s.next_id s.table s.gone.items kept.numbers c.args.slot);
+      last_port = kept.last_port;
+      last_id = kept.last_id;
+      table = c.in-Some-remove.ensures.sound;
+      table_room = ap (λ (t : Table DriverConnection). t.room) table ∙ kept.table_room;
+      gone_room = kept.gone_room;
+      buffers = omega (arith, kept.buffers, entries, one_fewer s.table c.args.slot u.entry kept.table u.found, c.push_reserved.ensures.len);
+      buffer_room = omega (arith, kept.buffer_room, c.push_reserved.ensures.capacity);
+      spare = rw c.push_reserved.ensures.items (All-push IsSpare s.spare.items c.clear.new.self kept.spare (search rules));
+    }
+
+pub returns-then-let_go : goal.returns-then-let_go
+returns-then-let_go c = λ e found.
+    let s = c.self.inside in
+    let table : c.remove.new.self ≡ without s.table c.args.slot = c.in-Some-remove.ensures.removed in
+    let go : is_let_go c.in-Some-remove.connection ≡ true = search rules in
+    let there : entry_under s.table c.args.slot ≡ Some e = rw (← c.self.view_is) at found in
+    rw (← c.self.view_is) (ap (λ (t : Table DriverConnection). let h : HeldSlots = the_view s in record h { table = t }) table
+    ∙ left_free (the_view s) c.args.slot e c.in-Some-remove.connection there c.in-Some-remove.ensures.value go)
+
+pub invariant_of-self-2 : goal.invariant_of-self-2
+invariant_of-self-2 c =
+    let s = c.self.inside in
+    let kept = c.self.invariant in
+    let u : IsUnder s.table c.args.slot c.in-Some-remove.connection = under s.table c.args.slot c.in-Some-remove.connection (sym c.in-Some-remove.ensures.value) in
+    let table : c.remove.new.self ≡ without s.table c.args.slot = c.in-Some-remove.ensures.removed in
+    let entries = ap (λ (t : Table DriverConnection). length t.entries) table in
+    let id : c.new.result.id ≡ c.in-Some-remove.connection.id = search rules in
+    let value = ap (λ (x : DriverConnection). x.id) u.value in
+    let there : entry_under s.table u.entry.slot ≡ Some u.entry = ap (λ (n : ℕ). entry_under s.table n) u.slot_is ∙ u.found in
+    record {
+      numbers = rw (table, ← u.slot_is, c.push_reserved-2.ensures.items)
+          (numbers_left s.first_id s.next_port s.next_id s.table s.gone.items kept.numbers u.entry c.new.result kept.table there (id ∙ sym value));
+      last_port = kept.last_port;
+      last_id = kept.last_id;
+      table = c.in-Some-remove.ensures.sound;
+      table_room = ap (λ (t : Table DriverConnection). t.room) table ∙ kept.table_room;
+      gone_room = omega (arith, kept.gone_room, c.push_reserved-2.ensures.capacity);
+      buffers = omega (arith, kept.buffers, entries, one_fewer s.table c.args.slot u.entry kept.table u.found, c.push_reserved-2.ensures.len);
+      buffer_room = kept.buffer_room;
+      spare = kept.spare;
+    }
+
+pub returns : goal.returns
+returns c = λ e found.
+    let s = c.self.inside in
+    let table : c.remove.new.self ≡ without s.table c.args.slot = c.in-Some-remove.ensures.removed in
+    let stays : is_let_go c.in-Some-remove.connection ≡ false = search rules in
+    let there : entry_under s.table c.args.slot ≡ Some e = rw (← c.self.view_is) at found in
+    let new : c.new.result ≡ record { id = c.in-Some-remove.connection.id; flow = c.in-Some.flow; end = c.in-Some-remove.connection.end; unread = c.in-Some-remove.connection.unread } = search rules in
+    rw (← c.self.view_is) (ap (λ (t : Table DriverConnection). let h : HeldSlots = the_view s in record h { table = t; gone = c.push_reserved-2.new.self.items }) table
+    ∙ (ap (λ (gone : List GoneConnection). let h : HeldSlots = the_view s in record h { table = without s.table c.args.slot; gone = gone }) c.push_reserved-2.ensures.items
+    ∙ left_kept (the_view s) c.args.slot e c.in-Some-remove.connection there c.in-Some-remove.ensures.value c.in-Some.flow c.new.result stays c.in-Some.ensures.flow new))

@@ -1,0 +1,32 @@
+use Rattle.std.proofs.Common.{◌≡◌, ◌+◌, ◌<◌, ◌≤◌, ℕ, List, length, ◌∷◌, [], true, false, sym, ap, ◌∙◌, rules, arith, length-append}
+use Rattle.vs_flow.specs.Flow.{is_assigned}
+use Rattle.vs_flow.specs.Table.{Table, with_entry, next_entry, entry_of}
+use Rattle.vs_flow.proofs.Tables.{with_entry_sound, IsAccepted}
+use Rattle.vs_driver_parts.specs.Room.{IsSpare}
+use Rattle.vs_driver_parts.specs.State.{DriverConnection}
+use Rattle.vs_driver_parts.proofs.Numbers.{numbers_with_entry}
+use Rattle.vs_driver_parts.proofs.SlotChanges.{new_flow, all_front}
+use Rattle.vs_driver_parts.specs.declared.limits.TheConstants.{LAST_ID}
+use Rattle.vs_driver_parts.proofs.slots.Slots.open_answering.Goals as goal
+
+pub invariant_of-self : goal.invariant_of-self
+invariant_of-self c =
+    let s = c.self.inside in
+    let kept = c.self.invariant in
+    let free : length s.table.entries + length s.gone.items < 64 = rw (← c.self.view_is) at c.requires.free in
+    let table : c.insert.new.table ≡ with_entry s.table c.args.flow c.answering-connection.result = c.insert.ensures in
+    let id : c.answering-connection.result.id ≡ s.next_id = search rules in
+    let entries = ap (λ (t : Table DriverConnection). length t.entries) table in
+    let last : s.next_id ≤ LAST_ID = rw (← c.self.view_is) at c.requires.id in
+    record {
+      numbers = rw table (numbers_with_entry s.first_id s.next_port s.next_id s.table s.gone.items kept.numbers c.args.flow c.answering-connection.result _ id (omega arith) (λ mine. absurd (cc (mine, c.requires.host))));
+      last_port = kept.last_port;
+      last_id = omega (arith, last);
+      table = rw table (with_entry_sound s.table c.args.flow c.answering-connection.result kept.table
+          (record { absent = rw (← c.self.view_is) at c.requires.unknown; place = omega (arith, kept.table_room, free); slot = omega (arith, kept.numbers.given, kept.last_id) }));
+      table_room = ap (λ (t : Table DriverConnection). t.room) table ∙ kept.table_room;
+      gone_room = kept.gone_room;
+      buffers = omega (arith, kept.buffers, entries, length-append s.table.entries (next_entry s.table c.args.flow c.answering-connection.result ∷ []), c.take_last.ensures.len);
+      buffer_room = omega (arith, kept.buffer_room, c.take_last.ensures.capacity);
+      spare = all_front IsSpare c.take_last.new.self.items c.take_last.result s.spare.items c.take_last.ensures.items kept.spare;
+    }

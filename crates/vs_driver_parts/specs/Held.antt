@@ -1,0 +1,61 @@
+-- The slots of the driver, apart from the rest of it.
+use Rattle.std.specs.Prelude.{ℕ, ◌+◌, Bool, false, true, List, [], ◌∷◌, ◌++◌, length, if◌then◌else◌}
+use Rattle.vs_conn.specs.End.{ConnectionEnd, asked, answering, paid_of}
+use Rattle.vs_conn.specs.declared.end.Owed.TheVariants as owed
+use Rattle.vs_header.specs.declared.Header.{Header}
+use Rattle.vs_history.specs.declared.TheConstants.{BUF_ALLOC}
+use Rattle.vs_flow.specs.Table.{Table, with_value, with_entry, without}
+use Rattle.vs_flow.specs.declared.flow.Flow.{Flow}
+use Rattle.vs_driver_parts.specs.declared.limits.TheConstants.{SLOTS}
+use Rattle.vs_driver_parts.specs.State.{DriverConnection, DriverEntry, GoneConnection}
+use Rattle.vs_driver_parts.specs.Connections.{gone_as, is_let_go}
+
+-- The numbers that the next connections get, and those given last; the table, and the connections that are gone.
+pub record HeldSlots : Type 0 where
+  pub next_port : ℕ
+  pub next_id : ℕ
+  pub last_port : ℕ
+  pub last_id : ℕ
+  pub table : Table DriverConnection
+  pub gone : List GoneConnection
+
+abbrev pub no_slots : ℕ → ℕ → HeldSlots
+no_slots port id = record {
+  next_port = port;
+  next_id = id;
+  last_port = 0;
+  last_id = 0;
+  table = record { room = SLOTS; entries = []; given = 0 };
+  gone = [];
+}
+
+-- How many slots are held.
+abbrev pub held_in : HeldSlots → ℕ
+held_in s = length s.table.entries + length s.gone
+
+-- A connection is another.
+abbrev pub with_connection_in : ℕ → DriverConnection → HeldSlots → HeldSlots
+with_connection_in slot c s = record s { table = with_value s.table slot c }
+
+-- A connection opens, with the next id.
+abbrev pub with_opening : Flow → ConnectionEnd → Bool → HeldSlots → HeldSlots
+with_opening flow end unanswered s = record s {
+  next_id = s.next_id + 1;
+  last_id = s.next_id;
+  table = with_entry s.table flow (record { id = s.next_id; end = end; unread = []; unanswered = unanswered; closed = false });
+}
+
+-- It is one whose REQUEST is put, with the next guest port, or one that answers a REQUEST.
+abbrev pub with_asked_in : ℕ → HeldSlots → HeldSlots
+with_asked_in host s =
+    record (with_opening (record { guest = s.next_port; host = host }) (paid_of (asked BUF_ALLOC) owed.Request) false s) {
+      next_port = s.next_port + 1;
+      last_port = s.next_port;
+    }
+
+abbrev pub with_answering_in : Flow → Header → HeldSlots → HeldSlots
+with_answering_in flow request s = with_opening flow (answering BUF_ALLOC request) true s
+
+-- A connection leaves the table.
+abbrev pub left_in : DriverEntry → HeldSlots → HeldSlots
+left_in e s = record s { table = without s.table e.slot; gone = if is_let_go e.value then s.gone else s.gone ++ gone_as e ∷ [] }

@@ -1,0 +1,12 @@
+pub mod State
+pub mod Room
+pub mod Listening
+pub mod ListenerFields
+pub mod Connections
+pub mod Receiving
+pub mod Conversations
+pub mod Playing
+pub mod Held
+pub mod PageCounts
+pub mod PageFields
+pub mod SlotFields

@@ -1,0 +1,84 @@
+-- What the driver does with the packets and events that it takes.
+use Rattle.std.specs.Prelude.{ℕ, ◌+◌, ◌-◌, ◌^◌, ◌==◌, ◌&&◌, not, min, nat_lt, nat_le, Bool, true, false, if◌then◌else◌, List, [], ◌∷◌, ◌++◌, length, map, find, Option, Some, None, is_some}
+use Rattle.vs_header.specs.Kind.{kind_number}
+use Rattle.vs_header.specs.Op.{op_number}
+use Rattle.vs_header.specs.declared.Header.{Header}
+use Rattle.vs_header.specs.declared.Kind.TheVariants.{Stream}
+use Rattle.vs_header.specs.declared.Op.TheVariants.{Request, Rst}
+use Rattle.vs_history.specs.declared.packet.Packet.{Packet}
+use Rattle.vs_conn.specs.End.{verdict_of, end_after, is_stream, is_reset}
+use Rattle.vs_conn.specs.declared.end.Verdict.{Verdict}
+use Rattle.vs_conn.specs.declared.end.Verdict.TheVariants as verdict
+use Rattle.vs_flow.specs.Flow.{is_assigned}
+use Rattle.vs_flow.specs.Table.{entry_of}
+use Rattle.vs_flow.specs.declared.flow.Flow.{Flow}
+use Rattle.vs_page.specs.Held.{packet_held, event_held}
+use Rattle.vs_page.specs.Log.{flow_to_guest}
+use Rattle.vs_replies.specs.Owed.{reply_to}
+use Rattle.vs_replies.specs.declared.Reply.{Reply}
+use Rattle.vs_driver_parts.specs.declared.limits.TheConstants.{LAST_ID}
+use Rattle.vs_driver_parts.specs.State.{DriverConnection, DriverState, DriverEntry}
+use Rattle.vs_driver_parts.specs.Listening.{has_place}
+use Rattle.vs_wrap.specs.Wrap.{counted}
+use Rattle.vs_driver_parts.specs.Connections.{with_connection, with_request, is_full, leaves_list, after_leaving}
+
+abbrev pub with_reply : Reply → DriverState → DriverState
+with_reply reply s = record s { replies = s.replies ++ reply ∷ [] }
+
+-- A packet of a connection of the table, by the verdict of its end. RST takes it out of the table; payload that is delivered is unread; a
+-- packet that is refused is counted, and a connection whose RESPONSE isn't put waits no more.
+abbrev pub after_packet : Verdict → Packet → DriverConnection → DriverConnection
+after_packet verdict.Deliver p c = record c { end = end_after c.end p.header; unread = c.unread ++ p.payload }
+after_packet _ p c = record c { end = end_after c.end p.header }
+
+abbrev pub ends_connection : Verdict → Header → Bool
+ends_connection verdict.Peer h = is_reset h
+ends_connection _ h = false
+
+abbrev pub after_verdict : Verdict → Packet → DriverEntry → DriverState → DriverState
+after_verdict (verdict.Rst why) p e s =
+    leaves_list e (with_connection e.slot (after_packet (verdict.Rst why) p e.value) (record s { broken = counted s.broken }))
+after_verdict v p e s =
+    if ends_connection v p.header then after_leaving (record e { value = after_packet v p e.value }) s
+    else with_connection e.slot (after_packet v p e.value) s
+
+abbrev pub on_known : Packet → DriverEntry → DriverState → DriverState
+on_known p e s = after_verdict (verdict_of e.value.end p.header) p e s
+
+-- A REQUEST of an unknown flow opens a connection where its host port is one that the device assigns, the guest port is listened on with a
+-- place on its list, and a slot and an id are left.
+abbrev pub is_request : Header → Bool
+is_request h = is_stream h && (h.op == op_number Request)
+
+abbrev pub may_open : Flow → DriverState → Bool
+may_open flow s =
+    is_assigned flow.host && has_place flow.guest s.listeners && not (is_full s) && nat_le s.next_id LAST_ID
+
+-- Any other packet of an unknown flow gets RST, but RST itself.
+abbrev pub on_unknown : Packet → DriverState → DriverState
+on_unknown p s =
+    if is_reset p.header then s
+    else if is_request p.header && may_open (flow_to_guest p.header) s then with_request (flow_to_guest p.header) p.header s
+    else with_reply (reply_to p.header) s
+
+abbrev pub on_packet : Packet → DriverState → DriverState
+on_packet p s = elim (entry_of s.table (flow_to_guest p.header)) [ None ↦ on_unknown p s | Some e ↦ on_known p e s ]
+
+-- A page of the receive queue. One that holds no packet does nothing.
+abbrev pub on_page : List ℕ → DriverState → DriverState
+on_page page s = elim (packet_held page) [ None ↦ s | Some p ↦ on_packet p s ]
+
+-- A page of the event queue tells a transport reset where its event has the id 0.
+abbrev pub is_reset_event : List ℕ → Bool
+is_reset_event page = elim (event_held page) [ None ↦ false | Some id ↦ id == 0 ]
+
+-- A transport reset: each connection leaves the table, by rising slot, and RST is owed for its flow. The guest has a CID from now on.
+abbrev pub reset_reply : Flow → Reply
+reset_reply f = record { src_port = f.guest; dst_port = f.host }
+
+abbrev pub all_left : List DriverEntry → DriverState → DriverState
+all_left [] s = s
+all_left (e ∷ es) s = all_left es (with_reply (reset_reply e.flow) (after_leaving e s))
+
+abbrev pub after_reset : ℕ → DriverState → DriverState
+after_reset cid s = all_left s.table.entries (record s { cid = cid })

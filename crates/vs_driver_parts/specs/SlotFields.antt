@@ -1,0 +1,31 @@
+-- What always holds of the fields of the driver's slots. No public clause cites this module.
+use Rattle.std.specs.Prelude.{◌≡◌, ◌≢◌, ℕ, false, ◌+◌, ◌<◌, ◌≤◌, AllPairs, List, length, vec_capacity}
+use Rattle.std.specs.List.{All}
+use Rattle.vs_flow.specs.Flow.{is_assigned}
+use Rattle.vs_flow.specs.Table.{Table, IsTable}
+use Rattle.vs_driver_parts.specs.declared.limits.TheConstants.{SLOTS, LAST_ID, LAST_PORT}
+use Rattle.vs_driver_parts.specs.declared.slots.Slots.TheInside.{Inside}
+use Rattle.vs_driver_parts.specs.Room.{IsSpare}
+use Rattle.vs_driver_parts.specs.State.{DriverConnection, DriverEntry, GoneConnection}
+
+-- A slot and an id are given together, from the first id on; an id that is gone is none of the table's, and is there once. The flow of a
+-- connection that this side opened has a guest port below the next.
+pub record AreNumbered (first port next : ℕ) (table : Table DriverConnection) (gone : List GoneConnection) : Type 0 where
+  pub given : next ≡ first + table.given
+  pub slots : All (λ e. e.value.id ≡ first + e.slot) table.entries
+  pub below : All (λ g. g.id < next) gone
+  pub apart : All (λ g. All (λ e. e.value.id ≢ g.id) table.entries) gone
+  pub distinct : AllPairs (λ g h. g.id ≢ h.id) gone
+  pub ports : All (λ e. is_assigned e.flow.host ≡ false → e.flow.guest < port) table.entries
+
+-- There are buffers for all slots, and room for all connections.
+pub record AreKept (s : Inside) : Type 0 where
+  pub numbers : AreNumbered s.first_id s.next_port s.next_id s.table s.gone.items
+  pub last_port : s.next_port ≤ LAST_PORT + 1
+  pub last_id : s.next_id ≤ LAST_ID + 1
+  pub table : IsTable s.table
+  pub table_room : s.table.room ≡ SLOTS
+  pub gone_room : SLOTS ≤ vec_capacity s.gone
+  pub buffers : length s.spare.items + (length s.table.entries + length s.gone.items) ≡ SLOTS
+  pub buffer_room : SLOTS ≤ vec_capacity s.spare
+  pub spare : All IsSpare s.spare.items
