@@ -10,7 +10,7 @@ use Rattle.vs_driver_parts.specs.declared.answers.ConnectError.TheVariants as re
 use Rattle.vs_driver_parts.specs.State.{DriverState}
 use Rattle.vs_driver_parts.specs.Connections.{connect_refusal, connected}
 use Rattle.vs_driver_parts.specs.Conversations.{DriverTree, connect_of, connect_with_page, request_bytes, post_packet, reap_all, has_page}
-use Rattle.vs_driver_parts.specs.Playing.{CanMake, MayPublishAll, Plays}
+use Rattle.vs_driver_parts.specs.Playing.{CanMake, MayPublishAll, Plays, RingAllows}
 
 after_post : ℕ → DriverState → DriverTree (DriverState × Result ℕ ConnectError)
 after_post host t = Done (connected host t, Ok t.next_id)
@@ -31,29 +31,29 @@ module _ (host : ℕ) (s : DriverState) where
 
   module _ (c : RingContents) where
     pub connect_refused : (e : ConnectError) → connect_refusal host s ≡ Some e → Plays (connect_of host s) c (s, Err e) c
-    connect_refused e is = leads_of DriverAllows _ _ c c (s, Err e) (refuses e is) (refl, refl)
+    connect_refused e is = leads_of RingAllows _ _ c c (s, Err e) (refuses e is) (refl, refl)
 
     pub connect_reaped : (t : DriverState) (m e : RingContents) (x : DriverState × Result ℕ ConnectError) → connect_refusal host s ≡ None
         → Plays (reap_all s) c t m → Plays (connect_with_page host t) m x e → Plays (connect_of host s) c x e
     connect_reaped t m e x is first rest =
-        leads_of DriverAllows _ _ c e x (reaps is) (leads_bind DriverAllows (reap_all s) (connect_with_page host) c m e t x first rest)
+        leads_of RingAllows _ _ c e x (reaps is) (leads_bind RingAllows (reap_all s) (connect_with_page host) c m e t x first rest)
 
     pub may_connect_page : (t : DriverState) (m : RingContents) → connect_refusal host s ≡ None → MayPublishAll (connect_of host s) c
         → Plays (reap_all s) c t m → MayPublishAll (connect_with_page host t) m
     may_connect_page t m is may first =
-        may_rest CanMake DriverAllows (reap_all s) (connect_with_page host) c m t (may_of CanMake DriverAllows _ _ c (reaps is) may) first
+        may_rest CanMake RingAllows (reap_all s) (connect_with_page host) c m t (may_of CanMake RingAllows _ _ c (reaps is) may) first
 
     pub connect_no_page : has_page s ≡ false → Plays (connect_with_page host s) c (s, Err (refused.NoDescriptor s.in_flight)) c
-    connect_no_page is = leads_of DriverAllows _ _ c c (s, Err (refused.NoDescriptor s.in_flight)) (finds_none is) (refl, refl)
+    connect_no_page is = leads_of RingAllows _ _ c c (s, Err (refused.NoDescriptor s.in_flight)) (finds_none is) (refl, refl)
 
     pub connect_posted : (t u : DriverState) (m : RingContents) → has_page s ≡ true → Plays (post_packet (request_bytes host s) s) c t m
         → u ≡ connected host t → Plays (connect_with_page host s) c (u, Ok t.next_id) m
     unfolding after_post
     connect_posted t u m is first after =
-        leads_of DriverAllows _ _ c m (u, Ok t.next_id) (finds_page is)
-        (leads_bind DriverAllows (post_packet (request_bytes host s) s) (after_post host) c m m t (u, Ok t.next_id) first
+        leads_of RingAllows _ _ c m (u, Ok t.next_id) (finds_page is)
+        (leads_bind RingAllows (post_packet (request_bytes host s) s) (after_post host) c m m t (u, Ok t.next_id) first
         (ap (λ (x : DriverState). let r : DriverState × Result ℕ ConnectError = (x, Ok t.next_id) in r) (sym after), refl))
 
     pub may_post_request : has_page s ≡ true → MayPublishAll (connect_with_page host s) c → MayPublishAll (post_packet (request_bytes host s) s) c
     may_post_request is may =
-        may_first CanMake DriverAllows (post_packet (request_bytes host s) s) (after_post host) c (may_of CanMake DriverAllows _ _ c (finds_page is) may)
+        may_first CanMake RingAllows (post_packet (request_bytes host s) s) (after_post host) c (may_of CanMake RingAllows _ _ c (finds_page is) may)

@@ -2,7 +2,6 @@ pub mod Reading
 pub mod RingPages
 pub mod Connecting
 pub mod Sending
-pub mod Packets
 pub mod Taking
 pub mod Paying
 pub mod Posting

@@ -17,7 +17,7 @@ use Rattle.vs_ring_port.specs.DriverCalls.{DriverAllows}
 use Rattle.vs_driver_parts.specs.State.{DriverConnection, DriverEntry, DriverState}
 use Rattle.vs_driver_parts.specs.Connections.{with_connection, paid_connection, after_leaving}
 use Rattle.vs_driver_parts.specs.Conversations.{DriverTree, Round, stage_packet, one_put, has_page, put_reply, put_reply_of, reply_header, put_owed, put_owed_of, owed_bytes, after_paying, is_rst, pay_slot}
-use Rattle.vs_driver_parts.specs.Playing.{CanMake, MayPublishAll, Plays}
+use Rattle.vs_driver_parts.specs.Playing.{CanMake, MayPublishAll, Plays, RingAllows}
 
 pub paid_other : (what : Owed) (slot : ℕ) (e : DriverEntry) (s : DriverState) → is_rst what ≡ false → e.slot ≡ slot
     → with_connection slot (paid_connection what e.value) s ≡ after_paying what e s
@@ -41,10 +41,10 @@ some_and None P h = absurd h
 module _ (r : Round) (bytes : List ℕ) (g : DriverState) where
   pub staged_put : (s : DriverState) (c m : RingContents) → Plays (stage_packet bytes g) c s m
       → Plays (bind (stage_packet bytes g) (one_put r)) c (record r { state = s; count = r.count + 1 }, true) m
-  staged_put s c m plays = leads_bind DriverAllows (stage_packet bytes g) (one_put r) c m m s (record r { state = s; count = r.count + 1 }, true) plays (refl, refl)
+  staged_put s c m plays = leads_bind RingAllows (stage_packet bytes g) (one_put r) c m m s (record r { state = s; count = r.count + 1 }, true) plays (refl, refl)
 
   pub may_staged_put : (c : RingContents) → MayPublishAll (bind (stage_packet bytes g) (one_put r)) c → MayPublishAll (stage_packet bytes g) c
-  may_staged_put c may = may_first CanMake DriverAllows (stage_packet bytes g) (one_put r) c may
+  may_staged_put c may = may_first CanMake RingAllows (stage_packet bytes g) (one_put r) c may
 
 -- what a connection owes
 puts : (r : Round) (slot : ℕ) (e : DriverEntry) (what : Owed) → entry_under r.state.table slot ≡ Some e → owes_of e.value.end ≡ Some what → has_page r.state ≡ true
@@ -58,7 +58,7 @@ pub owed_put : (r : Round) (slot : ℕ) (e : DriverEntry) (what : Owed) (bytes :
 owed_put r slot e what bytes g s c m found owes free same state plays =
     let P : List ℕ → Type 0 = λ b. Plays (stage_packet b g) c s m in
     let Q : DriverState → Type 0 = λ x. Plays (stage_packet (owed_bytes what e r.state) x) c s m in
-    leads_of DriverAllows _ _ c m (record r { state = s; count = r.count + 1 }, true) (puts r slot e what found owes free)
+    leads_of RingAllows _ _ c m (record r { state = s; count = r.count + 1 }, true) (puts r slot e what found owes free)
     (staged_put r (owed_bytes what e r.state) (after_paying what e r.state) s c m (subst Q state (subst P same plays)))
 
 pub may_put_owed : (r : Round) (slot : ℕ) (e : DriverEntry) (what : Owed) (bytes : List ℕ) (g : DriverState) (c : RingContents)
@@ -68,7 +68,7 @@ may_put_owed r slot e what bytes g c found owes free same state may =
     let P : List ℕ → Type 0 = λ b. MayPublishAll (stage_packet b g) c in
     let Q : DriverState → Type 0 = λ x. MayPublishAll (stage_packet (owed_bytes what e r.state) x) c in
     subst P (sym same) (subst Q (sym state) (may_staged_put r (owed_bytes what e r.state) (after_paying what e r.state) c
-    (may_of CanMake DriverAllows _ _ c (puts r slot e what found owes free) may)))
+    (may_of CanMake RingAllows _ _ c (puts r slot e what found owes free) may)))
 
 -- the oldest owed reply
 head_of : (xs : List Reply) (x : Reply) → Some x ≡ slice_get xs 0 → xs ≡ x ∷ drop 1 xs
@@ -88,7 +88,7 @@ reply_put r reply bytes g s c m first free same state plays =
     let h = header_bytes (reply_header r.state.cid reply) in
     let P : List ℕ → Type 0 = λ b. Plays (stage_packet b g) c s m in
     let Q : DriverState → Type 0 = λ x. Plays (stage_packet h x) c s m in
-    leads_of DriverAllows _ _ c m (record r { state = s; count = r.count + 1 }, true) (replies_put r reply first free)
+    leads_of RingAllows _ _ c m (record r { state = s; count = r.count + 1 }, true) (replies_put r reply first free)
     (staged_put r h (record r.state { replies = drop 1 r.state.replies }) s c m (subst Q state (subst P same plays)))
 
 pub may_put_reply : (r : Round) (reply : Reply) (bytes : List ℕ) (g : DriverState) (c : RingContents) → Some reply ≡ slice_get r.state.replies 0 → has_page r.state ≡ true
@@ -99,7 +99,7 @@ may_put_reply r reply bytes g c first free same state may =
     let P : List ℕ → Type 0 = λ b. MayPublishAll (stage_packet b g) c in
     let Q : DriverState → Type 0 = λ x. MayPublishAll (stage_packet h x) c in
     subst P (sym same) (subst Q (sym state) (may_staged_put r h (record r.state { replies = drop 1 r.state.replies }) c
-    (may_of CanMake DriverAllows _ _ c (replies_put r reply first free) may)))
+    (may_of CanMake RingAllows _ _ c (replies_put r reply first free) may)))
 
 -- each slot in turn
 module _ (xs : List ℕ) (i d : ℕ) (x : Round) (lt : i < length xs) where
@@ -109,16 +109,16 @@ module _ (xs : List ℕ) (i d : ℕ) (x : Round) (lt : i < length xs) where
   pub each_more : (y z : Round) (r s t : RingContents) → Plays (pay_slot (get_or xs i d) x) r y s → Plays (for_each pay_slot (drop (i + 1) xs) y) s z t
       → Plays (for_each pay_slot (drop i xs) x) r z t
   each_more y z r s t one rest =
-      leads_of DriverAllows _ _ r t z each_next (leads_bind DriverAllows (pay_slot (get_or xs i d) x) (for_each pay_slot (drop (i + 1) xs)) r s t y z one rest)
+      leads_of RingAllows _ _ r t z each_next (leads_bind RingAllows (pay_slot (get_or xs i d) x) (for_each pay_slot (drop (i + 1) xs)) r s t y z one rest)
 
   pub may_each_step : (r : RingContents) → MayPublishAll (for_each pay_slot (drop i xs) x) r → MayPublishAll (pay_slot (get_or xs i d) x) r
   may_each_step r may =
-      may_first CanMake DriverAllows (pay_slot (get_or xs i d) x) (for_each pay_slot (drop (i + 1) xs)) r (may_of CanMake DriverAllows _ _ r each_next may)
+      may_first CanMake RingAllows (pay_slot (get_or xs i d) x) (for_each pay_slot (drop (i + 1) xs)) r (may_of CanMake RingAllows _ _ r each_next may)
 
   pub may_each_more : (y : Round) (r s : RingContents) → MayPublishAll (for_each pay_slot (drop i xs) x) r → Plays (pay_slot (get_or xs i d) x) r y s
       → MayPublishAll (for_each pay_slot (drop (i + 1) xs) y) s
   may_each_more y r s may one =
-      may_rest CanMake DriverAllows (pay_slot (get_or xs i d) x) (for_each pay_slot (drop (i + 1) xs)) r s y (may_of CanMake DriverAllows _ _ r each_next may) one
+      may_rest CanMake RingAllows (pay_slot (get_or xs i d) x) (for_each pay_slot (drop (i + 1) xs)) r s y (may_of CanMake RingAllows _ _ r each_next may) one
 
 pub each_end : (xs : List ℕ) (i : ℕ) (x : Round) (r : RingContents) → length xs ≤ i → Plays (for_each pay_slot (drop i xs) x) r x r
-each_end xs i x r ends = let same : for_each pay_slot (drop i xs) x ≡ Done x = rw (drop_of_length-le xs ends) refl in leads_of DriverAllows _ _ r r x same (refl, refl)
+each_end xs i x r ends = let same : for_each pay_slot (drop i xs) x ≡ Done x = rw (drop_of_length-le xs ends) refl in leads_of RingAllows _ _ r r x same (refl, refl)

@@ -10,7 +10,7 @@ use Rattle.vs_ring_port.specs.Contents.{RingContents}
 use Rattle.vs_ring_port.specs.DriverCalls.{DriverAllows}
 use Rattle.vs_driver_parts.specs.State.{DriverState}
 use Rattle.vs_driver_parts.specs.Conversations.{DriverTree, stage_of, post_one}
-use Rattle.vs_driver_parts.specs.Playing.{CanMake, MayPublishAll, Plays}
+use Rattle.vs_driver_parts.specs.Playing.{CanMake, MayPublishAll, Plays, RingAllows}
 
 pub at_count : (queue : Queue) (n : ℕ) (f : Counts) → at queue (with_count queue n f) ≡ n
 at_count Rx n f = refl
@@ -40,11 +40,11 @@ pub may_stage_one : (queue : Queue) (page : List ℕ) (s : DriverState) (c : Rin
 unfolding going
 may_stage_one queue page s c is may =
     let P : List ℕ → Type 0 = λ b. MayPublishAll (stage_of queue b s) c in
-    subst P (sym is) (may_first CanMake DriverAllows (stage_of queue [] s) going c may)
+    subst P (sym is) (may_first CanMake RingAllows (stage_of queue [] s) going c may)
 
 pub one_staged : (queue : Queue) (page : List ℕ) (s t : DriverState) (c m : RingContents) → page ≡ [] → Plays (stage_of queue page s) c t m
     → Plays (post_one queue s) c (t, true) m
 unfolding going
 one_staged queue page s t c m is plays =
     let P : List ℕ → Type 0 = λ b. Plays (stage_of queue b s) c t m in
-    leads_bind DriverAllows (stage_of queue [] s) going c m m t (t, true) (subst P is plays) (refl, refl)
+    leads_bind RingAllows (stage_of queue [] s) going c m m t (t, true) (subst P is plays) (refl, refl)

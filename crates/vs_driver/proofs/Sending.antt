@@ -20,7 +20,7 @@ use Rattle.vs_driver_parts.specs.declared.answers.Sent.TheVariants as sent
 use Rattle.vs_driver_parts.specs.State.{DriverConnection, DriverEntry, DriverState, entry_known_as}
 use Rattle.vs_driver_parts.specs.Connections.{with_end}
 use Rattle.vs_driver_parts.specs.Conversations.{DriverTree, send_of, send_on, send_with_credit, send_with_page, payload_of, payload_bytes, post_packet, reap_all, has_page}
-use Rattle.vs_driver_parts.specs.Playing.{CanMake, MayPublishAll, Plays, IsRingOf, all_flown}
+use Rattle.vs_driver_parts.specs.Playing.{CanMake, MayPublishAll, Plays, IsRingOf, all_flown, RingAllows}
 use Rattle.vs_driver_parts.proofs.Ids.{value_of}
 
 -- a ring stays the driver's where its pages stay
@@ -72,14 +72,14 @@ module _ (e : DriverEntry) (payload : List ℕ) (s : DriverState) where
   pub may_post_payload : (c : RingContents) → has_page s ≡ true → MayPublishAll (send_with_page e payload s) c
       → MayPublishAll (post_packet (payload_bytes e payload s) s) c
   may_post_payload c is may =
-      may_first CanMake DriverAllows (post_packet (payload_bytes e payload s) s) (after_post e (length payload)) c (may_of CanMake DriverAllows _ _ c (finds_page is) may)
+      may_first CanMake RingAllows (post_packet (payload_bytes e payload s) s) (after_post e (length payload)) c (may_of CanMake RingAllows _ _ c (finds_page is) may)
 
   pub payload_posted : (t u : DriverState) (c m : RingContents) → has_page s ≡ true → Plays (post_packet (payload_bytes e payload s) s) c t m
       → u ≡ with_end (with_payload_sent e.value.end (length payload)) e t → Plays (send_with_page e payload s) c (u, sent.Took (length payload)) m
   unfolding after_post
   payload_posted t u c m is first after =
-      leads_of DriverAllows _ _ c m (u, sent.Took (length payload)) (finds_page is)
-      (leads_bind DriverAllows (post_packet (payload_bytes e payload s) s) (after_post e (length payload)) c m m t (u, sent.Took (length payload)) first
+      leads_of RingAllows _ _ c m (u, sent.Took (length payload)) (finds_page is)
+      (leads_bind RingAllows (post_packet (payload_bytes e payload s) s) (after_post e (length payload)) c m m t (u, sent.Took (length payload)) first
       (ap (λ (x : DriverState). let r : DriverState × Sent = (x, sent.Took (length payload)) in r) (sym after), refl))
 
 module _ (e : DriverEntry) (credit : ℕ) (bytes : List ℕ) (s : DriverState) where
@@ -91,22 +91,22 @@ module _ (e : DriverEntry) (credit : ℕ) (bytes : List ℕ) (s : DriverState) w
       → MayPublishAll (send_with_page e payload t) m
   may_send_page c t m payload some has is may first =
       let P : List ℕ → Type 0 = λ p. MayPublishAll (send_with_page e p t) m in
-      subst P (sym is) (may_rest CanMake DriverAllows (reap_all s) (send_with_page e (payload_of credit bytes)) c m t
-      (may_of CanMake DriverAllows _ _ c (reaps some has) may) first)
+      subst P (sym is) (may_rest CanMake RingAllows (reap_all s) (send_with_page e (payload_of credit bytes)) c m t
+      (may_of CanMake RingAllows _ _ c (reaps some has) may) first)
 
   pub sent_reaped : (c : RingContents) (t : DriverState) (m n : RingContents) (x : DriverState × Sent) (payload : List ℕ) → (length bytes == 0) ≡ false
       → (credit == 0) ≡ false → payload ≡ payload_of credit bytes → Plays (reap_all s) c t m → Plays (send_with_page e payload t) m x n
       → Plays (send_with_credit e credit bytes s) c x n
   sent_reaped c t m n x payload some has is first rest =
       let P : List ℕ → Type 0 = λ p. Plays (send_with_page e p t) m x n in
-      leads_of DriverAllows _ _ c n x (reaps some has) (leads_bind DriverAllows (reap_all s) (send_with_page e (payload_of credit bytes)) c m n t x first (subst P is rest))
+      leads_of RingAllows _ _ c n x (reaps some has) (leads_bind RingAllows (reap_all s) (send_with_page e (payload_of credit bytes)) c m n t x first (subst P is rest))
 
 module _ (id : ℕ) (bytes : List ℕ) (s : DriverState) (e : DriverEntry) (known : entry_known_as id s ≡ Some e) where
   sends_on : send_of id bytes s ≡ send_on e bytes s
   sends_on = rw (known, send_of) refl
 
   pub may_send_on : (c : RingContents) → MayPublishAll (send_of id bytes s) c → MayPublishAll (send_on e bytes s) c
-  may_send_on c may = may_of CanMake DriverAllows _ _ c sends_on may
+  may_send_on c may = may_of CanMake RingAllows _ _ c sends_on may
 
   pub sent_on : (c m : RingContents) (x : DriverState × Sent) → Plays (send_on e bytes s) c x m → Plays (send_of id bytes s) c x m
-  sent_on c m x plays = leads_of DriverAllows _ _ c m x sends_on plays
+  sent_on c m x plays = leads_of RingAllows _ _ c m x sends_on plays

@@ -1,16 +1,17 @@
 -- What taking events comes to.
-use Rattle.std.proofs.Common.{◌≡◌, ℕ, Bool, true, false, cond, List, [], length, nat_lt, Option, Some, None, refl, sym, ap, subst, ◌∙◌}
+use Rattle.std.proofs.Common.{◌≡◌, ℕ, Bool, true, false, cond, List, [], length, nat_le, nat_lt, ◌+◌, Option, Some, None, refl, sym, ap, subst, ◌∙◌}
 use Rattle.vs_contents.specs.CallTree.{Done, Ask, bind, Leads}
 use Rattle.vs_contents.proofs.Leads.{leads_of, leads_bind}
 use Rattle.vs_contents.proofs.Conditions.{may_first}
 use Rattle.vs_ring_port.specs.declared.queue.Queue.{Queue}
-use Rattle.vs_ring_port.specs.declared.queue.Queue.TheVariants.{Event}
+use Rattle.vs_ring_port.specs.declared.queue.Queue.TheVariants.{Event, Rx}
 use Rattle.vs_ring_port.specs.Contents.{RingContents}
 use Rattle.vs_ring_port.specs.DriverCalls.{Reap, DriverAllows}
 use Rattle.vs_driver_parts.specs.declared.limits.TheConstants.{REPLIES_FULL}
 use Rattle.vs_driver_parts.specs.State.{DriverState}
-use Rattle.vs_driver_parts.specs.Conversations.{DriverTree, Round, take_event, event_reaped, event_taken, staged_again, goes_on_with, stage_of, publish_of, published, with_state}
-use Rattle.vs_driver_parts.specs.Playing.{CanMake, MayPublishAll, Plays}
+use Rattle.vs_driver_parts.specs.Conversations.{DriverTree, Round, take_event, take_packet, packet_reaped, event_reaped, event_taken, staged_again, goes_on_with, stage_of, publish_of, published, with_state}
+use Rattle.vs_driver_parts.specs.Playing.{BringsFit, CanMake, MayPublishAll, Plays, RingAllows}
+use Rattle.vs_driver_parts.specs.Receiving.{on_page}
 
 reaps_event : (r : Round) → nat_lt REPLIES_FULL (length r.state.replies) ≡ false → take_event r ≡ Ask (Reap Event) (event_reaped r)
 reaps_event r few = rw (few, take_event) refl
@@ -21,14 +22,37 @@ pub took_event : (r after : Round) (s : DriverState) (bytes : List ℕ) (c m n e
 took_event r after s bytes c m n e few reaped taken staged =
     let x : Round × Bool = (record after { state = s }, true) in
     let again : Plays (staged_again Event after) n x e =
-    leads_bind DriverAllows (stage_of Event [] after.state) (goes_on_with after) n e e s x staged (refl, refl) in
-    leads_of DriverAllows _ _ c e x (reaps_event r few)
-    (Some bytes, m, reaped, leads_bind DriverAllows (event_taken bytes r) (staged_again Event) m n e after x taken again)
+    leads_bind RingAllows (stage_of Event [] after.state) (goes_on_with after) n e e s x staged (refl, refl) in
+    leads_of RingAllows _ _ c e x (reaps_event r few)
+    (Some bytes, m, (tt, reaped), leads_bind RingAllows (event_taken bytes r) (staged_again Event) m n e after x taken again)
 
 -- what is staged is published
 pub may_published : (queue : Queue) (r : Round) (c : RingContents) → MayPublishAll (published queue r) c → MayPublishAll (publish_of queue r.state) c
-may_published queue r c may = may_first CanMake DriverAllows (publish_of queue r.state) (with_state r) c may
+may_published queue r c may = may_first CanMake RingAllows (publish_of queue r.state) (with_state r) c may
 
 pub round_published : (queue : Queue) (r : Round) (s : DriverState) (c m : RingContents) → Plays (publish_of queue r.state) c s m
     → Plays (published queue r) c (record r { state = s }) m
-round_published queue r s c m plays = leads_bind DriverAllows (publish_of queue r.state) (with_state r) c m m s (record r { state = s }) plays (refl, refl)
+round_published queue r s c m plays = leads_bind RingAllows (publish_of queue r.state) (with_state r) c m m s (record r { state = s }) plays (refl, refl)
+
+-- a packet
+reaps_packet : (r : Round) → nat_le REPLIES_FULL (length r.state.replies) ≡ false → take_packet r ≡ Ask (Reap Rx) (packet_reaped r)
+reaps_packet r few = rw (few, take_packet) refl
+
+pub took_packet : (r : Round) (t s : DriverState) (bytes : List ℕ) (c m e : RingContents) → nat_le REPLIES_FULL (length r.state.replies) ≡ false
+    → DriverAllows (Reap Rx) (Some bytes) c m → BringsFit bytes → t ≡ on_page bytes r.state → Plays (stage_of Rx [] t) m s e
+    → Plays (take_packet r) c (record r { state = s; count = r.count + 1 }, true) e
+took_packet r t s bytes c m e few reaped fits is staged =
+    let now : DriverState → Round = λ u. record r { state = u; count = r.count + 1 } in
+    let x : Round × Bool = (record r { state = s; count = r.count + 1 }, true) in
+    let again : Plays (staged_again Rx (now t)) m x e =
+    leads_bind RingAllows (stage_of Rx [] t) (goes_on_with (now t)) m e e s x staged (refl, refl) in
+    leads_of RingAllows _ _ c e x (reaps_packet r few)
+    (Some bytes, m, (fits, reaped), subst (λ (u : DriverState). Plays (staged_again Rx (now u)) m x e) is again)
+
+pub took_no_packet : (r : Round) (c m : RingContents) → nat_le REPLIES_FULL (length r.state.replies) ≡ false → DriverAllows (Reap Rx) None c m
+    → Plays (take_packet r) c (r, false) m
+took_no_packet r c m few reaped = leads_of RingAllows _ _ c m (r, false) (reaps_packet r few) (None, m, (tt, reaped), (refl, refl))
+
+pub took_no_event : (r : Round) (c m : RingContents) → nat_lt REPLIES_FULL (length r.state.replies) ≡ false → DriverAllows (Reap Event) None c m
+    → Plays (take_event r) c (r, false) m
+took_no_event r c m few reaped = leads_of RingAllows _ _ c m (r, false) (reaps_event r few) (None, m, (tt, reaped), (refl, refl))

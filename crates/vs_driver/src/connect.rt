@@ -1,6 +1,6 @@
 //! Opening a connection from the guest (Virtio 1.2, section 5.10.6.4).
 
-ghost use Rattle.std.specs.Prelude.{◌≡◌, ◌==◌, ◌||◌, ◌<◌, ◌≤◌, nat_lt, nat_le, Some, None, Err, IfOk, IfErr};
+ghost use Rattle.std.specs.Prelude.{◌≡◌, ℕ, ◌==◌, ◌||◌, ◌<◌, ◌≤◌, nat_lt, nat_le, Some, None, Err, IfOk, IfErr};
 ghost use Rattle.vs_conn.specs.End.{asked};
 ghost use Rattle.vs_conn.specs.Headers.{owed_header};
 ghost use Rattle.vs_conn.specs.declared.end.Owed.TheVariants as owed;
@@ -11,6 +11,7 @@ ghost use Rattle.vs_driver_parts.specs.Connections.{connect_refusal, connected, 
 ghost use Rattle.vs_driver_parts.specs.Conversations.{connect_of, connect_with_page};
 ghost use Rattle.vs_driver.specs.Outcomes.{Opens, Refuses, FindsNoPage};
 ghost use Rattle.vs_driver_parts.specs.Playing.{IsRingOf, MayPublishAll, Plays};
+ghost use Rattle.vs_driver_log.specs.Honest.{IsHonest, IsHonestWith};
 
 use crate::driver::Driver;
 use vs_conn::{End, Owed};
@@ -35,9 +36,10 @@ impl Driver {
         host_port: u32,
     ) -> Result<ConnId, ConnectError>
         requires ring { IsRingOf (R.size ring.old) (R.flight ring.old) (R.staged ring.old) self.old }
-        requires may { MayPublishAll (connect_of host_port self.old) (R.contents ring.old) }
+        requires honest { IsHonest self.old (R.contents ring.old) }
         ensures ring { IsRingOf (R.size ring.new) (R.flight ring.new) (R.staged ring.new) self.new }
         ensures calls { Plays (connect_of host_port self.old) (R.contents ring.old) (self.new, result) (R.contents ring.new) }
+        ensures honest { (first : ℕ) → IsHonestWith first self.old (R.contents ring.old) → IsHonestWith first self.new (R.contents ring.new) }
         ensures opened { IfOk result (Opens host_port self.old self.new) }
         ensures refused { IfErr result (Refuses host_port self.old self.new) }
     {

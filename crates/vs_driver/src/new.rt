@@ -7,6 +7,7 @@ ghost use Rattle.vs_ring_port.specs.Counts.{at, no_counts, with_count};
 ghost use Rattle.vs_driver_parts.specs.declared.limits.TheConstants.{FIRST_PORT, LAST_PORT};
 ghost use Rattle.vs_driver_parts.specs.Conversations.{new_of, new_state, post_all, posts};
 ghost use Rattle.vs_driver_parts.specs.Playing.{IsRingOf, MayPublishAll, Plays};
+ghost use Rattle.vs_driver_log.specs.Honest.{IsFresh, IsHonestWith};
 
 use crate::driver::Driver;
 use std::alloc::{AllocError, Global};
@@ -27,9 +28,10 @@ impl Driver {
     pub fn new<R: DriverRing>(alloc: Global, ring: &mut R) -> Result<Driver, AllocError>
         requires unused { R.flight ring.old ≡ no_counts }
         requires none_staged { R.staged ring.old ≡ no_counts }
-        requires may { MayPublishAll (new_of (R.size ring.old) FIRST_PORT 1) (R.contents ring.old) }
+        requires fresh { IsFresh (R.contents ring.old) }
         ensures ring { IfOk result (λ driver. IsRingOf (R.size ring.new) (R.flight ring.new) (R.staged ring.new) driver) }
         ensures calls { IfOk result (λ driver. Plays (new_of (R.size ring.old) FIRST_PORT 1) (R.contents ring.old) driver (R.contents ring.new)) }
+        ensures honest { IfOk result (λ driver. IsHonestWith driver.cid driver (R.contents ring.new)) }
         ensures same_size { R.size ring.new ≡ R.size ring.old }
         ensures same_flight { OnErr result (R.flight ring.new ≡ R.flight ring.old) }
         ensures same_contents { OnErr result (R.contents ring.new ≡ R.contents ring.old) }
@@ -51,9 +53,10 @@ impl Driver {
         requires none_staged { R.staged ring.old ≡ no_counts }
         requires port { (FIRST_PORT ≤ port) × (port ≤ LAST_PORT) }
         requires id { 1 ≤ id }
-        requires may { MayPublishAll (new_of (R.size ring.old) port id) (R.contents ring.old) }
+        requires fresh { IsFresh (R.contents ring.old) }
         ensures ring { IfOk result (λ driver. IsRingOf (R.size ring.new) (R.flight ring.new) (R.staged ring.new) driver) }
         ensures calls { IfOk result (λ driver. Plays (new_of (R.size ring.old) port id) (R.contents ring.old) driver (R.contents ring.new)) }
+        ensures honest { IfOk result (λ driver. IsHonestWith driver.cid driver (R.contents ring.new)) }
         ensures same_size { R.size ring.new ≡ R.size ring.old }
         ensures same_flight { OnErr result (R.flight ring.new ≡ R.flight ring.old) }
         ensures same_contents { OnErr result (R.contents ring.new ≡ R.contents ring.old) }

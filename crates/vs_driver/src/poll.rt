@@ -1,7 +1,9 @@
 //! A poll of the driver's ring: events and packets are taken, pages come back, and what is owed is put (Virtio 1.2, section 5.10.6).
 
+ghost use Rattle.std.specs.Prelude.{ℕ};
 ghost use Rattle.vs_driver_parts.specs.Conversations.{poll_of};
-ghost use Rattle.vs_driver_parts.specs.Playing.{IsRingOf, MayPublishAll, Plays};
+ghost use Rattle.vs_driver_parts.specs.Playing.{IsRingOf, Plays};
+ghost use Rattle.vs_driver_log.specs.Honest.{IsHonest, IsHonestWith};
 
 use crate::driver::Driver;
 use vs_driver_parts::answers::Polled;
@@ -14,9 +16,10 @@ impl Driver {
     /// The answer tells how many pages came from the receive queue, how many packets were put, and whether a transport reset was taken.
     pub fn poll<R: DriverRing>(&mut self, ring: &mut R) -> Polled
         requires ring { IsRingOf (R.size ring.old) (R.flight ring.old) (R.staged ring.old) self.old }
-        requires may { MayPublishAll (poll_of self.old) (R.contents ring.old) }
+        requires honest { IsHonest self.old (R.contents ring.old) }
         ensures ring { IsRingOf (R.size ring.new) (R.flight ring.new) (R.staged ring.new) self.new }
         ensures calls { Plays (poll_of self.old) (R.contents ring.old) (self.new, result) (R.contents ring.new) }
+        ensures honest { (first : ℕ) → IsHonestWith first self.old (R.contents ring.old) → IsHonestWith first self.new (R.contents ring.new) }
     {
         let events = self.take_events(ring);
         let packets = self.take_packets(ring);

@@ -1,6 +1,6 @@
 //! What the driver does with the packets that it takes, and at a transport reset (Virtio 1.2, sections 5.10.6.4 to 5.10.6.7).
 
-ghost use Rattle.std.specs.Prelude.{◌≡◌, ℕ, List, ◌<◌, ◌≤◌, ◌==◌, ◌&&◌, ◌+◌, ◌++◌, ◌∷◌, [], true, length, is_some, nat_le, Some, None};
+ghost use Rattle.std.specs.Prelude.{◌≡◌, ℕ, List, ◌<◌, ◌≤◌, ◌==◌, ◌&&◌, ◌+◌, ◌^◌, ◌++◌, ◌∷◌, [], true, length, is_some, nat_le, Some, None};
 ghost use Rattle.vs_conn.specs.End.{is_refused};
 ghost use Rattle.vs_flow.specs.Table.{IsTable, entry_of, entry_under};
 ghost use Rattle.vs_flow.specs.declared.flow.Flow.{Flow};
@@ -10,7 +10,7 @@ ghost use Rattle.vs_page.specs.Log.{flow_to_guest};
 ghost use Rattle.vs_driver_parts.specs.declared.limits.TheConstants.{REPLIES, REPLIES_FULL};
 ghost use Rattle.vs_driver_parts.specs.State.{DriverEntry};
 ghost use Rattle.vs_driver_parts.specs.Connections.{after_leaving, leaves_list, waits_no_more, with_request};
-ghost use Rattle.vs_driver_parts.specs.Playing.{SamePages};
+ghost use Rattle.vs_driver_parts.specs.Playing.{BringsFit, FitsPorts, SamePages};
 ghost use Rattle.vs_driver_parts.specs.Receiving.{ends_connection, on_page, on_packet, on_known, on_unknown, is_request, may_open, with_reply, after_reset, all_left, reset_reply};
 ghost use Rattle.vs_wrap.specs.Wrap.{counted};
 
@@ -28,6 +28,7 @@ impl Driver {
         requires room { length self.old.replies < REPLIES }
         ensures state { self.new ≡ on_page page.now self.old }
         ensures pages { SamePages self.old self.new }
+        ensures fits { BringsFit page.now }
     {
         let Some(header) = packet_in(page) else {
             return;
@@ -44,6 +45,7 @@ impl Driver {
         requires whole { let p : Packet = record { header = header.now; payload = payload.now } in IsWhole p }
         ensures state { let p : Packet = record { header = header.now; payload = payload.now } in self.new ≡ on_packet p self.old }
         ensures pages { SamePages self.old self.new }
+        ensures fits { FitsPorts header.now }
     {
         let flow = flow_to_guest(header);
         match self.slots.by_flow(flow) {
@@ -171,12 +173,18 @@ impl Driver {
 
 // The flow of a packet to the guest.
 fn flow_to_guest(header: &Header) -> Flow
-    ensures { result ≡ flow_to_guest header.now }
+    ensures flow { result ≡ flow_to_guest header.now }
+    ensures fits { FitsPorts header.now }
 {
-    Flow {
-        guest: header.dst_port,
-        host: header.src_port,
-    }
+    flow_between(header.dst_port, header.src_port)
+}
+
+// The flow between a guest port and a host port.
+fn flow_between(guest: u32, host: u32) -> Flow
+    ensures flow { result ≡ record { guest = guest; host = host } }
+    ensures fits { (guest < 2 ^ 32) × (host < 2 ^ 32) }
+{
+    Flow { guest, host }
 }
 
 // Whether a packet asks for a stream connection.

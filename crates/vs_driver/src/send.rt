@@ -1,6 +1,6 @@
 //! Sending on a connection (Virtio 1.2, section 5.10.6.3).
 
-ghost use Rattle.std.specs.Prelude.{◌≡◌, ◌≤◌, ◌<◌, ◌==◌, true, length, min, Some, None, Ok, Err, is_some};
+ghost use Rattle.std.specs.Prelude.{◌≡◌, ℕ, ◌≤◌, ◌<◌, ◌==◌, true, length, min, Some, None, Ok, Err, is_some};
 ghost use Rattle.vs_conn.specs.End.{CanSend, may_send_of, wanting_credit};
 ghost use Rattle.vs_conn.specs.declared.end.State.TheVariants.{Live};
 ghost use Rattle.vs_credit.specs.Credit.{free_of};
@@ -10,6 +10,7 @@ ghost use Rattle.vs_driver_parts.specs.State.{DriverEntry, entry_known_as, gone_
 ghost use Rattle.vs_driver_parts.specs.Connections.{with_end};
 ghost use Rattle.vs_driver_parts.specs.Conversations.{send_of, send_on, send_with_credit, send_with_page, send_stopped, no_credit, not_sent};
 ghost use Rattle.vs_driver_parts.specs.Playing.{IsRingOf, MayPublishAll, Plays};
+ghost use Rattle.vs_driver_log.specs.Honest.{IsHonest, IsHonestWith};
 
 use crate::driver::Driver;
 use vs_conn::Stop;
@@ -28,9 +29,10 @@ impl Driver {
     /// comes exactly where as many transmit pages are in flight as the queue has descriptors.
     pub fn send<R: DriverRing>(&mut self, ring: &mut R, id: ConnId, bytes: &[u8]) -> Sent
         requires ring { IsRingOf (R.size ring.old) (R.flight ring.old) (R.staged ring.old) self.old }
-        requires may { MayPublishAll (send_of id bytes.now self.old) (R.contents ring.old) }
+        requires honest { IsHonest self.old (R.contents ring.old) }
         ensures ring { IsRingOf (R.size ring.new) (R.flight ring.new) (R.staged ring.new) self.new }
         ensures calls { Plays (send_of id bytes.now self.old) (R.contents ring.old) (self.new, result) (R.contents ring.new) }
+        ensures honest { (first : ℕ) → IsHonestWith first self.old (R.contents ring.old) → IsHonestWith first self.new (R.contents ring.new) }
     {
         match self.slots.known_as(id) {
             Some(slot) => self.send_in(ring, slot, bytes),

@@ -1,8 +1,10 @@
 //! What the driver shows of its connections.
 
-ghost use Rattle.std.specs.Prelude.{◌≡◌, ◌<◌, ◌^◌, length};
+ghost use Rattle.std.specs.Prelude.{◌≡◌, ℕ, ◌<◌, ◌^◌, length};
 ghost use Rattle.std.specs.Iterator.{YieldsFirst, item_count};
+ghost use Rattle.vs_ring_port.specs.EndLog.{EndLog};
 ghost use Rattle.vs_driver_parts.specs.Connections.{state_of, state_shown, flow_of, table_shown};
+ghost use Rattle.vs_driver_log.specs.Honest.{AgreesWith, IsLeftOpen};
 
 use crate::driver::Driver;
 use std::marker::Model;
@@ -36,7 +38,9 @@ impl Driver {
 
     /// Packets on known flows that were answered by RST. The count stands still at its last value.
     pub fn broken(&self) -> u64
-        ensures { result ≡ self.now.broken }
+        ensures count { result ≡ self.now.broken }
+        // None is over an honest ring.
+        ensures honest { (first : ℕ) (l : EndLog) → AgreesWith first self.now l → result ≡ 0 }
     {
         self.broken
     }
@@ -45,6 +49,8 @@ impl Driver {
     pub fn table(&self) -> Entries<'_>
         ensures entries { result ≡ table_shown self.now }
         ensures countable { length result < 2 ^ 64 }
+        // They are the connections that the ring's log left open.
+        ensures open { (first : ℕ) (l : EndLog) → AgreesWith first self.now l → IsLeftOpen first result self.now.replies l }
     {
         let slots = &self.slots;
         let connections = slots.open();

@@ -7,3 +7,4 @@ pub mod SlotChanges
 pub mod SameIds
 pub mod GoneChanges
 pub mod Known
+pub mod Packets

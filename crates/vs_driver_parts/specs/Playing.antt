@@ -1,11 +1,15 @@
 -- How a driver and its ring belong together, and what it takes to make a call.
-use Rattle.std.specs.Prelude.{◌≡◌, ℕ, ◌+◌, ◌<◌}
+use Rattle.std.specs.Prelude.{◌≡◌, ℕ, ◌+◌, ◌<◌, ◌^◌, List, Option, Some, None}
+use Rattle.std.specs.Option.{ForSome}
 use Rattle.vs_contents.specs.CallTree.{Leads, MayPlay}
+use Rattle.vs_header.specs.declared.Header.{Header}
+use Rattle.vs_page.specs.Held.{packet_held}
 use Rattle.vs_ring_port.specs.declared.queue.Queue.{Queue}
+use Rattle.vs_ring_port.specs.declared.queue.Queue.TheVariants.{Rx}
 use Rattle.vs_ring_port.specs.declared.queue.TheConstants.{STAGED_MAX}
 use Rattle.vs_ring_port.specs.Contents.{RingContents}
 use Rattle.vs_ring_port.specs.Counts.{Counts, at, no_counts, one_more, with_count}
-use Rattle.vs_ring_port.specs.DriverCalls.{DriverCall, Stage, Publish, Reap, LoadCid, DriverAllows, CanPublish}
+use Rattle.vs_ring_port.specs.DriverCalls.{DriverCall, DriverAnswer, Stage, Publish, Reap, LoadCid, DriverAllows, CanPublish}
 use Rattle.vs_driver_parts.specs.State.{DriverState}
 use Rattle.vs_driver_parts.specs.Conversations.{DriverTree}
 
@@ -46,10 +50,28 @@ CanMake (Publish queue) c = CanPublish queue c
 CanMake (Reap queue) c = Unit {0}
 CanMake LoadCid c = Unit {0}
 
+-- What a ring may answer: a packet that a page brings has ports of 32 bits, and the guest's CID has 64.
+pub record FitsPorts (h : Header) : Type 0 where
+  pub src_port : h.src_port < 2 ^ 32
+  pub dst_port : h.dst_port < 2 ^ 32
+
+abbrev pub BringsFit : List ℕ → Type 0
+BringsFit page = ForSome (packet_held page) (λ p. FitsPorts p.header)
+
+abbrev pub IsFitPage : Queue → Option (List ℕ) → Type 0
+IsFitPage Rx (Some page) = BringsFit page
+IsFitPage _ page = Unit {0}
+
+abbrev pub RingAllows : (call : DriverCall) → DriverAnswer call → RingContents → RingContents → Type 0
+RingAllows (Stage queue page) a old new = DriverAllows (Stage queue page) a old new
+RingAllows (Publish queue) a old new = DriverAllows (Publish queue) a old new
+RingAllows (Reap queue) page old new = IsFitPage queue page × DriverAllows (Reap queue) page old new
+RingAllows LoadCid cid old new = (cid < 2 ^ 64) × DriverAllows LoadCid cid old new
+
 -- All that a conversation publishes may be published, whatever the ring answered before.
 abbrev pub MayPublishAll : {A : Type 0} → DriverTree A → RingContents → Type 0
-MayPublishAll tree c = MayPlay CanMake DriverAllows tree c
+MayPublishAll tree c = MayPlay CanMake RingAllows tree c
 
 -- From the contents old the conversation may end in x and the contents new.
 abbrev pub Plays : {A : Type 0} → DriverTree A → RingContents → A → RingContents → Type 0
-Plays tree old x new = Leads DriverAllows tree old x new
+Plays tree old x new = Leads RingAllows tree old x new

@@ -9,7 +9,7 @@ use Rattle.vs_contents.proofs.Leads.{leads_bind, leads_of}
 use Rattle.vs_contents.proofs.Conditions.{may_first, may_rest, may_of}
 use Rattle.vs_driver_parts.specs.State.{DriverConnection, DriverEntry, DriverState}
 use Rattle.vs_driver_parts.specs.PageCounts.{PageCounts}
-use Rattle.vs_driver_parts.specs.Playing.{CanMake, MayPublishAll, Plays, IsRingOf, IsAtWork}
+use Rattle.vs_driver_parts.specs.Playing.{CanMake, MayPublishAll, Plays, IsRingOf, IsAtWork, RingAllows}
 use Rattle.vs_driver_parts.specs.Conversations.{DriverTree, reap_one, reap_all, stage_of, after_stage, publish_of, post_packet, stage_packet, one_more_in_flight, has_page}
 use Rattle.vs_driver.specs.contracts.driver.Driver.{the_view}
 use Rattle.vs_flow.specs.Table.{entry_under}

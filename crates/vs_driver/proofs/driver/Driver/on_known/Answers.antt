@@ -13,7 +13,7 @@ use Rattle.vs_conn.specs.declared.end.Verdict.{Verdict}
 use Rattle.vs_history.specs.declared.packet.Packet.{Packet}
 use Rattle.vs_driver_parts.specs.Connections.{with_connection}
 use Rattle.vs_driver_parts.specs.Receiving.{after_packet, ends_connection}
-use Rattle.vs_driver.proofs.Packets.{with_its, under_changed, refused, over, stays}
+use Rattle.vs_driver_parts.proofs.Packets.{with_its, under_changed, refused, over, stays}
 use Rattle.vs_driver.proofs.driver.Driver.on_known.Goals as goal
 
 pub returns-then-is_refused-clause-state : goal.returns-then-is_refused-clause-state

@@ -13,7 +13,7 @@ use Rattle.vs_flow.specs.Table.{Table, entry_of}
 use Rattle.vs_history.specs.declared.packet.Packet.{Packet}
 use Rattle.vs_page.specs.Log.{flow_to_guest}
 use Rattle.vs_driver_parts.proofs.Ids.{found_under}
-use Rattle.vs_driver.proofs.Packets.{packet_known, packet_unknown}
+use Rattle.vs_driver_parts.proofs.Packets.{packet_known, packet_unknown}
 use Rattle.vs_driver.proofs.driver.Driver.on_packet.Goals as goal
 
 pub returns-in-Some-clause-state : goal.returns-in-Some-clause-state
@@ -25,7 +25,7 @@ returns-in-Some-clause-state c =
     let same : t ≡ c.args.self.now.table = ap (λ (s : DriverState). s.table) c.self.view_is in
     let under : entry_under c.args.self.now.table c.in-Some.slot ≡ Some m.from = ap (λ (x : Table DriverConnection). entry_under x c.in-Some.slot) (sym same) ∙ (ap (λ (n : ℕ). entry_under t n) (sym m.gives) ∙ at) in
     let known : entry_of c.args.self.now.table (flow_to_guest c.args.header.now) ≡ Some m.from =
-    ap (λ (x : Table DriverConnection). entry_of x (flow_to_guest c.args.header.now)) (sym same) ∙ (ap (λ (f : Flow). entry_of t f) (sym c.flow_to_guest-flow.ensures) ∙ m.some) in
+    ap (λ (x : Table DriverConnection). entry_of x (flow_to_guest c.args.header.now)) (sym same) ∙ (ap (λ (f : Flow). entry_of t f) (sym c.flow_to_guest-flow.ensures.flow) ∙ m.some) in
     c.on_known.ensures.state m.from under ∙ sym (packet_known p c.args.self.now m.from known)
 
 pub returns-in-None-clause-state : goal.returns-in-None-clause-state
@@ -35,5 +35,5 @@ returns-in-None-clause-state c =
     let none = unmapped (λ (e : DriverEntry). e.slot) (entry_of t c.flow_to_guest-flow.result) c.in-None.ensures.slot in
     let same : t ≡ c.args.self.now.table = ap (λ (s : DriverState). s.table) c.self.view_is in
     let unknown : entry_of c.args.self.now.table (flow_to_guest c.args.header.now) ≡ None =
-    ap (λ (x : Table DriverConnection). entry_of x (flow_to_guest c.args.header.now)) (sym same) ∙ (ap (λ (f : Flow). entry_of t f) (sym c.flow_to_guest-flow.ensures) ∙ none) in
+    ap (λ (x : Table DriverConnection). entry_of x (flow_to_guest c.args.header.now)) (sym same) ∙ (ap (λ (f : Flow). entry_of t f) (sym c.flow_to_guest-flow.ensures.flow) ∙ none) in
     c.on_unknown.ensures.state c.args.payload.now ∙ sym (packet_unknown p c.args.self.now unknown)

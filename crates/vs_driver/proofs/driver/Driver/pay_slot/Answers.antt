@@ -9,18 +9,18 @@ use Rattle.vs_contents.proofs.Leads.{leads_bind, leads_of}
 use Rattle.vs_contents.proofs.Conditions.{may_first, may_rest, may_of}
 use Rattle.vs_driver_parts.specs.State.{DriverConnection, DriverEntry, DriverState}
 use Rattle.vs_driver_parts.specs.PageCounts.{PageCounts}
-use Rattle.vs_driver_parts.specs.Playing.{CanMake, MayPublishAll, Plays, IsRingOf, IsAtWork}
+use Rattle.vs_driver_parts.specs.Playing.{CanMake, MayPublishAll, Plays, IsRingOf, IsAtWork, RingAllows}
 use Rattle.vs_driver_parts.specs.Conversations.{DriverTree, reap_one, reap_all, stage_of, after_stage, publish_of, post_packet, stage_packet, one_more_in_flight, has_page}
 use Rattle.vs_driver.specs.contracts.driver.Driver.{the_view}
 use Rattle.vs_driver_parts.specs.Conversations.{Round, round_of, put_owed}
 use Rattle.vs_driver.proofs.driver.Driver.pay_slot.Goals as goal
 
 pub put_owed-requires-clause-may : goal.put_owed-requires-clause-may
-put_owed-requires-clause-may g c = may_step DriverAllows (put_owed c.args.slot) CanMake 4 c.loop.counter (round_of c.loop.self c.loop.tally) _ c.loop-test.true c.loop.invariant.may
+put_owed-requires-clause-may g c = may_step RingAllows (put_owed c.args.slot) CanMake 4 c.loop.counter (round_of c.loop.self c.loop.tally) _ c.loop-test.true c.loop.invariant.may
 
 pub returns-then-not-put_owed-clause-calls : goal.returns-then-not-put_owed-clause-calls
 returns-then-not-put_owed-clause-calls g c =
-    c.loop.invariant.goes_on _ _ (while_stop DriverAllows (put_owed c.args.slot) 4 c.loop.counter (round_of c.loop.self c.loop.tally) (round_of c.put_owed.new.self c.put_owed.new.tally) _ _ c.loop-test.true c.if-not-put_owed.ensures.calls)
+    c.loop.invariant.goes_on _ _ (while_stop RingAllows (put_owed c.args.slot) 4 c.loop.counter (round_of c.loop.self c.loop.tally) (round_of c.put_owed.new.self c.put_owed.new.tally) _ _ c.loop-test.true c.if-not-put_owed.ensures.calls)
 
 pub loop-preserved : goal.loop-preserved
 loop-preserved g c =
@@ -29,8 +29,8 @@ loop-preserved g c =
     let from = g.R.DriverRing.contents c.loop.ring in
     let to = g.R.DriverRing.contents c.put_owed.new.ring in
     record {
-      goes_on = λ x t rest. c.loop.invariant.goes_on x t (while_more DriverAllows (put_owed c.args.slot) 4 c.loop.counter before after x from to t c.loop-test.true c.if-not-put_owed.ensures.calls rest);
-      may = may_more DriverAllows (put_owed c.args.slot) CanMake 4 c.loop.counter before after from to c.loop-test.true c.loop.invariant.may c.if-not-put_owed.ensures.calls;
+      goes_on = λ x t rest. c.loop.invariant.goes_on x t (while_more RingAllows (put_owed c.args.slot) 4 c.loop.counter before after x from to t c.loop-test.true c.if-not-put_owed.ensures.calls rest);
+      may = may_more RingAllows (put_owed c.args.slot) CanMake 4 c.loop.counter before after from to c.loop-test.true c.loop.invariant.may c.if-not-put_owed.ensures.calls;
       ring = c.if-not-put_owed.ensures.ring;
       small = omega (arith, c.loop.invariant.small, c.if-not-put_owed.ensures.count);
     }
@@ -38,4 +38,4 @@ loop-preserved g c =
 pub returns-clause-calls : goal.returns-clause-calls
 returns-clause-calls g c =
     let r : Round = round_of c.loop.self c.loop.tally in
-    c.loop.invariant.goes_on r (g.R.DriverRing.contents c.loop.ring) (while_end DriverAllows (put_owed c.args.slot) 4 c.loop.counter r (g.R.DriverRing.contents c.loop.ring) c.loop-test.false)
+    c.loop.invariant.goes_on r (g.R.DriverRing.contents c.loop.ring) (while_end RingAllows (put_owed c.args.slot) 4 c.loop.counter r (g.R.DriverRing.contents c.loop.ring) c.loop-test.false)

@@ -9,7 +9,7 @@ use Rattle.vs_contents.proofs.Leads.{leads_bind, leads_of}
 use Rattle.vs_contents.proofs.Conditions.{may_first, may_rest, may_of}
 use Rattle.vs_driver_parts.specs.State.{DriverConnection, DriverEntry, DriverState}
 use Rattle.vs_driver_parts.specs.PageCounts.{PageCounts}
-use Rattle.vs_driver_parts.specs.Playing.{CanMake, MayPublishAll, Plays, IsRingOf, IsAtWork}
+use Rattle.vs_driver_parts.specs.Playing.{CanMake, MayPublishAll, Plays, IsRingOf, IsAtWork, RingAllows}
 use Rattle.vs_driver_parts.specs.Conversations.{DriverTree, reap_one, reap_all, stage_of, after_stage, publish_of, post_packet, stage_packet, one_more_in_flight, has_page}
 use Rattle.vs_driver.specs.contracts.driver.Driver.{the_view}
 use Rattle.vs_driver_parts.specs.Conversations.{posts}
@@ -17,16 +17,16 @@ use Rattle.vs_driver.proofs.driver.Driver.post_all.Goals as goal
 
 pub stage_all-requires-clause-may : goal.stage_all-requires-clause-may
 stage_all-requires-clause-may g c =
-    may_first CanMake DriverAllows (posts c.args.queue c.args.self.now) (publish_of c.args.queue) (g.R.DriverRing.contents c.args.ring.now) c.requires.may
+    may_first CanMake RingAllows (posts c.args.queue c.args.self.now) (publish_of c.args.queue) (g.R.DriverRing.contents c.args.ring.now) c.requires.may
 
 pub publish_staged-requires-clause-may : goal.publish_staged-requires-clause-may
 publish_staged-requires-clause-may g c =
-    may_rest CanMake DriverAllows (posts c.args.queue c.args.self.now) (publish_of c.args.queue) (g.R.DriverRing.contents c.args.ring.now)
+    may_rest CanMake RingAllows (posts c.args.queue c.args.self.now) (publish_of c.args.queue) (g.R.DriverRing.contents c.args.ring.now)
     (g.R.DriverRing.contents c.stage_all.new.ring) c.stage_all.new.self c.requires.may c.stage_all.ensures.calls
 
 pub returns-clause-calls : goal.returns-clause-calls
 returns-clause-calls g c =
-    leads_bind DriverAllows (posts c.args.queue c.args.self.now) (publish_of c.args.queue) (g.R.DriverRing.contents c.args.ring.now)
+    leads_bind RingAllows (posts c.args.queue c.args.self.now) (publish_of c.args.queue) (g.R.DriverRing.contents c.args.ring.now)
     (g.R.DriverRing.contents c.stage_all.new.ring) (g.R.DriverRing.contents c.publish_staged.new.ring) c.stage_all.new.self c.publish_staged.new.self
     c.stage_all.ensures.calls c.publish_staged.ensures.calls
 

@@ -9,7 +9,7 @@ use Rattle.vs_contents.proofs.Leads.{leads_bind, leads_of}
 use Rattle.vs_contents.proofs.Conditions.{may_first, may_rest, may_of}
 use Rattle.vs_driver_parts.specs.State.{DriverConnection, DriverEntry, DriverState}
 use Rattle.vs_driver_parts.specs.PageCounts.{PageCounts}
-use Rattle.vs_driver_parts.specs.Playing.{CanMake, MayPublishAll, Plays, IsRingOf, IsAtWork}
+use Rattle.vs_driver_parts.specs.Playing.{CanMake, MayPublishAll, Plays, IsRingOf, IsAtWork, RingAllows}
 use Rattle.vs_driver_parts.specs.Conversations.{DriverTree, reap_one, reap_all, stage_of, after_stage, publish_of, post_packet, stage_packet, one_more_in_flight, has_page}
 use Rattle.vs_driver.specs.contracts.driver.Driver.{the_view}
 use Rattle.vs_driver.proofs.RingPages.{posted}
@@ -18,7 +18,7 @@ use Rattle.vs_driver.proofs.driver.Driver.post_packet.Goals as goal
 pub publish-requires : goal.publish-requires
 publish-requires g c =
     let bytes : List ℕ = header_bytes c.args.header.now ++ c.args.payload.now in
-    let P : List ℕ → Type 0 = λ b. DriverAllows (Stage Tx b) tt (g.R.DriverRing.contents c.args.ring.now) (g.R.DriverRing.contents c.stage.new.self) in
+    let P : List ℕ → Type 0 = λ b. RingAllows (Stage Tx b) tt (g.R.DriverRing.contents c.args.ring.now) (g.R.DriverRing.contents c.stage.new.self) in
     let staged : P bytes = subst P c.put_packet.ensures.bytes c.in-Ok.ensures.contents in
     record { fair = (c.requires.may.1 tt (g.R.DriverRing.contents c.stage.new.self) staged).0 }
 

@@ -9,18 +9,18 @@ use Rattle.vs_contents.proofs.Leads.{leads_bind, leads_of}
 use Rattle.vs_contents.proofs.Conditions.{may_first, may_rest, may_of}
 use Rattle.vs_driver_parts.specs.State.{DriverConnection, DriverEntry, DriverState}
 use Rattle.vs_driver_parts.specs.PageCounts.{PageCounts}
-use Rattle.vs_driver_parts.specs.Playing.{CanMake, MayPublishAll, Plays, IsRingOf, IsAtWork}
+use Rattle.vs_driver_parts.specs.Playing.{CanMake, MayPublishAll, Plays, IsRingOf, IsAtWork, RingAllows}
 use Rattle.vs_driver_parts.specs.Conversations.{DriverTree, reap_one, reap_all, stage_of, after_stage, publish_of, post_packet, stage_packet, one_more_in_flight, has_page}
 use Rattle.vs_driver.specs.contracts.driver.Driver.{the_view}
 use Rattle.vs_driver.proofs.driver.Driver.reap_all.Goals as goal
 
 pub returns-then-not-reap-clause-calls : goal.returns-then-not-reap-clause-calls
 returns-then-not-reap-clause-calls g c =
-    c.loop.invariant.goes_on _ _ (while_stop DriverAllows reap_one c.in_flight-most.result c.loop.counter _ _ _ _ c.loop-test.true c.if-not-reap.ensures.calls)
+    c.loop.invariant.goes_on _ _ (while_stop RingAllows reap_one c.in_flight-most.result c.loop.counter _ _ _ _ c.loop-test.true c.if-not-reap.ensures.calls)
 
 pub loop-preserved : goal.loop-preserved
 loop-preserved g c = record {
-  goes_on = λ new t rest. c.loop.invariant.goes_on new t (while_more DriverAllows reap_one c.in_flight-most.result c.loop.counter _ _ new _ _ t c.loop-test.true c.if-not-reap.ensures.calls rest);
+  goes_on = λ new t rest. c.loop.invariant.goes_on new t (while_more RingAllows reap_one c.in_flight-most.result c.loop.counter _ _ new _ _ t c.loop-test.true c.if-not-reap.ensures.calls rest);
   ring = c.if-not-reap.ensures.ring;
   others = search rules;
 }

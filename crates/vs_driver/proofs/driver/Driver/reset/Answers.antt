@@ -13,7 +13,7 @@ use Rattle.vs_flow.specs.Table.{Table, IsTable}
 use Rattle.std.proofs.lemmas.Option.{slice_get_within}
 use Rattle.vs_driver_parts.specs.Connections.{after_leaving}
 use Rattle.vs_driver_parts.specs.Receiving.{with_reply, reset_reply}
-use Rattle.vs_driver.proofs.Packets.{leaving-replies, first_left, first_under, none_left}
+use Rattle.vs_driver_parts.proofs.Packets.{leaving-replies, first_left, first_under, none_left}
 use Rattle.vs_driver.proofs.driver.Driver.reset.Goals as goal
 
 pub owe-requires : goal.owe-requires

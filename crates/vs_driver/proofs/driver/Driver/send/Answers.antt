@@ -9,7 +9,7 @@ use Rattle.vs_contents.proofs.Leads.{leads_bind, leads_of}
 use Rattle.vs_contents.proofs.Conditions.{may_first, may_rest, may_of}
 use Rattle.vs_driver_parts.specs.State.{DriverConnection, DriverEntry, DriverState}
 use Rattle.vs_driver_parts.specs.PageCounts.{PageCounts}
-use Rattle.vs_driver_parts.specs.Playing.{CanMake, MayPublishAll, Plays, IsRingOf, IsAtWork}
+use Rattle.vs_driver_parts.specs.Playing.{CanMake, MayPublishAll, Plays, IsRingOf, IsAtWork, RingAllows}
 use Rattle.vs_driver_parts.specs.Conversations.{DriverTree, reap_one, reap_all, stage_of, after_stage, publish_of, post_packet, stage_packet, one_more_in_flight, has_page}
 use Rattle.vs_driver.specs.contracts.driver.Driver.{the_view}
 use Rattle.vs_driver.proofs.Sending.{IsThere, there}
@@ -20,6 +20,7 @@ use Rattle.std.proofs.Common.{is_some}
 use Rattle.vs_driver_parts.specs.State.{entry_known_as}
 use Rattle.vs_driver_parts.proofs.Known.{KnownAt, known_at, some_inj}
 use Rattle.vs_driver.proofs.Sending.{may_send_on, sent_on}
+use Rattle.vs_driver_log.proofs.Calls.{send_honest, send_may}
 use Rattle.vs_driver.proofs.driver.Driver.send.Goals as goal
 
 pub send_in-requires-clause-may : goal.send_in-requires-clause-may
@@ -27,7 +28,8 @@ send_in-requires-clause-may g c = λ e is.
     let k : KnownAt c.args.id c.in-Some.slot c.args.self.now = rw (← c.self.view_is) (known_at c.args.id c.in-Some.slot (the_view c.self.inside) c.in-Some.ensures.sound c.in-Some.ensures.slot) in
     let same : k.entry ≡ e = some_inj k.entry e (sym k.found ∙ is) in
     let known : entry_known_as c.args.id c.args.self.now ≡ Some e = k.known ∙ ap (λ (x : DriverEntry). Some x) same in
-    may_send_on c.args.id c.args.bytes.now c.args.self.now e known (g.R.DriverRing.contents c.args.ring.now) c.requires.may
+    may_send_on c.args.id c.args.bytes.now c.args.self.now e known (g.R.DriverRing.contents c.args.ring.now)
+    (send_may c.requires.honest.0 c.args.id c.args.bytes.now c.args.self.now (g.R.DriverRing.contents c.args.ring.now) c.requires.honest.1)
 
 pub send_in-requires-clause-held : goal.send_in-requires-clause-held
 send_in-requires-clause-held g c =
@@ -39,3 +41,8 @@ returns-in-Some-clause-calls g c =
     let k : KnownAt c.args.id c.in-Some.slot c.args.self.now = rw (← c.self.view_is) (known_at c.args.id c.in-Some.slot (the_view c.self.inside) c.in-Some.ensures.sound c.in-Some.ensures.slot) in
     sent_on c.args.id c.args.bytes.now c.args.self.now k.entry k.known (g.R.DriverRing.contents c.args.ring.now) (g.R.DriverRing.contents c.send_in.new.ring)
     (c.send_in.new.self, c.send_in.result) (c.send_in.ensures.calls k.entry k.found)
+
+pub returns-in-Some-clause-honest : goal.returns-in-Some-clause-honest
+returns-in-Some-clause-honest g c = λ first honest.
+    send_honest first c.args.id c.args.bytes.now c.args.self.now (g.R.DriverRing.contents c.args.ring.now) (g.R.DriverRing.contents c.send_in.new.ring)
+    (c.send_in.new.self, c.send_in.result) honest (returns-in-Some-clause-calls g c)

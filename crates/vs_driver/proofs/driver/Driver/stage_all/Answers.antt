@@ -9,7 +9,7 @@ use Rattle.vs_contents.proofs.Leads.{leads_bind, leads_of}
 use Rattle.vs_contents.proofs.Conditions.{may_first, may_rest, may_of}
 use Rattle.vs_driver_parts.specs.State.{DriverConnection, DriverEntry, DriverState}
 use Rattle.vs_driver_parts.specs.PageCounts.{PageCounts}
-use Rattle.vs_driver_parts.specs.Playing.{CanMake, MayPublishAll, Plays, IsRingOf, IsAtWork}
+use Rattle.vs_driver_parts.specs.Playing.{CanMake, MayPublishAll, Plays, IsRingOf, IsAtWork, RingAllows}
 use Rattle.vs_driver_parts.specs.Conversations.{DriverTree, reap_one, reap_all, stage_of, after_stage, publish_of, post_packet, stage_packet, one_more_in_flight, has_page}
 use Rattle.vs_driver.specs.contracts.driver.Driver.{the_view}
 use Rattle.vs_contents.specs.CallTree.{while_up_to}
@@ -54,7 +54,7 @@ stage_page-requires-clause-may g c =
     let page_is : c.take_last-page.result ≡ [] =
     last_of (λ (p : List ℕ). p ≡ []) c.take_last-page.new.self.items c.take_last-page.result c.loop.pages.items c.take_last-page.ensures.items c.loop.invariant.empty in
     may_stage_one c.args.queue c.take_last-page.result c.loop.self (g.R.DriverRing.contents c.loop.ring) page_is
-    (may_step DriverAllows (post_one c.args.queue) CanMake c.size-size.result c.loop.counter c.loop.self (g.R.DriverRing.contents c.loop.ring) c.loop-test.true c.loop.invariant.may)
+    (may_step RingAllows (post_one c.args.queue) CanMake c.size-size.result c.loop.counter c.loop.self (g.R.DriverRing.contents c.loop.ring) c.loop-test.true c.loop.invariant.may)
 
 pub loop-preserved : goal.loop-preserved
 loop-preserved g c =
@@ -66,8 +66,8 @@ loop-preserved g c =
     last_of (λ (p : List ℕ). p ≡ []) c.take_last-page.new.self.items c.take_last-page.result c.loop.pages.items c.take_last-page.ensures.items c.loop.invariant.empty in
     let one : Plays (post_one q c.loop.self) from (c.stage_page.new.self, true) to = one_staged q c.take_last-page.result c.loop.self c.stage_page.new.self from to page_is c.stage_page.ensures.calls in
     record {
-      goes_on = λ x t rest. kept.goes_on x t (while_more DriverAllows (post_one q) c.size-size.result c.loop.counter c.loop.self c.stage_page.new.self x from to t c.loop-test.true one rest);
-      may = may_more DriverAllows (post_one q) CanMake c.size-size.result c.loop.counter c.loop.self c.stage_page.new.self from to c.loop-test.true kept.may one;
+      goes_on = λ x t rest. kept.goes_on x t (while_more RingAllows (post_one q) c.size-size.result c.loop.counter c.loop.self c.stage_page.new.self x from to t c.loop-test.true one rest);
+      may = may_more RingAllows (post_one q) CanMake c.size-size.result c.loop.counter c.loop.self c.stage_page.new.self from to c.loop-test.true kept.may one;
       same_size = c.stage_page.ensures.same_size ∙ kept.same_size;
       size = kept.size;
       left = omega (arith, kept.left, c.take_last-page.ensures.len);
@@ -81,7 +81,7 @@ loop-preserved g c =
 pub returns-clause-calls : goal.returns-clause-calls
 returns-clause-calls g c =
     c.loop.invariant.goes_on c.loop.self (g.R.DriverRing.contents c.loop.ring)
-    (while_end DriverAllows (post_one c.args.queue) c.size-size.result c.loop.counter c.loop.self (g.R.DriverRing.contents c.loop.ring) c.loop-test.false)
+    (while_end RingAllows (post_one c.args.queue) c.size-size.result c.loop.counter c.loop.self (g.R.DriverRing.contents c.loop.ring) c.loop-test.false)
 
 pub returns-clause-flight : goal.returns-clause-flight
 returns-clause-flight g c =

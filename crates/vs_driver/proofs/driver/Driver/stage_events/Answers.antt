@@ -9,18 +9,18 @@ use Rattle.vs_contents.proofs.Leads.{leads_bind, leads_of}
 use Rattle.vs_contents.proofs.Conditions.{may_first, may_rest, may_of}
 use Rattle.vs_driver_parts.specs.State.{DriverConnection, DriverEntry, DriverState}
 use Rattle.vs_driver_parts.specs.PageCounts.{PageCounts}
-use Rattle.vs_driver_parts.specs.Playing.{CanMake, MayPublishAll, Plays, IsRingOf, IsAtWork}
+use Rattle.vs_driver_parts.specs.Playing.{CanMake, MayPublishAll, Plays, IsRingOf, IsAtWork, RingAllows}
 use Rattle.vs_driver_parts.specs.Conversations.{DriverTree, reap_one, reap_all, stage_of, after_stage, publish_of, post_packet, stage_packet, one_more_in_flight, has_page}
 use Rattle.vs_driver.specs.contracts.driver.Driver.{the_view}
 use Rattle.vs_driver_parts.specs.Conversations.{Round, round_of, take_event}
 use Rattle.vs_driver.proofs.driver.Driver.stage_events.Goals as goal
 
 pub take_event-requires-clause-may : goal.take_event-requires-clause-may
-take_event-requires-clause-may g c = may_step DriverAllows take_event CanMake c.size-most.result c.loop.counter (round_of c.loop.self c.loop.tally) _ c.loop-test.true c.loop.invariant.may
+take_event-requires-clause-may g c = may_step RingAllows take_event CanMake c.size-most.result c.loop.counter (round_of c.loop.self c.loop.tally) _ c.loop-test.true c.loop.invariant.may
 
 pub returns-then-not-take_event-clause-calls : goal.returns-then-not-take_event-clause-calls
 returns-then-not-take_event-clause-calls g c =
-    c.loop.invariant.goes_on _ _ (while_stop DriverAllows take_event c.size-most.result c.loop.counter (round_of c.loop.self c.loop.tally) (round_of c.take_event.new.self c.take_event.new.tally) _ _ c.loop-test.true c.if-not-take_event.ensures.calls)
+    c.loop.invariant.goes_on _ _ (while_stop RingAllows take_event c.size-most.result c.loop.counter (round_of c.loop.self c.loop.tally) (round_of c.take_event.new.self c.take_event.new.tally) _ _ c.loop-test.true c.if-not-take_event.ensures.calls)
 
 pub loop-preserved : goal.loop-preserved
 loop-preserved g c =
@@ -29,8 +29,8 @@ loop-preserved g c =
     let from = g.R.DriverRing.contents c.loop.ring in
     let to = g.R.DriverRing.contents c.take_event.new.ring in
     record {
-      goes_on = λ x t rest. c.loop.invariant.goes_on x t (while_more DriverAllows take_event c.size-most.result c.loop.counter before after x from to t c.loop-test.true c.if-not-take_event.ensures.calls rest);
-      may = may_more DriverAllows take_event CanMake c.size-most.result c.loop.counter before after from to c.loop-test.true c.loop.invariant.may c.if-not-take_event.ensures.calls;
+      goes_on = λ x t rest. c.loop.invariant.goes_on x t (while_more RingAllows take_event c.size-most.result c.loop.counter before after x from to t c.loop-test.true c.if-not-take_event.ensures.calls rest);
+      may = may_more RingAllows take_event CanMake c.size-most.result c.loop.counter before after from to c.loop-test.true c.loop.invariant.may c.if-not-take_event.ensures.calls;
       ring = c.if-not-take_event.ensures.ring;
       small = omega (arith, c.loop.invariant.small, c.if-not-take_event.ensures.count);
     }

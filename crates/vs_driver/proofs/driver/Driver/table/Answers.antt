@@ -1,8 +1,12 @@
-use Rattle.std.proofs.Common.{◌≡◌, ℕ, List, ◌<◌, ◌≤◌, ◌^◌, map, length, arith, rules}
+use Rattle.std.proofs.Common.{◌≡◌, ℕ, List, ◌<◌, ◌≤◌, ◌^◌, map, length, sym, subst, arith, rules}
 use Rattle.std.proofs.lemmas.List.{length-map}
 use Rattle.vs_conn.specs.declared.end.State.{State}
 use Rattle.vs_flow.specs.declared.flow.Flow.{Flow}
-use Rattle.vs_driver_parts.specs.State.{DriverEntry}
+use Rattle.vs_driver_parts.specs.State.{DriverEntry, DriverState}
+use Rattle.vs_driver_parts.specs.Connections.{table_shown}
+use Rattle.vs_driver_log.specs.Honest.{AgreesWith, IsLeftOpen}
+use Rattle.vs_driver_log.proofs.Shown.{left_open}
+use Rattle.vs_driver.specs.contracts.driver.Driver.{the_view}
 use Rattle.vs_driver.proofs.driver.Driver.table.Goals as goal
 
 pub returns-clause-countable : goal.returns-clause-countable
@@ -12,3 +16,9 @@ returns-clause-countable c =
     let few : length entries ≤ 64 = search rules in
     let countable : length (map shown entries) < 2 ^ 64 = omega (arith, length-map entries shown, few) in
     countable
+
+pub returns-clause-open : goal.returns-clause-open
+returns-clause-open c = λ first l agrees.
+    let s : DriverState = the_view c.self.inside in
+    let seen : AgreesWith first s l = subst (λ (x : DriverState). AgreesWith first x l) (sym c.self.view_is) agrees in
+    subst (λ (x : DriverState). IsLeftOpen first (table_shown s) x.replies l) c.self.view_is (left_open first s l seen)

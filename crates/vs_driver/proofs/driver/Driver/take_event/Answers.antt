@@ -9,13 +9,13 @@ use Rattle.vs_contents.proofs.Leads.{leads_bind, leads_of}
 use Rattle.vs_contents.proofs.Conditions.{may_first, may_rest, may_of}
 use Rattle.vs_driver_parts.specs.State.{DriverConnection, DriverEntry, DriverState}
 use Rattle.vs_driver_parts.specs.PageCounts.{PageCounts}
-use Rattle.vs_driver_parts.specs.Playing.{CanMake, MayPublishAll, Plays, IsRingOf, IsAtWork}
+use Rattle.vs_driver_parts.specs.Playing.{CanMake, MayPublishAll, Plays, IsRingOf, IsAtWork, RingAllows}
 use Rattle.vs_driver_parts.specs.Conversations.{DriverTree, reap_one, reap_all, stage_of, after_stage, publish_of, post_packet, stage_packet, one_more_in_flight, has_page}
 use Rattle.vs_driver.specs.contracts.driver.Driver.{the_view}
 use Rattle.std.proofs.Common.{nat_lt}
 use Rattle.vs_driver_parts.specs.declared.limits.TheConstants.{REPLIES_FULL}
 use Rattle.vs_driver_parts.specs.Conversations.{round_of}
-use Rattle.vs_driver.proofs.Taking.{took_event}
+use Rattle.vs_driver.proofs.Taking.{took_event, took_no_event}
 use Rattle.vs_driver.proofs.driver.Driver.take_event.Goals as goal
 
 pub returns-in-Back-clause-calls : goal.returns-in-Back-clause-calls
@@ -24,3 +24,8 @@ returns-in-Back-clause-calls g c =
     took_event (round_of c.args.self.now c.args.tally.now) (round_of c.on_event.new.self c.on_event.new.tally) c.stage_empty.new.self c.in-Back.page
     (g.R.DriverRing.contents c.args.ring.now) (g.R.DriverRing.contents c.reap.new.self) (g.R.DriverRing.contents c.on_event.new.ring) (g.R.DriverRing.contents c.stage_empty.new.ring)
     few c.in-Back.ensures.contents c.on_event.ensures.calls c.stage_empty.ensures.calls
+
+pub returns-in-None-clause-calls : goal.returns-in-None-clause-calls
+returns-in-None-clause-calls g c =
+    let few : nat_lt REPLIES_FULL (length c.args.self.now.replies) ≡ false = search rules in
+    took_no_event (round_of c.args.self.now c.args.tally.now) (g.R.DriverRing.contents c.args.ring.now) (g.R.DriverRing.contents c.reap.new.self) few c.in-None.ensures.contents

@@ -116,7 +116,7 @@ leaving-replies e s = kept_replies e.value.unanswered e s
 same_slot : (n : ℕ) → (n == n) ≡ true
 same_slot n = eq-eqb n n refl
 
-others_left : (e : DriverEntry) (es : List DriverEntry) → AllPairs (λ x y. x.slot < y.slot) (e ∷ es) → filter (λ x. not (x.slot == e.slot)) (e ∷ es) ≡ es
+pub others_left : (e : DriverEntry) (es : List DriverEntry) → AllPairs (λ x y. x.slot < y.slot) (e ∷ es) → filter (λ x. not (x.slot == e.slot)) (e ∷ es) ≡ es
 others_left e es rising =
     let differ : AllPairs (λ x y. x.slot ≢ y.slot) (e ∷ es) = λ i j d less within same. let above = rising i j d less within in absurd (omega (arith, above, same)) in
     let one : AtMostOnePasses (λ (x : DriverEntry). x.slot == e.slot) (e ∷ es) = one_passes (λ (x : DriverEntry). x.slot) e.slot (e ∷ es) differ in

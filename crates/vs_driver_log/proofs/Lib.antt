@@ -1,0 +1,13 @@
+pub mod Keeping
+pub mod Ringing
+pub mod Fits
+pub mod Tabling
+pub mod Bytes
+pub mod Putting
+pub mod Taking
+pub mod Resetting
+pub mod Staging
+pub mod Polling
+pub mod Changing
+pub mod Calls
+pub mod Shown

@@ -1,0 +1,149 @@
+-- What one call on an honest ring that tells its log keeps.
+use Rattle.std.proofs.Common.{◌≡◌, ℕ, ◌+◌, ◌==◌, Bool, true, false, cond, List, [], ◌∷◌, ◌++◌, Option, Some, None, refl, sym, ap, subst, ◌∙◌, arith}
+use Rattle.std.specs.List.{All}
+use Rattle.std.specs.Prelude.{IsSomeAnd}
+use Rattle.std.proofs.lemmas.List.Elements.{All-nil, All-cons, All-append}
+use Rattle.std.specs.Option.{ForSome}
+use Rattle.vs_contents.specs.CallTree.{CallTree, Done, Ask}
+use Rattle.vs_contents.specs.Contents.{Exposes}
+use Rattle.vs_history.specs.declared.packet.Packet.{Packet}
+use Rattle.vs_history.specs.Packets.{packet_bytes}
+use Rattle.vs_page.specs.Fair.{IsFairLog}
+use Rattle.vs_page.specs.Held.{packet_held, event_held}
+use Rattle.vs_page.specs.Log.{Driver, Log}
+use Rattle.vs_page.specs.declared.log.LogEntry.{LogEntry}
+use Rattle.vs_page.specs.declared.log.LogEntry.TheVariants.{PutPacket, GotPacket, GotEvent, Mark}
+use Rattle.vs_ring_port.specs.declared.queue.Queue.{Queue}
+use Rattle.vs_ring_port.specs.declared.queue.Queue.TheVariants.{Rx, Tx, Event}
+use Rattle.vs_ring_port.specs.declared.queue.TheConstants.{STAGED_MAX}
+use Rattle.vs_ring_port.specs.Contents.{RingContents}
+use Rattle.vs_ring_port.specs.DriverCalls.{DriverCall, DriverAnswer, Stage, Publish, Reap, LoadCid, DriverAllows, DriverMoves, HoldsPacket, MayPublish, CanPublish}
+use Rattle.vs_ring_port.specs.EndLog.{EndLog, all_put, entries_marked, log_loaded, log_published, log_reaped, log_staged, with_event, with_packet}
+use Rattle.vs_ring_port.specs.Lists.{Rings}
+use Rattle.vs_matching.specs.Ends.{Ends}
+use Rattle.vs_matching.specs.Matches.{Matches}
+use Rattle.vs_driver_parts.specs.State.{DriverState}
+use Rattle.vs_driver_parts.specs.Playing.{CanMake, RingAllows}
+use Rattle.vs_driver_log.specs.Honest.{AgreesWith, IsFitState, IsHonestWith, ends_of_state}
+
+-- P holds of the log of an honest ring, where it tells it.
+abbrev pub Tells : (EndLog → Type 0) → RingContents → Type 0
+Tells P c = c.honest ≡ true → ForSome c.log P
+
+-- The driver's connections are those that the log leaves with the packets that are staged, and it is fair with them.
+pub record IsLeft (first broken : ℕ) (part : Ends) (staged : List (List ℕ)) (entries : Log) : Type 0 where
+  pub none_refused : broken ≡ 0
+  pub packets : All HoldsPacket staged
+  pub matches : Matches Driver first part (all_put staged entries)
+  pub fair : IsFairLog Driver (all_put staged entries)
+
+abbrev pub IsTied : ℕ → DriverState → EndLog → Type 0
+IsTied first s l = IsFitState s × IsLeft first s.broken (ends_of_state s) l.staged.tx l.entries
+
+-- The same where no packet is staged.
+abbrev pub IsAtRest : ℕ → DriverState → EndLog → Type 0
+IsAtRest first s l = IsFitState s × IsLeft first s.broken (ends_of_state s) [] l.entries × (l.staged.tx ≡ [])
+
+pub at_rest : (first : ℕ) (s : DriverState) (l : EndLog) → AgreesWith first s l → IsAtRest first s l
+at_rest first s l agrees = (
+  agrees.fits,
+  record { none_refused = agrees.none_refused; packets = λ i d less. absurd (omega (arith, less)); matches = agrees.matches; fair = agrees.fair },
+  agrees.published,
+)
+
+pub agrees : (first : ℕ) (s : DriverState) (l : EndLog) → IsAtRest first s l → AgreesWith first s l
+agrees first s l rest = record {
+  fits = rest.0;
+  published = rest.2;
+  none_refused = rest.1.none_refused;
+  matches = rest.1.matches;
+  fair = rest.1.fair;
+}
+
+pub tied : (first : ℕ) (s : DriverState) (l : EndLog) → IsAtRest first s l → IsTied first s l
+tied first s l rest =
+    let P : List (List ℕ) → Type 0 = λ pages. IsLeft first s.broken (ends_of_state s) pages l.entries in
+    (rest.0, subst P (sym rest.2) rest.1)
+
+pub tells_weaker : (P Q : EndLog → Type 0) → ((l : EndLog) → P l → Q l) → (c : RingContents) → Tells P c → Tells Q c
+tells_weaker P Q then c tells = λ honest l is. then l (tells honest l is)
+
+-- A call changes the log by g: what follows of each log that is fair after it, it tells.
+pub moves : (L : Rings → Type 0) (f : Rings → Rings) (R : EndLog → Type 0) (g : EndLog → EndLog) (c d : RingContents) → DriverMoves L f R g c d
+    → (P Q : EndLog → Type 0) → ((l : EndLog) → P l → IsFairLog Driver (g l).entries → Q (g l)) → Tells P c → Tells Q d
+moves L f R g c d made P Q then tells = λ honest l is. by c.log refl made.log honest l is
+  where
+    by : (o : Option EndLog) → c.log ≡ o → Exposes o d.log R g → d.honest ≡ true → (l : EndLog) → d.log ≡ Some l → Q l
+    by None log exposes honest l is = let e : None ≡ Some l = sym exposes ∙ is in absurd cc
+    by (Some before) log exposes honest l is =
+        let e : Some (g before) ≡ Some l = sym exposes.1 ∙ is in
+        let same : g before ≡ l = cc in
+        let fair : IsFairLog Driver (g before).entries = made.fair honest (g before) exposes.1 in
+        subst Q same (then before (tells (sym made.honest ∙ honest) before log) fair)
+
+-- A page that isn't staged on tx changes nothing of that.
+pub stages_other : (queue : Queue) (page : List ℕ) → (queue ≡ Tx → ⊥) → (first : ℕ) (s : DriverState) (l : EndLog) → IsAtRest first s l
+    → IsAtRest first s (log_staged queue page l)
+stages_other Rx page other first s l rest = rest
+stages_other Event page other first s l rest = rest
+stages_other Tx page other first s l rest = absurd (other refl)
+
+pub publishes_other : (queue : Queue) → (queue ≡ Tx → ⊥) → (first : ℕ) (s : DriverState) (l : EndLog) → IsAtRest first s l
+    → IsAtRest first s (log_published queue l)
+publishes_other Rx other first s l rest = rest
+publishes_other Event other first s l rest = rest
+publishes_other Tx other first s l rest = absurd (other refl)
+
+pub can_publish_other : (queue : Queue) (c : RingContents) → (queue ≡ Tx → ⊥) → CanPublish queue c
+can_publish_other Rx c other = λ honest l is. tt
+can_publish_other Event c other = λ honest l is. tt
+can_publish_other Tx c other = absurd (other refl)
+
+-- Staged packets may be published, and nothing is staged then.
+pub publishes : (first : ℕ) (s : DriverState) (l : EndLog) → IsTied first s l → IsAtRest first s (log_published Tx l)
+publishes first s l tie = (
+  tie.0,
+  record { none_refused = tie.1.none_refused; packets = λ i d less. absurd (omega (arith, less)); matches = tie.1.matches; fair = tie.1.fair },
+  refl,
+)
+
+pub can_publish : (first : ℕ) (s : DriverState) (c : RingContents) → Tells (IsTied first s) c → CanPublish Tx c
+can_publish first s c tells = λ honest l is. let tie = tells honest l is in (tie.1.packets, tie.1.fair)
+
+-- What a step on the driver does whose packet a page holds: it puts that packet.
+pub record Puts (s : DriverState) (page : List ℕ) (t : DriverState) : Type 0 where
+  pub packet : Packet
+  pub held : packet_held page ≡ Some packet
+  pub bytes : page ≡ packet_bytes packet
+  pub fits : IsFitState t
+  pub broken : t.broken ≡ s.broken
+  pub matches : (first : ℕ) (log : Log) → Matches Driver first (ends_of_state s) log
+      → Matches Driver first (ends_of_state t) (PutPacket packet ∷ log)
+  pub fair : (first : ℕ) (log : Log) → Matches Driver first (ends_of_state s) log → IsFairLog Driver log
+      → IsFairLog Driver (PutPacket packet ∷ log)
+
+put_last : (pages : List (List ℕ)) (page : List ℕ) (p : Packet) (log : Log) → packet_held page ≡ Some p
+    → all_put (pages ++ page ∷ []) log ≡ PutPacket p ∷ all_put pages log
+put_last [] page p log held = ap (λ (o : Option Packet). with_packet (λ q. PutPacket q) o log) held
+put_last (x ∷ pages) page p log held = put_last pages page p (with_packet (λ q. PutPacket q) (packet_held x) log) held
+
+holds_packet : (page : List ℕ) (p : Packet) → packet_held page ≡ Some p → page ≡ packet_bytes p → HoldsPacket page
+holds_packet page p held bytes = let P : Option Packet → Type 0 = λ o. IsSomeAnd o (λ q. page ≡ packet_bytes q) in subst P (sym held) bytes
+
+all_last : (pages : List (List ℕ)) (page : List ℕ) → All HoldsPacket pages → HoldsPacket page → All HoldsPacket (pages ++ page ∷ [])
+all_last pages page all holds = All-append HoldsPacket pages (page ∷ []) all (All-cons HoldsPacket page [] holds (All-nil HoldsPacket))
+
+pub stages : (first : ℕ) (s t : DriverState) (page : List ℕ) (l : EndLog) → IsFitState s → Puts s page t → IsTied first s l
+    → IsTied first t (log_staged Tx page l)
+stages first s t page l fits puts tie =
+    let last = put_last l.staged.tx page puts.packet l.entries puts.held in
+    let matches = puts.matches first (all_put l.staged.tx l.entries) tie.1.matches in
+    let fair = puts.fair first (all_put l.staged.tx l.entries) tie.1.matches tie.1.fair in (
+      puts.fits,
+      record {
+        none_refused = puts.broken ∙ tie.1.none_refused;
+        packets = all_last l.staged.tx page tie.1.packets (holds_packet page puts.packet puts.held puts.bytes);
+        matches = subst (λ (log : Log). Matches Driver first (ends_of_state t) log) (sym last) matches;
+        fair = subst (λ (log : Log). IsFairLog Driver log) (sym last) fair;
+      },
+    )
