@@ -5,3 +5,4 @@ pub mod Sending
 pub mod Taking
 pub mod Paying
 pub mod Posting
+pub mod Ending

@@ -1,10 +1,15 @@
 -- What connect and send leave, for each answer.
-use Rattle.std.specs.Prelude.{◌≡◌, ℕ, ◌≤◌, List, length, min, Option, Some, None, Result, Ok, Err}
+use Rattle.std.specs.Prelude.{◌≡◌, ℕ, ◌==◌, ◌≤◌, Bool, true, false, List, length, min, Option, Some, None, Result, Ok, Err}
 use Rattle.vs_conn.specs.End.{ConnectionEnd, may_send_of, with_payload_sent, wanting_credit}
 use Rattle.vs_driver_parts.specs.declared.answers.ConnectError.{ConnectError}
 use Rattle.vs_driver_parts.specs.declared.answers.ConnectError.TheVariants as refused
-use Rattle.vs_driver_parts.specs.State.{DriverState}
-use Rattle.vs_driver_parts.specs.Connections.{connect_refusal, connected}
+use Rattle.vs_conn.specs.declared.end.Stop.{Stop}
+use Rattle.vs_page.specs.declared.page.TheConstants.{PAYLOAD_MAX}
+use Rattle.vs_driver_parts.specs.declared.answers.Sent.{Sent}
+use Rattle.vs_driver_parts.specs.declared.answers.Sent.TheVariants as sent
+use Rattle.vs_driver_parts.specs.State.{DriverEntry, DriverState, entry_known_as}
+use Rattle.vs_driver_parts.specs.Connections.{connect_refusal, connected, with_end}
+use Rattle.vs_driver_parts.specs.Conversations.{no_credit, not_sent, send_stopped}
 
 -- Nothing changes, but that transmit pages may have come back.
 abbrev pub KeepsAllButPages : DriverState → DriverState → Type 0
@@ -25,3 +30,33 @@ RefusesBy None old new e = FindsNoPage old new e
 
 abbrev pub Refuses : ℕ → DriverState → DriverState → ConnectError → Type 0
 Refuses port old new e = RefusesBy (connect_refusal port old) old new e
+
+-- send: how many bytes go, as the credit allows and one packet carries.
+abbrev pub sent_at_most : ℕ → List ℕ → ℕ
+sent_at_most credit bytes = min (min credit PAYLOAD_MAX) (length bytes)
+
+-- Where there is credit n bytes are sent, or no transmit page is free. Pages may have come back before.
+abbrev pub SendsFront : DriverEntry → ℕ → DriverState → DriverState → Sent → Type 0
+SendsFront e n old new (sent.Took k) =
+    (k ≡ n) × (new.in_flight ≤ old.size) × (new ≡ record (with_end (with_payload_sent e.value.end n) e old) { in_flight = new.in_flight })
+SendsFront e n old new (sent.NoDescriptor k) = (k ≡ old.size) × (new.in_flight ≡ old.size) × KeepsAllButPages old new
+SendsFront e n old new _ = ⊥
+
+-- An empty slice is sent at once, and where there is no credit some is asked for.
+abbrev pub SendsWith : Bool → Bool → DriverEntry → ℕ → List ℕ → DriverState → DriverState → Sent → Type 0
+SendsWith true none e credit bytes old new answer = (answer ≡ sent.Took 0) × (new ≡ old)
+SendsWith false true e credit bytes old new answer = (answer ≡ no_credit e.value.end) × (new ≡ with_end (wanting_credit e.value.end) e old)
+SendsWith false false e credit bytes old new answer = SendsFront e (sent_at_most credit bytes) old new answer
+
+-- A connection that may not send says why, and nothing changes.
+abbrev pub SendsOn : Result ℕ Stop → DriverEntry → List ℕ → DriverState → DriverState → Sent → Type 0
+SendsOn (Err why) e bytes old new answer = (answer ≡ send_stopped why) × (new ≡ old)
+SendsOn (Ok credit) e bytes old new answer = SendsWith (length bytes == 0) (credit == 0) e credit bytes old new answer
+
+abbrev pub SendsBy : Option DriverEntry → ℕ → List ℕ → DriverState → DriverState → Sent → Type 0
+SendsBy None id bytes old new answer = (answer ≡ not_sent id old) × (new ≡ old)
+SendsBy (Some e) id bytes old new answer = SendsOn (may_send_of e.value.end) e bytes old new answer
+
+-- What send answers and leaves, in the order of its checks.
+abbrev pub Sends : ℕ → List ℕ → DriverState → DriverState → Sent → Type 0
+Sends id bytes old new answer = SendsBy (entry_known_as id old) id bytes old new answer

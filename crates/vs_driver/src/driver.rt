@@ -19,7 +19,7 @@ pub struct Driver {
 }
 
 impl Model for Driver {
-    ghost use Rattle.std.specs.Prelude.{◌≡◌};
+    ghost use Rattle.std.specs.Prelude.{◌≡◌, ◌≤◌};
     ghost use Rattle.vs_driver_parts.specs.declared.limits.TheConstants.{REPLIES};
     ghost use Rattle.vs_driver_parts.specs.State.{DriverState};
 
@@ -41,5 +41,5 @@ impl Model for Driver {
       staged = d.pages.staged;
     } };
 
-    ghost invariant = { λ d. d.replies.capacity ≡ REPLIES };
+    ghost invariant = { λ d. (d.replies.capacity ≡ REPLIES) × (d.pages.in_flight ≤ d.pages.size) };
 }

@@ -20,7 +20,11 @@ use Rattle.std.proofs.Common.{is_some}
 use Rattle.vs_driver_parts.specs.State.{entry_known_as}
 use Rattle.vs_driver_parts.proofs.Known.{KnownAt, known_at, some_inj}
 use Rattle.vs_driver.proofs.Sending.{may_send_on, sent_on}
+use Rattle.vs_contents.proofs.Leads.{end_of}
+use Rattle.vs_driver_parts.specs.Conversations.{send_of}
 use Rattle.vs_driver_log.proofs.Calls.{send_honest, send_may}
+use Rattle.vs_driver.specs.Outcomes.{Sends}
+use Rattle.vs_driver.proofs.Ending.{send_ends}
 use Rattle.vs_driver.proofs.driver.Driver.send.Goals as goal
 
 pub send_in-requires-clause-may : goal.send_in-requires-clause-may
@@ -46,3 +50,10 @@ pub returns-in-Some-clause-honest : goal.returns-in-Some-clause-honest
 returns-in-Some-clause-honest g c = λ first honest.
     send_honest first c.args.id c.args.bytes.now c.args.self.now (g.R.DriverRing.contents c.args.ring.now) (g.R.DriverRing.contents c.send_in.new.ring)
     (c.send_in.new.self, c.send_in.result) honest (returns-in-Some-clause-calls g c)
+
+pub returns-in-Some-clause-outcome : goal.returns-in-Some-clause-outcome
+returns-in-Some-clause-outcome g c =
+    let s : DriverState = c.args.self.now in
+    let within : s.in_flight ≤ s.size = subst (λ (x : DriverState). x.in_flight ≤ x.size) c.self.view_is c.self.invariant.1 in
+    end_of (λ x. Sends c.args.id c.args.bytes.now s x.0 x.1) RingAllows (send_of c.args.id c.args.bytes.now s) (g.R.DriverRing.contents c.args.ring.now)
+    (g.R.DriverRing.contents c.send_in.new.ring) (c.send_in.new.self, c.send_in.result) (send_ends c.args.id c.args.bytes.now s within) (returns-in-Some-clause-calls g c)
