@@ -6,3 +6,4 @@ pub mod Taking
 pub mod Paying
 pub mod Posting
 pub mod Ending
+pub mod Kept

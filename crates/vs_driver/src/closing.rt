@@ -1,11 +1,13 @@
 //! Shutting a connection's directions and closing it (Virtio 1.2, section 5.10.6.5), and listening on a port no more.
 
-ghost use Rattle.std.specs.Prelude.{◌≡◌, ◌≤◌, true, Some, is_some, if◌then◌else◌, OnOk, OnErr, IsOk, ◌↔◌, IsTrue};
+ghost use Rattle.std.specs.Prelude.{◌≡◌, ℕ, ◌≤◌, true, Some, is_some, if◌then◌else◌, OnOk, OnErr, IsOk, ◌↔◌, IsTrue};
 ghost use Rattle.vs_flow.specs.Table.{entry_under};
 ghost use Rattle.vs_driver_parts.specs.declared.answers.Closed.TheVariants as closed;
 ghost use Rattle.vs_driver_parts.specs.State.{DriverEntry, entry_known_as, gone_known_as};
 ghost use Rattle.vs_driver_parts.specs.Listening.{listener_on};
 ghost use Rattle.vs_driver_parts.specs.Connections.{shutdown_of, after_shutdown, after_close, close_of, after_unlisten, shut_answer, shut_in, entry_closed, gone_closed};
+ghost use Rattle.vs_ring_port.specs.Contents.{RingContents};
+ghost use Rattle.vs_driver_log.specs.Honest.{IsHonestWith};
 
 use crate::driver::Driver;
 use vs_conn::State;
@@ -22,6 +24,7 @@ impl Driver {
         requires bits { (1 ≤ bits) × (bits ≤ 3) }
         ensures answer { result ≡ shutdown_of id self.old }
         ensures state { self.new ≡ after_shutdown id bits self.old }
+        ensures honest { (first : ℕ) (c : RingContents) → IsHonestWith first self.old c → IsHonestWith first self.new c }
     {
         match self.slots.known_as(id) {
             Some(slot) => self.shutdown_in(slot, bits),
@@ -54,6 +57,7 @@ impl Driver {
     pub fn close(&mut self, id: ConnId) -> Closed
         ensures answer { result ≡ close_of id self.old }
         ensures state { self.new ≡ after_close id self.old }
+        ensures honest { (first : ℕ) (c : RingContents) → IsHonestWith first self.old c → IsHonestWith first self.new c }
     {
         match self.slots.known_as(id) {
             Some(slot) => self.close_in(slot, id),
@@ -94,6 +98,7 @@ impl Driver {
         ensures answer { IsOk result ↔ IsTrue (is_some (listener_on port self.old.listeners)) }
         ensures state { OnOk result (self.new ≡ after_unlisten port self.old) }
         ensures unchanged { OnErr result (self.new ≡ self.old) }
+        ensures honest { (first : ℕ) (c : RingContents) → IsHonestWith first self.old c → IsHonestWith first self.new c }
     {
         if !self.listeners.is_listened(port) {
             return Err(NotListening);

@@ -1,12 +1,14 @@
 //! Reading what came in on a connection (Virtio 1.2, section 5.10.6.3).
 
-ghost use Rattle.std.specs.Prelude.{◌≡◌, ◌++◌, ◌==◌, ◌||◌, length, take, drop, Some, None, find, if◌then◌else◌};
+ghost use Rattle.std.specs.Prelude.{◌≡◌, ℕ, ◌++◌, ◌==◌, ◌||◌, length, take, drop, Some, None, find, if◌then◌else◌};
 ghost use Rattle.vs_conn.specs.End.{ConnectionEnd, view_of};
 ghost use Rattle.vs_conn.specs.Shut.{shut_of};
 ghost use Rattle.vs_flow.specs.Table.{entry_under};
 ghost use Rattle.vs_driver_parts.specs.declared.answers.Received.TheVariants as got;
 ghost use Rattle.vs_driver_parts.specs.State.{DriverEntry, GoneConnection, gone_known_as};
 ghost use Rattle.vs_driver_parts.specs.Connections.{recv_of, unread_of_id, after_recv, is_at_end, nothing_read, all_gone_after_read, gone_answer, entry_answer, entry_read, bytes_read};
+ghost use Rattle.vs_ring_port.specs.Contents.{RingContents};
+ghost use Rattle.vs_driver_log.specs.Honest.{IsHonestWith};
 
 use crate::driver::Driver;
 use vs_conn::{EndView, Shut, State};
@@ -24,6 +26,7 @@ impl Driver {
         ensures answer { result ≡ recv_of id (length out.old) self.old }
         ensures bytes { out.new ≡ bytes_read (unread_of_id id self.old) out.old }
         ensures state { self.new ≡ after_recv id (length out.old) self.old }
+        ensures honest { (first : ℕ) (c : RingContents) → IsHonestWith first self.old c → IsHonestWith first self.new c }
     {
         match self.slots.known_as(id) {
             Some(slot) => self.recv_in(slot, out),

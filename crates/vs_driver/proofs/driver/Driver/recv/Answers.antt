@@ -9,6 +9,8 @@ use Rattle.vs_driver.specs.contracts.driver.Driver.{the_view}
 use Rattle.vs_driver_parts.proofs.Ids.{value_of, has_slot}
 use Rattle.vs_driver_parts.proofs.Known.{IsMapped, mapped, unmapped, KnownAt, known_at, close_known, after_close_known, shutdown_known, after_shutdown_known, recv_known, unread_known, after_recv_known, flow_known, state_known, answered_known, recv_gone_none, recv_gone_some, flow_gone, after_recv_gone, unread_gone_none, unread_gone_some}
 use Rattle.vs_driver_parts.specs.Connections.{bytes_read}
+use Rattle.vs_driver_parts.specs.Connections.{after_recv}
+use Rattle.vs_driver.proofs.Kept.{recv_kept}
 use Rattle.vs_driver.proofs.driver.Driver.recv.Goals as goal
 
 pub returns-in-Some-clause-answer : goal.returns-in-Some-clause-answer
@@ -25,3 +27,12 @@ pub returns-in-Some-clause-state : goal.returns-in-Some-clause-state
 returns-in-Some-clause-state c =
     let k : KnownAt c.args.id c.in-Some.slot c.args.self.now = rw (← c.self.view_is) (known_at c.args.id c.in-Some.slot (the_view c.self.inside) c.in-Some.ensures.sound c.in-Some.ensures.slot) in
     c.recv_in.ensures.state k.entry k.found ∙ sym (after_recv_known c.args.id c.args.self.now k.entry k.known (length c.args.out.now))
+
+pub returns-in-Some-clause-honest : goal.returns-in-Some-clause-honest
+returns-in-Some-clause-honest c = λ first r honest. recv_kept first c.args.self.now _ r honest c.args.id (length c.args.out.now) (returns-in-Some-clause-state c)
+
+pub returns-in-None-clause-honest : goal.returns-in-None-clause-honest
+returns-in-None-clause-honest c = λ first r honest.
+    let t : DriverState = c.recv_gone.new.self in
+    let is : t ≡ after_recv c.args.id (length c.args.out.now) c.args.self.now = search rules in
+    recv_kept first c.args.self.now t r honest c.args.id (length c.args.out.now) is

@@ -10,6 +10,7 @@ use Rattle.vs_driver_parts.proofs.Ids.{value_of, has_slot}
 use Rattle.vs_driver_parts.proofs.Known.{IsMapped, mapped, unmapped, KnownAt, known_at, close_known, after_close_known, shutdown_known, after_shutdown_known, recv_known, unread_known, after_recv_known, flow_known, state_known, answered_known, recv_gone_none, recv_gone_some, flow_gone, after_recv_gone, unread_gone_none, unread_gone_some}
 use Rattle.vs_driver_parts.specs.Connections.{waiting_on, all_closed, after_close, without_listener}
 use Rattle.vs_driver.proofs.Reading.{closed_next, closed_ended}
+use Rattle.vs_driver.proofs.Kept.{unlisten_kept}
 use Rattle.vs_driver.proofs.driver.Driver.unlisten.Goals as goal
 
 pub loop-id-preserved : goal.loop-id-preserved
@@ -38,3 +39,6 @@ returns-clause-state c =
     sym (closed_ended (waiting_on c.args.port c.args.self.now) i c.loop-id.self (rw (← is) ends)) ∙ c.loop-id.invariant in
     ap (λ (l : List Listener). the_view (record d { listeners = l })) c.unlisten.ensures
     ∙ ap (λ (x : DriverState). record x { listeners = without_listener c.args.port x.listeners }) (c.self-2.view_is ∙ all)
+
+pub returns-clause-honest : goal.returns-clause-honest
+returns-clause-honest c = λ first r honest. unlisten_kept first c.args.self.now _ r honest c.args.port (returns-clause-state c)
