@@ -4,5 +4,6 @@
 
 pub mod answers;
 pub mod limits;
+mod round;
 
 pub use answers::{Counters, Filled, Taken};
