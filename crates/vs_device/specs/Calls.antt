@@ -4,7 +4,7 @@ use Rattle.vs_contents.specs.CallTree.{CallTree}
 use Rattle.vs_contents.specs.Contents.{Exposes}
 use Rattle.vs_flow.specs.declared.flow.Flow.{Flow}
 use Rattle.vs_outside.specs.Faults.{CountsFault}
-use Rattle.vs_outside.specs.Host.{HostContents, accept_answer, after_accept, IsDialed, after_dial, after_label, after_read, IsWritten, after_write, after_shut_write, after_close, accept_failed, dial_failed, read_failed, write_failed, read_answer, next_bytes}
+use Rattle.vs_outside.specs.Host.{HostContents, accept_answer, after_accept, IsDialed, after_dial, after_label, IsRead, after_read, IsWritten, after_write, after_shut_write, after_close, accept_failed, dial_failed, read_failed, write_failed, read_answer, next_bytes}
 use Rattle.vs_outside.specs.declared.host_net.Accepted.{Accepted}
 use Rattle.vs_outside.specs.declared.host_net.Dialed.{Dialed}
 use Rattle.vs_outside.specs.declared.host_net.StreamRead.{StreamRead}

@@ -23,12 +23,12 @@ use Rattle.vs_ring_port.specs.declared.device_ring.Next.{Next}
 use Rattle.vs_ring_port.specs.declared.device_ring.Next.TheVariants as next
 use Rattle.vs_ring_port.specs.declared.failure.Failure.{Failure}
 use Rattle.vs_ring_port.specs.declared.queue.Queue.TheVariants.{Rx, Event}
-use Rattle.vs_ring_port.specs.Contents.{Take, Write, Return}
+use Rattle.vs_ring_port.specs.Contents.{Take, Write, Return, PublishCid}
 use Rattle.vs_device.specs.declared.answers.Filled.{Filled}
 use Rattle.vs_conn.specs.declared.end.TheConstants.{OWED_MAX}
-use Rattle.vs_device.specs.Calls.{DeviceTree, Ring, ReadStream}
+use Rattle.vs_device.specs.Calls.{DeviceTree, Ring, ReadStream, CloseStream}
 use Rattle.vs_device.specs.Connections.{with_connection, with_fault, route_to_guest, cut_off, after_shut}
-use Rattle.vs_device.specs.State.{DeviceState, DeviceEntry}
+use Rattle.vs_device.specs.State.{DeviceConnection, DeviceState, DeviceEntry}
 use Rattle.vs_device.specs.Streams.{closing, leaving}
 use Rattle.vs_device.specs.Transmitting.{failing}
 

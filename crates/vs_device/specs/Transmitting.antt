@@ -1,10 +1,10 @@
 -- Packets that the device takes from the guest.
-use Rattle.std.specs.Prelude.{◌-◌, ◌==◌, ◌&&◌, ◌||◌, not, nat_lt, nat_le, if◌then◌else◌, [], ◌++◌, length, Some, None}
+use Rattle.std.specs.Prelude.{ℕ, ◌+◌, ◌-◌, ◌==◌, ◌&&◌, ◌||◌, not, nat_lt, nat_le, Bool, true, false, if◌then◌else◌, List, [], ◌∷◌, ◌++◌, length, Option, Some, None}
 use Rattle.vs_contents.specs.CallTree.{Done, Ask, bind}
 use Rattle.vs_header.specs.Op.{op_number}
 use Rattle.vs_header.specs.Packet.{header_of}
 use Rattle.vs_header.specs.declared.Header.{Header}
-use Rattle.vs_header.specs.declared.Op.TheVariants.{Request}
+use Rattle.vs_header.specs.declared.Op.TheVariants.{Request, Rst}
 use Rattle.vs_header.specs.declared.TheConstants.{HEADER_LEN}
 use Rattle.vs_conn.specs.End.{verdict_of, end_after, is_stream, is_reset}
 use Rattle.vs_conn.specs.declared.end.Verdict.{Verdict}
@@ -13,6 +13,7 @@ use Rattle.vs_conn.specs.declared.end.Why.{Why}
 use Rattle.vs_conn.specs.declared.end.Why.TheVariants as why
 use Rattle.vs_flow.specs.Flow.{is_assigned}
 use Rattle.vs_flow.specs.Table.{entry_of, has_place}
+use Rattle.vs_flow.specs.declared.flow.Flow.{Flow}
 use Rattle.vs_outside.specs.declared.host_net.Dialed.{Dialed}
 use Rattle.vs_outside.specs.declared.host_net.Dialed.TheVariants as dialed
 use Rattle.vs_page.specs.Log.{flow_to_host, Device}

@@ -1,5 +1,5 @@
 -- Reset and opening.
-use Rattle.std.specs.Prelude.{ℕ, true, false, List, [], Some, None, Result, Ok, Err, map}
+use Rattle.std.specs.Prelude.{ℕ, Bool, true, false, List, [], ◌∷◌, Option, Some, None, Result, Ok, Err, map}
 use Rattle.vs_contents.specs.CallTree.{Done, Ask, bind, for_each}
 use Rattle.vs_flow.specs.Table.{entry_under, slots, emptied, refusal}
 use Rattle.vs_flow.specs.declared.flow.Flow.{Flow}
@@ -8,9 +8,9 @@ use Rattle.vs_conn.specs.declared.end.State.{State}
 use Rattle.vs_ring_port.specs.declared.failure.Failure.{Failure}
 use Rattle.vs_ring_port.specs.Contents.{PublishCid}
 use Rattle.vs_device.specs.declared.answers.Counters.{Counters}
-use Rattle.vs_device.specs.Calls.{DeviceTree, Ring, Label}
+use Rattle.vs_device.specs.Calls.{DeviceTree, Ring, Label, CloseStream}
 use Rattle.vs_device.specs.Connections.{with_client, stream_closed}
-use Rattle.vs_device.specs.State.{DeviceState}
+use Rattle.vs_device.specs.State.{DeviceState, DeviceEntry}
 use Rattle.vs_device.specs.Streams.{closing}
 use Rattle.vs_device.specs.declared.limits.TheConstants.{CONNECTIONS}
 
