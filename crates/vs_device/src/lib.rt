@@ -3,6 +3,11 @@
 #![tactic(auto)]
 
 pub mod answers;
+mod connection;
+mod device;
+mod host_calls;
 pub mod limits;
+mod slots;
 
 pub use answers::{Counters, Filled, Taken};
+pub use device::Device;
