@@ -3,7 +3,14 @@
 #![tactic(auto)]
 
 pub mod answers;
+mod connection;
+mod device;
+mod host_calls;
 pub mod limits;
+mod packets;
+mod receive;
 mod round;
+mod slots;
 
 pub use answers::{Counters, Filled, Taken};
+pub use device::Device;

@@ -1,0 +1,24 @@
+-- Packets that are put on the receive queue, step by step.
+use Rattle.std.specs.Prelude.{ℕ, Bool, true, false, List, [], take, Option, Some, None}
+use Rattle.vs_contents.specs.CallTree.{Done, bind}
+use Rattle.vs_header.specs.declared.Header.{Header}
+use Rattle.vs_outside.specs.declared.host_net.StreamRead.{StreamRead}
+use Rattle.vs_outside.specs.declared.host_net.StreamRead.TheVariants as read
+use Rattle.vs_device.specs.declared.receive.Fill.{Fill}
+use Rattle.vs_device.specs.Calls.{DeviceTree}
+use Rattle.vs_device.specs.Receiving.{Filling, hold, put_on}
+use Rattle.vs_device.specs.State.{DeviceState}
+
+-- The device, and what was done so far.
+abbrev pub filling_of : DeviceState → Fill → Filling
+filling_of s fill = record { state = s; put = fill.put; read = fill.read; over = fill.over }
+
+-- A packet without payload is put where a chain is or becomes held. It tells whether it was put.
+abbrev pub put_header : Header → Filling → DeviceTree (Filling × Bool)
+put_header h r =
+    bind (hold r) (λ q. elim q.state.chain [ None ↦ Done (q, false) | Some chain ↦ bind (put_on chain h [] q) (λ p. Done (p, true)) ])
+
+-- The bytes that a read into a buffer gave.
+abbrev pub bytes_read : StreamRead → List ℕ → List ℕ
+bytes_read (read.Got n) out = take n out
+bytes_read _ out = []
