@@ -2,7 +2,7 @@
 use Rattle.std.proofs.Common.{◌≡◌, ℕ, ◌+◌, Bool, true, false, not, List, [], ◌∷◌, length, drop, Option, Some, None, refl, sym, ap, subst, ◌∙◌}
 use Rattle.std.specs.List.{slice_get}
 use Rattle.vs_contents.specs.CallTree.{Done, Ask, bind, Leads, MayPlay}
-use Rattle.vs_contents.proofs.Leads.{leads_of, leads_bind}
+use Rattle.vs_contents.proofs.Leads.{leads_of, leads_to, leads_bind}
 use Rattle.vs_contents.proofs.Conditions.{may_first, may_rest, may_of}
 use Rattle.vs_header.specs.declared.Header.{Header}
 use Rattle.vs_replies.specs.declared.Reply.{Reply}
@@ -15,7 +15,7 @@ use Rattle.vs_device.specs.Calls.{DeviceTree, Situation, Allows}
 use Rattle.vs_device.specs.Connections.{route_to_guest}
 use Rattle.vs_device.specs.Filling.{put_header}
 use Rattle.vs_device.specs.Playing.{CanMake, MayRun, Runs}
-use Rattle.vs_device.specs.Receiving.{Filling, hold, put_on, put_packet, reply_header, put_reply, put_reply_of, put_owed, after_paying}
+use Rattle.vs_device.specs.Receiving.{Filling, hold, written, put_on, put_packet, reply_header, put_reply, put_reply_of, put_owed, after_paying}
 use Rattle.vs_device.specs.State.{DeviceState, DeviceEntry}
 use Rattle.vs_device.proofs.Trees.{bind_same, bind_assoc}
 
@@ -44,6 +44,37 @@ packet_opened : (h : Header) (f : DeviceState → DeviceTree DeviceState) (o : O
     → (elim o [ None ↦ Done q | Some chain ↦ bind (put_on chain h [] q) (λ p. bind (f p.state) (λ s. Done (record p { state = s }))) ]) ≡ packet_on h f o q
 packet_opened h f None q = refl
 packet_opened h f (Some chain) q = refl
+
+header_is : (h : Header) (r : Filling) → put_header h r ≡ bind (hold r) (λ q. header_on h q.state.chain q)
+header_is h r = bind_same (hold r) _ _ (λ (q : Filling). header_opened h q.state.chain q)
+
+-- a packet without payload is put into the chain that is held then, or waits for one
+abbrev pub after_put : Filling → Filling
+after_put q = record q { state = record q.state { chain = None }; put = q.put + 1 }
+
+module _ (h : Header) (r q : Filling) (c m : Situation) (holds : Runs (hold r) c q m) where
+  pub header_put : (chain : Chain) (t : Situation) → q.state.chain ≡ Some chain → Runs (written chain h []) m tt t → Runs (put_header h r) c (after_put q, true) t
+  header_put chain t is writes =
+      let next : Filling → DeviceTree (Filling × Bool) = λ x. header_on h x.state.chain x in
+      let last : Filling → DeviceTree (Filling × Bool) = λ p. Done (p, true) in
+      let put : Runs (put_on chain h [] q) m (after_put q) t = leads_bind Allows (written chain h []) (λ _. Done (after_put q)) m t t tt (after_put q) writes (refl, refl) in
+      let P : Option Chain → Type 0 = λ o. Runs (header_on h o q) m (after_put q, true) t in
+      let rest : Runs (next q) m (after_put q, true) t = subst P (sym is) (leads_bind Allows (put_on chain h [] q) last m t t (after_put q) (after_put q, true) put (refl, refl)) in
+      leads_of Allows _ _ c t (after_put q, true) (header_is h r) (leads_bind Allows (hold r) next c m t q (after_put q, true) holds rest)
+
+  pub header_waits : q.state.chain ≡ None → Runs (put_header h r) c (q, false) m
+  header_waits is =
+      let next : Filling → DeviceTree (Filling × Bool) = λ x. header_on h x.state.chain x in
+      let P : Option Chain → Type 0 = λ o. Runs (header_on h o q) m (q, false) m in
+      leads_of Allows _ _ c m (q, false) (header_is h r) (leads_bind Allows (hold r) next c m m q (q, false) holds (subst P (sym is) (refl, refl)))
+
+  pub may_write : (chain : Chain) → q.state.chain ≡ Some chain → MayRun (put_header h r) c → MayRun (written chain h []) m
+  may_write chain is may =
+      let next : Filling → DeviceTree (Filling × Bool) = λ x. header_on h x.state.chain x in
+      let last : Filling → DeviceTree (Filling × Bool) = λ p. Done (p, true) in
+      let P : Option Chain → Type 0 = λ o. MayRun (header_on h o q) m in
+      let rest : MayRun (header_on h (Some chain) q) m = subst P is (may_rest CanMake Allows (hold r) next c m q (may_of CanMake Allows _ _ c (header_is h r) may) holds) in
+      may_first CanMake Allows (written chain h []) (λ _. Done (after_put q)) m (may_first CanMake Allows (put_on chain h [] q) last m rest)
 
 packet_is : (h : Header) (f : DeviceState → DeviceTree DeviceState) (r : Filling) → put_packet h f r ≡ bind (put_header h r) (finish f)
 packet_is h f r =

@@ -1,4 +1,19 @@
-//! The last stage of a turn: packets are put on the receive queue.
+//! The last stage of a turn: packets are put on the receive queue, what is owed to unknown flows first, and then, connection by connection,
+//! what is read of the host's streams and what each owes (Virtio 1.2, sections 5.10.6.1 to 5.10.6.5).
+
+ghost use Rattle.std.specs.Prelude.{◌≡◌, ◌≤◌, ◌<◌, ◌+◌, ◌^◌, not, length, false, true, Some, None, is_some, IfSome};
+ghost use Rattle.vs_conn.specs.Headers.{reset_header};
+ghost use Rattle.vs_device.specs.Connections.{route_to_guest};
+ghost use Rattle.vs_device.specs.Filling.{filling_of, put_header};
+ghost use Rattle.vs_device.specs.Playing.{IsRingOf, MayRunOnRing, RunsOnRing};
+ghost use Rattle.vs_device.specs.Receiving.{hold, put_reply, reply_header};
+
+use crate::device::Device;
+use crate::packets::write_packet;
+use vs_header::{Header, Kind, Op};
+use vs_page::HOST_CID;
+use vs_replies::Reply;
+use vs_ring_port::{DeviceRing, Next, Queue};
 
 /// What a call of `fill_rx` did so far.
 #[derive(Clone, Copy, Debug, PartialEq, Eq)]
@@ -9,4 +24,92 @@ pub(crate) struct Fill {
     pub(crate) read: u32,
     /// No chain is there for the next packet, or the ring failed.
     pub(crate) over: bool,
+}
+
+impl Device {
+    // Puts the oldest owed reply, if there is one and a chain for it.
+    fn put_reply<R: DeviceRing>(&mut self, ring: &mut R, fill: &mut Fill) -> bool
+        requires ring { IsRingOf (R.held ring.old) self.old }
+        requires going { fill.old.over ≡ false }
+        requires few { fill.old.put < 2 ^ 16 }
+        requires may { MayRunOnRing (put_reply (filling_of self.old fill.old)) (R.contents ring.old) }
+        ensures ring { IsRingOf (R.held ring.new) self.new }
+        ensures over { result ≡ true → fill.new.over ≡ false }
+        ensures count { fill.new.put ≤ fill.old.put + 1 }
+        ensures read { fill.new.read ≡ fill.old.read }
+        ensures calls { RunsOnRing (put_reply (filling_of self.old fill.old)) (R.contents ring.old) (filling_of self.new fill.new, result) (R.contents ring.new) }
+    {
+        let Some(reply) = self.replies.front() else {
+            return false;
+        };
+        let header = reply_header(self.cid, reply);
+        if !self.put_header(ring, &header, fill) {
+            return false;
+        }
+        self.replies.paid();
+        true
+    }
+
+    // Puts a packet without payload where a chain is or becomes held, and tells whether it did.
+    fn put_header<R: DeviceRing>(&mut self, ring: &mut R, header: &Header, fill: &mut Fill) -> bool
+        requires ring { IsRingOf (R.held ring.old) self.old }
+        requires going { fill.old.over ≡ false }
+        requires few { fill.old.put < 2 ^ 16 }
+        requires may { MayRunOnRing (put_header header.now (filling_of self.old fill.old)) (R.contents ring.old) }
+        ensures ring { IsRingOf (R.held ring.new) self.new }
+        ensures over { fill.new.over ≡ not result }
+        ensures count { fill.new.put ≤ fill.old.put + 1 }
+        ensures read { fill.new.read ≡ fill.old.read }
+        ensures others { self.new ≡ record self.old { chain = self.new.chain; failed = self.new.failed } }
+        ensures calls { RunsOnRing (put_header header.now (filling_of self.old fill.old)) (R.contents ring.old) (filling_of self.new fill.new, result) (R.contents ring.new) }
+    {
+        self.hold(ring, fill);
+        let Some(chain) = self.chain.take() else {
+            return false;
+        };
+        write_packet(ring, chain, header, &[]);
+        fill.put += 1;
+        true
+    }
+
+    // Holds a chain of the receive queue: the one that is held already, or the next one. Where there is none, the stage is over.
+    fn hold<R: DeviceRing>(&mut self, ring: &mut R, fill: &mut Fill)
+        requires ring { IsRingOf (R.held ring.old) self.old }
+        requires going { fill.old.over ≡ false }
+        ensures ring { IsRingOf (R.held ring.new) self.new }
+        ensures over { fill.new.over ≡ not (is_some self.new.chain) }
+        ensures others { self.new ≡ record self.old { chain = self.new.chain; failed = self.new.failed } }
+        ensures counts { fill.new ≡ record fill.old { over = fill.new.over } }
+        ensures calls { RunsOnRing (hold (filling_of self.old fill.old)) (R.contents ring.old) (filling_of self.new fill.new) (R.contents ring.new) }
+    {
+        if self.chain.is_some() {
+            return;
+        }
+        match ring.next(Queue::Rx) {
+            Next::Chain(chain) => self.chain = Some(chain),
+            Next::None => fill.over = true,
+            Next::Failed(failure) => {
+                self.failed = Some(failure);
+                fill.over = true;
+            }
+        }
+    }
+}
+
+// The header of an RST that is owed to an unknown flow.
+fn reply_header(cid: u64, reply: Reply) -> Header
+    ensures { result ≡ reset_header (route_to_guest cid (record { guest = reply.dst_port; host = reply.src_port })) }
+{
+    Header {
+        src_cid: HOST_CID,
+        dst_cid: cid,
+        src_port: reply.src_port,
+        dst_port: reply.dst_port,
+        len: 0,
+        kind: Kind::Stream.number(),
+        op: Op::Rst.number(),
+        flags: 0,
+        buf_alloc: 0,
+        fwd_cnt: 0,
+    }
 }
