@@ -1,8 +1,9 @@
 mod Copying
 mod SlotChanges
-pub mod Rounds
-pub mod Trees
-pub mod Putting
-pub mod Each
-pub mod Writes
-pub mod Held
+mod Leaving
+mod Each
+mod Rounds
+mod Trees
+mod Putting
+mod Writes
+mod Held

@@ -1,5 +1,5 @@
 -- How a device, its ring and its host belong together, and what it takes to make a call.
-use Rattle.std.specs.Prelude.{◌≡◌, ℕ, List, [], ◌∷◌, Option, Some, None}
+use Rattle.std.specs.Prelude.{◌≡◌, ℕ, false, List, [], ◌∷◌, Option, Some, None}
 use Rattle.std.specs.Option.{ForSome, IfSome}
 use Rattle.vs_contents.specs.CallTree.{Leads, MayPlay}
 use Rattle.vs_outside.specs.Host.{HostContents, IsOpen}
@@ -9,7 +9,7 @@ use Rattle.vs_ring_port.specs.Chains.{IsLongEnough}
 use Rattle.vs_ring_port.specs.Contents.{RingContents, Write, Return}
 use Rattle.vs_ring_port.specs.DeviceCalls.{LeavesNoGap, CanReturn}
 use Rattle.vs_device.specs.Calls.{Call, Answer, Ring, Label, ReadStream, WriteStream, ShutWrite, CloseStream, Situation, DeviceTree, Allows}
-use Rattle.vs_device.specs.State.{DeviceState}
+use Rattle.vs_device.specs.State.{DeviceConnection, DeviceState}
 
 abbrev pub situation : RingContents → Option HostContents → ℕ → Situation
 situation ring host faults = record { ring = ring; host = host; faults = faults }
@@ -63,3 +63,7 @@ IsRxChain chain = (chain.queue ≡ Rx) × IsLongEnough Rx chain
 pub record IsRingOf (held : List Chain) (s : DeviceState) : Type 0 where
   pub chains : held ≡ held_by s.chain
   pub rx : IfSome s.chain IsRxChain
+
+-- The stream of a connection may be closed, where it isn't yet.
+abbrev pub MayClose : DeviceConnection → Option HostContents → Type 0
+MayClose c host = c.closed ≡ false → ForSome host (IsOpen c.stream)

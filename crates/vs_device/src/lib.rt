@@ -3,6 +3,7 @@
 #![tactic(auto)]
 
 pub mod answers;
+mod closing;
 mod connection;
 mod device;
 mod host_calls;
