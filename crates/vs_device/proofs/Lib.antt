@@ -6,4 +6,5 @@ mod Rounds
 mod Trees
 mod Putting
 mod Writes
+mod Paying
 mod Held

@@ -1,19 +1,35 @@
 //! The last stage of a turn: packets are put on the receive queue, what is owed to unknown flows first, and then, connection by connection,
 //! what is read of the host's streams and what each owes (Virtio 1.2, sections 5.10.6.1 to 5.10.6.5).
 
-ghost use Rattle.std.specs.Prelude.{◌≡◌, ◌≤◌, ◌<◌, ◌+◌, ◌^◌, not, length, false, true, Some, None, is_some, IfSome};
+ghost use Rattle.std.specs.Prelude.{◌≡◌, ◌≤◌, ◌<◌, ◌+◌, ◌*◌, ◌^◌, not, length, false, true, Some, None, is_some, IfSome};
+ghost use Rattle.vs_conn.specs.End.{CanSend, owes_of};
 ghost use Rattle.vs_conn.specs.Headers.{reset_header};
+ghost use Rattle.vs_conn.specs.declared.end.Owed.TheVariants as owed;
+ghost use Rattle.vs_conn.specs.declared.end.TheConstants.{OWED_MAX};
+ghost use Rattle.vs_contents.specs.CallTree.{while_up_to};
+ghost use Rattle.vs_credit.specs.Credit.{free_of};
+ghost use Rattle.vs_flow.specs.Table.{entry_under, value_under};
+ghost use Rattle.vs_header.specs.declared.TheConstants.{HEADER_LEN};
+ghost use Rattle.vs_page.specs.declared.page.TheConstants.{PAYLOAD_MAX};
+ghost use Rattle.vs_ring_port.specs.declared.device_ring.Chain.{Chain};
 ghost use Rattle.vs_device.specs.Connections.{route_to_guest};
-ghost use Rattle.vs_device.specs.Filling.{filling_of, put_header};
-ghost use Rattle.vs_device.specs.Playing.{IsRingOf, MayRunOnRing, RunsOnRing};
-ghost use Rattle.vs_device.specs.Receiving.{hold, put_reply, reply_header};
+ghost use Rattle.vs_device.specs.Filling.{filling_of, is_rst, put_header, read_slot};
+ghost use Rattle.vs_device.specs.Playing.{IsRingOf, MayRun, MayRunOnHost, MayRunOnRing, Runs, RunsOnHost, RunsOnRing, situation};
+ghost use Rattle.vs_device.specs.Receiving.{after_paying, fill_rx_of, hold, may_read, put_owed, put_payload, put_reply, read_room, read_with_chain, serve_slot};
+ghost use Rattle.vs_device.specs.State.{DeviceEntry};
+ghost use Rattle.vs_device.specs.declared.limits.TheConstants.{REPLIES};
 
+use crate::answers::Filled;
 use crate::device::Device;
-use crate::packets::write_packet;
-use vs_header::{Header, Kind, Op};
-use vs_page::HOST_CID;
+use crate::packets::{read_into, write_packet};
+use crate::round::round_from;
+use vs_conn::{OWED_MAX, Owed};
+use vs_flow::Slot;
+use vs_header::{HEADER_LEN, Header, Kind, Op};
+use vs_outside::{HostNet, StreamRead};
+use vs_page::{HOST_CID, PAYLOAD_MAX};
 use vs_replies::Reply;
-use vs_ring_port::{DeviceRing, Next, Queue};
+use vs_ring_port::{DeviceRing, Failure, Next, Queue};
 
 /// What a call of `fill_rx` did so far.
 #[derive(Clone, Copy, Debug, PartialEq, Eq)]
@@ -48,6 +64,73 @@ impl Device {
         }
         self.replies.paid();
         true
+    }
+
+    // Puts what the connection in a slot owes, while chains are there.
+    fn put_all_owed<R: DeviceRing, H: HostNet>(
+        &mut self,
+        ring: &mut R,
+        host: &mut H,
+        slot: Slot,
+        fill: &mut Fill,
+    )
+        requires ring { IsRingOf (R.held ring.old) self.old }
+        requires going { fill.old.over ≡ false }
+        requires few { fill.old.put < 2 ^ 15 }
+        requires may { MayRun (while_up_to OWED_MAX (put_owed slot) (filling_of self.old fill.old)) (situation (R.contents ring.old) (H.contents host.old) (H.faults host.old)) }
+        ensures ring { IsRingOf (R.held ring.new) self.new }
+        ensures count { fill.new.put ≤ fill.old.put + OWED_MAX }
+        ensures read { fill.new.read ≡ fill.old.read }
+        ensures calls { Runs (while_up_to OWED_MAX (put_owed slot) (filling_of self.old fill.old)) (situation (R.contents ring.old) (H.contents host.old) (H.faults host.old)) (filling_of self.new fill.new) (situation (R.contents ring.new) (H.contents host.new) (H.faults host.new)) }
+    {
+        for _ in 0..OWED_MAX {
+            if !self.put_owed(ring, host, slot, fill) {
+                return;
+            }
+        }
+    }
+
+    // Puts the packet that the connection in a slot owes, if it owes one and a chain is there.
+    fn put_owed<R: DeviceRing, H: HostNet>(
+        &mut self,
+        ring: &mut R,
+        host: &mut H,
+        slot: Slot,
+        fill: &mut Fill,
+    ) -> bool
+        requires ring { IsRingOf (R.held ring.old) self.old }
+        requires going { fill.old.over ≡ false }
+        requires few { fill.old.put < 2 ^ 16 }
+        requires may { MayRun (put_owed slot (filling_of self.old fill.old)) (situation (R.contents ring.old) (H.contents host.old) (H.faults host.old)) }
+        ensures ring { IsRingOf (R.held ring.new) self.new }
+        ensures over { result ≡ true → fill.new.over ≡ false }
+        ensures count { fill.new.put ≤ fill.old.put + 1 }
+        ensures read { fill.new.read ≡ fill.old.read }
+        ensures calls { Runs (put_owed slot (filling_of self.old fill.old)) (situation (R.contents ring.old) (H.contents host.old) (H.faults host.old)) (filling_of self.new fill.new, result) (situation (R.contents ring.new) (H.contents host.new) (H.faults host.new)) }
+    {
+        let Some((what, header)) = self.slots.owed(slot, self.cid) else {
+            return false;
+        };
+        if !self.put_header(ring, &header, fill) {
+            return false;
+        }
+        self.count_paid(host, slot, what);
+        true
+    }
+
+    // Counts what the connection in a slot owed as put. With its RST it leaves the table.
+    fn count_paid<H: HostNet>(&mut self, host: &mut H, slot: Slot, what: Owed)
+        requires owed { (e : DeviceEntry) → entry_under self.old.table slot ≡ Some e → owes_of e.value.end ≡ Some what }
+        requires may { (e : DeviceEntry) → entry_under self.old.table slot ≡ Some e → MayRunOnHost (after_paying what e self.old) (H.contents host.old) (H.faults host.old) }
+        ensures chain { self.new.chain ≡ self.old.chain }
+        ensures calls { (e : DeviceEntry) → entry_under self.old.table slot ≡ Some e → RunsOnHost (after_paying what e self.old) (H.contents host.old) (H.faults host.old) self.new (H.contents host.new) (H.faults host.new) }
+    {
+        self.last_put = Some(slot);
+        if is_rst(what) {
+            self.leave(host, slot);
+        } else {
+            self.slots.paid(slot, what, self.moment);
+        }
     }
 
     // Puts a packet without payload where a chain is or becomes held, and tells whether it did.
@@ -94,6 +177,13 @@ impl Device {
             }
         }
     }
+}
+
+// Whether a packet that is owed is RST.
+fn is_rst(what: Owed) -> bool
+    ensures { result ≡ is_rst what }
+{
+    matches!(what, Owed::Rst)
 }
 
 // The header of an RST that is owed to an unknown flow.
