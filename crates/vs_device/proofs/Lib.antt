@@ -1,10 +1,12 @@
 mod Copying
 mod SlotChanges
 mod Leaving
+mod Under
 mod Each
 mod Rounds
 mod Trees
 mod Putting
 mod Writes
 mod Paying
+mod Reading
 mod Held

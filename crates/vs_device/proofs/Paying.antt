@@ -1,6 +1,6 @@
 -- What a packet comes to that a connection owed and that was put.
 use Rattle.std.proofs.Common.{◌≡◌, ℕ, Bool, true, false, Option, Some, None, refl, sym, ap, subst, ◌∙◌}
-use Rattle.std.specs.Option.{IsSomeAnd}
+use Rattle.std.specs.Option.{IsSomeAnd, option_map}
 use Rattle.vs_conn.specs.declared.end.Owed.{Owed}
 use Rattle.vs_conn.specs.declared.end.Owed.TheVariants as owed
 use Rattle.vs_device.specs.Calls.{Situation}
@@ -43,3 +43,7 @@ pub record HoldsOf {X : Type 0} (o : Option X) (P : X → Type 0) : Type 0 where
 pub some_and : {X : Type 0} (o : Option X) (P : X → Type 0) → IsSomeAnd o P → HoldsOf o P
 some_and (Some x) P h = record { one = x; is = refl; holds = h }
 some_and None P h = absurd h
+
+pub mapped : {X Y : Type 0} (f : X → Y) (o : Option X) (y : Y) → Some y ≡ option_map f o → HoldsOf o (λ x. y ≡ f x)
+mapped f (Some x) y is = record { one = x; is = refl; holds = cc }
+mapped f None y is = absurd (cc)

@@ -13,9 +13,9 @@ ghost use Rattle.vs_header.specs.declared.TheConstants.{HEADER_LEN};
 ghost use Rattle.vs_page.specs.declared.page.TheConstants.{PAYLOAD_MAX};
 ghost use Rattle.vs_ring_port.specs.declared.device_ring.Chain.{Chain};
 ghost use Rattle.vs_device.specs.Connections.{route_to_guest};
-ghost use Rattle.vs_device.specs.Filling.{filling_of, is_rst, put_header, read_slot};
+ghost use Rattle.vs_device.specs.Filling.{filling_of, is_rst, put_header, read_slot, serve_all};
 ghost use Rattle.vs_device.specs.Playing.{IsRingOf, MayRun, MayRunOnHost, MayRunOnRing, Runs, RunsOnHost, RunsOnRing, situation};
-ghost use Rattle.vs_device.specs.Receiving.{after_paying, fill_rx_of, hold, may_read, put_owed, put_payload, put_reply, read_room, read_with_chain, serve_slot};
+ghost use Rattle.vs_device.specs.Receiving.{after_paying, fill_rx_of, filled_of, hold, may_read, put_owed, put_payload, put_reply, read_room, read_with_chain, serve_slot};
 ghost use Rattle.vs_device.specs.State.{DeviceEntry};
 ghost use Rattle.vs_device.specs.declared.limits.TheConstants.{REPLIES};
 
@@ -43,6 +43,214 @@ pub(crate) struct Fill {
 }
 
 impl Device {
+    /// Puts packets on the receive queue while chains are there: owed RSTs to unknown flows, oldest first, and then, from the slot after the one
+    /// that last put a packet on, what is read of each connection's stream and what it owes. A stream is read only with a chain held and only
+    /// as far as the guest has credit for, the chain takes and one packet holds. At most one chain is held, also over calls.
+    ///
+    /// Answers how many packets were put and how many bytes were read, or the ring's failure: one of this call, or the one that is kept
+    /// of an earlier call (Virtio 1.2, sections 5.10.6.1 to 5.10.6.5).
+    pub fn fill_rx<R: DeviceRing, H: HostNet>(
+        &mut self,
+        ring: &mut R,
+        host: &mut H,
+    ) -> Result<Filled, Failure>
+        requires ring { IsRingOf (R.held ring.old) self.old }
+        requires may { MayRun (fill_rx_of self.old) (situation (R.contents ring.old) (H.contents host.old) (H.faults host.old)) }
+        ensures ring { IsRingOf (R.held ring.new) self.new }
+        ensures calls { Runs (fill_rx_of self.old) (situation (R.contents ring.old) (H.contents host.old) (H.faults host.old)) (self.new, result) (situation (R.contents ring.new) (H.contents host.new) (H.faults host.new)) }
+    {
+        if let Some(failure) = self.failed {
+            return Err(failure);
+        }
+        let mut fill = Fill {
+            put: 0,
+            read: 0,
+            over: false,
+        };
+        self.put_replies(ring, &mut fill);
+        if !fill.over {
+            self.serve(ring, host, &mut fill);
+        }
+        self.filled(fill)
+    }
+
+    // What the call answers.
+    fn filled(&self, fill: Fill) -> Result<Filled, Failure>
+        ensures { (self.now, result) ≡ filled_of (filling_of self.now fill) }
+    {
+        match self.failed {
+            Some(failure) => Err(failure),
+            None => Ok(Filled {
+                put: fill.put,
+                read: fill.read,
+            }),
+        }
+    }
+
+    // Serves all connections, those after the slot that last put a packet first.
+    fn serve<R: DeviceRing, H: HostNet>(&mut self, ring: &mut R, host: &mut H, fill: &mut Fill)
+        requires ring { IsRingOf (R.held ring.old) self.old }
+        requires few { fill.old.put ≤ REPLIES }
+        requires none { fill.old.read ≡ 0 }
+        requires may { MayRun (serve_all (filling_of self.old fill.old)) (situation (R.contents ring.old) (H.contents host.old) (H.faults host.old)) }
+        ensures ring { IsRingOf (R.held ring.new) self.new }
+        ensures calls { Runs (serve_all (filling_of self.old fill.old)) (situation (R.contents ring.old) (H.contents host.old) (H.faults host.old)) (filling_of self.new fill.new) (situation (R.contents ring.new) (H.contents host.new) (H.faults host.new)) }
+    {
+        let slots = self.slots.all();
+        let round = round_from(self.last_put, slots.as_slice());
+        for slot in round.as_slice() {
+            self.serve_slot(ring, host, *slot, fill);
+        }
+    }
+
+    // Serves the connection in a slot: its stream is read, and what it owes is put.
+    fn serve_slot<R: DeviceRing, H: HostNet>(
+        &mut self,
+        ring: &mut R,
+        host: &mut H,
+        slot: Slot,
+        fill: &mut Fill,
+    )
+        requires ring { IsRingOf (R.held ring.old) self.old }
+        requires few { fill.old.put < 2 ^ 14 }
+        requires few_read { fill.old.read < 2 ^ 20 }
+        requires may { MayRun (serve_slot slot (filling_of self.old fill.old)) (situation (R.contents ring.old) (H.contents host.old) (H.faults host.old)) }
+        ensures ring { IsRingOf (R.held ring.new) self.new }
+        ensures count { fill.new.put ≤ fill.old.put + (OWED_MAX + 1) }
+        ensures read { fill.new.read ≤ fill.old.read + PAYLOAD_MAX }
+        ensures calls { Runs (serve_slot slot (filling_of self.old fill.old)) (situation (R.contents ring.old) (H.contents host.old) (H.faults host.old)) (filling_of self.new fill.new) (situation (R.contents ring.new) (H.contents host.new) (H.faults host.new)) }
+    {
+        if fill.over {
+            return;
+        }
+        self.read_slot(ring, host, slot, fill);
+        if !fill.over {
+            self.put_all_owed(ring, host, slot, fill);
+        }
+    }
+
+    // Reads the stream of the connection in a slot, where it may send. Without credit it wants some.
+    fn read_slot<R: DeviceRing, H: HostNet>(
+        &mut self,
+        ring: &mut R,
+        host: &mut H,
+        slot: Slot,
+        fill: &mut Fill,
+    )
+        requires ring { IsRingOf (R.held ring.old) self.old }
+        requires going { fill.old.over ≡ false }
+        requires few { fill.old.put < 2 ^ 14 }
+        requires few_read { fill.old.read < 2 ^ 20 }
+        requires may { MayRun (read_slot slot (filling_of self.old fill.old)) (situation (R.contents ring.old) (H.contents host.old) (H.faults host.old)) }
+        ensures ring { IsRingOf (R.held ring.new) self.new }
+        ensures count { fill.new.put ≤ fill.old.put + 1 }
+        ensures read { fill.new.read ≤ fill.old.read + PAYLOAD_MAX }
+        ensures calls { Runs (read_slot slot (filling_of self.old fill.old)) (situation (R.contents ring.old) (H.contents host.old) (H.faults host.old)) (filling_of self.new fill.new) (situation (R.contents ring.new) (H.contents host.new) (H.faults host.new)) }
+    {
+        let Some(connection) = self.slots.connection(slot) else {
+            return;
+        };
+        if !connection.may_read() {
+            return;
+        }
+        if connection.free() == 0 {
+            self.slots.want_credit(slot);
+            return;
+        }
+        self.hold(ring, fill);
+        self.read_with_chain(ring, host, slot, fill);
+    }
+
+    // Reads the stream of the connection in a slot, which has credit, into the chain that is held, where one is.
+    fn read_with_chain<R: DeviceRing, H: HostNet>(
+        &mut self,
+        ring: &mut R,
+        host: &mut H,
+        slot: Slot,
+        fill: &mut Fill,
+    )
+        requires ring { IsRingOf (R.held ring.old) self.old }
+        requires few { fill.old.put < 2 ^ 14 }
+        requires few_read { fill.old.read < 2 ^ 20 }
+        requires reads { IfSome (value_under self.old.table slot) (λ c. may_read c.end c.end.state ≡ true) }
+        requires credit { IfSome (value_under self.old.table slot) (λ c. 0 < free_of c.end.credit) }
+        requires may { (e : DeviceEntry) → entry_under self.old.table slot ≡ Some e → MayRun (read_with_chain e (filling_of self.old fill.old)) (situation (R.contents ring.old) (H.contents host.old) (H.faults host.old)) }
+        ensures ring { IsRingOf (R.held ring.new) self.new }
+        ensures count { fill.new.put ≤ fill.old.put + 1 }
+        ensures read { fill.new.read ≤ fill.old.read + PAYLOAD_MAX }
+        ensures calls { (e : DeviceEntry) → entry_under self.old.table slot ≡ Some e → Runs (read_with_chain e (filling_of self.old fill.old)) (situation (R.contents ring.old) (H.contents host.old) (H.faults host.old)) (filling_of self.new fill.new) (situation (R.contents ring.new) (H.contents host.new) (H.faults host.new)) }
+    {
+        let Some(chain) = &self.chain else {
+            return;
+        };
+        let Some(connection) = self.slots.connection(slot) else {
+            return;
+        };
+        let room = read_room(connection.free(), chain.writable);
+        let mut payload = [0; PAYLOAD_MAX];
+        match read_into(host, connection.stream(), &mut payload, room) {
+            StreamRead::Got(n) => self.put_payload(ring, slot, &payload[..n], fill),
+            StreamRead::Again => {}
+            StreamRead::End => self.slots.shut(slot, 2, self.moment),
+            StreamRead::Failed => {
+                self.faults = self.faults.saturating_add(1);
+                self.cut_off(host, slot);
+            }
+        }
+    }
+
+    // Puts payload of the connection in a slot into the chain that is held.
+    fn put_payload<R: DeviceRing>(
+        &mut self,
+        ring: &mut R,
+        slot: Slot,
+        payload: &[u8],
+        fill: &mut Fill,
+    )
+        requires ring { IsRingOf (R.held ring.old) self.old }
+        requires few { fill.old.put < 2 ^ 14 }
+        requires few_read { fill.old.read < 2 ^ 20 }
+        requires most { length payload.now ≤ PAYLOAD_MAX }
+        requires room { IfSome self.old.chain (λ chain. HEADER_LEN + length payload.now ≤ chain.writable) }
+        requires credit { IfSome (value_under self.old.table slot) (λ c. CanSend c.end (length payload.now)) }
+        requires may { (e : DeviceEntry) (chain : Chain) → entry_under self.old.table slot ≡ Some e → self.old.chain ≡ Some chain → MayRunOnRing (put_payload chain e payload.now (filling_of self.old fill.old)) (R.contents ring.old) }
+        ensures ring { IsRingOf (R.held ring.new) self.new }
+        ensures count { fill.new.put ≤ fill.old.put + 1 }
+        ensures read { fill.new.read ≤ fill.old.read + PAYLOAD_MAX }
+        ensures calls { (e : DeviceEntry) (chain : Chain) → entry_under self.old.table slot ≡ Some e → self.old.chain ≡ Some chain → RunsOnRing (put_payload chain e payload.now (filling_of self.old fill.old)) (R.contents ring.old) (filling_of self.new fill.new) (R.contents ring.new) }
+    {
+        let len = payload.len() as u32;
+        let Some(header) = self.slots.payload_header(slot, self.cid, len) else {
+            return;
+        };
+        let Some(chain) = self.chain.take() else {
+            return;
+        };
+        write_packet(ring, chain, &header, payload);
+        self.slots.sent(slot, len);
+        self.last_put = Some(slot);
+        fill.put += 1;
+        fill.read += len;
+    }
+
+    // Puts owed replies, oldest first, while chains are there.
+    fn put_replies<R: DeviceRing>(&mut self, ring: &mut R, fill: &mut Fill)
+        requires ring { IsRingOf (R.held ring.old) self.old }
+        requires start { fill.old ≡ record { put = 0; read = 0; over = false } }
+        requires may { MayRunOnRing (while_up_to (length self.old.replies) put_reply (filling_of self.old fill.old)) (R.contents ring.old) }
+        ensures ring { IsRingOf (R.held ring.new) self.new }
+        ensures count { fill.new.put ≤ REPLIES }
+        ensures read { fill.new.read ≡ 0 }
+        ensures calls { RunsOnRing (while_up_to (length self.old.replies) put_reply (filling_of self.old fill.old)) (R.contents ring.old) (filling_of self.new fill.new) (R.contents ring.new) }
+    {
+        let most = self.replies.len();
+        for _ in 0..most {
+            if !self.put_reply(ring, fill) {
+                return;
+            }
+        }
+    }
+
     // Puts the oldest owed reply, if there is one and a chain for it.
     fn put_reply<R: DeviceRing>(&mut self, ring: &mut R, fill: &mut Fill) -> bool
         requires ring { IsRingOf (R.held ring.old) self.old }
@@ -177,6 +385,16 @@ impl Device {
             }
         }
     }
+}
+
+// How many bytes a connection with this credit may read into a chain with so many bytes to write.
+fn read_room(credit: u32, writable: u64) -> usize
+    requires { HEADER_LEN ≤ writable }
+    ensures room { (chain : Chain) → chain.writable ≡ writable → result ≡ read_room credit chain }
+    ensures most { result ≤ PAYLOAD_MAX }
+{
+    let held = writable - HEADER_LEN as u64;
+    u64::from(credit).min(held).min(PAYLOAD_MAX as u64) as usize
 }
 
 // Whether a packet that is owed is RST.
