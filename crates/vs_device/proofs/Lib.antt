@@ -1,3 +1,7 @@
+mod Under
 mod Copying
 mod SlotChanges
 mod Leaving
+mod Each
+mod Pumping
+mod Written

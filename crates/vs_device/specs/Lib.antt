@@ -10,3 +10,4 @@ pub mod Paid
 pub mod SlotFields
 pub mod Playing
 pub mod DeviceFields
+pub mod Written

@@ -9,6 +9,7 @@ mod device;
 mod host_calls;
 pub mod limits;
 mod slots;
+mod streams;
 
 pub use answers::{Counters, Filled, Taken};
 pub use device::Device;
