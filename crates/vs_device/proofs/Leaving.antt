@@ -18,13 +18,6 @@ use Rattle.vs_device.specs.Connections.{with_connection, stream_closed, after_le
 use Rattle.vs_device.specs.Playing.{CanMake, MayRun, MayRunOnHost, MayClose, Runs, RunsOnHost, AllowsOnHost, situation}
 use Rattle.vs_device.specs.Streams.{closing, leaving}
 
--- the entry under a slot
-pub has_slot : (t : Table DeviceConnection) (slot : ℕ) (e : DeviceEntry) → entry_under t slot ≡ Some e → e.slot ≡ slot
-has_slot t slot e found = let passes = found_passes (λ (d : DeviceEntry). d.slot == slot) t.entries e found in grind (arith, nat_tests, passes)
-
-pub value_of : (t : Table DeviceConnection) (slot : ℕ) (e : DeviceEntry) → entry_under t slot ≡ Some e → value_under t slot ≡ Some e.value
-value_of t slot e found = ap (option_map (λ (d : DeviceEntry). d.value)) found
-
 -- a stream is closed, or was
 module _ (e : DeviceEntry) (f : DeviceConnection → DeviceConnection) (s : DeviceState) where
   ended : DeviceState

@@ -1,8 +1,10 @@
+mod Under
 mod Copying
 mod SlotChanges
 mod Leaving
-mod Under
 mod Each
+mod Pumping
+mod Written
 mod Rounds
 mod Trees
 mod Putting

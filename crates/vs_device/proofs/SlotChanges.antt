@@ -14,6 +14,7 @@ use Rattle.vs_flow.proofs.Tables.{IsAccepted, with_entry_sound, with_value_sound
 use Rattle.vs_device.specs.State.{DeviceConnection, DeviceEntry}
 use Rattle.vs_device.specs.Room.{IsSpare}
 use Rattle.vs_device.specs.SlotFields.{AreKept}
+use Rattle.vs_device.proofs.Under.{none_under, under}
 use Rattle.vs_device.specs.declared.slots.Slots.TheInside.{Inside}
 
 pub kept_with_value : (s : Inside) (slot : ℕ) (d : DeviceConnection) → AreKept s → AreKept (record s { table = with_value s.table slot d })
@@ -34,33 +35,19 @@ all_front {X} P xs x ys is all k d lt =
     let longer : k < length (xs ++ x ∷ []) = omega (arith, length-append xs (x ∷ [])) in
     subst P (get_or_append_left xs (x ∷ []) d k lt) (whole k d longer)
 
-value_none : {X Y : Type 0} (f : X → Y) (o : Option X) → option_map f o ≡ None → o ≡ None
-value_none f None e = cc
-value_none f (Some x) e = absurd (cc)
-
 pub none_leaves : (t : Table DeviceConnection) (slot : ℕ) → value_under t slot ≡ None → without t slot ≡ t
 none_leaves t slot none =
     ap (λ (es : List DeviceEntry). let u : Table DeviceConnection = record t { entries = es } in u)
-    (all_others t.entries slot (value_none (λ (e : DeviceEntry). e.value) (entry_under t slot) none))
-
-record IsThere {X Y : Type 0} (f : X → Y) (o : Option X) (y : Y) : Type 0 where
-  pub one : X
-  pub is : o ≡ Some one
-
-there : {X Y : Type 0} (f : X → Y) (o : Option X) (y : Y) → option_map f o ≡ Some y → IsThere f o y
-there f None y e = absurd (cc)
-there f (Some x) y e = record { one = x; is = cc }
+    (all_others t.entries slot (none_under t slot none))
 
 pub one_fewer : (t : Table DeviceConnection) (slot : ℕ) (c : DeviceConnection) → IsTable t → value_under t slot ≡ Some c
     → length (without t slot).entries + 1 ≡ length t.entries
 one_fewer t slot c sound is =
-    let here : DeviceEntry → ℕ = λ x. x.slot in
-    let e = there (λ (x : DeviceEntry). x.value) (entry_under t slot) c is in
-    let place = find_place (λ (x : DeviceEntry). x.slot == slot) t.entries e.one e.is in
-    let passes = found_passes (λ (x : DeviceEntry). x.slot == slot) t.entries e.one e.is in
-    let same : e.one.slot ≡ slot = grind (arith, nat_tests, passes) in
-    let within : place.0 < length t.entries = slice_get_within t.entries place.0 e.one place.1 in
+    let e = under t slot c is in
+    let place = find_place (λ (x : DeviceEntry). x.slot == slot) t.entries e.entry e.found in
+    let same : e.entry.slot ≡ slot = e.slot_is in
+    let within : place.0 < length t.entries = slice_get_within t.entries place.0 e.entry place.1 in
     let removed : remove t.entries place.0 ≡ filter (λ (x : DeviceEntry). not (x.slot == slot)) t.entries =
-    remove_at t.entries place.0 e.one sound.rising place.1 ∙ ap (λ (n : ℕ). filter (λ (x : DeviceEntry). not (x.slot == n)) t.entries) same in
+    remove_at t.entries place.0 e.entry sound.rising place.1 ∙ ap (λ (n : ℕ). filter (λ (x : DeviceEntry). not (x.slot == n)) t.entries) same in
     let shorter = length-remove t.entries place.0 within in
     omega (arith, shorter, ap length removed)

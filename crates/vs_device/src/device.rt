@@ -2,6 +2,7 @@
 
 ghost use Rattle.std.specs.Prelude.{◌≡◌, ◌≤◌, IfOk, length};
 ghost use Rattle.vs_uds.specs.declared.path.TheConstants.{BASE_MAX};
+ghost use Rattle.vs_device.specs.Connections.{with_fault};
 ghost use Rattle.vs_device.specs.Turns.{counters_of, new_device};
 
 use crate::answers::Counters;
@@ -102,5 +103,12 @@ impl Device {
             opened: self.opened,
             closed: self.closed,
         }
+    }
+
+    /// Counts a call on the host that failed.
+    pub(crate) fn count_fault(&mut self)
+        ensures { self.new ≡ with_fault self.old }
+    {
+        self.faults = self.faults.saturating_add(1);
     }
 }

@@ -12,6 +12,7 @@ mod packets;
 mod receive;
 mod round;
 mod slots;
+mod streams;
 
 pub use answers::{Counters, Filled, Taken};
 pub use device::Device;

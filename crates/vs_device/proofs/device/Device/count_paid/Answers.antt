@@ -3,7 +3,7 @@ use Rattle.vs_flow.specs.Table.{Table, entry_under}
 use Rattle.vs_device.specs.Filling.{is_rst}
 use Rattle.vs_device.specs.State.{DeviceConnection, DeviceState}
 use Rattle.vs_device.specs.contracts.device.Device.{the_view}
-use Rattle.vs_device.proofs.Leaving.{has_slot, value_of}
+use Rattle.vs_device.proofs.Under.{has_slot, value_of}
 use Rattle.vs_device.proofs.Paying.{after_other, paid_leaves, paid_stays}
 use Rattle.vs_device.proofs.device.Device.count_paid.Goals as goal
 

@@ -7,7 +7,8 @@ use Rattle.vs_device.specs.Connections.{with_connection, cut_off, stream_closed,
 use Rattle.vs_device.specs.Playing.{situation}
 use Rattle.vs_device.specs.Streams.{closing, leaving}
 use Rattle.vs_device.specs.contracts.device.Device.{the_view}
-use Rattle.vs_device.proofs.Leaving.{has_slot, value_of, changed, leaves}
+use Rattle.vs_device.proofs.Leaving.{changed, leaves}
+use Rattle.vs_device.proofs.Under.{has_slot, value_of}
 use Rattle.vs_device.proofs.device.Device.cut_off.Goals as goal
 
 pub returns-clause-calls : goal.returns-clause-calls

@@ -25,9 +25,13 @@ loop-preserved g c =
     let may = c.loop.invariant.may in
     record {
       goes_on = λ host faults x t rest. c.loop.invariant.goes_on host faults x t (while_more Allows put_reply c.len-most.result c.loop.counter before after x
-      (situation from host faults) (situation to host faults) t c.loop-test.true (c.if-not-put_reply.ensures.calls host faults) rest);
-      may = (may.0, may.1, may_more Allows put_reply CanMake c.len-most.result c.loop.counter before after (situation from may.0 may.1) (situation to may.0 may.1)
-      c.loop-test.true may.2 (c.if-not-put_reply.ensures.calls may.0 may.1));
+          (situation from host faults) (situation to host faults) t c.loop-test.true (c.if-not-put_reply.ensures.calls host faults) rest);
+      may = (
+        may.0,
+        may.1,
+        may_more Allows put_reply CanMake c.len-most.result c.loop.counter before after (situation from may.0 may.1) (situation to may.0 may.1)
+            c.loop-test.true may.2 (c.if-not-put_reply.ensures.calls may.0 may.1),
+      );
       ring = c.if-not-put_reply.ensures.ring;
       going = c.if-not-put_reply.ensures.over refl;
       small = omega (arith, c.loop.invariant.small, c.if-not-put_reply.ensures.count);

@@ -112,9 +112,11 @@ put_payload-requires-clause-may g c = λ e other is held_other.
     c.read_room-room.ensures.room chain refl ∙ ap (λ (n : ℕ). read_room n chain) (c.free.ensures ∙ ap (λ (x : DeviceConnection). free_of x.end.credit) value) in
     let allowed = same_read (read.Got c.in-Got.n, take c.in-Got.n c.read_into.new.out) c.stream.result e.value.stream c.read_room-room.result (read_room (free_of e.value.end.credit) chain) from to stream room (c.in-Got.ensures.allowed ring) in
     let same : chain ≡ other = let both : Some chain ≡ Some other = sym held ∙ held_other in cc in
-    let P : Chain → Type 0 = λ x. MayRun (put_payload x e (take c.in-Got.n c.read_into.new.out) q) to in
-    (g.H.HostNet.contents c.read_into.new.host, g.H.HostNet.faults c.read_into.new.host,
-    subst P same (may_answered chain e q held (read.Got c.in-Got.n) (take c.in-Got.n c.read_into.new.out) from to (c.requires.may e is) allowed))
+    let P : Chain → Type 0 = λ x. MayRun (put_payload x e (take c.in-Got.n c.read_into.new.out) q) to in (
+      g.H.HostNet.contents c.read_into.new.host,
+      g.H.HostNet.faults c.read_into.new.host,
+      subst P same (may_answered chain e q held (read.Got c.in-Got.n) (take c.in-Got.n c.read_into.new.out) from to (c.requires.may e is) allowed),
+    )
 
 pub cut_off-requires : goal.cut_off-requires
 cut_off-requires g c = record {
@@ -130,15 +132,15 @@ cut_off-requires g c = record {
       let from = situation ring host faults in
       let held : s.chain ≡ Some chain = ap (λ (x : DeviceState). x.chain) (sym c.self.view_is) ∙ c.in-Some.is in
       let is : entry_under s.table slot ≡ Some e = ap (λ (x : DeviceState). entry_under x.table slot) (sym c.self.view_is) ∙ found in
-    let value : c.in-Some-connection.connection.now ≡ e.value =
-    let both : Some c.in-Some-connection.connection.now ≡ Some e.value = c.in-Some-connection.ensures ∙ value_of d.slots slot e found in cc in
-    let stream : c.stream.result ≡ e.value.stream = c.stream.ensures ∙ ap (λ (x : DeviceConnection). x.stream) value in
-    let to = situation ring (g.H.HostNet.contents c.read_into.new.host) (g.H.HostNet.faults c.read_into.new.host) in
-    let room : c.read_room-room.result ≡ read_room (free_of e.value.end.credit) chain =
-    c.read_room-room.ensures.room chain refl ∙ ap (λ (n : ℕ). read_room n chain) (c.free.ensures ∙ ap (λ (x : DeviceConnection). free_of x.end.credit) value) in
-    let allowed = same_read (read.Failed, []) c.stream.result e.value.stream c.read_room-room.result (read_room (free_of e.value.end.credit) chain) from to stream room (c.in-Failed.ensures.allowed ring) in
+      let value : c.in-Some-connection.connection.now ≡ e.value =
+      let both : Some c.in-Some-connection.connection.now ≡ Some e.value = c.in-Some-connection.ensures ∙ value_of d.slots slot e found in cc in
+      let stream : c.stream.result ≡ e.value.stream = c.stream.ensures ∙ ap (λ (x : DeviceConnection). x.stream) value in
+      let to = situation ring (g.H.HostNet.contents c.read_into.new.host) (g.H.HostNet.faults c.read_into.new.host) in
+      let room : c.read_room-room.result ≡ read_room (free_of e.value.end.credit) chain =
+      c.read_room-room.ensures.room chain refl ∙ ap (λ (n : ℕ). read_room n chain) (c.free.ensures ∙ ap (λ (x : DeviceConnection). free_of x.end.credit) value) in
+      let allowed = same_read (read.Failed, []) c.stream.result e.value.stream c.read_room-room.result (read_room (free_of e.value.end.credit) chain) from to stream room (c.in-Failed.ensures.allowed ring) in
       may_close e cut_off (with_fault s) to (may_first CanMake Allows (closing e cut_off (with_fault s)) _ to
-      (may_answered chain e q held read.Failed [] from to (c.requires.may e is) allowed))
+      (may_answered chain e q held read.Failed [] from to (c.requires.may e is) allowed));
 }
 
 pub returns-in-Got-clause-calls : goal.returns-in-Got-clause-calls
