@@ -1,5 +1,5 @@
 -- Packets that are put on the receive queue, step by step.
-use Rattle.std.specs.Prelude.{ℕ, Bool, true, false, List, [], take, Option, Some, None}
+use Rattle.std.specs.Prelude.{ℕ, Bool, true, false, if◌then◌else◌, List, [], take, Option, Some, None}
 use Rattle.vs_contents.specs.CallTree.{Done, bind, for_each}
 use Rattle.vs_conn.specs.declared.end.Owed.{Owed}
 use Rattle.vs_conn.specs.declared.end.Owed.TheVariants as owed
@@ -32,6 +32,9 @@ read_slot slot r = elim (entry_under r.state.table slot) [ None ↦ Done r | Som
 -- The round over all connections.
 abbrev pub serve_all : Filling → DeviceTree Filling
 serve_all r = for_each serve_slot (round_from r.state.last_put (slots r.state.table)) r
+
+abbrev pub serve_rest : Filling → DeviceTree Filling
+serve_rest r = if r.over then Done r else serve_all r
 
 -- The bytes that a read into a buffer gave.
 abbrev pub bytes_read : StreamRead → List ℕ → List ℕ

@@ -13,7 +13,7 @@ ghost use Rattle.vs_header.specs.declared.TheConstants.{HEADER_LEN};
 ghost use Rattle.vs_page.specs.declared.page.TheConstants.{PAYLOAD_MAX};
 ghost use Rattle.vs_ring_port.specs.declared.device_ring.Chain.{Chain};
 ghost use Rattle.vs_device.specs.Connections.{route_to_guest};
-ghost use Rattle.vs_device.specs.Filling.{filling_of, is_rst, put_header, read_slot, serve_all};
+ghost use Rattle.vs_device.specs.Filling.{filling_of, is_rst, put_header, read_slot, serve_all, serve_rest};
 ghost use Rattle.vs_device.specs.Playing.{IsRingOf, MayRun, MayRunOnHost, MayRunOnRing, Runs, RunsOnHost, RunsOnRing, situation};
 ghost use Rattle.vs_device.specs.Receiving.{after_paying, fill_rx_of, filled_of, hold, may_read, put_owed, put_payload, put_reply, read_room, read_with_chain, serve_slot};
 ghost use Rattle.vs_device.specs.State.{DeviceEntry};
@@ -68,9 +68,7 @@ impl Device {
             over: false,
         };
         self.put_replies(ring, &mut fill);
-        if !fill.over {
-            self.serve(ring, host, &mut fill);
-        }
+        self.serve(ring, host, &mut fill);
         self.filled(fill)
     }
 
@@ -87,8 +85,22 @@ impl Device {
         }
     }
 
-    // Serves all connections, those after the slot that last put a packet first.
+    // Serves all connections, where chains are still there.
     fn serve<R: DeviceRing, H: HostNet>(&mut self, ring: &mut R, host: &mut H, fill: &mut Fill)
+        requires ring { IsRingOf (R.held ring.old) self.old }
+        requires few { fill.old.put ≤ REPLIES }
+        requires none { fill.old.read ≡ 0 }
+        requires may { MayRun (serve_rest (filling_of self.old fill.old)) (situation (R.contents ring.old) (H.contents host.old) (H.faults host.old)) }
+        ensures ring { IsRingOf (R.held ring.new) self.new }
+        ensures calls { Runs (serve_rest (filling_of self.old fill.old)) (situation (R.contents ring.old) (H.contents host.old) (H.faults host.old)) (filling_of self.new fill.new) (situation (R.contents ring.new) (H.contents host.new) (H.faults host.new)) }
+    {
+        if !fill.over {
+            self.serve_all(ring, host, fill);
+        }
+    }
+
+    // Serves all connections, those after the slot that last put a packet first.
+    fn serve_all<R: DeviceRing, H: HostNet>(&mut self, ring: &mut R, host: &mut H, fill: &mut Fill)
         requires ring { IsRingOf (R.held ring.old) self.old }
         requires few { fill.old.put ≤ REPLIES }
         requires none { fill.old.read ≡ 0 }

@@ -6,7 +6,7 @@ use Rattle.vs_device.specs.Playing.{MayRun, Runs, situation}
 use Rattle.vs_device.specs.Receiving.{Filling, serve_slot, round_from}
 use Rattle.vs_device.specs.State.{DeviceState}
 use Rattle.vs_device.proofs.Each.{each_more, may_each_step, may_each_more, each_end}
-use Rattle.vs_device.proofs.device.Device.serve.Goals as goal
+use Rattle.vs_device.proofs.device.Device.serve_all.Goals as goal
 
 pub loop-slot-init : goal.loop-slot-init
 loop-slot-init g c =

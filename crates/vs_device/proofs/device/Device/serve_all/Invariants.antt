@@ -7,7 +7,7 @@ use Rattle.vs_device.specs.Filling.{filling_of, serve_all}
 use Rattle.vs_device.specs.Playing.{IsRingOf, MayRun, Runs, situation}
 use Rattle.vs_device.specs.Receiving.{Filling, serve_slot}
 use Rattle.vs_device.specs.declared.limits.TheConstants.{CONNECTIONS}
-use Rattle.vs_device.proofs.device.Device.serve.Given as goal
+use Rattle.vs_device.proofs.device.Device.serve_all.Given as goal
 
 -- whatever completes the rest completes the whole
 abbrev pub invariant-loop-slot : goal.invariant-loop-slot
