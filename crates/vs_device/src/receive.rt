@@ -1,7 +1,7 @@
 //! The last stage of a turn: packets are put on the receive queue, what is owed to unknown flows first, and then, connection by connection,
 //! what is read of the host's streams and what each owes (Virtio 1.2, sections 5.10.6.1 to 5.10.6.5).
 
-ghost use Rattle.std.specs.Prelude.{◌≡◌, ◌≤◌, ◌<◌, ◌+◌, ◌*◌, ◌^◌, not, length, false, true, Some, None, is_some, IfSome};
+ghost use Rattle.std.specs.Prelude.{◌≡◌, ◌≤◌, ◌<◌, ◌+◌, ◌*◌, ◌^◌, not, length, false, true, Some, None, is_some, IfSome, Err, IfErr, IfOk, OnOk};
 ghost use Rattle.vs_conn.specs.End.{CanSend, owes_of};
 ghost use Rattle.vs_conn.specs.Headers.{reset_header};
 ghost use Rattle.vs_conn.specs.declared.end.Owed.TheVariants as owed;
@@ -12,12 +12,13 @@ ghost use Rattle.vs_flow.specs.Table.{entry_under, value_under};
 ghost use Rattle.vs_header.specs.declared.TheConstants.{HEADER_LEN};
 ghost use Rattle.vs_page.specs.declared.page.TheConstants.{PAYLOAD_MAX};
 ghost use Rattle.vs_ring_port.specs.declared.device_ring.Chain.{Chain};
+ghost use Rattle.vs_ring_port.specs.declared.failure.Failure.{Failure};
 ghost use Rattle.vs_device.specs.Connections.{route_to_guest};
 ghost use Rattle.vs_device.specs.Filling.{filling_of, is_rst, put_header, read_slot, serve_all, serve_rest};
 ghost use Rattle.vs_device.specs.Playing.{IsRingOf, MayRun, MayRunOnHost, MayRunOnRing, Runs, RunsOnHost, RunsOnRing, situation};
 ghost use Rattle.vs_device.specs.Receiving.{after_paying, fill_rx_of, filled_of, hold, may_read, put_owed, put_payload, put_reply, read_room, read_with_chain, serve_slot};
 ghost use Rattle.vs_device.specs.State.{DeviceEntry};
-ghost use Rattle.vs_device.specs.declared.limits.TheConstants.{REPLIES};
+ghost use Rattle.vs_device.specs.declared.limits.TheConstants.{CONNECTIONS, REPLIES};
 
 use crate::answers::Filled;
 use crate::device::Device;
@@ -58,6 +59,11 @@ impl Device {
         requires may { MayRun (fill_rx_of self.old) (situation (R.contents ring.old) (H.contents host.old) (H.faults host.old)) }
         ensures ring { IsRingOf (R.held ring.new) self.new }
         ensures calls { Runs (fill_rx_of self.old) (situation (R.contents ring.old) (H.contents host.old) (H.faults host.old)) (self.new, result) (situation (R.contents ring.new) (H.contents host.new) (H.faults host.new)) }
+        ensures kept { (f : Failure) → self.old.failed ≡ Some f → (self.new ≡ self.old) × (result ≡ Err f) }
+        ensures failed { IfErr result (λ f. self.new.failed ≡ Some f) }
+        ensures ok { OnOk result (self.new.failed ≡ None) }
+        ensures few { IfOk result (λ f. f.put ≤ REPLIES + (OWED_MAX + 1) * CONNECTIONS) }
+        ensures few_read { IfOk result (λ f. f.read ≤ PAYLOAD_MAX * CONNECTIONS) }
     {
         if let Some(failure) = self.failed {
             return Err(failure);
@@ -74,7 +80,10 @@ impl Device {
 
     // What the call answers.
     fn filled(&self, fill: Fill) -> Result<Filled, Failure>
-        ensures { (self.now, result) ≡ filled_of (filling_of self.now fill) }
+        ensures exact { (self.now, result) ≡ filled_of (filling_of self.now fill) }
+        ensures failed { IfErr result (λ f. self.now.failed ≡ Some f) }
+        ensures ok { OnOk result (self.now.failed ≡ None) }
+        ensures filled { IfOk result (λ f. (f.put ≡ fill.put) × (f.read ≡ fill.read)) }
     {
         match self.failed {
             Some(failure) => Err(failure),
@@ -92,6 +101,8 @@ impl Device {
         requires none { fill.old.read ≡ 0 }
         requires may { MayRun (serve_rest (filling_of self.old fill.old)) (situation (R.contents ring.old) (H.contents host.old) (H.faults host.old)) }
         ensures ring { IsRingOf (R.held ring.new) self.new }
+        ensures count { fill.new.put ≤ REPLIES + (OWED_MAX + 1) * CONNECTIONS }
+        ensures read { fill.new.read ≤ PAYLOAD_MAX * CONNECTIONS }
         ensures calls { Runs (serve_rest (filling_of self.old fill.old)) (situation (R.contents ring.old) (H.contents host.old) (H.faults host.old)) (filling_of self.new fill.new) (situation (R.contents ring.new) (H.contents host.new) (H.faults host.new)) }
     {
         if !fill.over {
@@ -106,6 +117,8 @@ impl Device {
         requires none { fill.old.read ≡ 0 }
         requires may { MayRun (serve_all (filling_of self.old fill.old)) (situation (R.contents ring.old) (H.contents host.old) (H.faults host.old)) }
         ensures ring { IsRingOf (R.held ring.new) self.new }
+        ensures count { fill.new.put ≤ REPLIES + (OWED_MAX + 1) * CONNECTIONS }
+        ensures read { fill.new.read ≤ PAYLOAD_MAX * CONNECTIONS }
         ensures calls { Runs (serve_all (filling_of self.old fill.old)) (situation (R.contents ring.old) (H.contents host.old) (H.faults host.old)) (filling_of self.new fill.new) (situation (R.contents ring.new) (H.contents host.new) (H.faults host.new)) }
     {
         let slots = self.slots.all();

@@ -59,6 +59,6 @@ returns-clause-calls g c =
     let r : Filling = filling_of c.put_replies.new.self c.put_replies.new.fill in
     let q : Filling = filling_of c.serve.new.self c.serve.new.fill in
     let none : s.failed ≡ None = ap (λ (x : DeviceState). x.failed) (sym c.self.view_is) ∙ c.in_default.is in
-    let last = leads_bind Allows (serve_rest r) (λ (x : Filling). Done (filled_of x)) to end end q (c.serve.new.self, c.filled.result) c.serve.ensures.calls (sym c.filled.ensures, refl) in
+    let last = leads_bind Allows (serve_rest r) (λ (x : Filling). Done (filled_of x)) to end end q (c.serve.new.self, c.filled.result) c.serve.ensures.calls (sym c.filled.ensures.exact, refl) in
     leads_of Allows _ _ from end (c.serve.new.self, c.filled.result) (filling_is s none)
     (leads_bind Allows (replies_first s) then_serve from to end r (c.serve.new.self, c.filled.result) (c.put_replies.ensures.calls host faults) last)
