@@ -5,3 +5,10 @@ pub mod Streams
 pub mod Transmitting
 pub mod Receiving
 pub mod Turns
+pub mod Room
+pub mod Paid
+pub mod SlotFields
+pub mod Playing
+pub mod DeviceFields
+pub mod Filling
+pub mod Written

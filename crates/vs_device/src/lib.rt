@@ -3,6 +3,16 @@
 #![tactic(auto)]
 
 pub mod answers;
+mod closing;
+mod connection;
+mod device;
+mod host_calls;
 pub mod limits;
+mod packets;
+mod receive;
+mod round;
+mod slots;
+mod streams;
 
 pub use answers::{Counters, Filled, Taken};
+pub use device::Device;

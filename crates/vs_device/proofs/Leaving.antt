@@ -1,0 +1,82 @@
+-- What closing a stream comes to, and leaving the table.
+use Rattle.std.proofs.Common.{◌≡◌, ℕ, ◌==◌, Bool, true, false, not, cond, List, [], ◌∷◌, map, Option, Some, None, refl, sym, ap, subst, ◌∙◌, arith}
+use Rattle.std.specs.List.{filter}
+use Rattle.std.specs.Option.{ForSome, option_map}
+use Rattle.std.proofs.lemmas.Bool.Decides.{nat_tests}
+use Rattle.vs_contents.specs.CallTree.{Done, Ask, bind, Leads}
+use Rattle.vs_contents.proofs.Leads.{leads_of, leads_bind}
+use Rattle.vs_contents.proofs.Conditions.{may_of}
+use Rattle.vs_flow.specs.Table.{Table, entry_under, value_under, with_value, without, revalued}
+use Rattle.vs_flow.proofs.Entries.{found_passes}
+use Rattle.vs_flow.proofs.Tables.{revalued-slot}
+use Rattle.vs_outside.specs.Host.{HostContents, IsOpen}
+use Rattle.vs_ring_port.specs.Contents.{RingContents}
+use Rattle.vs_wrap.specs.Wrap.{counted}
+use Rattle.vs_device.specs.Calls.{Situation, DeviceTree, Allows, CloseStream}
+use Rattle.vs_device.specs.State.{DeviceConnection, DeviceEntry, DeviceState}
+use Rattle.vs_device.specs.Connections.{with_connection, stream_closed, after_leaving}
+use Rattle.vs_device.specs.Playing.{CanMake, MayRun, MayRunOnHost, MayClose, Runs, RunsOnHost, AllowsOnHost, situation}
+use Rattle.vs_device.specs.Streams.{closing, leaving}
+
+-- a stream is closed, or was
+module _ (e : DeviceEntry) (f : DeviceConnection → DeviceConnection) (s : DeviceState) where
+  ended : DeviceState
+  ended = with_connection e.slot (f e.value) s
+
+  is_done : e.value.closed ≡ true → closing e f s ≡ Done (with_connection e.slot (f e.value) s)
+  is_done is = rw is refl
+
+  asks : e.value.closed ≡ false → closing e f s ≡ Ask (CloseStream e.value.stream) (λ _. Done (with_connection e.slot (f e.value) s))
+  asks is = rw is refl
+
+  pub was_closed : (x : Situation) → e.value.closed ≡ true → Runs (closing e f s) x (with_connection e.slot (f e.value) s) x
+  was_closed x is = leads_of Allows _ _ x x (with_connection e.slot (f e.value) s) (is_done is) (refl, refl)
+
+  pub is_closed_now : (x y : Situation) → e.value.closed ≡ false → Allows (CloseStream e.value.stream) tt x y → Runs (closing e f s) x (with_connection e.slot (f e.value) s) y
+  is_closed_now x y is allowed = leads_of Allows _ _ x y (with_connection e.slot (f e.value) s) (asks is) (tt, y, allowed, (refl, refl))
+
+  pub may_close : (x : Situation) → MayRun (closing e f s) x → MayClose e.value x.host
+  may_close x may is = (may_of CanMake Allows _ _ x (asks is) may).0
+
+-- it leaves
+without_revalued : (slot : ℕ) (c : DeviceConnection) (es : List DeviceEntry)
+    → filter (λ (e : DeviceEntry). not (e.slot == slot)) (map (revalued slot c) es) ≡ filter (λ (e : DeviceEntry). not (e.slot == slot)) es
+without_revalued slot c [] = refl
+without_revalued slot c (e ∷ es) = by (e.slot == slot) refl (without_revalued slot c es)
+  where
+    by : (b : Bool) → (e.slot == slot) ≡ b → filter (λ (d : DeviceEntry). not (d.slot == slot)) (map (revalued slot c) es) ≡ filter (λ (d : DeviceEntry). not (d.slot == slot)) es
+        → filter (λ (d : DeviceEntry). not (d.slot == slot)) (map (revalued slot c) (e ∷ es)) ≡ filter (λ (d : DeviceEntry). not (d.slot == slot)) (e ∷ es)
+    by true is rest = rw (revalued-slot slot c e, is) rest
+    by false is rest = rw (revalued-slot slot c e, is) (ap (λ (ds : List DeviceEntry). e ∷ ds) rest)
+
+pub without_with_value : (t : Table DeviceConnection) (slot : ℕ) (c : DeviceConnection) → without (with_value t slot c) slot ≡ without t slot
+without_with_value t slot c = ap (λ (es : List DeviceEntry). let u : Table DeviceConnection = record t { entries = es } in u) (without_revalued slot c t.entries)
+
+pub leaves : (e : DeviceEntry) (s t : DeviceState) (x y : Situation) → Runs (closing e stream_closed s) x (with_connection e.slot (stream_closed e.value) s) y
+    → t ≡ after_leaving e.slot s → Runs (leaving e s) x t y
+leaves e s t x y closed is =
+    let m : DeviceState = with_connection e.slot (stream_closed e.value) s in
+    let end : after_leaving e.slot m ≡ t = ap (λ (u : Table DeviceConnection). let r : DeviceState = record (after_leaving e.slot s) { table = u } in r) (without_with_value s.table e.slot (stream_closed e.value)) ∙ sym is in
+    leads_bind Allows (closing e stream_closed s) _ x y y m t closed (end, refl)
+
+-- the same call where only the connection's stream is known
+pub closes_as : (d e : DeviceEntry) (f : DeviceConnection → DeviceConnection) (s : DeviceState) (r : RingContents) (h k : Option HostContents) (m n : ℕ)
+    → e.value.closed ≡ d.value.closed → e.value.stream ≡ d.value.stream → d.value.closed ≡ false → AllowsOnHost (CloseStream d.value.stream) tt h m k n
+    → Runs (closing e f s) (situation r h m) (with_connection e.slot (f e.value) s) (situation r k n)
+closes_as d e f s r h k m n closed stream still allowed =
+    let P : ℕ → Type 0 = λ id. Allows (CloseStream id) tt (situation r h m) (situation r k n) in
+    is_closed_now e f s (situation r h m) (situation r k n) (closed ∙ still) (subst P (sym stream) (allowed r))
+
+-- the device with another connection under a slot
+pub changed : (s new : DeviceState) (slot : ℕ) (e : DeviceEntry) (c : DeviceConnection) (t : Table DeviceConnection) → s ≡ new → t ≡ with_value s.table slot c → e.slot ≡ slot
+    → ◌≡◌ {A = DeviceState} (record s { table = t }) (with_connection e.slot c new)
+changed s new slot e c t view is at =
+    ap (λ (u : Table DeviceConnection). let r : DeviceState = record s { table = u } in r) is
+    ∙ (ap (λ (n : ℕ). with_connection n c s) (sym at) ∙ ap (λ (x : DeviceState). with_connection e.slot c x) view)
+
+pub left : (s new : DeviceState) (slot : ℕ) (e : DeviceEntry) (t : Table DeviceConnection) (n : ℕ) → s ≡ new → t ≡ without s.table slot → n ≡ counted s.closed → e.slot ≡ slot
+    → ◌≡◌ {A = DeviceState} (record s { table = t; closed = n }) (after_leaving e.slot new)
+left s new slot e t n view is count at =
+    ap (λ (u : Table DeviceConnection). let r : DeviceState = record s { table = u; closed = n } in r) is
+    ∙ (ap (λ (k : ℕ). let r : DeviceState = record s { table = without s.table slot; closed = k } in r) count
+    ∙ (ap (λ (k : ℕ). after_leaving k s) (sym at) ∙ ap (λ (x : DeviceState). after_leaving e.slot x) view))

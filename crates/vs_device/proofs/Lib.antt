@@ -1,0 +1,14 @@
+mod Under
+mod Copying
+mod SlotChanges
+mod Leaving
+mod Each
+mod Pumping
+mod Written
+mod Rounds
+mod Trees
+mod Putting
+mod Writes
+mod Paying
+mod Reading
+mod Held

@@ -1,0 +1,55 @@
+-- The entry under a slot, and the table with another value there.
+use Rattle.std.proofs.Common.{◌≡◌, ℕ, ◌==◌, Bool, true, false, Option, Some, None, refl, sym, ap, ◌∙◌, arith}
+use Rattle.std.specs.Option.{option_map}
+use Rattle.std.proofs.lemmas.Bool.Decides.{nat_tests}
+use Rattle.vs_flow.specs.Table.{Table, entry_under, value_under, with_value, revalued}
+use Rattle.vs_flow.proofs.Entries.{found_passes}
+use Rattle.vs_flow.proofs.Lookups.{entry_under-with_value}
+use Rattle.vs_device.specs.State.{DeviceConnection, DeviceEntry}
+
+pub has_slot : (t : Table DeviceConnection) (slot : ℕ) (e : DeviceEntry) → entry_under t slot ≡ Some e → e.slot ≡ slot
+has_slot t slot e found = let passes = found_passes (λ (d : DeviceEntry). d.slot == slot) t.entries e found in grind (arith, nat_tests, passes)
+
+pub value_of : (t : Table DeviceConnection) (slot : ℕ) (e : DeviceEntry) → entry_under t slot ≡ Some e → value_under t slot ≡ Some e.value
+value_of t slot e found = ap (option_map (λ (d : DeviceEntry). d.value)) found
+
+-- the value under a slot is that of an entry
+pub record IsUnder (t : Table DeviceConnection) (slot : ℕ) (c : DeviceConnection) : Type 0 where
+  pub entry : DeviceEntry
+  pub found : entry_under t slot ≡ Some entry
+  pub value : entry.value ≡ c
+  pub slot_is : entry.slot ≡ slot
+
+pub under : (t : Table DeviceConnection) (slot : ℕ) (c : DeviceConnection) → value_under t slot ≡ Some c → IsUnder t slot c
+under t slot c is = by (entry_under t slot) refl
+  where
+    by : (o : Option DeviceEntry) → entry_under t slot ≡ o → IsUnder t slot c
+    by None none = let e : None ≡ Some c = sym (ap (option_map (λ (d : DeviceEntry). d.value)) none) ∙ is in absurd (cc)
+    by (Some e) found =
+        let same : Some e.value ≡ Some c = sym (ap (option_map (λ (d : DeviceEntry). d.value)) found) ∙ is in
+        record { entry = e; found = found; value = cc; slot_is = has_slot t slot e found }
+
+no_value : {X Y : Type 0} (f : X → Y) (o : Option X) → option_map f o ≡ None → o ≡ None
+no_value f None e = refl
+no_value f (Some x) e = absurd (cc)
+
+pub none_under : (t : Table DeviceConnection) (slot : ℕ) → value_under t slot ≡ None → entry_under t slot ≡ None
+none_under t slot none = no_value (λ (e : DeviceEntry). e.value) (entry_under t slot) none
+
+abbrev pub with_its : DeviceEntry → DeviceConnection → DeviceEntry
+with_its e c = record e { value = c }
+
+revalued_here : (slot : ℕ) (c : DeviceConnection) (e : DeviceEntry) (b : Bool) → b ≡ (e.slot == slot) → b ≡ true → revalued slot c e ≡ with_its e c
+revalued_here slot c e b is holds = rw (sym is ∙ holds) refl
+
+-- another value stands under the slot
+pub under_changed : (t : Table DeviceConnection) (slot : ℕ) (e : DeviceEntry) (c : DeviceConnection) → entry_under t slot ≡ Some e
+    → entry_under (with_value t slot c) slot ≡ Some (with_its e c)
+under_changed t slot e c found =
+    let at = has_slot t slot e found in
+    let holds : (e.slot == slot) ≡ true = grind (arith, nat_tests, at) in
+    entry_under-with_value t slot c slot
+    ∙ (ap (option_map (revalued slot c)) found ∙ ap (λ (d : DeviceEntry). Some d) (revalued_here slot c e (e.slot == slot) refl holds))
+
+pub value_is : (t : Table DeviceConnection) (slot : ℕ) (e : DeviceEntry) (c : DeviceConnection) → entry_under t slot ≡ Some e → value_under t slot ≡ Some c → e.value ≡ c
+value_is t slot e c found is = let same : Some e.value ≡ Some c = sym (value_of t slot e found) ∙ is in cc

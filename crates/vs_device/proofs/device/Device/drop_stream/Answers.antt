@@ -1,0 +1,20 @@
+use Rattle.std.proofs.Common.{◌≡◌, ℕ, Some, refl, sym, ap, ◌∙◌}
+use Rattle.vs_contents.proofs.Leads.{leads_to}
+use Rattle.vs_flow.specs.Table.{Table, entry_under, with_value}
+use Rattle.vs_device.specs.Calls.{Allows}
+use Rattle.vs_device.specs.State.{DeviceConnection, DeviceState}
+use Rattle.vs_device.specs.Connections.{with_connection, cut_off, stream_closed, after_leaving}
+use Rattle.vs_device.specs.Playing.{situation}
+use Rattle.vs_device.specs.Streams.{closing, leaving}
+use Rattle.vs_device.specs.contracts.device.Device.{the_view}
+use Rattle.vs_device.proofs.Leaving.{changed, leaves}
+use Rattle.vs_device.proofs.Under.{has_slot, value_of}
+use Rattle.vs_device.proofs.device.Device.drop_stream.Goals as goal
+
+pub returns-clause-calls : goal.returns-clause-calls
+returns-clause-calls g c = λ e is ring.
+    let d = c.self.inside in
+    let found : entry_under d.slots c.args.slot ≡ Some e = rw (← c.self.view_is) at is in
+    let slots : c.stream_closed.new.self ≡ with_value d.slots c.args.slot (stream_closed e.value) = c.stream_closed.ensures.left e.value (value_of d.slots c.args.slot e found) in
+    let end = changed (the_view d) c.args.self.now c.args.slot e (stream_closed e.value) c.stream_closed.new.self c.self.view_is slots (has_slot d.slots c.args.slot e found) in
+    leads_to Allows _ _ _ _ _ (sym end) (c.close_stream.ensures.calls e is e refl refl stream_closed c.args.self.now ring)

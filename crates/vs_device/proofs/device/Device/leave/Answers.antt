@@ -1,0 +1,25 @@
+use Rattle.std.proofs.Common.{◌≡◌, ℕ, Some, refl, sym, ap, ◌∙◌}
+use Rattle.vs_contents.proofs.Leads.{leads_to}
+use Rattle.vs_flow.specs.Table.{Table, entry_under, with_value}
+use Rattle.vs_device.specs.Calls.{Allows}
+use Rattle.vs_device.specs.State.{DeviceConnection, DeviceState}
+use Rattle.vs_device.specs.Connections.{with_connection, cut_off, stream_closed, after_leaving}
+use Rattle.vs_device.specs.Playing.{situation}
+use Rattle.vs_device.specs.Streams.{closing, leaving}
+use Rattle.vs_device.specs.contracts.device.Device.{the_view}
+use Rattle.vs_device.proofs.Leaving.{changed, leaves}
+use Rattle.vs_device.proofs.Under.{has_slot, value_of}
+use Rattle.vs_wrap.specs.Wrap.{counted}
+use Rattle.std.proofs.Common.{rules, arith}
+use Rattle.vs_device.specs.State.{DeviceEntry}
+use Rattle.vs_device.proofs.Leaving.{left}
+use Rattle.vs_device.proofs.device.Device.leave.Goals as goal
+
+pub returns-clause-calls : goal.returns-clause-calls
+returns-clause-calls g c = λ e is v closed stream ring.
+    let d = c.self.inside in
+    let found : entry_under d.slots c.args.slot ≡ Some e = rw (← c.self.view_is) at is in
+    let f : DeviceEntry = record e { value = v } in
+    let count : c.saturating_add-self-inside.result ≡ counted d.closed = search rules in
+    let end = left (the_view d) c.args.self.now c.args.slot f c.leave.new.self c.saturating_add-self-inside.result c.self.view_is c.leave.ensures count (has_slot d.slots c.args.slot e found) in
+    leaves f c.args.self.now _ _ _ (c.close_stream.ensures.calls e is f closed stream stream_closed c.args.self.now ring) end

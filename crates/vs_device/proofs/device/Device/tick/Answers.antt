@@ -1,0 +1,48 @@
+use Rattle.std.proofs.Common.{◌≡◌, ◌≢◌, ℕ, ◌+◌, ◌*◌, ◌≤◌, ◌<◌, Bool, true, false, List, length, drop, get_or, Option, Some, None, refl, sym, ap, subst, ◌∙◌, rules, arith}
+use Rattle.std.specs.Option.{ForSome, IfSome}
+use Rattle.vs_contents.specs.CallTree.{for_each}
+use Rattle.vs_contents.proofs.Leads.{leads_to}
+use Rattle.vs_flow.specs.Table.{Table, entry_under, value_under, with_value, slots}
+use Rattle.vs_outside.specs.Host.{HostContents, IsOpen, TakesSome}
+use Rattle.vs_outside.specs.declared.host_net.StreamWrite.{StreamWrite}
+use Rattle.vs_outside.specs.declared.host_net.StreamWrite.TheVariants as write
+use Rattle.vs_ring_port.specs.Contents.{RingContents}
+use Rattle.vs_device.specs.Calls.{Situation, Allows, WriteStream, ShutWrite}
+use Rattle.vs_device.specs.State.{DeviceConnection, DeviceEntry, DeviceState}
+use Rattle.vs_device.specs.Connections.{with_connection, with_fault, cut_off, after_shut, after_written}
+use Rattle.vs_device.specs.Playing.{MayClose, MayRun, MayRunOnHost, Runs, RunsOnHost, situation}
+use Rattle.vs_device.specs.Streams.{closing, Writing, pump_of, pump_slot, write_pending, write_answered, to_write, shut_write, is_written_out, tick_slot, tick_of}
+use Rattle.vs_device.specs.Written.{writing}
+use Rattle.vs_device.specs.contracts.device.Device.{the_view}
+use Rattle.vs_device.proofs.Leaving.{changed, may_close}
+use Rattle.vs_device.proofs.Under.{IsUnder, under, has_slot, value_of, none_under}
+use Rattle.vs_device.proofs.Each.{each_more, may_each_step, may_each_more, each_end}
+use Rattle.vs_device.proofs.Pumping.{took, host_closed, write_failed, may_fail, may_be_answered, wrote, may_shut_write, was_shut, took_within, HasStream, has_stream, may_write_pending, may_shut_then, pumped}
+use Rattle.vs_device.proofs.device.Device.tick.Goals as goal
+
+pub tick_slot-requires : goal.tick_slot-requires
+tick_slot-requires g c =
+    let xs = c.as_slice-slot-items.result.now in
+    let i = c.loop-slot.slot-index in
+    let within : i < length xs = search rules in
+    let host = g.H.HostNet.contents c.loop-slot.host in
+    let faults = g.H.HostNet.faults c.loop-slot.host in
+    let may = c.loop-slot.invariant.may in
+    record { may = (may.0, may_each_step tick_slot xs i 0 c.loop-slot.self within (situation may.0 host faults) may.1) }
+
+pub loop-slot-preserved : goal.loop-slot-preserved
+loop-slot-preserved g c =
+    let xs = c.as_slice-slot-items.result.now in
+    let i = c.loop-slot.slot-index in
+    let within : i < length xs = search rules in
+    let host = g.H.HostNet.contents c.loop-slot.host in
+    let faults = g.H.HostNet.faults c.loop-slot.host in
+    let may = c.loop-slot.invariant.may in
+    let after = g.H.HostNet.contents c.tick_slot.new.host in
+    let counted = g.H.HostNet.faults c.tick_slot.new.host in
+    record {
+      goes_on = λ new h n rest. c.loop-slot.invariant.goes_on new h n (λ ring.
+          each_more tick_slot xs i 0 c.loop-slot.self within c.tick_slot.new.self new (situation ring host faults) (situation ring after counted) (situation ring h n) (c.tick_slot.ensures.calls ring) (rest ring));
+      may = (may.0, may_each_more tick_slot xs i 0 c.loop-slot.self within c.tick_slot.new.self (situation may.0 host faults) (situation may.0 after counted) may.1 (c.tick_slot.ensures.calls may.0));
+      chain = c.tick_slot.ensures.chain ∙ c.loop-slot.invariant.chain;
+    }

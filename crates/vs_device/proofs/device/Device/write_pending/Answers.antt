@@ -1,0 +1,66 @@
+use Rattle.std.proofs.Common.{◌≡◌, ◌≢◌, ℕ, ◌+◌, ◌*◌, ◌≤◌, ◌<◌, Bool, true, false, List, length, drop, get_or, Option, Some, None, refl, sym, ap, subst, ◌∙◌, rules, arith}
+use Rattle.std.specs.Option.{ForSome, IfSome}
+use Rattle.vs_contents.specs.CallTree.{for_each}
+use Rattle.vs_contents.proofs.Leads.{leads_to}
+use Rattle.vs_flow.specs.Table.{Table, entry_under, value_under, with_value, slots}
+use Rattle.vs_outside.specs.Host.{HostContents, IsOpen, TakesSome}
+use Rattle.vs_outside.specs.declared.host_net.StreamWrite.{StreamWrite}
+use Rattle.vs_outside.specs.declared.host_net.StreamWrite.TheVariants as write
+use Rattle.vs_ring_port.specs.Contents.{RingContents}
+use Rattle.vs_device.specs.Calls.{Situation, Allows, WriteStream, ShutWrite}
+use Rattle.vs_device.specs.State.{DeviceConnection, DeviceEntry, DeviceState}
+use Rattle.vs_device.specs.Connections.{with_connection, with_fault, cut_off, after_shut, after_written}
+use Rattle.vs_device.specs.Playing.{MayClose, MayRun, MayRunOnHost, Runs, RunsOnHost, situation}
+use Rattle.vs_device.specs.Streams.{closing, Writing, pump_of, pump_slot, write_pending, write_answered, to_write, shut_write, is_written_out, tick_slot, tick_of}
+use Rattle.vs_device.specs.Written.{writing}
+use Rattle.vs_device.specs.contracts.device.Device.{the_view}
+use Rattle.vs_device.proofs.Leaving.{changed, may_close}
+use Rattle.vs_device.proofs.Under.{IsUnder, under, has_slot, value_of, none_under}
+use Rattle.vs_device.proofs.Each.{each_more, may_each_step, may_each_more, each_end}
+use Rattle.vs_device.proofs.Pumping.{took, host_closed, write_failed, may_fail, may_be_answered, wrote, may_shut_write, was_shut, took_within, HasStream, has_stream, may_write_pending, may_shut_then, pumped}
+use Rattle.std.proofs.Common.{take}
+use Rattle.vs_device.proofs.Under.{value_is}
+use Rattle.vs_device.proofs.device.Device.write_pending.Goals as goal
+
+pub write_answered-requires-clause-may : goal.write_answered-requires-clause-may
+write_answered-requires-clause-may g c = λ e is.
+    let may = c.requires.may e is in
+    let ring : RingContents = may.0 in
+    let d = c.self.inside in
+    let s : DeviceState = c.args.self.now in
+    let w : Writing = writing s c.args.wrote.now in
+    let there : value_under d.slots c.args.slot ≡ Some c.in-Some.connection.now = search rules in
+    let found : entry_under d.slots c.args.slot ≡ Some e = rw (← c.self.view_is) at is in
+    let value : e.value ≡ c.in-Some.connection.now = value_is d.slots c.args.slot e c.in-Some.connection.now found there in
+    let some : length (to_write e.value) ≢ 0 =
+    λ none. c.if-len-eq0.false (c.copy_to_write-len.ensures.count ∙ (ap (λ (v : DeviceConnection). length (to_write v)) (sym value) ∙ none)) in
+    let bytes : List ℕ = take c.copy_to_write-len.result c.copy_to_write-len.new.out in
+    let same : bytes ≡ to_write e.value = c.copy_to_write-len.ensures.copied ∙ ap (λ (v : DeviceConnection). to_write v) (sym value) in
+    let id : c.stream.result ≡ e.value.stream = c.stream.ensures ∙ ap (λ (v : DeviceConnection). v.stream) (sym value) in
+    let x : Situation = situation ring (g.H.HostNet.contents c.args.host.now) (g.H.HostNet.faults c.args.host.now) in
+    let y : Situation = situation ring (g.H.HostNet.contents c.write-answer.new.host) (g.H.HostNet.faults c.write-answer.new.host) in
+    let P : List ℕ → Type 0 = λ b. Allows (WriteStream c.stream.result b) c.write-answer.result x y in
+    let Q : ℕ → Type 0 = λ n. Allows (WriteStream n (to_write e.value)) c.write-answer.result x y in
+    let allowed : Allows (WriteStream e.value.stream (to_write e.value)) c.write-answer.result x y = subst Q id (subst P same (c.write-answer.ensures.calls ring)) in
+    (ring, may_be_answered e w some c.write-answer.result x y may.1 allowed)
+
+pub returns-clause-calls : goal.returns-clause-calls
+returns-clause-calls g c = λ e is ring.
+    let d = c.self.inside in
+    let s : DeviceState = c.args.self.now in
+    let w : Writing = writing s c.args.wrote.now in
+    let there : value_under d.slots c.args.slot ≡ Some c.in-Some.connection.now = search rules in
+    let found : entry_under d.slots c.args.slot ≡ Some e = rw (← c.self.view_is) at is in
+    let value : e.value ≡ c.in-Some.connection.now = value_is d.slots c.args.slot e c.in-Some.connection.now found there in
+    let some : length (to_write e.value) ≢ 0 =
+    λ none. c.if-len-eq0.false (c.copy_to_write-len.ensures.count ∙ (ap (λ (v : DeviceConnection). length (to_write v)) (sym value) ∙ none)) in
+    let bytes : List ℕ = take c.copy_to_write-len.result c.copy_to_write-len.new.out in
+    let same : bytes ≡ to_write e.value = c.copy_to_write-len.ensures.copied ∙ ap (λ (v : DeviceConnection). to_write v) (sym value) in
+    let id : c.stream.result ≡ e.value.stream = c.stream.ensures ∙ ap (λ (v : DeviceConnection). v.stream) (sym value) in
+    let x : Situation = situation ring (g.H.HostNet.contents c.args.host.now) (g.H.HostNet.faults c.args.host.now) in
+    let y : Situation = situation ring (g.H.HostNet.contents c.write-answer.new.host) (g.H.HostNet.faults c.write-answer.new.host) in
+    let P : List ℕ → Type 0 = λ b. Allows (WriteStream c.stream.result b) c.write-answer.result x y in
+    let Q : ℕ → Type 0 = λ n. Allows (WriteStream n (to_write e.value)) c.write-answer.result x y in
+    let allowed : Allows (WriteStream e.value.stream (to_write e.value)) c.write-answer.result x y = subst Q id (subst P same (c.write-answer.ensures.calls ring)) in
+    let z : Situation = situation ring (g.H.HostNet.contents c.write_answered.new.host) (g.H.HostNet.faults c.write_answered.new.host) in
+    wrote e w some c.write-answer.result x y z (writing c.write_answered.new.self c.write_answered.new.wrote) allowed (c.write_answered.ensures.calls e is ring)

@@ -1,0 +1,114 @@
+//! The device: its connections, what it owes to unknown flows, the event that it owes, the chain that it holds, and what it counted.
+
+ghost use Rattle.std.specs.Prelude.{◌≡◌, ◌≤◌, IfOk, length};
+ghost use Rattle.vs_uds.specs.declared.path.TheConstants.{BASE_MAX};
+ghost use Rattle.vs_device.specs.Connections.{with_fault};
+ghost use Rattle.vs_device.specs.Turns.{counters_of, new_device};
+
+use crate::answers::Counters;
+use crate::limits::REPLIES;
+use crate::slots::{BUFFER_LEN, Slots};
+use std::alloc::{AllocError, Global};
+use std::marker::Model;
+use vs_event::OwedEvent;
+use vs_flow::Slot;
+use vs_replies::Replies;
+use vs_ring_port::{Chain, Failure};
+
+/// The device of a socket device's host (Virtio 1.2, section 5.10.6). The ring and the host are lent to each call that needs them, and must
+/// be those of the device's earlier calls. All memory is taken when the device is made.
+#[derive(Drop)]
+pub struct Device {
+    pub(crate) cid: u64,
+    pub(crate) base: String,
+    pub(crate) moment: u64,
+    pub(crate) slots: Slots,
+    pub(crate) replies: Replies,
+    pub(crate) event: OwedEvent,
+    pub(crate) chain: Option<Chain>,
+    pub(crate) last_put: Option<Slot>,
+    pub(crate) failed: Option<Failure>,
+    pub(crate) dropped: u64,
+    pub(crate) overrun: u64,
+    pub(crate) faults: u64,
+    pub(crate) opened: u64,
+    pub(crate) closed: u64,
+    // Room for a packet's payload.
+    pub(crate) scratch: Vec<u8>,
+}
+
+impl Model for Device {
+    ghost use Rattle.std.specs.Prelude.{◌≡◌, ◌≤◌, length};
+    ghost use Rattle.std.specs.String.{string_bytes};
+    ghost use Rattle.vs_device.specs.State.{DeviceState};
+    ghost use Rattle.vs_device.specs.DeviceFields.{AreSound};
+
+    ghost Value = { DeviceState };
+
+    ghost view = { λ d. record {
+      cid = d.cid;
+      base = string_bytes d.base;
+      now = d.moment;
+      table = d.slots;
+      replies = d.replies.owed;
+      event_owed = d.event;
+      chain = d.chain;
+      last_put = d.last_put;
+      failed = d.failed;
+      dropped = d.dropped;
+      overrun = d.overrun;
+      faults = d.faults;
+      opened = d.opened;
+      closed = d.closed;
+    } };
+
+    ghost invariant = { AreSound };
+}
+
+impl Device {
+    /// A device without connections, for the guest with a CID from 3 to 4,294,967,294. The base path is that of the host's sockets, and has 1
+    /// to 90 bytes. All its memory is taken here. The only error is want of memory.
+    pub fn new(alloc: Global, cid: u64, base: &str) -> Result<Device, AllocError>
+        requires cid { (3 ≤ cid) × (cid ≤ 4294967294) }
+        requires base { (1 ≤ length base.now) × (length base.now ≤ BASE_MAX) }
+        ensures { IfOk result (λ device. device ≡ new_device cid base.now) }
+    {
+        Ok(Device {
+            cid,
+            base: String::from_str(alloc, base)?,
+            moment: 0,
+            slots: Slots::new(alloc)?,
+            replies: Replies::new(alloc, REPLIES)?,
+            event: OwedEvent::new(),
+            chain: None,
+            last_put: None,
+            failed: None,
+            dropped: 0,
+            overrun: 0,
+            faults: 0,
+            opened: 0,
+            closed: 0,
+            scratch: vec![in alloc; 0; BUFFER_LEN]?,
+        })
+    }
+
+    /// What the device counted since it was made. A count stands still at the last value of its type.
+    pub fn counters(&self) -> Counters
+        ensures { result ≡ counters_of self.now }
+    {
+        Counters {
+            dropped: self.dropped,
+            overrun: self.overrun,
+            faults: self.faults,
+            opened: self.opened,
+            closed: self.closed,
+        }
+    }
+
+    /// Counts a call on the host that failed.
+    pub(crate) fn count_fault(&mut self)
+        ensures { self.new ≡ with_fault self.old }
+    {
+        self.faults = self.faults.saturating_add(1);
+    }
+}

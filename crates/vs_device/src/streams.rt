@@ -1,0 +1,164 @@
+//! What the device does with the host's streams at a moment, and with the bytes that are pending for them.
+
+ghost use Rattle.std.specs.Prelude.{◌≡◌, ◌≤◌, ◌<◌, ◌+◌, ◌^◌, ℕ, true, false, not, Some, length};
+ghost use Rattle.std.specs.Option.{ForSome, option_map_or};
+ghost use Rattle.vs_conn.specs.End.{may_shut};
+ghost use Rattle.vs_flow.specs.Table.{entry_under};
+ghost use Rattle.vs_outside.specs.Host.{IsOpen, TakesSome};
+ghost use Rattle.vs_outside.specs.declared.host_net.StreamWrite.TheVariants.{Closed};
+ghost use Rattle.vs_device.specs.declared.limits.TheConstants.{WRITE_MAX};
+ghost use Rattle.vs_device.specs.Connections.{is_timed_out};
+ghost use Rattle.vs_device.specs.Playing.{MayRunOnHost, RunsOnHost};
+ghost use Rattle.vs_device.specs.State.{DeviceEntry};
+ghost use Rattle.vs_device.specs.Streams.{tick_of, tick_slot, pump_of, pump_slot, write_pending, write_answered, to_write, shut_write, is_written_out};
+ghost use Rattle.vs_device.specs.Written.{writing};
+
+use crate::device::Device;
+use crate::host_calls::{shut_write, write};
+use crate::limits::{CONNECTIONS, WRITE_MAX};
+use vs_flow::Slot;
+use vs_outside::{HostNet, StreamWrite};
+
+impl Device {
+    /// The moment, in milliseconds, is `now` until the next tick; moments don't fall. Each connection that waits 2,000 milliseconds or more ends:
+    /// for the answer to its REQUEST, or since it had decided to shut both directions. Its stream is closed, and RST is owed.
+    pub fn tick<H: HostNet>(&mut self, now: u64, host: &mut H)
+        requires may { MayRunOnHost (tick_of now self.old) (H.contents host.old) (H.faults host.old) }
+        ensures calls { RunsOnHost (tick_of now self.old) (H.contents host.old) (H.faults host.old) self.new (H.contents host.new) (H.faults host.new) }
+        ensures chain { self.new.chain ≡ self.old.chain }
+    {
+        self.moment = now;
+        let slots = self.slots.all();
+        for slot in slots.as_slice() {
+            self.tick_slot(host, *slot);
+        }
+    }
+
+    // Ends the connection in a slot where it waits too long.
+    fn tick_slot<H: HostNet>(&mut self, host: &mut H, slot: Slot)
+        requires may { MayRunOnHost (tick_slot slot self.old) (H.contents host.old) (H.faults host.old) }
+        ensures calls { RunsOnHost (tick_slot slot self.old) (H.contents host.old) (H.faults host.old) self.new (H.contents host.new) (H.faults host.new) }
+        ensures chain { self.new.chain ≡ self.old.chain }
+    {
+        if self.is_timed_out(slot) {
+            self.cut_off(host, slot);
+        }
+    }
+
+    // Whether the connection in a slot waits too long.
+    fn is_timed_out(&self, slot: Slot) -> bool
+        ensures { result ≡ option_map_or (λ e. is_timed_out self.now.now e.value) (entry_under self.now.table slot) false }
+    {
+        match self.slots.connection(slot) {
+            Some(connection) => connection.is_timed_out(self.moment),
+            None => false,
+        }
+    }
+
+    /// Writes what is pending to the host's streams, by rising slot: of each connection at most 4,096 bytes, the OK line before all payload. A
+    /// stream that the host closed is written to no more. The write side of a stream is shut once, when the guest sends no more and all is
+    /// written. Returns how many bytes were written.
+    pub fn pump_out<H: HostNet>(&mut self, host: &mut H) -> u32
+        requires may { MayRunOnHost (pump_of self.old) (H.contents host.old) (H.faults host.old) }
+        ensures calls { RunsOnHost (pump_of self.old) (H.contents host.old) (H.faults host.old) (writing self.new result) (H.contents host.new) (H.faults host.new) }
+        ensures chain { self.new.chain ≡ self.old.chain }
+    {
+        let slots = self.slots.all();
+        let mut wrote = 0;
+        for slot in slots.as_slice() {
+            self.pump_slot(host, *slot, &mut wrote);
+        }
+        wrote
+    }
+
+    // Writes what is pending on the connection in a slot, whose stream isn't closed.
+    fn pump_slot<H: HostNet>(&mut self, host: &mut H, slot: Slot, wrote: &mut u32)
+        requires few { wrote.old + WRITE_MAX < 2 ^ 32 }
+        requires may { MayRunOnHost (pump_slot slot (writing self.old wrote.old)) (H.contents host.old) (H.faults host.old) }
+        ensures calls { RunsOnHost (pump_slot slot (writing self.old wrote.old)) (H.contents host.old) (H.faults host.old) (writing self.new wrote.new) (H.contents host.new) (H.faults host.new) }
+        ensures chain { self.new.chain ≡ self.old.chain }
+        ensures count { wrote.new ≤ wrote.old + WRITE_MAX }
+    {
+        if self.has_stream(slot) {
+            self.write_pending(host, slot, wrote);
+            self.shut_write(host, slot);
+        }
+    }
+
+    // Whether a connection is in a slot whose stream isn't closed.
+    fn has_stream(&self, slot: Slot) -> bool
+        ensures { result ≡ option_map_or (λ e. not e.value.closed) (entry_under self.now.table slot) false }
+    {
+        match self.slots.connection(slot) {
+            Some(connection) => !connection.is_closed(),
+            None => false,
+        }
+    }
+
+    // Writes the first bytes that are pending on the connection in a slot.
+    fn write_pending<H: HostNet>(&mut self, host: &mut H, slot: Slot, wrote: &mut u32)
+        requires few { wrote.old + WRITE_MAX < 2 ^ 32 }
+        requires may { (e : DeviceEntry) → entry_under self.old.table slot ≡ Some e → MayRunOnHost (write_pending e (writing self.old wrote.old)) (H.contents host.old) (H.faults host.old) }
+        ensures calls { (e : DeviceEntry) → entry_under self.old.table slot ≡ Some e → RunsOnHost (write_pending e (writing self.old wrote.old)) (H.contents host.old) (H.faults host.old) (writing self.new wrote.new) (H.contents host.new) (H.faults host.new) }
+        ensures chain { self.new.chain ≡ self.old.chain }
+        ensures count { wrote.new ≤ wrote.old + WRITE_MAX }
+    {
+        let mut buffer = [0; WRITE_MAX];
+        let Some(connection) = self.slots.connection(slot) else {
+            return;
+        };
+        let len = connection.copy_to_write(&mut buffer);
+        if len == 0 {
+            return;
+        }
+        let answer = write(host, connection.stream(), &buffer[..len]);
+        self.write_answered(host, slot, answer, wrote);
+    }
+
+    // A write of the first bytes that are pending on the connection in a slot was answered.
+    fn write_answered<H: HostNet>(
+        &mut self,
+        host: &mut H,
+        slot: Slot,
+        answer: StreamWrite,
+        wrote: &mut u32,
+    )
+        requires few { wrote.old + WRITE_MAX < 2 ^ 32 }
+        requires some { (e : DeviceEntry) → entry_under self.old.table slot ≡ Some e → TakesSome answer (length (to_write e.value)) }
+        requires most { TakesSome answer WRITE_MAX }
+        requires stands { (e : DeviceEntry) → entry_under self.old.table slot ≡ Some e → may_shut e.value.end.state ≡ true }
+        requires may { (e : DeviceEntry) → entry_under self.old.table slot ≡ Some e → MayRunOnHost (write_answered e answer (writing self.old wrote.old)) (H.contents host.old) (H.faults host.old) }
+        ensures calls { (e : DeviceEntry) → entry_under self.old.table slot ≡ Some e → RunsOnHost (write_answered e answer (writing self.old wrote.old)) (H.contents host.old) (H.faults host.old) (writing self.new wrote.new) (H.contents host.new) (H.faults host.new) }
+        ensures chain { self.new.chain ≡ self.old.chain }
+        ensures count { wrote.new ≤ wrote.old + WRITE_MAX }
+    {
+        match answer {
+            StreamWrite::Took(n) => {
+                self.slots.written(slot, n);
+                *wrote += n as u32;
+            }
+            StreamWrite::Again => {}
+            StreamWrite::Closed => self.slots.shut(slot, 1, self.moment),
+            StreamWrite::Failed => {
+                self.count_fault();
+                self.cut_off(host, slot);
+            }
+        }
+    }
+
+    // Shuts the write side of the stream of the connection in a slot, where the guest sends no more and all is written.
+    fn shut_write<H: HostNet>(&mut self, host: &mut H, slot: Slot)
+        requires may { (e : DeviceEntry) → entry_under self.old.table slot ≡ Some e → is_written_out e.value ≡ true → ForSome (H.contents host.old) (IsOpen e.value.stream) }
+        ensures calls { (n : ℕ) → RunsOnHost (shut_write slot (writing self.old n)) (H.contents host.old) (H.faults host.old) (writing self.new n) (H.contents host.new) (H.faults host.new) }
+        ensures chain { self.new.chain ≡ self.old.chain }
+    {
+        let Some(connection) = self.slots.connection(slot) else {
+            return;
+        };
+        if !connection.is_written_out() {
+            return;
+        }
+        shut_write(host, connection.stream());
+        self.slots.write_shut(slot);
+    }
+}
