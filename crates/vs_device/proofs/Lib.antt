@@ -5,3 +5,5 @@ mod Leaving
 mod Each
 mod Pumping
 mod Written
+mod Verdicts
+mod Takings

@@ -11,3 +11,4 @@ pub mod SlotFields
 pub mod Playing
 pub mod DeviceFields
 pub mod Written
+pub mod Taking

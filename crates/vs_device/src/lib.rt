@@ -8,8 +8,10 @@ mod connection;
 mod device;
 mod host_calls;
 pub mod limits;
+mod ring_calls;
 mod slots;
 mod streams;
+mod transmit;
 
 pub use answers::{Counters, Filled, Taken};
 pub use device::Device;
