@@ -7,3 +7,5 @@ mod Pumping
 mod Written
 mod Verdicts
 mod Takings
+mod EventPaying
+mod Resetting
