@@ -5,10 +5,7 @@ mod Leaving
 mod Each
 mod Pumping
 mod Written
-mod Rounds
-mod Trees
-mod Putting
-mod Writes
-mod Paying
-mod Reading
-mod Held
+mod Verdicts
+mod Takings
+mod EventPaying
+mod Resetting

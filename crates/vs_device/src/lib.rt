@@ -6,13 +6,15 @@ pub mod answers;
 mod closing;
 mod connection;
 mod device;
+mod events;
 mod host_calls;
 pub mod limits;
-mod packets;
-mod receive;
-mod round;
+mod ring_calls;
 mod slots;
 mod streams;
+mod transmit;
+mod turns;
 
 pub use answers::{Counters, Filled, Taken};
 pub use device::Device;
+pub use turns::Entries;

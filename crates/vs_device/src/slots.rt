@@ -181,6 +181,23 @@ impl Slots {
         insert(&mut self.table, flow, connection);
     }
 
+    /// All connections leave the table.
+    pub fn clear(&mut self)
+        ensures { self.new ≡ emptied self.old }
+    {
+        while let Some(slot) = self.first() {
+            self.leave(slot);
+        }
+    }
+
+    // The slot of the connection that was opened first of those in the table.
+    fn first(&self) -> Option<Slot>
+        ensures first { result ≡ option_map (λ e. e.slot) (slice_get self.now.entries 0) }
+        ensures sound { IsTable self.now }
+    {
+        Some(self.table.at(0)?.slot)
+    }
+
     /// The connection in a slot leaves the table, and its slot is free.
     pub fn leave(&mut self, slot: Slot)
         ensures { self.new ≡ without self.old slot }
@@ -199,6 +216,7 @@ impl Slots {
         ensures verdict { (c : DeviceConnection) → value_under self.old slot ≡ Some c → result ≡ verdict_of c.end header.now }
         ensures left { (c : DeviceConnection) → value_under self.old slot ≡ Some c → self.new ≡ with_value self.old slot (heard header.now c) }
         ensures room { (c : DeviceConnection) → value_under self.old slot ≡ Some c → result ≡ Deliver → length c.pending + header.now.len ≤ unread_of (heard header.now c).end.credit }
+        ensures most { (c : DeviceConnection) → value_under self.old slot ≡ Some c → result ≡ Deliver → header.now.len ≤ BUF_ALLOC }
         ensures delivers { (c : DeviceConnection) → value_under self.old slot ≡ Some c → result ≡ Deliver → may_shut (heard header.now c).end.state ≡ true }
         ensures accepts { (c : DeviceConnection) → value_under self.old slot ≡ Some c → result ≡ Accept → may_shut (heard header.now c).end.state ≡ true }
     {
