@@ -3,14 +3,13 @@ ghost use Rattle.std.specs.Prelude.{◌≡◌, ◌<◌, ◌≤◌, IfOk, Contain
 ghost use Rattle.vs_guest_mem.specs.Memory.{after_write, is_inside};
 ghost use Rattle.vs_layout.specs.Layout.{AreInside};
 ghost use Rattle.vs_ring_port.specs.declared.queue.TheConstants.{QUEUE_SIZE_MAX};
-ghost use Rattle.vs_ring_plain.specs.Device.{answer_to, areas_at, chain_at, chains_held, new_device, with_change, with_memory};
-ghost use Rattle.vs_ring_plain.specs.Chain.{total_len};
+ghost use Rattle.vs_ring_plain.specs.Device.{answer_to, areas_at, chains_held, new_device, with_change, with_memory};
 ghost use Rattle.vs_ring_plain.specs.Take.{whole};
 ghost use Rattle.vs_ring_port.specs.Contents.{Take, Read, Write, Return, Given};
 
 use crate::access::{count_given, read_pieces, return_chain, write_pieces};
-use crate::piece::Piece;
-use crate::take::{PlainQueue, take_chain, total_len};
+use crate::holds::HeldChains;
+use crate::take::PlainQueue;
 use crate::turns::{QueueTurns, Turns};
 use std::alloc::{AllocError, Global};
 use std::marker::Model;
@@ -18,17 +17,12 @@ use vs_guest_mem::{AddrRange, PlainMem};
 use vs_layout::{Areas, QueueAreas};
 use vs_ring_port::{Chain, DeviceRing, Next, Queue};
 
-/// A chain that is held, and the number of its first descriptor.
-#[derive(Debug, Drop)]
-struct Hold {
-    chain: Chain,
-    head: u16,
-}
-
-/// The device's end of the three queues in a guest's memory (Virtio 1.2, section 2.7), whatever lies in it and whoever writes there. It
-/// holds one chain at a time: until that is returned, `next` finds none.
+/// The device's end of the three queues in a guest's memory (Virtio 1.2, section 2.7), whatever lies in it and whoever writes there. Of
+/// each queue it holds as many chains as that has places, but only one that has several pieces: until one of those is returned, `next`
+/// finds no other there.
 ///
-/// Seen as the memory, where the queues lie, how many chains of each were taken and returned, and the chain held with its pieces.
+/// Seen as the memory, where the queues lie, how many chains of each were taken and returned, and the chains held with their pieces.
+/// All memory is taken when it is made.
 #[derive(Drop)]
 pub struct DeviceSide {
     mem: PlainMem,
@@ -36,9 +30,7 @@ pub struct DeviceSide {
     areas: QueueAreas,
     indirect: bool,
     turns: QueueTurns,
-    hold: Option<Hold>,
-    // The pieces of the chain held. Room for as many as a queue has descriptors.
-    pieces: Vec<Piece>,
+    held: HeldChains,
 }
 
 impl Model for DeviceSide {
@@ -83,8 +75,7 @@ impl DeviceSide {
                 tx: none,
                 event: none,
             },
-            hold: None,
-            pieces: Vec::with_capacity(alloc, n as usize)?,
+            held: HeldChains::new(alloc, n)?,
         })
     }
 
@@ -127,25 +118,20 @@ impl DeviceSide {
         self.mem.change_before(alloc, nth, addr, bytes)
     }
 
-    /// Takes the next chain of a queue. While a chain is held there is none, and no access is made.
-    #[tactic(auto, using(crate::proofs::Holds::sound_found))]
+    /// Takes the next chain of a queue. Where as many are held as it has places, or one that has several pieces, there is none, and no
+    /// access is made.
     pub fn take(&mut self, queue: Queue) -> Next
         ensures { answer_to (Take queue) self.old ≡ (result, self.new) }
     {
-        if self.hold.is_some() {
+        if self.held.is_busy(queue) {
             return Next::None;
         }
         let ring = queue_in(queue, self.size, &self.areas, self.indirect);
         let taken = self.turns.at(queue).taken;
-        match take_chain(&mut self.mem, &ring, taken, &mut self.pieces) {
+        match self.held.take(&mut self.mem, &ring, taken) {
             Ok(None) => Next::None,
             Err(failure) => Next::Failed(failure),
-            Ok(Some(head)) => {
-                let chain = chain_of(queue, taken % self.size, &self.pieces);
-                self.hold = Some(Hold {
-                    chain: twin(&chain),
-                    head,
-                });
+            Ok(Some(chain)) => {
                 self.turns.take(queue);
                 Next::Chain(chain)
             }
@@ -153,23 +139,21 @@ impl DeviceSide {
     }
 
     /// Reads the bytes of a chain from place `at` on: one access for each piece that they lie in.
-    #[tactic(auto, using(crate::proofs::Holds::held_inside, crate::proofs::Holds::held_pieces, crate::proofs::Holds::held_readable))]
     pub fn read_chain(&mut self, chain: &Chain, at: u64, out: &mut [u8])
         requires is_held { Contains (chains_held self.old) chain.now }
         requires in_range { at + length out.old ≤ chain.now.readable }
         ensures { answer_to (Read chain.now at (length out.old)) self.old ≡ (out.new, self.new) }
     {
-        read_pieces(&mut self.mem, &self.pieces, at, out);
+        read_pieces(&mut self.mem, self.held.pieces(chain), at, out);
     }
 
     /// Writes into a chain from place `at` on: one access for each piece that the bytes lie in.
-    #[tactic(auto, using(crate::proofs::Holds::held_inside, crate::proofs::Holds::held_pieces, crate::proofs::Holds::held_writable))]
     pub fn write_chain(&mut self, chain: &Chain, at: u64, bytes: &[u8])
         requires is_held { Contains (chains_held self.old) chain.now }
         requires in_range { at + length bytes.now ≤ chain.now.writable }
         ensures { answer_to (Write chain.now at bytes.now) self.old ≡ (tt, self.new) }
     {
-        write_pieces(&mut self.mem, &self.pieces, at, bytes);
+        write_pieces(&mut self.mem, self.held.pieces(chain), at, bytes);
     }
 
     /// Returns a chain into which `len` bytes were written: the used element, then the index of the used ring, one access each.
@@ -179,16 +163,9 @@ impl DeviceSide {
     {
         let queue = chain.queue;
         let ring = queue_in(queue, self.size, &self.areas, self.indirect);
-        if let Some(hold) = self.hold.take() {
-            return_chain(
-                &mut self.mem,
-                &ring,
-                self.turns.at(queue).used,
-                hold.head,
-                len,
-            );
-            self.turns.give_back(queue);
-        }
+        let head = self.held.release(&chain);
+        return_chain(&mut self.mem, &ring, self.turns.at(queue).used, head, len);
+        self.turns.give_back(queue);
     }
 
     /// How many chains of a queue are given and not returned, by the index of the available ring: one access. No more than the queue has
@@ -216,36 +193,6 @@ fn queue_in(queue: Queue, n: u16, areas: &QueueAreas, indirect: bool) -> PlainQu
         n,
         areas,
         indirect,
-    }
-}
-
-// The chain of these pieces: the device reads tx and writes rx and event.
-fn chain_of(queue: Queue, place: u16, pieces: &[Piece]) -> Chain
-    requires few { length pieces.now < 2 ^ 16 }
-    ensures { result ≡ chain_at queue place pieces.now }
-{
-    let total = total_len(pieces);
-    let (readable, writable) = match queue {
-        Queue::Tx => (total, 0),
-        Queue::Rx | Queue::Event => (0, total),
-    };
-    Chain {
-        queue,
-        place,
-        readable,
-        writable,
-    }
-}
-
-// The same chain once more: one for the device, one for this end.
-fn twin(chain: &Chain) -> Chain
-    ensures { result ≡ chain.now }
-{
-    Chain {
-        queue: chain.queue,
-        place: chain.place,
-        readable: chain.readable,
-        writable: chain.writable,
     }
 }
 
