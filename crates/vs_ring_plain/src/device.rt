@@ -1,6 +1,7 @@
 //! The device's end of the three queues in a guest's memory.
 ghost use Rattle.std.specs.Prelude.{◌≡◌, ◌<◌, ◌≤◌, IfOk, Contains, length, ◌+◌, ◌^◌, IsTrue, IfErr, OnErr, OnOk, is_ok};
-ghost use Rattle.vs_guest_mem.specs.Memory.{after_write, is_inside};
+ghost use Rattle.vs_guest_mem.specs.Memory.{after_write, bytes_at, is_inside};
+ghost use Rattle.vs_ring_port.specs.declared.queue.Queue.{Queue};
 ghost use Rattle.vs_layout.specs.Layout.{AreInside};
 ghost use Rattle.vs_ring_port.specs.declared.queue.TheConstants.{QUEUE_SIZE_MAX};
 ghost use Rattle.vs_ring_plain.specs.Device.{answer_to, areas_at, chains_held, new_device, with_change, with_memory};
@@ -84,6 +85,35 @@ impl DeviceSide {
         ensures { result.now ≡ self.now.memory }
     {
         &self.mem
+    }
+
+    /// Where the queues lie: all of their areas are in the memory.
+    pub fn areas(&self) -> QueueAreas
+        ensures value { result ≡ self.now.areas }
+        ensures inside { (queue : Queue) → AreInside (areas_at queue self.now.areas) self.now.size (whole self.now.memory) }
+        ensures fits { self.now.memory.base + length self.now.memory.bytes < 2 ^ 64 }
+        ensures nonzero { 0 < self.now.size }
+        ensures limit { self.now.size ≤ QUEUE_SIZE_MAX }
+    {
+        let _fits = self.mem.size();
+        self.areas
+    }
+
+    /// Writes bytes, all of them inside the memory, as the driver does: without an access of the device.
+    pub fn set(&mut self, addr: u64, bytes: &[u8])
+        requires inside { IsTrue (is_inside self.old.memory addr (length bytes.now)) }
+        ensures written { self.new ≡ with_memory self.old (after_write self.old.memory addr bytes.now) }
+        ensures size { length self.new.memory.bytes ≡ length self.old.memory.bytes }
+    {
+        let _written = self.mem.poke(addr, bytes);
+    }
+
+    /// Reads bytes, all of them inside the memory, as the driver does: without an access of the device.
+    pub fn get(&self, addr: u64, out: &mut [u8])
+        requires inside { IsTrue (is_inside self.now.memory addr (length out.old)) }
+        ensures { out.new ≡ bytes_at self.now.memory addr (length out.old) }
+    {
+        let _read = self.mem.look(addr, out);
     }
 
     /// Writes bytes as somebody else does, without an access of the device. `AddrRange` where a byte lies outside the memory; all is as
