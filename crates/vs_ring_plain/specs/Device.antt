@@ -1,6 +1,6 @@
 -- The device's end of the three queues in a guest's memory, as a plain value: each call's answer and what is left are functions of it
 -- (Virtio 1.2, section 2.7).
-use Rattle.std.specs.Prelude.{ℕ, ◌+◌, ◌%◌, ◌^◌, Bool, false, List, [], ◌∷◌, ◌++◌, length, map, Option, None, Some, if◌then◌else◌, ◌&&◌, ◌||◌, ◌==◌, not, nat_le, nat_lt, count_by}
+use Rattle.std.specs.Prelude.{◌≡◌, ℕ, ◌+◌, ◌%◌, ◌^◌, Bool, false, List, [], ◌∷◌, ◌++◌, length, map, Option, None, Some, if◌then◌else◌, ◌&&◌, ◌||◌, ◌==◌, not, nat_le, nat_lt, count_by}
 use Rattle.vs_guest_mem.specs.Memory.{Change, Memory}
 use Rattle.vs_layout.specs.declared.place.Areas.{Areas}
 use Rattle.vs_layout.specs.declared.placement.QueueAreas.{QueueAreas}
@@ -70,6 +70,13 @@ ring_at queue d = record {
 -- The device with another memory.
 abbrev pub with_memory : DeviceState → Memory → DeviceState
 with_memory d m = record d { memory = m }
+
+-- The queues and the memory lie where they did.
+pub record SamePlace (old new : DeviceState) : Type 0 where
+  pub base : new.memory.base ≡ old.memory.base
+  pub bytes : length new.memory.bytes ≡ length old.memory.bytes
+  pub same_size : new.size ≡ old.size
+  pub same_areas : new.areas ≡ old.areas
 
 -- The memory with one more change to come.
 abbrev pub with_change : Memory → Change → Memory

@@ -115,6 +115,7 @@ pub(crate) fn count_given(mem: &mut PlainMem, queue: &PlainQueue, used: u16) -> 
     requires inside { AreInside queue.now.areas queue.now.n (whole mem.old) }
     ensures exact { over (given (ring_in queue.now mem.old) used) mem.old ≡ (result, mem.new) }
     ensures within { result ≤ queue.now.n }
+    ensures base { mem.new.base ≡ mem.old.base }
     ensures size { length mem.new.bytes ≡ length mem.old.bytes }
 {
     let _fits = mem.size();

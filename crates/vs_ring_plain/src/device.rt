@@ -4,7 +4,7 @@ ghost use Rattle.vs_guest_mem.specs.Memory.{after_write, bytes_at, is_inside};
 ghost use Rattle.vs_ring_port.specs.declared.queue.Queue.{Queue};
 ghost use Rattle.vs_layout.specs.Layout.{AreInside};
 ghost use Rattle.vs_ring_port.specs.declared.queue.TheConstants.{QUEUE_SIZE_MAX};
-ghost use Rattle.vs_ring_plain.specs.Device.{answer_to, areas_at, chains_held, new_device, with_change, with_memory};
+ghost use Rattle.vs_ring_plain.specs.Device.{SamePlace, answer_to, areas_at, chains_held, new_device, with_change, with_memory};
 ghost use Rattle.vs_ring_plain.specs.Take.{whole};
 ghost use Rattle.vs_ring_port.specs.Contents.{Take, Read, Write, Return, Given};
 
@@ -103,7 +103,7 @@ impl DeviceSide {
     pub fn set(&mut self, addr: u64, bytes: &[u8])
         requires inside { IsTrue (is_inside self.old.memory addr (length bytes.now)) }
         ensures written { self.new ≡ with_memory self.old (after_write self.old.memory addr bytes.now) }
-        ensures size { length self.new.memory.bytes ≡ length self.old.memory.bytes }
+        ensures place { SamePlace self.old self.new }
     {
         let _written = self.mem.poke(addr, bytes);
     }
@@ -123,6 +123,7 @@ impl DeviceSide {
         ensures written { OnOk result (self.new ≡ with_memory self.old (after_write self.old.memory addr bytes.now)) }
         ensures err { IfErr result (λ e. e ≡ record { addr = addr; len = length bytes.now }) }
         ensures unchanged { OnErr result (self.new ≡ self.old) }
+        ensures place { SamePlace self.old self.new }
     {
         self.mem.poke(addr, bytes)
     }
@@ -144,6 +145,7 @@ impl DeviceSide {
           bytes = bytes.now;
         })) }
         ensures err { OnErr result (self.new ≡ self.old) }
+        ensures place { SamePlace self.old self.new }
     {
         self.mem.change_before(alloc, nth, addr, bytes)
     }
@@ -151,7 +153,8 @@ impl DeviceSide {
     /// Takes the next chain of a queue. Where as many are held as it has places, or one that has several pieces, there is none, and no
     /// access is made.
     pub fn take(&mut self, queue: Queue) -> Next
-        ensures { answer_to (Take queue) self.old ≡ (result, self.new) }
+        ensures exact { answer_to (Take queue) self.old ≡ (result, self.new) }
+        ensures place { SamePlace self.old self.new }
     {
         if self.held.is_busy(queue) {
             return Next::None;
@@ -172,7 +175,8 @@ impl DeviceSide {
     pub fn read_chain(&mut self, chain: &Chain, at: u64, out: &mut [u8])
         requires is_held { Contains (chains_held self.old) chain.now }
         requires in_range { at + length out.old ≤ chain.now.readable }
-        ensures { answer_to (Read chain.now at (length out.old)) self.old ≡ (out.new, self.new) }
+        ensures exact { answer_to (Read chain.now at (length out.old)) self.old ≡ (out.new, self.new) }
+        ensures place { SamePlace self.old self.new }
     {
         read_pieces(&mut self.mem, self.held.pieces(chain), at, out);
     }
@@ -181,7 +185,8 @@ impl DeviceSide {
     pub fn write_chain(&mut self, chain: &Chain, at: u64, bytes: &[u8])
         requires is_held { Contains (chains_held self.old) chain.now }
         requires in_range { at + length bytes.now ≤ chain.now.writable }
-        ensures { answer_to (Write chain.now at bytes.now) self.old ≡ (tt, self.new) }
+        ensures exact { answer_to (Write chain.now at bytes.now) self.old ≡ (tt, self.new) }
+        ensures place { SamePlace self.old self.new }
     {
         write_pieces(&mut self.mem, self.held.pieces(chain), at, bytes);
     }
@@ -189,7 +194,8 @@ impl DeviceSide {
     /// Returns a chain into which `len` bytes were written: the used element, then the index of the used ring, one access each.
     pub fn give_back(&mut self, chain: Chain, len: u32)
         requires is_held { Contains (chains_held self.old) chain }
-        ensures { answer_to (Return chain len) self.old ≡ (tt, self.new) }
+        ensures exact { answer_to (Return chain len) self.old ≡ (tt, self.new) }
+        ensures place { SamePlace self.old self.new }
     {
         let queue = chain.queue;
         let ring = queue_in(queue, self.size, &self.areas, self.indirect);
@@ -202,6 +208,7 @@ impl DeviceSide {
     /// places.
     pub fn given_of(&mut self, queue: Queue) -> u16
         ensures exact { answer_to (Given queue) self.old ≡ (result, self.new) }
+        ensures place { SamePlace self.old self.new }
         ensures within { result ≤ self.old.size }
     {
         let ring = queue_in(queue, self.size, &self.areas, self.indirect);

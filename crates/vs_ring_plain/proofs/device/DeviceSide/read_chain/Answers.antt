@@ -27,8 +27,8 @@ invariant_of-self c =
     c.read_pieces.ensures.size refl (sound_in c.self.inside.mem c.read_pieces.new.mem c.self.inside.held.chains c.read_pieces.ensures.base
     c.read_pieces.ensures.size c.self.invariant.held)
 
-pub returns : goal.returns
-returns c =
+pub returns-clause-exact : goal.returns-clause-exact
+returns-clause-exact c =
     subst (λ (d : DeviceState). answer_to (Read c.args.chain.now c.args.at (length c.args.out.now)) d
     ≡ (c.read_pieces.new.out, with_memory (state_in c.self.inside) c.read_pieces.new.mem)) c.self.view_is
     (ap (λ (r : List ℕ × Memory). (r.0, with_memory (state_in c.self.inside) r.1))

@@ -27,8 +27,8 @@ invariant_of-self c =
     c.write_pieces.ensures.size refl (sound_in c.self.inside.mem c.write_pieces.new.mem c.self.inside.held.chains c.write_pieces.ensures.base
     c.write_pieces.ensures.size c.self.invariant.held)
 
-pub returns : goal.returns
-returns c =
+pub returns-clause-exact : goal.returns-clause-exact
+returns-clause-exact c =
     subst (λ (d : DeviceState). answer_to (Write c.args.chain.now c.args.at c.args.bytes.now) d
     ≡ (tt, with_memory (state_in c.self.inside) c.write_pieces.new.mem)) c.self.view_is
     (ap (λ (r : Unit {0} × Memory). (r.0, with_memory (state_in c.self.inside) r.1))
