@@ -117,6 +117,8 @@ impl DriverQueue {
         ensures page_back { IfErr result (λ back. back ≡ page) }
         ensures same { OnErr result ((self.new ≡ self.old) × (device.new ≡ device.old)) }
         ensures place { SamePlace device.old device.new }
+        ensures same_size { self.new.n ≡ self.old.n }
+        ensures same_place { self.new.pages_at ≡ self.old.pages_at }
     {
         let areas = areas_of(device, queue);
         let Some(id) = self.free.pop_front() else {
@@ -139,6 +141,8 @@ impl DriverQueue {
         ensures memory { device.new ≡ with_memory device.old
             (published_memory (areas_at queue device.old.areas) self.old device.old.memory) }
         ensures place { SamePlace device.old device.new }
+        ensures same_size { self.new.n ≡ self.old.n }
+        ensures same_place { self.new.pages_at ≡ self.old.pages_at }
     {
         if self.staged != 0 {
             let areas = areas_of(device, queue);
