@@ -1,5 +1,5 @@
 -- Each call of the device over its plain state is one that the ring's port allows.
-use Rattle.std.proofs.Common.{◌≡◌, ℕ, true, false, cond, List, [], ◌∷◌, map, None, Some, refl, sym, ap, ◌∙◌, subst, arith}
+use Rattle.std.proofs.Common.{◌≡◌, ℕ, Bool, true, false, cond, List, [], ◌∷◌, map, None, Some, refl, sym, ap, ◌∙◌, subst, arith}
 use Rattle.std.proofs.lemmas.Bool.{false≢true}
 use Rattle.std.specs.Prelude.{◌%◌, IfSome}
 use Rattle.std.proofs.lemmas.Bool.Decides.{nat_tests}
@@ -10,12 +10,13 @@ use Rattle.vs_ring_port.specs.EndLog.{EndLog}
 use Rattle.vs_ring_port.specs.Lists.{Rings}
 use Rattle.vs_ring_port.specs.declared.device_ring.Chain.{Chain}
 use Rattle.vs_ring_port.specs.declared.device_ring.Next.{Next}
+use Rattle.vs_ring_port.specs.declared.device_ring.Next.TheVariants as next
 use Rattle.vs_ring_port.specs.declared.queue.Queue.{Queue}
 use Rattle.vs_ring_port.specs.declared.queue.Queue.TheVariants.{Rx, Tx, Event}
 use Rattle.vs_ring_plain.specs.declared.piece.Piece.{Piece}
 use Rattle.vs_ring_plain.specs.Accesses.{over}
 use Rattle.vs_ring_plain.specs.Chain.{Ring, Taken, taking, too_small, total_len, NoChain, Failed, Chain as Found}
-use Rattle.vs_ring_plain.specs.Device.{DeviceState, HeldChain, answer_next, answer_taken, answer_to, chain_at, chains_held, contents_of, plain_state, ring_at, turns_at, with_memory, without_hold}
+use Rattle.vs_ring_plain.specs.Device.{DeviceState, HeldChain, answer_found, answer_taken, is_busy, answer_to, chain_at, chains_held, contents_of, plain_state, ring_at, turns_at, with_memory, without_hold}
 use Rattle.vs_ring_plain.proofs.Outcomes.{IsGoodTaken, good_taken}
 
 -- where the plain state alone is exposed, a call and its answer by that state are allowed
@@ -68,17 +69,18 @@ takes queue r (Found head pieces) d is good = record {
 }
 takes queue r (Failed failure) d is good = record { held = refl; queue_is = tt; long_enough = tt; same_size = refl }
 
-takes_next : (queue : Queue) (held : List HeldChain) (d : DeviceState) → let a = answer_next queue held d in Takes queue a.0 d a.1
-takes_next queue [] d =
+takes_next : (queue : Queue) (busy : Bool) (d : DeviceState)
+    → let a = cond busy (next.None, d) (answer_found queue d) in Takes queue a.0 d a.1
+takes_next queue false d =
     let r = ring_at queue d in let found = over (taking r (turns_at queue d.turns).taken) d.memory in
     let t = takes queue r found.0 (with_memory d found.1) refl (good_taken r (turns_at queue d.turns).taken d.memory) in
     record { held = t.held; queue_is = t.queue_is; long_enough = t.long_enough; same_size = t.same_size }
-takes_next queue (h ∷ held) d = record { held = refl; queue_is = tt; long_enough = tt; same_size = refl }
+takes_next queue true d = record { held = refl; queue_is = tt; long_enough = tt; same_size = refl }
 
 pub takes_by : (queue : Queue) (result : Next) (old new : DeviceState) → answer_to (Take queue) old ≡ (result, new)
     → Takes queue result old new
 takes_by queue result old new is =
-    subst (λ (a : Next × DeviceState). Takes queue a.0 old a.1) is (takes_next queue old.held old)
+    subst (λ (a : Next × DeviceState). Takes queue a.0 old a.1) is (takes_next queue (is_busy queue old.size old.held) old)
 
 -- the chains alone, after a return
 pub chains-without_hold : (c : Chain) (held : List HeldChain)

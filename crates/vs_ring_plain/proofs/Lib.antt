@@ -2,5 +2,6 @@ pub mod Taking
 pub mod Walk
 pub mod Moving
 pub mod Outcomes
-pub mod Holds
+pub mod HeldChains
+pub mod DeviceOrder
 pub mod Calls

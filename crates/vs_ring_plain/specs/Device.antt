@@ -1,10 +1,10 @@
 -- The device's end of the three queues in a guest's memory, as a plain value: each call's answer and what is left are functions of it
 -- (Virtio 1.2, section 2.7).
-use Rattle.std.specs.Prelude.{ℕ, ◌+◌, ◌%◌, ◌^◌, Bool, false, List, [], ◌∷◌, ◌++◌, length, map, Option, None, Some, if◌then◌else◌}
+use Rattle.std.specs.Prelude.{◌≡◌, ℕ, ◌+◌, ◌%◌, ◌^◌, Bool, false, List, [], ◌∷◌, ◌++◌, length, map, Option, None, Some, if◌then◌else◌, ◌&&◌, ◌||◌, ◌==◌, not, nat_le, nat_lt, count_by}
 use Rattle.vs_guest_mem.specs.Memory.{Change, Memory}
 use Rattle.vs_layout.specs.declared.place.Areas.{Areas}
 use Rattle.vs_layout.specs.declared.placement.QueueAreas.{QueueAreas}
-use Rattle.vs_ring_port.specs.Chains.{same_chain}
+use Rattle.vs_ring_port.specs.Chains.{same_chain, same_queue}
 use Rattle.vs_ring_port.specs.Contents.{RingContents, PlainState, DeviceCall, DeviceAnswer, Take, Read, Write, Return, Given, PublishCid}
 use Rattle.vs_ring_port.specs.declared.device_ring.Chain.{Chain}
 use Rattle.vs_ring_port.specs.declared.device_ring.Next.{Next}
@@ -71,6 +71,13 @@ ring_at queue d = record {
 abbrev pub with_memory : DeviceState → Memory → DeviceState
 with_memory d m = record d { memory = m }
 
+-- The queues and the memory lie where they did.
+pub record SamePlace (old new : DeviceState) : Type 0 where
+  pub base : new.memory.base ≡ old.memory.base
+  pub bytes : length new.memory.bytes ≡ length old.memory.bytes
+  pub same_size : new.size ≡ old.size
+  pub same_areas : new.areas ≡ old.areas
+
 -- The memory with one more change to come.
 abbrev pub with_change : Memory → Change → Memory
 with_change m change = record m { changes = m.changes ++ change ∷ [] }
@@ -101,11 +108,19 @@ answer_taken queue (Found head pieces) d =
     (next.Chain chain, record d { turns = one_taken queue d.turns; held = hold ∷ d.held })
 answer_taken queue (Failed failure) d = (next.Failed failure, d)
 
--- The next chain of a queue. This end holds one chain at a time: until that is returned there is no other, and no access is made.
-abbrev pub answer_next : Queue → List HeldChain → DeviceState → Next × DeviceState
-answer_next queue [] d =
+-- No further chain of a queue of n places is taken for now: n of them are held, or one that has several pieces.
+abbrev pub is_busy : Queue → ℕ → List HeldChain → Bool
+is_busy queue n held =
+    nat_le n (count_by (λ (h : HeldChain). same_queue queue h.chain.queue) held)
+    || nat_lt 0 (count_by (λ (h : HeldChain). same_queue queue h.chain.queue && not (length h.pieces == 1)) held)
+
+-- The next chain of a queue, with the accesses that find it. Where none is taken for now, no access is made.
+abbrev pub answer_found : Queue → DeviceState → Next × DeviceState
+answer_found queue d =
     let found = over (taking (ring_at queue d) (turns_at queue d.turns).taken) d.memory in answer_taken queue found.0 (with_memory d found.1)
-answer_next queue (h ∷ held) d = (next.None, d)
+
+abbrev pub answer_next : Queue → DeviceState → Next × DeviceState
+answer_next queue d = if is_busy queue d.size d.held then (next.None, d) else answer_found queue d
 
 -- The hold of that very chain.
 abbrev pub hold_of : Chain → List HeldChain → Option HeldChain
@@ -134,7 +149,7 @@ after_accesses accesses d = let r = over accesses d.memory in (r.0, with_memory 
 -- Each call's answer, and the device after it. A read or write makes one access for each piece that it touches; a return stores the
 -- used element, then the used index. The CID isn't in the memory.
 abbrev pub answer_to : (call : DeviceCall) → DeviceState → DeviceAnswer call × DeviceState
-answer_to (Take queue) d = answer_next queue d.held d
+answer_to (Take queue) d = answer_next queue d
 answer_to (Read chain place count) d = after_accesses (reading (spans (pieces_of (hold_of chain d.held)) place count) []) d
 answer_to (Write chain place bytes) d =
     after_accesses (writing (spans (pieces_of (hold_of chain d.held)) place (length bytes)) bytes) d

@@ -2,6 +2,8 @@ pub mod Accesses
 pub mod Chain
 pub mod Device
 pub mod Examples
+pub mod Held
+pub mod PieceTable
 pub mod Pieces
 pub mod Side
 pub mod Take

@@ -1,18 +1,13 @@
--- How the device's end is seen: its memory, its queues, and the chain held with its pieces.
-use Rattle.std.specs.Prelude.{◌≡◌, ◌<◌, ◌≤◌, List, [], ◌∷◌, Option, None, Some, All, IsTrue, vec_capacity}
+-- How the device's end is seen: its memory, its queues, and the chains held with their pieces.
+use Rattle.std.specs.Prelude.{◌≡◌, ◌<◌, ◌≤◌, All, IsTrue}
 use Rattle.vs_guest_mem.specs.Memory.{Memory, is_inside}
 use Rattle.vs_layout.specs.Layout.{AreInside}
 use Rattle.vs_ring_port.specs.declared.queue.Queue.{Queue}
 use Rattle.vs_ring_port.specs.declared.queue.TheConstants.{QUEUE_SIZE_MAX}
 use Rattle.vs_ring_plain.specs.declared.device.DeviceSide.TheInside.{Inside}
-use Rattle.vs_ring_plain.specs.declared.device.Hold.{Hold}
 use Rattle.vs_ring_plain.specs.declared.piece.Piece.{Piece}
 use Rattle.vs_ring_plain.specs.Device.{DeviceState, HeldChain, areas_at, readable_in, writable_in}
 use Rattle.vs_ring_plain.specs.Take.{whole}
-
-abbrev pub held_in : Option Hold → List Piece → List HeldChain
-held_in None pieces = []
-held_in (Some h) pieces = record { chain = h.chain; head = h.head; pieces = pieces } ∷ []
 
 abbrev pub state_in : Inside → DeviceState
 state_in d = record {
@@ -21,7 +16,7 @@ state_in d = record {
   areas = d.areas;
   indirect = d.indirect;
   turns = d.turns;
-  held = held_in d.hold d.pieces.items;
+  held = d.held.chains;
 }
 
 -- A chain's pieces lie in the memory, and are what may be read or written.
@@ -30,10 +25,10 @@ pub record IsSoundHold (m : Memory) (h : HeldChain) : Type 0 where
   pub readable : h.chain.readable ≡ readable_in h.chain.queue h.pieces
   pub writable : h.chain.writable ≡ writable_in h.chain.queue h.pieces
 
--- The queues lie in the memory, a chain that is held does, and there is room for the pieces of one.
+-- The queues lie in the memory, and the chains that are held do.
 pub record IsInOrder (d : Inside) : Type 0 where
   pub nonzero : 0 < d.size
   pub limit : d.size ≤ QUEUE_SIZE_MAX
   pub inside : (queue : Queue) → AreInside (areas_at queue d.areas) d.size (whole d.mem)
-  pub room : d.size ≤ vec_capacity d.pieces
-  pub held : All (IsSoundHold d.mem) (held_in d.hold d.pieces.items)
+  pub room : d.held.size ≡ d.size
+  pub held : All (IsSoundHold d.mem) d.held.chains

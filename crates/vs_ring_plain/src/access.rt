@@ -86,6 +86,7 @@ pub(crate) fn return_chain(mem: &mut PlainMem, queue: &PlainQueue, used: u16, he
     requires inside { AreInside queue.now.areas queue.now.n (whole mem.old) }
     requires nonempty { 0 < queue.now.n }
     ensures exact { over (returning (ring_in queue.now mem.old) used head len) mem.old ≡ (tt, mem.new) }
+    ensures base { mem.new.base ≡ mem.old.base }
     ensures size { length mem.new.bytes ≡ length mem.old.bytes }
 {
     let _fits = mem.size();
@@ -114,6 +115,7 @@ pub(crate) fn count_given(mem: &mut PlainMem, queue: &PlainQueue, used: u16) -> 
     requires inside { AreInside queue.now.areas queue.now.n (whole mem.old) }
     ensures exact { over (given (ring_in queue.now mem.old) used) mem.old ≡ (result, mem.new) }
     ensures within { result ≤ queue.now.n }
+    ensures base { mem.new.base ≡ mem.old.base }
     ensures size { length mem.new.bytes ≡ length mem.old.bytes }
 {
     let _fits = mem.size();

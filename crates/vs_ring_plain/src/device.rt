@@ -1,16 +1,16 @@
 //! The device's end of the three queues in a guest's memory.
 ghost use Rattle.std.specs.Prelude.{◌≡◌, ◌<◌, ◌≤◌, IfOk, Contains, length, ◌+◌, ◌^◌, IsTrue, IfErr, OnErr, OnOk, is_ok};
-ghost use Rattle.vs_guest_mem.specs.Memory.{after_write, is_inside};
+ghost use Rattle.vs_guest_mem.specs.Memory.{after_write, bytes_at, is_inside};
+ghost use Rattle.vs_ring_port.specs.declared.queue.Queue.{Queue};
 ghost use Rattle.vs_layout.specs.Layout.{AreInside};
 ghost use Rattle.vs_ring_port.specs.declared.queue.TheConstants.{QUEUE_SIZE_MAX};
-ghost use Rattle.vs_ring_plain.specs.Device.{answer_to, areas_at, chain_at, chains_held, new_device, with_change, with_memory};
-ghost use Rattle.vs_ring_plain.specs.Chain.{total_len};
+ghost use Rattle.vs_ring_plain.specs.Device.{SamePlace, answer_to, areas_at, chains_held, new_device, with_change, with_memory};
 ghost use Rattle.vs_ring_plain.specs.Take.{whole};
 ghost use Rattle.vs_ring_port.specs.Contents.{Take, Read, Write, Return, Given};
 
 use crate::access::{count_given, read_pieces, return_chain, write_pieces};
-use crate::piece::Piece;
-use crate::take::{PlainQueue, take_chain, total_len};
+use crate::holds::HeldChains;
+use crate::take::PlainQueue;
 use crate::turns::{QueueTurns, Turns};
 use std::alloc::{AllocError, Global};
 use std::marker::Model;
@@ -18,17 +18,12 @@ use vs_guest_mem::{AddrRange, PlainMem};
 use vs_layout::{Areas, QueueAreas};
 use vs_ring_port::{Chain, DeviceRing, Next, Queue};
 
-/// A chain that is held, and the number of its first descriptor.
-#[derive(Debug, Drop)]
-struct Hold {
-    chain: Chain,
-    head: u16,
-}
-
-/// The device's end of the three queues in a guest's memory (Virtio 1.2, section 2.7), whatever lies in it and whoever writes there. It
-/// holds one chain at a time: until that is returned, `next` finds none.
+/// The device's end of the three queues in a guest's memory (Virtio 1.2, section 2.7), whatever lies in it and whoever writes there. Of
+/// each queue it holds as many chains as that has places, but only one that has several pieces: until one of those is returned, `next`
+/// finds no other there.
 ///
-/// Seen as the memory, where the queues lie, how many chains of each were taken and returned, and the chain held with its pieces.
+/// Seen as the memory, where the queues lie, how many chains of each were taken and returned, and the chains held with their pieces.
+/// All memory is taken when it is made.
 #[derive(Drop)]
 pub struct DeviceSide {
     mem: PlainMem,
@@ -36,9 +31,7 @@ pub struct DeviceSide {
     areas: QueueAreas,
     indirect: bool,
     turns: QueueTurns,
-    hold: Option<Hold>,
-    // The pieces of the chain held. Room for as many as a queue has descriptors.
-    pieces: Vec<Piece>,
+    held: HeldChains,
 }
 
 impl Model for DeviceSide {
@@ -83,8 +76,7 @@ impl DeviceSide {
                 tx: none,
                 event: none,
             },
-            hold: None,
-            pieces: Vec::with_capacity(alloc, n as usize)?,
+            held: HeldChains::new(alloc, n)?,
         })
     }
 
@@ -95,6 +87,35 @@ impl DeviceSide {
         &self.mem
     }
 
+    /// Where the queues lie: all of their areas are in the memory.
+    pub fn areas(&self) -> QueueAreas
+        ensures value { result ≡ self.now.areas }
+        ensures inside { (queue : Queue) → AreInside (areas_at queue self.now.areas) self.now.size (whole self.now.memory) }
+        ensures fits { self.now.memory.base + length self.now.memory.bytes < 2 ^ 64 }
+        ensures nonzero { 0 < self.now.size }
+        ensures limit { self.now.size ≤ QUEUE_SIZE_MAX }
+    {
+        let _fits = self.mem.size();
+        self.areas
+    }
+
+    /// Writes bytes, all of them inside the memory, as the driver does: without an access of the device.
+    pub fn set(&mut self, addr: u64, bytes: &[u8])
+        requires inside { IsTrue (is_inside self.old.memory addr (length bytes.now)) }
+        ensures written { self.new ≡ with_memory self.old (after_write self.old.memory addr bytes.now) }
+        ensures place { SamePlace self.old self.new }
+    {
+        let _written = self.mem.poke(addr, bytes);
+    }
+
+    /// Reads bytes, all of them inside the memory, as the driver does: without an access of the device.
+    pub fn get(&self, addr: u64, out: &mut [u8])
+        requires inside { IsTrue (is_inside self.now.memory addr (length out.old)) }
+        ensures { out.new ≡ bytes_at self.now.memory addr (length out.old) }
+    {
+        let _read = self.mem.look(addr, out);
+    }
+
     /// Writes bytes as somebody else does, without an access of the device. `AddrRange` where a byte lies outside the memory; all is as
     /// before then.
     pub fn poke(&mut self, addr: u64, bytes: &[u8]) -> Result<(), AddrRange>
@@ -102,6 +123,7 @@ impl DeviceSide {
         ensures written { OnOk result (self.new ≡ with_memory self.old (after_write self.old.memory addr bytes.now)) }
         ensures err { IfErr result (λ e. e ≡ record { addr = addr; len = length bytes.now }) }
         ensures unchanged { OnErr result (self.new ≡ self.old) }
+        ensures place { SamePlace self.old self.new }
     {
         self.mem.poke(addr, bytes)
     }
@@ -123,29 +145,26 @@ impl DeviceSide {
           bytes = bytes.now;
         })) }
         ensures err { OnErr result (self.new ≡ self.old) }
+        ensures place { SamePlace self.old self.new }
     {
         self.mem.change_before(alloc, nth, addr, bytes)
     }
 
-    /// Takes the next chain of a queue. While a chain is held there is none, and no access is made.
-    #[tactic(auto, using(crate::proofs::Holds::sound_found))]
+    /// Takes the next chain of a queue. Where as many are held as it has places, or one that has several pieces, there is none, and no
+    /// access is made.
     pub fn take(&mut self, queue: Queue) -> Next
-        ensures { answer_to (Take queue) self.old ≡ (result, self.new) }
+        ensures exact { answer_to (Take queue) self.old ≡ (result, self.new) }
+        ensures place { SamePlace self.old self.new }
     {
-        if self.hold.is_some() {
+        if self.held.is_busy(queue) {
             return Next::None;
         }
         let ring = queue_in(queue, self.size, &self.areas, self.indirect);
         let taken = self.turns.at(queue).taken;
-        match take_chain(&mut self.mem, &ring, taken, &mut self.pieces) {
+        match self.held.take(&mut self.mem, &ring, taken) {
             Ok(None) => Next::None,
             Err(failure) => Next::Failed(failure),
-            Ok(Some(head)) => {
-                let chain = chain_of(queue, taken % self.size, &self.pieces);
-                self.hold = Some(Hold {
-                    chain: twin(&chain),
-                    head,
-                });
+            Ok(Some(chain)) => {
                 self.turns.take(queue);
                 Next::Chain(chain)
             }
@@ -153,48 +172,43 @@ impl DeviceSide {
     }
 
     /// Reads the bytes of a chain from place `at` on: one access for each piece that they lie in.
-    #[tactic(auto, using(crate::proofs::Holds::held_inside, crate::proofs::Holds::held_pieces, crate::proofs::Holds::held_readable))]
     pub fn read_chain(&mut self, chain: &Chain, at: u64, out: &mut [u8])
         requires is_held { Contains (chains_held self.old) chain.now }
         requires in_range { at + length out.old ≤ chain.now.readable }
-        ensures { answer_to (Read chain.now at (length out.old)) self.old ≡ (out.new, self.new) }
+        ensures exact { answer_to (Read chain.now at (length out.old)) self.old ≡ (out.new, self.new) }
+        ensures place { SamePlace self.old self.new }
     {
-        read_pieces(&mut self.mem, &self.pieces, at, out);
+        read_pieces(&mut self.mem, self.held.pieces(chain), at, out);
     }
 
     /// Writes into a chain from place `at` on: one access for each piece that the bytes lie in.
-    #[tactic(auto, using(crate::proofs::Holds::held_inside, crate::proofs::Holds::held_pieces, crate::proofs::Holds::held_writable))]
     pub fn write_chain(&mut self, chain: &Chain, at: u64, bytes: &[u8])
         requires is_held { Contains (chains_held self.old) chain.now }
         requires in_range { at + length bytes.now ≤ chain.now.writable }
-        ensures { answer_to (Write chain.now at bytes.now) self.old ≡ (tt, self.new) }
+        ensures exact { answer_to (Write chain.now at bytes.now) self.old ≡ (tt, self.new) }
+        ensures place { SamePlace self.old self.new }
     {
-        write_pieces(&mut self.mem, &self.pieces, at, bytes);
+        write_pieces(&mut self.mem, self.held.pieces(chain), at, bytes);
     }
 
     /// Returns a chain into which `len` bytes were written: the used element, then the index of the used ring, one access each.
     pub fn give_back(&mut self, chain: Chain, len: u32)
         requires is_held { Contains (chains_held self.old) chain }
-        ensures { answer_to (Return chain len) self.old ≡ (tt, self.new) }
+        ensures exact { answer_to (Return chain len) self.old ≡ (tt, self.new) }
+        ensures place { SamePlace self.old self.new }
     {
         let queue = chain.queue;
         let ring = queue_in(queue, self.size, &self.areas, self.indirect);
-        if let Some(hold) = self.hold.take() {
-            return_chain(
-                &mut self.mem,
-                &ring,
-                self.turns.at(queue).used,
-                hold.head,
-                len,
-            );
-            self.turns.give_back(queue);
-        }
+        let head = self.held.release(&chain);
+        return_chain(&mut self.mem, &ring, self.turns.at(queue).used, head, len);
+        self.turns.give_back(queue);
     }
 
     /// How many chains of a queue are given and not returned, by the index of the available ring: one access. No more than the queue has
     /// places.
     pub fn given_of(&mut self, queue: Queue) -> u16
         ensures exact { answer_to (Given queue) self.old ≡ (result, self.new) }
+        ensures place { SamePlace self.old self.new }
         ensures within { result ≤ self.old.size }
     {
         let ring = queue_in(queue, self.size, &self.areas, self.indirect);
@@ -216,36 +230,6 @@ fn queue_in(queue: Queue, n: u16, areas: &QueueAreas, indirect: bool) -> PlainQu
         n,
         areas,
         indirect,
-    }
-}
-
-// The chain of these pieces: the device reads tx and writes rx and event.
-fn chain_of(queue: Queue, place: u16, pieces: &[Piece]) -> Chain
-    requires few { length pieces.now < 2 ^ 16 }
-    ensures { result ≡ chain_at queue place pieces.now }
-{
-    let total = total_len(pieces);
-    let (readable, writable) = match queue {
-        Queue::Tx => (total, 0),
-        Queue::Rx | Queue::Event => (0, total),
-    };
-    Chain {
-        queue,
-        place,
-        readable,
-        writable,
-    }
-}
-
-// The same chain once more: one for the device, one for this end.
-fn twin(chain: &Chain) -> Chain
-    ensures { result ≡ chain.now }
-{
-    Chain {
-        queue: chain.queue,
-        place: chain.place,
-        readable: chain.readable,
-        writable: chain.writable,
     }
 }
 

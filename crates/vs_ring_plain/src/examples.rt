@@ -1,5 +1,5 @@
 //! What holds of taking a chain, and worked examples.
-ghost use Rattle.std.specs.Prelude.{◌≡◌, ℕ, ◌+◌, [], ◌∷◌, false, true, IsTrue, Some};
+ghost use Rattle.std.specs.Prelude.{codes, ◌≡◌, ℕ, ◌+◌, [], ◌∷◌, false, true, IsTrue, Some};
 ghost use Rattle.vs_guest_mem.specs.Memory.{is_within};
 ghost use Rattle.vs_layout.specs.Layout.{AreInside};
 ghost use Rattle.vs_ring_plain.specs.Accesses.{MakesAtMost, with_values};
@@ -15,15 +15,19 @@ pub fn taking_ends_inside_the_memory()
         → MakesAtMost (r.n + 3) (λ addr len. IsTrue (is_within r.base r.size addr len)) (taking r taken) }
 {}
 
-/// The header of a packet whose chain has pieces of 20, 24 and 7 bytes is read by two accesses, and six bytes behind it by one.
+/// The header of a packet whose chain has pieces of 20, 24 and 7 bytes is read by two accesses, and the five bytes `hello` behind it by one.
 pub fn chain_read()
     ensures header { spans (record { addr = 8192; len = 20 } ∷ record { addr = 9000; len = 24 } ∷ record { addr = 9500; len = 7 } ∷ []) 0 44
         ≡ record { addr = 8192; len = 20 } ∷ record { addr = 9000; len = 24 } ∷ [] }
     ensures payload { spans (record { addr = 8192; len = 20 } ∷ record { addr = 9000; len = 24 } ∷ record {
       addr = 9500;
       len = 7;
-    } ∷ []) 44 6
-        ≡ record { addr = 9500; len = 6 } ∷ [] }
+    } ∷ []) 44 5
+        ≡ record { addr = 9500; len = 5 } ∷ [] }
+    ensures hello { with_values (reading (spans (record { addr = 8192; len = 20 } ∷ record { addr = 9000; len = 24 } ∷ record {
+      addr = 9500;
+      len = 7;
+    } ∷ []) 44 5) []) (codes "hello" ∷ []) ≡ Some (codes "hello") }
     ensures bytes { with_values (reading (record { addr = 8192; len = 2 } ∷ record { addr = 9000; len = 1 } ∷ []) [])
         ((1 ∷ 2 ∷ []) ∷ (3 ∷ []) ∷ [])
         ≡ Some (1 ∷ 2 ∷ 3 ∷ []) }

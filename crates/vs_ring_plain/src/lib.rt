@@ -4,6 +4,7 @@
 mod access;
 pub mod device;
 pub mod examples;
+mod holds;
 pub mod piece;
 pub mod take;
 #[cfg(test)]

@@ -1,0 +1,4 @@
+pub mod Quiet
+pub mod Order
+pub mod Device
+pub mod Making

@@ -1,0 +1,62 @@
+-- Rings that are made are in order.
+use Rattle.std.proofs.Common.{◌≡◌, ℕ, ◌+◌, ◌*◌, ◌-◌, ◌%◌, ◌≤◌, Bool, true, false, cond, Option, Some, None, IfSome, length, refl, ap, ◌∙◌, sym, subst, ap₂, arith}
+use Rattle.std.specs.Prelude.{nat_le}
+use Rattle.std.proofs.lemmas.Bool.Decides.{nat_tests}
+use Rattle.vs_guest_mem.specs.Memory.{Memory}
+use Rattle.vs_plain_driver.specs.Queue.{DriverQueueState}
+use Rattle.vs_plain_driver.specs.View.{ArePagesIn}
+use Rattle.vs_layout.specs.Layout.{queue_areas_of}
+use Rattle.vs_layout.specs.declared.placement.QueueAreas.{QueueAreas}
+use Rattle.vs_ring_plain.specs.Device.{DeviceState, new_device, with_memory}
+use Rattle.vs_plain_rings.specs.Parts.{PartsState, cleared, cleared_queue, new_parts, new_queue, pages_behind, pages_start}
+use Rattle.vs_plain_rings.specs.View.{AreInOrder}
+
+-- n pages, k bytes behind the first of 3n, lie in the memory
+pages_if : (m : Memory) (at n k : ℕ) (b : Bool) → nat_le (at + 3 * (4096 * n)) (m.base + length m.bytes) ≡ b → m.base ≤ at → k ≤ 2 * (4096 * n)
+    → IfSome (pages_behind (cond b (Some at) None) k) (λ x. (m.base ≤ x) × (x + 4096 * n ≤ m.base + length m.bytes))
+pages_if m at n k false test from less = tt
+pages_if m at n k true test from less =
+    let top : at + 3 * (4096 * n) ≤ m.base + length m.bytes = grind (arith, nat_tests, test) in
+    (omega (arith, from), omega (arith, top, less))
+
+behind_none : (o : Option ℕ) → pages_behind o 0 ≡ o
+behind_none None = refl
+behind_none (Some at) = ap (λ x. Some x) (omega arith)
+
+pages_fit : (m new : Memory) (end n k : ℕ) (q : DriverQueueState) → q ≡ new_queue n (pages_behind (pages_start m end n) k) → m.base ≤ end
+    → k ≤ 2 * (4096 * n) → new.base ≡ m.base → length new.bytes ≡ length m.bytes → ArePagesIn q new
+pages_fit m new end n k q is from less base size =
+    let at : ℕ = end + (4096 - end % 4096) % 4096 in
+    rw (is, base, size) (pages_if m at n k (nat_le (at + 3 * (4096 * n)) (m.base + length m.bytes)) refl (omega (arith, from)) less)
+
+pub order_new : (m : Memory) (end n : ℕ) (p : PartsState) → m.base ≤ end → p.device.size ≡ n → p.device.memory.base ≡ m.base
+    → length p.device.memory.bytes ≡ length m.bytes → p.rx ≡ new_queue n (pages_start m end n)
+    → p.tx ≡ new_queue n (pages_behind (pages_start m end n) (4096 * n)) → p.event ≡ new_queue n (pages_behind (pages_start m end n) (2 * (4096 * n)))
+    → p.cid ≡ 3 → AreInOrder p
+order_new m end n p from size base bytes rx tx event cid = record {
+  rx_size = ap (λ (q : DriverQueueState). q.n) rx ∙ sym size;
+  tx_size = ap (λ (q : DriverQueueState). q.n) tx ∙ sym size;
+  event_size = ap (λ (q : DriverQueueState). q.n) event ∙ sym size;
+  rx_pages = pages_fit m p.device.memory end n 0 p.rx (rx ∙ ap (new_queue n) (sym (behind_none (pages_start m end n)))) from (omega arith) base bytes;
+  tx_pages = pages_fit m p.device.memory end n (4096 * n) p.tx tx from (omega arith) base bytes;
+  event_pages = pages_fit m p.device.memory end n (2 * (4096 * n)) p.event event from (omega arith) base bytes;
+  low = omega (arith, cid);
+  high = omega (arith, cid);
+}
+
+-- what is made of the parts
+pub made : (m : Memory) (base n : ℕ) (indirect : Bool) (areas : QueueAreas) (d0 d1 d2 d3 : DeviceState) (rx tx event : DriverQueueState)
+    → areas ≡ queue_areas_of base n → d0 ≡ new_device m n areas indirect → d1 ≡ with_memory d0 (cleared_queue areas.rx d0.memory)
+    → d2 ≡ with_memory d1 (cleared_queue areas.tx d1.memory) → d3 ≡ with_memory d2 (cleared_queue areas.event d2.memory)
+    → let pages = pages_start m (queue_areas_of base n).event.end n in
+    rx ≡ new_queue n pages → tx ≡ new_queue n (pages_behind pages (4096 * n)) → event ≡ new_queue n (pages_behind pages (2 * (4096 * n)))
+    → let p : PartsState = record { device = d3; rx = rx; tx = tx; event = event; cid = 3 } in p ≡ new_parts m base n indirect 3
+made m base n indirect areas d0 d1 d2 d3 rx tx event is is0 is1 is2 is3 is_rx is_tx is_event =
+    let of : DeviceState → DriverQueueState → DriverQueueState → DriverQueueState → PartsState =
+    λ d a b c. record { device = d; rx = a; tx = b; event = c; cid = 3 } in
+    let device : d3 ≡ new_device (cleared areas m) n areas indirect =
+    is3 ∙ ap (λ (d : DeviceState). with_memory d (cleared_queue areas.event d.memory))
+    (is2 ∙ ap (λ (d : DeviceState). with_memory d (cleared_queue areas.tx d.memory))
+    (is1 ∙ ap (λ (d : DeviceState). with_memory d (cleared_queue areas.rx d.memory)) is0)) in
+    ap₂ (λ d a. of d a tx event) (device ∙ ap (λ (a : QueueAreas). new_device (cleared a m) n a indirect) is) is_rx
+    ∙ ap₂ (of _ _) is_tx is_event

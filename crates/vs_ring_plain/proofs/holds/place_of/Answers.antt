@@ -1,0 +1,9 @@
+use Rattle.std.proofs.Common.{◌<◌, arith}
+use Rattle.std.proofs.lemmas.List.Quantifiers.{position-Some}
+use Rattle.vs_ring_port.specs.Chains.{same_chain}
+use Rattle.vs_ring_plain.specs.declared.holds.Hold.{Hold}
+use Rattle.vs_ring_plain.proofs.HeldChains.{found_if_held}
+use Rattle.vs_ring_plain.proofs.holds.place_of.Goals as goal
+
+pub unwrap-requires : goal.unwrap-requires
+unwrap-requires c = rw c.find.ensures (found_if_held c.args.chain.now c.args.holds.now.items c.requires)
