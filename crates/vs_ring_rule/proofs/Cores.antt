@@ -11,7 +11,7 @@ use mathlib.Core.Option as maybe
 use lib.ListN.{get_elem?}
 use Rattle.atomic_table.proofs.Lists.{one_turn, set_here, set_else}
 use Rattle.vs_ring_rule.specs.declared.view.QueueView.{QueueView}
-use Rattle.vs_ring_rule.specs.OneQueue.{Page, Homes, given, offered, taken, descriptor, element, Offered, Returned, times, HeadIs, EntryIs, Empty}
+use Rattle.vs_ring_rule.specs.OneQueue.{Page, Homes, given, offered, taken, descriptor, element, HasHeader, Offered, Returned, times, HeadIs, EntryIs, Empty}
 use Rattle.vs_ring_rule.specs.OneQueue.{Core}
 use Rattle.vs_ring_rule.specs.Steps.{removed, stored, lifted, laid, gave, staged_one, gave_staged, looked, entered, took}
 use Rattle.vs_ring_rule.proofs.Ways.{times_here, times_snoc, counted, once, Face, FaceStays, HomesStay, way_stays, way_shows, way_given, Next, next}
@@ -133,6 +133,7 @@ module _ (n flags : ℕ) (h : Homes) (d e : QueueView) (c : Core n flags h d e) 
       let small : k < n = m.0 in (
         get_or-set_other d.words k (n + i % n) x 0 (λ same. omega arith) ∙ f.0,
         get_or-set_other d.words k j x 0 (apart k j ahead m.1 there) ∙ f.1,
+        f.2,
       )
 
   -- a store of the next available entry
@@ -145,6 +146,7 @@ module _ (n flags : ℕ) (h : Homes) (d e : QueueView) (c : Core n flags h d e) 
       omega arith in (
         get_or-set_other d.words (n + offered d % n) (n + i % n) x 0 (λ same. other (omega arith)) ∙ f.0,
         get_or-set_other d.words (n + offered d % n) j x 0 (λ same. omega arith) ∙ f.1,
+        f.2,
       )
 
   -- a store of the available index
@@ -152,6 +154,7 @@ module _ (n flags : ℕ) (h : Homes) (d e : QueueView) (c : Core n flags h d e) 
   indexes_beside x i j p low high there f = let a = ahead_slot j there in let turn = mod-lt i c.some_slot in (
     get_or-set_other d.words (2 * n) (n + i % n) x 0 (λ same. omega arith) ∙ f.0,
     get_or-set_other d.words (2 * n) j x 0 (λ same. omega arith) ∙ f.1,
+    f.2,
   )
 
   -- a store of the next used element, and of the used index
@@ -230,8 +233,8 @@ module _ (n flags : ℕ) (h : Homes) (d e : QueueView) (c : Core n flags h d e) 
 
   -- the driver stores an available entry, and a page goes home, staged
   pub driver_stages : (k : ℕ) (p : Page) → 0 < times k d.held → d.out ≡ Some k → length h ≡ n → get_or d.words k 0 ≡ descriptor flags p
-      → offered d < taken d + n → Core n flags (set h k (some (Some p))) (staged_one (n + offered d % n) k k p d) e
-  driver_stages k p mine out wide word free =
+      → HasHeader flags p → offered d < taken d + n → Core n flags (set h k (some (Some p))) (staged_one (n + offered d % n) k k p d) e
+  driver_stages k p mine out wide word long free =
       let m = driver_slot k mine in
       let i = n + offered d % n in
       let words' = set d.words i k in
@@ -242,6 +245,7 @@ module _ (n flags : ℕ) (h : Homes) (d e : QueueView) (c : Core n flags h d e) 
       let face : Offered n flags words' (length (d.put ++ d.staged)) k p = (
         ap (λ (z : ℕ). get_or words' z 0) place ∙ get_or-set_same d.words i k 0 (omega (arith, c.driver_words)),
         get_or-set_other d.words i k k 0 (λ same. omega (arith, m.0)) ∙ word,
+        long,
       ) in
       let index : get_or words' (2 * n) 0 ≡ given d % 65536 = get_or-set_other d.words i (2 * n) k 0 (λ same. omega arith) ∙ c.forward.index_is in
       let f = (way_given (Offered n flags d.words) (Offered n flags words') h h' (get_or d.words (2 * n) 0) (given d) (d.put ++ d.staged)
@@ -411,6 +415,7 @@ module _ (n flags : ℕ) (h : Homes) (d e : QueueView) (c : Core n flags h d e) 
   pub record DeviceTake (k : ℕ) (p : Page) : Type 0 where
     pub near : k < n
     pub word : get_or d.words k 0 ≡ descriptor flags p
+    pub long : HasHeader flags p
     pub home : get_elem? h k ≡ some (some (Some p))
     pub put_is : (later : List Page) × (d.put ≡ e.got ++ p ∷ later)
     pub core : Core n flags (set h k none) d (took k p e)
@@ -436,6 +441,7 @@ module _ (n flags : ℕ) (h : Homes) (d e : QueueView) (c : Core n flags h d e) 
         record {
           near = m.0;
           word = subst (λ (z : ℕ). get_or d.words z 0 ≡ descriptor flags p) same x.face.1;
+          long = x.face.2;
           home = subst (λ (z : ℕ). get_elem? h z ≡ some (some (Some p))) same x.home;
           put_is = next_front d.put d.staged e.got p x.later x.all_is (omega (arith, c.forward.not_more));
           core = record {

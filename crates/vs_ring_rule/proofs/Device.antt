@@ -157,6 +157,7 @@ collects n id queue me k mine known entry in_it t law wide at _ =
       driver_told (device_takes queue) queue n k 0 me r (w, (j, Some page) ∷ me.1) (
         page,
         word_is n id v t p queue k (omega (arith, x.1.near)) ∙ x.1.word,
+        x.1.long,
         x.1.pair.device_fair,
         refl,
       ),

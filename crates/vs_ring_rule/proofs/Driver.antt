@@ -16,7 +16,7 @@ use Rattle.vs_ring_port.specs.declared.queue.Queue.{Queue}
 use Rattle.vs_ring_rule.specs.declared.view.Owner.TheVariants.{Driver}
 use Rattle.vs_ring_rule.specs.declared.view.QueueView.{QueueView}
 use Rattle.vs_ring_rule.specs.declared.view.View.{View}
-use Rattle.vs_ring_rule.specs.OneQueue.{Page, given, offered, taken, descriptor, times}
+use Rattle.vs_ring_rule.specs.OneQueue.{Page, HasHeader, given, offered, taken, descriptor, times}
 use Rattle.vs_ring_rule.specs.Steps.{stored, lifted, laid, staged_one, gave_staged, looked, took}
 use Rattle.vs_ring_rule.specs.Rule.{Table, Seated, homes_in, with_homes_in, all_slots, queue_in, with_queue_in, flags_of}
 use Rattle.vs_ring_rule.specs.Rule.{all_words, Rule}
@@ -94,9 +94,9 @@ describes n id queue me k x mine has in_it t law wide at _ =
 -- and of an available entry
 pub enters : (n id : ℕ) (queue : Queue) (me : Seated) (k : ℕ) (page : Page) (more : List (ℕ × Option Page)) → me.0.owner ≡ Driver
     → me.1 ≡ (slots_base n queue + k, Some page) ∷ more → let q = queue_in queue me.0 in 0 < times k q.held → q.out ≡ Some k
-    → get_or q.words k 0 ≡ descriptor (flags_of queue) page → offered q < taken q + n
+    → get_or q.words k 0 ≡ descriptor (flags_of queue) page → HasHeader (flags_of queue) page → offered q < taken q + n
     → Stores n id me (driver_base n queue + (n + offered q % n)) k (at_driver queue (driver_enters queue))
-enters n id queue me k page more mine has held out word free t law wide at _ =
+enters n id queue me k page more mine has held out word long free t law wide at _ =
     let v = me.0 in
     let q = queue_in queue v in
     let p = driver_sits n id v t law at mine in
@@ -117,7 +117,7 @@ enters n id queue me k page more mine has held out word free t law wide at _ =
           (length-set t.homes j (some (Some page)) ∙ wide)
           mine (store_is n id v t p queue g k (staged_one g k k page q) v.log refl (omega arith))
           (change_is n id v t p queue k (some (Some page)) slot.0) p.stands (older_self v.log) p.driver_heard
-          (pair.driver_stages n p.slots v p.device p.pair queue k page held out word free),
+          (pair.driver_stages n p.slots v p.device p.pair queue k page held out word long free),
       driver_told (driver_enters queue) queue n g k (v, (j, Some page) ∷ more) k (w, more)
           (λ k' page' more' e. carried_page (slots_base n queue) k k' more more' page page'
           (λ z held more. (after_stage queue g k z held v, more)) e),

@@ -13,7 +13,7 @@ use Rattle.vs_ring_port.specs.declared.queue.Queue.{Queue}
 use Rattle.vs_ring_port.specs.declared.queue.Queue.TheVariants.{Rx, Tx, Event}
 use Rattle.vs_ring_rule.specs.declared.view.QueueView.{QueueView}
 use Rattle.vs_ring_rule.specs.declared.view.View.{View}
-use Rattle.vs_ring_rule.specs.OneQueue.{Page, Homes, Core, given, offered, taken, descriptor, element, times}
+use Rattle.vs_ring_rule.specs.OneQueue.{Page, Homes, HasHeader, Core, given, offered, taken, descriptor, element, times}
 use Rattle.vs_ring_rule.specs.Steps.{stored, lifted, laid, gave, staged_one, gave_staged, looked, entered, took}
 use Rattle.vs_ring_rule.specs.Rule.{Slots, homes_in, with_homes_in, queue_in, with_queue_in, flags_of, Pair}
 use Rattle.vs_ring_rule.specs.Moves.{after_stage, after_lift, after_lay, after_look, after_entry, driver_gave, device_gave, driver_took}
@@ -156,15 +156,16 @@ module _ (n : ℕ) (slots : Slots) (driver device : View) (p : Pair n slots driv
 
   -- and an available entry, by which the page in that slot is staged
   pub driver_stages : (queue : Queue) (k : ℕ) (page : Page) → 0 < times k (D queue).held → (D queue).out ≡ Some k
-      → get_or (D queue).words k 0 ≡ descriptor (flags_of queue) page → offered (D queue) < taken (D queue) + n
+      → get_or (D queue).words k 0 ≡ descriptor (flags_of queue) page → HasHeader (flags_of queue) page
+      → offered (D queue) < taken (D queue) + n
       → Pair n (with_homes_in queue (set (H queue) k (some (Some page))) slots)
       (after_stage queue (n + offered (D queue) % n) k k page driver) device
-  driver_stages queue k page mine out word free =
+  driver_stages queue k page mine out word long free =
       let c = p.core queue in
       let d = D queue in
       let h = set (H queue) k (some (Some page)) in
       driver_knows queue h (staged_one (n + offered d % n) k k page d) (length-set (H queue) k (some (Some page)) ∙ p.size queue) refl refl
-      (core.driver_stages n (flags_of queue) (H queue) d (E queue) c k page mine out (p.size queue) word free)
+      (core.driver_stages n (flags_of queue) (H queue) d (E queue) c k page mine out (p.size queue) word long free)
 
   -- and the available index, by which it gives the pages staged
   pub driver_gives : (queue : Queue) (x : ℕ) → x ≡ offered (D queue) % 65536
@@ -266,6 +267,7 @@ module _ (n : ℕ) (slots : Slots) (driver device : View) (p : Pair n slots driv
   pub record DeviceTakes (queue : Queue) (k : ℕ) (page : Page) : Type 0 where
     pub near : k < n
     pub word : get_or (D queue).words k 0 ≡ descriptor (flags_of queue) page
+    pub long : HasHeader (flags_of queue) page
     pub home : get_elem? (H queue) k ≡ some (some (Some page))
     pub pair : Pair n (with_homes_in queue (set (H queue) k none) slots) driver (device_took queue k page device)
 
@@ -280,6 +282,7 @@ module _ (n : ℕ) (slots : Slots) (driver device : View) (p : Pair n slots driv
         record {
           near = t.1.near;
           word = t.1.word;
+          long = t.1.long;
           home = t.1.home;
           pair = record {
             size = sizes n slots queue h p.size (length-set (H queue) k none ∙ p.size queue);

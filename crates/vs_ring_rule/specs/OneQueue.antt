@@ -6,6 +6,7 @@ use Rattle.std.specs.Prelude.{Option, Some, None}
 use mathlib.Core.Option.{some}
 use mathlib.Core.Option as maybe
 use lib.ListN.{get_elem?}
+use Rattle.vs_header.specs.declared.TheConstants.{HEADER_LEN}
 use Rattle.vs_ring_rule.specs.declared.view.QueueView.{QueueView}
 
 abbrev pub Page : Type 0
@@ -34,9 +35,14 @@ descriptor flags page = flags * 2 ^ 32 + length page
 abbrev pub element : ℕ → Page → ℕ
 element k page = length page * 2 ^ 32 + k
 
+-- A page for the device to read has a packet's header.
+abbrev pub HasHeader : ℕ → Page → Type 0
+HasHeader flags page = flags ≡ 0 → HEADER_LEN ≤ length page
+
 -- What the giver's words show of its page number g, which lies in slot k.
 abbrev pub Offered : ℕ → ℕ → List ℕ → ℕ → ℕ → Page → Type 0
-Offered n flags words g k page = (slice_index words (n + g % n) ≡ k) × (slice_index words k ≡ descriptor flags page)
+Offered n flags words g k page =
+    (slice_index words (n + g % n) ≡ k) × (slice_index words k ≡ descriptor flags page) × HasHeader flags page
 
 abbrev pub Returned : ℕ → List ℕ → ℕ → ℕ → Page → Type 0
 Returned n words g k page = slice_index words (g % n) ≡ element k page

@@ -10,7 +10,7 @@ use Rattle.vs_page.specs.Log as log
 use Rattle.vs_page.specs.Log.{Log, packets_put, packets_got, events_put, events_got}
 use Rattle.vs_ring_port.specs.declared.queue.Queue.{Queue}
 use Rattle.vs_ring_port.specs.declared.queue.Queue.TheVariants.{Rx, Tx, Event}
-use Rattle.vs_ring_rule.specs.OneQueue.{Page, given, taken, descriptor, element}
+use Rattle.vs_ring_rule.specs.OneQueue.{Page, HasHeader, given, taken, descriptor, element}
 use Rattle.vs_ring_rule.specs.Rule.{Rule, Seated, queue_in, flags_of}
 use Rattle.vs_ring_rule.specs.Moves.{after_stage, after_lift, after_lay, after_look, after_entry, driver_gave, device_gave, driver_took}
 use Rattle.vs_ring_rule.specs.Moves.{device_took, device_reset, driver_loaded}
@@ -108,13 +108,13 @@ device_looks queue n i x m r m' =
     (g : ℕ) × (r ≡ g % 2 ^ 16) × (q.seen ≤ g) × (taken q ≤ g) × (g ≤ taken q + n)
     × (g ≡ taken q → DeviceHas queue m.0.log m.0.heard) × (m' ≡ (after_look queue g m.0, m.1))
 
--- It loads the next available entry, and then the descriptor word: the page is taken, and the log stays fair.
+-- It loads the next available entry, and then the descriptor word: the page is taken, has a header on tx, and the log stays fair.
 abbrev pub device_reads : Queue → Tells
 device_reads queue n i x m r m' = (r < n) × (m' ≡ (after_entry queue r m.0, m.1))
 
 abbrev pub device_takes : Queue → Tells
 device_takes queue n i x m r m' =
-    (page : Page) × (r ≡ descriptor (flags_of queue) page) × IsFairLog log.Device (device_took queue i page m.0).log
+    (page : Page) × (r ≡ descriptor (flags_of queue) page) × HasHeader (flags_of queue) page × IsFairLog log.Device (device_took queue i page m.0).log
     × (m' ≡ (device_took queue i page m.0, (slots_base n queue + i, Some page) ∷ m.1))
 
 -- It stores a used element, and its empty slot comes out; it stores the used index, and the page goes home.
