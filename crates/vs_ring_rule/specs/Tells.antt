@@ -105,7 +105,7 @@ device_resets n i x m r m' = m' ≡ (device_reset x m.0, m.1)
 abbrev pub device_looks : Queue → Tells
 device_looks queue n i x m r m' =
     let q = queue_in queue m.0 in
-    (g : ℕ) × (r ≡ g % 2 ^ 16) × (q.seen ≤ g) × (taken q ≤ g) × (g ≤ taken q + n)
+    (g : ℕ) × (r ≡ g % 2 ^ 16) × (q.seen ≤ g) × (taken q ≤ g) × (g ≤ given q + n)
     × (g ≡ taken q → DeviceHas queue m.0.log m.0.heard) × (m' ≡ (after_look queue g m.0, m.1))
 
 -- It loads the next available entry, and then the descriptor word: the page is taken, has a header on tx, and the log stays fair.

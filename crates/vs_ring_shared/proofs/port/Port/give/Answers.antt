@@ -1,0 +1,32 @@
+use Rattle.std.proofs.Common.{rules, inl, inr, ◌≡◌, ℕ, ◌+◌, ◌*◌, ◌%◌, ◌<◌, List, [], ◌∷◌, Option, Some, None, refl, sym, ap, ◌∙◌, subst, arith}
+use Rattle.std.proofs.Math.Nat.{mod-lt}
+use Rattle.vs_ring_rule.specs.OneQueue.{given, offered, taken}
+use Rattle.vs_ring_rule.specs.Rule.{queue_in}
+use Rattle.vs_ring_rule.specs.Tells.{driver_enters, driver_gives, driver_looks, driver_takes, driver_loads, lays}
+use Rattle.vs_ring_rule.specs.Tells.{device_looks, device_reads, device_takes, device_returns, device_gives, device_resets}
+use Rattle.vs_ring_rule.proofs.Driver as driver
+use Rattle.vs_ring_rule.proofs.Device as device
+use Rattle.vs_ring_shared.specs.Ports.{IsTableOf}
+use Rattle.vs_ring_shared.proofs.Known as known
+use Rattle.vs_ring_shared.proofs.port.Port.give.Goals as goal
+
+pub store-requires : goal.store-requires
+store-requires c =
+    let p = c.args.self.now in
+    let n = p.size in
+    let t = subst (λ z. IsTableOf n z.shared) (sym c.deref.ensures) p.wide in
+    let page = c.requires.page in (
+      search rules,
+      known.device_near n c.args.queue n _ _ c.device_base.ensures t.words (omega arith),
+      rw (t.key, t.slots, c.device_base.ensures, c.from.ensures)
+          (known.device_stores device_gives n _ c.args.queue n _ _ (omega arith)
+          (device.returns n _ c.args.queue _ c.args.count c.args.slot page.0 _ c.requires.owner page.1 c.requires.held c.requires.is_out
+          page.2 c.requires.count c.requires.behind page.3)),
+    )
+
+pub returns-clause-told : goal.returns-clause-told
+returns-clause-told c =
+    let p = c.args.self.now in
+    let n = p.size in
+    let t = subst (λ z. IsTableOf n z.shared) (sym c.deref.ensures) p.wide in
+    rw (c.from.ensures) at (c.store.ensures.2 n c.args.queue n t.slots (omega arith) (rw c.device_base.ensures refl))

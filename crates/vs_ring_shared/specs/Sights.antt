@@ -1,0 +1,106 @@
+-- What an end of the shared rings is seen as: the table that it belongs to, and what it knows without the words and slots.
+use Rattle.std.specs.Prelude.{◌≡◌, ℕ, ◌+◌, ◌-◌, Bool, true, List, [], ◌∷◌, ◌++◌, length, Option, Some, None}
+use Rattle.atomic_table.specs.Seated.{TableId}
+use Rattle.vs_page.specs.Log.{Log}
+use Rattle.vs_ring_port.specs.Counts.{Counts}
+use Rattle.vs_ring_port.specs.Contents.{RingContents}
+use Rattle.vs_ring_port.specs.EndLog.{EndLog, entries_published, entries_reaped, entries_marked}
+use Rattle.vs_ring_port.specs.declared.queue.Queue.{Queue}
+use Rattle.vs_ring_port.specs.declared.queue.Queue.TheVariants.{Rx, Tx, Event}
+use Rattle.vs_ring_rule.specs.declared.view.QueueView.{QueueView}
+use Rattle.vs_ring_rule.specs.declared.view.View.{View}
+use Rattle.vs_ring_rule.specs.OneQueue.{Page}
+
+-- Of one queue: the pages that the end gave and took, and those that it staged; how many it knows the other end to have given; how often
+-- it loaded the other end's index.
+pub record QueueSight : Type 0 where
+  pub put : List Page
+  pub got : List Page
+  pub staged : List Page
+  pub seen : ℕ
+  pub loads : ℕ
+
+-- The table, the rings' size, the end's log, what it was told of the other's, whether that is the whole of it, and the three queues.
+pub record Sight : Type 0 where
+  pub table : TableId
+  pub size : ℕ
+  pub log : Log
+  pub heard : Log
+  pub whole : Bool
+  pub rx : QueueSight
+  pub tx : QueueSight
+  pub event : QueueSight
+
+abbrev pub queue_sight : QueueView → QueueSight
+queue_sight q = record { put = q.put; got = q.got; staged = q.staged; seen = q.seen; loads = q.loads }
+
+abbrev pub sight_of : TableId → ℕ → View → Sight
+sight_of table size v = record {
+  table = table;
+  size = size;
+  log = v.log;
+  heard = v.heard;
+  whole = v.whole;
+  rx = queue_sight v.rx;
+  tx = queue_sight v.tx;
+  event = queue_sight v.event;
+}
+
+-- The queue of a name, and the sight with another there.
+abbrev pub sight_in : Queue → Sight → QueueSight
+sight_in Rx s = s.rx
+sight_in Tx s = s.tx
+sight_in Event s = s.event
+
+abbrev pub with_sight : Queue → QueueSight → Sight → Sight
+with_sight Rx q s = record s { rx = q }
+with_sight Tx q s = record s { tx = q }
+with_sight Event q s = record s { event = q }
+
+-- An end that no page passed.
+abbrev pub empty_queue : QueueSight
+empty_queue = record { put = []; got = []; staged = []; seen = 0; loads = 0 }
+
+-- The driver staged a page; it gave those staged.
+abbrev pub after_staging : Queue → Page → Sight → Sight
+after_staging queue page s = let q = sight_in queue s in with_sight queue (record q { staged = q.staged ++ page ∷ [] }) s
+
+abbrev pub after_publishing : Queue → Sight → Sight
+after_publishing queue s =
+    let q = sight_in queue s in
+    record (with_sight queue (record q { put = q.put ++ q.staged; staged = [] }) s) { log = entries_published queue q.staged s.log }
+
+-- An end loaded the other's index, which shows g pages; the driver then took a page.
+abbrev pub after_looking : Queue → ℕ → Sight → Sight
+after_looking queue g s = let q = sight_in queue s in with_sight queue (record q { seen = g; loads = q.loads + 1 }) s
+
+abbrev pub after_reaping : Queue → ℕ → Page → Sight → Sight
+after_reaping queue g page s =
+    let q = sight_in queue s in
+    record (with_sight queue (record q { seen = g; loads = q.loads + 1; got = q.got ++ page ∷ [] }) s) {
+      log = entries_reaped queue (Some page) s.log;
+    }
+
+abbrev pub after_loading : ℕ → Sight → Sight
+after_loading cid s = record s { log = entries_marked cid s.log }
+
+-- How many pages of a queue are in flight, and how many of these are staged.
+abbrev pub in_flight_of : QueueSight → ℕ
+in_flight_of q = length q.put + length q.staged - length q.got
+
+abbrev pub flight_of : Sight → Counts
+flight_of s = record { rx = in_flight_of s.rx; tx = in_flight_of s.tx; event = in_flight_of s.event }
+
+abbrev pub staged_of : Sight → Counts
+staged_of s = record { rx = length s.rx.staged; tx = length s.tx.staged; event = length s.event.staged }
+
+-- What the driver's end exposes: its log and the pages that it staged. The rings are honest.
+abbrev pub driver_log : Sight → EndLog
+driver_log s = record {
+  entries = s.log;
+  staged = record { rx = s.rx.staged; tx = s.tx.staged; event = s.event.staged };
+  held = [];
+}
+
+abbrev pub driver_contents : Sight → RingContents
+driver_contents s = record { lists = None; log = Some (driver_log s); other = None; plain = None; honest = true }

@@ -1,0 +1,5 @@
+//! Shared rings: the three virtqueues of a socket device between two threads, without a lock (Virtio 1.2, section 2.7).
+#![tactic(auto)]
+
+mod plays;
+mod port;
