@@ -1,2 +1,4 @@
 pub mod Plays
 pub mod Ports
+pub mod Sights
+pub mod DriverStates

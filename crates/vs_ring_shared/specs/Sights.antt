@@ -62,24 +62,34 @@ abbrev pub empty_queue : QueueSight
 empty_queue = record { put = []; got = []; staged = []; seen = 0; loads = 0 }
 
 -- The driver staged a page; it gave those staged.
+abbrev pub staged_queue : Page → QueueSight → QueueSight
+staged_queue page q = record q { staged = q.staged ++ page ∷ [] }
+
+abbrev pub gave_queue : QueueSight → QueueSight
+gave_queue q = record q { put = q.put ++ q.staged; staged = [] }
+
+-- An end loaded the other's index, which shows g pages; it then took a page.
+abbrev pub looked_queue : ℕ → QueueSight → QueueSight
+looked_queue g q = record q { seen = g; loads = q.loads + 1 }
+
+abbrev pub took_queue : ℕ → Page → QueueSight → QueueSight
+took_queue g page q = record q { seen = g; loads = q.loads + 1; got = q.got ++ page ∷ [] }
+
+-- The same of a sight, where the log is l after it.
+abbrev pub after : Queue → (QueueSight → QueueSight) → Log → Sight → Sight
+after queue f l s = record (with_sight queue (f (sight_in queue s)) s) { log = l }
+
 abbrev pub after_staging : Queue → Page → Sight → Sight
-after_staging queue page s = let q = sight_in queue s in with_sight queue (record q { staged = q.staged ++ page ∷ [] }) s
+after_staging queue page s = after queue (staged_queue page) s.log s
 
 abbrev pub after_publishing : Queue → Sight → Sight
-after_publishing queue s =
-    let q = sight_in queue s in
-    record (with_sight queue (record q { put = q.put ++ q.staged; staged = [] }) s) { log = entries_published queue q.staged s.log }
+after_publishing queue s = after queue gave_queue (entries_published queue (sight_in queue s).staged s.log) s
 
--- An end loaded the other's index, which shows g pages; the driver then took a page.
 abbrev pub after_looking : Queue → ℕ → Sight → Sight
-after_looking queue g s = let q = sight_in queue s in with_sight queue (record q { seen = g; loads = q.loads + 1 }) s
+after_looking queue g s = after queue (looked_queue g) s.log s
 
 abbrev pub after_reaping : Queue → ℕ → Page → Sight → Sight
-after_reaping queue g page s =
-    let q = sight_in queue s in
-    record (with_sight queue (record q { seen = g; loads = q.loads + 1; got = q.got ++ page ∷ [] }) s) {
-      log = entries_reaped queue (Some page) s.log;
-    }
+after_reaping queue g page s = after queue (took_queue g page) (entries_reaped queue (Some page) s.log) s
 
 abbrev pub after_loading : ℕ → Sight → Sight
 after_loading cid s = record s { log = entries_marked cid s.log }
