@@ -1,15 +1,17 @@
 -- What holds of the driver's end between two calls.
-use Rattle.std.specs.Prelude.{[], ◌≡◌, ℕ, ◌+◌, ◌*◌, ◌%◌, ◌<◌, ◌≤◌, List, length, None}
+use Rattle.std.specs.Prelude.{[], ◌≡◌, ℕ, ◌+◌, ◌*◌, ◌%◌, ◌<◌, ◌≤◌, List, length, Some, None}
 use Rattle.std.specs.VecDeque.{deque_capacity}
 use Rattle.vs_page.specs.Fair.{IsFairLog}
 use Rattle.vs_page.specs.Log as log
 use Rattle.vs_page.specs.Log.{Log}
+use Rattle.vs_ring_port.specs.EndLog.{entries_reaped}
 use Rattle.vs_ring_port.specs.declared.queue.Queue.{Queue}
 use Rattle.vs_ring_rule.specs.declared.view.Owner.TheVariants.{Driver}
 use Rattle.vs_ring_rule.specs.declared.view.QueueView.{QueueView}
-use Rattle.vs_ring_rule.specs.OneQueue.{given, offered, taken, times}
+use Rattle.vs_ring_rule.specs.OneQueue.{Page, given, offered, taken, times}
 use Rattle.vs_ring_rule.specs.Rule.{Seated, queue_in, with_queue_in}
-use Rattle.vs_ring_shared.specs.Sights.{QueueSight, queue_sight}
+use Rattle.vs_ring_rule.specs.Tells.{DriverHas}
+use Rattle.vs_ring_shared.specs.Sights.{QueueSight, queue_sight, looked_queue, took_queue}
 use Rattle.vs_ring_shared.specs.declared.driver_queue.DriverQueue.{DriverQueue}
 
 -- What the driver's numbers of a queue say of what its seat knows: the free slots with room for all, and how many pages it offered, took
@@ -47,3 +49,19 @@ pub record Goes (n : ℕ) (queue : Queue) (f : QueueSight → QueueSight) (l : L
   pub me : new ≡ (record (with_queue_in queue queue_view old.0) { log = l }, [])
   pub seen : queue_sight queue_view ≡ f (queue_sight (queue_in queue old.0))
   pub numbers : Numbers n queue_view d
+
+-- The driver found no page: the index that it loaded in this call shows as many pages as it took, and all that it was told of is among
+-- them.
+pub record FindsNone (n : ℕ) (queue : Queue) (old new : Seated) (d : DriverQueue) : Type 0 where
+  pub known : (queue_in queue old.0).seen ≤ taken (queue_in queue old.0)
+  pub all : DriverHas queue old.0.log old.0.heard
+  pub goes : Goes n queue (looked_queue (taken (queue_in queue old.0))) old.0.log old new d
+
+-- It took a page back: the index that it loaded in this call shows more pages than it took before, and its log stays fair.
+pub record TakesBack (n : ℕ) (queue : Queue) (page : Page) (old new : Seated) (d : DriverQueue) : Type 0 where
+  pub shown : ℕ
+  pub known : (queue_in queue old.0).seen ≤ shown
+  pub more : taken (queue_in queue old.0) < shown
+  pub most : shown ≤ given (queue_in queue old.0)
+  pub goes : Goes n queue (took_queue shown page) (entries_reaped queue (Some page) old.0.log) old new d
+  pub fair : IsFairLog log.Driver (entries_reaped queue (Some page) old.0.log)

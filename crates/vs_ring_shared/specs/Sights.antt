@@ -1,5 +1,5 @@
 -- What an end of the shared rings is seen as: the table that it belongs to, and what it knows without the words and slots.
-use Rattle.std.specs.Prelude.{◌≡◌, ℕ, ◌+◌, ◌-◌, Bool, true, List, [], ◌∷◌, ◌++◌, length, Option, Some, None}
+use Rattle.std.specs.Prelude.{◌≡◌, ℕ, ◌+◌, ◌-◌, ◌<◌, ◌≤◌, Bool, true, List, [], ◌∷◌, ◌++◌, length, Option, Some, None}
 use Rattle.atomic_table.specs.Seated.{TableId}
 use Rattle.vs_page.specs.Log.{Log}
 use Rattle.vs_ring_port.specs.Counts.{Counts}
@@ -10,6 +10,7 @@ use Rattle.vs_ring_port.specs.declared.queue.Queue.TheVariants.{Rx, Tx, Event}
 use Rattle.vs_ring_rule.specs.declared.view.QueueView.{QueueView}
 use Rattle.vs_ring_rule.specs.declared.view.View.{View}
 use Rattle.vs_ring_rule.specs.OneQueue.{Page}
+use Rattle.vs_ring_rule.specs.Tells.{DriverHas}
 
 -- Of one queue: the pages that the end gave and took, and those that it staged; how many it knows the other end to have given; how often
 -- it loaded the other end's index.
@@ -90,6 +91,20 @@ after_looking queue g s = after queue (looked_queue g) s.log s
 
 abbrev pub after_reaping : Queue → ℕ → Page → Sight → Sight
 after_reaping queue g page s = after queue (took_queue g page) (entries_reaped queue (Some page) s.log) s
+
+-- The driver found no page by an index that it loaded, where it took as many as that shows: all that it was told of is among them.
+abbrev pub ReapsNone : Queue → Sight → Sight → Type 0
+ReapsNone queue s s' =
+    let q = sight_in queue s in
+    (q.seen ≤ length q.got) × DriverHas queue s.log s.heard × (s' ≡ after_looking queue (length q.got) s)
+
+-- It took a page back, by an index that it loaded, which shows more than it took before, and no more than it gave.
+pub record ReapsOne (queue : Queue) (page : Page) (s s' : Sight) : Type 0 where
+  pub shown : ℕ
+  pub known : (sight_in queue s).seen ≤ shown
+  pub more : length (sight_in queue s).got < shown
+  pub most : shown ≤ length (sight_in queue s).put
+  pub is : s' ≡ after_reaping queue shown page s
 
 abbrev pub after_loading : ℕ → Sight → Sight
 after_loading cid s = record s { log = entries_marked cid s.log }

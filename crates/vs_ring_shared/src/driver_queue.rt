@@ -1,11 +1,11 @@
 //! One queue at the driver's end.
-ghost use Rattle.std.specs.Prelude.{◌≡◌, ◌+◌, ◌<◌, ◌≤◌, ◌∷◌, ◌++◌, [], length, List, ℕ, OnOk, OnErr, IfErr};
+ghost use Rattle.std.specs.Prelude.{◌≡◌, ◌+◌, ◌<◌, ◌≤◌, ◌∷◌, ◌++◌, [], length, List, ℕ, OnOk, OnErr, IfErr, IfNone, IfSome};
 ghost use Rattle.vs_page.specs.Fair.{IsFairLog};
 ghost use Rattle.vs_page.specs.Log as log;
 ghost use Rattle.vs_ring_port.specs.EndLog.{entries_published};
 ghost use Rattle.vs_ring_rule.specs.OneQueue.{HasHeader, offered, taken};
 ghost use Rattle.vs_ring_rule.specs.Rule.{flags_of, queue_in};
-ghost use Rattle.vs_ring_shared.specs.DriverStates.{Goes, IsDriverSeat, Numbers};
+ghost use Rattle.vs_ring_shared.specs.DriverStates.{FindsNone, Goes, IsDriverSeat, Numbers, TakesBack};
 ghost use Rattle.vs_ring_shared.specs.Sights.{gave_queue, staged_queue};
 
 use crate::port::Port;
@@ -84,4 +84,26 @@ pub(crate) fn publish(port: &mut Port, numbers: &mut DriverQueue, queue: Queue)
         port.publish(queue, numbers.offered);
         numbers.staged = 0;
     }
+}
+
+/// Takes the page back that the device gave back first of those not yet taken.
+pub(crate) fn reap(port: &mut Port, numbers: &mut DriverQueue, queue: Queue) -> Option<Page>
+    requires seat { IsDriverSeat port.old.token.me }
+    requires numbers { Numbers port.old.size (queue_in queue port.old.token.me.0) numbers.old }
+    ensures size { port.new.size ≡ port.old.size }
+    ensures table { port.new.table ≡ port.old.table }
+    ensures none { IfNone result (FindsNone port.old.size queue port.old.token.me port.new.token.me numbers.new) }
+    ensures back { IfSome result (λ page. TakesBack port.old.size queue page port.old.token.me port.new.token.me numbers.new) }
+{
+    let index = port.look_back(queue);
+    if index == u64::from(numbers.taken) {
+        return None;
+    }
+    let element = port.reap(queue, numbers.taken);
+    let slot = element % (1 << 32);
+    let page = port.take_out(queue, slot);
+    port.lay(queue, slot);
+    numbers.free.push_front_reserved(slot);
+    numbers.taken = numbers.taken.wrapping_add(1);
+    Some(page)
 }
