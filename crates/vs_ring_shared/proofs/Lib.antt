@@ -3,3 +3,7 @@ pub mod Queues
 pub mod Stages
 pub mod Reaps
 pub mod DriverCalls
+pub mod HeldSlots
+pub mod Takes
+pub mod Returns
+pub mod DeviceCalls

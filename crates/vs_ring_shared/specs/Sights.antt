@@ -1,16 +1,20 @@
 -- What an end of the shared rings is seen as: the table that it belongs to, and what it knows without the words and slots.
-use Rattle.std.specs.Prelude.{◌≡◌, ℕ, ◌+◌, ◌-◌, ◌<◌, ◌≤◌, Bool, true, List, [], ◌∷◌, ◌++◌, length, Option, Some, None}
+use Rattle.std.specs.Prelude.{◌≡◌, ℕ, ◌+◌, ◌-◌, ◌%◌, ◌<◌, ◌≤◌, Bool, true, List, [], ◌∷◌, ◌++◌, length, Option, Some, None}
 use Rattle.atomic_table.specs.Seated.{TableId}
 use Rattle.vs_page.specs.Log.{Log}
-use Rattle.vs_ring_port.specs.Counts.{Counts}
+use Rattle.vs_page.specs.declared.log.LogEntry.TheVariants.{Mark}
+use Rattle.vs_ring_port.specs.Chains.{Held, without_held}
+use Rattle.vs_ring_port.specs.Counts as counts
 use Rattle.vs_ring_port.specs.Contents.{RingContents}
-use Rattle.vs_ring_port.specs.EndLog.{EndLog, entries_published, entries_reaped, entries_marked}
+use Rattle.vs_ring_port.specs.EndLog.{EndLog, entries_published, entries_reaped, entries_marked, entries_taken, entries_returned}
+use Rattle.vs_ring_port.specs.Lists.{chain_with, to_read}
+use Rattle.vs_ring_port.specs.declared.device_ring.Chain.{Chain}
 use Rattle.vs_ring_port.specs.declared.queue.Queue.{Queue}
 use Rattle.vs_ring_port.specs.declared.queue.Queue.TheVariants.{Rx, Tx, Event}
 use Rattle.vs_ring_rule.specs.declared.view.QueueView.{QueueView}
 use Rattle.vs_ring_rule.specs.declared.view.View.{View}
 use Rattle.vs_ring_rule.specs.OneQueue.{Page}
-use Rattle.vs_ring_rule.specs.Tells.{DriverHas}
+use Rattle.vs_ring_rule.specs.Tells.{DriverHas, DeviceHas}
 
 -- Of one queue: the pages that the end gave and took, and those that it staged; how many it knows the other end to have given; how often
 -- it loaded the other end's index.
@@ -76,6 +80,10 @@ looked_queue g q = record q { seen = g; loads = q.loads + 1 }
 abbrev pub took_queue : ℕ → Page → QueueSight → QueueSight
 took_queue g page q = record q { seen = g; loads = q.loads + 1; got = q.got ++ page ∷ [] }
 
+-- The device gave a page back.
+abbrev pub returned_queue : Page → QueueSight → QueueSight
+returned_queue page q = record q { put = q.put ++ page ∷ [] }
+
 -- The same of a sight, where the log is l after it.
 abbrev pub after : Queue → (QueueSight → QueueSight) → Log → Sight → Sight
 after queue f l s = record (with_sight queue (f (sight_in queue s)) s) { log = l }
@@ -113,10 +121,10 @@ after_loading cid s = record s { log = entries_marked cid s.log }
 abbrev pub in_flight_of : QueueSight → ℕ
 in_flight_of q = length q.put + length q.staged - length q.got
 
-abbrev pub flight_of : Sight → Counts
+abbrev pub flight_of : Sight → counts.Counts
 flight_of s = record { rx = in_flight_of s.rx; tx = in_flight_of s.tx; event = in_flight_of s.event }
 
-abbrev pub staged_of : Sight → Counts
+abbrev pub staged_of : Sight → counts.Counts
 staged_of s = record { rx = length s.rx.staged; tx = length s.tx.staged; event = length s.event.staged }
 
 -- What the driver's end exposes: its log and the pages that it staged. The rings are honest.
@@ -129,3 +137,58 @@ driver_log s = record {
 
 abbrev pub driver_contents : Sight → RingContents
 driver_contents s = record { lists = None; log = Some (driver_log s); other = None; plain = None; honest = true }
+
+-- The device's end: beside that, the chains that it holds.
+pub record DeviceSight : Type 0 where
+  pub sight : Sight
+  pub held : List Held
+
+-- It took a page as a chain; it returned a chain with a page; it loaded the index; it published the guest's CID.
+abbrev pub after_taking : Queue → ℕ → Page → Chain → DeviceSight → DeviceSight
+after_taking queue g page chain s = record {
+  sight = after queue (took_queue g page) (entries_taken queue page s.sight.log) s.sight;
+  held = record { chain = chain; bytes = to_read queue page } ∷ s.held;
+}
+
+abbrev pub after_returning : Chain → Page → DeviceSight → DeviceSight
+after_returning chain page s = record {
+  sight = after chain.queue (returned_queue page) (entries_returned chain.queue page s.sight.log) s.sight;
+  held = without_held chain s.held;
+}
+
+abbrev pub after_counting : Queue → ℕ → DeviceSight → DeviceSight
+after_counting queue g s = record s { sight = after_looking queue g s.sight }
+
+abbrev pub after_resetting : ℕ → DeviceSight → DeviceSight
+after_resetting cid s = record s { sight = record s.sight { log = Mark cid ∷ s.sight.log } }
+
+-- The device found no page by an index that it loaded, where it took as many as that shows: all that it was told of is among them.
+abbrev pub TakesNone : Queue → DeviceSight → DeviceSight → Type 0
+TakesNone queue s s' =
+    let q = sight_in queue s.sight in
+    (q.seen ≤ length q.got) × DeviceHas queue s.sight.log s.sight.heard × (s' ≡ after_counting queue (length q.got) s)
+
+-- It took a page as the next chain, by an index that it loaded, which shows more than it took before, and no more than were given and not
+-- given back.
+pub record TakesOne (queue : Queue) (chain : Chain) (s s' : DeviceSight) : Type 0 where
+  pub page : Page
+  pub shown : ℕ
+  pub known : (sight_in queue s.sight).seen ≤ shown
+  pub more : length (sight_in queue s.sight).got < shown
+  pub most : shown ≤ length (sight_in queue s.sight).put + s.sight.size
+  pub chain_is : chain ≡ chain_with queue (length (sight_in queue s.sight).got % s.sight.size) page
+  pub is : s' ≡ after_taking queue shown page chain s
+
+-- It loaded the index, which shows how many pages were given: so many were not given back.
+pub record Counts (queue : Queue) (count : ℕ) (s s' : DeviceSight) : Type 0 where
+  pub known : (sight_in queue s.sight).seen ≤ length (sight_in queue s.sight).put + count
+  pub low : length (sight_in queue s.sight).got ≤ length (sight_in queue s.sight).put + count
+  pub most : count ≤ s.sight.size
+  pub is : s' ≡ after_counting queue (length (sight_in queue s.sight).put + count) s
+
+-- What the device's end exposes: its log and the chains that it holds.
+abbrev pub device_log : DeviceSight → EndLog
+device_log s = record { entries = s.sight.log; staged = record { rx = []; tx = []; event = [] }; held = s.held }
+
+abbrev pub device_contents : DeviceSight → RingContents
+device_contents s = record { lists = None; log = Some (device_log s); other = None; plain = None; honest = true }

@@ -1,9 +1,13 @@
 //! Shared rings: the three virtqueues of a socket device between two threads, without a lock (Virtio 1.2, section 2.7).
 #![tactic(auto)]
 
+mod device_end;
+mod device_queue;
 mod driver_end;
 mod driver_queue;
+mod held;
 mod plays;
 mod port;
 
+pub use device_end::DeviceEnd;
 pub use driver_end::DriverEnd;
