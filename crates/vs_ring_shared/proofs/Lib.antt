@@ -7,3 +7,4 @@ pub mod HeldSlots
 pub mod Takes
 pub mod Returns
 pub mod DeviceCalls
+pub mod Makes

@@ -1,5 +1,5 @@
 -- What an end of the shared rings is seen as: the table that it belongs to, and what it knows without the words and slots.
-use Rattle.std.specs.Prelude.{◌≡◌, ℕ, ◌+◌, ◌-◌, ◌%◌, ◌<◌, ◌≤◌, Bool, true, List, [], ◌∷◌, ◌++◌, length, Option, Some, None}
+use Rattle.std.specs.Prelude.{◌≡◌, ℕ, ◌+◌, ◌-◌, ◌%◌, ◌<◌, ◌≤◌, Bool, true, false, List, [], ◌∷◌, ◌++◌, length, Option, Some, None}
 use Rattle.atomic_table.specs.Seated.{TableId}
 use Rattle.vs_page.specs.Log.{Log}
 use Rattle.vs_page.specs.declared.log.LogEntry.TheVariants.{Mark}
@@ -65,6 +65,18 @@ with_sight Event q s = record s { event = q }
 -- An end that no page passed.
 abbrev pub empty_queue : QueueSight
 empty_queue = record { put = []; got = []; staged = []; seen = 0; loads = 0 }
+
+abbrev pub empty_sight : TableId → ℕ → Sight
+empty_sight table size = record {
+  table = table;
+  size = size;
+  log = [];
+  heard = [];
+  whole = false;
+  rx = empty_queue;
+  tx = empty_queue;
+  event = empty_queue;
+}
 
 -- The driver staged a page; it gave those staged.
 abbrev pub staged_queue : Page → QueueSight → QueueSight

@@ -6,8 +6,10 @@ mod device_queue;
 mod driver_end;
 mod driver_queue;
 mod held;
+mod making;
 mod plays;
 mod port;
 
 pub use device_end::DeviceEnd;
 pub use driver_end::DriverEnd;
+pub use making::make;
