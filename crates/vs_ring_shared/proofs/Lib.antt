@@ -8,3 +8,4 @@ pub mod Takes
 pub mod Returns
 pub mod DeviceCalls
 pub mod Makes
+pub mod Exposed

@@ -3,13 +3,17 @@
 
 mod device_end;
 mod device_queue;
+mod device_ring;
 mod driver_end;
 mod driver_queue;
+mod driver_ring;
 mod held;
 mod making;
 mod plays;
 mod port;
 
 pub use device_end::DeviceEnd;
+pub use device_ring::laws_of_device_end;
 pub use driver_end::DriverEnd;
+pub use driver_ring::laws_of_driver_end;
 pub use making::make;
