@@ -1,14 +1,12 @@
 -- Logs grow: what an entry leaves of the CID, and what an end was told of the other's log.
-use Rattle.std.proofs.Common.{◌≡◌, ℕ, List, [], ◌∷◌, ◌++◌, Option, Some, None, length, refl, sym, ap, ◌∙◌, subst, arith, append_assoc}
+use Rattle.std.proofs.Common.{◌≡◌, ℕ, List, [], ◌∷◌, ◌++◌, Option, Some, None, length, refl, sym, ap, ◌∙◌, arith, append_assoc}
 use Rattle.std.proofs.Common.{length-append}
 use Rattle.std.proofs.lemmas.List.{append-nil}
 use Rattle.vs_history.specs.declared.packet.Packet.{Packet}
 use Rattle.vs_page.specs.declared.log.LogEntry.{LogEntry}
 use Rattle.vs_page.specs.declared.log.LogEntry.TheVariants.{PutPacket, GotPacket, PutEvent, GotEvent, Mark}
 use Rattle.vs_page.specs.Held.{packet_held, event_held}
-use Rattle.vs_page.specs.Fair.{IsFairLog}
-use Rattle.vs_page.proofs.Entries.{one_put, one_got}
-use Rattle.vs_page.specs.Log.{Role, Driver, Log, packets_put, events_put}
+use Rattle.vs_page.specs.Log.{Log, packets_put, events_put}
 use Rattle.vs_page.specs.Open.{cid_of}
 use Rattle.vs_ring_port.specs.EndLog.{all_put, with_packet, with_event, entries_published, entries_reaped, entries_marked, entries_taken}
 use Rattle.vs_ring_port.specs.EndLog.{entries_returned}

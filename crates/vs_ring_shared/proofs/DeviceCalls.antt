@@ -1,12 +1,11 @@
 -- What a call on a queue leaves of the device's end.
-use Rattle.std.proofs.Common.{◌≡◌, ℕ, ◌+◌, ◌*◌, ◌<◌, ◌≤◌, ◌==◌, cond, false, List, [], ◌∷◌, length, Contains, refl, sym, ap, ap₂, ◌∙◌, subst, arith}
+use Rattle.std.proofs.Common.{◌≡◌, ℕ, ◌+◌, ◌<◌, ◌≤◌, ◌==◌, cond, false, List, [], ◌∷◌, length, Contains, refl, sym, ap, ap₂, ◌∙◌, subst, arith}
 use Rattle.atomic_table.specs.Seated.{TableId}
 use Rattle.vs_page.specs.Fair.{IsFairLog}
 use Rattle.vs_page.specs.Log as log
 use Rattle.vs_page.specs.Log.{Log}
 use Rattle.vs_ring_port.specs.Chains.{Held, chains_of, same_queue}
 use Rattle.vs_ring_port.specs.EndLog.{entries_returned, entries_taken}
-use Rattle.vs_ring_port.specs.Lists.{chain_with, to_read}
 use Rattle.vs_ring_port.specs.declared.device_ring.Chain.{Chain}
 use Rattle.vs_ring_port.specs.declared.queue.Queue.{Queue}
 use Rattle.vs_ring_port.specs.declared.queue.Queue.TheVariants.{Rx, Tx, Event}
@@ -18,7 +17,7 @@ use Rattle.vs_ring_rule.specs.Steps.{removed}
 use Rattle.vs_ring_rule.proofs.Cores.{times_removed}
 use Rattle.vs_ring_shared.specs.DeviceStates.{DeviceReturns, DeviceTakesChain, HasSlots, IsDevice, Turns}
 use Rattle.vs_ring_shared.specs.Holdings.{AreInPages, Holding, Released, all_held, slots_of}
-use Rattle.vs_ring_shared.specs.Sights.{DeviceSight, QueueSight, Sight, TakesOne, after, queue_sight, sight_in, sight_of, took_queue}
+use Rattle.vs_ring_shared.specs.Sights.{DeviceSight, QueueSight, Sight, TakesOne, after, sight_of, took_queue}
 use Rattle.vs_ring_shared.specs.declared.device_queue.DeviceQueue.{DeviceQueue}
 use Rattle.vs_ring_shared.specs.declared.held.HeldPage.{HeldPage}
 use Rattle.vs_ring_shared.proofs.DriverCalls.{seen_queue}

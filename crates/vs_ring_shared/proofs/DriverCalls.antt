@@ -1,5 +1,5 @@
 -- What a call on a queue leaves of the driver's end.
-use Rattle.std.proofs.Common.{◌≡◌, ℕ, length, refl, sym, ap, ◌∙◌, subst}
+use Rattle.std.proofs.Common.{◌≡◌, ℕ, refl, sym, ap, ◌∙◌, subst}
 use Rattle.atomic_table.specs.Seated.{TableId}
 use Rattle.vs_page.specs.Fair.{IsFairLog}
 use Rattle.vs_page.specs.Log as log
@@ -9,9 +9,9 @@ use Rattle.vs_ring_port.specs.declared.queue.Queue.TheVariants.{Rx, Tx, Event}
 use Rattle.vs_ring_rule.specs.declared.view.View.{View}
 use Rattle.vs_ring_rule.specs.Moves.{driver_loaded}
 use Rattle.vs_ring_rule.specs.OneQueue.{Page}
-use Rattle.vs_ring_rule.specs.Rule.{Seated, queue_in, with_queue_in}
+use Rattle.vs_ring_rule.specs.Rule.{Seated, queue_in}
 use Rattle.vs_ring_rule.proofs.Says.{marked_fair}
-use Rattle.vs_ring_shared.specs.DriverStates.{Goes, IsDriver, IsDriverQueue, IsDriverSeat, Numbers, TakesBack}
+use Rattle.vs_ring_shared.specs.DriverStates.{Goes, IsDriver, TakesBack}
 use Rattle.vs_ring_shared.specs.Sights.{QueueSight, ReapsOne, Sight, after, queue_sight, sight_in, sight_of}
 use Rattle.vs_ring_shared.specs.declared.driver_queue.DriverQueue.{DriverQueue}
 use Rattle.vs_ring_shared.specs.declared.port.Port.{Port}

@@ -1,18 +1,17 @@
 -- What the ends expose, before and after a call.
-use Rattle.std.proofs.Common.{◌≡◌, ℕ, true, List, [], ◌∷◌, take, Option, Some, None, refl, sym, ap, ◌∙◌, subst}
+use Rattle.std.proofs.Common.{◌≡◌, ℕ, List, take, Option, Some, None, refl, sym, ap, ◌∙◌, subst}
 use Rattle.vs_page.specs.Fair.{IsFairLog}
 use Rattle.vs_page.specs.Held.{event_held}
 use Rattle.vs_page.specs.Log as log
 use Rattle.vs_page.specs.Log.{Log}
 use Rattle.vs_page.specs.declared.log.LogEntry.TheVariants.{PutEvent}
 use Rattle.vs_ring_port.specs.Chains.{bytes_in, without_held}
-use Rattle.vs_ring_port.specs.Contents.{DeviceAnswer, DeviceCall, PublishCid, Return, Take}
+use Rattle.vs_ring_port.specs.Contents.{DeviceAnswer, DeviceCall, Return, Take}
 use Rattle.vs_ring_port.specs.DeviceCalls.{CanReturn, DeviceAllows, DeviceMoves, IsWholePacket}
 use Rattle.vs_ring_port.specs.DriverCalls.{CanPublish, DriverAllows, DriverMoves, LoadCid, Publish}
 use Rattle.vs_ring_port.specs.EndLog.{EndLog, entries_published, entries_returned, log_published, log_returned, log_taken, pages_at, with_event}
 use Rattle.vs_ring_port.specs.Lists.{Rings, after_publish}
 use Rattle.vs_ring_port.specs.declared.device_ring.Chain.{Chain}
-use Rattle.vs_ring_port.specs.declared.device_ring.Next.{Next}
 use Rattle.vs_ring_port.specs.declared.device_ring.Next.TheVariants as next
 use Rattle.vs_ring_port.specs.declared.queue.Queue.{Queue}
 use Rattle.vs_ring_port.specs.declared.queue.Queue.TheVariants.{Rx, Tx, Event}
@@ -79,10 +78,12 @@ pub allows_publish : (queue : Queue) (s s' : Sight) → s' ≡ after_publishing 
     → IsFairLog log.Driver s.log → DriverAllows (Publish queue) tt (driver_contents s) (driver_contents s')
 allows_publish queue s s' is can fair =
     let pages = (sight_in queue s).staged in
-    subst (λ (z : Sight). DriverAllows (Publish queue) tt (driver_contents s) (driver_contents z)) (sym is)
-    (pages, driver_moved (λ w. Unit {0}) (after_publish queue pages) (λ l. pages ≡ pages_at queue l.staged) (log_published queue) s
-    (after_publishing queue s) (staged_there queue s) (published queue s)
-    (subst (λ (l : Log). IsFairLog log.Driver l) (sym (logged queue s)) (may_publish queue s can fair)))
+    subst (λ (z : Sight). DriverAllows (Publish queue) tt (driver_contents s) (driver_contents z)) (sym is) (
+      pages,
+      driver_moved (λ w. Unit {0}) (after_publish queue pages) (λ l. pages ≡ pages_at queue l.staged) (log_published queue) s
+          (after_publishing queue s) (staged_there queue s) (published queue s)
+          (subst (λ (l : Log). IsFairLog log.Driver l) (sym (logged queue s)) (may_publish queue s can fair)),
+    )
 
 -- the device takes a chain
 pub allows_take : (queue : Queue) (chain : Chain) (s s' : DeviceSight) → TakesOne queue chain s s' → IsFairLog log.Device s'.sight.log

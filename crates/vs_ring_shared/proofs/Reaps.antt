@@ -10,7 +10,7 @@ use Rattle.vs_ring_port.specs.declared.queue.Queue.TheVariants.{Rx, Tx, Event}
 use Rattle.vs_ring_rule.specs.declared.view.QueueView.{QueueView}
 use Rattle.vs_ring_rule.specs.declared.view.View.{View}
 use Rattle.vs_ring_rule.specs.Moves.{after_lay, after_look, driver_took}
-use Rattle.vs_ring_rule.specs.OneQueue.{Page, element, given, offered, taken, times}
+use Rattle.vs_ring_rule.specs.OneQueue.{Page, given, taken, times}
 use Rattle.vs_ring_rule.specs.Rule.{Seated, queue_in, with_queue_in}
 use Rattle.vs_ring_rule.specs.Steps.{laid, looked, took}
 use Rattle.vs_ring_shared.specs.DriverStates.{IsDriverQueue, Numbers, TakesBack}

@@ -1,5 +1,5 @@
 -- The loads by which the device takes a page, over plain values.
-use Rattle.std.proofs.Common.{◌≡◌, ◌≢◌, ℕ, ◌+◌, ◌*◌, ◌%◌, ◌<◌, ◌≤◌, List, [], ◌∷◌, ◌++◌, length, Some, None, sym, refl, ap, ◌∙◌, subst, arith}
+use Rattle.std.proofs.Common.{◌≡◌, ℕ, ◌+◌, ◌%◌, ◌<◌, ◌≤◌, [], ◌∷◌, ◌++◌, length, refl, ap, ◌∙◌, subst, arith}
 use Rattle.std.proofs.Common.{length-append}
 use Rattle.vs_page.specs.Fair.{IsFairLog}
 use Rattle.vs_page.specs.Log as log
@@ -9,7 +9,7 @@ use Rattle.vs_ring_port.specs.declared.queue.Queue.TheVariants.{Rx, Tx, Event}
 use Rattle.vs_ring_rule.specs.declared.view.QueueView.{QueueView}
 use Rattle.vs_ring_rule.specs.declared.view.View.{View}
 use Rattle.vs_ring_rule.specs.Moves.{after_lay, after_look, after_entry, device_took}
-use Rattle.vs_ring_rule.specs.OneQueue.{HasHeader, Page, given, taken, times}
+use Rattle.vs_ring_rule.specs.OneQueue.{HasHeader, Page, given, taken}
 use Rattle.vs_ring_rule.specs.Rule.{Seated, flags_of, queue_in, with_queue_in}
 use Rattle.vs_ring_rule.specs.Steps.{laid, looked, entered, took}
 use Rattle.vs_ring_shared.specs.DeviceStates.{DeviceNumbers, DeviceTakes, IsDeviceQueue}

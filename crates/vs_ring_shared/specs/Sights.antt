@@ -1,5 +1,5 @@
 -- What an end of the shared rings is seen as: the table that it belongs to, and what it knows without the words and slots.
-use Rattle.std.specs.Prelude.{◌≡◌, ℕ, ◌+◌, ◌-◌, ◌%◌, ◌<◌, ◌≤◌, Bool, true, false, List, [], ◌∷◌, ◌++◌, length, Option, Some, None}
+use Rattle.std.specs.Prelude.{◌≡◌, ℕ, ◌+◌, ◌-◌, ◌%◌, ◌<◌, ◌≤◌, Bool, true, false, List, [], ◌∷◌, ◌++◌, length, Some, None}
 use Rattle.atomic_table.specs.Seated.{TableId}
 use Rattle.vs_page.specs.Log.{Log}
 use Rattle.vs_page.specs.declared.log.LogEntry.TheVariants.{Mark}

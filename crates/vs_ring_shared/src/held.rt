@@ -72,7 +72,8 @@ impl HeldPages {
         requires { length self.old.pages < self.old.room }
         ensures { self.new ≡ record self.old { pages = record { chain = chain; slot = slot; page = page } ∷ self.old.pages } }
     {
-        self.pages.push_front_reserved(HeldPage { chain, slot, page });
+        self.pages
+            .push_front_reserved(HeldPage { chain, slot, page });
     }
 
     /// The place of the newest hold of that very chain, where it is held.

@@ -1,5 +1,5 @@
-use Rattle.std.proofs.Common.{◌≡◌, ℕ, ◌+◌, ◌<◌, ◌≤◌, ◌%◌, List, [], ◌∷◌, length, refl, sym, ap, ◌∙◌, subst, arith}
-use Rattle.vs_ring_rule.specs.OneQueue.{Page, given, taken}
+use Rattle.std.proofs.Common.{◌≡◌, ◌+◌, ◌<◌, ◌%◌, sym, ap, ◌∙◌, subst, arith}
+use Rattle.vs_ring_rule.specs.OneQueue.{Page, taken}
 use Rattle.vs_ring_rule.specs.Rule.{Seated, queue_in}
 use Rattle.vs_ring_shared.specs.DeviceStates.{DeviceTakes}
 use Rattle.vs_ring_shared.specs.declared.device_queue.DeviceQueue.{DeviceQueue}

@@ -1,4 +1,4 @@
-use Rattle.std.proofs.Common.{◌≡◌, ℕ, ◌+◌, ◌*◌, ◌%◌, ◌<◌, ◌≤◌, List, [], ◌∷◌, length, refl, sym, ap, ◌∙◌, subst, arith}
+use Rattle.std.proofs.Common.{◌≡◌, ℕ, ◌+◌, ◌%◌, ◌<◌, List, ◌∷◌, length, sym, ap, ◌∙◌, subst, arith}
 use Rattle.std.specs.VecDeque.{deque_capacity}
 use Rattle.vs_ring_rule.specs.OneQueue.{Page, taken}
 use Rattle.vs_ring_rule.specs.Rule.{Seated, queue_in}

@@ -1,7 +1,7 @@
-use Rattle.std.proofs.Common.{◌≡◌, ℕ, ◌+◌, ◌*◌, ◌%◌, ◌<◌, List, [], ◌∷◌, length, get_or, refl, sym, ap, ◌∙◌, subst, arith}
+use Rattle.std.proofs.Common.{ℕ, ◌+◌, ◌*◌, ◌%◌, ◌<◌, List, [], length, get_or, refl, sym, ap, ◌∙◌, subst}
 use Rattle.std.specs.VecDeque.{deque_capacity}
 use Rattle.vs_ring_rule.specs.declared.view.QueueView.{QueueView}
-use Rattle.vs_ring_rule.specs.Rule.{Seated, queue_in, flags_of}
+use Rattle.vs_ring_rule.specs.Rule.{Seated, queue_in}
 use Rattle.vs_ring_rule.specs.Steps.{stored, lifted, staged_one}
 use Rattle.vs_ring_rule.specs.OneQueue.{offered, times}
 use Rattle.vs_ring_rule.proofs.Ways.{times_here}

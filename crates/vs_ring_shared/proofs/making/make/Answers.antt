@@ -1,12 +1,8 @@
-use Rattle.std.proofs.Common.{rules, ◌≡◌, ℕ, ◌+◌, ◌*◌, ◌∷◌, [], replicate, length, sym, ap, ◌∙◌, subst, arith}
+use Rattle.std.proofs.Common.{rules, ◌≡◌, ℕ, ◌+◌, ◌*◌, ◌∷◌, replicate, length, ap, ◌∙◌, arith}
 use Rattle.std.proofs.lemmas.List.{length-replicate}
 use Rattle.vs_page.specs.declared.log.TheConstants.{FIRST_CID}
 use Rattle.vs_ring_rule.proofs.Ends.{opens, splits}
-use Rattle.vs_ring_rule.specs.Rule.{device_from, driver_from, first_view}
-use Rattle.vs_ring_shared.specs.DeviceStates.{IsDevice}
-use Rattle.vs_ring_shared.specs.DriverStates.{IsDriver}
-use Rattle.vs_ring_shared.specs.Holdings.{Holding}
-use Rattle.vs_ring_shared.proofs.Makes.{IsNew, first_device, first_driver, no_count}
+use Rattle.vs_ring_shared.proofs.Makes.{first_device, first_driver}
 use Rattle.vs_ring_shared.proofs.making.make.Goals as goal
 
 pub vacant-requires : goal.vacant-requires
@@ -26,7 +22,6 @@ split_seat-other_token-requires c =
 pub invariant_of-driver-2 : goal.invariant_of-driver-2
 invariant_of-driver-2 c =
     let n = c.from-size.result in
-
     rw (c.split_seat-other_token.ensures.2, c.in_ok-table.ensures.4)
     (first_driver n c.in_ok-rx.rx c.in_ok-tx.tx c.in_ok-event.event
     (record { free = c.in_ok-rx.ensures.free; room = c.in_ok-rx.ensures.room; offered = c.in_ok-rx.ensures.none.0; staged = c.in_ok-rx.ensures.none.1; taken = c.in_ok-rx.ensures.none.2 })

@@ -1,6 +1,6 @@
-use Rattle.std.proofs.Common.{◌≤◌, sym, ap, arith, subst, length, Contains}
+use Rattle.std.proofs.Common.{◌≤◌, sym, arith, subst, length, Contains}
 use Rattle.vs_ring_port.specs.Chains.{bytes_in, chains_of}
-use Rattle.vs_ring_shared.specs.Holdings.{AreInPages, all_held}
+use Rattle.vs_ring_shared.specs.Holdings.{all_held}
 use Rattle.vs_ring_shared.specs.Sights.{DeviceSight}
 use Rattle.vs_ring_shared.proofs.DeviceCalls.{writes}
 use Rattle.vs_ring_shared.proofs.HeldSlots.{in_pages-written, writable_in}

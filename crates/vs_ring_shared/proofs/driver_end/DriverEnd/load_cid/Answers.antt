@@ -1,6 +1,4 @@
 use Rattle.vs_ring_shared.proofs.DriverCalls.{loads_cid}
-use Rattle.std.proofs.Common.{ℕ, sym, subst}
-use Rattle.vs_ring_shared.specs.DriverStates.{IsDriver}
 use Rattle.vs_ring_shared.proofs.driver_end.DriverEnd.load_cid.Goals as goal
 
 pub invariant_of-self : goal.invariant_of-self
