@@ -11,6 +11,8 @@ mod held;
 mod making;
 mod plays;
 mod port;
+#[cfg(test)]
+mod tests;
 
 pub use device_end::DeviceEnd;
 pub use device_ring::laws_of_device_end;
