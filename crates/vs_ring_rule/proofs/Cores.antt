@@ -1,7 +1,8 @@
 -- Each kind of step keeps the core of the rule.
 use Rattle.std.proofs.Common.{◌≡◌, ◌≢◌, ℕ, suc, ◌+◌, ◌*◌, ◌%◌, ◌<◌, ◌≤◌, Bool, cond, eqb, List, [], ◌∷◌, ◌++◌, length, get_or, set, sym}
 use Rattle.std.proofs.Common.{refl, ap, ◌∙◌, subst, arith, length-set, length-append, get_or-set_other, get_or-set_same, eq-eqb, ne_eqb}
-use Rattle.std.proofs.Common.{⊎_elim}
+use Rattle.std.proofs.Common.{⊎_elim, append_assoc}
+use Rattle.std.proofs.lemmas.List.{append-nil}
 use Rattle.std.proofs.lemmas.Bool.{cases_eq}
 use Rattle.std.proofs.Math.Nat.{mod-lt}
 use Rattle.std.specs.Prelude.{Option, Some, None}
@@ -10,11 +11,11 @@ use mathlib.Core.Option as maybe
 use lib.ListN.{get_elem?}
 use Rattle.atomic_table.proofs.Lists.{one_turn, set_here, set_else}
 use Rattle.vs_ring_rule.specs.declared.view.QueueView.{QueueView}
-use Rattle.vs_ring_rule.specs.OneQueue.{Page, Homes, given, taken, descriptor, element, Offered, Returned, times, HeadIs, EntryIs, Empty}
+use Rattle.vs_ring_rule.specs.OneQueue.{Page, Homes, given, offered, taken, descriptor, element, HasHeader, Offered, Returned, times, HeadIs, EntryIs, Empty}
 use Rattle.vs_ring_rule.specs.OneQueue.{Core}
-use Rattle.vs_ring_rule.specs.Steps.{removed, stored, lifted, laid, gave, looked, entered, took}
-use Rattle.vs_ring_rule.proofs.Ways.{times_here, times_snoc, counted, once, Face, FaceStays, HomesStay, way_stays, way_given, Next, next}
-use Rattle.vs_ring_rule.proofs.Ways.{way_taken, WayOf, length_way}
+use Rattle.vs_ring_rule.specs.Steps.{removed, stored, lifted, laid, gave, staged_one, gave_staged, looked, entered, took}
+use Rattle.vs_ring_rule.proofs.Ways.{times_here, times_snoc, counted, once, Face, FaceStays, HomesStay, way_stays, way_shows, way_given, Next, next}
+use Rattle.vs_ring_rule.proofs.Ways.{way_taken, WayOf, length_way, next_front}
 
 same_face : (F : Face) (g : ℕ) (ks : List ℕ) → FaceStays F F g ks
 same_face F g ks i k p low high there f = f
@@ -117,11 +118,12 @@ module _ (n flags : ℕ) (h : Homes) (d e : QueueView) (c : Core n flags h d e) 
   ReturnStays words = FaceStays (Returned n e.words) (Returned n words) (taken d) back
 
   -- how many pages are in flight on each way
-  counts_ahead : taken e + length ahead ≡ given d
-  counts_ahead = length_way (Offered n flags d.words) h (get_or d.words (2 * n) 0) d.put e.got e.seen c.forward
+  counts_ahead : taken e + length ahead ≡ offered d
+  counts_ahead = length_way (Offered n flags d.words) h (get_or d.words (2 * n) 0) (given d) (d.put ++ d.staged) e.got e.seen c.forward
+      ∙ length-append d.put d.staged
 
   counts_back : taken d + length back ≡ given e
-  counts_back = length_way (Returned n e.words) h (get_or e.words n 0) e.put d.got d.seen c.backward
+  counts_back = length_way (Returned n e.words) h (get_or e.words n 0) (given e) e.put d.got d.seen c.backward
 
   -- a store of a descriptor word, of a slot that the driver holds
   pub describes_beside : (k x : ℕ) → 0 < times k d.held → OfferStays (set d.words k x)
@@ -131,18 +133,20 @@ module _ (n flags : ℕ) (h : Homes) (d e : QueueView) (c : Core n flags h d e) 
       let small : k < n = m.0 in (
         get_or-set_other d.words k (n + i % n) x 0 (λ same. omega arith) ∙ f.0,
         get_or-set_other d.words k j x 0 (apart k j ahead m.1 there) ∙ f.1,
+        f.2,
       )
 
   -- a store of the next available entry
-  pub enters_beside : (x : ℕ) → given d < taken d + n → OfferStays (set d.words (n + given d % n) x)
+  pub enters_beside : (x : ℕ) → offered d < taken d + n → OfferStays (set d.words (n + offered d % n) x)
   enters_beside x free i j p low high there f =
       let a = ahead_slot j there in
       let count = counts_ahead in
       let behind : taken d ≤ taken e = omega (arith, c.behind, counts_back) in
-      let other : i % n ≢ given d % n = λ same. let is : i ≡ given d = one_turn i (given d) n (omega arith) (omega arith) same in
+      let other : i % n ≢ offered d % n = λ same. let is : i ≡ offered d = one_turn i (offered d) n (omega arith) (omega arith) same in
       omega arith in (
-        get_or-set_other d.words (n + given d % n) (n + i % n) x 0 (λ same. other (omega arith)) ∙ f.0,
-        get_or-set_other d.words (n + given d % n) j x 0 (λ same. omega arith) ∙ f.1,
+        get_or-set_other d.words (n + offered d % n) (n + i % n) x 0 (λ same. other (omega arith)) ∙ f.0,
+        get_or-set_other d.words (n + offered d % n) j x 0 (λ same. omega arith) ∙ f.1,
+        f.2,
       )
 
   -- a store of the available index
@@ -150,6 +154,7 @@ module _ (n flags : ℕ) (h : Homes) (d e : QueueView) (c : Core n flags h d e) 
   indexes_beside x i j p low high there f = let a = ahead_slot j there in let turn = mod-lt i c.some_slot in (
     get_or-set_other d.words (2 * n) (n + i % n) x 0 (λ same. omega arith) ∙ f.0,
     get_or-set_other d.words (2 * n) j x 0 (λ same. omega arith) ∙ f.1,
+    f.2,
   )
 
   -- a store of the next used element, and of the used index
@@ -165,24 +170,24 @@ module _ (n flags : ℕ) (h : Homes) (d e : QueueView) (c : Core n flags h d e) 
   used_beside : (x : ℕ) → ReturnStays (set e.words n x)
   used_beside x i j p low high there f = let turn = mod-lt i c.some_slot in get_or-set_other e.words n (i % n) x 0 (λ same. omega arith) ∙ f
 
-  abbrev Ahead : ℕ → List Page → List Page → ℕ → List ℕ → List ℕ → Homes → Type 0
-  Ahead index put got seen slots words h' = WayOf (Offered n flags words) h' index put got seen slots
+  abbrev Ahead : ℕ → ℕ → List Page → List Page → ℕ → List ℕ → List ℕ → Homes → Type 0
+  Ahead index g all got seen slots words h' = WayOf (Offered n flags words) h' index g all got seen slots
 
-  abbrev Back : ℕ → List Page → List Page → ℕ → List ℕ → List ℕ → Homes → Type 0
-  Back index put got seen slots words h' = WayOf (Returned n words) h' index put got seen slots
+  abbrev Back : ℕ → ℕ → List Page → List Page → ℕ → List ℕ → List ℕ → Homes → Type 0
+  Back index g all got seen slots words h' = WayOf (Returned n words) h' index g all got seen slots
 
   -- each way, where a slot that is not in it changes
   ahead_beside : (k : ℕ) (y : maybe.Option (Option Page)) → times k ahead ≡ 0
-      → Ahead (get_or d.words (2 * n) 0) d.put e.got e.seen ahead d.words (set h k y)
+      → Ahead (get_or d.words (2 * n) 0) (given d) (d.put ++ d.staged) e.got e.seen ahead d.words (set h k y)
   ahead_beside k y away =
-      way_stays (Offered n flags d.words) (Offered n flags d.words) h (set h k y) (get_or d.words (2 * n) 0) d.put e.got e.seen c.forward
+      way_stays (Offered n flags d.words) (Offered n flags d.words) h (set h k y) (get_or d.words (2 * n) 0) (given d) (d.put ++ d.staged) e.got e.seen c.forward
       (get_or d.words (2 * n) 0) e.seen refl c.forward.not_less c.forward.not_more (same_face (Offered n flags d.words) (taken e) ahead)
       (homes_beside h k y ahead away)
 
   back_beside : (k : ℕ) (y : maybe.Option (Option Page)) → times k back ≡ 0
-      → Back (get_or e.words n 0) e.put d.got d.seen back e.words (set h k y)
+      → Back (get_or e.words n 0) (given e) e.put d.got d.seen back e.words (set h k y)
   back_beside k y away =
-      way_stays (Returned n e.words) (Returned n e.words) h (set h k y) (get_or e.words n 0) e.put d.got d.seen c.backward
+      way_stays (Returned n e.words) (Returned n e.words) h (set h k y) (get_or e.words n 0) (given e) e.put d.got d.seen c.backward
       (get_or e.words n 0) d.seen refl c.backward.not_less c.backward.not_more (same_face (Returned n e.words) (taken d) back)
       (homes_beside h k y back away)
 
@@ -190,7 +195,7 @@ module _ (n flags : ℕ) (h : Homes) (d e : QueueView) (c : Core n flags h d e) 
   pub driver_stores : (i x : ℕ) → i < 2 * n → OfferStays (set d.words i x) → Core n flags h (stored i x d) e
   driver_stores i x near stays =
       let w = way_stays (Offered n flags d.words) (Offered n flags (set d.words i x)) h h
-      (get_or d.words (2 * n) 0) d.put e.got e.seen c.forward
+      (get_or d.words (2 * n) 0) (given d) (d.put ++ d.staged) e.got e.seen c.forward
       (get_or (set d.words i x) (2 * n) 0) e.seen (get_or-set_other d.words i (2 * n) x 0
       (λ same. omega arith)) c.forward.not_less c.forward.not_more stays (same_homes h ahead) in
       record {
@@ -209,7 +214,7 @@ module _ (n flags : ℕ) (h : Homes) (d e : QueueView) (c : Core n flags h d e) 
 
   pub device_stores : (i x : ℕ) → i < n → ReturnStays (set e.words i x) → Core n flags h d (stored i x e)
   device_stores i x near stays =
-      let w = way_stays (Returned n e.words) (Returned n (set e.words i x)) h h (get_or e.words n 0) e.put d.got d.seen c.backward
+      let w = way_stays (Returned n e.words) (Returned n (set e.words i x)) h h (get_or e.words n 0) (given e) e.put d.got d.seen c.backward
       (get_or (set e.words i x) n 0) d.seen (get_or-set_other e.words i n x 0
       (λ same. omega arith)) c.backward.not_less c.backward.not_more stays (same_homes h back) in
       record {
@@ -226,39 +231,70 @@ module _ (n flags : ℕ) (h : Homes) (d e : QueueView) (c : Core n flags h d e) 
         entry = c.entry;
       }
 
-  -- the driver stores the available index, and a page goes home
-  pub driver_gives : (k x : ℕ) (p : Page) → 0 < times k d.held → d.out ≡ Some k → length h ≡ n → get_or d.words (n + given d % n) 0 ≡ k
-      → get_or d.words k 0 ≡ descriptor flags p → x ≡ (given d + 1) % 65536
-      → given d < taken d + n → Core n flags (set h k (some (Some p))) (gave (2 * n) x k p d) e
-  driver_gives k x p mine out wide entry word index free =
+  -- the driver stores an available entry, and a page goes home, staged
+  pub driver_stages : (k : ℕ) (p : Page) → 0 < times k d.held → d.out ≡ Some k → length h ≡ n → get_or d.words k 0 ≡ descriptor flags p
+      → HasHeader flags p → offered d < taken d + n → Core n flags (set h k (some (Some p))) (staged_one (n + offered d % n) k k p d) e
+  driver_stages k p mine out wide word long free =
       let m = driver_slot k mine in
-      let words' = set d.words (2 * n) x in
+      let i = n + offered d % n in
+      let words' = set d.words i k in
       let h' = set h k (some (Some p)) in
-      let turn = mod-lt (given d) c.some_slot in
-      let face : Offered n flags words' (given d) k p = (
-        get_or-set_other d.words (2 * n) (n + given d % n) x 0 (λ same. omega arith)
-            ∙ entry,
-        get_or-set_other d.words (2 * n) k x 0 (λ same. omega (arith, m.0)) ∙ word,
+      let turn = mod-lt (offered d) c.some_slot in
+      let all = length-append d.put d.staged in
+      let place : n + length (d.put ++ d.staged) % n ≡ i = ap (λ (z : ℕ). n + z % n) all in
+      let face : Offered n flags words' (length (d.put ++ d.staged)) k p = (
+        ap (λ (z : ℕ). get_or words' z 0) place ∙ get_or-set_same d.words i k 0 (omega (arith, c.driver_words)),
+        get_or-set_other d.words i k k 0 (λ same. omega (arith, m.0)) ∙ word,
+        long,
       ) in
-      let stored : get_or words' (2 * n) 0 ≡ (given d + 1) % 65536 = get_or-set_same d.words (2 * n) x 0 (omega (arith, c.driver_words))
-      ∙ index in
-      let f = (way_given (Offered n flags d.words) (Offered n flags words') h h' (get_or d.words (2 * n) 0) d.put e.got e.seen c.forward
-      (get_or words' (2 * n) 0) k p stored
-      (indexes_beside x) (homes_beside h k (some (Some p)) ahead m.1) face (set_here h k (some (Some p)) (omega (arith, m.0)))) in
+      let index : get_or words' (2 * n) 0 ≡ given d % 65536 = get_or-set_other d.words i (2 * n) k 0 (λ same. omega arith) ∙ c.forward.index_is in
+      let f = (way_given (Offered n flags d.words) (Offered n flags words') h h' (get_or d.words (2 * n) 0) (given d) (d.put ++ d.staged)
+      e.got e.seen c.forward (get_or words' (2 * n) 0) (given d) k p index (omega arith)
+      (enters_beside k free) (homes_beside h k (some (Some p)) ahead m.1) face (set_here h k (some (Some p)) (omega (arith, m.0)))) in
+      let all_is : d.put ++ (d.staged ++ p ∷ []) ≡ (d.put ++ d.staged) ++ p ∷ [] = sym (append_assoc d.put d.staged (p ∷ [])) in
+      let f' : Ahead (get_or words' (2 * n) 0) (given d) (d.put ++ (d.staged ++ p ∷ [])) e.got e.seen (ahead ++ k ∷ []) words' h' =
+      subst (λ (l : List Page). Ahead (get_or words' (2 * n) 0) (given d) l e.got e.seen (ahead ++ k ∷ []) words' h') (sym all_is) f in
       let b = back_beside k (some (Some p)) m.2 in
-      let more = length-append d.put (p ∷ []) in
+      let more = length-append d.staged (p ∷ []) in
       record {
         some_slot = c.some_slot;
-        driver_words = length-set d.words (2 * n) x ∙ c.driver_words;
+        driver_words = length-set d.words i k ∙ c.driver_words;
         device_words = c.device_words;
-        forward = f.0;
+        forward = f'.0;
         backward = b.0;
-        owned = λ j. omega (arith, c.owned j, ap (times j) f.1, ap (times j) b.1, times_removed k j d.held mine, times_snoc j ahead k);
+        owned = λ j. omega (arith, c.owned j, ap (times j) f'.1, ap (times j) b.1, times_removed k j d.held mine, times_snoc j ahead k);
         driver_empty = empty_gives h k (some (Some p)) d.held d.out out mine m.4 c.driver_empty;
         device_empty = empty_beside h k (some (Some p)) e.held e.out m.3 c.device_empty;
         room = omega (arith, more);
         behind = c.behind;
-        entry = subst (EntryIs e.entry) (sym f.1) (entry_stays e.entry ahead k c.entry);
+        entry = subst (EntryIs e.entry) (sym f'.1) (entry_stays e.entry ahead k c.entry);
+      }
+
+  -- the driver stores the available index: the pages staged are given
+  pub driver_gives : (x : ℕ) → x ≡ offered d % 65536 → Core n flags h (gave_staged (2 * n) x d) e
+  driver_gives x index =
+      let words' = set d.words (2 * n) x in
+      let all = length-append d.put d.staged in
+      let stored : get_or words' (2 * n) 0 ≡ length (d.put ++ d.staged) % 65536 =
+      get_or-set_same d.words (2 * n) x 0 (omega (arith, c.driver_words)) ∙ index ∙ ap (λ (z : ℕ). z % 65536) (sym all) in
+      let f = (way_shows (Offered n flags d.words) (Offered n flags words') h h (get_or d.words (2 * n) 0) (given d) (d.put ++ d.staged)
+      e.got e.seen c.forward (get_or words' (2 * n) 0) (length (d.put ++ d.staged)) stored (omega (arith, all))
+      (indexes_beside x) (same_homes h ahead)) in
+      let f' : Ahead (get_or words' (2 * n) 0) (length (d.put ++ d.staged)) ((d.put ++ d.staged) ++ []) e.got e.seen ahead words' h =
+      subst (λ (l : List Page). Ahead (get_or words' (2 * n) 0) (length (d.put ++ d.staged)) l e.got e.seen ahead words' h)
+      (sym (append-nil (d.put ++ d.staged))) f in
+      record {
+        some_slot = c.some_slot;
+        driver_words = length-set d.words (2 * n) x ∙ c.driver_words;
+        device_words = c.device_words;
+        forward = f'.0;
+        backward = c.backward;
+        owned = λ j. omega (arith, c.owned j, ap (times j) f'.1);
+        driver_empty = c.driver_empty;
+        device_empty = c.device_empty;
+        room = omega (arith, all, c.room);
+        behind = c.behind;
+        entry = subst (EntryIs e.entry) (sym f'.1) c.entry;
       }
 
   -- the device stores the used index, and a page goes home
@@ -271,12 +307,13 @@ module _ (n flags : ℕ) (h : Homes) (d e : QueueView) (c : Core n flags h d e) 
       let h' = set h k (some (Some p)) in
       let turn = mod-lt (given e) c.some_slot in
       let face : Returned n words' (given e) k p = get_or-set_other e.words n (given e % n) x 0 (λ same. omega arith) ∙ entry in
-      let stored : get_or words' n 0 ≡ (given e + 1) % 65536 = get_or-set_same e.words n x 0 (omega (arith, c.device_words)) ∙ index in
-      let b = (way_given (Returned n e.words) (Returned n words') h h' (get_or e.words n 0) e.put d.got d.seen c.backward
-      (get_or words' n 0) k p stored
+      let more = length-append e.put (p ∷ []) in
+      let stored : get_or words' n 0 ≡ length (e.put ++ p ∷ []) % 65536 = get_or-set_same e.words n x 0 (omega (arith, c.device_words))
+      ∙ index ∙ ap (λ (z : ℕ). z % 65536) (sym more) in
+      let b = (way_given (Returned n e.words) (Returned n words') h h' (get_or e.words n 0) (given e) e.put d.got d.seen c.backward
+      (get_or words' n 0) (length (e.put ++ p ∷ [])) k p stored (omega (arith, more))
       (used_beside x) (homes_beside h k (some (Some p)) back m.2) face (set_here h k (some (Some p)) (omega (arith, m.0)))) in
       let f = ahead_beside k (some (Some p)) m.1 in
-      let more = length-append e.put (p ∷ []) in
       record {
         some_slot = c.some_slot;
         driver_words = c.driver_words;
@@ -294,7 +331,7 @@ module _ (n flags : ℕ) (h : Homes) (d e : QueueView) (c : Core n flags h d e) 
   -- a load of the available index, and of the used index
   pub device_looks : Core n flags h d (looked (given d) e)
   device_looks =
-      let w = way_stays (Offered n flags d.words) (Offered n flags d.words) h h (get_or d.words (2 * n) 0) d.put e.got e.seen c.forward
+      let w = way_stays (Offered n flags d.words) (Offered n flags d.words) h h (get_or d.words (2 * n) 0) (given d) (d.put ++ d.staged) e.got e.seen c.forward
       (get_or d.words (2 * n) 0) (given d) refl (omega (arith, counts_ahead)) (omega arith)
       (same_face (Offered n flags d.words) (taken e) ahead) (same_homes h ahead) in
       record {
@@ -313,7 +350,7 @@ module _ (n flags : ℕ) (h : Homes) (d e : QueueView) (c : Core n flags h d e) 
 
   pub driver_looks : Core n flags h (looked (given e) d) e
   driver_looks =
-      let w = way_stays (Returned n e.words) (Returned n e.words) h h (get_or e.words n 0) e.put d.got d.seen c.backward
+      let w = way_stays (Returned n e.words) (Returned n e.words) h h (get_or e.words n 0) (given e) e.put d.got d.seen c.backward
       (get_or e.words n 0) (given e) refl (omega (arith, counts_back)) (omega arith) (same_face (Returned n e.words) (taken d) back)
       (same_homes h back) in
       record {
@@ -331,17 +368,17 @@ module _ (n flags : ℕ) (h : Homes) (d e : QueueView) (c : Core n flags h d e) 
       }
 
   abbrev NextAhead : Type 0
-  NextAhead = Next (Offered n flags d.words) h (get_or d.words (2 * n) 0) d.put e.got e.seen c.forward
+  NextAhead = Next (Offered n flags d.words) h (get_or d.words (2 * n) 0) (given d) (d.put ++ d.staged) e.got e.seen c.forward
 
   abbrev NextBack : Type 0
-  NextBack = Next (Returned n e.words) h (get_or e.words n 0) e.put d.got d.seen c.backward
+  NextBack = Next (Returned n e.words) h (get_or e.words n 0) (given e) e.put d.got d.seen c.backward
 
   next_ahead : taken e < e.seen → NextAhead
-  next_ahead known = next (Offered n flags d.words) h (get_or d.words (2 * n) 0) d.put e.got e.seen c.forward
-      (omega (arith, c.forward.not_more))
+  next_ahead known = next (Offered n flags d.words) h (get_or d.words (2 * n) 0) (given d) (d.put ++ d.staged) e.got e.seen c.forward
+      (omega (arith, c.forward.not_more, length-append d.put d.staged))
 
   next_back : taken d < d.seen → NextBack
-  next_back known = next (Returned n e.words) h (get_or e.words n 0) e.put d.got d.seen c.backward (omega (arith, c.backward.not_more))
+  next_back known = next (Returned n e.words) h (get_or e.words n 0) (given e) e.put d.got d.seen c.backward (omega (arith, c.backward.not_more))
 
   -- a load of the next available entry
   pub record EntryRead (k : ℕ) : Type 0 where
@@ -378,6 +415,7 @@ module _ (n flags : ℕ) (h : Homes) (d e : QueueView) (c : Core n flags h d e) 
   pub record DeviceTake (k : ℕ) (p : Page) : Type 0 where
     pub near : k < n
     pub word : get_or d.words k 0 ≡ descriptor flags p
+    pub long : HasHeader flags p
     pub home : get_elem? h k ≡ some (some (Some p))
     pub put_is : (later : List Page) × (d.put ≡ e.got ++ p ∷ later)
     pub core : Core n flags (set h k none) d (took k p e)
@@ -395,7 +433,7 @@ module _ (n flags : ℕ) (h : Homes) (d e : QueueView) (c : Core n flags h d e) 
       let p = x.page in
       let h' : Homes = set h k none in
       let f = (way_taken (Offered n flags d.words) (Offered n flags d.words) h h'
-      (get_or d.words (2 * n) 0) d.put e.got e.seen c.forward x known
+      (get_or d.words (2 * n) 0) (given d) (d.put ++ d.staged) e.got e.seen c.forward x known
       (same_face (Offered n flags d.words) (suc (taken e)) x.later_slots) (homes_beside h k none x.later_slots gone)) in
       let b = back_beside k none m.2 in
       let more = length-append e.got (p ∷ []) in (
@@ -403,8 +441,9 @@ module _ (n flags : ℕ) (h : Homes) (d e : QueueView) (c : Core n flags h d e) 
         record {
           near = m.0;
           word = subst (λ (z : ℕ). get_or d.words z 0 ≡ descriptor flags p) same x.face.1;
+          long = x.face.2;
           home = subst (λ (z : ℕ). get_elem? h z ≡ some (some (Some p))) same x.home;
-          put_is = (x.later, x.put_is);
+          put_is = next_front d.put d.staged e.got p x.later x.all_is (omega (arith, c.forward.not_more));
           core = record {
             some_slot = c.some_slot;
             driver_words = c.driver_words;
@@ -440,7 +479,7 @@ module _ (n flags : ℕ) (h : Homes) (d e : QueueView) (c : Core n flags h d e) 
       let gone : times k x.later_slots ≡ 0 = omega (arith, at_k k) in
       let p = x.page in
       let h' : Homes = set h k none in
-      let b = (way_taken (Returned n e.words) (Returned n e.words) h h' (get_or e.words n 0) e.put d.got d.seen c.backward x known
+      let b = (way_taken (Returned n e.words) (Returned n e.words) h h' (get_or e.words n 0) (given e) e.put d.got d.seen c.backward x known
       (same_face (Returned n e.words) (suc (taken d)) x.later_slots) (homes_beside h k none x.later_slots gone)) in
       let f = ahead_beside k none m.2 in
       let more = length-append d.got (p ∷ []) in (
@@ -450,7 +489,7 @@ module _ (n flags : ℕ) (h : Homes) (d e : QueueView) (c : Core n flags h d e) 
           near = m.0;
           word = x.face;
           home = x.home;
-          put_is = (x.later, x.put_is);
+          put_is = (x.later, x.all_is);
           core = record {
             some_slot = c.some_slot;
             driver_words = c.driver_words;

@@ -33,6 +33,7 @@ use Rattle.vs_ring_rule.proofs.Places as place
 use Rattle.vs_ring_rule.proofs.Olders.{older_self, older_taken, older_returned, cid_taken, cid_returned, device_has}
 use Rattle.vs_ring_rule.proofs.Seats.{sized, DeviceSits, device_sits, device_moved}
 use Rattle.vs_ring_rule.proofs.Carried.{carried_page, carried_empty}
+use Rattle.vs_ring_rule.proofs.Ways.{front}
 use Rattle.vs_ring_rule.proofs.Told.{driver_told, device_told, cid_told}
 
 module _ (n id : ℕ) (v : View) (t : Table) (p : DeviceSits n id v t) where
@@ -100,7 +101,9 @@ counts n id queue me mine t law wide at _ =
         c.forward.not_more,
         omega (arith, c.forward.not_less, c.forward.not_more),
         omega (arith, c.room, c.backward.not_less, c.backward.not_more, c.behind),
-        λ all. device_has p.driver v p.pair.driver_says p.pair.device_says c.forward.pages queue c.forward.put_is all p.device_heard,
+        λ all.
+            let first = front d.put d.staged q.got c.forward.pages c.forward.all_is (omega arith) in
+            device_has p.driver v p.pair.driver_says p.pair.device_says first.0 queue first.1 all p.device_heard,
         refl,
       ),
     )
@@ -154,6 +157,7 @@ collects n id queue me k mine known entry in_it t law wide at _ =
       driver_told (device_takes queue) queue n k 0 me r (w, (j, Some page) ∷ me.1) (
         page,
         word_is n id v t p queue k (omega (arith, x.1.near)) ∙ x.1.word,
+        x.1.long,
         x.1.pair.device_fair,
         refl,
       ),

@@ -1,5 +1,5 @@
 -- Each kind of step of the driver is one that the table allows under the rule, and tells what specs/Tells.antt says.
-use Rattle.std.proofs.Common.{◌≡◌, ℕ, ◌+◌, ◌*◌, ◌%◌, ◌<◌, List, [], ◌∷◌, get_or, set, sym, refl, ap, ◌∙◌, subst, arith}
+use Rattle.std.proofs.Common.{◌≡◌, ℕ, ◌+◌, ◌*◌, ◌%◌, ◌<◌, List, ◌∷◌, get_or, set, sym, refl, ap, ◌∙◌, subst, arith}
 use Rattle.std.proofs.Common.{length-set}
 use Rattle.std.proofs.lemmas.List.{set-get_or}
 use Rattle.std.proofs.Math.Nat.{mod-lt}
@@ -16,11 +16,11 @@ use Rattle.vs_ring_port.specs.declared.queue.Queue.{Queue}
 use Rattle.vs_ring_rule.specs.declared.view.Owner.TheVariants.{Driver}
 use Rattle.vs_ring_rule.specs.declared.view.QueueView.{QueueView}
 use Rattle.vs_ring_rule.specs.declared.view.View.{View}
-use Rattle.vs_ring_rule.specs.OneQueue.{Page, given, taken, descriptor, times}
-use Rattle.vs_ring_rule.specs.Steps.{stored, lifted, laid, gave, looked, took}
+use Rattle.vs_ring_rule.specs.OneQueue.{Page, HasHeader, given, offered, taken, descriptor, times}
+use Rattle.vs_ring_rule.specs.Steps.{stored, lifted, laid, staged_one, gave_staged, looked, took}
 use Rattle.vs_ring_rule.specs.Rule.{Table, Seated, homes_in, with_homes_in, all_slots, queue_in, with_queue_in, flags_of}
 use Rattle.vs_ring_rule.specs.Rule.{all_words, Rule}
-use Rattle.vs_ring_rule.specs.Moves.{after_store, after_lift, after_lay, after_look, driver_gave, driver_took, driver_loaded}
+use Rattle.vs_ring_rule.specs.Moves.{after_stage, after_lift, after_lay, after_look, driver_gave, driver_took, driver_loaded}
 use Rattle.vs_ring_rule.specs.Tells.{Stores, Loads, driver_base, device_base, slots_base, at_driver, at_device, at_cid, driver_describes}
 use Rattle.vs_ring_rule.specs.Tells.{driver_enters}
 use Rattle.vs_ring_rule.specs.Tells.{driver_gives, driver_looks, driver_takes, driver_loads, lays}
@@ -92,55 +92,55 @@ describes n id queue me k x mine has in_it t law wide at _ =
     )
 
 -- and of an available entry
-pub enters : (n id : ℕ) (queue : Queue) (me : Seated) (x : ℕ) → me.0.owner ≡ Driver
-    → let q = queue_in queue me.0 in given q < taken q + n
-    → Stores n id me (driver_base n queue + (n + given q % n)) x (at_driver queue (driver_enters queue))
-enters n id queue me x mine free t law wide at _ =
-    let v = me.0 in
-    let q = queue_in queue v in
-    let p = driver_sits n id v t law at mine in
-    let c = p.pair.core queue in
-    let i = n + given q % n in
-    let turn = mod-lt (given q) c.some_slot in
-    let w = after_store queue i x v in (
-      w,
-      keeps,
-      tt,
-      driver_moved n id v w t (set t.words (driver_base n queue + i) x) t.homes p.slots p wide mine
-          (store_is n id v t p queue i x (stored i x q) v.log refl (omega arith)) p.homes p.stands (older_self v.log) p.driver_heard
-          (pair.driver_enters n p.slots v p.device p.pair queue x free),
-      driver_told (driver_enters queue) queue n i x me x (w, me.1) refl,
-    )
-
--- the store of the available index
-pub publishes : (n id : ℕ) (queue : Queue) (me : Seated) (x k : ℕ) (page : Page) (more : List (ℕ × Option Page)) → me.0.owner ≡ Driver
+pub enters : (n id : ℕ) (queue : Queue) (me : Seated) (k : ℕ) (page : Page) (more : List (ℕ × Option Page)) → me.0.owner ≡ Driver
     → me.1 ≡ (slots_base n queue + k, Some page) ∷ more → let q = queue_in queue me.0 in 0 < times k q.held → q.out ≡ Some k
-    → get_or q.words (n + given q % n) 0 ≡ k → get_or q.words k 0 ≡ descriptor (flags_of queue) page
-    → x ≡ (given q + 1) % 65536 → given q < taken q + n → IsFairLog log.Driver (entries_published queue (page ∷ []) me.0.log)
-    → Stores n id me (driver_base n queue + 2 * n) x (at_driver queue (driver_gives queue))
-publishes n id queue me x k page more mine has held out entry word index free fair t law wide at _ =
+    → get_or q.words k 0 ≡ descriptor (flags_of queue) page → HasHeader (flags_of queue) page → offered q < taken q + n
+    → Stores n id me (driver_base n queue + (n + offered q % n)) k (at_driver queue (driver_enters queue))
+enters n id queue me k page more mine has held out word long free t law wide at _ =
     let v = me.0 in
     let q = queue_in queue v in
     let p = driver_sits n id v t law at mine in
     let c = p.pair.core queue in
     let slot = core.driver_slot n (flags_of queue) (homes_in queue p.slots) q (queue_in queue p.device) c k held in
-    let w = driver_gave queue (2 * n) x k page v in
-    let i = driver_base n queue + 2 * n in
+    let g = n + offered q % n in
+    let turn = mod-lt (offered q) c.some_slot in
+    let w = after_stage queue g k k page v in
+    let i = driver_base n queue + g in
     let j = slots_base n queue + k in
-    let told : Seated → Seated → Type 0 = λ m m'. at_driver queue (driver_gives queue) (step (3 * n) i x 0 none) m x m' in
-    subst (λ (cs : List (ℕ × Option Page)). Goes n t i id v cs x told) (sym has) (
+    let told : Seated → Seated → Type 0 = λ m m'. at_driver queue (driver_enters queue) (step (3 * n) i k 0 none) m k m' in
+    subst (λ (cs : List (ℕ × Option Page)). Goes n t i id v cs k told) (sym has) (
       w,
       gives,
       tt,
-      driver_moved n id v w t (set t.words i x) (set t.homes j (some (Some page)))
+      driver_moved n id v w t (set t.words i k) (set t.homes j (some (Some page)))
           (with_homes_in queue (set (homes_in queue p.slots) k (some (Some page))) p.slots) p
           (length-set t.homes j (some (Some page)) ∙ wide)
-          mine (store_is n id v t p queue (2 * n) x (gave (2 * n) x k page q) w.log refl (omega arith))
-          (change_is n id v t p queue k (some (Some page)) slot.0) p.stands (older_published queue page v.log) p.driver_heard
-          (pair.driver_gives n p.slots v p.device p.pair queue k x page held out entry word index free fair),
-      driver_told (driver_gives queue) queue n (2 * n) x (v, (j, Some page) ∷ more) x (w, more)
+          mine (store_is n id v t p queue g k (staged_one g k k page q) v.log refl (omega arith))
+          (change_is n id v t p queue k (some (Some page)) slot.0) p.stands (older_self v.log) p.driver_heard
+          (pair.driver_stages n p.slots v p.device p.pair queue k page held out word long free),
+      driver_told (driver_enters queue) queue n g k (v, (j, Some page) ∷ more) k (w, more)
           (λ k' page' more' e. carried_page (slots_base n queue) k k' more more' page page'
-          (λ z held more. (driver_gave queue (2 * n) x z held v, more)) e),
+          (λ z held more. (after_stage queue g k z held v, more)) e),
+    )
+
+-- the store of the available index
+pub publishes : (n id : ℕ) (queue : Queue) (me : Seated) (x : ℕ) → me.0.owner ≡ Driver
+    → let q = queue_in queue me.0 in x ≡ offered q % 65536 → IsFairLog log.Driver (entries_published queue q.staged me.0.log)
+    → Stores n id me (driver_base n queue + 2 * n) x (at_driver queue (driver_gives queue))
+publishes n id queue me x mine index fair t law wide at _ =
+    let v = me.0 in
+    let q = queue_in queue v in
+    let p = driver_sits n id v t law at mine in
+    let w = driver_gave queue (2 * n) x v in
+    let i = driver_base n queue + 2 * n in (
+      w,
+      keeps,
+      tt,
+      driver_moved n id v w t (set t.words i x) t.homes p.slots p wide mine
+          (store_is n id v t p queue (2 * n) x (gave_staged (2 * n) x q) w.log refl (omega arith)) p.homes p.stands
+          (older_published queue q.staged v.log) p.driver_heard
+          (pair.driver_gives n p.slots v p.device p.pair queue x index fair),
+      driver_told (driver_gives queue) queue n (2 * n) x me x (w, me.1) refl,
     )
 
 -- the load of the used index
@@ -170,7 +170,7 @@ counts n id queue me mine t law wide at _ =
         omega (arith, c.backward.not_less, c.backward.not_more),
         omega (arith, c.room, c.behind, c.forward.not_less, c.forward.not_more),
         omega (arith, c.behind, c.forward.not_less, c.forward.not_more),
-        λ all. driver_has v p.device p.pair.driver_says p.pair.device_says c.backward.pages queue c.backward.put_is all p.driver_heard,
+        λ all. driver_has v p.device p.pair.driver_says p.pair.device_says c.backward.pages queue c.backward.all_is all p.driver_heard,
         refl,
       ),
     )

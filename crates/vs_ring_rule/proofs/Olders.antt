@@ -1,14 +1,12 @@
 -- Logs grow: what an entry leaves of the CID, and what an end was told of the other's log.
-use Rattle.std.proofs.Common.{◌≡◌, ℕ, List, [], ◌∷◌, ◌++◌, Option, Some, None, length, refl, sym, ap, ◌∙◌, subst, arith, append_assoc}
+use Rattle.std.proofs.Common.{◌≡◌, ℕ, List, [], ◌∷◌, ◌++◌, Option, Some, None, length, refl, sym, ap, ◌∙◌, arith, append_assoc}
 use Rattle.std.proofs.Common.{length-append}
 use Rattle.std.proofs.lemmas.List.{append-nil}
 use Rattle.vs_history.specs.declared.packet.Packet.{Packet}
 use Rattle.vs_page.specs.declared.log.LogEntry.{LogEntry}
 use Rattle.vs_page.specs.declared.log.LogEntry.TheVariants.{PutPacket, GotPacket, PutEvent, GotEvent, Mark}
 use Rattle.vs_page.specs.Held.{packet_held, event_held}
-use Rattle.vs_page.specs.Fair.{IsFairLog}
-use Rattle.vs_page.proofs.Entries.{one_put, one_got}
-use Rattle.vs_page.specs.Log.{Role, Driver, Log, packets_put, events_put}
+use Rattle.vs_page.specs.Log.{Log, packets_put, events_put}
 use Rattle.vs_page.specs.Open.{cid_of}
 use Rattle.vs_ring_port.specs.EndLog.{all_put, with_packet, with_event, entries_published, entries_reaped, entries_marked, entries_taken}
 use Rattle.vs_ring_port.specs.EndLog.{entries_returned}
@@ -35,11 +33,6 @@ older_event : (entry : ℕ → LogEntry) (id : Option ℕ) (log : Log) → IsOld
 older_event entry None log = ([], refl)
 older_event entry (Some id) log = (entry id ∷ [], refl)
 
-pub older_published : (queue : Queue) (page : Page) (log : Log) → IsOlder log (entries_published queue (page ∷ []) log)
-older_published Rx page log = older_self log
-older_published Tx page log = older_packet (λ p. PutPacket p) (packet_held page) log
-older_published Event page log = older_self log
-
 pub older_reaped : (queue : Queue) (page : Page) (log : Log) → IsOlder log (entries_reaped queue (Some page) log)
 older_reaped Rx page log = older_packet (λ p. GotPacket p) (packet_held page) log
 older_reaped Tx page log = older_self log
@@ -59,30 +52,16 @@ pub older_marked : (cid : ℕ) (log : Log) → IsOlder log (entries_marked cid l
 older_marked cid [] = ([], refl)
 older_marked cid (entry ∷ log) = (Mark cid ∷ [], refl)
 
--- a fair log was fair before
-pub older_fair : (role : Role) (more old : Log) → IsFairLog role (more ++ old) → IsFairLog role old
-older_fair role [] old fair = fair
-older_fair role (PutPacket p ∷ more) old fair = older_fair role more old ((one_put role (more ++ old) p).0 fair).0
-older_fair role (GotPacket p ∷ more) old fair = older_fair role more old ((one_got role (more ++ old) p).0 fair).0
-older_fair role (PutEvent id ∷ more) old fair = older_fair role more old fair
-older_fair role (GotEvent id ∷ more) old fair = older_fair role more old fair
-older_fair role (Mark cid ∷ more) old fair = older_fair role more old fair
-
 older_all_put : (pages : List Page) (log : Log) → IsOlder log (all_put pages log)
 older_all_put [] log = older_self log
 older_all_put (page ∷ pages) log =
     let one = with_packet (λ p. PutPacket p) (packet_held page) log in
     older_on log one (all_put pages one) (older_packet (λ p. PutPacket p) (packet_held page) log) (older_all_put pages one)
 
--- a log that is fair with the packets of several pages is fair with the first
-pub first_fair : (queue : Queue) (page : Page) (pages : List Page) (log : Log) → IsFairLog Driver (entries_published queue (page ∷ pages) log)
-    → IsFairLog Driver (entries_published queue (page ∷ []) log)
-first_fair Rx page pages log fair = fair
-first_fair Tx page pages log fair =
-    let one = with_packet (λ p. PutPacket p) (packet_held page) log in
-    let all = older_all_put pages one in
-    older_fair Driver all.0 one (subst (IsFairLog Driver) all.1 fair)
-first_fair Event page pages log fair = fair
+pub older_published : (queue : Queue) (pages : List Page) (log : Log) → IsOlder log (entries_published queue pages log)
+older_published Rx pages log = older_self log
+older_published Tx pages log = older_all_put pages log
+older_published Event pages log = older_self log
 
 -- packets and events leave the CID
 cid_packet_got : (first : ℕ) (p : Option Packet) (log : Log) → cid_of first (with_packet (λ p. GotPacket p) p log) ≡ cid_of first log

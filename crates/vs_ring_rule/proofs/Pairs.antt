@@ -1,5 +1,5 @@
 -- Each kind of step keeps what holds of the two ends.
-use Rattle.std.proofs.Common.{◌≡◌, ℕ, ◌+◌, ◌*◌, ◌%◌, ◌<◌, [], ◌∷◌, length, get_or, set, refl, ◌∙◌, subst, arith}
+use Rattle.std.proofs.Common.{◌≡◌, ℕ, ◌+◌, ◌*◌, ◌%◌, ◌<◌, length, get_or, set, refl, ◌∙◌, subst, arith}
 use Rattle.std.proofs.Common.{length-set}
 use Rattle.std.proofs.Math.Nat.{mod-lt}
 use Rattle.std.specs.Prelude.{Some, None}
@@ -13,13 +13,14 @@ use Rattle.vs_ring_port.specs.declared.queue.Queue.{Queue}
 use Rattle.vs_ring_port.specs.declared.queue.Queue.TheVariants.{Rx, Tx, Event}
 use Rattle.vs_ring_rule.specs.declared.view.QueueView.{QueueView}
 use Rattle.vs_ring_rule.specs.declared.view.View.{View}
-use Rattle.vs_ring_rule.specs.OneQueue.{Page, Homes, Core, given, taken, descriptor, element, times}
-use Rattle.vs_ring_rule.specs.Steps.{stored, lifted, laid, gave, looked, entered, took}
+use Rattle.vs_ring_rule.specs.OneQueue.{Page, Homes, HasHeader, Core, given, offered, taken, descriptor, element, times}
+use Rattle.vs_ring_rule.specs.Steps.{stored, lifted, laid, gave, staged_one, gave_staged, looked, entered, took}
 use Rattle.vs_ring_rule.specs.Rule.{Slots, homes_in, with_homes_in, queue_in, with_queue_in, flags_of, Pair}
-use Rattle.vs_ring_rule.specs.Moves.{after_store, after_lift, after_lay, after_look, after_entry, driver_gave, device_gave, driver_took}
+use Rattle.vs_ring_rule.specs.Moves.{after_stage, after_lift, after_lay, after_look, after_entry, driver_gave, device_gave, driver_took}
 use Rattle.vs_ring_rule.specs.Moves.{device_took, device_reset, driver_loaded}
 use Rattle.vs_ring_rule.proofs.Cores as core
 use Rattle.vs_ring_rule.proofs.Says as says
+use Rattle.vs_ring_rule.proofs.Ways.{front}
 
 sizes : (n : ℕ) (slots : Slots) (queue : Queue) (h : Homes) → ((q : Queue) → length (homes_in q slots) ≡ n) → length h ≡ n
     → (q : Queue) → length (homes_in q (with_homes_in queue h slots)) ≡ n
@@ -97,12 +98,14 @@ module _ (n : ℕ) (slots : Slots) (driver device : View) (p : Pair n slots driv
   -- What each end got is what the other put first.
   pub device_has_got : HasGotAll device.log driver.log
   device_has_got =
-      says.device_got_all driver device (p.core Tx).forward.pages (p.core Tx).forward.put_is p.driver_says p.device_says
+      let way = (p.core Tx).forward in
+      let first = front driver.tx.put driver.tx.staged device.tx.got way.pages way.all_is (omega (arith, way.not_less, way.not_more)) in
+      says.device_got_all driver device first.0 first.1 p.driver_says p.device_says
 
   pub driver_has_got : HasGotAll driver.log device.log
   driver_has_got =
-      says.driver_got_all driver device (p.core Rx).backward.pages (p.core Event).backward.pages (p.core Rx).backward.put_is
-      (p.core Event).backward.put_is p.driver_says p.device_says
+      says.driver_got_all driver device (p.core Rx).backward.pages (p.core Event).backward.pages (p.core Rx).backward.all_is
+      (p.core Event).backward.all_is p.driver_says p.device_says
 
   -- a step of the driver that gives and takes nothing
   driver_knows : (queue : Queue) (h : Homes) (x : QueueView) → length h ≡ n → x.put ≡ (D queue).put → x.got ≡ (D queue).got
@@ -151,37 +154,34 @@ module _ (n : ℕ) (slots : Slots) (driver device : View) (p : Pair n slots driv
       driver_knows queue (set (H queue) k none) (lifted k (stored k x d)) (length-set (H queue) k none ∙ p.size queue) refl refl
       (core.driver_lifts n (flags_of queue) (H queue) (stored k x d) (E queue) put k mine out)
 
-  -- and an available entry
-  pub driver_enters : (queue : Queue) (x : ℕ) → given (D queue) < taken (D queue) + n
-      → Pair n slots (after_store queue (n + given (D queue) % n) x driver) device
-  driver_enters queue x free =
+  -- and an available entry, by which the page in that slot is staged
+  pub driver_stages : (queue : Queue) (k : ℕ) (page : Page) → 0 < times k (D queue).held → (D queue).out ≡ Some k
+      → get_or (D queue).words k 0 ≡ descriptor (flags_of queue) page → HasHeader (flags_of queue) page
+      → offered (D queue) < taken (D queue) + n
+      → Pair n (with_homes_in queue (set (H queue) k (some (Some page))) slots)
+      (after_stage queue (n + offered (D queue) % n) k k page driver) device
+  driver_stages queue k page mine out word long free =
       let c = p.core queue in
       let d = D queue in
-      let i = n + given d % n in
-      let turn = mod-lt (given d) c.some_slot in
-      driver_stays queue (stored i x d) refl refl
-      (core.driver_stores n (flags_of queue) (H queue) d (E queue) c i x (omega arith)
-      (core.enters_beside n (flags_of queue) (H queue) d (E queue) c x free))
-
-  -- and the available index, by which it gives a page
-  pub driver_gives : (queue : Queue) (k x : ℕ) (page : Page) → 0 < times k (D queue).held → (D queue).out ≡ Some k
-      → get_or (D queue).words (n + given (D queue) % n) 0 ≡ k → get_or (D queue).words k 0 ≡ descriptor (flags_of queue) page
-      → x ≡ (given (D queue) + 1) % 65536 → given (D queue) < taken (D queue) + n
-      → IsFairLog log.Driver (entries_published queue (page ∷ []) driver.log)
-      → Pair n (with_homes_in queue (set (H queue) k (some (Some page))) slots) (driver_gave queue (2 * n) x k page driver) device
-  driver_gives queue k x page mine out entry word index free fair =
       let h = set (H queue) k (some (Some page)) in
-      let q = gave (2 * n) x k page (D queue) in
-      record {
-        size = sizes n slots queue h p.size (length-set (H queue) k (some (Some page)) ∙ p.size queue);
-        core = driver_cores n slots driver device queue h q (entries_published queue (page ∷ []) driver.log) p.core
-            (core.driver_gives n (flags_of queue) (H queue) (D queue) (E queue) (p.core queue) k x page mine out (p.size queue) entry
-            word index free);
-        driver_says = says.driver_puts queue q driver page refl refl p.driver_says;
+      driver_knows queue h (staged_one (n + offered d % n) k k page d) (length-set (H queue) k (some (Some page)) ∙ p.size queue) refl refl
+      (core.driver_stages n (flags_of queue) (H queue) d (E queue) c k page mine out (p.size queue) word long free)
+
+  -- and the available index, by which it gives the pages staged
+  pub driver_gives : (queue : Queue) (x : ℕ) → x ≡ offered (D queue) % 65536
+      → IsFairLog log.Driver (entries_published queue (D queue).staged driver.log)
+      → Pair n slots (driver_gave queue (2 * n) x driver) device
+  driver_gives queue x index fair =
+      let q = gave_staged (2 * n) x (D queue) in
+      subst (λ (s : Slots). Pair n s (driver_gave queue (2 * n) x driver) device) (same_slots queue slots) (record {
+        size = sizes n slots queue (H queue) p.size (p.size queue);
+        core = driver_cores n slots driver device queue (H queue) q (entries_published queue (D queue).staged driver.log) p.core
+            (core.driver_gives n (flags_of queue) (H queue) (D queue) (E queue) (p.core queue) x index);
+        driver_says = says.driver_puts queue q driver (D queue).staged refl refl p.driver_says;
         device_says = p.device_says;
         driver_fair = fair;
         device_fair = p.device_fair;
-      }
+      })
 
   -- the driver loads the used index
   pub driver_looks : (queue : Queue) → Pair n slots (after_look queue (given (E queue)) driver) device
@@ -267,6 +267,7 @@ module _ (n : ℕ) (slots : Slots) (driver device : View) (p : Pair n slots driv
   pub record DeviceTakes (queue : Queue) (k : ℕ) (page : Page) : Type 0 where
     pub near : k < n
     pub word : get_or (D queue).words k 0 ≡ descriptor (flags_of queue) page
+    pub long : HasHeader (flags_of queue) page
     pub home : get_elem? (H queue) k ≡ some (some (Some page))
     pub pair : Pair n (with_homes_in queue (set (H queue) k none) slots) driver (device_took queue k page device)
 
@@ -281,6 +282,7 @@ module _ (n : ℕ) (slots : Slots) (driver device : View) (p : Pair n slots driv
         record {
           near = t.1.near;
           word = t.1.word;
+          long = t.1.long;
           home = t.1.home;
           pair = record {
             size = sizes n slots queue h p.size (length-set (H queue) k none ∙ p.size queue);

@@ -1,11 +1,12 @@
 -- One queue of n descriptors that two ends share, as plain data (Virtio 1.2, section 2.7).
 -- The driver alone stores n descriptor words, n available entries and the available index; the device alone stores n used elements and
--- the used index. A page that was given and not taken lies in its slot, at home.
+-- the used index. A page that was staged or given and not taken lies in its slot, at home.
 use Rattle.std.specs.Prelude.{◌≢◌, ◌≡◌, ℕ, suc, ◌+◌, ◌*◌, ◌%◌, ◌^◌, ◌<◌, ◌≤◌, ◌==◌, cond, ltb, List, [], ◌∷◌, ◌++◌, length, slice_index}
 use Rattle.std.specs.Prelude.{Option, Some, None}
 use mathlib.Core.Option.{some}
 use mathlib.Core.Option as maybe
 use lib.ListN.{get_elem?}
+use Rattle.vs_header.specs.declared.TheConstants.{HEADER_LEN}
 use Rattle.vs_ring_rule.specs.declared.view.QueueView.{QueueView}
 
 abbrev pub Page : Type 0
@@ -22,6 +23,10 @@ given q = length q.put
 abbrev pub taken : QueueView → ℕ
 taken q = length q.got
 
+-- How many pages the driver gave and staged.
+abbrev pub offered : QueueView → ℕ
+offered q = given q + length q.staged
+
 -- The descriptor word of a page: the number of its used bytes in the low 32 bits, the flags above them.
 abbrev pub descriptor : ℕ → Page → ℕ
 descriptor flags page = flags * 2 ^ 32 + length page
@@ -30,9 +35,14 @@ descriptor flags page = flags * 2 ^ 32 + length page
 abbrev pub element : ℕ → Page → ℕ
 element k page = length page * 2 ^ 32 + k
 
+-- A page for the device to read has a packet's header.
+abbrev pub HasHeader : ℕ → Page → Type 0
+HasHeader flags page = flags ≡ 0 → HEADER_LEN ≤ length page
+
 -- What the giver's words show of its page number g, which lies in slot k.
 abbrev pub Offered : ℕ → ℕ → List ℕ → ℕ → ℕ → Page → Type 0
-Offered n flags words g k page = (slice_index words (n + g % n) ≡ k) × (slice_index words k ≡ descriptor flags page)
+Offered n flags words g k page =
+    (slice_index words (n + g % n) ≡ k) × (slice_index words k ≡ descriptor flags page) × HasHeader flags page
 
 abbrev pub Returned : ℕ → List ℕ → ℕ → ℕ → Page → Type 0
 Returned n words g k page = slice_index words (g % n) ≡ element k page
@@ -44,22 +54,23 @@ Shown face homes g (k ∷ ks) (p ∷ ps) = face g k p × (get_elem? homes k ≡ 
 Shown face homes g [] (p ∷ ps) = ⊥
 Shown face homes g (k ∷ ks) [] = ⊥
 
--- One direction of the queue: what was taken is what was given first, and the rest lies at home.
-pub record Way (face : ℕ → ℕ → Page → Type 0) (homes : Homes) (index : ℕ) (put got : List Page) (seen : ℕ) : Type 0 where
+-- One direction of the queue, in which `all` are the pages given and those staged behind them: what was taken is what was given first,
+-- and the rest lies at home. The index shows the pages given.
+pub record Way (face : ℕ → ℕ → Page → Type 0) (homes : Homes) (index given : ℕ) (all got : List Page) (seen : ℕ) : Type 0 where
   pub slots : List ℕ
   pub pages : List Page
-  pub put_is : put ≡ got ++ pages
-  pub index_is : index ≡ length put % 2 ^ 16
+  pub all_is : all ≡ got ++ pages
+  pub index_is : index ≡ given % 2 ^ 16
   pub shown : Shown face homes (length got) slots pages
   pub not_less : length got ≤ seen
-  pub not_more : seen ≤ length put
+  pub not_more : seen ≤ given
 
 -- How often a slot stands in a list.
 abbrev pub times : ℕ → List ℕ → ℕ
 times k [] = 0
 times k (x ∷ xs) = cond (x == k) 1 0 + times k xs
 
--- Each slot of the queue is with exactly one of driver, way there, device and way back.
+-- Each slot of the queue is with exactly one of driver, way there (staged or given), device and way back.
 abbrev pub Owned : ℕ → List ℕ → List ℕ → List ℕ → List ℕ → Type 0
 Owned n driver there device back = (k : ℕ) → times k driver + times k there + times k device + times k back ≡ cond (ltb k n) 1 0
 
@@ -79,12 +90,14 @@ EntryIs (Some k) slots = HeadIs k slots
 -- From the driver to the device, and back.
 abbrev pub Forward : ℕ → ℕ → Homes → QueueView → QueueView → Type 0
 Forward n flags homes driver device =
-    Way (Offered n flags driver.words) homes (slice_index driver.words (2 * n)) driver.put device.got device.seen
+    Way (Offered n flags driver.words) homes (slice_index driver.words (2 * n)) (given driver) (driver.put ++ driver.staged) device.got
+    device.seen
 
 abbrev pub Backward : ℕ → Homes → QueueView → QueueView → Type 0
-Backward n homes driver device = Way (Returned n device.words) homes (slice_index device.words n) device.put driver.got driver.seen
+Backward n homes driver device =
+    Way (Returned n device.words) homes (slice_index device.words n) (given device) device.put driver.got driver.seen
 
--- What holds of the queue between any two steps. At most n pages are in flight.
+-- What holds of the queue between any two steps. At most n pages are in flight, staged ones included.
 pub record Core (n flags : ℕ) (homes : Homes) (driver device : QueueView) : Type 0 where
   pub some_slot : 0 < n
   pub driver_words : length driver.words ≡ 2 * n + 1
@@ -94,6 +107,6 @@ pub record Core (n flags : ℕ) (homes : Homes) (driver device : QueueView) : Ty
   pub owned : Owned n driver.held forward.slots device.held backward.slots
   pub driver_empty : Empty homes driver.held driver.out
   pub device_empty : Empty homes device.held device.out
-  pub room : given driver ≤ taken driver + n
+  pub room : offered driver ≤ taken driver + n
   pub behind : given device ≤ taken device
   pub entry : EntryIs device.entry forward.slots

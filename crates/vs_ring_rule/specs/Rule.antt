@@ -128,7 +128,7 @@ below (suc m) = m ∷ below m
 
 -- Before there are two ends: one seat, with all slots.
 abbrev pub queue_with : List ℕ → List ℕ → QueueView
-queue_with words held = record { words = words; put = []; got = []; held = held; out = None; seen = 0; loads = 0; entry = None }
+queue_with words held = record { words = words; put = []; got = []; staged = []; held = held; out = None; seen = 0; loads = 0; entry = None }
 
 abbrev pub view_with : Owner → QueueView → View
 view_with owner q = record { owner = owner; log = []; rx = q; tx = q; event = q; heard = []; whole = false }

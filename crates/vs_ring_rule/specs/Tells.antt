@@ -10,9 +10,9 @@ use Rattle.vs_page.specs.Log as log
 use Rattle.vs_page.specs.Log.{Log, packets_put, packets_got, events_put, events_got}
 use Rattle.vs_ring_port.specs.declared.queue.Queue.{Queue}
 use Rattle.vs_ring_port.specs.declared.queue.Queue.TheVariants.{Rx, Tx, Event}
-use Rattle.vs_ring_rule.specs.OneQueue.{Page, given, taken, descriptor, element}
+use Rattle.vs_ring_rule.specs.OneQueue.{Page, HasHeader, given, taken, descriptor, element}
 use Rattle.vs_ring_rule.specs.Rule.{Rule, Seated, queue_in, flags_of}
-use Rattle.vs_ring_rule.specs.Moves.{after_store, after_lift, after_lay, after_look, after_entry, driver_gave, device_gave, driver_took}
+use Rattle.vs_ring_rule.specs.Moves.{after_stage, after_lift, after_lay, after_look, after_entry, driver_gave, device_gave, driver_took}
 use Rattle.vs_ring_rule.specs.Moves.{device_took, device_reset, driver_loaded}
 
 abbrev pub Move : Type 0
@@ -53,17 +53,18 @@ Stores n id me word x tells = Allows (Rule n) (3 * n) id me word (λ _. x) (λ _
 abbrev pub Loads : ℕ → ℕ → Seated → ℕ → (Move → Seated → ℕ → Seated → Type 0) → Type 0
 Loads n id me word tells = Allows (Rule n) (3 * n) id me word (λ r. r) (tells (step (3 * n) word 0 0 none) me)
 
--- The driver stores a descriptor word, and its empty slot comes out; it stores an available entry.
+-- The driver stores a descriptor word, and its empty slot comes out; it stores an available entry, and the page in the slot that came
+-- out last goes home and is staged.
 abbrev pub driver_describes : Queue → Tells
 driver_describes queue n i x m r m' = m' ≡ (after_lift queue i x i m.0, (slots_base n queue + i, None) ∷ m.1)
 
 abbrev pub driver_enters : Queue → Tells
-driver_enters queue n i x m r m' = m' ≡ (after_store queue i x m.0, m.1)
+driver_enters queue n i x m r m' = (k : ℕ) (page : Page) (more : List (ℕ × Option Page))
+    → m.1 ≡ (slots_base n queue + k, Some page) ∷ more → m' ≡ (after_stage queue i x k page m.0, more)
 
--- It stores the available index, and the page in the slot that came out last goes home.
+-- It stores the available index: all pages staged are given.
 abbrev pub driver_gives : Queue → Tells
-driver_gives queue n i x m r m' = (k : ℕ) (page : Page) (more : List (ℕ × Option Page)) → m.1 ≡ (slots_base n queue + k, Some page) ∷ more
-    → m' ≡ (driver_gave queue i x k page m.0, more)
+driver_gives queue n i x m r m' = m' ≡ (driver_gave queue i x m.0, m.1)
 
 -- All that this end was told of the other's puts on a queue, it got.
 abbrev pub DriverHas : Queue → Log → Log → Type 0
@@ -104,16 +105,16 @@ device_resets n i x m r m' = m' ≡ (device_reset x m.0, m.1)
 abbrev pub device_looks : Queue → Tells
 device_looks queue n i x m r m' =
     let q = queue_in queue m.0 in
-    (g : ℕ) × (r ≡ g % 2 ^ 16) × (q.seen ≤ g) × (taken q ≤ g) × (g ≤ taken q + n)
+    (g : ℕ) × (r ≡ g % 2 ^ 16) × (q.seen ≤ g) × (taken q ≤ g) × (g ≤ given q + n)
     × (g ≡ taken q → DeviceHas queue m.0.log m.0.heard) × (m' ≡ (after_look queue g m.0, m.1))
 
--- It loads the next available entry, and then the descriptor word: the page is taken, and the log stays fair.
+-- It loads the next available entry, and then the descriptor word: the page is taken, has a header on tx, and the log stays fair.
 abbrev pub device_reads : Queue → Tells
 device_reads queue n i x m r m' = (r < n) × (m' ≡ (after_entry queue r m.0, m.1))
 
 abbrev pub device_takes : Queue → Tells
 device_takes queue n i x m r m' =
-    (page : Page) × (r ≡ descriptor (flags_of queue) page) × IsFairLog log.Device (device_took queue i page m.0).log
+    (page : Page) × (r ≡ descriptor (flags_of queue) page) × HasHeader (flags_of queue) page × IsFairLog log.Device (device_took queue i page m.0).log
     × (m' ≡ (device_took queue i page m.0, (slots_base n queue + i, Some page) ∷ m.1))
 
 -- It stores a used element, and its empty slot comes out; it stores the used index, and the page goes home.

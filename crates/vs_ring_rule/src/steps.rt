@@ -6,7 +6,7 @@ ghost use Rattle.vs_page.specs.Log as log;
 ghost use Rattle.vs_ring_port.specs.EndLog.{entries_published, entries_returned};
 ghost use Rattle.vs_ring_port.specs.declared.queue.Queue.{Queue};
 ghost use Rattle.vs_ring_rule.specs.Meets.{copy_of, joined, knows, nobody_view, ties, told};
-ghost use Rattle.vs_ring_rule.specs.OneQueue.{Page, descriptor, element, given, taken, times};
+ghost use Rattle.vs_ring_rule.specs.OneQueue.{HasHeader, Page, descriptor, element, given, offered, taken, times};
 ghost use Rattle.vs_ring_rule.specs.Rule.{Rule, Seated, device_from, driver_from, flags_of, queue_in};
 ghost use Rattle.vs_ring_rule.specs.Tells.{Loads, Stores, at_cid, at_device, at_driver, device_base, device_gives};
 ghost use Rattle.vs_ring_rule.specs.Tells.{device_looks, device_reads};
@@ -15,20 +15,20 @@ ghost use Rattle.vs_ring_rule.specs.Tells.{driver_gives, driver_loads, driver_lo
 ghost use Rattle.vs_ring_rule.specs.declared.view.Owner.TheVariants.{Device, DeviceCopy, Driver, DriverCopy, Maker};
 ghost use Rattle.vs_ring_rule.specs.declared.view.View.{View};
 
-/// Each step of the driver on a queue keeps the rule. It stores a descriptor word of a slot that it holds, an available entry, and the
-/// available index, by which it gives the page in that slot: the log with the page's packet has to be fair. It loads the used index and a
+/// Each step of the driver on a queue keeps the rule. It stores a descriptor word of a slot that it holds, and an available entry, by which
+/// the page in that slot is staged: on tx it has a header. It stores the available index, by which it gives all pages staged at once: the log with their packets
+/// has to be fair. It loads the used index and a
 /// used element, by which it takes a page, and loads word 0, by which an emptied slot goes home; or it takes the CID found there as a
 /// transport reset (Virtio 1.2, sections 2.7.13 and 5.10.6.7).
 pub fn laws_of_driver_steps()
     ensures descriptor { (n id : ℕ) (queue : Queue) (me : Seated) (k x : ℕ) → me.0.owner ≡ Driver → 0 < times k (queue_in queue me.0).held
         → (queue_in queue me.0).out ≡ None → Stores n id me (driver_base n queue + k) x (at_driver queue (driver_describes queue)) }
-    ensures entry { (n id : ℕ) (queue : Queue) (me : Seated) (x : ℕ) → me.0.owner ≡ Driver
-        → let q = queue_in queue me.0 in given q < taken q + n
-        → Stores n id me (driver_base n queue + (n + given q % n)) x (at_driver queue (driver_enters queue)) }
-    ensures index { (n id : ℕ) (queue : Queue) (me : Seated) (x k : ℕ) (page : Page) (more : List (ℕ × Option Page)) → me.0.owner ≡ Driver
+    ensures entry { (n id : ℕ) (queue : Queue) (me : Seated) (k : ℕ) (page : Page) (more : List (ℕ × Option Page)) → me.0.owner ≡ Driver
         → me.1 ≡ (slots_base n queue + k, Some page) ∷ more → let q = queue_in queue me.0 in 0 < times k q.held → q.out ≡ Some k
-        → slice_index q.words (n + given q % n) ≡ k → slice_index q.words k ≡ descriptor (flags_of queue) page
-        → x ≡ (given q + 1) % 2 ^ 16 → given q < taken q + n → IsFairLog log.Driver (entries_published queue (page ∷ []) me.0.log)
+        → slice_index q.words k ≡ descriptor (flags_of queue) page → HasHeader (flags_of queue) page → offered q < taken q + n
+        → Stores n id me (driver_base n queue + (n + offered q % n)) k (at_driver queue (driver_enters queue)) }
+    ensures index { (n id : ℕ) (queue : Queue) (me : Seated) (x : ℕ) → me.0.owner ≡ Driver
+        → let q = queue_in queue me.0 in x ≡ offered q % 2 ^ 16 → IsFairLog log.Driver (entries_published queue q.staged me.0.log)
         → Stores n id me (driver_base n queue + 2 * n) x (at_driver queue (driver_gives queue)) }
     ensures look { (n id : ℕ) (queue : Queue) (me : Seated) → me.0.owner ≡ Driver
         → Loads n id me (device_base n queue + n) (at_device queue (driver_looks queue)) }

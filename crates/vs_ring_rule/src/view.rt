@@ -22,6 +22,9 @@ pub struct QueueView {
     /// The pages that it gave to the other end, and those that it took, oldest first, each as its used bytes.
     pub put: LinkedList<LinkedList<u8>>,
     pub got: LinkedList<LinkedList<u8>>,
+    /// The pages that the driver staged: they lie in their slots at home, and the available entries name them, but the index doesn't
+    /// show them yet.
+    pub staged: LinkedList<LinkedList<u8>>,
     /// The slots that are the end's: no page lies in them at home.
     pub held: LinkedList<u64>,
     /// The one of these that is out with its seat.

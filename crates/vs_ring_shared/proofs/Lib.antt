@@ -1,0 +1,11 @@
+pub mod Known
+pub mod Queues
+pub mod Stages
+pub mod Reaps
+pub mod DriverCalls
+pub mod HeldSlots
+pub mod Takes
+pub mod Returns
+pub mod DeviceCalls
+pub mod Makes
+pub mod Exposed

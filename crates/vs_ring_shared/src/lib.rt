@@ -1,0 +1,21 @@
+//! Shared rings: the three virtqueues of a socket device between two threads, without a lock (Virtio 1.2, section 2.7).
+#![tactic(auto)]
+
+mod device_end;
+mod device_queue;
+mod device_ring;
+mod driver_end;
+mod driver_queue;
+mod driver_ring;
+mod held;
+mod making;
+mod plays;
+mod port;
+#[cfg(test)]
+mod tests;
+
+pub use device_end::DeviceEnd;
+pub use device_ring::laws_of_device_end;
+pub use driver_end::DriverEnd;
+pub use driver_ring::laws_of_driver_end;
+pub use making::make;

@@ -1,0 +1,99 @@
+use crate::{DeviceEnd, DriverEnd, laws_of_device_end, laws_of_driver_end, make};
+use std::sync::Wait;
+use std::test::Fail;
+use std::thread;
+use std::thread::{Threads, join};
+use vs_page::Page;
+use vs_ring_port::Queue;
+
+/// Gives an empty page to the device, to write an event into.
+fn post_event(driver: &mut DriverEnd, mut page: Page) -> bool {
+    page.clear();
+    if driver.stage_page(Queue::Event, page).is_err() {
+        return false;
+    }
+    laws_of_driver_end(driver);
+    driver.publish_staged(Queue::Event);
+    true
+}
+
+/// Whether a page holds just this number.
+fn holds(page: &Page, number: u32) -> bool {
+    let bytes = page.bytes();
+    bytes.len() == 4 && u32::from_le_bytes([bytes[0], bytes[1], bytes[2], bytes[3]]) == number
+}
+
+/// Takes `count` events, and gives each page back to the device. Answers how many held their number.
+fn drive<R: Wait>(rt: &R, driver: &mut DriverEnd, count: u32) -> u32 {
+    let mut next: u32 = 0;
+    let mut right: u32 = 0;
+    for _ in rt.forever() {
+        if next >= count {
+            break;
+        }
+        match driver.reap_page(Queue::Event) {
+            Some(page) => {
+                if holds(&page, next) {
+                    right = right.wrapping_add(1);
+                }
+                next += 1;
+                post_event(driver, page);
+            }
+            None => thread::yield_now(),
+        }
+    }
+    right
+}
+
+/// Writes a number into the next page, if there is one.
+fn serve_one(device: &mut DeviceEnd, number: u32) -> bool {
+    match device.take_next(Queue::Event) {
+        Some(chain) => {
+            device.write_into(&chain, 0, &number.to_le_bytes());
+            laws_of_device_end(device);
+            device.give_back(chain, 4);
+            true
+        }
+        None => false,
+    }
+}
+
+/// Sends the numbers below `count`.
+fn serve<R: Wait>(rt: &R, device: &mut DeviceEnd, count: u32) {
+    let mut next: u32 = 0;
+    for _ in rt.forever() {
+        if next >= count {
+            break;
+        }
+        if serve_one(device, next) {
+            next += 1;
+        } else {
+            thread::yield_now();
+        }
+    }
+}
+
+/// Two threads pass `count` numbers. Answers how many came as they were sent, in order.
+fn relay<R: Threads + Wait + Sync>(
+    rt: &R,
+    mut driver: DriverEnd,
+    mut device: DeviceEnd,
+    count: u32,
+) -> u32 {
+    let (right, ()) = join(
+        rt,
+        || -> u32 { drive(rt, &mut driver, count) },
+        || serve(rt, &mut device, count),
+    );
+    right
+}
+
+#[test]
+fn two_threads_pass_events_over_eight_pages(rt: HostRuntime) -> Result<(), Fail> {
+    let (mut driver, device) = make(rt.alloc(), 8)?;
+    for _ in 0..8 {
+        post_event(&mut driver, Page::new(rt.alloc())?);
+    }
+    assert_eq!(rt; relay(&rt, driver, device, 1_000_000), 1_000_000);
+    Ok(())
+}
