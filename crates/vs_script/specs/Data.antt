@@ -1,5 +1,5 @@
 -- The bytes that a line of a script carries.
-use Rattle.std.specs.Prelude.{ℕ, ◌+◌, ◌*◌, ◌/◌, ◌%◌, List, [], ◌∷◌, length, slice_index}
+use Rattle.std.specs.Prelude.{ℕ, ◌+◌, ◌*◌, ◌/◌, ◌%◌, List, length, slice_index}
 use Rattle.vs_script.specs.declared.data.Data.{Data}
 use Rattle.vs_script.specs.declared.data.Data.TheVariants as code
 

@@ -1,5 +1,5 @@
 -- The fields of a line, each read from the words that are left of it.
-use Rattle.std.specs.Prelude.{◌≡◌, ℕ, ◌+◌, ◌*◌, ◌%◌, ◌==◌, ◌&&◌, nat_le, if◌then◌else◌, Bool, List, [], ◌∷◌, length, codes, bytes_eq, Option, Some, None, option_map, option_and_then, Result, Ok, Err}
+use Rattle.std.specs.Prelude.{◌≡◌, ℕ, ◌+◌, ◌*◌, ◌&&◌, nat_le, if◌then◌else◌, Bool, List, [], ◌∷◌, length, codes, bytes_eq, Option, Some, None, option_map, Result, Ok, Err}
 use Rattle.std.specs.List.{list_all}
 use Rattle.std.specs.Str.{all_ascii_digits}
 use Rattle.std.specs.Str.Parse.{digits_value}
@@ -10,6 +10,7 @@ use Rattle.vs_script.specs.declared.fault.Why.TheVariants.{BadWord, BadNumber, B
 use Rattle.vs_script.specs.declared.fault.LineFault.{LineFault}
 use Rattle.vs_script.specs.declared.fault.LineFault.TheVariants.{Refused, OutOfMemory}
 use Rattle.vs_script.specs.declared.number.TheConstants.{MAX_DIGITS}
+use Rattle.vs_script.specs.declared.words.TheConstants.{MAX_BITS}
 use Rattle.vs_script.specs.declared.hex_word.TheConstants.{MAX_HEX}
 use Rattle.vs_script.specs.Data.{Content, Given, Fill}
 
@@ -40,6 +41,10 @@ abbrev pub word : Field (List ℕ)
 word [] = Err BadWord
 word (w ∷ words) = if list_all is_graphic w then Ok (w, words) else Err BadWord
 
+-- A word that is this one.
+abbrev pub keyword : List ℕ → Field (Unit {0})
+keyword name words = after (word words) (λ w rest. if bytes_eq w name then Ok (tt, rest) else Err BadWord)
+
 -- Whether a word is a number: 1 to 20 decimal digits.
 abbrev pub is_numeral : List ℕ → Bool
 is_numeral w = nat_le 1 (length w) && nat_le (length w) MAX_DIGITS && all_ascii_digits w
@@ -56,13 +61,32 @@ number_in low high w = if is_numeral w then within low high (digits_value 10 w) 
 abbrev pub number : ℕ → ℕ → Field ℕ
 number low high words = after (word words) (λ w rest. held BadNumber (number_in low high w) rest)
 
+-- A number that passes a test.
+abbrev pub tested : {X : Type 0} → (X → Bool) → Read X → Read X
+tested test (Ok found) = if test found.0 then Ok found else Err BadNumber
+tested test (Err why) = Err why
+
+-- A number of 16, 32 and 64 bits.
+abbrev pub number16 : Field ℕ
+number16 words = number 0 65535 words
+
+abbrev pub number32 : Field ℕ
+number32 words = number 0 4294967295 words
+
+abbrev pub number64 : Field ℕ
+number64 words = number 0 18446744073709551615 words
+
 -- PORT, of 32 bits.
 abbrev pub port : Field ℕ
-port words = number 0 4294967295 words
+port words = number32 words
 
 -- C or H: connections and streams are numbered from 1 on, in 32 bits.
 abbrev pub id : Field ℕ
 id words = number 1 4294967295 words
+
+-- B, one bit of a shutdown or both: 1 to 3.
+abbrev pub bits : Field ℕ
+bits words = number 1 MAX_BITS words
 
 -- What a function makes of two values, where both are there.
 abbrev pub of_both : {A B C : Type 0} → (A → B → C) → Option A → Option B → Option C
@@ -89,9 +113,9 @@ fill limit words = after (number 0 limit words) (λ n rest. after (number 0 255 
 abbrev pub content : ℕ → Field Content
 content limit words =
     after (word words) (λ w rest.
-      if bytes_eq w (codes "-") then Ok (Given [], rest)
-      else if bytes_eq w (codes "fill") then fill limit rest
-      else held BadHex (option_map Given (hex_of w)) rest)
+    if bytes_eq w (codes "-") then Ok (Given [], rest)
+    else if bytes_eq w (codes "fill") then fill limit rest
+    else held BadHex (option_map Given (hex_of w)) rest)
 
 -- The one field of a line.
 abbrev pub only : {X : Type 0} → Field X → List (List ℕ) → Result X Why

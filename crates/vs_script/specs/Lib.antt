@@ -3,3 +3,7 @@ pub mod Data
 pub mod Field
 pub mod Outside
 pub mod Play
+pub mod App
+pub mod Hostile
+pub mod Fault
+pub mod Script

@@ -1,5 +1,5 @@
 -- Lines on what surrounds the guest's driver: the device, the moment, and the programs of the host.
-use Rattle.std.specs.Prelude.{ℕ, if◌then◌else◌, List, [], ◌∷◌, codes, bytes_eq, Result, Ok, Err}
+use Rattle.std.specs.Prelude.{ℕ, if◌then◌else◌, List, codes, bytes_eq, Result, Err}
 use Rattle.vs_script.specs.Data.{Content, content_of}
 use Rattle.vs_script.specs.Field.{after, ending, word, number, port, id, content, only, named}
 use Rattle.vs_script.specs.declared.fault.Why.{Why}

@@ -1,13 +1,13 @@
 -- Event lines of a play: what the guest does, and what happens around it.
-use Rattle.std.specs.Prelude.{ℕ, if◌then◌else◌, List, [], ◌∷◌, codes, bytes_eq, Result, Ok, Err}
+use Rattle.std.specs.Prelude.{ℕ, if◌then◌else◌, List, codes, bytes_eq, Result}
 use Rattle.vs_script.specs.Data.{Content, content_of}
-use Rattle.vs_script.specs.Field.{after, ending, word, number, port, id, content, only, named}
+use Rattle.vs_script.specs.Field.{after, ending, word, number, port, id, bits, content, only, named}
 use Rattle.vs_script.specs.Outside.{Outside, outside_view, outside_line}
 use Rattle.vs_script.specs.declared.fault.Why.{Why}
 use Rattle.vs_script.specs.declared.outside.TheConstants.{MAX_FILL}
 use Rattle.vs_script.specs.declared.play.PlayLine.{PlayLine}
 use Rattle.vs_script.specs.declared.play.PlayLine.TheVariants as code
-use Rattle.vs_script.specs.declared.play.TheConstants.{MAX_RECV, MAX_BITS}
+use Rattle.vs_script.specs.declared.play.TheConstants.{MAX_RECV}
 
 -- What the guest does, or what happens around it.
 pub data Event : Type 0 where
@@ -31,7 +31,7 @@ play_view (code.Unlisten port) = Unlisten port
 play_view (code.Accept port) = Accept port
 play_view (code.Send id bytes) = Send id (content_of bytes)
 play_view (code.Recv id len) = Recv id len
-play_view (code.Shutdown id bits) = Shutdown id bits
+play_view (code.Shutdown id b) = Shutdown id b
 play_view (code.Close id) = Close id
 play_view (code.State id) = State id
 play_view code.Poll = Poll
@@ -47,7 +47,7 @@ recv_line words = after (id words) (λ c rest. named (Recv c) (only (number 1 MA
 
 -- shutdown C B, behind its name
 abbrev pub shutdown_line : List (List ℕ) → Result Event Why
-shutdown_line words = after (id words) (λ c rest. named (Shutdown c) (only (number 1 MAX_BITS) rest))
+shutdown_line words = after (id words) (λ c rest. named (Shutdown c) (only bits rest))
 
 -- The lines of a play, by their name.
 abbrev pub named_line : List ℕ → List (List ℕ) → Result Event Why

@@ -34,7 +34,8 @@ impl Fill {
 impl Data {
     /// How many bytes they are.
     pub fn len(&self) -> usize
-        ensures { result ≡ size_of (content_of self.now) }
+        ensures size { result ≡ size_of (content_of self.now) }
+        ensures bound { result < 2 ^ 63 }
     {
         match self {
             Data::Given(bytes) => bytes.len(),

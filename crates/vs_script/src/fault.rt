@@ -1,6 +1,10 @@
-//! Why a line of a script is refused.
+//! Why a script is refused.
+
+ghost use Rattle.std.specs.Prelude.{◌≡◌};
+ghost use Rattle.vs_script.specs.Fault.{fault_at};
 
 use std::alloc::AllocError;
+use std::fmt;
 
 /// Why a line is refused.
 #[derive(Clone, Copy, Debug, PartialEq, Eq)]
@@ -18,6 +22,52 @@ pub enum Why {
     TooMany,
 }
 
+impl fmt::Display for Why {
+    ghost use Rattle.std.specs.Prelude.{Some};
+    ghost use Rattle.vs_script.specs.Fault.{why_text};
+
+    ghost output = { λ why. Some (why_text why) };
+
+    fn fmt<W: fmt::Write>(&self, f: &mut fmt::Formatter<W>) -> fmt::Result {
+        match self {
+            Why::TooLong => write!(f, "TooLong"),
+            Why::BadWord => write!(f, "BadWord"),
+            Why::BadNumber => write!(f, "BadNumber"),
+            Why::BadHex => write!(f, "BadHex"),
+            Why::TooMany => write!(f, "TooMany"),
+        }
+    }
+}
+
+/// The line that a script is refused for, written as `line L WHY`.
+#[derive(Clone, Copy, Debug, PartialEq, Eq)]
+pub struct Refused {
+    /// The number of the line, from 1; 0 is the script as a whole.
+    pub line: u64,
+    /// Why it is refused.
+    pub why: Why,
+}
+
+impl fmt::Display for Refused {
+    ghost use Rattle.std.specs.Prelude.{Some};
+    ghost use Rattle.vs_script.specs.Fault.{refused_text};
+
+    ghost output = { λ refused. Some (refused_text refused) };
+
+    fn fmt<W: fmt::Write>(&self, f: &mut fmt::Formatter<W>) -> fmt::Result {
+        write!(f, "line {} {}", self.line, self.why)
+    }
+}
+
+/// Why a text isn't read as a script.
+#[derive(Clone, Copy, Debug, PartialEq, Eq)]
+pub enum ParseFault {
+    /// It is refused for a line.
+    Refused(Refused),
+    /// Memory ran out.
+    OutOfMemory,
+}
+
 /// Why a line isn't read.
 #[derive(Clone, Copy, Debug, PartialEq, Eq)]
 pub enum LineFault {
@@ -25,6 +75,18 @@ pub enum LineFault {
     Refused(Why),
     /// Memory ran out.
     OutOfMemory,
+}
+
+impl LineFault {
+    /// The fault of the script whose line of this number has the fault.
+    pub fn at(self, line: u64) -> ParseFault
+        ensures { result ≡ fault_at line self }
+    {
+        match self {
+            LineFault::Refused(why) => ParseFault::Refused(Refused { line, why }),
+            LineFault::OutOfMemory => ParseFault::OutOfMemory,
+        }
+    }
 }
 
 impl From<Why> for LineFault {

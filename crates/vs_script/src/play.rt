@@ -13,9 +13,6 @@ use std::alloc::Global;
 /// The most bytes that one `recv` of a play asks for.
 const MAX_RECV: u32 = 65_536;
 
-/// Both bits of a shutdown.
-pub const MAX_BITS: u8 = 3;
-
 /// An event line of a play.
 #[derive(Debug, PartialEq, Eq, Drop)]
 pub enum PlayLine {
@@ -117,7 +114,6 @@ fn shutdown_line(words: &mut Words) -> Result<PlayLine, Why>
     ensures fault { IfErr result (λ why. shutdown_line words.old ≡ Err why) }
 {
     let id = words.id()?;
-    let bits = words.number8(1, MAX_BITS)?;
-    words.end()?;
+    let bits = words.only_bits()?;
     Ok(PlayLine::Shutdown { id, bits })
 }

@@ -5,7 +5,7 @@ ghost use Rattle.std.specs.List.{list_all, position_or_len};
 ghost use Rattle.vs_script.specs.Text.{words_of, is_empty, is_graphic};
 ghost use Rattle.vs_script.specs.Data.{content_of};
 ghost use Rattle.vs_script.specs.declared.fault.Why.TheVariants.{BadWord};
-ghost use Rattle.vs_script.specs.Field.{word, number, port, id, fill, content, only, IsFault};
+ghost use Rattle.vs_script.specs.Field.{word, keyword, number, number16, number32, number64, port, id, bits, fill, content, only, IsFault};
 
 use crate::data::{Data, Fill};
 use crate::fault::{LineFault, Why};
@@ -14,7 +14,11 @@ use crate::number::number_in;
 use std::alloc::Global;
 use std::marker::Model;
 
+/// Both bits of a shutdown.
+pub const MAX_BITS: u8 = 3;
+
 /// The words of a line that are still to be read. After a fault they are of no use.
+#[derive(Drop)]
 pub struct Words<'a> {
     rest: &'a [u8],
 }
@@ -47,6 +51,19 @@ impl<'a> Words<'a> {
         self.rest = rest;
         if is_printable(word) {
             Ok(word)
+        } else {
+            Err(Why::BadWord)
+        }
+    }
+
+    /// The next word, which is this one.
+    pub fn keyword(&mut self, name: &[u8]) -> Result<(), Why>
+        ensures ok { IfOk result (λ done. keyword name.now self.old ≡ Ok (done, self.new)) }
+        ensures fault { IfErr result (λ why. keyword name.now self.old ≡ Err why) }
+    {
+        let word = self.word()?;
+        if word == name {
+            Ok(())
         } else {
             Err(Why::BadWord)
         }
@@ -103,6 +120,30 @@ impl<'a> Words<'a> {
         Ok(n as u8)
     }
 
+    /// A number of 64 bits.
+    pub fn any64(&mut self) -> Result<u64, Why>
+        ensures ok { IfOk result (λ n. number64 self.old ≡ Ok (n, self.new)) }
+        ensures fault { IfErr result (λ why. number64 self.old ≡ Err why) }
+    {
+        self.number(0, u64::MAX)
+    }
+
+    /// A number of 32 bits.
+    pub fn any32(&mut self) -> Result<u32, Why>
+        ensures ok { IfOk result (λ n. number32 self.old ≡ Ok (n, self.new)) }
+        ensures fault { IfErr result (λ why. number32 self.old ≡ Err why) }
+    {
+        self.number32(0, u32::MAX)
+    }
+
+    /// A number of 16 bits.
+    pub fn any16(&mut self) -> Result<u16, Why>
+        ensures ok { IfOk result (λ n. number16 self.old ≡ Ok (n, self.new)) }
+        ensures fault { IfErr result (λ why. number16 self.old ≡ Err why) }
+    {
+        self.number16(0, u16::MAX)
+    }
+
     /// PORT: any number of 32 bits.
     pub fn port(&mut self) -> Result<u32, Why>
         ensures ok { IfOk result (λ n. port self.old ≡ Ok (n, self.new)) }
@@ -144,6 +185,50 @@ impl<'a> Words<'a> {
         let n = self.number32(low, high)?;
         self.end()?;
         Ok(n)
+    }
+
+    /// A number of 64 bits from `low` to `high`, and no word more.
+    pub fn only_number(&mut self, low: u64, high: u64) -> Result<u64, Why>
+        ensures { result ≡ only (number low high) self.old }
+    {
+        let n = self.number(low, high)?;
+        self.end()?;
+        Ok(n)
+    }
+
+    /// A number of 8 bits from `low` to `high`, and no word more.
+    pub fn only_number8(&mut self, low: u8, high: u8) -> Result<u8, Why>
+        ensures { result ≡ only (number low high) self.old }
+    {
+        let n = self.number8(low, high)?;
+        self.end()?;
+        Ok(n)
+    }
+
+    /// A number of 16 bits, and no word more.
+    pub fn only_any16(&mut self) -> Result<u16, Why>
+        ensures { result ≡ only number16 self.old }
+    {
+        let n = self.any16()?;
+        self.end()?;
+        Ok(n)
+    }
+
+    /// B, bits of a shutdown, and no word more.
+    pub fn only_bits(&mut self) -> Result<u8, Why>
+        ensures { result ≡ only bits self.old }
+    {
+        self.only_number8(1, MAX_BITS)
+    }
+
+    /// DATA, where `fill` fills at most `limit` bytes, and no word more.
+    pub fn only_content(&mut self, alloc: Global, limit: u32) -> Result<Data, LineFault>
+        ensures ok { IfOk result (λ found. only (content limit) self.old ≡ Ok (content_of found)) }
+        ensures fault { IfErr result (IsFault (only (content limit) self.old)) }
+    {
+        let content = self.content(alloc, limit)?;
+        self.end()?;
+        Ok(content)
     }
 
     /// DATA, where `fill` fills at most `limit` bytes.
