@@ -7,3 +7,4 @@ pub mod App
 pub mod Hostile
 pub mod Fault
 pub mod Script
+pub mod Examples

@@ -1,6 +1,6 @@
-//! Whole scripts.
+//! Whole scripts: the limits, and the lines in order.
 
-ghost use Rattle.std.specs.Prelude.{◌≡◌, ◌≤◌, ◌<◌, ◌∷◌, ◌++◌, [], IfOk, IfErr, Ok, length, map, not};
+ghost use Rattle.std.specs.Prelude.{◌≡◌, ◌≤◌, ◌<◌, ◌∷◌, ◌++◌, [], IfOk, IfErr, Ok, length, map, not, nat_lt};
 ghost use Rattle.vs_script.specs.Field.{IsFault};
 ghost use Rattle.vs_script.specs.App.{app_view, instruction_view};
 ghost use Rattle.vs_script.specs.Text.{lines_of, is_empty, is_skipped};
@@ -58,7 +58,10 @@ pub enum Script {
     Hostile(Vec<Numbered<HostileLine>>),
 }
 
-/// The script that a text spells for a command.
+/// The script that a text spells for a command, or what it is refused for. A text of more than 1,048,576 bytes is refused as
+/// `line 0 TooLong`, any other for its first line that has a fault. Of that line the first fault counts, in this order: `TooLong`,
+/// more than 4,200 bytes; then from word to word `BadWord`, `BadNumber` and `BadHex`; behind its last word `BadNumber`, where a
+/// hostile guest's rings or bytes lie outside its memory; and last `TooMany`. The time that this takes is linear in the text.
 pub fn parse(alloc: Global, command: Command, bytes: &[u8]) -> Result<Script, ParseFault>
     ensures ok { IfOk result (λ script. parse_of command bytes.now ≡ Ok (script_view script)) }
     ensures refused { IfErr result (IsRefused command bytes.now) }
@@ -132,7 +135,7 @@ fn add_event(
     ensures fault { IfErr result (IsFault (add_event (map numbered_event lines.old.items) number words.old)) }
 {
     let line = play_line(alloc, words)?;
-    if lines.len() >= MAX_EVENTS {
+    if !has_room(lines) {
         return Err(LineFault::Refused(Why::TooMany));
     }
     push(lines, Numbered { number, line })?;
@@ -151,11 +154,18 @@ fn add_hostile(
     ensures fault { IfErr result (IsFault (add_hostile (map numbered_hostile lines.old.items) number words.old)) }
 {
     let line = hostile_line(alloc, stage_of(lines), words)?;
-    if lines.len() >= MAX_EVENTS {
+    if !has_room(lines) {
         return Err(LineFault::Refused(Why::TooMany));
     }
     push(lines, Numbered { number, line })?;
     Ok(())
+}
+
+/// Whether one more line may stand behind others.
+fn has_room<L>(lines: &[Numbered<L>]) -> bool
+    ensures { result ≡ nat_lt (length lines.now) MAX_EVENTS }
+{
+    lines.len() < MAX_EVENTS
 }
 
 /// What the lines of a hostile guest have set up.
