@@ -1,0 +1,4 @@
+pub mod Pieces
+pub mod Numerals
+pub mod HexDigits
+pub mod Adding

@@ -1,0 +1,10 @@
+pub mod Text
+pub mod Data
+pub mod Field
+pub mod Outside
+pub mod Play
+pub mod App
+pub mod Hostile
+pub mod Fault
+pub mod Script
+pub mod Examples

@@ -1,0 +1,56 @@
+//! The bytes that a line of a script carries.
+
+ghost use Rattle.std.specs.Prelude.{◌≡◌, ◌<◌, ◌^◌};
+ghost use Rattle.vs_script.specs.Data.{content_of, size_of, byte_at, filled};
+
+/// The bytes that a line carries: as the script gives them, or by a rule.
+#[derive(Debug, PartialEq, Eq, Drop)]
+pub enum Data {
+    /// These bytes: none, or 1 to 2,048 of them.
+    Given(Vec<u8>),
+    /// `fill N S`.
+    Fill(Fill),
+}
+
+/// Bytes by a rule, `fill N S`: the byte at place i is (start + 7i + i/251) mod 256.
+#[derive(Clone, Copy, Debug, PartialEq, Eq)]
+pub struct Fill {
+    /// How many bytes.
+    pub n: u32,
+    /// The byte at place 0.
+    pub start: u8,
+}
+
+impl Fill {
+    /// The byte at a place, counted from 0.
+    pub fn byte(self, place: usize) -> u8
+        requires { place < self.n }
+        ensures { result ≡ filled self.start place }
+    {
+        ((usize::from(self.start) + 7 * place + place / 251) % 256) as u8
+    }
+}
+
+impl Data {
+    /// How many bytes they are.
+    pub fn len(&self) -> usize
+        ensures size { result ≡ size_of (content_of self.now) }
+        ensures bound { result < 2 ^ 63 }
+    {
+        match self {
+            Data::Given(bytes) => bytes.len(),
+            Data::Fill(fill) => fill.n as usize,
+        }
+    }
+
+    /// The byte at a place, counted from 0.
+    pub fn byte(&self, place: usize) -> u8
+        requires { place < size_of (content_of self.now) }
+        ensures { result ≡ byte_at (content_of self.now) place }
+    {
+        match self {
+            Data::Given(bytes) => bytes[place],
+            Data::Fill(fill) => fill.byte(place),
+        }
+    }
+}

@@ -1,0 +1,138 @@
+//! Lines on what surrounds the guest's driver: the device, the moment, and the programs of the host.
+
+ghost use Rattle.std.specs.Prelude.{◌≡◌, IfOk, IfErr, Ok, Err};
+ghost use Rattle.vs_script.specs.Field.{IsFault};
+ghost use Rattle.vs_script.specs.Outside.{host_view, outside_view, host_line, host_write, host_allow, outside_line};
+
+use crate::data::Data;
+use crate::fault::{LineFault, Why};
+use crate::words::Words;
+use std::alloc::Global;
+
+/// The most bytes that a line of a play or of a hostile guest fills.
+pub const MAX_FILL: u32 = 65_536;
+
+/// The lowest CID of a guest.
+const CID_MIN: u32 = 3;
+
+/// The highest CID of a guest.
+const CID_MAX: u32 = 4_294_967_294;
+
+/// The most milliseconds that a `tick` lets pass.
+const MAX_TICK: u32 = 1_000_000;
+
+/// The most bytes that a `host allow` adds.
+const MAX_ALLOW: u32 = 1_000_000;
+
+/// The most calls that a `host fail` counts.
+const MAX_FAIL: u32 = 1_000;
+
+/// A line on the device, the moment, or a program of the host.
+#[derive(Debug, PartialEq, Eq, Drop)]
+pub enum OutsideLine {
+    /// `turn`: the device takes a turn.
+    Turn,
+    /// `reset CID`: a transport reset, after which the guest has this CID, 3 to 4,294,967,294.
+    Reset { cid: u32 },
+    /// `tick MS`: this many milliseconds pass, 0 to 1,000,000.
+    Tick { ms: u32 },
+    /// `client`: a program of the host connects to the base path.
+    Client,
+    /// `host ..`: what programs of the host do.
+    Host(HostLine),
+}
+
+/// A line on the programs of the host.
+#[derive(Debug, PartialEq, Eq, Drop)]
+pub enum HostLine {
+    /// `host listen PORT`: a program listens at a port.
+    Listen { port: u32 },
+    /// `host unlisten PORT`: it listens there no more.
+    Unlisten { port: u32 },
+    /// `host write H DATA`: the program writes bytes to a stream.
+    Write { stream: u32, content: Data },
+    /// `host allow H N`: the program has room for this many bytes more on a stream, 0 to 1,000,000.
+    Allow { stream: u32, n: u32 },
+    /// `host end H`: the program writes no more to a stream.
+    End { stream: u32 },
+    /// `host closed H`: the program closes a stream.
+    Closed { stream: u32 },
+    /// `host fail N`: the Nth call of the host from now fails, 1 to 1,000.
+    Fail { n: u32 },
+}
+
+/// What a line says behind its name, where it is one on the device, the moment or the host.
+pub fn outside_line(alloc: Global, name: &[u8], words: &mut Words) -> Result<OutsideLine, LineFault>
+    ensures ok { IfOk result (λ line. outside_line name.now words.old ≡ Ok (outside_view line)) }
+    ensures fault { IfErr result (IsFault (outside_line name.now words.old)) }
+{
+    if name == b"turn".as_slice() {
+        words.end()?;
+        Ok(OutsideLine::Turn)
+    } else if name == b"reset".as_slice() {
+        let cid = words.only_number32(CID_MIN, CID_MAX)?;
+        Ok(OutsideLine::Reset { cid })
+    } else if name == b"tick".as_slice() {
+        let ms = words.only_number32(0, MAX_TICK)?;
+        Ok(OutsideLine::Tick { ms })
+    } else if name == b"client".as_slice() {
+        words.end()?;
+        Ok(OutsideLine::Client)
+    } else if name == b"host".as_slice() {
+        let act = words.word()?;
+        let line = host_line(alloc, act, words)?;
+        Ok(OutsideLine::Host(line))
+    } else {
+        Err(LineFault::Refused(Why::BadWord))
+    }
+}
+
+/// What a line says behind `host` and the name of an act.
+fn host_line(alloc: Global, act: &[u8], words: &mut Words) -> Result<HostLine, LineFault>
+    ensures ok { IfOk result (λ line. host_line act.now words.old ≡ Ok (host_view line)) }
+    ensures fault { IfErr result (IsFault (host_line act.now words.old)) }
+{
+    if act == b"listen".as_slice() {
+        let port = words.only_port()?;
+        Ok(HostLine::Listen { port })
+    } else if act == b"unlisten".as_slice() {
+        let port = words.only_port()?;
+        Ok(HostLine::Unlisten { port })
+    } else if act == b"write".as_slice() {
+        host_write(alloc, words)
+    } else if act == b"allow".as_slice() {
+        Ok(host_allow(words)?)
+    } else if act == b"end".as_slice() {
+        let stream = words.only_id()?;
+        Ok(HostLine::End { stream })
+    } else if act == b"closed".as_slice() {
+        let stream = words.only_id()?;
+        Ok(HostLine::Closed { stream })
+    } else if act == b"fail".as_slice() {
+        let n = words.only_number32(1, MAX_FAIL)?;
+        Ok(HostLine::Fail { n })
+    } else {
+        Err(LineFault::Refused(Why::BadWord))
+    }
+}
+
+/// `H DATA` of `host write`.
+fn host_write(alloc: Global, words: &mut Words) -> Result<HostLine, LineFault>
+    ensures ok { IfOk result (λ line. host_write words.old ≡ Ok (host_view line)) }
+    ensures fault { IfErr result (IsFault (host_write words.old)) }
+{
+    let stream = words.id()?;
+    let content = words.content(alloc, MAX_FILL)?;
+    words.end()?;
+    Ok(HostLine::Write { stream, content })
+}
+
+/// `H N` of `host allow`.
+fn host_allow(words: &mut Words) -> Result<HostLine, Why>
+    ensures ok { IfOk result (λ line. host_allow words.old ≡ Ok (host_view line)) }
+    ensures fault { IfErr result (λ why. host_allow words.old ≡ Err why) }
+{
+    let stream = words.id()?;
+    let n = words.only_number32(0, MAX_ALLOW)?;
+    Ok(HostLine::Allow { stream, n })
+}
