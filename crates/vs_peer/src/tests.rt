@@ -112,14 +112,14 @@ fn nobody_listens(rt: HostRuntime) -> Result<(), Fail> {
 
 #[test]
 fn each_call_of_the_host_fails_once(rt: HostRuntime) -> Result<(), Fail> {
-    let mut failed = 0;
+    let mut failed = 0u8;
     for n in 1..40 {
         let stream = prepared(rt.alloc(), b"OK 1073741824\nhi", true)?;
         let mut host = PeerHost::new(rt.alloc(), "v.sock", stream)?;
         host.fail(n)?;
         let (status, sink) = run(&rt, &mut host, 0)?;
         if status == HOST_FAULT && sink.bytes().ends_with(b"host fault\n") {
-            failed += 1;
+            failed = failed.saturating_add(1);
         }
     }
     assert_eq!(rt; failed, 19);
@@ -129,13 +129,13 @@ fn each_call_of_the_host_fails_once(rt: HostRuntime) -> Result<(), Fail> {
 #[test]
 fn each_call_of_the_sink_fails_once(rt: HostRuntime) -> Result<(), Fail> {
     let whole = b"port 1073741824\nhi";
-    let mut failed = 0;
+    let mut failed = 0u8;
     for n in 1..40 {
         let stream = prepared(rt.alloc(), b"OK 1073741824\nhi", true)?;
         let mut host = PeerHost::new(rt.alloc(), "v.sock", stream)?;
         let (status, sink) = run(&rt, &mut host, n)?;
         if status == SINK_FAULT && whole.starts_with(sink.bytes()) && sink.bytes().len() < 18 {
-            failed += 1;
+            failed = failed.saturating_add(1);
         }
     }
     assert_eq!(rt; failed, 18);
