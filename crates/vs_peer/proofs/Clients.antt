@@ -1,0 +1,121 @@
+-- A client's stream, from its dial on.
+use Rattle.std.proofs.Common.{◌≡◌, ◌≢◌, ℕ, zero, suc, ◌+◌, ◌-◌, Bool, true, false, cond, eqb, ◌||◌, List, [], ◌∷◌, ◌++◌, length, Option, Some, None, refl, sym, ap, subst, ◌∙◌, arith}
+use Rattle.std.specs.Prelude.{slice_get, IsSomeAnd}
+use Rattle.std.specs.Option.{ForSome}
+use Rattle.std.proofs.lemmas.Bool.Decides.{nat_tests}
+use Rattle.vs_contents.specs.Contents.{Relates}
+use Rattle.vs_flow.specs.declared.flow.Flow.{Flow}
+use Rattle.vs_outside.specs.Host.{Stream, HostContents, stream_at, IsOpen, fails_now, is_listened, dialed_stream, after_dial, IsDialed}
+use Rattle.vs_outside.specs.declared.host_net.Dialed.TheVariants as dialed
+use Rattle.vs_outside.proofs.Frames.{open-dialed, open_of, stream_at-after_failed}
+use Rattle.vs_peer.specs.Passing.{Moves}
+use Rattle.vs_peer.specs.Receiving.{SameStreams}
+use Rattle.vs_peer.specs.Client.{HasClient, IsUnheard, client_flow}
+
+-- A relation that follows from another.
+pub relates_map : (R S : HostContents → HostContents → Type 0) (a b : Option HostContents) → ((x y : HostContents) → R x y → S x y) →
+    Relates a b R → Relates a b S
+relates_map R S None b f h = h
+relates_map R S (Some a) None f h = absurd h
+relates_map R S (Some a) (Some b) f h = f a b h
+
+-- One relation, and then another.
+pub relates_both : (R S T : HostContents → HostContents → Type 0) (a b c : Option HostContents) →
+    ((x y z : HostContents) → R x y → S y z → T x z) → Relates a b R → Relates b c S → Relates a c T
+relates_both R S T None b c f h k = subst (λ o. Relates o c S → c ≡ None) (sym h) (λ x. x) k
+relates_both R S T (Some a) None c f h k = absurd h
+relates_both R S T (Some a) (Some b) None f h k = absurd k
+relates_both R S T (Some a) (Some b) (Some c) f h k = f a b c h k
+
+-- A relation, and what holds now.
+pub relates_now : (R T : HostContents → HostContents → Type 0) (Q : HostContents → Type 0) (a b : Option HostContents) →
+    ((x y : HostContents) → R x y → Q y → T x y) → Relates a b R → ForSome b Q → Relates a b T
+relates_now R T Q None b f h q = h
+relates_now R T Q (Some a) None f h q = absurd h
+relates_now R T Q (Some a) (Some b) f h q = f a b h (q b refl)
+
+-- What passes at the client's stream.
+pub client_then : (port id : ℕ) (g g' k k' : List ℕ) (w w' : Bool) (a b c : HostContents) → HasClient port id g k w a b → Moves id g' k' w' b c →
+    HasClient port id (g ++ g') (k ++ k') (w' || w) a c
+client_then port id g g' k k' w w' a b c h m =
+    let there : stream_at id b ≡ Some h.stream = ap (λ n. stream_at n b) h.newest ∙ h.client.there in
+    let t = m.stream h.stream there in
+    record {
+      stream = t.0;
+      newest = h.newest;
+      client = record {
+        there = ap (λ n. stream_at n c) (sym h.newest) ∙ t.1;
+        label = t.2.label ∙ h.client.label;
+        given = t.2.given ∙ ap (λ xs. xs ++ g') h.client.given;
+        taken = t.2.taken ∙ ap (λ xs. xs ++ k') h.client.taken;
+        others = λ other apart. m.others other (λ e. apart (e ∙ h.newest)) ∙ h.client.others other apart;
+      };
+      shut = t.2.shut ∙ ap (λ x. w' || x) h.shut;
+    }
+
+pub client_as : (port id : ℕ) (g g' k k' : List ℕ) (w : Bool) (a b : HostContents) → HasClient port id g k w a b → g ≡ g' → k ≡ k' → HasClient port id g' k' w a b
+client_as port id g g' k k' w a b h p q =
+    let P : List ℕ → Type 0 = λ x. HasClient port id x k w a b in
+    let Q : List ℕ → Type 0 = λ x. HasClient port id g' x w a b in
+    subst Q q (subst P p h)
+
+-- What holds of the client's stream now.
+pub client_now : (port id : ℕ) (g k : List ℕ) (w : Bool) (P : Stream → Type 0) (a b : HostContents) (h : HasClient port id g k w a b) →
+    IsSomeAnd (stream_at id b) P → P h.stream
+client_now port id g k w P a b h now =
+    let there : stream_at id b ≡ Some h.stream = ap (λ n. stream_at n b) h.newest ∙ h.client.there in
+    subst (λ o. IsSomeAnd o P) there now
+
+-- DIAL
+stream_id : (b l : Bool) (n id : ℕ) → dialed.Stream id ≡ cond b dialed.Failed (cond l (dialed.Stream n) dialed.Refused) → id ≡ n
+stream_id true l n id h = cc
+stream_id false true n id h = cc
+stream_id false false n id h = cc
+
+unheard : (b l : Bool) (n : ℕ) → dialed.Refused ≡ cond b dialed.Failed (cond l (dialed.Stream n) dialed.Refused) → l ≡ false
+unheard true l n h = cc
+unheard false true n h = cc
+unheard false false n h = refl
+
+append_other : {X : Type 0} (xs : List X) (y : X) (k : ℕ) → k ≢ length xs → slice_get (xs ++ y ∷ []) k ≡ slice_get xs k
+append_other [] y zero h = absurd (h refl)
+append_other [] y (suc k) h = refl
+append_other (x ∷ xs) y zero h = refl
+append_other (x ∷ xs) y (suc k) h = append_other xs y k (λ e. h (ap suc e))
+
+dial_others : (flow : Flow) (c : HostContents) (other : ℕ) (b : Bool) → eqb other 0 ≡ b → other ≢ length c.streams + 1 →
+    cond b None (slice_get (c.streams ++ dialed_stream flow c.prepared ∷ []) (other - 1)) ≡ cond b None (slice_get c.streams (other - 1))
+dial_others flow c other true p apart = refl
+dial_others flow c other false p apart =
+    let away : other - 1 ≢ length c.streams = λ e. apart (grind (arith, nat_tests, p, e)) in append_other c.streams (dialed_stream flow c.prepared) (other - 1) away
+
+pub dialed_client : (port id : ℕ) (path : List ℕ) (c : HostContents) → IsDialed path (dialed.Stream id) c →
+    HasClient port id [] [] false c (after_dial (client_flow port) (dialed.Stream id) c)
+dialed_client port id path c h =
+    let is : id ≡ length c.streams + 1 = stream_id (fails_now c) (is_listened path c) (length c.streams + 1) id h in
+    let after = after_dial (client_flow port) (dialed.Stream id) c in
+    let there : stream_at id after ≡ Some (dialed_stream (client_flow port) c.prepared) = (open-dialed (client_flow port) id c is).1 in
+    record {
+      stream = dialed_stream (client_flow port) c.prepared;
+      newest = is;
+      client = record {
+        there = ap (λ n. stream_at n after) (sym is) ∙ there;
+        label = refl;
+        given = refl;
+        taken = refl;
+        others = λ other apart. dial_others (client_flow port) c other (eqb other 0) refl apart;
+      };
+      shut = refl;
+    }
+
+pub dialed_open : (port id : ℕ) (path : List ℕ) (c : HostContents) → IsDialed path (dialed.Stream id) c →
+    IsOpen id (after_dial (client_flow port) (dialed.Stream id) c)
+dialed_open port id path c h =
+    let is : id ≡ length c.streams + 1 = stream_id (fails_now c) (is_listened path c) (length c.streams + 1) id h in
+    open_of id (after_dial (client_flow port) (dialed.Stream id) c) (dialed_stream (client_flow port) c.prepared) (open-dialed (client_flow port) id c is).1 refl
+
+pub dial_unheard : (flow : Flow) (path : List ℕ) (c : HostContents) → IsDialed path dialed.Refused c → IsUnheard path c (after_dial flow dialed.Refused c)
+dial_unheard flow path c h = (unheard (fails_now c) (is_listened path c) (length c.streams + 1) h, λ other. refl)
+
+pub dial_failed : (flow : Flow) (c : HostContents) → SameStreams c (after_dial flow dialed.Failed c)
+dial_failed flow c other = stream_at-after_failed other c

@@ -1,0 +1,10 @@
+pub mod Pieces
+pub mod Streams
+pub mod Sends
+pub mod Receives
+pub mod Answering
+pub mod Exchanges
+pub mod Clients
+pub mod Opening
+pub mod Conversations
+pub mod Endings

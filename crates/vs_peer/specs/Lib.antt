@@ -1,0 +1,12 @@
+pub mod Pieces
+pub mod Text
+pub mod Passing
+pub mod Waiting
+pub mod Asking
+pub mod Sending
+pub mod Receiving
+pub mod Exchanging
+pub mod Client
+pub mod Conversing
+pub mod Failing
+pub mod Ends

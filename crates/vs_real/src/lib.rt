@@ -1,0 +1,16 @@
+//! The real world outside: Unix sockets, the machine's clock, standard input and output, and the gate that holds nothing up. Nothing here
+//! exposes its contents, since what a socket, a terminal or a file holds lies outside of what is proved. Each error is a fault, and is
+//! counted.
+#![tactic(auto)]
+
+mod clock;
+mod gate;
+mod host;
+mod readiness;
+mod sockets;
+mod stdio;
+
+pub use crate::clock::MachineClock;
+pub use crate::gate::YieldGate;
+pub use crate::host::UnixHost;
+pub use crate::stdio::{ReadSource, WriteSink};

@@ -1,0 +1,259 @@
+//! Unix sockets that never wait.
+ghost use Rattle.std.specs.Prelude.{length};
+ghost use Rattle.vs_outside.specs.Host.{ReadsSome, TakesSome};
+
+use crate::readiness::{Ask, Readiness};
+use indexmap::IndexMap;
+use mio::event::Event;
+use mio::net::{UnixListener, UnixStream};
+use mio::{Events, Interest, Poll, Token};
+use std::alloc::AllocGlobal;
+use std::fs::Files;
+use std::io::{self, ErrorKind, Read, Write};
+use std::net::{Net, Shutdown};
+use std::time::Duration;
+use vs_outside::{Accepted, Dialed, Started, StreamRead, StreamWrite};
+
+/// The most sockets that one poll shows.
+const EVENTS: usize = 128;
+
+/// The listener's token. A stream's is its id, which is at least 1.
+const LISTENER: Token = Token(0);
+
+/// A connected socket, and what the polls showed of it.
+#[derive(Drop)]
+struct Socket {
+    stream: UnixStream,
+    input: Readiness,
+    output: Readiness,
+}
+
+/// Sockets of one poll: at most one that listens, and the streams by their ids, none of which is given twice.
+#[derive(Drop)]
+pub struct Sockets<R> {
+    rt: R,
+    poll: Poll,
+    events: Events,
+    // the number of the last poll
+    polls: u64,
+    listener: Option<UnixListener>,
+    clients: Readiness,
+    streams: IndexMap<u64, Socket>,
+    last_id: u64,
+}
+
+impl<R: Net + Files + AllocGlobal> Sockets<R> {
+    /// No socket yet. The error is want of memory, or that the system gives no poll.
+    pub fn new(rt: R) -> io::Result<Sockets<R>>
+    where
+        R: Drop,
+    {
+        let poll = Poll::new(&rt)?;
+        let events = Events::with_capacity(rt.alloc(), EVENTS)?;
+        let streams = IndexMap::new(rt.alloc());
+        Ok(Sockets {
+            rt,
+            poll,
+            events,
+            polls: 0,
+            listener: None,
+            clients: Readiness::new(),
+            streams,
+            last_id: 0,
+        })
+    }
+
+    /// Listens at a path.
+    pub fn start(&mut self, path: &str) -> Started {
+        match self.listen(path) {
+            Ok(()) => Started::Ready,
+            Err(_) => Started::Failed,
+        }
+    }
+
+    fn listen(&mut self, path: &str) -> io::Result<()> {
+        let mut listener = UnixListener::bind(&self.rt, path)?;
+        self.poll
+            .registry()
+            .register(&mut listener, LISTENER, Interest::READABLE)?;
+        self.listener = Some(listener);
+        self.clients = Readiness::new();
+        Ok(())
+    }
+
+    /// Accepts a client that waits.
+    pub fn accept(&mut self) -> Accepted {
+        let Some(listener) = &self.listener else {
+            return Accepted::None;
+        };
+        match self.clients.ask(self.polls) {
+            Ask::Socket => match listener.accept() {
+                Ok((stream, _)) => match self.add(stream) {
+                    Some(id) => Accepted::Stream(id),
+                    None => Accepted::Failed,
+                },
+                Err(e) if e.kind() == ErrorKind::WouldBlock => {
+                    self.clients.wait(self.polls);
+                    Accepted::None
+                }
+                Err(e) if e.kind() == ErrorKind::Interrupted => Accepted::None,
+                Err(_) => Accepted::Failed,
+            },
+            Ask::Poll => match self.look() {
+                Ok(()) => Accepted::None,
+                Err(_) => Accepted::Failed,
+            },
+            Ask::Nothing => Accepted::None,
+        }
+    }
+
+    /// Connects to whoever listens at a path.
+    pub fn dial(&mut self, path: &str) -> Dialed {
+        match UnixStream::connect(&self.rt, path) {
+            Ok(stream) => match self.add(stream) {
+                Some(id) => Dialed::Stream(id),
+                None => Dialed::Failed,
+            },
+            Err(e) if is_nobody(e.kind()) => Dialed::Refused,
+            Err(_) => Dialed::Failed,
+        }
+    }
+
+    // Keeps a new stream, under the next id. None: there is no memory, no id, or no place in the poll.
+    fn add(&mut self, stream: UnixStream) -> Option<u64> {
+        let id = self.last_id.checked_add(1)?;
+        let token = Token(usize::try_from(id).ok()?);
+        let mut socket = Socket {
+            stream,
+            input: Readiness::new(),
+            output: Readiness::new(),
+        };
+        self.poll
+            .registry()
+            .register(
+                &mut socket.stream,
+                token,
+                Interest::READABLE | Interest::WRITABLE,
+            )
+            .ok()?;
+        self.streams.insert(id, socket).ok()?;
+        self.last_id = id;
+        Some(id)
+    }
+
+    /// Reads the next bytes of a stream. A stream whose other end was closed has no more.
+    pub fn read(&mut self, id: u64, out: &mut [u8]) -> StreamRead
+        ensures { ReadsSome result (length out.new) }
+    {
+        let Some(socket) = self.streams.get_mut(&id) else {
+            return StreamRead::Failed;
+        };
+        match socket.input.ask(self.polls) {
+            Ask::Socket => read_once(socket, out, self.polls),
+            Ask::Poll => match self.look() {
+                Ok(()) => StreamRead::Again,
+                Err(_) => StreamRead::Failed,
+            },
+            Ask::Nothing => StreamRead::Again,
+        }
+    }
+
+    /// Writes the first ones of these bytes to a stream.
+    pub fn write(&mut self, id: u64, bytes: &[u8]) -> StreamWrite
+        ensures { TakesSome result (length bytes.now) }
+    {
+        let Some(socket) = self.streams.get_mut(&id) else {
+            return StreamWrite::Failed;
+        };
+        match socket.output.ask(self.polls) {
+            Ask::Socket => write_once(socket, bytes, self.polls),
+            Ask::Poll => match self.look() {
+                Ok(()) => StreamWrite::Again,
+                Err(_) => StreamWrite::Failed,
+            },
+            Ask::Nothing => StreamWrite::Again,
+        }
+    }
+
+    /// Shuts the side of a stream that is written to. One that the other end closed has none.
+    pub fn shut_write(&mut self, id: u64) {
+        if let Some(socket) = self.streams.get(&id) {
+            let _ = socket.stream.shutdown(Shutdown::Write);
+        }
+    }
+
+    /// Closes a stream.
+    pub fn close(&mut self, id: u64) {
+        self.streams.swap_remove(&id);
+    }
+
+    // Polls once, without waiting.
+    fn look(&mut self) -> io::Result<()> {
+        self.polls = self.polls.wrapping_add(1);
+        self.poll.poll(&mut self.events, Some(Duration::ZERO))?;
+        for event in self.events.iter() {
+            if event.token() == LISTENER {
+                self.clients.wake();
+            } else if let Some(socket) = self.streams.get_mut(&(event.token().0 as u64)) {
+                wake(socket, event);
+            }
+        }
+        Ok(())
+    }
+}
+
+// What a poll showed of a socket. One that failed or was closed is ready: its next call tells.
+fn wake(socket: &mut Socket, event: &Event) {
+    if event.is_readable() || event.is_read_closed() || event.is_error() {
+        socket.input.wake();
+    }
+    if event.is_writable() || event.is_write_closed() || event.is_error() {
+        socket.output.wake();
+    }
+}
+
+// Whether a failed connect says that nobody listens.
+fn is_nobody(kind: ErrorKind) -> bool {
+    matches!(kind, ErrorKind::NotFound | ErrorKind::ConnectionRefused)
+}
+
+// Reads a socket once.
+fn read_once(socket: &mut Socket, out: &mut [u8], polls: u64) -> StreamRead
+    ensures { ReadsSome result (length out.new) }
+{
+    if out.is_empty() {
+        return StreamRead::Again;
+    }
+    match socket.stream.read(out) {
+        Ok(0) => StreamRead::End,
+        Ok(n) => StreamRead::Got(n),
+        Err(e) => match e.kind() {
+            ErrorKind::WouldBlock => {
+                socket.input.wait(polls);
+                StreamRead::Again
+            }
+            ErrorKind::Interrupted => StreamRead::Again,
+            ErrorKind::ConnectionReset => StreamRead::End,
+            _ => StreamRead::Failed,
+        },
+    }
+}
+
+// Writes to a socket once.
+fn write_once(socket: &mut Socket, bytes: &[u8], polls: u64) -> StreamWrite
+    ensures { TakesSome result (length bytes.now) }
+{
+    match socket.stream.write(bytes) {
+        Ok(0) => StreamWrite::Again,
+        Ok(n) => StreamWrite::Took(n),
+        Err(e) => match e.kind() {
+            ErrorKind::WouldBlock => {
+                socket.output.wait(polls);
+                StreamWrite::Again
+            }
+            ErrorKind::Interrupted => StreamWrite::Again,
+            ErrorKind::BrokenPipe | ErrorKind::ConnectionReset => StreamWrite::Closed,
+            _ => StreamWrite::Failed,
+        },
+    }
+}
