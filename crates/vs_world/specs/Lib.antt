@@ -1,0 +1,7 @@
+pub mod Calls
+pub mod Answers
+pub mod World
+pub mod GuestSteps
+pub mod DeviceSteps
+pub mod Events
+pub mod Plays

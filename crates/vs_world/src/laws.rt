@@ -1,0 +1,1 @@
+//! Laws of the world, over every list of events.
