@@ -5,3 +5,4 @@ pub mod GuestSteps
 pub mod DeviceSteps
 pub mod Events
 pub mod Plays
+pub mod Laws
