@@ -1,2 +1,4 @@
 pub mod Queues
 pub mod Played
+pub mod Fits
+pub mod Runs

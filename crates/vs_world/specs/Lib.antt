@@ -6,3 +6,4 @@ pub mod DeviceSteps
 pub mod Events
 pub mod Plays
 pub mod Laws
+pub mod Sides
