@@ -10,7 +10,7 @@ use Rattle.vs_conn.specs.declared.end.Owed.TheVariants as owed
 use Rattle.vs_conn.specs.declared.end.Verdict.{Verdict}
 use Rattle.vs_conn.specs.declared.end.Verdict.TheVariants as verdict
 use Rattle.vs_conn.specs.declared.route.Route.{Route}
-use Rattle.vs_credit.specs.Credit.{unread_of, room_of, with_forwarded, with_taken}
+use Rattle.vs_credit.specs.Credit.{unread_of, room_of, with_forwarded, with_sent, with_taken}
 use Rattle.vs_credit.specs.declared.Credit.{Credit}
 use Rattle.vs_flow.specs.declared.flow.Flow.{Flow}
 use Rattle.vs_header.specs.Op.{op_named}
@@ -59,6 +59,9 @@ fits_taken c n u fits room = record {
   rx = omega arith;
   unread = takes c.rx_cnt c.fwd_cnt n u c.alloc fits.rx fits.fwd fits.alloc room fits.unread;
 }
+
+pub fits_sent : (c : Credit) (n u : ℕ) → CreditFits c u → CreditFits (with_sent c n) u
+fits_sent c n u fits = record { alloc = fits.alloc; fwd = fits.fwd; rx = fits.rx; unread = fits.unread }
 
 -- The end's own steps.
 pub fits_settled : (e : ConnectionEnd) (u : ℕ) → CreditFits e.credit u → CreditFits (settled e).credit u

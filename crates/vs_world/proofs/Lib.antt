@@ -2,3 +2,6 @@ pub mod Queues
 pub mod Played
 pub mod Fits
 pub mod Runs
+pub mod Entries
+pub mod Wire
+pub mod DriverSide
