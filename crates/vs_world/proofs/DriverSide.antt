@@ -267,7 +267,7 @@ module _ (device : Seat) where
         }
 
     -- A connection leaves the table.
-    left_holds : (b : Bool) (e : DriverEntry) (gone : List GoneConnection)
+    pub left_holds : (b : Bool) (e : DriverEntry) (gone : List GoneConnection)
         → DriverHolds (record (cond b (waits_no_more e s) s) { table = without s.table e.slot; gone = gone })
     left_holds true e gone = record {
       sound = without_sound s.table e.slot holds.sound;
@@ -288,7 +288,7 @@ module _ (device : Seat) where
       known = holds.known;
     }
 
-    left_ends : (b : Bool) (e : DriverEntry) (gone : List GoneConnection) → Contains s.table.entries e
+    pub left_ends : (b : Bool) (e : DriverEntry) (gone : List GoneConnection) → Contains s.table.entries e
         → left e.flow (driver_ends s) ≡ driver_ends (record (cond b (waits_no_more e s) s) { table = without s.table e.slot; gone = gone })
     left_ends true e gone there =
         ap (λ (entries : List FlowEnd). let part : Ends = record (driver_ends s) { entries = entries } in part)

@@ -5,3 +5,4 @@ pub mod Runs
 pub mod Entries
 pub mod Wire
 pub mod DriverSide
+pub mod DriverTakes
