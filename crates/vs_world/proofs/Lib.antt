@@ -6,3 +6,4 @@ pub mod Entries
 pub mod Wire
 pub mod DriverSide
 pub mod DriverTakes
+pub mod DriverResets
