@@ -7,3 +7,4 @@ pub mod Wire
 pub mod DriverSide
 pub mod DriverTakes
 pub mod DriverResets
+pub mod DriverEvents

@@ -1,0 +1,234 @@
+-- Each of the driver's conversations is some of the steps of the two ends.
+use Rattle.std.proofs.Common.{◌≡◌, ◌≢◌, ℕ, suc, ◌+◌, ◌-◌, ◌^◌, ◌<◌, ◌≤◌, ◌==◌, ◌&&◌, min, nat_le, nat_lt, Bool, true, false, cond, List, [], ◌∷◌, ◌++◌, length, take, map, Contains, Option, Some, None, Result, Ok, Err, is_some, refl, sym, ap, subst, ◌∙◌, arith}
+use Rattle.std.specs.List.{find}
+use Rattle.std.proofs.lemmas.Bool.Decides.{nat_tests}
+use Rattle.std.proofs.lemmas.Grind.{common_steps}
+use Rattle.std.proofs.lemmas.List.{length-take}
+use Rattle.vs_contents.specs.CallTree.{CallTree, Done, Ask, bind, played}
+use Rattle.vs_conn.specs.End.{ConnectionEnd, CanSend, may_send_of, owes_of, wanting_credit}
+use Rattle.vs_conn.specs.Headers.{owed_header, payload_header, reset_header}
+use Rattle.vs_conn.specs.declared.end.Owed.{Owed}
+use Rattle.vs_conn.specs.declared.end.Stop.{Stop}
+use Rattle.vs_flow.specs.Table.{entry_under}
+use Rattle.vs_header.specs.Packet.{header_bytes}
+use Rattle.vs_history.specs.declared.TheConstants.{BUF_ALLOC}
+use Rattle.vs_history.specs.declared.packet.Packet.{Packet}
+use Rattle.vs_page.specs.Held.{packet_held, event_held, held_in, listed}
+use Rattle.vs_page.specs.Log.{Log, Driver, IsNextPacket, IsNextEvent, packets_put, packets_got, events_put, events_got}
+use Rattle.vs_page.specs.declared.log.LogEntry.{LogEntry}
+use Rattle.vs_page.specs.declared.log.LogEntry.TheVariants.{GotEvent, GotPacket, Mark, PutPacket}
+use Rattle.vs_page.proofs.Holding.{packet_whole}
+use Rattle.vs_replies.specs.declared.Reply.{Reply}
+use Rattle.vs_ring_port.specs.DriverCalls.{driver_answer, Stage, Publish, Reap, LoadCid}
+use Rattle.vs_ring_port.specs.EndLog.{EndLog, all_put, entries_reaped, with_event, with_packet}
+use Rattle.vs_ring_port.specs.Lists.{Rings, oldest, all_but_oldest}
+use Rattle.vs_ring_port.specs.declared.queue.Queue.{Queue}
+use Rattle.vs_ring_port.specs.declared.queue.Queue.TheVariants.{Rx, Tx, Event}
+use Rattle.vs_matching.specs.Both.{Both, IsSound, Seat}
+use Rattle.vs_matching.specs.Steps.{owed_on, payload_on, reply_on, request_on}
+use Rattle.vs_matching.proofs.Slots.{found_by}
+use Rattle.vs_driver.specs.State.{DriverConnection, DriverEntry, DriverState, entry_known_as, is_known_as}
+use Rattle.vs_driver.specs.declared.answers.ConnectError.{ConnectError}
+use Rattle.vs_driver.specs.declared.answers.Sent.{Sent}
+use Rattle.vs_driver.specs.declared.limits.TheConstants.{REPLIES_FULL}
+use Rattle.vs_driver.specs.Connections.{route_to_host, connect_refusal, connected, next_flow, with_end}
+use Rattle.vs_driver.specs.Conversations.{DriverTree, Round, after_paying, after_stage, connect_with_page, has_page, one_more_in_flight, one_put, owed_bytes, payload_bytes, payload_of, publish_of, put_owed, put_owed_of, put_reply, put_reply_of, reap_one, reaped, reply_header, request_bytes, send_with_page, stage_of, stage_packet, start}
+use Rattle.vs_world.specs.GuestSteps.{connects, sends, sends_on, sends_with_credit, stages_owed, stages_page, stages_reply, takes_page}
+use Rattle.vs_world.specs.Sides.{driver_ends, flow_to_host, log_with_staged}
+use Rattle.vs_world.proofs.DriverSide as side
+use Rattle.vs_world.proofs.DriverSide.{DriverHolds, Kept, seated}
+use Rattle.vs_world.proofs.DriverTakes as takes
+use Rattle.vs_world.proofs.DriverResets as resets
+use Rattle.vs_world.proofs.Fits.{holds_header, holds_payload}
+use Rattle.vs_world.proofs.Runs.{keeps_sound}
+use Rattle.vs_world.proofs.Wire.{PutsFit, next_fits, not_payload}
+use Rattle.vs_driver.specs.Receiving.{after_reset, on_packet, on_page}
+use Rattle.std.proofs.Common.{append_assoc}
+use Rattle.vs_world.specs.GuestSteps.{event_came, packet_came}
+
+-- A page that is staged behind others.
+staged_last : (pages : List (List ℕ)) (page : List ℕ) (log : Log)
+    → all_put (pages ++ page ∷ []) log ≡ with_packet (λ p. PutPacket p) (packet_held page) (all_put pages log)
+staged_last [] page log = refl
+staged_last (first ∷ pages) page log = staged_last pages page (with_packet (λ p. PutPacket p) (packet_held first) log)
+
+module _ (device : Seat) (first : ℕ) (s : DriverState) (lists : Rings) (log : EndLog)
+    (sound : IsSound first (seated device s (log_with_staged log))) (holds : DriverHolds s) (puts : PutsFit (log_with_staged log)) where
+  abbrev now : Log
+  now = log_with_staged log
+
+  -- What a conversation of the driver leaves.
+  abbrev KeptBy : DriverTree DriverState → Type 0
+  KeptBy tree = let r = played driver_answer tree (lists, log) in Kept device s now r.0 (log_with_staged r.1.1)
+
+  still : Kept device s now s now
+  still = side.kept_still device s s now holds puts refl holds
+
+  -- Pages count in no connection.
+  recounted : (t : DriverState) (n m : ℕ) (l k : Log) → l ≡ k → Kept device s now t l → Kept device s now (record t { in_flight = n; staged = m }) k
+  recounted t n m l k is kept = subst (λ (x : Log). Kept device s now (record t { in_flight = n; staged = m }) x) is
+      (record { runs = kept.runs; holds = kept.holds; puts = kept.puts })
+
+  -- A packet is staged.
+  log_put : (bytes : List ℕ) (p : Packet) → packet_held bytes ≡ Some p → PutPacket p ∷ now ≡ all_put (log.staged.tx ++ bytes ∷ []) log.entries
+  log_put bytes p held = sym (staged_last log.staged.tx bytes log.entries ∙ ap (λ (o : Option Packet). with_packet (λ q. PutPacket q) o now) held)
+
+  stages : (bytes : List ℕ) (p : Packet) (t : DriverState) → packet_held bytes ≡ Some p → Kept device s now t (PutPacket p ∷ now)
+      → KeptBy (bind (bind (stage_packet bytes t) (one_put (start s))) (λ r. Done r.0.state))
+  stages bytes p t held kept = by (t.staged + 1 == 16)
+    where
+      by : (b : Bool) → KeptBy (bind (bind (Ask (Stage Tx bytes) (λ _. cond b (Ask (Publish Tx) (λ _. Done (record (one_more_in_flight t) { staged = 0 })))
+          (Done (record (one_more_in_flight t) { staged = t.staged + 1 })))) (one_put (start s))) (λ r. Done r.0.state))
+      by true = recounted t (t.in_flight + 1) 0 (PutPacket p ∷ now) _ (log_put bytes p held) kept
+      by false = recounted t (t.in_flight + 1) (t.staged + 1) (PutPacket p ∷ now) _ (log_put bytes p held) kept
+
+  pub stages_reply_keeps : KeptBy (stages_reply s)
+  stages_reply_keeps = by s.replies refl
+    where
+      paid : (reply : Reply) (rest : List Reply) → s.replies ≡ reply ∷ rest → (b : Bool) → KeptBy (bind (cond b
+          (bind (stage_packet (header_bytes (reply_header s.cid reply)) (record s { replies = rest })) (one_put (start s)))
+          (Done (start s, false))) (λ r. Done r.0.state))
+      paid reply rest is false = still
+      paid reply rest is true =
+          let kept = side.replies device first s now sound holds puts reply rest is in
+          stages (header_bytes (reply_header s.cid reply)) (reply_on Driver s.cid (flow_to_host reply)) (record s { replies = rest })
+          (holds_header (reply_header s.cid reply) kept.puts.0 refl) kept
+
+      by : (rs : List Reply) → s.replies ≡ rs → KeptBy (bind (put_reply_of rs (start s)) (λ r. Done r.0.state))
+      by [] is = still
+      by (reply ∷ rest) is = paid reply rest is (has_page s)
+
+  pub stages_owed_keeps : (slot : ℕ) → KeptBy (stages_owed slot s)
+  stages_owed_keeps slot = by (entry_under s.table slot) refl
+    where
+      paid : (e : DriverEntry) (what : Owed) → Contains s.table.entries e → owes_of e.value.end ≡ Some what → (b : Bool) → KeptBy (bind (cond b
+          (bind (stage_packet (owed_bytes what e s) (after_paying what e s)) (one_put (start s)))
+          (Done (start s, false))) (λ r. Done r.0.state))
+      paid e what there owes false = still
+      paid e what there owes true =
+          let kept = side.pays device first s now sound holds puts what e there owes in
+          stages (owed_bytes what e s) (owed_on Driver s.cid e.flow e.value.end what) (after_paying what e s)
+          (holds_header (owed_header e.value.end (route_to_host s.cid e.flow) what) kept.puts.0
+          (not_payload e.value.end (route_to_host s.cid e.flow) what)) kept
+
+      owing : (e : DriverEntry) → Contains s.table.entries e → (o : Option Owed) → owes_of e.value.end ≡ o → KeptBy (bind
+          (elim o as (λ _. DriverTree (Round × Bool)) [ None ↦ Done (start s, false) | Some what ↦ put_owed_of what e (start s) ])
+          (λ r. Done r.0.state))
+      owing e there None owes = still
+      owing e there (Some what) owes = paid e what there owes (has_page s)
+
+      by : (o : Option DriverEntry) → entry_under s.table slot ≡ o → KeptBy (bind (elim o as (λ _. DriverTree (Round × Bool)) [
+        | None ↦ Done (start s, false)
+        | Some e ↦ elim (owes_of e.value.end) as (λ _. DriverTree (Round × Bool)) [
+          | None ↦ Done (start s, false)
+          | Some what ↦ put_owed_of what e (start s)
+        ]
+      ]) (λ r. Done r.0.state))
+      by None is = still
+      by (Some e) is = owing e (found_by (λ (x : DriverEntry). x.slot == slot) s.table.entries e is).0 (owes_of e.value.end) refl
+
+  -- Pages without a packet are staged, and pages are published.
+  pub stages_page_keeps : (queue : Queue) → KeptBy (stages_page queue s)
+  stages_page_keeps Tx = still
+  stages_page_keeps Rx = by (s.staged + 1 == 16)
+    where
+      by : (b : Bool) → KeptBy (Ask (Stage Rx []) (λ _. cond b (Ask (Publish Rx) (λ _. Done (record s { staged = 0 }))) (Done (record s { staged = s.staged + 1 }))))
+      by true = recounted s s.in_flight 0 now now refl still
+      by false = recounted s s.in_flight (s.staged + 1) now now refl still
+  stages_page_keeps Event = by (s.staged + 1 == 16)
+    where
+      by : (b : Bool) → KeptBy (Ask (Stage Event []) (λ _. cond b (Ask (Publish Event) (λ _. Done (record s { staged = 0 }))) (Done (record s { staged = s.staged + 1 }))))
+      by true = recounted s s.in_flight 0 now now refl still
+      by false = recounted s s.in_flight (s.staged + 1) now now refl still
+
+  pub publishes_keeps : (queue : Queue) → KeptBy (publish_of queue s)
+  publishes_keeps Rx = recounted s s.in_flight 0 now now refl still
+  publishes_keeps Tx = recounted s s.in_flight 0 now now refl still
+  publishes_keeps Event = recounted s s.in_flight 0 now now refl still
+
+  -- A page comes back.
+  reaps_tx : KeptBy (bind (reap_one s) (λ r. Done r.0))
+  reaps_tx = by (s.in_flight == 0)
+    where
+      back : (page : Option (List ℕ)) → Kept device s now (reaped s page).0 (all_put log.staged.tx (entries_reaped Tx page log.entries))
+      back None = still
+      back (Some page) = recounted s (s.in_flight - 1) s.staged now now refl still
+
+      by : (b : Bool) → KeptBy (bind (cond b (Done (s, false)) (Ask (Reap Tx) (λ page. Done (reaped s page)))) (λ r. Done r.0))
+      by true = still
+      by false = back (oldest lists.tx.back)
+
+  -- What was taken stands behind what is staged, where nothing is.
+  module _ (quiet : log.staged.tx ≡ []) (device_puts : PutsFit device.log)
+      (rx : packets_put device.log ≡ held_in packet_held lists.rx.back ++ packets_got log.entries)
+      (event : events_put device.log ≡ held_in event_held lists.event.back ++ events_got log.entries)
+      (known : lists.cid < 2 ^ 64) where
+    moved : (entry : LogEntry) → entry ∷ now ≡ all_put log.staged.tx (entry ∷ log.entries)
+    moved entry = subst (λ (pages : List (List ℕ)). entry ∷ all_put pages log.entries ≡ all_put pages (entry ∷ log.entries)) (sym quiet) refl
+
+    same_log : now ≡ log.entries
+    same_log = ap (λ (pages : List (List ℕ)). all_put pages log.entries) quiet
+
+    next_packet : (page : List ℕ) (pages : List (List ℕ)) (p : Packet) → lists.rx.back ≡ page ∷ pages → packet_held page ≡ Some p
+        → IsNextPacket now device.log p
+    next_packet page pages p back held = (
+      held_in packet_held pages,
+      rx ∙ ap (λ (ps : List (List ℕ)). held_in packet_held ps ++ packets_got log.entries) back
+          ∙ ap (λ (o : Option Packet). (held_in packet_held pages ++ listed o) ++ packets_got log.entries) held
+          ∙ append_assoc (held_in packet_held pages) (p ∷ []) (packets_got log.entries)
+          ∙ ap (λ (l : Log). held_in packet_held pages ++ p ∷ packets_got l) (sym same_log),
+    )
+
+    next_event : (page : List ℕ) (pages : List (List ℕ)) (id : ℕ) → lists.event.back ≡ page ∷ pages → event_held page ≡ Some id
+        → IsNextEvent now device.log id
+    next_event page pages id back held = (
+      held_in event_held pages,
+      event ∙ ap (λ (ps : List (List ℕ)). held_in event_held ps ++ events_got log.entries) back
+          ∙ ap (λ (o : Option ℕ). (held_in event_held pages ++ listed o) ++ events_got log.entries) held
+          ∙ append_assoc (held_in event_held pages) (id ∷ []) (events_got log.entries)
+          ∙ ap (λ (l : Log). held_in event_held pages ++ id ∷ events_got l) (sym same_log),
+    )
+
+    packet_taken : (page : List ℕ) (pages : List (List ℕ)) → lists.rx.back ≡ page ∷ pages → (o : Option Packet) → packet_held page ≡ o
+        → Kept device s now (elim o as (λ _. DriverState) [ None ↦ s | Some p ↦ on_packet p s ])
+        (all_put log.staged.tx (with_packet (λ p. GotPacket p) o log.entries))
+    packet_taken page pages back None held = still
+    packet_taken page pages back (Some p) held =
+        let next = next_packet page pages p back held in
+        subst (λ (l : Log). Kept device s now (on_packet p s) l) (moved (GotPacket p))
+        (takes.takes device first s now sound holds puts p next (next_fits now device.log p next device_puts) (packet_whole page p held).0)
+
+    rx_taken : (back : List (List ℕ)) → lists.rx.back ≡ back
+        → Kept device s now (packet_came (oldest back) s) (all_put log.staged.tx (entries_reaped Rx (oldest back) log.entries))
+    rx_taken [] is = still
+    rx_taken (page ∷ pages) is = packet_taken page pages is (packet_held page) refl
+
+    reset_taken : (id : ℕ) → IsNextEvent now device.log id
+        → Kept device s now (after_reset lists.cid s) (all_put log.staged.tx (Mark lists.cid ∷ GotEvent id ∷ log.entries))
+    reset_taken id next =
+        let one = takes.takes_event device first s now sound holds puts id next in
+        let two = resets.takes_reset device first s (GotEvent id ∷ now) (keeps_sound first _ _ one.runs sound) holds puts lists.cid known in
+        subst (λ (l : Log). Kept device s now (after_reset lists.cid s) l)
+        (subst (λ (pages : List (List ℕ)). Mark lists.cid ∷ GotEvent id ∷ all_put pages log.entries
+        ≡ all_put pages (Mark lists.cid ∷ GotEvent id ∷ log.entries)) (sym quiet) refl)
+        (side.kept_then device s s (after_reset lists.cid s) now (GotEvent id ∷ now) (Mark lists.cid ∷ GotEvent id ∷ now) one two)
+
+    -- After an event was reaped: what is asked then, over rings that gave it.
+    abbrev EventKept : List ℕ → Option ℕ → Bool → Type 0
+    EventKept page held is_reset =
+        let r = played driver_answer (bind (cond is_reset (Ask LoadCid (λ cid. Done (record (start s) { state = after_reset cid s; count = 1; reset = true })))
+        (Done (record (start s) { count = 1 }))) (λ (r : Round). Done r.state))
+        (record lists { event = record lists.event { back = all_but_oldest lists.event.back } }, record log { entries = with_event (λ id. GotEvent id) held log.entries }) in
+        Kept device s now r.0 (log_with_staged r.1.1)
+
+    id_taken : (page : List ℕ) (pages : List (List ℕ)) (id : ℕ) → lists.event.back ≡ page ∷ pages → event_held page ≡ Some id → (b : Bool)
+        → EventKept page (Some id) b
+    id_taken page pages id back held true = reset_taken id (next_event page pages id back held)
+    id_taken page pages id back held false =
+        subst (λ (l : Log). Kept device s now s l) (moved (GotEvent id))
+        (takes.takes_event device first s now sound holds puts id (next_event page pages id back held))
+
+    event_by : (page : List ℕ) (pages : List (List ℕ)) → lists.event.back ≡ page ∷ pages → (o : Option ℕ) → event_held page ≡ o
+        → EventKept page o (elim o as (λ _. Bool) [ None ↦ false | Some id ↦ id == 0 ])
+    event_by page pages back None held = still
+    event_by page pages back (Some id) held = id_taken page pages id back held (id == 0)
