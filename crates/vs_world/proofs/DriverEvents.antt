@@ -42,6 +42,16 @@ use Rattle.vs_world.proofs.DriverResets as resets
 use Rattle.vs_world.proofs.Fits.{holds_header, holds_payload}
 use Rattle.vs_world.proofs.Runs.{keeps_sound}
 use Rattle.vs_world.proofs.Wire.{PutsFit, next_fits, not_payload}
+use Rattle.vs_driver.specs.declared.answers.ConnectError.TheVariants as connect_refused
+use Rattle.vs_driver.specs.declared.answers.Sent.TheVariants as sent
+use Rattle.vs_driver.specs.declared.answers.ListenError.{ListenError}
+use Rattle.vs_driver.specs.Conversations.{no_credit, not_sent, post_packet, send_stopped}
+use Rattle.vs_driver.specs.Connections.{after_unlisten}
+use Rattle.vs_driver.specs.Listening.{listen_of, listener_on, listening, next_accepted, with_waiting, without_id}
+use Rattle.vs_conn.specs.End.{with_payload_sent}
+use Rattle.std.proofs.Common.{IsOkAnd}
+use Rattle.vs_world.specs.Calls.{GuestCall, Connect, Listen, Unlisten, Accept, Send, Recv, Shutdown, Close, LookAt, is_right}
+use Rattle.vs_world.specs.GuestSteps.{makes_call}
 use Rattle.vs_driver.specs.Receiving.{after_reset, on_packet, on_page}
 use Rattle.std.proofs.Common.{append_assoc}
 use Rattle.vs_world.specs.GuestSteps.{event_came, packet_came}
@@ -232,3 +242,127 @@ module _ (device : Seat) (first : ℕ) (s : DriverState) (lists : Rings) (log : 
         → EventKept page o (elim o as (λ _. Bool) [ None ↦ false | Some id ↦ id == 0 ])
     event_by page pages back None held = still
     event_by page pages back (Some id) held = id_taken page pages id back held (id == 0)
+
+    event_taken_of : (back : List (List ℕ)) → lists.event.back ≡ back
+        → (let r = played driver_answer (event_came (oldest back) s)
+        (record lists { event = record lists.event { back = all_but_oldest lists.event.back } },
+        record log { entries = entries_reaped Event (oldest back) log.entries }) in
+        Kept device s now r.0 (log_with_staged r.1.1))
+    event_taken_of [] is = still
+    event_taken_of (page ∷ pages) is = event_by page pages is (event_held page) refl
+
+    pub takes_page_keeps : (queue : Queue) → KeptBy (takes_page queue s)
+    takes_page_keeps Tx = reaps_tx
+    takes_page_keeps Rx = by (nat_le REPLIES_FULL (length s.replies))
+      where
+        by : (b : Bool) → KeptBy (cond b (Done s) (Ask (Reap Rx) (λ page. Done (packet_came page s))))
+        by true = still
+        by false = rx_taken lists.rx.back refl
+    takes_page_keeps Event = by (nat_lt REPLIES_FULL (length s.replies))
+      where
+        by : (b : Bool) → KeptBy (cond b (Done s) (Ask (Reap Event) (λ page. event_came page s)))
+        by true = still
+        by false = event_taken_of lists.event.back refl
+
+  -- The guest's calls.
+  abbrev CallKept : {A : Type 0} → DriverTree (DriverState × A) → Type 0
+  CallKept tree = let r = played driver_answer tree (lists, log) in Kept device s now r.0.0 (log_with_staged r.1.1)
+
+  connects_keeps : (port : ℕ) → port < 2 ^ 32 → CallKept (connects port s)
+  connects_keeps port fits = by (connect_refusal port s) refl
+    where
+      with_page : connect_refusal port s ≡ None → (b : Bool) → CallKept (cond b
+          (bind (post_packet (request_bytes port s) s) (λ t. Done (connected port t, Ok t.next_id)))
+          (Done (s, Err (connect_refused.NoDescriptor s.in_flight))))
+      with_page none false = still
+      with_page none true =
+          let kept = takes.connects device first s now sound holds puts port none fits in
+          let p = request_on Driver s.cid (next_flow port s) BUF_ALLOC in
+          recounted (connected port s) (s.in_flight + 1) s.staged (PutPacket p ∷ now) _
+          (log_put (request_bytes port s) p (holds_header p.header kept.puts.0 refl)) kept
+
+      by : (o : Option ConnectError) → connect_refusal port s ≡ o → CallKept (elim o as (λ _. DriverTree (DriverState × Result ℕ ConnectError)) [
+        | Some refusal ↦ Done (s, Err refusal)
+        | None ↦ connect_with_page port s
+      ])
+      by (Some refusal) is = still
+      by None is = with_page is (has_page s)
+
+  sends_keeps : (id : ℕ) (bytes : List ℕ) → CallKept (sends id bytes s)
+  sends_keeps id bytes = by (entry_known_as id s) refl
+    where
+      with_page : (e : DriverEntry) (payload : List ℕ) → Contains s.table.entries e → CanSend e.value.end (length payload) → length payload < 2 ^ 32
+          → (b : Bool) → CallKept (cond b (bind (post_packet (payload_bytes e payload s) s)
+          (λ t. Done (with_end (with_payload_sent e.value.end (length payload)) e t, sent.Took (length payload)))) (Done (s, sent.NoDescriptor s.in_flight)))
+      with_page e payload there can len false = still
+      with_page e payload there can len true =
+          let kept = side.sends device first s now sound holds puts e payload there can len in
+          let p = payload_on Driver s.cid e.flow e.value.end payload in
+          let t : DriverState = with_end (with_payload_sent e.value.end (length payload)) e s in
+          recounted t (s.in_flight + 1) s.staged (PutPacket p ∷ now) _
+          (log_put (payload_bytes e payload s) p (holds_payload p.header payload kept.puts.0 refl refl)) kept
+
+      shorter : (n : ℕ) → min (min n 4052) (length bytes) ≤ n
+      shorter n = omega arith
+
+      short : (n : ℕ) → min (min n 4052) (length bytes) < 2 ^ 32
+      short n = omega arith
+
+      may_send : (e : DriverEntry) (credit n : ℕ) → may_send_of e.value.end ≡ Ok credit → n ≤ credit → CanSend e.value.end n
+      may_send e credit n may less = subst (λ (r : Result ℕ Stop). IsOkAnd r (λ free. n ≤ free)) (sym may) less
+
+      with_credit : (e : DriverEntry) (credit : ℕ) → Contains s.table.entries e → may_send_of e.value.end ≡ Ok credit → (a b : Bool)
+          → CallKept (cond a (Done (s, sent.Took 0)) (cond b (Done (with_end (wanting_credit e.value.end) e s, no_credit e.value.end))
+          (send_with_page e (payload_of credit bytes) s)))
+      with_credit e credit there may true b = still
+      with_credit e credit there may false true = side.wants_credit device first s now sound holds puts e there
+      with_credit e credit there may false false =
+          let len = length-take (min credit 4052) bytes in
+          with_page e (payload_of credit bytes) there
+          (may_send e credit (length (payload_of credit bytes)) may (omega (arith, len, shorter credit)))
+          (omega (arith, len, short credit)) (has_page s)
+
+      on : (e : DriverEntry) → Contains s.table.entries e → (r : Result ℕ Stop) → may_send_of e.value.end ≡ r
+          → CallKept (elim r as (λ _. DriverTree (DriverState × Sent)) [
+            | Err why ↦ Done (s, send_stopped why)
+            | Ok credit ↦ sends_with_credit e credit bytes s
+          ])
+      on e there (Err why) may = still
+      on e there (Ok credit) may = with_credit e credit there may (length bytes == 0) (credit == 0)
+
+      by : (o : Option DriverEntry) → entry_known_as id s ≡ o → CallKept (elim o as (λ _. DriverTree (DriverState × Sent)) [
+        | None ↦ Done (s, not_sent id s)
+        | Some e ↦ sends_on e bytes s
+      ])
+      by None is = still
+      by (Some e) is = on e (found_by (is_known_as id) s.table.entries e is).0 (may_send_of e.value.end) refl
+
+  -- What changes in no connection.
+  apart : (t : DriverState) → driver_ends s ≡ driver_ends t → DriverHolds t → Kept device s now t now
+  apart t same holds' = side.kept_still device s t now holds puts same holds'
+
+  pub makes_call_keeps : (call : GuestCall) → is_right call ≡ true → CallKept (makes_call call s)
+  makes_call_keeps (Connect port) right = connects_keeps port (grind (arith, nat_tests, right))
+  makes_call_keeps (Listen port) right = by (listen_of port s)
+    where
+      by : (r : Result (Unit {0}) ListenError) → Kept device s now (elim r as (λ _. DriverState) [ Ok x ↦ listening port s | Err why ↦ s ]) now
+      by (Ok x) = apart (listening port s) refl holds
+      by (Err why) = still
+  makes_call_keeps (Unlisten port) right = by (is_some (listener_on port s.listeners))
+    where
+      by : (b : Bool) → Kept device s now (elim b as (λ _. DriverState) [ true ↦ after_unlisten port s | false ↦ s ]) now
+      by true = resets.unlistens device first port s now sound holds puts
+      by false = still
+  makes_call_keeps (Accept port) right = by (next_accepted port s)
+    where
+      by : (o : Option ℕ) → Kept device s now (elim o as (λ _. DriverState) [
+        | None ↦ s
+        | Some id ↦ record s { listeners = with_waiting port (without_id id) s.listeners }
+      ]) now
+      by None = still
+      by (Some id) = apart (record s { listeners = with_waiting port (without_id id) s.listeners }) refl holds
+  makes_call_keeps (Send id bytes) right = sends_keeps id bytes
+  makes_call_keeps (Recv id n) right = side.recv device first s now sound holds puts id n
+  makes_call_keeps (Shutdown id bits) right = side.shutdown device first s now sound holds puts id bits
+  makes_call_keeps (Close id) right = side.close device first s now sound holds puts id
+  makes_call_keeps (LookAt id) right = still

@@ -19,9 +19,10 @@ use Rattle.std.proofs.lemmas.List.{append-nil}
 use Rattle.vs_device.specs.Calls.{DeviceTree, Call, Ring, Accept, Dial, Label, ReadStream, WriteStream, ShutWrite, CloseStream}
 use Rattle.vs_world.specs.Answers.{Around, answer_around}
 use Rattle.vs_world.specs.Events.{Event, GuestCalls, GuestTakes, GuestStages, GuestReplies, GuestPays, GuestPublishes, DeviceTakes, DeviceReturns, DevicePutsEvent, DeviceReplies, DeviceReads, DevicePays, DeviceWrites, DeviceShutsWrite, ProxyAccepts, ProxyReads, Moment, TimesOut, HandshakeTimesOut, Reset, HostListens, HostUnlistens, ClientConnects, HostWrites, HostTakes, HostEnds, HostCloses, HostFails, happens, run, where_possible, unless_failed, has_failed}
-use Rattle.vs_world.specs.Events.{is_at_rest, works_on, has_page, holds, driver_step, device_step, proxy_step, call_made, line_read, at_moment}
+use Rattle.vs_world.specs.Events.{is_guest_cid, reset_made, is_at_rest, works_on, has_page, holds, driver_step, device_step, proxy_step, call_made, line_read, at_moment}
 use Rattle.vs_world.specs.GuestSteps.{makes_call, takes_page, stages_page, stages_reply, stages_owed}
 use Rattle.vs_world.specs.DeviceSteps.{takes_chain, returns, puts_event, puts_reply, puts_owed, puts_payload, writes, shuts_write}
+use Rattle.vs_world.specs.Calls.{is_right}
 use Rattle.vs_world.specs.Laws.{AreQueued, IsQueued}
 use Rattle.vs_world.specs.World.{World, driver_plays, device_plays, opening}
 use Rattle.vs_world.proofs.Queues.{driver_keeps, device_keeps}
@@ -68,7 +69,7 @@ failed_keeps false step w is new old = rw is new
 
 pub happens_keeps : (e : Event) (w : World) → IsQueued w.rings → IsQueued (happens e w).rings
 happens_keeps (GuestCalls call) w q =
-    possible_keeps (is_at_rest w.rings.driver.staged) (λ v. (call_made call v).0) w (driver_plays_keeps (makes_call call w.driver) w q) q
+    possible_keeps (is_at_rest w.rings.driver.staged && is_right call) (λ v. (call_made call v).0) w (driver_plays_keeps (makes_call call w.driver) w q) q
 happens_keeps (GuestTakes queue) w q =
     possible_keeps (works_on queue w.rings.driver.staged) (driver_step (takes_page queue)) w (driver_plays_keeps (takes_page queue w.driver) w q) q
 happens_keeps (GuestStages queue) w q =
@@ -105,7 +106,7 @@ happens_keeps (TimesOut slot) w q =
     failed_keeps (has_failed w) (device_step (tick_slot slot)) w refl (device_plays_keeps (tick_slot slot w.proxy.device) w q) q
 happens_keeps (HandshakeTimesOut stream) w q =
     failed_keeps (has_failed w) (proxy_step (tick_handshake stream)) w refl (device_plays_keeps (tick_handshake stream (start w.proxy)) w q) q
-happens_keeps (Reset cid) w q = device_plays_keeps (proxy_reset_of cid w.proxy) w q
+happens_keeps (Reset cid) w q = possible_keeps (is_guest_cid cid) (reset_made cid) w (device_plays_keeps (proxy_reset_of cid w.proxy) w q) q
 happens_keeps (HostListens port) w q = q
 happens_keeps (HostUnlistens port) w q = q
 happens_keeps ClientConnects w q = q

@@ -1,5 +1,5 @@
 -- The guest's own calls, each with what it answers, and the journal of those that were made.
-use Rattle.std.specs.Prelude.{ℕ, ◌&&◌, Bool, true, false, if◌then◌else◌, List, [], ◌∷◌, ◌++◌, take, Option, Some, None, Result}
+use Rattle.std.specs.Prelude.{ℕ, ◌^◌, nat_lt, Bool, true, false, if◌then◌else◌, List, [], ◌∷◌, ◌++◌, take, Option, Some, None, Result}
 use Rattle.std.specs.Option.{option_map_or}
 use Rattle.vs_flow.specs.Flow.{same_flow}
 use Rattle.vs_flow.specs.declared.flow.Flow.{Flow}
@@ -24,6 +24,11 @@ pub data GuestCall : Type 0 where
   Shutdown : ℕ → ℕ → GuestCall
   Close : ℕ → GuestCall
   LookAt : ℕ → GuestCall
+
+-- A port has 32 bits.
+abbrev pub is_right : GuestCall → Bool
+is_right (Connect port) = nat_lt port (2 ^ 32)
+is_right _ = true
 
 -- What each answers. A receive gives the bytes that it read; an unlisten says whether the port was listened on.
 abbrev pub ReplyTo : GuestCall → Type 0

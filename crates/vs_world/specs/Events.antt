@@ -18,7 +18,7 @@ use Rattle.vs_device.specs.Streams.{tick_slot}
 use Rattle.vs_proxy.specs.Handshakes.{tick_handshake, accept_one, read_byte}
 use Rattle.vs_proxy.specs.State.{ProxyState, Turning, start, with_device}
 use Rattle.vs_proxy.specs.Turns.{proxy_reset_of}
-use Rattle.vs_world.specs.Calls.{GuestCall, ReplyTo}
+use Rattle.vs_world.specs.Calls.{GuestCall, ReplyTo, is_right}
 use Rattle.vs_world.specs.DeviceSteps.{takes_chain, returns, puts_event, puts_reply, puts_owed, puts_payload, writes, shuts_write}
 use Rattle.vs_world.specs.GuestSteps.{takes_page, stages_page, stages_reply, stages_owed, makes_call, flow_named}
 use Rattle.vs_world.specs.World.{World, driver_plays, device_plays}
@@ -113,6 +113,10 @@ reset_made cid w = let r = device_plays (proxy_reset_of cid w.proxy) w in record
 abbrev pub at_moment : ℕ → World → World
 at_moment now w = record w { proxy = with_device (record w.proxy.device { now = now }) w.proxy }
 
+-- The CIDs that a guest may have (Virtio 1.2, section 5.10.4).
+abbrev pub is_guest_cid : ℕ → Bool
+is_guest_cid cid = nat_le 3 cid && nat_le cid 4294967294
+
 -- What isn't possible leaves the world as it is.
 abbrev pub where_possible : Bool → (World → World) → World → World
 where_possible possible step w = if possible then step w else w
@@ -125,7 +129,7 @@ abbrev pub unless_failed : (World → World) → World → World
 unless_failed step w = if has_failed w then w else step w
 
 abbrev pub happens : Event → World → World
-happens (GuestCalls call) w = where_possible (is_at_rest w.rings.driver.staged) (λ v. (call_made call v).0) w
+happens (GuestCalls call) w = where_possible (is_at_rest w.rings.driver.staged && is_right call) (λ v. (call_made call v).0) w
 happens (GuestTakes queue) w = where_possible (works_on queue w.rings.driver.staged) (driver_step (takes_page queue)) w
 happens (GuestStages queue) w = where_possible (works_on queue w.rings.driver.staged && has_page queue w) (driver_step (stages_page queue)) w
 happens GuestReplies w = where_possible (works_on q.Tx w.rings.driver.staged) (driver_step stages_reply) w
@@ -144,7 +148,7 @@ happens (ProxyReads stream) w = unless_failed (proxy_step (line_read stream)) w
 happens (Moment now) w = where_possible (nat_le w.proxy.device.now now) (at_moment now) w
 happens (TimesOut slot) w = unless_failed (device_step (tick_slot slot)) w
 happens (HandshakeTimesOut stream) w = unless_failed (proxy_step (tick_handshake stream)) w
-happens (Reset cid) w = reset_made cid w
+happens (Reset cid) w = where_possible (is_guest_cid cid) (reset_made cid) w
 happens (HostListens port) w = host_step (after_listen port) w
 happens (HostUnlistens port) w = host_step (after_unlisten port) w
 happens ClientConnects w = host_step after_client w
