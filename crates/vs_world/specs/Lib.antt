@@ -7,3 +7,4 @@ pub mod Events
 pub mod Plays
 pub mod Laws
 pub mod Sides
+pub mod Pages

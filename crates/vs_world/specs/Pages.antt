@@ -1,0 +1,21 @@
+-- What the pages of the transmit queue hold.
+use Rattle.std.specs.Prelude.{◌≡◌, ◌≤◌, ◌+◌, ℕ, List, [], ◌∷◌, length, Some}
+use Rattle.vs_header.specs.declared.TheConstants.{HEADER_LEN}
+use Rattle.vs_history.specs.declared.packet.Packet.{Packet}
+use Rattle.vs_page.specs.Held.{packet_held}
+use Rattle.vs_ring_port.specs.EndLog.{EndLog}
+use Rattle.vs_ring_port.specs.Lists.{Rings}
+
+-- A page holds a packet, with as many bytes as its header tells.
+pub record PageHolds (page : List ℕ) : Type 0 where
+  pub packet : Packet
+  pub held : packet_held page ≡ Some packet
+  pub long : HEADER_LEN + packet.header.len ≤ length page
+
+abbrev pub AllHold : List (List ℕ) → Type 0
+AllHold [] = Unit {0}
+AllHold (page ∷ pages) = PageHolds page × AllHold pages
+
+-- Of those staged and of those given each does.
+abbrev pub TxHolds : Rings → EndLog → Type 0
+TxHolds lists log = AllHold lists.tx.given × AllHold log.staged.tx
