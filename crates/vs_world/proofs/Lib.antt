@@ -8,3 +8,4 @@ pub mod DriverSide
 pub mod DriverTakes
 pub mod DriverResets
 pub mod DriverEvents
+pub mod DeviceSide
