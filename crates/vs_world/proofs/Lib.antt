@@ -9,3 +9,4 @@ pub mod DriverTakes
 pub mod DriverResets
 pub mod DriverEvents
 pub mod DeviceSide
+pub mod DeviceTakes
