@@ -10,3 +10,5 @@ pub mod DriverResets
 pub mod DriverEvents
 pub mod DeviceSide
 pub mod DeviceTakes
+pub mod Chains
+pub mod DeviceEvents

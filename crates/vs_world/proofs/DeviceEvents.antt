@@ -1,0 +1,174 @@
+-- Each of the device's conversations is some of the steps of the two ends.
+use Rattle.std.proofs.Common.{◌≡◌, ◌≢◌, ℕ, suc, ◌+◌, ◌-◌, ◌^◌, ◌<◌, ◌≤◌, ◌==◌, ◌&&◌, ◌||◌, not, min, nat_le, nat_lt, Bool, true, false, cond, List, [], ◌∷◌, ◌++◌, length, take, drop, Contains, Option, Some, None, Result, Ok, Err, is_some, refl, sym, ap, subst, ◌∙◌, arith, append_assoc, length-append, IsOkAnd}
+use Rattle.std.specs.List.{find}
+use Rattle.std.proofs.lemmas.Bool.Decides.{nat_tests}
+use Rattle.std.proofs.lemmas.Grind.{common_steps}
+use Rattle.std.proofs.lemmas.List.{length-take, length-drop, append-nil}
+use Rattle.std.specs.Option.{option_map}
+use Rattle.vs_contents.specs.CallTree.{CallTree, Done, Ask, bind, played}
+use Rattle.vs_conn.specs.End.{ConnectionEnd, aborted, end_after, is_reset, is_stream, owes_of, paid_of, verdict_of, wanting_credit}
+use Rattle.vs_conn.specs.declared.end.Verdict.{Verdict}
+use Rattle.vs_conn.specs.declared.end.Verdict.TheVariants as verdict
+use Rattle.vs_conn.specs.declared.end.Why.{Why}
+use Rattle.vs_conn.specs.declared.end.Why.TheVariants as why
+use Rattle.vs_flow.specs.Flow.{is_assigned, same_flow}
+use Rattle.vs_flow.specs.Table.{entry_of, entry_under, has_place}
+use Rattle.vs_flow.specs.declared.flow.Flow.{Flow}
+use Rattle.vs_flow.proofs.Entries.{same_flow_true}
+use Rattle.vs_header.specs.Op.{op_number}
+use Rattle.vs_header.specs.Packet.{header_of}
+use Rattle.vs_header.specs.declared.Header.{Header}
+use Rattle.vs_header.specs.declared.Op.TheVariants.{Request}
+use Rattle.vs_history.specs.Packets.{is_request, is_rst}
+use Rattle.vs_history.specs.declared.packet.Packet.{Packet}
+use Rattle.vs_outside.specs.Host.{HostContents, after_dial, dial_answer}
+use Rattle.vs_outside.specs.declared.host_net.Dialed.{Dialed}
+use Rattle.vs_outside.specs.declared.host_net.Dialed.TheVariants as dialed
+use Rattle.vs_page.specs.Held.{FitsWire, held_in, listed, packet_held, packet_with, payload_held}
+use Rattle.vs_page.specs.Log.{Log, Driver, Device, IsNextPacket, flow_to_host, packets_put, packets_got}
+use Rattle.vs_page.specs.Open.{is_dropped}
+use Rattle.vs_page.specs.declared.log.LogEntry.TheVariants.{GotPacket, PutEvent, PutPacket}
+use Rattle.vs_replies.specs.Owed.{reply_to}
+use Rattle.vs_ring_port.specs.Chains.{Held, bytes_in}
+use Rattle.vs_ring_port.specs.Contents.{Read, Return, Take, Write}
+use Rattle.vs_ring_port.specs.EndLog.{EndLog, with_packet}
+use Rattle.vs_ring_port.specs.Lists.{Rings, all_but_oldest, chain_with, oldest, place_after}
+use Rattle.vs_ring_port.specs.declared.device_ring.Chain.{Chain}
+use Rattle.vs_ring_port.specs.declared.failure.Failure.TheVariants as failure
+use Rattle.vs_ring_port.specs.declared.queue.Queue.{Queue}
+use Rattle.vs_ring_port.specs.declared.queue.Queue.TheVariants.{Rx, Tx, Event}
+use Rattle.vs_matching.specs.Both.{Aborts, Both, IsSound, Seat}
+use Rattle.vs_matching.proofs.Slots.{found_by}
+use Rattle.vs_uds.specs.OkLine.{ok_text}
+use Rattle.vs_uds.specs.Path.{path_of}
+use Rattle.vs_device.specs.Calls.{CloseStream, DeviceTree, Dial, Ring}
+use Rattle.vs_device.specs.Connections.{with_connection, with_fault, with_reply}
+use Rattle.vs_device.specs.State.{DeviceConnection, DeviceEntry, DeviceState}
+use Rattle.vs_device.specs.Streams.{closing, leaving}
+use Rattle.vs_device.specs.Connections.{after_leaving, stream_closed}
+use Rattle.vs_flow.specs.Table.{with_value, without}
+use Rattle.vs_conn.specs.End.{after_op}
+use Rattle.vs_header.specs.Op.{op_named}
+use Rattle.vs_matching.specs.Ends.{is_new}
+use Rattle.vs_device.specs.Transmitting.{dial_answered, failing, heard, on_known, on_packet, on_unknown, refused, try_request, unknown_why}
+use Rattle.vs_device.specs.declared.limits.TheConstants.{REPLIES}
+use Rattle.vs_world.specs.Answers.{Around, answer_around, with_host}
+use Rattle.vs_world.specs.DeviceSteps.{chain_came, header_came, takes_chain}
+use Rattle.vs_world.specs.Pages.{AllHold, PageHolds}
+use Rattle.vs_world.proofs.Chains.{HoldsRx, held_more, is_held, same_self}
+use Rattle.vs_world.proofs.DeviceSide as side
+use Rattle.vs_world.proofs.DeviceSide.{DeviceHolds, IsFresh, Kept, end_in, entry_fits, entry_fresh, seated}
+use Rattle.vs_world.proofs.DeviceTakes as takes
+use Rattle.vs_world.proofs.DeviceTakes.{heard_fresh}
+use Rattle.vs_world.proofs.Fits.{CreditFits, delivered, fits_after}
+use Rattle.vs_world.proofs.Wire.{PutsFit, next_fits}
+use Rattle.vs_driver.proofs.Delivers.{delivers}
+
+-- The header of the packet that a page holds.
+some_test : {A : Type 0} (b : Bool) (o : Option A) (x : A) → cond b o None ≡ Some x → o ≡ Some x
+some_test true o x is = is
+some_test false o x is = absurd cc
+
+header_by : (h : Header) (p : Packet) (o : Option (List ℕ)) → option_map (λ payload. record { header = h; payload = payload }) o ≡ Some p → p.header ≡ h
+header_by h p None is = absurd cc
+header_by h p (Some payload) is = let same : ◌≡◌ {A = Packet} record { header = h; payload = payload } p = cc in sym (ap (λ (q : Packet). q.header) same)
+
+pub header_is : (page : List ℕ) (p : Packet) → packet_held page ≡ Some p → p.header ≡ header_of (take 44 page)
+header_is page p held =
+    header_by (header_of (take 44 page)) p (payload_held (header_of (take 44 page)) (drop 44 page))
+    (some_test (nat_le 44 (length page)) (packet_with (header_of (take 44 page)) (drop 44 page)) p held)
+
+-- A packet ends a connection where it is an RST of a stream.
+abbrev peer_resets : Verdict → Header → Bool
+peer_resets verdict.Peer h = is_reset h
+peer_resets _ h = false
+
+rst_leaves : (e : ConnectionEnd) (h : Header) → peer_resets (verdict_of e h) h ≡ (is_reset h && is_stream h)
+rst_leaves e h = grind (arith, common_steps)
+
+pub fits_less : (c : DeviceConnection) (u v : ℕ) → CreditFits c.end.credit u → v ≤ u → CreditFits c.end.credit v
+fits_less c u v fits less = record { alloc = fits.alloc; fwd = fits.fwd; rx = fits.rx; unread = omega (arith, fits.unread, less) }
+
+module _ (driver : Seat) (first port : ℕ) (s : DeviceState) (log : Log) (sound : IsSound first (seated driver port s log))
+    (holds : DeviceHolds port s) (puts : PutsFit log) where
+  -- What a conversation of the device leaves.
+  pub record Over (s' : DeviceState) (lists' : Rings) (log' : EndLog) : Type 0 where
+    pub kept : Kept driver port s log port s' log'.entries
+    pub chain : HoldsRx s'.chain log'.held
+    pub known : lists'.cid < 2 ^ 64
+
+  abbrev pub KeptBy : DeviceTree DeviceState → Around → Type 0
+  KeptBy tree a = let r = played answer_around tree a in Over r.0 r.1.lists r.1.log
+
+  -- A transmit packet came, and stands in the log.
+  module _ (p : Packet) (next : IsNextPacket log driver.log p) (fits : FitsWire p.header) (chain : Chain) (a : Around)
+      (entries : a.log.entries ≡ GotPacket p ∷ log) (rx : HoldsRx s.chain a.log.held) (known : a.lists.cid < 2 ^ 64) where
+    abbrev h : Header
+    h = p.header
+
+    -- The state after it, over whatever host.
+    over : (t : DeviceState) → t.chain ≡ s.chain → Kept driver port s log port t (GotPacket p ∷ log) → Over t a.lists a.log
+    over t same kept = record {
+      kept = subst (λ (l : Log). Kept driver port s log port t l) (sym entries) kept;
+      chain = subst (λ (c : Option Chain). HoldsRx c a.log.held) (sym same) rx;
+      known = known;
+    }
+
+    module _ (kept : is_dropped Device s.cid p.header ≡ false) where
+      module _ (e : DeviceEntry) (there : Contains s.table.entries e) (flow : flow_to_host p.header ≡ e.flow) where
+        fresh : (c : DeviceConnection) → c.end ≡ end_after e.value.end h → c.ok_line ≡ e.value.ok_line → c.asked_at ≡ e.value.asked_at
+            → c.shut_at ≡ e.value.shut_at → IsFresh c
+        fresh c is ok asked shut = heard_fresh e.value c h is ok asked shut (entry_fresh driver first port s log sound holds puts e there)
+
+        after : (v : Verdict) → verdict_of e.value.end h ≡ v
+            → CreditFits (end_after e.value.end h).credit (length e.value.pending + delivered v h.len)
+        after v is = subst (λ (w : Verdict). CreditFits (end_after e.value.end h).credit (length e.value.pending + delivered w h.len)) is
+            (fits_after e.value.end h (length e.value.pending) (entry_fits driver first port s log sound holds puts e there).credit)
+
+        none_new : CreditFits (end_after e.value.end h).credit (length e.value.pending)
+        none_new = let fits = after (verdict_of e.value.end h) refl in
+            record { alloc = fits.alloc; fwd = fits.fwd; rx = fits.rx; unread = omega (arith, fits.unread) }
+
+        goes_on : (v : Verdict) → verdict_of e.value.end h ≡ v → peer_resets v h ≡ false → (is_reset h && is_stream h) ≡ false
+        goes_on v is other = sym (rst_leaves e.value.end h) ∙ ap (λ (w : Verdict). peer_resets w h) is ∙ other
+
+        hears : (v : Verdict) → verdict_of e.value.end h ≡ v → peer_resets v h ≡ false → Kept driver port s log port (with_connection e.slot (heard h e.value) s) (GotPacket p ∷ log)
+        hears v is other = takes.stays_with driver first port s log sound holds puts p next fits kept e there flow (heard h e.value) refl none_new
+            (fresh (heard h e.value) refl refl refl refl) (goes_on v is other)
+
+        accept_old : verdict_of e.value.end h ≡ verdict.Accept → is_new (end_after e.value.end h) ≡ false
+        accept_old is = ap (λ (v : Verdict). is_new (after_op (op_named h.op) e.value.end h v)) is
+
+        accepts : (line : List ℕ) → verdict_of e.value.end h ≡ verdict.Accept
+            → Kept driver port s log port (with_connection e.slot (record (heard h e.value) { ok_line = line }) s) (GotPacket p ∷ log)
+        accepts line is =
+            let c : DeviceConnection = record (heard h e.value) { ok_line = line } in
+            takes.stays_with driver first port s log sound holds puts p next fits kept e there flow c refl none_new
+            (side.not_fresh c (accept_old is)) (goes_on verdict.Accept is refl)
+
+        delivers_some : (payload : List ℕ) → length payload ≤ h.len → verdict_of e.value.end h ≡ verdict.Deliver
+            → Kept driver port s log port (with_connection e.slot (record (heard h e.value) { pending = e.value.pending ++ payload }) s) (GotPacket p ∷ log)
+        delivers_some payload short is =
+            let c : DeviceConnection = record (heard h e.value) { pending = e.value.pending ++ payload } in
+            let fits' = after verdict.Deliver is in
+            takes.stays_with driver first port s log sound holds puts p next fits kept e there flow c refl
+            (record { alloc = fits'.alloc; fwd = fits'.fwd; rx = fits'.rx; unread = omega (arith, fits'.unread, short, length-append e.value.pending payload) })
+            (fresh c refl refl refl refl) (goes_on verdict.Deliver is refl)
+
+        peers : (b : Bool) → is_reset h ≡ b → verdict_of e.value.end h ≡ verdict.Peer
+            → KeptBy (bind (cond b (leaving (record e { value = heard h e.value }) s) (Done (with_connection e.slot (heard h e.value) s))) (λ t. Done t)) a
+        peers false reset is = over _ refl (hears verdict.Peer is reset)
+        peers true reset is = closed_by e.value.closed
+          where
+            leaves : Kept driver port s log port (record s { table = without (with_value s.table e.slot (stream_closed (heard h e.value))) e.slot }) (GotPacket p ∷ log)
+            leaves = takes.leaves_with driver first port s log sound holds puts p next fits kept e there flow (stream_closed (heard h e.value))
+                (sym (rst_leaves e.value.end h) ∙ ap (λ (w : Verdict). peer_resets w h) is ∙ reset)
+
+            gone : Kept driver port s log port (after_leaving e.slot (with_connection e.slot (stream_closed (heard h e.value)) s)) (GotPacket p ∷ log)
+            gone = record { runs = leaves.runs; holds = leaves.holds; puts = leaves.puts }
+
+            closed_by : (b : Bool) → KeptBy (bind (bind (cond b (Done (with_connection e.slot (stream_closed (heard h e.value)) s))
+                (Ask (CloseStream e.value.stream) (λ _. Done (with_connection e.slot (stream_closed (heard h e.value)) s))))
+                (λ t. Done (after_leaving e.slot t))) (λ t. Done t)) a
+            closed_by true = over _ refl gone
+            closed_by false = over _ refl gone
