@@ -51,6 +51,7 @@ use Rattle.vs_conn.specs.End.{after_op}
 use Rattle.vs_header.specs.Op.{op_named}
 use Rattle.vs_matching.specs.Ends.{is_new}
 use Rattle.vs_device.specs.Transmitting.{dial_answered, failing, heard, on_known, on_packet, on_unknown, refused, try_request, unknown_why}
+use Rattle.vs_wrap.specs.Wrap.{counted}
 use Rattle.vs_device.specs.declared.limits.TheConstants.{REPLIES}
 use Rattle.vs_world.specs.Answers.{Around, answer_around, with_host}
 use Rattle.vs_world.specs.DeviceSteps.{chain_came, header_came, takes_chain}
@@ -88,6 +89,9 @@ rst_leaves e h = grind (arith, common_steps)
 
 pub fits_less : (c : DeviceConnection) (u v : ℕ) → CreditFits c.end.credit u → v ≤ u → CreditFits c.end.credit v
 fits_less c u v fits less = record { alloc = fits.alloc; fwd = fits.fwd; rx = fits.rx; unread = omega (arith, fits.unread, less) }
+
+abbrev with_verdict : Verdict → DeviceTree DeviceState → DeviceTree DeviceState
+with_verdict v tree = bind {A = DeviceState × Verdict} (bind tree (λ t. Done (t, v))) (λ r. Done r.0)
 
 module _ (driver : Seat) (first port : ℕ) (s : DeviceState) (log : Log) (sound : IsSound first (seated driver port s log))
     (holds : DeviceHolds port s) (puts : PutsFit log) where
@@ -156,7 +160,7 @@ module _ (driver : Seat) (first port : ℕ) (s : DeviceState) (log : Log) (sound
             (fresh c refl refl refl refl) (goes_on verdict.Deliver is refl)
 
         peers : (b : Bool) → is_reset h ≡ b → verdict_of e.value.end h ≡ verdict.Peer
-            → KeptBy (bind (cond b (leaving (record e { value = heard h e.value }) s) (Done (with_connection e.slot (heard h e.value) s))) (λ t. Done t)) a
+            → KeptBy (with_verdict verdict.Peer (cond b (leaving (record e { value = heard h e.value }) s) (Done (with_connection e.slot (heard h e.value) s)))) a
         peers false reset is = over _ refl (hears verdict.Peer is reset)
         peers true reset is = closed_by e.value.closed
           where
@@ -167,8 +171,94 @@ module _ (driver : Seat) (first port : ℕ) (s : DeviceState) (log : Log) (sound
             gone : Kept driver port s log port (after_leaving e.slot (with_connection e.slot (stream_closed (heard h e.value)) s)) (GotPacket p ∷ log)
             gone = record { runs = leaves.runs; holds = leaves.holds; puts = leaves.puts }
 
-            closed_by : (b : Bool) → KeptBy (bind (bind (cond b (Done (with_connection e.slot (stream_closed (heard h e.value)) s))
+            closed_by : (b : Bool) → KeptBy (with_verdict verdict.Peer (bind (cond b (Done (with_connection e.slot (stream_closed (heard h e.value)) s))
                 (Ask (CloseStream e.value.stream) (λ _. Done (with_connection e.slot (stream_closed (heard h e.value)) s))))
-                (λ t. Done (after_leaving e.slot t))) (λ t. Done t)) a
+                (λ t. Done (after_leaving e.slot t)))) a
             closed_by true = over _ refl gone
             closed_by false = over _ refl gone
+
+        refuses : (w : Why) → verdict_of e.value.end h ≡ verdict.Rst w → KeptBy (with_verdict (verdict.Rst w) (on_known (verdict.Rst w) chain h e s)) a
+        refuses (why.Overrun o) is =
+            let k = hears (verdict.Rst (why.Overrun o)) is refl in
+            over (with_connection e.slot (heard h e.value) (record s { overrun = counted s.overrun })) refl
+            (record { runs = k.runs; holds = k.holds; puts = k.puts })
+        refuses why.BadKind is = over _ refl (hears (verdict.Rst why.BadKind) is refl)
+        refuses why.BadOp is = over _ refl (hears (verdict.Rst why.BadOp) is refl)
+        refuses why.Twice is = over _ refl (hears (verdict.Rst why.Twice) is refl)
+        refuses why.NotAsked is = over _ refl (hears (verdict.Rst why.NotAsked) is refl)
+        refuses why.NotLive is = over _ refl (hears (verdict.Rst why.NotLive) is refl)
+        refuses why.AfterShutdown is = over _ refl (hears (verdict.Rst why.AfterShutdown) is refl)
+
+        by_verdict : (v : Verdict) → verdict_of e.value.end h ≡ v → KeptBy (with_verdict v (on_known v chain h e s)) a
+        by_verdict verdict.Accept is = over _ refl (accepts _ is)
+        by_verdict verdict.Deliver is =
+            over _ refl (delivers_some (take h.len (drop 44 (bytes_in chain a.log.held))) (omega (arith, length-take h.len (drop 44 (bytes_in chain a.log.held)))) is)
+        by_verdict verdict.Discard is = over _ refl (hears verdict.Discard is refl)
+        by_verdict verdict.Ignore is = over _ refl (hears verdict.Ignore is refl)
+        by_verdict verdict.Peer is = peers (is_reset h) refl is
+        by_verdict (verdict.Rst w) is = refuses w is
+
+      -- A packet of another flow.
+      module _ (none : entry_of s.table (flow_to_host p.header) ≡ None) where
+        replies_to : (t : DeviceState) → t.chain ≡ s.chain → is_rst p ≡ false
+            → Kept driver port s log port (with_reply (reply_to h) s) (GotPacket p ∷ log)
+        replies_to t same other = takes.replies_to driver first port s log sound holds puts p next fits kept none other
+
+        dial_by : (d : Dialed) (host : HostContents) → is_request p ≡ true → has_place s.table ≡ true → is_rst p ≡ false
+            → Over (dial_answered h d s).0 a.lists a.log
+        dial_by (dialed.Stream stream) host request place other =
+            over _ refl (takes.opens driver first port s log sound holds puts p next fits kept none stream request place)
+        dial_by dialed.Refused host request place other = over _ refl (replies_to s refl other)
+        dial_by dialed.Failed host request place other =
+            let k = replies_to s refl other in
+            over (with_reply (reply_to h) (with_fault s)) refl (record { runs = k.runs; holds = k.holds; puts = k.puts })
+
+        tried : (b c : Bool) → has_place s.table ≡ c → is_request p ≡ true → is_rst p ≡ false
+            → KeptBy (bind (cond b (Done (refused h s)) (cond c (Ask (Dial (path_of s.base h.dst_port) (flow_to_host h)) (λ answer. Done (dial_answered h answer s)))
+            (Done (refused h s)))) (λ r. Done r.0)) a
+        tried true c place request other = over _ refl (replies_to s refl other)
+        tried false true place request other = dial_by (dial_answer (path_of s.base h.dst_port) a.host) a.host request place other
+        tried false false place request other = over _ refl (replies_to s refl other)
+
+        asked_by : (is_stream h && (h.op == 1)) ≡ true → is_request p ≡ true
+        asked_by is = grind (arith, nat_tests, common_steps, is)
+
+        requested : (b : Bool) → (is_stream h && (h.op == 1)) ≡ b → is_rst p ≡ false
+            → KeptBy (bind (cond b (try_request h s) (Done (with_reply (reply_to h) s, verdict.Rst (unknown_why h)))) (λ r. Done r.0)) a
+        requested true is other = tried (is_assigned h.dst_port) (has_place s.table) refl (asked_by is) other
+        requested false is other = over _ refl (replies_to s refl other)
+
+        unknown : (b : Bool) → is_reset h ≡ b
+            → KeptBy (bind (cond b (Done (s, verdict.Ignore)) (cond (is_stream h && (h.op == 1)) (try_request h s)
+            (Done (with_reply (reply_to h) s, verdict.Rst (unknown_why h))))) (λ r. Done r.0)) a
+        unknown true is = over _ refl (takes.ignores driver first port s log sound holds puts p next fits kept none is)
+        unknown false is = requested (is_stream h && (h.op == 1)) refl is
+
+      -- By the entry of its flow.
+      by_entry : (o : Option DeviceEntry) → entry_of s.table (flow_to_host h) ≡ o → KeptBy (bind
+          (elim o as (λ _. DeviceTree (DeviceState × Verdict)) [
+            | None ↦ on_unknown h s
+            | Some e ↦ bind (on_known (verdict_of e.value.end h) chain h e s) (λ t. Done (t, verdict_of e.value.end h))
+          ]) (λ r. Done r.0)) a
+      by_entry None is = unknown is (is_reset h) refl
+      by_entry (Some e) is =
+          let found = found_by (λ (x : DeviceEntry). same_flow (flow_to_host h) x.flow) s.table.entries e is in
+          by_verdict e found.0 (same_flow_true (flow_to_host h) e.flow found.1) (verdict_of e.value.end h) refl
+
+    packet_came : (b : Bool) → is_dropped Device s.cid h ≡ b → KeptBy (bind (cond b (Done (record s { dropped = counted s.dropped }, verdict.Ignore))
+        (elim (entry_of s.table (flow_to_host h)) as (λ _. DeviceTree (DeviceState × Verdict)) [
+          | None ↦ on_unknown h s
+          | Some e ↦ bind (on_known (verdict_of e.value.end h) chain h e s) (λ t. Done (t, verdict_of e.value.end h))
+        ])) (λ r. Done r.0)) a
+    packet_came true is =
+        let k = takes.drops driver first port s log sound holds puts p next fits is in
+        over (record s { dropped = counted s.dropped }) refl (record { runs = k.runs; holds = k.holds; puts = k.puts })
+    packet_came false is = by_entry is (entry_of s.table (flow_to_host h)) refl
+
+    pub header_came_keeps : nat_lt (chain.readable - 44) h.len ≡ false → KeptBy (header_came chain h s) a
+    header_came_keeps enough = by (nat_lt (chain.readable - 44) h.len) enough
+      where
+        by : (b : Bool) → b ≡ false → KeptBy (cond b (Done (failing (failure.PayloadShort h.len (chain.readable - 44)) s))
+            (bind (on_packet chain h s) (λ r. Done r.0))) a
+        by true is = absurd cc
+        by false is = packet_came (is_dropped Device s.cid h) refl
