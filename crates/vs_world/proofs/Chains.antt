@@ -4,15 +4,11 @@ use Rattle.std.proofs.lemmas.Bool.Decides.{nat_tests}
 use Rattle.std.proofs.lemmas.Grind.{common_steps}
 use Rattle.std.proofs.lemmas.List.{take_at, append-nil}
 use Rattle.vs_page.specs.Overwriting.{overwritten}
+use Rattle.vs_world.specs.Pages.{is_held}
 use Rattle.vs_ring_port.specs.Chains.{Held, bytes_in, same_chain, same_queue, with_bytes, without_held}
 use Rattle.vs_ring_port.specs.declared.device_ring.Chain.{Chain}
 use Rattle.vs_ring_port.specs.declared.queue.Queue.{Queue}
 use Rattle.vs_ring_port.specs.declared.queue.Queue.TheVariants.{Rx, Tx, Event}
-
--- A chain is held.
-abbrev pub is_held : Chain → List Held → Bool
-is_held chain [] = false
-is_held chain (h ∷ held) = cond (same_chain chain h.chain) true (is_held chain held)
 
 -- The receive chain that the device holds is one that it took.
 abbrev pub HoldsRx : Option Chain → List Held → Type 0

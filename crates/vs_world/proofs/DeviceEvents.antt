@@ -56,7 +56,7 @@ use Rattle.vs_device.specs.declared.limits.TheConstants.{REPLIES}
 use Rattle.vs_world.specs.Answers.{Around, answer_around, with_host}
 use Rattle.vs_world.specs.DeviceSteps.{chain_came, header_came, takes_chain}
 use Rattle.vs_world.specs.Pages.{AllHold, PageHolds}
-use Rattle.vs_world.proofs.Chains.{HoldsRx, held_more, is_held, same_self}
+use Rattle.vs_world.proofs.Chains.{HoldsRx}
 use Rattle.vs_world.proofs.DeviceSide as side
 use Rattle.vs_world.proofs.DeviceSide.{DeviceHolds, IsFresh, Kept, end_in, entry_fits, entry_fresh, seated}
 use Rattle.vs_world.proofs.DeviceTakes as takes

@@ -12,3 +12,4 @@ pub mod DeviceSide
 pub mod DeviceTakes
 pub mod Chains
 pub mod DeviceEvents
+pub mod DeviceTurns

@@ -1,10 +1,9 @@
 -- What may happen in the world, one page move or one call at a time, and what each leads to.
 use Rattle.std.specs.Prelude.{ℕ, ◌-◌, ◌&&◌, nat_lt, nat_le, Bool, true, false, if◌then◌else◌, List, [], ◌∷◌, length, is_some, Option, Some, None}
-use Rattle.std.specs.List.{list_any}
 use Rattle.vs_contents.specs.CallTree.{Done, bind}
 use Rattle.vs_outside.specs.Host.{HostContents, with_stream}
 use Rattle.vs_outside.specs.HostProgram.{after_listen, after_unlisten, after_client, after_host_write, host_write_answer, allowed, ended, closed, after_fail}
-use Rattle.vs_ring_port.specs.Chains.{same_chain, same_queue}
+use Rattle.vs_ring_port.specs.Chains.{same_queue}
 use Rattle.vs_ring_port.specs.EndLog.{Pages}
 use Rattle.vs_ring_port.specs.declared.device_ring.Chain.{Chain}
 use Rattle.vs_ring_port.specs.declared.queue.Queue.{Queue}
@@ -21,6 +20,7 @@ use Rattle.vs_proxy.specs.Turns.{proxy_reset_of}
 use Rattle.vs_world.specs.Calls.{GuestCall, ReplyTo, is_right}
 use Rattle.vs_world.specs.DeviceSteps.{takes_chain, returns, puts_event, puts_reply, puts_owed, puts_payload, writes, shuts_write}
 use Rattle.vs_world.specs.GuestSteps.{takes_page, stages_page, stages_reply, stages_owed, makes_call, flow_named}
+use Rattle.vs_world.specs.Pages.{is_held}
 use Rattle.vs_world.specs.World.{World, driver_plays, device_plays}
 
 -- A connection is named by its slot, a stream by its id.
@@ -83,7 +83,7 @@ has_page queue w = nat_lt (in_flight queue w.rings) w.rings.lists.size
 
 -- The device holds a chain of a queue.
 abbrev pub holds : Queue → Chain → World → Bool
-holds queue chain w = same_queue queue chain.queue && list_any (λ h. same_chain chain h.chain) w.rings.device.held
+holds queue chain w = same_queue queue chain.queue && is_held chain w.rings.device.held
 
 -- A step of the driver, of the device, of the proxy, of the host's programs.
 abbrev pub driver_step : (DriverState → DriverTree DriverState) → World → World
