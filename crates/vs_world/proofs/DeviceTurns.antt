@@ -61,7 +61,7 @@ queue_is Tx Event is = absurd cc
 queue_is Event Rx is = absurd cc
 queue_is Event Tx is = absurd cc
 
-same_cid : (q : Queue) (page : List ℕ) (lists : Rings) → (after_return q page lists).cid ≡ lists.cid
+pub same_cid : (q : Queue) (page : List ℕ) (lists : Rings) → (after_return q page lists).cid ≡ lists.cid
 same_cid Rx page lists = refl
 same_cid Tx page lists = refl
 same_cid Event page lists = refl
@@ -86,11 +86,11 @@ module _ (driver : Seat) (first port : ℕ) (s : DeviceState) (a : Around) (soun
   abbrev pub KeptNow : DeviceTree DeviceState → Type 0
   KeptNow tree = KeptBy driver first port s a.log.entries sound holds puts tree a
 
-  still : Left s a.lists a.log
+  pub still : Left s a.lists a.log
   still = record { kept = side.same driver first port s a.log.entries sound holds puts; chain = rx; known = known }
 
   -- What no log shows.
-  quiet : (t : DeviceState) → t.chain ≡ s.chain → Kept driver port s a.log.entries port t a.log.entries → Left t a.lists a.log
+  pub quiet : (t : DeviceState) → t.chain ≡ s.chain → Kept driver port s a.log.entries port t a.log.entries → Left t a.lists a.log
   quiet t same kept = record { kept = kept; chain = subst (λ (c : Option Chain). HoldsRx c a.log.held) (sym same) rx; known = known }
 
   -- It takes a page.

@@ -13,3 +13,4 @@ pub mod DeviceTakes
 pub mod Chains
 pub mod DeviceEvents
 pub mod DeviceTurns
+pub mod DevicePuts
