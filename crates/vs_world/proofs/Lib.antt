@@ -14,3 +14,4 @@ pub mod Chains
 pub mod DeviceEvents
 pub mod DeviceTurns
 pub mod DevicePuts
+pub mod DeviceStreams
