@@ -17,7 +17,7 @@ use Rattle.vs_flow.specs.Table.{entry_under}
 use Rattle.vs_header.specs.Packet.{header_bytes}
 use Rattle.vs_header.specs.declared.Header.{Header}
 use Rattle.vs_history.specs.declared.packet.Packet.{Packet}
-use Rattle.vs_outside.specs.Host.{HostContents, Stream, fails_now, next_bytes, read_answer, read_of, stream_at, taken_of, write_answer, write_of}
+use Rattle.vs_outside.specs.Host.{HostContents, Stream, after_write, fails_now, next_bytes, read_answer, read_of, stream_at, taken_of, write_answer, write_of}
 use Rattle.vs_outside.specs.declared.host_net.StreamRead.{StreamRead}
 use Rattle.vs_outside.specs.declared.host_net.StreamRead.TheVariants as read
 use Rattle.vs_outside.specs.declared.host_net.StreamWrite.{StreamWrite}
@@ -142,3 +142,159 @@ module _ (driver : Seat) (first port : ℕ) (s : DeviceState) (a : Around) (soun
             → Kept driver port s a.log.entries port (with_connection e.slot (cut_off e.value) s) a.log.entries
             → Kept driver port s a.log.entries port (with_connection e.slot (cut_off e.value) t) a.log.entries
         recast t table replies cid k = rw (table, replies, cid) (record { runs = k.runs; holds = k.holds; puts = k.puts })
+
+  -- A timeout.
+  pub tick_keeps : (slot : ℕ) → KeptNow (tick_slot slot s)
+  tick_keeps slot = by (entry_under s.table slot) refl
+    where
+      late_old : (e : DeviceEntry) → IsFresh e.value → is_timed_out s.now e.value ≡ true → (b : Bool) → is_new e.value.end ≡ b → is_new e.value.end ≡ false
+      late_old e fresh late true new =
+          let asked = fresh.asked_at new in
+          let shut = fresh.shut_at new in
+          let never : (is_asked e.value.end.state && is_late s.now None || is_late s.now None) ≡ true =
+          ap (λ (o : Option ℕ). is_asked e.value.end.state && is_late s.now o || is_late s.now None) (sym asked)
+              ∙ ap (λ (o : Option ℕ). is_asked e.value.end.state && is_late s.now e.value.asked_at || is_late s.now o) (sym shut) ∙ late in
+          absurd (no_time (is_asked e.value.end.state) never)
+        where
+          no_time : (b : Bool) → (b && false || false) ≡ true → ⊥
+          no_time true is = cc
+          no_time false is = cc
+      late_old e fresh late false old = old
+
+      timed : (e : DeviceEntry) → Contains s.table.entries e → (b : Bool) → is_timed_out s.now e.value ≡ b
+          → KeptNow (cond b (cond e.value.closed (Done (with_connection e.slot (cut_off e.value) s))
+          (Ask (CloseStream e.value.stream) (λ _. Done (with_connection e.slot (cut_off e.value) s)))) (Done s))
+      timed e there false late = unmoved
+      timed e there true late = closed_by e.value.closed
+        where
+          old : is_new e.value.end ≡ false
+          old = late_old e (entry_fresh driver first port s a.log.entries sound holds puts e there) late (is_new e.value.end) refl
+
+          closed_by : (b : Bool) → KeptNow (cond b (Done (with_connection e.slot (cut_off e.value) s))
+              (Ask (CloseStream e.value.stream) (λ _. Done (with_connection e.slot (cut_off e.value) s))))
+          closed_by true = cut_over e there old s refl (refl, refl, refl)
+          closed_by false = cut_over e there old s refl (refl, refl, refl)
+
+      by : (o : Option DeviceEntry) → entry_under s.table slot ≡ o → KeptNow (elim o as (λ _. DeviceTree DeviceState) [
+        | None ↦ Done s
+        | Some e ↦ cond (is_timed_out s.now e.value) (closing e cut_off s) (Done s)
+      ])
+      by None is = unmoved
+      by (Some e) is = timed e (found_by (λ (x : DeviceEntry). x.slot == slot) s.table.entries e is).0 (is_timed_out s.now e.value) refl
+
+  -- A write to a stream.
+  pub writes_keeps : (slot : ℕ) → KeptNow (writes slot s)
+  writes_keeps slot = by (entry_under s.table slot) refl
+    where
+      -- A connection with something to write is not new.
+      some_old : (e : DeviceEntry) → Contains s.table.entries e → (length (to_write e.value) == 0) ≡ false → (b : Bool) → is_new e.value.end ≡ b
+          → is_new e.value.end ≡ false
+      some_old e there some false old = old
+      some_old e there some true new =
+          let none = (entry_fresh driver first port s a.log.entries sound holds puts e there).ok_line new in
+          let few = new_unread driver first port s a.log.entries sound holds puts e there new in
+          let len = length-take 4096 (e.value.ok_line ++ e.value.pending) in
+          let both = length-append e.value.ok_line e.value.pending in
+          let zero : length e.value.ok_line ≡ 0 = ap length none in
+          let nothing : length (to_write e.value) ≡ 0 = omega (arith, few, len, both, zero) in
+          absurd (grind (arith, nat_tests, some, nothing))
+
+      took : (e : DeviceEntry) → Contains s.table.entries e → is_new e.value.end ≡ false → (n : ℕ) → n ≤ length (to_write e.value)
+          → Kept driver port s a.log.entries port (with_connection e.slot (after_written n e.value) s) a.log.entries
+      took e there old n less =
+          let payload = n - length e.value.ok_line in
+          let len = length-take 4096 (e.value.ok_line ++ e.value.pending) in
+          let both = length-append e.value.ok_line e.value.pending in
+          let few : payload ≤ length e.value.pending = omega (arith, less, len, both) in
+          let fit = fits e there in
+          let left : length e.value.pending - payload ≡ length (drop payload e.value.pending) = omega (arith, length-drop payload e.value.pending) in
+          side.decides driver first port s a.log.entries sound holds puts e (after_written n e.value) (Forwards payload) there old refl
+          (omega (arith, few, fit.unread))
+          (subst (λ (u : ℕ). CreditFits (after_written n e.value).end.credit u) left (fits_forwarded e.value.end.credit payload (length e.value.pending) fit few))
+          (not_fresh (after_written n e.value) (forward_old e.value.end payload old))
+
+      answered : (e : DeviceEntry) → Contains s.table.entries e → is_new e.value.end ≡ false → (x : StreamWrite)
+          → write_answer e.value.stream (length (to_write e.value)) a.host ≡ x → KeptNow (bind (write_answered e x (writing s)) (λ w. Done w.state))
+      answered e there old (write.Took n) is = silent (with_connection e.slot (after_written n e.value) s) refl
+          (took e there old n (write_short (length (to_write e.value)) n (fails_now a.host) (stream_at e.value.stream a.host) is))
+      answered e there old write.Again is = unmoved
+      answered e there old write.Closed is = silent (with_connection e.slot (after_shut 1 s.now e.value) s) refl (shuts e there 1 s.now old)
+      answered e there old write.Failed is = closed_by e.value.closed
+        where
+          closed_by : (b : Bool) → KeptNow (bind (bind (cond b (Done (with_connection e.slot (cut_off e.value) (with_fault s)))
+              (Ask (CloseStream e.value.stream) (λ _. Done (with_connection e.slot (cut_off e.value) (with_fault s)))))
+              (λ t. Done (writing t))) (λ w. Done w.state))
+          closed_by true = cut_over e there old (with_fault s) refl (refl, refl, refl)
+          closed_by false = cut_over e there old (with_fault s) refl (refl, refl, refl)
+
+      some : (e : DeviceEntry) → Contains s.table.entries e → (b : Bool) → (length (to_write e.value) == 0) ≡ b → KeptNow (bind (cond b (Done (writing s))
+          (Ask (WriteStream e.value.stream (to_write e.value)) (λ answer. write_answered e answer (writing s)))) (λ w. Done w.state))
+      some e there true is = unmoved
+      some e there false is = over (answered e there (some_old e there is (is_new e.value.end) refl)
+          (write_answer e.value.stream (length (to_write e.value)) a.host) refl)
+        where
+          over : KeptNow (bind (write_answered e (write_answer e.value.stream (length (to_write e.value)) a.host) (writing s)) (λ w. Done w.state))
+              → KeptNow (bind (Ask (WriteStream e.value.stream (to_write e.value)) (λ answer. write_answered e answer (writing s))) (λ w. Done w.state))
+          over k = host_apart (write_answer e.value.stream (length (to_write e.value)) a.host) k
+            where
+              host_apart : (x : StreamWrite) → KeptNow (bind (write_answered e x (writing s)) (λ w. Done w.state))
+                  → (let r = played answer_around (bind (write_answered e x (writing s)) (λ w. Done w.state))
+                  (record a { host = after_write e.value.stream (to_write e.value) (write_answer e.value.stream (length (to_write e.value)) a.host) a.host }) in
+                  Left r.0 r.1.lists r.1.log)
+              host_apart (write.Took n) k = k
+              host_apart write.Again k = k
+              host_apart write.Closed k = k
+              host_apart write.Failed k = failed e.value.closed k
+                where
+                  failed : (b : Bool) → KeptNow (bind (bind (cond b (Done (with_connection e.slot (cut_off e.value) (with_fault s)))
+                      (Ask (CloseStream e.value.stream) (λ _. Done (with_connection e.slot (cut_off e.value) (with_fault s)))))
+                      (λ t. Done (writing t))) (λ w. Done w.state))
+                      → (let r = played answer_around (bind (bind (cond b (Done (with_connection e.slot (cut_off e.value) (with_fault s)))
+                      (Ask (CloseStream e.value.stream) (λ _. Done (with_connection e.slot (cut_off e.value) (with_fault s)))))
+                      (λ t. Done (writing t))) (λ w. Done w.state)) (record a { host = after_write e.value.stream (to_write e.value)
+                      (write_answer e.value.stream (length (to_write e.value)) a.host) a.host }) in
+                      Left r.0 r.1.lists r.1.log)
+                  failed true k = k
+                  failed false k = k
+
+      closed_by : (e : DeviceEntry) → Contains s.table.entries e → (b : Bool)
+          → KeptNow (cond b (Done s) (bind (write_pending e (writing s)) (λ w. Done w.state)))
+      closed_by e there true = unmoved
+      closed_by e there false = some e there (length (to_write e.value) == 0) refl
+
+      by : (o : Option DeviceEntry) → entry_under s.table slot ≡ o → KeptNow (elim o as (λ _. DeviceTree DeviceState) [
+        | None ↦ Done s
+        | Some e ↦ writes_on e s
+      ])
+      by None is = unmoved
+      by (Some e) is = closed_by e (found_by (λ (x : DeviceEntry). x.slot == slot) s.table.entries e is).0 e.value.closed
+
+  -- The side that it writes to is shut.
+  pub shuts_write_keeps : (slot : ℕ) → KeptNow (shuts_write slot s)
+  shuts_write_keeps slot = by (entry_under s.table slot) refl
+    where
+      shut : (e : DeviceEntry) → Contains s.table.entries e → Kept driver port s a.log.entries port (with_connection slot (record e.value { write_shut = true }) s) a.log.entries
+          → (b : Bool) → KeptNow (bind (cond b (Ask (ShutWrite e.value.stream) (λ _. Done (record (writing s) { state = with_connection slot (record e.value { write_shut = true }) s })))
+          (Done (writing s))) (λ w. Done w.state))
+      shut e there k true = silent (with_connection slot (record e.value { write_shut = true }) s) refl k
+      shut e there k false = unmoved
+
+      kept : (e : DeviceEntry) → Contains s.table.entries e → (e.slot == slot) ≡ true
+          → Kept driver port s a.log.entries port (with_connection slot (record e.value { write_shut = true }) s) a.log.entries
+      kept e there at =
+          let c : DeviceConnection = record e.value { write_shut = true } in
+          let fresh = entry_fresh driver first port s a.log.entries sound holds puts e there in
+          let same : e.slot ≡ slot = grind (arith, nat_tests, at) in
+          subst (λ (n : ℕ). Kept driver port s a.log.entries port (with_connection n c s) a.log.entries) same
+          (side.unseen driver first port s a.log.entries sound holds puts e c there refl (omega arith)
+          (record { ok_line = fresh.ok_line; asked_at = fresh.asked_at; shut_at = fresh.shut_at }))
+
+      by : (o : Option DeviceEntry) → entry_under s.table slot ≡ o → KeptNow (bind (elim o as (λ _. DeviceTree Writing) [
+        | None ↦ Done (writing s)
+        | Some e ↦ cond (is_written_out e.value) (Ask (ShutWrite e.value.stream) (λ _.
+            Done (record (writing s) { state = with_connection slot (record e.value { write_shut = true }) s }))) (Done (writing s))
+      ]) (λ w. Done w.state))
+      by None is = unmoved
+      by (Some e) is =
+          let found = found_by (λ (x : DeviceEntry). x.slot == slot) s.table.entries e is in
+          shut e found.0 (kept e found.0 found.1) (is_written_out e.value)
