@@ -67,7 +67,7 @@ module _ (driver : Seat) (first port : ℕ) (s : DeviceState) (a : Around) (soun
   Goes t log = Kept driver port s a.log.entries port t log
 
   -- A packet was put into a chain that was held.
-  put_over : (c : Chain) → c.queue ≡ Rx → (page bytes : List ℕ) (p : Packet) → packet_held page ≡ Some p → bytes ≡ page → (t : DeviceState)
+  pub put_over : (c : Chain) → c.queue ≡ Rx → (page bytes : List ℕ) (p : Packet) → packet_held page ≡ Some p → bytes ≡ page → (t : DeviceState)
       → t.chain ≡ None → Goes t (PutPacket p ∷ a.log.entries) → (log : EndLog) → log.entries ≡ entries_returned c.queue bytes a.log.entries
       → Left t (after_return c.queue bytes a.lists) log
   put_over c is page bytes p held same t none kept log entries = record {
@@ -80,14 +80,14 @@ module _ (driver : Seat) (first port : ℕ) (s : DeviceState) (a : Around) (soun
   }
 
   -- A header alone.
-  header_written : (c : Chain) (h : Header) → is_held c a.log.held ≡ true
+  pub header_written : (c : Chain) (h : Header) → is_held c a.log.held ≡ true
       → take 44 (bytes_in c (with_bytes c (overwritten (bytes_in c a.log.held) 0 (header_bytes h)) a.log.held)) ≡ header_bytes h
   header_written c h held =
       ap (take 44) (bytes_written c (overwritten (bytes_in c a.log.held) 0 (header_bytes h)) a.log.held held)
       ∙ first_written (bytes_in c a.log.held) (header_bytes h) 44 refl
 
   -- A header and a payload.
-  payload_written : (c : Chain) (h : Header) (payload : List ℕ) → is_held c a.log.held ≡ true
+  pub payload_written : (c : Chain) (h : Header) (payload : List ℕ) → is_held c a.log.held ≡ true
       → (let one = with_bytes c (overwritten (bytes_in c a.log.held) 0 (header_bytes h)) a.log.held in
       let two = with_bytes c (overwritten (bytes_in c one) 44 payload) one in
       take (44 + length payload) (bytes_in c two) ≡ header_bytes h ++ payload)

@@ -298,3 +298,35 @@ module _ (driver : Seat) (first port : ℕ) (s : DeviceState) (a : Around) (soun
       by (Some e) is =
           let found = found_by (λ (x : DeviceEntry). x.slot == slot) s.table.entries e is in
           shut e found.0 (kept e found.0 found.1) (is_written_out e.value)
+
+  -- Payload that was read of a stream.
+  module _ (c : Chain) (is : s.chain ≡ Some c) (e : DeviceEntry) (there : Contains s.table.entries e) (may : may_read e.value.end e.value.end.state ≡ true) where
+    has : HoldsRx (Some c) a.log.held
+    has = subst (λ (o : Option Chain). HoldsRx o a.log.held) is rx
+
+    payload_put : (payload : List ℕ) → length payload ≤ free_of e.value.end.credit → length payload < 2 ^ 32
+        → KeptNow (bind (put_payload c e payload (filling (record s { chain = Some c }))) (λ r. Done r.state))
+    payload_put payload less len = put_all payload less len
+      where
+        kept_for : (b : List ℕ) → length b ≤ free_of e.value.end.credit → length b < 2 ^ 32
+            → Kept driver port s a.log.entries port (with_connection e.slot (record e.value { end = with_payload_sent e.value.end (length b) }) s)
+            (PutPacket (payload_on Device s.cid e.flow e.value.end b) ∷ a.log.entries)
+        kept_for b less len = side.sends driver first port s a.log.entries sound holds puts e b there
+            (can_send e.value.end (length b) less e.value.end.state may) len (live_old e.value.end may)
+
+        put_all : (b : List ℕ) → length b ≤ free_of e.value.end.credit → length b < 2 ^ 32
+            → KeptNow (bind (put_payload c e b (filling (record s { chain = Some c }))) (λ r. Done r.state))
+        put_all [] less len =
+            let k = kept_for [] less len in
+            let h = payload_header e.value.end (route_to_guest s.cid e.flow) 0 in
+            puts_of.put_over driver first port s a sound holds puts rx known c has.0 (header_bytes h) _ (payload_on Device s.cid e.flow e.value.end [])
+            (subst (λ (page : List ℕ). packet_held page ≡ Some (payload_on Device s.cid e.flow e.value.end [])) (append-nil (header_bytes h))
+            (holds_payload h [] k.puts.0 refl refl)) (puts_of.header_written driver first port s a sound holds puts rx known c h has.1)
+            _ refl (record { runs = k.runs; holds = k.holds; puts = k.puts }) _ refl
+        put_all (x ∷ xs) less len =
+            let k = kept_for (x ∷ xs) less len in
+            let h = payload_header e.value.end (route_to_guest s.cid e.flow) (length (x ∷ xs)) in
+            puts_of.put_over driver first port s a sound holds puts rx known c has.0 (header_bytes h ++ x ∷ xs) _
+            (payload_on Device s.cid e.flow e.value.end (x ∷ xs)) (holds_payload h (x ∷ xs) k.puts.0 refl refl)
+            (puts_of.payload_written driver first port s a sound holds puts rx known c h (x ∷ xs) has.1)
+            _ refl (record { runs = k.runs; holds = k.holds; puts = k.puts }) _ refl
