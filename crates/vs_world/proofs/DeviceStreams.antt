@@ -48,7 +48,7 @@ use Rattle.vs_world.proofs.DeviceTurns.{still, quiet}
 use Rattle.vs_world.proofs.Fits.{CreditFits, fits_forwarded, fits_shut, holds_payload}
 use Rattle.vs_world.proofs.Wire.{PutsFit}
 
-live_old : (e : ConnectionEnd) → may_read e e.state ≡ true → is_new e ≡ false
+pub live_old : (e : ConnectionEnd) → may_read e e.state ≡ true → is_new e ≡ false
 live_old e is = grind (arith, common_steps, is)
 
 shut_old : (e : ConnectionEnd) (bits : ℕ) → is_new e ≡ false → is_new (with_shut e bits) ≡ false
@@ -69,7 +69,7 @@ can_send e n less state.Asked is = absurd cc
 can_send e n less state.Answering is = absurd cc
 can_send e n less state.Ended is = absurd cc
 
-read_short : (room n : ℕ) (b : Bool) (o : Option Stream) → cond b read.Failed (option_map_or (read_of room) o read.Again) ≡ read.Got n → n ≤ room
+pub read_short : (room n : ℕ) (b : Bool) (o : Option Stream) → cond b read.Failed (option_map_or (read_of room) o read.Again) ≡ read.Got n → n ≤ room
 read_short room n true o is = absurd cc
 read_short room n false None is = absurd cc
 read_short room n false (Some st) is = by (length st.untaken == 0) st.ended is
@@ -79,7 +79,7 @@ read_short room n false (Some st) is = by (length st.untaken == 0) st.ended is
     by true false is = absurd cc
     by false b is = let same : min room (length st.untaken) ≡ n = cc in omega (arith, same)
 
-bytes_short : (n : ℕ) (o : Option Stream) → length (option_map_or (λ (st : Stream). take n st.untaken) o []) ≤ n
+pub bytes_short : (n : ℕ) (o : Option Stream) → length (option_map_or (λ (st : Stream). take n st.untaken) o []) ≤ n
 bytes_short n None = omega arith
 bytes_short n (Some st) = omega (arith, length-take n st.untaken)
 
@@ -109,7 +109,7 @@ module _ (driver : Seat) (first port : ℕ) (s : DeviceState) (a : Around) (soun
   unmoved = still driver first port s a sound holds puts rx known
 
   -- No log shows it.
-  silent : (t : DeviceState) → t.chain ≡ s.chain → Kept driver port s a.log.entries port t a.log.entries → Left t a.lists a.log
+  pub silent : (t : DeviceState) → t.chain ≡ s.chain → Kept driver port s a.log.entries port t a.log.entries → Left t a.lists a.log
   silent = quiet driver first port s a sound holds puts rx known
 
   module _ (e : DeviceEntry) (there : Contains s.table.entries e) where
@@ -117,11 +117,11 @@ module _ (driver : Seat) (first port : ℕ) (s : DeviceState) (a : Around) (soun
     fits = (entry_fits driver first port s a.log.entries sound holds puts e there).credit
 
     -- The connection is over, as for a host call that failed.
-    cuts : is_new e.value.end ≡ false → Kept driver port s a.log.entries port (with_connection e.slot (cut_off e.value) s) a.log.entries
+    pub cuts : is_new e.value.end ≡ false → Kept driver port s a.log.entries port (with_connection e.slot (cut_off e.value) s) a.log.entries
     cuts old = side.decides driver first port s a.log.entries sound holds puts e (cut_off e.value) Aborts there old refl tt
         (record { alloc = fits.alloc; fwd = fits.fwd; rx = fits.rx; unread = omega arith }) (not_fresh (cut_off e.value) refl)
 
-    shuts : (bits now : ℕ) → is_new e.value.end ≡ false
+    pub shuts : (bits now : ℕ) → is_new e.value.end ≡ false
         → Kept driver port s a.log.entries port (with_connection e.slot (after_shut bits now e.value) s) a.log.entries
     shuts bits now old = side.decides driver first port s a.log.entries sound holds puts e (after_shut bits now e.value) (Shuts bits) there old refl tt
         (subst (λ (u : ℕ). CreditFits (after_shut bits now e.value).end.credit u) (kept_by (with_shut e.value.end bits).own.receive)
@@ -132,7 +132,7 @@ module _ (driver : Seat) (first port : ℕ) (s : DeviceState) (a : Around) (soun
         kept_by false = refl
 
     -- Its stream is closed too.
-    cut_over : is_new e.value.end ≡ false → (t : DeviceState) → t.chain ≡ s.chain → (t.table ≡ s.table) × (t.replies ≡ s.replies) × (t.cid ≡ s.cid)
+    pub cut_over : is_new e.value.end ≡ false → (t : DeviceState) → t.chain ≡ s.chain → (t.table ≡ s.table) × (t.replies ≡ s.replies) × (t.cid ≡ s.cid)
         → Left (with_connection e.slot (cut_off e.value) t) a.lists a.log
     cut_over old t same (table, replies, cid) =
         let k = cuts old in
@@ -304,7 +304,7 @@ module _ (driver : Seat) (first port : ℕ) (s : DeviceState) (a : Around) (soun
     has : HoldsRx (Some c) a.log.held
     has = subst (λ (o : Option Chain). HoldsRx o a.log.held) is rx
 
-    payload_put : (payload : List ℕ) → length payload ≤ free_of e.value.end.credit → length payload < 2 ^ 32
+    pub payload_put : (payload : List ℕ) → length payload ≤ free_of e.value.end.credit → length payload < 2 ^ 32
         → KeptNow (bind (put_payload c e payload (filling (record s { chain = Some c }))) (λ r. Done r.state))
     payload_put payload less len = put_all payload less len
       where

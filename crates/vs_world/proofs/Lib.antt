@@ -15,3 +15,4 @@ pub mod DeviceEvents
 pub mod DeviceTurns
 pub mod DevicePuts
 pub mod DeviceStreams
+pub mod DeviceReads
