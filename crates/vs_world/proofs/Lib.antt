@@ -16,3 +16,4 @@ pub mod DeviceTurns
 pub mod DevicePuts
 pub mod DeviceStreams
 pub mod DeviceReads
+pub mod ProxySide
