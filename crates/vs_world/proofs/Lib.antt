@@ -17,3 +17,4 @@ pub mod DevicePuts
 pub mod DeviceStreams
 pub mod DeviceReads
 pub mod ProxySide
+pub mod ProxyResets
