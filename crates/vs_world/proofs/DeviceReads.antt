@@ -1,0 +1,145 @@
+-- What the device reads of its connections' streams.
+use Rattle.std.proofs.Common.{◌≡◌, ℕ, ◌+◌, ◌-◌, ◌^◌, ◌<◌, ◌≤◌, ◌==◌, min, Bool, true, false, cond, List, [], ◌∷◌, length, Contains, Option, Some, None, refl, sym, ap, subst, ◌∙◌, arith}
+use Rattle.std.proofs.lemmas.Bool.Decides.{nat_tests}
+use Rattle.vs_contents.specs.CallTree.{Done, Ask, bind, played}
+use Rattle.vs_conn.specs.End.{wanting_credit}
+use Rattle.vs_credit.specs.Credit.{free_of}
+use Rattle.vs_flow.specs.Table.{entry_under}
+use Rattle.vs_outside.specs.Host.{HostContents, after_read, fails_now, next_bytes, read_answer, stream_at}
+use Rattle.vs_outside.specs.declared.host_net.StreamRead.{StreamRead}
+use Rattle.vs_outside.specs.declared.host_net.StreamRead.TheVariants as read
+use Rattle.vs_page.specs.Log.{Log, Device}
+use Rattle.vs_ring_port.specs.EndLog.{EndLog}
+use Rattle.vs_ring_port.specs.Lists.{Rings}
+use Rattle.vs_ring_port.specs.declared.device_ring.Chain.{Chain}
+use Rattle.vs_matching.specs.Both.{Both, IsSound, Seat, WantsCredit}
+use Rattle.vs_matching.specs.Ends.{is_new}
+use Rattle.vs_matching.proofs.Slots.{found_by}
+use Rattle.vs_device.specs.Calls.{CloseStream, DeviceTree, ReadStream}
+use Rattle.vs_device.specs.Connections.{after_shut, cut_off, with_connection, with_fault}
+use Rattle.vs_device.specs.Receiving.{Filling, may_read, put_payload, read_answered, read_room, read_with_chain}
+use Rattle.vs_device.specs.State.{DeviceConnection, DeviceEntry, DeviceState}
+use Rattle.vs_world.specs.Answers.{Around, answer_around, bytes_with}
+use Rattle.vs_world.specs.DeviceSteps.{filling, puts_payload, reads}
+use Rattle.vs_world.proofs.Chains.{HoldsRx}
+use Rattle.vs_world.proofs.DeviceEvents.{KeptBy, Over}
+use Rattle.vs_world.proofs.DeviceSide as side
+use Rattle.vs_world.proofs.DeviceSide.{DeviceHolds, Kept, entry_fits, not_fresh, seated}
+use Rattle.vs_world.proofs.DeviceStreams as streams
+use Rattle.vs_world.proofs.DeviceStreams.{bytes_short, live_old, read_short}
+use Rattle.vs_world.proofs.DeviceTurns.{still}
+use Rattle.vs_world.proofs.Fits.{CreditFits}
+use Rattle.vs_world.proofs.Wire.{PutsFit}
+
+module _ (driver : Seat) (first port : ℕ) (s : DeviceState) (a : Around) (sound : IsSound first (seated driver port s a.log.entries))
+    (holds : DeviceHolds port s) (puts : PutsFit a.log.entries) (rx : HoldsRx s.chain a.log.held) (known : a.lists.cid < 2 ^ 64) where
+  abbrev Left : DeviceState → Rings → EndLog → Type 0
+  Left t lists log = Over driver first port s a.log.entries sound holds puts t lists log
+
+  abbrev pub KeptNow : DeviceTree DeviceState → Type 0
+  KeptNow tree = KeptBy driver first port s a.log.entries sound holds puts tree a
+
+  -- Over another host.
+  abbrev KeptOver : HostContents → DeviceTree DeviceState → Type 0
+  KeptOver host tree = KeptBy driver first port s a.log.entries sound holds puts tree (record a { host = host })
+
+  unmoved : Left s a.lists a.log
+  unmoved = still driver first port s a sound holds puts rx known
+
+  module _ (c : Chain) (is : s.chain ≡ Some c) (e : DeviceEntry) (there : Contains s.table.entries e) (may : may_read e.value.end e.value.end.state ≡ true) where
+    held : HoldsRx (Some c) a.log.held
+    held = subst (λ (o : Option Chain). HoldsRx o a.log.held) is rx
+
+    room : ℕ
+    room = read_room (free_of e.value.end.credit) c
+
+    old : is_new e.value.end ≡ false
+    old = live_old e.value.end may
+
+    -- With the chain that is held.
+    chained : (t : DeviceState) → t.chain ≡ s.chain → Kept driver port s a.log.entries port t a.log.entries → Left (record t { chain = Some c }) a.lists a.log
+    chained t same k = record { kept = record { runs = k.runs; holds = k.holds; puts = k.puts }; chain = held; known = known }
+
+    answered : (host : HostContents) (x : StreamRead) (bytes : List ℕ) → length bytes ≤ free_of e.value.end.credit → length bytes < 2 ^ 32
+        → KeptOver host (bind (read_answered c e x bytes (filling (record s { chain = Some c }))) (λ r. Done r.state))
+    answered host (read.Got n) bytes less len =
+        streams.payload_put driver first port s (record a { host = host }) sound holds puts rx known c is e there may bytes less len
+    answered host read.Again bytes less len = chained s refl unmoved.kept
+    answered host read.End bytes less len =
+        chained (with_connection e.slot (after_shut 2 s.now e.value) s) refl (streams.shuts driver first port s a sound holds puts rx known e there 2 s.now old)
+    answered host read.Failed bytes less len = closed_by e.value.closed
+      where
+        cut : Left (with_connection e.slot (cut_off e.value) (with_fault s)) a.lists a.log
+        cut = streams.cut_over driver first port s a sound holds puts rx known e there old (with_fault s) refl (refl, refl, refl)
+
+        gone : Left (record (with_connection e.slot (cut_off e.value) (with_fault s)) { chain = Some c }) a.lists a.log
+        gone = chained (with_connection e.slot (cut_off e.value) (with_fault s)) refl cut.kept
+
+        closed_by : (b : Bool) → KeptOver host (bind (bind (cond b
+            (Done (with_connection e.slot (cut_off e.value) (with_fault (record s { chain = Some c }))))
+            (Ask (CloseStream e.value.stream) (λ _. Done (with_connection e.slot (cut_off e.value) (with_fault (record s { chain = Some c }))))))
+            (λ t. Done (record (filling (record s { chain = Some c })) { state = t }))) (λ r. Done r.state))
+        closed_by true = gone
+        closed_by false = gone
+
+    bytes_fit : (x : StreamRead) → read_answer e.value.stream (read_room (free_of e.value.end.credit) c) a.host ≡ x
+        → (length (bytes_with e.value.stream x a.host) ≤ free_of e.value.end.credit) × (length (bytes_with e.value.stream x a.host) < 2 ^ 32)
+    bytes_fit (read.Got n) got =
+        let short = read_short (read_room (free_of e.value.end.credit) c) n (fails_now a.host) (stream_at e.value.stream a.host) got in
+        let few = bytes_short n (stream_at e.value.stream a.host) in
+        (omega (arith, short, few), omega (arith, short, few))
+    bytes_fit read.Again got = (omega arith, omega arith)
+    bytes_fit read.End got = (omega arith, omega arith)
+    bytes_fit read.Failed got = (omega arith, omega arith)
+
+    read_keeps : KeptNow (bind (Ask (ReadStream e.value.stream (read_room (free_of e.value.end.credit) c))
+        (λ answer. read_answered c e answer.0 answer.1 (filling (record s { chain = Some c })))) (λ r. Done r.state))
+    read_keeps =
+        let x = read_answer e.value.stream (read_room (free_of e.value.end.credit) c) a.host in
+        let fit = bytes_fit x refl in
+        answered (after_read e.value.stream x a.host) x (bytes_with e.value.stream x a.host) fit.0 fit.1
+
+  pub puts_payload_keeps : (slot : ℕ) → KeptNow (puts_payload slot s)
+  puts_payload_keeps slot = by s.chain refl
+    where
+      same_chain : (o : Option Chain) → s.chain ≡ o → Left (record s { chain = o }) a.lists a.log
+      same_chain o is = record {
+        kept = record { runs = unmoved.kept.runs; holds = holds; puts = puts };
+        chain = subst (λ (o : Option Chain). HoldsRx o a.log.held) is rx;
+        known = known;
+      }
+
+      with_credit : (o : Option Chain) → s.chain ≡ o → (e : DeviceEntry) → Contains s.table.entries e → may_read e.value.end e.value.end.state ≡ true
+          → KeptNow (bind (read_with_chain e (filling (record s { chain = o }))) (λ r. Done r.state))
+      with_credit None is e there may = same_chain None is
+      with_credit (Some c) is e there may = read_keeps c is e there may
+
+      by_credit : (o : Option Chain) → s.chain ≡ o → (e : DeviceEntry) → Contains s.table.entries e → may_read e.value.end e.value.end.state ≡ true → (b : Bool)
+          → KeptNow (cond b (Done (with_connection e.slot (record e.value { end = wanting_credit e.value.end }) (record s { chain = o })))
+          (bind (read_with_chain e (filling (record s { chain = o }))) (λ r. Done r.state)))
+      by_credit o is e there may false = with_credit o is e there may
+      by_credit o is e there may true =
+          let c : DeviceConnection = record e.value { end = wanting_credit e.value.end } in
+          let k = side.decides driver first port s a.log.entries sound holds puts e c WantsCredit there (live_old e.value.end may) refl tt
+          (entry_fits driver first port s a.log.entries sound holds puts e there).credit (not_fresh c (live_old e.value.end may)) in
+          record {
+            kept = record { runs = k.runs; holds = k.holds; puts = k.puts };
+            chain = subst (λ (o : Option Chain). HoldsRx o a.log.held) is rx;
+            known = known;
+          }
+
+      by_state : (o : Option Chain) → s.chain ≡ o → (e : DeviceEntry) → Contains s.table.entries e → (b : Bool) → may_read e.value.end e.value.end.state ≡ b
+          → KeptNow (cond b (cond (free_of e.value.end.credit == 0)
+          (Done (with_connection e.slot (record e.value { end = wanting_credit e.value.end }) (record s { chain = o })))
+          (bind (read_with_chain e (filling (record s { chain = o }))) (λ r. Done r.state))) (Done (record s { chain = o })))
+      by_state o is e there false may = same_chain o is
+      by_state o is e there true may = by_credit o is e there may (free_of e.value.end.credit == 0)
+
+      found : (o : Option Chain) → s.chain ≡ o → (x : Option DeviceEntry) → entry_under s.table slot ≡ x
+          → KeptNow (elim x as (λ _. DeviceTree DeviceState) [ None ↦ Done (record s { chain = o }) | Some e ↦ reads e (record s { chain = o }) ])
+      found o is None under = same_chain o is
+      found o is (Some e) under =
+          by_state o is e (found_by (λ (x : DeviceEntry). x.slot == slot) s.table.entries e under).0 (may_read e.value.end e.value.end.state) refl
+
+      by : (o : Option Chain) → s.chain ≡ o → KeptNow (puts_payload slot (record s { chain = o }))
+      by o is = found o is (entry_under s.table slot) refl

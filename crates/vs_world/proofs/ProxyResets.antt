@@ -1,0 +1,130 @@
+-- A transport reset that the proxy makes is one of the steps of the two ends.
+use Rattle.std.proofs.Common.{◌≡◌, ℕ, ◌+◌, ◌^◌, ◌<◌, ◌≤◌, Bool, true, false, cond, List, [], ◌∷◌, length, Option, Some, None, Result, Ok, Err, refl, sym, ap, subst, ◌∙◌, arith}
+use Rattle.std.specs.List.{All}
+use Rattle.vs_contents.specs.CallTree.{Done, Ask, bind, for_each, played}
+use Rattle.vs_flow.specs.Table.{Table, IsTable, entry_under, slots, with_value}
+use Rattle.vs_flow.proofs.Tables.{with_value_sound}
+use Rattle.vs_outside.specs.Host.{HostContents, after_close}
+use Rattle.vs_page.specs.Log.{Log, Device}
+use Rattle.vs_page.specs.declared.log.LogEntry.TheVariants.{Mark}
+use Rattle.vs_ring_port.specs.Contents.{PublishCid}
+use Rattle.vs_ring_port.specs.EndLog.{EndLog}
+use Rattle.vs_ring_port.specs.Lists.{Rings}
+use Rattle.vs_ring_port.specs.declared.failure.Failure.{Failure}
+use Rattle.vs_matching.specs.Both.{Both, IsSound, MakesReset, Seat}
+use Rattle.vs_device.specs.Calls.{CloseStream, DeviceTree, Ring}
+use Rattle.vs_device.specs.Connections.{stream_closed, with_connection}
+use Rattle.vs_device.specs.State.{DeviceConnection, DeviceEntry, DeviceState}
+use Rattle.vs_device.specs.Turns.{after_reset, close_slot, reset_of}
+use Rattle.vs_proxy.specs.Handshakes.{streams_of}
+use Rattle.vs_proxy.specs.State.{ProxyState, with_device}
+use Rattle.vs_proxy.specs.Turns.{close_handshake, proxy_reset_of, reset_with}
+use Rattle.vs_world.specs.Answers.{Around, answer_around}
+use Rattle.vs_world.proofs.Chains.{HoldsRx}
+use Rattle.vs_world.proofs.DeviceSide as side
+use Rattle.vs_world.proofs.DeviceSide.{DeviceHolds, Kept, seated}
+use Rattle.vs_world.proofs.ProxySide.{Over, stays_as}
+use Rattle.vs_world.proofs.Runs.{one_step}
+use Rattle.vs_world.proofs.Wire.{PutsFit}
+
+-- Three conversations one after another.
+played_twice : {A B C : Type 0} (p : DeviceTree A) (f : A → DeviceTree B) (g : B → DeviceTree C) (a : Around)
+    → played answer_around (bind p (λ x. bind (f x) g)) a ≡ played answer_around (bind (bind p f) g) a
+played_twice (Done x) f g a = refl
+played_twice (Ask call k) f g a = let r = answer_around call a in played_twice (k r.0) f g r.1
+
+-- Streams are closed, and nothing else of the ring.
+record Closed (s : DeviceState) (a : Around) (t : DeviceState) (b : Around) : Type 0 where
+  table : IsTable t.table
+  chain : t.chain ≡ s.chain
+  lists : b.lists ≡ a.lists
+  log : b.log ≡ a.log
+
+close_then : {X : Type 0} (P : X × Around → Type 0) (k : DeviceState → DeviceTree X) (s : DeviceState) (a : Around)
+    → ((t : DeviceState) (b : Around) → Closed s a t b → P (played answer_around (k t) b))
+    → (xs : List ℕ) (t : DeviceState) (b : Around) → Closed s a t b → P (played answer_around (bind (for_each close_slot xs t) k) b)
+close_then P k s a then_ [] t b closed = then_ t b closed
+close_then P k s a then_ (slot ∷ xs) t b closed = by (entry_under t.table slot) (λ t b closed. close_then P k s a then_ xs t b closed)
+  where
+    changed : (e : DeviceEntry) (host : HostContents) → Closed s a (with_connection e.slot (stream_closed e.value) t) (record b { host = host })
+    changed e host = record {
+      table = with_value_sound t.table e.slot (stream_closed e.value) closed.table;
+      chain = closed.chain;
+      lists = closed.lists;
+      log = closed.log;
+    }
+
+    shut : (e : DeviceEntry) (x : Bool) → ((t : DeviceState) (b : Around) → Closed s a t b → P (played answer_around (bind (for_each close_slot xs t) k) b))
+        → P (played answer_around (bind (bind (cond x (Done (with_connection e.slot (stream_closed e.value) t))
+        (Ask (CloseStream e.value.stream) (λ _. Done (with_connection e.slot (stream_closed e.value) t)))) (for_each close_slot xs)) k) b)
+    shut e true rest = rest (with_connection e.slot (stream_closed e.value) t) b (changed e b.host)
+    shut e false rest = rest (with_connection e.slot (stream_closed e.value) t) (record b { host = after_close e.value.stream b.host })
+        (changed e (after_close e.value.stream b.host))
+
+    by : (o : Option DeviceEntry) → ((t : DeviceState) (b : Around) → Closed s a t b → P (played answer_around (bind (for_each close_slot xs t) k) b))
+        → P (played answer_around (bind (bind (elim o as (λ _. DeviceTree DeviceState) [
+          | None ↦ Done t
+          | Some e ↦ cond e.value.closed (Done (with_connection e.slot (stream_closed e.value) t))
+              (Ask (CloseStream e.value.stream) (λ _. Done (with_connection e.slot (stream_closed e.value) t)))
+        ]) (for_each close_slot xs)) k) b)
+    by None rest = rest t b closed
+    by (Some e) rest = shut e e.value.closed rest
+
+hands_then : {X : Type 0} (P : X × Around → Type 0) (k : ProxyState → DeviceTree X) (w : ProxyState) (a : Around)
+    → ((host : HostContents) → P (played answer_around (k w) (record a { host = host })))
+    → (xs : List ℕ) (host : HostContents) → P (played answer_around (bind (for_each close_handshake xs w) k) (record a { host = host }))
+hands_then P k w a then_ [] host = then_ host
+hands_then P k w a then_ (stream ∷ xs) host = hands_then P k w a then_ xs (after_close stream host)
+
+module _ (driver : Seat) (first : ℕ) (w : ProxyState) (a : Around) (sound : IsSound first (seated driver w.next_port w.device a.log.entries))
+    (holds : DeviceHolds w.next_port w.device) (puts : PutsFit a.log.entries) (rx : HoldsRx w.device.chain a.log.held) (known : a.lists.cid < 2 ^ 64) where
+  abbrev Left : (ProxyState × Result (Unit {0}) Failure) × Around → Type 0
+  Left r = Over driver first w a sound holds puts rx known r.0.0 r.1.lists r.1.log
+
+  pub reset_keeps : (cid : ℕ) → cid < 2 ^ 64 → Left (played answer_around (proxy_reset_of cid w) a)
+  reset_keeps cid fits = by w.device.failed
+    where
+      reset_in : (t : DeviceState) (b : Around) → Closed w.device a t b → (host : HostContents)
+          → Over driver first w a sound holds puts rx known (record (with_device (after_reset cid t) w) { handshakes = [] })
+          (record b.lists { cid = cid }) (record b.log { entries = Mark cid ∷ b.log.entries })
+      reset_in t b closed host = record {
+        kept = subst (λ (l : EndLog). Kept driver w.next_port w.device a.log.entries w.next_port (after_reset cid t) (Mark cid ∷ l.entries)) (sym closed.log) (record {
+          runs = one_step Device (MakesReset cid) (seated driver w.next_port w.device a.log.entries)
+              (seated driver w.next_port (after_reset cid t) (Mark cid ∷ a.log.entries)) refl refl;
+          holds = record {
+            sound = record {
+              within = omega arith;
+              rising = λ i j d less within. absurd (omega (arith, within));
+              distinct = λ i j d less within. absurd (omega (arith, within));
+              were_given = λ i d within. absurd (omega (arith, within));
+              slots_left = closed.table.slots_left;
+            };
+            ends = λ i d within. absurd (omega (arith, within));
+            fresh = λ i d within. absurd (omega (arith, within));
+            owed = λ i d within. absurd (omega (arith, within));
+            port = holds.port;
+            known = fits;
+          };
+          puts = puts;
+        });
+        chain = subst (λ (l : EndLog). HoldsRx t.chain l.held) (sym closed.log) (subst (λ (c : Option _). HoldsRx c a.log.held) (sym closed.chain) rx);
+        cid = fits;
+      }
+
+      by : (o : Option Failure) → Left (played answer_around (bind (elim o as (λ _. DeviceTree (DeviceState × Result (Unit {0}) Failure)) [
+        | Some f ↦ Done (w.device, Err f)
+        | None ↦ bind (for_each close_slot (slots w.device.table) w.device) (λ t. Ask (Ring (PublishCid cid)) (λ _. Done (after_reset cid t, Ok tt)))
+      ]) (λ r. reset_with r w)) a)
+      by (Some f) = stays_as driver first w a sound holds puts rx known _ refl refl
+      by None = bound (close_then Left (λ t. Ask (Ring (PublishCid cid)) (λ _. reset_with (after_reset cid t, Ok tt) w)) w.device a
+          (λ t b closed. hands_then Left (λ u. Done (record (with_device (after_reset cid t) u) { handshakes = [] }, Ok tt)) w
+          (record { lists = record b.lists { cid = cid }; log = record b.log { entries = Mark cid ∷ b.log.entries }; host = b.host })
+          (reset_in t b closed) (streams_of w) b.host) (slots w.device.table) w.device a
+          (record { table = holds.sound; chain = refl; lists = refl; log = refl }))
+        where
+          bound : Left (played answer_around (bind (for_each close_slot (slots w.device.table) w.device)
+              (λ t. Ask (Ring (PublishCid cid)) (λ _. reset_with (after_reset cid t, Ok tt) w))) a)
+              → Left (played answer_around (bind (bind (for_each close_slot (slots w.device.table) w.device)
+              (λ t. Ask (Ring (PublishCid cid)) (λ _. Done (after_reset cid t, Ok tt)))) (λ r. reset_with r w)) a)
+          bound k = subst Left (played_twice (for_each close_slot (slots w.device.table) w.device)
+              (λ t. Ask (Ring (PublishCid cid)) (λ _. Done (after_reset cid t, Ok tt))) (λ r. reset_with r w) a) k

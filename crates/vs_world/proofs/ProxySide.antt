@@ -1,0 +1,235 @@
+-- What the proxy does with handshakes is among the steps of the two ends.
+use Rattle.std.proofs.Common.{◌≡◌, ℕ, ◌+◌, ◌^◌, ◌<◌, ◌≤◌, ◌==◌, ◌&&◌, nat_le, nat_lt, Bool, true, false, cond, List, [], ◌∷◌, ◌++◌, length, Option, Some, None, is_some, refl, sym, ap, subst, ◌∙◌, arith}
+use Rattle.std.proofs.lemmas.Bool.Decides.{nat_tests}
+use Rattle.vs_contents.specs.CallTree.{Done, Ask, bind, played}
+use Rattle.vs_flow.specs.Flow.{is_assigned, same_flow}
+use Rattle.vs_flow.specs.Table.{Table, entry_of, has_place, refusal}
+use Rattle.vs_flow.specs.declared.flow.Flow.{Flow}
+use Rattle.vs_flow.specs.declared.flow.TheConstants.{ASSIGNED_LAST}
+use Rattle.vs_flow.specs.declared.table.TableFault.{TableFault}
+use Rattle.vs_flow.proofs.Entries.{same_flow_true}
+use Rattle.vs_flow.proofs.Tables.{IsAccepted, accepted}
+use Rattle.vs_conn.specs.End.{ConnectionEnd}
+use Rattle.vs_outside.specs.Host.{HostContents, accept_answer, after_read, read_answer}
+use Rattle.vs_outside.specs.declared.host_net.Accepted.{Accepted}
+use Rattle.vs_outside.specs.declared.host_net.Accepted.TheVariants as accepted_as
+use Rattle.vs_outside.specs.declared.host_net.StreamRead.{StreamRead}
+use Rattle.vs_outside.specs.declared.host_net.StreamRead.TheVariants as read
+use Rattle.vs_page.specs.Log.{Log, Device, side_by}
+use Rattle.vs_ring_port.specs.EndLog.{EndLog}
+use Rattle.vs_ring_port.specs.Lists.{Rings}
+use Rattle.vs_matching.specs.Both.{Both, IsSound, Seat}
+use Rattle.vs_matching.specs.Ends.{ends_of, entries_of}
+use Rattle.vs_matching.proofs.Slots.{found_by, one_end}
+use Rattle.vs_uds.specs.ConnectLine.{connect_port, connect_step, connect_word, is_line_end, is_word}
+use Rattle.vs_uds.specs.Port.{port_in}
+use Rattle.vs_uds.specs.Scan.{after_digits, leading_digits, without_leading_spaces}
+use Rattle.vs_uds.proofs.Ports.{WritesPort-port_in}
+use Rattle.vs_uds.proofs.Leading.{chosen}
+use Rattle.std.proofs.Common.{drop, take, slice_index, Result, Ok, Err}
+use Rattle.vs_uds.specs.Reading.{is_decided, port_or_bad}
+use Rattle.vs_uds.specs.declared.scan.Step.{Step}
+use Rattle.vs_uds.specs.declared.scan.Step.TheVariants as step
+use Rattle.vs_device.specs.Calls.{Accept, CloseStream, DeviceTree, Label, ReadStream}
+use Rattle.vs_device.specs.Connections.{is_late, with_client, with_fault}
+use Rattle.vs_device.specs.State.{DeviceEntry, DeviceState}
+use Rattle.vs_device.specs.Turns.{open_of}
+use Rattle.vs_proxy.specs.Handshakes.{accept_answered, accept_one, byte_read, dropping, handshake_on, host_fault, line_decided, may_open, opening, read_byte, tick_handshake, with_line, without_handshake}
+use Rattle.vs_proxy.specs.State.{Handshake, ProxyState, Turning, start, with_device}
+use Rattle.vs_proxy.specs.declared.limits.TheConstants.{HANDSHAKES}
+use Rattle.vs_world.specs.Answers.{Around, answer_around, bytes_with}
+use Rattle.vs_world.specs.Events.{line_read}
+use Rattle.vs_world.proofs.Chains.{HoldsRx}
+use Rattle.vs_world.proofs.DeviceSide as side
+use Rattle.vs_world.proofs.DeviceSide.{DeviceHolds, Kept, end_in, seated}
+use Rattle.vs_world.proofs.DeviceTakes as takes
+use Rattle.vs_world.proofs.Wire.{PutsFit}
+
+-- A port of a CONNECT line has 32 bits.
+decided : (d : Bool) (o : Option ℕ) (port : ℕ) → cond d (port_or_bad o) step.More ≡ step.Port port → o ≡ Some port
+decided true None port is = absurd cc
+decided true (Some p) port is = let same : p ≡ port = cc in ap (λ (n : ℕ). Some n) same
+decided false o port is = absurd cc
+
+pub port_fits : (line : List ℕ) (port : ℕ) → connect_step line ≡ step.Port port → port < 2 ^ 32
+port_fits line port is =
+    let rest = drop (length connect_word) line in
+    let number = without_leading_spaces rest in
+    let test = is_word connect_word (take (length connect_word) line) && slice_index rest 0 == 32
+    && is_line_end (without_leading_spaces (after_digits number)) in
+    let found : connect_port line ≡ Some port = decided (is_decided 32 line) (connect_port line) port is in
+    (WritesPort-port_in (leading_digits number) port (chosen test (port_in (leading_digits number)) port found).1).fits
+
+module _ (driver : Seat) (first : ℕ) (w : ProxyState) (a : Around) (sound : IsSound first (seated driver w.next_port w.device a.log.entries))
+    (holds : DeviceHolds w.next_port w.device) (puts : PutsFit a.log.entries) (rx : HoldsRx w.device.chain a.log.held) (known : a.lists.cid < 2 ^ 64) where
+  -- What the proxy leaves.
+  pub record Over (t : ProxyState) (lists : Rings) (log : EndLog) : Type 0 where
+    pub kept : Kept driver w.next_port w.device a.log.entries t.next_port t.device log.entries
+    pub chain : HoldsRx t.device.chain log.held
+    pub cid : lists.cid < 2 ^ 64
+
+  abbrev pub KeptBy : DeviceTree Turning → Type 0
+  KeptBy tree = let r = played answer_around tree a in Over r.0.state r.1.lists r.1.log
+
+  -- The device and the next port stay, a count aside.
+  pub stays_as : (t : ProxyState) → t.device ≡ w.device → t.next_port ≡ w.next_port → Over t a.lists a.log
+  stays_as t device port = record {
+    kept = rw (device, port) (side.same driver first w.next_port w.device a.log.entries sound holds puts);
+    chain = subst (λ (d : DeviceState). HoldsRx d.chain a.log.held) (sym device) rx;
+    cid = known;
+  }
+
+  pub faulted : (t : ProxyState) → t.device ≡ with_fault w.device → t.next_port ≡ w.next_port → Over t a.lists a.log
+  faulted t device port = record {
+    kept = rw (device, port) (record { runs = k.runs; holds = k.holds; puts = k.puts });
+    chain = subst (λ (d : DeviceState). HoldsRx d.chain a.log.held) (sym device) rx;
+    cid = known;
+  }
+    where
+      k : Kept driver w.next_port w.device a.log.entries w.next_port w.device a.log.entries
+      k = side.same driver first w.next_port w.device a.log.entries sound holds puts
+
+  pub accept_keeps : KeptBy (accept_one (start w))
+  accept_keeps = by (nat_lt (length w.handshakes) HANDSHAKES)
+    where
+      answered : (x : Accepted) → Over (accept_answered x (start w)).state a.lists a.log
+      answered (accepted_as.Stream stream) = stays_as _ refl refl
+      answered accepted_as.None = stays_as _ refl refl
+      answered accepted_as.Failed = faulted _ refl refl
+
+      by : (b : Bool) → KeptBy (cond b (Ask Accept (λ answer. Done (accept_answered answer (start w)))) (Done (start w)))
+      by true = answered (accept_answer a.host)
+      by false = stays_as _ refl refl
+
+  pub handshake_keeps : (stream : ℕ) → KeptBy (tick_handshake stream (start w))
+  handshake_keeps stream = by (handshake_on stream w)
+    where
+      late : (b : Bool) → KeptBy (cond b (dropping stream (start w)) (Done (start w)))
+      late true = stays_as _ refl refl
+      late false = stays_as _ refl refl
+
+      by : (o : Option Handshake) → KeptBy (elim o as (λ _. DeviceTree Turning) [
+        | None ↦ Done (start w)
+        | Some h ↦ cond (is_late w.device.now (Some h.accepted_at)) (dropping stream (start w)) (Done (start w))
+      ])
+      by None = stays_as _ refl refl
+      by (Some h) = late (is_late w.device.now (Some h.accepted_at))
+
+  -- A flow without an end has no entry.
+  absent : (f : Flow) → ends_of f (entries_of end_in w.device.table) ≡ [] → entry_of w.device.table f ≡ None
+  absent f none = by (entry_of w.device.table f) refl
+    where
+      by : (o : Option DeviceEntry) → entry_of w.device.table f ≡ o → o ≡ None
+      by None is = refl
+      by (Some e) is =
+          let found = found_by (λ (x : DeviceEntry). same_flow f x.flow) w.device.table.entries e is in
+          let one = one_end end_in w.device.table e holds.sound found.0 in
+          let same = same_flow_true f e.flow found.1 in
+          let two : [] ≡ end_in e.value ∷ [] = sym none ∙ ap (λ (g : Flow). ends_of g (entries_of end_in w.device.table)) same ∙ one in
+          absurd cc
+
+  not_refused : (guest : ℕ) → may_open w ≡ true → refusal w.device.table (record { guest = guest; host = w.next_port }) ≡ None
+  not_refused guest may =
+      let f : Flow = record { guest = guest; host = w.next_port } in
+      let parts : (has_place w.device.table ≡ true) × (w.next_port ≤ ASSIGNED_LAST) = parts_of (has_place w.device.table) refl may in
+      let inside : is_assigned w.next_port ≡ true = inside_by parts.1 in
+      let unused = (sound.matches Device).flows.unused f (ap (side_by Device) inside) (omega arith) in
+      rw (absent f unused.no_end, parts.0) refl
+    where
+      parts_of : (b : Bool) → has_place w.device.table ≡ b → (b && nat_le w.next_port ASSIGNED_LAST) ≡ true
+          → (has_place w.device.table ≡ true) × (w.next_port ≤ ASSIGNED_LAST)
+      parts_of true is may = (is, grind (arith, nat_tests, may))
+      parts_of false is may = absurd cc
+
+      inside_by : w.next_port ≤ ASSIGNED_LAST → is_assigned w.next_port ≡ true
+      inside_by last = grind (arith, nat_tests, holds.port, last)
+
+  last_port : may_open w ≡ true → w.next_port ≤ ASSIGNED_LAST
+  last_port may = by (has_place w.device.table) may
+    where
+      by : (b : Bool) → (b && nat_le w.next_port ASSIGNED_LAST) ≡ true → w.next_port ≤ ASSIGNED_LAST
+      by true may = grind (arith, nat_tests, may)
+      by false may = absurd cc
+
+  -- The bytes of a line: a turn with other handshakes, that read something.
+  abbrev turning : List Handshake → ℕ → Turning
+  turning hs n = record (start w) { state = record w { handshakes = hs }; read = n }
+
+  module _ (hs : List Handshake) (n stream : ℕ) where
+    opens : (guest : ℕ) → guest < 2 ^ 32 → may_open w ≡ true → KeptBy (opening stream guest (turning hs n))
+    opens guest fits may = by (refusal w.device.table (record { guest = guest; host = w.next_port })) refl
+      where
+        by : (o : Option TableFault) → refusal w.device.table (record { guest = guest; host = w.next_port }) ≡ o
+            → KeptBy (bind (elim o as (λ _. DeviceTree (DeviceState × Result ℕ TableFault)) [
+              | Some fault ↦ Done (w.device, Err fault)
+              | None ↦ Ask (Label stream (record { guest = guest; host = w.next_port }))
+                  (λ _. Done (with_client (record { guest = guest; host = w.next_port }) stream w.device, Ok w.device.table.given))
+            ]) (λ r. Done (record (turning hs n) {
+              state = record (with_device r.0 (without_handshake stream (record w { handshakes = hs }))) { next_port = w.next_port + 1 };
+            })))
+        by (Some fault) is = let none = sym is ∙ not_refused guest may in absurd cc
+        by None is = record {
+          kept = takes.asks driver first w.next_port w.device a.log.entries sound holds puts guest stream
+              (accepted w.device.table (record { guest = guest; host = w.next_port }) is) fits (last_port may);
+          chain = rx;
+          cid = known;
+        }
+
+    pub decides : (line : List ℕ) (x : Step) → connect_step line ≡ x → KeptBy (bind (line_decided stream x (turning hs n)) (λ r. Done r.0))
+    decides line step.More is = stays_as _ refl refl
+    decides line step.Bad is = stays_as _ refl refl
+    decides line (step.Port guest) is = by (may_open w) refl
+      where
+        opened : KeptBy (opening stream guest (turning hs n)) → KeptBy (bind {A = Turning × Bool} (bind (opening stream guest (turning hs n)) (λ u. Done (u, false))) (λ r. Done r.0))
+        opened kept = over (refusal w.device.table (record { guest = guest; host = w.next_port })) kept
+          where
+            over : (o : Option TableFault)
+                → KeptBy (bind (elim o as (λ _. DeviceTree (DeviceState × Result ℕ TableFault)) [
+                  | Some fault ↦ Done (w.device, Err fault)
+                  | None ↦ Ask (Label stream (record { guest = guest; host = w.next_port }))
+                      (λ _. Done (with_client (record { guest = guest; host = w.next_port }) stream w.device, Ok w.device.table.given))
+                ]) (λ r. Done (record (turning hs n) {
+                  state = record (with_device r.0 (without_handshake stream (record w { handshakes = hs }))) { next_port = w.next_port + 1 };
+                })))
+                → KeptBy (bind {A = Turning × Bool} (bind (bind (elim o as (λ _. DeviceTree (DeviceState × Result ℕ TableFault)) [
+                  | Some fault ↦ Done (w.device, Err fault)
+                  | None ↦ Ask (Label stream (record { guest = guest; host = w.next_port }))
+                      (λ _. Done (with_client (record { guest = guest; host = w.next_port }) stream w.device, Ok w.device.table.given))
+                ]) (λ r. Done (record (turning hs n) {
+                  state = record (with_device r.0 (without_handshake stream (record w { handshakes = hs }))) { next_port = w.next_port + 1 };
+                }))) (λ u. Done (u, false))) (λ r. Done r.0))
+            over (Some fault) kept = kept
+            over None kept = kept
+
+        by : (b : Bool) → may_open w ≡ b → KeptBy (bind {A = Turning × Bool} (bind (cond b (opening stream guest (turning hs n)) (dropping stream (turning hs n)))
+            (λ u. Done (u, false))) (λ r. Done r.0))
+        by false may = stays_as _ refl refl
+        by true may = opened (opens guest (port_fits line guest is) may)
+
+-- A byte of a line is read, over whatever the host is then.
+module _ (driver : Seat) (first : ℕ) (w : ProxyState) (a : Around) (sound : IsSound first (seated driver w.next_port w.device a.log.entries))
+    (holds : DeviceHolds w.next_port w.device) (puts : PutsFit a.log.entries) (rx : HoldsRx w.device.chain a.log.held) (known : a.lists.cid < 2 ^ 64) where
+  abbrev LineKept : HostContents → DeviceTree Turning → Type 0
+  LineKept host tree = KeptBy driver first w (record a { host = host }) sound holds puts rx known tree
+
+  answered : (host : HostContents) (h : Handshake) (x : StreamRead) (bytes : List ℕ)
+      → LineKept host (bind (byte_read h x bytes (start w)) (λ r. Done r.0))
+  answered host h (read.Got n) bytes =
+      decides driver first w (record a { host = host }) sound holds puts rx known (with_line h.stream (h.line ++ bytes) w.handshakes) (0 + n) h.stream
+      (h.line ++ bytes) (connect_step (h.line ++ bytes)) refl
+  answered host h read.Again bytes = stays_as driver first w (record a { host = host }) sound holds puts rx known _ refl refl
+  answered host h read.End bytes = stays_as driver first w (record a { host = host }) sound holds puts rx known _ refl refl
+  answered host h read.Failed bytes = faulted driver first w (record a { host = host }) sound holds puts rx known _ refl refl
+
+  pub line_read_keeps : (stream : ℕ) → KeptBy driver first w a sound holds puts rx known (line_read stream (start w))
+  line_read_keeps stream = by (handshake_on stream w)
+    where
+      by : (o : Option Handshake) → KeptBy driver first w a sound holds puts rx known (bind {A = Turning × Bool} (elim o as (λ _. DeviceTree (Turning × Bool)) [
+        | None ↦ Done (start w, false)
+        | Some h ↦ Ask (ReadStream stream 1) (λ answer. byte_read h answer.0 answer.1 (start w))
+      ]) (λ r. Done r.0))
+      by None = stays_as driver first w a sound holds puts rx known _ refl refl
+      by (Some h) =
+          let x = read_answer stream 1 a.host in
+          let k = answered (after_read stream x a.host) h x (bytes_with stream x a.host) in
+          record { kept = k.kept; chain = k.chain; cid = k.cid }

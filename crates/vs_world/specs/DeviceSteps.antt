@@ -1,0 +1,88 @@
+-- The steps of device and proxy: each moves one page at most, with the host's calls that go with it, or is one call on the host.
+use Rattle.std.specs.Prelude.{ℕ, ◌-◌, ◌==◌, ◌&&◌, nat_lt, nat_le, Bool, true, false, if◌then◌else◌, List, [], ◌∷◌, length, Option, Some, None}
+use Rattle.std.specs.List.{list_any}
+use Rattle.byteorder.specs.Endian.{little_bytes}
+use Rattle.vs_contents.specs.CallTree.{Done, Ask, bind}
+use Rattle.vs_credit.specs.Credit.{free_of}
+use Rattle.vs_conn.specs.End.{wanting_credit}
+use Rattle.vs_flow.specs.Table.{entry_under}
+use Rattle.vs_header.specs.Packet.{header_of}
+use Rattle.vs_header.specs.declared.Header.{Header}
+use Rattle.vs_header.specs.declared.TheConstants.{HEADER_LEN}
+use Rattle.vs_ring_port.specs.Contents.{Take, Read, Write, Return}
+use Rattle.vs_ring_port.specs.declared.device_ring.Chain.{Chain}
+use Rattle.vs_ring_port.specs.declared.device_ring.Next.{Next}
+use Rattle.vs_ring_port.specs.declared.device_ring.Next.TheVariants as next
+use Rattle.vs_ring_port.specs.declared.failure.Failure.TheVariants as failure
+use Rattle.vs_ring_port.specs.declared.queue.Queue.{Queue}
+use Rattle.vs_ring_port.specs.declared.queue.Queue.TheVariants.{Rx, Tx, Event}
+use Rattle.vs_device.specs.Calls.{DeviceTree, Ring}
+use Rattle.vs_device.specs.Connections.{with_connection}
+use Rattle.vs_device.specs.Receiving.{Filling, hold, put_reply, put_owed, may_read, read_with_chain}
+use Rattle.vs_device.specs.State.{DeviceState, DeviceEntry}
+use Rattle.vs_device.specs.Streams.{Writing, write_pending, shut_write}
+use Rattle.vs_device.specs.Transmitting.{failing, on_packet}
+use Rattle.vs_device.specs.declared.limits.TheConstants.{REPLIES}
+
+-- It takes a transmit packet: the chain is held until it is returned.
+abbrev pub header_came : Chain → Header → DeviceState → DeviceTree DeviceState
+header_came chain h s =
+    let held = chain.readable - HEADER_LEN in
+    if nat_lt held h.len then Done (failing (failure.PayloadShort h.len held) s) else bind (on_packet chain h s) (λ r. Done r.0)
+
+abbrev pub chain_came : Next → DeviceState → DeviceTree DeviceState
+chain_came (next.Chain chain) s = Ask (Ring (Read chain 0 HEADER_LEN)) (λ bytes. header_came chain (header_of bytes) s)
+chain_came next.None s = Done s
+chain_came (next.Failed f) s = Done (failing f s)
+
+abbrev pub filling : DeviceState → Filling
+filling s = record { state = s; put = 0; read = 0; over = false }
+
+-- It takes one page of a queue. A transmit packet it takes while fewer than 64 replies are owed, a receive page where it holds none, an
+-- event page where an event is owed.
+abbrev pub takes_chain : Queue → DeviceState → DeviceTree DeviceState
+takes_chain Tx s = if nat_le REPLIES (length s.replies) then Done s else Ask (Ring (Take Tx)) (λ answer. chain_came answer s)
+takes_chain Rx s = bind (hold (filling s)) (λ r. Done r.state)
+takes_chain Event s = if s.event_owed then Ask (Ring (Take Event)) (λ answer. Done s) else Done s
+
+-- It returns a transmit page; it puts the owed event into a chain, and returns that.
+abbrev pub returns : Chain → DeviceState → DeviceTree DeviceState
+returns chain s = Ask (Ring (Return chain 0)) (λ _. Done s)
+
+abbrev pub puts_event : Chain → DeviceState → DeviceTree DeviceState
+puts_event chain s =
+    if s.event_owed then Ask (Ring (Write chain 0 (little_bytes 4 0))) (λ _. Ask (Ring (Return chain 4)) (λ _. Done (record s { event_owed = false })))
+    else Done s
+
+-- Into the receive chain that it holds it puts the oldest reply, payload of a connection's stream, or what a connection owes.
+abbrev pub with_chain : (Filling → DeviceTree DeviceState) → DeviceState → DeviceTree DeviceState
+with_chain step s = elim s.chain [ None ↦ Done s | Some chain ↦ step (filling s) ]
+
+abbrev pub puts_reply : DeviceState → DeviceTree DeviceState
+puts_reply = with_chain (λ r. bind (put_reply r) (λ q. Done q.0.state))
+
+abbrev pub puts_owed : ℕ → DeviceState → DeviceTree DeviceState
+puts_owed slot = with_chain (λ r. bind (put_owed slot r) (λ q. Done q.0.state))
+
+abbrev pub reads : DeviceEntry → DeviceState → DeviceTree DeviceState
+reads e s =
+    if may_read e.value.end e.value.end.state then
+    (if free_of e.value.end.credit == 0 then Done (with_connection e.slot (record e.value { end = wanting_credit e.value.end }) s)
+    else bind (read_with_chain e (filling s)) (λ r. Done r.state))
+    else Done s
+
+abbrev pub puts_payload : ℕ → DeviceState → DeviceTree DeviceState
+puts_payload slot s = elim (entry_under s.table slot) [ None ↦ Done s | Some e ↦ reads e s ]
+
+-- It writes pending bytes of a connection to its stream; it shuts the side that it writes to.
+abbrev pub writing : DeviceState → Writing
+writing s = record { state = s; wrote = 0 }
+
+abbrev pub writes_on : DeviceEntry → DeviceState → DeviceTree DeviceState
+writes_on e s = if e.value.closed then Done s else bind (write_pending e (writing s)) (λ w. Done w.state)
+
+abbrev pub writes : ℕ → DeviceState → DeviceTree DeviceState
+writes slot s = elim (entry_under s.table slot) [ None ↦ Done s | Some e ↦ writes_on e s ]
+
+abbrev pub shuts_write : ℕ → DeviceState → DeviceTree DeviceState
+shuts_write slot s = bind (shut_write slot (writing s)) (λ w. Done w.state)
