@@ -63,7 +63,7 @@ use Rattle.vs_world.proofs.DeviceTakes as takes
 use Rattle.vs_world.proofs.DeviceTakes.{heard_fresh}
 use Rattle.vs_world.proofs.Fits.{CreditFits, delivered, fits_after}
 use Rattle.vs_world.proofs.Wire.{PutsFit, next_fits}
-use Rattle.vs_driver.proofs.Delivers.{delivers}
+use Rattle.vs_driver_parts.proofs.Delivers.{delivers}
 
 -- The header of the packet that a page holds.
 some_test : {A : Type 0} (b : Bool) (o : Option A) (x : A) → cond b o None ≡ Some x → o ≡ Some x

@@ -27,12 +27,12 @@ use Rattle.vs_ring_port.specs.declared.queue.Queue.TheVariants.{Rx, Tx, Event}
 use Rattle.vs_matching.specs.Both.{Both, IsSound, Seat}
 use Rattle.vs_matching.specs.Steps.{owed_on, payload_on, reply_on, request_on}
 use Rattle.vs_matching.proofs.Slots.{found_by}
-use Rattle.vs_driver.specs.State.{DriverConnection, DriverEntry, DriverState, entry_known_as, is_known_as}
-use Rattle.vs_driver.specs.declared.answers.ConnectError.{ConnectError}
-use Rattle.vs_driver.specs.declared.answers.Sent.{Sent}
-use Rattle.vs_driver.specs.declared.limits.TheConstants.{REPLIES_FULL}
-use Rattle.vs_driver.specs.Connections.{route_to_host, connect_refusal, connected, next_flow, with_end}
-use Rattle.vs_driver.specs.Conversations.{DriverTree, Round, after_paying, after_stage, connect_with_page, has_page, one_more_in_flight, one_put, owed_bytes, payload_bytes, payload_of, publish_of, put_owed, put_owed_of, put_reply, put_reply_of, reap_one, reaped, reply_header, request_bytes, send_with_page, stage_of, stage_packet, start}
+use Rattle.vs_driver_parts.specs.State.{DriverConnection, DriverEntry, DriverState, entry_known_as, is_known_as}
+use Rattle.vs_driver_parts.specs.declared.answers.ConnectError.{ConnectError}
+use Rattle.vs_driver_parts.specs.declared.answers.Sent.{Sent}
+use Rattle.vs_driver_parts.specs.declared.limits.TheConstants.{REPLIES_FULL}
+use Rattle.vs_driver_parts.specs.Connections.{route_to_host, connect_refusal, connected, next_flow, with_end}
+use Rattle.vs_driver_parts.specs.Conversations.{DriverTree, Round, after_paying, after_stage, connect_with_page, has_page, one_more_in_flight, one_put, owed_bytes, payload_bytes, payload_of, publish_of, put_owed, put_owed_of, put_reply, put_reply_of, reap_one, reaped, reply_header, request_bytes, send_with_page, stage_of, stage_packet, start}
 use Rattle.vs_world.specs.GuestSteps.{connects, sends, sends_on, sends_with_credit, stages_owed, stages_page, stages_reply, takes_page}
 use Rattle.vs_world.specs.Pages.{AllHold, PageHolds, TxHolds}
 use Rattle.vs_header.specs.declared.Header.{Header}
@@ -45,17 +45,17 @@ use Rattle.vs_world.proofs.DriverResets as resets
 use Rattle.vs_world.proofs.Fits.{holds_header, holds_payload}
 use Rattle.vs_world.proofs.Runs.{keeps_sound}
 use Rattle.vs_world.proofs.Wire.{PutsFit, next_fits, not_payload}
-use Rattle.vs_driver.specs.declared.answers.ConnectError.TheVariants as connect_refused
-use Rattle.vs_driver.specs.declared.answers.Sent.TheVariants as sent
-use Rattle.vs_driver.specs.declared.answers.ListenError.{ListenError}
-use Rattle.vs_driver.specs.Conversations.{no_credit, not_sent, post_packet, send_stopped}
-use Rattle.vs_driver.specs.Connections.{after_unlisten}
-use Rattle.vs_driver.specs.Listening.{listen_of, listener_on, listening, next_accepted, with_waiting, without_id}
+use Rattle.vs_driver_parts.specs.declared.answers.ConnectError.TheVariants as connect_refused
+use Rattle.vs_driver_parts.specs.declared.answers.Sent.TheVariants as sent
+use Rattle.vs_driver_parts.specs.declared.answers.ListenError.{ListenError}
+use Rattle.vs_driver_parts.specs.Conversations.{no_credit, not_sent, post_packet, send_stopped}
+use Rattle.vs_driver_parts.specs.Connections.{after_unlisten}
+use Rattle.vs_driver_parts.specs.Listening.{listen_of, listener_on, listening, next_accepted, with_waiting, without_id}
 use Rattle.vs_conn.specs.End.{with_payload_sent}
 use Rattle.std.proofs.Common.{IsOkAnd}
 use Rattle.vs_world.specs.Calls.{GuestCall, Connect, Listen, Unlisten, Accept, Send, Recv, Shutdown, Close, LookAt, is_right}
 use Rattle.vs_world.specs.GuestSteps.{makes_call}
-use Rattle.vs_driver.specs.Receiving.{after_reset, on_packet, on_page}
+use Rattle.vs_driver_parts.specs.Receiving.{after_reset, on_packet, on_page}
 use Rattle.std.proofs.Common.{append_assoc}
 use Rattle.vs_world.specs.GuestSteps.{event_came, packet_came}
 

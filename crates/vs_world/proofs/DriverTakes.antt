@@ -28,18 +28,18 @@ use Rattle.vs_matching.specs.Ends.{Ends, FlowEnd, ends_of, entries_of, replaced,
 use Rattle.vs_matching.specs.Steps.{HasEnd, left, with_end, request_on, refused, accepted, taken}
 use Rattle.vs_matching.proofs.Both.{driver_accepts}
 use Rattle.vs_matching.proofs.Slots.{added_slot, changed_slot, found_by, no_entry, one_end, removed_slot}
-use Rattle.vs_driver.specs.State.{DriverConnection, DriverEntry, DriverState, GoneConnection}
-use Rattle.vs_driver.specs.declared.answers.ConnectError.{ConnectError}
-use Rattle.vs_driver.specs.declared.limits.TheConstants.{LAST_ID, LAST_PORT, SLOTS}
-use Rattle.vs_driver.specs.Connections.{after_leaving, connect_refusal, connected, gone_as, is_full, is_let_go, is_spent, next_flow, waits_no_more, with_connection, with_opened, with_request}
-use Rattle.vs_driver.specs.Receiving.{after_packet as connection_after, after_verdict, ends_connection, is_request as asks, may_open, on_known, on_packet, on_unknown, with_reply}
-use Rattle.vs_driver.proofs.Delivers.{delivers, named_rw}
+use Rattle.vs_driver_parts.specs.State.{DriverConnection, DriverEntry, DriverState, GoneConnection}
+use Rattle.vs_driver_parts.specs.declared.answers.ConnectError.{ConnectError}
+use Rattle.vs_driver_parts.specs.declared.limits.TheConstants.{LAST_ID, LAST_PORT, SLOTS}
+use Rattle.vs_driver_parts.specs.Connections.{after_leaving, connect_refusal, connected, gone_as, is_full, is_let_go, is_spent, next_flow, waits_no_more, with_connection, with_opened, with_request}
+use Rattle.vs_driver_parts.specs.Receiving.{after_packet as connection_after, after_verdict, ends_connection, is_request as asks, may_open, on_known, on_packet, on_unknown, with_reply}
+use Rattle.vs_driver_parts.proofs.Delivers.{delivers, named_rw}
 use Rattle.vs_header.specs.Op.{op_named}
 use Rattle.vs_header.specs.declared.Op.TheVariants as op
 use Rattle.vs_history.specs.Packets.{is_rw}
 use Rattle.std.proofs.Common.{length-append}
 use Rattle.std.proofs.lemmas.List.{map-append}
-use Rattle.vs_driver.proofs.Packets.{packet_known, packet_unknown}
+use Rattle.vs_driver_parts.proofs.Packets.{packet_known, packet_unknown}
 use Rattle.vs_world.specs.Sides.{Runs, driver_ends, flow_to_host}
 use Rattle.vs_world.proofs.DriverSide.{DriverHolds, Holds, Kept, ReplyFits, end_in, entry_fits, has_end, held_in, holds_changed, left_ends, left_holds, seated}
 use Rattle.vs_world.proofs.Entries.{EntryFits, FlowFits, fits_with_entry}

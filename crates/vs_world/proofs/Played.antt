@@ -6,8 +6,8 @@ use Rattle.vs_page.specs.Log.{Log, Role, Driver, Device, HasGotAll, events_put}
 use Rattle.vs_ring_port.specs.DriverCalls.{driver_answer}
 use Rattle.vs_ring_port.specs.EndLog.{EndLog}
 use Rattle.vs_ring_port.specs.Lists.{Rings}
-use Rattle.vs_driver.specs.Conversations.{DriverTree, publish_of, new_of}
-use Rattle.vs_driver.specs.declared.limits.TheConstants.{FIRST_PORT}
+use Rattle.vs_driver_parts.specs.Conversations.{DriverTree, publish_of, new_of}
+use Rattle.vs_driver_parts.specs.declared.limits.TheConstants.{FIRST_PORT}
 use Rattle.vs_device.specs.Streams.{tick_slot}
 use Rattle.vs_proxy.specs.Handshakes.{accept_one, tick_handshake}
 use Rattle.vs_proxy.specs.State.{start}

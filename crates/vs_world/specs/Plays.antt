@@ -7,9 +7,9 @@ use Rattle.vs_outside.specs.HostProgram.{after_listen, after_unlisten, after_cli
 use Rattle.vs_outside.specs.HostBytes.{wrote_after_connect, read_after_ok}
 use Rattle.vs_outside.specs.declared.mem_stream.HostWritten.{HostWritten}
 use Rattle.vs_ring_port.specs.declared.failure.Failure.{Failure}
-use Rattle.vs_driver.specs.Conversations.{connect_of, send_of, poll_of, DriverTree}
-use Rattle.vs_driver.specs.State.{DriverState}
-use Rattle.vs_driver.specs.declared.answers.Polled.{Polled}
+use Rattle.vs_driver_parts.specs.Conversations.{connect_of, send_of, poll_of, DriverTree}
+use Rattle.vs_driver_parts.specs.State.{DriverState}
+use Rattle.vs_driver_parts.specs.declared.answers.Polled.{Polled}
 use Rattle.vs_proxy.specs.Turns.{turn_of, proxy_reset_of}
 use Rattle.vs_proxy.specs.declared.answers.Turn.{Turn}
 use Rattle.vs_world.specs.Calls.{GuestCall, ReplyTo, Connect, Send}

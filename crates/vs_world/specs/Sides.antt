@@ -6,7 +6,7 @@ use Rattle.vs_matching.specs.Ends.{Ends, entries_of}
 use Rattle.vs_page.specs.Log.{Log}
 use Rattle.vs_replies.specs.declared.Reply.{Reply}
 use Rattle.vs_ring_port.specs.EndLog.{EndLog, all_put}
-use Rattle.vs_driver.specs.State.{DriverState}
+use Rattle.vs_driver_parts.specs.State.{DriverState}
 use Rattle.vs_proxy.specs.State.{ProxyState}
 use Rattle.vs_world.specs.World.{World}
 
