@@ -17,6 +17,7 @@ use Rattle.vs_device.specs.State.{DeviceConnection, DeviceEntry, DeviceState}
 use Rattle.vs_device.specs.Connections.{with_connection, stream_closed, after_leaving}
 use Rattle.vs_device.specs.Playing.{CanMake, MayRun, MayRunOnHost, MayClose, Runs, RunsOnHost, AllowsOnHost, situation}
 use Rattle.vs_device.specs.Streams.{closing, leaving}
+use Rattle.vs_device.proofs.Under.{with_value_twice}
 
 -- a stream is closed, or was
 module _ (e : DeviceEntry) (f : DeviceConnection → DeviceConnection) (s : DeviceState) where
@@ -80,3 +81,30 @@ left s new slot e t n view is count at =
     ap (λ (u : Table DeviceConnection). let r : DeviceState = record s { table = u; closed = n } in r) is
     ∙ (ap (λ (k : ℕ). let r : DeviceState = record s { table = without s.table slot; closed = k } in r) count
     ∙ (ap (λ (k : ℕ). after_leaving k s) (sym at) ∙ ap (λ (x : DeviceState). after_leaving e.slot x) view))
+
+-- the device with another connection under a slot where it had another already
+pub changed_twice : (s m : DeviceState) (slot : ℕ) (e : DeviceEntry) (a c : DeviceConnection) (t : Table DeviceConnection) → m ≡ with_connection slot a s
+    → t ≡ with_value m.table slot c → e.slot ≡ slot → ◌≡◌ {A = DeviceState} (record m { table = t }) (with_connection e.slot c s)
+changed_twice s m slot e a c t mid is at =
+    ap (λ (u : Table DeviceConnection). let r : DeviceState = record m { table = u } in r) is
+    ∙ (ap (λ (x : DeviceState). let r : DeviceState = record x { table = with_value x.table slot c } in r) mid
+    ∙ (ap (λ (u : Table DeviceConnection). let r : DeviceState = record s { table = u } in r) (with_value_twice s.table slot a c)
+    ∙ ap (λ (n : ℕ). with_connection n c s) (sym at)))
+
+-- leaving doesn't see the connection that was there
+ends_as : (closed : Bool) (stream : ℕ) → DeviceState → DeviceTree DeviceState
+ends_as closed stream u = cond closed (Done u) (Ask (CloseStream stream) (λ _. Done u))
+
+closing_twice : (e : DeviceEntry) (f : DeviceConnection → DeviceConnection) (a : DeviceConnection) (s : DeviceState)
+    → closing e f (with_connection e.slot a s) ≡ closing e f s
+unfolding ends_as
+closing_twice e f a s =
+    ap (ends_as e.value.closed e.value.stream)
+    (ap (λ (u : Table DeviceConnection). let r : DeviceState = record s { table = u } in r) (with_value_twice s.table e.slot a (f e.value)))
+
+pub leaving_twice : (e : DeviceEntry) (a : DeviceConnection) (s m t : DeviceState) (x y : Situation) → m ≡ with_connection e.slot a s
+    → Runs (leaving e m) x t y → Runs (leaving e s) x t y
+leaving_twice e a s m t x y is runs =
+    let P : DeviceState → Type 0 = λ u. Runs (leaving e u) x t y in
+    let Q : DeviceTree DeviceState → Type 0 = λ p. Runs (bind p (λ u. Done (after_leaving e.slot u))) x t y in
+    subst Q (closing_twice e stream_closed a s) (subst P is runs)

@@ -12,3 +12,5 @@ mod Writes
 mod Paying
 mod Reading
 mod Held
+mod Verdicts
+mod Takings

@@ -1,9 +1,10 @@
 -- The entry under a slot, and the table with another value there.
-use Rattle.std.proofs.Common.{◌≡◌, ℕ, ◌==◌, Bool, true, false, Option, Some, None, refl, sym, ap, ◌∙◌, arith}
+use Rattle.std.proofs.Common.{◌≡◌, ℕ, ◌==◌, Bool, true, false, cond, List, [], ◌∷◌, map, Option, Some, None, refl, sym, ap, ◌∙◌, arith}
 use Rattle.std.specs.Option.{option_map}
 use Rattle.std.proofs.lemmas.Bool.Decides.{nat_tests}
 use Rattle.vs_flow.specs.Table.{Table, entry_under, value_under, with_value, revalued}
 use Rattle.vs_flow.proofs.Entries.{found_passes}
+use Rattle.vs_flow.proofs.Tables.{revalued-slot}
 use Rattle.vs_flow.proofs.Lookups.{entry_under-with_value}
 use Rattle.vs_device.specs.State.{DeviceConnection, DeviceEntry}
 
@@ -53,3 +54,34 @@ under_changed t slot e c found =
 
 pub value_is : (t : Table DeviceConnection) (slot : ℕ) (e : DeviceEntry) (c : DeviceConnection) → entry_under t slot ≡ Some e → value_under t slot ≡ Some c → e.value ≡ c
 value_is t slot e c found is = let same : Some e.value ≡ Some c = sym (value_of t slot e found) ∙ is in cc
+
+pub value_changed : (t : Table DeviceConnection) (slot : ℕ) (e : DeviceEntry) (c : DeviceConnection) → entry_under t slot ≡ Some e
+    → value_under (with_value t slot c) slot ≡ Some c
+value_changed t slot e c found = value_of (with_value t slot c) slot (with_its e c) (under_changed t slot e c found)
+
+revalued_twice : (slot : ℕ) (a b : DeviceConnection) (e : DeviceEntry) → revalued slot b (revalued slot a e) ≡ revalued slot b e
+revalued_twice slot a b e = by (e.slot == slot) refl
+  where
+    by : (h : Bool) → (e.slot == slot) ≡ h → revalued slot b (revalued slot a e) ≡ revalued slot b e
+    by true is = rw (revalued-slot slot a e, is) refl
+    by false is = rw (revalued-slot slot a e, is) refl
+
+map_twice : (slot : ℕ) (a b : DeviceConnection) (es : List DeviceEntry) → map (revalued slot b) (map (revalued slot a) es) ≡ map (revalued slot b) es
+map_twice slot a b [] = refl
+map_twice slot a b (e ∷ es) =
+    ap (λ (d : DeviceEntry). d ∷ map (revalued slot b) (map (revalued slot a) es)) (revalued_twice slot a b e)
+    ∙ ap (λ (ds : List DeviceEntry). revalued slot b e ∷ ds) (map_twice slot a b es)
+
+-- the last value written stands
+pub with_value_twice : (t : Table DeviceConnection) (slot : ℕ) (a b : DeviceConnection) → with_value (with_value t slot a) slot b ≡ with_value t slot b
+with_value_twice t slot a b = ap (λ (es : List DeviceEntry). let u : Table DeviceConnection = record t { entries = es } in u) (map_twice slot a b t.entries)
+
+-- what a look-up by another key found
+pub record IsMapped {X : Type 0} (f : X → ℕ) (o : Option X) (n : ℕ) : Type 0 where
+  pub from : X
+  pub some : o ≡ Some from
+  pub gives : f from ≡ n
+
+pub mapped : {X : Type 0} (f : X → ℕ) (o : Option X) (n : ℕ) → Some n ≡ option_map f o → IsMapped f o n
+mapped f None n is = absurd (cc)
+mapped f (Some x) n is = record { from = x; some = refl; gives = cc }

@@ -12,3 +12,4 @@ pub mod Playing
 pub mod DeviceFields
 pub mod Filling
 pub mod Written
+pub mod Taking

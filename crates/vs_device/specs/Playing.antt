@@ -6,7 +6,7 @@ use Rattle.vs_outside.specs.Host.{HostContents, IsOpen}
 use Rattle.vs_ring_port.specs.declared.device_ring.Chain.{Chain}
 use Rattle.vs_ring_port.specs.declared.queue.Queue.TheVariants.{Rx}
 use Rattle.vs_ring_port.specs.Chains.{IsLongEnough}
-use Rattle.vs_ring_port.specs.Contents.{RingContents, Write, Return}
+use Rattle.vs_ring_port.specs.Contents.{RingContents, DeviceCall, DeviceAnswer, Write, Return}
 use Rattle.vs_ring_port.specs.DeviceCalls.{LeavesNoGap, CanReturn}
 use Rattle.vs_device.specs.Calls.{Call, Answer, Ring, Label, ReadStream, WriteStream, ShutWrite, CloseStream, Situation, DeviceTree, Allows}
 use Rattle.vs_device.specs.State.{DeviceConnection, DeviceState}
@@ -51,6 +51,9 @@ RunsOnRing tree old x new = (host : Option HostContents) (faults : ℕ) → Runs
 abbrev pub AllowsOnHost : (call : Call) → Answer call → Option HostContents → ℕ → Option HostContents → ℕ → Type 0
 AllowsOnHost call a old faults new counted = (ring : RingContents) → Allows call a (situation ring old faults) (situation ring new counted)
 
+abbrev pub AllowsOnRing : (call : DeviceCall) → DeviceAnswer call → RingContents → RingContents → Type 0
+AllowsOnRing call a old new = (host : Option HostContents) (faults : ℕ) → Allows (Ring call) a (situation old host faults) (situation new host faults)
+
 -- The chains that a device holds between its calls: one of rx, or none.
 abbrev pub held_by : Option Chain → List Chain
 held_by None = []
@@ -63,6 +66,10 @@ IsRxChain chain = (chain.queue ≡ Rx) × IsLongEnough Rx chain
 pub record IsRingOf (held : List Chain) (s : DeviceState) : Type 0 where
   pub chains : held ≡ held_by s.chain
   pub rx : IfSome s.chain IsRxChain
+
+-- A ring is the device's unless a ring failed: then the device makes no further call on it.
+abbrev pub IsItsRing : List Chain → DeviceState → Type 0
+IsItsRing held s = s.failed ≡ None → IsRingOf held s
 
 -- The stream of a connection may be closed, where it isn't yet.
 abbrev pub MayClose : DeviceConnection → Option HostContents → Type 0

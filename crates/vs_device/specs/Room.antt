@@ -23,7 +23,7 @@ pub record HasRoom (e : ConnectionEnd) (b : Buffers) : Type 0 where
   pub line_room : OK_MAX ≤ b.ok_line.capacity
   pub line_fits : length b.ok_line.bytes ≤ OK_MAX
   pub room : BUF_ALLOC ≤ b.pending.capacity
-  pub space : e.credit.alloc ≤ b.pending.capacity
+  pub space : e.credit.alloc ≤ BUF_ALLOC
   pub within : unread_of e.credit ≤ e.credit.alloc
   pub alloc : e.credit.alloc < 2 ^ 32
   pub rx_cnt : e.credit.rx_cnt < 2 ^ 32

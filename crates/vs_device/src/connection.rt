@@ -137,6 +137,7 @@ impl Connection {
         ensures verdict { result ≡ verdict_of self.old.end header.now }
         ensures heard { self.new ≡ heard header.now self.old }
         ensures room { result ≡ Deliver → length self.old.pending + header.now.len ≤ unread_of self.new.end.credit }
+        ensures most { result ≡ Deliver → header.now.len ≤ BUF_ALLOC }
         ensures delivers { result ≡ Deliver → may_shut self.new.end.state ≡ true }
         ensures accepts { result ≡ Accept → may_shut self.new.end.state ≡ true }
     {

@@ -3,6 +3,7 @@
 ghost use Rattle.std.specs.Prelude.{◌≡◌, ◌≤◌, IfOk, length};
 ghost use Rattle.vs_uds.specs.declared.path.TheConstants.{BASE_MAX};
 ghost use Rattle.vs_device.specs.Connections.{with_fault};
+ghost use Rattle.vs_device.specs.Transmitting.{failing};
 ghost use Rattle.vs_device.specs.Turns.{counters_of, new_device};
 
 use crate::answers::Counters;
@@ -110,5 +111,12 @@ impl Device {
         ensures { self.new ≡ with_fault self.old }
     {
         self.faults = self.faults.saturating_add(1);
+    }
+
+    /// The ring failed: the failure is kept.
+    pub(crate) fn fail(&mut self, failure: Failure)
+        ensures { self.new ≡ failing failure self.old }
+    {
+        self.failed = Some(failure);
     }
 }

@@ -10,9 +10,11 @@ mod host_calls;
 pub mod limits;
 mod packets;
 mod receive;
+mod ring_calls;
 mod round;
 mod slots;
 mod streams;
+mod transmit;
 
 pub use answers::{Counters, Filled, Taken};
 pub use device::Device;

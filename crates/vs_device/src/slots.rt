@@ -199,6 +199,7 @@ impl Slots {
         ensures verdict { (c : DeviceConnection) → value_under self.old slot ≡ Some c → result ≡ verdict_of c.end header.now }
         ensures left { (c : DeviceConnection) → value_under self.old slot ≡ Some c → self.new ≡ with_value self.old slot (heard header.now c) }
         ensures room { (c : DeviceConnection) → value_under self.old slot ≡ Some c → result ≡ Deliver → length c.pending + header.now.len ≤ unread_of (heard header.now c).end.credit }
+        ensures most { (c : DeviceConnection) → value_under self.old slot ≡ Some c → result ≡ Deliver → header.now.len ≤ BUF_ALLOC }
         ensures delivers { (c : DeviceConnection) → value_under self.old slot ≡ Some c → result ≡ Deliver → may_shut (heard header.now c).end.state ≡ true }
         ensures accepts { (c : DeviceConnection) → value_under self.old slot ≡ Some c → result ≡ Accept → may_shut (heard header.now c).end.state ≡ true }
     {

@@ -1,0 +1,99 @@
+-- What the verdict on a packet of a connection comes to.
+use Rattle.std.proofs.Common.{◌≡◌, ℕ, Bool, true, false, cond, List, [], ◌++◌, refl, sym, ap, subst, ◌∙◌}
+use Rattle.vs_contents.specs.CallTree.{Done, Ask, bind}
+use Rattle.vs_contents.proofs.Leads.{leads_of, leads_bind}
+use Rattle.vs_contents.proofs.Conditions.{may_first, may_rest, may_of}
+use Rattle.vs_header.specs.declared.Header.{Header}
+use Rattle.vs_header.specs.declared.TheConstants.{HEADER_LEN}
+use Rattle.vs_conn.specs.End.{is_reset, verdict_of}
+use Rattle.vs_conn.specs.declared.end.Verdict.{Verdict}
+use Rattle.vs_conn.specs.declared.end.Verdict.TheVariants as verdict
+use Rattle.vs_conn.specs.declared.end.Why.{Why}
+use Rattle.vs_conn.specs.declared.end.Why.TheVariants as why
+use Rattle.vs_ring_port.specs.declared.device_ring.Chain.{Chain}
+use Rattle.vs_ring_port.specs.Contents.{Read}
+use Rattle.vs_uds.specs.OkLine.{ok_text}
+use Rattle.vs_device.specs.Calls.{Situation, DeviceTree, Allows, Ring}
+use Rattle.vs_device.specs.State.{DeviceConnection, DeviceEntry, DeviceState}
+use Rattle.vs_device.specs.Connections.{with_connection, stream_closed, after_leaving}
+use Rattle.vs_device.specs.Playing.{CanMake, MayRun, MayClose, Runs}
+use Rattle.vs_device.specs.Streams.{leaving, closing}
+use Rattle.vs_device.specs.Taking.{after_refusal, known_packet}
+use Rattle.vs_device.specs.Transmitting.{heard, on_known}
+use Rattle.vs_device.proofs.Leaving.{may_close}
+
+module _ (chain : Chain) (h : Header) (e : DeviceEntry) (s t : DeviceState) where
+  abbrev pub same_end : DeviceState
+  same_end = with_connection e.slot (heard h e.value) s
+
+  pub accepted : (v : Verdict) (x : Situation) → v ≡ verdict.Accept
+      → t ≡ with_connection e.slot (record (heard h e.value) { ok_line = cond e.value.by_client (ok_text e.flow.host) [] }) s → Runs (on_known v chain h e s) x t x
+  accepted v x is end = let P : Verdict → Type 0 = λ u. Runs (on_known u chain h e s) x t x in subst P (sym is) (sym end, refl)
+
+  pub delivered : (v : Verdict) (bytes : List ℕ) (x y : Situation) → v ≡ verdict.Deliver → Allows (Ring (Read chain HEADER_LEN h.len)) bytes x y
+      → t ≡ with_connection e.slot (record (heard h e.value) { pending = e.value.pending ++ bytes }) s → Runs (on_known v chain h e s) x t y
+  delivered v bytes x y is allowed end = let P : Verdict → Type 0 = λ u. Runs (on_known u chain h e s) x t y in subst P (sym is) (bytes, y, allowed, (sym end, refl))
+
+  pub over : (x y : Situation) → is_reset h ≡ true → Runs (leaving (record e { value = heard h e.value }) s) x t y → Runs (on_known verdict.Peer chain h e s) x t y
+  over x y is runs =
+      let same : on_known verdict.Peer chain h e s ≡ leaving (record e { value = heard h e.value }) s = rw is refl in
+      leads_of Allows _ _ x y t same runs
+
+  pub stays : (x : Situation) → is_reset h ≡ false → t ≡ same_end → Runs (on_known verdict.Peer chain h e s) x t x
+  stays x is end =
+      let same : on_known verdict.Peer chain h e s ≡ Done same_end = rw is refl in
+      leads_of Allows _ _ x x t same (sym end, refl)
+
+  pub refuses : (w : Why) (x : Situation) → t ≡ with_connection e.slot (heard h e.value) (after_refusal w s) → Runs (on_known (verdict.Rst w) chain h e s) x t x
+  refuses (why.Overrun o) x end = (sym end, refl)
+  refuses why.BadKind x end = (sym end, refl)
+  refuses why.BadOp x end = (sym end, refl)
+  refuses why.Twice x end = (sym end, refl)
+  refuses why.NotAsked x end = (sym end, refl)
+  refuses why.NotLive x end = (sym end, refl)
+  refuses why.AfterShutdown x end = (sym end, refl)
+
+  pub counted_refusal : (w : Why) (u : DeviceState) → u ≡ same_end → after_refusal w u ≡ with_connection e.slot (heard h e.value) (after_refusal w s)
+  counted_refusal (why.Overrun o) u is = ap (after_refusal (why.Overrun o)) is
+  counted_refusal why.BadKind u is = is
+  counted_refusal why.BadOp u is = is
+  counted_refusal why.Twice u is = is
+  counted_refusal why.NotAsked u is = is
+  counted_refusal why.NotLive u is = is
+  counted_refusal why.AfterShutdown u is = is
+
+  pub by_verdict : (v w : Verdict) (x y : Situation) → v ≡ w → Runs (on_known w chain h e s) x t y → Runs (on_known v chain h e s) x t y
+  by_verdict v w x y is runs = let P : Verdict → Type 0 = λ u. Runs (on_known u chain h e s) x t y in subst P (sym is) runs
+
+  pub discards : (x : Situation) → t ≡ same_end → Runs (on_known verdict.Discard chain h e s) x t x
+  discards x end = (sym end, refl)
+
+  pub ignores : (x : Situation) → t ≡ same_end → Runs (on_known verdict.Ignore chain h e s) x t x
+  ignores x end = (sym end, refl)
+
+  answered : Verdict → DeviceState → DeviceTree (DeviceState × Verdict)
+  answered v u = Done (u, v)
+
+  pub known : (v : Verdict) (x y : Situation) → v ≡ verdict_of e.value.end h → Runs (on_known v chain h e s) x t y → Runs (known_packet chain h e s) x (t, v) y
+  unfolding answered
+  known v x y is runs =
+      let w = verdict_of e.value.end h in
+      let P : Verdict → Type 0 = λ u. Runs (bind (on_known u chain h e s) (answered u)) x (t, v) y in
+      subst P is (leads_bind Allows (on_known v chain h e s) (answered v) x y y t (t, v) runs (refl, refl))
+
+-- what is asked of a packet that ends the connection
+pub may_leave : (chain : Chain) (h : Header) (e : DeviceEntry) (s : DeviceState) (v : Verdict) (x : Situation) → v ≡ verdict_of e.value.end h → v ≡ verdict.Peer → is_reset h ≡ true
+    → MayRun (known_packet chain h e s) x → MayClose (heard h e.value) x.host
+may_leave chain h e s v x is peer reset may =
+    let gone : DeviceEntry = record e { value = heard h e.value } in
+    let P : Verdict → Type 0 = λ u. MayRun (tree u) x in
+    let first = may_first CanMake Allows (on_known verdict.Peer chain h e s) (ends verdict.Peer) x (subst P (sym is ∙ peer) may) in
+    let same : on_known verdict.Peer chain h e s ≡ leaving gone s = rw reset refl in
+    let leaves = may_of CanMake Allows _ _ x same first in
+    may_close gone stream_closed s x (may_first CanMake Allows (closing gone stream_closed s) (λ t. Done (after_leaving gone.slot t)) x leaves)
+  where
+    ends : Verdict → DeviceState → DeviceTree (DeviceState × Verdict)
+    ends u t = Done (t, u)
+
+    tree : Verdict → DeviceTree (DeviceState × Verdict)
+    tree u = bind (on_known u chain h e s) (ends u)

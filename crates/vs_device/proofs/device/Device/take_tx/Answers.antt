@@ -1,0 +1,91 @@
+use Rattle.std.proofs.Common.{◌≡◌, ◌≢◌, ℕ, ◌+◌, ◌-◌, ◌≤◌, ◌<◌, ◌++◌, ◌∷◌, [], Bool, true, false, cond, List, length, take, Option, Some, None, nat_lt, refl, sym, ap, subst, ◌∙◌, rules, arith}
+use Rattle.std.specs.Option.{ForSome, IfSome, option_map}
+use Rattle.vs_flow.specs.Table.{Table, entry_of, entry_under, value_under, with_value, has_place}
+use Rattle.vs_flow.specs.declared.flow.Flow.{Flow}
+use Rattle.vs_conn.specs.End.{verdict_of, is_reset, may_shut}
+use Rattle.vs_conn.specs.declared.end.Verdict.{Verdict}
+use Rattle.vs_conn.specs.declared.end.Verdict.TheVariants as verdict
+use Rattle.vs_header.specs.Packet.{header_of}
+use Rattle.vs_header.specs.declared.Header.{Header}
+use Rattle.vs_header.specs.declared.TheConstants.{HEADER_LEN}
+use Rattle.vs_outside.specs.declared.host_net.Dialed.{Dialed}
+use Rattle.vs_page.specs.Log.{flow_to_host}
+use Rattle.vs_ring_port.specs.Contents.{RingContents, Take, Read, Return}
+use Rattle.vs_ring_port.specs.Chains.{same_chain, without}
+use Rattle.vs_ring_port.specs.declared.device_ring.Chain.{Chain}
+use Rattle.vs_ring_port.specs.declared.device_ring.Next.{Next}
+use Rattle.vs_ring_port.specs.declared.device_ring.Next.TheVariants as next
+use Rattle.vs_ring_port.specs.declared.failure.Failure.{Failure}
+use Rattle.vs_ring_port.specs.declared.failure.Failure.TheVariants as failure
+use Rattle.vs_ring_port.specs.declared.queue.Queue.TheVariants.{Tx}
+use Rattle.vs_uds.specs.OkLine.{ok_text}
+use Rattle.vs_uds.specs.Path.{path_of}
+use Rattle.vs_device.specs.declared.answers.Taken.TheVariants as taken
+use Rattle.vs_device.specs.Calls.{Situation, Allows, Ring, Dial}
+use Rattle.vs_device.specs.State.{DeviceConnection, DeviceEntry, DeviceState}
+use Rattle.vs_device.specs.Connections.{with_connection}
+use Rattle.vs_device.specs.Playing.{MayClose, MayRun, Runs, IsRingOf, held_by, situation}
+use Rattle.vs_device.specs.Streams.{leaving}
+use Rattle.vs_device.specs.Taking.{after_refusal, known_packet}
+use Rattle.vs_device.specs.Transmitting.{heard, on_known, on_packet, on_header, on_next, try_request, dial_answered, failing}
+use Rattle.vs_device.specs.contracts.device.Device.{the_view}
+use Rattle.vs_device.proofs.Leaving.{changed, changed_twice, leaving_twice}
+use Rattle.vs_device.proofs.Under.{has_slot, value_of, with_its, under_changed, value_changed}
+use Rattle.vs_device.proofs.Verdicts.{accepted, delivered, over, stays, refuses, by_verdict, discards, ignores, known, may_leave}
+use Rattle.std.proofs.Common.{nat_le}
+use Rattle.vs_device.specs.declared.limits.TheConstants.{REPLIES}
+use Rattle.vs_device.proofs.Takings.{may_next, took_next, by_next}
+use Rattle.vs_device.proofs.device.Device.take_tx.Goals as goal
+
+pub take_chain-requires-clause-may : goal.take_chain-requires-clause-may
+take_chain-requires-clause-may g c =
+    let s : DeviceState = c.args.self.now in
+    let sound : s.failed ≡ None = rw (← c.self.view_is) (search rules) in
+    let room : nat_le REPLIES (length s.replies) ≡ false = rw (← c.self.view_is) (search rules) in
+    let host = g.H.HostNet.contents c.args.host.now in
+    let faults = g.H.HostNet.faults c.args.host.now in
+    let x = situation (g.R.DeviceRing.contents c.args.ring.now) host faults in
+    let y = situation (g.R.DeviceRing.contents c.take.new.ring) host faults in
+    let took : Allows (Ring (Take Tx)) c.take.result x y = c.take.ensures.calls host faults in
+    let P : Next → Type 0 = λ n. MayRun (on_next n s) y in
+    subst P c.in-Chain.is (may_next s sound room c.take.result x y c.requires.may took)
+
+pub returns-in-Chain-clause-calls : goal.returns-in-Chain-clause-calls
+returns-in-Chain-clause-calls g c =
+    let s : DeviceState = c.args.self.now in
+    let sound : s.failed ≡ None = rw (← c.self.view_is) (search rules) in
+    let room : nat_le REPLIES (length s.replies) ≡ false = rw (← c.self.view_is) (search rules) in
+    let host = g.H.HostNet.contents c.args.host.now in
+    let faults = g.H.HostNet.faults c.args.host.now in
+    let x = situation (g.R.DeviceRing.contents c.args.ring.now) host faults in
+    let y = situation (g.R.DeviceRing.contents c.take.new.ring) host faults in
+    let took : Allows (Ring (Take Tx)) c.take.result x y = c.take.ensures.calls host faults in
+    let z = situation (g.R.DeviceRing.contents c.take_chain.new.ring) (g.H.HostNet.contents c.take_chain.new.host) (g.H.HostNet.faults c.take_chain.new.host) in
+    took_next s sound room c.take.result _ x y z took
+    (by_next s c.take_chain.new.self c.take.result (next.Chain c.in-Chain.chain) c.take_chain.result y z c.in-Chain.is c.take_chain.ensures.calls)
+
+pub returns-in-None-clause-calls : goal.returns-in-None-clause-calls
+returns-in-None-clause-calls g c =
+    let s : DeviceState = c.args.self.now in
+    let sound : s.failed ≡ None = rw (← c.self.view_is) (search rules) in
+    let room : nat_le REPLIES (length s.replies) ≡ false = rw (← c.self.view_is) (search rules) in
+    let host = g.H.HostNet.contents c.args.host.now in
+    let faults = g.H.HostNet.faults c.args.host.now in
+    let x = situation (g.R.DeviceRing.contents c.args.ring.now) host faults in
+    let y = situation (g.R.DeviceRing.contents c.take.new.ring) host faults in
+    let took : Allows (Ring (Take Tx)) c.take.result x y = c.take.ensures.calls host faults in
+    took_next s sound room c.take.result (s, taken.None) x y y took (by_next s s c.take.result next.None taken.None y y c.in-None.is (refl, refl))
+
+pub returns-in-Failed-clause-calls : goal.returns-in-Failed-clause-calls
+returns-in-Failed-clause-calls g c =
+    let s : DeviceState = c.args.self.now in
+    let sound : s.failed ≡ None = rw (← c.self.view_is) (search rules) in
+    let room : nat_le REPLIES (length s.replies) ≡ false = rw (← c.self.view_is) (search rules) in
+    let host = g.H.HostNet.contents c.args.host.now in
+    let faults = g.H.HostNet.faults c.args.host.now in
+    let x = situation (g.R.DeviceRing.contents c.args.ring.now) host faults in
+    let y = situation (g.R.DeviceRing.contents c.take.new.ring) host faults in
+    let took : Allows (Ring (Take Tx)) c.take.result x y = c.take.ensures.calls host faults in
+    let f : Failure = c.in-Failed.failure in
+    let end = ap (λ (u : DeviceState). (u, taken.Failed f)) (sym c.fail.ensures) in
+    took_next s sound room c.take.result _ x y y took (by_next s c.fail.new.self c.take.result (next.Failed f) (taken.Failed f) y y c.in-Failed.is (end, refl))

@@ -1,0 +1,377 @@
+//! Packets that the device takes from the guest (Virtio 1.2, sections 5.10.6.1 to 5.10.6.5).
+
+ghost use Rattle.std.specs.Prelude.{◌≡◌, ◌≤◌, ◌<◌, ◌+◌, ◌-◌, ◌∷◌, ◌++◌, [], ℕ, List, true, false, Some, None, Contains, IfSome, length, nat_lt};
+ghost use Rattle.std.specs.Option.{ForSome};
+ghost use Rattle.vs_conn.specs.End.{is_reset, is_stream, may_shut, verdict_of};
+ghost use Rattle.vs_conn.specs.declared.end.Verdict.TheVariants.{Accept, Deliver, Peer};
+ghost use Rattle.vs_credit.specs.Credit.{unread_of};
+ghost use Rattle.vs_flow.specs.Table.{IsTable, entry_of, entry_under, has_place, value_under, with_value};
+ghost use Rattle.vs_header.specs.declared.TheConstants.{HEADER_LEN};
+ghost use Rattle.vs_history.specs.declared.TheConstants.{BUF_ALLOC};
+ghost use Rattle.vs_page.specs.Log.{flow_to_host};
+ghost use Rattle.vs_replies.specs.Owed.{reply_to};
+ghost use Rattle.vs_ring_port.specs.Chains.{IsLongEnough};
+ghost use Rattle.vs_ring_port.specs.Contents.{Read};
+ghost use Rattle.vs_ring_port.specs.declared.device_ring.Chain.{Chain};
+ghost use Rattle.vs_ring_port.specs.declared.device_ring.Next.TheVariants as next;
+ghost use Rattle.vs_ring_port.specs.declared.queue.Queue.TheVariants.{Tx};
+ghost use Rattle.vs_device.specs.declared.limits.TheConstants.{REPLIES};
+ghost use Rattle.vs_device.specs.Calls.{DeviceTree};
+ghost use Rattle.vs_device.specs.Connections.{with_connection, with_reply};
+ghost use Rattle.vs_device.specs.Playing.{AllowsOnRing, IsItsRing, IsRxChain, MayClose, MayRun, Runs, RunsOnHost, held_by, situation};
+ghost use Rattle.vs_device.specs.State.{DeviceConnection, DeviceEntry, DeviceState};
+ghost use Rattle.vs_device.specs.Taking.{after_refusal, asks_for_stream, is_not_for_host, known_packet};
+ghost use Rattle.vs_device.specs.Transmitting.{dial_answered, failing, heard, on_header, on_known, on_next, on_packet, on_unknown, refused, take_tx_of, try_request, unknown_why};
+
+use crate::answers::Taken;
+use crate::device::Device;
+use crate::host_calls::dial;
+use crate::limits::REPLIES;
+use crate::ring_calls::{read_header, read_payload, return_read, take};
+use crate::slots::Slots;
+use vs_conn::{Verdict, Why};
+use vs_flow::{Flow, Slot, is_assigned};
+use vs_header::{HEADER_LEN, Header, Kind, Op};
+use vs_outside::{Dialed, HostNet};
+use vs_page::HOST_CID;
+use vs_replies::Reply;
+use vs_ring_port::{Chain, DeviceRing, Failure, Next, Queue};
+use vs_uds::listen_path;
+
+impl Device {
+    /// Takes the next packet that the guest sent, if one is there, and returns its chain. With 64 replies owed none is taken: `RepliesFull`.
+    ///
+    /// A packet is dropped and counted whose source isn't the guest's CID or whose destination isn't the host's. On a connection of the table
+    /// the end's verdict stands; with `Deliver` the payload is to be written to the host's stream. An RST of an unknown flow is ignored. A
+    /// REQUEST of an unknown flow opens a connection where the host listens at its port; else it gets RST, as all other packets of unknown
+    /// flows do. `Failed` comes where the ring fails, or has failed before, and where a packet says that it holds more payload than its chain
+    /// has; from then on each call answers that failure and does nothing.
+    pub fn take_tx<R: DeviceRing, H: HostNet>(&mut self, ring: &mut R, host: &mut H) -> Taken
+        requires ring { IsItsRing (R.held ring.old) self.old }
+        requires may { MayRun (take_tx_of self.old) (situation (R.contents ring.old) (H.contents host.old) (H.faults host.old)) }
+        ensures ring { IsItsRing (R.held ring.new) self.new }
+        ensures calls { Runs (take_tx_of self.old) (situation (R.contents ring.old) (H.contents host.old) (H.faults host.old)) (self.new, result) (situation (R.contents ring.new) (H.contents host.new) (H.faults host.new)) }
+    {
+        if let Some(failure) = self.failed {
+            return Taken::Failed(failure);
+        }
+        if self.replies.len() >= REPLIES {
+            return Taken::RepliesFull {
+                replies: REPLIES as u32,
+            };
+        }
+        match take(ring, Queue::Tx) {
+            Next::Chain(chain) => self.take_chain(ring, host, chain),
+            Next::None => Taken::None,
+            Next::Failed(failure) => {
+                self.fail(failure);
+                Taken::Failed(failure)
+            }
+        }
+    }
+
+    // Takes the packet in a chain.
+    fn take_chain<R: DeviceRing, H: HostNet>(
+        &mut self,
+        ring: &mut R,
+        host: &mut H,
+        chain: Chain,
+    ) -> Taken
+        requires held { R.held ring.old ≡ chain ∷ held_by self.old.chain }
+        requires rx { IfSome self.old.chain IsRxChain }
+        requires long_enough { IsLongEnough Tx chain }
+        requires room { length self.old.replies < REPLIES }
+        requires may { MayRun (on_next (next.Chain chain) self.old) (situation (R.contents ring.old) (H.contents host.old) (H.faults host.old)) }
+        ensures ring { IsItsRing (R.held ring.new) self.new }
+        ensures calls { Runs (on_next (next.Chain chain) self.old) (situation (R.contents ring.old) (H.contents host.old) (H.faults host.old)) (self.new, result) (situation (R.contents ring.new) (H.contents host.new) (H.faults host.new)) }
+    {
+        let header = read_header(ring, &chain);
+        if is_short(&chain, header.len) {
+            let failure = Failure::PayloadShort {
+                len: header.len,
+                held: chain.readable - HEADER_LEN as u64,
+            };
+            self.fail(failure);
+            return Taken::Failed(failure);
+        }
+        let verdict = self.on_packet(ring, host, &chain, &header);
+        return_read(ring, chain);
+        Taken::Packet(verdict)
+    }
+
+    // Takes a packet whose payload lies in its chain.
+    fn on_packet<R: DeviceRing, H: HostNet>(
+        &mut self,
+        ring: &mut R,
+        host: &mut H,
+        chain: &Chain,
+        header: &Header,
+    ) -> Verdict
+        requires is_held { Contains (R.held ring.old) chain.now }
+        requires whole { HEADER_LEN + header.now.len ≤ chain.now.readable }
+        requires room { length self.old.replies < REPLIES }
+        requires may { MayRun (on_packet chain.now header.now self.old) (situation (R.contents ring.old) (H.contents host.old) (H.faults host.old)) }
+        ensures held { R.held ring.new ≡ R.held ring.old }
+        ensures calls { Runs (on_packet chain.now header.now self.old) (situation (R.contents ring.old) (H.contents host.old) (H.faults host.old)) (self.new, result) (situation (R.contents ring.new) (H.contents host.new) (H.faults host.new)) }
+        ensures chain { self.new.chain ≡ self.old.chain }
+    {
+        if self.is_dropped(header) {
+            self.dropped = self.dropped.saturating_add(1);
+            return Verdict::Ignore;
+        }
+        let flow = flow_to_host(header);
+        match self.slots.by_flow(flow) {
+            Some(slot) => self.on_known(ring, host, slot, chain, header),
+            None => self.on_unknown(host, flow, header),
+        }
+    }
+
+    // Whether a packet doesn't come from the guest, or isn't for the host.
+    fn is_dropped(&self, header: &Header) -> bool
+        ensures { result ≡ is_not_for_host self.now.cid header.now }
+    {
+        !(header.src_cid == self.cid && header.dst_cid == HOST_CID)
+    }
+
+    // Takes a packet of the connection in a slot.
+    fn on_known<R: DeviceRing, H: HostNet>(
+        &mut self,
+        ring: &mut R,
+        host: &mut H,
+        slot: Slot,
+        chain: &Chain,
+        header: &Header,
+    ) -> Verdict
+        requires is_held { Contains (R.held ring.old) chain.now }
+        requires whole { HEADER_LEN + header.now.len ≤ chain.now.readable }
+        requires there { (e : DeviceEntry) × (entry_under self.old.table slot ≡ Some e) }
+        requires may { (e : DeviceEntry) → entry_under self.old.table slot ≡ Some e → MayRun (known_packet chain.now header.now e self.old) (situation (R.contents ring.old) (H.contents host.old) (H.faults host.old)) }
+        ensures held { R.held ring.new ≡ R.held ring.old }
+        ensures calls { (e : DeviceEntry) → entry_under self.old.table slot ≡ Some e → Runs (known_packet chain.now header.now e self.old) (situation (R.contents ring.old) (H.contents host.old) (H.faults host.old)) (self.new, result) (situation (R.contents ring.new) (H.contents host.new) (H.faults host.new)) }
+        ensures chain { self.new.chain ≡ self.old.chain }
+    {
+        let verdict = self.slots.on_packet(slot, header);
+        self.after_verdict(ring, host, slot, chain, header, verdict);
+        verdict
+    }
+
+    // Does what a verdict takes, on the connection in a slot whose end has heard the packet.
+    fn after_verdict<R: DeviceRing, H: HostNet>(
+        &mut self,
+        ring: &mut R,
+        host: &mut H,
+        slot: Slot,
+        chain: &Chain,
+        header: &Header,
+        verdict: Verdict,
+    )
+        requires is_held { Contains (R.held ring.old) chain.now }
+        requires whole { HEADER_LEN + header.now.len ≤ chain.now.readable }
+        requires delivers { verdict ≡ Deliver → IfSome (value_under self.old.table slot) (λ c. length c.pending + header.now.len ≤ unread_of c.end.credit) }
+        requires most { verdict ≡ Deliver → header.now.len ≤ BUF_ALLOC }
+        requires delivered { verdict ≡ Deliver → IfSome (value_under self.old.table slot) (λ c. may_shut c.end.state ≡ true) }
+        requires accepted { verdict ≡ Accept → IfSome (value_under self.old.table slot) (λ c. may_shut c.end.state ≡ true) }
+        requires may { verdict ≡ Peer → is_reset header.now ≡ true → (e : DeviceEntry) → entry_under self.old.table slot ≡ Some e → MayClose e.value (H.contents host.old) }
+        ensures held { R.held ring.new ≡ R.held ring.old }
+        ensures calls { (s : DeviceState) (e : DeviceEntry) → entry_under s.table slot ≡ Some e → self.old ≡ with_connection slot (heard header.now e.value) s → Runs (on_known verdict chain.now header.now e s) (situation (R.contents ring.old) (H.contents host.old) (H.faults host.old)) self.new (situation (R.contents ring.new) (H.contents host.new) (H.faults host.new)) }
+        ensures chain { self.new.chain ≡ self.old.chain }
+    {
+        match verdict {
+            Verdict::Accept => self.slots.accept(slot),
+            Verdict::Deliver => self.deliver(ring, slot, chain, header.len),
+            Verdict::Peer => self.after_message(host, slot, header),
+            Verdict::Rst(why) => self.count_refused(why),
+            Verdict::Discard => {}
+            Verdict::Ignore => {}
+        }
+    }
+
+    // The connection in a slot heard a message of its peer's: with an RST it leaves the table.
+    fn after_message<H: HostNet>(&mut self, host: &mut H, slot: Slot, header: &Header)
+        requires may { is_reset header.now ≡ true → (e : DeviceEntry) → entry_under self.old.table slot ≡ Some e → MayClose e.value (H.contents host.old) }
+        ensures calls { (s : DeviceState) (e : DeviceEntry) → entry_under s.table slot ≡ Some e → self.old ≡ with_connection slot (heard header.now e.value) s → (chain : Chain) → RunsOnHost (on_known Peer chain header.now e s) (H.contents host.old) (H.faults host.old) self.new (H.contents host.new) (H.faults host.new) }
+        ensures chain { self.new.chain ≡ self.old.chain }
+    {
+        if is_reset(header) {
+            self.leave(host, slot);
+        }
+    }
+
+    // Counts a packet that held more payload than there was room for.
+    fn count_refused(&mut self, why: Why)
+        ensures { self.new ≡ after_refusal why self.old }
+    {
+        if let Why::Overrun(_) = why {
+            self.overrun = self.overrun.saturating_add(1);
+        }
+    }
+
+    // Reads a payload of `len` bytes, which is to be written to the stream of the connection in a slot.
+    fn deliver<R: DeviceRing>(&mut self, ring: &mut R, slot: Slot, chain: &Chain, len: u32)
+        requires is_held { Contains (R.held ring.old) chain.now }
+        requires whole { HEADER_LEN + len ≤ chain.now.readable }
+        requires delivers { IfSome (value_under self.old.table slot) (λ c. length c.pending + len ≤ unread_of c.end.credit) }
+        requires most { len ≤ BUF_ALLOC }
+        requires stands { IfSome (value_under self.old.table slot) (λ c. may_shut c.end.state ≡ true) }
+        ensures held { R.held ring.new ≡ R.held ring.old }
+        ensures calls { (bytes : List ℕ) × AllowsOnRing (Read chain.now HEADER_LEN len) bytes (R.contents ring.old) (R.contents ring.new) × ((c : DeviceConnection) → value_under self.old.table slot ≡ Some c → self.new ≡ with_connection slot (record c { pending = c.pending ++ bytes }) self.old) }
+        ensures chain { self.new.chain ≡ self.old.chain }
+    {
+        deliver_into(
+            ring,
+            &mut self.slots,
+            slot,
+            chain,
+            len as usize,
+            &mut self.scratch,
+        );
+    }
+
+    // Takes a packet of an unknown flow.
+    fn on_unknown<H: HostNet>(&mut self, host: &mut H, flow: Flow, header: &Header) -> Verdict
+        requires room { length self.old.replies < REPLIES }
+        requires flow { flow ≡ flow_to_host header.now }
+        requires unknown { entry_of self.old.table flow ≡ None }
+        ensures calls { RunsOnHost (on_unknown header.now self.old) (H.contents host.old) (H.faults host.old) (self.new, result) (H.contents host.new) (H.faults host.new) }
+        ensures chain { self.new.chain ≡ self.old.chain }
+    {
+        if is_reset(header) {
+            return Verdict::Ignore;
+        }
+        if is_request(header) {
+            return self.try_request(host, flow, header);
+        }
+        self.owe(Reply::to(header));
+        Verdict::Rst(unknown_why(header))
+    }
+
+    // Tries a REQUEST of an unknown flow: it opens a connection, or gets RST.
+    fn try_request<H: HostNet>(&mut self, host: &mut H, flow: Flow, header: &Header) -> Verdict
+        requires room { length self.old.replies < REPLIES }
+        requires flow { flow ≡ flow_to_host header.now }
+        requires unknown { entry_of self.old.table flow ≡ None }
+        ensures calls { RunsOnHost (try_request header.now self.old) (H.contents host.old) (H.faults host.old) (self.new, result) (H.contents host.new) (H.faults host.new) }
+        ensures chain { self.new.chain ≡ self.old.chain }
+    {
+        if is_assigned(header.dst_port) {
+            return self.refuse(header);
+        }
+        if !self.slots.has_place() {
+            return self.refuse(header);
+        }
+        let path = listen_path(self.base.as_str(), header.dst_port);
+        let answer = dial(host, path.as_str(), flow);
+        self.dial_answered(flow, header, answer)
+    }
+
+    // The dial for a REQUEST was answered.
+    fn dial_answered(&mut self, flow: Flow, header: &Header, answer: Dialed) -> Verdict
+        requires room { length self.old.replies < REPLIES }
+        requires flow { flow ≡ flow_to_host header.now }
+        requires place { has_place self.old.table ≡ true }
+        requires unknown { entry_of self.old.table flow ≡ None }
+        ensures answered { (self.new, result) ≡ dial_answered header.now answer self.old }
+        ensures chain { self.new.chain ≡ self.old.chain }
+    {
+        match answer {
+            Dialed::Stream(stream) => {
+                self.slots.open_dialed(flow, header, stream);
+                self.opened = self.opened.saturating_add(1);
+                Verdict::Accept
+            }
+            Dialed::Refused => self.refuse(header),
+            Dialed::Failed => {
+                self.count_fault();
+                self.refuse(header)
+            }
+        }
+    }
+
+    // Refuses a REQUEST of an unknown flow: it gets RST.
+    fn refuse(&mut self, header: &Header) -> Verdict
+        requires room { length self.old.replies < REPLIES }
+        ensures refused { (self.new, result) ≡ refused header.now self.old }
+        ensures chain { self.new.chain ≡ self.old.chain }
+    {
+        self.owe(Reply::to(header));
+        Verdict::Rst(Why::NotLive)
+    }
+
+    // Owes one more reply, for which there is room.
+    fn owe(&mut self, reply: Reply)
+        requires room { length self.old.replies < REPLIES }
+        ensures { self.new ≡ with_reply reply self.old }
+    {
+        match self.replies.owe(reply) {
+            Ok(()) => {}
+            Err(_) => unreachable!(),
+        }
+    }
+}
+
+// Reads a payload of `len` bytes into the front of `scratch`; it is to be written to the stream of the connection in a slot.
+fn deliver_into<R: DeviceRing>(
+    ring: &mut R,
+    slots: &mut Slots,
+    slot: Slot,
+    chain: &Chain,
+    len: usize,
+    scratch: &mut [u8],
+)
+    requires is_held { Contains (R.held ring.old) chain.now }
+    requires whole { HEADER_LEN + len ≤ chain.now.readable }
+    requires scratch { len ≤ length scratch.old }
+    requires delivers { IfSome (value_under slots.old slot) (λ c. length c.pending + len ≤ unread_of c.end.credit) }
+    requires stands { IfSome (value_under slots.old slot) (λ c. may_shut c.end.state ≡ true) }
+    ensures held { R.held ring.new ≡ R.held ring.old }
+    ensures calls { (bytes : List ℕ) × AllowsOnRing (Read chain.now HEADER_LEN len) bytes (R.contents ring.old) (R.contents ring.new) × ((c : DeviceConnection) → value_under slots.old slot ≡ Some c → slots.new ≡ with_value slots.old slot (record c { pending = c.pending ++ bytes })) }
+    ensures same_length { length scratch.new ≡ length scratch.old }
+{
+    read_payload(ring, chain, len, scratch);
+    slots.deliver(slot, &scratch[..len]);
+}
+
+// Whether a chain has less payload than a packet in it says.
+fn is_short(chain: &Chain, len: u32) -> bool
+    requires header { HEADER_LEN ≤ chain.now.readable }
+    ensures { result ≡ nat_lt (chain.now.readable - HEADER_LEN) len }
+{
+    u64::from(len) > chain.readable - HEADER_LEN as u64
+}
+
+// The flow of a packet to the host.
+fn flow_to_host(header: &Header) -> Flow
+    ensures { result ≡ flow_to_host header.now }
+{
+    Flow {
+        guest: header.src_port,
+        host: header.dst_port,
+    }
+}
+
+// Whether a packet is an RST.
+fn is_reset(header: &Header) -> bool
+    ensures { result ≡ is_reset header.now }
+{
+    header.op == Op::Rst.number()
+}
+
+// Whether a packet asks for a stream connection.
+fn is_request(header: &Header) -> bool
+    ensures { result ≡ asks_for_stream header.now }
+{
+    header.kind == Kind::Stream.number() && header.op == Op::Request.number()
+}
+
+// Why a packet of an unknown flow is refused.
+fn unknown_why(header: &Header) -> Why
+    ensures { result ≡ unknown_why header.now }
+{
+    if header.kind != Kind::Stream.number() {
+        Why::BadKind
+    } else if header.op == 0 || header.op > 7 {
+        Why::BadOp
+    } else {
+        Why::NotLive
+    }
+}
