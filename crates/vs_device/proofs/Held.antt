@@ -1,5 +1,5 @@
 -- The chains that a device holds of its ring.
-use Rattle.std.proofs.Common.{◌≡◌, ℕ, ◌<◌, List, [], ◌∷◌, length, get_or, refl, sym, subst, arith}
+use Rattle.std.proofs.Common.{◌≡◌, List, [], ◌∷◌, refl, sym, subst, arith}
 use Rattle.std.specs.List.{Contains}
 use Rattle.vs_ring_port.specs.declared.device_ring.Chain.{Chain}
 

@@ -14,5 +14,3 @@ mod Reading
 mod Held
 mod Verdicts
 mod Takings
-mod EventPaying
-mod Resetting

@@ -1,8 +1,8 @@
 -- Packets put on the receive queue: what a packet comes to that was put, or wasn't for want of a chain.
-use Rattle.std.proofs.Common.{◌≡◌, ℕ, ◌+◌, Bool, true, false, not, List, [], ◌∷◌, length, drop, Option, Some, None, refl, sym, ap, subst, ◌∙◌}
+use Rattle.std.proofs.Common.{◌≡◌, ℕ, ◌+◌, Bool, true, false, not, List, [], ◌∷◌, drop, Option, Some, None, refl, sym, ap, subst, ◌∙◌}
 use Rattle.std.specs.List.{slice_get}
-use Rattle.vs_contents.specs.CallTree.{Done, Ask, bind, Leads, MayPlay}
-use Rattle.vs_contents.proofs.Leads.{leads_of, leads_to, leads_bind}
+use Rattle.vs_contents.specs.CallTree.{Done, bind}
+use Rattle.vs_contents.proofs.Leads.{leads_of, leads_bind}
 use Rattle.vs_contents.proofs.Conditions.{may_first, may_rest, may_of}
 use Rattle.vs_header.specs.declared.Header.{Header}
 use Rattle.vs_replies.specs.declared.Reply.{Reply}

@@ -24,7 +24,7 @@ use Rattle.vs_device.specs.Connections.{with_connection, route_to_guest}
 use Rattle.vs_device.specs.Filling.{read_slot}
 use Rattle.vs_device.specs.Playing.{CanMake, MayRun, Runs}
 use Rattle.vs_device.specs.Receiving.{Filling, hold, written, put_on, put_owed, put_payload, may_read, read_room, read_answered, read_with_chain, read_stream, serve_slot}
-use Rattle.vs_device.specs.State.{DeviceConnection, DeviceState, DeviceEntry}
+use Rattle.vs_device.specs.State.{DeviceEntry}
 
 -- payload is put
 module _ (chain : Chain) (e : DeviceEntry) (payload : List ℕ) (r : Filling) where

@@ -1,6 +1,5 @@
 -- A packet is written into a chain: its header, its payload where there is some, and the chain is returned.
-use Rattle.std.proofs.Common.{◌≡◌, ℕ, ◌+◌, ◌<◌, ◌≤◌, List, [], ◌∷◌, length, refl, sym, ap, arith}
-use Rattle.vs_contents.specs.CallTree.{Done, Ask}
+use Rattle.std.proofs.Common.{◌≡◌, ℕ, ◌+◌, ◌<◌, List, [], ◌∷◌, length, refl, arith}
 use Rattle.vs_header.specs.Packet.{header_bytes}
 use Rattle.vs_header.specs.declared.Header.{Header}
 use Rattle.vs_header.specs.declared.TheConstants.{HEADER_LEN}

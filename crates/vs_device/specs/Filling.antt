@@ -1,5 +1,5 @@
 -- Packets that are put on the receive queue, step by step.
-use Rattle.std.specs.Prelude.{ℕ, Bool, true, false, if◌then◌else◌, List, [], take, Option, Some, None}
+use Rattle.std.specs.Prelude.{ℕ, Bool, true, false, if◌then◌else◌, List, [], take, Some, None}
 use Rattle.vs_contents.specs.CallTree.{Done, bind, for_each}
 use Rattle.vs_conn.specs.declared.end.Owed.{Owed}
 use Rattle.vs_conn.specs.declared.end.Owed.TheVariants as owed

@@ -15,7 +15,7 @@ ghost use Rattle.vs_ring_port.specs.declared.device_ring.Chain.{Chain};
 ghost use Rattle.vs_ring_port.specs.declared.failure.Failure.{Failure};
 ghost use Rattle.vs_device.specs.Connections.{route_to_guest};
 ghost use Rattle.vs_device.specs.Filling.{filling_of, is_rst, put_header, read_slot, serve_all, serve_rest};
-ghost use Rattle.vs_device.specs.Playing.{IsRingOf, MayRun, MayRunOnHost, MayRunOnRing, Runs, RunsOnHost, RunsOnRing, situation};
+ghost use Rattle.vs_device.specs.Playing.{IsItsRing, IsRingOf, MayRun, MayRunOnHost, MayRunOnRing, Runs, RunsOnHost, RunsOnRing, situation};
 ghost use Rattle.vs_device.specs.Receiving.{after_paying, fill_rx_of, filled_of, hold, may_read, put_owed, put_payload, put_reply, read_room, read_with_chain, serve_slot};
 ghost use Rattle.vs_device.specs.State.{DeviceEntry};
 ghost use Rattle.vs_device.specs.declared.limits.TheConstants.{CONNECTIONS, REPLIES};
@@ -55,9 +55,9 @@ impl Device {
         ring: &mut R,
         host: &mut H,
     ) -> Result<Filled, Failure>
-        requires ring { IsRingOf (R.held ring.old) self.old }
+        requires ring { IsItsRing (R.held ring.old) self.old }
         requires may { MayRun (fill_rx_of self.old) (situation (R.contents ring.old) (H.contents host.old) (H.faults host.old)) }
-        ensures ring { IsRingOf (R.held ring.new) self.new }
+        ensures ring { IsItsRing (R.held ring.new) self.new }
         ensures calls { Runs (fill_rx_of self.old) (situation (R.contents ring.old) (H.contents host.old) (H.faults host.old)) (self.new, result) (situation (R.contents ring.new) (H.contents host.new) (H.faults host.new)) }
         ensures kept { (f : Failure) → self.old.failed ≡ Some f → (self.new ≡ self.old) × (result ≡ Err f) }
         ensures failed { IfErr result (λ f. self.new.failed ≡ Some f) }

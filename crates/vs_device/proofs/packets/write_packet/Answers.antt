@@ -1,12 +1,10 @@
-use Rattle.std.proofs.Common.{rules, arith, ◌≡◌, ◌<◌, ◌+◌, ℕ, [], ◌∷◌, List, length, refl, sym, ap, subst, ◌∙◌, true, false}
+use Rattle.std.proofs.Common.{arith, ◌≡◌, ◌<◌, ℕ, List, length, refl, subst, ◌∙◌}
 use Rattle.std.proofs.lemmas.Bool.Decides.{nat_tests}
-use Rattle.vs_header.specs.Packet.{header_bytes}
-use Rattle.vs_header.specs.declared.TheConstants.{HEADER_LEN}
-use Rattle.vs_ring_port.specs.Contents.{Write, Return}
-use Rattle.vs_ring_port.specs.DeviceCalls.{DeviceAllows, CanReturn}
+use Rattle.vs_ring_port.specs.Contents.{Write}
+use Rattle.vs_ring_port.specs.DeviceCalls.{DeviceAllows}
 use Rattle.vs_device.specs.Playing.{situation}
 use Rattle.vs_device.proofs.Held.{is_held}
-use Rattle.vs_device.proofs.Writes.{may_write_header, may_return_header, may_write_payload, may_return_packet, header_written, packet_written}
+use Rattle.vs_device.proofs.Writes.{may_return_header, may_write_payload, may_return_packet, header_written, packet_written}
 use Rattle.vs_device.proofs.packets.write_packet.Goals as goal
 
 pub write-requires-clause-is_held : goal.write-requires-clause-is_held

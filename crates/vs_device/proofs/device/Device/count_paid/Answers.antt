@@ -1,4 +1,4 @@
-use Rattle.std.proofs.Common.{◌≡◌, ℕ, Bool, true, false, Some, refl, sym, ap, ◌∙◌}
+use Rattle.std.proofs.Common.{◌≡◌, true, false, Some, refl, sym, ap, ◌∙◌}
 use Rattle.vs_flow.specs.Table.{Table, entry_under}
 use Rattle.vs_device.specs.Filling.{is_rst}
 use Rattle.vs_device.specs.State.{DeviceConnection, DeviceState}

@@ -1,4 +1,4 @@
-use Rattle.std.proofs.Common.{◌≡◌, ℕ, Bool, true, false, not, Some, refl, sym, ap, subst, ◌∙◌}
+use Rattle.std.proofs.Common.{◌≡◌, true, false, Some, sym, ap, subst, ◌∙◌}
 use Rattle.vs_conn.specs.End.{owes_of}
 use Rattle.vs_conn.specs.Headers.{owed_header}
 use Rattle.vs_conn.specs.declared.end.Owed.{Owed}
@@ -7,9 +7,9 @@ use Rattle.vs_header.specs.declared.Header.{Header}
 use Rattle.vs_device.specs.Connections.{route_to_guest}
 use Rattle.vs_device.specs.Filling.{filling_of, put_header}
 use Rattle.vs_device.specs.Playing.{MayRun, Runs, situation}
-use Rattle.vs_device.specs.Receiving.{Filling, after_paying, put_owed}
+use Rattle.vs_device.specs.Receiving.{Filling, after_paying}
 use Rattle.vs_device.specs.State.{DeviceEntry, DeviceState}
-use Rattle.vs_device.proofs.Paying.{HoldsOf, some_and}
+use Rattle.vs_device.proofs.Paying.{some_and}
 use Rattle.vs_device.proofs.Putting.{owed_put, owed_waits, may_owed, may_pay}
 use Rattle.vs_device.proofs.device.Device.put_owed.Goals as goal
 

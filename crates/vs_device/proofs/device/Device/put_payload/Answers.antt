@@ -1,5 +1,4 @@
-use Rattle.std.proofs.Common.{◌≡◌, ℕ, ◌+◌, List, length, Option, Some, None, refl, sym, ap, subst, ◌∙◌, rules, arith}
-use Rattle.std.specs.Option.{option_map}
+use Rattle.std.proofs.Common.{◌≡◌, ℕ, List, length, Option, Some, None, sym, ap, subst, ◌∙◌}
 use Rattle.vs_contents.proofs.Leads.{leads_to}
 use Rattle.vs_conn.specs.End.{with_payload_sent}
 use Rattle.vs_conn.specs.Headers.{payload_header}
@@ -13,9 +12,9 @@ use Rattle.vs_device.specs.Playing.{MayRun, Runs, situation}
 use Rattle.vs_device.specs.Receiving.{Filling, written, put_payload}
 use Rattle.vs_device.specs.State.{DeviceConnection, DeviceEntry, DeviceState}
 use Rattle.vs_device.specs.contracts.device.Device.{the_view}
-use Rattle.vs_device.proofs.Paying.{HoldsOf, mapped}
+use Rattle.vs_device.proofs.Paying.{mapped}
 use Rattle.vs_device.proofs.Reading.{header, after_payload, payload_put, may_put}
-use Rattle.vs_device.proofs.Under.{has_slot, value_of, IsUnder, under}
+use Rattle.vs_device.proofs.Under.{has_slot, value_of}
 use Rattle.vs_device.proofs.device.Device.put_payload.Goals as goal
 
 pub write_packet-requires-clause-may : goal.write_packet-requires-clause-may

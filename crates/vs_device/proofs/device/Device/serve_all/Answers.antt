@@ -1,4 +1,4 @@
-use Rattle.std.proofs.Common.{◌≡◌, ℕ, List, ◌+◌, ◌<◌, ◌≤◌, length, drop, refl, sym, ap, subst, ◌∙◌, rules, arith}
+use Rattle.std.proofs.Common.{◌≡◌, ℕ, List, ◌<◌, ◌≤◌, length, sym, ap, subst, ◌∙◌, rules, arith}
 use Rattle.vs_contents.specs.CallTree.{for_each}
 use Rattle.vs_flow.specs.Table.{slots}
 use Rattle.vs_device.specs.Filling.{filling_of}

@@ -1,8 +1,5 @@
-use Rattle.std.proofs.Common.{◌≡◌, ℕ, true, false, refl, sym, ap, ◌∙◌, rules, arith}
 use Rattle.vs_device.specs.Filling.{filling_of}
-use Rattle.vs_device.specs.Playing.{situation}
-use Rattle.vs_device.specs.Receiving.{Filling}
-use Rattle.vs_device.proofs.Reading.{may_serve, may_serve_then, served, served_over}
+use Rattle.vs_device.proofs.Reading.{may_serve, may_serve_then, served}
 use Rattle.vs_device.proofs.device.Device.serve_slot.Goals as goal
 
 pub read_slot-requires-clause-may : goal.read_slot-requires-clause-may
