@@ -3,5 +3,7 @@
 
 pub mod parts;
 pub mod plain_rings;
+#[cfg(test)]
+mod tests;
 
 pub use plain_rings::PlainRings;
