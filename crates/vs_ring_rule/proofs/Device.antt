@@ -30,7 +30,7 @@ use Rattle.vs_ring_rule.specs.Tells.{device_reads, device_takes, device_returns,
 use Rattle.vs_ring_rule.proofs.Cores as core
 use Rattle.vs_ring_rule.proofs.Pairs as pair
 use Rattle.vs_ring_rule.proofs.Places as place
-use Rattle.vs_ring_rule.proofs.Olders.{older_self, older_taken, older_returned, cid_taken, cid_returned, device_has}
+use Rattle.vs_ring_rule.proofs.Olders.{before_logged, before_moved, before_still, front_more, front_self, older_taken, older_returned, cid_taken, cid_returned, device_has}
 use Rattle.vs_ring_rule.proofs.Seats.{sized, DeviceSits, device_sits, device_moved}
 use Rattle.vs_ring_rule.proofs.Carried.{carried_page, carried_empty}
 use Rattle.vs_ring_rule.proofs.Ways.{front}
@@ -94,7 +94,7 @@ counts n id queue me mine t law wide at _ =
       tt,
       device_moved n id v w t (set t.words i r) t.homes p.slots p wide mine
           (load_is n id v t p queue i (looked g q) v.log refl refl) p.homes
-          (older_self v.log) p.device_heard (pair.device_looks n p.slots p.driver v p.pair queue),
+          (before_still queue (looked g q) v refl refl) p.device_heard (pair.device_looks n p.slots p.driver v p.pair queue),
       driver_told (device_looks queue) queue n (2 * n) 0 me r (w, me.1) (
         g,
         word,
@@ -128,7 +128,7 @@ reads n id queue me mine known t law wide at _ =
       tt,
       device_moved n id v w t (set t.words i r) t.homes p.slots p wide mine
           (load_is n id v t p queue i (entered x.0 q) v.log refl refl) p.homes
-          (older_self v.log) p.device_heard x.1.pair,
+          (before_still queue (entered x.0 q) v refl refl) p.device_heard x.1.pair,
       driver_told (device_reads queue) queue n g 0 me r (w, me.1)
           (omega (arith, word, x.1.near), ap (λ (k : ℕ). (after_entry queue k v, me.1)) (sym word)),
     )
@@ -153,7 +153,9 @@ collects n id queue me k mine known entry in_it t law wide at _ =
       device_moved n id v w t (set t.words i r) (set t.homes j none) (with_homes_in queue (set (homes_in queue p.slots) k none) p.slots) p
           (length-set t.homes j none ∙ wide) mine (load_is n id v t p queue i (took k page q) w.log refl
           (cid_taken FIRST_CID queue page v.log))
-          (change_is n id v t p queue k none x.1.near) (older_taken queue page v.log) p.device_heard x.1.pair,
+          (change_is n id v t p queue k none x.1.near)
+          (before_moved queue (took k page q) w.log v (front_self q.put) (front_more q.got (page ∷ [])) (older_taken queue page v.log))
+          p.device_heard x.1.pair,
       driver_told (device_takes queue) queue n k 0 me r (w, (j, Some page) ∷ me.1) (
         page,
         word_is n id v t p queue k (omega (arith, x.1.near)) ∙ x.1.word,
@@ -184,7 +186,7 @@ answers n id queue me x mine has in_it holds t law wide at _ =
       home_is n id v t p queue k slot.0 ∙ c.device_empty k has (λ (is : q.out ≡ Some k). absurd cc),
       device_moved n id v w t (set t.words i x) (set t.homes j none) (with_homes_in queue (set (homes_in queue p.slots) k none) p.slots) p
           (length-set t.homes j none ∙ wide) mine (store_is n id v t p queue g x (lifted k (stored g x q)) v.log refl (omega arith) refl)
-          (change_is n id v t p queue k none slot.0) (older_self v.log) p.device_heard
+          (change_is n id v t p queue k none slot.0) (before_still queue (lifted k (stored g x q)) v refl refl) p.device_heard
           (pair.device_returns n p.slots p.driver v p.pair queue k x has in_it holds),
       device_told (device_returns queue) queue n g x me x (w, (j, None) ∷ me.1) refl,
     )
@@ -213,7 +215,9 @@ returns n id queue me x k page more mine has held out word index holds fair t la
           (with_homes_in queue (set (homes_in queue p.slots) k (some (Some page))) p.slots) p
           (length-set t.homes j (some (Some page)) ∙ wide)
           mine (store_is n id v t p queue n x (gave n x k page q) w.log refl (omega arith) (cid_returned FIRST_CID queue page v.log))
-          (change_is n id v t p queue k (some (Some page)) slot.0) (older_returned queue page v.log) p.device_heard
+          (change_is n id v t p queue k (some (Some page)) slot.0)
+          (before_moved queue (gave n x k page q) w.log v (front_more q.put (page ∷ [])) (front_self q.got) (older_returned queue page v.log))
+          p.device_heard
           (pair.device_gives n p.slots p.driver v p.pair queue k x page held out word index holds fair),
       device_told (device_gives queue) queue n n x (v, (j, Some page) ∷ more) x (w, more)
           (λ k' page' more' e. carried_page (slots_base n queue) k k' more more' page page'
@@ -240,7 +244,8 @@ device_empties n id queue me k more mine has held out t law wide at _ =
       tt,
       device_moved n id v w t (set t.words 0 r) (set t.homes j (some None))
           (with_homes_in queue (set (homes_in queue p.slots) k (some None)) p.slots) p (length-set t.homes j (some None) ∙ wide) mine
-          (load_is n id v t p queue 0 (laid q) v.log refl refl) (change_is n id v t p queue k (some None) slot.0) (older_self v.log)
+          (load_is n id v t p queue 0 (laid q) v.log refl refl) (change_is n id v t p queue k (some None) slot.0)
+          (before_still queue (laid q) v refl refl)
           p.device_heard (pair.device_lays n p.slots p.driver v p.pair queue k held out),
       cid_told (lays queue) n 0 (v, (j, None) ∷ more) r (w, more)
           (λ k' more' e. carried_empty (slots_base n queue) k k' more more' (λ more. (w, more)) e),
@@ -257,6 +262,6 @@ resets n id me x mine t law wide at _ =
       keeps,
       tt,
       device_moved n id v w t (set t.words 0 x) t.homes p.slots p wide mine (ap (λ (ws : List ℕ). set ws 0 x) p.words) p.homes
-          (Mark x ∷ [], refl) p.device_heard (pair.device_resets n p.slots p.driver v p.pair x),
+          (before_logged v w.log (Mark x ∷ [], refl)) p.device_heard (pair.device_resets n p.slots p.driver v p.pair x),
       cid_told device_resets n x me x (w, me.1) refl,
     )

@@ -1,5 +1,5 @@
 -- Each kind of step of the driver is one that the table allows under the rule, and tells what specs/Tells.antt says.
-use Rattle.std.proofs.Common.{◌≡◌, ℕ, ◌+◌, ◌*◌, ◌%◌, ◌<◌, List, ◌∷◌, get_or, set, sym, refl, ap, ◌∙◌, subst, arith}
+use Rattle.std.proofs.Common.{◌≡◌, ℕ, ◌+◌, ◌*◌, ◌%◌, ◌<◌, List, [], ◌∷◌, get_or, set, sym, refl, ap, ◌∙◌, subst, arith}
 use Rattle.std.proofs.Common.{length-set}
 use Rattle.std.proofs.lemmas.List.{set-get_or}
 use Rattle.std.proofs.Math.Nat.{mod-lt}
@@ -27,7 +27,7 @@ use Rattle.vs_ring_rule.specs.Tells.{driver_gives, driver_looks, driver_takes, d
 use Rattle.vs_ring_rule.proofs.Cores as core
 use Rattle.vs_ring_rule.proofs.Pairs as pair
 use Rattle.vs_ring_rule.proofs.Places as place
-use Rattle.vs_ring_rule.proofs.Olders.{older_self, older_published, older_reaped, older_marked, driver_has}
+use Rattle.vs_ring_rule.proofs.Olders.{before_logged, before_moved, before_still, front_more, front_self, older_published, older_reaped, older_marked, driver_has}
 use Rattle.vs_ring_rule.proofs.Seats.{sized, DriverSits, driver_sits, driver_moved}
 use Rattle.vs_ring_rule.proofs.Carried.{carried_page, carried_empty}
 use Rattle.vs_ring_rule.proofs.Told.{driver_told, device_told, cid_told}
@@ -86,7 +86,7 @@ describes n id queue me k x mine has in_it t law wide at _ =
           (with_homes_in queue (set (homes_in queue p.slots) k none) p.slots) p
           (length-set t.homes (slots_base n queue + k) none ∙ wide) mine
           (store_is n id v t p queue k x (lifted k (stored k x q)) v.log refl (omega (arith, slot.0)))
-          (change_is n id v t p queue k none slot.0) p.stands (older_self v.log) p.driver_heard
+          (change_is n id v t p queue k none slot.0) p.stands (before_still queue (lifted k (stored k x q)) v refl refl) p.driver_heard
           (pair.driver_describes n p.slots v p.device p.pair queue k x has in_it),
       driver_told (driver_describes queue) queue n k x me x (w, (slots_base n queue + k, None) ∷ me.1) refl,
     )
@@ -116,7 +116,8 @@ enters n id queue me k page more mine has held out word long free t law wide at 
           (with_homes_in queue (set (homes_in queue p.slots) k (some (Some page))) p.slots) p
           (length-set t.homes j (some (Some page)) ∙ wide)
           mine (store_is n id v t p queue g k (staged_one g k k page q) v.log refl (omega arith))
-          (change_is n id v t p queue k (some (Some page)) slot.0) p.stands (older_self v.log) p.driver_heard
+          (change_is n id v t p queue k (some (Some page)) slot.0) p.stands
+          (before_still queue (staged_one g k k page q) v refl refl) p.driver_heard
           (pair.driver_stages n p.slots v p.device p.pair queue k page held out word long free),
       driver_told (driver_enters queue) queue n g k (v, (j, Some page) ∷ more) k (w, more)
           (λ k' page' more' e. carried_page (slots_base n queue) k k' more more' page page'
@@ -138,7 +139,8 @@ publishes n id queue me x mine index fair t law wide at _ =
       tt,
       driver_moved n id v w t (set t.words i x) t.homes p.slots p wide mine
           (store_is n id v t p queue (2 * n) x (gave_staged (2 * n) x q) w.log refl (omega arith)) p.homes p.stands
-          (older_published queue q.staged v.log) p.driver_heard
+          (before_moved queue (gave_staged (2 * n) x q) w.log v (front_more q.put q.staged) (front_self q.got)
+          (older_published queue q.staged v.log)) p.driver_heard
           (pair.driver_gives n p.slots v p.device p.pair queue x index fair),
       driver_told (driver_gives queue) queue n (2 * n) x me x (w, me.1) refl,
     )
@@ -162,7 +164,7 @@ counts n id queue me mine t law wide at _ =
       tt,
       driver_moved n id v w t (set t.words i r) t.homes p.slots p wide mine
           (load_is n id v t p queue i (looked g q) v.log refl) p.homes p.stands
-          (older_self v.log) p.driver_heard (pair.driver_looks n p.slots v p.device p.pair queue),
+          (before_still queue (looked g q) v refl refl) p.driver_heard (pair.driver_looks n p.slots v p.device p.pair queue),
       device_told (driver_looks queue) queue n n 0 me r (w, me.1) (
         g,
         word,
@@ -197,7 +199,9 @@ reaps n id queue me mine known in_it t law wide at _ =
       home_is n id v t p queue k x.2.near ∙ x.2.home,
       driver_moved n id v w t (set t.words i r) (set t.homes j none) (with_homes_in queue (set (homes_in queue p.slots) k none) p.slots) p
           (length-set t.homes j none ∙ wide) mine (load_is n id v t p queue i (took k page q) w.log refl)
-          (change_is n id v t p queue k none x.2.near) p.stands (older_reaped queue page v.log) p.driver_heard x.2.pair,
+          (change_is n id v t p queue k none x.2.near) p.stands
+          (before_moved queue (took k page q) w.log v (front_self q.put) (front_more q.got (page ∷ [])) (older_reaped queue page v.log))
+          p.driver_heard x.2.pair,
       device_told (driver_takes queue) queue n g 0 me r (w, (j, Some page) ∷ me.1) (
         k,
         page,
@@ -228,7 +232,8 @@ driver_empties n id queue me k more mine has held out t law wide at _ =
       tt,
       driver_moved n id v w t (set t.words 0 r) (set t.homes j (some None))
           (with_homes_in queue (set (homes_in queue p.slots) k (some None)) p.slots) p (length-set t.homes j (some None) ∙ wide) mine
-          (load_is n id v t p queue 0 (laid q) v.log refl) (change_is n id v t p queue k (some None) slot.0) p.stands (older_self v.log)
+          (load_is n id v t p queue 0 (laid q) v.log refl) (change_is n id v t p queue k (some None) slot.0) p.stands
+          (before_still queue (laid q) v refl refl)
           p.driver_heard (pair.driver_lays n p.slots v p.device p.pair queue k held out),
       cid_told (lays queue) n 0 (v, (j, None) ∷ more) r (w, more)
           (λ k' more' e. carried_empty (slots_base n queue) k k' more more' (λ more. (w, more)) e),
@@ -246,6 +251,6 @@ loads n id me mine t law wide at _ =
       keeps,
       tt,
       driver_moved n id v w t (set t.words 0 r) t.homes p.slots p wide mine (set-get_or t.words 0 0 ∙ p.words) p.homes p.stands
-          (older_marked r v.log) p.driver_heard (pair.driver_loads n p.slots v p.device p.pair r),
+          (before_logged v w.log (older_marked r v.log)) p.driver_heard (pair.driver_loads n p.slots v p.device p.pair r),
       cid_told driver_loads n 0 me r (w, me.1) refl,
     )

@@ -15,9 +15,9 @@ use Rattle.vs_page.specs.declared.log.TheConstants.{FIRST_CID}
 use Rattle.vs_ring_rule.specs.declared.view.View.{View}
 use Rattle.vs_ring_rule.specs.OneQueue.{Page, Homes, times, Core}
 use Rattle.vs_ring_rule.specs.Rule.{Table, Slots, homes_in, queue_in, flags_of, all_slots, all_words, Pair, OneEnd, TwoEnds, Rule, below}
-use Rattle.vs_ring_rule.specs.Rule.{queue_with, first_view, driver_view, device_view, driver_from, device_from}
+use Rattle.vs_ring_rule.specs.Rule.{no_past, queue_with, first_view, driver_view, device_view, driver_from, device_from}
 use Rattle.vs_ring_rule.proofs.Ways.{counted}
-use Rattle.vs_ring_rule.proofs.Olders.{older_self}
+use Rattle.vs_ring_rule.proofs.Olders.{before_self}
 use Rattle.vs_ring_rule.proofs.Seats.{no_maker, only_one}
 
 pub length_below : (m : ℕ) → length (below m) ≡ m
@@ -163,8 +163,8 @@ splits n id v maker t law at =
         words = o.words ∙ sym (first_words n);
         homes = o.homes ∙ sym (first_homes n);
         pair = first_pair n o.some_slot;
-        driver_heard = older_self [];
-        device_heard = older_self [];
+        driver_heard = before_self no_past;
+        device_heard = before_self no_past;
         copies = tt;
       }),
     )

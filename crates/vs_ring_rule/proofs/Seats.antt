@@ -3,14 +3,14 @@ use Rattle.std.proofs.Common.{◌≡◌, ◌≢◌, ℕ, zero, suc, ◌*◌, ◌
 use Rattle.std.proofs.Common.{ap, ◌∙◌, subst, arith}
 use mathlib.Core.Option.{some, some-injective, some-ne-none}
 use lib.ListN.{get_elem?}
-use Rattle.vs_page.specs.Log.{Log}
 use Rattle.vs_ring_rule.specs.declared.view.Owner.{Owner}
 use Rattle.vs_ring_rule.specs.declared.view.Owner.TheVariants.{Maker, Driver, Device, DriverCopy, DeviceCopy, Nobody}
 use Rattle.vs_ring_rule.specs.declared.view.View.{View}
 use Rattle.vs_ring_rule.specs.OneQueue.{Homes}
-use Rattle.vs_ring_rule.specs.Rule.{Table, Slots, Pair, IsOlder, IsCopy, Copies, Stands, TwoEnds, OneEnd, Rule, first_view, all_words}
-use Rattle.vs_ring_rule.specs.Rule.{all_slots}
-use Rattle.vs_ring_rule.proofs.Olders.{older_self, older_on}
+use Rattle.vs_ring_rule.specs.Rule.{Table, Slots, Pair, IsBefore, IsCopy, Copies, Stands, TwoEnds, OneEnd, Rule, first_view, all_words}
+use Rattle.vs_ring_rule.specs.Rule.{all_slots, past_of}
+use Rattle.vs_ring_rule.specs.declared.view.Past.{Past}
+use Rattle.vs_ring_rule.proofs.Olders.{before_self, before_on}
 use Rattle.vs_ring_rule.proofs.Places.{Sized}
 use Rattle.vs_ring_port.specs.declared.queue.Queue.TheVariants.{Rx, Tx, Event}
 
@@ -37,8 +37,8 @@ pub record DriverSits (n id : ℕ) (v : View) (t : Table) : Type 0 where
   pub words : t.words ≡ all_words v device
   pub homes : t.homes ≡ all_slots slots
   pub pair : Pair n slots v device
-  pub driver_heard : IsOlder v.heard device.log
-  pub device_heard : IsOlder device.heard v.log
+  pub driver_heard : IsBefore v.heard (past_of device)
+  pub device_heard : IsBefore device.heard (past_of v)
   pub copies : Copies others v device
 
 pub record DeviceSits (n id : ℕ) (v : View) (t : Table) : Type 0 where
@@ -52,12 +52,12 @@ pub record DeviceSits (n id : ℕ) (v : View) (t : Table) : Type 0 where
   pub words : t.words ≡ all_words driver v
   pub homes : t.homes ≡ all_slots slots
   pub pair : Pair n slots driver v
-  pub driver_heard : IsOlder driver.heard v.log
-  pub device_heard : IsOlder v.heard driver.log
+  pub driver_heard : IsBefore driver.heard (past_of v)
+  pub device_heard : IsBefore v.heard (past_of driver)
   pub copies : Copies others driver v
 
 -- a seat beside the ends has another owner
-pub not_end : (r : Owner) (log : Log) (d e : View) → IsCopy r log d e → (r ≢ Driver) × (r ≢ Device) × (r ≢ Maker)
+pub not_end : (r : Owner) (log : Past) (d e : View) → IsCopy r log d e → (r ≢ Driver) × (r ≢ Device) × (r ≢ Maker)
 not_end Maker log d e c = absurd c
 not_end Driver log d e c = absurd c
 not_end Device log d e c = absurd c
@@ -66,9 +66,9 @@ not_end DeviceCopy log d e c = ((λ h. cc), (λ h. cc), λ h. cc)
 not_end Nobody log d e c = ((λ h. cc), (λ h. cc), λ h. cc)
 
 pub copy_there : (others : List View) (d e : View) (i : ℕ) (v : View) → Copies others d e → get_elem? others i ≡ some v
-    → IsCopy v.owner v.log d e
+    → IsCopy v.owner v.heard d e
 copy_there [] d e i v c at = absurd (some-ne-none v (sym at))
-copy_there (x ∷ xs) d e zero v c at = subst (λ (z : View). IsCopy z.owner z.log d e) (some-injective x v at) c.0
+copy_there (x ∷ xs) d e zero v c at = subst (λ (z : View). IsCopy z.owner z.heard d e) (some-injective x v at) c.0
 copy_there (x ∷ xs) d e (suc i) v c at = copy_there xs d e i v c.1 at
 
 -- the second seat is no driver's and not the first
@@ -82,7 +82,7 @@ driver_among d e x others zero v owner stands copies at mine = (refl, sym (some-
 driver_among d e x others (suc zero) v owner stands copies at mine = absurd
     ((second_owner d e x owner stands).0 (ap (λ (z : View). z.owner) (some-injective x v at) ∙ mine))
 driver_among d e x others (suc (suc i)) v owner stands copies at mine = absurd
-    ((not_end v.owner v.log d e (copy_there others d e i v copies at)).0 mine)
+    ((not_end v.owner v.heard d e (copy_there others d e i v copies at)).0 mine)
 
 device_among : (d e x : View) (others : List View) (id : ℕ) (v : View) → d.owner ≡ Driver → Stands d e x → Copies others d e
     → get_elem? (d ∷ x ∷ others) id ≡ some v → v.owner ≡ Device
@@ -93,7 +93,7 @@ device_among d e x others (suc zero) v owner (inl a) copies at mine = (omega ari
 device_among d e x others (suc zero) v owner (inr b) copies at mine = let same : v.owner ≡ x.owner = ap (λ (z : View). z.owner)
     (sym (some-injective x v at)) in let r = b.0 in absurd cc
 device_among d e x others (suc (suc i)) v owner stands copies at mine = absurd
-    ((not_end v.owner v.log d e (copy_there others d e i v copies at)).1 mine)
+    ((not_end v.owner v.heard d e (copy_there others d e i v copies at)).1 mine)
 
 pub no_maker : (d e x : View) (others : List View) (id : ℕ) (v : View) → d.owner ≡ Driver → e.owner ≡ Device → Stands d e x
     → Copies others d e → get_elem? (d ∷ x ∷ others) id ≡ some v → v.owner ≡ Maker → ⊥
@@ -102,7 +102,7 @@ no_maker d e x others zero v is_d is_e stands copies at maker = let same : v.own
 no_maker d e x others (suc zero) v is_d is_e stands copies at maker = (second_owner d e x is_e stands).1
     (ap (λ (z : View). z.owner) (some-injective x v at) ∙ maker)
 no_maker d e x others (suc (suc i)) v is_d is_e stands copies at maker =
-    (not_end v.owner v.log d e (copy_there others d e i v copies at)).2 maker
+    (not_end v.owner v.heard d e (copy_there others d e i v copies at)).2 maker
 
 pub only_one : (x v : View) (id : ℕ) → get_elem? (x ∷ []) id ≡ some v → (id ≡ 0) × (v ≡ x)
 only_one x v zero at = (refl, sym (some-injective x v at))
@@ -129,8 +129,8 @@ driver_is n id v t (inr g) at mine =
       words = g.words ∙ ap (λ (z : View). all_words z g.device) same;
       homes = g.homes;
       pair = subst (λ (z : View). Pair n g.slots z g.device) same g.pair;
-      driver_heard = subst (λ (z : View). IsOlder z.heard g.device.log) same g.driver_heard;
-      device_heard = subst (λ (z : View). IsOlder g.device.heard z.log) same g.device_heard;
+      driver_heard = subst (λ (z : View). IsBefore z.heard (past_of g.device)) same g.driver_heard;
+      device_heard = subst (λ (z : View). IsBefore g.device.heard (past_of z)) same g.device_heard;
       copies = subst (λ (z : View). Copies g.others z g.device) same g.copies;
     }
 
@@ -157,27 +157,27 @@ device_is n id v t (inr g) at mine =
       words = g.words ∙ ap (λ (z : View). all_words g.driver z) same;
       homes = g.homes;
       pair = subst (λ (z : View). Pair n g.slots g.driver z) same g.pair;
-      driver_heard = subst (λ (z : View). IsOlder g.driver.heard z.log) same g.driver_heard;
-      device_heard = subst (λ (z : View). IsOlder z.heard g.driver.log) same g.device_heard;
+      driver_heard = subst (λ (z : View). IsBefore g.driver.heard (past_of z)) same g.driver_heard;
+      device_heard = subst (λ (z : View). IsBefore z.heard (past_of g.driver)) same g.device_heard;
       copies = subst (λ (z : View). Copies g.others g.driver z) same g.copies;
     }
 
 pub device_sits : (n id : ℕ) (v : View) (t : Table) → Rule n t → get_elem? t.views id ≡ some v → v.owner ≡ Device → DeviceSits n id v t
 device_sits n id v t law at mine = device_is n id v t law.1 at mine
 
-copy_stays : (r : Owner) (old : Log) (d d' e e' : View) → IsOlder d.log d'.log → IsOlder e.log e'.log → IsCopy r old d e
+copy_stays : (r : Owner) (old : Past) (d d' e e' : View) → IsBefore (past_of d) (past_of d') → IsBefore (past_of e) (past_of e') → IsCopy r old d e
     → IsCopy r old d' e'
 copy_stays Maker old d d' e e' p q c = c
 copy_stays Driver old d d' e e' p q c = c
 copy_stays Device old d d' e e' p q c = c
-copy_stays DriverCopy old d d' e e' p q c = older_on old d.log d'.log c p
-copy_stays DeviceCopy old d d' e e' p q c = older_on old e.log e'.log c q
+copy_stays DriverCopy old d d' e e' p q c = before_on old (past_of d) (past_of d') c p
+copy_stays DeviceCopy old d d' e e' p q c = before_on old (past_of e) (past_of e') c q
 copy_stays Nobody old d d' e e' p q c = tt
 
-pub copies_stay : (others : List View) (d d' e e' : View) → IsOlder d.log d'.log → IsOlder e.log e'.log → Copies others d e
+pub copies_stay : (others : List View) (d d' e e' : View) → IsBefore (past_of d) (past_of d') → IsBefore (past_of e) (past_of e') → Copies others d e
     → Copies others d' e'
 copies_stay [] d d' e e' p q c = tt
-copies_stay (v ∷ vs) d d' e e' p q c = (copy_stays v.owner v.log d d' e e' p q c.0, copies_stay vs d d' e e' p q c.1)
+copies_stay (v ∷ vs) d d' e e' p q c = (copy_stays v.owner v.heard d d' e e' p q c.0, copies_stay vs d d' e e' p q c.1)
 
 -- another view in the first seat, and in the second
 pub set_first : (views : List View) (id : ℕ) (a b w : View) (others : List View) → id ≡ 0 → views ≡ a ∷ b ∷ others
@@ -191,7 +191,7 @@ set_second views id a b w others second is = ap (λ (i : ℕ). set views i w) se
 -- the rule after a step of the driver, which leaves it with the view w
 pub driver_moved : (n id : ℕ) (v w : View) (t : Table) (words : List ℕ) (homes : Homes) (slots : Slots) (p : DriverSits n id v t)
     → length homes ≡ 3 * n → w.owner ≡ Driver → words ≡ all_words w p.device → homes ≡ all_slots slots → Stands w p.device p.second
-    → IsOlder v.log w.log → IsOlder w.heard p.device.log → Pair n slots w p.device
+    → IsBefore (past_of v) (past_of w) → IsBefore w.heard (past_of p.device) → Pair n slots w p.device
     → Rule n record { words = words; homes = homes; views = set t.views id w }
 driver_moved n id v w t words homes slots p wide owner is homes_are stands more heard pair = (
   wide,
@@ -209,14 +209,14 @@ driver_moved n id v w t words homes slots p wide owner is homes_are stands more 
     homes = homes_are;
     pair = pair;
     driver_heard = heard;
-    device_heard = older_on p.device.heard v.log w.log p.device_heard more;
-    copies = copies_stay p.others v w p.device p.device more (older_self p.device.log) p.copies;
+    device_heard = before_on p.device.heard (past_of v) (past_of w) p.device_heard more;
+    copies = copies_stay p.others v w p.device p.device more (before_self (past_of p.device)) p.copies;
   }),
 )
 
 pub device_moved : (n id : ℕ) (v w : View) (t : Table) (words : List ℕ) (homes : Homes) (slots : Slots) (p : DeviceSits n id v t)
     → length homes ≡ 3 * n → w.owner ≡ Device → words ≡ all_words p.driver w → homes ≡ all_slots slots
-    → IsOlder v.log w.log → IsOlder w.heard p.driver.log → Pair n slots p.driver w
+    → IsBefore (past_of v) (past_of w) → IsBefore w.heard (past_of p.driver) → Pair n slots p.driver w
     → Rule n record { words = words; homes = homes; views = set t.views id w }
 device_moved n id v w t words homes slots p wide owner is homes_are more heard pair = (
   wide,
@@ -233,8 +233,8 @@ device_moved n id v w t words homes slots p wide owner is homes_are more heard p
     words = is;
     homes = homes_are;
     pair = pair;
-    driver_heard = older_on p.driver.heard v.log w.log p.driver_heard more;
+    driver_heard = before_on p.driver.heard (past_of v) (past_of w) p.driver_heard more;
     device_heard = heard;
-    copies = copies_stay p.others p.driver p.driver v w (older_self p.driver.log) more p.copies;
+    copies = copies_stay p.others p.driver p.driver v w (before_self (past_of p.driver)) more p.copies;
   }),
 )

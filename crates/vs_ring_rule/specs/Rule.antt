@@ -13,6 +13,8 @@ use Rattle.vs_ring_port.specs.declared.queue.Queue.TheVariants.{Rx, Tx, Event}
 use Rattle.vs_page.specs.declared.log.TheConstants.{FIRST_CID}
 use Rattle.vs_ring_rule.specs.declared.view.Owner.{Owner}
 use Rattle.vs_ring_rule.specs.declared.view.Owner.TheVariants.{Maker, Driver, Device, DriverCopy, DeviceCopy, Nobody}
+use Rattle.vs_ring_rule.specs.declared.view.Passed.{Passed}
+use Rattle.vs_ring_rule.specs.declared.view.Past.{Past}
 use Rattle.vs_ring_rule.specs.declared.view.QueueView.{QueueView}
 use Rattle.vs_ring_rule.specs.declared.view.View.{View}
 use Rattle.vs_ring_rule.specs.OneQueue.{Page, Homes, Core}
@@ -81,27 +83,47 @@ pub record Pair (n : ℕ) (slots : Slots) (driver device : View) : Type 0 where
   pub driver_fair : IsFairLog log.Driver driver.log
   pub device_fair : IsFairLog log.Device device.log
 
--- The log as it was some time before.
+-- What an end did so far, and that on a queue.
+abbrev pub passed : QueueView → Passed
+passed q = record { put = q.put; got = q.got }
+
+abbrev pub past_of : View → Past
+past_of v = record { log = v.log; rx = passed v.rx; tx = passed v.tx; event = passed v.event }
+
+abbrev pub passed_in : Queue → Past → Passed
+passed_in Rx p = p.rx
+passed_in Tx p = p.tx
+passed_in Event p = p.event
+
+-- The log as it was some time before; the first of some pages; what an end did as it was some time before.
 abbrev pub IsOlder : Log → Log → Type 0
 IsOlder old new = (more : Log) × (new ≡ more ++ old)
 
+abbrev pub IsFront : List Page → List Page → Type 0
+IsFront old new = (more : List Page) × (new ≡ old ++ more)
+
+pub record IsBefore (old new : Past) : Type 0 where
+  pub log : IsOlder old.log new.log
+  pub put : (queue : Queue) → IsFront (passed_in queue old).put (passed_in queue new).put
+  pub got : (queue : Queue) → IsFront (passed_in queue old).got (passed_in queue new).got
+
 -- A seat beside the two ends: a copy of what an end put and got at some moment, or nobody's.
-abbrev pub IsCopy : Owner → Log → View → View → Type 0
+abbrev pub IsCopy : Owner → Past → View → View → Type 0
 IsCopy Maker old driver device = ⊥
 IsCopy Driver old driver device = ⊥
 IsCopy Device old driver device = ⊥
-IsCopy DriverCopy old driver device = IsOlder old driver.log
-IsCopy DeviceCopy old driver device = IsOlder old device.log
+IsCopy DriverCopy old driver device = IsBefore old (past_of driver)
+IsCopy DeviceCopy old driver device = IsBefore old (past_of device)
 IsCopy Nobody old driver device = Unit {0}
 
 abbrev pub Copies : List View → View → View → Type 0
 Copies [] driver device = Unit {0}
-Copies (v ∷ vs) driver device = IsCopy v.owner v.log driver device × Copies vs driver device
+Copies (v ∷ vs) driver device = IsCopy v.owner v.heard driver device × Copies vs driver device
 
--- The second seat is the device's, or was joined into the driver's, which then has the whole of its log.
+-- The second seat is the device's, or was joined into the driver's, which then has all that it did.
 abbrev pub Stands : View → View → View → Type 0
 Stands driver device second =
-    ((second ≡ device) × (driver.whole ≡ false)) ⊎ ((second.owner ≡ Nobody) × (driver.whole ≡ true) × (driver.heard ≡ device.log))
+    ((second ≡ device) × (driver.whole ≡ false)) ⊎ ((second.owner ≡ Nobody) × (driver.whole ≡ true) × (driver.heard ≡ past_of device))
 
 -- Two ends.
 pub record TwoEnds (n : ℕ) (t : Table) : Type 0 where
@@ -117,8 +139,8 @@ pub record TwoEnds (n : ℕ) (t : Table) : Type 0 where
   pub words : t.words ≡ all_words driver device
   pub homes : t.homes ≡ all_slots slots
   pub pair : Pair n slots driver device
-  pub driver_heard : IsOlder driver.heard device.log
-  pub device_heard : IsOlder device.heard driver.log
+  pub driver_heard : IsBefore driver.heard (past_of device)
+  pub device_heard : IsBefore device.heard (past_of driver)
   pub copies : Copies others driver device
 
 -- The slots below m, the last first.
@@ -130,8 +152,13 @@ below (suc m) = m ∷ below m
 abbrev pub queue_with : List ℕ → List ℕ → QueueView
 queue_with words held = record { words = words; put = []; got = []; staged = []; held = held; out = None; seen = 0; loads = 0; entry = None }
 
+abbrev pub no_past : Past
+no_past =
+    let none : Passed = record { put = []; got = [] } in
+    record { log = []; rx = none; tx = none; event = none }
+
 abbrev pub view_with : Owner → QueueView → View
-view_with owner q = record { owner = owner; log = []; rx = q; tx = q; event = q; heard = []; whole = false }
+view_with owner q = record { owner = owner; log = []; rx = q; tx = q; event = q; heard = no_past; whole = false }
 
 abbrev pub first_view : ℕ → View
 first_view n = view_with Maker (queue_with [] (below n))

@@ -1,7 +1,7 @@
 -- What each kind of step tells the seat that makes it: of the seat before, the number found and the seat after. The size n of the
 -- rings, the place i of the word among the end's own or the other's words of the queue, and the number x that is stored, are those of
 -- the step.
-use Rattle.std.specs.Prelude.{◌≡◌, ℕ, ◌+◌, ◌-◌, ◌*◌, ◌/◌, ◌%◌, ◌^◌, ◌<◌, ◌≤◌, List, ◌∷◌, ◌++◌, Option, Some, None}
+use Rattle.std.specs.Prelude.{◌≡◌, ℕ, ◌+◌, ◌-◌, ◌*◌, ◌/◌, ◌%◌, ◌^◌, ◌<◌, ◌≤◌, List, ◌∷◌, ◌++◌, length, Option, Some, None}
 use mathlib.Core.Option.{none}
 use Rattle.atomic_table.specs.Table.{Allows, Step, step}
 use Rattle.vs_history.specs.declared.packet.Packet.{Packet}
@@ -11,7 +11,8 @@ use Rattle.vs_page.specs.Log.{Log, packets_put, packets_got, events_put, events_
 use Rattle.vs_ring_port.specs.declared.queue.Queue.{Queue}
 use Rattle.vs_ring_port.specs.declared.queue.Queue.TheVariants.{Rx, Tx, Event}
 use Rattle.vs_ring_rule.specs.OneQueue.{Page, HasHeader, given, taken, descriptor, element}
-use Rattle.vs_ring_rule.specs.Rule.{Rule, Seated, queue_in, flags_of}
+use Rattle.vs_ring_rule.specs.Rule.{Rule, Seated, queue_in, flags_of, passed_in}
+use Rattle.vs_ring_rule.specs.declared.view.Past.{Past}
 use Rattle.vs_ring_rule.specs.Moves.{after_stage, after_lift, after_lay, after_look, after_entry, driver_gave, device_gave, driver_took}
 use Rattle.vs_ring_rule.specs.Moves.{device_took, device_reset, driver_loaded}
 
@@ -66,22 +67,29 @@ driver_enters queue n i x m r m' = (k : ℕ) (page : Page) (more : List (ℕ × 
 abbrev pub driver_gives : Queue → Tells
 driver_gives queue n i x m r m' = m' ≡ (driver_gave queue i x m.0, m.1)
 
--- All that this end was told of the other's puts on a queue, it got.
-abbrev pub DriverHas : Queue → Log → Log → Type 0
-DriverHas Rx mine heard = (more : List Packet) × (packets_got mine ≡ more ++ packets_put heard)
-DriverHas Tx mine heard = Unit {0}
-DriverHas Event mine heard = (more : List ℕ) × (events_got mine ≡ more ++ events_put heard)
+-- All packets, and all events, that this end was told that the other put on a queue, it got.
+abbrev pub DriverGot : Queue → Log → Log → Type 0
+DriverGot Rx mine heard = (more : List Packet) × (packets_got mine ≡ more ++ packets_put heard)
+DriverGot Tx mine heard = Unit {0}
+DriverGot Event mine heard = (more : List ℕ) × (events_got mine ≡ more ++ events_put heard)
 
-abbrev pub DeviceHas : Queue → Log → Log → Type 0
-DeviceHas Tx mine heard = (more : List Packet) × (packets_got mine ≡ more ++ packets_put heard)
-DeviceHas _ mine heard = Unit {0}
+abbrev pub DeviceGot : Queue → Log → Log → Type 0
+DeviceGot Tx mine heard = (more : List Packet) × (packets_got mine ≡ more ++ packets_put heard)
+DeviceGot _ mine heard = Unit {0}
+
+-- All that it was told that the other gave on a queue is among the pages that it took.
+abbrev pub DriverHas : Queue → Log → Past → List Page → Type 0
+DriverHas queue mine heard got = DriverGot queue mine heard.log × (length (passed_in queue heard).put ≤ length got)
+
+abbrev pub DeviceHas : Queue → Log → Past → List Page → Type 0
+DeviceHas queue mine heard got = DeviceGot queue mine heard.log × (length (passed_in queue heard).put ≤ length got)
 
 -- The driver loads the used index, which shows how many pages the device gave: g. Where it took as many, it has all that it was told of.
 abbrev pub driver_looks : Queue → Tells
 driver_looks queue n i x m r m' =
     let q = queue_in queue m.0 in
     (g : ℕ) × (r ≡ g % 2 ^ 16) × (q.seen ≤ g) × (taken q ≤ g) × (g ≤ taken q + n) × (g ≤ given q)
-    × (g ≡ taken q → DriverHas queue m.0.log m.0.heard) × (m' ≡ (after_look queue g m.0, m.1))
+    × (g ≡ taken q → DriverHas queue m.0.log m.0.heard q.got) × (m' ≡ (after_look queue g m.0, m.1))
 
 -- It loads the next used element: the page is taken, and the log stays fair.
 abbrev pub driver_takes : Queue → Tells
@@ -106,7 +114,7 @@ abbrev pub device_looks : Queue → Tells
 device_looks queue n i x m r m' =
     let q = queue_in queue m.0 in
     (g : ℕ) × (r ≡ g % 2 ^ 16) × (q.seen ≤ g) × (taken q ≤ g) × (g ≤ given q + n)
-    × (g ≡ taken q → DeviceHas queue m.0.log m.0.heard) × (m' ≡ (after_look queue g m.0, m.1))
+    × (g ≡ taken q → DeviceHas queue m.0.log m.0.heard q.got) × (m' ≡ (after_look queue g m.0, m.1))
 
 -- It loads the next available entry, and then the descriptor word: the page is taken, has a header on tx, and the log stays fair.
 abbrev pub device_reads : Queue → Tells

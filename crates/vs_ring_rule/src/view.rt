@@ -37,6 +37,20 @@ pub struct QueueView {
     pub entry: Option<u64>,
 }
 
+/// The pages that an end gave and took on a queue, oldest first.
+pub struct Passed {
+    pub put: LinkedList<LinkedList<u8>>,
+    pub got: LinkedList<LinkedList<u8>>,
+}
+
+/// What an end did until some moment: its log, newest first, and the pages that it gave and took.
+pub struct Past {
+    pub log: LinkedList<LogEntry>,
+    pub rx: Passed,
+    pub tx: Passed,
+    pub event: Passed,
+}
+
 /// What an end knows.
 pub struct View {
     pub owner: Owner,
@@ -45,8 +59,8 @@ pub struct View {
     pub rx: QueueView,
     pub tx: QueueView,
     pub event: QueueView,
-    /// What it was told of the other end's log.
-    pub heard: LinkedList<LogEntry>,
-    /// Whether that is the whole of it: the other end's seat was joined into this one.
+    /// What it was told that the other end did. A copy of an end's view has what that end did itself.
+    pub heard: Past,
+    /// Whether that is all that the other end did: its seat was joined into this one.
     pub whole: bool,
 }

@@ -65,7 +65,7 @@ pub record Turns (n : ℕ) (queue : Queue) (f : QueueSight → QueueSight) (held
 -- them.
 pub record DeviceFindsNone (n : ℕ) (queue : Queue) (old new : Seated) (d : DeviceQueue) : Type 0 where
   pub known : (queue_in queue old.0).seen ≤ taken (queue_in queue old.0)
-  pub all : DeviceHas queue old.0.log old.0.heard
+  pub all : DeviceHas queue old.0.log old.0.heard (queue_in queue old.0).got
   pub turns : let q = queue_in queue old.0 in Turns n queue (looked_queue (taken q)) q.held old.0.log old new d
 
 -- It loaded the index.

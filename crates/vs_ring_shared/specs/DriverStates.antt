@@ -54,7 +54,7 @@ pub record Goes (n : ℕ) (queue : Queue) (f : QueueSight → QueueSight) (l : L
 -- them.
 pub record FindsNone (n : ℕ) (queue : Queue) (old new : Seated) (d : DriverQueue) : Type 0 where
   pub known : (queue_in queue old.0).seen ≤ taken (queue_in queue old.0)
-  pub all : DriverHas queue old.0.log old.0.heard
+  pub all : DriverHas queue old.0.log old.0.heard (queue_in queue old.0).got
   pub goes : Goes n queue (looked_queue (taken (queue_in queue old.0))) old.0.log old new d
 
 -- It took a page back: the index that it loaded in this call shows more pages than it took before, and its log stays fair.

@@ -11,9 +11,11 @@ use Rattle.vs_ring_port.specs.Lists.{chain_with, to_read}
 use Rattle.vs_ring_port.specs.declared.device_ring.Chain.{Chain}
 use Rattle.vs_ring_port.specs.declared.queue.Queue.{Queue}
 use Rattle.vs_ring_port.specs.declared.queue.Queue.TheVariants.{Rx, Tx, Event}
+use Rattle.vs_ring_rule.specs.declared.view.Past.{Past}
 use Rattle.vs_ring_rule.specs.declared.view.QueueView.{QueueView}
 use Rattle.vs_ring_rule.specs.declared.view.View.{View}
 use Rattle.vs_ring_rule.specs.OneQueue.{Page}
+use Rattle.vs_ring_rule.specs.Rule.{no_past}
 use Rattle.vs_ring_rule.specs.Tells.{DriverHas, DeviceHas}
 
 -- Of one queue: the pages that the end gave and took, and those that it staged; how many it knows the other end to have given; how often
@@ -25,12 +27,12 @@ pub record QueueSight : Type 0 where
   pub seen : ℕ
   pub loads : ℕ
 
--- The table, the rings' size, the end's log, what it was told of the other's, whether that is the whole of it, and the three queues.
+-- The table, the rings' size, the end's log, what it was told that the other did, whether that is all that the other did, and the three queues.
 pub record Sight : Type 0 where
   pub table : TableId
   pub size : ℕ
   pub log : Log
-  pub heard : Log
+  pub heard : Past
   pub whole : Bool
   pub rx : QueueSight
   pub tx : QueueSight
@@ -71,7 +73,7 @@ empty_sight table size = record {
   table = table;
   size = size;
   log = [];
-  heard = [];
+  heard = no_past;
   whole = false;
   rx = empty_queue;
   tx = empty_queue;
@@ -116,7 +118,7 @@ after_reaping queue g page s = after queue (took_queue g page) (entries_reaped q
 abbrev pub ReapsNone : Queue → Sight → Sight → Type 0
 ReapsNone queue s s' =
     let q = sight_in queue s in
-    (q.seen ≤ length q.got) × DriverHas queue s.log s.heard × (s' ≡ after_looking queue (length q.got) s)
+    (q.seen ≤ length q.got) × DriverHas queue s.log s.heard q.got × (s' ≡ after_looking queue (length q.got) s)
 
 -- It took a page back, by an index that it loaded, which shows more than it took before, and no more than it gave.
 pub record ReapsOne (queue : Queue) (page : Page) (s s' : Sight) : Type 0 where
@@ -178,7 +180,7 @@ after_resetting cid s = record s { sight = record s.sight { log = Mark cid ∷ s
 abbrev pub TakesNone : Queue → DeviceSight → DeviceSight → Type 0
 TakesNone queue s s' =
     let q = sight_in queue s.sight in
-    (q.seen ≤ length q.got) × DeviceHas queue s.sight.log s.sight.heard × (s' ≡ after_counting queue (length q.got) s)
+    (q.seen ≤ length q.got) × DeviceHas queue s.sight.log s.sight.heard q.got × (s' ≡ after_counting queue (length q.got) s)
 
 -- It took a page as the next chain, by an index that it loaded, which shows more than it took before, and no more than were given and not
 -- given back.
