@@ -8,3 +8,4 @@ pub mod Clients
 pub mod Opening
 pub mod Conversations
 pub mod Endings
+pub mod Statuses

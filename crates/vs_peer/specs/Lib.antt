@@ -10,3 +10,4 @@ pub mod Client
 pub mod Conversing
 pub mod Failing
 pub mod Ends
+pub mod Statuses

@@ -1,4 +1,6 @@
 //! A client of the mapping, from its source's first byte to its status.
+ghost use Rattle.std.specs.Prelude.{◌≡◌, true};
+ghost use Rattle.vs_peer.specs.Statuses.{NoFault, Says, is_faultless};
 ghost use Rattle.vs_peer.specs.Ends.{EndsAs, EndsUnread, Meets, PeerEnds};
 
 use crate::converse::converse;
@@ -50,6 +52,31 @@ pub const NO_MEMORY: u8 = 9;
 ///
 /// It goes on while its stream moves, so it may never return.
 pub fn peer<R: AllocGlobal + Wait, S: Source, K: Sink, H: HostNet, G: Gate>(
+    rt: &R,
+    base: &str,
+    port: u32,
+    idle: u32,
+    source: &mut S,
+    host: &mut H,
+    gate: &G,
+    out: &mut K,
+) -> u8
+    // What the status says of source, host and sink; there is no other status.
+    ensures says { Says base.now port idle
+        (record { source = S.contents source.old; host = H.contents host.old; out = K.contents out.old; source_faults = S.faults source.old; host_faults = H.faults host.old; sink_faults = K.faults out.old })
+        (record { source = S.contents source.new; host = H.contents host.new; out = K.contents out.new; source_faults = S.faults source.new; host_faults = H.faults host.new; sink_faults = K.faults out.new })
+        result }
+    // Where no call of source, host and sink failed.
+    ensures faultless { NoFault
+        (record { source = S.contents source.old; host = H.contents host.old; out = K.contents out.old; source_faults = S.faults source.old; host_faults = H.faults host.old; sink_faults = K.faults out.old })
+        (record { source = S.contents source.new; host = H.contents host.new; out = K.contents out.new; source_faults = S.faults source.new; host_faults = H.faults host.new; sink_faults = K.faults out.new })
+        → is_faultless result ≡ true }
+{
+    run(rt, base, port, idle, source, host, gate, out)
+}
+
+// The same, by the steps that it takes.
+fn run<R: AllocGlobal + Wait, S: Source, K: Sink, H: HostNet, G: Gate>(
     rt: &R,
     base: &str,
     port: u32,
