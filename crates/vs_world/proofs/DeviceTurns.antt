@@ -50,7 +50,7 @@ use Rattle.vs_world.proofs.DeviceSide.{DeviceHolds, IsFresh, Kept, end_in, seate
 use Rattle.vs_world.proofs.Fits.{CreditFits, holds_header, holds_payload}
 use Rattle.vs_world.proofs.Wire.{PutsFit, next_fits, not_payload}
 
-queue_is : (q r : Queue) → same_queue q r ≡ true → r ≡ q
+pub queue_is : (q r : Queue) → same_queue q r ≡ true → r ≡ q
 queue_is Rx Rx is = refl
 queue_is Tx Tx is = refl
 queue_is Event Event is = refl

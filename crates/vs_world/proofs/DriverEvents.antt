@@ -181,7 +181,7 @@ module _ (device : Seat) (first : ℕ) (s : DriverState) (lists : Rings) (log : 
   publishes_keeps Event = (recounted s s.in_flight 0 now now refl same, pages)
 
   -- A page comes back.
-  reaps_tx : KeptBy (bind (reap_one s) (λ r. Done r.0))
+  pub reaps_tx : KeptBy (bind (reap_one s) (λ r. Done r.0))
   reaps_tx = by (s.in_flight == 0)
     where
       back : (page : Option (List ℕ)) → Kept device s now (reaped s page).0 (all_put log.staged.tx (entries_reaped Tx page log.entries))
