@@ -1,10 +1,10 @@
 -- The driver takes a transport reset, and closes the connections that wait on a port.
-use Rattle.std.proofs.Common.{◌≡◌, ◌≢◌, ℕ, zero, suc, ◌+◌, ◌^◌, ◌<◌, ◌≤◌, ◌==◌, not, Bool, true, false, cond, List, [], ◌∷◌, ◌++◌, length, map, filter, refl, sym, ap, subst, ◌∙◌, arith, append_assoc}
-use Rattle.std.specs.List.{All, AllPairs}
+use Rattle.std.proofs.Common.{◌≡◌, ℕ, suc, ◌+◌, ◌^◌, ◌<◌, ◌≤◌, ◌==◌, not, Bool, true, false, cond, List, [], ◌∷◌, ◌++◌, map, filter, refl, sym, ap, subst, ◌∙◌, arith, append_assoc}
+use Rattle.std.specs.List.{All}
 use Rattle.std.proofs.lemmas.Bool.Decides.{nat_tests}
 use Rattle.std.proofs.lemmas.List.{map-append, append-nil}
 use Rattle.std.proofs.lemmas.List.Elements.{All-push}
-use Rattle.vs_flow.specs.Table.{IsRising, IsTable, Table, entry_of, without}
+use Rattle.vs_flow.specs.Table.{IsRising, IsTable, Table, without}
 use Rattle.vs_flow.specs.declared.flow.Flow.{Flow}
 use Rattle.vs_flow.proofs.Entries.{above_head, all_others, find_none, rising_tail}
 use Rattle.vs_page.specs.Log.{Log, Driver}
@@ -15,9 +15,9 @@ use Rattle.vs_matching.specs.Ends.{Ends, entries_of, flows_of}
 use Rattle.vs_driver.specs.State.{DriverConnection, DriverEntry, DriverState, GoneConnection}
 use Rattle.vs_driver.specs.Connections.{after_close, after_leaving, after_unlisten, all_closed, gone_as, is_let_go, waiting_on, waits_no_more}
 use Rattle.vs_driver.specs.Receiving.{after_reset, all_left, reset_reply, with_reply}
-use Rattle.vs_world.specs.Sides.{driver_ends, flow_to_host}
+use Rattle.vs_world.specs.Sides.{flow_to_host}
 use Rattle.vs_world.proofs.DriverSide.{DriverHolds, Kept, ReplyFits, close, end_in, held_in, kept_still, kept_then, seated}
-use Rattle.vs_world.proofs.Entries.{EntryFits, FlowFits}
+use Rattle.vs_world.proofs.Entries.{EntryFits}
 use Rattle.vs_world.proofs.Runs.{keeps_sound, one_step}
 use Rattle.vs_world.proofs.Wire.{PutsFit}
 

@@ -1,48 +1,35 @@
 -- What the driver's small changes are among the steps of the two ends.
-use Rattle.std.proofs.Common.{◌≡◌, ◌≢◌, ℕ, suc, ◌+◌, ◌-◌, ◌^◌, ◌<◌, ◌≤◌, ◌==◌, ◌&&◌, not, min, nat_le, nat_lt, Bool, true, false, cond, List, [], ◌∷◌, ◌++◌, length, drop, map, filter, Contains, Option, Some, None, refl, sym, ap, subst, ◌∙◌, arith, rules}
-use Rattle.std.specs.List.{All, find}
-use Rattle.std.proofs.lemmas.Bool.Decides.{nat_tests}
-use Rattle.std.proofs.lemmas.Grind.{common_steps}
+use Rattle.std.proofs.Common.{◌≡◌, ℕ, suc, ◌+◌, ◌-◌, ◌^◌, ◌<◌, ◌≤◌, ◌==◌, min, Bool, true, false, cond, List, [], ◌∷◌, ◌++◌, length, drop, map, Contains, Option, Some, None, refl, sym, ap, subst, ◌∙◌, arith}
+use Rattle.std.specs.List.{All}
 use Rattle.std.proofs.lemmas.List.{length-drop}
-use Rattle.std.proofs.lemmas.List.Elements.{All-push}
-use Rattle.vs_conn.specs.End.{ConnectionEnd, CanSend, aborted, answering, asked, end_after, is_refused, is_reset, is_stream, owes_of, paid_of, verdict_of, wanting_credit, with_payload_sent, with_shut}
+use Rattle.vs_conn.specs.End.{ConnectionEnd, CanSend, owes_of, paid_of, wanting_credit, with_payload_sent, with_shut}
 use Rattle.vs_conn.specs.declared.end.Owed.{Owed}
 use Rattle.vs_conn.specs.declared.end.Owed.TheVariants as owed
 use Rattle.vs_conn.specs.declared.end.State.{State}
 use Rattle.vs_conn.specs.declared.end.State.TheVariants as state
-use Rattle.vs_conn.specs.declared.end.Verdict.{Verdict}
-use Rattle.vs_conn.specs.declared.end.Verdict.TheVariants as verdict
-use Rattle.vs_flow.specs.Flow.{same_flow}
-use Rattle.vs_flow.specs.Table.{Table, IsTable, entry_of, entry_under, with_entry, with_value, without}
-use Rattle.vs_flow.specs.declared.flow.Flow.{Flow}
-use Rattle.vs_flow.proofs.Entries.{same_flow_true}
-use Rattle.vs_flow.proofs.Tables.{with_value_sound, without_sound, with_entry_sound, IsAccepted}
-use Rattle.vs_header.specs.declared.Header.{Header}
-use Rattle.vs_history.specs.declared.TheConstants.{BUF_ALLOC}
-use Rattle.vs_history.specs.declared.packet.Packet.{Packet}
-use Rattle.vs_page.specs.Held.{FitsWire}
-use Rattle.vs_page.specs.Log.{Log, Driver, Device, IsNextPacket}
-use Rattle.vs_page.specs.declared.log.LogEntry.TheVariants.{GotEvent, GotPacket, Mark, PutEvent, PutPacket}
+use Rattle.vs_flow.specs.Table.{Table, IsTable, without}
+use Rattle.vs_flow.proofs.Tables.{with_value_sound, without_sound}
+use Rattle.vs_page.specs.Log.{Log, Driver}
+use Rattle.vs_page.specs.declared.log.LogEntry.TheVariants.{PutPacket}
 use Rattle.vs_replies.specs.declared.Reply.{Reply}
-use Rattle.vs_matching.specs.Both.{Both, Decides, Decision, Forwards, Shuts, Aborts, WantsCredit, IsSound, MayDecide, Opens, Pays, Replies, Seat, Sends, Takes, TakesEvent, TakesReset, decided}
-use Rattle.vs_matching.specs.Ends.{Ends, FlowEnd, ends_of, entries_of, replaced}
-use Rattle.vs_matching.specs.Steps.{HasEnd, left, paid, with_end, owed_on, payload_on, reply_on, request_on}
-use Rattle.vs_matching.proofs.Both.{driver_accepts}
-use Rattle.vs_matching.proofs.Slots.{added_slot, changed_slot, found_by, no_entry, one_end, removed_slot}
+use Rattle.vs_matching.specs.Both.{Both, Decides, Decision, Forwards, Shuts, Aborts, WantsCredit, IsSound, MayDecide, Pays, Replies, Seat, Sends, decided}
+use Rattle.vs_matching.specs.Ends.{Ends, FlowEnd, entries_of, replaced}
+use Rattle.vs_matching.specs.Steps.{HasEnd, left, paid, with_end, owed_on, payload_on, reply_on}
+use Rattle.vs_matching.proofs.Slots.{changed_slot, found_by, one_end, removed_slot}
 use Rattle.vs_matching.proofs.Tables.{driver_begun}
 use Rattle.vs_driver.specs.State.{DriverConnection, DriverEntry, DriverState, GoneConnection, entry_known_as, gone_known_as, is_known_as}
 use Rattle.vs_driver.specs.declared.limits.TheConstants.{LAST_PORT, SLOTS}
-use Rattle.vs_driver.specs.Connections.{after_close, after_closing, after_leaving, after_read, after_recv, after_shut, after_shutdown, after_unlisten, all_closed, entry_closed, entry_read, gone_closed, is_let_go, gone_as, kept_unread, leaves_list, paid_connection, shut_in, waiting_on, waits_no_more, with_connection}
+use Rattle.vs_driver.specs.Connections.{after_close, after_closing, after_leaving, after_read, after_recv, after_shut, after_shutdown, entry_closed, entry_read, gone_closed, is_let_go, gone_as, paid_connection, shut_in, waits_no_more, with_connection}
 use Rattle.vs_driver.specs.Connections.{all_gone_after_read, without_gone}
 use Rattle.vs_driver.specs.Conversations.{after_paying}
 use Rattle.vs_driver.specs.Listening.{with_waiting, without_id}
 use Rattle.vs_credit.specs.Credit.{unread_of}
 use Rattle.vs_matching.specs.Heard.{route_of}
 use Rattle.vs_world.specs.Sides.{Runs, driver_ends, flow_to_host}
-use Rattle.vs_world.proofs.Entries.{EntryFits, FlowFits, fits_at, fits_with_entry, fits_with_value, fits_without}
-use Rattle.vs_world.proofs.Fits.{CreditFits, fits_after, fits_asked, fits_forwarded, fits_paid, fits_sent, fits_shut}
-use Rattle.vs_world.proofs.Runs.{and_then, one_step, stays, keeps_sound}
-use Rattle.vs_world.proofs.Wire.{PutsFit, RouteFits, next_fits, not_payload, owed_fits, payload_fits, reset_fits}
+use Rattle.vs_world.proofs.Entries.{EntryFits, fits_at, fits_with_value, fits_without}
+use Rattle.vs_world.proofs.Fits.{CreditFits, fits_forwarded, fits_paid, fits_sent, fits_shut}
+use Rattle.vs_world.proofs.Runs.{and_then, one_step, stays}
+use Rattle.vs_world.proofs.Wire.{PutsFit, RouteFits, owed_fits, payload_fits, reset_fits}
 
 abbrev pub end_in : DriverConnection → ConnectionEnd
 end_in c = c.end
@@ -119,7 +106,6 @@ module _ (device : Seat) where
     pub decides : (e : DriverEntry) (c : DriverConnection) (what : Decision) → Contains s.table.entries e
         → c.end ≡ decided e.value.end what → MayDecide e.value.end what → CreditFits c.end.credit (length c.unread)
         → Kept s log (with_connection e.slot c s) log
-
     decides e c what there is may fits =
         let has = has_end e there in
         let old = driver_begun first (driver_ends s) log e.flow e.value.end (sound.matches Driver).flows has in

@@ -1,6 +1,5 @@
 -- What the driver opens and takes is among the steps of the two ends.
-use Rattle.std.proofs.Common.{◌≡◌, ◌≢◌, ℕ, suc, ◌+◌, ◌^◌, ◌<◌, ◌≤◌, ◌==◌, ◌&&◌, ◌||◌, not, nat_le, nat_lt, Bool, true, false, cond, List, [], ◌∷◌, ◌++◌, length, map, Contains, Option, Some, None, is_some, refl, sym, ap, subst, ◌∙◌, arith, rules}
-use Rattle.std.specs.List.{All, find}
+use Rattle.std.proofs.Common.{◌≡◌, ℕ, ◌+◌, ◌^◌, ◌<◌, ◌≤◌, ◌&&◌, Bool, true, false, cond, List, [], ◌∷◌, ◌++◌, length, Contains, Option, Some, None, refl, sym, ap, subst, ◌∙◌, arith}
 use Rattle.std.proofs.lemmas.Bool.Decides.{nat_tests}
 use Rattle.std.proofs.lemmas.Grind.{common_steps}
 use Rattle.std.proofs.lemmas.List.Elements.{All-push}
@@ -9,30 +8,27 @@ use Rattle.vs_conn.specs.declared.end.Owed.TheVariants as owed
 use Rattle.vs_conn.specs.declared.end.Verdict.{Verdict}
 use Rattle.vs_conn.specs.declared.end.Verdict.TheVariants as verdict
 use Rattle.vs_flow.specs.Flow.{is_assigned, same_flow}
-use Rattle.vs_flow.specs.Table.{Table, IsTable, entry_of, with_entry, without}
+use Rattle.vs_flow.specs.Table.{entry_of, without}
 use Rattle.vs_flow.specs.declared.flow.Flow.{Flow}
 use Rattle.vs_flow.proofs.Entries.{same_flow_true}
 use Rattle.vs_flow.proofs.Tables.{with_entry_sound, IsAccepted}
 use Rattle.vs_header.specs.declared.Header.{Header}
-use Rattle.vs_history.specs.History.{Asker}
-use Rattle.vs_history.specs.Packets.{is_request, is_rst, size}
+use Rattle.vs_history.specs.Packets.{is_request, is_rst}
 use Rattle.vs_history.specs.declared.TheConstants.{BUF_ALLOC}
 use Rattle.vs_history.specs.declared.packet.Packet.{Packet}
 use Rattle.vs_page.specs.Held.{FitsWire, IsWhole}
-use Rattle.vs_page.specs.Log.{Log, Driver, IsNextPacket, IsNextEvent, flow_to_guest, side_by, side_of}
-use Rattle.vs_page.specs.declared.log.LogEntry.TheVariants.{GotEvent, GotPacket, Mark, PutPacket}
+use Rattle.vs_page.specs.Log.{Log, Driver, IsNextPacket, IsNextEvent, flow_to_guest, side_by}
+use Rattle.vs_page.specs.declared.log.LogEntry.TheVariants.{GotEvent, GotPacket, PutPacket}
 use Rattle.vs_replies.specs.Owed.{reply_to}
-use Rattle.vs_replies.specs.declared.Reply.{Reply}
-use Rattle.vs_matching.specs.Both.{Both, IsSound, Opens, Seat, Takes, TakesEvent, TakesReset, after_packet, answered}
-use Rattle.vs_matching.specs.Ends.{Ends, FlowEnd, ends_of, entries_of, replaced, without_flow}
-use Rattle.vs_matching.specs.Steps.{HasEnd, left, with_end, request_on, refused, accepted, taken}
+use Rattle.vs_matching.specs.Both.{Both, IsSound, Opens, Seat, Takes, TakesEvent, after_packet, answered}
+use Rattle.vs_matching.specs.Ends.{Ends, FlowEnd, ends_of, entries_of, replaced}
+use Rattle.vs_matching.specs.Steps.{left, with_end, request_on, refused, taken}
 use Rattle.vs_matching.proofs.Both.{driver_accepts}
-use Rattle.vs_matching.proofs.Slots.{added_slot, changed_slot, found_by, no_entry, one_end, removed_slot}
+use Rattle.vs_matching.proofs.Slots.{added_slot, changed_slot, found_by, no_entry, one_end}
 use Rattle.vs_driver.specs.State.{DriverConnection, DriverEntry, DriverState, GoneConnection}
-use Rattle.vs_driver.specs.declared.answers.ConnectError.{ConnectError}
 use Rattle.vs_driver.specs.declared.limits.TheConstants.{LAST_ID, LAST_PORT, SLOTS}
-use Rattle.vs_driver.specs.Connections.{after_leaving, connect_refusal, connected, gone_as, is_full, is_let_go, is_spent, next_flow, waits_no_more, with_connection, with_opened, with_request}
-use Rattle.vs_driver.specs.Receiving.{after_packet as connection_after, after_verdict, ends_connection, is_request as asks, may_open, on_known, on_packet, on_unknown, with_reply}
+use Rattle.vs_driver.specs.Connections.{connect_refusal, connected, is_full, is_spent, next_flow, waits_no_more, with_connection, with_opened, with_request}
+use Rattle.vs_driver.specs.Receiving.{after_verdict, ends_connection, is_request as asks, may_open, on_known, on_packet, on_unknown, with_reply}
 use Rattle.vs_driver.proofs.Delivers.{delivers, named_rw}
 use Rattle.vs_header.specs.Op.{op_named}
 use Rattle.vs_header.specs.declared.Op.TheVariants as op
@@ -40,12 +36,12 @@ use Rattle.vs_history.specs.Packets.{is_rw}
 use Rattle.std.proofs.Common.{length-append}
 use Rattle.std.proofs.lemmas.List.{map-append}
 use Rattle.vs_driver.proofs.Packets.{packet_known, packet_unknown}
-use Rattle.vs_world.specs.Sides.{Runs, driver_ends, flow_to_host}
-use Rattle.vs_world.proofs.DriverSide.{DriverHolds, Holds, Kept, ReplyFits, end_in, entry_fits, has_end, held_in, holds_changed, left_ends, left_holds, seated}
-use Rattle.vs_world.proofs.Entries.{EntryFits, FlowFits, fits_with_entry}
+use Rattle.vs_world.specs.Sides.{driver_ends, flow_to_host}
+use Rattle.vs_world.proofs.DriverSide.{DriverHolds, Holds, Kept, ReplyFits, end_in, entry_fits, held_in, holds_changed, left_ends, left_holds, seated}
+use Rattle.vs_world.proofs.Entries.{FlowFits, fits_with_entry}
 use Rattle.vs_world.proofs.Fits.{CreditFits, delivered, fits_after}
 use Rattle.vs_world.proofs.Runs.{one_step}
-use Rattle.vs_world.proofs.Wire.{PutsFit, RouteFits, next_fits, owed_fits}
+use Rattle.vs_world.proofs.Wire.{PutsFit, owed_fits}
 
 module _ (device : Seat) where
   abbrev at_part : Ends → Log → Both
@@ -115,12 +111,15 @@ module _ (device : Seat) where
               (sym (added_slot end_in s.table f _)));
           holds = open_holds f (paid_of (asked BUF_ALLOC) owed.Request) false (accepted_by f (absent f unused.no_end) may.full spent.1) flow
               (record { alloc = omega arith; fwd = omega arith; rx = omega arith; unread = omega arith }) (s.next_port + 1) (omega (arith, spent.0));
-          puts = (owed_fits (asked BUF_ALLOC) _ owed.Request 0 (record {
-            src_cid = holds.known;
-            dst_cid = omega arith;
-            src_port = omega (arith, spent.0);
-            dst_port = fits;
-          }) (record { alloc = omega arith; fwd = omega arith; rx = omega arith; unread = omega arith }) refl, puts);
+          puts = (
+            owed_fits (asked BUF_ALLOC) _ owed.Request 0 (record {
+              src_cid = holds.known;
+              dst_cid = omega arith;
+              src_port = omega (arith, spent.0);
+              dst_port = fits;
+            }) (record { alloc = omega arith; fwd = omega arith; rx = omega arith; unread = omega arith }) refl,
+            puts,
+          );
         }
       where
         spent_by : is_spent s ≡ false → (s.next_port ≤ LAST_PORT) × (s.next_id ≤ LAST_ID)

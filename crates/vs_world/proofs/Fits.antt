@@ -1,25 +1,20 @@
 -- What an end of a connection keeps: its counters have 32 bits, its buffer space is the usual one, and no more is unread than it counts.
-use Rattle.std.proofs.Common.{◌≡◌, ℕ, ◌+◌, ◌-◌, ◌%◌, ◌^◌, ◌<◌, ◌≤◌, ◌==◌, Bool, true, false, cond, Option, Some, None, refl, arith, rules, List, [], ◌++◌, length, take, sym, ap, ◌∙◌}
+use Rattle.std.proofs.Common.{◌≡◌, ℕ, ◌+◌, ◌-◌, ◌%◌, ◌^◌, ◌<◌, ◌≤◌, ◌==◌, Bool, true, false, cond, Option, Some, None, refl, arith, rules, List, [], ◌++◌, length, take, ap, ◌∙◌}
 use Rattle.std.proofs.Math.Seq.{take-length}
-use Rattle.std.proofs.lemmas.Bool.Decides.{nat_tests}
 use Rattle.std.proofs.lemmas.Grind.{common_steps}
-use Rattle.vs_conn.specs.End.{ConnectionEnd, asked, answering, aborted, with_shut, with_payload_sent, with_payload_forwarded, wanting_credit, paid_of, end_after, verdict_of, settled, after_op, after_message, with_heard_packet}
-use Rattle.vs_conn.specs.Headers.{owed_header, payload_header, reset_header}
+use Rattle.vs_conn.specs.End.{ConnectionEnd, asked, with_shut, paid_of, end_after, verdict_of, settled, after_op, after_message, with_heard_packet}
 use Rattle.vs_conn.specs.declared.end.Owed.{Owed}
 use Rattle.vs_conn.specs.declared.end.Owed.TheVariants as owed
 use Rattle.vs_conn.specs.declared.end.Verdict.{Verdict}
 use Rattle.vs_conn.specs.declared.end.Verdict.TheVariants as verdict
-use Rattle.vs_conn.specs.declared.route.Route.{Route}
 use Rattle.vs_credit.specs.Credit.{unread_of, room_of, with_forwarded, with_sent, with_taken}
 use Rattle.vs_credit.specs.declared.Credit.{Credit}
-use Rattle.vs_flow.specs.declared.flow.Flow.{Flow}
 use Rattle.vs_header.specs.Op.{op_named}
 use Rattle.vs_header.specs.Packet.{header_bytes}
 use Rattle.vs_header.specs.declared.Header.{Header}
 use Rattle.vs_header.specs.declared.Op.{Op}
 use Rattle.vs_header.specs.declared.Op.TheVariants as op
 use Rattle.vs_history.specs.declared.TheConstants.{BUF_ALLOC}
-use Rattle.vs_history.specs.declared.packet.Packet.{Packet}
 use Rattle.vs_driver.proofs.Delivers.{delivers}
 use Rattle.vs_page.specs.Held.{FitsWire, packet_held, packet_with, payload_held}
 use Rattle.std.specs.Option.{option_map}

@@ -1,16 +1,14 @@
 -- The world in which nothing has happened yet.
-use Rattle.std.proofs.Common.{◌≡◌, ℕ, zero, suc, ◌+◌, ◌^◌, ◌<◌, ◌≤◌, ◌==◌, Bool, true, false, cond, List, [], ◌∷◌, length, refl, sym, ap, subst, ◌∙◌, arith}
-use Rattle.std.specs.List.{All}
+use Rattle.std.proofs.Common.{◌≡◌, ℕ, zero, suc, ◌+◌, ◌^◌, ◌<◌, ◌==◌, Bool, true, false, cond, List, [], ◌∷◌, refl, sym, ap, subst, ◌∙◌, arith}
 use Rattle.vs_contents.specs.CallTree.{Done, Ask, bind, while_up_to, played}
-use Rattle.vs_flow.specs.Table.{Table, IsTable}
+use Rattle.vs_flow.specs.Table.{IsTable}
 use Rattle.vs_flow.specs.declared.flow.TheConstants.{ASSIGNED_FIRST}
 use Rattle.vs_outside.specs.Host.{HostContents}
 use Rattle.vs_page.specs.Log.{Log}
-use Rattle.vs_ring_port.specs.DriverCalls.{driver_answer, Stage, Publish, LoadCid}
+use Rattle.vs_ring_port.specs.DriverCalls.{driver_answer, Stage, Publish}
 use Rattle.vs_ring_port.specs.EndLog.{EndLog, all_put, entries_marked}
 use Rattle.vs_ring_port.specs.Lists.{Rings}
-use Rattle.vs_ring_port.specs.declared.queue.Queue.{Queue}
-use Rattle.vs_ring_port.specs.declared.queue.Queue.TheVariants.{Rx, Tx, Event}
+use Rattle.vs_ring_port.specs.declared.queue.Queue.TheVariants.{Rx, Event}
 use Rattle.vs_ring_list.specs.Ends.{empty_ends}
 use Rattle.vs_matching.specs.Both.{Both}
 use Rattle.vs_matching.specs.Both as both
@@ -21,7 +19,7 @@ use Rattle.vs_driver.specs.declared.limits.TheConstants.{FIRST_PORT}
 use Rattle.vs_world.specs.Pages.{AllHold}
 use Rattle.vs_world.specs.Events as events
 use Rattle.vs_world.specs.Events.{happens, run}
-use Rattle.vs_world.specs.Sides.{Runs, both_of, driver_ends, log_with_staged}
+use Rattle.vs_world.specs.Sides.{both_of, driver_ends, log_with_staged}
 use Rattle.vs_world.specs.World.{World, opening, first_cid}
 use Rattle.vs_world.proofs.DriverSide.{DriverHolds}
 use Rattle.vs_world.proofs.Played.{opening_queued}

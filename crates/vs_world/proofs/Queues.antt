@@ -9,10 +9,8 @@ use Rattle.vs_ring_port.specs.Chains.{bytes_in}
 use Rattle.vs_ring_port.specs.Contents.{DeviceCall, Take, Read, Write, Return, Given, PublishCid}
 use Rattle.vs_ring_port.specs.DeviceCalls.{device_answer}
 use Rattle.vs_ring_port.specs.DriverCalls.{DriverCall, Stage, Publish, Reap, LoadCid, driver_answer}
-use Rattle.vs_ring_port.specs.EndLog.{EndLog, all_put, pages_at, with_packet, with_event, entries_marked, entries_returned, entries_reaped, log_taken}
-use Rattle.vs_ring_port.specs.Lists.{Rings, Lists, oldest, all_but_oldest, after_return, after_reap, next_at, queue_of, after_take, place_after, with_queue, chain_with}
-use Rattle.vs_ring_port.specs.declared.device_ring.Next.{Next}
-use Rattle.vs_ring_port.specs.declared.device_ring.Next.TheVariants as next
+use Rattle.vs_ring_port.specs.EndLog.{EndLog, all_put, with_packet, with_event, entries_marked, entries_returned, entries_reaped, log_taken}
+use Rattle.vs_ring_port.specs.Lists.{Rings, oldest, all_but_oldest, after_return, next_at, place_after}
 use Rattle.vs_ring_port.specs.declared.queue.Queue.{Queue}
 use Rattle.vs_ring_port.specs.declared.queue.Queue.TheVariants.{Rx, Tx, Event}
 use Rattle.vs_world.specs.Laws.{AreQueued}

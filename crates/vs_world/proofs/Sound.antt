@@ -1,19 +1,15 @@
 -- Each event is some of the steps of the two ends.
-use Rattle.std.proofs.Common.{◌≡◌, ℕ, ◌+◌, ◌^◌, ◌<◌, ◌≤◌, ◌&&◌, nat_le, Bool, true, false, cond, List, [], ◌∷◌, ◌++◌, length, Option, Some, None, refl, sym, ap, subst, ◌∙◌, arith, append_assoc}
+use Rattle.std.proofs.Common.{◌≡◌, ℕ, ◌^◌, ◌<◌, ◌≤◌, ◌&&◌, nat_le, Bool, true, false, List, [], ◌∷◌, ◌++◌, refl, sym, ap, subst, ◌∙◌, arith, append_assoc}
 use Rattle.std.proofs.lemmas.Bool.Decides.{nat_tests}
-use Rattle.vs_contents.specs.CallTree.{Done, Ask, bind, played}
+use Rattle.vs_contents.specs.CallTree.{played}
 use Rattle.vs_history.specs.declared.packet.Packet.{Packet}
 use Rattle.vs_outside.specs.Host.{HostContents}
 use Rattle.vs_page.specs.Held.{held_in, packet_held}
-use Rattle.vs_page.specs.Log.{Log, Driver, Device, packets_put, packets_got}
+use Rattle.vs_page.specs.Log.{packets_put, packets_got}
 use Rattle.vs_ring_port.specs.DriverCalls.{driver_answer}
-use Rattle.vs_ring_port.specs.EndLog.{EndLog, Pages}
-use Rattle.vs_ring_port.specs.Lists.{Rings}
-use Rattle.vs_ring_port.specs.Chains.{same_queue}
-use Rattle.vs_ring_port.specs.declared.device_ring.Chain.{Chain}
 use Rattle.vs_ring_port.specs.declared.queue.Queue.{Queue}
 use Rattle.vs_ring_port.specs.declared.queue.Queue.TheVariants as q
-use Rattle.vs_matching.specs.Both.{Both, IsSound, Seat}
+use Rattle.vs_matching.specs.Both.{IsSound}
 use Rattle.vs_driver.specs.Conversations.{DriverTree, publish_of}
 use Rattle.vs_driver.specs.State.{DriverState}
 use Rattle.vs_device.specs.Calls.{DeviceTree}
@@ -22,15 +18,15 @@ use Rattle.vs_device.specs.Streams.{tick_slot}
 use Rattle.vs_proxy.specs.Handshakes.{accept_one, tick_handshake}
 use Rattle.vs_proxy.specs.State.{ProxyState, Turning, start, with_device}
 use Rattle.vs_proxy.specs.Turns.{proxy_reset_of}
-use Rattle.vs_world.specs.Answers.{Around, answer_around}
-use Rattle.vs_world.specs.Calls.{GuestCall, Journal, is_right}
+use Rattle.vs_world.specs.Answers.{answer_around}
+use Rattle.vs_world.specs.Calls.{Journal, is_right}
 use Rattle.vs_world.specs.DeviceSteps.{takes_chain, returns, puts_event, puts_reply, puts_owed, puts_payload, writes, shuts_write}
 use Rattle.vs_world.specs.Events.{Event, GuestCalls, GuestTakes, GuestStages, GuestReplies, GuestPays, GuestPublishes, DeviceTakes, DeviceReturns, DevicePutsEvent, DeviceReplies, DeviceReads, DevicePays, DeviceWrites, DeviceShutsWrite, ProxyAccepts, ProxyReads, Moment, TimesOut, HandshakeTimesOut, Reset, HostListens, HostUnlistens, ClientConnects, HostWrites, HostTakes, HostEnds, HostCloses, HostFails}
-use Rattle.vs_world.specs.Events.{at_moment, call_made, device_step, driver_step, happens, has_failed, has_page, holds, is_at_rest, is_guest_cid, line_read, none_staged, proxy_step, reset_made, run, unless_failed, where_possible, works_on}
+use Rattle.vs_world.specs.Events.{at_moment, call_made, device_step, driver_step, happens, has_failed, has_page, holds, is_at_rest, is_guest_cid, line_read, none_staged, proxy_step, reset_made, unless_failed, where_possible, works_on}
 use Rattle.vs_world.specs.GuestSteps.{makes_call, takes_page, stages_page, stages_reply, stages_owed}
-use Rattle.vs_world.specs.Laws.{AreQueued, IsQueued}
-use Rattle.vs_world.specs.Pages.{AllHold, TxHolds, is_held}
-use Rattle.vs_world.specs.Sides.{Runs, both_of, driver_ends, log_with_staged}
+use Rattle.vs_world.specs.Laws.{IsQueued}
+use Rattle.vs_world.specs.Pages.{TxHolds}
+use Rattle.vs_world.specs.Sides.{Runs, both_of, log_with_staged}
 use Rattle.vs_world.specs.World.{World, around, device_plays, driver_plays, first_cid}
 use Rattle.vs_world.proofs.Chains.{HoldsRx}
 use Rattle.vs_world.proofs.DevicePuts as device_puts
@@ -49,7 +45,7 @@ use Rattle.vs_world.proofs.ProxyResets as proxy_resets
 use Rattle.vs_world.proofs.ProxySide as proxy_side
 use Rattle.vs_world.proofs.Queues.{pages_put}
 use Rattle.vs_world.proofs.Rings.{device_leaves_given, driver_leaves_cid}
-use Rattle.vs_world.proofs.Runs.{and_then, keeps_sound, stays}
+use Rattle.vs_world.proofs.Runs.{keeps_sound, stays}
 use Rattle.vs_world.proofs.Wire.{PutsFit}
 
 -- What is true of the world after any list of events.
@@ -265,7 +261,7 @@ module _ (w : World) (well : IsWell w) where
       (proxy_side.handshake_keeps (both_of w).driver first_cid w.proxy (around w) well.sound well.device well.device_puts well.chain well.known stream))
   happens_goes (Reset cid) = possible (is_guest_cid cid) (reset_made cid) w well (λ may.
       let k = proxy_resets.reset_keeps (both_of w).driver first_cid w.proxy (around w) well.sound well.device well.device_puts well.chain well.known cid
-          (guest_cid_fits cid may) in
+      (guest_cid_fits cid may) in
       device_goes (proxy_reset_of cid w.proxy) (λ r. r.0) w well (k.kept, k.chain, k.cid))
   happens_goes (HostListens port) = host_goes _
   happens_goes (HostUnlistens port) = host_goes _

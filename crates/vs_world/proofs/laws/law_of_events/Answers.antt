@@ -1,6 +1,3 @@
-use Rattle.std.specs.Prelude.{ℕ, List}
-use Rattle.std.proofs.Common.{sym, refl}
-use Rattle.vs_outside.specs.Host.{HostContents}
 use Rattle.vs_world.specs.Events.{run}
 use Rattle.vs_world.specs.World.{opening}
 use Rattle.vs_world.proofs.Opening.{opening_is, reached, run_well}

@@ -1,8 +1,7 @@
-use Rattle.std.proofs.Common.{◌≡◌, false, sym, subst}
-use Rattle.vs_conn.specs.End.{ConnectionEnd, is_refused, verdict_of}
+use Rattle.std.proofs.Common.{◌≡◌, false, subst}
+use Rattle.vs_conn.specs.End.{is_refused, verdict_of}
 use Rattle.vs_driver.specs.declared.limits.TheConstants.{FIRST_PORT}
 use Rattle.vs_flow.specs.declared.flow.TheConstants.{ASSIGNED_FIRST}
-use Rattle.vs_history.specs.declared.packet.Packet.{Packet}
 use Rattle.vs_matching.specs.Both.{Both}
 use Rattle.vs_matching.specs.Steps.{HasEnd}
 use Rattle.vs_matching.proofs.Both.{device_has_room, driver_accepts}

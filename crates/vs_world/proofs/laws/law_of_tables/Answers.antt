@@ -1,4 +1,4 @@
-use Rattle.std.proofs.Common.{◌≡◌, subst}
+use Rattle.std.proofs.Common.{subst}
 use Rattle.vs_matching.specs.Matches.{Matches}
 use Rattle.vs_matching.proofs.Tables.{all_open, driver_open, reset_empty}
 use Rattle.vs_page.specs.Log.{Device, Driver, Log}
