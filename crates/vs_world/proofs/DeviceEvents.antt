@@ -77,7 +77,7 @@ rst_leaves : (e : ConnectionEnd) (h : Header) → peer_resets (verdict_of e h) h
 rst_leaves e h = grind (arith, common_steps)
 
 pub fits_less : (c : DeviceConnection) (u v : ℕ) → CreditFits c.end.credit u → v ≤ u → CreditFits c.end.credit v
-fits_less c u v fits less = record { alloc = fits.alloc; fwd = fits.fwd; rx = fits.rx; unread = omega (arith, fits.unread, less) }
+fits_less c u v fits less = record { alloc = fits.alloc; fwd = fits.fwd; rx = fits.rx; unread = omega (arith, fits.unread, less); within = fits.within }
 
 abbrev with_verdict : Verdict → DeviceTree DeviceState → DeviceTree DeviceState
 with_verdict v tree = bind {A = DeviceState × Verdict} (bind tree (λ t. Done (t, v))) (λ r. Done r.0)
@@ -120,7 +120,7 @@ module _ (driver : Seat) (first port : ℕ) (s : DeviceState) (log : Log) (sound
 
         none_new : CreditFits (end_after e.value.end h).credit (length e.value.pending)
         none_new = let fits = after (verdict_of e.value.end h) refl in
-            record { alloc = fits.alloc; fwd = fits.fwd; rx = fits.rx; unread = omega (arith, fits.unread) }
+            record { alloc = fits.alloc; fwd = fits.fwd; rx = fits.rx; unread = omega (arith, fits.unread); within = fits.within }
 
         goes_on : (v : Verdict) → verdict_of e.value.end h ≡ v → peer_resets v h ≡ false → (is_reset h && is_stream h) ≡ false
         goes_on v is other = sym (rst_leaves e.value.end h) ∙ ap (λ (w : Verdict). peer_resets w h) is ∙ other
@@ -145,7 +145,7 @@ module _ (driver : Seat) (first port : ℕ) (s : DeviceState) (log : Log) (sound
             let c : DeviceConnection = record (heard h e.value) { pending = e.value.pending ++ payload } in
             let fits' = after verdict.Deliver is in
             takes.stays_with driver first port s log sound holds puts p next fits kept e there flow c refl
-            (record { alloc = fits'.alloc; fwd = fits'.fwd; rx = fits'.rx; unread = omega (arith, fits'.unread, short, length-append e.value.pending payload) })
+            (record { alloc = fits'.alloc; fwd = fits'.fwd; rx = fits'.rx; within = fits'.within; unread = omega (arith, fits'.unread, short, length-append e.value.pending payload) })
             (fresh c refl refl refl refl) (goes_on verdict.Deliver is refl)
 
         peers : (b : Bool) → is_reset h ≡ b → verdict_of e.value.end h ≡ verdict.Peer

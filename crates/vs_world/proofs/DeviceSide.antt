@@ -171,7 +171,7 @@ module _ (driver : Seat) where
               (sym (changed_slot end_in s.table e c holds.sound there
               ∙ ap (λ (x : ConnectionEnd). replaced e.flow x (entries_of end_in s.table)) is ∙ unchanged e there)));
           holds = holds_changed e.slot c (subst (λ (x : ConnectionEnd). CreditFits x.credit (length c.pending)) (sym is)
-              (record { alloc = fits.alloc; fwd = fits.fwd; rx = fits.rx; unread = omega (arith, fits.unread, fewer) })) fresh;
+              (record { alloc = fits.alloc; fwd = fits.fwd; rx = fits.rx; unread = omega (arith, fits.unread, fewer); within = fits.within })) fresh;
           puts = puts;
         }
       where

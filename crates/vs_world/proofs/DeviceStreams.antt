@@ -115,7 +115,7 @@ module _ (driver : Seat) (first port : ℕ) (s : DeviceState) (a : Around) (soun
     -- The connection is over, as for a host call that failed.
     pub cuts : is_new e.value.end ≡ false → Kept driver port s a.log.entries port (with_connection e.slot (cut_off e.value) s) a.log.entries
     cuts old = side.decides driver first port s a.log.entries sound holds puts e (cut_off e.value) Aborts there old refl tt
-        (record { alloc = fits.alloc; fwd = fits.fwd; rx = fits.rx; unread = omega arith }) (not_fresh (cut_off e.value) refl)
+        (record { alloc = fits.alloc; fwd = fits.fwd; rx = fits.rx; unread = omega arith; within = fits.within }) (not_fresh (cut_off e.value) refl)
 
     pub shuts : (bits now : ℕ) → is_new e.value.end ≡ false
         → Kept driver port s a.log.entries port (with_connection e.slot (after_shut bits now e.value) s) a.log.entries

@@ -74,7 +74,7 @@ module _ (driver : Seat) (first port : ℕ) (s : DeviceState) (log : Log) (sound
             (ap (λ (entries : List FlowEnd). at_part driver (record (part_of driver port s) { entries = entries; next_port = port + 1 }) log)
             (sym (added_slot end_in s.table f c)));
         holds = open_holds f c (port + 1) free (record { guest = fits; host = omega (arith, last) })
-            (record { alloc = omega arith; fwd = omega arith; rx = omega arith; unread = omega arith })
+            (record { alloc = omega arith; fwd = omega arith; rx = omega arith; unread = omega arith; within = omega arith })
             (record { ok_line = λ new. refl; asked_at = λ new. refl; shut_at = λ new. refl }) (omega (arith, holds.port));
         puts = puts;
       }
@@ -158,7 +158,7 @@ module _ (driver : Seat) (first port : ℕ) (s : DeviceState) (log : Log) (sound
                   ∙ ap (λ (entries : List FlowEnd). at_part driver (record (part_of driver port s) { entries = entries }) got)
                   (sym (added_slot end_in s.table f c)));
               holds = open_holds f c port (accepted s.table f free) (record { guest = fits.src_port; host = fits.dst_port })
-                  (record { alloc = omega arith; fwd = omega arith; rx = omega arith; unread = omega arith })
+                  (record { alloc = omega arith; fwd = omega arith; rx = omega arith; unread = omega arith; within = omega arith })
                   (not_fresh c refl) holds.port;
               puts = puts;
             }

@@ -110,14 +110,14 @@ module _ (device : Seat) where
               (ap (λ (entries : List FlowEnd). at_part (record (driver_ends s) { entries = entries; next_port = s.next_port + 1 }) (PutPacket p ∷ log))
               (sym (added_slot end_in s.table f _)));
           holds = open_holds f (paid_of (asked BUF_ALLOC) owed.Request) false (accepted_by f (absent f unused.no_end) may.full spent.1) flow
-              (record { alloc = omega arith; fwd = omega arith; rx = omega arith; unread = omega arith }) (s.next_port + 1) (omega (arith, spent.0));
+              (record { alloc = omega arith; fwd = omega arith; rx = omega arith; unread = omega arith; within = omega arith }) (s.next_port + 1) (omega (arith, spent.0));
           puts = (
             owed_fits (asked BUF_ALLOC) _ owed.Request 0 (record {
               src_cid = holds.known;
               dst_cid = omega arith;
               src_port = omega (arith, spent.0);
               dst_port = fits;
-            }) (record { alloc = omega arith; fwd = omega arith; rx = omega arith; unread = omega arith }) refl,
+            }) (record { alloc = omega arith; fwd = omega arith; rx = omega arith; unread = omega arith; within = omega arith }) refl,
             puts,
           );
         }
@@ -231,7 +231,7 @@ module _ (device : Seat) where
                   ∙ ap (λ (entries : List FlowEnd). at_part (record (driver_ends s) { entries = entries }) got) (sym (added_slot end_in s.table f _)));
               holds = open_holds f (answering BUF_ALLOC p.header) true (accepted_by f none room.0 room.1)
                   (record { guest = fits.dst_port; host = fits.src_port })
-                  (record { alloc = omega arith; fwd = omega arith; rx = omega arith; unread = omega arith }) s.next_port holds.port;
+                  (record { alloc = omega arith; fwd = omega arith; rx = omega arith; unread = omega arith; within = omega arith }) s.next_port holds.port;
               puts = puts;
             }
           where
