@@ -84,7 +84,7 @@ module _ (device : Seat) (first : ℕ) (s : DriverState) (lists : Rings) (log : 
   KeptBy tree = let r = played driver_answer tree (lists, log) in Kept device s now r.0 (log_with_staged r.1.1) × TxHolds r.1.0 r.1.1
 
   same : Kept device s now s now
-  same = side.kept_still device s s now holds puts refl holds
+  same = side.kept_still device s s now holds puts refl holds refl
 
   still : Kept device s now s now × TxHolds lists log
   still = (same, pages)
@@ -92,7 +92,7 @@ module _ (device : Seat) (first : ℕ) (s : DriverState) (lists : Rings) (log : 
   -- Pages count in no connection.
   recounted : (t : DriverState) (n m : ℕ) (l k : Log) → l ≡ k → Kept device s now t l → Kept device s now (record t { in_flight = n; staged = m }) k
   recounted t n m l k is kept = subst (λ (x : Log). Kept device s now (record t { in_flight = n; staged = m }) x) is
-      (record { runs = kept.runs; holds = kept.holds; puts = kept.puts })
+      (record { runs = kept.runs; holds = kept.holds; puts = kept.puts; broken = kept.broken })
 
   -- A packet is staged.
   log_put : (bytes : List ℕ) (p : Packet) → packet_held bytes ≡ Some p → PutPacket p ∷ now ≡ all_put (log.staged.tx ++ bytes ∷ []) log.entries
@@ -379,15 +379,15 @@ module _ (device : Seat) (first : ℕ) (s : DriverState) (lists : Rings) (log : 
       by (Some e) is = on e (found_by (is_known_as id) s.table.entries e is).0 (may_send_of e.value.end) refl
 
   -- What changes in no connection.
-  apart : (t : DriverState) → driver_ends s ≡ driver_ends t → DriverHolds t → Kept device s now t now
-  apart t same holds' = side.kept_still device s t now holds puts same holds'
+  apart : (t : DriverState) → driver_ends s ≡ driver_ends t → DriverHolds t → t.broken ≡ s.broken → Kept device s now t now
+  apart t same holds' unbroken = side.kept_still device s t now holds puts same holds' unbroken
 
   pub makes_call_keeps : (call : GuestCall) → is_right call ≡ true → CallKept (makes_call call s)
   makes_call_keeps (Connect port) right = connects_keeps port (grind (arith, nat_tests, right))
   makes_call_keeps (Listen port) right = (by (listen_of port s), pages)
     where
       by : (r : Result (Unit {0}) ListenError) → Kept device s now (elim r as (λ _. DriverState) [ Ok x ↦ listening port s | Err why ↦ s ]) now
-      by (Ok x) = apart (listening port s) refl holds
+      by (Ok x) = apart (listening port s) refl holds refl
       by (Err why) = same
   makes_call_keeps (Unlisten port) right = (by (is_some (listener_on port s.listeners)), pages)
     where
@@ -401,7 +401,7 @@ module _ (device : Seat) (first : ℕ) (s : DriverState) (lists : Rings) (log : 
         | Some id ↦ record s { listeners = with_waiting port (without_id id) s.listeners }
       ]) now
       by None = same
-      by (Some id) = apart (record s { listeners = with_waiting port (without_id id) s.listeners }) refl holds
+      by (Some id) = apart (record s { listeners = with_waiting port (without_id id) s.listeners }) refl holds refl
   makes_call_keeps (Send id bytes) right = sends_keeps id bytes
   makes_call_keeps (Recv id n) right = (side.recv device first s now sound holds puts id n, pages)
   makes_call_keeps (Shutdown id bits) right = (side.shutdown device first s now sound holds puts id bits, pages)

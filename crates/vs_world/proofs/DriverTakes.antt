@@ -37,7 +37,7 @@ use Rattle.std.proofs.Common.{length-append}
 use Rattle.std.proofs.lemmas.List.{map-append}
 use Rattle.vs_driver.proofs.Packets.{packet_known, packet_unknown}
 use Rattle.vs_world.specs.Sides.{driver_ends, flow_to_host}
-use Rattle.vs_world.proofs.DriverSide.{DriverHolds, Holds, Kept, ReplyFits, end_in, entry_fits, held_in, holds_changed, left_ends, left_holds, seated}
+use Rattle.vs_world.proofs.DriverSide.{DriverHolds, Holds, Kept, ReplyFits, end_in, entry_fits, held_in, holds_changed, left_broken, left_ends, left_holds, seated}
 use Rattle.vs_world.proofs.Entries.{FlowFits, fits_with_entry}
 use Rattle.vs_world.proofs.Fits.{CreditFits, delivered, fits_after}
 use Rattle.vs_world.proofs.Runs.{one_step}
@@ -105,6 +105,7 @@ module _ (device : Seat) where
         let unused = (sound.matches Driver).flows.unused f asker (omega arith) in
         let flow : FlowFits f = record { guest = omega (arith, spent.0); host = fits } in
         record {
+          broken = refl;
           runs = one_step Driver (Opens f BUF_ALLOC) (seated device s log) (seated device (connected port s) (PutPacket p ∷ log))
               (record { asker = asker; port = omega arith }, (omega arith, omega arith))
               (ap (λ (entries : List FlowEnd). at_part (record (driver_ends s) { entries = entries; next_port = s.next_port + 1 }) (PutPacket p ∷ log))
@@ -141,6 +142,7 @@ module _ (device : Seat) where
           → c.end ≡ end_after e.value.end p.header → CreditFits c.end.credit (length c.unread)
           → (is_reset p.header && is_stream p.header) ≡ false → Kept device s log (with_connection e.slot c s) got
       stays_with e c there flow is credit goes_on = record {
+        broken = refl;
         runs = one_step Driver (Takes p None) (seated device s log) (seated device (with_connection e.slot c s) got) (next, tt)
             (ap (λ (ends : List ConnectionEnd). at_part (after_packet ends p (flow_to_guest p.header) None (driver_ends s)) got) has
             ∙ ap (λ (b : Bool). at_part (cond b (left (flow_to_guest p.header) (driver_ends s))
@@ -160,6 +162,7 @@ module _ (device : Seat) where
           → (is_reset p.header && is_stream p.header) ≡ true
           → Kept device s log (record (cond b (waits_no_more e s) s) { table = without s.table e.slot; gone = gone }) got
       leaves_with b e gone there flow over = record {
+        broken = left_broken device first s log sound holds puts b e;
         runs = one_step Driver (Takes p None) (seated device s log) (seated device (record (cond b (waits_no_more e s) s) { table = without s.table e.slot; gone = gone }) got) (next, tt)
             (ap (λ (ends : List ConnectionEnd). at_part (after_packet ends p (flow_to_guest p.header) None (driver_ends s)) got) has
             ∙ ap (λ (b : Bool). at_part (cond b (left (flow_to_guest p.header) (driver_ends s))
@@ -223,6 +226,7 @@ module _ (device : Seat) where
             let is_one : is_request p ≡ true = asked_by request in
             let other : is_rst p ≡ false = not_both is_one in
             record {
+              broken = refl;
               runs = one_step Driver (Takes p (Some BUF_ALLOC)) (seated device s log) (seated device (with_request f p.header s) got)
                   (next, (omega arith, omega arith))
                   (ap (λ (ends : List ConnectionEnd). at_part (after_packet ends p f (Some BUF_ALLOC) (driver_ends s)) got) no_end
@@ -248,6 +252,7 @@ module _ (device : Seat) where
         replies_to b is other =
             let f = flow_to_guest p.header in
             record {
+              broken = refl;
               runs = one_step Driver (Takes p None) (seated device s log) (seated device (with_reply (reply_to p.header) s) got) (next, tt)
                   (ap (λ (ends : List ConnectionEnd). at_part (after_packet ends p f None (driver_ends s)) got) no_end
                   ∙ ap (λ (b : Bool). at_part (cond b (driver_ends s) (answered (is_request p) None p f (driver_ends s))) got) other
@@ -273,6 +278,7 @@ module _ (device : Seat) where
 
         ignores : is_rst p ≡ true → Kept device s log s got
         ignores rst = record {
+          broken = refl;
           runs = one_step Driver (Takes p None) (seated device s log) (seated device s got) (next, tt)
               (ap (λ (ends : List ConnectionEnd). at_part (after_packet ends p (flow_to_guest p.header) None (driver_ends s)) got) no_end
               ∙ ap (λ (b : Bool). at_part (cond b (driver_ends s) (answered (is_request p) None p (flow_to_guest p.header) (driver_ends s))) got) rst);
@@ -309,6 +315,7 @@ module _ (device : Seat) where
     -- Events.
     pub takes_event : (id : ℕ) → IsNextEvent log device.log id → Kept device s log s (GotEvent id ∷ log)
     takes_event id next = record {
+      broken = refl;
       runs = one_step Driver (TakesEvent id) (seated device s log) (seated device s (GotEvent id ∷ log)) (refl, next) refl;
       holds = holds;
       puts = puts;
