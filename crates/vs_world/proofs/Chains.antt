@@ -1,8 +1,7 @@
 -- Chains that the device holds, and what is written into them.
-use Rattle.std.proofs.Common.{◌≡◌, ℕ, ◌+◌, ◌≤◌, ◌==◌, ◌&&◌, Bool, true, false, cond, List, [], ◌∷◌, ◌++◌, length, take, drop, Option, Some, None, refl, sym, ap, subst, ◌∙◌, arith, append_assoc, length-append}
+use Rattle.std.proofs.Common.{◌≡◌, ℕ, ◌+◌, ◌==◌, ◌&&◌, Bool, true, false, cond, List, [], ◌∷◌, ◌++◌, length, take, drop, Option, Some, None, refl, sym, ap, ◌∙◌, arith, length-append}
 use Rattle.std.proofs.lemmas.Bool.Decides.{nat_tests}
-use Rattle.std.proofs.lemmas.Grind.{common_steps}
-use Rattle.std.proofs.lemmas.List.{take_at, append-nil}
+use Rattle.std.proofs.lemmas.List.{take_at}
 use Rattle.vs_page.specs.Overwriting.{overwritten}
 use Rattle.vs_world.specs.Pages.{is_held}
 use Rattle.vs_ring_port.specs.Chains.{Held, bytes_in, same_chain, same_queue, with_bytes, without_held}

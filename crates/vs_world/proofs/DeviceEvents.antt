@@ -1,50 +1,42 @@
 -- Each of the device's conversations is some of the steps of the two ends.
-use Rattle.std.proofs.Common.{◌≡◌, ◌≢◌, ℕ, suc, ◌+◌, ◌-◌, ◌^◌, ◌<◌, ◌≤◌, ◌==◌, ◌&&◌, ◌||◌, not, min, nat_le, nat_lt, Bool, true, false, cond, List, [], ◌∷◌, ◌++◌, length, take, drop, Contains, Option, Some, None, Result, Ok, Err, is_some, refl, sym, ap, subst, ◌∙◌, arith, append_assoc, length-append, IsOkAnd}
-use Rattle.std.specs.List.{find}
+use Rattle.std.proofs.Common.{◌≡◌, ℕ, ◌+◌, ◌-◌, ◌^◌, ◌<◌, ◌≤◌, ◌==◌, ◌&&◌, nat_le, nat_lt, Bool, true, false, cond, List, ◌∷◌, ◌++◌, length, take, drop, Contains, Option, Some, None, refl, sym, ap, subst, ◌∙◌, arith, length-append}
 use Rattle.std.proofs.lemmas.Bool.Decides.{nat_tests}
 use Rattle.std.proofs.lemmas.Grind.{common_steps}
-use Rattle.std.proofs.lemmas.List.{length-take, length-drop, append-nil}
+use Rattle.std.proofs.lemmas.List.{length-take}
 use Rattle.std.specs.Option.{option_map}
-use Rattle.vs_contents.specs.CallTree.{CallTree, Done, Ask, bind, played}
-use Rattle.vs_conn.specs.End.{ConnectionEnd, aborted, end_after, is_reset, is_stream, owes_of, paid_of, verdict_of, wanting_credit}
+use Rattle.vs_contents.specs.CallTree.{Done, Ask, bind, played}
+use Rattle.vs_conn.specs.End.{ConnectionEnd, end_after, is_reset, is_stream, verdict_of}
 use Rattle.vs_conn.specs.declared.end.Verdict.{Verdict}
 use Rattle.vs_conn.specs.declared.end.Verdict.TheVariants as verdict
 use Rattle.vs_conn.specs.declared.end.Why.{Why}
 use Rattle.vs_conn.specs.declared.end.Why.TheVariants as why
 use Rattle.vs_flow.specs.Flow.{is_assigned, same_flow}
-use Rattle.vs_flow.specs.Table.{entry_of, entry_under, has_place}
-use Rattle.vs_flow.specs.declared.flow.Flow.{Flow}
+use Rattle.vs_flow.specs.Table.{entry_of, has_place}
 use Rattle.vs_flow.proofs.Entries.{same_flow_true}
-use Rattle.vs_header.specs.Op.{op_number}
 use Rattle.vs_header.specs.Packet.{header_of}
 use Rattle.vs_header.specs.declared.Header.{Header}
-use Rattle.vs_header.specs.declared.Op.TheVariants.{Request}
 use Rattle.vs_history.specs.Packets.{is_request, is_rst}
 use Rattle.vs_history.specs.declared.packet.Packet.{Packet}
-use Rattle.vs_outside.specs.Host.{HostContents, after_dial, dial_answer}
+use Rattle.vs_outside.specs.Host.{HostContents, dial_answer}
 use Rattle.vs_outside.specs.declared.host_net.Dialed.{Dialed}
 use Rattle.vs_outside.specs.declared.host_net.Dialed.TheVariants as dialed
-use Rattle.vs_page.specs.Held.{FitsWire, held_in, listed, packet_held, packet_with, payload_held}
-use Rattle.vs_page.specs.Log.{Log, Driver, Device, IsNextPacket, flow_to_host, packets_put, packets_got}
+use Rattle.vs_page.specs.Held.{FitsWire, packet_held, packet_with, payload_held}
+use Rattle.vs_page.specs.Log.{Log, Device, IsNextPacket, flow_to_host}
 use Rattle.vs_page.specs.Open.{is_dropped}
-use Rattle.vs_page.specs.declared.log.LogEntry.TheVariants.{GotPacket, PutEvent, PutPacket}
+use Rattle.vs_page.specs.declared.log.LogEntry.TheVariants.{GotPacket}
 use Rattle.vs_replies.specs.Owed.{reply_to}
-use Rattle.vs_ring_port.specs.Chains.{Held, bytes_in}
-use Rattle.vs_ring_port.specs.Contents.{Read, Return, Take, Write}
-use Rattle.vs_ring_port.specs.EndLog.{EndLog, with_packet}
-use Rattle.vs_ring_port.specs.Lists.{Rings, all_but_oldest, chain_with, oldest, place_after}
+use Rattle.vs_ring_port.specs.Chains.{bytes_in}
+use Rattle.vs_ring_port.specs.EndLog.{EndLog}
+use Rattle.vs_ring_port.specs.Lists.{Rings}
 use Rattle.vs_ring_port.specs.declared.device_ring.Chain.{Chain}
 use Rattle.vs_ring_port.specs.declared.failure.Failure.TheVariants as failure
-use Rattle.vs_ring_port.specs.declared.queue.Queue.{Queue}
-use Rattle.vs_ring_port.specs.declared.queue.Queue.TheVariants.{Rx, Tx, Event}
-use Rattle.vs_matching.specs.Both.{Aborts, Both, IsSound, Seat}
+use Rattle.vs_matching.specs.Both.{IsSound, Seat}
 use Rattle.vs_matching.proofs.Slots.{found_by}
-use Rattle.vs_uds.specs.OkLine.{ok_text}
 use Rattle.vs_uds.specs.Path.{path_of}
-use Rattle.vs_device.specs.Calls.{CloseStream, DeviceTree, Dial, Ring}
+use Rattle.vs_device.specs.Calls.{CloseStream, DeviceTree, Dial}
 use Rattle.vs_device.specs.Connections.{with_connection, with_fault, with_reply}
 use Rattle.vs_device.specs.State.{DeviceConnection, DeviceEntry, DeviceState}
-use Rattle.vs_device.specs.Streams.{closing, leaving}
+use Rattle.vs_device.specs.Streams.{leaving}
 use Rattle.vs_device.specs.Connections.{after_leaving, stream_closed}
 use Rattle.vs_flow.specs.Table.{with_value, without}
 use Rattle.vs_conn.specs.End.{after_op}
@@ -52,18 +44,15 @@ use Rattle.vs_header.specs.Op.{op_named}
 use Rattle.vs_matching.specs.Ends.{is_new}
 use Rattle.vs_device.specs.Transmitting.{dial_answered, failing, heard, on_known, on_packet, on_unknown, refused, try_request, unknown_why}
 use Rattle.vs_wrap.specs.Wrap.{counted}
-use Rattle.vs_device.specs.declared.limits.TheConstants.{REPLIES}
-use Rattle.vs_world.specs.Answers.{Around, answer_around, with_host}
-use Rattle.vs_world.specs.DeviceSteps.{chain_came, header_came, takes_chain}
-use Rattle.vs_world.specs.Pages.{AllHold, PageHolds}
+use Rattle.vs_world.specs.Answers.{Around, answer_around}
+use Rattle.vs_world.specs.DeviceSteps.{header_came}
 use Rattle.vs_world.proofs.Chains.{HoldsRx}
 use Rattle.vs_world.proofs.DeviceSide as side
 use Rattle.vs_world.proofs.DeviceSide.{DeviceHolds, IsFresh, Kept, end_in, entry_fits, entry_fresh, seated}
 use Rattle.vs_world.proofs.DeviceTakes as takes
 use Rattle.vs_world.proofs.DeviceTakes.{heard_fresh}
 use Rattle.vs_world.proofs.Fits.{CreditFits, delivered, fits_after}
-use Rattle.vs_world.proofs.Wire.{PutsFit, next_fits}
-use Rattle.vs_driver_parts.proofs.Delivers.{delivers}
+use Rattle.vs_world.proofs.Wire.{PutsFit}
 
 -- The header of the packet that a page holds.
 some_test : {A : Type 0} (b : Bool) (o : Option A) (x : A) → cond b o None ≡ Some x → o ≡ Some x
@@ -88,7 +77,7 @@ rst_leaves : (e : ConnectionEnd) (h : Header) → peer_resets (verdict_of e h) h
 rst_leaves e h = grind (arith, common_steps)
 
 pub fits_less : (c : DeviceConnection) (u v : ℕ) → CreditFits c.end.credit u → v ≤ u → CreditFits c.end.credit v
-fits_less c u v fits less = record { alloc = fits.alloc; fwd = fits.fwd; rx = fits.rx; unread = omega (arith, fits.unread, less) }
+fits_less c u v fits less = record { alloc = fits.alloc; fwd = fits.fwd; rx = fits.rx; unread = omega (arith, fits.unread, less); within = fits.within }
 
 abbrev with_verdict : Verdict → DeviceTree DeviceState → DeviceTree DeviceState
 with_verdict v tree = bind {A = DeviceState × Verdict} (bind tree (λ t. Done (t, v))) (λ r. Done r.0)
@@ -131,7 +120,7 @@ module _ (driver : Seat) (first port : ℕ) (s : DeviceState) (log : Log) (sound
 
         none_new : CreditFits (end_after e.value.end h).credit (length e.value.pending)
         none_new = let fits = after (verdict_of e.value.end h) refl in
-            record { alloc = fits.alloc; fwd = fits.fwd; rx = fits.rx; unread = omega (arith, fits.unread) }
+            record { alloc = fits.alloc; fwd = fits.fwd; rx = fits.rx; unread = omega (arith, fits.unread); within = fits.within }
 
         goes_on : (v : Verdict) → verdict_of e.value.end h ≡ v → peer_resets v h ≡ false → (is_reset h && is_stream h) ≡ false
         goes_on v is other = sym (rst_leaves e.value.end h) ∙ ap (λ (w : Verdict). peer_resets w h) is ∙ other
@@ -156,7 +145,7 @@ module _ (driver : Seat) (first port : ℕ) (s : DeviceState) (log : Log) (sound
             let c : DeviceConnection = record (heard h e.value) { pending = e.value.pending ++ payload } in
             let fits' = after verdict.Deliver is in
             takes.stays_with driver first port s log sound holds puts p next fits kept e there flow c refl
-            (record { alloc = fits'.alloc; fwd = fits'.fwd; rx = fits'.rx; unread = omega (arith, fits'.unread, short, length-append e.value.pending payload) })
+            (record { alloc = fits'.alloc; fwd = fits'.fwd; rx = fits'.rx; within = fits'.within; unread = omega (arith, fits'.unread, short, length-append e.value.pending payload) })
             (fresh c refl refl refl refl) (goes_on verdict.Deliver is refl)
 
         peers : (b : Bool) → is_reset h ≡ b → verdict_of e.value.end h ≡ verdict.Peer

@@ -1,55 +1,44 @@
 -- What the device puts into the receive chain that it holds.
-use Rattle.std.proofs.Common.{◌≡◌, ◌≢◌, ℕ, suc, ◌+◌, ◌-◌, ◌^◌, ◌<◌, ◌≤◌, ◌==◌, ◌&&◌, not, min, nat_le, nat_lt, Bool, true, false, cond, List, [], ◌∷◌, ◌++◌, length, take, drop, Contains, Option, Some, None, refl, sym, ap, subst, ◌∙◌, arith, IsOkAnd}
-use Rattle.std.proofs.lemmas.Bool.Decides.{nat_tests}
+use Rattle.std.proofs.Common.{◌≡◌, ℕ, ◌+◌, ◌^◌, ◌<◌, ◌==◌, not, Bool, true, false, cond, List, [], ◌∷◌, ◌++◌, length, take, Contains, Option, Some, None, refl, sym, ap, subst, ◌∙◌, arith}
 use Rattle.std.proofs.lemmas.Grind.{common_steps}
-use Rattle.std.proofs.lemmas.List.{length-take, append-nil}
-use Rattle.std.specs.Option.{option_map_or}
-use Rattle.vs_contents.specs.CallTree.{CallTree, Done, Ask, bind, played}
-use Rattle.vs_conn.specs.End.{ConnectionEnd, CanSend, may_send_of, owes_of, paid_of, wanting_credit, with_payload_sent}
-use Rattle.vs_conn.specs.Headers.{owed_header, payload_header}
+use Rattle.vs_contents.specs.CallTree.{Done, Ask, bind}
+use Rattle.vs_conn.specs.End.{owes_of, paid_of}
+use Rattle.vs_conn.specs.Headers.{owed_header}
 use Rattle.vs_conn.specs.declared.end.Owed.{Owed}
 use Rattle.vs_conn.specs.declared.end.Owed.TheVariants as owed
-use Rattle.vs_conn.specs.declared.end.State.{State}
-use Rattle.vs_conn.specs.declared.end.State.TheVariants as state
-use Rattle.vs_credit.specs.Credit.{free_of}
-use Rattle.vs_flow.specs.Table.{entry_under, with_value, without}
+use Rattle.vs_flow.specs.Table.{entry_under}
 use Rattle.vs_header.specs.Packet.{header_bytes}
 use Rattle.vs_header.specs.declared.Header.{Header}
 use Rattle.vs_history.specs.declared.packet.Packet.{Packet}
-use Rattle.vs_outside.specs.Host.{HostContents, Stream, fails_now, next_bytes, read_answer, read_of, stream_at}
-use Rattle.vs_outside.specs.declared.host_net.StreamRead.{StreamRead}
-use Rattle.vs_outside.specs.declared.host_net.StreamRead.TheVariants as read
 use Rattle.vs_page.specs.Held.{packet_held}
 use Rattle.vs_page.specs.Log.{Log, Device}
 use Rattle.vs_page.specs.Overwriting.{overwritten}
 use Rattle.vs_page.specs.declared.log.LogEntry.TheVariants.{PutPacket}
 use Rattle.vs_replies.specs.declared.Reply.{Reply}
-use Rattle.vs_ring_port.specs.Chains.{Held, bytes_in, with_bytes, without_held}
-use Rattle.vs_ring_port.specs.Contents.{Return, Write}
+use Rattle.vs_ring_port.specs.Chains.{bytes_in, with_bytes}
 use Rattle.vs_ring_port.specs.EndLog.{EndLog, entries_returned, with_packet}
 use Rattle.vs_ring_port.specs.Lists.{Rings, after_return}
 use Rattle.vs_ring_port.specs.declared.device_ring.Chain.{Chain}
 use Rattle.vs_ring_port.specs.declared.queue.Queue.{Queue}
 use Rattle.vs_ring_port.specs.declared.queue.Queue.TheVariants.{Rx}
-use Rattle.vs_matching.specs.Both.{Aborts, Both, IsSound, Seat, Shuts, WantsCredit}
+use Rattle.vs_matching.specs.Both.{IsSound, Seat}
 use Rattle.vs_matching.specs.Ends.{is_new}
-use Rattle.vs_matching.specs.Steps.{owed_on, paid, payload_on, reply_on, with_end}
+use Rattle.vs_matching.specs.Steps.{owed_on, paid, reply_on, with_end}
 use Rattle.vs_matching.proofs.Slots.{found_by}
-use Rattle.vs_device.specs.Calls.{CloseStream, DeviceTree, ReadStream, Ring}
-use Rattle.vs_device.specs.Connections.{after_leaving, after_shut, cut_off, route_to_guest, stream_closed, with_connection, with_fault}
-use Rattle.vs_device.specs.Receiving.{Filling, after_paying, may_read, put_owed, put_packet, put_payload, put_reply_of, read_answered, read_room, read_with_chain, reply_header}
+use Rattle.vs_device.specs.Calls.{CloseStream, DeviceTree}
+use Rattle.vs_device.specs.Connections.{after_leaving, route_to_guest, stream_closed, with_connection}
+use Rattle.vs_device.specs.Receiving.{Filling, after_paying, put_packet, put_reply_of, reply_header}
 use Rattle.vs_device.specs.State.{DeviceConnection, DeviceEntry, DeviceState}
-use Rattle.vs_device.specs.Streams.{closing}
-use Rattle.vs_world.specs.Answers.{Around, answer_around, bytes_with}
-use Rattle.vs_world.specs.DeviceSteps.{filling, puts_owed, puts_payload, puts_reply, reads}
+use Rattle.vs_world.specs.Answers.{Around}
+use Rattle.vs_world.specs.DeviceSteps.{filling, puts_owed, puts_reply}
 use Rattle.vs_world.specs.Pages.{is_held}
 use Rattle.vs_world.specs.Sides.{flow_to_guest}
 use Rattle.vs_world.proofs.Chains.{HoldsRx, both_written, bytes_written, first_written, held_written}
 use Rattle.vs_world.proofs.DeviceEvents.{KeptBy, Over}
 use Rattle.vs_world.proofs.DeviceSide as side
 use Rattle.vs_world.proofs.DeviceSide.{DeviceHolds, IsFresh, Kept, end_in, entry_fits, entry_fresh, not_fresh, seated}
-use Rattle.vs_world.proofs.DeviceTurns.{same_cid, still, quiet}
-use Rattle.vs_world.proofs.Fits.{CreditFits, fits_shut, holds_header, holds_payload}
+use Rattle.vs_world.proofs.DeviceTurns.{same_cid, still}
+use Rattle.vs_world.proofs.Fits.{holds_header}
 use Rattle.vs_world.proofs.Wire.{PutsFit, not_payload}
 
 module _ (driver : Seat) (first port : ℕ) (s : DeviceState) (a : Around) (sound : IsSound first (seated driver port s a.log.entries))

@@ -1,25 +1,23 @@
 -- What the device reads of its connections' streams.
-use Rattle.std.proofs.Common.{◌≡◌, ℕ, ◌+◌, ◌-◌, ◌^◌, ◌<◌, ◌≤◌, ◌==◌, min, Bool, true, false, cond, List, [], ◌∷◌, length, Contains, Option, Some, None, refl, sym, ap, subst, ◌∙◌, arith}
-use Rattle.std.proofs.lemmas.Bool.Decides.{nat_tests}
-use Rattle.vs_contents.specs.CallTree.{Done, Ask, bind, played}
+use Rattle.std.proofs.Common.{◌≡◌, ℕ, ◌^◌, ◌<◌, ◌≤◌, ◌==◌, Bool, true, false, cond, List, length, Contains, Option, Some, None, refl, subst, arith}
+use Rattle.vs_contents.specs.CallTree.{Done, Ask, bind}
 use Rattle.vs_conn.specs.End.{wanting_credit}
 use Rattle.vs_credit.specs.Credit.{free_of}
 use Rattle.vs_flow.specs.Table.{entry_under}
-use Rattle.vs_outside.specs.Host.{HostContents, after_read, fails_now, next_bytes, read_answer, stream_at}
+use Rattle.vs_outside.specs.Host.{HostContents, after_read, fails_now, read_answer, stream_at}
 use Rattle.vs_outside.specs.declared.host_net.StreamRead.{StreamRead}
 use Rattle.vs_outside.specs.declared.host_net.StreamRead.TheVariants as read
-use Rattle.vs_page.specs.Log.{Log, Device}
 use Rattle.vs_ring_port.specs.EndLog.{EndLog}
 use Rattle.vs_ring_port.specs.Lists.{Rings}
 use Rattle.vs_ring_port.specs.declared.device_ring.Chain.{Chain}
-use Rattle.vs_matching.specs.Both.{Both, IsSound, Seat, WantsCredit}
+use Rattle.vs_matching.specs.Both.{IsSound, Seat, WantsCredit}
 use Rattle.vs_matching.specs.Ends.{is_new}
 use Rattle.vs_matching.proofs.Slots.{found_by}
 use Rattle.vs_device.specs.Calls.{CloseStream, DeviceTree, ReadStream}
 use Rattle.vs_device.specs.Connections.{after_shut, cut_off, with_connection, with_fault}
-use Rattle.vs_device.specs.Receiving.{Filling, may_read, put_payload, read_answered, read_room, read_with_chain}
+use Rattle.vs_device.specs.Receiving.{may_read, read_answered, read_room, read_with_chain}
 use Rattle.vs_device.specs.State.{DeviceConnection, DeviceEntry, DeviceState}
-use Rattle.vs_world.specs.Answers.{Around, answer_around, bytes_with}
+use Rattle.vs_world.specs.Answers.{Around, bytes_with}
 use Rattle.vs_world.specs.DeviceSteps.{filling, puts_payload, reads}
 use Rattle.vs_world.proofs.Chains.{HoldsRx}
 use Rattle.vs_world.proofs.DeviceEvents.{KeptBy, Over}
@@ -28,7 +26,6 @@ use Rattle.vs_world.proofs.DeviceSide.{DeviceHolds, Kept, entry_fits, not_fresh,
 use Rattle.vs_world.proofs.DeviceStreams as streams
 use Rattle.vs_world.proofs.DeviceStreams.{bytes_short, live_old, read_short}
 use Rattle.vs_world.proofs.DeviceTurns.{still}
-use Rattle.vs_world.proofs.Fits.{CreditFits}
 use Rattle.vs_world.proofs.Wire.{PutsFit}
 
 module _ (driver : Seat) (first port : ℕ) (s : DeviceState) (a : Around) (sound : IsSound first (seated driver port s a.log.entries))

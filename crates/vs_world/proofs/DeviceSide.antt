@@ -1,24 +1,20 @@
 -- What the device's small changes are among the steps of the two ends.
-use Rattle.std.proofs.Common.{◌≡◌, ◌≢◌, ℕ, suc, ◌+◌, ◌-◌, ◌^◌, ◌<◌, ◌≤◌, ◌==◌, ◌&&◌, not, Bool, true, false, cond, List, [], ◌∷◌, ◌++◌, length, map, Contains, Option, Some, None, refl, sym, ap, subst, ◌∙◌, arith, rules}
+use Rattle.std.proofs.Common.{◌≡◌, ℕ, suc, ◌^◌, ◌<◌, ◌≤◌, ◌==◌, not, Bool, true, false, cond, List, [], ◌∷◌, length, map, Contains, Some, None, refl, sym, ap, subst, ◌∙◌, arith}
 use Rattle.std.specs.List.{All}
-use Rattle.std.proofs.lemmas.Bool.Decides.{nat_tests}
-use Rattle.std.proofs.lemmas.Grind.{common_steps}
-use Rattle.std.proofs.lemmas.List.Elements.{All-filter, All-map, All-push}
-use Rattle.vs_conn.specs.End.{ConnectionEnd, CanSend, asked, owes_of, paid_of, wanting_credit, with_payload_sent, with_shut, with_payload_forwarded}
+use Rattle.std.proofs.lemmas.List.Elements.{All-filter, All-map}
+use Rattle.vs_conn.specs.End.{ConnectionEnd, CanSend, owes_of, paid_of, with_payload_sent}
 use Rattle.vs_conn.specs.declared.end.Owed.{Owed}
 use Rattle.vs_conn.specs.declared.end.Owed.TheVariants as owed
 use Rattle.vs_credit.specs.Credit.{unread_of}
 use Rattle.vs_flow.specs.Flow.{same_flow}
-use Rattle.vs_flow.specs.Table.{Table, IsTable, entry_of, entry_under, revalued, with_entry, with_value, without}
+use Rattle.vs_flow.specs.Table.{Table, IsTable, revalued, with_value, without}
 use Rattle.vs_flow.specs.declared.flow.Flow.{Flow}
 use Rattle.vs_flow.specs.declared.flow.TheConstants.{ASSIGNED_FIRST}
-use Rattle.vs_flow.specs.declared.table.Entry.{Entry}
 use Rattle.vs_flow.proofs.Tables.{with_value_sound, without_sound}
-use Rattle.vs_history.specs.declared.packet.Packet.{Packet}
-use Rattle.vs_page.specs.Log.{Log, Driver, Device}
+use Rattle.vs_page.specs.Log.{Log, Device}
 use Rattle.vs_page.specs.declared.log.LogEntry.TheVariants.{PutEvent, PutPacket}
 use Rattle.vs_replies.specs.declared.Reply.{Reply}
-use Rattle.vs_matching.specs.Both.{Both, Decides, Decision, Forwards, Shuts, Aborts, WantsCredit, IsSound, MayDecide, Pays, PutsEvent, Replies, Seat, Sends, decided}
+use Rattle.vs_matching.specs.Both.{Both, Decides, Decision, IsSound, MayDecide, Pays, PutsEvent, Replies, Seat, Sends, decided}
 use Rattle.vs_matching.specs.Ends.{Ends, FlowEnd, ends_of, entries_of, is_new, replaced}
 use Rattle.vs_matching.specs.Heard.{route_of}
 use Rattle.vs_matching.specs.Steps.{HasEnd, left, paid, with_end, owed_on, payload_on, reply_on}
@@ -27,10 +23,10 @@ use Rattle.vs_matching.proofs.Tables.{end_new}
 use Rattle.vs_device.specs.State.{DeviceConnection, DeviceEntry, DeviceState}
 use Rattle.vs_device.specs.Connections.{with_connection}
 use Rattle.vs_world.specs.Sides.{Runs, flow_to_guest}
-use Rattle.vs_world.proofs.Entries.{EntryFits, FlowFits, fits_at, fits_with_value, fits_without, without_changed}
+use Rattle.vs_world.proofs.Entries.{EntryFits, fits_at, fits_with_value, fits_without, without_changed}
 use Rattle.vs_world.proofs.Fits.{CreditFits, fits_paid, fits_sent}
 use Rattle.vs_world.proofs.DriverSide.{ReplyFits}
-use Rattle.vs_world.proofs.Runs.{and_then, one_step, stays}
+use Rattle.vs_world.proofs.Runs.{one_step, stays}
 use Rattle.vs_world.proofs.Wire.{PutsFit, RouteFits, owed_fits, payload_fits, reset_fits}
 
 abbrev pub end_in : DeviceConnection → ConnectionEnd
@@ -175,7 +171,7 @@ module _ (driver : Seat) where
               (sym (changed_slot end_in s.table e c holds.sound there
               ∙ ap (λ (x : ConnectionEnd). replaced e.flow x (entries_of end_in s.table)) is ∙ unchanged e there)));
           holds = holds_changed e.slot c (subst (λ (x : ConnectionEnd). CreditFits x.credit (length c.pending)) (sym is)
-              (record { alloc = fits.alloc; fwd = fits.fwd; rx = fits.rx; unread = omega (arith, fits.unread, fewer) })) fresh;
+              (record { alloc = fits.alloc; fwd = fits.fwd; rx = fits.rx; unread = omega (arith, fits.unread, fewer); within = fits.within })) fresh;
           puts = puts;
         }
       where

@@ -1,44 +1,40 @@
 -- What the device does with its connections' streams.
-use Rattle.std.proofs.Common.{◌≡◌, ◌≢◌, ℕ, suc, ◌+◌, ◌-◌, ◌^◌, ◌<◌, ◌≤◌, ◌==◌, ◌&&◌, ◌||◌, not, min, nat_le, nat_lt, Bool, true, false, cond, List, [], ◌∷◌, ◌++◌, length, take, drop, Contains, Option, Some, None, Result, Ok, Err, refl, sym, ap, subst, ◌∙◌, arith, IsOkAnd}
+use Rattle.std.proofs.Common.{◌≡◌, ℕ, ◌-◌, ◌^◌, ◌<◌, ◌≤◌, ◌==◌, ◌&&◌, ◌||◌, not, min, Bool, true, false, cond, List, [], ◌∷◌, ◌++◌, length, take, drop, Contains, Option, Some, None, Ok, Err, refl, sym, ap, subst, ◌∙◌, arith, IsOkAnd}
 use Rattle.std.proofs.lemmas.Bool.Decides.{nat_tests}
 use Rattle.std.proofs.lemmas.Grind.{common_steps}
 use Rattle.std.proofs.lemmas.List.{length-take, length-drop, append-nil}
 use Rattle.std.proofs.Common.{length-append}
 use Rattle.std.specs.Option.{option_map_or}
-use Rattle.vs_contents.specs.CallTree.{CallTree, Done, Ask, bind, played}
-use Rattle.vs_conn.specs.End.{ConnectionEnd, CanSend, aborted, may_send_of, state_may_send, wanting_credit, with_payload_forwarded, with_payload_sent, with_shut}
+use Rattle.vs_contents.specs.CallTree.{Done, Ask, bind, played}
+use Rattle.vs_conn.specs.End.{ConnectionEnd, state_may_send, with_payload_forwarded, with_payload_sent, with_shut}
 use Rattle.vs_conn.specs.Headers.{payload_header}
 use Rattle.vs_conn.specs.declared.end.State.{State}
 use Rattle.vs_conn.specs.declared.end.State.TheVariants as state
-use Rattle.vs_conn.specs.declared.end.Stop.{Stop}
 use Rattle.vs_conn.specs.declared.end.Stop.TheVariants.{ShutDown}
-use Rattle.vs_credit.specs.Credit.{free_of, unread_of}
+use Rattle.vs_credit.specs.Credit.{free_of}
 use Rattle.vs_flow.specs.Table.{entry_under}
 use Rattle.vs_header.specs.Packet.{header_bytes}
-use Rattle.vs_header.specs.declared.Header.{Header}
-use Rattle.vs_history.specs.declared.packet.Packet.{Packet}
-use Rattle.vs_outside.specs.Host.{HostContents, Stream, after_write, fails_now, next_bytes, read_answer, read_of, stream_at, taken_of, write_answer, write_of}
-use Rattle.vs_outside.specs.declared.host_net.StreamRead.{StreamRead}
+use Rattle.vs_outside.specs.Host.{Stream, after_write, fails_now, read_of, stream_at, taken_of, write_answer, write_of}
 use Rattle.vs_outside.specs.declared.host_net.StreamRead.TheVariants as read
 use Rattle.vs_outside.specs.declared.host_net.StreamWrite.{StreamWrite}
 use Rattle.vs_outside.specs.declared.host_net.StreamWrite.TheVariants as write
 use Rattle.vs_page.specs.Held.{packet_held}
-use Rattle.vs_page.specs.Log.{Log, Device}
+use Rattle.vs_page.specs.Log.{Device}
 use Rattle.vs_page.specs.declared.log.LogEntry.TheVariants.{PutPacket}
 use Rattle.vs_ring_port.specs.EndLog.{EndLog}
 use Rattle.vs_ring_port.specs.Lists.{Rings}
 use Rattle.vs_ring_port.specs.declared.device_ring.Chain.{Chain}
-use Rattle.vs_matching.specs.Both.{Aborts, Both, Forwards, IsSound, Seat, Shuts, WantsCredit}
+use Rattle.vs_matching.specs.Both.{Aborts, Forwards, IsSound, Seat, Shuts}
 use Rattle.vs_matching.specs.Ends.{is_new}
 use Rattle.vs_matching.specs.Steps.{payload_on}
 use Rattle.vs_matching.proofs.Slots.{found_by}
-use Rattle.vs_device.specs.Calls.{CloseStream, DeviceTree, ReadStream, ShutWrite, WriteStream}
-use Rattle.vs_device.specs.Connections.{after_shut, after_written, cut_off, is_asked, is_late, is_timed_out, route_to_guest, stream_closed, with_connection, with_fault}
-use Rattle.vs_device.specs.Receiving.{Filling, may_read, put_payload, read_answered, read_room, read_with_chain}
+use Rattle.vs_device.specs.Calls.{CloseStream, DeviceTree, ShutWrite, WriteStream}
+use Rattle.vs_device.specs.Connections.{after_shut, after_written, cut_off, is_asked, is_late, is_timed_out, route_to_guest, with_connection, with_fault}
+use Rattle.vs_device.specs.Receiving.{may_read, put_payload}
 use Rattle.vs_device.specs.State.{DeviceConnection, DeviceEntry, DeviceState}
-use Rattle.vs_device.specs.Streams.{Writing, closing, is_written_out, shut_write, tick_slot, to_write, write_answered, write_pending}
-use Rattle.vs_world.specs.Answers.{Around, answer_around, bytes_with}
-use Rattle.vs_world.specs.DeviceSteps.{filling, puts_payload, reads, shuts_write, writes, writes_on, writing}
+use Rattle.vs_device.specs.Streams.{Writing, closing, is_written_out, tick_slot, to_write, write_answered, write_pending}
+use Rattle.vs_world.specs.Answers.{Around, answer_around}
+use Rattle.vs_world.specs.DeviceSteps.{filling, shuts_write, writes, writes_on, writing}
 use Rattle.vs_world.proofs.Chains.{HoldsRx}
 use Rattle.vs_world.proofs.DeviceEvents.{KeptBy, Over}
 use Rattle.vs_world.proofs.DevicePuts as puts_of
@@ -119,7 +115,7 @@ module _ (driver : Seat) (first port : ℕ) (s : DeviceState) (a : Around) (soun
     -- The connection is over, as for a host call that failed.
     pub cuts : is_new e.value.end ≡ false → Kept driver port s a.log.entries port (with_connection e.slot (cut_off e.value) s) a.log.entries
     cuts old = side.decides driver first port s a.log.entries sound holds puts e (cut_off e.value) Aborts there old refl tt
-        (record { alloc = fits.alloc; fwd = fits.fwd; rx = fits.rx; unread = omega arith }) (not_fresh (cut_off e.value) refl)
+        (record { alloc = fits.alloc; fwd = fits.fwd; rx = fits.rx; unread = omega arith; within = fits.within }) (not_fresh (cut_off e.value) refl)
 
     pub shuts : (bits now : ℕ) → is_new e.value.end ≡ false
         → Kept driver port s a.log.entries port (with_connection e.slot (after_shut bits now e.value) s) a.log.entries
@@ -153,7 +149,7 @@ module _ (driver : Seat) (first port : ℕ) (s : DeviceState) (a : Around) (soun
           let shut = fresh.shut_at new in
           let never : (is_asked e.value.end.state && is_late s.now None || is_late s.now None) ≡ true =
           ap (λ (o : Option ℕ). is_asked e.value.end.state && is_late s.now o || is_late s.now None) (sym asked)
-              ∙ ap (λ (o : Option ℕ). is_asked e.value.end.state && is_late s.now e.value.asked_at || is_late s.now o) (sym shut) ∙ late in
+          ∙ ap (λ (o : Option ℕ). is_asked e.value.end.state && is_late s.now e.value.asked_at || is_late s.now o) (sym shut) ∙ late in
           absurd (no_time (is_asked e.value.end.state) never)
         where
           no_time : (b : Bool) → (b && false || false) ≡ true → ⊥
@@ -251,8 +247,10 @@ module _ (driver : Seat) (first port : ℕ) (s : DeviceState) (a : Around) (soun
                       (λ t. Done (writing t))) (λ w. Done w.state))
                       → (let r = played answer_around (bind (bind (cond b (Done (with_connection e.slot (cut_off e.value) (with_fault s)))
                       (Ask (CloseStream e.value.stream) (λ _. Done (with_connection e.slot (cut_off e.value) (with_fault s)))))
-                      (λ t. Done (writing t))) (λ w. Done w.state)) (record a { host = after_write e.value.stream (to_write e.value)
-                      (write_answer e.value.stream (length (to_write e.value)) a.host) a.host }) in
+                      (λ t. Done (writing t))) (λ w. Done w.state)) (record a {
+                        host = after_write e.value.stream (to_write e.value)
+                            (write_answer e.value.stream (length (to_write e.value)) a.host) a.host;
+                      }) in
                       Left r.0 r.1.lists r.1.log)
                   failed true k = k
                   failed false k = k

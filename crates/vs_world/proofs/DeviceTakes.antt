@@ -1,15 +1,12 @@
 -- What the device takes and opens is among the steps of the two ends.
-use Rattle.std.proofs.Common.{◌≡◌, ◌≢◌, ℕ, ◌+◌, ◌^◌, ◌<◌, ◌≤◌, ◌==◌, ◌&&◌, not, nat_le, nat_lt, Bool, true, false, cond, List, [], ◌∷◌, ◌++◌, length, map, Contains, Option, Some, None, is_some, refl, sym, ap, subst, ◌∙◌, arith, rules}
-use Rattle.std.specs.List.{All, find}
+use Rattle.std.proofs.Common.{◌≡◌, ℕ, ◌+◌, ◌^◌, ◌<◌, ◌≤◌, ◌&&◌, Bool, true, false, cond, List, [], ◌∷◌, length, Contains, Option, Some, None, refl, sym, ap, ◌∙◌, arith}
 use Rattle.std.proofs.lemmas.Bool.Decides.{nat_tests}
 use Rattle.std.proofs.lemmas.Grind.{common_steps}
 use Rattle.std.proofs.lemmas.List.{map-append}
 use Rattle.std.proofs.lemmas.List.Elements.{All-push}
-use Rattle.vs_conn.specs.End.{ConnectionEnd, answering, asked, end_after, is_reset, is_stream, verdict_of}
-use Rattle.vs_conn.specs.declared.end.Verdict.{Verdict}
-use Rattle.vs_conn.specs.declared.end.Verdict.TheVariants as verdict
+use Rattle.vs_conn.specs.End.{ConnectionEnd, answering, asked, end_after, is_reset, is_stream}
 use Rattle.vs_flow.specs.Flow.{is_assigned}
-use Rattle.vs_flow.specs.Table.{Table, entry_of, has_place, with_entry, with_value, without, refusal}
+use Rattle.vs_flow.specs.Table.{entry_of, has_place, with_value, without, refusal}
 use Rattle.vs_flow.specs.declared.flow.Flow.{Flow}
 use Rattle.vs_flow.specs.declared.flow.TheConstants.{ASSIGNED_FIRST, ASSIGNED_LAST}
 use Rattle.vs_flow.proofs.Tables.{with_entry_sound, IsAccepted, accepted}
@@ -22,15 +19,14 @@ use Rattle.vs_page.specs.Log.{Log, Device, IsNextPacket, flow_to_host, side_by}
 use Rattle.vs_page.specs.Open.{is_dropped}
 use Rattle.vs_page.specs.declared.log.LogEntry.TheVariants.{GotPacket}
 use Rattle.vs_replies.specs.Owed.{reply_to}
-use Rattle.vs_replies.specs.declared.Reply.{Reply}
-use Rattle.vs_matching.specs.Both.{Both, Asks, IsSound, Seat, Takes, after_packet, answered}
+use Rattle.vs_matching.specs.Both.{Asks, IsSound, Seat, Takes, after_packet, answered}
 use Rattle.vs_matching.specs.Ends.{Ends, FlowEnd, ends_of, entries_of, is_new, replaced}
 use Rattle.vs_matching.specs.Steps.{left, refused, with_end}
 use Rattle.vs_matching.proofs.Slots.{added_slot, changed_slot, no_entry, one_end}
 use Rattle.vs_device.specs.State.{DeviceConnection, DeviceEntry, DeviceState}
 use Rattle.vs_device.specs.Connections.{new_connection, with_client, with_connection, with_dialed, with_opened, with_reply}
 use Rattle.vs_world.specs.Sides.{flow_to_guest}
-use Rattle.vs_world.proofs.DeviceSide.{DeviceHolds, FreshEntry, Holds, IsFresh, Kept, at_part, end_in, entry_fits, entry_fresh, held_in, holds_changed, left_holds, left_part, not_fresh, part_of, seated, with_entries}
+use Rattle.vs_world.proofs.DeviceSide.{DeviceHolds, FreshEntry, IsFresh, Kept, at_part, end_in, held_in, holds_changed, left_holds, left_part, not_fresh, part_of, seated}
 use Rattle.vs_world.proofs.DriverSide.{ReplyFits}
 use Rattle.vs_world.proofs.Entries.{FlowFits, fits_with_entry}
 use Rattle.vs_world.proofs.Fits.{CreditFits}
@@ -78,7 +74,7 @@ module _ (driver : Seat) (first port : ℕ) (s : DeviceState) (log : Log) (sound
             (ap (λ (entries : List FlowEnd). at_part driver (record (part_of driver port s) { entries = entries; next_port = port + 1 }) log)
             (sym (added_slot end_in s.table f c)));
         holds = open_holds f c (port + 1) free (record { guest = fits; host = omega (arith, last) })
-            (record { alloc = omega arith; fwd = omega arith; rx = omega arith; unread = omega arith })
+            (record { alloc = omega arith; fwd = omega arith; rx = omega arith; unread = omega arith; within = omega arith })
             (record { ok_line = λ new. refl; asked_at = λ new. refl; shut_at = λ new. refl }) (omega (arith, holds.port));
         puts = puts;
       }
@@ -162,7 +158,7 @@ module _ (driver : Seat) (first port : ℕ) (s : DeviceState) (log : Log) (sound
                   ∙ ap (λ (entries : List FlowEnd). at_part driver (record (part_of driver port s) { entries = entries }) got)
                   (sym (added_slot end_in s.table f c)));
               holds = open_holds f c port (accepted s.table f free) (record { guest = fits.src_port; host = fits.dst_port })
-                  (record { alloc = omega arith; fwd = omega arith; rx = omega arith; unread = omega arith })
+                  (record { alloc = omega arith; fwd = omega arith; rx = omega arith; unread = omega arith; within = omega arith })
                   (not_fresh c refl) holds.port;
               puts = puts;
             }

@@ -1,56 +1,37 @@
 -- The device's conversations over its ring and its host.
-use Rattle.std.proofs.Common.{◌≡◌, ◌≢◌, ℕ, suc, ◌+◌, ◌-◌, ◌^◌, ◌<◌, ◌≤◌, ◌==◌, ◌&&◌, ◌||◌, not, min, nat_le, nat_lt, Bool, true, false, cond, List, [], ◌∷◌, ◌++◌, length, take, drop, Contains, Option, Some, None, refl, sym, ap, subst, ◌∙◌, arith, append_assoc, length-append, IsOkAnd}
+use Rattle.std.proofs.Common.{◌≡◌, ℕ, ◌-◌, ◌^◌, ◌<◌, nat_le, nat_lt, Bool, true, false, cond, List, [], ◌∷◌, ◌++◌, length, take, Option, Some, None, refl, sym, ap, subst, ◌∙◌, arith, append_assoc}
 use Rattle.std.proofs.lemmas.Bool.Decides.{nat_tests}
-use Rattle.std.proofs.lemmas.Grind.{common_steps}
-use Rattle.std.proofs.lemmas.List.{length-take, length-drop, append-nil}
-use Rattle.std.specs.Option.{option_map_or}
 use Rattle.byteorder.specs.Endian.{little_bytes}
-use Rattle.vs_contents.specs.CallTree.{CallTree, Done, Ask, bind, played}
-use Rattle.vs_conn.specs.End.{ConnectionEnd, CanSend, may_send_of, owes_of, wanting_credit}
-use Rattle.vs_conn.specs.declared.end.Owed.{Owed}
-use Rattle.vs_conn.specs.declared.end.Owed.TheVariants as owed
-use Rattle.vs_conn.specs.declared.end.State.{State}
-use Rattle.vs_conn.specs.declared.end.State.TheVariants as state
-use Rattle.vs_credit.specs.Credit.{free_of}
-use Rattle.vs_flow.specs.Table.{entry_under}
-use Rattle.vs_header.specs.Packet.{header_bytes, header_of}
+use Rattle.vs_contents.specs.CallTree.{Done, Ask, played}
+use Rattle.vs_header.specs.Packet.{header_of}
 use Rattle.vs_header.specs.declared.Header.{Header}
 use Rattle.vs_history.specs.declared.packet.Packet.{Packet}
-use Rattle.vs_outside.specs.Host.{HostContents, Stream}
-use Rattle.vs_page.specs.Held.{FitsWire, event_held, held_in, listed, packet_held}
-use Rattle.vs_page.specs.Log.{Log, Device, IsNextPacket, packets_put, packets_got}
+use Rattle.vs_page.specs.Held.{event_held, held_in, listed, packet_held}
+use Rattle.vs_page.specs.Log.{Log, IsNextPacket, packets_put, packets_got}
 use Rattle.vs_page.specs.Overwriting.{overwritten}
-use Rattle.vs_page.specs.declared.log.LogEntry.TheVariants.{GotPacket, PutEvent, PutPacket}
-use Rattle.vs_replies.specs.declared.Reply.{Reply}
+use Rattle.vs_page.specs.declared.log.LogEntry.TheVariants.{GotPacket, PutEvent}
 use Rattle.vs_ring_port.specs.Chains.{Held, bytes_in, same_queue, with_bytes, without_held}
-use Rattle.vs_ring_port.specs.Contents.{Read, Return, Take, Write}
+use Rattle.vs_ring_port.specs.Contents.{Return, Take, Write}
 use Rattle.vs_ring_port.specs.EndLog.{EndLog, entries_returned, log_taken, with_event, with_packet}
 use Rattle.vs_ring_port.specs.Lists.{Rings, after_return, all_but_oldest, chain_with, next_at, oldest, place_after}
 use Rattle.vs_ring_port.specs.declared.device_ring.Chain.{Chain}
-use Rattle.vs_ring_port.specs.declared.device_ring.Next.TheVariants as next
 use Rattle.vs_ring_port.specs.declared.queue.Queue.{Queue}
 use Rattle.vs_ring_port.specs.declared.queue.Queue.TheVariants.{Rx, Tx, Event}
-use Rattle.vs_matching.specs.Both.{Aborts, Both, Forwards, IsSound, Seat, Shuts, WantsCredit}
-use Rattle.vs_matching.specs.Ends.{is_new}
-use Rattle.vs_matching.specs.Steps.{owed_on, payload_on, reply_on}
-use Rattle.vs_matching.proofs.Slots.{found_by}
-use Rattle.vs_device.specs.Calls.{CloseStream, DeviceTree, ReadStream, Ring}
-use Rattle.vs_device.specs.Connections.{after_leaving, stream_closed, with_connection}
-use Rattle.vs_device.specs.Receiving.{Filling, hold, holding, put_reply_of, reply_header, after_paying, put_owed}
-use Rattle.vs_device.specs.State.{DeviceConnection, DeviceEntry, DeviceState}
+use Rattle.vs_matching.specs.Both.{IsSound, Seat}
+use Rattle.vs_device.specs.Calls.{DeviceTree, Ring}
+use Rattle.vs_device.specs.Receiving.{hold, holding}
+use Rattle.vs_device.specs.State.{DeviceState}
 use Rattle.vs_device.specs.declared.limits.TheConstants.{REPLIES}
 use Rattle.vs_world.specs.Answers.{Around, answer_around}
-use Rattle.vs_world.specs.DeviceSteps.{chain_came, filling, header_came, puts_event, puts_owed, puts_reply, returns, takes_chain}
+use Rattle.vs_world.specs.DeviceSteps.{chain_came, filling, header_came, puts_event, returns, takes_chain}
 use Rattle.vs_world.specs.Pages.{AllHold, PageHolds, is_held}
-use Rattle.vs_world.specs.Sides.{flow_to_guest}
-use Rattle.vs_world.proofs.Chains.{HoldsRx, both_written, bytes_written, first_written, held_more, held_without, held_written, same_self}
+use Rattle.vs_world.proofs.Chains.{HoldsRx, bytes_written, first_written, held_more, held_without, held_written, same_self}
 use Rattle.vs_world.proofs.DeviceEvents.{KeptBy, Over, header_came_keeps, header_is}
 use Rattle.vs_world.proofs.DeviceSide as side
 use Rattle.vs_world.proofs.DeviceSide.{DeviceHolds, IsFresh, Kept, end_in, seated}
-use Rattle.vs_world.proofs.Fits.{CreditFits, holds_header, holds_payload}
-use Rattle.vs_world.proofs.Wire.{PutsFit, next_fits, not_payload}
+use Rattle.vs_world.proofs.Wire.{PutsFit, next_fits}
 
-queue_is : (q r : Queue) → same_queue q r ≡ true → r ≡ q
+pub queue_is : (q r : Queue) → same_queue q r ≡ true → r ≡ q
 queue_is Rx Rx is = refl
 queue_is Tx Tx is = refl
 queue_is Event Event is = refl
@@ -156,7 +137,7 @@ module _ (driver : Seat) (first port : ℕ) (s : DeviceState) (a : Around) (soun
         ) in
         let enough : nat_lt (length page - 44) p.header.len ≡ false = enough_by one in
         let main = header_came_keeps driver first port s a.log.entries sound holds puts p next (next_fits a.log.entries driver.log p next driver_puts) c b
-            (ap (λ (o : Option Packet). with_packet (λ q. GotPacket q) o a.log.entries) one.held) (rx_more s.chain new a.log.held rx) known enough in
+        (ap (λ (o : Option Packet). with_packet (λ q. GotPacket q) o a.log.entries) one.held) (rx_more s.chain new a.log.held rx) known enough in
         subst (λ (h : Header). KeptBy driver first port s a.log.entries sound holds puts (header_came c h s) b)
         (header_is page p one.held ∙ ap (λ (x : Bool). header_of (take 44 (cond x page (bytes_in c a.log.held)))) (sym (same_self c))) main
       where
@@ -189,7 +170,7 @@ module _ (driver : Seat) (first port : ℕ) (s : DeviceState) (a : Around) (soun
           let w = with_bytes c (overwritten (bytes_in c a.log.held) 0 (little_bytes 4 0)) a.log.held in
           let page : take 4 (bytes_in c w) ≡ little_bytes 4 0 =
           ap (take 4) (bytes_written c (overwritten (bytes_in c a.log.held) 0 (little_bytes 4 0)) a.log.held held)
-              ∙ first_written (bytes_in c a.log.held) (little_bytes 4 0) 4 refl in
+          ∙ first_written (bytes_in c a.log.held) (little_bytes 4 0) 4 refl in
           let k = side.puts_event driver first port s a.log.entries sound holds puts 0 in
           record {
             kept = subst (λ (l : Log). Kept driver port s a.log.entries port (record s { event_owed = false }) l)

@@ -1,12 +1,10 @@
 -- Each of the driver's conversations is some of the steps of the two ends.
-use Rattle.std.proofs.Common.{◌≡◌, ◌≢◌, ℕ, suc, ◌+◌, ◌-◌, ◌^◌, ◌<◌, ◌≤◌, ◌==◌, ◌&&◌, min, nat_le, nat_lt, Bool, true, false, cond, List, [], ◌∷◌, ◌++◌, length, take, map, Contains, Option, Some, None, Result, Ok, Err, is_some, refl, sym, ap, subst, ◌∙◌, arith}
-use Rattle.std.specs.List.{find}
+use Rattle.std.proofs.Common.{◌≡◌, ℕ, ◌+◌, ◌-◌, ◌^◌, ◌<◌, ◌≤◌, ◌==◌, min, nat_le, nat_lt, Bool, true, false, cond, List, [], ◌∷◌, ◌++◌, length, Contains, Option, Some, None, Result, Ok, Err, is_some, refl, sym, ap, subst, ◌∙◌, arith}
 use Rattle.std.proofs.lemmas.Bool.Decides.{nat_tests}
-use Rattle.std.proofs.lemmas.Grind.{common_steps}
 use Rattle.std.proofs.lemmas.List.{length-take}
-use Rattle.vs_contents.specs.CallTree.{CallTree, Done, Ask, bind, played}
-use Rattle.vs_conn.specs.End.{ConnectionEnd, CanSend, may_send_of, owes_of, wanting_credit}
-use Rattle.vs_conn.specs.Headers.{owed_header, payload_header, reset_header}
+use Rattle.vs_contents.specs.CallTree.{Done, Ask, bind, played}
+use Rattle.vs_conn.specs.End.{CanSend, may_send_of, owes_of, wanting_credit}
+use Rattle.vs_conn.specs.Headers.{owed_header}
 use Rattle.vs_conn.specs.declared.end.Owed.{Owed}
 use Rattle.vs_conn.specs.declared.end.Stop.{Stop}
 use Rattle.vs_flow.specs.Table.{entry_under}
@@ -24,17 +22,17 @@ use Rattle.vs_ring_port.specs.EndLog.{EndLog, all_put, entries_reaped, with_even
 use Rattle.vs_ring_port.specs.Lists.{Rings, oldest, all_but_oldest}
 use Rattle.vs_ring_port.specs.declared.queue.Queue.{Queue}
 use Rattle.vs_ring_port.specs.declared.queue.Queue.TheVariants.{Rx, Tx, Event}
-use Rattle.vs_matching.specs.Both.{Both, IsSound, Seat}
+use Rattle.vs_matching.specs.Both.{IsSound, Seat}
 use Rattle.vs_matching.specs.Steps.{owed_on, payload_on, reply_on, request_on}
 use Rattle.vs_matching.proofs.Slots.{found_by}
-use Rattle.vs_driver_parts.specs.State.{DriverConnection, DriverEntry, DriverState, entry_known_as, is_known_as}
-use Rattle.vs_driver_parts.specs.declared.answers.ConnectError.{ConnectError}
-use Rattle.vs_driver_parts.specs.declared.answers.Sent.{Sent}
-use Rattle.vs_driver_parts.specs.declared.limits.TheConstants.{REPLIES_FULL}
-use Rattle.vs_driver_parts.specs.Connections.{route_to_host, connect_refusal, connected, next_flow, with_end}
-use Rattle.vs_driver_parts.specs.Conversations.{DriverTree, Round, after_paying, after_stage, connect_with_page, has_page, one_more_in_flight, one_put, owed_bytes, payload_bytes, payload_of, publish_of, put_owed, put_owed_of, put_reply, put_reply_of, reap_one, reaped, reply_header, request_bytes, send_with_page, stage_of, stage_packet, start}
+use Rattle.vs_driver.specs.State.{DriverEntry, DriverState, entry_known_as, is_known_as}
+use Rattle.vs_driver.specs.declared.answers.ConnectError.{ConnectError}
+use Rattle.vs_driver.specs.declared.answers.Sent.{Sent}
+use Rattle.vs_driver.specs.declared.limits.TheConstants.{REPLIES_FULL}
+use Rattle.vs_driver.specs.Connections.{route_to_host, connect_refusal, connected, next_flow, with_end}
+use Rattle.vs_driver.specs.Conversations.{DriverTree, Round, after_paying, connect_with_page, has_page, one_more_in_flight, one_put, owed_bytes, payload_bytes, payload_of, publish_of, put_owed_of, put_reply_of, reap_one, reaped, reply_header, request_bytes, send_with_page, stage_packet, start}
 use Rattle.vs_world.specs.GuestSteps.{connects, sends, sends_on, sends_with_credit, stages_owed, stages_page, stages_reply, takes_page}
-use Rattle.vs_world.specs.Pages.{AllHold, PageHolds, TxHolds}
+use Rattle.vs_world.specs.Pages.{AllHold, TxHolds}
 use Rattle.vs_header.specs.declared.Header.{Header}
 use Rattle.std.proofs.Common.{length-append}
 use Rattle.vs_world.specs.Sides.{driver_ends, flow_to_host, log_with_staged}
@@ -55,7 +53,7 @@ use Rattle.vs_conn.specs.End.{with_payload_sent}
 use Rattle.std.proofs.Common.{IsOkAnd}
 use Rattle.vs_world.specs.Calls.{GuestCall, Connect, Listen, Unlisten, Accept, Send, Recv, Shutdown, Close, LookAt, is_right}
 use Rattle.vs_world.specs.GuestSteps.{makes_call}
-use Rattle.vs_driver_parts.specs.Receiving.{after_reset, on_packet, on_page}
+use Rattle.vs_driver.specs.Receiving.{after_reset, on_packet}
 use Rattle.std.proofs.Common.{append_assoc}
 use Rattle.vs_world.specs.GuestSteps.{event_came, packet_came}
 
@@ -86,7 +84,7 @@ module _ (device : Seat) (first : ℕ) (s : DriverState) (lists : Rings) (log : 
   KeptBy tree = let r = played driver_answer tree (lists, log) in Kept device s now r.0 (log_with_staged r.1.1) × TxHolds r.1.0 r.1.1
 
   same : Kept device s now s now
-  same = side.kept_still device s s now holds puts refl holds
+  same = side.kept_still device s s now holds puts refl holds refl
 
   still : Kept device s now s now × TxHolds lists log
   still = (same, pages)
@@ -94,7 +92,7 @@ module _ (device : Seat) (first : ℕ) (s : DriverState) (lists : Rings) (log : 
   -- Pages count in no connection.
   recounted : (t : DriverState) (n m : ℕ) (l k : Log) → l ≡ k → Kept device s now t l → Kept device s now (record t { in_flight = n; staged = m }) k
   recounted t n m l k is kept = subst (λ (x : Log). Kept device s now (record t { in_flight = n; staged = m }) x) is
-      (record { runs = kept.runs; holds = kept.holds; puts = kept.puts })
+      (record { runs = kept.runs; holds = kept.holds; puts = kept.puts; broken = kept.broken })
 
   -- A packet is staged.
   log_put : (bytes : List ℕ) (p : Packet) → packet_held bytes ≡ Some p → PutPacket p ∷ now ≡ all_put (log.staged.tx ++ bytes ∷ []) log.entries
@@ -110,10 +108,14 @@ module _ (device : Seat) (first : ℕ) (s : DriverState) (lists : Rings) (log : 
     where
       by : (b : Bool) → KeptBy (bind (bind (Ask (Stage Tx bytes) (λ _. cond b (Ask (Publish Tx) (λ _. Done (record (one_more_in_flight t) { staged = 0 })))
           (Done (record (one_more_in_flight t) { staged = t.staged + 1 })))) (one_put (start s))) (λ r. Done r.0.state))
-      by true = (recounted t (t.in_flight + 1) 0 (PutPacket p ∷ now) _ (log_put bytes p held) kept,
-          (all_hold lists.tx.given (log.staged.tx ++ bytes ∷ []) pages.0 (one_more_page bytes p held long), tt))
-      by false = (recounted t (t.in_flight + 1) (t.staged + 1) (PutPacket p ∷ now) _ (log_put bytes p held) kept,
-          (pages.0, one_more_page bytes p held long))
+      by true = (
+        recounted t (t.in_flight + 1) 0 (PutPacket p ∷ now) _ (log_put bytes p held) kept,
+        (all_hold lists.tx.given (log.staged.tx ++ bytes ∷ []) pages.0 (one_more_page bytes p held long), tt),
+      )
+      by false = (
+        recounted t (t.in_flight + 1) (t.staged + 1) (PutPacket p ∷ now) _ (log_put bytes p held) kept,
+        (pages.0, one_more_page bytes p held long),
+      )
 
   pub stages_reply_keeps : KeptBy (stages_reply s)
   stages_reply_keeps = by s.replies refl
@@ -181,7 +183,7 @@ module _ (device : Seat) (first : ℕ) (s : DriverState) (lists : Rings) (log : 
   publishes_keeps Event = (recounted s s.in_flight 0 now now refl same, pages)
 
   -- A page comes back.
-  reaps_tx : KeptBy (bind (reap_one s) (λ r. Done r.0))
+  pub reaps_tx : KeptBy (bind (reap_one s) (λ r. Done r.0))
   reaps_tx = by (s.in_flight == 0)
     where
       back : (page : Option (List ℕ)) → Kept device s now (reaped s page).0 (all_put log.staged.tx (entries_reaped Tx page log.entries))
@@ -258,8 +260,11 @@ module _ (device : Seat) (first : ℕ) (s : DriverState) (lists : Rings) (log : 
     id_taken : (page : List ℕ) (pages : List (List ℕ)) (id : ℕ) → lists.event.back ≡ page ∷ pages → event_held page ≡ Some id → (b : Bool)
         → EventKept page (Some id) b
     id_taken page ps id back held true = (reset_taken id (next_event page ps id back held), pages)
-    id_taken page ps id back held false = (subst (λ (l : Log). Kept device s now s l) (moved (GotEvent id))
-        (takes.takes_event device first s now sound holds puts id (next_event page ps id back held)), pages)
+    id_taken page ps id back held false = (
+      subst (λ (l : Log). Kept device s now s l) (moved (GotEvent id))
+          (takes.takes_event device first s now sound holds puts id (next_event page ps id back held)),
+      pages,
+    )
 
     event_by : (page : List ℕ) (pages : List (List ℕ)) → lists.event.back ≡ page ∷ pages → (o : Option ℕ) → event_held page ≡ o
         → EventKept page o (elim o as (λ _. Bool) [ None ↦ false | Some id ↦ id == 0 ])
@@ -267,9 +272,10 @@ module _ (device : Seat) (first : ℕ) (s : DriverState) (lists : Rings) (log : 
     event_by page ps back (Some id) held = id_taken page ps id back held (id == 0)
 
     event_taken_of : (back : List (List ℕ)) → lists.event.back ≡ back
-        → (let r = played driver_answer (event_came (oldest back) s)
-        (record lists { event = record lists.event { back = all_but_oldest lists.event.back } },
-        record log { entries = entries_reaped Event (oldest back) log.entries }) in
+        → (let r = played driver_answer (event_came (oldest back) s) (
+          record lists { event = record lists.event { back = all_but_oldest lists.event.back } },
+          record log { entries = entries_reaped Event (oldest back) log.entries },
+        ) in
         Kept device s now r.0 (log_with_staged r.1.1) × TxHolds r.1.0 r.1.1)
     event_taken_of [] is = still
     event_taken_of (page ∷ ps) is = event_by page ps is (event_held page) refl
@@ -300,11 +306,15 @@ module _ (device : Seat) (first : ℕ) (s : DriverState) (lists : Rings) (log : 
       with_page none false = still
       with_page none true =
           let kept = takes.connects device first s now sound holds puts port none fits in
-          let p = request_on Driver s.cid (next_flow port s) BUF_ALLOC in
-          (recounted (connected port s) (s.in_flight + 1) s.staged (PutPacket p ∷ now) _
-          (log_put (request_bytes port s) p (holds_header p.header kept.puts.0 refl)) kept,
-            (all_hold lists.tx.given (log.staged.tx ++ request_bytes port s ∷ []) pages.0
-            (one_more_page (request_bytes port s) p (holds_header p.header kept.puts.0 refl) (header_long p.header refl)), tt))
+          let p = request_on Driver s.cid (next_flow port s) BUF_ALLOC in (
+            recounted (connected port s) (s.in_flight + 1) s.staged (PutPacket p ∷ now) _
+                (log_put (request_bytes port s) p (holds_header p.header kept.puts.0 refl)) kept,
+            (
+              all_hold lists.tx.given (log.staged.tx ++ request_bytes port s ∷ []) pages.0
+                  (one_more_page (request_bytes port s) p (holds_header p.header kept.puts.0 refl) (header_long p.header refl)),
+              tt,
+            ),
+          )
 
       by : (o : Option ConnectError) → connect_refusal port s ≡ o → CallKept (elim o as (λ _. DriverTree (DriverState × Result ℕ ConnectError)) [
         | Some refusal ↦ Done (s, Err refusal)
@@ -323,11 +333,15 @@ module _ (device : Seat) (first : ℕ) (s : DriverState) (lists : Rings) (log : 
       with_page e payload there can len true =
           let kept = side.sends device first s now sound holds puts e payload there can len in
           let p = payload_on Driver s.cid e.flow e.value.end payload in
-          let t : DriverState = with_end (with_payload_sent e.value.end (length payload)) e s in
-          (recounted t (s.in_flight + 1) s.staged (PutPacket p ∷ now) _
-          (log_put (payload_bytes e payload s) p (holds_payload p.header payload kept.puts.0 refl refl)) kept,
-            (all_hold lists.tx.given (log.staged.tx ++ payload_bytes e payload s ∷ []) pages.0
-            (one_more_page (payload_bytes e payload s) p (holds_payload p.header payload kept.puts.0 refl refl) (payload_long p.header payload refl)), tt))
+          let t : DriverState = with_end (with_payload_sent e.value.end (length payload)) e s in (
+            recounted t (s.in_flight + 1) s.staged (PutPacket p ∷ now) _
+                (log_put (payload_bytes e payload s) p (holds_payload p.header payload kept.puts.0 refl refl)) kept,
+            (
+              all_hold lists.tx.given (log.staged.tx ++ payload_bytes e payload s ∷ []) pages.0
+                  (one_more_page (payload_bytes e payload s) p (holds_payload p.header payload kept.puts.0 refl refl) (payload_long p.header payload refl)),
+              tt,
+            ),
+          )
 
       shorter : (n : ℕ) → min (min n 4052) (length bytes) ≤ n
       shorter n = omega arith
@@ -365,15 +379,15 @@ module _ (device : Seat) (first : ℕ) (s : DriverState) (lists : Rings) (log : 
       by (Some e) is = on e (found_by (is_known_as id) s.table.entries e is).0 (may_send_of e.value.end) refl
 
   -- What changes in no connection.
-  apart : (t : DriverState) → driver_ends s ≡ driver_ends t → DriverHolds t → Kept device s now t now
-  apart t same holds' = side.kept_still device s t now holds puts same holds'
+  apart : (t : DriverState) → driver_ends s ≡ driver_ends t → DriverHolds t → t.broken ≡ s.broken → Kept device s now t now
+  apart t same holds' unbroken = side.kept_still device s t now holds puts same holds' unbroken
 
   pub makes_call_keeps : (call : GuestCall) → is_right call ≡ true → CallKept (makes_call call s)
   makes_call_keeps (Connect port) right = connects_keeps port (grind (arith, nat_tests, right))
   makes_call_keeps (Listen port) right = (by (listen_of port s), pages)
     where
       by : (r : Result (Unit {0}) ListenError) → Kept device s now (elim r as (λ _. DriverState) [ Ok x ↦ listening port s | Err why ↦ s ]) now
-      by (Ok x) = apart (listening port s) refl holds
+      by (Ok x) = apart (listening port s) refl holds refl
       by (Err why) = same
   makes_call_keeps (Unlisten port) right = (by (is_some (listener_on port s.listeners)), pages)
     where
@@ -387,7 +401,7 @@ module _ (device : Seat) (first : ℕ) (s : DriverState) (lists : Rings) (log : 
         | Some id ↦ record s { listeners = with_waiting port (without_id id) s.listeners }
       ]) now
       by None = same
-      by (Some id) = apart (record s { listeners = with_waiting port (without_id id) s.listeners }) refl holds
+      by (Some id) = apart (record s { listeners = with_waiting port (without_id id) s.listeners }) refl holds refl
   makes_call_keeps (Send id bytes) right = sends_keeps id bytes
   makes_call_keeps (Recv id n) right = (side.recv device first s now sound holds puts id n, pages)
   makes_call_keeps (Shutdown id bits) right = (side.shutdown device first s now sound holds puts id bits, pages)

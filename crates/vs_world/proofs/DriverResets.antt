@@ -1,10 +1,10 @@
 -- The driver takes a transport reset, and closes the connections that wait on a port.
-use Rattle.std.proofs.Common.{◌≡◌, ◌≢◌, ℕ, zero, suc, ◌+◌, ◌^◌, ◌<◌, ◌≤◌, ◌==◌, not, Bool, true, false, cond, List, [], ◌∷◌, ◌++◌, length, map, filter, refl, sym, ap, subst, ◌∙◌, arith, append_assoc}
-use Rattle.std.specs.List.{All, AllPairs}
+use Rattle.std.proofs.Common.{◌≡◌, ℕ, suc, ◌+◌, ◌^◌, ◌<◌, ◌≤◌, ◌==◌, not, Bool, true, false, cond, List, [], ◌∷◌, ◌++◌, map, filter, refl, sym, ap, subst, ◌∙◌, arith, append_assoc}
+use Rattle.std.specs.List.{All}
 use Rattle.std.proofs.lemmas.Bool.Decides.{nat_tests}
 use Rattle.std.proofs.lemmas.List.{map-append, append-nil}
 use Rattle.std.proofs.lemmas.List.Elements.{All-push}
-use Rattle.vs_flow.specs.Table.{IsRising, IsTable, Table, entry_of, without}
+use Rattle.vs_flow.specs.Table.{IsRising, IsTable, Table, without}
 use Rattle.vs_flow.specs.declared.flow.Flow.{Flow}
 use Rattle.vs_flow.proofs.Entries.{above_head, all_others, find_none, rising_tail}
 use Rattle.vs_page.specs.Log.{Log, Driver}
@@ -12,12 +12,12 @@ use Rattle.vs_page.specs.declared.log.LogEntry.TheVariants.{Mark}
 use Rattle.vs_replies.specs.declared.Reply.{Reply}
 use Rattle.vs_matching.specs.Both.{Both, IsSound, Seat, TakesReset}
 use Rattle.vs_matching.specs.Ends.{Ends, entries_of, flows_of}
-use Rattle.vs_driver_parts.specs.State.{DriverConnection, DriverEntry, DriverState, GoneConnection}
-use Rattle.vs_driver_parts.specs.Connections.{after_close, after_leaving, after_unlisten, all_closed, gone_as, is_let_go, waiting_on, waits_no_more}
-use Rattle.vs_driver_parts.specs.Receiving.{after_reset, all_left, reset_reply, with_reply}
-use Rattle.vs_world.specs.Sides.{driver_ends, flow_to_host}
+use Rattle.vs_driver.specs.State.{DriverConnection, DriverEntry, DriverState, GoneConnection}
+use Rattle.vs_driver.specs.Connections.{after_close, after_leaving, after_unlisten, all_closed, gone_as, is_let_go, waiting_on, waits_no_more}
+use Rattle.vs_driver.specs.Receiving.{after_reset, all_left, reset_reply, with_reply}
+use Rattle.vs_world.specs.Sides.{flow_to_host}
 use Rattle.vs_world.proofs.DriverSide.{DriverHolds, Kept, ReplyFits, close, end_in, held_in, kept_still, kept_then, seated}
-use Rattle.vs_world.proofs.Entries.{EntryFits, FlowFits}
+use Rattle.vs_world.proofs.Entries.{EntryFits}
 use Rattle.vs_world.proofs.Runs.{keeps_sound, one_step}
 use Rattle.vs_world.proofs.Wire.{PutsFit}
 
@@ -31,6 +31,7 @@ record IsAllLeft (s t : DriverState) (es : List DriverEntry) : Type 0 where
   next_id : t.next_id ≡ s.next_id
   next_port : t.next_port ≡ s.next_port
   cid : t.cid ≡ s.cid
+  broken : t.broken ≡ s.broken
 
 same_slot : (n : ℕ) → (n == n) ≡ true
 same_slot n = grind arith
@@ -51,6 +52,7 @@ record IsOneLeft (s t : DriverState) (e : DriverEntry) (es : List DriverEntry) :
   next_id : t.next_id ≡ s.next_id
   next_port : t.next_port ≡ s.next_port
   cid : t.cid ≡ s.cid
+  broken : t.broken ≡ s.broken
 
 one_left : (b : Bool) (e : DriverEntry) (es : List DriverEntry) (gone : List GoneConnection) (s : DriverState) → s.table.entries ≡ e ∷ es
     → IsRising (e ∷ es)
@@ -63,6 +65,7 @@ one_left true e es gone s is rising = record {
   next_id = refl;
   next_port = refl;
   cid = refl;
+  broken = refl;
 }
 one_left false e es gone s is rising = record {
   entries = ap (λ (xs : List DriverEntry). filter (λ x. not (x.slot == e.slot)) xs) is ∙ others e es rising;
@@ -72,6 +75,7 @@ one_left false e es gone s is rising = record {
   next_id = refl;
   next_port = refl;
   cid = refl;
+  broken = refl;
 }
 
 left_all : (es : List DriverEntry) (s : DriverState) → s.table.entries ≡ es → IsRising es → IsAllLeft s (all_left es s) es
@@ -81,6 +85,7 @@ left_all [] s is rising = record {
   next_id = refl;
   next_port = refl;
   cid = refl;
+  broken = refl;
 }
 left_all (e ∷ es) s is rising =
     let t = with_reply (reset_reply e.flow) (after_leaving e s) in
@@ -95,6 +100,7 @@ left_all (e ∷ es) s is rising =
       next_id = rest.next_id ∙ one.next_id;
       next_port = rest.next_port ∙ one.next_port;
       cid = rest.cid ∙ one.cid;
+      broken = rest.broken ∙ one.broken;
     }
 
 same_flows : (es : List DriverEntry) (t : Table DriverConnection) → t.entries ≡ es → map flow_to_host (map reply_for es) ≡ flows_of (entries_of end_in t)
@@ -131,6 +137,7 @@ module _ (device : Seat) (first : ℕ) where
         let start : DriverState = record s { cid = cid } in
         let all = left_all s.table.entries start refl holds.sound.rising in
         record {
+          broken = all.broken;
           runs = one_step Driver (TakesReset cid) (seated device s log) (seated device (after_reset cid s) (Mark cid ∷ log)) refl
               (ap (λ (fs : List Flow). marked cid log (record { entries = []; replies = fs; next_port = s.next_port; cid = cid }))
               (ap (λ (fs : List Flow). map flow_to_host s.replies ++ fs) (sym (same_flows s.table.entries s.table refl))
@@ -168,7 +175,7 @@ module _ (device : Seat) (first : ℕ) where
 
   closes_all : (ids : List ℕ) (s : DriverState) (log : Log) → IsSound first (seated device s log) → DriverHolds s → PutsFit log
       → Kept device s log (all_closed ids s) log
-  closes_all [] s log sound holds puts = kept_still device s s log holds puts refl holds
+  closes_all [] s log sound holds puts = kept_still device s s log holds puts refl holds refl
   closes_all (id ∷ ids) s log sound holds puts =
       let one = close device first s log sound holds puts id in
       let rest = closes_all ids (after_close id s) log (keeps_sound first _ _ one.runs sound) one.holds one.puts in
@@ -178,4 +185,4 @@ module _ (device : Seat) (first : ℕ) where
       → Kept device s log (after_unlisten port s) log
   unlistens port s log sound holds puts =
       let all = closes_all (waiting_on port s) s log sound holds puts in
-      record { runs = all.runs; holds = all.holds; puts = all.puts }
+      record { runs = all.runs; holds = all.holds; puts = all.puts; broken = all.broken }

@@ -1,48 +1,35 @@
 -- What the driver's small changes are among the steps of the two ends.
-use Rattle.std.proofs.Common.{◌≡◌, ◌≢◌, ℕ, suc, ◌+◌, ◌-◌, ◌^◌, ◌<◌, ◌≤◌, ◌==◌, ◌&&◌, not, min, nat_le, nat_lt, Bool, true, false, cond, List, [], ◌∷◌, ◌++◌, length, drop, map, filter, Contains, Option, Some, None, refl, sym, ap, subst, ◌∙◌, arith, rules}
-use Rattle.std.specs.List.{All, find}
-use Rattle.std.proofs.lemmas.Bool.Decides.{nat_tests}
-use Rattle.std.proofs.lemmas.Grind.{common_steps}
+use Rattle.std.proofs.Common.{◌≡◌, ℕ, suc, ◌+◌, ◌-◌, ◌^◌, ◌<◌, ◌≤◌, ◌==◌, min, Bool, true, false, cond, List, [], ◌∷◌, ◌++◌, length, drop, map, Contains, Option, Some, None, refl, sym, ap, subst, ◌∙◌, arith}
+use Rattle.std.specs.List.{All}
 use Rattle.std.proofs.lemmas.List.{length-drop}
-use Rattle.std.proofs.lemmas.List.Elements.{All-push}
-use Rattle.vs_conn.specs.End.{ConnectionEnd, CanSend, aborted, answering, asked, end_after, is_refused, is_reset, is_stream, owes_of, paid_of, verdict_of, wanting_credit, with_payload_sent, with_shut}
+use Rattle.vs_conn.specs.End.{ConnectionEnd, CanSend, owes_of, paid_of, wanting_credit, with_payload_sent, with_shut}
 use Rattle.vs_conn.specs.declared.end.Owed.{Owed}
 use Rattle.vs_conn.specs.declared.end.Owed.TheVariants as owed
 use Rattle.vs_conn.specs.declared.end.State.{State}
 use Rattle.vs_conn.specs.declared.end.State.TheVariants as state
-use Rattle.vs_conn.specs.declared.end.Verdict.{Verdict}
-use Rattle.vs_conn.specs.declared.end.Verdict.TheVariants as verdict
-use Rattle.vs_flow.specs.Flow.{same_flow}
-use Rattle.vs_flow.specs.Table.{Table, IsTable, entry_of, entry_under, with_entry, with_value, without}
-use Rattle.vs_flow.specs.declared.flow.Flow.{Flow}
-use Rattle.vs_flow.proofs.Entries.{same_flow_true}
-use Rattle.vs_flow.proofs.Tables.{with_value_sound, without_sound, with_entry_sound, IsAccepted}
-use Rattle.vs_header.specs.declared.Header.{Header}
-use Rattle.vs_history.specs.declared.TheConstants.{BUF_ALLOC}
-use Rattle.vs_history.specs.declared.packet.Packet.{Packet}
-use Rattle.vs_page.specs.Held.{FitsWire}
-use Rattle.vs_page.specs.Log.{Log, Driver, Device, IsNextPacket}
-use Rattle.vs_page.specs.declared.log.LogEntry.TheVariants.{GotEvent, GotPacket, Mark, PutEvent, PutPacket}
+use Rattle.vs_flow.specs.Table.{Table, IsTable, without}
+use Rattle.vs_flow.proofs.Tables.{with_value_sound, without_sound}
+use Rattle.vs_page.specs.Log.{Log, Driver}
+use Rattle.vs_page.specs.declared.log.LogEntry.TheVariants.{PutPacket}
 use Rattle.vs_replies.specs.declared.Reply.{Reply}
-use Rattle.vs_matching.specs.Both.{Both, Decides, Decision, Forwards, Shuts, Aborts, WantsCredit, IsSound, MayDecide, Opens, Pays, Replies, Seat, Sends, Takes, TakesEvent, TakesReset, decided}
-use Rattle.vs_matching.specs.Ends.{Ends, FlowEnd, ends_of, entries_of, replaced}
-use Rattle.vs_matching.specs.Steps.{HasEnd, left, paid, with_end, owed_on, payload_on, reply_on, request_on}
-use Rattle.vs_matching.proofs.Both.{driver_accepts}
-use Rattle.vs_matching.proofs.Slots.{added_slot, changed_slot, found_by, no_entry, one_end, removed_slot}
+use Rattle.vs_matching.specs.Both.{Both, Decides, Decision, Forwards, Shuts, Aborts, WantsCredit, IsSound, MayDecide, Pays, Replies, Seat, Sends, decided}
+use Rattle.vs_matching.specs.Ends.{Ends, FlowEnd, entries_of, replaced}
+use Rattle.vs_matching.specs.Steps.{HasEnd, left, paid, with_end, owed_on, payload_on, reply_on}
+use Rattle.vs_matching.proofs.Slots.{changed_slot, found_by, one_end, removed_slot}
 use Rattle.vs_matching.proofs.Tables.{driver_begun}
-use Rattle.vs_driver_parts.specs.State.{DriverConnection, DriverEntry, DriverState, GoneConnection, entry_known_as, gone_known_as, is_known_as}
-use Rattle.vs_driver_parts.specs.declared.limits.TheConstants.{LAST_PORT, SLOTS}
-use Rattle.vs_driver_parts.specs.Connections.{after_close, after_closing, after_leaving, after_read, after_recv, after_shut, after_shutdown, after_unlisten, all_closed, entry_closed, entry_read, gone_closed, is_let_go, gone_as, kept_unread, leaves_list, paid_connection, shut_in, waiting_on, waits_no_more, with_connection}
-use Rattle.vs_driver_parts.specs.Connections.{all_gone_after_read, without_gone}
-use Rattle.vs_driver_parts.specs.Conversations.{after_paying}
-use Rattle.vs_driver_parts.specs.Listening.{with_waiting, without_id}
+use Rattle.vs_driver.specs.State.{DriverConnection, DriverEntry, DriverState, GoneConnection, entry_known_as, gone_known_as, is_known_as}
+use Rattle.vs_driver.specs.declared.limits.TheConstants.{LAST_PORT, SLOTS}
+use Rattle.vs_driver.specs.Connections.{after_close, after_closing, after_leaving, after_read, after_recv, after_shut, after_shutdown, entry_closed, entry_read, gone_closed, is_let_go, gone_as, paid_connection, shut_in, waits_no_more, with_connection}
+use Rattle.vs_driver.specs.Connections.{all_gone_after_read, without_gone}
+use Rattle.vs_driver.specs.Conversations.{after_paying}
+use Rattle.vs_driver.specs.Listening.{with_waiting, without_id}
 use Rattle.vs_credit.specs.Credit.{unread_of}
 use Rattle.vs_matching.specs.Heard.{route_of}
 use Rattle.vs_world.specs.Sides.{Runs, driver_ends, flow_to_host}
-use Rattle.vs_world.proofs.Entries.{EntryFits, FlowFits, fits_at, fits_with_entry, fits_with_value, fits_without}
-use Rattle.vs_world.proofs.Fits.{CreditFits, fits_after, fits_asked, fits_forwarded, fits_paid, fits_sent, fits_shut}
-use Rattle.vs_world.proofs.Runs.{and_then, one_step, stays, keeps_sound}
-use Rattle.vs_world.proofs.Wire.{PutsFit, RouteFits, next_fits, not_payload, owed_fits, payload_fits, reset_fits}
+use Rattle.vs_world.proofs.Entries.{EntryFits, fits_at, fits_with_value, fits_without}
+use Rattle.vs_world.proofs.Fits.{CreditFits, fits_forwarded, fits_paid, fits_sent, fits_shut}
+use Rattle.vs_world.proofs.Runs.{and_then, one_step, stays}
+use Rattle.vs_world.proofs.Wire.{PutsFit, RouteFits, owed_fits, payload_fits, reset_fits}
 
 abbrev pub end_in : DriverConnection → ConnectionEnd
 end_in c = c.end
@@ -76,14 +63,16 @@ module _ (device : Seat) where
     pub runs : Runs (seated s log) (seated s' log')
     pub holds : DriverHolds s'
     pub puts : PutsFit log'
+    pub broken : s'.broken ≡ s.broken
 
   pub kept_then : (s t u : DriverState) (k l m : Log) → Kept s k t l → Kept t l u m → Kept s k u m
-  kept_then s t u k l m x y = record { runs = and_then _ _ _ x.runs y.runs; holds = y.holds; puts = y.puts }
+  kept_then s t u k l m x y = record { runs = and_then _ _ _ x.runs y.runs; holds = y.holds; puts = y.puts; broken = y.broken ∙ x.broken }
 
   -- Nothing of this changes.
   pub kept_still : (s s' : DriverState) (log : Log) → DriverHolds s → PutsFit log → driver_ends s ≡ driver_ends s' → DriverHolds s'
-      → Kept s log s' log
-  kept_still s s' log holds puts same holds' = record {
+      → s'.broken ≡ s.broken → Kept s log s' log
+  kept_still s s' log holds puts same holds' unbroken = record {
+    broken = unbroken;
     runs = stays _ _ (ap (λ (part : Ends). let b : Both = record { driver = record { part = part; log = log }; device = device } in b) same);
     holds = holds';
     puts = puts;
@@ -119,11 +108,11 @@ module _ (device : Seat) where
     pub decides : (e : DriverEntry) (c : DriverConnection) (what : Decision) → Contains s.table.entries e
         → c.end ≡ decided e.value.end what → MayDecide e.value.end what → CreditFits c.end.credit (length c.unread)
         → Kept s log (with_connection e.slot c s) log
-
     decides e c what there is may fits =
         let has = has_end e there in
         let old = driver_begun first (driver_ends s) log e.flow e.value.end (sound.matches Driver).flows has in
         record {
+          broken = refl;
           runs = one_step Driver (Decides e.flow e.value.end what) (seated s log) (seated (with_connection e.slot c s) log) (has, old, may)
               (ap (λ (entries : List FlowEnd). with_entries entries s log)
               (sym (changed_slot end_in s.table e c holds.sound there ∙ ap (λ (x : ConnectionEnd). replaced e.flow x (entries_of end_in s.table)) is)));
@@ -132,8 +121,8 @@ module _ (device : Seat) where
         }
 
     -- A change of what counts in no connection's end.
-    same_ends : (s' : DriverState) → driver_ends s ≡ driver_ends s' → DriverHolds s' → Kept s log s' log
-    same_ends s' same holds' = kept_still s s' log holds puts same holds'
+    same_ends : (s' : DriverState) → driver_ends s ≡ driver_ends s' → DriverHolds s' → s'.broken ≡ s.broken → Kept s log s' log
+    same_ends s' same holds' unbroken = kept_still s s' log holds puts same holds' unbroken
 
     -- recv.
     reads : (n : ℕ) (e : DriverEntry) → Contains s.table.entries e → Kept s log (entry_read n e s) log
@@ -155,7 +144,7 @@ module _ (device : Seat) where
         may = omega (arith, fits.unread, within)
 
         by : (b : Bool) → Kept s log (cond b s (with_connection e.slot (after_read n e.value) s)) log
-        by true = same_ends s refl holds
+        by true = same_ends s refl holds refl
         by false = decides e (after_read n e.value) (Forwards (min n (length e.value.unread))) there refl may
             (subst (λ u. CreditFits (after_read n e.value).end.credit u) left
             (fits_forwarded e.value.end.credit (min n (length e.value.unread)) (length e.value.unread) fits within))
@@ -165,7 +154,7 @@ module _ (device : Seat) where
       where
         by : (o : Option DriverEntry) → entry_known_as id s ≡ o
             → Kept s log (elim o as (λ _. DriverState) [ Some e ↦ entry_read n e s | None ↦ record s { gone = all_gone_after_read id n s.gone } ]) log
-        by None is = same_ends _ refl holds
+        by None is = same_ends _ refl holds refl
         by (Some e) is = reads n e (found_by (is_known_as id) s.table.entries e is).0
 
     -- shutdown and close.
@@ -187,13 +176,13 @@ module _ (device : Seat) where
       where
         in_state : (x : State) (e : DriverEntry) → Contains s.table.entries e → Kept s log (shut_in x bits e s) log
         in_state state.Live e there = shuts bits e there
-        in_state state.Asked e there = same_ends _ refl holds
-        in_state state.Answering e there = same_ends _ refl holds
-        in_state state.Ended e there = same_ends _ refl holds
+        in_state state.Asked e there = same_ends _ refl holds refl
+        in_state state.Answering e there = same_ends _ refl holds refl
+        in_state state.Ended e there = same_ends _ refl holds refl
 
         by : (o : Option DriverEntry) → entry_known_as id s ≡ o
             → Kept s log (elim o as (λ _. DriverState) [ Some e ↦ shut_in e.value.end.state bits e s | None ↦ s ]) log
-        by None is = same_ends _ refl holds
+        by None is = same_ends _ refl holds refl
         by (Some e) is = in_state e.value.end.state e (found_by (is_known_as id) s.table.entries e is).0
 
     closes : (x : State) (e : DriverEntry) → Contains s.table.entries e → Kept s log (with_connection e.slot (after_closing x e.value) s) log
@@ -207,14 +196,14 @@ module _ (device : Seat) where
       where
         closed : (e : DriverEntry) → Contains s.table.entries e → Kept s log (entry_closed e s) log
         closed e there =
-            let k = closes e.value.end.state e there in record { runs = k.runs; holds = k.holds; puts = k.puts }
+            let k = closes e.value.end.state e there in record { runs = k.runs; holds = k.holds; puts = k.puts; broken = k.broken }
 
         gone_by : (o : Option GoneConnection) → Kept s log (elim o as (λ _. DriverState) [
           | None ↦ s
           | Some g ↦ record s { gone = without_gone id s.gone; listeners = with_waiting g.flow.guest (without_id id) s.listeners }
         ]) log
-        gone_by None = same_ends _ refl holds
-        gone_by (Some g) = same_ends _ refl holds
+        gone_by None = same_ends _ refl holds refl
+        gone_by (Some g) = same_ends _ refl holds refl
 
         by : (o : Option DriverEntry) → entry_known_as id s ≡ o
             → Kept s log (elim o as (λ _. DriverState) [ Some e ↦ entry_closed e s | None ↦ gone_closed id s ]) log
@@ -240,6 +229,7 @@ module _ (device : Seat) where
         let c : DriverConnection = record e.value { end = with_payload_sent e.value.end (length payload) } in
         let p = payload_on Driver s.cid e.flow e.value.end payload in
         record {
+          broken = refl;
           runs = one_step Driver (Sends e.flow e.value.end payload) (seated s log) (seated (with_connection e.slot c s) (PutPacket p ∷ log))
               (has_end e there, can)
               (ap (λ (entries : List FlowEnd). with_entries entries s (PutPacket p ∷ log)) (sym (changed_slot end_in s.table e c holds.sound there)));
@@ -255,6 +245,7 @@ module _ (device : Seat) where
         let p = owed_on Driver s.cid e.flow e.value.end what in
         let fits = (entry_fits e there).credit in
         record {
+          broken = refl;
           runs = one_step Driver (Pays e.flow e.value.end what) (seated s log) (seated (with_connection e.slot c s) (PutPacket p ∷ log))
               (has_end e there, owes)
               (ap (λ (part : Ends). at_part part (PutPacket p ∷ log)) stays_in
@@ -267,6 +258,10 @@ module _ (device : Seat) where
         }
 
     -- A connection leaves the table.
+    pub left_broken : (b : Bool) (e : DriverEntry) → (cond b (waits_no_more e s) s).broken ≡ s.broken
+    left_broken true e = refl
+    left_broken false e = refl
+
     pub left_holds : (b : Bool) (e : DriverEntry) (gone : List GoneConnection)
         → DriverHolds (record (cond b (waits_no_more e s) s) { table = without s.table e.slot; gone = gone })
     left_holds true e gone = record {
@@ -309,6 +304,7 @@ module _ (device : Seat) where
         let p = owed_on Driver s.cid e.flow e.value.end owed.Rst in
         let gone = cond (is_let_go e.value) s.gone (s.gone ++ gone_as e ∷ []) in
         record {
+          broken = left_broken e.value.unanswered e;
           runs = one_step Driver (Pays e.flow e.value.end owed.Rst) (seated s log) (seated (after_leaving e s) (PutPacket p ∷ log))
               (has_end e there, owes) (ap (λ (part : Ends). at_part part (PutPacket p ∷ log)) (left_ends e.value.unanswered e gone there));
           holds = left_holds e.value.unanswered e gone;
@@ -323,6 +319,7 @@ module _ (device : Seat) where
         let all : All ReplyFits (reply ∷ rest) = subst (λ (rs : List Reply). All ReplyFits rs) is holds.owed in
         let one : ReplyFits reply = all 0 reply (omega arith) in
         record {
+          broken = refl;
           runs = one_step Driver (Replies (flow_to_host reply) (map flow_to_host rest)) (seated s log)
               (seated (record s { replies = rest }) (PutPacket p ∷ log)) (ap (map flow_to_host) is) refl;
           holds = record {

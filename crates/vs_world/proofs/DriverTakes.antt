@@ -1,6 +1,5 @@
 -- What the driver opens and takes is among the steps of the two ends.
-use Rattle.std.proofs.Common.{◌≡◌, ◌≢◌, ℕ, suc, ◌+◌, ◌^◌, ◌<◌, ◌≤◌, ◌==◌, ◌&&◌, ◌||◌, not, nat_le, nat_lt, Bool, true, false, cond, List, [], ◌∷◌, ◌++◌, length, map, Contains, Option, Some, None, is_some, refl, sym, ap, subst, ◌∙◌, arith, rules}
-use Rattle.std.specs.List.{All, find}
+use Rattle.std.proofs.Common.{◌≡◌, ℕ, ◌+◌, ◌^◌, ◌<◌, ◌≤◌, ◌&&◌, Bool, true, false, cond, List, [], ◌∷◌, ◌++◌, length, Contains, Option, Some, None, refl, sym, ap, subst, ◌∙◌, arith}
 use Rattle.std.proofs.lemmas.Bool.Decides.{nat_tests}
 use Rattle.std.proofs.lemmas.Grind.{common_steps}
 use Rattle.std.proofs.lemmas.List.Elements.{All-push}
@@ -9,43 +8,40 @@ use Rattle.vs_conn.specs.declared.end.Owed.TheVariants as owed
 use Rattle.vs_conn.specs.declared.end.Verdict.{Verdict}
 use Rattle.vs_conn.specs.declared.end.Verdict.TheVariants as verdict
 use Rattle.vs_flow.specs.Flow.{is_assigned, same_flow}
-use Rattle.vs_flow.specs.Table.{Table, IsTable, entry_of, with_entry, without}
+use Rattle.vs_flow.specs.Table.{entry_of, without}
 use Rattle.vs_flow.specs.declared.flow.Flow.{Flow}
 use Rattle.vs_flow.proofs.Entries.{same_flow_true}
 use Rattle.vs_flow.proofs.Tables.{with_entry_sound, IsAccepted}
 use Rattle.vs_header.specs.declared.Header.{Header}
-use Rattle.vs_history.specs.History.{Asker}
-use Rattle.vs_history.specs.Packets.{is_request, is_rst, size}
+use Rattle.vs_history.specs.Packets.{is_request, is_rst}
 use Rattle.vs_history.specs.declared.TheConstants.{BUF_ALLOC}
 use Rattle.vs_history.specs.declared.packet.Packet.{Packet}
 use Rattle.vs_page.specs.Held.{FitsWire, IsWhole}
-use Rattle.vs_page.specs.Log.{Log, Driver, IsNextPacket, IsNextEvent, flow_to_guest, side_by, side_of}
-use Rattle.vs_page.specs.declared.log.LogEntry.TheVariants.{GotEvent, GotPacket, Mark, PutPacket}
+use Rattle.vs_page.specs.Log.{Log, Driver, IsNextPacket, IsNextEvent, flow_to_guest, side_by}
+use Rattle.vs_page.specs.declared.log.LogEntry.TheVariants.{GotEvent, GotPacket, PutPacket}
 use Rattle.vs_replies.specs.Owed.{reply_to}
-use Rattle.vs_replies.specs.declared.Reply.{Reply}
-use Rattle.vs_matching.specs.Both.{Both, IsSound, Opens, Seat, Takes, TakesEvent, TakesReset, after_packet, answered}
-use Rattle.vs_matching.specs.Ends.{Ends, FlowEnd, ends_of, entries_of, replaced, without_flow}
-use Rattle.vs_matching.specs.Steps.{HasEnd, left, with_end, request_on, refused, accepted, taken}
+use Rattle.vs_matching.specs.Both.{Both, IsSound, Opens, Seat, Takes, TakesEvent, after_packet, answered}
+use Rattle.vs_matching.specs.Ends.{Ends, FlowEnd, ends_of, entries_of, replaced}
+use Rattle.vs_matching.specs.Steps.{left, with_end, request_on, refused, taken}
 use Rattle.vs_matching.proofs.Both.{driver_accepts}
-use Rattle.vs_matching.proofs.Slots.{added_slot, changed_slot, found_by, no_entry, one_end, removed_slot}
-use Rattle.vs_driver_parts.specs.State.{DriverConnection, DriverEntry, DriverState, GoneConnection}
-use Rattle.vs_driver_parts.specs.declared.answers.ConnectError.{ConnectError}
-use Rattle.vs_driver_parts.specs.declared.limits.TheConstants.{LAST_ID, LAST_PORT, SLOTS}
-use Rattle.vs_driver_parts.specs.Connections.{after_leaving, connect_refusal, connected, gone_as, is_full, is_let_go, is_spent, next_flow, waits_no_more, with_connection, with_opened, with_request}
-use Rattle.vs_driver_parts.specs.Receiving.{after_packet as connection_after, after_verdict, ends_connection, is_request as asks, may_open, on_known, on_packet, on_unknown, with_reply}
-use Rattle.vs_driver_parts.proofs.Delivers.{delivers, named_rw}
+use Rattle.vs_matching.proofs.Slots.{added_slot, changed_slot, found_by, no_entry, one_end}
+use Rattle.vs_driver.specs.State.{DriverConnection, DriverEntry, DriverState, GoneConnection}
+use Rattle.vs_driver.specs.declared.limits.TheConstants.{LAST_ID, LAST_PORT, SLOTS}
+use Rattle.vs_driver.specs.Connections.{connect_refusal, connected, is_full, is_spent, next_flow, waits_no_more, with_connection, with_opened, with_request}
+use Rattle.vs_driver.specs.Receiving.{after_verdict, ends_connection, is_request as asks, may_open, on_known, on_packet, on_unknown, with_reply}
+use Rattle.vs_driver.proofs.Delivers.{delivers, named_rw}
 use Rattle.vs_header.specs.Op.{op_named}
 use Rattle.vs_header.specs.declared.Op.TheVariants as op
 use Rattle.vs_history.specs.Packets.{is_rw}
 use Rattle.std.proofs.Common.{length-append}
 use Rattle.std.proofs.lemmas.List.{map-append}
-use Rattle.vs_driver_parts.proofs.Packets.{packet_known, packet_unknown}
-use Rattle.vs_world.specs.Sides.{Runs, driver_ends, flow_to_host}
-use Rattle.vs_world.proofs.DriverSide.{DriverHolds, Holds, Kept, ReplyFits, end_in, entry_fits, has_end, held_in, holds_changed, left_ends, left_holds, seated}
-use Rattle.vs_world.proofs.Entries.{EntryFits, FlowFits, fits_with_entry}
+use Rattle.vs_driver.proofs.Packets.{packet_known, packet_unknown}
+use Rattle.vs_world.specs.Sides.{driver_ends, flow_to_host}
+use Rattle.vs_world.proofs.DriverSide.{DriverHolds, Holds, Kept, ReplyFits, end_in, entry_fits, held_in, holds_changed, left_broken, left_ends, left_holds, seated}
+use Rattle.vs_world.proofs.Entries.{FlowFits, fits_with_entry}
 use Rattle.vs_world.proofs.Fits.{CreditFits, delivered, fits_after}
 use Rattle.vs_world.proofs.Runs.{one_step}
-use Rattle.vs_world.proofs.Wire.{PutsFit, RouteFits, next_fits, owed_fits}
+use Rattle.vs_world.proofs.Wire.{PutsFit, owed_fits}
 
 module _ (device : Seat) where
   abbrev at_part : Ends → Log → Both
@@ -109,18 +105,22 @@ module _ (device : Seat) where
         let unused = (sound.matches Driver).flows.unused f asker (omega arith) in
         let flow : FlowFits f = record { guest = omega (arith, spent.0); host = fits } in
         record {
+          broken = refl;
           runs = one_step Driver (Opens f BUF_ALLOC) (seated device s log) (seated device (connected port s) (PutPacket p ∷ log))
               (record { asker = asker; port = omega arith }, (omega arith, omega arith))
               (ap (λ (entries : List FlowEnd). at_part (record (driver_ends s) { entries = entries; next_port = s.next_port + 1 }) (PutPacket p ∷ log))
               (sym (added_slot end_in s.table f _)));
           holds = open_holds f (paid_of (asked BUF_ALLOC) owed.Request) false (accepted_by f (absent f unused.no_end) may.full spent.1) flow
-              (record { alloc = omega arith; fwd = omega arith; rx = omega arith; unread = omega arith }) (s.next_port + 1) (omega (arith, spent.0));
-          puts = (owed_fits (asked BUF_ALLOC) _ owed.Request 0 (record {
-            src_cid = holds.known;
-            dst_cid = omega arith;
-            src_port = omega (arith, spent.0);
-            dst_port = fits;
-          }) (record { alloc = omega arith; fwd = omega arith; rx = omega arith; unread = omega arith }) refl, puts);
+              (record { alloc = omega arith; fwd = omega arith; rx = omega arith; unread = omega arith; within = omega arith }) (s.next_port + 1) (omega (arith, spent.0));
+          puts = (
+            owed_fits (asked BUF_ALLOC) _ owed.Request 0 (record {
+              src_cid = holds.known;
+              dst_cid = omega arith;
+              src_port = omega (arith, spent.0);
+              dst_port = fits;
+            }) (record { alloc = omega arith; fwd = omega arith; rx = omega arith; unread = omega arith; within = omega arith }) refl,
+            puts,
+          );
         }
       where
         spent_by : is_spent s ≡ false → (s.next_port ≤ LAST_PORT) × (s.next_id ≤ LAST_ID)
@@ -142,6 +142,7 @@ module _ (device : Seat) where
           → c.end ≡ end_after e.value.end p.header → CreditFits c.end.credit (length c.unread)
           → (is_reset p.header && is_stream p.header) ≡ false → Kept device s log (with_connection e.slot c s) got
       stays_with e c there flow is credit goes_on = record {
+        broken = refl;
         runs = one_step Driver (Takes p None) (seated device s log) (seated device (with_connection e.slot c s) got) (next, tt)
             (ap (λ (ends : List ConnectionEnd). at_part (after_packet ends p (flow_to_guest p.header) None (driver_ends s)) got) has
             ∙ ap (λ (b : Bool). at_part (cond b (left (flow_to_guest p.header) (driver_ends s))
@@ -161,6 +162,7 @@ module _ (device : Seat) where
           → (is_reset p.header && is_stream p.header) ≡ true
           → Kept device s log (record (cond b (waits_no_more e s) s) { table = without s.table e.slot; gone = gone }) got
       leaves_with b e gone there flow over = record {
+        broken = left_broken device first s log sound holds puts b e;
         runs = one_step Driver (Takes p None) (seated device s log) (seated device (record (cond b (waits_no_more e s) s) { table = without s.table e.slot; gone = gone }) got) (next, tt)
             (ap (λ (ends : List ConnectionEnd). at_part (after_packet ends p (flow_to_guest p.header) None (driver_ends s)) got) has
             ∙ ap (λ (b : Bool). at_part (cond b (left (flow_to_guest p.header) (driver_ends s))
@@ -224,6 +226,7 @@ module _ (device : Seat) where
             let is_one : is_request p ≡ true = asked_by request in
             let other : is_rst p ≡ false = not_both is_one in
             record {
+              broken = refl;
               runs = one_step Driver (Takes p (Some BUF_ALLOC)) (seated device s log) (seated device (with_request f p.header s) got)
                   (next, (omega arith, omega arith))
                   (ap (λ (ends : List ConnectionEnd). at_part (after_packet ends p f (Some BUF_ALLOC) (driver_ends s)) got) no_end
@@ -232,7 +235,7 @@ module _ (device : Seat) where
                   ∙ ap (λ (entries : List FlowEnd). at_part (record (driver_ends s) { entries = entries }) got) (sym (added_slot end_in s.table f _)));
               holds = open_holds f (answering BUF_ALLOC p.header) true (accepted_by f none room.0 room.1)
                   (record { guest = fits.dst_port; host = fits.src_port })
-                  (record { alloc = omega arith; fwd = omega arith; rx = omega arith; unread = omega arith }) s.next_port holds.port;
+                  (record { alloc = omega arith; fwd = omega arith; rx = omega arith; unread = omega arith; within = omega arith }) s.next_port holds.port;
               puts = puts;
             }
           where
@@ -249,6 +252,7 @@ module _ (device : Seat) where
         replies_to b is other =
             let f = flow_to_guest p.header in
             record {
+              broken = refl;
               runs = one_step Driver (Takes p None) (seated device s log) (seated device (with_reply (reply_to p.header) s) got) (next, tt)
                   (ap (λ (ends : List ConnectionEnd). at_part (after_packet ends p f None (driver_ends s)) got) no_end
                   ∙ ap (λ (b : Bool). at_part (cond b (driver_ends s) (answered (is_request p) None p f (driver_ends s))) got) other
@@ -274,6 +278,7 @@ module _ (device : Seat) where
 
         ignores : is_rst p ≡ true → Kept device s log s got
         ignores rst = record {
+          broken = refl;
           runs = one_step Driver (Takes p None) (seated device s log) (seated device s got) (next, tt)
               (ap (λ (ends : List ConnectionEnd). at_part (after_packet ends p (flow_to_guest p.header) None (driver_ends s)) got) no_end
               ∙ ap (λ (b : Bool). at_part (cond b (driver_ends s) (answered (is_request p) None p (flow_to_guest p.header) (driver_ends s))) got) rst);
@@ -310,6 +315,7 @@ module _ (device : Seat) where
     -- Events.
     pub takes_event : (id : ℕ) → IsNextEvent log device.log id → Kept device s log s (GotEvent id ∷ log)
     takes_event id next = record {
+      broken = refl;
       runs = one_step Driver (TakesEvent id) (seated device s log) (seated device s (GotEvent id ∷ log)) (refl, next) refl;
       holds = holds;
       puts = puts;

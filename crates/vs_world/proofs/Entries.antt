@@ -1,9 +1,9 @@
 -- Entries of a table whose ends fit, through changes of the table.
-use Rattle.std.proofs.Common.{◌≡◌, ℕ, ◌^◌, ◌<◌, ◌==◌, Bool, true, false, not, cond, List, [], ◌∷◌, ◌++◌, map, filter, Contains, refl, ap, subst}
+use Rattle.std.proofs.Common.{◌≡◌, ℕ, ◌^◌, ◌<◌, ◌==◌, Bool, true, false, not, cond, List, [], ◌∷◌, map, filter, Contains, refl, ap, subst}
 use Rattle.std.specs.List.{All}
 use Rattle.std.proofs.lemmas.List.Elements.{All-filter, All-push, All-map}
 use Rattle.vs_conn.specs.End.{ConnectionEnd}
-use Rattle.vs_flow.specs.Table.{Table, IsTable, entry_under, entry_of, revalued, with_value, without, with_entry, next_entry}
+use Rattle.vs_flow.specs.Table.{Table, revalued, with_value, without, with_entry, next_entry}
 use Rattle.vs_flow.specs.declared.flow.Flow.{Flow}
 use Rattle.vs_flow.specs.declared.table.Entry.{Entry}
 use Rattle.vs_flow.proofs.Tables.{revalued-slot}

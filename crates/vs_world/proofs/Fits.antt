@@ -1,26 +1,21 @@
 -- What an end of a connection keeps: its counters have 32 bits, its buffer space is the usual one, and no more is unread than it counts.
-use Rattle.std.proofs.Common.{◌≡◌, ℕ, ◌+◌, ◌-◌, ◌%◌, ◌^◌, ◌<◌, ◌≤◌, ◌==◌, Bool, true, false, cond, Option, Some, None, refl, arith, rules, List, [], ◌++◌, length, take, sym, ap, ◌∙◌}
+use Rattle.std.proofs.Common.{◌≡◌, ℕ, ◌+◌, ◌-◌, ◌%◌, ◌^◌, ◌<◌, ◌≤◌, ◌==◌, Bool, true, false, cond, Option, Some, None, refl, arith, rules, List, [], ◌++◌, length, take, ap, ◌∙◌}
 use Rattle.std.proofs.Math.Seq.{take-length}
-use Rattle.std.proofs.lemmas.Bool.Decides.{nat_tests}
 use Rattle.std.proofs.lemmas.Grind.{common_steps}
-use Rattle.vs_conn.specs.End.{ConnectionEnd, asked, answering, aborted, with_shut, with_payload_sent, with_payload_forwarded, wanting_credit, paid_of, end_after, verdict_of, settled, after_op, after_message, with_heard_packet}
-use Rattle.vs_conn.specs.Headers.{owed_header, payload_header, reset_header}
+use Rattle.vs_conn.specs.End.{ConnectionEnd, asked, with_shut, paid_of, end_after, verdict_of, settled, after_op, after_message, with_heard_packet}
 use Rattle.vs_conn.specs.declared.end.Owed.{Owed}
 use Rattle.vs_conn.specs.declared.end.Owed.TheVariants as owed
 use Rattle.vs_conn.specs.declared.end.Verdict.{Verdict}
 use Rattle.vs_conn.specs.declared.end.Verdict.TheVariants as verdict
-use Rattle.vs_conn.specs.declared.route.Route.{Route}
 use Rattle.vs_credit.specs.Credit.{unread_of, room_of, with_forwarded, with_sent, with_taken}
 use Rattle.vs_credit.specs.declared.Credit.{Credit}
-use Rattle.vs_flow.specs.declared.flow.Flow.{Flow}
 use Rattle.vs_header.specs.Op.{op_named}
 use Rattle.vs_header.specs.Packet.{header_bytes}
 use Rattle.vs_header.specs.declared.Header.{Header}
 use Rattle.vs_header.specs.declared.Op.{Op}
 use Rattle.vs_header.specs.declared.Op.TheVariants as op
 use Rattle.vs_history.specs.declared.TheConstants.{BUF_ALLOC}
-use Rattle.vs_history.specs.declared.packet.Packet.{Packet}
-use Rattle.vs_driver_parts.proofs.Delivers.{delivers}
+use Rattle.vs_driver.proofs.Delivers.{delivers}
 use Rattle.vs_page.specs.Held.{FitsWire, packet_held, packet_with, payload_held}
 use Rattle.std.specs.Option.{option_map}
 
@@ -32,13 +27,29 @@ pub record CreditFits (c : Credit) (held : ℕ) : Type 0 where
   pub fwd : c.fwd_cnt < 2 ^ 32
   pub rx : c.rx_cnt < 2 ^ 32
   pub unread : held ≤ unread_of c
+  pub within : unread_of c ≤ c.alloc
 
 pub fits_asked : CreditFits (asked BUF_ALLOC).credit 0
-fits_asked = record { alloc = omega arith; fwd = omega arith; rx = omega arith; unread = omega arith }
+fits_asked = record { alloc = omega arith; fwd = omega arith; rx = omega arith; unread = omega arith; within = omega arith }
 
 forwards : (rx fwd n u : ℕ) → rx < 2 ^ 32 → fwd < 2 ^ 32 → n ≤ u → u ≤ (rx + 2 ^ 32 - fwd) % 2 ^ 32
     → u - n ≤ (rx + 2 ^ 32 - (fwd + n) % 2 ^ 32) % 2 ^ 32
 forwards rx fwd n u r f le un = omega (arith, r, f, le, un)
+
+forwards_within : (rx fwd n u alloc : ℕ) → rx < 2 ^ 32 → fwd < 2 ^ 32 → n ≤ u → u ≤ (rx + 2 ^ 32 - fwd) % 2 ^ 32
+    → (rx + 2 ^ 32 - fwd) % 2 ^ 32 ≤ alloc → (rx + 2 ^ 32 - (fwd + n) % 2 ^ 32) % 2 ^ 32 ≤ alloc
+forwards_within rx fwd n u alloc r f le un w = omega (arith, r, f, le, un, w)
+
+takes_within : (rx fwd n alloc : ℕ) → rx < 2 ^ 32 → fwd < 2 ^ 32 → alloc ≤ BUF_ALLOC → n ≤ alloc - (rx + 2 ^ 32 - fwd) % 2 ^ 32
+    → (rx + 2 ^ 32 - fwd) % 2 ^ 32 ≤ alloc → ((rx + n) % 2 ^ 32 + 2 ^ 32 - fwd) % 2 ^ 32 ≤ alloc
+takes_within rx fwd n alloc r f a le w = omega (arith, r, f, a, le, w)
+
+discards_within : (rx fwd n alloc : ℕ) → rx < 2 ^ 32 → fwd < 2 ^ 32 → (rx + 2 ^ 32 - fwd) % 2 ^ 32 ≤ alloc
+    → ((rx + n) % 2 ^ 32 + 2 ^ 32 - (fwd + n) % 2 ^ 32) % 2 ^ 32 ≤ alloc
+discards_within rx fwd n alloc r f w = omega (arith, r, f, w)
+
+none_left : (rx alloc : ℕ) → rx < 2 ^ 32 → (rx + 2 ^ 32 - rx) % 2 ^ 32 ≤ alloc
+none_left rx alloc r = omega (arith, r)
 
 pub fits_forwarded : (c : Credit) (n u : ℕ) → CreditFits c u → n ≤ u → CreditFits (with_forwarded c n) (u - n)
 fits_forwarded c n u fits le = record {
@@ -46,6 +57,7 @@ fits_forwarded c n u fits le = record {
   fwd = omega arith;
   rx = fits.rx;
   unread = forwards c.rx_cnt c.fwd_cnt n u fits.rx fits.fwd le fits.unread;
+  within = forwards_within c.rx_cnt c.fwd_cnt n u c.alloc fits.rx fits.fwd le fits.unread fits.within;
 }
 
 takes : (rx fwd n u alloc : ℕ) → rx < 2 ^ 32 → fwd < 2 ^ 32 → alloc ≤ BUF_ALLOC → n ≤ alloc - (rx + 2 ^ 32 - fwd) % 2 ^ 32
@@ -58,10 +70,11 @@ fits_taken c n u fits room = record {
   fwd = fits.fwd;
   rx = omega arith;
   unread = takes c.rx_cnt c.fwd_cnt n u c.alloc fits.rx fits.fwd fits.alloc room fits.unread;
+  within = takes_within c.rx_cnt c.fwd_cnt n c.alloc fits.rx fits.fwd fits.alloc room fits.within;
 }
 
 pub fits_sent : (c : Credit) (n u : ℕ) → CreditFits c u → CreditFits (with_sent c n) u
-fits_sent c n u fits = record { alloc = fits.alloc; fwd = fits.fwd; rx = fits.rx; unread = fits.unread }
+fits_sent c n u fits = record { alloc = fits.alloc; fwd = fits.fwd; rx = fits.rx; unread = fits.unread; within = fits.within }
 
 -- The end's own steps.
 pub fits_settled : (e : ConnectionEnd) (u : ℕ) → CreditFits e.credit u → CreditFits (settled e).credit u
@@ -72,7 +85,7 @@ pub fits_shut : (e : ConnectionEnd) (bits u : ℕ) → CreditFits e.credit u
 fits_shut e bits u fits = by (with_shut e bits).own.receive
   where
     by : (b : Bool) → CreditFits (cond b (record e.credit { fwd_cnt = e.credit.rx_cnt }) e.credit) (cond b 0 u)
-    by true = record { alloc = fits.alloc; fwd = fits.rx; rx = fits.rx; unread = omega arith }
+    by true = record { alloc = fits.alloc; fwd = fits.rx; rx = fits.rx; unread = omega arith; within = none_left e.credit.rx_cnt e.credit.alloc fits.rx }
     by false = fits
 
 pub fits_paid : (e : ConnectionEnd) (what : Owed) (u : ℕ) → CreditFits e.credit u → CreditFits (paid_of e what).credit u
@@ -97,11 +110,12 @@ fits_same old new u (a, f, r) fits = record {
   fwd = rw f fits.fwd;
   rx = rw r fits.rx;
   unread = rw (f, r) fits.unread;
+  within = rw (a, f, r) fits.within;
 }
 
 -- The end after a packet.
 heard_same : (e : ConnectionEnd) (h : Header) (u : ℕ) → CreditFits e.credit u → CreditFits (with_heard_packet e h).credit u
-heard_same e h u fits = record { alloc = fits.alloc; fwd = fits.fwd; rx = fits.rx; unread = fits.unread }
+heard_same e h u fits = record { alloc = fits.alloc; fwd = fits.fwd; rx = fits.rx; unread = fits.unread; within = fits.within }
 
 discards : (rx fwd n u : ℕ) → rx < 2 ^ 32 → fwd < 2 ^ 32 → u ≤ (rx + 2 ^ 32 - fwd) % 2 ^ 32
     → u ≤ ((rx + n) % 2 ^ 32 + 2 ^ 32 - (fwd + n) % 2 ^ 32) % 2 ^ 32
@@ -128,6 +142,7 @@ fits_op verdict.Discard e h u is fits = rw (plus_zero u) (record {
   fwd = omega arith;
   rx = omega arith;
   unread = discards e.credit.rx_cnt e.credit.fwd_cnt h.len u fits.rx fits.fwd fits.unread;
+      within = discards_within e.credit.rx_cnt e.credit.fwd_cnt h.len e.credit.alloc fits.rx fits.fwd fits.within;
 })
 fits_op verdict.Peer e h u is fits = rw (plus_zero u) (fits_message (op_named h.op) e h u fits)
 fits_op (verdict.Rst why) e h u is fits = rw (plus_zero u) fits

@@ -18,3 +18,6 @@ pub mod DeviceStreams
 pub mod DeviceReads
 pub mod ProxySide
 pub mod ProxyResets
+pub mod Rings
+pub mod Sound
+pub mod Opening

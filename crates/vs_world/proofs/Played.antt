@@ -2,7 +2,7 @@
 use Rattle.std.proofs.Common.{◌≡◌, ℕ, nat_le, ◌&&◌, Bool, true, false, List, [], ◌∷◌, ◌++◌, refl, sym, ap, ◌∙◌}
 use Rattle.vs_contents.specs.CallTree.{Done, Ask, played}
 use Rattle.vs_outside.specs.Host.{HostContents}
-use Rattle.vs_page.specs.Log.{Log, Role, Driver, Device, HasGotAll, events_put}
+use Rattle.vs_page.specs.Log.{Log, HasGotAll, events_put}
 use Rattle.vs_ring_port.specs.DriverCalls.{driver_answer}
 use Rattle.vs_ring_port.specs.EndLog.{EndLog}
 use Rattle.vs_ring_port.specs.Lists.{Rings}
@@ -129,8 +129,10 @@ opening_queued n host =
 pub device_got : (rings : Ends) → IsQueued rings → HasGotAll rings.device.entries rings.driver.entries
 device_got rings q = record {
   packets = (held_in packet_held rings.lists.tx.given, q.tx);
-  events = (events_put rings.driver.entries,
-      sym (append-nil (events_put rings.driver.entries)) ∙ ap (λ ids. events_put rings.driver.entries ++ ids) (sym q.no_event));
+  events = (
+    events_put rings.driver.entries,
+    sym (append-nil (events_put rings.driver.entries)) ∙ ap (λ ids. events_put rings.driver.entries ++ ids) (sym q.no_event),
+  );
 }
 
 pub driver_got : (rings : Ends) → IsQueued rings → HasGotAll rings.driver.entries rings.device.entries

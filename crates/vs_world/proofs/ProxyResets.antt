@@ -1,27 +1,24 @@
 -- A transport reset that the proxy makes is one of the steps of the two ends.
-use Rattle.std.proofs.Common.{◌≡◌, ℕ, ◌+◌, ◌^◌, ◌<◌, ◌≤◌, Bool, true, false, cond, List, [], ◌∷◌, length, Option, Some, None, Result, Ok, Err, refl, sym, ap, subst, ◌∙◌, arith}
-use Rattle.std.specs.List.{All}
+use Rattle.std.proofs.Common.{◌≡◌, ℕ, ◌^◌, ◌<◌, Bool, true, false, cond, List, [], ◌∷◌, Option, Some, None, Result, Ok, Err, refl, sym, subst, arith}
 use Rattle.vs_contents.specs.CallTree.{Done, Ask, bind, for_each, played}
-use Rattle.vs_flow.specs.Table.{Table, IsTable, entry_under, slots, with_value}
+use Rattle.vs_flow.specs.Table.{IsTable, entry_under, slots}
 use Rattle.vs_flow.proofs.Tables.{with_value_sound}
 use Rattle.vs_outside.specs.Host.{HostContents, after_close}
-use Rattle.vs_page.specs.Log.{Log, Device}
+use Rattle.vs_page.specs.Log.{Device}
 use Rattle.vs_page.specs.declared.log.LogEntry.TheVariants.{Mark}
 use Rattle.vs_ring_port.specs.Contents.{PublishCid}
 use Rattle.vs_ring_port.specs.EndLog.{EndLog}
-use Rattle.vs_ring_port.specs.Lists.{Rings}
 use Rattle.vs_ring_port.specs.declared.failure.Failure.{Failure}
-use Rattle.vs_matching.specs.Both.{Both, IsSound, MakesReset, Seat}
+use Rattle.vs_matching.specs.Both.{IsSound, MakesReset, Seat}
 use Rattle.vs_device.specs.Calls.{CloseStream, DeviceTree, Ring}
 use Rattle.vs_device.specs.Connections.{stream_closed, with_connection}
-use Rattle.vs_device.specs.State.{DeviceConnection, DeviceEntry, DeviceState}
-use Rattle.vs_device.specs.Turns.{after_reset, close_slot, reset_of}
+use Rattle.vs_device.specs.State.{DeviceEntry, DeviceState}
+use Rattle.vs_device.specs.Turns.{after_reset, close_slot}
 use Rattle.vs_proxy.specs.Handshakes.{streams_of}
 use Rattle.vs_proxy.specs.State.{ProxyState, with_device}
 use Rattle.vs_proxy.specs.Turns.{close_handshake, proxy_reset_of, reset_with}
 use Rattle.vs_world.specs.Answers.{Around, answer_around}
 use Rattle.vs_world.proofs.Chains.{HoldsRx}
-use Rattle.vs_world.proofs.DeviceSide as side
 use Rattle.vs_world.proofs.DeviceSide.{DeviceHolds, Kept, seated}
 use Rattle.vs_world.proofs.ProxySide.{Over, stays_as}
 use Rattle.vs_world.proofs.Runs.{one_step}

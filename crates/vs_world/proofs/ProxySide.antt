@@ -1,24 +1,23 @@
 -- What the proxy does with handshakes is among the steps of the two ends.
-use Rattle.std.proofs.Common.{◌≡◌, ℕ, ◌+◌, ◌^◌, ◌<◌, ◌≤◌, ◌==◌, ◌&&◌, nat_le, nat_lt, Bool, true, false, cond, List, [], ◌∷◌, ◌++◌, length, Option, Some, None, is_some, refl, sym, ap, subst, ◌∙◌, arith}
+use Rattle.std.proofs.Common.{◌≡◌, ℕ, ◌+◌, ◌^◌, ◌<◌, ◌≤◌, ◌==◌, ◌&&◌, nat_le, nat_lt, Bool, true, false, cond, List, [], ◌∷◌, ◌++◌, length, Option, Some, None, refl, sym, ap, subst, ◌∙◌, arith}
 use Rattle.std.proofs.lemmas.Bool.Decides.{nat_tests}
 use Rattle.vs_contents.specs.CallTree.{Done, Ask, bind, played}
 use Rattle.vs_flow.specs.Flow.{is_assigned, same_flow}
-use Rattle.vs_flow.specs.Table.{Table, entry_of, has_place, refusal}
+use Rattle.vs_flow.specs.Table.{entry_of, has_place, refusal}
 use Rattle.vs_flow.specs.declared.flow.Flow.{Flow}
 use Rattle.vs_flow.specs.declared.flow.TheConstants.{ASSIGNED_LAST}
 use Rattle.vs_flow.specs.declared.table.TableFault.{TableFault}
 use Rattle.vs_flow.proofs.Entries.{same_flow_true}
-use Rattle.vs_flow.proofs.Tables.{IsAccepted, accepted}
-use Rattle.vs_conn.specs.End.{ConnectionEnd}
+use Rattle.vs_flow.proofs.Tables.{accepted}
 use Rattle.vs_outside.specs.Host.{HostContents, accept_answer, after_read, read_answer}
 use Rattle.vs_outside.specs.declared.host_net.Accepted.{Accepted}
 use Rattle.vs_outside.specs.declared.host_net.Accepted.TheVariants as accepted_as
 use Rattle.vs_outside.specs.declared.host_net.StreamRead.{StreamRead}
 use Rattle.vs_outside.specs.declared.host_net.StreamRead.TheVariants as read
-use Rattle.vs_page.specs.Log.{Log, Device, side_by}
+use Rattle.vs_page.specs.Log.{Device, side_by}
 use Rattle.vs_ring_port.specs.EndLog.{EndLog}
 use Rattle.vs_ring_port.specs.Lists.{Rings}
-use Rattle.vs_matching.specs.Both.{Both, IsSound, Seat}
+use Rattle.vs_matching.specs.Both.{IsSound, Seat}
 use Rattle.vs_matching.specs.Ends.{ends_of, entries_of}
 use Rattle.vs_matching.proofs.Slots.{found_by, one_end}
 use Rattle.vs_uds.specs.ConnectLine.{connect_port, connect_step, connect_word, is_line_end, is_word}
@@ -30,11 +29,10 @@ use Rattle.std.proofs.Common.{drop, take, slice_index, Result, Ok, Err}
 use Rattle.vs_uds.specs.Reading.{is_decided, port_or_bad}
 use Rattle.vs_uds.specs.declared.scan.Step.{Step}
 use Rattle.vs_uds.specs.declared.scan.Step.TheVariants as step
-use Rattle.vs_device.specs.Calls.{Accept, CloseStream, DeviceTree, Label, ReadStream}
+use Rattle.vs_device.specs.Calls.{Accept, DeviceTree, Label, ReadStream}
 use Rattle.vs_device.specs.Connections.{is_late, with_client, with_fault}
 use Rattle.vs_device.specs.State.{DeviceEntry, DeviceState}
-use Rattle.vs_device.specs.Turns.{open_of}
-use Rattle.vs_proxy.specs.Handshakes.{accept_answered, accept_one, byte_read, dropping, handshake_on, host_fault, line_decided, may_open, opening, read_byte, tick_handshake, with_line, without_handshake}
+use Rattle.vs_proxy.specs.Handshakes.{accept_answered, accept_one, byte_read, dropping, handshake_on, line_decided, may_open, opening, tick_handshake, with_line, without_handshake}
 use Rattle.vs_proxy.specs.State.{Handshake, ProxyState, Turning, start, with_device}
 use Rattle.vs_proxy.specs.declared.limits.TheConstants.{HANDSHAKES}
 use Rattle.vs_world.specs.Answers.{Around, answer_around, bytes_with}

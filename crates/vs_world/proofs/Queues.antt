@@ -9,15 +9,13 @@ use Rattle.vs_ring_port.specs.Chains.{bytes_in}
 use Rattle.vs_ring_port.specs.Contents.{DeviceCall, Take, Read, Write, Return, Given, PublishCid}
 use Rattle.vs_ring_port.specs.DeviceCalls.{device_answer}
 use Rattle.vs_ring_port.specs.DriverCalls.{DriverCall, Stage, Publish, Reap, LoadCid, driver_answer}
-use Rattle.vs_ring_port.specs.EndLog.{EndLog, all_put, pages_at, with_packet, with_event, entries_marked, entries_returned, entries_reaped, log_taken}
-use Rattle.vs_ring_port.specs.Lists.{Rings, Lists, oldest, all_but_oldest, after_return, after_reap, next_at, queue_of, after_take, place_after, with_queue, chain_with}
-use Rattle.vs_ring_port.specs.declared.device_ring.Next.{Next}
-use Rattle.vs_ring_port.specs.declared.device_ring.Next.TheVariants as next
+use Rattle.vs_ring_port.specs.EndLog.{EndLog, all_put, with_packet, with_event, entries_marked, entries_returned, entries_reaped, log_taken}
+use Rattle.vs_ring_port.specs.Lists.{Rings, oldest, all_but_oldest, after_return, next_at, place_after}
 use Rattle.vs_ring_port.specs.declared.queue.Queue.{Queue}
 use Rattle.vs_ring_port.specs.declared.queue.Queue.TheVariants.{Rx, Tx, Event}
 use Rattle.vs_world.specs.Laws.{AreQueued}
 
-held_in-append : {A : Type 0} (held : List ℕ → Option A) (older newer : List (List ℕ))
+pub held_in-append : {A : Type 0} (held : List ℕ → Option A) (older newer : List (List ℕ))
     → held_in held (older ++ newer) ≡ held_in held newer ++ held_in held older
 held_in-append held [] newer = sym (append-nil (held_in held newer))
 held_in-append held (page ∷ older) newer =
@@ -25,11 +23,11 @@ held_in-append held (page ∷ older) newer =
     (listed (held page))
 
 -- What one more entry adds, and what it leaves.
-record Adds (old new : Log) (ps qs : List Packet) (is js : List ℕ) : Type 0 where
-  put : packets_put new ≡ ps ++ packets_put old
-  got : packets_got new ≡ qs ++ packets_got old
-  told : events_put new ≡ is ++ events_put old
-  heard : events_got new ≡ js ++ events_got old
+pub record Adds (old new : Log) (ps qs : List Packet) (is js : List ℕ) : Type 0 where
+  pub put : packets_put new ≡ ps ++ packets_put old
+  pub got : packets_got new ≡ qs ++ packets_got old
+  pub told : events_put new ≡ is ++ events_put old
+  pub heard : events_got new ≡ js ++ events_got old
 
 packet_put : (p : Option Packet) (log : Log) → Adds log (with_packet (λ p. PutPacket p) p log) (listed p) [] [] []
 packet_put None log = record { put = refl; got = refl; told = refl; heard = refl }
@@ -51,7 +49,7 @@ marked : (cid : ℕ) (log : Log) → Adds log (entries_marked cid log) [] [] [] 
 marked cid [] = record { put = refl; got = refl; told = refl; heard = refl }
 marked cid (entry ∷ log) = record { put = refl; got = refl; told = refl; heard = refl }
 
-pages_put : (pages : List (List ℕ)) (log : Log) → Adds log (all_put pages log) (held_in packet_held pages) [] [] []
+pub pages_put : (pages : List (List ℕ)) (log : Log) → Adds log (all_put pages log) (held_in packet_held pages) [] [] []
 pages_put [] log = record { put = refl; got = refl; told = refl; heard = refl }
 pages_put (page ∷ pages) log =
     let one = packet_put (packet_held page) log in

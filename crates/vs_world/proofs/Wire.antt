@@ -1,12 +1,11 @@
 -- Headers fit the wire, of all packets that were put.
-use Rattle.std.proofs.Common.{◌≡◌, ℕ, ◌^◌, ◌<◌, ◌≤◌, ◌==◌, Bool, true, false, List, [], ◌∷◌, ◌++◌, length, Option, Some, None, refl, sym, ap, subst, arith, rules}
+use Rattle.std.proofs.Common.{◌≡◌, ℕ, ◌^◌, ◌<◌, ◌==◌, false, List, [], ◌∷◌, ◌++◌, Some, refl, subst, arith}
 use Rattle.std.proofs.lemmas.Grind.{common_steps}
-use Rattle.vs_conn.specs.End.{ConnectionEnd, owes_of, state_owes, live_owes}
+use Rattle.vs_conn.specs.End.{ConnectionEnd, owes_of}
 use Rattle.vs_conn.specs.Headers.{owed_header, payload_header, reset_header, owed_flags}
 use Rattle.vs_conn.specs.declared.end.Owed.{Owed}
 use Rattle.vs_conn.specs.declared.end.Owed.TheVariants as owed
 use Rattle.vs_conn.specs.declared.route.Route.{Route}
-use Rattle.vs_header.specs.declared.Header.{Header}
 use Rattle.vs_history.specs.declared.packet.Packet.{Packet}
 use Rattle.vs_page.specs.Held.{FitsWire}
 use Rattle.vs_page.specs.Log.{Log, IsNextPacket, packets_put, packets_got}

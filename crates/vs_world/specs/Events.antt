@@ -1,5 +1,5 @@
 -- What may happen in the world, one page move or one call at a time, and what each leads to.
-use Rattle.std.specs.Prelude.{ℕ, ◌-◌, ◌&&◌, nat_lt, nat_le, Bool, true, false, if◌then◌else◌, List, [], ◌∷◌, length, is_some, Option, Some, None}
+use Rattle.std.specs.Prelude.{ℕ, ◌&&◌, nat_lt, nat_le, Bool, true, false, if◌then◌else◌, List, [], ◌∷◌, is_some}
 use Rattle.vs_contents.specs.CallTree.{Done, bind}
 use Rattle.vs_outside.specs.Host.{HostContents, with_stream}
 use Rattle.vs_outside.specs.HostProgram.{after_listen, after_unlisten, after_client, after_host_write, host_write_answer, allowed, ended, closed, after_fail}
@@ -15,7 +15,7 @@ use Rattle.vs_device.specs.Calls.{DeviceTree}
 use Rattle.vs_device.specs.State.{DeviceState}
 use Rattle.vs_device.specs.Streams.{tick_slot}
 use Rattle.vs_proxy.specs.Handshakes.{tick_handshake, accept_one, read_byte}
-use Rattle.vs_proxy.specs.State.{ProxyState, Turning, start, with_device}
+use Rattle.vs_proxy.specs.State.{Turning, start, with_device}
 use Rattle.vs_proxy.specs.Turns.{proxy_reset_of}
 use Rattle.vs_world.specs.Calls.{GuestCall, ReplyTo, is_right}
 use Rattle.vs_world.specs.DeviceSteps.{takes_chain, returns, puts_event, puts_reply, puts_owed, puts_payload, writes, shuts_write}

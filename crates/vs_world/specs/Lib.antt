@@ -8,3 +8,4 @@ pub mod Plays
 pub mod Laws
 pub mod Sides
 pub mod Pages
+pub mod Worked

@@ -1,5 +1,5 @@
 -- The two ends of the world as their connections and their logs, and what it is for one to come of another by their small steps.
-use Rattle.std.specs.Prelude.{◌≡◌, ℕ, List, [], map}
+use Rattle.std.specs.Prelude.{◌≡◌, List, map}
 use Rattle.vs_flow.specs.declared.flow.Flow.{Flow}
 use Rattle.vs_matching.specs.Both.{Both, Happening, MayRun, run}
 use Rattle.vs_matching.specs.Ends.{Ends, entries_of}

@@ -1,13 +1,24 @@
 //! Laws of the world, over every list of events.
 
-ghost use Rattle.std.specs.Prelude.{ℕ, List};
+ghost use Rattle.std.specs.Prelude.{◌≡◌, ℕ, ◌||◌, false, List, [], ◌∷◌};
+ghost use Rattle.vs_conn.specs.End.{ConnectionEnd, is_refused, verdict_of};
+ghost use Rattle.vs_driver.specs.declared.limits.TheConstants.{FIRST_PORT};
 ghost use Rattle.vs_flow.specs.declared.flow.Flow.{Flow};
+ghost use Rattle.vs_flow.specs.declared.flow.TheConstants.{ASSIGNED_FIRST};
+ghost use Rattle.vs_history.specs.declared.packet.Packet.{Packet};
+ghost use Rattle.vs_matching.specs.Both.{start};
+ghost use Rattle.vs_matching.specs.Ends.{begun_flows, flows_of, is_among, new_flows};
+ghost use Rattle.vs_matching.specs.Matches.{Matches};
+ghost use Rattle.vs_matching.specs.Steps.{HasEnd, is_overrun};
 ghost use Rattle.vs_outside.specs.Host.{HostContents};
-ghost use Rattle.vs_page.specs.Fair.{IsPrefixOf, payload_got, payload_put};
-ghost use Rattle.vs_page.specs.Log.{Device, Driver, HasGotAll};
-ghost use Rattle.vs_world.specs.Events.{Event, run};
+ghost use Rattle.vs_page.specs.Fair.{IsFairLog, IsPrefixOf, payload_got, payload_put};
+ghost use Rattle.vs_page.specs.Log.{Device, Driver, HasGotAll, IsNextPacket, Log, flow_got};
+ghost use Rattle.vs_page.specs.Open.{is_dropped, is_open};
+ghost use Rattle.vs_page.specs.declared.log.LogEntry.TheVariants.{Mark};
+ghost use Rattle.vs_world.specs.Events.{Event, happens, run};
 ghost use Rattle.vs_world.specs.Laws.{IsQueued};
-ghost use Rattle.vs_world.specs.World.{opening};
+ghost use Rattle.vs_world.specs.Sides.{Runs, both_of};
+ghost use Rattle.vs_world.specs.World.{first_cid, opening};
 
 /// After any list of events what each end got is what the other put first, packets on tx and on rx and ids of events; and what was put and
 /// not got is just what the pages between them hold. So the payload that an end got on a connection is a prefix of the payload that the
@@ -22,4 +33,52 @@ pub fn law_of_queues()
         IsPrefixOf (payload_got Driver f k r.driver.entries) (payload_put Device f k r.device.entries) }
     ensures payload_to_host { (n : ℕ) (host : HostContents) (es : List Event) (f : Flow) (k : ℕ) → let r = (run es (opening n host)).rings in
         IsPrefixOf (payload_got Device f k r.device.entries) (payload_put Driver f k r.driver.entries) }
+{}
+
+/// Each event is some of the small steps of two ends of many connections, each where it may happen: one that puts or takes a packet is
+/// among them just where the event does. So what holds over every order of these steps holds after any list of events. Packets that the
+/// driver staged count as put.
+pub fn law_of_events()
+    ensures each { (n : ℕ) (host : HostContents) (es : List Event) (e : Event) → let w = run es (opening n host) in
+        Runs (both_of w) (both_of (happens e w)) }
+    ensures all { (n : ℕ) (host : HostContents) (es : List Event)
+        → Runs (start first_cid FIRST_PORT ASSIGNED_FIRST) (both_of (run es (opening n host))) }
+{}
+
+/// After any list of events both ends match their logs, and both logs are fair: the payload put is within the credit that the peer gave, a
+/// connection begins by its one REQUEST, and so on (Virtio 1.2, section 5.10.6).
+pub fn law_of_logs()
+    ensures driver { (n : ℕ) (host : HostContents) (es : List Event) → let b = both_of (run es (opening n host)) in
+        Matches Driver first_cid b.driver.part b.driver.log }
+    ensures device { (n : ℕ) (host : HostContents) (es : List Event) → let b = both_of (run es (opening n host)) in
+        Matches Device first_cid b.device.part b.device.log }
+    ensures driver_fair { (n : ℕ) (host : HostContents) (es : List Event) → IsFairLog Driver (both_of (run es (opening n host))).driver.log }
+    ensures device_fair { (n : ℕ) (host : HostContents) (es : List Event) → IsFairLog Device (both_of (run es (opening n host))).device.log }
+{}
+
+/// After any list of events each table holds just the connections that the log of its end left open: of the device's those that have
+/// begun, the others ask for their flow and have not put their REQUEST. None is from before a transport reset: where the newest entry of a
+/// log is one, none has begun (Virtio 1.2, section 5.10.6.7).
+pub fn law_of_tables()
+    ensures driver { (n : ℕ) (host : HostContents) (es : List Event) (f : Flow) → let b = both_of (run es (opening n host)) in
+        is_among f (flows_of b.driver.part.entries) ≡ is_open Driver first_cid f b.driver.log (is_among f b.driver.part.replies) }
+    ensures device { (n : ℕ) (host : HostContents) (es : List Event) (f : Flow) → let b = both_of (run es (opening n host)) in
+        is_among f (flows_of b.device.part.entries)
+        ≡ (is_open Device first_cid f b.device.log (is_among f b.device.part.replies) || is_among f (new_flows b.device.part.entries)) }
+    ensures driver_reset { (n : ℕ) (host : HostContents) (es : List Event) (cid : ℕ) (older : Log) → let b = both_of (run es (opening n host)) in
+        b.driver.log ≡ Mark cid ∷ older → begun_flows b.driver.part.entries ≡ [] }
+    ensures device_reset { (n : ℕ) (host : HostContents) (es : List Event) (cid : ℕ) (older : Log) → let b = both_of (run es (opening n host)) in
+        b.device.log ≡ Mark cid ∷ older → begun_flows b.device.part.entries ≡ [] }
+{}
+
+/// After any list of events the next packet is never refused where it is of a connection: by the driver none, by the device none that it
+/// doesn't drop. The device has room for its payload in any case (Virtio 1.2, section 5.10.6.3).
+pub fn law_of_next_packets()
+    ensures driver { (n : ℕ) (host : HostContents) (es : List Event) (p : Packet) (e : ConnectionEnd) → let b = both_of (run es (opening n host)) in
+        IsNextPacket b.driver.log b.device.log p → HasEnd (flow_got Driver p) e b.driver.part → is_refused (verdict_of e p.header) ≡ false }
+    ensures device { (n : ℕ) (host : HostContents) (es : List Event) (p : Packet) (e : ConnectionEnd) → let b = both_of (run es (opening n host)) in
+        IsNextPacket b.device.log b.driver.log p → HasEnd (flow_got Device p) e b.device.part
+        → is_dropped Device b.device.part.cid p.header ≡ false → is_refused (verdict_of e p.header) ≡ false }
+    ensures room { (n : ℕ) (host : HostContents) (es : List Event) (p : Packet) (e : ConnectionEnd) → let b = both_of (run es (opening n host)) in
+        IsNextPacket b.device.log b.driver.log p → HasEnd (flow_got Device p) e b.device.part → is_overrun (verdict_of e p.header) ≡ false }
 {}

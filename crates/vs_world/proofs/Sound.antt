@@ -1,0 +1,273 @@
+-- Each event is some of the steps of the two ends.
+use Rattle.std.proofs.Common.{◌≡◌, ℕ, ◌^◌, ◌<◌, ◌≤◌, ◌&&◌, nat_le, Bool, true, false, List, [], ◌∷◌, ◌++◌, refl, sym, ap, subst, ◌∙◌, arith, append_assoc}
+use Rattle.std.proofs.lemmas.Bool.Decides.{nat_tests}
+use Rattle.vs_contents.specs.CallTree.{played}
+use Rattle.vs_history.specs.declared.packet.Packet.{Packet}
+use Rattle.vs_outside.specs.Host.{HostContents}
+use Rattle.vs_page.specs.Held.{held_in, packet_held}
+use Rattle.vs_page.specs.Log.{packets_put, packets_got}
+use Rattle.vs_ring_port.specs.DriverCalls.{driver_answer}
+use Rattle.vs_ring_port.specs.declared.queue.Queue.{Queue}
+use Rattle.vs_ring_port.specs.declared.queue.Queue.TheVariants as q
+use Rattle.vs_matching.specs.Both.{IsSound}
+use Rattle.vs_driver.specs.Conversations.{DriverTree, publish_of}
+use Rattle.vs_driver.specs.State.{DriverState}
+use Rattle.vs_device.specs.Calls.{DeviceTree}
+use Rattle.vs_device.specs.State.{DeviceState}
+use Rattle.vs_device.specs.Streams.{tick_slot}
+use Rattle.vs_proxy.specs.Handshakes.{accept_one, tick_handshake}
+use Rattle.vs_proxy.specs.State.{ProxyState, Turning, start, with_device}
+use Rattle.vs_proxy.specs.Turns.{proxy_reset_of}
+use Rattle.vs_world.specs.Answers.{answer_around}
+use Rattle.vs_world.specs.Calls.{Journal, is_right}
+use Rattle.vs_world.specs.DeviceSteps.{takes_chain, returns, puts_event, puts_reply, puts_owed, puts_payload, writes, shuts_write}
+use Rattle.vs_world.specs.Events.{Event, GuestCalls, GuestTakes, GuestStages, GuestReplies, GuestPays, GuestPublishes, DeviceTakes, DeviceReturns, DevicePutsEvent, DeviceReplies, DeviceReads, DevicePays, DeviceWrites, DeviceShutsWrite, ProxyAccepts, ProxyReads, Moment, TimesOut, HandshakeTimesOut, Reset, HostListens, HostUnlistens, ClientConnects, HostWrites, HostTakes, HostEnds, HostCloses, HostFails}
+use Rattle.vs_world.specs.Events.{at_moment, call_made, device_step, driver_step, happens, has_failed, has_page, holds, is_at_rest, is_guest_cid, line_read, none_staged, proxy_step, reset_made, unless_failed, where_possible, works_on}
+use Rattle.vs_world.specs.GuestSteps.{makes_call, takes_page, stages_page, stages_reply, stages_owed}
+use Rattle.vs_world.specs.Laws.{IsQueued}
+use Rattle.vs_world.specs.Pages.{TxHolds}
+use Rattle.vs_world.specs.Sides.{Runs, both_of, log_with_staged}
+use Rattle.vs_world.specs.World.{World, around, device_plays, driver_plays, first_cid}
+use Rattle.vs_world.proofs.Chains.{HoldsRx}
+use Rattle.vs_world.proofs.DevicePuts as device_puts
+use Rattle.vs_world.proofs.DeviceReads as device_reads
+use Rattle.vs_world.proofs.DeviceSide as device_side
+use Rattle.vs_world.proofs.DeviceSide.{DeviceHolds}
+use Rattle.vs_world.proofs.DeviceStreams as device_streams
+use Rattle.vs_world.proofs.DeviceTurns as device_turns
+use Rattle.vs_world.proofs.DeviceTurns.{queue_is}
+use Rattle.vs_world.proofs.DeviceEvents as device_events
+use Rattle.vs_world.proofs.DriverEvents as driver_events
+use Rattle.vs_world.proofs.DriverSide as driver_side
+use Rattle.vs_world.proofs.DriverSide.{DriverHolds}
+use Rattle.vs_world.proofs.Played.{device_plays_keeps, driver_plays_keeps}
+use Rattle.vs_world.proofs.ProxyResets as proxy_resets
+use Rattle.vs_world.proofs.ProxySide as proxy_side
+use Rattle.vs_world.proofs.Queues.{pages_put}
+use Rattle.vs_world.proofs.Rings.{device_leaves_given, driver_leaves_cid}
+use Rattle.vs_world.proofs.Runs.{keeps_sound, stays}
+use Rattle.vs_world.proofs.Wire.{PutsFit}
+
+-- What is true of the world after any list of events.
+pub record IsWell (w : World) : Type 0 where
+  pub queued : IsQueued w.rings
+  pub sound : IsSound first_cid (both_of w)
+  pub driver : DriverHolds w.driver
+  pub device : DeviceHolds w.proxy.next_port w.proxy.device
+  pub driver_puts : PutsFit (log_with_staged w.rings.driver)
+  pub device_puts : PutsFit w.rings.device.entries
+  pub pages : TxHolds w.rings.lists w.rings.driver
+  pub chain : HoldsRx w.proxy.device.chain w.rings.device.held
+  pub known : w.rings.lists.cid < 2 ^ 64
+
+pub record Goes (w v : World) : Type 0 where
+  pub well : IsWell v
+  pub runs : Runs (both_of w) (both_of v)
+
+pub goes_still : (w : World) → IsWell w → Goes w w
+goes_still w well = record { well = well; runs = stays _ _ refl }
+
+-- The driver plays a conversation.
+driver_goes : {A : Type 0} (tree : DriverTree A) (state_of : A → DriverState) (journal : Journal) (w : World) → IsWell w
+    → (let r = played driver_answer tree (w.rings.lists, w.rings.driver) in
+    driver_side.Kept (both_of w).device w.driver (log_with_staged w.rings.driver) (state_of r.0) (log_with_staged r.1.1) × TxHolds r.1.0 r.1.1)
+    → Goes w (record (driver_plays tree w).1 { driver = state_of (driver_plays tree w).0; journal = journal })
+driver_goes tree state_of journal w well (kept, pages) = record {
+  well = record {
+    queued = driver_plays_keeps tree w well.queued;
+    sound = keeps_sound first_cid _ _ kept.runs well.sound;
+    driver = kept.holds;
+    device = well.device;
+    driver_puts = kept.puts;
+    device_puts = well.device_puts;
+    pages = pages;
+    chain = well.chain;
+    known = subst (λ (n : ℕ). n < 2 ^ 64) (sym (driver_leaves_cid tree w.rings.lists w.rings.driver)) well.known;
+  };
+  runs = kept.runs;
+}
+
+-- The device plays one, and so does the proxy.
+abbrev DeviceLeft : {A : Type 0} (tree : DeviceTree A) (state_of : A → ProxyState) → World → Type 0
+DeviceLeft tree state_of w =
+    let r = played answer_around tree (around w) in
+    device_side.Kept (both_of w).driver w.proxy.next_port w.proxy.device w.rings.device.entries (state_of r.0).next_port (state_of r.0).device r.1.log.entries
+    × HoldsRx (state_of r.0).device.chain r.1.log.held × (r.1.lists.cid < 2 ^ 64)
+
+device_goes : {A : Type 0} (tree : DeviceTree A) (state_of : A → ProxyState) (w : World) → IsWell w → DeviceLeft tree state_of w
+    → Goes w (record (device_plays tree w).1 { proxy = state_of (device_plays tree w).0 })
+device_goes tree state_of w well (kept, chain, known) = record {
+  well = record {
+    queued = device_plays_keeps tree w well.queued;
+    sound = keeps_sound first_cid _ _ kept.runs well.sound;
+    driver = well.driver;
+    device = kept.holds;
+    driver_puts = well.driver_puts;
+    device_puts = kept.puts;
+    pages = (device_leaves_given tree (around w) well.pages.0, well.pages.1);
+    chain = chain;
+    known = known;
+  };
+  runs = kept.runs;
+}
+
+possible : (b : Bool) (step : World → World) (w : World) → IsWell w → (b ≡ true → Goes w (step w)) → Goes w (where_possible b step w)
+possible true step w well goes = goes refl
+possible false step w well goes = goes_still w well
+
+unfailed : (b : Bool) (step : World → World) (w : World) → has_failed w ≡ b → IsWell w → Goes w (step w) → Goes w (unless_failed step w)
+unfailed true step w is well goes = rw is (goes_still w well)
+unfailed false step w is well goes = rw is goes
+
+-- Nothing is staged.
+first_true : (a b : Bool) → (a && b) ≡ true → a ≡ true
+first_true true b is = refl
+first_true false b is = cc
+
+second_true : (a b : Bool) → (a && b) ≡ true → b ≡ true
+second_true true b is = is
+second_true false b is = absurd cc
+
+nothing_staged : (pages : List (List ℕ)) → none_staged pages ≡ true → pages ≡ []
+nothing_staged [] is = refl
+nothing_staged (page ∷ pages) is = absurd cc
+
+module _ (w : World) (well : IsWell w) where
+  driver_step_goes : (step : DriverState → DriverTree DriverState) → (let r = played driver_answer (step w.driver) (w.rings.lists, w.rings.driver) in
+      driver_side.Kept (both_of w).device w.driver (log_with_staged w.rings.driver) r.0 (log_with_staged r.1.1) × TxHolds r.1.0 r.1.1)
+      → Goes w (driver_step step w)
+  driver_step_goes step kept = driver_goes (step w.driver) (λ s. s) w.journal w well kept
+
+  device_step_goes : (step : DeviceState → DeviceTree DeviceState)
+      → device_events.KeptBy (both_of w).driver first_cid w.proxy.next_port w.proxy.device w.rings.device.entries well.sound well.device well.device_puts
+      (step w.proxy.device) (around w) → Goes w (device_step step w)
+  device_step_goes step k = device_goes (step w.proxy.device) (λ s. with_device s w.proxy) w well (k.kept, k.chain, k.known)
+
+  proxy_step_goes : (step : Turning → DeviceTree Turning)
+      → proxy_side.KeptBy (both_of w).driver first_cid w.proxy (around w) well.sound well.device well.device_puts well.chain well.known (step (start w.proxy))
+      → Goes w (proxy_step step w)
+  proxy_step_goes step k = device_goes (step (start w.proxy)) (λ t. t.state) w well (k.kept, k.chain, k.cid)
+
+  -- What the device may take of the transmit queue.
+  tx_tied : packets_put (log_with_staged w.rings.driver)
+      ≡ (held_in packet_held w.rings.driver.staged.tx ++ held_in packet_held w.rings.lists.tx.given) ++ packets_got w.rings.device.entries
+  tx_tied =
+      (pages_put w.rings.driver.staged.tx w.rings.driver.entries).put
+      ∙ ap (λ (ps : List Packet). held_in packet_held w.rings.driver.staged.tx ++ ps) well.queued.tx
+      ∙ sym (append_assoc (held_in packet_held w.rings.driver.staged.tx) (held_in packet_held w.rings.lists.tx.given) (packets_got w.rings.device.entries))
+
+  takes_goes : (queue : Queue) → works_on queue w.rings.driver.staged ≡ true → Goes w (driver_step (takes_page queue) w)
+  takes_goes q.Tx may = driver_step_goes (takes_page q.Tx)
+      (driver_events.reaps_tx (both_of w).device first_cid w.driver w.rings.lists w.rings.driver well.sound well.driver well.driver_puts well.pages)
+  takes_goes q.Rx may = driver_step_goes (takes_page q.Rx)
+      (driver_events.takes_page_keeps (both_of w).device first_cid w.driver w.rings.lists w.rings.driver well.sound well.driver well.driver_puts well.pages
+      (nothing_staged w.rings.driver.staged.tx (first_true _ _ may)) well.device_puts well.queued.rx well.queued.event well.known q.Rx)
+  takes_goes q.Event may = driver_step_goes (takes_page q.Event)
+      (driver_events.takes_page_keeps (both_of w).device first_cid w.driver w.rings.lists w.rings.driver well.sound well.driver well.driver_puts well.pages
+      (nothing_staged w.rings.driver.staged.tx (second_true _ _ may)) well.device_puts well.queued.rx well.queued.event well.known q.Event)
+
+  device_takes_goes : (queue : Queue) → Goes w (device_step (takes_chain queue) w)
+  device_takes_goes q.Rx = device_step_goes (takes_chain q.Rx)
+      (device_turns.takes_rx (both_of w).driver first_cid w.proxy.next_port w.proxy.device (around w) well.sound well.device well.device_puts well.chain well.known)
+  device_takes_goes q.Event = device_step_goes (takes_chain q.Event)
+      (device_turns.takes_event (both_of w).driver first_cid w.proxy.next_port w.proxy.device (around w) well.sound well.device well.device_puts well.chain well.known)
+  device_takes_goes q.Tx = device_step_goes (takes_chain q.Tx)
+      (device_turns.takes_tx (both_of w).driver first_cid w.proxy.next_port w.proxy.device (around w) well.sound well.device well.device_puts well.chain well.known
+      (held_in packet_held w.rings.driver.staged.tx) tx_tied well.driver_puts well.pages.0)
+
+  at_moment_goes : (now : ℕ) → Goes w (at_moment now w)
+  at_moment_goes now = record {
+    well = record {
+      queued = well.queued;
+      sound = well.sound;
+      driver = well.driver;
+      device = well.device;
+      driver_puts = well.driver_puts;
+      device_puts = well.device_puts;
+      pages = well.pages;
+      chain = well.chain;
+      known = well.known;
+    };
+    runs = stays _ _ refl;
+  }
+
+  host_goes : (host : HostContents) → Goes w (record w { host = host })
+  host_goes host = record {
+    well = record {
+      queued = well.queued;
+      sound = well.sound;
+      driver = well.driver;
+      device = well.device;
+      driver_puts = well.driver_puts;
+      device_puts = well.device_puts;
+      pages = well.pages;
+      chain = well.chain;
+      known = well.known;
+    };
+    runs = stays _ _ refl;
+  }
+
+  guest_cid_fits : (cid : ℕ) → is_guest_cid cid ≡ true → cid < 2 ^ 64
+  guest_cid_fits cid is =
+      let below : nat_le cid 4294967294 ≡ true = second_true (nat_le 3 cid) (nat_le cid 4294967294) is in
+      let less : cid ≤ 4294967294 = grind (arith, nat_tests, below) in omega (arith, less)
+
+  pub happens_goes : (e : Event) → Goes w (happens e w)
+  happens_goes (GuestCalls call) =
+      possible (is_at_rest w.rings.driver.staged && is_right call) (λ v. (call_made call v).0) w well
+      (λ may. driver_goes (makes_call call w.driver) (λ r. r.0) _ w well
+      (driver_events.makes_call_keeps (both_of w).device first_cid w.driver w.rings.lists w.rings.driver well.sound well.driver well.driver_puts well.pages call
+      (second_true _ _ may)))
+  happens_goes (GuestTakes queue) = possible (works_on queue w.rings.driver.staged) (driver_step (takes_page queue)) w well (takes_goes queue)
+  happens_goes (GuestStages queue) =
+      possible (works_on queue w.rings.driver.staged && has_page queue w) (driver_step (stages_page queue)) w well (λ may. driver_step_goes (stages_page queue)
+      (driver_events.stages_page_keeps (both_of w).device first_cid w.driver w.rings.lists w.rings.driver well.sound well.driver well.driver_puts well.pages queue))
+  happens_goes GuestReplies =
+      possible (works_on q.Tx w.rings.driver.staged) (driver_step stages_reply) w well (λ may. driver_step_goes stages_reply
+      (driver_events.stages_reply_keeps (both_of w).device first_cid w.driver w.rings.lists w.rings.driver well.sound well.driver well.driver_puts well.pages))
+  happens_goes (GuestPays slot) =
+      possible (works_on q.Tx w.rings.driver.staged) (driver_step (stages_owed slot)) w well (λ may. driver_step_goes (stages_owed slot)
+      (driver_events.stages_owed_keeps (both_of w).device first_cid w.driver w.rings.lists w.rings.driver well.sound well.driver well.driver_puts well.pages slot))
+  happens_goes (GuestPublishes queue) =
+      possible (works_on queue w.rings.driver.staged) (driver_step (publish_of queue)) w well (λ may. driver_step_goes (publish_of queue)
+      (driver_events.publishes_keeps (both_of w).device first_cid w.driver w.rings.lists w.rings.driver well.sound well.driver well.driver_puts well.pages queue))
+  happens_goes (DeviceTakes queue) = unfailed (has_failed w) (device_step (takes_chain queue)) w refl well (device_takes_goes queue)
+  happens_goes (DeviceReturns chain) =
+      possible (holds q.Tx chain w) (device_step (returns chain)) w well (λ may. device_step_goes (returns chain)
+      (device_turns.returns_tx (both_of w).driver first_cid w.proxy.next_port w.proxy.device (around w) well.sound well.device well.device_puts well.chain well.known
+      chain (queue_is q.Tx chain.queue (first_true _ _ may))))
+  happens_goes (DevicePutsEvent chain) =
+      possible (holds q.Event chain w) (device_step (puts_event chain)) w well (λ may. device_step_goes (puts_event chain)
+      (device_turns.puts_event_keeps (both_of w).driver first_cid w.proxy.next_port w.proxy.device (around w) well.sound well.device well.device_puts well.chain
+      well.known chain (queue_is q.Event chain.queue (first_true _ _ may)) (second_true _ _ may)))
+  happens_goes DeviceReplies = unfailed (has_failed w) (device_step puts_reply) w refl well (device_step_goes puts_reply
+      (device_puts.puts_reply_keeps (both_of w).driver first_cid w.proxy.next_port w.proxy.device (around w) well.sound well.device well.device_puts well.chain well.known))
+  happens_goes (DeviceReads slot) = unfailed (has_failed w) (device_step (puts_payload slot)) w refl well (device_step_goes (puts_payload slot)
+      (device_reads.puts_payload_keeps (both_of w).driver first_cid w.proxy.next_port w.proxy.device (around w) well.sound well.device well.device_puts well.chain well.known slot))
+  happens_goes (DevicePays slot) = unfailed (has_failed w) (device_step (puts_owed slot)) w refl well (device_step_goes (puts_owed slot)
+      (device_puts.puts_owed_keeps (both_of w).driver first_cid w.proxy.next_port w.proxy.device (around w) well.sound well.device well.device_puts well.chain well.known slot))
+  happens_goes (DeviceWrites slot) = unfailed (has_failed w) (device_step (writes slot)) w refl well (device_step_goes (writes slot)
+      (device_streams.writes_keeps (both_of w).driver first_cid w.proxy.next_port w.proxy.device (around w) well.sound well.device well.device_puts well.chain well.known slot))
+  happens_goes (DeviceShutsWrite slot) = unfailed (has_failed w) (device_step (shuts_write slot)) w refl well (device_step_goes (shuts_write slot)
+      (device_streams.shuts_write_keeps (both_of w).driver first_cid w.proxy.next_port w.proxy.device (around w) well.sound well.device well.device_puts well.chain well.known slot))
+  happens_goes ProxyAccepts = unfailed (has_failed w) (proxy_step accept_one) w refl well (proxy_step_goes accept_one
+      (proxy_side.accept_keeps (both_of w).driver first_cid w.proxy (around w) well.sound well.device well.device_puts well.chain well.known))
+  happens_goes (ProxyReads stream) = unfailed (has_failed w) (proxy_step (line_read stream)) w refl well (proxy_step_goes (line_read stream)
+      (proxy_side.line_read_keeps (both_of w).driver first_cid w.proxy (around w) well.sound well.device well.device_puts well.chain well.known stream))
+  happens_goes (Moment now) = possible (nat_le w.proxy.device.now now) (at_moment now) w well (λ may. at_moment_goes now)
+  happens_goes (TimesOut slot) = unfailed (has_failed w) (device_step (tick_slot slot)) w refl well (device_step_goes (tick_slot slot)
+      (device_streams.tick_keeps (both_of w).driver first_cid w.proxy.next_port w.proxy.device (around w) well.sound well.device well.device_puts well.chain well.known slot))
+  happens_goes (HandshakeTimesOut stream) = unfailed (has_failed w) (proxy_step (tick_handshake stream)) w refl well (proxy_step_goes (tick_handshake stream)
+      (proxy_side.handshake_keeps (both_of w).driver first_cid w.proxy (around w) well.sound well.device well.device_puts well.chain well.known stream))
+  happens_goes (Reset cid) = possible (is_guest_cid cid) (reset_made cid) w well (λ may.
+      let k = proxy_resets.reset_keeps (both_of w).driver first_cid w.proxy (around w) well.sound well.device well.device_puts well.chain well.known cid
+      (guest_cid_fits cid may) in
+      device_goes (proxy_reset_of cid w.proxy) (λ r. r.0) w well (k.kept, k.chain, k.cid))
+  happens_goes (HostListens port) = host_goes _
+  happens_goes (HostUnlistens port) = host_goes _
+  happens_goes ClientConnects = host_goes _
+  happens_goes (HostWrites stream bytes) = host_goes _
+  happens_goes (HostTakes stream n) = host_goes _
+  happens_goes (HostEnds stream) = host_goes _
+  happens_goes (HostCloses stream) = host_goes _
+  happens_goes (HostFails n) = host_goes _
