@@ -14,3 +14,5 @@ mod Reading
 mod Held
 mod Verdicts
 mod Takings
+mod EventPaying
+mod Resetting

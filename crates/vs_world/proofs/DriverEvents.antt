@@ -25,12 +25,12 @@ use Rattle.vs_ring_port.specs.declared.queue.Queue.TheVariants.{Rx, Tx, Event}
 use Rattle.vs_matching.specs.Both.{IsSound, Seat}
 use Rattle.vs_matching.specs.Steps.{owed_on, payload_on, reply_on, request_on}
 use Rattle.vs_matching.proofs.Slots.{found_by}
-use Rattle.vs_driver.specs.State.{DriverEntry, DriverState, entry_known_as, is_known_as}
-use Rattle.vs_driver.specs.declared.answers.ConnectError.{ConnectError}
-use Rattle.vs_driver.specs.declared.answers.Sent.{Sent}
-use Rattle.vs_driver.specs.declared.limits.TheConstants.{REPLIES_FULL}
-use Rattle.vs_driver.specs.Connections.{route_to_host, connect_refusal, connected, next_flow, with_end}
-use Rattle.vs_driver.specs.Conversations.{DriverTree, Round, after_paying, connect_with_page, has_page, one_more_in_flight, one_put, owed_bytes, payload_bytes, payload_of, publish_of, put_owed_of, put_reply_of, reap_one, reaped, reply_header, request_bytes, send_with_page, stage_packet, start}
+use Rattle.vs_driver_parts.specs.State.{DriverEntry, DriverState, entry_known_as, is_known_as}
+use Rattle.vs_driver_parts.specs.declared.answers.ConnectError.{ConnectError}
+use Rattle.vs_driver_parts.specs.declared.answers.Sent.{Sent}
+use Rattle.vs_driver_parts.specs.declared.limits.TheConstants.{REPLIES_FULL}
+use Rattle.vs_driver_parts.specs.Connections.{route_to_host, connect_refusal, connected, next_flow, with_end}
+use Rattle.vs_driver_parts.specs.Conversations.{DriverTree, Round, after_paying, connect_with_page, has_page, one_more_in_flight, one_put, owed_bytes, payload_bytes, payload_of, publish_of, put_owed_of, put_reply_of, reap_one, reaped, reply_header, request_bytes, send_with_page, stage_packet, start}
 use Rattle.vs_world.specs.GuestSteps.{connects, sends, sends_on, sends_with_credit, stages_owed, stages_page, stages_reply, takes_page}
 use Rattle.vs_world.specs.Pages.{AllHold, TxHolds}
 use Rattle.vs_header.specs.declared.Header.{Header}
@@ -53,7 +53,7 @@ use Rattle.vs_conn.specs.End.{with_payload_sent}
 use Rattle.std.proofs.Common.{IsOkAnd}
 use Rattle.vs_world.specs.Calls.{GuestCall, Connect, Listen, Unlisten, Accept, Send, Recv, Shutdown, Close, LookAt, is_right}
 use Rattle.vs_world.specs.GuestSteps.{makes_call}
-use Rattle.vs_driver.specs.Receiving.{after_reset, on_packet}
+use Rattle.vs_driver_parts.specs.Receiving.{after_reset, on_packet}
 use Rattle.std.proofs.Common.{append_assoc}
 use Rattle.vs_world.specs.GuestSteps.{event_came, packet_came}
 

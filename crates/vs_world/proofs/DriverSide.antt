@@ -17,12 +17,12 @@ use Rattle.vs_matching.specs.Ends.{Ends, FlowEnd, entries_of, replaced}
 use Rattle.vs_matching.specs.Steps.{HasEnd, left, paid, with_end, owed_on, payload_on, reply_on}
 use Rattle.vs_matching.proofs.Slots.{changed_slot, found_by, one_end, removed_slot}
 use Rattle.vs_matching.proofs.Tables.{driver_begun}
-use Rattle.vs_driver.specs.State.{DriverConnection, DriverEntry, DriverState, GoneConnection, entry_known_as, gone_known_as, is_known_as}
-use Rattle.vs_driver.specs.declared.limits.TheConstants.{LAST_PORT, SLOTS}
-use Rattle.vs_driver.specs.Connections.{after_close, after_closing, after_leaving, after_read, after_recv, after_shut, after_shutdown, entry_closed, entry_read, gone_closed, is_let_go, gone_as, paid_connection, shut_in, waits_no_more, with_connection}
-use Rattle.vs_driver.specs.Connections.{all_gone_after_read, without_gone}
-use Rattle.vs_driver.specs.Conversations.{after_paying}
-use Rattle.vs_driver.specs.Listening.{with_waiting, without_id}
+use Rattle.vs_driver_parts.specs.State.{DriverConnection, DriverEntry, DriverState, GoneConnection, entry_known_as, gone_known_as, is_known_as}
+use Rattle.vs_driver_parts.specs.declared.limits.TheConstants.{LAST_PORT, SLOTS}
+use Rattle.vs_driver_parts.specs.Connections.{after_close, after_closing, after_leaving, after_read, after_recv, after_shut, after_shutdown, entry_closed, entry_read, gone_closed, is_let_go, gone_as, paid_connection, shut_in, waits_no_more, with_connection}
+use Rattle.vs_driver_parts.specs.Connections.{all_gone_after_read, without_gone}
+use Rattle.vs_driver_parts.specs.Conversations.{after_paying}
+use Rattle.vs_driver_parts.specs.Listening.{with_waiting, without_id}
 use Rattle.vs_credit.specs.Credit.{unread_of}
 use Rattle.vs_matching.specs.Heard.{route_of}
 use Rattle.vs_world.specs.Sides.{Runs, driver_ends, flow_to_host}

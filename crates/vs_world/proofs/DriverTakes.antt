@@ -25,17 +25,17 @@ use Rattle.vs_matching.specs.Ends.{Ends, FlowEnd, ends_of, entries_of, replaced}
 use Rattle.vs_matching.specs.Steps.{left, with_end, request_on, refused, taken}
 use Rattle.vs_matching.proofs.Both.{driver_accepts}
 use Rattle.vs_matching.proofs.Slots.{added_slot, changed_slot, found_by, no_entry, one_end}
-use Rattle.vs_driver.specs.State.{DriverConnection, DriverEntry, DriverState, GoneConnection}
-use Rattle.vs_driver.specs.declared.limits.TheConstants.{LAST_ID, LAST_PORT, SLOTS}
-use Rattle.vs_driver.specs.Connections.{connect_refusal, connected, is_full, is_spent, next_flow, waits_no_more, with_connection, with_opened, with_request}
-use Rattle.vs_driver.specs.Receiving.{after_verdict, ends_connection, is_request as asks, may_open, on_known, on_packet, on_unknown, with_reply}
-use Rattle.vs_driver.proofs.Delivers.{delivers, named_rw}
+use Rattle.vs_driver_parts.specs.State.{DriverConnection, DriverEntry, DriverState, GoneConnection}
+use Rattle.vs_driver_parts.specs.declared.limits.TheConstants.{LAST_ID, LAST_PORT, SLOTS}
+use Rattle.vs_driver_parts.specs.Connections.{connect_refusal, connected, is_full, is_spent, next_flow, waits_no_more, with_connection, with_opened, with_request}
+use Rattle.vs_driver_parts.specs.Receiving.{after_verdict, ends_connection, is_request as asks, may_open, on_known, on_packet, on_unknown, with_reply}
+use Rattle.vs_driver_parts.proofs.Delivers.{delivers, named_rw}
 use Rattle.vs_header.specs.Op.{op_named}
 use Rattle.vs_header.specs.declared.Op.TheVariants as op
 use Rattle.vs_history.specs.Packets.{is_rw}
 use Rattle.std.proofs.Common.{length-append}
 use Rattle.std.proofs.lemmas.List.{map-append}
-use Rattle.vs_driver.proofs.Packets.{packet_known, packet_unknown}
+use Rattle.vs_driver_parts.proofs.Packets.{packet_known, packet_unknown}
 use Rattle.vs_world.specs.Sides.{driver_ends, flow_to_host}
 use Rattle.vs_world.proofs.DriverSide.{DriverHolds, Holds, Kept, ReplyFits, end_in, entry_fits, held_in, holds_changed, left_broken, left_ends, left_holds, seated}
 use Rattle.vs_world.proofs.Entries.{FlowFits, fits_with_entry}

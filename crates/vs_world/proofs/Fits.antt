@@ -15,7 +15,7 @@ use Rattle.vs_header.specs.declared.Header.{Header}
 use Rattle.vs_header.specs.declared.Op.{Op}
 use Rattle.vs_header.specs.declared.Op.TheVariants as op
 use Rattle.vs_history.specs.declared.TheConstants.{BUF_ALLOC}
-use Rattle.vs_driver.proofs.Delivers.{delivers}
+use Rattle.vs_driver_parts.proofs.Delivers.{delivers}
 use Rattle.vs_page.specs.Held.{FitsWire, packet_held, packet_with, payload_held}
 use Rattle.std.specs.Option.{option_map}
 

@@ -5,17 +5,17 @@ use Rattle.vs_conn.specs.End.{may_send_of, wanting_credit}
 use Rattle.vs_ring_port.specs.declared.queue.Queue.{Queue}
 use Rattle.vs_ring_port.specs.declared.queue.Queue.TheVariants.{Rx, Tx, Event}
 use Rattle.vs_ring_port.specs.DriverCalls.{Reap}
-use Rattle.vs_driver.specs.declared.answers.ConnectError.{ConnectError}
-use Rattle.vs_driver.specs.declared.answers.Received.{Received}
-use Rattle.vs_driver.specs.declared.answers.Received.TheVariants as got
-use Rattle.vs_driver.specs.declared.answers.Sent.{Sent}
-use Rattle.vs_driver.specs.declared.answers.Sent.TheVariants as sent
-use Rattle.vs_driver.specs.declared.limits.TheConstants.{REPLIES_FULL}
-use Rattle.vs_driver.specs.State.{DriverState, DriverEntry, entry_known_as}
-use Rattle.vs_driver.specs.Conversations.{DriverTree, start, event_taken, reap_one, stage_of, put_reply, put_owed, connect_with_page, send_with_page, payload_of, no_credit, send_stopped, not_sent}
-use Rattle.vs_driver.specs.Connections.{connect_refusal, with_end, recv_of, unread_of_id, after_recv, shutdown_of, after_shutdown, close_of, after_close, after_unlisten, state_of, flow_of, next_flow}
-use Rattle.vs_driver.specs.Listening.{listener_on, listen_of, listening, accept_of, after_accept}
-use Rattle.vs_driver.specs.Receiving.{on_page}
+use Rattle.vs_driver_parts.specs.declared.answers.ConnectError.{ConnectError}
+use Rattle.vs_driver_parts.specs.declared.answers.Received.{Received}
+use Rattle.vs_driver_parts.specs.declared.answers.Received.TheVariants as got
+use Rattle.vs_driver_parts.specs.declared.answers.Sent.{Sent}
+use Rattle.vs_driver_parts.specs.declared.answers.Sent.TheVariants as sent
+use Rattle.vs_driver_parts.specs.declared.limits.TheConstants.{REPLIES_FULL}
+use Rattle.vs_driver_parts.specs.State.{DriverState, DriverEntry, entry_known_as}
+use Rattle.vs_driver_parts.specs.Conversations.{DriverTree, start, event_taken, reap_one, stage_of, put_reply, put_owed, connect_with_page, send_with_page, payload_of, no_credit, send_stopped, not_sent}
+use Rattle.vs_driver_parts.specs.Connections.{connect_refusal, with_end, recv_of, unread_of_id, after_recv, shutdown_of, after_shutdown, close_of, after_close, after_unlisten, state_of, flow_of, next_flow}
+use Rattle.vs_driver_parts.specs.Listening.{listener_on, listen_of, listening, accept_of, after_accept}
+use Rattle.vs_driver_parts.specs.Receiving.{on_page}
 use Rattle.vs_flow.specs.declared.flow.Flow.{Flow}
 use Rattle.vs_world.specs.Calls.{GuestCall, ReplyTo, Connect, Listen, Unlisten, Accept, Send, Recv, Shutdown, Close, LookAt}
 

@@ -2,13 +2,13 @@
 use Rattle.std.specs.Prelude.{true, false, List, [], ◌∷◌, Some, Ok, Err, codes}
 use Rattle.vs_outside.specs.HostProgram.{new_host, plain}
 use Rattle.vs_outside.specs.declared.mem_stream.HostWritten.TheVariants as written
-use Rattle.vs_driver.specs.declared.answers.ListenError.TheVariants as listen_error
-use Rattle.vs_driver.specs.declared.answers.Accepted.TheVariants as accepted
-use Rattle.vs_driver.specs.declared.answers.Sent.TheVariants as sent
-use Rattle.vs_driver.specs.declared.answers.Received.TheVariants as received
-use Rattle.vs_driver.specs.declared.answers.Shut.TheVariants as shut
-use Rattle.vs_driver.specs.declared.answers.Closed.TheVariants as closed
-use Rattle.vs_driver.specs.declared.answers.ConnectionState.TheVariants as seen
+use Rattle.vs_driver_parts.specs.declared.answers.ListenError.TheVariants as listen_error
+use Rattle.vs_driver_parts.specs.declared.answers.Accepted.TheVariants as accepted
+use Rattle.vs_driver_parts.specs.declared.answers.Sent.TheVariants as sent
+use Rattle.vs_driver_parts.specs.declared.answers.Received.TheVariants as received
+use Rattle.vs_driver_parts.specs.declared.answers.Shut.TheVariants as shut
+use Rattle.vs_driver_parts.specs.declared.answers.Closed.TheVariants as closed
+use Rattle.vs_driver_parts.specs.declared.answers.ConnectionState.TheVariants as seen
 use Rattle.vs_proxy.specs.declared.answers.Turn.TheVariants as turn
 use Rattle.vs_world.specs.Calls.{Connect, Listen, Accept, Send, Recv, Shutdown, Close, LookAt}
 use Rattle.vs_world.specs.Plays.{Line, Guest, Poll, TurnAt, ResetTo, Client, HostListen, HostWrite, HostFail, Said, Replied, HasPolled, HasTurned, WasReset, StreamIs, Wrote, IsThere, Report}

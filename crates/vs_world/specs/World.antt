@@ -4,9 +4,9 @@ use Rattle.vs_contents.specs.CallTree.{played}
 use Rattle.vs_ring_port.specs.DriverCalls.{driver_answer}
 use Rattle.vs_ring_list.specs.Ends.{Ends, empty_ends}
 use Rattle.vs_outside.specs.Host.{HostContents}
-use Rattle.vs_driver.specs.State.{DriverState}
-use Rattle.vs_driver.specs.Conversations.{DriverTree, new_of}
-use Rattle.vs_driver.specs.declared.limits.TheConstants.{FIRST_PORT}
+use Rattle.vs_driver_parts.specs.State.{DriverState}
+use Rattle.vs_driver_parts.specs.Conversations.{DriverTree, new_of}
+use Rattle.vs_driver_parts.specs.declared.limits.TheConstants.{FIRST_PORT}
 use Rattle.vs_device.specs.Calls.{DeviceTree}
 use Rattle.vs_proxy.specs.State.{ProxyState}
 use Rattle.vs_proxy.specs.Turns.{new_proxy}

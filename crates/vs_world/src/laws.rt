@@ -2,7 +2,7 @@
 
 ghost use Rattle.std.specs.Prelude.{◌≡◌, ℕ, ◌||◌, false, List, [], ◌∷◌};
 ghost use Rattle.vs_conn.specs.End.{ConnectionEnd, is_refused, verdict_of};
-ghost use Rattle.vs_driver.specs.declared.limits.TheConstants.{FIRST_PORT};
+ghost use Rattle.vs_driver_parts.specs.declared.limits.TheConstants.{FIRST_PORT};
 ghost use Rattle.vs_flow.specs.declared.flow.Flow.{Flow};
 ghost use Rattle.vs_flow.specs.declared.flow.TheConstants.{ASSIGNED_FIRST};
 ghost use Rattle.vs_history.specs.declared.packet.Packet.{Packet};

@@ -1,6 +1,6 @@
 use Rattle.std.proofs.Common.{◌≡◌, false, subst}
 use Rattle.vs_conn.specs.End.{is_refused, verdict_of}
-use Rattle.vs_driver.specs.declared.limits.TheConstants.{FIRST_PORT}
+use Rattle.vs_driver_parts.specs.declared.limits.TheConstants.{FIRST_PORT}
 use Rattle.vs_flow.specs.declared.flow.TheConstants.{ASSIGNED_FIRST}
 use Rattle.vs_matching.specs.Both.{Both}
 use Rattle.vs_matching.specs.Steps.{HasEnd}
