@@ -1,17 +1,16 @@
 -- What the steps on the ring's pages come to.
-use Rattle.std.proofs.Common.{◌≡◌, ◌≢◌, ℕ, suc, ◌<◌, ◌≤◌, ◌+◌, ◌-◌, ◌==◌, Bool, true, false, cond, List, [], ◌∷◌, ◌++◌, length, Option, Some, None, refl, sym, ap, ◌∙◌, subst, arith}
+use Rattle.std.proofs.Common.{◌≡◌, ◌≢◌, ℕ, ◌+◌, ◌-◌, ◌==◌, true, false, List, Some, None, refl, sym, ap, subst, arith}
 use Rattle.std.proofs.lemmas.Bool.Decides.{nat_tests}
-use Rattle.vs_contents.specs.CallTree.{CallTree, Done, Ask, bind, Leads}
-use Rattle.vs_contents.specs.CallTree.{MayPlay}
+use Rattle.vs_contents.specs.CallTree.{Done, Ask}
 use Rattle.vs_contents.proofs.Leads.{leads_of}
 use Rattle.vs_contents.proofs.Conditions.{may_of}
 use Rattle.vs_ring_port.specs.declared.queue.Queue.{Queue}
 use Rattle.vs_ring_port.specs.declared.queue.Queue.TheVariants.{Tx}
 use Rattle.vs_ring_port.specs.declared.queue.TheConstants.{STAGED_MAX}
 use Rattle.vs_ring_port.specs.Contents.{RingContents}
-use Rattle.vs_ring_port.specs.DriverCalls.{DriverCall, DriverAnswer, Stage, Publish, Reap, CanPublish, DriverAllows}
+use Rattle.vs_ring_port.specs.DriverCalls.{Stage, Publish, Reap, CanPublish, DriverAllows}
 use Rattle.vs_driver_parts.specs.State.{DriverState}
-use Rattle.vs_driver_parts.specs.Conversations.{DriverTree, reap_one, reaped, stage_of, after_stage, publish_of, post_packet, stage_packet, one_more_in_flight}
+use Rattle.vs_driver_parts.specs.Conversations.{reap_one, reaped, stage_of, after_stage, post_packet, stage_packet, one_more_in_flight}
 use Rattle.vs_driver_parts.specs.Playing.{CanMake, MayPublishAll, Plays, RingAllows}
 
 reap_asks : (g : DriverState) → g.in_flight ≢ 0 → reap_one g ≡ Ask (Reap Tx) (λ page. Done (reaped g page))

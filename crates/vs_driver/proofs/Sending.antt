@@ -1,26 +1,23 @@
 -- What send comes to in each case.
-use Rattle.std.proofs.Common.{◌≡◌, ◌≢◌, ℕ, ◌==◌, ◌≤◌, Bool, true, false, cond, List, length, min, take, Option, Some, None, Result, Ok, Err, is_some, refl, sym, ap, subst, ◌∙◌, arith}
+use Rattle.std.proofs.Common.{◌≡◌, ℕ, ◌==◌, Bool, true, false, cond, List, length, Option, Some, None, Ok, Err, is_some, refl, sym, ap, subst, ◌∙◌}
 use Rattle.std.specs.Option.{IfSome}
-use Rattle.std.proofs.lemmas.Bool.Decides.{nat_tests}
-use Rattle.vs_contents.specs.CallTree.{Done, Ask, bind, Leads}
+use Rattle.vs_contents.specs.CallTree.{Done, bind}
 use Rattle.vs_contents.proofs.Leads.{leads_of, leads_bind}
 use Rattle.vs_contents.proofs.Conditions.{may_first, may_rest, may_of}
 use Rattle.vs_conn.specs.End.{ConnectionEnd, may_send_of, state_may_send, with_payload_sent}
 use Rattle.vs_conn.specs.declared.end.State.{State}
 use Rattle.vs_conn.specs.declared.end.State.TheVariants as state
-use Rattle.vs_conn.specs.declared.end.Stop.{Stop}
 use Rattle.vs_conn.specs.declared.end.Stop.TheVariants as stop
 use Rattle.vs_credit.specs.Credit.{free_of}
 use Rattle.vs_flow.specs.Table.{Table, entry_under, value_under}
 use Rattle.vs_ring_port.specs.Counts.{Counts}
 use Rattle.vs_ring_port.specs.Contents.{RingContents}
-use Rattle.vs_ring_port.specs.DriverCalls.{DriverAllows}
 use Rattle.vs_driver_parts.specs.declared.answers.Sent.{Sent}
 use Rattle.vs_driver_parts.specs.declared.answers.Sent.TheVariants as sent
 use Rattle.vs_driver_parts.specs.State.{DriverConnection, DriverEntry, DriverState, entry_known_as}
 use Rattle.vs_driver_parts.specs.Connections.{with_end}
 use Rattle.vs_driver_parts.specs.Conversations.{DriverTree, send_of, send_on, send_with_credit, send_with_page, payload_of, payload_bytes, post_packet, reap_all, has_page}
-use Rattle.vs_driver_parts.specs.Playing.{CanMake, MayPublishAll, Plays, IsRingOf, all_flown, RingAllows}
+use Rattle.vs_driver_parts.specs.Playing.{CanMake, MayPublishAll, Plays, IsRingOf, RingAllows}
 use Rattle.vs_driver_parts.proofs.Ids.{value_of}
 
 -- a ring stays the driver's where its pages stay

@@ -1,6 +1,6 @@
 -- What connect and send leave, for each answer.
 use Rattle.std.specs.Prelude.{◌≡◌, ℕ, ◌==◌, ◌≤◌, Bool, true, false, List, length, min, Option, Some, None, Result, Ok, Err}
-use Rattle.vs_conn.specs.End.{ConnectionEnd, may_send_of, with_payload_sent, wanting_credit}
+use Rattle.vs_conn.specs.End.{may_send_of, with_payload_sent, wanting_credit}
 use Rattle.vs_driver_parts.specs.declared.answers.ConnectError.{ConnectError}
 use Rattle.vs_driver_parts.specs.declared.answers.ConnectError.TheVariants as refused
 use Rattle.vs_conn.specs.declared.end.Stop.{Stop}

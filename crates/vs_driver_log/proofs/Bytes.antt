@@ -1,5 +1,5 @@
 -- The packet that the bytes of a header and a payload hold.
-use Rattle.std.proofs.Common.{◌≡◌, ℕ, ◌+◌, ◌<◌, ◌≤◌, ◌^◌, ◌==◌, nat_le, Bool, true, false, cond, List, [], ◌∷◌, ◌++◌, length, take, drop, Option, Some, None, refl, sym, ap, subst, ◌∙◌, arith, length-append, if◌then◌else◌}
+use Rattle.std.proofs.Common.{◌≡◌, ℕ, ◌+◌, ◌<◌, ◌≤◌, ◌^◌, nat_le, Bool, true, false, cond, List, [], ◌++◌, length, take, Option, Some, None, refl, sym, ap, subst, ◌∙◌, arith, length-append}
 use Rattle.std.proofs.lemmas.Bool.{le-leb}
 use Rattle.std.proofs.lemmas.List.{take_at, drop_at, append-nil, take_all}
 use Rattle.std.specs.Option.{option_map}
@@ -13,8 +13,8 @@ use Rattle.vs_header.proofs.RoundTrip.{header_of-header_bytes}
 use Rattle.vs_history.specs.declared.packet.Packet.{Packet}
 use Rattle.vs_flow.specs.declared.flow.Flow.{Flow}
 use Rattle.vs_page.specs.Held.{FitsWire, packet_held, packet_with, payload_held}
-use Rattle.vs_conn.specs.End.{ConnectionEnd, live_owes, owes_of, state_owes, owes_update}
-use Rattle.vs_conn.specs.Headers.{header_from, owed_flags, owed_header, payload_header, reset_header}
+use Rattle.vs_conn.specs.End.{ConnectionEnd, owes_of, state_owes, owes_update}
+use Rattle.vs_conn.specs.Headers.{header_from, owed_flags, reset_header}
 use Rattle.vs_conn.specs.Shut.{bits_of, is_both, is_within}
 use Rattle.vs_conn.specs.declared.end.Owed.{Owed}
 use Rattle.vs_conn.specs.declared.end.Owed.TheVariants as owed

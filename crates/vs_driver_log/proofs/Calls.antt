@@ -1,22 +1,17 @@
 -- What each call of the driver keeps over an honest ring.
-use Rattle.std.proofs.Common.{◌≡◌, ℕ, ◌+◌, ◌-◌, ◌<◌, ◌≤◌, ◌^◌, ◌==◌, Bool, true, false, cond, min, take, List, [], ◌∷◌, ◌++◌, length, Option, Some, None, Result, Ok, Err, refl, sym, ap, subst, ◌∙◌, arith, length-take}
-use Rattle.std.specs.List.{All}
+use Rattle.std.proofs.Common.{◌≡◌, ℕ, ◌+◌, ◌<◌, ◌≤◌, ◌^◌, ◌==◌, Bool, true, false, cond, min, List, [], length, Option, Some, None, Result, Ok, Err, refl, sym, ap, subst, ◌∙◌, arith, length-take}
 use Rattle.std.specs.Prelude.{IsOkAnd}
-use Rattle.std.specs.Option.{ForSome}
-use Rattle.std.proofs.lemmas.Bool.Decides.{nat_tests}
-use Rattle.std.proofs.lemmas.List.Elements.{All-nil}
-use Rattle.vs_contents.specs.CallTree.{CallTree, Done, Ask, bind, while_up_to}
+use Rattle.vs_contents.specs.CallTree.{Done, Ask, bind}
 use Rattle.vs_conn.specs.End.{CanSend, may_send_of, wanting_credit, with_payload_sent}
 use Rattle.vs_conn.specs.declared.end.Stop.{Stop}
 use Rattle.vs_flow.specs.Table.{IsTable}
-use Rattle.vs_page.specs.Fair.{IsFairLog}
 use Rattle.vs_page.specs.Log.{Driver, Log}
 use Rattle.vs_page.specs.declared.page.TheConstants.{PAYLOAD_MAX}
 use Rattle.vs_ring_port.specs.declared.queue.Queue.{Queue}
 use Rattle.vs_ring_port.specs.declared.queue.Queue.TheVariants.{Rx, Tx, Event}
 use Rattle.vs_ring_port.specs.declared.queue.TheConstants.{STAGED_MAX}
 use Rattle.vs_ring_port.specs.Contents.{RingContents}
-use Rattle.vs_ring_port.specs.DriverCalls.{Stage, Publish, Reap, LoadCid, CanPublish}
+use Rattle.vs_ring_port.specs.DriverCalls.{Publish}
 use Rattle.vs_ring_port.specs.EndLog.{EndLog, entries_marked, log_loaded, log_published, log_staged}
 use Rattle.vs_matching.proofs.Keeps.{start_matches}
 use Rattle.vs_driver_parts.specs.declared.answers.ConnectError.{ConnectError}
@@ -24,15 +19,15 @@ use Rattle.vs_driver_parts.specs.declared.answers.ConnectError.TheVariants as re
 use Rattle.vs_driver_parts.specs.declared.answers.Polled.{Polled}
 use Rattle.vs_driver_parts.specs.declared.answers.Sent.{Sent}
 use Rattle.vs_driver_parts.specs.declared.answers.Sent.TheVariants as sent
-use Rattle.vs_driver_parts.specs.declared.limits.TheConstants.{LAST_PORT, SLOTS}
+use Rattle.vs_driver_parts.specs.declared.limits.TheConstants.{LAST_PORT}
 use Rattle.vs_driver_parts.specs.State.{DriverEntry, DriverState, entry_known_as}
 use Rattle.vs_driver_parts.specs.Connections.{connect_refusal, connected}
 use Rattle.vs_driver_parts.specs.Connections as connections
-use Rattle.vs_driver_parts.specs.Conversations.{DriverTree, connect_of, connect_with_page, has_page, load_cid, new_of, new_state, no_credit, not_sent, one_more_in_flight, payload_bytes, payload_of, poll_of, post_all, post_events, post_one, post_packet, posts, publish_of, reap_all, request_bytes, send_of, send_on, send_stopped, send_with_credit, send_with_page, stage_of}
-use Rattle.vs_driver_parts.specs.Playing.{MayPublishAll, Plays, RingAllows}
+use Rattle.vs_driver_parts.specs.Conversations.{connect_of, connect_with_page, has_page, load_cid, new_of, new_state, no_credit, not_sent, one_more_in_flight, payload_bytes, payload_of, poll_of, post_all, post_events, post_one, post_packet, posts, publish_of, reap_all, request_bytes, send_of, send_on, send_stopped, send_with_credit, send_with_page, stage_of}
+use Rattle.vs_driver_parts.specs.Playing.{MayPublishAll, Plays}
 use Rattle.vs_driver_log.specs.Honest.{AgreesWith, IsFitState, IsFresh, IsHonestWith, ends_of_state}
 use Rattle.vs_driver_log.proofs.Keeping.{Keeps, keeps_bind, keeps_end, keeps_may, keeps_weaker, keeps_while}
-use Rattle.vs_driver_log.proofs.Ringing.{IsAtRest, IsLeft, Puts, Tells, agrees, at_rest, can_publish_other, moves, tells_weaker}
+use Rattle.vs_driver_log.proofs.Ringing.{IsAtRest, IsLeft, Tells, agrees, at_rest, can_publish_other, moves, tells_weaker}
 use Rattle.vs_driver_log.proofs.Staging.{Rests, SameBut, post_tx, reap_keeps}
 use Rattle.vs_driver_log.proofs.Putting.{connect_puts, send_puts}
 use Rattle.vs_driver_log.proofs.Polling.{not_tx_event, not_tx_rx, poll_keeps}

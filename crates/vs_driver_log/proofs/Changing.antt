@@ -1,7 +1,6 @@
 -- Calls that make no use of the ring: the driver still matches its log.
-use Rattle.std.proofs.Common.{◌≡◌, ℕ, ◌+◌, ◌<◌, ◌≤◌, ◌==◌, Bool, true, false, cond, min, List, [], ◌∷◌, ◌++◌, length, Option, Some, None, refl, sym, ap, subst, ◌∙◌, arith}
-use Rattle.std.specs.List.{find}
-use Rattle.vs_conn.specs.End.{ConnectionEnd, aborted, wanting_credit, with_payload_forwarded, with_shut}
+use Rattle.std.proofs.Common.{◌≡◌, ℕ, ◌≤◌, ◌==◌, Bool, true, false, cond, min, List, [], ◌∷◌, length, Option, Some, None, refl, sym, subst, ◌∙◌, arith}
+use Rattle.vs_conn.specs.End.{ConnectionEnd, wanting_credit}
 use Rattle.vs_conn.specs.Follows.{Follows}
 use Rattle.vs_conn.specs.declared.end.State.{State}
 use Rattle.vs_conn.specs.declared.end.State.TheVariants as state
@@ -12,7 +11,6 @@ use Rattle.vs_page.specs.Log.{Driver, Log, side_of}
 use Rattle.vs_matching.specs.Ends.{Ends}
 use Rattle.vs_matching.specs.Heard.{heard_of}
 use Rattle.vs_matching.specs.Matches.{Matches}
-use Rattle.vs_matching.specs.Steps.{with_end}
 use Rattle.vs_matching.proofs.Keeps.{changes}
 use Rattle.vs_matching.proofs.Slots.{found_by}
 use Rattle.vs_matching.proofs.Tables.{driver_begun}

@@ -1,20 +1,16 @@
 -- The buffer of a connection holds what its end counts as unread, whatever the end does.
-use Rattle.std.proofs.Common.{◌≡◌, ℕ, ◌+◌, ◌-◌, ◌<◌, ◌≤◌, ◌^◌, ◌%◌, ◌==◌, Bool, true, false, cond, min, List, [], ◌∷◌, ◌++◌, length, drop, Option, Some, None, refl, sym, ap, subst, ◌∙◌, arith, length-append, length-drop, eq-eqb}
-use Rattle.std.proofs.lemmas.Grind.{common_steps}
-use Rattle.std.proofs.lemmas.Bool.Decides.{nat_tests}
-use Rattle.vs_buffer.specs.Fifo.{Fifo}
+use Rattle.std.proofs.Common.{◌≡◌, ℕ, ◌+◌, ◌-◌, ◌<◌, ◌≤◌, ◌^◌, Bool, true, false, cond, min, List, [], ◌++◌, length, drop, Option, Some, None, refl, sym, ap, subst, ◌∙◌, arith, length-append, length-drop, eq-eqb}
 use Rattle.vs_wrap.specs.Wrap.{difference32, sum32}
-use Rattle.vs_credit.specs.Credit.{unread_of, room_of, with_taken, with_forwarded, with_heard, with_sent}
+use Rattle.vs_credit.specs.Credit.{room_of, with_taken, with_forwarded, with_heard}
 use Rattle.vs_credit.specs.declared.Credit.{Credit}
 use Rattle.vs_history.specs.declared.TheConstants.{BUF_ALLOC}
 use Rattle.vs_history.specs.declared.packet.Packet.{Packet}
-use Rattle.vs_history.specs.Packets.{is_rw, size}
 use Rattle.vs_header.specs.declared.Header.{Header}
 use Rattle.vs_header.specs.declared.Op.{Op}
 use Rattle.vs_header.specs.declared.Op.TheVariants as op
 use Rattle.vs_header.specs.Op.{op_named}
 use Rattle.vs_page.specs.Held.{IsWhole}
-use Rattle.vs_conn.specs.End.{ConnectionEnd, after_op, after_message, end_after, verdict_of, with_payload_forwarded, with_shut, shut_credit, all_forwarded, paid_of, wanting_credit, with_payload_sent, aborted}
+use Rattle.vs_conn.specs.End.{ConnectionEnd, after_op, after_message, end_after, verdict_of, all_forwarded, with_payload_sent}
 use Rattle.vs_conn.specs.Shut.{joined, shut_of}
 use Rattle.vs_conn.specs.declared.end.Owed.{Owed}
 use Rattle.vs_conn.specs.declared.end.Owed.TheVariants as owed
@@ -24,9 +20,9 @@ use Rattle.vs_conn.specs.declared.end.Verdict.{Verdict}
 use Rattle.vs_conn.specs.declared.end.Verdict.TheVariants as verdict
 use Rattle.vs_driver_parts.specs.Room.{HasRoom}
 use Rattle.vs_driver_parts.specs.State.{DriverConnection}
-use Rattle.vs_driver_parts.specs.Connections.{after_read, after_shut, after_closing, kept_unread, paid_connection}
+use Rattle.vs_driver_parts.specs.Connections.{after_read, after_shut, after_closing, paid_connection}
 use Rattle.vs_driver_parts.specs.Receiving.{after_packet}
-use Rattle.vs_driver_parts.proofs.Delivers.{IsDelivered, delivers, named_rw}
+use Rattle.vs_driver_parts.proofs.Delivers.{delivers, named_rw}
 
 -- A buffer of BUF_ALLOC bytes with these.
 abbrev pub Holds : Credit → List ℕ → Type 0

@@ -1,10 +1,7 @@
 -- The table that is shown, and the log; the answers of the driver's ring, and of any.
-use Rattle.std.proofs.Common.{◌≡◌, ℕ, Bool, List, [], ◌∷◌, ◌++◌, map, refl, sym, ap, ◌∙◌}
-use Rattle.vs_contents.specs.CallTree.{CallTree, Done, Ask, Leads}
-use Rattle.vs_conn.specs.declared.end.State.{State}
+use Rattle.std.proofs.Common.{◌≡◌, ℕ, List, [], ◌∷◌, map, refl, sym, ap, ◌∙◌}
+use Rattle.vs_contents.specs.CallTree.{Done, Ask, Leads}
 use Rattle.vs_flow.specs.declared.flow.Flow.{Flow}
-use Rattle.vs_page.specs.Log.{Driver}
-use Rattle.vs_page.specs.Open.{is_open}
 use Rattle.vs_ring_port.specs.Contents.{RingContents}
 use Rattle.vs_ring_port.specs.DriverCalls.{DriverCall, DriverAnswer, Stage, Publish, Reap, LoadCid, DriverAllows}
 use Rattle.vs_ring_port.specs.EndLog.{EndLog}
@@ -14,7 +11,7 @@ use Rattle.vs_driver_parts.specs.State.{DriverEntry, DriverState}
 use Rattle.vs_driver_parts.specs.Connections.{table_shown}
 use Rattle.vs_driver_parts.specs.Conversations.{DriverTree}
 use Rattle.vs_driver_parts.specs.Playing.{Plays, RingAllows}
-use Rattle.vs_driver_log.specs.Honest.{AgreesWith, IsLeftOpen, ends_of_state, flows_shown, reply_flows}
+use Rattle.vs_driver_log.specs.Honest.{AgreesWith, IsLeftOpen, ends_of_state, flows_shown}
 
 same_flows : (es : List DriverEntry)
     → flows_shown (map (λ e. (e.flow, e.value.end.state)) es) ≡ flows_of (map (λ e. let x : FlowEnd = record { flow = e.flow; end = e.value.end } in x) es)
@@ -33,3 +30,13 @@ ring_allows LoadCid a c d allowed = allowed.1
 pub any_ring : {A : Type 0} (tree : DriverTree A) (c d : RingContents) (x : A) → Plays tree c x d → Leads DriverAllows tree c x d
 any_ring (Done y) c d x plays = plays
 any_ring (Ask call next) c d x plays = (plays.0, plays.1, ring_allows call plays.0 c plays.1 plays.2, any_ring (next plays.0) plays.1 d x plays.3)
+
+one_other : (call : DriverCall) (a : DriverAnswer call) (c d : RingContents) → RingAllows call a c d → d.other ≡ c.other
+one_other (Stage queue page) a c d allowed = allowed.other
+one_other (Publish queue) a c d allowed = allowed.1.other
+one_other (Reap queue) a c d allowed = allowed.1.other
+one_other LoadCid a c d allowed = allowed.1.other
+
+pub other_stays : {A : Type 0} (tree : DriverTree A) (c d : RingContents) (x : A) → Plays tree c x d → d.other ≡ c.other
+other_stays (Done y) c d x plays = ap (λ (r : RingContents). r.other) (sym plays.1)
+other_stays (Ask call next) c d x plays = other_stays (next plays.0) plays.1 d x plays.3 ∙ one_other call plays.0 c plays.1 plays.2

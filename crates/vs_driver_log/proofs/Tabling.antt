@@ -1,22 +1,19 @@
 -- What steps on the table do to the driver's numbers, and to its connections as ends.
-use Rattle.std.proofs.Common.{◌≡◌, ◌≢◌, ℕ, ◌+◌, ◌<◌, ◌≤◌, ◌^◌, ◌==◌, Bool, true, false, cond, not, List, [], ◌∷◌, ◌++◌, length, map, get_or, Option, Some, None, refl, sym, ap, subst, ◌∙◌, arith, eq-eqb}
-use Rattle.std.specs.List.{All, filter, find}
+use Rattle.std.proofs.Common.{◌≡◌, ℕ, ◌+◌, ◌<◌, ◌≤◌, ◌==◌, Bool, true, false, cond, not, List, [], ◌∷◌, ◌++◌, get_or, Some, refl, ap, ◌∙◌, arith}
+use Rattle.std.specs.List.{find}
 use Rattle.std.specs.Prelude.{Contains}
-use Rattle.std.proofs.lemmas.Bool.Decides.{nat_tests}
 use Rattle.std.proofs.lemmas.List.Elements.{All-map, All-push, All-filter}
-use Rattle.vs_conn.specs.End.{ConnectionEnd}
 use Rattle.vs_flow.specs.Flow.{is_assigned}
-use Rattle.vs_flow.specs.Table.{Table, IsTable, entry_of, entry_under, with_entry, with_value, without, next_entry, revalued}
+use Rattle.vs_flow.specs.Table.{Table, IsTable, entry_under, with_entry, without, next_entry, revalued}
 use Rattle.vs_flow.specs.declared.flow.Flow.{Flow}
-use Rattle.vs_flow.proofs.Tables.{revalued-slot, revalued-flow, with_value_sound, without_sound, with_entry_sound, IsAccepted}
-use Rattle.vs_replies.specs.declared.Reply.{Reply}
-use Rattle.vs_matching.specs.Ends.{Ends, FlowEnd, entries_of, ends_of, flows_of}
-use Rattle.vs_matching.specs.Steps.{HasEnd, HasNone, with_end, left}
-use Rattle.vs_matching.proofs.Slots.{added_slot, changed_slot, found_by, no_entry, one_end, removed_slot}
-use Rattle.vs_driver_parts.specs.declared.limits.TheConstants.{LAST_PORT, SLOTS}
+use Rattle.vs_flow.proofs.Tables.{revalued-flow, with_value_sound, without_sound, with_entry_sound, IsAccepted}
+use Rattle.vs_matching.specs.Ends.{Ends, FlowEnd, entries_of}
+use Rattle.vs_matching.specs.Steps.{HasEnd, with_end, left}
+use Rattle.vs_matching.proofs.Slots.{changed_slot, found_by, one_end, removed_slot}
+use Rattle.vs_driver_parts.specs.declared.limits.TheConstants.{LAST_PORT}
 use Rattle.vs_driver_parts.specs.State.{DriverConnection, DriverEntry, DriverState, GoneConnection}
-use Rattle.vs_driver_parts.specs.Connections.{with_connection, after_leaving, leaves_list, waits_no_more, is_let_go, gone_as}
-use Rattle.vs_driver_parts.proofs.Ids.{entry_has, has_slot}
+use Rattle.vs_driver_parts.specs.Connections.{with_connection, after_leaving, waits_no_more, is_let_go, gone_as}
+use Rattle.vs_driver_parts.proofs.Ids.{entry_has}
 use Rattle.vs_driver_log.specs.Honest.{IsFit, IsFitEntry, IsFitFlow, IsFitState, end_in, ends_of_state}
 use Rattle.vs_driver_log.proofs.Fits.{IsHeldBy}
 

@@ -1,6 +1,6 @@
 //! Laws of the driver over a ring that tells its log.
 
-ghost use Rattle.std.specs.Prelude.{◌<◌, ◌≤◌, ◌^◌, ℕ, List, Result};
+ghost use Rattle.std.specs.Prelude.{◌≡◌, ◌<◌, ◌≤◌, ◌^◌, ℕ, List, Result};
 ghost use Rattle.vs_contents.specs.CallTree.{Leads};
 ghost use Rattle.vs_ring_port.specs.Contents.{RingContents};
 ghost use Rattle.vs_ring_port.specs.DriverCalls.{DriverAllows};
@@ -53,7 +53,8 @@ pub fn law_of_the_table()
     ensures { (first : ℕ) (s : DriverState) (l : EndLog) → AgreesWith first s l → IsLeftOpen first (table_shown s) s.replies l }
 {}
 
-/// A conversation with the driver's ring is one with any ring: each answer is one that a ring may give.
+/// A conversation with the driver's ring is one with any ring: each answer is one that a ring may give. What the other end did stays.
 pub fn law_of_answers<T>()
-    ensures { (tree : DriverTree T) (c d : RingContents) (x : T) → Plays tree c x d → Leads DriverAllows tree c x d }
+    ensures answers { (tree : DriverTree T) (c d : RingContents) (x : T) → Plays tree c x d → Leads DriverAllows tree c x d }
+    ensures other { (tree : DriverTree T) (c d : RingContents) (x : T) → Plays tree c x d → d.other ≡ c.other }
 {}

@@ -1,7 +1,7 @@
 -- What it takes that an end delivers a packet: an RW that fits its room.
-use Rattle.std.proofs.Common.{◌≡◌, ℕ, ◌≤◌, Bool, true, false, cond, Option, Some, None, refl, sym, ap, ◌∙◌, arith, rules}
+use Rattle.std.proofs.Common.{◌≡◌, ℕ, ◌≤◌, Bool, true, false, cond, Option, Some, None, refl, arith}
 use Rattle.std.proofs.lemmas.Bool.Decides.{nat_tests}
-use Rattle.vs_conn.specs.End.{ConnectionEnd, verdict_of, state_verdict, open_verdict, op_verdict, payload_verdict, response_verdict, live_verdict, ended_verdict, is_stream, is_reset}
+use Rattle.vs_conn.specs.End.{ConnectionEnd, verdict_of, state_verdict, op_verdict, payload_verdict, response_verdict, live_verdict, is_stream, is_reset}
 use Rattle.vs_conn.specs.declared.end.State.{State}
 use Rattle.vs_conn.specs.declared.end.State.TheVariants as state
 use Rattle.vs_conn.specs.declared.end.Verdict.{Verdict}

@@ -1,5 +1,5 @@
 -- How the connections that are gone change at the place of an id.
-use Rattle.std.proofs.Common.{◌≡◌, ◌≢◌, ℕ, ◌==◌, Bool, true, false, not, cond, List, [], ◌∷◌, drop, map, get_or, set, Option, Some, None, refl, sym, ap, ◌∙◌}
+use Rattle.std.proofs.Common.{◌≡◌, ◌≢◌, ℕ, ◌==◌, cond, List, [], ◌∷◌, drop, map, get_or, set, Some, None, refl, sym, ap, ◌∙◌}
 use Rattle.std.specs.List.{AllPairs, find, remove, position}
 use Rattle.vs_driver_parts.specs.State.{GoneConnection}
 use Rattle.vs_driver_parts.specs.Connections.{all_gone_after_read, gone_after_read, without_gone}

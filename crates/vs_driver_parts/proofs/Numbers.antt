@@ -1,8 +1,8 @@
 -- The numbers of connections after each change of the slots.
-use Rattle.std.proofs.Common.{◌≡◌, ◌≢◌, ℕ, suc, take, drop, ◌+◌, ◌<◌, ◌≤◌, ◌==◌, Bool, true, false, not, List, [], ◌∷◌, ◌++◌, length, map, get_or, set, Option, Some, None, refl, sym, ap, ◌∙◌, arith, length-set}
-use Rattle.std.specs.List.{All, AllPairs, filter, remove, find}
+use Rattle.std.proofs.Common.{◌≡◌, ◌≢◌, ℕ, suc, take, drop, ◌+◌, ◌<◌, ◌≤◌, ◌==◌, Bool, true, false, not, List, [], ◌∷◌, ◌++◌, length, get_or, set, Some, refl, sym, ap, ◌∙◌, arith, length-set}
+use Rattle.std.specs.List.{All, filter, remove}
 use Rattle.std.proofs.lemmas.Bool.Decides.{nat_tests}
-use Rattle.std.proofs.lemmas.List.{get_or-map, get_or-set_same, get_or-set_other}
+use Rattle.std.proofs.lemmas.List.{get_or-set_same, get_or-set_other}
 use Rattle.std.proofs.lemmas.List.Elements.{All-append, All-drop, All-map, All-push, All-take, All-filter, filter_passes}
 use Rattle.std.proofs.lemmas.List.Kept.{AllPairs-filter}
 use Rattle.std.proofs.lemmas.List.Quantifiers.{all_pairs_push, all_pairs_remove}
@@ -12,7 +12,7 @@ use Rattle.vs_flow.specs.declared.flow.Flow.{Flow}
 use Rattle.vs_flow.proofs.Tables.{revalued-slot, revalued-flow}
 use Rattle.vs_driver_parts.specs.State.{DriverConnection, DriverEntry, GoneConnection}
 use Rattle.vs_driver_parts.specs.SlotFields.{AreNumbered}
-use Rattle.vs_driver_parts.proofs.Ids.{HasId, IsUnder, under, entry_has}
+use Rattle.vs_driver_parts.proofs.Ids.{HasId, under, entry_has}
 
 All_remove : {X : Type 0} (P : X → Type 0) (xs : List X) (i : ℕ) → All P xs → All P (remove xs i)
 All_remove P xs i all = All-append P (take i xs) (drop (suc i) xs) (All-take P i xs all) (All-drop P (suc i) xs all)

@@ -1,13 +1,11 @@
 -- What a packet of a connection, and a transport reset, come to.
-use Rattle.std.proofs.Common.{◌≡◌, ◌≢◌, ℕ, suc, ◌+◌, ◌<◌, ◌≤◌, ◌==◌, Bool, true, false, not, cond, List, [], ◌∷◌, ◌++◌, length, map, Option, Some, None, refl, sym, ap, subst, ◌∙◌, arith, eq-eqb, length-append}
-use Rattle.std.specs.List.{All, AllPairs, filter, find, slice_get}
+use Rattle.std.proofs.Common.{◌≡◌, ◌≢◌, ℕ, ◌+◌, ◌<◌, ◌==◌, Bool, true, false, not, cond, List, [], ◌∷◌, ◌++◌, length, map, Some, None, refl, sym, ap, subst, ◌∙◌, arith, eq-eqb, length-append}
+use Rattle.std.specs.List.{AllPairs, filter, slice_get}
 use Rattle.std.specs.Option.{option_map}
-use Rattle.std.proofs.lemmas.Bool.Decides.{nat_tests}
-use Rattle.vs_conn.specs.End.{verdict_of, is_refused}
+use Rattle.vs_conn.specs.End.{is_refused}
 use Rattle.vs_conn.specs.declared.end.Verdict.{Verdict}
 use Rattle.vs_conn.specs.declared.end.Verdict.TheVariants as verdict
 use Rattle.vs_flow.specs.Table.{Table, IsTable, entry_of, entry_under, with_value, without, revalued}
-use Rattle.vs_flow.specs.declared.flow.Flow.{Flow}
 use Rattle.vs_flow.proofs.Entries.{found_at}
 use Rattle.vs_flow.proofs.Tables.{revalued-slot}
 use Rattle.vs_flow.proofs.Lookups.{entry_under-with_value}
@@ -17,7 +15,7 @@ use Rattle.vs_driver_parts.specs.State.{DriverConnection, DriverEntry, DriverSta
 use Rattle.vs_driver_parts.specs.Connections.{with_connection, leaves_list, after_leaving, waits_no_more, is_let_go, gone_as}
 use Rattle.vs_driver_parts.specs.Receiving.{on_packet, on_known, on_unknown, after_verdict, after_packet, ends_connection, with_reply, reset_reply, all_left}
 use Rattle.vs_wrap.specs.Wrap.{counted}
-use Rattle.vs_driver_parts.proofs.Lists.{AtMostOnePasses, NonePasses, one_passes, kept_none}
+use Rattle.vs_driver_parts.proofs.Lists.{AtMostOnePasses, one_passes, kept_none}
 
 -- an entry with another value
 abbrev pub with_its : DriverEntry → DriverConnection → DriverEntry

@@ -1,18 +1,16 @@
 -- What the driver's calls do to its connections, apart from the ring.
-use Rattle.std.specs.Prelude.{ℕ, ◌+◌, ◌-◌, ◌==◌, ◌&&◌, ◌||◌, not, min, nat_lt, nat_le, Bool, true, false, if◌then◌else◌, List, [], ◌∷◌, ◌++◌, length, map, filter, take, drop, find, Option, Some, None, is_some, Result, Ok, Err}
+use Rattle.std.specs.Prelude.{ℕ, ◌+◌, ◌==◌, ◌||◌, not, min, nat_lt, nat_le, Bool, true, false, if◌then◌else◌, List, [], ◌∷◌, ◌++◌, length, map, filter, take, drop, Option, Some, None, is_some}
 use Rattle.std.specs.Option.{option_map, option_map_or}
 use Rattle.vs_flow.specs.Flow.{is_assigned}
 use Rattle.vs_flow.specs.Table.{with_entry, with_value, without}
 use Rattle.vs_flow.specs.declared.flow.Flow.{Flow}
 use Rattle.vs_header.specs.declared.Header.{Header}
 use Rattle.vs_history.specs.declared.TheConstants.{BUF_ALLOC}
-use Rattle.vs_conn.specs.End.{ConnectionEnd, asked, answering, may_send_of, owes_of, paid_of, with_payload_sent, with_payload_forwarded, with_shut, aborted, wanting_credit, may_shut}
+use Rattle.vs_conn.specs.End.{ConnectionEnd, asked, answering, paid_of, with_payload_forwarded, with_shut, aborted}
 use Rattle.vs_conn.specs.declared.end.Owed.{Owed}
 use Rattle.vs_conn.specs.declared.end.Owed.TheVariants as owed
 use Rattle.vs_conn.specs.declared.end.State.{State}
 use Rattle.vs_conn.specs.declared.end.State.TheVariants as state
-use Rattle.vs_conn.specs.declared.end.Stop.{Stop}
-use Rattle.vs_conn.specs.declared.end.Stop.TheVariants as stop
 use Rattle.vs_conn.specs.declared.route.Route.{Route}
 use Rattle.vs_page.specs.declared.log.TheConstants.{HOST_CID}
 use Rattle.vs_driver_parts.specs.declared.answers.ConnectionState.{ConnectionState}

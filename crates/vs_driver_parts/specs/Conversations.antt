@@ -1,15 +1,12 @@
 -- The driver's calls on its ring, in their order, and what each call of the driver answers (Virtio 1.2, section 5.10.6).
-use Rattle.std.specs.Prelude.{ℕ, ◌+◌, ◌-◌, ◌==◌, ◌||◌, min, nat_lt, nat_le, Bool, true, false, if◌then◌else◌, List, [], ◌∷◌, ◌++◌, length, map, take, Option, Some, None, is_some, Result, Ok, Err}
+use Rattle.std.specs.Prelude.{ℕ, ◌+◌, ◌-◌, ◌==◌, min, nat_lt, nat_le, Bool, true, false, if◌then◌else◌, List, [], ◌∷◌, ◌++◌, length, take, Option, Some, None, is_some, Result, Ok, Err}
 use Rattle.vs_contents.specs.CallTree.{CallTree, Done, Ask, bind, for_each, while_up_to}
 use Rattle.vs_header.specs.Packet.{header_bytes}
 use Rattle.vs_header.specs.declared.Header.{Header}
-use Rattle.vs_credit.specs.Credit.{free_of}
-use Rattle.vs_conn.specs.End.{ConnectionEnd, may_send_of, owes_of, paid_of, with_payload_sent, wanting_credit, asked}
+use Rattle.vs_conn.specs.End.{ConnectionEnd, may_send_of, owes_of, with_payload_sent, wanting_credit, asked}
 use Rattle.vs_conn.specs.Headers.{owed_header, payload_header, reset_header}
 use Rattle.vs_conn.specs.declared.end.Owed.{Owed}
 use Rattle.vs_conn.specs.declared.end.Owed.TheVariants as owed
-use Rattle.vs_conn.specs.declared.end.State.{State}
-use Rattle.vs_conn.specs.declared.end.State.TheVariants as state
 use Rattle.vs_conn.specs.declared.end.Stop.{Stop}
 use Rattle.vs_conn.specs.declared.end.Stop.TheVariants as stop
 use Rattle.vs_flow.specs.Table.{entry_under, slots}
@@ -29,7 +26,7 @@ use Rattle.vs_driver_parts.specs.declared.answers.Sent.TheVariants as sent
 use Rattle.vs_driver_parts.specs.declared.tally.Tally.{Tally}
 use Rattle.vs_driver_parts.specs.declared.limits.TheConstants.{REPLIES_FULL, SLOTS}
 use Rattle.vs_conn.specs.declared.end.TheConstants.{OWED_MAX}
-use Rattle.vs_driver_parts.specs.State.{DriverConnection, DriverState, DriverEntry, entry_known_as, gone_known_as}
+use Rattle.vs_driver_parts.specs.State.{DriverState, DriverEntry, entry_known_as, gone_known_as}
 use Rattle.vs_driver_parts.specs.Connections.{with_end, with_connection, route_to_host, next_flow, connect_refusal, connected, after_leaving, paid_connection}
 use Rattle.vs_driver_parts.specs.Receiving.{on_page, is_reset_event, after_reset}
 

@@ -1,5 +1,5 @@
 -- What always holds of the ports that are listened on. No public clause cites this module.
-use Rattle.std.specs.Prelude.{◌≢◌, ◌≤◌, AllPairs, length, vec_capacity}
+use Rattle.std.specs.Prelude.{◌≢◌, ◌≤◌, AllPairs, vec_capacity}
 use Rattle.vs_driver_parts.specs.declared.limits.TheConstants.{LISTENERS}
 use Rattle.vs_driver_parts.specs.declared.listeners.Listeners.TheInside.{Inside}
 

@@ -1,5 +1,5 @@
 -- How a driver and its ring belong together, and what it takes to make a call.
-use Rattle.std.specs.Prelude.{◌≡◌, ℕ, ◌+◌, ◌<◌, ◌^◌, List, Option, Some, None}
+use Rattle.std.specs.Prelude.{◌≡◌, ℕ, ◌<◌, ◌^◌, List, Option, Some}
 use Rattle.std.specs.Option.{ForSome}
 use Rattle.vs_contents.specs.CallTree.{Leads, MayPlay}
 use Rattle.vs_header.specs.declared.Header.{Header}

@@ -1,10 +1,8 @@
 -- What the driver does with the packets and events that it takes.
-use Rattle.std.specs.Prelude.{ℕ, ◌+◌, ◌-◌, ◌^◌, ◌==◌, ◌&&◌, not, min, nat_lt, nat_le, Bool, true, false, if◌then◌else◌, List, [], ◌∷◌, ◌++◌, length, map, find, Option, Some, None, is_some}
-use Rattle.vs_header.specs.Kind.{kind_number}
+use Rattle.std.specs.Prelude.{ℕ, ◌==◌, ◌&&◌, not, nat_le, Bool, false, if◌then◌else◌, List, [], ◌∷◌, ◌++◌, Some, None}
 use Rattle.vs_header.specs.Op.{op_number}
 use Rattle.vs_header.specs.declared.Header.{Header}
-use Rattle.vs_header.specs.declared.Kind.TheVariants.{Stream}
-use Rattle.vs_header.specs.declared.Op.TheVariants.{Request, Rst}
+use Rattle.vs_header.specs.declared.Op.TheVariants.{Request}
 use Rattle.vs_history.specs.declared.packet.Packet.{Packet}
 use Rattle.vs_conn.specs.End.{verdict_of, end_after, is_stream, is_reset}
 use Rattle.vs_conn.specs.declared.end.Verdict.{Verdict}

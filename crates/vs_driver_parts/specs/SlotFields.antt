@@ -6,7 +6,7 @@ use Rattle.vs_flow.specs.Table.{Table, IsTable}
 use Rattle.vs_driver_parts.specs.declared.limits.TheConstants.{SLOTS, LAST_ID, LAST_PORT}
 use Rattle.vs_driver_parts.specs.declared.slots.Slots.TheInside.{Inside}
 use Rattle.vs_driver_parts.specs.Room.{IsSpare}
-use Rattle.vs_driver_parts.specs.State.{DriverConnection, DriverEntry, GoneConnection}
+use Rattle.vs_driver_parts.specs.State.{DriverConnection, GoneConnection}
 
 -- A slot and an id are given together, from the first id on; an id that is gone is none of the table's, and is there once. The flow of a
 -- connection that this side opened has a guest port below the next.

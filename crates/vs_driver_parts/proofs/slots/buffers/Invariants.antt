@@ -1,4 +1,4 @@
-use Rattle.std.proofs.Common.{◌≡◌, ◌≤◌, length, vec_capacity}
+use Rattle.std.proofs.Common.{◌≡◌, length, vec_capacity}
 use Rattle.std.specs.List.{All}
 use Rattle.vs_driver_parts.specs.declared.limits.TheConstants.{SLOTS}
 use Rattle.vs_driver_parts.specs.Room.{IsSpare}

@@ -1,4 +1,4 @@
-use Rattle.std.proofs.Common.{◌≡◌, ◌+◌, ◌-◌, ◌<◌, ◌≤◌, [], length}
+use Rattle.std.proofs.Common.{◌≡◌, ◌+◌, ◌-◌, ◌<◌, [], length}
 use Rattle.std.specs.List.{All}
 use Rattle.vs_contents.specs.CallTree.{while_up_to}
 use Rattle.vs_ring_port.specs.declared.queue.TheConstants.{STAGED_MAX}

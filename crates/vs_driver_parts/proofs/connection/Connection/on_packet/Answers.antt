@@ -1,7 +1,5 @@
-use Rattle.std.proofs.Common.{◌≡◌, ◌≤◌, ◌+◌, true, length, eq-eqb, rules, arith}
+use Rattle.std.proofs.Common.{◌≡◌, length, eq-eqb, rules, arith}
 use Rattle.vs_conn.specs.declared.end.Verdict.TheVariants as verdict
-use Rattle.vs_history.specs.declared.packet.Packet.{Packet}
-use Rattle.vs_history.specs.Packets.{is_rw}
 use Rattle.vs_driver_parts.proofs.Delivers.{IsDelivered, delivers, named_rw}
 use Rattle.vs_driver_parts.proofs.connection.Connection.on_packet.Goals as goal
 

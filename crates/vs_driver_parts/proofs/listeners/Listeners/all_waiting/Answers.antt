@@ -1,4 +1,4 @@
-use Rattle.std.proofs.Common.{◌≡◌, ◌==◌, List, sym, ap, ◌∙◌, Some, None, rules}
+use Rattle.std.proofs.Common.{◌≡◌, ◌==◌, sym, ◌∙◌, Some, None, rules}
 use Rattle.std.specs.List.{position}
 use Rattle.vs_driver_parts.specs.State.{Listener}
 use Rattle.vs_driver_parts.proofs.ListenerChanges.{waits_there, waits_nowhere}

@@ -1,4 +1,4 @@
-use Rattle.std.proofs.Common.{◌≡◌, ◌==◌, List, not, sym, ap, ◌∙◌, Some, None, rules}
+use Rattle.std.proofs.Common.{◌≡◌, ◌==◌, not, sym, ap, ◌∙◌, Some, None, rules}
 use Rattle.std.specs.List.{position}
 use Rattle.vs_driver_parts.specs.State.{Listener}
 use Rattle.vs_driver_parts.proofs.ListenerChanges.{place_there, place_nowhere}

@@ -1,7 +1,6 @@
-use Rattle.std.proofs.Common.{◌≡◌, ◌==◌, List, is_some, false, sym, ap, subst, ◌∙◌, Some, None, rules, arith}
-use Rattle.vs_driver_parts.specs.State.{Listener}
+use Rattle.std.proofs.Common.{◌≡◌, is_some, false, arith}
 use Rattle.vs_driver_parts.specs.Listening.{listener_on}
-use Rattle.vs_driver_parts.proofs.ListenerChanges.{AreDistinct, listened_distinct}
+use Rattle.vs_driver_parts.proofs.ListenerChanges.{listened_distinct}
 use Rattle.vs_driver_parts.proofs.listeners.Listeners.listen.Goals as goal
 
 pub invariant_of-self : goal.invariant_of-self

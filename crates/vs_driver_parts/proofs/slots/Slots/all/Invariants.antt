@@ -1,5 +1,4 @@
 use Rattle.std.proofs.Common.{◌≡◌, ◌-◌, ◌≤◌, length, take}
-use Rattle.vs_driver_parts.specs.declared.limits.TheConstants.{SLOTS}
 use Rattle.vs_flow.specs.Table.{slots}
 use Rattle.vs_driver_parts.proofs.slots.Slots.all.Given as goal
 

@@ -1,5 +1,5 @@
-use Rattle.std.proofs.Common.{◌≡◌, ℕ, List, ◌==◌, Some, None, get_or, refl, sym, ap, ◌∙◌, rules}
-use Rattle.std.specs.List.{position, find, slice_get, remove}
+use Rattle.std.proofs.Common.{◌≡◌, List, ◌==◌, Some, None, refl, sym, ap, ◌∙◌, rules}
+use Rattle.std.specs.List.{position}
 use Rattle.std.specs.Option.{option_map}
 use Rattle.vs_driver_parts.specs.State.{GoneConnection}
 use Rattle.vs_driver_parts.specs.Held.{HeldSlots}

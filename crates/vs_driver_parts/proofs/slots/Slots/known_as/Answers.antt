@@ -1,7 +1,7 @@
-use Rattle.std.proofs.Common.{◌≡◌, ℕ, ◌+◌, ◌≤◌, ◌<◌, Some, None, refl, sym, ap, ◌∙◌, true, false, rules, arith}
-use Rattle.std.specs.Option.{option_map, option_and_then}
+use Rattle.std.proofs.Common.{◌≡◌, ◌+◌, ◌<◌, Some, None, refl, sym, ap, ◌∙◌, true, false, rules}
+use Rattle.std.specs.Option.{option_map}
 use Rattle.vs_flow.specs.Table.{value_under}
-use Rattle.vs_driver_parts.specs.State.{DriverEntry, DriverConnection}
+use Rattle.vs_driver_parts.specs.State.{DriverEntry}
 use Rattle.vs_driver_parts.proofs.Ids.{known_slot, known_below}
 use Rattle.vs_driver_parts.proofs.slots.Slots.known_as.Goals as goal
 

@@ -1,8 +1,8 @@
-use Rattle.std.proofs.Common.{◌≡◌, ℕ, ◌+◌, ◌≤◌, List, length, Some, true, false, sym, ap, ◌∙◌, rules, arith, ◌∷◌, [], ◌++◌, length-append}
+use Rattle.std.proofs.Common.{◌≡◌, ℕ, List, length, Some, true, false, sym, ap, ◌∙◌, rules, arith}
 use Rattle.std.proofs.lemmas.List.Elements.{All-push}
-use Rattle.vs_flow.specs.Table.{Table, value_under, entry_under, without}
+use Rattle.vs_flow.specs.Table.{Table, entry_under, without}
 use Rattle.vs_driver_parts.specs.Room.{IsSpare}
-use Rattle.vs_driver_parts.specs.State.{DriverEntry, DriverConnection, GoneConnection}
+use Rattle.vs_driver_parts.specs.State.{DriverConnection, GoneConnection}
 use Rattle.vs_driver_parts.specs.Connections.{is_let_go}
 use Rattle.vs_driver_parts.specs.Held.{HeldSlots}
 use Rattle.vs_driver_parts.specs.contracts.slots.Slots.{the_view}

@@ -1,7 +1,6 @@
-use Rattle.std.proofs.Common.{◌≡◌, ◌+◌, ◌<◌, ◌≤◌, ℕ, List, length, ◌∷◌, [], true, false, sym, ap, ◌∙◌, rules, arith, length-append}
-use Rattle.vs_flow.specs.Flow.{is_assigned}
-use Rattle.vs_flow.specs.Table.{Table, with_entry, next_entry, entry_of}
-use Rattle.vs_flow.proofs.Tables.{with_entry_sound, IsAccepted}
+use Rattle.std.proofs.Common.{◌≡◌, ◌+◌, ◌<◌, ◌≤◌, length, ◌∷◌, [], ap, ◌∙◌, rules, arith, length-append}
+use Rattle.vs_flow.specs.Table.{Table, with_entry, next_entry}
+use Rattle.vs_flow.proofs.Tables.{with_entry_sound}
 use Rattle.vs_driver_parts.specs.Room.{IsSpare}
 use Rattle.vs_driver_parts.specs.State.{DriverConnection}
 use Rattle.vs_driver_parts.proofs.Numbers.{numbers_with_entry}

@@ -1,4 +1,4 @@
-use Rattle.std.proofs.Common.{◌≡◌, ℕ, List, ◌==◌, Some, None, min, length, take, drop, ◌++◌, refl, sym, ap, ◌∙◌, rules}
+use Rattle.std.proofs.Common.{◌≡◌, List, ◌==◌, Some, None, min, length, take, drop, ◌++◌, sym, ap, ◌∙◌, rules}
 use Rattle.std.specs.List.{position, find}
 use Rattle.vs_driver_parts.specs.State.{GoneConnection}
 use Rattle.vs_driver_parts.specs.Held.{HeldSlots}

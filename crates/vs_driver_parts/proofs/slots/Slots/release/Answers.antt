@@ -1,10 +1,9 @@
-use Rattle.std.proofs.Common.{◌≡◌, ◌+◌, ◌<◌, ◌≤◌, ℕ, List, length, ◌==◌, ◌∷◌, [], Some, None, get_or, refl, sym, ap, ◌∙◌, rules, arith}
-use Rattle.std.specs.List.{position, find, slice_get, remove}
+use Rattle.std.proofs.Common.{◌≡◌, ◌<◌, length, Some, refl, ap, arith}
+use Rattle.std.specs.List.{slice_get}
 use Rattle.std.proofs.lemmas.List.Elements.{All-push}
 use Rattle.std.proofs.lemmas.Option.{slice_get_read}
 use Rattle.vs_flow.specs.declared.flow.Flow.{Flow}
 use Rattle.vs_driver_parts.specs.Room.{IsSpare}
-use Rattle.vs_driver_parts.specs.State.{GoneConnection}
 use Rattle.vs_driver_parts.proofs.Numbers.{numbers_gone_removed}
 use Rattle.vs_driver_parts.proofs.slots.Slots.release.Goals as goal
 

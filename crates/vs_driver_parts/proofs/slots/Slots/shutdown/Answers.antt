@@ -1,4 +1,4 @@
-use Rattle.std.proofs.Common.{◌≡◌, Some, ap, ◌∙◌, rules}
+use Rattle.std.proofs.Common.{◌≡◌, Some, ap, rules}
 use Rattle.vs_flow.specs.Table.{value_under}
 use Rattle.vs_driver_parts.specs.State.{DriverConnection}
 use Rattle.vs_driver_parts.proofs.SlotChanges.{kept_with_connection}
