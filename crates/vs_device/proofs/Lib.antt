@@ -9,3 +9,4 @@ mod Verdicts
 mod Takings
 mod EventPaying
 mod Resetting
+mod Returning
