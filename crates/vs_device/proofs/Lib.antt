@@ -5,6 +5,13 @@ mod Leaving
 mod Each
 mod Pumping
 mod Written
+mod Rounds
+mod Trees
+mod Putting
+mod Writes
+mod Paying
+mod Reading
+mod Held
 mod Verdicts
 mod Takings
 mod EventPaying

@@ -10,5 +10,6 @@ pub mod Paid
 pub mod SlotFields
 pub mod Playing
 pub mod DeviceFields
+pub mod Filling
 pub mod Written
 pub mod Taking

@@ -20,12 +20,18 @@ use Rattle.vs_proxy.specs.declared.limits.TheConstants.{HANDSHAKES}
 abbrev pub handshake_on : ℕ → ProxyState → Option Handshake
 handshake_on stream s = find (λ h. h.stream == stream) s.handshakes
 
+-- The handshakes without that on a stream, and with other bytes of its line. No host gives two streams one id; of one that did, the handshake
+-- that was accepted first is meant.
+abbrev pub without_stream : ℕ → List Handshake → List Handshake
+without_stream stream [] = []
+without_stream stream (h ∷ hs) = if h.stream == stream then hs else h ∷ without_stream stream hs
+
 abbrev pub without_handshake : ℕ → ProxyState → ProxyState
-without_handshake stream s = record s { handshakes = filter (λ h. not (h.stream == stream)) s.handshakes }
+without_handshake stream s = record s { handshakes = without_stream stream s.handshakes }
 
 abbrev pub with_line : ℕ → List ℕ → List Handshake → List Handshake
 with_line stream line [] = []
-with_line stream line (h ∷ hs) = (if h.stream == stream then record h { line = line } else h) ∷ with_line stream line hs
+with_line stream line (h ∷ hs) = if h.stream == stream then record h { line = line } ∷ hs else h ∷ with_line stream line hs
 
 -- A handshake ends without a connection: its stream is closed, with no answer.
 abbrev pub dropping : ℕ → Turning → DeviceTree Turning

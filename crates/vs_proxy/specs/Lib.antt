@@ -1,3 +1,4 @@
 pub mod State
 pub mod Handshakes
 pub mod Turns
+pub mod HandshakeFields

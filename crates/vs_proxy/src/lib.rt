@@ -2,6 +2,8 @@
 #![tactic(auto)]
 
 pub mod answers;
+mod handshake;
+mod handshakes;
 pub mod limits;
 
 pub use answers::{Turn, Turned};

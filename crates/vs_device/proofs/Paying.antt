@@ -1,0 +1,49 @@
+-- What a packet comes to that a connection owed and that was put.
+use Rattle.std.proofs.Common.{◌≡◌, ℕ, true, false, Option, Some, None, refl, sym, ap, subst, ◌∙◌}
+use Rattle.std.specs.Option.{IsSomeAnd, option_map}
+use Rattle.vs_conn.specs.declared.end.Owed.{Owed}
+use Rattle.vs_conn.specs.declared.end.Owed.TheVariants as owed
+use Rattle.vs_device.specs.Calls.{Situation}
+use Rattle.vs_device.specs.Connections.{with_connection}
+use Rattle.vs_device.specs.Filling.{is_rst}
+use Rattle.vs_device.specs.Paid.{paid_connection}
+use Rattle.vs_device.specs.Playing.{Runs}
+use Rattle.vs_device.specs.Receiving.{after_paying}
+use Rattle.vs_device.specs.State.{DeviceEntry, DeviceState}
+use Rattle.vs_device.specs.Streams.{leaving}
+
+pub paid_leaves : (what : Owed) (e : DeviceEntry) (slot : ℕ) (s m t : DeviceState) (x y : Situation) → is_rst what ≡ true → e.slot ≡ slot → m ≡ record s { last_put = Some slot }
+    → Runs (leaving e m) x t y → Runs (after_paying what e s) x t y
+paid_leaves owed.Rst e slot s m t x y rst at is leaves =
+    let P : DeviceState → Type 0 = λ u. Runs (leaving e u) x t y in
+    subst P (is ∙ ap (λ (n : ℕ). record s { last_put = Some n }) (sym at)) leaves
+paid_leaves owed.Request e slot s m t x y rst at is leaves = absurd (cc)
+paid_leaves owed.Response e slot s m t x y rst at is leaves = absurd (cc)
+paid_leaves owed.CreditUpdate e slot s m t x y rst at is leaves = absurd (cc)
+paid_leaves owed.CreditRequest e slot s m t x y rst at is leaves = absurd (cc)
+paid_leaves (owed.Shutdown bits) e slot s m t x y rst at is leaves = absurd (cc)
+
+abbrev pub after_other : Owed → ℕ → DeviceEntry → DeviceState → DeviceState
+after_other what slot e s = record (with_connection slot (paid_connection what s.now e.value) s) { last_put = Some slot }
+
+pub paid_stays : (what : Owed) (e : DeviceEntry) (slot : ℕ) (s t : DeviceState) (x : Situation) → is_rst what ≡ false → e.slot ≡ slot → t ≡ after_other what slot e s
+    → Runs (after_paying what e s) x t x
+paid_stays owed.Rst e slot s t x rst at is = absurd (cc)
+paid_stays owed.Request e slot s t x rst at is = (ap (λ (n : ℕ). after_other owed.Request n e s) at ∙ sym is, refl)
+paid_stays owed.Response e slot s t x rst at is = (ap (λ (n : ℕ). after_other owed.Response n e s) at ∙ sym is, refl)
+paid_stays owed.CreditUpdate e slot s t x rst at is = (ap (λ (n : ℕ). after_other owed.CreditUpdate n e s) at ∙ sym is, refl)
+paid_stays owed.CreditRequest e slot s t x rst at is = (ap (λ (n : ℕ). after_other owed.CreditRequest n e s) at ∙ sym is, refl)
+paid_stays (owed.Shutdown bits) e slot s t x rst at is = (ap (λ (n : ℕ). after_other (owed.Shutdown bits) n e s) at ∙ sym is, refl)
+
+pub record HoldsOf {X : Type 0} (o : Option X) (P : X → Type 0) : Type 0 where
+  pub one : X
+  pub is : o ≡ Some one
+  pub holds : P one
+
+pub some_and : {X : Type 0} (o : Option X) (P : X → Type 0) → IsSomeAnd o P → HoldsOf o P
+some_and (Some x) P h = record { one = x; is = refl; holds = h }
+some_and None P h = absurd h
+
+pub mapped : {X Y : Type 0} (f : X → Y) (o : Option X) (y : Y) → Some y ≡ option_map f o → HoldsOf o (λ x. y ≡ f x)
+mapped f (Some x) y is = record { one = x; is = refl; holds = cc }
+mapped f None y is = absurd (cc)

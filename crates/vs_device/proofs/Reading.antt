@@ -1,0 +1,158 @@
+-- What reading a stream comes to, for the packet that it puts.
+use Rattle.std.specs.Prelude.{if◌then◌else◌, ◌==◌, ◌&&◌, ◌||◌, not, Err, Ok, IsOkAnd}
+use Rattle.std.specs.Option.{IfSome}
+use Rattle.std.proofs.Common.{◌≡◌, ℕ, ◌+◌, ◌≤◌, arith, Bool, true, false, List, length, Option, Some, None, refl, sym, ap, subst, ◌∙◌}
+use Rattle.vs_contents.specs.CallTree.{Done, Ask, bind, while_up_to}
+use Rattle.vs_contents.proofs.Leads.{leads_of, leads_bind}
+use Rattle.vs_contents.proofs.Conditions.{may_first, may_rest, may_of}
+use Rattle.vs_conn.specs.End.{ConnectionEnd, CanSend, state_may_send, with_payload_sent, wanting_credit}
+use Rattle.vs_conn.specs.declared.end.State.{State}
+use Rattle.vs_conn.specs.declared.end.State.TheVariants as state
+use Rattle.vs_conn.specs.declared.end.Stop.{Stop}
+use Rattle.vs_conn.specs.declared.end.Stop.TheVariants.{ShutDown}
+use Rattle.vs_header.specs.declared.TheConstants.{HEADER_LEN}
+use Rattle.vs_page.specs.declared.page.TheConstants.{PAYLOAD_MAX}
+use Rattle.vs_conn.specs.Headers.{payload_header}
+use Rattle.vs_conn.specs.declared.end.TheConstants.{OWED_MAX}
+use Rattle.vs_credit.specs.Credit.{free_of}
+use Rattle.vs_flow.specs.Table.{entry_under}
+use Rattle.vs_header.specs.declared.Header.{Header}
+use Rattle.vs_outside.specs.declared.host_net.StreamRead.{StreamRead}
+use Rattle.vs_ring_port.specs.declared.device_ring.Chain.{Chain}
+use Rattle.vs_device.specs.Calls.{DeviceTree, Situation, Allows, ReadStream}
+use Rattle.vs_device.specs.Connections.{with_connection, route_to_guest}
+use Rattle.vs_device.specs.Filling.{read_slot}
+use Rattle.vs_device.specs.Playing.{CanMake, MayRun, Runs}
+use Rattle.vs_device.specs.Receiving.{Filling, hold, written, put_on, put_owed, put_payload, may_read, read_room, read_answered, read_with_chain, read_stream, serve_slot}
+use Rattle.vs_device.specs.State.{DeviceEntry}
+
+-- payload is put
+module _ (chain : Chain) (e : DeviceEntry) (payload : List ℕ) (r : Filling) where
+  abbrev pub header : Header
+  header = payload_header e.value.end (route_to_guest r.state.cid e.flow) (length payload)
+
+  abbrev put : Filling
+  put = record r { state = record r.state { chain = None }; put = r.put + 1 }
+
+  abbrev pub after_payload : Filling
+  after_payload = record put {
+    state = record (with_connection e.slot (record e.value { end = with_payload_sent e.value.end (length payload) }) put.state) { last_put = Some e.slot };
+    read = r.read + length payload;
+  }
+
+  pub payload_put : (c t : Situation) → Runs (written chain header payload) c tt t → Runs (put_payload chain e payload r) c after_payload t
+  payload_put c t writes =
+      let first : Runs (put_on chain header payload r) c put t = leads_bind Allows (written chain header payload) _ c t t tt put writes (refl, refl) in
+      leads_bind Allows (put_on chain header payload r) _ c t t put after_payload first (refl, refl)
+
+  pub may_put : (c : Situation) → MayRun (put_payload chain e payload r) c → MayRun (written chain header payload) c
+  may_put c may =
+      may_first CanMake Allows (written chain header payload) _ c (may_first CanMake Allows (put_on chain header payload r) _ c may)
+
+-- the stream is read with a chain held
+module _ (chain : Chain) (e : DeviceEntry) (q : Filling) (held : q.state.chain ≡ Some chain) where
+  abbrev room : ℕ
+  room = read_room (free_of e.value.end.credit) chain
+
+  asks : read_with_chain e q ≡ Ask (ReadStream e.value.stream room) (λ answer. read_answered chain e answer.0 answer.1 q)
+  asks = rw held refl
+
+  pub answered : (answer : StreamRead) (bytes : List ℕ) (p : Filling) (c m t : Situation) → Allows (ReadStream e.value.stream room) (answer, bytes) c m
+      → Runs (read_answered chain e answer bytes q) m p t → Runs (read_with_chain e q) c p t
+  answered answer bytes p c m t allowed rest = leads_of Allows _ _ c t p asks ((answer, bytes), m, allowed, rest)
+
+  pub may_ask : (c : Situation) → MayRun (read_with_chain e q) c → CanMake (ReadStream e.value.stream room) c
+  may_ask c may = (may_of CanMake Allows _ _ c asks may).0
+
+  pub may_answered : (answer : StreamRead) (bytes : List ℕ) (c m : Situation) → MayRun (read_with_chain e q) c → Allows (ReadStream e.value.stream room) (answer, bytes) c m
+      → MayRun (read_answered chain e answer bytes q) m
+  may_answered answer bytes c m may allowed = (may_of CanMake Allows _ _ c asks may).1 (answer, bytes) m allowed
+
+-- a connection without credit wants some, one with credit needs a chain
+module _ (r : Filling) (slot : ℕ) (e : DeviceEntry) (found : entry_under r.state.table slot ≡ Some e) (reads : may_read e.value.end e.value.end.state ≡ true) where
+  abbrev wants : Filling
+  wants = record r { state = with_connection e.slot (record e.value { end = wanting_credit e.value.end }) r.state }
+
+  slot_is : read_slot slot r ≡ read_stream e r
+  slot_is = rw (found, read_slot) refl
+
+  wanting_is : (free_of e.value.end.credit == 0) ≡ true → read_slot slot r ≡ Done wants
+  wanting_is none = slot_is ∙ rw (reads, none, read_stream) refl
+
+  reading_is : (free_of e.value.end.credit == 0) ≡ false → read_slot slot r ≡ bind (hold r) (read_with_chain e)
+  reading_is some = slot_is ∙ rw (reads, some, read_stream) refl
+
+  pub wanted : (c : Situation) → (free_of e.value.end.credit == 0) ≡ true → Runs (read_slot slot r) c wants c
+  wanted c none = leads_of Allows _ _ c c wants (wanting_is none) (refl, refl)
+
+  pub read_then : (q p : Filling) (c m t : Situation) → (free_of e.value.end.credit == 0) ≡ false → Runs (hold r) c q m → Runs (read_with_chain e q) m p t → Runs (read_slot slot r) c p t
+  read_then q p c m t some holds rest = leads_of Allows _ _ c t p (reading_is some) (leads_bind Allows (hold r) (read_with_chain e) c m t q p holds rest)
+
+  pub may_read_then : (q : Filling) (c m : Situation) → (free_of e.value.end.credit == 0) ≡ false → MayRun (read_slot slot r) c → Runs (hold r) c q m → MayRun (read_with_chain e q) m
+  may_read_then q c m some may holds = may_rest CanMake Allows (hold r) (read_with_chain e) c m q (may_of CanMake Allows _ _ c (reading_is some) may) holds
+
+-- a connection is served
+abbrev owed_on : ℕ → Filling → Bool → DeviceTree Filling
+owed_on slot q over = if over then Done q else while_up_to OWED_MAX (put_owed slot) q
+
+abbrev then_owed : ℕ → Filling → DeviceTree Filling
+then_owed slot q = owed_on slot q q.over
+
+abbrev serve_on : ℕ → Filling → Bool → DeviceTree Filling
+serve_on slot r over = if over then Done r else bind (read_slot slot r) (then_owed slot)
+
+module _ (slot : ℕ) (r : Filling) (going : r.over ≡ false) where
+  served_is : serve_slot slot r ≡ bind (read_slot slot r) (then_owed slot)
+  served_is = ap (serve_on slot r) going
+
+  pub may_serve : (c : Situation) → MayRun (serve_slot slot r) c → MayRun (read_slot slot r) c
+  may_serve c may = may_first CanMake Allows (read_slot slot r) (then_owed slot) c (may_of CanMake Allows _ _ c served_is may)
+
+  pub may_serve_then : (q : Filling) (c m : Situation) → q.over ≡ false → MayRun (serve_slot slot r) c → Runs (read_slot slot r) c q m → MayRun (while_up_to OWED_MAX (put_owed slot) q) m
+  may_serve_then q c m on may first =
+      may_of CanMake Allows _ _ m (ap (owed_on slot q) on) (may_rest CanMake Allows (read_slot slot r) (then_owed slot) c m q (may_of CanMake Allows _ _ c served_is may) first)
+
+  pub served : (q p : Filling) (c m t : Situation) → q.over ≡ false → Runs (read_slot slot r) c q m → Runs (while_up_to OWED_MAX (put_owed slot) q) m p t → Runs (serve_slot slot r) c p t
+  served q p c m t on first rest =
+      leads_of Allows _ _ c t p served_is (leads_bind Allows (read_slot slot r) (then_owed slot) c m t q p first (leads_of Allows _ _ m t p (ap (owed_on slot q) on) rest))
+
+  pub served_over : (q : Filling) (c m : Situation) → q.over ≡ true → Runs (read_slot slot r) c q m → Runs (serve_slot slot r) c q m
+  served_over q c m over first =
+      leads_of Allows _ _ c m q served_is (leads_bind Allows (read_slot slot r) (then_owed slot) c m m q q first (leads_of Allows _ _ m m q (ap (owed_on slot q) over) (refl, refl)))
+
+-- where both ends let it send, so much may be sent as there is credit for
+send_on : (r s : Bool) (n free : ℕ) → (not r && not s) ≡ true → n ≤ free → IsOkAnd {T = ℕ} {E = Stop} (if s || r then Err ShutDown else Ok free) (λ f. n ≤ f)
+send_on false false n free is le = le
+send_on false true n free is le = absurd (cc)
+send_on true s n free is le = absurd (cc)
+
+may_send_on : (e : ConnectionEnd) (s : State) (n : ℕ) → may_read e s ≡ true → n ≤ free_of e.credit → IsOkAnd (state_may_send s e) (λ free. n ≤ free)
+may_send_on e state.Live n reads le = send_on e.peer.receive e.own.send n (free_of e.credit) reads le
+may_send_on e state.Asked n reads le = absurd (cc)
+may_send_on e state.Answering n reads le = absurd (cc)
+may_send_on e state.Ended n reads le = absurd (cc)
+
+pub can_send : (e : ConnectionEnd) (n : ℕ) → may_read e e.state ≡ true → n ≤ free_of e.credit → CanSend e n
+can_send e n reads le = may_send_on e e.state n reads le
+
+pub if_some : {X : Type 0} (o : Option X) (x : X) (P : X → Type 0) → o ≡ Some x → P x → IfSome o P
+if_some {X = X} o x P is holds = let Q : Option X → Type 0 = λ p. IfSome p P in subst Q (sym is) holds
+
+pub at_some : {X : Type 0} (o : Option X) (x : X) (P : X → Type 0) → o ≡ Some x → IfSome o P → P x
+at_some {X = X} o x P is holds = let Q : Option X → Type 0 = λ p. IfSome p P in subst Q is holds
+
+-- the same read, where its stream and its room are told in another way
+pub same_read : (a : StreamRead × List ℕ) (id stream n most : ℕ) (x y : Situation) → id ≡ stream → n ≡ most → Allows (ReadStream id n) a x y → Allows (ReadStream stream most) a x y
+same_read a id stream n most x y is much allowed =
+    let P : ℕ → Type 0 = λ i. Allows (ReadStream i n) a x y in
+    let Q : ℕ → Type 0 = λ k. Allows (ReadStream stream k) a x y in
+    subst Q much (subst P is allowed)
+
+-- the bytes that a read gave have room in the chain, and credit
+pub record Fits (e : ConnectionEnd) (chain : Chain) (n : ℕ) : Type 0 where
+  pub within : HEADER_LEN + n ≤ chain.writable
+  pub credit : n ≤ free_of e.credit
+  pub most : n ≤ PAYLOAD_MAX
+
+pub fits : (e : ConnectionEnd) (chain : Chain) (n : ℕ) → HEADER_LEN + 1 ≤ chain.writable → n ≤ read_room (free_of e.credit) chain → Fits e chain n
+fits e chain n long le = record { within = omega (arith, long, le); credit = omega (arith, le); most = omega (arith, le) }

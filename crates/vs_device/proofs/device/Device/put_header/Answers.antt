@@ -1,0 +1,51 @@
+use Rattle.std.proofs.Common.{◌≡◌, ◌+◌, true, false, Option, Some, None, sym, ap, ◌∙◌}
+use Rattle.vs_contents.proofs.Leads.{leads_to}
+use Rattle.vs_ring_port.specs.declared.device_ring.Chain.{Chain}
+use Rattle.vs_device.specs.Calls.{Allows}
+use Rattle.vs_device.specs.Filling.{filling_of, put_header}
+use Rattle.vs_device.specs.Playing.{situation}
+use Rattle.vs_device.specs.Receiving.{Filling}
+use Rattle.vs_device.specs.State.{DeviceState}
+use Rattle.vs_device.specs.contracts.device.Device.{the_view}
+use Rattle.vs_device.proofs.Putting.{after_put, header_put, header_waits, may_write}
+use Rattle.vs_device.proofs.device.Device.put_header.Goals as goal
+
+pub returns-in_default-clause-calls : goal.returns-in_default-clause-calls
+returns-in_default-clause-calls g c = λ host faults.
+    let d = c.self.inside in
+    let r : Filling = filling_of c.args.self.now c.args.fill.now in
+    let q : Filling = filling_of c.hold.new.self c.hold.new.fill in
+    let from = situation (g.R.DeviceRing.contents c.args.ring.now) host faults in
+    let to = situation (g.R.DeviceRing.contents c.hold.new.ring) host faults in
+    let none : d.chain ≡ None = sym c.in_default.ensures.value in
+    let is : q.state.chain ≡ None = ap (λ (s : DeviceState). s.chain) (sym c.self.view_is) ∙ none in
+    let state : the_view (record d { chain = c.take.new.self }) ≡ c.hold.new.self =
+    ap (λ (o : Option Chain). the_view (record d { chain = o })) (c.in_default.ensures.after ∙ c.in_default.ensures.value) ∙ c.self.view_is in
+    leads_to Allows (put_header c.args.header.now r) from to (q, false) _ (ap (λ (s : DeviceState). (record q { state = s }, false)) (sym state))
+    (header_waits c.args.header.now r q from to (c.hold.ensures.calls host faults) is)
+
+pub write_packet-requires-clause-may : goal.write_packet-requires-clause-may
+write_packet-requires-clause-may g c =
+    let d = c.self.inside in
+    let host = c.requires.may.0 in
+    let faults = c.requires.may.1 in
+    let r : Filling = filling_of c.args.self.now c.args.fill.now in
+    let q : Filling = filling_of c.hold.new.self c.hold.new.fill in
+    let from = situation (g.R.DeviceRing.contents c.args.ring.now) host faults in
+    let to = situation (g.R.DeviceRing.contents c.hold.new.ring) host faults in
+    let is : q.state.chain ≡ Some c.in-Some.chain = ap (λ (s : DeviceState). s.chain) (sym c.self.view_is) ∙ sym c.in-Some.ensures.value in
+    (host, faults, may_write c.args.header.now r q from to (c.hold.ensures.calls host faults) c.in-Some.chain is c.requires.may.2)
+
+pub returns-clause-calls : goal.returns-clause-calls
+returns-clause-calls g c = λ host faults.
+    let d = c.self.inside in
+    let r : Filling = filling_of c.args.self.now c.args.fill.now in
+    let q : Filling = filling_of c.hold.new.self c.hold.new.fill in
+    let from = situation (g.R.DeviceRing.contents c.args.ring.now) host faults in
+    let to = situation (g.R.DeviceRing.contents c.hold.new.ring) host faults in
+    let end = situation (g.R.DeviceRing.contents c.write_packet.new.ring) host faults in
+    let is : q.state.chain ≡ Some c.in-Some.chain = ap (λ (s : DeviceState). s.chain) (sym c.self.view_is) ∙ sym c.in-Some.ensures.value in
+    let put = header_put c.args.header.now r q from to (c.hold.ensures.calls host faults) c.in-Some.chain end is (c.write_packet.ensures.calls host faults) in
+    let state : the_view (record d { chain = c.take.new.self }) ≡ record c.hold.new.self { chain = None } =
+    ap (λ (o : Option Chain). the_view (record d { chain = o })) c.in-Some.ensures.after ∙ ap (λ (s : DeviceState). record s { chain = None }) c.self.view_is in
+    leads_to Allows (put_header c.args.header.now r) from end (after_put q, true) _ (ap (λ (s : DeviceState). (record q { state = s; put = q.put + 1 }, true)) (sym state)) put

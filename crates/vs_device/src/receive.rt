@@ -1,0 +1,448 @@
+//! The last stage of a turn: packets are put on the receive queue, what is owed to unknown flows first, and then, connection by connection,
+//! what is read of the host's streams and what each owes (Virtio 1.2, sections 5.10.6.1 to 5.10.6.5).
+
+ghost use Rattle.std.specs.Prelude.{◌≡◌, ◌≤◌, ◌<◌, ◌+◌, ◌*◌, ◌^◌, not, length, false, true, Some, None, is_some, IfSome, Err, IfErr, IfOk, OnOk};
+ghost use Rattle.vs_conn.specs.End.{CanSend, owes_of};
+ghost use Rattle.vs_conn.specs.Headers.{reset_header};
+ghost use Rattle.vs_conn.specs.declared.end.Owed.TheVariants as owed;
+ghost use Rattle.vs_conn.specs.declared.end.TheConstants.{OWED_MAX};
+ghost use Rattle.vs_contents.specs.CallTree.{while_up_to};
+ghost use Rattle.vs_credit.specs.Credit.{free_of};
+ghost use Rattle.vs_flow.specs.Table.{entry_under, value_under};
+ghost use Rattle.vs_header.specs.declared.TheConstants.{HEADER_LEN};
+ghost use Rattle.vs_page.specs.declared.page.TheConstants.{PAYLOAD_MAX};
+ghost use Rattle.vs_ring_port.specs.declared.device_ring.Chain.{Chain};
+ghost use Rattle.vs_ring_port.specs.declared.failure.Failure.{Failure};
+ghost use Rattle.vs_device.specs.Connections.{route_to_guest};
+ghost use Rattle.vs_device.specs.Filling.{filling_of, is_rst, put_header, read_slot, serve_all, serve_rest};
+ghost use Rattle.vs_device.specs.Playing.{IsItsRing, IsRingOf, MayRun, MayRunOnHost, MayRunOnRing, Runs, RunsOnHost, RunsOnRing, situation};
+ghost use Rattle.vs_device.specs.Receiving.{after_paying, fill_rx_of, filled_of, hold, may_read, put_owed, put_payload, put_reply, read_room, read_with_chain, serve_slot};
+ghost use Rattle.vs_device.specs.State.{DeviceEntry};
+ghost use Rattle.vs_device.specs.declared.limits.TheConstants.{CONNECTIONS, REPLIES};
+
+use crate::answers::Filled;
+use crate::device::Device;
+use crate::packets::{read_into, write_packet};
+use crate::round::round_from;
+use vs_conn::{OWED_MAX, Owed};
+use vs_flow::Slot;
+use vs_header::{HEADER_LEN, Header, Kind, Op};
+use vs_outside::{HostNet, StreamRead};
+use vs_page::{HOST_CID, PAYLOAD_MAX};
+use vs_replies::Reply;
+use vs_ring_port::{DeviceRing, Failure, Next, Queue};
+
+/// What a call of `fill_rx` did so far.
+#[derive(Clone, Copy, Debug, PartialEq, Eq)]
+pub(crate) struct Fill {
+    /// Packets put on the receive queue.
+    pub(crate) put: u32,
+    /// Bytes read from the host's streams.
+    pub(crate) read: u32,
+    /// No chain is there for the next packet, or the ring failed.
+    pub(crate) over: bool,
+}
+
+impl Device {
+    /// Puts packets on the receive queue while chains are there: owed RSTs to unknown flows, oldest first, and then, from the slot after the one
+    /// that last put a packet on, what is read of each connection's stream and what it owes. A stream is read only with a chain held and only
+    /// as far as the guest has credit for, the chain takes and one packet holds. At most one chain is held, also over calls.
+    ///
+    /// Answers how many packets were put and how many bytes were read, or the ring's failure: one of this call, or the one that is kept
+    /// of an earlier call (Virtio 1.2, sections 5.10.6.1 to 5.10.6.5).
+    pub fn fill_rx<R: DeviceRing, H: HostNet>(
+        &mut self,
+        ring: &mut R,
+        host: &mut H,
+    ) -> Result<Filled, Failure>
+        requires ring { IsItsRing (R.held ring.old) self.old }
+        requires may { MayRun (fill_rx_of self.old) (situation (R.contents ring.old) (H.contents host.old) (H.faults host.old)) }
+        ensures ring { IsItsRing (R.held ring.new) self.new }
+        ensures calls { Runs (fill_rx_of self.old) (situation (R.contents ring.old) (H.contents host.old) (H.faults host.old)) (self.new, result) (situation (R.contents ring.new) (H.contents host.new) (H.faults host.new)) }
+        ensures kept { (f : Failure) → self.old.failed ≡ Some f → (self.new ≡ self.old) × (result ≡ Err f) }
+        ensures failed { IfErr result (λ f. self.new.failed ≡ Some f) }
+        ensures ok { OnOk result (self.new.failed ≡ None) }
+        ensures few { IfOk result (λ f. f.put ≤ REPLIES + (OWED_MAX + 1) * CONNECTIONS) }
+        ensures few_read { IfOk result (λ f. f.read ≤ PAYLOAD_MAX * CONNECTIONS) }
+    {
+        if let Some(failure) = self.failed {
+            return Err(failure);
+        }
+        let mut fill = Fill {
+            put: 0,
+            read: 0,
+            over: false,
+        };
+        self.put_replies(ring, &mut fill);
+        self.serve(ring, host, &mut fill);
+        self.filled(fill)
+    }
+
+    // What the call answers.
+    fn filled(&self, fill: Fill) -> Result<Filled, Failure>
+        ensures exact { (self.now, result) ≡ filled_of (filling_of self.now fill) }
+        ensures failed { IfErr result (λ f. self.now.failed ≡ Some f) }
+        ensures ok { OnOk result (self.now.failed ≡ None) }
+        ensures filled { IfOk result (λ f. (f.put ≡ fill.put) × (f.read ≡ fill.read)) }
+    {
+        match self.failed {
+            Some(failure) => Err(failure),
+            None => Ok(Filled {
+                put: fill.put,
+                read: fill.read,
+            }),
+        }
+    }
+
+    // Serves all connections, where chains are still there.
+    fn serve<R: DeviceRing, H: HostNet>(&mut self, ring: &mut R, host: &mut H, fill: &mut Fill)
+        requires ring { IsRingOf (R.held ring.old) self.old }
+        requires few { fill.old.put ≤ REPLIES }
+        requires none { fill.old.read ≡ 0 }
+        requires may { MayRun (serve_rest (filling_of self.old fill.old)) (situation (R.contents ring.old) (H.contents host.old) (H.faults host.old)) }
+        ensures ring { IsRingOf (R.held ring.new) self.new }
+        ensures count { fill.new.put ≤ REPLIES + (OWED_MAX + 1) * CONNECTIONS }
+        ensures read { fill.new.read ≤ PAYLOAD_MAX * CONNECTIONS }
+        ensures calls { Runs (serve_rest (filling_of self.old fill.old)) (situation (R.contents ring.old) (H.contents host.old) (H.faults host.old)) (filling_of self.new fill.new) (situation (R.contents ring.new) (H.contents host.new) (H.faults host.new)) }
+    {
+        if !fill.over {
+            self.serve_all(ring, host, fill);
+        }
+    }
+
+    // Serves all connections, those after the slot that last put a packet first.
+    fn serve_all<R: DeviceRing, H: HostNet>(&mut self, ring: &mut R, host: &mut H, fill: &mut Fill)
+        requires ring { IsRingOf (R.held ring.old) self.old }
+        requires few { fill.old.put ≤ REPLIES }
+        requires none { fill.old.read ≡ 0 }
+        requires may { MayRun (serve_all (filling_of self.old fill.old)) (situation (R.contents ring.old) (H.contents host.old) (H.faults host.old)) }
+        ensures ring { IsRingOf (R.held ring.new) self.new }
+        ensures count { fill.new.put ≤ REPLIES + (OWED_MAX + 1) * CONNECTIONS }
+        ensures read { fill.new.read ≤ PAYLOAD_MAX * CONNECTIONS }
+        ensures calls { Runs (serve_all (filling_of self.old fill.old)) (situation (R.contents ring.old) (H.contents host.old) (H.faults host.old)) (filling_of self.new fill.new) (situation (R.contents ring.new) (H.contents host.new) (H.faults host.new)) }
+    {
+        let slots = self.slots.all();
+        let round = round_from(self.last_put, slots.as_slice());
+        for slot in round.as_slice() {
+            self.serve_slot(ring, host, *slot, fill);
+        }
+    }
+
+    // Serves the connection in a slot: its stream is read, and what it owes is put.
+    fn serve_slot<R: DeviceRing, H: HostNet>(
+        &mut self,
+        ring: &mut R,
+        host: &mut H,
+        slot: Slot,
+        fill: &mut Fill,
+    )
+        requires ring { IsRingOf (R.held ring.old) self.old }
+        requires few { fill.old.put < 2 ^ 14 }
+        requires few_read { fill.old.read < 2 ^ 20 }
+        requires may { MayRun (serve_slot slot (filling_of self.old fill.old)) (situation (R.contents ring.old) (H.contents host.old) (H.faults host.old)) }
+        ensures ring { IsRingOf (R.held ring.new) self.new }
+        ensures count { fill.new.put ≤ fill.old.put + (OWED_MAX + 1) }
+        ensures read { fill.new.read ≤ fill.old.read + PAYLOAD_MAX }
+        ensures calls { Runs (serve_slot slot (filling_of self.old fill.old)) (situation (R.contents ring.old) (H.contents host.old) (H.faults host.old)) (filling_of self.new fill.new) (situation (R.contents ring.new) (H.contents host.new) (H.faults host.new)) }
+    {
+        if fill.over {
+            return;
+        }
+        self.read_slot(ring, host, slot, fill);
+        if !fill.over {
+            self.put_all_owed(ring, host, slot, fill);
+        }
+    }
+
+    // Reads the stream of the connection in a slot, where it may send. Without credit it wants some.
+    fn read_slot<R: DeviceRing, H: HostNet>(
+        &mut self,
+        ring: &mut R,
+        host: &mut H,
+        slot: Slot,
+        fill: &mut Fill,
+    )
+        requires ring { IsRingOf (R.held ring.old) self.old }
+        requires going { fill.old.over ≡ false }
+        requires few { fill.old.put < 2 ^ 14 }
+        requires few_read { fill.old.read < 2 ^ 20 }
+        requires may { MayRun (read_slot slot (filling_of self.old fill.old)) (situation (R.contents ring.old) (H.contents host.old) (H.faults host.old)) }
+        ensures ring { IsRingOf (R.held ring.new) self.new }
+        ensures count { fill.new.put ≤ fill.old.put + 1 }
+        ensures read { fill.new.read ≤ fill.old.read + PAYLOAD_MAX }
+        ensures calls { Runs (read_slot slot (filling_of self.old fill.old)) (situation (R.contents ring.old) (H.contents host.old) (H.faults host.old)) (filling_of self.new fill.new) (situation (R.contents ring.new) (H.contents host.new) (H.faults host.new)) }
+    {
+        let Some(connection) = self.slots.connection(slot) else {
+            return;
+        };
+        if !connection.may_read() {
+            return;
+        }
+        if connection.free() == 0 {
+            self.slots.want_credit(slot);
+            return;
+        }
+        self.hold(ring, fill);
+        self.read_with_chain(ring, host, slot, fill);
+    }
+
+    // Reads the stream of the connection in a slot, which has credit, into the chain that is held, where one is.
+    fn read_with_chain<R: DeviceRing, H: HostNet>(
+        &mut self,
+        ring: &mut R,
+        host: &mut H,
+        slot: Slot,
+        fill: &mut Fill,
+    )
+        requires ring { IsRingOf (R.held ring.old) self.old }
+        requires few { fill.old.put < 2 ^ 14 }
+        requires few_read { fill.old.read < 2 ^ 20 }
+        requires reads { IfSome (value_under self.old.table slot) (λ c. may_read c.end c.end.state ≡ true) }
+        requires credit { IfSome (value_under self.old.table slot) (λ c. 0 < free_of c.end.credit) }
+        requires may { (e : DeviceEntry) → entry_under self.old.table slot ≡ Some e → MayRun (read_with_chain e (filling_of self.old fill.old)) (situation (R.contents ring.old) (H.contents host.old) (H.faults host.old)) }
+        ensures ring { IsRingOf (R.held ring.new) self.new }
+        ensures count { fill.new.put ≤ fill.old.put + 1 }
+        ensures read { fill.new.read ≤ fill.old.read + PAYLOAD_MAX }
+        ensures calls { (e : DeviceEntry) → entry_under self.old.table slot ≡ Some e → Runs (read_with_chain e (filling_of self.old fill.old)) (situation (R.contents ring.old) (H.contents host.old) (H.faults host.old)) (filling_of self.new fill.new) (situation (R.contents ring.new) (H.contents host.new) (H.faults host.new)) }
+    {
+        let Some(chain) = &self.chain else {
+            return;
+        };
+        let Some(connection) = self.slots.connection(slot) else {
+            return;
+        };
+        let room = read_room(connection.free(), chain.writable);
+        let mut payload = [0; PAYLOAD_MAX];
+        match read_into(host, connection.stream(), &mut payload, room) {
+            StreamRead::Got(n) => self.put_payload(ring, slot, &payload[..n], fill),
+            StreamRead::Again => {}
+            StreamRead::End => self.slots.shut(slot, 2, self.moment),
+            StreamRead::Failed => {
+                self.faults = self.faults.saturating_add(1);
+                self.cut_off(host, slot);
+            }
+        }
+    }
+
+    // Puts payload of the connection in a slot into the chain that is held.
+    fn put_payload<R: DeviceRing>(
+        &mut self,
+        ring: &mut R,
+        slot: Slot,
+        payload: &[u8],
+        fill: &mut Fill,
+    )
+        requires ring { IsRingOf (R.held ring.old) self.old }
+        requires few { fill.old.put < 2 ^ 14 }
+        requires few_read { fill.old.read < 2 ^ 20 }
+        requires most { length payload.now ≤ PAYLOAD_MAX }
+        requires room { IfSome self.old.chain (λ chain. HEADER_LEN + length payload.now ≤ chain.writable) }
+        requires credit { IfSome (value_under self.old.table slot) (λ c. CanSend c.end (length payload.now)) }
+        requires may { (e : DeviceEntry) (chain : Chain) → entry_under self.old.table slot ≡ Some e → self.old.chain ≡ Some chain → MayRunOnRing (put_payload chain e payload.now (filling_of self.old fill.old)) (R.contents ring.old) }
+        ensures ring { IsRingOf (R.held ring.new) self.new }
+        ensures count { fill.new.put ≤ fill.old.put + 1 }
+        ensures read { fill.new.read ≤ fill.old.read + PAYLOAD_MAX }
+        ensures calls { (e : DeviceEntry) (chain : Chain) → entry_under self.old.table slot ≡ Some e → self.old.chain ≡ Some chain → RunsOnRing (put_payload chain e payload.now (filling_of self.old fill.old)) (R.contents ring.old) (filling_of self.new fill.new) (R.contents ring.new) }
+    {
+        let len = payload.len() as u32;
+        let Some(header) = self.slots.payload_header(slot, self.cid, len) else {
+            return;
+        };
+        let Some(chain) = self.chain.take() else {
+            return;
+        };
+        write_packet(ring, chain, &header, payload);
+        self.slots.sent(slot, len);
+        self.last_put = Some(slot);
+        fill.put += 1;
+        fill.read += len;
+    }
+
+    // Puts owed replies, oldest first, while chains are there.
+    fn put_replies<R: DeviceRing>(&mut self, ring: &mut R, fill: &mut Fill)
+        requires ring { IsRingOf (R.held ring.old) self.old }
+        requires start { fill.old ≡ record { put = 0; read = 0; over = false } }
+        requires may { MayRunOnRing (while_up_to (length self.old.replies) put_reply (filling_of self.old fill.old)) (R.contents ring.old) }
+        ensures ring { IsRingOf (R.held ring.new) self.new }
+        ensures count { fill.new.put ≤ REPLIES }
+        ensures read { fill.new.read ≡ 0 }
+        ensures calls { RunsOnRing (while_up_to (length self.old.replies) put_reply (filling_of self.old fill.old)) (R.contents ring.old) (filling_of self.new fill.new) (R.contents ring.new) }
+    {
+        let most = self.replies.len();
+        for _ in 0..most {
+            if !self.put_reply(ring, fill) {
+                return;
+            }
+        }
+    }
+
+    // Puts the oldest owed reply, if there is one and a chain for it.
+    fn put_reply<R: DeviceRing>(&mut self, ring: &mut R, fill: &mut Fill) -> bool
+        requires ring { IsRingOf (R.held ring.old) self.old }
+        requires going { fill.old.over ≡ false }
+        requires few { fill.old.put < 2 ^ 16 }
+        requires may { MayRunOnRing (put_reply (filling_of self.old fill.old)) (R.contents ring.old) }
+        ensures ring { IsRingOf (R.held ring.new) self.new }
+        ensures over { result ≡ true → fill.new.over ≡ false }
+        ensures count { fill.new.put ≤ fill.old.put + 1 }
+        ensures read { fill.new.read ≡ fill.old.read }
+        ensures calls { RunsOnRing (put_reply (filling_of self.old fill.old)) (R.contents ring.old) (filling_of self.new fill.new, result) (R.contents ring.new) }
+    {
+        let Some(reply) = self.replies.front() else {
+            return false;
+        };
+        let header = reply_header(self.cid, reply);
+        if !self.put_header(ring, &header, fill) {
+            return false;
+        }
+        self.replies.paid();
+        true
+    }
+
+    // Puts what the connection in a slot owes, while chains are there.
+    fn put_all_owed<R: DeviceRing, H: HostNet>(
+        &mut self,
+        ring: &mut R,
+        host: &mut H,
+        slot: Slot,
+        fill: &mut Fill,
+    )
+        requires ring { IsRingOf (R.held ring.old) self.old }
+        requires going { fill.old.over ≡ false }
+        requires few { fill.old.put < 2 ^ 15 }
+        requires may { MayRun (while_up_to OWED_MAX (put_owed slot) (filling_of self.old fill.old)) (situation (R.contents ring.old) (H.contents host.old) (H.faults host.old)) }
+        ensures ring { IsRingOf (R.held ring.new) self.new }
+        ensures count { fill.new.put ≤ fill.old.put + OWED_MAX }
+        ensures read { fill.new.read ≡ fill.old.read }
+        ensures calls { Runs (while_up_to OWED_MAX (put_owed slot) (filling_of self.old fill.old)) (situation (R.contents ring.old) (H.contents host.old) (H.faults host.old)) (filling_of self.new fill.new) (situation (R.contents ring.new) (H.contents host.new) (H.faults host.new)) }
+    {
+        for _ in 0..OWED_MAX {
+            if !self.put_owed(ring, host, slot, fill) {
+                return;
+            }
+        }
+    }
+
+    // Puts the packet that the connection in a slot owes, if it owes one and a chain is there.
+    fn put_owed<R: DeviceRing, H: HostNet>(
+        &mut self,
+        ring: &mut R,
+        host: &mut H,
+        slot: Slot,
+        fill: &mut Fill,
+    ) -> bool
+        requires ring { IsRingOf (R.held ring.old) self.old }
+        requires going { fill.old.over ≡ false }
+        requires few { fill.old.put < 2 ^ 16 }
+        requires may { MayRun (put_owed slot (filling_of self.old fill.old)) (situation (R.contents ring.old) (H.contents host.old) (H.faults host.old)) }
+        ensures ring { IsRingOf (R.held ring.new) self.new }
+        ensures over { result ≡ true → fill.new.over ≡ false }
+        ensures count { fill.new.put ≤ fill.old.put + 1 }
+        ensures read { fill.new.read ≡ fill.old.read }
+        ensures calls { Runs (put_owed slot (filling_of self.old fill.old)) (situation (R.contents ring.old) (H.contents host.old) (H.faults host.old)) (filling_of self.new fill.new, result) (situation (R.contents ring.new) (H.contents host.new) (H.faults host.new)) }
+    {
+        let Some((what, header)) = self.slots.owed(slot, self.cid) else {
+            return false;
+        };
+        if !self.put_header(ring, &header, fill) {
+            return false;
+        }
+        self.count_paid(host, slot, what);
+        true
+    }
+
+    // Counts what the connection in a slot owed as put. With its RST it leaves the table.
+    fn count_paid<H: HostNet>(&mut self, host: &mut H, slot: Slot, what: Owed)
+        requires owed { (e : DeviceEntry) → entry_under self.old.table slot ≡ Some e → owes_of e.value.end ≡ Some what }
+        requires may { (e : DeviceEntry) → entry_under self.old.table slot ≡ Some e → MayRunOnHost (after_paying what e self.old) (H.contents host.old) (H.faults host.old) }
+        ensures chain { self.new.chain ≡ self.old.chain }
+        ensures calls { (e : DeviceEntry) → entry_under self.old.table slot ≡ Some e → RunsOnHost (after_paying what e self.old) (H.contents host.old) (H.faults host.old) self.new (H.contents host.new) (H.faults host.new) }
+    {
+        self.last_put = Some(slot);
+        if is_rst(what) {
+            self.leave(host, slot);
+        } else {
+            self.slots.paid(slot, what, self.moment);
+        }
+    }
+
+    // Puts a packet without payload where a chain is or becomes held, and tells whether it did.
+    fn put_header<R: DeviceRing>(&mut self, ring: &mut R, header: &Header, fill: &mut Fill) -> bool
+        requires ring { IsRingOf (R.held ring.old) self.old }
+        requires going { fill.old.over ≡ false }
+        requires few { fill.old.put < 2 ^ 16 }
+        requires may { MayRunOnRing (put_header header.now (filling_of self.old fill.old)) (R.contents ring.old) }
+        ensures ring { IsRingOf (R.held ring.new) self.new }
+        ensures over { fill.new.over ≡ not result }
+        ensures count { fill.new.put ≤ fill.old.put + 1 }
+        ensures read { fill.new.read ≡ fill.old.read }
+        ensures others { self.new ≡ record self.old { chain = self.new.chain; failed = self.new.failed } }
+        ensures calls { RunsOnRing (put_header header.now (filling_of self.old fill.old)) (R.contents ring.old) (filling_of self.new fill.new, result) (R.contents ring.new) }
+    {
+        self.hold(ring, fill);
+        let Some(chain) = self.chain.take() else {
+            return false;
+        };
+        write_packet(ring, chain, header, &[]);
+        fill.put += 1;
+        true
+    }
+
+    // Holds a chain of the receive queue: the one that is held already, or the next one. Where there is none, the stage is over.
+    fn hold<R: DeviceRing>(&mut self, ring: &mut R, fill: &mut Fill)
+        requires ring { IsRingOf (R.held ring.old) self.old }
+        requires going { fill.old.over ≡ false }
+        ensures ring { IsRingOf (R.held ring.new) self.new }
+        ensures over { fill.new.over ≡ not (is_some self.new.chain) }
+        ensures others { self.new ≡ record self.old { chain = self.new.chain; failed = self.new.failed } }
+        ensures counts { fill.new ≡ record fill.old { over = fill.new.over } }
+        ensures calls { RunsOnRing (hold (filling_of self.old fill.old)) (R.contents ring.old) (filling_of self.new fill.new) (R.contents ring.new) }
+    {
+        if self.chain.is_some() {
+            return;
+        }
+        match ring.next(Queue::Rx) {
+            Next::Chain(chain) => self.chain = Some(chain),
+            Next::None => fill.over = true,
+            Next::Failed(failure) => {
+                self.failed = Some(failure);
+                fill.over = true;
+            }
+        }
+    }
+}
+
+// How many bytes a connection with this credit may read into a chain with so many bytes to write.
+fn read_room(credit: u32, writable: u64) -> usize
+    requires { HEADER_LEN ≤ writable }
+    ensures room { (chain : Chain) → chain.writable ≡ writable → result ≡ read_room credit chain }
+    ensures most { result ≤ PAYLOAD_MAX }
+{
+    let held = writable - HEADER_LEN as u64;
+    u64::from(credit).min(held).min(PAYLOAD_MAX as u64) as usize
+}
+
+// Whether a packet that is owed is RST.
+fn is_rst(what: Owed) -> bool
+    ensures { result ≡ is_rst what }
+{
+    matches!(what, Owed::Rst)
+}
+
+// The header of an RST that is owed to an unknown flow.
+fn reply_header(cid: u64, reply: Reply) -> Header
+    ensures { result ≡ reset_header (route_to_guest cid (record { guest = reply.dst_port; host = reply.src_port })) }
+{
+    Header {
+        src_cid: HOST_CID,
+        dst_cid: cid,
+        src_port: reply.src_port,
+        dst_port: reply.dst_port,
+        len: 0,
+        kind: Kind::Stream.number(),
+        op: Op::Rst.number(),
+        flags: 0,
+        buf_alloc: 0,
+        fwd_cnt: 0,
+    }
+}
