@@ -1,5 +1,5 @@
 -- What paying the owed event comes to.
-use Rattle.std.proofs.Common.{◌≡◌, ℕ, Bool, true, false, cond, Option, Some, None, Result, Ok, Err, refl, sym, ap, subst, ◌∙◌}
+use Rattle.std.proofs.Common.{◌≡◌, ℕ, Bool, true, false, cond, Option, Some, None, Result, Ok, Err, refl, sym, ap, subst, ◌∙◌, arith}
 use Rattle.byteorder.specs.Endian.{little_bytes}
 use Rattle.vs_contents.specs.CallTree.{Done, Ask}
 use Rattle.vs_contents.proofs.Leads.{leads_of}
@@ -51,4 +51,4 @@ put chain s t x y z written returned end =
 
 pub may_return : (chain : Chain) (s : DeviceState) (x y : Situation) → MayRun (event_on (next.Chain chain) s) x → Allows (Ring (Write chain 0 (little_bytes 4 0))) tt x y
     → CanReturn chain 4 y.ring
-may_return chain s x y may written = (may.1 tt y written).0
+may_return chain s x y may written = (may.1 tt y written).0 (omega arith)

@@ -16,3 +16,4 @@ mod Verdicts
 mod Takings
 mod EventPaying
 mod Resetting
+mod Returning

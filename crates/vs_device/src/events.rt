@@ -1,11 +1,12 @@
 //! The event of a transport reset (Virtio 1.2, section 5.10.6.7).
 
-ghost use Rattle.std.specs.Prelude.{◌≡◌, ◌≤◌, true, Contains, Ok};
+ghost use Rattle.std.specs.Prelude.{◌≡◌, ◌≤◌, ◌&&◌, not, true, false, Contains, Some, Ok, Err, IfOk, IfErr};
 ghost use Rattle.byteorder.specs.Endian.{little_bytes};
 ghost use Rattle.vs_ring_port.specs.Chains.{without};
 ghost use Rattle.vs_ring_port.specs.Contents.{Write, Return};
 ghost use Rattle.vs_ring_port.specs.DeviceCalls.{CanReturn, LeavesNoGap};
 ghost use Rattle.vs_ring_port.specs.declared.device_ring.Next.TheVariants as next;
+ghost use Rattle.vs_ring_port.specs.declared.failure.Failure.{Failure};
 ghost use Rattle.vs_device.specs.Playing.{AllowsOnRing, IsItsRing, MayRunOnRing, RunsOnRing};
 ghost use Rattle.vs_device.specs.Receiving.{event_on, pay_event_of};
 
@@ -22,6 +23,9 @@ impl Device {
         requires may { MayRunOnRing (pay_event_of self.old) (R.contents ring.old) }
         ensures ring { IsItsRing (R.held ring.new) self.new }
         ensures calls { RunsOnRing (pay_event_of self.old) (R.contents ring.old) (self.new, result) (R.contents ring.new) }
+        ensures kept { (f : Failure) → self.old.failed ≡ Some f → (self.new ≡ self.old) × (result ≡ Err f) }
+        ensures failed { IfErr result (λ f. self.new.failed ≡ Some f) }
+        ensures paid { IfOk result (λ paid. self.new ≡ record self.old { event_owed = self.old.event_owed && not paid }) }
     {
         if let Some(failure) = self.failed {
             return Err(failure);
@@ -50,7 +54,7 @@ impl Device {
         requires may { MayRunOnRing (event_on (next.Chain chain) self.old) (R.contents ring.old) }
         ensures held { R.held ring.new ≡ without chain (R.held ring.old) }
         ensures calls { RunsOnRing (event_on (next.Chain chain) self.old) (R.contents ring.old) (self.new, Ok true) (R.contents ring.new) }
-        ensures chain { self.new.chain ≡ self.old.chain }
+        ensures state { self.new ≡ record self.old { event_owed = false } }
     {
         write_event(ring, &chain);
         return_event(ring, chain);

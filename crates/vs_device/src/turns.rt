@@ -1,6 +1,6 @@
 //! Connections that clients of the host ask for, transport resets, and what the device shows of its connections.
 
-ghost use Rattle.std.specs.Prelude.{◌≡◌, ◌≤◌, ◌<◌, ◌^◌, Some, IfOk, IfErr, OnErr, OnOk, Err, length};
+ghost use Rattle.std.specs.Prelude.{◌≡◌, ◌≤◌, ◌<◌, ◌^◌, [], true, Some, IfOk, IfErr, OnErr, OnOk, Err, length};
 ghost use Rattle.std.specs.Iterator.{YieldsFirst, item_count};
 ghost use Rattle.vs_contents.specs.CallTree.{for_each};
 ghost use Rattle.vs_flow.specs.Table.{refusal, slots};
@@ -60,6 +60,11 @@ impl Device {
         requires may { MayRun (reset_of cid self.old) (situation (R.contents ring.old) (H.contents host.old) (H.faults host.old)) }
         ensures ring { IsItsRing (R.held ring.new) self.new }
         ensures calls { Runs (reset_of cid self.old) (situation (R.contents ring.old) (H.contents host.old) (H.faults host.old)) (self.new, result) (situation (R.contents ring.new) (H.contents host.new) (H.faults host.new)) }
+        ensures refused { IfErr result (λ f. self.old.failed ≡ Some f) }
+        ensures unchanged { OnErr result (self.new ≡ self.old) }
+        ensures kept { (f : Failure) → self.old.failed ≡ Some f → result ≡ Err f }
+        ensures empty { OnOk result ((self.new.table.entries ≡ []) × (self.new.replies ≡ [])) }
+        ensures published { OnOk result ((self.new.cid ≡ cid) × (self.new.event_owed ≡ true)) }
     {
         if let Some(failure) = self.failed {
             return Err(failure);
