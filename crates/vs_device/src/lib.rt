@@ -12,9 +12,11 @@ mod packets;
 mod receive;
 mod ring_calls;
 mod round;
+mod shown;
 mod slots;
 mod streams;
 mod transmit;
 
 pub use answers::{Counters, Filled, Taken};
 pub use device::Device;
+pub use limits::{CONNECTIONS, TIMEOUT};
