@@ -14,3 +14,6 @@ mod Reading
 mod Held
 mod Verdicts
 mod Takings
+mod EventPaying
+mod Resetting
+mod Returning

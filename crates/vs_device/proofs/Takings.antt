@@ -22,7 +22,6 @@ use Rattle.vs_ring_port.specs.declared.queue.Queue.{Queue}
 use Rattle.vs_ring_port.specs.declared.queue.Queue.TheVariants.{Rx, Tx, Event}
 use Rattle.vs_ring_port.specs.Chains.{same_queue, same_chain, without}
 use Rattle.vs_ring_port.specs.Contents.{Take, Read, Return}
-use Rattle.vs_ring_port.specs.DeviceCalls.{CanReturn}
 use Rattle.vs_uds.specs.Path.{path_of}
 use Rattle.vs_device.specs.declared.answers.Taken.{Taken}
 use Rattle.vs_device.specs.declared.answers.Taken.TheVariants as taken
@@ -88,14 +87,6 @@ module _ (chain : Chain) (h : Header) (s : DeviceState) where
 
   pub may_packet : (x : Situation) → nat_lt (chain.readable - HEADER_LEN) h.len ≡ false → MayRun (on_header chain h s) x → MayRun (on_packet chain h s) x
   may_packet x fits may = may_first CanMake Allows (on_packet chain h s) after_packet x (may_of CanMake Allows _ _ x (whole fits) may)
-
-  pub may_return : (t : DeviceState) (v : Verdict) (x y : Situation) → nat_lt (chain.readable - HEADER_LEN) h.len ≡ false → MayRun (on_header chain h s) x
-      → Runs (on_packet chain h s) x (t, v) y → CanReturn chain 0 y.ring
-  unfolding after_packet
-  may_return t v x y fits may first =
-      let r : DeviceState × Verdict = (t, v) in
-      let rest : MayRun (after_packet r) y = may_rest CanMake Allows (on_packet chain h s) after_packet x y r (may_of CanMake Allows _ _ x (whole fits) may) first in
-      rest.0
 
   pub took_packet : (t : DeviceState) (v : Verdict) (x y z : Situation) → nat_lt (chain.readable - HEADER_LEN) h.len ≡ false
       → Runs (on_packet chain h s) x (t, v) y → Allows (Ring (Return chain 0)) tt y z → Runs (on_header chain h s) x (t, taken.Packet v) z

@@ -1,9 +1,10 @@
 -- The entry under a slot, and the table with another value there.
-use Rattle.std.proofs.Common.{◌≡◌, ℕ, ◌==◌, Bool, true, false, cond, List, [], ◌∷◌, map, Option, Some, None, refl, sym, ap, ◌∙◌, arith}
+use Rattle.std.proofs.Common.{◌≡◌, ℕ, ◌==◌, Bool, true, false, cond, List, [], ◌∷◌, map, Option, Some, None, is_some, refl, sym, ap, ◌∙◌, arith}
 use Rattle.std.specs.Option.{option_map}
 use Rattle.std.proofs.lemmas.Bool.Decides.{nat_tests}
-use Rattle.vs_flow.specs.Table.{Table, entry_under, value_under, with_value, revalued}
-use Rattle.vs_flow.proofs.Entries.{found_passes}
+use Rattle.std.specs.List.{slice_get}
+use Rattle.vs_flow.specs.Table.{Table, IsTable, entry_under, value_under, with_value, revalued, emptied}
+use Rattle.vs_flow.proofs.Entries.{found_at, found_passes}
 use Rattle.vs_flow.proofs.Tables.{revalued-slot}
 use Rattle.vs_flow.proofs.Lookups.{entry_under-with_value}
 use Rattle.vs_device.specs.State.{DeviceConnection, DeviceEntry}
@@ -85,3 +86,25 @@ pub record IsMapped {X : Type 0} (f : X → ℕ) (o : Option X) (n : ℕ) : Type
 pub mapped : {X : Type 0} (f : X → ℕ) (o : Option X) (n : ℕ) → Some n ≡ option_map f o → IsMapped f o n
 mapped f None n is = absurd (cc)
 mapped f (Some x) n is = record { from = x; some = refl; gives = cc }
+
+-- the first entry stands under its slot
+pub first_under : (t : Table DeviceConnection) (slot : ℕ) → IsTable t → Some slot ≡ option_map (λ e. e.slot) (slice_get t.entries 0)
+    → (e : DeviceEntry) × (entry_under t slot ≡ Some e)
+first_under t slot sound is =
+    let m = mapped (λ (e : DeviceEntry). e.slot) (slice_get t.entries 0) slot is in
+    (m.from, ap (λ (n : ℕ). entry_under t n) (sym m.gives) ∙ found_at t.entries 0 m.from sound.rising m.some)
+
+-- none is left
+no_entries : (es : List DeviceEntry) → None ≡ option_map (λ (e : DeviceEntry). e.slot) (slice_get es 0) → es ≡ []
+no_entries [] is = refl
+no_entries (e ∷ es) is = absurd (cc)
+
+pub none_left : (t : Table DeviceConnection) → None ≡ option_map (λ e. e.slot) (slice_get t.entries 0) → t ≡ emptied t
+none_left t is = ap (λ (es : List DeviceEntry). let u : Table DeviceConnection = record t { entries = es } in u) (no_entries t.entries is)
+
+some_from : {X Y : Type 0} (f : X → Y) (o : Option X) → is_some (option_map f o) ≡ true → (x : X) × (o ≡ Some x)
+some_from f None is = absurd (cc)
+some_from f (Some x) is = (x, refl)
+
+pub some_value : (t : Table DeviceConnection) (slot : ℕ) → is_some (value_under t slot) ≡ true → (e : DeviceEntry) × (entry_under t slot ≡ Some e)
+some_value t slot is = some_from (λ (e : DeviceEntry). e.value) (entry_under t slot) is

@@ -1,5 +1,5 @@
 -- How a device, its ring and its host belong together, and what it takes to make a call.
-use Rattle.std.specs.Prelude.{◌≡◌, ℕ, false, List, [], ◌∷◌, Option, Some, None}
+use Rattle.std.specs.Prelude.{◌≡◌, ◌<◌, ℕ, false, List, [], ◌∷◌, Option, Some, None}
 use Rattle.std.specs.Option.{ForSome, IfSome}
 use Rattle.vs_contents.specs.CallTree.{Leads, MayPlay}
 use Rattle.vs_outside.specs.Host.{HostContents, IsOpen}
@@ -14,10 +14,11 @@ use Rattle.vs_device.specs.State.{DeviceConnection, DeviceState}
 abbrev pub situation : RingContents → Option HostContents → ℕ → Situation
 situation ring host faults = record { ring = ring; host = host; faults = faults }
 
--- What ring and host ask of a call, beside what a device keeps itself: that the chain is held, and that what is read or written lies in it.
+-- What ring and host ask of a call, beside what a device keeps itself: that the chain is held, that what is read or written lies in it, and
+-- that a chain of tx is returned with nothing.
 abbrev pub CanMake : Call → Situation → Type 0
 CanMake (Ring (Write chain place bytes)) s = LeavesNoGap chain place s.ring
-CanMake (Ring (Return chain len)) s = CanReturn chain len s.ring
+CanMake (Ring (Return chain len)) s = 0 < len → CanReturn chain len s.ring
 CanMake (Label stream flow) s = ForSome s.host (IsOpen stream)
 CanMake (ReadStream stream n) s = ForSome s.host (IsOpen stream)
 CanMake (WriteStream stream bytes) s = ForSome s.host (IsOpen stream)

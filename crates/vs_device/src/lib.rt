@@ -6,6 +6,7 @@ pub mod answers;
 mod closing;
 mod connection;
 mod device;
+mod events;
 mod host_calls;
 pub mod limits;
 mod packets;
@@ -16,7 +17,9 @@ mod shown;
 mod slots;
 mod streams;
 mod transmit;
+mod turns;
 
 pub use answers::{Counters, Filled, Taken};
 pub use device::Device;
 pub use limits::{CONNECTIONS, TIMEOUT};
+pub use turns::Entries;

@@ -181,6 +181,23 @@ impl Slots {
         insert(&mut self.table, flow, connection);
     }
 
+    /// All connections leave the table.
+    pub fn clear(&mut self)
+        ensures { self.new ≡ emptied self.old }
+    {
+        while let Some(slot) = self.first() {
+            self.leave(slot);
+        }
+    }
+
+    // The slot of the connection that was opened first of those in the table.
+    fn first(&self) -> Option<Slot>
+        ensures first { result ≡ option_map (λ e. e.slot) (slice_get self.now.entries 0) }
+        ensures sound { IsTable self.now }
+    {
+        Some(self.table.at(0)?.slot)
+    }
+
     /// The connection in a slot leaves the table, and its slot is free.
     pub fn leave(&mut self, slot: Slot)
         ensures { self.new ≡ without self.old slot }

@@ -14,7 +14,9 @@ ghost use Rattle.vs_ring_port.specs.Chains.{IsLongEnough};
 ghost use Rattle.vs_ring_port.specs.Contents.{Read};
 ghost use Rattle.vs_ring_port.specs.declared.device_ring.Chain.{Chain};
 ghost use Rattle.vs_ring_port.specs.declared.device_ring.Next.TheVariants as next;
+ghost use Rattle.vs_ring_port.specs.declared.failure.Failure.{Failure};
 ghost use Rattle.vs_ring_port.specs.declared.queue.Queue.TheVariants.{Tx};
+ghost use Rattle.vs_device.specs.declared.answers.Taken.TheVariants as taken;
 ghost use Rattle.vs_device.specs.declared.limits.TheConstants.{REPLIES};
 ghost use Rattle.vs_device.specs.Calls.{DeviceTree};
 ghost use Rattle.vs_device.specs.Connections.{with_connection, with_reply};
@@ -51,6 +53,9 @@ impl Device {
         requires may { MayRun (take_tx_of self.old) (situation (R.contents ring.old) (H.contents host.old) (H.faults host.old)) }
         ensures ring { IsItsRing (R.held ring.new) self.new }
         ensures calls { Runs (take_tx_of self.old) (situation (R.contents ring.old) (H.contents host.old) (H.faults host.old)) (self.new, result) (situation (R.contents ring.new) (H.contents host.new) (H.faults host.new)) }
+        ensures kept { (f : Failure) → self.old.failed ≡ Some f → (self.new ≡ self.old) × (result ≡ taken.Failed f) }
+        ensures failed { (f : Failure) → result ≡ taken.Failed f → self.new.failed ≡ Some f }
+        ensures full { (n : ℕ) → result ≡ taken.RepliesFull n → (n ≡ REPLIES) × (self.new ≡ self.old) }
     {
         if let Some(failure) = self.failed {
             return Taken::Failed(failure);
@@ -79,11 +84,14 @@ impl Device {
     ) -> Taken
         requires held { R.held ring.old ≡ chain ∷ held_by self.old.chain }
         requires rx { IfSome self.old.chain IsRxChain }
+        requires queue { chain.queue ≡ Tx }
         requires long_enough { IsLongEnough Tx chain }
         requires room { length self.old.replies < REPLIES }
         requires may { MayRun (on_next (next.Chain chain) self.old) (situation (R.contents ring.old) (H.contents host.old) (H.faults host.old)) }
         ensures ring { IsItsRing (R.held ring.new) self.new }
         ensures calls { Runs (on_next (next.Chain chain) self.old) (situation (R.contents ring.old) (H.contents host.old) (H.faults host.old)) (self.new, result) (situation (R.contents ring.new) (H.contents host.new) (H.faults host.new)) }
+        ensures failed { (f : Failure) → result ≡ taken.Failed f → self.new.failed ≡ Some f }
+        ensures some { (n : ℕ) → result ≡ taken.RepliesFull n → ⊥ }
     {
         let header = read_header(ring, &chain);
         if is_short(&chain, header.len) {

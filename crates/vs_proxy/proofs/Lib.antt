@@ -1,2 +1,2 @@
 mod Waiting
-mod Shaking
+mod Handshaking

@@ -32,7 +32,8 @@ use Rattle.vs_device.specs.contracts.device.Device.{the_view}
 use Rattle.vs_device.proofs.Leaving.{changed, changed_twice, leaving_twice}
 use Rattle.vs_device.proofs.Under.{has_slot, value_of, with_its, under_changed, value_changed}
 use Rattle.vs_device.proofs.Verdicts.{accepted, delivered, over, stays, refuses, by_verdict, discards, ignores, known, may_leave}
-use Rattle.vs_device.proofs.Takings.{newest_held, without_newest, may_packet, may_return, took_packet, too_short, may_header, read_header}
+use Rattle.vs_device.proofs.Takings.{newest_held, without_newest, may_packet, took_packet, too_short, may_header, read_header}
+use Rattle.vs_device.proofs.Returning.{returned_unread}
 use Rattle.vs_device.proofs.device.Device.take_chain.Goals as goal
 
 pub returns-then-is_short-clause-calls : goal.returns-then-is_short-clause-calls
@@ -73,20 +74,7 @@ return_read-requires-clause-is_held g c =
     newest_held c.args.chain (g.R.DeviceRing.held c.on_packet-verdict.new.ring) (held_by c.args.self.now.chain) (c.on_packet-verdict.ensures.held ∙ (c.read_header-header.ensures.held ∙ c.requires.held))
 
 pub return_read-requires-clause-may : goal.return_read-requires-clause-may
-return_read-requires-clause-may g c =
-    let s : DeviceState = c.args.self.now in
-    let h : Header = c.read_header-header.result in
-    let host = g.H.HostNet.contents c.args.host.now in
-    let faults = g.H.HostNet.faults c.args.host.now in
-    let x = situation (g.R.DeviceRing.contents c.args.ring.now) host faults in
-    let y = situation (g.R.DeviceRing.contents c.read_header-header.new.ring) host faults in
-    let bytes = c.read_header-header.ensures.calls.0 in
-    let read : Allows (Ring (Read c.args.chain 0 HEADER_LEN)) bytes x y = c.read_header-header.ensures.calls.1 host faults in
-    let is = c.read_header-header.ensures.calls.2 in
-    let fits : nat_lt (c.args.chain.readable - HEADER_LEN) h.len ≡ false = sym c.if-is_short.ensures in
-    let may = may_header c.args.chain s bytes h is x y read c.requires.may in
-    let z = situation (g.R.DeviceRing.contents c.on_packet-verdict.new.ring) (g.H.HostNet.contents c.on_packet-verdict.new.host) (g.H.HostNet.faults c.on_packet-verdict.new.host) in
-    may_return c.args.chain h s c.on_packet-verdict.new.self c.on_packet-verdict.result y z fits may c.on_packet-verdict.ensures.calls
+return_read-requires-clause-may g c = returned_unread c.args.chain (g.R.DeviceRing.contents c.on_packet-verdict.new.ring) c.requires.queue
 
 pub returns-clause-ring : goal.returns-clause-ring
 returns-clause-ring g c = λ _. record {

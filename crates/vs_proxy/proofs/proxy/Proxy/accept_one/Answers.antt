@@ -9,7 +9,7 @@ use Rattle.vs_proxy.specs.State.{Handshake, ProxyState, Turning}
 use Rattle.vs_proxy.specs.Turning.{turning_of}
 use Rattle.vs_proxy.specs.declared.limits.TheConstants.{HANDSHAKES}
 use Rattle.vs_proxy.specs.contracts.proxy.Proxy.{the_view}
-use Rattle.vs_proxy.proofs.Shaking.{accepts, no_place}
+use Rattle.vs_proxy.proofs.Handshaking.{accepts, no_place}
 use Rattle.vs_proxy.proofs.proxy.Proxy.accept_one.Goals as goal
 
 pub returns-in-Stream-clause-calls : goal.returns-in-Stream-clause-calls

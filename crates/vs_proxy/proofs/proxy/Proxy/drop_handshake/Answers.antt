@@ -4,7 +4,7 @@ use Rattle.vs_proxy.specs.Handshakes.{without_handshake}
 use Rattle.vs_proxy.specs.State.{Handshake, ProxyState, Turning}
 use Rattle.vs_proxy.specs.Turning.{turning_of}
 use Rattle.vs_proxy.specs.contracts.proxy.Proxy.{the_view}
-use Rattle.vs_proxy.proofs.Shaking.{drops, dropped}
+use Rattle.vs_proxy.proofs.Handshaking.{drops, dropped}
 use Rattle.vs_proxy.proofs.proxy.Proxy.drop_handshake.Goals as goal
 
 pub returns-clause-calls : goal.returns-clause-calls

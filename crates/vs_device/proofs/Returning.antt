@@ -1,0 +1,15 @@
+-- A chain of tx may be returned with nothing.
+use Rattle.std.proofs.Common.{◌≡◌, ℕ, ◌≤◌, true, length, take, sym, subst, arith}
+use Rattle.vs_ring_port.specs.declared.device_ring.Chain.{Chain}
+use Rattle.vs_ring_port.specs.declared.queue.Queue.{Queue}
+use Rattle.vs_ring_port.specs.declared.queue.Queue.TheVariants.{Tx}
+use Rattle.vs_ring_port.specs.Chains.{bytes_in}
+use Rattle.vs_ring_port.specs.Contents.{RingContents}
+use Rattle.vs_ring_port.specs.DeviceCalls.{CanReturn, IsWholePacket}
+
+pub returned_unread : (chain : Chain) (c : RingContents) → chain.queue ≡ Tx → CanReturn chain 0 c
+returned_unread chain c tx = record {
+  room = omega arith;
+  written = λ l is. omega arith;
+  whole = λ honest l is. let P : Queue → Type 0 = λ q. IsWholePacket q (take 0 (bytes_in chain l.held)) l in subst P (sym tx) tt;
+}

@@ -1,0 +1,18 @@
+use Rattle.std.proofs.Common.{◌≡◌, ℕ, ◌*◌, ◌≤◌, length, drop, Option}
+use Rattle.vs_contents.specs.CallTree.{for_each}
+use Rattle.vs_outside.specs.Host.{HostContents}
+use Rattle.vs_device.specs.declared.limits.TheConstants.{CONNECTIONS, WRITE_MAX}
+use Rattle.vs_device.specs.State.{DeviceState}
+use Rattle.vs_device.specs.Playing.{MayRunOnHost, RunsOnHost}
+use Rattle.vs_flow.specs.Table.{slots}
+use Rattle.vs_device.specs.Turns.{close_slot}
+use Rattle.vs_device.proofs.device.Device.close_all.Given as goal
+
+-- whatever completes the rest completes the whole
+abbrev pub invariant-loop-slot : goal.invariant-loop-slot
+invariant-loop-slot g l = record {
+  goes_on : (new : DeviceState) (h : Option HostContents) (n : ℕ) → RunsOnHost (for_each close_slot (drop l.slot-index l.slot-items) l.self) (g.H.HostNet.contents l.host) (g.H.HostNet.faults l.host) new h n
+      → RunsOnHost (for_each close_slot (slots l.fn.self.table) l.fn.self) (g.H.HostNet.contents l.fn.host) (g.H.HostNet.faults l.fn.host) new h n;
+  may : MayRunOnHost (for_each close_slot (drop l.slot-index l.slot-items) l.self) (g.H.HostNet.contents l.host) (g.H.HostNet.faults l.host);
+  chain : l.self.chain ≡ l.fn.self.chain;
+}

@@ -1,0 +1,29 @@
+use Rattle.std.proofs.Common.{◌≡◌, ℕ, ◌+◌, ◌<◌, ◌∷◌, Bool, true, false, List, length, map, drop, Option, Some, None, is_some, Ok, Err, refl, sym, ap, subst, ◌∙◌, rules, arith}
+use Rattle.std.specs.List.{slice_get}
+use Rattle.std.specs.Option.{option_map}
+use Rattle.vs_contents.specs.CallTree.{for_each}
+use Rattle.vs_flow.specs.Table.{Table, entry_of, entry_under, value_under, has_place, refusal, slots}
+use Rattle.vs_flow.specs.declared.flow.Flow.{Flow}
+use Rattle.vs_conn.specs.declared.end.State.{State}
+use Rattle.vs_ring_port.specs.Contents.{RingContents}
+use Rattle.vs_device.specs.Calls.{Situation, Allows, Label}
+use Rattle.vs_device.specs.Connections.{stream_closed, with_client}
+use Rattle.vs_device.specs.Playing.{MayClose, MayRun, Runs, situation}
+use Rattle.vs_device.specs.State.{DeviceConnection, DeviceEntry, DeviceState}
+use Rattle.vs_device.specs.Streams.{closing}
+use Rattle.vs_device.specs.Turns.{after_reset, close_slot, open_of, reset_of}
+use Rattle.vs_device.specs.contracts.device.Device.{the_view}
+use Rattle.vs_device.proofs.Each.{each_more, may_each_step, may_each_more, each_end}
+use Rattle.vs_device.proofs.Under.{under}
+use Rattle.vs_device.proofs.Resetting.{closes, opened, may_close_all, was_reset}
+use Rattle.vs_device.proofs.device.Device.open.Goals as goal
+
+pub returns-clause-calls : goal.returns-clause-calls
+returns-clause-calls g c = λ ring.
+    let s : DeviceState = c.args.self.now in
+    let accepted : refusal s.table c.args.flow ≡ None = rw (← c.self.view_is) (search rules) in
+    let d = c.self.inside in
+    let t : DeviceState = the_view (record d { slots = c.open_client-slot.new.self; opened = c.saturating_add-self-inside.result }) in
+    let end : t ≡ with_client c.args.flow c.args.stream s = rw (← c.self.view_is) (search rules) in
+    let at : c.open_client-slot.result ≡ s.table.given = rw (← c.self.view_is) c.open_client-slot.ensures.slot in
+    opened c.args.flow c.args.stream s accepted t c.open_client-slot.result _ _ (c.label.ensures ring) end at

@@ -1,0 +1,65 @@
+use Rattle.std.proofs.Common.{◌≡◌, ℕ, Bool, true, false, Option, Some, None, Result, Ok, Err, refl, sym, ap, subst, ◌∙◌, rules, arith}
+use Rattle.byteorder.specs.Endian.{little_bytes}
+use Rattle.vs_outside.specs.Host.{HostContents}
+use Rattle.vs_ring_port.specs.Contents.{RingContents, Take, Write, Return, PublishCid}
+use Rattle.vs_ring_port.specs.declared.device_ring.Next.{Next}
+use Rattle.vs_ring_port.specs.declared.device_ring.Next.TheVariants as next
+use Rattle.vs_ring_port.specs.declared.failure.Failure.{Failure}
+use Rattle.vs_ring_port.specs.declared.queue.Queue.TheVariants.{Event}
+use Rattle.vs_contents.specs.CallTree.{for_each}
+use Rattle.vs_flow.specs.Table.{slots}
+use Rattle.vs_device.specs.Calls.{Situation, Allows, Ring}
+use Rattle.vs_device.specs.Playing.{MayRun, Runs, situation}
+use Rattle.vs_device.specs.State.{DeviceState}
+use Rattle.vs_device.specs.Receiving.{event_on, pay_event_of}
+use Rattle.vs_device.specs.Turns.{after_reset, close_slot, reset_of}
+use Rattle.vs_device.specs.contracts.device.Device.{the_view}
+use Rattle.vs_device.proofs.EventPaying.{may_event, took_event, by_chain, put, may_return}
+use Rattle.vs_device.proofs.Resetting.{may_close_all, was_reset}
+use Rattle.vs_device.proofs.device.Device.pay_event.Goals as goal
+
+pub put_event-requires-clause-may : goal.put_event-requires-clause-may
+put_event-requires-clause-may g c =
+    let host = c.requires.may.0 in
+    let faults = c.requires.may.1 in
+    let s : DeviceState = c.args.self.now in
+    let sound : s.failed ≡ None = rw (← c.self.view_is) (search rules) in
+    let owed : s.event_owed ≡ true = rw (← c.self.view_is) (search rules) in
+    let x = situation (g.R.DeviceRing.contents c.args.ring.now) host faults in
+    let y = situation (g.R.DeviceRing.contents c.take.new.ring) host faults in
+    let took : Allows (Ring (Take Event)) c.take.result x y = c.take.ensures.calls host faults in
+    let P : Next → Type 0 = λ n. MayRun (event_on n s) y in
+    (host, faults, subst P c.in-Chain.is (may_event s sound owed c.take.result x y c.requires.may.2 took))
+
+pub returns-in-Chain-clause-calls : goal.returns-in-Chain-clause-calls
+returns-in-Chain-clause-calls g c = λ host faults.
+    let s : DeviceState = c.args.self.now in
+    let sound : s.failed ≡ None = rw (← c.self.view_is) (search rules) in
+    let owed : s.event_owed ≡ true = rw (← c.self.view_is) (search rules) in
+    let x = situation (g.R.DeviceRing.contents c.args.ring.now) host faults in
+    let y = situation (g.R.DeviceRing.contents c.take.new.ring) host faults in
+    let took : Allows (Ring (Take Event)) c.take.result x y = c.take.ensures.calls host faults in
+    let z = situation (g.R.DeviceRing.contents c.put_event.new.ring) host faults in
+    took_event s sound owed c.take.result _ x y z took (by_chain s c.take.result (next.Chain c.in-Chain.chain) _ y z c.in-Chain.is (c.put_event.ensures.calls host faults))
+
+pub returns-in-None-clause-calls : goal.returns-in-None-clause-calls
+returns-in-None-clause-calls g c = λ host faults.
+    let s : DeviceState = c.args.self.now in
+    let sound : s.failed ≡ None = rw (← c.self.view_is) (search rules) in
+    let owed : s.event_owed ≡ true = rw (← c.self.view_is) (search rules) in
+    let x = situation (g.R.DeviceRing.contents c.args.ring.now) host faults in
+    let y = situation (g.R.DeviceRing.contents c.take.new.ring) host faults in
+    let took : Allows (Ring (Take Event)) c.take.result x y = c.take.ensures.calls host faults in
+    took_event s sound owed c.take.result (s, Ok false) x y y took (by_chain s c.take.result next.None (s, Ok false) y y c.in-None.is (refl, refl))
+
+pub returns-in-Failed-clause-calls : goal.returns-in-Failed-clause-calls
+returns-in-Failed-clause-calls g c = λ host faults.
+    let s : DeviceState = c.args.self.now in
+    let sound : s.failed ≡ None = rw (← c.self.view_is) (search rules) in
+    let owed : s.event_owed ≡ true = rw (← c.self.view_is) (search rules) in
+    let x = situation (g.R.DeviceRing.contents c.args.ring.now) host faults in
+    let y = situation (g.R.DeviceRing.contents c.take.new.ring) host faults in
+    let took : Allows (Ring (Take Event)) c.take.result x y = c.take.ensures.calls host faults in
+    let f : Failure = c.in-Failed.failure in
+    let end = ap (λ (u : DeviceState). let r : DeviceState × Result Bool Failure = (u, Err f) in r) (sym c.fail.ensures) in
+    took_event s sound owed c.take.result (c.fail.new.self, Err f) x y y took (by_chain s c.take.result (next.Failed f) (c.fail.new.self, Err f) y y c.in-Failed.is (end, refl))

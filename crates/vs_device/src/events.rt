@@ -1,0 +1,84 @@
+//! The event of a transport reset (Virtio 1.2, section 5.10.6.7).
+
+ghost use Rattle.std.specs.Prelude.{◌≡◌, ◌≤◌, ◌&&◌, not, true, false, Contains, Some, Ok, Err, IfOk, IfErr};
+ghost use Rattle.byteorder.specs.Endian.{little_bytes};
+ghost use Rattle.vs_ring_port.specs.Chains.{without};
+ghost use Rattle.vs_ring_port.specs.Contents.{Write, Return};
+ghost use Rattle.vs_ring_port.specs.DeviceCalls.{CanReturn, LeavesNoGap};
+ghost use Rattle.vs_ring_port.specs.declared.device_ring.Next.TheVariants as next;
+ghost use Rattle.vs_ring_port.specs.declared.failure.Failure.{Failure};
+ghost use Rattle.vs_device.specs.Playing.{AllowsOnRing, IsItsRing, MayRunOnRing, RunsOnRing};
+ghost use Rattle.vs_device.specs.Receiving.{event_on, pay_event_of};
+
+use crate::device::Device;
+use crate::ring_calls::take;
+use vs_event::{EVENT_LEN, TRANSPORT_RESET, event_bytes};
+use vs_ring_port::{Chain, DeviceRing, Failure, Next, Queue};
+
+impl Device {
+    /// Puts the event that is owed since a transport reset, and tells whether it did: without an owed event, or without a chain of the event
+    /// queue, it does nothing. The error is the ring's failure, now or before.
+    pub fn pay_event<R: DeviceRing>(&mut self, ring: &mut R) -> Result<bool, Failure>
+        requires ring { IsItsRing (R.held ring.old) self.old }
+        requires may { MayRunOnRing (pay_event_of self.old) (R.contents ring.old) }
+        ensures ring { IsItsRing (R.held ring.new) self.new }
+        ensures calls { RunsOnRing (pay_event_of self.old) (R.contents ring.old) (self.new, result) (R.contents ring.new) }
+        ensures kept { (f : Failure) → self.old.failed ≡ Some f → (self.new ≡ self.old) × (result ≡ Err f) }
+        ensures failed { IfErr result (λ f. self.new.failed ≡ Some f) }
+        ensures paid { IfOk result (λ paid. self.new ≡ record self.old { event_owed = self.old.event_owed && not paid }) }
+    {
+        if let Some(failure) = self.failed {
+            return Err(failure);
+        }
+        if !self.event.owed() {
+            return Ok(false);
+        }
+        match take(ring, Queue::Event) {
+            Next::Chain(chain) => {
+                self.put_event(ring, chain);
+                Ok(true)
+            }
+            Next::None => Ok(false),
+            Next::Failed(failure) => {
+                self.fail(failure);
+                Err(failure)
+            }
+        }
+    }
+
+    // Puts the owed event into a chain.
+    fn put_event<R: DeviceRing>(&mut self, ring: &mut R, chain: Chain)
+        requires is_held { Contains (R.held ring.old) chain }
+        requires long_enough { 4 ≤ chain.writable }
+        requires owed { self.old.event_owed ≡ true }
+        requires may { MayRunOnRing (event_on (next.Chain chain) self.old) (R.contents ring.old) }
+        ensures held { R.held ring.new ≡ without chain (R.held ring.old) }
+        ensures calls { RunsOnRing (event_on (next.Chain chain) self.old) (R.contents ring.old) (self.new, Ok true) (R.contents ring.new) }
+        ensures state { self.new ≡ record self.old { event_owed = false } }
+    {
+        write_event(ring, &chain);
+        return_event(ring, chain);
+        self.event.paid();
+    }
+}
+
+// Writes the event of a transport reset into a chain.
+fn write_event<R: DeviceRing>(ring: &mut R, chain: &Chain)
+    requires is_held { Contains (R.held ring.old) chain.now }
+    requires long_enough { 4 ≤ chain.now.writable }
+    requires may { LeavesNoGap chain.now 0 (R.contents ring.old) }
+    ensures calls { AllowsOnRing (Write chain.now 0 (little_bytes 4 0)) tt (R.contents ring.old) (R.contents ring.new) }
+    ensures held { R.held ring.new ≡ R.held ring.old }
+{
+    ring.write(chain, 0, &event_bytes(TRANSPORT_RESET));
+}
+
+// Returns a chain into which an event was written.
+fn return_event<R: DeviceRing>(ring: &mut R, chain: Chain)
+    requires is_held { Contains (R.held ring.old) chain }
+    requires may { CanReturn chain 4 (R.contents ring.old) }
+    ensures calls { AllowsOnRing (Return chain 4) tt (R.contents ring.old) (R.contents ring.new) }
+    ensures held { R.held ring.new ≡ without chain (R.held ring.old) }
+{
+    ring.done(chain, EVENT_LEN as u32);
+}

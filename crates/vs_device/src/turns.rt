@@ -1,0 +1,155 @@
+//! Connections that clients of the host ask for, transport resets, and what the device shows of its connections.
+
+ghost use Rattle.std.specs.Prelude.{◌≡◌, ◌≤◌, ◌<◌, ◌^◌, [], true, Some, IfOk, IfErr, OnErr, OnOk, Err, length};
+ghost use Rattle.std.specs.Iterator.{YieldsFirst, item_count};
+ghost use Rattle.vs_contents.specs.CallTree.{for_each};
+ghost use Rattle.vs_flow.specs.Table.{refusal, slots};
+ghost use Rattle.vs_ring_port.specs.declared.failure.Failure.{Failure};
+ghost use Rattle.vs_device.specs.Playing.{IsItsRing, MayRun, MayRunOnHost, Runs, RunsOnHost, situation};
+ghost use Rattle.vs_device.specs.Turns.{after_reset, close_slot, open_of, reset_of, table_shown};
+
+use crate::device::Device;
+use crate::host_calls::label;
+use crate::limits::CONNECTIONS;
+use crate::ring_calls::publish_cid;
+use crate::slots::Slots;
+use std::marker::Model;
+use vs_conn::State;
+use vs_flow::{Flow, Slot, TableFault};
+use vs_outside::HostNet;
+use vs_ring_port::{DeviceRing, Failure};
+
+impl Device {
+    /// A client of the host asks for a connection: its open stream is labelled with the flow, and REQUEST is owed to the guest. Returns the slot.
+    ///
+    /// `Taken` comes where the flow has a connection, else `Full` where the table holds 64 connections or its last slot was given. Then nothing
+    /// changes.
+    pub fn open<H: HostNet>(
+        &mut self,
+        host: &mut H,
+        flow: Flow,
+        stream: u64,
+    ) -> Result<Slot, TableFault>
+        requires may { MayRunOnHost (open_of flow stream self.old) (H.contents host.old) (H.faults host.old) }
+        ensures calls { RunsOnHost (open_of flow stream self.old) (H.contents host.old) (H.faults host.old) (self.new, result) (H.contents host.new) (H.faults host.new) }
+        ensures slot { IfOk result (λ slot. slot ≡ self.old.table.given) }
+        ensures refused { IfErr result (λ fault. refusal self.old.table flow ≡ Some fault) }
+        ensures unchanged { OnErr result (self.new ≡ self.old) }
+        ensures chain { self.new.chain ≡ self.old.chain }
+    {
+        if let Some(fault) = self.slots.refusal(flow) {
+            return Err(fault);
+        }
+        label(host, stream, flow);
+        let slot = self.slots.open_client(flow, stream);
+        self.opened = self.opened.saturating_add(1);
+        Ok(slot)
+    }
+
+    /// A transport reset: all streams are closed, by rising slot; table and owed replies are empty, an rx chain stays held. The guest's CID, 3
+    /// to 4,294,967,294, is published, and one event is owed, also after several resets. The error is the ring's failure before this call;
+    /// then nothing changes.
+    pub fn reset<R: DeviceRing, H: HostNet>(
+        &mut self,
+        ring: &mut R,
+        host: &mut H,
+        cid: u64,
+    ) -> Result<(), Failure>
+        requires cid { (3 ≤ cid) × (cid ≤ 4294967294) }
+        requires ring { IsItsRing (R.held ring.old) self.old }
+        requires may { MayRun (reset_of cid self.old) (situation (R.contents ring.old) (H.contents host.old) (H.faults host.old)) }
+        ensures ring { IsItsRing (R.held ring.new) self.new }
+        ensures calls { Runs (reset_of cid self.old) (situation (R.contents ring.old) (H.contents host.old) (H.faults host.old)) (self.new, result) (situation (R.contents ring.new) (H.contents host.new) (H.faults host.new)) }
+        ensures refused { IfErr result (λ f. self.old.failed ≡ Some f) }
+        ensures unchanged { OnErr result (self.new ≡ self.old) }
+        ensures kept { (f : Failure) → self.old.failed ≡ Some f → result ≡ Err f }
+        ensures empty { OnOk result ((self.new.table.entries ≡ []) × (self.new.replies ≡ [])) }
+        ensures published { OnOk result ((self.new.cid ≡ cid) × (self.new.event_owed ≡ true)) }
+    {
+        if let Some(failure) = self.failed {
+            return Err(failure);
+        }
+        self.close_all(host);
+        publish_cid(ring, cid);
+        self.forget(cid);
+        Ok(())
+    }
+
+    // Closes all streams that aren't closed yet, by rising slot.
+    fn close_all<H: HostNet>(&mut self, host: &mut H)
+        requires may { MayRunOnHost (for_each close_slot (slots self.old.table) self.old) (H.contents host.old) (H.faults host.old) }
+        ensures calls { RunsOnHost (for_each close_slot (slots self.old.table) self.old) (H.contents host.old) (H.faults host.old) self.new (H.contents host.new) (H.faults host.new) }
+        ensures chain { self.new.chain ≡ self.old.chain }
+    {
+        let slots = self.slots.all();
+        for slot in slots.as_slice() {
+            self.close_slot(host, *slot);
+        }
+    }
+
+    // Closes the stream of the connection in a slot.
+    fn close_slot<H: HostNet>(&mut self, host: &mut H, slot: Slot)
+        requires may { MayRunOnHost (close_slot slot self.old) (H.contents host.old) (H.faults host.old) }
+        ensures calls { RunsOnHost (close_slot slot self.old) (H.contents host.old) (H.faults host.old) self.new (H.contents host.new) (H.faults host.new) }
+        ensures chain { self.new.chain ≡ self.old.chain }
+    {
+        if self.slots.connection(slot).is_some() {
+            self.drop_stream(host, slot);
+        }
+    }
+
+    // Forgets all connections and owed replies. The guest has a CID from now on, and an event is owed.
+    fn forget(&mut self, cid: u64)
+        ensures { self.new ≡ after_reset cid self.old }
+    {
+        self.cid = cid;
+        self.slots.clear();
+        self.replies.clear();
+        self.event.owe();
+    }
+
+    /// The entries of the device's table, each its flow and the state of its end, by rising slot.
+    pub fn table(&self) -> Entries<'_>
+        ensures entries { result ≡ table_shown self.now }
+        ensures countable { length result < 2 ^ 64 }
+    {
+        let slots = &self.slots;
+        let connections = slots.open();
+        prove!(connections <= CONNECTIONS);
+        Entries { slots, place: 0 }
+    }
+}
+
+/// The entries of a device's table, each its flow and the state of its end, by rising slot. It is seen as the list of those that are left.
+#[derive(Drop)]
+pub struct Entries<'a> {
+    slots: &'a Slots,
+    place: usize,
+}
+
+impl<'a> Model for Entries<'a> {
+    ghost use Rattle.std.specs.Prelude.{List, map, drop};
+    ghost use Rattle.vs_conn.specs.declared.end.State.{State};
+    ghost use Rattle.vs_flow.specs.declared.flow.Flow.{Flow};
+
+    ghost Value = { List (Flow × State) };
+
+    ghost view = { λ e. map (λ x. (x.flow, x.value.end.state)) (drop e.place e.slots.now.entries) };
+}
+
+impl<'a> Iterator for Entries<'a> {
+    type Item = (Flow, State);
+
+    ghost next_gives = { YieldsFirst (λ left. left) };
+
+    ghost remaining = { item_count (λ left. left) };
+
+    fn next(&mut self) -> Option<(Flow, State)> {
+        if self.place >= self.slots.open() {
+            return None;
+        }
+        let entry = self.slots.at(self.place)?;
+        self.place += 1;
+        Some((entry.flow, entry.value.state()))
+    }
+}
