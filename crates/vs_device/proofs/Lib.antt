@@ -2,7 +2,7 @@ mod Under
 mod Copying
 mod SlotChanges
 mod Leaving
-mod Each
+pub mod Each
 mod Pumping
 mod Written
 mod Rounds

@@ -107,7 +107,7 @@ impl Device {
     }
 
     /// Counts a call on the host that failed.
-    pub(crate) fn count_fault(&mut self)
+    pub fn count_fault(&mut self)
         ensures { self.new ≡ with_fault self.old }
     {
         self.faults = self.faults.saturating_add(1);

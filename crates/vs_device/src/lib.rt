@@ -13,6 +13,7 @@ mod packets;
 mod receive;
 mod ring_calls;
 mod round;
+mod shown;
 mod slots;
 mod streams;
 mod transmit;
@@ -20,4 +21,5 @@ mod turns;
 
 pub use answers::{Counters, Filled, Taken};
 pub use device::Device;
+pub use limits::{CONNECTIONS, TIMEOUT};
 pub use turns::Entries;

@@ -1,0 +1,30 @@
+//! What the device shows of itself to the proxy above it.
+
+ghost use Rattle.std.specs.Prelude.{◌≡◌};
+ghost use Rattle.vs_flow.specs.Table.{has_place};
+
+use crate::device::Device;
+use vs_ring_port::Failure;
+
+impl Device {
+    /// The moment of the last tick, in milliseconds.
+    pub fn now(&self) -> u64
+        ensures { result ≡ self.now.now }
+    {
+        self.moment
+    }
+
+    /// Whether the table has place for one more connection.
+    pub fn has_place(&self) -> bool
+        ensures { result ≡ has_place self.now.table }
+    {
+        self.slots.has_place()
+    }
+
+    /// The failure of the ring, where it failed.
+    pub fn failure(&self) -> Option<Failure>
+        ensures { result ≡ self.now.failed }
+    {
+        self.failed
+    }
+}
