@@ -16,10 +16,10 @@ use Rattle.vs_ring_port.specs.declared.failure.Failure.{Failure}
 use Rattle.vs_ring_port.specs.declared.failure.Failure.TheVariants.{HeadRange}
 
 -- the memory of these parts, to which no change is to come
-abbrev quiet : ℕ → List ℕ → ℕ → Memory
+abbrev pub quiet : ℕ → List ℕ → ℕ → Memory
 quiet base bytes accesses = record { base = base; bytes = bytes; accesses = accesses; changes = [] }
 
-is_quiet : (m : Memory) → IsStill m → m ≡ quiet m.base m.bytes m.accesses
+pub is_quiet : (m : Memory) → IsStill m → m ≡ quiet m.base m.bytes m.accesses
 is_quiet m still =
     ap (λ (cs : List Change). let x : Memory = record { base = m.base; bytes = m.bytes; accesses = m.accesses; changes = cs } in x) still
 
