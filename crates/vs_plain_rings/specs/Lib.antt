@@ -1,3 +1,4 @@
 pub mod Parts
 pub mod View
 pub mod Contents
+pub mod Posting

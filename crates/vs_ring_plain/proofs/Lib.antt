@@ -5,3 +5,4 @@ pub mod Outcomes
 pub mod HeldChains
 pub mod DeviceOrder
 pub mod Calls
+pub mod Still

@@ -7,3 +7,4 @@ pub mod PieceTable
 pub mod Pieces
 pub mod Side
 pub mod Take
+pub mod Still

@@ -5,6 +5,7 @@ mod access;
 pub mod device;
 pub mod examples;
 mod holds;
+pub mod laws;
 pub mod piece;
 pub mod take;
 #[cfg(test)]
