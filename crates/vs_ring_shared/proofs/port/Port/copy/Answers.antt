@@ -10,8 +10,7 @@ pub split_seat-requires : goal.split_seat-requires
 split_seat-requires c =
     let p = c.args.self.now in
     let n = p.size in
-    let t = subst (λ z. IsTableOf n z.shared) (sym c.deref.ensures) p.wide in
-    (
+    let t = subst (λ z. IsTableOf n z.shared) (sym c.deref.ensures) p.wide in (
       search rules,
       omega (arith, t.words),
       rw t.key (elim c.requires.owner [

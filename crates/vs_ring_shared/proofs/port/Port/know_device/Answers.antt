@@ -10,8 +10,7 @@ pub load-requires : goal.load-requires
 load-requires c =
     let p = c.args.self.now in
     let n = p.size in
-    let t = subst (λ z. IsTableOf n z.shared) (sym c.deref.ensures) p.wide in
-    (
+    let t = subst (λ z. IsTableOf n z.shared) (sym c.deref.ensures) p.wide in (
       search rules,
       omega (arith, t.words),
       rw (t.key, t.slots) (known.cid_loads (knows log.Device) n _ _ (meets.knows_device n _ _ c.requires.owner)),
