@@ -9,3 +9,4 @@ pub mod Returns
 pub mod DeviceCalls
 pub mod Makes
 pub mod Exposed
+pub mod Hears

@@ -6,3 +6,4 @@ pub mod DriverEnds
 pub mod Holdings
 pub mod DeviceStates
 pub mod DeviceEnds
+pub mod Meetings

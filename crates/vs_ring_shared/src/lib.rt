@@ -9,6 +9,7 @@ mod driver_queue;
 mod driver_ring;
 mod held;
 mod making;
+mod meeting;
 mod plays;
 mod port;
 #[cfg(test)]
@@ -19,3 +20,4 @@ pub use device_ring::laws_of_device_end;
 pub use driver_end::DriverEnd;
 pub use driver_ring::laws_of_driver_end;
 pub use making::make;
+pub use meeting::{meet, note};

@@ -1,5 +1,5 @@
 //! The rule as the table knows it, and what each kind of step tells. These types are for the proofs alone.
-use atomic_table::{Play, Seat, Split, Table, TableRule};
+use atomic_table::{Join, Play, Seat, Split, Table, TableRule};
 use std::alloc::Global;
 use vs_page::Page;
 use vs_ring_rule::View;
@@ -158,4 +158,65 @@ impl Play<Option<Page>, View> for Resets {
     ghost use Rattle.vs_ring_shared.specs.Plays.{by_cid};
 
     ghost then = { by_cid device_resets };
+}
+
+/// A copy of what an end knows comes into the other end's seat.
+pub struct Copies;
+
+impl Split<View> for Copies {
+    ghost use Rattle.vs_ring_rule.specs.Meets.{copy_of};
+
+    ghost left = { λ v. v };
+
+    ghost right = { copy_of };
+}
+
+impl Join<View> for Copies {
+    ghost use Rattle.vs_ring_rule.specs.Meets.{nobody_view, told};
+
+    ghost both = { told };
+
+    ghost spent = { nobody_view };
+}
+
+/// The device's seat comes into the driver's.
+pub struct Meets;
+
+impl Join<View> for Meets {
+    ghost use Rattle.vs_ring_rule.specs.Meets.{joined, nobody_view};
+
+    ghost both = { joined };
+
+    ghost spent = { nobody_view };
+}
+
+/// The driver's load after a copy came, and the device's.
+pub struct KnowsDriver;
+
+impl Play<Option<Page>, View> for KnowsDriver {
+    ghost use Rattle.vs_page.specs.Log.{Driver};
+    ghost use Rattle.vs_ring_rule.specs.Meets.{knows};
+    ghost use Rattle.vs_ring_shared.specs.Plays.{by_cid};
+
+    ghost then = { by_cid (knows Driver) };
+}
+
+pub struct KnowsDevice;
+
+impl Play<Option<Page>, View> for KnowsDevice {
+    ghost use Rattle.vs_page.specs.Log.{Device};
+    ghost use Rattle.vs_ring_rule.specs.Meets.{knows};
+    ghost use Rattle.vs_ring_shared.specs.Plays.{by_cid};
+
+    ghost then = { by_cid (knows Device) };
+}
+
+/// The driver's load after the join.
+pub struct Ties;
+
+impl Play<Option<Page>, View> for Ties {
+    ghost use Rattle.vs_ring_rule.specs.Meets.{ties};
+    ghost use Rattle.vs_ring_shared.specs.Plays.{by_cid};
+
+    ghost then = { by_cid ties };
 }

@@ -94,6 +94,42 @@ fn two_threads_pass_events_over_eight_pages(rt: HostRuntime) -> Result<(), Fail>
     for _ in 0..8 {
         post_event(&mut driver, Page::new(rt.alloc())?);
     }
-    assert_eq!(rt; relay(&rt, driver, device, 1_000_000), 1_000_000);
+    assert_eq!(rt; relay(&rt, driver, device, 20_000), 20_000);
+    Ok(())
+}
+
+#[test]
+fn two_threads_pass_events_over_256_pages(rt: HostRuntime) -> Result<(), Fail> {
+    let (mut driver, device) = make(rt.alloc(), 256)?;
+    for _ in 0..256 {
+        post_event(&mut driver, Page::new(rt.alloc())?);
+    }
+    assert_eq!(rt; relay(&rt, driver, device, 200_000), 200_000);
+    Ok(())
+}
+
+/// One page goes to the device and comes back with a number.
+fn pass_one(driver: &mut DriverEnd, device: &mut DeviceEnd, number: u32) -> bool {
+    serve_one(device, number);
+    match driver.reap_page(Queue::Event) {
+        Some(page) => {
+            let right = holds(&page, number);
+            post_event(driver, page) && right
+        }
+        None => false,
+    }
+}
+
+#[test]
+fn indices_pass_65_536(rt: HostRuntime) -> Result<(), Fail> {
+    let (mut driver, mut device) = make(rt.alloc(), 8)?;
+    post_event(&mut driver, Page::new(rt.alloc())?);
+    let mut right: u32 = 0;
+    for number in 0..70_000u32 {
+        if pass_one(&mut driver, &mut device, number) {
+            right = right.wrapping_add(1);
+        }
+    }
+    assert_eq!(rt; right, 70_000);
     Ok(())
 }
