@@ -14,3 +14,6 @@ pub use crate::clock::MachineClock;
 pub use crate::gate::YieldGate;
 pub use crate::host::UnixHost;
 pub use crate::stdio::{ReadSource, WriteSink};
+
+#[cfg(test)]
+mod tests;
