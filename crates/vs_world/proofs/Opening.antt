@@ -168,6 +168,8 @@ module _ (n : ℕ) (host : HostContents) where
     pages = (subst AllHold (sym new.given) tt, subst AllHold (sym new.staged) tt);
     chain = tt;
     known = subst (λ (c : ℕ). c < 2 ^ 64) (sym new.cid) (omega arith);
+    broken = ap (λ (s : DriverState). s.broken) new.state;
+    overrun = refl;
   }
 
 -- After any list of events.

@@ -59,6 +59,8 @@ pub record IsWell (w : World) : Type 0 where
   pub pages : TxHolds w.rings.lists w.rings.driver
   pub chain : HoldsRx w.proxy.device.chain w.rings.device.held
   pub known : w.rings.lists.cid < 2 ^ 64
+  pub broken : w.driver.broken ≡ 0
+  pub overrun : w.proxy.device.overrun ≡ 0
 
 pub record Goes (w v : World) : Type 0 where
   pub well : IsWell v
@@ -83,6 +85,8 @@ driver_goes tree state_of journal w well (kept, pages) = record {
     pages = pages;
     chain = well.chain;
     known = subst (λ (n : ℕ). n < 2 ^ 64) (sym (driver_leaves_cid tree w.rings.lists w.rings.driver)) well.known;
+    broken = kept.broken ∙ well.broken;
+    overrun = well.overrun;
   };
   runs = kept.runs;
 }
@@ -107,6 +111,8 @@ device_goes tree state_of w well (kept, chain, known) = record {
     pages = (device_leaves_given tree (around w) well.pages.0, well.pages.1);
     chain = chain;
     known = known;
+    broken = well.broken;
+    overrun = kept.overrun ∙ well.overrun;
   };
   runs = kept.runs;
 }
@@ -187,6 +193,8 @@ module _ (w : World) (well : IsWell w) where
       pages = well.pages;
       chain = well.chain;
       known = well.known;
+      broken = well.broken;
+      overrun = well.overrun;
     };
     runs = stays _ _ refl;
   }
@@ -203,6 +211,8 @@ module _ (w : World) (well : IsWell w) where
       pages = well.pages;
       chain = well.chain;
       known = well.known;
+      broken = well.broken;
+      overrun = well.overrun;
     };
     runs = stays _ _ refl;
   }

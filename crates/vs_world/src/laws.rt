@@ -1,6 +1,7 @@
 //! Laws of the world, over every list of events.
 
-ghost use Rattle.std.specs.Prelude.{◌≡◌, ℕ, ◌||◌, false, List, [], ◌∷◌};
+ghost use Rattle.std.specs.Prelude.{◌≡◌, ℕ, ◌≤◌, ◌||◌, false, List, [], ◌∷◌, length, All};
+ghost use Rattle.vs_history.specs.declared.TheConstants.{BUF_ALLOC};
 ghost use Rattle.vs_conn.specs.End.{ConnectionEnd, is_refused, verdict_of};
 ghost use Rattle.vs_driver.specs.declared.limits.TheConstants.{FIRST_PORT};
 ghost use Rattle.vs_flow.specs.declared.flow.Flow.{Flow};
@@ -81,4 +82,16 @@ pub fn law_of_next_packets()
         → is_dropped Device b.device.part.cid p.header ≡ false → is_refused (verdict_of e p.header) ≡ false }
     ensures room { (n : ℕ) (host : HostContents) (es : List Event) (p : Packet) (e : ConnectionEnd) → let b = both_of (run es (opening n host)) in
         IsNextPacket b.device.log b.driver.log p → HasEnd (flow_got Device p) e b.device.part → is_overrun (verdict_of e p.header) ≡ false }
+{}
+
+/// After any list of events no packet of a known flow was refused by the driver, and none held more payload than the device had room for.
+/// What is unread of a connection, at the guest or on its way to the host's stream, is within its buffer space (Virtio 1.2, section
+/// 5.10.6.3).
+pub fn law_of_credit()
+    ensures broken { (n : ℕ) (host : HostContents) (es : List Event) → (run es (opening n host)).driver.broken ≡ 0 }
+    ensures overrun { (n : ℕ) (host : HostContents) (es : List Event) → (run es (opening n host)).proxy.device.overrun ≡ 0 }
+    ensures unread { (n : ℕ) (host : HostContents) (es : List Event) →
+        All (λ e. length e.value.unread ≤ BUF_ALLOC) (run es (opening n host)).driver.table.entries }
+    ensures pending { (n : ℕ) (host : HostContents) (es : List Event) →
+        All (λ e. length e.value.pending ≤ BUF_ALLOC) (run es (opening n host)).proxy.device.table.entries }
 {}
