@@ -21,3 +21,4 @@ pub mod ProxyResets
 pub mod Rings
 pub mod Sound
 pub mod Opening
+pub mod Payloads

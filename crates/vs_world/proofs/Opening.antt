@@ -16,6 +16,7 @@ use Rattle.vs_matching.proofs.Both.{start_sound}
 use Rattle.vs_driver.specs.Conversations.{DriverTree, load_cid, new_of, new_state, post_events, post_one, posts, publish_of}
 use Rattle.vs_driver.specs.State.{DriverState}
 use Rattle.vs_driver.specs.declared.limits.TheConstants.{FIRST_PORT}
+use Rattle.vs_world.specs.Pipes.{put_on}
 use Rattle.vs_world.specs.Pages.{AllHold}
 use Rattle.vs_world.specs.Events as events
 use Rattle.vs_world.specs.Events.{happens, run}
@@ -170,6 +171,7 @@ module _ (n : ℕ) (host : HostContents) where
     known = subst (λ (c : ℕ). c < 2 ^ 64) (sym new.cid) (omega arith);
     broken = ap (λ (s : DriverState). s.broken) new.state;
     overrun = refl;
+    sent = λ f. ap (put_on f) (sym log_empty);
   }
 
 -- After any list of events.

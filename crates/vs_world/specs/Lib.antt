@@ -9,3 +9,4 @@ pub mod Laws
 pub mod Sides
 pub mod Pages
 pub mod Worked
+pub mod Pipes
