@@ -22,3 +22,4 @@ pub mod Rings
 pub mod Sound
 pub mod Opening
 pub mod Payloads
+pub mod GuestLines

@@ -10,3 +10,4 @@ pub mod Sides
 pub mod Pages
 pub mod Worked
 pub mod Pipes
+pub mod Steps

@@ -16,6 +16,7 @@ ghost use Rattle.vs_page.specs.Fair.{IsFairLog, IsPrefixOf, payload_got, payload
 ghost use Rattle.vs_page.specs.Log.{Device, Driver, HasGotAll, IsNextPacket, Log, flow_got};
 ghost use Rattle.vs_page.specs.Open.{is_dropped, is_open};
 ghost use Rattle.vs_page.specs.declared.log.LogEntry.TheVariants.{Mark};
+ghost use Rattle.vs_world.specs.Calls.{sent_on};
 ghost use Rattle.vs_world.specs.Events.{Event, happens, run};
 ghost use Rattle.vs_world.specs.Laws.{IsQueued};
 ghost use Rattle.vs_world.specs.Sides.{Runs, both_of};
@@ -94,4 +95,13 @@ pub fn law_of_credit()
         All (λ e. length e.value.unread ≤ BUF_ALLOC) (run es (opening n host)).driver.table.entries }
     ensures pending { (n : ℕ) (host : HostContents) (es : List Event) →
         All (λ e. length e.value.pending ≤ BUF_ALLOC) (run es (opening n host)).proxy.device.table.entries }
+{}
+
+/// After any list of events the payload that the driver put on a connection is just what its sends took, in order. So the payload that
+/// the device got there is a prefix of that.
+pub fn law_of_sending()
+    ensures put { (n : ℕ) (host : HostContents) (es : List Event) (f : Flow) → let w = run es (opening n host) in
+        payload_put Driver f 1 (both_of w).driver.log ≡ sent_on f w.journal }
+    ensures got { (n : ℕ) (host : HostContents) (es : List Event) (f : Flow) → let w = run es (opening n host) in
+        IsPrefixOf (payload_got Device f 1 w.rings.device.entries) (sent_on f w.journal) }
 {}
