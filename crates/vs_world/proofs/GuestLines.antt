@@ -40,7 +40,7 @@ pub leads_then : (w v u : World) → Leads w v → Leads v u → Leads w u
 leads_then w v u (xs, x) (ys, y) = (xs ++ ys, run_append xs ys w ∙ ap (run ys) x ∙ y)
 
 -- One conversation after another, in the world.
-played_bind : {A B : Type 0} (p : DriverTree A) (f : A → DriverTree B) (s : Rings × EndLog)
+pub played_bind : {A B : Type 0} (p : DriverTree A) (f : A → DriverTree B) (s : Rings × EndLog)
     → played driver_answer (bind p f) s ≡ (let r = played driver_answer p s in played driver_answer (f r.0) r.1)
 played_bind (Done x) f s = refl
 played_bind (Ask call k) f s = let r = driver_answer call s in played_bind (k r.0) f r.1
@@ -50,7 +50,7 @@ abbrev pub with_driver : DriverState → Rings × EndLog → World → World
 with_driver s r w = record w { driver = s; rings = record w.rings { lists = r.0; driver = r.1 } }
 
 -- A step of the driver that may happen.
-possible_is : (b : Bool) (step : World → World) (w : World) → b ≡ true → where_possible b step w ≡ step w
+pub possible_is : (b : Bool) (step : World → World) (w : World) → b ≡ true → where_possible b step w ≡ step w
 possible_is true step w is = refl
 possible_is false step w is = absurd cc
 

@@ -23,3 +23,4 @@ pub mod Sound
 pub mod Opening
 pub mod Payloads
 pub mod GuestLines
+pub mod Polls

@@ -22,7 +22,7 @@ use Rattle.vs_world.specs.Answers.{answer_around}
 use Rattle.vs_world.specs.Calls.{Journal, is_right}
 use Rattle.vs_world.specs.DeviceSteps.{takes_chain, returns, puts_event, puts_reply, puts_owed, puts_payload, writes, shuts_write}
 use Rattle.vs_world.specs.Events.{Event, GuestCalls, GuestTakes, GuestStages, GuestReplies, GuestPays, GuestPublishes, DeviceTakes, DeviceReturns, DevicePutsEvent, DeviceReplies, DeviceReads, DevicePays, DeviceWrites, DeviceShutsWrite, ProxyAccepts, ProxyReads, Moment, TimesOut, HandshakeTimesOut, Reset, HostListens, HostUnlistens, ClientConnects, HostWrites, HostTakes, HostEnds, HostCloses, HostFails}
-use Rattle.vs_world.specs.Events.{at_moment, call_made, device_step, driver_step, happens, has_failed, has_page, holds, is_at_rest, is_guest_cid, line_read, none_staged, proxy_step, reset_made, unless_failed, where_possible, works_on}
+use Rattle.vs_world.specs.Events.{at_moment, call_made, device_step, driver_step, happens, has_failed, holds, is_at_rest, is_guest_cid, line_read, none_staged, proxy_step, reset_made, unless_failed, where_possible, works_on}
 use Rattle.vs_world.specs.GuestSteps.{makes_call, takes_page, stages_page, stages_reply, stages_owed}
 use Rattle.vs_world.specs.Calls.{sent_on}
 use Rattle.vs_world.specs.Pipes.{none_on, put_on}
@@ -240,7 +240,7 @@ module _ (w : World) (well : IsWell w) where
       (second_true _ _ may)))
   happens_goes (GuestTakes queue) = possible (works_on queue w.rings.driver.staged) (driver_step (takes_page queue)) w well (takes_goes queue)
   happens_goes (GuestStages queue) =
-      possible (works_on queue w.rings.driver.staged && has_page queue w) (driver_step (stages_page queue)) w well (λ may. driver_step_goes (stages_page queue)
+      possible (works_on queue w.rings.driver.staged) (driver_step (stages_page queue)) w well (λ may. driver_step_goes (stages_page queue)
       (driver_events.stages_page_keeps (both_of w).device first_cid w.driver w.rings.lists w.rings.driver well.sound well.driver well.driver_puts well.pages queue))
   happens_goes GuestReplies =
       possible (works_on q.Tx w.rings.driver.staged) (driver_step stages_reply) w well (λ may. driver_step_goes stages_reply

@@ -1,6 +1,6 @@
 //! Laws of the world, over every list of events.
 
-ghost use Rattle.std.specs.Prelude.{◌≡◌, ℕ, ◌≤◌, ◌||◌, false, List, [], ◌∷◌, length, All};
+ghost use Rattle.std.specs.Prelude.{◌≡◌, ℕ, ◌≤◌, ◌||◌, false, true, List, [], ◌∷◌, length, All};
 ghost use Rattle.vs_history.specs.declared.TheConstants.{BUF_ALLOC};
 ghost use Rattle.vs_conn.specs.End.{ConnectionEnd, is_refused, verdict_of};
 ghost use Rattle.vs_driver.specs.declared.limits.TheConstants.{FIRST_PORT};
@@ -16,11 +16,13 @@ ghost use Rattle.vs_page.specs.Fair.{IsFairLog, IsPrefixOf, payload_got, payload
 ghost use Rattle.vs_page.specs.Log.{Device, Driver, HasGotAll, IsNextPacket, Log, flow_got};
 ghost use Rattle.vs_page.specs.Open.{is_dropped, is_open};
 ghost use Rattle.vs_page.specs.declared.log.LogEntry.TheVariants.{Mark};
-ghost use Rattle.vs_world.specs.Calls.{sent_on};
-ghost use Rattle.vs_world.specs.Events.{Event, happens, run};
+ghost use Rattle.vs_world.specs.Calls.{GuestCall, is_right, sent_on};
+ghost use Rattle.vs_world.specs.Events.{Event, happens, is_at_rest, run};
 ghost use Rattle.vs_world.specs.Laws.{IsQueued};
+ghost use Rattle.vs_world.specs.Plays.{guest_line};
+ghost use Rattle.vs_world.specs.Steps.{Leads};
 ghost use Rattle.vs_world.specs.Sides.{Runs, both_of};
-ghost use Rattle.vs_world.specs.World.{first_cid, opening};
+ghost use Rattle.vs_world.specs.World.{World, first_cid, opening};
 
 /// After any list of events what each end got is what the other put first, packets on tx and on rx and ids of events; and what was put and
 /// not got is just what the pages between them hold. So the payload that an end got on a connection is a prefix of the payload that the
@@ -104,4 +106,10 @@ pub fn law_of_sending()
         payload_put Driver f 1 (both_of w).driver.log ≡ sent_on f w.journal }
     ensures got { (n : ℕ) (host : HostContents) (es : List Event) (f : Flow) → let w = run es (opening n host) in
         IsPrefixOf (payload_got Device f 1 w.rings.device.entries) (sent_on f w.journal) }
+{}
+
+/// Each call of the guest's, whole, is a list of events, with that reply in the journal: a connect and a send take back the pages that the
+/// device returned, one by one, before they need one.
+pub fn law_of_guest_calls()
+    ensures { (call : GuestCall) (w : World) → is_at_rest w.rings.driver.staged ≡ true → is_right call ≡ true → Leads w (guest_line call w).0 }
 {}
