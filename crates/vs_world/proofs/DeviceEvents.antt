@@ -31,7 +31,11 @@ use Rattle.vs_ring_port.specs.Lists.{Rings}
 use Rattle.vs_ring_port.specs.declared.device_ring.Chain.{Chain}
 use Rattle.vs_ring_port.specs.declared.failure.Failure.TheVariants as failure
 use Rattle.vs_matching.specs.Both.{IsSound, Seat}
-use Rattle.vs_matching.proofs.Slots.{found_by}
+use Rattle.vs_flow.specs.declared.flow.Flow.{Flow}
+use Rattle.vs_matching.specs.Ends.{ends_of, entries_of}
+use Rattle.vs_matching.specs.Steps.{is_overrun}
+use Rattle.vs_matching.proofs.Both.{device_has_room}
+use Rattle.vs_matching.proofs.Slots.{found_by, one_end}
 use Rattle.vs_uds.specs.Path.{path_of}
 use Rattle.vs_device.specs.Calls.{CloseStream, DeviceTree, Dial}
 use Rattle.vs_device.specs.Connections.{with_connection, with_fault, with_reply}
@@ -158,7 +162,7 @@ module _ (driver : Seat) (first port : ℕ) (s : DeviceState) (log : Log) (sound
                 (sym (rst_leaves e.value.end h) ∙ ap (λ (w : Verdict). peer_resets w h) is ∙ reset)
 
             gone : Kept driver port s log port (after_leaving e.slot (with_connection e.slot (stream_closed (heard h e.value)) s)) (GotPacket p ∷ log)
-            gone = record { runs = leaves.runs; holds = leaves.holds; puts = leaves.puts }
+            gone = record { runs = leaves.runs; holds = leaves.holds; puts = leaves.puts; overrun = leaves.overrun }
 
             closed_by : (b : Bool) → KeptBy (with_verdict verdict.Peer (bind (cond b (Done (with_connection e.slot (stream_closed (heard h e.value)) s))
                 (Ask (CloseStream e.value.stream) (λ _. Done (with_connection e.slot (stream_closed (heard h e.value)) s))))
@@ -168,9 +172,10 @@ module _ (driver : Seat) (first port : ℕ) (s : DeviceState) (log : Log) (sound
 
         refuses : (w : Why) → verdict_of e.value.end h ≡ verdict.Rst w → KeptBy (with_verdict (verdict.Rst w) (on_known (verdict.Rst w) chain h e s)) a
         refuses (why.Overrun o) is =
-            let k = hears (verdict.Rst (why.Overrun o)) is refl in
-            over (with_connection e.slot (heard h e.value) (record s { overrun = counted s.overrun })) refl
-            (record { runs = k.runs; holds = k.holds; puts = k.puts })
+            let room = device_has_room first p e.value.end (seated driver port s log) sound next
+                (ap (λ (g : Flow). ends_of g (entries_of end_in s.table)) flow ∙ one_end end_in s.table e holds.sound there) in
+            let no : true ≡ false = sym (ap is_overrun is) ∙ room in
+            absurd cc
         refuses why.BadKind is = over _ refl (hears (verdict.Rst why.BadKind) is refl)
         refuses why.BadOp is = over _ refl (hears (verdict.Rst why.BadOp) is refl)
         refuses why.Twice is = over _ refl (hears (verdict.Rst why.Twice) is refl)
@@ -200,7 +205,7 @@ module _ (driver : Seat) (first port : ℕ) (s : DeviceState) (log : Log) (sound
         dial_by dialed.Refused host request place other = over _ refl (replies_to s refl other)
         dial_by dialed.Failed host request place other =
             let k = replies_to s refl other in
-            over (with_reply (reply_to h) (with_fault s)) refl (record { runs = k.runs; holds = k.holds; puts = k.puts })
+            over (with_reply (reply_to h) (with_fault s)) refl (record { runs = k.runs; holds = k.holds; puts = k.puts; overrun = k.overrun })
 
         tried : (b c : Bool) → has_place s.table ≡ c → is_request p ≡ true → is_rst p ≡ false
             → KeptBy (bind (cond b (Done (refused h s)) (cond c (Ask (Dial (path_of s.base h.dst_port) (flow_to_host h)) (λ answer. Done (dial_answered h answer s)))
@@ -241,7 +246,7 @@ module _ (driver : Seat) (first port : ℕ) (s : DeviceState) (log : Log) (sound
         ])) (λ r. Done r.0)) a
     packet_came true is =
         let k = takes.drops driver first port s log sound holds puts p next fits is in
-        over (record s { dropped = counted s.dropped }) refl (record { runs = k.runs; holds = k.holds; puts = k.puts })
+        over (record s { dropped = counted s.dropped }) refl (record { runs = k.runs; holds = k.holds; puts = k.puts; overrun = k.overrun })
     packet_came false is = by_entry is (entry_of s.table (flow_to_host h)) refl
 
     pub header_came_keeps : nat_lt (chain.readable - 44) h.len ≡ false → KeptBy (header_came chain h s) a

@@ -95,7 +95,7 @@ module _ (driver : Seat) (first port : ℕ) (s : DeviceState) (a : Around) (soun
       oldest_put : (c : Chain) → s.chain ≡ Some c → (rs : List Reply) → s.replies ≡ rs
           → KeptNow (bind (put_reply_of rs (filling (record s { chain = Some c }))) (λ q. Done q.0.state))
       oldest_put c is [] replies = record {
-        kept = record { runs = unmoved.kept.runs; holds = holds; puts = puts };
+        kept = record { runs = unmoved.kept.runs; holds = holds; puts = puts; overrun = refl };
         chain = subst (λ (o : Option Chain). HoldsRx o a.log.held) is rx;
         known = known;
       }
@@ -104,10 +104,10 @@ module _ (driver : Seat) (first port : ℕ) (s : DeviceState) (a : Around) (soun
           let k = side.replies driver first port s a.log.entries sound holds puts reply rest replies in
           let h = reply_header reply s in
           put_over c has.0 (header_bytes h) _ (reply_on Device s.cid (flow_to_guest reply)) (holds_header h k.puts.0 refl) (header_written c h has.1)
-          (record s { chain = None; replies = rest }) refl (record { runs = k.runs; holds = k.holds; puts = k.puts }) _ refl
+          (record s { chain = None; replies = rest }) refl (record { runs = k.runs; holds = k.holds; puts = k.puts; overrun = k.overrun }) _ refl
 
       by : (o : Option Chain) → s.chain ≡ o → KeptNow (puts_reply (record s { chain = o }))
-      by None is = record { kept = record { runs = unmoved.kept.runs; holds = holds; puts = puts }; chain = tt; known = known }
+      by None is = record { kept = record { runs = unmoved.kept.runs; holds = holds; puts = puts; overrun = refl }; chain = tt; known = known }
       by (Some c) is = oldest_put c is s.replies refl
 
   -- What a connection owes.
@@ -133,7 +133,7 @@ module _ (driver : Seat) (first port : ℕ) (s : DeviceState) (a : Around) (soun
         → Goes (record (with_connection e.slot v s) { chain = None; last_put = last }) (PutPacket (owed_on Device s.cid e.flow e.value.end what) ∷ a.log.entries)
     pays_other what v owes end pending fresh stays_in last =
         let k = side.pays_as driver first port s a.log.entries sound holds puts what e v there owes end pending fresh stays_in in
-        record { runs = k.runs; holds = k.holds; puts = k.puts }
+        record { runs = k.runs; holds = k.holds; puts = k.puts; overrun = k.overrun }
 
     fresh_old : (v : DeviceConnection) → v.end ≡ e.value.end → v.ok_line ≡ e.value.ok_line → v.asked_at ≡ e.value.asked_at
         → v.shut_at ≡ e.value.shut_at → IsFresh v
@@ -176,7 +176,7 @@ module _ (driver : Seat) (first port : ℕ) (s : DeviceState) (a : Around) (soun
         gone : Goes (after_leaving e.slot (with_connection e.slot (stream_closed e.value) (record s { chain = None; last_put = Some e.slot })))
             (PutPacket (owed_on Device s.cid e.flow e.value.end owed.Rst) ∷ a.log.entries)
         gone = let k = side.pays_rst driver first port s a.log.entries sound holds puts e (stream_closed e.value) there owes in
-            record { runs = k.runs; holds = k.holds; puts = k.puts }
+            record { runs = k.runs; holds = k.holds; puts = k.puts; overrun = k.overrun }
 
         by : (b : Bool) → KeptNow (bind {A = Filling × Bool} (bind (put_packet (owed_header e.value.end (route_to_guest s.cid e.flow) owed.Rst)
             (λ t. bind (cond b (Done (with_connection e.slot (stream_closed e.value) (record t { last_put = Some e.slot })))
@@ -188,7 +188,7 @@ module _ (driver : Seat) (first port : ℕ) (s : DeviceState) (a : Around) (soun
 
   held_still : (c : Chain) → s.chain ≡ Some c → Left (record s { chain = Some c }) a.lists a.log
   held_still c is = record {
-    kept = record { runs = unmoved.kept.runs; holds = holds; puts = puts };
+    kept = record { runs = unmoved.kept.runs; holds = holds; puts = puts; overrun = refl };
     chain = subst (λ (o : Option Chain). HoldsRx o a.log.held) is rx;
     known = known;
   }
@@ -218,5 +218,5 @@ module _ (driver : Seat) (first port : ℕ) (s : DeviceState) (a : Around) (soun
       found c is (Some e) under = owing c is e (found_by (λ (x : DeviceEntry). x.slot == slot) s.table.entries e under).0 (owes_of e.value.end) refl
 
       by : (o : Option Chain) → s.chain ≡ o → KeptNow (puts_owed slot (record s { chain = o }))
-      by None is = record { kept = record { runs = unmoved.kept.runs; holds = holds; puts = puts }; chain = tt; known = known }
+      by None is = record { kept = record { runs = unmoved.kept.runs; holds = holds; puts = puts; overrun = refl }; chain = tt; known = known }
       by (Some c) is = found c is (entry_under s.table slot) refl

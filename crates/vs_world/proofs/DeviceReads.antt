@@ -55,7 +55,7 @@ module _ (driver : Seat) (first port : ℕ) (s : DeviceState) (a : Around) (soun
 
     -- With the chain that is held.
     chained : (t : DeviceState) → t.chain ≡ s.chain → Kept driver port s a.log.entries port t a.log.entries → Left (record t { chain = Some c }) a.lists a.log
-    chained t same k = record { kept = record { runs = k.runs; holds = k.holds; puts = k.puts }; chain = held; known = known }
+    chained t same k = record { kept = record { runs = k.runs; holds = k.holds; puts = k.puts; overrun = k.overrun }; chain = held; known = known }
 
     answered : (host : HostContents) (x : StreamRead) (bytes : List ℕ) → length bytes ≤ free_of e.value.end.credit → length bytes < 2 ^ 32
         → KeptOver host (bind (read_answered c e x bytes (filling (record s { chain = Some c }))) (λ r. Done r.state))
@@ -67,7 +67,7 @@ module _ (driver : Seat) (first port : ℕ) (s : DeviceState) (a : Around) (soun
     answered host read.Failed bytes less len = closed_by e.value.closed
       where
         cut : Left (with_connection e.slot (cut_off e.value) (with_fault s)) a.lists a.log
-        cut = streams.cut_over driver first port s a sound holds puts rx known e there old (with_fault s) refl (refl, refl, refl)
+        cut = streams.cut_over driver first port s a sound holds puts rx known e there old (with_fault s) refl (refl, refl, refl, refl)
 
         gone : Left (record (with_connection e.slot (cut_off e.value) (with_fault s)) { chain = Some c }) a.lists a.log
         gone = chained (with_connection e.slot (cut_off e.value) (with_fault s)) refl cut.kept
@@ -101,7 +101,7 @@ module _ (driver : Seat) (first port : ℕ) (s : DeviceState) (a : Around) (soun
     where
       same_chain : (o : Option Chain) → s.chain ≡ o → Left (record s { chain = o }) a.lists a.log
       same_chain o is = record {
-        kept = record { runs = unmoved.kept.runs; holds = holds; puts = puts };
+        kept = record { runs = unmoved.kept.runs; holds = holds; puts = puts; overrun = refl };
         chain = subst (λ (o : Option Chain). HoldsRx o a.log.held) is rx;
         known = known;
       }
@@ -120,7 +120,7 @@ module _ (driver : Seat) (first port : ℕ) (s : DeviceState) (a : Around) (soun
           let k = side.decides driver first port s a.log.entries sound holds puts e c WantsCredit there (live_old e.value.end may) refl tt
           (entry_fits driver first port s a.log.entries sound holds puts e there).credit (not_fresh c (live_old e.value.end may)) in
           record {
-            kept = record { runs = k.runs; holds = k.holds; puts = k.puts };
+            kept = record { runs = k.runs; holds = k.holds; puts = k.puts; overrun = k.overrun };
             chain = subst (λ (o : Option Chain). HoldsRx o a.log.held) is rx;
             known = known;
           }

@@ -110,13 +110,14 @@ module _ (driver : Seat) where
     pub runs : Runs (seated port s log) (seated port' s' log')
     pub holds : DeviceHolds port' s'
     pub puts : PutsFit log'
+    pub overrun : s'.overrun ≡ s.overrun
 
   module _ (first port : ℕ) (s : DeviceState) (log : Log) (sound : IsSound first (seated port s log)) (holds : DeviceHolds port s) (puts : PutsFit log) where
     abbrev pub Goes : DeviceState → Log → Type 0
     Goes s' log' = Kept port s log port s' log'
 
     pub same : Goes s log
-    same = record { runs = stays _ _ refl; holds = holds; puts = puts }
+    same = record { runs = stays _ _ refl; holds = holds; puts = puts; overrun = refl }
 
     pub has_end : (e : DeviceEntry) → Contains s.table.entries e → HasEnd e.flow e.value.end (part_of port s)
     has_end e there = one_end end_in s.table e holds.sound there
@@ -153,6 +154,7 @@ module _ (driver : Seat) where
         → c.end ≡ decided e.value.end what → MayDecide e.value.end what → CreditFits c.end.credit (length c.pending) → IsFresh c
         → Goes (with_connection e.slot c s) log
     decides e c what there old is may fits fresh = record {
+      overrun = refl;
       runs = one_step Device (Decides e.flow e.value.end what) (seated port s log) (seated port (with_connection e.slot c s) log)
           (has_end e there, old, may)
           (ap (λ (entries : List FlowEnd). with_entries entries log)
@@ -167,6 +169,7 @@ module _ (driver : Seat) where
     unseen e c there is fewer fresh =
         let fits = (entry_fits e there).credit in
         record {
+          overrun = refl;
           runs = stays _ _ (ap (λ (entries : List FlowEnd). with_entries entries log)
               (sym (changed_slot end_in s.table e c holds.sound there
               ∙ ap (λ (x : ConnectionEnd). replaced e.flow x (entries_of end_in s.table)) is ∙ unchanged e there)));
@@ -192,6 +195,7 @@ module _ (driver : Seat) where
         let c : DeviceConnection = record e.value { end = with_payload_sent e.value.end (length payload) } in
         let p = payload_on Device s.cid e.flow e.value.end payload in
         record {
+          overrun = refl;
           runs = one_step Device (Sends e.flow e.value.end payload) (seated port s log) (seated port (with_connection e.slot c s) (PutPacket p ∷ log))
               (has_end e there, can)
               (ap (λ (entries : List FlowEnd). with_entries entries (PutPacket p ∷ log)) (sym (changed_slot end_in s.table e c holds.sound there)));
@@ -209,6 +213,7 @@ module _ (driver : Seat) where
         let p = owed_on Device s.cid e.flow e.value.end what in
         let fits = (entry_fits e there).credit in
         record {
+          overrun = refl;
           runs = one_step Device (Pays e.flow e.value.end what) (seated port s log) (seated port (with_connection e.slot c s) (PutPacket p ∷ log))
               (has_end e there, owes)
               (ap (λ (part : Ends). at_part part (PutPacket p ∷ log)) stays_in
@@ -241,6 +246,7 @@ module _ (driver : Seat) where
     pays_rst e c there owes =
         let p = owed_on Device s.cid e.flow e.value.end owed.Rst in
         record {
+          overrun = refl;
           runs = one_step Device (Pays e.flow e.value.end owed.Rst) (seated port s log) _
               (has_end e there, owes) (ap (λ (part : Ends). at_part part (PutPacket p ∷ log)) (left_part e c there));
           holds = left_holds e.slot c;
@@ -255,6 +261,7 @@ module _ (driver : Seat) where
         let all : All ReplyFits (reply ∷ rest) = subst (λ (rs : List Reply). All ReplyFits rs) is holds.owed in
         let one : ReplyFits reply = all 0 reply (omega arith) in
         record {
+          overrun = refl;
           runs = one_step Device (Replies (flow_to_guest reply) (map flow_to_guest rest)) (seated port s log)
               (seated port (record s { replies = rest }) (PutPacket p ∷ log)) (ap (map flow_to_guest) is) refl;
           holds = record {
@@ -270,6 +277,7 @@ module _ (driver : Seat) where
 
     pub puts_event : (id : ℕ) → Goes s (PutEvent id ∷ log)
     puts_event id = record {
+      overrun = refl;
       runs = one_step Device (PutsEvent id) (seated port s log) (seated port s (PutEvent id ∷ log)) refl refl;
       holds = holds;
       puts = puts;

@@ -128,16 +128,16 @@ module _ (driver : Seat) (first port : ℕ) (s : DeviceState) (a : Around) (soun
         kept_by false = refl
 
     -- Its stream is closed too.
-    pub cut_over : is_new e.value.end ≡ false → (t : DeviceState) → t.chain ≡ s.chain → (t.table ≡ s.table) × (t.replies ≡ s.replies) × (t.cid ≡ s.cid)
+    pub cut_over : is_new e.value.end ≡ false → (t : DeviceState) → t.chain ≡ s.chain → (t.table ≡ s.table) × (t.replies ≡ s.replies) × (t.cid ≡ s.cid) × (t.overrun ≡ s.overrun)
         → Left (with_connection e.slot (cut_off e.value) t) a.lists a.log
-    cut_over old t same (table, replies, cid) =
+    cut_over old t same (table, replies, cid, overrun) =
         let k = cuts old in
-        silent (with_connection e.slot (cut_off e.value) t) same (recast t table replies cid k)
+        silent (with_connection e.slot (cut_off e.value) t) same (recast t table replies cid overrun k)
       where
-        recast : (t : DeviceState) → t.table ≡ s.table → t.replies ≡ s.replies → t.cid ≡ s.cid
+        recast : (t : DeviceState) → t.table ≡ s.table → t.replies ≡ s.replies → t.cid ≡ s.cid → t.overrun ≡ s.overrun
             → Kept driver port s a.log.entries port (with_connection e.slot (cut_off e.value) s) a.log.entries
             → Kept driver port s a.log.entries port (with_connection e.slot (cut_off e.value) t) a.log.entries
-        recast t table replies cid k = rw (table, replies, cid) (record { runs = k.runs; holds = k.holds; puts = k.puts })
+        recast t table replies cid overrun k = rw (table, replies, cid) (record { runs = k.runs; holds = k.holds; puts = k.puts; overrun = overrun })
 
   -- A timeout.
   pub tick_keeps : (slot : ℕ) → KeptNow (tick_slot slot s)
@@ -168,8 +168,8 @@ module _ (driver : Seat) (first port : ℕ) (s : DeviceState) (a : Around) (soun
 
           closed_by : (b : Bool) → KeptNow (cond b (Done (with_connection e.slot (cut_off e.value) s))
               (Ask (CloseStream e.value.stream) (λ _. Done (with_connection e.slot (cut_off e.value) s))))
-          closed_by true = cut_over e there old s refl (refl, refl, refl)
-          closed_by false = cut_over e there old s refl (refl, refl, refl)
+          closed_by true = cut_over e there old s refl (refl, refl, refl, refl)
+          closed_by false = cut_over e there old s refl (refl, refl, refl, refl)
 
       by : (o : Option DeviceEntry) → entry_under s.table slot ≡ o → KeptNow (elim o as (λ _. DeviceTree DeviceState) [
         | None ↦ Done s
@@ -220,8 +220,8 @@ module _ (driver : Seat) (first port : ℕ) (s : DeviceState) (a : Around) (soun
           closed_by : (b : Bool) → KeptNow (bind (bind (cond b (Done (with_connection e.slot (cut_off e.value) (with_fault s)))
               (Ask (CloseStream e.value.stream) (λ _. Done (with_connection e.slot (cut_off e.value) (with_fault s)))))
               (λ t. Done (writing t))) (λ w. Done w.state))
-          closed_by true = cut_over e there old (with_fault s) refl (refl, refl, refl)
-          closed_by false = cut_over e there old (with_fault s) refl (refl, refl, refl)
+          closed_by true = cut_over e there old (with_fault s) refl (refl, refl, refl, refl)
+          closed_by false = cut_over e there old (with_fault s) refl (refl, refl, refl, refl)
 
       some : (e : DeviceEntry) → Contains s.table.entries e → (b : Bool) → (length (to_write e.value) == 0) ≡ b → KeptNow (bind (cond b (Done (writing s))
           (Ask (WriteStream e.value.stream (to_write e.value)) (λ answer. write_answered e answer (writing s)))) (λ w. Done w.state))
@@ -320,11 +320,11 @@ module _ (driver : Seat) (first port : ℕ) (s : DeviceState) (a : Around) (soun
             puts_of.put_over driver first port s a sound holds puts rx known c has.0 (header_bytes h) _ (payload_on Device s.cid e.flow e.value.end [])
             (subst (λ (page : List ℕ). packet_held page ≡ Some (payload_on Device s.cid e.flow e.value.end [])) (append-nil (header_bytes h))
             (holds_payload h [] k.puts.0 refl refl)) (puts_of.header_written driver first port s a sound holds puts rx known c h has.1)
-            _ refl (record { runs = k.runs; holds = k.holds; puts = k.puts }) _ refl
+            _ refl (record { runs = k.runs; holds = k.holds; puts = k.puts; overrun = k.overrun }) _ refl
         put_all (x ∷ xs) less len =
             let k = kept_for (x ∷ xs) less len in
             let h = payload_header e.value.end (route_to_guest s.cid e.flow) (length (x ∷ xs)) in
             puts_of.put_over driver first port s a sound holds puts rx known c has.0 (header_bytes h ++ x ∷ xs) _
             (payload_on Device s.cid e.flow e.value.end (x ∷ xs)) (holds_payload h (x ∷ xs) k.puts.0 refl refl)
             (puts_of.payload_written driver first port s a sound holds puts rx known c h (x ∷ xs) has.1)
-            _ refl (record { runs = k.runs; holds = k.holds; puts = k.puts }) _ refl
+            _ refl (record { runs = k.runs; holds = k.holds; puts = k.puts; overrun = k.overrun }) _ refl

@@ -69,6 +69,7 @@ module _ (driver : Seat) (first port : ℕ) (s : DeviceState) (log : Log) (sound
       let c = new_connection (asked BUF_ALLOC) stream true in
       let inside : is_assigned port ≡ true = grind (arith, nat_tests, holds.port, last) in
       record {
+        overrun = refl;
         runs = one_step Device (Asks f BUF_ALLOC) (seated driver port s log) (seated driver (port + 1) (with_client f stream s) log)
             (refl, record { asker = ap (side_by Device) inside; port = omega arith }, (omega arith, omega arith))
             (ap (λ (entries : List FlowEnd). at_part driver (record (part_of driver port s) { entries = entries; next_port = port + 1 }) log)
@@ -89,6 +90,7 @@ module _ (driver : Seat) (first port : ℕ) (s : DeviceState) (log : Log) (sound
     -- A packet whose source isn't the guest, or whose destination isn't the host.
     pub drops : is_dropped Device s.cid p.header ≡ true → Goes s
     drops dropped = record {
+      overrun = refl;
       runs = one_step Device (Takes p None) (seated driver port s log) (seated driver port s got) (next, tt)
           (ap (λ (b : Bool). at_part driver (cond b (part_of driver port s)
           (after_packet (ends_of (flow_to_host p.header) (entries_of end_in s.table)) p (flow_to_host p.header) None (part_of driver port s))) got) dropped);
@@ -115,6 +117,7 @@ module _ (driver : Seat) (first port : ℕ) (s : DeviceState) (log : Log) (sound
         pub stays_with : (c : DeviceConnection) → c.end ≡ end_after e.value.end p.header → CreditFits c.end.credit (length c.pending) → IsFresh c
             → (is_reset p.header && is_stream p.header) ≡ false → Goes (with_connection e.slot c s)
         stays_with c is credit fresh goes_on = record {
+          overrun = refl;
           runs = one_step Device (Takes p None) (seated driver port s log) (seated driver port (with_connection e.slot c s) got) (next, tt)
               (taken_as (e.value.end ∷ []) None has
               ∙ ap (λ (b : Bool). at_part driver (cond b (left (flow_to_host p.header) (part_of driver port s))
@@ -129,6 +132,7 @@ module _ (driver : Seat) (first port : ℕ) (s : DeviceState) (log : Log) (sound
         pub leaves_with : (c : DeviceConnection) → (is_reset p.header && is_stream p.header) ≡ true
             → Goes (record s { table = without (with_value s.table e.slot c) e.slot })
         leaves_with c over = record {
+          overrun = refl;
           runs = one_step Device (Takes p None) (seated driver port s log) _ (next, tt)
               (taken_as (e.value.end ∷ []) None has
               ∙ ap (λ (b : Bool). at_part driver (cond b (left (flow_to_host p.header) (part_of driver port s))
@@ -150,6 +154,7 @@ module _ (driver : Seat) (first port : ℕ) (s : DeviceState) (log : Log) (sound
             let c = new_connection (answering BUF_ALLOC p.header) stream false in
             let other : is_rst p ≡ false = not_both request in
             record {
+              overrun = refl;
               runs = one_step Device (Takes p (Some BUF_ALLOC)) (seated driver port s log) (seated driver port (with_dialed f p.header stream s) got)
                   (next, (omega arith, omega arith))
                   (taken_as [] (Some BUF_ALLOC) no_end
@@ -173,6 +178,7 @@ module _ (driver : Seat) (first port : ℕ) (s : DeviceState) (log : Log) (sound
         replies_to other =
             let f = flow_to_host p.header in
             record {
+              overrun = refl;
               runs = one_step Device (Takes p None) (seated driver port s log) (seated driver port (with_reply (reply_to p.header) s) got) (next, tt)
                   (taken_as [] None no_end
                   ∙ ap (λ (b : Bool). at_part driver (cond b (part_of driver port s) (answered (is_request p) None p f (part_of driver port s))) got) other
@@ -197,6 +203,7 @@ module _ (driver : Seat) (first port : ℕ) (s : DeviceState) (log : Log) (sound
 
         pub ignores : is_rst p ≡ true → Goes s
         ignores rst = record {
+          overrun = refl;
           runs = one_step Device (Takes p None) (seated driver port s log) (seated driver port s got) (next, tt)
               (taken_as [] None no_end
               ∙ ap (λ (b : Bool). at_part driver (cond b (part_of driver port s)

@@ -81,18 +81,18 @@ module _ (driver : Seat) (first port : ℕ) (s : DeviceState) (a : Around) (soun
       came : (given : List (List ℕ)) → Left (holding (next_at Rx a.lists.rx.place (oldest given)) (filling (record s { chain = None }))).state
           (record a.lists { rx = record a.lists.rx { given = all_but_oldest given; place = place_after given a.lists.size a.lists.rx.place } })
           (log_taken Rx (next_at Rx a.lists.rx.place (oldest given)) (oldest given) a.log)
-      came [] = record { kept = record { runs = still.kept.runs; holds = holds; puts = puts }; chain = tt; known = known }
+      came [] = record { kept = record { runs = still.kept.runs; holds = holds; puts = puts; overrun = refl }; chain = tt; known = known }
       came (page ∷ pages) =
           let c = chain_with Rx a.lists.rx.place page in
           record {
-            kept = record { runs = still.kept.runs; holds = holds; puts = puts };
+            kept = record { runs = still.kept.runs; holds = holds; puts = puts; overrun = refl };
             chain = (refl, ap (λ (b : Bool). cond b true (is_held c a.log.held)) (same_self c));
             known = known;
           }
 
       by : (o : Option Chain) → s.chain ≡ o → KeptNow (takes_chain Rx (record s { chain = o }))
       by (Some c) is = record {
-        kept = record { runs = still.kept.runs; holds = holds; puts = puts };
+        kept = record { runs = still.kept.runs; holds = holds; puts = puts; overrun = refl };
         chain = subst (λ (c : Option Chain). HoldsRx c a.log.held) is rx;
         known = known;
       }
@@ -176,7 +176,7 @@ module _ (driver : Seat) (first port : ℕ) (s : DeviceState) (a : Around) (soun
             kept = subst (λ (l : Log). Kept driver port s a.log.entries port (record s { event_owed = false }) l)
                 (sym (ap (λ (q : Queue). entries_returned q (take 4 (bytes_in c w)) a.log.entries) is
                 ∙ ap (λ (bytes : List ℕ). with_event (λ id. PutEvent id) (event_held bytes) a.log.entries) page))
-                (record { runs = k.runs; holds = k.holds; puts = k.puts });
+                (record { runs = k.runs; holds = k.holds; puts = k.puts; overrun = k.overrun });
             chain = rx_kept s.chain c w (ap (λ (q : Queue). same_queue q Rx) is) (rx_written s.chain c _ a.log.held rx);
             known = subst (λ (n : ℕ). n < 2 ^ 64) (sym (same_cid c.queue (take 4 (bytes_in c w)) a.lists)) known;
           }

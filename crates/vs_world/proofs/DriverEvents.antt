@@ -1,4 +1,5 @@
 -- Each of the driver's conversations is some of the steps of the two ends.
+use Rattle.std.proofs.Common.{take}
 use Rattle.std.proofs.Common.{◌≡◌, ℕ, ◌+◌, ◌-◌, ◌^◌, ◌<◌, ◌≤◌, ◌==◌, min, nat_le, nat_lt, Bool, true, false, cond, List, [], ◌∷◌, ◌++◌, length, Contains, Option, Some, None, Result, Ok, Err, is_some, refl, sym, ap, subst, ◌∙◌, arith}
 use Rattle.std.proofs.lemmas.Bool.Decides.{nat_tests}
 use Rattle.std.proofs.lemmas.List.{length-take}
@@ -37,7 +38,17 @@ use Rattle.vs_header.specs.declared.Header.{Header}
 use Rattle.std.proofs.Common.{length-append}
 use Rattle.vs_world.specs.Sides.{driver_ends, flow_to_host, log_with_staged}
 use Rattle.vs_world.proofs.DriverSide as side
-use Rattle.vs_world.proofs.DriverSide.{DriverHolds, Kept, seated}
+use Rattle.vs_world.proofs.DriverSide.{DriverHolds, Kept, KeptWith, seated}
+use Rattle.vs_world.proofs.Payloads.{either_none, front_of}
+use Rattle.vs_world.specs.Pipes.{none_on, put_on}
+use Rattle.vs_world.specs.Calls.{bytes_sent, is_on, took}
+use Rattle.vs_world.specs.GuestSteps.{flow_named}
+use Rattle.vs_driver.specs.Connections.{flow_of}
+use Rattle.vs_driver.specs.State.{gone_known_as}
+use Rattle.vs_driver.proofs.Known.{flow_known}
+use Rattle.vs_flow.specs.Flow.{same_flow}
+use Rattle.vs_flow.specs.declared.flow.Flow.{Flow}
+use Rattle.vs_conn.specs.declared.end.Stop.TheVariants as stopped
 use Rattle.vs_world.proofs.DriverTakes as takes
 use Rattle.vs_world.proofs.DriverResets as resets
 use Rattle.vs_world.proofs.Fits.{holds_header, holds_payload}
@@ -90,9 +101,13 @@ module _ (device : Seat) (first : ℕ) (s : DriverState) (lists : Rings) (log : 
   still = (same, pages)
 
   -- Pages count in no connection.
+  recounted_with : (extra : Flow → List ℕ) (t : DriverState) (n m : ℕ) (l k : Log) → l ≡ k → KeptWith device extra s now t l
+      → KeptWith device extra s now (record t { in_flight = n; staged = m }) k
+  recounted_with extra t n m l k is kept = subst (λ (x : Log). KeptWith device extra s now (record t { in_flight = n; staged = m }) x) is
+      (record { runs = kept.runs; holds = kept.holds; puts = kept.puts; broken = kept.broken; sent = kept.sent })
+
   recounted : (t : DriverState) (n m : ℕ) (l k : Log) → l ≡ k → Kept device s now t l → Kept device s now (record t { in_flight = n; staged = m }) k
-  recounted t n m l k is kept = subst (λ (x : Log). Kept device s now (record t { in_flight = n; staged = m }) x) is
-      (record { runs = kept.runs; holds = kept.holds; puts = kept.puts; broken = kept.broken })
+  recounted = recounted_with none_on
 
   -- A packet is staged.
   log_put : (bytes : List ℕ) (p : Packet) → packet_held bytes ≡ Some p → PutPacket p ∷ now ≡ all_put (log.staged.tx ++ bytes ∷ []) log.entries
@@ -323,19 +338,40 @@ module _ (device : Seat) (first : ℕ) (s : DriverState) (lists : Rings) (log : 
       by (Some refusal) is = still
       by None is = with_page is (has_page s)
 
-  sends_keeps : (id : ℕ) (bytes : List ℕ) → CallKept (sends id bytes s)
+  -- A call that puts no payload; and the same payload, said otherwise.
+  says : (extra other : Flow → List ℕ) {t : DriverState} {l : Log} → ((f : Flow) → extra f ≡ other f) → KeptWith device extra s now t l
+      → KeptWith device other s now t l
+  says extra other eq k = record {
+    runs = k.runs;
+    holds = k.holds;
+    puts = k.puts;
+    broken = k.broken;
+    sent = λ f. k.sent f ∙ ap (λ (xs : List ℕ). put_on f now ++ xs) (eq f);
+  }
+
+  silent : (g : Option Flow) {t : DriverState} {l : Log} → Kept device s now t l → KeptWith device (λ f. cond (is_on f g) [] []) s now t l
+  silent g k = says none_on (λ f. cond (is_on f g) [] []) (λ f. sym (either_none (is_on f g))) k
+
+  -- A send.
+  abbrev SendKept : ℕ → List ℕ → DriverTree (DriverState × Sent) → Type 0
+  SendKept id bytes tree =
+      let r = played driver_answer tree (lists, log) in
+      KeptWith device (λ f. cond (is_on f (flow_of id s)) (took bytes r.0.1) []) s now r.0.0 (log_with_staged r.1.1) × TxHolds r.1.0 r.1.1
+
+  sends_keeps : (id : ℕ) (bytes : List ℕ) → SendKept id bytes (sends id bytes s)
   sends_keeps id bytes = by (entry_known_as id s) refl
     where
       with_page : (e : DriverEntry) (payload : List ℕ) → Contains s.table.entries e → CanSend e.value.end (length payload) → length payload < 2 ^ 32
-          → (b : Bool) → CallKept (cond b (bind (post_packet (payload_bytes e payload s) s)
+          → flow_of id s ≡ Some e.flow → take (length payload) bytes ≡ payload → (b : Bool) → SendKept id bytes (cond b (bind (post_packet (payload_bytes e payload s) s)
           (λ t. Done (with_end (with_payload_sent e.value.end (length payload)) e t, sent.Took (length payload)))) (Done (s, sent.NoDescriptor s.in_flight)))
-      with_page e payload there can len false = still
-      with_page e payload there can len true =
+      with_page e payload there can len flow front false = (silent (flow_of id s) same, pages)
+      with_page e payload there can len flow front true =
           let kept = side.sends device first s now sound holds puts e payload there can len in
           let p = payload_on Driver s.cid e.flow e.value.end payload in
           let t : DriverState = with_end (with_payload_sent e.value.end (length payload)) e s in (
-            recounted t (s.in_flight + 1) s.staged (PutPacket p ∷ now) _
-                (log_put (payload_bytes e payload s) p (holds_payload p.header payload kept.puts.0 refl refl)) kept,
+            says (λ f. cond (same_flow f e.flow) payload []) _ (λ f. ap (λ (xs : List ℕ). cond (same_flow f e.flow) xs []) (sym front)
+                ∙ ap (λ (g : Option Flow). cond (is_on f g) (take (length payload) bytes) []) (sym flow)) (recounted_with (λ f. cond (same_flow f e.flow) payload []) t (s.in_flight + 1) s.staged (PutPacket p ∷ now) _
+                (log_put (payload_bytes e payload s) p (holds_payload p.header payload kept.puts.0 refl refl)) kept),
             (
               all_hold lists.tx.given (log.staged.tx ++ payload_bytes e payload s ∷ []) pages.0
                   (one_more_page (payload_bytes e payload s) p (holds_payload p.header payload kept.puts.0 refl refl) (payload_long p.header payload refl)),
@@ -352,49 +388,61 @@ module _ (device : Seat) (first : ℕ) (s : DriverState) (lists : Rings) (log : 
       may_send : (e : DriverEntry) (credit n : ℕ) → may_send_of e.value.end ≡ Ok credit → n ≤ credit → CanSend e.value.end n
       may_send e credit n may less = subst (λ (r : Result ℕ Stop). IsOkAnd r (λ free. n ≤ free)) (sym may) less
 
-      with_credit : (e : DriverEntry) (credit : ℕ) → Contains s.table.entries e → may_send_of e.value.end ≡ Ok credit → (a b : Bool)
-          → CallKept (cond a (Done (s, sent.Took 0)) (cond b (Done (with_end (wanting_credit e.value.end) e s, no_credit e.value.end))
+      with_credit : (e : DriverEntry) (credit : ℕ) → Contains s.table.entries e → flow_of id s ≡ Some e.flow → may_send_of e.value.end ≡ Ok credit → (a b : Bool)
+          → SendKept id bytes (cond a (Done (s, sent.Took 0)) (cond b (Done (with_end (wanting_credit e.value.end) e s, no_credit e.value.end))
           (send_with_page e (payload_of credit bytes) s)))
-      with_credit e credit there may true b = still
-      with_credit e credit there may false true = (side.wants_credit device first s now sound holds puts e there, pages)
-      with_credit e credit there may false false =
+      with_credit e credit there flow may true b = (silent (flow_of id s) same, pages)
+      with_credit e credit there flow may false true = (silent (flow_of id s) (side.wants_credit device first s now sound holds puts e there), pages)
+      with_credit e credit there flow may false false =
           let len = length-take (min credit 4052) bytes in
           with_page e (payload_of credit bytes) there
           (may_send e credit (length (payload_of credit bytes)) may (omega (arith, len, shorter credit)))
-          (omega (arith, len, short credit)) (has_page s)
+          (omega (arith, len, short credit)) flow (front_of (min credit 4052) bytes) (has_page s)
 
-      on : (e : DriverEntry) → Contains s.table.entries e → (r : Result ℕ Stop) → may_send_of e.value.end ≡ r
-          → CallKept (elim r as (λ _. DriverTree (DriverState × Sent)) [
+      on : (e : DriverEntry) → Contains s.table.entries e → flow_of id s ≡ Some e.flow → (r : Result ℕ Stop) → may_send_of e.value.end ≡ r
+          → SendKept id bytes (elim r as (λ _. DriverTree (DriverState × Sent)) [
             | Err why ↦ Done (s, send_stopped why)
             | Ok credit ↦ sends_with_credit e credit bytes s
           ])
-      on e there (Err why) may = still
-      on e there (Ok credit) may = with_credit e credit there may (length bytes == 0) (credit == 0)
+      on e there flow (Err stopped.NotOpen) may = (silent (flow_of id s) same, pages)
+      on e there flow (Err stopped.Reset) may = (silent (flow_of id s) same, pages)
+      on e there flow (Err stopped.ShutDown) may = (silent (flow_of id s) same, pages)
+      on e there flow (Ok credit) may = with_credit e credit there flow may (length bytes == 0) (credit == 0)
 
-      by : (o : Option DriverEntry) → entry_known_as id s ≡ o → CallKept (elim o as (λ _. DriverTree (DriverState × Sent)) [
+      unknown : (b : Bool) → SendKept id bytes (Done (s, cond b sent.Reset sent.Unknown))
+      unknown true = (silent (flow_of id s) same, pages)
+      unknown false = (silent (flow_of id s) same, pages)
+
+      by : (o : Option DriverEntry) → entry_known_as id s ≡ o → SendKept id bytes (elim o as (λ _. DriverTree (DriverState × Sent)) [
         | None ↦ Done (s, not_sent id s)
         | Some e ↦ sends_on e bytes s
       ])
-      by None is = still
-      by (Some e) is = on e (found_by (is_known_as id) s.table.entries e is).0 (may_send_of e.value.end) refl
+      by None is = unknown (is_some (gone_known_as id s))
+      by (Some e) is = on e (found_by (is_known_as id) s.table.entries e is).0 (flow_known id s e is) (may_send_of e.value.end) refl
 
   -- What changes in no connection.
   apart : (t : DriverState) → driver_ends s ≡ driver_ends t → DriverHolds t → t.broken ≡ s.broken → Kept device s now t now
   apart t same holds' unbroken = side.kept_still device s t now holds puts same holds' unbroken
 
-  pub makes_call_keeps : (call : GuestCall) → is_right call ≡ true → CallKept (makes_call call s)
-  makes_call_keeps (Connect port) right = connects_keeps port (grind (arith, nat_tests, right))
-  makes_call_keeps (Listen port) right = (by (listen_of port s), pages)
+  abbrev pub MadeKept : GuestCall → Type 0
+  MadeKept call =
+      let r = played driver_answer (makes_call call s) (lists, log) in
+      KeptWith device (λ f. cond (is_on f (flow_named call s)) (bytes_sent call r.0.1) []) s now r.0.0 (log_with_staged r.1.1) × TxHolds r.1.0 r.1.1
+
+  pub makes_call_keeps : (call : GuestCall) → is_right call ≡ true → MadeKept call
+  makes_call_keeps (Connect port) right =
+      let k = connects_keeps port (grind (arith, nat_tests, right)) in (silent (Some (next_flow port s)) k.0, k.1)
+  makes_call_keeps (Listen port) right = (silent None (by (listen_of port s)), pages)
     where
       by : (r : Result (Unit {0}) ListenError) → Kept device s now (elim r as (λ _. DriverState) [ Ok x ↦ listening port s | Err why ↦ s ]) now
       by (Ok x) = apart (listening port s) refl holds refl
       by (Err why) = same
-  makes_call_keeps (Unlisten port) right = (by (is_some (listener_on port s.listeners)), pages)
+  makes_call_keeps (Unlisten port) right = (silent None (by (is_some (listener_on port s.listeners))), pages)
     where
       by : (b : Bool) → Kept device s now (elim b as (λ _. DriverState) [ true ↦ after_unlisten port s | false ↦ s ]) now
       by true = resets.unlistens device first port s now sound holds puts
       by false = same
-  makes_call_keeps (Accept port) right = (by (next_accepted port s), pages)
+  makes_call_keeps (Accept port) right = (silent None (by (next_accepted port s)), pages)
     where
       by : (o : Option ℕ) → Kept device s now (elim o as (λ _. DriverState) [
         | None ↦ s
@@ -403,7 +451,7 @@ module _ (device : Seat) (first : ℕ) (s : DriverState) (lists : Rings) (log : 
       by None = same
       by (Some id) = apart (record s { listeners = with_waiting port (without_id id) s.listeners }) refl holds refl
   makes_call_keeps (Send id bytes) right = sends_keeps id bytes
-  makes_call_keeps (Recv id n) right = (side.recv device first s now sound holds puts id n, pages)
-  makes_call_keeps (Shutdown id bits) right = (side.shutdown device first s now sound holds puts id bits, pages)
-  makes_call_keeps (Close id) right = (side.close device first s now sound holds puts id, pages)
-  makes_call_keeps (LookAt id) right = still
+  makes_call_keeps (Recv id n) right = (silent (flow_of id s) (side.recv device first s now sound holds puts id n), pages)
+  makes_call_keeps (Shutdown id bits) right = (silent (flow_of id s) (side.shutdown device first s now sound holds puts id bits), pages)
+  makes_call_keeps (Close id) right = (silent (flow_of id s) (side.close device first s now sound holds puts id), pages)
+  makes_call_keeps (LookAt id) right = (silent (flow_of id s) same, pages)

@@ -12,9 +12,11 @@ use Rattle.vs_page.specs.declared.log.LogEntry.TheVariants.{Mark}
 use Rattle.vs_replies.specs.declared.Reply.{Reply}
 use Rattle.vs_matching.specs.Both.{Both, IsSound, Seat, TakesReset}
 use Rattle.vs_matching.specs.Ends.{Ends, entries_of, flows_of}
-use Rattle.vs_driver_parts.specs.State.{DriverConnection, DriverEntry, DriverState, GoneConnection}
-use Rattle.vs_driver_parts.specs.Connections.{after_close, after_leaving, after_unlisten, all_closed, gone_as, is_let_go, waiting_on, waits_no_more}
-use Rattle.vs_driver_parts.specs.Receiving.{after_reset, all_left, reset_reply, with_reply}
+use Rattle.vs_driver.specs.State.{DriverConnection, DriverEntry, DriverState, GoneConnection}
+use Rattle.vs_driver.specs.Connections.{after_close, after_leaving, after_unlisten, all_closed, gone_as, is_let_go, waiting_on, waits_no_more}
+use Rattle.vs_driver.specs.Receiving.{after_reset, all_left, reset_reply, with_reply}
+use Rattle.vs_world.specs.Pipes.{put_on}
+use Rattle.vs_world.proofs.Payloads.{nothing_more}
 use Rattle.vs_world.specs.Sides.{flow_to_host}
 use Rattle.vs_world.proofs.DriverSide.{DriverHolds, Kept, ReplyFits, close, end_in, held_in, kept_still, kept_then, seated}
 use Rattle.vs_world.proofs.Entries.{EntryFits}
@@ -138,6 +140,7 @@ module _ (device : Seat) (first : ℕ) where
         let all = left_all s.table.entries start refl holds.sound.rising in
         record {
           broken = all.broken;
+          sent = λ f. nothing_more (put_on f log);
           runs = one_step Driver (TakesReset cid) (seated device s log) (seated device (after_reset cid s) (Mark cid ∷ log)) refl
               (ap (λ (fs : List Flow). marked cid log (record { entries = []; replies = fs; next_port = s.next_port; cid = cid }))
               (ap (λ (fs : List Flow). map flow_to_host s.replies ++ fs) (sym (same_flows s.table.entries s.table refl))
@@ -185,4 +188,4 @@ module _ (device : Seat) (first : ℕ) where
       → Kept device s log (after_unlisten port s) log
   unlistens port s log sound holds puts =
       let all = closes_all (waiting_on port s) s log sound holds puts in
-      record { runs = all.runs; holds = all.holds; puts = all.puts; broken = all.broken }
+      record { runs = all.runs; holds = all.holds; puts = all.puts; broken = all.broken; sent = all.sent }

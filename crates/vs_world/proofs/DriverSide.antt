@@ -25,6 +25,11 @@ use Rattle.vs_driver_parts.specs.Conversations.{after_paying}
 use Rattle.vs_driver_parts.specs.Listening.{with_waiting, without_id}
 use Rattle.vs_credit.specs.Credit.{unread_of}
 use Rattle.vs_matching.specs.Heard.{route_of}
+use Rattle.vs_world.specs.Pipes.{none_on, put_on}
+use Rattle.vs_world.proofs.Payloads.{nothing_more, sent_empty, sent_put}
+use Rattle.std.proofs.lemmas.List.{append-nil}
+use Rattle.vs_flow.specs.Flow.{same_flow}
+use Rattle.vs_flow.specs.declared.flow.Flow.{Flow}
 use Rattle.vs_world.specs.Sides.{Runs, driver_ends, flow_to_host}
 use Rattle.vs_world.proofs.Entries.{EntryFits, fits_at, fits_with_value, fits_without}
 use Rattle.vs_world.proofs.Fits.{CreditFits, fits_forwarded, fits_paid, fits_sent, fits_shut}
@@ -58,21 +63,26 @@ module _ (device : Seat) where
   abbrev pub seated : DriverState → Log → Both
   seated s log = record { driver = record { part = driver_ends s; log = log }; device = device }
 
-  -- What is kept as the driver goes on to another state and log.
-  pub record Kept (s : DriverState) (log : Log) (s' : DriverState) (log' : Log) : Type 0 where
+  -- What is kept as the driver goes on to another state and log, and puts this payload.
+  pub record KeptWith (extra : Flow → List ℕ) (s : DriverState) (log : Log) (s' : DriverState) (log' : Log) : Type 0 where
     pub runs : Runs (seated s log) (seated s' log')
     pub holds : DriverHolds s'
     pub puts : PutsFit log'
     pub broken : s'.broken ≡ s.broken
+    pub sent : (f : Flow) → put_on f log' ≡ put_on f log ++ extra f
+
+  abbrev pub Kept : DriverState → Log → DriverState → Log → Type 0
+  Kept s log s' log' = KeptWith none_on s log s' log'
 
   pub kept_then : (s t u : DriverState) (k l m : Log) → Kept s k t l → Kept t l u m → Kept s k u m
-  kept_then s t u k l m x y = record { runs = and_then _ _ _ x.runs y.runs; holds = y.holds; puts = y.puts; broken = y.broken ∙ x.broken }
+  kept_then s t u k l m x y = record { runs = and_then _ _ _ x.runs y.runs; holds = y.holds; puts = y.puts; broken = y.broken ∙ x.broken; sent = λ f. y.sent f ∙ append-nil (put_on f l) ∙ x.sent f }
 
   -- Nothing of this changes.
   pub kept_still : (s s' : DriverState) (log : Log) → DriverHolds s → PutsFit log → driver_ends s ≡ driver_ends s' → DriverHolds s'
       → s'.broken ≡ s.broken → Kept s log s' log
   kept_still s s' log holds puts same holds' unbroken = record {
     broken = unbroken;
+    sent = λ f. nothing_more (put_on f log);
     runs = stays _ _ (ap (λ (part : Ends). let b : Both = record { driver = record { part = part; log = log }; device = device } in b) same);
     holds = holds';
     puts = puts;
@@ -113,6 +123,7 @@ module _ (device : Seat) where
         let old = driver_begun first (driver_ends s) log e.flow e.value.end (sound.matches Driver).flows has in
         record {
           broken = refl;
+          sent = λ f. nothing_more (put_on f log);
           runs = one_step Driver (Decides e.flow e.value.end what) (seated s log) (seated (with_connection e.slot c s) log) (has, old, may)
               (ap (λ (entries : List FlowEnd). with_entries entries s log)
               (sym (changed_slot end_in s.table e c holds.sound there ∙ ap (λ (x : ConnectionEnd). replaced e.flow x (entries_of end_in s.table)) is)));
@@ -196,7 +207,7 @@ module _ (device : Seat) where
       where
         closed : (e : DriverEntry) → Contains s.table.entries e → Kept s log (entry_closed e s) log
         closed e there =
-            let k = closes e.value.end.state e there in record { runs = k.runs; holds = k.holds; puts = k.puts; broken = k.broken }
+            let k = closes e.value.end.state e there in record { runs = k.runs; holds = k.holds; puts = k.puts; broken = k.broken; sent = k.sent }
 
         gone_by : (o : Option GoneConnection) → Kept s log (elim o as (λ _. DriverState) [
           | None ↦ s
@@ -223,13 +234,14 @@ module _ (device : Seat) where
     -- It puts payload, and what it owes.
     pub sends : (e : DriverEntry) (payload : List ℕ) → Contains s.table.entries e → CanSend e.value.end (length payload)
         → length payload < 2 ^ 32
-        → Kept s log (with_connection e.slot (record e.value { end = with_payload_sent e.value.end (length payload) }) s)
+        → KeptWith (λ f. cond (same_flow f e.flow) payload []) s log (with_connection e.slot (record e.value { end = with_payload_sent e.value.end (length payload) }) s)
         (PutPacket (payload_on Driver s.cid e.flow e.value.end payload) ∷ log)
     sends e payload there can len =
         let c : DriverConnection = record e.value { end = with_payload_sent e.value.end (length payload) } in
         let p = payload_on Driver s.cid e.flow e.value.end payload in
         record {
           broken = refl;
+          sent = λ f. sent_put p log f;
           runs = one_step Driver (Sends e.flow e.value.end payload) (seated s log) (seated (with_connection e.slot c s) (PutPacket p ∷ log))
               (has_end e there, can)
               (ap (λ (entries : List FlowEnd). with_entries entries s (PutPacket p ∷ log)) (sym (changed_slot end_in s.table e c holds.sound there)));
@@ -246,6 +258,7 @@ module _ (device : Seat) where
         let fits = (entry_fits e there).credit in
         record {
           broken = refl;
+          sent = λ f. sent_empty p log f refl;
           runs = one_step Driver (Pays e.flow e.value.end what) (seated s log) (seated (with_connection e.slot c s) (PutPacket p ∷ log))
               (has_end e there, owes)
               (ap (λ (part : Ends). at_part part (PutPacket p ∷ log)) stays_in
@@ -305,6 +318,7 @@ module _ (device : Seat) where
         let gone = cond (is_let_go e.value) s.gone (s.gone ++ gone_as e ∷ []) in
         record {
           broken = left_broken e.value.unanswered e;
+          sent = λ f. sent_empty p log f refl;
           runs = one_step Driver (Pays e.flow e.value.end owed.Rst) (seated s log) (seated (after_leaving e s) (PutPacket p ∷ log))
               (has_end e there, owes) (ap (λ (part : Ends). at_part part (PutPacket p ∷ log)) (left_ends e.value.unanswered e gone there));
           holds = left_holds e.value.unanswered e gone;
@@ -320,6 +334,7 @@ module _ (device : Seat) where
         let one : ReplyFits reply = all 0 reply (omega arith) in
         record {
           broken = refl;
+          sent = λ f. sent_empty p log f refl;
           runs = one_step Driver (Replies (flow_to_host reply) (map flow_to_host rest)) (seated s log)
               (seated (record s { replies = rest }) (PutPacket p ∷ log)) (ap (map flow_to_host) is) refl;
           holds = record {

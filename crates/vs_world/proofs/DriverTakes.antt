@@ -35,7 +35,9 @@ use Rattle.vs_header.specs.declared.Op.TheVariants as op
 use Rattle.vs_history.specs.Packets.{is_rw}
 use Rattle.std.proofs.Common.{length-append}
 use Rattle.std.proofs.lemmas.List.{map-append}
-use Rattle.vs_driver_parts.proofs.Packets.{packet_known, packet_unknown}
+use Rattle.vs_driver.proofs.Packets.{packet_known, packet_unknown}
+use Rattle.vs_world.specs.Pipes.{put_on}
+use Rattle.vs_world.proofs.Payloads.{nothing_more, sent_empty, sent_got}
 use Rattle.vs_world.specs.Sides.{driver_ends, flow_to_host}
 use Rattle.vs_world.proofs.DriverSide.{DriverHolds, Holds, Kept, ReplyFits, end_in, entry_fits, held_in, holds_changed, left_broken, left_ends, left_holds, seated}
 use Rattle.vs_world.proofs.Entries.{FlowFits, fits_with_entry}
@@ -106,6 +108,7 @@ module _ (device : Seat) where
         let flow : FlowFits f = record { guest = omega (arith, spent.0); host = fits } in
         record {
           broken = refl;
+          sent = λ g. sent_empty p log g refl;
           runs = one_step Driver (Opens f BUF_ALLOC) (seated device s log) (seated device (connected port s) (PutPacket p ∷ log))
               (record { asker = asker; port = omega arith }, (omega arith, omega arith))
               (ap (λ (entries : List FlowEnd). at_part (record (driver_ends s) { entries = entries; next_port = s.next_port + 1 }) (PutPacket p ∷ log))
@@ -143,6 +146,7 @@ module _ (device : Seat) where
           → (is_reset p.header && is_stream p.header) ≡ false → Kept device s log (with_connection e.slot c s) got
       stays_with e c there flow is credit goes_on = record {
         broken = refl;
+        sent = λ g. sent_got p log g;
         runs = one_step Driver (Takes p None) (seated device s log) (seated device (with_connection e.slot c s) got) (next, tt)
             (ap (λ (ends : List ConnectionEnd). at_part (after_packet ends p (flow_to_guest p.header) None (driver_ends s)) got) has
             ∙ ap (λ (b : Bool). at_part (cond b (left (flow_to_guest p.header) (driver_ends s))
@@ -163,6 +167,7 @@ module _ (device : Seat) where
           → Kept device s log (record (cond b (waits_no_more e s) s) { table = without s.table e.slot; gone = gone }) got
       leaves_with b e gone there flow over = record {
         broken = left_broken device first s log sound holds puts b e;
+        sent = λ g. sent_got p log g;
         runs = one_step Driver (Takes p None) (seated device s log) (seated device (record (cond b (waits_no_more e s) s) { table = without s.table e.slot; gone = gone }) got) (next, tt)
             (ap (λ (ends : List ConnectionEnd). at_part (after_packet ends p (flow_to_guest p.header) None (driver_ends s)) got) has
             ∙ ap (λ (b : Bool). at_part (cond b (left (flow_to_guest p.header) (driver_ends s))
@@ -227,6 +232,7 @@ module _ (device : Seat) where
             let other : is_rst p ≡ false = not_both is_one in
             record {
               broken = refl;
+              sent = λ g. sent_got p log g;
               runs = one_step Driver (Takes p (Some BUF_ALLOC)) (seated device s log) (seated device (with_request f p.header s) got)
                   (next, (omega arith, omega arith))
                   (ap (λ (ends : List ConnectionEnd). at_part (after_packet ends p f (Some BUF_ALLOC) (driver_ends s)) got) no_end
@@ -253,6 +259,7 @@ module _ (device : Seat) where
             let f = flow_to_guest p.header in
             record {
               broken = refl;
+              sent = λ g. sent_got p log g;
               runs = one_step Driver (Takes p None) (seated device s log) (seated device (with_reply (reply_to p.header) s) got) (next, tt)
                   (ap (λ (ends : List ConnectionEnd). at_part (after_packet ends p f None (driver_ends s)) got) no_end
                   ∙ ap (λ (b : Bool). at_part (cond b (driver_ends s) (answered (is_request p) None p f (driver_ends s))) got) other
@@ -279,6 +286,7 @@ module _ (device : Seat) where
         ignores : is_rst p ≡ true → Kept device s log s got
         ignores rst = record {
           broken = refl;
+          sent = λ g. sent_got p log g;
           runs = one_step Driver (Takes p None) (seated device s log) (seated device s got) (next, tt)
               (ap (λ (ends : List ConnectionEnd). at_part (after_packet ends p (flow_to_guest p.header) None (driver_ends s)) got) no_end
               ∙ ap (λ (b : Bool). at_part (cond b (driver_ends s) (answered (is_request p) None p (flow_to_guest p.header) (driver_ends s))) got) rst);
@@ -316,6 +324,7 @@ module _ (device : Seat) where
     pub takes_event : (id : ℕ) → IsNextEvent log device.log id → Kept device s log s (GotEvent id ∷ log)
     takes_event id next = record {
       broken = refl;
+      sent = λ g. nothing_more (put_on g log);
       runs = one_step Driver (TakesEvent id) (seated device s log) (seated device s (GotEvent id ∷ log)) (refl, next) refl;
       holds = holds;
       puts = puts;

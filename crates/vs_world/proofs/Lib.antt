@@ -21,3 +21,6 @@ pub mod ProxyResets
 pub mod Rings
 pub mod Sound
 pub mod Opening
+pub mod Payloads
+pub mod GuestLines
+pub mod Polls

@@ -19,7 +19,7 @@ use Rattle.std.proofs.lemmas.List.{append-nil}
 use Rattle.vs_device.specs.Calls.{DeviceTree, Call, Ring, Accept, Dial, Label, ReadStream, WriteStream, ShutWrite, CloseStream}
 use Rattle.vs_world.specs.Answers.{Around, answer_around}
 use Rattle.vs_world.specs.Events.{Event, GuestCalls, GuestTakes, GuestStages, GuestReplies, GuestPays, GuestPublishes, DeviceTakes, DeviceReturns, DevicePutsEvent, DeviceReplies, DeviceReads, DevicePays, DeviceWrites, DeviceShutsWrite, ProxyAccepts, ProxyReads, Moment, TimesOut, HandshakeTimesOut, Reset, HostListens, HostUnlistens, ClientConnects, HostWrites, HostTakes, HostEnds, HostCloses, HostFails, happens, run, where_possible, unless_failed, has_failed}
-use Rattle.vs_world.specs.Events.{is_guest_cid, reset_made, is_at_rest, works_on, has_page, holds, driver_step, device_step, proxy_step, call_made, line_read, at_moment}
+use Rattle.vs_world.specs.Events.{is_guest_cid, reset_made, is_at_rest, works_on, holds, driver_step, device_step, proxy_step, call_made, line_read, at_moment}
 use Rattle.vs_world.specs.GuestSteps.{makes_call, takes_page, stages_page, stages_reply, stages_owed}
 use Rattle.vs_world.specs.DeviceSteps.{takes_chain, returns, puts_event, puts_reply, puts_owed, puts_payload, writes, shuts_write}
 use Rattle.vs_world.specs.Calls.{is_right}
@@ -73,7 +73,7 @@ happens_keeps (GuestCalls call) w q =
 happens_keeps (GuestTakes queue) w q =
     possible_keeps (works_on queue w.rings.driver.staged) (driver_step (takes_page queue)) w (driver_plays_keeps (takes_page queue w.driver) w q) q
 happens_keeps (GuestStages queue) w q =
-    possible_keeps (works_on queue w.rings.driver.staged && has_page queue w) (driver_step (stages_page queue)) w
+    possible_keeps (works_on queue w.rings.driver.staged) (driver_step (stages_page queue)) w
     (driver_plays_keeps (stages_page queue w.driver) w q) q
 happens_keeps GuestReplies w q =
     possible_keeps (works_on queue.Tx w.rings.driver.staged) (driver_step stages_reply) w (driver_plays_keeps (stages_reply w.driver) w q) q

@@ -34,6 +34,7 @@ played_twice (Ask call k) f g a = let r = answer_around call a in played_twice (
 record Closed (s : DeviceState) (a : Around) (t : DeviceState) (b : Around) : Type 0 where
   table : IsTable t.table
   chain : t.chain ≡ s.chain
+  overrun : t.overrun ≡ s.overrun
   lists : b.lists ≡ a.lists
   log : b.log ≡ a.log
 
@@ -47,6 +48,7 @@ close_then P k s a then_ (slot ∷ xs) t b closed = by (entry_under t.table slot
     changed e host = record {
       table = with_value_sound t.table e.slot (stream_closed e.value) closed.table;
       chain = closed.chain;
+      overrun = closed.overrun;
       lists = closed.lists;
       log = closed.log;
     }
@@ -86,6 +88,7 @@ module _ (driver : Seat) (first : ℕ) (w : ProxyState) (a : Around) (sound : Is
           (record b.lists { cid = cid }) (record b.log { entries = Mark cid ∷ b.log.entries })
       reset_in t b closed host = record {
         kept = subst (λ (l : EndLog). Kept driver w.next_port w.device a.log.entries w.next_port (after_reset cid t) (Mark cid ∷ l.entries)) (sym closed.log) (record {
+          overrun = closed.overrun;
           runs = one_step Device (MakesReset cid) (seated driver w.next_port w.device a.log.entries)
               (seated driver w.next_port (after_reset cid t) (Mark cid ∷ a.log.entries)) refl refl;
           holds = record {
@@ -117,7 +120,7 @@ module _ (driver : Seat) (first : ℕ) (w : ProxyState) (a : Around) (sound : Is
           (λ t b closed. hands_then Left (λ u. Done (record (with_device (after_reset cid t) u) { handshakes = [] }, Ok tt)) w
           (record { lists = record b.lists { cid = cid }; log = record b.log { entries = Mark cid ∷ b.log.entries }; host = b.host })
           (reset_in t b closed) (streams_of w) b.host) (slots w.device.table) w.device a
-          (record { table = holds.sound; chain = refl; lists = refl; log = refl }))
+          (record { table = holds.sound; chain = refl; overrun = refl; lists = refl; log = refl }))
         where
           bound : Left (played answer_around (bind (for_each close_slot (slots w.device.table) w.device)
               (λ t. Ask (Ring (PublishCid cid)) (λ _. reset_with (after_reset cid t, Ok tt) w))) a)

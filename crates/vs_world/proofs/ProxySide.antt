@@ -79,7 +79,7 @@ module _ (driver : Seat) (first : ℕ) (w : ProxyState) (a : Around) (sound : Is
 
   pub faulted : (t : ProxyState) → t.device ≡ with_fault w.device → t.next_port ≡ w.next_port → Over t a.lists a.log
   faulted t device port = record {
-    kept = rw (device, port) (record { runs = k.runs; holds = k.holds; puts = k.puts });
+    kept = rw (device, port) (record { runs = k.runs; holds = k.holds; puts = k.puts; overrun = k.overrun });
     chain = subst (λ (d : DeviceState). HoldsRx d.chain a.log.held) (sym device) rx;
     cid = known;
   }

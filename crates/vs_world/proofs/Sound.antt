@@ -22,8 +22,12 @@ use Rattle.vs_world.specs.Answers.{answer_around}
 use Rattle.vs_world.specs.Calls.{Journal, is_right}
 use Rattle.vs_world.specs.DeviceSteps.{takes_chain, returns, puts_event, puts_reply, puts_owed, puts_payload, writes, shuts_write}
 use Rattle.vs_world.specs.Events.{Event, GuestCalls, GuestTakes, GuestStages, GuestReplies, GuestPays, GuestPublishes, DeviceTakes, DeviceReturns, DevicePutsEvent, DeviceReplies, DeviceReads, DevicePays, DeviceWrites, DeviceShutsWrite, ProxyAccepts, ProxyReads, Moment, TimesOut, HandshakeTimesOut, Reset, HostListens, HostUnlistens, ClientConnects, HostWrites, HostTakes, HostEnds, HostCloses, HostFails}
-use Rattle.vs_world.specs.Events.{at_moment, call_made, device_step, driver_step, happens, has_failed, has_page, holds, is_at_rest, is_guest_cid, line_read, none_staged, proxy_step, reset_made, unless_failed, where_possible, works_on}
+use Rattle.vs_world.specs.Events.{at_moment, call_made, device_step, driver_step, happens, has_failed, holds, is_at_rest, is_guest_cid, line_read, none_staged, proxy_step, reset_made, unless_failed, where_possible, works_on}
 use Rattle.vs_world.specs.GuestSteps.{makes_call, takes_page, stages_page, stages_reply, stages_owed}
+use Rattle.vs_world.specs.Calls.{sent_on}
+use Rattle.vs_world.specs.Pipes.{none_on, put_on}
+use Rattle.vs_world.proofs.Payloads.{nothing_more}
+use Rattle.vs_flow.specs.declared.flow.Flow.{Flow}
 use Rattle.vs_world.specs.Laws.{IsQueued}
 use Rattle.vs_world.specs.Pages.{TxHolds}
 use Rattle.vs_world.specs.Sides.{Runs, both_of, log_with_staged}
@@ -59,6 +63,9 @@ pub record IsWell (w : World) : Type 0 where
   pub pages : TxHolds w.rings.lists w.rings.driver
   pub chain : HoldsRx w.proxy.device.chain w.rings.device.held
   pub known : w.rings.lists.cid < 2 ^ 64
+  pub broken : w.driver.broken ≡ 0
+  pub sent : (f : Flow) → sent_on f w.journal ≡ put_on f (log_with_staged w.rings.driver)
+  pub overrun : w.proxy.device.overrun ≡ 0
 
 pub record Goes (w v : World) : Type 0 where
   pub well : IsWell v
@@ -68,11 +75,12 @@ pub goes_still : (w : World) → IsWell w → Goes w w
 goes_still w well = record { well = well; runs = stays _ _ refl }
 
 -- The driver plays a conversation.
-driver_goes : {A : Type 0} (tree : DriverTree A) (state_of : A → DriverState) (journal : Journal) (w : World) → IsWell w
+driver_goes : {A : Type 0} (tree : DriverTree A) (state_of : A → DriverState) (extra : Flow → List ℕ) (journal : Journal) (w : World) → IsWell w
+    → ((f : Flow) → sent_on f journal ≡ sent_on f w.journal ++ extra f)
     → (let r = played driver_answer tree (w.rings.lists, w.rings.driver) in
-    driver_side.Kept (both_of w).device w.driver (log_with_staged w.rings.driver) (state_of r.0) (log_with_staged r.1.1) × TxHolds r.1.0 r.1.1)
+    driver_side.KeptWith (both_of w).device extra w.driver (log_with_staged w.rings.driver) (state_of r.0) (log_with_staged r.1.1) × TxHolds r.1.0 r.1.1)
     → Goes w (record (driver_plays tree w).1 { driver = state_of (driver_plays tree w).0; journal = journal })
-driver_goes tree state_of journal w well (kept, pages) = record {
+driver_goes tree state_of extra journal w well made (kept, pages) = record {
   well = record {
     queued = driver_plays_keeps tree w well.queued;
     sound = keeps_sound first_cid _ _ kept.runs well.sound;
@@ -83,6 +91,9 @@ driver_goes tree state_of journal w well (kept, pages) = record {
     pages = pages;
     chain = well.chain;
     known = subst (λ (n : ℕ). n < 2 ^ 64) (sym (driver_leaves_cid tree w.rings.lists w.rings.driver)) well.known;
+    broken = kept.broken ∙ well.broken;
+    sent = λ f. made f ∙ ap (λ (xs : List ℕ). xs ++ extra f) (well.sent f) ∙ sym (kept.sent f);
+    overrun = well.overrun;
   };
   runs = kept.runs;
 }
@@ -107,6 +118,9 @@ device_goes tree state_of w well (kept, chain, known) = record {
     pages = (device_leaves_given tree (around w) well.pages.0, well.pages.1);
     chain = chain;
     known = known;
+    broken = well.broken;
+    sent = well.sent;
+    overrun = kept.overrun ∙ well.overrun;
   };
   runs = kept.runs;
 }
@@ -136,7 +150,7 @@ module _ (w : World) (well : IsWell w) where
   driver_step_goes : (step : DriverState → DriverTree DriverState) → (let r = played driver_answer (step w.driver) (w.rings.lists, w.rings.driver) in
       driver_side.Kept (both_of w).device w.driver (log_with_staged w.rings.driver) r.0 (log_with_staged r.1.1) × TxHolds r.1.0 r.1.1)
       → Goes w (driver_step step w)
-  driver_step_goes step kept = driver_goes (step w.driver) (λ s. s) w.journal w well kept
+  driver_step_goes step kept = driver_goes (step w.driver) (λ s. s) none_on w.journal w well (λ f. nothing_more (sent_on f w.journal)) kept
 
   device_step_goes : (step : DeviceState → DeviceTree DeviceState)
       → device_events.KeptBy (both_of w).driver first_cid w.proxy.next_port w.proxy.device w.rings.device.entries well.sound well.device well.device_puts
@@ -187,6 +201,9 @@ module _ (w : World) (well : IsWell w) where
       pages = well.pages;
       chain = well.chain;
       known = well.known;
+      broken = well.broken;
+      sent = well.sent;
+      overrun = well.overrun;
     };
     runs = stays _ _ refl;
   }
@@ -203,6 +220,9 @@ module _ (w : World) (well : IsWell w) where
       pages = well.pages;
       chain = well.chain;
       known = well.known;
+      broken = well.broken;
+      sent = well.sent;
+      overrun = well.overrun;
     };
     runs = stays _ _ refl;
   }
@@ -215,12 +235,12 @@ module _ (w : World) (well : IsWell w) where
   pub happens_goes : (e : Event) → Goes w (happens e w)
   happens_goes (GuestCalls call) =
       possible (is_at_rest w.rings.driver.staged && is_right call) (λ v. (call_made call v).0) w well
-      (λ may. driver_goes (makes_call call w.driver) (λ r. r.0) _ w well
+      (λ may. driver_goes (makes_call call w.driver) (λ r. r.0) _ _ w well (λ f. refl)
       (driver_events.makes_call_keeps (both_of w).device first_cid w.driver w.rings.lists w.rings.driver well.sound well.driver well.driver_puts well.pages call
       (second_true _ _ may)))
   happens_goes (GuestTakes queue) = possible (works_on queue w.rings.driver.staged) (driver_step (takes_page queue)) w well (takes_goes queue)
   happens_goes (GuestStages queue) =
-      possible (works_on queue w.rings.driver.staged && has_page queue w) (driver_step (stages_page queue)) w well (λ may. driver_step_goes (stages_page queue)
+      possible (works_on queue w.rings.driver.staged) (driver_step (stages_page queue)) w well (λ may. driver_step_goes (stages_page queue)
       (driver_events.stages_page_keeps (both_of w).device first_cid w.driver w.rings.lists w.rings.driver well.sound well.driver well.driver_puts well.pages queue))
   happens_goes GuestReplies =
       possible (works_on q.Tx w.rings.driver.staged) (driver_step stages_reply) w well (λ may. driver_step_goes stages_reply

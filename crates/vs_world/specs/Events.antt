@@ -8,9 +8,8 @@ use Rattle.vs_ring_port.specs.EndLog.{Pages}
 use Rattle.vs_ring_port.specs.declared.device_ring.Chain.{Chain}
 use Rattle.vs_ring_port.specs.declared.queue.Queue.{Queue}
 use Rattle.vs_ring_port.specs.declared.queue.Queue.TheVariants as q
-use Rattle.vs_ring_list.specs.Ends.{in_flight}
-use Rattle.vs_driver_parts.specs.Conversations.{DriverTree, publish_of}
-use Rattle.vs_driver_parts.specs.State.{DriverState}
+use Rattle.vs_driver.specs.Conversations.{DriverTree, publish_of}
+use Rattle.vs_driver.specs.State.{DriverState}
 use Rattle.vs_device.specs.Calls.{DeviceTree}
 use Rattle.vs_device.specs.State.{DeviceState}
 use Rattle.vs_device.specs.Streams.{tick_slot}
@@ -77,10 +76,6 @@ works_on q.Event staged = none_staged staged.rx && none_staged staged.tx
 abbrev pub is_at_rest : Pages → Bool
 is_at_rest staged = none_staged staged.rx && none_staged staged.tx && none_staged staged.event
 
--- The driver has a page of a queue at home.
-abbrev pub has_page : Queue → World → Bool
-has_page queue w = nat_lt (in_flight queue w.rings) w.rings.lists.size
-
 -- The device holds a chain of a queue.
 abbrev pub holds : Queue → Chain → World → Bool
 holds queue chain w = same_queue queue chain.queue && is_held chain w.rings.device.held
@@ -131,7 +126,7 @@ unless_failed step w = if has_failed w then w else step w
 abbrev pub happens : Event → World → World
 happens (GuestCalls call) w = where_possible (is_at_rest w.rings.driver.staged && is_right call) (λ v. (call_made call v).0) w
 happens (GuestTakes queue) w = where_possible (works_on queue w.rings.driver.staged) (driver_step (takes_page queue)) w
-happens (GuestStages queue) w = where_possible (works_on queue w.rings.driver.staged && has_page queue w) (driver_step (stages_page queue)) w
+happens (GuestStages queue) w = where_possible (works_on queue w.rings.driver.staged) (driver_step (stages_page queue)) w
 happens GuestReplies w = where_possible (works_on q.Tx w.rings.driver.staged) (driver_step stages_reply) w
 happens (GuestPays slot) w = where_possible (works_on q.Tx w.rings.driver.staged) (driver_step (stages_owed slot)) w
 happens (GuestPublishes queue) w = where_possible (works_on queue w.rings.driver.staged) (driver_step (publish_of queue)) w

@@ -9,3 +9,5 @@ pub mod Laws
 pub mod Sides
 pub mod Pages
 pub mod Worked
+pub mod Pipes
+pub mod Steps

@@ -1,6 +1,7 @@
 //! Laws of the world, over every list of events.
 
-ghost use Rattle.std.specs.Prelude.{◌≡◌, ℕ, ◌||◌, false, List, [], ◌∷◌};
+ghost use Rattle.std.specs.Prelude.{◌≡◌, ℕ, ◌≤◌, ◌||◌, false, true, List, [], ◌∷◌, length, All};
+ghost use Rattle.vs_history.specs.declared.TheConstants.{BUF_ALLOC};
 ghost use Rattle.vs_conn.specs.End.{ConnectionEnd, is_refused, verdict_of};
 ghost use Rattle.vs_driver_parts.specs.declared.limits.TheConstants.{FIRST_PORT};
 ghost use Rattle.vs_flow.specs.declared.flow.Flow.{Flow};
@@ -15,10 +16,13 @@ ghost use Rattle.vs_page.specs.Fair.{IsFairLog, IsPrefixOf, payload_got, payload
 ghost use Rattle.vs_page.specs.Log.{Device, Driver, HasGotAll, IsNextPacket, Log, flow_got};
 ghost use Rattle.vs_page.specs.Open.{is_dropped, is_open};
 ghost use Rattle.vs_page.specs.declared.log.LogEntry.TheVariants.{Mark};
-ghost use Rattle.vs_world.specs.Events.{Event, happens, run};
+ghost use Rattle.vs_world.specs.Calls.{GuestCall, is_right, sent_on};
+ghost use Rattle.vs_world.specs.Events.{Event, happens, is_at_rest, run};
 ghost use Rattle.vs_world.specs.Laws.{IsQueued};
+ghost use Rattle.vs_world.specs.Plays.{guest_line};
+ghost use Rattle.vs_world.specs.Steps.{Leads};
 ghost use Rattle.vs_world.specs.Sides.{Runs, both_of};
-ghost use Rattle.vs_world.specs.World.{first_cid, opening};
+ghost use Rattle.vs_world.specs.World.{World, first_cid, opening};
 
 /// After any list of events what each end got is what the other put first, packets on tx and on rx and ids of events; and what was put and
 /// not got is just what the pages between them hold. So the payload that an end got on a connection is a prefix of the payload that the
@@ -81,4 +85,31 @@ pub fn law_of_next_packets()
         → is_dropped Device b.device.part.cid p.header ≡ false → is_refused (verdict_of e p.header) ≡ false }
     ensures room { (n : ℕ) (host : HostContents) (es : List Event) (p : Packet) (e : ConnectionEnd) → let b = both_of (run es (opening n host)) in
         IsNextPacket b.device.log b.driver.log p → HasEnd (flow_got Device p) e b.device.part → is_overrun (verdict_of e p.header) ≡ false }
+{}
+
+/// After any list of events no packet of a known flow was refused by the driver, and none held more payload than the device had room for.
+/// What is unread of a connection, at the guest or on its way to the host's stream, is within its buffer space (Virtio 1.2, section
+/// 5.10.6.3).
+pub fn law_of_credit()
+    ensures broken { (n : ℕ) (host : HostContents) (es : List Event) → (run es (opening n host)).driver.broken ≡ 0 }
+    ensures overrun { (n : ℕ) (host : HostContents) (es : List Event) → (run es (opening n host)).proxy.device.overrun ≡ 0 }
+    ensures unread { (n : ℕ) (host : HostContents) (es : List Event) →
+        All (λ e. length e.value.unread ≤ BUF_ALLOC) (run es (opening n host)).driver.table.entries }
+    ensures pending { (n : ℕ) (host : HostContents) (es : List Event) →
+        All (λ e. length e.value.pending ≤ BUF_ALLOC) (run es (opening n host)).proxy.device.table.entries }
+{}
+
+/// After any list of events the payload that the driver put on a connection is just what its sends took, in order. So the payload that
+/// the device got there is a prefix of that.
+pub fn law_of_sending()
+    ensures put { (n : ℕ) (host : HostContents) (es : List Event) (f : Flow) → let w = run es (opening n host) in
+        payload_put Driver f 1 (both_of w).driver.log ≡ sent_on f w.journal }
+    ensures got { (n : ℕ) (host : HostContents) (es : List Event) (f : Flow) → let w = run es (opening n host) in
+        IsPrefixOf (payload_got Device f 1 w.rings.device.entries) (sent_on f w.journal) }
+{}
+
+/// Each call of the guest's, whole, is a list of events, with that reply in the journal: a connect and a send take back the pages that the
+/// device returned, one by one, before they need one.
+pub fn law_of_guest_calls()
+    ensures { (call : GuestCall) (w : World) → is_at_rest w.rings.driver.staged ≡ true → is_right call ≡ true → Leads w (guest_line call w).0 }
 {}
