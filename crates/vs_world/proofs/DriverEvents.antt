@@ -43,9 +43,9 @@ use Rattle.vs_world.proofs.Payloads.{either_none, front_of}
 use Rattle.vs_world.specs.Pipes.{none_on, put_on}
 use Rattle.vs_world.specs.Calls.{bytes_sent, is_on, took}
 use Rattle.vs_world.specs.GuestSteps.{flow_named}
-use Rattle.vs_driver.specs.Connections.{flow_of}
-use Rattle.vs_driver.specs.State.{gone_known_as}
-use Rattle.vs_driver.proofs.Known.{flow_known}
+use Rattle.vs_driver_parts.specs.Connections.{flow_of}
+use Rattle.vs_driver_parts.specs.State.{gone_known_as}
+use Rattle.vs_driver_parts.proofs.Known.{flow_known}
 use Rattle.vs_flow.specs.Flow.{same_flow}
 use Rattle.vs_flow.specs.declared.flow.Flow.{Flow}
 use Rattle.vs_conn.specs.declared.end.Stop.TheVariants as stopped

@@ -12,9 +12,9 @@ use Rattle.vs_page.specs.declared.log.LogEntry.TheVariants.{Mark}
 use Rattle.vs_replies.specs.declared.Reply.{Reply}
 use Rattle.vs_matching.specs.Both.{Both, IsSound, Seat, TakesReset}
 use Rattle.vs_matching.specs.Ends.{Ends, entries_of, flows_of}
-use Rattle.vs_driver.specs.State.{DriverConnection, DriverEntry, DriverState, GoneConnection}
-use Rattle.vs_driver.specs.Connections.{after_close, after_leaving, after_unlisten, all_closed, gone_as, is_let_go, waiting_on, waits_no_more}
-use Rattle.vs_driver.specs.Receiving.{after_reset, all_left, reset_reply, with_reply}
+use Rattle.vs_driver_parts.specs.State.{DriverConnection, DriverEntry, DriverState, GoneConnection}
+use Rattle.vs_driver_parts.specs.Connections.{after_close, after_leaving, after_unlisten, all_closed, gone_as, is_let_go, waiting_on, waits_no_more}
+use Rattle.vs_driver_parts.specs.Receiving.{after_reset, all_left, reset_reply, with_reply}
 use Rattle.vs_world.specs.Pipes.{put_on}
 use Rattle.vs_world.proofs.Payloads.{nothing_more}
 use Rattle.vs_world.specs.Sides.{flow_to_host}

@@ -35,7 +35,7 @@ use Rattle.vs_header.specs.declared.Op.TheVariants as op
 use Rattle.vs_history.specs.Packets.{is_rw}
 use Rattle.std.proofs.Common.{length-append}
 use Rattle.std.proofs.lemmas.List.{map-append}
-use Rattle.vs_driver.proofs.Packets.{packet_known, packet_unknown}
+use Rattle.vs_driver_parts.proofs.Packets.{packet_known, packet_unknown}
 use Rattle.vs_world.specs.Pipes.{put_on}
 use Rattle.vs_world.proofs.Payloads.{nothing_more, sent_empty, sent_got}
 use Rattle.vs_world.specs.Sides.{driver_ends, flow_to_host}

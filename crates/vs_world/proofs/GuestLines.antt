@@ -5,18 +5,18 @@ use Rattle.vs_ring_port.specs.DriverCalls.{driver_answer, Reap, Stage, Publish}
 use Rattle.vs_ring_port.specs.EndLog.{EndLog, Pages}
 use Rattle.vs_ring_port.specs.Lists.{Rings, oldest}
 use Rattle.vs_ring_port.specs.declared.queue.Queue.TheVariants as q
-use Rattle.vs_driver.specs.Conversations.{DriverTree, reap_all, reap_one, reaped}
-use Rattle.vs_driver.specs.State.{DriverState}
+use Rattle.vs_driver_parts.specs.Conversations.{DriverTree, reap_all, reap_one, reaped}
+use Rattle.vs_driver_parts.specs.State.{DriverState}
 use Rattle.std.proofs.Common.{Result, Ok, Err}
 use Rattle.vs_conn.specs.End.{may_send_of, wanting_credit}
 use Rattle.vs_conn.specs.declared.end.Stop.{Stop}
 use Rattle.vs_flow.specs.declared.flow.Flow.{Flow}
-use Rattle.vs_driver.specs.Connections.{connect_refusal, flow_of, next_flow, with_end}
-use Rattle.vs_driver.specs.Conversations.{connect_with_page, no_credit, not_sent, payload_of, send_on, send_stopped, send_with_credit, send_with_page}
-use Rattle.vs_driver.specs.State.{DriverEntry, entry_known_as}
-use Rattle.vs_driver.specs.declared.answers.ConnectError.{ConnectError}
-use Rattle.vs_driver.specs.declared.answers.Sent.{Sent}
-use Rattle.vs_driver.specs.declared.answers.Sent.TheVariants as sent
+use Rattle.vs_driver_parts.specs.Connections.{connect_refusal, flow_of, next_flow, with_end}
+use Rattle.vs_driver_parts.specs.Conversations.{connect_with_page, no_credit, not_sent, payload_of, send_on, send_stopped, send_with_credit, send_with_page}
+use Rattle.vs_driver_parts.specs.State.{DriverEntry, entry_known_as}
+use Rattle.vs_driver_parts.specs.declared.answers.ConnectError.{ConnectError}
+use Rattle.vs_driver_parts.specs.declared.answers.Sent.{Sent}
+use Rattle.vs_driver_parts.specs.declared.answers.Sent.TheVariants as sent
 use Rattle.vs_world.specs.Calls.{GuestCall, ReplyTo, Connect, Listen, Unlisten, Accept, Send, Recv, Shutdown, Close, LookAt, is_right}
 use Rattle.vs_world.specs.GuestSteps.{connects, flow_named, makes_call, sends, sends_on, sends_with_credit}
 use Rattle.vs_world.specs.Plays.{guest_line}

@@ -13,9 +13,9 @@ use Rattle.vs_ring_list.specs.Ends.{empty_ends}
 use Rattle.vs_matching.specs.Both.{Both}
 use Rattle.vs_matching.specs.Both as both
 use Rattle.vs_matching.proofs.Both.{start_sound}
-use Rattle.vs_driver.specs.Conversations.{DriverTree, load_cid, new_of, new_state, post_events, post_one, posts, publish_of}
-use Rattle.vs_driver.specs.State.{DriverState}
-use Rattle.vs_driver.specs.declared.limits.TheConstants.{FIRST_PORT}
+use Rattle.vs_driver_parts.specs.Conversations.{DriverTree, load_cid, new_of, new_state, post_events, post_one, posts, publish_of}
+use Rattle.vs_driver_parts.specs.State.{DriverState}
+use Rattle.vs_driver_parts.specs.declared.limits.TheConstants.{FIRST_PORT}
 use Rattle.vs_world.specs.Pipes.{put_on}
 use Rattle.vs_world.specs.Pages.{AllHold}
 use Rattle.vs_world.specs.Events as events

@@ -11,12 +11,12 @@ use Rattle.vs_ring_port.specs.Lists.{Rings, after_reap, oldest}
 use Rattle.vs_ring_port.specs.declared.queue.Queue.{Queue}
 use Rattle.vs_ring_port.specs.declared.queue.Queue.TheVariants as q
 use Rattle.vs_header.specs.Packet.{header_bytes}
-use Rattle.vs_driver.specs.Conversations.{after_paying, has_page, one_more_in_flight, one_put, owed_bytes, put_owed_of, put_reply_of, reply_header, stage_packet}
+use Rattle.vs_driver_parts.specs.Conversations.{after_paying, has_page, one_more_in_flight, one_put, owed_bytes, put_owed_of, put_reply_of, reply_header, stage_packet}
 use Rattle.vs_ring_port.specs.EndLog.{with_pages}
-use Rattle.vs_driver.specs.Conversations.{DriverTree, Round, after_stage, event_reaped, event_taken, goes_on_with, packet_reaped, publish_of, published, put_owed, put_reply, stage_of, staged_again, start, take_event, take_packet, with_state}
-use Rattle.vs_driver.specs.Receiving.{is_reset_event, on_page}
-use Rattle.vs_driver.specs.State.{DriverEntry, DriverState}
-use Rattle.vs_driver.specs.declared.limits.TheConstants.{REPLIES_FULL}
+use Rattle.vs_driver_parts.specs.Conversations.{DriverTree, Round, after_stage, event_reaped, event_taken, goes_on_with, packet_reaped, publish_of, published, put_owed, put_reply, stage_of, staged_again, start, take_event, take_packet, with_state}
+use Rattle.vs_driver_parts.specs.Receiving.{is_reset_event, on_page}
+use Rattle.vs_driver_parts.specs.State.{DriverEntry, DriverState}
+use Rattle.vs_driver_parts.specs.declared.limits.TheConstants.{REPLIES_FULL}
 use Rattle.vs_world.specs.Events.{Event, GuestPays, GuestPublishes, GuestReplies, GuestStages, GuestTakes, driver_step, happens, none_staged, run, works_on}
 use Rattle.vs_world.specs.GuestSteps.{event_came, packet_came, stages_owed, stages_page, stages_reply, takes_page}
 use Rattle.vs_world.specs.Steps.{Leads}

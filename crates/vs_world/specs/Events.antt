@@ -8,8 +8,8 @@ use Rattle.vs_ring_port.specs.EndLog.{Pages}
 use Rattle.vs_ring_port.specs.declared.device_ring.Chain.{Chain}
 use Rattle.vs_ring_port.specs.declared.queue.Queue.{Queue}
 use Rattle.vs_ring_port.specs.declared.queue.Queue.TheVariants as q
-use Rattle.vs_driver.specs.Conversations.{DriverTree, publish_of}
-use Rattle.vs_driver.specs.State.{DriverState}
+use Rattle.vs_driver_parts.specs.Conversations.{DriverTree, publish_of}
+use Rattle.vs_driver_parts.specs.State.{DriverState}
 use Rattle.vs_device.specs.Calls.{DeviceTree}
 use Rattle.vs_device.specs.State.{DeviceState}
 use Rattle.vs_device.specs.Streams.{tick_slot}
