@@ -1,2 +1,1 @@
 mod Waiting
-mod Handshaking

@@ -2,4 +2,3 @@ pub mod State
 pub mod Handshakes
 pub mod Turns
 pub mod HandshakeFields
-pub mod Turning

@@ -4,11 +4,6 @@
 pub mod answers;
 mod handshake;
 mod handshakes;
-mod host_calls;
-mod proxy;
-mod shaking;
-mod tally;
 pub mod limits;
 
 pub use answers::{Turn, Turned};
-pub use proxy::Proxy;
