@@ -173,7 +173,7 @@ module _ (driver : Seat) (first port : ℕ) (s : DeviceState) (log : Log) (sound
         refuses : (w : Why) → verdict_of e.value.end h ≡ verdict.Rst w → KeptBy (with_verdict (verdict.Rst w) (on_known (verdict.Rst w) chain h e s)) a
         refuses (why.Overrun o) is =
             let room = device_has_room first p e.value.end (seated driver port s log) sound next
-                (ap (λ (g : Flow). ends_of g (entries_of end_in s.table)) flow ∙ one_end end_in s.table e holds.sound there) in
+            (ap (λ (g : Flow). ends_of g (entries_of end_in s.table)) flow ∙ one_end end_in s.table e holds.sound there) in
             let no : true ≡ false = sym (ap is_overrun is) ∙ room in
             absurd cc
         refuses why.BadKind is = over _ refl (hears (verdict.Rst why.BadKind) is refl)

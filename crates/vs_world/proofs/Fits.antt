@@ -142,7 +142,7 @@ fits_op verdict.Discard e h u is fits = rw (plus_zero u) (record {
   fwd = omega arith;
   rx = omega arith;
   unread = discards e.credit.rx_cnt e.credit.fwd_cnt h.len u fits.rx fits.fwd fits.unread;
-      within = discards_within e.credit.rx_cnt e.credit.fwd_cnt h.len e.credit.alloc fits.rx fits.fwd fits.within;
+  within = discards_within e.credit.rx_cnt e.credit.fwd_cnt h.len e.credit.alloc fits.rx fits.fwd fits.within;
 })
 fits_op verdict.Peer e h u is fits = rw (plus_zero u) (fits_message (op_named h.op) e h u fits)
 fits_op (verdict.Rst why) e h u is fits = rw (plus_zero u) fits

@@ -68,8 +68,12 @@ rest_works staged rest = by (none_staged staged.rx) (none_staged staged.tx) (non
 reap_leads : (w : World) → is_at_rest w.rings.driver.staged ≡ true
     → (let r = played driver_answer (reap_one w.driver) (w.rings.lists, w.rings.driver) in
     Leads w (with_driver r.0.0 r.1 w) × (r.1.1.staged ≡ w.rings.driver.staged) × (r.0.0 ≡ record w.driver { in_flight = r.0.0.in_flight }))
-reap_leads w rest = (leads_one (GuestTakes q.Tx) w _ (possible_is (works_on q.Tx w.rings.driver.staged) (driver_step (takes_page q.Tx)) w
-    (rest_works w.rings.driver.staged rest) ∙ same (w.driver.in_flight == 0)), staged (w.driver.in_flight == 0), only (w.driver.in_flight == 0))
+reap_leads w rest = (
+  leads_one (GuestTakes q.Tx) w _ (possible_is (works_on q.Tx w.rings.driver.staged) (driver_step (takes_page q.Tx)) w
+      (rest_works w.rings.driver.staged rest) ∙ same (w.driver.in_flight == 0)),
+  staged (w.driver.in_flight == 0),
+  only (w.driver.in_flight == 0),
+)
   where
     same : (b : Bool) → (let r = played driver_answer (bind (cond b (Done (w.driver, false)) (Ask (Reap q.Tx) (λ page. Done (reaped w.driver page)))) (λ r. Done r.0))
         (w.rings.lists, w.rings.driver) in with_driver r.0 r.1 w)

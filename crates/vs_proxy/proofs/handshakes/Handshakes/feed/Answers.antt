@@ -63,10 +63,10 @@ returns-in_default-feed c =
     let old : Handshake = c.index_mut-handshake.result.now in
     record {
       step = λ h found.
-        let there : find (λ (x : Handshake). x.stream == c.args.stream) hs ≡ Some h = rw (← c.self.view_is) at found in
-        let line = fed_line c.args.stream c.args.byte hs c.in-Some.place old c.feed.new.self at c.index_mut-handshake.ensures.value c.self.invariant.lines c.feed.ensures.fed h there in
-        c.feed.ensures.step ∙ ap (λ (x : Handshake). connect_step x.line) line;
+          let there : find (λ (x : Handshake). x.stream == c.args.stream) hs ≡ Some h = rw (← c.self.view_is) at found in
+          let line = fed_line c.args.stream c.args.byte hs c.in-Some.place old c.feed.new.self at c.index_mut-handshake.ensures.value c.self.invariant.lines c.feed.ensures.fed h there in
+          c.feed.ensures.step ∙ ap (λ (x : Handshake). connect_step x.line) line;
       more = λ h found more. absurd (c.in_default-feed.not-More more);
       over = λ h found other.
-        rw (← c.self.view_is) (c.remove.ensures.items ∙ fed_over c.args.stream c.args.byte hs c.in-Some.place old c.feed.new.self at c.index_mut-handshake.ensures.value c.self.invariant.lines c.feed.ensures.fed);
+          rw (← c.self.view_is) (c.remove.ensures.items ∙ fed_over c.args.stream c.args.byte hs c.in-Some.place old c.feed.new.self at c.index_mut-handshake.ensures.value c.self.invariant.lines c.feed.ensures.fed);
     }
