@@ -1,5 +1,6 @@
 -- The OK line comes byte by byte.
-use Rattle.std.proofs.Common.{◌≡◌, ◌≤◌, ◌<◌, ℕ, zero, suc, Bool, true, false, cond, List, [], ◌∷◌, ◌++◌, length, get_or, take, Option, refl, ap, sym, ◌∙◌, arith}
+use Rattle.std.proofs.Common.{◌≡◌, ◌≤◌, ◌<◌, ℕ, zero, suc, Bool, true, false, cond, List, [], ◌∷◌, ◌++◌, length, get_or, take, Option}
+use Rattle.std.proofs.Common.{refl, ap, sym, ◌∙◌, arith}
 use Rattle.std.specs.Option.{ForSome}
 use Rattle.vs_contents.specs.Contents.{Exposes, Relates}
 use Rattle.vs_outside.specs.Host.{HostContents, IsOpen, IsRead, after_read}
@@ -21,7 +22,8 @@ added true line byte h = cc
 added false line byte h = refl
 
 module _ (id : ℕ) (host mid after : Option HostContents) (out line line' : List ℕ) (n : ℕ) (one : length out ≡ 1)
-    (some : (n ≤ length out) × (0 < length out → 1 ≤ n)) (exact : Exposes mid after (IsRead id (read.Got n) out) (after_read id (read.Got n))) where
+    (some : (n ≤ length out) × (0 < length out →
+    1 ≤ n)) (exact : Exposes mid after (IsRead id (read.Got n) out) (after_read id (read.Got n))) where
   byte_read : Relates mid after (Moves id [] (take n out) false)
   byte_read = exposed_relates _ _ (Moves id [] (take n out) false) mid after exact (λ h is p. reads id (read.Got n) out h p.1)
 

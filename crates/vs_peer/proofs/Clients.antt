@@ -1,5 +1,6 @@
 -- A client's stream, from its dial on.
-use Rattle.std.proofs.Common.{◌≡◌, ◌≢◌, ℕ, zero, suc, ◌+◌, ◌-◌, Bool, true, false, cond, eqb, ◌||◌, List, [], ◌∷◌, ◌++◌, length, Option, Some, None, refl, sym, ap, subst, ◌∙◌, arith}
+use Rattle.std.proofs.Common.{◌≡◌, ◌≢◌, ℕ, zero, suc, ◌+◌, ◌-◌, Bool, true, false, cond, eqb, ◌||◌, List, [], ◌∷◌, ◌++◌, length, Option}
+use Rattle.std.proofs.Common.{Some, None, refl, sym, ap, subst, ◌∙◌, arith}
 use Rattle.std.specs.Prelude.{slice_get, IsSomeAnd}
 use Rattle.std.specs.Option.{ForSome}
 use Rattle.std.proofs.lemmas.Bool.Decides.{nat_tests}
@@ -35,7 +36,8 @@ relates_now R T Q (Some a) None f h q = absurd h
 relates_now R T Q (Some a) (Some b) f h q = f a b h (q b refl)
 
 -- What passes at the client's stream.
-pub client_then : (port id : ℕ) (g g' k k' : List ℕ) (w w' : Bool) (a b c : HostContents) → HasClient port id g k w a b → Moves id g' k' w' b c →
+pub client_then : (port id : ℕ) (g g' k k' : List ℕ) (w w' : Bool) (a b c : HostContents) → HasClient port id g k w a b →
+    Moves id g' k' w' b c →
     HasClient port id (g ++ g') (k ++ k') (w' || w) a c
 client_then port id g g' k k' w w' a b c h m =
     let there : stream_at id b ≡ Some h.stream = ap (λ n. stream_at n b) h.newest ∙ h.client.there in
@@ -53,7 +55,8 @@ client_then port id g g' k k' w w' a b c h m =
       shut = t.2.shut ∙ ap (λ x. w' || x) h.shut;
     }
 
-pub client_as : (port id : ℕ) (g g' k k' : List ℕ) (w : Bool) (a b : HostContents) → HasClient port id g k w a b → g ≡ g' → k ≡ k' → HasClient port id g' k' w a b
+pub client_as : (port id : ℕ) (g g' k k' : List ℕ) (w : Bool) (a b : HostContents) → HasClient port id g k w a b → g ≡ g' → k ≡ k' →
+    HasClient port id g' k' w a b
 client_as port id g g' k k' w a b h p q =
     let P : List ℕ → Type 0 = λ x. HasClient port id x k w a b in
     let Q : List ℕ → Type 0 = λ x. HasClient port id g' x w a b in
@@ -87,7 +90,8 @@ dial_others : (flow : Flow) (c : HostContents) (other : ℕ) (b : Bool) → eqb 
     cond b None (slice_get (c.streams ++ dialed_stream flow c.prepared ∷ []) (other - 1)) ≡ cond b None (slice_get c.streams (other - 1))
 dial_others flow c other true p apart = refl
 dial_others flow c other false p apart =
-    let away : other - 1 ≢ length c.streams = λ e. apart (grind (arith, nat_tests, p, e)) in append_other c.streams (dialed_stream flow c.prepared) (other - 1) away
+    let away : other - 1 ≢ length c.streams = λ e. apart (grind (arith, nat_tests, p, e)) in append_other c.streams
+    (dialed_stream flow c.prepared) (other - 1) away
 
 pub dialed_client : (port id : ℕ) (path : List ℕ) (c : HostContents) → IsDialed path (dialed.Stream id) c →
     HasClient port id [] [] false c (after_dial (client_flow port) (dialed.Stream id) c)
@@ -112,9 +116,11 @@ pub dialed_open : (port id : ℕ) (path : List ℕ) (c : HostContents) → IsDia
     IsOpen id (after_dial (client_flow port) (dialed.Stream id) c)
 dialed_open port id path c h =
     let is : id ≡ length c.streams + 1 = stream_id (fails_now c) (is_listened path c) (length c.streams + 1) id h in
-    open_of id (after_dial (client_flow port) (dialed.Stream id) c) (dialed_stream (client_flow port) c.prepared) (open-dialed (client_flow port) id c is).1 refl
+    open_of id (after_dial (client_flow port) (dialed.Stream id) c) (dialed_stream (client_flow port) c.prepared) (open-dialed
+    (client_flow port) id c is).1 refl
 
-pub dial_unheard : (flow : Flow) (path : List ℕ) (c : HostContents) → IsDialed path dialed.Refused c → IsUnheard path c (after_dial flow dialed.Refused c)
+pub dial_unheard : (flow : Flow) (path : List ℕ) (c : HostContents) → IsDialed path dialed.Refused c →
+    IsUnheard path c (after_dial flow dialed.Refused c)
 dial_unheard flow path c h = (unheard (fails_now c) (is_listened path c) (length c.streams + 1) h, λ other. refl)
 
 pub dial_failed : (flow : Flow) (c : HostContents) → SameStreams c (after_dial flow dialed.Failed c)

@@ -1,12 +1,14 @@
 -- What a client carries that was answered, and how its conversation ends.
-use Rattle.std.proofs.Common.{◌≡◌, ◌≢◌, ◌≤◌, ◌<◌, ◌⊎◌, inl, inr, ℕ, true, false, Bool, ◌||◌, List, [], ◌++◌, length, take, Option, Some, Result, Ok, Err, refl, sym, ap, subst, ◌∙◌, arith}
+use Rattle.std.proofs.Common.{◌≡◌, ◌≢◌, ◌≤◌, ◌<◌, ◌⊎◌, inl, inr, ℕ, true, false, Bool, ◌||◌, List, [], ◌++◌, length, take, Option, Some}
+use Rattle.std.proofs.Common.{Result, Ok, Err, refl, sym, ap, subst, ◌∙◌, arith}
 use Rattle.std.specs.Prelude.{IsSomeAnd}
 use Rattle.std.proofs.lemmas.List.{append-nil}
 use Rattle.vs_contents.specs.Contents.{Relates}
 use Rattle.vs_outside.specs.Host.{Stream, HostContents, stream_at}
 use Rattle.vs_uds.specs.ConnectLine.{connect_text}
 use Rattle.vs_peer.specs.Client.{Any, IsAnswered, IsUnanswered, Opens}
-use Rattle.vs_peer.specs.Conversing.{Carries, Converses, Failed, HasSent, IsDone, IsFailed, IsStuckNow, IsWaiting, Stuck, Unanswered, Unopened}
+use Rattle.vs_peer.specs.Conversing.{Carries, Converses, Failed, HasSent, IsDone, IsFailed, IsStuckNow, IsWaiting, Stuck, Unanswered}
+use Rattle.vs_peer.specs.Conversing.{Unopened}
 use Rattle.vs_peer.specs.Exchanging.{Exchanges, IsStuck}
 use Rattle.vs_peer.specs.Passing.{IsClosed, Moves, ReadsAgain, ReadsEnd, WritesAgain}
 use Rattle.vs_peer.specs.Pieces.{Emits}
@@ -41,7 +43,8 @@ or_false : (b : Bool) → (b || false) ≡ b
 or_false true = refl
 or_false false = refl
 
-carried_at : (port id host_port : ℕ) (source taken : List ℕ) (s : Sending) (a b c : HostContents) → s.sent ≤ length source → IsAnswered port id host_port a b →
+carried_at : (port id host_port : ℕ) (source taken : List ℕ) (s : Sending) (a b c : HostContents) → s.sent ≤ length source →
+    IsAnswered port id host_port a b →
     Moves id (take s.sent source) taken (is_shut s.side) b c → CarriesAt port id source (port_text host_port ++ taken) s a c
 carried_at port id host_port source taken s a b c within h m =
     let client = client_then port id (connect_text port) (take s.sent source) h.line taken false (is_shut s.side) a b c h.client m in
@@ -63,8 +66,10 @@ carried_at port id host_port source taken s a b c within h m =
     }
 
 -- A sink that failed at the first line.
-pub port_fails : (base : List ℕ) (port id host_port : ℕ) (source : List ℕ) (host host' : Option HostContents) (out out' : Option (List ℕ)) (e : Stop) →
-    Relates host host' (IsAnswered port id host_port) → GivesPort out out' host_port (Err e) → Converses base port source host host' out out' (Err e)
+pub port_fails : (base : List ℕ) (port id host_port : ℕ) (source : List ℕ) (host host' : Option HostContents) (out out' : Option
+    (List ℕ)) (e : Stop) →
+    Relates host host' (IsAnswered port id host_port) → GivesPort out out' host_port (Err e) →
+    Converses base port source host host' out out' (Err e)
 port_fails base port id host_port source host host' out out' stop.Sink h given = (
   port_text host_port,
   given,
@@ -91,7 +96,8 @@ port_fails base port id host_port source host host' out out' stop.Waited h given
 port_fails base port id host_port source host host' out out' stop.Host h given = absurd given
 
 -- What holds of the stream now.
-at_now : (P : Stream → Type 0) (port id : ℕ) (source written : List ℕ) (s : Sending) (a c : HostContents) (h : CarriesAt port id source written s a c) →
+at_now : (P : Stream → Type 0) (port id : ℕ) (source written : List ℕ) (s : Sending) (a c : HostContents)
+    (h : CarriesAt port id source written s a c) →
     IsSomeAnd (stream_at id c) P → P h.carries.stream
 at_now P port id source written s a c h now = subst (λ o. IsSomeAnd o P) h.at now
 
@@ -100,13 +106,16 @@ module _ (base : List ℕ) (port id host_port : ℕ) (source : List ℕ) (host m
   written : List ℕ → List ℕ
   written taken = port_text host_port ++ taken
 
-  carried : (s : Sending) (taken : List ℕ) → s.sent ≤ length source → Relates mid after (Moves id (take s.sent source) taken (is_shut s.side)) →
+  carried : (s : Sending) (taken : List ℕ) → s.sent ≤ length source →
+      Relates mid after (Moves id (take s.sent source) taken (is_shut s.side)) →
       Relates host after (CarriesAt port id source (port_text host_port ++ taken) s)
   carried s taken within m =
-      relates_both (IsAnswered port id host_port) (Moves id (take s.sent source) taken (is_shut s.side)) (CarriesAt port id source (port_text host_port ++ taken) s)
+      relates_both (IsAnswered port id host_port) (Moves id (take s.sent source) taken (is_shut s.side)) (CarriesAt port id source
+      (port_text host_port ++ taken) s)
       host mid after (λ x y z h n. carried_at port id host_port source taken s x y z within h n) opened m
 
-  has_sent : (s : Sending) (x : Side) (w : List ℕ) (a c : HostContents) → s.side ≡ x → x ≢ side.Open → IsSending id source s after → after ≡ Some c →
+  has_sent : (s : Sending) (x : Side) (w : List ℕ) (a c : HostContents) → s.side ≡ x → x ≢ side.Open → IsSending id source s after →
+      after ≡ Some c →
       (h : CarriesAt port id source w s a c) → HasSent h.carries.sent (length source) h.carries.stream
   has_sent s side.Open w a c is away i at h = absurd (away refl)
   has_sent s side.Shut w a c is away i at h = inl (h.sent ∙ i.whole is, h.shut ∙ ap is_shut is)
@@ -117,7 +126,8 @@ module _ (base : List ℕ) (port id host_port : ℕ) (source : List ℕ) (host m
   ends (s, e, away, now) = (
     port_text host_port ++ e.taken,
     emits_append out out' out'' (port_text host_port) e.taken told e.gets,
-    relates_now (CarriesAt port id source (port_text host_port ++ e.taken) s) (IsDone port source (port_text host_port ++ e.taken)) (λ c. after ≡ Some c) host after
+    relates_now (CarriesAt port id source (port_text host_port ++ e.taken) s) (IsDone port source (port_text host_port ++ e.taken))
+        (λ c. after ≡ Some c) host after
         (λ x y h at. record {
           carries = h.carries;
           has_sent = has_sent s s.side (port_text host_port ++ e.taken) x y refl away e.sending at h;
@@ -126,7 +136,8 @@ module _ (base : List ℕ) (port id host_port : ℕ) (source : List ℕ) (host m
   )
 
   stuck_again : (s : Sending) (w : List ℕ) (a c : HostContents) → IsStill id source s after → IsSending id source s after → after ≡ Some c →
-      (h : CarriesAt port id source w s a c) → HasSent h.carries.sent (length source) h.carries.stream ⊎ ((h.carries.sent < length source) × WritesAgain h.carries.stream)
+      (h : CarriesAt port id source w s a c) → HasSent h.carries.sent (length source) h.carries.stream ⊎
+      ((h.carries.sent < length source) × WritesAgain h.carries.stream)
   stuck_again s w a c (inl away) i at h = inl (has_sent s s.side w a c refl away i at h)
   stuck_again s w a c (inr (is, less, now)) i at h =
       inr (subst (λ (n : ℕ). n < length source) (sym h.sent) less, at_now WritesAgain port id source w s a c h (now c at))
@@ -139,7 +150,11 @@ module _ (base : List ℕ) (port id host_port : ℕ) (source : List ℕ) (host m
 
   stuck_now : (s : Sending) (w : List ℕ) (a c : HostContents) → IsStuck id source s after → IsSending id source s after → after ≡ Some c →
       (h : CarriesAt port id source w s a c) → IsStuckNow h.carries.sent (length source) h.carries.stream
-  stuck_now s w a c (quiet, inl again) i at h = inl (stuck_again s w a c quiet i at h, at_now ReadsAgain port id source w s a c h (again c at))
+  stuck_now s w a c (quiet, inl again) i at h = inl (
+    stuck_again s w a c quiet i at h,
+    at_now ReadsAgain port id source w s a c h
+        (again c at),
+  )
   stuck_now s w a c (quiet, inr (is, over)) i at h =
       let unsent = stuck_end s w a c quiet is at h in inr (unsent.0, unsent.1, at_now ReadsEnd port id source w s a c h (over c at))
 
@@ -147,24 +162,28 @@ module _ (base : List ℕ) (port id host_port : ℕ) (source : List ℕ) (host m
   waits (s, e, stuck) = (
     port_text host_port ++ e.taken,
     emits_append out out' out'' (port_text host_port) e.taken told e.gets,
-    relates_now (CarriesAt port id source (port_text host_port ++ e.taken) s) (IsWaiting port source (port_text host_port ++ e.taken)) (λ c. after ≡ Some c) host after
+    relates_now (CarriesAt port id source (port_text host_port ++ e.taken) s) (IsWaiting port source (port_text host_port ++ e.taken))
+        (λ c. after ≡ Some c) host after
         (λ x y h at. Stuck (record { carries = h.carries; stuck = stuck_now s (port_text host_port ++ e.taken) x y stuck e.sending at h }))
         (carried s e.taken e.sending.within e.passes) (λ c at. at),
   )
 
-  pub exchange_ends : (result : Result (Unit {0}) Stop) → Exchanges id source mid after out' out'' result → Converses base port source host after out out'' result
+  pub exchange_ends : (result : Result (Unit {0}) Stop) → Exchanges id source mid after out' out'' result →
+      Converses base port source host after out out'' result
   exchange_ends (Ok u) h = ends h
   exchange_ends (Err stop.Waited) h = waits h
   exchange_ends (Err stop.Host) (s, e) = (
     port_text host_port ++ e.taken,
     emits_append out out' out'' (port_text host_port) e.taken told e.gets,
-    relates_map (CarriesAt port id source (port_text host_port ++ e.taken) s) (IsFailed port source (port_text host_port ++ e.taken)) host after
+    relates_map (CarriesAt port id source (port_text host_port ++ e.taken) s) (IsFailed port source
+        (port_text host_port ++ e.taken)) host after
         (λ x y h. Failed h.carries) (carried s e.taken e.sending.within e.passes),
   )
   exchange_ends (Err stop.Sink) (s, e) = (
     port_text host_port ++ e.taken,
     emits_then_some out out' out'' (port_text host_port) e.taken told e.gets,
-    relates_map (CarriesAt port id source (port_text host_port ++ e.taken) s) (Carries port source (port_text host_port ++ e.taken)) host after
+    relates_map (CarriesAt port id source (port_text host_port ++ e.taken) s) (Carries port source
+        (port_text host_port ++ e.taken)) host after
         (λ x y h. h.carries) (carried s e.taken e.sending.within e.passes),
   )
   exchange_ends (Err stop.Refused) h = absurd h

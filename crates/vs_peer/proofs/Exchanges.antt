@@ -1,5 +1,6 @@
 -- Steps of an exchange, one after another.
-use Rattle.std.proofs.Common.{◌≡◌, inl, inr, ℕ, Bool, true, false, ◌||◌, List, [], ◌++◌, take, Option, Some, None, Result, Ok, Err, refl, sym, subst, ◌∙◌, append-nil, arith}
+use Rattle.std.proofs.Common.{◌≡◌, inl, inr, ℕ, Bool, true, false, ◌||◌, List, [], ◌++◌, take, Option, Some, None, Result, Ok, Err, refl}
+use Rattle.std.proofs.Common.{sym, subst, ◌∙◌, append-nil, arith}
 use Rattle.std.specs.Prelude.{IsSomeAnd}
 use Rattle.std.specs.Option.{ForSome}
 use Rattle.vs_contents.specs.Contents.{Relates}
@@ -39,10 +40,12 @@ now_same id P (Some a) (Some b) h was c is =
 
 module _ (id : ℕ) (bytes : List ℕ) (s t : Sending) (host mid after : Option HostContents) (out out' : Option (List ℕ))
     (sent : Relates host mid (Moves id (between s t bytes) [] (shuts s.side t.side))) where
-  sent_and : (taken : List ℕ) → Relates mid after (Moves id [] taken false) → Relates host after (Moves id (between s t bytes) taken (shuts s.side t.side))
+  sent_and : (taken : List ℕ) → Relates mid after (Moves id [] taken false) →
+      Relates host after (Moves id (between s t bytes) taken (shuts s.side t.side))
   sent_and taken m =
       relates_as id (between s t bytes ++ []) (between s t bytes) taken taken (shuts s.side t.side) (shuts s.side t.side) host after
-      (relates_then id (between s t bytes) [] [] taken (shuts s.side t.side) false host mid after sent m) (append-nil (between s t bytes)) refl refl
+      (relates_then id (between s t bytes) [] [] taken (shuts s.side t.side) false host mid after sent m) (append-nil
+      (between s t bytes)) refl refl
 
   no_bytes : Relates mid after SameStreams → out' ≡ out → Stepped id bytes s t host after out out'
   no_bytes same is = record {
@@ -62,7 +65,8 @@ module _ (id : ℕ) (bytes : List ℕ) (s t : Sending) (host mid after : Option 
   still_after (inl h) same = inl h
   still_after (inr h) same = inr (h.0, h.1, now_same id WritesAgain mid after same h.2)
 
-  nothing_came : (b : Bool) → Sends id bytes t mid (Ok b) → Relates mid after SameStreams → Now id ReadsAgain after → Leaves id bytes t after (still b)
+  nothing_came : (b : Bool) → Sends id bytes t mid (Ok b) → Relates mid after SameStreams → Now id ReadsAgain after →
+      Leaves id bytes t after (still b)
   nothing_came true h same reads = tt
   nothing_came false h same reads = (still_after h same, inl reads)
 
@@ -80,7 +84,8 @@ module _ (id : ℕ) (bytes : List ℕ) (s t : Sending) (host mid after : Option 
   step_goes b came.End h r = (no_bytes r.0 r.2, end_came t.side b refl h r.0 r.1)
 
   -- what was closed stays closed
-  receives_moves : (result : Result Came Stop) → Receives id mid after out out' result → (taken : List ℕ) × Relates mid after (Moves id [] taken false)
+  receives_moves : (result : Result Came Stop) → Receives id mid after out out' result →
+      (taken : List ℕ) × Relates mid after (Moves id [] taken false)
   receives_moves (Ok came.Bytes) r = (r.0, r.1)
   receives_moves (Ok came.Nothing) r = ([], relates_same id mid after r.0)
   receives_moves (Ok came.End) r = ([], relates_same id mid after r.0)
@@ -89,14 +94,16 @@ module _ (id : ℕ) (bytes : List ℕ) (s t : Sending) (host mid after : Option 
   receives_moves (Err stop.Waited) r = absurd r
   receives_moves (Err stop.Refused) r = absurd r
 
-  pub still_sending : (result : Result Came Stop) → Receives id mid after out out' result → ForSome mid (IsOpen id) → IsSending id bytes t mid → IsSending id bytes t after
+  pub still_sending : (result : Result Came Stop) → Receives id mid after out out' result → ForSome mid (IsOpen id) →
+      IsSending id bytes t mid → IsSending id bytes t after
   still_sending result r was i =
       let m = receives_moves result r in
       record { within = i.within; whole = i.whole; cut = i.cut; closed = λ e. moves_closed id [] m.0 false mid after m.1 was (i.closed e) }
 
 -- the write failed
 pub write_fails : (id : ℕ) (bytes : List ℕ) (s t : Sending) (host mid : Option HostContents) (out : Option (List ℕ)) (e : Stop) →
-    Relates host mid (Moves id (between s t bytes) [] (shuts s.side t.side)) → Sends id bytes t mid (Err e) → Steps id bytes s t host mid out out (Err e)
+    Relates host mid (Moves id (between s t bytes) [] (shuts s.side t.side)) → Sends id bytes t mid (Err e) →
+    Steps id bytes s t host mid out out (Err e)
 write_fails id bytes s t host mid out stop.Host sent h = record { taken = []; passes = sent; gets = emits_none out }
 write_fails id bytes s t host mid out stop.Sink sent h = absurd h
 write_fails id bytes s t host mid out stop.Waited sent h = absurd h
@@ -126,10 +133,12 @@ module _ (id : ℕ) (bytes : List ℕ) (s t : Sending) (host mid after : Option 
   both_pass taken on m =
       relates_as id (take s.sent bytes ++ between s t bytes) (take t.sent bytes) (so_far.taken ++ taken) (so_far.taken ++ taken)
       (shuts s.side t.side || is_shut s.side) (is_shut t.side) host after
-      (relates_then id (take s.sent bytes) (between s t bytes) so_far.taken taken (is_shut s.side) (shuts s.side t.side) host mid after so_far.passes m)
+      (relates_then id (take s.sent bytes) (between s t bytes) so_far.taken taken (is_shut s.side)
+      (shuts s.side t.side) host mid after so_far.passes m)
       (joined_between bytes s.sent t.sent on.grows) refl (sym on.shut)
 
-  pub goes_on : GoesOn s t → IsSending id bytes t after → Stepped id bytes s t mid after out' out'' → Exchanged id bytes t host after out out''
+  pub goes_on : GoesOn s t → IsSending id bytes t after → Stepped id bytes s t mid after out' out'' →
+      Exchanged id bytes t host after out out''
   goes_on on i h = record {
     sending = i;
     taken = so_far.taken ++ h.taken;
@@ -137,7 +146,8 @@ module _ (id : ℕ) (bytes : List ℕ) (s t : Sending) (host mid after : Option 
     gets = emits_append out out' out'' so_far.taken h.taken so_far.gets h.gets;
   }
 
-  cuts : GoesOn s t → IsSending id bytes t after → SteppedCut id bytes s t mid after out' out'' → ExchangedCut id bytes t host after out out''
+  cuts : GoesOn s t → IsSending id bytes t after → SteppedCut id bytes s t mid after out' out'' →
+      ExchangedCut id bytes t host after out out''
   cuts on i h = record {
     sending = i;
     taken = so_far.taken ++ h.taken;
@@ -166,8 +176,10 @@ done id bytes t host after out out' progress.Still is h left = absurd (never is)
     never : progress.Still ≡ progress.Done → ⊥
     never e = cc
 
-pub waits : (id : ℕ) (bytes : List ℕ) (t : Sending) (host after : Option HostContents) (out out' : Option (List ℕ)) (e : Stop) → e ≡ stop.Waited → (p : Progress) →
-    p ≡ progress.Still → Exchanged id bytes t host after out out' → Leaves id bytes t after p → Exchanges id bytes host after out out' (Err e)
+pub waits : (id : ℕ) (bytes : List ℕ) (t : Sending) (host after : Option HostContents) (out out' : Option (List ℕ)) (e : Stop) →
+    e ≡ stop.Waited → (p : Progress) →
+    p ≡ progress.Still → Exchanged id bytes t host after out out' → Leaves id bytes t after p →
+    Exchanges id bytes host after out out' (Err e)
 waits id bytes t host after out out' e is p still h left =
     let P : Stop → Type 0 = λ x. Exchanges id bytes host after out out' (Err x) in
     let Q : Progress → Type 0 = λ x. Leaves id bytes t after x in

@@ -5,7 +5,8 @@ use Rattle.vs_contents.specs.Contents.{Relates}
 use Rattle.vs_outside.specs.Host.{Stream, HostContents, stream_at}
 use Rattle.vs_uds.specs.ConnectLine.{connect_text}
 use Rattle.vs_peer.specs.Asking.{Answers, AnswersBad, AnswersPort, AnswersSome, Asks, AsksSome}
-use Rattle.vs_peer.specs.Client.{Any, Asked, Asking, Closed, Dials, Ended, HasClient, IsAnswered, IsAsked, IsAsking, IsRefused, IsUnanswered, IsUnheard, Misheard, Opens, Unheard}
+use Rattle.vs_peer.specs.Client.{Any, Asked, Asking, Closed, Dials, Ended, HasClient, IsAnswered, IsAsked, IsAsking, IsRefused}
+use Rattle.vs_peer.specs.Client.{IsUnanswered, IsUnheard, Misheard, Opens, Unheard}
 use Rattle.vs_peer.specs.Passing.{IsClosed, Moves, Now, ReadsAgain, ReadsEnd, WritesAgain}
 use Rattle.vs_peer.specs.Receiving.{SameStreams}
 use Rattle.vs_peer.specs.declared.stop.Stop.{Stop}
@@ -21,7 +22,8 @@ module _ (base : List ℕ) (port : ℕ) (host : Option HostContents) where
   dial_fails after stop.Waited h = absurd h
   dial_fails after stop.Sink h = absurd h
 
-  module _ (id : ℕ) (mid : Option HostContents) (after : Option HostContents) (dialed : Relates host mid (HasClient port id [] [] false)) where
+  module _ (id : ℕ) (mid : Option HostContents) (after : Option HostContents) (dialed : Relates host mid
+      (HasClient port id [] [] false)) where
     asked : (line : List ℕ) → Relates mid after (Moves id line [] false) → Relates host after (HasClient port id line [] false)
     asked line m =
         relates_both (HasClient port id [] [] false) (Moves id line [] false) (HasClient port id line [] false) host mid after
@@ -29,7 +31,8 @@ module _ (base : List ℕ) (port : ℕ) (host : Option HostContents) where
 
     still_asking : (P : Stream → Type 0) → AsksSome id (connect_text port) mid after → Now id P after → Relates host after (IsAsking port P)
     still_asking P some now =
-        relates_now (HasClient port id (take some.sent (connect_text port)) [] false) (IsAsking port P) (λ c. IsSomeAnd (stream_at id c) P) host after
+        relates_now (HasClient port id (take some.sent (connect_text port)) [] false) (IsAsking port P) (λ c. IsSomeAnd
+        (stream_at id c) P) host after
         (λ x y h n. record {
           stream = h.stream;
           sent = some.sent;
@@ -40,19 +43,25 @@ module _ (base : List ℕ) (port : ℕ) (host : Option HostContents) where
 
     -- the CONNECT line wasn't taken whole
     pub ask_fails : (e : Stop) → Asks id (connect_text port) mid after (Err e) → Opens base port host after (Err e)
-    ask_fails stop.Waited h = relates_map (IsAsking port WritesAgain) (IsUnanswered port) host after (λ x y r. Asking r) (still_asking WritesAgain h.0 h.1)
-    ask_fails stop.Refused h = relates_map (IsAsking port IsClosed) (IsRefused base port) host after (λ x y r. Closed r) (still_asking IsClosed h.0 h.1)
+    ask_fails stop.Waited h = relates_map (IsAsking port WritesAgain) (IsUnanswered port) host after (λ x y r. Asking r)
+        (still_asking WritesAgain h.0 h.1)
+    ask_fails stop.Refused h = relates_map (IsAsking port IsClosed) (IsRefused base port) host after (λ x y r. Closed r)
+        (still_asking IsClosed h.0 h.1)
     ask_fails stop.Host h =
-        relates_map (HasClient port id (take h.sent (connect_text port)) [] false) Any host after (λ x y r. tt) (asked (take h.sent (connect_text port)) h.passes)
+        relates_map (HasClient port id (take h.sent (connect_text port)) [] false) Any host after (λ x y r. tt) (asked (take h.sent
+        (connect_text port)) h.passes)
     ask_fails stop.Sink h = absurd h
 
     pub asked_whole : Asks id (connect_text port) mid after (Ok tt) → Relates host after (HasClient port id (connect_text port) [] false)
     asked_whole h = asked (connect_text port) h
 
-  module _ (id : ℕ) (mid : Option HostContents) (after : Option HostContents) (asked : Relates host mid (HasClient port id (connect_text port) [] false)) where
-    took : (line : List ℕ) → Relates mid after (Moves id [] line false) → Relates host after (HasClient port id (connect_text port) line false)
+  module _ (id : ℕ) (mid : Option HostContents) (after : Option HostContents) (asked : Relates host mid (HasClient port id
+      (connect_text port) [] false)) where
+    took : (line : List ℕ) → Relates mid after (Moves id [] line false) →
+        Relates host after (HasClient port id (connect_text port) line false)
     took line m =
-        relates_both (HasClient port id (connect_text port) [] false) (Moves id [] line false) (HasClient port id (connect_text port) line false) host mid after
+        relates_both (HasClient port id (connect_text port) [] false) (Moves id [] line false) (HasClient port id
+        (connect_text port) line false) host mid after
         (λ x y z h n. client_as port id (connect_text port ++ []) (connect_text port) line line false x z
         (client_then port id (connect_text port) [] [] line false false x y z h n) (append-nil (connect_text port)) refl)
         asked m
@@ -75,10 +84,13 @@ module _ (base : List ℕ) (port : ℕ) (host : Option HostContents) where
 
     -- no OK line came
     pub answer_fails : (e : Stop) → Answers id mid after (Err e) → Opens base port host after (Err e)
-    answer_fails stop.Waited h = relates_map (IsAsked port ReadsAgain) (IsUnanswered port) host after (λ x y r. Asked r) (still_asked ReadsAgain h.0 h.1)
-    answer_fails stop.Refused (inl h) = relates_map (IsAsked port ReadsEnd) (IsRefused base port) host after (λ x y r. Ended r) (still_asked ReadsEnd h.0 h.1)
+    answer_fails stop.Waited h = relates_map (IsAsked port ReadsAgain) (IsUnanswered port) host after (λ x y r. Asked r)
+        (still_asked ReadsAgain h.0 h.1)
+    answer_fails stop.Refused (inl h) = relates_map (IsAsked port ReadsEnd) (IsRefused base port) host after (λ x y r. Ended r)
+        (still_asked ReadsEnd h.0 h.1)
     answer_fails stop.Refused (inr h) = misheard h
-    answer_fails stop.Host h = relates_map (HasClient port id (connect_text port) h.line false) Any host after (λ x y r. tt) (took h.line h.passes)
+    answer_fails stop.Host h = relates_map (HasClient port id (connect_text port) h.line false) Any host after (λ x y r. tt)
+        (took h.line h.passes)
     answer_fails stop.Sink h = absurd h
 
     -- it came

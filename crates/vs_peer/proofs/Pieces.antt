@@ -1,5 +1,6 @@
 -- How reading and writing in pieces add up.
-use Rattle.std.proofs.Common.{◌≡◌, ℕ, suc, ◌+◌, ◌-◌, ◌<◌, List, [], ◌++◌, length, take, drop, Option, Some, None, refl, sym, ap, ◌∙◌, subst, append_assoc, append-nil, length-append, ◌∷◌, arith}
+use Rattle.std.proofs.Common.{◌≡◌, ℕ, suc, ◌+◌, ◌-◌, ◌<◌, List, [], ◌++◌, length, take, drop, Option, Some, None, refl, sym, ap, ◌∙◌}
+use Rattle.std.proofs.Common.{subst, append_assoc, append-nil, length-append, ◌∷◌, arith}
 use Rattle.std.proofs.Math.Seq.{take-add}
 use Rattle.std.proofs.lemmas.List.{take_rest, length-drop}
 use Rattle.std.specs.Bool.{⊤}
@@ -43,9 +44,11 @@ length_more xs ys n lt = rw (length-append xs ys) (omega (arith, lt))
 take_more : (xs ys : List ℕ) (n : ℕ) → take (length xs + n) (xs ++ ys) ≡ xs ++ take n ys
 take_more [] ys n = let e : 0 + n ≡ n = omega arith in ap (λ k. take k ys) e
 take_more (x ∷ xs) ys n =
-    let e : length (x ∷ xs) + n ≡ suc (length xs + n) = omega arith in ap (λ k. take k ((x ∷ xs) ++ ys)) e ∙ ap (λ zs. x ∷ zs) (take_more xs ys n)
+    let e : length (x ∷ xs) + n ≡ suc (length xs + n) = omega arith in ap (λ k. take k ((x ∷ xs) ++ ys)) e ∙ ap (λ zs. x ∷ zs)
+    (take_more xs ys n)
 
-pub emits_then_some : (old mid new : Option (List ℕ)) (xs ys : List ℕ) → Emits old mid xs → EmitsSome mid new ys → EmitsSome old new (xs ++ ys)
+pub emits_then_some : (old mid new : Option (List ℕ)) (xs ys : List ℕ) → Emits old mid xs → EmitsSome mid new ys →
+    EmitsSome old new (xs ++ ys)
 emits_then_some None mid new xs ys e h = subst (λ m. EmitsSome m new ys → new ≡ None) (sym e) (λ k. k) h
 emits_then_some (Some held) mid new xs ys e h =
     let one = subst (λ m. EmitsSome m new ys) e h in (

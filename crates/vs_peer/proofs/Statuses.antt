@@ -1,5 +1,6 @@
 -- What each status of a client says follows from how it ends.
-use Rattle.std.proofs.Common.{◌≡◌, ◌≤◌, ◌<◌, ◌-◌, ◌^◌, inl, inr, ℕ, true, List, length, take, Option, Some, None, refl, ap, subst, ◌∙◌, arith}
+use Rattle.std.proofs.Common.{◌⊎◌, ◌≡◌, ◌≤◌, ◌<◌, ◌-◌, ◌^◌, inl, inr, ℕ, true, List, length, take, Option, Some, None, refl, ap, subst, ◌∙◌}
+use Rattle.std.proofs.Common.{arith}
 use Rattle.std.specs.Option.{ForSome}
 use Rattle.std.proofs.lemmas.List.{length-take}
 use Rattle.std.proofs.lemmas.Bool.Decides.{nat_tests}
@@ -7,7 +8,8 @@ use Rattle.vs_outside.specs.Faults.{CountsFault}
 use Rattle.vs_peer.specs.Ends as ends
 use Rattle.vs_peer.specs.Ends.{EndsAs, Lent, Means, Meets, PeerEnds}
 use Rattle.vs_peer.specs.Pieces.{Emits, EmitsSome, IsReading, ReadsAll}
-use Rattle.vs_peer.specs.Statuses.{Done, HostFault, IsSource, NoFault, NoMemory, Refused, Says, SinkFault, SourceFault, TooLong, Waited, is_faultless}
+use Rattle.vs_peer.specs.Statuses.{Belongs, Came, Done, HostFault, IsSource, Line, NoFault, NoMemory, Refused, Says, SinkFault}
+use Rattle.vs_peer.specs.Statuses.{SourceFault, TooLong, Waited, is_faultless}
 use Rattle.vs_peer.specs.Text.{no_memory_text, read_fault_text, too_long_text}
 use Rattle.vs_peer.specs.declared.source.TheConstants.{SOURCE_MAX}
 
@@ -31,9 +33,11 @@ long_source : (left bytes : List ℕ) → IsReading left bytes → SOURCE_MAX < 
 long_source left bytes (inl h) long = subst (λ (xs : List ℕ). SOURCE_MAX < length xs) h long
 long_source left bytes (inr h) long = let e = ap length h.1 in omega (arith, long, e, take_within (length bytes) left)
 
-is_long : (o : Option (List ℕ)) (bytes : List ℕ) → ReadsAll o bytes → SOURCE_MAX < length bytes → ForSome o (λ left. SOURCE_MAX < length left)
+is_long : (o : Option (List ℕ)) (bytes : List ℕ) → ReadsAll o bytes → SOURCE_MAX < length bytes →
+    ForSome o (λ left. SOURCE_MAX < length left)
 is_long None bytes h long l is = cc
-is_long (Some left) bytes h long l is = let same : left ≡ l = cc in subst (λ (xs : List ℕ). SOURCE_MAX < length xs) same (long_source left bytes h long)
+is_long (Some left) bytes h long l is = let same : left ≡ l = cc in subst (λ (xs : List ℕ). SOURCE_MAX < length xs) same
+    (long_source left bytes h long)
 
 module _ (base : List ℕ) (port idle : ℕ) (old new : Lent) (result : ℕ) where
   met : (bytes : List ℕ) → IsSource old.source bytes →
@@ -50,24 +54,32 @@ module _ (base : List ℕ) (port idle : ℕ) (old new : Lent) (result : ℕ) whe
         waits = why;
       })
   met bytes is (inl (text, status, ends.HostFails six written said why counts, inl end)) =
-      HostFault (end.0 ∙ six) (record { counts = counts; written = written; writes = subst (λ (t : List ℕ). Emits old.out new.out t) said end.1 })
+      HostFault (end.0 ∙ six) (record {
+        counts = counts;
+        written = written;
+        writes = subst (λ
+            (t : List ℕ). Emits old.out new.out t) said end.1;
+      })
   met bytes is (inl (text, status, ends.Refuses eight said why kept, inl end)) =
       Refused (end.0 ∙ eight) (record { writes = subst (λ (t : List ℕ). Emits old.out new.out t) said end.1; refused = why })
-  met bytes is (inl (text, status, means, inr end)) = SinkFault end.0 (record { counts = end.2; text = text; writes = end.1 })
-  met bytes is (inr (text, four, some, counts, why, kept)) = SinkFault four (record { counts = counts; text = text; writes = some })
+  met bytes is (inl (text, status, means, inr end)) =
+      SinkFault end.0 (record { counts = end.2; text = text; meant = Belongs bytes is status means; writes = end.1 })
+  met bytes is (inr (text, four, some, counts, why, kept)) =
+      SinkFault four (record { counts = counts; text = text; meant = Came bytes is why; writes = some })
 
-  sink_fails : (text : List ℕ) → (result ≡ 4) × EmitsSome old.out new.out text × CountsFault true old.sink_faults new.sink_faults → Says base port idle old new result
-  sink_fails text end = SinkFault end.0 (record { counts = end.2; text = text; writes = end.1 })
+  sink_fails : (text : List ℕ) → (text ≡ too_long_text) ⊎ (text ≡ read_fault_text) ⊎ (text ≡ no_memory_text) →
+      (result ≡ 4) × EmitsSome old.out new.out text × CountsFault true old.sink_faults new.sink_faults → Says base port idle old new result
+  sink_fails text line end = SinkFault end.0 (record { counts = end.2; text = text; meant = Line line; writes = end.1 })
 
   pub says : PeerEnds base port idle old new result → Says base port idle old new result
   says (ends.Met bytes reads fits kept meets) = met bytes (is_source old.source bytes reads fits) meets
   says (ends.TooLong bytes reads long kept host host_kept (inl end)) =
       TooLong end.0 (record { long = is_long old.source bytes reads long; writes = end.1; kept = host })
-  says (ends.TooLong bytes reads long kept host host_kept (inr end)) = sink_fails too_long_text end
+  says (ends.TooLong bytes reads long kept host host_kept (inr end)) = sink_fails too_long_text (inl refl) end
   says (ends.SourceFails counts host host_kept (inl end)) = SourceFault end.0 (record { counts = counts; writes = end.1; kept = host })
-  says (ends.SourceFails counts host host_kept (inr end)) = sink_fails read_fault_text end
+  says (ends.SourceFails counts host host_kept (inr end)) = sink_fails read_fault_text (inr (inl refl)) end
   says (ends.NoMemory kept host host_kept (inl end)) = NoMemory end.0 (record { writes = end.1; kept = host })
-  says (ends.NoMemory kept host host_kept (inr end)) = sink_fails no_memory_text end
+  says (ends.NoMemory kept host host_kept (inr end)) = sink_fails no_memory_text (inr (inr refl)) end
 
   -- where no call failed
   pub faultless : Says base port idle old new result → NoFault old new → is_faultless result ≡ true

@@ -1,10 +1,12 @@
 -- What each call does to the client's stream.
-use Rattle.std.proofs.Common.{◌≡◌, ℕ, zero, suc, ◌≤◌, Bool, true, false, cond, ◌||◌, List, [], ◌∷◌, ◌++◌, length, take, min, ◌==◌, ◌≢◌, Option, Some, None, refl, sym, ap, ◌∙◌, subst, append_assoc, append-nil, arith}
+use Rattle.std.proofs.Common.{◌≡◌, ℕ, zero, suc, ◌≤◌, Bool, true, false, cond, ◌||◌, List, [], ◌∷◌, ◌++◌, length, take, min, ◌==◌, ◌≢◌}
+use Rattle.std.proofs.Common.{Option, Some, None, refl, sym, ap, ◌∙◌, subst, append_assoc, append-nil, arith}
 use Rattle.std.specs.Prelude.{IsSomeAnd}
 use Rattle.std.proofs.lemmas.Bool.Decides.{nat_tests}
 use Rattle.std.specs.Option.{ForSome, option_map_or}
 use Rattle.vs_contents.specs.Contents.{Exposes, Relates}
-use Rattle.vs_outside.specs.Host.{Stream, HostContents, stream_at, KeepsOthers, IsOpen, called, fails_now, after_failed, read_of, write_of, read_answer, write_answer}
+use Rattle.vs_outside.specs.Host.{Stream, HostContents, stream_at, KeepsOthers, IsOpen, called, fails_now, after_failed, read_of}
+use Rattle.vs_outside.specs.Host.{write_of, read_answer, write_answer}
 use Rattle.vs_outside.specs.Host.{after_read, after_write, after_shut_write, take_bytes, give_bytes, ReadsFrom, next_bytes}
 use Rattle.vs_outside.specs.declared.host_net.StreamState.TheVariants as state
 use Rattle.vs_outside.specs.declared.host_net.StreamRead.{StreamRead}
@@ -16,7 +18,15 @@ use Rattle.vs_peer.specs.Passing.{IsMoved, Moves, Now, IsClosed, WritesAgain, Re
 
 -- Nothing passed.
 same_stream : (s : Stream) → IsMoved [] [] false s s
-same_stream s = record { label = refl; state = refl; given = sym (append-nil s.given); taken = sym (append-nil s.taken); shut = refl; closed = refl }
+same_stream s = record {
+  label = refl;
+  state = refl;
+  given = sym (append-nil s.given);
+  taken = sym
+      (append-nil s.taken);
+  shut = refl;
+  closed = refl;
+}
 
 pub moves_not : (id : ℕ) (c d : HostContents) → ((other : ℕ) → stream_at other d ≡ stream_at other c) → Moves id [] [] false c d
 moves_not id c d same = record { stream = λ s there. (s, same id ∙ there, same_stream s); others = λ other apart. same other }
@@ -58,7 +68,8 @@ relates_then id g g' k k' w w' (Some a) (Some b) None m n = absurd n
 relates_then id g g' k k' w w' (Some a) (Some b) (Some c) m n = moves_then id g g' k k' w w' a b c m n
 
 -- The same, said otherwise.
-pub relates_as : (id : ℕ) (g g' k k' : List ℕ) (w w' : Bool) (a b : Option HostContents) → Relates a b (Moves id g k w) → g ≡ g' → k ≡ k' → w ≡ w' →
+pub relates_as : (id : ℕ) (g g' k k' : List ℕ) (w w' : Bool) (a b : Option HostContents) → Relates a b (Moves id g k w) → g ≡ g' →
+    k ≡ k' → w ≡ w' →
     Relates a b (Moves id g' k' w')
 relates_as id g g' k k' w w' a b m p q r =
     let P : List ℕ → Type 0 = λ x. Relates a b (Moves id x k w) in
@@ -67,7 +78,8 @@ relates_as id g g' k k' w w' a b m p q r =
     subst R r (subst Q q (subst P p m))
 
 -- What a call's clause says of the contents.
-pub exposed_relates : (P : HostContents → Type 0) (f : HostContents → HostContents) (R : HostContents → HostContents → Type 0) (a b : Option HostContents) →
+pub exposed_relates : (P : HostContents → Type 0) (f : HostContents → HostContents) (R : HostContents → HostContents →
+    Type 0) (a b : Option HostContents) →
     Exposes a b P f → ((c : HostContents) → a ≡ Some c → P c → R c (f c)) → Relates a b R
 exposed_relates P f R None b h then = h
 exposed_relates P f R (Some a) None h then = cc
@@ -85,7 +97,8 @@ opened : (o : Option Stream) → IsSomeAnd o (λ s. s.state ≡ state.Open) → 
 opened None h = absurd h
 opened (Some s) h = (s, refl, h)
 
-pub moves_open : (id : ℕ) (g k : List ℕ) (w : Bool) (a b : Option HostContents) → Relates a b (Moves id g k w) → ForSome a (IsOpen id) → ForSome b (IsOpen id)
+pub moves_open : (id : ℕ) (g k : List ℕ) (w : Bool) (a b : Option HostContents) → Relates a b (Moves id g k w) → ForSome a (IsOpen id) →
+    ForSome b (IsOpen id)
 moves_open id g k w None b m was c is = cc
 moves_open id g k w (Some a) None m was c is = cc
 moves_open id g k w (Some a) (Some b) m was c is =
@@ -99,7 +112,8 @@ found : {P : Stream → Type 0} (o : Option Stream) → IsSomeAnd o P → (s : S
 found None h = absurd h
 found (Some s) h = (s, refl, h)
 
-pub moves_closed : (id : ℕ) (g k : List ℕ) (w : Bool) (a b : Option HostContents) → Relates a b (Moves id g k w) → ForSome a (IsOpen id) → Now id IsClosed a → Now id IsClosed b
+pub moves_closed : (id : ℕ) (g k : List ℕ) (w : Bool) (a b : Option HostContents) → Relates a b (Moves id g k w) →
+    ForSome a (IsOpen id) → Now id IsClosed a → Now id IsClosed b
 moves_closed id g k w None b m was closed c is = cc
 moves_closed id g k w (Some a) None m was closed c is = cc
 moves_closed id g k w (Some a) (Some b) m was closed c is =
@@ -122,7 +136,8 @@ changed : (id : ℕ) (g k : List ℕ) (w : Bool) (f : Stream → Stream) (c d : 
     ((s : Stream) → stream_at id c ≡ Some s → IsMoved g k w s (f s)) → Moves id g k w c d
 changed id g k w f c d there others moved = record { stream = λ s at. (f s, there s at, moved s at); others = others }
 
-pub wrote : (id : ℕ) (bytes : List ℕ) (answer : StreamWrite) (c : HostContents) → Moves id (given_by answer bytes) [] false c (after_write id bytes answer c)
+pub wrote : (id : ℕ) (bytes : List ℕ) (answer : StreamWrite) (c : HostContents) →
+    Moves id (given_by answer bytes) [] false c (after_write id bytes answer c)
 wrote id bytes (write.Took n) c =
     changed id (take n bytes) [] false (give_bytes n bytes) c (after_write id bytes (write.Took n) c)
     (λ s there. stream_at-with_stream id (give_bytes n bytes) (called c) s there) (keeps_others id (give_bytes n bytes) (called c))
@@ -154,8 +169,17 @@ reads id read.Failed out c from = moves_not id c (called c) (λ other. refl)
 pub shut_writes : (id : ℕ) (c : HostContents) → Moves id [] [] true c (after_shut_write id c)
 shut_writes id c =
     changed id [] [] true (λ s. record s { write_shut = true }) c (after_shut_write id c)
-    (λ s there. stream_at-with_stream id (λ t. record t { write_shut = true }) c s there) (keeps_others id (λ s. record s { write_shut = true }) c)
-    (λ s there. record { label = refl; state = refl; given = sym (append-nil s.given); taken = sym (append-nil s.taken); shut = refl; closed = refl })
+    (λ s there. stream_at-with_stream id (λ t. record t { write_shut = true }) c s there) (keeps_others id
+    (λ s. record s { write_shut = true }) c)
+    (λ s there. record {
+      label = refl;
+      state = refl;
+      given = sym (append-nil s.given);
+      taken = sym
+          (append-nil s.taken);
+      shut = refl;
+      closed = refl;
+    })
 
 -- What the answers say of the stream.
 full : (n : ℕ) (room : Option ℕ) → 1 ≤ n → (option_map_or (λ r. min n r) room n == 0) ≡ true → room ≡ Some 0
@@ -183,17 +207,20 @@ not_failing_read : (b : Bool) (a d : StreamRead) → a ≢ read.Failed → a ≡
 not_failing_read true a d fails h = absurd (fails h)
 not_failing_read false a d fails h = h
 
-pub writes_again : (id n : ℕ) (c : HostContents) → IsOpen id c → 1 ≤ n → write.Again ≡ write_answer id n c → IsSomeAnd (stream_at id (called c)) WritesAgain
+pub writes_again : (id n : ℕ) (c : HostContents) → IsOpen id c → 1 ≤ n → write.Again ≡ write_answer id n c →
+    IsSomeAnd (stream_at id (called c)) WritesAgain
 writes_again id n c was some h =
     let s = opened (stream_at id c) was in
     let by : write.Again ≡ option_map_or (write_of n) (stream_at id c) write.Again = not_failing (fails_now c) write.Again _ (λ e. cc) h in
     let of : write.Again ≡ write_of n s.0 = by ∙ ap (λ o. option_map_or (write_of n) o write.Again) s.1 in
     rw s.1 (again_of n s.0 s.0.host_closed (option_map_or (λ r. min n r) s.0.room n == 0) refl refl some of)
 
-pub writes_closed : (id n : ℕ) (c : HostContents) → IsOpen id c → write.Closed ≡ write_answer id n c → IsSomeAnd (stream_at id (called c)) IsClosed
+pub writes_closed : (id n : ℕ) (c : HostContents) → IsOpen id c → write.Closed ≡ write_answer id n c →
+    IsSomeAnd (stream_at id (called c)) IsClosed
 writes_closed id n c was h =
     let s = opened (stream_at id c) was in
-    let by : write.Closed ≡ option_map_or (write_of n) (stream_at id c) write.Again = not_failing (fails_now c) write.Closed _ (λ e. cc) h in
+    let by : write.Closed ≡ option_map_or (write_of n) (stream_at id c) write.Again = not_failing (fails_now c) write.Closed _
+    (λ e. cc) h in
     let of : write.Closed ≡ write_of n s.0 = by ∙ ap (λ o. option_map_or (write_of n) o write.Again) s.1 in
     rw s.1 (closed_of s.0.host_closed (option_map_or (λ r. min n r) s.0.room n == 0) _ of)
 
@@ -213,14 +240,17 @@ read_end_of room s true true p q h = record { none = no_bytes s.untaken p; over 
 read_end_of room s true false p q h = cc
 read_end_of room s false b p q h = cc
 
-pub reads_again : (id room : ℕ) (c : HostContents) → IsOpen id c → read.Again ≡ read_answer id room c → IsSomeAnd (stream_at id (called c)) ReadsAgain
+pub reads_again : (id room : ℕ) (c : HostContents) → IsOpen id c → read.Again ≡ read_answer id room c →
+    IsSomeAnd (stream_at id (called c)) ReadsAgain
 reads_again id room c was h =
     let s = opened (stream_at id c) was in
-    let by : read.Again ≡ option_map_or (read_of room) (stream_at id c) read.Again = not_failing_read (fails_now c) read.Again _ (λ e. cc) h in
+    let by : read.Again ≡ option_map_or (read_of room) (stream_at id c) read.Again = not_failing_read (fails_now c) read.Again _
+    (λ e. cc) h in
     let of : read.Again ≡ read_of room s.0 = by ∙ ap (λ o. option_map_or (read_of room) o read.Again) s.1 in
     rw s.1 (read_again_of room s.0 (length s.0.untaken == 0) s.0.ended refl refl of)
 
-pub reads_end : (id room : ℕ) (c : HostContents) → IsOpen id c → read.End ≡ read_answer id room c → IsSomeAnd (stream_at id (called c)) ReadsEnd
+pub reads_end : (id room : ℕ) (c : HostContents) → IsOpen id c → read.End ≡ read_answer id room c →
+    IsSomeAnd (stream_at id (called c)) ReadsEnd
 reads_end id room c was h =
     let s = opened (stream_at id c) was in
     let by : read.End ≡ option_map_or (read_of room) (stream_at id c) read.Again = not_failing_read (fails_now c) read.End _ (λ e. cc) h in

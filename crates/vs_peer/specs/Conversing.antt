@@ -54,8 +54,10 @@ pub data IsFailed (port : ℕ) (source written : List ℕ) (before after : HostC
   Unopened : written ≡ [] → IsFailed port source written before after
   Failed : Carries port source written before after → IsFailed port source written before after
 
-abbrev pub Converses : List ℕ → ℕ → List ℕ → Option HostContents → Option HostContents → Option (List ℕ) → Option (List ℕ) → Result (Unit {0}) Stop → Type 0
-Converses base port source host host' out out' (Ok u) = (written : List ℕ) × Emits out out' written × Relates host host' (IsDone port source written)
+abbrev pub Converses : List ℕ → ℕ → List ℕ → Option HostContents → Option HostContents → Option (List ℕ) → Option (List ℕ) →
+    Result (Unit {0}) Stop → Type 0
+Converses base port source host host' out out' (Ok u) = (written : List ℕ) × Emits out out' written × Relates host host'
+    (IsDone port source written)
 Converses base port source host host' out out' (Err stop.Waited) =
     (written : List ℕ) × Emits out out' written × Relates host host' (IsWaiting port source written)
 Converses base port source host host' out out' (Err stop.Refused) = (out' ≡ out) × Relates host host' (IsRefused base port)

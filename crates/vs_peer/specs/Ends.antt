@@ -23,37 +23,44 @@ pub record Lent : Type 0 where
 -- The text was written, and the status is its own; or a call of the sink failed, less of the text was written, and the status is 4.
 abbrev pub EndsAs : Option (List ℕ) → Option (List ℕ) → ℕ → ℕ → List ℕ → ℕ → ℕ → Type 0
 EndsAs out out' faults faults' text status result =
-    ((result ≡ status) × Emits out out' text × (faults' ≡ faults)) ⊎ ((result ≡ 4) × EmitsSome out out' text × CountsFault true faults faults')
+    ((result ≡ status) × Emits out out' text × (faults' ≡ faults)) ⊎
+    ((result ≡ 4) × EmitsSome out out' text × CountsFault true faults faults')
 
 -- Why the source wasn't read.
 abbrev pub EndsUnread : Option (List ℕ) → Option (List ℕ) → ℕ → ℕ → ReadError → ℕ → Type 0
 EndsUnread out out' faults faults' read_error.Fault result = EndsAs out out' faults faults' read_fault_text 3 result
 EndsUnread out out' faults faults' read_error.OutOfMemory result = EndsAs out out' faults faults' no_memory_text 9 result
 
--- A client with these bytes to send, over the host between two moments: the text that it writes and the status that belongs to it. Where the
--- host exposes its streams they tell why.
-pub data Means (base : List ℕ) (port : ℕ) (source : List ℕ) (idle : ℕ) (host host' : Option HostContents) (faults faults' : ℕ) (text : List ℕ) (status : ℕ) : Type 0 where
+-- A client with these bytes to send, over the host between two moments: the text that it writes and the status that belongs to it. Where
+-- the host exposes its streams they tell why.
+pub data Means (base : List ℕ) (port : ℕ) (source : List ℕ) (idle : ℕ) (host host' : Option HostContents) (faults faults' : ℕ)
+    (text : List ℕ) (status : ℕ) : Type 0 where
   -- what the stream gave, and it is done
   Done : status ≡ 0 → Relates host host' (IsDone port source text) → faults' ≡ faults →
       Means base port source idle host host' faults faults' text status
   -- what the stream gave, and nothing moves now
-  Waits : status ≡ 5 → (written : List ℕ) → text ≡ written ++ waited_text idle → Relates host host' (IsWaiting port source written) → faults' ≡ faults →
+  Waits : status ≡ 5 → (written : List ℕ) → text ≡ written ++ waited_text idle → Relates host host' (IsWaiting port source written) →
+      faults' ≡ faults →
       Means base port source idle host host' faults faults' text status
   -- what the stream gave before a call of the host failed
-  HostFails : status ≡ 6 → (written : List ℕ) → text ≡ written ++ host_fault_text → Relates host host' (IsFailed port source written) → CountsFault true faults faults' →
+  HostFails : status ≡ 6 → (written : List ℕ) → text ≡ written ++ host_fault_text → Relates host host' (IsFailed port source written) →
+      CountsFault true faults faults' →
       Means base port source idle host host' faults faults' text status
   -- nobody listened, or no OK line came
   Refuses : status ≡ 8 → text ≡ refused_text → Relates host host' (IsRefused base port) → faults' ≡ faults →
       Means base port source idle host host' faults faults' text status
 
 -- Such a client ends as it should; or a call of the sink failed before, at a byte that the stream gave.
-abbrev pub Meets : List ℕ → ℕ → List ℕ → ℕ → Option HostContents → Option HostContents → ℕ → ℕ → Option (List ℕ) → Option (List ℕ) → ℕ → ℕ → ℕ → Type 0
+abbrev pub Meets : List ℕ → ℕ → List ℕ → ℕ → Option HostContents → Option HostContents → ℕ → ℕ → Option (List ℕ) → Option (List ℕ) → ℕ →
+    ℕ → ℕ → Type 0
 Meets base port source idle host host' faults faults' out out' sink_faults sink_faults' result =
-    ((text : List ℕ) × (status : ℕ) × Means base port source idle host host' faults faults' text status × EndsAs out out' sink_faults sink_faults' text status result)
-    ⊎ ((text : List ℕ) × (result ≡ 4) × EmitsSome out out' text × CountsFault true sink_faults sink_faults' × Relates host host' (Carries port source text) × (faults' ≡ faults))
+    ((text : List ℕ) × (status : ℕ) × Means base port source idle host host' faults faults' text status × EndsAs out out' sink_faults
+    sink_faults' text status result)
+    ⊎ ((text : List ℕ) × (result ≡ 4) × EmitsSome out out' text × CountsFault true sink_faults sink_faults' × Relates host host'
+    (Carries port source text) × (faults' ≡ faults))
 
--- How a client ends: it has read its source, and then meets the host; or the source gave too much, or failed, or memory ran out, and the host
--- is as before.
+-- How a client ends: it has read its source, and then meets the host; or the source gave too much, or failed, or memory ran out, and the
+-- host is as before.
 pub data PeerEnds (base : List ℕ) (port idle : ℕ) (old new : Lent) (result : ℕ) : Type 0 where
   Met : (bytes : List ℕ) → ReadsAll old.source bytes → length bytes ≤ SOURCE_MAX → new.source_faults ≡ old.source_faults →
       Meets base port bytes idle old.host new.host old.host_faults new.host_faults old.out new.out old.sink_faults new.sink_faults result →

@@ -44,12 +44,14 @@ pub record Stepped (id : ℕ) (bytes : List ℕ) (s t : Sending) (host host' : O
   pub gets : Emits out out' taken
 
 -- The same, where the sink got less than what was taken.
-pub record SteppedCut (id : ℕ) (bytes : List ℕ) (s t : Sending) (host host' : Option HostContents) (out out' : Option (List ℕ)) : Type 0 where
+pub record SteppedCut (id : ℕ) (bytes : List ℕ) (s t : Sending) (host host' : Option HostContents) (out out' : Option
+    (List ℕ)) : Type 0 where
   pub taken : List ℕ
   pub passes : Relates host host' (Moves id (between s t bytes) taken (shuts s.side t.side))
   pub gets : EmitsSome out out' taken
 
-abbrev pub Steps : ℕ → List ℕ → Sending → Sending → Option HostContents → Option HostContents → Option (List ℕ) → Option (List ℕ) → Result Progress Stop → Type 0
+abbrev pub Steps : ℕ → List ℕ → Sending → Sending → Option HostContents → Option HostContents → Option (List ℕ) → Option (List ℕ) →
+    Result Progress Stop → Type 0
 Steps id bytes s t host host' out out' (Ok w) = Stepped id bytes s t host host' out out' × Leaves id bytes t host' w
 Steps id bytes s t host host' out out' (Err stop.Host) = Stepped id bytes s t host host' out out'
 Steps id bytes s t host host' out out' (Err stop.Sink) = SteppedCut id bytes s t host host' out out'
@@ -63,17 +65,20 @@ pub record Exchanged (id : ℕ) (bytes : List ℕ) (s : Sending) (host host' : O
   pub gets : Emits out out' taken
 
 -- The same, where the sink got less than what was taken.
-pub record ExchangedCut (id : ℕ) (bytes : List ℕ) (s : Sending) (host host' : Option HostContents) (out out' : Option (List ℕ)) : Type 0 where
+pub record ExchangedCut (id : ℕ) (bytes : List ℕ) (s : Sending) (host host' : Option HostContents) (out out' : Option
+    (List ℕ)) : Type 0 where
   pub sending : IsSending id bytes s host'
   pub taken : List ℕ
   pub passes : Relates host host' (Moves id (take s.sent bytes) taken (is_shut s.side))
   pub gets : EmitsSome out out' taken
 
 -- All passed; or nothing moves any more; or a call failed.
-abbrev pub Exchanges : ℕ → List ℕ → Option HostContents → Option HostContents → Option (List ℕ) → Option (List ℕ) → Result (Unit {0}) Stop → Type 0
+abbrev pub Exchanges : ℕ → List ℕ → Option HostContents → Option HostContents → Option (List ℕ) → Option (List ℕ) →
+    Result (Unit {0}) Stop → Type 0
 Exchanges id bytes host host' out out' (Ok u) =
     (s : Sending) × Exchanged id bytes s host host' out out' × (s.side ≢ side.Open) × Now id ReadsEnd host'
-Exchanges id bytes host host' out out' (Err stop.Waited) = (s : Sending) × Exchanged id bytes s host host' out out' × IsStuck id bytes s host'
+Exchanges id bytes host host' out out' (Err stop.Waited) =
+    (s : Sending) × Exchanged id bytes s host host' out out' × IsStuck id bytes s host'
 Exchanges id bytes host host' out out' (Err stop.Host) = (s : Sending) × Exchanged id bytes s host host' out out'
 Exchanges id bytes host host' out out' (Err stop.Sink) = (s : Sending) × ExchangedCut id bytes s host host' out out'
 Exchanges id bytes host host' out out' (Err stop.Refused) = ⊥

@@ -1,11 +1,11 @@
 -- What each status of a client says.
-use Rattle.std.specs.Prelude.{◌≡◌, ◌<◌, ◌-◌, ◌^◌, ◌==◌, ◌||◌, ℕ, Bool, true, List, ◌++◌, length, Option}
+use Rattle.std.specs.Prelude.{◌≡◌, ◌<◌, ◌⊎◌, ◌-◌, ◌^◌, ◌==◌, ◌||◌, ℕ, Bool, true, List, ◌++◌, length, Option}
 use Rattle.std.specs.Option.{ForSome}
 use Rattle.vs_contents.specs.Contents.{Relates}
 use Rattle.vs_outside.specs.Faults.{CountsFault}
 use Rattle.vs_peer.specs.Client.{IsRefused}
-use Rattle.vs_peer.specs.Conversing.{IsDone, IsWaiting}
-use Rattle.vs_peer.specs.Ends.{Lent}
+use Rattle.vs_peer.specs.Conversing.{Carries, IsDone, IsWaiting}
+use Rattle.vs_peer.specs.Ends.{Lent, Means}
 use Rattle.vs_peer.specs.Pieces.{Emits, EmitsSome}
 use Rattle.vs_peer.specs.Text.{host_fault_text, no_memory_text, read_fault_text, refused_text, too_long_text, waited_text}
 use Rattle.vs_peer.specs.declared.source.TheConstants.{SOURCE_MAX}
@@ -34,10 +34,19 @@ pub record SaysSourceFault (old new : Lent) : Type 0 where
   pub writes : Emits old.out new.out read_fault_text
   pub kept : new.host ≡ old.host
 
--- 4: a call of the sink failed, and less than the whole text was written.
-pub record SaysSinkFault (old new : Lent) : Type 0 where
+-- A text that was to be written: a line that stands alone; what belongs to a status; or what the stream gave so far.
+pub data IsMeant (base : List ℕ) (port idle : ℕ) (old new : Lent) (text : List ℕ) : Type 0 where
+  Line : (text ≡ too_long_text) ⊎ (text ≡ read_fault_text) ⊎ (text ≡ no_memory_text) → IsMeant base port idle old new text
+  Belongs : (source : List ℕ) → IsSource old.source source → (status : ℕ) →
+      Means base port source idle old.host new.host old.host_faults new.host_faults text status → IsMeant base port idle old new text
+  Came : (source : List ℕ) → IsSource old.source source → Relates old.host new.host (Carries port source text) →
+      IsMeant base port idle old new text
+
+-- 4: a call of the sink failed, and less was written than was to be.
+pub record SaysSinkFault (base : List ℕ) (port idle : ℕ) (old new : Lent) : Type 0 where
   pub counts : CountsFault true old.sink_faults new.sink_faults
   pub text : List ℕ
+  pub meant : IsMeant base port idle old new text
   pub writes : EmitsSome old.out new.out text
 
 -- 5: nothing moves.
@@ -69,7 +78,7 @@ pub data Says (base : List ℕ) (port idle : ℕ) (old new : Lent) (status : ℕ
   Done : status ≡ 0 → SaysDone port old new → Says base port idle old new status
   TooLong : status ≡ 2 → SaysTooLong old new → Says base port idle old new status
   SourceFault : status ≡ 3 → SaysSourceFault old new → Says base port idle old new status
-  SinkFault : status ≡ 4 → SaysSinkFault old new → Says base port idle old new status
+  SinkFault : status ≡ 4 → SaysSinkFault base port idle old new → Says base port idle old new status
   Waited : status ≡ 5 → SaysWaited port idle old new → Says base port idle old new status
   HostFault : status ≡ 6 → SaysHostFault old new → Says base port idle old new status
   Refused : status ≡ 8 → SaysRefused base port old new → Says base port idle old new status

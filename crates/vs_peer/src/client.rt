@@ -37,8 +37,8 @@ pub const REFUSED: u8 = 8;
 pub const NO_MEMORY: u8 = 9;
 
 /// A client of the mapping (Firecracker's vsock documentation). It reads all of its source, dials the base path, writes `CONNECT PORT` and
-/// reads the OK line byte by byte; writes `port HOSTPORT` to `out`; then makes, in each step, one write of at most 4,096 unsent bytes and one
-/// read of at most 4,096 bytes, which go to `out`. When all is sent it shuts its write side; a write that finds the stream closed ends
+/// reads the OK line byte by byte; writes `port HOSTPORT` to `out`; then makes, in each step, one write of at most 4,096 unsent bytes and
+/// one read of at most 4,096 bytes, which go to `out`. When all is sent it shuts its write side; a write that finds the stream closed ends
 /// the sending. The status is
 ///
 /// - 0: nothing more came, and all was sent or the stream was closed.
@@ -63,13 +63,41 @@ pub fn peer<R: AllocGlobal + Wait, S: Source, K: Sink, H: HostNet, G: Gate>(
 ) -> u8
     // What the status says of source, host and sink; there is no other status.
     ensures says { Says base.now port idle
-        (record { source = S.contents source.old; host = H.contents host.old; out = K.contents out.old; source_faults = S.faults source.old; host_faults = H.faults host.old; sink_faults = K.faults out.old })
-        (record { source = S.contents source.new; host = H.contents host.new; out = K.contents out.new; source_faults = S.faults source.new; host_faults = H.faults host.new; sink_faults = K.faults out.new })
+        (record {
+          source = S.contents source.old;
+          host = H.contents host.old;
+          out = K.contents out.old;
+          source_faults = S.faults source.old;
+          host_faults = H.faults host.old;
+          sink_faults = K.faults out.old;
+        })
+        (record {
+          source = S.contents source.new;
+          host = H.contents host.new;
+          out = K.contents out.new;
+          source_faults = S.faults source.new;
+          host_faults = H.faults host.new;
+          sink_faults = K.faults out.new;
+        })
         result }
     // Where no call of source, host and sink failed.
     ensures faultless { NoFault
-        (record { source = S.contents source.old; host = H.contents host.old; out = K.contents out.old; source_faults = S.faults source.old; host_faults = H.faults host.old; sink_faults = K.faults out.old })
-        (record { source = S.contents source.new; host = H.contents host.new; out = K.contents out.new; source_faults = S.faults source.new; host_faults = H.faults host.new; sink_faults = K.faults out.new })
+        (record {
+          source = S.contents source.old;
+          host = H.contents host.old;
+          out = K.contents out.old;
+          source_faults = S.faults source.old;
+          host_faults = H.faults host.old;
+          sink_faults = K.faults out.old;
+        })
+        (record {
+          source = S.contents source.new;
+          host = H.contents host.new;
+          out = K.contents out.new;
+          source_faults = S.faults source.new;
+          host_faults = H.faults host.new;
+          sink_faults = K.faults out.new;
+        })
         → is_faultless result ≡ true }
 {
     run(rt, base, port, idle, source, host, gate, out)
@@ -87,8 +115,22 @@ fn run<R: AllocGlobal + Wait, S: Source, K: Sink, H: HostNet, G: Gate>(
     out: &mut K,
 ) -> u8
     ensures ends { PeerEnds base.now port idle
-        (record { source = S.contents source.old; host = H.contents host.old; out = K.contents out.old; source_faults = S.faults source.old; host_faults = H.faults host.old; sink_faults = K.faults out.old })
-        (record { source = S.contents source.new; host = H.contents host.new; out = K.contents out.new; source_faults = S.faults source.new; host_faults = H.faults host.new; sink_faults = K.faults out.new })
+        (record {
+          source = S.contents source.old;
+          host = H.contents host.old;
+          out = K.contents out.old;
+          source_faults = S.faults source.old;
+          host_faults = H.faults host.old;
+          sink_faults = K.faults out.old;
+        })
+        (record {
+          source = S.contents source.new;
+          host = H.contents host.new;
+          out = K.contents out.new;
+          source_faults = S.faults source.new;
+          host_faults = H.faults host.new;
+          sink_faults = K.faults out.new;
+        })
         result }
 {
     let bytes = match read_source(rt.alloc(), source) {
@@ -122,7 +164,9 @@ fn converse_to_end<R: Wait, H: HostNet, K: Sink, G: Gate>(
     gate: &G,
     out: &mut K,
 ) -> u8
-    ensures meets { Meets base.now port bytes.now idle (H.contents host.old) (H.contents host.new) (H.faults host.old) (H.faults host.new) (K.contents out.old) (K.contents out.new) (K.faults out.old) (K.faults out.new) result }
+    ensures meets { Meets base.now port bytes.now idle
+        (H.contents host.old) (H.contents host.new) (H.faults host.old) (H.faults host.new)
+        (K.contents out.old) (K.contents out.new) (K.faults out.old) (K.faults out.new) result }
 {
     match converse(rt, host, base, port, bytes, idle, gate, out) {
         Ok(()) => DONE,

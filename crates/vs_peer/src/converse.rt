@@ -40,7 +40,8 @@ pub fn converse<R: Wait, H: HostNet, K: Sink, G: Gate>(
     gate: &G,
     out: &mut K,
 ) -> Result<(), Stop>
-    ensures converses { Converses base.now port bytes.now (H.contents host.old) (H.contents host.new) (K.contents out.old) (K.contents out.new) result }
+    ensures converses { Converses base.now port bytes.now
+        (H.contents host.old) (H.contents host.new) (K.contents out.old) (K.contents out.new) result }
     ensures host_faults { CountsFault (host_failed result) (H.faults host.old) (H.faults host.new) }
     ensures sink_faults { CountsFault (sink_failed result) (K.faults out.old) (K.faults out.new) }
 {

@@ -36,7 +36,8 @@ pub fn exchange<R: Wait, H: HostNet, K: Sink, G: Gate>(
     out: &mut K,
 ) -> Result<(), Stop>
     requires open { ForSome (H.contents host.old) (IsOpen id) }
-    ensures exchanges { Exchanges id bytes.now (H.contents host.old) (H.contents host.new) (K.contents out.old) (K.contents out.new) result }
+    ensures exchanges { Exchanges id bytes.now
+        (H.contents host.old) (H.contents host.new) (K.contents out.old) (K.contents out.new) result }
     ensures host_faults { CountsFault (host_failed result) (H.faults host.old) (H.faults host.new) }
     ensures sink_faults { CountsFault (sink_failed result) (K.faults out.old) (K.faults out.new) }
 {
@@ -68,7 +69,8 @@ fn step<H: HostNet, K: Sink>(
     ensures open { ForSome (H.contents host.new) (IsOpen id) }
     ensures sending { IsSending id bytes.now sending.new (H.contents host.new) }
     ensures goes_on { GoesOn sending.old sending.new }
-    ensures steps { Steps id bytes.now sending.old sending.new (H.contents host.old) (H.contents host.new) (K.contents out.old) (K.contents out.new) result }
+    ensures steps { Steps id bytes.now sending.old sending.new
+        (H.contents host.old) (H.contents host.new) (K.contents out.old) (K.contents out.new) result }
     ensures host_faults { CountsFault (host_failed result) (H.faults host.old) (H.faults host.new) }
     ensures sink_faults { CountsFault (sink_failed result) (K.faults out.old) (K.faults out.new) }
 {

@@ -43,7 +43,8 @@ impl Sending {
         ensures open { ForSome (H.contents host.new) (IsOpen id) }
         ensures sending { IsSending id bytes.now self.new (H.contents host.new) }
         ensures goes_on { GoesOn self.old self.new }
-        ensures passes { Relates (H.contents host.old) (H.contents host.new) (Moves id (between self.old self.new bytes.now) [] (shuts self.old.side self.new.side)) }
+        ensures passes { Relates (H.contents host.old) (H.contents host.new)
+            (Moves id (between self.old self.new bytes.now) [] (shuts self.old.side self.new.side)) }
         ensures sends { Sends id bytes.now self.new (H.contents host.new) result }
         ensures faults { CountsFault (host_failed result) (H.faults host.old) (H.faults host.new) }
     {

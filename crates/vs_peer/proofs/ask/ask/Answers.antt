@@ -14,7 +14,8 @@ loop-preserved-in-Took g c =
     let a = c.loop.at in
     let n = c.in-Took.n in
     let rest = take (length xs - a) (drop a xs) in
-    let one = exposed_relates _ _ (Moves id (take n rest) [] false) _ _ c.in-Took.ensures.exact (λ h is p. wrote id rest (write.Took n) h) in
+    let one = exposed_relates _ _ (Moves id (take n rest) [] false) _ _ c.in-Took.ensures.exact (λ h is p. wrote id rest
+    (write.Took n) h) in
     let joined : take a xs ++ take n rest ≡ take (a + n) xs = ap (λ ys. take a xs ++ take n ys) (take_rest xs a) ∙ sym (take-add a n xs) in
     let both = relates_then id (take a xs) (take n rest) [] [] false false _ _ _ c.loop.invariant.passes one in
     record {

@@ -11,4 +11,7 @@ returns-then-len-gt-SOURCE_MAX g c =
 pub returns : goal.returns
 returns g c =
     let fits : length c.in-Ok.bytes.items ≤ SOURCE_MAX = search rules in
-    record { ends = Met c.in-Ok.bytes.items c.in-Ok.ensures.bytes fits c.in-Ok.ensures.faults (rw (← c.deref.ensures.value) c.converse_to_end.ensures.meets) }
+    record {
+      ends = Met c.in-Ok.bytes.items c.in-Ok.ensures.bytes fits c.in-Ok.ensures.faults (rw
+          (← c.deref.ensures.value) c.converse_to_end.ensures.meets);
+    }

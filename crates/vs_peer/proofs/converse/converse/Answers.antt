@@ -23,7 +23,8 @@ returns-in_err-give_port-clause-converses g c =
     let out = g.K.Sink.contents c.args.out.now in
     let out' = g.K.Sink.contents c.give_port.new.out in
     let P : Result (Unit {0}) Stop → Type 0 = λ r. Converses c.args.base.now c.args.port c.args.bytes.now host after out out' r in
-    subst P (sym is) (port_fails c.args.base.now c.args.port c.in_ok-opened.opened.id c.in_ok-opened.opened.host_port c.args.bytes.now host after out out' e
+    subst P (sym is) (port_fails c.args.base.now c.args.port c.in_ok-opened.opened.id c.in_ok-opened.opened.host_port c.args.bytes.now
+    host after out out' e
     c.in_ok-opened.ensures.opens c.in_err-give_port.ensures.gives)
 
 pub returns-clause-converses : goal.returns-clause-converses
@@ -34,5 +35,6 @@ returns-clause-converses g c =
     let out = g.K.Sink.contents c.args.out.now in
     let out' = g.K.Sink.contents c.give_port.new.out in
     let out'' = g.K.Sink.contents c.exchange.new.out in
-    exchange_ends c.args.base.now c.args.port c.in_ok-opened.opened.id c.in_ok-opened.opened.host_port c.args.bytes.now host mid after out out' out''
+    exchange_ends c.args.base.now c.args.port c.in_ok-opened.opened.id c.in_ok-opened.opened.host_port c.args.bytes.now host mid after
+    out out' out''
     c.in_ok-opened.ensures.opens c.in_ok-give_port.ensures.gives c.exchange.result c.exchange.ensures.exchanges

@@ -26,7 +26,8 @@ returns-in_err-ask-clause-opens g c =
     let text : c.as_bytes.result.now ≡ connect_text c.args.port = c.as_bytes.ensures ∙ c.connect_line.ensures.bytes in
     let Q : List ℕ → Type 0 = λ line. Asks c.in_ok-id.id line mid after (Err e) in
     let P : Result Opened Stop → Type 0 = λ r. Opens c.args.base.now c.args.port host after r in
-    subst P (sym is) (ask_fails c.args.base.now c.args.port host c.in_ok-id.id mid after c.in_ok-id.ensures.dials e (subst Q text c.in_err-ask.ensures.asks))
+    subst P (sym is) (ask_fails c.args.base.now c.args.port host c.in_ok-id.id mid after c.in_ok-id.ensures.dials e
+    (subst Q text c.in_err-ask.ensures.asks))
 
 pub returns-in_err-host_port-clause-opens : goal.returns-in_err-host_port-clause-opens
 returns-in_err-host_port-clause-opens g c =
@@ -39,7 +40,8 @@ returns-in_err-host_port-clause-opens g c =
     let text : c.as_bytes.result.now ≡ connect_text c.args.port = c.as_bytes.ensures ∙ c.connect_line.ensures.bytes in
     let Q : List ℕ → Type 0 = λ line. Asks c.in_ok-id.id line dialed mid (Ok tt) in
     let P : Result Opened Stop → Type 0 = λ r. Opens c.args.base.now c.args.port host after r in
-    let whole = asked_whole c.args.base.now c.args.port host c.in_ok-id.id dialed mid c.in_ok-id.ensures.dials (subst Q text c.in_ok-ask.ensures.asks) in
+    let whole = asked_whole c.args.base.now c.args.port host c.in_ok-id.id dialed mid c.in_ok-id.ensures.dials
+    (subst Q text c.in_ok-ask.ensures.asks) in
     subst P (sym is) (answer_fails c.args.base.now c.args.port host c.in_ok-id.id mid after whole e c.in_err-host_port.ensures.answers)
 
 pub returns-clause-opens : goal.returns-clause-opens
@@ -50,5 +52,6 @@ returns-clause-opens g c =
     let after = g.H.HostNet.contents c.answer.new.host in
     let text : c.as_bytes.result.now ≡ connect_text c.args.port = c.as_bytes.ensures ∙ c.connect_line.ensures.bytes in
     let Q : List ℕ → Type 0 = λ line. Asks c.in_ok-id.id line dialed mid (Ok tt) in
-    let whole = asked_whole c.args.base.now c.args.port host c.in_ok-id.id dialed mid c.in_ok-id.ensures.dials (subst Q text c.in_ok-ask.ensures.asks) in
+    let whole = asked_whole c.args.base.now c.args.port host c.in_ok-id.id dialed mid c.in_ok-id.ensures.dials
+    (subst Q text c.in_ok-ask.ensures.asks) in
     answered c.args.base.now c.args.port host c.in_ok-id.id mid after whole c.in_ok-host_port.host_port c.in_ok-host_port.ensures.answers

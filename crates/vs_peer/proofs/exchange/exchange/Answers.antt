@@ -23,7 +23,8 @@ returns-in_err-step-clause-exchanges g c =
     let out' = g.K.Sink.contents c.loop.out in
     let out'' = g.K.Sink.contents c.step.new.out in
     let P : Result (Unit {0}) Stop → Type 0 = λ r. Exchanges c.args.id c.args.bytes.now host after out out'' r in
-    subst P (sym is) (fails c.args.id c.args.bytes.now c.loop.sending c.step.new.sending host mid after out out' out'' c.loop.invariant.exchanged e
+    subst P (sym is) (fails c.args.id c.args.bytes.now c.loop.sending c.step.new.sending host mid after out out' out''
+    c.loop.invariant.exchanged e
     c.step.ensures.goes_on c.step.ensures.sending c.in_err-step.ensures.steps)
 
 pub returns-in-Done-clause-exchanges : goal.returns-in-Done-clause-exchanges
@@ -35,7 +36,8 @@ returns-in-Done-clause-exchanges g c =
     let out' = g.K.Sink.contents c.loop.out in
     let out'' = g.K.Sink.contents c.step.new.out in
     done c.args.id c.args.bytes.now c.step.new.sending host after out out'' c.in_ok-step.field-0 c.in-Done.is
-    (goes_on c.args.id c.args.bytes.now c.loop.sending c.step.new.sending host mid after out out' out'' c.loop.invariant.exchanged c.step.ensures.goes_on
+    (goes_on c.args.id c.args.bytes.now c.loop.sending c.step.new.sending host mid after out out' out'' c.loop.invariant.exchanged
+    c.step.ensures.goes_on
     c.step.ensures.sending c.in_ok-step.ensures.steps.0)
     c.in_ok-step.ensures.steps.1
 
@@ -49,7 +51,8 @@ loop-preserved-in-Moved g c =
     let out'' = g.K.Sink.contents c.step.new.out in
     record {
       was = c.step.ensures.open;
-      exchanged = goes_on c.args.id c.args.bytes.now c.loop.sending c.step.new.sending host mid after out out' out'' c.loop.invariant.exchanged c.step.ensures.goes_on
+      exchanged = goes_on c.args.id c.args.bytes.now c.loop.sending c.step.new.sending host mid after out out' out''
+          c.loop.invariant.exchanged c.step.ensures.goes_on
           c.step.ensures.sending c.in_ok-step.ensures.steps.0;
       host_faults = c.in_ok-step.ensures.host_faults ∙ c.loop.invariant.host_faults;
       sink_faults = c.in_ok-step.ensures.sink_faults ∙ c.loop.invariant.sink_faults;
@@ -65,7 +68,8 @@ loop-preserved g c =
     let out'' = g.K.Sink.contents c.step.new.out in
     record {
       was = c.step.ensures.open;
-      exchanged = goes_on c.args.id c.args.bytes.now c.loop.sending c.step.new.sending host mid after out out' out'' c.loop.invariant.exchanged c.step.ensures.goes_on
+      exchanged = goes_on c.args.id c.args.bytes.now c.loop.sending c.step.new.sending host mid after out out' out''
+          c.loop.invariant.exchanged c.step.ensures.goes_on
           c.step.ensures.sending c.in_ok-step.ensures.steps.0;
       host_faults = c.in_ok-step.ensures.host_faults ∙ c.loop.invariant.host_faults;
       sink_faults = c.in_ok-step.ensures.sink_faults ∙ c.loop.invariant.sink_faults;
@@ -82,7 +86,9 @@ returns-in_err-waited-in-Still-clause-exchanges g c =
     let out' = g.K.Sink.contents c.loop.out in
     let out'' = g.K.Sink.contents c.step.new.out in
     let P : Result (Unit {0}) Stop → Type 0 = λ r. Exchanges c.args.id c.args.bytes.now host after out out'' r in
-    subst P (sym is) (waits c.args.id c.args.bytes.now c.step.new.sending host after out out'' e (c.one_more.ensures.stops e c.in_err-waited-in-Still.was) c.in_ok-step.field-0 c.in-Still.is
-    (goes_on c.args.id c.args.bytes.now c.loop.sending c.step.new.sending host mid after out out' out'' c.loop.invariant.exchanged c.step.ensures.goes_on
+    subst P (sym is) (waits c.args.id c.args.bytes.now c.step.new.sending host after out out'' e
+    (c.one_more.ensures.stops e c.in_err-waited-in-Still.was) c.in_ok-step.field-0 c.in-Still.is
+    (goes_on c.args.id c.args.bytes.now c.loop.sending c.step.new.sending host mid after out out' out'' c.loop.invariant.exchanged
+    c.step.ensures.goes_on
     c.step.ensures.sending c.in_ok-step.ensures.steps.0)
     c.in_ok-step.ensures.steps.1)

@@ -8,7 +8,8 @@ use Rattle.vs_peer.proofs.exchange.exchange.Given as goal
 abbrev pub invariant-loop : goal.invariant-loop
 invariant-loop g l = record {
   was : ForSome (g.H.HostNet.contents l.host) (IsOpen l.id);
-  exchanged : Exchanged l.id l.bytes l.sending (g.H.HostNet.contents l.fn.host) (g.H.HostNet.contents l.host) (g.K.Sink.contents l.fn.out) (g.K.Sink.contents l.out);
+  exchanged : Exchanged l.id l.bytes l.sending (g.H.HostNet.contents l.fn.host) (g.H.HostNet.contents l.host)
+      (g.K.Sink.contents l.fn.out) (g.K.Sink.contents l.out);
   host_faults : g.H.HostNet.faults l.host ≡ g.H.HostNet.faults l.fn.host;
   sink_faults : g.K.Sink.faults l.out ≡ g.K.Sink.faults l.fn.out;
 }

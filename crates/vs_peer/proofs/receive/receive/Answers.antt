@@ -9,5 +9,6 @@ pub returns-in-Got-clause-receives : goal.returns-in-Got-clause-receives
 returns-in-Got-clause-receives g c =
     let bytes = take c.in-Got.n c.read.new.out in
     received c.args.id _ _ _ _ bytes c.give.result
-    (exposed_relates _ _ (Moves c.args.id [] bytes false) _ _ c.in-Got.ensures.exact (λ h is p. reads c.args.id (read.Got c.in-Got.n) c.read.new.out h p.1))
+    (exposed_relates _ _ (Moves c.args.id [] bytes false) _ _ c.in-Got.ensures.exact (λ h is p. reads c.args.id
+    (read.Got c.in-Got.n) c.read.new.out h p.1))
     c.give.ensures.gives

@@ -18,7 +18,8 @@ returns-in-Took-clause-passes g c =
     let few : n ≤ m = omega (arith, c.in-Took.ensures.some.0, length_take_le rest m) in
     let same : take n (take m rest) ≡ drop a (take (a + n) xs) = ap (λ ys. take n (take m ys)) (take_rest xs a) ∙ piece_of xs a n m few in
     exposed_relates _ _ (Moves id (drop a (take (a + n) xs)) [] false) _ _ c.in-Took.ensures.exact
-    (λ h is p. subst (λ (ys : List ℕ). Moves id ys [] false h (after_write id (take m rest) (write.Took n) h)) same (wrote id (take m rest) (write.Took n) h))
+    (λ h is p. subst (λ (ys : List ℕ). Moves id ys [] false h (after_write id (take m rest) (write.Took n) h)) same (wrote id
+    (take m rest) (write.Took n) h))
 
 pub returns-in-Took-clause-open : goal.returns-in-Took-clause-open
 returns-in-Took-clause-open g c = moves_open c.args.id _ [] false _ _ (returns-in-Took-clause-passes g c) c.requires.open
