@@ -1,7 +1,7 @@
 -- Each call of the guest's, whole, is a list of events.
-use Rattle.std.proofs.Common.{◌≡◌, ℕ, zero, suc, ◌+◌, ◌-◌, ◌==◌, ◌&&◌, nat_le, nat_lt, Bool, true, false, cond, List, [], ◌∷◌, ◌++◌, length, Option, Some, None, refl, sym, ap, subst, ◌∙◌, arith}
-use Rattle.vs_contents.specs.CallTree.{Done, Ask, bind, for_each, played, while_up_to}
-use Rattle.vs_ring_port.specs.DriverCalls.{driver_answer, Reap, Stage, Publish}
+use Rattle.std.proofs.Common.{◌≡◌, ℕ, zero, suc, ◌==◌, ◌&&◌, Bool, true, false, cond, List, [], ◌∷◌, ◌++◌, length, Option, Some, None, refl, sym, ap, subst, ◌∙◌}
+use Rattle.vs_contents.specs.CallTree.{Done, Ask, bind, played, while_up_to}
+use Rattle.vs_ring_port.specs.DriverCalls.{driver_answer, Reap}
 use Rattle.vs_ring_port.specs.EndLog.{EndLog, Pages}
 use Rattle.vs_ring_port.specs.Lists.{Rings, oldest}
 use Rattle.vs_ring_port.specs.declared.queue.Queue.TheVariants as q
@@ -24,7 +24,7 @@ use Rattle.vs_world.specs.Events.{call_made}
 use Rattle.vs_world.specs.Events.{Event, GuestCalls, GuestTakes, driver_step, happens, is_at_rest, none_staged, run, where_possible, works_on}
 use Rattle.vs_world.specs.GuestSteps.{takes_page}
 use Rattle.vs_world.specs.Steps.{Leads}
-use Rattle.vs_world.specs.World.{World, driver_plays}
+use Rattle.vs_world.specs.World.{World}
 
 run_append : (xs ys : List Event) (w : World) → run (xs ++ ys) w ≡ run ys (run xs w)
 run_append [] ys w = refl
@@ -97,16 +97,16 @@ reap_leads w rest = (
     only false = come (oldest w.rings.lists.tx.back)
 
 -- All of them.
-record Reaps (w : World) (s : DriverState) (r : Rings × EndLog) : Type 0 where
-  leads : Leads w (with_driver s r w)
-  staged : r.1.staged ≡ w.rings.driver.staged
-  only : s ≡ record w.driver { in_flight = s.in_flight }
+pub record Reaps (w : World) (s : DriverState) (r : Rings × EndLog) : Type 0 where
+  pub leads : Leads w (with_driver s r w)
+  pub staged : r.1.staged ≡ w.rings.driver.staged
+  pub only : s ≡ record w.driver { in_flight = s.in_flight }
 
 two_only : (s t u : DriverState) → t ≡ record s { in_flight = t.in_flight } → u ≡ record t { in_flight = u.in_flight }
     → u ≡ record s { in_flight = u.in_flight }
 two_only s t u first then_ = then_ ∙ ap (λ (x : DriverState). record x { in_flight = u.in_flight }) first
 
-reaps_all : (n : ℕ) (w : World) → is_at_rest w.rings.driver.staged ≡ true
+pub reaps_all : (n : ℕ) (w : World) → is_at_rest w.rings.driver.staged ≡ true
     → (let r = played driver_answer (while_up_to n reap_one w.driver) (w.rings.lists, w.rings.driver) in Reaps w r.0 r.1)
 reaps_all zero w rest = record { leads = leads_none w _ refl; staged = refl; only = refl }
 reaps_all (suc n) w rest =

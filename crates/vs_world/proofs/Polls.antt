@@ -1,5 +1,5 @@
 -- A poll of the driver's is a list of events.
-use Rattle.std.proofs.Common.{◌≡◌, ℕ, zero, suc, ◌+◌, ◌-◌, ◌==◌, ◌&&◌, nat_le, nat_lt, Bool, true, false, cond, List, [], ◌∷◌, ◌++◌, length, Option, Some, None, refl, sym, ap, subst, ◌∙◌, arith}
+use Rattle.std.proofs.Common.{◌≡◌, ℕ, zero, suc, ◌+◌, ◌==◌, ◌&&◌, nat_le, nat_lt, Bool, true, false, cond, List, [], ◌∷◌, length, Option, Some, None, refl, sym, ap, subst, ◌∙◌}
 use Rattle.vs_contents.specs.CallTree.{Done, Ask, bind, for_each, played, while_up_to}
 use Rattle.vs_conn.specs.End.{owes_of}
 use Rattle.vs_conn.specs.declared.end.Owed.{Owed}
@@ -11,17 +11,19 @@ use Rattle.vs_ring_port.specs.Lists.{Rings, after_reap, oldest}
 use Rattle.vs_ring_port.specs.declared.queue.Queue.{Queue}
 use Rattle.vs_ring_port.specs.declared.queue.Queue.TheVariants as q
 use Rattle.vs_header.specs.Packet.{header_bytes}
-use Rattle.vs_driver_parts.specs.Conversations.{after_paying, has_page, one_more_in_flight, one_put, owed_bytes, put_owed_of, put_reply_of, reply_header, stage_packet}
+use Rattle.vs_conn.specs.declared.end.TheConstants.{OWED_MAX}
+use Rattle.vs_driver.specs.Conversations.{all_taken, pay_all, pay_and_publish, pay_slot, poll_of, poll_packets, poll_puts, poll_reaps, polled, publish_and_pay, put_all, put_replies, reap_all, take_all}
+use Rattle.vs_driver.specs.Conversations.{after_paying, has_page, one_more_in_flight, one_put, owed_bytes, put_owed_of, put_reply_of, reply_header, stage_packet}
 use Rattle.vs_ring_port.specs.EndLog.{with_pages}
-use Rattle.vs_driver_parts.specs.Conversations.{DriverTree, Round, after_stage, event_reaped, event_taken, goes_on_with, packet_reaped, publish_of, published, put_owed, put_reply, stage_of, staged_again, start, take_event, take_packet, with_state}
-use Rattle.vs_driver_parts.specs.Receiving.{is_reset_event, on_page}
-use Rattle.vs_driver_parts.specs.State.{DriverEntry, DriverState}
-use Rattle.vs_driver_parts.specs.declared.limits.TheConstants.{REPLIES_FULL}
-use Rattle.vs_world.specs.Events.{Event, GuestPays, GuestPublishes, GuestReplies, GuestStages, GuestTakes, driver_step, happens, none_staged, run, works_on}
+use Rattle.vs_driver.specs.Conversations.{DriverTree, Round, event_reaped, goes_on_with, packet_reaped, publish_of, published, put_owed, put_reply, stage_of, staged_again, start, take_event, take_packet}
+use Rattle.vs_driver.specs.Receiving.{after_reset, is_reset_event, on_page}
+use Rattle.vs_driver.specs.State.{DriverEntry, DriverState}
+use Rattle.vs_driver.specs.declared.limits.TheConstants.{REPLIES_FULL}
+use Rattle.vs_world.specs.Events.{Event, GuestPays, GuestPublishes, GuestReplies, GuestStages, GuestTakes, driver_step, happens, is_at_rest, none_staged, works_on}
 use Rattle.vs_world.specs.GuestSteps.{event_came, packet_came, stages_owed, stages_page, stages_reply, takes_page}
 use Rattle.vs_world.specs.Steps.{Leads}
 use Rattle.vs_world.specs.World.{World}
-use Rattle.vs_world.proofs.GuestLines.{leads_none, leads_one, leads_then, played_bind, possible_is, with_driver}
+use Rattle.vs_world.proofs.GuestLines.{leads_none, leads_one, leads_then, played_bind, possible_is, reaps_all, with_driver}
 
 -- Events lead to this driver and these rings, and only that queue is worked on.
 pub record Does (queue : Queue) (w : World) (s : DriverState) (r : Rings × EndLog) : Type 0 where
@@ -178,3 +180,189 @@ stages_does queue w works =
     still_works q.Rx works = rx_by (w.driver.staged + 1 == 16) works
     still_works q.Tx works = works
     still_works q.Event works = event_by (w.driver.staged + 1 == 16) works
+
+-- A page that was taken is staged again.
+again_rx : (w : World) (count : ℕ) (reset : Bool) → works_on q.Rx w.rings.driver.staged ≡ true
+    → let r = plays (staged_again q.Rx (round w.driver count reset)) w in Does q.Rx w r.0.0.state r.1
+again_rx w count reset works =
+    let one = stages_does q.Rx w works in
+    does_then q.Rx w (stage_of q.Rx [] w.driver) (goes_on_with (round w.driver count reset)) (λ r. r.0.state) (λ s. s) one (does_nothing q.Rx _ one.works)
+
+again_event : (w : World) (count : ℕ) (reset : Bool) → works_on q.Event w.rings.driver.staged ≡ true
+    → let r = plays (staged_again q.Event (round w.driver count reset)) w in Does q.Event w r.0.0.state r.1
+again_event w count reset works =
+    let one = stages_does q.Event w works in
+    does_then q.Event w (stage_of q.Event [] w.driver) (goes_on_with (round w.driver count reset)) (λ r. r.0.state) (λ s. s) one
+    (does_nothing q.Event _ one.works)
+
+takes_leads : (queue : Queue) (w : World) → works_on queue w.rings.driver.staged ≡ true → Leads w (driver_step (takes_page queue) w)
+takes_leads queue w works =
+    leads_one (GuestTakes queue) w _ (possible_is (works_on queue w.rings.driver.staged) (driver_step (takes_page queue)) w works)
+
+-- One packet.
+packet_does : StepDoes q.Rx take_packet
+packet_does w count reset works = by (nat_le REPLIES_FULL (length w.driver.replies)) (takes_leads q.Rx w works)
+  where
+    came : (o : Option (List ℕ)) → Leads w (with_driver (packet_came o w.driver) (after_reap q.Rx w.rings.lists, log_reaped q.Rx o w.rings.driver) w)
+        → (let r = played driver_answer (packet_reaped (round w.driver count reset) o) (after_reap q.Rx w.rings.lists, log_reaped q.Rx o w.rings.driver) in
+        Does q.Rx w r.0.0.state r.1)
+    came None leads = record { leads = leads; works = works }
+    came (Some page) leads =
+        let v = with_driver (on_page page w.driver) (after_reap q.Rx w.rings.lists, log_reaped q.Rx (Some page) w.rings.driver) w in
+        let again = again_rx v (count + 1) reset works in
+        record { leads = leads_then w v _ leads again.leads; works = again.works }
+
+    by : (b : Bool) → (let x = plays (cond b (Done w.driver) (Ask (Reap q.Rx) (λ page. Done (packet_came page w.driver)))) w in Leads w (with_driver x.0 x.1 w))
+        → (let r = plays (cond b (Done (round w.driver count reset, false)) (Ask (Reap q.Rx) (packet_reaped (round w.driver count reset)))) w in
+        Does q.Rx w r.0.0.state r.1)
+    by true leads = does_nothing q.Rx w works
+    by false leads = came (oldest w.rings.lists.rx.back) leads
+
+-- One event.
+event_does : StepDoes q.Event take_event
+event_does w count reset works = by (nat_lt REPLIES_FULL (length w.driver.replies)) (takes_leads q.Event w works)
+  where
+    taken : (page : List ℕ) (b : Bool)
+        → (let s : Rings × EndLog = (after_reap q.Event w.rings.lists, log_reaped q.Event (Some page) w.rings.driver) in
+        let x = played driver_answer (bind (cond b (Ask LoadCid (λ cid. Done (record (start w.driver) { state = after_reset cid w.driver; count = 1; reset = true })))
+        (Done (record (start w.driver) { count = 1 }))) (λ (r : Round). Done r.state)) s in Leads w (with_driver x.0 x.1 w))
+        → (let s : Rings × EndLog = (after_reap q.Event w.rings.lists, log_reaped q.Event (Some page) w.rings.driver) in
+        let r = played driver_answer (bind (cond b
+        (Ask LoadCid (λ cid. Done (record (round w.driver count reset) { state = after_reset cid w.driver; count = count + 1; reset = true })))
+        (Done (record (round w.driver count reset) { count = count + 1 }))) (staged_again q.Event)) s in Does q.Event w r.0.0.state r.1)
+    taken page true leads =
+        let again = again_event _ (count + 1) true works in record { leads = leads_then w _ _ leads again.leads; works = again.works }
+    taken page false leads =
+        let again = again_event _ (count + 1) reset works in record { leads = leads_then w _ _ leads again.leads; works = again.works }
+
+    came : (o : Option (List ℕ)) → (let x = played driver_answer (event_came o w.driver) (after_reap q.Event w.rings.lists, log_reaped q.Event o w.rings.driver) in
+        Leads w (with_driver x.0 x.1 w))
+        → (let r = played driver_answer (event_reaped (round w.driver count reset) o) (after_reap q.Event w.rings.lists, log_reaped q.Event o w.rings.driver) in
+        Does q.Event w r.0.0.state r.1)
+    came None leads = record { leads = leads; works = works }
+    came (Some page) leads = taken page (is_reset_event page) leads
+
+    by : (b : Bool) → (let x = plays (cond b (Done w.driver) (Ask (Reap q.Event) (λ page. event_came page w.driver))) w in Leads w (with_driver x.0 x.1 w))
+        → (let r = plays (cond b (Done (round w.driver count reset, false)) (Ask (Reap q.Event) (event_reaped (round w.driver count reset)))) w in
+        Does q.Event w r.0.0.state r.1)
+    by true leads = does_nothing q.Event w works
+    by false leads = came (oldest w.rings.lists.event.back) leads
+
+-- Nothing is left staged.
+pub record Rests (w : World) (s : DriverState) (r : Rings × EndLog) : Type 0 where
+  pub leads : Leads w (with_driver s r w)
+  pub rest : is_at_rest r.1.staged ≡ true
+
+all_three : (a b c : Bool) → a ≡ true → b ≡ true → c ≡ true → (a && b && c) ≡ true
+all_three true true true x y z = refl
+all_three false b c x y z = absurd cc
+all_three true false c x y z = absurd cc
+all_three true true false x y z = absurd cc
+
+both_true : (a b : Bool) → (a && b) ≡ true → (a ≡ true) × (b ≡ true)
+both_true true b is = (refl, is)
+both_true false b is = absurd cc
+
+published_rests : (queue : Queue) (staged : Pages) → works_on queue staged ≡ true → is_at_rest (with_pages queue [] staged) ≡ true
+published_rests q.Rx staged works = let w = both_true (none_staged staged.tx) (none_staged staged.event) works in all_three _ _ _ refl w.0 w.1
+published_rests q.Tx staged works = let w = both_true (none_staged staged.rx) (none_staged staged.event) works in all_three _ _ _ w.0 refl w.1
+published_rests q.Event staged works = let w = both_true (none_staged staged.rx) (none_staged staged.tx) works in all_three _ _ _ w.0 w.1 refl
+
+rest_works : (queue : Queue) (staged : Pages) → is_at_rest staged ≡ true → works_on queue staged ≡ true
+rest_works queue staged rest = by queue (none_staged staged.rx) (none_staged staged.tx) (none_staged staged.event) refl refl refl rest
+  where
+    by : (queue : Queue) (a b c : Bool) → none_staged staged.rx ≡ a → none_staged staged.tx ≡ b → none_staged staged.event ≡ c → (a && b && c) ≡ true
+        → works_on queue staged ≡ true
+    by q.Rx true true true x y z is = rw (y, z) refl
+    by q.Tx true true true x y z is = rw (x, z) refl
+    by q.Event true true true x y z is = rw (x, y) refl
+    by queue false b c x y z is = absurd cc
+    by queue true false c x y z is = absurd cc
+    by queue true true false x y z is = absurd cc
+
+rests_then : {A B : Type 0} (w : World) (p : DriverTree A) (f : A → DriverTree B) (state_of : B → DriverState) (middle : A → DriverState)
+    → (let r = plays p w in Leads w (with_driver (middle r.0) r.1 w))
+    → (let r = plays p w in let v = with_driver (middle r.0) r.1 w in let x = plays (f r.0) v in Rests v (state_of x.0) x.1)
+    → (let r = plays (bind p f) w in Rests w (state_of r.0) r.1)
+rests_then w p f state_of middle first then_ =
+    subst (λ x. Rests w (state_of x.0) x.1) (sym (played_bind p f (w.rings.lists, w.rings.driver))) (record {
+      leads = leads_then w _ _ first then_.leads;
+      rest = then_.rest;
+    })
+
+-- A part of a poll ends by publishing.
+published_does : (queue : Queue) (w : World) (count : ℕ) (reset : Bool) → works_on queue w.rings.driver.staged ≡ true
+    → let r = plays (published queue (round w.driver count reset)) w in Rests w r.0.state r.1
+published_does queue w count reset works =
+    let one = publishes_does queue w works in
+    record { leads = one.leads; rest = published_rests queue w.rings.driver.staged works }
+
+take_all_does : (queue : Queue) (step : Round → DriverTree (Round × Bool)) → StepDoes queue step → (w : World)
+    → is_at_rest w.rings.driver.staged ≡ true → let r = plays (take_all queue step w.driver) w in Rests w r.0.state r.1
+take_all_does queue step does w rest =
+    let all = does_while queue step does w.driver.size w 0 false (rest_works queue w.rings.driver.staged rest) in
+    let r = plays (all_taken step w.driver) w in
+    rests_then w (all_taken step w.driver) (published queue) (λ r. r.state) (λ r. r.state) all.leads
+    (published_does queue (with_driver r.0.state r.1 w) r.0.count r.0.reset all.works)
+
+pay_does : (xs : List ℕ) (w : World) (count : ℕ) (reset : Bool) → works_on q.Tx w.rings.driver.staged ≡ true
+    → let r = plays (for_each pay_slot xs (round w.driver count reset)) w in Does q.Tx w r.0.state r.1
+pay_does [] w count reset works = does_nothing q.Tx w works
+pay_does (slot ∷ xs) w count reset works =
+    let one = does_while q.Tx (put_owed slot) (owed_does slot) OWED_MAX w count reset works in
+    let r = plays (pay_slot slot (round w.driver count reset)) w in
+    does_then q.Tx w (pay_slot slot (round w.driver count reset)) (for_each pay_slot xs) (λ r. r.state) (λ r. r.state) one
+    (pay_does xs (with_driver r.0.state r.1 w) r.0.count r.0.reset one.works)
+
+pay_and_publish_does : (w : World) (count : ℕ) (reset : Bool) → is_at_rest w.rings.driver.staged ≡ true
+    → let r = plays (pay_and_publish (round w.driver count reset)) w in Rests w r.0.state r.1
+pay_and_publish_does w count reset rest =
+    let all = pay_does (slots w.driver.table) w count reset (rest_works q.Tx w.rings.driver.staged rest) in
+    let r = plays (pay_all (round w.driver count reset)) w in
+    rests_then w (pay_all (round w.driver count reset)) (published q.Tx) (λ r. r.state) (λ r. r.state) all.leads
+    (published_does q.Tx (with_driver r.0.state r.1 w) r.0.count r.0.reset all.works)
+
+publish_and_pay_does : (w : World) (count : ℕ) (reset : Bool) → works_on q.Tx w.rings.driver.staged ≡ true
+    → let r = plays (publish_and_pay (round w.driver count reset)) w in Rests w r.0.state r.1
+publish_and_pay_does w count reset works =
+    let one = published_does q.Tx w count reset works in
+    let r = plays (published q.Tx (round w.driver count reset)) w in
+    rests_then w (published q.Tx (round w.driver count reset)) pay_and_publish (λ r. r.state) (λ r. r.state) one.leads
+    (pay_and_publish_does (with_driver r.0.state r.1 w) r.0.count r.0.reset one.rest)
+
+put_all_does : (w : World) → is_at_rest w.rings.driver.staged ≡ true → let r = plays (put_all w.driver) w in Rests w r.0.state r.1
+put_all_does w rest =
+    let all = does_while q.Tx put_reply reply_does (length w.driver.replies) w 0 false (rest_works q.Tx w.rings.driver.staged rest) in
+    let r = plays (put_replies w.driver) w in
+    rests_then w (put_replies w.driver) publish_and_pay (λ r. r.state) (λ r. r.state) all.leads
+    (publish_and_pay_does (with_driver r.0.state r.1 w) r.0.count r.0.reset all.works)
+
+puts_does : (took : ℕ) (reset : Bool) (w : World) → is_at_rest w.rings.driver.staged ≡ true
+    → let r = plays (poll_puts took reset w.driver) w in Rests w r.0.0 r.1
+puts_does took reset w rest =
+    let all = put_all_does w rest in
+    rests_then w (put_all w.driver) (polled took reset) (λ r. r.0) (λ r. r.state) all.leads
+    (record { leads = leads_none _ _ refl; rest = all.rest })
+
+reaps_does : (took : ℕ) (reset : Bool) (w : World) → is_at_rest w.rings.driver.staged ≡ true
+    → let r = plays (bind (reap_all w.driver) (poll_puts took reset)) w in Rests w r.0.0 r.1
+reaps_does took reset w rest =
+    let all = reaps_all w.driver.in_flight w rest in
+    let r = plays (reap_all w.driver) w in
+    rests_then w (reap_all w.driver) (poll_puts took reset) (λ r. r.0) (λ s. s) all.leads
+    (puts_does took reset (with_driver r.0 r.1 w) (ap is_at_rest all.staged ∙ rest))
+
+packets_does : (reset : Bool) (w : World) → is_at_rest w.rings.driver.staged ≡ true
+    → let r = plays (bind (take_all q.Rx take_packet w.driver) (poll_reaps reset)) w in Rests w r.0.0 r.1
+packets_does reset w rest =
+    let all = take_all_does q.Rx take_packet packet_does w rest in
+    let r = plays (take_all q.Rx take_packet w.driver) w in
+    rests_then w (take_all q.Rx take_packet w.driver) (poll_reaps reset) (λ r. r.0) (λ r. r.state) all.leads
+    (reaps_does r.0.count reset (with_driver r.0.state r.1 w) all.rest)
+
+pub poll_does : (w : World) → is_at_rest w.rings.driver.staged ≡ true → let r = plays (poll_of w.driver) w in Rests w r.0.0 r.1
+poll_does w rest =
+    let all = take_all_does q.Event take_event event_does w rest in
+    let r = plays (take_all q.Event take_event w.driver) w in
+    rests_then w (take_all q.Event take_event w.driver) poll_packets (λ r. r.0) (λ r. r.state) all.leads
+    (packets_does r.0.reset (with_driver r.0.state r.1 w) all.rest)

@@ -17,9 +17,9 @@ ghost use Rattle.vs_page.specs.Log.{Device, Driver, HasGotAll, IsNextPacket, Log
 ghost use Rattle.vs_page.specs.Open.{is_dropped, is_open};
 ghost use Rattle.vs_page.specs.declared.log.LogEntry.TheVariants.{Mark};
 ghost use Rattle.vs_world.specs.Calls.{GuestCall, is_right, sent_on};
-ghost use Rattle.vs_world.specs.Events.{Event, happens, is_at_rest, run};
+ghost use Rattle.vs_world.specs.Events.{Event, happens, is_at_rest, is_guest_cid, run};
 ghost use Rattle.vs_world.specs.Laws.{IsQueued};
-ghost use Rattle.vs_world.specs.Plays.{guest_line};
+ghost use Rattle.vs_world.specs.Plays.{guest_line, poll_line, reset_line};
 ghost use Rattle.vs_world.specs.Steps.{Leads};
 ghost use Rattle.vs_world.specs.Sides.{Runs, both_of};
 ghost use Rattle.vs_world.specs.World.{World, first_cid, opening};
@@ -109,7 +109,15 @@ pub fn law_of_sending()
 {}
 
 /// Each call of the guest's, whole, is a list of events, with that reply in the journal: a connect and a send take back the pages that the
-/// device returned, one by one, before they need one.
+/// device returned, one by one, before they need one. So is a poll, after which nothing is staged.
 pub fn law_of_guest_calls()
-    ensures { (call : GuestCall) (w : World) → is_at_rest w.rings.driver.staged ≡ true → is_right call ≡ true → Leads w (guest_line call w).0 }
+    ensures call { (call : GuestCall) (w : World) → is_at_rest w.rings.driver.staged ≡ true → is_right call ≡ true
+        → Leads w (guest_line call w).0 }
+    ensures poll { (w : World) → is_at_rest w.rings.driver.staged ≡ true → Leads w (poll_line w).0 }
+    ensures polled { (w : World) → is_at_rest w.rings.driver.staged ≡ true → is_at_rest (poll_line w).0.rings.driver.staged ≡ true }
+{}
+
+/// A transport reset that the proxy makes is an event.
+pub fn law_of_resets()
+    ensures { (cid : ℕ) (w : World) → is_guest_cid cid ≡ true → Leads w (reset_line cid w).0 }
 {}

@@ -1,4 +1,4 @@
-use Rattle.std.proofs.Common.{ℕ, arith}
+use Rattle.std.proofs.Common.{arith}
 use Rattle.vs_world.proofs.Opening.{run_well}
 use Rattle.vs_world.proofs.laws.law_of_credit.Goals as goal
 
