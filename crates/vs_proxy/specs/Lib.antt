@@ -2,3 +2,4 @@ pub mod State
 pub mod Handshakes
 pub mod Turns
 pub mod HandshakeFields
+pub mod Turning

@@ -4,6 +4,11 @@
 pub mod answers;
 mod handshake;
 mod handshakes;
+mod host_calls;
 pub mod limits;
+mod proxy;
+mod shaking;
+mod tally;
 
 pub use answers::{Turn, Turned};
+pub use proxy::Proxy;

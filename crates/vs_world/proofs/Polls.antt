@@ -12,13 +12,13 @@ use Rattle.vs_ring_port.specs.declared.queue.Queue.{Queue}
 use Rattle.vs_ring_port.specs.declared.queue.Queue.TheVariants as q
 use Rattle.vs_header.specs.Packet.{header_bytes}
 use Rattle.vs_conn.specs.declared.end.TheConstants.{OWED_MAX}
-use Rattle.vs_driver.specs.Conversations.{all_taken, pay_all, pay_and_publish, pay_slot, poll_of, poll_packets, poll_puts, poll_reaps, polled, publish_and_pay, put_all, put_replies, reap_all, take_all}
-use Rattle.vs_driver.specs.Conversations.{after_paying, has_page, one_more_in_flight, one_put, owed_bytes, put_owed_of, put_reply_of, reply_header, stage_packet}
+use Rattle.vs_driver_parts.specs.Conversations.{all_taken, pay_all, pay_and_publish, pay_slot, poll_of, poll_packets, poll_puts, poll_reaps, polled, publish_and_pay, put_all, put_replies, reap_all, take_all}
+use Rattle.vs_driver_parts.specs.Conversations.{after_paying, has_page, one_more_in_flight, one_put, owed_bytes, put_owed_of, put_reply_of, reply_header, stage_packet}
 use Rattle.vs_ring_port.specs.EndLog.{with_pages}
-use Rattle.vs_driver.specs.Conversations.{DriverTree, Round, event_reaped, goes_on_with, packet_reaped, publish_of, published, put_owed, put_reply, stage_of, staged_again, start, take_event, take_packet}
-use Rattle.vs_driver.specs.Receiving.{after_reset, is_reset_event, on_page}
-use Rattle.vs_driver.specs.State.{DriverEntry, DriverState}
-use Rattle.vs_driver.specs.declared.limits.TheConstants.{REPLIES_FULL}
+use Rattle.vs_driver_parts.specs.Conversations.{DriverTree, Round, event_reaped, goes_on_with, packet_reaped, publish_of, published, put_owed, put_reply, stage_of, staged_again, start, take_event, take_packet}
+use Rattle.vs_driver_parts.specs.Receiving.{after_reset, is_reset_event, on_page}
+use Rattle.vs_driver_parts.specs.State.{DriverEntry, DriverState}
+use Rattle.vs_driver_parts.specs.declared.limits.TheConstants.{REPLIES_FULL}
 use Rattle.vs_world.specs.Events.{Event, GuestPays, GuestPublishes, GuestReplies, GuestStages, GuestTakes, driver_step, happens, is_at_rest, none_staged, works_on}
 use Rattle.vs_world.specs.GuestSteps.{event_came, packet_came, stages_owed, stages_page, stages_reply, takes_page}
 use Rattle.vs_world.specs.Steps.{Leads}

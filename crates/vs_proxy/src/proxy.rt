@@ -1,0 +1,56 @@
+//! The proxy: the device, the handshakes of the host's clients, and the host ports that it gives.
+
+ghost use Rattle.std.specs.Prelude.{◌≡◌, ◌≤◌, IfOk, length};
+ghost use Rattle.vs_uds.specs.declared.path.TheConstants.{BASE_MAX};
+ghost use Rattle.vs_device.specs.Turns.{counters_of};
+ghost use Rattle.vs_proxy.specs.Turns.{new_proxy};
+
+use crate::handshakes::Handshakes;
+use std::alloc::{AllocError, Global};
+use std::marker::Model;
+use vs_device::{Counters, Device};
+use vs_flow::ASSIGNED_FIRST;
+
+/// A proxy between the guest's socket device and the host's sockets (Firecracker's vsock documentation). The ring and the host are lent to
+/// each call that needs them, and must be those of the proxy's earlier calls. All memory is taken when the proxy is made.
+#[derive(Drop)]
+pub struct Proxy {
+    pub(crate) device: Device,
+    pub(crate) handshakes: Handshakes,
+    pub(crate) next_port: u32,
+}
+
+impl Model for Proxy {
+    ghost use Rattle.std.specs.Prelude.{◌≤◌, ◌+◌};
+    ghost use Rattle.vs_flow.specs.declared.flow.TheConstants.{ASSIGNED_LAST};
+    ghost use Rattle.vs_proxy.specs.State.{ProxyState};
+
+    ghost Value = { ProxyState };
+
+    ghost view = { λ p. record { device = p.device; handshakes = p.handshakes; next_port = p.next_port } };
+
+    ghost invariant = { λ p. p.next_port ≤ ASSIGNED_LAST + 1 };
+}
+
+impl Proxy {
+    /// A proxy without connections and handshakes, for the guest with a CID from 3 to 4,294,967,294. The base path is that of the host's
+    /// sockets, and has 1 to 90 bytes. All its memory is taken here. The only error is want of memory.
+    pub fn new(alloc: Global, cid: u64, base: &str) -> Result<Proxy, AllocError>
+        requires cid { (3 ≤ cid) × (cid ≤ 4294967294) }
+        requires base { (1 ≤ length base.now) × (length base.now ≤ BASE_MAX) }
+        ensures { IfOk result (λ proxy. proxy ≡ new_proxy cid base.now) }
+    {
+        Ok(Proxy {
+            device: Device::new(alloc, cid, base)?,
+            handshakes: Handshakes::new(alloc)?,
+            next_port: ASSIGNED_FIRST,
+        })
+    }
+
+    /// What the device counted since the proxy was made. A count stands still at the last value of its type.
+    pub fn counters(&self) -> Counters
+        ensures { result ≡ counters_of self.now.device }
+    {
+        self.device.counters()
+    }
+}
