@@ -22,5 +22,6 @@ pub mod Rings
 pub mod Sound
 pub mod Opening
 pub mod Payloads
+pub mod Receives
 pub mod GuestLines
 pub mod Polls
