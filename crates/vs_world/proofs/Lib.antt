@@ -23,5 +23,6 @@ pub mod Sound
 pub mod Opening
 pub mod Payloads
 pub mod Receives
+pub mod Streams
 pub mod GuestLines
 pub mod Polls
