@@ -10,3 +10,4 @@ pub mod HostCalls
 pub mod Hands
 pub mod Opens
 pub mod Gives
+pub mod Cids
