@@ -24,5 +24,7 @@ pub mod Opening
 pub mod Payloads
 pub mod Receives
 pub mod Streams
+pub mod Bytes
+pub mod Growing
 pub mod GuestLines
 pub mod Polls
