@@ -26,5 +26,7 @@ pub mod Receives
 pub mod Streams
 pub mod Bytes
 pub mod Growing
+pub mod Resting
+pub mod Emptied
 pub mod GuestLines
 pub mod Polls

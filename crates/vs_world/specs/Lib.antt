@@ -11,3 +11,4 @@ pub mod Pages
 pub mod Worked
 pub mod Pipes
 pub mod Steps
+pub mod WorkedBytes
