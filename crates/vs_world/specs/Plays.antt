@@ -1,5 +1,5 @@
 -- Whole calls, one line of a script each, and what each answers.
-use Rattle.std.specs.Prelude.{ℕ, ◌+◌, Bool, true, List, [], ◌∷◌, length, map, Option, Result}
+use Rattle.std.specs.Prelude.{◌≡◌, ℕ, ◌+◌, nat_le, Bool, true, List, [], ◌∷◌, length, map, Option, Result}
 use Rattle.vs_flow.specs.declared.flow.Flow.{Flow}
 use Rattle.vs_outside.specs.Host.{HostContents, with_stream}
 use Rattle.vs_outside.specs.HostProgram.{after_listen, after_unlisten, after_client, after_host_write, host_write_answer, has_stream, allowed, ended, closed, after_fail}
@@ -11,7 +11,8 @@ use Rattle.vs_driver_parts.specs.State.{DriverState}
 use Rattle.vs_driver_parts.specs.declared.answers.Polled.{Polled}
 use Rattle.vs_proxy.specs.Turns.{turn_of, proxy_reset_of}
 use Rattle.vs_proxy.specs.declared.answers.Turn.{Turn}
-use Rattle.vs_world.specs.Calls.{GuestCall, ReplyTo, Connect, Send}
+use Rattle.vs_world.specs.Calls.{GuestCall, ReplyTo, Connect, Send, is_right}
+use Rattle.vs_world.specs.Events.{is_guest_cid}
 use Rattle.vs_world.specs.GuestSteps.{makes_call, flow_named}
 use Rattle.vs_world.specs.World.{World, driver_plays, device_plays}
 
@@ -105,3 +106,19 @@ report w = record {
 abbrev pub play : List Line → World → List Said × Report
 play [] w = ([], report w)
 play (l ∷ ls) w = let r = line l w in let rest = play ls r.0 in (r.1 ∷ rest.0, rest.1)
+
+-- A line that may be given: a port of 32 bits, a moment that isn't before the last one, a CID that a guest may have.
+abbrev pub may_be_given : Line → World → Bool
+may_be_given (Guest call) w = is_right call
+may_be_given (TurnAt now) w = nat_le w.proxy.device.now now
+may_be_given (ResetTo cid) w = is_guest_cid cid
+may_be_given _ w = true
+
+-- The world after a script, whose lines may be given one after another.
+abbrev pub after : List Line → World → World
+after [] w = w
+after (l ∷ ls) w = after ls (line l w).0
+
+abbrev pub MayBeGiven : List Line → World → Type 0
+MayBeGiven [] w = Unit {0}
+MayBeGiven (l ∷ ls) w = (may_be_given l w ≡ true) × MayBeGiven ls (line l w).0

@@ -1,0 +1,31 @@
+//! The lines of a script as lists of events, so that each law of every list of events is one of every script.
+
+ghost use Rattle.std.specs.Prelude.{◌≡◌, ℕ, nat_le, true, List};
+ghost use Rattle.vs_outside.specs.Host.{HostContents};
+ghost use Rattle.vs_world.specs.Events.{is_at_rest};
+ghost use Rattle.vs_world.specs.Plays.{Line, MayBeGiven, after, line, may_be_given, play, report, turn_line};
+ghost use Rattle.vs_world.specs.Steps.{Leads};
+ghost use Rattle.vs_world.specs.World.{World, opening};
+
+/// A turn of the proxy's, whole, is a list of events, at a moment that isn't before the last one: timeouts, the owed event, the packets
+/// that it takes, handshakes, what it writes to streams and what it puts to the guest, each stage left out after a failure of the ring.
+/// Host calls that fail are among them.
+pub fn law_of_turns()
+    ensures { (now : ℕ) (w : World) → nat_le w.proxy.device.now now ≡ true → Leads w (turn_line now w).0 }
+{}
+
+/// Each line of a script is a list of events: a call of the guest's, a poll, a turn, a reset, what the host's programs do. Between two
+/// lines no page is staged.
+pub fn law_of_lines()
+    ensures events { (l : Line) (w : World) → is_at_rest w.rings.driver.staged ≡ true → may_be_given l w ≡ true → Leads w (line l w).0 }
+    ensures rests { (l : Line) (w : World) → is_at_rest w.rings.driver.staged ≡ true → is_at_rest (line l w).0.rings.driver.staged ≡ true }
+{}
+
+/// A script, from the world in which nothing has happened yet, is a list of events. So each law of every list of events is one of every
+/// script, and of what it reports at its end.
+pub fn law_of_scripts()
+    ensures events { (n : ℕ) (host : HostContents) (ls : List Line) → MayBeGiven ls (opening n host) →
+        Leads (opening n host) (after ls (opening n host)) }
+    ensures rests { (n : ℕ) (host : HostContents) (ls : List Line) → is_at_rest (after ls (opening n host)).rings.driver.staged ≡ true }
+    ensures reported { (ls : List Line) (w : World) → (play ls w).1 ≡ report (after ls w) }
+{}
