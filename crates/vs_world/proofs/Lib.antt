@@ -33,3 +33,4 @@ pub mod TurnLines
 pub mod CallRests
 pub mod ScriptLines
 pub mod ResetTables
+pub mod DeviceCalls

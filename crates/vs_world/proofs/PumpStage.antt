@@ -109,10 +109,14 @@ pump_does slot w x fine = by (entry_under w.proxy.device.table slot) (device_eve
     by None leads = does_nothing w fine
     by (Some e) leads = open_by e e.value.closed leads
 
+pub pump_all_does : (w : World) → w.proxy.device.failed ≡ None → let r = plays (pump_of w.proxy.device) w in Does w (with_device r.0.state w.proxy) r.1
+pump_all_does w fine =
+    leads.each_does writing_at writing_of (λ w a x. refl) (λ w a x y. refl) (λ w x. refl) pump_slot pump_does (slots w.proxy.device.table) w
+    (writing w.proxy.device) fine
+
 pub pump_stage_does : TurnDoes pump_stage
 pump_stage_does w t fine =
-    let x : Writing = record { state = w.proxy.device; wrote = 0 } in
-    let all = leads.each_does writing_at writing_of (λ w a x. refl) (λ w a x y. refl) (λ w x. refl) pump_slot pump_does (slots w.proxy.device.table) w x fine in
+    let all = pump_all_does w fine in
     let r = plays (pump_of w.proxy.device) w in
     does_then w (pump_of w.proxy.device) (λ y. Done (record (device_after y.state (turning_at w t)) { wrote = t.wrote + y.wrote })) (λ u. u.state)
     (λ y. with_device y.state w.proxy) all (does_nothing (with_proxy (with_device r.0.state w.proxy) r.1 w) all.fine)

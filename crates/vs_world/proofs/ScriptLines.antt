@@ -1,8 +1,11 @@
 -- Each line of a script, and so each script, is a list of events.
-use Rattle.std.proofs.Common.{◌≡◌, ℕ, true, List, [], ◌∷◌, refl}
+use Rattle.std.proofs.Common.{◌≡◌, ℕ, true, List, [], ◌∷◌, ◌++◌, refl, sym}
+use Rattle.std.proofs.lemmas.List.{append-nil}
+use Rattle.vs_flow.specs.declared.flow.Flow.{Flow}
 use Rattle.vs_outside.specs.Host.{HostContents}
+use Rattle.vs_world.specs.Calls.{sent_on}
 use Rattle.vs_world.specs.Events.{ClientConnects, HostCloses, HostEnds, HostFails, HostListens, HostTakes, HostUnlistens, HostWrites, Reset, is_at_rest, is_guest_cid, reset_made}
-use Rattle.vs_world.specs.Plays.{Line, Guest, Poll, TurnAt, ResetTo, Client, HostListen, HostUnlisten, HostWrite, HostAllow, HostEnd, HostClosed, HostFail, MayBeGiven, after, line, may_be_given, play, report}
+use Rattle.vs_world.specs.Plays.{Line, Guest, Poll, TurnAt, ResetTo, Client, HostListen, HostUnlisten, HostWrite, HostAllow, HostEnd, HostClosed, HostFail, MayBeGiven, after, line, may_be_given, play, report, sent_by}
 use Rattle.vs_world.specs.Steps.{Leads}
 use Rattle.vs_world.specs.World.{World, opening}
 use Rattle.vs_world.proofs.CallRests.{call_rests, opening_rests}
@@ -37,6 +40,20 @@ line_rests (HostAllow stream n) w rest = rest
 line_rests (HostEnd stream) w rest = rest
 line_rests (HostClosed stream) w rest = rest
 line_rests (HostFail n) w rest = rest
+
+pub line_sends : (l : Line) (w : World) (f : Flow) → sent_on f (line l w).0.journal ≡ sent_on f w.journal ++ sent_by f l w
+line_sends (Guest call) w f = refl
+line_sends Poll w f = sym (append-nil (sent_on f w.journal))
+line_sends (TurnAt now) w f = sym (append-nil (sent_on f w.journal))
+line_sends (ResetTo cid) w f = sym (append-nil (sent_on f w.journal))
+line_sends Client w f = sym (append-nil (sent_on f w.journal))
+line_sends (HostListen port) w f = sym (append-nil (sent_on f w.journal))
+line_sends (HostUnlisten port) w f = sym (append-nil (sent_on f w.journal))
+line_sends (HostWrite stream bytes) w f = sym (append-nil (sent_on f w.journal))
+line_sends (HostAllow stream n) w f = sym (append-nil (sent_on f w.journal))
+line_sends (HostEnd stream) w f = sym (append-nil (sent_on f w.journal))
+line_sends (HostClosed stream) w f = sym (append-nil (sent_on f w.journal))
+line_sends (HostFail n) w f = sym (append-nil (sent_on f w.journal))
 
 pub script_leads : (ls : List Line) (w : World) → is_at_rest w.rings.driver.staged ≡ true → MayBeGiven ls w → Leads w (after ls w)
 script_leads [] w rest may = leads_none w w refl

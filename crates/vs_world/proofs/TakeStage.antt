@@ -144,15 +144,15 @@ module _ (chain : Chain) (h : Header) (s : DeviceState) (fine : s.failed ≡ Non
       by false (Some e) = known_off e (verdict_of e.value.end h)
 
 -- One packet. The stage goes on where the ring didn't fail.
-record Goes (w : World) (r : Turning × Bool) (a : Around) : Type 0 where
-  leads : Leads w (with_proxy r.0.state a w)
-  fine : r.1 ≡ true → r.0.state.device.failed ≡ None
+pub record Goes (w : World) (r : Turning × Bool) (a : Around) : Type 0 where
+  pub leads : Leads w (with_proxy r.0.state a w)
+  pub fine : r.1 ≡ true → r.0.state.device.failed ≡ None
 
 stops : (w : World) (t : Turning) (a : Around) → Leads w (with_proxy t.state a w) → Goes w (t, false) a
 stops w t a leads = record { leads = leads; fine = λ no. absurd cc }
 
 -- What the stage does once take_tx is done.
-abbrev counts : Turning → DeviceState × Taken → DeviceTree (Turning × Bool)
+abbrev pub counts : Turning → DeviceState × Taken → DeviceTree (Turning × Bool)
 counts t r = elim (took_packet r.1) as (λ _. DeviceTree (Turning × Bool)) [
   | true ↦ Done (record (device_after r.0 t) { took = t.took + 1 }, true)
   | false ↦ Done (device_after r.0 t, false)
@@ -245,7 +245,7 @@ module _ (w : World) (t : Turning) where
   one_goes given true is = let v = taking given in stops v _ _ (leads_none v v refl)
   one_goes given false is = page_goes given (tx_taken given is)
 
-take_goes : (w : World) (t : Turning) → w.proxy.device.failed ≡ None → let r = plays (take_one (turning_at w t)) w in Goes w r.0 r.1
+pub take_goes : (w : World) (t : Turning) → w.proxy.device.failed ≡ None → let r = plays (take_one (turning_at w t)) w in Goes w r.0 r.1
 take_goes w t fine = by w.proxy.device.failed fine
   where
     by : (o : Option Failure) → o ≡ None → let v = record w { proxy = with_device (record w.proxy.device { failed = o }) w.proxy } in
@@ -297,15 +297,17 @@ module _ (w : World) where
         fine = refl;
       }
 
-pub event_stage_does : TurnDoes event_stage
-event_stage_does w t fine = by w.proxy.device.failed fine
+pub event_does : (w : World) → w.proxy.device.failed ≡ None → let r = plays (pay_event_of w.proxy.device) w in Does w (with_device r.0.0 w.proxy) r.1
+event_does w fine = by w.proxy.device.failed fine
   where
     by : (o : Option Failure) → o ≡ None → let v = record w { proxy = with_device (record w.proxy.device { failed = o }) w.proxy } in
-        let r = plays (event_stage (turning_at v t)) v in Does v r.0.state r.1
-    by None is =
-        let v = record w { proxy = with_device (record w.proxy.device { failed = None }) w.proxy } in
-        let one = pays w w.proxy.device.event_owed w.rings.lists.event.given in
-        let r = plays (pay_event_of v.proxy.device) v in
-        does_then v (pay_event_of v.proxy.device) (λ r. Done (device_after r.0 (turning_at v t))) (λ u. u.state) (λ r. with_device r.0 w.proxy) one
-        (does_nothing (with_proxy (with_device r.0.0 w.proxy) r.1 v) one.fine)
+        let r = plays (pay_event_of v.proxy.device) v in Does v (with_device r.0.0 w.proxy) r.1
+    by None is = pays w w.proxy.device.event_owed w.rings.lists.event.given
     by (Some f) is = absurd cc
+
+pub event_stage_does : TurnDoes event_stage
+event_stage_does w t fine =
+    let one = event_does w fine in
+    let r = plays (pay_event_of w.proxy.device) w in
+    does_then w (pay_event_of w.proxy.device) (λ r. Done (device_after r.0 (turning_at w t))) (λ u. u.state) (λ r. with_device r.0 w.proxy) one
+    (does_nothing (with_proxy (with_device r.0.0 w.proxy) r.1 w) one.fine)

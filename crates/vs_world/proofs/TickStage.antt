@@ -69,7 +69,7 @@ tick_does slot w fine = record {
   fine = fine_played (tick_slot slot w.proxy.device) (around w) (tick_fine slot w.proxy.device fine);
 }
 
-ticks_do : (now : ℕ) (w : World) → nat_le w.proxy.device.now now ≡ true → w.proxy.device.failed ≡ None
+pub ticks_do : (now : ℕ) (w : World) → nat_le w.proxy.device.now now ≡ true → w.proxy.device.failed ≡ None
     → let r = plays (tick_of now w.proxy.device) w in Does w (with_device r.0 w.proxy) r.1
 ticks_do now w later fine =
     let v = at_moment now w in

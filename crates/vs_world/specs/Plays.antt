@@ -1,5 +1,5 @@
 -- Whole calls, one line of a script each, and what each answers.
-use Rattle.std.specs.Prelude.{◌≡◌, ℕ, ◌+◌, nat_le, Bool, true, List, [], ◌∷◌, length, map, Option, Result}
+use Rattle.std.specs.Prelude.{◌≡◌, ℕ, ◌+◌, nat_le, Bool, true, if◌then◌else◌, List, [], ◌∷◌, length, map, Option, Result}
 use Rattle.vs_flow.specs.declared.flow.Flow.{Flow}
 use Rattle.vs_outside.specs.Host.{HostContents, with_stream}
 use Rattle.vs_outside.specs.HostProgram.{after_listen, after_unlisten, after_client, after_host_write, host_write_answer, has_stream, allowed, ended, closed, after_fail}
@@ -11,7 +11,7 @@ use Rattle.vs_driver_parts.specs.State.{DriverState}
 use Rattle.vs_driver_parts.specs.declared.answers.Polled.{Polled}
 use Rattle.vs_proxy.specs.Turns.{turn_of, proxy_reset_of}
 use Rattle.vs_proxy.specs.declared.answers.Turn.{Turn}
-use Rattle.vs_world.specs.Calls.{GuestCall, ReplyTo, Connect, Send, is_right}
+use Rattle.vs_world.specs.Calls.{GuestCall, ReplyTo, Connect, Send, bytes_sent, is_on, is_right}
 use Rattle.vs_world.specs.Events.{is_guest_cid}
 use Rattle.vs_world.specs.GuestSteps.{makes_call, flow_named}
 use Rattle.vs_world.specs.World.{World, driver_plays, device_plays}
@@ -106,6 +106,12 @@ report w = record {
 abbrev pub play : List Line → World → List Said × Report
 play [] w = ([], report w)
 play (l ∷ ls) w = let r = line l w in let rest = play ls r.0 in (r.1 ∷ rest.0, rest.1)
+
+-- The bytes that a line sends on a flow: those that the answer says.
+abbrev pub sent_by : Flow → Line → World → List ℕ
+sent_by f (Guest call) w =
+    if is_on f (flow_named call w.driver) then bytes_sent call (driver_plays (whole_call call w.driver) w).0.1 else []
+sent_by f _ w = []
 
 -- A line that may be given: a port of 32 bits, a moment that isn't before the last one, a CID that a guest may have.
 abbrev pub may_be_given : Line → World → Bool
