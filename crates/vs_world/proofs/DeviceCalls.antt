@@ -1,5 +1,5 @@
 -- Each call of the device's, whole, is a list of events.
-use Rattle.std.proofs.Common.{◌≡◌, ℕ, nat_le, Bool, true, false, Option, Some, None, refl, subst}
+use Rattle.std.proofs.Common.{◌≡◌, ℕ, Bool, true, false, Option, Some, None, refl, subst}
 use Rattle.vs_contents.specs.CallTree.{Done, played}
 use Rattle.vs_ring_port.specs.declared.failure.Failure.{Failure}
 use Rattle.vs_device.specs.Calls.{DeviceTree}
@@ -20,9 +20,8 @@ use Rattle.vs_world.proofs.PumpStage.{pump_all_does}
 use Rattle.vs_world.proofs.TakeStage.{counts, event_does, take_goes}
 use Rattle.vs_world.proofs.TickStage.{ticks_do}
 
-pub ticks_lead : (now : ℕ) (w : World) → nat_le w.proxy.device.now now ≡ true → w.proxy.device.failed ≡ None
-    → Leads w (device_calls (λ d. d) (tick_of now w.proxy.device) w)
-ticks_lead now w later fine = (ticks_do now w later fine).leads
+pub ticks_lead : (now : ℕ) (w : World) → w.proxy.device.failed ≡ None → Leads w (device_calls (λ d. d) (tick_of now w.proxy.device) w)
+ticks_lead now w fine = (ticks_do now w fine).leads
 
 pub pumps_lead : (w : World) → w.proxy.device.failed ≡ None → Leads w (device_calls (λ x. x.state) (pump_of w.proxy.device) w)
 pumps_lead w fine = (pump_all_does w fine).leads

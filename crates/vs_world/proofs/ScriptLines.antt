@@ -5,7 +5,7 @@ use Rattle.vs_flow.specs.declared.flow.Flow.{Flow}
 use Rattle.vs_outside.specs.Host.{HostContents}
 use Rattle.vs_world.specs.Calls.{sent_on}
 use Rattle.vs_world.specs.Events.{ClientConnects, HostCloses, HostEnds, HostFails, HostListens, HostTakes, HostUnlistens, HostWrites, Reset, is_at_rest, is_guest_cid, reset_made}
-use Rattle.vs_world.specs.Plays.{Line, Guest, Poll, TurnAt, ResetTo, Client, HostListen, HostUnlisten, HostWrite, HostAllow, HostEnd, HostClosed, HostFail, MayBeGiven, after, line, may_be_given, play, report, sent_by}
+use Rattle.vs_world.specs.Plays.{Line, Guest, Poll, TurnAt, ResetTo, Client, HostListen, HostUnlisten, HostWrite, HostAllow, HostEnd, HostClosed, HostFail, AreRight, after, line, is_given_right, play, report, sent_by}
 use Rattle.vs_world.specs.Steps.{Leads}
 use Rattle.vs_world.specs.World.{World, opening}
 use Rattle.vs_world.proofs.CallRests.{call_rests, opening_rests}
@@ -13,10 +13,10 @@ use Rattle.vs_world.proofs.GuestLines.{call_leads, leads_none, leads_one, leads_
 use Rattle.vs_world.proofs.Polls.{poll_does}
 use Rattle.vs_world.proofs.TurnLines.{turn_leads}
 
-pub line_leads : (l : Line) (w : World) → is_at_rest w.rings.driver.staged ≡ true → may_be_given l w ≡ true → Leads w (line l w).0
+pub line_leads : (l : Line) (w : World) → is_at_rest w.rings.driver.staged ≡ true → is_given_right l ≡ true → Leads w (line l w).0
 line_leads (Guest call) w rest may = call_leads w rest call may
 line_leads Poll w rest may = (poll_does w rest).leads
-line_leads (TurnAt now) w rest may = turn_leads now w may
+line_leads (TurnAt now) w rest may = turn_leads now w
 line_leads (ResetTo cid) w rest may = leads_one (Reset cid) w _ (possible_is (is_guest_cid cid) (reset_made cid) w may)
 line_leads Client w rest may = leads_one ClientConnects w _ refl
 line_leads (HostListen port) w rest may = leads_one (HostListens port) w _ refl
@@ -55,7 +55,7 @@ line_sends (HostEnd stream) w f = sym (append-nil (sent_on f w.journal))
 line_sends (HostClosed stream) w f = sym (append-nil (sent_on f w.journal))
 line_sends (HostFail n) w f = sym (append-nil (sent_on f w.journal))
 
-pub script_leads : (ls : List Line) (w : World) → is_at_rest w.rings.driver.staged ≡ true → MayBeGiven ls w → Leads w (after ls w)
+pub script_leads : (ls : List Line) (w : World) → is_at_rest w.rings.driver.staged ≡ true → AreRight ls → Leads w (after ls w)
 script_leads [] w rest may = leads_none w w refl
 script_leads (l ∷ ls) w rest may =
     leads_then w (line l w).0 _ (line_leads l w rest may.0) (script_leads ls (line l w).0 (line_rests l w rest) may.1)
@@ -68,6 +68,6 @@ pub reported : (ls : List Line) (w : World) → (play ls w).1 ≡ report (after 
 reported [] w = refl
 reported (l ∷ ls) w = reported ls (line l w).0
 
-pub opened_leads : (n : ℕ) (host : HostContents) (ls : List Line) → MayBeGiven ls (opening n host)
+pub opened_leads : (n : ℕ) (host : HostContents) (ls : List Line) → AreRight ls
     → Leads (opening n host) (after ls (opening n host))
 opened_leads n host ls may = script_leads ls (opening n host) (opening_rests n host) may

@@ -1,5 +1,5 @@
 -- Timeouts, and the handshakes of a turn, are lists of events.
-use Rattle.std.proofs.Common.{◌≡◌, ℕ, ◌+◌, nat_le, nat_lt, Bool, true, false, cond, List, ◌++◌, length, Option, Some, None, Result, Ok, Err, refl, ap, ◌∙◌}
+use Rattle.std.proofs.Common.{◌≡◌, ℕ, ◌+◌, nat_lt, Bool, true, false, cond, List, ◌++◌, length, Option, Some, None, Result, Ok, Err, refl, ap, ◌∙◌}
 use Rattle.vs_contents.specs.CallTree.{Done, Ask, bind, for_each, played, while_up_to}
 use Rattle.vs_flow.specs.Table.{entry_under, refusal, slots}
 use Rattle.vs_flow.specs.declared.table.TableFault.{TableFault}
@@ -26,7 +26,7 @@ use Rattle.vs_world.specs.Steps.{Leads}
 use Rattle.vs_world.specs.World.{World, around}
 use Rattle.vs_world.proofs.DeviceLeads as leads
 use Rattle.vs_world.proofs.DeviceLeads.{Does, EndsFine, device_event, does_nothing, does_then, fine_played, plays, proxy_event, with_proxy}
-use Rattle.vs_world.proofs.GuestLines.{leads_one, leads_then, possible_is}
+use Rattle.vs_world.proofs.GuestLines.{leads_one, leads_then}
 
 -- A step of the device alone.
 abbrev pub device_at : World → DeviceState → DeviceState
@@ -69,13 +69,13 @@ tick_does slot w fine = record {
   fine = fine_played (tick_slot slot w.proxy.device) (around w) (tick_fine slot w.proxy.device fine);
 }
 
-pub ticks_do : (now : ℕ) (w : World) → nat_le w.proxy.device.now now ≡ true → w.proxy.device.failed ≡ None
+pub ticks_do : (now : ℕ) (w : World) → w.proxy.device.failed ≡ None
     → let r = plays (tick_of now w.proxy.device) w in Does w (with_device r.0 w.proxy) r.1
-ticks_do now w later fine =
+ticks_do now w fine =
     let v = at_moment now w in
     let rest = devices tick_slot tick_does (slots w.proxy.device.table) v fine in
     record {
-      leads = leads_then w v _ (leads_one (Moment now) w v (possible_is (nat_le w.proxy.device.now now) (at_moment now) w later)) rest.leads;
+      leads = leads_then w v _ (leads_one (Moment now) w v refl) rest.leads;
       fine = rest.fine;
     }
 
@@ -216,10 +216,10 @@ byte_does stream w t fine =
     record { leads = leads_to (proxy_event (ProxyReads stream) (line_read stream) w refl fine) alike.same; fine = alike.fine }
 
 -- The stages.
-pub tick_stage_does : (now : ℕ) (w : World) (t : Turning) → nat_le w.proxy.device.now now ≡ true → w.proxy.device.failed ≡ None
+pub tick_stage_does : (now : ℕ) (w : World) (t : Turning) → w.proxy.device.failed ≡ None
     → let r = plays (tick_stage now (turning_at w t)) w in Does w r.0.state r.1
-tick_stage_does now w t later fine =
-    let one = ticks_do now w later fine in
+tick_stage_does now w t fine =
+    let one = ticks_do now w fine in
     let r = plays (tick_of now w.proxy.device) w in
     let v = with_proxy (with_device r.0 w.proxy) r.1 w in
     does_then w (tick_of now w.proxy.device) (λ d. tick_handshakes (device_after d (turning_at w t))) (λ u. u.state) (λ d. with_device d w.proxy) one

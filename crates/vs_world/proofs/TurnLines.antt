@@ -1,5 +1,5 @@
 -- A turn of the proxy's, whole, is a list of events.
-use Rattle.std.proofs.Common.{◌≡◌, ℕ, nat_le, true, Option, Some, None, refl}
+use Rattle.std.proofs.Common.{◌≡◌, ℕ, Option, Some, None, refl}
 use Rattle.vs_contents.specs.CallTree.{Done, bind}
 use Rattle.vs_ring_port.specs.declared.failure.Failure.{Failure}
 use Rattle.vs_device.specs.Calls.{DeviceTree}
@@ -62,8 +62,8 @@ module _ (s : ProxyState) where
       (λ d. bind (unless_failed pump_stage d) (λ e. bind (unless_failed fill_stage e) (λ f. Done (f.state, turned s f)))))))
   events size w t = stage_then (unless_failed event_stage) _ w t (unless event_stage w t (λ fine. (event_stage_does w t fine).leads)) (takes size)
 
-pub turn_leads : (now : ℕ) (w : World) → nat_le w.proxy.device.now now ≡ true → Leads w (turn_line now w).0
-turn_leads now w later =
+pub turn_leads : (now : ℕ) (w : World) → Leads w (turn_line now w).0
+turn_leads now w =
     let t = start w.proxy in
-    stage_then w.proxy (unless_failed (tick_stage now)) _ w t (unless (tick_stage now) w t (λ fine. (tick_stage_does now w t later fine).leads))
+    stage_then w.proxy (unless_failed (tick_stage now)) _ w t (unless (tick_stage now) w t (λ fine. (tick_stage_does now w t fine).leads))
     (events w.proxy w.rings.lists.size)

@@ -1,5 +1,5 @@
 -- Whole calls, one line of a script each, and what each answers.
-use Rattle.std.specs.Prelude.{◌≡◌, ℕ, ◌+◌, nat_le, Bool, true, if◌then◌else◌, List, [], ◌∷◌, length, map, Option, Result}
+use Rattle.std.specs.Prelude.{◌≡◌, ℕ, ◌+◌, Bool, true, if◌then◌else◌, List, [], ◌∷◌, length, map, Option, Result}
 use Rattle.vs_flow.specs.declared.flow.Flow.{Flow}
 use Rattle.vs_outside.specs.Host.{HostContents, with_stream}
 use Rattle.vs_outside.specs.HostProgram.{after_listen, after_unlisten, after_client, after_host_write, host_write_answer, has_stream, allowed, ended, closed, after_fail}
@@ -113,18 +113,18 @@ sent_by f (Guest call) w =
     if is_on f (flow_named call w.driver) then bytes_sent call (driver_plays (whole_call call w.driver) w).0.1 else []
 sent_by f _ w = []
 
--- A line that may be given: a port of 32 bits, a moment that isn't before the last one, a CID that a guest may have.
-abbrev pub may_be_given : Line → World → Bool
-may_be_given (Guest call) w = is_right call
-may_be_given (TurnAt now) w = nat_le w.proxy.device.now now
-may_be_given (ResetTo cid) w = is_guest_cid cid
-may_be_given _ w = true
+-- A line that may be given: a port has 32 bits, and a CID is one that a guest may have.
+abbrev pub is_given_right : Line → Bool
+is_given_right (Guest call) = is_right call
+is_given_right (ResetTo cid) = is_guest_cid cid
+is_given_right _ = true
 
--- The world after a script, whose lines may be given one after another.
+-- Each line of a script may be given.
+abbrev pub AreRight : List Line → Type 0
+AreRight [] = Unit {0}
+AreRight (l ∷ ls) = (is_given_right l ≡ true) × AreRight ls
+
+-- The world after a script.
 abbrev pub after : List Line → World → World
 after [] w = w
 after (l ∷ ls) w = after ls (line l w).0
-
-abbrev pub MayBeGiven : List Line → World → Type 0
-MayBeGiven [] w = Unit {0}
-MayBeGiven (l ∷ ls) w = (may_be_given l w ≡ true) × MayBeGiven ls (line l w).0

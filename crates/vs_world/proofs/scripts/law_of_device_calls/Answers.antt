@@ -2,7 +2,7 @@ use Rattle.vs_world.proofs.DeviceCalls.{events_lead, fills_lead, pumps_lead, tak
 use Rattle.vs_world.proofs.scripts.law_of_device_calls.Goals as goal
 
 pub returns-clause-tick : goal.returns-clause-tick
-returns-clause-tick c = λ now w later fine. ticks_lead now w later fine
+returns-clause-tick c = λ now w fine. ticks_lead now w fine
 
 pub returns-clause-take_tx : goal.returns-clause-take_tx
 returns-clause-take_tx c = λ w. takes_lead w
