@@ -39,7 +39,8 @@ connect_rests : (port : ℕ) (s : DriverState) → LeavesRest (connect_with_page
 connect_rests port s = by (has_page s)
   where
     by : (b : Bool) → LeavesRest {A = DriverState × Result ℕ ConnectError} (cond b
-        (bind (post_packet (request_bytes port s) s) (λ t. Done (connected port t, Ok t.next_id))) (Done (s, Err (connect_refused.NoDescriptor s.in_flight))))
+        (bind (post_packet (request_bytes port s) s)
+        (λ t. Done (connected port t, Ok t.next_id))) (Done (s, Err (connect_refused.NoDescriptor s.in_flight))))
     by true = posted
     by false = λ r rest. rest
 
@@ -47,7 +48,8 @@ send_rests : (e : DriverEntry) (payload : List ℕ) (s : DriverState) → Leaves
 send_rests e payload s = by (has_page s)
   where
     by : (b : Bool) → LeavesRest {A = DriverState × Sent} (cond b (bind (post_packet (payload_bytes e payload s) s)
-        (λ t. Done (with_end (with_payload_sent e.value.end (length payload)) e t, sent.Took (length payload)))) (Done (s, sent.NoDescriptor s.in_flight)))
+        (λ t. Done (with_end (with_payload_sent e.value.end (length payload)) e t, sent.Took (length payload)))) (Done
+        (s, sent.NoDescriptor s.in_flight)))
     by true = posted
     by false = λ r rest. rest
 
@@ -60,17 +62,19 @@ module _ (w : World) (rest : is_at_rest w.rings.driver.staged ≡ true) where
       ap (λ x. is_at_rest x.1.1.staged) (played_bind (reap_all w.driver) k (w.rings.lists, w.rings.driver))
       ∙ leaves r.0 r.1 (ap is_at_rest reaps.staged ∙ rest)
 
-  connecting : (port : ℕ) (o : Option ConnectError) → AtRest (played driver_answer (elim o as (λ _. DriverTree (DriverState × Result ℕ ConnectError)) [
-    | Some refusal ↦ Done (w.driver, Err refusal)
-    | None ↦ bind (reap_all w.driver) (connect_with_page port)
-  ]) (w.rings.lists, w.rings.driver)).1
+  connecting : (port : ℕ) (o : Option ConnectError)
+      → AtRest (played driver_answer (elim o as (λ _. DriverTree (DriverState × Result ℕ ConnectError)) [
+        | Some refusal ↦ Done (w.driver, Err refusal)
+        | None ↦ bind (reap_all w.driver) (connect_with_page port)
+      ]) (w.rings.lists, w.rings.driver)).1
   connecting port (Some refusal) = rest
   connecting port None = reaped_rests (connect_with_page port) (connect_rests port)
 
-  sending : (id : ℕ) (bytes : List ℕ) (o : Option DriverEntry) → AtRest (played driver_answer (elim o as (λ _. DriverTree (DriverState × Sent)) [
-    | None ↦ Done (w.driver, not_sent id w.driver)
-    | Some e ↦ send_on e bytes w.driver
-  ]) (w.rings.lists, w.rings.driver)).1
+  sending : (id : ℕ) (bytes : List ℕ) (o : Option DriverEntry)
+      → AtRest (played driver_answer (elim o as (λ _. DriverTree (DriverState × Sent)) [
+        | None ↦ Done (w.driver, not_sent id w.driver)
+        | Some e ↦ send_on e bytes w.driver
+      ]) (w.rings.lists, w.rings.driver)).1
   sending id bytes None = rest
   sending id bytes (Some e) = on (may_send_of e.value.end)
     where
@@ -122,7 +126,11 @@ posts_work queue (suc n) s r works = by (s.staged + 1 == 16) (posts_work queue n
         → works_on queue (played driver_answer (while_up_to n (post_one queue) s) r).1.1.staged ≡ true)
         → works_on queue (played driver_answer (bind {A = DriverState × Bool} (bind (Ask (Stage queue []) (λ _. cond b
         (Ask (Publish queue) (λ _. Done (record s { staged = 0 }))) (Done (record s { staged = s.staged + 1 })))) (λ t. Done (t, true)))
-        (λ x. elim x.1 as (λ _. DriverTree DriverState) [ true ↦ while_up_to n (post_one queue) x.0 | false ↦ Done x.0 ])) r).1.1.staged ≡ true
+        (λ x. elim x.1 as (λ _. DriverTree DriverState) [
+          | true ↦ while_up_to n
+              (post_one queue) x.0
+          | false ↦ Done x.0
+        ])) r).1.1.staged ≡ true
     by true rest = rest _ _ (publishes queue (driver_answer (Stage queue []) r).1 (stages queue [] r works))
     by false rest = rest _ _ (stages queue [] r works)
 

@@ -48,7 +48,8 @@ fills_lead w = by w.proxy.device.failed (λ fine. (fill_does w fine).leads)
     by (Some f) leads = leads_none (failed_as (Some f) w) _ refl
 
 -- A packet that is taken, from what the turn does with it.
-uncounted : (w : World) (d : DeviceState) (taken : Taken) (a : Around) → Leads w (with_proxy (played answer_around (counts (start w.proxy) (d, taken)) a).0.0.state
+uncounted : (w : World) (d : DeviceState) (taken : Taken) (a : Around)
+    → Leads w (with_proxy (played answer_around (counts (start w.proxy) (d, taken)) a).0.0.state
     (played answer_around (counts (start w.proxy) (d, taken)) a).1 w) → Leads w (with_proxy (with_device d w.proxy) a w)
 uncounted w d taken a leads = by (took_packet taken) leads
   where
@@ -62,7 +63,8 @@ uncounted w d taken a leads = by (took_packet taken) leads
 takes_fine : (w : World) → w.proxy.device.failed ≡ None → CallLeads take_tx_of w
 takes_fine w fine =
     let r = plays (take_tx_of w.proxy.device) w in
-    uncounted w r.0.0 r.0.1 r.1 (subst (λ x. Leads w (with_proxy x.0.0.state x.1 w)) (device_bind (take_tx_of w.proxy.device) (counts (start w.proxy)) (around w))
+    uncounted w r.0.0 r.0.1 r.1 (subst (λ x. Leads w (with_proxy x.0.0.state x.1 w)) (device_bind (take_tx_of w.proxy.device) (counts
+    (start w.proxy)) (around w))
     (take_goes w (start w.proxy) fine).leads)
 
 pub takes_lead : (w : World) → CallLeads take_tx_of w

@@ -109,7 +109,8 @@ module _ {S : Type 0} (at : World → S → S) (of : World → S → ProxyState)
       let r = plays (step i (at w x)) w in
       let v = with_proxy (of w r.0) r.1 w in
       step_then w (step i (at w x)) (λ y. y) (for_each step is) one
-      (subst (λ (y : S). let z = plays (for_each step is y) v in Does v (of v z.0) z.1) (same w r.1 r.0) (each_does step does is v r.0 one.fine))
+      (subst (λ (y : S). let z = plays (for_each step is y) v in Does v (of v z.0) z.1) (same w r.1 r.0)
+      (each_does step does is v r.0 one.fine))
 
   pub while_does : (step : S → DeviceTree (S × Bool)) → TestDoes step → (n : ℕ) → StepDoes (while_up_to n step)
   while_does step does zero w x fine = nothing_does w x fine

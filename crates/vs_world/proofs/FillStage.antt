@@ -118,7 +118,8 @@ put_does w fine h f ends event x =
         let b = (played answer_around (put_on c h [] (record x { state = holding_in w c })) a).1 in
         let p : Filling = record x { state = record w.proxy.device { chain = None }; put = x.put + 1 } in
         let p0 : Filling = record (filling (record w.proxy.device { chain = None })) { put = 1 } in
-        subst (λ r. Does (held_world w c a) (with_device r.0.state w.proxy) r.1) (sym (device_bind tree (λ s. Done (record p { state = s })) b)) (record {
+        subst (λ r. Does (held_world w c a) (with_device r.0.state w.proxy) r.1) (sym (device_bind tree
+        (λ s. Done (record p { state = s })) b)) (record {
           leads = subst (λ r. Leads (held_world w c a) (with_proxy (with_device r.0 w.proxy) r.1 w)) (end_alike tree p0 b) (event c a);
           fine = fine_played tree b ends;
         })
@@ -155,7 +156,8 @@ paying_fine e owed.Rst s fine = by e.value.closed
   where
     by : (b : Bool) → EndsFine (bind (cond b
         (Done (with_connection e.slot (stream_closed e.value) (record s { last_put = Some e.slot })))
-        (Ask (CloseStream e.value.stream) (λ _. Done (with_connection e.slot (stream_closed e.value) (record s { last_put = Some e.slot })))))
+        (Ask (CloseStream e.value.stream) (λ _. Done (with_connection e.slot (stream_closed e.value)
+        (record s { last_put = Some e.slot })))))
         (λ t. Done (after_leaving e.slot t)))
     by true = fine
     by false = λ _. fine
@@ -171,9 +173,11 @@ owed_does slot w x fine =
   where
     puts : (e : DeviceEntry) (what : Owed)
         → ((c : Chain) (a : Around) → let r = played answer_around (bind (bind
-        (put_packet (owed_header e.value.end (route_to_guest w.proxy.device.cid e.flow) what) (after_paying what e) (filling (holding_in w c)))
+        (put_packet (owed_header e.value.end (route_to_guest w.proxy.device.cid e.flow) what) (after_paying what e) (filling
+        (holding_in w c)))
         tested) left_state) a in Leads (held_world w c a) (with_proxy (with_device r.0 w.proxy) r.1 w))
-        → (let r = plays (bind (put_packet (owed_header e.value.end (route_to_guest w.proxy.device.cid e.flow) what) (after_paying what e) (filling_at w x))
+        → (let r = plays (bind (put_packet (owed_header e.value.end (route_to_guest w.proxy.device.cid e.flow) what)
+        (after_paying what e) (filling_at w x))
         tested) w in Does w (with_device r.0.0.state w.proxy) r.1)
     puts e what event =
         let h = owed_header e.value.end (route_to_guest w.proxy.device.cid e.flow) what in
@@ -207,7 +211,8 @@ owed_does slot w x fine =
 module _ (w : World) (fine : w.proxy.device.failed ≡ None) (e : DeviceEntry) where
   module _ (x : Filling) (c : Chain) (a : Around) where
     closing_from : (b : Around) (closed : Bool)
-        → (let y = played answer_around (bind (bind (cond closed (Done (with_connection e.slot (cut_off e.value) (with_fault (holding_in w c))))
+        → (let y = played answer_around (bind (bind (cond closed (Done (with_connection e.slot (cut_off e.value) (with_fault
+        (holding_in w c))))
         (Ask (CloseStream e.value.stream) (λ _. Done (with_connection e.slot (cut_off e.value) (with_fault (holding_in w c))))))
         (λ s. Done (record (filling (holding_in w c)) { state = s }))) (λ r. Done r.state)) b in
         Leads (held_world w c a) (with_proxy (with_device y.0 w.proxy) y.1 w))
@@ -236,17 +241,20 @@ module _ (w : World) (fine : w.proxy.device.failed ≡ None) (e : DeviceEntry) w
     answered_from read.Failed payload b leads = closing_from b e.value.closed leads
 
   reads_from : (x : Filling)
-      → ((c : Chain) (a : Around) → let r = played answer_around (bind (read_with_chain e (filling (holding_in w c))) (λ r. Done r.state)) a in
+      → ((c : Chain) (a : Around) → let r = played answer_around (bind (read_with_chain e (filling (holding_in w c)))
+      (λ r. Done r.state)) a in
       Leads (held_world w c a) (with_proxy (with_device r.0 w.proxy) r.1 w))
       → (let r = plays (bind (hold (filling_at w x)) (read_with_chain e)) w in Does w (with_device r.0.state w.proxy) r.1)
   reads_from x event = holding_does w fine (read_with_chain e) (λ x a. refl) some x
     where
-      some : (x : Filling) (c : Chain) (a : Around) → let r = played answer_around (read_with_chain e (record x { state = holding_in w c })) a in
+      some : (x : Filling) (c : Chain) (a : Around)
+          → let r = played answer_around (read_with_chain e (record x { state = holding_in w c })) a in
           Does (held_world w c a) (with_device r.0.state w.proxy) r.1
       some x c a =
           let room = read_room (free_of e.value.end.credit) c in
           let answer = read_answer e.value.stream room a.host in
-          answered_from x c a answer (bytes_with e.value.stream answer a.host) (answer_around (ReadStream e.value.stream room) a).1 (event c a)
+          answered_from x c a answer (bytes_with e.value.stream answer a.host) (answer_around (ReadStream e.value.stream room) a).1
+          (event c a)
 
 abbrev read_from : Option DeviceEntry → Filling → DeviceTree Filling
 read_from o r = elim o as (λ _. DeviceTree Filling) [ None ↦ Done r | Some e ↦ read_stream e r ]
@@ -308,13 +316,16 @@ unless_over f does w x fine = by x.over
     by false = does w x fine
 
 serve_does : (slot : ℕ) → FillDoes (serve_slot slot)
-serve_does slot = unless_over (λ r. bind (read_from (entry_under r.state.table slot) r) (λ q. cond q.over (Done q) (while_up_to OWED_MAX (put_owed slot) q))) serve
+serve_does slot = unless_over (λ r. bind (read_from (entry_under r.state.table slot) r)
+    (λ q. cond q.over (Done q) (while_up_to OWED_MAX (put_owed slot) q))) serve
   where
-    serve : FillDoes (λ r. bind (read_from (entry_under r.state.table slot) r) (λ q. cond q.over (Done q) (while_up_to OWED_MAX (put_owed slot) q)))
+    serve : FillDoes (λ r. bind (read_from (entry_under r.state.table slot) r)
+        (λ q. cond q.over (Done q) (while_up_to OWED_MAX (put_owed slot) q)))
     serve w x fine =
         let one = read_does slot w x fine in
         let r = plays (read_from (entry_under w.proxy.device.table slot) (filling_at w x)) w in
-        does_then w (read_from (entry_under w.proxy.device.table slot) (filling_at w x)) (λ q. cond q.over (Done q) (while_up_to OWED_MAX (put_owed slot) q))
+        does_then w (read_from (entry_under w.proxy.device.table slot) (filling_at w x))
+        (λ q. cond q.over (Done q) (while_up_to OWED_MAX (put_owed slot) q))
         (λ q. with_device q.state w.proxy) (λ q. with_device q.state w.proxy) one
         (unless_over (while_up_to OWED_MAX (put_owed slot)) (fill_while (put_owed slot) (owed_does slot) OWED_MAX)
         (with_proxy (with_device r.0.state w.proxy) r.1 w) r.0 one.fine)
@@ -328,11 +339,13 @@ serve_all w x fine =
 abbrev serves : Filling → DeviceTree Filling
 serves r = cond r.over (Done r) (for_each serve_slot (round_from r.state.last_put (slots r.state.table)) r)
 
-pub fill_does : (w : World) → w.proxy.device.failed ≡ None → let r = plays (fill_rx_of w.proxy.device) w in Does w (with_device r.0.0 w.proxy) r.1
+pub fill_does : (w : World) → w.proxy.device.failed ≡ None
+    → let r = plays (fill_rx_of w.proxy.device) w in Does w (with_device r.0.0 w.proxy) r.1
 fill_does w fine = by w.proxy.device.failed fine
   where
     rounds : (v : World) → v.proxy.device.failed ≡ None
-        → let r = plays (bind (while_up_to (length v.proxy.device.replies) put_reply (filling v.proxy.device)) (λ r. bind (serves r) (λ q. Done (filled_of q)))) v in
+        → let r = plays (bind (while_up_to (length v.proxy.device.replies) put_reply (filling v.proxy.device)) (λ r. bind (serves r)
+        (λ q. Done (filled_of q)))) v in
         Does v (with_device r.0.0 v.proxy) r.1
     rounds v fine =
         let n = length v.proxy.device.replies in
@@ -342,7 +355,8 @@ fill_does w fine = by w.proxy.device.failed fine
         let u = with_proxy (with_device r.0.state v.proxy) r.1 v in
         let two = unless_over (λ r. for_each serve_slot (round_from r.state.last_put (slots r.state.table)) r) serve_all u r.0 one.fine in
         let q = plays (serves r.0) u in
-        does_then v first (λ r. bind (serves r) (λ q. Done (filled_of q))) (λ q. with_device q.0 v.proxy) (λ q. with_device q.state v.proxy) one
+        does_then v first (λ r. bind (serves r) (λ q. Done (filled_of q))) (λ q. with_device q.0 v.proxy)
+        (λ q. with_device q.state v.proxy) one
         (does_then u (serves r.0) (λ q. Done (filled_of q)) (λ q. with_device q.0 v.proxy) (λ q. with_device q.state v.proxy) two
         (does_nothing (with_proxy (with_device q.0.state v.proxy) q.1 u) two.fine))
 
@@ -355,10 +369,12 @@ pub fill_stage_does : TurnDoes fill_stage
 fill_stage_does w t fine =
     let one = fill_does w fine in
     let r = plays (fill_rx_of w.proxy.device) w in
-    does_then w (fill_rx_of w.proxy.device) (λ r. Done (filled r.1 (device_after r.0 (turning_at w t)))) (λ u. u.state) (λ r. with_device r.0 w.proxy) one
+    does_then w (fill_rx_of w.proxy.device) (λ r. Done (filled r.1 (device_after r.0 (turning_at w t)))) (λ u. u.state)
+    (λ r. with_device r.0 w.proxy) one
     (ended r.0.1 (does_nothing (with_proxy (with_device r.0.0 w.proxy) r.1 w) one.fine))
   where
-    ended : (f : Result Filled Failure) → (let r = plays (fill_rx_of w.proxy.device) w in let v = with_proxy (with_device r.0.0 w.proxy) r.1 w in
+    ended : (f : Result Filled Failure) → (let r = plays (fill_rx_of w.proxy.device) w in let v = with_proxy
+        (with_device r.0.0 w.proxy) r.1 w in
         Does v (with_device r.0.0 w.proxy) r.1)
         → (let r = plays (fill_rx_of w.proxy.device) w in let v = with_proxy (with_device r.0.0 w.proxy) r.1 w in
         Does v (filled f (device_after r.0.0 (turning_at w t))).state r.1)

@@ -40,7 +40,8 @@ module _ (w : World) (x : Writing) (fine : w.proxy.device.failed ≡ None) where
   closing_from : (e : DeviceEntry) (a : Around) (b : Bool)
       → (let y = played answer_around (bind (bind (cond b (Done (with_connection e.slot (cut_off e.value) (with_fault w.proxy.device)))
       (Ask (CloseStream e.value.stream) (λ _. Done (with_connection e.slot (cut_off e.value) (with_fault w.proxy.device)))))
-      (λ s. Done (record (writing w.proxy.device) { state = s }))) (λ z. Done z.state)) a in Leads w (with_proxy (with_device y.0 w.proxy) y.1 w))
+      (λ s. Done (record (writing w.proxy.device) { state = s })))
+      (λ z. Done z.state)) a in Leads w (with_proxy (with_device y.0 w.proxy) y.1 w))
       → (let r = played answer_around (bind (cond b (Done (with_connection e.slot (cut_off e.value) (with_fault w.proxy.device)))
       (Ask (CloseStream e.value.stream) (λ _. Done (with_connection e.slot (cut_off e.value) (with_fault w.proxy.device)))))
       (λ s. Done (record (writing_at w x) { state = s }))) a in Does w (with_device r.0.state w.proxy) r.1)
@@ -48,7 +49,8 @@ module _ (w : World) (x : Writing) (fine : w.proxy.device.failed ≡ None) where
   closing_from e a false leads = record { leads = leads; fine = fine }
 
   answered_from : (e : DeviceEntry) (answer : StreamWrite) (a : Around)
-      → (let y = played answer_around (bind (write_answered e answer (writing w.proxy.device)) (λ z. Done z.state)) a in Leads w (with_proxy (with_device y.0 w.proxy) y.1 w))
+      → (let y = played answer_around (bind (write_answered e answer (writing w.proxy.device))
+      (λ z. Done z.state)) a in Leads w (with_proxy (with_device y.0 w.proxy) y.1 w))
       → (let r = played answer_around (write_answered e answer (writing_at w x)) a in Does w (with_device r.0.state w.proxy) r.1)
   answered_from e (write.Took n) a leads = record { leads = leads; fine = fine }
   answered_from e write.Again a leads = record { leads = leads; fine = fine }
@@ -58,7 +60,8 @@ module _ (w : World) (x : Writing) (fine : w.proxy.device.failed ≡ None) where
   pending_from : (e : DeviceEntry) → FromEvent (write_pending e)
   pending_from e = by (length (to_write e.value) == 0)
     where
-      by : (b : Bool) → FromEvent (λ y. cond b (Done y) (Ask (WriteStream e.value.stream (to_write e.value)) (λ answer. write_answered e answer y)))
+      by : (b : Bool) → FromEvent (λ y. cond b (Done y) (Ask (WriteStream e.value.stream (to_write e.value))
+          (λ answer. write_answered e answer y)))
       by true leads = record { leads = leads; fine = fine }
       by false leads =
           let a = (answer_around (WriteStream e.value.stream (to_write e.value)) (around w)).1 in
@@ -96,7 +99,8 @@ pump_does slot w x fine = by (entry_under w.proxy.device.table slot) (device_eve
         let one = pending_from w x fine e leads in
         let r = plays (write_pending e (writing_at w x)) w in
         let v = with_proxy (with_device r.0.state w.proxy) r.1 w in
-        does_then w (write_pending e (writing_at w x)) (shut_write slot) (λ y. with_device y.state w.proxy) (λ y. with_device y.state w.proxy) one
+        does_then w (write_pending e (writing_at w x)) (shut_write slot) (λ y. with_device y.state w.proxy)
+        (λ y. with_device y.state w.proxy) one
         (shut_does slot v r.0 one.fine)
 
     by : (o : Option DeviceEntry)
@@ -109,7 +113,8 @@ pump_does slot w x fine = by (entry_under w.proxy.device.table slot) (device_eve
     by None leads = does_nothing w fine
     by (Some e) leads = open_by e e.value.closed leads
 
-pub pump_all_does : (w : World) → w.proxy.device.failed ≡ None → let r = plays (pump_of w.proxy.device) w in Does w (with_device r.0.state w.proxy) r.1
+pub pump_all_does : (w : World) → w.proxy.device.failed ≡ None
+    → let r = plays (pump_of w.proxy.device) w in Does w (with_device r.0.state w.proxy) r.1
 pump_all_does w fine =
     leads.each_does writing_at writing_of (λ w a x. refl) (λ w a x y. refl) (λ w x. refl) pump_slot pump_does (slots w.proxy.device.table) w
     (writing w.proxy.device) fine
@@ -118,5 +123,6 @@ pub pump_stage_does : TurnDoes pump_stage
 pump_stage_does w t fine =
     let all = pump_all_does w fine in
     let r = plays (pump_of w.proxy.device) w in
-    does_then w (pump_of w.proxy.device) (λ y. Done (record (device_after y.state (turning_at w t)) { wrote = t.wrote + y.wrote })) (λ u. u.state)
+    does_then w (pump_of w.proxy.device) (λ y. Done (record (device_after y.state (turning_at w t)) { wrote = t.wrote + y.wrote }))
+    (λ u. u.state)
     (λ y. with_device y.state w.proxy) all (does_nothing (with_proxy (with_device r.0.state w.proxy) r.1 w) all.fine)

@@ -39,24 +39,29 @@ Emptied r = IsEmptied r.0
 reset_ends : (cid : ℕ) (s : ProxyState) (o : Option Failure) → o ≡ None → AllEnds Emptied (bind
     (elim o as (λ _. DeviceTree (DeviceState × Result (Unit {0}) Failure)) [
       | Some f ↦ Done (s.device, Err f)
-      | None ↦ bind (for_each close_slot (slots s.device.table) s.device) (λ t. Ask (Ring (PublishCid cid)) (λ _. Done (after_reset cid t, Ok tt)))
+      | None ↦ bind (for_each close_slot (slots s.device.table) s.device) (λ t. Ask (Ring (PublishCid cid))
+          (λ _. Done (after_reset cid t, Ok tt)))
     ]) (λ r. reset_with r s))
 reset_ends cid s (Some f) is = absurd cc
 reset_ends cid s None is =
-    ends_bind Emptied (bind (for_each close_slot (slots s.device.table) s.device) (λ t. Ask (Ring (PublishCid cid)) (λ _. Done (after_reset cid t, Ok tt))))
+    ends_bind Emptied (bind (for_each close_slot (slots s.device.table) s.device) (λ t. Ask (Ring (PublishCid cid))
+    (λ _. Done (after_reset cid t, Ok tt))))
     (λ r. reset_with r s)
     (ends_bind (λ r. AllEnds Emptied (reset_with r s)) (for_each close_slot (slots s.device.table) s.device)
     (λ t. Ask (Ring (PublishCid cid)) (λ _. Done (after_reset cid t, Ok tt)))
-    (all_ends (λ t. (a : Unit {0}) → AllEnds Emptied (reset_with (after_reset cid t, Ok tt) s)) (λ t a. closed (after_reset cid t) refl refl)
+    (all_ends (λ t. (a : Unit {0}) → AllEnds Emptied (reset_with (after_reset cid t, Ok tt) s))
+    (λ t a. closed (after_reset cid t) refl refl)
     (for_each close_slot (slots s.device.table) s.device)))
   where
     closed : (d : DeviceState) → d.table.entries ≡ [] → d.replies ≡ [] → AllEnds Emptied (reset_with (d, Ok tt) s)
     closed d table replies =
         ends_bind Emptied (for_each close_handshake (streams_of s) s) (λ t. Done (record (with_device d t) { handshakes = [] }, Ok tt))
-        (all_ends (λ t. IsEmptied (record (with_device d t) { handshakes = [] })) (λ t. record { table = table; replies = replies; handshakes = refl })
+        (all_ends (λ t. IsEmptied (record (with_device d t) { handshakes = [] }))
+        (λ t. record { table = table; replies = replies; handshakes = refl })
         (for_each close_handshake (streams_of s) s))
 
-pub device_emptied : (cid : ℕ) (w : World) → is_guest_cid cid ≡ true → w.proxy.device.failed ≡ None → IsEmptied (happens (Reset cid) w).proxy
+pub device_emptied : (cid : ℕ) (w : World) → is_guest_cid cid ≡ true → w.proxy.device.failed ≡ None
+    → IsEmptied (happens (Reset cid) w).proxy
 device_emptied cid w right fine =
     subst (λ (v : World). IsEmptied v.proxy) (sym (possible_is (is_guest_cid cid) (reset_made cid) w right))
     (ends_played Emptied _ (around w) (reset_ends cid w.proxy w.proxy.device.failed fine))
@@ -70,10 +75,12 @@ module _ (w : World) (well : IsWell w) (page : List ℕ) where
       (Ask LoadCid (λ cid. Done (record (start w.driver) { state = driver_parts.after_reset cid w.driver; count = 1; reset = true })))
       (Done (record (start w.driver) { count = 1 }))) (λ (r : Round). Done r.state)) reaped).0.table.entries ≡ []
   took_event false is = absurd cc
-  took_event true is = ap (λ t. t.entries) (left_all w.driver.table.entries (record w.driver { cid = w.rings.lists.cid }) refl well.driver.sound.rising).table
+  took_event true is = ap (λ t. t.entries) (left_all w.driver.table.entries
+      (record w.driver { cid = w.rings.lists.cid }) refl well.driver.sound.rising).table
 
   came : (o : Option (List ℕ)) → o ≡ Some page → is_reset_event page ≡ true
-      → (played driver_answer (event_came o w.driver) (after_reap q.Event w.rings.lists, log_reaped q.Event o w.rings.driver)).0.table.entries ≡ []
+      → (played driver_answer (event_came o w.driver)
+      (after_reap q.Event w.rings.lists, log_reaped q.Event o w.rings.driver)).0.table.entries ≡ []
   came None is reset = absurd cc
   came (Some other) is reset =
       let same : other ≡ page = cc in
@@ -82,12 +89,15 @@ module _ (w : World) (well : IsWell w) (page : List ℕ) where
       (took_event (is_reset_event page) reset)
 
   takes : (b : Bool) → b ≡ false → oldest w.rings.lists.event.back ≡ Some page → is_reset_event page ≡ true
-      → (played driver_answer (cond b (Done w.driver) (Ask (Reap q.Event) (λ p. event_came p w.driver))) (w.rings.lists, w.rings.driver)).0.table.entries ≡ []
+      → (played driver_answer (cond b (Done w.driver) (Ask (Reap q.Event)
+      (λ p. event_came p w.driver))) (w.rings.lists, w.rings.driver)).0.table.entries ≡ []
   takes true is page_is reset = absurd cc
   takes false is page_is reset = came (oldest w.rings.lists.event.back) page_is reset
 
   pub driver_emptied : works_on q.Event w.rings.driver.staged ≡ true → nat_lt REPLIES_FULL (length w.driver.replies) ≡ false
-      → oldest w.rings.lists.event.back ≡ Some page → is_reset_event page ≡ true → (happens (GuestTakes q.Event) w).driver.table.entries ≡ []
+      → oldest w.rings.lists.event.back ≡ Some page → is_reset_event page ≡ true
+      → (happens (GuestTakes q.Event) w).driver.table.entries ≡ []
   driver_emptied works few page_is reset =
-      ap (λ (v : World). v.driver.table.entries) (possible_is (works_on q.Event w.rings.driver.staged) (driver_step (takes_page q.Event)) w works)
+      ap (λ (v : World). v.driver.table.entries) (possible_is (works_on q.Event w.rings.driver.staged) (driver_step
+      (takes_page q.Event)) w works)
       ∙ takes (nat_lt REPLIES_FULL (length w.driver.replies)) few page_is reset

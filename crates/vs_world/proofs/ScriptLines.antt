@@ -60,7 +60,8 @@ script_leads [] w rest may = leads_none w w refl
 script_leads (l ∷ ls) w rest may =
     leads_then w (line l w).0 _ (line_leads l w rest may.0) (script_leads ls (line l w).0 (line_rests l w rest) may.1)
 
-pub script_rests : (ls : List Line) (w : World) → is_at_rest w.rings.driver.staged ≡ true → is_at_rest (after ls w).rings.driver.staged ≡ true
+pub script_rests : (ls : List Line) (w : World) → is_at_rest w.rings.driver.staged ≡ true
+    → is_at_rest (after ls w).rings.driver.staged ≡ true
 script_rests [] w rest = rest
 script_rests (l ∷ ls) w rest = script_rests ls (line l w).0 (line_rests l w rest)
 

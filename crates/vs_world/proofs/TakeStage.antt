@@ -90,7 +90,8 @@ abbrev Fine : DeviceTree (DeviceState × Verdict) → Type 0
 Fine tree = OffRing (λ (r : DeviceState × Verdict). r.0.failed ≡ None) tree
 
 module _ (chain : Chain) (h : Header) (s : DeviceState) (fine : s.failed ≡ None) where
-  peer_off : (e : DeviceEntry) (b : Bool) → Fine (bind (cond b (leaving (record e { value = heard h e.value }) s) (Done (with_connection e.slot (heard h e.value) s)))
+  peer_off : (e : DeviceEntry) (b : Bool) → Fine (bind (cond b (leaving (record e { value = heard h e.value }) s) (Done
+      (with_connection e.slot (heard h e.value) s)))
       (λ t. Done (t, verdict.Peer)))
   peer_off e false = fine
   peer_off e true = by e.value.closed
@@ -126,7 +127,11 @@ module _ (chain : Chain) (h : Header) (s : DeviceState) (fine : s.failed ≡ Non
   tries_off false true = (tt, dial_off)
   tries_off false false = fine
 
-  unknown_off : (a b : Bool) → Fine (cond a (Done (s, verdict.Ignore)) (cond b (try_request h s) (Done (with_reply (reply_to h) s, verdict.Rst (unknown_why h)))))
+  unknown_off : (a b : Bool) → Fine (cond a (Done (s, verdict.Ignore)) (cond b (try_request h s) (Done (
+    with_reply
+        (reply_to h) s,
+    verdict.Rst (unknown_why h),
+  ))))
   unknown_off true b = fine
   unknown_off false true = tries_off (is_assigned h.dst_port) (has_place s.table)
   unknown_off false false = fine
@@ -180,7 +185,8 @@ module _ (w : World) (t : Turning) where
       by (nat_le REPLIES (length w.proxy.device.replies)) few (device_event (DeviceTakes q.Tx) (takes_chain q.Tx) v refl refl)
     where
       by : (b : Bool) → b ≡ false
-          → (let v = taking given in let x = plays (cond b (Done v.proxy.device) (Ask (Ring (Take q.Tx)) (λ answer. chain_came answer v.proxy.device))) v in
+          → (let v = taking given in let x = plays (cond b (Done v.proxy.device) (Ask (Ring (Take q.Tx))
+          (λ answer. chain_came answer v.proxy.device))) v in
           Leads v (with_proxy (with_device x.0 v.proxy) x.1 v))
           → (let v = taking given in let x = plays (Ask (Ring (Take q.Tx)) (λ answer. chain_came answer v.proxy.device)) v in
           Leads v (with_proxy (with_device x.0 v.proxy) x.1 v))
@@ -202,28 +208,35 @@ module _ (w : World) (t : Turning) where
 
     -- It is returned after all that the packet asks for.
     packet_goes : (h : Header)
-        → (let x = played answer_around (bind (on_packet c h s) (λ r. Done r.0)) a in Leads here (with_proxy (with_device x.0 w.proxy) x.1 here))
-        → (let r = played answer_around (bind (bind (on_packet c h s) (λ r. Ask (Ring (Return c 0)) (λ _. Done (r.0, taken.Packet r.1)))) (counts (turning_at here t))) a in
+        → (let x = played answer_around (bind (on_packet c h s)
+        (λ r. Done r.0)) a in Leads here (with_proxy (with_device x.0 w.proxy) x.1 here))
+        → (let r = played answer_around (bind (bind (on_packet c h s) (λ r. Ask (Ring (Return c 0))
+        (λ _. Done (r.0, taken.Packet r.1)))) (counts (turning_at here t))) a in
         Goes here r.0 r.1)
     packet_goes h leads =
         let y = played answer_around (on_packet c h s) a in
         let quiet = off_played (λ (r : DeviceState × Verdict). r.0.failed ≡ None) (on_packet c h s) a (packet_off c h s refl) in
         let v = with_proxy (with_device y.0.0 w.proxy) y.1 here in
-        let first : Leads here v = subst (λ x. Leads here (with_proxy (with_device x.0 w.proxy) x.1 here)) (device_bind (on_packet c h s) (λ r. Done r.0) a) leads in
+        let first : Leads here v = subst (λ x. Leads here (with_proxy (with_device x.0 w.proxy) x.1 here)) (device_bind
+        (on_packet c h s) (λ r. Done r.0) a) leads in
         let held : holds q.Tx c v ≡ true =
         ap (λ (l : EndLog). is_held c l.held) quiet.log ∙ ap (λ (b : Bool). cond b true (is_held c w.rings.device.held)) (same_self c) in
         subst (λ r. Goes here r.0 r.1)
-        (sym (bind_twice (on_packet c h s) (λ r. Ask (Ring (Return c 0)) (λ _. Done (r.0, taken.Packet r.1))) (counts (turning_at here t)) a)) (record {
-          leads = leads_then here v _ first (leads_one (DeviceReturns c) v _ (possible_is (holds q.Tx c v) (device_step (returns c)) v held));
+        (sym (bind_twice (on_packet c h s) (λ r. Ask (Ring (Return c 0))
+        (λ _. Done (r.0, taken.Packet r.1))) (counts (turning_at here t)) a)) (record {
+          leads = leads_then here v _ first (leads_one (DeviceReturns c) v _ (possible_is (holds q.Tx c v) (device_step
+              (returns c)) v held));
           fine = λ _. quiet.ends;
         })
 
     header_goes : (h : Header) (b : Bool)
-        → (let x = played answer_around (cond b (Done (failing (failure.PayloadShort h.len (c.readable - 44)) s)) (bind (on_packet c h s) (λ r. Done r.0))) a in
+        → (let x = played answer_around (cond b (Done (failing (failure.PayloadShort h.len (c.readable - 44)) s)) (bind
+        (on_packet c h s) (λ r. Done r.0))) a in
         Leads here (with_proxy (with_device x.0 w.proxy) x.1 here))
         → (let r = played answer_around (bind (cond b
         (Done (failing (failure.PayloadShort h.len (c.readable - 44)) s, taken.Failed (failure.PayloadShort h.len (c.readable - 44))))
-        (bind (on_packet c h s) (λ r. Ask (Ring (Return c 0)) (λ _. Done (r.0, taken.Packet r.1))))) (counts (turning_at here t))) a in Goes here r.0 r.1)
+        (bind (on_packet c h s) (λ r. Ask (Ring (Return c 0))
+        (λ _. Done (r.0, taken.Packet r.1))))) (counts (turning_at here t))) a in Goes here r.0 r.1)
     header_goes h true leads = stops here _ a leads
     header_goes h false leads = packet_goes h leads
 
@@ -240,7 +253,8 @@ module _ (w : World) (t : Turning) where
 
   one_goes : (given : List (List ℕ)) (b : Bool) → nat_le REPLIES (length w.proxy.device.replies) ≡ b
       → (let v = taking given in
-      let r = plays (bind (cond b (Done (v.proxy.device, taken.RepliesFull REPLIES)) (Ask (Ring (Take q.Tx)) (λ answer. on_next answer v.proxy.device)))
+      let r = plays (bind (cond b (Done (v.proxy.device, taken.RepliesFull REPLIES)) (Ask (Ring (Take q.Tx))
+      (λ answer. on_next answer v.proxy.device)))
       (counts (turning_at v t))) v in Goes v r.0 r.1)
   one_goes given true is = let v = taking given in stops v _ _ (leads_none v v refl)
   one_goes given false is = page_goes given (tx_taken given is)
@@ -261,7 +275,8 @@ take_stage_leads (suc n) w t fine =
     let one = take_goes w t fine in
     let r = plays (take_one (turning_at w t)) w in
     let v = with_proxy r.0.0.state r.1 w in
-    leads_bind w (take_one (turning_at w t)) (λ r. elim r.1 as (λ _. DeviceTree Turning) [ true ↦ while_up_to n take_one r.0 | false ↦ Done r.0 ])
+    leads_bind w (take_one (turning_at w t)) (λ r. elim r.1 as
+    (λ _. DeviceTree Turning) [ true ↦ while_up_to n take_one r.0 | false ↦ Done r.0 ])
     (λ u. u.state) (λ u. u.0.state) one.leads (more r.0.1 (λ goes. take_stage_leads n v r.0.0 (one.fine goes)) refl)
   where
     more : (b : Bool)
@@ -285,7 +300,11 @@ module _ (w : World) where
   pays : (owed : Bool) (given : List (List ℕ)) → let v = owing owed given in let r = plays (pay_event_of v.proxy.device) v in
       Does v (with_device r.0.0 w.proxy) r.1
   pays false given = does_nothing (owing false given) refl
-  pays true [] = let v = owing true [] in record { leads = device_event (DeviceTakes q.Event) (takes_chain q.Event) v refl refl; fine = refl }
+  pays true [] = let v = owing true [] in record {
+    leads = device_event (DeviceTakes q.Event)
+        (takes_chain q.Event) v refl refl;
+    fine = refl;
+  }
   pays true (page ∷ pages) =
       let v = owing true (page ∷ pages) in
       let c = chain_with q.Event w.rings.lists.event.place page in
@@ -297,7 +316,8 @@ module _ (w : World) where
         fine = refl;
       }
 
-pub event_does : (w : World) → w.proxy.device.failed ≡ None → let r = plays (pay_event_of w.proxy.device) w in Does w (with_device r.0.0 w.proxy) r.1
+pub event_does : (w : World) → w.proxy.device.failed ≡ None
+    → let r = plays (pay_event_of w.proxy.device) w in Does w (with_device r.0.0 w.proxy) r.1
 event_does w fine = by w.proxy.device.failed fine
   where
     by : (o : Option Failure) → o ≡ None → let v = record w { proxy = with_device (record w.proxy.device { failed = o }) w.proxy } in
@@ -309,5 +329,6 @@ pub event_stage_does : TurnDoes event_stage
 event_stage_does w t fine =
     let one = event_does w fine in
     let r = plays (pay_event_of w.proxy.device) w in
-    does_then w (pay_event_of w.proxy.device) (λ r. Done (device_after r.0 (turning_at w t))) (λ u. u.state) (λ r. with_device r.0 w.proxy) one
+    does_then w (pay_event_of w.proxy.device) (λ r. Done (device_after r.0 (turning_at w t))) (λ u. u.state)
+    (λ r. with_device r.0 w.proxy) one
     (does_nothing (with_proxy (with_device r.0.0 w.proxy) r.1 w) one.fine)

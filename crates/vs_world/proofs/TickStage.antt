@@ -40,14 +40,16 @@ pub devices : {X : Type 0} (step : X → DeviceState → DeviceTree DeviceState)
     → (xs : List X) (w : World) → w.proxy.device.failed ≡ None
     → let r = plays (for_each step xs w.proxy.device) w in Does w (with_device r.0 w.proxy) r.1
 devices step does xs w fine =
-    leads.each_does device_at device_of (λ w a x. refl) (λ w a x y. refl) (λ w x. refl) step (λ i w x fine. does i w fine) xs w w.proxy.device fine
+    leads.each_does device_at device_of (λ w a x. refl) (λ w a x y. refl) (λ w x. refl) step
+    (λ i w x fine. does i w fine) xs w w.proxy.device fine
 
 -- A connection times out.
 tick_fine : (slot : ℕ) (s : DeviceState) → s.failed ≡ None → EndsFine (tick_slot slot s)
 tick_fine slot s fine = by (entry_under s.table slot)
   where
     closed_by : (e : DeviceEntry) (b : Bool) → EndsFine (cond b
-        (Done (with_connection e.slot (cut_off e.value) s)) (Ask (CloseStream e.value.stream) (λ _. Done (with_connection e.slot (cut_off e.value) s))))
+        (Done (with_connection e.slot (cut_off e.value) s)) (Ask (CloseStream e.value.stream)
+        (λ _. Done (with_connection e.slot (cut_off e.value) s))))
     closed_by e true = fine
     closed_by e false = λ _. fine
 
@@ -129,7 +131,8 @@ module _ (w : World) (t : Turning) (fine : w.proxy.device.failed ≡ None) where
   accept_alike : Alike w t accept_one
   accept_alike = by (nat_lt (length w.proxy.handshakes) HANDSHAKES)
     where
-      answered : (x : Accepted) → (let p = (accept_answered x (start w.proxy)).state in let q = (accept_answered x (turning_at w t)).state in
+      answered : (x : Accepted) → (let p = (accept_answered x (start w.proxy)).state in let q = (accept_answered x
+          (turning_at w t)).state in
           (p ≡ q) × (q.device.failed ≡ None))
       answered (accepted.Stream stream) = (refl, fine)
       answered accepted.None = (refl, fine)
@@ -158,7 +161,11 @@ module _ (w : World) (t : Turning) (fine : w.proxy.device.failed ≡ None) where
         by : (o : Option TableFault) → ByteAlike a (λ u. bind (bind (elim o as (λ _. DeviceTree (DeviceState × Result ℕ TableFault)) [
           | Some fault ↦ Done (w.proxy.device, Err fault)
           | None ↦ Ask (Label stream (record { guest = port; host = w.proxy.next_port }))
-              (λ _. Done (with_client (record { guest = port; host = w.proxy.next_port }) stream w.proxy.device, Ok w.proxy.device.table.given))
+              (λ _. Done (
+                with_client (record { guest = port; host = w.proxy.next_port }) stream w.proxy.device,
+                Ok
+                    w.proxy.device.table.given,
+              ))
         ]) (λ r. Done (record (with_read u) {
           state = record (with_device r.0 (without_handshake stream (with_read u).state)) { next_port = w.proxy.next_port + 1 };
         }))) (λ v. Done (v, false)))
@@ -170,7 +177,8 @@ module _ (w : World) (t : Turning) (fine : w.proxy.device.failed ≡ None) where
     decides_alike step.Bad = record { same = refl; fine = fine }
     decides_alike (step.Port port) = by (may_open (record w.proxy { handshakes = hs }))
       where
-        by : (b : Bool) → ByteAlike a (λ u. bind (cond b (opening stream port (with_read u)) (dropping stream (with_read u))) (λ v. Done (v, false)))
+        by : (b : Bool) → ByteAlike a (λ u. bind (cond b (opening stream port (with_read u)) (dropping stream (with_read u)))
+            (λ v. Done (v, false)))
         by true = opens_alike port
         by false = record { same = refl; fine = fine }
 
@@ -222,7 +230,8 @@ tick_stage_does now w t fine =
     let one = ticks_do now w fine in
     let r = plays (tick_of now w.proxy.device) w in
     let v = with_proxy (with_device r.0 w.proxy) r.1 w in
-    does_then w (tick_of now w.proxy.device) (λ d. tick_handshakes (device_after d (turning_at w t))) (λ u. u.state) (λ d. with_device d w.proxy) one
+    does_then w (tick_of now w.proxy.device) (λ d. tick_handshakes (device_after d (turning_at w t))) (λ u. u.state)
+    (λ d. with_device d w.proxy) one
     (turns tick_handshake late_does (streams_of v.proxy) v t one.fine)
 
 pub shake_does : TurnDoes shake_hands

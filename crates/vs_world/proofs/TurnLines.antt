@@ -51,16 +51,20 @@ module _ (s : ProxyState) where
   pumps : Rest (λ d. bind (unless_failed pump_stage d) (λ e. bind (unless_failed fill_stage e) (λ f. Done (f.state, turned s f))))
   pumps w t = stage_then (unless_failed pump_stage) _ w t (unless pump_stage w t (λ fine. (pump_stage_does w t fine).leads)) fills
 
-  shakes : Rest (λ c. bind (unless_failed shake_hands c) (λ d. bind (unless_failed pump_stage d) (λ e. bind (unless_failed fill_stage e) (λ f. Done (f.state, turned s f)))))
+  shakes : Rest (λ c. bind (unless_failed shake_hands c) (λ d. bind (unless_failed pump_stage d)
+      (λ e. bind (unless_failed fill_stage e) (λ f. Done (f.state, turned s f)))))
   shakes w t = stage_then (unless_failed shake_hands) _ w t (unless shake_hands w t (λ fine. (shake_does w t fine).leads)) pumps
 
-  takes : (size : ℕ) → Rest (λ b. bind (unless_failed (take_stage size) b) (λ c. bind (unless_failed shake_hands c) (λ d. bind (unless_failed pump_stage d)
+  takes : (size : ℕ) → Rest (λ b. bind (unless_failed (take_stage size) b) (λ c. bind (unless_failed shake_hands c)
+      (λ d. bind (unless_failed pump_stage d)
       (λ e. bind (unless_failed fill_stage e) (λ f. Done (f.state, turned s f))))))
   takes size w t = stage_then (unless_failed (take_stage size)) _ w t (unless (take_stage size) w t (take_stage_leads size w t)) shakes
 
-  events : (size : ℕ) → Rest (λ a. bind (unless_failed event_stage a) (λ b. bind (unless_failed (take_stage size) b) (λ c. bind (unless_failed shake_hands c)
+  events : (size : ℕ) → Rest (λ a. bind (unless_failed event_stage a) (λ b. bind (unless_failed (take_stage size) b)
+      (λ c. bind (unless_failed shake_hands c)
       (λ d. bind (unless_failed pump_stage d) (λ e. bind (unless_failed fill_stage e) (λ f. Done (f.state, turned s f)))))))
-  events size w t = stage_then (unless_failed event_stage) _ w t (unless event_stage w t (λ fine. (event_stage_does w t fine).leads)) (takes size)
+  events size w t = stage_then (unless_failed event_stage) _ w t (unless event_stage w t
+      (λ fine. (event_stage_does w t fine).leads)) (takes size)
 
 pub turn_leads : (now : ℕ) (w : World) → Leads w (turn_line now w).0
 turn_leads now w =
