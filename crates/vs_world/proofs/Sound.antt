@@ -274,7 +274,7 @@ module _ (w : World) (well : IsWell w) where
       (proxy_side.accept_keeps (both_of w).driver first_cid w.proxy (around w) well.sound well.device well.device_puts well.chain well.known))
   happens_goes (ProxyReads stream) = unfailed (has_failed w) (proxy_step (line_read stream)) w refl well (proxy_step_goes (line_read stream)
       (proxy_side.line_read_keeps (both_of w).driver first_cid w.proxy (around w) well.sound well.device well.device_puts well.chain well.known stream))
-  happens_goes (Moment now) = possible (nat_le w.proxy.device.now now) (at_moment now) w well (λ may. at_moment_goes now)
+  happens_goes (Moment now) = at_moment_goes now
   happens_goes (TimesOut slot) = unfailed (has_failed w) (device_step (tick_slot slot)) w refl well (device_step_goes (tick_slot slot)
       (device_streams.tick_keeps (both_of w).driver first_cid w.proxy.next_port w.proxy.device (around w) well.sound well.device well.device_puts well.chain well.known slot))
   happens_goes (HandshakeTimesOut stream) = unfailed (has_failed w) (proxy_step (tick_handshake stream)) w refl well (proxy_step_goes (tick_handshake stream)

@@ -3,4 +3,6 @@
 #![tactic(auto)]
 
 pub mod laws;
+pub mod resets;
+pub mod scripts;
 pub mod worked;
