@@ -1,0 +1,5 @@
+pub mod Answers
+pub mod Content
+pub mod Guest
+pub mod Run
+pub mod Worked
