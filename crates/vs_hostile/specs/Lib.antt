@@ -1,5 +1,4 @@
 pub mod Answers
-pub mod Content
 pub mod Guest
 pub mod Run
 pub mod Worked

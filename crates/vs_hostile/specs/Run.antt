@@ -17,7 +17,7 @@ use Rattle.vs_proxy.specs.declared.answers.Turn.{Turn}
 use Rattle.vs_script.specs.Hostile.{Hostile, Memory as SetMemory, Rings as SetRings, Look, Around as OfOutside}
 use Rattle.vs_script.specs.Outside.{Host, HostListen, HostUnlisten, HostWrite, HostAllow, HostEnd, HostClosed, HostFail, Outside, Turn as TakeTurn, Reset, Tick, Client, OfHost}
 use Rattle.vs_hostile.specs.Answers.{Around, answer_around}
-use Rattle.vs_hostile.specs.Content.{bytes_of}
+use Rattle.vs_script.specs.Data.{bytes_of}
 use Rattle.vs_hostile.specs.Guest.{guest_writes}
 
 -- The guest's memory as far as the script has set it up.

@@ -2,4 +2,5 @@
 //! the host's streams stay in order.
 #![tactic(auto)]
 
+pub mod guest;
 pub mod worked;
