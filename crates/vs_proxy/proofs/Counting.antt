@@ -1,22 +1,11 @@
 -- How many connections may come and leave in the device's calls.
 use Rattle.std.specs.Prelude.{if◌then◌else◌, Result, Ok, Err}
-use Rattle.std.proofs.Common.{◌≡◌, ℕ, zero, suc, ◌+◌, ◌≤◌, ◌^◌, min, Bool, true, false, cond, List, [], ◌∷◌, length, ◌==◌, Option, Some, None, refl, sym, ap, ◌∙◌, arith}
-use Rattle.vs_contents.specs.CallTree.{CallTree, Done, Ask, bind, for_each, while_up_to}
+use Rattle.std.proofs.Common.{◌≡◌, ℕ, zero, suc, ◌+◌, ◌≤◌, Bool, true, false, cond, List, [], ◌∷◌, length, ◌==◌, Option, Some, None, refl, arith}
+use Rattle.vs_contents.specs.CallTree.{Done, Ask, bind, for_each, while_up_to}
 use Rattle.vs_contents.proofs.Leads.{AllEnds, ends_bind, ends_weaker}
-use Rattle.vs_conn.specs.End.{owes_of, verdict_of, is_stream, is_reset}
-use Rattle.vs_conn.specs.declared.end.Owed.{Owed}
-use Rattle.vs_conn.specs.declared.end.Owed.TheVariants as owed
-use Rattle.vs_conn.specs.declared.end.Verdict.{Verdict}
-use Rattle.vs_conn.specs.declared.end.Verdict.TheVariants as verdict
-use Rattle.vs_conn.specs.declared.end.Why.{Why}
-use Rattle.vs_conn.specs.declared.end.Why.TheVariants as why
 use Rattle.vs_flow.specs.Table.{entry_under, slots}
-use Rattle.vs_header.specs.declared.Header.{Header}
-use Rattle.vs_outside.specs.declared.host_net.StreamRead.{StreamRead}
-use Rattle.vs_outside.specs.declared.host_net.StreamRead.TheVariants as read
 use Rattle.vs_outside.specs.declared.host_net.StreamWrite.{StreamWrite}
 use Rattle.vs_outside.specs.declared.host_net.StreamWrite.TheVariants as write
-use Rattle.vs_ring_port.specs.declared.device_ring.Chain.{Chain}
 use Rattle.vs_ring_port.specs.declared.device_ring.Next.{Next}
 use Rattle.vs_ring_port.specs.declared.device_ring.Next.TheVariants as next
 use Rattle.vs_wrap.specs.Wrap.{counted}
@@ -24,14 +13,12 @@ use Rattle.vs_device.specs.Calls.{DeviceTree}
 use Rattle.vs_device.specs.State.{DeviceConnection, DeviceState, DeviceEntry}
 use Rattle.vs_device.specs.Streams.{closing, leaving, tick_slot, tick_of, Writing, pump_of, pump_slot, write_answered, write_pending, shut_write, to_write, is_written_out}
 use Rattle.vs_device.specs.Connections.{is_timed_out, cut_off, stream_closed}
-use Rattle.vs_outside.specs.declared.host_net.Dialed.{Dialed}
-use Rattle.vs_outside.specs.declared.host_net.Dialed.TheVariants as dialed
 use Rattle.vs_flow.specs.declared.flow.Flow.{Flow}
 use Rattle.vs_flow.specs.declared.table.TableFault.{TableFault}
 use Rattle.vs_flow.specs.Table.{refusal}
 use Rattle.vs_ring_port.specs.declared.failure.Failure.{Failure}
-use Rattle.vs_ring_port.specs.declared.queue.Queue.TheVariants.{Tx, Rx, Event}
-use Rattle.vs_ring_port.specs.Contents.{Take, Read, Write, Return}
+use Rattle.vs_ring_port.specs.declared.queue.Queue.TheVariants.{Event}
+use Rattle.vs_ring_port.specs.Contents.{Take}
 use Rattle.vs_device.specs.Calls.{Ring, Label, CloseStream, WriteStream, ShutWrite}
 use Rattle.vs_device.specs.Connections.{with_connection, with_fault, after_leaving, with_client}
 use Rattle.vs_device.specs.Receiving.{event_on, pay_event_of}

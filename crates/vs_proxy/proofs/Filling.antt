@@ -1,7 +1,6 @@
 -- How many connections may leave while packets are put: each leaves with its RST.
-use Rattle.std.specs.Prelude.{if◌then◌else◌, not, nat_lt, nat_le, Result, Ok, Err}
-use Rattle.std.specs.List.{filter}
-use Rattle.std.proofs.Common.{◌≡◌, ℕ, ◌+◌, ◌≤◌, ◌==◌, Bool, true, false, cond, List, [], ◌∷◌, ◌++◌, length, Option, Some, None, refl, sym, ap, ◌∙◌, arith}
+use Rattle.std.specs.Prelude.{if◌then◌else◌, not, Result, Ok, Err}
+use Rattle.std.proofs.Common.{◌≡◌, ℕ, ◌+◌, ◌≤◌, ◌==◌, Bool, true, false, cond, List, [], ◌∷◌, length, Option, Some, None, refl, arith}
 use Rattle.vs_contents.specs.CallTree.{Done, Ask, bind, for_each, while_up_to}
 use Rattle.vs_contents.proofs.Leads.{ends_bind, ends_weaker}
 use Rattle.vs_conn.specs.End.{owes_of, wanting_credit, with_payload_sent}
@@ -11,13 +10,11 @@ use Rattle.vs_conn.specs.declared.end.Owed.TheVariants as owed
 use Rattle.vs_conn.specs.declared.end.TheConstants.{OWED_MAX}
 use Rattle.vs_credit.specs.Credit.{free_of}
 use Rattle.vs_flow.specs.Table.{entry_under, slots}
-use Rattle.vs_header.specs.Packet.{header_bytes}
 use Rattle.vs_header.specs.declared.Header.{Header}
-use Rattle.vs_header.specs.declared.TheConstants.{HEADER_LEN}
 use Rattle.vs_outside.specs.declared.host_net.StreamRead.{StreamRead}
 use Rattle.vs_outside.specs.declared.host_net.StreamRead.TheVariants as read
 use Rattle.vs_replies.specs.declared.Reply.{Reply}
-use Rattle.vs_ring_port.specs.Contents.{Take, Write, Return}
+use Rattle.vs_ring_port.specs.Contents.{Take}
 use Rattle.vs_ring_port.specs.declared.device_ring.Chain.{Chain}
 use Rattle.vs_ring_port.specs.declared.device_ring.Next.{Next}
 use Rattle.vs_ring_port.specs.declared.device_ring.Next.TheVariants as next
@@ -28,9 +25,9 @@ use Rattle.vs_device.specs.Calls.{DeviceTree, Ring, ReadStream}
 use Rattle.vs_device.specs.Connections.{with_connection, with_fault, route_to_guest, cut_off}
 use Rattle.vs_device.specs.State.{DeviceEntry, DeviceState}
 use Rattle.vs_device.specs.Streams.{closing}
-use Rattle.vs_device.specs.Receiving.{Filling, after_paying, fill_rx_of, filled_of, hold, holding, may_read, put_on, put_owed, put_packet, put_payload, put_reply, put_reply_of, read_answered, read_room, read_stream, read_with_chain, reply_header, round_from, serve_slot, written}
+use Rattle.vs_device.specs.Receiving.{Filling, after_paying, fill_rx_of, filled_of, hold, holding, may_read, put_on, put_owed, put_packet, put_payload, put_reply, put_reply_of, read_answered, read_room, read_stream, read_with_chain, reply_header, round_from, serve_slot}
 use Rattle.vs_proxy.specs.Turning.{CountsFew}
-use Rattle.vs_proxy.proofs.Counting.{Ends, closing_few, few_more, keeps_bind, keeps_each, keeps_while, leaving_few, same_few}
+use Rattle.vs_proxy.proofs.Counting.{Ends, closing_few, keeps_bind, keeps_each, keeps_while, leaving_few}
 
 -- no more left than packets were put
 record Puts (r q : Filling) : Type 0 where

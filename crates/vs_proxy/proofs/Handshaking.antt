@@ -4,7 +4,7 @@ use Rattle.std.specs.Option.{option_map_or}
 use Rattle.std.specs.List.{find}
 use Rattle.std.proofs.lemmas.Bool.{eqb-true}
 use Rattle.std.specs.Prelude.{Result}
-use Rattle.std.proofs.Common.{◌≡◌, ℕ, ◌+◌, ◌==◌, Bool, true, false, cond, List, [], ◌∷◌, ◌++◌, length, Option, Some, None, refl, sym, ap, subst, ◌∙◌}
+use Rattle.std.proofs.Common.{◌≡◌, ℕ, ◌+◌, ◌==◌, Bool, true, false, cond, List, [], ◌∷◌, ◌++◌, length, Option, Some, None, refl, sym, ap, ◌∙◌}
 use Rattle.vs_contents.specs.CallTree.{Done, Ask, bind, for_each}
 use Rattle.vs_contents.proofs.Leads.{leads_of, leads_bind}
 use Rattle.vs_contents.proofs.Conditions.{may_first, may_rest, may_of}
@@ -21,7 +21,7 @@ use Rattle.vs_device.specs.Playing.{CanMake, MayRun, Runs}
 use Rattle.vs_device.specs.State.{DeviceState}
 use Rattle.vs_device.specs.Turns.{open_of}
 use Rattle.vs_proxy.specs.Handshakes.{accept_answered, accept_one, byte_read, dropping, handshake_on, line_decided, may_open, read_byte, read_line, shake_hands, streams_of, tick_handshake, with_line, without_handshake, without_stream}
-use Rattle.vs_proxy.specs.State.{Handshake, ProxyState, Turning, with_device}
+use Rattle.vs_proxy.specs.State.{Handshake, Turning, with_device}
 use Rattle.vs_proxy.specs.Turning.{closing_client, connecting, opening_client, read_lines, without_it}
 use Rattle.vs_proxy.specs.declared.limits.TheConstants.{HANDSHAKES}
 

@@ -1,7 +1,7 @@
 -- A transport reset of the proxy.
 use Rattle.std.specs.Prelude.{Result, Ok, Err}
-use Rattle.std.proofs.Common.{◌≡◌, ℕ, List, [], refl, sym, ap, subst, ◌∙◌}
-use Rattle.vs_contents.specs.CallTree.{Done, bind, for_each}
+use Rattle.std.proofs.Common.{◌≡◌, ℕ, [], refl, sym, ap}
+use Rattle.vs_contents.specs.CallTree.{Done, for_each}
 use Rattle.vs_contents.proofs.Leads.{leads_bind}
 use Rattle.vs_contents.proofs.Conditions.{may_first, may_rest}
 use Rattle.vs_ring_port.specs.declared.failure.Failure.{Failure}

@@ -2,7 +2,7 @@
 use Rattle.std.specs.Prelude.{Result}
 use Rattle.std.proofs.Common.{◌≡◌, ℕ, ◌+◌, Bool, true, false, List, Option, Some, None, is_some, refl, sym, ap, subst, ◌∙◌}
 use Rattle.std.specs.Option.{IfSome}
-use Rattle.vs_contents.specs.CallTree.{Done, bind}
+use Rattle.vs_contents.specs.CallTree.{Done}
 use Rattle.vs_contents.proofs.Leads.{leads_bind, leads_of}
 use Rattle.vs_contents.proofs.Conditions.{may_first, may_of, may_rest}
 use Rattle.vs_ring_port.specs.declared.device_ring.Chain.{Chain}

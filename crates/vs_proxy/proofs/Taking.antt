@@ -1,12 +1,11 @@
 -- How many connections may come and leave when a packet is taken.
 use Rattle.std.specs.Prelude.{if◌then◌else◌, nat_lt, nat_le}
-use Rattle.std.proofs.Common.{◌≡◌, ℕ, ◌+◌, ◌-◌, ◌≤◌, ◌==◌, ◌&&◌, Bool, true, false, cond, List, [], ◌∷◌, ◌++◌, length, Option, Some, None, refl, arith}
+use Rattle.std.proofs.Common.{◌≡◌, ◌-◌, ◌==◌, ◌&&◌, Bool, true, false, cond, length, Option, Some, None, refl, arith}
 use Rattle.vs_contents.specs.CallTree.{Done, Ask, bind}
 use Rattle.vs_contents.proofs.Leads.{ends_bind, ends_weaker}
 use Rattle.vs_conn.specs.End.{verdict_of, is_stream, is_reset}
 use Rattle.vs_conn.specs.declared.end.Verdict.{Verdict}
 use Rattle.vs_conn.specs.declared.end.Verdict.TheVariants as verdict
-use Rattle.vs_conn.specs.declared.end.Why.{Why}
 use Rattle.vs_conn.specs.declared.end.Why.TheVariants as why
 use Rattle.vs_flow.specs.Flow.{is_assigned}
 use Rattle.vs_flow.specs.Table.{entry_of, has_place}
@@ -20,7 +19,7 @@ use Rattle.vs_outside.specs.declared.host_net.Dialed.TheVariants as dialed
 use Rattle.vs_page.specs.Log.{flow_to_host, Device}
 use Rattle.vs_page.specs.Open.{is_dropped}
 use Rattle.vs_replies.specs.Owed.{reply_to}
-use Rattle.vs_ring_port.specs.Contents.{Take, Read, Return}
+use Rattle.vs_ring_port.specs.Contents.{Take, Return}
 use Rattle.vs_ring_port.specs.declared.device_ring.Chain.{Chain}
 use Rattle.vs_ring_port.specs.declared.device_ring.Next.{Next}
 use Rattle.vs_ring_port.specs.declared.device_ring.Next.TheVariants as next
@@ -34,7 +33,7 @@ use Rattle.vs_device.specs.declared.limits.TheConstants.{REPLIES}
 use Rattle.vs_wrap.specs.Wrap.{counted}
 use Rattle.vs_device.specs.Calls.{DeviceTree, Ring, Dial}
 use Rattle.vs_device.specs.Connections.{with_connection, with_reply}
-use Rattle.vs_device.specs.State.{DeviceConnection, DeviceEntry, DeviceState}
+use Rattle.vs_device.specs.State.{DeviceEntry, DeviceState}
 use Rattle.vs_device.specs.Streams.{leaving}
 use Rattle.vs_device.specs.Transmitting.{dial_answered, failing, heard, on_header, on_known, on_next, on_packet, on_unknown, refused, take_tx_of, try_request, unknown_why}
 use Rattle.vs_proxy.specs.Turning.{CountsFew}

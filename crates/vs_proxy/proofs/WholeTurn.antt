@@ -1,7 +1,7 @@
 -- A turn is its six stages.
-use Rattle.std.proofs.Common.{◌≡◌, ℕ, ◌-◌, Option, Some, None, refl, sym, ap, subst, ◌∙◌}
+use Rattle.std.proofs.Common.{◌≡◌, ℕ, ◌-◌, Option, Some, None, ap, ◌∙◌}
 use Rattle.vs_contents.specs.CallTree.{Done, bind}
-use Rattle.vs_contents.proofs.Leads.{leads_bind, leads_of, leads_to}
+use Rattle.vs_contents.proofs.Leads.{leads_bind}
 use Rattle.vs_contents.proofs.Conditions.{may_first, may_rest}
 use Rattle.vs_ring_port.specs.declared.failure.Failure.{Failure}
 use Rattle.vs_device.specs.Calls.{DeviceTree, Situation, Allows}

@@ -1,7 +1,6 @@
 -- A turn in progress, as its steps count it.
-use Rattle.std.specs.Prelude.{ℕ, ◌+◌, ◌≤◌, Bool, true, false, if◌then◌else◌, List, Option, Some, None}
-use Rattle.vs_contents.specs.CallTree.{Done, Ask, bind, for_each, while_up_to}
-use Rattle.vs_flow.specs.declared.flow.Flow.{Flow}
+use Rattle.std.specs.Prelude.{ℕ, ◌+◌, ◌≤◌, if◌then◌else◌}
+use Rattle.vs_contents.specs.CallTree.{Done, Ask, bind, for_each}
 use Rattle.vs_device.specs.Calls.{DeviceTree, CloseStream}
 use Rattle.vs_device.specs.State.{DeviceState}
 use Rattle.vs_device.specs.Turns.{open_of}

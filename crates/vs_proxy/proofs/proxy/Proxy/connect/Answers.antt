@@ -1,9 +1,9 @@
 use Rattle.std.specs.Prelude.{Result}
-use Rattle.std.proofs.Common.{◌≡◌, ℕ, ◌+◌, Bool, false, true, refl, sym, ap, subst, ◌∙◌}
+use Rattle.std.proofs.Common.{◌≡◌, ℕ, ◌+◌, false, true, sym, ap, subst, ◌∙◌}
 use Rattle.vs_contents.proofs.Leads.{end_of}
 use Rattle.vs_flow.specs.declared.table.TableFault.{TableFault}
 use Rattle.vs_device.specs.Calls.{Allows}
-use Rattle.vs_device.specs.Playing.{MayRun, Runs, situation}
+use Rattle.vs_device.specs.Playing.{Runs, situation}
 use Rattle.vs_device.specs.State.{DeviceState}
 use Rattle.vs_device.specs.Turns.{open_of}
 use Rattle.vs_proxy.specs.Handshakes.{may_open}
@@ -11,7 +11,7 @@ use Rattle.vs_proxy.specs.State.{ProxyState, Turning, with_device}
 use Rattle.vs_proxy.specs.Turning.{CountsFew, turning_of}
 use Rattle.vs_proxy.specs.contracts.proxy.Proxy.{the_view}
 use Rattle.vs_proxy.proofs.Counting.{open_few}
-use Rattle.vs_proxy.proofs.Handshaking.{let_in, may_let_in, may_turn_away, turned_away}
+use Rattle.vs_proxy.proofs.Handshaking.{let_in, turned_away}
 use Rattle.vs_proxy.proofs.proxy.Proxy.connect.Goals as goal
 
 pub returns-then-not-may_open-clause-calls : goal.returns-then-not-may_open-clause-calls

@@ -1,13 +1,12 @@
-use Rattle.std.proofs.Common.{◌≡◌, ◌+◌, ◌<◌, ◌≤◌, refl, ap, ◌∙◌, arith}
+use Rattle.std.proofs.Common.{ap, ◌∙◌, arith}
 use Rattle.vs_contents.proofs.Loops.{while_more, while_stop, while_end, may_step, may_more}
-use Rattle.vs_uds.specs.declared.connect.TheConstants.{CONNECT_MAX}
 use Rattle.vs_device.specs.Calls.{Allows}
 use Rattle.vs_device.specs.Playing.{CanMake, situation}
 use Rattle.vs_proxy.specs.Handshakes.{read_byte}
 use Rattle.vs_proxy.specs.State.{Turning}
 use Rattle.vs_proxy.specs.Turning.{turning_of}
 use Rattle.vs_proxy.specs.declared.tally.Tally.{Tally}
-use Rattle.vs_proxy.proofs.Counting.{few_more, few_then, none_came}
+use Rattle.vs_proxy.proofs.Counting.{few_more, few_then}
 use Rattle.vs_proxy.proofs.proxy.Proxy.read_line.Goals as goal
 
 pub read_byte-requires-clause-may : goal.read_byte-requires-clause-may

@@ -1,4 +1,4 @@
-use Rattle.std.proofs.Common.{◌≡◌, ◌+◌, ◌-◌, ◌≤◌, ℕ}
+use Rattle.std.proofs.Common.{◌≡◌, ◌+◌, ◌-◌, ◌≤◌}
 use Rattle.vs_contents.specs.CallTree.{while_up_to}
 use Rattle.vs_ring_port.specs.Contents.{RingContents}
 use Rattle.vs_uds.specs.declared.connect.TheConstants.{CONNECT_MAX}

@@ -1,5 +1,5 @@
 use Rattle.std.specs.Prelude.{Ok}
-use Rattle.std.proofs.Common.{◌≡◌, ℕ, List, [], refl, sym, ap, subst, ◌∙◌}
+use Rattle.std.proofs.Common.{◌≡◌, List, [], sym, ap, subst, ◌∙◌}
 use Rattle.vs_contents.specs.CallTree.{for_each}
 use Rattle.vs_device.specs.Playing.{MayRun, Runs, situation}
 use Rattle.vs_device.specs.State.{DeviceState}

@@ -1,7 +1,4 @@
-use Rattle.std.specs.List.{find}
-use Rattle.std.proofs.Common.{◌≡◌, ℕ, ◌+◌, ◌==◌, List, [], ◌∷◌, ◌++◌, Option, Some, None, refl, sym, ap, subst, ◌∙◌}
-use Rattle.vs_uds.specs.ConnectLine.{connect_step}
-use Rattle.vs_uds.specs.declared.scan.Step.{Step}
+use Rattle.std.proofs.Common.{◌≡◌, ℕ, ◌+◌, List, [], ◌∷◌, ◌++◌, Some, refl, sym, ap, subst, ◌∙◌}
 use Rattle.vs_uds.specs.declared.scan.Step.TheVariants as step
 use Rattle.vs_device.specs.Calls.{Allows, CloseStream}
 use Rattle.vs_device.specs.Playing.{CanMake, MayRun, Runs, situation}

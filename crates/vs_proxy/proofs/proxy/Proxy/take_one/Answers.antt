@@ -1,4 +1,4 @@
-use Rattle.std.proofs.Common.{◌≡◌, ℕ, ◌+◌, Bool, true, false, refl, sym, ap, subst, ◌∙◌}
+use Rattle.std.proofs.Common.{◌+◌, Bool, true, false, sym, ap, subst, ◌∙◌}
 use Rattle.vs_contents.proofs.Leads.{end_of}
 use Rattle.vs_device.specs.Calls.{Allows}
 use Rattle.vs_device.specs.Playing.{MayRun, Runs, situation}

@@ -1,4 +1,4 @@
-use Rattle.std.proofs.Common.{◌≡◌, ℕ, false, is_some, refl, sym, ap, subst, ◌∙◌}
+use Rattle.std.proofs.Common.{◌≡◌, false, is_some, sym, subst, ◌∙◌}
 use Rattle.vs_contents.proofs.Leads.{end_of}
 use Rattle.vs_device.specs.Calls.{Allows}
 use Rattle.vs_device.specs.Playing.{MayRun, Runs, situation}
@@ -7,8 +7,6 @@ use Rattle.vs_device.specs.Streams.{tick_of}
 use Rattle.vs_proxy.specs.Handshakes.{tick_handshakes}
 use Rattle.vs_proxy.specs.State.{ProxyState, Turning, with_device}
 use Rattle.vs_proxy.specs.Turning.{CountsFew, turning_of}
-use Rattle.vs_proxy.specs.Turns.{device_after}
-use Rattle.vs_proxy.specs.contracts.proxy.Proxy.{the_view}
 use Rattle.vs_proxy.proofs.Counting.{few_then, tick_few}
 use Rattle.vs_proxy.proofs.Staging.{may_tick, may_tick_hands, ticked}
 use Rattle.vs_proxy.proofs.proxy.Proxy.tick_stage.Goals as goal

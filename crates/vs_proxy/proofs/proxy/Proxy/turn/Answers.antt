@@ -1,18 +1,13 @@
-use Rattle.std.specs.Prelude.{Result}
-use Rattle.std.proofs.Common.{◌≡◌, ℕ, ◌+◌, ◌<◌, ◌≤◌, Option, Some, None, refl, sym, ap, subst, ◌∙◌, rules, arith}
-use Rattle.vs_contents.proofs.Leads.{leads_of}
-use Rattle.vs_ring_port.specs.declared.failure.Failure.{Failure}
-use Rattle.vs_device.specs.Calls.{Allows, DeviceTree, Situation}
+use Rattle.std.proofs.Common.{◌≡◌, ℕ, refl, sym, ap, subst, ◌∙◌}
+use Rattle.vs_device.specs.Calls.{DeviceTree}
 use Rattle.vs_device.specs.Playing.{MayRun, Runs, situation}
-use Rattle.vs_device.specs.State.{DeviceState}
 use Rattle.vs_device.specs.Turns.{counters_of}
 use Rattle.vs_proxy.specs.Handshakes.{shake_hands}
 use Rattle.vs_proxy.specs.State.{ProxyState, Turning, start}
-use Rattle.vs_proxy.specs.Turning.{CountsFew, turning_of}
+use Rattle.vs_proxy.specs.Turning.{turning_of}
 use Rattle.vs_proxy.specs.Turns.{event_stage, fill_stage, pump_stage, take_stage, tick_stage, turn_of, turned, unless_failed}
 use Rattle.vs_proxy.specs.declared.answers.Turn.{Turn}
 use Rattle.vs_proxy.specs.declared.tally.Tally.{Tally}
-use Rattle.vs_proxy.proofs.Counting.{few_then}
 use Rattle.vs_proxy.proofs.WholeTurn.{from_end, from_event, from_fill, from_hands, from_pump, from_take, may_event, may_now, may_then, may_tick, nothing, stage_then, ticks}
 use Rattle.vs_proxy.proofs.proxy.Proxy.turn.Goals as goal
 
