@@ -32,7 +32,7 @@ pub stream_open : (others : List ℕ) (t : Table DeviceConnection) (e : DeviceEn
     → ForSome c.host (IsOpen e.value.stream)
 stream_open others t e c found has still =
     some_from c.host (HasStreams others t) (IsOpen e.value.stream)
-        (λ h has. has.joins.all_open e.slot e.value.stream (stream_by_entry t e (found has.joins.table) still)) has
+    (λ h has. has.joins.all_open e.slot e.value.stream (stream_by_entry t e (found has.joins.table) still)) has
 
 module _ (Can : Call → Situation → Type 0) (reaches : (call : Call) (s : Situation) → is_quiet call ≡ true → CanReach call s
     → Can call s) where
@@ -72,7 +72,7 @@ module _ (Can : Call → Situation → Type 0) (reaches : (call : Call) (s : Sit
         → Keeps Can Allows (FindsStreams others) (leaving (record e { value = v }) s) c
     keeps_leaving v closed_as stream_as =
         keeps_then Can Allows (FindsStreams others) Left (closing (record e { value = v }) stream_closed s)
-            (λ t. Done (after_leaving e.slot t)) c
+        (λ t. Done (after_leaving e.slot t)) c
         (keeps_closing Left (record e { value = v }) stream_closed s c
         (λ still. subst (λ id. ForSome c.host (IsOpen id)) (sym stream_as)
         (stream_open others s.table e c found has (sym closed_as ∙ still)))
@@ -100,8 +100,11 @@ module _ (Can : Call → Situation → Type 0) (reaches : (call : Call) (s : Sit
       late e found false = has
 
       by : (o : Option DeviceEntry) → entry_under s.table slot ≡ o
-          → Keeps Can Allows (FindsStreams others) (elim o [ None ↦ Done s | Some e ↦ cond (is_timed_out s.now e.value)
-          (closing e cut_off s) (Done s) ]) c
+          → Keeps Can Allows (FindsStreams others) (elim o [
+            | None ↦ Done s
+            | Some e ↦ cond (is_timed_out s.now e.value)
+                (closing e cut_off s) (Done s)
+          ]) c
       by None none = has
       by (Some e) found = late e found (is_timed_out s.now e.value)
 
@@ -109,4 +112,4 @@ module _ (Can : Call → Situation → Type 0) (reaches : (call : Call) (s : Sit
       → Keeps Can Allows (FindsStreams others) (tick_of now s) c
   keeps_tick others now s c has =
       keeps_each Can Allows (FindsStreams others) tick_slot (λ slot t d has. keeps_tick_slot others slot t d has) (slots s.table)
-          (record s { now = now }) c has
+      (record s { now = now }) c has

@@ -65,5 +65,8 @@ module _ {Call : Type 0} {Answer : Call → Type 0} {S A : Type 0} (Allows : (ca
       → (p : CallTree Call Answer A) (s : S)
       → MayPlay C Allows p s → MayPlay D Allows p s → MayPlay E Allows p s
   may_both C D E both (Done x) s c d = tt
-  may_both C D E both (Ask call next) s c d = (both call s c.0 d.0, λ a t allowed. may_both C D E both (next a) t (c.1 a t allowed)
-      (d.1 a t allowed))
+  may_both C D E both (Ask call next) s c d = (
+    both call s c.0 d.0,
+    λ a t allowed. may_both C D E both (next a) t (c.1 a t allowed)
+        (d.1 a t allowed),
+  )

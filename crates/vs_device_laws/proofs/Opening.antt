@@ -42,7 +42,8 @@ has_none others room given h left still = record {
     table = empty_sound room given left;
     all_open = λ slot id at. absurd (cc);
     apart = λ i j id at also. absurd (cc);
-    others_open = still;
+    others_open = still.all_open;
+    others_differ = still.apart;
     others_apart = λ slot id among at. cc;
   };
   over = λ slot c found closed. absurd (cc);
@@ -130,7 +131,8 @@ module _ (Can : Call → Situation → Type 0) (reaches : (call : Call) (s : Sit
       empties t d e same joins =
           let P : Option HostContents → Type 0 = λ h. ForSome h (HasStreams others (emptied t.table)) in
           subst P (sym same) (some_from d.host (JoinsStreams others t.table) (HasStreams others (emptied t.table))
-          (λ h joins. has_none others t.table.room t.table.given h joins.table.slots_left joins.others_open) joins)
+          (λ h joins. has_none others t.table.room t.table.given h joins.table.slots_left
+          (record { all_open = joins.others_open; apart = joins.others_differ })) joins)
 
       by : (o : Option Failure) → Keeps Can Allows (λ x d. FindsStreams others x.0 d)
           (elim o [ Some f ↦ Done (s, Err f) | None ↦ bind (for_each close_slot (slots s.table) s) ends ]) c

@@ -51,7 +51,7 @@ pub keeps_put_on : (chain : Chain) (h : Header) (payload : List ℕ) (r : Fillin
     → Keeps CanReach Allows (λ p d. (d.host ≡ c.host) × (p.state ≡ record r.state { chain = None })) (put_on chain h payload r) c
 keeps_put_on chain h payload r c =
     keeps_then CanReach Allows _ (Stays c) (written chain h payload)
-        (λ a. Done (record r { state = record r.state { chain = None }; put = r.put + 1 })) c
+    (λ a. Done (record r { state = record r.state { chain = None }; put = r.put + 1 })) c
     (keeps_written chain h payload c) (λ a d same. (same, refl))
 
 holding_table : (answer : Next) (r : Filling) → (holding answer r).state.table ≡ r.state.table
@@ -112,7 +112,7 @@ module _ (others : List ℕ) where
     unfolding after_put
     keeps_put_in chain q d table has =
         keeps_then CanReach Allows Fills (λ p e. (e.host ≡ d.host) × (p.state ≡ record q.state { chain = None }))
-            (put_on chain h [] q) after_put d
+        (put_on chain h [] q) after_put d
         (keeps_put_on chain h [] q d)
         (λ p e put.
         let same : p.state.table ≡ q.state.table = ap (λ (s : DeviceState). s.table) put.1 in
@@ -137,7 +137,7 @@ module _ (others : List ℕ) where
   keeps_put_reply_of [] r c has = has
   keeps_put_reply_of (reply ∷ replies) r c has =
       keeps_then CanReach Allows FillsFirst Fills (put_packet (reply_header reply r.state) (λ s. Done (record s { replies = replies })) r)
-          (λ q. Done (q, not q.over)) c
+      (λ q. Done (q, not q.over)) c
       (keeps_put_packet (reply_header reply r.state) (λ s. Done (record s { replies = replies })) r c (λ s d table kept. kept) has)
       (λ q d kept. kept)
 
@@ -147,23 +147,23 @@ module _ (others : List ℕ) where
       → FindsStreams others s c → Keeps CanReach Allows (FindsStreams others) (after_paying what e s) c
   keeps_after_paying slot e owed.Rst s c found owes has =
       keeps_leaving CanReach (λ call s quiet can. can) others (record s { last_put = Some e.slot }) c e
-          (found_by_slot s.table slot e found) has e.value refl refl
+      (found_by_slot s.table slot e found) has e.value refl refl
   keeps_after_paying slot e owed.Request s c found owes has =
       finds_changed others s c e (record e.value { end = paid_of e.value.end owed.Request; asked_at = Some s.now })
-          (found_by_slot s.table slot e found) refl refl
+      (found_by_slot s.table slot e found) refl refl
       (λ over. absurd (let rst = owes_reset e.value.end owed.Request owes over in cc)) has
   keeps_after_paying slot e owed.Response s c found owes has =
       finds_changed others s c e (record e.value { end = paid_of e.value.end owed.Response }) (found_by_slot s.table slot e found) refl refl
       (λ over. absurd (let rst = owes_reset e.value.end owed.Response owes over in cc)) has
   keeps_after_paying slot e owed.CreditUpdate s c found owes has =
       finds_changed others s c e (record e.value { end = paid_of e.value.end owed.CreditUpdate })
-          (found_by_slot s.table slot e found) refl refl (λ over. over) has
+      (found_by_slot s.table slot e found) refl refl (λ over. over) has
   keeps_after_paying slot e owed.CreditRequest s c found owes has =
       finds_changed others s c e (record e.value { end = paid_of e.value.end owed.CreditRequest })
-          (found_by_slot s.table slot e found) refl refl (λ over. over) has
+      (found_by_slot s.table slot e found) refl refl (λ over. over) has
   keeps_after_paying slot e (owed.Shutdown bits) s c found owes has =
       finds_changed others s c e (record e.value { end = paid_of e.value.end (owed.Shutdown bits) })
-          (found_by_slot s.table slot e found) refl refl (λ over. over) has
+      (found_by_slot s.table slot e found) refl refl (λ over. over) has
 
   pub keeps_put_owed : (slot : ℕ) (r : Filling) (c : Situation) → FindsStreams others r.state c
       → Keeps CanReach Allows FillsFirst (put_owed slot r) c
@@ -178,15 +178,18 @@ module _ (others : List ℕ) where
       owing e found None owes = has
       owing e found (Some what) owes =
           keeps_then CanReach Allows FillsFirst Fills (put_packet (owed_header e.value.end (route_to_guest r.state.cid e.flow) what)
-              (after_paying what e) r) (λ q. Done (q, not q.over)) c
+          (after_paying what e) r) (λ q. Done (q, not q.over)) c
           (keeps_put_packet (owed_header e.value.end (route_to_guest r.state.cid e.flow) what) (after_paying what e) r c
           (λ s d table kept. keeps_after_paying slot e what s d
           (ap (λ (t : Table DeviceConnection). entry_under t slot) table ∙ found) owes kept) has)
           (λ q d kept. kept)
 
       by : (o : Option DeviceEntry) → entry_under r.state.table slot ≡ o
-          → Keeps CanReach Allows FillsFirst (elim o [ None ↦ Done (r, false) | Some e ↦ elim
-          (owes_of e.value.end) [ None ↦ Done (r, false) | Some what ↦ puts e what ] ]) c
+          → Keeps CanReach Allows FillsFirst (elim o [
+            | None ↦ Done (r, false)
+            | Some e ↦ elim
+                (owes_of e.value.end) [ None ↦ Done (r, false) | Some what ↦ puts e what ]
+          ]) c
       by None found = has
       by (Some e) found = owing e found (owes_of e.value.end) refl
 
@@ -212,10 +215,10 @@ module _ (others : List ℕ) where
     keeps_read_answered chain read.Again payload r c found has = has
     keeps_read_answered chain read.End payload r c found has =
         finds_changed others r.state c e (after_shut 2 r.state.now e.value) (found_by_slot r.state.table slot e found) refl refl
-            (λ over. shut_over e.value.end 2 over) has
+        (λ over. shut_over e.value.end 2 over) has
     keeps_read_answered chain read.Failed payload r c found has =
         keeps_then CanReach Allows Fills (FindsStreams others) (closing e cut_off (with_fault r.state))
-            (λ s. Done (record r { state = s })) c
+        (λ s. Done (record r { state = s })) c
         (keeps_cut_off CanReach (λ call s quiet can. can) others (with_fault r.state) c e (found_by_slot r.state.table slot e found) has)
         (λ s d kept. kept)
 
@@ -264,7 +267,7 @@ module _ (others : List ℕ) where
           (found_by_slot r.state.table slot e found) refl refl (λ over. over) has
       by true false reads =
           keeps_then CanReach Allows Fills (λ q d. (d.host ≡ c.host) × (q.state.table ≡ r.state.table)) (hold r) (read_with_chain e) c
-              (keeps_hold r c)
+          (keeps_hold r c)
           (λ q d held. keeps_read_with_chain slot e q d (ap (λ (t : Table DeviceConnection). entry_under t slot) held.1 ∙ found) reads
           (from_table r.state q.state c d held.0 held.1 has))
 

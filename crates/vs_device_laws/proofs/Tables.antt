@@ -121,8 +121,11 @@ beside slot j id o found = by (j == slot) refl found
   where
     by : (b : Bool) → (j == slot) ≡ b → cond b None o ≡ Some id → IsBeside slot j id o
     by true is found = absurd (cc)
-    by false is found = record { is = found; other = λ same. let differ : (slot == slot) ≡ false = subst
-        (λ n. (n == slot) ≡ false) same is in grind (arith, nat_tests, differ) }
+    by false is found = record {
+      is = found;
+      other = λ same. let differ : (slot == slot) ≡ false = subst
+          (λ n. (n == slot) ≡ false) same is in grind (arith, nat_tests, differ);
+    }
 
 -- CHANGES OF WHAT IS JOINED
 module _ (others : List ℕ) (t : Table DeviceConnection) (h : HostContents) where
@@ -134,6 +137,7 @@ module _ (others : List ℕ) (t : Table DeviceConnection) (h : HostContents) whe
     all_open = λ j id at. joins.all_open j id (sub j id at);
     apart = λ j k id at also. joins.apart j k id (sub j id at) (sub k id also);
     others_open = joins.others_open;
+    others_differ = joins.others_differ;
     others_apart = λ j id among at. joins.others_apart j id among (sub j id at);
   }
 
@@ -143,6 +147,7 @@ module _ (others : List ℕ) (t : Table DeviceConnection) (h : HostContents) whe
     table = joins.table;
     all_open = λ j id at. keeps id (joins.all_open j id at);
     apart = joins.apart;
+    others_differ = joins.others_differ;
     others_open = λ id among. keeps id (joins.others_open id among);
     others_apart = joins.others_apart;
   }
@@ -153,15 +158,16 @@ module _ (others : List ℕ) (t : Table DeviceConnection) (h : HostContents) whe
       → JoinsStreams others u (after_close id h)
   closed_at u slot id sound found is joins =
       let left : (j other : ℕ) → stream_under u j ≡ Some other
-          → IsBeside slot j other (stream_under t j) = λ j other at. beside slot j other (stream_under t j) (sym (is j) ∙ at) in
+      → IsBeside slot j other (stream_under t j) = λ j other at. beside slot j other (stream_under t j) (sym (is j) ∙ at) in
       let stays : (other : ℕ) → other ≢ id → IsOpen other h → IsOpen other (after_close id h) =
-          λ other differs still. stays_open id other h (after_close id h) (others-after_close id h) differs still in
+      λ other differs still. stays_open id other h (after_close id h) (others-after_close id h) differs still in
       record {
         table = sound;
         all_open = λ j other at. let l = left j other at in stays other
             (λ same. l.other (joins.apart j slot id (subst (λ n. stream_under t j ≡ Some n) same l.is) found))
             (joins.all_open j other l.is);
         apart = λ j k other at also. joins.apart j k other (left j other at).is (left k other also).is;
+        others_differ = joins.others_differ;
         others_open = λ other among. stays other (λ same. joins.others_apart slot id (subst (Contains others) same among) found)
             (joins.others_open other among);
         others_apart = λ j other among at. joins.others_apart j other among (left j other at).is;
@@ -299,6 +305,7 @@ module _ (others : List ℕ) (t : Table DeviceConnection) (h k : HostContents) (
       table = sound;
       all_open = λ j id at. open_added has.joins id j (stream_added t flow c j id at);
       apart = λ i j id at also. apart_added has.joins i j id (stream_added t flow c i id at) (stream_added t flow c j id also);
+      others_differ = has.joins.others_differ;
       others_open = λ id among. keeps id (has.joins.others_open id among);
       others_apart = λ j id among at. others_added has.joins j id among (stream_added t flow c j id at);
     };

@@ -82,7 +82,7 @@ dial_opens others t flow header path id h place none is has =
     let new = open-dialed flow id h (dialed_id path id h is) in
     let k : HostContents = after_dial flow (dialed.Stream id) h in
     let was_none : IsOpen id h → ⊥ = λ still. let s = open_stream id h still in let gone : None ≡ Some s.0 = sym new.0
-        ∙ s.1 in absurd (cc) in
+    ∙ s.1 in absurd (cc) in
     has_added others t h k flow (new_connection (answering BUF_ALLOC header) id false) (dial_keeps flow (dialed.Stream id) h) refl
     (open_of id k (dialed_stream flow h.prepared) new.1 refl)
     (λ slot at. was_none (has.joins.all_open slot id at)) (λ among. was_none (has.joins.others_open id among))
@@ -101,16 +101,16 @@ module _ (Can : Call → Situation → Type 0) (reaches : (call : Call) (s : Sit
   keeps_dialed h (dialed.Stream id) s c d place none has allowed =
       let u : Table DeviceConnection = with_entry s.table (flow_to_host h) (new_connection (answering BUF_ALLOC h) id false) in
       some_after c.host d.host (IsDialed (path_of s.base h.dst_port) (dialed.Stream id)) (after_dial (flow_to_host h) (dialed.Stream id))
-          (HasStreams others s.table) (HasStreams others u)
+      (HasStreams others s.table) (HasStreams others u)
       allowed.host (λ k is has. dial_opens others s.table (flow_to_host h) h (path_of s.base h.dst_port) id k place none is has) has
   keeps_dialed h dialed.Refused s c d place none has allowed =
       some_after c.host d.host _ (after_dial (flow_to_host h) dialed.Refused) (HasStreams others s.table) (HasStreams others s.table)
       allowed.host (λ k is has. has_moved others s.table k has (after_dial (flow_to_host h) dialed.Refused k)
-          (dial_keeps (flow_to_host h) dialed.Refused k)) has
+      (dial_keeps (flow_to_host h) dialed.Refused k)) has
   keeps_dialed h dialed.Failed s c d place none has allowed =
       some_after c.host d.host _ (after_dial (flow_to_host h) dialed.Failed) (HasStreams others s.table) (HasStreams others s.table)
       allowed.host (λ k is has. has_moved others s.table k has (after_dial (flow_to_host h) dialed.Failed k)
-          (dial_keeps (flow_to_host h) dialed.Failed k)) has
+      (dial_keeps (flow_to_host h) dialed.Failed k)) has
 
   pub keeps_try_request : (h : Header) (s : DeviceState) (c : Situation) → entry_of s.table (flow_to_host h) ≡ None
       → FindsStreams others s c
@@ -186,7 +186,7 @@ module _ (Can : Call → Situation → Type 0) (reaches : (call : Call) (s : Sit
       by false None found = keeps_on_unknown h s c found has
       by false (Some e) found =
           keeps_then Can Allows FindsFirst (FindsStreams others) (on_known (verdict_of e.value.end h) chain h e s)
-              (λ t. Done (t, verdict_of e.value.end h)) c
+          (λ t. Done (t, verdict_of e.value.end h)) c
           (keeps_on_known chain h e s c (λ sound. entry_by_flow s.table (flow_to_host h) e sound found) has (verdict_of e.value.end h))
           (λ t d kept. kept)
 
@@ -223,8 +223,11 @@ module _ (Can : Call → Situation → Type 0) (reaches : (call : Call) (s : Sit
       takes = Ask (Ring (Take Tx)) (λ answer. on_next answer s)
 
       by : (o : Option Failure) (b : Bool)
-          → Keeps Can Allows FindsFirst (elim o [ Some f ↦ Done (s, taken.Failed f) | None ↦ cond b
-          (Done (s, taken.RepliesFull REPLIES)) takes ]) c
+          → Keeps Can Allows FindsFirst (elim o [
+            | Some f ↦ Done (s, taken.Failed f)
+            | None ↦ cond b
+                (Done (s, taken.RepliesFull REPLIES)) takes
+          ]) c
       by (Some f) b = has
       by None true = has
       by None false = (

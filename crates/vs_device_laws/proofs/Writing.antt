@@ -87,8 +87,10 @@ module _ (Can : Call → Situation → Type 0) (reaches : (call : Call) (s : Sit
   keeps_shut_write slot w c has = by (entry_under w.state.table slot) refl
     where
       after : DeviceEntry → DeviceTree Writing
-      after e = Ask (ShutWrite e.value.stream) (λ a. Done (record w { state = with_connection slot
-          (record e.value { write_shut = true }) w.state }))
+      after e = Ask (ShutWrite e.value.stream) (λ a. Done (record w {
+        state = with_connection slot
+            (record e.value { write_shut = true }) w.state;
+      }))
 
       shuts : (e : DeviceEntry) → entry_under w.state.table slot ≡ Some e → (b : Bool) → is_written_out e.value ≡ b
           → Keeps Can Allows Finds (cond b (after e) (Done w)) c
@@ -124,8 +126,11 @@ module _ (Can : Call → Situation → Type 0) (reaches : (call : Call) (s : Sit
           (keeps_write_pending e w c (found_by_slot w.state.table slot e found) is has) (λ v d kept. keeps_shut_write slot v d kept)
 
       by : (o : Option DeviceEntry) → entry_under w.state.table slot ≡ o
-          → Keeps Can Allows Finds (elim o [ None ↦ Done w | Some e ↦ cond e.value.closed (Done w)
-          (bind (write_pending e w) (shut_write slot)) ]) c
+          → Keeps Can Allows Finds (elim o [
+            | None ↦ Done w
+            | Some e ↦ cond e.value.closed (Done w)
+                (bind (write_pending e w) (shut_write slot))
+          ]) c
       by None none = has
       by (Some e) found = pumps e found e.value.closed refl
 

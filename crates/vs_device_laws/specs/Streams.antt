@@ -1,5 +1,5 @@
 -- The host's streams that a device's connections are joined to, beside those of others, as of handshakes.
-use Rattle.std.specs.Prelude.{◌≡◌, ℕ, true, if◌then◌else◌, List, Option, Some, None, Contains, option_and_then}
+use Rattle.std.specs.Prelude.{◌≡◌, ℕ, true, if◌then◌else◌, List, [], ◌∷◌, Option, Some, None, Contains, option_and_then}
 use Rattle.std.specs.Option.{ForSome}
 use Rattle.vs_conn.specs.declared.end.State.TheVariants.{Ended}
 use Rattle.vs_flow.specs.Table.{Table, IsTable, value_under}
@@ -14,14 +14,19 @@ joined_stream c = if c.closed then None else Some c.stream
 abbrev pub stream_under : Table DeviceConnection → ℕ → Option ℕ
 stream_under t slot = option_and_then joined_stream (value_under t slot)
 
--- Each connection that the device hasn't closed has an open stream, and no other connection has the same one. The others are open too, and
--- no
--- connection has one of them.
+-- No stream stands twice.
+abbrev pub AreApart : List ℕ → Type 0
+AreApart [] = Unit {0}
+AreApart (id ∷ ids) = (Contains ids id → ⊥) × AreApart ids
+
+-- Each connection that the device hasn't closed has an open stream, and no other connection has the same one. The others are open too, each
+-- a stream of its own, and no connection has one of them.
 pub record JoinsStreams (others : List ℕ) (t : Table DeviceConnection) (host : HostContents) : Type 0 where
   pub table : IsTable t
   pub all_open : (slot id : ℕ) → stream_under t slot ≡ Some id → IsOpen id host
   pub apart : (slot other id : ℕ) → stream_under t slot ≡ Some id → stream_under t other ≡ Some id → slot ≡ other
   pub others_open : (id : ℕ) → Contains others id → IsOpen id host
+  pub others_differ : AreApart others
   pub others_apart : (slot id : ℕ) → Contains others id → stream_under t slot ≡ Some id → ⊥
 
 -- A connection whose stream the device closed is over.
@@ -45,6 +50,7 @@ pub record IsFree (stream : ℕ) (others : List ℕ) (t : Table DeviceConnection
 abbrev pub FindsFree : ℕ → List ℕ → DeviceState → Situation → Type 0
 FindsFree stream others s c = ForSome c.host (IsFree stream others s.table)
 
--- Streams that are all open.
-abbrev pub AreOpen : List ℕ → HostContents → Type 0
-AreOpen ids host = (id : ℕ) → Contains ids id → IsOpen id host
+-- Streams that are all open, none of which stands twice.
+pub record AreOpen (ids : List ℕ) (host : HostContents) : Type 0 where
+  pub all_open : (id : ℕ) → Contains ids id → IsOpen id host
+  pub apart : AreApart ids

@@ -30,7 +30,7 @@ returns-clause-reset c = λ others cid s d has. keeps_may CanMake Allows _ (rese
 pub returns-clause-open : goal.returns-clause-open
 returns-clause-open c = λ others flow stream s d has free.
     keeps_may CanMake Allows _ (open_of flow stream s) d (keeps_open CanMake quiet_can others flow stream s d
-        (both_found others stream s d has free))
+    (both_found others stream s d has free))
 
 pub returns-clause-pay_event : goal.returns-clause-pay_event
 returns-clause-pay_event c = λ others s d has put. may_where (pay_event_of s) d

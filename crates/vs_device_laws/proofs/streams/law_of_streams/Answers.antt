@@ -36,7 +36,7 @@ returns-clause-reset c = λ others cid s d e x has runs. keeps_end CanMake Allow
 pub returns-clause-open : goal.returns-clause-open
 returns-clause-open c = λ others flow stream s d e x has free runs.
     keeps_end CanMake Allows _ (open_of flow stream s) d e x
-        (keeps_open CanMake quiet_can others flow stream s d (both_found others stream s d has free)) runs
+    (keeps_open CanMake quiet_can others flow stream s d (both_found others stream s d has free)) runs
 
 pub returns-clause-pay_event : goal.returns-clause-pay_event
 returns-clause-pay_event c = λ others s d e x has runs. keeps_end CanReach Allows _ (pay_event_of s) d e x
