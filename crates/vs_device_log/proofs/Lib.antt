@@ -9,3 +9,7 @@ pub mod Ringing
 pub mod Writing
 pub mod Steps
 pub mod Filling
+pub mod Taking
+pub mod Hearing
+pub mod Transmitting
+pub mod Turning

@@ -1,5 +1,5 @@
 -- Where a ring tells the device's log: the chains that the device holds, and over an honest ring its connections and the log.
-use Rattle.std.specs.Prelude.{◌≡◌, ℕ, ◌<◌, ◌≤◌, ◌^◌, ◌||◌, Bool, true, List, [], ◌∷◌, map, length, Option, Some, None, IfSome}
+use Rattle.std.specs.Prelude.{◌≡◌, ℕ, ◌+◌, ◌<◌, ◌≤◌, ◌^◌, ◌||◌, Bool, true, List, [], ◌∷◌, map, length, Option, Some, None, Result, Ok, Err, IfSome}
 use Rattle.std.specs.List.{All}
 use Rattle.std.specs.Option.{ForSome}
 use Rattle.vs_conn.specs.End.{ConnectionEnd}
@@ -8,6 +8,7 @@ use Rattle.vs_credit.specs.Credit.{unread_of}
 use Rattle.vs_credit.specs.declared.Credit.{Credit}
 use Rattle.vs_flow.specs.Table.{IsTable, Table}
 use Rattle.vs_flow.specs.declared.flow.Flow.{Flow}
+use Rattle.vs_flow.specs.declared.table.TableFault.{TableFault}
 use Rattle.vs_history.specs.declared.TheConstants.{BUF_ALLOC}
 use Rattle.vs_page.specs.Fair.{IsFairLog}
 use Rattle.vs_page.specs.Log.{Device, Log}
@@ -114,3 +115,8 @@ IsLeftOpen first s shown l =
 -- Before the first call nothing was put or got, and no chain is held.
 abbrev pub IsFresh : RingContents → Type 0
 IsFresh c = ForSome c.log (λ l. (l.entries ≡ []) × (l.held ≡ []))
+
+-- The next host port, after a client's connection was asked for on a flow: it stays where that was refused.
+abbrev pub port_after : Flow → ℕ → Result ℕ TableFault → ℕ
+port_after flow port (Ok slot) = flow.host + 1
+port_after flow port (Err fault) = port
