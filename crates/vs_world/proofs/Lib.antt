@@ -22,6 +22,7 @@ pub mod Rings
 pub mod Sound
 pub mod Opening
 pub mod Payloads
+pub mod Receives
 pub mod GuestLines
 pub mod Polls
 pub mod DeviceLeads

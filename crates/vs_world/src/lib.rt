@@ -3,6 +3,5 @@
 #![tactic(auto)]
 
 pub mod laws;
-pub mod resets;
-pub mod scripts;
+pub mod pipes;
 pub mod worked;
