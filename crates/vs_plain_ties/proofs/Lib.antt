@@ -1,0 +1,10 @@
+pub mod Frames
+pub mod Modulo
+pub mod Spots
+pub mod Counting
+pub mod Rows
+pub mod QueueSteps
+pub mod QueueReturns
+pub mod Queues
+pub mod Held
+pub mod Assemble

@@ -1,0 +1,5 @@
+pub mod Parts
+pub mod Shown
+pub mod Calls
+pub mod Queue
+pub mod Tie
