@@ -8,3 +8,12 @@ pub mod QueueReturns
 pub mod Queues
 pub mod Held
 pub mod Assemble
+pub mod Encoded
+pub mod Staging
+pub mod Publishing
+pub mod Reaping
+pub mod Quiet
+pub mod Taking
+pub mod Parts
+pub mod Reading
+pub mod Returning

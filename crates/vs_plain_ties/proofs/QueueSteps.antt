@@ -94,7 +94,7 @@ module _ (queue : Queue) (n at : ℕ) (nonzero : 0 < n) (limit : n ≤ 32768) (d
     pub id_below : id < n
     id_below = tie.free id (omega (arith, free_times id, times-self id))
 
-    not_id : (j : ℕ) → 0 < times j out + times j heads + times j back → id ≡ j → ⊥
+    pub not_id : (j : ℕ) → 0 < times j out + times j heads + times j back → id ≡ j → ⊥
     not_id j some same = omega (
       arith,
       some,

@@ -293,3 +293,13 @@ laid_same n areas at m new base size laid = record {
   areas_apart = laid.areas_apart;
   pages_apart = laid.pages_apart;
 }
+
+pub untouched_none : (n : ℕ) (xs : List Spot) (s : Shown) → Untouched n xs s s
+untouched_none n xs s = record {
+  desc = λ k is other. refl;
+  avail = λ other. refl;
+  entry = λ k is other. refl;
+  used = λ other. refl;
+  elem = λ k is other. refl;
+  page = λ k c is few other. refl;
+}
