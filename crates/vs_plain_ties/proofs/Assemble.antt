@@ -49,7 +49,7 @@ abbrev pub TieOf : Queue → QueueParts → Type 0
 TieOf queue v = (out : List ℕ) × (back : List ℕ) × IsQueueTied queue v.n v.at v.s v.q v.t v.heads v.staged v.l out back
 
 -- the pages begin where they began
-laid_from : (n : ℕ) (areas : Queue → Areas) (from to : Queue → ℕ) (m : Memory) → ((q : Queue) → to q ≡ from q) → IsLaid n areas from m
+pub laid_from : (n : ℕ) (areas : Queue → Areas) (from to : Queue → ℕ) (m : Memory) → ((q : Queue) → to q ≡ from q) → IsLaid n areas from m
     → IsLaid n areas to m
 laid_from n areas from to m same laid = record {
   nonzero = laid.nonzero;

@@ -17,3 +17,6 @@ pub mod Taking
 pub mod Parts
 pub mod Reading
 pub mod Returning
+pub mod Starting
+pub mod Resetting
+pub mod Told

@@ -167,129 +167,129 @@ module _ (p : PartsState) (w : Ends) (tied : AreTied p w) (queue : Queue) where
   -- the page that was given first
   module _ (page : List ℕ) (pages : List (List ℕ)) (given_is : l.given ≡ page ∷ pages) (id : ℕ) (ids back : List ℕ)
       (tie : IsQueueTied queue n (start_of p queue) s (driver_at queue p) t (heads_of queue d.held) (pages_at queue w.driver.staged) l (id ∷ ids) back)
-      where
-    abbrev P : ℕ
-    P = start_of p queue + 4096 * id
+    where
+      abbrev P : ℕ
+      P = start_of p queue + 4096 * id
 
-    abbrev e : Desc
-    e = desc_for queue P (length page)
+      abbrev e : Desc
+      e = desc_for queue P (length page)
 
-    first : IsOut queue (start_of p queue) s (t.taken % n) page id
-    first = (given_row queue n (start_of p queue) tied.laid.nonzero tied.laid.limit tied.laid.divides s (driver_at queue p) t (heads_of queue d.held)
-        (pages_at queue w.driver.staged) l page pages id ids back given_is tie).0
+      first : IsOut queue (start_of p queue) s (t.taken % n) page id
+      first = (given_row queue n (start_of p queue) tied.laid.nonzero tied.laid.limit tied.laid.divides s (driver_at queue p) t (heads_of queue d.held)
+          (pages_at queue w.driver.staged) l page pages id ids back given_is tie).0
 
-    below : id < n
-    below = (id_held queue n (start_of p queue) tied.laid.nonzero tied.laid.limit tied.laid.divides s (driver_at queue p) t (heads_of queue d.held)
-        (pages_at queue w.driver.staged) l page pages id ids back given_is tie).0
+      below : id < n
+      below = (id_held queue n (start_of p queue) tied.laid.nonzero tied.laid.limit tied.laid.divides s (driver_at queue p) t (heads_of queue d.held)
+          (pages_at queue w.driver.staged) l page pages id ids back given_is tie).0
 
-    counts : length (id ∷ ids) ≡ length l.given + length (pages_at queue w.driver.staged)
-    counts = out_count queue n (start_of p queue) tied.laid.nonzero tied.laid.limit tied.laid.divides s (driver_at queue p) t (heads_of queue d.held)
-        (pages_at queue w.driver.staged) l (id ∷ ids) back tie
+      counts : length (id ∷ ids) ≡ length l.given + length (pages_at queue w.driver.staged)
+      counts = out_count queue n (start_of p queue) tied.laid.nonzero tied.laid.limit tied.laid.divides s (driver_at queue p) t (heads_of queue d.held)
+          (pages_at queue w.driver.staged) l (id ∷ ids) back tie
 
-    idle : is_busy queue n d.held ≡ false
-    idle = busy_by false (grind (arith, nat_tests, less))
-      where
-        less : length (heads_of queue d.held) < n
-        less = omega (arith, tie.all)
+      idle : is_busy queue n d.held ≡ false
+      idle = busy_by false (grind (arith, nat_tests, less))
+        where
+          less : length (heads_of queue d.held) < n
+          less = omega (arith, tie.all)
 
-    far : ahead s.avail t.taken ≡ length l.given
-    far = omega (arith, tie.avail, tie.published, tie.taken, counts, tie.all, tied.laid.limit)
+      far : ahead s.avail t.taken ≡ length l.given
+      far = omega (arith, tie.avail, tie.published, tie.taken, counts, tie.all, tied.laid.limit)
 
-    is_given : IsGiven (ring_at queue d) t.taken id e d.memory
-    is_given = record {
-      some = omega (arith, far, ap length given_is);
-      few = omega (arith, far, counts, tie.all);
-      entry = first.entry;
-      within = below;
-      desc = first.desc;
-      direct = direct queue P (length page);
-      last = last queue P (length page);
-      way = way queue id P (length page);
-      inside = inside queue d.memory.base (length d.memory.bytes) P (length page) low_P high_P first.fits;
-      long = long queue P page first.header;
-    }
-      where
-        low_P : d.memory.base ≤ P
-        low_P = let a = tied.laid.each queue in
-            omega (arith, tied.laid.low queue, tied.laid.behind queue queue, a.avail, a.used, a.end)
+      is_given : IsGiven (ring_at queue d) t.taken id e d.memory
+      is_given = record {
+        some = omega (arith, far, ap length given_is);
+        few = omega (arith, far, counts, tie.all);
+        entry = first.entry;
+        within = below;
+        desc = first.desc;
+        direct = direct queue P (length page);
+        last = last queue P (length page);
+        way = way queue id P (length page);
+        inside = inside queue d.memory.base (length d.memory.bytes) P (length page) low_P high_P first.fits;
+        long = long queue P page first.header;
+      }
+        where
+          low_P : d.memory.base ≤ P
+          low_P = let a = tied.laid.each queue in
+              omega (arith, tied.laid.low queue, tied.laid.behind queue queue, a.avail, a.used, a.end)
 
-        high_P : P + 4096 ≤ d.memory.base + length d.memory.bytes
-        high_P = omega (arith, tied.laid.high queue, below)
+          high_P : P + 4096 ≤ d.memory.base + length d.memory.bytes
+          high_P = omega (arith, tied.laid.high queue, below)
 
-    abbrev after : Memory
-    after = after_access (after_access (after_access d.memory))
+      abbrev after : Memory
+      after = after_access (after_access (after_access d.memory))
 
-    quietly : IsQuietly d.memory after
-    quietly = quietly_after d.memory _ (quietly_after d.memory _ (quietly_after d.memory d.memory (quietly_now d.memory tied.still)))
+      quietly : IsQuietly d.memory after
+      quietly = quietly_after d.memory _ (quietly_after d.memory _ (quietly_after d.memory d.memory (quietly_now d.memory tied.still)))
 
-    abbrev hold : HeldChain
-    hold = record { chain = chain_at queue (t.taken % n) (piece_of e ∷ []); head = id; pieces = piece_of e ∷ [] }
+      abbrev hold : HeldChain
+      hold = record { chain = chain_at queue (t.taken % n) (piece_of e ∷ []); head = id; pieces = piece_of e ∷ [] }
 
-    abbrev held_entry : Held
-    held_entry = record { chain = chain_with queue l.place page; bytes = to_read queue page }
+      abbrev held_entry : Held
+      held_entry = record { chain = chain_with queue l.place page; bytes = to_read queue page }
 
-    abbrev then_turns : Turns
-    then_turns = record t { taken = (t.taken + 1) % 2 ^ 16 }
+      abbrev then_turns : Turns
+      then_turns = record t { taken = (t.taken + 1) % 2 ^ 16 }
 
-    answer_is : answer_to (Take queue) d ≡ (next.Chain hold.chain, (device_form queue after then_turns (hold ∷ d.held) p).device)
-    answer_is =
-        chosen (is_busy queue n d.held) (next.None, d) (answer_found queue d) idle
-        ∙ ap (λ (x : Taken × Memory). answer_taken queue x.0 (with_memory d x.1)) (taken_still (ring_at queue d) t.taken id e d.memory tied.still is_given)
+      answer_is : answer_to (Take queue) d ≡ (next.Chain hold.chain, (device_form queue after then_turns (hold ∷ d.held) p).device)
+      answer_is =
+          chosen (is_busy queue n d.held) (next.None, d) (answer_found queue d) idle
+          ∙ ap (λ (x : Taken × Memory). answer_taken queue x.0 (with_memory d x.1)) (taken_still (ring_at queue d) t.taken id e d.memory tied.still is_given)
 
-    hold_chain : hold.chain ≡ chain_with queue l.place page
-    hold_chain = chain_is queue (t.taken % n) P page ∙ ap (λ (k : ℕ). chain_with queue k page) (sym tie.place)
+      hold_chain : hold.chain ≡ chain_with queue l.place page
+      hold_chain = chain_is queue (t.taken % n) P page ∙ ap (λ (k : ℕ). chain_with queue k page) (sym tie.place)
 
-    ends_is : (r : Queue) → (queue_of r w.lists).given ≡ page ∷ pages → after_device (Take r) w
-        ≡ device_ends r (record (queue_of r w.lists) { given = pages; place = ((queue_of r w.lists).place + 1) % w.lists.size })
-        (entries_taken r page w.device.entries)
-        (record { chain = chain_with r (queue_of r w.lists).place page; bytes = to_read r page } ∷ w.device.held) w
-    ends_is Rx e = rw e refl
-    ends_is Tx e = rw e refl
-    ends_is Event e = rw e refl
+      ends_is : (r : Queue) → (queue_of r w.lists).given ≡ page ∷ pages → after_device (Take r) w
+          ≡ device_ends r (record (queue_of r w.lists) { given = pages; place = ((queue_of r w.lists).place + 1) % w.lists.size })
+          (entries_taken r page w.device.entries)
+          (record { chain = chain_with r (queue_of r w.lists).place page; bytes = to_read r page } ∷ w.device.held) w
+      ends_is Rx e = rw e refl
+      ends_is Tx e = rw e refl
+      ends_is Event e = rw e refl
 
-    one_held : IsHeldAs (start_of p) (λ r. shown (areas_of p r) (start_of p r) after) hold held_entry
-    one_held = record {
-      chain = hold_chain;
-      pieces = ap (λ (x : Piece). x ∷ []) (piece_is queue (t.taken % n) P page);
-      bytes = ap (λ (x : Shown). x.page id (length (to_read queue page))) (seen p w tied after quietly queue)
-          ∙ read_bytes queue s id page first.bytes refl;
-      fits = read_fits queue page first.fits;
-      room = room queue (t.taken % n) P page first.fits;
-      readable = readable queue (t.taken % n) P page;
-    }
+      one_held : IsHeldAs (start_of p) (λ r. shown (areas_of p r) (start_of p r) after) hold held_entry
+      one_held = record {
+        chain = hold_chain;
+        pieces = ap (λ (x : Piece). x ∷ []) (piece_is queue (t.taken % n) P page);
+        bytes = ap (λ (x : Shown). x.page id (length (to_read queue page))) (seen p w tied after quietly queue)
+            ∙ read_bytes queue s id page first.bytes refl;
+        fits = read_fits queue page first.fits;
+        room = room queue (t.taken % n) P page first.fits;
+        readable = readable queue (t.taken % n) P page;
+      }
 
-    heads_beside : (r : Queue) → same_queue queue r ≡ false → heads_of r (hold ∷ d.held) ≡ heads_of r d.held
-    heads_beside r other = chosen (same_queue r queue) (id ∷ heads_of r d.held) (heads_of r d.held) (turned queue r other)
+      heads_beside : (r : Queue) → same_queue queue r ≡ false → heads_of r (hold ∷ d.held) ≡ heads_of r d.held
+      heads_beside r other = chosen (same_queue r queue) (id ∷ heads_of r d.held) (heads_of r d.held) (turned queue r other)
 
-    some_tied : AreTied (record p { device = (answer_to (Take queue) d).1 }) (after_device (Take queue) w)
-    some_tied =
-        subst (λ (x : Next × DeviceState). AreTied (record p { device = x.1 }) (after_device (Take queue) w)) (sym answer_is)
-        (subst (λ (x : Ends). AreTied (device_form queue after then_turns (hold ∷ d.held) p) x) (sym (ends_is queue given_is))
-        (device_step p w tied queue after then_turns (hold ∷ d.held) (record l { given = pages; place = (l.place + 1) % w.lists.size })
-        (entries_taken queue page w.device.entries) (held_entry ∷ w.device.held) quietly.still quietly.base (ap length quietly.bytes) (
-          ids,
-          back,
-          subst (λ (x : Shown). IsQueueTied queue n (start_of p queue) x (driver_at queue p) then_turns (heads_of queue (hold ∷ d.held))
-              (pages_at queue w.driver.staged) (record l { given = pages; place = (l.place + 1) % w.lists.size }) ids back)
-              (sym (seen p w tied after quietly queue))
-              (subst (λ (hs : List ℕ). IsQueueTied queue n (start_of p queue) s (driver_at queue p) then_turns hs
-              (pages_at queue w.driver.staged) (record l { given = pages; place = (l.place + 1) % w.lists.size }) ids back)
-              (sym (heads_here hold d.held))
-              (subst (λ (k : ℕ). IsQueueTied queue n (start_of p queue) s (driver_at queue p) then_turns (id ∷ heads_of queue d.held)
-              (pages_at queue w.driver.staged) (record l { given = pages; place = (l.place + 1) % k }) ids back)
-              (sym tied.size)
-              (tie_taken queue n (start_of p queue) tied.laid.nonzero tied.laid.limit tied.laid.divides s (driver_at queue p) t (heads_of queue d.held)
-              (pages_at queue w.driver.staged) l page pages id ids back given_is tie))),
-        )
-        (λ r other. untouched_same n (shown_of p r) _ (seen p w tied after quietly r)) heads_beside
-        (one_held, held_seen p w tied after quietly)
-        (tied-take w.lists w.driver.entries w.device.entries tied.logs queue page pages ((l.place + 1) % w.lists.size) given_is)))
+      some_tied : AreTied (record p { device = (answer_to (Take queue) d).1 }) (after_device (Take queue) w)
+      some_tied =
+          subst (λ (x : Next × DeviceState). AreTied (record p { device = x.1 }) (after_device (Take queue) w)) (sym answer_is)
+          (subst (λ (x : Ends). AreTied (device_form queue after then_turns (hold ∷ d.held) p) x) (sym (ends_is queue given_is))
+          (device_step p w tied queue after then_turns (hold ∷ d.held) (record l { given = pages; place = (l.place + 1) % w.lists.size })
+          (entries_taken queue page w.device.entries) (held_entry ∷ w.device.held) quietly.still quietly.base (ap length quietly.bytes) (
+            ids,
+            back,
+            subst (λ (x : Shown). IsQueueTied queue n (start_of p queue) x (driver_at queue p) then_turns (heads_of queue (hold ∷ d.held))
+                (pages_at queue w.driver.staged) (record l { given = pages; place = (l.place + 1) % w.lists.size }) ids back)
+                (sym (seen p w tied after quietly queue))
+                (subst (λ (hs : List ℕ). IsQueueTied queue n (start_of p queue) s (driver_at queue p) then_turns hs
+                (pages_at queue w.driver.staged) (record l { given = pages; place = (l.place + 1) % w.lists.size }) ids back)
+                (sym (heads_here hold d.held))
+                (subst (λ (k : ℕ). IsQueueTied queue n (start_of p queue) s (driver_at queue p) then_turns (id ∷ heads_of queue d.held)
+                (pages_at queue w.driver.staged) (record l { given = pages; place = (l.place + 1) % k }) ids back)
+                (sym tied.size)
+                (tie_taken queue n (start_of p queue) tied.laid.nonzero tied.laid.limit tied.laid.divides s (driver_at queue p) t (heads_of queue d.held)
+                (pages_at queue w.driver.staged) l page pages id ids back given_is tie))),
+          )
+          (λ r other. untouched_same n (shown_of p r) _ (seen p w tied after quietly r)) heads_beside
+          (one_held, held_seen p w tied after quietly)
+          (tied-take w.lists w.driver.entries w.device.entries tied.logs queue page pages ((l.place + 1) % w.lists.size) given_is)))
 
-    some_taken : Takes
-    some_taken = record {
-      answer = ap (λ (x : Next × DeviceState). x.0) answer_is ∙ ap (λ (c : Chain). next.Chain c) hold_chain ∙ sym (rw given_is refl);
-      tied_then = some_tied;
-    }
+      some_taken : Takes
+      some_taken = record {
+        answer = ap (λ (x : Next × DeviceState). x.0) answer_is ∙ ap (λ (c : Chain). next.Chain c) hold_chain ∙ sym (rw given_is refl);
+        tied_then = some_tied;
+      }
 
   pub takes : Takes
   takes = let x = tied.queues queue in by l.given refl x.0 x.1 x.2
@@ -298,6 +298,10 @@ module _ (p : PartsState) (w : Ends) (tied : AreTied p w) (queue : Queue) where
           (heads_of queue d.held) (pages_at queue w.driver.staged) l out back → Takes
       by [] none out back tie = none_taken none
       by (page ∷ pages) given_is [] back tie =
-          absurd (omega (arith, ap length given_is, out_count queue n (start_of p queue) tied.laid.nonzero tied.laid.limit tied.laid.divides s
-          (driver_at queue p) t (heads_of queue d.held) (pages_at queue w.driver.staged) l [] back tie))
+          absurd (omega (
+            arith,
+            ap length given_is,
+            out_count queue n (start_of p queue) tied.laid.nonzero tied.laid.limit tied.laid.divides s
+                (driver_at queue p) t (heads_of queue d.held) (pages_at queue w.driver.staged) l [] back tie,
+          ))
       by (page ∷ pages) given_is (id ∷ ids) back tie = some_taken page pages given_is id ids back tie

@@ -3,3 +3,4 @@ pub mod Shown
 pub mod Calls
 pub mod Queue
 pub mod Tie
+pub mod Exposed
