@@ -4,7 +4,7 @@ use Rattle.vs_contents.specs.CallTree.{Done, Ask, bind, for_each, while_up_to}
 use Rattle.vs_ring_port.specs.Contents.{RingContents, DeviceCall, DeviceAnswer, Take, Read, Write, Return, Given, PublishCid}
 use Rattle.vs_ring_port.specs.DeviceCalls.{CanReturn, DeviceAllows, LeavesNoGap}
 use Rattle.vs_device.specs.Calls.{Call, Answer, Ring, Accept, Dial, Label, ReadStream, WriteStream, ShutWrite, CloseStream, DeviceTree, Situation}
-use Rattle.vs_device_log.specs.Answers.{AllowsFit, CanMakeOnRing, IsFitAnswer, MayRunRing, RunsFit}
+use Rattle.vs_device_log.specs.Answers.{Allows, CanPut, IsFitAnswer, MayPut, Runs}
 
 -- What the ring asks of a call, and what the call leaves of it.
 abbrev pub Can : Call → RingContents → Type 0
@@ -16,7 +16,7 @@ abbrev pub Moves : (call : Call) → Answer call → RingContents → RingConten
 Moves (Ring call) a c d = DeviceAllows call a c d
 Moves _ a c d = d ≡ c
 
-can_ring : (call : DeviceCall) (s : Situation) → Can (Ring call) s.ring → CanMakeOnRing (Ring call) s
+can_ring : (call : DeviceCall) (s : Situation) → Can (Ring call) s.ring → CanPut (Ring call) s
 can_ring (Take queue) s can = tt
 can_ring (Read chain place count) s can = tt
 can_ring (Write chain place bytes) s can = can
@@ -24,7 +24,7 @@ can_ring (Return chain len) s can = can
 can_ring (Given queue) s can = tt
 can_ring (PublishCid cid) s can = tt
 
-can_make : (call : Call) (s : Situation) → Can call s.ring → CanMakeOnRing call s
+can_make : (call : Call) (s : Situation) → Can call s.ring → CanPut call s
 can_make (Ring call) s can = can_ring call s can
 can_make Accept s can = tt
 can_make (Dial path flow) s can = tt
@@ -34,7 +34,7 @@ can_make (WriteStream stream bytes) s can = tt
 can_make (ShutWrite stream) s can = tt
 can_make (CloseStream stream) s can = tt
 
-moved : (call : Call) (a : Answer call) (s t : Situation) → AllowsFit call a s t → Moves call a s.ring t.ring
+moved : (call : Call) (a : Answer call) (s t : Situation) → Allows call a s t → Moves call a s.ring t.ring
 moved (Ring call) a s t allowed = allowed.1.0
 moved Accept a s t allowed = allowed.1.ring
 moved (Dial path flow) a s t allowed = allowed.1.ring
@@ -50,12 +50,12 @@ Keeps Q (Ask call next) c =
     Can call c × ((a : Answer call) (d : RingContents) → IsFitAnswer call a → Moves call a c d → Keeps Q (next a) d)
 
 module _ {A : Type 0} (Q : A → RingContents → Type 0) where
-  pub keeps_may : (t : DeviceTree A) (s : Situation) → Keeps Q t s.ring → MayRunRing t s
+  pub keeps_may : (t : DeviceTree A) (s : Situation) → Keeps Q t s.ring → MayPut t s
   keeps_may (Done x) s keeps = tt
   keeps_may (Ask call next) s keeps =
       (can_make call s keeps.0, λ a d allowed. keeps_may (next a) d (keeps.1 a d.ring allowed.0 (moved call a s d allowed)))
 
-  pub keeps_end : (t : DeviceTree A) (s d : Situation) (x : A) → Keeps Q t s.ring → RunsFit t s x d → Q x d.ring
+  pub keeps_end : (t : DeviceTree A) (s d : Situation) (x : A) → Keeps Q t s.ring → Runs t s x d → Q x d.ring
   keeps_end (Done y) s d x keeps runs =
       let P : A → Type 0 = λ z. Q z s.ring in
       let R : Situation → Type 0 = λ e. Q x e.ring in

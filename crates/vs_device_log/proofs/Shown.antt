@@ -12,7 +12,7 @@ use Rattle.vs_device.specs.Calls.{Call, Accept, Dial, Label, ReadStream, WriteSt
 use Rattle.vs_device.specs.Playing.{CanMake, Runs}
 use Rattle.vs_device.specs.State.{DeviceEntry, DeviceState}
 use Rattle.vs_device.specs.Turns.{table_shown}
-use Rattle.vs_device_log.specs.Answers.{CanMakeOnHost, CanMakeOnRing, MayRunFit, MayRunHost, MayRunRing, RunsFit}
+use Rattle.vs_device_log.specs.Answers.{CanReach, CanPut, MayRun, MayReach, MayPut, Runs}
 use Rattle.vs_device_log.specs.Honest.{AgreesWith, IsLeftOpen, ends_of_state, flows_shown}
 use Rattle.vs_device_log.proofs.Tabling.{entry_fits}
 
@@ -31,12 +31,12 @@ pending_within first port s l e agrees there =
     let bytes = (entry_fits s agrees.fits e there).bytes in omega (arith, bytes.unread, bytes.within, bytes.alloc)
 
 -- A conversation over fit answers is one over any.
-pub any_answers : {A : Type 0} (tree : DeviceTree A) (s t : Situation) (x : A) → RunsFit tree s x t → Runs tree s x t
+pub any_answers : {A : Type 0} (tree : DeviceTree A) (s t : Situation) (x : A) → Runs tree s x t → Runs tree s x t
 any_answers (Done y) s t x runs = runs
 any_answers (Ask call next) s t x runs = (runs.0, runs.1, runs.2.1, any_answers (next runs.0) runs.1 t x runs.3)
 
 -- What ring and host ask is all that is asked.
-both : (call : Call) (s : Situation) → CanMakeOnRing call s → CanMakeOnHost call s → CanMake call s
+both : (call : Call) (s : Situation) → CanPut call s → CanReach call s → CanMake call s
 both (Ring call) s ring host = ring
 both Accept s ring host = host
 both (Dial path flow) s ring host = host
@@ -46,7 +46,7 @@ both (WriteStream stream bytes) s ring host = host
 both (ShutWrite stream) s ring host = host
 both (CloseStream stream) s ring host = host
 
-pub both_may : {A : Type 0} (tree : DeviceTree A) (s : Situation) → MayRunRing tree s → MayRunHost tree s → MayRunFit tree s
+pub both_may : {A : Type 0} (tree : DeviceTree A) (s : Situation) → MayPut tree s → MayReach tree s → MayRun tree s
 both_may (Done x) s ring host = tt
 both_may (Ask call next) s ring host = (
   both call s ring.0 host.0,

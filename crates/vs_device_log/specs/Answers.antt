@@ -29,28 +29,28 @@ IsFitAnswer (ReadStream stream n) a = length a.1 ≤ n
 IsFitAnswer (WriteStream stream bytes) a = TakesWithin (length bytes) a
 IsFitAnswer _ a = Unit {0}
 
-abbrev pub AllowsFit : (call : Call) → Answer call → Situation → Situation → Type 0
-AllowsFit call a old new = IsFitAnswer call a × Allows call a old new
+abbrev pub Allows : (call : Call) → Answer call → Situation → Situation → Type 0
+Allows call a old new = IsFitAnswer call a × Allows call a old new
 
 -- What the ring asks of a call, and what the host asks.
-abbrev pub CanMakeOnRing : Call → Situation → Type 0
-CanMakeOnRing (Ring call) s = CanMake (Ring call) s
-CanMakeOnRing _ s = Unit {0}
+abbrev pub CanPut : Call → Situation → Type 0
+CanPut (Ring call) s = CanMake (Ring call) s
+CanPut _ s = Unit {0}
 
-abbrev pub CanMakeOnHost : Call → Situation → Type 0
-CanMakeOnHost (Ring call) s = Unit {0}
-CanMakeOnHost call s = CanMake call s
+abbrev pub CanReach : Call → Situation → Type 0
+CanReach (Ring call) s = Unit {0}
+CanReach call s = CanMake call s
 
 -- Each call of the conversation may be made, whatever ring and host answered before; each on the ring; each on the host.
-abbrev pub MayRunFit : {A : Type 0} → DeviceTree A → Situation → Type 0
-MayRunFit tree old = MayPlay CanMake AllowsFit tree old
+abbrev pub MayRun : {A : Type 0} → DeviceTree A → Situation → Type 0
+MayRun tree old = MayPlay CanMake Allows tree old
 
-abbrev pub MayRunRing : {A : Type 0} → DeviceTree A → Situation → Type 0
-MayRunRing tree old = MayPlay CanMakeOnRing AllowsFit tree old
+abbrev pub MayPut : {A : Type 0} → DeviceTree A → Situation → Type 0
+MayPut tree old = MayPlay CanPut Allows tree old
 
-abbrev pub MayRunHost : {A : Type 0} → DeviceTree A → Situation → Type 0
-MayRunHost tree old = MayPlay CanMakeOnHost AllowsFit tree old
+abbrev pub MayReach : {A : Type 0} → DeviceTree A → Situation → Type 0
+MayReach tree old = MayPlay CanReach Allows tree old
 
 -- From a situation the conversation may end in x and another situation, over such answers.
-abbrev pub RunsFit : {A : Type 0} → DeviceTree A → Situation → A → Situation → Type 0
-RunsFit tree old x new = Leads AllowsFit tree old x new
+abbrev pub Runs : {A : Type 0} → DeviceTree A → Situation → A → Situation → Type 0
+Runs tree old x new = Leads Allows tree old x new
