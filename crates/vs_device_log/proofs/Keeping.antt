@@ -3,8 +3,9 @@ use Rattle.std.proofs.Common.{◌≡◌, ℕ, zero, suc, ◌<◌, Bool, true, fa
 use Rattle.vs_contents.specs.CallTree.{Done, Ask, bind, for_each, while_up_to}
 use Rattle.vs_ring_port.specs.Contents.{RingContents, DeviceCall, DeviceAnswer, Take, Read, Write, Return, Given, PublishCid}
 use Rattle.vs_ring_port.specs.DeviceCalls.{CanReturn, DeviceAllows, LeavesNoGap}
-use Rattle.vs_device.specs.Calls.{Call, Answer, Ring, Accept, Dial, Label, ReadStream, WriteStream, ShutWrite, CloseStream, DeviceTree, Situation}
-use Rattle.vs_device_log.specs.Answers.{Allows, CanPut, IsFitAnswer, MayPut, Runs}
+use Rattle.vs_device.specs.Calls.{Call, Answer, Allows, IsFitAnswer, Ring, Accept, Dial, Label, ReadStream, WriteStream, ShutWrite, CloseStream, DeviceTree, Situation}
+use Rattle.vs_device.specs.Playing.{Runs}
+use Rattle.vs_device_laws.specs.Split.{CanPut, MayPut}
 
 -- What the ring asks of a call, and what the call leaves of it.
 abbrev pub Can : Call → RingContents → Type 0

@@ -9,7 +9,7 @@ ghost use Rattle.vs_page.specs.Log.{Device};
 ghost use Rattle.vs_ring_port.specs.Contents.{RingContents};
 ghost use Rattle.vs_ring_port.specs.EndLog.{EndLog};
 ghost use Rattle.vs_ring_port.specs.declared.failure.Failure.{Failure};
-ghost use Rattle.vs_device.specs.Calls.{DeviceTree, Situation};
+ghost use Rattle.vs_device.specs.Calls.{Situation};
 ghost use Rattle.vs_device.specs.Playing.{Runs};
 ghost use Rattle.vs_device.specs.Receiving.{fill_rx_of, pay_event_of};
 ghost use Rattle.vs_device.specs.State.{DeviceEntry, DeviceState};
@@ -18,7 +18,7 @@ ghost use Rattle.vs_device.specs.Transmitting.{take_tx_of};
 ghost use Rattle.vs_device.specs.Turns.{new_device, open_of, reset_of, table_shown};
 ghost use Rattle.vs_device.specs.declared.answers.Filled.{Filled};
 ghost use Rattle.vs_device.specs.declared.answers.Taken.{Taken};
-ghost use Rattle.vs_device_log.specs.Answers.{MayRun, MayReach, MayPut, Runs};
+ghost use Rattle.vs_device_laws.specs.Split.{MayPut};
 ghost use Rattle.vs_device_log.specs.Honest.{AgreesWith, IsFitFlow, IsFresh, IsLeftOpen, IsWith, ends_of_state, port_after};
 
 /// Over a ring that tells its log the device holds the one chain that it keeps for the next packet, and all that a call does on the ring may be
@@ -64,11 +64,4 @@ pub fn law_of_the_table()
     ensures pending { (first port : ℕ) (s : DeviceState) (l : EndLog) (e : DeviceEntry) → AgreesWith first port s l → Contains s.table.entries e
         → length e.value.pending ≤ BUF_ALLOC }
     ensures no_overrun { (first port : ℕ) (s : DeviceState) (l : EndLog) → AgreesWith first port s l → s.overrun ≡ 0 }
-{}
-
-/// A conversation over ring and host that keep to the bounds of each call is one over any. What the ring asks and what the host asks of its calls
-/// is all that is asked.
-pub fn law_of_answers<T>()
-    ensures answers { (tree : DeviceTree T) (a b : Situation) (x : T) → Runs tree a x b → Runs tree a x b }
-    ensures may { (tree : DeviceTree T) (a : Situation) → MayPut tree a → MayReach tree a → MayRun tree a }
 {}
