@@ -11,6 +11,8 @@ mod proxy;
 mod shaking;
 mod stages;
 mod tally;
+#[cfg(test)]
+mod tests;
 mod turns;
 
 pub use answers::{Turn, Turned};

@@ -20,12 +20,13 @@ use vs_outside::HostNet;
 use vs_ring_port::{DeviceRing, Failure};
 
 impl Proxy {
-    /// A turn at the moment `now`, in milliseconds; moments don't fall. Its stages, in this order: timeouts of connections and of handshakes;
-    /// the owed event; packets that the guest sent, at most as many as the queue has descriptors; one client is accepted and lines
-    /// `CONNECT PORT` are read; what is pending is written to the host's streams; packets are put on the receive queue (Virtio 1.2, sections
-    /// 5.10.6.1 to 5.10.6.7; Firecracker's vsock documentation).
+    /// A turn at the moment `now`, in milliseconds; moments don't fall. Its stages, in this order: timeouts of connections and of
+    /// handshakes; the owed event; packets that the guest sent, at most as many as the queue has descriptors; one client is accepted, and
+    /// the lines `CONNECT PORT` are read; what is pending is written to the host's streams; packets are put on the receive queue (Virtio
+    /// 1.2, sections 5.10.6.1 to 5.10.6.7; Firecracker's vsock documentation).
     ///
-    /// Answers what it did, or the ring's failure, in this call or before: a turn ends where the ring fails, and every later one does nothing.
+    /// Answers what it did, or the ring's failure, in this call or before: a turn ends where the ring fails, and every later one does
+    /// nothing.
     pub fn turn<R: DeviceRing, H: HostNet>(&mut self, ring: &mut R, host: &mut H, now: u64) -> Turn
         requires ring { IsItsRing (R.held ring.old) self.old.device }
         requires may { MayRun (turn_of (R.size ring.old) now self.old) (situation (R.contents ring.old) (H.contents host.old) (H.faults host.old)) }
@@ -68,10 +69,10 @@ impl Proxy {
         })
     }
 
-    /// A transport reset: all streams are closed, those of connections by rising slot and then those of handshakes in the order in which they
-    /// were accepted; connections, owed replies and handshakes are forgotten, an rx chain stays held. The guest's CID, 3 to 4,294,967,294,
-    /// is published, and one event is owed, also after several resets (Virtio 1.2, section 5.10.6.7). The error is the ring's failure before
-    /// this call; then nothing changes.
+    /// A transport reset: all streams are closed, those of connections by rising slot and then those of handshakes in the order in which
+    /// they were accepted; connections, owed replies and handshakes are forgotten, an rx chain stays held. The guest's CID, 3 to
+    /// 4,294,967,294, is published, and one event is owed, also after several resets (Virtio 1.2, section 5.10.6.7). The error is the
+    /// ring's failure before this call; then nothing changes.
     pub fn reset<R: DeviceRing, H: HostNet>(
         &mut self,
         ring: &mut R,
