@@ -3,3 +3,11 @@ pub mod Logs
 pub mod Received
 pub mod Gone
 pub mod Steps
+pub mod Lines
+pub mod Streamed
+pub mod Hosts
+pub mod HostCalls
+pub mod Hands
+pub mod Opens
+pub mod Gives
+pub mod Cids

@@ -11,7 +11,6 @@ use Rattle.vs_page.proofs.Flows.{same_self}
 use Rattle.vs_page.specs.Fair.{IsPrefixOf}
 use Rattle.vs_page.specs.Log.{Driver, Log}
 use Rattle.vs_driver_parts.specs.State.{DriverConnection, DriverEntry, GoneConnection}
-use Rattle.vs_driver_parts.specs.Connections.{gone_as}
 use Rattle.vs_driver_parts.proofs.Ids.{value_of}
 use Rattle.vs_driver_parts.proofs.Numbers.{numbers_left, numbers_with_entry, numbers_with_value, numbers_without}
 use Rattle.vs_pipes.specs.Drains.{Drains, got_on, has_passed, receives}

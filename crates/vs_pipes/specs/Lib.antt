@@ -1,2 +1,3 @@
 pub mod Drains
 pub mod Received
+pub mod Streamed

@@ -40,26 +40,40 @@ use Rattle.vs_world.proofs.DeviceSide.{DeviceHolds, IsFresh, Kept, end_in, entry
 use Rattle.vs_world.proofs.DeviceTurns.{same_cid, still}
 use Rattle.vs_world.proofs.Fits.{holds_header}
 use Rattle.vs_world.proofs.Wire.{PutsFit, not_payload}
+use Rattle.vs_conn.specs.End.{ConnectionEnd}
+use Rattle.vs_flow.specs.Table.{with_value, without}
+use Rattle.vs_outside.specs.Host.{HostContents, after_close}
+use Rattle.vs_proxy.specs.State.{Handshake}
+use Rattle.vs_pipes.specs.Streamed.{IsStreamed, gives}
+use Rattle.vs_pipes.proofs.Gives.{pays_asked, pays_gives}
+use Rattle.vs_pipes.proofs.HostCalls.{closed_host}
+use Rattle.vs_world.proofs.Streams.{StreamedIf, ends_streams, leaves_streams, put_empty}
 
 module _ (driver : Seat) (first port : ℕ) (s : DeviceState) (a : Around) (sound : IsSound first (seated driver port s a.log.entries))
-    (holds : DeviceHolds port s) (puts : PutsFit a.log.entries) (rx : HoldsRx s.chain a.log.held) (known : a.lists.cid < 2 ^ 64) where
-  abbrev Left : DeviceState → Rings → EndLog → Type 0
-  Left t lists log = Over driver first port s a.log.entries sound holds puts t lists log
+    (holds : DeviceHolds port s) (puts : PutsFit a.log.entries) (rx : HoldsRx s.chain a.log.held) (known : a.lists.cid < 2 ^ 64) (fresh : Type 0) (lines : List Handshake)
+    (x : StreamedIf fresh a.host a.log.entries port s.table lines) where
+  abbrev Left : DeviceState → Rings → EndLog → HostContents → Type 0
+  Left t rings log host = Over driver first port s a.log.entries sound holds puts fresh lines t rings log host
 
   abbrev pub KeptNow : DeviceTree DeviceState → Type 0
-  KeptNow tree = KeptBy driver first port s a.log.entries sound holds puts tree a
+  KeptNow tree = KeptBy driver first port s a.log.entries sound holds puts fresh lines tree a
 
-  unmoved : Left s a.lists a.log
-  unmoved = still driver first port s a sound holds puts rx known
+  unmoved : Left s a.lists a.log a.host
+  unmoved = still driver first port s a sound holds puts rx known fresh lines x
 
   abbrev Goes : DeviceState → Log → Type 0
   Goes t log = Kept driver port s a.log.entries port t log
 
   -- A packet was put into a chain that was held.
   pub put_over : (c : Chain) → c.queue ≡ Rx → (page bytes : List ℕ) (p : Packet) → packet_held page ≡ Some p → bytes ≡ page → (t : DeviceState)
-      → t.chain ≡ None → Goes t (PutPacket p ∷ a.log.entries) → (log : EndLog) → log.entries ≡ entries_returned c.queue bytes a.log.entries
-      → Left t (after_return c.queue bytes a.lists) log
-  put_over c is page bytes p held same t none kept log entries = record {
+      → t.chain ≡ None → Goes t (PutPacket p ∷ a.log.entries) → (host : HostContents) → StreamedIf fresh host (PutPacket p ∷ a.log.entries) port t.table lines
+      → (log : EndLog) → log.entries ≡ entries_returned c.queue bytes a.log.entries
+      → Left t (after_return c.queue bytes a.lists) log host
+  put_over c is page bytes p held same t none kept host streams log entries = record {
+    streams = subst (λ (l : Log). StreamedIf fresh host l port t.table lines)
+        (sym (entries ∙ ap (λ (q : Queue). entries_returned q bytes a.log.entries) is
+        ∙ ap (λ (b : List ℕ). with_packet (λ q. PutPacket q) (packet_held b) a.log.entries) same
+        ∙ ap (λ (o : Option Packet). with_packet (λ q. PutPacket q) o a.log.entries) held)) streams;
     kept = subst (λ (l : Log). Goes t l)
         (sym (entries ∙ ap (λ (q : Queue). entries_returned q bytes a.log.entries) is
         ∙ ap (λ (b : List ℕ). with_packet (λ q. PutPacket q) (packet_held b) a.log.entries) same
@@ -95,6 +109,7 @@ module _ (driver : Seat) (first port : ℕ) (s : DeviceState) (a : Around) (soun
       oldest_put : (c : Chain) → s.chain ≡ Some c → (rs : List Reply) → s.replies ≡ rs
           → KeptNow (bind (put_reply_of rs (filling (record s { chain = Some c }))) (λ q. Done q.0.state))
       oldest_put c is [] replies = record {
+        streams = x;
         kept = record { runs = unmoved.kept.runs; holds = holds; puts = puts; overrun = refl };
         chain = subst (λ (o : Option Chain). HoldsRx o a.log.held) is rx;
         known = known;
@@ -104,10 +119,11 @@ module _ (driver : Seat) (first port : ℕ) (s : DeviceState) (a : Around) (soun
           let k = side.replies driver first port s a.log.entries sound holds puts reply rest replies in
           let h = reply_header reply s in
           put_over c has.0 (header_bytes h) _ (reply_on Device s.cid (flow_to_guest reply)) (holds_header h k.puts.0 refl) (header_written c h has.1)
-          (record s { chain = None; replies = rest }) refl (record { runs = k.runs; holds = k.holds; puts = k.puts; overrun = k.overrun }) _ refl
+          (record s { chain = None; replies = rest }) refl (record { runs = k.runs; holds = k.holds; puts = k.puts; overrun = k.overrun })
+          a.host (λ ok. put_empty a.host a.log.entries port s.table lines (reply_on Device s.cid (flow_to_guest reply)) refl (x ok)) _ refl
 
       by : (o : Option Chain) → s.chain ≡ o → KeptNow (puts_reply (record s { chain = o }))
-      by None is = record { kept = record { runs = unmoved.kept.runs; holds = holds; puts = puts; overrun = refl }; chain = tt; known = known }
+      by None is = record { kept = record { runs = unmoved.kept.runs; holds = holds; puts = puts; overrun = refl }; chain = tt; known = known; streams = x }
       by (Some c) is = oldest_put c is s.replies refl
 
   -- What a connection owes.
@@ -116,15 +132,16 @@ module _ (driver : Seat) (first port : ℕ) (s : DeviceState) (a : Around) (soun
     has = subst (λ (o : Option Chain). HoldsRx o a.log.held) is rx
 
     paid_over : (what : Owed) → owes_of e.value.end ≡ Some what → (t : DeviceState) → t.chain ≡ None
-        → Goes t (PutPacket (owed_on Device s.cid e.flow e.value.end what) ∷ a.log.entries)
+        → Goes t (PutPacket (owed_on Device s.cid e.flow e.value.end what) ∷ a.log.entries) → (host : HostContents)
+        → StreamedIf fresh host (PutPacket (owed_on Device s.cid e.flow e.value.end what) ∷ a.log.entries) port t.table lines
         → (log : EndLog) → log.entries ≡ entries_returned c.queue (take 44 (bytes_in c (with_bytes c (overwritten (bytes_in c a.log.held) 0
         (header_bytes (owed_header e.value.end (route_to_guest s.cid e.flow) what))) a.log.held))) a.log.entries
         → Left t (after_return c.queue (take 44 (bytes_in c (with_bytes c (overwritten (bytes_in c a.log.held) 0
-        (header_bytes (owed_header e.value.end (route_to_guest s.cid e.flow) what))) a.log.held))) a.lists) log
-    paid_over what owes t none k log entries =
+        (header_bytes (owed_header e.value.end (route_to_guest s.cid e.flow) what))) a.log.held))) a.lists) log host
+    paid_over what owes t none k host streams log entries =
         let h = owed_header e.value.end (route_to_guest s.cid e.flow) what in
         put_over c has.0 (header_bytes h) _ (owed_on Device s.cid e.flow e.value.end what)
-        (holds_header h k.puts.0 (not_payload e.value.end (route_to_guest s.cid e.flow) what)) (header_written c h has.1) t none k log entries
+        (holds_header h k.puts.0 (not_payload e.value.end (route_to_guest s.cid e.flow) what)) (header_written c h has.1) t none k host streams log entries
 
     pays_other : (what : Owed) (v : DeviceConnection) → owes_of e.value.end ≡ Some what → v.end ≡ paid_of e.value.end what
         → v.pending ≡ e.value.pending → IsFresh v
@@ -151,6 +168,16 @@ module _ (driver : Seat) (first port : ℕ) (s : DeviceState) (a : Around) (soun
     paid_fresh owed.CreditRequest owes = grind (arith, common_steps, owes)
     paid_fresh (owed.Shutdown bits) owes = grind (arith, common_steps, owes)
 
+    -- Its stream stays.
+    pays_streams : (what : Owed) → owes_of e.value.end ≡ Some what → (v : DeviceConnection) → v.stream ≡ e.value.stream → v.by_client ≡ e.value.by_client
+        → v.ok_line ≡ e.value.ok_line → v.pending ≡ e.value.pending → v.end ≡ paid_of e.value.end what
+        → StreamedIf fresh a.host (PutPacket (owed_on Device s.cid e.flow e.value.end what) ∷ a.log.entries) port (with_value s.table e.slot v) lines
+    pays_streams what owes v stream client ok pending end =
+        λ at_first. put_empty a.host a.log.entries port (with_value s.table e.slot v) lines (owed_on Device s.cid e.flow e.value.end what) refl
+        (ends_streams a.host a.log.entries port s.table lines (x at_first) holds.sound e there v stream client ok pending
+        (λ on. pays_gives e.value.end what owes (ap (λ (y : ConnectionEnd). gives y) (sym end) ∙ on))
+        (λ on. pays_asked e.value.end what (ap (λ (y : ConnectionEnd). y.state) (sym end) ∙ on)))
+
     abbrev Paying : Owed → Type 0
     Paying what = KeptNow (bind {A = Filling × Bool} (bind (put_packet (owed_header e.value.end (route_to_guest s.cid e.flow) what) (after_paying what e)
         (filling (record s { chain = Some c }))) (λ q. Done (q, not q.over))) (λ q. Done q.0.state))
@@ -158,19 +185,24 @@ module _ (driver : Seat) (first port : ℕ) (s : DeviceState) (a : Around) (soun
     paying : (what : Owed) → owes_of e.value.end ≡ Some what → Paying what
     paying owed.Request owes = paid_over owed.Request owes _ refl
         (pays_other owed.Request (record e.value { end = paid_of e.value.end owed.Request; asked_at = Some s.now }) owes refl refl
-        (not_fresh _ (paid_fresh owed.Request owes)) refl (Some e.slot)) _ refl
+        (not_fresh _ (paid_fresh owed.Request owes)) refl (Some e.slot)) a.host
+        (pays_streams owed.Request owes (record e.value { end = paid_of e.value.end owed.Request; asked_at = Some s.now }) refl refl refl refl refl) _ refl
     paying owed.Response owes = paid_over owed.Response owes _ refl
         (pays_other owed.Response (record e.value { end = paid_of e.value.end owed.Response }) owes refl refl
-        (not_fresh _ (paid_fresh owed.Response owes)) refl (Some e.slot)) _ refl
+        (not_fresh _ (paid_fresh owed.Response owes)) refl (Some e.slot)) a.host
+        (pays_streams owed.Response owes (record e.value { end = paid_of e.value.end owed.Response }) refl refl refl refl refl) _ refl
     paying owed.CreditUpdate owes = paid_over owed.CreditUpdate owes _ refl
         (pays_other owed.CreditUpdate (record e.value { end = paid_of e.value.end owed.CreditUpdate }) owes refl refl
-        (not_fresh _ (paid_fresh owed.CreditUpdate owes)) refl (Some e.slot)) _ refl
+        (not_fresh _ (paid_fresh owed.CreditUpdate owes)) refl (Some e.slot)) a.host
+        (pays_streams owed.CreditUpdate owes (record e.value { end = paid_of e.value.end owed.CreditUpdate }) refl refl refl refl refl) _ refl
     paying owed.CreditRequest owes = paid_over owed.CreditRequest owes _ refl
         (pays_other owed.CreditRequest (record e.value { end = paid_of e.value.end owed.CreditRequest }) owes refl refl
-        (not_fresh _ (paid_fresh owed.CreditRequest owes)) refl (Some e.slot)) _ refl
+        (not_fresh _ (paid_fresh owed.CreditRequest owes)) refl (Some e.slot)) a.host
+        (pays_streams owed.CreditRequest owes (record e.value { end = paid_of e.value.end owed.CreditRequest }) refl refl refl refl refl) _ refl
     paying (owed.Shutdown bits) owes = paid_over (owed.Shutdown bits) owes _ refl
         (pays_other (owed.Shutdown bits) (record e.value { end = paid_of e.value.end (owed.Shutdown bits) }) owes refl refl
-        (not_fresh _ (paid_fresh (owed.Shutdown bits) owes)) refl (Some e.slot)) _ refl
+        (not_fresh _ (paid_fresh (owed.Shutdown bits) owes)) refl (Some e.slot)) a.host
+        (pays_streams (owed.Shutdown bits) owes (record e.value { end = paid_of e.value.end (owed.Shutdown bits) }) refl refl refl refl refl) _ refl
     paying owed.Rst owes = by e.value.closed
       where
         gone : Goes (after_leaving e.slot (with_connection e.slot (stream_closed e.value) (record s { chain = None; last_put = Some e.slot })))
@@ -178,16 +210,25 @@ module _ (driver : Seat) (first port : ℕ) (s : DeviceState) (a : Around) (soun
         gone = let k = side.pays_rst driver first port s a.log.entries sound holds puts e (stream_closed e.value) there owes in
             record { runs = k.runs; holds = k.holds; puts = k.puts; overrun = k.overrun }
 
+        left_on : StreamedIf fresh a.host (PutPacket (owed_on Device s.cid e.flow e.value.end owed.Rst) ∷ a.log.entries) port
+            (without (with_value s.table e.slot (stream_closed e.value)) e.slot) lines
+        left_on = λ ok. put_empty a.host a.log.entries port (without (with_value s.table e.slot (stream_closed e.value)) e.slot) lines
+            (owed_on Device s.cid e.flow e.value.end owed.Rst) refl
+            (leaves_streams a.host a.log.entries port s.table lines (x ok) holds.sound e (stream_closed e.value) there)
+
         by : (b : Bool) → KeptNow (bind {A = Filling × Bool} (bind (put_packet (owed_header e.value.end (route_to_guest s.cid e.flow) owed.Rst)
             (λ t. bind (cond b (Done (with_connection e.slot (stream_closed e.value) (record t { last_put = Some e.slot })))
             (Ask (CloseStream e.value.stream) (λ _. Done (with_connection e.slot (stream_closed e.value) (record t { last_put = Some e.slot })))))
             (λ u. Done (after_leaving e.slot u)))
             (filling (record s { chain = Some c }))) (λ q. Done (q, not q.over))) (λ q. Done q.0.state))
-        by true = paid_over owed.Rst owes _ refl gone _ refl
-        by false = paid_over owed.Rst owes _ refl gone _ refl
+        by true = paid_over owed.Rst owes _ refl gone a.host left_on _ refl
+        by false = paid_over owed.Rst owes _ refl gone (after_close e.value.stream a.host)
+            (λ ok. closed_host e.value.stream a.host (PutPacket (owed_on Device s.cid e.flow e.value.end owed.Rst) ∷ a.log.entries) port
+            (without (with_value s.table e.slot (stream_closed e.value)) e.slot) lines (left_on ok)) _ refl
 
-  held_still : (c : Chain) → s.chain ≡ Some c → Left (record s { chain = Some c }) a.lists a.log
+  held_still : (c : Chain) → s.chain ≡ Some c → Left (record s { chain = Some c }) a.lists a.log a.host
   held_still c is = record {
+    streams = x;
     kept = record { runs = unmoved.kept.runs; holds = holds; puts = puts; overrun = refl };
     chain = subst (λ (o : Option Chain). HoldsRx o a.log.held) is rx;
     known = known;
@@ -218,5 +259,5 @@ module _ (driver : Seat) (first port : ℕ) (s : DeviceState) (a : Around) (soun
       found c is (Some e) under = owing c is e (found_by (λ (x : DeviceEntry). x.slot == slot) s.table.entries e under).0 (owes_of e.value.end) refl
 
       by : (o : Option Chain) → s.chain ≡ o → KeptNow (puts_owed slot (record s { chain = o }))
-      by None is = record { kept = record { runs = unmoved.kept.runs; holds = holds; puts = puts; overrun = refl }; chain = tt; known = known }
+      by None is = record { kept = record { runs = unmoved.kept.runs; holds = holds; puts = puts; overrun = refl }; chain = tt; known = known; streams = x }
       by (Some c) is = found c is (entry_under s.table slot) refl

@@ -43,6 +43,12 @@ use Rattle.vs_world.proofs.DeviceSide.{DeviceHolds, IsFresh, Kept, entry_fits, e
 use Rattle.vs_world.proofs.DeviceTurns.{still, quiet}
 use Rattle.vs_world.proofs.Fits.{CreditFits, fits_forwarded, fits_shut, holds_payload}
 use Rattle.vs_world.proofs.Wire.{PutsFit}
+use Rattle.vs_flow.specs.Table.{with_value}
+use Rattle.vs_outside.specs.Host.{HostContents, after_close, after_failed, after_shut_write, called}
+use Rattle.vs_proxy.specs.State.{Handshake}
+use Rattle.vs_pipes.specs.Streamed.{IsStreamed}
+use Rattle.vs_pipes.proofs.HostCalls.{closed_host}
+use Rattle.vs_world.proofs.Streams.{StreamedIf, called_host, cuts_streams, ends_streams, failed_host, shut_write_host, shuts_streams, writes_streams}
 
 pub live_old : (e : ConnectionEnd) → may_read e e.state ≡ true → is_new e ≡ false
 live_old e is = grind (arith, common_steps, is)
@@ -94,19 +100,25 @@ write_short len n false (Some st) is = by st.host_closed (taken_of len st == 0) 
     by false false is = let same : taken_of len st ≡ n = cc in subst (λ (k : ℕ). k ≤ len) same (taken_short st.room)
 
 module _ (driver : Seat) (first port : ℕ) (s : DeviceState) (a : Around) (sound : IsSound first (seated driver port s a.log.entries))
-    (holds : DeviceHolds port s) (puts : PutsFit a.log.entries) (rx : HoldsRx s.chain a.log.held) (known : a.lists.cid < 2 ^ 64) where
-  abbrev Left : DeviceState → Rings → EndLog → Type 0
-  Left t lists log = Over driver first port s a.log.entries sound holds puts t lists log
+    (holds : DeviceHolds port s) (puts : PutsFit a.log.entries) (rx : HoldsRx s.chain a.log.held) (known : a.lists.cid < 2 ^ 64) (fresh : Type 0) (lines : List Handshake)
+    (x : StreamedIf fresh a.host a.log.entries port s.table lines) where
+  abbrev Left : DeviceState → Rings → EndLog → HostContents → Type 0
+  Left t rings log host = Over driver first port s a.log.entries sound holds puts fresh lines t rings log host
 
   abbrev pub KeptNow : DeviceTree DeviceState → Type 0
-  KeptNow tree = KeptBy driver first port s a.log.entries sound holds puts tree a
+  KeptNow tree = KeptBy driver first port s a.log.entries sound holds puts fresh lines tree a
 
-  unmoved : Left s a.lists a.log
-  unmoved = still driver first port s a sound holds puts rx known
+  -- Over another host.
+  abbrev pub KeptOver : HostContents → DeviceTree DeviceState → Type 0
+  KeptOver host tree = KeptBy driver first port s a.log.entries sound holds puts fresh lines tree (record a { host = host })
+
+  unmoved : Left s a.lists a.log a.host
+  unmoved = still driver first port s a sound holds puts rx known fresh lines x
 
   -- No log shows it.
-  pub silent : (t : DeviceState) → t.chain ≡ s.chain → Kept driver port s a.log.entries port t a.log.entries → Left t a.lists a.log
-  silent = quiet driver first port s a sound holds puts rx known
+  pub silent : (t : DeviceState) → t.chain ≡ s.chain → Kept driver port s a.log.entries port t a.log.entries → (host : HostContents)
+      → StreamedIf fresh host a.log.entries port t.table lines → Left t a.lists a.log host
+  silent = quiet driver first port s a sound holds puts rx known fresh lines x
 
   module _ (e : DeviceEntry) (there : Contains s.table.entries e) where
     fits : CreditFits e.value.end.credit (length e.value.pending)
@@ -129,15 +141,24 @@ module _ (driver : Seat) (first port : ℕ) (s : DeviceState) (a : Around) (soun
 
     -- Its stream is closed too.
     pub cut_over : is_new e.value.end ≡ false → (t : DeviceState) → t.chain ≡ s.chain → (t.table ≡ s.table) × (t.replies ≡ s.replies) × (t.cid ≡ s.cid) × (t.overrun ≡ s.overrun)
-        → Left (with_connection e.slot (cut_off e.value) t) a.lists a.log
-    cut_over old t same (table, replies, cid, overrun) =
+        → (host : HostContents) → StreamedIf fresh host a.log.entries port (with_value t.table e.slot (cut_off e.value)) lines
+        → Left (with_connection e.slot (cut_off e.value) t) a.lists a.log host
+    cut_over old t same (table, replies, cid, overrun) host streams =
         let k = cuts old in
-        silent (with_connection e.slot (cut_off e.value) t) same (recast t table replies cid overrun k)
+        silent (with_connection e.slot (cut_off e.value) t) same (recast t table replies cid overrun k) host streams
       where
         recast : (t : DeviceState) → t.table ≡ s.table → t.replies ≡ s.replies → t.cid ≡ s.cid → t.overrun ≡ s.overrun
             → Kept driver port s a.log.entries port (with_connection e.slot (cut_off e.value) s) a.log.entries
             → Kept driver port s a.log.entries port (with_connection e.slot (cut_off e.value) t) a.log.entries
         recast t table replies cid overrun k = rw (table, replies, cid) (record { runs = k.runs; holds = k.holds; puts = k.puts; overrun = overrun })
+
+    -- What its stream took and gave stays.
+    pub cut_streams : StreamedIf fresh a.host a.log.entries port (with_value s.table e.slot (cut_off e.value)) lines
+    cut_streams = λ ok. cuts_streams a.host a.log.entries port s.table lines (x ok) holds.sound e there
+
+    pub cut_closed : (host : HostContents) → StreamedIf fresh host a.log.entries port (with_value s.table e.slot (cut_off e.value)) lines
+        → StreamedIf fresh (after_close e.value.stream host) a.log.entries port (with_value s.table e.slot (cut_off e.value)) lines
+    cut_closed host streams = λ ok. closed_host e.value.stream host a.log.entries port (with_value s.table e.slot (cut_off e.value)) lines (streams ok)
 
   -- A timeout.
   pub tick_keeps : (slot : ℕ) → KeptNow (tick_slot slot s)
@@ -168,8 +189,8 @@ module _ (driver : Seat) (first port : ℕ) (s : DeviceState) (a : Around) (soun
 
           closed_by : (b : Bool) → KeptNow (cond b (Done (with_connection e.slot (cut_off e.value) s))
               (Ask (CloseStream e.value.stream) (λ _. Done (with_connection e.slot (cut_off e.value) s))))
-          closed_by true = cut_over e there old s refl (refl, refl, refl, refl)
-          closed_by false = cut_over e there old s refl (refl, refl, refl, refl)
+          closed_by true = cut_over e there old s refl (refl, refl, refl, refl) a.host (cut_streams e there)
+          closed_by false = cut_over e there old s refl (refl, refl, refl, refl) (after_close e.value.stream a.host) (cut_closed e there a.host (cut_streams e there))
 
       by : (o : Option DeviceEntry) → entry_under s.table slot ≡ o → KeptNow (elim o as (λ _. DeviceTree DeviceState) [
         | None ↦ Done s
@@ -209,51 +230,38 @@ module _ (driver : Seat) (first port : ℕ) (s : DeviceState) (a : Around) (soun
           (subst (λ (u : ℕ). CreditFits (after_written n e.value).end.credit u) left (fits_forwarded e.value.end.credit payload (length e.value.pending) fit few))
           (not_fresh (after_written n e.value) (forward_old e.value.end payload old))
 
-      answered : (e : DeviceEntry) → Contains s.table.entries e → is_new e.value.end ≡ false → (x : StreamWrite)
-          → write_answer e.value.stream (length (to_write e.value)) a.host ≡ x → KeptNow (bind (write_answered e x (writing s)) (λ w. Done w.state))
-      answered e there old (write.Took n) is = silent (with_connection e.slot (after_written n e.value) s) refl
-          (took e there old n (write_short (length (to_write e.value)) n (fails_now a.host) (stream_at e.value.stream a.host) is))
-      answered e there old write.Again is = unmoved
-      answered e there old write.Closed is = silent (with_connection e.slot (after_shut 1 s.now e.value) s) refl (shuts e there 1 s.now old)
+      took_streams : (e : DeviceEntry) (there : Contains s.table.entries e) (n : ℕ) → n ≤ length (to_write e.value)
+          → StreamedIf fresh (after_write e.value.stream (to_write e.value) (write.Took n) a.host) a.log.entries port (with_value s.table e.slot (after_written n e.value)) lines
+      took_streams e there n less = λ ok. writes_streams a.host a.log.entries port s.table lines (x ok) holds.sound e there n less
+
+      answered : (e : DeviceEntry) → Contains s.table.entries e → is_new e.value.end ≡ false → (answer : StreamWrite)
+          → write_answer e.value.stream (length (to_write e.value)) a.host ≡ answer
+          → KeptOver (after_write e.value.stream (to_write e.value) answer a.host) (bind (write_answered e answer (writing s)) (λ w. Done w.state))
+      answered e there old (write.Took n) is =
+          let less = write_short (length (to_write e.value)) n (fails_now a.host) (stream_at e.value.stream a.host) is in
+          silent (with_connection e.slot (after_written n e.value) s) refl (took e there old n less)
+          (after_write e.value.stream (to_write e.value) (write.Took n) a.host) (took_streams e there n less)
+      answered e there old write.Again is = silent s refl unmoved.kept (called a.host) (λ ok. called_host a.host a.log.entries port s.table lines (x ok))
+      answered e there old write.Closed is = silent (with_connection e.slot (after_shut 1 s.now e.value) s) refl (shuts e there 1 s.now old) (called a.host)
+          (λ ok. called_host a.host a.log.entries port (with_value s.table e.slot (after_shut 1 s.now e.value)) lines
+          (shuts_streams a.host a.log.entries port s.table lines (x ok) holds.sound e 1 s.now there))
       answered e there old write.Failed is = closed_by e.value.closed
         where
-          closed_by : (b : Bool) → KeptNow (bind (bind (cond b (Done (with_connection e.slot (cut_off e.value) (with_fault s)))
+          failed : StreamedIf fresh (after_failed a.host) a.log.entries port (with_value s.table e.slot (cut_off e.value)) lines
+          failed = λ ok. failed_host a.host a.log.entries port (with_value s.table e.slot (cut_off e.value)) lines (cut_streams e there ok)
+
+          closed_by : (b : Bool) → KeptOver (after_failed a.host) (bind (bind (cond b (Done (with_connection e.slot (cut_off e.value) (with_fault s)))
               (Ask (CloseStream e.value.stream) (λ _. Done (with_connection e.slot (cut_off e.value) (with_fault s)))))
               (λ t. Done (writing t))) (λ w. Done w.state))
-          closed_by true = cut_over e there old (with_fault s) refl (refl, refl, refl, refl)
-          closed_by false = cut_over e there old (with_fault s) refl (refl, refl, refl, refl)
+          closed_by true = cut_over e there old (with_fault s) refl (refl, refl, refl, refl) (after_failed a.host) failed
+          closed_by false = cut_over e there old (with_fault s) refl (refl, refl, refl, refl) (after_close e.value.stream (after_failed a.host))
+              (cut_closed e there (after_failed a.host) failed)
 
       some : (e : DeviceEntry) → Contains s.table.entries e → (b : Bool) → (length (to_write e.value) == 0) ≡ b → KeptNow (bind (cond b (Done (writing s))
           (Ask (WriteStream e.value.stream (to_write e.value)) (λ answer. write_answered e answer (writing s)))) (λ w. Done w.state))
       some e there true is = unmoved
-      some e there false is = over (answered e there (some_old e there is (is_new e.value.end) refl)
-          (write_answer e.value.stream (length (to_write e.value)) a.host) refl)
-        where
-          over : KeptNow (bind (write_answered e (write_answer e.value.stream (length (to_write e.value)) a.host) (writing s)) (λ w. Done w.state))
-              → KeptNow (bind (Ask (WriteStream e.value.stream (to_write e.value)) (λ answer. write_answered e answer (writing s))) (λ w. Done w.state))
-          over k = host_apart (write_answer e.value.stream (length (to_write e.value)) a.host) k
-            where
-              host_apart : (x : StreamWrite) → KeptNow (bind (write_answered e x (writing s)) (λ w. Done w.state))
-                  → (let r = played answer_around (bind (write_answered e x (writing s)) (λ w. Done w.state))
-                  (record a { host = after_write e.value.stream (to_write e.value) (write_answer e.value.stream (length (to_write e.value)) a.host) a.host }) in
-                  Left r.0 r.1.lists r.1.log)
-              host_apart (write.Took n) k = k
-              host_apart write.Again k = k
-              host_apart write.Closed k = k
-              host_apart write.Failed k = failed e.value.closed k
-                where
-                  failed : (b : Bool) → KeptNow (bind (bind (cond b (Done (with_connection e.slot (cut_off e.value) (with_fault s)))
-                      (Ask (CloseStream e.value.stream) (λ _. Done (with_connection e.slot (cut_off e.value) (with_fault s)))))
-                      (λ t. Done (writing t))) (λ w. Done w.state))
-                      → (let r = played answer_around (bind (bind (cond b (Done (with_connection e.slot (cut_off e.value) (with_fault s)))
-                      (Ask (CloseStream e.value.stream) (λ _. Done (with_connection e.slot (cut_off e.value) (with_fault s)))))
-                      (λ t. Done (writing t))) (λ w. Done w.state)) (record a {
-                        host = after_write e.value.stream (to_write e.value)
-                            (write_answer e.value.stream (length (to_write e.value)) a.host) a.host;
-                      }) in
-                      Left r.0 r.1.lists r.1.log)
-                  failed true k = k
-                  failed false k = k
+      some e there false is = answered e there (some_old e there is (is_new e.value.end) refl)
+          (write_answer e.value.stream (length (to_write e.value)) a.host) refl
 
       closed_by : (e : DeviceEntry) → Contains s.table.entries e → (b : Bool)
           → KeptNow (cond b (Done s) (bind (write_pending e (writing s)) (λ w. Done w.state)))
@@ -272,10 +280,20 @@ module _ (driver : Seat) (first port : ℕ) (s : DeviceState) (a : Around) (soun
   shuts_write_keeps slot = by (entry_under s.table slot) refl
     where
       shut : (e : DeviceEntry) → Contains s.table.entries e → Kept driver port s a.log.entries port (with_connection slot (record e.value { write_shut = true }) s) a.log.entries
+          → StreamedIf fresh a.host a.log.entries port (with_value s.table slot (record e.value { write_shut = true })) lines
           → (b : Bool) → KeptNow (bind (cond b (Ask (ShutWrite e.value.stream) (λ _. Done (record (writing s) { state = with_connection slot (record e.value { write_shut = true }) s })))
           (Done (writing s))) (λ w. Done w.state))
-      shut e there k true = silent (with_connection slot (record e.value { write_shut = true }) s) refl k
-      shut e there k false = unmoved
+      shut e there k same true = silent (with_connection slot (record e.value { write_shut = true }) s) refl k (after_shut_write e.value.stream a.host)
+          (λ ok. shut_write_host e.value.stream a.host a.log.entries port (with_value s.table slot (record e.value { write_shut = true })) lines (same ok))
+      shut e there k same false = unmoved
+
+      kept_streams : (e : DeviceEntry) → Contains s.table.entries e → (e.slot == slot) ≡ true
+          → StreamedIf fresh a.host a.log.entries port (with_value s.table slot (record e.value { write_shut = true })) lines
+      kept_streams e there at =
+          let same : e.slot ≡ slot = grind (arith, nat_tests, at) in
+          subst (λ (n : ℕ). StreamedIf fresh a.host a.log.entries port (with_value s.table n (record e.value { write_shut = true })) lines) same
+          (λ ok. ends_streams a.host a.log.entries port s.table lines (x ok) holds.sound e there (record e.value { write_shut = true }) refl refl refl refl
+          (λ on. on) (λ on. on))
 
       kept : (e : DeviceEntry) → Contains s.table.entries e → (e.slot == slot) ≡ true
           → Kept driver port s a.log.entries port (with_connection slot (record e.value { write_shut = true }) s) a.log.entries
@@ -295,15 +313,20 @@ module _ (driver : Seat) (first port : ℕ) (s : DeviceState) (a : Around) (soun
       by None is = unmoved
       by (Some e) is =
           let found = found_by (λ (x : DeviceEntry). x.slot == slot) s.table.entries e is in
-          shut e found.0 (kept e found.0 found.1) (is_written_out e.value)
+          shut e found.0 (kept e found.0 found.1) (kept_streams e found.0 found.1) (is_written_out e.value)
 
   -- Payload that was read of a stream.
   module _ (c : Chain) (is : s.chain ≡ Some c) (e : DeviceEntry) (there : Contains s.table.entries e) (may : may_read e.value.end e.value.end.state ≡ true) where
     has : HoldsRx (Some c) a.log.held
     has = subst (λ (o : Option Chain). HoldsRx o a.log.held) is rx
 
-    pub payload_put : (payload : List ℕ) → length payload ≤ free_of e.value.end.credit → length payload < 2 ^ 32
-        → KeptNow (bind (put_payload c e payload (filling (record s { chain = Some c }))) (λ r. Done r.state))
+    abbrev PayloadStreamed : HostContents → List ℕ → Type 0
+    PayloadStreamed host payload = StreamedIf fresh host (PutPacket (payload_on Device s.cid e.flow e.value.end payload) ∷ a.log.entries) port
+        (with_value s.table e.slot (record e.value { end = with_payload_sent e.value.end (length payload) })) lines
+
+    pub payload_put : (payload : List ℕ) → length payload ≤ free_of e.value.end.credit → length payload < 2 ^ 32 → (host : HostContents)
+        → PayloadStreamed host payload
+        → KeptOver host (bind (put_payload c e payload (filling (record s { chain = Some c }))) (λ r. Done r.state))
     payload_put payload less len = put_all payload less len
       where
         kept_for : (b : List ℕ) → length b ≤ free_of e.value.end.credit → length b < 2 ^ 32
@@ -312,19 +335,19 @@ module _ (driver : Seat) (first port : ℕ) (s : DeviceState) (a : Around) (soun
         kept_for b less len = side.sends driver first port s a.log.entries sound holds puts e b there
             (can_send e.value.end (length b) less e.value.end.state may) len (live_old e.value.end may)
 
-        put_all : (b : List ℕ) → length b ≤ free_of e.value.end.credit → length b < 2 ^ 32
-            → KeptNow (bind (put_payload c e b (filling (record s { chain = Some c }))) (λ r. Done r.state))
-        put_all [] less len =
+        put_all : (b : List ℕ) → length b ≤ free_of e.value.end.credit → length b < 2 ^ 32 → (host : HostContents) → PayloadStreamed host b
+            → KeptOver host (bind (put_payload c e b (filling (record s { chain = Some c }))) (λ r. Done r.state))
+        put_all [] less len host streams =
             let k = kept_for [] less len in
             let h = payload_header e.value.end (route_to_guest s.cid e.flow) 0 in
-            puts_of.put_over driver first port s a sound holds puts rx known c has.0 (header_bytes h) _ (payload_on Device s.cid e.flow e.value.end [])
+            puts_of.put_over driver first port s a sound holds puts rx known fresh lines x c has.0 (header_bytes h) _ (payload_on Device s.cid e.flow e.value.end [])
             (subst (λ (page : List ℕ). packet_held page ≡ Some (payload_on Device s.cid e.flow e.value.end [])) (append-nil (header_bytes h))
-            (holds_payload h [] k.puts.0 refl refl)) (puts_of.header_written driver first port s a sound holds puts rx known c h has.1)
-            _ refl (record { runs = k.runs; holds = k.holds; puts = k.puts; overrun = k.overrun }) _ refl
-        put_all (x ∷ xs) less len =
-            let k = kept_for (x ∷ xs) less len in
-            let h = payload_header e.value.end (route_to_guest s.cid e.flow) (length (x ∷ xs)) in
-            puts_of.put_over driver first port s a sound holds puts rx known c has.0 (header_bytes h ++ x ∷ xs) _
-            (payload_on Device s.cid e.flow e.value.end (x ∷ xs)) (holds_payload h (x ∷ xs) k.puts.0 refl refl)
-            (puts_of.payload_written driver first port s a sound holds puts rx known c h (x ∷ xs) has.1)
-            _ refl (record { runs = k.runs; holds = k.holds; puts = k.puts; overrun = k.overrun }) _ refl
+            (holds_payload h [] k.puts.0 refl refl)) (puts_of.header_written driver first port s a sound holds puts rx known fresh lines x c h has.1)
+            _ refl (record { runs = k.runs; holds = k.holds; puts = k.puts; overrun = k.overrun }) host streams _ refl
+        put_all (y ∷ ys) less len host streams =
+            let k = kept_for (y ∷ ys) less len in
+            let h = payload_header e.value.end (route_to_guest s.cid e.flow) (length (y ∷ ys)) in
+            puts_of.put_over driver first port s a sound holds puts rx known fresh lines x c has.0 (header_bytes h ++ y ∷ ys) _
+            (payload_on Device s.cid e.flow e.value.end (y ∷ ys)) (holds_payload h (y ∷ ys) k.puts.0 refl refl)
+            (puts_of.payload_written driver first port s a sound holds puts rx known fresh lines x c h (y ∷ ys) has.1)
+            _ refl (record { runs = k.runs; holds = k.holds; puts = k.puts; overrun = k.overrun }) host streams _ refl

@@ -30,6 +30,16 @@ use Rattle.vs_world.proofs.DeviceEvents.{KeptBy, Over, header_came_keeps, header
 use Rattle.vs_world.proofs.DeviceSide as side
 use Rattle.vs_world.proofs.DeviceSide.{DeviceHolds, IsFresh, Kept, end_in, seated}
 use Rattle.vs_world.proofs.Wire.{PutsFit, next_fits}
+use Rattle.std.proofs.Common.{drop}
+use Rattle.std.specs.List.{All}
+use Rattle.vs_outside.specs.Host.{HostContents}
+use Rattle.vs_page.proofs.Holding.{packet_whole}
+use Rattle.vs_page.specs.Log.{Device, flow_got}
+use Rattle.vs_page.specs.Open.{is_dropped}
+use Rattle.vs_proxy.specs.State.{Handshake}
+use Rattle.vs_pipes.specs.Streamed.{IsStreamed, gives, look}
+use Rattle.vs_pipes.proofs.Streamed.{same_streamed}
+use Rattle.vs_world.proofs.Streams.{StreamedIf, payload_in}
 
 pub queue_is : (q r : Queue) → same_queue q r ≡ true → r ≡ q
 queue_is Rx Rx is = refl
@@ -60,19 +70,26 @@ rx_written None d bytes held rx = tt
 rx_written (Some c) d bytes held rx = (rx.0, held_written c d bytes held ∙ rx.1)
 
 module _ (driver : Seat) (first port : ℕ) (s : DeviceState) (a : Around) (sound : IsSound first (seated driver port s a.log.entries))
-    (holds : DeviceHolds port s) (puts : PutsFit a.log.entries) (rx : HoldsRx s.chain a.log.held) (known : a.lists.cid < 2 ^ 64) where
-  abbrev Left : DeviceState → Rings → EndLog → Type 0
-  Left t lists log = Over driver first port s a.log.entries sound holds puts t lists log
+    (holds : DeviceHolds port s) (puts : PutsFit a.log.entries) (rx : HoldsRx s.chain a.log.held) (known : a.lists.cid < 2 ^ 64) (fresh : Type 0) (lines : List Handshake)
+    (x : StreamedIf fresh a.host a.log.entries port s.table lines) where
+  abbrev Left : DeviceState → Rings → EndLog → HostContents → Type 0
+  Left t rings log host = Over driver first port s a.log.entries sound holds puts fresh lines t rings log host
 
   abbrev pub KeptNow : DeviceTree DeviceState → Type 0
-  KeptNow tree = KeptBy driver first port s a.log.entries sound holds puts tree a
+  KeptNow tree = KeptBy driver first port s a.log.entries sound holds puts fresh lines tree a
 
-  pub still : Left s a.lists a.log
-  still = record { kept = side.same driver first port s a.log.entries sound holds puts; chain = rx; known = known }
+  pub still : Left s a.lists a.log a.host
+  still = record { kept = side.same driver first port s a.log.entries sound holds puts; chain = rx; known = known; streams = x }
 
   -- What no log shows.
-  pub quiet : (t : DeviceState) → t.chain ≡ s.chain → Kept driver port s a.log.entries port t a.log.entries → Left t a.lists a.log
-  quiet t same kept = record { kept = kept; chain = subst (λ (c : Option Chain). HoldsRx c a.log.held) (sym same) rx; known = known }
+  pub quiet : (t : DeviceState) → t.chain ≡ s.chain → Kept driver port s a.log.entries port t a.log.entries → (host : HostContents)
+      → StreamedIf fresh host a.log.entries port t.table lines → Left t a.lists a.log host
+  quiet t same kept host streams = record {
+    kept = kept;
+    chain = subst (λ (c : Option Chain). HoldsRx c a.log.held) (sym same) rx;
+    known = known;
+    streams = streams;
+  }
 
   -- It takes a page.
   pub takes_rx : KeptNow (takes_chain Rx s)
@@ -80,14 +97,15 @@ module _ (driver : Seat) (first port : ℕ) (s : DeviceState) (a : Around) (soun
     where
       came : (given : List (List ℕ)) → Left (holding (next_at Rx a.lists.rx.place (oldest given)) (filling (record s { chain = None }))).state
           (record a.lists { rx = record a.lists.rx { given = all_but_oldest given; place = place_after given a.lists.size a.lists.rx.place } })
-          (log_taken Rx (next_at Rx a.lists.rx.place (oldest given)) (oldest given) a.log)
-      came [] = record { kept = record { runs = still.kept.runs; holds = holds; puts = puts; overrun = refl }; chain = tt; known = known }
+          (log_taken Rx (next_at Rx a.lists.rx.place (oldest given)) (oldest given) a.log) a.host
+      came [] = record { kept = record { runs = still.kept.runs; holds = holds; puts = puts; overrun = refl }; chain = tt; known = known; streams = x }
       came (page ∷ pages) =
           let c = chain_with Rx a.lists.rx.place page in
           record {
             kept = record { runs = still.kept.runs; holds = holds; puts = puts; overrun = refl };
             chain = (refl, ap (λ (b : Bool). cond b true (is_held c a.log.held)) (same_self c));
             known = known;
+            streams = x;
           }
 
       by : (o : Option Chain) → s.chain ≡ o → KeptNow (takes_chain Rx (record s { chain = o }))
@@ -95,6 +113,7 @@ module _ (driver : Seat) (first port : ℕ) (s : DeviceState) (a : Around) (soun
         kept = record { runs = still.kept.runs; holds = holds; puts = puts; overrun = refl };
         chain = subst (λ (c : Option Chain). HoldsRx c a.log.held) is rx;
         known = known;
+        streams = x;
       }
       by None is = came a.lists.rx.given
 
@@ -103,23 +122,25 @@ module _ (driver : Seat) (first port : ℕ) (s : DeviceState) (a : Around) (soun
     where
       came : (given : List (List ℕ)) → Left s
           (record a.lists { event = record a.lists.event { given = all_but_oldest given; place = place_after given a.lists.size a.lists.event.place } })
-          (log_taken Event (next_at Event a.lists.event.place (oldest given)) (oldest given) a.log)
-      came [] = record { kept = still.kept; chain = rx; known = known }
-      came (page ∷ pages) = record { kept = still.kept; chain = rx_more s.chain _ a.log.held rx; known = known }
+          (log_taken Event (next_at Event a.lists.event.place (oldest given)) (oldest given) a.log) a.host
+      came [] = record { kept = still.kept; chain = rx; known = known; streams = x }
+      came (page ∷ pages) = record { kept = still.kept; chain = rx_more s.chain _ a.log.held rx; known = known; streams = x }
 
       by : (b : Bool) → KeptNow (cond b (Ask (Ring (Take Event)) (λ answer. Done s)) (Done s))
       by true = came a.lists.event.given
       by false = still
 
   module _ (more : List Packet) (tx : packets_put driver.log ≡ (more ++ held_in packet_held a.lists.tx.given) ++ packets_got a.log.entries)
-      (driver_puts : PutsFit driver.log) (hold : AllHold a.lists.tx.given) where
+      (driver_puts : PutsFit driver.log) (hold : AllHold a.lists.tx.given)
+      (idle : (p : Packet) → IsNextPacket a.log.entries driver.log p → is_dropped Device s.cid p.header ≡ true
+      → All (λ e. e.flow ≡ flow_got Device p → gives e.value.end ≡ true → p.payload ≡ []) s.table.entries) where
     came : (given : List (List ℕ)) → a.lists.tx.given ≡ given → AllHold given
         → (let answer = next_at Tx a.lists.tx.place (oldest given) in
         let r = played answer_around (chain_came answer s) (record a {
           lists = record a.lists { tx = record a.lists.tx { given = all_but_oldest given; place = place_after given a.lists.size a.lists.tx.place } };
           log = log_taken Tx answer (oldest given) a.log;
-        }) in Left r.0 r.1.lists r.1.log)
-    came [] is hold = record { kept = still.kept; chain = rx; known = known }
+        }) in Left r.0 r.1.lists r.1.log r.1.host)
+    came [] is hold = record { kept = still.kept; chain = rx; known = known; streams = x }
     came (page ∷ pages) is (one, rest) =
         let c = chain_with Tx a.lists.tx.place page in
         let new : Held = record { chain = c; bytes = page } in
@@ -136,9 +157,12 @@ module _ (driver : Seat) (first port : ℕ) (s : DeviceState) (a : Around) (soun
               ∙ append_assoc (more ++ held_in packet_held pages) (p ∷ []) (packets_got a.log.entries),
         ) in
         let enough : nat_lt (length page - 44) p.header.len ≡ false = enough_by one in
-        let main = header_came_keeps driver first port s a.log.entries sound holds puts p next (next_fits a.log.entries driver.log p next driver_puts) c b
-        (ap (λ (o : Option Packet). with_packet (λ q. GotPacket q) o a.log.entries) one.held) (rx_more s.chain new a.log.held rx) known enough in
-        subst (λ (h : Header). KeptBy driver first port s a.log.entries sound holds puts (header_came c h s) b)
+        let held_page : bytes_in c (new ∷ a.log.held) ≡ page = ap (λ (y : Bool). cond y page (bytes_in c a.log.held)) (same_self c) in
+        let main = header_came_keeps driver first port s a.log.entries sound holds puts fresh lines p next (next_fits a.log.entries driver.log p next driver_puts)
+        (packet_whole page p one.held).0 c b
+        (ap (λ (o : Option Packet). with_packet (λ q. GotPacket q) o a.log.entries) one.held) (rx_more s.chain new a.log.held rx) known x
+        (λ carries. ap (λ (bytes : List ℕ). take p.header.len (drop 44 bytes)) held_page ∙ payload_in page p one.held carries) (idle p next) enough in
+        subst (λ (h : Header). KeptBy driver first port s a.log.entries sound holds puts fresh lines (header_came c h s) b)
         (header_is page p one.held ∙ ap (λ (x : Bool). header_of (take 44 (cond x page (bytes_in c a.log.held)))) (sym (same_self c))) main
       where
         enough_by : (one : PageHolds page) → nat_lt (length page - 44) one.packet.header.len ≡ false
@@ -158,6 +182,8 @@ module _ (driver : Seat) (first port : ℕ) (s : DeviceState) (a : Around) (soun
         (sym (ap (λ (q : Queue). entries_returned q (take 0 (bytes_in c a.log.held)) a.log.entries) is)) still.kept;
     chain = rx_kept s.chain c a.log.held (ap (λ (q : Queue). same_queue q Rx) is) rx;
     known = subst (λ (n : ℕ). n < 2 ^ 64) (sym (same_cid c.queue (take 0 (bytes_in c a.log.held)) a.lists)) known;
+    streams = subst (λ (l : Log). StreamedIf fresh a.host l port s.table lines)
+        (sym (ap (λ (q : Queue). entries_returned q (take 0 (bytes_in c a.log.held)) a.log.entries) is)) x;
   }
 
   -- It puts the event that is owed.
@@ -179,4 +205,9 @@ module _ (driver : Seat) (first port : ℕ) (s : DeviceState) (a : Around) (soun
                 (record { runs = k.runs; holds = k.holds; puts = k.puts; overrun = k.overrun });
             chain = rx_kept s.chain c w (ap (λ (q : Queue). same_queue q Rx) is) (rx_written s.chain c _ a.log.held rx);
             known = subst (λ (n : ℕ). n < 2 ^ 64) (sym (same_cid c.queue (take 4 (bytes_in c w)) a.lists)) known;
+            streams = subst (λ (l : Log). StreamedIf fresh a.host l port s.table lines)
+                (sym (ap (λ (q : Queue). entries_returned q (take 4 (bytes_in c w)) a.log.entries) is
+                ∙ ap (λ (bytes : List ℕ). with_event (λ id. PutEvent id) (event_held bytes) a.log.entries) page))
+                (λ ok. same_streamed (look a.host) (look a.host) a.host.labelled a.log.entries (PutEvent 0 ∷ a.log.entries) port (λ id. refl) (λ f. refl) (λ f. refl)
+                (λ f on. on) s.table lines (x ok));
           }

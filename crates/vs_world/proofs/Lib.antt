@@ -23,6 +23,9 @@ pub mod Sound
 pub mod Opening
 pub mod Payloads
 pub mod Receives
+pub mod Streams
+pub mod Bytes
+pub mod Growing
 pub mod GuestLines
 pub mod Polls
 pub mod DeviceLeads

@@ -6,6 +6,12 @@ use Rattle.vs_flow.specs.declared.flow.TheConstants.{ASSIGNED_FIRST}
 use Rattle.vs_outside.specs.Host.{HostContents}
 use Rattle.vs_page.specs.Log.{Driver, Log}
 use Rattle.vs_pipes.specs.Drains.{got_on}
+use Rattle.std.proofs.Common.{◌-◌, slice_get, Option, Some, None}
+use Rattle.std.specs.Option.{option_map}
+use Rattle.vs_outside.specs.Host.{Stream}
+use Rattle.vs_pipes.specs.Streamed.{IsStreamed, Seen, look, seen}
+use Rattle.vs_pipes.proofs.Cids.{SameCids, no_cids}
+use Rattle.vs_proxy.specs.Turns.{new_proxy}
 use Rattle.vs_pipes.specs.Received.{IsReceived}
 use Rattle.vs_ring_port.specs.DriverCalls.{driver_answer, Stage, Publish}
 use Rattle.vs_ring_port.specs.EndLog.{EndLog, all_put, entries_marked}
@@ -18,7 +24,7 @@ use Rattle.vs_matching.proofs.Both.{start_sound}
 use Rattle.vs_driver_parts.specs.Conversations.{DriverTree, load_cid, new_of, new_state, post_events, post_one, posts, publish_of}
 use Rattle.vs_driver_parts.specs.State.{DriverState}
 use Rattle.vs_driver_parts.specs.declared.limits.TheConstants.{FIRST_PORT}
-use Rattle.vs_world.specs.Pipes.{put_on}
+use Rattle.vs_world.specs.Pipes.{IsFresh, put_on}
 use Rattle.vs_world.specs.Pages.{AllHold}
 use Rattle.vs_world.specs.Events as events
 use Rattle.vs_world.specs.Events.{happens, run}
@@ -145,6 +151,28 @@ none_received n s log is = subst (IsReceived (λ f. []) log) (sym is) (record {
   distinct = λ i j d less within. absurd (omega (arith, within));
 })
 
+-- A host without streams.
+none_streamed : (host : HostContents) (port : ℕ) → IsFresh host → IsStreamed host [] port (new_proxy first_cid host.base).device.table []
+none_streamed host port fresh = record {
+  joined = λ i e within. absurd (omega (arith, within));
+  labels = λ id s f there label. absurd (none id s there);
+  unique = λ i j s t f a b p q. absurd (none i s a);
+  none = λ f without. refl;
+  waiting = λ id s there waits. absurd (none id s there);
+  lines = record {
+    read = λ i h within. absurd (omega (arith, within));
+    undecided = λ i h within. absurd (omega (arith, within));
+    apart = λ i j h less within. absurd (omega (arith, within));
+  };
+}
+  where
+    by : (b : Bool) (id : ℕ) (s : Seen) → option_map seen (cond b None (slice_get {X = Stream} [] (id - 1))) ≡ Some s → ⊥
+    by true id s there = cc
+    by false id s there = cc
+
+    none : (id : ℕ) (s : Seen) → look host id ≡ Some s → ⊥
+    none id s there = by (id == 0) id s (ap (λ (xs : List Stream). option_map seen (cond (id == 0) None (slice_get xs (id - 1)))) (sym fresh.streams) ∙ there)
+
 module _ (n : ℕ) (host : HostContents) where
   new : IsMade n (opening n host).driver (opening n host).rings.lists (opening n host).rings.driver
   new = new_made n
@@ -164,7 +192,7 @@ module _ (n : ℕ) (host : HostContents) where
         device = (both_of (opening n host)).device;
       } in b) (sym log_empty)
 
-  pub opening_well : IsWell (opening n host)
+  pub opening_well : IsWell (IsFresh host) (opening n host)
   opening_well = record {
     queued = opening_queued n host;
     sound = subst (λ (b : Both). both.IsSound first_cid b) opening_is (start_sound first_cid FIRST_PORT ASSIGNED_FIRST);
@@ -190,20 +218,22 @@ module _ (n : ℕ) (host : HostContents) where
     known = subst (λ (c : ℕ). c < 2 ^ 64) (sym new.cid) (omega arith);
     broken = ap (λ (s : DriverState). s.broken) new.state;
     overrun = refl;
+    cids = subst SameCids opening_is (no_cids (both.new_seat first_cid FIRST_PORT).part (both.new_seat first_cid ASSIGNED_FIRST).part refl refl);
+    streams = none_streamed host (opening n host).proxy.next_port;
     received = none_received n (opening n host).driver (log_with_staged (opening n host).rings.driver) new.state;
     sent = λ f. ap (put_on f) (sym log_empty);
   }
 
 -- After any list of events.
-pub run_goes : (es : List events.Event) (w : World) → IsWell w → Goes w (run es w)
-run_goes [] w well = goes_still w well
-run_goes (e ∷ es) w well =
-    let one = happens_goes w well e in
-    let rest = run_goes es (happens e w) one.well in
+pub run_goes : (fresh : Type 0) (es : List events.Event) (w : World) → IsWell fresh w → Goes fresh w (run es w)
+run_goes fresh [] w well = goes_still fresh w well
+run_goes fresh (e ∷ es) w well =
+    let one = happens_goes fresh w well e in
+    let rest = run_goes fresh es (happens e w) one.well in
     record { well = rest.well; runs = and_then _ _ _ one.runs rest.runs }
 
-pub reached : (n : ℕ) (host : HostContents) (es : List events.Event) → Goes (opening n host) (run es (opening n host))
-reached n host es = run_goes es (opening n host) (opening_well n host)
+pub reached : (n : ℕ) (host : HostContents) (es : List events.Event) → Goes (IsFresh host) (opening n host) (run es (opening n host))
+reached n host es = run_goes (IsFresh host) es (opening n host) (opening_well n host)
 
-pub run_well : (n : ℕ) (host : HostContents) (es : List events.Event) → IsWell (run es (opening n host))
+pub run_well : (n : ℕ) (host : HostContents) (es : List events.Event) → IsWell (IsFresh host) (run es (opening n host))
 run_well n host es = (reached n host es).well

@@ -1,5 +1,6 @@
--- The bytes of a connection, in each log.
-use Rattle.std.specs.Prelude.{ℕ, List, []}
+-- The bytes of a connection, in each log; and a host that nothing happened at.
+use Rattle.std.specs.Prelude.{◌≡◌, ℕ, List, []}
+use Rattle.vs_outside.specs.Host.{HostContents}
 use Rattle.vs_flow.specs.declared.flow.Flow.{Flow}
 use Rattle.vs_history.specs.History.{puts}
 use Rattle.vs_page.specs.Fair.{payload_of}
@@ -12,3 +13,8 @@ put_on f log = payload_of (puts (history_of Driver f log))
 -- No bytes on any flow.
 abbrev pub none_on : Flow → List ℕ
 none_on f = []
+
+-- A host without streams.
+pub record IsFresh (host : HostContents) : Type 0 where
+  pub streams : host.streams ≡ []
+  pub labelled : host.labelled ≡ []
