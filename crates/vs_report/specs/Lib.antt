@@ -3,3 +3,4 @@ pub mod GuestLines
 pub mod DeviceLines
 pub mod HostLines
 pub mod Report
+pub mod Gives

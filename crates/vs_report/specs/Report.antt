@@ -4,6 +4,7 @@ use Rattle.vs_flow.specs.declared.flow.Flow.{Flow}
 use Rattle.vs_outside.specs.Host.{Stream}
 use Rattle.vs_outside.specs.HostBytes.{wrote_after_connect, read_after_ok}
 use Rattle.vs_report.specs.Bytes.{counted_text}
+use Rattle.vs_report.specs.declared.giving.Totals.{Totals}
 
 -- How many entries each table has.
 abbrev pub guest_open_text : ℕ → List ℕ
@@ -36,3 +37,10 @@ abbrev pub counts_text : ℕ → ℕ → ℕ → ℕ → List ℕ
 counts_text dropped overrun broken faults =
     codes "dropped " ++ decimal dropped ++ codes " overrun " ++ decimal overrun ++ codes " broken " ++ decimal broken ++ codes " faults " ++ decimal faults
     ++ codes "\n"
+
+-- The report of a play, by how many entries the tables have, what was counted, and the host's streams.
+abbrev pub report : Totals → List Stream → List (List ℕ)
+report t streams =
+    guest_open_text t.guest_open
+    ∷ device_open_text t.device_open
+    ∷ (stream_texts 1 streams ++ counts_text t.dropped t.overrun t.broken t.faults ∷ [])

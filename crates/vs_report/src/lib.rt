@@ -5,6 +5,7 @@
 
 pub mod bytes;
 pub mod device_lines;
+pub mod giving;
 pub mod guest_lines;
 pub mod host_lines;
 mod number;
