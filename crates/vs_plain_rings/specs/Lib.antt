@@ -1,3 +1,3 @@
 pub mod View
-pub mod Contents
+pub mod Rings
 pub mod Posting

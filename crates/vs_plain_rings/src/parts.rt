@@ -251,7 +251,7 @@ impl Parts {
 }
 
 // Where the pages begin that lie behind the areas, where 3n of them lie below `top`.
-fn pages_from(top: u64, end: u64, n: u16) -> Option<u64>
+pub(crate) fn pages_from(top: u64, end: u64, n: u16) -> Option<u64>
     requires { end ≤ top }
     ensures exact { let at = end + (PAGE_LEN - end % PAGE_LEN) % PAGE_LEN in
         result ≡ (if nat_le (at + 3 * (PAGE_LEN * n)) top then Some at else None) }

@@ -111,7 +111,8 @@ module _ (p : PartsState) (w : Ends) where
   driver_here Tx q m staged l e = refl
   driver_here Event q m staged l e = refl
 
-  driver_beside : (queue r : Queue) → same_queue queue r ≡ false → (q : DriverQueueState) (m : Memory) (staged : List (List ℕ)) (l : Lists) (e : Log)
+  driver_beside : (queue r : Queue) → same_queue queue r ≡ false → (q : DriverQueueState) (m : Memory) (staged : List (List ℕ)) (l :
+      Lists) (e : Log)
       → parts_at (driver_form queue q m p) (ends_form queue staged l e w) r
       ≡ record (parts_at p w r) { s = shown (areas_of p r) (start_of p r) m }
   driver_beside Rx Rx other q m staged l e = absurd (true≢false other)
@@ -139,7 +140,8 @@ module _ (p : PartsState) (w : Ends) where
   device_here Tx m t held l e gs = refl
   device_here Event m t held l e gs = refl
 
-  device_beside : (queue r : Queue) → same_queue queue r ≡ false → (m : Memory) (t : Turns) (held : List HeldChain) (l : Lists) (e : Log) (gs : List Held)
+  device_beside : (queue r : Queue) → same_queue queue r ≡ false → (m : Memory) (t : Turns) (held : List HeldChain) (l : Lists) (e :
+      Log) (gs : List Held)
       → parts_at (device_form queue m t held p) (device_ends queue l e gs w) r
       ≡ record (parts_at p w r) { s = shown (areas_of p r) (start_of p r) m; heads = heads_of r held }
   device_beside Rx Rx other m t held l e gs = absurd (true≢false other)
@@ -220,7 +222,8 @@ module _ (p : PartsState) (w : Ends) where
       sizes = λ r. form_n queue q m n_is r ∙ tied.sizes r;
       size = lists_size queue l ∙ tied.size;
       cid = lists_cid queue l ∙ tied.cid;
-      queues = of_each (λ r. IsTiedAt new (ends_form queue staged l e w) r) queue (subst (λ (v : QueueParts). TieOf queue v) (sym (driver_here queue q m staged l e)) here)
+      queues = of_each (λ r. IsTiedAt new (ends_form queue staged l e w) r) queue (subst (λ (v : QueueParts). TieOf queue v) (sym
+          (driver_here queue q m staged l e)) here)
           (λ r other. subst (λ (v : QueueParts). TieOf r v) (sym (driver_beside queue r other q m staged l e)) (other_tie r other));
       held = held_from (start_of p) (start_of new) (shown_of new) p.device.held w.device.held starts
           (held_kept (start_of p) (shown_of p) (shown_of new) p.device.held w.device.held page_kept tied.held);
@@ -233,7 +236,10 @@ module _ (p : PartsState) (w : Ends) where
         starts : (r : Queue) → start_of new r ≡ start_of p r
         starts r = ap start_in (form_at queue q m at_is r)
 
-        other_tie : (r : Queue) → same_queue queue r ≡ false → TieOf r (record (parts_at p w r) { s = shown (areas_of p r) (start_of p r) m })
+        other_tie : (r : Queue) → same_queue queue r ≡ false → TieOf r (record (parts_at p w r) {
+          s = shown (areas_of p r) (start_of p
+              r) m;
+        })
         other_tie r other =
             let t = tied.queues r in (
               t.0,
@@ -249,7 +255,8 @@ module _ (p : PartsState) (w : Ends) where
             ap (λ (a : ℕ). bytes_at m (a + 4096 * id) c) (starts r)
             ∙ of_each (λ r. (id : ℕ) → 0 < times id (heads_of r p.device.held) → (c : ℕ) → c ≤ 4096
             → bytes_at m (start_of p r + 4096 * id) c ≡ bytes_at p.device.memory (start_of p r + 4096 * id) c) queue pages
-            (λ r other id some c few. (beside r other).page id c ((tied.queues r).2.pages id (omega (arith, some))).0 few tt) r id some c few
+            (λ r other id some c few. (beside r other).page id c ((tied.queues r).2.pages id (omega (arith, some))).0 few tt) r id some
+            c few
 
     -- the device's end of one queue changed
     pub device_step : (queue : Queue) (m : Memory) (t : Turns) (held : List HeldChain) (l : Lists) (e : Log) (gs : List Held)
@@ -273,11 +280,22 @@ module _ (p : PartsState) (w : Ends) where
       still = still;
       laid = laid_from p.device.size (areas_of p) (start_of p) (start_of new) m starts
           (laid_same p.device.size (areas_of p) (start_of p) p.device.memory m base size tied.laid);
-      there = λ r. ap (λ (x : DriverQueueState). x.pages_at) (same_driver (record p.device { memory = m; turns = with_turns queue t p.device.turns; held = held }) r) ∙ tied.there r ∙ ap (λ (a : ℕ). Some a) (sym (starts r));
-      sizes = λ r. ap (λ (x : DriverQueueState). x.n) (same_driver (record p.device { memory = m; turns = with_turns queue t p.device.turns; held = held }) r) ∙ tied.sizes r;
+      there = λ r. ap (λ (x : DriverQueueState). x.pages_at) (same_driver (record p.device {
+        memory = m;
+        turns = with_turns queue t
+            p.device.turns;
+        held = held;
+      }) r) ∙ tied.there r ∙ ap (λ (a : ℕ). Some a) (sym (starts r));
+      sizes = λ r. ap (λ (x : DriverQueueState). x.n) (same_driver (record p.device {
+        memory = m;
+        turns = with_turns queue t
+            p.device.turns;
+        held = held;
+      }) r) ∙ tied.sizes r;
       size = lists_size queue l ∙ tied.size;
       cid = lists_cid queue l ∙ tied.cid;
-      queues = of_each (λ r. IsTiedAt new (device_ends queue l e gs w) r) queue (subst (λ (v : QueueParts). TieOf queue v) (sym (device_here queue m t held l e gs)) here)
+      queues = of_each (λ r. IsTiedAt new (device_ends queue l e gs w) r) queue (subst (λ (v : QueueParts). TieOf queue v) (sym
+          (device_here queue m t held l e gs)) here)
           (λ r other. subst (λ (v : QueueParts). TieOf r v) (sym (device_beside queue r other m t held l e gs)) (other_tie r other));
       held = held_from (start_of p) (start_of new) (shown_of new) held gs starts
           (held_kept (start_of p) (λ r. shown (areas_of p r) (start_of p r) m) (shown_of new) held gs
@@ -289,13 +307,19 @@ module _ (p : PartsState) (w : Ends) where
         new = device_form queue m t held p
 
         starts : (r : Queue) → start_of new r ≡ start_of p r
-        starts r = ap (λ (x : DriverQueueState). start_in x.pages_at) (same_driver (record p.device { memory = m; turns = with_turns queue t p.device.turns; held = held }) r)
+        starts r = ap (λ (x : DriverQueueState). start_in x.pages_at) (same_driver (record p.device {
+          memory = m;
+          turns = with_turns
+              queue t p.device.turns;
+          held = held;
+        }) r)
 
         other_tie : (r : Queue) → same_queue queue r ≡ false
             → TieOf r (record (parts_at p w r) { s = shown (areas_of p r) (start_of p r) m; heads = heads_of r held })
         other_tie r other =
             let x = tied.queues r in
-            subst (λ (hs : List ℕ). TieOf r (record (parts_at p w r) { s = shown (areas_of p r) (start_of p r) m; heads = hs })) (sym (heads r other)) (
+            subst (λ (hs : List ℕ). TieOf r (record (parts_at p w r) { s = shown (areas_of p r) (start_of p r) m; heads = hs })) (sym
+            (heads r other)) (
               x.0,
               x.1,
               tie_same r p.device.size (start_of p r) tied.laid.nonzero tied.laid.limit tied.laid.divides (shown_of p r) (driver_at r p)

@@ -11,7 +11,8 @@ length_over old p new fits =
     simp (length-append, length-drop) (omega (arith, length-take-le p old (omega (arith, fits)), fits))
 
 -- those that were written
-pub over_here : (old : List ℕ) (p : ℕ) (new : List ℕ) → p + length new ≤ length old → take (length new) (drop p (overwritten old p new)) ≡ new
+pub over_here : (old : List ℕ) (p : ℕ) (new : List ℕ) → p + length new ≤ length old → take (length new) (drop p (overwritten old p
+    new)) ≡ new
 over_here old p new fits =
     let rest = drop (p + length new) old in
     let front : length (take p old) ≡ p = length-take-le p old (omega (arith, fits)) in

@@ -23,11 +23,13 @@ pub heads_at : (q : Queue) (h : HeldChain) (held : List HeldChain) (j : ℕ)
     → times j (heads_of q (h ∷ held)) ≡ cond (same_queue q h.chain.queue) (times j (h.head ∷ [])) 0 + times j (heads_of q held)
 heads_at q h held j = by (same_queue q h.chain.queue)
   where
-    by : (b : Bool) → times j (cond b (h.head ∷ heads_of q held) (heads_of q held)) ≡ cond b (times j (h.head ∷ [])) 0 + times j (heads_of q held)
+    by : (b : Bool) → times j (cond b (h.head ∷ heads_of q held) (heads_of q held)) ≡ cond b (times j (h.head ∷ [])) 0 + times j
+        (heads_of q held)
     by true = omega (arith, times-cons j h.head (heads_of q held))
     by false = omega arith
 
-heads_some : (q : Queue) (h : HeldChain) (held : List HeldChain) (j : ℕ) → 0 < times j (heads_of q held) → 0 < times j (heads_of q (h ∷ held))
+heads_some : (q : Queue) (h : HeldChain) (held : List HeldChain) (j : ℕ) → 0 < times j (heads_of q held)
+    → 0 < times j (heads_of q (h ∷ held))
 heads_some q h held j some = omega (arith, some, heads_at q h held j)
 
 heads_first : (h : HeldChain) (held : List HeldChain) → 0 < times h.head (heads_of h.chain.queue (h ∷ held))
@@ -90,7 +92,8 @@ module _ (at : Queue → ℕ) where
         bytes_is = rw (same_test ∙ e) refl;
         lies = one;
         chain_is = sym (same_chain_is c h.chain e);
-        counted = subst (λ (k : Chain). 0 < times h.head (heads_of k.queue (h ∷ held))) (sym (same_chain_is c h.chain e)) (heads_first h held);
+        counted = subst (λ (k : Chain). 0 < times h.head (heads_of k.queue (h ∷ held))) (sym (same_chain_is c h.chain e)) (heads_first
+            h held);
       }
       by rest false e =
           let r = rest e in record {
@@ -128,7 +131,8 @@ held_from from to s (h ∷ held) (g ∷ gs) same (one, all) = (
   record {
     chain = one.chain;
     pieces = one.pieces
-        ∙ ap (λ (a : ℕ). let x : Piece = record { addr = a + 4096 * h.head; len = h.chain.readable + h.chain.writable } in x ∷ []) (sym (same h.chain.queue));
+        ∙ ap (λ (a : ℕ). let x : Piece = record { addr = a + 4096 * h.head; len = h.chain.readable + h.chain.writable } in x ∷ []) (sym
+        (same h.chain.queue));
     bytes = one.bytes;
     fits = one.fits;
     room = one.room;
@@ -149,7 +153,8 @@ heads_without c (h ∷ held) hold is j = by (λ e. heads_without c held hold e j
     rest : same_chain c h.chain ≡ false → hold_of c held ≡ Some hold
     rest e = subst (λ b. cond b (Some h) (hold_of c held) ≡ Some hold) e is
 
-    by : (hold_of c held ≡ Some hold → times j (heads_of c.queue held) ≡ times j (hold.head ∷ []) + times j (heads_of c.queue (without_hold c held)))
+    by : (hold_of c held ≡ Some hold → times j (heads_of c.queue held) ≡ times j (hold.head ∷ []) + times j (heads_of c.queue
+        (without_hold c held)))
         → (b : Bool) → same_chain c h.chain ≡ b → times j (heads_of c.queue (h ∷ held))
         ≡ times j (hold.head ∷ []) + times j (heads_of c.queue (cond b held (h ∷ without_hold c held)))
     by more true e =
@@ -212,7 +217,8 @@ heads_beside c (h ∷ held) q other = by (heads_beside c held q other) (same_cha
     by more false e = ap (λ (xs : List ℕ). cond (same_queue q h.chain.queue) (h.head ∷ xs) xs) more
 
 -- how many are held
-pub count_heads : (q : Queue) (held : List HeldChain) → count_by (λ (h : HeldChain). same_queue q h.chain.queue) held ≡ length (heads_of q held)
+pub count_heads : (q : Queue) (held : List HeldChain) → count_by (λ (h : HeldChain). same_queue q h.chain.queue) held
+    ≡ length (heads_of q held)
 count_heads q [] = refl
 count_heads q (h ∷ held) =
     sum_by-cons (λ (x : HeldChain). cond (same_queue q x.chain.queue) 1 0) h held
@@ -254,11 +260,14 @@ module _ (at : Queue → ℕ) where
   held_written s new c bytes [] gs hold all is once same written fits long = absurd cc
   held_written s new c bytes (h ∷ held) [] hold all is once same written fits long = absurd all
   held_written s new c bytes (h ∷ held) (g ∷ gs) hold (one, all) is once same written fits long =
-      subst (λ (k : Chain). AreHeldAs at new (h ∷ held) (cond (same_chain c k) (record g { bytes = bytes } ∷ gs) (g ∷ with_bytes c bytes gs)))
-      one.chain (by (λ is once same. held_written s new c bytes held gs hold all is once same written fits long) (same_chain c h.chain) refl)
+      subst (λ (k : Chain). AreHeldAs at new (h ∷ held) (cond (same_chain c k) (record g { bytes = bytes } ∷ gs) (g ∷ with_bytes c
+      bytes gs)))
+      one.chain (by (λ is once same. held_written s new c bytes held gs hold all is once same written fits long) (same_chain c h.chain)
+      refl)
     where
       Same : List HeldChain → Type 0
-      Same held = (q : Queue) (id : ℕ) → (same_queue q c.queue ≡ true → id ≡ hold.head → ⊥) → 0 < times id (heads_of q held) → (k : ℕ) → k ≤ 4096
+      Same held = (q : Queue) (id : ℕ) → (same_queue q c.queue ≡ true → id ≡ hold.head → ⊥) → 0 < times id (heads_of q held)
+          → (k : ℕ) → k ≤ 4096
           → (new q).page id k ≡ (s q).page id k
 
       first : same_chain c h.chain ≡ true → h ≡ hold
@@ -267,8 +276,10 @@ module _ (at : Queue → ℕ) where
       rest : same_chain c h.chain ≡ false → hold_of c held ≡ Some hold
       rest e = subst (λ b. cond b (Some h) (hold_of c held) ≡ Some hold) e is
 
-      by : (hold_of c held ≡ Some hold → ((id : ℕ) → times id (heads_of c.queue held) ≤ 1) → Same held → AreHeldAs at new held (with_bytes c bytes gs))
-          → (b : Bool) → same_chain c h.chain ≡ b → AreHeldAs at new (h ∷ held) (cond b (record g { bytes = bytes } ∷ gs) (g ∷ with_bytes c bytes gs))
+      by : (hold_of c held ≡ Some hold → ((id : ℕ) → times id (heads_of c.queue held) ≤ 1) → Same held
+          → AreHeldAs at new held (with_bytes c bytes gs))
+          → (b : Bool) → same_chain c h.chain ≡ b → AreHeldAs at new (h ∷ held) (cond b (record g { bytes = bytes } ∷ gs) (g ∷
+          with_bytes c bytes gs))
       by more true e =
           let chain : h.chain ≡ c = sym (same_chain_is c h.chain e) in (
             record {
@@ -280,14 +291,16 @@ module _ (at : Queue → ℕ) where
               room = one.room;
               readable = subst (λ (k : Chain). k.readable ≤ length bytes) (sym chain) long;
             },
-            held_kept at s new held gs (λ q id some. same q id (λ queue head. twice q id queue head some) (heads_some q h held id some)) all,
+            held_kept at s new held gs (λ q id some. same q id (λ queue head. twice q id queue head some) (heads_some q h held id
+                some)) all,
           )
         where
           twice : (q : Queue) (id : ℕ) → same_queue q c.queue ≡ true → id ≡ hold.head → 0 < times id (heads_of q held) → ⊥
           twice q id queue head some =
               let q_is = same_queue_is q c.queue queue in
               let chain = same_chain_is c h.chain e in
-              let test : same_queue c.queue h.chain.queue ≡ true = ap (λ (k : Chain). same_queue c.queue k.queue) (sym chain) ∙ same_queue_refl c.queue in
+              let test : same_queue c.queue h.chain.queue ≡ true = ap (λ (k : Chain). same_queue c.queue k.queue) (sym chain)
+              ∙ same_queue_refl c.queue in
               let at_c : times id (heads_of c.queue (h ∷ held)) ≡ times id (h.head ∷ []) + times id (heads_of c.queue held) =
               heads_at c.queue h held id ∙ ap (λ b. cond b (times id (h.head ∷ [])) 0 + times id (heads_of c.queue held)) test in
               let mine : times id (h.head ∷ []) ≡ 1 =
@@ -295,14 +308,18 @@ module _ (at : Queue → ℕ) where
               omega (arith, once id, at_c, mine, subst (λ (r : Queue). 0 < times id (heads_of r held)) q_is some)
       by more false e = (
         held_one at s new h g (same h.chain.queue h.head not_mine (heads_first h held)) one,
-        more (rest e) (λ id. omega (arith, once id, heads_at c.queue h held id)) (λ q id other some. same q id other (heads_some q h held id some)),
+        more (rest e) (λ id. omega (arith, once id, heads_at c.queue h held id)) (λ q id other some. same q id other (heads_some q h
+            held id some)),
       )
         where
           not_mine : same_queue h.chain.queue c.queue ≡ true → h.head ≡ hold.head → ⊥
           not_mine queue head =
               let q_is = same_queue_is h.chain.queue c.queue queue in
-              let test : same_queue c.queue h.chain.queue ≡ true = ap (λ (r : Queue). same_queue c.queue r) q_is ∙ same_queue_refl c.queue in
-              let at_c : times hold.head (heads_of c.queue (h ∷ held)) ≡ times hold.head (h.head ∷ []) + times hold.head (heads_of c.queue held) =
-              heads_at c.queue h held hold.head ∙ ap (λ b. cond b (times hold.head (h.head ∷ [])) 0 + times hold.head (heads_of c.queue held)) test in
+              let test : same_queue c.queue h.chain.queue ≡ true = ap (λ (r : Queue). same_queue c.queue r) q_is
+              ∙ same_queue_refl c.queue in
+              let at_c : times hold.head (heads_of c.queue (h ∷ held)) ≡ times hold.head (h.head ∷ []) + times hold.head (heads_of
+              c.queue held) =
+              heads_at c.queue h held hold.head ∙ ap (λ b. cond b (times hold.head (h.head ∷ [])) 0 + times hold.head (heads_of c.queue
+              held)) test in
               let mine : times hold.head (h.head ∷ []) ≡ 1 = ap (λ x. times hold.head (x ∷ [])) head ∙ times-self hold.head in
               omega (arith, once hold.head, at_c, mine, heads_without c held hold (rest e) hold.head, times-self hold.head)

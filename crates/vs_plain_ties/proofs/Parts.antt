@@ -53,7 +53,8 @@ take_over ys place long more new before within more_is fits =
     let front : take place (take long ys) ≡ take place ys = take-take place long ys before in
     let head : length (take place ys ++ new) ≡ place + length new =
     length-append (take place ys) new ∙ ap (λ k. k + length new) (length-take-le place ys (omega (arith, before, within))) in
-    subst (λ k. take (k + more) ((take place ys ++ new) ++ drop (place + length new) ys) ≡ (take place ys ++ new) ++ take more (drop (place + length new) ys))
+    subst (λ k. take (k + more) ((take place ys ++ new) ++ drop (place + length new) ys) ≡ (take place ys ++ new) ++ take more (drop
+    (place + length new) ys))
     head (take-append-add (take place ys ++ new) (drop (place + length new) ys) more)
     ∙ ap (λ zs. (take place ys ++ new) ++ zs) behind ∙ ap (λ zs. (zs ++ new) ++ drop (place + length new) (take long ys)) (sym front)
   where

@@ -82,7 +82,8 @@ module _ (p : PartsState) (w : Ends) (tied : AreTied p w) where
       base = refl;
       size = length_written m I (little_bytes 2 index) low_I high_I;
       own = untouched_own n (areas_of p) (start_of p) m tied.laid queue AvailIdx tt I (little_bytes 2 index) (omega arith) (omega arith);
-      other = λ r other. untouched_other n (areas_of p) (start_of p) m tied.laid queue AvailIdx tt I (little_bytes 2 index) (omega arith) (omega arith) r other;
+      other = λ r other. untouched_other n (areas_of p) (start_of p) m tied.laid queue AvailIdx tt I (little_bytes 2 index) (omega
+          arith) (omega arith) r other;
       avail = ap (little_number 2) (written m I (little_bytes 2 index) low_I high_I) ∙ little_number-little_bytes 2 index (omega arith);
     }
 
@@ -91,7 +92,8 @@ module _ (p : PartsState) (w : Ends) (tied : AreTied p w) where
         let x = tied.queues queue in
         let staged = pages_at queue w.driver.staged in
         let l : Lists = record (queue_of queue w.lists) { given = (queue_of queue w.lists).given ++ staged } in
-        driver_step p w tied queue (published_queue q) new [] l (entries_published queue staged w.driver.entries) refl refl is.still is.base is.size (
+        driver_step p w tied queue (published_queue q) new [] l (entries_published queue staged w.driver.entries) refl refl is.still
+        is.base is.size (
           x.0,
           x.1,
           tie_published queue n (start_of p queue) tied.laid.nonzero tied.laid.limit tied.laid.divides (shown_of p queue) q

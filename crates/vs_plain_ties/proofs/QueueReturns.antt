@@ -19,7 +19,8 @@ use Rattle.vs_plain_ties.proofs.Spots.{Elem, Spot, UsedIdx, Untouched}
 push_length : {A : Type 0} (xs : List A) (x : A) → length (xs ++ x ∷ []) ≡ length xs + 1
 push_length xs x = length-append xs (x ∷ [])
 
-module _ (queue : Queue) (n at : ℕ) (nonzero : 0 < n) (limit : n ≤ 32768) (divides : 2 ^ 16 % n ≡ 0) (s : Shown) (q : DriverQueueState) (t : Turns)
+module _ (queue : Queue) (n at : ℕ) (nonzero : 0 < n) (limit : n ≤ 32768) (divides : 2 ^ 16 % n
+    ≡ 0) (s : Shown) (q : DriverQueueState) (t : Turns)
     (heads : List ℕ) (staged : List (List ℕ)) (l : Lists) where
   -- the page that was returned first is reaped
   module _ (page : List ℕ) (pages : List (List ℕ)) (id : ℕ) (ids out : List ℕ) (back_is : l.back ≡ page ∷ pages)
@@ -102,7 +103,8 @@ module _ (queue : Queue) (n at : ℕ) (nonzero : 0 < n) (limit : n ≤ 32768) (d
       returned = tie.returned;
       small = tie.small;
       place = next_place;
-      given_out = out_index queue n at s (t.taken + 1) ((t.taken + 1) % 2 ^ 16) (pages ++ staged) ids (sym (wraps n (t.taken + 1) divides)) given_row.1;
+      given_out = out_index queue n at s (t.taken + 1) ((t.taken + 1) % 2 ^ 16) (pages ++ staged) ids (sym (wraps n (t.taken + 1)
+          divides)) given_row.1;
       back_is = tie.back_is;
     }
       where
@@ -128,9 +130,13 @@ module _ (queue : Queue) (n at : ℕ) (nonzero : 0 < n) (limit : n ≤ 32768) (d
     not_id : (j : ℕ) → 0 < times j out + times j back → id ≡ j → ⊥
     not_id j some same = omega (arith, some, tie.once j, counted j, ap (λ (x : ℕ). times x (id ∷ [])) same, times-self id)
 
-    pub tie_returned : (new : Shown) → Untouched n (Elem returns_at ∷ UsedIdx ∷ []) s new → new.elem returns_at ≡ record { id = id; len = length page }
+    pub tie_returned : (new : Shown) → Untouched n (Elem returns_at ∷ UsedIdx ∷ []) s new → new.elem returns_at
+        ≡ record { id = id; len = length page }
         → new.used ≡ (t.used + 1) % 2 ^ 16 → new.page id (length page) ≡ page → length page ≤ 4096
-        → IsQueueTied queue n at new q (record t { used = (t.used + 1) % 2 ^ 16 }) less_heads staged (record l { back = l.back ++ page ∷ [] }) out
+        → IsQueueTied queue n at new q (record t { used = (t.used + 1) % 2 ^ 16 }) less_heads staged (record l {
+          back = l.back ++ page
+              ∷ [];
+        }) out
         (back ++ id ∷ [])
     tie_returned new u elem used bytes fits = record {
       once = λ j. omega (arith, tie.once j, counted j, times-push j id back);
@@ -146,7 +152,8 @@ module _ (queue : Queue) (n at : ℕ) (nonzero : 0 < n) (limit : n ≤ 32768) (d
       returned = omega (arith, tie.returned, push_length l.back page);
       small = tie.small;
       place = tie.place;
-      given_out = out_kept queue n at s new t.taken (l.given ++ staged) out tie.given_out (λ i less. u.entry _ (mod_below _ n nonzero) (tt, (tt, tt)))
+      given_out = out_kept queue n at s new t.taken (l.given ++ staged) out tie.given_out (λ i less. u.entry _ (mod_below _ n nonzero)
+          (tt, (tt, tt)))
           (λ j some. same_at j (omega (arith, some)));
       back_is = back_push n new q.reaped l.back back page id
           (back_kept n s new q.reaped l.back back tie.back_is elems (λ j some. same_at j (omega (arith, some))))

@@ -20,8 +20,10 @@ use Rattle.vs_plain_ties.proofs.Spots.{AvailIdx, Describing, DiffersAll, Elem, E
 push_length : {A : Type 0} (xs : List A) (x : A) → length (xs ++ x ∷ []) ≡ length xs + 1
 push_length xs x = length-append xs (x ∷ [])
 
-module _ (queue : Queue) (n at : ℕ) (nonzero : 0 < n) (limit : n ≤ 32768) (divides : 2 ^ 16 % n ≡ 0) (s : Shown) (q : DriverQueueState) (t : Turns)
-    (heads : List ℕ) (staged : List (List ℕ)) (l : Lists) (out back : List ℕ) (tie : IsQueueTied queue n at s q t heads staged l out back) where
+module _ (queue : Queue) (n at : ℕ) (nonzero : 0 < n) (limit : n ≤ 32768) (divides : 2 ^ 16 % n
+    ≡ 0) (s : Shown) (q : DriverQueueState) (t : Turns)
+    (heads : List ℕ) (staged : List (List ℕ)) (l : Lists) (out back : List ℕ) (tie : IsQueueTied queue n at s q t heads staged l out
+    back) where
   pub out_count : length out ≡ length l.given + length staged
   out_count = out_length queue n at s t.taken (l.given ++ staged) out tie.given_out ∙ length-append l.given staged
 
@@ -48,7 +50,8 @@ module _ (queue : Queue) (n at : ℕ) (nonzero : 0 < n) (limit : n ≤ 32768) (d
     place = tie.place;
     given_out = out_kept queue n at s new t.taken (l.given ++ staged) out tie.given_out (λ i less. entry _ (mod_below _ n nonzero))
         (λ j some. same j (omega (arith, some)));
-    back_is = back_kept n s new q.reaped l.back back tie.back_is (λ i less. elem _ (mod_below _ n nonzero)) (λ j some. same j (omega (arith, some)));
+    back_is = back_kept n s new q.reaped l.back back tie.back_is (λ i less. elem _ (mod_below _ n nonzero)) (λ j some. same j (omega
+        (arith, some)));
   }
 
   -- nothing of the queue is written
@@ -143,7 +146,8 @@ module _ (queue : Queue) (n at : ℕ) (nonzero : 0 < n) (limit : n ≤ 32768) (d
       returned = tie.returned;
       small = tie.small;
       place = tie.place;
-      given_out = subst (λ (pages : List (List ℕ)). AreOut queue n at new t.taken pages (out ++ id ∷ [])) (append_assoc l.given staged (page ∷ []))
+      given_out = subst (λ (pages : List (List ℕ)). AreOut queue n at new t.taken pages (out ++ id ∷ [])) (append_assoc l.given staged
+          (page ∷ []))
           (out_push queue n at new t.taken (l.given ++ staged) out page id
           (out_kept queue n at s new t.taken (l.given ++ staged) out tie.given_out entries (λ j some. same_at j (omega (arith, some))))
           (record {

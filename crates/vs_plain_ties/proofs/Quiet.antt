@@ -55,4 +55,5 @@ module _ (p : PartsState) (w : Ends) (tied : AreTied p w) (new : Memory) (quietl
   pub quiet_step : AreTied (record p { device = with_memory p.device new }) w
   quiet_step =
       device_step p w tied Rx new p.device.turns.rx p.device.held w.lists.rx w.device.entries w.device.held quietly.still quietly.base
-      (ap length quietly.bytes) (tie_seen_in Rx) (λ r other. untouched_same p.device.size (shown_of p r) _ (seen r)) (λ r other. refl) held_seen tied.logs
+      (ap length quietly.bytes) (tie_seen_in Rx) (λ r other. untouched_same p.device.size (shown_of p r) _ (seen r)) (λ r other. refl)
+      held_seen tied.logs

@@ -49,7 +49,8 @@ append_nil (x ∷ xs) = ap (λ (ys : List ℕ). x ∷ ys) (append_nil xs)
 unwritten : (m : Memory) (addr : ℕ) → after_write m addr [] ≡ m
 unwritten m addr =
     let same : addr - m.base + 0 ≡ addr - m.base = omega arith in
-    rw (same, append_nil (take (addr - m.base) m.bytes)) (ap (λ (bytes : List ℕ). record m { bytes = bytes }) (take-append-drop (addr - m.base) m.bytes))
+    rw (same, append_nil (take (addr - m.base) m.bytes)) (ap (λ (bytes : List ℕ). record m { bytes = bytes }) (take-append-drop (addr -
+    m.base) m.bytes))
 
 -- a part of one piece
 read_one : (p : Piece) (place count : ℕ) (m : Memory) → place + count ≤ p.len
@@ -102,7 +103,8 @@ module _ (p : PartsState) (w : Ends) (tied : AreTied p w) (c : Chain) (has : Con
   pub pieces_is : pieces_of (hold_of c d.held) ≡ piece ∷ []
   pieces_is =
       ap pieces_of f.hold_is
-      ∙ subst (λ (k : Chain). f.hold.pieces ≡ record { addr = start_of p k.queue + 4096 * f.hold.head; len = k.readable + k.writable } ∷ []) f.chain_is
+      ∙ subst (λ (k : Chain). f.hold.pieces ≡ record { addr = start_of p k.queue + 4096 * f.hold.head; len = k.readable + k.writable }
+      ∷ []) f.chain_is
       f.lies.pieces
 
   pub bytes_there : bytes_at m P (length f.entry.bytes) ≡ f.entry.bytes
@@ -131,7 +133,10 @@ module _ (p : PartsState) (w : Ends) (tied : AreTied p w) (c : Chain) (has : Con
 
     over_is : over (reading (spans (pieces_of (hold_of c d.held)) place count) []) m ≡ (bytes_at accesses (P + place) count, accesses)
     over_is =
-        ap (λ (ps : List Piece). over (reading (spans ps place count) []) m) pieces_is ∙ read_one piece place count m (omega (arith, within))
+        ap (λ (ps : List Piece). over (reading (spans ps place count) []) m) pieces_is ∙ read_one piece place count m (omega (
+          arith,
+          within,
+        ))
 
     value_is : bytes_at accesses (P + place) count ≡ take count (drop place (bytes_in c w.device.held))
     value_is =
@@ -147,12 +152,14 @@ module _ (p : PartsState) (w : Ends) (tied : AreTied p w) (c : Chain) (has : Con
     pub reads : Reads
     reads = record {
       answer = ap (λ (x : List ℕ × Memory). x.0) over_is ∙ value_is;
-      tied_then = subst (λ (x : Memory). AreTied (record p { device = with_memory d x }) w) (sym (ap (λ (x : List ℕ × Memory). x.1) over_is))
+      tied_then = subst (λ (x : Memory). AreTied (record p { device = with_memory d x }) w) (sym (ap (λ (x : List ℕ
+          × Memory). x.1) over_is))
           (quiet_step p w tied accesses quietly);
     }
 
   -- bytes are written
-  module _ (place : ℕ) (bytes : List ℕ) (within : place + length bytes ≤ c.writable) (no_gap : place ≤ length (bytes_in c w.device.held)) where
+  module _ (place : ℕ) (bytes : List ℕ) (within : place + length bytes ≤ c.writable) (no_gap : place ≤ length (bytes_in c
+      w.device.held)) where
     abbrev before : Memory
     before = accessed m (length bytes)
 
@@ -188,7 +195,8 @@ module _ (p : PartsState) (w : Ends) (tied : AreTied p w) (c : Chain) (has : Con
     other : (r : Queue) → same_queue c.queue r ≡ false → Untouched n [] (shown_of p r) (shown (areas_of p r) (start_of p r) after)
     other r apart =
         subst (λ (x : Shown). Untouched n [] x (shown (areas_of p r) (start_of p r) after)) (seen p w tied before quiet_before r)
-        (untouched_other n (areas_of p) (start_of p) before laid_before c.queue (PageOf f.hold.head) below (P + place) bytes (omega arith) to r apart)
+        (untouched_other n (areas_of p) (start_of p) before laid_before c.queue (PageOf f.hold.head) below (P + place) bytes (omega
+        arith) to r apart)
 
     low_w : before.base ≤ P + place
     low_w = low n (areas_of p) (start_of p) before laid_before c.queue (PageOf f.hold.head) below (P + place) bytes (omega arith) to
@@ -201,7 +209,8 @@ module _ (p : PartsState) (w : Ends) (tied : AreTied p w) (c : Chain) (has : Con
 
     old_there : f.entry.bytes ≡ bytes_at before P (length f.entry.bytes)
     old_there =
-        sym (ap₂ (λ (b : ℕ) (xs : List ℕ). take (length f.entry.bytes) (drop (P - b) xs)) quiet_before.base quiet_before.bytes ∙ bytes_there)
+        sym (ap₂ (λ (b : ℕ) (xs : List ℕ). take (length f.entry.bytes) (drop (P - b) xs)) quiet_before.base quiet_before.bytes
+        ∙ bytes_there)
 
     page_is : (shown (areas_of p c.queue) (start_of p c.queue) after).page f.hold.head (length written_bytes) ≡ written_bytes
     page_is =
@@ -211,12 +220,20 @@ module _ (p : PartsState) (w : Ends) (tied : AreTied p w) (c : Chain) (has : Con
     long : length written_bytes ≡ place + length bytes + (length f.entry.bytes - (place + length bytes))
     long =
         length-append (take place f.entry.bytes ++ bytes) (drop (place + length bytes) f.entry.bytes)
-        ∙ omega (arith, length-append (take place f.entry.bytes) bytes, length-take-le place f.entry.bytes gap, length-drop (place + length bytes) f.entry.bytes)
+        ∙ omega (
+          arith,
+          length-append (take place f.entry.bytes) bytes,
+          length-take-le place f.entry.bytes gap,
+          length-drop (place +
+              length bytes) f.entry.bytes,
+        )
 
     held_then : AreHeldAs (start_of p) (λ r. shown (areas_of p r) (start_of p r) after) d.held (with_bytes c written_bytes w.device.held)
     held_then =
-        held_written (start_of p) (shown_of p) (λ r. shown (areas_of p r) (start_of p r) after) c written_bytes d.held w.device.held f.hold tied.held
-        f.hold_is (λ id. omega (arith, (tied.queues c.queue).2.once id)) (of_each (λ q. (id : ℕ) → (same_queue q c.queue ≡ true → id ≡ f.hold.head → ⊥)
+        held_written (start_of p) (shown_of p) (λ r. shown (areas_of p r) (start_of p r) after) c written_bytes d.held w.device.held
+        f.hold tied.held
+        f.hold_is (λ id. omega (arith, (tied.queues c.queue).2.once id)) (of_each (λ q. (id : ℕ) → (same_queue q c.queue ≡ true
+        → id ≡ f.hold.head → ⊥)
         → 0 < times id (heads_of q d.held) → (k : ℕ) → k ≤ 4096
         → (shown (areas_of p q) (start_of p q) after).page id k ≡ (shown_of p q).page id k) c.queue
         (λ id not_it some k few. own.page id k ((tied.queues c.queue).2.pages id (omega (arith, some))).0 few
@@ -229,7 +246,8 @@ module _ (p : PartsState) (w : Ends) (tied : AreTied p w) (c : Chain) (has : Con
     same_parts Tx = refl
     same_parts Event = refl
 
-    same_ends : (q : Queue) → device_ends q (queue_of q w.lists) w.device.entries (with_bytes c (overwritten (bytes_in c w.device.held) place bytes) w.device.held) w
+    same_ends : (q : Queue) → device_ends q (queue_of q w.lists) w.device.entries (with_bytes c (overwritten (bytes_in c w.device.held)
+        place bytes) w.device.held) w
         ≡ after_device (Write c place bytes) w
     same_ends Rx = refl
     same_ends Tx = refl
@@ -243,7 +261,8 @@ module _ (p : PartsState) (w : Ends) (tied : AreTied p w) (c : Chain) (has : Con
         (with_bytes c written_bytes w.device.held) quiet_before.still quiet_before.base size_w (
           x.0,
           x.1,
-          tie_written c.queue n (start_of p c.queue) tied.laid.nonzero tied.laid.limit tied.laid.divides (shown_of p c.queue) (driver_at c.queue p)
+          tie_written c.queue n (start_of p c.queue) tied.laid.nonzero tied.laid.limit tied.laid.divides (shown_of p c.queue)
+              (driver_at c.queue p)
               (turns_at c.queue d.turns) (heads_of c.queue d.held) (pages_at c.queue w.driver.staged) (queue_of c.queue w.lists) x.0 x.1 x.2
               (shown (areas_of p c.queue) (start_of p c.queue) after) f.hold.head f.counted own,
         )
@@ -261,4 +280,5 @@ module _ (p : PartsState) (w : Ends) (tied : AreTied p w) (c : Chain) (has : Con
         (subst (λ (x : PartsState). AreTied x (after_device (Write c place bytes) w)) (same_parts c.queue)
         (subst (λ (x : Ends). AreTied (device_form c.queue after (turns_at c.queue d.turns) d.held p) x) (same_ends c.queue)
         (subst (λ (xs : List ℕ). AreTied (device_form c.queue after (turns_at c.queue d.turns) d.held p)
-        (device_ends c.queue (queue_of c.queue w.lists) w.device.entries (with_bytes c (overwritten xs place bytes) w.device.held) w)) (sym f.bytes_is) step)))
+        (device_ends c.queue (queue_of c.queue w.lists) w.device.entries (with_bytes c (overwritten xs place bytes) w.device.held) w))
+        (sym f.bytes_is) step)))

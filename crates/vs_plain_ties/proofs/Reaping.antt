@@ -74,7 +74,8 @@ module _ (p : PartsState) (w : Ends) (tied : AreTied p w) (queue : Queue) where
         rw same (grind (arith, nat_tests))
 
     none_used : used_in queue p ≡ None
-    none_used = first_of _ None _ (or_second (q.staged == flight_in q) (s.used == q.reaped) (nat_le q.n (next_elem (areas_of p queue) q m).id) used_is)
+    none_used = first_of _ None _ (or_second (q.staged == flight_in q) (s.used == q.reaped) (nat_le q.n (next_elem (areas_of p queue) q
+        m).id) used_is)
 
     none_parts : reaped_parts queue p ≡ p
     none_parts = ap (λ (o : Option (ℕ × List ℕ)). with_driver queue (reaped_queue q o) p) none_used ∙ same queue
@@ -88,13 +89,32 @@ module _ (p : PartsState) (w : Ends) (tied : AreTied p w) (queue : Queue) where
     none_ends = same queue none
       where
         same : (r : Queue) → (queue_of r w.lists).back ≡ [] → after_driver (Reap r) w ≡ w
-        same Rx e = subst (λ (b : List (List ℕ)). let v : Ends = record w { lists = record w.lists { rx = record w.lists.rx { back = b } } } in after_driver (Reap Rx) v ≡ v) (sym e) refl
-        same Tx e = subst (λ (b : List (List ℕ)). let v : Ends = record w { lists = record w.lists { tx = record w.lists.tx { back = b } } } in after_driver (Reap Tx) v ≡ v) (sym e) refl
-        same Event e = subst (λ (b : List (List ℕ)). let v : Ends = record w { lists = record w.lists { event = record w.lists.event { back = b } } } in after_driver (Reap Event) v ≡ v) (sym e) refl
+        same Rx e = subst (λ (b : List (List ℕ)). let v : Ends = record w {
+          lists = record w.lists {
+            rx = record w.lists.rx {
+              back = b;
+            };
+          };
+        } in after_driver (Reap Rx) v ≡ v) (sym e) refl
+        same Tx e = subst (λ (b : List (List ℕ)). let v : Ends = record w {
+          lists = record w.lists {
+            tx = record w.lists.tx {
+              back = b;
+            };
+          };
+        } in after_driver (Reap Tx) v ≡ v) (sym e) refl
+        same Event e = subst (λ (b : List (List ℕ)). let v : Ends = record w {
+          lists = record w.lists {
+            event = record w.lists.event {
+              back = b;
+            };
+          };
+        } in after_driver (Reap Event) v ≡ v) (sym e) refl
 
   -- the page that was returned first
   module _ (page : List ℕ) (pages : List (List ℕ)) (back_is : l.back ≡ page ∷ pages) (id : ℕ) (ids out : List ℕ)
-      (tie : IsQueueTied queue n (start_of p queue) s q (turns_at queue p.device.turns) (heads_of queue p.device.held) (pages_at queue w.driver.staged) l
+      (tie : IsQueueTied queue n (start_of p queue) s q (turns_at queue p.device.turns) (heads_of queue p.device.held) (pages_at queue
+      w.driver.staged) l
       out (id ∷ ids)) where
     has : (id < n) × HasPage q.pages id
     has = id_has queue n (start_of p queue) tied.laid.nonzero tied.laid.limit tied.laid.divides s q (turns_at queue p.device.turns)
@@ -172,7 +192,8 @@ module _ (p : PartsState) (w : Ends) (tied : AreTied p w) (queue : Queue) where
         (entries_reaped queue (next_back queue w.lists) w.driver.entries) refl refl tied.still refl refl (
           out,
           ids,
-          subst (λ (b : List (List ℕ)). IsQueueTied queue n (start_of p queue) s then (turns_at queue p.device.turns) (heads_of queue p.device.held)
+          subst (λ (b : List (List ℕ)). IsQueueTied queue n (start_of p queue) s then (turns_at queue p.device.turns) (heads_of queue
+              p.device.held)
               (pages_at queue w.driver.staged) (record l { back = b }) out ids) (ap all_but_oldest (sym back_is))
               (tie_reaped queue n (start_of p queue) tied.laid.nonzero tied.laid.limit tied.laid.divides s q (turns_at queue p.device.turns)
               (heads_of queue p.device.held) (pages_at queue w.driver.staged) l page pages id ids out back_is tie),
@@ -188,7 +209,8 @@ module _ (p : PartsState) (w : Ends) (tied : AreTied p w) (queue : Queue) where
   pub reaps : Reaps
   reaps = let x = tied.queues queue in by l.back refl x.1 x.0 x.2
     where
-      by : (back : List (List ℕ)) → l.back ≡ back → (ids out : List ℕ) → IsQueueTied queue n (start_of p queue) s q (turns_at queue p.device.turns)
+      by : (back : List (List ℕ)) → l.back ≡ back → (ids out : List ℕ) → IsQueueTied queue n (start_of p queue) s q (turns_at queue
+          p.device.turns)
           (heads_of queue p.device.held) (pages_at queue w.driver.staged) l out ids → Reaps
       by [] none ids out tie = record {
         page = ap (reaped_page (areas_of p queue) q m) (none_used none) ∙ ap oldest (sym none);

@@ -163,7 +163,8 @@ module _ (p : PartsState) (w : Ends) (tied : AreTied p w) where
     other r apart =
         untouched_both n (shown_of p r) (see r m1) (see r m3)
         (subst (λ (x : Shown). Untouched n [] x (see r m1)) (same0 r)
-        (untouched_other n (areas_of p) (start_of p) m0 laid0 q (Elem place) near U (used_elem_bytes e) (omega arith) (omega arith) r apart))
+        (untouched_other n (areas_of p) (start_of p) m0 laid0 q (Elem place) near U (used_elem_bytes e) (omega arith) (omega arith) r
+        apart))
         (subst (λ (x : Shown). Untouched n [] x (see r m3)) (same2 r)
         (untouched_other n (areas_of p) (start_of p) m2 laid2 q UsedIdx tt I (little_bytes 2 index) (omega arith) (omega arith) r apart))
 
@@ -218,7 +219,8 @@ module _ (p : PartsState) (w : Ends) (tied : AreTied p w) where
         let x = tied.queues q in (
           x.0,
           x.1 ++ head ∷ [],
-          tie_returned q n (start_of p q) tied.laid.nonzero tied.laid.limit tied.laid.divides (shown_of p q) (driver_at q p) t (heads_of q d.held)
+          tie_returned q n (start_of p q) tied.laid.nonzero tied.laid.limit tied.laid.divides (shown_of p q) (driver_at q p) t
+              (heads_of q d.held)
               (pages_at q w.driver.staged) l page head (heads_of q then_held) x.0 x.1 x.2
               (heads_without c d.held (f p w tied c has).hold (f p w tied c has).hold_is)
               (fewer_heads c d.held (f p w tied c has).hold (f p w tied c has).hold_is) (see q m3) own
@@ -237,7 +239,8 @@ module _ (p : PartsState) (w : Ends) (tied : AreTied p w) where
 
     parts_is : record p { device = (answer_to (Return c len) d).1 } ≡ device_form q m3 then_turns then_held p
     parts_is =
-        ap (λ (h : ℕ). device_form q (after_write (after_access (after_write m0 U (used_elem_bytes record { id = h; len = len }))) I (little_bytes 2 index))
+        ap (λ (h : ℕ). device_form q (after_write (after_access (after_write m0 U (used_elem_bytes record { id = h; len = len }))) I
+        (little_bytes 2 index))
         then_turns then_held p) same_head
 
     pub tied_returned : AreTied (record p { device = (answer_to (Return c len) d).1 }) (after_device (Return c len) w)
@@ -262,7 +265,8 @@ module _ (p : PartsState) (w : Ends) (tied : AreTied p w) where
         let t = turns_at queue d.turns in
         let q0 : IsQuietly m (after_access m) = quietly_after m m (quietly_now m tied.still) in
         let held = held_count (start_of p) (shown_of p) queue d.held w.device.held tied.held in
-        let out = out_count queue n (start_of p queue) tied.laid.nonzero tied.laid.limit tied.laid.divides (shown_of p queue) (driver_at queue p) t
+        let out = out_count queue n (start_of p queue) tied.laid.nonzero tied.laid.limit tied.laid.divides (shown_of p queue)
+        (driver_at queue p) t
         (heads_of queue d.held) (pages_at queue w.driver.staged) (queue_of queue w.lists) x.0 x.1 x.2 in
         let seen_avail = ap (λ (s : Shown). s.avail) (seen p w tied (after_access m) q0 queue) in
         record {

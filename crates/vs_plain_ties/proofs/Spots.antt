@@ -126,7 +126,8 @@ module _ (n : ℕ) (a : Areas) (at : ℕ) (laid : IsAreaLaid n a) (behind : a.en
 
   -- it lies in the areas or among the pages
   pub within : (x : Spot) → IsSpot n x
-      → ((a.desc ≤ spot_at a at x) × (spot_at a at x + spot_len x ≤ a.end)) ⊎ ((at ≤ spot_at a at x) × (spot_at a at x + spot_len x ≤ at + 4096 * n))
+      → ((a.desc ≤ spot_at a at x) × (spot_at a at x + spot_len x ≤ a.end)) ⊎ ((at ≤ spot_at a at x)
+      × (spot_at a at x + spot_len x ≤ at + 4096 * n))
   within (Describing k) is_x = inl (omega (arith, laid.avail, laid.used, laid.end), omega (arith, laid.avail, laid.used, laid.end, is_x))
   within AvailIdx is_x = inl (omega (arith, laid.avail, laid.used, laid.end), omega (arith, laid.avail, laid.used, laid.end))
   within (Entry k) is_x = inl (omega (arith, laid.avail, laid.used, laid.end), omega (arith, laid.avail, laid.used, laid.end, is_x))
@@ -185,7 +186,8 @@ module _ (n : ℕ) (areas : Queue → Areas) (at : Queue → ℕ) (m : Memory) (
   from_spot q x is_x = by (within n (areas q) (at q) (laid.each q) (laid.behind q q) x is_x)
     where
       by : (((areas q).desc ≤ spot_at (areas q) (at q) x) × (spot_at (areas q) (at q) x + spot_len x ≤ (areas q).end))
-          ⊎ ((at q ≤ spot_at (areas q) (at q) x) × (spot_at (areas q) (at q) x + spot_len x ≤ at q + 4096 * n)) → m.base ≤ spot_at (areas q) (at q) x
+          ⊎ ((at q ≤ spot_at (areas q) (at q) x) × (spot_at (areas q) (at q) x + spot_len x ≤ at q + 4096 * n))
+          → m.base ≤ spot_at (areas q) (at q) x
       by (inl (from, to)) = omega (arith, laid.low q, from)
       by (inr (from, to)) = let e = laid.each q in omega (arith, laid.low q, laid.behind q q, e.avail, e.used, e.end, from)
 
@@ -200,9 +202,11 @@ module _ (n : ℕ) (areas : Queue → Areas) (at : Queue → ℕ) (m : Memory) (
 
   -- spots of two queues are apart
   across : (q r : Queue) → same_queue q r ≡ false → (x y : Spot) → IsSpot n x → IsSpot n y
-      → (spot_at (areas q) (at q) x + spot_len x ≤ spot_at (areas r) (at r) y) ⊎ (spot_at (areas r) (at r) y + spot_len y ≤ spot_at (areas q) (at q) x)
+      → (spot_at (areas q) (at q) x + spot_len x ≤ spot_at (areas r) (at r) y) ⊎ (spot_at (areas r) (at r) y + spot_len y ≤ spot_at
+      (areas q) (at q) x)
   across q r other x y is_x is_y =
-      by (within n (areas q) (at q) (laid.each q) (laid.behind q q) x is_x) (within n (areas r) (at r) (laid.each r) (laid.behind r r) y is_y)
+      by (within n (areas q) (at q) (laid.each q) (laid.behind q q) x is_x) (within n (areas r) (at r) (laid.each r) (laid.behind r r)
+      y is_y)
     where
       X : ℕ
       X = spot_at (areas q) (at q) x
@@ -242,18 +246,22 @@ module _ (n : ℕ) (areas : Queue → Areas) (at : Queue → ℕ) (m : Memory) (
     high = omega (arith, to_spot q x is_x, to)
 
     -- what is read in a spot that is apart
-    unread : (r : Queue) (y : Spot) → IsSpot n y → (b k : ℕ) → spot_at (areas r) (at r) y ≤ b → b + k ≤ spot_at (areas r) (at r) y + spot_len y
-        → (spot_at (areas q) (at q) x + spot_len x ≤ spot_at (areas r) (at r) y) ⊎ (spot_at (areas r) (at r) y + spot_len y ≤ spot_at (areas q) (at q) x)
+    unread : (r : Queue) (y : Spot) → IsSpot n y → (b k : ℕ) → spot_at (areas r) (at r) y ≤ b
+        → b + k ≤ spot_at (areas r) (at r) y + spot_len y
+        → (spot_at (areas q) (at q) x + spot_len x ≤ spot_at (areas r) (at r) y) ⊎ (spot_at (areas r) (at r) y + spot_len y ≤ spot_at
+        (areas q) (at q) x)
         → bytes_at new b k ≡ bytes_at m b k
     unread r y is_y b k from_b to_b beside =
         kept m addr bytes b k low high (omega (arith, from_spot r y is_y, from_b))
-        (turned (inner (spot_at (areas q) (at q) x) (spot_len x) (spot_at (areas r) (at r) y) (spot_len y) addr (length bytes) b k beside from to from_b to_b))
+        (turned (inner (spot_at (areas q) (at q) x) (spot_len x) (spot_at (areas r) (at r) y) (spot_len y) addr (length bytes) b k
+        beside from to from_b to_b))
       where
         turned : (addr + length bytes ≤ b) ⊎ (b + k ≤ addr) → (b + k ≤ addr) ⊎ (addr + length bytes ≤ b)
         turned (inl before) = inr before
         turned (inr after) = inl after
 
-    own : (y : Spot) → IsSpot n y → Differs x y → (b k : ℕ) → spot_at (areas q) (at q) y ≤ b → b + k ≤ spot_at (areas q) (at q) y + spot_len y
+    own : (y : Spot) → IsSpot n y → Differs x y → (b k : ℕ) → spot_at (areas q) (at q) y ≤ b
+        → b + k ≤ spot_at (areas q) (at q) y + spot_len y
         → bytes_at new b k ≡ bytes_at m b k
     own y is_y other b k from_b to_b =
         unread q y is_y b k from_b to_b (apart n (areas q) (at q) (laid.each q) (laid.behind q q) x y is_x is_y other)

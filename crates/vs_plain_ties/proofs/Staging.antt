@@ -31,7 +31,8 @@ use Rattle.vs_plain_ties.proofs.QueueSteps.{id_below, not_id, staged_then, tie_s
 use Rattle.vs_plain_ties.proofs.Spots.{Describing, Entry, PageOf, Spot, Untouched, high, laid_same, low, untouched_both, untouched_other, untouched_own, untouched_then}
 
 -- the bytes, the descriptor and the entry are written
-module _ (n : ℕ) (areas : Queue → Areas) (at : Queue → ℕ) (m : Memory) (laid : IsLaid n areas at m) (queue : Queue) (id place : ℕ) (below : id < n)
+module _ (n : ℕ) (areas : Queue → Areas) (at : Queue → ℕ) (m : Memory) (laid : IsLaid n areas at m) (queue : Queue) (id place : ℕ)
+    (below : id < n)
     (near : place < n) (page : List ℕ) (fits : length page ≤ 4096) where
   abbrev P : ℕ
   P = at queue + 4096 * id
@@ -96,19 +97,26 @@ module _ (n : ℕ) (areas : Queue → Areas) (at : Queue → ℕ) (m : Memory) (
   u3 : Untouched n (Entry place ∷ []) (shown (areas queue) (at queue) m2) (shown (areas queue) (at queue) m3)
   u3 = untouched_own n areas at m2 laid2 queue (Entry place) near E (little_bytes 2 id) (omega arith) (omega arith)
 
-  pub staged_own : Untouched n (PageOf id ∷ Describing id ∷ Entry place ∷ []) (shown (areas queue) (at queue) m) (shown (areas queue) (at queue) m3)
+  pub staged_own : Untouched n (PageOf id ∷ Describing id ∷ Entry place ∷ []) (shown (areas queue) (at queue) m) (shown (areas queue)
+      (at queue) m3)
   staged_own =
-      untouched_then n (PageOf id) (Describing id ∷ Entry place ∷ []) _ _ _ u1 (untouched_then n (Describing id) (Entry place ∷ []) _ _ _ u2 u3)
+      untouched_then n (PageOf id) (Describing id ∷ Entry place ∷ []) _ _ _ u1 (untouched_then n (Describing id) (Entry place ∷ []) _ _
+      _ u2 u3)
 
   pub staged_other : (r : Queue) → same_queue queue r ≡ false → Untouched n [] (shown (areas r) (at r) m) (shown (areas r) (at r) m3)
   staged_other r other =
       untouched_both n _ _ _ (untouched_other n areas at m laid queue (PageOf id) below P page (omega arith) (omega (arith, fits)) r other)
-      (untouched_both n _ _ _ (untouched_other n areas at m1 laid1 queue (Describing id) below D (desc_bytes d) (omega arith) (omega arith) r other)
+      (untouched_both n _ _ _ (untouched_other n areas at m1 laid1 queue (Describing id) below D (desc_bytes d) (omega arith) (omega
+      arith) r other)
       (untouched_other n areas at m2 laid2 queue (Entry place) near E (little_bytes 2 id) (omega arith) (omega arith) r other))
 
   pub entry_is : (shown (areas queue) (at queue) m3).entry place ≡ id
   entry_is =
-      ap (little_number 2) (written m2 E (little_bytes 2 id) low_E high_E) ∙ little_number-little_bytes 2 id (omega (arith, below, laid.limit))
+      ap (little_number 2) (written m2 E (little_bytes 2 id) low_E high_E) ∙ little_number-little_bytes 2 id (omega (
+        arith,
+        below,
+        laid.limit,
+      ))
 
   pub page_is : (shown (areas queue) (at queue) m3).page id (length page) ≡ page
   page_is =
@@ -140,7 +148,8 @@ module _ (p : PartsState) (w : Ends) (tied : AreTied p w) (queue : Queue) (page 
   below : id < n
   below =
       let x = tied.queues queue in
-      id_below queue n (start_of p queue) tied.laid.nonzero tied.laid.limit tied.laid.divides (shown_of p queue) q (turns_at queue p.device.turns)
+      id_below queue n (start_of p queue) tied.laid.nonzero tied.laid.limit tied.laid.divides (shown_of p queue) q (turns_at queue
+      p.device.turns)
       (heads_of queue p.device.held) (pages_at queue w.driver.staged) (queue_of queue w.lists) x.0 x.1 x.2 page id rest free
 
   abbrev then : DriverQueueState
@@ -157,7 +166,8 @@ module _ (p : PartsState) (w : Ends) (tied : AreTied p w) (queue : Queue) (page 
   memory_of f o k =
       let i = slice_index_or f 0 0 in
       let a = areas_of p queue in
-      after_write (after_write (with_page o i page p.device.memory) (desc_entry a i).at (desc_bytes (desc_for queue (page_at o i) (length page))))
+      after_write (after_write (with_page o i page p.device.memory) (desc_entry a i).at (desc_bytes (desc_for queue (page_at o i)
+      (length page))))
       (avail_entry a ((q.published + q.staged) % k)).at (little_bytes 2 i)
 
   memory_is : staged_memory queue page (areas_of p queue) q p.device.memory ≡ after
@@ -167,7 +177,8 @@ module _ (p : PartsState) (w : Ends) (tied : AreTied p w) (queue : Queue) (page 
 
   parts_is : staged_parts queue page p ≡ driver_form queue then after p
   parts_is =
-      ap₂ (λ (x : DriverQueueState) (m : Memory). with_driver queue x (with_parts_memory m p)) queue_is memory_is ∙ driver_form_is queue then after p
+      ap₂ (λ (x : DriverQueueState) (m : Memory). with_driver queue x (with_parts_memory m p)) queue_is memory_is
+      ∙ driver_form_is queue then after p
 
   ends_is : (r : Queue) → after_driver (Stage r page) w
       ≡ ends_form r (pages_at r w.driver.staged ++ page ∷ []) (queue_of r w.lists) w.driver.entries w
@@ -180,15 +191,18 @@ module _ (p : PartsState) (w : Ends) (tied : AreTied p w) (queue : Queue) (page 
   same_lists Tx = refl
   same_lists Event = refl
 
-  step : AreTied (driver_form queue then after p) (ends_form queue (pages_at queue w.driver.staged ++ page ∷ []) (queue_of queue w.lists) w.driver.entries w)
+  step : AreTied (driver_form queue then after p) (ends_form queue (pages_at queue w.driver.staged ++ page ∷ []) (queue_of queue
+      w.lists) w.driver.entries w)
   step =
       let x = tied.queues queue in
       let own = staged_own n (areas_of p) (start_of p) p.device.memory tied.laid queue id place below near page fits in
-      driver_step p w tied queue then after (pages_at queue w.driver.staged ++ page ∷ []) (queue_of queue w.lists) w.driver.entries refl refl tied.still
+      driver_step p w tied queue then after (pages_at queue w.driver.staged ++ page ∷ []) (queue_of queue w.lists) w.driver.entries
+      refl refl tied.still
       refl (staged_size n (areas_of p) (start_of p) p.device.memory tied.laid queue id place below near page fits) (
         x.0 ++ id ∷ [],
         x.1,
-        tie_staged queue n (start_of p queue) tied.laid.nonzero tied.laid.limit tied.laid.divides (shown_of p queue) q (turns_at queue p.device.turns)
+        tie_staged queue n (start_of p queue) tied.laid.nonzero tied.laid.limit tied.laid.divides (shown_of p queue) q (turns_at queue
+            p.device.turns)
             (heads_of queue p.device.held) (pages_at queue w.driver.staged) (queue_of queue w.lists) x.0 x.1 x.2 page id rest free
             (shown (areas_of p queue) (start_of p queue) after) own
             (entry_is n (areas_of p) (start_of p) p.device.memory tied.laid queue id place below near page fits)
@@ -197,7 +211,8 @@ module _ (p : PartsState) (w : Ends) (tied : AreTied p w) (queue : Queue) (page 
       )
       (λ r other. staged_other n (areas_of p) (start_of p) p.device.memory tied.laid queue id place below near page fits r other)
       (λ j some c few. own.page j c (x.2.pages j (omega (arith, some))).0 few (
-        not_id queue n (start_of p queue) tied.laid.nonzero tied.laid.limit tied.laid.divides (shown_of p queue) q (turns_at queue p.device.turns)
+        not_id queue n (start_of p queue) tied.laid.nonzero tied.laid.limit tied.laid.divides (shown_of p queue) q (turns_at queue
+            p.device.turns)
             (heads_of queue p.device.held) (pages_at queue w.driver.staged) (queue_of queue w.lists) x.0 x.1 x.2 page id rest free j
             (omega (arith, some)),
         (tt, (tt, tt)),

@@ -1,12 +1,12 @@
 -- Both ends before the first call.
 use Rattle.std.proofs.Common.{true≢false, inl, inr, ◌⊎◌, ◌≡◌, ℕ, zero, suc, ◌+◌, ◌-◌, ◌*◌, ◌%◌, ◌^◌, ◌<◌, ◌≤◌, Bool, true, false, cond, List, [], ◌∷◌, length, replicate, Option, None, Some, refl, sym, ap, ap₂, ◌∙◌, subst, arith}
 use Rattle.std.specs.List.{range_with_len}
-use Rattle.std.specs.Prelude.{◌==◌, nat_le}
+use Rattle.std.specs.Prelude.{◌==◌, ◌&&◌, is_some, nat_le}
 use Rattle.std.proofs.lemmas.Bool.Decides.{eqb_tells, nat_tests}
 use Rattle.std.proofs.lemmas.List.{length-replicate}
 use Rattle.std.proofs.lemmas.List.FromFn.{length-range_with_len}
 use Rattle.byteorder.specs.Endian.{little_number}
-use Rattle.vs_guest_mem.specs.Memory.{Memory, after_write}
+use Rattle.vs_guest_mem.specs.Memory.{Change, Memory, after_write}
 use Rattle.vs_layout.specs.Layout.{queue_areas_of}
 use Rattle.vs_layout.specs.declared.place.Areas.{Areas}
 use Rattle.vs_layout.specs.declared.placement.QueueAreas.{QueueAreas}
@@ -19,7 +19,8 @@ use Rattle.vs_ring_plain.specs.declared.turns.Turns.{Turns}
 use Rattle.vs_plain_ties.specs.Parts.{PartsState, cleared, cleared_queue, driver_at, new_parts, new_queue, pages_behind, pages_start}
 use Rattle.vs_plain_ties.specs.Queue.{IsQueueTied, times}
 use Rattle.vs_plain_ties.specs.Shown.{Shown, shown}
-use Rattle.vs_plain_ties.specs.Tie.{AreTied, IsAreaLaid, IsLaid, IsTiedAt, start_of}
+use Rattle.vs_plain_ties.specs.Tie.{AreTied, IsAreaLaid, IsLaid, IsTiedAt, IsTiedTo, start_of}
+use Rattle.vs_plain_ties.specs.Exposed.{first_ends}
 use Rattle.vs_plain_ties.proofs.Assemble.{laid_from}
 use Rattle.vs_plain_ties.proofs.Counting.{times-cons, times-other, times-self}
 use Rattle.vs_plain_ties.proofs.Frames.{length_written, written}
@@ -115,7 +116,12 @@ module _ (n : ℕ) (areas : Queue → Areas) (at : Queue → ℕ) (m : Memory) (
 
 -- one queue with no page in flight
 empty_tie : (queue : Queue) (n at : ℕ) (s : Shown) → 0 < n → s.avail ≡ 0 → s.used ≡ 0
-    → IsQueueTied queue n at s (new_queue n (Some at)) (record { taken = 0; used = 0 }) [] [] (record { given = []; back = []; place = 0 }) [] []
+    → IsQueueTied queue n at s (new_queue n (Some at)) (record { taken = 0; used = 0 }) [] [] (record {
+      given = [];
+      back = [];
+      place =
+          0;
+    }) [] []
 empty_tie queue n at s nonzero avail used = record {
   once = λ id. omega (arith, once_each id 0 n);
   all = omega (arith, length-range_with_len 0 n);
@@ -150,8 +156,10 @@ pages_there : (m : Memory) (end n at : ℕ) → pages_start m end n ≡ Some at 
 pages_there m end n at is = there_if m end n at (nat_le (rounded end + 3 * (4096 * n)) (m.base + length m.bytes)) refl is
 
 -- the three queues one after another, and their pages behind them
-module _ (m : Memory) (base n at : ℕ) (indirect : Bool) (nonzero : 0 < n) (limit : n ≤ 32768) (divides : 2 ^ 16 % n ≡ 0) (still : m.changes ≡ [])
-    (fits : m.base + length m.bytes < 2 ^ 64) (from : m.base ≤ base) (pages : pages_start m (queue_areas_of base n).event.end n ≡ Some at) where
+module _ (m : Memory) (base n at : ℕ) (indirect : Bool) (nonzero : 0 < n) (limit : n ≤ 32768) (divides : 2 ^ 16 % n
+    ≡ 0) (still : m.changes ≡ [])
+    (fits : m.base + length m.bytes < 2 ^ 64) (from : m.base ≤ base) (pages : pages_start m (queue_areas_of base n).event.end n
+    ≡ Some at) where
   abbrev all : QueueAreas
   all = queue_areas_of base n
 
@@ -314,7 +322,34 @@ module _ (m : Memory) (base n at : ℕ) (indirect : Bool) (nonzero : 0 < n) (lim
       queues : (q : Queue) → IsTiedAt made (empty_ends n) q
       queues Rx = ([], [], empty_tie Rx n at (shown all.rx at after_all) nonzero (avail Rx) (used Rx))
       queues Tx = ([], [], empty_tie Tx n (at + 4096 * n) (shown all.tx (at + 4096 * n) after_all) nonzero (avail Tx) (used Tx))
-      queues Event = ([], [], empty_tie Event n (at + 2 * (4096 * n)) (shown all.event (at + 2 * (4096 * n)) after_all) nonzero (avail Event) (used Event))
+      queues Event = (
+        [],
+        [],
+        empty_tie Event n (at + 2 * (4096 * n)) (shown all.event (at + 2 * (4096 * n)) after_all) nonzero (avail
+            Event) (used Event),
+      )
 
   pub new_tied : AreTied (new_parts m base n indirect 3) (empty_ends n)
   new_tied = subst (λ (p : PartsState). AreTied p (empty_ends n)) (sym made_is) made_tied
+
+no_changes : (changes : List Change) → (length changes == 0) ≡ true → changes ≡ []
+no_changes [] e = refl
+no_changes (x ∷ changes) e = absurd (false_is_not_true e)
+  where
+    false_is_not_true : (length (x ∷ changes) == 0) ≡ true → ⊥
+    false_is_not_true e = grind (arith, nat_tests, e)
+
+-- they are tied where they alone change the memory
+pub told_new : (m : Memory) (base n : ℕ) (indirect : Bool) → 0 < n → n ≤ 32768 → m.base + length m.bytes < 2 ^ 64 → m.base ≤ base
+    → IsTiedTo (new_parts m base n indirect 3) (first_ends m base n)
+told_new m base n indirect nonzero limit fits from =
+    by (length m.changes == 0) refl (pages_start m (queue_areas_of base n).event.end n) refl (2 ^ 16 % n == 0) refl
+  where
+    by : (a : Bool) → (length m.changes == 0) ≡ a → (o : Option ℕ) → pages_start m (queue_areas_of base n).event.end n ≡ o
+        → (c : Bool) → (2 ^ 16 % n == 0) ≡ c → IsTiedTo (new_parts m base n indirect 3) (cond (a && is_some o && c) (Some (empty_ends
+        n)) None)
+    by false still o pages c divides = tt
+    by true still None pages c divides = tt
+    by true still (Some at) pages false divides = tt
+    by true still (Some at) pages true divides =
+        new_tied m base n at indirect nonzero limit (grind (arith, nat_tests, divides)) (no_changes m.changes still) fits from pages

@@ -57,7 +57,8 @@ way Rx id at len = refl
 way Tx id at len = refl
 way Event id at len = refl
 
-long : (q : Queue) (at : ℕ) (page : List ℕ) → (q ≡ Tx → 44 ≤ length page) → (too_small q (total_len (piece_of (desc_for q at (length page)) ∷ []))).0 ≡ false
+long : (q : Queue) (at : ℕ) (page : List ℕ) → (q ≡ Tx → 44 ≤ length page) → (too_small q (total_len (piece_of (desc_for q at (length
+    page)) ∷ []))).0 ≡ false
 long Rx at page header = refl
 long Tx at page header = grind (arith, nat_tests, header refl)
 long Event at page header = refl
@@ -69,7 +70,8 @@ inside Tx base size at len from to few = grind (arith, nat_tests, from, to, few)
 inside Event base size at len from to few = grind (arith, nat_tests, from, to)
 
 -- the chain of a page, and its one piece
-chain_is : (q : Queue) (place at : ℕ) (page : List ℕ) → chain_at q place (piece_of (desc_for q at (length page)) ∷ []) ≡ chain_with q place page
+chain_is : (q : Queue) (place at : ℕ) (page : List ℕ) → chain_at q place (piece_of (desc_for q at (length page)) ∷ [])
+    ≡ chain_with q place page
 chain_is Rx place at page = refl
 chain_is Tx place at page =
     ap (λ (k : ℕ). let c : Chain = record { queue = Tx; place = place; readable = k; writable = 0 } in c) (omega arith)
@@ -127,7 +129,8 @@ module _ (p : PartsState) (w : Ends) (tied : AreTied p w) (queue : Queue) where
 
   busy_by : (b : Bool) → nat_le n (length (heads_of queue d.held)) ≡ b → is_busy queue n d.held ≡ b
   busy_by b test =
-      ap₂ (λ x y. nat_le n x || nat_lt 0 y) (count_heads queue d.held) (all_whole (start_of p) (shown_of p) queue d.held w.device.held tied.held)
+      ap₂ (λ x y. nat_le n x || nat_lt 0 y) (count_heads queue d.held) (all_whole (start_of p) (shown_of p) queue d.held w.device.held
+      tied.held)
       ∙ or_false (nat_le n (length (heads_of queue d.held))) ∙ test
     where
       or_false : (x : Bool) → (x || nat_lt 0 0) ≡ x
@@ -140,9 +143,27 @@ module _ (p : PartsState) (w : Ends) (tied : AreTied p w) (queue : Queue) where
     none_ends = same queue none
       where
         same : (r : Queue) → (queue_of r w.lists).given ≡ [] → after_device (Take r) w ≡ w
-        same Rx e = subst (λ (b : List (List ℕ)). let v : Ends = record w { lists = record w.lists { rx = record w.lists.rx { given = b } } } in after_device (Take Rx) v ≡ v) (sym e) refl
-        same Tx e = subst (λ (b : List (List ℕ)). let v : Ends = record w { lists = record w.lists { tx = record w.lists.tx { given = b } } } in after_device (Take Tx) v ≡ v) (sym e) refl
-        same Event e = subst (λ (b : List (List ℕ)). let v : Ends = record w { lists = record w.lists { event = record w.lists.event { given = b } } } in after_device (Take Event) v ≡ v) (sym e) refl
+        same Rx e = subst (λ (b : List (List ℕ)). let v : Ends = record w {
+          lists = record w.lists {
+            rx = record w.lists.rx {
+              given = b;
+            };
+          };
+        } in after_device (Take Rx) v ≡ v) (sym e) refl
+        same Tx e = subst (λ (b : List (List ℕ)). let v : Ends = record w {
+          lists = record w.lists {
+            tx = record w.lists.tx {
+              given = b;
+            };
+          };
+        } in after_device (Take Tx) v ≡ v) (sym e) refl
+        same Event e = subst (λ (b : List (List ℕ)). let v : Ends = record w {
+          lists = record w.lists {
+            event = record w.lists.event {
+              given = b;
+            };
+          };
+        } in after_device (Take Event) v ≡ v) (sym e) refl
 
     none_next : next_at queue l.place (next_given queue w.lists) ≡ next.None
     none_next = rw none refl
@@ -152,7 +173,8 @@ module _ (p : PartsState) (w : Ends) (tied : AreTied p w) (queue : Queue) where
     takes_none true at = (refl, tied)
     takes_none false at =
         let found = none_still (ring_at queue d) t.taken d.memory tied.still (at refl) in
-        subst (λ (x : Taken × Memory). let r = answer_taken queue x.0 (with_memory d x.1) in (r.0 ≡ next.None) × AreTied (record p { device = r.1 }) w)
+        subst (λ (x : Taken × Memory). let r = answer_taken queue x.0 (with_memory d x.1) in (r.0
+        ≡ next.None) × AreTied (record p { device = r.1 }) w)
         (sym found)
         (refl, quiet_step p w tied (after_access d.memory) (quietly_after d.memory d.memory (quietly_now d.memory tied.still)))
 
@@ -166,7 +188,8 @@ module _ (p : PartsState) (w : Ends) (tied : AreTied p w) (queue : Queue) where
 
   -- the page that was given first
   module _ (page : List ℕ) (pages : List (List ℕ)) (given_is : l.given ≡ page ∷ pages) (id : ℕ) (ids back : List ℕ)
-      (tie : IsQueueTied queue n (start_of p queue) s (driver_at queue p) t (heads_of queue d.held) (pages_at queue w.driver.staged) l (id ∷ ids) back)
+      (tie : IsQueueTied queue n (start_of p queue) s (driver_at queue p) t (heads_of queue d.held) (pages_at queue w.driver.staged) l
+      (id ∷ ids) back)
     where
       abbrev P : ℕ
       P = start_of p queue + 4096 * id
@@ -175,15 +198,18 @@ module _ (p : PartsState) (w : Ends) (tied : AreTied p w) (queue : Queue) where
       e = desc_for queue P (length page)
 
       first : IsOut queue (start_of p queue) s (t.taken % n) page id
-      first = (given_row queue n (start_of p queue) tied.laid.nonzero tied.laid.limit tied.laid.divides s (driver_at queue p) t (heads_of queue d.held)
+      first = (given_row queue n (start_of p queue) tied.laid.nonzero tied.laid.limit tied.laid.divides s (driver_at queue p) t
+          (heads_of queue d.held)
           (pages_at queue w.driver.staged) l page pages id ids back given_is tie).0
 
       below : id < n
-      below = (id_held queue n (start_of p queue) tied.laid.nonzero tied.laid.limit tied.laid.divides s (driver_at queue p) t (heads_of queue d.held)
+      below = (id_held queue n (start_of p queue) tied.laid.nonzero tied.laid.limit tied.laid.divides s (driver_at queue p) t (heads_of
+          queue d.held)
           (pages_at queue w.driver.staged) l page pages id ids back given_is tie).0
 
       counts : length (id ∷ ids) ≡ length l.given + length (pages_at queue w.driver.staged)
-      counts = out_count queue n (start_of p queue) tied.laid.nonzero tied.laid.limit tied.laid.divides s (driver_at queue p) t (heads_of queue d.held)
+      counts = out_count queue n (start_of p queue) tied.laid.nonzero tied.laid.limit tied.laid.divides s (driver_at queue p) t
+          (heads_of queue d.held)
           (pages_at queue w.driver.staged) l (id ∷ ids) back tie
 
       idle : is_busy queue n d.held ≡ false
@@ -234,7 +260,8 @@ module _ (p : PartsState) (w : Ends) (tied : AreTied p w) (queue : Queue) where
       answer_is : answer_to (Take queue) d ≡ (next.Chain hold.chain, (device_form queue after then_turns (hold ∷ d.held) p).device)
       answer_is =
           chosen (is_busy queue n d.held) (next.None, d) (answer_found queue d) idle
-          ∙ ap (λ (x : Taken × Memory). answer_taken queue x.0 (with_memory d x.1)) (taken_still (ring_at queue d) t.taken id e d.memory tied.still is_given)
+          ∙ ap (λ (x : Taken × Memory). answer_taken queue x.0 (with_memory d x.1)) (taken_still (ring_at queue d) t.taken id e
+          d.memory tied.still is_given)
 
       hold_chain : hold.chain ≡ chain_with queue l.place page
       hold_chain = chain_is queue (t.taken % n) P page ∙ ap (λ (k : ℕ). chain_with queue k page) (sym tie.place)
@@ -278,7 +305,8 @@ module _ (p : PartsState) (w : Ends) (tied : AreTied p w) (queue : Queue) where
                 (subst (λ (k : ℕ). IsQueueTied queue n (start_of p queue) s (driver_at queue p) then_turns (id ∷ heads_of queue d.held)
                 (pages_at queue w.driver.staged) (record l { given = pages; place = (l.place + 1) % k }) ids back)
                 (sym tied.size)
-                (tie_taken queue n (start_of p queue) tied.laid.nonzero tied.laid.limit tied.laid.divides s (driver_at queue p) t (heads_of queue d.held)
+                (tie_taken queue n (start_of p queue) tied.laid.nonzero tied.laid.limit tied.laid.divides s (driver_at queue p) t
+                (heads_of queue d.held)
                 (pages_at queue w.driver.staged) l page pages id ids back given_is tie))),
           )
           (λ r other. untouched_same n (shown_of p r) _ (seen p w tied after quietly r)) heads_beside

@@ -39,7 +39,8 @@ for_log : (role : Role) (log : EndLog) → IsFairLog role log.entries → ForSom
 for_log role log fair l e = let same : log ≡ l = cc in subst (λ (k : EndLog). IsFairLog role k.entries) same fair
 
 -- where nothing is known, a call of the driver is allowed
-quiet : (P : Rings → Type 0) (f : Rings → Rings) (Q : EndLog → Type 0) (g : EndLog → EndLog) → DriverMoves P f Q g (driver_told None) (driver_told None)
+quiet : (P : Rings → Type 0) (f : Rings → Rings) (Q : EndLog → Type 0) (g : EndLog → EndLog)
+    → DriverMoves P f Q g (driver_told None) (driver_told None)
 quiet P f Q g = record {
   lists = refl;
   log = refl;
@@ -81,7 +82,11 @@ device_quiet call answer P f Q g d new is = record {
 device_moves : (call : DeviceCall) (answer : DeviceAnswer call) (P : Rings → Type 0) (f : Rings → Rings) (Q : EndLog → Type 0)
     (g : EndLog → EndLog) (d new : DeviceState) (w : Ends) → answer_to call d ≡ (answer, new) → P w.lists → Q w.device
     → IsFairLog Device (g w.device).entries
-    → DeviceMoves call answer P f Q g (device_told d (Some w)) (device_told new (Some (record w { lists = f w.lists; device = g w.device })))
+    → DeviceMoves call answer P f Q g (device_told d (Some w)) (device_told new (Some (record w {
+      lists = f w.lists;
+      device = g
+          w.device;
+    })))
 device_moves call answer P f Q g d new w is p q fair = record {
   lists = (p, refl);
   log = (q, refl);
@@ -100,14 +105,15 @@ taken_as queue place (Some page) = (refl, refl)
 
 module _ (p : PartsState) where
   -- a page is staged
-  pub told_staged : (queue : Queue) (page : List ℕ) (ends : Option Ends) → IsTiedTo p ends → length page ≤ 4096 → (queue ≡ Tx → 44 ≤ length page)
-      → flight_in (driver_at queue p) < p.device.size → (driver_at queue p).n ≡ p.device.size
+  pub told_staged : (queue : Queue) (page : List ℕ) (ends : Option Ends) → IsTiedTo p ends → length page ≤ 4096 → (queue ≡ Tx
+      → 44 ≤ length page)
+      → flight_in (driver_at queue p) < p.device.size
       → IsTiedTo (staged_parts queue page p) (drives ends (after_driver (Stage queue page)))
-  told_staged queue page None tied fits header less size = tt
-  told_staged queue page (Some w) tied fits header less size = by (driver_at queue p).free refl
+  told_staged queue page None tied fits header less = tt
+  told_staged queue page (Some w) tied fits header less = by (driver_at queue p).free refl
     where
       by : (free : List ℕ) → (driver_at queue p).free ≡ free → AreTied (staged_parts queue page p) (after_driver (Stage queue page) w)
-      by [] none = absurd (omega (arith, less, size, ap length none))
+      by [] none = absurd (omega (arith, less, tied.sizes queue, ap length none))
       by (id ∷ rest) free = tied_staged p w tied queue page fits header id rest free
 
   pub allows_staged : (queue : Queue) (page : List ℕ) (ends : Option Ends) → IsTiedTo p ends
@@ -145,7 +151,8 @@ module _ (p : PartsState) where
   allows_reaped queue page None tied is = quiet _ _ _ _
   allows_reaped queue page (Some w) tied is =
       let page_is : page ≡ next_back queue w.lists = is ∙ (reaps p w tied queue).page in
-      subst (λ (x : Option (List ℕ)). DriverAllows (Reap queue) x (driver_told (Some w)) (driver_told (Some (after_driver (Reap queue) w)))) (sym page_is)
+      subst (λ (x : Option (List ℕ)). DriverAllows (Reap queue) x (driver_told (Some w)) (driver_told (Some (after_driver (Reap queue)
+      w)))) (sym page_is)
       (driver_moves _ _ _ _ w refl tt (reaps p w tied queue).tied_then.logs.driver_fair)
 
   -- the guest's CID is loaded
@@ -161,13 +168,16 @@ module _ (p : PartsState) where
       (driver_moves _ _ _ _ w refl tt (tied_loaded p w tied).logs.driver_fair)
 
   -- a chain is taken, or none
-  pub told_taken : (queue : Queue) (answer : Next) (new : DeviceState) (ends : Option Ends) → IsTiedTo p ends → answer_to (Take queue) p.device ≡ (answer, new)
+  pub told_taken : (queue : Queue) (answer : Next) (new : DeviceState) (ends : Option Ends) → IsTiedTo p ends
+      → answer_to (Take queue) p.device ≡ (answer, new)
       → IsTiedTo (record p { device = new }) (drives ends (after_device (Take queue)))
   told_taken queue answer new None tied is = tt
   told_taken queue answer new (Some w) tied is =
-      subst (λ (r : Next × DeviceState). AreTied (record p { device = r.1 }) (after_device (Take queue) w)) is (takes p w tied queue).tied_then
+      subst (λ (r : Next × DeviceState). AreTied (record p { device = r.1 }) (after_device (Take queue) w)) is (takes p w tied
+      queue).tied_then
 
-  pub allows_taken : (queue : Queue) (answer : Next) (new : DeviceState) (ends : Option Ends) → IsTiedTo p ends → answer_to (Take queue) p.device ≡ (answer, new)
+  pub allows_taken : (queue : Queue) (answer : Next) (new : DeviceState) (ends : Option Ends) → IsTiedTo p ends
+      → answer_to (Take queue) p.device ≡ (answer, new)
       → DeviceAllows (Take queue) answer (device_told p.device ends) (device_told new (drives ends (after_device (Take queue))))
   allows_taken queue answer new None tied is = (None, device_quiet (Take queue) answer _ _ _ _ p.device new is)
   allows_taken queue answer new (Some w) tied is =
@@ -211,7 +221,8 @@ module _ (p : PartsState) where
 
   pub allows_written : (c : Chain) (place : ℕ) (bytes : List ℕ) (new : DeviceState) (ends : Option Ends) → IsTiedTo p ends
       → answer_to (Write c place bytes) p.device ≡ (tt, new)
-      → DeviceAllows (Write c place bytes) tt (device_told p.device ends) (device_told new (drives ends (after_device (Write c place bytes))))
+      → DeviceAllows (Write c place bytes) tt (device_told p.device ends) (device_told new (drives ends (after_device (Write c place
+      bytes))))
   allows_written c place bytes new None tied is = device_quiet (Write c place bytes) tt _ _ _ _ p.device new is
   allows_written c place bytes new (Some w) tied is =
       device_moves (Write c place bytes) tt (λ x. Unit {0}) (λ x. x) (λ l. Unit {0}) _ p.device new w is tt tt tied.logs.device_fair
@@ -237,7 +248,8 @@ module _ (p : PartsState) where
   allows_returned c len new None tied is can = ([], device_quiet (Return c len) tt _ _ _ _ p.device new is)
   allows_returned c len new (Some w) tied is can = (
     bytes_in c w.device.held,
-    device_moves (Return c len) tt (λ x. Unit {0}) _ _ _ p.device new w is tt refl (whole_then c.queue _ w tied (can.whole refl w.device refl)),
+    device_moves (Return c len) tt (λ x. Unit {0}) _ _ _ p.device new w is tt refl (whole_then c.queue _ w tied (can.whole refl
+        w.device refl)),
   )
 
   -- the pages given are counted
@@ -258,7 +270,8 @@ module _ (p : PartsState) where
   )
 
   -- the guest's CID is published
-  pub told_reset : (cid : ℕ) (ends : Option Ends) → IsTiedTo p ends → IsTiedTo (record p { cid = cid }) (drives ends (after_device (PublishCid cid)))
+  pub told_reset : (cid : ℕ) (ends : Option Ends) → IsTiedTo p ends → IsTiedTo (record p { cid = cid }) (drives ends (after_device
+      (PublishCid cid)))
   told_reset cid None tied = tt
   told_reset cid (Some w) tied = tied_reset p w tied cid
 
@@ -266,4 +279,5 @@ module _ (p : PartsState) where
       → DeviceAllows (PublishCid cid) tt (device_told p.device ends) (device_told p.device (drives ends (after_device (PublishCid cid))))
   allows_reset cid None tied = device_quiet (PublishCid cid) tt _ _ _ _ p.device p.device refl
   allows_reset cid (Some w) tied =
-      device_moves (PublishCid cid) tt (λ x. Unit {0}) _ (λ l. Unit {0}) _ p.device p.device w refl tt tt (tied_reset p w tied cid).logs.device_fair
+      device_moves (PublishCid cid) tt (λ x. Unit {0}) _ (λ l. Unit {0}) _ p.device p.device w refl tt tt (tied_reset p w tied
+      cid).logs.device_fair

@@ -44,7 +44,8 @@ parts_staged p = record { rx = p.rx.staged; tx = p.tx.staged; event = p.event.st
 abbrev pub staged_parts : Queue → List ℕ → PartsState → PartsState
 staged_parts queue page p =
     let q = driver_at queue p in
-    with_driver queue (staged_queue page q) (with_parts_memory (staged_memory queue page (areas_at queue p.device.areas) q p.device.memory) p)
+    with_driver queue (staged_queue page q) (with_parts_memory (staged_memory queue page (areas_at queue p.device.areas) q
+    p.device.memory) p)
 
 abbrev pub published_parts : Queue → PartsState → PartsState
 published_parts queue p =

@@ -26,7 +26,8 @@ pub record IsOut (queue : Queue) (at : ℕ) (s : Shown) (place : ℕ) (page : Li
 -- Pages stand one after another from an index on, by these descriptors.
 abbrev pub AreOut : Queue → ℕ → ℕ → Shown → ℕ → List (List ℕ) → List ℕ → Type 0
 AreOut queue n at s index [] [] = ⊤
-AreOut queue n at s index (page ∷ pages) (id ∷ ids) = IsOut queue at s (index % n) page id × AreOut queue n at s (index + 1) pages ids
+AreOut queue n at s index (page ∷ pages) (id ∷ ids) =
+    IsOut queue at s (index % n) page id × AreOut queue n at s (index + 1) pages ids
 AreOut queue n at s index _ _ = ⊥
 
 -- A page that was returned stands in the used ring at a place, by its descriptor and its length, and its bytes lie in the descriptor's page.
@@ -44,8 +45,8 @@ AreBack n s index _ _ = ⊥
 abbrev pub HasPage : List (Option (List ℕ)) → ℕ → Type 0
 HasPage pages id = (page : List ℕ) × (slice_index_or pages id None ≡ Some page)
 
--- A queue of n places whose pages lie from an address on. Each descriptor is free; or staged or given, `out`; or held by the device, `heads`;
--- or returned, `back`. The indices in the memory are those of both ends, and they count the pages in each list.
+-- A queue of n places whose pages lie from an address on. Each descriptor is free; or staged or given, `out`; or held by the device,
+-- `heads`; or returned, `back`. The indices in the memory are those of both ends, and they count the pages in each list.
 pub record IsQueueTied (queue : Queue) (n at : ℕ) (s : Shown) (q : DriverQueueState) (t : Turns) (heads : List ℕ) (staged : List (List ℕ))
     (l : Lists) (out back : List ℕ) : Type 0 where
   pub once : (id : ℕ) → times id q.free + times id out + times id heads + times id back ≤ 1

@@ -71,7 +71,8 @@ shown_of p queue = shown (areas_of p queue) (start_of p queue) p.device.memory
 
 -- One queue of both ends.
 abbrev pub IsTiedAt : PartsState → Ends → Queue → Type 0
-IsTiedAt p w queue = (out : List ℕ) × (back : List ℕ) × IsQueueTied queue p.device.size (start_of p queue) (shown_of p queue) (driver_at queue p)
+IsTiedAt p w queue = (out : List ℕ) × (back : List ℕ) × IsQueueTied queue p.device.size (start_of p queue) (shown_of p queue)
+    (driver_at queue p)
     (turns_at queue p.device.turns) (heads_of queue p.device.held) (pages_at queue w.driver.staged) (queue_of queue w.lists) out back
 
 -- Both ends: nobody else changes the memory, the lists lie in it, and what is under way is just what one end put and the other didn't get.
