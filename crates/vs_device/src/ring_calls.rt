@@ -29,8 +29,18 @@ pub(crate) fn read_header<R: DeviceRing>(ring: &mut R, chain: &Chain) -> Header
     ensures held { R.held ring.new ≡ R.held ring.old }
 {
     let mut bytes = [0; HEADER_LEN];
-    ring.read(chain, 0, &mut bytes);
+    read_front(ring, chain, &mut bytes);
     Header::decode(&bytes)
+}
+
+// Reads the first bytes of a chain, as many as `out` has.
+fn read_front<R: DeviceRing>(ring: &mut R, chain: &Chain, out: &mut [u8])
+    requires is_held { Contains (R.held ring.old) chain.now }
+    requires in_range { length out.old ≤ chain.now.readable }
+    ensures calls { AllowsOnRing (Read chain.now 0 (length out.old)) out.new (R.contents ring.old) (R.contents ring.new) }
+    ensures held { R.held ring.new ≡ R.held ring.old }
+{
+    ring.read(chain, 0, out);
 }
 
 /// Reads a payload of `len` bytes, which follows the header, into the front of `out`.

@@ -8,11 +8,12 @@ use Rattle.vs_page.specs.Log.{Device}
 use Rattle.vs_ring_port.specs.EndLog.{EndLog}
 use Rattle.vs_matching.specs.Ends.{FlowEnd, flows_of, is_among}
 use Rattle.vs_matching.proofs.Tables.{all_open}
-use Rattle.vs_device.specs.Calls.{Call, Accept, Dial, Label, ReadStream, WriteStream, ShutWrite, CloseStream, DeviceTree, Ring, Situation}
-use Rattle.vs_device.specs.Playing.{CanMake, Runs}
+use Rattle.vs_ring_port.specs.Contents.{Take, Read, Write, Return, Given, PublishCid}
+use Rattle.vs_device.specs.Calls.{Allows, Answer, Call, Accept, Dial, Label, ReadStream, WriteStream, ShutWrite, CloseStream, DeviceTree, Ring, Situation}
+use Rattle.vs_device.specs.Playing.{CanMake, MayRun, Runs}
 use Rattle.vs_device.specs.State.{DeviceEntry, DeviceState}
 use Rattle.vs_device.specs.Turns.{table_shown}
-use Rattle.vs_device_log.specs.Answers.{CanMakeOnHost, CanMakeOnRing, MayRunFit, MayRunHost, MayRunRing, RunsFit}
+use Rattle.vs_device_log.specs.Answers.{IsFitAnswer, CanMakeOnHost, CanMakeOnRing, MayRunFit, MayRunHost, MayRunRing, RunsFit}
 use Rattle.vs_device_log.specs.Honest.{AgreesWith, IsLeftOpen, ends_of_state, flows_shown}
 use Rattle.vs_device_log.proofs.Tabling.{entry_fits}
 
@@ -52,3 +53,28 @@ both_may (Ask call next) s ring host = (
   both call s ring.0 host.0,
   λ a t allowed. both_may (next a) t (ring.1 a t allowed) (host.1 a t allowed),
 )
+
+-- Every ring and every host keeps to the bounds of a call.
+fits : (call : Call) (a : Answer call) (s t : Situation) → Allows call a s t → IsFitAnswer call a
+fits (Ring (Take queue)) a s t allowed = allowed.3
+fits (Ring (Read chain place count)) a s t allowed = allowed.3
+fits (Ring (Write chain place bytes)) a s t allowed = tt
+fits (Ring (Return chain len)) a s t allowed = tt
+fits (Ring (Given queue)) a s t allowed = tt
+fits (Ring (PublishCid cid)) a s t allowed = tt
+fits Accept a s t allowed = tt
+fits (Dial path flow) a s t allowed = tt
+fits (Label stream flow) a s t allowed = tt
+fits (ReadStream stream n) a s t allowed = allowed.fit
+fits (WriteStream stream bytes) a s t allowed = allowed.fit
+fits (ShutWrite stream) a s t allowed = tt
+fits (CloseStream stream) a s t allowed = tt
+
+pub fit_answers : {A : Type 0} (tree : DeviceTree A) (s t : Situation) (x : A) → Runs tree s x t → RunsFit tree s x t
+fit_answers (Done y) s t x runs = runs
+fit_answers (Ask call next) s t x runs =
+    (runs.0, runs.1, (fits call runs.0 s runs.1 runs.2, runs.2), fit_answers (next runs.0) runs.1 t x runs.3)
+
+pub fit_may : {A : Type 0} (tree : DeviceTree A) (s : Situation) → MayRunFit tree s → MayRun tree s
+fit_may (Done x) s may = tt
+fit_may (Ask call next) s may = (may.0, λ a t allowed. fit_may (next a) t (may.1 a t (fits call a s t allowed, allowed)))

@@ -39,7 +39,8 @@ use Rattle.vs_device.specs.State.{DeviceConnection, DeviceEntry, DeviceState}
 use Rattle.vs_device.specs.Streams.{Writing, closing, is_written_out, pump_of, pump_slot, shut_write, tick_of, tick_slot, to_write, write_answered, write_pending}
 use Rattle.vs_device.specs.Transmitting.{failing}
 use Rattle.vs_device.specs.Turns.{after_reset, close_slot, new_device, open_of, reset_of}
-use Rattle.vs_device_log.specs.Answers.{IsFitAnswer, TakesWithin}
+use Rattle.vs_device.specs.Calls.{TakesWithin}
+use Rattle.vs_device_log.specs.Answers.{IsFitAnswer}
 use Rattle.vs_device_log.specs.Honest.{AgreesWith, IsFit, IsFitFlow, IsFitState, IsFresh, IsLeft, IsToldOf, IsWith, end_in, ends_of_state, port_after, unwritten}
 use Rattle.vs_device_log.proofs.Changing.{Changes, cuts, same, shuts, unseen, writes}
 use Rattle.vs_device_log.proofs.Filling.{under_there}

@@ -1,24 +1,10 @@
 -- What ring and host may answer beside what they expose, and the conversations over such answers.
-use Rattle.std.specs.Prelude.{◌≡◌, ℕ, ◌<◌, ◌≤◌, length, slice_index, IfSome}
+use Rattle.std.specs.Prelude.{ℕ, ◌<◌, ◌≤◌, length, slice_index, IfSome}
 use Rattle.vs_contents.specs.CallTree.{Leads, MayPlay}
-use Rattle.vs_outside.specs.declared.host_net.StreamWrite.{StreamWrite}
-use Rattle.vs_outside.specs.declared.host_net.StreamWrite.TheVariants as write
-use Rattle.vs_ring_port.specs.declared.device_ring.Chain.{Chain}
-use Rattle.vs_ring_port.specs.declared.queue.Queue.{Queue}
-use Rattle.vs_ring_port.specs.Chains.{IsLongEnough, chain_of}
+use Rattle.vs_ring_port.specs.Chains.{chain_of}
 use Rattle.vs_ring_port.specs.Contents.{Take, Read}
-use Rattle.vs_device.specs.Calls.{Call, Answer, Ring, ReadStream, WriteStream, Situation, DeviceTree, Allows}
+use Rattle.vs_device.specs.Calls.{Call, Answer, Ring, ReadStream, WriteStream, Situation, DeviceTree, Allows, IsFitChain, TakesWithin}
 use Rattle.vs_device.specs.Playing.{CanMake}
-
--- A chain that a queue gives is of that queue, and long enough for it.
-pub record IsFitChain (queue : Queue) (chain : Chain) : Type 0 where
-  pub queue_is : chain.queue ≡ queue
-  pub long : IsLongEnough queue chain
-
--- A write takes no more bytes than it is given.
-abbrev pub TakesWithin : ℕ → StreamWrite → Type 0
-TakesWithin n (write.Took k) = k ≤ n
-TakesWithin n _ = Unit {0}
 
 -- Ring and host keep to the bounds of a call: a chain fits its queue, a byte has 8 bits, and a stream gives and takes no more than there is
 -- room for.

@@ -10,7 +10,7 @@ ghost use Rattle.vs_ring_port.specs.Contents.{RingContents};
 ghost use Rattle.vs_ring_port.specs.EndLog.{EndLog};
 ghost use Rattle.vs_ring_port.specs.declared.failure.Failure.{Failure};
 ghost use Rattle.vs_device.specs.Calls.{DeviceTree, Situation};
-ghost use Rattle.vs_device.specs.Playing.{Runs};
+ghost use Rattle.vs_device.specs.Playing.{MayRun, Runs};
 ghost use Rattle.vs_device.specs.Receiving.{fill_rx_of, pay_event_of};
 ghost use Rattle.vs_device.specs.State.{DeviceEntry, DeviceState};
 ghost use Rattle.vs_device.specs.Streams.{Writing, pump_of, tick_of};
@@ -66,9 +66,11 @@ pub fn law_of_the_table()
     ensures no_overrun { (first port : ℕ) (s : DeviceState) (l : EndLog) → AgreesWith first port s l → s.overrun ≡ 0 }
 {}
 
-/// A conversation over ring and host that keep to the bounds of each call is one over any. What the ring asks and what the host asks of its calls
-/// is all that is asked.
+/// A conversation over ring and host that keep to the bounds of each call is one over any, and the other way round: every ring and every host keeps
+/// to them. What the ring asks and what the host asks of its calls is all that is asked.
 pub fn law_of_answers<T>()
     ensures answers { (tree : DeviceTree T) (a b : Situation) (x : T) → RunsFit tree a x b → Runs tree a x b }
+    ensures fit { (tree : DeviceTree T) (a b : Situation) (x : T) → Runs tree a x b → RunsFit tree a x b }
     ensures may { (tree : DeviceTree T) (a : Situation) → MayRunRing tree a → MayRunHost tree a → MayRunFit tree a }
+    ensures may_run { (tree : DeviceTree T) (a : Situation) → MayRunFit tree a → MayRun tree a }
 {}
