@@ -1,5 +1,5 @@
 -- The calls that a device makes on its ring and on its host, and the answers that they may get.
-use Rattle.std.specs.Prelude.{◌≡◌, ℕ, Bool, false, List, length, Option}
+use Rattle.std.specs.Prelude.{◌≡◌, ℕ, ◌<◌, ◌≤◌, Bool, false, List, length, slice_index, Option, IfSome}
 use Rattle.vs_contents.specs.CallTree.{CallTree}
 use Rattle.vs_contents.specs.Contents.{Exposes}
 use Rattle.vs_flow.specs.declared.flow.Flow.{Flow}
@@ -10,7 +10,11 @@ use Rattle.vs_outside.specs.declared.host_net.Dialed.{Dialed}
 use Rattle.vs_outside.specs.declared.host_net.StreamRead.{StreamRead}
 use Rattle.vs_outside.specs.declared.host_net.StreamRead.TheVariants as read
 use Rattle.vs_outside.specs.declared.host_net.StreamWrite.{StreamWrite}
-use Rattle.vs_ring_port.specs.Contents.{RingContents, DeviceCall, DeviceAnswer}
+use Rattle.vs_outside.specs.declared.host_net.StreamWrite.TheVariants as write
+use Rattle.vs_ring_port.specs.Chains.{IsLongEnough, chain_of}
+use Rattle.vs_ring_port.specs.Contents.{RingContents, DeviceCall, DeviceAnswer, Take, Read}
+use Rattle.vs_ring_port.specs.declared.device_ring.Chain.{Chain}
+use Rattle.vs_ring_port.specs.declared.queue.Queue.{Queue}
 use Rattle.vs_ring_port.specs.DeviceCalls.{DeviceAllows}
 
 -- A call on the ring or on the host. A read of a stream is into a buffer of so many bytes.
@@ -53,12 +57,32 @@ abbrev pub IsReadOf : ℕ → ℕ → StreamRead × List ℕ → HostContents �
 IsReadOf stream n (read.Got k, bytes) c = (read.Got k ≡ read_answer stream n c) × (bytes ≡ next_bytes stream k c)
 IsReadOf stream n (answer, bytes) c = answer ≡ read_answer stream n c
 
+-- A chain that a queue gives is of that queue, and long enough for it.
+pub record IsFitChain (queue : Queue) (chain : Chain) : Type 0 where
+  pub queue_is : chain.queue ≡ queue
+  pub long : IsLongEnough queue chain
+
+-- A ring keeps to the bounds of a call: a chain fits its queue, and a byte has 8 bits.
+abbrev pub IsFitAnswer : (call : DeviceCall) → DeviceAnswer call → Type 0
+IsFitAnswer (Take queue) next = IfSome (chain_of next) (IsFitChain queue)
+IsFitAnswer (Read chain place count) bytes = (i : ℕ) → slice_index bytes i < 256
+IsFitAnswer _ a = Unit {0}
+
+-- A write takes no more bytes than it is given.
+abbrev pub TakesWithin : ℕ → StreamWrite → Type 0
+TakesWithin n (write.Took k) = k ≤ n
+TakesWithin n _ = Unit {0}
+
+-- A stream gives no more bytes than there is room for, and takes no more than it is given.
 abbrev pub Allows : (call : Call) → Answer call → Situation → Situation → Type 0
-Allows (Ring call) a old new = DeviceAllows call a old.ring new.ring × (new.host ≡ old.host) × (new.faults ≡ old.faults)
+Allows (Ring call) a old new =
+    DeviceAllows call a old.ring new.ring × (new.host ≡ old.host) × (new.faults ≡ old.faults) × IsFitAnswer call a
 Allows Accept a old new = HostMoves (accept_failed a) (λ c. a ≡ accept_answer c) (after_accept a) old new
 Allows (Dial path flow) a old new = HostMoves (dial_failed a) (IsDialed path a) (after_dial flow a) old new
 Allows (Label stream flow) a old new = HostMoves false (λ c. Unit {0}) (after_label stream flow) old new
-Allows (ReadStream stream n) a old new = HostMoves (read_failed a.0) (IsReadOf stream n a) (after_read stream a.0) old new
-Allows (WriteStream stream bytes) a old new = HostMoves (write_failed a) (IsWritten stream (length bytes) a) (after_write stream bytes a) old new
+Allows (ReadStream stream n) a old new =
+    HostMoves (read_failed a.0) (IsReadOf stream n a) (after_read stream a.0) old new × (length a.1 ≤ n)
+Allows (WriteStream stream bytes) a old new =
+    HostMoves (write_failed a) (IsWritten stream (length bytes) a) (after_write stream bytes a) old new × TakesWithin (length bytes) a
 Allows (ShutWrite stream) a old new = HostMoves false (λ c. Unit {0}) (after_shut_write stream) old new
 Allows (CloseStream stream) a old new = HostMoves false (λ c. Unit {0}) (after_close stream) old new

@@ -1,6 +1,6 @@
 //! The device's calls on the ring, each as it stands in a conversation.
 
-ghost use Rattle.std.specs.Prelude.{◌≡◌, ◌≤◌, ◌+◌, List, ℕ, IfSome, Contains, length, take};
+ghost use Rattle.std.specs.Prelude.{◌≡◌, ◌<◌, ◌≤◌, ◌+◌, List, ℕ, IfSome, Contains, length, slice_index, take};
 ghost use Rattle.vs_header.specs.Packet.{header_of};
 ghost use Rattle.vs_header.specs.declared.TheConstants.{HEADER_LEN};
 ghost use Rattle.vs_ring_port.specs.Chains.{chain_of, held_after, IsLongEnough, without};
@@ -30,8 +30,14 @@ pub(crate) fn read_header<R: DeviceRing>(ring: &mut R, chain: &Chain) -> Header
 {
     let mut bytes = [0; HEADER_LEN];
     ring.read(chain, 0, &mut bytes);
+    are_bounded(&bytes);
     Header::decode(&bytes)
 }
+
+// A byte has 8 bits.
+fn are_bounded(bytes: &[u8])
+    ensures { (i : ℕ) → slice_index bytes.now i < 256 }
+{}
 
 /// Reads a payload of `len` bytes, which follows the header, into the front of `out`.
 pub(crate) fn read_payload<R: DeviceRing>(ring: &mut R, chain: &Chain, len: usize, out: &mut [u8])

@@ -1,4 +1,4 @@
--- The table that is shown and what is pending, and the log; the answers of fit rings and hosts, and of any.
+-- The table that is shown and what is pending, and the log; what ring and host ask.
 use Rattle.std.proofs.Common.{◌≡◌, ℕ, ◌≤◌, ◌||◌, List, [], ◌∷◌, map, length, Contains, refl, ap, ◌∙◌, arith}
 use Rattle.vs_contents.specs.CallTree.{Done, Ask}
 use Rattle.vs_conn.specs.End.{ConnectionEnd}
@@ -9,10 +9,10 @@ use Rattle.vs_ring_port.specs.EndLog.{EndLog}
 use Rattle.vs_matching.specs.Ends.{FlowEnd, flows_of, is_among}
 use Rattle.vs_matching.proofs.Tables.{all_open}
 use Rattle.vs_device.specs.Calls.{Call, Accept, Dial, Label, ReadStream, WriteStream, ShutWrite, CloseStream, DeviceTree, Ring, Situation}
-use Rattle.vs_device.specs.Playing.{CanMake, Runs}
+use Rattle.vs_device.specs.Playing.{CanMake, MayRun}
 use Rattle.vs_device.specs.State.{DeviceEntry, DeviceState}
 use Rattle.vs_device.specs.Turns.{table_shown}
-use Rattle.vs_device_log.specs.Answers.{CanMakeOnHost, CanMakeOnRing, MayRunFit, MayRunHost, MayRunRing, RunsFit}
+use Rattle.vs_device_log.specs.Answers.{CanMakeOnHost, CanMakeOnRing, MayRunHost, MayRunRing}
 use Rattle.vs_device_log.specs.Honest.{AgreesWith, IsLeftOpen, ends_of_state, flows_shown}
 use Rattle.vs_device_log.proofs.Tabling.{entry_fits}
 
@@ -30,11 +30,6 @@ pub pending_within : (first port : ℕ) (s : DeviceState) (l : EndLog) (e : Devi
 pending_within first port s l e agrees there =
     let bytes = (entry_fits s agrees.fits e there).bytes in omega (arith, bytes.unread, bytes.within, bytes.alloc)
 
--- A conversation over fit answers is one over any.
-pub any_answers : {A : Type 0} (tree : DeviceTree A) (s t : Situation) (x : A) → RunsFit tree s x t → Runs tree s x t
-any_answers (Done y) s t x runs = runs
-any_answers (Ask call next) s t x runs = (runs.0, runs.1, runs.2.1, any_answers (next runs.0) runs.1 t x runs.3)
-
 -- What ring and host ask is all that is asked.
 both : (call : Call) (s : Situation) → CanMakeOnRing call s → CanMakeOnHost call s → CanMake call s
 both (Ring call) s ring host = ring
@@ -46,7 +41,7 @@ both (WriteStream stream bytes) s ring host = host
 both (ShutWrite stream) s ring host = host
 both (CloseStream stream) s ring host = host
 
-pub both_may : {A : Type 0} (tree : DeviceTree A) (s : Situation) → MayRunRing tree s → MayRunHost tree s → MayRunFit tree s
+pub both_may : {A : Type 0} (tree : DeviceTree A) (s : Situation) → MayRunRing tree s → MayRunHost tree s → MayRun tree s
 both_may (Done x) s ring host = tt
 both_may (Ask call next) s ring host = (
   both call s ring.0 host.0,

@@ -10,14 +10,13 @@ use Rattle.vs_ring_port.specs.declared.device_ring.Chain.{Chain}
 use Rattle.vs_ring_port.specs.declared.device_ring.Next.{Next}
 use Rattle.vs_ring_port.specs.declared.device_ring.Next.TheVariants as next
 use Rattle.vs_ring_port.specs.declared.queue.Queue.TheVariants.{Rx}
-use Rattle.vs_device.specs.Calls.{CloseStream, DeviceTree, Ring}
+use Rattle.vs_device.specs.Calls.{CloseStream, DeviceTree, IsFitAnswer, Ring}
 use Rattle.vs_device.specs.Connections.{with_connection}
 use Rattle.vs_device.specs.Playing.{IsRxChain}
 use Rattle.vs_device.specs.Receiving.{Filling, hold, holding}
 use Rattle.vs_device.specs.State.{DeviceConnection, DeviceEntry, DeviceState}
 use Rattle.vs_device.specs.Streams.{closing}
 use Rattle.vs_device.specs.Transmitting.{failing}
-use Rattle.vs_device_log.specs.Answers.{IsFitAnswer}
 use Rattle.vs_device_log.specs.Honest.{AgreesWith, IsFitState, IsToldOf, IsWith, unwritten}
 use Rattle.vs_device_log.proofs.Changing.{Changes}
 use Rattle.vs_device_log.proofs.Keeping.{Goes, Keeps, keeps_bind, keeps_then}
@@ -68,7 +67,7 @@ module _ (first port : ℕ) where
   abbrev with_chain : Option Chain → Filling → Filling
   with_chain o r = record r { state = record r.state { chain = o } }
 
-  took : (s : DeviceState) (answer : Next) (c d : RingContents) → s.chain ≡ None → s.failed ≡ None → IsFitAnswer (Ring (Take Rx)) answer
+  took : (s : DeviceState) (answer : Next) (c d : RingContents) → s.chain ≡ None → s.failed ≡ None → IsFitAnswer (Take Rx) answer
       → DeviceAllows (Take Rx) answer c d → IsWith first port s c → (r : Filling) → r.state ≡ s → IsWith first port (holding answer r).state d
   took s (next.Chain chain) c d none going fit made holds r is =
       let P : DeviceState → Type 0 = λ x. IsWith first port (record x { chain = Some chain }) d in

@@ -31,11 +31,10 @@ use Rattle.vs_matching.proofs.Fair.{own_got_fair}
 use Rattle.vs_device.specs.declared.answers.Taken.{Taken}
 use Rattle.vs_device.specs.declared.answers.Taken.TheVariants as taken
 use Rattle.vs_device.specs.declared.limits.TheConstants.{REPLIES}
-use Rattle.vs_device.specs.Calls.{DeviceTree, Ring}
+use Rattle.vs_device.specs.Calls.{DeviceTree, IsFitAnswer, Ring}
 use Rattle.vs_device.specs.Playing.{IsRxChain}
 use Rattle.vs_device.specs.State.{DeviceState}
 use Rattle.vs_device.specs.Transmitting.{failing, on_header, on_next, on_packet, take_tx_of}
-use Rattle.vs_device_log.specs.Answers.{IsFitAnswer}
 use Rattle.vs_device_log.specs.Honest.{AgreesWith, IsLeft, IsToldOf, IsWith, unwritten}
 use Rattle.vs_device_log.proofs.Hearing.{After, Came, Heard, IsCome, packet_keeps}
 use Rattle.vs_device_log.proofs.Keeping.{Keeps, keeps_then}
@@ -206,7 +205,7 @@ module _ (first port : ℕ) (s : DeviceState) where
           )) tells),
     )
 
-  next_keeps : (answer : Next) (c d : RingContents) → s.failed ≡ None → IsFitAnswer (Ring (Take Tx)) answer → DeviceAllows (Take Tx) answer c d
+  next_keeps : (answer : Next) (c d : RingContents) → s.failed ≡ None → IsFitAnswer (Take Tx) answer → DeviceAllows (Take Tx) answer c d
       → IsWith first port s c → Keeps TakeEnds (on_next answer s) d
   next_keeps (next.Chain chain) c d going fit made holds =
       read_keeps chain fit.long fit.queue_is holds.0 going d

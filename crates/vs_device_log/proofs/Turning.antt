@@ -31,7 +31,7 @@ use Rattle.vs_matching.specs.Matches.{Matches}
 use Rattle.vs_matching.specs.Steps.{IsNextFlow}
 use Rattle.vs_matching.proofs.Keeps.{asks, makes_reset, puts_event, start_matches}
 use Rattle.vs_matching.proofs.Slots.{added_slot, found_by}
-use Rattle.vs_device.specs.Calls.{CloseStream, DeviceTree, Label, Ring, ShutWrite, WriteStream}
+use Rattle.vs_device.specs.Calls.{CloseStream, DeviceTree, IsFitAnswer, Label, Ring, TakesWithin, ShutWrite, WriteStream}
 use Rattle.vs_device.specs.Connections.{after_shut, after_written, cut_off, is_timed_out, new_connection, stream_closed, with_client, with_connection, with_fault}
 use Rattle.vs_device.specs.Playing.{IsRxChain}
 use Rattle.vs_device.specs.Receiving.{event_on, pay_event_of}
@@ -39,7 +39,6 @@ use Rattle.vs_device.specs.State.{DeviceConnection, DeviceEntry, DeviceState}
 use Rattle.vs_device.specs.Streams.{Writing, closing, is_written_out, pump_of, pump_slot, shut_write, tick_of, tick_slot, to_write, write_answered, write_pending}
 use Rattle.vs_device.specs.Transmitting.{failing}
 use Rattle.vs_device.specs.Turns.{after_reset, close_slot, new_device, open_of, reset_of}
-use Rattle.vs_device_log.specs.Answers.{IsFitAnswer, TakesWithin}
 use Rattle.vs_device_log.specs.Honest.{AgreesWith, IsFit, IsFitFlow, IsFitState, IsFresh, IsLeft, IsToldOf, IsWith, end_in, ends_of_state, port_after, unwritten}
 use Rattle.vs_device_log.proofs.Changing.{Changes, cuts, same, shuts, unseen, writes}
 use Rattle.vs_device_log.proofs.Filling.{under_there}
@@ -153,7 +152,7 @@ module _ (first port : ℕ) where
       ),
     )
 
-    event_keeps : (answer : Next) (c d : RingContents) → s.failed ≡ None → IsFitAnswer (Ring (Take Event)) answer → DeviceAllows (Take Event) answer c d
+    event_keeps : (answer : Next) (c d : RingContents) → s.failed ≡ None → IsFitAnswer (Take Event) answer → DeviceAllows (Take Event) answer c d
         → IsWith first port s c → Keeps PayEnds (event_on answer s) d
     event_keeps (next.Chain chain) c d going fit made holds =
         write_keeps first port s PayEnds (Ask (Ring (Return chain 4)) (λ _. Done (record s { event_owed = false }, Ok true))) chain [] (little_bytes 4 0) 0
