@@ -9,7 +9,7 @@ use Rattle.vs_ring_port.specs.declared.queue.Queue.{Queue}
 use Rattle.vs_ring_plain.specs.Device.{DeviceState, answer_to, chains_held}
 use Rattle.vs_ring_plain.proofs.Calls as calls
 use Rattle.vs_plain_rings.specs.Contents.{device_contents}
-use Rattle.vs_plain_rings.specs.Parts.{PartsState}
+use Rattle.vs_plain_ties.specs.Parts.{PartsState}
 
 pub allowed : (call : DeviceCall) (answer : DeviceAnswer call) (old new : PartsState) → answer_to call old.device ≡ (answer, new.device)
     → DeviceAllows call answer (device_contents old) (device_contents new)

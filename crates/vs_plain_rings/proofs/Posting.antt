@@ -18,7 +18,7 @@ use Rattle.vs_ring_port.specs.declared.queue.Queue.{Queue}
 use Rattle.vs_ring_port.specs.declared.queue.Queue.TheVariants.{Rx, Tx, Event}
 use Rattle.vs_plain_driver.specs.Queue.{desc_for}
 use Rattle.vs_plain_rings.specs.Posting.{CanPost, idle_queue, posted, ring_of}
-use Rattle.vs_plain_rings.proofs.Frames.{inner, kept, length_written, written}
+use Rattle.vs_plain_ties.proofs.Frames.{inner, kept, length_written, written}
 
 -- a descriptor's bytes hold it
 pub desc_back : (d : Desc) → d.addr < 2 ^ 64 → d.len < 2 ^ 32 → d.flags < 2 ^ 16 → d.next < 2 ^ 16 → desc_of (desc_bytes d) ≡ d

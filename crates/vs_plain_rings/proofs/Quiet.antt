@@ -6,7 +6,7 @@ use Rattle.vs_ring_port.specs.EndLog.{EndLog}
 use Rattle.vs_ring_port.specs.Lists.{Rings}
 use Rattle.vs_ring_port.specs.declared.queue.Queue.{Queue}
 use Rattle.vs_plain_rings.specs.Contents.{driver_contents}
-use Rattle.vs_plain_rings.specs.Parts.{PartsState}
+use Rattle.vs_plain_ties.specs.Parts.{PartsState}
 
 moves : (P : Rings → Type 0) (f : Rings → Rings) (Q : EndLog → Type 0) (g : EndLog → EndLog) (old new : PartsState)
     → DriverMoves P f Q g (driver_contents old) (driver_contents new)

@@ -17,7 +17,7 @@ use Rattle.vs_ring_plain.proofs.Still.{is_quiet, quiet}
 use Rattle.vs_ring_port.specs.declared.queue.Queue.{Queue}
 use Rattle.vs_plain_driver.specs.Queue.{DriverQueueState, flight_in, next_elem, next_used, numbered, page_back, reaped_page}
 use Rattle.vs_plain_rings.specs.Posting.{CanReap, returned, ring_of}
-use Rattle.vs_plain_rings.proofs.Frames.{inner, kept, length_written, written}
+use Rattle.vs_plain_ties.proofs.Frames.{inner, kept, length_written, written}
 
 -- an element's bytes hold it
 elem_back : (e : UsedElem) → e.id < 2 ^ 32 → e.len < 2 ^ 32 → used_elem_of (used_elem_bytes e) ≡ e

@@ -2,7 +2,7 @@
 use Rattle.std.specs.Prelude.{Some, None, false}
 use Rattle.vs_ring_port.specs.Contents.{RingContents}
 use Rattle.vs_ring_plain.specs.Device.{plain_state}
-use Rattle.vs_plain_rings.specs.Parts.{PartsState}
+use Rattle.vs_plain_ties.specs.Parts.{PartsState}
 
 -- The driver's end exposes nothing, and the device's end its plain state alone.
 abbrev pub driver_contents : PartsState → RingContents

@@ -4,7 +4,7 @@ ghost use Rattle.vs_guest_mem.specs.Memory.{after_write, is_inside};
 ghost use Rattle.vs_layout.specs.Layout.{queue_areas_of};
 ghost use Rattle.vs_ring_port.specs.declared.queue.TheConstants.{QUEUE_SIZE_MAX};
 ghost use Rattle.vs_ring_plain.specs.Device.{with_change};
-ghost use Rattle.vs_plain_rings.specs.Parts.{new_parts, with_parts_memory};
+ghost use Rattle.vs_plain_ties.specs.Parts.{new_parts, with_parts_memory};
 
 use crate::parts::Parts;
 use std::alloc::{AllocError, Global};
@@ -22,7 +22,7 @@ pub struct PlainRings {
 }
 
 impl Model for PlainRings {
-    ghost use Rattle.vs_plain_rings.specs.Parts.{PartsState};
+    ghost use Rattle.vs_plain_ties.specs.Parts.{PartsState};
 
     ghost Value = { PartsState };
 
@@ -95,7 +95,7 @@ impl PlainRings {
 
 impl DriverRing for PlainRings {
     ghost use Rattle.vs_plain_rings.specs.Contents.{driver_contents};
-    ghost use Rattle.vs_plain_rings.specs.Parts.{parts_flight, parts_staged};
+    ghost use Rattle.vs_plain_ties.specs.Parts.{parts_flight, parts_staged};
 
     ghost size = { λ r. r.device.size };
 

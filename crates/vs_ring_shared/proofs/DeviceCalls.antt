@@ -59,6 +59,7 @@ seen_chain n n' queue chain me new d t t' held held' size table b =
       known = rw (seen_queue queue t n me.0) b.takes.known;
       more = rw (seen_queue queue t n me.0) b.takes.more;
       most = rw (seen_queue queue t n me.0) b.takes.most;
+      told = b.takes.told;
       chain_is = rw (seen_queue queue t n me.0) b.chain_is;
       is = ap₂ both sight (ap (λ (h : Holding). all_held h.pages) b.held_is);
     }

@@ -16,7 +16,7 @@ use Rattle.vs_ring_port.specs.declared.device_ring.Next.TheVariants as next
 use Rattle.vs_ring_port.specs.declared.queue.Queue.{Queue}
 use Rattle.vs_ring_port.specs.declared.queue.Queue.TheVariants.{Rx, Tx, Event}
 use Rattle.vs_ring_rule.proofs.Says.{marked_fair}
-use Rattle.vs_ring_shared.specs.Sights.{DeviceSight, Sight, TakesOne, after_loading, after_publishing, after_returning, device_contents}
+use Rattle.vs_ring_shared.specs.Sights.{DeviceSight, LoadsNewest, Sight, TakesOne, after_loading, after_publishing, after_returning, device_contents}
 use Rattle.vs_ring_shared.specs.Sights.{after, after_taking, returned_queue, device_log, driver_contents, driver_log, sight_in}
 
 abbrev of_log : Option EndLog → EndLog → EndLog
@@ -47,10 +47,10 @@ device_moved call answer P f Q g s s' told is fair = record {
 }
 
 -- the driver loads the CID
-pub allows_load : (cid : ℕ) (s s' : Sight) → s' ≡ after_loading cid s → IsFairLog log.Driver s.log
+pub allows_load : (cid : ℕ) (s s' : Sight) → LoadsNewest cid s s' → IsFairLog log.Driver s.log
     → DriverAllows LoadCid cid (driver_contents s) (driver_contents s')
-allows_load cid s s' is fair = subst (λ (z : Sight). DriverAllows LoadCid cid (driver_contents s) (driver_contents z)) (sym is)
-    (driver_moved _ _ _ _ s (after_loading cid s) tt refl (marked_fair s.log cid fair))
+allows_load cid s s' is fair = subst (λ (z : Sight). DriverAllows LoadCid cid (driver_contents s) (driver_contents z)) (sym is.is)
+    (driver_moved _ _ _ _ s (after_loading cid is.then s) tt refl (marked_fair s.log cid fair))
 
 -- it publishes
 pub may_publish : (queue : Queue) (s : Sight) → CanPublish queue (driver_contents s) → IsFairLog log.Driver s.log

@@ -41,7 +41,8 @@ use Rattle.vs_world.proofs.DriverSide as side
 use Rattle.vs_world.proofs.DriverSide.{DriverHolds, Kept, KeptWith, seated}
 use Rattle.vs_world.proofs.Payloads.{either_none, front_of}
 use Rattle.vs_world.specs.Pipes.{none_on, put_on}
-use Rattle.vs_world.specs.Calls.{bytes_sent, is_on, took}
+use Rattle.vs_world.specs.Calls.{bytes_received, bytes_sent, is_on, took}
+use Rattle.vs_world.proofs.Receives.{StillReceives, none_read, reads_of, said_as}
 use Rattle.vs_world.specs.GuestSteps.{flow_named}
 use Rattle.vs_driver_parts.specs.Connections.{flow_of}
 use Rattle.vs_driver_parts.specs.State.{gone_known_as}
@@ -95,16 +96,16 @@ module _ (device : Seat) (first : ℕ) (s : DriverState) (lists : Rings) (log : 
   KeptBy tree = let r = played driver_answer tree (lists, log) in Kept device s now r.0 (log_with_staged r.1.1) × TxHolds r.1.0 r.1.1
 
   same : Kept device s now s now
-  same = side.kept_still device s s now holds puts refl holds refl
+  same = side.kept_still device s s now holds puts refl holds refl none_on (none_read s s now now (λ r x. x))
 
   still : Kept device s now s now × TxHolds lists log
   still = (same, pages)
 
   -- Pages count in no connection.
-  recounted_with : (extra : Flow → List ℕ) (t : DriverState) (n m : ℕ) (l k : Log) → l ≡ k → KeptWith device extra s now t l
-      → KeptWith device extra s now (record t { in_flight = n; staged = m }) k
-  recounted_with extra t n m l k is kept = subst (λ (x : Log). KeptWith device extra s now (record t { in_flight = n; staged = m }) x) is
-      (record { runs = kept.runs; holds = kept.holds; puts = kept.puts; broken = kept.broken; sent = kept.sent })
+  recounted_with : (extra : Flow → List ℕ) (t : DriverState) (n m : ℕ) (l k : Log) → l ≡ k → KeptWith device extra none_on s now t l
+      → KeptWith device extra none_on s now (record t { in_flight = n; staged = m }) k
+  recounted_with extra t n m l k is kept = subst (λ (x : Log). KeptWith device extra none_on s now (record t { in_flight = n; staged = m }) x) is
+      (record { runs = kept.runs; holds = kept.holds; puts = kept.puts; broken = kept.broken; sent = kept.sent; received = kept.received })
 
   recounted : (t : DriverState) (n m : ℕ) (l k : Log) → l ≡ k → Kept device s now t l → Kept device s now (record t { in_flight = n; staged = m }) k
   recounted = recounted_with none_on
@@ -338,25 +339,40 @@ module _ (device : Seat) (first : ℕ) (s : DriverState) (lists : Rings) (log : 
       by (Some refusal) is = still
       by None is = with_page is (has_page s)
 
-  -- A call that puts no payload; and the same payload, said otherwise.
-  says : (extra other : Flow → List ℕ) {t : DriverState} {l : Log} → ((f : Flow) → extra f ≡ other f) → KeptWith device extra s now t l
-      → KeptWith device other s now t l
-  says extra other eq k = record {
+  -- A call that puts no payload; and the same payload, said otherwise. Nothing is read.
+  abbrev NothingOn : Option Flow → Flow → List ℕ
+  NothingOn g f = cond (is_on f g) [] []
+
+  says : (extra other : Flow → List ℕ) (g : Option Flow) {t : DriverState} {l : Log} → ((f : Flow) → extra f ≡ other f)
+      → KeptWith device extra none_on s now t l → KeptWith device other (NothingOn g) s now t l
+  says extra other g {t = t} {l = l} eq k = record {
     runs = k.runs;
     holds = k.holds;
     puts = k.puts;
     broken = k.broken;
     sent = λ f. k.sent f ∙ ap (λ (xs : List ℕ). put_on f now ++ xs) (eq f);
+    received = said_as none_on (NothingOn g) s t now l (λ f. sym (either_none (is_on f g))) k.received;
   }
 
-  silent : (g : Option Flow) {t : DriverState} {l : Log} → Kept device s now t l → KeptWith device (λ f. cond (is_on f g) [] []) s now t l
-  silent g k = says none_on (λ f. cond (is_on f g) [] []) (λ f. sym (either_none (is_on f g))) k
+  silent : (g : Option Flow) {t : DriverState} {l : Log} → Kept device s now t l → KeptWith device (NothingOn g) (NothingOn g) s now t l
+  silent g k = says none_on (NothingOn g) g (λ f. sym (either_none (is_on f g))) k
+
+  reads_alone : (g : Option Flow) (read : Flow → List ℕ) {t : DriverState} {l : Log} → KeptWith device none_on read s now t l
+      → KeptWith device (NothingOn g) read s now t l
+  reads_alone g read k = record {
+    runs = k.runs;
+    holds = k.holds;
+    puts = k.puts;
+    broken = k.broken;
+    sent = λ f. k.sent f ∙ ap (λ (xs : List ℕ). put_on f now ++ xs) (sym (either_none (is_on f g)));
+    received = k.received;
+  }
 
   -- A send.
   abbrev SendKept : ℕ → List ℕ → DriverTree (DriverState × Sent) → Type 0
   SendKept id bytes tree =
       let r = played driver_answer tree (lists, log) in
-      KeptWith device (λ f. cond (is_on f (flow_of id s)) (took bytes r.0.1) []) s now r.0.0 (log_with_staged r.1.1) × TxHolds r.1.0 r.1.1
+      KeptWith device (λ f. cond (is_on f (flow_of id s)) (took bytes r.0.1) []) (NothingOn (flow_of id s)) s now r.0.0 (log_with_staged r.1.1) × TxHolds r.1.0 r.1.1
 
   sends_keeps : (id : ℕ) (bytes : List ℕ) → SendKept id bytes (sends id bytes s)
   sends_keeps id bytes = by (entry_known_as id s) refl
@@ -369,7 +385,7 @@ module _ (device : Seat) (first : ℕ) (s : DriverState) (lists : Rings) (log : 
           let kept = side.sends device first s now sound holds puts e payload there can len in
           let p = payload_on Driver s.cid e.flow e.value.end payload in
           let t : DriverState = with_end (with_payload_sent e.value.end (length payload)) e s in (
-            says (λ f. cond (same_flow f e.flow) payload []) _ (λ f. ap (λ (xs : List ℕ). cond (same_flow f e.flow) xs []) (sym front)
+            says (λ f. cond (same_flow f e.flow) payload []) _ (flow_of id s) (λ f. ap (λ (xs : List ℕ). cond (same_flow f e.flow) xs []) (sym front)
                 ∙ ap (λ (g : Option Flow). cond (is_on f g) (take (length payload) bytes) []) (sym flow)) (recounted_with (λ f. cond (same_flow f e.flow) payload []) t (s.in_flight + 1) s.staged (PutPacket p ∷ now) _
                 (log_put (payload_bytes e payload s) p (holds_payload p.header payload kept.puts.0 refl refl)) kept),
             (
@@ -421,13 +437,14 @@ module _ (device : Seat) (first : ℕ) (s : DriverState) (lists : Rings) (log : 
       by (Some e) is = on e (found_by (is_known_as id) s.table.entries e is).0 (flow_known id s e is) (may_send_of e.value.end) refl
 
   -- What changes in no connection.
-  apart : (t : DriverState) → driver_ends s ≡ driver_ends t → DriverHolds t → t.broken ≡ s.broken → Kept device s now t now
-  apart t same holds' unbroken = side.kept_still device s t now holds puts same holds' unbroken
+  apart : (t : DriverState) → driver_ends s ≡ driver_ends t → DriverHolds t → t.broken ≡ s.broken → StillReceives s now t now → Kept device s now t now
+  apart t same holds' unbroken still = side.kept_still device s t now holds puts same holds' unbroken none_on (none_read s t now now still)
 
   abbrev pub MadeKept : GuestCall → Type 0
   MadeKept call =
       let r = played driver_answer (makes_call call s) (lists, log) in
-      KeptWith device (λ f. cond (is_on f (flow_named call s)) (bytes_sent call r.0.1) []) s now r.0.0 (log_with_staged r.1.1) × TxHolds r.1.0 r.1.1
+      KeptWith device (λ f. cond (is_on f (flow_named call s)) (bytes_sent call r.0.1) [])
+      (λ f. cond (is_on f (flow_named call s)) (bytes_received call r.0.1) []) s now r.0.0 (log_with_staged r.1.1) × TxHolds r.1.0 r.1.1
 
   pub makes_call_keeps : (call : GuestCall) → is_right call ≡ true → MadeKept call
   makes_call_keeps (Connect port) right =
@@ -435,7 +452,7 @@ module _ (device : Seat) (first : ℕ) (s : DriverState) (lists : Rings) (log : 
   makes_call_keeps (Listen port) right = (silent None (by (listen_of port s)), pages)
     where
       by : (r : Result (Unit {0}) ListenError) → Kept device s now (elim r as (λ _. DriverState) [ Ok x ↦ listening port s | Err why ↦ s ]) now
-      by (Ok x) = apart (listening port s) refl holds refl
+      by (Ok x) = apart (listening port s) refl holds refl (λ r x. x)
       by (Err why) = same
   makes_call_keeps (Unlisten port) right = (silent None (by (is_some (listener_on port s.listeners))), pages)
     where
@@ -449,9 +466,10 @@ module _ (device : Seat) (first : ℕ) (s : DriverState) (lists : Rings) (log : 
         | Some id ↦ record s { listeners = with_waiting port (without_id id) s.listeners }
       ]) now
       by None = same
-      by (Some id) = apart (record s { listeners = with_waiting port (without_id id) s.listeners }) refl holds refl
+      by (Some id) = apart (record s { listeners = with_waiting port (without_id id) s.listeners }) refl holds refl (λ r x. x)
   makes_call_keeps (Send id bytes) right = sends_keeps id bytes
-  makes_call_keeps (Recv id n) right = (silent (flow_of id s) (side.recv device first s now sound holds puts id n), pages)
+  makes_call_keeps (Recv id n) right =
+      (reads_alone (flow_of id s) (reads_of id n s) (side.recv device first s now sound holds puts id n), pages)
   makes_call_keeps (Shutdown id bits) right = (silent (flow_of id s) (side.shutdown device first s now sound holds puts id bits), pages)
   makes_call_keeps (Close id) right = (silent (flow_of id s) (side.close device first s now sound holds puts id), pages)
   makes_call_keeps (LookAt id) right = (silent (flow_of id s) same, pages)

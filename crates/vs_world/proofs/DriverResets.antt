@@ -15,7 +15,11 @@ use Rattle.vs_matching.specs.Ends.{Ends, entries_of, flows_of}
 use Rattle.vs_driver_parts.specs.State.{DriverConnection, DriverEntry, DriverState, GoneConnection}
 use Rattle.vs_driver_parts.specs.Connections.{after_close, after_leaving, after_unlisten, all_closed, gone_as, is_let_go, waiting_on, waits_no_more}
 use Rattle.vs_driver_parts.specs.Receiving.{after_reset, all_left, reset_reply, with_reply}
-use Rattle.vs_world.specs.Pipes.{put_on}
+use Rattle.std.proofs.Common.{Contains}
+use Rattle.vs_flow.proofs.Tables.{without_sound}
+use Rattle.vs_pipes.proofs.Received.{same_received}
+use Rattle.vs_world.proofs.Receives.{StillReceives, leaves, none_read}
+use Rattle.vs_world.specs.Pipes.{none_on, put_on}
 use Rattle.vs_world.proofs.Payloads.{nothing_more}
 use Rattle.vs_world.specs.Sides.{flow_to_host}
 use Rattle.vs_world.proofs.DriverSide.{DriverHolds, Kept, ReplyFits, close, end_in, held_in, kept_still, kept_then, seated}
@@ -27,13 +31,13 @@ use Rattle.vs_world.proofs.Wire.{PutsFit}
 abbrev reply_for : DriverEntry → Reply
 reply_for e = reset_reply e.flow
 
-record IsAllLeft (s t : DriverState) (es : List DriverEntry) : Type 0 where
-  table : t.table ≡ record s.table { entries = [] }
-  replies : t.replies ≡ s.replies ++ map reply_for es
-  next_id : t.next_id ≡ s.next_id
-  next_port : t.next_port ≡ s.next_port
-  cid : t.cid ≡ s.cid
-  broken : t.broken ≡ s.broken
+pub record IsAllLeft (s t : DriverState) (es : List DriverEntry) : Type 0 where
+  pub table : t.table ≡ record s.table { entries = [] }
+  pub replies : t.replies ≡ s.replies ++ map reply_for es
+  pub next_id : t.next_id ≡ s.next_id
+  pub next_port : t.next_port ≡ s.next_port
+  pub cid : t.cid ≡ s.cid
+  pub broken : t.broken ≡ s.broken
 
 same_slot : (n : ℕ) → (n == n) ≡ true
 same_slot n = grind arith
@@ -80,7 +84,7 @@ one_left false e es gone s is rising = record {
   broken = refl;
 }
 
-left_all : (es : List DriverEntry) (s : DriverState) → s.table.entries ≡ es → IsRising es → IsAllLeft s (all_left es s) es
+pub left_all : (es : List DriverEntry) (s : DriverState) → s.table.entries ≡ es → IsRising es → IsAllLeft s (all_left es s) es
 left_all [] s is rising = record {
   table = ap (λ (xs : List DriverEntry). let t : Table DriverConnection = record s.table { entries = xs } in t) is;
   replies = sym (append-nil s.replies);
@@ -104,6 +108,17 @@ left_all (e ∷ es) s is rising =
       cid = rest.cid ∙ one.cid;
       broken = rest.broken ∙ one.broken;
     }
+
+-- All leave, and what they received stays.
+left_receive : (es : List DriverEntry) (s : DriverState) (log : Log) → s.table.entries ≡ es → IsTable s.table → StillReceives s log (all_left es s) log
+left_receive [] s log is sound r x = x
+left_receive (e ∷ es) s log is sound r x =
+    let t = with_reply (reset_reply e.flow) (after_leaving e s) in
+    let rising : IsRising (e ∷ es) = subst (λ (xs : List DriverEntry). IsRising xs) is sound.rising in
+    let one = one_left e.value.unanswered e es (cond (is_let_go e.value) s.gone (s.gone ++ gone_as e ∷ [])) s is rising in
+    let there : Contains s.table.entries e = subst (λ (xs : List DriverEntry). Contains xs e) (sym is) (0, omega arith, refl) in
+    left_receive es t log one.entries (without_sound s.table e.slot sound) r
+    (leaves s log sound e.value.unanswered (is_let_go e.value) e (gone_as e) there refl refl refl r x)
 
 same_flows : (es : List DriverEntry) (t : Table DriverConnection) → t.entries ≡ es → map flow_to_host (map reply_for es) ≡ flows_of (entries_of end_in t)
 same_flows es t is = by es ∙ ap (λ (xs : List DriverEntry). flows_of (entries_of end_in (record t { entries = xs }))) (sym is)
@@ -140,6 +155,8 @@ module _ (device : Seat) (first : ℕ) where
         let all = left_all s.table.entries start refl holds.sound.rising in
         record {
           broken = all.broken;
+          received = none_read s (after_reset cid s) log (Mark cid ∷ log) (λ r x.
+              same_received r r log (Mark cid ∷ log) (λ f. refl) (λ f. refl) (λ f is. is) _ _ _ _ (left_receive s.table.entries start log refl holds.sound r x));
           sent = λ f. nothing_more (put_on f log);
           runs = one_step Driver (TakesReset cid) (seated device s log) (seated device (after_reset cid s) (Mark cid ∷ log)) refl
               (ap (λ (fs : List Flow). marked cid log (record { entries = []; replies = fs; next_port = s.next_port; cid = cid }))
@@ -178,7 +195,7 @@ module _ (device : Seat) (first : ℕ) where
 
   closes_all : (ids : List ℕ) (s : DriverState) (log : Log) → IsSound first (seated device s log) → DriverHolds s → PutsFit log
       → Kept device s log (all_closed ids s) log
-  closes_all [] s log sound holds puts = kept_still device s s log holds puts refl holds refl
+  closes_all [] s log sound holds puts = kept_still device s s log holds puts refl holds refl none_on (none_read s s log log (λ r x. x))
   closes_all (id ∷ ids) s log sound holds puts =
       let one = close device first s log sound holds puts id in
       let rest = closes_all ids (after_close id s) log (keeps_sound first _ _ one.runs sound) one.holds one.puts in
@@ -188,4 +205,4 @@ module _ (device : Seat) (first : ℕ) where
       → Kept device s log (after_unlisten port s) log
   unlistens port s log sound holds puts =
       let all = closes_all (waiting_on port s) s log sound holds puts in
-      record { runs = all.runs; holds = all.holds; puts = all.puts; broken = all.broken; sent = all.sent }
+      record { runs = all.runs; holds = all.holds; puts = all.puts; broken = all.broken; sent = all.sent; received = all.received }

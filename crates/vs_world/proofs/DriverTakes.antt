@@ -36,6 +36,16 @@ use Rattle.vs_history.specs.Packets.{is_rw}
 use Rattle.std.proofs.Common.{length-append}
 use Rattle.std.proofs.lemmas.List.{map-append}
 use Rattle.vs_driver_parts.proofs.Packets.{packet_known, packet_unknown}
+use Rattle.vs_driver_parts.specs.Connections.{gone_as, is_let_go}
+use Rattle.vs_driver_parts.specs.Receiving.{after_packet as as_heard}
+use Rattle.vs_matching.proofs.Both.{next_is_fair}
+use Rattle.vs_matching.proofs.Fair.{got_in_order, heard_all}
+use Rattle.vs_pipes.specs.Drains.{receives}
+use Rattle.vs_pipes.proofs.Logs.{got_after_put, got_passes, none_passed, passed_after_got, passed_after_put, put_passes}
+use Rattle.vs_pipes.proofs.Received.{opened_received, same_received}
+use Rattle.vs_pipes.proofs.Steps as steps
+use Rattle.vs_pipes.proofs.Steps.{comes_in, delivers_to, hears_less, only_delivered, stays_still}
+use Rattle.vs_world.proofs.Receives.{after_got_empty, got_empty, hears, leaves, none_read, passes_by}
 use Rattle.vs_world.specs.Pipes.{put_on}
 use Rattle.vs_world.proofs.Payloads.{nothing_more, sent_empty, sent_got}
 use Rattle.vs_world.specs.Sides.{driver_ends, flow_to_host}
@@ -108,6 +118,9 @@ module _ (device : Seat) where
         let flow : FlowFits f = record { guest = omega (arith, spent.0); host = fits } in
         record {
           broken = refl;
+          received = none_read s (connected port s) log (PutPacket p ∷ log) (λ r x. opened_received r log (PutPacket p ∷ log) f (λ g. sym (got_after_put Driver p log g))
+              (passed_after_put Driver p log) (none_passed Driver f log (sym (heard_all first f log) ∙ unused.silent)) (put_passes Driver p log f refl)
+              s.next_port (s.next_port + 1) s.next_id s.table s.gone _ refl refl (omega arith) (λ own. omega arith) x);
           sent = λ g. sent_empty p log g refl;
           runs = one_step Driver (Opens f BUF_ALLOC) (seated device s log) (seated device (connected port s) (PutPacket p ∷ log))
               (record { asker = asker; port = omega arith }, (omega arith, omega arith))
@@ -137,15 +150,20 @@ module _ (device : Seat) where
       rw_of : op_named p.header.op ≡ Some op.Rw → is_rw p ≡ true
       rw_of named = let five = named_rw p.header.op named in rw five refl
 
+      rst_empty : (is_reset p.header && is_stream p.header) ≡ true → is_rw p ≡ false
+      rst_empty over = grind (arith, nat_tests, common_steps, over)
+
       rst_leaves : (e : ConnectionEnd) (h : Header) → ends_connection (verdict_of e h) h ≡ (is_reset h && is_stream h)
       rst_leaves e h = grind (arith, common_steps)
 
       -- It stays in the table with another end.
       stays_with : (e : DriverEntry) (c : DriverConnection) → Contains s.table.entries e → flow_to_guest p.header ≡ e.flow
           → c.end ≡ end_after e.value.end p.header → CreditFits c.end.credit (length c.unread)
-          → (is_reset p.header && is_stream p.header) ≡ false → Kept device s log (with_connection e.slot c s) got
-      stays_with e c there flow is credit goes_on = record {
+          → (is_reset p.header && is_stream p.header) ≡ false → c.id ≡ e.value.id
+          → steps.Goes (receives e.value.end) (receives c.end) e.value.unread c.unread [] p.payload → Kept device s log (with_connection e.slot c s) got
+      stays_with e c there flow is credit goes_on same goes = record {
         broken = refl;
+        received = none_read s (with_connection e.slot c s) log got (hears s log holds.sound p e c there flow same goes);
         sent = λ g. sent_got p log g;
         runs = one_step Driver (Takes p None) (seated device s log) (seated device (with_connection e.slot c s) got) (next, tt)
             (ap (λ (ends : List ConnectionEnd). at_part (after_packet ends p (flow_to_guest p.header) None (driver_ends s)) got) has
@@ -162,10 +180,13 @@ module _ (device : Seat) where
           has = ap (λ (g : Flow). ends_of g (entries_of end_in s.table)) flow ∙ one_end end_in s.table e holds.sound there
 
       -- It leaves.
-      leaves_with : (b : Bool) (e : DriverEntry) (gone : List GoneConnection) → Contains s.table.entries e → flow_to_guest p.header ≡ e.flow
-          → (is_reset p.header && is_stream p.header) ≡ true
-          → Kept device s log (record (cond b (waits_no_more e s) s) { table = without s.table e.slot; gone = gone }) got
-      leaves_with b e gone there flow over = record {
+      leaves_with : (b l : Bool) (e : DriverEntry) (g : GoneConnection) → Contains s.table.entries e → flow_to_guest p.header ≡ e.flow
+          → (is_reset p.header && is_stream p.header) ≡ true → g.id ≡ e.value.id → g.flow ≡ e.flow → g.unread ≡ e.value.unread
+          → Kept device s log (record (cond b (waits_no_more e s) s) { table = without s.table e.slot; gone = cond l s.gone (s.gone ++ g ∷ []) }) got
+      leaves_with b l e g there flow over same on unread = let gone = cond l s.gone (s.gone ++ g ∷ []) in record {
+        received = none_read s (record (cond b (waits_no_more e s) s) { table = without s.table e.slot; gone = gone }) log got (λ r x.
+            after_got_empty (record (cond b (waits_no_more e s) s) { table = without s.table e.slot; gone = gone }) log p (whole.none (rst_empty over)) r
+            (leaves s log holds.sound b l e g there same on unread r x));
         broken = left_broken device first s log sound holds puts b e;
         sent = λ g. sent_got p log g;
         runs = one_step Driver (Takes p None) (seated device s log) (seated device (record (cond b (waits_no_more e s) s) { table = without s.table e.slot; gone = gone }) got) (next, tt)
@@ -200,17 +221,29 @@ module _ (device : Seat) where
             → (is_reset p.header && is_stream p.header) ≡ false
         goes_on v is stays = sym (rst_leaves e.value.end p.header) ∙ ap (λ (w : Verdict). ends_connection w p.header) is ∙ stays
 
+        -- No payload comes to an end that takes any.
+        holds_still : (v : Verdict) → verdict_of e.value.end p.header ≡ v → is_refused v ≡ false → (v ≡ verdict.Deliver → ⊥)
+            → steps.Goes (receives e.value.end) (receives (end_after e.value.end p.header)) e.value.unread e.value.unread [] p.payload
+        holds_still v is taken other = stays_still (receives e.value.end) (receives (end_after e.value.end p.header)) e.value.unread p.payload
+            (hears_less e.value.end p.header) (λ on. whole.none (only_delivered e.value.end p v is taken other on))
+
         peers : (b : Bool) → verdict_of e.value.end p.header ≡ verdict.Peer → is_reset p.header ≡ b
             → Kept device s log (after_verdict verdict.Peer p e s) got
-        peers false is reset = rw reset (stays_with e _ there flow refl (none_new verdict.Peer is refl) (goes_on verdict.Peer is reset))
-        peers true is reset = rw reset (leaves_with e.value.unanswered e _ there flow
-            (sym (rst_leaves e.value.end p.header) ∙ ap (λ (w : Verdict). ends_connection w p.header) is ∙ reset))
+        peers false is reset = rw reset (stays_with e _ there flow refl (none_new verdict.Peer is refl) (goes_on verdict.Peer is reset) refl
+            (holds_still verdict.Peer is refl (λ (q : verdict.Peer ≡ verdict.Deliver). cc)))
+        peers true is reset = rw reset (leaves_with e.value.unanswered (is_let_go e.value) e
+            (gone_as (record e { value = as_heard verdict.Peer p e.value })) there flow
+            (sym (rst_leaves e.value.end p.header) ∙ ap (λ (w : Verdict). ends_connection w p.header) is ∙ reset) refl refl refl)
 
         by_verdict : (v : Verdict) → verdict_of e.value.end p.header ≡ v → is_refused v ≡ false → Kept device s log (after_verdict v p e s) got
-        by_verdict verdict.Accept is taken = stays_with e _ there flow refl (none_new verdict.Accept is refl) (goes_on verdict.Accept is refl)
-        by_verdict verdict.Deliver is taken = stays_with e _ there flow refl (some_new is) (goes_on verdict.Deliver is refl)
-        by_verdict verdict.Discard is taken = stays_with e _ there flow refl (none_new verdict.Discard is refl) (goes_on verdict.Discard is refl)
-        by_verdict verdict.Ignore is taken = stays_with e _ there flow refl (none_new verdict.Ignore is refl) (goes_on verdict.Ignore is refl)
+        by_verdict verdict.Accept is taken = stays_with e _ there flow refl (none_new verdict.Accept is refl) (goes_on verdict.Accept is refl) refl
+            (holds_still verdict.Accept is refl (λ (q : verdict.Accept ≡ verdict.Deliver). cc))
+        by_verdict verdict.Deliver is taken = stays_with e _ there flow refl (some_new is) (goes_on verdict.Deliver is refl) refl
+            (comes_in (receives e.value.end) (receives (end_after e.value.end p.header)) e.value.unread p.payload (delivers_to e.value.end p.header is))
+        by_verdict verdict.Discard is taken = stays_with e _ there flow refl (none_new verdict.Discard is refl) (goes_on verdict.Discard is refl) refl
+            (holds_still verdict.Discard is refl (λ (q : verdict.Discard ≡ verdict.Deliver). cc))
+        by_verdict verdict.Ignore is taken = stays_with e _ there flow refl (none_new verdict.Ignore is refl) (goes_on verdict.Ignore is refl) refl
+            (holds_still verdict.Ignore is refl (λ (q : verdict.Ignore ≡ verdict.Deliver). cc))
         by_verdict verdict.Peer is taken = peers (is_reset p.header) is refl
         by_verdict (verdict.Rst why) is taken = absurd cc
 
@@ -230,8 +263,12 @@ module _ (device : Seat) where
             let room : (is_full s ≡ false) × (s.next_id ≤ LAST_ID) = opens_by may in
             let is_one : is_request p ≡ true = asked_by request in
             let other : is_rst p ≡ false = not_both is_one in
+            let order = (got_in_order Driver first p log (next_is_fair Driver first p (seated device s log) sound next f)).request is_one in
             record {
               broken = refl;
+              received = none_read s (with_request f p.header s) log got (λ r x. opened_received r log got f (got_empty p log (whole.none (no_payload is_one)))
+                  (passed_after_got Driver p log) (none_passed Driver f log (sym (heard_all first f log) ∙ order.1)) (got_passes Driver p log f refl)
+                  s.next_port s.next_port s.next_id s.table s.gone _ refl refl (omega arith) (λ own. let both = sym (assigned_by may) ∙ own in absurd (no_both both)) x);
               sent = λ g. sent_got p log g;
               runs = one_step Driver (Takes p (Some BUF_ALLOC)) (seated device s log) (seated device (with_request f p.header s) got)
                   (next, (omega arith, omega arith))
@@ -248,6 +285,15 @@ module _ (device : Seat) where
             opens_by : may_open (flow_to_guest p.header) s ≡ true → (is_full s ≡ false) × (s.next_id ≤ LAST_ID)
             opens_by is = grind (arith, nat_tests, common_steps, is)
 
+            no_payload : is_request p ≡ true → is_rw p ≡ false
+            no_payload is = grind (arith, nat_tests, common_steps, is)
+
+            assigned_by : may_open (flow_to_guest p.header) s ≡ true → is_assigned p.header.src_port ≡ true
+            assigned_by is = grind (arith, nat_tests, common_steps, is)
+
+            no_both : true ≡ false → ⊥
+            no_both is = cc
+
             asked_by : asks p.header ≡ true → is_request p ≡ true
             asked_by is = grind (arith, nat_tests, common_steps, is)
 
@@ -259,6 +305,7 @@ module _ (device : Seat) where
             let f = flow_to_guest p.header in
             record {
               broken = refl;
+              received = none_read s (with_reply (reply_to p.header) s) log got (passes_by s log holds.sound p none);
               sent = λ g. sent_got p log g;
               runs = one_step Driver (Takes p None) (seated device s log) (seated device (with_reply (reply_to p.header) s) got) (next, tt)
                   (ap (λ (ends : List ConnectionEnd). at_part (after_packet ends p f None (driver_ends s)) got) no_end
@@ -286,6 +333,7 @@ module _ (device : Seat) where
         ignores : is_rst p ≡ true → Kept device s log s got
         ignores rst = record {
           broken = refl;
+          received = none_read s s log got (passes_by s log holds.sound p none);
           sent = λ g. sent_got p log g;
           runs = one_step Driver (Takes p None) (seated device s log) (seated device s got) (next, tt)
               (ap (λ (ends : List ConnectionEnd). at_part (after_packet ends p (flow_to_guest p.header) None (driver_ends s)) got) no_end
@@ -324,6 +372,8 @@ module _ (device : Seat) where
     pub takes_event : (id : ℕ) → IsNextEvent log device.log id → Kept device s log s (GotEvent id ∷ log)
     takes_event id next = record {
       broken = refl;
+      received = none_read s s log (GotEvent id ∷ log) (λ r x.
+          same_received r r log (GotEvent id ∷ log) (λ f. refl) (λ f. refl) (λ f is. is) s.next_port s.next_id s.table s.gone x);
       sent = λ g. nothing_more (put_on g log);
       runs = one_step Driver (TakesEvent id) (seated device s log) (seated device s (GotEvent id ∷ log)) (refl, next) refl;
       holds = holds;

@@ -22,5 +22,16 @@ pub mod Rings
 pub mod Sound
 pub mod Opening
 pub mod Payloads
+pub mod Receives
 pub mod GuestLines
 pub mod Polls
+pub mod DeviceLeads
+pub mod TickStage
+pub mod PumpStage
+pub mod FillStage
+pub mod TakeStage
+pub mod TurnLines
+pub mod CallRests
+pub mod ScriptLines
+pub mod ResetTables
+pub mod DeviceCalls

@@ -4,7 +4,9 @@ use Rattle.vs_contents.specs.CallTree.{Done, Ask, bind, while_up_to, played}
 use Rattle.vs_flow.specs.Table.{IsTable}
 use Rattle.vs_flow.specs.declared.flow.TheConstants.{ASSIGNED_FIRST}
 use Rattle.vs_outside.specs.Host.{HostContents}
-use Rattle.vs_page.specs.Log.{Log}
+use Rattle.vs_page.specs.Log.{Driver, Log}
+use Rattle.vs_pipes.specs.Drains.{got_on}
+use Rattle.vs_pipes.specs.Received.{IsReceived}
 use Rattle.vs_ring_port.specs.DriverCalls.{driver_answer, Stage, Publish}
 use Rattle.vs_ring_port.specs.EndLog.{EndLog, all_put, entries_marked}
 use Rattle.vs_ring_port.specs.Lists.{Rings}
@@ -126,6 +128,23 @@ driver_holds n s is = subst DriverHolds (sym is) (record {
   known = omega arith;
 })
 
+none_received : (n : ℕ) (s : DriverState) (log : Log) → s ≡ made n 3 0 → IsReceived (λ f. []) log s
+none_received n s log is = subst (IsReceived (λ f. []) log) (sym is) (record {
+  numbers = record {
+    given = refl;
+    slots = λ i d within. absurd (omega (arith, within));
+    below = λ i d within. absurd (omega (arith, within));
+    apart = λ i d within. absurd (omega (arith, within));
+    distinct = λ i j d less within. absurd (omega (arith, within));
+    ports = λ i d within. absurd (omega (arith, within));
+  };
+  front = λ f. (got_on Driver f log, refl);
+  held = λ i d within. absurd (omega (arith, within));
+  left = λ i d within. absurd (omega (arith, within));
+  apart = λ i d within. absurd (omega (arith, within));
+  distinct = λ i j d less within. absurd (omega (arith, within));
+})
+
 module _ (n : ℕ) (host : HostContents) where
   new : IsMade n (opening n host).driver (opening n host).rings.lists (opening n host).rings.driver
   new = new_made n
@@ -171,6 +190,7 @@ module _ (n : ℕ) (host : HostContents) where
     known = subst (λ (c : ℕ). c < 2 ^ 64) (sym new.cid) (omega arith);
     broken = ap (λ (s : DriverState). s.broken) new.state;
     overrun = refl;
+    received = none_received n (opening n host).driver (log_with_staged (opening n host).rings.driver) new.state;
     sent = λ f. ap (put_on f) (sym log_empty);
   }
 

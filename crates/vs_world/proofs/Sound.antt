@@ -24,7 +24,9 @@ use Rattle.vs_world.specs.DeviceSteps.{takes_chain, returns, puts_event, puts_re
 use Rattle.vs_world.specs.Events.{Event, GuestCalls, GuestTakes, GuestStages, GuestReplies, GuestPays, GuestPublishes, DeviceTakes, DeviceReturns, DevicePutsEvent, DeviceReplies, DeviceReads, DevicePays, DeviceWrites, DeviceShutsWrite, ProxyAccepts, ProxyReads, Moment, TimesOut, HandshakeTimesOut, Reset, HostListens, HostUnlistens, ClientConnects, HostWrites, HostTakes, HostEnds, HostCloses, HostFails}
 use Rattle.vs_world.specs.Events.{at_moment, call_made, device_step, driver_step, happens, has_failed, holds, is_at_rest, is_guest_cid, line_read, none_staged, proxy_step, reset_made, unless_failed, where_possible, works_on}
 use Rattle.vs_world.specs.GuestSteps.{makes_call, takes_page, stages_page, stages_reply, stages_owed}
-use Rattle.vs_world.specs.Calls.{sent_on}
+use Rattle.vs_world.specs.Calls.{received_on, sent_on}
+use Rattle.vs_pipes.specs.Received.{IsReceived}
+use Rattle.vs_pipes.proofs.Received.{same_received}
 use Rattle.vs_world.specs.Pipes.{none_on, put_on}
 use Rattle.vs_world.proofs.Payloads.{nothing_more}
 use Rattle.vs_flow.specs.declared.flow.Flow.{Flow}
@@ -65,6 +67,7 @@ pub record IsWell (w : World) : Type 0 where
   pub known : w.rings.lists.cid < 2 ^ 64
   pub broken : w.driver.broken ≡ 0
   pub sent : (f : Flow) → sent_on f w.journal ≡ put_on f (log_with_staged w.rings.driver)
+  pub received : IsReceived (λ f. received_on f w.journal) (log_with_staged w.rings.driver) w.driver
   pub overrun : w.proxy.device.overrun ≡ 0
 
 pub record Goes (w v : World) : Type 0 where
@@ -75,12 +78,12 @@ pub goes_still : (w : World) → IsWell w → Goes w w
 goes_still w well = record { well = well; runs = stays _ _ refl }
 
 -- The driver plays a conversation.
-driver_goes : {A : Type 0} (tree : DriverTree A) (state_of : A → DriverState) (extra : Flow → List ℕ) (journal : Journal) (w : World) → IsWell w
-    → ((f : Flow) → sent_on f journal ≡ sent_on f w.journal ++ extra f)
+driver_goes : {A : Type 0} (tree : DriverTree A) (state_of : A → DriverState) (extra read : Flow → List ℕ) (journal : Journal) (w : World) → IsWell w
+    → ((f : Flow) → sent_on f journal ≡ sent_on f w.journal ++ extra f) → ((f : Flow) → received_on f journal ≡ received_on f w.journal ++ read f)
     → (let r = played driver_answer tree (w.rings.lists, w.rings.driver) in
-    driver_side.KeptWith (both_of w).device extra w.driver (log_with_staged w.rings.driver) (state_of r.0) (log_with_staged r.1.1) × TxHolds r.1.0 r.1.1)
+    driver_side.KeptWith (both_of w).device extra read w.driver (log_with_staged w.rings.driver) (state_of r.0) (log_with_staged r.1.1) × TxHolds r.1.0 r.1.1)
     → Goes w (record (driver_plays tree w).1 { driver = state_of (driver_plays tree w).0; journal = journal })
-driver_goes tree state_of extra journal w well made (kept, pages) = record {
+driver_goes tree state_of extra read journal w well made reads (kept, pages) = record {
   well = record {
     queued = driver_plays_keeps tree w well.queued;
     sound = keeps_sound first_cid _ _ kept.runs well.sound;
@@ -93,6 +96,8 @@ driver_goes tree state_of extra journal w well made (kept, pages) = record {
     known = subst (λ (n : ℕ). n < 2 ^ 64) (sym (driver_leaves_cid tree w.rings.lists w.rings.driver)) well.known;
     broken = kept.broken ∙ well.broken;
     sent = λ f. made f ∙ ap (λ (xs : List ℕ). xs ++ extra f) (well.sent f) ∙ sym (kept.sent f);
+    received = same_received (λ f. received_on f w.journal ++ read f) (λ f. received_on f journal) _ _ (λ f. sym (reads f)) (λ f. refl) (λ f is. is)
+        _ _ _ _ (kept.received (λ f. received_on f w.journal) well.received);
     overrun = well.overrun;
   };
   runs = kept.runs;
@@ -120,6 +125,7 @@ device_goes tree state_of w well (kept, chain, known) = record {
     known = known;
     broken = well.broken;
     sent = well.sent;
+    received = well.received;
     overrun = kept.overrun ∙ well.overrun;
   };
   runs = kept.runs;
@@ -150,7 +156,8 @@ module _ (w : World) (well : IsWell w) where
   driver_step_goes : (step : DriverState → DriverTree DriverState) → (let r = played driver_answer (step w.driver) (w.rings.lists, w.rings.driver) in
       driver_side.Kept (both_of w).device w.driver (log_with_staged w.rings.driver) r.0 (log_with_staged r.1.1) × TxHolds r.1.0 r.1.1)
       → Goes w (driver_step step w)
-  driver_step_goes step kept = driver_goes (step w.driver) (λ s. s) none_on w.journal w well (λ f. nothing_more (sent_on f w.journal)) kept
+  driver_step_goes step kept = driver_goes (step w.driver) (λ s. s) none_on none_on w.journal w well (λ f. nothing_more (sent_on f w.journal))
+      (λ f. nothing_more (received_on f w.journal)) kept
 
   device_step_goes : (step : DeviceState → DeviceTree DeviceState)
       → device_events.KeptBy (both_of w).driver first_cid w.proxy.next_port w.proxy.device w.rings.device.entries well.sound well.device well.device_puts
@@ -203,6 +210,7 @@ module _ (w : World) (well : IsWell w) where
       known = well.known;
       broken = well.broken;
       sent = well.sent;
+      received = well.received;
       overrun = well.overrun;
     };
     runs = stays _ _ refl;
@@ -222,6 +230,7 @@ module _ (w : World) (well : IsWell w) where
       known = well.known;
       broken = well.broken;
       sent = well.sent;
+      received = well.received;
       overrun = well.overrun;
     };
     runs = stays _ _ refl;
@@ -235,7 +244,7 @@ module _ (w : World) (well : IsWell w) where
   pub happens_goes : (e : Event) → Goes w (happens e w)
   happens_goes (GuestCalls call) =
       possible (is_at_rest w.rings.driver.staged && is_right call) (λ v. (call_made call v).0) w well
-      (λ may. driver_goes (makes_call call w.driver) (λ r. r.0) _ _ w well (λ f. refl)
+      (λ may. driver_goes (makes_call call w.driver) (λ r. r.0) _ _ _ w well (λ f. refl) (λ f. refl)
       (driver_events.makes_call_keeps (both_of w).device first_cid w.driver w.rings.lists w.rings.driver well.sound well.driver well.driver_puts well.pages call
       (second_true _ _ may)))
   happens_goes (GuestTakes queue) = possible (works_on queue w.rings.driver.staged) (driver_step (takes_page queue)) w well (takes_goes queue)
@@ -274,7 +283,7 @@ module _ (w : World) (well : IsWell w) where
       (proxy_side.accept_keeps (both_of w).driver first_cid w.proxy (around w) well.sound well.device well.device_puts well.chain well.known))
   happens_goes (ProxyReads stream) = unfailed (has_failed w) (proxy_step (line_read stream)) w refl well (proxy_step_goes (line_read stream)
       (proxy_side.line_read_keeps (both_of w).driver first_cid w.proxy (around w) well.sound well.device well.device_puts well.chain well.known stream))
-  happens_goes (Moment now) = possible (nat_le w.proxy.device.now now) (at_moment now) w well (λ may. at_moment_goes now)
+  happens_goes (Moment now) = at_moment_goes now
   happens_goes (TimesOut slot) = unfailed (has_failed w) (device_step (tick_slot slot)) w refl well (device_step_goes (tick_slot slot)
       (device_streams.tick_keeps (both_of w).driver first_cid w.proxy.next_port w.proxy.device (around w) well.sound well.device well.device_puts well.chain well.known slot))
   happens_goes (HandshakeTimesOut stream) = unfailed (has_failed w) (proxy_step (tick_handshake stream)) w refl well (proxy_step_goes (tick_handshake stream)

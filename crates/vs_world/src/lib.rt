@@ -3,4 +3,7 @@
 #![tactic(auto)]
 
 pub mod laws;
+pub mod pipes;
+pub mod resets;
+pub mod scripts;
 pub mod worked;

@@ -1,7 +1,7 @@
 use Rattle.std.proofs.Common.{◌≡◌, subst}
 use Rattle.vs_ring_port.specs.Contents.{Return}
 use Rattle.vs_ring_plain.specs.Device.{answer_to}
-use Rattle.vs_plain_rings.specs.Parts.{PartsState}
+use Rattle.vs_plain_ties.specs.Parts.{PartsState}
 use Rattle.vs_plain_rings.proofs.Device.{allowed}
 use Rattle.vs_plain_rings.proofs.plain_rings.PlainRingsDeviceRing.done.Goals as goal
 

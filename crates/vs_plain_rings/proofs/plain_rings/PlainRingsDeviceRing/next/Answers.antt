@@ -1,7 +1,7 @@
 use Rattle.std.proofs.Common.{◌≡◌, subst}
 use Rattle.vs_ring_port.specs.Contents.{Take}
 use Rattle.vs_ring_plain.specs.Device.{answer_to}
-use Rattle.vs_plain_rings.specs.Parts.{PartsState}
+use Rattle.vs_plain_ties.specs.Parts.{PartsState}
 use Rattle.vs_plain_rings.proofs.Device.{allowed, takes_by}
 use Rattle.vs_plain_rings.proofs.plain_rings.PlainRingsDeviceRing.next.Goals as goal
 

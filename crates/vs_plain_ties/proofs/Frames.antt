@@ -11,7 +11,7 @@ length_over old p new fits =
     simp (length-append, length-drop) (omega (arith, length-take-le p old (omega (arith, fits)), fits))
 
 -- those that were written
-over_here : (old : List ℕ) (p : ℕ) (new : List ℕ) → p + length new ≤ length old → take (length new) (drop p (overwritten old p new)) ≡ new
+pub over_here : (old : List ℕ) (p : ℕ) (new : List ℕ) → p + length new ≤ length old → take (length new) (drop p (overwritten old p new)) ≡ new
 over_here old p new fits =
     let rest = drop (p + length new) old in
     let front : length (take p old) ≡ p = length-take-le p old (omega (arith, fits)) in
@@ -21,7 +21,7 @@ over_here old p new fits =
     ∙ take-append_seam new rest
 
 -- those before
-over_before : (old : List ℕ) (p : ℕ) (new : List ℕ) (q k : ℕ) → p ≤ length old → q + k ≤ p
+pub over_before : (old : List ℕ) (p : ℕ) (new : List ℕ) (q k : ℕ) → p ≤ length old → q + k ≤ p
     → take k (drop q (overwritten old p new)) ≡ take k (drop q old)
 over_before old p new q k fits before =
     let rest = drop (p + length new) old in
@@ -36,7 +36,7 @@ over_before old p new q k fits before =
     ∙ take-take k (p - q) (drop q old) (omega (arith, before))
 
 -- those behind
-over_behind : (old : List ℕ) (p : ℕ) (new : List ℕ) (q k : ℕ) → p ≤ length old → p + length new ≤ q
+pub over_behind : (old : List ℕ) (p : ℕ) (new : List ℕ) (q k : ℕ) → p ≤ length old → p + length new ≤ q
     → take k (drop q (overwritten old p new)) ≡ take k (drop q old)
 over_behind old p new q k fits behind =
     ap (take k) (drop-append-drop (p + length new) old (take p old ++ new) q behind

@@ -1,0 +1,5 @@
+pub mod Bytes
+pub mod GuestLines
+pub mod DeviceLines
+pub mod HostLines
+pub mod Report
