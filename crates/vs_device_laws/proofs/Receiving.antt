@@ -246,7 +246,7 @@ module _ (others : List ℕ) where
               (live h has e.value.closed refl))) has,
           λ answer d allowed. keeps_read_answered chain answer.0 answer.1 r d found
               (some_after c.host d.host _ (after_read e.value.stream answer.0) (HasStreams others r.state.table)
-              (HasStreams others r.state.table) allowed.host
+              (HasStreams others r.state.table) allowed.0.host
               (λ h any has. has_moved others r.state.table h has (after_read e.value.stream answer.0 h)
               (all_stay e.value.stream h (after_read e.value.stream answer.0 h) (others-after_read e.value.stream answer.0 h)
               (open-after_read e.value.stream answer.0 h))) has),

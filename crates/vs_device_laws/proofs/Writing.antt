@@ -75,7 +75,7 @@ module _ (Can : Call → Situation → Type 0) (reaches : (call : Call) (s : Sit
         reaches (WriteStream e.value.stream (to_write e.value)) c refl (stream_open others w.state.table e c found has still),
         λ answer d allowed. keeps_write_answered e answer w d found
             (some_after c.host d.host _ (after_write e.value.stream (to_write e.value) answer) (HasStreams others w.state.table)
-            (HasStreams others w.state.table) allowed.host
+            (HasStreams others w.state.table) allowed.0.host
             (λ h any has. has_moved others w.state.table h has (after_write e.value.stream (to_write e.value) answer h)
             (all_stay e.value.stream h (after_write e.value.stream (to_write e.value) answer h)
             (others-after_write e.value.stream (to_write e.value) answer h)
