@@ -1,17 +1,30 @@
 //! Laws of the device over a ring that tells its log.
 
-ghost use Rattle.std.specs.Prelude.{◌≡◌, ◌<◌, ◌≤◌, ◌^◌, ℕ, Bool, List, Result, Contains, length};
+ghost use Rattle.std.specs.Prelude.{◌≡◌, ◌<◌, ◌≤◌, ◌^◌, ℕ, Bool, true, List, [], Some, Result, Contains, length, take, drop};
+ghost use Rattle.std.specs.Option.{ForSome};
+ghost use Rattle.vs_contents.specs.Contents.{Relates};
 ghost use Rattle.vs_flow.specs.declared.flow.Flow.{Flow};
 ghost use Rattle.vs_flow.specs.declared.table.TableFault.{TableFault};
+ghost use Rattle.vs_header.specs.Packet.{header_of};
+ghost use Rattle.vs_header.specs.declared.Header.{Header};
+ghost use Rattle.vs_header.specs.declared.TheConstants.{HEADER_LEN};
+ghost use Rattle.vs_history.specs.Packets.{is_rw};
 ghost use Rattle.vs_history.specs.declared.TheConstants.{BUF_ALLOC};
+ghost use Rattle.vs_history.specs.declared.packet.Packet.{Packet};
 ghost use Rattle.vs_matching.specs.Steps.{IsNextFlow};
+ghost use Rattle.vs_page.specs.Held.{packet_held};
 ghost use Rattle.vs_page.specs.Log.{Device};
-ghost use Rattle.vs_ring_port.specs.Contents.{RingContents};
+ghost use Rattle.vs_page.specs.declared.log.LogEntry.TheVariants.{PutEvent, PutPacket};
+ghost use Rattle.vs_ring_port.specs.Chains.{Held};
+ghost use Rattle.vs_ring_port.specs.Contents.{Read, RingContents, Take};
 ghost use Rattle.vs_ring_port.specs.EndLog.{EndLog};
+ghost use Rattle.vs_ring_port.specs.declared.device_ring.Chain.{Chain};
+ghost use Rattle.vs_ring_port.specs.declared.device_ring.Next.TheVariants as next;
 ghost use Rattle.vs_ring_port.specs.declared.failure.Failure.{Failure};
-ghost use Rattle.vs_device.specs.Calls.{DeviceTree, Situation};
+ghost use Rattle.vs_ring_port.specs.declared.queue.Queue.TheVariants.{Event, Rx, Tx};
+ghost use Rattle.vs_device.specs.Calls.{Allows, DeviceTree, Ring, Situation};
 ghost use Rattle.vs_device.specs.Playing.{MayRun, Runs};
-ghost use Rattle.vs_device.specs.Receiving.{fill_rx_of, pay_event_of};
+ghost use Rattle.vs_device.specs.Receiving.{event_on, fill_rx_of, pay_event_of, written};
 ghost use Rattle.vs_device.specs.State.{DeviceEntry, DeviceState};
 ghost use Rattle.vs_device.specs.Streams.{Writing, pump_of, tick_of};
 ghost use Rattle.vs_device.specs.Transmitting.{take_tx_of};
@@ -20,6 +33,7 @@ ghost use Rattle.vs_device.specs.declared.answers.Filled.{Filled};
 ghost use Rattle.vs_device.specs.declared.answers.Taken.{Taken};
 ghost use Rattle.vs_device_log.specs.Answers.{MayRunHost, MayRunRing};
 ghost use Rattle.vs_device_log.specs.Honest.{AgreesWith, IsFitFlow, IsFresh, IsLeftOpen, IsWith, ends_of_state, port_after};
+ghost use Rattle.vs_device_log.specs.Packets.{HasAdded, HasTaken, HoldsLast, IsWholeAs, packet_with};
 
 /// Over a ring that tells its log the device holds the one chain that it keeps for the next packet, and all that a call does on the ring may be
 /// done. Over an honest ring each packet that it puts keeps the log fair, so it never exceeds the credit that was advertised; after the call its
@@ -64,6 +78,25 @@ pub fn law_of_the_table()
     ensures pending { (first port : ℕ) (s : DeviceState) (l : EndLog) (e : DeviceEntry) → AgreesWith first port s l → Contains s.table.entries e
         → length e.value.pending ≤ BUF_ALLOC }
     ensures no_overrun { (first port : ℕ) (s : DeviceState) (l : EndLog) → AgreesWith first port s l → s.overrun ≡ 0 }
+{}
+
+/// Over any ring that tells its log a packet is one entry. The packet that the device writes into a chain and returns is put, with its header
+/// and its payload; an event likewise. A chain of tx that is taken is a page, whose packet is got where it holds one; what is read of the chain is
+/// read of that page, and so the header and the payload that the device hears are the packet's (Virtio 1.2, sections 5.10.6 and 5.10.6.7).
+pub fn law_of_packets()
+    ensures put { (chain : Chain) (others : List Held) (h : Header) (payload : List ℕ) (a b : Situation) → chain.queue ≡ Rx → IsWholeAs h payload
+        → ForSome a.ring.log (HoldsLast chain [] others) → Runs (written chain h payload) a tt b
+        → Relates a.ring.log b.ring.log (HasAdded (PutPacket (packet_with h payload)) others) }
+    ensures event { (chain : Chain) (others : List Held) (s : DeviceState) (x : DeviceState × Result Bool Failure) (a b : Situation)
+        → chain.queue ≡ Event → ForSome a.ring.log (HoldsLast chain [] others) → Runs (event_on (next.Chain chain) s) a x b
+        → Relates a.ring.log b.ring.log (HasAdded (PutEvent 0) others) }
+    ensures taken { (chain : Chain) (a b : Situation) → Allows (Ring (Take Tx)) (next.Chain chain) a b
+        → Relates a.ring.log b.ring.log (HasTaken chain) }
+    ensures read { (chain : Chain) (page bytes : List ℕ) (others : List Held) (place count : ℕ) (a b : Situation)
+        → Allows (Ring (Read chain place count)) bytes a b → (l : EndLog) → a.ring.log ≡ Some l → HoldsLast chain page others l
+        → bytes ≡ take count (drop place page) }
+    ensures heard { (page : List ℕ) (p : Packet) → packet_held page ≡ Some p
+        → (p.header ≡ header_of (take HEADER_LEN page)) × (is_rw p ≡ true → p.payload ≡ take p.header.len (drop HEADER_LEN page)) }
 {}
 
 /// What the ring asks and what the host asks of its calls is all that is asked.

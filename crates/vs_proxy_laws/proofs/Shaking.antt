@@ -172,7 +172,7 @@ module _ (Can : Call → Situation → Type 0) (reaches : (call : Call) (s : Sit
                 (λ k has. has.joins.others_open stream on.among) has),
             λ answer d allowed. keeps_byte_read h t d (subst (Contains (streams_of t.state)) (sym on.stream_is) on.among)
                 (some_after c.host d.host _ (after_read stream answer.0) (HasStreams (streams_of t.state) t.state.device.table)
-                (HasStreams (streams_of t.state) t.state.device.table) allowed.host
+                (HasStreams (streams_of t.state) t.state.device.table) allowed.0.host
                 (λ k any has. has_moved (streams_of t.state) t.state.device.table k has (after_read stream answer.0 k)
                 (all_stay stream k (after_read stream answer.0 k) (others-after_read stream answer.0 k)
                 (open-after_read stream answer.0 k))) has)
