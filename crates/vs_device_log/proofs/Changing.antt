@@ -1,5 +1,5 @@
 -- Decisions of a connection: no packet passes, and the device still matches its log.
-use Rattle.std.proofs.Common.{◌≡◌, ℕ, ◌-◌, ◌<◌, ◌≤◌, ◌==◌, Bool, true, false, cond, List, [], ◌∷◌, ◌++◌, length, drop, take, Contains, Option, Some, None, refl, sym, ap, subst, ◌∙◌, arith, length-append, length-drop, length-take}
+use Rattle.std.proofs.Common.{◌≡◌, ℕ, ◌-◌, ◌≤◌, Bool, true, false, cond, List, [], ◌∷◌, ◌++◌, length, drop, Contains, refl, sym, ap, subst, ◌∙◌, arith, length-append, length-drop, length-take}
 use Rattle.std.proofs.lemmas.Grind.{common_steps}
 use Rattle.vs_conn.specs.End.{ConnectionEnd, wanting_credit, with_payload_forwarded, with_shut}
 use Rattle.vs_conn.specs.Follows.{Follows}
@@ -19,7 +19,7 @@ use Rattle.vs_device.specs.State.{DeviceConnection, DeviceEntry, DeviceState}
 use Rattle.vs_device.specs.Connections.{after_shut, after_written, cut_off, with_connection}
 use Rattle.vs_device.specs.Streams.{to_write}
 use Rattle.vs_device_log.specs.Honest.{HoldsBytes, IsFit, IsFitState, ends_of_state, ends_with}
-use Rattle.vs_device_log.proofs.Fits.{fewer, fits_forwarded, fits_shut}
+use Rattle.vs_device_log.proofs.Fits.{fits_forwarded, fits_shut}
 use Rattle.vs_device_log.proofs.Tabling.{IsFitConnection, begun_fits, connection_ends, connection_fits, entry_fits, has_end}
 
 -- What a step does that puts and gets nothing.

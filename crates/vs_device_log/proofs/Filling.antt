@@ -1,8 +1,8 @@
 -- What filling the receive queue keeps, part by part.
-use Rattle.std.proofs.Common.{◌≡◌, ℕ, ◌+◌, ◌<◌, ◌≤◌, ◌^◌, ◌==◌, ◌&&◌, ◌||◌, not, Bool, true, false, cond, if◌then◌else◌, List, [], ◌∷◌, length, Contains, Option, Some, None, Result, Ok, Err, refl, sym, ap, subst, ◌∙◌, arith, IfSome, IsOkAnd}
+use Rattle.std.proofs.Common.{◌≡◌, ℕ, ◌+◌, ◌≤◌, ◌==◌, ◌&&◌, ◌||◌, not, Bool, true, false, cond, if◌then◌else◌, List, [], ◌∷◌, length, Contains, Option, Some, None, Result, Ok, Err, refl, sym, subst, ◌∙◌, arith, IfSome, IsOkAnd}
 use Rattle.std.proofs.lemmas.Grind.{common_steps}
-use Rattle.vs_contents.specs.CallTree.{Done, Ask, bind, for_each, while_up_to}
-use Rattle.vs_conn.specs.End.{CanSend, ConnectionEnd, owes_of, paid_of, state_may_send, wanting_credit, with_payload_sent}
+use Rattle.vs_contents.specs.CallTree.{Done, bind, for_each, while_up_to}
+use Rattle.vs_conn.specs.End.{ConnectionEnd, owes_of, paid_of, state_may_send, wanting_credit, with_payload_sent}
 use Rattle.vs_conn.specs.Headers.{owed_header, payload_header}
 use Rattle.vs_conn.specs.declared.end.Owed.{Owed}
 use Rattle.vs_conn.specs.declared.end.Owed.TheVariants as owed
@@ -13,7 +13,6 @@ use Rattle.vs_conn.specs.declared.end.TheConstants.{OWED_MAX}
 use Rattle.vs_credit.specs.Credit.{free_of}
 use Rattle.vs_flow.specs.Table.{entry_under, slots}
 use Rattle.vs_header.specs.declared.Header.{Header}
-use Rattle.vs_header.specs.declared.TheConstants.{HEADER_LEN}
 use Rattle.vs_outside.specs.declared.host_net.StreamRead.{StreamRead}
 use Rattle.vs_outside.specs.declared.host_net.StreamRead.TheVariants as read
 use Rattle.vs_replies.specs.declared.Reply.{Reply}
@@ -28,11 +27,10 @@ use Rattle.vs_device.specs.Connections.{after_leaving, after_shut, cut_off, rout
 use Rattle.vs_device.specs.Playing.{IsRxChain}
 use Rattle.vs_device.specs.Receiving.{Filling, after_paying, fill_rx_of, filled_of, hold, may_read, put_on, put_owed, put_packet, put_payload, put_reply, put_reply_of, read_answered, read_room, read_stream, read_with_chain, reply_header, round_from, serve_slot}
 use Rattle.vs_device.specs.State.{DeviceConnection, DeviceEntry, DeviceState}
-use Rattle.vs_device_log.specs.Honest.{IsFitState, IsToldOf, IsWith}
-use Rattle.vs_device_log.proofs.Changing.{Changes, cuts, shuts, wants}
-use Rattle.vs_device_log.proofs.Keeping.{Goes, Keeps, keeps_bind, keeps_each, keeps_then, keeps_weaker, keeps_while}
+use Rattle.vs_device_log.specs.Honest.{IsFitState, IsWith}
+use Rattle.vs_device_log.proofs.Changing.{cuts, shuts, wants}
+use Rattle.vs_device_log.proofs.Keeping.{Goes, Keeps, keeps_bind, keeps_each, keeps_then, keeps_while}
 use Rattle.vs_device_log.proofs.Putting.{Puts, owed_puts, reply_puts, rst_puts, send_puts}
-use Rattle.vs_device_log.proofs.Ringing.{Tells}
 use Rattle.vs_device_log.proofs.Steps.{Filled, Open, changed, closing_keeps, goes_on, hold_keeps, open_filled}
 use Rattle.vs_device_log.proofs.Writing.{writes_first, written_keeps}
 

@@ -1,13 +1,13 @@
 -- A connection's pending bytes are unread ones of its end, whatever the end does.
-use Rattle.std.proofs.Common.{◌≡◌, ℕ, ◌+◌, ◌-◌, ◌%◌, ◌^◌, ◌<◌, ◌≤◌, ◌==◌, ◌&&◌, not, Bool, true, false, cond, Option, Some, None, refl, sym, ap, subst, ◌∙◌, arith, rules, List, [], ◌++◌, length, drop, length-append, length-drop}
+use Rattle.std.proofs.Common.{◌≡◌, ℕ, ◌+◌, ◌-◌, ◌%◌, ◌^◌, ◌<◌, ◌≤◌, Bool, true, false, cond, Option, Some, None, refl, arith}
 use Rattle.std.proofs.lemmas.Bool.Decides.{nat_tests}
 use Rattle.std.proofs.lemmas.Grind.{common_steps}
-use Rattle.vs_conn.specs.End.{ConnectionEnd, after_message, after_op, asked, end_after, paid_of, payload_verdict, verdict_of, with_heard_packet, with_shut}
+use Rattle.vs_conn.specs.End.{ConnectionEnd, after_message, after_op, end_after, paid_of, verdict_of, with_heard_packet, with_shut}
 use Rattle.vs_conn.specs.declared.end.Owed.{Owed}
 use Rattle.vs_conn.specs.declared.end.Owed.TheVariants as owed
 use Rattle.vs_conn.specs.declared.end.Verdict.{Verdict}
 use Rattle.vs_conn.specs.declared.end.Verdict.TheVariants as verdict
-use Rattle.vs_credit.specs.Credit.{unread_of, room_of, with_forwarded, with_sent, with_taken}
+use Rattle.vs_credit.specs.Credit.{room_of, with_forwarded, with_sent, with_taken}
 use Rattle.vs_credit.specs.declared.Credit.{Credit}
 use Rattle.vs_header.specs.Op.{op_named}
 use Rattle.vs_header.specs.declared.Header.{Header}

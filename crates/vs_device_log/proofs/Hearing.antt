@@ -1,5 +1,5 @@
 -- What the device keeps as it takes a packet, whose page stands in the log: each verdict, and each end of a REQUEST.
-use Rattle.std.proofs.Common.{◌≡◌, ℕ, ◌+◌, ◌-◌, ◌<◌, ◌≤◌, ◌==◌, ◌&&◌, Bool, true, false, cond, if◌then◌else◌, List, [], ◌∷◌, ◌++◌, length, take, drop, Contains, Option, Some, None, refl, sym, ap, subst, ◌∙◌, arith, length-append, length-take}
+use Rattle.std.proofs.Common.{◌≡◌, ℕ, ◌+◌, ◌≤◌, ◌==◌, ◌&&◌, Bool, true, false, cond, List, [], ◌∷◌, ◌++◌, length, take, drop, Contains, Option, Some, None, refl, sym, ap, subst, ◌∙◌, arith, length-append, length-take}
 use Rattle.std.proofs.lemmas.Bool.Decides.{nat_tests}
 use Rattle.std.proofs.lemmas.Grind.{common_steps}
 use Rattle.vs_contents.specs.CallTree.{Done, Ask, bind}
@@ -10,12 +10,11 @@ use Rattle.vs_conn.specs.declared.end.Why.{Why}
 use Rattle.vs_conn.specs.declared.end.Why.TheVariants as why
 use Rattle.vs_flow.specs.Flow.{is_assigned, same_flow}
 use Rattle.vs_flow.specs.Table.{entry_of, has_place}
-use Rattle.vs_flow.specs.declared.flow.Flow.{Flow}
 use Rattle.vs_flow.proofs.Entries.{same_flow_true}
 use Rattle.vs_header.specs.Op.{op_named}
 use Rattle.vs_header.specs.declared.Header.{Header}
 use Rattle.vs_header.specs.declared.TheConstants.{HEADER_LEN}
-use Rattle.vs_history.specs.Packets.{is_request, is_rst}
+use Rattle.vs_history.specs.Packets.{is_request}
 use Rattle.vs_history.specs.declared.packet.Packet.{Packet}
 use Rattle.vs_outside.specs.declared.host_net.Dialed.{Dialed}
 use Rattle.vs_outside.specs.declared.host_net.Dialed.TheVariants as dialed
@@ -26,21 +25,21 @@ use Rattle.vs_page.specs.Open.{is_dropped}
 use Rattle.vs_page.specs.declared.log.LogEntry.TheVariants.{GotPacket}
 use Rattle.vs_replies.specs.Owed.{reply_to}
 use Rattle.vs_ring_port.specs.Chains.{Held, bytes_in}
-use Rattle.vs_ring_port.specs.Contents.{RingContents, Read}
+use Rattle.vs_ring_port.specs.Contents.{RingContents}
 use Rattle.vs_ring_port.specs.EndLog.{EndLog}
 use Rattle.vs_ring_port.specs.declared.device_ring.Chain.{Chain}
 use Rattle.vs_matching.specs.Ends.{is_new}
 use Rattle.vs_matching.specs.Steps.{is_overrun}
 use Rattle.vs_matching.proofs.Slots.{found_by}
-use Rattle.vs_device.specs.Calls.{DeviceTree, Dial, Ring}
+use Rattle.vs_device.specs.Calls.{DeviceTree, Dial}
 use Rattle.vs_device.specs.Connections.{after_leaving, stream_closed, with_connection, with_dialed, with_fault, with_reply}
 use Rattle.vs_device.specs.State.{DeviceConnection, DeviceEntry, DeviceState}
 use Rattle.vs_device.specs.Streams.{leaving}
 use Rattle.vs_device.specs.Transmitting.{dial_answered, heard, on_known, on_packet, on_unknown, refused, try_request, unknown_why}
 use Rattle.vs_wrap.specs.Wrap.{counted}
-use Rattle.vs_device_log.specs.Honest.{AgreesWith, HasNothing, HoldsBytes, IsLeft, unwritten}
+use Rattle.vs_device_log.specs.Honest.{AgreesWith, HoldsBytes, IsLeft, unwritten}
 use Rattle.vs_device_log.proofs.Fits.{delivered, fewer, fits_after}
-use Rattle.vs_device_log.proofs.Keeping.{Keeps, keeps_bind, keeps_then}
+use Rattle.vs_device_log.proofs.Keeping.{Keeps, keeps_bind}
 use Rattle.vs_device_log.proofs.Ringing.{HoldsFirst, Tells, moves, tells_weaker}
 use Rattle.vs_device_log.proofs.Steps.{closing_keeps}
 use Rattle.vs_device_log.proofs.Tabling.{IsFitConnection, begun_fits, entry_fits}

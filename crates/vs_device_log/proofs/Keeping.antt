@@ -1,11 +1,11 @@
 -- What a conversation keeps of its ring: what holds at each of its ends, where each of its calls on the ring may be made.
-use Rattle.std.proofs.Common.{◌≡◌, ℕ, zero, suc, ◌<◌, ◌≤◌, length, Bool, true, false, List, [], ◌∷◌, refl, sym, ap, subst, ◌∙◌}
+use Rattle.std.proofs.Common.{◌≡◌, ℕ, zero, suc, ◌<◌, ◌≤◌, length, Bool, true, false, List, [], ◌∷◌, subst}
 use Rattle.vs_contents.specs.CallTree.{Done, Ask, bind, for_each, while_up_to}
-use Rattle.vs_ring_port.specs.Contents.{RingContents, DeviceCall, DeviceAnswer, Take, Read, Write, Return, Given, PublishCid}
+use Rattle.vs_ring_port.specs.Contents.{RingContents, DeviceCall, Take, Read, Write, Return, Given, PublishCid}
 use Rattle.vs_ring_port.specs.DeviceCalls.{CanReturn, DeviceAllows, LeavesNoGap}
 use Rattle.vs_device.specs.Calls.{Call, Answer, Ring, Accept, Dial, Label, ReadStream, WriteStream, ShutWrite, CloseStream, DeviceTree, Situation, Allows, IsFitAnswer, TakesWithin}
 use Rattle.vs_device.specs.Playing.{Runs}
-use Rattle.vs_device_log.specs.Answers.{CanMakeOnRing, MayRunRing}
+use Rattle.vs_device_laws.specs.Split.{CanPut, MayPut}
 
 -- What the ring asks of a call, and what the call leaves of it.
 abbrev pub Can : Call → RingContents → Type 0
@@ -17,7 +17,7 @@ abbrev pub Moves : (call : Call) → Answer call → RingContents → RingConten
 Moves (Ring call) a c d = DeviceAllows call a c d
 Moves _ a c d = d ≡ c
 
-can_ring : (call : DeviceCall) (s : Situation) → Can (Ring call) s.ring → CanMakeOnRing (Ring call) s
+can_ring : (call : DeviceCall) (s : Situation) → Can (Ring call) s.ring → CanPut (Ring call) s
 can_ring (Take queue) s can = tt
 can_ring (Read chain place count) s can = tt
 can_ring (Write chain place bytes) s can = can
@@ -25,7 +25,7 @@ can_ring (Return chain len) s can = can
 can_ring (Given queue) s can = tt
 can_ring (PublishCid cid) s can = tt
 
-can_make : (call : Call) (s : Situation) → Can call s.ring → CanMakeOnRing call s
+can_make : (call : Call) (s : Situation) → Can call s.ring → CanPut call s
 can_make (Ring call) s can = can_ring call s can
 can_make Accept s can = tt
 can_make (Dial path flow) s can = tt
@@ -68,10 +68,10 @@ Keeps Q (Ask call next) c =
     Can call c × ((a : Answer call) (d : RingContents) → IsFit call a → Moves call a c d → Keeps Q (next a) d)
 
 module _ {A : Type 0} (Q : A → RingContents → Type 0) where
-  pub keeps_may : (t : DeviceTree A) (s : Situation) → Keeps Q t s.ring → MayRunRing t s
-  keeps_may (Done x) s keeps = tt
-  keeps_may (Ask call next) s keeps =
-      (can_make call s keeps.0, λ a d allowed. keeps_may (next a) d (keeps.1 a d.ring (fitted call a s d allowed) (moved call a s d allowed)))
+  pub keeps_put : (t : DeviceTree A) (s : Situation) → Keeps Q t s.ring → MayPut t s
+  keeps_put (Done x) s keeps = tt
+  keeps_put (Ask call next) s keeps =
+      (can_make call s keeps.0, λ a d allowed. keeps_put (next a) d (keeps.1 a d.ring (fitted call a s d allowed) (moved call a s d allowed)))
 
   pub keeps_end : (t : DeviceTree A) (s d : Situation) (x : A) → Keeps Q t s.ring → Runs t s x d → Q x d.ring
   keeps_end (Done y) s d x keeps runs =

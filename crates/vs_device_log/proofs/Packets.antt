@@ -1,9 +1,8 @@
 -- What one packet does to the log: the packet that is put, the one that is taken, and an event.
-use Rattle.std.proofs.Common.{◌≡◌, ℕ, ◌+◌, ◌≤◌, ◌==◌, nat_le, Bool, true, false, cond, List, [], ◌∷◌, ◌++◌, length, take, drop, Option, Some, None, Result, refl, sym, ap, subst, ◌∙◌, arith}
+use Rattle.std.proofs.Common.{◌≡◌, ℕ, ◌+◌, ◌==◌, nat_le, Bool, true, false, cond, List, [], ◌∷◌, ◌++◌, length, take, drop, Option, Some, None, Result, refl, sym, ap, subst, ◌∙◌}
 use Rattle.std.proofs.lemmas.List.{append-nil}
 use Rattle.std.specs.Option.{ForSome, option_map}
 use Rattle.byteorder.specs.Endian.{little_bytes}
-use Rattle.vs_contents.specs.CallTree.{Done, Ask, bind}
 use Rattle.vs_contents.specs.Contents.{Exposes, Relates}
 use Rattle.vs_header.specs.Packet.{header_bytes, header_of}
 use Rattle.vs_header.specs.declared.Header.{Header}
@@ -17,7 +16,7 @@ use Rattle.vs_page.specs.declared.log.LogEntry.TheVariants.{PutEvent, PutPacket}
 use Rattle.vs_ring_port.specs.Chains.{Held, bytes_in}
 use Rattle.vs_ring_port.specs.Contents.{DeviceAnswer, DeviceCall, Read, Return, RingContents, Take, Write}
 use Rattle.vs_ring_port.specs.DeviceCalls.{DeviceMoves, IsTakenAs}
-use Rattle.vs_ring_port.specs.EndLog.{EndLog, entries_returned, log_returned, log_taken, log_written, with_packet}
+use Rattle.vs_ring_port.specs.EndLog.{EndLog, log_returned, log_taken, log_written, with_packet}
 use Rattle.vs_ring_port.specs.Lists.{Rings}
 use Rattle.vs_ring_port.specs.declared.device_ring.Chain.{Chain}
 use Rattle.vs_ring_port.specs.declared.device_ring.Next.TheVariants as next

@@ -1,5 +1,5 @@
 -- The steps at which the device puts a packet: payload is sent, what is owed is paid, a reply is given.
-use Rattle.std.proofs.Common.{◌≡◌, ℕ, suc, ◌<◌, ◌≤◌, ◌^◌, false, List, [], ◌∷◌, ◌++◌, length, map, Contains, Some, refl, sym, ap, subst, ◌∙◌, arith}
+use Rattle.std.proofs.Common.{◌≡◌, ℕ, suc, ◌<◌, ◌^◌, false, List, [], ◌∷◌, ◌++◌, length, map, Contains, Some, refl, sym, ap, subst, ◌∙◌, arith}
 use Rattle.std.specs.List.{All}
 use Rattle.std.proofs.lemmas.Grind.{common_steps}
 use Rattle.std.proofs.lemmas.List.{append-nil}
@@ -10,7 +10,6 @@ use Rattle.vs_conn.specs.declared.end.Owed.TheVariants as owed
 use Rattle.vs_header.specs.Packet.{header_bytes}
 use Rattle.vs_header.specs.declared.Header.{Header}
 use Rattle.vs_header.specs.declared.Op.TheVariants as op
-use Rattle.vs_history.specs.Packets.{packet_bytes}
 use Rattle.vs_history.specs.declared.packet.Packet.{Packet}
 use Rattle.vs_flow.specs.declared.flow.Flow.{Flow}
 use Rattle.vs_flow.specs.Table.{Table, with_value, without}
@@ -21,12 +20,12 @@ use Rattle.vs_page.specs.declared.log.LogEntry.TheVariants.{PutPacket}
 use Rattle.vs_replies.specs.declared.Reply.{Reply}
 use Rattle.vs_matching.specs.Ends.{Ends, is_new}
 use Rattle.vs_matching.specs.Matches.{Matches}
-use Rattle.vs_matching.specs.Steps.{owed_on, paid, payload_on, reply_on, with_end}
+use Rattle.vs_matching.specs.Steps.{owed_on, paid, payload_on, with_end}
 use Rattle.vs_matching.proofs.Keeps.{pays, pays_fair, replies, replies_fair, sends, sends_fair}
 use Rattle.vs_device.specs.Connections.{route_to_guest, with_connection}
 use Rattle.vs_device.specs.Receiving.{reply_header}
 use Rattle.vs_device.specs.State.{DeviceConnection, DeviceEntry, DeviceState}
-use Rattle.vs_device_log.specs.Honest.{HoldsBytes, IsFit, IsFitEntry, IsFitReply, IsFitState, end_in, ends_of_state, ends_with, reply_flow}
+use Rattle.vs_device_log.specs.Honest.{HoldsBytes, IsFit, IsFitEntry, IsFitReply, IsFitState, ends_of_state, ends_with, reply_flow}
 use Rattle.vs_device_log.proofs.Bytes.{held_alone, held_payload, header_fits, owed_flags_fit, reset_fits}
 use Rattle.vs_device_log.proofs.Fits.{fits_paid, fits_sent}
 use Rattle.vs_device_log.proofs.Tabling.{begun_fits, connection_ends, connection_fits, entry_fits, has_end, left_ends, left_fits}

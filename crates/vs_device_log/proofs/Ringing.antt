@@ -1,29 +1,20 @@
 -- What a call on a ring that tells its log keeps.
-use Rattle.std.proofs.Common.{◌≡◌, ℕ, zero, ◌+◌, ◌<◌, ◌≤◌, ◌==◌, Bool, true, false, cond, List, [], ◌∷◌, ◌++◌, length, take, drop, Option, Some, None, refl, sym, ap, subst, ◌∙◌, arith, length-append}
+use Rattle.std.proofs.Common.{◌≡◌, ℕ, ◌+◌, ◌≤◌, Bool, true, cond, List, [], ◌∷◌, ◌++◌, length, take, drop, Option, Some, None, refl, sym, ap, subst, ◌∙◌, arith, length-append}
 use Rattle.std.proofs.lemmas.Bool.Decides.{nat_tests}
 use Rattle.std.proofs.lemmas.List.{take_at}
 use Rattle.std.specs.Option.{ForSome}
-use Rattle.vs_contents.specs.CallTree.{Done, Ask, bind}
 use Rattle.vs_contents.specs.Contents.{Exposes}
-use Rattle.vs_header.specs.Packet.{header_bytes}
-use Rattle.vs_header.specs.declared.Header.{Header}
-use Rattle.vs_header.specs.declared.TheConstants.{HEADER_LEN}
-use Rattle.vs_history.specs.declared.packet.Packet.{Packet}
 use Rattle.vs_page.specs.Fair.{IsFairLog}
-use Rattle.vs_page.specs.Held.{packet_held}
-use Rattle.vs_page.specs.Log.{Device, Log}
+use Rattle.vs_page.specs.Log.{Device}
 use Rattle.vs_page.specs.Overwriting.{overwritten}
-use Rattle.vs_page.specs.declared.log.LogEntry.TheVariants.{PutPacket}
 use Rattle.vs_ring_port.specs.Chains.{Held, bytes_in, same_chain, same_queue, with_bytes, without_held}
-use Rattle.vs_ring_port.specs.Contents.{RingContents, DeviceCall, DeviceAnswer, Take, Read, Write, Return, PublishCid}
-use Rattle.vs_ring_port.specs.DeviceCalls.{CanReturn, DeviceAllows, DeviceMoves, IsWholePacket, LeavesNoGap}
-use Rattle.vs_ring_port.specs.DriverCalls.{HoldsPacket}
-use Rattle.vs_ring_port.specs.EndLog.{EndLog, entries_returned, log_returned, log_written, with_packet}
+use Rattle.vs_ring_port.specs.Contents.{RingContents, DeviceCall, DeviceAnswer}
+use Rattle.vs_ring_port.specs.DeviceCalls.{DeviceMoves}
+use Rattle.vs_ring_port.specs.EndLog.{EndLog, entries_returned, log_returned, log_written}
 use Rattle.vs_ring_port.specs.Lists.{Rings}
 use Rattle.vs_ring_port.specs.declared.device_ring.Chain.{Chain}
 use Rattle.vs_ring_port.specs.declared.queue.Queue.{Queue}
 use Rattle.vs_ring_port.specs.declared.queue.Queue.TheVariants.{Rx, Tx, Event}
-use Rattle.vs_device_log.proofs.Keeping.{Keeps}
 
 -- P holds of the log that a ring tells; it depends on whether the ring is honest.
 abbrev pub Tells : (Bool → EndLog → Type 0) → RingContents → Type 0

@@ -1,18 +1,13 @@
--- The table that is shown and what is pending, and the log; what ring and host ask.
-use Rattle.std.proofs.Common.{◌≡◌, ℕ, ◌≤◌, ◌||◌, List, [], ◌∷◌, map, length, Contains, refl, ap, ◌∙◌, arith}
-use Rattle.vs_contents.specs.CallTree.{Done, Ask}
-use Rattle.vs_conn.specs.End.{ConnectionEnd}
+-- The table that is shown and what is pending, and the log.
+use Rattle.std.proofs.Common.{◌≡◌, ℕ, ◌≤◌, List, [], ◌∷◌, map, length, Contains, refl, ap, ◌∙◌, arith}
 use Rattle.vs_flow.specs.declared.flow.Flow.{Flow}
 use Rattle.vs_history.specs.declared.TheConstants.{BUF_ALLOC}
 use Rattle.vs_page.specs.Log.{Device}
 use Rattle.vs_ring_port.specs.EndLog.{EndLog}
 use Rattle.vs_matching.specs.Ends.{FlowEnd, flows_of, is_among}
 use Rattle.vs_matching.proofs.Tables.{all_open}
-use Rattle.vs_device.specs.Calls.{Call, Accept, Dial, Label, ReadStream, WriteStream, ShutWrite, CloseStream, DeviceTree, Ring, Situation}
-use Rattle.vs_device.specs.Playing.{CanMake, MayRun}
 use Rattle.vs_device.specs.State.{DeviceEntry, DeviceState}
 use Rattle.vs_device.specs.Turns.{table_shown}
-use Rattle.vs_device_log.specs.Answers.{CanMakeOnHost, CanMakeOnRing, MayRunHost, MayRunRing}
 use Rattle.vs_device_log.specs.Honest.{AgreesWith, IsLeftOpen, ends_of_state, flows_shown}
 use Rattle.vs_device_log.proofs.Tabling.{entry_fits}
 
@@ -29,21 +24,3 @@ pub pending_within : (first port : ℕ) (s : DeviceState) (l : EndLog) (e : Devi
     → length e.value.pending ≤ BUF_ALLOC
 pending_within first port s l e agrees there =
     let bytes = (entry_fits s agrees.fits e there).bytes in omega (arith, bytes.unread, bytes.within, bytes.alloc)
-
--- What ring and host ask is all that is asked.
-both : (call : Call) (s : Situation) → CanMakeOnRing call s → CanMakeOnHost call s → CanMake call s
-both (Ring call) s ring host = ring
-both Accept s ring host = host
-both (Dial path flow) s ring host = host
-both (Label stream flow) s ring host = host
-both (ReadStream stream n) s ring host = host
-both (WriteStream stream bytes) s ring host = host
-both (ShutWrite stream) s ring host = host
-both (CloseStream stream) s ring host = host
-
-pub both_may : {A : Type 0} (tree : DeviceTree A) (s : Situation) → MayRunRing tree s → MayRunHost tree s → MayRun tree s
-both_may (Done x) s ring host = tt
-both_may (Ask call next) s ring host = (
-  both call s ring.0 host.0,
-  λ a t allowed. both_may (next a) t (ring.1 a t allowed) (host.1 a t allowed),
-)

@@ -1,6 +1,5 @@
 -- Steps of the device between its calls on the ring, and the chain that it takes for a packet.
-use Rattle.std.proofs.Common.{◌≡◌, ℕ, ◌<◌, Bool, true, false, not, cond, List, [], ◌∷◌, Option, Some, None, refl, sym, ap, subst, ◌∙◌, IfSome}
-use Rattle.std.specs.Option.{ForSome}
+use Rattle.std.proofs.Common.{◌≡◌, ℕ, Bool, true, false, not, cond, List, [], ◌∷◌, Option, Some, None, refl, sym, ap, subst, ◌∙◌, IfSome}
 use Rattle.vs_contents.specs.CallTree.{Done, Ask, bind}
 use Rattle.vs_ring_port.specs.Chains.{Held}
 use Rattle.vs_ring_port.specs.Contents.{RingContents, Take}
@@ -10,17 +9,17 @@ use Rattle.vs_ring_port.specs.declared.device_ring.Chain.{Chain}
 use Rattle.vs_ring_port.specs.declared.device_ring.Next.{Next}
 use Rattle.vs_ring_port.specs.declared.device_ring.Next.TheVariants as next
 use Rattle.vs_ring_port.specs.declared.queue.Queue.TheVariants.{Rx}
-use Rattle.vs_device.specs.Calls.{CloseStream, DeviceTree, IsFitAnswer, Ring}
+use Rattle.vs_device.specs.Calls.{CloseStream, DeviceTree, IsFitAnswer}
 use Rattle.vs_device.specs.Connections.{with_connection}
 use Rattle.vs_device.specs.Playing.{IsRxChain}
 use Rattle.vs_device.specs.Receiving.{Filling, hold, holding}
 use Rattle.vs_device.specs.State.{DeviceConnection, DeviceEntry, DeviceState}
 use Rattle.vs_device.specs.Streams.{closing}
 use Rattle.vs_device.specs.Transmitting.{failing}
-use Rattle.vs_device_log.specs.Honest.{AgreesWith, IsFitState, IsToldOf, IsWith, unwritten}
+use Rattle.vs_device_log.specs.Honest.{IsFitState, IsToldOf, IsWith, unwritten}
 use Rattle.vs_device_log.proofs.Changing.{Changes}
-use Rattle.vs_device_log.proofs.Keeping.{Goes, Keeps, keeps_bind, keeps_then}
-use Rattle.vs_device_log.proofs.Ringing.{Tells, moves, tells_weaker}
+use Rattle.vs_device_log.proofs.Keeping.{Goes, Keeps}
+use Rattle.vs_device_log.proofs.Ringing.{moves}
 
 module _ (first port : ℕ) where
   -- A step that puts and gets nothing.

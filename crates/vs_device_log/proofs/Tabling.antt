@@ -1,8 +1,6 @@
 -- What steps on the table do to the device's numbers, and to its connections as ends.
-use Rattle.std.proofs.Common.{◌≡◌, ℕ, ◌+◌, ◌<◌, ◌^◌, ◌==◌, Bool, true, false, cond, not, List, [], ◌∷◌, ◌++◌, get_or, map, filter, length, Contains, Some, refl, sym, ap, subst, ◌∙◌, arith}
-use Rattle.std.specs.List.{All}
+use Rattle.std.proofs.Common.{◌≡◌, ℕ, ◌==◌, Bool, true, false, cond, not, List, [], ◌∷◌, get_or, map, filter, length, Contains, refl, sym, ap, subst, ◌∙◌}
 use Rattle.std.proofs.lemmas.List.Elements.{All-map, All-push, All-filter}
-use Rattle.vs_conn.specs.End.{ConnectionEnd}
 use Rattle.vs_flow.specs.Table.{Table, with_value, without, with_entry, next_entry, revalued}
 use Rattle.vs_flow.specs.declared.flow.Flow.{Flow}
 use Rattle.vs_flow.proofs.Tables.{revalued-slot, with_value_sound, without_sound, with_entry_sound, IsAccepted}

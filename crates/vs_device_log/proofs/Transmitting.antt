@@ -1,5 +1,5 @@
 -- What taking a packet of the guest keeps.
-use Rattle.std.proofs.Common.{◌≡◌, ℕ, zero, suc, ◌+◌, ◌-◌, ◌<◌, ◌≤◌, ◌==◌, nat_le, nat_lt, Bool, true, false, cond, if◌then◌else◌, List, [], ◌∷◌, length, take, drop, slice_index, get_or-drop, Option, Some, None, refl, sym, ap, subst, ◌∙◌, arith, IfSome, length-drop}
+use Rattle.std.proofs.Common.{◌≡◌, ℕ, ◌+◌, ◌-◌, ◌<◌, ◌≤◌, ◌==◌, nat_le, nat_lt, Bool, true, false, cond, if◌then◌else◌, List, [], ◌∷◌, length, take, drop, slice_index, get_or-drop, Option, Some, None, refl, sym, ap, subst, ◌∙◌, arith, IfSome, length-drop}
 use Rattle.std.proofs.lemmas.Bool.Decides.{nat_tests}
 use Rattle.std.specs.Option.{option_map}
 use Rattle.byteorder.specs.Numbers.{little_from-lt}
@@ -17,7 +17,7 @@ use Rattle.vs_page.specs.Held.{FitsWire, packet_held, packet_with, payload_held}
 use Rattle.vs_page.specs.Log.{Device, Log, flow_got}
 use Rattle.vs_page.specs.declared.log.LogEntry.TheVariants.{GotPacket}
 use Rattle.vs_page.proofs.Holding.{packet_whole}
-use Rattle.vs_ring_port.specs.Chains.{Held, bytes_in}
+use Rattle.vs_ring_port.specs.Chains.{Held}
 use Rattle.vs_ring_port.specs.Contents.{RingContents, Read, Return, Take}
 use Rattle.vs_ring_port.specs.DeviceCalls.{DeviceAllows, IsTakenAs}
 use Rattle.vs_ring_port.specs.EndLog.{EndLog, log_returned, log_taken, with_packet}
@@ -31,11 +31,11 @@ use Rattle.vs_matching.proofs.Fair.{own_got_fair}
 use Rattle.vs_device.specs.declared.answers.Taken.{Taken}
 use Rattle.vs_device.specs.declared.answers.Taken.TheVariants as taken
 use Rattle.vs_device.specs.declared.limits.TheConstants.{REPLIES}
-use Rattle.vs_device.specs.Calls.{DeviceTree, IsFitAnswer, Ring}
+use Rattle.vs_device.specs.Calls.{IsFitAnswer, Ring}
 use Rattle.vs_device.specs.Playing.{IsRxChain}
 use Rattle.vs_device.specs.State.{DeviceState}
 use Rattle.vs_device.specs.Transmitting.{failing, on_header, on_next, on_packet, take_tx_of}
-use Rattle.vs_device_log.specs.Honest.{AgreesWith, IsLeft, IsToldOf, IsWith, unwritten}
+use Rattle.vs_device_log.specs.Honest.{IsLeft, IsToldOf, IsWith, unwritten}
 use Rattle.vs_device_log.proofs.Hearing.{After, Came, Heard, IsCome, packet_keeps}
 use Rattle.vs_device_log.proofs.Keeping.{Keeps, keeps_then}
 use Rattle.vs_device_log.proofs.Ringing.{HoldsFirst, Tells, bytes_held, moves, returned_entries, returned_held, tells_weaker}

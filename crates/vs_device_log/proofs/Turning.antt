@@ -1,5 +1,5 @@
 -- What the owed event, a reset, a tick, a round of writing and an opening keep.
-use Rattle.std.proofs.Common.{◌≡◌, ℕ, ◌+◌, ◌-◌, ◌<◌, ◌≤◌, ◌^◌, ◌==◌, ◌&&◌, ◌||◌, Bool, true, false, cond, if◌then◌else◌, List, [], ◌∷◌, ◌++◌, length, take, drop, Contains, Option, Some, None, Result, Ok, Err, refl, sym, ap, subst, ◌∙◌, arith, IfSome, length-append, length-take}
+use Rattle.std.proofs.Common.{◌≡◌, ℕ, ◌+◌, ◌<◌, ◌≤◌, ◌^◌, ◌==◌, ◌&&◌, ◌||◌, Bool, true, false, cond, if◌then◌else◌, List, [], ◌∷◌, ◌++◌, length, take, Contains, Option, Some, None, Result, Ok, Err, refl, sym, ap, subst, arith, IfSome, length-append, length-take}
 use Rattle.std.proofs.lemmas.Bool.Decides.{nat_tests}
 use Rattle.byteorder.specs.Endian.{little_bytes}
 use Rattle.vs_contents.specs.CallTree.{Done, Ask, bind, for_each}
@@ -12,14 +12,12 @@ use Rattle.vs_flow.proofs.Tables.{accepted}
 use Rattle.vs_history.specs.declared.TheConstants.{BUF_ALLOC}
 use Rattle.vs_outside.specs.declared.host_net.StreamWrite.{StreamWrite}
 use Rattle.vs_outside.specs.declared.host_net.StreamWrite.TheVariants as write
-use Rattle.vs_page.specs.Fair.{IsFairLog}
-use Rattle.vs_page.specs.Log.{Device, Log, side_of}
+use Rattle.vs_page.specs.Log.{Device, Log}
 use Rattle.vs_page.specs.Overwriting.{overwritten}
-use Rattle.vs_page.specs.declared.log.LogEntry.TheVariants.{Mark, PutEvent}
 use Rattle.vs_ring_port.specs.Chains.{Held, bytes_in}
-use Rattle.vs_ring_port.specs.Contents.{RingContents, PublishCid, Return, Take, Write}
+use Rattle.vs_ring_port.specs.Contents.{RingContents, PublishCid, Return, Take}
 use Rattle.vs_ring_port.specs.DeviceCalls.{DeviceAllows, IsTakenAs, IsWholePacket}
-use Rattle.vs_ring_port.specs.EndLog.{EndLog, entries_returned, log_reset, log_returned, log_taken}
+use Rattle.vs_ring_port.specs.EndLog.{EndLog, log_reset, log_returned, log_taken}
 use Rattle.vs_ring_port.specs.declared.device_ring.Chain.{Chain}
 use Rattle.vs_ring_port.specs.declared.device_ring.Next.{Next}
 use Rattle.vs_ring_port.specs.declared.device_ring.Next.TheVariants as next
@@ -39,11 +37,11 @@ use Rattle.vs_device.specs.State.{DeviceConnection, DeviceEntry, DeviceState}
 use Rattle.vs_device.specs.Streams.{Writing, closing, is_written_out, pump_of, pump_slot, shut_write, tick_of, tick_slot, to_write, write_answered, write_pending}
 use Rattle.vs_device.specs.Transmitting.{failing}
 use Rattle.vs_device.specs.Turns.{after_reset, close_slot, new_device, open_of, reset_of}
-use Rattle.vs_device_log.specs.Honest.{AgreesWith, IsFit, IsFitFlow, IsFitState, IsFresh, IsLeft, IsToldOf, IsWith, end_in, ends_of_state, port_after, unwritten}
-use Rattle.vs_device_log.proofs.Changing.{Changes, cuts, same, shuts, unseen, writes}
+use Rattle.vs_device_log.specs.Honest.{IsFitFlow, IsFitState, IsFresh, IsLeft, IsToldOf, IsWith, end_in, ends_of_state, port_after, unwritten}
+use Rattle.vs_device_log.proofs.Changing.{cuts, shuts, unseen, writes}
 use Rattle.vs_device_log.proofs.Filling.{under_there}
-use Rattle.vs_device_log.proofs.Keeping.{Keeps, keeps_bind, keeps_each, keeps_then}
-use Rattle.vs_device_log.proofs.Ringing.{HoldsFirst, Tells, bytes_held, moves, returned_entries, returned_held, tells_weaker}
+use Rattle.vs_device_log.proofs.Keeping.{Keeps, keeps_each, keeps_then}
+use Rattle.vs_device_log.proofs.Ringing.{Tells, bytes_held, moves, returned_entries, returned_held, tells_weaker}
 use Rattle.vs_device_log.proofs.Steps.{changed, closing_keeps}
 use Rattle.vs_device_log.proofs.Tabling.{IsFitConnection, entry_fits, opening_fits}
 use Rattle.vs_device_log.proofs.Writing.{Writes, write_keeps}

@@ -1,8 +1,7 @@
 -- A packet, or an event, is written into a chain and returned with it.
-use Rattle.std.proofs.Common.{◌≡◌, ℕ, ◌+◌, ◌<◌, ◌≤◌, Bool, true, false, cond, List, [], ◌∷◌, ◌++◌, length, take, Option, Some, None, refl, sym, ap, subst, ◌∙◌, arith, IsSomeAnd, IfSome}
+use Rattle.std.proofs.Common.{◌≡◌, ℕ, ◌+◌, ◌≤◌, Bool, true, List, [], ◌∷◌, ◌++◌, length, take, Option, Some, None, refl, sym, ap, subst, ◌∙◌, arith, IsSomeAnd}
 use Rattle.std.proofs.lemmas.List.{append-nil}
-use Rattle.std.specs.Option.{ForSome}
-use Rattle.vs_contents.specs.CallTree.{Done, Ask, bind}
+use Rattle.vs_contents.specs.CallTree.{Ask, bind}
 use Rattle.vs_header.specs.Packet.{header_bytes}
 use Rattle.vs_header.specs.declared.Header.{Header}
 use Rattle.vs_header.specs.declared.TheConstants.{HEADER_LEN}
@@ -15,7 +14,7 @@ use Rattle.vs_page.specs.Overwriting.{overwritten}
 use Rattle.vs_page.specs.declared.log.LogEntry.TheVariants.{PutPacket}
 use Rattle.vs_ring_port.specs.Chains.{Held, bytes_in}
 use Rattle.vs_ring_port.specs.Contents.{RingContents, Return, Write}
-use Rattle.vs_ring_port.specs.DeviceCalls.{CanReturn, IsWholePacket, LeavesNoGap}
+use Rattle.vs_ring_port.specs.DeviceCalls.{CanReturn, IsWholePacket}
 use Rattle.vs_ring_port.specs.DriverCalls.{HoldsPacket}
 use Rattle.vs_ring_port.specs.EndLog.{EndLog, entries_returned, log_returned, log_written, with_packet}
 use Rattle.vs_ring_port.specs.declared.device_ring.Chain.{Chain}
@@ -23,13 +22,12 @@ use Rattle.vs_ring_port.specs.declared.queue.Queue.{Queue}
 use Rattle.vs_ring_port.specs.declared.queue.Queue.TheVariants.{Rx}
 use Rattle.vs_matching.specs.Matches.{Matches}
 use Rattle.vs_device.specs.Calls.{DeviceTree, Ring}
-use Rattle.vs_device.specs.Playing.{IsRxChain}
-use Rattle.vs_device.specs.Receiving.{Filling, put_on, written}
+use Rattle.vs_device.specs.Receiving.{written}
 use Rattle.vs_device.specs.State.{DeviceState}
 use Rattle.vs_device_log.specs.Honest.{AgreesWith, IsFitState, IsToldOf, IsWith, ends_of_state, unwritten}
-use Rattle.vs_device_log.proofs.Keeping.{Keeps, keeps_bind, keeps_then}
+use Rattle.vs_device_log.proofs.Keeping.{Keeps}
 use Rattle.vs_device_log.proofs.Putting.{Puts}
-use Rattle.vs_device_log.proofs.Ringing.{HoldsFirst, Tells, both_written, bytes_held, moves, one_written, overwritten_long, returned_entries, returned_held, tells_weaker, written_held}
+use Rattle.vs_device_log.proofs.Ringing.{HoldsFirst, Tells, both_written, bytes_held, moves, one_written, overwritten_long, returned_entries, returned_held, written_held}
 
 module _ (first port : ℕ) (s : DeviceState) where
   -- These bytes are written into the chain that was taken last.

@@ -31,26 +31,26 @@ ghost use Rattle.vs_device.specs.Transmitting.{take_tx_of};
 ghost use Rattle.vs_device.specs.Turns.{new_device, open_of, reset_of, table_shown};
 ghost use Rattle.vs_device.specs.declared.answers.Filled.{Filled};
 ghost use Rattle.vs_device.specs.declared.answers.Taken.{Taken};
-ghost use Rattle.vs_device_log.specs.Answers.{MayRunHost, MayRunRing};
+ghost use Rattle.vs_device_laws.specs.Streams.{FindsStreams};
 ghost use Rattle.vs_device_log.specs.Honest.{AgreesWith, IsFitFlow, IsFresh, IsLeftOpen, IsWith, ends_of_state, port_after};
 ghost use Rattle.vs_device_log.specs.Packets.{HasAdded, HasTaken, HoldsLast, IsWholeAs, packet_with};
 
-/// Over a ring that tells its log the device holds the one chain that it keeps for the next packet, and all that a call does on the ring may be
-/// done. Over an honest ring each packet that it puts keeps the log fair, so it never exceeds the credit that was advertised; after the call its
-/// connections are again those that the log left, and no packet held more payload than there was room for (Virtio 1.2, section 5.10.6.3).
+/// Over a ring that tells its log the device holds the one chain that it keeps for the next packet, and after each call it does again. Over an honest
+/// ring each packet that it puts keeps the log fair, so it never exceeds the credit that was advertised, and a call that puts packets may be made
+/// where the streams are open; after the call the connections are again those that the log left, and no packet held more payload than there was
+/// room for (Virtio 1.2, section 5.10.6.3).
 pub fn law_of_ring_calls()
     ensures new { (port cid : ℕ) (base : List ℕ) (c : RingContents) → cid < 2 ^ 64 → IsFresh c → IsWith cid port (new_device cid base) c }
-    ensures take_tx_may { (first port : ℕ) (s : DeviceState) (a : Situation) → IsWith first port s a.ring → MayRunRing (take_tx_of s) a }
     ensures take_tx { (first port : ℕ) (s : DeviceState) (a b : Situation) (x : DeviceState × Taken) → IsWith first port s a.ring
         → Runs (take_tx_of s) a x b → IsWith first port x.0 b.ring }
-    ensures pay_event_may { (first port : ℕ) (s : DeviceState) (a : Situation) → IsWith first port s a.ring → MayRunRing (pay_event_of s) a }
+    ensures pay_event_may { (others : List ℕ) (first port : ℕ) (s : DeviceState) (a : Situation) → FindsStreams others s a → IsWith first port s a.ring
+        → MayRun (pay_event_of s) a }
     ensures pay_event { (first port : ℕ) (s : DeviceState) (a b : Situation) (x : DeviceState × Result Bool Failure) → IsWith first port s a.ring
         → Runs (pay_event_of s) a x b → IsWith first port x.0 b.ring }
-    ensures fill_rx_may { (first port : ℕ) (s : DeviceState) (a : Situation) → IsWith first port s a.ring → MayRunRing (fill_rx_of s) a }
+    ensures fill_rx_may { (others : List ℕ) (first port : ℕ) (s : DeviceState) (a : Situation) → FindsStreams others s a → IsWith first port s a.ring
+        → MayRun (fill_rx_of s) a }
     ensures fill_rx { (first port : ℕ) (s : DeviceState) (a b : Situation) (x : DeviceState × Result Filled Failure) → IsWith first port s a.ring
         → Runs (fill_rx_of s) a x b → IsWith first port x.0 b.ring }
-    ensures reset_may { (first port cid : ℕ) (s : DeviceState) (a : Situation) → cid < 2 ^ 64 → IsWith first port s a.ring
-        → MayRunRing (reset_of cid s) a }
     ensures reset { (first port cid : ℕ) (s : DeviceState) (a b : Situation) (x : DeviceState × Result (Unit {0}) Failure) → cid < 2 ^ 64
         → IsWith first port s a.ring → Runs (reset_of cid s) a x b → IsWith first port x.0 b.ring }
 {}
@@ -58,14 +58,10 @@ pub fn law_of_ring_calls()
 /// The other calls make none on the ring, and the device stays with it. A client's connection is asked for on a host port that was not assigned
 /// before.
 pub fn law_of_other_calls()
-    ensures tick_may { (first port now : ℕ) (s : DeviceState) (a : Situation) → IsWith first port s a.ring → MayRunRing (tick_of now s) a }
     ensures tick { (first port now : ℕ) (s t : DeviceState) (a b : Situation) → IsWith first port s a.ring → Runs (tick_of now s) a t b
         → IsWith first port t b.ring }
-    ensures pump_out_may { (first port : ℕ) (s : DeviceState) (a : Situation) → IsWith first port s a.ring → MayRunRing (pump_of s) a }
     ensures pump_out { (first port : ℕ) (s : DeviceState) (a b : Situation) (w : Writing) → IsWith first port s a.ring → Runs (pump_of s) a w b
         → IsWith first port w.state b.ring }
-    ensures open_may { (first port stream : ℕ) (flow : Flow) (s : DeviceState) (a : Situation) → IsNextFlow Device flow (ends_of_state port s)
-        → IsFitFlow flow → IsWith first port s a.ring → MayRunRing (open_of flow stream s) a }
     ensures opened { (first port stream : ℕ) (flow : Flow) (s : DeviceState) (a b : Situation) (x : DeviceState × Result ℕ TableFault)
         → IsNextFlow Device flow (ends_of_state port s) → IsFitFlow flow → IsWith first port s a.ring → Runs (open_of flow stream s) a x b
         → IsWith first (port_after flow port x.1) x.0 b.ring }
@@ -97,9 +93,4 @@ pub fn law_of_packets()
         → bytes ≡ take count (drop place page) }
     ensures heard { (page : List ℕ) (p : Packet) → packet_held page ≡ Some p
         → (p.header ≡ header_of (take HEADER_LEN page)) × (is_rw p ≡ true → p.payload ≡ take p.header.len (drop HEADER_LEN page)) }
-{}
-
-/// What the ring asks and what the host asks of its calls is all that is asked.
-pub fn law_of_conditions<T>()
-    ensures { (tree : DeviceTree T) (a : Situation) → MayRunRing tree a → MayRunHost tree a → MayRun tree a }
 {}
