@@ -127,7 +127,7 @@ module _ (first port : ℕ) (s : DeviceState) (chain : Chain) (h : Header) (wire
         heard_fits = record {
           bytes = none_new;
           new = λ new. let n = (entry_fits s was.fits e there).new (still_new e.value.end h new) in
-              record { ok_line = n.ok_line; pending = n.pending; asked_at = n.asked_at; shut_at = n.shut_at };
+              record { by_client = n.by_client; ok_line = n.ok_line; pending = n.pending; asked_at = n.asked_at; shut_at = n.shut_at };
         }
 
         hears : (v : Verdict) → verdict_of e.value.end h ≡ v → peer_resets v h ≡ false

@@ -82,7 +82,7 @@ closed_fits e s fits there =
     let entry = entry_fits s fits e there in
     record {
       bytes = record { unread = omega arith; within = entry.bytes.within; alloc = entry.bytes.alloc; rx = entry.bytes.rx; fwd = entry.bytes.fwd };
-      new = λ new. let n = entry.new new in record { ok_line = refl; pending = refl; asked_at = n.asked_at; shut_at = n.shut_at };
+      new = λ new. let n = entry.new new in record { by_client = n.by_client; ok_line = refl; pending = refl; asked_at = n.asked_at; shut_at = n.shut_at };
     }
 
 shut_fits : (e : DeviceEntry) (s : DeviceState) → IsFitState s → Contains s.table.entries e → IsFitConnection (record e.value { write_shut = true })
@@ -90,7 +90,7 @@ shut_fits e s fits there =
     let entry = entry_fits s fits e there in
     record {
       bytes = entry.bytes;
-      new = λ new. let n = entry.new new in record { ok_line = n.ok_line; pending = n.pending; asked_at = n.asked_at; shut_at = n.shut_at };
+      new = λ new. let n = entry.new new in record { by_client = n.by_client; ok_line = n.ok_line; pending = n.pending; asked_at = n.asked_at; shut_at = n.shut_at };
     }
 
 empty_table : (t : Table DeviceConnection) → IsTable t → IsTable (emptied t)
@@ -353,7 +353,7 @@ module _ (first port : ℕ) where
           record {
             fits = opening_fits s p.fits flow c (accepted s.table flow free) ports (record {
               bytes = record { unread = omega arith; within = omega arith; alloc = omega arith; rx = omega arith; fwd = omega arith };
-              new = λ new. record { ok_line = refl; pending = refl; asked_at = refl; shut_at = refl };
+              new = λ new. record { by_client = refl; ok_line = refl; pending = refl; asked_at = refl; shut_at = refl };
             });
             none_overrun = p.none_overrun;
             matches = subst (λ (part : Ends). Matches Device first part l.entries)

@@ -1,6 +1,7 @@
 //! Laws of the device over a ring that tells its log.
 
 ghost use Rattle.std.specs.Prelude.{◌≡◌, ◌<◌, ◌≤◌, ◌^◌, ℕ, Bool, true, List, [], Some, Result, Contains, length, take, drop};
+ghost use Rattle.std.specs.List.{All};
 ghost use Rattle.std.specs.Option.{ForSome};
 ghost use Rattle.vs_contents.specs.Contents.{Relates};
 ghost use Rattle.vs_flow.specs.declared.flow.Flow.{Flow};
@@ -11,9 +12,10 @@ ghost use Rattle.vs_header.specs.declared.TheConstants.{HEADER_LEN};
 ghost use Rattle.vs_history.specs.Packets.{is_rw};
 ghost use Rattle.vs_history.specs.declared.TheConstants.{BUF_ALLOC};
 ghost use Rattle.vs_history.specs.declared.packet.Packet.{Packet};
+ghost use Rattle.vs_matching.specs.Ends.{is_new};
 ghost use Rattle.vs_matching.specs.Steps.{IsNextFlow};
 ghost use Rattle.vs_page.specs.Held.{packet_held};
-ghost use Rattle.vs_page.specs.Log.{Device};
+ghost use Rattle.vs_page.specs.Log.{Device, packets_put};
 ghost use Rattle.vs_page.specs.declared.log.LogEntry.TheVariants.{PutEvent, PutPacket};
 ghost use Rattle.vs_ring_port.specs.Chains.{Held};
 ghost use Rattle.vs_ring_port.specs.Contents.{Read, RingContents, Take};
@@ -32,7 +34,7 @@ ghost use Rattle.vs_device.specs.Turns.{new_device, open_of, reset_of, table_sho
 ghost use Rattle.vs_device.specs.declared.answers.Filled.{Filled};
 ghost use Rattle.vs_device.specs.declared.answers.Taken.{Taken};
 ghost use Rattle.vs_device_laws.specs.Streams.{FindsStreams};
-ghost use Rattle.vs_device_log.specs.Honest.{AgreesWith, IsFitFlow, IsFresh, IsLeftOpen, IsWith, ends_of_state, port_after};
+ghost use Rattle.vs_device_log.specs.Honest.{Advertises, AgreesWith, IsClients, IsFitFlow, IsFresh, IsLeftOpen, IsWith, ends_of_state, port_after};
 ghost use Rattle.vs_device_log.specs.Packets.{HasAdded, HasTaken, HoldsLast, IsWholeAs, packet_with};
 
 /// Over a ring that tells its log the device holds the one chain that it keeps for the next packet, and after each call it does again. Over an honest
@@ -67,12 +69,15 @@ pub fn law_of_other_calls()
         → IsWith first (port_after flow port x.1) x.0 b.ring }
 {}
 
-/// The device's table has exactly the flows that the log left open, and those of clients whose REQUEST isn't put. What is pending of a connection
-/// is at most the buffer space that each of its packets advertised, and no packet held more payload than there was room for.
+/// The device's table has exactly the flows that the log left open, and those whose REQUEST isn't put, which come from clients of the host. What is
+/// pending of a connection is at most the buffer space that each packet put advertises, and no packet held more payload than there was room for.
 pub fn law_of_the_table()
     ensures open { (first port : ℕ) (s : DeviceState) (l : EndLog) → AgreesWith first port s l → IsLeftOpen first s (table_shown s) l }
+    ensures clients { (first port : ℕ) (s : DeviceState) (l : EndLog) (e : DeviceEntry) → AgreesWith first port s l → Contains s.table.entries e
+        → is_new e.value.end ≡ true → IsClients e }
     ensures pending { (first port : ℕ) (s : DeviceState) (l : EndLog) (e : DeviceEntry) → AgreesWith first port s l → Contains s.table.entries e
         → length e.value.pending ≤ BUF_ALLOC }
+    ensures advertised { (first port : ℕ) (s : DeviceState) (l : EndLog) → AgreesWith first port s l → All Advertises (packets_put l.entries) }
     ensures no_overrun { (first port : ℕ) (s : DeviceState) (l : EndLog) → AgreesWith first port s l → s.overrun ≡ 0 }
 {}
 
