@@ -20,7 +20,13 @@ plus_zero : (n : ℕ) → n + 0 ≡ n
 plus_zero n = omega arith
 
 pub fewer : (c : Credit) (u v : ℕ) → HoldsBytes c u → v ≤ u → HoldsBytes c v
-fewer c u v fits less = record { alloc = fits.alloc; fwd = fits.fwd; rx = fits.rx; unread = omega (arith, fits.unread, less); within = fits.within }
+fewer c u v fits less = record {
+  alloc = fits.alloc;
+  fwd = fits.fwd;
+  rx = fits.rx;
+  unread = omega (arith, fits.unread, less);
+  within = fits.within;
+}
 
 forwards : (rx fwd n u : ℕ) → rx < 2 ^ 32 → fwd < 2 ^ 32 → n ≤ u → u ≤ (rx + 2 ^ 32 - fwd) % 2 ^ 32
     → u - n ≤ (rx + 2 ^ 32 - (fwd + n) % 2 ^ 32) % 2 ^ 32
@@ -71,7 +77,14 @@ pub fits_shut : (e : ConnectionEnd) (bits u : ℕ) → HoldsBytes e.credit u
 fits_shut e bits u fits = by (with_shut e bits).own.receive
   where
     by : (b : Bool) → HoldsBytes (cond b (record e.credit { fwd_cnt = e.credit.rx_cnt }) e.credit) (cond b 0 u)
-    by true = record { alloc = fits.alloc; fwd = fits.rx; rx = fits.rx; unread = omega arith; within = none_left e.credit.rx_cnt e.credit.alloc fits.rx }
+    by true = record {
+      alloc = fits.alloc;
+      fwd = fits.rx;
+      rx = fits.rx;
+      unread = omega arith;
+      within =
+          none_left e.credit.rx_cnt e.credit.alloc fits.rx;
+    }
     by false = fits
 
 pub fits_paid : (e : ConnectionEnd) (what : Owed) (u : ℕ) → HoldsBytes e.credit u → HoldsBytes (paid_of e what).credit u

@@ -3,7 +3,8 @@ use Rattle.std.proofs.Common.{◌≡◌, ℕ, zero, suc, ◌<◌, ◌≤◌, len
 use Rattle.vs_contents.specs.CallTree.{Done, Ask, bind, for_each, while_up_to}
 use Rattle.vs_ring_port.specs.Contents.{RingContents, DeviceCall, Take, Read, Write, Return, Given, PublishCid}
 use Rattle.vs_ring_port.specs.DeviceCalls.{CanReturn, DeviceAllows, LeavesNoGap}
-use Rattle.vs_device.specs.Calls.{Call, Answer, Ring, Accept, Dial, Label, ReadStream, WriteStream, ShutWrite, CloseStream, DeviceTree, Situation, Allows, IsFitAnswer, TakesWithin}
+use Rattle.vs_device.specs.Calls.{Call, Answer, Ring, Accept, Dial, Label, ReadStream, WriteStream, ShutWrite, CloseStream, DeviceTree}
+use Rattle.vs_device.specs.Calls.{Situation, Allows, IsFitAnswer, TakesWithin}
 use Rattle.vs_device.specs.Playing.{Runs}
 use Rattle.vs_device_laws.specs.Split.{CanPut, MayPut}
 
@@ -70,8 +71,11 @@ Keeps Q (Ask call next) c =
 module _ {A : Type 0} (Q : A → RingContents → Type 0) where
   pub keeps_put : (t : DeviceTree A) (s : Situation) → Keeps Q t s.ring → MayPut t s
   keeps_put (Done x) s keeps = tt
-  keeps_put (Ask call next) s keeps =
-      (can_make call s keeps.0, λ a d allowed. keeps_put (next a) d (keeps.1 a d.ring (fitted call a s d allowed) (moved call a s d allowed)))
+  keeps_put (Ask call next) s keeps = (
+    can_make call s keeps.0,
+    λ a d allowed. keeps_put (next a) d
+        (keeps.1 a d.ring (fitted call a s d allowed) (moved call a s d allowed)),
+  )
 
   pub keeps_end : (t : DeviceTree A) (s d : Situation) (x : A) → Keeps Q t s.ring → Runs t s x d → Q x d.ring
   keeps_end (Done y) s d x keeps runs =
@@ -79,7 +83,8 @@ module _ {A : Type 0} (Q : A → RingContents → Type 0) where
       let R : Situation → Type 0 = λ e. Q x e.ring in
       subst R runs.1 (subst P runs.0 keeps)
   keeps_end (Ask call next) s d x keeps runs =
-      keeps_end (next runs.0) runs.1 d x (keeps.1 runs.0 runs.1.ring (fitted call runs.0 s runs.1 runs.2) (moved call runs.0 s runs.1 runs.2)) runs.3
+      keeps_end (next runs.0) runs.1 d x (keeps.1 runs.0 runs.1.ring (fitted call runs.0 s runs.1 runs.2)
+      (moved call runs.0 s runs.1 runs.2)) runs.3
 
   pub keeps_weaker : (R : A → RingContents → Type 0) → ((x : A) (d : RingContents) → Q x d → R x d) → (t : DeviceTree A) (c : RingContents)
       → Keeps Q t c → Keeps R t c
@@ -92,7 +97,8 @@ module _ {A : Type 0} (Q : A → RingContents → Type 0) where
   keeps_bind (Ask call next) f c keeps = (keeps.0, λ a d fit moves. keeps_bind (next a) f d (keeps.1 a d fit moves))
 
 -- One conversation, and then what follows each of its ends.
-pub keeps_then : {A B : Type 0} (P : B → RingContents → Type 0) (Q : A → RingContents → Type 0) (t : DeviceTree B) (f : B → DeviceTree A) (c : RingContents)
+pub keeps_then : {A B : Type 0} (P : B → RingContents → Type 0) (Q : A → RingContents → Type 0) (t : DeviceTree B) (f : B → DeviceTree A)
+    (c : RingContents)
     → Keeps P t c → ((x : B) (d : RingContents) → P x d → Keeps Q (f x) d) → Keeps Q (bind t f) c
 keeps_then P Q t f c first then = keeps_bind Q t f c (keeps_weaker P (λ x d. Keeps Q (f x) d) then t c first)
 

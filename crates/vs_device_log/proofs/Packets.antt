@@ -1,5 +1,6 @@
 -- What one packet does to the log: the packet that is put, the one that is taken, and an event.
-use Rattle.std.proofs.Common.{◌≡◌, ℕ, ◌+◌, ◌==◌, nat_le, Bool, true, false, cond, List, [], ◌∷◌, ◌++◌, length, take, drop, Option, Some, None, Result, refl, sym, ap, subst, ◌∙◌}
+use Rattle.std.proofs.Common.{◌≡◌, ℕ, ◌+◌, ◌==◌, nat_le, Bool, true, false, cond, List, [], ◌∷◌, ◌++◌, length, take, drop, Option, Some}
+use Rattle.std.proofs.Common.{None, Result, refl, sym, ap, subst, ◌∙◌}
 use Rattle.std.proofs.lemmas.List.{append-nil}
 use Rattle.std.specs.Option.{ForSome, option_map}
 use Rattle.byteorder.specs.Endian.{little_bytes}
@@ -30,15 +31,18 @@ use Rattle.vs_device_log.specs.Packets.{HasAdded, HasTaken, HoldsLast, IsWholeAs
 use Rattle.vs_device_log.proofs.Ringing.{both_written, bytes_held, one_written, returned_entries, returned_held, written_held}
 
 -- What a call does to the log, between the logs before and after it.
-related : (call : DeviceCall) (a : DeviceAnswer call) (L : Rings → Type 0) (f : Rings → Rings) (R : EndLog → Type 0) (g : EndLog → EndLog) (c d : RingContents)
-    → DeviceMoves call a L f R g c d → (Q : EndLog → EndLog → Type 0) → ((l : EndLog) → c.log ≡ Some l → R l → Q l (g l)) → Relates c.log d.log Q
+related : (call : DeviceCall) (a : DeviceAnswer call) (L : Rings → Type 0) (f : Rings → Rings) (R : EndLog → Type 0) (g : EndLog → EndLog)
+    (c d : RingContents)
+    → DeviceMoves call a L f R g c d → (Q : EndLog → EndLog → Type 0) → ((l : EndLog) → c.log ≡ Some l → R l → Q l (g l))
+    → Relates c.log d.log Q
 related call a L f R g c d made Q each = by c.log refl made.log
   where
     by : (o : Option EndLog) → c.log ≡ o → Exposes o d.log R g → Relates o d.log Q
     by None is exposes = exposes
     by (Some l) is exposes = subst (λ (o : Option EndLog). Relates (Some l) o Q) (sym exposes.1) (each l is exposes.0)
 
-joined : (o p q : Option EndLog) (R S T : EndLog → EndLog → Type 0) → ((l m n : EndLog) → R l m → S m n → T l n) → Relates o p R → Relates p q S → Relates o q T
+joined : (o p q : Option EndLog) (R S T : EndLog → EndLog → Type 0) → ((l m n : EndLog) → R l m → S m n → T l n) → Relates o p R
+    → Relates p q S → Relates o q T
 joined None p q R S T both first second = subst (λ (x : Option EndLog). Relates x q S) first second
 joined (Some l) None q R S T both first second = absurd first
 joined (Some l) (Some m) None R S T both first second = absurd second
@@ -68,7 +72,8 @@ module _ (chain : Chain) (others : List Held) where
       (λ l m n first second. record { entries = second.entries ∙ first.entries; held = second.held })
 
   module _ (rx : chain.queue ≡ Rx) (h : Header) (payload : List ℕ) (whole : IsWholeAs h payload) where
-    returns : (bytes : List ℕ) (len : ℕ) (a b : Situation) → take len bytes ≡ header_bytes h ++ payload → ForSome a.ring.log (HoldsLast chain bytes others)
+    returns : (bytes : List ℕ) (len : ℕ) (a b : Situation) → take len bytes ≡ header_bytes h ++ payload → ForSome a.ring.log
+        (HoldsLast chain bytes others)
         → Allows (Ring (Return chain len)) tt a b → Relates a.ring.log b.ring.log (HasAdded (PutPacket (packet_with h payload)) others)
     returns bytes len a b page first allowed =
         related _ _ _ _ _ (log_returned chain len) a.ring b.ring allowed.0.1 (HasAdded (PutPacket (packet_with h payload)) others)
@@ -79,18 +84,26 @@ module _ (chain : Chain) (others : List Held) where
           held = returned_held chain bytes len others l (first l is);
         })
 
-    last : (bytes : List ℕ) (o p q : Option EndLog) → Relates o p (Wrote chain bytes others) → Relates p q (HasAdded (PutPacket (packet_with h payload)) others)
+    last : (bytes : List ℕ) (o p q : Option EndLog) → Relates o p (Wrote chain bytes others) → Relates p q
+        (HasAdded (PutPacket (packet_with h payload)) others)
         → Relates o q (HasAdded (PutPacket (packet_with h payload)) others)
-    last bytes o p q = joined o p q (Wrote chain bytes others) (HasAdded (PutPacket (packet_with h payload)) others) (HasAdded (PutPacket (packet_with h payload)) others)
-        (λ l m n first second. record { entries = second.entries ∙ ap (λ (log : Log). PutPacket (packet_with h payload) ∷ log) first.entries; held = second.held })
+    last bytes o p q = joined o p q (Wrote chain bytes others) (HasAdded (PutPacket (packet_with h payload)) others)
+        (HasAdded (PutPacket (packet_with h payload)) others)
+        (λ l m n first second. record {
+          entries = second.entries ∙ ap
+              (λ (log : Log). PutPacket (packet_with h payload) ∷ log) first.entries;
+          held = second.held;
+        })
 
-pub puts_one : (chain : Chain) (others : List Held) (h : Header) (payload : List ℕ) (a b : Situation) → chain.queue ≡ Rx → IsWholeAs h payload
+pub puts_one : (chain : Chain) (others : List Held) (h : Header) (payload : List ℕ) (a b : Situation) → chain.queue ≡ Rx
+    → IsWholeAs h payload
     → ForSome a.ring.log (HoldsLast chain [] others) → Runs (written chain h payload) a tt b
     → Relates a.ring.log b.ring.log (HasAdded (PutPacket (packet_with h payload)) others)
 puts_one chain others h [] a b rx whole first (x, c, one, (y, d, two, (done, end))) =
     let one_is = writes chain others [] (header_bytes h) 0 a c first one in
     let bytes : List ℕ = overwritten [] 0 (header_bytes h) in
-    let two_is = returns chain others rx h [] whole bytes HEADER_LEN c d (one_written (header_bytes h) HEADER_LEN refl ∙ sym (append-nil (header_bytes h)))
+    let two_is = returns chain others rx h [] whole bytes HEADER_LEN c d
+    (one_written (header_bytes h) HEADER_LEN refl ∙ sym (append-nil (header_bytes h)))
     (told chain others bytes a.ring.log c.ring.log one_is) two in
     subst (λ (s : Situation). Relates a.ring.log s.ring.log (HasAdded (PutPacket (packet_with h [])) others)) end
     (last chain others rx h [] whole bytes a.ring.log c.ring.log d.ring.log one_is two_is)
@@ -100,25 +113,31 @@ puts_one chain others h (z ∷ zs) a b rx whole first (x, c, one, (y, d, two, (w
     let one_is = writes chain others [] (header_bytes h) 0 a c first one in
     let two_is = writes chain others bytes (z ∷ zs) HEADER_LEN c d (told chain others bytes a.ring.log c.ring.log one_is) two in
     let both_is = again chain others bytes all a.ring.log c.ring.log d.ring.log one_is two_is in
-    let three_is = returns chain others rx h (z ∷ zs) whole all (HEADER_LEN + length (z ∷ zs)) d e (both_written (header_bytes h) (z ∷ zs) HEADER_LEN refl)
+    let three_is = returns chain others rx h (z ∷ zs) whole all (HEADER_LEN + length (z ∷ zs)) d e
+    (both_written (header_bytes h) (z ∷ zs) HEADER_LEN refl)
     (told chain others all c.ring.log d.ring.log two_is) three in
     subst (λ (s : Situation). Relates a.ring.log s.ring.log (HasAdded (PutPacket (packet_with h (z ∷ zs))) others)) end
     (last chain others rx h (z ∷ zs) whole all a.ring.log d.ring.log e.ring.log both_is three_is)
 
 -- A chain of tx that is taken, and what is read of it.
-pub takes_one : (chain : Chain) (a b : Situation) → Allows (Ring (Take Tx)) (next.Chain chain) a b → Relates a.ring.log b.ring.log (HasTaken chain)
+pub takes_one : (chain : Chain) (a b : Situation) → Allows (Ring (Take Tx)) (next.Chain chain) a b → Relates a.ring.log b.ring.log
+    (HasTaken chain)
 takes_one chain a b allowed =
-    related _ _ _ _ _ (log_taken Tx (next.Chain chain) allowed.0.0) a.ring b.ring allowed.0.1 (HasTaken chain) (λ l is asked. by allowed.0.0 l asked)
+    related _ _ _ _ _ (log_taken Tx (next.Chain chain) allowed.0.0) a.ring b.ring allowed.0.1 (HasTaken chain)
+    (λ l is asked. by allowed.0.0 l asked)
   where
-    by : (page : Option (List ℕ)) (l : EndLog) → IsTakenAs Tx (next.Chain chain) page → HasTaken chain l (log_taken Tx (next.Chain chain) page l)
+    by : (page : Option (List ℕ)) (l : EndLog) → IsTakenAs Tx (next.Chain chain) page → HasTaken chain l
+        (log_taken Tx (next.Chain chain) page l)
     by None l asked = absurd asked
     by (Some page) l asked = record { page = page; readable = asked.1; entries = refl; held = refl }
 
 pub reads_there : (chain : Chain) (page bytes : List ℕ) (others : List Held) (place count : ℕ) (a b : Situation)
-    → Allows (Ring (Read chain place count)) bytes a b → (l : EndLog) → a.ring.log ≡ Some l → HoldsLast chain page others l → bytes ≡ take count (drop place page)
+    → Allows (Ring (Read chain place count)) bytes a b → (l : EndLog) → a.ring.log ≡ Some l → HoldsLast chain page others l
+    → bytes ≡ take count (drop place page)
 reads_there chain page bytes others place count a b allowed l is first = by a.ring.log is allowed.0.log
   where
-    by : (o : Option EndLog) → o ≡ Some l → Exposes o b.ring.log (λ m. bytes ≡ take count (drop place (bytes_in chain m.held))) (λ m. m) → bytes ≡ take count (drop place page)
+    by : (o : Option EndLog) → o ≡ Some l → Exposes o b.ring.log (λ m. bytes ≡ take count (drop place (bytes_in chain m.held))) (λ m. m)
+        → bytes ≡ take count (drop place page)
     by None none exposes = absurd cc
     by (Some m) same exposes =
         let e : m ≡ l = cc in
@@ -126,7 +145,8 @@ reads_there chain page bytes others place count a b allowed l is first = by a.ri
         ∙ ap (λ (x : List ℕ). take count (drop place x)) (bytes_held chain page others l first)
 
 -- The packet that a page holds: its header is the page's, and so is the payload of an RW.
-payload_by : (h : Header) (rest payload : List ℕ) (a b : Bool) → cond a (cond b (Some (take h.len rest)) None) (Some []) ≡ Some payload → a ≡ true
+payload_by : (h : Header) (rest payload : List ℕ) (a b : Bool) → cond a (cond b (Some (take h.len rest)) None) (Some []) ≡ Some payload
+    → a ≡ true
     → payload ≡ take h.len rest
 payload_by h rest payload true true is rw = cc
 payload_by h rest payload true false is rw = absurd cc
@@ -146,7 +166,8 @@ pub heard_there : (page : List ℕ) (p : Packet) → packet_held page ≡ Some p
 heard_there page p held =
     let h : Header = header_of (take HEADER_LEN page) in
     let rest : List ℕ = drop HEADER_LEN page in
-    let parts = parts_by h p (payload_held h rest) (some_test (nat_le HEADER_LEN (length page)) (option_map (packet_with h) (payload_held h rest)) p held) in (
+    let parts = parts_by h p (payload_held h rest) (some_test (nat_le HEADER_LEN (length page))
+    (option_map (packet_with h) (payload_held h rest)) p held) in (
       parts.0,
       λ rw. payload_by h rest p.payload (h.op == 5) (nat_le h.len (length rest)) parts.1 (sym (ap (λ (x : Header). x.op == 5) parts.0) ∙ rw)
           ∙ ap (λ (x : Header). take x.len rest) (sym parts.0),
@@ -164,7 +185,8 @@ module _ (chain : Chain) (others : List Held) (event : chain.queue ≡ Event) wh
         held = returned_held chain bytes 4 others l (first l is);
       })
 
-  pub puts_event : (s : DeviceState) (x : DeviceState × Result Bool Failure) (a b : Situation) → ForSome a.ring.log (HoldsLast chain [] others)
+  pub puts_event : (s : DeviceState) (x : DeviceState × Result Bool Failure) (a b : Situation) → ForSome a.ring.log
+      (HoldsLast chain [] others)
       → Runs (event_on (next.Chain chain) s) a x b → Relates a.ring.log b.ring.log (HasAdded (PutEvent 0) others)
   puts_event s x a b first (w, c, one, (y, d, two, (done, end))) =
       let bytes : List ℕ = overwritten [] 0 (little_bytes 4 0) in

@@ -1,5 +1,6 @@
 -- The steps at which the device puts a packet: payload is sent, what is owed is paid, a reply is given.
-use Rattle.std.proofs.Common.{◌≡◌, ℕ, suc, ◌<◌, ◌^◌, false, List, [], ◌∷◌, ◌++◌, length, map, Contains, Some, refl, sym, ap, subst, ◌∙◌, arith}
+use Rattle.std.proofs.Common.{◌≡◌, ℕ, suc, ◌<◌, ◌^◌, false, List, [], ◌∷◌, ◌++◌, length, map, Contains, Some, refl, sym, ap, subst, ◌∙◌}
+use Rattle.std.proofs.Common.{arith}
 use Rattle.std.specs.List.{All}
 use Rattle.std.proofs.lemmas.Grind.{common_steps}
 use Rattle.std.proofs.lemmas.List.{append-nil}
@@ -52,7 +53,8 @@ paid_begun e owed.CreditUpdate owes = grind (arith, common_steps, owes)
 paid_begun e owed.CreditRequest owes = grind (arith, common_steps, owes)
 paid_begun e (owed.Shutdown bits) owes = grind (arith, common_steps, owes)
 
-held_empty : (h : Header) → FitsWire h → h.len ≡ 0 → packet_held (header_bytes h ++ []) ≡ (let p : Packet = record { header = h; payload = [] } in Some p)
+held_empty : (h : Header) → FitsWire h → h.len ≡ 0 → packet_held (header_bytes h ++ []) ≡
+    (let p : Packet = record { header = h; payload = [] } in Some p)
 held_empty h wire none = ap packet_held (append-nil (header_bytes h)) ∙ held_alone h wire none
 
 module _ (port : ℕ) (s : DeviceState) (fits : IsFitState s) where
@@ -66,7 +68,13 @@ module _ (port : ℕ) (s : DeviceState) (fits : IsFitState s) where
       let next : map reply_flow s.replies ≡ f ∷ map reply_flow rest = ap (map reply_flow) is in
       record {
         held = held_empty (reply_header reply s) wire refl;
-        fits = record { cid_fits = fits.cid_fits; sound = fits.sound; entries = fits.entries; owed = λ i d less. owed (suc i) d (omega (arith, less)) };
+        fits = record {
+          cid_fits = fits.cid_fits;
+          sound = fits.sound;
+          entries = fits.entries;
+          owed = λ i d less. owed (suc i) d
+              (omega (arith, less));
+        };
         overrun_is = refl;
         matches = λ first log m. replies Device first s.cid f (map reply_flow rest) (ends_of_state port s) log m next;
         fair = λ first log m fair. replies_fair Device first s.cid f (map reply_flow rest) (ends_of_state port s) log m fair next;
@@ -84,16 +92,20 @@ module _ (port : ℕ) (s : DeviceState) (fits : IsFitState s) where
         let end : ConnectionEnd = e.value.end in
         let now : DeviceConnection = record e.value { end = with_payload_sent end (length payload) } in
         let h : Header = payload_header end (route_to_guest s.cid e.flow) (length payload) in
-        let wire : FitsWire h = header_fits s.cid e.flow end op.Rw 0 (length payload) fits.cid_fits entry.ports (omega (arith, entry.bytes.alloc))
+        let wire : FitsWire h = header_fits s.cid e.flow end op.Rw 0 (length payload) fits.cid_fits entry.ports
+        (omega (arith, entry.bytes.alloc))
         entry.bytes.fwd (omega arith) small in
         record {
           held = held_payload h payload wire refl refl;
-          fits = connection_fits s fits e.slot now (begun_fits now (fits_sent end.credit (length payload) (length e.value.pending) entry.bytes) begun);
+          fits = connection_fits s fits e.slot now (begun_fits now
+              (fits_sent end.credit (length payload) (length e.value.pending) entry.bytes) begun);
           overrun_is = refl;
           matches = λ first log m.
-              subst (λ (part : Ends). Matches Device first part (PutPacket (payload_on Device s.cid e.flow end payload) ∷ log)) (sym (connection_ends s fits e there port now))
+              subst (λ (part : Ends). Matches Device first part (PutPacket (payload_on Device s.cid e.flow end payload) ∷ log))
+              (sym (connection_ends s fits e there port now))
               (sends Device first s.cid e.flow end payload (ends_of_state port s) log m (has_end s fits e there port) can);
-          fair = λ first log m fair. sends_fair Device first s.cid e.flow end payload (ends_of_state port s) log m fair (has_end s fits e there port) can;
+          fair = λ first log m fair. sends_fair Device first s.cid e.flow end payload (ends_of_state port s) log m fair
+              (has_end s fits e there port) can;
         }
 
     -- What is owed.
@@ -102,10 +114,12 @@ module _ (port : ℕ) (s : DeviceState) (fits : IsFitState s) where
       header = owed_header e.value.end (route_to_guest s.cid e.flow) what
 
       wire : FitsWire (owed_header e.value.end (route_to_guest s.cid e.flow) what)
-      wire = header_fits s.cid e.flow e.value.end (owed_op what) (owed_flags what) 0 fits.cid_fits entry.ports (omega (arith, entry.bytes.alloc))
+      wire = header_fits s.cid e.flow e.value.end (owed_op what) (owed_flags what) 0 fits.cid_fits entry.ports
+          (omega (arith, entry.bytes.alloc))
           entry.bytes.fwd (owed_flags_fit e.value.end what owes) (omega arith)
 
-      pays_to : (t : DeviceState) → IsFitState t → t.overrun ≡ s.overrun → paid e.flow e.value.end what (ends_of_state port s) ≡ ends_of_state port t
+      pays_to : (t : DeviceState) → IsFitState t → t.overrun ≡ s.overrun → paid e.flow e.value.end what
+          (ends_of_state port s) ≡ ends_of_state port t
           → Puts port s (owed_header e.value.end (route_to_guest s.cid e.flow) what) [] t
       pays_to t fit over is = record {
         held = held_empty (owed_header e.value.end (route_to_guest s.cid e.flow) what) wire refl;
@@ -114,7 +128,8 @@ module _ (port : ℕ) (s : DeviceState) (fits : IsFitState s) where
         matches = λ first log m.
             subst (λ (part : Ends). Matches Device first part (PutPacket (owed_on Device s.cid e.flow e.value.end what) ∷ log)) is
             (pays Device first s.cid e.flow e.value.end what (ends_of_state port s) log m (has_end s fits e there port) owes);
-        fair = λ first log m fair. pays_fair Device first s.cid e.flow e.value.end what (ends_of_state port s) log m fair (has_end s fits e there port) owes;
+        fair = λ first log m fair. pays_fair Device first s.cid e.flow e.value.end what (ends_of_state port s) log m fair
+            (has_end s fits e there port) owes;
       }
 
       -- The connection stays.
@@ -129,10 +144,12 @@ module _ (port : ℕ) (s : DeviceState) (fits : IsFitState s) where
           (fits_paid e.value.end what (length e.value.pending) entry.bytes)))
           (ap is_new is ∙ paid_begun e.value.end what owes)))
           refl
-          (stays ∙ (ap (λ (x : ConnectionEnd). with_end e.flow x (ends_of_state port s)) (sym is) ∙ sym (connection_ends s fits e there port c)))
+          (stays ∙ (ap (λ (x : ConnectionEnd). with_end e.flow x (ends_of_state port s)) (sym is) ∙ sym
+          (connection_ends s fits e there port c)))
 
       -- It leaves.
       pub rst_puts : what ≡ owed.Rst → (c : DeviceConnection)
-          → Puts port s (owed_header e.value.end (route_to_guest s.cid e.flow) what) [] (record s { table = without (with_value s.table e.slot c) e.slot })
+          → Puts port s (owed_header e.value.end (route_to_guest s.cid e.flow) what) []
+          (record s { table = without (with_value s.table e.slot c) e.slot })
       rst_puts rst c = pays_to (record s { table = without (with_value s.table e.slot c) e.slot }) (left_fits s fits e there c) refl
           (ap (λ (w : Owed). paid e.flow e.value.end w (ends_of_state port s)) rst ∙ sym (left_ends s fits e there port c))

@@ -17,7 +17,8 @@ use Rattle.vs_device_log.specs.Honest.{Advertises, AgreesWith, IsClients, IsLeft
 use Rattle.vs_device_log.proofs.Tabling.{entry_fits, has_end}
 
 same_flows : (es : List DeviceEntry)
-    → flows_shown (map (λ e. (e.flow, e.value.end.state)) es) ≡ flows_of (map (λ e. let x : FlowEnd = record { flow = e.flow; end = e.value.end } in x) es)
+    → flows_shown (map (λ e. (e.flow, e.value.end.state)) es) ≡ flows_of
+    (map (λ e. let x : FlowEnd = record { flow = e.flow; end = e.value.end } in x) es)
 same_flows [] = refl
 same_flows (e ∷ es) = ap (λ (fs : List Flow). e.flow ∷ fs) (same_flows es)
 
@@ -25,7 +26,8 @@ pub left_open : (first port : ℕ) (s : DeviceState) (l : EndLog) → AgreesWith
 left_open first port s l agrees f =
     ap (is_among f) (same_flows s.table.entries) ∙ all_open Device first (ends_of_state port s) l.entries f agrees.matches.flows
 
-pub pending_within : (first port : ℕ) (s : DeviceState) (l : EndLog) (e : DeviceEntry) → AgreesWith first port s l → Contains s.table.entries e
+pub pending_within : (first port : ℕ) (s : DeviceState) (l : EndLog) (e : DeviceEntry) → AgreesWith first port s l
+    → Contains s.table.entries e
     → length e.value.pending ≤ BUF_ALLOC
 pending_within first port s l e agrees there =
     let bytes = (entry_fits s agrees.fits e there).bytes in omega (arith, bytes.unread, bytes.within, bytes.alloc)
@@ -45,5 +47,6 @@ pub new_clients : (first port : ℕ) (s : DeviceState) (l : EndLog) (e : DeviceE
     → is_new e.value.end ≡ true → IsClients e
 new_clients first port s l e agrees there new = record {
   by_client = ((entry_fits s agrees.fits e there).new new).by_client;
-  asker = (end_new Device first (ends_of_state port s) l.entries e.flow e.value.end agrees.matches.flows (has_end s agrees.fits e there port) new).1.asker;
+  asker = (end_new Device first (ends_of_state port s) l.entries e.flow e.value.end agrees.matches.flows
+      (has_end s agrees.fits e there port) new).1.asker;
 }

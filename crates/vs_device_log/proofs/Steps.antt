@@ -23,14 +23,20 @@ use Rattle.vs_device_log.proofs.Ringing.{moves}
 
 module _ (first port : ℕ) where
   -- A step that puts and gets nothing.
-  pub changed : (s t : DeviceState) → t.chain ≡ s.chain → t.failed ≡ s.failed → (IsFitState s → Changes port s t) → (c : RingContents) → IsWith first port s c
+  pub changed : (s t : DeviceState) → t.chain ≡ s.chain → t.failed ≡ s.failed → (IsFitState s → Changes port s t) → (c : RingContents)
+      → IsWith first port s c
       → IsWith first port t c
   changed s t chain failed step c holds = (
     subst (λ (o : Option Chain). IfSome o IsRxChain) (sym chain) holds.0,
     λ l is. let was = holds.1 l is in (
       λ going. was.0 (sym failed ∙ going) ∙ sym (ap unwritten chain),
       λ honest. let p = was.1 honest in let k = step p.fits in
-          record { fits = k.fits; none_overrun = k.overrun_is ∙ p.none_overrun; matches = k.matches first l.entries p.matches; fair = p.fair },
+          record {
+            fits = k.fits;
+            none_overrun = k.overrun_is ∙ p.none_overrun;
+            matches = k.matches first l.entries p.matches;
+            fair = p.fair;
+          },
     ),
   )
 
@@ -43,7 +49,11 @@ module _ (first port : ℕ) where
       by : (b : Bool) → Keeps Q (bind (cond b (Done (with_connection e.slot (f e.value) s))
           (Ask (CloseStream e.value.stream) (λ _. Done (with_connection e.slot (f e.value) s)))) next) c
       by true = keeps
-      by false = (tt, λ a d fit same. subst (λ (r : RingContents). Keeps Q (next (with_connection e.slot (f e.value) s)) r) (sym same) keeps)
+      by false = (
+        tt,
+        λ a d fit same. subst (λ (r : RingContents). Keeps Q (next (with_connection e.slot (f e.value) s)) r)
+            (sym same) keeps,
+      )
 
   -- A stage that goes on, and one that may be over.
   abbrev pub Open : Filling → RingContents → Type 0
@@ -67,12 +77,14 @@ module _ (first port : ℕ) where
   with_chain o r = record r { state = record r.state { chain = o } }
 
   took : (s : DeviceState) (answer : Next) (c d : RingContents) → s.chain ≡ None → s.failed ≡ None → IsFitAnswer (Take Rx) answer
-      → DeviceAllows (Take Rx) answer c d → IsWith first port s c → (r : Filling) → r.state ≡ s → IsWith first port (holding answer r).state d
+      → DeviceAllows (Take Rx) answer c d → IsWith first port s c → (r : Filling) → r.state ≡ s → IsWith first port
+      (holding answer r).state d
   took s (next.Chain chain) c d none going fit made holds r is =
       let P : DeviceState → Type 0 = λ x. IsWith first port (record x { chain = Some chain }) d in
       subst P (sym is) (
         (fit.queue_is, fit.long),
-        moves _ _ _ _ _ (log_taken Rx (next.Chain chain) made.0) c d made.1 (IsToldOf first port s) (IsToldOf first port (record s { chain = Some chain }))
+        moves _ _ _ _ _ (log_taken Rx (next.Chain chain) made.0) c d made.1 (IsToldOf first port s)
+            (IsToldOf first port (record s { chain = Some chain }))
             (λ h l asked was fair. taken_by made.0 h l asked was) holds.1,
       )
     where
@@ -80,20 +92,23 @@ module _ (first port : ℕ) where
           → IsToldOf first port (record s { chain = Some chain }) h (log_taken Rx (next.Chain chain) page l)
       taken_by None h l asked was = absurd asked
       taken_by (Some page) h l asked was = (
-        λ still. ap (λ (held : List Held). let x : Held = record { chain = chain; bytes = [] } in x ∷ held) (was.0 going ∙ ap unwritten none),
+        λ still. ap (λ (held : List Held). let x : Held = record { chain = chain; bytes = [] } in x ∷ held)
+            (was.0 going ∙ ap unwritten none),
         λ honest. let p = was.1 honest in record { fits = p.fits; none_overrun = p.none_overrun; matches = p.matches; fair = p.fair },
       )
   took s next.None c d none going fit made holds r is =
       let P : DeviceState → Type 0 = λ x. IsWith first port x d in
       subst P (sym is) (
         holds.0,
-        moves _ _ _ _ _ (log_taken Rx next.None made.0) c d made.1 (IsToldOf first port s) (IsToldOf first port s) (λ h l asked was fair. was) holds.1,
+        moves _ _ _ _ _ (log_taken Rx next.None made.0) c d made.1 (IsToldOf first port s) (IsToldOf first port s)
+            (λ h l asked was fair. was) holds.1,
       )
   took s (next.Failed failure) c d none going fit made holds r is =
       let P : DeviceState → Type 0 = λ x. IsWith first port (failing failure x) d in
       subst P (sym is) (
         holds.0,
-        moves _ _ _ _ _ (log_taken Rx (next.Failed failure) made.0) c d made.1 (IsToldOf first port s) (IsToldOf first port (failing failure s))
+        moves _ _ _ _ _ (log_taken Rx (next.Failed failure) made.0) c d made.1 (IsToldOf first port s)
+            (IsToldOf first port (failing failure s))
             (λ h l asked was fair. (λ still. was.0 going, was.1)) holds.1,
       )
 

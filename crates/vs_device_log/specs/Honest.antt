@@ -1,5 +1,6 @@
 -- Where a ring tells the device's log: the chains that the device holds, and over an honest ring its connections and the log.
-use Rattle.std.specs.Prelude.{◌≡◌, ℕ, ◌+◌, ◌<◌, ◌≤◌, ◌^◌, ◌||◌, Bool, false, true, List, [], ◌∷◌, map, length, Option, Some, None, Result, Ok, Err, IfSome}
+use Rattle.std.specs.Prelude.{◌≡◌, ℕ, ◌+◌, ◌<◌, ◌≤◌, ◌^◌, ◌||◌, Bool, false, true, List, [], ◌∷◌, map, length, Option, Some, None, Result}
+use Rattle.std.specs.Prelude.{Ok, Err, IfSome}
 use Rattle.std.specs.List.{All}
 use Rattle.std.specs.Option.{ForSome}
 use Rattle.vs_conn.specs.End.{ConnectionEnd}
@@ -35,7 +36,12 @@ abbrev pub end_in : DeviceConnection → ConnectionEnd
 end_in c = c.end
 
 abbrev pub ends_with : ℕ → ℕ → Table DeviceConnection → List Reply → Ends
-ends_with port cid table replies = record { entries = entries_of end_in table; replies = map reply_flow replies; next_port = port; cid = cid }
+ends_with port cid table replies = record {
+  entries = entries_of end_in table;
+  replies = map reply_flow replies;
+  next_port = port;
+  cid = cid;
+}
 
 abbrev pub ends_of_state : ℕ → DeviceState → Ends
 ends_of_state port s = ends_with port s.cid s.table s.replies
@@ -45,8 +51,8 @@ pub record IsFitFlow (f : Flow) : Type 0 where
   pub guest : f.guest < 2 ^ 32
   pub host : f.host < 2 ^ 32
 
--- So many bytes are pending at an end with this credit: they were got and aren't forwarded, and no more are unread than there is buffer space,
--- which is the usual one.
+-- So many bytes are pending at an end with this credit: they were got and aren't forwarded, and no more are unread than there is buffer
+-- space, which is the usual one.
 pub record HoldsBytes (c : Credit) (pending : ℕ) : Type 0 where
   pub unread : pending ≤ unread_of c
   pub within : unread_of c ≤ c.alloc

@@ -5,7 +5,8 @@ use Rattle.vs_device_log.proofs.Turning.{open_keeps, pump_keeps, tick_keeps}
 use Rattle.vs_device_log.proofs.laws.law_of_other_calls.Goals as goal
 
 pub returns-clause-tick : goal.returns-clause-tick
-returns-clause-tick c = λ first port now s t a b holds runs. keeps_end _ (tick_of now s) a b t (tick_keeps first port now s a.ring holds) runs
+returns-clause-tick c = λ first port now s t a b holds runs. keeps_end _ (tick_of now s) a b t
+    (tick_keeps first port now s a.ring holds) runs
 
 pub returns-clause-pump_out : goal.returns-clause-pump_out
 returns-clause-pump_out c = λ first port s a b w holds runs. keeps_end _ (pump_of s) a b w (pump_keeps first port s a.ring holds) runs
