@@ -1,6 +1,6 @@
 //! The device's calls on the ring, each as it stands in a conversation.
 
-ghost use Rattle.std.specs.Prelude.{◌≡◌, ◌≤◌, ◌+◌, List, ℕ, IfSome, Contains, length, take};
+ghost use Rattle.std.specs.Prelude.{◌≡◌, ◌<◌, ◌≤◌, ◌+◌, List, ℕ, IfSome, Contains, length, slice_index, take};
 ghost use Rattle.vs_header.specs.Packet.{header_of};
 ghost use Rattle.vs_header.specs.declared.TheConstants.{HEADER_LEN};
 ghost use Rattle.vs_ring_port.specs.Chains.{chain_of, held_after, IsLongEnough, without};

@@ -1,5 +1,6 @@
 -- The packet that the bytes of a header and a payload hold.
-use Rattle.std.proofs.Common.{◌≡◌, ℕ, ◌+◌, ◌<◌, ◌≤◌, ◌^◌, nat_le, Bool, true, false, cond, List, [], ◌++◌, length, take, Option, Some, None, refl, sym, ap, subst, ◌∙◌, arith, length-append}
+use Rattle.std.proofs.Common.{◌≡◌, ℕ, ◌+◌, ◌<◌, ◌≤◌, ◌^◌, nat_le, Bool, true, false, cond, List, [], ◌++◌, length, take, Option, Some, None}
+use Rattle.std.proofs.Common.{refl, sym, ap, subst, ◌∙◌, arith, length-append}
 use Rattle.std.proofs.lemmas.Bool.{le-leb}
 use Rattle.std.proofs.lemmas.List.{take_at, drop_at, append-nil, take_all}
 use Rattle.std.specs.Option.{option_map}
@@ -25,7 +26,8 @@ use Rattle.vs_device.specs.Connections.{route_to_guest}
 use Rattle.vs_device_log.specs.Honest.{IsFitFlow}
 
 -- What bytes hold that begin by a header's.
-held_at : (front rest : List ℕ) (h : Header) → length front ≡ HEADER_LEN → header_of front ≡ h → packet_held (front ++ rest) ≡ packet_with h rest
+held_at : (front rest : List ℕ) (h : Header) → length front ≡ HEADER_LEN → header_of front ≡ h → packet_held
+    (front ++ rest) ≡ packet_with h rest
 held_at front rest h long same =
     let fits : HEADER_LEN ≤ length (front ++ rest) = omega (arith, length-append front rest) in
     rw (le-leb HEADER_LEN (length (front ++ rest)) fits, take_at front rest HEADER_LEN long, drop_at front rest HEADER_LEN long)
@@ -34,7 +36,8 @@ held_at front rest h long same =
 held_by : (h : Header) (rest : List ℕ) → FitsWire h → packet_held (header_bytes h ++ rest) ≡ packet_with h rest
 held_by h rest fits =
     held_at (header_bytes h) rest h refl
-    (header_of-header_bytes h fits.src_cid fits.dst_cid fits.src_port fits.dst_port fits.len fits.kind fits.op fits.flags fits.buf_alloc fits.fwd_cnt)
+    (header_of-header_bytes h fits.src_cid fits.dst_cid fits.src_port fits.dst_port fits.len fits.kind fits.op fits.flags
+    fits.buf_alloc fits.fwd_cnt)
 
 pub held_with : (h : Header) (payload : List ℕ) → FitsWire h → payload_held h payload ≡ Some payload
     → packet_held (header_bytes h ++ payload) ≡ Some (record { header = h; payload = payload })
@@ -54,8 +57,10 @@ held_alone h fits none =
     ap packet_held (sym (append-nil (header_bytes h))) ∙ held_with h [] fits (no_payload h none)
 
 -- The len of an RW is that of its payload.
-whole_by : (n : ℕ) (b : Bool) (payload : List ℕ) → n ≡ length payload → nat_le n (length payload) ≡ b → cond b (Some (take n payload)) None ≡ Some payload
-whole_by n true payload is at = ap (λ (k : ℕ). Some (take k payload)) is ∙ ap (λ (x : List ℕ). Some x) (take_all (length payload) payload (omega arith))
+whole_by : (n : ℕ) (b : Bool) (payload : List ℕ) → n ≡ length payload → nat_le n (length payload) ≡ b → cond b
+    (Some (take n payload)) None ≡ Some payload
+whole_by n true payload is at = ap (λ (k : ℕ). Some (take k payload)) is ∙ ap (λ (x : List ℕ). Some x)
+    (take_all (length payload) payload (omega arith))
 whole_by n false payload is at = absurd (grind (arith, is, at))
 
 pub held_payload : (h : Header) (payload : List ℕ) → FitsWire h → h.op ≡ op_number op.Rw → h.len ≡ length payload
@@ -111,7 +116,8 @@ bits_small false true = omega arith
 bits_small false false = omega arith
 
 live_flags : (a b c d : Bool) (own : Shut) (bits : ℕ)
-    → cond a None (cond b (Some owed.CreditUpdate) (cond c (Some owed.CreditRequest) (cond d None (Some (owed.Shutdown (bits_of own)))))) ≡ Some (owed.Shutdown bits)
+    → cond a None (cond b (Some owed.CreditUpdate) (cond c (Some owed.CreditRequest)
+    (cond d None (Some (owed.Shutdown (bits_of own)))))) ≡ Some (owed.Shutdown bits)
     → bits < 2 ^ 32
 live_flags true b c d own bits is = absurd cc
 live_flags false true c d own bits is = absurd cc

@@ -1,5 +1,6 @@
 -- Decisions of a connection: no packet passes, and the device still matches its log.
-use Rattle.std.proofs.Common.{◌≡◌, ℕ, ◌-◌, ◌<◌, ◌≤◌, ◌==◌, Bool, true, false, cond, List, [], ◌∷◌, ◌++◌, length, drop, take, Contains, Option, Some, None, refl, sym, ap, subst, ◌∙◌, arith, length-append, length-drop, length-take}
+use Rattle.std.proofs.Common.{◌≡◌, ℕ, ◌-◌, ◌≤◌, Bool, true, false, cond, List, [], ◌∷◌, ◌++◌, length, drop, Contains, refl, sym, ap, subst}
+use Rattle.std.proofs.Common.{◌∙◌, arith, length-append, length-drop, length-take}
 use Rattle.std.proofs.lemmas.Grind.{common_steps}
 use Rattle.vs_conn.specs.End.{ConnectionEnd, wanting_credit, with_payload_forwarded, with_shut}
 use Rattle.vs_conn.specs.Follows.{Follows}
@@ -19,11 +20,12 @@ use Rattle.vs_device.specs.State.{DeviceConnection, DeviceEntry, DeviceState}
 use Rattle.vs_device.specs.Connections.{after_shut, after_written, cut_off, with_connection}
 use Rattle.vs_device.specs.Streams.{to_write}
 use Rattle.vs_device_log.specs.Honest.{HoldsBytes, IsFit, IsFitState, ends_of_state, ends_with}
-use Rattle.vs_device_log.proofs.Fits.{fewer, fits_forwarded, fits_shut}
+use Rattle.vs_device_log.proofs.Fits.{fits_forwarded, fits_shut}
 use Rattle.vs_device_log.proofs.Tabling.{IsFitConnection, begun_fits, connection_ends, connection_fits, entry_fits, has_end}
 
 -- What a step does that puts and gets nothing.
-pub record ChangesTo (port cid overrun : ℕ) (table : Table DeviceConnection) (replies : List Reply) (cid' overrun' : ℕ) (table' : Table DeviceConnection)
+pub record ChangesTo (port cid overrun : ℕ) (table : Table DeviceConnection) (replies : List Reply) (cid' overrun' : ℕ)
+    (table' : Table DeviceConnection)
     (replies' : List Reply) : Type 0 where
   pub matches : (first : ℕ) (log : Log) → Matches Device first (ends_with port cid table replies) log
       → Matches Device first (ends_with port cid' table' replies') log
@@ -48,7 +50,8 @@ none_replaced : (f : Flow) (e : ConnectionEnd) (ys : List FlowEnd) → ends_of f
 none_replaced f e [] none = refl
 none_replaced f e (y ∷ ys) none = at (same_flow f y.flow) refl none (none_replaced f e ys)
   where
-    at : (b : Bool) → same_flow f y.flow ≡ b → cond b (y.end ∷ ends_of f ys) (ends_of f ys) ≡ [] → (ends_of f ys ≡ [] → replaced f e ys ≡ ys)
+    at : (b : Bool) → same_flow f y.flow ≡ b → cond b (y.end ∷ ends_of f ys) (ends_of f ys) ≡ [] →
+        (ends_of f ys ≡ [] → replaced f e ys ≡ ys)
         → replaced f e (y ∷ ys) ≡ y ∷ ys
     at true same empty rest = absurd cc
     at false same empty rest = rw same (ap (λ (zs : List FlowEnd). y ∷ zs) (rest empty))
@@ -57,7 +60,8 @@ same_replaced : (f : Flow) (e : ConnectionEnd) (xs : List FlowEnd) → ends_of f
 same_replaced f e [] is = refl
 same_replaced f e (x ∷ xs) is = by (same_flow f x.flow) refl is (same_replaced f e xs)
   where
-    by : (b : Bool) → same_flow f x.flow ≡ b → cond b (x.end ∷ ends_of f xs) (ends_of f xs) ≡ e ∷ [] → (ends_of f xs ≡ e ∷ [] → replaced f e xs ≡ xs)
+    by : (b : Bool) → same_flow f x.flow ≡ b → cond b (x.end ∷ ends_of f xs) (ends_of f xs) ≡ e ∷ [] →
+        (ends_of f xs ≡ e ∷ [] → replaced f e xs ≡ xs)
         → replaced f e (x ∷ xs) ≡ x ∷ xs
     by true same one rest =
         let head : x.end ≡ e = cc in
@@ -91,7 +95,8 @@ module _ (port : ℕ) (s : DeviceState) (fits : IsFitState s) where
         let part : Ends = ends_of_state port s in
         let still : with_end e.flow c.end part ≡ part =
         ap (λ (x : ConnectionEnd). with_end e.flow x part) is
-        ∙ ap (λ (xs : List FlowEnd). let x : Ends = record part { entries = xs } in x) (same_replaced e.flow e.value.end part.entries (has_end s fits e there port)) in
+        ∙ ap (λ (xs : List FlowEnd). let x : Ends = record part { entries = xs } in x)
+        (same_replaced e.flow e.value.end part.entries (has_end s fits e there port)) in
         record {
           matches = λ first log m. subst (λ (x : Ends). Matches Device first x log) (sym (connection_ends s fits e there port c ∙ still)) m;
           fits = connection_fits s fits e.slot c held;
@@ -101,12 +106,24 @@ module _ (port : ℕ) (s : DeviceState) (fits : IsFitState s) where
     pub wants : is_new e.value.end ≡ false → Changes port s (with_connection e.slot (record e.value { end = wanting_credit e.value.end }) s)
     wants begun =
         let c : DeviceConnection = record e.value { end = wanting_credit e.value.end } in
-        decides c begun (begun_fits c (record { unread = bytes.unread; within = bytes.within; alloc = bytes.alloc; rx = bytes.rx; fwd = bytes.fwd }) begun)
+        decides c begun (begun_fits c (record {
+          unread = bytes.unread;
+          within = bytes.within;
+          alloc = bytes.alloc;
+          rx = bytes.rx;
+          fwd = bytes.fwd;
+        }) begun)
         (λ side h follows. ask_follows _ _ _ e.value.end follows)
 
     pub cuts : is_new e.value.end ≡ false → Changes port s (with_connection e.slot (cut_off e.value) s)
     cuts begun = decides (cut_off e.value) begun
-        (begun_fits (cut_off e.value) (record { unread = omega arith; within = bytes.within; alloc = bytes.alloc; rx = bytes.rx; fwd = bytes.fwd }) refl)
+        (begun_fits (cut_off e.value) (record {
+          unread = omega arith;
+          within = bytes.within;
+          alloc = bytes.alloc;
+          rx = bytes.rx;
+          fwd = bytes.fwd;
+        }) refl)
         (λ side h follows. abort_follows _ _ _ e.value.end follows)
 
     pub shuts : (bits now : ℕ) → is_new e.value.end ≡ false → Changes port s (with_connection e.slot (after_shut bits now e.value) s)
@@ -121,15 +138,18 @@ module _ (port : ℕ) (s : DeviceState) (fits : IsFitState s) where
         kept_by false = refl
 
     -- The stream took n of the bytes that were to be written.
-    pub writes : (n : ℕ) → n ≤ length (to_write e.value) → is_new e.value.end ≡ false → Changes port s (with_connection e.slot (after_written n e.value) s)
+    pub writes : (n : ℕ) → n ≤ length (to_write e.value) → is_new e.value.end ≡ false → Changes port s
+        (with_connection e.slot (after_written n e.value) s)
     writes n less begun =
         let c : DeviceConnection = after_written n e.value in
         let payload = n - length e.value.ok_line in
         let len = length-take 4096 (e.value.ok_line ++ e.value.pending) in
         let both = length-append e.value.ok_line e.value.pending in
         let few : payload ≤ length e.value.pending = omega (arith, less, len, both) in
-        let left : length e.value.pending - payload ≡ length (drop payload e.value.pending) = omega (arith, length-drop payload e.value.pending) in
+        let left : length e.value.pending - payload ≡ length (drop payload e.value.pending) = omega
+        (arith, length-drop payload e.value.pending) in
         decides c begun
-        (begun_fits c (subst (λ (u : ℕ). HoldsBytes c.end.credit u) left (fits_forwarded e.value.end.credit payload (length e.value.pending) bytes few))
+        (begun_fits c (subst (λ (u : ℕ). HoldsBytes c.end.credit u) left
+        (fits_forwarded e.value.end.credit payload (length e.value.pending) bytes few))
         (forward_old e.value.end payload begun))
         (λ side h follows. forward_follows _ _ _ e.value.end payload follows (omega (arith, few, bytes.unread)))

@@ -1,13 +1,13 @@
 -- A connection's pending bytes are unread ones of its end, whatever the end does.
-use Rattle.std.proofs.Common.{◌≡◌, ℕ, ◌+◌, ◌-◌, ◌%◌, ◌^◌, ◌<◌, ◌≤◌, ◌==◌, ◌&&◌, not, Bool, true, false, cond, Option, Some, None, refl, sym, ap, subst, ◌∙◌, arith, rules, List, [], ◌++◌, length, drop, length-append, length-drop}
+use Rattle.std.proofs.Common.{◌≡◌, ℕ, ◌+◌, ◌-◌, ◌%◌, ◌^◌, ◌<◌, ◌≤◌, Bool, true, false, cond, Option, Some, None, refl, arith}
 use Rattle.std.proofs.lemmas.Bool.Decides.{nat_tests}
 use Rattle.std.proofs.lemmas.Grind.{common_steps}
-use Rattle.vs_conn.specs.End.{ConnectionEnd, after_message, after_op, asked, end_after, paid_of, payload_verdict, verdict_of, with_heard_packet, with_shut}
+use Rattle.vs_conn.specs.End.{ConnectionEnd, after_message, after_op, end_after, paid_of, verdict_of, with_heard_packet, with_shut}
 use Rattle.vs_conn.specs.declared.end.Owed.{Owed}
 use Rattle.vs_conn.specs.declared.end.Owed.TheVariants as owed
 use Rattle.vs_conn.specs.declared.end.Verdict.{Verdict}
 use Rattle.vs_conn.specs.declared.end.Verdict.TheVariants as verdict
-use Rattle.vs_credit.specs.Credit.{unread_of, room_of, with_forwarded, with_sent, with_taken}
+use Rattle.vs_credit.specs.Credit.{room_of, with_forwarded, with_sent, with_taken}
 use Rattle.vs_credit.specs.declared.Credit.{Credit}
 use Rattle.vs_header.specs.Op.{op_named}
 use Rattle.vs_header.specs.declared.Header.{Header}
@@ -20,7 +20,13 @@ plus_zero : (n : ℕ) → n + 0 ≡ n
 plus_zero n = omega arith
 
 pub fewer : (c : Credit) (u v : ℕ) → HoldsBytes c u → v ≤ u → HoldsBytes c v
-fewer c u v fits less = record { alloc = fits.alloc; fwd = fits.fwd; rx = fits.rx; unread = omega (arith, fits.unread, less); within = fits.within }
+fewer c u v fits less = record {
+  alloc = fits.alloc;
+  fwd = fits.fwd;
+  rx = fits.rx;
+  unread = omega (arith, fits.unread, less);
+  within = fits.within;
+}
 
 forwards : (rx fwd n u : ℕ) → rx < 2 ^ 32 → fwd < 2 ^ 32 → n ≤ u → u ≤ (rx + 2 ^ 32 - fwd) % 2 ^ 32
     → u - n ≤ (rx + 2 ^ 32 - (fwd + n) % 2 ^ 32) % 2 ^ 32
@@ -71,7 +77,14 @@ pub fits_shut : (e : ConnectionEnd) (bits u : ℕ) → HoldsBytes e.credit u
 fits_shut e bits u fits = by (with_shut e bits).own.receive
   where
     by : (b : Bool) → HoldsBytes (cond b (record e.credit { fwd_cnt = e.credit.rx_cnt }) e.credit) (cond b 0 u)
-    by true = record { alloc = fits.alloc; fwd = fits.rx; rx = fits.rx; unread = omega arith; within = none_left e.credit.rx_cnt e.credit.alloc fits.rx }
+    by true = record {
+      alloc = fits.alloc;
+      fwd = fits.rx;
+      rx = fits.rx;
+      unread = omega arith;
+      within =
+          none_left e.credit.rx_cnt e.credit.alloc fits.rx;
+    }
     by false = fits
 
 pub fits_paid : (e : ConnectionEnd) (what : Owed) (u : ℕ) → HoldsBytes e.credit u → HoldsBytes (paid_of e what).credit u

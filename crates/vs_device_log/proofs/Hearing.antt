@@ -1,5 +1,6 @@
 -- What the device keeps as it takes a packet, whose page stands in the log: each verdict, and each end of a REQUEST.
-use Rattle.std.proofs.Common.{◌≡◌, ℕ, ◌+◌, ◌-◌, ◌<◌, ◌≤◌, ◌==◌, ◌&&◌, Bool, true, false, cond, if◌then◌else◌, List, [], ◌∷◌, ◌++◌, length, take, drop, Contains, Option, Some, None, refl, sym, ap, subst, ◌∙◌, arith, length-append, length-take}
+use Rattle.std.proofs.Common.{◌≡◌, ℕ, ◌+◌, ◌≤◌, ◌==◌, ◌&&◌, Bool, true, false, cond, List, [], ◌∷◌, ◌++◌, length, take, drop, Contains}
+use Rattle.std.proofs.Common.{Option, Some, None, refl, sym, ap, subst, ◌∙◌, arith, length-append, length-take}
 use Rattle.std.proofs.lemmas.Bool.Decides.{nat_tests}
 use Rattle.std.proofs.lemmas.Grind.{common_steps}
 use Rattle.vs_contents.specs.CallTree.{Done, Ask, bind}
@@ -10,12 +11,11 @@ use Rattle.vs_conn.specs.declared.end.Why.{Why}
 use Rattle.vs_conn.specs.declared.end.Why.TheVariants as why
 use Rattle.vs_flow.specs.Flow.{is_assigned, same_flow}
 use Rattle.vs_flow.specs.Table.{entry_of, has_place}
-use Rattle.vs_flow.specs.declared.flow.Flow.{Flow}
 use Rattle.vs_flow.proofs.Entries.{same_flow_true}
 use Rattle.vs_header.specs.Op.{op_named}
 use Rattle.vs_header.specs.declared.Header.{Header}
 use Rattle.vs_header.specs.declared.TheConstants.{HEADER_LEN}
-use Rattle.vs_history.specs.Packets.{is_request, is_rst}
+use Rattle.vs_history.specs.Packets.{is_request}
 use Rattle.vs_history.specs.declared.packet.Packet.{Packet}
 use Rattle.vs_outside.specs.declared.host_net.Dialed.{Dialed}
 use Rattle.vs_outside.specs.declared.host_net.Dialed.TheVariants as dialed
@@ -26,21 +26,21 @@ use Rattle.vs_page.specs.Open.{is_dropped}
 use Rattle.vs_page.specs.declared.log.LogEntry.TheVariants.{GotPacket}
 use Rattle.vs_replies.specs.Owed.{reply_to}
 use Rattle.vs_ring_port.specs.Chains.{Held, bytes_in}
-use Rattle.vs_ring_port.specs.Contents.{RingContents, Read}
+use Rattle.vs_ring_port.specs.Contents.{RingContents}
 use Rattle.vs_ring_port.specs.EndLog.{EndLog}
 use Rattle.vs_ring_port.specs.declared.device_ring.Chain.{Chain}
 use Rattle.vs_matching.specs.Ends.{is_new}
 use Rattle.vs_matching.specs.Steps.{is_overrun}
 use Rattle.vs_matching.proofs.Slots.{found_by}
-use Rattle.vs_device.specs.Calls.{DeviceTree, Dial, Ring}
+use Rattle.vs_device.specs.Calls.{DeviceTree, Dial}
 use Rattle.vs_device.specs.Connections.{after_leaving, stream_closed, with_connection, with_dialed, with_fault, with_reply}
 use Rattle.vs_device.specs.State.{DeviceConnection, DeviceEntry, DeviceState}
 use Rattle.vs_device.specs.Streams.{leaving}
 use Rattle.vs_device.specs.Transmitting.{dial_answered, heard, on_known, on_packet, on_unknown, refused, try_request, unknown_why}
 use Rattle.vs_wrap.specs.Wrap.{counted}
-use Rattle.vs_device_log.specs.Honest.{AgreesWith, HasNothing, HoldsBytes, IsLeft, unwritten}
+use Rattle.vs_device_log.specs.Honest.{AgreesWith, HoldsBytes, IsLeft, unwritten}
 use Rattle.vs_device_log.proofs.Fits.{delivered, fewer, fits_after}
-use Rattle.vs_device_log.proofs.Keeping.{Keeps, keeps_bind, keeps_then}
+use Rattle.vs_device_log.proofs.Keeping.{Keeps, keeps_bind}
 use Rattle.vs_device_log.proofs.Ringing.{HoldsFirst, Tells, moves, tells_weaker}
 use Rattle.vs_device_log.proofs.Steps.{closing_keeps}
 use Rattle.vs_device_log.proofs.Tabling.{IsFitConnection, begun_fits, entry_fits}
@@ -95,9 +95,11 @@ module _ (first port : ℕ) (s : DeviceState) (chain : Chain) (h : Header) (wire
 
   agrees_by : (t : DeviceState) (l : EndLog) → Hears t → IsCome l → AgreesWith first port t l
   agrees_by t l step come =
-      subst (λ (log : Log). IsLeft first port t.cid t.overrun t.table t.replies log) (sym come.entries_are) (step come.payload come.log come.was come.fair)
+      subst (λ (log : Log). IsLeft first port t.cid t.overrun t.table t.replies log) (sym come.entries_are)
+      (step come.payload come.log come.was come.fair)
 
-  quiet : (t : DeviceState) (v : Verdict) (c : RingContents) → t.failed ≡ s.failed → t.chain ≡ s.chain → Hears t → Tells Came c → Heard (t, v) c
+  quiet : (t : DeviceState) (v : Verdict) (c : RingContents) → t.failed ≡ s.failed → t.chain ≡ s.chain → Hears t → Tells Came c → Heard
+      (t, v) c
   quiet t v c failed chain_is step tells = (
     failed,
     chain_is,
@@ -128,29 +130,36 @@ module _ (first port : ℕ) (s : DeviceState) (chain : Chain) (h : Header) (wire
         heard_fits = record {
           bytes = none_new;
           new = λ new. let n = (entry_fits s was.fits e there).new (still_new e.value.end h new) in
-              record { ok_line = n.ok_line; pending = n.pending; asked_at = n.asked_at; shut_at = n.shut_at };
+              record { by_client = n.by_client; ok_line = n.ok_line; pending = n.pending; asked_at = n.asked_at; shut_at = n.shut_at };
         }
 
         hears : (v : Verdict) → verdict_of e.value.end h ≡ v → peer_resets v h ≡ false
-            → IsLeft first port s.cid s.overrun (with_connection e.slot (heard h e.value) s).table s.replies (GotPacket (packet payload) ∷ log)
-        hears v is other = stays_with first port s (packet payload) log was fair wire kept e there flow (heard h e.value) refl heard_fits (goes_on v is other)
+            → IsLeft first port s.cid s.overrun (with_connection e.slot (heard h e.value) s).table s.replies
+            (GotPacket (packet payload) ∷ log)
+        hears v is other = stays_with first port s (packet payload) log was fair wire kept e there flow (heard h e.value) refl heard_fits
+            (goes_on v is other)
 
         accepts : (line : List ℕ) → verdict_of e.value.end h ≡ verdict.Accept
-            → IsLeft first port s.cid s.overrun (with_connection e.slot (record (heard h e.value) { ok_line = line }) s).table s.replies (GotPacket (packet payload) ∷ log)
+            → IsLeft first port s.cid s.overrun (with_connection e.slot (record (heard h e.value) { ok_line = line }) s).table s.replies
+            (GotPacket (packet payload) ∷ log)
         accepts line is =
             let c : DeviceConnection = record (heard h e.value) { ok_line = line } in
-            stays_with first port s (packet payload) log was fair wire kept e there flow c refl (begun_fits c none_new (accept_old e.value.end h is)) (goes_on verdict.Accept is refl)
+            stays_with first port s (packet payload) log was fair wire kept e there flow c refl
+            (begun_fits c none_new (accept_old e.value.end h is)) (goes_on verdict.Accept is refl)
 
         delivers : (bytes : List ℕ) → length bytes ≤ h.len → verdict_of e.value.end h ≡ verdict.Deliver
-            → IsLeft first port s.cid s.overrun (with_connection e.slot (record (heard h e.value) { pending = e.value.pending ++ bytes }) s).table s.replies (GotPacket (packet payload) ∷ log)
+            → IsLeft first port s.cid s.overrun (with_connection e.slot
+            (record (heard h e.value) { pending = e.value.pending ++ bytes }) s).table s.replies (GotPacket (packet payload) ∷ log)
         delivers bytes short is =
             let c : DeviceConnection = record (heard h e.value) { pending = e.value.pending ++ bytes } in
             stays_with first port s (packet payload) log was fair wire kept e there flow c refl
-            (begun_fits c (fewer _ _ _ (after verdict.Deliver is) (omega (arith, short, length-append e.value.pending bytes))) (deliver_old e.value.end h is))
+            (begun_fits c (fewer _ _ _ (after verdict.Deliver is) (omega (arith, short, length-append e.value.pending bytes)))
+            (deliver_old e.value.end h is))
             (goes_on verdict.Deliver is refl)
 
         leaves : verdict_of e.value.end h ≡ verdict.Peer → is_reset h ≡ true
-            → IsLeft first port s.cid s.overrun (after_leaving e.slot (with_connection e.slot (stream_closed (heard h e.value)) s)).table s.replies (GotPacket (packet payload) ∷ log)
+            → IsLeft first port s.cid s.overrun (after_leaving e.slot
+            (with_connection e.slot (stream_closed (heard h e.value)) s)).table s.replies (GotPacket (packet payload) ∷ log)
         leaves is reset = leaves_with first port s (packet payload) log was fair wire kept e there flow (stream_closed (heard h e.value))
             (sym (rst_leaves e.value.end h) ∙ ap (λ (w : Verdict). peer_resets w h) is ∙ reset)
 
@@ -165,8 +174,10 @@ module _ (first port : ℕ) (s : DeviceState) (chain : Chain) (h : Header) (wire
 
       module _ (c : RingContents) (tells : Tells Came c) where
         peers : (b : Bool) → is_reset h ≡ b → verdict_of e.value.end h ≡ verdict.Peer
-            → Keeps Heard (with_verdict verdict.Peer (cond b (leaving (record e { value = heard h e.value }) s) (Done (with_connection e.slot (heard h e.value) s)))) c
-        peers false reset is = quiet (with_connection e.slot (heard h e.value) s) verdict.Peer c refl refl (λ payload log was fair. hears payload log was fair verdict.Peer is reset) tells
+            → Keeps Heard (with_verdict verdict.Peer (cond b (leaving (record e { value = heard h e.value }) s)
+            (Done (with_connection e.slot (heard h e.value) s)))) c
+        peers false reset is = quiet (with_connection e.slot (heard h e.value) s) verdict.Peer c refl refl
+            (λ payload log was fair. hears payload log was fair verdict.Peer is reset) tells
         peers true reset is =
             let x : DeviceEntry = record e { value = heard h e.value } in
             let gone : DeviceState = after_leaving e.slot (with_connection e.slot (stream_closed (heard h e.value)) s) in
@@ -175,15 +186,23 @@ module _ (first port : ℕ) (s : DeviceState) (chain : Chain) (h : Header) (wire
             (closing_keeps first port (λ t d. Heard (t, verdict.Peer) d) next x stream_closed s c
             (quiet gone verdict.Peer c refl refl (λ payload log was fair. leaves payload log was fair is reset) tells))
 
-        refuses : (w : Why) → verdict_of e.value.end h ≡ verdict.Rst w → Keeps Heard (with_verdict (verdict.Rst w) (on_known (verdict.Rst w) chain h e s)) c
-        refuses (why.Overrun o) is = quiet (with_connection e.slot (heard h e.value) (record s { overrun = counted s.overrun })) (verdict.Rst (why.Overrun o)) c refl refl
+        refuses : (w : Why) → verdict_of e.value.end h ≡ verdict.Rst w → Keeps Heard
+            (with_verdict (verdict.Rst w) (on_known (verdict.Rst w) chain h e s)) c
+        refuses (why.Overrun o) is = quiet (with_connection e.slot (heard h e.value) (record s { overrun = counted s.overrun }))
+            (verdict.Rst (why.Overrun o)) c refl refl
             (λ payload log was fair. absurd (overruns payload log was fair (why.Overrun o) is refl)) tells
-        refuses why.BadKind is = quiet (with_connection e.slot (heard h e.value) s) (verdict.Rst why.BadKind) c refl refl (λ payload log was fair. hears payload log was fair _ is refl) tells
-        refuses why.BadOp is = quiet (with_connection e.slot (heard h e.value) s) (verdict.Rst why.BadOp) c refl refl (λ payload log was fair. hears payload log was fair _ is refl) tells
-        refuses why.Twice is = quiet (with_connection e.slot (heard h e.value) s) (verdict.Rst why.Twice) c refl refl (λ payload log was fair. hears payload log was fair _ is refl) tells
-        refuses why.NotAsked is = quiet (with_connection e.slot (heard h e.value) s) (verdict.Rst why.NotAsked) c refl refl (λ payload log was fair. hears payload log was fair _ is refl) tells
-        refuses why.NotLive is = quiet (with_connection e.slot (heard h e.value) s) (verdict.Rst why.NotLive) c refl refl (λ payload log was fair. hears payload log was fair _ is refl) tells
-        refuses why.AfterShutdown is = quiet (with_connection e.slot (heard h e.value) s) (verdict.Rst why.AfterShutdown) c refl refl (λ payload log was fair. hears payload log was fair _ is refl) tells
+        refuses why.BadKind is = quiet (with_connection e.slot (heard h e.value) s) (verdict.Rst why.BadKind) c refl refl
+            (λ payload log was fair. hears payload log was fair _ is refl) tells
+        refuses why.BadOp is = quiet (with_connection e.slot (heard h e.value) s) (verdict.Rst why.BadOp) c refl refl
+            (λ payload log was fair. hears payload log was fair _ is refl) tells
+        refuses why.Twice is = quiet (with_connection e.slot (heard h e.value) s) (verdict.Rst why.Twice) c refl refl
+            (λ payload log was fair. hears payload log was fair _ is refl) tells
+        refuses why.NotAsked is = quiet (with_connection e.slot (heard h e.value) s) (verdict.Rst why.NotAsked) c refl refl
+            (λ payload log was fair. hears payload log was fair _ is refl) tells
+        refuses why.NotLive is = quiet (with_connection e.slot (heard h e.value) s) (verdict.Rst why.NotLive) c refl refl
+            (λ payload log was fair. hears payload log was fair _ is refl) tells
+        refuses why.AfterShutdown is = quiet (with_connection e.slot (heard h e.value) s) (verdict.Rst why.AfterShutdown) c refl refl
+            (λ payload log was fair. hears payload log was fair _ is refl) tells
 
         accepted : (line : List ℕ) → verdict_of e.value.end h ≡ verdict.Accept
             → Heard (with_connection e.slot (record (heard h e.value) { ok_line = line }) s, verdict.Accept) c
@@ -197,7 +216,8 @@ module _ (first port : ℕ) (s : DeviceState) (chain : Chain) (h : Header) (wire
           λ bytes d fit made. (
             refl,
             refl,
-            moves _ _ _ _ _ (λ l. l) c d made Came (After (with_connection e.slot (record (heard h e.value) { pending = e.value.pending ++ bytes }) s))
+            moves _ _ _ _ _ (λ l. l) c d made Came (After (with_connection e.slot
+                (record (heard h e.value) { pending = e.value.pending ++ bytes }) s))
                 (λ hon l asked came stays. (
                   came.0,
                   came.1,
@@ -209,23 +229,29 @@ module _ (first port : ℕ) (s : DeviceState) (chain : Chain) (h : Header) (wire
                 )) tells,
           ),
         )
-        by_verdict verdict.Discard is = quiet (with_connection e.slot (heard h e.value) s) verdict.Discard c refl refl (λ payload log was fair. hears payload log was fair _ is refl) tells
-        by_verdict verdict.Ignore is = quiet (with_connection e.slot (heard h e.value) s) verdict.Ignore c refl refl (λ payload log was fair. hears payload log was fair _ is refl) tells
+        by_verdict verdict.Discard is = quiet (with_connection e.slot (heard h e.value) s) verdict.Discard c refl refl
+            (λ payload log was fair. hears payload log was fair _ is refl) tells
+        by_verdict verdict.Ignore is = quiet (with_connection e.slot (heard h e.value) s) verdict.Ignore c refl refl
+            (λ payload log was fair. hears payload log was fair _ is refl) tells
         by_verdict verdict.Peer is = peers (is_reset h) refl is
         by_verdict (verdict.Rst w) is = refuses w is
 
     -- A packet of another flow.
     module _ (none : entry_of s.table (flow_to_host h) ≡ None) (c : RingContents) (tells : Tells Came c) where
-      replied : (t : DeviceState) (v : Verdict) → (t.failed ≡ s.failed) × (t.chain ≡ s.chain) × (t.cid ≡ s.cid) × (t.overrun ≡ s.overrun) × (t.table ≡ s.table)
+      replied : (t : DeviceState) (v : Verdict) → (t.failed ≡ s.failed) × (t.chain ≡ s.chain) × (t.cid ≡ s.cid) × (t.overrun ≡ s.overrun)
+          × (t.table ≡ s.table)
           × (t.replies ≡ s.replies ++ reply_to h ∷ []) → Heard (t, v) c
       replied t v (failed, chain_is, cid, overrun, table, replies) = quiet t v c failed chain_is (λ payload log was fair.
           rw (cid, overrun, table, replies) (replies_to first port s (packet payload) log was fair wire kept none)) tells
 
       dial_by : (d : Dialed) → is_request (packet []) ≡ true → has_place s.table ≡ true → Heard (dial_answered h d s) c
       dial_by (dialed.Stream stream) request place =
-          quiet (with_dialed (flow_to_host h) h stream s) verdict.Accept c refl refl (λ payload log was fair. opens first port s (packet payload) log was fair wire kept none stream request place) tells
-      dial_by dialed.Refused request place = replied (with_reply (reply_to h) s) (verdict.Rst why.NotLive) (refl, refl, refl, refl, refl, refl)
-      dial_by dialed.Failed request place = replied (with_reply (reply_to h) (with_fault s)) (verdict.Rst why.NotLive) (refl, refl, refl, refl, refl, refl)
+          quiet (with_dialed (flow_to_host h) h stream s) verdict.Accept c refl refl
+          (λ payload log was fair. opens first port s (packet payload) log was fair wire kept none stream request place) tells
+      dial_by dialed.Refused request place = replied (with_reply (reply_to h) s) (verdict.Rst why.NotLive)
+          (refl, refl, refl, refl, refl, refl)
+      dial_by dialed.Failed request place = replied (with_reply (reply_to h) (with_fault s)) (verdict.Rst why.NotLive)
+          (refl, refl, refl, refl, refl, refl)
 
       refused_keeps : Heard (refused h s) c
       refused_keeps = replied (with_reply (reply_to h) s) (verdict.Rst why.NotLive) (refl, refl, refl, refl, refl, refl)
@@ -234,7 +260,11 @@ module _ (first port : ℕ) (s : DeviceState) (chain : Chain) (h : Header) (wire
           → Keeps Heard (cond b (Done (refused h s)) (cond x (Ask (Dial path (flow_to_host h)) (λ answer. Done (dial_answered h answer s)))
           (Done (refused h s)))) c
       tried path true x place request = refused_keeps
-      tried path false true place request = (tt, λ a d fit same. subst (λ (r : RingContents). Heard (dial_answered h a s) r) (sym same) (dial_by a request place))
+      tried path false true place request = (
+        tt,
+        λ a d fit same. subst (λ (r : RingContents). Heard (dial_answered h a s) r) (sym same)
+            (dial_by a request place),
+      )
       tried path false false place request = refused_keeps
 
       asked_by : (is_stream h && (h.op == 1)) ≡ true → is_request (packet []) ≡ true
@@ -245,9 +275,11 @@ module _ (first port : ℕ) (s : DeviceState) (chain : Chain) (h : Header) (wire
       requested true is = tried _ (is_assigned h.dst_port) (has_place s.table) refl (asked_by is)
       requested false is = replied (with_reply (reply_to h) s) (verdict.Rst (unknown_why h)) (refl, refl, refl, refl, refl, refl)
 
-      unknown : (b : Bool) → is_reset h ≡ b → Keeps Heard (cond b (Done (s, verdict.Ignore)) (cond (is_stream h && (h.op == 1)) (try_request h s)
+      unknown : (b : Bool) → is_reset h ≡ b → Keeps Heard (cond b (Done (s, verdict.Ignore))
+          (cond (is_stream h && (h.op == 1)) (try_request h s)
           (Done (with_reply (reply_to h) s, verdict.Rst (unknown_why h))))) c
-      unknown true is = quiet s verdict.Ignore c refl refl (λ payload log was fair. ignores_it first port s (packet payload) log was fair wire kept none is) tells
+      unknown true is = quiet s verdict.Ignore c refl refl (λ payload log was fair. ignores_it first port s
+          (packet payload) log was fair wire kept none is) tells
       unknown false is = requested (is_stream h && (h.op == 1)) refl
 
     -- By the entry of its flow.
@@ -263,10 +295,12 @@ module _ (first port : ℕ) (s : DeviceState) (chain : Chain) (h : Header) (wire
   pub packet_keeps : (c : RingContents) → Tells Came c → Keeps Heard (on_packet chain h s) c
   packet_keeps c tells = by (is_dropped Device s.cid h) refl
     where
-      by : (b : Bool) → is_dropped Device s.cid h ≡ b → Keeps Heard (cond b (Done (record s { dropped = counted s.dropped }, verdict.Ignore))
+      by : (b : Bool) → is_dropped Device s.cid h ≡ b → Keeps Heard
+          (cond b (Done (record s { dropped = counted s.dropped }, verdict.Ignore))
           (elim (entry_of s.table (flow_to_host h)) [
             | None ↦ on_unknown h s
             | Some e ↦ bind (on_known (verdict_of e.value.end h) chain h e s) (λ t. Done (t, verdict_of e.value.end h))
           ])) c
-      by true is = quiet (record s { dropped = counted s.dropped }) verdict.Ignore c refl refl (λ payload log was fair. drops_it first port s (packet payload) log was fair wire is) tells
+      by true is = quiet (record s { dropped = counted s.dropped }) verdict.Ignore c refl refl
+          (λ payload log was fair. drops_it first port s (packet payload) log was fair wire is) tells
       by false is = by_entry is (entry_of s.table (flow_to_host h)) refl c tells

@@ -1,7 +1,7 @@
 -- What a conversation keeps of its ring: what holds at each of its ends, where each of its calls on the ring may be made.
-use Rattle.std.proofs.Common.{◌≡◌, ℕ, zero, suc, ◌<◌, Bool, true, false, List, [], ◌∷◌, refl, sym, ap, subst, ◌∙◌}
+use Rattle.std.proofs.Common.{◌≡◌, ℕ, zero, suc, ◌<◌, ◌≤◌, length, Bool, true, false, List, [], ◌∷◌, subst}
 use Rattle.vs_contents.specs.CallTree.{Done, Ask, bind, for_each, while_up_to}
-use Rattle.vs_ring_port.specs.Contents.{RingContents, DeviceCall, DeviceAnswer, Take, Read, Write, Return, Given, PublishCid}
+use Rattle.vs_ring_port.specs.Contents.{RingContents, DeviceCall, Take, Read, Write, Return, Given, PublishCid}
 use Rattle.vs_ring_port.specs.DeviceCalls.{CanReturn, DeviceAllows, LeavesNoGap}
 use Rattle.vs_device.specs.Calls.{Call, Answer, Allows, IsFitAnswer, Ring, Accept, Dial, Label, ReadStream, WriteStream, ShutWrite, CloseStream, DeviceTree, Situation}
 use Rattle.vs_device.specs.Playing.{Runs}
@@ -48,7 +48,7 @@ moved (CloseStream stream) a s t allowed = allowed.1.ring
 abbrev pub Keeps : {A : Type 0} → (A → RingContents → Type 0) → DeviceTree A → RingContents → Type 0
 Keeps Q (Done x) c = Q x c
 Keeps Q (Ask call next) c =
-    Can call c × ((a : Answer call) (d : RingContents) → IsFitAnswer call a → Moves call a c d → Keeps Q (next a) d)
+    Can call c × ((a : Answer call) (d : RingContents) → IsFit call a → Moves call a c d → Keeps Q (next a) d)
 
 module _ {A : Type 0} (Q : A → RingContents → Type 0) where
   pub keeps_may : (t : DeviceTree A) (s : Situation) → Keeps Q t s.ring → MayPut t s
@@ -62,7 +62,8 @@ module _ {A : Type 0} (Q : A → RingContents → Type 0) where
       let R : Situation → Type 0 = λ e. Q x e.ring in
       subst R runs.1 (subst P runs.0 keeps)
   keeps_end (Ask call next) s d x keeps runs =
-      keeps_end (next runs.0) runs.1 d x (keeps.1 runs.0 runs.1.ring runs.2.0 (moved call runs.0 s runs.1 runs.2)) runs.3
+      keeps_end (next runs.0) runs.1 d x (keeps.1 runs.0 runs.1.ring (fitted call runs.0 s runs.1 runs.2)
+      (moved call runs.0 s runs.1 runs.2)) runs.3
 
   pub keeps_weaker : (R : A → RingContents → Type 0) → ((x : A) (d : RingContents) → Q x d → R x d) → (t : DeviceTree A) (c : RingContents)
       → Keeps Q t c → Keeps R t c
@@ -75,7 +76,8 @@ module _ {A : Type 0} (Q : A → RingContents → Type 0) where
   keeps_bind (Ask call next) f c keeps = (keeps.0, λ a d fit moves. keeps_bind (next a) f d (keeps.1 a d fit moves))
 
 -- One conversation, and then what follows each of its ends.
-pub keeps_then : {A B : Type 0} (P : B → RingContents → Type 0) (Q : A → RingContents → Type 0) (t : DeviceTree B) (f : B → DeviceTree A) (c : RingContents)
+pub keeps_then : {A B : Type 0} (P : B → RingContents → Type 0) (Q : A → RingContents → Type 0) (t : DeviceTree B) (f : B → DeviceTree A)
+    (c : RingContents)
     → Keeps P t c → ((x : B) (d : RingContents) → P x d → Keeps Q (f x) d) → Keeps Q (bind t f) c
 keeps_then P Q t f c first then = keeps_bind Q t f c (keeps_weaker P (λ x d. Keeps Q (f x) d) then t c first)
 

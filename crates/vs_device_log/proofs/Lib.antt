@@ -13,3 +13,4 @@ pub mod Taking
 pub mod Hearing
 pub mod Transmitting
 pub mod Turning
+pub mod Packets

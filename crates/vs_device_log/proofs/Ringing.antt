@@ -1,29 +1,21 @@
 -- What a call on a ring that tells its log keeps.
-use Rattle.std.proofs.Common.{◌≡◌, ℕ, zero, ◌+◌, ◌<◌, ◌≤◌, ◌==◌, Bool, true, false, cond, List, [], ◌∷◌, ◌++◌, length, take, drop, Option, Some, None, refl, sym, ap, subst, ◌∙◌, arith, length-append}
+use Rattle.std.proofs.Common.{◌≡◌, ℕ, ◌+◌, ◌≤◌, Bool, true, cond, List, [], ◌∷◌, ◌++◌, length, take, drop, Option, Some, None, refl, sym}
+use Rattle.std.proofs.Common.{ap, subst, ◌∙◌, arith, length-append}
 use Rattle.std.proofs.lemmas.Bool.Decides.{nat_tests}
 use Rattle.std.proofs.lemmas.List.{take_at}
 use Rattle.std.specs.Option.{ForSome}
-use Rattle.vs_contents.specs.CallTree.{Done, Ask, bind}
 use Rattle.vs_contents.specs.Contents.{Exposes}
-use Rattle.vs_header.specs.Packet.{header_bytes}
-use Rattle.vs_header.specs.declared.Header.{Header}
-use Rattle.vs_header.specs.declared.TheConstants.{HEADER_LEN}
-use Rattle.vs_history.specs.declared.packet.Packet.{Packet}
 use Rattle.vs_page.specs.Fair.{IsFairLog}
-use Rattle.vs_page.specs.Held.{packet_held}
-use Rattle.vs_page.specs.Log.{Device, Log}
+use Rattle.vs_page.specs.Log.{Device}
 use Rattle.vs_page.specs.Overwriting.{overwritten}
-use Rattle.vs_page.specs.declared.log.LogEntry.TheVariants.{PutPacket}
 use Rattle.vs_ring_port.specs.Chains.{Held, bytes_in, same_chain, same_queue, with_bytes, without_held}
-use Rattle.vs_ring_port.specs.Contents.{RingContents, DeviceCall, DeviceAnswer, Take, Read, Write, Return, PublishCid}
-use Rattle.vs_ring_port.specs.DeviceCalls.{CanReturn, DeviceAllows, DeviceMoves, IsWholePacket, LeavesNoGap}
-use Rattle.vs_ring_port.specs.DriverCalls.{HoldsPacket}
-use Rattle.vs_ring_port.specs.EndLog.{EndLog, entries_returned, log_returned, log_written, with_packet}
+use Rattle.vs_ring_port.specs.Contents.{RingContents, DeviceCall, DeviceAnswer}
+use Rattle.vs_ring_port.specs.DeviceCalls.{DeviceMoves}
+use Rattle.vs_ring_port.specs.EndLog.{EndLog, entries_returned, log_returned, log_written}
 use Rattle.vs_ring_port.specs.Lists.{Rings}
 use Rattle.vs_ring_port.specs.declared.device_ring.Chain.{Chain}
 use Rattle.vs_ring_port.specs.declared.queue.Queue.{Queue}
 use Rattle.vs_ring_port.specs.declared.queue.Queue.TheVariants.{Rx, Tx, Event}
-use Rattle.vs_device_log.proofs.Keeping.{Keeps}
 
 -- P holds of the log that a ring tells; it depends on whether the ring is honest.
 abbrev pub Tells : (Bool → EndLog → Type 0) → RingContents → Type 0
@@ -33,7 +25,8 @@ pub tells_weaker : (P Q : Bool → EndLog → Type 0) → ((h : Bool) (l : EndLo
 tells_weaker P Q then c tells = λ l is. then c.honest l (tells l is)
 
 -- A call changes the log by g: what follows of each log, which is fair after it where the ring is honest, it tells.
-pub moves : (call : DeviceCall) (a : DeviceAnswer call) (L : Rings → Type 0) (f : Rings → Rings) (R : EndLog → Type 0) (g : EndLog → EndLog) (c d : RingContents)
+pub moves : (call : DeviceCall) (a : DeviceAnswer call) (L : Rings → Type 0) (f : Rings → Rings) (R : EndLog → Type 0)
+    (g : EndLog → EndLog) (c d : RingContents)
     → DeviceMoves call a L f R g c d → (P Q : Bool → EndLog → Type 0)
     → ((h : Bool) (l : EndLog) → R l → P h l → (h ≡ true → IsFairLog Device (g l).entries) → Q h (g l)) → Tells P c → Tells Q d
 moves call a L f R g c d made P Q then tells = λ l is. by c.log refl made.log l is
@@ -43,7 +36,8 @@ moves call a L f R g c d made P Q then tells = λ l is. by c.log refl made.log l
     by (Some before) log exposes l is =
         let e : Some (g before) ≡ Some l = sym exposes.1 ∙ is in
         let same : g before ≡ l = cc in
-        let fair : c.honest ≡ true → IsFairLog Device (g before).entries = λ honest. made.fair (made.honest ∙ honest) (g before) exposes.1 in
+        let fair : c.honest ≡ true → IsFairLog Device (g before).entries = λ honest. made.fair (made.honest ∙ honest)
+        (g before) exposes.1 in
         subst (λ (h : Bool). Q h l) (sym made.honest) (subst (Q c.honest) same (then c.honest before exposes.0 (tells before log) fair))
 
 -- A chain is itself.
@@ -59,10 +53,12 @@ same_self c = let q = by c.queue in grind (arith, nat_tests, q)
 abbrev pub HoldsFirst : Chain → List ℕ → List Held → EndLog → Type 0
 HoldsFirst chain bytes others l = l.held ≡ record { chain = chain; bytes = bytes } ∷ others
 
-pub first_bytes : (chain : Chain) (bytes : List ℕ) (others : List Held) → bytes_in chain (record { chain = chain; bytes = bytes } ∷ others) ≡ bytes
+pub first_bytes : (chain : Chain) (bytes : List ℕ) (others : List Held) → bytes_in chain
+    (record { chain = chain; bytes = bytes } ∷ others) ≡ bytes
 first_bytes chain bytes others = ap (λ (b : Bool). cond b bytes (bytes_in chain others)) (same_self chain)
 
-pub bytes_held : (chain : Chain) (bytes : List ℕ) (others : List Held) (l : EndLog) → HoldsFirst chain bytes others l → bytes_in chain l.held ≡ bytes
+pub bytes_held : (chain : Chain) (bytes : List ℕ) (others : List Held) (l : EndLog) → HoldsFirst chain bytes others l
+    → bytes_in chain l.held ≡ bytes
 bytes_held chain bytes others l is = ap (bytes_in chain) is ∙ first_bytes chain bytes others
 
 first_written : (chain : Chain) (bytes new : List ℕ) (others : List Held)
@@ -93,7 +89,8 @@ returned_entries chain queue bytes len others l is held =
 pub one_written : (new : List ℕ) (n : ℕ) → length new ≡ n → take n (overwritten [] 0 new) ≡ new
 one_written new n len = take_at new (drop (0 + length new) []) n len
 
-pub both_written : (new more : List ℕ) (n : ℕ) → length new ≡ n → take (n + length more) (overwritten (overwritten [] 0 new) n more) ≡ new ++ more
+pub both_written : (new more : List ℕ) (n : ℕ) → length new ≡ n → take (n + length more)
+    (overwritten (overwritten [] 0 new) n more) ≡ new ++ more
 both_written new more n len =
     let rest = drop (n + length more) (overwritten [] 0 new) in
     ap (λ (xs : List ℕ). take (n + length more) (xs ++ more ++ rest)) (one_written new n len)

@@ -1,8 +1,7 @@
 -- What steps on the table do to the device's numbers, and to its connections as ends.
-use Rattle.std.proofs.Common.{◌≡◌, ℕ, ◌+◌, ◌<◌, ◌^◌, ◌==◌, Bool, true, false, cond, not, List, [], ◌∷◌, ◌++◌, get_or, map, filter, length, Contains, Some, refl, sym, ap, subst, ◌∙◌, arith}
-use Rattle.std.specs.List.{All}
+use Rattle.std.proofs.Common.{◌≡◌, ℕ, ◌==◌, Bool, true, false, cond, not, List, [], ◌∷◌, get_or, map, filter, length, Contains, refl, sym}
+use Rattle.std.proofs.Common.{ap, subst, ◌∙◌}
 use Rattle.std.proofs.lemmas.List.Elements.{All-map, All-push, All-filter}
-use Rattle.vs_conn.specs.End.{ConnectionEnd}
 use Rattle.vs_flow.specs.Table.{Table, with_value, without, with_entry, next_entry, revalued}
 use Rattle.vs_flow.specs.declared.flow.Flow.{Flow}
 use Rattle.vs_flow.proofs.Tables.{revalued-slot, with_value_sound, without_sound, with_entry_sound, IsAccepted}
@@ -42,7 +41,8 @@ same_kept slot v (e ∷ es) = by (e.slot == slot) refl (same_kept slot v es)
     by false at rest = rw (revalued-slot slot v e, at) (ap (λ (xs : List DeviceEntry). e ∷ xs) rest)
 
 without_changed : (t : Table DeviceConnection) (slot : ℕ) (v : DeviceConnection) → without (with_value t slot v) slot ≡ without t slot
-without_changed t slot v = ap (λ (es : List DeviceEntry). let x : Table DeviceConnection = record t { entries = es } in x) (same_kept slot v t.entries)
+without_changed t slot v = ap (λ (es : List DeviceEntry). let x : Table DeviceConnection = record t { entries = es } in x)
+    (same_kept slot v t.entries)
 
 module _ (s : DeviceState) (fits : IsFitState s) where
   -- Another connection under a slot.
@@ -61,7 +61,8 @@ module _ (s : DeviceState) (fits : IsFitState s) where
   opening_fits f c free ports held = record {
     cid_fits = fits.cid_fits;
     sound = with_entry_sound s.table f c fits.sound free;
-    entries = All-push IsFitEntry s.table.entries (next_entry s.table f c) fits.entries (record { ports = ports; bytes = held.bytes; new = held.new });
+    entries = All-push IsFitEntry s.table.entries (next_entry s.table f c) fits.entries
+        (record { ports = ports; bytes = held.bytes; new = held.new });
     owed = fits.owed;
   }
 
@@ -75,7 +76,8 @@ module _ (s : DeviceState) (fits : IsFitState s) where
     pub connection_ends : (port : ℕ) (c : DeviceConnection)
         → ends_of_state port (with_connection e.slot c s) ≡ with_end e.flow c.end (ends_of_state port s)
     connection_ends port c =
-        ap (λ (es : List FlowEnd). let part : Ends = record (ends_of_state port s) { entries = es } in part) (changed_slot end_in s.table e c fits.sound there)
+        ap (λ (es : List FlowEnd). let part : Ends = record (ends_of_state port s) { entries = es } in part)
+        (changed_slot end_in s.table e c fits.sound there)
 
     -- It leaves the table, after another change of it.
     pub left_fits : (c : DeviceConnection) → IsFit s.cid (without (with_value s.table e.slot c) e.slot) s.replies

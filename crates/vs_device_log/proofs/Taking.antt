@@ -1,36 +1,33 @@
 -- A packet that is got: the device's connections are those that the log with it leaves.
-use Rattle.std.proofs.Common.{◌≡◌, ℕ, ◌+◌, ◌<◌, ◌≤◌, ◌^◌, ◌&&◌, Bool, true, false, cond, List, [], ◌∷◌, ◌++◌, length, map, Contains, Option, Some, None, refl, sym, ap, subst, ◌∙◌, arith}
-use Rattle.std.proofs.lemmas.Bool.Decides.{nat_tests}
-use Rattle.std.proofs.lemmas.Grind.{common_steps}
+use Rattle.std.proofs.Common.{◌≡◌, ℕ, ◌&&◌, Bool, true, false, cond, List, [], ◌∷◌, Contains, None, refl, sym, ap, subst, ◌∙◌, arith}
 use Rattle.std.proofs.lemmas.List.{map-append}
 use Rattle.std.proofs.lemmas.List.Elements.{All-push}
 use Rattle.vs_conn.specs.End.{ConnectionEnd, answering, end_after, is_reset, is_stream, verdict_of}
 use Rattle.vs_conn.specs.Follows.{IsSpace, IsTaken}
-use Rattle.vs_header.specs.declared.Header.{Header}
 use Rattle.vs_history.specs.Packets.{is_request, is_rst}
 use Rattle.vs_history.specs.declared.TheConstants.{BUF_ALLOC}
 use Rattle.vs_history.specs.declared.packet.Packet.{Packet}
 use Rattle.vs_flow.specs.Table.{entry_of, has_place, refusal, with_value, without}
 use Rattle.vs_flow.specs.declared.flow.Flow.{Flow}
-use Rattle.vs_flow.proofs.Tables.{IsAccepted, accepted}
+use Rattle.vs_flow.proofs.Tables.{accepted}
 use Rattle.vs_page.specs.Fair.{IsFairLog}
 use Rattle.vs_page.specs.Held.{FitsWire}
 use Rattle.vs_page.specs.Log.{Device, Log, flow_to_host, side_of}
 use Rattle.vs_page.specs.Open.{is_dropped}
 use Rattle.vs_page.specs.declared.log.LogEntry.TheVariants.{GotPacket}
 use Rattle.vs_replies.specs.Owed.{reply_to}
-use Rattle.vs_matching.specs.Ends.{Ends, FlowEnd, ends_of, is_new}
+use Rattle.vs_matching.specs.Ends.{Ends, FlowEnd}
 use Rattle.vs_matching.specs.Heard.{IsInOrder, heard_of}
 use Rattle.vs_matching.specs.Matches.{Matches}
 use Rattle.vs_matching.specs.Steps.{HasEnd, HasNone, left, is_overrun, taken, with_end}
-use Rattle.vs_matching.specs.Steps as steps
 use Rattle.vs_matching.proofs.Keeps.{accepts, drops, has_room, ignores, refuses, takes}
 use Rattle.vs_matching.proofs.Fair.{got_in_order, got_is_taken}
 use Rattle.vs_matching.proofs.Slots.{added_slot, no_entry}
 use Rattle.vs_device.specs.State.{DeviceConnection, DeviceEntry, DeviceState}
 use Rattle.vs_device.specs.Connections.{new_connection, with_connection, with_dialed, with_reply}
-use Rattle.vs_device_log.specs.Honest.{HoldsBytes, IsFitFlow, IsFitReply, IsLeft, ends_of_state, end_in, reply_flow}
-use Rattle.vs_device_log.proofs.Tabling.{IsFitConnection, begun_fits, connection_ends, connection_fits, has_end, left_ends, left_fits, opening_fits}
+use Rattle.vs_device_log.specs.Honest.{IsFitFlow, IsFitReply, IsLeft, ends_of_state, end_in, reply_flow}
+use Rattle.vs_device_log.proofs.Tabling.{IsFitConnection, begun_fits, connection_ends, connection_fits, has_end, left_ends, left_fits}
+use Rattle.vs_device_log.proofs.Tabling.{opening_fits}
 
 module _ (first port : ℕ) (s : DeviceState) (p : Packet) (log : Log) (was : IsLeft first port s.cid s.overrun s.table s.replies log)
     (fair : IsFairLog Device (GotPacket p ∷ log)) (wire : FitsWire p.header) where
@@ -71,8 +68,10 @@ module _ (first port : ℕ) (s : DeviceState) (p : Packet) (log : Log) (was : Is
         fits = connection_fits s was.fits e.slot c held;
         none_overrun = was.none_overrun;
         matches = subst (λ (part : Ends). Matches Device first part (GotPacket p ∷ log))
-            (ap (λ (b : Bool). cond b (left e.flow (ends_of_state port s)) (with_end e.flow (end_after e.value.end p.header) (ends_of_state port s))) goes_on
-            ∙ ap (λ (x : ConnectionEnd). with_end e.flow x (ends_of_state port s)) (sym is) ∙ sym (connection_ends s was.fits e there port c)) now;
+            (ap (λ (b : Bool). cond b (left e.flow (ends_of_state port s))
+            (with_end e.flow (end_after e.value.end p.header) (ends_of_state port s))) goes_on
+            ∙ ap (λ (x : ConnectionEnd). with_end e.flow x (ends_of_state port s)) (sym is) ∙ sym
+            (connection_ends s was.fits e there port c)) now;
         fair = fair;
       }
 
@@ -82,7 +81,8 @@ module _ (first port : ℕ) (s : DeviceState) (p : Packet) (log : Log) (was : Is
         fits = left_fits s was.fits e there c;
         none_overrun = was.none_overrun;
         matches = subst (λ (part : Ends). Matches Device first part (GotPacket p ∷ log))
-            (ap (λ (b : Bool). cond b (left e.flow (ends_of_state port s)) (with_end e.flow (end_after e.value.end p.header) (ends_of_state port s))) over
+            (ap (λ (b : Bool). cond b (left e.flow (ends_of_state port s))
+            (with_end e.flow (end_after e.value.end p.header) (ends_of_state port s))) over
             ∙ sym (left_ends s was.fits e there port c)) now;
         fair = fair;
       }
@@ -95,7 +95,8 @@ module _ (first port : ℕ) (s : DeviceState) (p : Packet) (log : Log) (was : Is
       flow_fits : IsFitFlow (flow_to_host p.header)
       flow_fits = record { guest = wire.src_port; host = wire.dst_port }
 
-      pub opens : (stream : ℕ) → is_request p ≡ true → has_place s.table ≡ true → Goes (with_dialed (flow_to_host p.header) p.header stream s)
+      pub opens : (stream : ℕ) → is_request p ≡ true → has_place s.table ≡ true → Goes
+          (with_dialed (flow_to_host p.header) p.header stream s)
       opens stream request place =
           let f : Flow = flow_to_host p.header in
           let c : DeviceConnection = new_connection (answering BUF_ALLOC p.header) stream false in
@@ -106,7 +107,8 @@ module _ (first port : ℕ) (s : DeviceState) (p : Packet) (log : Log) (was : Is
                 (record { alloc = omega arith; fwd = omega arith; rx = omega arith; unread = omega arith; within = omega arith }) refl);
             none_overrun = was.none_overrun;
             matches = subst (λ (part : Ends). Matches Device first part (GotPacket p ∷ log))
-                (ap (λ (es : List FlowEnd). let part : Ends = record (ends_of_state port s) { entries = es } in part) (sym (added_slot end_in s.table f c)))
+                (ap (λ (es : List FlowEnd). let part : Ends = record (ends_of_state port s) { entries = es } in part)
+                (sym (added_slot end_in s.table f c)))
                 (accepts Device first BUF_ALLOC p (ends_of_state port s) log was.matches kept no_end order comes request space);
             fair = fair;
           }

@@ -1,5 +1,7 @@
 -- What taking a packet of the guest keeps.
-use Rattle.std.proofs.Common.{◌≡◌, ℕ, zero, suc, ◌+◌, ◌-◌, ◌<◌, ◌≤◌, ◌==◌, nat_le, nat_lt, Bool, true, false, cond, if◌then◌else◌, List, [], ◌∷◌, length, take, drop, slice_index, get_or-drop, Option, Some, None, refl, sym, ap, subst, ◌∙◌, arith, IfSome, length-drop}
+use Rattle.std.proofs.Common.{◌≡◌, ℕ, ◌+◌, ◌-◌, ◌<◌, ◌≤◌, ◌==◌, nat_le, nat_lt, Bool, true, false, cond, if◌then◌else◌, List, [], ◌∷◌}
+use Rattle.std.proofs.Common.{length, take, drop, slice_index, get_or-drop, Option, Some, None, refl, sym, ap, subst, ◌∙◌, arith, IfSome}
+use Rattle.std.proofs.Common.{length-drop}
 use Rattle.std.proofs.lemmas.Bool.Decides.{nat_tests}
 use Rattle.std.specs.Option.{option_map}
 use Rattle.byteorder.specs.Numbers.{little_from-lt}
@@ -17,7 +19,7 @@ use Rattle.vs_page.specs.Held.{FitsWire, packet_held, packet_with, payload_held}
 use Rattle.vs_page.specs.Log.{Device, Log, flow_got}
 use Rattle.vs_page.specs.declared.log.LogEntry.TheVariants.{GotPacket}
 use Rattle.vs_page.proofs.Holding.{packet_whole}
-use Rattle.vs_ring_port.specs.Chains.{Held, bytes_in}
+use Rattle.vs_ring_port.specs.Chains.{Held}
 use Rattle.vs_ring_port.specs.Contents.{RingContents, Read, Return, Take}
 use Rattle.vs_ring_port.specs.DeviceCalls.{DeviceAllows, IsTakenAs}
 use Rattle.vs_ring_port.specs.EndLog.{EndLog, log_returned, log_taken, with_packet}
@@ -31,7 +33,7 @@ use Rattle.vs_matching.proofs.Fair.{own_got_fair}
 use Rattle.vs_device.specs.declared.answers.Taken.{Taken}
 use Rattle.vs_device.specs.declared.answers.Taken.TheVariants as taken
 use Rattle.vs_device.specs.declared.limits.TheConstants.{REPLIES}
-use Rattle.vs_device.specs.Calls.{DeviceTree, Ring}
+use Rattle.vs_device.specs.Calls.{IsFitAnswer, Ring}
 use Rattle.vs_device.specs.Playing.{IsRxChain}
 use Rattle.vs_device.specs.State.{DeviceState}
 use Rattle.vs_device.specs.Transmitting.{failing, on_header, on_next, on_packet, take_tx_of}
@@ -64,9 +66,11 @@ some_test : {A : Type 0} (b : Bool) (o : Option A) (x : A) → cond b o None ≡
 some_test true o x is = is
 some_test false o x is = absurd cc
 
-header_by : (h : Header) (p : Packet) (o : Option (List ℕ)) → option_map (λ payload. record { header = h; payload = payload }) o ≡ Some p → p.header ≡ h
+header_by : (h : Header) (p : Packet) (o : Option (List ℕ)) → option_map (λ payload. record { header = h; payload = payload }) o ≡ Some p
+    → p.header ≡ h
 header_by h p None is = absurd cc
-header_by h p (Some payload) is = let same : ◌≡◌ {A = Packet} record { header = h; payload = payload } p = cc in sym (ap (λ (q : Packet). q.header) same)
+header_by h p (Some payload) is = let same : ◌≡◌ {A = Packet} record { header = h; payload = payload } p = cc in sym
+    (ap (λ (q : Packet). q.header) same)
 
 header_is : (page : List ℕ) (p : Packet) → packet_held page ≡ Some p → p.header ≡ header_of (take HEADER_LEN page)
 header_is page p held =
@@ -74,13 +78,15 @@ header_is page p held =
     (some_test (nat_le HEADER_LEN (length page)) (packet_with (header_of (take HEADER_LEN page)) (drop HEADER_LEN page)) p held)
 
 none_by : (h : Header) (rest : List ℕ) (a b c : Bool) → a ≡ true → c ≡ true
-    → cond a (option_map (λ payload. let p : Packet = record { header = h; payload = payload } in p) (cond b (cond c (Some (take h.len rest)) None) (Some []))) None ≡ None → ⊥
+    → cond a (option_map (λ payload. let p : Packet = record { header = h; payload = payload } in p)
+    (cond b (cond c (Some (take h.len rest)) None) (Some []))) None ≡ None → ⊥
 none_by h rest true true true av cv is = cc
 none_by h rest true false c av cv is = cc
 none_by h rest false b c av cv is = cc
 none_by h rest true true false av cv is = cc
 
-held_there : (page : List ℕ) → HEADER_LEN ≤ length page → (header_of (take HEADER_LEN page)).len ≤ length page - HEADER_LEN → packet_held page ≡ None → ⊥
+held_there : (page : List ℕ) → HEADER_LEN ≤ length page → (header_of (take HEADER_LEN page)).len ≤ length page - HEADER_LEN
+    → packet_held page ≡ None → ⊥
 held_there page long fits none =
     let h : Header = header_of (take HEADER_LEN page) in
     let rest : List ℕ = drop HEADER_LEN page in
@@ -102,12 +108,14 @@ module _ (first port : ℕ) (s : DeviceState) where
       fair : IsFairLog Device (with_packet (λ p. GotPacket p) (packet_held page) log)
 
     abbrev Took : Bool → EndLog → Type 0
-    Took honest l = (page : List ℕ) × HoldsFirst chain page (unwritten s.chain) l × (chain.readable ≡ length page) × (honest ≡ true → IsTaken page l)
+    Took honest l = (page : List ℕ) × HoldsFirst chain page (unwritten s.chain) l × (chain.readable ≡ length page) ×
+        (honest ≡ true → IsTaken page l)
 
     -- Its header was read.
     abbrev HasRead : Header → Bool → EndLog → Type 0
     HasRead h honest l =
-        (page : List ℕ) × HoldsFirst chain page (unwritten s.chain) l × (chain.readable ≡ length page) × (h ≡ header_of (take HEADER_LEN page))
+        (page : List ℕ) × HoldsFirst chain page (unwritten s.chain) l × (chain.readable ≡ length page) ×
+        (h ≡ header_of (take HEADER_LEN page))
         × (honest ≡ true → IsTaken page l)
 
     -- Its len is above what follows the header: then it is no packet.
@@ -122,7 +130,8 @@ module _ (first port : ℕ) (s : DeviceState) where
         let len : h.len ≡ size p = ap (λ (x : Header). x.len) (head ∙ sym (header_is page p held)) ∙ formed.len in
         absurd (grind (arith, nat_tests, short, whole, len, readable))
 
-    short_ends : (h : Header) (f : Failure) (c : RingContents) → nat_lt (chain.readable - HEADER_LEN) h.len ≡ true → IfSome s.chain IsRxChain
+    short_ends : (h : Header) (f : Failure) (c : RingContents) → nat_lt (chain.readable - HEADER_LEN) h.len ≡ true
+        → IfSome s.chain IsRxChain
         → Tells (HasRead h) c → IsWith first port (failing f s) c
     short_ends h f c short rx tells = (
       rx,
@@ -136,7 +145,8 @@ module _ (first port : ℕ) (s : DeviceState) where
     )
 
     -- Else it is one.
-    come_by : (h : Header) (page : List ℕ) (l : EndLog) (wire : FitsWire h) (log : Log) (o : Option Packet) → packet_held page ≡ o → chain.readable ≡ length page
+    come_by : (h : Header) (page : List ℕ) (l : EndLog) (wire : FitsWire h) (log : Log) (o : Option Packet) → packet_held page ≡ o
+        → chain.readable ≡ length page
         → h ≡ header_of (take HEADER_LEN page) → nat_lt (chain.readable - HEADER_LEN) h.len ≡ false
         → l.entries ≡ with_packet (λ p. GotPacket p) o log
         → IsLeft first port s.cid s.overrun s.table s.replies log → IsFairLog Device (with_packet (λ p. GotPacket p) o log)
@@ -156,7 +166,8 @@ module _ (first port : ℕ) (s : DeviceState) where
           fair = subst (λ (q : Packet). IsFairLog Device (GotPacket q ∷ log)) same fair;
         }
 
-    come_tells : (h : Header) (wire : FitsWire h) (c : RingContents) → nat_lt (chain.readable - HEADER_LEN) h.len ≡ false → Tells (HasRead h) c
+    come_tells : (h : Header) (wire : FitsWire h) (c : RingContents) → nat_lt (chain.readable - HEADER_LEN) h.len ≡ false → Tells
+        (HasRead h) c
         → Tells (Came first port s chain h wire) c
     come_tells h wire c fits tells = tells_weaker (HasRead h) (Came first port s chain h wire) (λ hon l read. (
       read.0,
@@ -172,11 +183,12 @@ module _ (first port : ℕ) (s : DeviceState) where
       λ less. absurd (omega (arith, less)),
       λ a d fit made. (
         subst (λ (o : Option Chain). IfSome o IsRxChain) (sym chain_is) rx,
-        moves _ _ _ _ _ (log_returned chain 0) c d made.1 (After first port s chain h wire x.0) (IsToldOf first port x.0) (λ hon l asked was fair. (
-          λ still. returned_held chain was.0 0 (unwritten x.0.chain) l was.1,
-          λ honest. subst (λ (log : Log). IsLeft first port x.0.cid x.0.overrun x.0.table x.0.replies log)
-              (sym (returned_entries chain Tx was.0 0 (unwritten x.0.chain) l queue was.1)) (was.2 honest),
-        )) tells,
+        moves _ _ _ _ _ (log_returned chain 0) c d made.1 (After first port s chain h wire x.0) (IsToldOf first port x.0)
+            (λ hon l asked was fair. (
+              λ still. returned_held chain was.0 0 (unwritten x.0.chain) l was.1,
+              λ honest. subst (λ (log : Log). IsLeft first port x.0.cid x.0.overrun x.0.table x.0.replies log)
+                  (sym (returned_entries chain Tx was.0 0 (unwritten x.0.chain) l queue was.1)) (was.2 honest),
+            )) tells,
       ),
     )
 
@@ -189,7 +201,8 @@ module _ (first port : ℕ) (s : DeviceState) where
             (bind (on_packet chain h s) (λ r. Ask (Ring (Return chain 0)) (λ _. Done (r.0, taken.Packet r.1))))) c
         by true short = short_ends h (failure.PayloadShort h.len (chain.readable - HEADER_LEN)) c short rx tells
         by false fits =
-            keeps_then (Heard first port s chain h wire) TakeEnds (on_packet chain h s) (λ r. Ask (Ring (Return chain 0)) (λ _. Done (r.0, taken.Packet r.1))) c
+            keeps_then (Heard first port s chain h wire) TakeEnds (on_packet chain h s)
+            (λ r. Ask (Ring (Return chain 0)) (λ _. Done (r.0, taken.Packet r.1))) c
             (packet_keeps first port s chain h wire c (come_tells h wire c fits tells)) (returns h wire rx going)
 
     read_keeps : IfSome s.chain IsRxChain → s.failed ≡ None → (c : RingContents) → Tells Took c
@@ -206,7 +219,7 @@ module _ (first port : ℕ) (s : DeviceState) where
           )) tells),
     )
 
-  next_keeps : (answer : Next) (c d : RingContents) → s.failed ≡ None → IsFitAnswer (Ring (Take Tx)) answer → DeviceAllows (Take Tx) answer c d
+  next_keeps : (answer : Next) (c d : RingContents) → s.failed ≡ None → IsFitAnswer (Take Tx) answer → DeviceAllows (Take Tx) answer c d
       → IsWith first port s c → Keeps TakeEnds (on_next answer s) d
   next_keeps (next.Chain chain) c d going fit made holds =
       read_keeps chain fit.long fit.queue_is holds.0 going d
@@ -225,7 +238,8 @@ module _ (first port : ℕ) (s : DeviceState) where
       )
   next_keeps next.None c d going fit made holds = (
     holds.0,
-    moves _ _ _ _ _ (log_taken Tx next.None made.0) c d made.1 (IsToldOf first port s) (IsToldOf first port s) (λ hon l asked was fair. was) holds.1,
+    moves _ _ _ _ _ (log_taken Tx next.None made.0) c d made.1 (IsToldOf first port s) (IsToldOf first port s)
+        (λ hon l asked was fair. was) holds.1,
   )
   next_keeps (next.Failed f) c d going fit made holds = (
     holds.0,

@@ -1,5 +1,7 @@
 -- What the owed event, a reset, a tick, a round of writing and an opening keep.
-use Rattle.std.proofs.Common.{◌≡◌, ℕ, ◌+◌, ◌-◌, ◌<◌, ◌≤◌, ◌^◌, ◌==◌, ◌&&◌, ◌||◌, Bool, true, false, cond, if◌then◌else◌, List, [], ◌∷◌, ◌++◌, length, take, drop, Contains, Option, Some, None, Result, Ok, Err, refl, sym, ap, subst, ◌∙◌, arith, IfSome, length-append, length-take}
+use Rattle.std.proofs.Common.{◌≡◌, ℕ, ◌+◌, ◌<◌, ◌≤◌, ◌^◌, ◌==◌, ◌&&◌, ◌||◌, Bool, true, false, cond, if◌then◌else◌, List, [], ◌∷◌, ◌++◌}
+use Rattle.std.proofs.Common.{length, take, Contains, Option, Some, None, Result, Ok, Err, refl, sym, ap, subst, arith, IfSome}
+use Rattle.std.proofs.Common.{length-append, length-take}
 use Rattle.std.proofs.lemmas.Bool.Decides.{nat_tests}
 use Rattle.byteorder.specs.Endian.{little_bytes}
 use Rattle.vs_contents.specs.CallTree.{Done, Ask, bind, for_each}
@@ -12,14 +14,12 @@ use Rattle.vs_flow.proofs.Tables.{accepted}
 use Rattle.vs_history.specs.declared.TheConstants.{BUF_ALLOC}
 use Rattle.vs_outside.specs.declared.host_net.StreamWrite.{StreamWrite}
 use Rattle.vs_outside.specs.declared.host_net.StreamWrite.TheVariants as write
-use Rattle.vs_page.specs.Fair.{IsFairLog}
-use Rattle.vs_page.specs.Log.{Device, Log, side_of}
+use Rattle.vs_page.specs.Log.{Device, Log}
 use Rattle.vs_page.specs.Overwriting.{overwritten}
-use Rattle.vs_page.specs.declared.log.LogEntry.TheVariants.{Mark, PutEvent}
 use Rattle.vs_ring_port.specs.Chains.{Held, bytes_in}
-use Rattle.vs_ring_port.specs.Contents.{RingContents, PublishCid, Return, Take, Write}
+use Rattle.vs_ring_port.specs.Contents.{RingContents, PublishCid, Return, Take}
 use Rattle.vs_ring_port.specs.DeviceCalls.{DeviceAllows, IsTakenAs, IsWholePacket}
-use Rattle.vs_ring_port.specs.EndLog.{EndLog, entries_returned, log_reset, log_returned, log_taken}
+use Rattle.vs_ring_port.specs.EndLog.{EndLog, log_reset, log_returned, log_taken}
 use Rattle.vs_ring_port.specs.declared.device_ring.Chain.{Chain}
 use Rattle.vs_ring_port.specs.declared.device_ring.Next.{Next}
 use Rattle.vs_ring_port.specs.declared.device_ring.Next.TheVariants as next
@@ -31,26 +31,29 @@ use Rattle.vs_matching.specs.Matches.{Matches}
 use Rattle.vs_matching.specs.Steps.{IsNextFlow}
 use Rattle.vs_matching.proofs.Keeps.{asks, makes_reset, puts_event, start_matches}
 use Rattle.vs_matching.proofs.Slots.{added_slot, found_by}
-use Rattle.vs_device.specs.Calls.{CloseStream, DeviceTree, Label, Ring, ShutWrite, WriteStream}
-use Rattle.vs_device.specs.Connections.{after_shut, after_written, cut_off, is_timed_out, new_connection, stream_closed, with_client, with_connection, with_fault}
+use Rattle.vs_device.specs.Calls.{CloseStream, DeviceTree, IsFitAnswer, Label, Ring, TakesWithin, ShutWrite, WriteStream}
+use Rattle.vs_device.specs.Connections.{after_shut, after_written, cut_off, is_timed_out, new_connection, stream_closed, with_client}
+use Rattle.vs_device.specs.Connections.{with_connection, with_fault}
 use Rattle.vs_device.specs.Playing.{IsRxChain}
 use Rattle.vs_device.specs.Receiving.{event_on, pay_event_of}
 use Rattle.vs_device.specs.State.{DeviceConnection, DeviceEntry, DeviceState}
-use Rattle.vs_device.specs.Streams.{Writing, closing, is_written_out, pump_of, pump_slot, shut_write, tick_of, tick_slot, to_write, write_answered, write_pending}
+use Rattle.vs_device.specs.Streams.{Writing, closing, is_written_out, pump_of, pump_slot, shut_write, tick_of, tick_slot, to_write}
+use Rattle.vs_device.specs.Streams.{write_answered, write_pending}
 use Rattle.vs_device.specs.Transmitting.{failing}
 use Rattle.vs_device.specs.Turns.{after_reset, close_slot, new_device, open_of, reset_of}
 use Rattle.vs_device.specs.Calls.{IsFitAnswer, TakesWithin}
 use Rattle.vs_device_log.specs.Honest.{AgreesWith, IsFit, IsFitFlow, IsFitState, IsFresh, IsLeft, IsToldOf, IsWith, end_in, ends_of_state, port_after, unwritten}
 use Rattle.vs_device_log.proofs.Changing.{Changes, cuts, same, shuts, unseen, writes}
 use Rattle.vs_device_log.proofs.Filling.{under_there}
-use Rattle.vs_device_log.proofs.Keeping.{Keeps, keeps_bind, keeps_each, keeps_then}
-use Rattle.vs_device_log.proofs.Ringing.{HoldsFirst, Tells, bytes_held, moves, returned_entries, returned_held, tells_weaker}
+use Rattle.vs_device_log.proofs.Keeping.{Keeps, keeps_each, keeps_then}
+use Rattle.vs_device_log.proofs.Ringing.{Tells, bytes_held, moves, returned_entries, returned_held, tells_weaker}
 use Rattle.vs_device_log.proofs.Steps.{changed, closing_keeps}
 use Rattle.vs_device_log.proofs.Tabling.{IsFitConnection, entry_fits, opening_fits}
 use Rattle.vs_device_log.proofs.Writing.{Writes, write_keeps}
 
 -- A connection that waits since a moment has begun, and so has one that has something to write.
-late_old : (e : DeviceEntry) (s : DeviceState) → IsFitState s → Contains s.table.entries e → is_timed_out s.now e.value ≡ true → is_new e.value.end ≡ false
+late_old : (e : DeviceEntry) (s : DeviceState) → IsFitState s → Contains s.table.entries e → is_timed_out s.now e.value ≡ true
+    → is_new e.value.end ≡ false
 late_old e s fits there late = by (is_new e.value.end) refl
   where
     by : (b : Bool) → is_new e.value.end ≡ b → b ≡ false
@@ -66,7 +69,8 @@ late_old e s fits there late = by (is_new e.value.end) refl
         none_late true is = cc
         none_late false is = cc
 
-writes_old : (e : DeviceEntry) (s : DeviceState) → IsFitState s → Contains s.table.entries e → (length (to_write e.value) == 0) ≡ false → is_new e.value.end ≡ false
+writes_old : (e : DeviceEntry) (s : DeviceState) → IsFitState s → Contains s.table.entries e → (length (to_write e.value) == 0) ≡ false
+    → is_new e.value.end ≡ false
 writes_old e s fits there some = by (is_new e.value.end) refl
   where
     by : (b : Bool) → is_new e.value.end ≡ b → b ≡ false
@@ -84,16 +88,35 @@ closed_fits : (e : DeviceEntry) (s : DeviceState) → IsFitState s → Contains 
 closed_fits e s fits there =
     let entry = entry_fits s fits e there in
     record {
-      bytes = record { unread = omega arith; within = entry.bytes.within; alloc = entry.bytes.alloc; rx = entry.bytes.rx; fwd = entry.bytes.fwd };
-      new = λ new. let n = entry.new new in record { ok_line = refl; pending = refl; asked_at = n.asked_at; shut_at = n.shut_at };
+      bytes = record {
+        unread = omega arith;
+        within = entry.bytes.within;
+        alloc = entry.bytes.alloc;
+        rx = entry.bytes.rx;
+        fwd = entry.bytes.fwd;
+      };
+      new = λ new. let n = entry.new new in record {
+        by_client = n.by_client;
+        ok_line = refl;
+        pending = refl;
+        asked_at = n.asked_at;
+        shut_at = n.shut_at;
+      };
     }
 
-shut_fits : (e : DeviceEntry) (s : DeviceState) → IsFitState s → Contains s.table.entries e → IsFitConnection (record e.value { write_shut = true })
+shut_fits : (e : DeviceEntry) (s : DeviceState) → IsFitState s → Contains s.table.entries e → IsFitConnection
+    (record e.value { write_shut = true })
 shut_fits e s fits there =
     let entry = entry_fits s fits e there in
     record {
       bytes = entry.bytes;
-      new = λ new. let n = entry.new new in record { ok_line = n.ok_line; pending = n.pending; asked_at = n.asked_at; shut_at = n.shut_at };
+      new = λ new. let n = entry.new new in record {
+        by_client = n.by_client;
+        ok_line = n.ok_line;
+        pending = n.pending;
+        asked_at = n.asked_at;
+        shut_at = n.shut_at;
+      };
     }
 
 empty_table : (t : Table DeviceConnection) → IsTable t → IsTable (emptied t)
@@ -105,12 +128,14 @@ empty_table t sound = record {
   slots_left = sound.slots_left;
 }
 
-closing_by : (b : Bool) (stream : ℕ) (t : DeviceState) → bind (cond b (Done t) (Ask (CloseStream stream) (λ _. Done t))) (λ (x : DeviceState). Done x)
+closing_by : (b : Bool) (stream : ℕ) (t : DeviceState) → bind (cond b (Done t) (Ask (CloseStream stream) (λ _. Done t)))
+    (λ (x : DeviceState). Done x)
     ≡ (let tree : DeviceTree DeviceState = cond b (Done t) (Ask (CloseStream stream) (λ _. Done t)) in tree)
 closing_by true stream t = refl
 closing_by false stream t = refl
 
-closing_done : (e : DeviceEntry) (f : DeviceConnection → DeviceConnection) (s : DeviceState) → bind (closing e f s) (λ t. Done t) ≡ closing e f s
+closing_done : (e : DeviceEntry) (f : DeviceConnection → DeviceConnection) (s : DeviceState) → bind (closing e f s)
+    (λ t. Done t) ≡ closing e f s
 closing_done e f s = closing_by e.value.closed e.value.stream (with_connection e.slot (f e.value) s)
 
 module _ (first port : ℕ) where
@@ -131,34 +156,39 @@ module _ (first port : ℕ) where
     event_returned chain queue room rx c tells = (
       λ some. record {
         room = room;
-        written = λ l is. subst (λ (b : List ℕ). 4 ≤ length b) (sym (bytes_held chain event (unwritten s.chain) l (tells l is).0)) (omega arith);
+        written = λ l is. subst (λ (b : List ℕ). 4 ≤ length b) (sym (bytes_held chain event (unwritten s.chain) l (tells l is).0))
+            (omega arith);
         whole = λ honest l is.
             subst (λ (q : Queue). IsWholePacket q (take 4 (bytes_in chain l.held)) l) (sym queue)
             (subst (λ (b : List ℕ). length (take 4 b) ≡ 4) (sym (bytes_held chain event (unwritten s.chain) l (tells l is).0)) refl);
       },
       λ a d fit made. (
         rx,
-        moves _ _ _ _ _ (log_returned chain 4) c d made.1 (Writes first port s chain event (unwritten s.chain)) (IsToldOf first port s) (λ hon l asked was fair. (
-          λ still. returned_held chain event 4 (unwritten s.chain) l was.0,
-          λ honest.
-              let p = was.1 honest in
-              subst (λ (log : Log). IsLeft first port s.cid s.overrun s.table s.replies log)
-              (sym (returned_entries chain Event event 4 (unwritten s.chain) l queue was.0)) (record {
-                fits = p.fits;
-                none_overrun = p.none_overrun;
-                matches = puts_event Device first 0 (ends_of_state port s) l.entries p.matches;
-                fair = p.fair;
-              }),
-        )) tells,
+        moves _ _ _ _ _ (log_returned chain 4) c d made.1 (Writes first port s chain event (unwritten s.chain)) (IsToldOf first port s)
+            (λ hon l asked was fair. (
+              λ still. returned_held chain event 4 (unwritten s.chain) l was.0,
+              λ honest.
+                  let p = was.1 honest in
+                  subst (λ (log : Log). IsLeft first port s.cid s.overrun s.table s.replies log)
+                  (sym (returned_entries chain Event event 4 (unwritten s.chain) l queue was.0)) (record {
+                    fits = p.fits;
+                    none_overrun = p.none_overrun;
+                    matches = puts_event Device first 0 (ends_of_state port s) l.entries p.matches;
+                    fair = p.fair;
+                  }),
+            )) tells,
       ),
     )
 
-    event_keeps : (answer : Next) (c d : RingContents) → s.failed ≡ None → IsFitAnswer (Ring (Take Event)) answer → DeviceAllows (Take Event) answer c d
+    event_keeps : (answer : Next) (c d : RingContents) → s.failed ≡ None → IsFitAnswer (Take Event) answer → DeviceAllows
+        (Take Event) answer c d
         → IsWith first port s c → Keeps PayEnds (event_on answer s) d
     event_keeps (next.Chain chain) c d going fit made holds =
-        write_keeps first port s PayEnds (Ask (Ring (Return chain 4)) (λ _. Done (record s { event_owed = false }, Ok true))) chain [] (little_bytes 4 0) 0
+        write_keeps first port s PayEnds (Ask (Ring (Return chain 4)) (λ _. Done (record s { event_owed = false }, Ok true))) chain []
+        (little_bytes 4 0) 0
         (unwritten s.chain) d (omega arith)
-        (moves _ _ _ _ _ (log_taken Event (next.Chain chain) made.0) c d made.1 (IsToldOf first port s) (Writes first port s chain [] (unwritten s.chain))
+        (moves _ _ _ _ _ (log_taken Event (next.Chain chain) made.0) c d made.1 (IsToldOf first port s)
+        (Writes first port s chain [] (unwritten s.chain))
         (λ hon l asked was fair. by made.0 hon l asked was) holds.1)
         (λ e now. event_returned chain fit.queue_is fit.long holds.0 e now)
       where
@@ -171,7 +201,8 @@ module _ (first port : ℕ) where
         )
     event_keeps next.None c d going fit made holds = (
       holds.0,
-      moves _ _ _ _ _ (log_taken Event next.None made.0) c d made.1 (IsToldOf first port s) (IsToldOf first port s) (λ hon l asked was fair. was) holds.1,
+      moves _ _ _ _ _ (log_taken Event next.None made.0) c d made.1 (IsToldOf first port s) (IsToldOf first port s)
+          (λ hon l asked was fair. was) holds.1,
     )
     event_keeps (next.Failed f) c d going fit made holds = (
       holds.0,
@@ -182,7 +213,8 @@ module _ (first port : ℕ) where
     pub pay_keeps : (c : RingContents) → IsWith first port s c → Keeps PayEnds (pay_event_of s) c
     pay_keeps c holds = by s.failed refl
       where
-        owed : (b : Bool) → s.failed ≡ None → Keeps PayEnds (cond b (Ask (Ring (Take Event)) (λ answer. event_on answer s)) (Done (s, Ok false))) c
+        owed : (b : Bool) → s.failed ≡ None → Keeps PayEnds (cond b (Ask (Ring (Take Event)) (λ answer. event_on answer s))
+            (Done (s, Ok false))) c
         owed true going = (tt, λ answer d fit made. event_keeps answer c d going fit made holds)
         owed false going = holds
 
@@ -202,7 +234,8 @@ module _ (first port : ℕ) where
       late e there false is = holds
       late e there true is = subst (λ (t : DeviceTree DeviceState). Keeps With t c) (closing_done e cut_off s)
           (closing_keeps first port With (λ t. Done t) e cut_off s c
-          (changed first port s (with_connection e.slot (cut_off e.value) s) refl refl (λ fits. cuts port s fits e there (late_old e s fits there is)) c holds))
+          (changed first port s (with_connection e.slot (cut_off e.value) s) refl refl
+          (λ fits. cuts port s fits e there (late_old e s fits there is)) c holds))
 
       by : (o : Option DeviceEntry) → entry_under s.table slot ≡ o
           → Keeps With (elim o [ None ↦ Done s | Some e ↦ if is_timed_out s.now e.value then closing e cut_off s else Done s ]) c
@@ -216,7 +249,8 @@ module _ (first port : ℕ) where
   abbrev WritingWith : Writing → RingContents → Type 0
   WritingWith w c = IsWith first port w.state c
 
-  module _ (e : DeviceEntry) (w : Writing) (there : Contains w.state.table.entries e) (some : (length (to_write e.value) == 0) ≡ false) where
+  module _ (e : DeviceEntry) (w : Writing) (there : Contains w.state.table.entries e)
+      (some : (length (to_write e.value) == 0) ≡ false) where
     answered_keeps : (answer : StreamWrite) → TakesWithin (length (to_write e.value)) answer → (c : RingContents) → WritingWith w c
         → Keeps WritingWith (write_answered e answer w) c
     answered_keeps (write.Took n) within c holds =
@@ -238,12 +272,17 @@ module _ (first port : ℕ) where
       by : (b : Bool) → (length (to_write e.value) == 0) ≡ b → Keeps WritingWith (cond b (Done w)
           (Ask (WriteStream e.value.stream (to_write e.value)) (λ answer. write_answered e answer w))) c
       by true is = holds
-      by false is = (tt, λ answer d fit same. answered_keeps e w there is answer fit d (subst (λ (x : RingContents). WritingWith w x) (sym same) holds))
+      by false is = (
+        tt,
+        λ answer d fit same. answered_keeps e w there is answer fit d
+            (subst (λ (x : RingContents). WritingWith w x) (sym same) holds),
+      )
 
   shut_keeps : (slot : ℕ) (w : Writing) (c : RingContents) → WritingWith w c → Keeps WritingWith (shut_write slot w) c
   shut_keeps slot w c holds = by (entry_under w.state.table slot) refl
     where
-      shut : (e : DeviceEntry) → Contains w.state.table.entries e → (e.slot == slot) ≡ true → WritingWith (record w { state = with_connection slot (record e.value { write_shut = true }) w.state }) c
+      shut : (e : DeviceEntry) → Contains w.state.table.entries e → (e.slot == slot) ≡ true → WritingWith
+          (record w { state = with_connection slot (record e.value { write_shut = true }) w.state }) c
       shut e there at =
           let v : DeviceConnection = record e.value { write_shut = true } in
           let same : e.slot ≡ slot = grind (arith, nat_tests, at) in
@@ -255,7 +294,11 @@ module _ (first port : ℕ) where
           → Keeps WritingWith (cond b (Ask (ShutWrite e.value.stream) (λ _.
           Done (record w { state = with_connection slot (record e.value { write_shut = true }) w.state }))) (Done w)) c
       done e there at false = holds
-      done e there at true = (tt, λ a d fit stays. subst (λ (x : RingContents). WritingWith (record w { state = with_connection slot (record e.value { write_shut = true }) w.state }) x) (sym stays) (shut e there at))
+      done e there at true = (
+        tt,
+        λ a d fit stays. subst (λ (x : RingContents). WritingWith
+            (record w { state = with_connection slot (record e.value { write_shut = true }) w.state }) x) (sym stays) (shut e there at),
+      )
 
       by : (o : Option DeviceEntry) → entry_under w.state.table slot ≡ o → Keeps WritingWith (elim o [
         | None ↦ Done w
@@ -292,7 +335,8 @@ module _ (first port : ℕ) where
   close_keeps : (slot : ℕ) (s : DeviceState) (c : RingContents) → With s c → Keeps With (close_slot slot s) c
   close_keeps slot s c holds = by (entry_under s.table slot) refl
     where
-      by : (o : Option DeviceEntry) → entry_under s.table slot ≡ o → Keeps With (elim o [ None ↦ Done s | Some e ↦ closing e stream_closed s ]) c
+      by : (o : Option DeviceEntry) → entry_under s.table slot ≡ o → Keeps With
+          (elim o [ None ↦ Done s | Some e ↦ closing e stream_closed s ]) c
       by None under = holds
       by (Some e) under =
           let there = under_there s slot e under in
@@ -302,7 +346,8 @@ module _ (first port : ℕ) where
           (λ fits. unseen port s fits e there (stream_closed e.value) refl (closed_fits e s fits there)) c holds))
 
   module _ (cid : ℕ) (cid_fits : cid < 2 ^ 64) where
-    emptied_with : (t : DeviceState) (hon : Bool) (l : EndLog) → IsToldOf first port t hon l → IsToldOf first port (after_reset cid t) hon (log_reset cid l)
+    emptied_with : (t : DeviceState) (hon : Bool) (l : EndLog) → IsToldOf first port t hon l → IsToldOf first port (after_reset cid t) hon
+        (log_reset cid l)
     emptied_with t hon l was = (
       was.0,
       λ honest. let p = was.1 honest in record {
@@ -321,7 +366,8 @@ module _ (first port : ℕ) where
     abbrev ResetEnds : DeviceState × Result (Unit {0}) Failure → RingContents → Type 0
     ResetEnds x c = IsWith first port x.0 c
 
-    publishes : (t : DeviceState) (c : RingContents) → With t c → Keeps ResetEnds (Ask (Ring (PublishCid cid)) (λ _. Done (after_reset cid t, Ok tt))) c
+    publishes : (t : DeviceState) (c : RingContents) → With t c → Keeps ResetEnds
+        (Ask (Ring (PublishCid cid)) (λ _. Done (after_reset cid t, Ok tt))) c
     publishes t c holds = (
       tt,
       λ a d fit made. (
@@ -340,11 +386,13 @@ module _ (first port : ℕ) where
         ]) c
         by (Some f) = holds
         by None =
-            keeps_then With ResetEnds (for_each close_slot (slots s.table) s) (λ t. Ask (Ring (PublishCid cid)) (λ _. Done (after_reset cid t, Ok tt))) c
+            keeps_then With ResetEnds (for_each close_slot (slots s.table) s)
+            (λ t. Ask (Ring (PublishCid cid)) (λ _. Done (after_reset cid t, Ok tt))) c
             (keeps_each With close_slot close_keeps (slots s.table) s c holds) publishes
 
   -- A client's connection.
-  module _ (flow : Flow) (stream : ℕ) (s : DeviceState) (next : IsNextFlow Device flow (ends_of_state port s)) (ports : IsFitFlow flow) where
+  module _ (flow : Flow) (stream : ℕ) (s : DeviceState) (next : IsNextFlow Device flow (ends_of_state port s))
+      (ports : IsFitFlow flow) where
     opened_with : refusal s.table flow ≡ None → (hon : Bool) (l : EndLog) → IsToldOf first port s hon l
         → IsToldOf first (flow.host + 1) (with_client flow stream s) hon l
     opened_with free hon l was = (
@@ -356,11 +404,12 @@ module _ (first port : ℕ) where
           record {
             fits = opening_fits s p.fits flow c (accepted s.table flow free) ports (record {
               bytes = record { unread = omega arith; within = omega arith; alloc = omega arith; rx = omega arith; fwd = omega arith };
-              new = λ new. record { ok_line = refl; pending = refl; asked_at = refl; shut_at = refl };
+              new = λ new. record { by_client = refl; ok_line = refl; pending = refl; asked_at = refl; shut_at = refl };
             });
             none_overrun = p.none_overrun;
             matches = subst (λ (part : Ends). Matches Device first part l.entries)
-                (ap (λ (es : List FlowEnd). let part : Ends = record (ends_of_state (flow.host + 1) s) { entries = es } in part) (sym (added_slot end_in s.table flow c)))
+                (ap (λ (es : List FlowEnd). let part : Ends = record (ends_of_state (flow.host + 1) s) { entries = es } in part)
+                (sym (added_slot end_in s.table flow c)))
                 (asks first flow BUF_ALLOC (ends_of_state port s) l.entries p.matches next space);
             fair = p.fair;
           },
@@ -379,8 +428,11 @@ module _ (first port : ℕ) where
         by (Some fault) refused = holds
         by None free = (
           tt,
-          λ a d fit same. subst (λ (x : RingContents). IsWith first (flow.host + 1) (with_client flow stream s) x) (sym same)
-              (holds.0, tells_weaker (IsToldOf first port s) (IsToldOf first (flow.host + 1) (with_client flow stream s)) (opened_with free) c holds.1),
+          λ a d fit same. subst (λ (x : RingContents). IsWith first (flow.host + 1) (with_client flow stream s) x) (sym same) (
+            holds.0,
+            tells_weaker (IsToldOf first port s) (IsToldOf first (flow.host + 1) (with_client flow stream s))
+                (opened_with free) c holds.1,
+          ),
         )
 
 -- A new device.

@@ -1,5 +1,6 @@
 -- Where a ring tells the device's log: the chains that the device holds, and over an honest ring its connections and the log.
-use Rattle.std.specs.Prelude.{◌≡◌, ℕ, ◌+◌, ◌<◌, ◌≤◌, ◌^◌, ◌||◌, Bool, true, List, [], ◌∷◌, map, length, Option, Some, None, Result, Ok, Err, IfSome}
+use Rattle.std.specs.Prelude.{◌≡◌, ℕ, ◌+◌, ◌<◌, ◌≤◌, ◌^◌, ◌||◌, Bool, false, true, List, [], ◌∷◌, map, length, Option, Some, None, Result}
+use Rattle.std.specs.Prelude.{Ok, Err, IfSome}
 use Rattle.std.specs.List.{All}
 use Rattle.std.specs.Option.{ForSome}
 use Rattle.vs_conn.specs.End.{ConnectionEnd}
@@ -9,9 +10,12 @@ use Rattle.vs_credit.specs.declared.Credit.{Credit}
 use Rattle.vs_flow.specs.Table.{IsTable, Table}
 use Rattle.vs_flow.specs.declared.flow.Flow.{Flow}
 use Rattle.vs_flow.specs.declared.table.TableFault.{TableFault}
+use Rattle.vs_history.specs.History.{Asker}
+use Rattle.vs_history.specs.Packets.{is_rst}
 use Rattle.vs_history.specs.declared.TheConstants.{BUF_ALLOC}
+use Rattle.vs_history.specs.declared.packet.Packet.{Packet}
 use Rattle.vs_page.specs.Fair.{IsFairLog}
-use Rattle.vs_page.specs.Log.{Device, Log}
+use Rattle.vs_page.specs.Log.{Device, Log, side_of}
 use Rattle.vs_page.specs.Open.{is_open}
 use Rattle.vs_replies.specs.declared.Reply.{Reply}
 use Rattle.vs_ring_port.specs.Chains.{Held}
@@ -32,7 +36,12 @@ abbrev pub end_in : DeviceConnection → ConnectionEnd
 end_in c = c.end
 
 abbrev pub ends_with : ℕ → ℕ → Table DeviceConnection → List Reply → Ends
-ends_with port cid table replies = record { entries = entries_of end_in table; replies = map reply_flow replies; next_port = port; cid = cid }
+ends_with port cid table replies = record {
+  entries = entries_of end_in table;
+  replies = map reply_flow replies;
+  next_port = port;
+  cid = cid;
+}
 
 abbrev pub ends_of_state : ℕ → DeviceState → Ends
 ends_of_state port s = ends_with port s.cid s.table s.replies
@@ -42,8 +51,8 @@ pub record IsFitFlow (f : Flow) : Type 0 where
   pub guest : f.guest < 2 ^ 32
   pub host : f.host < 2 ^ 32
 
--- So many bytes are pending at an end with this credit: they were got and aren't forwarded, and no more are unread than there is buffer space,
--- which is the usual one.
+-- So many bytes are pending at an end with this credit: they were got and aren't forwarded, and no more are unread than there is buffer
+-- space, which is the usual one.
 pub record HoldsBytes (c : Credit) (pending : ℕ) : Type 0 where
   pub unread : pending ≤ unread_of c
   pub within : unread_of c ≤ c.alloc
@@ -51,8 +60,9 @@ pub record HoldsBytes (c : Credit) (pending : ℕ) : Type 0 where
   pub rx : c.rx_cnt < 2 ^ 32
   pub fwd : c.fwd_cnt < 2 ^ 32
 
--- A connection whose REQUEST isn't put has nothing to write, and no moment.
+-- A connection whose REQUEST isn't put is one that a client of the host asks for. It has nothing to write, and no moment.
 pub record HasNothing (c : DeviceConnection) : Type 0 where
+  pub by_client : c.by_client ≡ true
   pub ok_line : c.ok_line ≡ []
   pub pending : c.pending ≡ []
   pub asked_at : c.asked_at ≡ None
@@ -120,3 +130,12 @@ IsFresh c = ForSome c.log (λ l. (l.entries ≡ []) × (l.held ≡ []))
 abbrev pub port_after : Flow → ℕ → Result ℕ TableFault → ℕ
 port_after flow port (Ok slot) = flow.host + 1
 port_after flow port (Err fault) = port
+
+-- A packet tells the usual buffer space or more. RST tells none.
+abbrev pub Advertises : Packet → Type 0
+Advertises p = is_rst p ≡ false → BUF_ALLOC ≤ p.header.buf_alloc
+
+-- A connection that a client of the host asks for, on a host port that the device assigned.
+pub record IsClients (e : DeviceEntry) : Type 0 where
+  pub by_client : e.value.by_client ≡ true
+  pub asker : side_of Device e.flow ≡ Asker
