@@ -12,6 +12,7 @@ mod making;
 mod meeting;
 mod plays;
 mod port;
+mod shared_rings;
 #[cfg(test)]
 mod tests;
 
@@ -21,3 +22,4 @@ pub use driver_end::DriverEnd;
 pub use driver_ring::laws_of_driver_end;
 pub use making::make;
 pub use meeting::{meet, note};
+pub use shared_rings::{SharedRings, laws_of_shared_rings};
