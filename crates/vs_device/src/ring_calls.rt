@@ -1,6 +1,6 @@
 //! The device's calls on the ring, each as it stands in a conversation.
 
-ghost use Rattle.std.specs.Prelude.{◌≡◌, ◌≤◌, ◌+◌, List, ℕ, IfSome, Contains, length, take};
+ghost use Rattle.std.specs.Prelude.{◌≡◌, ◌<◌, ◌≤◌, ◌+◌, List, ℕ, IfSome, Contains, length, slice_index, take};
 ghost use Rattle.vs_header.specs.Packet.{header_of};
 ghost use Rattle.vs_header.specs.declared.TheConstants.{HEADER_LEN};
 ghost use Rattle.vs_ring_port.specs.Chains.{chain_of, held_after, IsLongEnough, without};
@@ -29,8 +29,19 @@ pub(crate) fn read_header<R: DeviceRing>(ring: &mut R, chain: &Chain) -> Header
     ensures held { R.held ring.new ≡ R.held ring.old }
 {
     let mut bytes = [0; HEADER_LEN];
-    ring.read(chain, 0, &mut bytes);
+    read(ring, chain, 0, &mut bytes);
     Header::decode(&bytes)
+}
+
+// Reads the bytes of a chain from place `at` on, as many as `out` has.
+fn read<R: DeviceRing>(ring: &mut R, chain: &Chain, at: u64, out: &mut [u8])
+    requires is_held { Contains (R.held ring.old) chain.now }
+    requires in_range { at + length out.old ≤ chain.now.readable }
+    ensures calls { AllowsOnRing (Read chain.now at (length out.old)) out.new (R.contents ring.old) (R.contents ring.new) }
+    ensures held { R.held ring.new ≡ R.held ring.old }
+    ensures same_length { length out.new ≡ length out.old }
+{
+    ring.read(chain, at, out);
 }
 
 /// Reads a payload of `len` bytes, which follows the header, into the front of `out`.

@@ -7,3 +7,4 @@ pub mod Paying
 pub mod Posting
 pub mod Ending
 pub mod Kept
+pub mod Pipes

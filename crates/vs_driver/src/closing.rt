@@ -1,11 +1,14 @@
 //! Shutting a connection's directions and closing it (Virtio 1.2, section 5.10.6.5), and listening on a port no more.
 
-ghost use Rattle.std.specs.Prelude.{◌≡◌, ℕ, ◌≤◌, true, Some, is_some, if◌then◌else◌, OnOk, OnErr, IsOk, ◌↔◌, IsTrue};
+ghost use Rattle.std.specs.Prelude.{◌≡◌, ℕ, ◌≤◌, [], true, false, Some, is_some, if◌then◌else◌, OnOk, OnErr, IsOk, ◌↔◌, IsTrue};
+ghost use Rattle.vs_conn.specs.Shut.{shut_of};
 ghost use Rattle.vs_flow.specs.Table.{entry_under};
 ghost use Rattle.vs_driver_parts.specs.declared.answers.Closed.TheVariants as closed;
+ghost use Rattle.vs_driver_parts.specs.declared.answers.ConnectionState.TheVariants as seen;
 ghost use Rattle.vs_driver_parts.specs.State.{DriverEntry, entry_known_as, gone_known_as};
 ghost use Rattle.vs_driver_parts.specs.Listening.{listener_on};
-ghost use Rattle.vs_driver_parts.specs.Connections.{shutdown_of, after_shutdown, after_close, close_of, after_unlisten, shut_answer, shut_in, entry_closed, gone_closed};
+ghost use Rattle.vs_driver_parts.specs.Connections.{state_of, unread_of_id, shutdown_of, after_shutdown, after_close, close_of, after_unlisten, shut_answer, shut_in, entry_closed, gone_closed};
+ghost use Rattle.vs_driver.specs.Pipes.{IfShut, KeepsOthers, UnlessShut, receives};
 ghost use Rattle.vs_ring_port.specs.Contents.{RingContents};
 ghost use Rattle.vs_driver_log.specs.Honest.{IsHonestWith};
 
@@ -24,6 +27,10 @@ impl Driver {
         requires bits { (1 ≤ bits) × (bits ≤ 3) }
         ensures answer { result ≡ shutdown_of id self.old }
         ensures state { self.new ≡ after_shutdown id bits self.old }
+        ensures dropped { IfShut result ((shut_of bits).receive ≡ true → unread_of_id id self.new ≡ []) }
+        ensures kept { receives id self.old ≡ true → (shut_of bits).receive ≡ false → unread_of_id id self.new ≡ unread_of_id id self.old }
+        ensures others { KeepsOthers id self.old self.new }
+        ensures unchanged { UnlessShut result (self.new ≡ self.old) }
         ensures honest { (first : ℕ) (c : RingContents) → IsHonestWith first self.old c → IsHonestWith first self.new c }
     {
         match self.slots.known_as(id) {
@@ -57,6 +64,8 @@ impl Driver {
     pub fn close(&mut self, id: ConnId) -> Closed
         ensures answer { result ≡ close_of id self.old }
         ensures state { self.new ≡ after_close id self.old }
+        ensures unknown { state_of id self.new ≡ seen.Unknown }
+        ensures others { KeepsOthers id self.old self.new }
         ensures honest { (first : ℕ) (c : RingContents) → IsHonestWith first self.old c → IsHonestWith first self.new c }
     {
         match self.slots.known_as(id) {
@@ -69,6 +78,7 @@ impl Driver {
     fn close_in(&mut self, slot: Slot, id: ConnId) -> Closed
         ensures state { (e : DriverEntry) → entry_under self.old.table slot ≡ Some e → e.value.id ≡ id → self.new ≡ entry_closed e self.old }
         ensures answer { is_some (entry_under self.old.table slot) ≡ true → result ≡ closed.Done }
+        ensures unknown { (e : DriverEntry) → entry_under self.old.table slot ≡ Some e → e.value.id ≡ id → state_of id self.new ≡ seen.Unknown }
     {
         let Some(flow) = self.slots.flow_of(slot) else {
             return Closed::Unknown;

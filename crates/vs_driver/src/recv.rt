@@ -7,6 +7,7 @@ ghost use Rattle.vs_flow.specs.Table.{entry_under};
 ghost use Rattle.vs_driver_parts.specs.declared.answers.Received.TheVariants as got;
 ghost use Rattle.vs_driver_parts.specs.State.{DriverEntry, GoneConnection, gone_known_as};
 ghost use Rattle.vs_driver_parts.specs.Connections.{recv_of, unread_of_id, after_recv, is_at_end, nothing_read, all_gone_after_read, gone_answer, entry_answer, entry_read, bytes_read};
+ghost use Rattle.vs_driver.specs.Pipes.{KeepsOthers, UnlessGot, bytes_given};
 ghost use Rattle.vs_ring_port.specs.Contents.{RingContents};
 ghost use Rattle.vs_driver_log.specs.Honest.{IsHonestWith};
 
@@ -26,6 +27,9 @@ impl Driver {
         ensures answer { result ≡ recv_of id (length out.old) self.old }
         ensures bytes { out.new ≡ bytes_read (unread_of_id id self.old) out.old }
         ensures state { self.new ≡ after_recv id (length out.old) self.old }
+        ensures pipe { bytes_given result out.new ++ unread_of_id id self.new ≡ unread_of_id id self.old }
+        ensures others { KeepsOthers id self.old self.new }
+        ensures unchanged { UnlessGot result (self.new ≡ self.old) }
         ensures honest { (first : ℕ) (c : RingContents) → IsHonestWith first self.old c → IsHonestWith first self.new c }
     {
         match self.slots.known_as(id) {
@@ -36,6 +40,7 @@ impl Driver {
 
     // Reads on the connection in a slot.
     fn recv_in(&mut self, slot: Slot, out: &mut [u8]) -> Received
+        ensures unchanged { UnlessGot result (self.new ≡ self.old) }
         ensures answer { (e : DriverEntry) → entry_under self.old.table slot ≡ Some e → result ≡ entry_answer (length out.old) e }
         ensures bytes { (e : DriverEntry) → entry_under self.old.table slot ≡ Some e → out.new ≡ bytes_read e.value.unread out.old }
         ensures state { (e : DriverEntry) → entry_under self.old.table slot ≡ Some e → self.new ≡ entry_read (length out.old) e self.old }
@@ -51,6 +56,7 @@ impl Driver {
 
     // Reads on the connection that is gone under an id, if there is one.
     fn recv_gone(&mut self, id: ConnId, out: &mut [u8]) -> Received
+        ensures unchanged { UnlessGot result (self.new ≡ self.old) }
         ensures unknown { gone_known_as id self.old ≡ None → result ≡ got.Unknown }
         ensures same_out { gone_known_as id self.old ≡ None → out.new ≡ out.old }
         ensures answer { (g : GoneConnection) → gone_known_as id self.old ≡ Some g → result ≡ gone_answer (length out.old) g }

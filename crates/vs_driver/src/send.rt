@@ -7,10 +7,11 @@ ghost use Rattle.vs_credit.specs.Credit.{free_of};
 ghost use Rattle.vs_flow.specs.Table.{entry_under};
 ghost use Rattle.vs_page.specs.declared.page.TheConstants.{PAYLOAD_MAX};
 ghost use Rattle.vs_driver_parts.specs.State.{DriverEntry, entry_known_as, gone_known_as};
-ghost use Rattle.vs_driver_parts.specs.Connections.{with_end};
+ghost use Rattle.vs_driver_parts.specs.Connections.{unread_of_id, with_end};
 ghost use Rattle.vs_driver_parts.specs.Conversations.{send_of, send_on, send_with_credit, send_with_page, send_stopped, no_credit, not_sent};
 ghost use Rattle.vs_driver_parts.specs.Playing.{IsRingOf, MayPublishAll, Plays};
 ghost use Rattle.vs_driver.specs.Outcomes.{Sends};
+ghost use Rattle.vs_driver.specs.Pipes.{KeepsOthers};
 ghost use Rattle.vs_driver_log.specs.Honest.{IsHonest, IsHonestWith};
 
 use crate::driver::Driver;
@@ -34,6 +35,8 @@ impl Driver {
         ensures ring { IsRingOf (R.size ring.new) (R.flight ring.new) (R.staged ring.new) self.new }
         ensures calls { Plays (send_of id bytes.now self.old) (R.contents ring.old) (self.new, result) (R.contents ring.new) }
         ensures outcome { Sends id bytes.now self.old self.new result }
+        ensures unread { unread_of_id id self.new ≡ unread_of_id id self.old }
+        ensures others { KeepsOthers id self.old self.new }
         ensures honest { (first : ℕ) → IsHonestWith first self.old (R.contents ring.old) → IsHonestWith first self.new (R.contents ring.new) }
     {
         match self.slots.known_as(id) {

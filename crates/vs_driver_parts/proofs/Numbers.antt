@@ -26,7 +26,7 @@ same_id slot d first e has is = by (e.slot == slot) refl
     by false at = rw at refl
 
 module _ (first port next : ℕ) (t : Table DriverConnection) (gone : List GoneConnection) (kept : AreNumbered first port next t gone) where
-  id_under : (slot : ℕ) (c : DriverConnection) → value_under t slot ≡ Some c → c.id ≡ first + slot
+  pub id_under : (slot : ℕ) (c : DriverConnection) → value_under t slot ≡ Some c → c.id ≡ first + slot
   id_under slot c is =
       let u = under t slot c is in
       let has = entry_has (HasId first) (λ (e : DriverEntry). e.slot == slot) t.entries u.entry kept.slots u.found in

@@ -1,5 +1,5 @@
 -- What a connection does leaves its id.
-use Rattle.std.proofs.Common.{◌≡◌, refl}
+use Rattle.std.proofs.Common.{◌≡◌, true, refl}
 use Rattle.vs_conn.specs.declared.end.Owed.{Owed}
 use Rattle.vs_conn.specs.declared.end.Owed.TheVariants as owed
 use Rattle.vs_conn.specs.declared.end.State.{State}
@@ -32,3 +32,9 @@ packet_id verdict.Discard p c = refl
 packet_id verdict.Peer p c = refl
 packet_id (verdict.Rst why) p c = refl
 packet_id verdict.Ignore p c = refl
+
+pub closing_closed : (s : State) (c : DriverConnection) → (after_closing s c).closed ≡ true
+closing_closed state.Live c = refl
+closing_closed state.Asked c = refl
+closing_closed state.Answering c = refl
+closing_closed state.Ended c = refl

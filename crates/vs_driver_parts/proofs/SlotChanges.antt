@@ -1,25 +1,26 @@
 -- What always holds of the slots after a change of the table.
-use Rattle.std.proofs.Common.{◌≡◌, ◌≢◌, ℕ, ◌+◌, ◌<◌, ◌==◌, Bool, true, false, cond, List, [], ◌∷◌, ◌++◌, length, get_or, Some, None, sym, ap, subst, ◌∙◌, arith, length-append}
-use Rattle.std.specs.List.{All, AllPairs}
-use Rattle.std.specs.Option.{option_map}
+use Rattle.std.proofs.Common.{◌≡◌, ◌≢◌, ℕ, ◌+◌, ◌<◌, ◌==◌, Bool, true, false, cond, List, [], ◌∷◌, ◌++◌, length, get_or, Option, Some, None, sym, ap, subst, ◌∙◌, arith, length-append}
+use Rattle.std.specs.List.{All, AllPairs, find}
+use Rattle.std.specs.Option.{option_and_then, option_map}
 use Rattle.std.proofs.lemmas.List.{length-map, get_or_append_left}
 use Rattle.std.proofs.Math.Seq.{get_or-append_seam}
+use Rattle.std.proofs.lemmas.Bool.Decides.{nat_tests}
 use Rattle.std.proofs.lemmas.List.Edits.{length-remove}
 use Rattle.std.proofs.lemmas.Option.{slice_get_within, get_or_from_slice_get}
 use Rattle.vs_flow.specs.Flow.{is_assigned, same_flow}
 use Rattle.vs_flow.specs.Table.{Table, IsTable, entry_of, entry_under, value_under, with_value, without, revalued}
 use Rattle.vs_flow.specs.declared.flow.Flow.{Flow}
 use Rattle.vs_flow.proofs.Entries.{find_none, found_passes, same_flow_false}
-use Rattle.vs_flow.proofs.Lookups.{find_place}
+use Rattle.vs_flow.proofs.Lookups.{find_place, entry_under-with_value}
 use Rattle.vs_flow.proofs.Tables.{with_value_sound}
-use Rattle.vs_driver_parts.specs.State.{DriverConnection, DriverEntry, GoneConnection}
+use Rattle.vs_driver_parts.specs.State.{DriverConnection, DriverEntry, GoneConnection, is_known_as}
 use Rattle.vs_driver_parts.specs.Connections.{gone_as, is_let_go}
 use Rattle.vs_driver_parts.specs.Held.{HeldSlots, left_in}
 use Rattle.vs_driver_parts.specs.SlotFields.{AreKept, AreNumbered}
 use Rattle.vs_driver_parts.specs.declared.slots.Slots.TheInside.{Inside}
-use Rattle.vs_driver_parts.proofs.Ids.{value_of, has_slot}
+use Rattle.vs_driver_parts.proofs.Ids.{value_of, has_slot, under, known_by_slot, unless_closed, entry_has}
 use Rattle.vs_driver_parts.proofs.Lists.{one_passes, removed_one}
-use Rattle.vs_driver_parts.proofs.Numbers.{numbers_with_value}
+use Rattle.vs_driver_parts.proofs.Numbers.{id_under, numbers_with_value}
 
 pub kept_with_connection : (s : Inside) (slot : ℕ) (c d : DriverConnection) → AreKept s → value_under s.table slot ≡ Some c → d.id ≡ c.id
     → AreKept (record s { table = with_value s.table slot d })
@@ -34,6 +35,29 @@ kept_with_connection s slot c d kept is id = record {
   buffer_room = kept.buffer_room;
   spare = kept.spare;
 }
+
+-- A connection is closed: its id is none's then.
+pub knows_none : (s : Inside) (slot : ℕ) (c d : DriverConnection) → AreKept s → value_under s.table slot ≡ Some c → d.id ≡ c.id → d.closed ≡ true
+    → (find (is_known_as c.id) (with_value s.table slot d).entries ≡ None) × (find (λ g. g.id == c.id) s.gone.items ≡ None)
+knows_none s slot c d kept is id closed =
+    let u = under s.table slot c is in
+    let new = numbers_with_value s.first_id s.next_port s.next_id s.table s.gone.items kept.numbers slot c d is id in
+    let sound = with_value_sound s.table slot d kept.table in
+    let number = id_under s.first_id s.next_port s.next_id s.table s.gone.items kept.numbers slot c is in
+    let changed : entry_under (with_value s.table slot d) slot ≡ Some (record u.entry { value = d }) =
+    entry_under-with_value s.table slot d slot ∙ (ap (option_map (revalued slot d)) u.found
+    ∙ revalued_there slot d u.entry u.slot_is) in (
+      known_by_slot s.first_id c.id slot (with_value s.table slot d).entries sound.rising new.slots number
+          ∙ (ap (option_and_then unless_closed) changed ∙ ap (λ (b : Bool). cond b None (Some (record u.entry { value = d }))) closed),
+      find_none (λ (g : GoneConnection). g.id == c.id) s.gone.items (λ k x lt.
+          let apart = entry_has (λ (e : DriverEntry). e.value.id ≢ (get_or s.gone.items k x).id) (λ (e : DriverEntry). e.slot == slot) s.table.entries u.entry
+          (kept.numbers.apart k x lt) u.found in
+          let value = ap (λ (y : DriverConnection). y.id) u.value in
+          grind (arith, nat_tests, apart, value)),
+    )
+  where
+    revalued_there : (k : ℕ) (v : DriverConnection) (e : DriverEntry) → e.slot ≡ k → Some (revalued k v e) ≡ Some (record e { value = v })
+    revalued_there k v e at = grind (arith, nat_tests, at)
 
 -- A connection leaves: what the slots are then.
 left_with : Bool → ℕ → GoneConnection → HeldSlots → HeldSlots

@@ -1,5 +1,5 @@
 -- The slots of the driver, apart from the rest of it.
-use Rattle.std.specs.Prelude.{ℕ, ◌+◌, Bool, false, true, List, [], ◌∷◌, ◌++◌, length, if◌then◌else◌}
+use Rattle.std.specs.Prelude.{◌≡◌, ℕ, ◌+◌, ◌==◌, Bool, false, true, List, [], ◌∷◌, ◌++◌, length, find, None, if◌then◌else◌}
 use Rattle.vs_conn.specs.End.{ConnectionEnd, asked, answering, paid_of}
 use Rattle.vs_conn.specs.declared.end.Owed.TheVariants as owed
 use Rattle.vs_header.specs.declared.Header.{Header}
@@ -7,7 +7,7 @@ use Rattle.vs_history.specs.declared.TheConstants.{BUF_ALLOC}
 use Rattle.vs_flow.specs.Table.{Table, with_value, with_entry, without}
 use Rattle.vs_flow.specs.declared.flow.Flow.{Flow}
 use Rattle.vs_driver_parts.specs.declared.limits.TheConstants.{SLOTS}
-use Rattle.vs_driver_parts.specs.State.{DriverConnection, DriverEntry, GoneConnection}
+use Rattle.vs_driver_parts.specs.State.{DriverConnection, DriverEntry, GoneConnection, is_known_as}
 use Rattle.vs_driver_parts.specs.Connections.{gone_as, is_let_go}
 
 -- The numbers that the next connections get, and those given last; the table, and the connections that are gone.
@@ -32,6 +32,10 @@ no_slots port id = record {
 -- How many slots are held.
 abbrev pub held_in : HeldSlots → ℕ
 held_in s = length s.table.entries + length s.gone
+
+-- The application knows no connection by an id.
+abbrev pub KnowsNone : ℕ → HeldSlots → Type 0
+KnowsNone id s = (find (is_known_as id) s.table.entries ≡ None) × (find (λ g. g.id == id) s.gone ≡ None)
 
 -- A connection is another.
 abbrev pub with_connection_in : ℕ → DriverConnection → HeldSlots → HeldSlots

@@ -1,6 +1,6 @@
 //! The driver's slots: connections of the table, those that are gone and not closed, and the buffers of free slots.
 
-ghost use Rattle.std.specs.Prelude.{◌≡◌, ◌<◌, ◌≤◌, ◌++◌, ◌==◌, true, false, length, min, take, drop, find, Some, None, IfOk, IfSome, IfNone, IsSomeAnd, option_copied, position, remove, slice_get, ◌^◌, vec_capacity};
+ghost use Rattle.std.specs.Prelude.{◌≡◌, ◌<◌, ◌≤◌, ◌++◌, ◌==◌, [], true, false, length, min, take, drop, find, Some, None, IfOk, IfSome, IfNone, IsSomeAnd, option_copied, position, remove, slice_get, ◌^◌, vec_capacity};
 ghost use Rattle.std.specs.List.{All};
 ghost use Rattle.std.specs.Option.{option_map, option_and_then};
 ghost use Rattle.vs_conn.specs.Headers.{owed_header, payload_header};
@@ -16,7 +16,7 @@ ghost use Rattle.vs_driver_parts.specs.State.{DriverEntry, DriverConnection, Gon
 ghost use Rattle.vs_driver_parts.specs.Connections.{route_to_host, after_read, after_shut, after_closing, paid_connection, without_gone, all_gone_after_read};
 ghost use Rattle.vs_driver_parts.specs.Receiving.{after_packet};
 ghost use Rattle.vs_driver_parts.specs.Room.{IsSpare};
-ghost use Rattle.vs_driver_parts.specs.Held.{no_slots, held_in, with_asked_in, with_answering_in, with_connection_in, left_in};
+ghost use Rattle.vs_driver_parts.specs.Held.{KnowsNone, no_slots, held_in, with_asked_in, with_answering_in, with_connection_in, left_in};
 
 use crate::answers::ConnId;
 use crate::connection::Connection;
@@ -346,6 +346,7 @@ impl Slots {
     /// Closes the connection in a slot: the application knows it no more.
     pub fn close(&mut self, slot: Slot)
         ensures left { (c : DriverConnection) → value_under self.old.table slot ≡ Some c → self.new ≡ with_connection_in slot (after_closing c.end.state c) self.old }
+        ensures unknown { (c : DriverConnection) → value_under self.old.table slot ≡ Some c → KnowsNone c.id self.new }
     {
         let Some(connection) = self.table.get_mut(slot) else {
             return;
@@ -380,6 +381,7 @@ impl Slots {
         ensures count { (g : GoneConnection) → find (λ g. g.id == id) self.old.gone ≡ Some g → result ≡ min (length out.old) (length g.unread) }
         ensures moved { (g : GoneConnection) → find (λ g. g.id == id) self.old.gone ≡ Some g → out.new ≡ take result g.unread ++ drop result out.old }
         ensures left { self.new ≡ record self.old { gone = all_gone_after_read id (length out.old) self.old.gone } }
+        ensures empty { (g : GoneConnection) → find (λ g. g.id == id) self.old.gone ≡ Some g → g.unread ≡ [] → self.new ≡ self.old }
     {
         match place_of(&self.gone, id) {
             Some(place) => {

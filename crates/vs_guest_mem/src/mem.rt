@@ -1,5 +1,5 @@
 //! Plain memory: bytes from an address on, a count of accesses, and changes to come.
-ghost use Rattle.std.specs.Prelude.{◌≡◌, ◌+◌, ◌<◌, ◌≤◌, ◌^◌, ◌++◌, ◌∷◌, [], ◌↔◌, IsTrue, IfOk, IfErr, OnOk, OnErr, is_ok, length};
+ghost use Rattle.std.specs.Prelude.{◌≡◌, ◌==◌, ◌+◌, ◌<◌, ◌≤◌, ◌^◌, ◌++◌, ◌∷◌, [], ◌↔◌, IsTrue, IfOk, IfErr, OnOk, OnErr, is_ok, length};
 ghost use Rattle.vs_guest_mem.specs.Memory.{Change, accessed, after_access, after_write, bytes_at, is_inside, is_within, zeroed};
 
 use crate::change::{PlannedWrite, make_due, overwrite, pass};
@@ -69,6 +69,13 @@ impl PlainMem {
         ensures { result ≡ self.now.accesses }
     {
         self.accesses
+    }
+
+    /// Whether no change is to come.
+    pub fn is_still(&self) -> bool
+        ensures { result ≡ (length self.now.changes == 0) }
+    {
+        self.changes.is_empty()
     }
 
     /// Whether each byte of a piece lies inside. A piece of no bytes does wherever it begins.

@@ -1,7 +1,5 @@
-pub mod Quiet
 pub mod Order
-pub mod Device
 pub mod Making
-pub mod Frames
 pub mod Posting
 pub mod Returning
+pub mod Rings

@@ -8,11 +8,12 @@ use Rattle.vs_plain_driver.specs.View.{ArePagesIn}
 use Rattle.vs_layout.specs.Layout.{queue_areas_of}
 use Rattle.vs_layout.specs.declared.placement.QueueAreas.{QueueAreas}
 use Rattle.vs_ring_plain.specs.Device.{DeviceState, new_device, with_memory}
-use Rattle.vs_plain_rings.specs.Parts.{PartsState, cleared, cleared_queue, new_parts, new_queue, pages_behind, pages_start}
+use Rattle.vs_plain_ties.specs.Parts.{PartsState, cleared, cleared_queue, new_parts, new_queue, pages_behind, pages_start}
 use Rattle.vs_plain_rings.specs.View.{AreInOrder}
 
 -- n pages, k bytes behind the first of 3n, lie in the memory
-pages_if : (m : Memory) (at n k : ℕ) (b : Bool) → nat_le (at + 3 * (4096 * n)) (m.base + length m.bytes) ≡ b → m.base ≤ at → k ≤ 2 * (4096 * n)
+pages_if : (m : Memory) (at n k : ℕ) (b : Bool) → nat_le (at + 3 * (4096 * n)) (m.base + length m.bytes) ≡ b → m.base ≤ at
+    → k ≤ 2 * (4096 * n)
     → IfSome (pages_behind (cond b (Some at) None) k) (λ x. (m.base ≤ x) × (x + 4096 * n ≤ m.base + length m.bytes))
 pages_if m at n k false test from less = tt
 pages_if m at n k true test from less =
@@ -31,13 +32,15 @@ pages_fit m new end n k q is from less base size =
 
 pub order_new : (m : Memory) (end n : ℕ) (p : PartsState) → m.base ≤ end → p.device.size ≡ n → p.device.memory.base ≡ m.base
     → length p.device.memory.bytes ≡ length m.bytes → p.rx ≡ new_queue n (pages_start m end n)
-    → p.tx ≡ new_queue n (pages_behind (pages_start m end n) (4096 * n)) → p.event ≡ new_queue n (pages_behind (pages_start m end n) (2 * (4096 * n)))
+    → p.tx ≡ new_queue n (pages_behind (pages_start m end n) (4096 * n)) → p.event ≡ new_queue n (pages_behind (pages_start m end n) (2
+    * (4096 * n)))
     → p.cid ≡ 3 → AreInOrder p
 order_new m end n p from size base bytes rx tx event cid = record {
   rx_size = ap (λ (q : DriverQueueState). q.n) rx ∙ sym size;
   tx_size = ap (λ (q : DriverQueueState). q.n) tx ∙ sym size;
   event_size = ap (λ (q : DriverQueueState). q.n) event ∙ sym size;
-  rx_pages = pages_fit m p.device.memory end n 0 p.rx (rx ∙ ap (new_queue n) (sym (behind_none (pages_start m end n)))) from (omega arith) base bytes;
+  rx_pages = pages_fit m p.device.memory end n 0 p.rx (rx ∙ ap (new_queue n) (sym (behind_none (pages_start m end n)))) from (omega
+      arith) base bytes;
   tx_pages = pages_fit m p.device.memory end n (4096 * n) p.tx tx from (omega arith) base bytes;
   event_pages = pages_fit m p.device.memory end n (2 * (4096 * n)) p.event event from (omega arith) base bytes;
   low = omega (arith, cid);

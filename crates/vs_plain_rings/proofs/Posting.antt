@@ -18,14 +18,16 @@ use Rattle.vs_ring_port.specs.declared.queue.Queue.{Queue}
 use Rattle.vs_ring_port.specs.declared.queue.Queue.TheVariants.{Rx, Tx, Event}
 use Rattle.vs_plain_driver.specs.Queue.{desc_for}
 use Rattle.vs_plain_rings.specs.Posting.{CanPost, idle_queue, posted, ring_of}
-use Rattle.vs_plain_rings.proofs.Frames.{inner, kept, length_written, written}
+use Rattle.vs_plain_ties.proofs.Frames.{inner, kept, length_written, written}
 
 -- a descriptor's bytes hold it
 pub desc_back : (d : Desc) → d.addr < 2 ^ 64 → d.len < 2 ^ 32 → d.flags < 2 ^ 16 → d.next < 2 ^ 16 → desc_of (desc_bytes d) ≡ d
 desc_back d addr len flags next =
     let of : ℕ → ℕ → ℕ → ℕ → Desc = λ a l f n. record { addr = a; len = l; flags = f; next = n } in
-    ap₂ (λ a l. of a l (little_number 2 (little_bytes 2 d.flags)) (little_number 2 (little_bytes 2 d.next))) (little_number-little_bytes 8 d.addr (omega (arith, addr))) (little_number-little_bytes 4 d.len (omega (arith, len)))
-    ∙ ap₂ (of d.addr d.len) (little_number-little_bytes 2 d.flags (omega (arith, flags))) (little_number-little_bytes 2 d.next (omega (arith, next)))
+    ap₂ (λ a l. of a l (little_number 2 (little_bytes 2 d.flags)) (little_number 2 (little_bytes 2 d.next)))
+    (little_number-little_bytes 8 d.addr (omega (arith, addr))) (little_number-little_bytes 4 d.len (omega (arith, len)))
+    ∙ ap₂ (of d.addr d.len) (little_number-little_bytes 2 d.flags (omega (arith, flags))) (little_number-little_bytes 2 d.next (omega
+    (arith, next)))
 
 -- one more than it was, modulo 2^16
 one_ahead : (p : ℕ) → p < 2 ^ 16 → ahead ((p + 1) % 2 ^ 16) p ≡ 1
@@ -35,7 +37,8 @@ within_is : (base size addr len : ℕ) → base ≤ addr → addr + len ≤ base
 within_is base size addr len from to = grind (arith, nat_tests, from, to)
 
 -- what the driver writes at a place of the available ring lies in that ring, and a descriptor lies among the descriptors
-module _ (queue : Queue) (n at id published : ℕ) (areas : Areas) (page : List ℕ) (m : Memory) (can : CanPost queue n at id published areas page m)
+module _ (queue : Queue) (n at id published : ℕ) (areas : Areas) (page : List ℕ) (m : Memory) (can : CanPost queue n at id published
+    areas page m)
   where
     abbrev place : ℕ
     place = published % n
@@ -114,12 +117,20 @@ module _ (queue : Queue) (n at id published : ℕ) (areas : Areas) (page : List 
         inner areas.desc (16 * n) areas.avail (6 + 2 * n) D 16 b k can.placed.desc_avail (omega arith) (omega (arith, can.within)) from to
 
     page_desc : (P + length page ≤ D) ⊎ (D + 16 ≤ P)
-    page_desc = inner at (4096 * n) areas.desc (16 * n) P (length page) D 16 can.beside_desc (omega arith) (omega (arith, can.within, can.size))
+    page_desc = inner at (4096 * n) areas.desc (16 * n) P (length page) D 16 can.beside_desc (omega arith) (omega (
+      arith,
+      can.within,
+      can.size,
+    ))
         (omega arith) (omega (arith, can.within))
 
     page_avail : (b k : ℕ) → areas.avail ≤ b → b + k ≤ areas.avail + (6 + 2 * n) → (P + length page ≤ b) ⊎ (b + k ≤ P)
     page_avail b k from to =
-        inner at (4096 * n) areas.avail (6 + 2 * n) P (length page) b k can.beside_avail (omega arith) (omega (arith, can.within, can.size)) from to
+        inner at (4096 * n) areas.avail (6 + 2 * n) P (length page) b k can.beside_avail (omega arith) (omega (
+          arith,
+          can.within,
+          can.size,
+        )) from to
 
     index_is : little_number 2 (bytes_at m4 I 2) ≡ next_index
     index_is = ap (little_number 2) (written m3 I (little_bytes 2 next_index) from_I (omega (arith, to_I, l3)))
@@ -131,21 +142,26 @@ module _ (queue : Queue) (n at id published : ℕ) (areas : Areas) (page : List 
         ∙ little_number-little_bytes 2 id (omega (arith, can.within, can.limit))
 
     desc_is : bytes_at m4 D 16 ≡ desc_bytes d
-    desc_is = kept m3 I (little_bytes 2 next_index) D 16 from_I (omega (arith, to_I, l3)) from_D (desc_avail I 2 (omega arith) (omega arith))
+    desc_is = kept m3 I (little_bytes 2 next_index) D 16 from_I (omega (arith, to_I, l3)) from_D (desc_avail I 2 (omega arith) (omega
+        arith))
         ∙ kept m2 E (little_bytes 2 id) D 16 from_E (omega (arith, to_E, l2)) from_D (desc_avail E 2 (omega arith) (omega (arith, low)))
         ∙ written m1 D (desc_bytes d) from_D (omega (arith, to_D, l1))
 
     pub page_is : bytes_at m4 P (length page) ≡ page
-    page_is = kept m3 I (little_bytes 2 next_index) P (length page) from_I (omega (arith, to_I, l3)) from_P (page_avail I 2 (omega arith) (omega arith))
-        ∙ kept m2 E (little_bytes 2 id) P (length page) from_E (omega (arith, to_E, l2)) from_P (page_avail E 2 (omega arith) (omega (arith, low)))
+    page_is = kept m3 I (little_bytes 2 next_index) P (length page) from_I (omega (arith, to_I, l3)) from_P (page_avail I 2 (omega
+        arith) (omega arith))
+        ∙ kept m2 E (little_bytes 2 id) P (length page) from_E (omega (arith, to_E, l2)) from_P (page_avail E 2 (omega arith) (omega
+        (arith, low)))
         ∙ kept m1 D (desc_bytes d) P (length page) from_D (omega (arith, to_D, l1)) from_P page_desc
         ∙ written m P page from_P to_P
 
     -- the descriptor breaks no rule
     d_back : (q : Queue) → desc_of (desc_bytes (desc_for q P (length page))) ≡ desc_for q P (length page)
     d_back Rx = desc_back (desc_for Rx P (length page)) (omega (arith, from_P, to_P, can.fits)) (omega arith) (omega arith) (omega arith)
-    d_back Tx = desc_back (desc_for Tx P (length page)) (omega (arith, from_P, to_P, can.fits)) (omega (arith, can.size)) (omega arith) (omega arith)
-    d_back Event = desc_back (desc_for Event P (length page)) (omega (arith, from_P, to_P, can.fits)) (omega arith) (omega arith) (omega arith)
+    d_back Tx = desc_back (desc_for Tx P (length page)) (omega (arith, from_P, to_P, can.fits)) (omega (arith, can.size)) (omega arith)
+        (omega arith)
+    d_back Event = desc_back (desc_for Event P (length page)) (omega (arith, from_P, to_P, can.fits)) (omega arith) (omega arith)
+        (omega arith)
 
     d_inside : (q : Queue) → let x = desc_for q P (length page) in is_within m.base (length m.bytes) x.addr x.len ≡ true
     d_inside Rx = within_is m.base (length m.bytes) P 4096 from_P (omega (arith, can.to, can.within))
@@ -174,7 +190,8 @@ module _ (queue : Queue) (n at id published : ℕ) (areas : Areas) (page : List 
 
     given_then : (indirect : Bool) → IsGiven (ring_of queue n areas m indirect) published id d m4
     given_then indirect =
-        let one : ahead (little_number 2 (bytes_at m4 I 2)) published ≡ 1 = ap (λ x. ahead x published) index_is ∙ one_ahead published can.index in
+        let one : ahead (little_number 2 (bytes_at m4 I 2)) published ≡ 1 = ap (λ x. ahead x published) index_is
+        ∙ one_ahead published can.index in
         record {
           some = omega (arith, one);
           few = omega (arith, one, can.within);

@@ -17,7 +17,7 @@ use Rattle.vs_ring_plain.proofs.Still.{is_quiet, quiet}
 use Rattle.vs_ring_port.specs.declared.queue.Queue.{Queue}
 use Rattle.vs_plain_driver.specs.Queue.{DriverQueueState, flight_in, next_elem, next_used, numbered, page_back, reaped_page}
 use Rattle.vs_plain_rings.specs.Posting.{CanReap, returned, ring_of}
-use Rattle.vs_plain_rings.proofs.Frames.{inner, kept, length_written, written}
+use Rattle.vs_plain_ties.proofs.Frames.{inner, kept, length_written, written}
 
 -- an element's bytes hold it
 elem_back : (e : UsedElem) → e.id < 2 ^ 32 → e.len < 2 ^ 32 → used_elem_of (used_elem_bytes e) ≡ e
@@ -99,7 +99,8 @@ module _ (q : DriverQueueState) (at head len base accesses : ℕ) (bytes : List 
   to_I1 = omega (arith, to_I, l1)
 
   index_is : little_number 2 (bytes_at m3 I 2) ≡ next_index
-  index_is = ap (little_number 2) (written m2 I (little_bytes 2 next_index) from_I to_I1) ∙ little_number-little_bytes 2 next_index (omega arith)
+  index_is = ap (little_number 2) (written m2 I (little_bytes 2 next_index) from_I to_I1) ∙ little_number-little_bytes 2 next_index
+      (omega arith)
 
   elem_is : used_elem_of (bytes_at m3 U 8) ≡ e
   elem_is = ap used_elem_of (kept m2 I (little_bytes 2 next_index) U 8 from_I to_I1 from_U (inr (omega arith))

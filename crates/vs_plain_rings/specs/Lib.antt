@@ -1,4 +1,3 @@
-pub mod Parts
 pub mod View
-pub mod Contents
+pub mod Rings
 pub mod Posting

@@ -2,7 +2,7 @@
 use Rattle.std.specs.Prelude.{◌≡◌, ◌≤◌}
 use Rattle.vs_plain_driver.specs.View.{ArePagesIn}
 use Rattle.vs_plain_rings.specs.declared.parts.Parts.TheInside.{Inside}
-use Rattle.vs_plain_rings.specs.Parts.{PartsState}
+use Rattle.vs_plain_ties.specs.Parts.{PartsState}
 
 abbrev pub parts_in : Inside → PartsState
 parts_in p = record { device = p.device; rx = p.rx; tx = p.tx; event = p.event; cid = p.cid }

@@ -8,7 +8,7 @@ ghost use Rattle.vs_ring_port.specs.Contents.{Take, Read, Write, Return, Given};
 ghost use Rattle.vs_ring_plain.specs.Device.{SamePlace, with_memory, answer_to, areas_at, chains_held, with_change};
 ghost use Rattle.vs_ring_plain.specs.Take.{whole};
 ghost use Rattle.vs_plain_driver.specs.Queue.{flight_in, reaped_page};
-ghost use Rattle.vs_plain_rings.specs.Parts.{
+ghost use Rattle.vs_plain_ties.specs.Parts.{
   cleared,
   cleared_queue,
   driver_at,
@@ -42,7 +42,7 @@ pub struct Parts {
 }
 
 impl Model for Parts {
-    ghost use Rattle.vs_plain_rings.specs.Parts.{PartsState};
+    ghost use Rattle.vs_plain_ties.specs.Parts.{PartsState};
 
     ghost Value = { PartsState };
 
@@ -251,7 +251,7 @@ impl Parts {
 }
 
 // Where the pages begin that lie behind the areas, where 3n of them lie below `top`.
-fn pages_from(top: u64, end: u64, n: u16) -> Option<u64>
+pub(crate) fn pages_from(top: u64, end: u64, n: u16) -> Option<u64>
     requires { end ≤ top }
     ensures exact { let at = end + (PAGE_LEN - end % PAGE_LEN) % PAGE_LEN in
         result ≡ (if nat_le (at + 3 * (PAGE_LEN * n)) top then Some at else None) }

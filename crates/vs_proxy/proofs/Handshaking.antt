@@ -1,17 +1,28 @@
 -- What the steps of handshakes come to.
 use Rattle.std.specs.Prelude.{if◌then◌else◌, nat_lt}
 use Rattle.std.specs.Option.{option_map_or}
-use Rattle.std.proofs.Common.{◌≡◌, ℕ, ◌+◌, ◌==◌, Bool, true, false, cond, List, [], ◌∷◌, ◌++◌, length, Option, Some, None, refl, sym, ap, subst, ◌∙◌}
-use Rattle.vs_contents.specs.CallTree.{Done, Ask, bind}
+use Rattle.std.specs.List.{find}
+use Rattle.std.proofs.lemmas.Bool.{eqb-true}
+use Rattle.std.specs.Prelude.{Result}
+use Rattle.std.proofs.Common.{◌≡◌, ℕ, ◌+◌, ◌==◌, Bool, true, false, cond, List, [], ◌∷◌, ◌++◌, length, Option, Some, None, refl, sym, ap, ◌∙◌}
+use Rattle.vs_contents.specs.CallTree.{Done, Ask, bind, for_each}
 use Rattle.vs_contents.proofs.Leads.{leads_of, leads_bind}
-use Rattle.vs_contents.proofs.Conditions.{may_first, may_of}
+use Rattle.vs_contents.proofs.Conditions.{may_first, may_rest, may_of}
 use Rattle.vs_outside.specs.declared.host_net.Accepted.{Accepted}
 use Rattle.vs_outside.specs.declared.host_net.StreamRead.{StreamRead}
+use Rattle.vs_outside.specs.declared.host_net.StreamRead.TheVariants as read
+use Rattle.vs_uds.specs.ConnectLine.{connect_step}
+use Rattle.vs_uds.specs.declared.scan.Step.{Step}
+use Rattle.vs_uds.specs.declared.scan.Step.TheVariants as step
+use Rattle.vs_flow.specs.declared.table.TableFault.{TableFault}
 use Rattle.vs_device.specs.Calls.{DeviceTree, Situation, Allows, Accept, ReadStream, CloseStream}
 use Rattle.vs_device.specs.Connections.{is_late}
 use Rattle.vs_device.specs.Playing.{CanMake, MayRun, Runs}
-use Rattle.vs_proxy.specs.Handshakes.{accept_answered, accept_one, byte_read, dropping, handshake_on, read_byte, tick_handshake, with_line, without_handshake, without_stream}
-use Rattle.vs_proxy.specs.State.{Handshake, ProxyState, Turning}
+use Rattle.vs_device.specs.State.{DeviceState}
+use Rattle.vs_device.specs.Turns.{open_of}
+use Rattle.vs_proxy.specs.Handshakes.{accept_answered, accept_one, byte_read, dropping, handshake_on, line_decided, may_open, read_byte, read_line, shake_hands, streams_of, tick_handshake, with_line, without_handshake, without_stream}
+use Rattle.vs_proxy.specs.State.{Handshake, Turning, with_device}
+use Rattle.vs_proxy.specs.Turning.{closing_client, connecting, opening_client, read_lines, without_it}
 use Rattle.vs_proxy.specs.declared.limits.TheConstants.{HANDSHAKES}
 
 -- a handshake ends
@@ -57,6 +68,16 @@ accepts t u a c m place allowed is = leads_of Allows _ _ c m u (ap (accept_on t)
 pub no_place : (t : Turning) (c : Situation) → nat_lt (length t.state.handshakes) HANDSHAKES ≡ false → Runs (accept_one t) c t c
 no_place t c full = leads_of Allows _ _ c c t (ap (accept_on t) full) (refl, refl)
 
+-- without the handshake on a stream it is all the same what its line was
+pub line_lost : (stream : ℕ) (line : List ℕ) (hs : List Handshake) → without_stream stream (with_line stream line hs) ≡ without_stream stream hs
+line_lost stream line [] = refl
+line_lost stream line (h ∷ hs) = by (h.stream == stream) refl (line_lost stream line hs)
+  where
+    by : (b : Bool) → (h.stream == stream) ≡ b → without_stream stream (with_line stream line hs) ≡ without_stream stream hs
+        → without_stream stream (with_line stream line (h ∷ hs)) ≡ without_stream stream (h ∷ hs)
+    by true is rest = rw is (rw is refl)
+    by false is rest = rw is (rw is (ap (λ (xs : List Handshake). h ∷ xs) rest))
+
 -- one byte of a line
 module _ (stream : ℕ) (t : Turning) where
   pub no_handshake : (c : Situation) → handshake_on stream t.state ≡ None → Runs (read_byte stream t) c (t, false) c
@@ -76,12 +97,94 @@ module _ (stream : ℕ) (t : Turning) where
         → Runs (read_byte stream t) c x n
     answered answer bytes x c m n allowed rest = leads_of Allows _ _ c n x asks ((answer, bytes), m, allowed, rest)
 
--- without the handshake on a stream it is all the same what its line was
-pub line_lost : (stream : ℕ) (line : List ℕ) (hs : List Handshake) → without_stream stream (with_line stream line hs) ≡ without_stream stream hs
-line_lost stream line [] = refl
-line_lost stream line (h ∷ hs) = by (h.stream == stream) refl (line_lost stream line hs)
+-- what is found is on the stream
+pub is_on : (stream : ℕ) (hs : List Handshake) (h : Handshake) → find (λ x. x.stream == stream) hs ≡ Some h → h.stream ≡ stream
+is_on stream [] h found = absurd cc
+is_on stream (x ∷ xs) h found = by (x.stream == stream) refl found (is_on stream xs h)
   where
-    by : (b : Bool) → (h.stream == stream) ≡ b → without_stream stream (with_line stream line hs) ≡ without_stream stream hs
-        → without_stream stream (with_line stream line (h ∷ hs)) ≡ without_stream stream (h ∷ hs)
-    by true is rest = rw is (rw is refl)
-    by false is rest = rw is (rw is (ap (λ (xs : List Handshake). h ∷ xs) rest))
+    by : (b : Bool) → (x.stream == stream) ≡ b → cond b (Some x) (find (λ y. y.stream == stream) xs) ≡ Some h → (find (λ y. y.stream == stream) xs ≡ Some h → h.stream ≡ stream) → h.stream ≡ stream
+    by true is this rest = let one : x ≡ h = cc in ap (λ (y : Handshake). y.stream) (sym one) ∙ eqb-true x.stream stream is
+    by false is this rest = rest this
+
+-- a line that got its next byte
+module _ (byte : ℕ) (t : Turning) (h : Handshake) where
+  abbrev pub line_of : List ℕ
+  line_of = h.line ++ byte ∷ []
+
+  -- with more to come, and without the handshake
+  abbrev pub with_byte : Turning
+  with_byte = record t { state = record t.state { handshakes = with_line h.stream line_of t.state.handshakes }; read = t.read + 1 }
+
+  abbrev pub without_client : Turning
+  without_client = record t { state = without_handshake h.stream t.state; read = t.read + 1 }
+
+  lost : without_it h.stream with_byte ≡ without_client
+  lost = ap (λ (hs : List Handshake). record t { state = record t.state { handshakes = hs }; read = t.read + 1 }) (line_lost h.stream line_of t.state.handshakes)
+
+  reads_as : (answer : Step) → connect_step line_of ≡ answer → byte_read h (read.Got 1) (byte ∷ []) t ≡ line_decided h.stream answer with_byte
+  reads_as answer is = ap (λ (x : Step). line_decided h.stream x with_byte) is
+
+  pub goes_on : (u : Turning) (c : Situation) → connect_step line_of ≡ step.More → u ≡ with_byte → Runs (byte_read h (read.Got 1) (byte ∷ []) t) c (u, true) c
+  goes_on u c is end = leads_of Allows _ _ c c (u, true) (reads_as step.More is) (ap (λ (x : Turning). let r : Turning × Bool = (x, true) in r) (sym end), refl)
+
+  abbrev ended : Turning → DeviceTree (Turning × Bool)
+  ended u = Done (u, false)
+
+  closes_as : connect_step line_of ≡ step.Bad → byte_read h (read.Got 1) (byte ∷ []) t ≡ bind (closing_client h.stream without_client) ended
+  closes_as is = reads_as step.Bad is ∙ ap (λ (x : Turning). bind (closing_client h.stream x) ended) lost
+
+  connects_as : (port : ℕ) → connect_step line_of ≡ step.Port port → byte_read h (read.Got 1) (byte ∷ []) t ≡ bind (connecting h.stream port without_client) ended
+  connects_as port is = reads_as (step.Port port) is ∙ ap (λ (x : Turning). bind (connecting h.stream port x) ended) lost
+
+  pub may_close : (c : Situation) → connect_step line_of ≡ step.Bad → MayRun (byte_read h (read.Got 1) (byte ∷ []) t) c → CanMake (CloseStream h.stream) c
+  may_close c is may = (may_of CanMake Allows _ _ c (closes_as is) may).0
+
+  pub was_closed : (u : Turning) (c m : Situation) → connect_step line_of ≡ step.Bad → Allows (CloseStream h.stream) tt c m → u ≡ record without_client { hands = t.hands + 1 }
+      → Runs (byte_read h (read.Got 1) (byte ∷ []) t) c (u, false) m
+  was_closed u c m is allowed end =
+      leads_of Allows _ _ c m (u, false) (closes_as is) (tt, m, allowed, (ap (λ (x : Turning). let r : Turning × Bool = (x, false) in r) (sym end), refl))
+
+  pub may_connect : (port : ℕ) (c : Situation) → connect_step line_of ≡ step.Port port → MayRun (byte_read h (read.Got 1) (byte ∷ []) t) c → MayRun (connecting h.stream port without_client) c
+  may_connect port c is may = may_first CanMake Allows (connecting h.stream port without_client) ended c (may_of CanMake Allows _ _ c (connects_as port is) may)
+
+  pub was_connected : (port : ℕ) (u : Turning) (c m : Situation) → connect_step line_of ≡ step.Port port → Runs (connecting h.stream port without_client) c u m
+      → Runs (byte_read h (read.Got 1) (byte ∷ []) t) c (u, false) m
+  was_connected port u c m is runs =
+      leads_of Allows _ _ c m (u, false) (connects_as port is) (leads_bind Allows (connecting h.stream port without_client) ended c m m u (u, false) runs (refl, refl))
+
+-- a client whose handshake is over
+module _ (stream port : ℕ) (t : Turning) where
+  abbrev connect_on : Bool → DeviceTree Turning
+  connect_on b = if b then opening_client stream port t else closing_client stream t
+
+  pub may_turn_away : (c : Situation) → may_open t.state ≡ false → MayRun (connecting stream port t) c → CanMake (CloseStream stream) c
+  may_turn_away c test may = (may_of CanMake Allows _ _ c (ap connect_on test) may).0
+
+  pub turned_away : (u : Turning) (c m : Situation) → may_open t.state ≡ false → Allows (CloseStream stream) tt c m → u ≡ record t { hands = t.hands + 1 } → Runs (connecting stream port t) c u m
+  turned_away u c m test allowed end = leads_of Allows _ _ c m u (ap connect_on test) (tt, m, allowed, (sym end, refl))
+
+  abbrev opened_by : DeviceState × Result ℕ TableFault → Turning
+  opened_by r = record t { state = record (with_device r.0 t.state) { next_port = t.state.next_port + 1 } }
+
+  abbrev opens : DeviceTree (DeviceState × Result ℕ TableFault)
+  opens = open_of (record { guest = port; host = t.state.next_port }) stream t.state.device
+
+  pub may_let_in : (c : Situation) → may_open t.state ≡ true → MayRun (connecting stream port t) c → MayRun opens c
+  may_let_in c test may = may_first CanMake Allows opens (λ r. Done (opened_by r)) c (may_of CanMake Allows _ _ c (ap connect_on test) may)
+
+  pub let_in : (r : DeviceState × Result ℕ TableFault) (u : Turning) (c m : Situation) → may_open t.state ≡ true → Runs opens c r m → u ≡ opened_by r → Runs (connecting stream port t) c u m
+  let_in r u c m test runs end =
+      leads_of Allows _ _ c m u (ap connect_on test) (leads_bind Allows opens (λ x. Done (opened_by x)) c m m r u runs (sym end, refl))
+
+-- all handshakes
+abbrev lines_read : Turning → DeviceTree Turning
+lines_read u = for_each read_line (streams_of u.state) u
+
+pub may_accept : (t : Turning) (c : Situation) → MayRun (shake_hands t) c → MayRun (accept_one t) c
+may_accept t c may = may_first CanMake Allows (accept_one t) lines_read c may
+
+pub may_lines : (t u : Turning) (c m : Situation) → MayRun (shake_hands t) c → Runs (accept_one t) c u m → MayRun (read_lines u) m
+may_lines t u c m may runs = may_rest CanMake Allows (accept_one t) lines_read c m u may runs
+
+pub shook : (t u v : Turning) (c m n : Situation) → Runs (accept_one t) c u m → Runs (read_lines u) m v n → Runs (shake_hands t) c v n
+shook t u v c m n first rest = leads_bind Allows (accept_one t) lines_read c m n u v first rest

@@ -1,2 +1,8 @@
 mod Waiting
 mod Handshaking
+mod Counting
+mod Taking
+mod Filling
+mod Staging
+mod Resetting
+mod WholeTurn

@@ -1,5 +1,5 @@
 -- Handshakes: a client of the host writes `CONNECT PORT` (Firecracker's vsock documentation).
-use Rattle.std.specs.Prelude.{ℕ, ◌+◌, ◌==◌, ◌&&◌, not, nat_lt, nat_le, Bool, true, false, if◌then◌else◌, List, [], ◌∷◌, ◌++◌, length, map, filter, find, Option, Some, None}
+use Rattle.std.specs.Prelude.{ℕ, ◌+◌, ◌==◌, ◌&&◌, nat_lt, nat_le, Bool, true, false, if◌then◌else◌, List, [], ◌∷◌, ◌++◌, length, map, find, Option, Some, None}
 use Rattle.vs_contents.specs.CallTree.{Done, Ask, bind, for_each, while_up_to}
 use Rattle.vs_flow.specs.Table.{has_place}
 use Rattle.vs_flow.specs.declared.flow.TheConstants.{ASSIGNED_LAST}

@@ -1,5 +1,5 @@
 -- What the proxy holds: the device, and the handshakes of clients that didn't write their line yet.
-use Rattle.std.specs.Prelude.{ℕ, List, Option}
+use Rattle.std.specs.Prelude.{ℕ, List}
 use Rattle.vs_device.specs.State.{DeviceState}
 
 -- A client's stream, the moment at which it was accepted, and the bytes that were read of its CONNECT line.

@@ -1,5 +1,5 @@
 -- The proxy's turn: its stages in order.
-use Rattle.std.specs.Prelude.{ℕ, ◌+◌, ◌-◌, Bool, true, false, List, [], Option, Some, None, Result, Ok, Err}
+use Rattle.std.specs.Prelude.{ℕ, ◌+◌, ◌-◌, Bool, true, false, List, [], Some, None, Result, Ok, Err}
 use Rattle.vs_contents.specs.CallTree.{Done, Ask, bind, for_each, while_up_to}
 use Rattle.vs_flow.specs.declared.flow.TheConstants.{ASSIGNED_FIRST}
 use Rattle.vs_ring_port.specs.declared.failure.Failure.{Failure}
@@ -16,7 +16,6 @@ use Rattle.vs_proxy.specs.State.{ProxyState, Turning, start, with_device}
 use Rattle.vs_proxy.specs.Handshakes.{streams_of, tick_handshakes, shake_hands}
 use Rattle.vs_proxy.specs.declared.answers.Turn.{Turn}
 use Rattle.vs_proxy.specs.declared.answers.Turn.TheVariants as turn
-use Rattle.vs_proxy.specs.declared.answers.Turned.{Turned}
 
 abbrev pub new_proxy : ℕ → List ℕ → ProxyState
 new_proxy cid base = record { device = new_device cid base; handshakes = []; next_port = ASSIGNED_FIRST }

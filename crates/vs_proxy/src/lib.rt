@@ -6,9 +6,14 @@ mod handshake;
 mod handshakes;
 mod host_calls;
 pub mod limits;
+mod lines;
 mod proxy;
 mod shaking;
+mod stages;
 mod tally;
+#[cfg(test)]
+mod tests;
+mod turns;
 
 pub use answers::{Turn, Turned};
 pub use proxy::Proxy;

@@ -1,25 +1,19 @@
-//! Handshakes: clients of the host are accepted, and their lines `CONNECT PORT` are read (Firecracker's vsock documentation).
+//! Handshakes: clients of the host are accepted, and those that wait too long end (Firecracker's vsock documentation).
 
 ghost use Rattle.std.specs.Prelude.{◌≡◌, ◌≤◌, ◌<◌, ◌+◌, ◌^◌, Some, false};
-ghost use Rattle.std.specs.Option.{ForSome, option_map_or};
-ghost use Rattle.vs_contents.specs.CallTree.{for_each, while_up_to};
-ghost use Rattle.vs_outside.specs.Host.{IsOpen};
-ghost use Rattle.vs_uds.specs.declared.connect.TheConstants.{CONNECT_MAX};
+ghost use Rattle.std.specs.Option.{option_map_or};
 ghost use Rattle.vs_device.specs.Playing.{MayRunOnHost, RunsOnHost};
 ghost use Rattle.vs_device.specs.Connections.{is_late};
 ghost use Rattle.vs_proxy.specs.declared.limits.TheConstants.{HANDSHAKES};
-ghost use Rattle.vs_proxy.specs.Handshakes.{accept_one, dropping, handshake_on, read_byte, read_line, shake_hands, tick_handshake, tick_handshakes};
-ghost use Rattle.vs_proxy.specs.State.{Turning};
-ghost use Rattle.vs_proxy.specs.Turning.{port_decided, turning_of, without_it};
+ghost use Rattle.vs_proxy.specs.Handshakes.{accept_one, dropping, handshake_on, tick_handshake, tick_handshakes};
+ghost use Rattle.vs_proxy.specs.Turning.{CountsFew, turning_of};
 
-use crate::host_calls::{accept, close, read_byte};
+use crate::host_calls::{accept, close};
 use crate::limits::HANDSHAKES;
 use crate::proxy::Proxy;
 use crate::tally::Tally;
 use vs_device::TIMEOUT;
-use vs_flow::{ASSIGNED_LAST, Flow};
-use vs_outside::{Accepted, HostNet, StreamRead};
-use vs_uds::{CONNECT_MAX, Step};
+use vs_outside::{Accepted, HostNet};
 
 impl Proxy {
     /// Ends the handshakes that wait too long for their lines, in the order in which they were accepted.
@@ -27,6 +21,8 @@ impl Proxy {
         requires few { tally.old.hands ≡ 0 }
         requires may { MayRunOnHost (tick_handshakes (turning_of self.old tally.old)) (H.contents host.old) (H.faults host.old) }
         ensures few { tally.new.hands ≤ HANDSHAKES }
+        ensures others { tally.new ≡ record tally.old { hands = tally.new.hands } }
+        ensures same { CountsFew 0 0 self.old.device self.new.device }
         ensures chain { self.new.device.chain ≡ self.old.device.chain }
         ensures calls { RunsOnHost (tick_handshakes (turning_of self.old tally.old)) (H.contents host.old) (H.faults host.old) (turning_of self.new tally.new) (H.contents host.new) (H.faults host.new) }
     {
@@ -41,6 +37,8 @@ impl Proxy {
         requires few { tally.old.hands < 2 ^ 16 }
         requires may { MayRunOnHost (tick_handshake stream (turning_of self.old tally.old)) (H.contents host.old) (H.faults host.old) }
         ensures count { tally.new.hands ≤ tally.old.hands + 1 }
+        ensures others { tally.new ≡ record tally.old { hands = tally.new.hands } }
+        ensures same { CountsFew 0 0 self.old.device self.new.device }
         ensures chain { self.new.device.chain ≡ self.old.device.chain }
         ensures calls { RunsOnHost (tick_handshake stream (turning_of self.old tally.old)) (H.contents host.old) (H.faults host.old) (turning_of self.new tally.new) (H.contents host.new) (H.faults host.new) }
     {
@@ -60,11 +58,17 @@ impl Proxy {
     }
 
     // Ends the handshake on a stream without a connection: the stream is closed.
-    fn drop_handshake<H: HostNet>(&mut self, host: &mut H, stream: u64, tally: &mut Tally)
+    pub(crate) fn drop_handshake<H: HostNet>(
+        &mut self,
+        host: &mut H,
+        stream: u64,
+        tally: &mut Tally,
+    )
         requires few { tally.old.hands < 2 ^ 20 }
         requires may { MayRunOnHost (dropping stream (turning_of self.old tally.old)) (H.contents host.old) (H.faults host.old) }
         ensures count { tally.new.hands ≤ tally.old.hands + 1 }
-        ensures read { tally.new.read ≡ tally.old.read }
+        ensures others { tally.new ≡ record tally.old { hands = tally.new.hands } }
+        ensures same { CountsFew 0 0 self.old.device self.new.device }
         ensures chain { self.new.device.chain ≡ self.old.device.chain }
         ensures calls { RunsOnHost (dropping stream (turning_of self.old tally.old)) (H.contents host.old) (H.faults host.old) (turning_of self.new tally.new) (H.contents host.new) (H.faults host.new) }
     {
@@ -74,10 +78,11 @@ impl Proxy {
     }
 
     // Accepts the client that waits longest, where a place is free.
-    fn accept_one<H: HostNet>(&mut self, host: &mut H, tally: &mut Tally)
+    pub(crate) fn accept_one<H: HostNet>(&mut self, host: &mut H, tally: &mut Tally)
         requires few { tally.old.hands < 2 ^ 16 }
         ensures count { tally.new.hands ≤ tally.old.hands + 1 }
-        ensures read { tally.new.read ≡ tally.old.read }
+        ensures others { tally.new ≡ record tally.old { hands = tally.new.hands } }
+        ensures same { CountsFew 0 0 self.old.device self.new.device }
         ensures chain { self.new.device.chain ≡ self.old.device.chain }
         ensures calls { RunsOnHost (accept_one (turning_of self.old tally.old)) (H.contents host.old) (H.faults host.old) (turning_of self.new tally.new) (H.contents host.new) (H.faults host.new) }
     {

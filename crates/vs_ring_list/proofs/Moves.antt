@@ -1,12 +1,12 @@
 -- Each call over the parts of list rings: they stay in order, and the call is one that each end's contract allows.
-use Rattle.std.proofs.Common.{◌≡◌, ℕ, ◌≤◌, List, ◌∷◌, length, take, Option, Some, Contains, refl, sym, ap, ◌∙◌, subst}
+use Rattle.std.proofs.Common.{◌≡◌, ℕ, ◌≤◌, List, ◌∷◌, length, take, Option, Some, None, Contains, refl, sym, ap, ◌∙◌, subst}
 use Rattle.std.specs.Option.{ForSome}
 use Rattle.vs_page.specs.Fair.{IsFairLog}
 use Rattle.vs_page.specs.Log.{Role, Driver, Device}
 use Rattle.vs_page.specs.Overwriting.{overwritten}
 use Rattle.vs_ring_port.specs.Chains.{Held, bytes_in, chains_of, with_bytes, without_held}
 use Rattle.vs_ring_port.specs.Contents.{Take, Return}
-use Rattle.vs_ring_port.specs.DeviceCalls.{CanReturn, DeviceAllows}
+use Rattle.vs_ring_port.specs.DeviceCalls.{CanReturn, DeviceAllows, IsTakenAs}
 use Rattle.vs_ring_port.specs.DriverCalls.{Publish, Reap, LoadCid, CanPublish, DriverAllows}
 use Rattle.vs_ring_port.specs.EndLog.{EndLog, pages_at, entries_marked, entries_published, entries_reaped, entries_taken, entries_returned}
 use Rattle.vs_ring_port.specs.Lists.{next_at, next_back, next_given, queue_of}
@@ -26,6 +26,10 @@ use Rattle.vs_ring_list.proofs.Views.{order-changed, published_in, reaped_in, re
 
 sound_log : (role : Role) (log : EndLog) → IsFairLog role log.entries → ForSome (Some log) (λ l. IsFairLog role l.entries)
 sound_log role log fair l e = let same : log ≡ l = cc in subst (λ (k : EndLog). IsFairLog role k.entries) same fair
+
+taken_as : (queue : Queue) (place : ℕ) (page : Option (List ℕ)) → IsTakenAs queue (next_at queue place page) page
+taken_as queue place None = refl
+taken_as queue place (Some page) = (refl, refl)
 
 module _ (r : Inside) (order : IsInOrder r) where
   -- those staged are published
@@ -134,7 +138,7 @@ module _ (r : Inside) (order : IsInOrder r) where
         next_given queue w.lists,
         record {
           lists = ((refl, refl), refl);
-          log = (tt, refl);
+          log = (taken_as queue (queue_of queue w.lists).place (next_given queue w.lists), refl);
           other = refl;
           plain = refl;
           honest = refl;

@@ -1,5 +1,5 @@
 -- The answers that a device's calls on its ring may get.
-use Rattle.std.specs.Prelude.{◌≡◌, ◌≤◌, ℕ, ◌+◌, true, List, length, take, drop, Option}
+use Rattle.std.specs.Prelude.{◌≡◌, ◌≤◌, ℕ, ◌+◌, true, List, length, take, drop, Option, Some, None}
 use Rattle.std.specs.Option.{ForSome}
 use Rattle.vs_contents.specs.Contents.{Exposes}
 use Rattle.vs_page.specs.Fair.{IsFairLog}
@@ -7,9 +7,11 @@ use Rattle.vs_page.specs.Log.{Device}
 use Rattle.vs_ring_port.specs.declared.queue.Queue.{Queue}
 use Rattle.vs_ring_port.specs.declared.queue.Queue.TheVariants.{Rx, Tx, Event}
 use Rattle.vs_ring_port.specs.declared.device_ring.Chain.{Chain}
+use Rattle.vs_ring_port.specs.declared.device_ring.Next.{Next}
+use Rattle.vs_ring_port.specs.declared.device_ring.Next.TheVariants as next
 use Rattle.vs_ring_port.specs.Chains.{bytes_in, held_of}
 use Rattle.vs_ring_port.specs.EndLog.{EndLog, log_taken, log_written, log_returned, log_reset, entries_returned}
-use Rattle.vs_ring_port.specs.Lists.{Rings, queue_of, next_given, next_at, after_take, after_return}
+use Rattle.vs_ring_port.specs.Lists.{Rings, queue_of, next_given, next_at, to_read, after_take, after_return}
 use Rattle.vs_ring_port.specs.Contents.{RingContents, IsSound, DeviceCall, Take, Read, Write, Return, Given, PublishCid, DeviceAnswer, plain_answer, plain_after}
 use Rattle.vs_ring_port.specs.DriverCalls.{HoldsPacket}
 
@@ -25,12 +27,18 @@ pub record DeviceMoves (call : DeviceCall) (answer : DeviceAnswer call) (P : Rin
   pub honest : new.honest ≡ old.honest
   pub fair : IsSound Device new
 
+-- A page stands where a chain was taken, and there alone: the chain is of the queue that was asked, and has the page's bytes to read.
+abbrev pub IsTakenAs : Queue → Next → Option (List ℕ) → Type 0
+IsTakenAs queue (next.Chain chain) (Some page) = (chain.queue ≡ queue) × (chain.readable ≡ length (to_read queue page))
+IsTakenAs queue (next.Chain chain) None = ⊥
+IsTakenAs queue _ page = page ≡ None
+
 -- The answer that a call may get, what was exposed before it, and what is after it. The page taken, the bytes returned and the number of
 -- chains held are the same for the lists and for the log.
 abbrev pub DeviceAllows : (call : DeviceCall) → DeviceAnswer call → RingContents → RingContents → Type 0
 DeviceAllows (Take queue) next old new =
     (page : Option (List ℕ)) × DeviceMoves (Take queue) next (λ w. (page ≡ next_given queue w) × (next ≡ next_at queue (queue_of queue w).place page))
-    (after_take queue) (λ l. Unit {0}) (log_taken queue next page) old new
+    (after_take queue) (λ l. IsTakenAs queue next page) (log_taken queue next page) old new
 DeviceAllows (Read chain place count) bytes old new =
     DeviceMoves (Read chain place count) bytes (λ w. Unit {0}) (λ w. w) (λ l. bytes ≡ take count (drop place (bytes_in chain l.held))) (λ l. l) old new
 DeviceAllows (Write chain place bytes) a old new =

@@ -19,7 +19,7 @@ use Rattle.vs_ring_rule.specs.declared.view.View.{View}
 use Rattle.vs_ring_rule.specs.OneQueue.{Page, HasHeader, given, offered, taken, descriptor, times}
 use Rattle.vs_ring_rule.specs.Steps.{stored, lifted, laid, staged_one, gave_staged, looked, took}
 use Rattle.vs_ring_rule.specs.Rule.{Table, Seated, homes_in, with_homes_in, all_slots, queue_in, with_queue_in, flags_of}
-use Rattle.vs_ring_rule.specs.Rule.{all_words, Rule}
+use Rattle.vs_ring_rule.specs.Rule.{all_words, passed_in, Rule}
 use Rattle.vs_ring_rule.specs.Moves.{after_stage, after_lift, after_lay, after_look, driver_gave, driver_took, driver_loaded}
 use Rattle.vs_ring_rule.specs.Tells.{Stores, Loads, driver_base, device_base, slots_base, at_driver, at_device, at_cid, driver_describes}
 use Rattle.vs_ring_rule.specs.Tells.{driver_enters}
@@ -27,7 +27,7 @@ use Rattle.vs_ring_rule.specs.Tells.{driver_gives, driver_looks, driver_takes, d
 use Rattle.vs_ring_rule.proofs.Cores as core
 use Rattle.vs_ring_rule.proofs.Pairs as pair
 use Rattle.vs_ring_rule.proofs.Places as place
-use Rattle.vs_ring_rule.proofs.Olders.{before_logged, before_moved, before_still, front_more, front_self, older_published, older_reaped, older_marked, driver_has}
+use Rattle.vs_ring_rule.proofs.Olders.{before_loaded, before_moved, front_length, heard_put, older_self, before_still, front_more, front_self, older_published, older_reaped, older_marked, driver_has}
 use Rattle.vs_ring_rule.proofs.Seats.{sized, DriverSits, driver_sits, driver_moved}
 use Rattle.vs_ring_rule.proofs.Carried.{carried_page, carried_empty}
 use Rattle.vs_ring_rule.proofs.Told.{driver_told, device_told, cid_told}
@@ -86,7 +86,7 @@ describes n id queue me k x mine has in_it t law wide at _ =
           (with_homes_in queue (set (homes_in queue p.slots) k none) p.slots) p
           (length-set t.homes (slots_base n queue + k) none ∙ wide) mine
           (store_is n id v t p queue k x (lifted k (stored k x q)) v.log refl (omega (arith, slot.0)))
-          (change_is n id v t p queue k none slot.0) p.stands (before_still queue (lifted k (stored k x q)) v refl refl) p.driver_heard
+          (change_is n id v t p queue k none slot.0) p.stands (before_still queue (lifted k (stored k x q)) v refl refl (omega arith)) p.driver_heard p.loaded
           (pair.driver_describes n p.slots v p.device p.pair queue k x has in_it),
       driver_told (driver_describes queue) queue n k x me x (w, (slots_base n queue + k, None) ∷ me.1) refl,
     )
@@ -117,7 +117,7 @@ enters n id queue me k page more mine has held out word long free t law wide at 
           (length-set t.homes j (some (Some page)) ∙ wide)
           mine (store_is n id v t p queue g k (staged_one g k k page q) v.log refl (omega arith))
           (change_is n id v t p queue k (some (Some page)) slot.0) p.stands
-          (before_still queue (staged_one g k k page q) v refl refl) p.driver_heard
+          (before_still queue (staged_one g k k page q) v refl refl (omega arith)) p.driver_heard p.loaded
           (pair.driver_stages n p.slots v p.device p.pair queue k page held out word long free),
       driver_told (driver_enters queue) queue n g k (v, (j, Some page) ∷ more) k (w, more)
           (λ k' page' more' e. carried_page (slots_base n queue) k k' more more' page page'
@@ -139,8 +139,8 @@ publishes n id queue me x mine index fair t law wide at _ =
       tt,
       driver_moved n id v w t (set t.words i x) t.homes p.slots p wide mine
           (store_is n id v t p queue (2 * n) x (gave_staged (2 * n) x q) w.log refl (omega arith)) p.homes p.stands
-          (before_moved queue (gave_staged (2 * n) x q) w.log v (front_more q.put q.staged) (front_self q.got)
-          (older_published queue q.staged v.log)) p.driver_heard
+          (before_moved queue (gave_staged (2 * n) x q) w.log v (front_more q.put q.staged) (front_self q.got) (omega arith)
+          (older_published queue q.staged v.log)) p.driver_heard p.loaded
           (pair.driver_gives n p.slots v p.device p.pair queue x index fair),
       driver_told (driver_gives queue) queue n (2 * n) x me x (w, me.1) refl,
     )
@@ -164,7 +164,7 @@ counts n id queue me mine t law wide at _ =
       tt,
       driver_moved n id v w t (set t.words i r) t.homes p.slots p wide mine
           (load_is n id v t p queue i (looked g q) v.log refl) p.homes p.stands
-          (before_still queue (looked g q) v refl refl) p.driver_heard (pair.driver_looks n p.slots v p.device p.pair queue),
+          (before_still queue (looked g q) v refl refl c.backward.not_more) p.driver_heard p.loaded (pair.driver_looks n p.slots v p.device p.pair queue),
       device_told (driver_looks queue) queue n n 0 me r (w, me.1) (
         g,
         word,
@@ -172,6 +172,7 @@ counts n id queue me mine t law wide at _ =
         omega (arith, c.backward.not_less, c.backward.not_more),
         omega (arith, c.room, c.behind, c.forward.not_less, c.forward.not_more),
         omega (arith, c.behind, c.forward.not_less, c.forward.not_more),
+        front_length (passed_in queue v.heard).put e.put (heard_put queue v.heard p.device p.driver_heard),
         λ all. driver_has v p.device p.pair.driver_says p.pair.device_says c.backward.pages queue c.backward.all_is all p.driver_heard,
         refl,
       ),
@@ -200,8 +201,8 @@ reaps n id queue me mine known in_it t law wide at _ =
       driver_moved n id v w t (set t.words i r) (set t.homes j none) (with_homes_in queue (set (homes_in queue p.slots) k none) p.slots) p
           (length-set t.homes j none ∙ wide) mine (load_is n id v t p queue i (took k page q) w.log refl)
           (change_is n id v t p queue k none x.2.near) p.stands
-          (before_moved queue (took k page q) w.log v (front_self q.put) (front_more q.got (page ∷ [])) (older_reaped queue page v.log))
-          p.driver_heard x.2.pair,
+          (before_moved queue (took k page q) w.log v (front_self q.put) (front_more q.got (page ∷ [])) (omega arith) (older_reaped queue page v.log))
+          p.driver_heard p.loaded x.2.pair,
       device_told (driver_takes queue) queue n g 0 me r (w, (j, Some page) ∷ me.1) (
         k,
         page,
@@ -233,8 +234,8 @@ driver_empties n id queue me k more mine has held out t law wide at _ =
       driver_moved n id v w t (set t.words 0 r) (set t.homes j (some None))
           (with_homes_in queue (set (homes_in queue p.slots) k (some None)) p.slots) p (length-set t.homes j (some None) ∙ wide) mine
           (load_is n id v t p queue 0 (laid q) v.log refl) (change_is n id v t p queue k (some None) slot.0) p.stands
-          (before_still queue (laid q) v refl refl)
-          p.driver_heard (pair.driver_lays n p.slots v p.device p.pair queue k held out),
+          (before_still queue (laid q) v refl refl (omega arith))
+          p.driver_heard p.loaded (pair.driver_lays n p.slots v p.device p.pair queue k held out),
       cid_told (lays queue) n 0 (v, (j, None) ∷ more) r (w, more)
           (λ k' more' e. carried_empty (slots_base n queue) k k' more more' (λ more. (w, more)) e),
     )
@@ -245,12 +246,15 @@ pub loads : (n id : ℕ) (me : Seated) → me.0.owner ≡ Driver
 loads n id me mine t law wide at _ =
     let v = me.0 in
     let p = driver_sits n id v t law at mine in
+    let l = p.device.log in
     let r = get_or t.words 0 0 in
-    let w = driver_loaded r v in (
+    let w = driver_loaded r l v in (
       w,
       keeps,
       tt,
       driver_moved n id v w t (set t.words 0 r) t.homes p.slots p wide mine (set-get_or t.words 0 0 ∙ p.words) p.homes p.stands
-          (before_logged v w.log (older_marked r v.log)) p.driver_heard (pair.driver_loads n p.slots v p.device p.pair r),
-      cid_told driver_loads n 0 me r (w, me.1) refl,
+          (before_loaded v w.log l (older_marked r v.log) p.loaded) p.driver_heard (older_self l)
+          (pair.driver_loads n p.slots v p.device p.pair r l),
+      cid_told driver_loads n 0 me r (w, me.1)
+          (l, p.driver_heard.log, ap (λ (ws : List ℕ). get_or ws 0 0) p.words, refl),
     )

@@ -21,7 +21,7 @@ use Rattle.vs_ring_rule.specs.Rule.{Seated, Slots, homes_in, queue_in, flags_of,
 use Rattle.vs_ring_rule.specs.declared.view.Past.{Past}
 use Rattle.vs_ring_rule.specs.Meets.{nobody_view, copy_owner, copy_of, told, joined, knows, ties, TookFirst, GaveFirst}
 use Rattle.vs_ring_rule.specs.Tells.{Loads, at_cid}
-use Rattle.vs_ring_rule.proofs.Olders.{before_self, front_on}
+use Rattle.vs_ring_rule.proofs.Olders.{before_self, front_on, heard_seen, older_on}
 use Rattle.vs_ring_rule.proofs.Ways.{front}
 use Rattle.vs_ring_rule.proofs.Pairs.{device_has_got, driver_has_got}
 use Rattle.vs_ring_rule.proofs.Seats.{set_first, set_second, driver_sits, device_sits, driver_moved, device_moved, not_end, copy_there}
@@ -58,6 +58,7 @@ copies_driver n id v mine t law at =
         pair = p.pair;
         driver_heard = p.driver_heard;
         device_heard = p.device_heard;
+        loaded = p.loaded;
         copies = copies_snoc p.others (copy_of v) v p.device p.copies
             (subst (λ (r : Owner). IsCopy r (past_of v) v p.device) (sym is) (before_self (past_of v)));
       }),
@@ -83,6 +84,7 @@ copies_device n id v mine t law at =
         pair = p.pair;
         driver_heard = p.driver_heard;
         device_heard = p.device_heard;
+        loaded = p.loaded;
         copies = copies_snoc p.others (copy_of v) p.driver v p.copies
             (subst (λ (r : Owner). IsCopy r (past_of v) p.driver v) (sym is) (before_self (past_of v)));
       }),
@@ -188,6 +190,7 @@ told_driver n id v other w mine still_open is t law at apart there =
         driver_heard = subst (λ (l : Past). IsBefore l (past_of p.device)) (sym heard)
             (subst (λ (r : Owner). IsCopy r w.heard v p.device) is b.copy);
         device_heard = p.device_heard;
+        loaded = p.loaded;
         copies = copies_set p.others b.index nobody_view both p.device
             (copies_stay p.others v both p.device p.device (before_self (past_of v)) (before_self (past_of p.device)) p.copies) tt;
       }),
@@ -222,6 +225,7 @@ told_device n id v other w mine still_open is t law at apart there =
         pair = device_hears n p.slots d v both.heard v.whole p.pair;
         driver_heard = p.driver_heard;
         device_heard = subst (λ (l : Past). IsBefore l (past_of d)) (sym heard) (subst (λ (r : Owner). IsCopy r w.heard d v) is b.copy);
+        loaded = p.loaded;
         copies = copies_set p.others b.index nobody_view d both
             (copies_stay p.others d d v both (before_self (past_of d)) (before_self (past_of v)) p.copies) tt;
       }),
@@ -264,6 +268,7 @@ joins n id v other w mine is t law at apart there =
         pair = driver_hears n p.slots v p.device (past_of w) true p.pair;
         driver_heard = subst (λ (l : Past). IsBefore l (past_of p.device)) (sym past) (before_self (past_of p.device));
         device_heard = p.device_heard;
+        loaded = p.loaded;
         copies = copies_stay p.others v both p.device p.device (before_self (past_of v)) (before_self (past_of p.device)) p.copies;
       }),
     )
@@ -339,12 +344,14 @@ knows_driver n id me mine t law wide at _ =
       keeps,
       tt,
       driver_moved n id v v t (set t.words 0 r) t.homes p.slots p wide mine (set-get_or t.words 0 0 ∙ p.words) p.homes p.stands
-          (before_self (past_of v)) p.driver_heard p.pair,
+          (before_self (past_of v)) p.driver_heard p.loaded p.pair,
       cid_told (knows log.Driver) n 0 me r me (
         refl,
         p.pair.driver_fair,
         got_before v.heard.log p.device.log v.log p.driver_heard.log (device_has_got n p.slots v p.device p.pair),
         driver_first n p.slots v p.device p.pair v.heard p.driver_heard,
+        λ queue. omega (arith, heard_seen queue v.heard p.device p.driver_heard, (p.pair.core queue).forward.not_more),
+        tt,
       ),
     )
 
@@ -364,6 +371,8 @@ knows_device n id me mine t law wide at _ =
         p.pair.device_fair,
         got_before v.heard.log p.driver.log v.log p.device_heard.log (driver_has_got n p.slots p.driver v p.pair),
         device_first n p.slots p.driver v p.pair v.heard p.device_heard,
+        λ queue. omega (arith, heard_seen queue v.heard p.driver p.device_heard, (p.pair.core queue).backward.not_more),
+        older_on v.heard.loaded p.driver.loaded v.log p.device_heard.loaded p.loaded,
       ),
     )
 
@@ -383,7 +392,7 @@ ties_driver n id me mine all t law wide at _ =
       keeps,
       tt,
       driver_moved n id v v t (set t.words 0 r) t.homes p.slots p wide mine (set-get_or t.words 0 0 ∙ p.words) p.homes p.stands
-          (before_self (past_of v)) p.driver_heard p.pair,
+          (before_self (past_of v)) p.driver_heard p.loaded p.pair,
       cid_told ties n 0 me r me (
         refl,
         p.pair.driver_fair,

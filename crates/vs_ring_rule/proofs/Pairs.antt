@@ -18,6 +18,7 @@ use Rattle.vs_ring_rule.specs.Steps.{stored, lifted, laid, gave, staged_one, gav
 use Rattle.vs_ring_rule.specs.Rule.{Slots, homes_in, with_homes_in, queue_in, with_queue_in, flags_of, Pair}
 use Rattle.vs_ring_rule.specs.Moves.{after_stage, after_lift, after_lay, after_look, after_entry, driver_gave, device_gave, driver_took}
 use Rattle.vs_ring_rule.specs.Moves.{device_took, device_reset, driver_loaded}
+use Rattle.vs_ring_rule.specs.Says.{IsDriverLog}
 use Rattle.vs_ring_rule.proofs.Cores as core
 use Rattle.vs_ring_rule.proofs.Says as says
 use Rattle.vs_ring_rule.proofs.Ways.{front}
@@ -68,11 +69,15 @@ device_cores n slots driver device Event h x l was is Tx = was Tx
 device_cores n slots driver device Event h x l was is Event = is
 
 -- a log's change alone leaves all three
-loaded_cores : (n : ℕ) (slots : Slots) (driver device : View) (l : Log) → Cores n slots driver device
-    → Cores n slots (record driver { log = l }) device
-loaded_cores n slots driver device l was Rx = was Rx
-loaded_cores n slots driver device l was Tx = was Tx
-loaded_cores n slots driver device l was Event = was Event
+loaded_cores : (n : ℕ) (slots : Slots) (driver device : View) (l other : Log) → Cores n slots driver device
+    → Cores n slots (record driver { log = l; loaded = other }) device
+loaded_cores n slots driver device l other was Rx = was Rx
+loaded_cores n slots driver device l other was Tx = was Tx
+loaded_cores n slots driver device l other was Event = was Event
+
+loaded_says : (driver : View) (other : Log) {l : Log} → IsDriverLog (record driver { log = l })
+    → IsDriverLog (record driver { log = l; loaded = other })
+loaded_says driver other d = record { put = d.put; got = d.got; events = d.events; no_event = d.no_event }
 
 reset_cores : (n : ℕ) (slots : Slots) (driver device : View) (l : Log) → Cores n slots driver device
     → Cores n slots driver (record device { log = l })
@@ -231,11 +236,11 @@ module _ (n : ℕ) (slots : Slots) (driver device : View) (p : Pair n slots driv
       (core.driver_lays n (flags_of queue) (H queue) (D queue) (E queue) (p.core queue) k mine (p.size queue) out)
 
   -- the driver loads the guest's CID
-  pub driver_loads : (cid : ℕ) → Pair n slots (driver_loaded cid driver) device
-  driver_loads cid = record {
+  pub driver_loads : (cid : ℕ) (l : Log) → Pair n slots (driver_loaded cid l driver) device
+  driver_loads cid l = record {
     size = p.size;
-    core = loaded_cores n slots driver device (driver_loaded cid driver).log p.core;
-    driver_says = says.driver_marks driver cid p.driver_says;
+    core = loaded_cores n slots driver device (driver_loaded cid l driver).log l p.core;
+    driver_says = loaded_says driver l (says.driver_marks driver cid p.driver_says);
     device_says = p.device_says;
     driver_fair = says.marked_fair driver.log cid p.driver_fair;
     device_fair = p.device_fair;

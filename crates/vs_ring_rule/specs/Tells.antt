@@ -11,7 +11,9 @@ use Rattle.vs_page.specs.Log.{Log, packets_put, packets_got, events_put, events_
 use Rattle.vs_ring_port.specs.declared.queue.Queue.{Queue}
 use Rattle.vs_ring_port.specs.declared.queue.Queue.TheVariants.{Rx, Tx, Event}
 use Rattle.vs_ring_rule.specs.OneQueue.{Page, HasHeader, given, taken, descriptor, element}
-use Rattle.vs_ring_rule.specs.Rule.{Rule, Seated, queue_in, flags_of, passed_in}
+use Rattle.vs_page.specs.Open.{cid_of}
+use Rattle.vs_page.specs.declared.log.TheConstants.{FIRST_CID}
+use Rattle.vs_ring_rule.specs.Rule.{IsOlder, Rule, Seated, queue_in, flags_of, passed_in}
 use Rattle.vs_ring_rule.specs.declared.view.Past.{Past}
 use Rattle.vs_ring_rule.specs.Moves.{after_stage, after_lift, after_lay, after_look, after_entry, driver_gave, device_gave, driver_took}
 use Rattle.vs_ring_rule.specs.Moves.{device_took, device_reset, driver_loaded}
@@ -84,12 +86,13 @@ DriverHas queue mine heard got = DriverGot queue mine heard.log × (length (pass
 abbrev pub DeviceHas : Queue → Log → Past → List Page → Type 0
 DeviceHas queue mine heard got = DeviceGot queue mine heard.log × (length (passed_in queue heard).put ≤ length got)
 
--- The driver loads the used index, which shows how many pages the device gave: g. Where it took as many, it has all that it was told of.
+-- The driver loads the used index, which shows how many pages the device gave: g, at least those that the driver was told of. Where it
+-- took as many, it has all that it was told of.
 abbrev pub driver_looks : Queue → Tells
 driver_looks queue n i x m r m' =
     let q = queue_in queue m.0 in
     (g : ℕ) × (r ≡ g % 2 ^ 16) × (q.seen ≤ g) × (taken q ≤ g) × (g ≤ taken q + n) × (g ≤ given q)
-    × (g ≡ taken q → DriverHas queue m.0.log m.0.heard q.got) × (m' ≡ (after_look queue g m.0, m.1))
+    × (length (passed_in queue m.0.heard).put ≤ g) × (g ≡ taken q → DriverHas queue m.0.log m.0.heard q.got) × (m' ≡ (after_look queue g m.0, m.1))
 
 -- It loads the next used element: the page is taken, and the log stays fair.
 abbrev pub driver_takes : Queue → Tells
@@ -102,19 +105,21 @@ abbrev pub lays : Queue → Tells
 lays queue n i x m r m' = (k : ℕ) (more : List (ℕ × Option Page)) → m.1 ≡ (slots_base n queue + k, None) ∷ more
     → m' ≡ (after_lay queue m.0, more)
 
--- The driver loads the guest's CID, and the device stores it.
+-- The driver loads the guest's CID, the newest one in the device's log at that moment, which goes on from the log that the driver was told
+-- of. The device stores it.
 abbrev pub driver_loads : Tells
-driver_loads n i x m r m' = m' ≡ (driver_loaded r m.0, m.1)
+driver_loads n i x m r m' =
+    (l : Log) × IsOlder m.0.heard.log l × (r ≡ cid_of FIRST_CID l) × (m' ≡ (driver_loaded r l m.0, m.1))
 
 abbrev pub device_resets : Tells
 device_resets n i x m r m' = m' ≡ (device_reset x m.0, m.1)
 
--- The device loads the available index, which shows how many pages the driver gave.
+-- The device loads the available index, which shows how many pages the driver gave, at least those that the device was told of.
 abbrev pub device_looks : Queue → Tells
 device_looks queue n i x m r m' =
     let q = queue_in queue m.0 in
     (g : ℕ) × (r ≡ g % 2 ^ 16) × (q.seen ≤ g) × (taken q ≤ g) × (g ≤ given q + n)
-    × (g ≡ taken q → DeviceHas queue m.0.log m.0.heard q.got) × (m' ≡ (after_look queue g m.0, m.1))
+    × (length (passed_in queue m.0.heard).put ≤ g) × (g ≡ taken q → DeviceHas queue m.0.log m.0.heard q.got) × (m' ≡ (after_look queue g m.0, m.1))
 
 -- It loads the next available entry, and then the descriptor word: the page is taken, has a header on tx, and the log stays fair.
 abbrev pub device_reads : Queue → Tells

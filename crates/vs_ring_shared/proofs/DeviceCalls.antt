@@ -4,7 +4,7 @@ use Rattle.atomic_table.specs.Seated.{TableId}
 use Rattle.vs_page.specs.Fair.{IsFairLog}
 use Rattle.vs_page.specs.Log as log
 use Rattle.vs_page.specs.Log.{Log}
-use Rattle.vs_ring_port.specs.Chains.{Held, chains_of, same_queue}
+use Rattle.vs_ring_port.specs.Chains.{Held, chains_of, held_of, same_queue}
 use Rattle.vs_ring_port.specs.EndLog.{entries_returned, entries_taken}
 use Rattle.vs_ring_port.specs.declared.device_ring.Chain.{Chain}
 use Rattle.vs_ring_port.specs.declared.queue.Queue.{Queue}
@@ -17,11 +17,11 @@ use Rattle.vs_ring_rule.specs.Steps.{removed}
 use Rattle.vs_ring_rule.proofs.Cores.{times_removed}
 use Rattle.vs_ring_shared.specs.DeviceStates.{DeviceReturns, DeviceTakesChain, HasSlots, IsDevice, Turns}
 use Rattle.vs_ring_shared.specs.Holdings.{AreInPages, Holding, Released, all_held, slots_of}
-use Rattle.vs_ring_shared.specs.Sights.{DeviceSight, QueueSight, Sight, TakesOne, after, sight_of, took_queue}
+use Rattle.vs_ring_shared.specs.Sights.{DeviceSight, QueueSight, Sight, TakesOne, after, sight_in, sight_of, took_queue}
 use Rattle.vs_ring_shared.specs.declared.device_queue.DeviceQueue.{DeviceQueue}
 use Rattle.vs_ring_shared.specs.declared.held.HeldPage.{HeldPage}
 use Rattle.vs_ring_shared.proofs.DriverCalls.{seen_queue}
-use Rattle.vs_ring_shared.proofs.HeldSlots.{in_pages-returned, slots_in_all}
+use Rattle.vs_ring_shared.proofs.HeldSlots.{held_slots, in_pages-returned, slots_in_all}
 use Rattle.vs_ring_shared.proofs.Returns.{length_removed}
 
 -- there is room to hold a page of any queue that holds fewer than its size
@@ -59,6 +59,7 @@ seen_chain n n' queue chain me new d t t' held held' size table b =
       known = rw (seen_queue queue t n me.0) b.takes.known;
       more = rw (seen_queue queue t n me.0) b.takes.more;
       most = rw (seen_queue queue t n me.0) b.takes.most;
+      told = b.takes.told;
       chain_is = rw (seen_queue queue t n me.0) b.chain_is;
       is = ap₂ both sight (ap (λ (h : Holding). all_held h.pages) b.held_is);
     }
@@ -168,3 +169,10 @@ writes n me rx tx event held held' is slots room in_pages = record {
   in_pages = in_pages;
   wide = room ∙ is.wide;
 }
+
+-- the chains held are the pages taken and not given back
+pub held_between : (t : TableId) (n : ℕ) (me : Seated) (rx tx event : DeviceQueue) (held : Holding) → IsDevice n me rx tx event held
+    → (queue : Queue) → let q = sight_in queue (sight_of t n me.0) in length q.put + held_of queue (all_held held.pages) ≡ length q.got
+held_between t n me rx tx event held d Rx = omega (arith, d.rx_numbers.holds, (d.slots Rx).many, held_slots Rx held.pages)
+held_between t n me rx tx event held d Tx = omega (arith, d.tx_numbers.holds, (d.slots Tx).many, held_slots Tx held.pages)
+held_between t n me rx tx event held d Event = omega (arith, d.event_numbers.holds, (d.slots Event).many, held_slots Event held.pages)

@@ -7,16 +7,16 @@ use Rattle.vs_page.specs.Log.{Log}
 use Rattle.vs_page.specs.declared.log.LogEntry.TheVariants.{PutEvent}
 use Rattle.vs_ring_port.specs.Chains.{bytes_in, without_held}
 use Rattle.vs_ring_port.specs.Contents.{DeviceAnswer, DeviceCall, Return, Take}
-use Rattle.vs_ring_port.specs.DeviceCalls.{CanReturn, DeviceAllows, DeviceMoves, IsWholePacket}
+use Rattle.vs_ring_port.specs.DeviceCalls.{CanReturn, DeviceAllows, DeviceMoves, IsTakenAs, IsWholePacket}
 use Rattle.vs_ring_port.specs.DriverCalls.{CanPublish, DriverAllows, DriverMoves, LoadCid, Publish}
 use Rattle.vs_ring_port.specs.EndLog.{EndLog, entries_published, entries_returned, log_published, log_returned, log_taken, pages_at, with_event}
-use Rattle.vs_ring_port.specs.Lists.{Rings, after_publish}
+use Rattle.vs_ring_port.specs.Lists.{Rings, after_publish, chain_with}
 use Rattle.vs_ring_port.specs.declared.device_ring.Chain.{Chain}
 use Rattle.vs_ring_port.specs.declared.device_ring.Next.TheVariants as next
 use Rattle.vs_ring_port.specs.declared.queue.Queue.{Queue}
 use Rattle.vs_ring_port.specs.declared.queue.Queue.TheVariants.{Rx, Tx, Event}
 use Rattle.vs_ring_rule.proofs.Says.{marked_fair}
-use Rattle.vs_ring_shared.specs.Sights.{DeviceSight, Sight, TakesOne, after_loading, after_publishing, after_returning, device_contents}
+use Rattle.vs_ring_shared.specs.Sights.{DeviceSight, LoadsNewest, Sight, TakesOne, after_loading, after_publishing, after_returning, device_contents}
 use Rattle.vs_ring_shared.specs.Sights.{after, after_taking, returned_queue, device_log, driver_contents, driver_log, sight_in}
 
 abbrev of_log : Option EndLog → EndLog → EndLog
@@ -47,10 +47,10 @@ device_moved call answer P f Q g s s' told is fair = record {
 }
 
 -- the driver loads the CID
-pub allows_load : (cid : ℕ) (s s' : Sight) → s' ≡ after_loading cid s → IsFairLog log.Driver s.log
+pub allows_load : (cid : ℕ) (s s' : Sight) → LoadsNewest cid s s' → IsFairLog log.Driver s.log
     → DriverAllows LoadCid cid (driver_contents s) (driver_contents s')
-allows_load cid s s' is fair = subst (λ (z : Sight). DriverAllows LoadCid cid (driver_contents s) (driver_contents z)) (sym is)
-    (driver_moved _ _ _ _ s (after_loading cid s) tt refl (marked_fair s.log cid fair))
+allows_load cid s s' is fair = subst (λ (z : Sight). DriverAllows LoadCid cid (driver_contents s) (driver_contents z)) (sym is.is)
+    (driver_moved _ _ _ _ s (after_loading cid is.then s) tt refl (marked_fair s.log cid fair))
 
 -- it publishes
 pub may_publish : (queue : Queue) (s : Sight) → CanPublish queue (driver_contents s) → IsFairLog log.Driver s.log
@@ -89,8 +89,11 @@ allows_publish queue s s' is can fair =
 pub allows_take : (queue : Queue) (chain : Chain) (s s' : DeviceSight) → TakesOne queue chain s s' → IsFairLog log.Device s'.sight.log
     → DeviceAllows (Take queue) (next.Chain chain) (device_contents s) (device_contents s')
 allows_take queue chain s s' t fair =
-    (Some t.page, device_moved (Take queue) (next.Chain chain) _ _ _ _ s s' tt (ap device_log t.is ∙ taken_log queue t.shown t.page chain s) fair)
+    (Some t.page, device_moved (Take queue) (next.Chain chain) _ _ _ _ s s' (as_asked t.chain_is) (ap device_log t.is ∙ taken_log queue t.shown t.page chain s) fair)
   where
+    as_asked : {place : ℕ} → chain ≡ chain_with queue place t.page → IsTakenAs queue (next.Chain chain) (Some t.page)
+    as_asked is = (ap (λ (c : Chain). c.queue) is, ap (λ (c : Chain). c.readable) is)
+
     taken_log : (q : Queue) (g : ℕ) (page : List ℕ) (chain : Chain) (s : DeviceSight)
         → device_log (after_taking q g page chain s) ≡ log_taken q (next.Chain chain) (Some page) (device_log s)
     taken_log Rx g page chain s = refl

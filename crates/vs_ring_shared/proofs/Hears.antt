@@ -5,10 +5,10 @@ use Rattle.vs_ring_port.specs.declared.queue.Queue.{Queue}
 use Rattle.vs_ring_port.specs.declared.queue.Queue.TheVariants.{Rx, Tx, Event}
 use Rattle.vs_ring_rule.specs.Meets as meets
 use Rattle.vs_ring_rule.specs.Meets.{copy_of, joined, told}
-use Rattle.vs_ring_rule.specs.Rule.{past_of}
+use Rattle.vs_ring_rule.specs.Rule.{IsOlder, past_of}
 use Rattle.vs_ring_rule.specs.declared.view.Past.{Past}
 use Rattle.vs_ring_rule.specs.declared.view.View.{View}
-use Rattle.vs_ring_shared.specs.Meetings.{TookFirst}
+use Rattle.vs_ring_shared.specs.Meetings.{SawNoMore, TookFirst}
 use Rattle.vs_ring_shared.specs.Sights.{sight_of}
 
 -- as others see it
@@ -58,3 +58,31 @@ pub meet_gave : (v m e : View) → m ≡ joined v e → meets.GaveFirst m.heard 
     → TookFirst (sight_of t n v) (sight_of t' n' e)
 meet_gave v m e is first t t' n n' =
     seen_gave e v (joined_gave v e (past_of e) (subst (λ (z : View). meets.GaveFirst z.heard z) is first)) t t' n n'
+
+-- what the other end loaded, by then, this end had done
+saw_none_more : (e v : View) → meets.SawNoMore (past_of e) v → (t t' : TableId) (n n' : ℕ) → SawNoMore (sight_of t' n' e) (sight_of t n v)
+saw_none_more e v saw t t' n n' Rx = saw Rx
+saw_none_more e v saw t t' n n' Tx = saw Tx
+saw_none_more e v saw t t' n n' Event = saw Event
+
+saw_same : (v w : View) (past : Past) → meets.SawNoMore past (told v w) → meets.SawNoMore past v
+saw_same v w past saw Rx = saw Rx
+saw_same v w past saw Tx = saw Tx
+saw_same v w past saw Event = saw Event
+
+module _ (v v' m e e' w : View) (still_open : v.whole ≡ false) (same : v' ≡ v) (is : m ≡ told v' w) (copy : w ≡ copy_of e')
+    (past : past_of e' ≡ past_of e) where
+  told_is : m ≡ told v w
+  told_is = is ∙ ap (λ (z : View). told z w) same
+
+  heard_is : (told v w).heard ≡ past_of e
+  heard_is = ap (λ (b : Bool). cond b v.heard w.heard) still_open ∙ ap (λ (z : View). z.heard) copy ∙ past
+
+  pub note_saw : meets.SawNoMore m.heard m → (t t' : TableId) (n n' : ℕ) → SawNoMore (sight_of t' n' e) (sight_of t n v)
+  note_saw first t t' n n' =
+      let there : meets.SawNoMore (told v w).heard (told v w) = subst (λ (z : View). meets.SawNoMore z.heard z) told_is first in
+      saw_none_more e v (subst (λ (p : Past). meets.SawNoMore p v) heard_is (saw_same v w (told v w).heard there)) t t' n n'
+
+  pub note_loaded : IsOlder m.heard.loaded m.log → IsOlder e.loaded v.log
+  note_loaded older =
+      subst (λ (p : Past). IsOlder p.loaded v.log) heard_is (subst (λ (z : View). IsOlder z.heard.loaded z.log) told_is older)

@@ -10,3 +10,6 @@ pub mod DeviceCalls
 pub mod Makes
 pub mod Exposed
 pub mod Hears
+pub mod Steps
+pub mod Together
+pub mod SharedCalls

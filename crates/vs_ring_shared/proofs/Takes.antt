@@ -10,7 +10,7 @@ use Rattle.vs_ring_rule.specs.declared.view.QueueView.{QueueView}
 use Rattle.vs_ring_rule.specs.declared.view.View.{View}
 use Rattle.vs_ring_rule.specs.Moves.{after_lay, after_look, after_entry, device_took}
 use Rattle.vs_ring_rule.specs.OneQueue.{HasHeader, Page, given, taken}
-use Rattle.vs_ring_rule.specs.Rule.{Seated, flags_of, queue_in, with_queue_in}
+use Rattle.vs_ring_rule.specs.Rule.{Seated, flags_of, passed_in, queue_in, with_queue_in}
 use Rattle.vs_ring_rule.specs.Steps.{laid, looked, entered, took}
 use Rattle.vs_ring_shared.specs.DeviceStates.{DeviceNumbers, DeviceTakes, IsDeviceQueue}
 use Rattle.vs_ring_shared.specs.declared.device_queue.DeviceQueue.{DeviceQueue}
@@ -55,10 +55,10 @@ module _ (n : ℕ) (q : QueueView) (g16 t16 : ℕ) (s : IsDeviceQueue n q g16 t1
 -- a page that the device took
 pub device_takes_page : (n : ℕ) (queue : Queue) (me me1 me2 me3 me4 me5 : Seated) (d : DeviceQueue) (g k : ℕ) (page : Page)
     → (queue_in queue me.0).seen ≤ g → taken (queue_in queue me.0) < g → g ≤ given (queue_in queue me.0) + n
-    → me1.0 ≡ after_look queue g me.0 → me2.0 ≡ after_entry queue k me1.0 → me3.0 ≡ device_took queue k page me2.0 → me4.0 ≡ me3.0
+    → length (passed_in queue me.0.heard).put ≤ g → me1.0 ≡ after_look queue g me.0 → me2.0 ≡ after_entry queue k me1.0 → me3.0 ≡ device_took queue k page me2.0 → me4.0 ≡ me3.0
     → me5 ≡ (after_lay queue me4.0, []) → HasHeader (flags_of queue) page → IsFairLog log.Device (device_took queue k page me2.0).log
     → DeviceNumbers n (laid (took k page (entered k (looked g (queue_in queue me.0))))) d → DeviceTakes n queue k page me me5 d
-device_takes_page n queue me me1 me2 me3 me4 me5 d g k page known more most look entry took_is out lay long fair numbers =
+device_takes_page n queue me me1 me2 me3 me4 me5 d g k page known more most told look entry took_is out lay long fair numbers =
     let v = me.0 in
     let before : me2.0 ≡ after_entry queue k (after_look queue g v) = entry ∙ ap (λ (z : View). after_entry queue k z) look in
     let view : me4.0 ≡ device_took queue k page (after_entry queue k (after_look queue g v)) =
@@ -68,6 +68,7 @@ device_takes_page n queue me me1 me2 me3 me4 me5 d g k page known more most look
       known = known;
       more = more;
       most = most;
+      told = told;
       long = long;
       turns = record {
         queue_view = laid (took k page (entered k (looked g (queue_in queue v))));

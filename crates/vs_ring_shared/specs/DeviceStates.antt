@@ -11,7 +11,7 @@ use Rattle.vs_ring_port.specs.declared.queue.Queue.{Queue}
 use Rattle.vs_ring_rule.specs.declared.view.Owner.TheVariants.{Device}
 use Rattle.vs_ring_rule.specs.declared.view.QueueView.{QueueView}
 use Rattle.vs_ring_rule.specs.OneQueue.{HasHeader, Page, given, taken, times}
-use Rattle.vs_ring_rule.specs.Rule.{Seated, flags_of, queue_in, with_queue_in}
+use Rattle.vs_ring_rule.specs.Rule.{Seated, flags_of, passed_in, queue_in, with_queue_in}
 use Rattle.vs_ring_rule.specs.Steps.{removed}
 use Rattle.vs_ring_rule.specs.Tells.{DeviceHas}
 use Rattle.vs_ring_shared.specs.Holdings.{AreInPages, Holding, Released, all_held, slots_of}
@@ -73,6 +73,7 @@ pub record DeviceLooks (n : ℕ) (queue : Queue) (shown : ℕ) (old new : Seated
   pub known : (queue_in queue old.0).seen ≤ shown
   pub low : taken (queue_in queue old.0) ≤ shown
   pub most : shown ≤ given (queue_in queue old.0) + n
+  pub told : length (passed_in queue old.0.heard).put ≤ shown
   pub turns : Turns n queue (looked_queue shown) (queue_in queue old.0).held old.0.log old new d
 
 -- It took a page from a slot: the index that it loaded in this call shows more pages than it took before, and its log stays fair.
@@ -81,6 +82,7 @@ pub record DeviceTakes (n : ℕ) (queue : Queue) (slot : ℕ) (page : Page) (old
   pub known : (queue_in queue old.0).seen ≤ shown
   pub more : taken (queue_in queue old.0) < shown
   pub most : shown ≤ given (queue_in queue old.0) + n
+  pub told : length (passed_in queue old.0.heard).put ≤ shown
   pub long : HasHeader (flags_of queue) page
   pub turns : Turns n queue (took_queue shown page) (slot ∷ (queue_in queue old.0).held) (entries_taken queue page old.0.log) old new d
   pub fair : IsFairLog log.Device (entries_taken queue page old.0.log)

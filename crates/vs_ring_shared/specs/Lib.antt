@@ -7,3 +7,5 @@ pub mod Holdings
 pub mod DeviceStates
 pub mod DeviceEnds
 pub mod Meetings
+pub mod Together
+pub mod SharedEnds

@@ -15,7 +15,9 @@ use Rattle.vs_ring_rule.specs.declared.view.Past.{Past}
 use Rattle.vs_ring_rule.specs.declared.view.QueueView.{QueueView}
 use Rattle.vs_ring_rule.specs.declared.view.View.{View}
 use Rattle.vs_ring_rule.specs.OneQueue.{Page}
-use Rattle.vs_ring_rule.specs.Rule.{no_past}
+use Rattle.vs_page.specs.Open.{cid_of}
+use Rattle.vs_page.specs.declared.log.TheConstants.{FIRST_CID}
+use Rattle.vs_ring_rule.specs.Rule.{IsOlder, no_past, passed_in}
 use Rattle.vs_ring_rule.specs.Tells.{DriverHas, DeviceHas}
 
 -- Of one queue: the pages that the end gave and took, and those that it staged; how many it knows the other end to have given; how often
@@ -27,11 +29,13 @@ pub record QueueSight : Type 0 where
   pub seen : ℕ
   pub loads : ℕ
 
--- The table, the rings' size, the end's log, what it was told that the other did, whether that is all that the other did, and the three queues.
+-- The table, the rings' size, the end's log, the device's log as it was when the end last loaded the CID, what it was told that the other
+-- did, whether that is all that the other did, and the three queues.
 pub record Sight : Type 0 where
   pub table : TableId
   pub size : ℕ
   pub log : Log
+  pub loaded : Log
   pub heard : Past
   pub whole : Bool
   pub rx : QueueSight
@@ -46,6 +50,7 @@ sight_of table size v = record {
   table = table;
   size = size;
   log = v.log;
+  loaded = v.loaded;
   heard = v.heard;
   whole = v.whole;
   rx = queue_sight v.rx;
@@ -73,6 +78,7 @@ empty_sight table size = record {
   table = table;
   size = size;
   log = [];
+  loaded = [];
   heard = no_past;
   whole = false;
   rx = empty_queue;
@@ -126,10 +132,19 @@ pub record ReapsOne (queue : Queue) (page : Page) (s s' : Sight) : Type 0 where
   pub known : (sight_in queue s).seen ≤ shown
   pub more : length (sight_in queue s).got < shown
   pub most : shown ≤ length (sight_in queue s).put
+  pub told : length (passed_in queue s.heard).put ≤ shown
   pub is : s' ≡ after_reaping queue shown page s
 
-abbrev pub after_loading : ℕ → Sight → Sight
-after_loading cid s = record s { log = entries_marked cid s.log }
+-- It loaded the guest's CID, when the device's log was l.
+abbrev pub after_loading : ℕ → Log → Sight → Sight
+after_loading cid l s = record s { log = entries_marked cid s.log; loaded = l }
+
+-- It is the newest CID of the device's log, which goes on from the log that the driver was told of.
+pub record LoadsNewest (cid : ℕ) (s s' : Sight) : Type 0 where
+  pub then : Log
+  pub since : IsOlder s.heard.log then
+  pub newest : cid ≡ cid_of FIRST_CID then
+  pub is : s' ≡ after_loading cid then s
 
 -- How many pages of a queue are in flight, and how many of these are staged.
 abbrev pub in_flight_of : QueueSight → ℕ
@@ -190,14 +205,16 @@ pub record TakesOne (queue : Queue) (chain : Chain) (s s' : DeviceSight) : Type 
   pub known : (sight_in queue s.sight).seen ≤ shown
   pub more : length (sight_in queue s.sight).got < shown
   pub most : shown ≤ length (sight_in queue s.sight).put + s.sight.size
+  pub told : length (passed_in queue s.sight.heard).put ≤ shown
   pub chain_is : chain ≡ chain_with queue (length (sight_in queue s.sight).got % s.sight.size) page
   pub is : s' ≡ after_taking queue shown page chain s
 
--- It loaded the index, which shows how many pages were given: so many were not given back.
+-- It loaded the index, which shows how many pages were given, at least those that it was told of: so many were not given back.
 pub record Counts (queue : Queue) (count : ℕ) (s s' : DeviceSight) : Type 0 where
   pub known : (sight_in queue s.sight).seen ≤ length (sight_in queue s.sight).put + count
   pub low : length (sight_in queue s.sight).got ≤ length (sight_in queue s.sight).put + count
   pub most : count ≤ s.sight.size
+  pub told : length (passed_in queue s.sight.heard).put ≤ length (sight_in queue s.sight).put + count
   pub is : s' ≡ after_counting queue (length (sight_in queue s.sight).put + count) s
 
 -- What the device's end exposes: its log and the chains that it holds.

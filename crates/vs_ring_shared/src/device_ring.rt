@@ -1,16 +1,21 @@
 //! The device's end as a ring.
-ghost use Rattle.std.specs.Prelude.{◌<◌, ◌≤◌};
+ghost use Rattle.std.specs.Prelude.{◌≡◌, ◌+◌, ◌<◌, ◌≤◌, length};
 ghost use Rattle.vs_page.specs.Fair.{IsFairLog};
 ghost use Rattle.vs_page.specs.Log as log;
+ghost use Rattle.vs_ring_port.specs.Chains.{held_of};
+ghost use Rattle.vs_ring_port.specs.declared.queue.Queue.{Queue};
 ghost use Rattle.vs_ring_port.specs.declared.queue.TheConstants.{QUEUE_SIZE_MAX};
+ghost use Rattle.vs_ring_shared.specs.Sights.{sight_in};
 
 use crate::device_end::DeviceEnd;
 use vs_ring_port::{Chain, DeviceRing, Next, Queue};
 
-/// What is true of a device's end between any two calls: its log is fair.
+/// What is true of a device's end between any two calls: its log is fair, and the chains that it holds are the pages of each queue that it
+/// took and didn't give back.
 pub fn laws_of_device_end(end: &DeviceEnd)
     ensures size { (0 < end.now.sight.size) × (end.now.sight.size ≤ QUEUE_SIZE_MAX) }
     ensures fair { IsFairLog log.Device end.now.sight.log }
+    ensures held { (queue : Queue) → let q = sight_in queue end.now.sight in length q.put + held_of queue end.now.held ≡ length q.got }
 {
     let _size = end.port.size;
 }

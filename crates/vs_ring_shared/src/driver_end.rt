@@ -5,7 +5,7 @@ ghost use Rattle.vs_page.specs.Fair.{IsFairLog};
 ghost use Rattle.vs_page.specs.Log as log;
 ghost use Rattle.vs_ring_port.specs.Counts.{at};
 ghost use Rattle.vs_ring_port.specs.EndLog.{entries_published};
-ghost use Rattle.vs_ring_shared.specs.Sights.{ReapsNone, ReapsOne, after_loading, after_publishing, after_staging, flight_of, sight_in};
+ghost use Rattle.vs_ring_shared.specs.Sights.{ReapsNone, ReapsOne, LoadsNewest, after_publishing, after_staging, flight_of, sight_in};
 
 use crate::driver_queue::{DriverQueue, publish, reap, stage};
 use crate::port::Port;
@@ -82,9 +82,10 @@ impl DriverEnd {
         }
     }
 
-    /// Loads the guest's CID: once anything passed, that marks a transport reset in the log.
+    /// Loads the guest's CID, the newest one that the device stored by then, and so no older than what this end was told of. Once anything
+    /// passed, that marks a transport reset in the log.
     pub fn load_cid(&mut self) -> u64
-        ensures { self.new ≡ after_loading result self.old }
+        ensures { LoadsNewest result self.old self.new }
     {
         self.port.load_cid()
     }

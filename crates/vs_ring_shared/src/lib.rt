@@ -10,8 +10,10 @@ mod driver_ring;
 mod held;
 mod making;
 mod meeting;
+mod names;
 mod plays;
 mod port;
+mod shared_rings;
 #[cfg(test)]
 mod tests;
 
@@ -21,3 +23,5 @@ pub use driver_end::DriverEnd;
 pub use driver_ring::laws_of_driver_end;
 pub use making::make;
 pub use meeting::{meet, note};
+pub use names::{NamedDevice, NamedDriver, RingName, meet_named, named, note_named};
+pub use shared_rings::{SharedRings, laws_of_shared_rings};

@@ -4,8 +4,9 @@ ghost use Rattle.vs_page.specs.Log as log;
 ghost use Rattle.vs_page.specs.Log.{HasGotAll};
 ghost use Rattle.vs_page.specs.Fair.{IsFairLog};
 ghost use Rattle.vs_ring_rule.specs.Meets.{copy_of, joined, knows, ties, told};
+ghost use Rattle.vs_ring_rule.specs.Rule.{IsOlder};
 ghost use Rattle.vs_ring_rule.specs.declared.view.Owner.TheVariants.{Device, DeviceCopy, Driver, DriverCopy};
-ghost use Rattle.vs_ring_shared.specs.Meetings.{TookFirst, after_hearing, after_meeting, what_it_did};
+ghost use Rattle.vs_ring_shared.specs.Meetings.{SawNoMore, TookFirst, after_hearing, after_meeting, what_it_did};
 
 use crate::device_end::DeviceEnd;
 use crate::driver_end::DriverEnd;
@@ -90,8 +91,8 @@ impl Port {
     }
 }
 
-/// Tells each end what the other did so far: what it loads from then on shows at least that. What each end took was given first, page by
-/// page; so were the packets and events.
+/// Tells each end what the other did so far: what it loads from then on shows at least that, and what it loaded before shows no more. What
+/// each end took was given first, page by page; so were the packets and events.
 pub fn note(driver: &mut DriverEnd, device: &mut DeviceEnd)
     requires same { driver.old.table ≡ device.old.sight.table }
     requires two { driver.old.whole ≡ false }
@@ -101,6 +102,9 @@ pub fn note(driver: &mut DriverEnd, device: &mut DeviceEnd)
     ensures driver_got { HasGotAll driver.old.log device.old.sight.log }
     ensures there { TookFirst device.old.sight driver.old }
     ensures back { TookFirst driver.old device.old.sight }
+    ensures saw_there { SawNoMore device.old.sight driver.old }
+    ensures saw_back { SawNoMore driver.old device.old.sight }
+    ensures saw_cid { IsOlder driver.old.loaded device.old.sight.log }
 {
     let of_driver = driver.port.copy();
     device.port.hear(of_driver);

@@ -1,3 +1,4 @@
+pub mod Filling
 pub mod Pieces
 pub mod Numerals
 pub mod HexDigits

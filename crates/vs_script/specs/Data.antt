@@ -1,5 +1,6 @@
 -- The bytes that a line of a script carries.
-use Rattle.std.specs.Prelude.{ℕ, ◌+◌, ◌*◌, ◌/◌, ◌%◌, List, length, slice_index}
+use Rattle.std.specs.Prelude.{ℕ, ◌+◌, ◌*◌, ◌/◌, ◌%◌, List, length, map, slice_index}
+use Rattle.std.specs.List.{range_with_len}
 use Rattle.vs_script.specs.declared.data.Data.{Data}
 use Rattle.vs_script.specs.declared.data.Data.TheVariants as code
 
@@ -26,3 +27,11 @@ filled start i = (start + 7 * i + i / 251) % 256
 abbrev pub byte_at : Content → ℕ → ℕ
 byte_at (Given bytes) i = slice_index bytes i
 byte_at (Fill n start) i = filled start i
+
+-- All of them.
+abbrev pub filled_bytes : ℕ → ℕ → List ℕ
+filled_bytes n start = map (λ i. filled start i) (range_with_len 0 n)
+
+abbrev pub bytes_of : Content → List ℕ
+bytes_of (Given bytes) = bytes
+bytes_of (Fill n start) = filled_bytes n start

@@ -1,7 +1,9 @@
 //! The bytes that a line of a script carries.
 
-ghost use Rattle.std.specs.Prelude.{◌≡◌, ◌<◌, ◌^◌};
-ghost use Rattle.vs_script.specs.Data.{content_of, size_of, byte_at, filled};
+ghost use Rattle.std.specs.Prelude.{◌≡◌, ◌<◌, ◌^◌, IfOk};
+ghost use Rattle.vs_script.specs.Data.{content_of, size_of, byte_at, bytes_of, filled, filled_bytes};
+
+use std::alloc::{AllocError, Global};
 
 /// The bytes that a line carries: as the script gives them, or by a rule.
 #[derive(Debug, PartialEq, Eq, Drop)]
@@ -29,6 +31,19 @@ impl Fill {
     {
         ((usize::from(self.start) + 7 * place + place / 251) % 256) as u8
     }
+
+    /// All of the bytes. The only error is want of memory.
+    #[tactic(auto, using(crate::proofs::Filling::one_more_byte))]
+    fn to_vec(self, alloc: Global) -> Result<Vec<u8>, AllocError>
+        ensures { IfOk result (λ bytes. bytes.items ≡ filled_bytes self.n self.start) }
+    {
+        let n = self.n as usize;
+        let mut bytes = Vec::with_capacity(alloc, n)?;
+        for place in 0..n {
+            bytes.push_reserved(self.byte(place));
+        }
+        Ok(bytes)
+    }
 }
 
 impl Data {
@@ -51,6 +66,16 @@ impl Data {
         match self {
             Data::Given(bytes) => bytes[place],
             Data::Fill(fill) => fill.byte(place),
+        }
+    }
+
+    /// All of the bytes. The only error is want of memory.
+    pub fn to_vec(&self, alloc: Global) -> Result<Vec<u8>, AllocError>
+        ensures { IfOk result (λ bytes. bytes.items ≡ bytes_of (content_of self.now)) }
+    {
+        match self {
+            Data::Given(bytes) => bytes.to_vec(alloc),
+            Data::Fill(fill) => fill.to_vec(alloc),
         }
     }
 }

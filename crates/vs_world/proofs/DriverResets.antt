@@ -31,13 +31,13 @@ use Rattle.vs_world.proofs.Wire.{PutsFit}
 abbrev reply_for : DriverEntry → Reply
 reply_for e = reset_reply e.flow
 
-record IsAllLeft (s t : DriverState) (es : List DriverEntry) : Type 0 where
-  table : t.table ≡ record s.table { entries = [] }
-  replies : t.replies ≡ s.replies ++ map reply_for es
-  next_id : t.next_id ≡ s.next_id
-  next_port : t.next_port ≡ s.next_port
-  cid : t.cid ≡ s.cid
-  broken : t.broken ≡ s.broken
+pub record IsAllLeft (s t : DriverState) (es : List DriverEntry) : Type 0 where
+  pub table : t.table ≡ record s.table { entries = [] }
+  pub replies : t.replies ≡ s.replies ++ map reply_for es
+  pub next_id : t.next_id ≡ s.next_id
+  pub next_port : t.next_port ≡ s.next_port
+  pub cid : t.cid ≡ s.cid
+  pub broken : t.broken ≡ s.broken
 
 same_slot : (n : ℕ) → (n == n) ≡ true
 same_slot n = grind arith
@@ -84,7 +84,7 @@ one_left false e es gone s is rising = record {
   broken = refl;
 }
 
-left_all : (es : List DriverEntry) (s : DriverState) → s.table.entries ≡ es → IsRising es → IsAllLeft s (all_left es s) es
+pub left_all : (es : List DriverEntry) (s : DriverState) → s.table.entries ≡ es → IsRising es → IsAllLeft s (all_left es s) es
 left_all [] s is rising = record {
   table = ap (λ (xs : List DriverEntry). let t : Table DriverConnection = record s.table { entries = xs } in t) is;
   replies = sym (append-nil s.replies);

@@ -30,3 +30,13 @@ pub mod Resting
 pub mod Emptied
 pub mod GuestLines
 pub mod Polls
+pub mod DeviceLeads
+pub mod TickStage
+pub mod PumpStage
+pub mod FillStage
+pub mod TakeStage
+pub mod TurnLines
+pub mod CallRests
+pub mod ScriptLines
+pub mod ResetTables
+pub mod DeviceCalls

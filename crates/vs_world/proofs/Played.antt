@@ -1,5 +1,5 @@
 -- Each conversation over the world's rings, and so each event, keeps what is under way between the two logs.
-use Rattle.std.proofs.Common.{◌≡◌, ℕ, nat_le, ◌&&◌, Bool, true, false, List, [], ◌∷◌, ◌++◌, refl, sym, ap, ◌∙◌}
+use Rattle.std.proofs.Common.{◌≡◌, ℕ, ◌&&◌, Bool, true, false, List, [], ◌∷◌, ◌++◌, refl, sym, ap, ◌∙◌}
 use Rattle.vs_contents.specs.CallTree.{Done, Ask, played}
 use Rattle.vs_outside.specs.Host.{HostContents}
 use Rattle.vs_page.specs.Log.{Log, HasGotAll, events_put}
@@ -19,7 +19,7 @@ use Rattle.std.proofs.lemmas.List.{append-nil}
 use Rattle.vs_device.specs.Calls.{DeviceTree, Call, Ring, Accept, Dial, Label, ReadStream, WriteStream, ShutWrite, CloseStream}
 use Rattle.vs_world.specs.Answers.{Around, answer_around}
 use Rattle.vs_world.specs.Events.{Event, GuestCalls, GuestTakes, GuestStages, GuestReplies, GuestPays, GuestPublishes, DeviceTakes, DeviceReturns, DevicePutsEvent, DeviceReplies, DeviceReads, DevicePays, DeviceWrites, DeviceShutsWrite, ProxyAccepts, ProxyReads, Moment, TimesOut, HandshakeTimesOut, Reset, HostListens, HostUnlistens, ClientConnects, HostWrites, HostTakes, HostEnds, HostCloses, HostFails, happens, run, where_possible, unless_failed, has_failed}
-use Rattle.vs_world.specs.Events.{is_guest_cid, reset_made, is_at_rest, works_on, holds, driver_step, device_step, proxy_step, call_made, line_read, at_moment}
+use Rattle.vs_world.specs.Events.{is_guest_cid, reset_made, is_at_rest, works_on, holds, driver_step, device_step, proxy_step, call_made, line_read}
 use Rattle.vs_world.specs.GuestSteps.{makes_call, takes_page, stages_page, stages_reply, stages_owed}
 use Rattle.vs_world.specs.DeviceSteps.{takes_chain, returns, puts_event, puts_reply, puts_owed, puts_payload, writes, shuts_write}
 use Rattle.vs_world.specs.Calls.{is_right}
@@ -101,7 +101,7 @@ happens_keeps ProxyAccepts w q =
     failed_keeps (has_failed w) (proxy_step accept_one) w refl (device_plays_keeps (accept_one (start w.proxy)) w q) q
 happens_keeps (ProxyReads stream) w q =
     failed_keeps (has_failed w) (proxy_step (line_read stream)) w refl (device_plays_keeps (line_read stream (start w.proxy)) w q) q
-happens_keeps (Moment now) w q = possible_keeps (nat_le w.proxy.device.now now) (at_moment now) w q q
+happens_keeps (Moment now) w q = q
 happens_keeps (TimesOut slot) w q =
     failed_keeps (has_failed w) (device_step (tick_slot slot)) w refl (device_plays_keeps (tick_slot slot w.proxy.device) w q) q
 happens_keeps (HandshakeTimesOut stream) w q =

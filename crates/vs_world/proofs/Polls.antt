@@ -263,12 +263,12 @@ both_true : (a b : Bool) → (a && b) ≡ true → (a ≡ true) × (b ≡ true)
 both_true true b is = (refl, is)
 both_true false b is = absurd cc
 
-published_rests : (queue : Queue) (staged : Pages) → works_on queue staged ≡ true → is_at_rest (with_pages queue [] staged) ≡ true
+pub published_rests : (queue : Queue) (staged : Pages) → works_on queue staged ≡ true → is_at_rest (with_pages queue [] staged) ≡ true
 published_rests q.Rx staged works = let w = both_true (none_staged staged.tx) (none_staged staged.event) works in all_three _ _ _ refl w.0 w.1
 published_rests q.Tx staged works = let w = both_true (none_staged staged.rx) (none_staged staged.event) works in all_three _ _ _ w.0 refl w.1
 published_rests q.Event staged works = let w = both_true (none_staged staged.rx) (none_staged staged.tx) works in all_three _ _ _ w.0 w.1 refl
 
-rest_works : (queue : Queue) (staged : Pages) → is_at_rest staged ≡ true → works_on queue staged ≡ true
+pub rest_works : (queue : Queue) (staged : Pages) → is_at_rest staged ≡ true → works_on queue staged ≡ true
 rest_works queue staged rest = by queue (none_staged staged.rx) (none_staged staged.tx) (none_staged staged.event) refl refl refl rest
   where
     by : (queue : Queue) (a b c : Bool) → none_staged staged.rx ≡ a → none_staged staged.tx ≡ b → none_staged staged.event ≡ c → (a && b && c) ≡ true

@@ -47,7 +47,7 @@ pub data Event : Type 0 where
   -- It accepts a client, and reads a byte of its line.
   ProxyAccepts : Event
   ProxyReads : ℕ → Event
-  -- The moment is this now; a connection and a handshake time out.
+  -- The moment is this now, and no law asks that moments rise; a connection and a handshake time out.
   Moment : ℕ → Event
   TimesOut : ℕ → Event
   HandshakeTimesOut : ℕ → Event
@@ -140,7 +140,7 @@ happens (DeviceWrites slot) w = unless_failed (device_step (writes slot)) w
 happens (DeviceShutsWrite slot) w = unless_failed (device_step (shuts_write slot)) w
 happens ProxyAccepts w = unless_failed (proxy_step accept_one) w
 happens (ProxyReads stream) w = unless_failed (proxy_step (line_read stream)) w
-happens (Moment now) w = where_possible (nat_le w.proxy.device.now now) (at_moment now) w
+happens (Moment now) w = at_moment now w
 happens (TimesOut slot) w = unless_failed (device_step (tick_slot slot)) w
 happens (HandshakeTimesOut stream) w = unless_failed (proxy_step (tick_handshake stream)) w
 happens (Reset cid) w = where_possible (is_guest_cid cid) (reset_made cid) w

@@ -4,6 +4,7 @@ use Rattle.vs_page.specs.Held.{packet_held, event_held, held_in}
 use Rattle.vs_page.specs.Log.{Log, packets_put, packets_got, events_put, events_got}
 use Rattle.vs_ring_port.specs.Lists.{Rings}
 use Rattle.vs_ring_list.specs.Ends.{Ends}
+use Rattle.vs_proxy.specs.State.{ProxyState}
 
 -- What an end put and the other didn't get is just what the pages between them hold.
 pub record AreQueued (lists : Rings) (driver device : Log) : Type 0 where
@@ -14,3 +15,9 @@ pub record AreQueued (lists : Rings) (driver device : Log) : Type 0 where
 
 abbrev pub IsQueued : Ends → Type 0
 IsQueued rings = AreQueued rings.lists rings.driver.entries rings.device.entries
+
+-- What the device and its proxy hold right after a transport reset.
+pub record IsEmptied (s : ProxyState) : Type 0 where
+  pub table : s.device.table.entries ≡ []
+  pub replies : s.device.replies ≡ []
+  pub handshakes : s.handshakes ≡ []

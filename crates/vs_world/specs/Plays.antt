@@ -1,5 +1,5 @@
 -- Whole calls, one line of a script each, and what each answers.
-use Rattle.std.specs.Prelude.{ℕ, ◌+◌, Bool, true, List, [], ◌∷◌, length, map, Option, Result}
+use Rattle.std.specs.Prelude.{◌≡◌, ℕ, ◌+◌, Bool, true, if◌then◌else◌, List, [], ◌∷◌, length, map, Option, Result}
 use Rattle.vs_flow.specs.declared.flow.Flow.{Flow}
 use Rattle.vs_outside.specs.Host.{HostContents, with_stream}
 use Rattle.vs_outside.specs.HostProgram.{after_listen, after_unlisten, after_client, after_host_write, host_write_answer, has_stream, allowed, ended, closed, after_fail}
@@ -11,7 +11,8 @@ use Rattle.vs_driver_parts.specs.State.{DriverState}
 use Rattle.vs_driver_parts.specs.declared.answers.Polled.{Polled}
 use Rattle.vs_proxy.specs.Turns.{turn_of, proxy_reset_of}
 use Rattle.vs_proxy.specs.declared.answers.Turn.{Turn}
-use Rattle.vs_world.specs.Calls.{GuestCall, ReplyTo, Connect, Send}
+use Rattle.vs_world.specs.Calls.{GuestCall, ReplyTo, Connect, Send, bytes_sent, is_on, is_right}
+use Rattle.vs_world.specs.Events.{is_guest_cid}
 use Rattle.vs_world.specs.GuestSteps.{makes_call, flow_named}
 use Rattle.vs_world.specs.World.{World, driver_plays, device_plays}
 
@@ -105,3 +106,25 @@ report w = record {
 abbrev pub play : List Line → World → List Said × Report
 play [] w = ([], report w)
 play (l ∷ ls) w = let r = line l w in let rest = play ls r.0 in (r.1 ∷ rest.0, rest.1)
+
+-- The bytes that a line sends on a flow: those that the answer says.
+abbrev pub sent_by : Flow → Line → World → List ℕ
+sent_by f (Guest call) w =
+    if is_on f (flow_named call w.driver) then bytes_sent call (driver_plays (whole_call call w.driver) w).0.1 else []
+sent_by f _ w = []
+
+-- A line that may be given: a port has 32 bits, and a CID is one that a guest may have.
+abbrev pub is_given_right : Line → Bool
+is_given_right (Guest call) = is_right call
+is_given_right (ResetTo cid) = is_guest_cid cid
+is_given_right _ = true
+
+-- Each line of a script may be given.
+abbrev pub AreRight : List Line → Type 0
+AreRight [] = Unit {0}
+AreRight (l ∷ ls) = (is_given_right l ≡ true) × AreRight ls
+
+-- The world after a script.
+abbrev pub after : List Line → World → World
+after [] w = w
+after (l ∷ ls) w = after ls (line l w).0

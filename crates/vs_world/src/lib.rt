@@ -4,4 +4,6 @@
 
 pub mod laws;
 pub mod pipes;
+pub mod resets;
+pub mod scripts;
 pub mod worked;

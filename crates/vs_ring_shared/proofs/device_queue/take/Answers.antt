@@ -28,6 +28,6 @@ returns-clause-page c =
     let d' : DeviceQueue = record { given = d.given; taken = (d.taken + 1) % 65536 } in
     subst (λ (p : Page). DeviceTakes n queue slot p me c.lay.new.self.token.me d') page
     (takes.device_takes_page n queue me c.look_ahead-index.new.self.token.me c.read_entry-slot.new.self.token.me c.take.new.self.token.me
-    c.take_out-page.new.self.token.me c.lay.new.self.token.me d' l.0 slot k.0 l.2 more l.4 (ap (λ (m : Seated). m.0) l.6)
+    c.take_out-page.new.self.token.me c.lay.new.self.token.me d' l.0 slot k.0 l.2 more l.4 l.5 (ap (λ (m : Seated). m.0) l.7)
     (ap (λ (m : Seated). m.0) e.1) (ap (λ (m : Seated). m.0) k.4) (ap (λ (m : Seated). m.0) c.take_out-page.ensures.me) c.lay.ensures.me
     k.2 k.3 (takes.taken_after n q d.given d.taken s l.0 slot k.0 more l.4 near))

@@ -1,12 +1,13 @@
-use Rattle.std.proofs.Common.{◌≡◌, List, Some, ap, ◌∙◌}
+use Rattle.std.proofs.Common.{◌≡◌, ℕ, List, Some, ap, subst, ◌∙◌}
 use Rattle.std.specs.Option.{option_map}
 use Rattle.vs_flow.specs.Table.{entry_under}
 use Rattle.vs_driver_parts.specs.State.{DriverEntry, DriverState, Listener}
-use Rattle.vs_driver_parts.specs.Held.{HeldSlots}
+use Rattle.vs_driver_parts.specs.Held.{HeldSlots, KnowsNone}
 use Rattle.vs_driver.specs.contracts.driver.Driver.{the_view}
 use Rattle.vs_driver_parts.proofs.Ids.{value_of, has_slot}
 use Rattle.vs_driver_parts.specs.Connections.{with_connection, after_closing}
 use Rattle.vs_driver.proofs.Reading.{closed_entry}
+use Rattle.vs_driver.proofs.Pipes.{known_to_none}
 use Rattle.vs_driver.proofs.driver.Driver.close_in.Goals as goal
 
 pub returns-clause-state : goal.returns-clause-state
@@ -21,3 +22,11 @@ returns-clause-state c = λ e found id.
     rw (← c.self.view_is) (ap (λ (h : HeldSlots). the_view (record d { slots = h; listeners = c.leave.new.self })) slots
     ∙ (ap (λ (l : List Listener). let x : DriverState = the_view (record d { listeners = l }) in with_connection c.args.slot (after_closing e.value.end.state e.value) x) c.leave.ensures
     ∙ closed_entry c.args.slot c.args.id e c.in-Some.flow s slot flow id))
+
+pub returns-clause-unknown : goal.returns-clause-unknown
+returns-clause-unknown c = λ e found id.
+    let d = c.self.inside in
+    let there : entry_under d.slots.table c.args.slot ≡ Some e = rw (← c.self.view_is) at found in
+    let none : KnowsNone e.value.id c.close.new.self = c.close.ensures.unknown e.value (value_of d.slots.table c.args.slot e there) in
+    let t : DriverState = the_view (record d { slots = c.close.new.self; listeners = c.leave.new.self }) in
+    known_to_none c.args.id t (subst (λ (k : ℕ). KnowsNone k c.close.new.self) id none)

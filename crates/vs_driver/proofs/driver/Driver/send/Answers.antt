@@ -11,6 +11,8 @@ use Rattle.vs_driver_parts.specs.Conversations.{send_of}
 use Rattle.vs_driver_log.proofs.Calls.{send_honest, send_may}
 use Rattle.vs_driver.specs.Outcomes.{Sends}
 use Rattle.vs_driver.proofs.Ending.{send_ends}
+use Rattle.vs_driver.proofs.Pipes.{send_leaves}
+use Rattle.vs_flow.specs.Table.{IsTable}
 use Rattle.vs_driver.proofs.driver.Driver.send.Goals as goal
 
 pub send_in-requires-clause-may : goal.send_in-requires-clause-may
@@ -43,3 +45,15 @@ returns-in-Some-clause-outcome g c =
     let within : s.in_flight ≤ s.size = subst (λ (x : DriverState). x.in_flight ≤ x.size) c.self.view_is c.self.invariant.1 in
     end_of (λ x. Sends c.args.id c.args.bytes.now s x.0 x.1) RingAllows (send_of c.args.id c.args.bytes.now s) (g.R.DriverRing.contents c.args.ring.now)
     (g.R.DriverRing.contents c.send_in.new.ring) (c.send_in.new.self, c.send_in.result) (send_ends c.args.id c.args.bytes.now s within) (returns-in-Some-clause-calls g c)
+
+pub returns-in-Some-clause-unread : goal.returns-in-Some-clause-unread
+returns-in-Some-clause-unread g c =
+    let s : DriverState = c.args.self.now in
+    let sound : IsTable s.table = rw (← c.self.view_is) c.in-Some.ensures.sound in
+    (send_leaves c.args.id c.args.bytes.now s c.send_in.new.self c.send_in.result sound (returns-in-Some-clause-outcome g c)).unread
+
+pub returns-in-Some-clause-others : goal.returns-in-Some-clause-others
+returns-in-Some-clause-others g c =
+    let s : DriverState = c.args.self.now in
+    let sound : IsTable s.table = rw (← c.self.view_is) c.in-Some.ensures.sound in
+    (send_leaves c.args.id c.args.bytes.now s c.send_in.new.self c.send_in.result sound (returns-in-Some-clause-outcome g c)).others

@@ -1,8 +1,10 @@
-use Rattle.std.proofs.Common.{◌≡◌, Some, ap, ◌∙◌, rules}
-use Rattle.vs_flow.specs.Table.{value_under}
+use Rattle.std.proofs.Common.{◌≡◌, ℕ, Some, true, sym, ap, subst, ◌∙◌, rules}
+use Rattle.vs_flow.specs.Table.{value_under, with_value}
 use Rattle.vs_driver_parts.specs.State.{DriverConnection}
-use Rattle.vs_driver_parts.proofs.SameIds.{closing_id}
-use Rattle.vs_driver_parts.proofs.SlotChanges.{kept_with_connection}
+use Rattle.vs_driver_parts.specs.Held.{HeldSlots, KnowsNone}
+use Rattle.vs_driver_parts.proofs.SameIds.{closing_id, closing_closed}
+use Rattle.vs_driver_parts.proofs.SlotChanges.{kept_with_connection, knows_none}
+use Rattle.vs_driver_parts.specs.contracts.slots.Slots.{the_view}
 use Rattle.vs_driver_parts.proofs.slots.Slots.close.Goals as goal
 
 pub invariant_of-self-2 : goal.invariant_of-self-2
@@ -10,3 +12,17 @@ invariant_of-self-2 c =
     let is : value_under c.self.inside.table c.args.slot ≡ Some c.in-Some.connection.now = search rules in
     kept_with_connection c.self.inside c.args.slot c.in-Some.connection.now c.close.new.self c.self.invariant is
     (ap (λ (x : DriverConnection). x.id) c.close.ensures ∙ closing_id c.in-Some.connection.now.end.state c.in-Some.connection.now)
+
+pub returns-clause-unknown : goal.returns-clause-unknown
+returns-clause-unknown c = λ x found.
+    let old = c.in-Some.connection.now in
+    let is : value_under c.self.inside.table c.args.slot ≡ Some old = search rules in
+    let there : value_under c.self.inside.table c.args.slot ≡ Some x = rw (← c.self.view_is) at found in
+    let both : Some old ≡ Some x = sym is ∙ there in
+    let same : old.id ≡ x.id = ap (λ (y : DriverConnection). y.id) (let e : old ≡ x = cc in e) in
+    let none = knows_none c.self.inside c.args.slot old c.close.new.self c.self.invariant is
+    (ap (λ (y : DriverConnection). y.id) c.close.ensures ∙ closing_id old.end.state old)
+    (ap (λ (y : DriverConnection). y.closed) c.close.ensures ∙ closing_closed old.end.state old) in
+    let slots : HeldSlots = the_view c.self.inside in
+    let closed : HeldSlots = record slots { table = with_value slots.table c.args.slot c.close.new.self } in
+    subst (λ (id : ℕ). KnowsNone id closed) same none

@@ -3,8 +3,8 @@ use Rattle.std.specs.List.{position, find}
 use Rattle.vs_driver_parts.specs.State.{GoneConnection}
 use Rattle.vs_driver_parts.specs.Held.{HeldSlots}
 use Rattle.vs_driver_parts.specs.contracts.slots.Slots.{the_view}
-use Rattle.vs_driver_parts.proofs.Lists.{found_nowhere}
-use Rattle.vs_driver_parts.proofs.GoneChanges.{first_gone, read_there, read_nowhere}
+use Rattle.vs_driver_parts.proofs.Lists.{found_nowhere, one_passes}
+use Rattle.vs_driver_parts.proofs.GoneChanges.{first_gone, read_empty, read_there, read_nowhere}
 use Rattle.vs_driver_parts.proofs.slots.Slots.read_gone.Goals as goal
 
 pub returns-in-Some-clause-count : goal.returns-in-Some-clause-count
@@ -47,3 +47,10 @@ returns-in-None-clause-left c =
     let at : position (λ (x : GoneConnection). x.id == c.args.id) c.self.inside.gone.items ≡ None = search rules in
     let s = c.self.inside in
     rw (← c.self.view_is) (ap (λ (gone : List GoneConnection). let h : HeldSlots = the_view s in record h { gone = gone }) (sym (read_nowhere c.args.id s.gone.items _ at)))
+
+pub returns-in-Some-clause-empty : goal.returns-in-Some-clause-empty
+returns-in-Some-clause-empty c = λ g found empty.
+    let gone = c.self.inside.gone.items in
+    let there : find (λ (x : GoneConnection). x.id == c.args.id) gone ≡ Some g = rw (← c.self.view_is) at found in
+    let same = read_empty c.args.id (length c.args.out.now) gone g (one_passes (λ (x : GoneConnection). x.id) c.args.id gone c.self.invariant.numbers.distinct) there empty in
+    returns-in-Some-clause-left c ∙ rw (← c.self.view_is) (ap (λ (gone : List GoneConnection). let h : HeldSlots = the_view c.self.inside in record h { gone = gone }) same)

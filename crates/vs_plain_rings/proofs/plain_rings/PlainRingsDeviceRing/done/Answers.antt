@@ -1,12 +1,24 @@
-use Rattle.std.proofs.Common.{◌≡◌, subst}
-use Rattle.vs_ring_port.specs.Contents.{Return}
-use Rattle.vs_ring_plain.specs.Device.{answer_to}
-use Rattle.vs_plain_rings.specs.Parts.{PartsState}
-use Rattle.vs_plain_rings.proofs.Device.{allowed}
+use Rattle.std.proofs.Common.{◌≡◌, ap, sym, ◌∙◌}
+use Rattle.vs_ring_port.specs.Chains.{without}
+use Rattle.vs_ring_plain.specs.Device.{chains_held}
+use Rattle.vs_ring_plain.proofs.Calls.{returns_by}
+use Rattle.vs_plain_ties.specs.Exposed.{BothEnds}
+use Rattle.vs_plain_rings.proofs.Rings.{allows_returned, tied_returned}
 use Rattle.vs_plain_rings.proofs.plain_rings.PlainRingsDeviceRing.done.Goals as goal
 
-exact : (c : goal.After-give_back) → answer_to (Return c.args.chain c.args.len) c.args.self.now.device ≡ (tt, c.give_back.new.self.device)
-exact c = subst (λ (p : PartsState). answer_to (Return c.args.chain c.args.len) p.device ≡ (tt, c.give_back.new.self.device)) c.self.view_is c.give_back.ensures.exact
+pub invariant_of-self : goal.invariant_of-self
+invariant_of-self c =
+    tied_returned c.self.inside.parts c.self.inside.journal.calls c.args.self.now c.self.view_is c.self.invariant c.args.chain c.args.len
+    c.give_back.new.self c.then-journal.result.calls c.give_back.ensures.rest c.give_back.ensures.exact c.requires.is_held
+    c.requires.written
+    c.then-journal.ensures
+
+pub returns-clause-held : goal.returns-clause-held
+returns-clause-held c =
+    (returns_by c.args.chain c.args.len c.self.inside.parts.device c.give_back.new.self.device c.give_back.ensures.exact).0
+    ∙ ap (λ (x : BothEnds). without c.args.chain (chains_held x.parts.device)) c.self.view_is
 
 pub returns-clause-contents : goal.returns-clause-contents
-returns-clause-contents c = allowed (Return c.args.chain c.args.len) tt c.args.self.now c.give_back.new.self (exact c)
+returns-clause-contents c =
+    allows_returned c.self.inside.parts c.self.inside.journal.calls c.args.self.now c.self.view_is c.self.invariant c.args.chain c.args.len
+    c.give_back.new.self c.then-journal.result.calls c.give_back.ensures.exact c.requires.written c.then-journal.ensures

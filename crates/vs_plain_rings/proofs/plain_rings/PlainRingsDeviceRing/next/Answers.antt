@@ -1,15 +1,21 @@
-use Rattle.std.proofs.Common.{◌≡◌, subst}
-use Rattle.vs_ring_port.specs.Contents.{Take}
-use Rattle.vs_ring_plain.specs.Device.{answer_to}
-use Rattle.vs_plain_rings.specs.Parts.{PartsState}
-use Rattle.vs_plain_rings.proofs.Device.{allowed, takes_by}
+use Rattle.std.proofs.Common.{◌≡◌, subst, sym}
+use Rattle.vs_ring_plain.specs.Device.{DeviceState}
+use Rattle.vs_ring_plain.proofs.Calls.{takes_by}
+use Rattle.vs_plain_rings.proofs.Rings.{allows_taken, tied_taken}
 use Rattle.vs_plain_rings.proofs.plain_rings.PlainRingsDeviceRing.next.Goals as goal
 
-exact : (c : goal.After-take) → answer_to (Take c.args.queue) c.args.self.now.device ≡ (c.take.result, c.take.new.self.device)
-exact c = subst (λ (p : PartsState). answer_to (Take c.args.queue) p.device ≡ (c.take.result, c.take.new.self.device)) c.self.view_is c.take.ensures.exact
+pub invariant_of-self : goal.invariant_of-self
+invariant_of-self c =
+    tied_taken c.self.inside.parts c.self.inside.journal.calls c.args.self.now c.self.view_is c.self.invariant c.args.queue
+    c.take-next.result
+    c.take-next.new.self c.then-self-inside.result.calls c.take-next.ensures.rest c.take-next.ensures.exact c.then-self-inside.ensures
 
 pub returns-clause-long_enough : goal.returns-clause-long_enough
-returns-clause-long_enough c = (takes_by c.args.queue c.take.result c.args.self.now.device c.take.new.self.device (exact c)).long_enough
+returns-clause-long_enough c =
+    (takes_by c.args.queue c.take-next.result c.self.inside.parts.device c.take-next.new.self.device c.take-next.ensures.exact).long_enough
 
 pub returns-clause-contents : goal.returns-clause-contents
-returns-clause-contents c = allowed (Take c.args.queue) c.take.result c.args.self.now c.take.new.self (exact c)
+returns-clause-contents c =
+    allows_taken c.self.inside.parts c.self.inside.journal.calls c.args.self.now c.self.view_is c.self.invariant c.args.queue
+    c.take-next.result
+    c.take-next.new.self c.then-self-inside.result.calls c.take-next.ensures.exact c.then-self-inside.ensures

@@ -1,14 +1,12 @@
-use Rattle.std.proofs.Common.{◌≡◌, ℕ, List, ◌==◌, ◌<◌, ◌∷◌, [], ◌++◌, false, length, set, Some, None, refl, sym, ap, ◌∙◌, rules, arith}
-use Rattle.std.specs.List.{All, find, position}
+use Rattle.std.proofs.Common.{◌≡◌, List, ◌==◌, false, Some, None, sym, ap, ◌∙◌, rules, arith}
+use Rattle.std.specs.List.{find, position}
 use Rattle.std.proofs.lemmas.List.{length-set}
 use Rattle.std.proofs.lemmas.List.Elements.{All-set}
 use Rattle.vs_uds.specs.ConnectLine.{connect_step}
 use Rattle.vs_uds.specs.Reading.{is_decided}
 use Rattle.vs_uds.specs.declared.connect.TheConstants.{CONNECT_MAX}
-use Rattle.vs_uds.specs.declared.scan.Step.TheVariants as step
 use Rattle.vs_proxy.specs.State.{Handshake}
-use Rattle.vs_proxy.specs.Handshakes.{with_line, without_stream}
-use Rattle.vs_proxy.proofs.Waiting.{found_nowhere, first_at, IsFirst, undecided, fed_line, fed_more, fed_over, all_removed}
+use Rattle.vs_proxy.proofs.Waiting.{found_nowhere, undecided, fed_line, fed_more, fed_over}
 use Rattle.vs_proxy.proofs.handshakes.Handshakes.feed.Goals as goal
 
 pub returns-in_default-clause-step : goal.returns-in_default-clause-step

@@ -1,7 +1,6 @@
-use Rattle.std.proofs.Common.{◌≡◌, ℕ, List, ◌==◌, Some, None, refl, sym, ap, ◌∙◌, rules}
+use Rattle.std.proofs.Common.{◌≡◌, List, ◌==◌, Some, None, sym, ◌∙◌, rules}
 use Rattle.std.specs.List.{position}
 use Rattle.vs_proxy.specs.State.{Handshake}
-use Rattle.vs_proxy.specs.Handshakes.{without_stream}
 use Rattle.vs_proxy.proofs.Waiting.{found_nowhere, none_without, first_at, without_first}
 use Rattle.vs_proxy.proofs.handshakes.Handshakes.remove.Goals as goal
 

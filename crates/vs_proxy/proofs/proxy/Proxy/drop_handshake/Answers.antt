@@ -1,5 +1,4 @@
-use Rattle.std.proofs.Common.{◌≡◌, ℕ, ◌+◌, List, refl, sym, ap, ◌∙◌}
-use Rattle.vs_device.specs.Playing.{situation}
+use Rattle.std.proofs.Common.{◌≡◌, ◌+◌, List, ap, ◌∙◌}
 use Rattle.vs_proxy.specs.Handshakes.{without_handshake}
 use Rattle.vs_proxy.specs.State.{Handshake, ProxyState, Turning}
 use Rattle.vs_proxy.specs.Turning.{turning_of}

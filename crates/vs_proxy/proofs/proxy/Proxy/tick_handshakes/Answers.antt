@@ -1,10 +1,12 @@
-use Rattle.std.proofs.Common.{◌≡◌, ℕ, List, ◌+◌, ◌<◌, ◌≤◌, length, drop, map, refl, sym, ap, subst, ◌∙◌, rules, arith}
+use Rattle.std.proofs.Common.{◌≡◌, ℕ, List, ◌<◌, ◌≤◌, length, refl, sym, ap, subst, ◌∙◌, rules, arith}
 use Rattle.vs_contents.specs.CallTree.{for_each}
 use Rattle.vs_device.specs.Playing.{MayRun, Runs, situation}
 use Rattle.vs_device.proofs.Each.{each_more, may_each_step, may_each_more, each_end}
 use Rattle.vs_proxy.specs.Handshakes.{streams_of, tick_handshake}
-use Rattle.vs_proxy.specs.State.{Handshake, ProxyState, Turning}
+use Rattle.vs_proxy.specs.State.{ProxyState, Turning}
 use Rattle.vs_proxy.specs.Turning.{turning_of}
+use Rattle.vs_proxy.specs.declared.tally.Tally.{Tally}
+use Rattle.vs_proxy.proofs.Counting.{few_then, none_came}
 use Rattle.vs_proxy.proofs.proxy.Proxy.tick_handshakes.Goals as goal
 
 pub loop-stream-init : goal.loop-stream-init
@@ -19,6 +21,8 @@ loop-stream-init g c =
       may = let P : List ℕ → Type 0 = λ xs. MayRun (for_each tick_handshake xs t) (situation c.requires.may.0 host faults) in (c.requires.may.0, subst P (sym is) c.requires.may.1);
       small = omega (arith, c.requires.few);
       few = c.as_slice-stream-items.ensures.fits;
+      others = refl;
+      same = none_came s.device s.device refl refl;
       chain = refl;
     }
 
@@ -49,6 +53,8 @@ loop-stream-preserved g c =
       may = (may.0, may_each_more tick_handshake xs i 0 t within u (situation may.0 host faults) (situation may.0 host' faults') may.1 (c.tick_handshake.ensures.calls may.0));
       small = omega (arith, c.loop-stream.invariant.small, c.tick_handshake.ensures.count);
       few = c.loop-stream.invariant.few;
+      others = c.tick_handshake.ensures.others ∙ ap (λ (x : Tally). record x { hands = c.tick_handshake.new.tally.hands }) c.loop-stream.invariant.others;
+      same = few_then 0 0 0 0 _ _ _ c.loop-stream.invariant.same c.tick_handshake.ensures.same;
       chain = c.tick_handshake.ensures.chain ∙ c.loop-stream.invariant.chain;
     }
 

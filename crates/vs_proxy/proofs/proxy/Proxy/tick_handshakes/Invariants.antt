@@ -1,11 +1,11 @@
-use Rattle.std.proofs.Common.{◌≡◌, ◌≤◌, ℕ, length, drop}
+use Rattle.std.proofs.Common.{◌≡◌, ◌≤◌, length, drop}
 use Rattle.vs_contents.specs.CallTree.{for_each}
 use Rattle.vs_ring_port.specs.Contents.{RingContents}
 use Rattle.vs_device.specs.Calls.{Situation}
 use Rattle.vs_device.specs.Playing.{MayRunOnHost, Runs, situation}
 use Rattle.vs_proxy.specs.Handshakes.{tick_handshake, tick_handshakes}
 use Rattle.vs_proxy.specs.State.{Turning}
-use Rattle.vs_proxy.specs.Turning.{turning_of}
+use Rattle.vs_proxy.specs.Turning.{CountsFew, turning_of}
 use Rattle.vs_proxy.specs.declared.limits.TheConstants.{HANDSHAKES}
 use Rattle.vs_proxy.proofs.proxy.Proxy.tick_handshakes.Given as goal
 
@@ -18,5 +18,7 @@ invariant-loop-stream g l = record {
   may : MayRunOnHost (for_each tick_handshake (drop l.stream-index l.stream-items) (turning_of l.self l.tally)) (g.H.HostNet.contents l.host) (g.H.HostNet.faults l.host);
   small : l.tally.hands ≤ l.stream-index;
   few : length l.stream-items ≤ HANDSHAKES;
+  others : l.tally ≡ record l.fn.tally { hands = l.tally.hands };
+  same : CountsFew 0 0 l.fn.self.device l.self.device;
   chain : l.self.device.chain ≡ l.fn.self.device.chain;
 }

@@ -1,0 +1,9 @@
+pub mod Keeping
+pub mod Tables
+pub mod Ends
+pub mod Closing
+pub mod Writing
+pub mod Transmitting
+pub mod Receiving
+pub mod Opening
+pub mod Conditions

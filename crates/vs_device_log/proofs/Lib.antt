@@ -1,0 +1,16 @@
+pub mod Keeping
+pub mod Shown
+pub mod Fits
+pub mod Bytes
+pub mod Tabling
+pub mod Changing
+pub mod Putting
+pub mod Ringing
+pub mod Writing
+pub mod Steps
+pub mod Filling
+pub mod Taking
+pub mod Hearing
+pub mod Transmitting
+pub mod Turning
+pub mod Packets

@@ -1,0 +1,103 @@
+-- What a call on a ring that tells its log keeps.
+use Rattle.std.proofs.Common.{◌≡◌, ℕ, ◌+◌, ◌≤◌, Bool, true, cond, List, [], ◌∷◌, ◌++◌, length, take, drop, Option, Some, None, refl, sym}
+use Rattle.std.proofs.Common.{ap, subst, ◌∙◌, arith, length-append}
+use Rattle.std.proofs.lemmas.Bool.Decides.{nat_tests}
+use Rattle.std.proofs.lemmas.List.{take_at}
+use Rattle.std.specs.Option.{ForSome}
+use Rattle.vs_contents.specs.Contents.{Exposes}
+use Rattle.vs_page.specs.Fair.{IsFairLog}
+use Rattle.vs_page.specs.Log.{Device}
+use Rattle.vs_page.specs.Overwriting.{overwritten}
+use Rattle.vs_ring_port.specs.Chains.{Held, bytes_in, same_chain, same_queue, with_bytes, without_held}
+use Rattle.vs_ring_port.specs.Contents.{RingContents, DeviceCall, DeviceAnswer}
+use Rattle.vs_ring_port.specs.DeviceCalls.{DeviceMoves}
+use Rattle.vs_ring_port.specs.EndLog.{EndLog, entries_returned, log_returned, log_written}
+use Rattle.vs_ring_port.specs.Lists.{Rings}
+use Rattle.vs_ring_port.specs.declared.device_ring.Chain.{Chain}
+use Rattle.vs_ring_port.specs.declared.queue.Queue.{Queue}
+use Rattle.vs_ring_port.specs.declared.queue.Queue.TheVariants.{Rx, Tx, Event}
+
+-- P holds of the log that a ring tells; it depends on whether the ring is honest.
+abbrev pub Tells : (Bool → EndLog → Type 0) → RingContents → Type 0
+Tells P c = ForSome c.log (P c.honest)
+
+pub tells_weaker : (P Q : Bool → EndLog → Type 0) → ((h : Bool) (l : EndLog) → P h l → Q h l) → (c : RingContents) → Tells P c → Tells Q c
+tells_weaker P Q then c tells = λ l is. then c.honest l (tells l is)
+
+-- A call changes the log by g: what follows of each log, which is fair after it where the ring is honest, it tells.
+pub moves : (call : DeviceCall) (a : DeviceAnswer call) (L : Rings → Type 0) (f : Rings → Rings) (R : EndLog → Type 0)
+    (g : EndLog → EndLog) (c d : RingContents)
+    → DeviceMoves call a L f R g c d → (P Q : Bool → EndLog → Type 0)
+    → ((h : Bool) (l : EndLog) → R l → P h l → (h ≡ true → IsFairLog Device (g l).entries) → Q h (g l)) → Tells P c → Tells Q d
+moves call a L f R g c d made P Q then tells = λ l is. by c.log refl made.log l is
+  where
+    by : (o : Option EndLog) → c.log ≡ o → Exposes o d.log R g → (l : EndLog) → d.log ≡ Some l → Q d.honest l
+    by None log exposes l is = let e : None ≡ Some l = sym exposes ∙ is in absurd cc
+    by (Some before) log exposes l is =
+        let e : Some (g before) ≡ Some l = sym exposes.1 ∙ is in
+        let same : g before ≡ l = cc in
+        let fair : c.honest ≡ true → IsFairLog Device (g before).entries = λ honest. made.fair (made.honest ∙ honest)
+        (g before) exposes.1 in
+        subst (λ (h : Bool). Q h l) (sym made.honest) (subst (Q c.honest) same (then c.honest before exposes.0 (tells before log) fair))
+
+-- A chain is itself.
+pub same_self : (c : Chain) → same_chain c c ≡ true
+same_self c = let q = by c.queue in grind (arith, nat_tests, q)
+  where
+    by : (q : Queue) → same_queue q q ≡ true
+    by Rx = refl
+    by Tx = refl
+    by Event = refl
+
+-- The chain that was taken last, its bytes so far, and those held before.
+abbrev pub HoldsFirst : Chain → List ℕ → List Held → EndLog → Type 0
+HoldsFirst chain bytes others l = l.held ≡ record { chain = chain; bytes = bytes } ∷ others
+
+pub first_bytes : (chain : Chain) (bytes : List ℕ) (others : List Held) → bytes_in chain
+    (record { chain = chain; bytes = bytes } ∷ others) ≡ bytes
+first_bytes chain bytes others = ap (λ (b : Bool). cond b bytes (bytes_in chain others)) (same_self chain)
+
+pub bytes_held : (chain : Chain) (bytes : List ℕ) (others : List Held) (l : EndLog) → HoldsFirst chain bytes others l
+    → bytes_in chain l.held ≡ bytes
+bytes_held chain bytes others l is = ap (bytes_in chain) is ∙ first_bytes chain bytes others
+
+first_written : (chain : Chain) (bytes new : List ℕ) (others : List Held)
+    → with_bytes chain new (record { chain = chain; bytes = bytes } ∷ others) ≡ record { chain = chain; bytes = new } ∷ others
+first_written chain bytes new others =
+    let h : Held = record { chain = chain; bytes = bytes } in
+    ap (λ (b : Bool). cond b (record h { bytes = new } ∷ others) (h ∷ with_bytes chain new others)) (same_self chain)
+
+pub written_held : (chain : Chain) (bytes new : List ℕ) (place : ℕ) (others : List Held) (l : EndLog) → HoldsFirst chain bytes others l
+    → HoldsFirst chain (overwritten bytes place new) others (log_written chain place new l)
+written_held chain bytes new place others l is =
+    ap (λ (b : List ℕ). with_bytes chain (overwritten b place new) l.held) (bytes_held chain bytes others l is)
+    ∙ (ap (with_bytes chain (overwritten bytes place new)) is ∙ first_written chain bytes (overwritten bytes place new) others)
+
+pub returned_held : (chain : Chain) (bytes : List ℕ) (len : ℕ) (others : List Held) (l : EndLog) → HoldsFirst chain bytes others l
+    → (log_returned chain len l).held ≡ others
+returned_held chain bytes len others l is =
+    let h : Held = record { chain = chain; bytes = bytes } in
+    ap (without_held chain) is ∙ ap (λ (b : Bool). cond b others (h ∷ without_held chain others)) (same_self chain)
+
+pub returned_entries : (chain : Chain) (queue : Queue) (bytes : List ℕ) (len : ℕ) (others : List Held) (l : EndLog) → chain.queue ≡ queue
+    → HoldsFirst chain bytes others l → (log_returned chain len l).entries ≡ entries_returned queue (take len bytes) l.entries
+returned_entries chain queue bytes len others l is held =
+    ap (λ (q : Queue). entries_returned q (take len (bytes_in chain l.held)) l.entries) is
+    ∙ ap (λ (b : List ℕ). entries_returned queue (take len b) l.entries) (bytes_held chain bytes others l held)
+
+-- What was written is there.
+pub one_written : (new : List ℕ) (n : ℕ) → length new ≡ n → take n (overwritten [] 0 new) ≡ new
+one_written new n len = take_at new (drop (0 + length new) []) n len
+
+pub both_written : (new more : List ℕ) (n : ℕ) → length new ≡ n → take (n + length more)
+    (overwritten (overwritten [] 0 new) n more) ≡ new ++ more
+both_written new more n len =
+    let rest = drop (n + length more) (overwritten [] 0 new) in
+    ap (λ (xs : List ℕ). take (n + length more) (xs ++ more ++ rest)) (one_written new n len)
+    ∙ take_at (new ++ more) rest (n + length more) (length-append new more ∙ ap (λ (k : ℕ). k + length more) len)
+
+pub overwritten_long : (old new : List ℕ) (n : ℕ) → length (take n old) ≡ n → n + length new ≤ length (overwritten old n new)
+overwritten_long old new n first =
+    let all = length-append (take n old ++ new) (drop (n + length new) old) in
+    let front = length-append (take n old) new in
+    omega (arith, first, all, front)

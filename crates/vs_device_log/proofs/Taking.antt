@@ -1,0 +1,138 @@
+-- A packet that is got: the device's connections are those that the log with it leaves.
+use Rattle.std.proofs.Common.{◌≡◌, ℕ, ◌&&◌, Bool, true, false, cond, List, [], ◌∷◌, Contains, None, refl, sym, ap, subst, ◌∙◌, arith}
+use Rattle.std.proofs.lemmas.List.{map-append}
+use Rattle.std.proofs.lemmas.List.Elements.{All-push}
+use Rattle.vs_conn.specs.End.{ConnectionEnd, answering, end_after, is_reset, is_stream, verdict_of}
+use Rattle.vs_conn.specs.Follows.{IsSpace, IsTaken}
+use Rattle.vs_history.specs.Packets.{is_request, is_rst}
+use Rattle.vs_history.specs.declared.TheConstants.{BUF_ALLOC}
+use Rattle.vs_history.specs.declared.packet.Packet.{Packet}
+use Rattle.vs_flow.specs.Table.{entry_of, has_place, refusal, with_value, without}
+use Rattle.vs_flow.specs.declared.flow.Flow.{Flow}
+use Rattle.vs_flow.proofs.Tables.{accepted}
+use Rattle.vs_page.specs.Fair.{IsFairLog}
+use Rattle.vs_page.specs.Held.{FitsWire}
+use Rattle.vs_page.specs.Log.{Device, Log, flow_to_host, side_of}
+use Rattle.vs_page.specs.Open.{is_dropped}
+use Rattle.vs_page.specs.declared.log.LogEntry.TheVariants.{GotPacket}
+use Rattle.vs_replies.specs.Owed.{reply_to}
+use Rattle.vs_matching.specs.Ends.{Ends, FlowEnd}
+use Rattle.vs_matching.specs.Heard.{IsInOrder, heard_of}
+use Rattle.vs_matching.specs.Matches.{Matches}
+use Rattle.vs_matching.specs.Steps.{HasEnd, HasNone, left, is_overrun, taken, with_end}
+use Rattle.vs_matching.proofs.Keeps.{accepts, drops, has_room, ignores, refuses, takes}
+use Rattle.vs_matching.proofs.Fair.{got_in_order, got_is_taken}
+use Rattle.vs_matching.proofs.Slots.{added_slot, no_entry}
+use Rattle.vs_device.specs.State.{DeviceConnection, DeviceEntry, DeviceState}
+use Rattle.vs_device.specs.Connections.{new_connection, with_connection, with_dialed, with_reply}
+use Rattle.vs_device_log.specs.Honest.{IsFitFlow, IsFitReply, IsLeft, ends_of_state, end_in, reply_flow}
+use Rattle.vs_device_log.proofs.Tabling.{IsFitConnection, begun_fits, connection_ends, connection_fits, has_end, left_ends, left_fits}
+use Rattle.vs_device_log.proofs.Tabling.{opening_fits}
+
+module _ (first port : ℕ) (s : DeviceState) (p : Packet) (log : Log) (was : IsLeft first port s.cid s.overrun s.table s.replies log)
+    (fair : IsFairLog Device (GotPacket p ∷ log)) (wire : FitsWire p.header) where
+  abbrev pub Goes : DeviceState → Type 0
+  Goes t = IsLeft first port t.cid t.overrun t.table t.replies (GotPacket p ∷ log)
+
+  order : IsInOrder (side_of Device (flow_to_host p.header)) (heard_of Device first (flow_to_host p.header) log) p
+  order = got_in_order Device first p log (fair (flow_to_host p.header))
+
+  comes : IsTaken p
+  comes = got_is_taken Device p log (fair (flow_to_host p.header))
+
+  -- A packet whose source isn't the guest, or whose destination isn't the host.
+  pub drops_it : is_dropped Device s.cid p.header ≡ true → Goes s
+  drops_it dropped = record {
+    fits = was.fits;
+    none_overrun = was.none_overrun;
+    matches = drops Device first p (ends_of_state port s) log was.matches dropped;
+    fair = fair;
+  }
+
+  module _ (kept : is_dropped Device s.cid p.header ≡ false) where
+    -- A packet of a connection of the table.
+    module _ (e : DeviceEntry) (there : Contains s.table.entries e) (flow : flow_to_host p.header ≡ e.flow) where
+      has : HasEnd (flow_to_host p.header) e.value.end (ends_of_state port s)
+      has = subst (λ (f : Flow). HasEnd f e.value.end (ends_of_state port s)) (sym flow) (has_end s was.fits e there port)
+
+      pub has_its_room : is_overrun (verdict_of e.value.end p.header) ≡ false
+      has_its_room = has_room Device first p e.value.end (ends_of_state port s) log was.matches has fair
+
+      now : Matches Device first (taken e.flow e.value.end p (ends_of_state port s)) (GotPacket p ∷ log)
+      now = subst (λ (f : Flow). Matches Device first (taken f e.value.end p (ends_of_state port s)) (GotPacket p ∷ log)) flow
+          (takes Device first p e.value.end (ends_of_state port s) log was.matches kept has order comes)
+
+      pub stays_with : (c : DeviceConnection) → c.end ≡ end_after e.value.end p.header → IsFitConnection c
+          → (is_reset p.header && is_stream p.header) ≡ false → Goes (with_connection e.slot c s)
+      stays_with c is held goes_on = record {
+        fits = connection_fits s was.fits e.slot c held;
+        none_overrun = was.none_overrun;
+        matches = subst (λ (part : Ends). Matches Device first part (GotPacket p ∷ log))
+            (ap (λ (b : Bool). cond b (left e.flow (ends_of_state port s))
+            (with_end e.flow (end_after e.value.end p.header) (ends_of_state port s))) goes_on
+            ∙ ap (λ (x : ConnectionEnd). with_end e.flow x (ends_of_state port s)) (sym is) ∙ sym
+            (connection_ends s was.fits e there port c)) now;
+        fair = fair;
+      }
+
+      pub leaves_with : (c : DeviceConnection) → (is_reset p.header && is_stream p.header) ≡ true
+          → Goes (record s { table = without (with_value s.table e.slot c) e.slot })
+      leaves_with c over = record {
+        fits = left_fits s was.fits e there c;
+        none_overrun = was.none_overrun;
+        matches = subst (λ (part : Ends). Matches Device first part (GotPacket p ∷ log))
+            (ap (λ (b : Bool). cond b (left e.flow (ends_of_state port s))
+            (with_end e.flow (end_after e.value.end p.header) (ends_of_state port s))) over
+            ∙ sym (left_ends s was.fits e there port c)) now;
+        fair = fair;
+      }
+
+    -- A packet of another flow.
+    module _ (none : entry_of s.table (flow_to_host p.header) ≡ None) where
+      no_end : HasNone (flow_to_host p.header) (ends_of_state port s)
+      no_end = no_entry end_in s.table (flow_to_host p.header) none
+
+      flow_fits : IsFitFlow (flow_to_host p.header)
+      flow_fits = record { guest = wire.src_port; host = wire.dst_port }
+
+      pub opens : (stream : ℕ) → is_request p ≡ true → has_place s.table ≡ true → Goes
+          (with_dialed (flow_to_host p.header) p.header stream s)
+      opens stream request place =
+          let f : Flow = flow_to_host p.header in
+          let c : DeviceConnection = new_connection (answering BUF_ALLOC p.header) stream false in
+          let free : refusal s.table f ≡ None = rw (none, place) refl in
+          let space : IsSpace BUF_ALLOC = (omega arith, omega arith) in
+          record {
+            fits = opening_fits s was.fits f c (accepted s.table f free) flow_fits (begun_fits c
+                (record { alloc = omega arith; fwd = omega arith; rx = omega arith; unread = omega arith; within = omega arith }) refl);
+            none_overrun = was.none_overrun;
+            matches = subst (λ (part : Ends). Matches Device first part (GotPacket p ∷ log))
+                (ap (λ (es : List FlowEnd). let part : Ends = record (ends_of_state port s) { entries = es } in part)
+                (sym (added_slot end_in s.table f c)))
+                (accepts Device first BUF_ALLOC p (ends_of_state port s) log was.matches kept no_end order comes request space);
+            fair = fair;
+          }
+
+      pub replies_to : Goes (with_reply (reply_to p.header) s)
+      replies_to = record {
+        fits = record {
+          cid_fits = was.fits.cid_fits;
+          sound = was.fits.sound;
+          entries = was.fits.entries;
+          owed = All-push IsFitReply s.replies (reply_to p.header) was.fits.owed flow_fits;
+        };
+        none_overrun = was.none_overrun;
+        matches = subst (λ (part : Ends). Matches Device first part (GotPacket p ∷ log))
+            (ap (λ (fs : List Flow). let part : Ends = record (ends_of_state port s) { replies = fs } in part)
+            (sym (map-append reply_flow s.replies (reply_to p.header ∷ []))))
+            (refuses Device first p (ends_of_state port s) log was.matches kept no_end order);
+        fair = fair;
+      }
+
+      pub ignores_it : is_rst p ≡ true → Goes s
+      ignores_it rst = record {
+        fits = was.fits;
+        none_overrun = was.none_overrun;
+        matches = ignores Device first p (ends_of_state port s) log was.matches kept no_end rst order;
+        fair = fair;
+      }

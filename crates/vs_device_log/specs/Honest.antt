@@ -1,0 +1,141 @@
+-- Where a ring tells the device's log: the chains that the device holds, and over an honest ring its connections and the log.
+use Rattle.std.specs.Prelude.{◌≡◌, ℕ, ◌+◌, ◌<◌, ◌≤◌, ◌^◌, ◌||◌, Bool, false, true, List, [], ◌∷◌, map, length, Option, Some, None, Result}
+use Rattle.std.specs.Prelude.{Ok, Err, IfSome}
+use Rattle.std.specs.List.{All}
+use Rattle.std.specs.Option.{ForSome}
+use Rattle.vs_conn.specs.End.{ConnectionEnd}
+use Rattle.vs_conn.specs.declared.end.State.{State}
+use Rattle.vs_credit.specs.Credit.{unread_of}
+use Rattle.vs_credit.specs.declared.Credit.{Credit}
+use Rattle.vs_flow.specs.Table.{IsTable, Table}
+use Rattle.vs_flow.specs.declared.flow.Flow.{Flow}
+use Rattle.vs_flow.specs.declared.table.TableFault.{TableFault}
+use Rattle.vs_history.specs.History.{Asker}
+use Rattle.vs_history.specs.Packets.{is_rst}
+use Rattle.vs_history.specs.declared.TheConstants.{BUF_ALLOC}
+use Rattle.vs_history.specs.declared.packet.Packet.{Packet}
+use Rattle.vs_page.specs.Fair.{IsFairLog}
+use Rattle.vs_page.specs.Log.{Device, Log, side_of}
+use Rattle.vs_page.specs.Open.{is_open}
+use Rattle.vs_replies.specs.declared.Reply.{Reply}
+use Rattle.vs_ring_port.specs.Chains.{Held}
+use Rattle.vs_ring_port.specs.Contents.{RingContents}
+use Rattle.vs_ring_port.specs.EndLog.{EndLog}
+use Rattle.vs_ring_port.specs.declared.device_ring.Chain.{Chain}
+use Rattle.vs_matching.specs.Ends.{Ends, entries_of, is_among, is_new, new_flows}
+use Rattle.vs_matching.specs.Matches.{Matches}
+use Rattle.vs_device.specs.Playing.{IsRxChain}
+use Rattle.vs_device.specs.State.{DeviceConnection, DeviceEntry, DeviceState}
+
+-- The flow to which a reply is owed.
+abbrev pub reply_flow : Reply → Flow
+reply_flow r = record { guest = r.dst_port; host = r.src_port }
+
+-- The device's connections, the flows to which it owes a reply, the next host port that is assigned, and the guest's CID.
+abbrev pub end_in : DeviceConnection → ConnectionEnd
+end_in c = c.end
+
+abbrev pub ends_with : ℕ → ℕ → Table DeviceConnection → List Reply → Ends
+ends_with port cid table replies = record {
+  entries = entries_of end_in table;
+  replies = map reply_flow replies;
+  next_port = port;
+  cid = cid;
+}
+
+abbrev pub ends_of_state : ℕ → DeviceState → Ends
+ends_of_state port s = ends_with port s.cid s.table s.replies
+
+-- Ports have 32 bits.
+pub record IsFitFlow (f : Flow) : Type 0 where
+  pub guest : f.guest < 2 ^ 32
+  pub host : f.host < 2 ^ 32
+
+-- So many bytes are pending at an end with this credit: they were got and aren't forwarded, and no more are unread than there is buffer
+-- space, which is the usual one.
+pub record HoldsBytes (c : Credit) (pending : ℕ) : Type 0 where
+  pub unread : pending ≤ unread_of c
+  pub within : unread_of c ≤ c.alloc
+  pub alloc : c.alloc ≤ BUF_ALLOC
+  pub rx : c.rx_cnt < 2 ^ 32
+  pub fwd : c.fwd_cnt < 2 ^ 32
+
+-- A connection whose REQUEST isn't put is one that a client of the host asks for. It has nothing to write, and no moment.
+pub record HasNothing (c : DeviceConnection) : Type 0 where
+  pub by_client : c.by_client ≡ true
+  pub ok_line : c.ok_line ≡ []
+  pub pending : c.pending ≡ []
+  pub asked_at : c.asked_at ≡ None
+  pub shut_at : c.shut_at ≡ None
+
+pub record IsFitEntry (e : DeviceEntry) : Type 0 where
+  pub ports : IsFitFlow e.flow
+  pub bytes : HoldsBytes e.value.end.credit (length e.value.pending)
+  pub new : is_new e.value.end ≡ true → HasNothing e.value
+
+abbrev pub IsFitReply : Reply → Type 0
+IsFitReply r = IsFitFlow (reply_flow r)
+
+-- The device's numbers fit their widths, and its table is one.
+pub record IsFit (cid : ℕ) (table : Table DeviceConnection) (replies : List Reply) : Type 0 where
+  pub cid_fits : cid < 2 ^ 64
+  pub sound : IsTable table
+  pub entries : All IsFitEntry table.entries
+  pub owed : All IsFitReply replies
+
+abbrev pub IsFitState : DeviceState → Type 0
+IsFitState s = IsFit s.cid s.table s.replies
+
+-- The device and its log, where this was the guest's CID at first and this is the next host port: each connection is the one that the log
+-- left, no packet held more payload than there was room for, and the log is fair.
+pub record IsLeft (first port cid overrun : ℕ) (table : Table DeviceConnection) (replies : List Reply) (entries : Log) : Type 0 where
+  pub fits : IsFit cid table replies
+  pub none_overrun : overrun ≡ 0
+  pub matches : Matches Device first (ends_with port cid table replies) entries
+  pub fair : IsFairLog Device entries
+
+abbrev pub AgreesWith : ℕ → ℕ → DeviceState → EndLog → Type 0
+AgreesWith first port s l = IsLeft first port s.cid s.overrun s.table s.replies l.entries
+
+-- The chain that the device holds between its calls: nothing is written into it.
+abbrev pub unwritten : Option Chain → List Held
+unwritten None = []
+unwritten (Some chain) = record { chain = chain; bytes = [] } ∷ []
+
+-- Where a ring tells the log, the device holds just its rx chain, unless the ring failed; where the ring is honest too, the device agrees
+-- with the log.
+abbrev pub IsToldOf : ℕ → ℕ → DeviceState → Bool → EndLog → Type 0
+IsToldOf first port s honest l = (s.failed ≡ None → l.held ≡ unwritten s.chain) × (honest ≡ true → AgreesWith first port s l)
+
+abbrev pub IsWith : ℕ → ℕ → DeviceState → RingContents → Type 0
+IsWith first port s c = IfSome s.chain IsRxChain × ForSome c.log (IsToldOf first port s c.honest)
+
+-- The flows of a table that is shown.
+abbrev pub flows_shown : List (Flow × State) → List Flow
+flows_shown [] = []
+flows_shown (x ∷ xs) = x.0 ∷ flows_shown xs
+
+-- The table has the flows that the log left open, and those of clients whose REQUEST isn't put; an RST that is owed as a reply ends its
+-- flow.
+abbrev pub IsLeftOpen : ℕ → DeviceState → List (Flow × State) → EndLog → Type 0
+IsLeftOpen first s shown l =
+    (f : Flow) → is_among f (flows_shown shown)
+    ≡ (is_open Device first f l.entries (is_among f (map reply_flow s.replies)) || is_among f (new_flows (entries_of end_in s.table)))
+
+-- Before the first call nothing was put or got, and no chain is held.
+abbrev pub IsFresh : RingContents → Type 0
+IsFresh c = ForSome c.log (λ l. (l.entries ≡ []) × (l.held ≡ []))
+
+-- The next host port, after a client's connection was asked for on a flow: it stays where that was refused.
+abbrev pub port_after : Flow → ℕ → Result ℕ TableFault → ℕ
+port_after flow port (Ok slot) = flow.host + 1
+port_after flow port (Err fault) = port
+
+-- A packet tells the usual buffer space or more. RST tells none.
+abbrev pub Advertises : Packet → Type 0
+Advertises p = is_rst p ≡ false → BUF_ALLOC ≤ p.header.buf_alloc
+
+-- A connection that a client of the host asks for, on a host port that the device assigned.
+pub record IsClients (e : DeviceEntry) : Type 0 where
+  pub by_client : e.value.by_client ≡ true
+  pub asker : side_of Device e.flow ≡ Asker

@@ -1,0 +1,4 @@
+//! The device and its ring's log: what its calls put, and what it holds, follow from the packets that passed (Virtio 1.2, section 5.10.6).
+#![tactic(auto)]
+
+pub mod laws;

@@ -1,0 +1,38 @@
+-- Each connection is a pipe: what came in on it is read in its order, and a call on one connection leaves all others alone.
+use Rattle.std.specs.Prelude.{◌≡◌, ◌≢◌, ℕ, Bool, false, not, List, [], take, Option, Some, None}
+use Rattle.vs_driver_parts.specs.declared.answers.Received.{Received}
+use Rattle.vs_driver_parts.specs.declared.answers.Received.TheVariants as got
+use Rattle.vs_driver_parts.specs.declared.answers.Shut.{Shut}
+use Rattle.vs_driver_parts.specs.declared.answers.Shut.TheVariants as shut
+use Rattle.vs_driver_parts.specs.State.{DriverEntry, DriverState, GoneConnection, entry_known_as, gone_known_as}
+
+-- What the application has under an id: a connection of the table, or one that is gone.
+abbrev pub connection_of : ℕ → DriverState → Option DriverEntry × Option GoneConnection
+connection_of id s = (entry_known_as id s, gone_known_as id s)
+
+-- Every connection with another id is as it was, and so are its unread bytes.
+abbrev pub KeepsOthers : ℕ → DriverState → DriverState → Type 0
+KeepsOthers id old new = (other : ℕ) → other ≢ id → connection_of other new ≡ connection_of other old
+
+-- recv: the bytes that it gave, at the front of the buffer.
+abbrev pub bytes_given : Received → List ℕ → List ℕ
+bytes_given (got.Got n) out = take n out
+bytes_given _ out = []
+
+-- P holds unless recv gave bytes.
+abbrev pub UnlessGot : Received → Type 0 → Type 0
+UnlessGot (got.Got n) P = Unit {0}
+UnlessGot _ P = P
+
+-- The connection is one of the table that receives: it hasn't shut that direction.
+abbrev pub receives : ℕ → DriverState → Bool
+receives id s = elim (entry_known_as id s) [ None ↦ false | Some e ↦ not e.value.end.own.receive ]
+
+-- P holds where shutdown shut the directions, or where it didn't.
+abbrev pub IfShut : Shut → Type 0 → Type 0
+IfShut shut.Done P = P
+IfShut _ P = Unit {0}
+
+abbrev pub UnlessShut : Shut → Type 0 → Type 0
+UnlessShut shut.Done P = Unit {0}
+UnlessShut _ P = P

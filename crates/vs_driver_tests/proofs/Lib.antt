@@ -1,0 +1,3 @@
+mod DeviceSide
+mod Requests
+mod Ready

@@ -1,0 +1,4 @@
+pub mod Answers
+pub mod Guest
+pub mod Run
+pub mod Worked

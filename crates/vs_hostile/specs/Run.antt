@@ -1,0 +1,134 @@
+-- A hostile guest's run: each line of its script, what it answers, and the report at the end.
+use Rattle.std.specs.Prelude.{ℕ, ◌+◌, Bool, false, true, List, [], ◌∷◌, length, map, Option, None, Some, Result, Ok, Err, codes}
+use Rattle.vs_contents.specs.CallTree.{played}
+use Rattle.vs_flow.specs.declared.flow.Flow.{Flow}
+use Rattle.vs_guest_mem.specs.Memory.{Memory, bytes_at, zeroed}
+use Rattle.vs_layout.specs.Layout.{queue_areas_of}
+use Rattle.vs_outside.specs.Host.{HostContents, with_stream}
+use Rattle.vs_outside.specs.HostProgram.{after_listen, after_unlisten, after_client, after_host_write, host_write_answer, has_stream, allowed, ended, closed, after_fail, new_host, plain}
+use Rattle.vs_outside.specs.HostBytes.{wrote_after_connect, read_after_ok}
+use Rattle.vs_outside.specs.declared.mem_stream.HostWritten.{HostWritten}
+use Rattle.vs_ring_port.specs.declared.failure.Failure.{Failure}
+use Rattle.vs_ring_plain.specs.Device.{DeviceState, new_device}
+use Rattle.vs_device.specs.Calls.{DeviceTree}
+use Rattle.vs_proxy.specs.State.{ProxyState}
+use Rattle.vs_proxy.specs.Turns.{new_proxy, turn_of, proxy_reset_of}
+use Rattle.vs_proxy.specs.declared.answers.Turn.{Turn}
+use Rattle.vs_script.specs.Hostile.{Hostile, Memory as SetMemory, Rings as SetRings, Look, Around as OfOutside}
+use Rattle.vs_script.specs.Outside.{Host, HostListen, HostUnlisten, HostWrite, HostAllow, HostEnd, HostClosed, HostFail, Outside, Turn as TakeTurn, Reset, Tick, Client, OfHost}
+use Rattle.vs_hostile.specs.Answers.{Around, answer_around}
+use Rattle.vs_script.specs.Data.{bytes_of}
+use Rattle.vs_hostile.specs.Guest.{guest_writes}
+
+-- The guest's memory as far as the script has set it up.
+pub data GuestState : Type 0 where
+  Nothing : GuestState
+  HasMemory : Memory → GuestState
+  HasRings : DeviceState → GuestState
+
+pub record HostileState : Type 0 where
+  pub guest : GuestState
+  pub proxy : ProxyState
+  pub host : HostContents
+  -- The moment, in milliseconds.
+  pub now : ℕ
+
+-- What a line answers.
+pub data Said : Type 0 where
+  Done : Said
+  Bytes : List ℕ → Said
+  HasTurned : Turn → Said
+  WasReset : Result (Unit {0}) Failure → Said
+  StreamIs : ℕ → Said
+  Wrote : HostWritten → Said
+  IsThere : Bool → Said
+
+abbrev pub with_guest : GuestState → HostileState → HostileState
+with_guest guest s = record s { guest = guest }
+
+-- A conversation of the proxy over rings in the guest's memory and the host.
+abbrev pub over : {A : Type 0} → DeviceTree (ProxyState × A) → (A → Said) → DeviceState → HostileState → HostileState × Said
+over tree said ring s =
+    let r = played answer_around tree (record { ring = ring; host = s.host }) in
+    (record s { guest = HasRings r.1.ring; proxy = r.0.0; host = r.1.host }, said r.0.1)
+
+-- The host's programs.
+abbrev pub by_host : (HostContents → HostContents) → Said → HostileState → HostileState × Said
+by_host f said s = (record s { host = f s.host }, said)
+
+abbrev pub host_does : Host → HostileState → HostileState × Said
+host_does (HostListen port) s = by_host (after_listen port) Done s
+host_does (HostUnlisten port) s = by_host (after_unlisten port) Done s
+host_does (HostWrite stream content) s =
+    let bytes = bytes_of content in let a = host_write_answer stream s.host in by_host (after_host_write stream bytes a) (Wrote a) s
+host_does (HostAllow stream n) s = by_host (with_stream stream (allowed 18446744073709551615 n)) (IsThere (has_stream stream s.host)) s
+host_does (HostEnd stream) s = by_host (with_stream stream ended) (IsThere (has_stream stream s.host)) s
+host_does (HostClosed stream) s = by_host (with_stream stream closed) (IsThere (has_stream stream s.host)) s
+host_does (HostFail n) s = by_host (after_fail n) Done s
+
+abbrev pub outside_does : Outside → DeviceState → HostileState → HostileState × Said
+outside_does TakeTurn ring s = over (turn_of ring.size s.now s.proxy) (λ t. HasTurned t) ring s
+outside_does (Reset cid) ring s = over (proxy_reset_of cid s.proxy) (λ r. WasReset r) ring s
+outside_does (Tick ms) ring s = (record s { now = s.now + ms }, Done)
+outside_does Client ring s = by_host after_client (StreamIs (length s.host.streams + 1)) s
+outside_does (OfHost line) ring s = host_does line s
+
+-- A line once the rings are there.
+abbrev pub over_rings : Hostile → DeviceState → HostileState → HostileState × Said
+over_rings (Look addr len) ring s = (s, Bytes (bytes_at ring.memory addr len))
+over_rings (OfOutside line) ring s = outside_does line ring s
+over_rings line ring s = (with_guest (HasRings (guest_writes line ring)) s, Done)
+
+-- `memory`, then `rings`, then all other lines. A script has them in this order.
+abbrev pub first_line : Hostile → HostileState → HostileState × Said
+first_line (SetMemory span) s = (with_guest (HasMemory (zeroed span.at span.len)) s, Done)
+first_line _ s = (s, Done)
+
+abbrev pub second_line : Hostile → Memory → HostileState → HostileState × Said
+second_line (SetRings n) memory s =
+    (with_guest (HasRings (new_device memory n (queue_areas_of memory.base n) false)) s, Done)
+second_line _ memory s = (s, Done)
+
+abbrev pub line_in : GuestState → Hostile → HostileState → HostileState × Said
+line_in Nothing line s = first_line line s
+line_in (HasMemory memory) line s = second_line line memory s
+line_in (HasRings ring) line s = over_rings line ring s
+
+abbrev pub hostile_does : Hostile → HostileState → HostileState × Said
+hostile_does line s = line_in s.guest line s
+
+-- Before the first line: a device just made, with guest CID 3, at moment 0, and a host at whose base path `v.sock` clients may connect.
+abbrev pub base_path : List ℕ
+base_path = codes "v.sock"
+
+abbrev pub beginning : HostileState
+beginning = record { guest = Nothing; proxy = new_proxy 3 base_path; host = (new_host base_path [] plain).contents; now = 0 }
+
+-- What the report shows of a stream: its label, what its program wrote behind a CONNECT line, and read behind an OK line.
+pub record StreamShown : Type 0 where
+  pub label : Option Flow
+  pub wrote : List ℕ
+  pub read : List ℕ
+
+pub record Report : Type 0 where
+  pub device_open : ℕ
+  pub streams : List StreamShown
+  pub dropped : ℕ
+  pub overrun : ℕ
+  pub faults : ℕ
+  pub failed : Option Failure
+
+abbrev pub report : HostileState → Report
+report s = record {
+  device_open = length s.proxy.device.table.entries;
+  streams = map (λ t. record { label = t.label; wrote = wrote_after_connect t; read = read_after_ok t }) s.host.streams;
+  dropped = s.proxy.device.dropped;
+  overrun = s.proxy.device.overrun;
+  faults = s.proxy.device.faults;
+  failed = s.proxy.device.failed;
+}
+
+-- The answers of a script's lines, and the report at its end.
+abbrev pub hostile_run : List Hostile → HostileState → List Said × Report
+hostile_run [] s = ([], report s)
+hostile_run (line ∷ lines) s = let r = hostile_does line s in let rest = hostile_run lines r.0 in (r.1 ∷ rest.0, rest.1)

@@ -1,0 +1,6 @@
+//! A hostile guest: it writes into the memory of the device's rings as it likes, also while the device reads, and the device and
+//! the host's streams stay in order.
+#![tactic(auto)]
+
+pub mod guest;
+pub mod worked;

@@ -1,0 +1,32 @@
+-- What lies in the memory of one queue.
+use Rattle.std.specs.Prelude.{ℕ, ◌+◌, ◌*◌, List}
+use Rattle.byteorder.specs.Endian.{little_number}
+use Rattle.vs_guest_mem.specs.Memory.{Memory, bytes_at}
+use Rattle.vs_layout.specs.Entry.{desc_of, used_elem_of}
+use Rattle.vs_layout.specs.Layout.{avail_entry, avail_idx, desc_entry, used_elem, used_idx}
+use Rattle.vs_layout.specs.declared.entry.Desc.{Desc}
+use Rattle.vs_layout.specs.declared.entry.TheConstants.{DESC_LEN}
+use Rattle.vs_layout.specs.declared.entry.UsedElem.{UsedElem}
+use Rattle.vs_layout.specs.declared.place.Areas.{Areas}
+use Rattle.vs_page.specs.declared.page.TheConstants.{PAGE_LEN}
+
+-- The index of the available ring, its entries by place, the descriptors by number, the index of the used ring, its elements by place,
+-- and of each descriptor's page its first so many bytes.
+pub record Shown : Type 0 where
+  pub avail : ℕ
+  pub entry : ℕ → ℕ
+  pub desc : ℕ → Desc
+  pub used : ℕ
+  pub elem : ℕ → UsedElem
+  pub page : ℕ → ℕ → List ℕ
+
+-- What is read of a queue whose pages lie from an address on.
+abbrev pub shown : Areas → ℕ → Memory → Shown
+shown areas at m = record {
+  avail = little_number 2 (bytes_at m (avail_idx areas).at 2);
+  entry = λ place. little_number 2 (bytes_at m (avail_entry areas place).at 2);
+  desc = λ id. desc_of (bytes_at m (desc_entry areas id).at DESC_LEN);
+  used = little_number 2 (bytes_at m (used_idx areas).at 2);
+  elem = λ place. used_elem_of (bytes_at m (used_elem areas place).at 8);
+  page = λ id count. bytes_at m (at + PAGE_LEN * id) count;
+}

@@ -1,0 +1,3 @@
+pub mod OverLists
+pub mod Driven
+pub mod Playing

@@ -1,0 +1,7 @@
+use Rattle.vs_play.proofs.Driven.{driven_stays, listen_stays}
+use Rattle.vs_play.proofs.guest.listen.Goals as goal
+
+pub returns-clause-driven : goal.returns-clause-driven
+returns-clause-driven c = λ e. driven_stays c.args.driver.now c.listen.new.self e
+    (listen_stays c.args.port c.args.driver.now c.listen.new.self c.listen.result c.listen.ensures.listens c.listen.ensures.unchanged)
+    c.listen.ensures.honest

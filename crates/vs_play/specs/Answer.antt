@@ -1,0 +1,57 @@
+-- The answer of a play: the lines that a script prints, and the status that it ends with, as a function of its bytes.
+use Rattle.std.specs.Prelude.{ℕ, List, [], ◌∷◌, ◌++◌, length, map, codes, Result, Ok, Err}
+use Rattle.vs_outside.specs.HostProgram.{new_host, plain}
+use Rattle.vs_script.specs.Fault.{refused_text}
+use Rattle.vs_script.specs.Play.{Event}
+use Rattle.vs_script.specs.Script.{Saying, Plays, parse_of}
+use Rattle.vs_script.specs.declared.fault.Refused.{Refused}
+use Rattle.vs_script.specs.declared.script.Command.TheVariants as command
+use Rattle.vs_world.specs.World.{World, opening}
+use Rattle.vs_report.specs.Report.{guest_open_text, device_open_text, stream_texts, counts_text}
+use Rattle.vs_play.specs.Lines.{PlayWorld, event_played}
+
+-- A play begins at the moment 0, over queues of n pages, with a host at which nobody listens.
+abbrev pub base_path : List ℕ
+base_path = codes "v.sock"
+
+abbrev pub opened_play : ℕ → PlayWorld
+opened_play n = record { world = opening n (new_host base_path [] plain).contents; moment = 0 }
+
+-- What event lines lead to, and what they print.
+abbrev pub world_after : List Event → PlayWorld → PlayWorld
+world_after [] p = p
+world_after (e ∷ es) p = world_after es (event_played e p).0
+
+abbrev pub texts_of : List Event → PlayWorld → List (List ℕ)
+texts_of [] p = []
+texts_of (e ∷ es) p = let r = event_played e p in r.1 ∷ texts_of es r.0
+
+-- The report: how many entries the tables have, what each stream's program wrote and read, and what was counted.
+abbrev pub report_of : World → List (List ℕ)
+report_of w =
+    guest_open_text (length w.driver.table.entries)
+    ∷ device_open_text (length w.proxy.device.table.entries)
+    ∷ (stream_texts 1 w.host.streams
+    ++ counts_text w.proxy.device.dropped w.proxy.device.overrun w.driver.broken w.proxy.device.faults
+    ∷ [])
+
+-- An answer: the lines that are printed, each with its LF, and the status.
+pub record Answer : Type 0 where
+  pub lines : List (List ℕ)
+  pub status : ℕ
+
+-- What a play of these lines over queues of n pages prints.
+abbrev pub printed : ℕ → List Event → List (List ℕ)
+printed n es = texts_of es (opened_play n) ++ report_of (world_after es (opened_play n)).world
+
+abbrev pub refusal : Refused → Answer
+refusal r = record { lines = (refused_text r ++ codes "\n") ∷ []; status = 2 }
+
+abbrev pub answer_to : ℕ → Result Saying Refused → Answer
+answer_to n (Ok (Plays lines)) = record { lines = printed n (map (λ l. l.1) lines); status = 0 }
+answer_to n (Ok _) = record { lines = []; status = 0 }
+answer_to n (Err r) = refusal r
+
+-- The answer of the play that a script spells, over queues of n pages.
+abbrev pub play_of : ℕ → List ℕ → Answer
+play_of n script = answer_to n (parse_of command.Play script)

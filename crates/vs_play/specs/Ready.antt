@@ -1,0 +1,58 @@
+-- What a play holds between two lines, and what it is for a line to be played.
+use Rattle.std.specs.Prelude.{◌≡◌, ◌≤◌, ℕ, List, [], ◌++◌}
+use Rattle.vs_contents.specs.CallTree.{played}
+use Rattle.vs_ring_port.specs.DriverCalls.{driver_answer}
+use Rattle.vs_ring_list.specs.Ends.{Ends, driver_contents, flight_of, staged_of}
+use Rattle.vs_driver_parts.specs.Conversations.{DriverTree}
+use Rattle.vs_driver_parts.specs.Playing.{IsRingOf}
+use Rattle.vs_driver_parts.specs.State.{DriverState}
+use Rattle.vs_driver_parts.specs.declared.answers.Received.{Received}
+use Rattle.vs_driver_parts.specs.declared.answers.Received.TheVariants as received
+use Rattle.vs_driver_log.specs.Honest.{IsHonest}
+use Rattle.vs_script.specs.Play.{Event}
+use Rattle.vs_outside.specs.Host.{HostContents}
+use Rattle.vs_proxy.specs.State.{ProxyState}
+use Rattle.vs_play.specs.Lines.{PlayWorld, event_played}
+
+-- What a conversation of the driver's leads to over list rings.
+abbrev pub over_lists : {A : Type 0} → DriverTree A → Ends → A × Ends
+over_lists tree e = let r = played driver_answer tree (e.lists, e.driver) in (r.0, record e { lists = r.1.0; driver = r.1.1 })
+
+-- The rings are the driver's: its pages are in flight, and their log left its connections.
+pub record IsDriven (s : DriverState) (e : Ends) : Type 0 where
+  pub ring : IsRingOf e.lists.size (flight_of e) (staged_of e) s
+  pub honest : IsHonest s (driver_contents e)
+
+-- Bits of a shutdown.
+abbrev pub IsBits : ℕ → Type 0
+IsBits bits = (1 ≤ bits) × (bits ≤ 3)
+
+-- How many bytes a receive got.
+abbrev pub got_count : Received → ℕ
+got_count (received.Got n) = n
+got_count _ = 0
+
+-- What a play holds: its world without the journal of the calls that the guest made.
+pub record PlayState : Type 0 where
+  pub driver : DriverState
+  pub proxy : ProxyState
+  pub rings : Ends
+  pub host : HostContents
+  pub moment : ℕ
+
+abbrev pub shown : PlayWorld → PlayState
+shown p = record { driver = p.world.driver; proxy = p.world.proxy; rings = p.world.rings; host = p.world.host; moment = p.moment }
+
+-- The world in which no call was made.
+abbrev pub world_in : PlayState → PlayWorld
+world_in p = record { world = record { driver = p.driver; proxy = p.proxy; rings = p.rings; host = p.host; journal = [] }; moment = p.moment }
+
+-- A line may be played.
+pub record IsReady (p : PlayState) : Type 0 where
+  pub driven : IsDriven p.driver p.rings
+
+-- A line was played: the world is the one that it leads to, its text stands behind what stood there, and the next line may be played.
+pub record Plays (e : Event) (old new : PlayState) (text text' : List ℕ) : Type 0 where
+  pub world : new ≡ shown (event_played e (world_in old)).0
+  pub printed : text' ≡ text ++ (event_played e (world_in old)).1
+  pub ready : IsReady new

@@ -1,0 +1,8 @@
+//! Plays: a guest's driver, the device with its proxy and a host in memory on one thread, line by line, and what each line prints.
+#![tactic(auto)]
+
+pub mod examples;
+mod guest;
+pub mod play;
+
+pub use play::Play;

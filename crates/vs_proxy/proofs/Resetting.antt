@@ -1,0 +1,40 @@
+-- A transport reset of the proxy.
+use Rattle.std.specs.Prelude.{Result, Ok, Err}
+use Rattle.std.proofs.Common.{◌≡◌, ℕ, [], refl, sym, ap}
+use Rattle.vs_contents.specs.CallTree.{Done, for_each}
+use Rattle.vs_contents.proofs.Leads.{leads_bind}
+use Rattle.vs_contents.proofs.Conditions.{may_first, may_rest}
+use Rattle.vs_ring_port.specs.declared.failure.Failure.{Failure}
+use Rattle.vs_device.specs.Calls.{DeviceTree, Situation, Allows}
+use Rattle.vs_device.specs.Playing.{CanMake, MayRun, Runs}
+use Rattle.vs_device.specs.State.{DeviceState}
+use Rattle.vs_device.specs.Turns.{reset_of}
+use Rattle.vs_proxy.specs.Handshakes.{streams_of}
+use Rattle.vs_proxy.specs.State.{ProxyState, with_device}
+use Rattle.vs_proxy.specs.Turns.{close_handshake, proxy_reset_of, reset_with}
+
+module _ (cid : ℕ) (s : ProxyState) where
+  abbrev then_close : DeviceState × Result (Unit {0}) Failure → DeviceTree (ProxyState × Result (Unit {0}) Failure)
+  then_close r = reset_with r s
+
+  pub may_reset : (x : Situation) → MayRun (proxy_reset_of cid s) x → MayRun (reset_of cid s.device) x
+  may_reset x may = may_first CanMake Allows (reset_of cid s.device) then_close x may
+
+  abbrev emptied_with : DeviceState → ProxyState → DeviceTree (ProxyState × Result (Unit {0}) Failure)
+  emptied_with d t = Done (record (with_device d t) { handshakes = [] }, Ok tt)
+
+  pub may_close_all : (d : DeviceState) (x y : Situation) → MayRun (proxy_reset_of cid s) x → Runs (reset_of cid s.device) x (d, Ok tt) y → MayRun (for_each close_handshake (streams_of s) s) y
+  may_close_all d x y may runs =
+      may_first CanMake Allows (for_each close_handshake (streams_of s) s) (emptied_with d) y (may_rest CanMake Allows (reset_of cid s.device) then_close x y (d, Ok tt) may runs)
+
+  pub refused : (d : DeviceState) (f : Failure) (u : ProxyState) (x y : Situation) → Runs (reset_of cid s.device) x (d, Err f) y → u ≡ with_device d s → Runs (proxy_reset_of cid s) x (u, Err f) y
+  refused d f u x y runs end =
+      let last = ap (λ (v : ProxyState). let r : ProxyState × Result (Unit {0}) Failure = (v, Err f) in r) (sym end) in
+      leads_bind Allows (reset_of cid s.device) then_close x y y (d, Err f) (u, Err f) runs (last, refl)
+
+  pub was_reset : (d : DeviceState) (u : ProxyState) (x y z : Situation) → Runs (reset_of cid s.device) x (d, Ok tt) y → Runs (for_each close_handshake (streams_of s) s) y s z
+      → u ≡ record (with_device d s) { handshakes = [] } → Runs (proxy_reset_of cid s) x (u, Ok tt) z
+  was_reset d u x y z first closes end =
+      let last = ap (λ (v : ProxyState). let r : ProxyState × Result (Unit {0}) Failure = (v, Ok tt) in r) (sym end) in
+      let rest = leads_bind Allows (for_each close_handshake (streams_of s) s) (emptied_with d) y z z s (u, Ok tt) closes (last, refl) in
+      leads_bind Allows (reset_of cid s.device) then_close x y z (d, Ok tt) (u, Ok tt) first rest

@@ -1,0 +1,26 @@
+use Rattle.std.proofs.Common.{◌≡◌, ◌≤◌, ◌+◌, ◌*◌, length, drop}
+use Rattle.vs_contents.specs.CallTree.{for_each}
+use Rattle.vs_ring_port.specs.Contents.{RingContents}
+use Rattle.vs_uds.specs.declared.connect.TheConstants.{CONNECT_MAX}
+use Rattle.vs_device.specs.Calls.{Situation}
+use Rattle.vs_device.specs.Playing.{MayRunOnHost, Runs, situation}
+use Rattle.vs_proxy.specs.Handshakes.{read_line}
+use Rattle.vs_proxy.specs.State.{Turning}
+use Rattle.vs_proxy.specs.Turning.{CountsFew, read_lines, turning_of}
+use Rattle.vs_proxy.specs.declared.limits.TheConstants.{HANDSHAKES}
+use Rattle.vs_proxy.proofs.proxy.Proxy.read_lines.Given as goal
+
+-- whatever completes the rest completes the whole
+abbrev pub invariant-loop-stream : goal.invariant-loop-stream
+invariant-loop-stream g l = record {
+  goes_on : (ring : RingContents) (x : Turning) (t : Situation)
+      → Runs (for_each read_line (drop l.stream-index l.stream-items) (turning_of l.self l.tally)) (situation ring (g.H.HostNet.contents l.host) (g.H.HostNet.faults l.host)) x t
+      → Runs (read_lines (turning_of l.fn.self l.fn.tally)) (situation ring (g.H.HostNet.contents l.fn.host) (g.H.HostNet.faults l.fn.host)) x t;
+  may : MayRunOnHost (for_each read_line (drop l.stream-index l.stream-items) (turning_of l.self l.tally)) (g.H.HostNet.contents l.host) (g.H.HostNet.faults l.host);
+  small : l.tally.hands ≤ HANDSHAKES + 1 + CONNECT_MAX * l.stream-index;
+  read : l.tally.read ≤ CONNECT_MAX * l.stream-index;
+  few : length l.stream-items ≤ HANDSHAKES;
+  others : l.tally ≡ record l.fn.tally { read = l.tally.read; hands = l.tally.hands };
+  opened : CountsFew (CONNECT_MAX * l.stream-index) 0 l.fn.self.device l.self.device;
+  chain : l.self.device.chain ≡ l.fn.self.device.chain;
+}

@@ -1,0 +1,185 @@
+//! The lines `CONNECT PORT` of the host's clients, which are read byte by byte (Firecracker's vsock documentation).
+
+ghost use Rattle.std.specs.Prelude.{◌≡◌, ◌≤◌, ◌<◌, ◌+◌, ◌*◌, ◌^◌, ◌∷◌, [], Some, true};
+ghost use Rattle.std.specs.Option.{ForSome, is_some};
+ghost use Rattle.vs_contents.specs.CallTree.{while_up_to};
+ghost use Rattle.vs_outside.specs.Host.{IsOpen};
+ghost use Rattle.vs_outside.specs.declared.host_net.StreamRead.TheVariants as read;
+ghost use Rattle.vs_uds.specs.declared.connect.TheConstants.{CONNECT_MAX};
+ghost use Rattle.vs_device.specs.Calls.{CloseStream};
+ghost use Rattle.vs_device.specs.Playing.{AllowsOnHost, MayRunOnHost, RunsOnHost};
+ghost use Rattle.vs_proxy.specs.declared.limits.TheConstants.{HANDSHAKES};
+ghost use Rattle.vs_proxy.specs.Handshakes.{byte_read, handshake_on, may_open, read_byte, read_line, shake_hands};
+ghost use Rattle.vs_proxy.specs.State.{Handshake};
+ghost use Rattle.vs_proxy.specs.Turning.{CountsFew, connecting, read_lines, turning_of};
+
+use crate::host_calls::{close, read_byte};
+use crate::proxy::Proxy;
+use crate::tally::Tally;
+use vs_flow::{ASSIGNED_LAST, Flow};
+use vs_outside::{HostNet, StreamRead};
+use vs_uds::{CONNECT_MAX, Step};
+
+impl Proxy {
+    /// Accepts a client, where a place is free, and reads the lines of all handshakes, in the order in which they were accepted.
+    pub(crate) fn shake_hands<H: HostNet>(&mut self, host: &mut H, tally: &mut Tally)
+        requires few { tally.old.hands ≤ HANDSHAKES }
+        requires none { tally.old.read ≡ 0 }
+        requires may { MayRunOnHost (shake_hands (turning_of self.old tally.old)) (H.contents host.old) (H.faults host.old) }
+        ensures read { tally.new.read ≤ CONNECT_MAX * HANDSHAKES }
+        ensures others { tally.new ≡ record tally.old { read = tally.new.read; hands = tally.new.hands } }
+        ensures opened { CountsFew (CONNECT_MAX * HANDSHAKES) 0 self.old.device self.new.device }
+        ensures chain { self.new.device.chain ≡ self.old.device.chain }
+        ensures calls { RunsOnHost (shake_hands (turning_of self.old tally.old)) (H.contents host.old) (H.faults host.old) (turning_of self.new tally.new) (H.contents host.new) (H.faults host.new) }
+    {
+        self.accept_one(host, tally);
+        self.read_lines(host, tally);
+    }
+
+    // Reads the lines of all handshakes, in the order in which they were accepted.
+    fn read_lines<H: HostNet>(&mut self, host: &mut H, tally: &mut Tally)
+        requires few { tally.old.hands ≤ HANDSHAKES + 1 }
+        requires none { tally.old.read ≡ 0 }
+        requires may { MayRunOnHost (read_lines (turning_of self.old tally.old)) (H.contents host.old) (H.faults host.old) }
+        ensures read { tally.new.read ≤ CONNECT_MAX * HANDSHAKES }
+        ensures others { tally.new ≡ record tally.old { read = tally.new.read; hands = tally.new.hands } }
+        ensures opened { CountsFew (CONNECT_MAX * HANDSHAKES) 0 self.old.device self.new.device }
+        ensures chain { self.new.device.chain ≡ self.old.device.chain }
+        ensures calls { RunsOnHost (read_lines (turning_of self.old tally.old)) (H.contents host.old) (H.faults host.old) (turning_of self.new tally.new) (H.contents host.new) (H.faults host.new) }
+    {
+        let streams = self.handshakes.streams();
+        for stream in streams.as_slice() {
+            self.read_line(host, *stream, tally);
+        }
+    }
+
+    // Reads the line of the handshake on a stream, as far as it came.
+    fn read_line<H: HostNet>(&mut self, host: &mut H, stream: u64, tally: &mut Tally)
+        requires few { tally.old.hands < 2 ^ 16 }
+        requires few_read { tally.old.read < 2 ^ 16 }
+        requires may { MayRunOnHost (read_line stream (turning_of self.old tally.old)) (H.contents host.old) (H.faults host.old) }
+        ensures count { tally.new.hands ≤ tally.old.hands + CONNECT_MAX }
+        ensures read { tally.new.read ≤ tally.old.read + CONNECT_MAX }
+        ensures others { tally.new ≡ record tally.old { read = tally.new.read; hands = tally.new.hands } }
+        ensures opened { CountsFew CONNECT_MAX 0 self.old.device self.new.device }
+        ensures chain { self.new.device.chain ≡ self.old.device.chain }
+        ensures calls { RunsOnHost (read_line stream (turning_of self.old tally.old)) (H.contents host.old) (H.faults host.old) (turning_of self.new tally.new) (H.contents host.new) (H.faults host.new) }
+    {
+        for _ in 0..CONNECT_MAX {
+            if !self.read_byte(host, stream, tally) {
+                return;
+            }
+        }
+    }
+
+    // Reads the next byte of the line of the handshake on a stream, and tells whether more of the line is to be read.
+    fn read_byte<H: HostNet>(&mut self, host: &mut H, stream: u64, tally: &mut Tally) -> bool
+        requires few { tally.old.hands < 2 ^ 18 }
+        requires few_read { tally.old.read < 2 ^ 18 }
+        requires may { MayRunOnHost (read_byte stream (turning_of self.old tally.old)) (H.contents host.old) (H.faults host.old) }
+        ensures count { tally.new.hands ≤ tally.old.hands + 1 }
+        ensures read { tally.new.read ≤ tally.old.read + 1 }
+        ensures others { tally.new ≡ record tally.old { read = tally.new.read; hands = tally.new.hands } }
+        ensures opened { CountsFew 1 0 self.old.device self.new.device }
+        ensures chain { self.new.device.chain ≡ self.old.device.chain }
+        ensures calls { RunsOnHost (read_byte stream (turning_of self.old tally.old)) (H.contents host.old) (H.faults host.old) (turning_of self.new tally.new, result) (H.contents host.new) (H.faults host.new) }
+    {
+        if !self.has_handshake(stream) {
+            return false;
+        }
+        let (answer, byte) = read_byte(host, stream);
+        match answer {
+            StreamRead::Got(_n) => self.take_byte(host, stream, byte, tally),
+            StreamRead::Again => false,
+            StreamRead::End => {
+                self.drop_handshake(host, stream, tally);
+                false
+            }
+            StreamRead::Failed => {
+                self.device.count_fault();
+                self.drop_handshake(host, stream, tally);
+                false
+            }
+        }
+    }
+
+    // Whether a handshake is on a stream.
+    fn has_handshake(&self, stream: u64) -> bool
+        ensures { result ≡ is_some (handshake_on stream self.now) }
+    {
+        self.handshakes.accepted_at(stream).is_some()
+    }
+
+    // The line of the handshake on a stream got its next byte. Tells whether more of the line is to be read.
+    fn take_byte<H: HostNet>(
+        &mut self,
+        host: &mut H,
+        stream: u64,
+        byte: u8,
+        tally: &mut Tally,
+    ) -> bool
+        requires few { tally.old.hands < 2 ^ 18 }
+        requires few_read { tally.old.read < 2 ^ 18 }
+        requires there { (h : Handshake) × (handshake_on stream self.old ≡ Some h) }
+        requires may { (h : Handshake) → handshake_on stream self.old ≡ Some h → MayRunOnHost (byte_read h (read.Got 1) (byte ∷ []) (turning_of self.old tally.old)) (H.contents host.old) (H.faults host.old) }
+        ensures count { tally.new.hands ≤ tally.old.hands + 1 }
+        ensures others { tally.new ≡ record tally.old { read = tally.old.read + 1; hands = tally.new.hands } }
+        ensures opened { CountsFew 1 0 self.old.device self.new.device }
+        ensures chain { self.new.device.chain ≡ self.old.device.chain }
+        ensures calls { (h : Handshake) → handshake_on stream self.old ≡ Some h → RunsOnHost (byte_read h (read.Got 1) (byte ∷ []) (turning_of self.old tally.old)) (H.contents host.old) (H.faults host.old) (turning_of self.new tally.new, result) (H.contents host.new) (H.faults host.new) }
+    {
+        tally.read += 1;
+        match self.handshakes.feed(stream, byte) {
+            Step::More => true,
+            Step::Bad => {
+                close_client(host, stream, tally);
+                false
+            }
+            Step::Port(port) => {
+                self.connect(host, stream, port, tally);
+                false
+            }
+        }
+    }
+
+    // A client asked for a port of the guest, and its handshake is over: its connection is opened under the next host port, where the table
+    // has a place and a port is left; else its stream is closed.
+    fn connect<H: HostNet>(&mut self, host: &mut H, stream: u64, port: u32, tally: &mut Tally)
+        requires few { tally.old.hands < 2 ^ 20 }
+        requires may { MayRunOnHost (connecting stream port (turning_of self.old tally.old)) (H.contents host.old) (H.faults host.old) }
+        ensures count { tally.new.hands ≤ tally.old.hands + 1 }
+        ensures others { tally.new ≡ record tally.old { hands = tally.new.hands } }
+        ensures opened { CountsFew 1 0 self.old.device self.new.device }
+        ensures chain { self.new.device.chain ≡ self.old.device.chain }
+        ensures calls { RunsOnHost (connecting stream port (turning_of self.old tally.old)) (H.contents host.old) (H.faults host.old) (turning_of self.new tally.new) (H.contents host.new) (H.faults host.new) }
+    {
+        if !self.may_open() {
+            close_client(host, stream, tally);
+            return;
+        }
+        let flow = Flow {
+            guest: port,
+            host: self.next_port,
+        };
+        let _slot = self.device.open(host, flow, stream);
+        self.next_port += 1;
+    }
+
+    // Whether a client's connection may be opened: the table has a place, and a host port is left.
+    fn may_open(&self) -> bool
+        ensures { result ≡ may_open self.now }
+    {
+        self.device.has_place() && self.next_port <= ASSIGNED_LAST
+    }
+}
+
+// Closes the stream of a client whose handshake is over.
+fn close_client<H: HostNet>(host: &mut H, stream: u64, tally: &mut Tally)
+    requires few { tally.old.hands < 2 ^ 20 }
+    requires open { ForSome (H.contents host.old) (IsOpen stream) }
+    ensures count { tally.new ≡ record tally.old { hands = tally.old.hands + 1 } }
+    ensures calls { AllowsOnHost (CloseStream stream) tt (H.contents host.old) (H.faults host.old) (H.contents host.new) (H.faults host.new) }
+{
+    close(host, stream);
+    tally.hands += 1;
+}

@@ -1,0 +1,117 @@
+//! The turn of a proxy, and a transport reset.
+
+ghost use Rattle.std.specs.Prelude.{◌≡◌, ◌≤◌, ◌<◌, ◌+◌, ◌^◌, [], true, Some, None, IfErr, OnErr, OnOk, Err};
+ghost use Rattle.vs_contents.specs.CallTree.{for_each};
+ghost use Rattle.vs_ring_port.specs.declared.failure.Failure.{Failure};
+ghost use Rattle.vs_device.specs.Playing.{IsItsRing, MayRun, MayRunOnHost, Runs, RunsOnHost, situation};
+ghost use Rattle.vs_device.specs.Turns.{counters_of, table_shown};
+ghost use Rattle.vs_proxy.specs.Handshakes.{streams_of};
+ghost use Rattle.vs_proxy.specs.State.{ProxyState};
+ghost use Rattle.vs_proxy.specs.Turning.{turning_of};
+ghost use Rattle.vs_proxy.specs.Turns.{close_handshake, proxy_reset_of, turn_of, turned};
+ghost use Rattle.vs_proxy.specs.declared.answers.Turn.TheVariants as turn;
+
+use crate::answers::{Turn, Turned};
+use crate::host_calls::close;
+use crate::proxy::Proxy;
+use crate::tally::Tally;
+use vs_device::{Counters, Entries};
+use vs_outside::HostNet;
+use vs_ring_port::{DeviceRing, Failure};
+
+impl Proxy {
+    /// A turn at the moment `now`, in milliseconds; moments don't fall. Its stages, in this order: timeouts of connections and of
+    /// handshakes; the owed event; packets that the guest sent, at most as many as the queue has descriptors; one client is accepted, and
+    /// the lines `CONNECT PORT` are read; what is pending is written to the host's streams; packets are put on the receive queue (Virtio
+    /// 1.2, sections 5.10.6.1 to 5.10.6.7; Firecracker's vsock documentation).
+    ///
+    /// Answers what it did, or the ring's failure, in this call or before: a turn ends where the ring fails, and every later one does
+    /// nothing.
+    pub fn turn<R: DeviceRing, H: HostNet>(&mut self, ring: &mut R, host: &mut H, now: u64) -> Turn
+        requires ring { IsItsRing (R.held ring.old) self.old.device }
+        requires may { MayRun (turn_of (R.size ring.old) now self.old) (situation (R.contents ring.old) (H.contents host.old) (H.faults host.old)) }
+        ensures ring { IsItsRing (R.held ring.new) self.new.device }
+        ensures calls { Runs (turn_of (R.size ring.old) now self.old) (situation (R.contents ring.old) (H.contents host.old) (H.faults host.old)) (self.new, result) (situation (R.contents ring.new) (H.contents host.new) (H.faults host.new)) }
+        ensures kept { (f : Failure) → self.old.device.failed ≡ Some f → (self.new ≡ self.old) × (result ≡ turn.Failed f) }
+        ensures failed { (f : Failure) → result ≡ turn.Failed f → self.new.device.failed ≡ Some f }
+    {
+        let size = ring.size();
+        let before = self.device.counters();
+        let mut tally = Tally::new();
+        self.tick_stage(host, now, &mut tally);
+        self.event_stage(ring);
+        self.take_stage(ring, host, size, &mut tally);
+        self.hands_stage(host, &mut tally);
+        self.pump_stage(host, &mut tally);
+        self.fill_stage(ring, host, &mut tally);
+        self.turned(&before, &tally)
+    }
+
+    // What a turn answers, from the counts before it and what it did.
+    fn turned(&self, before: &Counters, tally: &Tally) -> Turn
+        requires opened { self.now.device.failed ≡ None → self.now.device.opened < before.now.opened + 2 ^ 32 }
+        requires closed { self.now.device.failed ≡ None → self.now.device.closed < before.now.closed + 2 ^ 32 }
+        ensures turned { (s : ProxyState) → before.now ≡ counters_of s.device → result ≡ turned s (turning_of self.now tally.now) }
+        ensures failed { (f : Failure) → result ≡ turn.Failed f → self.now.device.failed ≡ Some f }
+    {
+        if let Some(failure) = self.device.failure() {
+            return Turn::Failed(failure);
+        }
+        let after = self.device.counters();
+        Turn::Turned(Turned {
+            took: tally.took,
+            put: tally.put,
+            read: tally.read,
+            wrote: tally.wrote,
+            opened: after.opened.saturating_sub(before.opened) as u32,
+            closed: after.closed.saturating_sub(before.closed) as u32,
+            hands: tally.hands,
+        })
+    }
+
+    /// A transport reset: all streams are closed, those of connections by rising slot and then those of handshakes in the order in which
+    /// they were accepted; connections, owed replies and handshakes are forgotten, an rx chain stays held. The guest's CID, 3 to
+    /// 4,294,967,294, is published, and one event is owed, also after several resets (Virtio 1.2, section 5.10.6.7). The error is the
+    /// ring's failure before this call; then nothing changes.
+    pub fn reset<R: DeviceRing, H: HostNet>(
+        &mut self,
+        ring: &mut R,
+        host: &mut H,
+        cid: u64,
+    ) -> Result<(), Failure>
+        requires cid { (3 ≤ cid) × (cid ≤ 4294967294) }
+        requires ring { IsItsRing (R.held ring.old) self.old.device }
+        requires may { MayRun (proxy_reset_of cid self.old) (situation (R.contents ring.old) (H.contents host.old) (H.faults host.old)) }
+        ensures ring { IsItsRing (R.held ring.new) self.new.device }
+        ensures calls { Runs (proxy_reset_of cid self.old) (situation (R.contents ring.old) (H.contents host.old) (H.faults host.old)) (self.new, result) (situation (R.contents ring.new) (H.contents host.new) (H.faults host.new)) }
+        ensures refused { IfErr result (λ f. self.old.device.failed ≡ Some f) }
+        ensures unchanged { OnErr result (self.new ≡ self.old) }
+        ensures kept { (f : Failure) → self.old.device.failed ≡ Some f → result ≡ Err f }
+        ensures empty { OnOk result ((self.new.device.table.entries ≡ []) × (self.new.device.replies ≡ []) × (self.new.handshakes ≡ [])) }
+        ensures published { OnOk result ((self.new.device.cid ≡ cid) × (self.new.device.event_owed ≡ true)) }
+        ensures port { self.new.next_port ≡ self.old.next_port }
+    {
+        self.device.reset(ring, host, cid)?;
+        self.close_handshakes(host);
+        self.handshakes.clear();
+        Ok(())
+    }
+
+    // Closes the streams of all handshakes, in the order in which they were accepted.
+    fn close_handshakes<H: HostNet>(&self, host: &mut H)
+        requires may { (s : ProxyState) × MayRunOnHost (for_each close_handshake (streams_of self.now) s) (H.contents host.old) (H.faults host.old) }
+        ensures calls { (s : ProxyState) → RunsOnHost (for_each close_handshake (streams_of self.now) s) (H.contents host.old) (H.faults host.old) s (H.contents host.new) (H.faults host.new) }
+    {
+        let streams = self.handshakes.streams();
+        for stream in streams.as_slice() {
+            close(host, *stream);
+        }
+    }
+
+    /// The entries of the device's table, each its flow and the state of its end, by rising slot.
+    pub fn table(&self) -> Entries<'_>
+        ensures { result ≡ table_shown self.now.device }
+    {
+        self.device.table()
+    }
+}

@@ -1,0 +1,4 @@
+pub mod Lists
+pub mod Hosts
+pub mod Shaking
+pub mod Turning

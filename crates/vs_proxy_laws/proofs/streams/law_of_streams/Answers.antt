@@ -1,0 +1,22 @@
+use Rattle.std.proofs.Common.{[]}
+use Rattle.vs_device.specs.Calls.{Allows}
+use Rattle.vs_device.specs.Playing.{CanMake}
+use Rattle.vs_device_laws.specs.Split.{CanReach}
+use Rattle.vs_device_laws.proofs.Conditions.{quiet_can}
+use Rattle.vs_device_laws.proofs.Keeping.{keeps_end}
+use Rattle.vs_device_laws.proofs.Opening.{new_has}
+use Rattle.vs_proxy.specs.Turns.{proxy_reset_of, turn_of}
+use Rattle.vs_proxy_laws.proofs.Lists.{none_open}
+use Rattle.vs_proxy_laws.proofs.Turning.{keeps_proxy_reset, keeps_turn}
+use Rattle.vs_proxy_laws.proofs.streams.law_of_streams.Goals as goal
+
+pub returns-clause-new : goal.returns-clause-new
+returns-clause-new c = λ cid base h. new_has [] cid base h (none_open h)
+
+pub returns-clause-turn : goal.returns-clause-turn
+returns-clause-turn c = λ size now s d e x has runs. keeps_end CanReach Allows _ (turn_of size now s) d e x
+    (keeps_turn size now s d has) runs
+
+pub returns-clause-reset : goal.returns-clause-reset
+returns-clause-reset c = λ cid s d e x has runs.
+    keeps_end CanMake Allows _ (proxy_reset_of cid s) d e x (keeps_proxy_reset CanMake quiet_can cid s d has) runs

@@ -1,0 +1,2 @@
+pub mod Shaking
+pub mod Turning

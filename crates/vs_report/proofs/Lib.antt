@@ -1,0 +1,2 @@
+pub mod LinesGiven
+pub mod Reports

@@ -1,0 +1,46 @@
+-- The report behind the last line of a play, each line with its LF.
+use Rattle.std.specs.Prelude.{ℕ, ◌+◌, List, [], ◌∷◌, ◌++◌, codes, decimal, Option, Some, None}
+use Rattle.vs_flow.specs.declared.flow.Flow.{Flow}
+use Rattle.vs_outside.specs.Host.{Stream}
+use Rattle.vs_outside.specs.HostBytes.{wrote_after_connect, read_after_ok}
+use Rattle.vs_report.specs.Bytes.{counted_text}
+use Rattle.vs_report.specs.declared.giving.Totals.{Totals}
+
+-- How many entries each table has.
+abbrev pub guest_open_text : ℕ → List ℕ
+guest_open_text n = codes "guest open " ++ decimal n ++ codes "\n"
+
+abbrev pub device_open_text : ℕ → List ℕ
+device_open_text n = codes "device open " ++ decimal n ++ codes "\n"
+
+-- A stream: its number, its label's guest port and host port, what its program wrote behind a CONNECT line and the proxy took, and what
+-- its program was given to read behind an OK line. A stream without a label has nothing of it.
+abbrev pub flow_bytes_text : Flow → List ℕ → List ℕ → List ℕ
+flow_bytes_text f wrote read =
+    decimal f.guest ++ codes " " ++ decimal f.host ++ codes " wrote " ++ counted_text wrote ++ codes " read " ++ counted_text read ++ codes "\n"
+
+abbrev pub labelled_text : Option Flow → List ℕ → List ℕ → List ℕ
+labelled_text (Some f) wrote read = flow_bytes_text f wrote read
+labelled_text None wrote read = codes "- - wrote 0 - read 0 -\n"
+
+abbrev pub stream_text : ℕ → Stream → List ℕ
+stream_text number s =
+    codes "stream " ++ decimal number ++ codes " " ++ labelled_text s.label (wrote_after_connect s) (read_after_ok s)
+
+-- Those of all streams, numbered from there on.
+abbrev pub stream_texts : ℕ → List Stream → List (List ℕ)
+stream_texts number [] = []
+stream_texts number (s ∷ ss) = stream_text number s ∷ stream_texts (number + 1) ss
+
+-- What was counted: packets dropped, payload beyond the room, packets that broke a connection of the guest, calls of the host that failed.
+abbrev pub counts_text : ℕ → ℕ → ℕ → ℕ → List ℕ
+counts_text dropped overrun broken faults =
+    codes "dropped " ++ decimal dropped ++ codes " overrun " ++ decimal overrun ++ codes " broken " ++ decimal broken ++ codes " faults " ++ decimal faults
+    ++ codes "\n"
+
+-- The report of a play, by how many entries the tables have, what was counted, and the host's streams.
+abbrev pub report : Totals → List Stream → List (List ℕ)
+report t streams =
+    guest_open_text t.guest_open
+    ∷ device_open_text t.device_open
+    ∷ (stream_texts 1 streams ++ counts_text t.dropped t.overrun t.broken t.faults ∷ [])

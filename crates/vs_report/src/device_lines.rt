@@ -1,0 +1,97 @@
+//! What the lines print that are the device's turns and resets.
+
+ghost use Rattle.std.specs.Prelude.{◌≡◌, ◌++◌, OnOk, string_bytes};
+ghost use Rattle.vs_report.specs.DeviceLines.{one_value_text, two_values_text, failure_text, moved_text, turned_text, reset_text};
+
+use itoa::Buffer;
+use std::alloc::AllocError;
+use std::fmt::Write;
+use vs_ring_port::Failure;
+
+/// `turn`: packets taken and put, bytes read of the host's streams and written to them, connections opened and closed.
+pub fn push_turned(
+    out: &mut String,
+    took: u32,
+    put: u32,
+    read: u32,
+    wrote: u32,
+    opened: u32,
+    closed: u32,
+) -> Result<(), AllocError>
+    ensures { OnOk result (string_bytes out.new ≡ string_bytes out.old ++ turned_text took put read wrote opened closed) }
+{
+    write!(
+        out,
+        "turned {} {} {}",
+        Buffer::new().format(took),
+        Buffer::new().format(put),
+        Buffer::new().format(read)
+    )?;
+    push_moved(out, wrote, opened, closed)
+}
+
+// The rest of a turn's line: bytes written to the host's streams, connections opened and closed.
+fn push_moved(out: &mut String, wrote: u32, opened: u32, closed: u32) -> Result<(), AllocError>
+    ensures { OnOk result (string_bytes out.new ≡ string_bytes out.old ++ moved_text wrote opened closed) }
+{
+    write!(
+        out,
+        " {} {} {}\n",
+        Buffer::new().format(wrote),
+        Buffer::new().format(opened),
+        Buffer::new().format(closed)
+    )
+}
+
+/// `reset CID`
+pub fn push_reset(out: &mut String, answer: Result<(), Failure>) -> Result<(), AllocError>
+    ensures { OnOk result (string_bytes out.new ≡ string_bytes out.old ++ reset_text answer) }
+{
+    match answer {
+        Ok(()) => write!(out, "ok\n"),
+        Err(failure) => push_failure(out, failure),
+    }
+}
+
+/// A failure of the ring: its name, and the values that show it.
+pub fn push_failure(out: &mut String, failure: Failure) -> Result<(), AllocError>
+    ensures { OnOk result (string_bytes out.new ≡ string_bytes out.old ++ failure_text failure) }
+{
+    match failure {
+        Failure::AvailJump { taken, idx } => push_two(out, "AvailJump", taken as u64, idx as u64),
+        Failure::HeadRange { head, n } => push_two(out, "HeadRange", head as u64, n as u64),
+        Failure::Indirect { number } => push_one(out, "Indirect", number as u64),
+        Failure::TxWritable { number } => push_one(out, "TxWritable", number as u64),
+        Failure::RxReadable { number } => push_one(out, "RxReadable", number as u64),
+        Failure::AddrRange { addr, len } => push_two(out, "AddrRange", addr, len),
+        Failure::ChainLong { n } => push_one(out, "ChainLong", n as u64),
+        Failure::NextRange { next, n } => push_two(out, "NextRange", next as u64, n as u64),
+        Failure::TxShort { readable } => push_one(out, "TxShort", readable),
+        Failure::RxSmall { writable } => push_one(out, "RxSmall", writable),
+        Failure::EventSmall { writable } => push_one(out, "EventSmall", writable),
+        Failure::PayloadShort { len, held } => push_two(out, "PayloadShort", len as u64, held),
+        Failure::IndirectNext { number } => push_one(out, "IndirectNext", number as u64),
+        Failure::IndirectLen { len } => push_one(out, "IndirectLen", len as u64),
+        Failure::IndirectNested { number } => push_one(out, "IndirectNested", number as u64),
+    }
+}
+
+// A failure that one value shows.
+fn push_one(out: &mut String, name: &str, value: u64) -> Result<(), AllocError>
+    ensures { OnOk result (string_bytes out.new ≡ string_bytes out.old ++ one_value_text name.now value) }
+{
+    write!(out, "failed {} {}\n", name, Buffer::new().format(value))
+}
+
+// A failure that two values show.
+fn push_two(out: &mut String, name: &str, first: u64, second: u64) -> Result<(), AllocError>
+    ensures { OnOk result (string_bytes out.new ≡ string_bytes out.old ++ two_values_text name.now first second) }
+{
+    write!(
+        out,
+        "failed {} {} {}\n",
+        name,
+        Buffer::new().format(first),
+        Buffer::new().format(second)
+    )
+}

@@ -1,0 +1,201 @@
+//! What the lines print that are calls of the guest's driver (Virtio 1.2, section 5.10.6).
+
+ghost use Rattle.std.specs.Prelude.{◌≡◌, ◌++◌, OnOk, string_bytes, codes, decimal};
+ghost use Rattle.vs_report.specs.Bytes.{data_text};
+ghost use Rattle.vs_report.specs.GuestLines.{connection_text, connect_text, refused_text, listen_text, unlisten_text, accept_text, send_text, recv_text, shutdown_text, close_text, state_text, reset_text, poll_text};
+
+use crate::bytes::push_data;
+use crate::number::push_named;
+use itoa::Buffer;
+use std::alloc::AllocError;
+use std::fmt::Write;
+use vs_driver_parts::answers::{
+    Accepted, Closed, ConnId, ConnectError, ConnectionState, ListenError, Polled, Received, Sent,
+    Shut,
+};
+use vs_flow::Flow;
+
+/// `connect PORT`: what it answered, and the flow of the connection that was opened.
+pub fn push_connect(
+    out: &mut String,
+    answer: Result<ConnId, ConnectError>,
+    flow: Option<Flow>,
+) -> Result<(), AllocError>
+    ensures { OnOk result (string_bytes out.new ≡ string_bytes out.old ++ connect_text answer flow) }
+{
+    match answer {
+        Ok(id) => push_connection(out, id, flow),
+        Err(refusal) => push_refusal(out, refusal),
+    }
+}
+
+// A connection: its number, its guest port and its host port.
+fn push_connection(out: &mut String, id: ConnId, flow: Option<Flow>) -> Result<(), AllocError>
+    ensures { OnOk result (string_bytes out.new ≡ string_bytes out.old ++ connection_text id flow) }
+{
+    match flow {
+        Some(flow) => write!(
+            out,
+            "conn {} on {} {}\n",
+            Buffer::new().format(id),
+            Buffer::new().format(flow.guest),
+            Buffer::new().format(flow.host)
+        ),
+        None => write!(out, "unknown\n"),
+    }
+}
+
+// Why a connect opened nothing.
+fn push_refusal(out: &mut String, refusal: ConnectError) -> Result<(), AllocError>
+    ensures { OnOk result (string_bytes out.new ≡ string_bytes out.old ++ refused_text refusal) }
+{
+    match refusal {
+        ConnectError::BadPort { port } => write!(out, "bad port {}\n", Buffer::new().format(port)),
+        ConnectError::Full { slots } => write!(out, "full {}\n", Buffer::new().format(slots)),
+        ConnectError::PortsSpent { .. } => write!(out, "ports spent\n"),
+        ConnectError::NoDescriptor { in_flight } => push_named(
+            out,
+            "no descriptor",
+            in_flight as u64,
+        ),
+    }
+}
+
+/// `listen PORT`
+pub fn push_listen(out: &mut String, answer: Result<(), ListenError>) -> Result<(), AllocError>
+    ensures { OnOk result (string_bytes out.new ≡ string_bytes out.old ++ listen_text answer) }
+{
+    match answer {
+        Ok(()) => write!(out, "ok\n"),
+        Err(ListenError::Taken) => write!(out, "taken\n"),
+        Err(ListenError::Full { listeners }) => {
+            write!(out, "full {}\n", Buffer::new().format(listeners))
+        }
+    }
+}
+
+/// `unlisten PORT`: whether the port was listened on.
+pub fn push_unlisten(out: &mut String, found: bool) -> Result<(), AllocError>
+    ensures { OnOk result (string_bytes out.new ≡ string_bytes out.old ++ unlisten_text found) }
+{
+    if found {
+        write!(out, "ok\n")
+    } else {
+        write!(out, "not listening\n")
+    }
+}
+
+/// `accept PORT`: what it answered, and the flow of the connection that was accepted.
+pub fn push_accept(out: &mut String, answer: Accepted, flow: Option<Flow>) -> Result<(), AllocError>
+    ensures { OnOk result (string_bytes out.new ≡ string_bytes out.old ++ accept_text answer flow) }
+{
+    match answer {
+        Accepted::Conn(id) => push_connection(out, id, flow),
+        Accepted::None => write!(out, "none\n"),
+        Accepted::NotListening => write!(out, "not listening\n"),
+    }
+}
+
+/// `send C DATA`
+pub fn push_send(out: &mut String, answer: Sent) -> Result<(), AllocError>
+    ensures { OnOk result (string_bytes out.new ≡ string_bytes out.old ++ send_text answer) }
+{
+    match answer {
+        Sent::Took(n) => write!(out, "took {}\n", Buffer::new().format(n)),
+        Sent::Unknown => write!(out, "unknown\n"),
+        Sent::NotOpen => write!(out, "not open\n"),
+        Sent::Reset => write!(out, "reset\n"),
+        Sent::ShutDown => write!(out, "shut down\n"),
+        Sent::NoCredit { tx, alloc, fwd } => write!(
+            out,
+            "no credit {} {} {}\n",
+            Buffer::new().format(tx),
+            Buffer::new().format(alloc),
+            Buffer::new().format(fwd)
+        ),
+        Sent::NoDescriptor { in_flight } => push_named(out, "no descriptor", in_flight as u64),
+    }
+}
+
+/// `recv C N`, with the bytes that were read.
+pub fn push_recv(out: &mut String, answer: Received, bytes: &[u8]) -> Result<(), AllocError>
+    ensures { OnOk result (string_bytes out.new ≡ string_bytes out.old ++ recv_text answer bytes.now) }
+{
+    match answer {
+        Received::Got(n) => push_got(out, n, bytes),
+        Received::Unknown => write!(out, "unknown\n"),
+        Received::End => write!(out, "end\n"),
+        Received::NotOpen => write!(out, "not open\n"),
+        Received::Reset => write!(out, "reset\n"),
+        Received::Empty => write!(out, "empty\n"),
+    }
+}
+
+// So many bytes were read.
+fn push_got(out: &mut String, n: usize, bytes: &[u8]) -> Result<(), AllocError>
+    ensures { OnOk result (string_bytes out.new ≡ string_bytes out.old ++ (codes "got " ++ decimal n ++ codes " " ++ data_text bytes.now ++ codes "\n")) }
+{
+    write!(out, "got {} ", Buffer::new().format(n))?;
+    push_data(out, bytes)?;
+    write!(out, "\n")
+}
+
+/// `shutdown C B`
+pub fn push_shutdown(out: &mut String, answer: Shut) -> Result<(), AllocError>
+    ensures { OnOk result (string_bytes out.new ≡ string_bytes out.old ++ shutdown_text answer) }
+{
+    match answer {
+        Shut::Done => write!(out, "ok\n"),
+        Shut::Unknown => write!(out, "unknown\n"),
+        Shut::NotOpen => write!(out, "not open\n"),
+        Shut::Reset => write!(out, "reset\n"),
+    }
+}
+
+/// `close C`
+pub fn push_close(out: &mut String, answer: Closed) -> Result<(), AllocError>
+    ensures { OnOk result (string_bytes out.new ≡ string_bytes out.old ++ close_text answer) }
+{
+    match answer {
+        Closed::Done => write!(out, "ok\n"),
+        Closed::Unknown => write!(out, "unknown\n"),
+    }
+}
+
+/// `state C`
+pub fn push_state(out: &mut String, state: ConnectionState) -> Result<(), AllocError>
+    ensures { OnOk result (string_bytes out.new ≡ string_bytes out.old ++ state_text state) }
+{
+    match state {
+        ConnectionState::Asked => write!(out, "asked\n"),
+        ConnectionState::Answering => write!(out, "answering\n"),
+        ConnectionState::Live => write!(out, "open\n"),
+        ConnectionState::Ended => write!(out, "ended\n"),
+        ConnectionState::Gone => write!(out, "gone\n"),
+        ConnectionState::Unknown => write!(out, "unknown\n"),
+    }
+}
+
+/// `poll`: packets taken and posted, and 1 where a transport reset was taken, else 0.
+pub fn push_poll(out: &mut String, polled: Polled) -> Result<(), AllocError>
+    ensures { OnOk result (string_bytes out.new ≡ string_bytes out.old ++ poll_text polled) }
+{
+    write!(
+        out,
+        "polled {} {}",
+        Buffer::new().format(polled.took),
+        Buffer::new().format(polled.posted)
+    )?;
+    push_reset(out, polled.reset)
+}
+
+// Whether a transport reset was taken.
+fn push_reset(out: &mut String, reset: bool) -> Result<(), AllocError>
+    ensures { OnOk result (string_bytes out.new ≡ string_bytes out.old ++ reset_text reset) }
+{
+    if reset {
+        write!(out, " 1\n")
+    } else {
+        write!(out, " 0\n")
+    }
+}

@@ -1,0 +1,108 @@
+//! The report behind the last line of a play.
+
+ghost use Rattle.std.specs.Prelude.{◌≡◌, ◌++◌, OnOk, string_bytes, codes};
+ghost use Rattle.vs_report.specs.Bytes.{counted_text};
+ghost use Rattle.vs_report.specs.Report.{guest_open_text, device_open_text, stream_text, flow_bytes_text, labelled_text, counts_text};
+
+use crate::bytes::push_counted;
+use crate::number::push_named;
+use itoa::Buffer;
+use std::alloc::AllocError;
+use std::fmt::Write;
+use vs_flow::Flow;
+use vs_outside::MemStream;
+
+/// How many entries the driver's table has.
+pub fn push_guest_open(out: &mut String, entries: usize) -> Result<(), AllocError>
+    ensures { OnOk result (string_bytes out.new ≡ string_bytes out.old ++ guest_open_text entries) }
+{
+    write!(out, "guest open {}\n", Buffer::new().format(entries))
+}
+
+/// How many entries the device's table has.
+pub fn push_device_open(out: &mut String, entries: usize) -> Result<(), AllocError>
+    ensures { OnOk result (string_bytes out.new ≡ string_bytes out.old ++ device_open_text entries) }
+{
+    push_named(out, "device open", entries as u64)
+}
+
+/// A stream of the host: its number, its label's guest port and host port, what its program wrote behind a CONNECT line and the proxy took,
+/// and what its program was given to read behind an OK line.
+pub fn push_stream(out: &mut String, number: u64, stream: &MemStream) -> Result<(), AllocError>
+    ensures { OnOk result (string_bytes out.new ≡ string_bytes out.old ++ stream_text number stream.now) }
+{
+    write!(out, "stream {} ", Buffer::new().format(number))?;
+    push_labelled(
+        out,
+        stream.label(),
+        stream.wrote_after_connect(),
+        stream.read_after_ok(),
+    )
+}
+
+// What stands behind a stream's number.
+fn push_labelled(
+    out: &mut String,
+    label: Option<Flow>,
+    wrote: &[u8],
+    read: &[u8],
+) -> Result<(), AllocError>
+    ensures { OnOk result (string_bytes out.new ≡ string_bytes out.old ++ labelled_text label wrote.now read.now) }
+{
+    match label {
+        Some(flow) => push_flow_bytes(out, flow, wrote, read),
+        None => write!(out, "- - wrote 0 - read 0 -\n"),
+    }
+}
+
+// The ports of a stream's label, and what its program wrote and read.
+fn push_flow_bytes(
+    out: &mut String,
+    flow: Flow,
+    wrote: &[u8],
+    read: &[u8],
+) -> Result<(), AllocError>
+    ensures { OnOk result (string_bytes out.new ≡ string_bytes out.old ++ flow_bytes_text flow wrote.now read.now) }
+{
+    write!(
+        out,
+        "{} {} wrote ",
+        Buffer::new().format(flow.guest),
+        Buffer::new().format(flow.host)
+    )?;
+    push_counted(out, wrote)?;
+    push_read(out, read)
+}
+
+// What a stream's program read.
+fn push_read(out: &mut String, read: &[u8]) -> Result<(), AllocError>
+    ensures { OnOk result (string_bytes out.new ≡ string_bytes out.old ++ (codes " read " ++ counted_text read.now ++ codes "\n")) }
+{
+    write!(out, " read ")?;
+    push_counted(out, read)?;
+    write!(out, "\n")
+}
+
+/// What was counted: packets dropped, payload beyond the room, packets that broke a connection of the guest, calls of the host that failed.
+pub fn push_counts(
+    out: &mut String,
+    dropped: u64,
+    overrun: u64,
+    broken: u64,
+    faults: u64,
+) -> Result<(), AllocError>
+    ensures { OnOk result (string_bytes out.new ≡ string_bytes out.old ++ counts_text dropped overrun broken faults) }
+{
+    write!(
+        out,
+        "dropped {} overrun {}",
+        Buffer::new().format(dropped),
+        Buffer::new().format(overrun)
+    )?;
+    write!(
+        out,
+        " broken {} faults {}\n",
+        Buffer::new().format(broken),
+        Buffer::new().format(faults)
+    )
+}

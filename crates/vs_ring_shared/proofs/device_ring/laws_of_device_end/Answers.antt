@@ -1,0 +1,13 @@
+use Rattle.std.proofs.Common.{◌≡◌, ◌+◌, length, subst}
+use Rattle.vs_ring_port.specs.Chains.{held_of}
+use Rattle.vs_ring_port.specs.declared.queue.Queue.{Queue}
+use Rattle.vs_ring_shared.specs.DeviceEnds.{device_sight}
+use Rattle.vs_ring_shared.specs.Sights.{DeviceSight, sight_in}
+use Rattle.vs_ring_shared.proofs.DeviceCalls.{held_between}
+use Rattle.vs_ring_shared.proofs.device_ring.laws_of_device_end.Goals as goal
+
+pub returns-clause-held : goal.returns-clause-held
+returns-clause-held c =
+    let e = c.end.inside in
+    subst (λ (s : DeviceSight). (queue : Queue) → let q = sight_in queue s.sight in length q.put + held_of queue s.held ≡ length q.got) c.end.view_is
+    (held_between e.port.token.table_id e.port.size e.port.token.me e.rx e.tx e.event e.held c.end.invariant)
