@@ -26,8 +26,6 @@ pub mod Receives
 pub mod Streams
 pub mod Bytes
 pub mod Growing
-pub mod Resting
-pub mod Emptied
 pub mod GuestLines
 pub mod Polls
 pub mod DeviceLeads

@@ -32,21 +32,21 @@ use Rattle.vs_world.proofs.Runs.{one_step}
 use Rattle.vs_world.proofs.Wire.{PutsFit}
 
 -- Three conversations one after another.
-pub played_twice : {A B C : Type 0} (p : DeviceTree A) (f : A → DeviceTree B) (g : B → DeviceTree C) (a : Around)
+played_twice : {A B C : Type 0} (p : DeviceTree A) (f : A → DeviceTree B) (g : B → DeviceTree C) (a : Around)
     → played answer_around (bind p (λ x. bind (f x) g)) a ≡ played answer_around (bind (bind p f) g) a
 played_twice (Done x) f g a = refl
 played_twice (Ask call k) f g a = let r = answer_around call a in played_twice (k r.0) f g r.1
 
 -- Streams are closed, and nothing else of the ring.
-pub record Closed (keep : HostContents → Type 0) (s : DeviceState) (a : Around) (t : DeviceState) (b : Around) : Type 0 where
-  pub table : IsTable t.table
-  pub chain : t.chain ≡ s.chain
-  pub overrun : t.overrun ≡ s.overrun
-  pub lists : b.lists ≡ a.lists
-  pub log : b.log ≡ a.log
-  pub host : keep b.host
+record Closed (keep : HostContents → Type 0) (s : DeviceState) (a : Around) (t : DeviceState) (b : Around) : Type 0 where
+  table : IsTable t.table
+  chain : t.chain ≡ s.chain
+  overrun : t.overrun ≡ s.overrun
+  lists : b.lists ≡ a.lists
+  log : b.log ≡ a.log
+  host : keep b.host
 
-pub close_then : {X : Type 0} (P : X × Around → Type 0) (keep : HostContents → Type 0) (kept : (id : ℕ) (c : HostContents) → keep c → keep (after_close id c))
+close_then : {X : Type 0} (P : X × Around → Type 0) (keep : HostContents → Type 0) (kept : (id : ℕ) (c : HostContents) → keep c → keep (after_close id c))
     (k : DeviceState → DeviceTree X) (s : DeviceState) (a : Around)
     → ((t : DeviceState) (b : Around) → Closed keep s a t b → P (played answer_around (k t) b))
     → (xs : List ℕ) (t : DeviceState) (b : Around) → Closed keep s a t b → P (played answer_around (bind (for_each close_slot xs t) k) b)
@@ -79,7 +79,7 @@ close_then P keep kept k s a then_ (slot ∷ xs) t b closed = by (entry_under t.
     by None rest = rest t b closed
     by (Some e) rest = shut e e.value.closed rest
 
-pub hands_then : {X : Type 0} (P : X × Around → Type 0) (keep : HostContents → Type 0) (kept : (id : ℕ) (c : HostContents) → keep c → keep (after_close id c))
+hands_then : {X : Type 0} (P : X × Around → Type 0) (keep : HostContents → Type 0) (kept : (id : ℕ) (c : HostContents) → keep c → keep (after_close id c))
     (k : ProxyState → DeviceTree X) (w : ProxyState) (a : Around)
     → ((host : HostContents) → keep host → P (played answer_around (k w) (record a { host = host })))
     → (xs : List ℕ) (host : HostContents) → keep host → P (played answer_around (bind (for_each close_handshake xs w) k) (record a { host = host }))

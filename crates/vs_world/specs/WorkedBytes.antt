@@ -5,13 +5,7 @@ use Rattle.vs_outside.specs.HostBytes.{host_read, host_wrote}
 use Rattle.vs_page.specs.Fair.{payload_got, payload_put}
 use Rattle.vs_page.specs.Log.{Device, Driver}
 use Rattle.vs_world.specs.Calls.{received_on, sent_on}
-use Rattle.vs_world.specs.Plays.{Line, line}
 use Rattle.vs_world.specs.World.{World}
-
--- The world after a script's lines.
-abbrev pub after_lines : List Line → World → World
-after_lines [] w = w
-after_lines (l ∷ ls) w = after_lines ls (line l w).0
 
 -- The bytes of a connection: sent and read, written and received; and the payload in the logs on the way.
 pub record Carried : Type 0 where

@@ -1,6 +1,6 @@
 //! Laws of the world on the bytes of connections, over every list of events.
 
-ghost use Rattle.std.specs.Prelude.{◌≡◌, ℕ, ◌++◌, true, List, [], ◌∷◌, Contains, None, Some};
+ghost use Rattle.std.specs.Prelude.{◌≡◌, ℕ, ◌++◌, true, List, Contains, Some};
 ghost use Rattle.vs_driver_parts.specs.State.{DriverEntry, GoneConnection};
 ghost use Rattle.vs_flow.specs.declared.flow.Flow.{Flow};
 ghost use Rattle.vs_history.specs.History.{puts};
@@ -8,15 +8,13 @@ ghost use Rattle.vs_history.specs.Packets.{has, shuts_send};
 ghost use Rattle.vs_outside.specs.Host.{HostContents, Stream, stream_at};
 ghost use Rattle.vs_outside.specs.HostBytes.{host_read, host_wrote};
 ghost use Rattle.vs_page.specs.Fair.{IsPrefixOf, payload_got, payload_put};
-ghost use Rattle.vs_page.specs.Log.{Device, Driver, Log, history_of};
-ghost use Rattle.vs_page.specs.declared.log.LogEntry.TheVariants.{Mark};
+ghost use Rattle.vs_page.specs.Log.{Device, Driver, history_of};
 ghost use Rattle.vs_pipes.specs.Drains.{Drains, receives};
-ghost use Rattle.vs_world.specs.Calls.{GuestCall, received_on, sent_on};
-ghost use Rattle.vs_world.specs.Events.{Event, Reset, happens, is_at_rest, is_guest_cid, run};
+ghost use Rattle.vs_world.specs.Calls.{received_on, sent_on};
+ghost use Rattle.vs_world.specs.Events.{Event, run};
 ghost use Rattle.vs_world.specs.Pipes.{IsFresh};
-ghost use Rattle.vs_world.specs.Plays.{guest_line};
 ghost use Rattle.vs_world.specs.Sides.{both_of};
-ghost use Rattle.vs_world.specs.World.{World, opening};
+ghost use Rattle.vs_world.specs.World.{opening};
 
 /// After any list of events the bytes that the guest received on a connection, and then the unread ones, are the payload that the driver
 /// got there, while the connection takes payload; what it received is a prefix of that in any case, so of the payload that the device put
@@ -63,20 +61,4 @@ pub fn law_of_shutting()
         has shuts_send (puts (history_of Driver f (both_of w).driver.log)) ≡ true → sent_on f (run more w).journal ≡ sent_on f w.journal }
     ensures wrote { (n : ℕ) (host : HostContents) (es more : List Event) (f : Flow) → IsFresh host → let w = run es (opening n host) in
         has shuts_send (puts (history_of Device f (both_of w).device.log)) ≡ true → host_wrote f 1 (run more w).host ≡ host_wrote f 1 w.host }
-{}
-
-/// After a transport reset no connection is left: right after the proxy made one, none at the device, and no line is being read; where the
-/// newest entry of the driver's log is one, none at the driver (Virtio 1.2, section 5.10.6.7).
-pub fn law_of_empty_tables()
-    ensures device { (n : ℕ) (host : HostContents) (es : List Event) (cid : ℕ) → let w = run es (opening n host) in
-        is_guest_cid cid ≡ true → w.proxy.device.failed ≡ None
-        → let v = happens (Reset cid) w in (v.proxy.device.table.entries ≡ []) × (v.proxy.handshakes ≡ []) }
-    ensures driver { (n : ℕ) (host : HostContents) (es : List Event) (cid : ℕ) (older : Log) → let w = run es (opening n host) in
-        (both_of w).driver.log ≡ Mark cid ∷ older → w.driver.table.entries ≡ [] }
-{}
-
-/// A call of the guest's leaves nothing staged, where nothing was: what it puts is published.
-pub fn law_of_resting_calls()
-    ensures { (call : GuestCall) (w : World) → is_at_rest w.rings.driver.staged ≡ true
-        → is_at_rest (guest_line call w).0.rings.driver.staged ≡ true }
 {}

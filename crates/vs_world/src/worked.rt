@@ -1,8 +1,8 @@
 //! Worked plays: what the definitions compute for some scripts.
 
 ghost use Rattle.std.specs.Prelude.{◌≡◌};
-ghost use Rattle.vs_world.specs.Plays.{play};
-ghost use Rattle.vs_world.specs.WorkedBytes.{after_lines, carried_on, client_bytes, client_flow, hello_bytes, hello_flow, reset_bytes};
+ghost use Rattle.vs_world.specs.Plays.{after, play};
+ghost use Rattle.vs_world.specs.WorkedBytes.{carried_on, client_bytes, client_flow, hello_bytes, hello_flow, reset_bytes};
 ghost use Rattle.vs_world.specs.Worked.{fresh, hello_lines, hello_said, hello_report, client_lines, client_said, client_report, failing_lines, failing_said, failing_report, resetting_lines, resetting_said, resetting_report};
 
 /// A guest that connects and talks, a client of the host that does, a dial that fails, and a transport reset.
@@ -15,7 +15,7 @@ pub fn worked_plays()
 
 /// What the connections of these scripts carried: the bytes at each end and in the logs between.
 pub fn worked_bytes()
-    ensures hello { carried_on hello_flow (after_lines hello_lines fresh) ≡ hello_bytes }
-    ensures client { carried_on client_flow (after_lines client_lines fresh) ≡ client_bytes }
-    ensures resetting { carried_on hello_flow (after_lines resetting_lines fresh) ≡ reset_bytes }
+    ensures hello { carried_on hello_flow (after hello_lines fresh) ≡ hello_bytes }
+    ensures client { carried_on client_flow (after client_lines fresh) ≡ client_bytes }
+    ensures resetting { carried_on hello_flow (after resetting_lines fresh) ≡ reset_bytes }
 {}
