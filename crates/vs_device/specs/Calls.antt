@@ -13,9 +13,9 @@ use Rattle.vs_outside.specs.declared.host_net.StreamWrite.{StreamWrite}
 use Rattle.vs_outside.specs.declared.host_net.StreamWrite.TheVariants as write
 use Rattle.vs_ring_port.specs.Chains.{IsLongEnough, chain_of}
 use Rattle.vs_ring_port.specs.Contents.{RingContents, DeviceCall, DeviceAnswer, Take, Read}
-use Rattle.vs_ring_port.specs.DeviceCalls.{DeviceAllows}
 use Rattle.vs_ring_port.specs.declared.device_ring.Chain.{Chain}
 use Rattle.vs_ring_port.specs.declared.queue.Queue.{Queue}
+use Rattle.vs_ring_port.specs.DeviceCalls.{DeviceAllows}
 
 -- A call on the ring or on the host. A read of a stream is into a buffer of so many bytes.
 pub data Call : Type 0 where
@@ -62,31 +62,27 @@ pub record IsFitChain (queue : Queue) (chain : Chain) : Type 0 where
   pub queue_is : chain.queue ≡ queue
   pub long : IsLongEnough queue chain
 
+-- A ring keeps to the bounds of a call: a chain fits its queue, and a byte has 8 bits.
+abbrev pub IsFitAnswer : (call : DeviceCall) → DeviceAnswer call → Type 0
+IsFitAnswer (Take queue) next = IfSome (chain_of next) (IsFitChain queue)
+IsFitAnswer (Read chain place count) bytes = (i : ℕ) → slice_index bytes i < 256
+IsFitAnswer _ a = Unit {0}
+
 -- A write takes no more bytes than it is given.
 abbrev pub TakesWithin : ℕ → StreamWrite → Type 0
 TakesWithin n (write.Took k) = k ≤ n
 TakesWithin n _ = Unit {0}
 
--- Ring and host keep to the bounds of a call: a chain fits its queue, a byte has 8 bits, and a stream gives and takes no more than there is
--- room for.
-abbrev pub IsFitAnswer : (call : Call) → Answer call → Type 0
-IsFitAnswer (Ring (Take queue)) next = IfSome (chain_of next) (IsFitChain queue)
-IsFitAnswer (Ring (Read chain place count)) bytes = (i : ℕ) → slice_index bytes i < 256
-IsFitAnswer (ReadStream stream n) a = length a.1 ≤ n
-IsFitAnswer (WriteStream stream bytes) a = TakesWithin (length bytes) a
-IsFitAnswer _ a = Unit {0}
-
--- What ring and host expose, before and after a call with its answer.
-abbrev pub Shows : (call : Call) → Answer call → Situation → Situation → Type 0
-Shows (Ring call) a old new = DeviceAllows call a old.ring new.ring × (new.host ≡ old.host) × (new.faults ≡ old.faults)
-Shows Accept a old new = HostMoves (accept_failed a) (λ c. a ≡ accept_answer c) (after_accept a) old new
-Shows (Dial path flow) a old new = HostMoves (dial_failed a) (IsDialed path a) (after_dial flow a) old new
-Shows (Label stream flow) a old new = HostMoves false (λ c. Unit {0}) (after_label stream flow) old new
-Shows (ReadStream stream n) a old new = HostMoves (read_failed a.0) (IsReadOf stream n a) (after_read stream a.0) old new
-Shows (WriteStream stream bytes) a old new = HostMoves (write_failed a) (IsWritten stream (length bytes) a) (after_write stream bytes a) old new
-Shows (ShutWrite stream) a old new = HostMoves false (λ c. Unit {0}) (after_shut_write stream) old new
-Shows (CloseStream stream) a old new = HostMoves false (λ c. Unit {0}) (after_close stream) old new
-
--- The answers that a call may get.
+-- A stream gives no more bytes than there is room for, and takes no more than it is given.
 abbrev pub Allows : (call : Call) → Answer call → Situation → Situation → Type 0
-Allows call a old new = IsFitAnswer call a × Shows call a old new
+Allows (Ring call) a old new =
+    DeviceAllows call a old.ring new.ring × (new.host ≡ old.host) × (new.faults ≡ old.faults) × IsFitAnswer call a
+Allows Accept a old new = HostMoves (accept_failed a) (λ c. a ≡ accept_answer c) (after_accept a) old new
+Allows (Dial path flow) a old new = HostMoves (dial_failed a) (IsDialed path a) (after_dial flow a) old new
+Allows (Label stream flow) a old new = HostMoves false (λ c. Unit {0}) (after_label stream flow) old new
+Allows (ReadStream stream n) a old new =
+    HostMoves (read_failed a.0) (IsReadOf stream n a) (after_read stream a.0) old new × (length a.1 ≤ n)
+Allows (WriteStream stream bytes) a old new =
+    HostMoves (write_failed a) (IsWritten stream (length bytes) a) (after_write stream bytes a) old new × TakesWithin (length bytes) a
+Allows (ShutWrite stream) a old new = HostMoves false (λ c. Unit {0}) (after_shut_write stream) old new
+Allows (CloseStream stream) a old new = HostMoves false (λ c. Unit {0}) (after_close stream) old new

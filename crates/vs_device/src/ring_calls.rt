@@ -29,20 +29,15 @@ pub(crate) fn read_header<R: DeviceRing>(ring: &mut R, chain: &Chain) -> Header
     ensures held { R.held ring.new ≡ R.held ring.old }
 {
     let mut bytes = [0; HEADER_LEN];
-    read(ring, chain, 0, &mut bytes);
+    ring.read(chain, 0, &mut bytes);
+    are_bounded(&bytes);
     Header::decode(&bytes)
 }
 
-// Reads the bytes of a chain from place `at` on, as many as `out` has.
-fn read<R: DeviceRing>(ring: &mut R, chain: &Chain, at: u64, out: &mut [u8])
-    requires is_held { Contains (R.held ring.old) chain.now }
-    requires in_range { at + length out.old ≤ chain.now.readable }
-    ensures calls { AllowsOnRing (Read chain.now at (length out.old)) out.new (R.contents ring.old) (R.contents ring.new) }
-    ensures held { R.held ring.new ≡ R.held ring.old }
-    ensures same_length { length out.new ≡ length out.old }
-{
-    ring.read(chain, at, out);
-}
+// A byte has 8 bits.
+fn are_bounded(bytes: &[u8])
+    ensures { (i : ℕ) → slice_index bytes.now i < 256 }
+{}
 
 /// Reads a payload of `len` bytes, which follows the header, into the front of `out`.
 pub(crate) fn read_payload<R: DeviceRing>(ring: &mut R, chain: &Chain, len: usize, out: &mut [u8])

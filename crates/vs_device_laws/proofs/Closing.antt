@@ -62,7 +62,7 @@ module _ (Can : Call → Situation → Type 0) (reaches : (call : Call) (s : Sit
         (λ h has. has_changed others s.table h has e (cut_off e.value) (found has.joins.table) (sym (gone was)) (λ closed. refl)) has)
         (λ still d allowed. some_after c.host d.host _ (after_close e.value.stream) (HasStreams others s.table)
         (HasStreams others (with_value s.table e.slot (cut_off e.value)))
-        allowed.1.host (λ h any has. has_closed others s.table h has e (cut_off e.value) (found has.joins.table) still refl refl) has)
+        allowed.host (λ h any has. has_closed others s.table h has e (cut_off e.value) (found has.joins.table) still refl refl) has)
       where
         gone : e.value.closed ≡ true → joined_stream e.value ≡ None
         gone was = rw was refl
@@ -79,7 +79,7 @@ module _ (Can : Call → Situation → Type 0) (reaches : (call : Call) (s : Sit
         (λ was. some_from c.host (HasStreams others s.table) (HasStreams others left)
         (λ h has. has_left others s.table h has e (stream_closed v)) has)
         (λ still d allowed. let m = subst (λ id. Allows (CloseStream id) tt c d) stream_as allowed in
-        some_after c.host d.host _ (after_close e.value.stream) (HasStreams others s.table) (HasStreams others left) m.1.host
+        some_after c.host d.host _ (after_close e.value.stream) (HasStreams others s.table) (HasStreams others left) m.host
         (λ h any has. has_left_closing others s.table h has e (stream_closed v) (found has.joins.table) (sym closed_as ∙ still)) has))
         (λ t d is. is)
       where

@@ -88,7 +88,7 @@ module _ (Can : Call → Situation → Type 0) (reaches : (call : Call) (s : Sit
             (IsOpen stream) (λ h both. both.1.is_open) has),
         λ a d allowed. some_after c.host d.host _ (after_label stream flow)
             (λ h. HasStreams others s.table h × IsFree stream others s.table h)
-            (HasStreams others (with_entry s.table flow (new_connection (asked BUF_ALLOC) stream true))) allowed.1.host
+            (HasStreams others (with_entry s.table flow (new_connection (asked BUF_ALLOC) stream true))) allowed.host
             (λ h any both. label_opens flow stream s.table h is both.1 both.0) has,
       )
 
@@ -110,7 +110,7 @@ module _ (Can : Call → Situation → Type 0) (reaches : (call : Call) (s : Sit
           (λ j id at. sym (stream_changed s.table e.slot j e.value (stream_closed e.value) (value_by_entry s.table e found) (rw was refl))
           ∙ at) joins) joins)
           (λ still d allowed. some_after c.host d.host _ (after_close e.value.stream) (JoinsStreams others s.table)
-          (JoinsStreams others u) allowed.1.host
+          (JoinsStreams others u) allowed.host
           (λ h any joins. closed_at others s.table h u e.slot e.value.stream
           (with_value_sound s.table e.slot (stream_closed e.value) joins.table)
           (stream_by_entry s.table e found still) (λ j. stream_closed_under s.table e.slot j (stream_closed e.value) refl) joins) joins)
@@ -141,4 +141,4 @@ module _ (Can : Call → Situation → Type 0) (reaches : (call : Call) (s : Sit
           keeps_then Can Allows (λ x d. FindsStreams others x.0 d) Joins (for_each close_slot (slots s.table) s) ends c
           (keeps_each Can Allows Joins close_slot (λ slot t d kept. keeps_close_slot slot t d kept) (slots s.table) s c
           (some_from c.host (HasStreams others s.table) (JoinsStreams others s.table) (λ h has. has.joins) has))
-          (λ t d kept. (reaches (Ring (PublishCid cid)) d refl tt, λ a e allowed. empties t d e allowed.1.1 kept))
+          (λ t d kept. (reaches (Ring (PublishCid cid)) d refl tt, λ a e allowed. empties t d e allowed.1 kept))

@@ -44,8 +44,8 @@ Stays c x d = d.host ≡ c.host
 
 pub keeps_written : (chain : Chain) (h : Header) (payload : List ℕ) (c : Situation)
     → Keeps CanReach Allows (Stays c) (written chain h payload) c
-keeps_written chain h [] c = (tt, λ a d allowed. (tt, λ b e also. also.1.1 ∙ allowed.1.1))
-keeps_written chain h (x ∷ xs) c = (tt, λ a d allowed. (tt, λ b e also. (tt, λ g f third. third.1.1 ∙ (also.1.1 ∙ allowed.1.1))))
+keeps_written chain h [] c = (tt, λ a d allowed. (tt, λ b e also. also.1 ∙ allowed.1))
+keeps_written chain h (x ∷ xs) c = (tt, λ a d allowed. (tt, λ b e also. (tt, λ g f third. third.1 ∙ (also.1 ∙ allowed.1))))
 
 pub keeps_put_on : (chain : Chain) (h : Header) (payload : List ℕ) (r : Filling) (c : Situation)
     → Keeps CanReach Allows (λ p d. (d.host ≡ c.host) × (p.state ≡ record r.state { chain = None })) (put_on chain h payload r) c
@@ -66,13 +66,13 @@ keeps_hold r c = by r.state.chain
     by : (o : Option Chain) → Keeps CanReach Allows (λ q d. (d.host ≡ c.host) × (q.state.table ≡ r.state.table))
         (elim o [ Some chain ↦ Done r | None ↦ Ask (Ring (Take Rx)) (λ answer. Done (holding answer r)) ]) c
     by (Some chain) = (refl, refl)
-    by None = (tt, λ answer d allowed. (allowed.1.1, holding_table answer r))
+    by None = (tt, λ answer d allowed. (allowed.1, holding_table answer r))
 
 -- An event.
 pub keeps_event_on : (others : List ℕ) (answer : Next) (s : DeviceState) (c : Situation) → FindsStreams others s c
     → Keeps CanReach Allows (λ x d. FindsStreams others x.0 d) (event_on answer s) c
 keeps_event_on others (next.Chain chain) s c has =
-    (tt, λ a d allowed. (tt, λ b e also. stays others s.table d e also.1.1 (stays others s.table c d allowed.1.1 has)))
+    (tt, λ a d allowed. (tt, λ b e also. stays others s.table d e also.1 (stays others s.table c d allowed.1 has)))
 keeps_event_on others next.None s c has = has
 keeps_event_on others (next.Failed f) s c has = has
 
@@ -84,7 +84,7 @@ keeps_pay_event others s c has = by s.failed s.event_owed
         (elim o [ Some f ↦ Done (s, Err f) | None ↦ cond b (Ask (Ring (Take Event)) (λ answer. event_on answer s)) (Done (s, Ok false)) ]) c
     by (Some f) b = has
     by None false = has
-    by None true = (tt, λ answer d allowed. keeps_event_on others answer s d (stays others s.table c d allowed.1.1 has))
+    by None true = (tt, λ answer d allowed. keeps_event_on others answer s d (stays others s.table c d allowed.1 has))
 
 module _ (others : List ℕ) where
   abbrev pub Fills : Filling → Situation → Type 0
@@ -246,7 +246,7 @@ module _ (others : List ℕ) where
               (live h has e.value.closed refl))) has,
           λ answer d allowed. keeps_read_answered chain answer.0 answer.1 r d found
               (some_after c.host d.host _ (after_read e.value.stream answer.0) (HasStreams others r.state.table)
-              (HasStreams others r.state.table) allowed.1.host
+              (HasStreams others r.state.table) allowed.0.host
               (λ h any has. has_moved others r.state.table h has (after_read e.value.stream answer.0 h)
               (all_stay e.value.stream h (after_read e.value.stream answer.0 h) (others-after_read e.value.stream answer.0 h)
               (open-after_read e.value.stream answer.0 h))) has),

@@ -102,14 +102,14 @@ module _ (Can : Call → Situation → Type 0) (reaches : (call : Call) (s : Sit
       let u : Table DeviceConnection = with_entry s.table (flow_to_host h) (new_connection (answering BUF_ALLOC h) id false) in
       some_after c.host d.host (IsDialed (path_of s.base h.dst_port) (dialed.Stream id)) (after_dial (flow_to_host h) (dialed.Stream id))
       (HasStreams others s.table) (HasStreams others u)
-      allowed.1.host (λ k is has. dial_opens others s.table (flow_to_host h) h (path_of s.base h.dst_port) id k place none is has) has
+      allowed.host (λ k is has. dial_opens others s.table (flow_to_host h) h (path_of s.base h.dst_port) id k place none is has) has
   keeps_dialed h dialed.Refused s c d place none has allowed =
       some_after c.host d.host _ (after_dial (flow_to_host h) dialed.Refused) (HasStreams others s.table) (HasStreams others s.table)
-      allowed.1.host (λ k is has. has_moved others s.table k has (after_dial (flow_to_host h) dialed.Refused k)
+      allowed.host (λ k is has. has_moved others s.table k has (after_dial (flow_to_host h) dialed.Refused k)
       (dial_keeps (flow_to_host h) dialed.Refused k)) has
   keeps_dialed h dialed.Failed s c d place none has allowed =
       some_after c.host d.host _ (after_dial (flow_to_host h) dialed.Failed) (HasStreams others s.table) (HasStreams others s.table)
-      allowed.1.host (λ k is has. has_moved others s.table k has (after_dial (flow_to_host h) dialed.Failed k)
+      allowed.host (λ k is has. has_moved others s.table k has (after_dial (flow_to_host h) dialed.Failed k)
       (dial_keeps (flow_to_host h) dialed.Failed k)) has
 
   pub keeps_try_request : (h : Header) (s : DeviceState) (c : Situation) → entry_of s.table (flow_to_host h) ≡ None
@@ -159,7 +159,7 @@ module _ (Can : Call → Situation → Type 0) (reaches : (call : Call) (s : Sit
     keeps_on_known verdict.Deliver = (
       reaches (Ring (Read chain HEADER_LEN h.len)) c refl tt,
       λ payload d allowed. finds_heard (record (heard h e.value) { pending = e.value.pending ++ payload }) d
-          (stays others s.table c d allowed.1.1 has) refl refl refl,
+          (stays others s.table c d allowed.1 has) refl refl refl,
     )
     keeps_on_known verdict.Peer = keeps_message (is_reset h)
     keeps_on_known (verdict.Rst (why.Overrun o)) = finds_heard (heard h e.value) c has refl refl refl
@@ -205,13 +205,13 @@ module _ (Can : Call → Situation → Type 0) (reaches : (call : Call) (s : Sit
       by true = has
       by false =
           keeps_then Can Allows FindsFirst FindsFirst (on_packet chain h s) returned c (keeps_on_packet chain h s c has)
-          (λ r d kept. (reaches (Ring (Return chain 0)) d refl tt, λ a e allowed. stays others r.0.table d e allowed.1.1 kept))
+          (λ r d kept. (reaches (Ring (Return chain 0)) d refl tt, λ a e allowed. stays others r.0.table d e allowed.1 kept))
 
   keeps_on_next : (answer : Next) (s : DeviceState) (c : Situation) → FindsStreams others s c
       → Keeps Can Allows FindsFirst (on_next answer s) c
   keeps_on_next (next.Chain chain) s c has = (
     reaches (Ring (Read chain 0 HEADER_LEN)) c refl tt,
-    λ bytes d allowed. keeps_on_header chain (header_of bytes) s d (stays others s.table c d allowed.1.1 has),
+    λ bytes d allowed. keeps_on_header chain (header_of bytes) s d (stays others s.table c d allowed.1 has),
   )
   keeps_on_next next.None s c has = has
   keeps_on_next (next.Failed f) s c has = has
@@ -232,5 +232,5 @@ module _ (Can : Call → Situation → Type 0) (reaches : (call : Call) (s : Sit
       by None true = has
       by None false = (
         reaches (Ring (Take Tx)) c refl tt,
-        λ answer d allowed. keeps_on_next answer s d (stays others s.table c d allowed.1.1 has),
+        λ answer d allowed. keeps_on_next answer s d (stays others s.table c d allowed.1 has),
       )

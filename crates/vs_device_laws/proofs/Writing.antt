@@ -75,7 +75,7 @@ module _ (Can : Call → Situation → Type 0) (reaches : (call : Call) (s : Sit
         reaches (WriteStream e.value.stream (to_write e.value)) c refl (stream_open others w.state.table e c found has still),
         λ answer d allowed. keeps_write_answered e answer w d found
             (some_after c.host d.host _ (after_write e.value.stream (to_write e.value) answer) (HasStreams others w.state.table)
-            (HasStreams others w.state.table) allowed.1.host
+            (HasStreams others w.state.table) allowed.0.host
             (λ h any has. has_moved others w.state.table h has (after_write e.value.stream (to_write e.value) answer h)
             (all_stay e.value.stream h (after_write e.value.stream (to_write e.value) answer h)
             (others-after_write e.value.stream (to_write e.value) answer h)
@@ -103,7 +103,7 @@ module _ (Can : Call → Situation → Type 0) (reaches : (call : Call) (s : Sit
                 (has_slot w.state.table slot e found)
                 (finds_changed others w.state d e (record e.value { write_shut = true }) at refl refl (λ over. over)
                 (some_after c.host d.host _ (after_shut_write e.value.stream) (HasStreams others w.state.table)
-                (HasStreams others w.state.table) allowed.1.host
+                (HasStreams others w.state.table) allowed.host
                 (λ h any has. has_moved others w.state.table h has (after_shut_write e.value.stream h)
                 (all_stay e.value.stream h (after_shut_write e.value.stream h) (others-after_shut_write e.value.stream h)
                 (open-after_shut_write e.value.stream h))) has)),

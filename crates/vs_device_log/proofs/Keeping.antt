@@ -3,7 +3,8 @@ use Rattle.std.proofs.Common.{◌≡◌, ℕ, zero, suc, ◌<◌, ◌≤◌, len
 use Rattle.vs_contents.specs.CallTree.{Done, Ask, bind, for_each, while_up_to}
 use Rattle.vs_ring_port.specs.Contents.{RingContents, DeviceCall, Take, Read, Write, Return, Given, PublishCid}
 use Rattle.vs_ring_port.specs.DeviceCalls.{CanReturn, DeviceAllows, LeavesNoGap}
-use Rattle.vs_device.specs.Calls.{Call, Answer, Allows, IsFitAnswer, Ring, Accept, Dial, Label, ReadStream, WriteStream, ShutWrite, CloseStream, DeviceTree, Situation}
+use Rattle.vs_device.specs.Calls.{Call, Answer, Ring, Accept, Dial, Label, ReadStream, WriteStream, ShutWrite, CloseStream, DeviceTree}
+use Rattle.vs_device.specs.Calls.{Situation, Allows, IsFitAnswer, TakesWithin}
 use Rattle.vs_device.specs.Playing.{Runs}
 use Rattle.vs_device_laws.specs.Split.{CanPut, MayPut}
 
@@ -36,14 +37,31 @@ can_make (ShutWrite stream) s can = tt
 can_make (CloseStream stream) s can = tt
 
 moved : (call : Call) (a : Answer call) (s t : Situation) → Allows call a s t → Moves call a s.ring t.ring
-moved (Ring call) a s t allowed = allowed.1.0
-moved Accept a s t allowed = allowed.1.ring
-moved (Dial path flow) a s t allowed = allowed.1.ring
-moved (Label stream flow) a s t allowed = allowed.1.ring
-moved (ReadStream stream n) a s t allowed = allowed.1.ring
-moved (WriteStream stream bytes) a s t allowed = allowed.1.ring
-moved (ShutWrite stream) a s t allowed = allowed.1.ring
-moved (CloseStream stream) a s t allowed = allowed.1.ring
+moved (Ring call) a s t allowed = allowed.0
+moved Accept a s t allowed = allowed.ring
+moved (Dial path flow) a s t allowed = allowed.ring
+moved (Label stream flow) a s t allowed = allowed.ring
+moved (ReadStream stream n) a s t allowed = allowed.0.ring
+moved (WriteStream stream bytes) a s t allowed = allowed.0.ring
+moved (ShutWrite stream) a s t allowed = allowed.ring
+moved (CloseStream stream) a s t allowed = allowed.ring
+
+-- The bounds that ring and host keep to.
+abbrev pub IsFit : (call : Call) → Answer call → Type 0
+IsFit (Ring call) a = IsFitAnswer call a
+IsFit (ReadStream stream n) a = length a.1 ≤ n
+IsFit (WriteStream stream bytes) a = TakesWithin (length bytes) a
+IsFit _ a = Unit {0}
+
+fitted : (call : Call) (a : Answer call) (s t : Situation) → Allows call a s t → IsFit call a
+fitted (Ring call) a s t allowed = allowed.3
+fitted Accept a s t allowed = tt
+fitted (Dial path flow) a s t allowed = tt
+fitted (Label stream flow) a s t allowed = tt
+fitted (ReadStream stream n) a s t allowed = allowed.1
+fitted (WriteStream stream bytes) a s t allowed = allowed.1
+fitted (ShutWrite stream) a s t allowed = tt
+fitted (CloseStream stream) a s t allowed = tt
 
 abbrev pub Keeps : {A : Type 0} → (A → RingContents → Type 0) → DeviceTree A → RingContents → Type 0
 Keeps Q (Done x) c = Q x c
@@ -51,10 +69,13 @@ Keeps Q (Ask call next) c =
     Can call c × ((a : Answer call) (d : RingContents) → IsFit call a → Moves call a c d → Keeps Q (next a) d)
 
 module _ {A : Type 0} (Q : A → RingContents → Type 0) where
-  pub keeps_may : (t : DeviceTree A) (s : Situation) → Keeps Q t s.ring → MayPut t s
-  keeps_may (Done x) s keeps = tt
-  keeps_may (Ask call next) s keeps =
-      (can_make call s keeps.0, λ a d allowed. keeps_may (next a) d (keeps.1 a d.ring allowed.0 (moved call a s d allowed)))
+  pub keeps_put : (t : DeviceTree A) (s : Situation) → Keeps Q t s.ring → MayPut t s
+  keeps_put (Done x) s keeps = tt
+  keeps_put (Ask call next) s keeps = (
+    can_make call s keeps.0,
+    λ a d allowed. keeps_put (next a) d
+        (keeps.1 a d.ring (fitted call a s d allowed) (moved call a s d allowed)),
+  )
 
   pub keeps_end : (t : DeviceTree A) (s d : Situation) (x : A) → Keeps Q t s.ring → Runs t s x d → Q x d.ring
   keeps_end (Done y) s d x keeps runs =

@@ -16,8 +16,7 @@ use Rattle.vs_device.specs.Receiving.{Filling, hold, holding}
 use Rattle.vs_device.specs.State.{DeviceConnection, DeviceEntry, DeviceState}
 use Rattle.vs_device.specs.Streams.{closing}
 use Rattle.vs_device.specs.Transmitting.{failing}
-use Rattle.vs_device.specs.Calls.{IsFitAnswer}
-use Rattle.vs_device_log.specs.Honest.{AgreesWith, IsFitState, IsToldOf, IsWith, unwritten}
+use Rattle.vs_device_log.specs.Honest.{IsFitState, IsToldOf, IsWith, unwritten}
 use Rattle.vs_device_log.proofs.Changing.{Changes}
 use Rattle.vs_device_log.proofs.Keeping.{Goes, Keeps}
 use Rattle.vs_device_log.proofs.Ringing.{moves}

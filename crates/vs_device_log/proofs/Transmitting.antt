@@ -37,8 +37,7 @@ use Rattle.vs_device.specs.Calls.{IsFitAnswer, Ring}
 use Rattle.vs_device.specs.Playing.{IsRxChain}
 use Rattle.vs_device.specs.State.{DeviceState}
 use Rattle.vs_device.specs.Transmitting.{failing, on_header, on_next, on_packet, take_tx_of}
-use Rattle.vs_device.specs.Calls.{IsFitAnswer}
-use Rattle.vs_device_log.specs.Honest.{AgreesWith, IsLeft, IsToldOf, IsWith, unwritten}
+use Rattle.vs_device_log.specs.Honest.{IsLeft, IsToldOf, IsWith, unwritten}
 use Rattle.vs_device_log.proofs.Hearing.{After, Came, Heard, IsCome, packet_keeps}
 use Rattle.vs_device_log.proofs.Keeping.{Keeps, keeps_then}
 use Rattle.vs_device_log.proofs.Ringing.{HoldsFirst, Tells, bytes_held, moves, returned_entries, returned_held, tells_weaker}

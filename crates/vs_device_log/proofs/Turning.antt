@@ -41,9 +41,9 @@ use Rattle.vs_device.specs.Streams.{Writing, closing, is_written_out, pump_of, p
 use Rattle.vs_device.specs.Streams.{write_answered, write_pending}
 use Rattle.vs_device.specs.Transmitting.{failing}
 use Rattle.vs_device.specs.Turns.{after_reset, close_slot, new_device, open_of, reset_of}
-use Rattle.vs_device.specs.Calls.{IsFitAnswer, TakesWithin}
-use Rattle.vs_device_log.specs.Honest.{AgreesWith, IsFit, IsFitFlow, IsFitState, IsFresh, IsLeft, IsToldOf, IsWith, end_in, ends_of_state, port_after, unwritten}
-use Rattle.vs_device_log.proofs.Changing.{Changes, cuts, same, shuts, unseen, writes}
+use Rattle.vs_device_log.specs.Honest.{IsFitFlow, IsFitState, IsFresh, IsLeft, IsToldOf, IsWith, end_in, ends_of_state, port_after}
+use Rattle.vs_device_log.specs.Honest.{unwritten}
+use Rattle.vs_device_log.proofs.Changing.{cuts, shuts, unseen, writes}
 use Rattle.vs_device_log.proofs.Filling.{under_there}
 use Rattle.vs_device_log.proofs.Keeping.{Keeps, keeps_each, keeps_then}
 use Rattle.vs_device_log.proofs.Ringing.{Tells, bytes_held, moves, returned_entries, returned_held, tells_weaker}

@@ -23,17 +23,20 @@ ghost use Rattle.vs_ring_port.specs.EndLog.{EndLog};
 ghost use Rattle.vs_ring_port.specs.declared.device_ring.Chain.{Chain};
 ghost use Rattle.vs_ring_port.specs.declared.device_ring.Next.TheVariants as next;
 ghost use Rattle.vs_ring_port.specs.declared.failure.Failure.{Failure};
-ghost use Rattle.vs_device.specs.Calls.{Situation};
-ghost use Rattle.vs_device.specs.Playing.{Runs};
-ghost use Rattle.vs_device.specs.Receiving.{fill_rx_of, pay_event_of};
+ghost use Rattle.vs_ring_port.specs.declared.queue.Queue.TheVariants.{Event, Rx, Tx};
+ghost use Rattle.vs_device.specs.Calls.{Allows, DeviceTree, Ring, Situation};
+ghost use Rattle.vs_device.specs.Playing.{MayRun, Runs};
+ghost use Rattle.vs_device.specs.Receiving.{event_on, fill_rx_of, pay_event_of, written};
 ghost use Rattle.vs_device.specs.State.{DeviceEntry, DeviceState};
 ghost use Rattle.vs_device.specs.Streams.{Writing, pump_of, tick_of};
 ghost use Rattle.vs_device.specs.Transmitting.{take_tx_of};
 ghost use Rattle.vs_device.specs.Turns.{new_device, open_of, reset_of, table_shown};
 ghost use Rattle.vs_device.specs.declared.answers.Filled.{Filled};
 ghost use Rattle.vs_device.specs.declared.answers.Taken.{Taken};
-ghost use Rattle.vs_device_laws.specs.Split.{MayPut};
-ghost use Rattle.vs_device_log.specs.Honest.{AgreesWith, IsFitFlow, IsFresh, IsLeftOpen, IsWith, ends_of_state, port_after};
+ghost use Rattle.vs_device_laws.specs.Streams.{FindsStreams};
+ghost use Rattle.vs_device_log.specs.Honest.{Advertises, AgreesWith, IsClients, IsFitFlow, IsFresh, IsLeftOpen, IsWith, ends_of_state};
+ghost use Rattle.vs_device_log.specs.Honest.{port_after};
+ghost use Rattle.vs_device_log.specs.Packets.{HasAdded, HasTaken, HoldsLast, IsWholeAs, packet_with};
 
 /// Over a ring that tells its log the device holds the one chain that it keeps for the next packet, and after each call it does again.
 /// Over an honest ring each packet that it puts keeps the log fair, so it never exceeds the credit that was advertised, and a call that
@@ -41,17 +44,20 @@ ghost use Rattle.vs_device_log.specs.Honest.{AgreesWith, IsFitFlow, IsFresh, IsL
 /// held more payload than there was room for (Virtio 1.2, section 5.10.6.3).
 pub fn law_of_ring_calls()
     ensures new { (port cid : ℕ) (base : List ℕ) (c : RingContents) → cid < 2 ^ 64 → IsFresh c → IsWith cid port (new_device cid base) c }
-    ensures take_tx_may { (first port : ℕ) (s : DeviceState) (a : Situation) → IsWith first port s a.ring → MayPut (take_tx_of s) a }
     ensures take_tx { (first port : ℕ) (s : DeviceState) (a b : Situation) (x : DeviceState × Taken) → IsWith first port s a.ring
         → Runs (take_tx_of s) a x b → IsWith first port x.0 b.ring }
-    ensures pay_event_may { (first port : ℕ) (s : DeviceState) (a : Situation) → IsWith first port s a.ring → MayPut (pay_event_of s) a }
-    ensures pay_event { (first port : ℕ) (s : DeviceState) (a b : Situation) (x : DeviceState × Result Bool Failure) → IsWith first port s a.ring
+    ensures pay_event_may { (others : List ℕ) (first port : ℕ) (s : DeviceState) (a : Situation) → FindsStreams others s a
+        → IsWith first port s a.ring
+        → MayRun (pay_event_of s) a }
+    ensures pay_event { (first port : ℕ) (s : DeviceState) (a b : Situation) (x : DeviceState × Result Bool Failure)
+        → IsWith first port s a.ring
         → Runs (pay_event_of s) a x b → IsWith first port x.0 b.ring }
-    ensures fill_rx_may { (first port : ℕ) (s : DeviceState) (a : Situation) → IsWith first port s a.ring → MayPut (fill_rx_of s) a }
-    ensures fill_rx { (first port : ℕ) (s : DeviceState) (a b : Situation) (x : DeviceState × Result Filled Failure) → IsWith first port s a.ring
+    ensures fill_rx_may { (others : List ℕ) (first port : ℕ) (s : DeviceState) (a : Situation) → FindsStreams others s a
+        → IsWith first port s a.ring
+        → MayRun (fill_rx_of s) a }
+    ensures fill_rx { (first port : ℕ) (s : DeviceState) (a b : Situation) (x : DeviceState × Result Filled Failure)
+        → IsWith first port s a.ring
         → Runs (fill_rx_of s) a x b → IsWith first port x.0 b.ring }
-    ensures reset_may { (first port cid : ℕ) (s : DeviceState) (a : Situation) → cid < 2 ^ 64 → IsWith first port s a.ring
-        → MayPut (reset_of cid s) a }
     ensures reset { (first port cid : ℕ) (s : DeviceState) (a b : Situation) (x : DeviceState × Result (Unit {0}) Failure) → cid < 2 ^ 64
         → IsWith first port s a.ring → Runs (reset_of cid s) a x b → IsWith first port x.0 b.ring }
 {}
@@ -59,14 +65,11 @@ pub fn law_of_ring_calls()
 /// The other calls make none on the ring, and the device stays with it. A client's connection is asked for on a host port that was not
 /// assigned before.
 pub fn law_of_other_calls()
-    ensures tick_may { (first port now : ℕ) (s : DeviceState) (a : Situation) → IsWith first port s a.ring → MayPut (tick_of now s) a }
     ensures tick { (first port now : ℕ) (s t : DeviceState) (a b : Situation) → IsWith first port s a.ring → Runs (tick_of now s) a t b
         → IsWith first port t b.ring }
-    ensures pump_out_may { (first port : ℕ) (s : DeviceState) (a : Situation) → IsWith first port s a.ring → MayPut (pump_of s) a }
-    ensures pump_out { (first port : ℕ) (s : DeviceState) (a b : Situation) (w : Writing) → IsWith first port s a.ring → Runs (pump_of s) a w b
+    ensures pump_out { (first port : ℕ) (s : DeviceState) (a b : Situation) (w : Writing) → IsWith first port s a.ring → Runs
+        (pump_of s) a w b
         → IsWith first port w.state b.ring }
-    ensures open_may { (first port stream : ℕ) (flow : Flow) (s : DeviceState) (a : Situation) → IsNextFlow Device flow (ends_of_state port s)
-        → IsFitFlow flow → IsWith first port s a.ring → MayPut (open_of flow stream s) a }
     ensures opened { (first port stream : ℕ) (flow : Flow) (s : DeviceState) (a b : Situation) (x : DeviceState × Result ℕ TableFault)
         → IsNextFlow Device flow (ends_of_state port s) → IsFitFlow flow → IsWith first port s a.ring → Runs (open_of flow stream s) a x b
         → IsWith first (port_after flow port x.1) x.0 b.ring }
@@ -86,4 +89,25 @@ pub fn law_of_the_table()
     ensures advertised { (first port : ℕ) (s : DeviceState) (l : EndLog) → AgreesWith first port s l → All Advertises
         (packets_put l.entries) }
     ensures no_overrun { (first port : ℕ) (s : DeviceState) (l : EndLog) → AgreesWith first port s l → s.overrun ≡ 0 }
+{}
+
+/// Over any ring that tells its log a packet is one entry. The packet that the device writes into a chain and returns is put, with its
+/// header and its payload; an event likewise. A chain of tx that is taken is a page, whose packet is got where it holds one; what is read
+/// of the chain is read of that page, and so the header and the payload that the device hears are the packet's (Virtio 1.2, sections
+/// 5.10.6 and 5.10.6.7).
+pub fn law_of_packets()
+    ensures put { (chain : Chain) (others : List Held) (h : Header) (payload : List ℕ) (a b : Situation) → chain.queue ≡ Rx
+        → IsWholeAs h payload
+        → ForSome a.ring.log (HoldsLast chain [] others) → Runs (written chain h payload) a tt b
+        → Relates a.ring.log b.ring.log (HasAdded (PutPacket (packet_with h payload)) others) }
+    ensures event { (chain : Chain) (others : List Held) (s : DeviceState) (x : DeviceState × Result Bool Failure) (a b : Situation)
+        → chain.queue ≡ Event → ForSome a.ring.log (HoldsLast chain [] others) → Runs (event_on (next.Chain chain) s) a x b
+        → Relates a.ring.log b.ring.log (HasAdded (PutEvent 0) others) }
+    ensures taken { (chain : Chain) (a b : Situation) → Allows (Ring (Take Tx)) (next.Chain chain) a b
+        → Relates a.ring.log b.ring.log (HasTaken chain) }
+    ensures read { (chain : Chain) (page bytes : List ℕ) (others : List Held) (place count : ℕ) (a b : Situation)
+        → Allows (Ring (Read chain place count)) bytes a b → (l : EndLog) → a.ring.log ≡ Some l → HoldsLast chain page others l
+        → bytes ≡ take count (drop place page) }
+    ensures heard { (page : List ℕ) (p : Packet) → packet_held page ≡ Some p
+        → (p.header ≡ header_of (take HEADER_LEN page)) × (is_rw p ≡ true → p.payload ≡ take p.header.len (drop HEADER_LEN page)) }
 {}

@@ -55,7 +55,7 @@ module _ (Can : Call → Situation → Type 0) (reaches : (call : Call) (s : Sit
       reaches (CloseStream stream) c refl
           (some_from c.host (HasStreams (ids hs) t.state.device.table) (IsOpen stream) (λ h has. has.joins.others_open stream there) has),
       λ a d allowed. some_after c.host d.host _ (after_close stream) (HasStreams (ids hs) t.state.device.table)
-          (HasStreams (ids (without_stream stream hs)) t.state.device.table) allowed.1.host
+          (HasStreams (ids (without_stream stream hs)) t.state.device.table) allowed.host
           (λ h any has. has_dropped (ids hs) t.state.device.table h has (ids (without_stream stream hs)) stream there (left_among stream hs)
           (left_apart stream hs has.joins.others_differ) (not_left stream hs has.joins.others_differ)) has,
     )
@@ -122,15 +122,15 @@ module _ (Can : Call → Situation → Type 0) (reaches : (call : Call) (s : Sit
       subst (λ is. ForSome d.host (HasStreams is t.state.device.table)) (sym (ids-push t.state.handshakes h))
       (some_after c.host d.host (λ k. accepted.Stream stream ≡ accept_answer k) (after_accept (accepted.Stream stream))
       (HasStreams (streams_of t.state) t.state.device.table)
-      (HasStreams (streams_of t.state ++ stream ∷ []) t.state.device.table) allowed.1.host
+      (HasStreams (streams_of t.state ++ stream ∷ []) t.state.device.table) allowed.host
       (λ k is has. has_accepted (streams_of t.state) t.state.device.table k has stream (sym is)) has)
   keeps_answered accepted.None t c d has allowed =
       some_after c.host d.host _ (after_accept accepted.None) (HasStreams (streams_of t.state) t.state.device.table)
-      (HasStreams (streams_of t.state) t.state.device.table) allowed.1.host
+      (HasStreams (streams_of t.state) t.state.device.table) allowed.host
       (λ k is has. has_moved (streams_of t.state) t.state.device.table k has (after_accept accepted.None k) (λ id still. still)) has
   keeps_answered accepted.Failed t c d has allowed =
       some_after c.host d.host _ (after_accept accepted.Failed) (HasStreams (streams_of t.state) t.state.device.table)
-      (HasStreams (streams_of t.state) t.state.device.table) allowed.1.host
+      (HasStreams (streams_of t.state) t.state.device.table) allowed.host
       (λ k is has. has_moved (streams_of t.state) t.state.device.table k has (after_accept accepted.Failed k) (λ id still. still)) has
 
   keeps_accept_one : (t : Turning) (c : Situation) → Turns t c → Keeps Can Allows Turns (accept_one t) c
@@ -172,7 +172,7 @@ module _ (Can : Call → Situation → Type 0) (reaches : (call : Call) (s : Sit
                 (λ k has. has.joins.others_open stream on.among) has),
             λ answer d allowed. keeps_byte_read h t d (subst (Contains (streams_of t.state)) (sym on.stream_is) on.among)
                 (some_after c.host d.host _ (after_read stream answer.0) (HasStreams (streams_of t.state) t.state.device.table)
-                (HasStreams (streams_of t.state) t.state.device.table) allowed.1.host
+                (HasStreams (streams_of t.state) t.state.device.table) allowed.0.host
                 (λ k any has. has_moved (streams_of t.state) t.state.device.table k has (after_read stream answer.0 k)
                 (all_stay stream k (after_read stream answer.0 k) (others-after_read stream answer.0 k)
                 (open-after_read stream answer.0 k))) has)

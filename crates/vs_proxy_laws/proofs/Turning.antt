@@ -129,7 +129,7 @@ module _ (Can : Call → Situation → Type 0) (reaches : (call : Call) (s : Sit
     reaches (CloseStream stream) c refl
         (some_from c.host (HasStreams (stream ∷ is) t) (IsOpen stream) (λ h has. has.joins.others_open stream (at_first stream is)) has),
     λ a d allowed. keeps_close_all t is s d (some_after c.host d.host _ (after_close stream) (HasStreams (stream ∷ is) t)
-        (HasStreams is t) allowed.1.host
+        (HasStreams is t) allowed.host
         (λ h any has. has_dropped (stream ∷ is) t h has is stream (at_first stream is) (λ id among. further stream is id among)
         has.joins.others_differ.1 has.joins.others_differ.0) has),
   )

@@ -1,11 +1,11 @@
--- A turn, stage by stage, and a reset, over a ring with which the device agrees.
-use Rattle.std.proofs.Common.{ℕ, ◌+◌, ◌<◌, ◌^◌, Bool, true, false, List, [], Option, Some, None, Result, Ok, Err, sym, subst, arith}
+-- A turn, stage by stage, and a reset.
+use Rattle.std.proofs.Common.{ℕ, ◌+◌, ◌<◌, ◌^◌, Bool, true, false, List, [], Option, Some, None, Result, Ok, Err, sym}
+use Rattle.std.proofs.Common.{subst, arith}
 use Rattle.vs_contents.specs.CallTree.{Done, for_each}
 use Rattle.vs_flow.specs.declared.flow.TheConstants.{ASSIGNED_FIRST}
 use Rattle.vs_ring_port.specs.Contents.{RingContents}
 use Rattle.vs_ring_port.specs.declared.failure.Failure.{Failure}
 use Rattle.vs_device.specs.declared.answers.Filled.{Filled}
-use Rattle.vs_device.specs.declared.answers.Taken.{Taken}
 use Rattle.vs_device.specs.Calls.{DeviceTree}
 use Rattle.vs_device.specs.Receiving.{fill_rx_of, pay_event_of}
 use Rattle.vs_device.specs.State.{DeviceState}
@@ -20,119 +20,110 @@ use Rattle.vs_device_log.proofs.Turning.{new_with, pay_keeps, pump_keeps, reset_
 use Rattle.vs_proxy.specs.Handshakes.{shake_hands, streams_of, tick_handshakes}
 use Rattle.vs_proxy.specs.State.{ProxyState, Turning, start, with_device}
 use Rattle.vs_proxy.specs.Turns.{close_handshake, device_after, event_stage, fill_stage, filled, new_proxy, proxy_reset_of, pump_stage}
-use Rattle.vs_proxy.specs.Turns.{reset_with, take_one}
-use Rattle.vs_proxy.specs.Turns.{take_stage, tick_stage, took_packet, turn_of, unless_failed}
+use Rattle.vs_proxy.specs.Turns.{reset_with}
+use Rattle.vs_proxy.specs.Turns.{take_one, take_stage, tick_stage, took_packet, turn_of, unless_failed}
 use Rattle.vs_proxy.specs.declared.answers.Turn.{Turn}
-use Rattle.vs_proxy_log.specs.Served.{IsProxyWith}
-use Rattle.vs_proxy_log.proofs.Shaking.{keeps_shake_hands, keeps_tick_handshakes}
+use Rattle.vs_proxy_log.specs.Honest.{IsProxyWith}
+use Rattle.vs_proxy_log.proofs.Shaking.{Turns, shakes, tick_all}
 
 pub new_proxy_with : (cid : ℕ) (base : List ℕ) (c : RingContents) → cid < 2 ^ 64 → IsFresh c → IsProxyWith cid (new_proxy cid base) c
-new_proxy_with cid base c fits fresh = record { device = new_with ASSIGNED_FIRST cid base c fits fresh; port = omega arith }
+new_proxy_with cid base c fits fresh = (omega arith, new_with ASSIGNED_FIRST cid base c fits fresh)
 
 module _ (first : ℕ) where
-  abbrev pub DeviceWith : Turning → DeviceState → RingContents → Type 0
-  DeviceWith t s c = IsWith first t.state.next_port s c
+  abbrev Now : Turning → RingContents → Type 0
+  Now = Turns first
 
-  abbrev pub Turns : Turning → RingContents → Type 0
-  Turns t c = IsProxyWith first t.state c
-
-  keeps_unless : (stage : Turning → DeviceTree Turning) (t : Turning) (c : RingContents) → (Turns t c → Keeps Turns (stage t) c) → Turns t c
-      → Keeps Turns (unless_failed stage t) c
-  keeps_unless stage t c then holds = by t.state.device.failed
+  unless : (stage : Turning → DeviceTree Turning) → ((t : Turning) (c : RingContents) → Now t c → Keeps Now (stage t) c) → (t : Turning)
+      (c : RingContents)
+      → Now t c → Keeps Now (unless_failed stage t) c
+  unless stage each t c holds = by t.state.device.failed
     where
-      by : (o : Option Failure) → Keeps Turns (elim o [ Some f ↦ Done t | None ↦ stage t ]) c
+      by : (o : Option Failure) → Keeps Now (elim o [ Some f ↦ Done t | None ↦ stage t ]) c
       by (Some f) = holds
-      by None = then holds
+      by None = each t c holds
 
-  module _ (t : Turning) (c : RingContents) (holds : Turns t c) where
-    after : (s : DeviceState) (d : RingContents) → DeviceWith t s d → Turns (device_after s t) d
-    after s d kept = record { device = kept; port = holds.port }
+  ticks : (now : ℕ) (t : Turning) (c : RingContents) → Now t c → Keeps Now (tick_stage now t) c
+  ticks now t c holds =
+      keeps_then (IsWith first t.state.next_port) Now (tick_of now t.state.device) (λ d. tick_handshakes (device_after d t)) c
+      (tick_keeps first t.state.next_port now t.state.device c holds.1)
+      (λ s d kept. tick_all first (device_after s t) d (holds.0, kept))
 
-    keeps_tick_stage : (now : ℕ) → Keeps Turns (tick_stage now t) c
-    keeps_tick_stage now =
-        keeps_then (DeviceWith t) Turns (tick_of now t.state.device) (λ s. tick_handshakes (device_after s t)) c
-        (tick_keeps first t.state.next_port now t.state.device c holds.device)
-        (λ s d kept. keeps_tick_handshakes first (device_after s t) d (after s d kept))
+  pays : (t : Turning) (c : RingContents) → Now t c → Keeps Now (event_stage t) c
+  pays t c holds =
+      keeps_then (λ x d. IsWith first t.state.next_port x.0 d) Now (pay_event_of t.state.device) (λ r. Done (device_after r.0 t)) c
+      (pay_keeps first t.state.next_port t.state.device c holds.1) (λ x d kept. (holds.0, kept))
 
-    keeps_event_stage : Keeps Turns (event_stage t) c
-    keeps_event_stage =
-        keeps_then (λ r d. DeviceWith t r.0 d) Turns (pay_event_of t.state.device) (λ r. Done (device_after r.0 t)) c
-        (pay_keeps first t.state.next_port t.state.device c holds.device) (λ r d kept. after r.0 d kept)
-
-    keeps_pump_stage : Keeps Turns (pump_stage t) c
-    keeps_pump_stage =
-        keeps_then (λ w d. DeviceWith t w.state d) Turns (pump_of t.state.device)
-        (λ w. Done (record (device_after w.state t) { wrote = t.wrote + w.wrote })) c
-        (pump_keeps first t.state.next_port t.state.device c holds.device) (λ w d kept. record { device = kept; port = holds.port })
-
-    keeps_fill_stage : Keeps Turns (fill_stage t) c
-    keeps_fill_stage =
-        keeps_then (λ r d. DeviceWith t r.0 d) Turns (fill_rx_of t.state.device) (λ r. Done (filled r.1 (device_after r.0 t))) c
-        (fill_keeps first t.state.next_port t.state.device c holds.device) (λ r d kept. by r.0 d r.1 kept)
-      where
-        by : (s : DeviceState) (d : RingContents) (r : Result Filled Failure) → IsWith first t.state.next_port s d
-            → Turns (filled r (device_after s t)) d
-        by s d (Ok f) kept = record { device = kept; port = holds.port }
-        by s d (Err f) kept = record { device = kept; port = holds.port }
-
-    keeps_take_one : Keeps (Goes Turns Turns) (take_one t) c
-    keeps_take_one =
-        keeps_then (λ r d. DeviceWith t r.0 d) (Goes Turns Turns) (take_tx_of t.state.device) ends c
-        (take_keeps first t.state.next_port t.state.device c holds.device) (λ r d kept. by r.0 d (took_packet r.1) kept)
-      where
-        ends : DeviceState × Taken → DeviceTree (Turning × Bool)
-        ends r =
-            elim (took_packet r.1) [
-              | true ↦ Done (record (device_after r.0 t) { took = t.took + 1 }, true)
-              | false ↦ Done
-                  (device_after r.0 t, false)
-            ]
-
-        by : (s : DeviceState) (d : RingContents) (b : Bool) → IsWith first t.state.next_port s d → Keeps (Goes Turns Turns)
-            (elim b [ true ↦ Done (record (device_after s t) { took = t.took + 1 }, true) | false ↦ Done (device_after s t, false) ]) d
-        by s d true kept = record { device = kept; port = holds.port }
-        by s d false kept = record { device = kept; port = holds.port }
-
-  keeps_take_stage : (size : ℕ) (t : Turning) (c : RingContents) → Turns t c → Keeps Turns (take_stage size t) c
-  keeps_take_stage size t c holds = keeps_while Turns Turns (λ x c holds. holds) take_one
-      (λ u d kept. keeps_take_one u d kept) size t c holds
-
-  pub keeps_turn : (size now : ℕ) (s : ProxyState) (c : RingContents) → IsProxyWith first s c
-      → Keeps (λ x d. IsProxyWith first x.0 d) (turn_of size now s) c
-  keeps_turn size now s c holds =
-      keeps_then Turns Q (unless_failed (tick_stage now) (start s)) _ c
-      (keeps_unless (tick_stage now) (start s) c (λ has. keeps_tick_stage (start s) c has now) holds) (λ t d kept.
-      keeps_then Turns Q (unless_failed event_stage t) _ d
-      (keeps_unless event_stage t d (λ has. keeps_event_stage t d has) kept) (λ t d kept.
-      keeps_then Turns Q (unless_failed (take_stage size) t) _ d
-      (keeps_unless (take_stage size) t d (λ has. keeps_take_stage size t d has) kept) (λ t d kept.
-      keeps_then Turns Q (unless_failed shake_hands t) _ d
-      (keeps_unless shake_hands t d (λ has. keeps_shake_hands first t d has) kept) (λ t d kept.
-      keeps_then Turns Q (unless_failed pump_stage t) _ d
-      (keeps_unless pump_stage t d (λ has. keeps_pump_stage t d has) kept) (λ t d kept.
-      keeps_then Turns Q (unless_failed fill_stage t) _ d
-      (keeps_unless fill_stage t d (λ has. keeps_fill_stage t d has) kept) (λ t d kept. kept))))))
+  takes : (t : Turning) (c : RingContents) → Now t c → Keeps (Goes Now Now) (take_one t) c
+  takes t c holds =
+      keeps_then (λ x d. IsWith first t.state.next_port x.0 d) (Goes Now Now) (take_tx_of t.state.device) (λ r.
+      elim (took_packet r.1) [
+        | true ↦ Done (record (device_after r.0 t) { took = t.took + 1 }, true)
+        | false ↦ Done (device_after r.0 t, false)
+      ]) c
+      (take_keeps first t.state.next_port t.state.device c holds.1) (λ x d kept. by x.0 d (took_packet x.1) kept)
     where
-      Q : ProxyState × Turn → RingContents → Type 0
-      Q x d = IsProxyWith first x.0 d
+      by : (s : DeviceState) (d : RingContents) (b : Bool) → IsWith first t.state.next_port s d → Keeps (Goes Now Now) (elim b [
+        | true ↦ Done (record (device_after s t) { took = t.took + 1 }, true)
+        | false ↦ Done (device_after s t, false)
+      ]) d
+      by s d true kept = (holds.0, kept)
+      by s d false kept = (holds.0, kept)
 
-  -- RESET
-  pub keeps_proxy_reset : (cid : ℕ) (s : ProxyState) (c : RingContents) → cid < 2 ^ 64 → IsProxyWith first s c
-      → Keeps (λ x d. IsProxyWith first x.0 d) (proxy_reset_of cid s) c
-  keeps_proxy_reset cid s c fits holds =
-      keeps_then (λ r d. IsWith first s.next_port r.0 d) Q (reset_of cid s.device) (λ r. reset_with r s) c
-      (reset_keeps first s.next_port cid fits s.device c holds.device) (λ r d kept. by r.0 r.1 d kept)
+  takes_all : (size : ℕ) (t : Turning) (c : RingContents) → Now t c → Keeps Now (take_stage size t) c
+  takes_all size t c holds = keeps_while Now Now (λ x d kept. kept) take_one takes size t c holds
+
+  pumps : (t : Turning) (c : RingContents) → Now t c → Keeps Now (pump_stage t) c
+  pumps t c holds =
+      keeps_then (λ w d. IsWith first t.state.next_port w.state d) Now (pump_of t.state.device)
+      (λ w. Done (record (device_after w.state t) { wrote = t.wrote + w.wrote })) c
+      (pump_keeps first t.state.next_port t.state.device c holds.1) (λ w d kept. (holds.0, kept))
+
+  fills : (t : Turning) (c : RingContents) → Now t c → Keeps Now (fill_stage t) c
+  fills t c holds =
+      keeps_then (λ x d. IsWith first t.state.next_port x.0 d) Now (fill_rx_of t.state.device)
+      (λ r. Done (filled r.1 (device_after r.0 t))) c
+      (fill_keeps first t.state.next_port t.state.device c holds.1) (λ x d kept. by x.0 d x.1 kept)
     where
-      Q : ProxyState × Result (Unit {0}) Failure → RingContents → Type 0
-      Q x d = IsProxyWith first x.0 d
+      by : (s : DeviceState) (d : RingContents) (r : Result Filled Failure) → IsWith first t.state.next_port s d → Now
+          (filled r (device_after s t)) d
+      by s d (Ok f) kept = (holds.0, kept)
+      by s d (Err f) kept = (holds.0, kept)
 
-      by : (d : DeviceState) (r : Result (Unit {0}) Failure) (e : RingContents) → IsWith first s.next_port d e
-          → Keeps Q (reset_with (d, r) s) e
-      by d (Err f) e kept = record { device = kept; port = holds.port }
-      by d (Ok x) e kept =
-          keeps_then P Q (for_each close_handshake (streams_of s) s) (λ t. Done (record (with_device d t) { handshakes = [] }, Ok tt)) e
-          (keeps_each P close_handshake (λ stream t g left. (tt, λ a h fit same. subst (P t) (sym same) left)) (streams_of s) s e
-          (record { device = kept; port = holds.port })) (λ t g left. record { device = left.device; port = left.port })
-        where
-          P : ProxyState → RingContents → Type 0
-          P t g = IsProxyWith first (with_device d t) g
+  abbrev TurnEnds : ProxyState × Turn → RingContents → Type 0
+  TurnEnds x c = IsProxyWith first x.0 c
+
+  pub turn_keeps : (size now : ℕ) (s : ProxyState) (c : RingContents) → IsProxyWith first s c → Keeps TurnEnds (turn_of size now s) c
+  turn_keeps size now s c holds =
+      keeps_then Now TurnEnds (unless_failed (tick_stage now) (start s)) _ c (unless (tick_stage now) (ticks now) (start s) c holds)
+      (λ t d kept.
+      keeps_then Now TurnEnds (unless_failed event_stage t) _ d (unless event_stage pays t d kept) (λ t d kept.
+      keeps_then Now TurnEnds (unless_failed (take_stage size) t) _ d (unless (take_stage size) (takes_all size) t d kept) (λ t d kept.
+      keeps_then Now TurnEnds (unless_failed shake_hands t) _ d (unless shake_hands (shakes first) t d kept) (λ t d kept.
+      keeps_then Now TurnEnds (unless_failed pump_stage t) _ d (unless pump_stage pumps t d kept) (λ t d kept.
+      keeps_then Now TurnEnds (unless_failed fill_stage t) _ d (unless fill_stage fills t d kept) (λ t d kept. kept))))))
+
+  -- A reset.
+  abbrev ResetEnds : ProxyState × Result (Unit {0}) Failure → RingContents → Type 0
+  ResetEnds x c = IsProxyWith first x.0 c
+
+  module _ (device : DeviceState) where
+    -- The device after it, beside what the proxy holds.
+    abbrev Reset : ProxyState → RingContents → Type 0
+    Reset s c = IsProxyWith first (with_device device s) c
+
+    closes : (stream : ℕ) (s : ProxyState) (c : RingContents) → Reset s c → Keeps Reset (close_handshake stream s) c
+    closes stream s c holds = (tt, λ a d fit same. subst (λ (x : RingContents). Reset s x) (sym same) holds)
+
+    closes_all : (r : Result (Unit {0}) Failure) (s : ProxyState) (c : RingContents) → Reset s c → Keeps ResetEnds
+        (reset_with (device, r) s) c
+    closes_all (Err f) s c holds = holds
+    closes_all (Ok x) s c holds =
+        keeps_then Reset ResetEnds (for_each close_handshake (streams_of s) s)
+        (λ t. Done (record (with_device device t) { handshakes = [] }, Ok tt)) c
+        (keeps_each Reset close_handshake closes (streams_of s) s c holds) (λ t d kept. kept)
+
+  pub proxy_reset_keeps : (cid : ℕ) (s : ProxyState) (c : RingContents) → cid < 2 ^ 64 → IsProxyWith first s c → Keeps ResetEnds
+      (proxy_reset_of cid s) c
+  proxy_reset_keeps cid s c fits holds =
+      keeps_then (λ x d. IsWith first s.next_port x.0 d) ResetEnds (reset_of cid s.device) (λ r. reset_with r s) c
+      (reset_keeps first s.next_port cid fits s.device c holds.1) (λ x d kept. closes_all x.0 x.1 s d (holds.0, kept))

@@ -1,5 +1,5 @@
-//! The proxy over rings that tell the device's log, and hosts that expose their streams: each of its calls may be made (Virtio 1.2, section
-//! 5.10.6; Firecracker's vsock documentation).
+//! The proxy and its ring's log: what a turn and a reset put, and what the device holds, follow from the packets that passed
+//! (Virtio 1.2, section 5.10.6).
 #![tactic(auto)]
 
 pub mod laws;

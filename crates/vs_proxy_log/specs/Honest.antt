@@ -1,0 +1,10 @@
+-- Where a ring tells the device's log: the proxy and its ring.
+use Rattle.std.specs.Prelude.{ℕ, ◌≤◌}
+use Rattle.vs_flow.specs.declared.flow.TheConstants.{ASSIGNED_FIRST}
+use Rattle.vs_ring_port.specs.Contents.{RingContents}
+use Rattle.vs_device_log.specs.Honest.{IsWith}
+use Rattle.vs_proxy.specs.State.{ProxyState}
+
+-- The proxy's device is with the ring, and its next host port is the next one that the device assigns.
+abbrev pub IsProxyWith : ℕ → ProxyState → RingContents → Type 0
+IsProxyWith first s c = (ASSIGNED_FIRST ≤ s.next_port) × IsWith first s.next_port s.device c
