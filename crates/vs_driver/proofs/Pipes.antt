@@ -1,5 +1,5 @@
 -- What a call on one connection leaves of it, and of all others.
-use Rattle.std.proofs.Common.{◌≡◌, ◌≢◌, ℕ, zero, suc, ◌<◌, ◌≤◌, ◌==◌, ◌&&◌, Bool, true, false, not, cond, List, [], ◌∷◌, ◌++◌, map, length, get_or, drop, take, min, Option, Some, None, is_some, Ok, Err, Result, refl, sym, ap, subst, ◌∙◌, arith}
+use Rattle.std.proofs.Common.{◌≡◌, ◌≢◌, ℕ, zero, suc, ◌<◌, ◌==◌, Bool, true, false, not, cond, List, [], ◌∷◌, ◌++◌, map, length, get_or, drop, take, min, Option, Some, None, Ok, Err, Result, refl, sym, ap, subst, ◌∙◌, arith}
 use Rattle.std.specs.List.{All, find}
 use Rattle.std.specs.Option.{option_map, option_map_or}
 use Rattle.std.proofs.lemmas.Bool.Decides.{nat_tests}
@@ -21,7 +21,7 @@ use Rattle.vs_driver_parts.specs.declared.answers.Shut.{Shut}
 use Rattle.vs_driver_parts.specs.declared.answers.Shut.TheVariants as shut
 use Rattle.vs_driver_parts.specs.declared.answers.ConnectionState.TheVariants as seen
 use Rattle.vs_driver_parts.specs.State.{DriverConnection, DriverEntry, DriverState, GoneConnection, is_known_as, entry_known_as, gone_known_as}
-use Rattle.vs_driver_parts.specs.Connections.{with_connection, with_end, recv_of, read_of, unread_of_id, after_recv, after_read, entry_answer, gone_answer, entry_read, all_gone_after_read, bytes_read, nothing_read, is_at_end, after_shutdown, after_shut, shut_in, shut_answer, shutdown_of, kept_unread, after_close, after_closing, entry_closed, gone_closed, without_gone, state_of}
+use Rattle.vs_driver_parts.specs.Connections.{with_connection, with_end, recv_of, read_of, unread_of_id, after_recv, after_read, gone_answer, all_gone_after_read, bytes_read, nothing_read, is_at_end, after_shutdown, after_shut, shut_in, shut_answer, shutdown_of, after_close, after_closing, gone_closed, without_gone, state_of}
 use Rattle.vs_driver_parts.specs.Listening.{with_waiting, without_id}
 use Rattle.vs_driver_parts.proofs.Known.{after_recv_gone, after_recv_known, recv_known, unread_known, shutdown_known, after_shutdown_known, after_close_known}
 use Rattle.vs_driver_parts.proofs.SameIds.{closing_id}

@@ -1,11 +1,11 @@
 -- What each call of the device's end leaves as it was.
-use Rattle.std.proofs.Common.{◌≡◌, ℕ, zero, suc, ◌+◌, Bool, true, cond, List, [], ◌∷◌, ◌++◌, length, take, drop, Option, Some, Contains, refl, sym, ap, subst, ◌∙◌, append-nil}
+use Rattle.std.proofs.Common.{◌≡◌, ℕ, zero, suc, ◌+◌, List, [], ◌∷◌, ◌++◌, length, take, drop, Option, Some, Contains, refl, sym, ap, subst, ◌∙◌, append-nil}
 use Rattle.std.proofs.Math.Seq.{take-length}
-use Rattle.vs_ring_port.specs.Chains.{bytes_in, chains_of, same_chain}
+use Rattle.vs_ring_port.specs.Chains.{bytes_in, chains_of}
 use Rattle.vs_ring_port.specs.Contents.{Take, Read, Write, Return}
 use Rattle.vs_ring_port.specs.Counts.{Counts}
 use Rattle.vs_ring_port.specs.DeviceCalls.{DeviceAllows}
-use Rattle.vs_ring_port.specs.EndLog.{EndLog, log_returned, log_taken, log_written, entries_returned, with_packet}
+use Rattle.vs_ring_port.specs.EndLog.{EndLog, log_returned, log_taken, log_written, with_packet}
 use Rattle.vs_page.specs.Held.{packet_held}
 use Rattle.vs_page.specs.Overwriting.{overwritten}
 use Rattle.vs_page.specs.declared.log.LogEntry.TheVariants.{PutPacket}

@@ -1,5 +1,5 @@
 -- The REQUESTs of the host's clients keep the device's log fair.
-use Rattle.std.proofs.Common.{◌≡◌, ◌≢◌, ℕ, ◌+◌, ◌≤◌, ◌<◌, Bool, true, false, cond, List, [], ◌∷◌, ◌^◌, Option, Some, Result, Ok, Err, refl, sym, ap, subst, ◌∙◌, arith}
+use Rattle.std.proofs.Common.{◌≡◌, ℕ, ◌+◌, ◌≤◌, ◌<◌, Bool, true, false, cond, [], ◌∷◌, ◌^◌, Option, Some, Result, Ok, Err, refl, sym, ap, subst, ◌∙◌, arith}
 use Rattle.std.proofs.lemmas.Bool.Decides.{nat_tests}
 use Rattle.std.specs.Option.{IsSomeAnd}
 use Rattle.std.specs.Result.{OnOk}
@@ -14,9 +14,9 @@ use Rattle.vs_flow.specs.Flow.{is_assigned, same_flow}
 use Rattle.vs_flow.specs.declared.flow.Flow.{Flow}
 use Rattle.vs_flow.proofs.Entries.{same_flow_false, same_flow_true}
 use Rattle.vs_history.specs.declared.packet.Packet.{Packet}
-use Rattle.vs_history.specs.History.{Asker, IsFair, MayPut, Put, History}
+use Rattle.vs_history.specs.History.{Asker, IsFair, MayPut, Put}
 use Rattle.vs_page.specs.Fair.{IsFairLog, IsFairOn}
-use Rattle.vs_page.specs.Log.{Device, Log, history_of, side_of, side_by}
+use Rattle.vs_page.specs.Log.{Device, Log, history_of, side_of}
 use Rattle.vs_page.specs.declared.log.LogEntry.TheVariants.{PutPacket}
 use Rattle.vs_driver_tests.specs.DeviceSide.{IsNewFrom, request, request_header}
 

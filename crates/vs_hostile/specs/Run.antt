@@ -1,5 +1,5 @@
 -- A hostile guest's run: each line of its script, what it answers, and the report at the end.
-use Rattle.std.specs.Prelude.{ℕ, ◌+◌, Bool, false, true, List, [], ◌∷◌, length, map, Option, None, Some, Result, Ok, Err, codes}
+use Rattle.std.specs.Prelude.{ℕ, ◌+◌, min, Bool, false, true, List, [], ◌∷◌, length, map, Option, None, Some, Result, Ok, Err, codes}
 use Rattle.vs_contents.specs.CallTree.{played}
 use Rattle.vs_flow.specs.declared.flow.Flow.{Flow}
 use Rattle.vs_guest_mem.specs.Memory.{Memory, bytes_at, zeroed}
@@ -30,7 +30,7 @@ pub record HostileState : Type 0 where
   pub guest : GuestState
   pub proxy : ProxyState
   pub host : HostContents
-  -- The moment, in milliseconds.
+  -- The moment, in milliseconds. It stands still at the last of its type.
   pub now : ℕ
 
 -- What a line answers.
@@ -69,7 +69,7 @@ host_does (HostFail n) s = by_host (after_fail n) Done s
 abbrev pub outside_does : Outside → DeviceState → HostileState → HostileState × Said
 outside_does TakeTurn ring s = over (turn_of ring.size s.now s.proxy) (λ t. HasTurned t) ring s
 outside_does (Reset cid) ring s = over (proxy_reset_of cid s.proxy) (λ r. WasReset r) ring s
-outside_does (Tick ms) ring s = (record s { now = s.now + ms }, Done)
+outside_does (Tick ms) ring s = (record s { now = min 18446744073709551615 (s.now + ms) }, Done)
 outside_does Client ring s = by_host after_client (StreamIs (length s.host.streams + 1)) s
 outside_does (OfHost line) ring s = host_does line s
 

@@ -1,5 +1,6 @@
 -- Each call keeps standard rings tied to their memory, and is one that the ports allow.
 use Rattle.std.proofs.Common.{◌≡◌, ℕ, ◌+◌, ◌<◌, ◌≤◌, List, [], ◌∷◌, length, Option, None, Some, Contains, Bool, true, false, cond, refl, sym, ap, ap₂, ◌∙◌, subst}
+use Rattle.std.specs.Option.{ForSome}
 use Rattle.vs_ring_port.specs.Chains.{chain_of, held_after, without, IsLongEnough}
 use Rattle.vs_ring_port.specs.Contents.{Given, PublishCid, Read, Return, Take, Write}
 use Rattle.vs_ring_port.specs.DeviceCalls.{CanReturn, DeviceAllows, LeavesNoGap}
@@ -17,7 +18,7 @@ use Rattle.vs_plain_driver.specs.Queue.{DriverQueueState, flight_in, reaped_page
 use Rattle.vs_plain_ties.specs.Calls.{after_call, ends_after, ends_by}
 use Rattle.vs_plain_ties.specs.Exposed.{BothEnds, device_contents, device_told, driver_contents, driver_told}
 use Rattle.vs_plain_ties.specs.Parts.{PartsState, driver_at, published_parts, reaped_parts, staged_parts, used_in, with_driver}
-use Rattle.vs_plain_ties.specs.Tie.{IsTiedTo, areas_of}
+use Rattle.vs_plain_ties.specs.Tie.{AreTied, IsTiedTo, areas_of}
 use Rattle.vs_plain_ties.proofs.Told as told
 
 -- one call more
@@ -233,3 +234,7 @@ module _ (p : PartsState) (h : History) (now : BothEnds) (is : (let x : BothEnds
 pub first_is : (b : Bool) (n : ℕ) (h : History) → h ≡ cond b (Some []) None → ends_by n h ≡ cond b (Some (empty_ends n)) None
 first_is true n h is = ap (ends_by n) is
 first_is false n h is = ap (ends_by n) is
+
+-- what is true of the ends where they are known
+pub of_ends : (r : BothEnds) (P : Ends → Type 0) → IsTiedTo r.parts r.ends → ((w : Ends) → AreTied r.parts w → P w) → ForSome r.ends P
+of_ends r P tied all w is = all w (subst (λ (o : Option Ends). IsTiedTo r.parts o) is tied)

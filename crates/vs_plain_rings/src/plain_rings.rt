@@ -1,13 +1,17 @@
 //! Standard rings as both traits.
 ghost use Rattle.std.specs.Prelude.{◌≡◌, ◌<◌, ◌≤◌, ◌+◌, ◌^◌, [], length, if◌then◌else◌, None, Some};
 ghost use Rattle.std.specs.Prelude.{IfOk, IfErr, OnOk, OnErr, IsTrue, is_ok};
+ghost use Rattle.std.specs.Option.{ForSome};
 ghost use Rattle.vs_guest_mem.specs.Memory.{after_write, is_inside};
 ghost use Rattle.vs_layout.specs.Layout.{queue_areas_of};
 ghost use Rattle.vs_ring_port.specs.declared.queue.TheConstants.{QUEUE_SIZE_MAX};
 ghost use Rattle.vs_ring_port.specs.DriverCalls.{page_of};
 ghost use Rattle.vs_ring_plain.specs.Device.{with_change};
 ghost use Rattle.vs_plain_ties.specs.Exposed.{are_alone, first_ends};
+ghost use Rattle.vs_page.specs.Fair.{IsFairLog};
+ghost use Rattle.vs_page.specs.Log.{Device, Driver, HasGotAll};
 ghost use Rattle.vs_plain_ties.specs.Parts.{new_parts, with_parts_memory};
+ghost use Rattle.vs_plain_ties.specs.Tie.{IsLaid, areas_of, start_of};
 
 use crate::parts::{Parts, pages_from};
 use std::alloc::{AllocError, Global};
@@ -113,6 +117,20 @@ impl PlainRings {
         self.journal = self.journal.then(&Call::Outside);
         Ok(())
     }
+}
+
+/// What is true of standard rings between any two calls, while they alone change their memory. Both logs are fair, and what each end got
+/// is what the other put first: packets on tx and rx, ids on event. The three areas of each queue and the pages of all three lie in the
+/// memory, and no two of them have a byte in common (Virtio 1.2, section 2.7).
+pub fn laws_of_standard_rings(rings: &PlainRings)
+    ensures driver_fair { ForSome rings.now.ends (λ w. IsFairLog Driver w.driver.entries) }
+    ensures device_fair { ForSome rings.now.ends (λ w. IsFairLog Device w.device.entries) }
+    ensures driver_got { ForSome rings.now.ends (λ w. HasGotAll w.driver.entries w.device.entries) }
+    ensures device_got { ForSome rings.now.ends (λ w. HasGotAll w.device.entries w.driver.entries) }
+    ensures apart { let p = rings.now.parts in
+        ForSome rings.now.ends (λ _. IsLaid p.device.size (areas_of p) (start_of p) p.device.memory) }
+{
+    let _cid = rings.parts.cid();
 }
 
 /// Whether the two ends alone change the memory.

@@ -20,3 +20,4 @@ pub mod Returning
 pub mod Starting
 pub mod Resetting
 pub mod Told
+pub mod Played

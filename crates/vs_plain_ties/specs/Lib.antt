@@ -4,3 +4,4 @@ pub mod Calls
 pub mod Queue
 pub mod Tie
 pub mod Exposed
+pub mod Seen

@@ -1,3 +1,4 @@
 pub mod OverLists
 pub mod Driven
 pub mod Playing
+pub mod Filling

@@ -1,15 +1,23 @@
 -- A call of the guest's is a line of the play.
-use Rattle.std.proofs.Common.{◌≡◌, ℕ, List, [], ◌++◌, refl, sym, ap, ◌∙◌}
-use Rattle.vs_ring_list.specs.Ends.{Ends}
+use Rattle.std.proofs.Common.{◌≡◌, ℕ, ◌+◌, min, List, [], ◌++◌, refl, sym, ap, subst, ◌∙◌}
+use Rattle.vs_ring_list.specs.Ends.{Ends, empty_ends}
 use Rattle.vs_driver_parts.specs.State.{DriverState}
 use Rattle.vs_contents.specs.CallTree.{Done}
-use Rattle.vs_driver_parts.specs.Conversations.{poll_of}
+use Rattle.vs_driver_parts.specs.Conversations.{new_of, poll_of}
+use Rattle.vs_driver_parts.specs.declared.limits.TheConstants.{FIRST_PORT}
 use Rattle.vs_driver_parts.specs.declared.answers.Polled.{Polled}
+use Rattle.vs_outside.specs.Host.{HostContents}
+use Rattle.vs_outside.specs.HostProgram.{HostMemory, new_host, plain}
 use Rattle.vs_report.specs.GuestLines.{poll_text}
-use Rattle.vs_script.specs.Play.{Event, Poll}
+use Rattle.vs_report.specs.HostLines.{ok_text}
+use Rattle.vs_script.specs.Outside.{Tick}
+use Rattle.vs_script.specs.Play.{Event, Poll, Around}
 use Rattle.vs_world.specs.GuestSteps.{makes_call}
 use Rattle.vs_world.specs.Calls.{GuestCall, ReplyTo}
 use Rattle.vs_world.specs.Plays.{Guest, whole_call}
+use Rattle.vs_proxy.specs.State.{ProxyState}
+use Rattle.vs_proxy.specs.Turns.{new_proxy}
+use Rattle.vs_play.specs.Answer.{base_path, opened_play}
 use Rattle.vs_play.specs.Lines.{event_played, played_line, reply_text}
 use Rattle.vs_play.specs.Ready.{IsDriven, IsReady, PlayState, Plays, over_lists, shown, world_in}
 
@@ -55,3 +63,40 @@ poll_plays p s polled e text text' played driven printed =
       printed = printed ∙ ap (λ t. text ++ t) (sym (ap (λ r. r.1) whole));
       ready = record { driven = driven };
     }
+
+-- What the host's programs do.
+pub host_plays : (said : Event) (f : HostContents → HostContents) (t : List ℕ) (p : PlayState) (old new : HostMemory) (text text' : List ℕ)
+    → shown (event_played said (world_in p)).0 ≡ record p { host = f p.host } → (event_played said (world_in p)).1 ≡ t
+    → p.host ≡ old.contents → new ≡ record old { contents = f old.contents }
+    → IsReady p → text' ≡ text ++ t
+    → Plays said p (record p { host = new.contents }) text text'
+host_plays said f t p old new text text' world answer held is ready printed =
+    let h : new.contents ≡ f p.host = ap (λ m. m.contents) is ∙ ap f (sym held) in
+    record {
+      world = sym (world ∙ ap (λ (x : HostContents). record p { host = x }) (sym h));
+      printed = printed ∙ ap (λ x. text ++ x) (sym answer);
+      ready = record { driven = ready.driven };
+    }
+
+-- Time passes.
+pub tick_plays : (ms : ℕ) (p : PlayState) (moment : ℕ) (text text' : List ℕ) → moment ≡ min 18446744073709551615 (p.moment + ms)
+    → IsReady p → text' ≡ text ++ ok_text
+    → Plays (Around (Tick ms)) p (record p { moment = moment }) text text'
+tick_plays ms p moment text text' is ready printed = record {
+  world = ap (λ x. record p { moment = x }) is;
+  printed = printed;
+  ready = record { driven = ready.driven };
+}
+
+-- A play just made.
+pub opens : (n : ℕ) (v w : Ends) (s : DriverState) (x : ProxyState) (h : HostMemory) (moment : ℕ) → v ≡ empty_ends n
+    → over_lists (new_of v.lists.size FIRST_PORT 1) v ≡ (s, w)
+    → x ≡ new_proxy 3 base_path → h ≡ new_host base_path [] plain → moment ≡ 0
+    → record { driver = s; proxy = x; rings = w; host = h.contents; moment = moment } ≡ shown (opened_play n)
+opens n v w s x h moment empty played made host zero =
+    let there : over_lists (new_of n FIRST_PORT 1) (empty_ends n) ≡ (s, w) = subst (λ e. over_lists (new_of e.lists.size FIRST_PORT 1) e ≡ (s, w)) empty played in
+    let start : ProxyState → HostMemory → ℕ → DriverState × Ends → PlayState = λ y m t r. record { driver = r.0; proxy = y; rings = r.1; host = m.contents; moment = t } in
+    ap (start x h moment) (sym there)
+    ∙ (ap (λ y. start y h moment (over_lists (new_of n FIRST_PORT 1) (empty_ends n))) made
+    ∙ (ap (λ m. start (new_proxy 3 base_path) m moment (over_lists (new_of n FIRST_PORT 1) (empty_ends n))) host
+    ∙ ap (λ t. start (new_proxy 3 base_path) (new_host base_path [] plain) t (over_lists (new_of n FIRST_PORT 1) (empty_ends n))) zero))

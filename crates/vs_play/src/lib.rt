@@ -1,6 +1,7 @@
 //! Plays: a guest's driver, the device with its proxy and a host in memory on one thread, line by line, and what each line prints.
 #![tactic(auto)]
 
+mod bytes;
 pub mod examples;
 mod guest;
 pub mod play;

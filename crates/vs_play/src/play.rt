@@ -1,10 +1,13 @@
 //! A play: a guest's driver and the device with its proxy on one thread, over list rings, with a host in memory.
 
 ghost use Rattle.std.specs.Prelude.{◌≡◌, ◌++◌, OnOk, string_bytes};
+ghost use Rattle.vs_script.specs.Outside as outside;
 ghost use Rattle.vs_script.specs.Play as script;
-ghost use Rattle.vs_script.specs.Data.{Given};
+ghost use Rattle.vs_script.specs.Data.{Given, content_of};
+ghost use Rattle.vs_script.specs.Outside.{host_view};
 ghost use Rattle.vs_play.specs.Ready.{IsBits, IsReady, Plays};
 
+use crate::bytes::filled;
 use crate::guest;
 use std::alloc::AllocError;
 use std::marker::Model;
@@ -15,7 +18,9 @@ use vs_report::guest_lines::{
     push_accept, push_close, push_connect, push_listen, push_poll, push_recv, push_send,
     push_shutdown, push_state, push_unlisten,
 };
+use vs_report::host_lines::{push_client, push_ok, push_stream_there, push_write};
 use vs_ring_list::ListRings;
+use vs_script::{Data, HostLine};
 
 /// The world of a play, and the moment.
 #[derive(Drop)]
@@ -36,6 +41,22 @@ impl Model for Play {
 }
 
 impl Play {
+    // A line on the programs of the host.
+    fn host_line(&mut self, line: &HostLine, text: &mut String) -> Result<(), AllocError>
+        requires { IsReady self.old }
+        ensures { OnOk result (Plays (script.Around (outside.OfHost (host_view line.now))) self.old self.new (string_bytes text.old) (string_bytes text.new)) }
+    {
+        match line {
+            HostLine::Listen { port } => self.host_listen(*port, text),
+            HostLine::Unlisten { port } => self.host_unlisten(*port, text),
+            HostLine::Write { stream, content } => self.host_write_data(*stream, content, text),
+            HostLine::Allow { stream, n } => self.host_allow(*stream, *n, text),
+            HostLine::End { stream } => self.host_end(*stream, text),
+            HostLine::Closed { stream } => self.host_closed(*stream, text),
+            HostLine::Fail { n } => self.host_fail(*n, text),
+        }
+    }
+
     // `connect PORT`
     fn connect(&mut self, port: u32, text: &mut String) -> Result<(), AllocError>
         requires { IsReady self.old }
@@ -83,6 +104,20 @@ impl Play {
         push_send(text, answer)
     }
 
+    // `send C DATA`
+    fn send_data(&mut self, id: u32, content: &Data, text: &mut String) -> Result<(), AllocError>
+        requires { IsReady self.old }
+        ensures { OnOk result (Plays (script.Send id (content_of content.now)) self.old self.new (string_bytes text.old) (string_bytes text.new)) }
+    {
+        match content {
+            Data::Given(bytes) => self.send(id, bytes, text),
+            Data::Fill(fill) => {
+                let bytes = filled(*text.allocator(), *fill)?;
+                self.send(id, &bytes, text)
+            }
+        }
+    }
+
     // `recv C N`
     fn recv(&mut self, id: u32, len: u32, text: &mut String) -> Result<(), AllocError>
         requires { IsReady self.old }
@@ -127,5 +162,105 @@ impl Play {
     {
         let polled = guest::poll(&mut self.driver, &mut self.rings);
         push_poll(text, polled)
+    }
+
+    // `tick MS`
+    fn tick(&mut self, ms: u32, text: &mut String) -> Result<(), AllocError>
+        requires { IsReady self.old }
+        ensures { OnOk result (Plays (script.Around (outside.Tick ms)) self.old self.new (string_bytes text.old) (string_bytes text.new)) }
+    {
+        self.clock.tick(ms as u64);
+        push_ok(text)
+    }
+
+    // `client`
+    fn client(&mut self, text: &mut String) -> Result<(), AllocError>
+        requires { IsReady self.old }
+        ensures { OnOk result (Plays (script.Around outside.Client) self.old self.new (string_bytes text.old) (string_bytes text.new)) }
+    {
+        let stream = self.host.client()?;
+        push_client(text, stream)
+    }
+
+    // `host listen PORT`
+    fn host_listen(&mut self, port: u32, text: &mut String) -> Result<(), AllocError>
+        requires { IsReady self.old }
+        ensures { OnOk result (Plays (script.Around (outside.OfHost (outside.HostListen port))) self.old self.new (string_bytes text.old) (string_bytes text.new)) }
+    {
+        self.host.listen(port)?;
+        push_ok(text)
+    }
+
+    // `host unlisten PORT`
+    fn host_unlisten(&mut self, port: u32, text: &mut String) -> Result<(), AllocError>
+        requires { IsReady self.old }
+        ensures { OnOk result (Plays (script.Around (outside.OfHost (outside.HostUnlisten port))) self.old self.new (string_bytes text.old) (string_bytes text.new)) }
+    {
+        self.host.unlisten(port)?;
+        push_ok(text)
+    }
+
+    // `host write H DATA`, with these bytes.
+    fn host_write(&mut self, stream: u32, bytes: &[u8], text: &mut String) -> Result<(), AllocError>
+        requires { IsReady self.old }
+        ensures { OnOk result (Plays (script.Around (outside.OfHost (outside.HostWrite stream (Given bytes.now)))) self.old self.new (string_bytes text.old) (string_bytes text.new)) }
+    {
+        let answer = self.host.host_write(stream as u64, bytes)?;
+        push_write(text, answer)
+    }
+
+    // `host write H DATA`
+    fn host_write_data(
+        &mut self,
+        stream: u32,
+        content: &Data,
+        text: &mut String,
+    ) -> Result<(), AllocError>
+        requires { IsReady self.old }
+        ensures { OnOk result (Plays (script.Around (outside.OfHost (outside.HostWrite stream (content_of content.now)))) self.old self.new (string_bytes text.old) (string_bytes text.new)) }
+    {
+        match content {
+            Data::Given(bytes) => self.host_write(stream, bytes, text),
+            Data::Fill(fill) => {
+                let bytes = filled(*text.allocator(), *fill)?;
+                self.host_write(stream, &bytes, text)
+            }
+        }
+    }
+
+    // `host allow H N`
+    fn host_allow(&mut self, stream: u32, n: u32, text: &mut String) -> Result<(), AllocError>
+        requires { IsReady self.old }
+        ensures { OnOk result (Plays (script.Around (outside.OfHost (outside.HostAllow stream n))) self.old self.new (string_bytes text.old) (string_bytes text.new)) }
+    {
+        let found = self.host.allow(stream as u64, n as usize);
+        push_stream_there(text, found)
+    }
+
+    // `host end H`
+    fn host_end(&mut self, stream: u32, text: &mut String) -> Result<(), AllocError>
+        requires { IsReady self.old }
+        ensures { OnOk result (Plays (script.Around (outside.OfHost (outside.HostEnd stream))) self.old self.new (string_bytes text.old) (string_bytes text.new)) }
+    {
+        let found = self.host.end(stream as u64);
+        push_stream_there(text, found)
+    }
+
+    // `host closed H`
+    fn host_closed(&mut self, stream: u32, text: &mut String) -> Result<(), AllocError>
+        requires { IsReady self.old }
+        ensures { OnOk result (Plays (script.Around (outside.OfHost (outside.HostClosed stream))) self.old self.new (string_bytes text.old) (string_bytes text.new)) }
+    {
+        let found = self.host.closed(stream as u64);
+        push_stream_there(text, found)
+    }
+
+    // `host fail N`
+    fn host_fail(&mut self, n: u32, text: &mut String) -> Result<(), AllocError>
+        requires { IsReady self.old }
+        ensures { OnOk result (Plays (script.Around (outside.OfHost (outside.HostFail n))) self.old self.new (string_bytes text.old) (string_bytes text.new)) }
+    {
+        self.host.fail(n as u64)?;
+        push_ok(text)
     }
 }

@@ -1,4 +1,4 @@
-use Rattle.std.proofs.Common.{◌≡◌, ℕ, List, length, Contains, refl, sym, ap, ◌∙◌, arith, rules}
+use Rattle.std.proofs.Common.{◌≡◌, ℕ, List, length, Contains, refl, ap, ◌∙◌, arith, rules}
 use Rattle.vs_ring_port.specs.Chains.{chains_of}
 use Rattle.vs_ring_port.specs.declared.queue.Queue.TheVariants.{Rx}
 use Rattle.vs_ring_list.specs.Ends.{Ends}

@@ -1,4 +1,4 @@
-use Rattle.std.proofs.Common.{◌≡◌, ◌∷◌, Option, sym, ap, subst, ◌∙◌, rules}
+use Rattle.std.proofs.Common.{Option, sym, ap, subst, ◌∙◌, rules}
 use Rattle.vs_history.specs.declared.packet.Packet.{Packet}
 use Rattle.vs_page.specs.Fair.{IsFairLog}
 use Rattle.vs_page.specs.Log.{Device}

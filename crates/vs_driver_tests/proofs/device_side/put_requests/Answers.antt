@@ -1,5 +1,4 @@
-use Rattle.std.proofs.Common.{◌≡◌, ◌+◌, ◌≤◌, ◌∷◌, true, refl, sym, subst, arith}
-use Rattle.vs_flow.specs.Flow.{is_assigned}
+use Rattle.std.proofs.Common.{◌≡◌, ◌+◌, ◌∷◌, refl, sym, subst, arith}
 use Rattle.vs_page.specs.Fair.{IsFairLog}
 use Rattle.vs_page.specs.Log.{Device, Log}
 use Rattle.vs_page.specs.declared.log.LogEntry.TheVariants.{PutPacket}

@@ -1,4 +1,4 @@
-use Rattle.std.proofs.Common.{◌≡◌, ℕ, Some, true, sym, ap, subst, ◌∙◌, rules}
+use Rattle.std.proofs.Common.{◌≡◌, ℕ, Some, sym, ap, subst, ◌∙◌, rules}
 use Rattle.vs_flow.specs.Table.{value_under, with_value}
 use Rattle.vs_driver_parts.specs.State.{DriverConnection}
 use Rattle.vs_driver_parts.specs.Held.{HeldSlots, KnowsNone}

@@ -1,0 +1,15 @@
+use Rattle.std.proofs.Common.{refl, sym, subst}
+use Rattle.std.proofs.lemmas.Result.{on_ok_weaker}
+use Rattle.vs_outside.specs.HostProgram.{after_unlisten}
+use Rattle.vs_report.specs.HostLines.{ok_text}
+use Rattle.vs_script.specs.Outside as outside
+use Rattle.vs_script.specs.Play as script
+use Rattle.vs_play.specs.Ready.{IsReady}
+use Rattle.vs_play.proofs.Playing.{host_plays}
+use Rattle.vs_play.proofs.play.Play.host_unlisten.Goals as goal
+
+pub returns : goal.returns
+returns c =
+    let ready = subst IsReady (sym c.self.view_is) c.requires in
+    rw (← c.self.view_is) (on_ok_weaker c.push_ok.result (λ printed. host_plays (script.Around (outside.OfHost (outside.HostUnlisten c.args.port))) (after_unlisten c.args.port) ok_text _ c.self.inside.host c.unlisten.new.self _ _ refl refl refl
+    c.in_ok-unlisten.ensures.ok ready printed) c.push_ok.ensures)
