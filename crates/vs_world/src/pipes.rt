@@ -13,6 +13,7 @@ ghost use Rattle.vs_pipes.specs.Drains.{Drains, receives};
 ghost use Rattle.vs_world.specs.Calls.{received_on, sent_on};
 ghost use Rattle.vs_world.specs.Events.{Event, run};
 ghost use Rattle.vs_world.specs.Pipes.{IsFresh};
+ghost use Rattle.vs_world.specs.Plays.{AreRight, Line, after};
 ghost use Rattle.vs_world.specs.Sides.{both_of};
 ghost use Rattle.vs_world.specs.World.{opening};
 
@@ -61,4 +62,12 @@ pub fn law_of_shutting()
         has shuts_send (puts (history_of Driver f (both_of w).driver.log)) ≡ true → sent_on f (run more w).journal ≡ sent_on f w.journal }
     ensures wrote { (n : ℕ) (host : HostContents) (es more : List Event) (f : Flow) → IsFresh host → let w = run es (opening n host) in
         has shuts_send (puts (history_of Device f (both_of w).device.log)) ≡ true → host_wrote f 1 (run more w).host ≡ host_wrote f 1 w.host }
+{}
+
+/// The same after any script: bytes both ways, in order.
+pub fn law_of_script_bytes()
+    ensures to_guest { (n : ℕ) (host : HostContents) (ls : List Line) (f : Flow) → AreRight ls → IsFresh host
+        → let w = after ls (opening n host) in IsPrefixOf (received_on f w.journal) (host_wrote f 1 w.host) }
+    ensures to_host { (n : ℕ) (host : HostContents) (ls : List Line) (f : Flow) → AreRight ls → IsFresh host
+        → let w = after ls (opening n host) in IsPrefixOf (host_read f 1 w.host) (sent_on f w.journal) }
 {}
