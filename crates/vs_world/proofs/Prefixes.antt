@@ -1,5 +1,5 @@
 -- What the guest and the host's program received of each other.
-use Rattle.std.proofs.Common.{◌≡◌, ℕ, List, sym, subst, ◌∙◌}
+use Rattle.std.proofs.Common.{ℕ, List, sym, subst, ◌∙◌}
 use Rattle.vs_flow.specs.declared.flow.Flow.{Flow}
 use Rattle.vs_outside.specs.Host.{HostContents}
 use Rattle.vs_outside.specs.HostBytes.{host_read, host_wrote}

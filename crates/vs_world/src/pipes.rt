@@ -30,7 +30,8 @@ pub fn law_of_receiving()
         Contains w.driver.table.entries e
         → Drains (receives e.value.end) (received_on e.flow w.journal) e.value.unread (payload_got Driver e.flow 1 (both_of w).driver.log) }
     ensures gone { (n : ℕ) (host : HostContents) (es : List Event) (g : GoneConnection) → let w = run es (opening n host) in
-        Contains w.driver.gone g → IsPrefixOf (received_on g.flow w.journal ++ g.unread) (payload_got Driver g.flow 1 (both_of w).driver.log) }
+        Contains w.driver.gone g
+        → IsPrefixOf (received_on g.flow w.journal ++ g.unread) (payload_got Driver g.flow 1 (both_of w).driver.log) }
     ensures put { (n : ℕ) (host : HostContents) (es : List Event) (f : Flow) → let w = run es (opening n host) in
         IsPrefixOf (received_on f w.journal) (payload_put Device f 1 (both_of w).device.log) }
 {}
@@ -74,7 +75,8 @@ pub fn law_of_shutting()
     ensures sent { (n : ℕ) (host : HostContents) (es more : List Event) (f : Flow) → let w = run es (opening n host) in
         has shuts_send (puts (history_of Driver f (both_of w).driver.log)) ≡ true → sent_on f (run more w).journal ≡ sent_on f w.journal }
     ensures wrote { (n : ℕ) (host : HostContents) (es more : List Event) (f : Flow) → IsFresh host → let w = run es (opening n host) in
-        has shuts_send (puts (history_of Device f (both_of w).device.log)) ≡ true → host_wrote f 1 (run more w).host ≡ host_wrote f 1 w.host }
+        has shuts_send (puts (history_of Device f (both_of w).device.log)) ≡ true
+        → host_wrote f 1 (run more w).host ≡ host_wrote f 1 w.host }
 {}
 
 /// The same after any script: bytes both ways, in order.

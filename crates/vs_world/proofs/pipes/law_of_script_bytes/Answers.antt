@@ -1,5 +1,5 @@
 use Rattle.std.proofs.Common.{subst}
-use Rattle.vs_world.specs.World.{World, opening}
+use Rattle.vs_world.specs.World.{World}
 use Rattle.vs_world.proofs.Prefixes.{ToGuest, ToHost, to_guest, to_host}
 use Rattle.vs_world.proofs.ScriptLines.{opened_leads}
 use Rattle.vs_world.proofs.pipes.law_of_script_bytes.Goals as goal

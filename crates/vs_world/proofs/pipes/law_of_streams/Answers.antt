@@ -1,7 +1,5 @@
 use Rattle.std.proofs.Common.{◌≡◌, ℕ, List, Some, sym, ap, subst, ◌∙◌}
 use Rattle.std.specs.Option.{option_map}
-use Rattle.vs_flow.specs.declared.flow.Flow.{Flow}
-use Rattle.vs_outside.specs.Host.{HostContents, Stream}
 use Rattle.vs_outside.specs.HostBytes.{host_read}
 use Rattle.vs_page.specs.Fair.{IsPrefixOf}
 use Rattle.vs_page.specs.Log.{Device}
@@ -13,7 +11,7 @@ use Rattle.vs_proxy.specs.State.{Handshake}
 use Rattle.vs_pipes.specs.Drains.{Drains}
 use Rattle.vs_pipes.specs.Streamed.{IsJoined, Seen, gives, line_for, look, reading, seen}
 use Rattle.vs_pipes.proofs.Hosts.{there as is_there}
-use Rattle.vs_world.specs.Events.{Event, run}
+use Rattle.vs_world.specs.Events.{run}
 use Rattle.vs_world.specs.Sides.{both_of}
 use Rattle.vs_world.specs.World.{opening}
 use Rattle.vs_world.proofs.Bytes.{read_is_got, wrote_is_put}
