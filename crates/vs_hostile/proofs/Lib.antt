@@ -1,0 +1,4 @@
+pub mod Seen
+pub mod Heeding
+pub mod Determined
+pub mod Hosting

@@ -3,4 +3,7 @@
 #![tactic(auto)]
 
 pub mod guest;
+pub mod host_lines;
+pub mod turns;
+pub mod whole;
 pub mod worked;
