@@ -29,7 +29,6 @@ use Rattle.vs_ring_port.specs.declared.failure.Failure.{Failure}
 use Rattle.vs_hostile.specs.Ready.{IsServing}
 use Rattle.vs_hostile.specs.Answers.{Around, answer_around, bytes_with, with_host}
 use Rattle.vs_hostile.specs.Whole.{is_made, whole_contents, whole_state}
-use Rattle.vs_hostile.proofs.Heeding.{Heeds, kept, kept_bytes, proxy_reset_heeds, turn_heeds}
 use Rattle.vs_hostile.proofs.Seen.{after_made, exposed}
 
 -- What ring and host expose, with so many faults counted.
@@ -42,7 +41,7 @@ record IsStep (call : Call) (a : Answer call) (v : Around) (m : Situation) : Typ
   faults : ℕ
   is : m ≡ seen after faults
   starves : v.host.starved ≡ true → after.host.starved ≡ true
-  answer : after.host.starved ≡ false → answer_around call v ≡ (kept call a, after)
+  answer : after.host.starved ≡ false → answer_around call v ≡ (a, after)
 
 -- RINGS
 alone : (c : RingContents) (s : PlainState) → c.lists ≡ None → c.log ≡ None → c.other ≡ None → c.plain ≡ Some s → c.honest ≡ false
@@ -101,7 +100,7 @@ by_ring call a v n m can h =
 by_host : (call : Call) (a : Answer call) (v : Around) (n : ℕ) (m : Situation) (failed : Bool) (P : HostContents → Type 0)
     (f : HostContents → HostContents) → HostMoves failed P f (seen v n) m
     → (v.host.starved ≡ true → (f v.host).starved ≡ true)
-    → (P v.host → (f v.host).starved ≡ false → answer_around call v ≡ (kept call a, with_host (f v.host) v)) → IsStep call a v m
+    → (P v.host → (f v.host).starved ≡ false → answer_around call v ≡ (a, with_host (f v.host) v)) → IsStep call a v m
 by_host call a v n m failed P f h starves answers = record {
   after = with_host (f v.host) v;
   faults = m.faults;
@@ -161,21 +160,18 @@ write_again stream bytes write.Again c is fed = sym is
 write_again stream bytes write.Closed c is fed = sym is
 write_again stream bytes write.Failed c is fed = rw (was_to_fail c fed) refl
 
+abbrev read_bytes : ℕ → StreamRead → Around → List ℕ → (StreamRead × List ℕ) × Around
+read_bytes stream a v bytes = ((a, bytes), with_host (after_read stream a v.host) v)
+
+abbrev read_as : ℕ → Around → StreamRead → (StreamRead × List ℕ) × Around
+read_as stream v a = ((a, bytes_with stream a v.host), with_host (after_read stream a v.host) v)
+
 read_again : (stream n : ℕ) (a : StreamRead) (bytes : List ℕ) (v : Around) → IsReadOf stream n (a, bytes) v.host
-    → answer_around (ReadStream stream n) v ≡ ((a, kept_bytes a bytes), with_host (after_read stream a v.host) v)
-read_again stream n (read.Got k) bytes v is =
-    let F : StreamRead → Answer (ReadStream stream n) × Around =
-    λ x. ((x, bytes_with stream x v.host), with_host (after_read stream x v.host) v) in
-    ap F (sym is.0) ∙ ap (λ (x : List ℕ). ((read.Got k, x), with_host (after_read stream (read.Got k) v.host) v)) (sym is.1)
-read_again stream n read.End bytes v is =
-    let F : StreamRead → Answer (ReadStream stream n) × Around =
-    λ x. ((x, bytes_with stream x v.host), with_host (after_read stream x v.host) v) in ap F (sym is)
-read_again stream n read.Again bytes v is =
-    let F : StreamRead → Answer (ReadStream stream n) × Around =
-    λ x. ((x, bytes_with stream x v.host), with_host (after_read stream x v.host) v) in ap F (sym is)
-read_again stream n read.Failed bytes v is =
-    let F : StreamRead → Answer (ReadStream stream n) × Around =
-    λ x. ((x, bytes_with stream x v.host), with_host (after_read stream x v.host) v) in ap F (sym is)
+    → answer_around (ReadStream stream n) v ≡ ((a, bytes), with_host (after_read stream a v.host) v)
+read_again stream n (read.Got k) bytes v is = ap (read_as stream v) (sym is.0) ∙ ap (read_bytes stream (read.Got k) v) (sym is.1)
+read_again stream n read.End bytes v is = ap (read_as stream v) (sym is.0) ∙ ap (read_bytes stream read.End v) (sym is.1)
+read_again stream n read.Again bytes v is = ap (read_as stream v) (sym is.0) ∙ ap (read_bytes stream read.Again v) (sym is.1)
+read_again stream n read.Failed bytes v is = ap (read_as stream v) (sym is.0) ∙ ap (read_bytes stream read.Failed v) (sym is.1)
 
 step : (call : Call) (a : Answer call) (v : Around) (n : ℕ) (m : Situation) → CanMake call (seen v n) → Allows call a (seen v n) m
     → IsStep call a v m
@@ -208,22 +204,20 @@ fed_before : (a b : Bool) → (a ≡ true → b ≡ true) → b ≡ false → a 
 fed_before true b h fed = absurd (false≢true (sym fed ∙ h refl))
 fed_before false b h fed = refl
 
-ends_at : {A : Type 0} (tree : DeviceTree A) (v : Around) (n : ℕ) (x : A) (t : Situation) → Heeds tree → MayRun tree (seen v n)
+ends_at : {A : Type 0} (tree : DeviceTree A) (v : Around) (n : ℕ) (x : A) (t : Situation) → MayRun tree (seen v n)
     → Runs tree (seen v n) x t → IsEnd tree v x t
-ends_at (Done y) v n x t heeds may h = record {
+ends_at (Done y) v n x t may h = record {
   after = v;
   faults = n;
   is = sym h.1;
   starves = λ was. was;
   answer = λ fed. ap (λ z. (z, v)) h.0;
 }
-ends_at {A} (Ask call k) v n x t heeds may h =
+ends_at {A} (Ask call k) v n x t may h =
     let s = step call h.0 v n h.1 may.0 h.2 in
-    let on = kept call h.0 in
-    let a = heeds.0 h.0 in
-    let may_on = subst (λ (u : Situation). MayRun (k on) u) s.is (subst (λ (p : DeviceTree A). MayRun p h.1) a (may.1 h.0 h.1 h.2)) in
-    let runs_on = subst (λ (u : Situation). Runs (k on) u x t) s.is (subst (λ (p : DeviceTree A). Runs p h.1 x t) a h.3) in
-    let e = ends_at (k on) s.after s.faults x t (heeds.1 on) may_on runs_on in
+    let may_on = subst (λ (u : Situation). MayRun (k h.0) u) s.is (may.1 h.0 h.1 h.2) in
+    let runs_on = subst (λ (u : Situation). Runs (k h.0) u x t) s.is h.3 in
+    let e = ends_at (k h.0) s.after s.faults x t may_on runs_on in
     record {
       after = e.after;
       faults = e.faults;
@@ -242,29 +236,22 @@ same_around v w n n' same =
     ap (λ (x : DeviceState). record { ring = x; host = v.host }) ring ∙ ap (λ (x : HostContents). record { ring = w.ring; host = x }) host
 
 -- A conversation over both: unless the host found no memory, it is what the conversation is played to.
-pub over : {A : Type 0} (tree : DeviceTree A) (v w : Around) (n n' : ℕ) (x : A) → Heeds tree → MayRun tree (seen v n)
+pub over : {A : Type 0} (tree : DeviceTree A) (v w : Around) (n n' : ℕ) (x : A) → MayRun tree (seen v n)
     → Runs tree (seen v n) x (seen w n') → w.host.starved ≡ false → played answer_around tree v ≡ (x, w)
-over {A} tree v w n n' x heeds may h fed =
-    let e = ends_at tree v n x (seen w n') heeds may h in
+over {A} tree v w n n' x may h fed =
+    let e = ends_at tree v n x (seen w n') may h in
     let same : e.after ≡ w = sym (same_around w e.after n' e.faults e.is) in
     e.answer (ap (λ (u : Around). u.host.starved) same ∙ fed) ∙ ap (λ (u : Around). (x, u)) same
-
-pub stays_starved : {A : Type 0} (tree : DeviceTree A) (v w : Around) (n n' : ℕ) (x : A) → Heeds tree → MayRun tree (seen v n)
-    → Runs tree (seen v n) x (seen w n') → w.host.starved ≡ false → v.host.starved ≡ false
-stays_starved {A} tree v w n n' x heeds may h fed =
-    let e = ends_at tree v n x (seen w n') heeds may h in
-    let same : e.after ≡ w = sym (same_around w e.after n' e.faults e.is) in
-    fed_before v.host.starved e.after.host.starved e.starves (ap (λ (u : Around). u.host.starved) same ∙ fed)
 
 -- A turn, and a reset.
 pub turn_over : (size now : ℕ) (p : ProxyState) (v w : Around) (n n' : ℕ) (x : ProxyState × Turn) → MayRun (turn_of size now p) (seen v n)
     → Runs (turn_of size now p) (seen v n) x (seen w n') → w.host.starved ≡ false → played answer_around (turn_of size now p) v ≡ (x, w)
-turn_over size now p v w n n' x may runs fed = over (turn_of size now p) v w n n' x (turn_heeds size now p) may runs fed
+turn_over size now p v w n n' x may runs fed = over (turn_of size now p) v w n n' x may runs fed
 
 pub reset_over : (cid : ℕ) (p : ProxyState) (v w : Around) (n n' : ℕ) (x : ProxyState × Result (Unit {0}) Failure)
     → MayRun (proxy_reset_of cid p) (seen v n) → Runs (proxy_reset_of cid p) (seen v n) x (seen w n') → w.host.starved ≡ false
     → played answer_around (proxy_reset_of cid p) v ≡ (x, w)
-reset_over cid p v w n n' x may runs fed = over (proxy_reset_of cid p) v w n n' x (proxy_reset_heeds cid p) may runs fed
+reset_over cid p v w n n' x may runs fed = over (proxy_reset_of cid p) v w n n' x may runs fed
 
 -- The order of a proxy and its host doesn't depend on a ring that tells no log.
 pub served : (p : ProxyState) (d : DeviceState) (h : HostContents) (n : ℕ) → IsServing p h → IsInOrder 3 p (situation (whole_contents d) (Some h) n)

@@ -1,4 +1,3 @@
 pub mod Seen
-pub mod Heeding
 pub mod Determined
 pub mod Hosting
