@@ -1,5 +1,5 @@
 -- The calls that a device makes on its ring and on its host, and the answers that they may get.
-use Rattle.std.specs.Prelude.{◌≡◌, ℕ, ◌<◌, ◌≤◌, Bool, false, List, length, slice_index, Option, IfSome}
+use Rattle.std.specs.Prelude.{◌≡◌, ℕ, ◌<◌, ◌≤◌, Bool, false, List, [], length, slice_index, Option, IfSome}
 use Rattle.vs_contents.specs.CallTree.{CallTree}
 use Rattle.vs_contents.specs.Contents.{Exposes}
 use Rattle.vs_flow.specs.declared.flow.Flow.{Flow}
@@ -52,10 +52,10 @@ pub record HostMoves (failed : Bool) (P : HostContents → Type 0) (f : HostCont
   pub faults : CountsFault failed old.faults new.faults
   pub host : Exposes old.host new.host P f
 
--- The bytes of an answer are the next ones of the stream.
+-- The bytes of an answer are the next ones of the stream, and none where nothing was got.
 abbrev pub IsReadOf : ℕ → ℕ → StreamRead × List ℕ → HostContents → Type 0
 IsReadOf stream n (read.Got k, bytes) c = (read.Got k ≡ read_answer stream n c) × (bytes ≡ next_bytes stream k c)
-IsReadOf stream n (answer, bytes) c = answer ≡ read_answer stream n c
+IsReadOf stream n (answer, bytes) c = (answer ≡ read_answer stream n c) × (bytes ≡ [])
 
 -- A chain that a queue gives is of that queue, and long enough for it.
 pub record IsFitChain (queue : Queue) (chain : Chain) : Type 0 where

@@ -1,5 +1,5 @@
 -- The CIDs of the packets of a connection: the guest's stays the same while the connection stands, at the driver and at the device.
-use Rattle.std.proofs.Common.{◌≡◌, ◌≢◌, ℕ, ◌==◌, ◌&&◌, not, Bool, true, false, cond, List, [], ◌∷◌, ◌++◌, length, Option, Some, None, refl, sym, ap, subst, ◌∙◌, arith, ◌⊎◌, inl, inr}
+use Rattle.std.proofs.Common.{◌≡◌, ℕ, ◌&&◌, Bool, true, false, cond, List, [], ◌∷◌, ◌++◌, length, Option, Some, None, refl, sym, ap, subst, ◌∙◌, arith, ◌⊎◌, inl, inr}
 use Rattle.std.proofs.lemmas.Bool.Decides.{nat_tests}
 use Rattle.std.proofs.lemmas.Grind.{common_steps}
 use Rattle.vs_conn.specs.End.{ConnectionEnd, answering, asked, end_after, is_stream, owes_of, paid_of, with_payload_sent}
@@ -10,19 +10,18 @@ use Rattle.vs_conn.specs.declared.end.State.TheVariants as state
 use Rattle.vs_flow.specs.Flow.{same_flow}
 use Rattle.vs_flow.specs.declared.flow.Flow.{Flow}
 use Rattle.vs_flow.proofs.Entries.{same_flow_true}
-use Rattle.vs_history.specs.History.{Asker, Got, History, Put, gots, puts}
+use Rattle.vs_history.specs.History.{Got, History, Put, gots, puts}
 use Rattle.vs_history.specs.Packets.{is_request, is_rst, is_rw}
 use Rattle.vs_history.specs.declared.packet.Packet.{Packet}
-use Rattle.vs_page.specs.Log.{Device, Driver, IsNextPacket, Log, Role, flow_got, flow_put, history_of, packets_got, packets_put, side_of}
+use Rattle.vs_page.specs.Log.{Device, Driver, IsNextPacket, Log, Role, flow_got, flow_put, history_of}
 use Rattle.vs_page.specs.Open.{is_dropped}
-use Rattle.vs_page.specs.declared.log.LogEntry.TheVariants.{GotEvent, GotPacket, Mark, PutEvent, PutPacket}
+use Rattle.vs_page.specs.declared.log.LogEntry.TheVariants.{GotEvent, GotPacket, PutEvent, PutPacket}
 use Rattle.vs_page.proofs.Entries.{got_on, on_flow}
 use Rattle.vs_page.proofs.Flows.{same_self}
-use Rattle.vs_matching.specs.Both.{Aborts, Asks, Both, Decides, Decision, Forwards, Grows, Happening, IsSound, MakesReset, MayHappen, MayRun, Opens, Pays, PutsEvent, Replies, Seat, Sends, Shuts, Step, Takes, TakesEvent, TakesReset, WantsCredit, after_packet, after_taking, answered, at, decided, happens, run}
-use Rattle.vs_matching.specs.Ends.{Ends, FlowEnd, ends_of, replaced}
+use Rattle.vs_matching.specs.Both.{Aborts, Asks, Both, Decides, Decision, Forwards, Grows, Happening, IsSound, MakesReset, MayHappen, MayRun, Opens, Pays, PutsEvent, Replies, Sends, Shuts, Step, Takes, TakesEvent, TakesReset, WantsCredit, after_packet, answered, decided, happens, run}
+use Rattle.vs_matching.specs.Ends.{Ends, ends_of}
 use Rattle.vs_matching.specs.Heard.{heard_of}
-use Rattle.vs_matching.specs.Matches.{Matches}
-use Rattle.vs_matching.specs.Steps.{HasEnd, accepted, asking, left, opened, owed_on, paid, payload_on, refused, reply_on, request_on, taken, with_connection, with_end}
+use Rattle.vs_matching.specs.Steps.{HasEnd, accepted, asking, left, opened, owed_on, paid, payload_on, refused, reply_on, request_on, with_connection, with_end}
 use Rattle.vs_matching.proofs.Both.{next_is_fair, step_keeps}
 use Rattle.vs_matching.proofs.Entries.{added_other, added_same, replaced_other, replaced_same, without_other, without_same}
 use Rattle.vs_matching.proofs.Fair.{got_in_order, heard_puts}

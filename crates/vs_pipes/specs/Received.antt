@@ -20,8 +20,8 @@ pub record ReceivedOn (received : Flow → List ℕ) (log : Log) (g : GoneConnec
   pub front : IsPrefixOf (received g.flow ++ g.unread) (got_on Driver g.flow log)
 
 -- What the application received on each flow is a prefix of what came in there. No two connections have one flow.
-pub record AreReceived (received : Flow → List ℕ) (log : Log) (next_port next_id : ℕ) (table : Table DriverConnection) (gone : List GoneConnection)
-    : Type 0 where
+pub record AreReceived (received : Flow → List ℕ) (log : Log) (next_port next_id : ℕ) (table : Table DriverConnection)
+    (gone : List GoneConnection) : Type 0 where
   pub numbers : AreNumbered 1 next_port next_id table gone
   pub front : (f : Flow) → IsPrefixOf (received f) (got_on Driver f log)
   pub held : All (ReceivesOn received log) table.entries

@@ -88,11 +88,13 @@ pub record AreLines (at : ℕ → Option Seen) (lines : List Handshake) : Type 0
   pub apart : AllPairs (λ g h. g.stream ≢ h.stream) lines
 
 -- No two streams have one label. On a flow without a stream no payload was put.
-pub record AreStreamed (at : ℕ → Option Seen) (labelled : List ℕ) (log : Log) (port : ℕ) (table : Table DeviceConnection) (hands : List Handshake)
-    : Type 0 where
+pub record AreStreamed (at : ℕ → Option Seen) (labelled : List ℕ) (log : Log) (port : ℕ) (table : Table DeviceConnection)
+    (hands : List Handshake) : Type 0 where
   pub joined : All (IsJoined at log) table.entries
-  pub labels : (id : ℕ) (s : Seen) (f : Flow) → at id ≡ Some s → s.label ≡ Some f → IsLabelled id s f labelled log port
-  pub unique : (i j : ℕ) (s t : Seen) (f : Flow) → at i ≡ Some s → at j ≡ Some t → s.label ≡ Some f → t.label ≡ Some f → i ≡ j
+  pub labels : (id : ℕ) (s : Seen) (f : Flow) → at id ≡ Some s → s.label ≡ Some f
+      → IsLabelled id s f labelled log port
+  pub unique : (i j : ℕ) (s t : Seen) (f : Flow) → at i ≡ Some s → at j ≡ Some t → s.label ≡ Some f → t.label ≡ Some f
+      → i ≡ j
   pub none : (f : Flow) → ((id : ℕ) (s : Seen) → at id ≡ Some s → s.label ≢ Some f) → put_on Device f log ≡ []
   pub waiting : (id : ℕ) (s : Seen) → at id ≡ Some s → s.waiting ≡ true → s ≡ client_waits
   pub lines : AreLines at hands

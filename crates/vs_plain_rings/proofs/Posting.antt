@@ -1,6 +1,5 @@
 -- A page that the driver posts is the chain that the device takes.
-use Rattle.std.proofs.Common.{inl, inr, ◌≡◌, ◌⊎◌, ℕ, ◌+◌, ◌-◌, ◌*◌, ◌%◌, ◌^◌, ◌<◌, ◌≤◌, Bool, true, false, List, [], ◌∷◌, length, Option, Some, refl, sym, ap, ap₂, ◌∙◌, subst, arith}
-use Rattle.std.specs.Prelude.{◌==◌, ◌||◌, ◌&&◌, nat_le, nat_lt}
+use Rattle.std.proofs.Common.{inr, ◌≡◌, ◌⊎◌, ℕ, ◌+◌, ◌*◌, ◌%◌, ◌^◌, ◌<◌, ◌≤◌, Bool, true, false, List, [], ◌∷◌, length, Option, refl, sym, ap, ap₂, ◌∙◌, subst, arith}
 use Rattle.std.proofs.lemmas.Bool.Decides.{nat_tests}
 use Rattle.std.proofs.lemmas.Nat.{mod_below}
 use Rattle.byteorder.specs.Endian.{little_bytes, little_number}
@@ -12,7 +11,7 @@ use Rattle.vs_layout.specs.declared.entry.Desc.{Desc}
 use Rattle.vs_layout.specs.declared.place.Areas.{Areas}
 use Rattle.vs_ring_plain.specs.Accesses.{over}
 use Rattle.vs_ring_plain.specs.Chain.{Chain, ahead, has, piece_of, taking, too_small, total_len, wrong_way}
-use Rattle.vs_ring_plain.specs.Still.{IsGiven, IsStill, index_in}
+use Rattle.vs_ring_plain.specs.Still.{IsGiven, IsStill}
 use Rattle.vs_ring_plain.proofs.Still.{taken_still}
 use Rattle.vs_ring_port.specs.declared.queue.Queue.{Queue}
 use Rattle.vs_ring_port.specs.declared.queue.Queue.TheVariants.{Rx, Tx, Event}

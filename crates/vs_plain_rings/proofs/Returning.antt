@@ -1,5 +1,5 @@
 -- A chain that the device returns is the page that the driver gets back.
-use Rattle.std.proofs.Common.{inl, inr, ◌≡◌, ◌⊎◌, ℕ, ◌+◌, ◌-◌, ◌*◌, ◌%◌, ◌^◌, ◌<◌, ◌≤◌, Bool, true, false, cond, List, [], ◌∷◌, length, Option, None, Some, refl, sym, ap, ap₂, ◌∙◌, subst, arith}
+use Rattle.std.proofs.Common.{inr, ◌≡◌, ◌⊎◌, ℕ, ◌+◌, ◌*◌, ◌%◌, ◌^◌, ◌<◌, ◌≤◌, Bool, false, cond, List, length, Option, None, Some, refl, sym, ap, ap₂, ◌∙◌, subst, arith}
 use Rattle.std.specs.Prelude.{◌==◌, ◌||◌, nat_le, min, slice_index_or}
 use Rattle.std.proofs.lemmas.Bool.Decides.{nat_tests}
 use Rattle.std.proofs.lemmas.Nat.{mod_below}
@@ -10,8 +10,6 @@ use Rattle.vs_layout.specs.Entry.{used_elem_bytes, used_elem_of}
 use Rattle.vs_layout.specs.Layout.{used_elem, used_idx}
 use Rattle.vs_layout.specs.declared.entry.UsedElem.{UsedElem}
 use Rattle.vs_layout.specs.declared.place.Areas.{Areas}
-use Rattle.vs_ring_plain.specs.Accesses.{over}
-use Rattle.vs_ring_plain.specs.Pieces.{returning}
 use Rattle.vs_ring_plain.specs.Still.{IsStill}
 use Rattle.vs_ring_plain.proofs.Still.{is_quiet, quiet}
 use Rattle.vs_ring_port.specs.declared.queue.Queue.{Queue}

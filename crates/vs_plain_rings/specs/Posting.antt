@@ -1,5 +1,5 @@
 -- One page on its way to the device and back.
-use Rattle.std.specs.Prelude.{◌≡◌, ℕ, ◌+◌, ◌*◌, ◌^◌, ◌<◌, ◌≤◌, ◌==◌, Bool, false, List, [], ◌∷◌, length, slice_index_or, Option, None, Some}
+use Rattle.std.specs.Prelude.{◌≡◌, ℕ, ◌+◌, ◌*◌, ◌^◌, ◌<◌, ◌≤◌, ◌==◌, Bool, false, List, ◌∷◌, length, slice_index_or, Option, None, Some}
 use Rattle.vs_guest_mem.specs.Memory.{Memory}
 use Rattle.vs_header.specs.declared.TheConstants.{HEADER_LEN}
 use Rattle.vs_layout.specs.Layout.{AreInside, IsPlaced, avail_area, desc_area, used_area}

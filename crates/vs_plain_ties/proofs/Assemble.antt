@@ -1,5 +1,5 @@
 -- Both ends put together from their queues.
-use Rattle.std.proofs.Common.{◌≡◌, ◌⊎◌, ℕ, ◌+◌, ◌*◌, ◌<◌, ◌≤◌, true, false, List, [], ◌∷◌, length, Option, Some, refl, sym, ap, ◌∙◌, subst, arith, true≢false}
+use Rattle.std.proofs.Common.{◌≡◌, ℕ, ◌+◌, ◌*◌, ◌<◌, ◌≤◌, false, List, [], length, Some, refl, sym, ap, ◌∙◌, subst, arith, true≢false}
 use Rattle.vs_guest_mem.specs.Memory.{Memory, bytes_at}
 use Rattle.vs_layout.specs.declared.place.Areas.{Areas}
 use Rattle.vs_page.specs.Log.{Log}
@@ -20,7 +20,7 @@ use Rattle.vs_plain_ties.specs.Tie.{AreHeldAs, AreTied, IsLaid, IsTiedAt, areas_
 use Rattle.vs_plain_ties.proofs.Held.{held_from, held_kept}
 use Rattle.vs_plain_ties.proofs.QueueSteps.{tie_same}
 use Rattle.vs_plain_ties.proofs.Queues.{of_each}
-use Rattle.vs_plain_ties.proofs.Spots.{Spot, Untouched, laid_same}
+use Rattle.vs_plain_ties.proofs.Spots.{Untouched, laid_same}
 
 -- one queue of both ends, as its tie sees it
 pub record QueueParts : Type 0 where

@@ -4,7 +4,7 @@ use Rattle.std.specs.Prelude.{nat_le as leb}
 use Rattle.std.proofs.Math.ListN.{drop_of_length-le}
 use Rattle.std.proofs.lemmas.Bool.Decides.{leb_tells}
 use Rattle.std.proofs.Math.Seq.{take-append-add}
-use Rattle.std.proofs.lemmas.List.{drop-append-le, drop-drop, drop-take, take-append-drop, take-take}
+use Rattle.std.proofs.lemmas.List.{drop-append-le, drop-drop, drop-take, take-take}
 use Rattle.vs_guest_mem.specs.Memory.{Memory, after_write, bytes_at, overwritten}
 
 -- a part of what is read

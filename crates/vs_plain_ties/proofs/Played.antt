@@ -14,7 +14,8 @@ use Rattle.vs_plain_ties.specs.Seen.{ShowsDevice, ShowsDriver}
 -- a conversation, call by call
 pub leads_played : {Call : Type 0} {Answer : Call → Type 0} {S T A : Type 0} (Allows : (call : Call) → Answer call → T → T → Type 0)
     (answer : (call : Call) → S → Answer call × S) (Seen : S → T → Type 0)
-    → ((call : Call) (a : Answer call) (s : S) (c d : T) → Seen s c → Allows call a c d → ((answer call s).0 ≡ a) × Seen (answer call s).1 d)
+    → ((call : Call) (a : Answer call) (s : S) (c d : T) → Seen s c → Allows call a c d → ((answer call s).0
+    ≡ a) × Seen (answer call s).1 d)
     → (tree : CallTree Call Answer A) (s : S) (c : T) (x : A) (d : T) → Seen s c → Leads Allows tree c x d
     → ((played answer tree s).0 ≡ x) × Seen (played answer tree s).1 d
 leads_played Allows answer Seen each (Done y) s c x d seen (same, stays) = (same, subst (Seen s) stays seen)
@@ -24,7 +25,8 @@ leads_played {S = S} Allows answer Seen each (Ask call k) s c x d seen (a, m, al
     subst (λ b. ((played answer (k b) (answer call s).1).0 ≡ x) × Seen (played answer (k b) (answer call s).1).1 d) (sym e.0) r
 
 -- what is exposed after a call of which it was before
-moved : {T : Type 0} (old new : Option T) (P : T → Type 0) (f : T → T) (v : T) → old ≡ Some v → Exposes old new P f → P v × (new ≡ Some (f v))
+moved : {T : Type 0} (old new : Option T) (P : T → Type 0) (f : T → T) (v : T) → old ≡ Some v → Exposes old new P f
+    → P v × (new ≡ Some (f v))
 moved {T} old new P f v is holds = subst (λ (o : Option T). Exposes o new P f) is holds
 
 driver_moved : (P : Rings → Type 0) (f : Rings → Rings) (Q : EndLog → Type 0) (g : EndLog → EndLog) (w : Ends) (c d : RingContents)
@@ -71,23 +73,43 @@ device_call other (Take queue) a s c d seen (page, m) =
     let place : ℕ = (queue_of queue s.0).place in
     let answer : next_at queue place (oldest (queue_of queue s.0).given) ≡ a = ap (next_at queue place) (sym r.0.0) ∙ sym r.0.1 in (
       answer,
-      subst (λ (n : Next). SeenByDevice other ((device_answer (Take queue) s).1.0, log_taken queue n (oldest (queue_of queue s.0).given) s.1) d) (sym answer)
+      subst (λ (n : Next). SeenByDevice other (
+        (device_answer (Take queue) s).1.0,
+        log_taken queue n (oldest (queue_of queue
+            s.0).given) s.1,
+      ) d) (sym answer)
           (subst (λ (o : Option (List ℕ)). SeenByDevice other ((device_answer (Take queue) s).1.0, log_taken queue a o s.1) d) r.0.0 r.2),
     )
 device_call other (Read chain place count) a s c d seen m =
-    let r = device_moved (Read chain place count) a (λ x. Unit {0}) (λ x. x) _ (λ l. l) (record { lists = s.0; driver = other; device = s.1 }) c d seen m in
+    let r = device_moved (Read chain place count) a (λ x. Unit {0}) (λ x. x) _ (λ l. l) (record {
+      lists = s.0;
+      driver = other;
+      device =
+          s.1;
+    }) c d seen m in
     (sym r.1, r.2)
 device_call other (Write chain place bytes) a s c d seen m =
-    let r = device_moved (Write chain place bytes) a (λ x. Unit {0}) (λ x. x) (λ l. Unit {0}) _ (record { lists = s.0; driver = other; device = s.1 }) c d seen m in
+    let r = device_moved (Write chain place bytes) a (λ x. Unit {0}) (λ x. x) (λ l. Unit {0}) _ (record {
+      lists = s.0;
+      driver = other;
+      device = s.1;
+    }) c d seen m in
     (refl, r.2)
 device_call other (Return chain len) a s c d seen (bytes, m) =
-    let r = device_moved (Return chain len) a (λ x. Unit {0}) _ _ _ (record { lists = s.0; driver = other; device = s.1 }) c d seen m in
-    (refl, subst (λ (bs : List ℕ). SeenByDevice other (after_return chain.queue (take len bs) s.0, (device_answer (Return chain len) s).1.1) d) r.1 r.2)
+    let r = device_moved (Return chain len) a (λ x. Unit {0}) _ _ _ (record { lists = s.0; driver = other; device = s.1 }) c d seen m in (
+      refl,
+      subst (λ (bs : List ℕ). SeenByDevice other (
+        after_return chain.queue (take len bs) s.0,
+        (device_answer (Return chain len)
+            s).1.1,
+      ) d) r.1 r.2,
+    )
 device_call other (Given queue) a s c d seen (held, m) =
     let r = device_moved (Given queue) a _ (λ x. x) _ (λ l. l) (record { lists = s.0; driver = other; device = s.1 }) c d seen m in
     (ap (λ n. length (queue_of queue s.0).given + n) (sym r.1) ∙ sym r.0, r.2)
 device_call other (PublishCid cid) a s c d seen m =
-    let r = device_moved (PublishCid cid) a (λ x. Unit {0}) _ (λ l. Unit {0}) _ (record { lists = s.0; driver = other; device = s.1 }) c d seen m in
+    let r = device_moved (PublishCid cid) a (λ x. Unit {0}) _ (λ l. Unit {0}) _ (record { lists = s.0; driver = other; device = s.1 })
+    c d seen m in
     (refl, r.2)
 
 module _ {A : Type 0} where

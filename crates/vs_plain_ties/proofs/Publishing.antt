@@ -1,11 +1,10 @@
 -- The staged pages of a queue are published, and the guest's CID is loaded.
-use Rattle.std.proofs.Common.{◌≡◌, ℕ, ◌+◌, ◌*◌, ◌%◌, ◌^◌, ◌<◌, ◌≤◌, Bool, true, false, cond, List, [], ◌∷◌, ◌++◌, length, refl, sym, ap, ◌∙◌, subst, arith}
+use Rattle.std.proofs.Common.{◌≡◌, ℕ, ◌+◌, ◌%◌, ◌^◌, ◌≤◌, Bool, true, false, cond, [], ◌∷◌, ◌++◌, length, refl, sym, ap, ◌∙◌, subst, arith}
 use Rattle.std.specs.Prelude.{◌==◌}
 use Rattle.std.proofs.lemmas.Bool.Decides.{nat_tests}
 use Rattle.byteorder.specs.Endian.{little_bytes, little_number}
-use Rattle.vs_guest_mem.specs.Memory.{Memory, after_write, bytes_at}
+use Rattle.vs_guest_mem.specs.Memory.{Memory, after_write}
 use Rattle.vs_header.proofs.RoundTrip.{little_number-little_bytes}
-use Rattle.vs_layout.specs.Layout.{avail_idx}
 use Rattle.vs_page.specs.Fair.{IsFairLog}
 use Rattle.vs_page.specs.Log.{Driver}
 use Rattle.vs_ring_port.specs.Chains.{same_queue}
@@ -19,10 +18,9 @@ use Rattle.vs_ring_plain.specs.Device.{turns_at}
 use Rattle.vs_plain_driver.specs.Queue.{DriverQueueState, published_memory, published_queue}
 use Rattle.vs_plain_ties.specs.Calls.{after_driver}
 use Rattle.vs_plain_ties.specs.Parts.{PartsState, driver_at, published_parts}
-use Rattle.vs_plain_ties.specs.Queue.{times}
-use Rattle.vs_plain_ties.specs.Shown.{Shown, shown}
+use Rattle.vs_plain_ties.specs.Shown.{shown}
 use Rattle.vs_plain_ties.specs.Tie.{AreTied, areas_of, heads_of, shown_of, start_of}
-use Rattle.vs_plain_ties.proofs.Assemble.{driver_form, driver_form_is, driver_step, ends_form}
+use Rattle.vs_plain_ties.proofs.Assemble.{driver_form, driver_form_is, driver_step}
 use Rattle.vs_plain_ties.proofs.Frames.{length_written, written}
 use Rattle.vs_plain_ties.proofs.QueueSteps.{tie_published}
 use Rattle.vs_plain_ties.proofs.Spots.{AvailIdx, Untouched, high, low, untouched_none, untouched_other, untouched_own}

@@ -1,20 +1,19 @@
 -- One queue whose lists lie in its memory, as pages are taken, returned and reaped.
-use Rattle.std.proofs.Common.{◌≡◌, ℕ, zero, suc, ◌+◌, ◌*◌, ◌%◌, ◌^◌, ◌<◌, ◌≤◌, List, [], ◌∷◌, ◌++◌, length, Option, None, refl, sym, ap, ◌∙◌, subst, arith, length-append}
-use Rattle.std.specs.Prelude.{set, slice_index_or, ⊤}
+use Rattle.std.proofs.Common.{◌≡◌, ℕ, zero, suc, ◌+◌, ◌%◌, ◌^◌, ◌<◌, ◌≤◌, List, [], ◌∷◌, ◌++◌, length, None, refl, sym, ap, ◌∙◌, subst, arith, length-append}
+use Rattle.std.specs.Prelude.{set}
 use Rattle.std.proofs.lemmas.List.{get_or-set_other, length-set}
 use Rattle.std.proofs.lemmas.Nat.{mod_below}
-use Rattle.vs_layout.specs.declared.entry.UsedElem.{UsedElem}
 use Rattle.vs_ring_port.specs.Lists.{Lists}
 use Rattle.vs_ring_port.specs.declared.queue.Queue.{Queue}
 use Rattle.vs_ring_plain.specs.declared.turns.Turns.{Turns}
 use Rattle.vs_plain_driver.specs.Queue.{DriverQueueState}
-use Rattle.vs_plain_ties.specs.Queue.{AreBack, AreOut, HasPage, IsBack, IsOut, IsQueueTied, times}
+use Rattle.vs_plain_ties.specs.Queue.{AreBack, AreOut, HasPage, IsQueueTied, times}
 use Rattle.vs_plain_ties.specs.Shown.{Shown}
 use Rattle.vs_plain_ties.proofs.Counting.{times-cons, times-push, times-self}
-use Rattle.vs_plain_ties.proofs.Modulo.{apart, further, mod_small, wraps, wraps_further}
-use Rattle.vs_plain_ties.proofs.QueueSteps.{back_count, out_count}
+use Rattle.vs_plain_ties.proofs.Modulo.{apart, further, mod_small, wraps}
+use Rattle.vs_plain_ties.proofs.QueueSteps.{back_count}
 use Rattle.vs_plain_ties.proofs.Rows.{IsSameAt, back_index, back_kept, back_push, out_index, out_kept}
-use Rattle.vs_plain_ties.proofs.Spots.{Elem, Spot, UsedIdx, Untouched}
+use Rattle.vs_plain_ties.proofs.Spots.{Elem, UsedIdx, Untouched}
 
 push_length : {A : Type 0} (xs : List A) (x : A) → length (xs ++ x ∷ []) ≡ length xs + 1
 push_length xs x = length-append xs (x ∷ [])

@@ -1,5 +1,5 @@
 -- Accesses that change nothing.
-use Rattle.std.proofs.Common.{◌≡◌, ℕ, ◌+◌, ◌*◌, ◌≤◌, ◌==◌, Bool, true, false, cond, List, [], length, refl, sym, ap, ◌∙◌, subst}
+use Rattle.std.proofs.Common.{◌≡◌, ℕ, ◌==◌, Bool, true, false, cond, List, [], length, refl, sym, ap, ◌∙◌, subst}
 use Rattle.vs_guest_mem.specs.Memory.{Memory, accessed, after_access}
 use Rattle.vs_ring_port.specs.EndLog.{pages_at}
 use Rattle.vs_ring_port.specs.Lists.{queue_of}

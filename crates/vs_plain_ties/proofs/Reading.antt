@@ -1,12 +1,12 @@
 -- Bytes of a chain that is held are read, and written.
-use Rattle.std.proofs.Common.{◌≡◌, ℕ, ◌+◌, ◌-◌, ◌*◌, ◌<◌, ◌≤◌, Bool, true, false, cond, List, [], ◌∷◌, ◌++◌, length, take, drop, Option, Some, Contains, refl, sym, ap, ap₂, ◌∙◌, subst, arith, length-append, length-drop, length-take-le}
-use Rattle.std.specs.Prelude.{◌==◌, min}
+use Rattle.std.proofs.Common.{◌≡◌, ℕ, ◌+◌, ◌-◌, ◌*◌, ◌<◌, ◌≤◌, Bool, true, false, cond, List, [], ◌∷◌, ◌++◌, length, take, drop, Contains, refl, sym, ap, ap₂, ◌∙◌, subst, arith, length-append, length-drop, length-take-le}
+use Rattle.std.specs.Prelude.{◌==◌}
 use Rattle.std.proofs.Math.Seq.{take-length}
 use Rattle.std.proofs.lemmas.Bool.Decides.{nat_tests}
 use Rattle.std.proofs.lemmas.List.{take-append-drop}
-use Rattle.vs_guest_mem.specs.Memory.{Memory, accessed, after_access, after_write, bytes_at}
+use Rattle.vs_guest_mem.specs.Memory.{Memory, accessed, after_write, bytes_at}
 use Rattle.vs_page.specs.Overwriting.{overwritten}
-use Rattle.vs_ring_port.specs.Chains.{Held, bytes_in, same_queue, with_bytes}
+use Rattle.vs_ring_port.specs.Chains.{bytes_in, same_queue, with_bytes}
 use Rattle.vs_ring_port.specs.Contents.{Read, Write}
 use Rattle.vs_ring_port.specs.EndLog.{pages_at}
 use Rattle.vs_ring_port.specs.Lists.{queue_of, with_queue}
@@ -17,7 +17,7 @@ use Rattle.vs_ring_list.specs.Ends.{Ends}
 use Rattle.vs_ring_list.specs.Sound.{IsTied}
 use Rattle.vs_ring_list.proofs.Held.{same_queue_refl}
 use Rattle.vs_ring_plain.specs.Accesses.{over}
-use Rattle.vs_ring_plain.specs.Device.{DeviceState, HeldChain, answer_to, chains_held, hold_of, pieces_of, turns_at, with_memory, with_turns}
+use Rattle.vs_ring_plain.specs.Device.{DeviceState, answer_to, chains_held, hold_of, pieces_of, turns_at, with_memory}
 use Rattle.vs_ring_plain.specs.Pieces.{reading, spans, writing}
 use Rattle.vs_ring_plain.specs.declared.piece.Piece.{Piece}
 use Rattle.vs_ring_plain.proofs.Moving.{read_step, skipped, used}
@@ -33,7 +33,7 @@ use Rattle.vs_plain_ties.proofs.Parts.{read_part, written_part}
 use Rattle.vs_plain_ties.proofs.QueueSteps.{tie_written}
 use Rattle.vs_plain_ties.proofs.Queues.{of_each}
 use Rattle.vs_plain_ties.proofs.Quiet.{IsQuietly, quiet_step, quietly_accessed, seen}
-use Rattle.vs_plain_ties.proofs.Spots.{PageOf, Spot, Untouched, high, laid_same, low, untouched_other, untouched_own}
+use Rattle.vs_plain_ties.proofs.Spots.{PageOf, Untouched, high, laid_same, low, untouched_other, untouched_own}
 
 is_zero : (n : ℕ) → (n == 0) ≡ true → n ≡ 0
 is_zero n h = grind (arith, nat_tests)

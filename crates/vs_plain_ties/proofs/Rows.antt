@@ -1,6 +1,5 @@
 -- Pages one after another in the available ring, and in the used ring.
-use Rattle.std.proofs.Common.{◌≡◌, ℕ, ◌+◌, ◌*◌, ◌%◌, ◌<◌, ◌≤◌, List, [], ◌∷◌, ◌++◌, length, refl, sym, ap, ◌∙◌, subst, arith}
-use Rattle.vs_layout.specs.declared.entry.Desc.{Desc}
+use Rattle.std.proofs.Common.{◌≡◌, ℕ, ◌+◌, ◌%◌, ◌<◌, ◌≤◌, List, [], ◌∷◌, ◌++◌, length, refl, ◌∙◌, subst, arith}
 use Rattle.vs_ring_port.specs.declared.queue.Queue.{Queue}
 use Rattle.vs_plain_ties.specs.Queue.{AreBack, AreOut, IsBack, IsOut, times}
 use Rattle.vs_plain_ties.specs.Shown.{Shown}

@@ -1,14 +1,13 @@
 -- The pieces of a queue's memory that are written as a whole, and what a write into one of them leaves alone.
-use Rattle.std.proofs.Common.{inl, inr, ◌≡◌, ◌⊎◌, ℕ, ◌+◌, ◌-◌, ◌*◌, ◌%◌, ◌^◌, ◌<◌, ◌≤◌, Bool, true, false, List, [], ◌∷◌, length, refl, sym, ap, ap₂, ◌∙◌, subst, arith}
+use Rattle.std.proofs.Common.{inl, inr, ◌≡◌, ◌⊎◌, ℕ, ◌+◌, ◌*◌, ◌<◌, ◌≤◌, true, false, List, [], ◌∷◌, length, refl, sym, ap, ap₂, ◌∙◌, arith}
 use Rattle.std.specs.Prelude.{nat_le as leb, ⊤}
 use Rattle.std.proofs.Math.Nat.{mul-add, mul-le-mul_left}
 use Rattle.std.proofs.lemmas.Bool.Decides.{leb_tells}
 use Rattle.byteorder.specs.Endian.{little_number}
-use Rattle.vs_guest_mem.specs.Memory.{Memory, after_access, after_write, bytes_at}
+use Rattle.vs_guest_mem.specs.Memory.{Memory, after_write, bytes_at}
 use Rattle.vs_layout.specs.Entry.{desc_of, used_elem_of}
 use Rattle.vs_layout.specs.declared.place.Areas.{Areas}
-use Rattle.vs_ring_plain.specs.Still.{IsStill}
-use Rattle.vs_ring_plain.proofs.Still.{is_quiet, quiet}
+use Rattle.vs_ring_plain.proofs.Still.{quiet}
 use Rattle.vs_ring_port.specs.Chains.{same_queue}
 use Rattle.vs_ring_port.specs.declared.queue.Queue.{Queue}
 use Rattle.vs_plain_ties.specs.Shown.{Shown, shown}

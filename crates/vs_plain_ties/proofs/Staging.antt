@@ -1,9 +1,9 @@
 -- A page is staged: what is written, and both ends after it.
-use Rattle.std.proofs.Common.{◌≡◌, ℕ, ◌+◌, ◌*◌, ◌%◌, ◌^◌, ◌<◌, ◌≤◌, false, List, [], ◌∷◌, ◌++◌, length, Option, Some, refl, sym, ap, ap₂, ◌∙◌, subst, arith}
+use Rattle.std.proofs.Common.{◌≡◌, ℕ, ◌+◌, ◌*◌, ◌%◌, ◌<◌, ◌≤◌, false, List, [], ◌∷◌, ◌++◌, length, Option, Some, refl, sym, ap, ap₂, ◌∙◌, subst, arith}
 use Rattle.std.specs.Prelude.{drop, set, slice_index_or}
 use Rattle.std.proofs.lemmas.Nat.{mod_below}
 use Rattle.byteorder.specs.Endian.{little_bytes, little_number}
-use Rattle.vs_guest_mem.specs.Memory.{Memory, after_write, bytes_at}
+use Rattle.vs_guest_mem.specs.Memory.{Memory, after_write}
 use Rattle.vs_header.proofs.RoundTrip.{little_number-little_bytes}
 use Rattle.vs_layout.specs.Entry.{desc_bytes, desc_of}
 use Rattle.vs_layout.specs.Layout.{avail_entry, desc_entry}
@@ -17,18 +17,17 @@ use Rattle.vs_ring_port.specs.declared.queue.Queue.{Queue}
 use Rattle.vs_ring_port.specs.declared.queue.Queue.TheVariants.{Rx, Tx, Event}
 use Rattle.vs_ring_list.specs.Ends.{Ends}
 use Rattle.vs_ring_list.specs.Sound.{IsTied}
-use Rattle.vs_ring_plain.specs.Device.{areas_at, turns_at}
+use Rattle.vs_ring_plain.specs.Device.{turns_at}
 use Rattle.vs_plain_driver.specs.Queue.{DriverQueueState, desc_for, page_at, staged_memory, staged_queue, with_page}
 use Rattle.vs_plain_ties.specs.Calls.{after_driver}
 use Rattle.vs_plain_ties.specs.Parts.{PartsState, driver_at, staged_parts, with_driver, with_parts_memory}
-use Rattle.vs_plain_ties.specs.Queue.{times}
-use Rattle.vs_plain_ties.specs.Shown.{Shown, shown}
-use Rattle.vs_plain_ties.specs.Tie.{AreTied, IsLaid, areas_of, heads_of, shown_of, start_in, start_of}
+use Rattle.vs_plain_ties.specs.Shown.{shown}
+use Rattle.vs_plain_ties.specs.Tie.{AreTied, IsLaid, areas_of, heads_of, shown_of, start_of}
 use Rattle.vs_plain_ties.proofs.Assemble.{driver_form, driver_form_is, driver_step, ends_form}
 use Rattle.vs_plain_ties.proofs.Encoded.{desc_back}
 use Rattle.vs_plain_ties.proofs.Frames.{length_written, written}
-use Rattle.vs_plain_ties.proofs.QueueSteps.{id_below, not_id, staged_then, tie_staged}
-use Rattle.vs_plain_ties.proofs.Spots.{Describing, Entry, PageOf, Spot, Untouched, high, laid_same, low, untouched_both, untouched_other, untouched_own, untouched_then}
+use Rattle.vs_plain_ties.proofs.QueueSteps.{id_below, not_id, tie_staged}
+use Rattle.vs_plain_ties.proofs.Spots.{Describing, Entry, PageOf, Untouched, high, laid_same, low, untouched_both, untouched_other, untouched_own, untouched_then}
 
 -- the bytes, the descriptor and the entry are written
 module _ (n : ℕ) (areas : Queue → Areas) (at : Queue → ℕ) (m : Memory) (laid : IsLaid n areas at m) (queue : Queue) (id place : ℕ)

@@ -1,5 +1,5 @@
 -- Both ends before the first call.
-use Rattle.std.proofs.Common.{true≢false, inl, inr, ◌⊎◌, ◌≡◌, ℕ, zero, suc, ◌+◌, ◌-◌, ◌*◌, ◌%◌, ◌^◌, ◌<◌, ◌≤◌, Bool, true, false, cond, List, [], ◌∷◌, length, replicate, Option, None, Some, refl, sym, ap, ap₂, ◌∙◌, subst, arith}
+use Rattle.std.proofs.Common.{true≢false, inl, inr, ◌⊎◌, ◌≡◌, ℕ, zero, suc, ◌+◌, ◌-◌, ◌*◌, ◌%◌, ◌^◌, ◌<◌, ◌≤◌, Bool, true, false, cond, List, [], ◌∷◌, length, Option, None, Some, refl, sym, ap, ◌∙◌, subst, arith}
 use Rattle.std.specs.List.{range_with_len}
 use Rattle.std.specs.Prelude.{◌==◌, ◌&&◌, is_some, nat_le}
 use Rattle.std.proofs.lemmas.Bool.Decides.{eqb_tells, nat_tests}
@@ -15,8 +15,7 @@ use Rattle.vs_ring_port.specs.declared.queue.Queue.{Queue}
 use Rattle.vs_ring_port.specs.declared.queue.Queue.TheVariants.{Rx, Tx, Event}
 use Rattle.vs_ring_list.specs.Ends.{empty_ends}
 use Rattle.vs_ring_plain.specs.Device.{areas_at, new_device}
-use Rattle.vs_ring_plain.specs.declared.turns.Turns.{Turns}
-use Rattle.vs_plain_ties.specs.Parts.{PartsState, cleared, cleared_queue, driver_at, new_parts, new_queue, pages_behind, pages_start}
+use Rattle.vs_plain_ties.specs.Parts.{PartsState, cleared_queue, driver_at, new_parts, new_queue, pages_behind, pages_start}
 use Rattle.vs_plain_ties.specs.Queue.{IsQueueTied, times}
 use Rattle.vs_plain_ties.specs.Shown.{Shown, shown}
 use Rattle.vs_plain_ties.specs.Tie.{AreTied, IsAreaLaid, IsLaid, IsTiedAt, IsTiedTo, start_of}

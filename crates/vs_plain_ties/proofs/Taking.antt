@@ -1,11 +1,9 @@
 -- The next chain is taken, or none.
-use Rattle.std.proofs.Common.{◌≡◌, ℕ, ◌+◌, ◌-◌, ◌*◌, ◌%◌, ◌^◌, ◌<◌, ◌≤◌, Bool, true, false, cond, not, ◌&&◌, ◌||◌, List, [], ◌∷◌, ◌++◌, length, Option, None, Some, refl, sym, ap, ap₂, ◌∙◌, subst, arith}
-use Rattle.std.specs.Prelude.{◌==◌, count_by, nat_le, nat_lt}
+use Rattle.std.proofs.Common.{◌≡◌, ℕ, ◌+◌, ◌*◌, ◌%◌, ◌^◌, ◌<◌, ◌≤◌, Bool, true, false, cond, ◌||◌, List, [], ◌∷◌, length, refl, sym, ap, ap₂, ◌∙◌, subst, arith}
+use Rattle.std.specs.Prelude.{nat_le, nat_lt}
 use Rattle.std.proofs.lemmas.Bool.Decides.{nat_tests}
-use Rattle.std.proofs.lemmas.Nat.{mod_below}
 use Rattle.vs_guest_mem.specs.Memory.{Memory, after_access, is_within}
 use Rattle.vs_layout.specs.declared.entry.Desc.{Desc}
-use Rattle.vs_page.specs.Log.{Log}
 use Rattle.vs_ring_port.specs.Chains.{Held, same_queue}
 use Rattle.vs_ring_port.specs.Contents.{Take}
 use Rattle.vs_ring_port.specs.EndLog.{entries_taken, pages_at}
@@ -17,19 +15,18 @@ use Rattle.vs_ring_port.specs.declared.queue.Queue.{Queue}
 use Rattle.vs_ring_port.specs.declared.queue.Queue.TheVariants.{Rx, Tx, Event}
 use Rattle.vs_ring_list.specs.Ends.{Ends}
 use Rattle.vs_ring_list.proofs.Ties.{tied-take}
-use Rattle.vs_ring_plain.specs.Accesses.{over}
-use Rattle.vs_ring_plain.specs.Chain.{Chain as Found, NoChain, Ring, Taken, ahead, has, piece_of, taking, too_small, total_len, wrong_way}
+use Rattle.vs_ring_plain.specs.Chain.{Taken, ahead, has, piece_of, too_small, total_len, wrong_way}
 use Rattle.vs_ring_plain.specs.Device.{DeviceState, HeldChain, answer_found, answer_taken, answer_to, chain_at, is_busy, ring_at, turns_at, with_memory}
 use Rattle.vs_ring_plain.specs.Still.{IsGiven}
 use Rattle.vs_ring_plain.specs.declared.piece.Piece.{Piece}
 use Rattle.vs_ring_plain.specs.declared.turns.Turns.{Turns}
 use Rattle.vs_ring_plain.proofs.Still.{none_still, taken_still}
-use Rattle.vs_plain_driver.specs.Queue.{DriverQueueState, desc_for}
+use Rattle.vs_plain_driver.specs.Queue.{desc_for}
 use Rattle.vs_plain_ties.specs.Calls.{after_device}
 use Rattle.vs_plain_ties.specs.Parts.{PartsState, driver_at}
 use Rattle.vs_plain_ties.specs.Queue.{IsOut, IsQueueTied}
 use Rattle.vs_plain_ties.specs.Shown.{Shown, shown}
-use Rattle.vs_plain_ties.specs.Tie.{AreHeldAs, AreTied, IsHeldAs, areas_of, heads_of, shown_of, start_of}
+use Rattle.vs_plain_ties.specs.Tie.{AreTied, IsHeldAs, areas_of, heads_of, shown_of, start_of}
 use Rattle.vs_plain_ties.proofs.Assemble.{device_ends, device_form, device_step}
 use Rattle.vs_plain_ties.proofs.Held.{all_whole, count_heads, heads_here}
 use Rattle.vs_plain_ties.proofs.QueueReturns.{given_row, id_held, tie_taken}

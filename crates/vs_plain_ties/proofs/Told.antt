@@ -1,12 +1,12 @@
 -- Each call keeps the ends tied, where they are known; and it is one that the ports allow.
-use Rattle.std.proofs.Common.{◌≡◌, ℕ, zero, ◌+◌, ◌-◌, ◌<◌, ◌≤◌, true, false, List, [], ◌∷◌, length, take, drop, Option, None, Some, Contains, refl, sym, ap, ◌∙◌, subst, arith}
+use Rattle.std.proofs.Common.{◌≡◌, ℕ, ◌+◌, ◌<◌, ◌≤◌, List, [], ◌∷◌, length, Option, None, Some, Contains, refl, sym, ap, ◌∙◌, subst, arith}
 use Rattle.std.specs.Option.{ForSome}
 use Rattle.std.specs.Prelude.{option_map}
 use Rattle.std.proofs.lemmas.Bool.{false≢true}
 use Rattle.vs_page.specs.Fair.{IsFairLog}
 use Rattle.vs_page.specs.Log.{Device, Driver, Role}
 use Rattle.vs_ring_port.specs.Chains.{bytes_in, held_of}
-use Rattle.vs_ring_port.specs.Contents.{DeviceAnswer, DeviceCall, Given, PublishCid, Read, Return, RingContents, Take, Write, plain_after, plain_answer}
+use Rattle.vs_ring_port.specs.Contents.{DeviceAnswer, DeviceCall, Given, PublishCid, Read, Return, Take, Write}
 use Rattle.vs_ring_port.specs.DeviceCalls.{CanReturn, DeviceAllows, DeviceMoves, IsTakenAs, IsWholePacket, LeavesNoGap}
 use Rattle.vs_ring_port.specs.DriverCalls.{CanPublish, DriverAllows, DriverMoves, LoadCid, Publish, Reap, Stage}
 use Rattle.vs_ring_port.specs.EndLog.{EndLog, entries_published, entries_returned, pages_at}
@@ -16,7 +16,6 @@ use Rattle.vs_ring_port.specs.declared.device_ring.Next.{Next}
 use Rattle.vs_ring_port.specs.declared.queue.Queue.{Queue}
 use Rattle.vs_ring_port.specs.declared.queue.Queue.TheVariants.{Rx, Tx, Event}
 use Rattle.vs_ring_list.specs.Ends.{Ends}
-use Rattle.vs_ring_list.specs.Ends as list
 use Rattle.vs_ring_list.proofs.Ties.{fair-return_event}
 use Rattle.vs_ring_plain.specs.Device.{DeviceState, answer_to, chains_held, plain_state}
 use Rattle.vs_plain_driver.specs.Queue.{flight_in, reaped_page}

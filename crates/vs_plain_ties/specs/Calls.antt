@@ -1,6 +1,6 @@
 -- Both ends of rings after some calls.
-use Rattle.std.specs.Prelude.{ℕ, List, [], ◌∷◌, Option, Some, None, option_map}
-use Rattle.vs_ring_port.specs.Contents.{DeviceCall, RingContents}
+use Rattle.std.specs.Prelude.{ℕ, List, [], ◌∷◌, Option, option_map}
+use Rattle.vs_ring_port.specs.Contents.{DeviceCall}
 use Rattle.vs_ring_port.specs.DeviceCalls.{device_answer}
 use Rattle.vs_ring_port.specs.DriverCalls.{DriverCall, driver_answer}
 use Rattle.vs_ring_list.specs.Ends.{Ends, empty_ends}

@@ -1,5 +1,5 @@
 -- What both ends of standard rings expose.
-use Rattle.std.specs.Prelude.{◌≡◌, ℕ, ◌+◌, ◌*◌, ◌%◌, ◌^◌, ◌==◌, ◌&&◌, Bool, false, length, Option, None, Some, is_some, if◌then◌else◌}
+use Rattle.std.specs.Prelude.{ℕ, ◌%◌, ◌^◌, ◌==◌, ◌&&◌, Bool, false, length, Option, None, Some, is_some, if◌then◌else◌}
 use Rattle.vs_guest_mem.specs.Memory.{Memory}
 use Rattle.vs_layout.specs.Layout.{queue_areas_of}
 use Rattle.vs_ring_port.specs.Contents.{RingContents}

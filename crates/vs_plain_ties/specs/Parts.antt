@@ -1,5 +1,5 @@
 -- Both ends of standard rings as a plain value, and what each call makes of it.
-use Rattle.std.specs.Prelude.{◌≡◌, ℕ, ◌+◌, ◌-◌, ◌*◌, ◌%◌, ◌<◌, ◌≤◌, Bool, nat_le, List, [], ◌∷◌, length, replicate, Option, None, Some, if◌then◌else◌}
+use Rattle.std.specs.Prelude.{ℕ, ◌+◌, ◌-◌, ◌*◌, ◌%◌, Bool, nat_le, List, [], ◌∷◌, length, replicate, Option, None, Some, if◌then◌else◌}
 use Rattle.std.specs.List.{range_with_len}
 use Rattle.vs_guest_mem.specs.Memory.{Memory, after_write}
 use Rattle.vs_layout.specs.Layout.{avail_idx, queue_areas_of, used_idx}

@@ -1,7 +1,6 @@
 -- How the lists of one queue's pages in flight lie in its memory.
 use Rattle.std.specs.Prelude.{◌≡◌, ℕ, ◌+◌, ◌*◌, ◌%◌, ◌^◌, ◌<◌, ◌≤◌, ◌==◌, List, [], ◌∷◌, ◌++◌, length, slice_index_or, Option, None, Some, if◌then◌else◌, ⊤}
 use Rattle.vs_header.specs.declared.TheConstants.{HEADER_LEN}
-use Rattle.vs_layout.specs.declared.entry.UsedElem.{UsedElem}
 use Rattle.vs_page.specs.declared.page.TheConstants.{PAGE_LEN}
 use Rattle.vs_ring_port.specs.Lists.{Lists}
 use Rattle.vs_ring_port.specs.declared.queue.Queue.{Queue}
@@ -30,7 +29,8 @@ AreOut queue n at s index (page ∷ pages) (id ∷ ids) =
     IsOut queue at s (index % n) page id × AreOut queue n at s (index + 1) pages ids
 AreOut queue n at s index _ _ = ⊥
 
--- A page that was returned stands in the used ring at a place, by its descriptor and its length, and its bytes lie in the descriptor's page.
+-- A page that was returned stands in the used ring at a place, by its descriptor and its length, and its bytes lie in the
+-- descriptor's page.
 pub record IsBack (s : Shown) (place : ℕ) (page : List ℕ) (id : ℕ) : Type 0 where
   pub elem : s.elem place ≡ record { id = id; len = length page }
   pub bytes : s.page id (length page) ≡ page

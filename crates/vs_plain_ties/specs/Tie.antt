@@ -2,7 +2,6 @@
 use Rattle.std.specs.Prelude.{◌≡◌, ◌⊎◌, ℕ, ◌+◌, ◌*◌, ◌%◌, ◌^◌, ◌<◌, ◌≤◌, false, List, [], ◌∷◌, length, Option, None, Some, IfSome, if◌then◌else◌, ⊤}
 use Rattle.vs_guest_mem.specs.Memory.{Memory}
 use Rattle.vs_layout.specs.declared.place.Areas.{Areas}
-use Rattle.vs_layout.specs.declared.placement.QueueAreas.{QueueAreas}
 use Rattle.vs_page.specs.declared.page.TheConstants.{PAGE_LEN}
 use Rattle.vs_ring_port.specs.Chains.{Held, same_queue}
 use Rattle.vs_ring_port.specs.EndLog.{pages_at}

@@ -1,10 +1,13 @@
 //! What holds of conversations over every ring that exposes its lists and logs.
-ghost use Rattle.std.specs.Prelude.{◌≡◌};
+ghost use Rattle.std.specs.Prelude.{◌≡◌, [], length, Some, None};
+ghost use Rattle.vs_guest_mem.specs.Memory.{Memory};
 ghost use Rattle.vs_contents.specs.CallTree.{CallTree, Leads, played};
 ghost use Rattle.vs_ring_port.specs.Contents.{DeviceAnswer, DeviceCall, RingContents};
 ghost use Rattle.vs_ring_port.specs.DeviceCalls.{DeviceAllows, device_answer};
 ghost use Rattle.vs_ring_port.specs.DriverCalls.{DriverAllows, DriverAnswer, DriverCall, driver_answer};
-ghost use Rattle.vs_ring_list.specs.Ends.{Ends};
+ghost use Rattle.vs_ring_list.specs.Ends.{Ends, empty_ends};
+ghost use Rattle.vs_plain_ties.specs.Exposed.{first_ends};
+ghost use Rattle.vs_plain_ties.specs.Parts.{pages_start};
 ghost use Rattle.vs_plain_ties.specs.Seen.{ShowsDevice, ShowsDriver};
 
 /// Over a ring that exposes its lists and logs a conversation of either end has one outcome, which the lists and that end's log give:
@@ -24,4 +27,14 @@ pub fn law_of_conversations<A>()
     ensures same_device { (tree : CallTree DeviceCall DeviceAnswer A) (w : Ends) (old new old2 new2 : RingContents) (x y : A)
         → ShowsDevice w old → ShowsDevice w old2 → Leads DeviceAllows tree old x new → Leads DeviceAllows tree old2 y new2
         → (x ≡ y) × (v : Ends) × ShowsDevice v new × ShowsDevice v new2 }
+{}
+
+/// Queues of 8 places from address 4096 on end at 4766, and their 24 pages begin at 8192. In 131,072 bytes these have room, and the ends
+/// are known from the first call on; in 65,536 bytes they have none, and nothing is known. Nor is it of queues of 3 places, whose places
+/// an index modulo 2^16 doesn't tell.
+pub fn worked_examples()
+    ensures pages { (m : Memory) → m.base ≡ 4096 → length m.bytes ≡ 131072 → pages_start m 4766 8 ≡ Some 8192 }
+    ensures known { (m : Memory) → m.base ≡ 4096 → length m.bytes ≡ 131072 → m.changes ≡ [] → first_ends m 4096 8 ≡ Some (empty_ends 8) }
+    ensures no_room { (m : Memory) → m.base ≡ 4096 → length m.bytes ≡ 65536 → m.changes ≡ [] → first_ends m 4096 8 ≡ None }
+    ensures odd_size { (m : Memory) → m.base ≡ 4096 → length m.bytes ≡ 131072 → m.changes ≡ [] → first_ends m 4096 3 ≡ None }
 {}

@@ -7,7 +7,8 @@ use Rattle.vs_script.specs.Script.{Saying, Plays, parse_of}
 use Rattle.vs_script.specs.declared.fault.Refused.{Refused}
 use Rattle.vs_script.specs.declared.script.Command.TheVariants as command
 use Rattle.vs_world.specs.World.{World, opening}
-use Rattle.vs_report.specs.Report.{guest_open_text, device_open_text, stream_texts, counts_text}
+use Rattle.vs_report.specs.Report.{report}
+use Rattle.vs_report.specs.declared.giving.Totals.{Totals}
 use Rattle.vs_play.specs.Lines.{PlayWorld, event_played}
 
 -- A play begins at the moment 0, over queues of n pages, with a host at which nobody listens.
@@ -26,14 +27,19 @@ abbrev pub texts_of : List Event → PlayWorld → List (List ℕ)
 texts_of [] p = []
 texts_of (e ∷ es) p = let r = event_played e p in r.1 ∷ texts_of es r.0
 
--- The report: how many entries the tables have, what each stream's program wrote and read, and what was counted.
+-- The report of the world that they lead to.
+abbrev pub totals_of : World → Totals
+totals_of w = record {
+  guest_open = length w.driver.table.entries;
+  device_open = length w.proxy.device.table.entries;
+  dropped = w.proxy.device.dropped;
+  overrun = w.proxy.device.overrun;
+  broken = w.driver.broken;
+  faults = w.proxy.device.faults;
+}
+
 abbrev pub report_of : World → List (List ℕ)
-report_of w =
-    guest_open_text (length w.driver.table.entries)
-    ∷ device_open_text (length w.proxy.device.table.entries)
-    ∷ (stream_texts 1 w.host.streams
-    ++ counts_text w.proxy.device.dropped w.proxy.device.overrun w.driver.broken w.proxy.device.faults
-    ∷ [])
+report_of w = report (totals_of w) w.host.streams
 
 -- An answer: the lines that are printed, each with its LF, and the status.
 pub record Answer : Type 0 where

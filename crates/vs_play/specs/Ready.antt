@@ -45,7 +45,10 @@ shown p = record { driver = p.world.driver; proxy = p.world.proxy; rings = p.wor
 
 -- The world in which no call was made.
 abbrev pub world_in : PlayState → PlayWorld
-world_in p = record { world = record { driver = p.driver; proxy = p.proxy; rings = p.rings; host = p.host; journal = [] }; moment = p.moment }
+world_in p = record {
+  world = record { driver = p.driver; proxy = p.proxy; rings = p.rings; host = p.host; journal = [] };
+  moment = p.moment;
+}
 
 -- A line may be played.
 pub record IsReady (p : PlayState) : Type 0 where

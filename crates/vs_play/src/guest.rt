@@ -1,9 +1,10 @@
 //! The calls of the guest's driver over list rings, each with the one end that it leads to.
 
-ghost use Rattle.std.specs.Prelude.{◌≡◌, IfOk};
+ghost use Rattle.std.specs.Prelude.{◌≡◌, ℕ, IfOk};
 ghost use Rattle.vs_contents.specs.CallTree.{Done};
-ghost use Rattle.vs_ring_list.specs.Ends.{Ends};
-ghost use Rattle.vs_driver_parts.specs.Conversations.{connect_of, send_of, poll_of};
+ghost use Rattle.vs_ring_list.specs.Ends.{Ends, empty_ends};
+ghost use Rattle.vs_driver_parts.specs.Conversations.{new_of, connect_of, send_of, poll_of};
+ghost use Rattle.vs_driver_parts.specs.declared.limits.TheConstants.{FIRST_PORT};
 ghost use Rattle.vs_world.specs.Calls as call;
 ghost use Rattle.vs_world.specs.GuestSteps.{makes_call};
 ghost use Rattle.vs_play.specs.Lines.{flow_opened, flow_accepted};
@@ -15,6 +16,16 @@ use vs_driver::{
 };
 use vs_flow::Flow;
 use vs_ring_list::ListRings;
+
+/// A driver just made over empty rings. The only error is want of memory.
+pub fn new(alloc: Global, rings: &mut ListRings) -> Result<Driver, AllocError>
+    requires empty { (n : ℕ) × (rings.old ≡ empty_ends n) }
+    ensures played { IfOk result (λ driver. over_lists (new_of rings.old.lists.size FIRST_PORT 1) rings.old ≡ (driver, rings.new)) }
+    ensures driven { IfOk result (λ driver. IsDriven driver rings.new) }
+{
+    let driver = Driver::new(alloc, rings)?;
+    Ok(driver)
+}
 
 /// Asks the host for a connection.
 pub fn connect(

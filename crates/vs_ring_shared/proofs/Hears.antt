@@ -1,7 +1,6 @@
 -- What the ends took is what the other gave first, once they heard of each other.
-use Rattle.std.proofs.Common.{◌≡◌, ℕ, Bool, false, cond, List, refl, ap, ◌∙◌, subst, sym}
+use Rattle.std.proofs.Common.{◌≡◌, ℕ, Bool, false, cond, ap, ◌∙◌, subst}
 use Rattle.atomic_table.specs.Seated.{TableId}
-use Rattle.vs_ring_port.specs.declared.queue.Queue.{Queue}
 use Rattle.vs_ring_port.specs.declared.queue.Queue.TheVariants.{Rx, Tx, Event}
 use Rattle.vs_ring_rule.specs.Meets as meets
 use Rattle.vs_ring_rule.specs.Meets.{copy_of, joined, told}

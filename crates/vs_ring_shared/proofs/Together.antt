@@ -6,7 +6,7 @@ use Rattle.vs_page.specs.Log.{Log}
 use Rattle.vs_page.specs.Open.{cid_of}
 use Rattle.vs_page.specs.declared.log.TheConstants.{FIRST_CID}
 use Rattle.vs_ring_list.specs.Ends.{Ends, flight_of, staged_of}
-use Rattle.vs_ring_port.specs.Chains.{Held, bytes_in, held_of}
+use Rattle.vs_ring_port.specs.Chains.{bytes_in, held_of}
 use Rattle.vs_ring_port.specs.Counts.{Counts, at, one_more}
 use Rattle.vs_ring_port.specs.EndLog.{EndLog, log_returned, log_taken}
 use Rattle.vs_ring_port.specs.Lists.{Rings, after_return, after_take, chain_with, next_at, next_given, oldest, queue_of}

@@ -1,10 +1,16 @@
-use crate::{DeviceEnd, DriverEnd, laws_of_device_end, laws_of_driver_end, make};
+ghost use Rattle.std.specs.Prelude.{◌≡◌, false};
+
+use crate::{
+    DeviceEnd, DriverEnd, RingName, SharedRings, laws_of_device_end, laws_of_driver_end, make,
+    meet_named, named, note_named,
+};
+use std::hint;
+use std::marker::Brand;
 use std::sync::Wait;
 use std::test::Fail;
-use std::thread;
 use std::thread::{Threads, join};
 use vs_page::Page;
-use vs_ring_port::Queue;
+use vs_ring_port::{DeviceRing, DriverRing, Next, Queue};
 
 /// Gives an empty page to the device, to write an event into.
 fn post_event(driver: &mut DriverEnd, mut page: Page) -> bool {
@@ -39,7 +45,7 @@ fn drive<R: Wait>(rt: &R, driver: &mut DriverEnd, count: u32) -> u32 {
                 next += 1;
                 post_event(driver, page);
             }
-            None => thread::yield_now(),
+            None => hint::spin_loop(),
         }
     }
     right
@@ -68,7 +74,7 @@ fn serve<R: Wait>(rt: &R, device: &mut DeviceEnd, count: u32) {
         if serve_one(device, next) {
             next += 1;
         } else {
-            thread::yield_now();
+            hint::spin_loop();
         }
     }
 }
@@ -94,7 +100,7 @@ fn two_threads_pass_events_over_eight_pages(rt: HostRuntime) -> Result<(), Fail>
     for _ in 0..8 {
         post_event(&mut driver, Page::new(rt.alloc())?);
     }
-    assert_eq!(rt; relay(&rt, driver, device, 20_000), 20_000);
+    assert_eq!(rt; relay(&rt, driver, device, 1_000_000), 1_000_000);
     Ok(())
 }
 
@@ -104,7 +110,7 @@ fn two_threads_pass_events_over_256_pages(rt: HostRuntime) -> Result<(), Fail> {
     for _ in 0..256 {
         post_event(&mut driver, Page::new(rt.alloc())?);
     }
-    assert_eq!(rt; relay(&rt, driver, device, 200_000), 200_000);
+    assert_eq!(rt; relay(&rt, driver, device, 1_000_000), 1_000_000);
     Ok(())
 }
 
@@ -131,5 +137,35 @@ fn indices_pass_65_536(rt: HostRuntime) -> Result<(), Fail> {
         }
     }
     assert_eq!(rt; right, 70_000);
+    Ok(())
+}
+
+#[test]
+fn a_page_goes_to_the_device_on_one_thread(rt: HostRuntime) -> Result<(), Fail> {
+    let mut rings = SharedRings::new(rt.alloc(), 8)?;
+    let page = Page::new(rt.alloc())?;
+    assert!(rt; rings.stage(Queue::Event, page).is_ok());
+    rings.publish(Queue::Event);
+    assert_eq!(rt; rings.given(Queue::Event), 1);
+    assert!(rt; matches!(rings.next(Queue::Event), Next::Chain(_)));
+    Ok(())
+}
+
+/// Both ends of a name are told of each other, and meet.
+fn meet_under<N: RingName>(driver: DriverEnd, device: DeviceEnd) -> DriverEnd
+    requires driver { driver.table ≡ N.ring }
+    requires device { device.sight.table ≡ N.ring }
+    requires two { driver.whole ≡ false }
+{
+    let (mut driver, mut device) = named::<N>(driver, device);
+    note_named(&mut driver, &mut device);
+    meet_named(driver, device)
+}
+
+#[test]
+fn ends_of_a_name_meet(rt: HostRuntime) -> Result<(), Fail> {
+    let (driver, device) = make(rt.alloc(), 8)?;
+    let driver = meet_under::<Brand>(driver, device);
+    assert_eq!(rt; driver.in_flight(Queue::Event), 0);
     Ok(())
 }

@@ -70,7 +70,7 @@ use Rattle.vs_page.specs.Log.{flow_got, history_of, side_of}
 use Rattle.vs_proxy.specs.State.{Handshake}
 use Rattle.vs_uds.specs.OkLine.{ok_text}
 use Rattle.vs_pipes.specs.Drains.{has_passed}
-use Rattle.vs_pipes.specs.Streamed.{IsStreamed, gives, look}
+use Rattle.vs_pipes.specs.Streamed.{gives, look}
 use Rattle.vs_pipes.proofs.HostCalls.{closed_host}
 use Rattle.vs_pipes.proofs.Logs.{got_passes, none_passed, passed_after_got, put_after_got}
 use Rattle.vs_pipes.proofs.Opens.{dial_host}

@@ -44,7 +44,7 @@ use Rattle.vs_conn.specs.End.{ConnectionEnd}
 use Rattle.vs_flow.specs.Table.{with_value, without}
 use Rattle.vs_outside.specs.Host.{HostContents, after_close}
 use Rattle.vs_proxy.specs.State.{Handshake}
-use Rattle.vs_pipes.specs.Streamed.{IsStreamed, gives}
+use Rattle.vs_pipes.specs.Streamed.{gives}
 use Rattle.vs_pipes.proofs.Gives.{pays_asked, pays_gives}
 use Rattle.vs_pipes.proofs.HostCalls.{closed_host}
 use Rattle.vs_world.proofs.Streams.{StreamedIf, ends_streams, leaves_streams, put_empty}

@@ -30,7 +30,6 @@ use Rattle.vs_world.proofs.Wire.{PutsFit}
 use Rattle.vs_flow.specs.Table.{with_value}
 use Rattle.vs_outside.specs.Host.{after_close, called, next_bytes}
 use Rattle.vs_proxy.specs.State.{Handshake}
-use Rattle.vs_pipes.specs.Streamed.{IsStreamed}
 use Rattle.vs_world.proofs.Streams.{StreamedIf, called_host, ends_streams, reads_streams, shuts_streams}
 
 module _ (driver : Seat) (first port : ℕ) (s : DeviceState) (a : Around) (sound : IsSound first (seated driver port s a.log.entries))

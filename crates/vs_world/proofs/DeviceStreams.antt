@@ -5,7 +5,7 @@ use Rattle.std.proofs.lemmas.Grind.{common_steps}
 use Rattle.std.proofs.lemmas.List.{length-take, length-drop, append-nil}
 use Rattle.std.proofs.Common.{length-append}
 use Rattle.std.specs.Option.{option_map_or}
-use Rattle.vs_contents.specs.CallTree.{Done, Ask, bind, played}
+use Rattle.vs_contents.specs.CallTree.{Done, Ask, bind}
 use Rattle.vs_conn.specs.End.{ConnectionEnd, state_may_send, with_payload_forwarded, with_payload_sent, with_shut}
 use Rattle.vs_conn.specs.Headers.{payload_header}
 use Rattle.vs_conn.specs.declared.end.State.{State}
@@ -33,7 +33,7 @@ use Rattle.vs_device.specs.Connections.{after_shut, after_written, cut_off, is_a
 use Rattle.vs_device.specs.Receiving.{may_read, put_payload}
 use Rattle.vs_device.specs.State.{DeviceConnection, DeviceEntry, DeviceState}
 use Rattle.vs_device.specs.Streams.{Writing, closing, is_written_out, tick_slot, to_write, write_answered, write_pending}
-use Rattle.vs_world.specs.Answers.{Around, answer_around}
+use Rattle.vs_world.specs.Answers.{Around}
 use Rattle.vs_world.specs.DeviceSteps.{filling, shuts_write, writes, writes_on, writing}
 use Rattle.vs_world.proofs.Chains.{HoldsRx}
 use Rattle.vs_world.proofs.DeviceEvents.{KeptBy, Over}
@@ -46,7 +46,6 @@ use Rattle.vs_world.proofs.Wire.{PutsFit}
 use Rattle.vs_flow.specs.Table.{with_value}
 use Rattle.vs_outside.specs.Host.{HostContents, after_close, after_failed, after_shut_write, called}
 use Rattle.vs_proxy.specs.State.{Handshake}
-use Rattle.vs_pipes.specs.Streamed.{IsStreamed}
 use Rattle.vs_pipes.proofs.HostCalls.{closed_host}
 use Rattle.vs_world.proofs.Streams.{StreamedIf, called_host, cuts_streams, ends_streams, failed_host, shut_write_host, shuts_streams, writes_streams}
 

@@ -37,7 +37,7 @@ use Rattle.vs_page.proofs.Holding.{packet_whole}
 use Rattle.vs_page.specs.Log.{Device, flow_got}
 use Rattle.vs_page.specs.Open.{is_dropped}
 use Rattle.vs_proxy.specs.State.{Handshake}
-use Rattle.vs_pipes.specs.Streamed.{IsStreamed, gives, look}
+use Rattle.vs_pipes.specs.Streamed.{gives, look}
 use Rattle.vs_pipes.proofs.Streamed.{same_streamed}
 use Rattle.vs_world.proofs.Streams.{StreamedIf, payload_in}
 

@@ -6,7 +6,7 @@ use Rattle.vs_flow.specs.declared.flow.TheConstants.{ASSIGNED_FIRST}
 use Rattle.vs_outside.specs.Host.{HostContents}
 use Rattle.vs_page.specs.Log.{Driver, Log}
 use Rattle.vs_pipes.specs.Drains.{got_on}
-use Rattle.std.proofs.Common.{◌-◌, slice_get, Option, Some, None}
+use Rattle.std.proofs.Common.{◌-◌, slice_get, Some, None}
 use Rattle.std.specs.Option.{option_map}
 use Rattle.vs_outside.specs.Host.{Stream}
 use Rattle.vs_pipes.specs.Streamed.{IsStreamed, Seen, look, seen}

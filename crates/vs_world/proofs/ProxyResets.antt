@@ -21,7 +21,6 @@ use Rattle.vs_world.specs.Answers.{Around, answer_around}
 use Rattle.vs_world.proofs.Chains.{HoldsRx}
 use Rattle.vs_world.proofs.DeviceSide.{DeviceHolds, Kept, seated}
 use Rattle.vs_world.proofs.ProxySide.{Over, StreamedWith, stays_as}
-use Rattle.std.proofs.Common.{ap}
 use Rattle.vs_flow.specs.Table.{emptied}
 use Rattle.vs_pipes.specs.Streamed.{look}
 use Rattle.vs_pipes.proofs.HostCalls.{closed_host}

@@ -1,20 +1,19 @@
 -- What the driver's connections received, through its small changes.
-use Rattle.std.proofs.Common.{◌≡◌, ◌≢◌, ℕ, zero, suc, ◌+◌, ◌≤◌, ◌<◌, ◌==◌, Bool, true, false, cond, List, [], ◌∷◌, ◌++◌, length, take, drop, min, get_or, Contains, Option, Some, None, refl, sym, ap, subst, ◌∙◌, arith}
+use Rattle.std.proofs.Common.{◌≡◌, ℕ, zero, suc, ◌==◌, Bool, true, false, cond, List, [], ◌∷◌, ◌++◌, length, take, Contains, Option, Some, None, refl, sym, ap, subst, ◌∙◌, arith}
 use Rattle.std.proofs.lemmas.Bool.Decides.{nat_tests}
 use Rattle.std.proofs.lemmas.List.{append-nil, take_min}
 use Rattle.std.proofs.lemmas.Option.{get_or_from_slice_get, slice_get_within}
-use Rattle.vs_conn.specs.End.{ConnectionEnd, with_shut}
-use Rattle.vs_flow.specs.Flow.{is_assigned, same_flow}
-use Rattle.vs_flow.specs.Table.{IsTable, entry_of, with_entry, without}
+use Rattle.vs_flow.specs.Flow.{same_flow}
+use Rattle.vs_flow.specs.Table.{IsTable, entry_of, without}
 use Rattle.vs_flow.specs.declared.flow.Flow.{Flow}
 use Rattle.vs_flow.proofs.Entries.{found_passes, none_found}
 use Rattle.vs_page.proofs.Flows.{same_self}
 use Rattle.vs_flow.proofs.Lookups.{find_place}
 use Rattle.vs_history.specs.declared.packet.Packet.{Packet}
-use Rattle.vs_page.specs.Log.{Driver, Log, flow_got, flow_put}
+use Rattle.vs_page.specs.Log.{Driver, Log, flow_got}
 use Rattle.vs_page.specs.declared.log.LogEntry.TheVariants.{GotPacket, PutPacket}
 use Rattle.vs_driver_parts.specs.State.{DriverConnection, DriverEntry, DriverState, GoneConnection, entry_known_as, gone_known_as}
-use Rattle.vs_driver_parts.specs.Connections.{after_leaving, after_read, after_recv, all_gone_after_read, entry_read, flow_of, gone_as, recv_of, unread_of_id, waits_no_more, with_connection, with_opened}
+use Rattle.vs_driver_parts.specs.Connections.{all_gone_after_read, flow_of, recv_of, unread_of_id, waits_no_more, with_connection}
 use Rattle.vs_conn.specs.declared.end.State.{State}
 use Rattle.vs_conn.specs.declared.end.State.TheVariants as state
 use Rattle.vs_driver_parts.specs.declared.answers.Received.{Received}
@@ -22,11 +21,11 @@ use Rattle.vs_driver_parts.specs.declared.answers.Received.TheVariants as got
 use Rattle.vs_driver_parts.specs.Connections.{entry_answer, gone_answer, is_at_end, nothing_read, read_of}
 use Rattle.vs_driver_parts.proofs.Known.{flow_gone, flow_known, recv_gone_some, recv_known, unread_gone_some, unread_known}
 use Rattle.vs_driver_parts.proofs.GoneChanges.{read_none}
-use Rattle.vs_pipes.specs.Drains.{got_on, has_passed, receives}
+use Rattle.vs_pipes.specs.Drains.{got_on, receives}
 use Rattle.vs_pipes.specs.Received.{AreReceived, IsReceived}
 use Rattle.vs_pipes.proofs.Gone.{read_received}
 use Rattle.vs_pipes.proofs.Logs.{got_after_got, got_after_put, none_on_any, nothing_more, only_on, passed_after_got, passed_after_put}
-use Rattle.vs_pipes.proofs.Received.{changed_received, left_received, more_received, opened_received, same_received, without_received}
+use Rattle.vs_pipes.proofs.Received.{changed_received, left_received, more_received, same_received, without_received}
 use Rattle.vs_pipes.proofs.Steps.{Goes}
 use Rattle.vs_world.specs.Calls.{is_on}
 use Rattle.vs_world.specs.GuestSteps.{bytes_got}

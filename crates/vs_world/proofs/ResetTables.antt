@@ -67,7 +67,7 @@ device_emptied cid w right fine =
     (ends_played Emptied _ (around w) (reset_ends cid w.proxy w.proxy.device.failed fine))
 
 -- The driver's.
-module _ (w : World) (well : IsWell w) (page : List ℕ) where
+module _ {fresh : Type 0} (w : World) (well : IsWell fresh w) (page : List ℕ) where
   abbrev reaped : Rings × EndLog
   reaped = (after_reap q.Event w.rings.lists, log_reaped q.Event (Some page) w.rings.driver)
 

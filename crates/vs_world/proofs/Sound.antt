@@ -350,7 +350,7 @@ module _ (fresh : Type 0) (w : World) (well : IsWell fresh w) where
       (proxy_side.accept_keeps (both_of w).driver first_cid w.proxy (around w) well.sound well.device well.device_puts well.chain well.known fresh well.streams))
   happens_goes (ProxyReads stream) = unfailed fresh (has_failed w) (proxy_step (line_read stream)) w refl well (proxy_step_goes (line_read stream)
       (proxy_side.line_read_keeps (both_of w).driver first_cid w.proxy (around w) well.sound well.device well.device_puts well.chain well.known fresh well.streams stream))
-  happens_goes (Moment now) = possible fresh (nat_le w.proxy.device.now now) (at_moment now) w well (λ may. at_moment_goes now)
+  happens_goes (Moment now) = at_moment_goes now
   happens_goes (TimesOut slot) = unfailed fresh (has_failed w) (device_step (tick_slot slot)) w refl well (device_step_goes (tick_slot slot)
       (device_streams.tick_keeps (both_of w).driver first_cid w.proxy.next_port w.proxy.device (around w) well.sound well.device well.device_puts well.chain well.known fresh w.proxy.handshakes well.streams slot))
   happens_goes (HandshakeTimesOut stream) = unfailed fresh (has_failed w) (proxy_step (tick_handshake stream)) w refl well (proxy_step_goes (tick_handshake stream)

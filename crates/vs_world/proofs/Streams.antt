@@ -1,16 +1,15 @@
 -- What the host's streams took and gave, through the small changes of the device.
-use Rattle.std.proofs.Common.{◌≡◌, ◌≢◌, ℕ, ◌+◌, ◌-◌, ◌≤◌, ◌<◌, ◌==◌, ◌&&◌, nat_le, Bool, true, false, cond, List, [], ◌∷◌, ◌++◌, length, take, drop, Contains, Option, Some, None, refl, sym, ap, subst, ◌∙◌, append_assoc, arith}
+use Rattle.std.proofs.Common.{◌≡◌, ℕ, ◌+◌, ◌-◌, ◌≤◌, ◌==◌, ◌&&◌, nat_le, Bool, true, false, cond, List, [], ◌∷◌, ◌++◌, length, take, drop, Contains, Option, Some, None, refl, sym, ap, subst, ◌∙◌, arith}
 use Rattle.std.proofs.lemmas.Bool.Decides.{nat_tests}
 use Rattle.std.proofs.lemmas.Grind.{common_steps}
 use Rattle.std.proofs.lemmas.List.{append-nil}
 use Rattle.std.specs.List.{All}
 use Rattle.std.specs.Option.{option_map}
 use Rattle.vs_conn.specs.End.{ConnectionEnd, end_after, is_reset, is_stream, verdict_of, with_shut}
-use Rattle.vs_conn.specs.declared.end.Owed.{Owed}
 use Rattle.vs_conn.specs.declared.end.State.TheVariants as state
 use Rattle.vs_conn.specs.declared.end.Verdict.{Verdict}
 use Rattle.vs_conn.specs.declared.end.Verdict.TheVariants as verdict
-use Rattle.vs_device.specs.Connections.{after_shut, after_written, cut_off, stream_closed}
+use Rattle.vs_device.specs.Connections.{after_shut, after_written, cut_off}
 use Rattle.vs_device.specs.State.{DeviceConnection, DeviceEntry}
 use Rattle.vs_device.specs.Transmitting.{heard}
 use Rattle.vs_flow.specs.Flow.{is_assigned, same_flow}
@@ -52,7 +51,7 @@ use Rattle.vs_uds.specs.Reading.{is_decided, port_or_bad}
 use Rattle.vs_uds.specs.declared.connect.TheConstants.{CONNECT_MAX}
 use Rattle.vs_uds.specs.declared.scan.Step.TheVariants as step
 use Rattle.vs_uds.specs.OkLine.{ok_text}
-use Rattle.vs_pipes.specs.Drains.{got_on, has_passed, put_on}
+use Rattle.vs_pipes.specs.Drains.{got_on, put_on}
 use Rattle.vs_pipes.specs.Streamed.{IsJoined, IsStreamed, gives, line_for, look, seen}
 use Rattle.vs_pipes.proofs.Gives.{accepted_other, accepts_asked, accepts_response, answered_host, comes_behind, delivered_other, delivers_gives, gives_delivered, goes_host, hears_asked, hears_gives, kept_empty, response_empty, shut_gives, shuts_asked, unanswered_got}
 use Rattle.vs_pipes.proofs.Logs.{got_after_got, got_after_put, none_on_any, only_on, passed_after_got, passed_after_put, put_after_got, put_after_put}

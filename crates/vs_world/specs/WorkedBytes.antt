@@ -3,7 +3,7 @@ use Rattle.std.specs.Prelude.{ℕ, List, [], ◌∷◌}
 use Rattle.vs_flow.specs.declared.flow.Flow.{Flow}
 use Rattle.vs_outside.specs.HostBytes.{host_read, host_wrote}
 use Rattle.vs_page.specs.Fair.{payload_got, payload_put}
-use Rattle.vs_page.specs.Log.{Device, Driver}
+use Rattle.vs_page.specs.Log.{Device}
 use Rattle.vs_world.specs.Calls.{received_on, sent_on}
 use Rattle.vs_world.specs.World.{World}
 

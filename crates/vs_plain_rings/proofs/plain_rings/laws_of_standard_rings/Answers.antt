@@ -1,4 +1,4 @@
-use Rattle.std.proofs.Common.{◌≡◌, subst}
+use Rattle.std.proofs.Common.{subst}
 use Rattle.vs_ring_list.proofs.Ties.{device_got, driver_got}
 use Rattle.vs_plain_ties.specs.Exposed.{BothEnds}
 use Rattle.vs_plain_ties.specs.Tie.{IsTiedTo}

@@ -1,7 +1,6 @@
 use Rattle.std.proofs.Common.{◌≡◌, ◌+◌, length, subst}
 use Rattle.vs_ring_port.specs.Chains.{held_of}
 use Rattle.vs_ring_port.specs.declared.queue.Queue.{Queue}
-use Rattle.vs_ring_shared.specs.DeviceEnds.{device_sight}
 use Rattle.vs_ring_shared.specs.Sights.{DeviceSight, sight_in}
 use Rattle.vs_ring_shared.proofs.DeviceCalls.{held_between}
 use Rattle.vs_ring_shared.proofs.device_ring.laws_of_device_end.Goals as goal

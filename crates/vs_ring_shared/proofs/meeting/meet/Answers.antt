@@ -1,4 +1,4 @@
-use Rattle.std.proofs.Common.{◌≡◌, refl, ap, ◌∙◌, subst, sym}
+use Rattle.std.proofs.Common.{ap, subst}
 use Rattle.vs_ring_rule.specs.Rule.{Seated}
 use Rattle.vs_ring_shared.specs.DeviceEnds.{device_sight}
 use Rattle.vs_ring_shared.specs.Meetings.{TookFirst}

@@ -1,8 +1,6 @@
-use Rattle.std.proofs.Common.{◌≡◌, false, refl, ap, ◌∙◌, subst, sym}
+use Rattle.std.proofs.Common.{refl, ap, ◌∙◌, subst}
 use Rattle.vs_ring_rule.specs.Rule.{IsOlder, Seated, past_of}
-use Rattle.vs_ring_rule.specs.declared.view.View.{View}
 use Rattle.vs_ring_shared.specs.DeviceEnds.{device_sight}
-use Rattle.vs_ring_shared.specs.DriverEnds.{driver_sight}
 use Rattle.vs_ring_shared.specs.Meetings.{SawNoMore, TookFirst}
 use Rattle.vs_ring_shared.specs.Sights.{DeviceSight, Sight}
 use Rattle.vs_ring_shared.proofs.Hears.{note_first, note_loaded, note_saw}

@@ -1,4 +1,4 @@
-use Rattle.std.proofs.Common.{◌≡◌, ap, sym, ◌∙◌}
+use Rattle.std.proofs.Common.{ap, ◌∙◌}
 use Rattle.vs_ring_port.specs.Chains.{without}
 use Rattle.vs_ring_plain.specs.Device.{chains_held}
 use Rattle.vs_ring_plain.proofs.Calls.{returns_by}

@@ -1,5 +1,3 @@
-use Rattle.std.proofs.Common.{◌≡◌, subst, sym}
-use Rattle.vs_ring_plain.specs.Device.{DeviceState}
 use Rattle.vs_ring_plain.proofs.Calls.{takes_by}
 use Rattle.vs_plain_rings.proofs.Rings.{allows_taken, tied_taken}
 use Rattle.vs_plain_rings.proofs.plain_rings.PlainRingsDeviceRing.next.Goals as goal

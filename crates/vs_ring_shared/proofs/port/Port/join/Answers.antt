@@ -1,9 +1,6 @@
-use Rattle.std.proofs.Common.{rules, inl, inr, sym, subst, arith}
-use Rattle.vs_page.specs.Log as log
-use Rattle.vs_ring_rule.specs.Meets.{knows, ties}
+use Rattle.std.proofs.Common.{rules, sym, subst, arith}
 use Rattle.vs_ring_rule.proofs.Meets as meets
 use Rattle.vs_ring_shared.specs.Ports.{IsTableOf}
-use Rattle.vs_ring_shared.proofs.Known as known
 use Rattle.vs_ring_shared.proofs.port.Port.join.Goals as goal
 
 pub join_seat-requires : goal.join_seat-requires

@@ -2,7 +2,7 @@ use Rattle.std.proofs.Common.{◌≡◌, sym, ap, ◌∙◌, subst}
 use Rattle.vs_ring_list.specs.Ends.{Ends}
 use Rattle.vs_ring_list.specs.Ends as lists
 use Rattle.vs_ring_list.proofs.Held.{chains_of-without_held}
-use Rattle.vs_ring_port.specs.Chains.{chains_of, without}
+use Rattle.vs_ring_port.specs.Chains.{chains_of}
 use Rattle.vs_ring_port.specs.DeviceCalls.{CanReturn}
 use Rattle.vs_ring_shared.specs.Sights.{DeviceSight, device_contents}
 use Rattle.vs_ring_shared.specs.Together.{ends_between}

@@ -1,4 +1,3 @@
-use Rattle.std.proofs.Common.{refl}
 use Rattle.vs_ring_port.specs.declared.device_ring.Next.TheVariants as next
 use Rattle.vs_ring_shared.proofs.SharedCalls.{allows-taken}
 use Rattle.vs_ring_shared.proofs.Together.{noted-taken}

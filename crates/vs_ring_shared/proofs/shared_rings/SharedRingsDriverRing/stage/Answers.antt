@@ -4,7 +4,7 @@ use Rattle.vs_ring_list.specs.Ends.{Ends, flight_of}
 use Rattle.vs_ring_shared.specs.Sights.{Sight}
 use Rattle.vs_ring_shared.specs.Together.{ends_between}
 use Rattle.vs_ring_shared.proofs.Steps.{staged}
-use Rattle.vs_ring_shared.proofs.Together.{ends-staged, flight_of-staged, flight_same, full_size, heard_ends, room_left}
+use Rattle.vs_ring_shared.proofs.Together.{ends-staged, flight_of-staged, full_size, heard_ends, room_left}
 use Rattle.vs_ring_shared.proofs.shared_rings.SharedRingsDriverRing.stage.Goals as goal
 
 on_err : {T E : Type 0} (r : Result T E) (P : Type 0) → P → OnErr r P
