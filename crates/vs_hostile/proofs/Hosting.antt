@@ -1,7 +1,7 @@
 -- Streams that are open stay so, whatever the host's programs do.
 use Rattle.std.proofs.Common.{◌≡◌, ◌≢◌, ℕ, zero, suc, ◌==◌, Bool, true, false, cond, List, [], ◌∷◌, ◌++◌, Option, Some, None, IsSomeAnd, unwrap_or, refl, sym, ap, subst, ◌∙◌, arith}
 use Rattle.std.proofs.lemmas.Bool.Decides.{nat_tests}
-use Rattle.std.specs.Prelude.{◌-◌, slice_get}
+use Rattle.std.specs.Prelude.{◌-◌, ◌&&◌, nat_lt, length, slice_get}
 use Rattle.vs_flow.specs.Table.{Table}
 use Rattle.vs_outside.specs.Host.{HostContents, IsOpen, Stream, stream_at, with_stream}
 use Rattle.vs_outside.specs.HostProgram.{after_client, after_host_write, allowed, client_stream, closed, ended, host_write_answer, with_bytes}
@@ -9,12 +9,23 @@ use Rattle.vs_outside.specs.declared.host_net.StreamState.TheVariants as state
 use Rattle.vs_outside.specs.declared.mem_stream.HostWritten.{HostWritten}
 use Rattle.vs_outside.specs.declared.mem_stream.HostWritten.TheVariants as written
 use Rattle.vs_outside.proofs.Frames.{keeps_others, open_of, stays_open, stream_at-with_stream, stream_place}
-use Rattle.vs_device.specs.State.{DeviceConnection}
+use Rattle.vs_device.specs.Playing.{IsItsRing}
+use Rattle.vs_device.specs.State.{DeviceConnection, DeviceState}
 use Rattle.vs_device_laws.specs.Streams.{HasStreams}
 use Rattle.vs_proxy.specs.Handshakes.{streams_of}
 use Rattle.vs_proxy.specs.State.{ProxyState}
 use Rattle.vs_script.specs.Outside.{Host, HostListen, HostUnlisten, HostWrite, HostAllow, HostEnd, HostClosed, HostFail}
 use Rattle.vs_script.specs.Data.{bytes_of}
+use Rattle.byteorder.specs.Endian.{little_bytes}
+use Rattle.vs_header.specs.Packet.{header_bytes}
+use Rattle.vs_layout.specs.Entry.{desc_bytes}
+use Rattle.vs_layout.specs.Layout.{avail_entry, avail_idx, desc_entry}
+use Rattle.vs_guest_mem.specs.Memory.{after_write, is_inside}
+use Rattle.vs_ring_plain.specs.Device.{DeviceState as Side, areas_at, chains_held, with_change, with_memory}
+use Rattle.vs_ring_port.specs.declared.device_ring.Chain.{Chain}
+use Rattle.vs_script.specs.Hostile.{Hostile}
+use Rattle.vs_script.specs.Hostile as hostile
+use Rattle.vs_hostile.specs.Guest.{guest_writes, poked, poked_at}
 use Rattle.vs_hostile.specs.Ready.{IsServing}
 use Rattle.vs_hostile.specs.Run.{host_does}
 
@@ -85,3 +96,37 @@ host_opens (HostAllow stream n) h = with_stream_opens stream (allowed 1844674407
 host_opens (HostEnd stream) h = with_stream_opens stream ended h (λ s. refl)
 host_opens (HostClosed stream) h = with_stream_opens stream closed h (λ s. refl)
 host_opens (HostFail n) h = λ id still. still
+
+pub host_serves : (line : Host) (p : ProxyState) (h k : HostContents) → k ≡ (host_does line h).0 → IsServing p h → IsServing p k
+host_serves line p h k is s = subst (λ (x : HostContents). IsServing p x) (sym is) (serves_on p h (host_does line h).0 (host_opens line h) s)
+
+-- The guest's writes leave the chains that the device holds.
+kept_if : (b : Bool) (d e : Side) → chains_held e ≡ chains_held d → chains_held (cond b e d) ≡ chains_held d
+kept_if true d e same = same
+kept_if false d e same = refl
+
+poke_keeps : (addr : ℕ) (bytes : List ℕ) (d : Side) → chains_held (poked addr bytes d) ≡ chains_held d
+poke_keeps addr bytes d = kept_if (is_inside d.memory addr (length bytes)) d (with_memory d (after_write d.memory addr bytes)) refl
+
+poke_at_keeps : (place addr : ℕ) (bytes : List ℕ) (d : Side) → chains_held (poked_at place addr bytes d) ≡ chains_held d
+poke_at_keeps place addr bytes d = kept_if (nat_lt place d.size) d (poked addr bytes d) (poke_keeps addr bytes d)
+
+guest_keeps : (line : Hostile) (d : Side) → chains_held (guest_writes line d) ≡ chains_held d
+guest_keeps (hostile.Memory memory) d = refl
+guest_keeps (hostile.Rings n) d = refl
+guest_keeps (hostile.Write addr bytes) d = poke_keeps addr (bytes_of bytes) d
+guest_keeps (hostile.WriteDesc queue number desc) d = poke_at_keeps number (desc_entry (areas_at queue d.areas) number).at (desc_bytes desc) d
+guest_keeps (hostile.Give queue place head) d = poke_at_keeps place (avail_entry (areas_at queue d.areas) place).at (little_bytes 2 head) d
+guest_keeps (hostile.Index queue value) d = poke_keeps (avail_idx (areas_at queue d.areas)).at (little_bytes 2 value) d
+guest_keeps (hostile.Packet addr header bytes) d = poke_keeps addr (header_bytes header ++ bytes_of bytes) d
+guest_keeps (hostile.Before nth addr bytes) d =
+    kept_if (nat_lt 0 nth && is_inside d.memory addr (length (bytes_of bytes))) d
+    (with_memory d (with_change d.memory (record { nth = nth; addr = addr; bytes = bytes_of bytes }))) refl
+guest_keeps (hostile.Look addr len) d = refl
+guest_keeps (hostile.Around line) d = refl
+
+pub writes_keep : (line : Hostile) (d e : Side) (s : DeviceState) → e ≡ guest_writes line d → IsItsRing (chains_held d) s
+    → IsItsRing (chains_held e) s
+writes_keep line d e s is ring =
+    let same : chains_held d ≡ chains_held e = sym (guest_keeps line d) ∙ ap (λ (x : Side). chains_held x) (sym is) in
+    subst (λ (held : List Chain). IsItsRing held s) same ring

@@ -6,3 +6,4 @@ pub mod Answer
 pub mod Rows
 pub mod Whole
 pub mod Ready
+pub mod Rings

@@ -4,6 +4,8 @@
 
 pub mod guest;
 pub mod host_lines;
+pub mod lines;
+pub mod rings;
 pub mod turns;
 pub mod whole;
 pub mod worked;
