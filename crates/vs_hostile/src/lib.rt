@@ -5,6 +5,7 @@
 pub mod guest;
 pub mod host_lines;
 pub mod lines;
+pub mod report;
 pub mod rings;
 pub mod turns;
 pub mod whole;
