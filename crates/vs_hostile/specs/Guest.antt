@@ -1,5 +1,5 @@
 -- What a hostile guest does to the memory of the device's rings (Virtio 1.2, section 2.7).
-use Rattle.std.specs.Prelude.{ℕ, nat_lt, ◌&&◌, List, ◌++◌, length, if◌then◌else◌}
+use Rattle.std.specs.Prelude.{ℕ, nat_lt, ◌&&◌, List, [], ◌++◌, length, if◌then◌else◌}
 use Rattle.byteorder.specs.Endian.{little_bytes}
 use Rattle.vs_guest_mem.specs.Memory.{Memory, after_write, bytes_at, is_inside}
 use Rattle.vs_header.specs.Packet.{header_bytes}
@@ -32,3 +32,7 @@ guest_writes (Index queue value) d = poked (avail_idx (areas_at queue d.areas)).
 guest_writes (Packet addr header bytes) d = poked addr (header_bytes header ++ bytes_of bytes) d
 guest_writes (Before nth addr bytes) d = planned nth addr (bytes_of bytes) d
 guest_writes _ d = d
+
+-- The bytes of the memory that a line shows. Those that don't all lie in it no script shows.
+abbrev pub looked : ℕ → ℕ → DeviceState → List ℕ
+looked addr len d = if is_inside d.memory addr len then bytes_at d.memory addr len else []

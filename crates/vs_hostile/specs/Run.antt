@@ -1,8 +1,8 @@
 -- A hostile guest's run: each line of its script, what it answers, and the report at the end.
-use Rattle.std.specs.Prelude.{ℕ, ◌+◌, min, Bool, false, true, List, [], ◌∷◌, length, map, Option, None, Some, Result, Ok, Err, codes}
+use Rattle.std.specs.Prelude.{ℕ, ◌+◌, ◌&&◌, nat_le, min, if◌then◌else◌, Bool, false, true, List, [], ◌∷◌, length, map, Option, None, Some, Result, Ok, Err, codes}
 use Rattle.vs_contents.specs.CallTree.{played}
 use Rattle.vs_flow.specs.declared.flow.Flow.{Flow}
-use Rattle.vs_guest_mem.specs.Memory.{Memory, bytes_at, zeroed}
+use Rattle.vs_guest_mem.specs.Memory.{Memory, zeroed}
 use Rattle.vs_layout.specs.Layout.{queue_areas_of}
 use Rattle.vs_outside.specs.Host.{HostContents, with_stream}
 use Rattle.vs_outside.specs.HostProgram.{after_listen, after_unlisten, after_client, after_host_write, host_write_answer, has_stream, allowed, ended, closed, after_fail, new_host, plain}
@@ -18,7 +18,7 @@ use Rattle.vs_script.specs.Hostile.{Hostile, Memory as SetMemory, Rings as SetRi
 use Rattle.vs_script.specs.Outside.{Host, HostListen, HostUnlisten, HostWrite, HostAllow, HostEnd, HostClosed, HostFail, Outside, Turn as TakeTurn, Reset, Tick, Client, OfHost}
 use Rattle.vs_hostile.specs.Answers.{Around, answer_around}
 use Rattle.vs_script.specs.Data.{bytes_of}
-use Rattle.vs_hostile.specs.Guest.{guest_writes}
+use Rattle.vs_hostile.specs.Guest.{guest_writes, looked}
 
 -- The guest's memory as far as the script has set it up.
 pub data GuestState : Type 0 where
@@ -52,30 +52,27 @@ over tree said ring s =
     let r = played answer_around tree (record { ring = ring; host = s.host }) in
     (record s { guest = HasRings r.1.ring; proxy = r.0.0; host = r.1.host }, said r.0.1)
 
--- The host's programs.
-abbrev pub by_host : (HostContents → HostContents) → Said → HostileState → HostileState × Said
-by_host f said s = (record s { host = f s.host }, said)
+-- What the host's programs do.
+abbrev pub host_does : Host → HostContents → HostContents × Said
+host_does (HostListen port) h = (after_listen port h, Done)
+host_does (HostUnlisten port) h = (after_unlisten port h, Done)
+host_does (HostWrite stream content) h = let a = host_write_answer stream h in (after_host_write stream (bytes_of content) a h, Wrote a)
+host_does (HostAllow stream n) h = (with_stream stream (allowed 18446744073709551615 n) h, IsThere (has_stream stream h))
+host_does (HostEnd stream) h = (with_stream stream ended h, IsThere (has_stream stream h))
+host_does (HostClosed stream) h = (with_stream stream closed h, IsThere (has_stream stream h))
+host_does (HostFail n) h = (after_fail n h, Done)
 
-abbrev pub host_does : Host → HostileState → HostileState × Said
-host_does (HostListen port) s = by_host (after_listen port) Done s
-host_does (HostUnlisten port) s = by_host (after_unlisten port) Done s
-host_does (HostWrite stream content) s =
-    let bytes = bytes_of content in let a = host_write_answer stream s.host in by_host (after_host_write stream bytes a) (Wrote a) s
-host_does (HostAllow stream n) s = by_host (with_stream stream (allowed 18446744073709551615 n)) (IsThere (has_stream stream s.host)) s
-host_does (HostEnd stream) s = by_host (with_stream stream ended) (IsThere (has_stream stream s.host)) s
-host_does (HostClosed stream) s = by_host (with_stream stream closed) (IsThere (has_stream stream s.host)) s
-host_does (HostFail n) s = by_host (after_fail n) Done s
-
+-- A line on what surrounds the guest. The moment stands still at the last of its type. A CID is 3 to 4,294,967,294 in all scripts.
 abbrev pub outside_does : Outside → DeviceState → HostileState → HostileState × Said
 outside_does TakeTurn ring s = over (turn_of ring.size s.now s.proxy) (λ t. HasTurned t) ring s
-outside_does (Reset cid) ring s = over (proxy_reset_of cid s.proxy) (λ r. WasReset r) ring s
+outside_does (Reset cid) ring s = if nat_le 3 cid && nat_le cid 4294967294 then over (proxy_reset_of cid s.proxy) (λ r. WasReset r) ring s else (s, Done)
 outside_does (Tick ms) ring s = (record s { now = min 18446744073709551615 (s.now + ms) }, Done)
-outside_does Client ring s = by_host after_client (StreamIs (length s.host.streams + 1)) s
-outside_does (OfHost line) ring s = host_does line s
+outside_does Client ring s = (record s { host = after_client s.host }, StreamIs (length s.host.streams + 1))
+outside_does (OfHost line) ring s = let r = host_does line s.host in (record s { host = r.0 }, r.1)
 
 -- A line once the rings are there.
 abbrev pub over_rings : Hostile → DeviceState → HostileState → HostileState × Said
-over_rings (Look addr len) ring s = (s, Bytes (bytes_at ring.memory addr len))
+over_rings (Look addr len) ring s = (s, Bytes (looked addr len ring))
 over_rings (OfOutside line) ring s = outside_does line ring s
 over_rings line ring s = (with_guest (HasRings (guest_writes line ring)) s, Done)
 

@@ -3,4 +3,10 @@
 #![tactic(auto)]
 
 pub mod guest;
+pub mod host_lines;
+pub mod lines;
+pub mod report;
+pub mod rings;
+pub mod turns;
+pub mod whole;
 pub mod worked;

@@ -1,0 +1,81 @@
+-- What a hostile guest's script prints, and the status that it ends with, as a function of its bytes.
+use Rattle.std.specs.Prelude.{ℕ, List, [], ◌∷◌, ◌++◌, length, map, codes, decimal, Option, Some, None, Result, Ok, Err}
+use Rattle.vs_outside.specs.Host.{Stream}
+use Rattle.vs_proxy.specs.declared.answers.Turn.{Turn}
+use Rattle.vs_proxy.specs.declared.answers.Turn.TheVariants as turn
+use Rattle.vs_report.specs.Bytes.{data_text}
+use Rattle.vs_report.specs.DeviceLines.{failure_text, turned_text, reset_text}
+use Rattle.vs_report.specs.HostLines.{ok_text, client_text, write_text, stream_there_text}
+use Rattle.vs_report.specs.Report.{device_open_text, stream_texts}
+use Rattle.vs_ring_port.specs.declared.failure.Failure.{Failure}
+use Rattle.vs_script.specs.Fault.{refused_text}
+use Rattle.vs_script.specs.Hostile.{Hostile}
+use Rattle.vs_script.specs.Script.{Saying, Attacks, parse_of}
+use Rattle.vs_script.specs.declared.fault.Refused.{Refused}
+use Rattle.vs_script.specs.declared.script.Command.TheVariants as command
+use Rattle.vs_hostile.specs.Run.{HostileState, Said, Done, Bytes, HasTurned, WasReset, StreamIs, Wrote, IsThere, beginning, hostile_does}
+
+-- What a turn prints.
+abbrev pub turn_text : Turn → List ℕ
+turn_text (turn.Turned t) = turned_text t.took t.put t.read t.wrote t.opened t.closed
+turn_text (turn.Failed f) = failure_text f
+
+-- What a line prints.
+abbrev pub looked_text : List ℕ → List ℕ
+looked_text bytes = codes "bytes " ++ data_text bytes ++ codes "\n"
+
+abbrev pub said_text : Said → List ℕ
+said_text Done = ok_text
+said_text (Bytes bytes) = looked_text bytes
+said_text (HasTurned t) = turn_text t
+said_text (WasReset r) = reset_text r
+said_text (StreamIs n) = client_text n
+said_text (Wrote answer) = write_text answer
+said_text (IsThere found) = stream_there_text found
+
+-- What lines lead to, and what they print.
+abbrev pub state_after : List Hostile → HostileState → HostileState
+state_after [] s = s
+state_after (line ∷ lines) s = state_after lines (hostile_does line s).0
+
+abbrev pub texts_of : List Hostile → HostileState → List (List ℕ)
+texts_of [] s = []
+texts_of (line ∷ lines) s = let r = hostile_does line s in said_text r.1 ∷ texts_of lines r.0
+
+-- The report: how many entries the device's table has, what each stream's program wrote and read, and what was counted.
+abbrev pub counted_text : ℕ → ℕ → ℕ → List ℕ
+counted_text dropped overrun faults =
+    codes "dropped " ++ decimal dropped ++ codes " overrun " ++ decimal overrun ++ codes " faults " ++ decimal faults ++ codes "\n"
+
+abbrev pub report_texts : HostileState → List (List ℕ)
+report_texts s =
+    device_open_text (length s.proxy.device.table.entries)
+    ∷ (stream_texts 1 s.host.streams ++ counted_text s.proxy.device.dropped s.proxy.device.overrun s.proxy.device.faults ∷ [])
+
+-- The status is 7 where the device failed.
+abbrev pub status_of : Option Failure → ℕ
+status_of None = 0
+status_of (Some f) = 7
+
+-- An answer: the lines that are printed, each with its LF, and the status.
+pub record Answer : Type 0 where
+  pub lines : List (List ℕ)
+  pub status : ℕ
+
+-- What lines print from there on.
+abbrev pub printed : List Hostile → HostileState → Answer
+printed lines s =
+    let last = state_after lines s in
+    record { lines = texts_of lines s ++ report_texts last; status = status_of last.proxy.device.failed }
+
+abbrev pub refusal : Refused → Answer
+refusal r = record { lines = (refused_text r ++ codes "\n") ∷ []; status = 2 }
+
+abbrev pub answer_to : Result Saying Refused → Answer
+answer_to (Ok (Attacks lines)) = printed (map (λ l. l.1) lines) beginning
+answer_to (Ok _) = record { lines = []; status = 0 }
+answer_to (Err r) = refusal r
+
+-- The answer of the script that a text spells.
+abbrev pub hostile_of : List ℕ → Answer
+hostile_of script = answer_to (parse_of command.Hostile script)

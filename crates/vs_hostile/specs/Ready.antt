@@ -1,0 +1,46 @@
+-- What a run holds between two lines, and what it is for a line to be run.
+use Rattle.std.specs.Prelude.{◌≡◌, ℕ, false, List, [], ◌++◌, Some, None}
+use Rattle.vs_outside.specs.Host.{HostContents}
+use Rattle.vs_ring_port.specs.Contents.{RingContents}
+use Rattle.vs_ring_port.specs.declared.device_ring.Chain.{Chain}
+use Rattle.vs_ring_plain.specs.Device.{DeviceState, chains_held}
+use Rattle.vs_device.specs.Playing.{IsItsRing, situation}
+use Rattle.vs_proxy.specs.State.{ProxyState}
+use Rattle.vs_proxy_log.specs.Order.{IsInOrder}
+use Rattle.vs_script.specs.Hostile.{Hostile}
+use Rattle.vs_script.specs.Outside.{Host}
+use Rattle.vs_hostile.specs.Answer.{said_text}
+use Rattle.vs_hostile.specs.Run.{GuestState, Nothing, HasMemory, HasRings, HostileState, hostile_does, host_does}
+
+abbrev pub held_in : GuestState → List Chain
+held_in Nothing = []
+held_in (HasMemory memory) = []
+held_in (HasRings ring) = chains_held ring
+
+-- A ring that tells nothing.
+abbrev pub silent : RingContents
+silent = record { lists = None; log = None; other = None; plain = None; honest = false }
+
+-- The proxy has its streams on that host.
+abbrev pub IsServing : ProxyState → HostContents → Type 0
+IsServing p host = IsInOrder 3 p (situation silent (Some host) 0)
+
+-- The chains that are held are the device's, and it has its streams.
+pub record IsReady (s : HostileState) : Type 0 where
+  pub ring : IsItsRing (held_in s.guest) s.proxy.device
+  pub serving : IsServing s.proxy s.host
+
+-- A line was run: the state is the one that it leads to, its text stands behind what stood there, and the next line may be run.
+pub record Steps (line : Hostile) (old new : HostileState) (text text' : List ℕ) : Type 0 where
+  pub state : new ≡ (hostile_does line old).0
+  pub printed : text' ≡ text ++ said_text (hostile_does line old).1
+  pub ready : IsReady new
+
+-- A line on the host's programs was run.
+pub record HostSteps (line : Host) (old new : HostContents) (text text' : List ℕ) : Type 0 where
+  pub host : new ≡ (host_does line old).0
+  pub printed : text' ≡ text ++ said_text (host_does line old).1
+
+-- The rings, the proxy, the host and the moment.
+abbrev pub with_rings : DeviceState → ProxyState → HostContents → ℕ → HostileState
+with_rings ring proxy host now = record { guest = HasRings ring; proxy = proxy; host = host; now = now }
