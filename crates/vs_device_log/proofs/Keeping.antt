@@ -1,6 +1,9 @@
 -- What a conversation keeps of its ring: what holds at each of its ends, where each of its calls on the ring may be made.
-use Rattle.std.proofs.Common.{◌≡◌, ℕ, zero, suc, ◌<◌, ◌≤◌, length, Bool, true, false, List, [], ◌∷◌, subst}
+use Rattle.std.proofs.Common.{◌≡◌, ℕ, zero, suc, ◌<◌, ◌≤◌, length, Bool, true, false, List, [], ◌∷◌, Contains, subst}
+use Rattle.std.specs.Option.{ForSome}
 use Rattle.vs_contents.specs.CallTree.{Done, Ask, bind, for_each, while_up_to}
+use Rattle.vs_ring_port.specs.Chains.{chains_of}
+use Rattle.vs_ring_port.specs.declared.device_ring.Chain.{Chain}
 use Rattle.vs_ring_port.specs.Contents.{RingContents, DeviceCall, Take, Read, Write, Return, Given, PublishCid}
 use Rattle.vs_ring_port.specs.DeviceCalls.{CanReturn, DeviceAllows, LeavesNoGap}
 use Rattle.vs_device.specs.Calls.{Call, Answer, Ring, Accept, Dial, Label, ReadStream, WriteStream, ShutWrite, CloseStream, DeviceTree}
@@ -8,10 +11,14 @@ use Rattle.vs_device.specs.Calls.{Situation, Allows, IsFitAnswer, TakesWithin}
 use Rattle.vs_device.specs.Playing.{Runs}
 use Rattle.vs_device_laws.specs.Split.{CanPut, MayPut}
 
--- What the ring asks of a call, and what the call leaves of it.
+-- The chain is among those that are held.
+abbrev pub HoldsChain : Chain → RingContents → Type 0
+HoldsChain chain c = ForSome c.log (λ l. Contains (chains_of l.held) chain)
+
+-- What the ring asks of a call, and what the call leaves of it. A chain that is returned is held.
 abbrev pub Can : Call → RingContents → Type 0
 Can (Ring (Write chain place bytes)) c = LeavesNoGap chain place c
-Can (Ring (Return chain len)) c = 0 < len → CanReturn chain len c
+Can (Ring (Return chain len)) c = (0 < len → CanReturn chain len c) × HoldsChain chain c
 Can _ c = Unit {0}
 
 abbrev pub Moves : (call : Call) → Answer call → RingContents → RingContents → Type 0
@@ -22,7 +29,7 @@ can_ring : (call : DeviceCall) (s : Situation) → Can (Ring call) s.ring → Ca
 can_ring (Take queue) s can = tt
 can_ring (Read chain place count) s can = tt
 can_ring (Write chain place bytes) s can = can
-can_ring (Return chain len) s can = can
+can_ring (Return chain len) s can = can.0
 can_ring (Given queue) s can = tt
 can_ring (PublishCid cid) s can = tt
 
@@ -36,7 +43,7 @@ can_make (WriteStream stream bytes) s can = tt
 can_make (ShutWrite stream) s can = tt
 can_make (CloseStream stream) s can = tt
 
-moved : (call : Call) (a : Answer call) (s t : Situation) → Allows call a s t → Moves call a s.ring t.ring
+pub moved : (call : Call) (a : Answer call) (s t : Situation) → Allows call a s t → Moves call a s.ring t.ring
 moved (Ring call) a s t allowed = allowed.0
 moved Accept a s t allowed = allowed.ring
 moved (Dial path flow) a s t allowed = allowed.ring
@@ -53,7 +60,7 @@ IsFit (ReadStream stream n) a = length a.1 ≤ n
 IsFit (WriteStream stream bytes) a = TakesWithin (length bytes) a
 IsFit _ a = Unit {0}
 
-fitted : (call : Call) (a : Answer call) (s t : Situation) → Allows call a s t → IsFit call a
+pub fitted : (call : Call) (a : Answer call) (s t : Situation) → Allows call a s t → IsFit call a
 fitted (Ring call) a s t allowed = allowed.3
 fitted Accept a s t allowed = tt
 fitted (Dial path flow) a s t allowed = tt

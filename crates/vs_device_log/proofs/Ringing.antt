@@ -1,5 +1,5 @@
 -- What a call on a ring that tells its log keeps.
-use Rattle.std.proofs.Common.{◌≡◌, ℕ, ◌+◌, ◌≤◌, Bool, true, cond, List, [], ◌∷◌, ◌++◌, length, take, drop, Option, Some, None, refl, sym}
+use Rattle.std.proofs.Common.{◌≡◌, ℕ, ◌+◌, ◌≤◌, Bool, true, cond, List, [], ◌∷◌, ◌++◌, Contains, length, take, drop, Option, Some, None, refl, sym}
 use Rattle.std.proofs.Common.{ap, subst, ◌∙◌, arith, length-append}
 use Rattle.std.proofs.lemmas.Bool.Decides.{nat_tests}
 use Rattle.std.proofs.lemmas.List.{take_at}
@@ -8,7 +8,7 @@ use Rattle.vs_contents.specs.Contents.{Exposes}
 use Rattle.vs_page.specs.Fair.{IsFairLog}
 use Rattle.vs_page.specs.Log.{Device}
 use Rattle.vs_page.specs.Overwriting.{overwritten}
-use Rattle.vs_ring_port.specs.Chains.{Held, bytes_in, same_chain, same_queue, with_bytes, without_held}
+use Rattle.vs_ring_port.specs.Chains.{Held, bytes_in, chains_of, same_chain, same_queue, with_bytes, without_held}
 use Rattle.vs_ring_port.specs.Contents.{RingContents, DeviceCall, DeviceAnswer}
 use Rattle.vs_ring_port.specs.DeviceCalls.{DeviceMoves}
 use Rattle.vs_ring_port.specs.EndLog.{EndLog, entries_returned, log_returned, log_written}
@@ -52,6 +52,12 @@ same_self c = let q = by c.queue in grind (arith, nat_tests, q)
 -- The chain that was taken last, its bytes so far, and those held before.
 abbrev pub HoldsFirst : Chain → List ℕ → List Held → EndLog → Type 0
 HoldsFirst chain bytes others l = l.held ≡ record { chain = chain; bytes = bytes } ∷ others
+
+-- It is held.
+pub first_there : (chain : Chain) (bytes : List ℕ) (others : List Held) (l : EndLog) → HoldsFirst chain bytes others l
+    → Contains (chains_of l.held) chain
+first_there chain bytes others l is =
+    subst (λ (held : List Held). Contains (chains_of held) chain) (sym is) (0, omega arith, refl)
 
 pub first_bytes : (chain : Chain) (bytes : List ℕ) (others : List Held) → bytes_in chain
     (record { chain = chain; bytes = bytes } ∷ others) ≡ bytes

@@ -40,7 +40,7 @@ use Rattle.vs_device.specs.Transmitting.{failing, on_header, on_next, on_packet,
 use Rattle.vs_device_log.specs.Honest.{IsLeft, IsToldOf, IsWith, unwritten}
 use Rattle.vs_device_log.proofs.Hearing.{After, Came, Heard, IsCome, packet_keeps}
 use Rattle.vs_device_log.proofs.Keeping.{Keeps, keeps_then}
-use Rattle.vs_device_log.proofs.Ringing.{HoldsFirst, Tells, bytes_held, moves, returned_entries, returned_held, tells_weaker}
+use Rattle.vs_device_log.proofs.Ringing.{HoldsFirst, Tells, bytes_held, first_there, moves, returned_entries, returned_held, tells_weaker}
 
 -- A header that is read of bytes fits its fields.
 moved : (n : ℕ) (xs : List ℕ) → ((i : ℕ) → slice_index xs i < 256) → (i : ℕ) → slice_index (drop n xs) i < 256
@@ -179,7 +179,7 @@ module _ (first port : ℕ) (s : DeviceState) where
     returns : (h : Header) (wire : FitsWire h) → IfSome s.chain IsRxChain → s.failed ≡ None → (x : DeviceState × Verdict) (c : RingContents)
         → Heard first port s chain h wire x c → Keeps TakeEnds (Ask (Ring (Return chain 0)) (λ _. Done (x.0, taken.Packet x.1))) c
     returns h wire rx going x c (failed, chain_is, tells) = (
-      λ less. absurd (omega (arith, less)),
+      (λ less. absurd (omega (arith, less)), λ l is. let was = tells l is in first_there chain was.0 (unwritten x.0.chain) l was.1),
       λ a d fit made. (
         subst (λ (o : Option Chain). IfSome o IsRxChain) (sym chain_is) rx,
         moves _ _ _ _ _ (log_returned chain 0) c d made.1 (After first port s chain h wire x.0) (IsToldOf first port x.0)

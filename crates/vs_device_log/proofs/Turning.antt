@@ -46,7 +46,7 @@ use Rattle.vs_device_log.specs.Honest.{unwritten}
 use Rattle.vs_device_log.proofs.Changing.{cuts, shuts, unseen, writes}
 use Rattle.vs_device_log.proofs.Filling.{under_there}
 use Rattle.vs_device_log.proofs.Keeping.{Keeps, keeps_each, keeps_then}
-use Rattle.vs_device_log.proofs.Ringing.{Tells, bytes_held, moves, returned_entries, returned_held, tells_weaker}
+use Rattle.vs_device_log.proofs.Ringing.{Tells, bytes_held, first_there, moves, returned_entries, returned_held, tells_weaker}
 use Rattle.vs_device_log.proofs.Steps.{changed, closing_keeps}
 use Rattle.vs_device_log.proofs.Tabling.{IsFitConnection, entry_fits, opening_fits}
 use Rattle.vs_device_log.proofs.Writing.{Writes, write_keeps}
@@ -154,14 +154,17 @@ module _ (first port : ℕ) where
         → Tells (Writes first port s chain event (unwritten s.chain)) c
         → Keeps PayEnds (Ask (Ring (Return chain 4)) (λ _. Done (record s { event_owed = false }, Ok true))) c
     event_returned chain queue room rx c tells = (
-      λ some. record {
-        room = room;
-        written = λ l is. subst (λ (b : List ℕ). 4 ≤ length b) (sym (bytes_held chain event (unwritten s.chain) l (tells l is).0))
-            (omega arith);
-        whole = λ honest l is.
-            subst (λ (q : Queue). IsWholePacket q (take 4 (bytes_in chain l.held)) l) (sym queue)
-            (subst (λ (b : List ℕ). length (take 4 b) ≡ 4) (sym (bytes_held chain event (unwritten s.chain) l (tells l is).0)) refl);
-      },
+      (
+        λ some. record {
+          room = room;
+          written = λ l is. subst (λ (b : List ℕ). 4 ≤ length b) (sym (bytes_held chain event (unwritten s.chain) l (tells l is).0))
+              (omega arith);
+          whole = λ honest l is.
+              subst (λ (q : Queue). IsWholePacket q (take 4 (bytes_in chain l.held)) l) (sym queue)
+              (subst (λ (b : List ℕ). length (take 4 b) ≡ 4) (sym (bytes_held chain event (unwritten s.chain) l (tells l is).0)) refl);
+        },
+        λ l is. first_there chain event (unwritten s.chain) l (tells l is).0,
+      ),
       λ a d fit made. (
         rx,
         moves _ _ _ _ _ (log_returned chain 4) c d made.1 (Writes first port s chain event (unwritten s.chain)) (IsToldOf first port s)

@@ -28,7 +28,7 @@ use Rattle.vs_device.specs.State.{DeviceState}
 use Rattle.vs_device_log.specs.Honest.{AgreesWith, IsFitState, IsToldOf, IsWith, ends_of_state, unwritten}
 use Rattle.vs_device_log.proofs.Keeping.{Keeps}
 use Rattle.vs_device_log.proofs.Putting.{Puts}
-use Rattle.vs_device_log.proofs.Ringing.{HoldsFirst, Tells, both_written, bytes_held, moves, one_written, overwritten_long}
+use Rattle.vs_device_log.proofs.Ringing.{HoldsFirst, Tells, both_written, bytes_held, first_there, moves, one_written, overwritten_long}
 use Rattle.vs_device_log.proofs.Ringing.{returned_entries, returned_held, written_held}
 
 module _ (first port : ℕ) (s : DeviceState) where
@@ -102,7 +102,7 @@ module _ (first port : ℕ) (s : DeviceState) where
         → t.chain ≡ None → Tells (Writes chain bytes []) c → ((d : RingContents) → Tells (IsToldOf first port t) d → Keeps Q next d)
         → Keeps Q (Ask (Ring (Return chain len)) (λ _. next)) c
     return_keeps Q next c room long none tells then = (
-      λ some. can_return c room long tells,
+      (λ some. can_return c room long tells, λ l is. first_there chain bytes [] l (tells l is).0),
       λ a d fit made. then d (moves _ _ _ _ _ (log_returned chain len) c d made.1 (Writes chain bytes []) (IsToldOf first port t)
           (λ hon l asked was fair. returned none hon l was) tells),
     )

@@ -1,43 +1,54 @@
 -- A call of the guest's is a line of the play.
-use Rattle.std.proofs.Common.{◌≡◌, ℕ, ◌+◌, min, List, [], ◌++◌, refl, sym, ap, subst, ◌∙◌}
+use Rattle.std.proofs.Common.{◌≡◌, ℕ, ◌+◌, min, List, [], ◌++◌, Result, refl, sym, ap, subst, ◌∙◌}
 use Rattle.vs_ring_list.specs.Ends.{Ends, empty_ends}
 use Rattle.vs_driver_parts.specs.State.{DriverState}
 use Rattle.vs_contents.specs.CallTree.{Done}
-use Rattle.vs_driver_parts.specs.Conversations.{new_of, poll_of}
+use Rattle.vs_driver_parts.specs.Conversations.{DriverTree, new_of, poll_of}
 use Rattle.vs_driver_parts.specs.declared.limits.TheConstants.{FIRST_PORT}
 use Rattle.vs_driver_parts.specs.declared.answers.Polled.{Polled}
 use Rattle.vs_outside.specs.Host.{HostContents}
 use Rattle.vs_outside.specs.HostProgram.{HostMemory, new_host, plain}
 use Rattle.vs_report.specs.GuestLines.{poll_text}
 use Rattle.vs_report.specs.HostLines.{ok_text}
-use Rattle.vs_script.specs.Outside.{Tick}
+use Rattle.vs_script.specs.Outside.{Reset, Tick, Turn}
+use Rattle.vs_ring_port.specs.declared.failure.Failure.{Failure}
+use Rattle.vs_proxy.specs.declared.answers.Turn as answers
+use Rattle.vs_report.specs.DeviceLines.{reset_text}
 use Rattle.vs_script.specs.Play.{Event, Poll, Around}
 use Rattle.vs_world.specs.GuestSteps.{makes_call}
 use Rattle.vs_world.specs.Calls.{GuestCall, ReplyTo}
 use Rattle.vs_world.specs.Plays.{Guest, whole_call}
 use Rattle.vs_proxy.specs.State.{ProxyState}
-use Rattle.vs_proxy.specs.Turns.{new_proxy}
+use Rattle.vs_proxy.specs.Turns.{new_proxy, proxy_reset_of, turn_of}
 use Rattle.vs_play.specs.Answer.{base_path, opened_play}
-use Rattle.vs_play.specs.Lines.{event_played, played_line, reply_text}
-use Rattle.vs_play.specs.Ready.{IsDriven, IsReady, PlayState, Plays, over_lists, shown, world_in}
+use Rattle.vs_play.specs.Lines.{event_played, played_line, reply_text, turn_text}
+use Rattle.vs_play.proofs.Served.{StayOpen, served_host, served_rings}
+use Rattle.vs_play.specs.Ready.{IsDriven, IsReady, IsServed, PlayState, Plays, over_both, over_lists, shown, world_in}
 
 -- The play once its driver made a call.
 abbrev pub with_driver : PlayState → DriverState → Ends → PlayState
 with_driver p s e = record p { driver = s; rings = e }
 
+-- What a conversation of the driver's leaves.
+device_stays : {A : Type 0} (tree : DriverTree A) (v w : Ends) (x : A) → over_lists tree v ≡ (x, w) → w.device ≡ v.device
+device_stays {A} tree v w x played = sym (ap (λ (r : A × Ends). r.1.device) played)
+
 -- A call of the driver's over the rings.
 pub guest_plays : (said : Event) (c : GuestCall) (p : PlayState) (s : DriverState) (reply : ReplyTo c) (e : Ends) (text text' : List ℕ)
     → event_played said (world_in p) ≡ played_line (Guest c) (world_in p)
     → over_lists (whole_call c p.driver) p.rings ≡ ((s, reply), e)
-    → IsDriven s e → text' ≡ text ++ reply_text c reply s
+    → IsReady p → IsDriven s e → text' ≡ text ++ reply_text c reply s
     → Plays said p (with_driver p s e) text text'
-guest_plays said c p s reply e text text' means played driven printed =
+guest_plays said c p s reply e text text' means played ready driven printed =
     let F : (DriverState × ReplyTo c) × Ends → PlayState × List ℕ = λ r. (with_driver p r.0.0 r.1, reply_text c r.0.1 r.0.0) in
     let whole : (shown (played_line (Guest c) (world_in p)).0, (played_line (Guest c) (world_in p)).1) ≡ (with_driver p s e, reply_text c reply s) = ap F played in
     record {
       world = sym (ap (λ r. shown r.0) means ∙ ap (λ r. r.0) whole);
       printed = printed ∙ ap (λ t. text ++ t) (sym (ap (λ r. r.1) means ∙ ap (λ r. r.1) whole));
-      ready = record { driven = driven };
+      ready = record {
+        driven = driven;
+        served = served_rings p.proxy p.rings e p.host (device_stays (whole_call c p.driver) p.rings e (s, reply) played) ready.served;
+      };
     }
 
 -- A call without the rings.
@@ -45,37 +56,89 @@ pub call_plays : (said : Event) (c : GuestCall) (p : PlayState) (s : DriverState
     → event_played said (world_in p) ≡ played_line (Guest c) (world_in p)
     → whole_call c p.driver ≡ makes_call c p.driver
     → makes_call c p.driver ≡ Done (s, reply)
-    → IsDriven s p.rings → text' ≡ text ++ reply_text c reply s
+    → IsReady p → IsDriven s p.rings → text' ≡ text ++ reply_text c reply s
     → Plays said p (with_driver p s p.rings) text text'
-call_plays said c p s reply text text' means whole made driven printed =
-    guest_plays said c p s reply p.rings text text' means (ap (λ t. over_lists t p.rings) (whole ∙ made)) driven printed
+call_plays said c p s reply text text' means whole made ready driven printed =
+    guest_plays said c p s reply p.rings text text' means (ap (λ t. over_lists t p.rings) (whole ∙ made)) ready driven printed
 
 -- A poll.
 pub poll_plays : (p : PlayState) (s : DriverState) (polled : Polled) (e : Ends) (text text' : List ℕ)
     → over_lists (poll_of p.driver) p.rings ≡ ((s, polled), e)
-    → IsDriven s e → text' ≡ text ++ poll_text polled
+    → IsReady p → IsDriven s e → text' ≡ text ++ poll_text polled
     → Plays Poll p (with_driver p s e) text text'
-poll_plays p s polled e text text' played driven printed =
+poll_plays p s polled e text text' played ready driven printed =
     let F : (DriverState × Polled) × Ends → PlayState × List ℕ = λ r. (with_driver p r.0.0 r.1, poll_text r.0.1) in
     let whole : (shown (event_played Poll (world_in p)).0, (event_played Poll (world_in p)).1) ≡ (with_driver p s e, poll_text polled) = ap F played in
     record {
       world = sym (ap (λ r. r.0) whole);
       printed = printed ∙ ap (λ t. text ++ t) (sym (ap (λ r. r.1) whole));
-      ready = record { driven = driven };
+      ready = record {
+        driven = driven;
+        served = served_rings p.proxy p.rings e p.host (device_stays (poll_of p.driver) p.rings e (s, polled) played) ready.served;
+      };
     }
 
 -- What the host's programs do.
 pub host_plays : (said : Event) (f : HostContents → HostContents) (t : List ℕ) (p : PlayState) (old new : HostMemory) (text text' : List ℕ)
     → shown (event_played said (world_in p)).0 ≡ record p { host = f p.host } → (event_played said (world_in p)).1 ≡ t
     → p.host ≡ old.contents → new ≡ record old { contents = f old.contents }
-    → IsReady p → text' ≡ text ++ t
+    → StayOpen p.host (f p.host) → IsReady p → text' ≡ text ++ t
     → Plays said p (record p { host = new.contents }) text text'
-host_plays said f t p old new text text' world answer held is ready printed =
+host_plays said f t p old new text text' world answer held is opens ready printed =
     let h : new.contents ≡ f p.host = ap (λ m. m.contents) is ∙ ap f (sym held) in
     record {
       world = sym (world ∙ ap (λ (x : HostContents). record p { host = x }) (sym h));
       printed = printed ∙ ap (λ x. text ++ x) (sym answer);
-      ready = record { driven = ready.driven };
+      ready = record {
+        driven = ready.driven;
+        served = subst (λ (x : HostContents). IsServed p.proxy p.rings x) (sym h) (served_host p.proxy p.rings p.host (f p.host) opens ready.served);
+      };
+    }
+
+-- A turn and a transport reset.
+abbrev pub with_device : PlayState → ProxyState → Ends → HostContents → PlayState
+with_device p s e h = record p { proxy = s; rings = e; host = h }
+
+pub turn_plays : (p : PlayState) (s : ProxyState) (t : answers.Turn) (e : Ends) (h : HostContents) (text text' : List ℕ)
+    → over_both (turn_of p.rings.lists.size p.moment p.proxy) p.rings p.host ≡ ((s, t), (e, h))
+    → IsServed s e h → IsDriven p.driver e → text' ≡ text ++ turn_text t
+    → Plays (Around Turn) p (with_device p s e h) text text'
+turn_plays p s t e h text text' played served driven printed =
+    let F : (ProxyState × answers.Turn) × (Ends × HostContents) → PlayState × List ℕ = λ r. (with_device p r.0.0 r.1.0 r.1.1, turn_text r.0.1) in
+    let whole : (shown (event_played (Around Turn) (world_in p)).0, (event_played (Around Turn) (world_in p)).1) ≡ (with_device p s e h, turn_text t) =
+    ap F played in
+    record {
+      world = sym (ap (λ r. r.0) whole);
+      printed = printed ∙ ap (λ x. text ++ x) (sym (ap (λ r. r.1) whole));
+      ready = record { driven = driven; served = served };
+    }
+
+-- The clock tells the moment, and stays.
+pub turn_at_plays : (p : PlayState) (now moment : ℕ) (s : ProxyState) (t : answers.Turn) (e : Ends) (h : HostContents) (text text' : List ℕ)
+    → now ≡ p.moment → moment ≡ p.moment
+    → over_both (turn_of p.rings.lists.size now p.proxy) p.rings p.host ≡ ((s, t), (e, h))
+    → IsServed s e h → IsDriven p.driver e → text' ≡ text ++ turn_text t
+    → Plays (Around Turn) p (record (with_device p s e h) { moment = moment }) text text'
+turn_at_plays p now moment s t e h text text' at still played served driven printed =
+    let this : over_both (turn_of p.rings.lists.size p.moment p.proxy) p.rings p.host ≡ ((s, t), (e, h)) =
+    subst (λ (n : ℕ). over_both (turn_of p.rings.lists.size n p.proxy) p.rings p.host ≡ ((s, t), (e, h))) at played in
+    subst (λ (m : ℕ). Plays (Around Turn) p (record (with_device p s e h) { moment = m }) text text') (sym still)
+    (turn_plays p s t e h text text' this served driven printed)
+
+pub reset_plays : (cid : ℕ) (p : PlayState) (s : ProxyState) (t : Result (Unit {0}) Failure) (e : Ends) (h : HostContents) (text text' : List ℕ)
+    → over_both (proxy_reset_of cid p.proxy) p.rings p.host ≡ ((s, t), (e, h))
+    → IsServed s e h → IsDriven p.driver e → text' ≡ text ++ reset_text t
+    → Plays (Around (Reset cid)) p (with_device p s e h) text text'
+reset_plays cid p s t e h text text' played served driven printed =
+    let F : (ProxyState × Result (Unit {0}) Failure) × (Ends × HostContents) → PlayState × List ℕ =
+    λ r. (with_device p r.0.0 r.1.0 r.1.1, reset_text r.0.1) in
+    let whole : (shown (event_played (Around (Reset cid)) (world_in p)).0, (event_played (Around (Reset cid)) (world_in p)).1)
+    ≡ (with_device p s e h, reset_text t) =
+    ap F played in
+    record {
+      world = sym (ap (λ r. r.0) whole);
+      printed = printed ∙ ap (λ x. text ++ x) (sym (ap (λ r. r.1) whole));
+      ready = record { driven = driven; served = served };
     }
 
 -- Time passes.
@@ -85,7 +148,7 @@ pub tick_plays : (ms : ℕ) (p : PlayState) (moment : ℕ) (text text' : List �
 tick_plays ms p moment text text' is ready printed = record {
   world = ap (λ x. record p { moment = x }) is;
   printed = printed;
-  ready = record { driven = ready.driven };
+  ready = record { driven = ready.driven; served = ready.served };
 }
 
 -- A play just made.

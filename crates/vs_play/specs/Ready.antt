@@ -1,8 +1,9 @@
 -- What a play holds between two lines, and what it is for a line to be played.
-use Rattle.std.specs.Prelude.{◌≡◌, ◌≤◌, ℕ, List, [], ◌++◌}
+use Rattle.std.specs.Prelude.{◌≡◌, ◌≤◌, ℕ, List, [], ◌++◌, Some}
 use Rattle.vs_contents.specs.CallTree.{played}
+use Rattle.vs_ring_port.specs.Chains.{chains_of}
 use Rattle.vs_ring_port.specs.DriverCalls.{driver_answer}
-use Rattle.vs_ring_list.specs.Ends.{Ends, driver_contents, flight_of, staged_of}
+use Rattle.vs_ring_list.specs.Ends.{Ends, device_contents, driver_contents, flight_of, staged_of}
 use Rattle.vs_driver_parts.specs.Conversations.{DriverTree}
 use Rattle.vs_driver_parts.specs.Playing.{IsRingOf}
 use Rattle.vs_driver_parts.specs.State.{DriverState}
@@ -11,12 +12,30 @@ use Rattle.vs_driver_parts.specs.declared.answers.Received.TheVariants as receiv
 use Rattle.vs_driver_log.specs.Honest.{IsHonest}
 use Rattle.vs_script.specs.Play.{Event}
 use Rattle.vs_outside.specs.Host.{HostContents}
+use Rattle.vs_device.specs.Calls.{DeviceTree}
+use Rattle.vs_device.specs.Playing.{IsItsRing, situation}
 use Rattle.vs_proxy.specs.State.{ProxyState}
+use Rattle.vs_proxy_log.specs.Order.{IsInOrder}
+use Rattle.vs_world.specs.Answers.{Around, answer_around}
+use Rattle.vs_world.specs.World.{first_cid}
 use Rattle.vs_play.specs.Lines.{PlayWorld, event_played}
 
 -- What a conversation of the driver's leads to over list rings.
 abbrev pub over_lists : {A : Type 0} → DriverTree A → Ends → A × Ends
 over_lists tree e = let r = played driver_answer tree (e.lists, e.driver) in (r.0, record e { lists = r.1.0; driver = r.1.1 })
+
+-- What the device sees of the rings and of the host, and what a conversation of the device's leads to over both.
+abbrev pub beside : Ends → HostContents → Around
+beside e h = record { lists = e.lists; log = e.device; host = h }
+
+abbrev pub over_both : {A : Type 0} → DeviceTree A → Ends → HostContents → A × (Ends × HostContents)
+over_both tree e h =
+    let r = played answer_around tree (beside e h) in (r.0, (record e { lists = r.1.lists; device = r.1.log }, r.1.host))
+
+-- The rings and the host are the proxy's: the device holds its chains, and the proxy is in order with its log and its streams.
+pub record IsServed (s : ProxyState) (e : Ends) (h : HostContents) : Type 0 where
+  pub chains : IsItsRing (chains_of e.device.held) s.device
+  pub order : IsInOrder first_cid s (situation (device_contents e) (Some h) 0)
 
 -- The rings are the driver's: its pages are in flight, and their log left its connections.
 pub record IsDriven (s : DriverState) (e : Ends) : Type 0 where
@@ -53,6 +72,7 @@ world_in p = record {
 -- A line may be played.
 pub record IsReady (p : PlayState) : Type 0 where
   pub driven : IsDriven p.driver p.rings
+  pub served : IsServed p.proxy p.rings p.host
 
 -- A line was played: the world is the one that it leads to, its text stands behind what stood there, and the next line may be played.
 pub record Plays (e : Event) (old new : PlayState) (text text' : List ℕ) : Type 0 where

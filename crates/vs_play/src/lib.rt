@@ -2,6 +2,7 @@
 #![tactic(auto)]
 
 mod bytes;
+mod device;
 pub mod examples;
 mod guest;
 pub mod play;

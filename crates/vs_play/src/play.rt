@@ -1,6 +1,6 @@
 //! A play: a guest's driver and the device with its proxy on one thread, over list rings, with a host in memory.
 
-ghost use Rattle.std.specs.Prelude.{◌≡◌, ◌++◌, OnOk, string_bytes};
+ghost use Rattle.std.specs.Prelude.{◌≡◌, ◌≤◌, ◌++◌, OnOk, string_bytes};
 ghost use Rattle.vs_script.specs.Outside as outside;
 ghost use Rattle.vs_script.specs.Play as script;
 ghost use Rattle.vs_script.specs.Data.{Given, content_of};
@@ -8,12 +8,13 @@ ghost use Rattle.vs_script.specs.Outside.{host_view};
 ghost use Rattle.vs_play.specs.Ready.{IsBits, IsReady, Plays};
 
 use crate::bytes::filled;
-use crate::guest;
+use crate::{device, guest};
 use std::alloc::AllocError;
 use std::marker::Model;
 use vs_driver::Driver;
-use vs_outside::{MemHost, StepClock};
+use vs_outside::{Clock, MemHost, StepClock};
 use vs_proxy::Proxy;
+use vs_report::device_lines::push_reset;
 use vs_report::guest_lines::{
     push_accept, push_close, push_connect, push_listen, push_poll, push_recv, push_send,
     push_shutdown, push_state, push_unlisten,
@@ -162,6 +163,26 @@ impl Play {
     {
         let polled = guest::poll(&mut self.driver, &mut self.rings);
         push_poll(text, polled)
+    }
+
+    // `turn`
+    fn turn(&mut self, text: &mut String) -> Result<(), AllocError>
+        requires { IsReady self.old }
+        ensures { OnOk result (Plays (script.Around outside.Turn) self.old self.new (string_bytes text.old) (string_bytes text.new)) }
+    {
+        let now = self.clock.now();
+        let answer = device::turn(&mut self.proxy, &mut self.rings, &mut self.host, now)?;
+        device::push_turn(text, answer)
+    }
+
+    // `reset CID`
+    fn reset(&mut self, cid: u32, text: &mut String) -> Result<(), AllocError>
+        requires ready { IsReady self.old }
+        requires cid { (3 ≤ cid) × (cid ≤ 4294967294) }
+        ensures { OnOk result (Plays (script.Around (outside.Reset cid)) self.old self.new (string_bytes text.old) (string_bytes text.new)) }
+    {
+        let answer = device::reset(&mut self.proxy, &mut self.rings, &mut self.host, cid)?;
+        push_reset(text, answer)
     }
 
     // `tick MS`

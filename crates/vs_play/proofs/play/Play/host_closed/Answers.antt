@@ -6,6 +6,7 @@ use Rattle.vs_report.specs.HostLines.{stream_there_text}
 use Rattle.vs_script.specs.Outside as outside
 use Rattle.vs_script.specs.Play as script
 use Rattle.vs_play.specs.Ready.{IsReady}
+use Rattle.vs_play.proofs.Served.{stream_stays}
 use Rattle.vs_play.proofs.Playing.{host_plays}
 use Rattle.vs_play.proofs.play.Play.host_closed.Goals as goal
 
@@ -13,4 +14,4 @@ pub returns : goal.returns
 returns c =
     let ready = subst IsReady (sym c.self.view_is) c.requires in
     rw (← c.self.view_is) (on_ok_weaker c.push_stream_there.result (λ printed. host_plays (script.Around (outside.OfHost (outside.HostClosed c.args.stream))) (with_stream c.args.stream closed) (stream_there_text (has_stream c.args.stream c.self.inside.host.contents)) _ c.self.inside.host c.closed-found.new.self _ _ refl refl refl
-    c.closed-found.ensures.after ready (printed ∙ ap (λ b. string_bytes c.args.text.now ++ stream_there_text b) c.closed-found.ensures.found)) c.push_stream_there.ensures)
+    c.closed-found.ensures.after (stream_stays c.args.stream closed c.self.inside.host.contents (λ s. refl)) ready (printed ∙ ap (λ b. string_bytes c.args.text.now ++ stream_there_text b) c.closed-found.ensures.found)) c.push_stream_there.ensures)

@@ -12,4 +12,4 @@ pub returns : goal.returns
 returns c =
     let ready = subst IsReady (sym c.self.view_is) c.requires in
     rw (← c.self.view_is) (on_ok_weaker c.push_ok.result (λ printed. host_plays (script.Around (outside.OfHost (outside.HostFail c.args.n))) (after_fail c.args.n) ok_text _ c.self.inside.host c.fail.new.self _ _ refl refl refl
-    c.in_ok-fail.ensures.ok ready printed) c.push_ok.ensures)
+    c.in_ok-fail.ensures.ok (λ id still. still) ready printed) c.push_ok.ensures)

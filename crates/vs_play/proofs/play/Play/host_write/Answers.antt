@@ -6,6 +6,7 @@ use Rattle.vs_script.specs.Data.{Given}
 use Rattle.vs_script.specs.Outside as outside
 use Rattle.vs_script.specs.Play as script
 use Rattle.vs_play.specs.Ready.{IsReady}
+use Rattle.vs_play.proofs.Served.{host_write_stays}
 use Rattle.vs_play.proofs.Playing.{host_plays}
 use Rattle.vs_play.proofs.play.Play.host_write.Goals as goal
 
@@ -18,4 +19,4 @@ returns c =
     (script.Around (outside.OfHost (outside.HostWrite c.args.stream (Given c.args.bytes.now))))
     (λ h. after_host_write c.args.stream c.args.bytes.now (host_write_answer c.args.stream h) h)
     (write_text (host_write_answer c.args.stream old.contents)) _ old c.host_write.new.self _ _ refl refl refl
-    is ready (printed ∙ ap (λ a. string_bytes c.args.text.now ++ write_text a) c.in_ok-answer.ensures.answer)) c.push_write.ensures)
+    is (host_write_stays c.args.stream c.args.bytes.now (host_write_answer c.args.stream old.contents) old.contents) ready (printed ∙ ap (λ a. string_bytes c.args.text.now ++ write_text a) c.in_ok-answer.ensures.answer)) c.push_write.ensures)

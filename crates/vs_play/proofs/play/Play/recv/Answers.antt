@@ -12,5 +12,5 @@ returns c =
     let ready = subst IsReady (sym c.self.view_is) c.requires in
     rw (← c.self.view_is) (on_ok_weaker c.push_recv.result (λ printed. call_plays (script.Recv c.args.id c.args.len) (call.Recv c.args.id c.args.len) _ _
     (c.in_ok-answer.answer, c.in_ok-answer.bytes.items) _ _ refl refl
-    c.in_ok-answer.ensures.made (c.in_ok-answer.ensures.driven _ ready.driven)
+    c.in_ok-answer.ensures.made ready (c.in_ok-answer.ensures.driven _ ready.driven)
     (printed ∙ ap (λ b. string_bytes c.args.text.now ++ recv_text c.in_ok-answer.answer b) c.deref.ensures.value)) c.push_recv.ensures)

@@ -10,4 +10,4 @@ pub returns : goal.returns
 returns c =
     let ready = subst IsReady (sym c.self.view_is) c.requires.ready in
     rw (← c.self.view_is) (on_ok_weaker c.push_shutdown.result (λ printed. call_plays (script.Shutdown c.args.id c.args.bits) (call.Shutdown c.args.id c.args.bits) _ _ c.shutdown-answer.result _ _ refl refl
-    c.shutdown-answer.ensures.made (c.shutdown-answer.ensures.driven _ ready.driven) printed) c.push_shutdown.ensures)
+    c.shutdown-answer.ensures.made ready (c.shutdown-answer.ensures.driven _ ready.driven) printed) c.push_shutdown.ensures)

@@ -10,4 +10,4 @@ pub returns : goal.returns
 returns c =
     let ready = subst IsReady (sym c.self.view_is) c.requires in
     rw (← c.self.view_is) (on_ok_weaker c.push_unlisten.result (λ printed. call_plays (script.Unlisten c.args.port) (call.Unlisten c.args.port) _ _ c.unlisten-found.result _ _ refl refl
-    c.unlisten-found.ensures.made (c.unlisten-found.ensures.driven _ ready.driven) printed) c.push_unlisten.ensures)
+    c.unlisten-found.ensures.made ready (c.unlisten-found.ensures.driven _ ready.driven) printed) c.push_unlisten.ensures)

@@ -1,0 +1,70 @@
+//! The calls of the device with its proxy over list rings and a host in memory, each with the one end that it leads to.
+
+ghost use Rattle.std.specs.Prelude.{◌≡◌, ◌≤◌, ◌++◌, Result, IfOk, OnOk, false, string_bytes};
+ghost use Rattle.vs_driver_parts.specs.State.{DriverState};
+ghost use Rattle.vs_proxy.specs.Turns.{proxy_reset_of, turn_of};
+ghost use Rattle.vs_play.specs.Lines.{turn_text};
+ghost use Rattle.vs_play.specs.Ready.{IsDriven, IsServed, over_both};
+
+use std::alloc::AllocError;
+use vs_outside::MemHost;
+use vs_proxy::{Proxy, Turn};
+use vs_report::device_lines::{push_failure, push_turned};
+use vs_ring_list::ListRings;
+use vs_ring_port::Failure;
+
+/// A turn at the moment `now`, in milliseconds. The only error is want of memory, which the host found in a dial or a write.
+pub fn turn(
+    proxy: &mut Proxy,
+    rings: &mut ListRings,
+    host: &mut MemHost,
+    now: u64,
+) -> Result<Turn, AllocError>
+    requires served { IsServed proxy.old rings.old host.old.contents }
+    ensures played { IfOk result (λ answer. over_both (turn_of rings.old.lists.size now proxy.old) rings.old host.old.contents ≡ ((proxy.new, answer), (rings.new, host.new.contents))) }
+    ensures served { IfOk result (λ answer. IsServed proxy.new rings.new host.new.contents) }
+    ensures driven { IfOk result (λ answer. (s : DriverState) → IsDriven s rings.old → IsDriven s rings.new) }
+{
+    let answer = proxy.turn(rings, host, now);
+    fed(host)?;
+    Ok(answer)
+}
+
+/// A transport reset: the guest's CID is this one from now on, 3 to 4,294,967,294. The only error is want of memory, which the host found
+/// in a dial or a write before.
+pub fn reset(
+    proxy: &mut Proxy,
+    rings: &mut ListRings,
+    host: &mut MemHost,
+    cid: u32,
+) -> Result<Result<(), Failure>, AllocError>
+    requires cid { (3 ≤ cid) × (cid ≤ 4294967294) }
+    requires served { IsServed proxy.old rings.old host.old.contents }
+    ensures played { IfOk result (λ answer. over_both (proxy_reset_of cid proxy.old) rings.old host.old.contents ≡ ((proxy.new, answer), (rings.new, host.new.contents))) }
+    ensures served { IfOk result (λ answer. IsServed proxy.new rings.new host.new.contents) }
+    ensures driven { IfOk result (λ answer. (s : DriverState) → IsDriven s rings.old → IsDriven s rings.new) }
+{
+    let answer = proxy.reset(rings, host, cid as u64);
+    fed(host)?;
+    Ok(answer)
+}
+
+/// What a turn prints.
+pub fn push_turn(text: &mut String, answer: Turn) -> Result<(), AllocError>
+    ensures { OnOk result (string_bytes text.new ≡ string_bytes text.old ++ turn_text answer) }
+{
+    match answer {
+        Turn::Turned(t) => push_turned(text, t.took, t.put, t.read, t.wrote, t.opened, t.closed),
+        Turn::Failed(failure) => push_failure(text, failure),
+    }
+}
+
+// The host found memory in each dial and each write. The only error is that it didn't.
+fn fed(host: &MemHost) -> Result<(), AllocError>
+    ensures { OnOk result (host.now.contents.starved ≡ false) }
+{
+    if host.starved() {
+        return Err(AllocError);
+    }
+    Ok(())
+}
