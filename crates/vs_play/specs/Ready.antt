@@ -10,6 +10,8 @@ use Rattle.vs_driver_parts.specs.State.{DriverState}
 use Rattle.vs_driver_parts.specs.declared.answers.Received.{Received}
 use Rattle.vs_driver_parts.specs.declared.answers.Received.TheVariants as received
 use Rattle.vs_driver_log.specs.Honest.{IsHonest}
+use Rattle.vs_script.specs.Outside as outside
+use Rattle.vs_script.specs.Play as script
 use Rattle.vs_script.specs.Play.{Event}
 use Rattle.vs_outside.specs.Host.{HostContents}
 use Rattle.vs_device.specs.Calls.{DeviceTree}
@@ -45,6 +47,12 @@ pub record IsDriven (s : DriverState) (e : Ends) : Type 0 where
 -- Bits of a shutdown.
 abbrev pub IsBits : ℕ → Type 0
 IsBits bits = (1 ≤ bits) × (bits ≤ 3)
+
+-- A line that may be played: the bits of a shutdown are 1 to 3, and a CID is one that a guest may have.
+abbrev pub IsPlayable : Event → Type 0
+IsPlayable (script.Shutdown id bits) = IsBits bits
+IsPlayable (script.Around (outside.Reset cid)) = (3 ≤ cid) × (cid ≤ 4294967294)
+IsPlayable _ = Unit {0}
 
 -- How many bytes a receive got.
 abbrev pub got_count : Received → ℕ

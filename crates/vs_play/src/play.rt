@@ -4,8 +4,9 @@ ghost use Rattle.std.specs.Prelude.{◌≡◌, ◌≤◌, ◌++◌, OnOk, string
 ghost use Rattle.vs_script.specs.Outside as outside;
 ghost use Rattle.vs_script.specs.Play as script;
 ghost use Rattle.vs_script.specs.Data.{Given, content_of};
-ghost use Rattle.vs_script.specs.Outside.{host_view};
-ghost use Rattle.vs_play.specs.Ready.{IsBits, IsReady, Plays};
+ghost use Rattle.vs_script.specs.Outside.{host_view, outside_view};
+ghost use Rattle.vs_script.specs.Play.{play_view};
+ghost use Rattle.vs_play.specs.Ready.{IsBits, IsPlayable, IsReady, Plays};
 
 use crate::bytes::filled;
 use crate::{device, guest};
@@ -21,7 +22,7 @@ use vs_report::guest_lines::{
 };
 use vs_report::host_lines::{push_client, push_ok, push_stream_there, push_write};
 use vs_ring_list::ListRings;
-use vs_script::{Data, HostLine};
+use vs_script::{Data, HostLine, OutsideLine, PlayLine};
 
 /// The world of a play, and the moment.
 #[derive(Drop)]
@@ -42,6 +43,42 @@ impl Model for Play {
 }
 
 impl Play {
+    /// Plays a line: does what it says, and appends what it prints. The only error is want of memory, and then the play may not go on.
+    pub fn line(&mut self, line: &PlayLine, text: &mut String) -> Result<(), AllocError>
+        requires ready { IsReady self.old }
+        requires playable { IsPlayable (play_view line.now) }
+        ensures { OnOk result (Plays (play_view line.now) self.old self.new (string_bytes text.old) (string_bytes text.new)) }
+    {
+        match line {
+            PlayLine::Connect { port } => self.connect(*port, text),
+            PlayLine::Listen { port } => self.listen(*port, text),
+            PlayLine::Unlisten { port } => self.unlisten(*port, text),
+            PlayLine::Accept { port } => self.accept(*port, text),
+            PlayLine::Send { id, content } => self.send_data(*id, content, text),
+            PlayLine::Recv { id, len } => self.recv(*id, *len, text),
+            PlayLine::Shutdown { id, bits } => self.shutdown(*id, *bits, text),
+            PlayLine::Close { id } => self.close(*id, text),
+            PlayLine::State { id } => self.state(*id, text),
+            PlayLine::Poll => self.poll(text),
+            PlayLine::Outside(line) => self.outside_line(line, text),
+        }
+    }
+
+    // A line on the device, the moment or the host.
+    fn outside_line(&mut self, line: &OutsideLine, text: &mut String) -> Result<(), AllocError>
+        requires ready { IsReady self.old }
+        requires playable { IsPlayable (script.Around (outside_view line.now)) }
+        ensures { OnOk result (Plays (script.Around (outside_view line.now)) self.old self.new (string_bytes text.old) (string_bytes text.new)) }
+    {
+        match line {
+            OutsideLine::Turn => self.turn(text),
+            OutsideLine::Reset { cid } => self.reset(*cid, text),
+            OutsideLine::Tick { ms } => self.tick(*ms, text),
+            OutsideLine::Client => self.client(text),
+            OutsideLine::Host(line) => self.host_line(line, text),
+        }
+    }
+
     // A line on the programs of the host.
     fn host_line(&mut self, line: &HostLine, text: &mut String) -> Result<(), AllocError>
         requires { IsReady self.old }
