@@ -11,10 +11,10 @@ use Rattle.vs_ring_port.specs.declared.failure.Failure.{Failure}
 use Rattle.vs_ring_port.specs.declared.queue.Queue.TheVariants.{Event}
 use Rattle.vs_ring_port.specs.Contents.{Take, Write, Return}
 use Rattle.vs_ring_port.specs.DeviceCalls.{CanReturn}
-use Rattle.vs_device.specs.Calls.{Situation, DeviceTree, Allows, Ring}
-use Rattle.vs_device.specs.Playing.{CanMake, MayRun, Runs}
-use Rattle.vs_device.specs.Receiving.{event_on, pay_event_of}
-use Rattle.vs_device.specs.State.{DeviceState}
+use Rattle.vs_device_parts.specs.Calls.{Situation, DeviceTree, Allows, Ring}
+use Rattle.vs_device_parts.specs.Playing.{CanMake, MayRun, Runs}
+use Rattle.vs_device_parts.specs.Receiving.{event_on, pay_event_of}
+use Rattle.vs_device_parts.specs.State.{DeviceState}
 
 module _ (s : DeviceState) (sound : s.failed ≡ None) (owed : s.event_owed ≡ true) where
   with_event : Bool → DeviceTree (DeviceState × Result Bool Failure)

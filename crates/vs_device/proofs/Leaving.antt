@@ -12,12 +12,12 @@ use Rattle.vs_flow.proofs.Tables.{revalued-slot}
 use Rattle.vs_outside.specs.Host.{HostContents, IsOpen}
 use Rattle.vs_ring_port.specs.Contents.{RingContents}
 use Rattle.vs_wrap.specs.Wrap.{counted}
-use Rattle.vs_device.specs.Calls.{Situation, DeviceTree, Allows, CloseStream}
-use Rattle.vs_device.specs.State.{DeviceConnection, DeviceEntry, DeviceState}
-use Rattle.vs_device.specs.Connections.{with_connection, stream_closed, after_leaving}
-use Rattle.vs_device.specs.Playing.{CanMake, MayRun, MayRunOnHost, MayClose, Runs, RunsOnHost, AllowsOnHost, situation}
-use Rattle.vs_device.specs.Streams.{closing, leaving}
-use Rattle.vs_device.proofs.Under.{with_value_twice}
+use Rattle.vs_device_parts.specs.Calls.{Situation, DeviceTree, Allows, CloseStream}
+use Rattle.vs_device_parts.specs.State.{DeviceConnection, DeviceEntry, DeviceState}
+use Rattle.vs_device_parts.specs.Connections.{with_connection, stream_closed, after_leaving}
+use Rattle.vs_device_parts.specs.Playing.{CanMake, MayRun, MayRunOnHost, MayClose, Runs, RunsOnHost, AllowsOnHost, situation}
+use Rattle.vs_device_parts.specs.Streams.{closing, leaving}
+use Rattle.vs_device_parts.proofs.Under.{with_value_twice}
 
 -- a stream is closed, or was
 module _ (e : DeviceEntry) (f : DeviceConnection → DeviceConnection) (s : DeviceState) where

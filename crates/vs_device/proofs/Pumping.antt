@@ -10,12 +10,12 @@ use Rattle.vs_outside.specs.Host.{HostContents, IsOpen, TakesSome}
 use Rattle.vs_outside.specs.InOut.{MovesSome}
 use Rattle.vs_outside.specs.declared.host_net.StreamWrite.{StreamWrite}
 use Rattle.vs_outside.specs.declared.host_net.StreamWrite.TheVariants as write
-use Rattle.vs_device.specs.Calls.{Situation, DeviceTree, Allows, WriteStream, ShutWrite}
-use Rattle.vs_device.specs.State.{DeviceConnection, DeviceEntry, DeviceState}
-use Rattle.vs_device.specs.Connections.{with_connection, with_fault, after_shut, after_written, cut_off}
-use Rattle.vs_device.specs.Playing.{CanMake, MayRun, Runs}
-use Rattle.vs_device.specs.Streams.{Writing, closing, pump_slot, shut_write, to_write, write_answered, write_pending, is_written_out}
-use Rattle.vs_device.specs.Written.{writing}
+use Rattle.vs_device_parts.specs.Calls.{Situation, DeviceTree, Allows, WriteStream, ShutWrite}
+use Rattle.vs_device_parts.specs.State.{DeviceConnection, DeviceEntry, DeviceState}
+use Rattle.vs_device_parts.specs.Connections.{with_connection, with_fault, after_shut, after_written, cut_off}
+use Rattle.vs_device_parts.specs.Playing.{CanMake, MayRun, Runs}
+use Rattle.vs_device_parts.specs.Streams.{Writing, closing, pump_slot, shut_write, to_write, write_answered, write_pending, is_written_out}
+use Rattle.vs_device_parts.specs.Written.{writing}
 
 -- a write's answer
 module _ (e : DeviceEntry) (s : DeviceState) (k : ℕ) (answer : StreamWrite) (t : DeviceState) where

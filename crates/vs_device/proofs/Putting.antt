@@ -11,12 +11,12 @@ use Rattle.vs_conn.specs.End.{owes_of}
 use Rattle.vs_conn.specs.Headers.{owed_header}
 use Rattle.vs_conn.specs.declared.end.Owed.{Owed}
 use Rattle.vs_flow.specs.Table.{entry_under}
-use Rattle.vs_device.specs.Calls.{DeviceTree, Situation, Allows}
-use Rattle.vs_device.specs.Connections.{route_to_guest}
-use Rattle.vs_device.specs.Filling.{put_header}
-use Rattle.vs_device.specs.Playing.{CanMake, MayRun, Runs}
-use Rattle.vs_device.specs.Receiving.{Filling, hold, written, put_on, put_packet, reply_header, put_reply, put_reply_of, put_owed, after_paying}
-use Rattle.vs_device.specs.State.{DeviceState, DeviceEntry}
+use Rattle.vs_device_parts.specs.Calls.{DeviceTree, Situation, Allows}
+use Rattle.vs_device_parts.specs.Connections.{route_to_guest}
+use Rattle.vs_device_parts.specs.Filling.{put_header}
+use Rattle.vs_device_parts.specs.Playing.{CanMake, MayRun, Runs}
+use Rattle.vs_device_parts.specs.Receiving.{Filling, hold, written, put_on, put_packet, reply_header, put_reply, put_reply_of, put_owed, after_paying}
+use Rattle.vs_device_parts.specs.State.{DeviceState, DeviceEntry}
 use Rattle.vs_device.proofs.Trees.{bind_same, bind_assoc}
 
 -- what follows the packet that was put

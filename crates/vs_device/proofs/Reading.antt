@@ -19,12 +19,12 @@ use Rattle.vs_flow.specs.Table.{entry_under}
 use Rattle.vs_header.specs.declared.Header.{Header}
 use Rattle.vs_outside.specs.declared.host_net.StreamRead.{StreamRead}
 use Rattle.vs_ring_port.specs.declared.device_ring.Chain.{Chain}
-use Rattle.vs_device.specs.Calls.{DeviceTree, Situation, Allows, ReadStream}
-use Rattle.vs_device.specs.Connections.{with_connection, route_to_guest}
-use Rattle.vs_device.specs.Filling.{read_slot}
-use Rattle.vs_device.specs.Playing.{CanMake, MayRun, Runs}
-use Rattle.vs_device.specs.Receiving.{Filling, hold, written, put_on, put_owed, put_payload, may_read, read_room, read_answered, read_with_chain, read_stream, serve_slot}
-use Rattle.vs_device.specs.State.{DeviceEntry}
+use Rattle.vs_device_parts.specs.Calls.{DeviceTree, Situation, Allows, ReadStream}
+use Rattle.vs_device_parts.specs.Connections.{with_connection, route_to_guest}
+use Rattle.vs_device_parts.specs.Filling.{read_slot}
+use Rattle.vs_device_parts.specs.Playing.{CanMake, MayRun, Runs}
+use Rattle.vs_device_parts.specs.Receiving.{Filling, hold, written, put_on, put_owed, put_payload, may_read, read_room, read_answered, read_with_chain, read_stream, serve_slot}
+use Rattle.vs_device_parts.specs.State.{DeviceEntry}
 
 -- payload is put
 module _ (chain : Chain) (e : DeviceEntry) (payload : List ℕ) (r : Filling) where

@@ -8,12 +8,12 @@ use Rattle.vs_flow.specs.declared.flow.Flow.{Flow}
 use Rattle.vs_flow.specs.declared.table.TableFault.{TableFault}
 use Rattle.vs_ring_port.specs.declared.failure.Failure.{Failure}
 use Rattle.vs_ring_port.specs.Contents.{PublishCid}
-use Rattle.vs_device.specs.Calls.{Situation, DeviceTree, Allows, Ring, Label}
-use Rattle.vs_device.specs.Connections.{stream_closed, with_client}
-use Rattle.vs_device.specs.Playing.{CanMake, MayRun, Runs}
-use Rattle.vs_device.specs.State.{DeviceEntry, DeviceState}
-use Rattle.vs_device.specs.Streams.{closing}
-use Rattle.vs_device.specs.Turns.{after_reset, close_slot, open_of, reset_of}
+use Rattle.vs_device_parts.specs.Calls.{Situation, DeviceTree, Allows, Ring, Label}
+use Rattle.vs_device_parts.specs.Connections.{stream_closed, with_client}
+use Rattle.vs_device_parts.specs.Playing.{CanMake, MayRun, Runs}
+use Rattle.vs_device_parts.specs.State.{DeviceEntry, DeviceState}
+use Rattle.vs_device_parts.specs.Streams.{closing}
+use Rattle.vs_device_parts.specs.Turns.{after_reset, close_slot, open_of, reset_of}
 
 -- a slot whose stream is closed
 module _ (slot : ℕ) (s : DeviceState) where

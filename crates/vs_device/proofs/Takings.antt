@@ -23,14 +23,14 @@ use Rattle.vs_ring_port.specs.declared.queue.Queue.TheVariants.{Rx, Tx, Event}
 use Rattle.vs_ring_port.specs.Chains.{same_queue, same_chain, without}
 use Rattle.vs_ring_port.specs.Contents.{Take, Read, Return}
 use Rattle.vs_uds.specs.Path.{path_of}
-use Rattle.vs_device.specs.declared.answers.Taken.{Taken}
-use Rattle.vs_device.specs.declared.answers.Taken.TheVariants as taken
-use Rattle.vs_device.specs.declared.limits.TheConstants.{REPLIES}
-use Rattle.vs_device.specs.Calls.{Situation, DeviceTree, Allows, Ring, Dial}
-use Rattle.vs_device.specs.State.{DeviceEntry, DeviceState}
-use Rattle.vs_device.specs.Playing.{CanMake, MayRun, Runs}
-use Rattle.vs_device.specs.Taking.{is_not_for_host, known_packet}
-use Rattle.vs_device.specs.Transmitting.{dial_answered, failing, on_header, on_next, on_packet, on_unknown, take_tx_of, try_request}
+use Rattle.vs_device_parts.specs.declared.answers.Taken.{Taken}
+use Rattle.vs_device_parts.specs.declared.answers.Taken.TheVariants as taken
+use Rattle.vs_device_parts.specs.declared.limits.TheConstants.{REPLIES}
+use Rattle.vs_device_parts.specs.Calls.{Situation, DeviceTree, Allows, Ring, Dial}
+use Rattle.vs_device_parts.specs.State.{DeviceEntry, DeviceState}
+use Rattle.vs_device_parts.specs.Playing.{CanMake, MayRun, Runs}
+use Rattle.vs_device_parts.specs.Taking.{is_not_for_host, known_packet}
+use Rattle.vs_device_parts.specs.Transmitting.{dial_answered, failing, on_header, on_next, on_packet, on_unknown, take_tx_of, try_request}
 
 -- the newest of the chains that are held
 same_queue_refl : (q : Queue) → same_queue q q ≡ true

@@ -13,13 +13,13 @@ use Rattle.vs_conn.specs.declared.end.Why.TheVariants as why
 use Rattle.vs_ring_port.specs.declared.device_ring.Chain.{Chain}
 use Rattle.vs_ring_port.specs.Contents.{Read}
 use Rattle.vs_uds.specs.OkLine.{ok_text}
-use Rattle.vs_device.specs.Calls.{Situation, DeviceTree, Allows, Ring}
-use Rattle.vs_device.specs.State.{DeviceConnection, DeviceEntry, DeviceState}
-use Rattle.vs_device.specs.Connections.{with_connection, stream_closed, after_leaving}
-use Rattle.vs_device.specs.Playing.{CanMake, MayRun, MayClose, Runs}
-use Rattle.vs_device.specs.Streams.{leaving, closing}
-use Rattle.vs_device.specs.Taking.{after_refusal, known_packet}
-use Rattle.vs_device.specs.Transmitting.{heard, on_known}
+use Rattle.vs_device_parts.specs.Calls.{Situation, DeviceTree, Allows, Ring}
+use Rattle.vs_device_parts.specs.State.{DeviceConnection, DeviceEntry, DeviceState}
+use Rattle.vs_device_parts.specs.Connections.{with_connection, stream_closed, after_leaving}
+use Rattle.vs_device_parts.specs.Playing.{CanMake, MayRun, MayClose, Runs}
+use Rattle.vs_device_parts.specs.Streams.{leaving, closing}
+use Rattle.vs_device_parts.specs.Taking.{after_refusal, known_packet}
+use Rattle.vs_device_parts.specs.Transmitting.{heard, on_known}
 use Rattle.vs_device.proofs.Leaving.{may_close}
 
 module _ (chain : Chain) (h : Header) (e : DeviceEntry) (s t : DeviceState) where

@@ -4,7 +4,7 @@ use Rattle.std.specs.String.{string_bytes}
 use Rattle.vs_history.specs.declared.TheConstants.{BUF_ALLOC}
 use Rattle.vs_uds.specs.declared.path.TheConstants.{BASE_MAX}
 use Rattle.vs_device.specs.declared.device.Device.TheInside.{Inside}
-use Rattle.vs_device.specs.declared.limits.TheConstants.{REPLIES}
+use Rattle.vs_device_parts.specs.declared.limits.TheConstants.{REPLIES}
 
 -- There is room for all replies that may be owed, and for the largest payload.
 pub record AreSound (d : Inside) : Type 0 where

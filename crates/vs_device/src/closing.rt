@@ -2,14 +2,14 @@
 
 ghost use Rattle.std.specs.Prelude.{◌≡◌, Some};
 ghost use Rattle.vs_flow.specs.Table.{entry_under};
-ghost use Rattle.vs_device.specs.Connections.{cut_off, stream_closed, with_connection};
-ghost use Rattle.vs_device.specs.Playing.{MayClose, RunsOnHost};
-ghost use Rattle.vs_device.specs.State.{DeviceConnection, DeviceEntry, DeviceState};
-ghost use Rattle.vs_device.specs.Streams.{closing, leaving};
+ghost use Rattle.vs_device_parts.specs.Connections.{cut_off, stream_closed, with_connection};
+ghost use Rattle.vs_device_parts.specs.Playing.{MayClose, RunsOnHost};
+ghost use Rattle.vs_device_parts.specs.State.{DeviceConnection, DeviceEntry, DeviceState};
+ghost use Rattle.vs_device_parts.specs.Streams.{closing, leaving};
 
-use crate::connection::Connection;
 use crate::device::Device;
-use crate::host_calls::close;
+use vs_device_parts::connection::Connection;
+use vs_device_parts::host_calls::close;
 use vs_flow::Slot;
 use vs_outside::HostNet;
 

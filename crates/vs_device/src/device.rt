@@ -2,15 +2,15 @@
 
 ghost use Rattle.std.specs.Prelude.{◌≡◌, ◌≤◌, IfOk, length};
 ghost use Rattle.vs_uds.specs.declared.path.TheConstants.{BASE_MAX};
-ghost use Rattle.vs_device.specs.Connections.{with_fault};
-ghost use Rattle.vs_device.specs.Transmitting.{failing};
-ghost use Rattle.vs_device.specs.Turns.{counters_of, new_device};
+ghost use Rattle.vs_device_parts.specs.Connections.{with_fault};
+ghost use Rattle.vs_device_parts.specs.Transmitting.{failing};
+ghost use Rattle.vs_device_parts.specs.Turns.{counters_of, new_device};
 
-use crate::answers::Counters;
-use crate::limits::REPLIES;
-use crate::slots::{BUFFER_LEN, Slots};
 use std::alloc::{AllocError, Global};
 use std::marker::Model;
+use vs_device_parts::answers::Counters;
+use vs_device_parts::limits::REPLIES;
+use vs_device_parts::slots::{BUFFER_LEN, Slots};
 use vs_event::OwedEvent;
 use vs_flow::Slot;
 use vs_replies::Replies;
@@ -41,7 +41,7 @@ pub struct Device {
 impl Model for Device {
     ghost use Rattle.std.specs.Prelude.{◌≡◌, ◌≤◌, length};
     ghost use Rattle.std.specs.String.{string_bytes};
-    ghost use Rattle.vs_device.specs.State.{DeviceState};
+    ghost use Rattle.vs_device_parts.specs.State.{DeviceState};
     ghost use Rattle.vs_device.specs.DeviceFields.{AreSound};
 
     ghost Value = { DeviceState };

@@ -7,11 +7,11 @@ ghost use Rattle.vs_ring_port.specs.Contents.{Write, Return};
 ghost use Rattle.vs_ring_port.specs.DeviceCalls.{CanReturn, LeavesNoGap};
 ghost use Rattle.vs_ring_port.specs.declared.device_ring.Next.TheVariants as next;
 ghost use Rattle.vs_ring_port.specs.declared.failure.Failure.{Failure};
-ghost use Rattle.vs_device.specs.Playing.{AllowsOnRing, IsItsRing, MayRunOnRing, RunsOnRing};
-ghost use Rattle.vs_device.specs.Receiving.{event_on, pay_event_of};
+ghost use Rattle.vs_device_parts.specs.Playing.{AllowsOnRing, IsItsRing, MayRunOnRing, RunsOnRing};
+ghost use Rattle.vs_device_parts.specs.Receiving.{event_on, pay_event_of};
 
 use crate::device::Device;
-use crate::ring_calls::take;
+use vs_device_parts::ring_calls::take;
 use vs_event::{EVENT_LEN, TRANSPORT_RESET, event_bytes};
 use vs_ring_port::{Chain, DeviceRing, Failure, Next, Queue};
 

@@ -2,24 +2,17 @@
 //! (Virtio 1.2, section 5.10.6).
 #![tactic(auto)]
 
-pub mod answers;
 mod closing;
-mod connection;
 mod device;
 mod events;
-mod host_calls;
-pub mod limits;
-mod packets;
 mod receive;
-mod ring_calls;
-mod round;
 mod shown;
-mod slots;
 mod streams;
 mod transmit;
 mod turns;
 
-pub use answers::{Counters, Filled, Taken};
 pub use device::Device;
-pub use limits::{CONNECTIONS, TIMEOUT};
 pub use turns::Entries;
+pub use vs_device_parts::answers::{Counters, Filled, Taken};
+pub use vs_device_parts::limits;
+pub use vs_device_parts::limits::{CONNECTIONS, TIMEOUT};

@@ -13,35 +13,25 @@ ghost use Rattle.vs_header.specs.declared.TheConstants.{HEADER_LEN};
 ghost use Rattle.vs_page.specs.declared.page.TheConstants.{PAYLOAD_MAX};
 ghost use Rattle.vs_ring_port.specs.declared.device_ring.Chain.{Chain};
 ghost use Rattle.vs_ring_port.specs.declared.failure.Failure.{Failure};
-ghost use Rattle.vs_device.specs.Connections.{route_to_guest};
-ghost use Rattle.vs_device.specs.Filling.{filling_of, is_rst, put_header, read_slot, serve_all, serve_rest};
-ghost use Rattle.vs_device.specs.Playing.{IsItsRing, IsRingOf, MayRun, MayRunOnHost, MayRunOnRing, Runs, RunsOnHost, RunsOnRing, situation};
-ghost use Rattle.vs_device.specs.Receiving.{after_paying, fill_rx_of, filled_of, hold, may_read, put_owed, put_payload, put_reply, read_room, read_with_chain, serve_slot};
-ghost use Rattle.vs_device.specs.State.{DeviceEntry};
-ghost use Rattle.vs_device.specs.declared.limits.TheConstants.{CONNECTIONS, REPLIES};
+ghost use Rattle.vs_device_parts.specs.Connections.{route_to_guest};
+ghost use Rattle.vs_device_parts.specs.Filling.{filling_of, is_rst, put_header, read_slot, serve_all, serve_rest};
+ghost use Rattle.vs_device_parts.specs.Playing.{IsItsRing, IsRingOf, MayRun, MayRunOnHost, MayRunOnRing, Runs, RunsOnHost, RunsOnRing, situation};
+ghost use Rattle.vs_device_parts.specs.Receiving.{after_paying, fill_rx_of, filled_of, hold, may_read, put_owed, put_payload, put_reply, read_room, read_with_chain, serve_slot};
+ghost use Rattle.vs_device_parts.specs.State.{DeviceEntry};
+ghost use Rattle.vs_device_parts.specs.declared.limits.TheConstants.{CONNECTIONS, REPLIES};
 
-use crate::answers::Filled;
 use crate::device::Device;
-use crate::packets::{read_into, write_packet};
-use crate::round::round_from;
 use vs_conn::{OWED_MAX, Owed};
+use vs_device_parts::answers::Filled;
+use vs_device_parts::fill::Fill;
+use vs_device_parts::packets::{read_into, write_packet};
+use vs_device_parts::round::round_from;
 use vs_flow::Slot;
 use vs_header::{HEADER_LEN, Header, Kind, Op};
 use vs_outside::{HostNet, StreamRead};
 use vs_page::{HOST_CID, PAYLOAD_MAX};
 use vs_replies::Reply;
 use vs_ring_port::{DeviceRing, Failure, Next, Queue};
-
-/// What a call of `fill_rx` did so far.
-#[derive(Clone, Copy, Debug, PartialEq, Eq)]
-pub(crate) struct Fill {
-    /// Packets put on the receive queue.
-    pub(crate) put: u32,
-    /// Bytes read from the host's streams.
-    pub(crate) read: u32,
-    /// No chain is there for the next packet, or the ring failed.
-    pub(crate) over: bool,
-}
 
 impl Device {
     /// Puts packets on the receive queue while chains are there: owed RSTs to unknown flows, oldest first, and then, from the slot after the one

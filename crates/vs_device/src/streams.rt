@@ -6,16 +6,16 @@ ghost use Rattle.vs_conn.specs.End.{may_shut};
 ghost use Rattle.vs_flow.specs.Table.{entry_under};
 ghost use Rattle.vs_outside.specs.Host.{IsOpen, TakesSome};
 ghost use Rattle.vs_outside.specs.declared.host_net.StreamWrite.TheVariants.{Closed};
-ghost use Rattle.vs_device.specs.declared.limits.TheConstants.{WRITE_MAX};
-ghost use Rattle.vs_device.specs.Connections.{is_timed_out};
-ghost use Rattle.vs_device.specs.Playing.{MayRunOnHost, RunsOnHost};
-ghost use Rattle.vs_device.specs.State.{DeviceEntry};
-ghost use Rattle.vs_device.specs.Streams.{tick_of, tick_slot, pump_of, pump_slot, write_pending, write_answered, to_write, shut_write, is_written_out};
-ghost use Rattle.vs_device.specs.Written.{writing};
+ghost use Rattle.vs_device_parts.specs.declared.limits.TheConstants.{WRITE_MAX};
+ghost use Rattle.vs_device_parts.specs.Connections.{is_timed_out};
+ghost use Rattle.vs_device_parts.specs.Playing.{MayRunOnHost, RunsOnHost};
+ghost use Rattle.vs_device_parts.specs.State.{DeviceEntry};
+ghost use Rattle.vs_device_parts.specs.Streams.{tick_of, tick_slot, pump_of, pump_slot, write_pending, write_answered, to_write, shut_write, is_written_out};
+ghost use Rattle.vs_device_parts.specs.Written.{writing};
 
 use crate::device::Device;
-use crate::host_calls::{shut_write, write};
-use crate::limits::{CONNECTIONS, WRITE_MAX};
+use vs_device_parts::host_calls::{shut_write, write};
+use vs_device_parts::limits::{CONNECTIONS, WRITE_MAX};
 use vs_flow::Slot;
 use vs_outside::{HostNet, StreamWrite};
 

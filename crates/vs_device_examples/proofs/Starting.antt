@@ -3,9 +3,9 @@ use Rattle.std.proofs.Common.{◌≡◌, ℕ, List, [], Option, Some, None, refl
 use Rattle.vs_outside.specs.Host.{HostContents}
 use Rattle.vs_ring_port.specs.Chains.{Held, chains_of}
 use Rattle.vs_ring_port.specs.Contents.{RingContents}
-use Rattle.vs_device.specs.Playing.{IsItsRing, situation}
-use Rattle.vs_device.specs.State.{DeviceState}
-use Rattle.vs_device.specs.Turns.{new_device}
+use Rattle.vs_device_parts.specs.Playing.{IsItsRing, situation}
+use Rattle.vs_device_parts.specs.State.{DeviceState}
+use Rattle.vs_device_parts.specs.Turns.{new_device}
 use Rattle.vs_device_laws.specs.Streams.{FindsStreams, HasStreams}
 
 pub new_ring : (s : DeviceState) (base : List ℕ) (held : List Held) → s ≡ new_device 3 base → held ≡ [] → IsItsRing (chains_of held) s

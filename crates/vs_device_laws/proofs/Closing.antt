@@ -4,10 +4,10 @@ use Rattle.std.specs.Option.{ForSome}
 use Rattle.vs_contents.specs.CallTree.{Done, Ask}
 use Rattle.vs_flow.specs.Table.{Table, IsTable, entry_under, slots, with_value, without}
 use Rattle.vs_outside.specs.Host.{HostContents, IsOpen, after_close}
-use Rattle.vs_device.specs.Calls.{Call, CloseStream, Situation, Allows}
-use Rattle.vs_device.specs.Connections.{after_leaving, cut_off, is_timed_out, stream_closed, with_connection}
-use Rattle.vs_device.specs.State.{DeviceConnection, DeviceEntry, DeviceState}
-use Rattle.vs_device.specs.Streams.{closing, leaving, tick_of, tick_slot}
+use Rattle.vs_device_parts.specs.Calls.{Call, CloseStream, Situation, Allows}
+use Rattle.vs_device_parts.specs.Connections.{after_leaving, cut_off, is_timed_out, stream_closed, with_connection}
+use Rattle.vs_device_parts.specs.State.{DeviceConnection, DeviceEntry, DeviceState}
+use Rattle.vs_device_parts.specs.Streams.{closing, leaving, tick_of, tick_slot}
 use Rattle.vs_device_laws.specs.Split.{CanReach, is_quiet}
 use Rattle.vs_device_laws.specs.Streams.{FindsStreams, HasStreams, joined_stream}
 use Rattle.vs_device_laws.proofs.Keeping.{Keeps, keeps_each, keeps_then}

@@ -15,7 +15,7 @@ use Rattle.vs_header.specs.Op.{op_named}
 use Rattle.vs_header.specs.declared.Header.{Header}
 use Rattle.vs_header.specs.declared.Op.{Op}
 use Rattle.vs_header.specs.declared.Op.TheVariants as op
-use Rattle.vs_device.specs.Receiving.{may_read}
+use Rattle.vs_device_parts.specs.Receiving.{may_read}
 
 pub settled_over : (s : State) (peer : Shut) (c : Credit) → s ≡ Ended → settled_state s peer c ≡ Ended
 settled_over s peer c over = by (is_drained peer c)

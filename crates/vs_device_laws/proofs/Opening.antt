@@ -12,11 +12,11 @@ use Rattle.vs_outside.specs.Host.{HostContents, IsOpen, after_close, after_label
 use Rattle.vs_outside.proofs.Frames.{open-after_label, others-after_label}
 use Rattle.vs_ring_port.specs.Contents.{PublishCid}
 use Rattle.vs_ring_port.specs.declared.failure.Failure.{Failure}
-use Rattle.vs_device.specs.Calls.{Call, Label, Ring, Situation, DeviceTree, Allows}
-use Rattle.vs_device.specs.Connections.{new_connection, stream_closed, with_client}
-use Rattle.vs_device.specs.State.{DeviceConnection, DeviceEntry, DeviceState}
-use Rattle.vs_device.specs.Streams.{closing}
-use Rattle.vs_device.specs.Turns.{after_reset, close_slot, new_device, open_of, reset_of}
+use Rattle.vs_device_parts.specs.Calls.{Call, Label, Ring, Situation, DeviceTree, Allows}
+use Rattle.vs_device_parts.specs.Connections.{new_connection, stream_closed, with_client}
+use Rattle.vs_device_parts.specs.State.{DeviceConnection, DeviceEntry, DeviceState}
+use Rattle.vs_device_parts.specs.Streams.{closing}
+use Rattle.vs_device_parts.specs.Turns.{after_reset, close_slot, new_device, open_of, reset_of}
 use Rattle.vs_device_laws.specs.Split.{CanReach, is_quiet}
 use Rattle.vs_device_laws.specs.Streams.{AreOpen, FindsFree, FindsStreams, HasStreams, IsFree, JoinsStreams}
 use Rattle.vs_device_laws.proofs.Closing.{keeps_closing}

@@ -12,7 +12,7 @@ use Rattle.vs_flow.proofs.Lookups.{entry_under-with_entry, entry_under-with_valu
 use Rattle.vs_flow.proofs.Tables.{with_value_sound, without_sound}
 use Rattle.vs_outside.specs.Host.{HostContents, IsOpen, after_close}
 use Rattle.vs_outside.proofs.Frames.{others-after_close, stays_open}
-use Rattle.vs_device.specs.State.{DeviceConnection, DeviceEntry}
+use Rattle.vs_device_parts.specs.State.{DeviceConnection, DeviceEntry}
 use Rattle.vs_device_laws.specs.Streams.{AreOver, HasStreams, JoinsStreams, joined_stream, stream_under}
 
 -- the entry stands under its slot

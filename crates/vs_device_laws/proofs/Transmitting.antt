@@ -34,15 +34,15 @@ use Rattle.vs_replies.specs.Owed.{reply_to}
 use Rattle.vs_uds.specs.OkLine.{ok_text}
 use Rattle.vs_uds.specs.Path.{path_of}
 use Rattle.vs_wrap.specs.Wrap.{counted}
-use Rattle.vs_device.specs.declared.answers.Taken.{Taken}
-use Rattle.vs_device.specs.declared.answers.Taken.TheVariants as taken
-use Rattle.vs_device.specs.declared.limits.TheConstants.{REPLIES}
-use Rattle.vs_device.specs.Calls.{Call, Dial, Ring, Situation, DeviceTree, Allows}
-use Rattle.vs_device.specs.Connections.{new_connection, with_connection, with_reply}
-use Rattle.vs_device.specs.State.{DeviceConnection, DeviceEntry, DeviceState}
-use Rattle.vs_device.specs.Streams.{leaving}
-use Rattle.vs_device.specs.Transmitting.{dial_answered, failing, heard, on_header, on_known, on_next, on_packet, on_unknown, refused}
-use Rattle.vs_device.specs.Transmitting.{take_tx_of, try_request, unknown_why}
+use Rattle.vs_device_parts.specs.declared.answers.Taken.{Taken}
+use Rattle.vs_device_parts.specs.declared.answers.Taken.TheVariants as taken
+use Rattle.vs_device_parts.specs.declared.limits.TheConstants.{REPLIES}
+use Rattle.vs_device_parts.specs.Calls.{Call, Dial, Ring, Situation, DeviceTree, Allows}
+use Rattle.vs_device_parts.specs.Connections.{new_connection, with_connection, with_reply}
+use Rattle.vs_device_parts.specs.State.{DeviceConnection, DeviceEntry, DeviceState}
+use Rattle.vs_device_parts.specs.Streams.{leaving}
+use Rattle.vs_device_parts.specs.Transmitting.{dial_answered, failing, heard, on_header, on_known, on_next, on_packet, on_unknown, refused}
+use Rattle.vs_device_parts.specs.Transmitting.{take_tx_of, try_request, unknown_why}
 use Rattle.vs_device_laws.specs.Split.{CanReach, is_quiet}
 use Rattle.vs_device_laws.specs.Streams.{FindsStreams, HasStreams, joined_stream}
 use Rattle.vs_device_laws.proofs.Closing.{IsFound, keeps_leaving, stays}

@@ -8,11 +8,11 @@ use Rattle.vs_outside.specs.Host.{HostContents, IsOpen, KeepsOthers, after_shut_
 use Rattle.vs_outside.specs.declared.host_net.StreamWrite.{StreamWrite}
 use Rattle.vs_outside.specs.declared.host_net.StreamWrite.TheVariants as write
 use Rattle.vs_outside.proofs.Frames.{open-after_shut_write, open-after_write, others-after_shut_write, others-after_write, stays_open}
-use Rattle.vs_device.specs.Calls.{Call, ShutWrite, Situation, DeviceTree, WriteStream, Allows}
-use Rattle.vs_device.specs.Connections.{after_shut, after_written, cut_off, with_connection, with_fault}
-use Rattle.vs_device.specs.State.{DeviceConnection, DeviceEntry, DeviceState}
-use Rattle.vs_device.specs.Streams.{Writing, closing, is_written_out, pump_of, pump_slot, shut_write, to_write, write_answered}
-use Rattle.vs_device.specs.Streams.{write_pending}
+use Rattle.vs_device_parts.specs.Calls.{Call, ShutWrite, Situation, DeviceTree, WriteStream, Allows}
+use Rattle.vs_device_parts.specs.Connections.{after_shut, after_written, cut_off, with_connection, with_fault}
+use Rattle.vs_device_parts.specs.State.{DeviceConnection, DeviceEntry, DeviceState}
+use Rattle.vs_device_parts.specs.Streams.{Writing, closing, is_written_out, pump_of, pump_slot, shut_write, to_write, write_answered}
+use Rattle.vs_device_parts.specs.Streams.{write_pending}
 use Rattle.vs_device_laws.specs.Split.{CanReach, is_quiet}
 use Rattle.vs_device_laws.specs.Streams.{FindsStreams, HasStreams, joined_stream}
 use Rattle.vs_device_laws.proofs.Closing.{IsFound, found_by_slot, keeps_cut_off, stream_open}

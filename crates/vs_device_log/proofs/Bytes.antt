@@ -22,7 +22,7 @@ use Rattle.vs_conn.specs.declared.end.Owed.TheVariants as owed
 use Rattle.vs_conn.specs.declared.end.State.{State}
 use Rattle.vs_conn.specs.declared.end.State.TheVariants as state
 use Rattle.vs_conn.specs.declared.shut.Shut.{Shut}
-use Rattle.vs_device.specs.Connections.{route_to_guest}
+use Rattle.vs_device_parts.specs.Connections.{route_to_guest}
 use Rattle.vs_device_log.specs.Honest.{IsFitFlow}
 
 -- What bytes hold that begin by a header's.

@@ -16,9 +16,9 @@ use Rattle.vs_matching.specs.Matches.{Matches}
 use Rattle.vs_matching.specs.Steps.{with_end}
 use Rattle.vs_matching.proofs.Keeps.{changes}
 use Rattle.vs_replies.specs.declared.Reply.{Reply}
-use Rattle.vs_device.specs.State.{DeviceConnection, DeviceEntry, DeviceState}
-use Rattle.vs_device.specs.Connections.{after_shut, after_written, cut_off, with_connection}
-use Rattle.vs_device.specs.Streams.{to_write}
+use Rattle.vs_device_parts.specs.State.{DeviceConnection, DeviceEntry, DeviceState}
+use Rattle.vs_device_parts.specs.Connections.{after_shut, after_written, cut_off, with_connection}
+use Rattle.vs_device_parts.specs.Streams.{to_write}
 use Rattle.vs_device_log.specs.Honest.{HoldsBytes, IsFit, IsFitState, ends_of_state, ends_with}
 use Rattle.vs_device_log.proofs.Fits.{fits_forwarded, fits_shut}
 use Rattle.vs_device_log.proofs.Tabling.{IsFitConnection, begun_fits, connection_ends, connection_fits, entry_fits, has_end}

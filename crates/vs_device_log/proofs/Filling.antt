@@ -22,14 +22,14 @@ use Rattle.vs_ring_port.specs.declared.device_ring.Chain.{Chain}
 use Rattle.vs_ring_port.specs.declared.failure.Failure.{Failure}
 use Rattle.vs_matching.specs.Ends.{is_new}
 use Rattle.vs_matching.proofs.Slots.{found_by}
-use Rattle.vs_device.specs.declared.answers.Filled.{Filled as FilledAnswer}
-use Rattle.vs_device.specs.Calls.{DeviceTree}
-use Rattle.vs_device.specs.Connections.{after_leaving, after_shut, cut_off, route_to_guest, stream_closed, with_connection, with_fault}
-use Rattle.vs_device.specs.Playing.{IsRxChain}
-use Rattle.vs_device.specs.Receiving.{Filling, after_paying, fill_rx_of, filled_of, hold, may_read, put_on, put_owed, put_packet}
-use Rattle.vs_device.specs.Receiving.{put_payload, put_reply, put_reply_of, read_answered, read_room, read_stream, read_with_chain}
-use Rattle.vs_device.specs.Receiving.{reply_header, round_from, serve_slot}
-use Rattle.vs_device.specs.State.{DeviceConnection, DeviceEntry, DeviceState}
+use Rattle.vs_device_parts.specs.declared.answers.Filled.{Filled as FilledAnswer}
+use Rattle.vs_device_parts.specs.Calls.{DeviceTree}
+use Rattle.vs_device_parts.specs.Connections.{after_leaving, after_shut, cut_off, route_to_guest, stream_closed, with_connection, with_fault}
+use Rattle.vs_device_parts.specs.Playing.{IsRxChain}
+use Rattle.vs_device_parts.specs.Receiving.{Filling, after_paying, fill_rx_of, filled_of, hold, may_read, put_on, put_owed, put_packet}
+use Rattle.vs_device_parts.specs.Receiving.{put_payload, put_reply, put_reply_of, read_answered, read_room, read_stream, read_with_chain}
+use Rattle.vs_device_parts.specs.Receiving.{reply_header, round_from, serve_slot}
+use Rattle.vs_device_parts.specs.State.{DeviceConnection, DeviceEntry, DeviceState}
 use Rattle.vs_device_log.specs.Honest.{IsFitState, IsWith}
 use Rattle.vs_device_log.proofs.Changing.{cuts, shuts, wants}
 use Rattle.vs_device_log.proofs.Keeping.{Goes, Keeps, keeps_bind, keeps_each, keeps_then, keeps_while}

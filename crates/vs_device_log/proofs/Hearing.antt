@@ -32,11 +32,11 @@ use Rattle.vs_ring_port.specs.declared.device_ring.Chain.{Chain}
 use Rattle.vs_matching.specs.Ends.{is_new}
 use Rattle.vs_matching.specs.Steps.{is_overrun}
 use Rattle.vs_matching.proofs.Slots.{found_by}
-use Rattle.vs_device.specs.Calls.{DeviceTree, Dial}
-use Rattle.vs_device.specs.Connections.{after_leaving, stream_closed, with_connection, with_dialed, with_fault, with_reply}
-use Rattle.vs_device.specs.State.{DeviceConnection, DeviceEntry, DeviceState}
-use Rattle.vs_device.specs.Streams.{leaving}
-use Rattle.vs_device.specs.Transmitting.{dial_answered, heard, on_known, on_packet, on_unknown, refused, try_request, unknown_why}
+use Rattle.vs_device_parts.specs.Calls.{DeviceTree, Dial}
+use Rattle.vs_device_parts.specs.Connections.{after_leaving, stream_closed, with_connection, with_dialed, with_fault, with_reply}
+use Rattle.vs_device_parts.specs.State.{DeviceConnection, DeviceEntry, DeviceState}
+use Rattle.vs_device_parts.specs.Streams.{leaving}
+use Rattle.vs_device_parts.specs.Transmitting.{dial_answered, heard, on_known, on_packet, on_unknown, refused, try_request, unknown_why}
 use Rattle.vs_wrap.specs.Wrap.{counted}
 use Rattle.vs_device_log.specs.Honest.{AgreesWith, HoldsBytes, IsLeft, unwritten}
 use Rattle.vs_device_log.proofs.Fits.{delivered, fewer, fits_after}

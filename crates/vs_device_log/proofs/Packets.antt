@@ -23,10 +23,10 @@ use Rattle.vs_ring_port.specs.declared.device_ring.Chain.{Chain}
 use Rattle.vs_ring_port.specs.declared.device_ring.Next.TheVariants as next
 use Rattle.vs_ring_port.specs.declared.failure.Failure.{Failure}
 use Rattle.vs_ring_port.specs.declared.queue.Queue.TheVariants.{Event, Rx, Tx}
-use Rattle.vs_device.specs.Calls.{Allows, Ring, Situation}
-use Rattle.vs_device.specs.Playing.{Runs}
-use Rattle.vs_device.specs.Receiving.{event_on, written}
-use Rattle.vs_device.specs.State.{DeviceState}
+use Rattle.vs_device_parts.specs.Calls.{Allows, Ring, Situation}
+use Rattle.vs_device_parts.specs.Playing.{Runs}
+use Rattle.vs_device_parts.specs.Receiving.{event_on, written}
+use Rattle.vs_device_parts.specs.State.{DeviceState}
 use Rattle.vs_device_log.specs.Packets.{HasAdded, HasTaken, HoldsLast, IsWholeAs, packet_with}
 use Rattle.vs_device_log.proofs.Ringing.{both_written, bytes_held, one_written, returned_entries, returned_held, written_held}
 

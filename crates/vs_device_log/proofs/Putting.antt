@@ -23,9 +23,9 @@ use Rattle.vs_matching.specs.Ends.{Ends, is_new}
 use Rattle.vs_matching.specs.Matches.{Matches}
 use Rattle.vs_matching.specs.Steps.{owed_on, paid, payload_on, with_end}
 use Rattle.vs_matching.proofs.Keeps.{pays, pays_fair, replies, replies_fair, sends, sends_fair}
-use Rattle.vs_device.specs.Connections.{route_to_guest, with_connection}
-use Rattle.vs_device.specs.Receiving.{reply_header}
-use Rattle.vs_device.specs.State.{DeviceConnection, DeviceEntry, DeviceState}
+use Rattle.vs_device_parts.specs.Connections.{route_to_guest, with_connection}
+use Rattle.vs_device_parts.specs.Receiving.{reply_header}
+use Rattle.vs_device_parts.specs.State.{DeviceConnection, DeviceEntry, DeviceState}
 use Rattle.vs_device_log.specs.Honest.{HoldsBytes, IsFit, IsFitEntry, IsFitReply, IsFitState, ends_of_state, ends_with, reply_flow}
 use Rattle.vs_device_log.proofs.Bytes.{held_alone, held_payload, header_fits, owed_flags_fit, reset_fits}
 use Rattle.vs_device_log.proofs.Fits.{fits_paid, fits_sent}

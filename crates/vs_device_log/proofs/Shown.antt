@@ -11,8 +11,8 @@ use Rattle.vs_page.proofs.Entries.{one_got, one_put}
 use Rattle.vs_ring_port.specs.EndLog.{EndLog}
 use Rattle.vs_matching.specs.Ends.{FlowEnd, flows_of, is_among, is_new}
 use Rattle.vs_matching.proofs.Tables.{all_open, end_new}
-use Rattle.vs_device.specs.State.{DeviceEntry, DeviceState}
-use Rattle.vs_device.specs.Turns.{table_shown}
+use Rattle.vs_device_parts.specs.State.{DeviceEntry, DeviceState}
+use Rattle.vs_device_parts.specs.Turns.{table_shown}
 use Rattle.vs_device_log.specs.Honest.{Advertises, AgreesWith, IsClients, IsLeftOpen, ends_of_state, flows_shown}
 use Rattle.vs_device_log.proofs.Tabling.{entry_fits, has_end}
 

@@ -9,13 +9,13 @@ use Rattle.vs_ring_port.specs.declared.device_ring.Chain.{Chain}
 use Rattle.vs_ring_port.specs.declared.device_ring.Next.{Next}
 use Rattle.vs_ring_port.specs.declared.device_ring.Next.TheVariants as next
 use Rattle.vs_ring_port.specs.declared.queue.Queue.TheVariants.{Rx}
-use Rattle.vs_device.specs.Calls.{CloseStream, DeviceTree, IsFitAnswer}
-use Rattle.vs_device.specs.Connections.{with_connection}
-use Rattle.vs_device.specs.Playing.{IsRxChain}
-use Rattle.vs_device.specs.Receiving.{Filling, hold, holding}
-use Rattle.vs_device.specs.State.{DeviceConnection, DeviceEntry, DeviceState}
-use Rattle.vs_device.specs.Streams.{closing}
-use Rattle.vs_device.specs.Transmitting.{failing}
+use Rattle.vs_device_parts.specs.Calls.{CloseStream, DeviceTree, IsFitAnswer}
+use Rattle.vs_device_parts.specs.Connections.{with_connection}
+use Rattle.vs_device_parts.specs.Playing.{IsRxChain}
+use Rattle.vs_device_parts.specs.Receiving.{Filling, hold, holding}
+use Rattle.vs_device_parts.specs.State.{DeviceConnection, DeviceEntry, DeviceState}
+use Rattle.vs_device_parts.specs.Streams.{closing}
+use Rattle.vs_device_parts.specs.Transmitting.{failing}
 use Rattle.vs_device_log.specs.Honest.{IsFitState, IsToldOf, IsWith, unwritten}
 use Rattle.vs_device_log.proofs.Changing.{Changes}
 use Rattle.vs_device_log.proofs.Keeping.{Goes, Keeps}

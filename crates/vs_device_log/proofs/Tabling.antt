@@ -8,8 +8,8 @@ use Rattle.vs_flow.proofs.Tables.{revalued-slot, with_value_sound, without_sound
 use Rattle.vs_matching.specs.Ends.{Ends, FlowEnd, entries_of, is_new}
 use Rattle.vs_matching.specs.Steps.{HasEnd, with_end, left}
 use Rattle.vs_matching.proofs.Slots.{changed_slot, one_end, removed_slot}
-use Rattle.vs_device.specs.State.{DeviceConnection, DeviceEntry, DeviceState}
-use Rattle.vs_device.specs.Connections.{with_connection}
+use Rattle.vs_device_parts.specs.State.{DeviceConnection, DeviceEntry, DeviceState}
+use Rattle.vs_device_parts.specs.Connections.{with_connection}
 use Rattle.vs_device_log.specs.Honest.{HasNothing, HoldsBytes, IsFit, IsFitEntry, IsFitFlow, IsFitState, end_in, ends_of_state}
 
 -- What is kept of a connection.

@@ -23,8 +23,8 @@ use Rattle.vs_matching.specs.Steps.{HasEnd, HasNone, left, is_overrun, taken, wi
 use Rattle.vs_matching.proofs.Keeps.{accepts, drops, has_room, ignores, refuses, takes}
 use Rattle.vs_matching.proofs.Fair.{got_in_order, got_is_taken}
 use Rattle.vs_matching.proofs.Slots.{added_slot, no_entry}
-use Rattle.vs_device.specs.State.{DeviceConnection, DeviceEntry, DeviceState}
-use Rattle.vs_device.specs.Connections.{new_connection, with_connection, with_dialed, with_reply}
+use Rattle.vs_device_parts.specs.State.{DeviceConnection, DeviceEntry, DeviceState}
+use Rattle.vs_device_parts.specs.Connections.{new_connection, with_connection, with_dialed, with_reply}
 use Rattle.vs_device_log.specs.Honest.{IsFitFlow, IsFitReply, IsLeft, ends_of_state, end_in, reply_flow}
 use Rattle.vs_device_log.proofs.Tabling.{IsFitConnection, begun_fits, connection_ends, connection_fits, has_end, left_ends, left_fits}
 use Rattle.vs_device_log.proofs.Tabling.{opening_fits}

@@ -31,16 +31,16 @@ use Rattle.vs_matching.specs.Matches.{Matches}
 use Rattle.vs_matching.specs.Steps.{IsNextFlow}
 use Rattle.vs_matching.proofs.Keeps.{asks, makes_reset, puts_event, start_matches}
 use Rattle.vs_matching.proofs.Slots.{added_slot, found_by}
-use Rattle.vs_device.specs.Calls.{CloseStream, DeviceTree, IsFitAnswer, Label, Ring, TakesWithin, ShutWrite, WriteStream}
-use Rattle.vs_device.specs.Connections.{after_shut, after_written, cut_off, is_timed_out, new_connection, stream_closed, with_client}
-use Rattle.vs_device.specs.Connections.{with_connection, with_fault}
-use Rattle.vs_device.specs.Playing.{IsRxChain}
-use Rattle.vs_device.specs.Receiving.{event_on, pay_event_of}
-use Rattle.vs_device.specs.State.{DeviceConnection, DeviceEntry, DeviceState}
-use Rattle.vs_device.specs.Streams.{Writing, closing, is_written_out, pump_of, pump_slot, shut_write, tick_of, tick_slot, to_write}
-use Rattle.vs_device.specs.Streams.{write_answered, write_pending}
-use Rattle.vs_device.specs.Transmitting.{failing}
-use Rattle.vs_device.specs.Turns.{after_reset, close_slot, new_device, open_of, reset_of}
+use Rattle.vs_device_parts.specs.Calls.{CloseStream, DeviceTree, IsFitAnswer, Label, Ring, TakesWithin, ShutWrite, WriteStream}
+use Rattle.vs_device_parts.specs.Connections.{after_shut, after_written, cut_off, is_timed_out, new_connection, stream_closed, with_client}
+use Rattle.vs_device_parts.specs.Connections.{with_connection, with_fault}
+use Rattle.vs_device_parts.specs.Playing.{IsRxChain}
+use Rattle.vs_device_parts.specs.Receiving.{event_on, pay_event_of}
+use Rattle.vs_device_parts.specs.State.{DeviceConnection, DeviceEntry, DeviceState}
+use Rattle.vs_device_parts.specs.Streams.{Writing, closing, is_written_out, pump_of, pump_slot, shut_write, tick_of, tick_slot, to_write}
+use Rattle.vs_device_parts.specs.Streams.{write_answered, write_pending}
+use Rattle.vs_device_parts.specs.Transmitting.{failing}
+use Rattle.vs_device_parts.specs.Turns.{after_reset, close_slot, new_device, open_of, reset_of}
 use Rattle.vs_device_log.specs.Honest.{IsFitFlow, IsFitState, IsFresh, IsLeft, IsToldOf, IsWith, end_in, ends_of_state, port_after}
 use Rattle.vs_device_log.specs.Honest.{unwritten}
 use Rattle.vs_device_log.proofs.Changing.{cuts, shuts, unseen, writes}

@@ -22,9 +22,9 @@ use Rattle.vs_ring_port.specs.declared.device_ring.Chain.{Chain}
 use Rattle.vs_ring_port.specs.declared.queue.Queue.{Queue}
 use Rattle.vs_ring_port.specs.declared.queue.Queue.TheVariants.{Rx}
 use Rattle.vs_matching.specs.Matches.{Matches}
-use Rattle.vs_device.specs.Calls.{DeviceTree, Ring}
-use Rattle.vs_device.specs.Receiving.{written}
-use Rattle.vs_device.specs.State.{DeviceState}
+use Rattle.vs_device_parts.specs.Calls.{DeviceTree, Ring}
+use Rattle.vs_device_parts.specs.Receiving.{written}
+use Rattle.vs_device_parts.specs.State.{DeviceState}
 use Rattle.vs_device_log.specs.Honest.{AgreesWith, IsFitState, IsToldOf, IsWith, ends_of_state, unwritten}
 use Rattle.vs_device_log.proofs.Keeping.{Keeps}
 use Rattle.vs_device_log.proofs.Putting.{Puts}

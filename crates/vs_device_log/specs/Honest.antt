@@ -24,8 +24,8 @@ use Rattle.vs_ring_port.specs.EndLog.{EndLog}
 use Rattle.vs_ring_port.specs.declared.device_ring.Chain.{Chain}
 use Rattle.vs_matching.specs.Ends.{Ends, entries_of, is_among, is_new, new_flows}
 use Rattle.vs_matching.specs.Matches.{Matches}
-use Rattle.vs_device.specs.Playing.{IsRxChain}
-use Rattle.vs_device.specs.State.{DeviceConnection, DeviceEntry, DeviceState}
+use Rattle.vs_device_parts.specs.Playing.{IsRxChain}
+use Rattle.vs_device_parts.specs.State.{DeviceConnection, DeviceEntry, DeviceState}
 
 -- The flow to which a reply is owed.
 abbrev pub reply_flow : Reply → Flow

@@ -19,11 +19,11 @@ use Rattle.vs_ring_port.specs.DeviceCalls.{CanReturn, DeviceAllows, DeviceMoves}
 use Rattle.vs_ring_port.specs.EndLog.{EndLog}
 use Rattle.vs_ring_port.specs.Lists.{Rings}
 use Rattle.vs_ring_plain.specs.Device.{DeviceState, answer_to}
-use Rattle.vs_device.specs.Calls.{Call, Answer, DeviceTree, HostMoves, IsReadOf, Situation, Allows, Ring, Accept, Dial, Label, ReadStream, WriteStream, ShutWrite, CloseStream}
-use Rattle.vs_device.specs.Playing.{CanMake, MayRun, Runs, situation}
-use Rattle.vs_proxy.specs.State.{ProxyState}
-use Rattle.vs_proxy.specs.Turns.{proxy_reset_of, turn_of}
-use Rattle.vs_proxy.specs.declared.answers.Turn.{Turn}
+use Rattle.vs_device_parts.specs.Calls.{Call, Answer, DeviceTree, HostMoves, IsReadOf, Situation, Allows, Ring, Accept, Dial, Label, ReadStream, WriteStream, ShutWrite, CloseStream}
+use Rattle.vs_device_parts.specs.Playing.{CanMake, MayRun, Runs, situation}
+use Rattle.vs_proxy_parts.specs.State.{ProxyState}
+use Rattle.vs_proxy_parts.specs.Turns.{proxy_reset_of, turn_of}
+use Rattle.vs_proxy_parts.specs.declared.answers.Turn.{Turn}
 use Rattle.vs_proxy_log.specs.Order.{IsInOrder}
 use Rattle.vs_ring_port.specs.declared.failure.Failure.{Failure}
 use Rattle.vs_hostile.specs.Ready.{IsServing}

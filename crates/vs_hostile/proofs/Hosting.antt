@@ -9,11 +9,11 @@ use Rattle.vs_outside.specs.declared.host_net.StreamState.TheVariants as state
 use Rattle.vs_outside.specs.declared.mem_stream.HostWritten.{HostWritten}
 use Rattle.vs_outside.specs.declared.mem_stream.HostWritten.TheVariants as written
 use Rattle.vs_outside.proofs.Frames.{keeps_others, open_of, stays_open, stream_at-with_stream, stream_place}
-use Rattle.vs_device.specs.Playing.{IsItsRing}
-use Rattle.vs_device.specs.State.{DeviceConnection, DeviceState}
+use Rattle.vs_device_parts.specs.Playing.{IsItsRing}
+use Rattle.vs_device_parts.specs.State.{DeviceConnection, DeviceState}
 use Rattle.vs_device_laws.specs.Streams.{HasStreams}
-use Rattle.vs_proxy.specs.Handshakes.{streams_of}
-use Rattle.vs_proxy.specs.State.{ProxyState}
+use Rattle.vs_proxy_parts.specs.Handshakes.{streams_of}
+use Rattle.vs_proxy_parts.specs.State.{ProxyState}
 use Rattle.vs_script.specs.Outside.{Host, HostListen, HostUnlisten, HostWrite, HostAllow, HostEnd, HostClosed, HostFail}
 use Rattle.vs_script.specs.Data.{bytes_of}
 use Rattle.byteorder.specs.Endian.{little_bytes}

@@ -1,8 +1,8 @@
 -- What a hostile guest's script prints, and the status that it ends with, as a function of its bytes.
 use Rattle.std.specs.Prelude.{ℕ, List, [], ◌∷◌, ◌++◌, length, map, codes, decimal, Option, Some, None, Result, Ok, Err}
 use Rattle.vs_outside.specs.Host.{Stream}
-use Rattle.vs_proxy.specs.declared.answers.Turn.{Turn}
-use Rattle.vs_proxy.specs.declared.answers.Turn.TheVariants as turn
+use Rattle.vs_proxy_parts.specs.declared.answers.Turn.{Turn}
+use Rattle.vs_proxy_parts.specs.declared.answers.Turn.TheVariants as turn
 use Rattle.vs_report.specs.Bytes.{data_text}
 use Rattle.vs_report.specs.DeviceLines.{failure_text, turned_text, reset_text}
 use Rattle.vs_report.specs.HostLines.{ok_text, client_text, write_text, stream_there_text}

@@ -4,7 +4,7 @@ use Rattle.vs_outside.specs.Host.{HostContents, accept_answer, after_accept, dia
 use Rattle.vs_outside.specs.declared.host_net.StreamRead.{StreamRead}
 use Rattle.vs_outside.specs.declared.host_net.StreamRead.TheVariants as read
 use Rattle.vs_ring_plain.specs.Device.{DeviceState, answer_to}
-use Rattle.vs_device.specs.Calls.{Call, Answer, Ring, Accept, Dial, Label, ReadStream, WriteStream, ShutWrite, CloseStream}
+use Rattle.vs_device_parts.specs.Calls.{Call, Answer, Ring, Accept, Dial, Label, ReadStream, WriteStream, ShutWrite, CloseStream}
 
 pub record Around : Type 0 where
   pub ring : DeviceState

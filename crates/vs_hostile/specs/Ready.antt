@@ -4,8 +4,8 @@ use Rattle.vs_outside.specs.Host.{HostContents}
 use Rattle.vs_ring_port.specs.Contents.{RingContents}
 use Rattle.vs_ring_port.specs.declared.device_ring.Chain.{Chain}
 use Rattle.vs_ring_plain.specs.Device.{DeviceState, chains_held}
-use Rattle.vs_device.specs.Playing.{IsItsRing, situation}
-use Rattle.vs_proxy.specs.State.{ProxyState}
+use Rattle.vs_device_parts.specs.Playing.{IsItsRing, situation}
+use Rattle.vs_proxy_parts.specs.State.{ProxyState}
 use Rattle.vs_proxy_log.specs.Order.{IsInOrder}
 use Rattle.vs_script.specs.Hostile.{Hostile}
 use Rattle.vs_script.specs.Outside.{Host}

@@ -10,10 +10,10 @@ use Rattle.vs_outside.specs.HostBytes.{wrote_after_connect, read_after_ok}
 use Rattle.vs_outside.specs.declared.mem_stream.HostWritten.{HostWritten}
 use Rattle.vs_ring_port.specs.declared.failure.Failure.{Failure}
 use Rattle.vs_ring_plain.specs.Device.{DeviceState, new_device}
-use Rattle.vs_device.specs.Calls.{DeviceTree}
-use Rattle.vs_proxy.specs.State.{ProxyState}
-use Rattle.vs_proxy.specs.Turns.{new_proxy, turn_of, proxy_reset_of}
-use Rattle.vs_proxy.specs.declared.answers.Turn.{Turn}
+use Rattle.vs_device_parts.specs.Calls.{DeviceTree}
+use Rattle.vs_proxy_parts.specs.State.{ProxyState}
+use Rattle.vs_proxy_parts.specs.Turns.{new_proxy, turn_of, proxy_reset_of}
+use Rattle.vs_proxy_parts.specs.declared.answers.Turn.{Turn}
 use Rattle.vs_script.specs.Hostile.{Hostile, Memory as SetMemory, Rings as SetRings, Look, Around as OfOutside}
 use Rattle.vs_script.specs.Outside.{Host, HostListen, HostUnlisten, HostWrite, HostAllow, HostEnd, HostClosed, HostFail, Outside, Turn as TakeTurn, Reset, Tick, Client, OfHost}
 use Rattle.vs_hostile.specs.Answers.{Around, answer_around}

@@ -2,7 +2,7 @@
 use Rattle.std.specs.Prelude.{List, [], ◌∷◌, None, Some}
 use Rattle.vs_ring_port.specs.declared.failure.Failure.TheVariants.{AvailJump}
 use Rattle.vs_ring_port.specs.declared.queue.Queue.TheVariants.{Rx, Tx}
-use Rattle.vs_proxy.specs.declared.answers.Turn.TheVariants as turn
+use Rattle.vs_proxy_parts.specs.declared.answers.Turn.TheVariants as turn
 use Rattle.vs_script.specs.Data.{Given}
 use Rattle.vs_script.specs.Hostile.{Hostile, Memory, Rings, WriteDesc, Give, Index, Packet, Before, Around}
 use Rattle.vs_script.specs.Outside.{HostListen, OfHost, Turn}

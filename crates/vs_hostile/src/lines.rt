@@ -2,8 +2,8 @@
 
 ghost use Rattle.std.specs.Prelude.{◌≡◌, ◌≤◌, ◌&&◌, ◌++◌, ℕ, nat_le, IfOk, IsTrue, OnOk, string_bytes};
 ghost use Rattle.vs_ring_plain.specs.Device.{chains_held};
-ghost use Rattle.vs_device.specs.Playing.{IsItsRing};
-ghost use Rattle.vs_device.specs.State.{DeviceState};
+ghost use Rattle.vs_device_parts.specs.Playing.{IsItsRing};
+ghost use Rattle.vs_device_parts.specs.State.{DeviceState};
 ghost use Rattle.vs_report.specs.HostLines.{ok_text};
 ghost use Rattle.vs_script.specs.Hostile.{hostile_view};
 ghost use Rattle.vs_script.specs.Outside as outside;

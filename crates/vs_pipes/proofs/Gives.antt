@@ -9,7 +9,7 @@ use Rattle.vs_conn.specs.declared.end.Owed.TheVariants as owed
 use Rattle.vs_conn.specs.declared.end.State.TheVariants as state
 use Rattle.vs_conn.specs.declared.end.Verdict.{Verdict}
 use Rattle.vs_conn.specs.declared.end.Verdict.TheVariants as verdict
-use Rattle.vs_device.specs.State.{DeviceConnection, DeviceEntry}
+use Rattle.vs_device_parts.specs.State.{DeviceConnection, DeviceEntry}
 use Rattle.vs_flow.specs.Table.{IsTable, Table, with_value}
 use Rattle.vs_flow.specs.declared.flow.Flow.{Flow}
 use Rattle.vs_header.specs.declared.Header.{Header}
@@ -19,7 +19,7 @@ use Rattle.vs_history.specs.declared.packet.Packet.{Packet}
 use Rattle.vs_outside.specs.Host.{HostContents}
 use Rattle.vs_page.specs.Fair.{payload_of}
 use Rattle.vs_page.specs.Log.{Device, Log}
-use Rattle.vs_proxy.specs.State.{Handshake}
+use Rattle.vs_proxy_parts.specs.State.{Handshake}
 use Rattle.vs_pipes.specs.Drains.{Drains, got_on, has_passed, put_on}
 use Rattle.vs_pipes.specs.Streamed.{IsJoined, IsStreamed, gives, line_for, look}
 use Rattle.vs_pipes.proofs.Logs.{all_of, only_on, there_on}

@@ -3,8 +3,8 @@ use Rattle.std.proofs.Common.{◌≡◌, ◌≢◌, ℕ, zero, suc, ◌<◌, ◌
 use Rattle.std.specs.List.{All, AllPairs, list_any}
 use Rattle.std.proofs.lemmas.Bool.Decides.{nat_tests}
 use Rattle.std.proofs.lemmas.List.{same_from_push}
-use Rattle.vs_proxy.specs.Handshakes.{with_line, without_stream}
-use Rattle.vs_proxy.specs.State.{Handshake}
+use Rattle.vs_proxy_parts.specs.Handshakes.{with_line, without_stream}
+use Rattle.vs_proxy_parts.specs.State.{Handshake}
 use Rattle.vs_uds.specs.ConnectLine.{connect_port, connect_step, connect_word}
 use Rattle.vs_uds.specs.Reading.{is_decided, port_or_bad}
 use Rattle.vs_uds.specs.declared.connect.TheConstants.{CONNECT_MAX}

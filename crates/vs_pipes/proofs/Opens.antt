@@ -6,8 +6,8 @@ use Rattle.std.proofs.lemmas.Bool.Decides.{nat_tests}
 use Rattle.std.proofs.lemmas.List.Elements.{Contains-push}
 use Rattle.std.proofs.lemmas.Option.{get_or_from_slice_get, slice_get_within}
 use Rattle.vs_conn.specs.End.{answering, asked}
-use Rattle.vs_device.specs.Connections.{new_connection}
-use Rattle.vs_device.specs.State.{DeviceConnection}
+use Rattle.vs_device_parts.specs.Connections.{new_connection}
+use Rattle.vs_device_parts.specs.State.{DeviceConnection}
 use Rattle.vs_flow.specs.Flow.{is_assigned}
 use Rattle.vs_flow.specs.Table.{Table, with_entry}
 use Rattle.vs_flow.specs.declared.flow.Flow.{Flow}
@@ -20,8 +20,8 @@ use Rattle.vs_outside.specs.HostBytes.{after_line}
 use Rattle.vs_outside.specs.declared.host_net.Dialed.TheVariants as dialed
 use Rattle.vs_outside.specs.declared.host_net.StreamRead.TheVariants as read
 use Rattle.vs_page.specs.Log.{Device, Log}
-use Rattle.vs_proxy.specs.Handshakes.{with_line, without_stream}
-use Rattle.vs_proxy.specs.State.{Handshake}
+use Rattle.vs_proxy_parts.specs.Handshakes.{with_line, without_stream}
+use Rattle.vs_proxy_parts.specs.State.{Handshake}
 use Rattle.vs_uds.specs.OkLine.{ok_text}
 use Rattle.vs_uds.specs.Reading.{is_decided}
 use Rattle.vs_uds.specs.declared.connect.TheConstants.{CONNECT_MAX}

@@ -5,14 +5,14 @@ use Rattle.std.proofs.lemmas.Bool.Decides.{nat_tests}
 use Rattle.std.proofs.lemmas.List.{append-nil}
 use Rattle.std.proofs.lemmas.List.Elements.{All-contains, All-push, All-weaker, Contains-append_left}
 use Rattle.vs_conn.specs.declared.end.State.TheVariants.{Asked}
-use Rattle.vs_device.specs.State.{DeviceConnection, DeviceEntry}
+use Rattle.vs_device_parts.specs.State.{DeviceConnection, DeviceEntry}
 use Rattle.vs_flow.specs.Flow.{same_flow}
 use Rattle.vs_flow.specs.Table.{IsTable, Table, next_entry, with_entry, with_value, without}
 use Rattle.vs_flow.specs.declared.flow.Flow.{Flow}
 use Rattle.vs_flow.proofs.Entries.{same_flow_true}
 use Rattle.vs_page.specs.Fair.{IsPrefixOf}
 use Rattle.vs_page.specs.Log.{Device, Log}
-use Rattle.vs_proxy.specs.State.{Handshake}
+use Rattle.vs_proxy_parts.specs.State.{Handshake}
 use Rattle.vs_pipes.specs.Drains.{Drains, got_on, has_passed, put_on}
 use Rattle.vs_pipes.specs.Streamed.{AreLines, AreStreamed, IsJoined, IsLabelled, Seen, client_waits, gives, line_for, reading, taken_of}
 use Rattle.vs_pipes.proofs.Changes.{changed, others_left}

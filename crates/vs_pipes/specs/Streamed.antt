@@ -5,7 +5,7 @@ use Rattle.std.specs.Option.{option_map}
 use Rattle.vs_conn.specs.End.{ConnectionEnd}
 use Rattle.vs_conn.specs.declared.end.State.{State}
 use Rattle.vs_conn.specs.declared.end.State.TheVariants.{Answering, Asked, Live}
-use Rattle.vs_device.specs.State.{DeviceConnection, DeviceEntry}
+use Rattle.vs_device_parts.specs.State.{DeviceConnection, DeviceEntry}
 use Rattle.vs_flow.specs.Flow.{is_assigned}
 use Rattle.vs_flow.specs.Table.{Table}
 use Rattle.vs_flow.specs.declared.flow.Flow.{Flow}
@@ -14,7 +14,7 @@ use Rattle.vs_outside.specs.HostBytes.{after_line}
 use Rattle.vs_uds.specs.declared.scan.TheConstants.{LF}
 use Rattle.vs_page.specs.Fair.{IsPrefixOf}
 use Rattle.vs_page.specs.Log.{Device, Log}
-use Rattle.vs_proxy.specs.State.{Handshake}
+use Rattle.vs_proxy_parts.specs.State.{Handshake}
 use Rattle.vs_uds.specs.OkLine.{ok_text}
 use Rattle.vs_uds.specs.Reading.{is_decided}
 use Rattle.vs_uds.specs.declared.connect.TheConstants.{CONNECT_MAX}

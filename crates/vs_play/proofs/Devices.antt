@@ -10,16 +10,16 @@ use Rattle.vs_driver_parts.specs.Playing.{IsRingOf}
 use Rattle.vs_driver_parts.specs.State.{DriverState}
 use Rattle.vs_driver_log.specs.Honest.{IsHonestWith}
 use Rattle.vs_ring_port.specs.Chains.{chains_of}
-use Rattle.vs_device.specs.Calls.{Allows, Situation}
-use Rattle.vs_device.specs.Playing.{CanMake, IsItsRing, MayRun, Runs, situation}
+use Rattle.vs_device_parts.specs.Calls.{Allows, Situation}
+use Rattle.vs_device_parts.specs.Playing.{CanMake, IsItsRing, MayRun, Runs, situation}
 use Rattle.vs_device_laws.specs.Split.{CanReach}
 use Rattle.vs_device_laws.proofs.Conditions.{may_where, quiet_can}
 use Rattle.vs_device_laws.proofs.Keeping.{keeps_may, keeps_end as streams_end}
 use Rattle.vs_device_laws.proofs.Opening.{new_has}
 use Rattle.vs_device_log.proofs.Keeping.{keeps_end, keeps_put}
-use Rattle.vs_proxy.specs.State.{ProxyState}
-use Rattle.vs_proxy.specs.Turns.{new_proxy, proxy_reset_of, turn_of}
-use Rattle.vs_proxy.specs.declared.answers.Turn.{Turn}
+use Rattle.vs_proxy_parts.specs.State.{ProxyState}
+use Rattle.vs_proxy_parts.specs.Turns.{new_proxy, proxy_reset_of, turn_of}
+use Rattle.vs_proxy_parts.specs.declared.answers.Turn.{Turn}
 use Rattle.vs_proxy_laws.proofs.Lists.{none_open}
 use Rattle.vs_proxy_laws.proofs.Turning.{keeps_proxy_reset, keeps_turn}
 use Rattle.vs_proxy_log.proofs.Turning.{new_proxy_with, proxy_reset_keeps, turn_keeps}

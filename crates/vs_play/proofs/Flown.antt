@@ -9,7 +9,7 @@ use Rattle.vs_ring_port.specs.declared.queue.Queue.{Queue}
 use Rattle.vs_ring_port.specs.declared.queue.Queue.TheVariants.{Rx, Tx, Event}
 use Rattle.vs_ring_list.specs.Ends.{Ends, device_contents, flight_of}
 use Rattle.vs_ring_list.proofs.Flights.{flight_of-taken, in_flight-written, in_flight-returned}
-use Rattle.vs_device.specs.Calls.{Ring}
+use Rattle.vs_device_parts.specs.Calls.{Ring}
 use Rattle.vs_device_log.proofs.Keeping.{Can}
 
 pub record LeavesDriver (old new : Ends) : Type 0 where

@@ -19,8 +19,8 @@ use Rattle.vs_ring_port.specs.EndLog.{EndLog}
 use Rattle.vs_ring_port.specs.Lists.{Rings}
 use Rattle.vs_ring_list.specs.Ends.{Ends, device_contents}
 use Rattle.vs_ring_list.proofs.Determined.{device_determined}
-use Rattle.vs_device.specs.Calls.{Call, Answer, Ring, Accept, Dial, Label, ReadStream, WriteStream, ShutWrite, CloseStream, Situation, DeviceTree, Allows, HostMoves, IsReadOf}
-use Rattle.vs_device.specs.Playing.{Runs, situation}
+use Rattle.vs_device_parts.specs.Calls.{Call, Answer, Ring, Accept, Dial, Label, ReadStream, WriteStream, ShutWrite, CloseStream, Situation, DeviceTree, Allows, HostMoves, IsReadOf}
+use Rattle.vs_device_parts.specs.Playing.{Runs, situation}
 use Rattle.vs_device_log.proofs.Keeping.{Can, Moves, Keeps, fitted, moved}
 use Rattle.vs_world.specs.Answers.{Around, answer_around, bytes_with}
 use Rattle.vs_play.specs.Ready.{beside, over_both}

@@ -12,14 +12,14 @@ use Rattle.vs_report.specs.GuestLines.{poll_text}
 use Rattle.vs_report.specs.HostLines.{ok_text}
 use Rattle.vs_script.specs.Outside.{Reset, Tick, Turn}
 use Rattle.vs_ring_port.specs.declared.failure.Failure.{Failure}
-use Rattle.vs_proxy.specs.declared.answers.Turn as answers
+use Rattle.vs_proxy_parts.specs.declared.answers.Turn as answers
 use Rattle.vs_report.specs.DeviceLines.{reset_text}
 use Rattle.vs_script.specs.Play.{Event, Poll, Around}
 use Rattle.vs_world.specs.GuestSteps.{makes_call}
 use Rattle.vs_world.specs.Calls.{GuestCall, ReplyTo}
 use Rattle.vs_world.specs.Plays.{Guest, whole_call}
-use Rattle.vs_proxy.specs.State.{ProxyState}
-use Rattle.vs_proxy.specs.Turns.{new_proxy, proxy_reset_of, turn_of}
+use Rattle.vs_proxy_parts.specs.State.{ProxyState}
+use Rattle.vs_proxy_parts.specs.Turns.{new_proxy, proxy_reset_of, turn_of}
 use Rattle.vs_play.specs.Answer.{base_path, opened_play}
 use Rattle.vs_play.specs.Lines.{event_played, played_line, reply_text, turn_text}
 use Rattle.vs_play.proofs.Served.{StayOpen, served_host, served_rings}

@@ -12,11 +12,11 @@ use Rattle.vs_outside.proofs.Frames.{keeps_others, open_of, stays_open, stream_a
 use Rattle.vs_ring_port.specs.Chains.{chains_of}
 use Rattle.vs_ring_port.specs.EndLog.{EndLog}
 use Rattle.vs_ring_list.specs.Ends.{Ends, device_contents}
-use Rattle.vs_device.specs.Playing.{IsItsRing}
-use Rattle.vs_device.specs.State.{DeviceConnection}
+use Rattle.vs_device_parts.specs.Playing.{IsItsRing}
+use Rattle.vs_device_parts.specs.State.{DeviceConnection}
 use Rattle.vs_device_laws.specs.Streams.{HasStreams}
-use Rattle.vs_proxy.specs.Handshakes.{streams_of}
-use Rattle.vs_proxy.specs.State.{ProxyState}
+use Rattle.vs_proxy_parts.specs.Handshakes.{streams_of}
+use Rattle.vs_proxy_parts.specs.State.{ProxyState}
 use Rattle.vs_proxy_log.specs.Honest.{IsProxyWith}
 use Rattle.vs_world.specs.World.{first_cid}
 use Rattle.vs_play.specs.Ready.{IsServed}

@@ -6,8 +6,8 @@ use Rattle.vs_driver_parts.specs.State.{DriverState}
 use Rattle.vs_driver_parts.specs.declared.answers.Accepted.{Accepted}
 use Rattle.vs_driver_parts.specs.declared.answers.Accepted.TheVariants as accepted
 use Rattle.vs_driver_parts.specs.declared.answers.ConnectError.{ConnectError}
-use Rattle.vs_proxy.specs.declared.answers.Turn.{Turn}
-use Rattle.vs_proxy.specs.declared.answers.Turn.TheVariants as turn
+use Rattle.vs_proxy_parts.specs.declared.answers.Turn.{Turn}
+use Rattle.vs_proxy_parts.specs.declared.answers.Turn.TheVariants as turn
 use Rattle.vs_script.specs.Data.{Content, filled}
 use Rattle.vs_script.specs.Data as data_
 use Rattle.vs_script.specs.Outside.{Outside, Host}

@@ -14,9 +14,9 @@ use Rattle.vs_script.specs.Outside as outside
 use Rattle.vs_script.specs.Play as script
 use Rattle.vs_script.specs.Play.{Event}
 use Rattle.vs_outside.specs.Host.{HostContents}
-use Rattle.vs_device.specs.Calls.{DeviceTree}
-use Rattle.vs_device.specs.Playing.{IsItsRing, situation}
-use Rattle.vs_proxy.specs.State.{ProxyState}
+use Rattle.vs_device_parts.specs.Calls.{DeviceTree}
+use Rattle.vs_device_parts.specs.Playing.{IsItsRing, situation}
+use Rattle.vs_proxy_parts.specs.State.{ProxyState}
 use Rattle.vs_proxy_log.specs.Order.{IsInOrder}
 use Rattle.vs_world.specs.Answers.{Around, answer_around}
 use Rattle.vs_world.specs.World.{first_cid}

@@ -2,7 +2,7 @@
 
 ghost use Rattle.std.specs.Prelude.{◌≡◌, ◌≤◌, ◌++◌, Result, IfOk, OnOk, false, string_bytes};
 ghost use Rattle.vs_driver_parts.specs.State.{DriverState};
-ghost use Rattle.vs_proxy.specs.Turns.{proxy_reset_of, turn_of};
+ghost use Rattle.vs_proxy_parts.specs.Turns.{proxy_reset_of, turn_of};
 ghost use Rattle.vs_play.specs.Lines.{turn_text};
 ghost use Rattle.vs_play.specs.Ready.{IsDriven, IsServed, over_both};
 

@@ -9,21 +9,21 @@ use Rattle.vs_outside.specs.declared.host_net.StreamWrite.TheVariants as write
 use Rattle.vs_ring_port.specs.declared.device_ring.Next.{Next}
 use Rattle.vs_ring_port.specs.declared.device_ring.Next.TheVariants as next
 use Rattle.vs_wrap.specs.Wrap.{counted}
-use Rattle.vs_device.specs.Calls.{DeviceTree}
-use Rattle.vs_device.specs.State.{DeviceConnection, DeviceState, DeviceEntry}
-use Rattle.vs_device.specs.Streams.{closing, leaving, tick_slot, tick_of, Writing, pump_of, pump_slot, write_answered, write_pending, shut_write, to_write, is_written_out}
-use Rattle.vs_device.specs.Connections.{is_timed_out, cut_off, stream_closed}
+use Rattle.vs_device_parts.specs.Calls.{DeviceTree}
+use Rattle.vs_device_parts.specs.State.{DeviceConnection, DeviceState, DeviceEntry}
+use Rattle.vs_device_parts.specs.Streams.{closing, leaving, tick_slot, tick_of, Writing, pump_of, pump_slot, write_answered, write_pending, shut_write, to_write, is_written_out}
+use Rattle.vs_device_parts.specs.Connections.{is_timed_out, cut_off, stream_closed}
 use Rattle.vs_flow.specs.declared.flow.Flow.{Flow}
 use Rattle.vs_flow.specs.declared.table.TableFault.{TableFault}
 use Rattle.vs_flow.specs.Table.{refusal}
 use Rattle.vs_ring_port.specs.declared.failure.Failure.{Failure}
 use Rattle.vs_ring_port.specs.declared.queue.Queue.TheVariants.{Event}
 use Rattle.vs_ring_port.specs.Contents.{Take}
-use Rattle.vs_device.specs.Calls.{Ring, Label, CloseStream, WriteStream, ShutWrite}
-use Rattle.vs_device.specs.Connections.{with_connection, with_fault, after_leaving, with_client}
-use Rattle.vs_device.specs.Receiving.{event_on, pay_event_of}
-use Rattle.vs_device.specs.Turns.{open_of}
-use Rattle.vs_proxy.specs.Turning.{CountsFew}
+use Rattle.vs_device_parts.specs.Calls.{Ring, Label, CloseStream, WriteStream, ShutWrite}
+use Rattle.vs_device_parts.specs.Connections.{with_connection, with_fault, after_leaving, with_client}
+use Rattle.vs_device_parts.specs.Receiving.{event_on, pay_event_of}
+use Rattle.vs_device_parts.specs.Turns.{open_of}
+use Rattle.vs_proxy_parts.specs.Turning.{CountsFew}
 
 pub one_more : (n : ℕ) → counted n ≤ n + 1
 one_more n = omega arith

@@ -20,13 +20,13 @@ use Rattle.vs_ring_port.specs.declared.device_ring.Next.{Next}
 use Rattle.vs_ring_port.specs.declared.device_ring.Next.TheVariants as next
 use Rattle.vs_ring_port.specs.declared.failure.Failure.{Failure}
 use Rattle.vs_ring_port.specs.declared.queue.Queue.TheVariants.{Rx}
-use Rattle.vs_device.specs.declared.answers.Filled.{Filled}
-use Rattle.vs_device.specs.Calls.{DeviceTree, Ring, ReadStream}
-use Rattle.vs_device.specs.Connections.{with_connection, with_fault, route_to_guest, cut_off}
-use Rattle.vs_device.specs.State.{DeviceEntry, DeviceState}
-use Rattle.vs_device.specs.Streams.{closing}
-use Rattle.vs_device.specs.Receiving.{Filling, after_paying, fill_rx_of, filled_of, hold, holding, may_read, put_on, put_owed, put_packet, put_payload, put_reply, put_reply_of, read_answered, read_room, read_stream, read_with_chain, reply_header, round_from, serve_slot}
-use Rattle.vs_proxy.specs.Turning.{CountsFew}
+use Rattle.vs_device_parts.specs.declared.answers.Filled.{Filled}
+use Rattle.vs_device_parts.specs.Calls.{DeviceTree, Ring, ReadStream}
+use Rattle.vs_device_parts.specs.Connections.{with_connection, with_fault, route_to_guest, cut_off}
+use Rattle.vs_device_parts.specs.State.{DeviceEntry, DeviceState}
+use Rattle.vs_device_parts.specs.Streams.{closing}
+use Rattle.vs_device_parts.specs.Receiving.{Filling, after_paying, fill_rx_of, filled_of, hold, holding, may_read, put_on, put_owed, put_packet, put_payload, put_reply, put_reply_of, read_answered, read_room, read_stream, read_with_chain, reply_header, round_from, serve_slot}
+use Rattle.vs_proxy_parts.specs.Turning.{CountsFew}
 use Rattle.vs_proxy.proofs.Counting.{Ends, closing_few, keeps_bind, keeps_each, keeps_while, leaving_few}
 
 -- no more left than packets were put

@@ -15,15 +15,15 @@ use Rattle.vs_uds.specs.ConnectLine.{connect_step}
 use Rattle.vs_uds.specs.declared.scan.Step.{Step}
 use Rattle.vs_uds.specs.declared.scan.Step.TheVariants as step
 use Rattle.vs_flow.specs.declared.table.TableFault.{TableFault}
-use Rattle.vs_device.specs.Calls.{DeviceTree, Situation, Allows, Accept, ReadStream, CloseStream}
-use Rattle.vs_device.specs.Connections.{is_late}
-use Rattle.vs_device.specs.Playing.{CanMake, MayRun, Runs}
-use Rattle.vs_device.specs.State.{DeviceState}
-use Rattle.vs_device.specs.Turns.{open_of}
-use Rattle.vs_proxy.specs.Handshakes.{accept_answered, accept_one, byte_read, dropping, handshake_on, line_decided, may_open, read_byte, read_line, shake_hands, streams_of, tick_handshake, with_line, without_handshake, without_stream}
-use Rattle.vs_proxy.specs.State.{Handshake, Turning, with_device}
-use Rattle.vs_proxy.specs.Turning.{closing_client, connecting, opening_client, read_lines, without_it}
-use Rattle.vs_proxy.specs.declared.limits.TheConstants.{HANDSHAKES}
+use Rattle.vs_device_parts.specs.Calls.{DeviceTree, Situation, Allows, Accept, ReadStream, CloseStream}
+use Rattle.vs_device_parts.specs.Connections.{is_late}
+use Rattle.vs_device_parts.specs.Playing.{CanMake, MayRun, Runs}
+use Rattle.vs_device_parts.specs.State.{DeviceState}
+use Rattle.vs_device_parts.specs.Turns.{open_of}
+use Rattle.vs_proxy_parts.specs.Handshakes.{accept_answered, accept_one, byte_read, dropping, handshake_on, line_decided, may_open, read_byte, read_line, shake_hands, streams_of, tick_handshake, with_line, without_handshake, without_stream}
+use Rattle.vs_proxy_parts.specs.State.{Handshake, Turning, with_device}
+use Rattle.vs_proxy_parts.specs.Turning.{closing_client, connecting, opening_client, read_lines, without_it}
+use Rattle.vs_proxy_parts.specs.declared.limits.TheConstants.{HANDSHAKES}
 
 -- a handshake ends
 abbrev pub dropped : ℕ → Turning → Turning

@@ -1,4 +1,3 @@
-mod Waiting
 mod Handshaking
 mod Counting
 mod Taking

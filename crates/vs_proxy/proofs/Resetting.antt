@@ -5,13 +5,13 @@ use Rattle.vs_contents.specs.CallTree.{Done, for_each}
 use Rattle.vs_contents.proofs.Leads.{leads_bind}
 use Rattle.vs_contents.proofs.Conditions.{may_first, may_rest}
 use Rattle.vs_ring_port.specs.declared.failure.Failure.{Failure}
-use Rattle.vs_device.specs.Calls.{DeviceTree, Situation, Allows}
-use Rattle.vs_device.specs.Playing.{CanMake, MayRun, Runs}
-use Rattle.vs_device.specs.State.{DeviceState}
-use Rattle.vs_device.specs.Turns.{reset_of}
-use Rattle.vs_proxy.specs.Handshakes.{streams_of}
-use Rattle.vs_proxy.specs.State.{ProxyState, with_device}
-use Rattle.vs_proxy.specs.Turns.{close_handshake, proxy_reset_of, reset_with}
+use Rattle.vs_device_parts.specs.Calls.{DeviceTree, Situation, Allows}
+use Rattle.vs_device_parts.specs.Playing.{CanMake, MayRun, Runs}
+use Rattle.vs_device_parts.specs.State.{DeviceState}
+use Rattle.vs_device_parts.specs.Turns.{reset_of}
+use Rattle.vs_proxy_parts.specs.Handshakes.{streams_of}
+use Rattle.vs_proxy_parts.specs.State.{ProxyState, with_device}
+use Rattle.vs_proxy_parts.specs.Turns.{close_handshake, proxy_reset_of, reset_with}
 
 module _ (cid : ℕ) (s : ProxyState) where
   abbrev then_close : DeviceState × Result (Unit {0}) Failure → DeviceTree (ProxyState × Result (Unit {0}) Failure)

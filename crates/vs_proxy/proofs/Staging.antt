@@ -7,17 +7,17 @@ use Rattle.vs_contents.proofs.Leads.{leads_bind, leads_of}
 use Rattle.vs_contents.proofs.Conditions.{may_first, may_of, may_rest}
 use Rattle.vs_ring_port.specs.declared.device_ring.Chain.{Chain}
 use Rattle.vs_ring_port.specs.declared.failure.Failure.{Failure}
-use Rattle.vs_device.specs.Calls.{DeviceTree, Situation, Allows}
-use Rattle.vs_device.specs.Playing.{CanMake, IsItsRing, IsRxChain, MayRun, Runs, held_by}
-use Rattle.vs_device.specs.Receiving.{fill_rx_of, pay_event_of}
-use Rattle.vs_device.specs.State.{DeviceState}
-use Rattle.vs_device.specs.Streams.{Writing, pump_of, tick_of}
-use Rattle.vs_device.specs.Transmitting.{take_tx_of}
-use Rattle.vs_device.specs.declared.answers.Filled.{Filled}
-use Rattle.vs_device.specs.declared.answers.Taken.{Taken}
-use Rattle.vs_proxy.specs.Handshakes.{tick_handshakes}
-use Rattle.vs_proxy.specs.State.{Turning}
-use Rattle.vs_proxy.specs.Turns.{device_after, event_stage, fill_stage, filled, pump_stage, take_one, take_stage, tick_stage, took_packet, unless_failed}
+use Rattle.vs_device_parts.specs.Calls.{DeviceTree, Situation, Allows}
+use Rattle.vs_device_parts.specs.Playing.{CanMake, IsItsRing, IsRxChain, MayRun, Runs, held_by}
+use Rattle.vs_device_parts.specs.Receiving.{fill_rx_of, pay_event_of}
+use Rattle.vs_device_parts.specs.State.{DeviceState}
+use Rattle.vs_device_parts.specs.Streams.{Writing, pump_of, tick_of}
+use Rattle.vs_device_parts.specs.Transmitting.{take_tx_of}
+use Rattle.vs_device_parts.specs.declared.answers.Filled.{Filled}
+use Rattle.vs_device_parts.specs.declared.answers.Taken.{Taken}
+use Rattle.vs_proxy_parts.specs.Handshakes.{tick_handshakes}
+use Rattle.vs_proxy_parts.specs.State.{Turning}
+use Rattle.vs_proxy_parts.specs.Turns.{device_after, event_stage, fill_stage, filled, pump_stage, take_one, take_stage, tick_stage, took_packet, unless_failed}
 
 no_failure : (o : Option Failure) → is_some o ≡ false → o ≡ None
 no_failure None is = refl

@@ -27,16 +27,16 @@ use Rattle.vs_ring_port.specs.declared.failure.Failure.{Failure}
 use Rattle.vs_ring_port.specs.declared.failure.Failure.TheVariants as failure
 use Rattle.vs_ring_port.specs.declared.queue.Queue.TheVariants.{Tx}
 use Rattle.vs_uds.specs.Path.{path_of}
-use Rattle.vs_device.specs.declared.answers.Taken.{Taken}
-use Rattle.vs_device.specs.declared.answers.Taken.TheVariants as taken
-use Rattle.vs_device.specs.declared.limits.TheConstants.{REPLIES}
+use Rattle.vs_device_parts.specs.declared.answers.Taken.{Taken}
+use Rattle.vs_device_parts.specs.declared.answers.Taken.TheVariants as taken
+use Rattle.vs_device_parts.specs.declared.limits.TheConstants.{REPLIES}
 use Rattle.vs_wrap.specs.Wrap.{counted}
-use Rattle.vs_device.specs.Calls.{DeviceTree, Ring, Dial}
-use Rattle.vs_device.specs.Connections.{with_connection, with_reply}
-use Rattle.vs_device.specs.State.{DeviceEntry, DeviceState}
-use Rattle.vs_device.specs.Streams.{leaving}
-use Rattle.vs_device.specs.Transmitting.{dial_answered, failing, heard, on_header, on_known, on_next, on_packet, on_unknown, refused, take_tx_of, try_request, unknown_why}
-use Rattle.vs_proxy.specs.Turning.{CountsFew}
+use Rattle.vs_device_parts.specs.Calls.{DeviceTree, Ring, Dial}
+use Rattle.vs_device_parts.specs.Connections.{with_connection, with_reply}
+use Rattle.vs_device_parts.specs.State.{DeviceEntry, DeviceState}
+use Rattle.vs_device_parts.specs.Streams.{leaving}
+use Rattle.vs_device_parts.specs.Transmitting.{dial_answered, failing, heard, on_header, on_known, on_next, on_packet, on_unknown, refused, take_tx_of, try_request, unknown_why}
+use Rattle.vs_proxy_parts.specs.Turning.{CountsFew}
 use Rattle.vs_proxy.proofs.Counting.{Ends, few_more, leaving_few, one_more, same_few}
 
 module _ (s : DeviceState) where

@@ -4,13 +4,13 @@ use Rattle.vs_contents.specs.CallTree.{Done, bind}
 use Rattle.vs_contents.proofs.Leads.{leads_bind}
 use Rattle.vs_contents.proofs.Conditions.{may_first, may_rest}
 use Rattle.vs_ring_port.specs.declared.failure.Failure.{Failure}
-use Rattle.vs_device.specs.Calls.{DeviceTree, Situation, Allows}
-use Rattle.vs_device.specs.Playing.{CanMake, MayRun, Runs}
-use Rattle.vs_proxy.specs.Handshakes.{shake_hands}
-use Rattle.vs_proxy.specs.State.{ProxyState, Turning, start}
-use Rattle.vs_proxy.specs.Turns.{event_stage, fill_stage, pump_stage, take_stage, tick_stage, turn_of, turned, unless_failed}
-use Rattle.vs_proxy.specs.declared.answers.Turn.{Turn}
-use Rattle.vs_proxy.specs.declared.answers.Turn.TheVariants as turn
+use Rattle.vs_device_parts.specs.Calls.{DeviceTree, Situation, Allows}
+use Rattle.vs_device_parts.specs.Playing.{CanMake, MayRun, Runs}
+use Rattle.vs_proxy_parts.specs.Handshakes.{shake_hands}
+use Rattle.vs_proxy_parts.specs.State.{ProxyState, Turning, start}
+use Rattle.vs_proxy_parts.specs.Turns.{event_stage, fill_stage, pump_stage, take_stage, tick_stage, turn_of, turned, unless_failed}
+use Rattle.vs_proxy_parts.specs.declared.answers.Turn.{Turn}
+use Rattle.vs_proxy_parts.specs.declared.answers.Turn.TheVariants as turn
 
 module _ (size now : ℕ) (s : ProxyState) where
   abbrev pub ticks : DeviceTree Turning

@@ -6,18 +6,18 @@ ghost use Rattle.vs_contents.specs.CallTree.{while_up_to};
 ghost use Rattle.vs_outside.specs.Host.{IsOpen};
 ghost use Rattle.vs_outside.specs.declared.host_net.StreamRead.TheVariants as read;
 ghost use Rattle.vs_uds.specs.declared.connect.TheConstants.{CONNECT_MAX};
-ghost use Rattle.vs_device.specs.Calls.{CloseStream};
-ghost use Rattle.vs_device.specs.Playing.{AllowsOnHost, MayRunOnHost, RunsOnHost};
-ghost use Rattle.vs_proxy.specs.declared.limits.TheConstants.{HANDSHAKES};
-ghost use Rattle.vs_proxy.specs.Handshakes.{byte_read, handshake_on, may_open, read_byte, read_line, shake_hands};
-ghost use Rattle.vs_proxy.specs.State.{Handshake};
-ghost use Rattle.vs_proxy.specs.Turning.{CountsFew, connecting, read_lines, turning_of};
+ghost use Rattle.vs_device_parts.specs.Calls.{CloseStream};
+ghost use Rattle.vs_device_parts.specs.Playing.{AllowsOnHost, MayRunOnHost, RunsOnHost};
+ghost use Rattle.vs_proxy_parts.specs.declared.limits.TheConstants.{HANDSHAKES};
+ghost use Rattle.vs_proxy_parts.specs.Handshakes.{byte_read, handshake_on, may_open, read_byte, read_line, shake_hands};
+ghost use Rattle.vs_proxy_parts.specs.State.{Handshake};
+ghost use Rattle.vs_proxy_parts.specs.Turning.{CountsFew, connecting, read_lines, turning_of};
 
-use crate::host_calls::{close, read_byte};
 use crate::proxy::Proxy;
-use crate::tally::Tally;
 use vs_flow::{ASSIGNED_LAST, Flow};
 use vs_outside::{HostNet, StreamRead};
+use vs_proxy_parts::host_calls::{close, read_byte};
+use vs_proxy_parts::tally::Tally;
 use vs_uds::{CONNECT_MAX, Step};
 
 impl Proxy {

@@ -2,14 +2,14 @@
 
 ghost use Rattle.std.specs.Prelude.{◌≡◌, ◌≤◌, IfOk, length};
 ghost use Rattle.vs_uds.specs.declared.path.TheConstants.{BASE_MAX};
-ghost use Rattle.vs_device.specs.Turns.{counters_of};
-ghost use Rattle.vs_proxy.specs.Turns.{new_proxy};
+ghost use Rattle.vs_device_parts.specs.Turns.{counters_of};
+ghost use Rattle.vs_proxy_parts.specs.Turns.{new_proxy};
 
-use crate::handshakes::Handshakes;
 use std::alloc::{AllocError, Global};
 use std::marker::Model;
 use vs_device::{Counters, Device};
 use vs_flow::ASSIGNED_FIRST;
+use vs_proxy_parts::handshakes::Handshakes;
 
 /// A proxy between the guest's socket device and the host's sockets (Firecracker's vsock documentation). The ring and the host are lent to
 /// each call that needs them, and must be those of the proxy's earlier calls. All memory is taken when the proxy is made.
@@ -23,7 +23,7 @@ pub struct Proxy {
 impl Model for Proxy {
     ghost use Rattle.std.specs.Prelude.{◌≤◌, ◌+◌};
     ghost use Rattle.vs_flow.specs.declared.flow.TheConstants.{ASSIGNED_LAST};
-    ghost use Rattle.vs_proxy.specs.State.{ProxyState};
+    ghost use Rattle.vs_proxy_parts.specs.State.{ProxyState};
 
     ghost Value = { ProxyState };
 

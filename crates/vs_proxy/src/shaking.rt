@@ -2,18 +2,18 @@
 
 ghost use Rattle.std.specs.Prelude.{◌≡◌, ◌≤◌, ◌<◌, ◌+◌, ◌^◌, Some, false};
 ghost use Rattle.std.specs.Option.{option_map_or};
-ghost use Rattle.vs_device.specs.Playing.{MayRunOnHost, RunsOnHost};
-ghost use Rattle.vs_device.specs.Connections.{is_late};
-ghost use Rattle.vs_proxy.specs.declared.limits.TheConstants.{HANDSHAKES};
-ghost use Rattle.vs_proxy.specs.Handshakes.{accept_one, dropping, handshake_on, tick_handshake, tick_handshakes};
-ghost use Rattle.vs_proxy.specs.Turning.{CountsFew, turning_of};
+ghost use Rattle.vs_device_parts.specs.Playing.{MayRunOnHost, RunsOnHost};
+ghost use Rattle.vs_device_parts.specs.Connections.{is_late};
+ghost use Rattle.vs_proxy_parts.specs.declared.limits.TheConstants.{HANDSHAKES};
+ghost use Rattle.vs_proxy_parts.specs.Handshakes.{accept_one, dropping, handshake_on, tick_handshake, tick_handshakes};
+ghost use Rattle.vs_proxy_parts.specs.Turning.{CountsFew, turning_of};
 
-use crate::host_calls::{accept, close};
-use crate::limits::HANDSHAKES;
 use crate::proxy::Proxy;
-use crate::tally::Tally;
 use vs_device::TIMEOUT;
 use vs_outside::{Accepted, HostNet};
+use vs_proxy_parts::host_calls::{accept, close};
+use vs_proxy_parts::limits::HANDSHAKES;
+use vs_proxy_parts::tally::Tally;
 
 impl Proxy {
     /// Ends the handshakes that wait too long for their lines, in the order in which they were accepted.

@@ -4,18 +4,18 @@ ghost use Rattle.std.specs.Prelude.{◌≡◌, ◌≤◌, ◌<◌, ◌+◌, ◌*
 ghost use Rattle.vs_conn.specs.declared.end.TheConstants.{OWED_MAX};
 ghost use Rattle.vs_ring_port.specs.declared.device_ring.Chain.{Chain};
 ghost use Rattle.vs_uds.specs.declared.connect.TheConstants.{CONNECT_MAX};
-ghost use Rattle.vs_device.specs.declared.limits.TheConstants.{CONNECTIONS, REPLIES};
-ghost use Rattle.vs_device.specs.Playing.{IsItsRing, MayRun, MayRunOnHost, MayRunOnRing, Runs, RunsOnHost, RunsOnRing, situation};
-ghost use Rattle.vs_proxy.specs.declared.limits.TheConstants.{HANDSHAKES};
-ghost use Rattle.vs_proxy.specs.Handshakes.{shake_hands};
-ghost use Rattle.vs_proxy.specs.Turning.{CountsFew, turning_of};
-ghost use Rattle.vs_proxy.specs.declared.tally.Tally.{Tally};
-ghost use Rattle.vs_proxy.specs.Turns.{event_stage, fill_stage, pump_stage, take_one, take_stage, tick_stage, took_packet, unless_failed};
+ghost use Rattle.vs_device_parts.specs.declared.limits.TheConstants.{CONNECTIONS, REPLIES};
+ghost use Rattle.vs_device_parts.specs.Playing.{IsItsRing, MayRun, MayRunOnHost, MayRunOnRing, Runs, RunsOnHost, RunsOnRing, situation};
+ghost use Rattle.vs_proxy_parts.specs.declared.limits.TheConstants.{HANDSHAKES};
+ghost use Rattle.vs_proxy_parts.specs.Handshakes.{shake_hands};
+ghost use Rattle.vs_proxy_parts.specs.Turning.{CountsFew, turning_of};
+ghost use Rattle.vs_proxy_parts.specs.declared.tally.Tally.{Tally};
+ghost use Rattle.vs_proxy_parts.specs.Turns.{event_stage, fill_stage, pump_stage, take_one, take_stage, tick_stage, took_packet, unless_failed};
 
 use crate::proxy::Proxy;
-use crate::tally::Tally;
 use vs_device::Taken;
 use vs_outside::HostNet;
+use vs_proxy_parts::tally::Tally;
 use vs_ring_port::DeviceRing;
 
 impl Proxy {

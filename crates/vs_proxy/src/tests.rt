@@ -3,9 +3,9 @@
 ghost use Rattle.std.specs.Prelude.{◌<◌, ◌^◌};
 
 use crate::proxy::Proxy;
-use crate::tally::Tally;
 use std::test::Fail;
 use vs_outside::MemHost;
+use vs_proxy_parts::tally::Tally;
 
 // So many clients connect.
 fn connect_all(host: &mut MemHost, count: u32) -> Result<(), Fail> {

@@ -3,20 +3,20 @@
 ghost use Rattle.std.specs.Prelude.{◌≡◌, ◌≤◌, ◌<◌, ◌+◌, ◌^◌, [], true, Some, None, IfErr, OnErr, OnOk, Err};
 ghost use Rattle.vs_contents.specs.CallTree.{for_each};
 ghost use Rattle.vs_ring_port.specs.declared.failure.Failure.{Failure};
-ghost use Rattle.vs_device.specs.Playing.{IsItsRing, MayRun, MayRunOnHost, Runs, RunsOnHost, situation};
-ghost use Rattle.vs_device.specs.Turns.{counters_of, table_shown};
-ghost use Rattle.vs_proxy.specs.Handshakes.{streams_of};
-ghost use Rattle.vs_proxy.specs.State.{ProxyState};
-ghost use Rattle.vs_proxy.specs.Turning.{turning_of};
-ghost use Rattle.vs_proxy.specs.Turns.{close_handshake, proxy_reset_of, turn_of, turned};
-ghost use Rattle.vs_proxy.specs.declared.answers.Turn.TheVariants as turn;
+ghost use Rattle.vs_device_parts.specs.Playing.{IsItsRing, MayRun, MayRunOnHost, Runs, RunsOnHost, situation};
+ghost use Rattle.vs_device_parts.specs.Turns.{counters_of, table_shown};
+ghost use Rattle.vs_proxy_parts.specs.Handshakes.{streams_of};
+ghost use Rattle.vs_proxy_parts.specs.State.{ProxyState};
+ghost use Rattle.vs_proxy_parts.specs.Turning.{turning_of};
+ghost use Rattle.vs_proxy_parts.specs.Turns.{close_handshake, proxy_reset_of, turn_of, turned};
+ghost use Rattle.vs_proxy_parts.specs.declared.answers.Turn.TheVariants as turn;
 
-use crate::answers::{Turn, Turned};
-use crate::host_calls::close;
 use crate::proxy::Proxy;
-use crate::tally::Tally;
 use vs_device::{Counters, Entries};
 use vs_outside::HostNet;
+use vs_proxy_parts::answers::{Turn, Turned};
+use vs_proxy_parts::host_calls::close;
+use vs_proxy_parts::tally::Tally;
 use vs_ring_port::{DeviceRing, Failure};
 
 impl Proxy {

@@ -7,7 +7,7 @@ use Rattle.vs_outside.specs.Host.{HostContents, IsOpen, accept_answer, after_acc
 use Rattle.vs_outside.specs.declared.host_net.Accepted.TheVariants as accepted
 use Rattle.vs_outside.specs.declared.host_net.StreamState.TheVariants as state
 use Rattle.vs_outside.proofs.Frames.{accepts_waiting, open_of, others-after_accept, others-after_close, stays_open}
-use Rattle.vs_device.specs.State.{DeviceConnection}
+use Rattle.vs_device_parts.specs.State.{DeviceConnection}
 use Rattle.vs_device_laws.specs.Streams.{AreApart, HasStreams, IsFree, stream_under}
 use Rattle.vs_proxy_laws.proofs.Lists.{push_apart}
 

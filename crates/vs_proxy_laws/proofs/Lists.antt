@@ -6,8 +6,8 @@ use Rattle.std.proofs.lemmas.Bool.Decides.{nat_tests}
 use Rattle.std.proofs.lemmas.List.Elements.{Contains-push_cases}
 use Rattle.vs_outside.specs.Host.{HostContents}
 use Rattle.vs_device_laws.specs.Streams.{AreApart, AreOpen}
-use Rattle.vs_proxy.specs.Handshakes.{handshake_on, with_line, without_stream}
-use Rattle.vs_proxy.specs.State.{Handshake, ProxyState}
+use Rattle.vs_proxy_parts.specs.Handshakes.{handshake_on, with_line, without_stream}
+use Rattle.vs_proxy_parts.specs.State.{Handshake, ProxyState}
 
 abbrev pub ids : List Handshake → List ℕ
 ids hs = map (λ h. h.stream) hs

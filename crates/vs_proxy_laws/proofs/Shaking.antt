@@ -14,21 +14,21 @@ use Rattle.vs_uds.specs.ConnectLine.{connect_step}
 use Rattle.vs_uds.specs.declared.connect.TheConstants.{CONNECT_MAX}
 use Rattle.vs_uds.specs.declared.scan.Step.{Step}
 use Rattle.vs_uds.specs.declared.scan.Step.TheVariants as step
-use Rattle.vs_device.specs.Calls.{Accept, Call, CloseStream, ReadStream, Situation, DeviceTree, Allows}
-use Rattle.vs_device.specs.Connections.{is_late}
-use Rattle.vs_device.specs.Turns.{open_of}
+use Rattle.vs_device_parts.specs.Calls.{Accept, Call, CloseStream, ReadStream, Situation, DeviceTree, Allows}
+use Rattle.vs_device_parts.specs.Connections.{is_late}
+use Rattle.vs_device_parts.specs.Turns.{open_of}
 use Rattle.vs_device_laws.specs.Split.{CanReach, is_quiet}
 use Rattle.vs_device_laws.specs.Streams.{FindsStreams, HasStreams, IsFree}
 use Rattle.vs_device_laws.proofs.Keeping.{Keeps, keeps_each, keeps_then, keeps_while}
 use Rattle.vs_device_laws.proofs.Opening.{keeps_open}
 use Rattle.vs_device_laws.proofs.Tables.{has_moved, some_after, some_from}
 use Rattle.vs_device_laws.proofs.Writing.{all_stay}
-use Rattle.vs_proxy.specs.Handshakes.{accept_answered, accept_one, byte_read, dropping, handshake_on, host_fault, line_decided, may_open}
-use Rattle.vs_proxy.specs.Handshakes.{opening, read_byte, read_line}
-use Rattle.vs_proxy.specs.Handshakes.{shake_hands, streams_of, tick_handshake, tick_handshakes, with_line, without_handshake}
-use Rattle.vs_proxy.specs.Handshakes.{without_stream}
-use Rattle.vs_proxy.specs.State.{Handshake, ProxyState, Turning, with_device}
-use Rattle.vs_proxy.specs.declared.limits.TheConstants.{HANDSHAKES}
+use Rattle.vs_proxy_parts.specs.Handshakes.{accept_answered, accept_one, byte_read, dropping, handshake_on, host_fault, line_decided, may_open}
+use Rattle.vs_proxy_parts.specs.Handshakes.{opening, read_byte, read_line}
+use Rattle.vs_proxy_parts.specs.Handshakes.{shake_hands, streams_of, tick_handshake, tick_handshakes, with_line, without_handshake}
+use Rattle.vs_proxy_parts.specs.Handshakes.{without_stream}
+use Rattle.vs_proxy_parts.specs.State.{Handshake, ProxyState, Turning, with_device}
+use Rattle.vs_proxy_parts.specs.declared.limits.TheConstants.{HANDSHAKES}
 use Rattle.vs_proxy_laws.proofs.Hosts.{has_accepted, has_dropped, has_of, is_free}
 use Rattle.vs_proxy_laws.proofs.Lists.{ids, ids-push, ids-with_line, left_among, left_apart, not_left, on_stream}
 

@@ -9,7 +9,7 @@ use Rattle.vs_uds.specs.Scan.{after_digits, leading_digits, without_leading_spac
 use Rattle.vs_uds.specs.declared.scan.Step.TheVariants as step
 use Rattle.vs_uds.proofs.Leading.{chosen}
 use Rattle.vs_uds.proofs.Ports.{WritesPort-port_in}
-use Rattle.vs_device.specs.State.{DeviceState}
+use Rattle.vs_device_parts.specs.State.{DeviceState}
 use Rattle.vs_device_log.specs.Honest.{IsToldOf, IsWith}
 use Rattle.vs_device_log.proofs.Ringing.{tells_weaker}
 

@@ -18,19 +18,19 @@ use Rattle.vs_uds.specs.ConnectLine.{connect_step}
 use Rattle.vs_uds.specs.declared.connect.TheConstants.{CONNECT_MAX}
 use Rattle.vs_uds.specs.declared.scan.Step.{Step}
 use Rattle.vs_uds.specs.declared.scan.Step.TheVariants as step
-use Rattle.vs_device.specs.Calls.{Accept, DeviceTree, ReadStream}
-use Rattle.vs_device.specs.Connections.{is_late}
-use Rattle.vs_device.specs.State.{DeviceState}
-use Rattle.vs_device.specs.Turns.{open_of}
+use Rattle.vs_device_parts.specs.Calls.{Accept, DeviceTree, ReadStream}
+use Rattle.vs_device_parts.specs.Connections.{is_late}
+use Rattle.vs_device_parts.specs.State.{DeviceState}
+use Rattle.vs_device_parts.specs.Turns.{open_of}
 use Rattle.vs_device_log.specs.Honest.{IsWith, port_after}
 use Rattle.vs_device_log.proofs.Keeping.{Goes, Keeps, keeps_each, keeps_then, keeps_while}
 use Rattle.vs_device_log.proofs.Turning.{open_keeps}
-use Rattle.vs_proxy.specs.Handshakes.{accept_answered, accept_one, byte_read, dropping, handshake_on, host_fault, line_decided, may_open}
-use Rattle.vs_proxy.specs.Handshakes.{opening}
-use Rattle.vs_proxy.specs.Handshakes.{read_byte, read_line, shake_hands, streams_of, tick_handshake, tick_handshakes, with_line}
-use Rattle.vs_proxy.specs.Handshakes.{without_handshake}
-use Rattle.vs_proxy.specs.State.{Handshake, Turning, with_device}
-use Rattle.vs_proxy.specs.declared.limits.TheConstants.{HANDSHAKES}
+use Rattle.vs_proxy_parts.specs.Handshakes.{accept_answered, accept_one, byte_read, dropping, handshake_on, host_fault, line_decided, may_open}
+use Rattle.vs_proxy_parts.specs.Handshakes.{opening}
+use Rattle.vs_proxy_parts.specs.Handshakes.{read_byte, read_line, shake_hands, streams_of, tick_handshake, tick_handshakes, with_line}
+use Rattle.vs_proxy_parts.specs.Handshakes.{without_handshake}
+use Rattle.vs_proxy_parts.specs.State.{Handshake, Turning, with_device}
+use Rattle.vs_proxy_parts.specs.declared.limits.TheConstants.{HANDSHAKES}
 use Rattle.vs_proxy_log.specs.Honest.{IsProxyWith}
 use Rattle.vs_proxy_log.proofs.Ports.{later, port_fits}
 

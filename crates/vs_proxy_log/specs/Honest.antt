@@ -3,7 +3,7 @@ use Rattle.std.specs.Prelude.{ℕ, ◌≤◌}
 use Rattle.vs_flow.specs.declared.flow.TheConstants.{ASSIGNED_FIRST}
 use Rattle.vs_ring_port.specs.Contents.{RingContents}
 use Rattle.vs_device_log.specs.Honest.{IsWith}
-use Rattle.vs_proxy.specs.State.{ProxyState}
+use Rattle.vs_proxy_parts.specs.State.{ProxyState}
 
 -- The proxy's device is with the ring, and its next host port is the next one that the device assigns.
 abbrev pub IsProxyWith : ℕ → ProxyState → RingContents → Type 0

@@ -3,14 +3,14 @@
 ghost use Rattle.std.specs.Prelude.{◌<◌, ◌^◌, ℕ, List, Result};
 ghost use Rattle.vs_ring_port.specs.Contents.{RingContents};
 ghost use Rattle.vs_ring_port.specs.declared.failure.Failure.{Failure};
-ghost use Rattle.vs_device.specs.Calls.{Situation};
-ghost use Rattle.vs_device.specs.Playing.{MayRun, Runs};
+ghost use Rattle.vs_device_parts.specs.Calls.{Situation};
+ghost use Rattle.vs_device_parts.specs.Playing.{MayRun, Runs};
 ghost use Rattle.vs_device_laws.specs.Streams.{FindsStreams};
 ghost use Rattle.vs_device_log.specs.Honest.{IsFresh};
-ghost use Rattle.vs_proxy.specs.Handshakes.{streams_of};
-ghost use Rattle.vs_proxy.specs.State.{ProxyState};
-ghost use Rattle.vs_proxy.specs.Turns.{new_proxy, proxy_reset_of, turn_of};
-ghost use Rattle.vs_proxy.specs.declared.answers.Turn.{Turn};
+ghost use Rattle.vs_proxy_parts.specs.Handshakes.{streams_of};
+ghost use Rattle.vs_proxy_parts.specs.State.{ProxyState};
+ghost use Rattle.vs_proxy_parts.specs.Turns.{new_proxy, proxy_reset_of, turn_of};
+ghost use Rattle.vs_proxy_parts.specs.declared.answers.Turn.{Turn};
 ghost use Rattle.vs_proxy_log.specs.Honest.{IsProxyWith};
 ghost use Rattle.vs_proxy_log.specs.Order.{IsInOrder};
 

@@ -8,13 +8,13 @@ use Rattle.vs_flow.specs.Flow.{is_assigned, same_flow}
 use Rattle.vs_flow.specs.Table.{Table}
 use Rattle.vs_flow.specs.declared.flow.Flow.{Flow}
 use Rattle.vs_flow.proofs.Entries.{same_flow_true}
-use Rattle.vs_device.specs.State.{DeviceConnection}
+use Rattle.vs_device_parts.specs.State.{DeviceConnection}
 use Rattle.vs_outside.specs.Host.{HostContents, Stream, stream_at}
 use Rattle.vs_outside.specs.HostBytes.{after_line, host_read, host_wrote, is_labelled, read_after_ok, wrote_after_connect}
 use Rattle.vs_page.proofs.Flows.{same_self}
 use Rattle.vs_page.specs.Fair.{IsPrefixOf}
 use Rattle.vs_page.specs.Log.{Device, Log}
-use Rattle.vs_proxy.specs.State.{Handshake}
+use Rattle.vs_proxy_parts.specs.State.{Handshake}
 use Rattle.vs_uds.proofs.Leading.{has_lf-digits}
 use Rattle.vs_uds.proofs.Ports.{WritesPort-decimal}
 use Rattle.vs_uds.specs.OkLine.{ok_text}

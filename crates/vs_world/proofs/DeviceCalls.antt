@@ -2,14 +2,14 @@
 use Rattle.std.proofs.Common.{◌≡◌, ℕ, Bool, true, false, Option, Some, None, refl, subst}
 use Rattle.vs_contents.specs.CallTree.{Done, played}
 use Rattle.vs_ring_port.specs.declared.failure.Failure.{Failure}
-use Rattle.vs_device.specs.Calls.{DeviceTree}
-use Rattle.vs_device.specs.Receiving.{fill_rx_of, pay_event_of}
-use Rattle.vs_device.specs.State.{DeviceState}
-use Rattle.vs_device.specs.Streams.{pump_of, tick_of}
-use Rattle.vs_device.specs.Transmitting.{take_tx_of}
-use Rattle.vs_device.specs.declared.answers.Taken.{Taken}
-use Rattle.vs_proxy.specs.State.{Turning, start, with_device}
-use Rattle.vs_proxy.specs.Turns.{device_after, took_packet}
+use Rattle.vs_device_parts.specs.Calls.{DeviceTree}
+use Rattle.vs_device_parts.specs.Receiving.{fill_rx_of, pay_event_of}
+use Rattle.vs_device_parts.specs.State.{DeviceState}
+use Rattle.vs_device_parts.specs.Streams.{pump_of, tick_of}
+use Rattle.vs_device_parts.specs.Transmitting.{take_tx_of}
+use Rattle.vs_device_parts.specs.declared.answers.Taken.{Taken}
+use Rattle.vs_proxy_parts.specs.State.{Turning, start, with_device}
+use Rattle.vs_proxy_parts.specs.Turns.{device_after, took_packet}
 use Rattle.vs_world.specs.Answers.{Around, answer_around}
 use Rattle.vs_world.specs.Steps.{Leads, device_calls}
 use Rattle.vs_world.specs.World.{World, around}

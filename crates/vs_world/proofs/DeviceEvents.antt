@@ -37,16 +37,16 @@ use Rattle.vs_matching.specs.Steps.{is_overrun}
 use Rattle.vs_matching.proofs.Both.{device_has_room}
 use Rattle.vs_matching.proofs.Slots.{found_by, one_end}
 use Rattle.vs_uds.specs.Path.{path_of}
-use Rattle.vs_device.specs.Calls.{CloseStream, DeviceTree, Dial}
-use Rattle.vs_device.specs.Connections.{with_connection, with_fault, with_reply}
-use Rattle.vs_device.specs.State.{DeviceConnection, DeviceEntry, DeviceState}
-use Rattle.vs_device.specs.Streams.{leaving}
-use Rattle.vs_device.specs.Connections.{after_leaving, stream_closed}
+use Rattle.vs_device_parts.specs.Calls.{CloseStream, DeviceTree, Dial}
+use Rattle.vs_device_parts.specs.Connections.{with_connection, with_fault, with_reply}
+use Rattle.vs_device_parts.specs.State.{DeviceConnection, DeviceEntry, DeviceState}
+use Rattle.vs_device_parts.specs.Streams.{leaving}
+use Rattle.vs_device_parts.specs.Connections.{after_leaving, stream_closed}
 use Rattle.vs_flow.specs.Table.{with_value, without}
 use Rattle.vs_conn.specs.End.{after_op}
 use Rattle.vs_header.specs.Op.{op_named}
 use Rattle.vs_matching.specs.Ends.{is_new}
-use Rattle.vs_device.specs.Transmitting.{dial_answered, failing, heard, on_known, on_packet, on_unknown, refused, try_request, unknown_why}
+use Rattle.vs_device_parts.specs.Transmitting.{dial_answered, failing, heard, on_known, on_packet, on_unknown, refused, try_request, unknown_why}
 use Rattle.vs_wrap.specs.Wrap.{counted}
 use Rattle.vs_world.specs.Answers.{Around, answer_around}
 use Rattle.vs_world.specs.DeviceSteps.{header_came}
@@ -58,7 +58,7 @@ use Rattle.vs_world.proofs.DeviceTakes.{heard_fresh}
 use Rattle.vs_world.proofs.Fits.{CreditFits, delivered, fits_after}
 use Rattle.vs_world.proofs.Wire.{PutsFit}
 use Rattle.std.specs.List.{All}
-use Rattle.vs_device.specs.Connections.{with_dialed}
+use Rattle.vs_device_parts.specs.Connections.{with_dialed}
 use Rattle.vs_history.specs.History.{Got, IsFair}
 use Rattle.vs_history.specs.Packets.{is_rw}
 use Rattle.vs_matching.proofs.Both.{next_is_fair}
@@ -67,7 +67,7 @@ use Rattle.vs_page.proofs.Flows.{same_self}
 use Rattle.vs_page.specs.Fair.{IsFairLog}
 use Rattle.vs_page.specs.Held.{IsWhole}
 use Rattle.vs_page.specs.Log.{flow_got, history_of, side_of}
-use Rattle.vs_proxy.specs.State.{Handshake}
+use Rattle.vs_proxy_parts.specs.State.{Handshake}
 use Rattle.vs_uds.specs.OkLine.{ok_text}
 use Rattle.vs_pipes.specs.Drains.{has_passed}
 use Rattle.vs_pipes.specs.Streamed.{gives, look}

@@ -25,10 +25,10 @@ use Rattle.vs_matching.specs.Both.{IsSound, Seat}
 use Rattle.vs_matching.specs.Ends.{is_new}
 use Rattle.vs_matching.specs.Steps.{owed_on, paid, reply_on, with_end}
 use Rattle.vs_matching.proofs.Slots.{found_by}
-use Rattle.vs_device.specs.Calls.{CloseStream, DeviceTree}
-use Rattle.vs_device.specs.Connections.{after_leaving, route_to_guest, stream_closed, with_connection}
-use Rattle.vs_device.specs.Receiving.{Filling, after_paying, put_packet, put_reply_of, reply_header}
-use Rattle.vs_device.specs.State.{DeviceConnection, DeviceEntry, DeviceState}
+use Rattle.vs_device_parts.specs.Calls.{CloseStream, DeviceTree}
+use Rattle.vs_device_parts.specs.Connections.{after_leaving, route_to_guest, stream_closed, with_connection}
+use Rattle.vs_device_parts.specs.Receiving.{Filling, after_paying, put_packet, put_reply_of, reply_header}
+use Rattle.vs_device_parts.specs.State.{DeviceConnection, DeviceEntry, DeviceState}
 use Rattle.vs_world.specs.Answers.{Around}
 use Rattle.vs_world.specs.DeviceSteps.{filling, puts_owed, puts_reply}
 use Rattle.vs_world.specs.Pages.{is_held}
@@ -43,7 +43,7 @@ use Rattle.vs_world.proofs.Wire.{PutsFit, not_payload}
 use Rattle.vs_conn.specs.End.{ConnectionEnd}
 use Rattle.vs_flow.specs.Table.{with_value, without}
 use Rattle.vs_outside.specs.Host.{HostContents, after_close}
-use Rattle.vs_proxy.specs.State.{Handshake}
+use Rattle.vs_proxy_parts.specs.State.{Handshake}
 use Rattle.vs_pipes.specs.Streamed.{gives}
 use Rattle.vs_pipes.proofs.Gives.{pays_asked, pays_gives}
 use Rattle.vs_pipes.proofs.HostCalls.{closed_host}

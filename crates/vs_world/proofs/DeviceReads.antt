@@ -13,10 +13,10 @@ use Rattle.vs_ring_port.specs.declared.device_ring.Chain.{Chain}
 use Rattle.vs_matching.specs.Both.{IsSound, Seat, WantsCredit}
 use Rattle.vs_matching.specs.Ends.{is_new}
 use Rattle.vs_matching.proofs.Slots.{found_by}
-use Rattle.vs_device.specs.Calls.{CloseStream, DeviceTree, ReadStream}
-use Rattle.vs_device.specs.Connections.{after_shut, cut_off, with_connection, with_fault}
-use Rattle.vs_device.specs.Receiving.{may_read, read_answered, read_room, read_with_chain}
-use Rattle.vs_device.specs.State.{DeviceConnection, DeviceEntry, DeviceState}
+use Rattle.vs_device_parts.specs.Calls.{CloseStream, DeviceTree, ReadStream}
+use Rattle.vs_device_parts.specs.Connections.{after_shut, cut_off, with_connection, with_fault}
+use Rattle.vs_device_parts.specs.Receiving.{may_read, read_answered, read_room, read_with_chain}
+use Rattle.vs_device_parts.specs.State.{DeviceConnection, DeviceEntry, DeviceState}
 use Rattle.vs_world.specs.Answers.{Around, bytes_with}
 use Rattle.vs_world.specs.DeviceSteps.{filling, puts_payload, reads}
 use Rattle.vs_world.proofs.Chains.{HoldsRx}
@@ -29,7 +29,7 @@ use Rattle.vs_world.proofs.DeviceTurns.{still}
 use Rattle.vs_world.proofs.Wire.{PutsFit}
 use Rattle.vs_flow.specs.Table.{with_value}
 use Rattle.vs_outside.specs.Host.{after_close, called, next_bytes}
-use Rattle.vs_proxy.specs.State.{Handshake}
+use Rattle.vs_proxy_parts.specs.State.{Handshake}
 use Rattle.vs_world.proofs.Streams.{StreamedIf, called_host, ends_streams, reads_streams, shuts_streams}
 
 module _ (driver : Seat) (first port : ℕ) (s : DeviceState) (a : Around) (sound : IsSound first (seated driver port s a.log.entries))

@@ -20,8 +20,8 @@ use Rattle.vs_matching.specs.Heard.{route_of}
 use Rattle.vs_matching.specs.Steps.{HasEnd, left, paid, with_end, owed_on, payload_on, reply_on}
 use Rattle.vs_matching.proofs.Slots.{changed_slot, one_end, removed_slot}
 use Rattle.vs_matching.proofs.Tables.{end_new}
-use Rattle.vs_device.specs.State.{DeviceConnection, DeviceEntry, DeviceState}
-use Rattle.vs_device.specs.Connections.{with_connection}
+use Rattle.vs_device_parts.specs.State.{DeviceConnection, DeviceEntry, DeviceState}
+use Rattle.vs_device_parts.specs.Connections.{with_connection}
 use Rattle.vs_world.specs.Sides.{Runs, flow_to_guest}
 use Rattle.vs_world.proofs.Entries.{EntryFits, fits_at, fits_with_value, fits_without, without_changed}
 use Rattle.vs_world.proofs.Fits.{CreditFits, fits_paid, fits_sent}

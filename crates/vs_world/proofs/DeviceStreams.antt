@@ -28,11 +28,11 @@ use Rattle.vs_matching.specs.Both.{Aborts, Forwards, IsSound, Seat, Shuts}
 use Rattle.vs_matching.specs.Ends.{is_new}
 use Rattle.vs_matching.specs.Steps.{payload_on}
 use Rattle.vs_matching.proofs.Slots.{found_by}
-use Rattle.vs_device.specs.Calls.{CloseStream, DeviceTree, ShutWrite, WriteStream}
-use Rattle.vs_device.specs.Connections.{after_shut, after_written, cut_off, is_asked, is_late, is_timed_out, route_to_guest, with_connection, with_fault}
-use Rattle.vs_device.specs.Receiving.{may_read, put_payload}
-use Rattle.vs_device.specs.State.{DeviceConnection, DeviceEntry, DeviceState}
-use Rattle.vs_device.specs.Streams.{Writing, closing, is_written_out, tick_slot, to_write, write_answered, write_pending}
+use Rattle.vs_device_parts.specs.Calls.{CloseStream, DeviceTree, ShutWrite, WriteStream}
+use Rattle.vs_device_parts.specs.Connections.{after_shut, after_written, cut_off, is_asked, is_late, is_timed_out, route_to_guest, with_connection, with_fault}
+use Rattle.vs_device_parts.specs.Receiving.{may_read, put_payload}
+use Rattle.vs_device_parts.specs.State.{DeviceConnection, DeviceEntry, DeviceState}
+use Rattle.vs_device_parts.specs.Streams.{Writing, closing, is_written_out, tick_slot, to_write, write_answered, write_pending}
 use Rattle.vs_world.specs.Answers.{Around}
 use Rattle.vs_world.specs.DeviceSteps.{filling, shuts_write, writes, writes_on, writing}
 use Rattle.vs_world.proofs.Chains.{HoldsRx}
@@ -45,7 +45,7 @@ use Rattle.vs_world.proofs.Fits.{CreditFits, fits_forwarded, fits_shut, holds_pa
 use Rattle.vs_world.proofs.Wire.{PutsFit}
 use Rattle.vs_flow.specs.Table.{with_value}
 use Rattle.vs_outside.specs.Host.{HostContents, after_close, after_failed, after_shut_write, called}
-use Rattle.vs_proxy.specs.State.{Handshake}
+use Rattle.vs_proxy_parts.specs.State.{Handshake}
 use Rattle.vs_pipes.proofs.HostCalls.{closed_host}
 use Rattle.vs_world.proofs.Streams.{StreamedIf, called_host, cuts_streams, ends_streams, failed_host, shut_write_host, shuts_streams, writes_streams}
 

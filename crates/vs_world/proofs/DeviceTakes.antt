@@ -23,8 +23,8 @@ use Rattle.vs_matching.specs.Both.{Asks, IsSound, Seat, Takes, after_packet, ans
 use Rattle.vs_matching.specs.Ends.{Ends, FlowEnd, ends_of, entries_of, is_new, replaced}
 use Rattle.vs_matching.specs.Steps.{left, refused, with_end}
 use Rattle.vs_matching.proofs.Slots.{added_slot, changed_slot, no_entry, one_end}
-use Rattle.vs_device.specs.State.{DeviceConnection, DeviceEntry, DeviceState}
-use Rattle.vs_device.specs.Connections.{new_connection, with_client, with_connection, with_dialed, with_opened, with_reply}
+use Rattle.vs_device_parts.specs.State.{DeviceConnection, DeviceEntry, DeviceState}
+use Rattle.vs_device_parts.specs.Connections.{new_connection, with_client, with_connection, with_dialed, with_opened, with_reply}
 use Rattle.vs_world.specs.Sides.{flow_to_guest}
 use Rattle.vs_world.proofs.DeviceSide.{DeviceHolds, FreshEntry, IsFresh, Kept, at_part, end_in, held_in, holds_changed, left_holds, left_part, not_fresh, part_of, seated}
 use Rattle.vs_world.proofs.DriverSide.{ReplyFits}

@@ -18,10 +18,10 @@ use Rattle.vs_ring_port.specs.declared.device_ring.Chain.{Chain}
 use Rattle.vs_ring_port.specs.declared.queue.Queue.{Queue}
 use Rattle.vs_ring_port.specs.declared.queue.Queue.TheVariants.{Rx, Tx, Event}
 use Rattle.vs_matching.specs.Both.{IsSound, Seat}
-use Rattle.vs_device.specs.Calls.{DeviceTree, Ring}
-use Rattle.vs_device.specs.Receiving.{hold, holding}
-use Rattle.vs_device.specs.State.{DeviceState}
-use Rattle.vs_device.specs.declared.limits.TheConstants.{REPLIES}
+use Rattle.vs_device_parts.specs.Calls.{DeviceTree, Ring}
+use Rattle.vs_device_parts.specs.Receiving.{hold, holding}
+use Rattle.vs_device_parts.specs.State.{DeviceState}
+use Rattle.vs_device_parts.specs.declared.limits.TheConstants.{REPLIES}
 use Rattle.vs_world.specs.Answers.{Around, answer_around}
 use Rattle.vs_world.specs.DeviceSteps.{chain_came, filling, header_came, puts_event, returns, takes_chain}
 use Rattle.vs_world.specs.Pages.{AllHold, PageHolds, is_held}
@@ -36,7 +36,7 @@ use Rattle.vs_outside.specs.Host.{HostContents}
 use Rattle.vs_page.proofs.Holding.{packet_whole}
 use Rattle.vs_page.specs.Log.{Device, flow_got}
 use Rattle.vs_page.specs.Open.{is_dropped}
-use Rattle.vs_proxy.specs.State.{Handshake}
+use Rattle.vs_proxy_parts.specs.State.{Handshake}
 use Rattle.vs_pipes.specs.Streamed.{gives, look}
 use Rattle.vs_pipes.proofs.Streamed.{same_streamed}
 use Rattle.vs_world.proofs.Streams.{StreamedIf, payload_in}

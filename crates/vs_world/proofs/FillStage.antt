@@ -18,13 +18,13 @@ use Rattle.vs_ring_port.specs.Lists.{chain_with}
 use Rattle.vs_ring_port.specs.declared.device_ring.Chain.{Chain}
 use Rattle.vs_ring_port.specs.declared.failure.Failure.{Failure}
 use Rattle.vs_ring_port.specs.declared.queue.Queue.TheVariants.{Rx}
-use Rattle.vs_device.specs.Calls.{CloseStream, DeviceTree, ReadStream, Ring}
-use Rattle.vs_device.specs.Connections.{after_leaving, cut_off, route_to_guest, stream_closed, with_connection, with_fault}
-use Rattle.vs_device.specs.Receiving.{Filling, after_paying, fill_rx_of, filled_of, hold, may_read, put_on, put_owed, put_packet, put_reply, read_answered, read_room, read_stream, read_with_chain, reply_header, round_from, serve_slot}
-use Rattle.vs_device.specs.State.{DeviceEntry, DeviceState}
-use Rattle.vs_device.specs.declared.answers.Filled.{Filled}
-use Rattle.vs_proxy.specs.State.{ProxyState, with_device}
-use Rattle.vs_proxy.specs.Turns.{device_after, fill_stage, filled}
+use Rattle.vs_device_parts.specs.Calls.{CloseStream, DeviceTree, ReadStream, Ring}
+use Rattle.vs_device_parts.specs.Connections.{after_leaving, cut_off, route_to_guest, stream_closed, with_connection, with_fault}
+use Rattle.vs_device_parts.specs.Receiving.{Filling, after_paying, fill_rx_of, filled_of, hold, may_read, put_on, put_owed, put_packet, put_reply, read_answered, read_room, read_stream, read_with_chain, reply_header, round_from, serve_slot}
+use Rattle.vs_device_parts.specs.State.{DeviceEntry, DeviceState}
+use Rattle.vs_device_parts.specs.declared.answers.Filled.{Filled}
+use Rattle.vs_proxy_parts.specs.State.{ProxyState, with_device}
+use Rattle.vs_proxy_parts.specs.Turns.{device_after, fill_stage, filled}
 use Rattle.vs_world.specs.Answers.{Around, answer_around, bytes_with}
 use Rattle.vs_world.specs.DeviceSteps.{filling, puts_owed, puts_payload, puts_reply, reads, takes_chain}
 use Rattle.vs_world.specs.Events.{DevicePays, DeviceReads, DeviceReplies, DeviceTakes}

@@ -8,15 +8,15 @@ use Rattle.vs_ring_port.specs.EndLog.{EndLog}
 use Rattle.vs_ring_port.specs.Lists.{Rings}
 use Rattle.vs_driver_parts.specs.Conversations.{DriverTree, publish_of, new_of}
 use Rattle.vs_driver_parts.specs.declared.limits.TheConstants.{FIRST_PORT}
-use Rattle.vs_device.specs.Streams.{tick_slot}
-use Rattle.vs_proxy.specs.Handshakes.{accept_one, tick_handshake}
-use Rattle.vs_proxy.specs.State.{start}
-use Rattle.vs_proxy.specs.Turns.{proxy_reset_of}
+use Rattle.vs_device_parts.specs.Streams.{tick_slot}
+use Rattle.vs_proxy_parts.specs.Handshakes.{accept_one, tick_handshake}
+use Rattle.vs_proxy_parts.specs.State.{start}
+use Rattle.vs_proxy_parts.specs.Turns.{proxy_reset_of}
 use Rattle.vs_ring_port.specs.declared.queue.Queue.TheVariants as queue
 use Rattle.vs_ring_list.specs.Ends.{Ends, empty_ends}
 use Rattle.vs_page.specs.Held.{packet_held, event_held, held_in}
 use Rattle.std.proofs.lemmas.List.{append-nil}
-use Rattle.vs_device.specs.Calls.{DeviceTree, Call, Ring, Accept, Dial, Label, ReadStream, WriteStream, ShutWrite, CloseStream}
+use Rattle.vs_device_parts.specs.Calls.{DeviceTree, Call, Ring, Accept, Dial, Label, ReadStream, WriteStream, ShutWrite, CloseStream}
 use Rattle.vs_world.specs.Answers.{Around, answer_around}
 use Rattle.vs_world.specs.Events.{Event, GuestCalls, GuestTakes, GuestStages, GuestReplies, GuestPays, GuestPublishes, DeviceTakes, DeviceReturns, DevicePutsEvent, DeviceReplies, DeviceReads, DevicePays, DeviceWrites, DeviceShutsWrite, ProxyAccepts, ProxyReads, Moment, TimesOut, HandshakeTimesOut, Reset, HostListens, HostUnlistens, ClientConnects, HostWrites, HostTakes, HostEnds, HostCloses, HostFails, happens, run, where_possible, unless_failed, has_failed}
 use Rattle.vs_world.specs.Events.{is_guest_cid, reset_made, is_at_rest, works_on, holds, driver_step, device_step, proxy_step, call_made, line_read}

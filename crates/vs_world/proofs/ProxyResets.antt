@@ -10,13 +10,13 @@ use Rattle.vs_ring_port.specs.Contents.{PublishCid}
 use Rattle.vs_ring_port.specs.EndLog.{EndLog}
 use Rattle.vs_ring_port.specs.declared.failure.Failure.{Failure}
 use Rattle.vs_matching.specs.Both.{IsSound, MakesReset, Seat}
-use Rattle.vs_device.specs.Calls.{CloseStream, DeviceTree, Ring}
-use Rattle.vs_device.specs.Connections.{stream_closed, with_connection}
-use Rattle.vs_device.specs.State.{DeviceEntry, DeviceState}
-use Rattle.vs_device.specs.Turns.{after_reset, close_slot}
-use Rattle.vs_proxy.specs.Handshakes.{streams_of}
-use Rattle.vs_proxy.specs.State.{ProxyState, with_device}
-use Rattle.vs_proxy.specs.Turns.{close_handshake, proxy_reset_of, reset_with}
+use Rattle.vs_device_parts.specs.Calls.{CloseStream, DeviceTree, Ring}
+use Rattle.vs_device_parts.specs.Connections.{stream_closed, with_connection}
+use Rattle.vs_device_parts.specs.State.{DeviceEntry, DeviceState}
+use Rattle.vs_device_parts.specs.Turns.{after_reset, close_slot}
+use Rattle.vs_proxy_parts.specs.Handshakes.{streams_of}
+use Rattle.vs_proxy_parts.specs.State.{ProxyState, with_device}
+use Rattle.vs_proxy_parts.specs.Turns.{close_handshake, proxy_reset_of, reset_with}
 use Rattle.vs_world.specs.Answers.{Around, answer_around}
 use Rattle.vs_world.proofs.Chains.{HoldsRx}
 use Rattle.vs_world.proofs.DeviceSide.{DeviceHolds, Kept, seated}

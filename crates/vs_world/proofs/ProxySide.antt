@@ -29,12 +29,12 @@ use Rattle.std.proofs.Common.{drop, take, slice_index, Result, Ok, Err}
 use Rattle.vs_uds.specs.Reading.{is_decided, port_or_bad}
 use Rattle.vs_uds.specs.declared.scan.Step.{Step}
 use Rattle.vs_uds.specs.declared.scan.Step.TheVariants as step
-use Rattle.vs_device.specs.Calls.{Accept, DeviceTree, Label, ReadStream}
-use Rattle.vs_device.specs.Connections.{is_late, with_client, with_fault}
-use Rattle.vs_device.specs.State.{DeviceEntry, DeviceState}
-use Rattle.vs_proxy.specs.Handshakes.{accept_answered, accept_one, byte_read, dropping, handshake_on, line_decided, may_open, opening, tick_handshake, with_line, without_handshake}
-use Rattle.vs_proxy.specs.State.{Handshake, ProxyState, Turning, start, with_device}
-use Rattle.vs_proxy.specs.declared.limits.TheConstants.{HANDSHAKES}
+use Rattle.vs_device_parts.specs.Calls.{Accept, DeviceTree, Label, ReadStream}
+use Rattle.vs_device_parts.specs.Connections.{is_late, with_client, with_fault}
+use Rattle.vs_device_parts.specs.State.{DeviceEntry, DeviceState}
+use Rattle.vs_proxy_parts.specs.Handshakes.{accept_answered, accept_one, byte_read, dropping, handshake_on, line_decided, may_open, opening, tick_handshake, with_line, without_handshake}
+use Rattle.vs_proxy_parts.specs.State.{Handshake, ProxyState, Turning, start, with_device}
+use Rattle.vs_proxy_parts.specs.declared.limits.TheConstants.{HANDSHAKES}
 use Rattle.vs_world.specs.Answers.{Around, answer_around, bytes_with}
 use Rattle.vs_world.specs.Events.{line_read}
 use Rattle.vs_world.proofs.Chains.{HoldsRx}
@@ -46,7 +46,7 @@ use Rattle.std.proofs.Common.{◌≢◌}
 use Rattle.std.specs.List.{All}
 use Rattle.vs_outside.specs.Host.{after_accept, after_close, called, next_bytes}
 use Rattle.vs_outside.specs.HostBytes.{after_line}
-use Rattle.vs_proxy.specs.Handshakes.{without_stream}
+use Rattle.vs_proxy_parts.specs.Handshakes.{without_stream}
 use Rattle.vs_pipes.specs.Streamed.{has_line, look, reading}
 use Rattle.vs_pipes.proofs.Hands.{ends_by, no_line, without_after, without_none}
 use Rattle.vs_pipes.proofs.HostCalls.{accepted_host, closed_host}

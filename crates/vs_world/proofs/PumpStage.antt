@@ -5,12 +5,12 @@ use Rattle.vs_flow.specs.Table.{entry_under, slots}
 use Rattle.vs_outside.specs.Host.{write_answer}
 use Rattle.vs_outside.specs.declared.host_net.StreamWrite.{StreamWrite}
 use Rattle.vs_outside.specs.declared.host_net.StreamWrite.TheVariants as write
-use Rattle.vs_device.specs.Calls.{CloseStream, DeviceTree, ShutWrite, WriteStream}
-use Rattle.vs_device.specs.Connections.{cut_off, with_connection, with_fault}
-use Rattle.vs_device.specs.State.{DeviceEntry, DeviceState}
-use Rattle.vs_device.specs.Streams.{Writing, is_written_out, pump_of, pump_slot, shut_write, to_write, write_answered, write_pending}
-use Rattle.vs_proxy.specs.State.{ProxyState, with_device}
-use Rattle.vs_proxy.specs.Turns.{device_after, pump_stage}
+use Rattle.vs_device_parts.specs.Calls.{CloseStream, DeviceTree, ShutWrite, WriteStream}
+use Rattle.vs_device_parts.specs.Connections.{cut_off, with_connection, with_fault}
+use Rattle.vs_device_parts.specs.State.{DeviceEntry, DeviceState}
+use Rattle.vs_device_parts.specs.Streams.{Writing, is_written_out, pump_of, pump_slot, shut_write, to_write, write_answered, write_pending}
+use Rattle.vs_proxy_parts.specs.State.{ProxyState, with_device}
+use Rattle.vs_proxy_parts.specs.Turns.{device_after, pump_stage}
 use Rattle.vs_world.specs.Answers.{Around, answer_around}
 use Rattle.vs_world.specs.DeviceSteps.{shuts_write, writes, writes_on, writing}
 use Rattle.vs_world.specs.Events.{DeviceShutsWrite, DeviceWrites}

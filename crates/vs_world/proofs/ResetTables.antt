@@ -9,16 +9,16 @@ use Rattle.vs_ring_port.specs.EndLog.{EndLog, log_reaped}
 use Rattle.vs_ring_port.specs.Lists.{Rings, after_reap, oldest}
 use Rattle.vs_ring_port.specs.declared.failure.Failure.{Failure}
 use Rattle.vs_ring_port.specs.declared.queue.Queue.TheVariants as q
-use Rattle.vs_device.specs.Calls.{DeviceTree, Ring}
-use Rattle.vs_device.specs.State.{DeviceState}
-use Rattle.vs_device.specs.Turns.{after_reset, close_slot}
+use Rattle.vs_device_parts.specs.Calls.{DeviceTree, Ring}
+use Rattle.vs_device_parts.specs.State.{DeviceState}
+use Rattle.vs_device_parts.specs.Turns.{after_reset, close_slot}
 use Rattle.vs_driver_parts.specs.Conversations.{Round, start}
 use Rattle.vs_driver_parts.specs.Receiving.{is_reset_event}
 use Rattle.vs_driver_parts.specs.Receiving as driver_parts
 use Rattle.vs_driver_parts.specs.declared.limits.TheConstants.{REPLIES_FULL}
-use Rattle.vs_proxy.specs.Handshakes.{streams_of}
-use Rattle.vs_proxy.specs.State.{ProxyState, with_device}
-use Rattle.vs_proxy.specs.Turns.{close_handshake, reset_with}
+use Rattle.vs_proxy_parts.specs.Handshakes.{streams_of}
+use Rattle.vs_proxy_parts.specs.State.{ProxyState, with_device}
+use Rattle.vs_proxy_parts.specs.Turns.{close_handshake, reset_with}
 use Rattle.vs_world.specs.Events.{GuestTakes, Reset, driver_step, happens, is_guest_cid, reset_made, works_on}
 use Rattle.vs_world.specs.GuestSteps.{event_came, takes_page}
 use Rattle.vs_world.specs.Laws.{IsEmptied}

@@ -12,12 +12,12 @@ use Rattle.vs_ring_port.specs.declared.queue.Queue.TheVariants as q
 use Rattle.vs_matching.specs.Both.{IsSound}
 use Rattle.vs_driver_parts.specs.Conversations.{DriverTree, publish_of}
 use Rattle.vs_driver_parts.specs.State.{DriverState}
-use Rattle.vs_device.specs.Calls.{DeviceTree}
-use Rattle.vs_device.specs.State.{DeviceState}
-use Rattle.vs_device.specs.Streams.{tick_slot}
-use Rattle.vs_proxy.specs.Handshakes.{accept_one, tick_handshake}
-use Rattle.vs_proxy.specs.State.{ProxyState, Turning, start, with_device}
-use Rattle.vs_proxy.specs.Turns.{proxy_reset_of}
+use Rattle.vs_device_parts.specs.Calls.{DeviceTree}
+use Rattle.vs_device_parts.specs.State.{DeviceState}
+use Rattle.vs_device_parts.specs.Streams.{tick_slot}
+use Rattle.vs_proxy_parts.specs.Handshakes.{accept_one, tick_handshake}
+use Rattle.vs_proxy_parts.specs.State.{ProxyState, Turning, start, with_device}
+use Rattle.vs_proxy_parts.specs.Turns.{proxy_reset_of}
 use Rattle.vs_world.specs.Answers.{answer_around}
 use Rattle.vs_world.specs.Calls.{Journal, is_right}
 use Rattle.vs_world.specs.DeviceSteps.{takes_chain, returns, puts_event, puts_reply, puts_owed, puts_payload, writes, shuts_write}
@@ -56,7 +56,7 @@ use Rattle.vs_world.proofs.Wire.{PutsFit}
 use Rattle.std.proofs.Common.{get_or}
 use Rattle.std.specs.List.{All}
 use Rattle.std.proofs.lemmas.List.Elements.{Contains-get_or}
-use Rattle.vs_device.specs.State.{DeviceConnection}
+use Rattle.vs_device_parts.specs.State.{DeviceConnection}
 use Rattle.vs_flow.specs.Table.{Table}
 use Rattle.vs_history.specs.History.{Got, IsFair}
 use Rattle.vs_history.specs.Packets.{is_rw}
@@ -72,7 +72,7 @@ use Rattle.vs_page.proofs.Flows.{same_self}
 use Rattle.vs_page.specs.Log.{Device, IsNextPacket, Log, flow_got, history_of, side_of}
 use Rattle.vs_page.specs.Open.{is_dropped}
 use Rattle.vs_page.specs.declared.log.LogEntry.TheVariants.{GotPacket}
-use Rattle.vs_proxy.specs.State.{Handshake}
+use Rattle.vs_proxy_parts.specs.State.{Handshake}
 use Rattle.vs_pipes.specs.Streamed.{IsStreamed, gives}
 use Rattle.vs_pipes.proofs.Cids.{SameCids, dropped_empty, run_cids}
 use Rattle.vs_pipes.proofs.HostCalls.{client_host, same_host}

@@ -9,9 +9,9 @@ use Rattle.vs_conn.specs.End.{ConnectionEnd, end_after, is_reset, is_stream, ver
 use Rattle.vs_conn.specs.declared.end.State.TheVariants as state
 use Rattle.vs_conn.specs.declared.end.Verdict.{Verdict}
 use Rattle.vs_conn.specs.declared.end.Verdict.TheVariants as verdict
-use Rattle.vs_device.specs.Connections.{after_shut, after_written, cut_off}
-use Rattle.vs_device.specs.State.{DeviceConnection, DeviceEntry}
-use Rattle.vs_device.specs.Transmitting.{heard}
+use Rattle.vs_device_parts.specs.Connections.{after_shut, after_written, cut_off}
+use Rattle.vs_device_parts.specs.State.{DeviceConnection, DeviceEntry}
+use Rattle.vs_device_parts.specs.Transmitting.{heard}
 use Rattle.vs_flow.specs.Flow.{is_assigned, same_flow}
 use Rattle.vs_flow.specs.Table.{IsTable, Table, entry_of, with_value, without}
 use Rattle.vs_flow.specs.declared.flow.Flow.{Flow}
@@ -21,7 +21,7 @@ use Rattle.vs_driver_parts.proofs.Delivers.{delivers, named_rw}
 use Rattle.std.proofs.Common.{zero, suc}
 use Rattle.std.proofs.lemmas.List.{length-take, take-take}
 use Rattle.vs_conn.specs.End.{with_payload_sent}
-use Rattle.vs_device.specs.Streams.{to_write}
+use Rattle.vs_device_parts.specs.Streams.{to_write}
 use Rattle.vs_matching.specs.Steps.{payload_on}
 use Rattle.vs_outside.specs.declared.host_net.StreamRead.TheVariants as read
 use Rattle.vs_outside.specs.declared.host_net.StreamWrite.TheVariants as write
@@ -45,7 +45,7 @@ use Rattle.vs_page.specs.Held.{IsWhole, packet_held, packet_with, payload_held}
 use Rattle.vs_page.specs.Log.{Device, Log, flow_got, flow_put, history_of, side_of}
 use Rattle.vs_page.specs.declared.log.LogEntry.TheVariants.{GotPacket, PutPacket}
 use Rattle.vs_page.proofs.Flows.{same_self}
-use Rattle.vs_proxy.specs.State.{Handshake}
+use Rattle.vs_proxy_parts.specs.State.{Handshake}
 use Rattle.vs_uds.specs.ConnectLine.{connect_port, connect_step}
 use Rattle.vs_uds.specs.Reading.{is_decided, port_or_bad}
 use Rattle.vs_uds.specs.declared.connect.TheConstants.{CONNECT_MAX}

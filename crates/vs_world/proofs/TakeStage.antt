@@ -26,17 +26,17 @@ use Rattle.vs_ring_port.specs.declared.failure.Failure.TheVariants as failure
 use Rattle.vs_ring_port.specs.declared.queue.Queue.TheVariants as q
 use Rattle.vs_uds.specs.Path.{path_of}
 use Rattle.vs_wrap.specs.Wrap.{counted}
-use Rattle.vs_device.specs.Calls.{Accept, Answer, Call, CloseStream, DeviceTree, Dial, Label, ReadStream, Ring, ShutWrite, WriteStream}
-use Rattle.vs_device.specs.Connections.{after_leaving, stream_closed, with_connection, with_reply}
-use Rattle.vs_device.specs.Receiving.{pay_event_of}
-use Rattle.vs_device.specs.State.{DeviceEntry, DeviceState}
-use Rattle.vs_device.specs.Streams.{leaving}
-use Rattle.vs_device.specs.Transmitting.{dial_answered, failing, heard, on_known, on_next, on_packet, on_unknown, refused, try_request, unknown_why}
-use Rattle.vs_device.specs.declared.answers.Taken.{Taken}
-use Rattle.vs_device.specs.declared.answers.Taken.TheVariants as taken
-use Rattle.vs_device.specs.declared.limits.TheConstants.{REPLIES}
-use Rattle.vs_proxy.specs.State.{Turning, with_device}
-use Rattle.vs_proxy.specs.Turns.{device_after, event_stage, take_one, take_stage, took_packet}
+use Rattle.vs_device_parts.specs.Calls.{Accept, Answer, Call, CloseStream, DeviceTree, Dial, Label, ReadStream, Ring, ShutWrite, WriteStream}
+use Rattle.vs_device_parts.specs.Connections.{after_leaving, stream_closed, with_connection, with_reply}
+use Rattle.vs_device_parts.specs.Receiving.{pay_event_of}
+use Rattle.vs_device_parts.specs.State.{DeviceEntry, DeviceState}
+use Rattle.vs_device_parts.specs.Streams.{leaving}
+use Rattle.vs_device_parts.specs.Transmitting.{dial_answered, failing, heard, on_known, on_next, on_packet, on_unknown, refused, try_request, unknown_why}
+use Rattle.vs_device_parts.specs.declared.answers.Taken.{Taken}
+use Rattle.vs_device_parts.specs.declared.answers.Taken.TheVariants as taken
+use Rattle.vs_device_parts.specs.declared.limits.TheConstants.{REPLIES}
+use Rattle.vs_proxy_parts.specs.State.{Turning, with_device}
+use Rattle.vs_proxy_parts.specs.Turns.{device_after, event_stage, take_one, take_stage, took_packet}
 use Rattle.vs_world.specs.Answers.{Around, answer_around}
 use Rattle.vs_world.specs.DeviceSteps.{chain_came, puts_event, returns, takes_chain}
 use Rattle.vs_world.specs.Events.{DevicePutsEvent, DeviceReturns, DeviceTakes, device_step, holds}

@@ -12,14 +12,14 @@ use Rattle.vs_uds.specs.ConnectLine.{connect_step}
 use Rattle.vs_uds.specs.declared.connect.TheConstants.{CONNECT_MAX}
 use Rattle.vs_uds.specs.declared.scan.Step.{Step}
 use Rattle.vs_uds.specs.declared.scan.Step.TheVariants as step
-use Rattle.vs_device.specs.Calls.{Accept, CloseStream, DeviceTree, Label, ReadStream}
-use Rattle.vs_device.specs.Connections.{cut_off, is_late, is_timed_out, with_client, with_connection}
-use Rattle.vs_device.specs.State.{DeviceEntry, DeviceState}
-use Rattle.vs_device.specs.Streams.{closing, tick_of, tick_slot}
-use Rattle.vs_proxy.specs.Handshakes.{accept_answered, accept_one, byte_read, dropping, handshake_on, line_decided, may_open, opening, read_byte, read_line, shake_hands, streams_of, tick_handshake, tick_handshakes, with_line, without_handshake}
-use Rattle.vs_proxy.specs.State.{Handshake, ProxyState, Turning, start, with_device}
-use Rattle.vs_proxy.specs.Turns.{device_after, tick_stage}
-use Rattle.vs_proxy.specs.declared.limits.TheConstants.{HANDSHAKES}
+use Rattle.vs_device_parts.specs.Calls.{Accept, CloseStream, DeviceTree, Label, ReadStream}
+use Rattle.vs_device_parts.specs.Connections.{cut_off, is_late, is_timed_out, with_client, with_connection}
+use Rattle.vs_device_parts.specs.State.{DeviceEntry, DeviceState}
+use Rattle.vs_device_parts.specs.Streams.{closing, tick_of, tick_slot}
+use Rattle.vs_proxy_parts.specs.Handshakes.{accept_answered, accept_one, byte_read, dropping, handshake_on, line_decided, may_open, opening, read_byte, read_line, shake_hands, streams_of, tick_handshake, tick_handshakes, with_line, without_handshake}
+use Rattle.vs_proxy_parts.specs.State.{Handshake, ProxyState, Turning, start, with_device}
+use Rattle.vs_proxy_parts.specs.Turns.{device_after, tick_stage}
+use Rattle.vs_proxy_parts.specs.declared.limits.TheConstants.{HANDSHAKES}
 use Rattle.vs_world.specs.Answers.{Around, answer_around, bytes_with}
 use Rattle.vs_world.specs.Events.{HandshakeTimesOut, Moment, ProxyAccepts, ProxyReads, TimesOut, at_moment, line_read}
 use Rattle.vs_world.specs.Steps.{Leads}

@@ -2,11 +2,11 @@
 use Rattle.std.proofs.Common.{◌≡◌, ℕ, Option, Some, None, refl}
 use Rattle.vs_contents.specs.CallTree.{Done, bind}
 use Rattle.vs_ring_port.specs.declared.failure.Failure.{Failure}
-use Rattle.vs_device.specs.Calls.{DeviceTree}
-use Rattle.vs_proxy.specs.Handshakes.{shake_hands}
-use Rattle.vs_proxy.specs.State.{ProxyState, Turning, start}
-use Rattle.vs_proxy.specs.Turns.{event_stage, fill_stage, pump_stage, take_stage, tick_stage, turned, unless_failed}
-use Rattle.vs_proxy.specs.declared.answers.Turn.{Turn}
+use Rattle.vs_device_parts.specs.Calls.{DeviceTree}
+use Rattle.vs_proxy_parts.specs.Handshakes.{shake_hands}
+use Rattle.vs_proxy_parts.specs.State.{ProxyState, Turning, start}
+use Rattle.vs_proxy_parts.specs.Turns.{event_stage, fill_stage, pump_stage, take_stage, tick_stage, turned, unless_failed}
+use Rattle.vs_proxy_parts.specs.declared.answers.Turn.{Turn}
 use Rattle.vs_world.specs.Plays.{turn_line}
 use Rattle.vs_world.specs.Steps.{Leads}
 use Rattle.vs_world.specs.World.{World}

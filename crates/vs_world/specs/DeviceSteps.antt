@@ -15,13 +15,13 @@ use Rattle.vs_ring_port.specs.declared.device_ring.Next.TheVariants as next
 use Rattle.vs_ring_port.specs.declared.failure.Failure.TheVariants as failure
 use Rattle.vs_ring_port.specs.declared.queue.Queue.{Queue}
 use Rattle.vs_ring_port.specs.declared.queue.Queue.TheVariants.{Rx, Tx, Event}
-use Rattle.vs_device.specs.Calls.{DeviceTree, Ring}
-use Rattle.vs_device.specs.Connections.{with_connection}
-use Rattle.vs_device.specs.Receiving.{Filling, hold, put_reply, put_owed, may_read, read_with_chain}
-use Rattle.vs_device.specs.State.{DeviceState, DeviceEntry}
-use Rattle.vs_device.specs.Streams.{Writing, write_pending, shut_write}
-use Rattle.vs_device.specs.Transmitting.{failing, on_packet}
-use Rattle.vs_device.specs.declared.limits.TheConstants.{REPLIES}
+use Rattle.vs_device_parts.specs.Calls.{DeviceTree, Ring}
+use Rattle.vs_device_parts.specs.Connections.{with_connection}
+use Rattle.vs_device_parts.specs.Receiving.{Filling, hold, put_reply, put_owed, may_read, read_with_chain}
+use Rattle.vs_device_parts.specs.State.{DeviceState, DeviceEntry}
+use Rattle.vs_device_parts.specs.Streams.{Writing, write_pending, shut_write}
+use Rattle.vs_device_parts.specs.Transmitting.{failing, on_packet}
+use Rattle.vs_device_parts.specs.declared.limits.TheConstants.{REPLIES}
 
 -- It takes a transmit packet: the chain is held until it is returned.
 abbrev pub header_came : Chain → Header → DeviceState → DeviceTree DeviceState

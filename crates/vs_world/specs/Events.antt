@@ -10,12 +10,12 @@ use Rattle.vs_ring_port.specs.declared.queue.Queue.{Queue}
 use Rattle.vs_ring_port.specs.declared.queue.Queue.TheVariants as q
 use Rattle.vs_driver_parts.specs.Conversations.{DriverTree, publish_of}
 use Rattle.vs_driver_parts.specs.State.{DriverState}
-use Rattle.vs_device.specs.Calls.{DeviceTree}
-use Rattle.vs_device.specs.State.{DeviceState}
-use Rattle.vs_device.specs.Streams.{tick_slot}
-use Rattle.vs_proxy.specs.Handshakes.{tick_handshake, accept_one, read_byte}
-use Rattle.vs_proxy.specs.State.{Turning, start, with_device}
-use Rattle.vs_proxy.specs.Turns.{proxy_reset_of}
+use Rattle.vs_device_parts.specs.Calls.{DeviceTree}
+use Rattle.vs_device_parts.specs.State.{DeviceState}
+use Rattle.vs_device_parts.specs.Streams.{tick_slot}
+use Rattle.vs_proxy_parts.specs.Handshakes.{tick_handshake, accept_one, read_byte}
+use Rattle.vs_proxy_parts.specs.State.{Turning, start, with_device}
+use Rattle.vs_proxy_parts.specs.Turns.{proxy_reset_of}
 use Rattle.vs_world.specs.Calls.{GuestCall, ReplyTo, is_right}
 use Rattle.vs_world.specs.DeviceSteps.{takes_chain, returns, puts_event, puts_reply, puts_owed, puts_payload, writes, shuts_write}
 use Rattle.vs_world.specs.GuestSteps.{takes_page, stages_page, stages_reply, stages_owed, makes_call, flow_named}

@@ -4,7 +4,7 @@ use Rattle.vs_page.specs.Held.{packet_held, event_held, held_in}
 use Rattle.vs_page.specs.Log.{Log, packets_put, packets_got, events_put, events_got}
 use Rattle.vs_ring_port.specs.Lists.{Rings}
 use Rattle.vs_ring_list.specs.Ends.{Ends}
-use Rattle.vs_proxy.specs.State.{ProxyState}
+use Rattle.vs_proxy_parts.specs.State.{ProxyState}
 
 -- What an end put and the other didn't get is just what the pages between them hold.
 pub record AreQueued (lists : Rings) (driver device : Log) : Type 0 where

@@ -9,8 +9,8 @@ use Rattle.vs_ring_port.specs.declared.failure.Failure.{Failure}
 use Rattle.vs_driver_parts.specs.Conversations.{connect_of, send_of, poll_of, DriverTree}
 use Rattle.vs_driver_parts.specs.State.{DriverState}
 use Rattle.vs_driver_parts.specs.declared.answers.Polled.{Polled}
-use Rattle.vs_proxy.specs.Turns.{turn_of, proxy_reset_of}
-use Rattle.vs_proxy.specs.declared.answers.Turn.{Turn}
+use Rattle.vs_proxy_parts.specs.Turns.{turn_of, proxy_reset_of}
+use Rattle.vs_proxy_parts.specs.declared.answers.Turn.{Turn}
 use Rattle.vs_world.specs.Calls.{GuestCall, ReplyTo, Connect, Send, bytes_sent, is_on, is_right}
 use Rattle.vs_world.specs.Events.{is_guest_cid}
 use Rattle.vs_world.specs.GuestSteps.{makes_call, flow_named}

@@ -7,7 +7,7 @@ use Rattle.vs_page.specs.Log.{Log}
 use Rattle.vs_replies.specs.declared.Reply.{Reply}
 use Rattle.vs_ring_port.specs.EndLog.{EndLog, all_put}
 use Rattle.vs_driver_parts.specs.State.{DriverState}
-use Rattle.vs_proxy.specs.State.{ProxyState}
+use Rattle.vs_proxy_parts.specs.State.{ProxyState}
 use Rattle.vs_world.specs.World.{World}
 
 -- The flow of a reply of the driver's, and of one of the device's.

@@ -1,8 +1,8 @@
 -- Calls as lists of events.
 use Rattle.std.specs.Prelude.{◌≡◌, List}
-use Rattle.vs_device.specs.Calls.{DeviceTree}
-use Rattle.vs_device.specs.State.{DeviceState}
-use Rattle.vs_proxy.specs.State.{with_device}
+use Rattle.vs_device_parts.specs.Calls.{DeviceTree}
+use Rattle.vs_device_parts.specs.State.{DeviceState}
+use Rattle.vs_proxy_parts.specs.State.{with_device}
 use Rattle.vs_world.specs.Events.{Event, run}
 use Rattle.vs_world.specs.World.{World, device_plays}
 

@@ -7,9 +7,9 @@ use Rattle.vs_outside.specs.Host.{HostContents}
 use Rattle.vs_driver_parts.specs.State.{DriverState}
 use Rattle.vs_driver_parts.specs.Conversations.{DriverTree, new_of}
 use Rattle.vs_driver_parts.specs.declared.limits.TheConstants.{FIRST_PORT}
-use Rattle.vs_device.specs.Calls.{DeviceTree}
-use Rattle.vs_proxy.specs.State.{ProxyState}
-use Rattle.vs_proxy.specs.Turns.{new_proxy}
+use Rattle.vs_device_parts.specs.Calls.{DeviceTree}
+use Rattle.vs_proxy_parts.specs.State.{ProxyState}
+use Rattle.vs_proxy_parts.specs.Turns.{new_proxy}
 use Rattle.vs_world.specs.Calls.{Journal}
 use Rattle.vs_world.specs.Answers.{Around, answer_around}
 

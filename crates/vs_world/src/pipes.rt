@@ -1,7 +1,7 @@
 //! Laws of the world on the bytes of connections, over every list of events.
 
 ghost use Rattle.std.specs.Prelude.{◌≡◌, ℕ, ◌++◌, true, List, Contains, None, Some};
-ghost use Rattle.vs_device.specs.State.{DeviceEntry};
+ghost use Rattle.vs_device_parts.specs.State.{DeviceEntry};
 ghost use Rattle.vs_driver_parts.specs.State.{DriverEntry, GoneConnection};
 ghost use Rattle.vs_flow.specs.declared.flow.Flow.{Flow};
 ghost use Rattle.vs_history.specs.History.{puts};
@@ -12,7 +12,7 @@ ghost use Rattle.vs_page.specs.Fair.{IsPrefixOf, payload_got, payload_put};
 ghost use Rattle.vs_page.specs.Log.{Device, Driver, history_of};
 ghost use Rattle.vs_pipes.specs.Drains.{Drains, receives};
 ghost use Rattle.vs_pipes.specs.Streamed.{gives, line_for};
-ghost use Rattle.vs_proxy.specs.State.{Handshake};
+ghost use Rattle.vs_proxy_parts.specs.State.{Handshake};
 ghost use Rattle.vs_world.specs.Calls.{received_on, sent_on};
 ghost use Rattle.vs_world.specs.Events.{Event, run};
 ghost use Rattle.vs_world.specs.Pipes.{IsFresh};

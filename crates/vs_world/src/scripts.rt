@@ -1,9 +1,9 @@
 //! The lines of a script as lists of events, so that each law of every list of events is one of every script.
 
 ghost use Rattle.std.specs.Prelude.{◌≡◌, ℕ, ◌++◌, true, List, None};
-ghost use Rattle.vs_device.specs.Receiving.{fill_rx_of, pay_event_of};
-ghost use Rattle.vs_device.specs.Streams.{pump_of, tick_of};
-ghost use Rattle.vs_device.specs.Transmitting.{take_tx_of};
+ghost use Rattle.vs_device_parts.specs.Receiving.{fill_rx_of, pay_event_of};
+ghost use Rattle.vs_device_parts.specs.Streams.{pump_of, tick_of};
+ghost use Rattle.vs_device_parts.specs.Transmitting.{take_tx_of};
 ghost use Rattle.vs_flow.specs.declared.flow.Flow.{Flow};
 ghost use Rattle.vs_outside.specs.Host.{HostContents};
 ghost use Rattle.vs_world.specs.Calls.{sent_on};

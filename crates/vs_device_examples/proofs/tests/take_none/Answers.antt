@@ -1,6 +1,6 @@
 use Rattle.std.proofs.Common.{[], Some}
 use Rattle.vs_ring_list.specs.Ends.{device_contents}
-use Rattle.vs_device.specs.Playing.{situation}
+use Rattle.vs_device_parts.specs.Playing.{situation}
 use Rattle.vs_device_examples.proofs.tests.take_none.Goals as goal
 
 pub take_tx-requires-clause-may : goal.take_tx-requires-clause-may

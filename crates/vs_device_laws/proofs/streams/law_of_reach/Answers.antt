@@ -1,9 +1,9 @@
-use Rattle.vs_device.specs.Calls.{Allows}
-use Rattle.vs_device.specs.Playing.{CanMake}
-use Rattle.vs_device.specs.Receiving.{fill_rx_of, pay_event_of}
-use Rattle.vs_device.specs.Streams.{pump_of, tick_of}
-use Rattle.vs_device.specs.Transmitting.{take_tx_of}
-use Rattle.vs_device.specs.Turns.{open_of, reset_of}
+use Rattle.vs_device_parts.specs.Calls.{Allows}
+use Rattle.vs_device_parts.specs.Playing.{CanMake}
+use Rattle.vs_device_parts.specs.Receiving.{fill_rx_of, pay_event_of}
+use Rattle.vs_device_parts.specs.Streams.{pump_of, tick_of}
+use Rattle.vs_device_parts.specs.Transmitting.{take_tx_of}
+use Rattle.vs_device_parts.specs.Turns.{open_of, reset_of}
 use Rattle.vs_device_laws.specs.Split.{CanReach}
 use Rattle.vs_device_laws.proofs.Closing.{keeps_tick}
 use Rattle.vs_device_laws.proofs.Conditions.{may_where, quiet_can}

@@ -1,5 +1,5 @@
-use Rattle.vs_device.specs.Streams.{pump_of, tick_of}
-use Rattle.vs_device.specs.Turns.{open_of}
+use Rattle.vs_device_parts.specs.Streams.{pump_of, tick_of}
+use Rattle.vs_device_parts.specs.Turns.{open_of}
 use Rattle.vs_device_log.proofs.Keeping.{keeps_end}
 use Rattle.vs_device_log.proofs.Turning.{open_keeps, pump_keeps, tick_keeps}
 use Rattle.vs_device_log.proofs.laws.law_of_other_calls.Goals as goal

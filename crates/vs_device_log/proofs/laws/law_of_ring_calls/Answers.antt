@@ -1,7 +1,7 @@
-use Rattle.vs_device.specs.Calls.{Allows}
-use Rattle.vs_device.specs.Receiving.{fill_rx_of, pay_event_of}
-use Rattle.vs_device.specs.Transmitting.{take_tx_of}
-use Rattle.vs_device.specs.Turns.{reset_of}
+use Rattle.vs_device_parts.specs.Calls.{Allows}
+use Rattle.vs_device_parts.specs.Receiving.{fill_rx_of, pay_event_of}
+use Rattle.vs_device_parts.specs.Transmitting.{take_tx_of}
+use Rattle.vs_device_parts.specs.Turns.{reset_of}
 use Rattle.vs_device_laws.specs.Split.{CanReach}
 use Rattle.vs_device_laws.proofs.Conditions.{may_where}
 use Rattle.vs_device_laws.proofs.Keeping.{keeps_may}

@@ -1,9 +1,9 @@
-use Rattle.vs_device.specs.Calls.{Allows}
+use Rattle.vs_device_parts.specs.Calls.{Allows}
 use Rattle.vs_device_laws.specs.Split.{CanReach}
 use Rattle.vs_device_laws.proofs.Conditions.{may_where}
 use Rattle.vs_device_laws.proofs.Keeping.{keeps_may}
 use Rattle.vs_device_log.proofs.Keeping.{keeps_end, keeps_put}
-use Rattle.vs_proxy.specs.Turns.{proxy_reset_of, turn_of}
+use Rattle.vs_proxy_parts.specs.Turns.{proxy_reset_of, turn_of}
 use Rattle.vs_proxy_laws.proofs.Turning.{keeps_turn}
 use Rattle.vs_proxy_log.proofs.Turning.{new_proxy_with, proxy_reset_keeps, turn_keeps}
 use Rattle.vs_proxy_log.proofs.laws.law_of_turns.Goals as goal

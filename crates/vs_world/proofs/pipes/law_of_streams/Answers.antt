@@ -7,7 +7,7 @@ use Rattle.vs_page.proofs.PayloadLogs.{all_got, all_put}
 use Rattle.std.proofs.Common.{◌++◌}
 use Rattle.std.proofs.lemmas.List.Elements.{All-contains}
 use Rattle.vs_page.specs.Fair.{payload_got}
-use Rattle.vs_proxy.specs.State.{Handshake}
+use Rattle.vs_proxy_parts.specs.State.{Handshake}
 use Rattle.vs_pipes.specs.Drains.{Drains}
 use Rattle.vs_pipes.specs.Streamed.{IsJoined, Seen, gives, line_for, look, reading, seen}
 use Rattle.vs_pipes.proofs.Hosts.{there as is_there}

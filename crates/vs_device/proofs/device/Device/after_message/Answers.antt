@@ -20,17 +20,17 @@ use Rattle.vs_ring_port.specs.declared.failure.Failure.TheVariants as failure
 use Rattle.vs_ring_port.specs.declared.queue.Queue.TheVariants.{Tx}
 use Rattle.vs_uds.specs.OkLine.{ok_text}
 use Rattle.vs_uds.specs.Path.{path_of}
-use Rattle.vs_device.specs.declared.answers.Taken.TheVariants as taken
-use Rattle.vs_device.specs.Calls.{Situation, Allows, Ring, Dial}
-use Rattle.vs_device.specs.State.{DeviceConnection, DeviceEntry, DeviceState}
-use Rattle.vs_device.specs.Connections.{with_connection}
-use Rattle.vs_device.specs.Playing.{MayClose, MayRun, Runs, IsRingOf, held_by, situation}
-use Rattle.vs_device.specs.Streams.{leaving}
-use Rattle.vs_device.specs.Taking.{after_refusal, known_packet}
-use Rattle.vs_device.specs.Transmitting.{heard, on_known, on_packet, on_header, on_next, try_request, dial_answered, failing}
+use Rattle.vs_device_parts.specs.declared.answers.Taken.TheVariants as taken
+use Rattle.vs_device_parts.specs.Calls.{Situation, Allows, Ring, Dial}
+use Rattle.vs_device_parts.specs.State.{DeviceConnection, DeviceEntry, DeviceState}
+use Rattle.vs_device_parts.specs.Connections.{with_connection}
+use Rattle.vs_device_parts.specs.Playing.{MayClose, MayRun, Runs, IsRingOf, held_by, situation}
+use Rattle.vs_device_parts.specs.Streams.{leaving}
+use Rattle.vs_device_parts.specs.Taking.{after_refusal, known_packet}
+use Rattle.vs_device_parts.specs.Transmitting.{heard, on_known, on_packet, on_header, on_next, try_request, dial_answered, failing}
 use Rattle.vs_device.specs.contracts.device.Device.{the_view}
 use Rattle.vs_device.proofs.Leaving.{changed, changed_twice, leaving_twice}
-use Rattle.vs_device.proofs.Under.{has_slot, value_of, with_its, under_changed, value_changed}
+use Rattle.vs_device_parts.proofs.Under.{has_slot, value_of, with_its, under_changed, value_changed}
 use Rattle.vs_device.proofs.Verdicts.{accepted, delivered, over, stays, refuses, by_verdict, discards, ignores, known, may_leave}
 use Rattle.vs_device.proofs.device.Device.after_message.Goals as goal
 

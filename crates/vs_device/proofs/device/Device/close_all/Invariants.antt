@@ -1,11 +1,11 @@
 use Rattle.std.proofs.Common.{◌≡◌, ℕ, ◌*◌, ◌≤◌, length, drop, Option}
 use Rattle.vs_contents.specs.CallTree.{for_each}
 use Rattle.vs_outside.specs.Host.{HostContents}
-use Rattle.vs_device.specs.declared.limits.TheConstants.{CONNECTIONS, WRITE_MAX}
-use Rattle.vs_device.specs.State.{DeviceState}
-use Rattle.vs_device.specs.Playing.{MayRunOnHost, RunsOnHost}
+use Rattle.vs_device_parts.specs.declared.limits.TheConstants.{CONNECTIONS, WRITE_MAX}
+use Rattle.vs_device_parts.specs.State.{DeviceState}
+use Rattle.vs_device_parts.specs.Playing.{MayRunOnHost, RunsOnHost}
 use Rattle.vs_flow.specs.Table.{slots}
-use Rattle.vs_device.specs.Turns.{close_slot}
+use Rattle.vs_device_parts.specs.Turns.{close_slot}
 use Rattle.vs_device.proofs.device.Device.close_all.Given as goal
 
 -- whatever completes the rest completes the whole

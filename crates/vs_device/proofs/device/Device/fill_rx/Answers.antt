@@ -4,12 +4,12 @@ use Rattle.vs_contents.specs.CallTree.{Done, bind, while_up_to}
 use Rattle.vs_contents.proofs.Leads.{leads_of, leads_bind}
 use Rattle.vs_contents.proofs.Conditions.{may_first, may_rest, may_of}
 use Rattle.vs_ring_port.specs.declared.failure.Failure.{Failure}
-use Rattle.vs_device.specs.Calls.{DeviceTree, Allows}
-use Rattle.vs_device.specs.Filling.{filling_of, serve_rest}
-use Rattle.vs_device.specs.Playing.{CanMake, situation}
-use Rattle.vs_device.specs.Receiving.{Filling, filled_of, fill_rx_of, put_reply}
-use Rattle.vs_device.specs.State.{DeviceState}
-use Rattle.vs_device.specs.declared.answers.Filled.{Filled}
+use Rattle.vs_device_parts.specs.Calls.{DeviceTree, Allows}
+use Rattle.vs_device_parts.specs.Filling.{filling_of, serve_rest}
+use Rattle.vs_device_parts.specs.Playing.{CanMake, situation}
+use Rattle.vs_device_parts.specs.Receiving.{Filling, filled_of, fill_rx_of, put_reply}
+use Rattle.vs_device_parts.specs.State.{DeviceState}
+use Rattle.vs_device_parts.specs.declared.answers.Filled.{Filled}
 use Rattle.vs_device.proofs.device.Device.fill_rx.Goals as goal
 
 abbrev start : DeviceState → Filling

@@ -6,15 +6,15 @@ use Rattle.vs_flow.specs.Table.{Table, entry_of, entry_under, value_under, has_p
 use Rattle.vs_flow.specs.declared.flow.Flow.{Flow}
 use Rattle.vs_conn.specs.declared.end.State.{State}
 use Rattle.vs_ring_port.specs.Contents.{RingContents}
-use Rattle.vs_device.specs.Calls.{Situation, Allows, Label}
-use Rattle.vs_device.specs.Connections.{stream_closed, with_client}
-use Rattle.vs_device.specs.Playing.{MayClose, MayRun, Runs, situation}
-use Rattle.vs_device.specs.State.{DeviceConnection, DeviceEntry, DeviceState}
-use Rattle.vs_device.specs.Streams.{closing}
-use Rattle.vs_device.specs.Turns.{after_reset, close_slot, open_of, reset_of}
+use Rattle.vs_device_parts.specs.Calls.{Situation, Allows, Label}
+use Rattle.vs_device_parts.specs.Connections.{stream_closed, with_client}
+use Rattle.vs_device_parts.specs.Playing.{MayClose, MayRun, Runs, situation}
+use Rattle.vs_device_parts.specs.State.{DeviceConnection, DeviceEntry, DeviceState}
+use Rattle.vs_device_parts.specs.Streams.{closing}
+use Rattle.vs_device_parts.specs.Turns.{after_reset, close_slot, open_of, reset_of}
 use Rattle.vs_device.specs.contracts.device.Device.{the_view}
-use Rattle.vs_device.proofs.Each.{each_more, may_each_step, may_each_more, each_end}
-use Rattle.vs_device.proofs.Under.{under}
+use Rattle.vs_device_parts.proofs.Each.{each_more, may_each_step, may_each_more, each_end}
+use Rattle.vs_device_parts.proofs.Under.{under}
 use Rattle.vs_device.proofs.Resetting.{closes, opened, may_close_all, was_reset}
 use Rattle.vs_device.proofs.device.Device.open.Goals as goal
 

@@ -1,9 +1,9 @@
 use Rattle.std.proofs.Common.{refl, ◌∙◌, arith}
 use Rattle.vs_contents.proofs.Loops.{while_more, while_stop, while_end, may_step, may_more}
-use Rattle.vs_device.specs.Calls.{Allows}
-use Rattle.vs_device.specs.Filling.{filling_of}
-use Rattle.vs_device.specs.Playing.{CanMake, situation}
-use Rattle.vs_device.specs.Receiving.{Filling, put_owed}
+use Rattle.vs_device_parts.specs.Calls.{Allows}
+use Rattle.vs_device_parts.specs.Filling.{filling_of}
+use Rattle.vs_device_parts.specs.Playing.{CanMake, situation}
+use Rattle.vs_device_parts.specs.Receiving.{Filling, put_owed}
 use Rattle.vs_device.proofs.device.Device.put_all_owed.Goals as goal
 
 pub put_owed-requires-clause-may : goal.put_owed-requires-clause-may

@@ -1,10 +1,10 @@
 use Rattle.std.proofs.Common.{◌≡◌, ◌+◌, ◌-◌, ◌≤◌, false}
 use Rattle.vs_contents.specs.CallTree.{while_up_to}
 use Rattle.vs_conn.specs.declared.end.TheConstants.{OWED_MAX}
-use Rattle.vs_device.specs.Calls.{Situation}
-use Rattle.vs_device.specs.Filling.{filling_of}
-use Rattle.vs_device.specs.Playing.{IsRingOf, MayRun, Runs, situation}
-use Rattle.vs_device.specs.Receiving.{Filling, put_owed}
+use Rattle.vs_device_parts.specs.Calls.{Situation}
+use Rattle.vs_device_parts.specs.Filling.{filling_of}
+use Rattle.vs_device_parts.specs.Playing.{IsRingOf, MayRun, Runs, situation}
+use Rattle.vs_device_parts.specs.Receiving.{Filling, put_owed}
 use Rattle.vs_device.proofs.device.Device.put_all_owed.Given as goal
 
 -- whatever completes the rest completes the whole

@@ -8,11 +8,11 @@ use Rattle.vs_ring_port.specs.declared.failure.Failure.{Failure}
 use Rattle.vs_ring_port.specs.declared.queue.Queue.TheVariants.{Event}
 use Rattle.vs_contents.specs.CallTree.{for_each}
 use Rattle.vs_flow.specs.Table.{slots}
-use Rattle.vs_device.specs.Calls.{Situation, Allows, Ring}
-use Rattle.vs_device.specs.Playing.{MayRun, Runs, situation}
-use Rattle.vs_device.specs.State.{DeviceState}
-use Rattle.vs_device.specs.Receiving.{event_on, pay_event_of}
-use Rattle.vs_device.specs.Turns.{after_reset, close_slot, reset_of}
+use Rattle.vs_device_parts.specs.Calls.{Situation, Allows, Ring}
+use Rattle.vs_device_parts.specs.Playing.{MayRun, Runs, situation}
+use Rattle.vs_device_parts.specs.State.{DeviceState}
+use Rattle.vs_device_parts.specs.Receiving.{event_on, pay_event_of}
+use Rattle.vs_device_parts.specs.Turns.{after_reset, close_slot, reset_of}
 use Rattle.vs_device.specs.contracts.device.Device.{the_view}
 use Rattle.vs_device.proofs.EventPaying.{may_event, took_event, by_chain, put, may_return}
 use Rattle.vs_device.proofs.Resetting.{may_close_all, was_reset}

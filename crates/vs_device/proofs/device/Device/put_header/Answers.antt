@@ -1,11 +1,11 @@
 use Rattle.std.proofs.Common.{◌≡◌, ◌+◌, true, false, Option, Some, None, sym, ap, ◌∙◌}
 use Rattle.vs_contents.proofs.Leads.{leads_to}
 use Rattle.vs_ring_port.specs.declared.device_ring.Chain.{Chain}
-use Rattle.vs_device.specs.Calls.{Allows}
-use Rattle.vs_device.specs.Filling.{filling_of, put_header}
-use Rattle.vs_device.specs.Playing.{situation}
-use Rattle.vs_device.specs.Receiving.{Filling}
-use Rattle.vs_device.specs.State.{DeviceState}
+use Rattle.vs_device_parts.specs.Calls.{Allows}
+use Rattle.vs_device_parts.specs.Filling.{filling_of, put_header}
+use Rattle.vs_device_parts.specs.Playing.{situation}
+use Rattle.vs_device_parts.specs.Receiving.{Filling}
+use Rattle.vs_device_parts.specs.State.{DeviceState}
 use Rattle.vs_device.specs.contracts.device.Device.{the_view}
 use Rattle.vs_device.proofs.Putting.{after_put, header_put, header_waits, may_write}
 use Rattle.vs_device.proofs.device.Device.put_header.Goals as goal

@@ -4,11 +4,11 @@ use Rattle.vs_conn.specs.Headers.{owed_header}
 use Rattle.vs_conn.specs.declared.end.Owed.{Owed}
 use Rattle.vs_flow.specs.Table.{entry_under}
 use Rattle.vs_header.specs.declared.Header.{Header}
-use Rattle.vs_device.specs.Connections.{route_to_guest}
-use Rattle.vs_device.specs.Filling.{filling_of, put_header}
-use Rattle.vs_device.specs.Playing.{MayRun, Runs, situation}
-use Rattle.vs_device.specs.Receiving.{Filling, after_paying}
-use Rattle.vs_device.specs.State.{DeviceEntry, DeviceState}
+use Rattle.vs_device_parts.specs.Connections.{route_to_guest}
+use Rattle.vs_device_parts.specs.Filling.{filling_of, put_header}
+use Rattle.vs_device_parts.specs.Playing.{MayRun, Runs, situation}
+use Rattle.vs_device_parts.specs.Receiving.{Filling, after_paying}
+use Rattle.vs_device_parts.specs.State.{DeviceEntry, DeviceState}
 use Rattle.vs_device.proofs.Paying.{some_and}
 use Rattle.vs_device.proofs.Putting.{owed_put, owed_waits, may_owed, may_pay}
 use Rattle.vs_device.proofs.device.Device.put_owed.Goals as goal

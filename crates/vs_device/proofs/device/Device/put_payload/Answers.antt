@@ -5,16 +5,16 @@ use Rattle.vs_conn.specs.Headers.{payload_header}
 use Rattle.vs_flow.specs.Table.{Table, entry_under, with_value}
 use Rattle.vs_header.specs.declared.Header.{Header}
 use Rattle.vs_ring_port.specs.declared.device_ring.Chain.{Chain}
-use Rattle.vs_device.specs.Calls.{Allows}
-use Rattle.vs_device.specs.Connections.{with_connection, route_to_guest}
-use Rattle.vs_device.specs.Filling.{filling_of}
-use Rattle.vs_device.specs.Playing.{MayRun, Runs, situation}
-use Rattle.vs_device.specs.Receiving.{Filling, written, put_payload}
-use Rattle.vs_device.specs.State.{DeviceConnection, DeviceEntry, DeviceState}
+use Rattle.vs_device_parts.specs.Calls.{Allows}
+use Rattle.vs_device_parts.specs.Connections.{with_connection, route_to_guest}
+use Rattle.vs_device_parts.specs.Filling.{filling_of}
+use Rattle.vs_device_parts.specs.Playing.{MayRun, Runs, situation}
+use Rattle.vs_device_parts.specs.Receiving.{Filling, written, put_payload}
+use Rattle.vs_device_parts.specs.State.{DeviceConnection, DeviceEntry, DeviceState}
 use Rattle.vs_device.specs.contracts.device.Device.{the_view}
 use Rattle.vs_device.proofs.Paying.{mapped}
 use Rattle.vs_device.proofs.Reading.{header, after_payload, payload_put, may_put}
-use Rattle.vs_device.proofs.Under.{has_slot, value_of}
+use Rattle.vs_device_parts.proofs.Under.{has_slot, value_of}
 use Rattle.vs_device.proofs.device.Device.put_payload.Goals as goal
 
 pub write_packet-requires-clause-may : goal.write_packet-requires-clause-may

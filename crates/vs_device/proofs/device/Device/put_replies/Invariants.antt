@@ -1,11 +1,11 @@
 use Rattle.std.proofs.Common.{◌≡◌, ◌-◌, ◌≤◌, ℕ, false, length, Option}
 use Rattle.vs_contents.specs.CallTree.{while_up_to}
 use Rattle.vs_outside.specs.Host.{HostContents}
-use Rattle.vs_device.specs.Calls.{Situation}
-use Rattle.vs_device.specs.Filling.{filling_of}
-use Rattle.vs_device.specs.Playing.{IsRingOf, MayRunOnRing, Runs, situation}
-use Rattle.vs_device.specs.Receiving.{Filling, put_reply}
-use Rattle.vs_device.specs.declared.limits.TheConstants.{REPLIES}
+use Rattle.vs_device_parts.specs.Calls.{Situation}
+use Rattle.vs_device_parts.specs.Filling.{filling_of}
+use Rattle.vs_device_parts.specs.Playing.{IsRingOf, MayRunOnRing, Runs, situation}
+use Rattle.vs_device_parts.specs.Receiving.{Filling, put_reply}
+use Rattle.vs_device_parts.specs.declared.limits.TheConstants.{REPLIES}
 use Rattle.vs_device.proofs.device.Device.put_replies.Given as goal
 
 -- whatever completes the rest completes the whole

@@ -4,17 +4,17 @@ use Rattle.vs_contents.proofs.Leads.{leads_to}
 use Rattle.vs_conn.specs.End.{wanting_credit}
 use Rattle.vs_credit.specs.Credit.{free_of}
 use Rattle.vs_flow.specs.Table.{entry_under, with_value}
-use Rattle.vs_device.specs.Calls.{Allows}
-use Rattle.vs_device.specs.Connections.{with_connection}
-use Rattle.vs_device.specs.Filling.{filling_of, read_slot}
-use Rattle.vs_device.specs.Playing.{situation}
-use Rattle.vs_device.specs.Receiving.{Filling, may_read}
-use Rattle.vs_device.specs.State.{DeviceConnection, DeviceEntry, DeviceState}
+use Rattle.vs_device_parts.specs.Calls.{Allows}
+use Rattle.vs_device_parts.specs.Connections.{with_connection}
+use Rattle.vs_device_parts.specs.Filling.{filling_of, read_slot}
+use Rattle.vs_device_parts.specs.Playing.{situation}
+use Rattle.vs_device_parts.specs.Receiving.{Filling, may_read}
+use Rattle.vs_device_parts.specs.State.{DeviceConnection, DeviceEntry, DeviceState}
 use Rattle.vs_device.specs.contracts.device.Device.{the_view}
 use Rattle.vs_device.proofs.Reading.{wanted, read_then, may_read_then}
 use Rattle.std.proofs.lemmas.Bool.Decides.{nat_tests}
 use Rattle.vs_device.proofs.Leaving.{changed}
-use Rattle.vs_device.proofs.Under.{value_of, under}
+use Rattle.vs_device_parts.proofs.Under.{value_of, under}
 use Rattle.vs_device.proofs.device.Device.read_slot.Goals as goal
 
 pub returns-then-free-eq0-clause-calls : goal.returns-then-free-eq0-clause-calls

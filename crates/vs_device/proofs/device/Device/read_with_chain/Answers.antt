@@ -11,17 +11,17 @@ use Rattle.vs_outside.specs.Host.{IsOpen}
 use Rattle.vs_outside.specs.declared.host_net.StreamRead.TheVariants as read
 use Rattle.vs_ring_port.specs.declared.device_ring.Chain.{Chain}
 use Rattle.vs_wrap.specs.Wrap.{counted}
-use Rattle.vs_device.specs.Calls.{Allows}
-use Rattle.vs_device.specs.Connections.{with_fault, after_shut, cut_off}
-use Rattle.vs_device.specs.Filling.{filling_of}
-use Rattle.vs_device.specs.Playing.{CanMake, IsRxChain, MayRun, Runs, situation}
-use Rattle.vs_device.specs.Receiving.{Filling, may_read, read_room, put_payload}
-use Rattle.vs_device.specs.State.{DeviceConnection, DeviceEntry, DeviceState}
-use Rattle.vs_device.specs.Streams.{closing}
+use Rattle.vs_device_parts.specs.Calls.{Allows}
+use Rattle.vs_device_parts.specs.Connections.{with_fault, after_shut, cut_off}
+use Rattle.vs_device_parts.specs.Filling.{filling_of}
+use Rattle.vs_device_parts.specs.Playing.{CanMake, IsRxChain, MayRun, Runs, situation}
+use Rattle.vs_device_parts.specs.Receiving.{Filling, may_read, read_room, put_payload}
+use Rattle.vs_device_parts.specs.State.{DeviceConnection, DeviceEntry, DeviceState}
+use Rattle.vs_device_parts.specs.Streams.{closing}
 use Rattle.vs_device.specs.contracts.device.Device.{the_view}
 use Rattle.vs_device.proofs.Leaving.{changed, may_close}
 use Rattle.vs_device.proofs.Reading.{answered, may_ask, may_answered, can_send, if_some, at_some, same_read, fits}
-use Rattle.vs_device.proofs.Under.{has_slot, value_of, under}
+use Rattle.vs_device_parts.proofs.Under.{has_slot, value_of, under}
 use Rattle.vs_device.proofs.device.Device.read_with_chain.Goals as goal
 
 pub read_into-requires-clause-open : goal.read_into-requires-clause-open

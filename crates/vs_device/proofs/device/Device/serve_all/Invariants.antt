@@ -1,11 +1,11 @@
 use Rattle.std.proofs.Common.{◌+◌, ◌*◌, ◌≤◌, length, drop}
 use Rattle.vs_contents.specs.CallTree.{for_each}
 use Rattle.vs_page.specs.declared.page.TheConstants.{PAYLOAD_MAX}
-use Rattle.vs_device.specs.Calls.{Situation}
-use Rattle.vs_device.specs.Filling.{filling_of, serve_all}
-use Rattle.vs_device.specs.Playing.{IsRingOf, MayRun, Runs, situation}
-use Rattle.vs_device.specs.Receiving.{Filling, serve_slot}
-use Rattle.vs_device.specs.declared.limits.TheConstants.{CONNECTIONS}
+use Rattle.vs_device_parts.specs.Calls.{Situation}
+use Rattle.vs_device_parts.specs.Filling.{filling_of, serve_all}
+use Rattle.vs_device_parts.specs.Playing.{IsRingOf, MayRun, Runs, situation}
+use Rattle.vs_device_parts.specs.Receiving.{Filling, serve_slot}
+use Rattle.vs_device_parts.specs.declared.limits.TheConstants.{CONNECTIONS}
 use Rattle.vs_device.proofs.device.Device.serve_all.Given as goal
 
 -- whatever completes the rest completes the whole

@@ -1,4 +1,4 @@
-use Rattle.vs_device.specs.Filling.{filling_of}
+use Rattle.vs_device_parts.specs.Filling.{filling_of}
 use Rattle.vs_device.proofs.Reading.{may_serve, may_serve_then, served}
 use Rattle.vs_device.proofs.device.Device.serve_slot.Goals as goal
 

@@ -3,7 +3,7 @@ use Rattle.std.specs.List.{slice_get}
 use Rattle.std.proofs.lemmas.Option.{slice_get_within, get_or_from_slice_get}
 use Rattle.vs_conn.specs.declared.end.State.{State}
 use Rattle.vs_flow.specs.declared.flow.Flow.{Flow}
-use Rattle.vs_device.specs.State.{DeviceEntry}
+use Rattle.vs_device_parts.specs.State.{DeviceEntry}
 use Rattle.vs_device.proofs.turns.EntriesIterator.next.Goals as goal
 
 drop_next : (xs : List DeviceEntry) (i : ℕ) (x : DeviceEntry) → slice_get xs i ≡ Some x → drop i xs ≡ x ∷ drop (i + 1) xs

@@ -2,13 +2,13 @@ use Rattle.std.specs.Prelude.{Result}
 use Rattle.std.proofs.Common.{◌≡◌, ℕ, ◌+◌, false, true, sym, ap, subst, ◌∙◌}
 use Rattle.vs_contents.proofs.Leads.{end_of}
 use Rattle.vs_flow.specs.declared.table.TableFault.{TableFault}
-use Rattle.vs_device.specs.Calls.{Allows}
-use Rattle.vs_device.specs.Playing.{Runs, situation}
-use Rattle.vs_device.specs.State.{DeviceState}
-use Rattle.vs_device.specs.Turns.{open_of}
-use Rattle.vs_proxy.specs.Handshakes.{may_open}
-use Rattle.vs_proxy.specs.State.{ProxyState, Turning, with_device}
-use Rattle.vs_proxy.specs.Turning.{CountsFew, turning_of}
+use Rattle.vs_device_parts.specs.Calls.{Allows}
+use Rattle.vs_device_parts.specs.Playing.{Runs, situation}
+use Rattle.vs_device_parts.specs.State.{DeviceState}
+use Rattle.vs_device_parts.specs.Turns.{open_of}
+use Rattle.vs_proxy_parts.specs.Handshakes.{may_open}
+use Rattle.vs_proxy_parts.specs.State.{ProxyState, Turning, with_device}
+use Rattle.vs_proxy_parts.specs.Turning.{CountsFew, turning_of}
 use Rattle.vs_proxy.specs.contracts.proxy.Proxy.{the_view}
 use Rattle.vs_proxy.proofs.Counting.{open_few}
 use Rattle.vs_proxy.proofs.Handshaking.{let_in, turned_away}

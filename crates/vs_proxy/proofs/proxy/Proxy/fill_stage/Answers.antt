@@ -2,15 +2,15 @@ use Rattle.std.specs.Prelude.{Result, Ok, Err}
 use Rattle.std.proofs.Common.{◌≡◌, ◌+◌, false, is_some, sym, ap, subst, ◌∙◌, arith}
 use Rattle.vs_contents.proofs.Leads.{end_of}
 use Rattle.vs_ring_port.specs.declared.failure.Failure.{Failure}
-use Rattle.vs_device.specs.Calls.{Allows}
-use Rattle.vs_device.specs.Playing.{MayRun, Runs, situation}
-use Rattle.vs_device.specs.Receiving.{fill_rx_of}
-use Rattle.vs_device.specs.State.{DeviceState}
-use Rattle.vs_device.specs.declared.answers.Filled.{Filled}
-use Rattle.vs_proxy.specs.State.{ProxyState, Turning, with_device}
-use Rattle.vs_proxy.specs.Turning.{CountsFew, turning_of}
+use Rattle.vs_device_parts.specs.Calls.{Allows}
+use Rattle.vs_device_parts.specs.Playing.{MayRun, Runs, situation}
+use Rattle.vs_device_parts.specs.Receiving.{fill_rx_of}
+use Rattle.vs_device_parts.specs.State.{DeviceState}
+use Rattle.vs_device_parts.specs.declared.answers.Filled.{Filled}
+use Rattle.vs_proxy_parts.specs.State.{ProxyState, Turning, with_device}
+use Rattle.vs_proxy_parts.specs.Turning.{CountsFew, turning_of}
 use Rattle.vs_proxy.specs.contracts.proxy.Proxy.{the_view}
-use Rattle.vs_proxy.specs.declared.tally.Tally.{Tally}
+use Rattle.vs_proxy_parts.specs.declared.tally.Tally.{Tally}
 use Rattle.vs_proxy.proofs.Counting.{few_more}
 use Rattle.vs_proxy.proofs.Filling.{FewFilled, fill_few}
 use Rattle.vs_proxy.proofs.Staging.{filled_up, may_fill}

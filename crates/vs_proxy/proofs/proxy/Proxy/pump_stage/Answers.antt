@@ -1,11 +1,11 @@
 use Rattle.std.proofs.Common.{◌≡◌, ℕ, ◌+◌, false, is_some, sym, ap, subst, ◌∙◌, arith}
 use Rattle.vs_contents.proofs.Leads.{end_of}
-use Rattle.vs_device.specs.Calls.{Allows}
-use Rattle.vs_device.specs.Playing.{MayRun, Runs, situation}
-use Rattle.vs_device.specs.Streams.{Writing, pump_of}
-use Rattle.vs_device.specs.Written.{writing}
-use Rattle.vs_proxy.specs.State.{ProxyState, Turning, with_device}
-use Rattle.vs_proxy.specs.Turning.{CountsFew, turning_of}
+use Rattle.vs_device_parts.specs.Calls.{Allows}
+use Rattle.vs_device_parts.specs.Playing.{MayRun, Runs, situation}
+use Rattle.vs_device_parts.specs.Streams.{Writing, pump_of}
+use Rattle.vs_device_parts.specs.Written.{writing}
+use Rattle.vs_proxy_parts.specs.State.{ProxyState, Turning, with_device}
+use Rattle.vs_proxy_parts.specs.Turning.{CountsFew, turning_of}
 use Rattle.vs_proxy.specs.contracts.proxy.Proxy.{the_view}
 use Rattle.vs_proxy.proofs.Counting.{pump_few}
 use Rattle.vs_proxy.proofs.Staging.{may_pump, pumped}

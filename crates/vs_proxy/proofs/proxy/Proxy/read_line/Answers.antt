@@ -1,11 +1,11 @@
 use Rattle.std.proofs.Common.{ap, ◌∙◌, arith}
 use Rattle.vs_contents.proofs.Loops.{while_more, while_stop, while_end, may_step, may_more}
-use Rattle.vs_device.specs.Calls.{Allows}
-use Rattle.vs_device.specs.Playing.{CanMake, situation}
-use Rattle.vs_proxy.specs.Handshakes.{read_byte}
-use Rattle.vs_proxy.specs.State.{Turning}
-use Rattle.vs_proxy.specs.Turning.{turning_of}
-use Rattle.vs_proxy.specs.declared.tally.Tally.{Tally}
+use Rattle.vs_device_parts.specs.Calls.{Allows}
+use Rattle.vs_device_parts.specs.Playing.{CanMake, situation}
+use Rattle.vs_proxy_parts.specs.Handshakes.{read_byte}
+use Rattle.vs_proxy_parts.specs.State.{Turning}
+use Rattle.vs_proxy_parts.specs.Turning.{turning_of}
+use Rattle.vs_proxy_parts.specs.declared.tally.Tally.{Tally}
 use Rattle.vs_proxy.proofs.Counting.{few_more, few_then}
 use Rattle.vs_proxy.proofs.proxy.Proxy.read_line.Goals as goal
 

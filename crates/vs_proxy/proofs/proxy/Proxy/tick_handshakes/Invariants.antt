@@ -1,12 +1,12 @@
 use Rattle.std.proofs.Common.{◌≡◌, ◌≤◌, length, drop}
 use Rattle.vs_contents.specs.CallTree.{for_each}
 use Rattle.vs_ring_port.specs.Contents.{RingContents}
-use Rattle.vs_device.specs.Calls.{Situation}
-use Rattle.vs_device.specs.Playing.{MayRunOnHost, Runs, situation}
-use Rattle.vs_proxy.specs.Handshakes.{tick_handshake, tick_handshakes}
-use Rattle.vs_proxy.specs.State.{Turning}
-use Rattle.vs_proxy.specs.Turning.{CountsFew, turning_of}
-use Rattle.vs_proxy.specs.declared.limits.TheConstants.{HANDSHAKES}
+use Rattle.vs_device_parts.specs.Calls.{Situation}
+use Rattle.vs_device_parts.specs.Playing.{MayRunOnHost, Runs, situation}
+use Rattle.vs_proxy_parts.specs.Handshakes.{tick_handshake, tick_handshakes}
+use Rattle.vs_proxy_parts.specs.State.{Turning}
+use Rattle.vs_proxy_parts.specs.Turning.{CountsFew, turning_of}
+use Rattle.vs_proxy_parts.specs.declared.limits.TheConstants.{HANDSHAKES}
 use Rattle.vs_proxy.proofs.proxy.Proxy.tick_handshakes.Given as goal
 
 -- whatever completes the rest completes the whole

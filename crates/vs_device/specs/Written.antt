@@ -1,7 +1,0 @@
--- A round of writing, as the code has it.
-use Rattle.std.specs.Prelude.{ℕ}
-use Rattle.vs_device.specs.State.{DeviceState}
-use Rattle.vs_device.specs.Streams.{Writing}
-
-abbrev pub writing : DeviceState → ℕ → Writing
-writing s n = record { state = s; wrote = n }

@@ -1,0 +1,7 @@
+pub mod Under
+mod Copying
+mod SlotChanges
+pub mod Each
+mod Rounds
+mod Writes
+mod Held

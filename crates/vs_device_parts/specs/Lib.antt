@@ -1,0 +1,14 @@
+pub mod Calls
+pub mod State
+pub mod Connections
+pub mod Streams
+pub mod Transmitting
+pub mod Receiving
+pub mod Turns
+pub mod Room
+pub mod Paid
+pub mod SlotFields
+pub mod Playing
+pub mod Filling
+pub mod Written
+pub mod Taking

@@ -1,0 +1,61 @@
+-- Reset and opening.
+use Rattle.std.specs.Prelude.{ℕ, Bool, true, false, List, [], ◌∷◌, Option, Some, None, Result, Ok, Err, map}
+use Rattle.vs_contents.specs.CallTree.{Done, Ask, bind, for_each}
+use Rattle.vs_flow.specs.Table.{entry_under, slots, emptied, refusal}
+use Rattle.vs_flow.specs.declared.flow.Flow.{Flow}
+use Rattle.vs_flow.specs.declared.table.TableFault.{TableFault}
+use Rattle.vs_conn.specs.declared.end.State.{State}
+use Rattle.vs_ring_port.specs.declared.failure.Failure.{Failure}
+use Rattle.vs_ring_port.specs.Contents.{PublishCid}
+use Rattle.vs_device_parts.specs.declared.answers.Counters.{Counters}
+use Rattle.vs_device_parts.specs.Calls.{DeviceTree, Ring, Label, CloseStream}
+use Rattle.vs_device_parts.specs.Connections.{with_client, stream_closed}
+use Rattle.vs_device_parts.specs.State.{DeviceState, DeviceEntry}
+use Rattle.vs_device_parts.specs.Streams.{closing}
+use Rattle.vs_device_parts.specs.declared.limits.TheConstants.{CONNECTIONS}
+
+-- A device before its first call.
+abbrev pub new_device : ℕ → List ℕ → DeviceState
+new_device cid base = record {
+  cid = cid;
+  base = base;
+  now = 0;
+  table = record { room = CONNECTIONS; entries = []; given = 0 };
+  replies = [];
+  event_owed = false;
+  chain = None;
+  last_put = None;
+  failed = None;
+  dropped = 0;
+  overrun = 0;
+  faults = 0;
+  opened = 0;
+  closed = 0;
+}
+
+-- reset: all streams are closed, by rising slot; table and owed replies are empty; the CID is published, and an event is owed.
+abbrev pub close_slot : ℕ → DeviceState → DeviceTree DeviceState
+close_slot slot s = elim (entry_under s.table slot) [ None ↦ Done s | Some e ↦ closing e stream_closed s ]
+
+abbrev pub after_reset : ℕ → DeviceState → DeviceState
+after_reset cid s = record s { cid = cid; table = emptied s.table; replies = []; event_owed = true }
+
+abbrev pub reset_of : ℕ → DeviceState → DeviceTree (DeviceState × Result (Unit {0}) Failure)
+reset_of cid s = elim s.failed [
+  | Some f ↦ Done (s, Err f)
+  | None ↦ bind (for_each close_slot (slots s.table) s) (λ t. Ask (Ring (PublishCid cid)) (λ _. Done (after_reset cid t, Ok tt)))
+]
+
+-- open: the stream of a client is labelled with its flow, and the connection owes REQUEST.
+abbrev pub open_of : Flow → ℕ → DeviceState → DeviceTree (DeviceState × Result ℕ TableFault)
+open_of flow stream s = elim (refusal s.table flow) [
+  | Some fault ↦ Done (s, Err fault)
+  | None ↦ Ask (Label stream flow) (λ _. Done (with_client flow stream s, Ok s.table.given))
+]
+
+abbrev pub counters_of : DeviceState → Counters
+counters_of s = record { dropped = s.dropped; overrun = s.overrun; faults = s.faults; opened = s.opened; closed = s.closed }
+
+-- The table, by rising slot.
+abbrev pub table_shown : DeviceState → List (Flow × State)
+table_shown s = map (λ e. (e.flow, e.value.end.state)) s.table.entries

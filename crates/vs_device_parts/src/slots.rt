@@ -1,0 +1,389 @@
+//! The device's slots: the connections of the table, and the buffers of free slots.
+
+ghost use Rattle.std.specs.Prelude.{◌≡◌, ◌<◌, ◌≤◌, ◌++◌, ◌+◌, ◌==◌, [], true, false, length, Some, None, if◌then◌else◌, IfOk, IfSome, IfNone, IsSomeAnd, option_copied, slice_get, ◌^◌, vec_capacity};
+ghost use Rattle.std.specs.List.{All};
+ghost use Rattle.std.specs.Option.{option_map};
+ghost use Rattle.vs_conn.specs.End.{CanSend, asked, answering, may_shut, owes_of, verdict_of, wanting_credit, with_payload_sent};
+ghost use Rattle.vs_conn.specs.Headers.{owed_header, payload_header};
+ghost use Rattle.vs_conn.specs.declared.end.State.TheVariants.{Live};
+ghost use Rattle.vs_conn.specs.declared.end.Verdict.TheVariants.{Deliver, Accept};
+ghost use Rattle.vs_credit.specs.Credit.{free_of, unread_of};
+ghost use Rattle.vs_flow.specs.Table.{IsTable, emptied, entry_of, entry_under, has_place, refusal, slots, value_under, with_entry, with_value, without};
+ghost use Rattle.vs_history.specs.declared.TheConstants.{BUF_ALLOC};
+ghost use Rattle.vs_uds.specs.OkLine.{ok_text};
+ghost use Rattle.vs_device_parts.specs.declared.limits.TheConstants.{CONNECTIONS};
+ghost use Rattle.vs_device_parts.specs.Connections.{after_shut, after_written, cut_off, new_connection, route_to_guest, stream_closed};
+ghost use Rattle.vs_device_parts.specs.Paid.{paid_connection};
+ghost use Rattle.vs_device_parts.specs.Room.{IsSpare};
+ghost use Rattle.vs_device_parts.specs.State.{DeviceConnection, DeviceEntry};
+ghost use Rattle.vs_device_parts.specs.Transmitting.{heard};
+
+use crate::connection::{Buffers, Connection};
+use crate::limits::CONNECTIONS;
+use arrayvec::ArrayVec;
+use std::alloc::{AllocError, Global};
+use std::marker::Model;
+use vs_buffer::ByteFifo;
+use vs_conn::{Owed, Route, Verdict};
+use vs_flow::{Entry, Flow, FlowTable, Slot, TableFault};
+use vs_header::Header;
+use vs_history::BUF_ALLOC;
+use vs_page::HOST_CID;
+use vs_uds::OK_MAX;
+
+/// Bytes of a connection's receive buffer.
+pub const BUFFER_LEN: usize = BUF_ALLOC as usize;
+
+/// The connections, each in a slot of its own.
+#[derive(Drop)]
+pub struct Slots {
+    table: FlowTable<Connection>,
+    // The buffers of the free slots.
+    spare: Vec<Buffers>,
+}
+
+impl Model for Slots {
+    ghost use Rattle.vs_device_parts.specs.State.{DeviceConnection};
+    ghost use Rattle.vs_flow.specs.Table.{Table};
+
+    ghost Value = { Table DeviceConnection };
+
+    ghost use Rattle.vs_device_parts.specs.SlotFields.{AreKept};
+
+    ghost view = { λ s. s.table };
+
+    ghost invariant = { AreKept };
+}
+
+impl Slots {
+    /// The slots of a device that has no connection yet. All memory is taken here.
+    pub fn new(alloc: Global) -> Result<Slots, AllocError>
+        ensures { IfOk result (λ s. s ≡ record { room = CONNECTIONS; entries = []; given = 0 }) }
+    {
+        Ok(Slots {
+            table: FlowTable::new(alloc, CONNECTIONS)?,
+            spare: all_buffers(alloc)?,
+        })
+    }
+
+    /// How many connections there are.
+    pub fn open(&self) -> usize
+        ensures count { result ≡ length self.now.entries }
+        ensures most { result ≤ CONNECTIONS }
+    {
+        self.table.len()
+    }
+
+    /// Whether there is place for one more connection.
+    pub fn has_place(&self) -> bool
+        ensures { result ≡ has_place self.now }
+    {
+        self.table.has_place()
+    }
+
+    /// Why no connection of a flow can come into the table, where that is so.
+    pub fn refusal(&self, flow: Flow) -> Option<TableFault>
+        ensures { result ≡ refusal self.now flow }
+    {
+        if self.table.by_flow(flow).is_some() {
+            return Some(TableFault::Taken { flow });
+        }
+        if self.table.has_place() {
+            return None;
+        }
+        Some(TableFault::Full { n: CONNECTIONS })
+    }
+
+    /// The slot of the connection of a flow.
+    pub fn by_flow(&self, flow: Flow) -> Option<Slot>
+        ensures slot { result ≡ option_map (λ e. e.slot) (entry_of self.now flow) }
+        ensures sound { IsTable self.now }
+    {
+        self.table.by_flow(flow)
+    }
+
+    /// The flow of the connection in a slot.
+    pub fn flow_of(&self, slot: Slot) -> Option<Flow>
+        ensures { result ≡ option_map (λ e. e.flow) (entry_under self.now slot) }
+    {
+        self.table.flow_of(slot)
+    }
+
+    /// The connection in a slot.
+    pub fn connection(&self, slot: Slot) -> Option<&Connection>
+        ensures { option_copied result ≡ value_under self.now slot }
+    {
+        self.table.get(slot)
+    }
+
+    /// All slots of the table, by rising slot.
+    pub fn all(&self) -> ArrayVec<Slot, CONNECTIONS>
+        ensures all { result.items ≡ slots self.now }
+        ensures most { length (slots self.now) ≤ CONNECTIONS }
+    {
+        let mut all = ArrayVec::new();
+        let mut place = 0;
+        while let Some(entry) = self.table.at(place) {
+            all.push(entry.slot);
+            place += 1;
+        }
+        all
+    }
+
+    /// The connection at a place of the table, counted from 0 by rising slot.
+    pub fn at(&self, place: usize) -> Option<&Entry<Connection>>
+        ensures { option_copied result ≡ slice_get self.now.entries place }
+    {
+        self.table.at(place)
+    }
+
+    /// The packet that the connection in a slot owes, if it owes one, and its header.
+    pub fn owed(&self, slot: Slot, cid: u64) -> Option<(Owed, Header)>
+        ensures none { IfNone result (IfSome (entry_under self.now slot) (λ e. owes_of e.value.end ≡ None)) }
+        ensures some { IfSome result (λ (what, header). IsSomeAnd (entry_under self.now slot) (λ e. (owes_of e.value.end ≡ Some what) × (header ≡ owed_header e.value.end (route_to_guest cid e.flow) what))) }
+    {
+        let flow = self.table.flow_of(slot)?;
+        let connection = self.table.get(slot)?;
+        let what = connection.owes()?;
+        Some((
+            what,
+            connection.owed_header(route_to_guest(cid, flow), what),
+        ))
+    }
+
+    /// The header of an RW with `len` bytes of payload on the connection in a slot.
+    pub fn payload_header(&self, slot: Slot, cid: u64, len: u32) -> Option<Header>
+        ensures { result ≡ option_map (λ e. payload_header e.value.end (route_to_guest cid e.flow) len) (entry_under self.now slot) }
+    {
+        let flow = self.table.flow_of(slot)?;
+        let connection = self.table.get(slot)?;
+        Some(connection.payload_header(route_to_guest(cid, flow), len))
+    }
+
+    /// A connection opens that a client of the host asks for, on the client's stream. Its slot is returned.
+    pub fn open_client(&mut self, flow: Flow, stream: u64) -> Slot
+        requires place { has_place self.old ≡ true }
+        requires unknown { entry_of self.old flow ≡ None }
+        ensures opened { self.new ≡ with_entry self.old flow (new_connection (asked BUF_ALLOC) stream true) }
+        ensures slot { result ≡ self.old.given }
+    {
+        let connection = Connection::client(stream, self.spare.take_last());
+        insert(&mut self.table, flow, connection)
+    }
+
+    /// A connection opens that the guest's REQUEST asks for, on the stream that a dial gave.
+    pub fn open_dialed(&mut self, flow: Flow, request: &Header, stream: u64)
+        requires place { has_place self.old ≡ true }
+        requires unknown { entry_of self.old flow ≡ None }
+        ensures { self.new ≡ with_entry self.old flow (new_connection (answering BUF_ALLOC request.now) stream false) }
+    {
+        let connection = Connection::dialed(stream, request, self.spare.take_last());
+        insert(&mut self.table, flow, connection);
+    }
+
+    /// All connections leave the table.
+    pub fn clear(&mut self)
+        ensures { self.new ≡ emptied self.old }
+    {
+        while let Some(slot) = self.first() {
+            self.leave(slot);
+        }
+    }
+
+    // The slot of the connection that was opened first of those in the table.
+    fn first(&self) -> Option<Slot>
+        ensures first { result ≡ option_map (λ e. e.slot) (slice_get self.now.entries 0) }
+        ensures sound { IsTable self.now }
+    {
+        Some(self.table.at(0)?.slot)
+    }
+
+    /// The connection in a slot leaves the table, and its slot is free.
+    pub fn leave(&mut self, slot: Slot)
+        ensures { self.new ≡ without self.old slot }
+    {
+        let Some(connection) = self.table.remove(slot) else {
+            return;
+        };
+        self.spare.push_reserved(connection.into_buffers());
+    }
+}
+
+#[tactic(auto, using(crate::proofs::SlotChanges::kept_with_value))]
+impl Slots {
+    /// Takes a packet of the connection in a slot, and says what its end says to it.
+    pub fn on_packet(&mut self, slot: Slot, header: &Header) -> Verdict
+        ensures verdict { (c : DeviceConnection) → value_under self.old slot ≡ Some c → result ≡ verdict_of c.end header.now }
+        ensures left { (c : DeviceConnection) → value_under self.old slot ≡ Some c → self.new ≡ with_value self.old slot (heard header.now c) }
+        ensures room { (c : DeviceConnection) → value_under self.old slot ≡ Some c → result ≡ Deliver → length c.pending + header.now.len ≤ unread_of (heard header.now c).end.credit }
+        ensures most { (c : DeviceConnection) → value_under self.old slot ≡ Some c → result ≡ Deliver → header.now.len ≤ BUF_ALLOC }
+        ensures delivers { (c : DeviceConnection) → value_under self.old slot ≡ Some c → result ≡ Deliver → may_shut (heard header.now c).end.state ≡ true }
+        ensures accepts { (c : DeviceConnection) → value_under self.old slot ≡ Some c → result ≡ Accept → may_shut (heard header.now c).end.state ≡ true }
+    {
+        let Some(connection) = self.table.get_mut(slot) else {
+            return Verdict::Ignore;
+        };
+        connection.on_packet(header)
+    }
+
+    /// The connection in a slot stands since its RESPONSE came.
+    pub fn accept(&mut self, slot: Slot)
+        requires stands { IfSome (value_under self.old slot) (λ c. may_shut c.end.state ≡ true) }
+        ensures left { (e : DeviceEntry) → entry_under self.old slot ≡ Some e → self.new ≡ with_value self.old slot (record e.value { ok_line = if e.value.by_client then ok_text e.flow.host else [] }) }
+    {
+        let Some(flow) = self.table.flow_of(slot) else {
+            return;
+        };
+        let Some(connection) = self.table.get_mut(slot) else {
+            return;
+        };
+        connection.accept(flow.host);
+    }
+
+    /// Payload that the end of the connection in a slot delivers is to be written.
+    pub fn deliver(&mut self, slot: Slot, payload: &[u8])
+        requires stands { IfSome (value_under self.old slot) (λ c. may_shut c.end.state ≡ true) }
+        requires room { IfSome (value_under self.old slot) (λ c. length c.pending + length payload.now ≤ unread_of c.end.credit) }
+        ensures left { (c : DeviceConnection) → value_under self.old slot ≡ Some c → self.new ≡ with_value self.old slot (record c { pending = c.pending ++ payload.now }) }
+    {
+        let Some(connection) = self.table.get_mut(slot) else {
+            return;
+        };
+        connection.deliver(payload);
+    }
+
+    /// The stream of the connection in a slot is closed.
+    pub fn stream_closed(&mut self, slot: Slot)
+        ensures left { (c : DeviceConnection) → value_under self.old slot ≡ Some c → self.new ≡ with_value self.old slot (stream_closed c) }
+    {
+        let Some(connection) = self.table.get_mut(slot) else {
+            return;
+        };
+        connection.stream_closed();
+    }
+
+    /// The connection in a slot is over, and its stream is closed.
+    pub fn cut_off(&mut self, slot: Slot)
+        ensures left { (c : DeviceConnection) → value_under self.old slot ≡ Some c → self.new ≡ with_value self.old slot (cut_off c) }
+    {
+        let Some(connection) = self.table.get_mut(slot) else {
+            return;
+        };
+        connection.cut_off();
+    }
+
+    /// Shuts directions of the connection in a slot, at a moment.
+    pub fn shut(&mut self, slot: Slot, bits: u8, now: u64)
+        requires state { IfSome (value_under self.old slot) (λ c. may_shut c.end.state ≡ true) }
+        requires bits { (1 ≤ bits) × (bits ≤ 3) }
+        ensures left { (c : DeviceConnection) → value_under self.old slot ≡ Some c → self.new ≡ with_value self.old slot (after_shut bits now c) }
+    {
+        let Some(connection) = self.table.get_mut(slot) else {
+            return;
+        };
+        connection.shut(bits, now);
+    }
+
+    /// The stream of the connection in a slot took the first `n` of the bytes that were to be written.
+    pub fn written(&mut self, slot: Slot, n: usize)
+        requires { IfSome (value_under self.old slot) (λ c. n ≤ length c.ok_line + length c.pending) }
+        ensures left { (c : DeviceConnection) → value_under self.old slot ≡ Some c → self.new ≡ with_value self.old slot (after_written n c) }
+    {
+        let Some(connection) = self.table.get_mut(slot) else {
+            return;
+        };
+        connection.written(n);
+    }
+
+    /// The side that the device writes to is shut, of the stream of the connection in a slot.
+    pub fn write_shut(&mut self, slot: Slot)
+        ensures left { (c : DeviceConnection) → value_under self.old slot ≡ Some c → self.new ≡ with_value self.old slot (record c { write_shut = true }) }
+    {
+        let Some(connection) = self.table.get_mut(slot) else {
+            return;
+        };
+        connection.write_shut();
+    }
+
+    /// Notes that the connection in a slot had no credit for what was to be sent.
+    pub fn want_credit(&mut self, slot: Slot)
+        requires live { IfSome (value_under self.old slot) (λ c. c.end.state ≡ Live) }
+        requires none { IfSome (value_under self.old slot) (λ c. free_of c.end.credit ≡ 0) }
+        ensures left { (c : DeviceConnection) → value_under self.old slot ≡ Some c → self.new ≡ with_value self.old slot (record c { end = wanting_credit c.end }) }
+    {
+        let Some(connection) = self.table.get_mut(slot) else {
+            return;
+        };
+        connection.want_credit();
+    }
+
+    /// Counts `n` bytes as sent on the connection in a slot.
+    pub fn sent(&mut self, slot: Slot, n: u32)
+        requires credit { IfSome (value_under self.old slot) (λ c. CanSend c.end n) }
+        ensures left { (c : DeviceConnection) → value_under self.old slot ≡ Some c → self.new ≡ with_value self.old slot (record c { end = with_payload_sent c.end n }) }
+    {
+        let Some(connection) = self.table.get_mut(slot) else {
+            return;
+        };
+        connection.sent(n);
+    }
+
+    /// Counts a packet that the connection in a slot owed as put, at a moment.
+    pub fn paid(&mut self, slot: Slot, what: Owed, now: u64)
+        requires owed { IfSome (value_under self.old slot) (λ c. owes_of c.end ≡ Some what) }
+        ensures left { (c : DeviceConnection) → value_under self.old slot ≡ Some c → self.new ≡ with_value self.old slot (paid_connection what now c) }
+    {
+        let Some(connection) = self.table.get_mut(slot) else {
+            return;
+        };
+        connection.paid(what, now);
+    }
+}
+
+/// The route of packets on a flow to the guest.
+pub fn route_to_guest(cid: u64, flow: Flow) -> Route
+    ensures { result ≡ route_to_guest cid flow }
+{
+    Route {
+        src_cid: HOST_CID,
+        dst_cid: cid,
+        src_port: flow.host,
+        dst_port: flow.guest,
+    }
+}
+
+// Puts a connection into the table, where there is room and its flow is new, and returns its slot.
+fn insert(table: &mut FlowTable<Connection>, flow: Flow, connection: Connection) -> Slot
+    requires place { has_place table.old ≡ true }
+    requires unknown { entry_of table.old flow ≡ None }
+    ensures opened { table.new ≡ with_entry table.old flow connection }
+    ensures slot { result ≡ table.old.given }
+{
+    match table.insert(flow, connection) {
+        Ok(slot) => slot,
+        Err(_) => unreachable!(),
+    }
+}
+
+// The buffers of all slots.
+fn all_buffers(alloc: Global) -> Result<Vec<Buffers>, AllocError>
+    ensures all { IfOk result (λ v. length v.items ≡ CONNECTIONS) }
+    ensures spare { IfOk result (λ v. All IsSpare v.items) }
+    ensures room { IfOk result (λ v. CONNECTIONS ≤ vec_capacity v) }
+{
+    let mut all = Vec::with_capacity(alloc, CONNECTIONS)?;
+    for _ in 0..CONNECTIONS {
+        all.push_reserved(spare_buffers(alloc)?);
+    }
+    Ok(all)
+}
+
+// The buffers of one slot.
+fn spare_buffers(alloc: Global) -> Result<Buffers, AllocError>
+    ensures { IfOk result IsSpare }
+{
+    Ok(Buffers {
+        ok_line: ByteFifo::new(alloc, OK_MAX)?,
+        pending: ByteFifo::new(alloc, BUFFER_LEN)?,
+    })
+}

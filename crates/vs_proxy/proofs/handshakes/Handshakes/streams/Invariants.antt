@@ -1,5 +1,0 @@
-use Rattle.std.proofs.Common.{◌≡◌, take, map}
-use Rattle.vs_proxy.proofs.handshakes.Handshakes.streams.Given as goal
-
-abbrev pub invariant-loop-handshake : goal.invariant-loop-handshake
-invariant-loop-handshake l = l.streams.items ≡ map (λ h. h.stream) (take l.handshake-index l.handshake-items)
