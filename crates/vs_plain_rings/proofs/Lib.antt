@@ -3,3 +3,4 @@ pub mod Making
 pub mod Posting
 pub mod Returning
 pub mod Rings
+pub mod Counted

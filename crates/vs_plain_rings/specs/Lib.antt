@@ -1,3 +1,4 @@
 pub mod View
 pub mod Rings
 pub mod Posting
+pub mod Counted

@@ -12,6 +12,7 @@ ghost use Rattle.vs_page.specs.Fair.{IsFairLog};
 ghost use Rattle.vs_page.specs.Log.{Device, Driver, HasGotAll};
 ghost use Rattle.vs_plain_ties.specs.Parts.{new_parts, with_parts_memory};
 ghost use Rattle.vs_plain_ties.specs.Tie.{IsLaid, areas_of, start_of};
+ghost use Rattle.vs_plain_rings.specs.Counted.{AreCounted};
 
 use crate::parts::{Parts, pages_from};
 use std::alloc::{AllocError, Global};
@@ -120,13 +121,14 @@ impl PlainRings {
 }
 
 /// What is true of standard rings between any two calls, while they alone change their memory. Both logs are fair, and what each end got
-/// is what the other put first: packets on tx and rx, ids on event. The three areas of each queue and the pages of all three lie in the
-/// memory, and no two of them have a byte in common (Virtio 1.2, section 2.7).
+/// is what the other put first: packets on tx and rx, ids on event. What the ends count is what the lists say. The three areas of each queue
+/// and the pages of all three lie in the memory, and no two of them have a byte in common (Virtio 1.2, section 2.7).
 pub fn laws_of_standard_rings(rings: &PlainRings)
     ensures driver_fair { ForSome rings.now.ends (λ w. IsFairLog Driver w.driver.entries) }
     ensures device_fair { ForSome rings.now.ends (λ w. IsFairLog Device w.device.entries) }
     ensures driver_got { ForSome rings.now.ends (λ w. HasGotAll w.driver.entries w.device.entries) }
     ensures device_got { ForSome rings.now.ends (λ w. HasGotAll w.device.entries w.driver.entries) }
+    ensures counted { ForSome rings.now.ends (AreCounted rings.now.parts) }
     ensures apart { let p = rings.now.parts in
         ForSome rings.now.ends (λ _. IsLaid p.device.size (areas_of p) (start_of p) p.device.memory) }
 {

@@ -1,4 +1,5 @@
 pub mod OverLists
+pub mod OverRings
 pub mod Flown
 pub mod OverBoth
 pub mod Served

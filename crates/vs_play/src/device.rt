@@ -1,4 +1,4 @@
-//! The calls of the device with its proxy over list rings and a host in memory, each with the one end that it leads to.
+//! The calls of the device with its proxy over rings on one thread and a host in memory, each with the one end that it leads to.
 
 ghost use Rattle.std.specs.Prelude.{◌≡◌, ◌≤◌, ◌++◌, Result, IfOk, OnOk, false, string_bytes};
 ghost use Rattle.vs_driver_parts.specs.State.{DriverState};
@@ -7,23 +7,23 @@ ghost use Rattle.vs_play.specs.Lines.{turn_text};
 ghost use Rattle.vs_play.specs.Ready.{IsDriven, IsServed, over_both};
 
 use std::alloc::AllocError;
+use vs_both_ends::BothEnds;
 use vs_outside::MemHost;
 use vs_proxy::{Proxy, Turn};
 use vs_report::device_lines::{push_failure, push_turned};
-use vs_ring_list::ListRings;
 use vs_ring_port::Failure;
 
 /// A turn at the moment `now`, in milliseconds. The only error is want of memory, which the host found in a dial or a write.
-pub fn turn(
+pub fn turn<R: BothEnds>(
     proxy: &mut Proxy,
-    rings: &mut ListRings,
+    rings: &mut R,
     host: &mut MemHost,
     now: u64,
 ) -> Result<Turn, AllocError>
-    requires served { IsServed proxy.old rings.old host.old.contents }
-    ensures played { IfOk result (λ answer. over_both (turn_of rings.old.lists.size now proxy.old) rings.old host.old.contents ≡ ((proxy.new, answer), (rings.new, host.new.contents))) }
-    ensures served { IfOk result (λ answer. IsServed proxy.new rings.new host.new.contents) }
-    ensures driven { IfOk result (λ answer. (s : DriverState) → IsDriven s rings.old → IsDriven s rings.new) }
+    requires served { IsServed proxy.old (R.ends rings.old) host.old.contents }
+    ensures played { IfOk result (λ answer. over_both (turn_of (R.ends rings.old).lists.size now proxy.old) (R.ends rings.old) host.old.contents ≡ ((proxy.new, answer), (R.ends rings.new, host.new.contents))) }
+    ensures served { IfOk result (λ answer. IsServed proxy.new (R.ends rings.new) host.new.contents) }
+    ensures driven { IfOk result (λ answer. (s : DriverState) → IsDriven s (R.ends rings.old) → IsDriven s (R.ends rings.new)) }
 {
     let answer = proxy.turn(rings, host, now);
     fed(host)?;
@@ -32,17 +32,17 @@ pub fn turn(
 
 /// A transport reset: the guest's CID is this one from now on, 3 to 4,294,967,294. The only error is want of memory, which the host found
 /// in a dial or a write before.
-pub fn reset(
+pub fn reset<R: BothEnds>(
     proxy: &mut Proxy,
-    rings: &mut ListRings,
+    rings: &mut R,
     host: &mut MemHost,
     cid: u32,
 ) -> Result<Result<(), Failure>, AllocError>
     requires cid { (3 ≤ cid) × (cid ≤ 4294967294) }
-    requires served { IsServed proxy.old rings.old host.old.contents }
-    ensures played { IfOk result (λ answer. over_both (proxy_reset_of cid proxy.old) rings.old host.old.contents ≡ ((proxy.new, answer), (rings.new, host.new.contents))) }
-    ensures served { IfOk result (λ answer. IsServed proxy.new rings.new host.new.contents) }
-    ensures driven { IfOk result (λ answer. (s : DriverState) → IsDriven s rings.old → IsDriven s rings.new) }
+    requires served { IsServed proxy.old (R.ends rings.old) host.old.contents }
+    ensures played { IfOk result (λ answer. over_both (proxy_reset_of cid proxy.old) (R.ends rings.old) host.old.contents ≡ ((proxy.new, answer), (R.ends rings.new, host.new.contents))) }
+    ensures served { IfOk result (λ answer. IsServed proxy.new (R.ends rings.new) host.new.contents) }
+    ensures driven { IfOk result (λ answer. (s : DriverState) → IsDriven s (R.ends rings.old) → IsDriven s (R.ends rings.new)) }
 {
     let answer = proxy.reset(rings, host, cid as u64);
     fed(host)?;

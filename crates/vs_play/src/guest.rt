@@ -1,4 +1,4 @@
-//! The calls of the guest's driver over list rings, each with the one end that it leads to.
+//! The calls of the guest's driver over rings on one thread, each with the one end that it leads to.
 
 ghost use Rattle.std.specs.Prelude.{◌≡◌, ℕ, IfOk};
 ghost use Rattle.vs_contents.specs.CallTree.{Done};
@@ -11,31 +11,31 @@ ghost use Rattle.vs_play.specs.Lines.{flow_opened, flow_accepted};
 ghost use Rattle.vs_play.specs.Ready.{IsBits, IsDriven, over_lists, got_count};
 
 use std::alloc::{AllocError, Global};
+use vs_both_ends::BothEnds;
 use vs_driver::{
     Accepted, Closed, ConnId, ConnectError, Driver, ListenError, Polled, Received, Sent, Shut,
 };
 use vs_flow::Flow;
-use vs_ring_list::ListRings;
 
 /// A driver just made over empty rings. The only error is want of memory.
-pub fn new(alloc: Global, rings: &mut ListRings) -> Result<Driver, AllocError>
-    requires empty { (n : ℕ) × (rings.old ≡ empty_ends n) }
-    ensures played { IfOk result (λ driver. over_lists (new_of rings.old.lists.size FIRST_PORT 1) rings.old ≡ (driver, rings.new)) }
-    ensures driven { IfOk result (λ driver. IsDriven driver rings.new) }
+pub fn new<R: BothEnds>(alloc: Global, rings: &mut R) -> Result<Driver, AllocError>
+    requires empty { (n : ℕ) × (R.ends rings.old ≡ empty_ends n) }
+    ensures played { IfOk result (λ driver. over_lists (new_of (R.ends rings.old).lists.size FIRST_PORT 1) (R.ends rings.old) ≡ (driver, R.ends rings.new)) }
+    ensures driven { IfOk result (λ driver. IsDriven driver (R.ends rings.new)) }
 {
     let driver = Driver::new(alloc, rings)?;
     Ok(driver)
 }
 
 /// Asks the host for a connection.
-pub fn connect(
+pub fn connect<R: BothEnds>(
     driver: &mut Driver,
-    rings: &mut ListRings,
+    rings: &mut R,
     port: u32,
 ) -> Result<ConnId, ConnectError>
-    requires driven { IsDriven driver.old rings.old }
-    ensures played { over_lists (connect_of port driver.old) rings.old ≡ ((driver.new, result), rings.new) }
-    ensures driven { IsDriven driver.new rings.new }
+    requires driven { IsDriven driver.old (R.ends rings.old) }
+    ensures played { over_lists (connect_of port driver.old) (R.ends rings.old) ≡ ((driver.new, result), R.ends rings.new) }
+    ensures driven { IsDriven driver.new (R.ends rings.new) }
 {
     driver.connect(rings, port)
 }
@@ -85,10 +85,10 @@ pub fn accept(driver: &mut Driver, port: u32) -> Accepted
 }
 
 /// Sends bytes on a connection.
-pub fn send(driver: &mut Driver, rings: &mut ListRings, id: ConnId, bytes: &[u8]) -> Sent
-    requires driven { IsDriven driver.old rings.old }
-    ensures played { over_lists (send_of id bytes.now driver.old) rings.old ≡ ((driver.new, result), rings.new) }
-    ensures driven { IsDriven driver.new rings.new }
+pub fn send<R: BothEnds>(driver: &mut Driver, rings: &mut R, id: ConnId, bytes: &[u8]) -> Sent
+    requires driven { IsDriven driver.old (R.ends rings.old) }
+    ensures played { over_lists (send_of id bytes.now driver.old) (R.ends rings.old) ≡ ((driver.new, result), R.ends rings.new) }
+    ensures driven { IsDriven driver.new (R.ends rings.new) }
 {
     driver.send(rings, id, bytes)
 }
@@ -137,10 +137,10 @@ pub fn close(driver: &mut Driver, id: ConnId) -> Closed
 }
 
 /// Polls the ring.
-pub fn poll(driver: &mut Driver, rings: &mut ListRings) -> Polled
-    requires driven { IsDriven driver.old rings.old }
-    ensures played { over_lists (poll_of driver.old) rings.old ≡ ((driver.new, result), rings.new) }
-    ensures driven { IsDriven driver.new rings.new }
+pub fn poll<R: BothEnds>(driver: &mut Driver, rings: &mut R) -> Polled
+    requires driven { IsDriven driver.old (R.ends rings.old) }
+    ensures played { over_lists (poll_of driver.old) (R.ends rings.old) ≡ ((driver.new, result), R.ends rings.new) }
+    ensures driven { IsDriven driver.new (R.ends rings.new) }
 {
     driver.poll(rings)
 }

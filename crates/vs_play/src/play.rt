@@ -1,4 +1,4 @@
-//! A play: a guest's driver and the device with its proxy on one thread, over list rings, with a host in memory.
+//! A play: a guest's driver and the device with its proxy on one thread, over rings of any kind, with a host in memory.
 
 ghost use Rattle.std.specs.Prelude.{◌≡◌, ◌≤◌, ◌++◌, OnOk, string_bytes};
 ghost use Rattle.vs_script.specs.Outside as outside;
@@ -12,6 +12,7 @@ use crate::bytes::filled;
 use crate::{device, guest};
 use std::alloc::AllocError;
 use std::marker::Model;
+use vs_both_ends::BothEnds;
 use vs_driver::Driver;
 use vs_outside::{Clock, MemHost, StepClock};
 use vs_proxy::Proxy;
@@ -21,28 +22,27 @@ use vs_report::guest_lines::{
     push_shutdown, push_state, push_unlisten,
 };
 use vs_report::host_lines::{push_client, push_ok, push_stream_there, push_write};
-use vs_ring_list::ListRings;
 use vs_script::{Data, HostLine, OutsideLine, PlayLine};
 
 /// The world of a play, and the moment.
 #[derive(Drop)]
-pub struct Play {
-    rings: ListRings,
+pub struct Play<R: BothEnds> {
+    rings: R,
     driver: Driver,
     proxy: Proxy,
     host: MemHost,
     clock: StepClock,
 }
 
-impl Model for Play {
+impl<R: BothEnds> Model for Play<R> {
     ghost use Rattle.vs_play.specs.Ready.{PlayState};
 
     ghost Value = { PlayState };
 
-    ghost view = { λ p. record { driver = p.driver; proxy = p.proxy; rings = p.rings; host = p.host.contents; moment = p.clock } };
+    ghost view = { λ p. record { driver = p.driver; proxy = p.proxy; rings = R.ends p.rings; host = p.host.contents; moment = p.clock } };
 }
 
-impl Play {
+impl<R: BothEnds> Play<R> {
     /// Plays a line: does what it says, and appends what it prints. The only error is want of memory, and then the play may not go on.
     pub fn line(&mut self, line: &PlayLine, text: &mut String) -> Result<(), AllocError>
         requires ready { IsReady self.old }

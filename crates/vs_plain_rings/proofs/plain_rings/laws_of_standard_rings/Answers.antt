@@ -2,6 +2,7 @@ use Rattle.std.proofs.Common.{subst}
 use Rattle.vs_ring_list.proofs.Ties.{device_got, driver_got}
 use Rattle.vs_plain_ties.specs.Exposed.{BothEnds}
 use Rattle.vs_plain_ties.specs.Tie.{IsTiedTo}
+use Rattle.vs_plain_rings.proofs.Counted.{are_counted}
 use Rattle.vs_plain_rings.proofs.Rings.{of_ends}
 use Rattle.vs_plain_rings.proofs.plain_rings.laws_of_standard_rings.Goals as goal
 
@@ -21,6 +22,9 @@ returns-clause-driver_got c =
 pub returns-clause-device_got : goal.returns-clause-device_got
 returns-clause-device_got c =
     of_ends c.args.rings.now _ (tied c) (λ w t. device_got w.lists w.driver.entries w.device.entries t.logs)
+
+pub returns-clause-counted : goal.returns-clause-counted
+returns-clause-counted c = of_ends c.args.rings.now _ (tied c) (λ w t. are_counted c.args.rings.now.parts w t)
 
 pub returns-clause-apart : goal.returns-clause-apart
 returns-clause-apart c = of_ends c.args.rings.now _ (tied c) (λ w t. t.laid)

@@ -1,24 +1,36 @@
 use Rattle.std.proofs.Common.{arith}
+use Rattle.vs_proxy.specs.Turns.{proxy_reset_of}
 use Rattle.vs_play.proofs.Devices.{driven_still, reset_may, reset_played, reset_serves}
+use Rattle.vs_play.proofs.OverRings.{its_ring, may_as, ring_is, runs_as}
 use Rattle.vs_play.proofs.device.reset.Goals as goal
 
 pub reset-answer-requires-clause-ring : goal.reset-answer-requires-clause-ring
-reset-answer-requires-clause-ring c = c.requires.served.chains
+reset-answer-requires-clause-ring g c = its_ring _ _ _ _ _ (g.met.R.BothEnds.device c.args.rings.now) c.requires.served.chains
 
 pub reset-answer-requires-clause-may : goal.reset-answer-requires-clause-may
-reset-answer-requires-clause-may c = reset_may _ _ c.args.rings.now _ c.args.host.now.contents _ 0 c.requires.served _
+reset-answer-requires-clause-may g c =
+    let e = g.R.BothEnds.ends c.args.rings.now in
+    may_as _ _ _ _ _ _ _ (g.met.R.BothEnds.device c.args.rings.now)
+    (reset_may _ _ e _ c.args.host.now.contents _ 0 c.requires.served _)
 
 pub returns-clause-played : goal.returns-clause-played
-returns-clause-played c =
+returns-clause-played g c =
     let fits = c.requires.cid.1 in
-    (reset_played _ _ _ _ _ _ _ _ _ (omega (arith, fits)) c.requires.served c.reset-answer.ensures.calls).played c.in_ok-fed.ensures
+    let runs = runs_as _ _ _ _ _ _ _ _ (λ n. proxy_reset_of c.args.cid c.args.proxy.now) _ _ _ _ _ (g.met.R.BothEnds.device c.args.rings.now)
+    (g.met.R.BothEnds.device c.reset-answer.new.ring) c.reset-answer.ensures.calls in
+    (reset_played _ _ _ _ _ _ _ _ _ (omega (arith, fits)) c.requires.served runs).played c.in_ok-fed.ensures
 
 pub returns-clause-served : goal.returns-clause-served
-returns-clause-served c =
+returns-clause-served g c =
     let fits = c.requires.cid.1 in
-    reset_serves _ _ _ _ _ _ _ c.requires.served _ _ (omega (arith, fits)) c.reset-answer.ensures.ring c.reset-answer.ensures.calls
+    let new = g.met.R.BothEnds.device c.reset-answer.new.ring in
+    let runs = runs_as _ _ _ _ _ _ _ _ (λ n. proxy_reset_of c.args.cid c.args.proxy.now) _ _ _ _ _ (g.met.R.BothEnds.device c.args.rings.now)
+    new c.reset-answer.ensures.calls in
+    reset_serves _ _ _ _ _ _ _ c.requires.served _ _ (omega (arith, fits)) (ring_is _ _ _ _ _ new c.reset-answer.ensures.ring) runs
 
 pub returns-clause-driven : goal.returns-clause-driven
-returns-clause-driven c =
+returns-clause-driven g c =
     let fits = c.requires.cid.1 in
-    driven_still _ _ (reset_played _ _ _ _ _ _ _ _ _ (omega (arith, fits)) c.requires.served c.reset-answer.ensures.calls).same
+    let runs = runs_as _ _ _ _ _ _ _ _ (λ n. proxy_reset_of c.args.cid c.args.proxy.now) _ _ _ _ _ (g.met.R.BothEnds.device c.args.rings.now)
+    (g.met.R.BothEnds.device c.reset-answer.new.ring) c.reset-answer.ensures.calls in
+    driven_still _ _ (reset_played _ _ _ _ _ _ _ _ _ (omega (arith, fits)) c.requires.served runs).same

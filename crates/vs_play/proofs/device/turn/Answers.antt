@@ -1,17 +1,32 @@
+use Rattle.vs_proxy.specs.Turns.{turn_of}
 use Rattle.vs_play.proofs.Devices.{driven_still, turn_may, turn_played, turn_serves}
+use Rattle.vs_play.proofs.OverRings.{its_ring, may_as, ring_is, runs_as}
 use Rattle.vs_play.proofs.device.turn.Goals as goal
 
 pub turn-answer-requires-clause-ring : goal.turn-answer-requires-clause-ring
-turn-answer-requires-clause-ring c = c.requires.served.chains
+turn-answer-requires-clause-ring g c = its_ring _ _ _ _ _ (g.met.R.BothEnds.device c.args.rings.now) c.requires.served.chains
 
 pub turn-answer-requires-clause-may : goal.turn-answer-requires-clause-may
-turn-answer-requires-clause-may c = turn_may _ _ c.args.rings.now _ c.args.host.now.contents _ 0 c.requires.served _ _
+turn-answer-requires-clause-may g c =
+    let e = g.R.BothEnds.ends c.args.rings.now in
+    may_as _ _ _ _ _ _ _ (g.met.R.BothEnds.device c.args.rings.now)
+    (turn_may _ _ e _ c.args.host.now.contents _ 0 c.requires.served _ _)
 
 pub returns-clause-played : goal.returns-clause-played
-returns-clause-played c = (turn_played _ _ _ _ _ _ _ _ _ _ c.requires.served c.turn-answer.ensures.calls).played c.in_ok-fed.ensures
+returns-clause-played g c =
+    let runs = runs_as _ _ _ _ _ _ _ _ (λ n. turn_of n c.args.now c.args.proxy.now) _ _ _ _ _ (g.met.R.BothEnds.device c.args.rings.now)
+    (g.met.R.BothEnds.device c.turn-answer.new.ring) c.turn-answer.ensures.calls in
+    (turn_played _ _ _ _ _ _ _ _ _ _ c.requires.served runs).played c.in_ok-fed.ensures
 
 pub returns-clause-served : goal.returns-clause-served
-returns-clause-served c = turn_serves _ _ _ _ _ _ _ c.requires.served _ _ _ c.turn-answer.ensures.ring c.turn-answer.ensures.calls
+returns-clause-served g c =
+    let new = g.met.R.BothEnds.device c.turn-answer.new.ring in
+    let runs = runs_as _ _ _ _ _ _ _ _ (λ n. turn_of n c.args.now c.args.proxy.now) _ _ _ _ _ (g.met.R.BothEnds.device c.args.rings.now)
+    new c.turn-answer.ensures.calls in
+    turn_serves _ _ _ _ _ _ _ c.requires.served _ _ _ (ring_is _ _ _ _ _ new c.turn-answer.ensures.ring) runs
 
 pub returns-clause-driven : goal.returns-clause-driven
-returns-clause-driven c = driven_still _ _ (turn_played _ _ _ _ _ _ _ _ _ _ c.requires.served c.turn-answer.ensures.calls).same
+returns-clause-driven g c =
+    let runs = runs_as _ _ _ _ _ _ _ _ (λ n. turn_of n c.args.now c.args.proxy.now) _ _ _ _ _ (g.met.R.BothEnds.device c.args.rings.now)
+    (g.met.R.BothEnds.device c.turn-answer.new.ring) c.turn-answer.ensures.calls in
+    driven_still _ _ (turn_played _ _ _ _ _ _ _ _ _ _ c.requires.served runs).same

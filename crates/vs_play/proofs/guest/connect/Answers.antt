@@ -1,11 +1,18 @@
-use Rattle.vs_play.proofs.OverLists.{over}
+use Rattle.vs_play.proofs.OverRings.{driven_as, honest_of, honest_with, played_as, ring_of}
 use Rattle.vs_play.proofs.guest.connect.Goals as goal
 
+pub connect-requires-clause-ring : goal.connect-requires-clause-ring
+connect-requires-clause-ring g c = ring_of _ _ _ _ _ (g.met.R.BothEnds.driver c.args.rings.now) _ c.requires.driven
+
+pub connect-requires-clause-honest : goal.connect-requires-clause-honest
+connect-requires-clause-honest g c = honest_of _ _ _ _ _ (g.met.R.BothEnds.driver c.args.rings.now) _ c.requires.driven
+
 pub returns-clause-played : goal.returns-clause-played
-returns-clause-played c = over _ _ _ _ c.connect.ensures.calls
+returns-clause-played g c =
+    played_as _ _ _ _ _ _ _ _ _ _ _ _ (g.met.R.BothEnds.driver c.args.rings.now) (g.met.R.BothEnds.driver c.connect.new.ring) c.connect.ensures.calls
 
 pub returns-clause-driven : goal.returns-clause-driven
-returns-clause-driven c = record {
-  ring = c.connect.ensures.ring;
-  honest = (c.requires.driven.honest.0, c.connect.ensures.honest c.requires.driven.honest.0 c.requires.driven.honest.1);
-}
+returns-clause-driven g c =
+    let first = c.requires.driven.honest.0 in
+    driven_as _ _ _ _ _ (g.met.R.BothEnds.driver c.connect.new.ring) first _ c.connect.ensures.ring
+    (c.connect.ensures.honest first (honest_with _ _ _ _ _ (g.met.R.BothEnds.driver c.args.rings.now) first _ c.requires.driven.honest.1))

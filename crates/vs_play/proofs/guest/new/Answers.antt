@@ -1,16 +1,21 @@
-use Rattle.std.proofs.Common.{◌≡◌, ℕ, [], Option, unwrap_or, refl, sym, ap, subst}
+use Rattle.std.proofs.Common.{◌≡◌, ℕ, [], Option, unwrap_or, refl, sym, ap, subst, ◌∙◌}
 use Rattle.vs_ring_port.specs.Counts.{no_counts}
 use Rattle.vs_ring_port.specs.EndLog.{EndLog, empty_log}
 use Rattle.vs_ring_list.specs.Ends.{driver_contents, empty_ends, flight_of, staged_of}
+use Rattle.vs_driver_parts.specs.Conversations.{new_of}
+use Rattle.vs_driver_parts.specs.declared.limits.TheConstants.{FIRST_PORT}
 use Rattle.vs_driver_log.specs.Honest.{IsFresh}
-use Rattle.vs_play.proofs.OverLists.{over}
+use Rattle.vs_play.specs.Ready.{over_lists}
+use Rattle.vs_play.proofs.OverRings.{driven_as, played_as}
 use Rattle.vs_play.proofs.guest.new.Goals as goal
 
 pub new-requires-clause-unused : goal.new-requires-clause-unused
-new-requires-clause-unused c = subst (λ e. flight_of e ≡ no_counts) (sym c.requires.empty.1) refl
+new-requires-clause-unused g c =
+    (g.met.R.BothEnds.driver c.args.rings.now).flight_is ∙ subst (λ e. flight_of e ≡ no_counts) (sym c.requires.empty.1) refl
 
 pub new-requires-clause-none_staged : goal.new-requires-clause-none_staged
-new-requires-clause-none_staged c = subst (λ e. staged_of e ≡ no_counts) (sym c.requires.empty.1) refl
+new-requires-clause-none_staged g c =
+    (g.met.R.BothEnds.driver c.args.rings.now).staged_is ∙ subst (λ e. staged_of e ≡ no_counts) (sym c.requires.empty.1) refl
 
 -- Nothing was put or got.
 fresh : (n : ℕ) → IsFresh (driver_contents (empty_ends n))
@@ -19,13 +24,17 @@ fresh n honest l is =
     subst (λ (x : EndLog). (x.entries ≡ []) × (x.staged.tx ≡ [])) same (refl, refl)
 
 pub new-requires-clause-fresh : goal.new-requires-clause-fresh
-new-requires-clause-fresh c = subst (λ e. IsFresh (driver_contents e)) (sym c.requires.empty.1) (fresh c.requires.empty.0)
+new-requires-clause-fresh g c =
+    subst IsFresh (sym (g.met.R.BothEnds.driver c.args.rings.now).exposes)
+    (subst (λ e. IsFresh (driver_contents e)) (sym c.requires.empty.1) (fresh c.requires.empty.0))
 
 pub returns-clause-played : goal.returns-clause-played
-returns-clause-played c = over _ _ _ _ c.in_ok-driver.ensures.calls
+returns-clause-played g c =
+    let old = g.met.R.BothEnds.driver c.args.rings.now in
+    let e = g.R.BothEnds.ends c.args.rings.now in
+    subst (λ n. over_lists (new_of n FIRST_PORT 1) e ≡ (c.in_ok-driver.driver, g.R.BothEnds.ends c.new.new.ring)) old.size_is
+    (played_as _ _ _ _ _ _ _ _ _ _ _ _ old (g.met.R.BothEnds.driver c.new.new.ring) c.in_ok-driver.ensures.calls)
 
 pub returns-clause-driven : goal.returns-clause-driven
-returns-clause-driven c = record {
-  ring = c.in_ok-driver.ensures.ring;
-  honest = (_, c.in_ok-driver.ensures.honest);
-}
+returns-clause-driven g c =
+    driven_as _ _ _ _ _ (g.met.R.BothEnds.driver c.new.new.ring) _ _ c.in_ok-driver.ensures.ring c.in_ok-driver.ensures.honest

@@ -1,11 +1,18 @@
-use Rattle.vs_play.proofs.OverLists.{over}
+use Rattle.vs_play.proofs.OverRings.{driven_as, honest_of, honest_with, played_as, ring_of}
 use Rattle.vs_play.proofs.guest.send.Goals as goal
 
+pub send-requires-clause-ring : goal.send-requires-clause-ring
+send-requires-clause-ring g c = ring_of _ _ _ _ _ (g.met.R.BothEnds.driver c.args.rings.now) _ c.requires.driven
+
+pub send-requires-clause-honest : goal.send-requires-clause-honest
+send-requires-clause-honest g c = honest_of _ _ _ _ _ (g.met.R.BothEnds.driver c.args.rings.now) _ c.requires.driven
+
 pub returns-clause-played : goal.returns-clause-played
-returns-clause-played c = over _ _ _ _ c.send.ensures.calls
+returns-clause-played g c =
+    played_as _ _ _ _ _ _ _ _ _ _ _ _ (g.met.R.BothEnds.driver c.args.rings.now) (g.met.R.BothEnds.driver c.send.new.ring) c.send.ensures.calls
 
 pub returns-clause-driven : goal.returns-clause-driven
-returns-clause-driven c = record {
-  ring = c.send.ensures.ring;
-  honest = (c.requires.driven.honest.0, c.send.ensures.honest c.requires.driven.honest.0 c.requires.driven.honest.1);
-}
+returns-clause-driven g c =
+    let first = c.requires.driven.honest.0 in
+    driven_as _ _ _ _ _ (g.met.R.BothEnds.driver c.send.new.ring) first _ c.send.ensures.ring
+    (c.send.ensures.honest first (honest_with _ _ _ _ _ (g.met.R.BothEnds.driver c.args.rings.now) first _ c.requires.driven.honest.1))

@@ -7,7 +7,7 @@ use Rattle.vs_play.proofs.Playing.{call_plays}
 use Rattle.vs_play.proofs.play.Play.close.Goals as goal
 
 pub returns : goal.returns
-returns c =
+returns g c =
     let ready = subst IsReady (sym c.self.view_is) c.requires in
     rw (← c.self.view_is) (on_ok_weaker c.push_close.result (λ printed. call_plays (script.Close c.args.id) (call.Close c.args.id) _ _ c.close-answer.result _ _ refl refl
     c.close-answer.ensures.made ready (c.close-answer.ensures.driven _ ready.driven) printed) c.push_close.ensures)

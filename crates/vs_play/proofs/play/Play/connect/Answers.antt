@@ -8,7 +8,7 @@ use Rattle.vs_play.proofs.Playing.{guest_plays}
 use Rattle.vs_play.proofs.play.Play.connect.Goals as goal
 
 pub returns : goal.returns
-returns c =
+returns g c =
     let ready = subst IsReady (sym c.self.view_is) c.requires in
     rw (← c.self.view_is) (on_ok_weaker c.push_connect.result (λ printed. guest_plays (script.Connect c.args.port) (call.Connect c.args.port) _ _ c.connect-answer.result _ _ _ refl
     c.connect-answer.ensures.played ready c.connect-answer.ensures.driven

@@ -11,7 +11,7 @@ use Rattle.vs_play.proofs.Playing.{host_plays}
 use Rattle.vs_play.proofs.play.Play.host_write.Goals as goal
 
 pub returns : goal.returns
-returns c =
+returns g c =
     let ready = subst IsReady (sym c.self.view_is) c.requires in
     let old = c.self.inside.host in
     let is = c.in_ok-answer.ensures.ok ∙ ap (λ a. record old { contents = after_host_write c.args.stream c.args.bytes.now a old.contents }) c.in_ok-answer.ensures.answer in

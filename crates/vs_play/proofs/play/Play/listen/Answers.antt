@@ -7,7 +7,7 @@ use Rattle.vs_play.proofs.Playing.{call_plays}
 use Rattle.vs_play.proofs.play.Play.listen.Goals as goal
 
 pub returns : goal.returns
-returns c =
+returns g c =
     let ready = subst IsReady (sym c.self.view_is) c.requires in
     rw (← c.self.view_is) (on_ok_weaker c.push_listen.result (λ printed. call_plays (script.Listen c.args.port) (call.Listen c.args.port) _ _ c.listen-answer.result _ _ refl refl
     c.listen-answer.ensures.made ready (c.listen-answer.ensures.driven _ ready.driven) printed) c.push_listen.ensures)

@@ -8,7 +8,7 @@ use Rattle.vs_play.proofs.Playing.{call_plays}
 use Rattle.vs_play.proofs.play.Play.recv.Goals as goal
 
 pub returns : goal.returns
-returns c =
+returns g c =
     let ready = subst IsReady (sym c.self.view_is) c.requires in
     rw (← c.self.view_is) (on_ok_weaker c.push_recv.result (λ printed. call_plays (script.Recv c.args.id c.args.len) (call.Recv c.args.id c.args.len) _ _
     (c.in_ok-answer.answer, c.in_ok-answer.bytes.items) _ _ refl refl
