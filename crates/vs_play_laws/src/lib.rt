@@ -1,0 +1,4 @@
+//! Laws of plays: what holds of the world that a script's lines reach.
+#![tactic(auto)]
+
+pub mod laws;
