@@ -1,2 +1,7 @@
 pub mod Parsed
 pub mod Spelled
+pub mod PlayLines
+pub mod OwnStreams
+pub mod Unfailed
+pub mod Reached
+pub mod Lawful

@@ -1,8 +1,10 @@
 -- What holds of what each line of a play says holds of each event of a parsed script.
-use Rattle.std.proofs.Common.{◌≡◌, ℕ, nat_le, nat_lt, length, if◌then◌else◌, Bool, true, false, List, [], ◌∷◌, ◌++◌, map, Result, Ok, Err, subst}
+use Rattle.std.proofs.Common.{◌≡◌, ℕ, nat_le, nat_lt, length, if◌then◌else◌, Bool, true, false, List, [], ◌∷◌, ◌++◌, map, Result, Ok, Err}
+use Rattle.std.proofs.Common.{subst}
 use Rattle.vs_script.specs.Play.{Event, play_line}
 use Rattle.vs_script.specs.Field.{named}
-use Rattle.vs_script.specs.Script.{Saying, Plays, Runs, Attacks, add_event, add_hostile, add_line, add_lines, add_run, add_words, chained, lines_from, parse_of, pushed, unless_refused}
+use Rattle.vs_script.specs.Script.{Saying, Plays, Runs, Attacks, add_event, add_hostile, add_line, add_lines, add_run, add_words, chained}
+use Rattle.vs_script.specs.Script.{lines_from, parse_of, pushed, unless_refused}
 use Rattle.vs_script.specs.Text.{words_of}
 use Rattle.vs_script.specs.declared.fault.Why.{Why}
 use Rattle.vs_script.specs.declared.fault.Refused.{Refused}
@@ -46,18 +48,22 @@ module _ (P : Event → Type 0) (reads : (words : List (List ℕ)) → OkAll P (
   added : (lines : List (ℕ × Event)) (number : ℕ) (r : Result Event Why) → AllSay P (map (λ l. l.1) lines) → OkAll P r
       → OkAll (λ (more : List (ℕ × Event)). AllSay P (map (λ l. l.1) more)) (chained r (λ event. pushed MAX_EVENTS lines (number, event)))
   added lines number (Ok e) all here =
-      if_ok (λ (more : List (ℕ × Event)). AllSay P (map (λ l. l.1) more)) (nat_lt (length lines) MAX_EVENTS) _ _ (one_more lines number e all here) tt
+      if_ok (λ (more : List (ℕ × Event)). AllSay P (map (λ l. l.1) more)) (nat_lt (length lines) MAX_EVENTS) _ _
+      (one_more lines number e all here) tt
   added lines number (Err why) all here = tt
 
   words_added : (s : Saying) (number : ℕ) (words : List (List ℕ)) → Says s → OkAll Says (add_words s number words)
-  words_added (Plays lines) number words all = named_ok Says Plays (add_event lines number words) (added lines number (play_line words) all (reads words))
+  words_added (Plays lines) number words all = named_ok Says Plays (add_event lines number words) (added lines number
+      (play_line words) all (reads words))
   words_added (Runs apps) number words all = named_ok Says Runs (add_run apps words) (any_ok (add_run apps words))
-  words_added (Attacks lines) number words all = named_ok Says Attacks (add_hostile lines number words) (any_ok (add_hostile lines number words))
+  words_added (Attacks lines) number words all = named_ok Says Attacks (add_hostile lines number words) (any_ok
+      (add_hostile lines number words))
 
   line_added : (s : Saying) (number : ℕ) (line : List ℕ) → Says s → OkAll Says (add_line s number line)
   line_added s number line all = if_ok Says (nat_le (length line) MAX_LINE) _ _ (words_added s number (words_of line) all) tt
 
-  unless_ok : (number : ℕ) (r : Result Saying Why) (f : Saying → Result Saying Refused) → OkAll Says r → ((more : Saying) → Says more → OkAll Says (f more))
+  unless_ok : (number : ℕ) (r : Result Saying Why) (f : Saying → Result Saying Refused) → OkAll Says r → ((more : Saying) → Says more
+      → OkAll Says (f more))
       → OkAll Says (unless_refused number r f)
   unless_ok number (Ok more) f h k = k more h
   unless_ok number (Err why) f h k = tt
@@ -71,5 +77,6 @@ module _ (P : Event → Type 0) (reads : (words : List (List ℕ)) → OkAll P (
   says text = if_ok Says (nat_le (length text) MAX_SCRIPT) _ _ (lines_added (lines_from 1 text) (Plays []) tt) tt
 
   -- What holds of what each line says holds of all events of a script.
-  pub each_says : (text : List ℕ) (lines : List (ℕ × Event)) → parse_of command.Play text ≡ Ok (Plays lines) → AllSay P (map (λ l. l.1) lines)
+  pub each_says : (text : List ℕ) (lines : List (ℕ × Event)) → parse_of command.Play text ≡ Ok (Plays lines)
+      → AllSay P (map (λ l. l.1) lines)
   each_says text lines is = subst (OkAll Says) is (says text)

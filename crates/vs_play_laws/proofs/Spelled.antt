@@ -1,8 +1,10 @@
 -- The numbers of a script's lines are within the bounds of their fields.
-use Rattle.std.proofs.Common.{◌≡◌, ◌≤◌, ◌&&◌, nat_le, ℕ, if◌then◌else◌, Bool, true, false, List, [], ◌∷◌, map, Option, Some, None, Result, Ok, Err, codes, bytes_eq, refl, arith}
+use Rattle.std.proofs.Common.{◌≡◌, ◌≤◌, ◌&&◌, nat_le, ℕ, if◌then◌else◌, Bool, true, false, List, [], ◌∷◌, map, Some, None, Result, Ok}
+use Rattle.std.proofs.Common.{Err, codes, bytes_eq, refl, arith}
 use Rattle.std.proofs.lemmas.Bool.Decides.{nat_tests}
 use Rattle.std.specs.Str.Parse.{digits_value}
-use Rattle.vs_script.specs.Field.{Field, Read, after, bits, content, ending, held, id, is_numeral, named, number, number_in, only, port, within, word}
+use Rattle.vs_script.specs.Field.{Field, Read, after, bits, content, ending, held, id, is_numeral, named, number, number_in, only, port}
+use Rattle.vs_script.specs.Field.{within, word}
 use Rattle.vs_script.specs.Outside.{Outside, OfHost, host_line, outside_line}
 use Rattle.vs_script.specs.Outside as outside
 use Rattle.vs_script.specs.Play.{Event, named_line, play_line, recv_line, send_line, shutdown_line}
@@ -30,7 +32,8 @@ after_any P (Err why) f k = tt
 ending_ok : {X : Type 0} (P : X → Type 0) (x : X) (words : List (List ℕ)) → P x → OkAll P (ending x words)
 ending_ok P x words h = if_ok P (is_empty words) _ _ h tt
 
-only_ok : {X : Type 0} (P : X → Type 0) (field : Field X) (words : List (List ℕ)) → OkAll (λ found. P found.0) (field words) → OkAll P (only field words)
+only_ok : {X : Type 0} (P : X → Type 0) (field : Field X) (words : List (List ℕ)) → OkAll (λ found. P found.0) (field words)
+    → OkAll P (only field words)
 only_ok P field words h = after_ok P P (field words) ending h (λ x rest q. ending_ok P x rest q)
 
 -- A number is within the bounds of its field.
@@ -50,13 +53,15 @@ held_numeral : (low high n : ℕ) (rest : List (List ℕ)) (b : Bool)
 held_numeral low high n rest true = held_number low high n rest (nat_le low n && nat_le n high) refl
 held_numeral low high n rest false = tt
 
-number_ok : (low high : ℕ) (words : List (List ℕ)) → OkAll (λ (found : ℕ × List (List ℕ)). IsWithin low high found.0) (number low high words)
+number_ok : (low high : ℕ) (words : List (List ℕ)) → OkAll (λ (found : ℕ × List (List ℕ)). IsWithin low high found.0)
+    (number low high words)
 number_ok low high words =
     after_any (λ (found : ℕ × List (List ℕ)). IsWithin low high found.0) (word words) (λ w rest. held BadNumber (number_in low high w) rest)
     (λ w rest. held_numeral low high (digits_value 10 w) rest (is_numeral w))
 
 -- Each line, by its name.
-any_number : (words : List (List ℕ)) (field : Field ℕ) (g : ℕ → Event) → ((n : ℕ) → IsBounded (g n)) → OkAll IsBounded (named g (only field words))
+any_number : (words : List (List ℕ)) (field : Field ℕ) (g : ℕ → Event) → ((n : ℕ) → IsBounded (g n))
+    → OkAll IsBounded (named g (only field words))
 any_number words field g all = named_ok IsBounded g (only field words) (by (only field words))
   where
     by : (r : Result ℕ Why) → OkAll (λ n. IsBounded (g n)) r
@@ -96,7 +101,8 @@ tick_ok : (words : List (List ℕ)) → OkAll IsBoundedAround (named outside.Tic
 tick_ok words = named_ok IsBoundedAround outside.Tick (only (number 0 1000000) words) (any_ok (only (number 0 1000000) words))
 
 host_ok : (words : List (List ℕ)) → OkAll IsBoundedAround (after (word words) (λ act rest. named OfHost (host_line act rest)))
-host_ok words = after_any IsBoundedAround (word words) _ (λ act rest. named_ok IsBoundedAround OfHost (host_line act rest) (any_ok (host_line act rest)))
+host_ok words = after_any IsBoundedAround (word words) _ (λ act rest. named_ok IsBoundedAround OfHost (host_line act rest) (any_ok
+    (host_line act rest)))
 
 outside_ok : (name : List ℕ) (words : List (List ℕ)) → OkAll IsBoundedAround (outside_line name words)
 outside_ok name words =
@@ -128,5 +134,6 @@ bounded [] all = tt
 bounded (e ∷ es) all = (all.0, bounded es all.1)
 
 -- Each line of a parsed script is within bounds.
-pub all_bounded : (text : List ℕ) (lines : List (ℕ × Event)) → parse_of command.Play text ≡ Ok (Plays lines) → AreBounded (map (λ l. l.1) lines)
+pub all_bounded : (text : List ℕ) (lines : List (ℕ × Event)) → parse_of command.Play text ≡ Ok (Plays lines)
+    → AreBounded (map (λ l. l.1) lines)
 all_bounded text lines is = bounded (map (λ l. l.1) lines) (each_says IsBounded words_ok text lines is)
