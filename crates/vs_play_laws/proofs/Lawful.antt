@@ -3,7 +3,14 @@ use Rattle.std.proofs.Common.{◌≡◌, ℕ, true, List, [], ◌∷◌, ◌++�
 use Rattle.vs_flow.specs.declared.flow.Flow.{Flow}
 use Rattle.vs_history.specs.History.{puts}
 use Rattle.vs_history.specs.Packets.{has, shuts_send}
-use Rattle.vs_matching.specs.Both.{at}
+use Rattle.vs_driver_parts.specs.State.{DriverEntry}
+use Rattle.vs_device.specs.State.{DeviceEntry}
+use Rattle.vs_matching.specs.Both.{Both, at}
+use Rattle.vs_matching.specs.Steps.{HasEnd}
+use Rattle.vs_matching.proofs.Slots.{one_end}
+use Rattle.vs_outside.specs.HostBytes.{host_wrote}
+use Rattle.vs_pipes.specs.Drains.{put_on}
+use Rattle.std.specs.List.{Contains}
 use Rattle.vs_outside.specs.Host.{HostContents}
 use Rattle.vs_outside.specs.HostProgram.{new_host, plain}
 use Rattle.vs_page.specs.Fair.{IsFairLog, payload_put}
@@ -13,12 +20,13 @@ use Rattle.vs_script.specs.Outside as outside
 use Rattle.vs_script.specs.Play as script
 use Rattle.vs_script.specs.Play.{Event}
 use Rattle.vs_report.specs.Report.{counts_text, device_open_text, guest_open_text, stream_texts}
+use Rattle.vs_world.specs.Calls.{sent_on}
 use Rattle.vs_world.specs.Events.{is_at_rest, is_guest_cid, reset_made}
 use Rattle.vs_world.specs.Laws.{IsEmptied}
 use Rattle.vs_world.specs.Pipes.{IsFresh}
-use Rattle.vs_world.specs.Sides.{both_of}
+use Rattle.vs_world.specs.Sides.{both_of, device_ends, driver_ends}
 use Rattle.vs_world.specs.Steps.{Leads}
-use Rattle.vs_world.specs.World.{World}
+use Rattle.vs_world.specs.World.{World, first_cid}
 use Rattle.vs_world.proofs.Bytes.{wrote_is_put}
 use Rattle.vs_world.proofs.CallRests.{opening_rests}
 use Rattle.vs_world.proofs.Growing.{Grows, runs_grow}
@@ -33,6 +41,7 @@ use Rattle.vs_play_laws.specs.Bounded.{AreBounded}
 use Rattle.vs_play_laws.specs.Headline.{IsLawful, StaysShut, world_of}
 use Rattle.vs_play_laws.proofs.PlayLines.{after_both, cid_right, front_bounded, lines_of, lines_receive, lines_right, lines_send}
 use Rattle.vs_play_laws.proofs.PlayLines.{rest_bounded, world_is}
+use Rattle.vs_play_laws.proofs.Shutting.{IsShut, is_shut, run_shut}
 use Rattle.vs_play_laws.proofs.Unfailed.{script_fine}
 use Rattle.vs_play_laws.proofs.Reached.{carries, holds_open, holds_rest, keeps_credit, log_is, many_device, many_guest, own_streams, queued}
 
@@ -80,6 +89,32 @@ module _ (w v : World) (f : Flow) (well : IsWell Fresh w) (goes : Goes Fresh w v
   kept role shut = stays_put role (at role (both_of w)).log (at role (both_of v)).log f (runs_grow role (both_of w) (both_of v) goes.runs)
       (goes.well.sound.fair role) shut
 
+  -- The same from its decision on.
+  decided_put : (role : Role) → IsShut role first_cid f (at role (both_of w)).part (at role (both_of w)).log
+      → put_on role f (at role (both_of v)).log ≡ put_on role f (at role (both_of w)).log
+  decided_put role x = subst (λ (b : Both). put_on role f (at role b).log ≡ put_on role f (at role (both_of w)).log) goes.runs.ends
+      (run_shut role first_cid f goes.runs.steps (both_of w) well.sound goes.runs.may x)
+
+  guest_decided : (e : DriverEntry) → Contains w.driver.table.entries e → e.flow ≡ f → e.value.end.own.send ≡ true
+      → sent_on f v.journal ≡ sent_on f w.journal
+  guest_decided e there own shut =
+      goes.well.sent f
+      ∙ decided_put Driver (is_shut Driver first_cid f (driver_ends w.driver) (both_of w).driver.log e.value.end
+      (well.sound.matches Driver).flows
+      (subst (λ (g : Flow). HasEnd g e.value.end (driver_ends w.driver)) own (one_end
+      (λ c. c.end) w.driver.table e well.driver.sound there)) shut)
+      ∙ sym (well.sent f)
+
+  device_decided : (e : DeviceEntry) → Contains w.proxy.device.table.entries e → e.flow ≡ f → e.value.end.own.send ≡ true
+      → host_wrote f 1 v.host ≡ host_wrote f 1 w.host
+  device_decided e there own shut =
+      sym (wrote_is_put v.host _ _ _ _ (goes.well.streams fresh) f)
+      ∙ decided_put Device (is_shut Device first_cid f (device_ends w.proxy) (both_of w).device.log e.value.end
+      (well.sound.matches Device).flows
+      (subst (λ (g : Flow). HasEnd g e.value.end (device_ends w.proxy)) own (one_end
+      (λ c. c.end) w.proxy.device.table e well.device.sound there)) shut)
+      ∙ wrote_is_put w.host _ _ _ _ (well.streams fresh) f
+
   stays_shut : is_at_rest w.rings.driver.staged ≡ true → StaysShut f w v
   stays_shut rest = record {
     sent = λ shut.
@@ -90,6 +125,8 @@ module _ (w v : World) (f : Flow) (well : IsWell Fresh w) (goes : Goes Fresh w v
         sym (wrote_is_put v.host _ _ _ _ (goes.well.streams fresh) f)
         ∙ sym (all_put Device (both_of v).device.log f (goes.well.sound.fair Device f)) ∙ kept Device shut
         ∙ all_put Device (both_of w).device.log f (well.sound.fair Device f) ∙ wrote_is_put w.host _ _ _ _ (well.streams fresh) f;
+    guest_shut = guest_decided;
+    stream_ended = device_decided;
   }
 
 -- The report, with other names for its numbers.

@@ -3,5 +3,6 @@ pub mod Spelled
 pub mod PlayLines
 pub mod OwnStreams
 pub mod Unfailed
+pub mod Shutting
 pub mod Reached
 pub mod Lawful

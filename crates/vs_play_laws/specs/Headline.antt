@@ -1,6 +1,6 @@
 -- What holds of each play: bytes arrive in order and on their own connection alone, the tables hold just the connections left open, and
 -- nobody exceeds the credit that the peer gave (Virtio 1.2, section 5.10.6).
-use Rattle.std.specs.Prelude.{◌≡◌, ◌≢◌, ℕ, ◌≤◌, ◌||◌, Bool, true, List, [], ◌∷◌, ◌++◌, length, Some, None, All, AllPairs}
+use Rattle.std.specs.Prelude.{◌≡◌, ◌≢◌, ℕ, ◌≤◌, ◌||◌, Bool, true, List, [], ◌∷◌, ◌++◌, length, Some, None, All, AllPairs, Contains}
 use Rattle.vs_flow.specs.declared.flow.Flow.{Flow}
 use Rattle.vs_history.specs.declared.TheConstants.{BUF_ALLOC}
 use Rattle.vs_history.specs.History.{puts}
@@ -8,6 +8,8 @@ use Rattle.vs_history.specs.Packets.{has, shuts_send}
 use Rattle.vs_page.specs.Fair.{IsFairLog, IsPrefixOf, payload_got, payload_put}
 use Rattle.vs_page.specs.Log.{Device, Driver, HasGotAll, Log, history_of}
 use Rattle.vs_page.specs.Open.{WasOpened, is_open}
+use Rattle.vs_driver_parts.specs.State.{DriverEntry}
+use Rattle.vs_device.specs.State.{DeviceEntry}
 use Rattle.vs_matching.specs.Ends.{begun_flows, flows_of, is_among, new_flows}
 use Rattle.vs_outside.specs.Host.{Stream, stream_at}
 use Rattle.vs_outside.specs.HostBytes.{host_read, host_wrote, read_after_ok, wrote_after_connect}
@@ -98,10 +100,15 @@ pub record IsAsPrinted (n : ℕ) (lines : List Event) : Type 0 where
       → let p = world_after before (opened_play n) in
       (event_played (script.Recv id len) p).1 ≡ recv_text (recv_answer id len p) (recv_bytes id len p)
 
--- Shutting is for good: where an end told before that it sends no more, what its writer wrote is what it was then.
+-- Shutting is for good: where an end decided before that it sends no more, or told so, what its writer wrote is what it was then. The guest
+-- decides so by a shutdown, and the device once its stream ended.
 pub record StaysShut (f : Flow) (before w : World) : Type 0 where
   pub sent : has shuts_send (puts (history_of Driver f (driver_log before))) ≡ true → sent_on f w.journal ≡ sent_on f before.journal
   pub wrote : has shuts_send (puts (history_of Device f (device_log before))) ≡ true → host_wrote f 1 w.host ≡ host_wrote f 1 before.host
+  pub guest_shut : (e : DriverEntry) → Contains before.driver.table.entries e → e.flow ≡ f → e.value.end.own.send ≡ true
+      → sent_on f w.journal ≡ sent_on f before.journal
+  pub stream_ended : (e : DeviceEntry) → Contains before.proxy.device.table.entries e → e.flow ≡ f → e.value.end.own.send ≡ true
+      → host_wrote f 1 w.host ≡ host_wrote f 1 before.host
 
 -- These flows are just those that pass a test, each once.
 pub record AreJust (test : Flow → Bool) (flows : List Flow) : Type 0 where
