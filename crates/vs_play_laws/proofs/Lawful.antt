@@ -1,5 +1,5 @@
 -- What holds of each play.
-use Rattle.std.proofs.Common.{◌≡◌, ℕ, true, List, [], ◌∷◌, ◌++◌, None, refl, sym, ap, subst, ◌∙◌}
+use Rattle.std.proofs.Common.{◌≡◌, ℕ, true, List, [], ◌∷◌, ◌++◌, None, refl, sym, ap, subst, ◌∙◌, map, Ok}
 use Rattle.vs_flow.specs.declared.flow.Flow.{Flow}
 use Rattle.vs_history.specs.History.{puts}
 use Rattle.vs_history.specs.Packets.{has, shuts_send}
@@ -19,6 +19,8 @@ use Rattle.vs_page.proofs.PayloadLogs.{all_put, shut_put}
 use Rattle.vs_script.specs.Outside as outside
 use Rattle.vs_script.specs.Play as script
 use Rattle.vs_script.specs.Play.{Event}
+use Rattle.vs_script.specs.Script.{Plays, parse_of}
+use Rattle.vs_script.specs.declared.script.Command.TheVariants as command
 use Rattle.vs_report.specs.Report.{counts_text, device_open_text, guest_open_text, stream_texts}
 use Rattle.vs_world.specs.Calls.{sent_on}
 use Rattle.vs_world.specs.Events.{is_at_rest, is_guest_cid, reset_made}
@@ -43,6 +45,7 @@ use Rattle.vs_play_laws.proofs.PlayLines.{after_both, cid_right, front_bounded, 
 use Rattle.vs_play_laws.proofs.PlayLines.{rest_bounded, world_is}
 use Rattle.vs_play_laws.proofs.Shutting.{IsShut, is_shut, run_shut}
 use Rattle.vs_play_laws.proofs.Unfailed.{script_fine}
+use Rattle.vs_play_laws.proofs.Spelled.{all_bounded}
 use Rattle.vs_play_laws.proofs.Reached.{carries, holds_open, holds_rest, keeps_credit, log_is, many_device, many_guest, own_streams, queued}
 
 -- A play's host has no streams at first.
@@ -191,11 +194,13 @@ module _ (n : ℕ) where
         unfailed = world_fine lines bounded;
         credit = keeps_credit w well fresh rest;
         queues = queued w well fresh rest;
-        report = record {
-          dropped = w.proxy.device.dropped;
-          faults = w.proxy.device.faults;
-          says = says_so (texts_of lines (opened_play n))
-              (stream_texts 1 w.host.streams) _ _ _ _ w.proxy.device.dropped _ _ w.proxy.device.faults
-              (many_guest w well fresh rest) (many_device w well fresh rest) well.overrun well.broken;
-        };
+        report =
+            says_so (texts_of lines (opened_play n))
+            (stream_texts 1 w.host.streams) _ _ _ _ w.proxy.device.dropped _ _ w.proxy.device.faults
+            (many_guest w well fresh rest) (many_device w well fresh rest) well.overrun well.broken;
       }
+
+-- And of each script.
+pub each_script : (n : ℕ) (text : List ℕ) (lines : List (ℕ × Event)) → parse_of command.Play text ≡ Ok (Plays lines)
+    → IsLawful n (map (λ l. l.1) lines)
+each_script n text lines is = each_play n (map (λ l. l.1) lines) (all_bounded text lines is)

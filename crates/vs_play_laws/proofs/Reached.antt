@@ -9,13 +9,15 @@ use Rattle.std.proofs.lemmas.List.Kept.{AllPairs-cons}
 use Rattle.vs_flow.specs.declared.flow.Flow.{Flow}
 use Rattle.vs_driver_parts.specs.State.{DriverEntry, GoneConnection}
 use Rattle.vs_device.specs.State.{DeviceEntry}
+use Rattle.vs_history.specs.History.{History, IsFair, MayPut, Put, Side, gots, puts}
+use Rattle.vs_history.specs.declared.packet.Packet.{Packet}
 use Rattle.vs_matching.specs.Ends.{FlowEnd, begun_flows, flows_of, is_among}
 use Rattle.vs_matching.specs.Matches.{Matches, MatchesFlows}
 use Rattle.vs_matching.proofs.Tables.{all_open, driver_open, table_distinct, table_open}
 use Rattle.vs_outside.specs.Host.{Stream, stream_at}
 use Rattle.vs_outside.specs.HostBytes.{host_read, host_wrote}
 use Rattle.vs_page.specs.Fair.{IsFairLog, IsPrefixOf, payload_got, payload_put}
-use Rattle.vs_page.specs.Log.{Device, Driver, HasGotAll, Log, Role}
+use Rattle.vs_page.specs.Log.{Device, Driver, HasGotAll, Log, Role, side_of}
 use Rattle.vs_page.specs.Open.{WasOpened, is_left_open, is_open}
 use Rattle.vs_page.proofs.Opened.{was_opened}
 use Rattle.vs_page.proofs.PayloadLogs.{all_got, all_put, prefix}
@@ -31,7 +33,8 @@ use Rattle.vs_world.specs.Sides.{device_ends, driver_ends, log_with_staged}
 use Rattle.vs_world.specs.World.{World, first_cid}
 use Rattle.vs_world.proofs.Bytes.{read_is_got, wrote_is_put}
 use Rattle.vs_world.proofs.Sound.{IsWell}
-use Rattle.vs_play_laws.specs.Headline.{Carries, HasOwnStreams, HoldsOpen, HoldsTheRest, IsQueued, KeepsCredit, device_flows, device_log}
+use Rattle.vs_play_laws.specs.Headline.{Carries, HasOwnStreams, HoldsOpen, HoldsTheRest, IsQueued, KeepsCredit, PutsWithinCredit}
+use Rattle.vs_play_laws.specs.Headline.{device_flows, device_log}
 use Rattle.vs_play_laws.specs.Headline.{driver_log, guest_flows}
 use Rattle.vs_play_laws.proofs.OwnStreams.{read_own, wrote_own}
 
@@ -49,6 +52,16 @@ left_by false b is = absurd cc
 opened_by : (role : Role) (first : ℕ) (f : Flow) (log : Log) (owed : Bool) → is_open role first f log owed ≡ true
     → WasOpened role first f log
 opened_by role first f log owed is = was_opened role first f log (left_by (is_left_open role first f log) owed is)
+
+-- Each packet put on a fair log is within credit.
+allowed_at : (side : Side) (newer older : History) (p : Packet) → IsFair side (newer ++ Put p ∷ older)
+    → MayPut side (puts older) (gots older) p
+allowed_at side [] older p fair = fair.0
+allowed_at side (x ∷ newer) older p fair = allowed_at side newer older p fair.1
+
+within : (role : Role) (log : Log) → IsFairLog role log → PutsWithinCredit role log
+within role log fair f newer older p is other =
+    ((allowed_at (side_of role f) newer older p (subst (IsFair (side_of role f)) is (fair f))).honest other).fits
 
 -- The flows of entries are distinct where the entries' are.
 flows_apart : (xs : List FlowEnd) → AllPairs (λ d e. d.flow ≢ e.flow) xs → AllPairs (λ f g. f ≢ g) (flows_of xs)
@@ -193,8 +206,10 @@ module _ {fresh : Type 0} (w : World) (well : IsWell fresh w) (yes : fresh) (res
 
   pub keeps_credit : KeepsCredit w
   keeps_credit = record {
-    driver = driver_fair;
-    device = device_fair;
+    guest = within Driver (driver_log w) driver_fair;
+    device = within Device (device_log w) device_fair;
+    driver_fair = driver_fair;
+    device_fair = device_fair;
     unread = λ i d less. let fits = (well.driver.ends i d less).credit in omega (arith, fits.unread, fits.within, fits.alloc);
     pending = λ i d less. let fits = (well.device.ends i d less).credit in omega (arith, fits.unread, fits.within, fits.alloc);
     broken = well.broken;

@@ -1,12 +1,14 @@
 -- What holds of each play: bytes arrive in order and on their own connection alone, the tables hold just the connections left open, and
 -- nobody exceeds the credit that the peer gave (Virtio 1.2, section 5.10.6).
-use Rattle.std.specs.Prelude.{◌≡◌, ◌≢◌, ℕ, ◌≤◌, ◌||◌, Bool, true, List, [], ◌∷◌, ◌++◌, length, Some, None, All, AllPairs, Contains}
+use Rattle.std.specs.Prelude.{◌≡◌, ◌≢◌, ℕ, ◌+◌, ◌≤◌, ◌||◌, Bool, true, false, List, [], ◌∷◌, ◌++◌, length, Some, None, All, AllPairs}
+use Rattle.std.specs.Prelude.{Contains}
 use Rattle.vs_flow.specs.declared.flow.Flow.{Flow}
 use Rattle.vs_history.specs.declared.TheConstants.{BUF_ALLOC}
-use Rattle.vs_history.specs.History.{puts}
-use Rattle.vs_history.specs.Packets.{has, shuts_send}
+use Rattle.vs_history.specs.History.{History, Put, gots, puts}
+use Rattle.vs_history.specs.Packets.{allowance, bytes, has, is_rst, shuts_send, size}
+use Rattle.vs_history.specs.declared.packet.Packet.{Packet}
 use Rattle.vs_page.specs.Fair.{IsFairLog, IsPrefixOf, payload_got, payload_put}
-use Rattle.vs_page.specs.Log.{Device, Driver, HasGotAll, Log, history_of}
+use Rattle.vs_page.specs.Log.{Device, Driver, HasGotAll, Log, Role, history_of}
 use Rattle.vs_page.specs.Open.{WasOpened, is_open}
 use Rattle.vs_driver_parts.specs.State.{DriverEntry}
 use Rattle.vs_device.specs.State.{DeviceEntry}
@@ -131,11 +133,19 @@ abbrev pub EmptiesDevice : ℕ → List Event → Type 0
 EmptiesDevice n lines = (before after : List Event) (cid : ℕ) → lines ≡ before ++ script.Around (outside.Reset cid) ∷ after
     → IsEmptied (world_of n (before ++ script.Around (outside.Reset cid) ∷ [])).proxy
 
--- Both logs are fair: among the rest, the payload put on each connection is at each packet within the credit that the peer gave. So no
--- end holds more than its buffer space of a connection, and nothing was refused.
+-- At each packet that an end put on a connection, RST aside, the payload put so far is within the credit that the newest packet got gives:
+-- what its sender forwarded, and its buffer space.
+abbrev pub PutsWithinCredit : Role → Log → Type 0
+PutsWithinCredit role log = (f : Flow) (newer older : History) (p : Packet) → history_of role f log ≡ newer ++ Put p ∷ older
+    → is_rst p ≡ false → bytes (puts older) + size p ≤ allowance (gots older)
+
+-- No end exceeds the credit that its peer gave, and both logs are fair in all else. So no end holds more than its buffer space of a
+-- connection, no payload came beyond the room for it, and no packet of a connection was refused by the guest.
 pub record KeepsCredit (w : World) : Type 0 where
-  pub driver : IsFairLog Driver (driver_log w)
-  pub device : IsFairLog Device (device_log w)
+  pub guest : PutsWithinCredit Driver (driver_log w)
+  pub device : PutsWithinCredit Device (device_log w)
+  pub driver_fair : IsFairLog Driver (driver_log w)
+  pub device_fair : IsFairLog Device (device_log w)
   pub unread : All (λ e. length e.value.unread ≤ BUF_ALLOC) w.driver.table.entries
   pub pending : All (λ e. length e.value.pending ≤ BUF_ALLOC) w.proxy.device.table.entries
   pub broken : w.driver.broken ≡ 0
@@ -146,13 +156,12 @@ pub record IsQueued (w : World) : Type 0 where
   pub to_guest : HasGotAll (driver_log w) (device_log w)
   pub to_host : HasGotAll (device_log w) (driver_log w)
 
--- The report counts just the connections of the tables, and tells of no packet refused.
-pub record Reports (n : ℕ) (lines : List Event) : Type 0 where
-  pub dropped : ℕ
-  pub faults : ℕ
-  pub says : let w = world_of n lines in printed n lines ≡ texts_of lines (opened_play n)
-      ++ guest_open_text (length (guest_flows w)) ∷ device_open_text (length (device_flows w))
-      ∷ (stream_texts 1 w.host.streams ++ counts_text dropped 0 0 faults ∷ [])
+-- The report counts just the connections of the tables. It tells of no payload beyond the room for it, and of no packet that broke a
+-- connection of the guest.
+abbrev pub Reports : ℕ → List Event → Type 0
+Reports n lines = let w = world_of n lines in printed n lines ≡ texts_of lines (opened_play n)
+    ++ guest_open_text (length (guest_flows w)) ∷ device_open_text (length (device_flows w))
+    ∷ (stream_texts 1 w.host.streams ++ counts_text w.proxy.device.dropped 0 0 w.proxy.device.faults ∷ [])
 
 -- A play of these lines, over queues of n pages.
 pub record IsLawful (n : ℕ) (lines : List Event) : Type 0 where
