@@ -1,0 +1,8 @@
+pub mod Parsed
+pub mod Spelled
+pub mod PlayLines
+pub mod OwnStreams
+pub mod Unfailed
+pub mod Shutting
+pub mod Reached
+pub mod Lawful

@@ -1,0 +1,5 @@
+use Rattle.vs_play_laws.proofs.Spelled.{all_bounded}
+use Rattle.vs_play_laws.proofs.laws.law_of_bounds.Goals as goal
+
+pub returns : goal.returns
+returns c = λ text lines is. all_bounded text lines is

@@ -1,0 +1,4 @@
+pub mod Bounded
+pub mod Said
+pub mod Headline
+pub mod Worked
