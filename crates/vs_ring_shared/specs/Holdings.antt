@@ -1,5 +1,6 @@
 -- The chains that the device holds, each with the slot and the page that its bytes lie in.
 use Rattle.std.specs.Prelude.{◌≡◌, ℕ, ◌+◌, ◌==◌, cond, if◌then◌else◌, false, List, [], ◌∷◌, All, length, map}
+use Rattle.vs_page.specs.Held.{listed, packet_held}
 use Rattle.vs_ring_list.specs.Sound.{IsReadable, IsWritable}
 use Rattle.vs_ring_port.specs.Chains.{Held, same_queue}
 use Rattle.vs_ring_port.specs.declared.device_ring.Chain.{Chain}
@@ -22,6 +23,11 @@ all_held pages = map held_as pages
 abbrev pub slots_of : Queue → List HeldPage → List ℕ
 slots_of queue [] = []
 slots_of queue (h ∷ hs) = if same_queue queue h.chain.queue then h.slot ∷ slots_of queue hs else slots_of queue hs
+
+-- How many packets the page of the first of these holds.
+abbrev pub packets_in_first : List HeldPage → ℕ
+packets_in_first [] = 0
+packets_in_first (h ∷ hs) = length (listed (packet_held h.page))
 
 -- A chain is let go, with its slot.
 pub record Released (chain : Chain) (slot : ℕ) (old new : List HeldPage) : Type 0 where

@@ -3,8 +3,9 @@ ghost use Rattle.std.specs.Prelude.{◌≡◌, ◌+◌, ◌<◌, ◌≤◌, ◌�
 ghost use Rattle.vs_page.specs.Overwriting.{overwritten};
 ghost use Rattle.vs_ring_port.specs.Chains.{bytes_in, chains_of, with_bytes, without_held, held_of, same_chain, same_queue};
 ghost use Rattle.vs_ring_port.specs.declared.queue.Queue.{Queue};
-ghost use Rattle.vs_ring_shared.specs.Holdings.{Released, all_held, slots_of};
+ghost use Rattle.vs_ring_shared.specs.Holdings.{Released, all_held, packets_in_first, slots_of};
 
+use crate::counters::packets_in;
 use std::alloc::{AllocError, Global};
 use std::collections::VecDeque;
 use std::marker::Model;
@@ -74,6 +75,16 @@ impl HeldPages {
     {
         self.pages
             .push_front_reserved(HeldPage { chain, slot, page });
+    }
+
+    /// How many packets the page of the newest chain holds: one, or none.
+    pub(crate) fn packets_in_newest(&self) -> u64
+        ensures { result ≡ packets_in_first self.now.pages }
+    {
+        match self.pages.front() {
+            Some(held) => packets_in(&held.page),
+            None => 0,
+        }
     }
 
     /// The place of the newest hold of that very chain, where it is held.
