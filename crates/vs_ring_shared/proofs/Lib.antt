@@ -2,6 +2,7 @@ pub mod Known
 pub mod Queues
 pub mod Stages
 pub mod Reaps
+pub mod Countings
 pub mod DriverCalls
 pub mod HeldSlots
 pub mod Takes

@@ -2,6 +2,7 @@ pub mod Plays
 pub mod Ports
 pub mod Sights
 pub mod DriverStates
+pub mod Countings
 pub mod DriverEnds
 pub mod Holdings
 pub mod DeviceStates

@@ -7,6 +7,7 @@ ghost use Rattle.vs_ring_port.specs.Chains.{IsLongEnough, bytes_in, chains_of, w
 ghost use Rattle.vs_ring_port.specs.EndLog.{entries_returned};
 ghost use Rattle.vs_ring_shared.specs.Sights.{Counts, TakesNone, TakesOne, after_resetting, after_returning};
 
+use crate::counters::DeviceCounters;
 use crate::device_queue::{DeviceQueue, look, return_chain, take_chain};
 use crate::held::HeldPages;
 use crate::port::Port;
@@ -22,6 +23,7 @@ pub struct DeviceEnd {
     pub(crate) tx: DeviceQueue,
     pub(crate) event: DeviceQueue,
     pub(crate) held: HeldPages,
+    pub(crate) counters: DeviceCounters,
 }
 
 impl Model for DeviceEnd {
@@ -47,7 +49,12 @@ impl DeviceEnd {
     {
         match queue {
             Queue::Rx => take_chain(&mut self.port, &mut self.rx, &mut self.held, queue),
-            Queue::Tx => take_chain(&mut self.port, &mut self.tx, &mut self.held, queue),
+            Queue::Tx => {
+                let chain = take_chain(&mut self.port, &mut self.tx, &mut self.held, queue)?;
+                let more = self.held.packets_in_newest();
+                self.counters.tx_got = self.counters.tx_got.wrapping_add(more);
+                Some(chain)
+            }
             Queue::Event => take_chain(&mut self.port, &mut self.event, &mut self.held, queue),
         }
     }
@@ -83,10 +90,22 @@ impl DeviceEnd {
         ensures { self.new ≡ after_returning chain (take len (bytes_in chain self.old.held)) self.old }
     {
         match chain.queue {
-            Queue::Rx => return_chain(&mut self.port, &mut self.rx, &mut self.held, chain, len),
-            Queue::Tx => return_chain(&mut self.port, &mut self.tx, &mut self.held, chain, len),
+            Queue::Rx => {
+                let more = return_chain(&mut self.port, &mut self.rx, &mut self.held, chain, len);
+                self.counters.rx_put = self.counters.rx_put.wrapping_add(more);
+            }
+            Queue::Tx => {
+                return_chain(&mut self.port, &mut self.tx, &mut self.held, chain, len);
+            }
             Queue::Event => {
-                return_chain(&mut self.port, &mut self.event, &mut self.held, chain, len)
+                let more = return_chain(
+                    &mut self.port,
+                    &mut self.event,
+                    &mut self.held,
+                    chain,
+                    len,
+                );
+                self.counters.ev_put = self.counters.ev_put.wrapping_add(more);
             }
         }
     }

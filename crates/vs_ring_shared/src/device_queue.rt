@@ -8,11 +8,13 @@ ghost use Rattle.vs_ring_port.specs.Lists.{chain_with, to_read};
 ghost use Rattle.vs_ring_rule.specs.OneQueue.{given, times};
 ghost use Rattle.vs_ring_rule.specs.Rule.{queue_in};
 ghost use Rattle.vs_ring_rule.specs.Steps.{removed};
+ghost use Rattle.vs_ring_shared.specs.Countings.{entries_in};
 ghost use Rattle.vs_ring_shared.specs.DeviceStates.{DeviceFindsNone, DeviceLooks, DeviceNumbers, DeviceReturns, DeviceTakes, DeviceTakesChain};
 ghost use Rattle.vs_ring_shared.specs.DeviceStates.{HasSlots, IsDeviceSeat, Turns};
 ghost use Rattle.vs_ring_shared.specs.Holdings.{all_held, slots_of};
 ghost use Rattle.vs_ring_shared.specs.Sights.{returned_queue};
 
+use crate::counters::{events_in, packets_in};
 use crate::held::HeldPages;
 use crate::port::Port;
 use vs_page::{PAGE_LEN, Page};
@@ -138,14 +140,25 @@ pub(crate) fn take_chain(
     Some(chain)
 }
 
-/// Returns a chain that is held with the first `len` of its bytes.
+/// How many entries the log gets where the device returns this page: one where it holds a packet on rx, or an event.
+fn entries_in(queue: Queue, page: &Page) -> u64
+    ensures { result ≡ entries_in queue page.now }
+{
+    match queue {
+        Queue::Rx => packets_in(page),
+        Queue::Event => events_in(page),
+        Queue::Tx => 0,
+    }
+}
+
+/// Returns a chain that is held with the first `len` of its bytes. Answers how many entries the log gets.
 pub(crate) fn return_chain(
     port: &mut Port,
     numbers: &mut DeviceQueue,
     held: &mut HeldPages,
     chain: Chain,
     len: u32,
-)
+) -> u64
     requires seat { IsDeviceSeat port.old.token.me }
     requires numbers { DeviceNumbers port.old.size (queue_in chain.queue port.old.token.me.0) numbers.old }
     requires is_held { Contains (chains_of (all_held held.old.pages)) chain }
@@ -156,8 +169,11 @@ pub(crate) fn return_chain(
     ensures table { port.new.table ≡ port.old.table }
     ensures returned { DeviceReturns port.old.size chain (take len (bytes_in chain (all_held held.old.pages))) port.old.token.me
         port.new.token.me numbers.new held.old held.new }
+    ensures entries { result ≡ entries_in chain.queue (take len (bytes_in chain (all_held held.old.pages))) }
 {
     let (slot, mut page) = held.release(&chain);
     page.truncate(len as usize);
+    let entries = entries_in(chain.queue, &page);
     give(port, numbers, chain.queue, slot, page);
+    entries
 }

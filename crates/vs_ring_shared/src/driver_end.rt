@@ -7,6 +7,7 @@ ghost use Rattle.vs_ring_port.specs.Counts.{at};
 ghost use Rattle.vs_ring_port.specs.EndLog.{entries_published};
 ghost use Rattle.vs_ring_shared.specs.Sights.{ReapsNone, ReapsOne, LoadsNewest, after_publishing, after_staging, flight_of, sight_in};
 
+use crate::counters::{DriverCounters, events_in, packets_in};
 use crate::driver_queue::{DriverQueue, publish, reap, stage};
 use crate::port::Port;
 use std::marker::Model;
@@ -21,6 +22,7 @@ pub struct DriverEnd {
     pub(crate) rx: DriverQueue,
     pub(crate) tx: DriverQueue,
     pub(crate) event: DriverQueue,
+    pub(crate) counters: DriverCounters,
 }
 
 impl Model for DriverEnd {
@@ -51,7 +53,12 @@ impl DriverEnd {
     {
         match queue {
             Queue::Rx => stage(&mut self.port, &mut self.rx, queue, page),
-            Queue::Tx => stage(&mut self.port, &mut self.tx, queue, page),
+            Queue::Tx => {
+                let more = packets_in(&page);
+                stage(&mut self.port, &mut self.tx, queue, page)?;
+                self.counters.tx_offered = self.counters.tx_offered.wrapping_add(more);
+                Ok(())
+            }
             Queue::Event => stage(&mut self.port, &mut self.event, queue, page),
         }
     }
@@ -63,7 +70,10 @@ impl DriverEnd {
     {
         match queue {
             Queue::Rx => publish(&mut self.port, &mut self.rx, queue),
-            Queue::Tx => publish(&mut self.port, &mut self.tx, queue),
+            Queue::Tx => {
+                publish(&mut self.port, &mut self.tx, queue);
+                self.counters.tx_put = self.counters.tx_offered;
+            }
             Queue::Event => publish(&mut self.port, &mut self.event, queue),
         }
     }
@@ -76,9 +86,17 @@ impl DriverEnd {
         ensures fair { IsFairLog log.Driver self.new.log }
     {
         match queue {
-            Queue::Rx => reap(&mut self.port, &mut self.rx, queue),
+            Queue::Rx => {
+                let page = reap(&mut self.port, &mut self.rx, queue)?;
+                self.counters.rx_got = self.counters.rx_got.wrapping_add(packets_in(&page));
+                Some(page)
+            }
             Queue::Tx => reap(&mut self.port, &mut self.tx, queue),
-            Queue::Event => reap(&mut self.port, &mut self.event, queue),
+            Queue::Event => {
+                let page = reap(&mut self.port, &mut self.event, queue)?;
+                self.counters.ev_got = self.counters.ev_got.wrapping_add(events_in(&page));
+                Some(page)
+            }
         }
     }
 

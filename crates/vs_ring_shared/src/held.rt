@@ -1,10 +1,13 @@
 //! The chains that the device took and didn't return, each with the slot that it came from and its page.
-ghost use Rattle.std.specs.Prelude.{◌≡◌, ◌+◌, ◌<◌, ◌≤◌, ◌∷◌, [], IfOk, Some, Contains, length, position};
+ghost use Rattle.std.specs.Prelude.{◌≡◌, ◌+◌, ◌<◌, ◌≤◌, ◌∷◌, [], IfOk, Some, Contains, length, position, slice_index_or};
+ghost use Rattle.std.specs.List.{remove};
+ghost use Rattle.std.specs.VecDeque.{deque_capacity};
 ghost use Rattle.vs_page.specs.Overwriting.{overwritten};
 ghost use Rattle.vs_ring_port.specs.Chains.{bytes_in, chains_of, with_bytes, without_held, held_of, same_chain, same_queue};
 ghost use Rattle.vs_ring_port.specs.declared.queue.Queue.{Queue};
-ghost use Rattle.vs_ring_shared.specs.Holdings.{Released, all_held, slots_of};
+ghost use Rattle.vs_ring_shared.specs.Holdings.{Released, all_held, begins_with, packets_in_first, slots_of};
 
+use crate::counters::packets_in;
 use std::alloc::{AllocError, Global};
 use std::collections::VecDeque;
 use std::marker::Model;
@@ -50,6 +53,19 @@ impl Model for HeldPages {
     ghost view = { λ h. record { room = deque_capacity h.pages; pages = h.pages.items } };
 }
 
+/// Takes out the hold at a place. Mostly that is the first.
+fn take_from(pages: &mut VecDeque<HeldPage>, place: usize) -> HeldPage
+    requires { place < length pages.old.items }
+    ensures value { result ≡ slice_index_or pages.old.items place result }
+    ensures items { pages.new.items ≡ remove pages.old.items place }
+    ensures room { deque_capacity pages.new ≡ deque_capacity pages.old }
+{
+    if place == 0 {
+        return pages.pop_front().unwrap();
+    }
+    pages.remove(place).unwrap()
+}
+
 impl HeldPages {
     /// No chain held, with room for `room` of them.
     pub(crate) fn new(alloc: Global, room: usize) -> Result<HeldPages, AllocError>
@@ -76,11 +92,41 @@ impl HeldPages {
             .push_front_reserved(HeldPage { chain, slot, page });
     }
 
+    /// How many packets the page of the newest chain holds: one, or none.
+    pub(crate) fn packets_in_newest(&self) -> u64
+        ensures { result ≡ packets_in_first self.now.pages }
+    {
+        match self.pages.front() {
+            Some(held) => packets_in(&held.page),
+            None => 0,
+        }
+    }
+
+    /// Whether the newest hold is of that very chain.
+    fn is_newest(&self, chain: &Chain) -> bool
+        ensures { result ≡ begins_with chain.now self.now.pages }
+    {
+        match self.pages.front() {
+            Some(held) => held.is(chain),
+            None => false,
+        }
+    }
+
     /// The place of the newest hold of that very chain, where it is held.
-    fn find(&self, chain: &Chain) -> Option<usize>
+    fn search(&self, chain: &Chain) -> Option<usize>
         ensures { result ≡ position (λ h. same_chain chain.now h.chain) (all_held self.now.pages) }
     {
         self.pages.iter().position(|held| held.is(chain))
+    }
+
+    /// The same. Mostly that is the newest of all.
+    fn find(&self, chain: &Chain) -> Option<usize>
+        ensures { result ≡ position (λ h. same_chain chain.now h.chain) (all_held self.now.pages) }
+    {
+        if self.is_newest(chain) {
+            return Some(0);
+        }
+        self.search(chain)
     }
 
     /// The place of the newest hold of that very chain, which is held.
@@ -127,7 +173,7 @@ impl HeldPages {
             chain: _,
             slot,
             page,
-        } = self.pages.remove(place).unwrap();
+        } = take_from(&mut self.pages, place);
         (slot, page)
     }
 }

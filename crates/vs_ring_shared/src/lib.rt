@@ -1,6 +1,7 @@
 //! Shared rings: the three virtqueues of a socket device between two threads, without a lock (Virtio 1.2, section 2.7).
 #![tactic(auto)]
 
+mod counters;
 mod device_end;
 mod device_queue;
 mod device_ring;
@@ -17,6 +18,7 @@ mod shared_rings;
 #[cfg(test)]
 mod tests;
 
+pub use counters::Met;
 pub use device_end::DeviceEnd;
 pub use device_ring::laws_of_device_end;
 pub use driver_end::DriverEnd;

@@ -7,6 +7,7 @@ ghost use Rattle.vs_ring_rule.specs.Rule.{below};
 ghost use Rattle.vs_ring_shared.specs.Ports.{IsRingSize};
 ghost use Rattle.vs_ring_shared.specs.Sights.{empty_sight};
 
+use crate::counters::{DeviceCounters, DriverCounters};
 use crate::device_end::DeviceEnd;
 use crate::device_queue::DeviceQueue;
 use crate::driver_end::DriverEnd;
@@ -80,6 +81,12 @@ pub fn make(alloc: Global, size: u16) -> Result<(DriverEnd, DeviceEnd), AllocErr
         rx,
         tx,
         event,
+        counters: DriverCounters {
+            tx_put: 0,
+            tx_offered: 0,
+            rx_got: 0,
+            ev_got: 0,
+        },
     };
     let device = DeviceEnd {
         port: Port {
@@ -91,6 +98,11 @@ pub fn make(alloc: Global, size: u16) -> Result<(DriverEnd, DeviceEnd), AllocErr
         tx: DeviceQueue { given: 0, taken: 0 },
         event: DeviceQueue { given: 0, taken: 0 },
         held,
+        counters: DeviceCounters {
+            tx_got: 0,
+            rx_put: 0,
+            ev_put: 0,
+        },
     };
     Ok((driver, device))
 }

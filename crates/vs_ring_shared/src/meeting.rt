@@ -6,8 +6,10 @@ ghost use Rattle.vs_page.specs.Fair.{IsFairLog};
 ghost use Rattle.vs_ring_rule.specs.Meets.{copy_of, joined, knows, ties, told};
 ghost use Rattle.vs_ring_rule.specs.Rule.{IsOlder};
 ghost use Rattle.vs_ring_rule.specs.declared.view.Owner.TheVariants.{Device, DeviceCopy, Driver, DriverCopy};
+ghost use Rattle.vs_ring_shared.specs.Countings.{met_between};
 ghost use Rattle.vs_ring_shared.specs.Meetings.{SawNoMore, TookFirst, after_hearing, after_meeting, what_it_did};
 
+use crate::counters::Met;
 use crate::device_end::DeviceEnd;
 use crate::driver_end::DriverEnd;
 use crate::plays::{Copies, KnowsDevice, KnowsDriver, Meets, Ties, Token};
@@ -115,8 +117,8 @@ pub fn note(driver: &mut DriverEnd, device: &mut DeviceEnd)
 }
 
 /// Joins the device's end into the driver's. What each end took was given first, page by page; so were the packets and events; and both
-/// logs are fair.
-pub fn meet(driver: &mut DriverEnd, device: DeviceEnd)
+/// logs are fair. Answers how many packets and events each end put and got, modulo 2^64.
+pub fn meet(driver: &mut DriverEnd, device: DeviceEnd) -> Met
     requires same { driver.old.table ≡ device.sight.table }
     ensures driver { driver.new ≡ after_meeting (what_it_did device.sight) driver.old }
     ensures fair { IsFairLog log.Device device.sight.log }
@@ -124,6 +126,7 @@ pub fn meet(driver: &mut DriverEnd, device: DeviceEnd)
     ensures driver_got { HasGotAll driver.old.log device.sight.log }
     ensures there { TookFirst device.sight driver.old }
     ensures back { TookFirst driver.old device.sight }
+    ensures numbers { result ≡ met_between driver.old.log device.sight.log }
 {
     let DeviceEnd {
         port,
@@ -131,6 +134,7 @@ pub fn meet(driver: &mut DriverEnd, device: DeviceEnd)
         tx: _,
         event: _,
         held: _,
+        counters,
     } = device;
     let Port {
         table: _,
@@ -139,4 +143,12 @@ pub fn meet(driver: &mut DriverEnd, device: DeviceEnd)
     } = port;
     driver.port.join(token);
     driver.port.tie();
+    Met {
+        tx_put: driver.counters.tx_put,
+        tx_got: counters.tx_got,
+        rx_put: counters.rx_put,
+        rx_got: driver.counters.rx_got,
+        ev_put: counters.ev_put,
+        ev_got: driver.counters.ev_got,
+    }
 }

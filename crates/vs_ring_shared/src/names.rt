@@ -3,8 +3,10 @@ ghost use Rattle.std.specs.Prelude.{◌≡◌, false};
 ghost use Rattle.vs_page.specs.Fair.{IsFairLog};
 ghost use Rattle.vs_page.specs.Log as log;
 ghost use Rattle.vs_page.specs.Log.{HasGotAll};
+ghost use Rattle.vs_ring_shared.specs.Countings.{met_between};
 ghost use Rattle.vs_ring_shared.specs.Meetings.{SawNoMore, TookFirst, after_hearing, after_meeting, what_it_did};
 
+use crate::counters::Met;
 use crate::device_end::DeviceEnd;
 use crate::device_ring::laws_of_device_end;
 use crate::driver_end::DriverEnd;
@@ -99,20 +101,21 @@ pub fn note_named<N: RingName>(driver: &mut NamedDriver<N>, device: &mut NamedDe
 }
 
 /// Joins the device's end into the driver's, as `meet` does.
-pub fn meet_named<N: RingName>(driver: NamedDriver<N>, device: NamedDevice<N>) -> DriverEnd
-    ensures driver { result ≡ after_meeting (what_it_did device.sight) driver }
+pub fn meet_named<N: RingName>(driver: NamedDriver<N>, device: NamedDevice<N>) -> (DriverEnd, Met)
+    ensures driver { result.0 ≡ after_meeting (what_it_did device.sight) driver }
     ensures driver_fair { IsFairLog log.Driver driver.log }
     ensures fair { IsFairLog log.Device device.sight.log }
     ensures device_got { HasGotAll device.sight.log driver.log }
     ensures driver_got { HasGotAll driver.log device.sight.log }
     ensures there { TookFirst device.sight driver }
     ensures back { TookFirst driver device.sight }
+    ensures numbers { result.1 ≡ met_between driver.log device.sight.log }
 {
     let NamedDriver { mut end, of: _ } = driver;
     let NamedDevice { end: other, of: _ } = device;
     laws_of_driver_end(&end);
-    meet(&mut end, other);
-    end
+    let met = meet(&mut end, other);
+    (end, met)
 }
 
 impl<N: RingName> DriverRing for NamedDriver<N> {

@@ -1,7 +1,7 @@
 ghost use Rattle.std.specs.Prelude.{◌≡◌, false};
 
 use crate::{
-    DeviceEnd, DriverEnd, RingName, SharedRings, laws_of_device_end, laws_of_driver_end, make,
+    DeviceEnd, DriverEnd, Met, RingName, SharedRings, laws_of_device_end, laws_of_driver_end, make,
     meet_named, named, note_named,
 };
 use std::hint;
@@ -152,7 +152,7 @@ fn a_page_goes_to_the_device_on_one_thread(rt: HostRuntime) -> Result<(), Fail> 
 }
 
 /// Both ends of a name are told of each other, and meet.
-fn meet_under<N: RingName>(driver: DriverEnd, device: DeviceEnd) -> DriverEnd
+fn meet_under<N: RingName>(driver: DriverEnd, device: DeviceEnd) -> (DriverEnd, Met)
     requires driver { driver.table ≡ N.ring }
     requires device { device.sight.table ≡ N.ring }
     requires two { driver.whole ≡ false }
@@ -165,7 +165,8 @@ fn meet_under<N: RingName>(driver: DriverEnd, device: DeviceEnd) -> DriverEnd
 #[test]
 fn ends_of_a_name_meet(rt: HostRuntime) -> Result<(), Fail> {
     let (driver, device) = make(rt.alloc(), 8)?;
-    let driver = meet_under::<Brand>(driver, device);
+    let (driver, met) = meet_under::<Brand>(driver, device);
+    assert_eq!(rt; met.tx_put, 0);
     assert_eq!(rt; driver.in_flight(Queue::Event), 0);
     Ok(())
 }

@@ -9,4 +9,4 @@ pub returns-clause-held : goal.returns-clause-held
 returns-clause-held c =
     let e = c.end.inside in
     subst (λ (s : DeviceSight). (queue : Queue) → let q = sight_in queue s.sight in length q.put + held_of queue s.held ≡ length q.got) c.end.view_is
-    (held_between e.port.token.table_id e.port.size e.port.token.me e.rx e.tx e.event e.held c.end.invariant)
+    (held_between e.port.token.table_id e.port.size e.port.token.me e.rx e.tx e.event e.held c.end.invariant.0)

@@ -1,4 +1,4 @@
-use Rattle.std.proofs.Common.{rules, ◌≡◌, ℕ, ◌+◌, ◌*◌, ◌∷◌, replicate, length, ap, ◌∙◌, arith}
+use Rattle.std.proofs.Common.{rules, ◌≡◌, ℕ, ◌+◌, ◌*◌, ◌∷◌, replicate, length, refl, ap, ◌∙◌, arith}
 use Rattle.std.proofs.lemmas.List.{length-replicate}
 use Rattle.vs_page.specs.declared.log.TheConstants.{FIRST_CID}
 use Rattle.vs_ring_rule.proofs.Ends.{opens, splits}
@@ -22,13 +22,14 @@ split_seat-other_token-requires c =
 pub invariant_of-driver-2 : goal.invariant_of-driver-2
 invariant_of-driver-2 c =
     let n = c.from-size.result in
-    rw (c.split_seat-other_token.ensures.2, c.in_ok-table.ensures.4)
-    (first_driver n c.in_ok-rx.rx c.in_ok-tx.tx c.in_ok-event.event
+    let first = first_driver n c.in_ok-rx.rx c.in_ok-tx.tx c.in_ok-event.event
     (record { free = c.in_ok-rx.ensures.free; room = c.in_ok-rx.ensures.room; offered = c.in_ok-rx.ensures.none.0; staged = c.in_ok-rx.ensures.none.1; taken = c.in_ok-rx.ensures.none.2 })
     (record { free = c.in_ok-tx.ensures.free; room = c.in_ok-tx.ensures.room; offered = c.in_ok-tx.ensures.none.0; staged = c.in_ok-tx.ensures.none.1; taken = c.in_ok-tx.ensures.none.2 })
-    (record { free = c.in_ok-event.ensures.free; room = c.in_ok-event.ensures.room; offered = c.in_ok-event.ensures.none.0; staged = c.in_ok-event.ensures.none.1; taken = c.in_ok-event.ensures.none.2 }))
+    (record { free = c.in_ok-event.ensures.free; room = c.in_ok-event.ensures.room; offered = c.in_ok-event.ensures.none.0; staged = c.in_ok-event.ensures.none.1; taken = c.in_ok-event.ensures.none.2 }) in
+    rw (c.split_seat-other_token.ensures.2, c.in_ok-table.ensures.4) (first, record { tx_put = refl; tx_offered = refl; rx_got = refl; ev_got = refl })
 
 pub invariant_of-device-2 : goal.invariant_of-device-2
 invariant_of-device-2 c =
     let n = c.from-size.result in
-    rw (c.split_seat-other_token.ensures.4, c.in_ok-table.ensures.4, c.in_ok-held.ensures) (first_device n)
+    rw (c.split_seat-other_token.ensures.4, c.in_ok-table.ensures.4, c.in_ok-held.ensures)
+    (first_device n, record { tx_got = refl; rx_put = refl; ev_put = refl })

@@ -24,7 +24,7 @@ returns-clause-back c =
     let e = c.device.inside.port in
     let me = ap (λ (m : Seated). m.0) c.copy-of_device.ensures.me ∙ ap (λ (m : Seated). m.0) c.hear.ensures.me in
     let first = note_first e.token.me.0 e.token.me.0 c.copy-of_device.new.self.token.me.0 d.token.me.0 d.token.me.0
-    c.copy-of_driver.result.me.0 c.device.invariant.seat.open_yet refl me
+    c.copy-of_driver.result.me.0 c.device.invariant.0.seat.open_yet refl me
     (ap (λ (m : Seated). m.0) c.copy-of_driver.ensures.copy) refl c.know_device.ensures.told.1.3 e.token.table_id d.token.table_id e.size d.size in
     subst (λ (s : DeviceSight). TookFirst c.args.driver.now s.sight) c.device.view_is
     (subst (λ (s : Sight). TookFirst s (device_sight c.device.inside).sight) c.driver.view_is first)
@@ -47,7 +47,7 @@ returns-clause-saw_back c =
     let e = c.device.inside.port in
     let me = ap (λ (m : Seated). m.0) c.copy-of_device.ensures.me ∙ ap (λ (m : Seated). m.0) c.hear.ensures.me in
     let first = note_saw e.token.me.0 e.token.me.0 c.copy-of_device.new.self.token.me.0 d.token.me.0 d.token.me.0
-    c.copy-of_driver.result.me.0 c.device.invariant.seat.open_yet refl me
+    c.copy-of_driver.result.me.0 c.device.invariant.0.seat.open_yet refl me
     (ap (λ (m : Seated). m.0) c.copy-of_driver.ensures.copy) refl c.know_device.ensures.told.1.4 e.token.table_id d.token.table_id e.size d.size in
     subst (λ (s : DeviceSight). SawNoMore c.args.driver.now s.sight) c.device.view_is
     (subst (λ (s : Sight). SawNoMore s (device_sight c.device.inside).sight) c.driver.view_is first)
@@ -58,7 +58,7 @@ returns-clause-saw_cid c =
     let e = c.device.inside.port in
     let me = ap (λ (m : Seated). m.0) c.copy-of_device.ensures.me ∙ ap (λ (m : Seated). m.0) c.hear.ensures.me in
     let older = note_loaded e.token.me.0 e.token.me.0 c.copy-of_device.new.self.token.me.0 d.token.me.0 d.token.me.0
-    c.copy-of_driver.result.me.0 c.device.invariant.seat.open_yet refl me
+    c.copy-of_driver.result.me.0 c.device.invariant.0.seat.open_yet refl me
     (ap (λ (m : Seated). m.0) c.copy-of_driver.ensures.copy) refl c.know_device.ensures.told.1.5 in
     subst (λ (s : DeviceSight). IsOlder c.args.driver.now.loaded s.sight.log) c.device.view_is
     (subst (λ (s : Sight). IsOlder s.loaded (device_sight c.device.inside).sight.log) c.driver.view_is older)

@@ -10,7 +10,7 @@ pub write-requires-clause-in_page : goal.write-requires-clause-in_page
 write-requires-clause-in_page c =
     let has = subst (λ (w : DeviceSight). Contains (chains_of w.held) c.args.chain.now) (sym c.self.view_is) c.requires.is_held in
     let held = all_held c.self.inside.held.pages in
-    omega (arith, c.requires.in_range, writable_in c.args.chain.now held c.self.invariant.in_pages has)
+    omega (arith, c.requires.in_range, writable_in c.args.chain.now held c.self.invariant.0.in_pages has)
 
 pub invariant_of-self : goal.invariant_of-self
 invariant_of-self c =
@@ -18,5 +18,7 @@ invariant_of-self c =
     let held = all_held d.held.pages in
     let has = subst (λ (w : DeviceSight). Contains (chains_of w.held) c.args.chain.now) (sym c.self.view_is) c.requires.is_held in
     let no_gap = subst (λ (w : DeviceSight). c.args.at ≤ length (bytes_in c.args.chain.now w.held)) (sym c.self.view_is) c.requires.no_gap in
-    writes d.port.size d.port.token.me d.rx d.tx d.event d.held c.write.new.self c.self.invariant c.write.ensures.slots c.write.ensures.room
-    (rw c.write.ensures.held (in_pages-written c.args.chain.now held c.self.invariant.in_pages has c.args.at c.args.bytes.now no_gap))
+    let kept = writes d.port.size d.port.token.me d.rx d.tx d.event d.held c.write.new.self c.self.invariant.0 c.write.ensures.slots
+    c.write.ensures.room (rw c.write.ensures.held (in_pages-written c.args.chain.now held c.self.invariant.0.in_pages has c.args.at
+    c.args.bytes.now no_gap)) in
+    (kept, c.self.invariant.1)

@@ -1,11 +1,14 @@
-use Rattle.std.proofs.Common.{sym, subst}
+use Rattle.std.proofs.Common.{refl, sym, subst}
 use Rattle.vs_page.specs.Fair.{IsFairLog}
 use Rattle.vs_page.specs.Log as log
 use Rattle.vs_ring_port.specs.EndLog.{entries_published}
 use Rattle.vs_ring_port.specs.declared.queue.Queue.{Queue}
+use Rattle.vs_ring_port.specs.declared.queue.Queue.TheVariants.{Tx}
 use Rattle.vs_ring_rule.specs.Rule.{queue_in}
 use Rattle.vs_ring_shared.specs.DriverStates.{Goes}
 use Rattle.vs_ring_shared.specs.Sights.{QueueSight, Sight, gave_queue, sight_in}
+use Rattle.vs_ring_shared.specs.declared.counters.DriverCounters.{DriverCounters}
+use Rattle.vs_ring_shared.proofs.Countings.{count_published, counts_tx}
 use Rattle.vs_ring_shared.proofs.DriverCalls.{goes_tx, seen_queue}
 use Rattle.vs_ring_shared.proofs.driver_end.DriverEnd.publish_staged.Goals as goal
 
@@ -20,10 +23,16 @@ pub invariant_of-self-in-Tx : goal.invariant_of-self-in-Tx
 invariant_of-self-in-Tx c =
     let d = c.self.inside in
     let v = d.port.token.me.0 in
+    let call = c.publish-in-Tx in
+    let counters : DriverCounters = record d.counters { tx_put = d.counters.tx_offered } in
     let fair = subst (λ (s : Sight). IsFairLog log.Driver (entries_published c.args.queue (sight_in c.args.queue s).staged s.log)) (sym c.self.view_is) c.requires.fair in
     let fair' = subst (λ (q : QueueSight). IsFairLog log.Driver (entries_published c.args.queue q.staged v.log))
     (seen_queue c.args.queue d.port.token.table_id d.port.size v) fair in
-    goes_tx d.port.size c.publish-in-Tx.new.port.size c.publish-in-Tx.ensures.size gave_queue (entries_published c.args.queue (queue_in c.args.queue v).staged v.log)
-    d.port.token.me c.publish-in-Tx.new.port.token.me d.rx d.tx d.event c.publish-in-Tx.new.numbers fair' c.self.invariant
-    (subst (λ (q : Queue). Goes d.port.size q gave_queue (entries_published c.args.queue (queue_in c.args.queue v).staged v.log) d.port.token.me
-    c.publish-in-Tx.new.port.token.me c.publish-in-Tx.new.numbers) c.in-Tx.is c.publish-in-Tx.ensures.gave)
+    let goes = subst (λ (q : Queue). Goes d.port.size q gave_queue (entries_published q (queue_in q v).staged v.log) d.port.token.me
+    call.new.port.token.me call.new.numbers) c.in-Tx.is call.ensures.gave in (
+      goes_tx d.port.size call.new.port.size call.ensures.size gave_queue (entries_published Tx v.tx.staged v.log) d.port.token.me
+          call.new.port.token.me d.rx d.tx d.event call.new.numbers
+          (subst (λ (q : Queue). IsFairLog log.Driver (entries_published q (queue_in q v).staged v.log)) c.in-Tx.is fair') c.self.invariant.0 goes,
+      counts_tx d.port.size gave_queue (entries_published Tx v.tx.staged v.log) d.port.token.me call.new.port.token.me call.new.numbers counters
+          goes (count_published v.log v.tx.staged d.counters counters c.self.invariant.1 refl),
+    )
