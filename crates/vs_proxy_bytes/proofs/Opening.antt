@@ -93,7 +93,7 @@ keeps_open hands after flow stream s calls waits waiting others apart x = by (re
       over = x.over;
       carried = x.carried;
     }
-    by None is = λ answer fit. opens is answer
+    by None is = ((new_account None true, waits), λ answer fit. opens is answer)
 
 -- While connections are closed for a reset, what the streams were given stays.
 pub record AreClosing (at : ℕ → Option Account) (put taken : Flow → List ℕ) (t : Table DeviceConnection) : Type 0 where

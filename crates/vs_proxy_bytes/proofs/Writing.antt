@@ -51,7 +51,7 @@ module _ (hands : List Handshake) where
       where
         by : (b : Bool) → Keeps HasNow (cond b (Done w) (Ask (WriteStream e.value.stream (to_write e.value)) (λ answer. write_answered e answer w))) calls
         by true = x
-        by false = keeps_answered
+        by false = ((tie.0, tie.1), keeps_answered)
 
   keeps_shut_write : (slot : ℕ) (w : Writing) (calls : List Made) → HasNow w calls → Keeps HasNow (shut_write slot w) calls
   keeps_shut_write slot w calls x = by (entry_under w.state.table slot) refl
