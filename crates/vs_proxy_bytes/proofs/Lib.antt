@@ -1,0 +1,11 @@
+pub mod Keeping
+pub mod Accounts
+pub mod Entries
+pub mod Ties
+pub mod Closing
+pub mod Writing
+pub mod Transmitting
+pub mod Receiving
+pub mod Opening
+pub mod Shaking
+pub mod Turning

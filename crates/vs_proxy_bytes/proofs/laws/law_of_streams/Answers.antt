@@ -1,0 +1,13 @@
+use Rattle.vs_proxy_bytes.specs.Made.{account_of}
+use Rattle.vs_proxy_bytes.proofs.Entries.{streams_apart}
+use Rattle.vs_proxy_bytes.proofs.laws.law_of_streams.Goals as goal
+
+pub returns-clause-given : goal.returns-clause-given
+returns-clause-given c = λ s calls id a holds is. holds.tied.given id a is
+
+pub returns-clause-apart : goal.returns-clause-apart
+returns-clause-apart c = λ s calls i j a b flow holds is also on same.
+    streams_apart (account_of calls) s.device.table s.handshakes holds.tied i j a b flow is also on same
+
+pub returns-clause-put : goal.returns-clause-put
+returns-clause-put c = λ s calls flow holds. holds.carried flow

@@ -1,0 +1,69 @@
+-- What the host's streams were given, against the payloads delivered on their connections.
+use Rattle.std.specs.Prelude.{◌≡◌, ◌≢◌, ℕ, ◌++◌, ◌&&◌, not, Bool, true, false, if◌then◌else◌, List, [], Option, Some, None, AllPairs}
+use Rattle.std.specs.List.{All}
+use Rattle.std.specs.Option.{option_map}
+use Rattle.vs_conn.specs.declared.end.State.TheVariants.{Asked, Ended}
+use Rattle.vs_flow.specs.Table.{Table, IsTable, entry_of}
+use Rattle.vs_flow.specs.declared.flow.Flow.{Flow}
+use Rattle.vs_page.specs.Fair.{IsPrefixOf}
+use Rattle.vs_uds.specs.OkLine.{ok_text}
+use Rattle.vs_device.specs.State.{DeviceConnection, DeviceEntry}
+use Rattle.vs_pipes.specs.Drains.{Drains}
+use Rattle.vs_pipes.specs.Streamed.{gives}
+use Rattle.vs_proxy.specs.State.{Handshake, ProxyState}
+use Rattle.vs_proxy_bytes.specs.Made.{Account, Made, account_of, new_account, payload_put, payload_taken}
+
+-- The OK line that a client's stream is given first.
+abbrev pub ok_line_of : Bool → Flow → List ℕ
+ok_line_of by_client flow = if by_client then ok_text flow.host else []
+
+-- A stream is given its OK line, and then the payloads delivered on its own connection: a prefix of them all. Without a label it is given nothing.
+abbrev pub IsGiven : Option Flow → Account → Type 0
+IsGiven None a = a.given ≡ []
+IsGiven (Some flow) a = IsPrefixOf a.given (ok_line_of a.by_client flow ++ a.delivered)
+
+-- Whether a connection's stream is given all that comes: it isn't closed, and neither did the connection end nor decide to receive no more.
+abbrev pub gives_all : DeviceConnection → Bool
+gives_all c = not c.closed && gives c.end
+
+-- A connection and the account of its stream: what the stream was given and what is held are what came, all of it while the stream is given all.
+pub record IsTiedTo (a : Account) (e : DeviceEntry) : Type 0 where
+  pub label : a.label ≡ Some e.flow
+  pub client : a.by_client ≡ e.value.by_client
+  pub closed : a.closed ≡ e.value.closed
+  pub drains : Drains (gives_all e.value) a.given (e.value.ok_line ++ e.value.pending) (ok_line_of e.value.by_client e.flow ++ a.delivered)
+  pub asked : e.value.end.state ≡ Asked → (a.given ≡ []) × (a.delivered ≡ []) × (e.value.ok_line ≡ []) × (e.value.pending ≡ [])
+
+abbrev pub IsTied : (ℕ → Option Account) → DeviceEntry → Type 0
+IsTied at e = (a : Account) × (at e.value.stream ≡ Some a) × IsTiedTo a e
+
+-- The stream of the connection of a flow.
+abbrev pub stream_of : Table DeviceConnection → Flow → Option ℕ
+stream_of t flow = option_map (λ e. e.value.stream) (entry_of t flow)
+
+-- Each connection is tied to its stream, each handshake has a client's stream of its own that has no label yet; a stream with a label that isn't
+-- closed is that of the connection of its flow.
+pub record AreTied (at : ℕ → Option Account) (t : Table DeviceConnection) (hands : List Handshake) : Type 0 where
+  pub table : IsTable t
+  pub joined : All (IsTied at) t.entries
+  pub waiting : All (λ h. at h.stream ≡ Some (new_account None true)) hands
+  pub apart : AllPairs (λ g h. g.stream ≢ h.stream) hands
+  pub given : (id : ℕ) (a : Account) → at id ≡ Some a → IsGiven a.label a
+  pub serves : (id : ℕ) (a : Account) (flow : Flow) → at id ≡ Some a → a.label ≡ Some flow → a.closed ≡ false → stream_of t flow ≡ Some id
+
+-- A connection whose stream is closed is over.
+abbrev pub IsOver : DeviceEntry → Type 0
+IsOver e = e.value.closed ≡ true → e.value.end.state ≡ Ended
+
+pub record Agree (at : ℕ → Option Account) (put taken : Flow → List ℕ) (t : Table DeviceConnection) (hands : List Handshake) : Type 0 where
+  pub tied : AreTied at t hands
+  pub over : All IsOver t.entries
+  -- What was put on a flow is what was taken of the streams that have its ports.
+  pub carried : (flow : Flow) → put flow ≡ taken flow
+
+-- The calls that were made for a proxy so far account for what it holds.
+abbrev pub AgreesWith : List Made → Table DeviceConnection → List Handshake → Type 0
+AgreesWith calls t hands = Agree (account_of calls) (payload_put calls) (payload_taken calls) t hands
+
+abbrev pub AccountsFor : ProxyState → List Made → Type 0
+AccountsFor s calls = AgreesWith calls s.device.table s.handshakes

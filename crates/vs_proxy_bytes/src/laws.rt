@@ -1,0 +1,31 @@
+//! What the proxy gives to the host's streams and puts on their flows, over any ring and any host.
+
+ghost use Rattle.std.specs.Prelude.{◌≡◌, ℕ, true, List, [], Some, Result};
+ghost use Rattle.vs_contents.specs.CallTree.{Leads};
+ghost use Rattle.vs_flow.specs.declared.flow.Flow.{Flow};
+ghost use Rattle.vs_ring_port.specs.declared.failure.Failure.{Failure};
+ghost use Rattle.vs_proxy.specs.State.{ProxyState};
+ghost use Rattle.vs_proxy.specs.Turns.{new_proxy, proxy_reset_of, turn_of};
+ghost use Rattle.vs_proxy.specs.declared.answers.Turn.{Turn};
+ghost use Rattle.vs_proxy_bytes.specs.Made.{Account, Made, Makes, account_of, is_on, payload_put, payload_taken};
+ghost use Rattle.vs_proxy_bytes.specs.Tied.{AccountsFor, IsGiven};
+
+/// The calls that were made for a proxy account for what it holds: before its first call, and after each turn and each reset, whatever the ring
+/// answers, and whatever a host that gives no stream twice and takes no more bytes than it is given.
+pub fn law_of_accounts()
+    ensures new { (cid : ℕ) (base : List ℕ) → AccountsFor (new_proxy cid base) [] }
+    ensures turn { (size now : ℕ) (s : ProxyState) (calls later : List Made) (x : ProxyState × Turn) → AccountsFor s calls
+        → Leads Makes (turn_of size now s) calls x later → AccountsFor x.0 later }
+    ensures reset { (cid : ℕ) (s : ProxyState) (calls later : List Made) (x : ProxyState × Result (Unit {0}) Failure) → AccountsFor s calls
+        → Leads Makes (proxy_reset_of cid s) calls x later → AccountsFor x.0 later }
+{}
+
+/// So it is with each stream: what it was given is a prefix of its OK line and the payloads delivered on its own connection; at no time have two
+/// streams the connection of one flow; and the payload put on a flow is what was taken of the streams of that flow, each byte once and in order.
+pub fn law_of_streams()
+    ensures given { (s : ProxyState) (calls : List Made) (id : ℕ) (a : Account) → AccountsFor s calls → account_of calls id ≡ Some a
+        → IsGiven a.label a }
+    ensures apart { (s : ProxyState) (calls : List Made) (i j : ℕ) (a b : Account) (flow : Flow) → AccountsFor s calls
+        → account_of calls i ≡ Some a → account_of calls j ≡ Some b → is_on flow a ≡ true → is_on flow b ≡ true → i ≡ j }
+    ensures put { (s : ProxyState) (calls : List Made) (flow : Flow) → AccountsFor s calls → payload_put calls flow ≡ payload_taken calls flow }
+{}
