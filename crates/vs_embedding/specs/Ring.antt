@@ -1,0 +1,13 @@
+-- What a monitor's ring keeps: the size of its queues, the chains that the device holds, newest first, and for how many it has room.
+use Rattle.std.specs.Prelude.{ℕ, List, None, false}
+use Rattle.vs_ring_port.specs.Contents.{RingContents}
+use Rattle.vs_ring_port.specs.declared.device_ring.Chain.{Chain}
+
+pub record RingState : Type 0 where
+  pub size : ℕ
+  pub held : List Chain
+  pub room : ℕ
+
+-- A ring that exposes nothing.
+abbrev pub silent : RingContents
+silent = record { lists = None; log = None; other = None; plain = None; honest = false }

@@ -1,0 +1,11 @@
+//! A skeleton of a monitor that embeds the device: its own virtqueues as a `DeviceRing`, a host of its own as a `HostNet`, and the loop
+//! around the proxy's turns. docs/EMBEDDING.md goes through it.
+#![tactic(auto)]
+
+pub mod collector;
+
+pub mod queues;
+
+pub use collector::Collector;
+
+pub use queues::{MonitorRing, Popped, Virtqueues};
