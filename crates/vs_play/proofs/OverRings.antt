@@ -10,9 +10,9 @@ use Rattle.vs_driver_parts.specs.Conversations.{DriverTree}
 use Rattle.vs_driver_parts.specs.Playing.{IsRingOf, Plays, all_flown}
 use Rattle.vs_driver_parts.specs.State.{DriverState}
 use Rattle.vs_driver_log.specs.Honest.{IsHonest, IsHonestWith}
-use Rattle.vs_device.specs.Calls.{DeviceTree}
-use Rattle.vs_device.specs.Playing.{IsItsRing, MayRun, Runs, situation}
-use Rattle.vs_device.specs.State.{DeviceState}
+use Rattle.vs_device_parts.specs.Calls.{DeviceTree}
+use Rattle.vs_device_parts.specs.Playing.{IsItsRing, MayRun, Runs, situation}
+use Rattle.vs_device_parts.specs.State.{DeviceState}
 use Rattle.vs_both_ends.specs.Seen.{IsDeviceOf, IsDriverOf}
 use Rattle.vs_play.specs.Ready.{IsDriven, over_lists}
 use Rattle.vs_play.proofs.OverLists.{over}

@@ -4,7 +4,7 @@ use Rattle.vs_flow.specs.declared.flow.Flow.{Flow}
 use Rattle.vs_history.specs.History.{puts}
 use Rattle.vs_history.specs.Packets.{has, shuts_send}
 use Rattle.vs_driver_parts.specs.State.{DriverEntry}
-use Rattle.vs_device.specs.State.{DeviceEntry}
+use Rattle.vs_device_parts.specs.State.{DeviceEntry}
 use Rattle.vs_matching.specs.Both.{Both, at}
 use Rattle.vs_matching.specs.Steps.{HasEnd}
 use Rattle.vs_matching.proofs.Slots.{one_end}

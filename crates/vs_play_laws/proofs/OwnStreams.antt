@@ -8,12 +8,12 @@ use Rattle.vs_flow.specs.Flow.{same_flow}
 use Rattle.vs_flow.specs.Table.{Table}
 use Rattle.vs_flow.specs.declared.flow.Flow.{Flow}
 use Rattle.vs_flow.proofs.Entries.{same_flow_true}
-use Rattle.vs_device.specs.State.{DeviceConnection}
+use Rattle.vs_device_parts.specs.State.{DeviceConnection}
 use Rattle.vs_outside.specs.Host.{HostContents, Stream, stream_at}
 use Rattle.vs_outside.specs.HostBytes.{host_read, host_wrote, is_labelled, read_after_ok, wrote_after_connect}
 use Rattle.vs_page.proofs.Flows.{same_self}
 use Rattle.vs_page.specs.Log.{Log}
-use Rattle.vs_proxy.specs.State.{Handshake}
+use Rattle.vs_proxy_parts.specs.State.{Handshake}
 use Rattle.vs_pipes.specs.Streamed.{IsStreamed, seen}
 
 -- What stands in a list stands in its filter, where it passes.

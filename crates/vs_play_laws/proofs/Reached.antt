@@ -8,7 +8,7 @@ use Rattle.std.proofs.lemmas.List.Elements.{All-map}
 use Rattle.std.proofs.lemmas.List.Kept.{AllPairs-cons}
 use Rattle.vs_flow.specs.declared.flow.Flow.{Flow}
 use Rattle.vs_driver_parts.specs.State.{DriverEntry, GoneConnection}
-use Rattle.vs_device.specs.State.{DeviceEntry}
+use Rattle.vs_device_parts.specs.State.{DeviceEntry}
 use Rattle.vs_history.specs.History.{History, IsFair, MayPut, Put, Side, gots, puts}
 use Rattle.vs_history.specs.declared.packet.Packet.{Packet}
 use Rattle.vs_matching.specs.Ends.{FlowEnd, begun_flows, flows_of, is_among}

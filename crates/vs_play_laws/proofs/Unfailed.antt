@@ -15,19 +15,19 @@ use Rattle.vs_ring_port.specs.declared.device_ring.Chain.{Chain}
 use Rattle.vs_ring_port.specs.declared.failure.Failure.{Failure}
 use Rattle.vs_ring_port.specs.declared.failure.Failure.TheVariants as failure
 use Rattle.vs_ring_port.specs.declared.queue.Queue.TheVariants as q
-use Rattle.vs_device.specs.Calls.{CloseStream, DeviceTree, Ring}
-use Rattle.vs_device.specs.Connections.{stream_closed, with_connection}
-use Rattle.vs_device.specs.State.{DeviceEntry, DeviceState}
-use Rattle.vs_device.specs.Transmitting.{failing, on_next, on_packet}
-use Rattle.vs_device.specs.Turns.{after_reset, close_slot}
-use Rattle.vs_device.specs.declared.answers.Taken.{Taken}
-use Rattle.vs_device.specs.declared.answers.Taken.TheVariants as taken
-use Rattle.vs_device.specs.declared.limits.TheConstants.{REPLIES}
-use Rattle.vs_proxy.specs.Handshakes.{shake_hands, streams_of}
-use Rattle.vs_proxy.specs.State.{ProxyState, Turning, start, with_device}
-use Rattle.vs_proxy.specs.Turns.{close_handshake, event_stage, fill_stage, proxy_reset_of, pump_stage, reset_with, take_one, take_stage}
-use Rattle.vs_proxy.specs.Turns.{tick_stage, turned, unless_failed}
-use Rattle.vs_proxy.specs.declared.answers.Turn.{Turn}
+use Rattle.vs_device_parts.specs.Calls.{CloseStream, DeviceTree, Ring}
+use Rattle.vs_device_parts.specs.Connections.{stream_closed, with_connection}
+use Rattle.vs_device_parts.specs.State.{DeviceEntry, DeviceState}
+use Rattle.vs_device_parts.specs.Transmitting.{failing, on_next, on_packet}
+use Rattle.vs_device_parts.specs.Turns.{after_reset, close_slot}
+use Rattle.vs_device_parts.specs.declared.answers.Taken.{Taken}
+use Rattle.vs_device_parts.specs.declared.answers.Taken.TheVariants as taken
+use Rattle.vs_device_parts.specs.declared.limits.TheConstants.{REPLIES}
+use Rattle.vs_proxy_parts.specs.Handshakes.{shake_hands, streams_of}
+use Rattle.vs_proxy_parts.specs.State.{ProxyState, Turning, start, with_device}
+use Rattle.vs_proxy_parts.specs.Turns.{close_handshake, event_stage, fill_stage, proxy_reset_of, pump_stage, reset_with, take_one, take_stage}
+use Rattle.vs_proxy_parts.specs.Turns.{tick_stage, turned, unless_failed}
+use Rattle.vs_proxy_parts.specs.declared.answers.Turn.{Turn}
 use Rattle.vs_world.specs.Answers.{Around, answer_around}
 use Rattle.vs_world.specs.Events.{is_at_rest}
 use Rattle.vs_world.specs.Pages.{AllHold, PageHolds}

@@ -11,7 +11,7 @@ use Rattle.vs_page.specs.Fair.{IsFairLog, IsPrefixOf, payload_got, payload_put}
 use Rattle.vs_page.specs.Log.{Device, Driver, HasGotAll, Log, Role, history_of}
 use Rattle.vs_page.specs.Open.{WasOpened, is_open}
 use Rattle.vs_driver_parts.specs.State.{DriverEntry}
-use Rattle.vs_device.specs.State.{DeviceEntry}
+use Rattle.vs_device_parts.specs.State.{DeviceEntry}
 use Rattle.vs_matching.specs.Ends.{begun_flows, flows_of, is_among, new_flows}
 use Rattle.vs_outside.specs.Host.{Stream, stream_at}
 use Rattle.vs_outside.specs.HostBytes.{host_read, host_wrote, read_after_ok, wrote_after_connect}

@@ -7,12 +7,12 @@ use Rattle.vs_flow.specs.Table.{Table, entry_of, entry_under, revalued, slots, w
 use Rattle.vs_flow.specs.declared.flow.Flow.{Flow}
 use Rattle.vs_flow.specs.Flow.{same_flow}
 use Rattle.vs_matching.proofs.Slots.{found_by}
-use Rattle.vs_device.specs.Calls.{CloseStream}
-use Rattle.vs_device.specs.Connections.{after_leaving, cut_off, is_timed_out, stream_closed, with_connection}
-use Rattle.vs_device.specs.State.{DeviceConnection, DeviceEntry, DeviceState}
-use Rattle.vs_device.specs.Streams.{closing, leaving, tick_of, tick_slot}
+use Rattle.vs_device_parts.specs.Calls.{CloseStream}
+use Rattle.vs_device_parts.specs.Connections.{after_leaving, cut_off, is_timed_out, stream_closed, with_connection}
+use Rattle.vs_device_parts.specs.State.{DeviceConnection, DeviceEntry, DeviceState}
+use Rattle.vs_device_parts.specs.Streams.{closing, leaving, tick_of, tick_slot}
 use Rattle.vs_conn.specs.End.{aborted}
-use Rattle.vs_proxy.specs.State.{Handshake}
+use Rattle.vs_proxy_parts.specs.State.{Handshake}
 use Rattle.vs_pipes.proofs.Changes.{changed, others_left}
 use Rattle.vs_proxy_bytes.specs.Made.{Account, Made, account_of, payload_put, payload_taken, shut}
 use Rattle.vs_proxy_bytes.specs.Tied.{Agree, AgreesWith, IsGiven, IsOver, IsTied, IsTiedTo}

@@ -12,8 +12,8 @@ use Rattle.vs_flow.proofs.Lookups.{entry_of-with_entry, entry_of-with_value, ent
 use Rattle.vs_flow.proofs.Tables.{IsAccepted, with_entry_sound, with_value_sound, without_sound}
 use Rattle.vs_page.proofs.Flows.{same_self}
 use Rattle.vs_page.specs.Fair.{IsPrefixOf}
-use Rattle.vs_device.specs.State.{DeviceConnection, DeviceEntry}
-use Rattle.vs_proxy.specs.State.{Handshake}
+use Rattle.vs_device_parts.specs.State.{DeviceConnection, DeviceEntry}
+use Rattle.vs_proxy_parts.specs.State.{Handshake}
 use Rattle.vs_pipes.proofs.Changes.{changed, others_left, under_slot}
 use Rattle.vs_pipes.proofs.Logs.{shorter}
 use Rattle.vs_proxy_bytes.specs.Made.{Account, is_on, new_account, shut}

@@ -1,7 +1,7 @@
 -- What a conversation keeps: what holds at each of its ends, of what it leaves and of the calls made.
 use Rattle.std.proofs.Common.{◌≡◌, ℕ, zero, suc, Bool, true, false, List, [], ◌∷◌, Some, subst, sym}
 use Rattle.vs_contents.specs.CallTree.{Done, Ask, bind, for_each, while_up_to, Leads}
-use Rattle.vs_device.specs.Calls.{Call, Answer, DeviceTree, Ring, Accept, Dial, Label, ReadStream, WriteStream, ShutWrite, CloseStream}
+use Rattle.vs_device_parts.specs.Calls.{Call, Answer, DeviceTree, Ring, Accept, Dial, Label, ReadStream, WriteStream, ShutWrite, CloseStream}
 use Rattle.vs_proxy_bytes.specs.Made.{Account, Made, MayGet, Makes, account_of}
 
 abbrev pub made : (call : Call) → Answer call → Made

@@ -12,12 +12,12 @@ use Rattle.vs_flow.proofs.Tables.{accepted, with_value_sound}
 use Rattle.vs_history.specs.declared.TheConstants.{BUF_ALLOC}
 use Rattle.vs_ring_port.specs.Contents.{PublishCid}
 use Rattle.vs_ring_port.specs.declared.failure.Failure.{Failure}
-use Rattle.vs_device.specs.Calls.{CloseStream, DeviceTree, Label, Ring}
-use Rattle.vs_device.specs.Connections.{new_connection, stream_closed, with_client, with_connection}
-use Rattle.vs_device.specs.State.{DeviceConnection, DeviceEntry, DeviceState}
-use Rattle.vs_device.specs.Streams.{closing}
-use Rattle.vs_device.specs.Turns.{after_reset, close_slot, open_of, reset_of}
-use Rattle.vs_proxy.specs.State.{Handshake}
+use Rattle.vs_device_parts.specs.Calls.{CloseStream, DeviceTree, Label, Ring}
+use Rattle.vs_device_parts.specs.Connections.{new_connection, stream_closed, with_client, with_connection}
+use Rattle.vs_device_parts.specs.State.{DeviceConnection, DeviceEntry, DeviceState}
+use Rattle.vs_device_parts.specs.Streams.{closing}
+use Rattle.vs_device_parts.specs.Turns.{after_reset, close_slot, open_of, reset_of}
+use Rattle.vs_proxy_parts.specs.State.{Handshake}
 use Rattle.vs_proxy_bytes.specs.Made.{Account, Made, account_of, labelled, new_account, payload_put, payload_taken, shut}
 use Rattle.vs_proxy_bytes.specs.Tied.{Agree, IsGiven, IsOver, IsTied, IsTiedTo}
 use Rattle.vs_proxy_bytes.proofs.Accounts.{Changes, changes, changing, stays}

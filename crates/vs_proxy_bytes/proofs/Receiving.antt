@@ -25,16 +25,16 @@ use Rattle.vs_ring_port.specs.declared.device_ring.Next.{Next}
 use Rattle.vs_ring_port.specs.declared.device_ring.Next.TheVariants as next
 use Rattle.vs_ring_port.specs.declared.failure.Failure.{Failure}
 use Rattle.vs_ring_port.specs.declared.queue.Queue.TheVariants.{Event, Rx}
-use Rattle.vs_device.specs.declared.answers.Filled.{Filled}
-use Rattle.vs_device.specs.Calls.{DeviceTree, ReadStream, Ring}
-use Rattle.vs_device.specs.Connections.{after_shut, cut_off, route_to_guest, with_connection, with_fault}
-use Rattle.vs_device.specs.Receiving.{Filling, after_paying, event_on, fill_rx_of, filled_of, hold, holding, may_read, pay_event_of, put_on}
-use Rattle.vs_device.specs.Receiving.{put_owed, put_packet, put_payload, put_reply, put_reply_of, read_answered, read_room, read_stream}
-use Rattle.vs_device.specs.Receiving.{read_with_chain, reply_header, round_from, serve_slot, written}
-use Rattle.vs_device.specs.State.{DeviceConnection, DeviceEntry, DeviceState}
-use Rattle.vs_device.specs.Streams.{closing}
+use Rattle.vs_device_parts.specs.declared.answers.Filled.{Filled}
+use Rattle.vs_device_parts.specs.Calls.{DeviceTree, ReadStream, Ring}
+use Rattle.vs_device_parts.specs.Connections.{after_shut, cut_off, route_to_guest, with_connection, with_fault}
+use Rattle.vs_device_parts.specs.Receiving.{Filling, after_paying, event_on, fill_rx_of, filled_of, hold, holding, may_read, pay_event_of, put_on}
+use Rattle.vs_device_parts.specs.Receiving.{put_owed, put_packet, put_payload, put_reply, put_reply_of, read_answered, read_room, read_stream}
+use Rattle.vs_device_parts.specs.Receiving.{read_with_chain, reply_header, round_from, serve_slot, written}
+use Rattle.vs_device_parts.specs.State.{DeviceConnection, DeviceEntry, DeviceState}
+use Rattle.vs_device_parts.specs.Streams.{closing}
 use Rattle.vs_device_laws.proofs.Ends.{owes_reset, shut_over}
-use Rattle.vs_proxy.specs.State.{Handshake}
+use Rattle.vs_proxy_parts.specs.State.{Handshake}
 use Rattle.vs_proxy_bytes.specs.Made.{Account, Made, account_of, is_for, is_of, payload_put, payload_taken, ports_of}
 use Rattle.vs_proxy_bytes.specs.Tied.{Agree, AgreesWith, IsTied}
 use Rattle.vs_proxy_bytes.proofs.Closing.{Has, agree_same, join, keeps_cut_off, keeps_leaving, over_there, there_under}

@@ -14,18 +14,18 @@ use Rattle.vs_uds.specs.ConnectLine.{connect_step}
 use Rattle.vs_uds.specs.declared.connect.TheConstants.{CONNECT_MAX}
 use Rattle.vs_uds.specs.declared.scan.Step.{Step}
 use Rattle.vs_uds.specs.declared.scan.Step.TheVariants as step
-use Rattle.vs_device.specs.Calls.{Accept, CloseStream, DeviceTree, ReadStream}
-use Rattle.vs_device.specs.Connections.{is_late}
-use Rattle.vs_device.specs.Turns.{open_of}
+use Rattle.vs_device_parts.specs.Calls.{Accept, CloseStream, DeviceTree, ReadStream}
+use Rattle.vs_device_parts.specs.Connections.{is_late}
+use Rattle.vs_device_parts.specs.Turns.{open_of}
 use Rattle.vs_flow.proofs.Entries.{All_at, found_passes}
 use Rattle.vs_flow.proofs.Lookups.{find_place}
 use Rattle.vs_pipes.proofs.Hands.{with_all, with_apart, without_all, without_none, without_pairs}
-use Rattle.vs_proxy.specs.Handshakes.{accept_answered, accept_one, byte_read, dropping, handshake_on, host_fault, line_decided, may_open}
-use Rattle.vs_proxy.specs.Handshakes.{opening, read_byte, read_line}
-use Rattle.vs_proxy.specs.Handshakes.{shake_hands, streams_of, tick_handshake, tick_handshakes, with_line, without_handshake}
-use Rattle.vs_proxy.specs.Handshakes.{without_stream}
-use Rattle.vs_proxy.specs.State.{Handshake, ProxyState, Turning, with_device}
-use Rattle.vs_proxy.specs.declared.limits.TheConstants.{HANDSHAKES}
+use Rattle.vs_proxy_parts.specs.Handshakes.{accept_answered, accept_one, byte_read, dropping, handshake_on, host_fault, line_decided, may_open}
+use Rattle.vs_proxy_parts.specs.Handshakes.{opening, read_byte, read_line}
+use Rattle.vs_proxy_parts.specs.Handshakes.{shake_hands, streams_of, tick_handshake, tick_handshakes, with_line, without_handshake}
+use Rattle.vs_proxy_parts.specs.Handshakes.{without_stream}
+use Rattle.vs_proxy_parts.specs.State.{Handshake, ProxyState, Turning, with_device}
+use Rattle.vs_proxy_parts.specs.declared.limits.TheConstants.{HANDSHAKES}
 use Rattle.vs_proxy_bytes.specs.Made.{Account, Made, MayGet, account_of, is_of, new_account, payload_taken, shut}
 use Rattle.vs_proxy_bytes.specs.Tied.{AccountsFor, AgreesWith}
 use Rattle.vs_proxy_bytes.proofs.Accounts.{Changes, changes, comes}

@@ -7,10 +7,10 @@ use Rattle.vs_conn.specs.declared.end.State.TheVariants as state
 use Rattle.vs_conn.specs.declared.end.Verdict.TheVariants as verdict
 use Rattle.vs_header.specs.declared.Header.{Header}
 use Rattle.vs_page.specs.Fair.{IsPrefixOf}
-use Rattle.vs_device.specs.Connections.{after_shut, after_written, stream_closed}
-use Rattle.vs_device.specs.State.{DeviceConnection, DeviceEntry}
-use Rattle.vs_device.specs.Streams.{to_write}
-use Rattle.vs_device.specs.Transmitting.{heard}
+use Rattle.vs_device_parts.specs.Connections.{after_shut, after_written, stream_closed}
+use Rattle.vs_device_parts.specs.State.{DeviceConnection, DeviceEntry}
+use Rattle.vs_device_parts.specs.Streams.{to_write}
+use Rattle.vs_device_parts.specs.Transmitting.{heard}
 use Rattle.vs_pipes.specs.Streamed.{gives}
 use Rattle.vs_pipes.proofs.Gives.{accepted_other, accepts_asked, delivered_other, delivers_gives, forwards_asked, forwards_gives, shuts_asked, shuts_gives}
 use Rattle.vs_pipes.proofs.Logs.{all_of, shorter}

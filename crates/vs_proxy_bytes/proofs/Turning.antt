@@ -2,19 +2,19 @@
 use Rattle.std.proofs.Common.{ℕ, ◌+◌, Bool, true, false, List, [], Option, Some, None, Result, Ok, Err}
 use Rattle.vs_contents.specs.CallTree.{Done, for_each}
 use Rattle.vs_ring_port.specs.declared.failure.Failure.{Failure}
-use Rattle.vs_device.specs.declared.answers.Filled.{Filled}
-use Rattle.vs_device.specs.declared.answers.Taken.{Taken}
-use Rattle.vs_device.specs.Calls.{DeviceTree}
-use Rattle.vs_device.specs.Receiving.{fill_rx_of, pay_event_of}
-use Rattle.vs_device.specs.State.{DeviceState}
-use Rattle.vs_device.specs.Streams.{pump_of, tick_of}
-use Rattle.vs_device.specs.Transmitting.{take_tx_of}
-use Rattle.vs_device.specs.Turns.{reset_of}
-use Rattle.vs_proxy.specs.Handshakes.{shake_hands, streams_of, tick_handshakes}
-use Rattle.vs_proxy.specs.State.{ProxyState, Turning, start, with_device}
-use Rattle.vs_proxy.specs.Turns.{close_handshake, device_after, event_stage, fill_stage, filled, proxy_reset_of, pump_stage, reset_with}
-use Rattle.vs_proxy.specs.Turns.{take_one, take_stage, tick_stage, took_packet, turn_of, unless_failed}
-use Rattle.vs_proxy.specs.declared.answers.Turn.{Turn}
+use Rattle.vs_device_parts.specs.declared.answers.Filled.{Filled}
+use Rattle.vs_device_parts.specs.declared.answers.Taken.{Taken}
+use Rattle.vs_device_parts.specs.Calls.{DeviceTree}
+use Rattle.vs_device_parts.specs.Receiving.{fill_rx_of, pay_event_of}
+use Rattle.vs_device_parts.specs.State.{DeviceState}
+use Rattle.vs_device_parts.specs.Streams.{pump_of, tick_of}
+use Rattle.vs_device_parts.specs.Transmitting.{take_tx_of}
+use Rattle.vs_device_parts.specs.Turns.{reset_of}
+use Rattle.vs_proxy_parts.specs.Handshakes.{shake_hands, streams_of, tick_handshakes}
+use Rattle.vs_proxy_parts.specs.State.{ProxyState, Turning, start, with_device}
+use Rattle.vs_proxy_parts.specs.Turns.{close_handshake, device_after, event_stage, fill_stage, filled, proxy_reset_of, pump_stage, reset_with}
+use Rattle.vs_proxy_parts.specs.Turns.{take_one, take_stage, tick_stage, took_packet, turn_of, unless_failed}
+use Rattle.vs_proxy_parts.specs.declared.answers.Turn.{Turn}
 use Rattle.vs_proxy_bytes.specs.Made.{Made, account_of, payload_put, payload_taken}
 use Rattle.vs_proxy_bytes.specs.Tied.{AccountsFor}
 use Rattle.vs_proxy_bytes.proofs.Closing.{Has, keeps_tick}

@@ -5,13 +5,13 @@ use Rattle.vs_contents.specs.CallTree.{Done, Ask, bind}
 use Rattle.vs_flow.specs.Table.{entry_under, slots}
 use Rattle.vs_outside.specs.declared.host_net.StreamWrite.{StreamWrite}
 use Rattle.vs_outside.specs.declared.host_net.StreamWrite.TheVariants as write
-use Rattle.vs_device.specs.Calls.{DeviceTree, ShutWrite, WriteStream}
-use Rattle.vs_device.specs.Connections.{after_shut, after_written, cut_off, with_connection, with_fault}
-use Rattle.vs_device.specs.State.{DeviceEntry, DeviceState}
-use Rattle.vs_device.specs.Streams.{Writing, closing, is_written_out, pump_of, pump_slot, shut_write, to_write, write_answered, write_pending}
+use Rattle.vs_device_parts.specs.Calls.{DeviceTree, ShutWrite, WriteStream}
+use Rattle.vs_device_parts.specs.Connections.{after_shut, after_written, cut_off, with_connection, with_fault}
+use Rattle.vs_device_parts.specs.State.{DeviceEntry, DeviceState}
+use Rattle.vs_device_parts.specs.Streams.{Writing, closing, is_written_out, pump_of, pump_slot, shut_write, to_write, write_answered, write_pending}
 use Rattle.vs_device_laws.proofs.Tables.{has_slot}
 use Rattle.vs_device_laws.proofs.Ends.{forwarded_over, shut_over}
-use Rattle.vs_proxy.specs.State.{Handshake}
+use Rattle.vs_proxy_parts.specs.State.{Handshake}
 use Rattle.vs_proxy_bytes.specs.Made.{Made, MayGet, account_of, payload_put, payload_taken, with_given}
 use Rattle.vs_proxy_bytes.specs.Tied.{IsTied}
 use Rattle.vs_proxy_bytes.proofs.Accounts.{changes}

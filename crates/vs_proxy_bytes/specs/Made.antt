@@ -13,7 +13,7 @@ use Rattle.vs_outside.specs.declared.host_net.StreamRead.TheVariants as read
 use Rattle.vs_outside.specs.declared.host_net.StreamWrite.TheVariants as write
 use Rattle.vs_page.specs.Log.{flow_to_host}
 use Rattle.vs_ring_port.specs.Contents.{Read, Write, PublishCid}
-use Rattle.vs_device.specs.Calls.{Call, Answer, Ring, Accept, Dial, Label, ReadStream, WriteStream, CloseStream}
+use Rattle.vs_device_parts.specs.Calls.{Call, Answer, Ring, Accept, Dial, Label, ReadStream, WriteStream, CloseStream}
 
 pub record Made : Type 0 where
   pub call : Call

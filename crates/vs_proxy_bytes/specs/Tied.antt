@@ -7,10 +7,10 @@ use Rattle.vs_flow.specs.Table.{Table, IsTable, entry_of}
 use Rattle.vs_flow.specs.declared.flow.Flow.{Flow}
 use Rattle.vs_page.specs.Fair.{IsPrefixOf}
 use Rattle.vs_uds.specs.OkLine.{ok_text}
-use Rattle.vs_device.specs.State.{DeviceConnection, DeviceEntry}
+use Rattle.vs_device_parts.specs.State.{DeviceConnection, DeviceEntry}
 use Rattle.vs_pipes.specs.Drains.{Drains}
 use Rattle.vs_pipes.specs.Streamed.{gives}
-use Rattle.vs_proxy.specs.State.{Handshake, ProxyState}
+use Rattle.vs_proxy_parts.specs.State.{Handshake, ProxyState}
 use Rattle.vs_proxy_bytes.specs.Made.{Account, Made, account_of, new_account, payload_put, payload_taken}
 
 -- The OK line that a client's stream is given first.

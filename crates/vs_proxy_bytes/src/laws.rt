@@ -4,9 +4,9 @@ ghost use Rattle.std.specs.Prelude.{◌≡◌, ℕ, true, List, [], Some, Result
 ghost use Rattle.vs_contents.specs.CallTree.{Leads};
 ghost use Rattle.vs_flow.specs.declared.flow.Flow.{Flow};
 ghost use Rattle.vs_ring_port.specs.declared.failure.Failure.{Failure};
-ghost use Rattle.vs_proxy.specs.State.{ProxyState};
-ghost use Rattle.vs_proxy.specs.Turns.{new_proxy, proxy_reset_of, turn_of};
-ghost use Rattle.vs_proxy.specs.declared.answers.Turn.{Turn};
+ghost use Rattle.vs_proxy_parts.specs.State.{ProxyState};
+ghost use Rattle.vs_proxy_parts.specs.Turns.{new_proxy, proxy_reset_of, turn_of};
+ghost use Rattle.vs_proxy_parts.specs.declared.answers.Turn.{Turn};
 ghost use Rattle.vs_proxy_bytes.specs.Made.{Account, Made, Makes, account_of, is_on, payload_put, payload_taken};
 ghost use Rattle.vs_proxy_bytes.specs.Tied.{AccountsFor, IsGiven};
 

@@ -1,4 +1,4 @@
-use Rattle.vs_proxy.specs.Turns.{turn_of}
+use Rattle.vs_proxy_parts.specs.Turns.{turn_of}
 use Rattle.vs_play.proofs.Devices.{driven_still, turn_may, turn_played, turn_serves}
 use Rattle.vs_play.proofs.OverRings.{its_ring, may_as, ring_is, runs_as}
 use Rattle.vs_play.proofs.device.turn.Goals as goal

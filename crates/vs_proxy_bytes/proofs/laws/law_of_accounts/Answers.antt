@@ -1,4 +1,4 @@
-use Rattle.vs_proxy.specs.Turns.{proxy_reset_of, turn_of}
+use Rattle.vs_proxy_parts.specs.Turns.{proxy_reset_of, turn_of}
 use Rattle.vs_proxy_bytes.proofs.Keeping.{keeps_end}
 use Rattle.vs_proxy_bytes.proofs.Opening.{new_agrees}
 use Rattle.vs_proxy_bytes.proofs.Turning.{keeps_proxy_reset, keeps_turn}
