@@ -2,6 +2,7 @@
 use Rattle.std.specs.Prelude.{ℕ, List, None, false}
 use Rattle.vs_ring_port.specs.Contents.{RingContents}
 use Rattle.vs_ring_port.specs.declared.device_ring.Chain.{Chain}
+use Rattle.vs_proxy_parts.specs.State.{ProxyState}
 
 pub record RingState : Type 0 where
   pub size : ℕ
@@ -11,3 +12,8 @@ pub record RingState : Type 0 where
 -- A ring that exposes nothing.
 abbrev pub silent : RingContents
 silent = record { lists = None; log = None; other = None; plain = None; honest = false }
+
+-- A monitor's device: its proxy, and the ring.
+pub record MonitorState : Type 0 where
+  pub proxy : ProxyState
+  pub ring : RingState

@@ -3,9 +3,9 @@
 #![tactic(auto)]
 
 pub mod collector;
-
+pub mod monitor;
 pub mod queues;
 
 pub use collector::Collector;
-
+pub use monitor::{Monitor, Served};
 pub use queues::{MonitorRing, Popped, Virtqueues};
