@@ -1,11 +1,11 @@
 -- Over rings in a guest's memory and a host in memory each conversation has one end, unless the host found no memory.
-use Rattle.std.proofs.Common.{◌≡◌, ℕ, Bool, true, false, cond, nat_le, List, [], ◌∷◌, length, Option, Some, None, Result, unwrap_or, refl, sym, ap, subst, ◌∙◌, arith}
+use Rattle.std.proofs.Common.{◌≡◌, ℕ, Bool, true, false, cond, nat_le, List, length, Option, Some, None, Result, unwrap_or, refl, sym, ap, subst, ◌∙◌, arith}
 use Rattle.std.proofs.lemmas.Bool.{false≢true}
 use Rattle.std.proofs.lemmas.Bool.Decides.{nat_tests}
 use Rattle.std.specs.Prelude.{◌<◌, ◌≤◌}
-use Rattle.vs_contents.specs.CallTree.{Done, Ask, Leads, MayPlay, played}
+use Rattle.vs_contents.specs.CallTree.{Done, Ask, played}
 use Rattle.vs_flow.specs.declared.flow.Flow.{Flow}
-use Rattle.vs_outside.specs.Host.{HostContents, IsDialed, IsWritten, accept_answer, after_accept, after_close, after_dial, after_failed, after_label, after_read, after_shut_write, after_write, called, dial_answer, fails_now, next_bytes, read_answer, write_answer}
+use Rattle.vs_outside.specs.Host.{HostContents, IsDialed, IsWritten, after_accept, after_close, after_dial, after_failed, after_label, after_read, after_shut_write, after_write, called, dial_answer, fails_now, write_answer}
 use Rattle.vs_outside.specs.declared.host_net.Accepted.{Accepted}
 use Rattle.vs_outside.specs.declared.host_net.Accepted.TheVariants as accepted
 use Rattle.vs_outside.specs.declared.host_net.Dialed.{Dialed}
@@ -14,8 +14,8 @@ use Rattle.vs_outside.specs.declared.host_net.StreamRead.{StreamRead}
 use Rattle.vs_outside.specs.declared.host_net.StreamRead.TheVariants as read
 use Rattle.vs_outside.specs.declared.host_net.StreamWrite.{StreamWrite}
 use Rattle.vs_outside.specs.declared.host_net.StreamWrite.TheVariants as write
-use Rattle.vs_ring_port.specs.Contents.{RingContents, DeviceCall, DeviceAnswer, PlainState, Take, Read, Write, Return, Given, PublishCid, plain_after}
-use Rattle.vs_ring_port.specs.DeviceCalls.{CanReturn, DeviceAllows, DeviceMoves}
+use Rattle.vs_ring_port.specs.Contents.{RingContents, DeviceCall, DeviceAnswer, PlainState, Take, Read, Write, Return, Given, PublishCid}
+use Rattle.vs_ring_port.specs.DeviceCalls.{DeviceAllows, DeviceMoves}
 use Rattle.vs_ring_port.specs.EndLog.{EndLog}
 use Rattle.vs_ring_port.specs.Lists.{Rings}
 use Rattle.vs_ring_plain.specs.Device.{DeviceState, answer_to}

@@ -1,12 +1,12 @@
 -- What a hostile guest's script prints, and the status that it ends with, as a function of its bytes.
 use Rattle.std.specs.Prelude.{ℕ, List, [], ◌∷◌, ◌++◌, length, map, codes, decimal, Option, Some, None, Result, Ok, Err}
-use Rattle.vs_outside.specs.Host.{Stream}
 use Rattle.vs_proxy_parts.specs.declared.answers.Turn.{Turn}
 use Rattle.vs_proxy_parts.specs.declared.answers.Turn.TheVariants as turn
 use Rattle.vs_report.specs.Bytes.{data_text}
 use Rattle.vs_report.specs.DeviceLines.{failure_text, turned_text, reset_text}
 use Rattle.vs_report.specs.HostLines.{ok_text, client_text, write_text, stream_there_text}
 use Rattle.vs_report.specs.Report.{device_open_text, stream_texts}
+use Rattle.vs_report.specs.declared.giving.GiveError.{GiveError}
 use Rattle.vs_ring_port.specs.declared.failure.Failure.{Failure}
 use Rattle.vs_script.specs.Fault.{refused_text}
 use Rattle.vs_script.specs.Hostile.{Hostile}
@@ -71,11 +71,28 @@ printed lines s =
 abbrev pub refusal : Refused → Answer
 refusal r = record { lines = (refused_text r ++ codes "\n") ∷ []; status = 2 }
 
+-- The lines of a script, without their numbers. Scripts of other commands have none.
+abbrev pub lines_of : List (ℕ × Hostile) → List Hostile
+lines_of lines = map (λ l. l.1) lines
+
+abbrev pub lines_in : Saying → List Hostile
+lines_in (Attacks lines) = lines_of lines
+lines_in _ = []
+
+-- The answer of a hostile guest's lines.
+abbrev pub attack_of : List (ℕ × Hostile) → Answer
+attack_of lines = printed (lines_of lines) beginning
+
 abbrev pub answer_to : Result Saying Refused → Answer
-answer_to (Ok (Attacks lines)) = printed (map (λ l. l.1) lines) beginning
+answer_to (Ok (Attacks lines)) = attack_of lines
 answer_to (Ok _) = record { lines = []; status = 0 }
 answer_to (Err r) = refusal r
 
 -- The answer of the script that a text spells.
 abbrev pub hostile_of : List ℕ → Answer
 hostile_of script = answer_to (parse_of command.Hostile script)
+
+-- What is known of the lines where the status is known too.
+abbrev pub given : Result ℕ GiveError → Result (Unit {0}) GiveError
+given (Ok status) = Ok tt
+given (Err e) = Err e

@@ -1,7 +1,7 @@
 -- What a hostile guest does to the memory of the device's rings (Virtio 1.2, section 2.7).
 use Rattle.std.specs.Prelude.{ℕ, nat_lt, ◌&&◌, List, [], ◌++◌, length, if◌then◌else◌}
 use Rattle.byteorder.specs.Endian.{little_bytes}
-use Rattle.vs_guest_mem.specs.Memory.{Memory, after_write, bytes_at, is_inside}
+use Rattle.vs_guest_mem.specs.Memory.{after_write, bytes_at, is_inside}
 use Rattle.vs_header.specs.Packet.{header_bytes}
 use Rattle.vs_layout.specs.Entry.{desc_bytes}
 use Rattle.vs_layout.specs.Layout.{avail_entry, avail_idx, desc_entry}

@@ -7,3 +7,4 @@ pub mod Rows
 pub mod Whole
 pub mod Ready
 pub mod Rings
+pub mod World

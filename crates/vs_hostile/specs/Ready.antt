@@ -1,5 +1,5 @@
 -- What a run holds between two lines, and what it is for a line to be run.
-use Rattle.std.specs.Prelude.{◌≡◌, ℕ, false, List, [], ◌++◌, Some, None}
+use Rattle.std.specs.Prelude.{◌≡◌, ℕ, false, List, [], ◌∷◌, ◌++◌, Option, Some, None}
 use Rattle.vs_outside.specs.Host.{HostContents}
 use Rattle.vs_ring_port.specs.Contents.{RingContents}
 use Rattle.vs_ring_port.specs.declared.device_ring.Chain.{Chain}
@@ -25,7 +25,7 @@ silent = record { lists = None; log = None; other = None; plain = None; honest =
 abbrev pub IsServing : ProxyState → HostContents → Type 0
 IsServing p host = IsInOrder 3 p (situation silent (Some host) 0)
 
--- The chains that are held are the device's, and it has its streams.
+-- The chains that are held are the device's, and it has its streams. Without rings it holds no chain.
 pub record IsReady (s : HostileState) : Type 0 where
   pub ring : IsItsRing (held_in s.guest) s.proxy.device
   pub serving : IsServing s.proxy s.host
@@ -44,3 +44,13 @@ pub record HostSteps (line : Host) (old new : HostContents) (text text' : List �
 -- The rings, the proxy, the host and the moment.
 abbrev pub with_rings : DeviceState → ProxyState → HostContents → ℕ → HostileState
 with_rings ring proxy host now = record { guest = HasRings ring; proxy = proxy; host = host; now = now }
+
+-- A run: where its lines before have led, and the lines that are left.
+pub record RunState : Type 0 where
+  pub state : HostileState
+  pub rest : List Hostile
+
+-- The next line was run, and its text answered; or none is left, and nothing changes.
+abbrev pub StepsNext : RunState → RunState → Option (List ℕ) → Type 0
+StepsNext old new None = (old.rest ≡ []) × (new ≡ old)
+StepsNext old new (Some text) = (line : Hostile) × (old.rest ≡ line ∷ new.rest) × Steps line old.state new.state [] text

@@ -1,29 +1,29 @@
 -- A hostile guest's run: each line of its script, what it answers, and the report at the end.
-use Rattle.std.specs.Prelude.{ℕ, ◌+◌, ◌&&◌, nat_le, min, if◌then◌else◌, Bool, false, true, List, [], ◌∷◌, length, map, Option, None, Some, Result, Ok, Err, codes}
+use Rattle.std.specs.Prelude.{ℕ, ◌+◌, ◌&&◌, nat_le, min, if◌then◌else◌, Bool, List, [], ◌∷◌, length, map, Option, None, Some, Result, codes}
 use Rattle.vs_contents.specs.CallTree.{played}
 use Rattle.vs_flow.specs.declared.flow.Flow.{Flow}
-use Rattle.vs_guest_mem.specs.Memory.{Memory, zeroed}
-use Rattle.vs_layout.specs.Layout.{queue_areas_of}
+use Rattle.vs_layout.specs.declared.span.Span.{Span}
 use Rattle.vs_outside.specs.Host.{HostContents, with_stream}
 use Rattle.vs_outside.specs.HostProgram.{after_listen, after_unlisten, after_client, after_host_write, host_write_answer, has_stream, allowed, ended, closed, after_fail, new_host, plain}
 use Rattle.vs_outside.specs.HostBytes.{wrote_after_connect, read_after_ok}
 use Rattle.vs_outside.specs.declared.mem_stream.HostWritten.{HostWritten}
 use Rattle.vs_ring_port.specs.declared.failure.Failure.{Failure}
-use Rattle.vs_ring_plain.specs.Device.{DeviceState, new_device}
+use Rattle.vs_ring_plain.specs.Device.{DeviceState}
 use Rattle.vs_device_parts.specs.Calls.{DeviceTree}
 use Rattle.vs_proxy_parts.specs.State.{ProxyState}
 use Rattle.vs_proxy_parts.specs.Turns.{new_proxy, turn_of, proxy_reset_of}
 use Rattle.vs_proxy_parts.specs.declared.answers.Turn.{Turn}
 use Rattle.vs_script.specs.Hostile.{Hostile, Memory as SetMemory, Rings as SetRings, Look, Around as OfOutside}
 use Rattle.vs_script.specs.Outside.{Host, HostListen, HostUnlisten, HostWrite, HostAllow, HostEnd, HostClosed, HostFail, Outside, Turn as TakeTurn, Reset, Tick, Client, OfHost}
-use Rattle.vs_hostile.specs.Answers.{Around, answer_around}
+use Rattle.vs_hostile.specs.Answers.{answer_around}
 use Rattle.vs_script.specs.Data.{bytes_of}
 use Rattle.vs_hostile.specs.Guest.{guest_writes, looked}
+use Rattle.vs_hostile.specs.Rings.{rings_of}
 
--- The guest's memory as far as the script has set it up.
+-- The guest's memory as far as the script has set it up: nothing, where it lies, or the rings in it.
 pub data GuestState : Type 0 where
   Nothing : GuestState
-  HasMemory : Memory → GuestState
+  HasMemory : Span → GuestState
   HasRings : DeviceState → GuestState
 
 pub record HostileState : Type 0 where
@@ -76,19 +76,24 @@ over_rings (Look addr len) ring s = (s, Bytes (looked addr len ring))
 over_rings (OfOutside line) ring s = outside_does line ring s
 over_rings line ring s = (with_guest (HasRings (guest_writes line ring)) s, Done)
 
--- `memory`, then `rings`, then all other lines. A script has them in this order.
-abbrev pub first_line : Hostile → HostileState → HostileState × Said
-first_line (SetMemory span) s = (with_guest (HasMemory (zeroed span.at span.len)) s, Done)
-first_line _ s = (s, Done)
+-- `memory` says where the memory lies; no other line comes before it in a script.
+abbrev pub first_set_up : Hostile → GuestState
+first_set_up (SetMemory span) = HasMemory span
+first_set_up _ = Nothing
 
-abbrev pub second_line : Hostile → Memory → HostileState → HostileState × Said
-second_line (SetRings n) memory s =
-    (with_guest (HasRings (new_device memory n (queue_areas_of memory.base n) false)) s, Done)
-second_line _ memory s = (s, Done)
+-- `rings` makes the memory and the rings in it, where they fit; no other line comes before it in a script.
+abbrev pub rings_in : Span → Option DeviceState → GuestState
+rings_in memory (Some ring) = HasRings ring
+rings_in memory None = HasMemory memory
 
+abbrev pub second_set_up : Hostile → Span → GuestState
+second_set_up (SetRings n) memory = rings_in memory (rings_of memory n)
+second_set_up _ memory = HasMemory memory
+
+-- `memory`, then `rings`, then all other lines.
 abbrev pub line_in : GuestState → Hostile → HostileState → HostileState × Said
-line_in Nothing line s = first_line line s
-line_in (HasMemory memory) line s = second_line line memory s
+line_in Nothing line s = (with_guest (first_set_up line) s, Done)
+line_in (HasMemory memory) line s = (with_guest (second_set_up line memory) s, Done)
 line_in (HasRings ring) line s = over_rings line ring s
 
 abbrev pub hostile_does : Hostile → HostileState → HostileState × Said

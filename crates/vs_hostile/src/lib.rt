@@ -7,6 +7,10 @@ pub mod host_lines;
 pub mod lines;
 pub mod report;
 pub mod rings;
+pub mod run;
 pub mod turns;
 pub mod whole;
 pub mod worked;
+pub mod world;
+
+pub use run::{HostileRun, hostile};

@@ -82,8 +82,8 @@ fn give_guest_open<K: Sink>(entries: usize, text: &mut String, out: &mut K) -> R
     Ok(())
 }
 
-// Gives how many entries the device's table has.
-fn give_device_open<K: Sink>(
+/// Gives how many entries the device's table has.
+pub fn give_device_open<K: Sink>(
     entries: usize,
     text: &mut String,
     out: &mut K,
@@ -96,8 +96,8 @@ fn give_device_open<K: Sink>(
     Ok(())
 }
 
-// Gives what each stream's program wrote and read, numbered from 1 on.
-fn give_streams<K: Sink>(
+/// Gives what each stream's program wrote and read, numbered from 1 on.
+pub fn give_streams<K: Sink>(
     streams: &[MemStream],
     text: &mut String,
     out: &mut K,
