@@ -1,101 +1,142 @@
--- Where ring and host tell what they hold, a conversation that leads to an end is the one that is played over it.
-use Rattle.std.proofs.Common.{◌≡◌, ◌+◌, ◌≤◌, ◌<◌, ℕ, Bool, true, false, List, [], Option, Some, None, refl, sym, ap, ◌∙◌, subst, arith}
-use Rattle.std.proofs.lemmas.Bool.Decides.{nat_tests}
-use Rattle.vs_first_rings.specs.Rings.{Rings, posted, reaped_of, after_reap, next_of, after_next, bytes_held, after_write, after_done}
-use Rattle.vs_core.specs.Interaction.{Tree, Done, Ask, Leads, played}
-use Rattle.vs_core.specs.Outside.{Host, FaultRose, one_more, dial_failed, write_failed, after_close}
-use Rattle.vs_core.specs.declared.outside.Dialed.TheVariants as dialed
-use Rattle.vs_core.specs.declared.outside.Written.TheVariants as written
-use Rattle.vs_core.specs.Guest.{GuestPart}
-use Rattle.vs_core.specs.Device.{DevicePart}
-use Rattle.vs_core.specs.World.{World, guest_call, device_call}
-use Rattle.vs_core.specs.Driver.{RingCall, RingAnswer, GuestTree, Post, Reap, LoadCid}
-use Rattle.vs_core.specs.DeviceCalls.{DeviceCall, DeviceAnswer, DeviceTree, Take, Read, Write, Return, Dial, Give, Close}
-use Rattle.vs_core.specs.Told.{RingAllows, ring_answer, Situation, HostAllows, DeviceAllows, device_answer}
+-- Each conversation over the world's rings, and so each event, keeps what is under way between the two logs.
+use Rattle.std.proofs.Common.{◌≡◌, ℕ, ◌&&◌, Bool, true, false, List, [], ◌∷◌, ◌++◌, refl, sym, ap, ◌∙◌}
+use Rattle.vs_contents.specs.CallTree.{Done, Ask, played}
+use Rattle.vs_outside.specs.Host.{HostContents}
+use Rattle.vs_page.specs.Log.{Log, HasGotAll, events_put}
+use Rattle.vs_ring_port.specs.DriverCalls.{driver_answer}
+use Rattle.vs_ring_port.specs.EndLog.{EndLog}
+use Rattle.vs_ring_port.specs.Lists.{Rings}
+use Rattle.vs_driver_parts.specs.Conversations.{DriverTree, publish_of, new_of}
+use Rattle.vs_driver_parts.specs.declared.limits.TheConstants.{FIRST_PORT}
+use Rattle.vs_device_parts.specs.Streams.{tick_slot}
+use Rattle.vs_proxy_parts.specs.Handshakes.{accept_one, tick_handshake}
+use Rattle.vs_proxy_parts.specs.State.{start}
+use Rattle.vs_proxy_parts.specs.Turns.{proxy_reset_of}
+use Rattle.vs_ring_port.specs.declared.queue.Queue.TheVariants as queue
+use Rattle.vs_ring_list.specs.Ends.{Ends, empty_ends}
+use Rattle.vs_page.specs.Held.{packet_held, event_held, held_in}
+use Rattle.std.proofs.lemmas.List.{append-nil}
+use Rattle.vs_device_parts.specs.Calls.{DeviceTree, Call, Ring, Accept, Dial, Label, ReadStream, WriteStream, ShutWrite, CloseStream}
+use Rattle.vs_core.specs.Answers.{Around, answer_around}
+use Rattle.vs_core.specs.Events.{Event, GuestCalls, GuestTakes, GuestStages, GuestReplies, GuestPays, GuestPublishes, DeviceTakes, DeviceReturns, DevicePutsEvent, DeviceReplies, DeviceReads, DevicePays, DeviceWrites, DeviceShutsWrite, ProxyAccepts, ProxyReads, Moment, TimesOut, HandshakeTimesOut, Reset, HostListens, HostUnlistens, ClientConnects, HostWrites, HostTakes, HostEnds, HostCloses, HostFails, happens, run, where_possible, unless_failed, has_failed}
+use Rattle.vs_core.specs.Events.{is_guest_cid, reset_made, is_at_rest, works_on, holds, driver_step, device_step, proxy_step, call_made, line_read}
+use Rattle.vs_core.specs.GuestSteps.{makes_call, takes_page, stages_page, stages_reply, stages_owed}
+use Rattle.vs_core.specs.DeviceSteps.{takes_chain, returns, puts_event, puts_reply, puts_owed, puts_payload, writes, shuts_write}
+use Rattle.vs_core.specs.Calls.{is_right}
+use Rattle.vs_core.specs.Laws.{AreQueued, IsQueued}
+use Rattle.vs_core.specs.World.{World, driver_plays, device_plays, opening}
+use Rattle.vs_core.proofs.Queues.{driver_keeps, device_keeps}
 
--- what a call of a ring that tells is answered by, and leaves
-pub ring_played : (call : RingCall) (a : RingAnswer call) (w : Rings) (m : Option Rings) → RingAllows call a (Some w) m → (a ≡ (ring_answer call w).0) × (m ≡ Some (ring_answer call w).1)
-ring_played (Post to bytes) a w m h = (refl, h.1)
-ring_played (Reap from) a w m h = (h.0, h.1)
-ring_played LoadCid a w m h = (h.0, h.1)
+driver_played : {A : Type 0} (tree : DriverTree A) (lists : Rings) (log : EndLog) (device : Log) → AreQueued lists log.entries device
+    → let r = (played driver_answer tree (lists, log)).1 in AreQueued r.0 r.1.entries device
+driver_played (Done x) lists log device q = q
+driver_played (Ask call k) lists log device q =
+    let r = driver_answer call (lists, log) in driver_played (k r.0) r.1.0 r.1.1 device (driver_keeps call lists log device q)
 
-pub leads_ring : {A : Type 0} (tree : Tree RingCall RingAnswer A) (w : Rings) (x : A) (t : Option Rings) → Leads RingAllows tree (Some w) x t → (x ≡ (played ring_answer tree w).0) × (t ≡ Some (played ring_answer tree w).1)
-leads_ring (Done y) w x t h = (sym h.0, sym h.1)
-leads_ring {A} (Ask call k) w x t h =
-    let one = ring_played call h.0 w h.1 h.2 in
-    let rest = subst (λ (m : Option Rings). Leads RingAllows (k h.0) m x t) one.1 h.3 in
-    let there = subst (λ (a : RingAnswer call). Leads RingAllows (k a) (Some (ring_answer call w).1) x t) one.0 rest in
-    leads_ring (k (ring_answer call w).0) (ring_answer call w).1 x t there
+around_keeps : (call : Call) (driver : Log) (s : Around) → AreQueued s.lists driver s.log.entries
+    → let r = (answer_around call s).1 in AreQueued r.lists driver r.log.entries
+around_keeps (Ring call) driver s q = device_keeps call s.lists driver s.log q
+around_keeps Accept driver s q = q
+around_keeps (Dial path flow) driver s q = q
+around_keeps (Label stream flow) driver s q = q
+around_keeps (ReadStream stream n) driver s q = q
+around_keeps (WriteStream stream bytes) driver s q = q
+around_keeps (ShutWrite stream) driver s q = q
+around_keeps (CloseStream stream) driver s q = q
 
--- Faults are never counted back.
-one_more_above : (n : ℕ) → n ≤ one_more n
-one_more_above n = grind (arith, nat_tests)
+device_played : {A : Type 0} (tree : DeviceTree A) (driver : Log) (s : Around) → AreQueued s.lists driver s.log.entries
+    → let r = (played answer_around tree s).1 in AreQueued r.lists driver r.log.entries
+device_played (Done x) driver s q = q
+device_played (Ask call k) driver s q =
+    let r = answer_around call s in device_played (k r.0) driver r.1 (around_keeps call driver s q)
 
-host_faults : (failed : Bool) (old new : Situation) (P : Host → Type 0) (f : Host → Host) → HostAllows failed old new P f → old.faults ≤ new.faults
-host_faults true old new P f h = let e : new.faults ≡ one_more old.faults = h.1 in rw e (one_more_above old.faults)
-host_faults false old new P f h = let e : new.faults ≡ old.faults = h.1 in omega arith
+pub driver_plays_keeps : {A : Type 0} (tree : DriverTree A) (w : World) → IsQueued w.rings → IsQueued (driver_plays tree w).1.rings
+driver_plays_keeps tree w q = driver_played tree w.rings.lists w.rings.driver w.rings.device.entries q
 
-call_faults : (call : DeviceCall) (a : DeviceAnswer call) (old new : Situation) → DeviceAllows call a old new → old.faults ≤ new.faults
-call_faults (Take from) a old new h = let e : new.faults ≡ old.faults = h.1.1 in omega arith
-call_faults (Read chain place count) a old new h = let e : new.faults ≡ old.faults = h.1.1 in omega arith
-call_faults (Write chain place bytes) a old new h = let e : new.faults ≡ old.faults = h.1.1 in omega arith
-call_faults (Return chain len) a old new h = let e : new.faults ≡ old.faults = h.1.1 in omega arith
-call_faults (Dial path flow) a old new h = host_faults (dial_failed a) old new _ _ h
-call_faults (Give stream bytes) a old new h = host_faults (write_failed a) old new _ _ h
-call_faults (Close stream) a old new h = host_faults false old new _ _ h
+pub device_plays_keeps : {A : Type 0} (tree : DeviceTree A) (w : World) → IsQueued w.rings → IsQueued (device_plays tree w).1.rings
+device_plays_keeps tree w q =
+    device_played tree w.rings.driver.entries (record { lists = w.rings.lists; log = w.rings.device; host = w.host }) q
 
-pub leads_faults : {A : Type 0} (tree : Tree DeviceCall DeviceAnswer A) (s : Situation) (x : A) (t : Situation) → Leads DeviceAllows tree s x t → s.faults ≤ t.faults
-leads_faults (Done y) s x t h = let e : s.faults ≡ t.faults = ap (λ (u : Situation). u.faults) h.1 in omega arith
-leads_faults (Ask call k) s x t h = omega (arith, call_faults call h.0 s h.1 h.2, leads_faults (k h.0) h.1 x t h.3)
+possible_keeps : (possible : Bool) (step : World → World) (w : World) → IsQueued (step w).rings → IsQueued w.rings
+    → IsQueued (where_possible possible step w).rings
+possible_keeps true step w new old = new
+possible_keeps false step w new old = old
 
--- Both told, and no call of the host failed.
-abbrev pub telling : Rings × Host → Situation
-telling s = record { rings = Some s.0; host = Some s.1; faults = 0 }
+failed_keeps : (failed : Bool) (step : World → World) (w : World) → has_failed w ≡ failed → IsQueued (step w).rings → IsQueued w.rings
+    → IsQueued (unless_failed step w).rings
+failed_keeps true step w is new old = rw is old
+failed_keeps false step w is new old = rw is new
 
-same_situation : (m : Situation) (w : Rings) (h : Host) → m.rings ≡ Some w → m.host ≡ Some h → m.faults ≡ 0 → m ≡ telling (w, h)
-same_situation m w h a b c =
-    ap (λ (r : Option Rings). record { rings = r; host = m.host; faults = m.faults }) a
-    ∙ (ap (λ (r : Option Host). record { rings = Some w; host = r; faults = m.faults }) b
-    ∙ ap (λ (n : ℕ). record { rings = Some w; host = Some h; faults = n }) c)
+pub happens_keeps : (e : Event) (w : World) → IsQueued w.rings → IsQueued (happens e w).rings
+happens_keeps (GuestCalls call) w q =
+    possible_keeps (is_at_rest w.rings.driver.staged && is_right call) (λ v. (call_made call v).0) w (driver_plays_keeps (makes_call call w.driver) w q) q
+happens_keeps (GuestTakes queue) w q =
+    possible_keeps (works_on queue w.rings.driver.staged) (driver_step (takes_page queue)) w (driver_plays_keeps (takes_page queue w.driver) w q) q
+happens_keeps (GuestStages queue) w q =
+    possible_keeps (works_on queue w.rings.driver.staged) (driver_step (stages_page queue)) w
+    (driver_plays_keeps (stages_page queue w.driver) w q) q
+happens_keeps GuestReplies w q =
+    possible_keeps (works_on queue.Tx w.rings.driver.staged) (driver_step stages_reply) w (driver_plays_keeps (stages_reply w.driver) w q) q
+happens_keeps (GuestPays slot) w q =
+    possible_keeps (works_on queue.Tx w.rings.driver.staged) (driver_step (stages_owed slot)) w (driver_plays_keeps (stages_owed slot w.driver) w q) q
+happens_keeps (GuestPublishes queue) w q =
+    possible_keeps (works_on queue w.rings.driver.staged) (driver_step (publish_of queue)) w (driver_plays_keeps (publish_of queue w.driver) w q) q
+happens_keeps (DeviceTakes queue) w q =
+    failed_keeps (has_failed w) (device_step (takes_chain queue)) w refl (device_plays_keeps (takes_chain queue w.proxy.device) w q) q
+happens_keeps (DeviceReturns chain) w q =
+    possible_keeps (holds queue.Tx chain w) (device_step (returns chain)) w (device_plays_keeps (returns chain w.proxy.device) w q) q
+happens_keeps (DevicePutsEvent chain) w q =
+    possible_keeps (holds queue.Event chain w) (device_step (puts_event chain)) w (device_plays_keeps (puts_event chain w.proxy.device) w q) q
+happens_keeps DeviceReplies w q =
+    failed_keeps (has_failed w) (device_step puts_reply) w refl (device_plays_keeps (puts_reply w.proxy.device) w q) q
+happens_keeps (DeviceReads slot) w q =
+    failed_keeps (has_failed w) (device_step (puts_payload slot)) w refl (device_plays_keeps (puts_payload slot w.proxy.device) w q) q
+happens_keeps (DevicePays slot) w q =
+    failed_keeps (has_failed w) (device_step (puts_owed slot)) w refl (device_plays_keeps (puts_owed slot w.proxy.device) w q) q
+happens_keeps (DeviceWrites slot) w q =
+    failed_keeps (has_failed w) (device_step (writes slot)) w refl (device_plays_keeps (writes slot w.proxy.device) w q) q
+happens_keeps (DeviceShutsWrite slot) w q =
+    failed_keeps (has_failed w) (device_step (shuts_write slot)) w refl (device_plays_keeps (shuts_write slot w.proxy.device) w q) q
+happens_keeps ProxyAccepts w q =
+    failed_keeps (has_failed w) (proxy_step accept_one) w refl (device_plays_keeps (accept_one (start w.proxy)) w q) q
+happens_keeps (ProxyReads stream) w q =
+    failed_keeps (has_failed w) (proxy_step (line_read stream)) w refl (device_plays_keeps (line_read stream (start w.proxy)) w q) q
+happens_keeps (Moment now) w q = q
+happens_keeps (TimesOut slot) w q =
+    failed_keeps (has_failed w) (device_step (tick_slot slot)) w refl (device_plays_keeps (tick_slot slot w.proxy.device) w q) q
+happens_keeps (HandshakeTimesOut stream) w q =
+    failed_keeps (has_failed w) (proxy_step (tick_handshake stream)) w refl (device_plays_keeps (tick_handshake stream (start w.proxy)) w q) q
+happens_keeps (Reset cid) w q = possible_keeps (is_guest_cid cid) (reset_made cid) w (device_plays_keeps (proxy_reset_of cid w.proxy) w q) q
+happens_keeps (HostListens port) w q = q
+happens_keeps (HostUnlistens port) w q = q
+happens_keeps ClientConnects w q = q
+happens_keeps (HostWrites stream bytes) w q = q
+happens_keeps (HostTakes stream n) w q = q
+happens_keeps (HostEnds stream) w q = q
+happens_keeps (HostCloses stream) w q = q
+happens_keeps (HostFails n) w q = q
 
-host_played : (failed : Bool) (w : Rings) (h : Host) (m : Situation) (P : Host → Type 0) (f : Host → Host) → m.faults ≡ 0 → HostAllows failed (telling (w, h)) m P f → (failed ≡ false) × P h × (m ≡ telling (w, f h))
-host_played true w h m P f zero k = absurd (omega (arith, k.1, zero))
-host_played false w h m P f zero k = (refl, k.2.0, same_situation m w (f h) k.0 k.2.1 zero)
+pub run_keeps : (es : List Event) (w : World) → IsQueued w.rings → IsQueued (run es w).rings
+run_keeps [] w q = q
+run_keeps (e ∷ es) w q = run_keeps es (happens e w) (happens_keeps e w q)
 
-device_played : (call : DeviceCall) (a : DeviceAnswer call) (s : Rings × Host) (m : Situation) → m.faults ≡ 0 → DeviceAllows call a (telling s) m → (a ≡ (device_answer call s).0) × (m ≡ telling (device_answer call s).1)
-device_played (Take from) a s m zero h = (h.0.0, same_situation m _ _ h.0.1 h.1.0 zero)
-device_played (Read chain place count) a s m zero h = (h.0.0, same_situation m _ _ h.0.1 h.1.0 zero)
-device_played (Write chain place bytes) a s m zero h = (refl, same_situation m _ _ h.0.1 h.1.0 zero)
-device_played (Return chain len) a s m zero h = (refl, same_situation m _ _ h.0.1 h.1.0 zero)
-device_played (Dial path flow) a s m zero h = let k = host_played (dial_failed a) s.0 s.1 m _ _ zero h in (k.1.1, k.2)
-device_played (Give stream bytes) a s m zero h = let k = host_played (write_failed a) s.0 s.1 m _ _ zero h in (k.1.1, k.2)
-device_played (Close stream) a s m zero h = let k = host_played false s.0 s.1 m (λ h. Unit {0}) (after_close stream) zero h in (refl, k.2)
+pub opening_queued : (n : ℕ) (host : HostContents) → IsQueued (opening n host).rings
+opening_queued n host =
+    driver_played (new_of n FIRST_PORT 1) (empty_ends n).lists (empty_ends n).driver []
+    (record { tx = refl; rx = refl; event = refl; no_event = refl })
 
-pub leads_device : {A : Type 0} (tree : Tree DeviceCall DeviceAnswer A) (s : Rings × Host) (x : A) (t : Situation) → t.faults ≡ 0 → Leads DeviceAllows tree (telling s) x t → (x ≡ (played device_answer tree s).0) × (t ≡ telling (played device_answer tree s).1)
-leads_device (Done y) s x t zero h = (sym h.0, sym h.1)
-leads_device (Ask call k) s x t zero h =
-    let low : h.1.faults ≡ 0 = omega (arith, leads_faults (k h.0) h.1 x t h.3, zero) in
-    let one = device_played call h.0 s h.1 low h.2 in
-    let rest = subst (λ (m : Situation). Leads DeviceAllows (k h.0) m x t) one.1 h.3 in
-    let there = subst (λ (a : DeviceAnswer call). Leads DeviceAllows (k a) (telling (device_answer call s).1) x t) one.0 rest in
-    leads_device (k (device_answer call s).0) (device_answer call s).1 x t zero there
+-- What each end got is what the other put first.
+pub device_got : (rings : Ends) → IsQueued rings → HasGotAll rings.device.entries rings.driver.entries
+device_got rings q = record {
+  packets = (held_in packet_held rings.lists.tx.given, q.tx);
+  events = (
+    events_put rings.driver.entries,
+    sym (append-nil (events_put rings.driver.entries)) ∙ ap (λ ids. events_put rings.driver.entries ++ ids) (sym q.no_event),
+  );
+}
 
--- A call of the driver over rings that tell is the one of the world that has them.
-pub guest_called : {A : Type 0} (call : GuestPart → GuestTree (GuestPart × A)) (w : World) (g : GuestPart) (x : A) (r : Rings) → Leads RingAllows (call w.guest) (Some w.rings) (g, x) (Some r) → (record w { guest = g; rings = r }, x) ≡ guest_call call w
-guest_called {A} call w g x r h =
-    let e = leads_ring (call w.guest) w.rings (g, x) (Some r) h in
-    let rings : r ≡ (played ring_answer (call w.guest) w.rings).1 = cc (e.1) in
-    ap (λ (p : (GuestPart × A) × Rings). (record w { guest = p.0.0; rings = p.1 }, p.0.1)) (ap (λ (p : GuestPart × A). (p, r)) e.0 ∙ ap (λ (q : Rings). ((played ring_answer (call w.guest) w.rings).0, q)) rings)
-
--- The same of a call of the device, where no call of the host failed so far.
-pub device_called : {A : Type 0} (call : DevicePart → DeviceTree (DevicePart × A)) (w : World) (d : DevicePart) (x : A) (r : Rings) (host : Host) (old new : ℕ) → new ≡ 0 → Leads DeviceAllows (call w.device) (record { rings = Some w.rings; host = Some w.host; faults = old }) (d, x) (record { rings = Some r; host = Some host; faults = new }) → (record w { device = d; rings = r; host = host }, x) ≡ device_call call w
-device_called {A} call w d x r host old new zero h =
-    let low : old ≡ 0 = omega (arith, leads_faults (call w.device) _ (d, x) _ h, zero) in
-    let from = subst (λ (n : ℕ). Leads DeviceAllows (call w.device) (record { rings = Some w.rings; host = Some w.host; faults = n }) (d, x) (record { rings = Some r; host = Some host; faults = new })) low h in
-    let e = leads_device (call w.device) (w.rings, w.host) (d, x) (record { rings = Some r; host = Some host; faults = new }) zero from in
-    let rings : r ≡ (played device_answer (call w.device) (w.rings, w.host)).1.0 = cc (ap (λ (s : Situation). s.rings) e.1) in
-    let hosts : host ≡ (played device_answer (call w.device) (w.rings, w.host)).1.1 = cc (ap (λ (s : Situation). s.host) e.1) in
-    ap (λ (p : (DevicePart × A) × (Rings × Host)). (record w { device = p.0.0; rings = p.1.0; host = p.1.1 }, p.0.1))
-    (ap (λ (p : DevicePart × A). (p, (r, host))) e.0
-    ∙ (ap (λ (q : Rings). ((played device_answer (call w.device) (w.rings, w.host)).0, (q, host))) rings
-    ∙ ap (λ (q : Host). ((played device_answer (call w.device) (w.rings, w.host)).0, ((played device_answer (call w.device) (w.rings, w.host)).1.0, q))) hosts))
+pub driver_got : (rings : Ends) → IsQueued rings → HasGotAll rings.driver.entries rings.device.entries
+driver_got rings q = record {
+  packets = (held_in packet_held rings.lists.rx.back, q.rx);
+  events = (held_in event_held rings.lists.event.back, q.event);
+}

@@ -1,59 +1,368 @@
--- What the steps of a poll come to.
-use Rattle.std.proofs.Common.{◌≡◌, ◌≢◌, ℕ, suc, ◌<◌, ◌≤◌, ◌+◌, ◌-◌, ◌==◌, Bool, true, false, List, [], ◌∷◌, ◌++◌, length, Option, Some, None, refl, sym, ap, ◌∙◌, subst, arith}
-use Rattle.std.specs.Prelude.{nat_le}
-use Rattle.std.proofs.lemmas.Bool.Decides.{nat_tests}
-use Rattle.vs_first_rings.specs.Rings.{Rings}
-use Rattle.vs_first_rings.specs.declared.ring_port.Queue.TheVariants as queue
-use Rattle.vs_core.specs.declared.driver.Polled.{Polled}
-use Rattle.vs_core.specs.Interaction.{Tree, Done, Ask, bind, Leads}
-use Rattle.vs_core.specs.Guest.{GuestPart, received}
-use Rattle.vs_core.specs.Driver.{RingCall, RingAnswer, Post, Reap, GuestTree, take_rx_of, take_rx_up_to, reap_all, reply_of, reply_up_to, pay_each, poll_of}
-use Rattle.vs_core.specs.Told.{RingAllows}
-use Rattle.vs_core.proofs.Leads.{leads_of, leads_done, leads_ask, leads_bind}
+-- A poll of the driver's is a list of events.
+use Rattle.std.proofs.Common.{◌≡◌, ℕ, zero, suc, ◌+◌, ◌==◌, ◌&&◌, nat_le, nat_lt, Bool, true, false, cond, List, [], ◌∷◌, length, Option, Some, None, refl, sym, ap, subst, ◌∙◌}
+use Rattle.vs_contents.specs.CallTree.{Done, Ask, bind, for_each, played, while_up_to}
+use Rattle.vs_conn.specs.End.{owes_of}
+use Rattle.vs_conn.specs.declared.end.Owed.{Owed}
+use Rattle.vs_flow.specs.Table.{entry_under, slots}
+use Rattle.vs_replies.specs.declared.Reply.{Reply}
+use Rattle.vs_ring_port.specs.DriverCalls.{driver_answer, LoadCid, Publish, Reap, Stage}
+use Rattle.vs_ring_port.specs.EndLog.{EndLog, Pages, log_reaped}
+use Rattle.vs_ring_port.specs.Lists.{Rings, after_reap, oldest}
+use Rattle.vs_ring_port.specs.declared.queue.Queue.{Queue}
+use Rattle.vs_ring_port.specs.declared.queue.Queue.TheVariants as q
+use Rattle.vs_header.specs.Packet.{header_bytes}
+use Rattle.vs_conn.specs.declared.end.TheConstants.{OWED_MAX}
+use Rattle.vs_driver_parts.specs.Conversations.{all_taken, pay_all, pay_and_publish, pay_slot, poll_of, poll_packets, poll_puts, poll_reaps, polled, publish_and_pay, put_all, put_replies, reap_all, take_all}
+use Rattle.vs_driver_parts.specs.Conversations.{after_paying, has_page, one_more_in_flight, one_put, owed_bytes, put_owed_of, put_reply_of, reply_header, stage_packet}
+use Rattle.vs_ring_port.specs.EndLog.{with_pages}
+use Rattle.vs_driver_parts.specs.Conversations.{DriverTree, Round, event_reaped, goes_on_with, packet_reaped, publish_of, published, put_owed, put_reply, stage_of, staged_again, start, take_event, take_packet}
+use Rattle.vs_driver_parts.specs.Receiving.{after_reset, is_reset_event, on_page}
+use Rattle.vs_driver_parts.specs.State.{DriverEntry, DriverState}
+use Rattle.vs_driver_parts.specs.declared.limits.TheConstants.{REPLIES_FULL}
+use Rattle.vs_core.specs.Events.{Event, GuestPays, GuestPublishes, GuestReplies, GuestStages, GuestTakes, driver_step, happens, is_at_rest, none_staged, works_on}
+use Rattle.vs_core.specs.GuestSteps.{event_came, packet_came, stages_owed, stages_page, stages_reply, takes_page}
+use Rattle.vs_core.specs.Steps.{Leads}
+use Rattle.vs_core.specs.World.{World}
+use Rattle.vs_core.proofs.GuestLines.{leads_none, leads_one, leads_then, played_bind, possible_is, reaps_all, with_driver}
 
-abbrev taken_or_not : GuestPart → Option (List ℕ) → GuestTree (GuestPart × Bool)
-taken_or_not g page = elim page [ None ↦ Done (g, false) | Some bytes ↦ Ask (Post queue.Rx []) (λ _. Done (received bytes g, true)) ]
+-- Events lead to this driver and these rings, and only that queue is worked on.
+pub record Does (queue : Queue) (w : World) (s : DriverState) (r : Rings × EndLog) : Type 0 where
+  pub leads : Leads w (with_driver s r w)
+  pub works : works_on queue r.1.staged ≡ true
 
-take_asks : (g : GuestPart) → length g.replies < 64 → take_rx_of g ≡ Ask (Reap queue.Rx) (taken_or_not g)
-take_asks g room = let e : nat_le 64 (length g.replies) ≡ false = grind (arith, nat_tests) in rw e refl
+abbrev plays : {A : Type 0} → DriverTree A → World → A × (Rings × EndLog)
+plays tree w = played driver_answer tree (w.rings.lists, w.rings.driver)
 
--- a packet was there: it was taken, and its page posted again
-pub took_one : (g h : GuestPart) (page : List ℕ) (r s t : Option Rings) → length g.replies < 64 → h ≡ received page g → RingAllows (Reap queue.Rx) (Some page) r s → RingAllows (Post queue.Rx []) tt s t → Leads RingAllows (take_rx_of g) r (h, true) t
-took_one g h page r s t room after reaped posted =
-    leads_of RingAllows _ _ r t (h, true) (take_asks g room) (Some page, s, reaped, (tt, t, posted, (ap (λ (k : GuestPart). (k, true)) (sym after), refl)))
+does_nothing : (queue : Queue) (w : World) → works_on queue w.rings.driver.staged ≡ true
+    → Does queue w w.driver (w.rings.lists, w.rings.driver)
+does_nothing queue w works = record { leads = leads_none w w refl; works = works }
 
-module _ (n k count : ℕ) (g h : GuestPart) (r s : Option Rings) (left : k < n) where
-  take_next : take_rx_up_to (n - k) count g ≡ bind (take_rx_of g) (λ x. elim x.1 [ true ↦ take_rx_up_to (n - (k + 1)) (count + 1) x.0 | false ↦ Done (x.0, count) ])
-  take_next = let e : n - k ≡ suc (n - (k + 1)) = omega arith in ap (λ (m : ℕ). take_rx_up_to m count g) e
+-- One conversation after another.
+does_then : {A B : Type 0} (queue : Queue) (w : World) (p : DriverTree A) (f : A → DriverTree B) (state_of : B → DriverState) (middle : A → DriverState)
+    → (let r = plays p w in Does queue w (middle r.0) r.1)
+    → (let r = plays p w in let v = with_driver (middle r.0) r.1 w in let x = plays (f r.0) v in Does queue v (state_of x.0) x.1)
+    → (let r = plays (bind p f) w in Does queue w (state_of r.0) r.1)
+does_then queue w p f state_of middle first then_ =
+    subst (λ x. Does queue w (state_of x.0) x.1) (sym (played_bind p f (w.rings.lists, w.rings.driver))) (record {
+      leads = leads_then w _ _ first.leads then_.leads;
+      works = then_.works;
+    })
 
-  -- while some may be there, one is taken next
-  pub take_more : (x : GuestPart × ℕ) (t : Option Rings) → Leads RingAllows (take_rx_of g) r (h, true) s → Leads RingAllows (take_rx_up_to (n - (k + 1)) (count + 1) h) s x t → Leads RingAllows (take_rx_up_to (n - k) count g) r x t
-  take_more x t one rest = leads_of RingAllows _ _ r t x take_next (leads_bind RingAllows (take_rx_of g) _ r s t (h, true) x one rest)
+-- A step of a round, over any count.
+abbrev round : DriverState → ℕ → Bool → Round
+round s count reset = record { state = s; count = count; reset = reset }
 
-  pub take_stop : Leads RingAllows (take_rx_of g) r (h, false) s → Leads RingAllows (take_rx_up_to (n - k) count g) r (h, count) s
-  take_stop one = leads_of RingAllows _ _ r s (h, count) take_next (leads_bind RingAllows (take_rx_of g) _ r s s (h, false) (h, count) one (leads_done RingAllows (h, count) s))
+abbrev StepDoes : Queue → (Round → DriverTree (Round × Bool)) → Type 0
+StepDoes queue step = (w : World) (count : ℕ) (reset : Bool) → works_on queue w.rings.driver.staged ≡ true
+    → let r = plays (step (round w.driver count reset)) w in Does queue w r.0.0.state r.1
 
-  reply_next : reply_up_to (n - k) count g ≡ bind (reply_of g) (λ x. elim x.1 [ true ↦ reply_up_to (n - (k + 1)) (count + 1) x.0 | false ↦ Done (x.0, count) ])
-  reply_next = let e : n - k ≡ suc (n - (k + 1)) = omega arith in ap (λ (m : ℕ). reply_up_to m count g) e
+does_while : (queue : Queue) (step : Round → DriverTree (Round × Bool)) → StepDoes queue step → (n : ℕ) (w : World) (count : ℕ) (reset : Bool)
+    → works_on queue w.rings.driver.staged ≡ true
+    → let r = plays (while_up_to n step (round w.driver count reset)) w in Does queue w r.0.state r.1
+does_while queue step does zero w count reset works = does_nothing queue w works
+does_while queue step does (suc n) w count reset works =
+    let one = does w count reset works in
+    let r = plays (step (round w.driver count reset)) w in
+    does_then queue w (step (round w.driver count reset))
+    (λ r. elim r.1 as (λ _. DriverTree Round) [ true ↦ while_up_to n step r.0 | false ↦ Done r.0 ]) (λ r. r.state) (λ r. r.0.state) one
+    (more r.0.1 (does_while queue step does n (with_driver r.0.0.state r.1 w) r.0.0.count r.0.0.reset one.works) (does_nothing queue _ one.works))
+  where
+    more : (b : Bool) → (let r = plays (step (round w.driver count reset)) w in let v = with_driver r.0.0.state r.1 w in
+        let x = plays (while_up_to n step r.0.0) v in Does queue v x.0.state x.1)
+        → (let r = plays (step (round w.driver count reset)) w in let v = with_driver r.0.0.state r.1 w in Does queue v r.0.0.state r.1)
+        → (let r = plays (step (round w.driver count reset)) w in let v = with_driver r.0.0.state r.1 w in
+        let x = plays (elim b as (λ _. DriverTree Round) [ true ↦ while_up_to n step r.0.0 | false ↦ Done r.0.0 ]) v in Does queue v x.0.state x.1)
+    more true rest none = rest
+    more false rest none = none
 
-  -- while some may be owed, one is put next
-  pub reply_more : (x : GuestPart × ℕ) (t : Option Rings) → Leads RingAllows (reply_of g) r (h, true) s → Leads RingAllows (reply_up_to (n - (k + 1)) (count + 1) h) s x t → Leads RingAllows (reply_up_to (n - k) count g) r x t
-  reply_more x t one rest = leads_of RingAllows _ _ r t x reply_next (leads_bind RingAllows (reply_of g) _ r s t (h, true) x one rest)
+-- A step that is one event.
+one_event : (queue : Queue) (e : Event) (step : DriverState → DriverTree DriverState) (w : World) (s : DriverState) (r : Rings × EndLog)
+    → works_on queue w.rings.driver.staged ≡ true → happens e w ≡ driver_step step w
+    → (let x = plays (step w.driver) w in with_driver x.0 x.1 w ≡ with_driver s r w) → works_on queue r.1.staged ≡ true → Does queue w s r
+one_event queue e step w s r works is same after = record { leads = leads_one e w _ (is ∙ same); works = after }
 
-  pub reply_stop : Leads RingAllows (reply_of g) r (h, false) s → Leads RingAllows (reply_up_to (n - k) count g) r (h, count) s
-  reply_stop one = leads_of RingAllows _ _ r s (h, count) reply_next (leads_bind RingAllows (reply_of g) _ r s s (h, false) (h, count) one (leads_done RingAllows (h, count) s))
+-- The same step in any round does the same.
+record IsSame (w : World) (x : DriverState × (Rings × EndLog)) (s : DriverState) (r : Rings × EndLog) : Type 0 where
+  same : with_driver x.0 x.1 w ≡ with_driver s r w
+  works : works_on q.Tx r.1.staged ≡ true
 
--- the four stages of a poll
-pub polls : (g a b d e : GuestPart) (took replied posted : ℕ) (r s t u v : Option Rings)
-    → Leads RingAllows (take_rx_up_to g.size 0 g) r (a, took) s
-    → Leads RingAllows (reap_all a) s b t
-    → Leads RingAllows (reply_up_to (length b.replies) 0 b) t (d, replied) u
-    → Leads RingAllows (pay_each [] d.slots replied d) u (e, posted) v
-    → Leads RingAllows (poll_of g) r (e, record { took = took; posted = posted }) v
-polls g a b d e took replied posted r s t u v takes reaps replies pays =
-    let x : GuestPart × Polled = (e, record { took = took; posted = posted }) in
-    leads_bind RingAllows (take_rx_up_to g.size 0 g) _ r s v (a, took) x takes
-    (leads_bind RingAllows (reap_all a) _ s t v b x reaps
-    (leads_bind RingAllows (reply_up_to (length b.replies) 0 b) _ t u v (d, replied) x replies
-    (leads_bind RingAllows (pay_each [] d.slots replied d) _ u v v (e, posted) x pays
-    (leads_done RingAllows x v))))
+abbrev Alike : World → ℕ → Bool → (Round → DriverTree (Round × Bool)) → Type 0
+Alike w count reset step =
+    let r = plays (step (round w.driver count reset)) w in
+    IsSame w (plays (bind (step (start w.driver)) (λ r. Done r.0.state)) w) r.0.0.state r.1
+
+staged_alike : (w : World) (count : ℕ) (reset : Bool) → works_on q.Tx w.rings.driver.staged ≡ true → (bytes : List ℕ) (t : DriverState)
+    → Alike w count reset (λ r. bind (stage_packet bytes t) (one_put r))
+staged_alike w count reset works bytes t = by (t.staged + 1 == 16)
+  where
+    by : (b : Bool) → Alike w count reset (λ r. bind (Ask (Stage q.Tx bytes) (λ _. cond b
+        (Ask (Publish q.Tx) (λ _. Done (record (one_more_in_flight t) { staged = 0 })))
+        (Done (record (one_more_in_flight t) { staged = t.staged + 1 })))) (one_put r))
+    by true = record { same = refl; works = works }
+    by false = record { same = refl; works = works }
+
+reply_alike : (w : World) (count : ℕ) (reset : Bool) → works_on q.Tx w.rings.driver.staged ≡ true → Alike w count reset put_reply
+reply_alike w count reset works = by w.driver.replies
+  where
+    with_page : (reply : Reply) (rest : List Reply) (b : Bool) → Alike w count reset (λ r. cond b
+        (bind (stage_packet (header_bytes (reply_header w.driver.cid reply)) (record w.driver { replies = rest })) (one_put r)) (Done (r, false)))
+    with_page reply rest true = staged_alike w count reset works (header_bytes (reply_header w.driver.cid reply)) (record w.driver { replies = rest })
+    with_page reply rest false = record { same = refl; works = works }
+
+    by : (rs : List Reply) → Alike w count reset (put_reply_of rs)
+    by [] = record { same = refl; works = works }
+    by (reply ∷ rest) = with_page reply rest (has_page w.driver)
+
+owed_alike : (slot : ℕ) (w : World) (count : ℕ) (reset : Bool) → works_on q.Tx w.rings.driver.staged ≡ true → Alike w count reset (put_owed slot)
+owed_alike slot w count reset works = by (entry_under w.driver.table slot)
+  where
+    with_page : (e : DriverEntry) (what : Owed) (b : Bool) → Alike w count reset (λ r. cond b
+        (bind (stage_packet (owed_bytes what e w.driver) (after_paying what e w.driver)) (one_put r)) (Done (r, false)))
+    with_page e what true = staged_alike w count reset works (owed_bytes what e w.driver) (after_paying what e w.driver)
+    with_page e what false = record { same = refl; works = works }
+
+    owing : (e : DriverEntry) (o : Option Owed) → Alike w count reset (λ r. elim o as (λ _. DriverTree (Round × Bool)) [
+      | None ↦ Done (r, false)
+      | Some what ↦ put_owed_of what e r
+    ])
+    owing e None = record { same = refl; works = works }
+    owing e (Some what) = with_page e what (has_page w.driver)
+
+    by : (o : Option DriverEntry) → Alike w count reset (λ r. elim o as (λ _. DriverTree (Round × Bool)) [
+      | None ↦ Done (r, false)
+      | Some e ↦ elim (owes_of e.value.end) as (λ _. DriverTree (Round × Bool)) [ None ↦ Done (r, false) | Some what ↦ put_owed_of what e r ]
+    ])
+    by None = record { same = refl; works = works }
+    by (Some e) = owing e (owes_of e.value.end)
+
+reply_does : StepDoes q.Tx put_reply
+reply_does w count reset works =
+    let alike = reply_alike w count reset works in
+    one_event q.Tx GuestReplies stages_reply w _ _ works (possible_is (works_on q.Tx w.rings.driver.staged) (driver_step stages_reply) w works)
+    alike.same alike.works
+
+owed_does : (slot : ℕ) → StepDoes q.Tx (put_owed slot)
+owed_does slot w count reset works =
+    let alike = owed_alike slot w count reset works in
+    one_event q.Tx (GuestPays slot) (stages_owed slot) w _ _ works
+    (possible_is (works_on q.Tx w.rings.driver.staged) (driver_step (stages_owed slot)) w works) alike.same alike.works
+
+-- Pages are published.
+publishes_does : (queue : Queue) (w : World) → works_on queue w.rings.driver.staged ≡ true
+    → let r = plays (publish_of queue w.driver) w in Does queue w r.0 r.1
+publishes_does queue w works =
+    one_event queue (GuestPublishes queue) (publish_of queue) w _ _ works
+    (possible_is (works_on queue w.rings.driver.staged) (driver_step (publish_of queue)) w works) refl (still_works queue w.rings.driver.staged works)
+  where
+    still_works : (queue : Queue) (staged : Pages) → works_on queue staged ≡ true → works_on queue (with_pages queue [] staged) ≡ true
+    still_works q.Rx staged works = works
+    still_works q.Tx staged works = works
+    still_works q.Event staged works = works
+
+-- A page without a packet is staged.
+stages_does : (queue : Queue) (w : World) → works_on queue w.rings.driver.staged ≡ true
+    → let r = plays (stages_page queue w.driver) w in Does queue w r.0 r.1
+stages_does queue w works =
+    one_event queue (GuestStages queue) (stages_page queue) w _ _ works
+    (possible_is (works_on queue w.rings.driver.staged) (driver_step (stages_page queue)) w works) refl (still_works queue works)
+  where
+    rx_by : (b : Bool) → works_on q.Rx w.rings.driver.staged ≡ true → works_on q.Rx (plays (Ask (Stage q.Rx []) (λ _. cond b
+        (Ask (Publish q.Rx) (λ _. Done (record w.driver { staged = 0 }))) (Done (record w.driver { staged = w.driver.staged + 1 })))) w).1.1.staged ≡ true
+    rx_by true works = works
+    rx_by false works = works
+
+    event_by : (b : Bool) → works_on q.Event w.rings.driver.staged ≡ true → works_on q.Event (plays (Ask (Stage q.Event []) (λ _. cond b
+        (Ask (Publish q.Event) (λ _. Done (record w.driver { staged = 0 }))) (Done (record w.driver { staged = w.driver.staged + 1 })))) w).1.1.staged ≡ true
+    event_by true works = works
+    event_by false works = works
+
+    still_works : (queue : Queue) → works_on queue w.rings.driver.staged ≡ true → works_on queue (plays (stages_page queue w.driver) w).1.1.staged ≡ true
+    still_works q.Rx works = rx_by (w.driver.staged + 1 == 16) works
+    still_works q.Tx works = works
+    still_works q.Event works = event_by (w.driver.staged + 1 == 16) works
+
+-- A page that was taken is staged again.
+again_rx : (w : World) (count : ℕ) (reset : Bool) → works_on q.Rx w.rings.driver.staged ≡ true
+    → let r = plays (staged_again q.Rx (round w.driver count reset)) w in Does q.Rx w r.0.0.state r.1
+again_rx w count reset works =
+    let one = stages_does q.Rx w works in
+    does_then q.Rx w (stage_of q.Rx [] w.driver) (goes_on_with (round w.driver count reset)) (λ r. r.0.state) (λ s. s) one (does_nothing q.Rx _ one.works)
+
+again_event : (w : World) (count : ℕ) (reset : Bool) → works_on q.Event w.rings.driver.staged ≡ true
+    → let r = plays (staged_again q.Event (round w.driver count reset)) w in Does q.Event w r.0.0.state r.1
+again_event w count reset works =
+    let one = stages_does q.Event w works in
+    does_then q.Event w (stage_of q.Event [] w.driver) (goes_on_with (round w.driver count reset)) (λ r. r.0.state) (λ s. s) one
+    (does_nothing q.Event _ one.works)
+
+takes_leads : (queue : Queue) (w : World) → works_on queue w.rings.driver.staged ≡ true → Leads w (driver_step (takes_page queue) w)
+takes_leads queue w works =
+    leads_one (GuestTakes queue) w _ (possible_is (works_on queue w.rings.driver.staged) (driver_step (takes_page queue)) w works)
+
+-- One packet.
+packet_does : StepDoes q.Rx take_packet
+packet_does w count reset works = by (nat_le REPLIES_FULL (length w.driver.replies)) (takes_leads q.Rx w works)
+  where
+    came : (o : Option (List ℕ)) → Leads w (with_driver (packet_came o w.driver) (after_reap q.Rx w.rings.lists, log_reaped q.Rx o w.rings.driver) w)
+        → (let r = played driver_answer (packet_reaped (round w.driver count reset) o) (after_reap q.Rx w.rings.lists, log_reaped q.Rx o w.rings.driver) in
+        Does q.Rx w r.0.0.state r.1)
+    came None leads = record { leads = leads; works = works }
+    came (Some page) leads =
+        let v = with_driver (on_page page w.driver) (after_reap q.Rx w.rings.lists, log_reaped q.Rx (Some page) w.rings.driver) w in
+        let again = again_rx v (count + 1) reset works in
+        record { leads = leads_then w v _ leads again.leads; works = again.works }
+
+    by : (b : Bool) → (let x = plays (cond b (Done w.driver) (Ask (Reap q.Rx) (λ page. Done (packet_came page w.driver)))) w in Leads w (with_driver x.0 x.1 w))
+        → (let r = plays (cond b (Done (round w.driver count reset, false)) (Ask (Reap q.Rx) (packet_reaped (round w.driver count reset)))) w in
+        Does q.Rx w r.0.0.state r.1)
+    by true leads = does_nothing q.Rx w works
+    by false leads = came (oldest w.rings.lists.rx.back) leads
+
+-- One event.
+event_does : StepDoes q.Event take_event
+event_does w count reset works = by (nat_lt REPLIES_FULL (length w.driver.replies)) (takes_leads q.Event w works)
+  where
+    taken : (page : List ℕ) (b : Bool)
+        → (let s : Rings × EndLog = (after_reap q.Event w.rings.lists, log_reaped q.Event (Some page) w.rings.driver) in
+        let x = played driver_answer (bind (cond b (Ask LoadCid (λ cid. Done (record (start w.driver) { state = after_reset cid w.driver; count = 1; reset = true })))
+        (Done (record (start w.driver) { count = 1 }))) (λ (r : Round). Done r.state)) s in Leads w (with_driver x.0 x.1 w))
+        → (let s : Rings × EndLog = (after_reap q.Event w.rings.lists, log_reaped q.Event (Some page) w.rings.driver) in
+        let r = played driver_answer (bind (cond b
+        (Ask LoadCid (λ cid. Done (record (round w.driver count reset) { state = after_reset cid w.driver; count = count + 1; reset = true })))
+        (Done (record (round w.driver count reset) { count = count + 1 }))) (staged_again q.Event)) s in Does q.Event w r.0.0.state r.1)
+    taken page true leads =
+        let again = again_event _ (count + 1) true works in record { leads = leads_then w _ _ leads again.leads; works = again.works }
+    taken page false leads =
+        let again = again_event _ (count + 1) reset works in record { leads = leads_then w _ _ leads again.leads; works = again.works }
+
+    came : (o : Option (List ℕ)) → (let x = played driver_answer (event_came o w.driver) (after_reap q.Event w.rings.lists, log_reaped q.Event o w.rings.driver) in
+        Leads w (with_driver x.0 x.1 w))
+        → (let r = played driver_answer (event_reaped (round w.driver count reset) o) (after_reap q.Event w.rings.lists, log_reaped q.Event o w.rings.driver) in
+        Does q.Event w r.0.0.state r.1)
+    came None leads = record { leads = leads; works = works }
+    came (Some page) leads = taken page (is_reset_event page) leads
+
+    by : (b : Bool) → (let x = plays (cond b (Done w.driver) (Ask (Reap q.Event) (λ page. event_came page w.driver))) w in Leads w (with_driver x.0 x.1 w))
+        → (let r = plays (cond b (Done (round w.driver count reset, false)) (Ask (Reap q.Event) (event_reaped (round w.driver count reset)))) w in
+        Does q.Event w r.0.0.state r.1)
+    by true leads = does_nothing q.Event w works
+    by false leads = came (oldest w.rings.lists.event.back) leads
+
+-- Nothing is left staged.
+pub record Rests (w : World) (s : DriverState) (r : Rings × EndLog) : Type 0 where
+  pub leads : Leads w (with_driver s r w)
+  pub rest : is_at_rest r.1.staged ≡ true
+
+all_three : (a b c : Bool) → a ≡ true → b ≡ true → c ≡ true → (a && b && c) ≡ true
+all_three true true true x y z = refl
+all_three false b c x y z = absurd cc
+all_three true false c x y z = absurd cc
+all_three true true false x y z = absurd cc
+
+both_true : (a b : Bool) → (a && b) ≡ true → (a ≡ true) × (b ≡ true)
+both_true true b is = (refl, is)
+both_true false b is = absurd cc
+
+pub published_rests : (queue : Queue) (staged : Pages) → works_on queue staged ≡ true → is_at_rest (with_pages queue [] staged) ≡ true
+published_rests q.Rx staged works = let w = both_true (none_staged staged.tx) (none_staged staged.event) works in all_three _ _ _ refl w.0 w.1
+published_rests q.Tx staged works = let w = both_true (none_staged staged.rx) (none_staged staged.event) works in all_three _ _ _ w.0 refl w.1
+published_rests q.Event staged works = let w = both_true (none_staged staged.rx) (none_staged staged.tx) works in all_three _ _ _ w.0 w.1 refl
+
+pub rest_works : (queue : Queue) (staged : Pages) → is_at_rest staged ≡ true → works_on queue staged ≡ true
+rest_works queue staged rest = by queue (none_staged staged.rx) (none_staged staged.tx) (none_staged staged.event) refl refl refl rest
+  where
+    by : (queue : Queue) (a b c : Bool) → none_staged staged.rx ≡ a → none_staged staged.tx ≡ b → none_staged staged.event ≡ c → (a && b && c) ≡ true
+        → works_on queue staged ≡ true
+    by q.Rx true true true x y z is = rw (y, z) refl
+    by q.Tx true true true x y z is = rw (x, z) refl
+    by q.Event true true true x y z is = rw (x, y) refl
+    by queue false b c x y z is = absurd cc
+    by queue true false c x y z is = absurd cc
+    by queue true true false x y z is = absurd cc
+
+rests_then : {A B : Type 0} (w : World) (p : DriverTree A) (f : A → DriverTree B) (state_of : B → DriverState) (middle : A → DriverState)
+    → (let r = plays p w in Leads w (with_driver (middle r.0) r.1 w))
+    → (let r = plays p w in let v = with_driver (middle r.0) r.1 w in let x = plays (f r.0) v in Rests v (state_of x.0) x.1)
+    → (let r = plays (bind p f) w in Rests w (state_of r.0) r.1)
+rests_then w p f state_of middle first then_ =
+    subst (λ x. Rests w (state_of x.0) x.1) (sym (played_bind p f (w.rings.lists, w.rings.driver))) (record {
+      leads = leads_then w _ _ first then_.leads;
+      rest = then_.rest;
+    })
+
+-- A part of a poll ends by publishing.
+published_does : (queue : Queue) (w : World) (count : ℕ) (reset : Bool) → works_on queue w.rings.driver.staged ≡ true
+    → let r = plays (published queue (round w.driver count reset)) w in Rests w r.0.state r.1
+published_does queue w count reset works =
+    let one = publishes_does queue w works in
+    record { leads = one.leads; rest = published_rests queue w.rings.driver.staged works }
+
+take_all_does : (queue : Queue) (step : Round → DriverTree (Round × Bool)) → StepDoes queue step → (w : World)
+    → is_at_rest w.rings.driver.staged ≡ true → let r = plays (take_all queue step w.driver) w in Rests w r.0.state r.1
+take_all_does queue step does w rest =
+    let all = does_while queue step does w.driver.size w 0 false (rest_works queue w.rings.driver.staged rest) in
+    let r = plays (all_taken step w.driver) w in
+    rests_then w (all_taken step w.driver) (published queue) (λ r. r.state) (λ r. r.state) all.leads
+    (published_does queue (with_driver r.0.state r.1 w) r.0.count r.0.reset all.works)
+
+pay_does : (xs : List ℕ) (w : World) (count : ℕ) (reset : Bool) → works_on q.Tx w.rings.driver.staged ≡ true
+    → let r = plays (for_each pay_slot xs (round w.driver count reset)) w in Does q.Tx w r.0.state r.1
+pay_does [] w count reset works = does_nothing q.Tx w works
+pay_does (slot ∷ xs) w count reset works =
+    let one = does_while q.Tx (put_owed slot) (owed_does slot) OWED_MAX w count reset works in
+    let r = plays (pay_slot slot (round w.driver count reset)) w in
+    does_then q.Tx w (pay_slot slot (round w.driver count reset)) (for_each pay_slot xs) (λ r. r.state) (λ r. r.state) one
+    (pay_does xs (with_driver r.0.state r.1 w) r.0.count r.0.reset one.works)
+
+pay_and_publish_does : (w : World) (count : ℕ) (reset : Bool) → is_at_rest w.rings.driver.staged ≡ true
+    → let r = plays (pay_and_publish (round w.driver count reset)) w in Rests w r.0.state r.1
+pay_and_publish_does w count reset rest =
+    let all = pay_does (slots w.driver.table) w count reset (rest_works q.Tx w.rings.driver.staged rest) in
+    let r = plays (pay_all (round w.driver count reset)) w in
+    rests_then w (pay_all (round w.driver count reset)) (published q.Tx) (λ r. r.state) (λ r. r.state) all.leads
+    (published_does q.Tx (with_driver r.0.state r.1 w) r.0.count r.0.reset all.works)
+
+publish_and_pay_does : (w : World) (count : ℕ) (reset : Bool) → works_on q.Tx w.rings.driver.staged ≡ true
+    → let r = plays (publish_and_pay (round w.driver count reset)) w in Rests w r.0.state r.1
+publish_and_pay_does w count reset works =
+    let one = published_does q.Tx w count reset works in
+    let r = plays (published q.Tx (round w.driver count reset)) w in
+    rests_then w (published q.Tx (round w.driver count reset)) pay_and_publish (λ r. r.state) (λ r. r.state) one.leads
+    (pay_and_publish_does (with_driver r.0.state r.1 w) r.0.count r.0.reset one.rest)
+
+put_all_does : (w : World) → is_at_rest w.rings.driver.staged ≡ true → let r = plays (put_all w.driver) w in Rests w r.0.state r.1
+put_all_does w rest =
+    let all = does_while q.Tx put_reply reply_does (length w.driver.replies) w 0 false (rest_works q.Tx w.rings.driver.staged rest) in
+    let r = plays (put_replies w.driver) w in
+    rests_then w (put_replies w.driver) publish_and_pay (λ r. r.state) (λ r. r.state) all.leads
+    (publish_and_pay_does (with_driver r.0.state r.1 w) r.0.count r.0.reset all.works)
+
+puts_does : (took : ℕ) (reset : Bool) (w : World) → is_at_rest w.rings.driver.staged ≡ true
+    → let r = plays (poll_puts took reset w.driver) w in Rests w r.0.0 r.1
+puts_does took reset w rest =
+    let all = put_all_does w rest in
+    rests_then w (put_all w.driver) (polled took reset) (λ r. r.0) (λ r. r.state) all.leads
+    (record { leads = leads_none _ _ refl; rest = all.rest })
+
+reaps_does : (took : ℕ) (reset : Bool) (w : World) → is_at_rest w.rings.driver.staged ≡ true
+    → let r = plays (bind (reap_all w.driver) (poll_puts took reset)) w in Rests w r.0.0 r.1
+reaps_does took reset w rest =
+    let all = reaps_all w.driver.in_flight w rest in
+    let r = plays (reap_all w.driver) w in
+    rests_then w (reap_all w.driver) (poll_puts took reset) (λ r. r.0) (λ s. s) all.leads
+    (puts_does took reset (with_driver r.0 r.1 w) (ap is_at_rest all.staged ∙ rest))
+
+packets_does : (reset : Bool) (w : World) → is_at_rest w.rings.driver.staged ≡ true
+    → let r = plays (bind (take_all q.Rx take_packet w.driver) (poll_reaps reset)) w in Rests w r.0.0 r.1
+packets_does reset w rest =
+    let all = take_all_does q.Rx take_packet packet_does w rest in
+    let r = plays (take_all q.Rx take_packet w.driver) w in
+    rests_then w (take_all q.Rx take_packet w.driver) (poll_reaps reset) (λ r. r.0) (λ r. r.state) all.leads
+    (reaps_does r.0.count reset (with_driver r.0.state r.1 w) all.rest)
+
+pub poll_does : (w : World) → is_at_rest w.rings.driver.staged ≡ true → let r = plays (poll_of w.driver) w in Rests w r.0.0 r.1
+poll_does w rest =
+    let all = take_all_does q.Event take_event event_does w rest in
+    let r = plays (take_all q.Event take_event w.driver) w in
+    rests_then w (take_all q.Event take_event w.driver) poll_packets (λ r. r.0) (λ r. r.state) all.leads
+    (packets_does r.0.reset (with_driver r.0.state r.1 w) all.rest)

@@ -1,63 +1,123 @@
-//! Laws over every list of events from the opening world, and over every call.
+//! Laws of the world, over every list of events.
 
-ghost use Rattle.std.specs.Prelude.{◌≡◌, ◌++◌, ◌∷◌, ℕ, List, [], false, All, AllPairs, Some, find, take};
-ghost use Rattle.vs_core.specs.declared.flow.Flow.{Flow};
-ghost use Rattle.vs_core.specs.DeviceCalls.{take_tx_of, pump_out_of, fill_rx_of, turn_of};
-ghost use Rattle.vs_core.specs.Driver.{connect_of, send_of, after_recv, poll_of};
-ghost use Rattle.vs_core.specs.Guest.{GuestSlot, has_id, is_flow};
-ghost use Rattle.vs_core.specs.Laws.{HasOwnBytes, HasOtherLabel, IsFunctionOfGuest, IsFunctionOfDevice, StepsSending, SilentSteps, EntriesRise};
-ghost use Rattle.vs_core.specs.Lists.{IsPrefix};
-ghost use Rattle.vs_core.specs.Outside.{Host};
-ghost use Rattle.vs_core.specs.World.{World, Event, Send, opening, run, tx_put, tx_got, rx_put, rx_got, sent_by, sent_over, host_read, guest_call, device_call, taken_on, pipe_of, pipe_written};
+ghost use Rattle.std.specs.Prelude.{◌≡◌, ℕ, ◌≤◌, ◌||◌, false, true, List, [], ◌∷◌, length, All};
+ghost use Rattle.vs_history.specs.declared.TheConstants.{BUF_ALLOC};
+ghost use Rattle.vs_conn.specs.End.{ConnectionEnd, is_refused, verdict_of};
+ghost use Rattle.vs_driver_parts.specs.declared.limits.TheConstants.{FIRST_PORT};
+ghost use Rattle.vs_flow.specs.declared.flow.Flow.{Flow};
+ghost use Rattle.vs_flow.specs.declared.flow.TheConstants.{ASSIGNED_FIRST};
+ghost use Rattle.vs_history.specs.declared.packet.Packet.{Packet};
+ghost use Rattle.vs_matching.specs.Both.{start};
+ghost use Rattle.vs_matching.specs.Ends.{begun_flows, flows_of, is_among, new_flows};
+ghost use Rattle.vs_matching.specs.Matches.{Matches};
+ghost use Rattle.vs_matching.specs.Steps.{HasEnd, is_overrun};
+ghost use Rattle.vs_outside.specs.Host.{HostContents};
+ghost use Rattle.vs_page.specs.Fair.{IsFairLog, IsPrefixOf, payload_got, payload_put};
+ghost use Rattle.vs_page.specs.Log.{Device, Driver, HasGotAll, IsNextPacket, Log, flow_got};
+ghost use Rattle.vs_page.specs.Open.{is_dropped, is_open};
+ghost use Rattle.vs_page.specs.declared.log.LogEntry.TheVariants.{Mark};
+ghost use Rattle.vs_core.specs.Calls.{GuestCall, is_right, sent_on};
+ghost use Rattle.vs_core.specs.Events.{Event, happens, is_at_rest, is_guest_cid, run};
+ghost use Rattle.vs_core.specs.Laws.{IsQueued};
+ghost use Rattle.vs_core.specs.Plays.{guest_line, poll_line, reset_line};
+ghost use Rattle.vs_core.specs.Steps.{Leads};
+ghost use Rattle.vs_core.specs.Sides.{Runs, both_of};
+ghost use Rattle.vs_core.specs.World.{World, first_cid, opening};
 
-/// No queue loses, repeats or reorders a packet (Virtio 1.2, section 5.10.6). Over every list of events from the opening world the
-/// packets that were got of it are the first of those that were put.
-pub fn laws_of_the_queues()
-    ensures transmitted { (n : ℕ) (host : Host) (es : List Event) → IsPrefix (tx_got (opening n host) es) (tx_put (opening n host) es) }
-    ensures received { (n : ℕ) (host : Host) (es : List Event) → IsPrefix (rx_got (opening n host) es) (rx_put (opening n host) es) }
+/// After any list of events what each end got is what the other put first, packets on tx and on rx and ids of events; and what was put and
+/// not got is just what the pages between them hold. So the payload that an end got on a connection is a prefix of the payload that the
+/// other put there.
+pub fn law_of_queues()
+    ensures queued { (n : ℕ) (host : HostContents) (es : List Event) → IsQueued (run es (opening n host)).rings }
+    ensures driver_got { (n : ℕ) (host : HostContents) (es : List Event) → let r = (run es (opening n host)).rings in
+        HasGotAll r.driver.entries r.device.entries }
+    ensures device_got { (n : ℕ) (host : HostContents) (es : List Event) → let r = (run es (opening n host)).rings in
+        HasGotAll r.device.entries r.driver.entries }
+    ensures payload_to_guest { (n : ℕ) (host : HostContents) (es : List Event) (f : Flow) (k : ℕ) → let r = (run es (opening n host)).rings in
+        IsPrefixOf (payload_got Driver f k r.driver.entries) (payload_put Device f k r.device.entries) }
+    ensures payload_to_host { (n : ℕ) (host : HostContents) (es : List Event) (f : Flow) (k : ℕ) → let r = (run es (opening n host)).rings in
+        IsPrefixOf (payload_got Device f k r.device.entries) (payload_put Driver f k r.driver.entries) }
 {}
 
-/// What the guest sends is read by the host in order, on its own connection (Virtio 1.2, section 5.10.6). Over every list of events
-/// from the opening world, with a host that has no streams yet: what the host read of a flow is the first of what the guest sent on
-/// it; each stream was made for a flow, and has the first bytes of that flow alone; no two streams were made for one flow. And in
-/// every world a send is a write into the pipe of its connection's flow, of the bytes that it took, and puts no byte on another.
-pub fn laws_of_the_streams()
-    ensures host_reads { (n : ℕ) (host : Host) (es : List Event) (f : Flow) → host.streams ≡ [] → IsPrefix (host_read f (run (opening n host) es).host) (sent_over f (opening n host) es) }
-    ensures reads_the_pipe { (n : ℕ) (host : Host) (es : List Event) (f : Flow) → host.streams ≡ []
-        → let p = pipe_of f (opening n host) es in host_read f (run (opening n host) es).host ≡ take p.read p.written }
-    ensures own_bytes { (n : ℕ) (host : Host) (es : List Event) → host.streams ≡ [] → All (HasOwnBytes (opening n host) es) (run (opening n host) es).host.streams }
-    ensures own_label { (n : ℕ) (host : Host) (es : List Event) → host.streams ≡ [] → AllPairs HasOtherLabel (run (opening n host) es).host.streams }
-    ensures send_is_a_write { (w : World) (es : List Event) (id : ℕ) (bytes : List ℕ) (f : Flow)
-        → pipe_of f w (es ++ Send id bytes ∷ []) ≡ pipe_written (sent_by f (run w es) (Send id bytes)) (pipe_of f w es) }
-    ensures send_elsewhere { (w : World) (id : ℕ) (bytes : List ℕ) (s : GuestSlot) (f : Flow) → find (has_id id) w.guest.slots ≡ Some s → is_flow f s.flow ≡ false → sent_by f w (Send id bytes) ≡ [] }
+/// Each event is some of the small steps of two ends of many connections, each where it may happen: one that puts or takes a packet is
+/// among them just where the event does. So what holds over every order of these steps holds after any list of events. Packets that the
+/// driver staged count as put.
+pub fn law_of_events()
+    ensures each { (n : ℕ) (host : HostContents) (es : List Event) (e : Event) → let w = run es (opening n host) in
+        Runs (both_of w) (both_of (happens e w)) }
+    ensures all { (n : ℕ) (host : HostContents) (es : List Event)
+        → Runs (start first_cid FIRST_PORT ASSIGNED_FIRST) (both_of (run es (opening n host))) }
 {}
 
-/// Over rings that are lists, and a host that tells and of which no call fails, each call of driver and device is a function of the
-/// world: what its conversation leads to is the one end that it has there (Virtio 1.2, section 5.10.6).
-pub fn calls_are_functions()
-    ensures connect { (port : ℕ) → IsFunctionOfGuest (connect_of port) }
-    ensures send { (id : ℕ) (bytes : List ℕ) → IsFunctionOfGuest (send_of id bytes) }
-    ensures poll { IsFunctionOfGuest poll_of }
-    ensures take_tx { IsFunctionOfDevice take_tx_of }
-    ensures pump_out { IsFunctionOfDevice pump_out_of }
-    ensures fill_rx { IsFunctionOfDevice fill_rx_of }
-    ensures turn { (size : ℕ) → IsFunctionOfDevice (turn_of size) }
+/// After any list of events both ends match their logs, and both logs are fair: the payload put is within the credit that the peer gave, a
+/// connection begins by its one REQUEST, and so on (Virtio 1.2, section 5.10.6).
+pub fn law_of_logs()
+    ensures driver { (n : ℕ) (host : HostContents) (es : List Event) → let b = both_of (run es (opening n host)) in
+        Matches Driver first_cid b.driver.part b.driver.log }
+    ensures device { (n : ℕ) (host : HostContents) (es : List Event) → let b = both_of (run es (opening n host)) in
+        Matches Device first_cid b.device.part b.device.log }
+    ensures driver_fair { (n : ℕ) (host : HostContents) (es : List Event) → IsFairLog Driver (both_of (run es (opening n host))).driver.log }
+    ensures device_fair { (n : ℕ) (host : HostContents) (es : List Event) → IsFairLog Device (both_of (run es (opening n host))).device.log }
 {}
 
-/// Each call of driver and device is a list of the world's steps (Virtio 1.2, section 5.10.6). Over a send's steps the guest sends on
-/// each flow just the bytes that the send's answer says it took; over the steps of the other calls it sends nothing. To fill the
-/// receive queue the device serves its entries from the round's start on first: that is a list of steps where the entries stand by
-/// rising slot, and they do in every world that is reached.
-pub fn laws_of_the_calls()
-    ensures connect { (w : World) (port : ℕ) → SilentSteps w (guest_call (connect_of port) w).0 }
-    ensures send { (w : World) (id : ℕ) (bytes : List ℕ) → let r = guest_call (send_of id bytes) w in StepsSending w r.0 (λ f. taken_on f (find (has_id id) w.guest.slots) bytes r.1) }
-    ensures recv { (w : World) (id len : ℕ) → SilentSteps w (record w { guest = after_recv id len w.guest }) }
-    ensures poll { (w : World) → SilentSteps w (guest_call poll_of w).0 }
-    ensures take_tx { (w : World) → SilentSteps w (device_call take_tx_of w).0 }
-    ensures pump_out { (w : World) → SilentSteps w (device_call pump_out_of w).0 }
-    ensures fill_rx { (w : World) → EntriesRise w → SilentSteps w (device_call fill_rx_of w).0 }
-    ensures turn { (w : World) (size : ℕ) → EntriesRise w → SilentSteps w (device_call (turn_of size) w).0 }
-    ensures rising { (n : ℕ) (host : Host) (es : List Event) → EntriesRise (run (opening n host) es) }
-    ensures reached_fill_rx { (n : ℕ) (host : Host) (es : List Event) → let w = run (opening n host) es in SilentSteps w (device_call fill_rx_of w).0 }
-    ensures reached_turn { (n : ℕ) (host : Host) (es : List Event) (size : ℕ) → let w = run (opening n host) es in SilentSteps w (device_call (turn_of size) w).0 }
+/// After any list of events each table holds just the connections that the log of its end left open: of the device's those that have
+/// begun, the others ask for their flow and have not put their REQUEST. None is from before a transport reset: where the newest entry of a
+/// log is one, none has begun (Virtio 1.2, section 5.10.6.7).
+pub fn law_of_tables()
+    ensures driver { (n : ℕ) (host : HostContents) (es : List Event) (f : Flow) → let b = both_of (run es (opening n host)) in
+        is_among f (flows_of b.driver.part.entries) ≡ is_open Driver first_cid f b.driver.log (is_among f b.driver.part.replies) }
+    ensures device { (n : ℕ) (host : HostContents) (es : List Event) (f : Flow) → let b = both_of (run es (opening n host)) in
+        is_among f (flows_of b.device.part.entries)
+        ≡ (is_open Device first_cid f b.device.log (is_among f b.device.part.replies) || is_among f (new_flows b.device.part.entries)) }
+    ensures driver_reset { (n : ℕ) (host : HostContents) (es : List Event) (cid : ℕ) (older : Log) → let b = both_of (run es (opening n host)) in
+        b.driver.log ≡ Mark cid ∷ older → begun_flows b.driver.part.entries ≡ [] }
+    ensures device_reset { (n : ℕ) (host : HostContents) (es : List Event) (cid : ℕ) (older : Log) → let b = both_of (run es (opening n host)) in
+        b.device.log ≡ Mark cid ∷ older → begun_flows b.device.part.entries ≡ [] }
+{}
+
+/// After any list of events the next packet is never refused where it is of a connection: by the driver none, by the device none that it
+/// doesn't drop. The device has room for its payload in any case (Virtio 1.2, section 5.10.6.3).
+pub fn law_of_next_packets()
+    ensures driver { (n : ℕ) (host : HostContents) (es : List Event) (p : Packet) (e : ConnectionEnd) → let b = both_of (run es (opening n host)) in
+        IsNextPacket b.driver.log b.device.log p → HasEnd (flow_got Driver p) e b.driver.part → is_refused (verdict_of e p.header) ≡ false }
+    ensures device { (n : ℕ) (host : HostContents) (es : List Event) (p : Packet) (e : ConnectionEnd) → let b = both_of (run es (opening n host)) in
+        IsNextPacket b.device.log b.driver.log p → HasEnd (flow_got Device p) e b.device.part
+        → is_dropped Device b.device.part.cid p.header ≡ false → is_refused (verdict_of e p.header) ≡ false }
+    ensures room { (n : ℕ) (host : HostContents) (es : List Event) (p : Packet) (e : ConnectionEnd) → let b = both_of (run es (opening n host)) in
+        IsNextPacket b.device.log b.driver.log p → HasEnd (flow_got Device p) e b.device.part → is_overrun (verdict_of e p.header) ≡ false }
+{}
+
+/// After any list of events no packet of a known flow was refused by the driver, and none held more payload than the device had room for.
+/// What is unread of a connection, at the guest or on its way to the host's stream, is within its buffer space (Virtio 1.2, section
+/// 5.10.6.3).
+pub fn law_of_credit()
+    ensures broken { (n : ℕ) (host : HostContents) (es : List Event) → (run es (opening n host)).driver.broken ≡ 0 }
+    ensures overrun { (n : ℕ) (host : HostContents) (es : List Event) → (run es (opening n host)).proxy.device.overrun ≡ 0 }
+    ensures unread { (n : ℕ) (host : HostContents) (es : List Event) →
+        All (λ e. length e.value.unread ≤ BUF_ALLOC) (run es (opening n host)).driver.table.entries }
+    ensures pending { (n : ℕ) (host : HostContents) (es : List Event) →
+        All (λ e. length e.value.pending ≤ BUF_ALLOC) (run es (opening n host)).proxy.device.table.entries }
+{}
+
+/// After any list of events the payload that the driver put on a connection is just what its sends took, in order. So the payload that
+/// the device got there is a prefix of that.
+pub fn law_of_sending()
+    ensures put { (n : ℕ) (host : HostContents) (es : List Event) (f : Flow) → let w = run es (opening n host) in
+        payload_put Driver f 1 (both_of w).driver.log ≡ sent_on f w.journal }
+    ensures got { (n : ℕ) (host : HostContents) (es : List Event) (f : Flow) → let w = run es (opening n host) in
+        IsPrefixOf (payload_got Device f 1 w.rings.device.entries) (sent_on f w.journal) }
+{}
+
+/// Each call of the guest's, whole, is a list of events, with that reply in the journal: a connect and a send take back the pages that the
+/// device returned, one by one, before they need one. So is a poll, after which nothing is staged.
+pub fn law_of_guest_calls()
+    ensures call { (call : GuestCall) (w : World) → is_at_rest w.rings.driver.staged ≡ true → is_right call ≡ true
+        → Leads w (guest_line call w).0 }
+    ensures poll { (w : World) → is_at_rest w.rings.driver.staged ≡ true → Leads w (poll_line w).0 }
+    ensures polled { (w : World) → is_at_rest w.rings.driver.staged ≡ true → is_at_rest (poll_line w).0.rings.driver.staged ≡ true }
+{}
+
+/// A transport reset that the proxy makes is an event.
+pub fn law_of_resets()
+    ensures { (cid : ℕ) (w : World) → is_guest_cid cid ≡ true → Leads w (reset_line cid w).0 }
 {}

@@ -15,9 +15,9 @@ use Rattle.vs_ring_port.specs.declared.failure.Failure.{Failure}
 use Rattle.vs_proxy_parts.specs.declared.answers.Turn as answers
 use Rattle.vs_report.specs.DeviceLines.{reset_text}
 use Rattle.vs_script.specs.Play.{Event, Poll, Around}
-use Rattle.vs_world.specs.GuestSteps.{makes_call}
-use Rattle.vs_world.specs.Calls.{GuestCall, ReplyTo}
-use Rattle.vs_world.specs.Plays.{Guest, whole_call}
+use Rattle.vs_core.specs.GuestSteps.{makes_call}
+use Rattle.vs_core.specs.Calls.{GuestCall, ReplyTo}
+use Rattle.vs_core.specs.Plays.{Guest, whole_call}
 use Rattle.vs_proxy_parts.specs.State.{ProxyState}
 use Rattle.vs_proxy_parts.specs.Turns.{new_proxy, proxy_reset_of, turn_of}
 use Rattle.vs_play.specs.Answer.{base_path, opened_play}

@@ -6,7 +6,7 @@ use Rattle.vs_script.specs.Play.{Event}
 use Rattle.vs_script.specs.Script.{Saying, Plays, parse_of}
 use Rattle.vs_script.specs.declared.fault.Refused.{Refused}
 use Rattle.vs_script.specs.declared.script.Command.TheVariants as command
-use Rattle.vs_world.specs.World.{World, opening}
+use Rattle.vs_core.specs.World.{World, opening}
 use Rattle.vs_report.specs.Report.{report}
 use Rattle.vs_report.specs.declared.giving.Totals.{Totals}
 use Rattle.vs_play.specs.Lines.{PlayWorld, event_played}

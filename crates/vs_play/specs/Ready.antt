@@ -18,8 +18,8 @@ use Rattle.vs_device_parts.specs.Calls.{DeviceTree}
 use Rattle.vs_device_parts.specs.Playing.{IsItsRing, situation}
 use Rattle.vs_proxy_parts.specs.State.{ProxyState}
 use Rattle.vs_proxy_log.specs.Order.{IsInOrder}
-use Rattle.vs_world.specs.Answers.{Around, answer_around}
-use Rattle.vs_world.specs.World.{first_cid}
+use Rattle.vs_core.specs.Answers.{Around, answer_around}
+use Rattle.vs_core.specs.World.{first_cid}
 use Rattle.vs_play.specs.Lines.{PlayWorld, event_played}
 
 -- What a conversation of the driver's leads to over list rings.

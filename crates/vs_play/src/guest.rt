@@ -5,8 +5,8 @@ ghost use Rattle.vs_contents.specs.CallTree.{Done};
 ghost use Rattle.vs_ring_list.specs.Ends.{Ends, empty_ends};
 ghost use Rattle.vs_driver_parts.specs.Conversations.{new_of, connect_of, send_of, poll_of};
 ghost use Rattle.vs_driver_parts.specs.declared.limits.TheConstants.{FIRST_PORT};
-ghost use Rattle.vs_world.specs.Calls as call;
-ghost use Rattle.vs_world.specs.GuestSteps.{makes_call};
+ghost use Rattle.vs_core.specs.Calls as call;
+ghost use Rattle.vs_core.specs.GuestSteps.{makes_call};
 ghost use Rattle.vs_play.specs.Lines.{flow_opened, flow_accepted};
 ghost use Rattle.vs_play.specs.Ready.{IsBits, IsDriven, over_lists, got_count};
 

@@ -1,0 +1,13 @@
+use Rattle.vs_core.specs.Events.{run}
+use Rattle.vs_core.specs.World.{opening}
+use Rattle.vs_core.proofs.Opening.{opening_is, reached, run_well}
+use Rattle.vs_core.proofs.Runs.{and_then, stays}
+use Rattle.vs_core.proofs.Sound.{happens_goes}
+use Rattle.vs_core.specs.Pipes.{IsFresh}
+use Rattle.vs_core.proofs.laws.law_of_events.Goals as goal
+
+pub returns-clause-each : goal.returns-clause-each
+returns-clause-each c = λ n host es e. (happens_goes (IsFresh host) (run es (opening n host)) (run_well n host es) e).runs
+
+pub returns-clause-all : goal.returns-clause-all
+returns-clause-all c = λ n host es. and_then _ _ _ (stays _ _ (opening_is n host)) (reached n host es).runs

@@ -1,0 +1,28 @@
+use Rattle.std.proofs.Common.{◌≡◌, false, subst}
+use Rattle.vs_conn.specs.End.{is_refused, verdict_of}
+use Rattle.vs_driver_parts.specs.declared.limits.TheConstants.{FIRST_PORT}
+use Rattle.vs_flow.specs.declared.flow.TheConstants.{ASSIGNED_FIRST}
+use Rattle.vs_matching.specs.Both.{Both}
+use Rattle.vs_matching.specs.Steps.{HasEnd}
+use Rattle.vs_matching.proofs.Both.{device_has_room, driver_accepts}
+use Rattle.vs_matching.proofs.Voices.{device_takes}
+use Rattle.vs_page.specs.Log.{Device, IsNextPacket, flow_got}
+use Rattle.vs_page.specs.Open.{is_dropped}
+use Rattle.vs_core.specs.Events.{run}
+use Rattle.vs_core.specs.Sides.{both_of}
+use Rattle.vs_core.specs.World.{first_cid, opening}
+use Rattle.vs_core.proofs.Opening.{opening_is, reached, run_well}
+use Rattle.vs_core.proofs.Runs.{and_then, stays}
+use Rattle.vs_core.proofs.laws.law_of_next_packets.Goals as goal
+
+pub returns-clause-driver : goal.returns-clause-driver
+returns-clause-driver c = λ n host es p e. driver_accepts first_cid p e (both_of (run es (opening n host))) (run_well n host es).sound
+
+pub returns-clause-device : goal.returns-clause-device
+returns-clause-device c = λ n host es p e. let r = and_then _ _ _ (stays _ _ (opening_is n host)) (reached n host es).runs in
+    subst (λ (b : Both). IsNextPacket b.device.log b.driver.log p → HasEnd (flow_got Device p) e b.device.part
+    → is_dropped Device b.device.part.cid p.header ≡ false → is_refused (verdict_of e p.header) ≡ false) r.ends
+    (device_takes first_cid FIRST_PORT ASSIGNED_FIRST r.steps p e r.may)
+
+pub returns-clause-room : goal.returns-clause-room
+returns-clause-room c = λ n host es p e. device_has_room first_cid p e (both_of (run es (opening n host))) (run_well n host es).sound

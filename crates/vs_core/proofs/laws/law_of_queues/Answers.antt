@@ -1,0 +1,29 @@
+use Rattle.std.specs.Prelude.{ℕ, List}
+use Rattle.vs_outside.specs.Host.{HostContents}
+use Rattle.vs_page.specs.Log.{Device, Driver}
+use Rattle.vs_page.proofs.PayloadLogs.{prefix}
+use Rattle.vs_core.specs.Events.{Event, run}
+use Rattle.vs_core.specs.Laws.{IsQueued}
+use Rattle.vs_core.specs.World.{opening}
+use Rattle.vs_core.proofs.Played.{run_keeps, opening_queued, device_got, driver_got}
+use Rattle.vs_core.proofs.laws.law_of_queues.Goals as goal
+
+queued : (n : ℕ) (host : HostContents) (es : List Event) → IsQueued (run es (opening n host)).rings
+queued n host es = run_keeps es (opening n host) (opening_queued n host)
+
+pub returns-clause-queued : goal.returns-clause-queued
+returns-clause-queued c = queued
+
+pub returns-clause-driver_got : goal.returns-clause-driver_got
+returns-clause-driver_got c = λ n host es. driver_got (run es (opening n host)).rings (queued n host es)
+
+pub returns-clause-device_got : goal.returns-clause-device_got
+returns-clause-device_got c = λ n host es. device_got (run es (opening n host)).rings (queued n host es)
+
+pub returns-clause-payload_to_guest : goal.returns-clause-payload_to_guest
+returns-clause-payload_to_guest c = λ n host es f k. let r = (run es (opening n host)).rings in
+    prefix Driver r.driver.entries r.device.entries f k (driver_got r (queued n host es))
+
+pub returns-clause-payload_to_host : goal.returns-clause-payload_to_host
+returns-clause-payload_to_host c = λ n host es f k. let r = (run es (opening n host)).rings in
+    prefix Device r.device.entries r.driver.entries f k (device_got r (queued n host es))

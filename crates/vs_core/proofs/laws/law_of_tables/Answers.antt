@@ -1,0 +1,27 @@
+use Rattle.std.proofs.Common.{subst}
+use Rattle.vs_matching.specs.Matches.{Matches}
+use Rattle.vs_matching.proofs.Tables.{all_open, driver_open, reset_empty}
+use Rattle.vs_page.specs.Log.{Device, Driver, Log}
+use Rattle.vs_core.specs.Events.{run}
+use Rattle.vs_core.specs.Sides.{both_of}
+use Rattle.vs_core.specs.World.{first_cid, opening}
+use Rattle.vs_core.proofs.Opening.{run_well}
+use Rattle.vs_core.proofs.laws.law_of_tables.Goals as goal
+
+pub returns-clause-driver : goal.returns-clause-driver
+returns-clause-driver c = λ n host es f. let b = both_of (run es (opening n host)) in
+    driver_open first_cid b.driver.part b.driver.log f ((run_well n host es).sound.matches Driver).flows
+
+pub returns-clause-device : goal.returns-clause-device
+returns-clause-device c = λ n host es f. let b = both_of (run es (opening n host)) in
+    all_open Device first_cid b.device.part b.device.log f ((run_well n host es).sound.matches Device).flows
+
+pub returns-clause-driver_reset : goal.returns-clause-driver_reset
+returns-clause-driver_reset c = λ n host es cid older is. let b = both_of (run es (opening n host)) in
+    reset_empty Driver first_cid cid b.driver.part older
+    (subst (λ (l : Log). Matches Driver first_cid b.driver.part l) is ((run_well n host es).sound.matches Driver)).flows
+
+pub returns-clause-device_reset : goal.returns-clause-device_reset
+returns-clause-device_reset c = λ n host es cid older is. let b = both_of (run es (opening n host)) in
+    reset_empty Device first_cid cid b.device.part older
+    (subst (λ (l : Log). Matches Device first_cid b.device.part l) is ((run_well n host es).sound.matches Device)).flows

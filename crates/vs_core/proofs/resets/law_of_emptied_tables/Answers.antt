@@ -1,0 +1,11 @@
+use Rattle.vs_core.specs.Events.{run}
+use Rattle.vs_core.specs.World.{opening}
+use Rattle.vs_core.proofs.Opening.{run_well}
+use Rattle.vs_core.proofs.ResetTables.{device_emptied, driver_emptied}
+use Rattle.vs_core.proofs.resets.law_of_emptied_tables.Goals as goal
+
+pub returns-clause-device : goal.returns-clause-device
+returns-clause-device c = λ cid w right fine. device_emptied cid w right fine
+
+pub returns-clause-driver : goal.returns-clause-driver
+returns-clause-driver c = λ n host es page. driver_emptied (run es (opening n host)) (run_well n host es) page

@@ -1,0 +1,13 @@
+use Rattle.vs_core.specs.World.{opening}
+use Rattle.vs_core.proofs.CallRests.{opening_rests}
+use Rattle.vs_core.proofs.ScriptLines.{opened_leads, reported, script_rests}
+use Rattle.vs_core.proofs.scripts.law_of_scripts.Goals as goal
+
+pub returns-clause-events : goal.returns-clause-events
+returns-clause-events c = λ n host ls may. opened_leads n host ls may
+
+pub returns-clause-rests : goal.returns-clause-rests
+returns-clause-rests c = λ n host ls. script_rests ls (opening n host) (opening_rests n host)
+
+pub returns-clause-reported : goal.returns-clause-reported
+returns-clause-reported c = λ ls w. reported ls w

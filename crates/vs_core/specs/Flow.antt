@@ -1,7 +1,0 @@
--- The host ports that the device assigns itself.
-use Rattle.std.specs.Prelude.{ℕ, Bool, nat_le, ◌&&◌}
-use Rattle.vs_core.specs.declared.flow.TheConstants.{ASSIGNED_FIRST, ASSIGNED_LAST}
-
--- whether a host port is one of those that the device assigns
-abbrev pub is_assigned : ℕ → Bool
-is_assigned port = nat_le ASSIGNED_FIRST port && nat_le port ASSIGNED_LAST

@@ -1,3 +1,0 @@
-pub mod Credit
-pub mod End
-pub mod Wrap
