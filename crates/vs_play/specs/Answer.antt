@@ -53,8 +53,12 @@ printed n es = texts_of es (opened_play n) ++ report_of (world_after es (opened_
 abbrev pub refusal : Refused → Answer
 refusal r = record { lines = (refused_text r ++ codes "\n") ∷ []; status = 2 }
 
+-- The event lines of a script, without their numbers.
+abbrev pub events_in : List (ℕ × Event) → List Event
+events_in lines = map (λ l. l.1) lines
+
 abbrev pub answer_to : ℕ → Result Saying Refused → Answer
-answer_to n (Ok (Plays lines)) = record { lines = printed n (map (λ l. l.1) lines); status = 0 }
+answer_to n (Ok (Plays lines)) = record { lines = printed n (events_in lines); status = 0 }
 answer_to n (Ok _) = record { lines = []; status = 0 }
 answer_to n (Err r) = refusal r
 

@@ -1,6 +1,6 @@
 //! The calls of the device with its proxy over list rings and a host in memory, each with the one end that it leads to.
 
-ghost use Rattle.std.specs.Prelude.{◌≡◌, ◌≤◌, ◌++◌, Result, IfOk, OnOk, false, string_bytes};
+ghost use Rattle.std.specs.Prelude.{◌≡◌, ◌≤◌, ◌++◌, Result, IfOk, OnOk, false, length, string_bytes};
 ghost use Rattle.vs_driver_parts.specs.State.{DriverState};
 ghost use Rattle.vs_proxy.specs.Turns.{proxy_reset_of, turn_of};
 ghost use Rattle.vs_play.specs.Lines.{turn_text};
@@ -57,6 +57,13 @@ pub fn push_turn(text: &mut String, answer: Turn) -> Result<(), AllocError>
         Turn::Turned(t) => push_turned(text, t.took, t.put, t.read, t.wrote, t.opened, t.closed),
         Turn::Failed(failure) => push_failure(text, failure),
     }
+}
+
+/// How many entries the device's table has.
+pub fn open(proxy: &Proxy) -> usize
+    ensures { result ≡ length proxy.now.device.table.entries }
+{
+    proxy.table().count()
 }
 
 // The host found memory in each dial and each write. The only error is that it didn't.

@@ -1,6 +1,6 @@
 //! The calls of the guest's driver over list rings, each with the one end that it leads to.
 
-ghost use Rattle.std.specs.Prelude.{◌≡◌, ℕ, IfOk};
+ghost use Rattle.std.specs.Prelude.{◌≡◌, ℕ, IfOk, length};
 ghost use Rattle.vs_contents.specs.CallTree.{Done};
 ghost use Rattle.vs_ring_list.specs.Ends.{Ends, empty_ends};
 ghost use Rattle.vs_driver_parts.specs.Conversations.{new_of, connect_of, send_of, poll_of};
@@ -143,4 +143,11 @@ pub fn poll(driver: &mut Driver, rings: &mut ListRings) -> Polled
     ensures driven { IsDriven driver.new rings.new }
 {
     driver.poll(rings)
+}
+
+/// How many entries the driver's table has.
+pub fn open(driver: &Driver) -> usize
+    ensures { result ≡ length driver.now.table.entries }
+{
+    driver.table().count()
 }

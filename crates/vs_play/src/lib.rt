@@ -6,5 +6,6 @@ mod device;
 pub mod examples;
 mod guest;
 pub mod play;
+pub mod run;
 
 pub use play::Play;

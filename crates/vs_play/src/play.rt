@@ -1,21 +1,25 @@
 //! A play: a guest's driver and the device with its proxy on one thread, over list rings, with a host in memory.
 
-ghost use Rattle.std.specs.Prelude.{◌≡◌, ◌≤◌, ◌++◌, OnOk, string_bytes};
+ghost use Rattle.std.specs.Prelude.{◌≡◌, ◌≤◌, ◌++◌, ℕ, IfOk, OnOk, string_bytes};
+ghost use Rattle.vs_ring_list.specs.Ends.{empty_ends};
 ghost use Rattle.vs_script.specs.Outside as outside;
 ghost use Rattle.vs_script.specs.Play as script;
 ghost use Rattle.vs_script.specs.Data.{Given, content_of};
 ghost use Rattle.vs_script.specs.Outside.{host_view, outside_view};
 ghost use Rattle.vs_script.specs.Play.{play_view};
-ghost use Rattle.vs_play.specs.Ready.{IsBits, IsPlayable, IsReady, Plays};
+ghost use Rattle.vs_play.specs.Answer.{opened_play, totals_of};
+ghost use Rattle.vs_play.specs.Ready.{IsBits, IsPlayable, IsReady, Plays, shown, world_in};
 
 use crate::bytes::filled;
 use crate::{device, guest};
-use std::alloc::AllocError;
+use std::alloc::{AllocError, Global};
 use std::marker::Model;
 use vs_driver::Driver;
-use vs_outside::{Clock, MemHost, StepClock};
+use vs_outside::{Clock, MemHost, MemStream, StepClock};
+use vs_page::FIRST_CID;
 use vs_proxy::Proxy;
 use vs_report::device_lines::push_reset;
+use vs_report::giving::Totals;
 use vs_report::guest_lines::{
     push_accept, push_close, push_connect, push_listen, push_poll, push_recv, push_send,
     push_shutdown, push_state, push_unlisten,
@@ -23,6 +27,9 @@ use vs_report::guest_lines::{
 use vs_report::host_lines::{push_client, push_ok, push_stream_there, push_write};
 use vs_ring_list::ListRings;
 use vs_script::{Data, HostLine, OutsideLine, PlayLine};
+
+/// The base path of the host's sockets in a play.
+pub const BASE_PATH: &str = "v.sock";
 
 /// The world of a play, and the moment.
 #[derive(Drop)]
@@ -43,6 +50,48 @@ impl Model for Play {
 }
 
 impl Play {
+    /// A play just begun over empty rings, with a host at which nobody listens. The only error is want of memory.
+    pub fn new(alloc: Global, rings: ListRings) -> Result<Play, AllocError>
+        requires empty { (n : ℕ) × (rings ≡ empty_ends n) }
+        ensures opened { IfOk result (λ play. play ≡ shown (opened_play rings.lists.size)) }
+        ensures ready { IfOk result (λ play. IsReady play) }
+    {
+        let mut rings = rings;
+        let driver = guest::new(alloc, &mut rings)?;
+        let proxy = Proxy::new(alloc, FIRST_CID, BASE_PATH)?;
+        let host = MemHost::new(alloc, BASE_PATH)?;
+        let clock = StepClock::new();
+        Ok(Play {
+            rings,
+            driver,
+            proxy,
+            host,
+            clock,
+        })
+    }
+
+    /// What the report counts.
+    pub fn totals(&self) -> Totals
+        ensures { result ≡ totals_of (world_in self.now).world }
+    {
+        let counters = self.proxy.counters();
+        Totals {
+            guest_open: guest::open(&self.driver),
+            device_open: device::open(&self.proxy),
+            dropped: counters.dropped,
+            overrun: counters.overrun,
+            broken: self.driver.broken(),
+            faults: counters.faults,
+        }
+    }
+
+    /// The host's streams, by rising id.
+    pub fn streams(&self) -> &[MemStream]
+        ensures { result.now ≡ self.now.host.streams }
+    {
+        self.host.streams()
+    }
+
     /// Plays a line: does what it says, and appends what it prints. The only error is want of memory, and then the play may not go on.
     pub fn line(&mut self, line: &PlayLine, text: &mut String) -> Result<(), AllocError>
         requires ready { IsReady self.old }
