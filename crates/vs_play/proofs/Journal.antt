@@ -1,5 +1,6 @@
 -- What a line does, and what it prints, doesn't look at the journal of the calls that the guest made.
 use Rattle.std.proofs.Common.{◌≡◌, ℕ, List, [], ◌∷◌, refl, sym, ap, ◌∙◌}
+use Rattle.vs_script.specs.Data.{bytes_of}
 use Rattle.vs_script.specs.Outside.{Outside, OfHost}
 use Rattle.vs_script.specs.Outside as outside
 use Rattle.vs_script.specs.Play.{Event}
@@ -8,7 +9,7 @@ use Rattle.vs_world.specs.Calls as call
 use Rattle.vs_world.specs.Plays.{Line}
 use Rattle.vs_world.specs.Plays as world
 use Rattle.vs_play.specs.Answer.{report_of, texts_of, world_after}
-use Rattle.vs_play.specs.Lines.{PlayWorld, bytes_of, event_played, host_line, outside_played, played_line}
+use Rattle.vs_play.specs.Lines.{PlayWorld, event_played, host_line, outside_played, played_line}
 use Rattle.vs_play.specs.Ready.{PlayState, shown, world_in}
 
 -- What is left of a line, and what it printed.

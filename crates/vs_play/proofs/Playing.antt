@@ -22,6 +22,7 @@ use Rattle.vs_proxy.specs.State.{ProxyState}
 use Rattle.vs_proxy.specs.Turns.{new_proxy, proxy_reset_of, turn_of}
 use Rattle.vs_play.specs.Answer.{base_path, opened_play}
 use Rattle.vs_play.specs.Lines.{event_played, played_line, reply_text, turn_text}
+use Rattle.vs_play.proofs.Devices.{served_new}
 use Rattle.vs_play.proofs.Served.{StayOpen, served_host, served_rings}
 use Rattle.vs_play.specs.Ready.{IsDriven, IsReady, IsServed, PlayState, Plays, over_both, over_lists, shown, world_in}
 
@@ -30,7 +31,7 @@ abbrev pub with_driver : PlayState → DriverState → Ends → PlayState
 with_driver p s e = record p { driver = s; rings = e }
 
 -- What a conversation of the driver's leaves.
-device_stays : {A : Type 0} (tree : DriverTree A) (v w : Ends) (x : A) → over_lists tree v ≡ (x, w) → w.device ≡ v.device
+pub device_stays : {A : Type 0} (tree : DriverTree A) (v w : Ends) (x : A) → over_lists tree v ≡ (x, w) → w.device ≡ v.device
 device_stays {A} tree v w x played = sym (ap (λ (r : A × Ends). r.1.device) played)
 
 -- A call of the driver's over the rings.
@@ -163,3 +164,17 @@ opens n v w s x h moment empty played made host zero =
     ∙ (ap (λ y. start y h moment (over_lists (new_of n FIRST_PORT 1) (empty_ends n))) made
     ∙ (ap (λ m. start (new_proxy 3 base_path) m moment (over_lists (new_of n FIRST_PORT 1) (empty_ends n))) host
     ∙ ap (λ t. start (new_proxy 3 base_path) (new_host base_path [] plain) t (over_lists (new_of n FIRST_PORT 1) (empty_ends n))) zero))
+
+pub own_size : (n : ℕ) (v : Ends) → v ≡ empty_ends n → v ≡ empty_ends v.lists.size
+own_size n v empty = subst (λ e. e ≡ empty_ends e.lists.size) (sym empty) refl
+
+pub opened_ready : (n : ℕ) (v w : Ends) (s : DriverState) (x : ProxyState) (h : HostContents) (moment : ℕ) → v ≡ empty_ends n
+    → over_lists (new_of v.lists.size FIRST_PORT 1) v ≡ (s, w) → x ≡ new_proxy 3 base_path → IsDriven s w
+    → IsReady (record { driver = s; proxy = x; rings = w; host = h; moment = moment })
+opened_ready n v w s x h moment empty played made driven = record {
+  driven = driven;
+  served =
+      subst (λ y. IsServed y w h) (sym made)
+      (served_rings (new_proxy 3 base_path) v w h (device_stays (new_of v.lists.size FIRST_PORT 1) v w s played)
+      (subst (λ e. IsServed (new_proxy 3 base_path) e h) (sym empty) (served_new n h)));
+}

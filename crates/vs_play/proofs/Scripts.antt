@@ -12,7 +12,7 @@ use Rattle.vs_script.specs.Script.{Saying, Plays, Runs, Attacks, chained, pushed
 use Rattle.vs_script.specs.declared.fault.Refused.{Refused}
 use Rattle.vs_script.specs.declared.fault.Why.{Why}
 use Rattle.vs_script.specs.declared.fault.Why.TheVariants.{BadWord, BadNumber, TooLong, TooMany}
-use Rattle.vs_script.specs.declared.outside.TheConstants.{CID_MIN, CID_MAX, MAX_FILL}
+use Rattle.vs_script.specs.declared.outside.TheConstants.{MAX_FILL}
 use Rattle.vs_script.specs.declared.words.TheConstants.{MAX_BITS}
 use Rattle.vs_script.specs.declared.script.Command.TheVariants as command
 use Rattle.vs_script.specs.declared.script.TheConstants.{MAX_SCRIPT, MAX_LINE, MAX_EVENTS}
@@ -95,8 +95,8 @@ may_outside : (name : List ℕ) (words : List (List ℕ)) → Holds MayBe (outsi
 may_outside name words =
     holds_if MayBe (bytes_eq name (codes "turn")) _ _ (holds_ending MayBe outside.Turn words tt)
     (holds_if MayBe (bytes_eq name (codes "reset")) _ _
-    (holds_named (IsFrom CID_MIN CID_MAX) MayBe outside.Reset (only (number CID_MIN CID_MAX) words)
-    (holds_only (IsFrom CID_MIN CID_MAX) (number CID_MIN CID_MAX) words (holds_number CID_MIN CID_MAX words)) (λ cid is. is))
+    (holds_named (IsFrom 3 4294967294) MayBe outside.Reset (only (number 3 4294967294) words)
+    (holds_only (IsFrom 3 4294967294) (number 3 4294967294) words (holds_number 3 4294967294 words)) (λ cid is. is))
     (holds_if MayBe (bytes_eq name (codes "tick")) _ _ (holds_always MayBe outside.Tick _ (λ ms. tt))
     (holds_if MayBe (bytes_eq name (codes "client")) _ _ (holds_ending MayBe outside.Client words tt)
     (holds_if MayBe (bytes_eq name (codes "host")) _ _

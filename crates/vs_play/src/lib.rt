@@ -1,7 +1,6 @@
 //! Plays: a guest's driver, the device with its proxy and a host in memory on one thread, line by line, and what each line prints.
 #![tactic(auto)]
 
-mod bytes;
 mod device;
 pub mod examples;
 mod guest;

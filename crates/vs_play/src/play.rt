@@ -10,7 +10,6 @@ ghost use Rattle.vs_script.specs.Play.{play_view};
 ghost use Rattle.vs_play.specs.Answer.{opened_play, totals_of};
 ghost use Rattle.vs_play.specs.Ready.{IsBits, IsPlayable, IsReady, Plays, shown, world_in};
 
-use crate::bytes::filled;
 use crate::{device, guest};
 use std::alloc::{AllocError, Global};
 use std::marker::Model;
@@ -198,8 +197,8 @@ impl Play {
     {
         match content {
             Data::Given(bytes) => self.send(id, bytes, text),
-            Data::Fill(fill) => {
-                let bytes = filled(*text.allocator(), *fill)?;
+            Data::Fill(_) => {
+                let bytes = content.to_vec(*text.allocator())?;
                 self.send(id, &bytes, text)
             }
         }
@@ -328,8 +327,8 @@ impl Play {
     {
         match content {
             Data::Given(bytes) => self.host_write(stream, bytes, text),
-            Data::Fill(fill) => {
-                let bytes = filled(*text.allocator(), *fill)?;
+            Data::Fill(_) => {
+                let bytes = content.to_vec(*text.allocator())?;
                 self.host_write(stream, &bytes, text)
             }
         }
