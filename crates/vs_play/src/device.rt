@@ -2,6 +2,7 @@
 
 ghost use Rattle.std.specs.Prelude.{◌≡◌, ◌≤◌, ◌++◌, Result, IfOk, OnOk, false, length, string_bytes};
 ghost use Rattle.vs_driver_parts.specs.State.{DriverState};
+ghost use Rattle.vs_device.specs.Turns.{table_shown};
 ghost use Rattle.vs_proxy.specs.Turns.{proxy_reset_of, turn_of};
 ghost use Rattle.vs_play.specs.Lines.{turn_text};
 ghost use Rattle.vs_play.specs.Ready.{IsDriven, IsServed, over_both};
@@ -60,8 +61,8 @@ pub fn push_turn(text: &mut String, answer: Turn) -> Result<(), AllocError>
 }
 
 /// How many entries the device's table has.
-pub fn open(proxy: &Proxy) -> usize
-    ensures { result ≡ length proxy.now.device.table.entries }
+pub fn device_entries(proxy: &Proxy) -> usize
+    ensures { result ≡ length (table_shown proxy.now.device) }
 {
     proxy.table().count()
 }

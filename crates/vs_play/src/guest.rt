@@ -4,6 +4,7 @@ ghost use Rattle.std.specs.Prelude.{◌≡◌, ℕ, IfOk, length};
 ghost use Rattle.vs_contents.specs.CallTree.{Done};
 ghost use Rattle.vs_ring_list.specs.Ends.{Ends, empty_ends};
 ghost use Rattle.vs_driver_parts.specs.Conversations.{new_of, connect_of, send_of, poll_of};
+ghost use Rattle.vs_driver_parts.specs.Connections.{table_shown};
 ghost use Rattle.vs_driver_parts.specs.declared.limits.TheConstants.{FIRST_PORT};
 ghost use Rattle.vs_world.specs.Calls as call;
 ghost use Rattle.vs_world.specs.GuestSteps.{makes_call};
@@ -146,8 +147,8 @@ pub fn poll(driver: &mut Driver, rings: &mut ListRings) -> Polled
 }
 
 /// How many entries the driver's table has.
-pub fn open(driver: &Driver) -> usize
-    ensures { result ≡ length driver.now.table.entries }
+pub fn guest_entries(driver: &Driver) -> usize
+    ensures { result ≡ length (table_shown driver.now) }
 {
     driver.table().count()
 }

@@ -75,8 +75,8 @@ impl Play {
     {
         let counters = self.proxy.counters();
         Totals {
-            guest_open: guest::open(&self.driver),
-            device_open: device::open(&self.proxy),
+            guest_open: guest::guest_entries(&self.driver),
+            device_open: device::device_entries(&self.proxy),
             dropped: counters.dropped,
             overrun: counters.overrun,
             broken: self.driver.broken(),
