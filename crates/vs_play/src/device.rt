@@ -3,16 +3,36 @@
 ghost use Rattle.std.specs.Prelude.{◌≡◌, ◌≤◌, ◌++◌, Result, IfOk, OnOk, false, length, string_bytes};
 ghost use Rattle.vs_driver_parts.specs.State.{DriverState};
 ghost use Rattle.vs_device.specs.Turns.{table_shown};
-ghost use Rattle.vs_proxy.specs.Turns.{proxy_reset_of, turn_of};
+ghost use Rattle.vs_proxy.specs.Turns.{new_proxy, proxy_reset_of, turn_of};
+ghost use Rattle.vs_world.specs.World.{first_cid};
+ghost use Rattle.vs_play.specs.Answer.{base_path, opened_host};
 ghost use Rattle.vs_play.specs.Lines.{turn_text};
 ghost use Rattle.vs_play.specs.Ready.{IsDriven, IsServed, over_both};
 
-use std::alloc::AllocError;
+use std::alloc::{AllocError, Global};
 use vs_outside::MemHost;
+use vs_page::FIRST_CID;
 use vs_proxy::{Proxy, Turn};
 use vs_report::device_lines::{push_failure, push_turned};
 use vs_ring_list::ListRings;
 use vs_ring_port::Failure;
+
+// The base path of the host's sockets in a play.
+const BASE_PATH: &str = "v.sock";
+
+/// A proxy just made, of the first guest. The only error is want of memory.
+pub fn new(alloc: Global) -> Result<Proxy, AllocError>
+    ensures { IfOk result (λ proxy. proxy ≡ new_proxy first_cid base_path) }
+{
+    Proxy::new(alloc, FIRST_CID, BASE_PATH)
+}
+
+/// A host at which nobody listens. The only error is want of memory.
+pub fn new_host(alloc: Global) -> Result<MemHost, AllocError>
+    ensures { IfOk result (λ host. host.contents ≡ opened_host) }
+{
+    MemHost::new(alloc, BASE_PATH)
+}
 
 /// A turn at the moment `now`, in milliseconds. The only error is want of memory, which the host found in a dial or a write.
 pub fn turn(

@@ -7,15 +7,14 @@ ghost use Rattle.vs_script.specs.Play as script;
 ghost use Rattle.vs_script.specs.Data.{Given, content_of};
 ghost use Rattle.vs_script.specs.Outside.{host_view, outside_view};
 ghost use Rattle.vs_script.specs.Play.{play_view};
-ghost use Rattle.vs_play.specs.Answer.{opened_play, totals_of};
-ghost use Rattle.vs_play.specs.Ready.{IsBits, IsPlayable, IsReady, Plays, shown, world_in};
+ghost use Rattle.vs_play.specs.Answer.{totals_of};
+ghost use Rattle.vs_play.specs.Ready.{IsBits, IsOpened, IsPlayable, IsReady, Plays, world_in};
 
 use crate::{device, guest};
 use std::alloc::{AllocError, Global};
 use std::marker::Model;
 use vs_driver::Driver;
 use vs_outside::{Clock, MemHost, MemStream, StepClock};
-use vs_page::FIRST_CID;
 use vs_proxy::Proxy;
 use vs_report::device_lines::push_reset;
 use vs_report::giving::Totals;
@@ -26,9 +25,6 @@ use vs_report::guest_lines::{
 use vs_report::host_lines::{push_client, push_ok, push_stream_there, push_write};
 use vs_ring_list::ListRings;
 use vs_script::{Data, HostLine, OutsideLine, PlayLine};
-
-/// The base path of the host's sockets in a play.
-pub const BASE_PATH: &str = "v.sock";
 
 /// The world of a play, and the moment.
 #[derive(Drop)]
@@ -51,22 +47,28 @@ impl Model for Play {
 impl Play {
     /// A play just begun over empty rings, with a host at which nobody listens. The only error is want of memory.
     pub fn new(alloc: Global, rings: ListRings) -> Result<Play, AllocError>
-        requires empty { (n : ℕ) × (rings ≡ empty_ends n) }
-        ensures opened { IfOk result (λ play. play ≡ shown (opened_play rings.lists.size)) }
-        ensures ready { IfOk result (λ play. IsReady play) }
+        requires { (n : ℕ) × (rings ≡ empty_ends n) }
+        ensures { IfOk result (IsOpened rings.lists.size) }
     {
         let mut rings = rings;
         let driver = guest::new(alloc, &mut rings)?;
-        let proxy = Proxy::new(alloc, FIRST_CID, BASE_PATH)?;
-        let host = MemHost::new(alloc, BASE_PATH)?;
+        let proxy = device::new(alloc)?;
+        let host = device::new_host(alloc)?;
+        Ok(Play::at_start(rings, driver, proxy, host))
+    }
+
+    // The play of these parts, at the moment 0.
+    fn at_start(rings: ListRings, driver: Driver, proxy: Proxy, host: MemHost) -> Play
+        ensures { result ≡ record { driver = driver; proxy = proxy; rings = rings; host = host.contents; moment = 0 } }
+    {
         let clock = StepClock::new();
-        Ok(Play {
+        Play {
             rings,
             driver,
             proxy,
             host,
             clock,
-        })
+        }
     }
 
     /// What the report counts.

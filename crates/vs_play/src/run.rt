@@ -1,6 +1,6 @@
 //! Playing a script: what each line prints, and then the report, given to a sink line by line.
 
-ghost use Rattle.std.specs.Prelude.{◌≡◌, ◌∷◌, [], ℕ, IfOk, OnOk, map};
+ghost use Rattle.std.specs.Prelude.{◌≡◌, ◌∷◌, [], ℕ, List, Ok, IfOk, OnOk, map};
 ghost use Rattle.std.specs.List.{AllByRecursion};
 ghost use Rattle.vs_ring_list.specs.Ends.{empty_ends};
 ghost use Rattle.vs_script.specs.Play.{Event, play_view};
