@@ -1,6 +1,6 @@
 //! The turn of a proxy, and a transport reset.
 
-ghost use Rattle.std.specs.Prelude.{◌≡◌, ◌≤◌, ◌<◌, ◌+◌, ◌^◌, [], true, Some, None, IfErr, OnErr, OnOk, Err};
+ghost use Rattle.std.specs.Prelude.{◌≡◌, ◌≤◌, ◌<◌, ◌+◌, ◌^◌, [], true, Some, None, IfErr, OnErr, OnOk, Err, length};
 ghost use Rattle.vs_contents.specs.CallTree.{for_each};
 ghost use Rattle.vs_ring_port.specs.declared.failure.Failure.{Failure};
 ghost use Rattle.vs_device.specs.Playing.{IsItsRing, MayRun, MayRunOnHost, Runs, RunsOnHost, situation};
@@ -110,7 +110,8 @@ impl Proxy {
 
     /// The entries of the device's table, each its flow and the state of its end, by rising slot.
     pub fn table(&self) -> Entries<'_>
-        ensures { result ≡ table_shown self.now.device }
+        ensures entries { result ≡ table_shown self.now.device }
+        ensures countable { length result < 2 ^ 64 }
     {
         self.device.table()
     }
