@@ -6,7 +6,5 @@ pub mod examples;
 mod guest;
 pub mod play;
 pub mod run;
-#[cfg(test)]
-mod tests;
 
 pub use play::Play;
