@@ -3,8 +3,6 @@
 
 pub mod both_ends;
 pub mod standard_rings;
-#[cfg(test)]
-mod tests;
 
 pub use both_ends::BothEnds;
 pub use standard_rings::StandardRings;

@@ -6,4 +6,6 @@ pub mod Served
 pub mod Devices
 pub mod Driven
 pub mod Playing
-pub mod Filling
+pub mod Journal
+pub mod LinesPlayed
+pub mod Scripts

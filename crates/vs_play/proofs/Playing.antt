@@ -1,5 +1,5 @@
 -- A call of the guest's is a line of the play.
-use Rattle.std.proofs.Common.{◌≡◌, ℕ, ◌+◌, min, List, [], ◌++◌, Result, refl, sym, ap, subst, ◌∙◌}
+use Rattle.std.proofs.Common.{◌≡◌, ℕ, ◌+◌, min, List, ◌++◌, Result, refl, sym, ap, subst, ◌∙◌}
 use Rattle.vs_ring_list.specs.Ends.{Ends, empty_ends}
 use Rattle.vs_driver_parts.specs.State.{DriverState}
 use Rattle.vs_contents.specs.CallTree.{Done}
@@ -7,7 +7,7 @@ use Rattle.vs_driver_parts.specs.Conversations.{DriverTree, new_of, poll_of}
 use Rattle.vs_driver_parts.specs.declared.limits.TheConstants.{FIRST_PORT}
 use Rattle.vs_driver_parts.specs.declared.answers.Polled.{Polled}
 use Rattle.vs_outside.specs.Host.{HostContents}
-use Rattle.vs_outside.specs.HostProgram.{HostMemory, new_host, plain}
+use Rattle.vs_outside.specs.HostProgram.{HostMemory}
 use Rattle.vs_report.specs.GuestLines.{poll_text}
 use Rattle.vs_report.specs.HostLines.{ok_text}
 use Rattle.vs_script.specs.Outside.{Reset, Tick, Turn}
@@ -20,17 +20,19 @@ use Rattle.vs_core.specs.Calls.{GuestCall, ReplyTo}
 use Rattle.vs_core.specs.Plays.{Guest, whole_call}
 use Rattle.vs_proxy_parts.specs.State.{ProxyState}
 use Rattle.vs_proxy_parts.specs.Turns.{new_proxy, proxy_reset_of, turn_of}
-use Rattle.vs_play.specs.Answer.{base_path, opened_play}
+use Rattle.vs_core.specs.World.{first_cid}
+use Rattle.vs_play.specs.Answer.{base_path, opened_host, opened_play}
 use Rattle.vs_play.specs.Lines.{event_played, played_line, reply_text, turn_text}
+use Rattle.vs_play.proofs.Devices.{served_new}
 use Rattle.vs_play.proofs.Served.{StayOpen, served_host, served_rings}
-use Rattle.vs_play.specs.Ready.{IsDriven, IsReady, IsServed, PlayState, Plays, over_both, over_lists, shown, world_in}
+use Rattle.vs_play.specs.Ready.{IsDriven, IsOpened, IsReady, IsServed, PlayState, Plays, over_both, over_lists, shown, world_in}
 
 -- The play once its driver made a call.
 abbrev pub with_driver : PlayState → DriverState → Ends → PlayState
 with_driver p s e = record p { driver = s; rings = e }
 
 -- What a conversation of the driver's leaves.
-device_stays : {A : Type 0} (tree : DriverTree A) (v w : Ends) (x : A) → over_lists tree v ≡ (x, w) → w.device ≡ v.device
+pub device_stays : {A : Type 0} (tree : DriverTree A) (v w : Ends) (x : A) → over_lists tree v ≡ (x, w) → w.device ≡ v.device
 device_stays {A} tree v w x played = sym (ap (λ (r : A × Ends). r.1.device) played)
 
 -- A call of the driver's over the rings.
@@ -151,15 +153,37 @@ tick_plays ms p moment text text' is ready printed = record {
   ready = record { driven = ready.driven; served = ready.served };
 }
 
--- A play just made.
-pub opens : (n : ℕ) (v w : Ends) (s : DriverState) (x : ProxyState) (h : HostMemory) (moment : ℕ) → v ≡ empty_ends n
-    → over_lists (new_of v.lists.size FIRST_PORT 1) v ≡ (s, w)
-    → x ≡ new_proxy 3 base_path → h ≡ new_host base_path [] plain → moment ≡ 0
-    → record { driver = s; proxy = x; rings = w; host = h.contents; moment = moment } ≡ shown (opened_play n)
-opens n v w s x h moment empty played made host zero =
+-- A play just begun, of these parts.
+abbrev pub begun : DriverState → ProxyState → Ends → HostContents → PlayState
+begun s x w h = record { driver = s; proxy = x; rings = w; host = h; moment = 0 }
+
+own_size : (n : ℕ) (v : Ends) → v ≡ empty_ends n → v ≡ empty_ends v.lists.size
+own_size n v empty = subst (λ e. e ≡ empty_ends e.lists.size) (sym empty) refl
+
+begun_same : (n : ℕ) (v w : Ends) (s : DriverState) (x : ProxyState) (h : HostContents) → v ≡ empty_ends n
+    → over_lists (new_of v.lists.size FIRST_PORT 1) v ≡ (s, w) → x ≡ new_proxy first_cid base_path → h ≡ opened_host
+    → begun s x w h ≡ shown (opened_play n)
+begun_same n v w s x h empty played made host =
     let there : over_lists (new_of n FIRST_PORT 1) (empty_ends n) ≡ (s, w) = subst (λ e. over_lists (new_of e.lists.size FIRST_PORT 1) e ≡ (s, w)) empty played in
-    let start : ProxyState → HostMemory → ℕ → DriverState × Ends → PlayState = λ y m t r. record { driver = r.0; proxy = y; rings = r.1; host = m.contents; moment = t } in
-    ap (start x h moment) (sym there)
-    ∙ (ap (λ y. start y h moment (over_lists (new_of n FIRST_PORT 1) (empty_ends n))) made
-    ∙ (ap (λ m. start (new_proxy 3 base_path) m moment (over_lists (new_of n FIRST_PORT 1) (empty_ends n))) host
-    ∙ ap (λ t. start (new_proxy 3 base_path) (new_host base_path [] plain) t (over_lists (new_of n FIRST_PORT 1) (empty_ends n))) zero))
+    let start : ProxyState → HostContents → DriverState × Ends → PlayState = λ y g r. begun r.0 y r.1 g in
+    ap (start x h) (sym there)
+    ∙ (ap (λ y. start y h (over_lists (new_of n FIRST_PORT 1) (empty_ends n))) made
+    ∙ ap (λ g. start (new_proxy first_cid base_path) g (over_lists (new_of n FIRST_PORT 1) (empty_ends n))) host)
+
+begun_ready : (n : ℕ) (v w : Ends) (s : DriverState) (x : ProxyState) (h : HostContents) → v ≡ empty_ends n
+    → over_lists (new_of v.lists.size FIRST_PORT 1) v ≡ (s, w) → x ≡ new_proxy first_cid base_path → IsDriven s w → IsReady (begun s x w h)
+begun_ready n v w s x h empty played made driven = record {
+  driven = driven;
+  served =
+      subst (λ y. IsServed y w h) (sym made)
+      (served_rings (new_proxy first_cid base_path) v w h (device_stays (new_of v.lists.size FIRST_PORT 1) v w s played)
+      (subst (λ e. IsServed (new_proxy first_cid base_path) e h) (sym empty) (served_new n h)));
+}
+
+pub opens : (n : ℕ) (v w : Ends) (s : DriverState) (x : ProxyState) (h : HostContents) (p : PlayState) → v ≡ empty_ends n
+    → over_lists (new_of v.lists.size FIRST_PORT 1) v ≡ (s, w) → x ≡ new_proxy first_cid base_path → h ≡ opened_host → IsDriven s w
+    → p ≡ begun s x w h → IsOpened v.lists.size p
+opens n v w s x h p empty played made host driven is = subst (IsOpened v.lists.size) (sym is) (record {
+  world = begun_same v.lists.size v w s x h (own_size n v empty) played made host;
+  ready = begun_ready n v w s x h empty played made driven;
+})

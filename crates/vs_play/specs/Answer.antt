@@ -1,5 +1,6 @@
 -- The answer of a play: the lines that a script prints, and the status that it ends with, as a function of its bytes.
 use Rattle.std.specs.Prelude.{ℕ, List, [], ◌∷◌, ◌++◌, length, map, codes, Result, Ok, Err}
+use Rattle.vs_outside.specs.Host.{HostContents}
 use Rattle.vs_outside.specs.HostProgram.{new_host, plain}
 use Rattle.vs_script.specs.Fault.{refused_text}
 use Rattle.vs_script.specs.Play.{Event}
@@ -15,8 +16,11 @@ use Rattle.vs_play.specs.Lines.{PlayWorld, event_played}
 abbrev pub base_path : List ℕ
 base_path = codes "v.sock"
 
+abbrev pub opened_host : HostContents
+opened_host = (new_host base_path [] plain).contents
+
 abbrev pub opened_play : ℕ → PlayWorld
-opened_play n = record { world = opening n (new_host base_path [] plain).contents; moment = 0 }
+opened_play n = record { world = opening n opened_host; moment = 0 }
 
 -- What event lines lead to, and what they print.
 abbrev pub world_after : List Event → PlayWorld → PlayWorld
@@ -53,8 +57,12 @@ printed n es = texts_of es (opened_play n) ++ report_of (world_after es (opened_
 abbrev pub refusal : Refused → Answer
 refusal r = record { lines = (refused_text r ++ codes "\n") ∷ []; status = 2 }
 
+-- The event lines of a script, without their numbers.
+abbrev pub events_in : List (ℕ × Event) → List Event
+events_in lines = map (λ l. l.1) lines
+
 abbrev pub answer_to : ℕ → Result Saying Refused → Answer
-answer_to n (Ok (Plays lines)) = record { lines = printed n (map (λ l. l.1) lines); status = 0 }
+answer_to n (Ok (Plays lines)) = record { lines = printed n (events_in lines); status = 0 }
 answer_to n (Ok _) = record { lines = []; status = 0 }
 answer_to n (Err r) = refusal r
 

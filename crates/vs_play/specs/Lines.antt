@@ -1,5 +1,5 @@
 -- The lines of a play: what each does to the world, and what it prints.
-use Rattle.std.specs.Prelude.{ℕ, zero, suc, ◌+◌, min, List, [], ◌∷◌, Option, Some, None, Result, Ok, Err}
+use Rattle.std.specs.Prelude.{ℕ, ◌+◌, min, List, Option, Some, None, Result, Ok, Err}
 use Rattle.vs_flow.specs.declared.flow.Flow.{Flow}
 use Rattle.vs_driver_parts.specs.Connections.{flow_of}
 use Rattle.vs_driver_parts.specs.State.{DriverState}
@@ -8,8 +8,7 @@ use Rattle.vs_driver_parts.specs.declared.answers.Accepted.TheVariants as accept
 use Rattle.vs_driver_parts.specs.declared.answers.ConnectError.{ConnectError}
 use Rattle.vs_proxy_parts.specs.declared.answers.Turn.{Turn}
 use Rattle.vs_proxy_parts.specs.declared.answers.Turn.TheVariants as turn
-use Rattle.vs_script.specs.Data.{Content, filled}
-use Rattle.vs_script.specs.Data as data_
+use Rattle.vs_script.specs.Data.{bytes_of}
 use Rattle.vs_script.specs.Outside.{Outside, Host}
 use Rattle.vs_script.specs.Outside as outside
 use Rattle.vs_script.specs.Play.{Event}
@@ -22,15 +21,6 @@ use Rattle.vs_core.specs.World.{World}
 use Rattle.vs_report.specs.GuestLines.{connect_text, listen_text, unlisten_text, accept_text, send_text, recv_text, shutdown_text, close_text, state_text, poll_text}
 use Rattle.vs_report.specs.DeviceLines.{failure_text, turned_text, reset_text}
 use Rattle.vs_report.specs.HostLines.{ok_text, client_text, write_text, stream_there_text}
-
--- The bytes of a line's DATA.
-abbrev pub filled_from : ℕ → ℕ → ℕ → List ℕ
-filled_from start place zero = []
-filled_from start place (suc n) = filled start place ∷ filled_from start (place + 1) n
-
-abbrev pub bytes_of : Content → List ℕ
-bytes_of (data_.Given bytes) = bytes
-bytes_of (data_.Fill n start) = filled_from start 0 n
 
 -- The flow of a connection that was opened or accepted.
 abbrev pub flow_opened : Result ℕ ConnectError → DriverState → Option Flow

@@ -20,6 +20,7 @@ use Rattle.vs_proxy_parts.specs.State.{ProxyState}
 use Rattle.vs_proxy_log.specs.Order.{IsInOrder}
 use Rattle.vs_core.specs.Answers.{Around, answer_around}
 use Rattle.vs_core.specs.World.{first_cid}
+use Rattle.vs_play.specs.Answer.{opened_play}
 use Rattle.vs_play.specs.Lines.{PlayWorld, event_played}
 
 -- What a conversation of the driver's leads to over list rings.
@@ -81,6 +82,11 @@ world_in p = record {
 pub record IsReady (p : PlayState) : Type 0 where
   pub driven : IsDriven p.driver p.rings
   pub served : IsServed p.proxy p.rings p.host
+
+-- A play just begun over empty rings with queues of n pages.
+pub record IsOpened (n : ℕ) (p : PlayState) : Type 0 where
+  pub world : p ≡ shown (opened_play n)
+  pub ready : IsReady p
 
 -- A line was played: the world is the one that it leads to, its text stands behind what stood there, and the next line may be played.
 pub record Plays (e : Event) (old new : PlayState) (text text' : List ℕ) : Type 0 where

@@ -1,17 +1,38 @@
 //! The calls of the device with its proxy over rings on one thread and a host in memory, each with the one end that it leads to.
 
-ghost use Rattle.std.specs.Prelude.{◌≡◌, ◌≤◌, ◌++◌, Result, IfOk, OnOk, false, string_bytes};
+ghost use Rattle.std.specs.Prelude.{◌≡◌, ◌≤◌, ◌++◌, Result, IfOk, OnOk, false, length, string_bytes};
 ghost use Rattle.vs_driver_parts.specs.State.{DriverState};
-ghost use Rattle.vs_proxy_parts.specs.Turns.{proxy_reset_of, turn_of};
+ghost use Rattle.vs_device_parts.specs.Turns.{table_shown};
+ghost use Rattle.vs_proxy_parts.specs.Turns.{new_proxy, proxy_reset_of, turn_of};
+ghost use Rattle.vs_core.specs.World.{first_cid};
+ghost use Rattle.vs_play.specs.Answer.{base_path, opened_host};
 ghost use Rattle.vs_play.specs.Lines.{turn_text};
 ghost use Rattle.vs_play.specs.Ready.{IsDriven, IsServed, over_both};
 
-use std::alloc::AllocError;
+use std::alloc::{AllocError, Global};
 use vs_both_ends::BothEnds;
 use vs_outside::MemHost;
+use vs_page::FIRST_CID;
 use vs_proxy::{Proxy, Turn};
 use vs_report::device_lines::{push_failure, push_turned};
 use vs_ring_port::Failure;
+
+// The base path of the host's sockets in a play.
+const BASE_PATH: &str = "v.sock";
+
+/// A proxy just made, of the first guest. The only error is want of memory.
+pub fn new(alloc: Global) -> Result<Proxy, AllocError>
+    ensures { IfOk result (λ proxy. proxy ≡ new_proxy first_cid base_path) }
+{
+    Proxy::new(alloc, FIRST_CID, BASE_PATH)
+}
+
+/// A host at which nobody listens. The only error is want of memory.
+pub fn new_host(alloc: Global) -> Result<MemHost, AllocError>
+    ensures { IfOk result (λ host. host.contents ≡ opened_host) }
+{
+    MemHost::new(alloc, BASE_PATH)
+}
 
 /// A turn at the moment `now`, in milliseconds. The only error is want of memory, which the host found in a dial or a write.
 pub fn turn<R: BothEnds>(
@@ -57,6 +78,13 @@ pub fn push_turn(text: &mut String, answer: Turn) -> Result<(), AllocError>
         Turn::Turned(t) => push_turned(text, t.took, t.put, t.read, t.wrote, t.opened, t.closed),
         Turn::Failed(failure) => push_failure(text, failure),
     }
+}
+
+/// How many entries the device's table has.
+pub fn device_entries(proxy: &Proxy) -> usize
+    ensures { result ≡ length (table_shown proxy.now.device) }
+{
+    proxy.table().count()
 }
 
 // The host found memory in each dial and each write. The only error is that it didn't.

@@ -1,9 +1,10 @@
 //! The calls of the guest's driver over rings on one thread, each with the one end that it leads to.
 
-ghost use Rattle.std.specs.Prelude.{◌≡◌, ℕ, IfOk};
+ghost use Rattle.std.specs.Prelude.{◌≡◌, ℕ, IfOk, length};
 ghost use Rattle.vs_contents.specs.CallTree.{Done};
 ghost use Rattle.vs_ring_list.specs.Ends.{Ends, empty_ends};
 ghost use Rattle.vs_driver_parts.specs.Conversations.{new_of, connect_of, send_of, poll_of};
+ghost use Rattle.vs_driver_parts.specs.Connections.{table_shown};
 ghost use Rattle.vs_driver_parts.specs.declared.limits.TheConstants.{FIRST_PORT};
 ghost use Rattle.vs_core.specs.Calls as call;
 ghost use Rattle.vs_core.specs.GuestSteps.{makes_call};
@@ -143,4 +144,11 @@ pub fn poll<R: BothEnds>(driver: &mut Driver, rings: &mut R) -> Polled
     ensures driven { IsDriven driver.new (R.ends rings.new) }
 {
     driver.poll(rings)
+}
+
+/// How many entries the driver's table has.
+pub fn guest_entries(driver: &Driver) -> usize
+    ensures { result ≡ length (table_shown driver.now) }
+{
+    driver.table().count()
 }

@@ -1,22 +1,24 @@
 //! A play: a guest's driver and the device with its proxy on one thread, over rings of any kind, with a host in memory.
 
-ghost use Rattle.std.specs.Prelude.{◌≡◌, ◌≤◌, ◌++◌, OnOk, string_bytes};
+ghost use Rattle.std.specs.Prelude.{◌≡◌, ◌≤◌, ◌++◌, ℕ, IfOk, OnOk, string_bytes};
+ghost use Rattle.vs_ring_list.specs.Ends.{empty_ends};
 ghost use Rattle.vs_script.specs.Outside as outside;
 ghost use Rattle.vs_script.specs.Play as script;
 ghost use Rattle.vs_script.specs.Data.{Given, content_of};
 ghost use Rattle.vs_script.specs.Outside.{host_view, outside_view};
 ghost use Rattle.vs_script.specs.Play.{play_view};
-ghost use Rattle.vs_play.specs.Ready.{IsBits, IsPlayable, IsReady, Plays};
+ghost use Rattle.vs_play.specs.Answer.{totals_of};
+ghost use Rattle.vs_play.specs.Ready.{IsBits, IsOpened, IsPlayable, IsReady, Plays, world_in};
 
-use crate::bytes::filled;
 use crate::{device, guest};
-use std::alloc::AllocError;
+use std::alloc::{AllocError, Global};
 use std::marker::Model;
 use vs_both_ends::BothEnds;
 use vs_driver::Driver;
-use vs_outside::{Clock, MemHost, StepClock};
+use vs_outside::{Clock, MemHost, MemStream, StepClock};
 use vs_proxy::Proxy;
 use vs_report::device_lines::push_reset;
+use vs_report::giving::Totals;
 use vs_report::guest_lines::{
     push_accept, push_close, push_connect, push_listen, push_poll, push_recv, push_send,
     push_shutdown, push_state, push_unlisten,
@@ -42,7 +44,57 @@ impl<R: BothEnds> Model for Play<R> {
     ghost view = { λ p. record { driver = p.driver; proxy = p.proxy; rings = R.ends p.rings; host = p.host.contents; moment = p.clock } };
 }
 
+impl<R: BothEnds + Drop> Play<R> {
+    /// A play just begun over empty rings, with a host at which nobody listens. The only error is want of memory.
+    pub fn new(alloc: Global, rings: R) -> Result<Play<R>, AllocError>
+        requires { (n : ℕ) × (R.ends rings ≡ empty_ends n) }
+        ensures { IfOk result (IsOpened (R.ends rings).lists.size) }
+    {
+        let mut rings = rings;
+        let driver = guest::new(alloc, &mut rings)?;
+        let proxy = device::new(alloc)?;
+        let host = device::new_host(alloc)?;
+        Ok(Play::at_start(rings, driver, proxy, host))
+    }
+}
+
 impl<R: BothEnds> Play<R> {
+    // The play of these parts, at the moment 0.
+    fn at_start(rings: R, driver: Driver, proxy: Proxy, host: MemHost) -> Play<R>
+        ensures { result ≡ record { driver = driver; proxy = proxy; rings = R.ends rings; host = host.contents; moment = 0 } }
+    {
+        let clock = StepClock::new();
+        Play {
+            rings,
+            driver,
+            proxy,
+            host,
+            clock,
+        }
+    }
+
+    /// What the report counts.
+    pub fn totals(&self) -> Totals
+        ensures { result ≡ totals_of (world_in self.now).world }
+    {
+        let counters = self.proxy.counters();
+        Totals {
+            guest_open: guest::guest_entries(&self.driver),
+            device_open: device::device_entries(&self.proxy),
+            dropped: counters.dropped,
+            overrun: counters.overrun,
+            broken: self.driver.broken(),
+            faults: counters.faults,
+        }
+    }
+
+    /// The host's streams, by rising id.
+    pub fn streams(&self) -> &[MemStream]
+        ensures { result.now ≡ self.now.host.streams }
+    {
+        self.host.streams()
+    }
+
     /// Plays a line: does what it says, and appends what it prints. The only error is want of memory, and then the play may not go on.
     pub fn line(&mut self, line: &PlayLine, text: &mut String) -> Result<(), AllocError>
         requires ready { IsReady self.old }
@@ -149,8 +201,8 @@ impl<R: BothEnds> Play<R> {
     {
         match content {
             Data::Given(bytes) => self.send(id, bytes, text),
-            Data::Fill(fill) => {
-                let bytes = filled(*text.allocator(), *fill)?;
+            Data::Fill(_) => {
+                let bytes = content.to_vec(*text.allocator())?;
                 self.send(id, &bytes, text)
             }
         }
@@ -279,8 +331,8 @@ impl<R: BothEnds> Play<R> {
     {
         match content {
             Data::Given(bytes) => self.host_write(stream, bytes, text),
-            Data::Fill(fill) => {
-                let bytes = filled(*text.allocator(), *fill)?;
+            Data::Fill(_) => {
+                let bytes = content.to_vec(*text.allocator())?;
                 self.host_write(stream, &bytes, text)
             }
         }

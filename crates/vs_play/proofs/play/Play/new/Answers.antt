@@ -1,0 +1,7 @@
+use Rattle.vs_play.proofs.Playing.{opens}
+use Rattle.vs_play.proofs.play.Play.new.Goals as goal
+
+pub returns : goal.returns
+returns g c =
+    opens c.requires.0 (g.R.BothEnds.ends c.args.rings) _ _ _ _ _ c.requires.1 c.in_ok-driver.ensures.played c.in_ok-proxy.ensures c.in_ok-host.ensures
+    c.in_ok-driver.ensures.driven c.at_start.ensures
