@@ -10,3 +10,4 @@ pub mod DeviceEnds
 pub mod Meetings
 pub mod Together
 pub mod SharedEnds
+pub mod Senders

@@ -117,6 +117,7 @@ fn twin(chain: &Chain) -> Chain
 }
 
 /// Takes the next page as a chain, and holds it.
+#[inline(always)]
 pub(crate) fn take_chain(
     port: &mut Port,
     numbers: &mut DeviceQueue,
@@ -152,6 +153,7 @@ fn entries_in(queue: Queue, page: &Page) -> u64
 }
 
 /// Returns a chain that is held with the first `len` of its bytes. Answers how many entries the log gets.
+#[inline(always)]
 pub(crate) fn return_chain(
     port: &mut Port,
     numbers: &mut DeviceQueue,

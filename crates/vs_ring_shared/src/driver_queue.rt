@@ -37,6 +37,7 @@ fn flags(queue: Queue) -> u64
 }
 
 /// Stages a page in a free slot. It comes back where none is free.
+#[inline(always)]
 pub(crate) fn stage(
     port: &mut Port,
     numbers: &mut DriverQueue,
@@ -71,6 +72,7 @@ pub(crate) fn stage(
 }
 
 /// Gives the pages staged.
+#[inline(always)]
 pub(crate) fn publish(port: &mut Port, numbers: &mut DriverQueue, queue: Queue)
     requires seat { IsDriverSeat port.old.token.me }
     requires numbers { Numbers port.old.size (queue_in queue port.old.token.me.0) numbers.old }
@@ -87,6 +89,7 @@ pub(crate) fn publish(port: &mut Port, numbers: &mut DriverQueue, queue: Queue)
 }
 
 /// Takes the page back that the device gave back first of those not yet taken.
+#[inline(always)]
 pub(crate) fn reap(port: &mut Port, numbers: &mut DriverQueue, queue: Queue) -> Option<Page>
     requires seat { IsDriverSeat port.old.token.me }
     requires numbers { Numbers port.old.size (queue_in queue port.old.token.me.0) numbers.old }

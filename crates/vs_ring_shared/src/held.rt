@@ -63,6 +63,18 @@ fn take_from(pages: &mut VecDeque<HeldPage>, place: usize) -> HeldPage
     if place == 0 {
         return pages.pop_front().unwrap();
     }
+    remove_from(pages, place)
+}
+
+/// The same for any place.
+#[cold]
+#[inline(never)]
+fn remove_from(pages: &mut VecDeque<HeldPage>, place: usize) -> HeldPage
+    requires { place < length pages.old.items }
+    ensures value { result ≡ slice_index_or pages.old.items place result }
+    ensures items { pages.new.items ≡ remove pages.old.items place }
+    ensures room { deque_capacity pages.new ≡ deque_capacity pages.old }
+{
     pages.remove(place).unwrap()
 }
 
@@ -113,6 +125,8 @@ impl HeldPages {
     }
 
     /// The place of the newest hold of that very chain, where it is held.
+    #[cold]
+    #[inline(never)]
     fn search(&self, chain: &Chain) -> Option<usize>
         ensures { result ≡ position (λ h. same_chain chain.now h.chain) (all_held self.now.pages) }
     {

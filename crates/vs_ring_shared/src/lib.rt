@@ -12,6 +12,8 @@ mod held;
 mod making;
 mod meeting;
 mod names;
+#[cfg(test)]
+mod packet_tests;
 mod plays;
 mod port;
 mod shared_rings;

@@ -23,10 +23,12 @@ pub returns-in-Rx-clause-chain : goal.returns-in-Rx-clause-chain
 returns-in-Rx-clause-chain c =
     let d = c.self.inside in
     let call = c.take_chain in
-    let table = same_table d.port call.new.port call.ensures.table in
-    subst (λ (s : DeviceSight). IfSome call.result (λ chain. TakesOne c.args.queue chain s (record { sight = sight_of call.new.port.token.table_id call.new.port.size call.new.port.token.me.0; held = all_held call.new.held.pages }))) c.self.view_is
-    (IfSome_then call.result call.ensures.chain (λ chain b. seen_chain d.port.size call.new.port.size c.args.queue chain d.port.token.me call.new.port.token.me
-    call.new.numbers d.port.token.table_id call.new.port.token.table_id d.held call.new.held call.ensures.size table b))
+    let p = call.new.port in
+    let table = same_table d.port p call.ensures.table in
+    let sight : DeviceSight = record { sight = sight_of p.token.table_id p.size p.token.me.0; held = all_held call.new.held.pages } in
+    subst (λ (s : DeviceSight). IfSome call.result (λ chain. TakesOne c.args.queue chain s sight)) c.self.view_is
+    (IfSome_then call.result call.ensures.chain (λ chain b. seen_chain d.port.size p.size c.args.queue chain d.port.token.me p.token.me
+    call.new.numbers d.port.token.table_id p.token.table_id d.held call.new.held call.ensures.size table b))
 
 pub take_chain-requires-in-Tx-clause-room : goal.take_chain-requires-in-Tx-clause-room
 take_chain-requires-in-Tx-clause-room c =
@@ -36,26 +38,30 @@ pub returns-in_ok-chain-in-Tx-clause-chain : goal.returns-in_ok-chain-in-Tx-clau
 returns-in_ok-chain-in-Tx-clause-chain c =
     let d = c.self.inside in
     let call = c.take_chain-in-Tx in
+    let p = call.new.port in
     let chain = c.in_ok-chain-in-Tx.chain in
-    let table = same_table d.port call.new.port call.ensures.table in
-    subst (λ (s : DeviceSight). TakesOne c.args.queue chain s (record { sight = sight_of call.new.port.token.table_id call.new.port.size call.new.port.token.me.0; held = all_held call.new.held.pages })) c.self.view_is
-    (seen_chain d.port.size call.new.port.size c.args.queue chain d.port.token.me call.new.port.token.me call.new.numbers d.port.token.table_id
-    call.new.port.token.table_id d.held call.new.held call.ensures.size table c.in_ok-chain-in-Tx.ensures.chain)
+    let table = same_table d.port p call.ensures.table in
+    let sight : DeviceSight = record { sight = sight_of p.token.table_id p.size p.token.me.0; held = all_held call.new.held.pages } in
+    subst (λ (s : DeviceSight). TakesOne c.args.queue chain s sight) c.self.view_is
+    (seen_chain d.port.size p.size c.args.queue chain d.port.token.me p.token.me call.new.numbers d.port.token.table_id
+    p.token.table_id d.held call.new.held call.ensures.size table c.in_ok-chain-in-Tx.ensures.chain)
 
 pub invariant_of-self-in-Tx : goal.invariant_of-self-in-Tx
 invariant_of-self-in-Tx c =
     let d = c.self.inside in
     let me = d.port.token.me in
     let call = c.take_chain-in-Tx in
+    let p = call.new.port in
     let b = c.in_ok-chain-in-Tx.ensures.chain in
-    let counters : DeviceCounters = record d.counters { tx_got = (d.counters.tx_got + c.packets_in_newest-more.result) % 18446744073709551616 } in
-    let one : ℕ → DeviceCounters = λ k. record d.counters { tx_got = (d.counters.tx_got + k) % 18446744073709551616 } in
+    let w : ℕ = 18446744073709551616 in
+    let counters : DeviceCounters = record d.counters { tx_got = (d.counters.tx_got + c.packets_in_newest-more.result) % w } in
+    let one : ℕ → DeviceCounters = λ k. record d.counters { tx_got = (d.counters.tx_got + k) % w } in
     let more : c.packets_in_newest-more.result ≡ length (listed (packet_held b.page)) =
     c.packets_in_newest-more.ensures ∙ ap (λ (h : Holding). packets_in_first h.pages) b.held_is
     ∙ ap (λ (q : Queue). length (listed (packet_held (to_read q b.page)))) c.in-Tx.is in (
       search rules,
       counts_turn d.port.size c.args.queue (took_queue b.takes.shown b.page) (b.slot ∷ (queue_in c.args.queue me.0).held)
-          (entries_taken c.args.queue b.page me.0.log) me call.new.port.token.me call.new.numbers counters b.takes.turns
+          (entries_taken c.args.queue b.page me.0.log) me p.token.me call.new.numbers counters b.takes.turns
           (subst (λ (q : Queue). CountsDevice (entries_taken q b.page me.0.log) counters) (sym c.in-Tx.is)
           (count_taken me.0.log d.counters counters c.self.invariant.1 b.page (ap one more))),
     )
@@ -68,7 +74,9 @@ pub returns-in-Event-clause-chain : goal.returns-in-Event-clause-chain
 returns-in-Event-clause-chain c =
     let d = c.self.inside in
     let call = c.take_chain-in-Event in
-    let table = same_table d.port call.new.port call.ensures.table in
-    subst (λ (s : DeviceSight). IfSome call.result (λ chain. TakesOne c.args.queue chain s (record { sight = sight_of call.new.port.token.table_id call.new.port.size call.new.port.token.me.0; held = all_held call.new.held.pages }))) c.self.view_is
-    (IfSome_then call.result call.ensures.chain (λ chain b. seen_chain d.port.size call.new.port.size c.args.queue chain d.port.token.me call.new.port.token.me
-    call.new.numbers d.port.token.table_id call.new.port.token.table_id d.held call.new.held call.ensures.size table b))
+    let p = call.new.port in
+    let table = same_table d.port p call.ensures.table in
+    let sight : DeviceSight = record { sight = sight_of p.token.table_id p.size p.token.me.0; held = all_held call.new.held.pages } in
+    subst (λ (s : DeviceSight). IfSome call.result (λ chain. TakesOne c.args.queue chain s sight)) c.self.view_is
+    (IfSome_then call.result call.ensures.chain (λ chain b. seen_chain d.port.size p.size c.args.queue chain d.port.token.me p.token.me
+    call.new.numbers d.port.token.table_id p.token.table_id d.held call.new.held call.ensures.size table b))
