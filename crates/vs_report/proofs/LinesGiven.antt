@@ -29,18 +29,18 @@ some_append (Some held) mid new xs ys e h =
 -- some lines whole are some of those and more
 lines_more : (old new : Option (List ℕ)) (xs ys : List (List ℕ)) → EmitsLines old new xs → EmitsLines old new (xs ++ ys)
 lines_more None new xs ys h = h
-lines_more (Some held) new xs ys h = (h.0, h.1 ++ ys, sym (append_assoc h.0 h.1 ys) ∙ ap (λ zs. zs ++ ys) h.2, h.3)
+lines_more (Some held) new xs ys h = (h.0, h.1, h.2 ++ ys, sym (append_assoc h.0 (h.1 ∷ h.2) ys) ∙ ap (λ zs. zs ++ ys) h.3, h.4)
 
 -- lines, and then some more whole
 lines_append : (old mid new : Option (List ℕ)) (xs ys : List (List ℕ)) → Emits old mid (joined xs) → EmitsLines mid new ys → EmitsLines old new (xs ++ ys)
 lines_append None mid new xs ys e h = subst (λ m. EmitsLines m new ys) e h
 lines_append (Some held) mid new xs ys e h =
     let k = subst (λ m. EmitsLines m new ys) e h in
-    (xs ++ k.0, k.1, append_assoc xs k.0 k.1 ∙ ap (λ zs. xs ++ zs) k.2, k.3 ∙ ap (λ zs. Some zs) (append_assoc held (joined xs) (joined k.0) ∙ ap (λ zs. held ++ zs) (sym (joined_append xs k.0))))
+    (xs ++ k.0, k.1, k.2, append_assoc xs k.0 (k.1 ∷ k.2) ∙ ap (λ zs. xs ++ zs) k.3, k.4 ∙ ap (λ zs. Some zs) (append_assoc held (joined xs) (joined k.0) ∙ ap (λ zs. held ++ zs) (sym (joined_append xs k.0))))
 
-no_lines : (old : Option (List ℕ)) (xs : List (List ℕ)) → EmitsLines old old xs
-no_lines None xs = refl
-no_lines (Some held) xs = ([], xs, refl, ap (λ ys. Some ys) (sym (append-nil held)))
+no_lines : (old : Option (List ℕ)) (x : List ℕ) (xs : List (List ℕ)) → EmitsLines old old (x ∷ xs)
+no_lines None x xs = refl
+no_lines (Some held) x xs = ([], x, xs, refl, ap (λ ys. Some ys) (sym (append-nil held)))
 
 -- all of no lines
 pub gives_none : (old : Option (List ℕ)) (f : ℕ) → GivesLines old old f f [] (Ok tt)
@@ -54,8 +54,13 @@ pub gives_part : (old new : Option (List ℕ)) (f g : ℕ) (x : List ℕ) → Em
 gives_part old new f g x e counts = (subst (λ ys. EmitsSome old new ys) (sym (append-nil x)) e, counts)
 
 -- none of some lines, where there is no memory for the first
-pub gives_nothing : (old : Option (List ℕ)) (f : ℕ) (xs : List (List ℕ)) → GivesLines old old f f xs (Err fault.OutOfMemory)
-gives_nothing old f xs = (no_lines old xs, refl)
+pub gives_nothing : (old : Option (List ℕ)) (f : ℕ) (x : List ℕ) (xs : List (List ℕ)) → GivesLines old old f f (x ∷ xs) (Err fault.OutOfMemory)
+gives_nothing old f x xs = (no_lines old x xs, refl)
+
+-- the same of a result that says so
+pub nothing_given : (old : Option (List ℕ)) (f : ℕ) (x : List ℕ) (xs : List (List ℕ)) (r : Result (Unit {0}) GiveError) → r ≡ Err fault.OutOfMemory
+    → GivesLines old old f f (x ∷ xs) r
+nothing_given old f x xs r e = rw e (gives_nothing old f x xs)
 
 -- all of the first lines, and then the next ones, however that ends
 pub gives_next : (old mid new : Option (List ℕ)) (f m g : ℕ) (xs ys : List (List ℕ)) (r : Result (Unit {0}) GiveError) → GivesLines old mid f m xs (Ok tt) → GivesLines mid new m g ys r → GivesLines old new f g (xs ++ ys) r

@@ -10,13 +10,13 @@ abbrev pub joined : List (List ℕ) → List ℕ
 joined [] = []
 joined (l ∷ ls) = l ++ joined ls
 
--- A sink got some of the lines whole, from the first on.
+-- A sink got some of the lines whole, from the first on, and less than all.
 abbrev pub EmitsLines : Option (List ℕ) → Option (List ℕ) → List (List ℕ) → Type 0
 EmitsLines None new lines = new ≡ None
 EmitsLines (Some held) new lines =
-    (first : List (List ℕ)) × (rest : List (List ℕ)) × (first ++ rest ≡ lines) × (new ≡ Some (held ++ joined first))
+    (first : List (List ℕ)) × (line : List ℕ) × (rest : List (List ℕ)) × (first ++ line ∷ rest ≡ lines) × (new ≡ Some (held ++ joined first))
 
--- All lines were given; or memory ran out, and some were given whole; or a call of the sink failed, and less than all was given, the last
+-- All lines were given; or memory ran out, and some were given whole, less than all; or a call of the sink failed, and less than all was given, the last
 -- line maybe in part.
 abbrev pub GivesLines : Option (List ℕ) → Option (List ℕ) → ℕ → ℕ → List (List ℕ) → Result (Unit {0}) GiveError → Type 0
 GivesLines old new faults faults' lines (Ok u) = Emits old new (joined lines) × (faults' ≡ faults)

@@ -1,0 +1,233 @@
+-- From what a command did to what each of its clauses says.
+use Rattle.std.proofs.Common.{◌≡◌, ◌⊎◌, inl, inr, ◌∙◌, ◌<◌, ◌-◌, ◌^◌, arith, ℕ, Bool, cond, true, false, nat_le, List, [], ◌∷◌, ◌++◌, length, take, Option, Some, None, Result, Ok, Err, refl, sym, ap, subst}
+use Rattle.std.proofs.lemmas.Bool.Decides.{nat_tests}
+use Rattle.std.proofs.lemmas.List.{length-take}
+use Rattle.vs_hostile.specs.Answer.{answer_to as hostile_answer, hostile_of, status_of}
+use Rattle.vs_outside.specs.Faults.{CountsFault}
+use Rattle.vs_peer.specs.Ends.{EndsAs, Lent}
+use Rattle.vs_peer.specs.Pieces.{IsReading, ReadsAll}
+use Rattle.vs_peer.specs.Statuses as statuses
+use Rattle.vs_peer.specs.Statuses.{Says}
+use Rattle.vs_peer.specs.Text.{no_memory_text}
+use Rattle.vs_peer.specs.declared.source.TheConstants.{SOURCE_MAX}
+use Rattle.vs_play.specs.Answer.{answer_to as play_answer, play_of}
+use Rattle.vs_ring_port.specs.declared.failure.Failure.{Failure}
+use Rattle.vs_script.specs.Field.{named}
+use Rattle.vs_script.specs.Hostile.{Hostile}
+use Rattle.vs_script.specs.Play.{Event}
+use Rattle.vs_script.specs.Script.{Attacks, Plays, Runs, Saying, add_event, add_hostile, add_lines, lines_from, parse_of, unless_refused}
+use Rattle.vs_script.specs.Text.{words_of}
+use Rattle.vs_script.specs.declared.fault.Why.{Why}
+use Rattle.vs_script.specs.declared.fault.Refused.{Refused}
+use Rattle.vs_script.specs.declared.fault.Why.TheVariants.{TooLong}
+use Rattle.vs_script.specs.declared.fault.ParseFault.{ParseFault}
+use Rattle.vs_script.specs.declared.fault.ParseFault.TheVariants as fault
+use Rattle.vs_script.specs.Script.{IsRefused}
+use Rattle.vs_script.specs.declared.script.Command.{Command}
+use Rattle.vs_script.specs.declared.script.Command.TheVariants as script_of
+use Rattle.vs_words.specs.Command as words
+use Rattle.vs_words.specs.declared.command.Rings.{Rings}
+use Rattle.vs_run.specs.Ends.{EndsAnswer, EndsParsed, EndsRefused, EndsScript, EndsWith, NoMemory, Read, SourceFails, refusal_text, usage_text}
+use Rattle.vs_run.specs.Does.{Does, IsNoScript}
+use Rattle.vs_run.proofs.Endings.{HasLine, gave_none, has_line_behind, one_line}
+
+-- a fault shows in a count that can rise
+fault_shows : (old new : ℕ) → CountsFault true old new → old < 2 ^ 64 - 1 → new ≡ old → ⊥
+fault_shows old new counts few same = grind (arith, nat_tests)
+
+too_long : (c : Command) (text : List ℕ) → nat_le (length text) 1048576 ≡ false → parse_of c text ≡ Err (record { line = 0; why = TooLong })
+too_long c text long = rw long refl
+
+-- what was read of a source is refused as what it had left is, or is that
+same_script : (c : Command) (left bytes : List ℕ) → IsReading left bytes → parse_of c bytes ≡ parse_of c left
+same_script c left bytes (inl e) = ap (parse_of c) e
+same_script c left bytes (inr h) =
+    let long : nat_le (length bytes) 1048576 ≡ false = grind (arith, nat_tests, h.0) in
+    let left_long : nat_le (length left) 1048576 ≡ false = grind (arith, nat_tests, h.0, ap length h.1, length-take (length bytes) left) in
+    too_long c bytes long ∙ sym (too_long c left left_long)
+
+module _ (c : Command) (lines : Result Saying Refused → List (List ℕ)) (own : Result Saying Refused → ℕ) (text : List ℕ) (read read' : ℕ)
+    (out out' : Option (List ℕ)) (f g r : ℕ) where
+  -- of a source that exposed its text, and of which no call failed
+  told : (source : Option (List ℕ)) → source ≡ Some text → EndsScript c lines own source read read' out out' f g r → read < 2 ^ 64 - 1 → read' ≡ read
+      → EndsParsed lines own out out' f g (parse_of c text) r ⊎ EndsAs out out' f g no_memory_text 9 r
+  told source is (Read bytes reads kept h) few same =
+      inl (subst (λ p. EndsParsed lines own out out' f g p r) (same_script c text bytes (subst (λ (s : Option (List ℕ)). ReadsAll s bytes) is reads)) h)
+  told source is (SourceFails counts h) few same = absurd (fault_shows read read' counts few same)
+  told source is (NoMemory kept h) few same = inr h
+
+  -- its answer is written
+  parsed_answer : (p : Result Saying Refused) → ((e : Refused) → (lines (Err e) ≡ refusal_text e ∷ []) × (own (Err e) ≡ 2)) → EndsParsed lines own out out' f g p r
+      → EndsAnswer out out' f g (lines p) (own p) r
+  parsed_answer (Ok saying) refusals h = h
+  parsed_answer (Err e) refusals h = rw ((refusals e).0, (refusals e).1) (one_line out out' f g (refusal_text e) 2 r h)
+
+  pub answered : (source : Option (List ℕ)) → source ≡ Some text → ((e : Refused) → (lines (Err e) ≡ refusal_text e ∷ []) × (own (Err e) ≡ 2))
+      → HasLine (lines (parse_of c text)) → EndsScript c lines own source read read' out out' f g r → read < 2 ^ 64 - 1 → read' ≡ read
+      → EndsAnswer out out' f g (lines (parse_of c text)) (own (parse_of c text)) r
+  answered source is refusals some ends few same = go (told source is ends few same)
+    where
+      go : EndsParsed lines own out out' f g (parse_of c text) r ⊎ EndsAs out out' f g no_memory_text 9 r
+          → EndsAnswer out out' f g (lines (parse_of c text)) (own (parse_of c text)) r
+      go (inl h) = parsed_answer (parse_of c text) refusals h
+      go (inr h) = gave_none out out' f g (lines (parse_of c text)) (own (parse_of c text)) r some h
+
+  -- it is refused, where the status is 2
+  as_two : (line : List ℕ) (status : ℕ) → EndsAs out out' f g line status r → r ≡ 2 → status ≡ 2
+  as_two line status (inl h) two = sym h.0 ∙ two
+  as_two line status (inr h) two = absurd (omega (arith, h.0, two))
+
+  answer_two : (all : List (List ℕ)) (status : ℕ) → EndsAnswer out out' f g all status r → r ≡ 2 → status ≡ 2
+  answer_two all status (written, s, inl w, h) two = sym w.1 ∙ as_two written s h two
+  answer_two all status (written, s, inr w, h) two = absurd (omega (arith, w.5, as_two written s h two))
+
+  parsed_two : (p : Result Saying Refused) → ((s : Saying) → own (Ok s) ≡ 2 → ⊥) → EndsParsed lines own out out' f g p r → r ≡ 2 → (e : Refused) × (p ≡ Err e)
+  parsed_two (Ok saying) never h two = absurd (never saying (answer_two (lines (Ok saying)) (own (Ok saying)) h two))
+  parsed_two (Err e) never h two = (e, refl)
+
+  pub refused_at_2 : (source : Option (List ℕ)) → source ≡ Some text → ((s : Saying) → own (Ok s) ≡ 2 → ⊥) → EndsScript c lines own source read read' out out' f g r
+      → r ≡ 2 → (e : Refused) × (parse_of c text ≡ Err e)
+  refused_at_2 source is never (Read bytes reads kept h) two =
+      let e = parsed_two (parse_of c bytes) never h two in
+      (e.0, sym (same_script c text bytes (subst (λ (s : Option (List ℕ)). ReadsAll s bytes) is reads)) ∙ e.1)
+  refused_at_2 source is never (SourceFails counts h) two = absurd (omega (arith, as_two _ 3 h two))
+  refused_at_2 source is never (NoMemory kept h) two = absurd (omega (arith, as_two _ 9 h two))
+
+-- the refusals of each command's answers, and the statuses of what is no refusal
+pub play_refusals : (queue : ℕ) (e : Refused) → ((play_answer queue (Err e)).lines ≡ refusal_text e ∷ []) × ((play_answer queue (Err e)).status ≡ 2)
+play_refusals queue e = (refl, refl)
+
+pub hostile_refusals : (e : Refused) → ((hostile_answer (Err e)).lines ≡ refusal_text e ∷ []) × ((hostile_answer (Err e)).status ≡ 2)
+hostile_refusals e = (refl, refl)
+
+-- a script is one of its command
+abbrev IsPlay : Result Saying Refused → Type 0
+IsPlay (Ok (Plays lines)) = Unit {0}
+IsPlay (Ok _) = ⊥
+IsPlay (Err e) = Unit {0}
+
+abbrev IsAttack : Result Saying Refused → Type 0
+IsAttack (Ok (Attacks lines)) = Unit {0}
+IsAttack (Ok _) = ⊥
+IsAttack (Err e) = Unit {0}
+
+plays_on : (number : ℕ) (fits : Bool) (added : Result (List (ℕ × Event)) Why) (more : List (ℕ × List ℕ))
+    → ((lines : List (ℕ × Event)) → IsPlay (add_lines (Plays lines) more))
+    → IsPlay (unless_refused number (cond fits (named Plays added) (Err TooLong)) (λ said. add_lines said more))
+plays_on number false added more ih = tt
+plays_on number true (Ok lines) more ih = ih lines
+plays_on number true (Err why) more ih = tt
+
+stays_play : (rest : List (ℕ × List ℕ)) (lines : List (ℕ × Event)) → IsPlay (add_lines (Plays lines) rest)
+stays_play [] lines = tt
+stays_play (line ∷ rest) lines =
+    plays_on line.0 (nat_le (length line.1) 4200) (add_event lines line.0 (words_of line.1)) rest (stays_play rest)
+
+attacks_on : (number : ℕ) (fits : Bool) (added : Result (List (ℕ × Hostile)) Why) (more : List (ℕ × List ℕ))
+    → ((lines : List (ℕ × Hostile)) → IsAttack (add_lines (Attacks lines) more))
+    → IsAttack (unless_refused number (cond fits (named Attacks added) (Err TooLong)) (λ said. add_lines said more))
+attacks_on number false added more ih = tt
+attacks_on number true (Ok lines) more ih = ih lines
+attacks_on number true (Err why) more ih = tt
+
+stays_attack : (rest : List (ℕ × List ℕ)) (lines : List (ℕ × Hostile)) → IsAttack (add_lines (Attacks lines) rest)
+stays_attack [] lines = tt
+stays_attack (line ∷ rest) lines =
+    attacks_on line.0 (nat_le (length line.1) 4200) (add_hostile lines line.0 (words_of line.1)) rest (stays_attack rest)
+
+pub play_some : (queue : ℕ) (p : Result Saying Refused) → IsPlay p → HasLine (play_answer queue p).lines
+play_some queue (Ok (Plays lines)) h = has_line_behind _ _ _
+play_some queue (Ok (Runs apps)) h = absurd h
+play_some queue (Ok (Attacks lines)) h = absurd h
+play_some queue (Err e) h = (refusal_text e, [], refl)
+
+pub attack_some : (p : Result Saying Refused) → IsAttack p → HasLine (hostile_answer p).lines
+attack_some (Ok (Attacks lines)) h = has_line_behind _ _ _
+attack_some (Ok (Runs apps)) h = absurd h
+attack_some (Ok (Plays lines)) h = absurd h
+attack_some (Err e) h = (refusal_text e, [], refl)
+
+pub is_play : (text : List ℕ) → IsPlay (parse_of script_of.Play text)
+is_play text = go (nat_le (length text) 1048576) refl
+  where
+    go : (b : Bool) → nat_le (length text) 1048576 ≡ b → IsPlay (parse_of script_of.Play text)
+    go true e = rw e (stays_play (lines_from 1 text) [])
+    go false e = rw e tt
+
+pub is_attack : (text : List ℕ) → IsAttack (parse_of script_of.Hostile text)
+is_attack text = go (nat_le (length text) 1048576) refl
+  where
+    go : (b : Bool) → nat_le (length text) 1048576 ≡ b → IsAttack (parse_of script_of.Hostile text)
+    go true e = rw e (stays_attack (lines_from 1 text) [])
+    go false e = rw e tt
+
+play_never : (queue : ℕ) (s : Saying) → (play_answer queue (Ok s)).status ≡ 2 → ⊥
+play_never queue (Plays lines) e = absurd (omega (arith, e))
+play_never queue (Runs apps) e = absurd (omega (arith, e))
+play_never queue (Attacks lines) e = absurd (omega (arith, e))
+
+no_two : (f : Option Failure) → status_of f ≡ 2 → ⊥
+no_two None e = absurd (omega (arith, e))
+no_two (Some f) e = absurd (omega (arith, e))
+
+hostile_never : (s : Saying) → (hostile_answer (Ok s)).status ≡ 2 → ⊥
+hostile_never (Plays lines) e = absurd (omega (arith, e))
+hostile_never (Runs apps) e = absurd (omega (arith, e))
+hostile_never (Attacks lines) e = no_two _ e
+
+-- a status that isn't a line's own
+not_two : (out out' : Option (List ℕ)) (f g : ℕ) (line : List ℕ) (status r : ℕ) → EndsAs out out' f g line status r → r ≡ 2 → status ≡ 2
+not_two out out' f g line status r (inl h) two = sym h.0 ∙ two
+not_two out out' f g line status r (inr h) two = absurd (omega (arith, h.0, two))
+
+says_two : (base : List ℕ) (port idle : ℕ) (old new : Lent) (r : ℕ) (text : List ℕ) → Says base port idle old new r → r ≡ 2 → old.source ≡ Some text
+    → SOURCE_MAX < length text
+says_two base port idle old new r text (statuses.Done e h) two is = absurd (omega (arith, e, two))
+says_two base port idle old new r text (statuses.TooLong e h) two is = h.long text is
+says_two base port idle old new r text (statuses.SourceFault e h) two is = absurd (omega (arith, e, two))
+says_two base port idle old new r text (statuses.SinkFault e h) two is = absurd (omega (arith, e, two))
+says_two base port idle old new r text (statuses.Waited e h) two is = absurd (omega (arith, e, two))
+says_two base port idle old new r text (statuses.HostFault e h) two is = absurd (omega (arith, e, two))
+says_two base port idle old new r text (statuses.Refused e h) two is = absurd (omega (arith, e, two))
+says_two base port idle old new r text (statuses.NoMemory e h) two is = absurd (omega (arith, e, two))
+
+pub no_script_at_2 : (command : Option words.Command) (old new : Lent) (r : ℕ) (text : List ℕ) → Does command old new r → r ≡ 2 → old.source ≡ Some text
+    → IsNoScript command text
+no_script_at_2 None old new r text (inl h, source, host) two is =
+    absurd (omega (arith, not_two old.out new.out old.sink_faults new.sink_faults usage_text 1 r h two))
+no_script_at_2 None old new r text (inr h, source, host) two is =
+    absurd (omega (arith, not_two old.out new.out old.sink_faults new.sink_faults no_memory_text 9 r h two))
+no_script_at_2 (Some (words.Play kind queue)) old new r text h two is =
+    refused_at_2 script_of.Play (λ said. (play_answer queue said).lines) (λ said. (play_answer queue said).status) text old.source_faults new.source_faults
+    old.out new.out old.sink_faults new.sink_faults r old.source is (play_never queue) h.0 two
+no_script_at_2 (Some words.Hostile) old new r text h two is =
+    refused_at_2 script_of.Hostile (λ said. (hostile_answer said).lines) (λ said. (hostile_answer said).status) text old.source_faults new.source_faults
+    old.out new.out old.sink_faults new.sink_faults r old.source is hostile_never h.0 two
+no_script_at_2 (Some (words.Peer base port idle)) old new r text h two is = says_two base port idle old new r text h.0 two is
+
+pub play_written : (command : Option words.Command) (old new : Lent) (r : ℕ) (kind : Rings) (queue : ℕ) (text : List ℕ) → command ≡ Some (words.Play kind queue)
+    → Does command old new r → old.source_faults < 2 ^ 64 - 1 → new.source_faults ≡ old.source_faults → old.source ≡ Some text
+    → EndsAnswer old.out new.out old.sink_faults new.sink_faults (play_of queue text).lines (play_of queue text).status r
+play_written command old new r kind queue text is h few same told =
+    answered script_of.Play (λ said. (play_answer queue said).lines) (λ said. (play_answer queue said).status) text old.source_faults new.source_faults
+    old.out new.out old.sink_faults new.sink_faults r old.source told (play_refusals queue)
+    (play_some queue (parse_of script_of.Play text) (is_play text)) (subst (λ k. Does k old new r) is h).0 few same
+
+pub attack_written : (command : Option words.Command) (old new : Lent) (r : ℕ) (text : List ℕ) → command ≡ Some words.Hostile
+    → Does command old new r → old.source_faults < 2 ^ 64 - 1 → new.source_faults ≡ old.source_faults → old.source ≡ Some text
+    → EndsAnswer old.out new.out old.sink_faults new.sink_faults (hostile_of text).lines (hostile_of text).status r
+attack_written command old new r text is h few same told =
+    answered script_of.Hostile (λ said. (hostile_answer said).lines) (λ said. (hostile_answer said).status) text old.source_faults new.source_faults
+    old.out new.out old.sink_faults new.sink_faults r old.source told hostile_refusals
+    (attack_some (parse_of script_of.Hostile text) (is_attack text)) (subst (λ k. Does k old new r) is h).0 few same
+
+-- a script that wasn't read
+pub unparsed : (c : Command) (lines : Result Saying Refused → List (List ℕ)) (own : Result Saying Refused → ℕ) (text : List ℕ)
+    (out out' : Option (List ℕ)) (f g r : ℕ) (e : ParseFault) → HasLine (lines (parse_of c text)) → IsRefused c text e
+    → EndsRefused out out' f g e r → EndsParsed lines own out out' f g (parse_of c text) r
+unparsed c lines own text out out' f g r (fault.Refused x) some is h = subst (λ p. EndsParsed lines own out out' f g p r) (sym is) h
+unparsed c lines own text out out' f g r fault.OutOfMemory some is h = go (parse_of c text) some
+  where
+    go : (p : Result Saying Refused) → HasLine (lines p) → EndsParsed lines own out out' f g p r
+    go (Ok said) line = gave_none out out' f g (lines (Ok said)) (own (Ok said)) r line h
+    go (Err x) line = inr h

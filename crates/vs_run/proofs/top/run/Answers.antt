@@ -1,0 +1,30 @@
+use Rattle.std.proofs.Common.{◌≡◌, ◌∙◌, Some, ap, map, refl, subst, string_bytes, sym}
+use Rattle.vs_words.specs.Command.{Command, Hostile, Play, command_of, command_view}
+use Rattle.vs_run.specs.Does.{Does, lent}
+use Rattle.vs_run.proofs.top.run.Goals as goal
+
+pub returns-in-Ok-Play : goal.returns-in-Ok-Play
+returns-in-Ok-Play g c =
+    let is : command_of (map string_bytes c.args.words.now) ≡ Some (Play c.in-Ok-Play.rings c.in-Ok-Play.queue) =
+    c.in-Ok-Play.ensures.command ∙ ap (λ x. Some (command_view x)) c.in-Ok-Play.field-0-is in
+    record {
+      does = subst (λ k. Does k
+          (lent (g.S.Source.contents c.args.script.now) (g.H.HostNet.contents c.args.host.now) (g.K.Sink.contents c.args.out.now)
+          (g.S.Source.faults c.args.script.now) (g.H.HostNet.faults c.args.host.now) (g.K.Sink.faults c.args.out.now))
+          (lent (g.S.Source.contents c.play_script.new.script) (g.H.HostNet.contents c.args.host.now) (g.K.Sink.contents c.play_script.new.out)
+          (g.S.Source.faults c.play_script.new.script) (g.H.HostNet.faults c.args.host.now) (g.K.Sink.faults c.play_script.new.out)) c.play_script.result)
+          (sym is) (c.play_script.ensures, (refl, refl));
+    }
+
+pub returns-in-Ok-Hostile : goal.returns-in-Ok-Hostile
+returns-in-Ok-Hostile g c =
+    let is : command_of (map string_bytes c.args.words.now) ≡ Some Hostile =
+    c.in-Ok-Hostile.ensures.command ∙ ap (λ x. Some (command_view x)) c.in-Ok-Hostile.field-0-is in
+    record {
+      does = subst (λ k. Does k
+          (lent (g.S.Source.contents c.args.script.now) (g.H.HostNet.contents c.args.host.now) (g.K.Sink.contents c.args.out.now)
+          (g.S.Source.faults c.args.script.now) (g.H.HostNet.faults c.args.host.now) (g.K.Sink.faults c.args.out.now))
+          (lent (g.S.Source.contents c.hostile_script.new.script) (g.H.HostNet.contents c.args.host.now) (g.K.Sink.contents c.hostile_script.new.out)
+          (g.S.Source.faults c.hostile_script.new.script) (g.H.HostNet.faults c.args.host.now) (g.K.Sink.faults c.hostile_script.new.out)) c.hostile_script.result)
+          (sym is) (c.hostile_script.ensures, (refl, refl));
+    }

@@ -1,0 +1,29 @@
+use Rattle.std.proofs.Common.{map, string_bytes}
+use Rattle.vs_words.specs.Command.{command_of}
+use Rattle.vs_run.specs.Does.{lent}
+use Rattle.vs_run.proofs.Causes.{attack_written, no_script_at_2, play_written}
+use Rattle.vs_run.proofs.top.vsock_main.Goals as goal
+
+pub returns-clause-plays : goal.returns-clause-plays
+returns-clause-plays g c = λ kind queue text is few same told.
+    play_written (command_of (map string_bytes c.args.words.now))
+    (lent (g.S.Source.contents c.args.script.now) (g.H.HostNet.contents c.args.host.now) (g.K.Sink.contents c.args.out.now)
+    (g.S.Source.faults c.args.script.now) (g.H.HostNet.faults c.args.host.now) (g.K.Sink.faults c.args.out.now))
+    (lent (g.S.Source.contents c.run.new.script) (g.H.HostNet.contents c.run.new.host) (g.K.Sink.contents c.run.new.out)
+    (g.S.Source.faults c.run.new.script) (g.H.HostNet.faults c.run.new.host) (g.K.Sink.faults c.run.new.out)) c.run.result kind queue text is c.run.ensures.does few same told
+
+pub returns-clause-attacks : goal.returns-clause-attacks
+returns-clause-attacks g c = λ text is few same told.
+    attack_written (command_of (map string_bytes c.args.words.now))
+    (lent (g.S.Source.contents c.args.script.now) (g.H.HostNet.contents c.args.host.now) (g.K.Sink.contents c.args.out.now)
+    (g.S.Source.faults c.args.script.now) (g.H.HostNet.faults c.args.host.now) (g.K.Sink.faults c.args.out.now))
+    (lent (g.S.Source.contents c.run.new.script) (g.H.HostNet.contents c.run.new.host) (g.K.Sink.contents c.run.new.out)
+    (g.S.Source.faults c.run.new.script) (g.H.HostNet.faults c.run.new.host) (g.K.Sink.faults c.run.new.out)) c.run.result text is c.run.ensures.does few same told
+
+pub returns-clause-status_2 : goal.returns-clause-status_2
+returns-clause-status_2 g c = λ two text told.
+    no_script_at_2 (command_of (map string_bytes c.args.words.now))
+    (lent (g.S.Source.contents c.args.script.now) (g.H.HostNet.contents c.args.host.now) (g.K.Sink.contents c.args.out.now)
+    (g.S.Source.faults c.args.script.now) (g.H.HostNet.faults c.args.host.now) (g.K.Sink.faults c.args.out.now))
+    (lent (g.S.Source.contents c.run.new.script) (g.H.HostNet.contents c.run.new.host) (g.K.Sink.contents c.run.new.out)
+    (g.S.Source.faults c.run.new.script) (g.H.HostNet.faults c.run.new.host) (g.K.Sink.faults c.run.new.out)) c.run.result text c.run.ensures.does two told

@@ -1,0 +1,60 @@
+-- What the command does, by its words.
+use Rattle.std.specs.Prelude.{◌≡◌, ◌<◌, ◌||◌, ◌==◌, nat_le, ℕ, Bool, true, false, List, length, Option, Some, None, Err}
+use Rattle.vs_hostile.specs.Answer.{answer_to as hostile_answer}
+use Rattle.vs_outside.specs.Host.{HostContents}
+use Rattle.vs_peer.specs.Ends.{Lent}
+use Rattle.vs_peer.specs.Statuses.{NoFault, Says, is_faultless}
+use Rattle.vs_peer.specs.declared.source.TheConstants.{SOURCE_MAX}
+use Rattle.vs_play.specs.Answer.{answer_to as play_answer}
+use Rattle.vs_script.specs.Script.{parse_of}
+use Rattle.vs_script.specs.declared.fault.Refused.{Refused}
+use Rattle.vs_script.specs.declared.script.Command.TheVariants as script_of
+use Rattle.vs_words.specs.Command.{Command, Play, Hostile, Peer}
+use Rattle.vs_run.specs.Ends.{EndsScript, EndsWith, usage_text}
+
+-- All that the command is lent, at one moment: what source, host and sink expose, and how many of their calls failed.
+abbrev pub lent : Option (List ℕ) → Option HostContents → Option (List ℕ) → ℕ → ℕ → ℕ → Lent
+lent source host out source_faults host_faults sink_faults = record {
+  source = source;
+  host = host;
+  out = out;
+  source_faults = source_faults;
+  host_faults = host_faults;
+  sink_faults = sink_faults;
+}
+
+-- Whether a command is a client.
+abbrev pub is_client : Option Command → Bool
+is_client (Some (Peer base port idle)) = true
+is_client _ = false
+
+-- A text is no script of the command; a client takes any, of so many bytes.
+abbrev pub IsNoScript : Option Command → List ℕ → Type 0
+IsNoScript None text = ⊥
+IsNoScript (Some (Play kind queue)) text = (r : Refused) × (parse_of script_of.Play text ≡ Err r)
+IsNoScript (Some Hostile) text = (r : Refused) × (parse_of script_of.Hostile text ≡ Err r)
+IsNoScript (Some (Peer base port idle)) text = SOURCE_MAX < length text
+
+-- The statuses that a command ends with.
+abbrev pub is_status : ℕ → Bool
+is_status n = nat_le n 9
+
+-- Source or host is as before.
+abbrev pub KeepsSource : Lent → Lent → Type 0
+KeepsSource old new = (new.source ≡ old.source) × (new.source_faults ≡ old.source_faults)
+
+abbrev pub KeepsHost : Lent → Lent → Type 0
+KeepsHost old new = (new.host ≡ old.host) × (new.host_faults ≡ old.host_faults)
+
+-- What a command does between two moments, and its status.
+abbrev pub Does : Option Command → Lent → Lent → ℕ → Type 0
+Does None old new result =
+    EndsWith old.out new.out old.sink_faults new.sink_faults usage_text 1 result × KeepsSource old new × KeepsHost old new
+Does (Some (Play kind queue)) old new result =
+    EndsScript script_of.Play (λ said. (play_answer queue said).lines) (λ said. (play_answer queue said).status) old.source
+    old.source_faults new.source_faults old.out new.out old.sink_faults new.sink_faults result × KeepsHost old new
+Does (Some Hostile) old new result =
+    EndsScript script_of.Hostile (λ said. (hostile_answer said).lines) (λ said. (hostile_answer said).status) old.source
+    old.source_faults new.source_faults old.out new.out old.sink_faults new.sink_faults result × KeepsHost old new
+Does (Some (Peer base port idle)) old new result =
+    Says base port idle old new result × (NoFault old new → is_faultless result ≡ true)

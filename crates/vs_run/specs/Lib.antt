@@ -1,0 +1,3 @@
+pub mod Ends
+pub mod Played
+pub mod Does

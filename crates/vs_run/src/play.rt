@@ -1,0 +1,89 @@
+//! The command `play`.
+ghost use Rattle.std.specs.Prelude.{Ok, map};
+ghost use Rattle.std.specs.List.{AllByRecursion};
+ghost use Rattle.vs_ring_list.specs.Ends.{IsQueueSize};
+ghost use Rattle.vs_play.specs.Answer.{answer_to, events_in, printed};
+ghost use Rattle.vs_play.specs.Ready.{IsPlayable};
+ghost use Rattle.vs_script.specs.Script.{numbered_event, parse_of, script_view};
+ghost use Rattle.vs_script.specs.declared.script.Command.TheVariants as command;
+ghost use Rattle.vs_run.specs.Ends.{EndsAnswer, EndsParsed, EndsScript};
+ghost use Rattle.vs_run.specs.Played.{IsPlayed};
+
+use crate::ending::{no_memory, refused, unread};
+use std::alloc::Global;
+use vs_outside::{Sink, Source};
+use vs_peer::{DONE, SINK_FAULT, read_source};
+use vs_play::run::{law_of_scripts, play};
+use vs_report::giving::GiveError;
+use vs_ring_list::ListRings;
+use vs_script::{Command, Numbered, PlayLine, Script, parse};
+use vs_words::Rings;
+
+/// Plays the script that the source holds, over rings of that kind with so many pages of each queue.
+pub fn play_script<S: Source, K: Sink>(
+    alloc: Global,
+    rings: Rings,
+    queue: u16,
+    script: &mut S,
+    out: &mut K,
+) -> u8
+    requires queue { IsQueueSize queue }
+    ensures { EndsScript command.Play (λ said. (answer_to queue said).lines) (λ said. (answer_to queue said).status)
+        (S.contents script.old) (S.faults script.old) (S.faults script.new)
+        (K.contents out.old) (K.contents out.new) (K.faults out.old) (K.faults out.new) result }
+{
+    match read_source(alloc, script) {
+        Ok(bytes) => play_bytes(alloc, rings, queue, &bytes, out),
+        Err(error) => unread(out, error),
+    }
+}
+
+// Plays the script that bytes spell.
+fn play_bytes<K: Sink>(alloc: Global, rings: Rings, queue: u16, bytes: &[u8], out: &mut K) -> u8
+    requires queue { IsQueueSize queue }
+    ensures { EndsParsed (λ said. (answer_to queue said).lines) (λ said. (answer_to queue said).status)
+        (K.contents out.old) (K.contents out.new) (K.faults out.old) (K.faults out.new) (parse_of command.Play bytes.now) result }
+{
+    law_of_scripts();
+    match parse(alloc, Command::Play, bytes) {
+        Ok(script) => play_parsed(alloc, rings, queue, &script, out),
+        Err(fault) => refused(alloc, fault, out),
+    }
+}
+
+// Plays a script. One of another command has no lines.
+fn play_parsed<K: Sink>(alloc: Global, rings: Rings, queue: u16, script: &Script, out: &mut K) -> u8
+    requires queue { IsQueueSize queue }
+    requires playable { IsPlayed (script_view script.now) }
+    ensures { EndsAnswer (K.contents out.old) (K.contents out.new) (K.faults out.old) (K.faults out.new)
+        (answer_to queue (Ok (script_view script.now))).lines (answer_to queue (Ok (script_view script.now))).status result }
+{
+    match script {
+        Script::Play(lines) => play_lines(alloc, rings, queue, lines, out),
+        Script::Run(_) => DONE,
+        Script::Hostile(_) => DONE,
+    }
+}
+
+// Plays these lines.
+fn play_lines<K: Sink>(
+    alloc: Global,
+    rings: Rings,
+    queue: u16,
+    lines: &[Numbered<PlayLine>],
+    out: &mut K,
+) -> u8
+    requires queue { IsQueueSize queue }
+    requires playable { AllByRecursion IsPlayable (events_in (map numbered_event lines.now)) }
+    ensures { EndsAnswer (K.contents out.old) (K.contents out.new) (K.faults out.old) (K.faults out.new)
+        (printed queue (events_in (map numbered_event lines.now))) 0 result }
+{
+    let Ok(list) = ListRings::new(alloc, queue) else {
+        return no_memory(out);
+    };
+    match play(alloc, list, lines, out) {
+        Ok(()) => DONE,
+        Err(GiveError::Sink) => SINK_FAULT,
+        Err(GiveError::OutOfMemory) => no_memory(out),
+    }
+}

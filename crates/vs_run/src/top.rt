@@ -1,0 +1,138 @@
+//! The command's top: its words, the script that it reads, and the status that it ends with.
+
+ghost use Rattle.std.specs.Prelude.{◌≡◌, ◌≢◌, ◌<◌, ◌-◌, ◌^◌, ℕ, List, Some, None, Err, true, false, map, string_bytes};
+ghost use Rattle.vs_outside.specs.Faults.{CountsFault};
+ghost use Rattle.vs_peer.specs.Pieces.{Emits};
+ghost use Rattle.vs_peer.specs.Statuses.{NoFault, Says, is_faultless};
+ghost use Rattle.vs_peer.specs.Text.{read_fault_text};
+ghost use Rattle.vs_play.specs.Answer.{play_of};
+ghost use Rattle.vs_hostile.specs.Answer.{hostile_of};
+ghost use Rattle.vs_report.specs.Gives.{joined};
+ghost use Rattle.vs_script.specs.Fault.{refused_text};
+ghost use Rattle.vs_script.specs.Script.{parse_of};
+ghost use Rattle.vs_script.specs.declared.script.Command.TheVariants as script_of;
+ghost use Rattle.vs_script.specs.declared.fault.Refused.{Refused};
+ghost use Rattle.vs_words.specs.Command.{Play, Hostile, Peer, command_of};
+ghost use Rattle.vs_words.specs.declared.command.Rings.{Rings};
+ghost use Rattle.vs_run.specs.Ends.{EndsAnswer, EndsWith, refusal_text, usage_text};
+ghost use Rattle.vs_run.specs.Does.{Does, IsNoScript, is_client, is_status, lent};
+
+use crate::ending::{ended, no_memory};
+use crate::hostile::hostile_script;
+use crate::play::play_script;
+use std::alloc::AllocGlobal;
+use std::sync::Wait;
+use vs_outside::{Clock, Gate, HostNet, Sink, Source};
+use vs_peer::peer;
+use vs_words::{Command, WordsError, command_of};
+
+/// The status of words that name no command.
+pub const USAGE: u8 = 1;
+
+/// Does what the program's words say, its name first, and answers the status that the program ends with:
+///
+/// - 0: all was done.
+/// - 1: the words are no command, and `usage` was written.
+/// - 2: the script is refused as a whole, and `line L WHY` was written; of `peer`, the source gave too many bytes.
+/// - 3: a call of `script` failed, and `read fault` was written.
+/// - 4: a call of `out` failed, and nothing more was written.
+/// - 5: `peer` waited, and `waited N` was written behind what came before.
+/// - 6: a call of `host` failed in `peer`, and `host fault` was written behind what came before.
+/// - 7: the device of `hostile` failed.
+/// - 8: `peer` wasn't answered by an OK line, and `peer refused` was written.
+/// - 9: memory ran out, and `no memory` was written behind what was written before.
+///
+/// `play` and `hostile` bring a host of their own and look at no clock. `peer` goes on while its stream moves, so it may never return.
+pub fn vsock_main<R: AllocGlobal + Wait, S: Source, K: Sink, H: HostNet, C: Clock, G: Gate>(
+    rt: &R,
+    words: &[String],
+    script: &mut S,
+    host: &mut H,
+    clock: &mut C,
+    gate: &G,
+    out: &mut K,
+) -> u8
+    // Words that are no command: nothing is read.
+    ensures usage { command_of (map string_bytes words.now) ≡ None
+        → EndsWith (K.contents out.old) (K.contents out.new) (K.faults out.old) (K.faults out.new) usage_text 1 result
+        × (S.contents script.new ≡ S.contents script.old) × (S.faults script.new ≡ S.faults script.old) }
+    // No command looks at the clock, and `peer` alone at the host.
+    ensures clock { clock.new ≡ clock.old }
+    ensures host { is_client (command_of (map string_bytes words.now)) ≡ false
+        → (H.contents host.new ≡ H.contents host.old) × (H.faults host.new ≡ H.faults host.old) }
+    // A call of the source failed.
+    ensures fault { is_client (command_of (map string_bytes words.now)) ≡ false → S.faults script.new ≢ S.faults script.old
+        → EndsWith (K.contents out.old) (K.contents out.new) (K.faults out.old) (K.faults out.new) read_fault_text 3 result }
+    // The source exposed a text that is no script, and no call of it failed, which its count shows as long as it can rise.
+    ensures refused { (kind : Rings) (queue : ℕ) (text : List ℕ) (r : Refused) → command_of (map string_bytes words.now) ≡ Some (Play kind queue)
+        → S.faults script.old < 2 ^ 64 - 1 → S.faults script.new ≡ S.faults script.old
+        → S.contents script.old ≡ Some text → parse_of script_of.Play text ≡ Err r
+        → EndsWith (K.contents out.old) (K.contents out.new) (K.faults out.old) (K.faults out.new) (refusal_text r) 2 result }
+    ensures refused_attack { (text : List ℕ) (r : Refused) → command_of (map string_bytes words.now) ≡ Some Hostile
+        → S.faults script.old < 2 ^ 64 - 1 → S.faults script.new ≡ S.faults script.old
+        → S.contents script.old ≡ Some text → parse_of script_of.Hostile text ≡ Err r
+        → EndsWith (K.contents out.old) (K.contents out.new) (K.faults out.old) (K.faults out.new) (refusal_text r) 2 result }
+    // The same of any text: the answer of its play is written, whatever the pieces in which it is read and written.
+    ensures plays { (kind : Rings) (queue : ℕ) (text : List ℕ) → command_of (map string_bytes words.now) ≡ Some (Play kind queue)
+        → S.faults script.old < 2 ^ 64 - 1 → S.faults script.new ≡ S.faults script.old → S.contents script.old ≡ Some text
+        → EndsAnswer (K.contents out.old) (K.contents out.new) (K.faults out.old) (K.faults out.new)
+        (play_of queue text).lines (play_of queue text).status result }
+    // That of a hostile guest's run.
+    ensures attacks { (text : List ℕ) → command_of (map string_bytes words.now) ≡ Some Hostile
+        → S.faults script.old < 2 ^ 64 - 1 → S.faults script.new ≡ S.faults script.old → S.contents script.old ≡ Some text
+        → EndsAnswer (K.contents out.old) (K.contents out.new) (K.faults out.old) (K.faults out.new)
+        (hostile_of text).lines (hostile_of text).status result }
+    // What each status of a client says of source, host and sink.
+    ensures says { (base : List ℕ) (port idle : ℕ) → command_of (map string_bytes words.now) ≡ Some (Peer base port idle)
+        → Says base port idle
+        (lent (S.contents script.old) (H.contents host.old) (K.contents out.old) (S.faults script.old) (H.faults host.old) (K.faults out.old))
+        (lent (S.contents script.new) (H.contents host.new) (K.contents out.new) (S.faults script.new) (H.faults host.new) (K.faults out.new))
+        result }
+    ensures faultless { is_client (command_of (map string_bytes words.now)) ≡ true
+        → NoFault
+        (lent (S.contents script.old) (H.contents host.old) (K.contents out.old) (S.faults script.old) (H.faults host.old) (K.faults out.old))
+        (lent (S.contents script.new) (H.contents host.new) (K.contents out.new) (S.faults script.new) (H.faults host.new) (K.faults out.new))
+        → is_faultless result ≡ true }
+    // Each status has its cause.
+    ensures status_0 { (kind : Rings) (queue : ℕ) (text : List ℕ) → command_of (map string_bytes words.now) ≡ Some (Play kind queue)
+        → result ≡ 0 → S.contents script.old ≡ Some text
+        → ((play_of queue text).status ≡ 0) × Emits (K.contents out.old) (K.contents out.new) (joined (play_of queue text).lines) }
+    ensures status_1 { result ≡ 1 → command_of (map string_bytes words.now) ≡ None }
+    ensures status_2 { result ≡ 2 → (text : List ℕ) → S.contents script.old ≡ Some text
+        → IsNoScript (command_of (map string_bytes words.now)) text }
+    ensures status_3 { result ≡ 3 → CountsFault true (S.faults script.old) (S.faults script.new) }
+    ensures status_4 { result ≡ 4 → CountsFault true (K.faults out.old) (K.faults out.new) }
+    ensures status_5 { result ≡ 5 → is_client (command_of (map string_bytes words.now)) ≡ true }
+    ensures status_6 { result ≡ 6 → CountsFault true (H.faults host.old) (H.faults host.new) }
+    ensures status_7 { result ≡ 7 → (command_of (map string_bytes words.now) ≡ Some Hostile)
+        × ((text : List ℕ) → S.contents script.old ≡ Some text → (hostile_of text).status ≡ 7) }
+    ensures status_8 { result ≡ 8 → is_client (command_of (map string_bytes words.now)) ≡ true }
+    ensures statuses { is_status result ≡ true }
+{
+    run(rt, words, script, host, gate, out)
+}
+
+// The same, by the command.
+fn run<R: AllocGlobal + Wait, S: Source, K: Sink, H: HostNet, G: Gate>(
+    rt: &R,
+    words: &[String],
+    script: &mut S,
+    host: &mut H,
+    gate: &G,
+    out: &mut K,
+) -> u8
+    ensures does { Does (command_of (map string_bytes words.now))
+        (lent (S.contents script.old) (H.contents host.old) (K.contents out.old) (S.faults script.old) (H.faults host.old) (K.faults out.old))
+        (lent (S.contents script.new) (H.contents host.new) (K.contents out.new) (S.faults script.new) (H.faults host.new) (K.faults out.new))
+        result }
+{
+    match command_of(rt.alloc(), words) {
+        Ok(Command::Play { rings, queue }) => play_script(rt.alloc(), rings, queue, script, out),
+        Ok(Command::Hostile) => hostile_script(rt.alloc(), script, out),
+        Ok(Command::Peer { base, port, idle }) => {
+            peer(rt, base, port, idle, script, host, gate, out)
+        }
+        Err(WordsError::Usage) => ended(out, b"usage\n", USAGE),
+        Err(WordsError::OutOfMemory) => no_memory(out),
+    }
+}

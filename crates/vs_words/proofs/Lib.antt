@@ -1,0 +1,5 @@
+pub mod Numerals
+pub mod Rules
+pub mod Steps
+pub mod Walks
+pub mod Readings

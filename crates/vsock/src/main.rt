@@ -1,0 +1,60 @@
+//! The program `vsock`: makes the real world outside, and calls `vs_run`.
+#![tactic(auto)]
+
+use std::alloc::{AllocError, AllocGlobal};
+use std::env::{self, Env};
+use std::fs::Files;
+use std::io::{self, ErrorKind};
+use std::net::Net;
+use std::process::ExitCode;
+use std::time::Clock;
+use vs_real::{MachineClock, ReadSource, UnixHost, WriteSink, YieldGate};
+use vs_run::{host_fault, no_memory, vsock_main};
+
+fn main(rt: HostRuntime) -> ExitCode {
+    let mut out = WriteSink::new(io::writer(&rt));
+    let (words, mut host, mut clock) = match outside(&rt) {
+        Ok(outside) => outside,
+        Err(e) if e.kind() == ErrorKind::OutOfMemory => {
+            return ExitCode::from(no_memory(&mut out));
+        }
+        Err(_) => return ExitCode::from(host_fault(&mut out)),
+    };
+    let mut script = ReadSource::new(rt.stdin());
+    let gate = YieldGate;
+    ExitCode::from(vsock_main(
+        &rt,
+        &words,
+        &mut script,
+        &mut host,
+        &mut clock,
+        &gate,
+        &mut out,
+    ))
+}
+
+/// The program's words, the host's sockets and the clock. The error is want of memory, or that the system gives no poll or no clock.
+fn outside<R: AllocGlobal + Env + Net + Files + Clock + Clone + Drop>(
+    rt: &R,
+) -> io::Result<(Vec<String>, UnixHost<R>, MachineClock<R>)> {
+    Ok((
+        words(rt)?,
+        UnixHost::new(rt.clone()?)?,
+        MachineClock::new(rt.clone()?)?,
+    ))
+}
+
+/// The program's words, its name first. Where one isn't text there are none.
+fn words<R: AllocGlobal + Env>(rt: &R) -> Result<Vec<String>, AllocError> {
+    let mut words = Vec::new(rt.alloc());
+    match env::args(rt) {
+        Ok(args) => {
+            for arg in args {
+                words.push(arg)?;
+            }
+        }
+        Err(e) if e.kind() == ErrorKind::OutOfMemory => return Err(AllocError),
+        Err(_) => {}
+    }
+    Ok(words)
+}
