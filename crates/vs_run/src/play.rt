@@ -11,11 +11,13 @@ ghost use Rattle.vs_run.specs.Played.{IsPlayed};
 
 use crate::ending::{no_memory, refused, unread};
 use std::alloc::Global;
+use vs_both_ends::{BothEnds, StandardRings};
 use vs_outside::{Sink, Source};
 use vs_peer::{DONE, SINK_FAULT, read_source};
 use vs_play::run::{law_of_scripts, play};
 use vs_report::giving::GiveError;
 use vs_ring_list::ListRings;
+use vs_ring_shared::SharedRings;
 use vs_script::{Command, Numbered, PlayLine, Script, parse};
 use vs_words::Rings;
 
@@ -65,7 +67,7 @@ fn play_parsed<K: Sink>(alloc: Global, rings: Rings, queue: u16, script: &Script
     }
 }
 
-// Plays these lines.
+// Plays these lines over rings of that kind.
 fn play_lines<K: Sink>(
     alloc: Global,
     rings: Rings,
@@ -78,10 +80,29 @@ fn play_lines<K: Sink>(
     ensures { EndsAnswer (K.contents out.old) (K.contents out.new) (K.faults out.old) (K.faults out.new)
         (printed queue (events_in (map numbered_event lines.now))) 0 result }
 {
-    let Ok(list) = ListRings::new(alloc, queue) else {
+    match rings {
+        Rings::List => play_over::<ListRings, K>(alloc, queue, lines, out),
+        Rings::Plain => play_over::<StandardRings, K>(alloc, queue, lines, out),
+        Rings::Shared => play_over::<SharedRings, K>(alloc, queue, lines, out),
+    }
+}
+
+// The same, over rings of a type.
+fn play_over<R: BothEnds + Drop, K: Sink>(
+    alloc: Global,
+    queue: u16,
+    lines: &[Numbered<PlayLine>],
+    out: &mut K,
+) -> u8
+    requires queue { IsQueueSize queue }
+    requires playable { AllByRecursion IsPlayable (events_in (map numbered_event lines.now)) }
+    ensures { EndsAnswer (K.contents out.old) (K.contents out.new) (K.faults out.old) (K.faults out.new)
+        (printed queue (events_in (map numbered_event lines.now))) 0 result }
+{
+    let Ok(rings) = R::make(alloc, queue) else {
         return no_memory(out);
     };
-    match play(alloc, list, lines, out) {
+    match play(alloc, rings, lines, out) {
         Ok(()) => DONE,
         Err(GiveError::Sink) => SINK_FAULT,
         Err(GiveError::OutOfMemory) => no_memory(out),

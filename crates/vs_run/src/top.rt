@@ -1,15 +1,17 @@
 //! The command's top: its words, the script that it reads, and the status that it ends with.
 
-ghost use Rattle.std.specs.Prelude.{◌≡◌, ◌≢◌, ◌<◌, ◌-◌, ◌^◌, ℕ, List, Some, None, Err, true, false, map, string_bytes};
+ghost use Rattle.std.specs.Prelude.{◌≡◌, ◌≢◌, ◌<◌, ◌-◌, ◌^◌, ℕ, List, Some, None, Ok, Err, true, false, map, string_bytes};
 ghost use Rattle.vs_outside.specs.Faults.{CountsFault};
 ghost use Rattle.vs_peer.specs.Pieces.{Emits};
 ghost use Rattle.vs_peer.specs.Statuses.{NoFault, Says, is_faultless};
 ghost use Rattle.vs_peer.specs.Text.{read_fault_text};
 ghost use Rattle.vs_play.specs.Answer.{play_of};
+ghost use Rattle.vs_play_laws.specs.Headline.{IsLawful};
 ghost use Rattle.vs_hostile.specs.Answer.{hostile_of};
 ghost use Rattle.vs_report.specs.Gives.{joined};
 ghost use Rattle.vs_script.specs.Fault.{refused_text};
-ghost use Rattle.vs_script.specs.Script.{parse_of};
+ghost use Rattle.vs_script.specs.Play.{Event};
+ghost use Rattle.vs_script.specs.Script.{Plays, parse_of};
 ghost use Rattle.vs_script.specs.declared.script.Command.TheVariants as script_of;
 ghost use Rattle.vs_script.specs.declared.fault.Refused.{Refused};
 ghost use Rattle.vs_words.specs.Command.{Play, Hostile, Peer, command_of};
@@ -24,6 +26,7 @@ use std::alloc::AllocGlobal;
 use std::sync::Wait;
 use vs_outside::{Clock, Gate, HostNet, Sink, Source};
 use vs_peer::peer;
+use vs_play_laws::laws::law_of_plays;
 use vs_words::{Command, WordsError, command_of};
 
 /// The status of words that name no command.
@@ -108,7 +111,11 @@ pub fn vsock_main<R: AllocGlobal + Wait, S: Source, K: Sink, H: HostNet, C: Cloc
         × ((text : List ℕ) → S.contents script.old ≡ Some text → (hostile_of text).status ≡ 7) }
     ensures status_8 { result ≡ 8 → is_client (command_of (map string_bytes words.now)) ≡ true }
     ensures statuses { is_status result ≡ true }
+    // The headline's first three parts hold of the world that a play reaches, over every script.
+    ensures headline { (n : ℕ) (text : List ℕ) (lines : List (ℕ × Event)) → parse_of script_of.Play text ≡ Ok (Plays lines)
+        → IsLawful n (map (λ l. l.1) lines) }
 {
+    law_of_plays();
     run(rt, words, script, host, gate, out)
 }
 

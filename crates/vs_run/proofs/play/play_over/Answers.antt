@@ -4,7 +4,7 @@ use Rattle.vs_report.specs.Gives.{GivesLines}
 use Rattle.vs_ring_list.specs.Ends.{Ends}
 use Rattle.vs_script.specs.Script.{numbered_event}
 use Rattle.vs_run.proofs.Endings.{gave_none, gave_some, has_line_behind}
-use Rattle.vs_run.proofs.play.play_lines.Goals as goal
+use Rattle.vs_run.proofs.play.play_over.Goals as goal
 
 pub returns-in-Err-OutOfMemory : goal.returns-in-Err-OutOfMemory
 returns-in-Err-OutOfMemory g c =
