@@ -3,6 +3,7 @@ use Rattle.std.proofs.Common.{◌≡◌, ◌≤◌, ◌^◌, ℕ, nat_lt, Bool, 
 use Rattle.std.proofs.lemmas.Bool.Decides.{nat_tests}
 use Rattle.vs_driver_parts.specs.Connections.{flow_of}
 use Rattle.vs_flow.specs.declared.flow.Flow.{Flow}
+use Rattle.vs_script.specs.Data.{bytes_of}
 use Rattle.vs_script.specs.Outside.{Host, Outside}
 use Rattle.vs_script.specs.Outside as outside
 use Rattle.vs_script.specs.Play.{Event}
@@ -16,7 +17,7 @@ use Rattle.vs_core.specs.Plays as world
 use Rattle.vs_core.specs.World.{World}
 use Rattle.vs_core.proofs.Payloads.{either_none, nothing_more}
 use Rattle.vs_play.specs.Answer.{world_after}
-use Rattle.vs_play.specs.Lines.{PlayWorld, bytes_of, event_played, host_line}
+use Rattle.vs_play.specs.Lines.{PlayWorld, event_played, host_line}
 use Rattle.vs_play_laws.specs.Bounded.{AreBounded, IsBounded}
 use Rattle.vs_play_laws.specs.Said.{received_by, received_in, sent_by, sent_in}
 

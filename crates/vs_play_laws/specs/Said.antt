@@ -5,13 +5,13 @@ use Rattle.vs_driver_parts.specs.Connections.{flow_of, recv_of, unread_of_id}
 use Rattle.vs_driver_parts.specs.Conversations.{send_of}
 use Rattle.vs_driver_parts.specs.declared.answers.Received.{Received}
 use Rattle.vs_driver_parts.specs.declared.answers.Sent.{Sent}
-use Rattle.vs_script.specs.Data.{Content}
+use Rattle.vs_script.specs.Data.{Content, bytes_of}
 use Rattle.vs_script.specs.Play as script
 use Rattle.vs_script.specs.Play.{Event}
 use Rattle.vs_core.specs.Calls.{is_on, took}
 use Rattle.vs_core.specs.GuestSteps.{bytes_got}
 use Rattle.vs_core.specs.World.{driver_plays}
-use Rattle.vs_play.specs.Lines.{PlayWorld, bytes_of, event_played}
+use Rattle.vs_play.specs.Lines.{PlayWorld, event_played}
 
 -- The answer of `send C DATA`.
 abbrev pub send_answer : ℕ → Content → PlayWorld → Sent
