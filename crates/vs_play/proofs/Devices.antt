@@ -9,20 +9,12 @@ use Rattle.vs_outside.specs.Host.{HostContents}
 use Rattle.vs_driver_parts.specs.Playing.{IsRingOf}
 use Rattle.vs_driver_parts.specs.State.{DriverState}
 use Rattle.vs_driver_log.specs.Honest.{IsHonestWith}
-use Rattle.vs_ring_port.specs.Chains.{chains_of}
-use Rattle.vs_device_parts.specs.Calls.{Allows, Situation}
-use Rattle.vs_device_parts.specs.Playing.{CanMake, IsItsRing, MayRun, Runs, situation}
-use Rattle.vs_device_laws.specs.Split.{CanReach}
-use Rattle.vs_device_laws.proofs.Conditions.{may_where, quiet_can}
-use Rattle.vs_device_laws.proofs.Keeping.{keeps_may, keeps_end as streams_end}
-use Rattle.vs_device_laws.proofs.Opening.{new_has}
-use Rattle.vs_device_log.proofs.Keeping.{keeps_end, keeps_put}
+use Rattle.vs_device_parts.specs.Playing.{Runs, situation}
 use Rattle.vs_proxy_parts.specs.State.{ProxyState}
 use Rattle.vs_proxy_parts.specs.Turns.{new_proxy, proxy_reset_of, turn_of}
 use Rattle.vs_proxy_parts.specs.declared.answers.Turn.{Turn}
-use Rattle.vs_proxy_laws.proofs.Lists.{none_open}
-use Rattle.vs_proxy_laws.proofs.Turning.{keeps_proxy_reset, keeps_turn}
-use Rattle.vs_proxy_log.proofs.Turning.{new_proxy_with, proxy_reset_keeps, turn_keeps}
+use Rattle.vs_proxy_log.proofs.Ordered.{new_in_order}
+use Rattle.vs_proxy_log.proofs.Turning.{proxy_reset_keeps, turn_keeps}
 use Rattle.vs_world.specs.World.{first_cid}
 use Rattle.vs_play.specs.Answer.{base_path}
 use Rattle.vs_play.specs.Ready.{IsDriven, IsServed}
@@ -58,51 +50,10 @@ pub reset_played : (cid : ℕ) (s : ProxyState) (v w : Ends) (h g : HostContents
 reset_played cid s v w h g n m x fits served runs =
     over _ (proxy_reset_of cid s) v w h g n m x (proxy_reset_keeps first_cid cid s (device_contents v) fits served.order.ring) runs
 
-module _ (s : ProxyState) (v w : Ends) (h g : HostContents) (n m : ℕ) (served : IsServed s v h) where
-  abbrev before : Situation
-  before = situation (device_contents v) (Some h) n
-
-  abbrev behind : Situation
-  behind = situation (device_contents w) (Some g) m
-
-  pub turn_may : (size now : ℕ) → MayRun (turn_of size now s) (situation (device_contents v) (Some h) n)
-  turn_may size now =
-      may_where (turn_of size now s) before
-      (keeps_may CanReach Allows _ (turn_of size now s) before (keeps_turn size now s before served.order.streams))
-      (keeps_put _ (turn_of size now s) before (turn_keeps first_cid size now s (device_contents v) served.order.ring))
-
-  pub turn_serves : (size now : ℕ) (x : ProxyState × Turn) → IsItsRing (chains_of w.device.held) x.0.device
-      → Runs (turn_of size now s) (situation (device_contents v) (Some h) n) x (situation (device_contents w) (Some g) m) → IsServed x.0 w g
-  turn_serves size now x chains runs = record {
-    chains = chains;
-    order = record {
-      streams = streams_end CanReach Allows _ (turn_of size now s) before behind x (keeps_turn size now s before served.order.streams) runs;
-      ring = keeps_end _ (turn_of size now s) before behind x (turn_keeps first_cid size now s (device_contents v) served.order.ring) runs;
-    };
-  }
-
-  pub reset_may : (cid : ℕ) → MayRun (proxy_reset_of cid s) (situation (device_contents v) (Some h) n)
-  reset_may cid =
-      keeps_may CanMake Allows _ (proxy_reset_of cid s) before (keeps_proxy_reset CanMake quiet_can cid s before served.order.streams)
-
-  pub reset_serves : (cid : ℕ) (x : ProxyState × Result (Unit {0}) Failure) → cid < 2 ^ 64 → IsItsRing (chains_of w.device.held) x.0.device
-      → Runs (proxy_reset_of cid s) (situation (device_contents v) (Some h) n) x (situation (device_contents w) (Some g) m) → IsServed x.0 w g
-  reset_serves cid x fits chains runs = record {
-    chains = chains;
-    order = record {
-      streams = streams_end CanMake Allows _ (proxy_reset_of cid s) before behind x
-          (keeps_proxy_reset CanMake quiet_can cid s before served.order.streams) runs;
-      ring = keeps_end _ (proxy_reset_of cid s) before behind x (proxy_reset_keeps first_cid cid s (device_contents v) fits served.order.ring) runs;
-    };
-  }
-
 -- A proxy just made, over empty rings with a host without streams.
 pub served_new : (n : ℕ) (h : HostContents) → IsServed (new_proxy first_cid base_path) (empty_ends n) h
 served_new n h = record {
   chains = λ going. record { chains = refl; rx = tt };
-  order = record {
-    streams = λ k is. new_has [] first_cid base_path k (none_open k);
-    ring = new_proxy_with first_cid base_path (device_contents (empty_ends n)) (omega arith)
-        (λ l is. subst (λ (x : EndLog). (x.entries ≡ []) × (x.held ≡ [])) (ap (λ (o : Option EndLog). unwrap_or o l) is) (refl, refl));
-  };
+  order = new_in_order first_cid base_path (situation (device_contents (empty_ends n)) (Some h) 0) (omega arith)
+      (λ l is. subst (λ (x : EndLog). (x.entries ≡ []) × (x.held ≡ [])) (ap (λ (o : Option EndLog). unwrap_or o l) is) (refl, refl));
 }
