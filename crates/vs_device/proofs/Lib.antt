@@ -10,3 +10,4 @@ mod Takings
 mod EventPaying
 mod Resetting
 mod Returning
+mod Ordered

@@ -1,6 +1,11 @@
 //! The device: its connections, what it owes to unknown flows, the event that it owes, the chain that it holds, and what it counted.
 
-ghost use Rattle.std.specs.Prelude.{◌≡◌, ◌≤◌, IfOk, length};
+ghost use Rattle.std.specs.Prelude.{◌≡◌, ◌≤◌, ℕ, List, IfOk, length};
+ghost use Rattle.vs_outside.specs.Host.{HostContents};
+ghost use Rattle.vs_ring_port.specs.Contents.{RingContents};
+ghost use Rattle.vs_ring_port.specs.EndLog.{EndLog};
+ghost use Rattle.vs_device_laws.specs.Streams.{AreOpen, HasStreams};
+ghost use Rattle.vs_device_log.specs.Honest.{AgreesWith, IsFresh, IsWith};
 ghost use Rattle.vs_uds.specs.declared.path.TheConstants.{BASE_MAX};
 ghost use Rattle.vs_device_parts.specs.Connections.{with_fault};
 ghost use Rattle.vs_device_parts.specs.Transmitting.{failing};
@@ -72,7 +77,10 @@ impl Device {
     pub fn new(alloc: Global, cid: u64, base: &str) -> Result<Device, AllocError>
         requires cid { (3 ≤ cid) × (cid ≤ 4294967294) }
         requires base { (1 ≤ length base.now) × (length base.now ≤ BASE_MAX) }
-        ensures { IfOk result (λ device. device ≡ new_device cid base.now) }
+        ensures state { IfOk result (λ device. device ≡ new_device cid base.now) }
+        ensures streams { IfOk result (λ device. (others : List ℕ) (host : HostContents) → AreOpen others host
+            → HasStreams others device.table host) }
+        ensures honest { IfOk result (λ device. (port : ℕ) (ring : RingContents) → IsFresh ring → IsWith cid port device ring) }
     {
         Ok(Device {
             cid,
@@ -95,7 +103,9 @@ impl Device {
 
     /// What the device counted since it was made. A count stands still at the last value of its type.
     pub fn counters(&self) -> Counters
-        ensures { result ≡ counters_of self.now }
+        ensures counters { result ≡ counters_of self.now }
+        // Over an honest ring that tells its log no packet held more payload than there was room for.
+        ensures honest { (first port : ℕ) (l : EndLog) → AgreesWith first port self.now l → result.overrun ≡ 0 }
     {
         Counters {
             dropped: self.dropped,

@@ -1,6 +1,6 @@
 //! The event of a transport reset (Virtio 1.2, section 5.10.6.7).
 
-ghost use Rattle.std.specs.Prelude.{◌≡◌, ◌≤◌, ◌&&◌, not, true, false, Contains, Some, Ok, Err, IfOk, IfErr};
+ghost use Rattle.std.specs.Prelude.{◌≡◌, ◌≤◌, ◌&&◌, ℕ, not, true, false, Contains, Some, Ok, Err, IfOk, IfErr};
 ghost use Rattle.byteorder.specs.Endian.{little_bytes};
 ghost use Rattle.vs_ring_port.specs.Chains.{without};
 ghost use Rattle.vs_ring_port.specs.Contents.{Write, Return};
@@ -8,6 +8,7 @@ ghost use Rattle.vs_ring_port.specs.DeviceCalls.{CanReturn, LeavesNoGap};
 ghost use Rattle.vs_ring_port.specs.declared.device_ring.Next.TheVariants as next;
 ghost use Rattle.vs_ring_port.specs.declared.failure.Failure.{Failure};
 ghost use Rattle.vs_device_parts.specs.Playing.{AllowsOnRing, IsItsRing, MayRunOnRing, RunsOnRing};
+ghost use Rattle.vs_device_log.specs.Honest.{IsWith};
 ghost use Rattle.vs_device_parts.specs.Receiving.{event_on, pay_event_of};
 
 use crate::device::Device;
@@ -26,6 +27,10 @@ impl Device {
         ensures kept { (f : Failure) → self.old.failed ≡ Some f → (self.new ≡ self.old) × (result ≡ Err f) }
         ensures failed { IfErr result (λ f. self.new.failed ≡ Some f) }
         ensures paid { IfOk result (λ paid. self.new ≡ record self.old { event_owed = self.old.event_owed && not paid }) }
+        ensures streams { self.new.table ≡ self.old.table }
+        // Over an honest ring that tells its log the connections are those that the log left, and all that is put keeps the log fair.
+        ensures honest { (first port : ℕ) → IsWith first port self.old (R.contents ring.old)
+            → IsWith first port self.new (R.contents ring.new) }
     {
         if let Some(failure) = self.failed {
             return Err(failure);

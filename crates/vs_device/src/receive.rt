@@ -1,7 +1,9 @@
 //! The last stage of a turn: packets are put on the receive queue, what is owed to unknown flows first, and then, connection by connection,
 //! what is read of the host's streams and what each owes (Virtio 1.2, sections 5.10.6.1 to 5.10.6.5).
 
-ghost use Rattle.std.specs.Prelude.{◌≡◌, ◌≤◌, ◌<◌, ◌+◌, ◌*◌, ◌^◌, not, length, false, true, Some, None, is_some, IfSome, Err, IfErr, IfOk, OnOk};
+ghost use Rattle.std.specs.Prelude.{◌≡◌, ◌≤◌, ◌<◌, ◌+◌, ◌*◌, ◌^◌, ℕ, List};
+ghost use Rattle.std.specs.Prelude.{not, length, false, true, Some, None, is_some, IfSome, Err, IfErr, IfOk, OnOk};
+ghost use Rattle.std.specs.Option.{ForSome};
 ghost use Rattle.vs_conn.specs.End.{CanSend, owes_of};
 ghost use Rattle.vs_conn.specs.Headers.{reset_header};
 ghost use Rattle.vs_conn.specs.declared.end.Owed.TheVariants as owed;
@@ -13,6 +15,8 @@ ghost use Rattle.vs_header.specs.declared.TheConstants.{HEADER_LEN};
 ghost use Rattle.vs_page.specs.declared.page.TheConstants.{PAYLOAD_MAX};
 ghost use Rattle.vs_ring_port.specs.declared.device_ring.Chain.{Chain};
 ghost use Rattle.vs_ring_port.specs.declared.failure.Failure.{Failure};
+ghost use Rattle.vs_device_laws.specs.Streams.{HasStreams};
+ghost use Rattle.vs_device_log.specs.Honest.{IsWith};
 ghost use Rattle.vs_device_parts.specs.Connections.{route_to_guest};
 ghost use Rattle.vs_device_parts.specs.Filling.{filling_of, is_rst, put_header, read_slot, serve_all, serve_rest};
 ghost use Rattle.vs_device_parts.specs.Playing.{IsItsRing, IsRingOf, MayRun, MayRunOnHost, MayRunOnRing, Runs, RunsOnHost, RunsOnRing, situation};
@@ -54,6 +58,12 @@ impl Device {
         ensures ok { OnOk result (self.new.failed ≡ None) }
         ensures few { IfOk result (λ f. f.put ≤ REPLIES + (OWED_MAX + 1) * CONNECTIONS) }
         ensures few_read { IfOk result (λ f. f.read ≤ PAYLOAD_MAX * CONNECTIONS) }
+        // Where each connection has an open stream of its own, it has one after the call.
+        ensures streams { (others : List ℕ) → ForSome (H.contents host.old) (HasStreams others self.old.table)
+            → ForSome (H.contents host.new) (HasStreams others self.new.table) }
+        // Over an honest ring that tells its log the connections are those that the log left, and all that is put keeps the log fair.
+        ensures honest { (first port : ℕ) → IsWith first port self.old (R.contents ring.old)
+            → IsWith first port self.new (R.contents ring.new) }
     {
         if let Some(failure) = self.failed {
             return Err(failure);

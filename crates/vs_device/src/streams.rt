@@ -1,11 +1,14 @@
 //! What the device does with the host's streams at a moment, and with the bytes that are pending for them.
 
-ghost use Rattle.std.specs.Prelude.{◌≡◌, ◌≤◌, ◌<◌, ◌+◌, ◌^◌, ℕ, true, false, not, Some, length};
+ghost use Rattle.std.specs.Prelude.{◌≡◌, ◌≤◌, ◌<◌, ◌+◌, ◌^◌, ℕ, List, true, false, not, Some, length};
 ghost use Rattle.std.specs.Option.{ForSome, option_map_or};
 ghost use Rattle.vs_conn.specs.End.{may_shut};
 ghost use Rattle.vs_flow.specs.Table.{entry_under};
 ghost use Rattle.vs_outside.specs.Host.{IsOpen, TakesSome};
 ghost use Rattle.vs_outside.specs.declared.host_net.StreamWrite.TheVariants.{Closed};
+ghost use Rattle.vs_ring_port.specs.Contents.{RingContents};
+ghost use Rattle.vs_device_laws.specs.Streams.{HasStreams};
+ghost use Rattle.vs_device_log.specs.Honest.{IsWith};
 ghost use Rattle.vs_device_parts.specs.declared.limits.TheConstants.{WRITE_MAX};
 ghost use Rattle.vs_device_parts.specs.Connections.{is_timed_out};
 ghost use Rattle.vs_device_parts.specs.Playing.{MayRunOnHost, RunsOnHost};
@@ -26,6 +29,11 @@ impl Device {
         requires may { MayRunOnHost (tick_of now self.old) (H.contents host.old) (H.faults host.old) }
         ensures calls { RunsOnHost (tick_of now self.old) (H.contents host.old) (H.faults host.old) self.new (H.contents host.new) (H.faults host.new) }
         ensures chain { self.new.chain ≡ self.old.chain }
+        // Where each connection has an open stream of its own, it has one after the call.
+        ensures streams { (others : List ℕ) → ForSome (H.contents host.old) (HasStreams others self.old.table)
+            → ForSome (H.contents host.new) (HasStreams others self.new.table) }
+        // The connections stay those that the log of an honest ring left.
+        ensures honest { (first port : ℕ) (ring : RingContents) → IsWith first port self.old ring → IsWith first port self.new ring }
     {
         self.moment = now;
         let slots = self.slots.all();
@@ -62,6 +70,11 @@ impl Device {
         requires may { MayRunOnHost (pump_of self.old) (H.contents host.old) (H.faults host.old) }
         ensures calls { RunsOnHost (pump_of self.old) (H.contents host.old) (H.faults host.old) (writing self.new result) (H.contents host.new) (H.faults host.new) }
         ensures chain { self.new.chain ≡ self.old.chain }
+        // Where each connection has an open stream of its own, it has one after the call.
+        ensures streams { (others : List ℕ) → ForSome (H.contents host.old) (HasStreams others self.old.table)
+            → ForSome (H.contents host.new) (HasStreams others self.new.table) }
+        // The connections stay those that the log of an honest ring left.
+        ensures honest { (first port : ℕ) (ring : RingContents) → IsWith first port self.old ring → IsWith first port self.new ring }
     {
         let slots = self.slots.all();
         let mut wrote = 0;

@@ -23,6 +23,8 @@ ghost use Rattle.vs_device_parts.specs.Connections.{with_connection, with_reply}
 ghost use Rattle.vs_device_parts.specs.Playing.{AllowsOnRing, IsItsRing, IsRxChain, MayClose, MayRun, Runs, RunsOnHost, held_by, situation};
 ghost use Rattle.vs_device_parts.specs.State.{DeviceConnection, DeviceEntry, DeviceState};
 ghost use Rattle.vs_device_parts.specs.Taking.{after_refusal, asks_for_stream, is_not_for_host, known_packet};
+ghost use Rattle.vs_device_laws.specs.Streams.{HasStreams};
+ghost use Rattle.vs_device_log.specs.Honest.{IsWith};
 ghost use Rattle.vs_device_parts.specs.Transmitting.{dial_answered, failing, heard, on_header, on_known, on_next, on_packet, on_unknown, refused, take_tx_of, try_request, unknown_why};
 
 use crate::device::Device;
@@ -56,6 +58,12 @@ impl Device {
         ensures kept { (f : Failure) → self.old.failed ≡ Some f → (self.new ≡ self.old) × (result ≡ taken.Failed f) }
         ensures failed { (f : Failure) → result ≡ taken.Failed f → self.new.failed ≡ Some f }
         ensures full { (n : ℕ) → result ≡ taken.RepliesFull n → (n ≡ REPLIES) × (self.new ≡ self.old) }
+        // Where each connection has an open stream of its own, it has one after the call.
+        ensures streams { (others : List ℕ) → ForSome (H.contents host.old) (HasStreams others self.old.table)
+            → ForSome (H.contents host.new) (HasStreams others self.new.table) }
+        // Over an honest ring that tells its log the connections are those that the log left, and all that is put keeps the log fair.
+        ensures honest { (first port : ℕ) → IsWith first port self.old (R.contents ring.old)
+            → IsWith first port self.new (R.contents ring.new) }
     {
         if let Some(failure) = self.failed {
             return Taken::Failed(failure);

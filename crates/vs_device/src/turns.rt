@@ -1,10 +1,19 @@
 //! Connections that clients of the host ask for, transport resets, and what the device shows of its connections.
 
-ghost use Rattle.std.specs.Prelude.{◌≡◌, ◌≤◌, ◌<◌, ◌^◌, [], true, Some, IfOk, IfErr, OnErr, OnOk, Err, length};
+ghost use Rattle.std.specs.Prelude.{◌≡◌, ◌≤◌, ◌<◌, ◌^◌, ℕ, List, Contains, [], true, Some, IfOk, IfErr, OnErr, OnOk, Err, length};
 ghost use Rattle.std.specs.Iterator.{YieldsFirst, item_count};
+ghost use Rattle.std.specs.Option.{ForSome};
 ghost use Rattle.vs_contents.specs.CallTree.{for_each};
 ghost use Rattle.vs_flow.specs.Table.{refusal, slots};
 ghost use Rattle.vs_ring_port.specs.declared.failure.Failure.{Failure};
+ghost use Rattle.vs_history.specs.declared.TheConstants.{BUF_ALLOC};
+ghost use Rattle.vs_matching.specs.Steps.{IsNextFlow};
+ghost use Rattle.vs_page.specs.Log as log;
+ghost use Rattle.vs_ring_port.specs.Contents.{RingContents};
+ghost use Rattle.vs_ring_port.specs.EndLog.{EndLog};
+ghost use Rattle.vs_device_laws.specs.Streams.{HasStreams, IsFree};
+ghost use Rattle.vs_device_log.specs.Honest.{AgreesWith, IsLeftOpen, IsWith, ends_of_state, port_after};
+ghost use Rattle.vs_device_parts.specs.State.{DeviceEntry};
 ghost use Rattle.vs_device_parts.specs.Playing.{IsItsRing, MayRun, MayRunOnHost, Runs, RunsOnHost, situation};
 ghost use Rattle.vs_device_parts.specs.Turns.{after_reset, close_slot, open_of, reset_of, table_shown};
 
@@ -36,6 +45,13 @@ impl Device {
         ensures refused { IfErr result (λ fault. refusal self.old.table flow ≡ Some fault) }
         ensures unchanged { OnErr result (self.new ≡ self.old) }
         ensures chain { self.new.chain ≡ self.old.chain }
+        // Where each connection has an open stream of its own, and this one is free, it is so after the call.
+        ensures streams { (others : List ℕ) → ForSome (H.contents host.old) (HasStreams others self.old.table)
+            → ForSome (H.contents host.old) (IsFree stream others self.old.table)
+            → ForSome (H.contents host.new) (HasStreams others self.new.table) }
+        // The connections stay those that the log of an honest ring left, and the one whose REQUEST is owed, on the next host port.
+        ensures honest { (first port : ℕ) (ring : RingContents) → IsNextFlow log.Device flow (ends_of_state port self.old)
+            → IsWith first port self.old ring → IsWith first (port_after flow port result) self.new ring }
     {
         if let Some(fault) = self.slots.refusal(flow) {
             return Err(fault);
@@ -65,6 +81,12 @@ impl Device {
         ensures kept { (f : Failure) → self.old.failed ≡ Some f → result ≡ Err f }
         ensures empty { OnOk result ((self.new.table.entries ≡ []) × (self.new.replies ≡ [])) }
         ensures published { OnOk result ((self.new.cid ≡ cid) × (self.new.event_owed ≡ true)) }
+        // Where each connection has an open stream of its own, it has one after the call.
+        ensures streams { (others : List ℕ) → ForSome (H.contents host.old) (HasStreams others self.old.table)
+            → ForSome (H.contents host.new) (HasStreams others self.new.table) }
+        // Over an honest ring that tells its log the connections are those that the log left, and all that is put keeps the log fair.
+        ensures honest { (first port : ℕ) → IsWith first port self.old (R.contents ring.old)
+            → IsWith first port self.new (R.contents ring.new) }
     {
         if let Some(failure) = self.failed {
             return Err(failure);
@@ -112,6 +134,11 @@ impl Device {
     pub fn table(&self) -> Entries<'_>
         ensures entries { result ≡ table_shown self.now }
         ensures countable { length result < 2 ^ 64 }
+        // They are the connections that the log of an honest ring left open, and those of clients whose REQUEST isn't put.
+        ensures open { (first port : ℕ) (l : EndLog) → AgreesWith first port self.now l → IsLeftOpen first self.now result l }
+        // What is pending of a connection is within the buffer space that each packet advertises.
+        ensures pending { (first port : ℕ) (l : EndLog) (e : DeviceEntry) → AgreesWith first port self.now l
+            → Contains self.now.table.entries e → length e.value.pending ≤ BUF_ALLOC }
     {
         let slots = &self.slots;
         let connections = slots.open();

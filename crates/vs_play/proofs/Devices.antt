@@ -11,12 +11,12 @@ use Rattle.vs_driver_parts.specs.State.{DriverState}
 use Rattle.vs_driver_log.specs.Honest.{IsHonestWith}
 use Rattle.vs_ring_port.specs.Chains.{chains_of}
 use Rattle.vs_device_parts.specs.Calls.{Allows, Situation}
-use Rattle.vs_device_parts.specs.Playing.{CanMake, IsItsRing, MayRun, Runs, situation}
+use Rattle.vs_device_parts.specs.Playing.{CanMake, IsItsRing, Runs, situation}
 use Rattle.vs_device_laws.specs.Split.{CanReach}
-use Rattle.vs_device_laws.proofs.Conditions.{may_where, quiet_can}
-use Rattle.vs_device_laws.proofs.Keeping.{keeps_may, keeps_end as streams_end}
+use Rattle.vs_device_laws.proofs.Conditions.{quiet_can}
+use Rattle.vs_device_laws.proofs.Keeping.{keeps_end as streams_end}
 use Rattle.vs_device_laws.proofs.Opening.{new_has}
-use Rattle.vs_device_log.proofs.Keeping.{keeps_end, keeps_put}
+use Rattle.vs_device_log.proofs.Keeping.{keeps_end}
 use Rattle.vs_proxy_parts.specs.State.{ProxyState}
 use Rattle.vs_proxy_parts.specs.Turns.{new_proxy, proxy_reset_of, turn_of}
 use Rattle.vs_proxy_parts.specs.declared.answers.Turn.{Turn}
@@ -65,12 +65,6 @@ module _ (s : ProxyState) (v w : Ends) (h g : HostContents) (n m : ℕ) (served 
   abbrev behind : Situation
   behind = situation (device_contents w) (Some g) m
 
-  pub turn_may : (size now : ℕ) → MayRun (turn_of size now s) (situation (device_contents v) (Some h) n)
-  turn_may size now =
-      may_where (turn_of size now s) before
-      (keeps_may CanReach Allows _ (turn_of size now s) before (keeps_turn size now s before served.order.streams))
-      (keeps_put _ (turn_of size now s) before (turn_keeps first_cid size now s (device_contents v) served.order.ring))
-
   pub turn_serves : (size now : ℕ) (x : ProxyState × Turn) → IsItsRing (chains_of w.device.held) x.0.device
       → Runs (turn_of size now s) (situation (device_contents v) (Some h) n) x (situation (device_contents w) (Some g) m) → IsServed x.0 w g
   turn_serves size now x chains runs = record {
@@ -80,10 +74,6 @@ module _ (s : ProxyState) (v w : Ends) (h g : HostContents) (n m : ℕ) (served 
       ring = keeps_end _ (turn_of size now s) before behind x (turn_keeps first_cid size now s (device_contents v) served.order.ring) runs;
     };
   }
-
-  pub reset_may : (cid : ℕ) → MayRun (proxy_reset_of cid s) (situation (device_contents v) (Some h) n)
-  reset_may cid =
-      keeps_may CanMake Allows _ (proxy_reset_of cid s) before (keeps_proxy_reset CanMake quiet_can cid s before served.order.streams)
 
   pub reset_serves : (cid : ℕ) (x : ProxyState × Result (Unit {0}) Failure) → cid < 2 ^ 64 → IsItsRing (chains_of w.device.held) x.0.device
       → Runs (proxy_reset_of cid s) (situation (device_contents v) (Some h) n) x (situation (device_contents w) (Some g) m) → IsServed x.0 w g

@@ -1,5 +1,5 @@
 -- Over rings that are seen as their ends a call of the driver's or the device's has one end: the one that it has over lists.
-use Rattle.std.proofs.Common.{◌≡◌, ℕ, List, Option, sym, ap, subst, ◌∙◌}
+use Rattle.std.proofs.Common.{◌≡◌, ℕ, List, Option, Some, sym, ap, subst, ◌∙◌}
 use Rattle.vs_outside.specs.Host.{HostContents}
 use Rattle.vs_ring_port.specs.Chains.{chains_of}
 use Rattle.vs_ring_port.specs.Contents.{RingContents}
@@ -11,8 +11,10 @@ use Rattle.vs_driver_parts.specs.Playing.{IsRingOf, Plays, all_flown}
 use Rattle.vs_driver_parts.specs.State.{DriverState}
 use Rattle.vs_driver_log.specs.Honest.{IsHonest, IsHonestWith}
 use Rattle.vs_device_parts.specs.Calls.{DeviceTree}
-use Rattle.vs_device_parts.specs.Playing.{IsItsRing, MayRun, Runs, situation}
+use Rattle.vs_device_parts.specs.Playing.{IsItsRing, Runs, situation}
 use Rattle.vs_device_parts.specs.State.{DeviceState}
+use Rattle.vs_proxy_parts.specs.State.{ProxyState}
+use Rattle.vs_proxy_log.specs.Order.{IsInOrder}
 use Rattle.vs_both_ends.specs.Seen.{IsDeviceOf, IsDriverOf}
 use Rattle.vs_play.specs.Ready.{IsDriven, over_lists}
 use Rattle.vs_play.proofs.OverLists.{over}
@@ -57,9 +59,10 @@ pub ring_is : (v : Ends) (n : ℕ) (held : List Chain) (c : RingContents) (s : D
     → IsItsRing held s → IsItsRing (chains_of v.device.held) s
 ring_is v n held c s shows ring = subst (λ h. IsItsRing h s) shows.held_is ring
 
-pub may_as : {A : Type 0} (v : Ends) (n : ℕ) (held : List Chain) (c : RingContents) (tree : DeviceTree A) (host : Option HostContents) (faults : ℕ)
-    → IsDeviceOf v n held c → MayRun tree (situation (device_contents v) host faults) → MayRun tree (situation c host faults)
-may_as v n held c tree host faults shows may = subst (λ t. MayRun tree (situation t host faults)) (sym shows.exposes) may
+pub order_as : (first : ℕ) (v : Ends) (n : ℕ) (held : List Chain) (c : RingContents) (s : ProxyState) (h : HostContents) (faults : ℕ)
+    → IsDeviceOf v n held c → IsInOrder first s (situation (device_contents v) (Some h) 0) → IsInOrder first s (situation c (Some h) faults)
+order_as first v n held c s h faults shows order =
+    subst (λ t. IsInOrder first s (situation t (Some h) faults)) (sym shows.exposes) (record { streams = order.streams; ring = order.ring })
 
 -- What a call runs, whose tree asks for the queues' size.
 pub runs_as : {A : Type 0} (v w : Ends) (n m : ℕ) (held kept : List Chain) (c d : RingContents) (tree : ℕ → DeviceTree A)

@@ -1,8 +1,12 @@
 //! The proxy: the device, the handshakes of the host's clients, and the host ports that it gives.
 
-ghost use Rattle.std.specs.Prelude.{◌≡◌, ◌≤◌, IfOk, length};
+ghost use Rattle.std.specs.Prelude.{◌≡◌, ◌≤◌, ℕ, IfOk, length};
+ghost use Rattle.vs_ring_port.specs.EndLog.{EndLog};
 ghost use Rattle.vs_uds.specs.declared.path.TheConstants.{BASE_MAX};
+ghost use Rattle.vs_device_parts.specs.Calls.{Situation};
 ghost use Rattle.vs_device_parts.specs.Turns.{counters_of};
+ghost use Rattle.vs_device_log.specs.Honest.{AgreesWith, IsFresh};
+ghost use Rattle.vs_proxy_log.specs.Order.{IsInOrder};
 ghost use Rattle.vs_proxy_parts.specs.Turns.{new_proxy};
 
 use std::alloc::{AllocError, Global};
@@ -38,7 +42,9 @@ impl Proxy {
     pub fn new(alloc: Global, cid: u64, base: &str) -> Result<Proxy, AllocError>
         requires cid { (3 ≤ cid) × (cid ≤ 4294967294) }
         requires base { (1 ≤ length base.now) × (length base.now ≤ BASE_MAX) }
-        ensures { IfOk result (λ proxy. proxy ≡ new_proxy cid base.now) }
+        ensures state { IfOk result (λ proxy. proxy ≡ new_proxy cid base.now) }
+        // With a host, and with a ring on which nothing passed, it is in order.
+        ensures order { IfOk result (λ proxy. (a : Situation) → IsFresh a.ring → IsInOrder cid proxy a) }
     {
         Ok(Proxy {
             device: Device::new(alloc, cid, base)?,
@@ -49,7 +55,9 @@ impl Proxy {
 
     /// What the device counted since the proxy was made. A count stands still at the last value of its type.
     pub fn counters(&self) -> Counters
-        ensures { result ≡ counters_of self.now.device }
+        ensures counters { result ≡ counters_of self.now.device }
+        // Over an honest ring that tells its log no packet held more payload than there was room for.
+        ensures honest { (first port : ℕ) (l : EndLog) → AgreesWith first port self.now.device l → result.overrun ≡ 0 }
     {
         self.device.counters()
     }

@@ -1,10 +1,18 @@
 //! The turn of a proxy, and a transport reset.
 
-ghost use Rattle.std.specs.Prelude.{◌≡◌, ◌≤◌, ◌<◌, ◌+◌, ◌^◌, [], true, Some, None, IfErr, OnErr, OnOk, Err, length};
+ghost use Rattle.std.specs.Prelude.{◌≡◌, ◌≤◌, ◌<◌, ◌+◌, ◌^◌, ℕ, Contains, length, [], true, Some, None, IfErr, OnErr, OnOk, Err};
+ghost use Rattle.std.specs.Option.{ForSome};
 ghost use Rattle.vs_contents.specs.CallTree.{for_each};
+ghost use Rattle.vs_history.specs.declared.TheConstants.{BUF_ALLOC};
+ghost use Rattle.vs_ring_port.specs.EndLog.{EndLog};
 ghost use Rattle.vs_ring_port.specs.declared.failure.Failure.{Failure};
-ghost use Rattle.vs_device_parts.specs.Playing.{IsItsRing, MayRun, MayRunOnHost, Runs, RunsOnHost, situation};
+ghost use Rattle.vs_device_parts.specs.Playing.{IsItsRing, MayRunOnHost, Runs, RunsOnHost, situation};
 ghost use Rattle.vs_device_parts.specs.Turns.{counters_of, table_shown};
+ghost use Rattle.vs_device_parts.specs.State.{DeviceEntry};
+ghost use Rattle.vs_device_laws.specs.Streams.{HasStreams};
+ghost use Rattle.vs_device_log.specs.Honest.{AgreesWith, IsLeftOpen};
+ghost use Rattle.vs_proxy_log.specs.Honest.{IsProxyWith};
+ghost use Rattle.vs_proxy_log.specs.Order.{IsInOrder};
 ghost use Rattle.vs_proxy_parts.specs.Handshakes.{streams_of};
 ghost use Rattle.vs_proxy_parts.specs.State.{ProxyState};
 ghost use Rattle.vs_proxy_parts.specs.Turning.{turning_of};
@@ -29,11 +37,16 @@ impl Proxy {
     /// nothing.
     pub fn turn<R: DeviceRing, H: HostNet>(&mut self, ring: &mut R, host: &mut H, now: u64) -> Turn
         requires ring { IsItsRing (R.held ring.old) self.old.device }
-        requires may { MayRun (turn_of (R.size ring.old) now self.old) (situation (R.contents ring.old) (H.contents host.old) (H.faults host.old)) }
+        requires order { (first : ℕ) × IsInOrder first self.old (situation (R.contents ring.old) (H.contents host.old) (H.faults host.old)) }
         ensures ring { IsItsRing (R.held ring.new) self.new.device }
         ensures calls { Runs (turn_of (R.size ring.old) now self.old) (situation (R.contents ring.old) (H.contents host.old) (H.faults host.old)) (self.new, result) (situation (R.contents ring.new) (H.contents host.new) (H.faults host.new)) }
         ensures kept { (f : Failure) → self.old.device.failed ≡ Some f → (self.new ≡ self.old) × (result ≡ turn.Failed f) }
         ensures failed { (f : Failure) → result ≡ turn.Failed f → self.new.device.failed ≡ Some f }
+        // Where each connection and each handshake has an open stream of its own, it has one after the call.
+        ensures streams { ForSome (H.contents host.old) (HasStreams (streams_of self.old) self.old.device.table)
+            → ForSome (H.contents host.new) (HasStreams (streams_of self.new) self.new.device.table) }
+        // Over an honest ring that tells its log the connections are those that the log left, and all that is put keeps the log fair.
+        ensures honest { (first : ℕ) → IsProxyWith first self.old (R.contents ring.old) → IsProxyWith first self.new (R.contents ring.new) }
     {
         let size = ring.size();
         let before = self.device.counters();
@@ -81,7 +94,7 @@ impl Proxy {
     ) -> Result<(), Failure>
         requires cid { (3 ≤ cid) × (cid ≤ 4294967294) }
         requires ring { IsItsRing (R.held ring.old) self.old.device }
-        requires may { MayRun (proxy_reset_of cid self.old) (situation (R.contents ring.old) (H.contents host.old) (H.faults host.old)) }
+        requires order { (first : ℕ) × IsInOrder first self.old (situation (R.contents ring.old) (H.contents host.old) (H.faults host.old)) }
         ensures ring { IsItsRing (R.held ring.new) self.new.device }
         ensures calls { Runs (proxy_reset_of cid self.old) (situation (R.contents ring.old) (H.contents host.old) (H.faults host.old)) (self.new, result) (situation (R.contents ring.new) (H.contents host.new) (H.faults host.new)) }
         ensures refused { IfErr result (λ f. self.old.device.failed ≡ Some f) }
@@ -90,6 +103,11 @@ impl Proxy {
         ensures empty { OnOk result ((self.new.device.table.entries ≡ []) × (self.new.device.replies ≡ []) × (self.new.handshakes ≡ [])) }
         ensures published { OnOk result ((self.new.device.cid ≡ cid) × (self.new.device.event_owed ≡ true)) }
         ensures port { self.new.next_port ≡ self.old.next_port }
+        // Where each connection and each handshake has an open stream of its own, it has one after the call.
+        ensures streams { ForSome (H.contents host.old) (HasStreams (streams_of self.old) self.old.device.table)
+            → ForSome (H.contents host.new) (HasStreams (streams_of self.new) self.new.device.table) }
+        // Over an honest ring that tells its log the connections are those that the log left, and all that is put keeps the log fair.
+        ensures honest { (first : ℕ) → IsProxyWith first self.old (R.contents ring.old) → IsProxyWith first self.new (R.contents ring.new) }
     {
         self.device.reset(ring, host, cid)?;
         self.close_handshakes(host);
@@ -112,6 +130,11 @@ impl Proxy {
     pub fn table(&self) -> Entries<'_>
         ensures entries { result ≡ table_shown self.now.device }
         ensures countable { length result < 2 ^ 64 }
+        // They are the connections that the log of an honest ring left open, and those of clients whose REQUEST isn't put.
+        ensures open { (first port : ℕ) (l : EndLog) → AgreesWith first port self.now.device l → IsLeftOpen first self.now.device result l }
+        // What is pending of a connection is within the buffer space that each packet advertises.
+        ensures pending { (first port : ℕ) (l : EndLog) (e : DeviceEntry) → AgreesWith first port self.now.device l
+            → Contains self.now.device.table.entries e → length e.value.pending ≤ BUF_ALLOC }
     {
         self.device.table()
     }

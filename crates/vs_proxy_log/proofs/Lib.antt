@@ -1,3 +1,4 @@
 pub mod Ports
 pub mod Shaking
 pub mod Turning
+pub mod Ordered

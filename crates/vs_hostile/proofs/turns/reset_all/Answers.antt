@@ -5,9 +5,9 @@ use Rattle.vs_hostile.proofs.turns.reset_all.Goals as goal
 fits : (cid : ℕ) → cid ≤ 4294967294 → cid < 2 ^ 64
 fits cid h = omega (arith, h)
 
-pub reset-answer-requires-clause-may : goal.reset-answer-requires-clause-may
-reset-answer-requires-clause-may c =
-    c.law_of_order.ensures.reset_may 3 _ _ _ (served c.args.proxy.now c.args.ring.now c.args.host.now.contents c.args.host.now.faults c.requires.serving)
+pub reset-answer-requires-clause-order : goal.reset-answer-requires-clause-order
+reset-answer-requires-clause-order c =
+    (3, served c.args.proxy.now c.args.ring.now c.args.host.now.contents c.args.host.now.faults c.requires.serving)
 
 pub returns-then-starved-clause-serving : goal.returns-then-starved-clause-serving
 returns-then-starved-clause-serving c =

@@ -2,9 +2,9 @@ use Rattle.std.proofs.Common.{sym, ◌∙◌}
 use Rattle.vs_hostile.proofs.Determined.{served, serving, turn_over}
 use Rattle.vs_hostile.proofs.turns.take_turn.Goals as goal
 
-pub turn-turn-requires-clause-may : goal.turn-turn-requires-clause-may
-turn-turn-requires-clause-may c =
-    c.law_of_order.ensures.turn_may 3 _ _ _ _ (served c.args.proxy.now c.args.ring.now c.args.host.now.contents c.args.host.now.faults c.requires.serving)
+pub turn-turn-requires-clause-order : goal.turn-turn-requires-clause-order
+turn-turn-requires-clause-order c =
+    (3, served c.args.proxy.now c.args.ring.now c.args.host.now.contents c.args.host.now.faults c.requires.serving)
 
 pub returns-then-starved-clause-serving : goal.returns-then-starved-clause-serving
 returns-then-starved-clause-serving c =

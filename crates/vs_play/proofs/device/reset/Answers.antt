@@ -1,17 +1,16 @@
 use Rattle.std.proofs.Common.{arith}
 use Rattle.vs_proxy_parts.specs.Turns.{proxy_reset_of}
-use Rattle.vs_play.proofs.Devices.{driven_still, reset_may, reset_played, reset_serves}
-use Rattle.vs_play.proofs.OverRings.{its_ring, may_as, ring_is, runs_as}
+use Rattle.vs_core.specs.World.{first_cid}
+use Rattle.vs_play.proofs.Devices.{driven_still, reset_played, reset_serves}
+use Rattle.vs_play.proofs.OverRings.{its_ring, order_as, ring_is, runs_as}
 use Rattle.vs_play.proofs.device.reset.Goals as goal
 
 pub reset-answer-requires-clause-ring : goal.reset-answer-requires-clause-ring
 reset-answer-requires-clause-ring g c = its_ring _ _ _ _ _ (g.met.R.BothEnds.device c.args.rings.now) c.requires.served.chains
 
-pub reset-answer-requires-clause-may : goal.reset-answer-requires-clause-may
-reset-answer-requires-clause-may g c =
-    let e = g.R.BothEnds.ends c.args.rings.now in
-    may_as _ _ _ _ _ _ _ (g.met.R.BothEnds.device c.args.rings.now)
-    (reset_may _ _ e _ c.args.host.now.contents _ 0 c.requires.served _)
+pub reset-answer-requires-clause-order : goal.reset-answer-requires-clause-order
+reset-answer-requires-clause-order g c =
+    (first_cid, order_as first_cid _ _ _ _ _ _ _ (g.met.R.BothEnds.device c.args.rings.now) c.requires.served.order)
 
 pub returns-clause-played : goal.returns-clause-played
 returns-clause-played g c =

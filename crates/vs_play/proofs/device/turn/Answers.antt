@@ -1,16 +1,15 @@
 use Rattle.vs_proxy_parts.specs.Turns.{turn_of}
-use Rattle.vs_play.proofs.Devices.{driven_still, turn_may, turn_played, turn_serves}
-use Rattle.vs_play.proofs.OverRings.{its_ring, may_as, ring_is, runs_as}
+use Rattle.vs_core.specs.World.{first_cid}
+use Rattle.vs_play.proofs.Devices.{driven_still, turn_played, turn_serves}
+use Rattle.vs_play.proofs.OverRings.{its_ring, order_as, ring_is, runs_as}
 use Rattle.vs_play.proofs.device.turn.Goals as goal
 
 pub turn-answer-requires-clause-ring : goal.turn-answer-requires-clause-ring
 turn-answer-requires-clause-ring g c = its_ring _ _ _ _ _ (g.met.R.BothEnds.device c.args.rings.now) c.requires.served.chains
 
-pub turn-answer-requires-clause-may : goal.turn-answer-requires-clause-may
-turn-answer-requires-clause-may g c =
-    let e = g.R.BothEnds.ends c.args.rings.now in
-    may_as _ _ _ _ _ _ _ (g.met.R.BothEnds.device c.args.rings.now)
-    (turn_may _ _ e _ c.args.host.now.contents _ 0 c.requires.served _ _)
+pub turn-answer-requires-clause-order : goal.turn-answer-requires-clause-order
+turn-answer-requires-clause-order g c =
+    (first_cid, order_as first_cid _ _ _ _ _ _ _ (g.met.R.BothEnds.device c.args.rings.now) c.requires.served.order)
 
 pub returns-clause-played : goal.returns-clause-played
 returns-clause-played g c =

@@ -10,6 +10,7 @@ use Rattle.vs_device_parts.specs.Playing.{CanMake, situation}
 use Rattle.vs_device_parts.specs.Receiving.{Filling, filled_of, fill_rx_of, put_reply}
 use Rattle.vs_device_parts.specs.State.{DeviceState}
 use Rattle.vs_device_parts.specs.declared.answers.Filled.{Filled}
+use Rattle.vs_device.proofs.Ordered.{fill_honest, fill_streams}
 use Rattle.vs_device.proofs.device.Device.fill_rx.Goals as goal
 
 abbrev start : DeviceState → Filling
@@ -62,3 +63,19 @@ returns-clause-calls g c =
     let last = leads_bind Allows (serve_rest r) (λ (x : Filling). Done (filled_of x)) to end end q (c.serve.new.self, c.filled.result) c.serve.ensures.calls (sym c.filled.ensures.exact, refl) in
     leads_of Allows _ _ from end (c.serve.new.self, c.filled.result) (filling_is s none)
     (leads_bind Allows (replies_first s) then_serve from to end r (c.serve.new.self, c.filled.result) (c.put_replies.ensures.calls host faults) last)
+
+pub returns-clause-streams : goal.returns-clause-streams
+returns-clause-streams g c =
+    fill_streams c.args.self.now
+    (situation (g.R.DeviceRing.contents c.args.ring.now) (g.H.HostNet.contents c.args.host.now) (g.H.HostNet.faults c.args.host.now))
+    (situation (g.R.DeviceRing.contents c.serve.new.ring) (g.H.HostNet.contents c.serve.new.host) (g.H.HostNet.faults c.serve.new.host))
+    (c.serve.new.self, c.filled.result)
+    (returns-clause-calls g c)
+
+pub returns-clause-honest : goal.returns-clause-honest
+returns-clause-honest g c =
+    fill_honest c.args.self.now
+    (situation (g.R.DeviceRing.contents c.args.ring.now) (g.H.HostNet.contents c.args.host.now) (g.H.HostNet.faults c.args.host.now))
+    (situation (g.R.DeviceRing.contents c.serve.new.ring) (g.H.HostNet.contents c.serve.new.host) (g.H.HostNet.faults c.serve.new.host))
+    (c.serve.new.self, c.filled.result)
+    (returns-clause-calls g c)

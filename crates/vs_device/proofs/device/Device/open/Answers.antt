@@ -16,6 +16,7 @@ use Rattle.vs_device.specs.contracts.device.Device.{the_view}
 use Rattle.vs_device_parts.proofs.Each.{each_more, may_each_step, may_each_more, each_end}
 use Rattle.vs_device_parts.proofs.Under.{under}
 use Rattle.vs_device.proofs.Resetting.{closes, opened, may_close_all, was_reset}
+use Rattle.vs_device.proofs.Ordered.{open_honest, open_streams}
 use Rattle.vs_device.proofs.device.Device.open.Goals as goal
 
 pub returns-clause-calls : goal.returns-clause-calls
@@ -27,3 +28,20 @@ returns-clause-calls g c = λ ring.
     let end : t ≡ with_client c.args.flow c.args.stream s = rw (← c.self.view_is) (search rules) in
     let at : c.open_client-slot.result ≡ s.table.given = rw (← c.self.view_is) c.open_client-slot.ensures.slot in
     opened c.args.flow c.args.stream s accepted t c.open_client-slot.result _ _ (c.label.ensures ring) end at
+
+pub returns-clause-streams : goal.returns-clause-streams
+returns-clause-streams g c =
+    let ring = c.requires.may.0 in
+    let d = c.self.inside in
+    let t : DeviceState = the_view (record d { slots = c.open_client-slot.new.self; opened = c.saturating_add-self-inside.result }) in
+    open_streams c.args.self.now (situation ring (g.H.HostNet.contents c.args.host.now) (g.H.HostNet.faults c.args.host.now))
+    (situation ring (g.H.HostNet.contents c.label.new.host) (g.H.HostNet.faults c.label.new.host)) c.args.flow c.args.stream
+    (t, Ok c.open_client-slot.result) (returns-clause-calls g c ring)
+
+pub returns-clause-honest : goal.returns-clause-honest
+returns-clause-honest g c = λ first port ring.
+    let d = c.self.inside in
+    let t : DeviceState = the_view (record d { slots = c.open_client-slot.new.self; opened = c.saturating_add-self-inside.result }) in
+    open_honest c.args.self.now (situation ring (g.H.HostNet.contents c.args.host.now) (g.H.HostNet.faults c.args.host.now))
+    (situation ring (g.H.HostNet.contents c.label.new.host) (g.H.HostNet.faults c.label.new.host)) c.args.flow c.args.stream
+    (t, Ok c.open_client-slot.result) (record { guest = search rules; host = search rules }) (returns-clause-calls g c ring) first port

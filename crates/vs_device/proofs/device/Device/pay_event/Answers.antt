@@ -16,6 +16,7 @@ use Rattle.vs_device_parts.specs.Turns.{after_reset, close_slot, reset_of}
 use Rattle.vs_device.specs.contracts.device.Device.{the_view}
 use Rattle.vs_device.proofs.EventPaying.{may_event, took_event, by_chain, put, may_return}
 use Rattle.vs_device.proofs.Resetting.{may_close_all, was_reset}
+use Rattle.vs_device.proofs.Ordered.{pay_honest}
 use Rattle.vs_device.proofs.device.Device.pay_event.Goals as goal
 
 pub put_event-requires-clause-may : goal.put_event-requires-clause-may
@@ -63,3 +64,24 @@ returns-in-Failed-clause-calls g c = λ host faults.
     let f : Failure = c.in-Failed.failure in
     let end = ap (λ (u : DeviceState). let r : DeviceState × Result Bool Failure = (u, Err f) in r) (sym c.fail.ensures) in
     took_event s sound owed c.take.result (c.fail.new.self, Err f) x y y took (by_chain s c.take.result (next.Failed f) (c.fail.new.self, Err f) y y c.in-Failed.is (end, refl))
+
+pub returns-in-Chain-clause-honest : goal.returns-in-Chain-clause-honest
+returns-in-Chain-clause-honest g c =
+    pay_honest c.args.self.now
+    (situation (g.R.DeviceRing.contents c.args.ring.now) None 0)
+    (situation (g.R.DeviceRing.contents c.put_event.new.ring) None 0)
+    (c.put_event.new.self, Ok true) (returns-in-Chain-clause-calls g c None 0)
+
+pub returns-in-None-clause-honest : goal.returns-in-None-clause-honest
+returns-in-None-clause-honest g c =
+    pay_honest c.args.self.now
+    (situation (g.R.DeviceRing.contents c.args.ring.now) None 0)
+    (situation (g.R.DeviceRing.contents c.take.new.ring) None 0)
+    (c.args.self.now, Ok false) (returns-in-None-clause-calls g c None 0)
+
+pub returns-in-Failed-clause-honest : goal.returns-in-Failed-clause-honest
+returns-in-Failed-clause-honest g c =
+    pay_honest c.args.self.now
+    (situation (g.R.DeviceRing.contents c.args.ring.now) None 0)
+    (situation (g.R.DeviceRing.contents c.take.new.ring) None 0)
+    (c.fail.new.self, Err c.in-Failed.failure) (returns-in-Failed-clause-calls g c None 0)

@@ -18,6 +18,7 @@ use Rattle.vs_device.proofs.Leaving.{changed, may_close}
 use Rattle.vs_device_parts.proofs.Under.{IsUnder, under, has_slot, value_of, none_under}
 use Rattle.vs_device_parts.proofs.Each.{each_more, may_each_step, may_each_more, each_end}
 use Rattle.vs_device.proofs.Pumping.{took, host_closed, write_failed, may_fail, may_be_answered, wrote, may_shut_write, was_shut, took_within, HasStream, has_stream, may_write_pending, may_shut_then, pumped}
+use Rattle.vs_device.proofs.Ordered.{pump_honest, pump_streams}
 use Rattle.vs_device.proofs.device.Device.pump_out.Goals as goal
 
 pub pump_slot-requires-clause-may : goal.pump_slot-requires-clause-may
@@ -50,3 +51,27 @@ loop-slot-preserved g c =
       small = omega (arith, c.loop-slot.invariant.small, c.pump_slot.ensures.count);
       few = c.loop-slot.invariant.few;
     }
+
+pub returns-clause-calls : goal.returns-clause-calls
+returns-clause-calls g c =
+    let xs = c.as_slice-slot-items.result.now in
+    let i = c.loop-slot.slot-index in
+    let ends : length xs ≤ i = search rules in
+    let host = g.H.HostNet.contents c.loop-slot.host in
+    let faults = g.H.HostNet.faults c.loop-slot.host in
+    c.loop-slot.invariant.goes_on (writing c.loop-slot.self c.loop-slot.wrote) host faults
+    (λ ring. each_end pump_slot xs i (writing c.loop-slot.self c.loop-slot.wrote) (situation ring host faults) ends)
+
+pub returns-clause-streams : goal.returns-clause-streams
+returns-clause-streams g c =
+    let ring = c.requires.may.0 in
+    pump_streams c.args.self.now (situation ring (g.H.HostNet.contents c.args.host.now) (g.H.HostNet.faults c.args.host.now))
+    (situation ring (g.H.HostNet.contents c.loop-slot.host) (g.H.HostNet.faults c.loop-slot.host))
+    (writing c.loop-slot.self c.loop-slot.wrote) (returns-clause-calls g c ring)
+
+pub returns-clause-honest : goal.returns-clause-honest
+returns-clause-honest g c = λ first port ring.
+    pump_honest c.args.self.now (situation ring (g.H.HostNet.contents c.args.host.now) (g.H.HostNet.faults c.args.host.now))
+    (situation ring (g.H.HostNet.contents c.loop-slot.host) (g.H.HostNet.faults c.loop-slot.host))
+    (writing c.loop-slot.self c.loop-slot.wrote) (returns-clause-calls g c ring)
+    first port

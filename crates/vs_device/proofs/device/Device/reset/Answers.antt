@@ -16,6 +16,7 @@ use Rattle.vs_device_parts.specs.Turns.{after_reset, close_slot, reset_of}
 use Rattle.vs_device.specs.contracts.device.Device.{the_view}
 use Rattle.vs_device.proofs.EventPaying.{may_event, took_event, by_chain, put, may_return}
 use Rattle.vs_device.proofs.Resetting.{may_close_all, was_reset}
+use Rattle.vs_device.proofs.Ordered.{reset_honest, reset_streams}
 use Rattle.vs_device.proofs.device.Device.reset.Goals as goal
 
 pub close_all-requires : goal.close_all-requires
@@ -36,3 +37,20 @@ returns-clause-calls g c =
     let y = situation ring host faults in
     let z = situation (g.R.DeviceRing.contents c.publish_cid.new.ring) host faults in
     was_reset c.args.cid s sound c.close_all.new.self c.forget.new.self x y z (c.close_all.ensures.calls ring) (c.publish_cid.ensures.calls host faults) c.forget.ensures
+
+pub returns-clause-streams : goal.returns-clause-streams
+returns-clause-streams g c =
+    reset_streams c.args.self.now
+    (situation (g.R.DeviceRing.contents c.args.ring.now) (g.H.HostNet.contents c.args.host.now) (g.H.HostNet.faults c.args.host.now))
+    (situation (g.R.DeviceRing.contents c.publish_cid.new.ring) (g.H.HostNet.contents c.close_all.new.host) (g.H.HostNet.faults c.close_all.new.host))
+    c.args.cid (c.forget.new.self, Ok tt)
+    (returns-clause-calls g c)
+
+pub returns-clause-honest : goal.returns-clause-honest
+returns-clause-honest g c =
+    let low = c.requires.cid.1 in
+    reset_honest c.args.self.now
+    (situation (g.R.DeviceRing.contents c.args.ring.now) (g.H.HostNet.contents c.args.host.now) (g.H.HostNet.faults c.args.host.now))
+    (situation (g.R.DeviceRing.contents c.publish_cid.new.ring) (g.H.HostNet.contents c.close_all.new.host) (g.H.HostNet.faults c.close_all.new.host))
+    c.args.cid (c.forget.new.self, Ok tt) (omega (arith, low))
+    (returns-clause-calls g c)

@@ -35,6 +35,7 @@ use Rattle.vs_device.proofs.Verdicts.{accepted, delivered, over, stays, refuses,
 use Rattle.std.proofs.Common.{nat_le}
 use Rattle.vs_device_parts.specs.declared.limits.TheConstants.{REPLIES}
 use Rattle.vs_device.proofs.Takings.{may_next, took_next, by_next}
+use Rattle.vs_device.proofs.Ordered.{take_honest, take_streams}
 use Rattle.vs_device.proofs.device.Device.take_tx.Goals as goal
 
 pub take_chain-requires-clause-may : goal.take_chain-requires-clause-may
@@ -89,3 +90,51 @@ returns-in-Failed-clause-calls g c =
     let f : Failure = c.in-Failed.failure in
     let end = ap (λ (u : DeviceState). (u, taken.Failed f)) (sym c.fail.ensures) in
     took_next s sound room c.take.result _ x y y took (by_next s c.fail.new.self c.take.result (next.Failed f) (taken.Failed f) y y c.in-Failed.is (end, refl))
+
+pub returns-in-Chain-clause-streams : goal.returns-in-Chain-clause-streams
+returns-in-Chain-clause-streams g c =
+    take_streams c.args.self.now
+    (situation (g.R.DeviceRing.contents c.args.ring.now) (g.H.HostNet.contents c.args.host.now) (g.H.HostNet.faults c.args.host.now))
+    (situation (g.R.DeviceRing.contents c.take_chain.new.ring) (g.H.HostNet.contents c.take_chain.new.host) (g.H.HostNet.faults c.take_chain.new.host))
+    (c.take_chain.new.self, c.take_chain.result)
+    (returns-in-Chain-clause-calls g c)
+
+pub returns-in-Chain-clause-honest : goal.returns-in-Chain-clause-honest
+returns-in-Chain-clause-honest g c =
+    take_honest c.args.self.now
+    (situation (g.R.DeviceRing.contents c.args.ring.now) (g.H.HostNet.contents c.args.host.now) (g.H.HostNet.faults c.args.host.now))
+    (situation (g.R.DeviceRing.contents c.take_chain.new.ring) (g.H.HostNet.contents c.take_chain.new.host) (g.H.HostNet.faults c.take_chain.new.host))
+    (c.take_chain.new.self, c.take_chain.result)
+    (returns-in-Chain-clause-calls g c)
+
+pub returns-in-None-clause-streams : goal.returns-in-None-clause-streams
+returns-in-None-clause-streams g c =
+    take_streams c.args.self.now
+    (situation (g.R.DeviceRing.contents c.args.ring.now) (g.H.HostNet.contents c.args.host.now) (g.H.HostNet.faults c.args.host.now))
+    (situation (g.R.DeviceRing.contents c.take.new.ring) (g.H.HostNet.contents c.args.host.now) (g.H.HostNet.faults c.args.host.now))
+    (c.args.self.now, taken.None)
+    (returns-in-None-clause-calls g c)
+
+pub returns-in-None-clause-honest : goal.returns-in-None-clause-honest
+returns-in-None-clause-honest g c =
+    take_honest c.args.self.now
+    (situation (g.R.DeviceRing.contents c.args.ring.now) (g.H.HostNet.contents c.args.host.now) (g.H.HostNet.faults c.args.host.now))
+    (situation (g.R.DeviceRing.contents c.take.new.ring) (g.H.HostNet.contents c.args.host.now) (g.H.HostNet.faults c.args.host.now))
+    (c.args.self.now, taken.None)
+    (returns-in-None-clause-calls g c)
+
+pub returns-in-Failed-clause-streams : goal.returns-in-Failed-clause-streams
+returns-in-Failed-clause-streams g c =
+    take_streams c.args.self.now
+    (situation (g.R.DeviceRing.contents c.args.ring.now) (g.H.HostNet.contents c.args.host.now) (g.H.HostNet.faults c.args.host.now))
+    (situation (g.R.DeviceRing.contents c.take.new.ring) (g.H.HostNet.contents c.args.host.now) (g.H.HostNet.faults c.args.host.now))
+    (c.fail.new.self, taken.Failed c.in-Failed.failure)
+    (returns-in-Failed-clause-calls g c)
+
+pub returns-in-Failed-clause-honest : goal.returns-in-Failed-clause-honest
+returns-in-Failed-clause-honest g c =
+    take_honest c.args.self.now
+    (situation (g.R.DeviceRing.contents c.args.ring.now) (g.H.HostNet.contents c.args.host.now) (g.H.HostNet.faults c.args.host.now))
+    (situation (g.R.DeviceRing.contents c.take.new.ring) (g.H.HostNet.contents c.args.host.now) (g.H.HostNet.faults c.args.host.now))
+    (c.fail.new.self, taken.Failed c.in-Failed.failure)
+    (returns-in-Failed-clause-calls g c)

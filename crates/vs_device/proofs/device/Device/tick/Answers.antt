@@ -18,6 +18,7 @@ use Rattle.vs_device.proofs.Leaving.{changed, may_close}
 use Rattle.vs_device_parts.proofs.Under.{IsUnder, under, has_slot, value_of, none_under}
 use Rattle.vs_device_parts.proofs.Each.{each_more, may_each_step, may_each_more, each_end}
 use Rattle.vs_device.proofs.Pumping.{took, host_closed, write_failed, may_fail, may_be_answered, wrote, may_shut_write, was_shut, took_within, HasStream, has_stream, may_write_pending, may_shut_then, pumped}
+use Rattle.vs_device.proofs.Ordered.{tick_honest, tick_streams}
 use Rattle.vs_device.proofs.device.Device.tick.Goals as goal
 
 pub tick_slot-requires : goal.tick_slot-requires
@@ -46,3 +47,27 @@ loop-slot-preserved g c =
       may = (may.0, may_each_more tick_slot xs i 0 c.loop-slot.self within c.tick_slot.new.self (situation may.0 host faults) (situation may.0 after counted) may.1 (c.tick_slot.ensures.calls may.0));
       chain = c.tick_slot.ensures.chain ∙ c.loop-slot.invariant.chain;
     }
+
+pub returns-clause-calls : goal.returns-clause-calls
+returns-clause-calls g c =
+    let xs = c.as_slice-slot-items.result.now in
+    let i = c.loop-slot.slot-index in
+    let ends : length xs ≤ i = search rules in
+    let host = g.H.HostNet.contents c.loop-slot.host in
+    let faults = g.H.HostNet.faults c.loop-slot.host in
+    c.loop-slot.invariant.goes_on c.loop-slot.self host faults
+    (λ ring. each_end tick_slot xs i c.loop-slot.self (situation ring host faults) ends)
+
+pub returns-clause-streams : goal.returns-clause-streams
+returns-clause-streams g c =
+    let ring = c.requires.may.0 in
+    tick_streams c.args.self.now (situation ring (g.H.HostNet.contents c.args.host.now) (g.H.HostNet.faults c.args.host.now))
+    (situation ring (g.H.HostNet.contents c.loop-slot.host) (g.H.HostNet.faults c.loop-slot.host))
+    c.args.now c.loop-slot.self (returns-clause-calls g c ring)
+
+pub returns-clause-honest : goal.returns-clause-honest
+returns-clause-honest g c = λ first port ring.
+    tick_honest c.args.self.now (situation ring (g.H.HostNet.contents c.args.host.now) (g.H.HostNet.faults c.args.host.now))
+    (situation ring (g.H.HostNet.contents c.loop-slot.host) (g.H.HostNet.faults c.loop-slot.host))
+    c.args.now c.loop-slot.self (returns-clause-calls g c ring)
+    first port

@@ -8,6 +8,7 @@ use Rattle.vs_proxy_parts.specs.Turning.{turning_of}
 use Rattle.vs_proxy_parts.specs.Turns.{event_stage, fill_stage, pump_stage, take_stage, tick_stage, turn_of, turned, unless_failed}
 use Rattle.vs_proxy_parts.specs.declared.answers.Turn.{Turn}
 use Rattle.vs_proxy_parts.specs.declared.tally.Tally.{Tally}
+use Rattle.vs_proxy_log.proofs.Ordered.{turn_honest, turn_may, turn_streams}
 use Rattle.vs_proxy.proofs.WholeTurn.{from_end, from_event, from_fill, from_hands, from_pump, from_take, may_event, may_now, may_then, may_tick, nothing, stage_then, ticks}
 use Rattle.vs_proxy.proofs.proxy.Proxy.turn.Goals as goal
 
@@ -22,7 +23,7 @@ tick_stage-requires-clause-may g c =
     let ring = g.R.DeviceRing.contents c.args.ring.now in
     let x = situation ring (g.H.HostNet.contents c.args.host.now) (g.H.HostNet.faults c.args.host.now) in
     let P : Turning → Type 0 = λ t. MayRun (unless_failed (tick_stage c.args.now) t) x in
-    (ring, subst P (begun s c.new-tally.result c.new-tally.ensures) (may_tick size c.args.now s x c.requires.may))
+    (ring, subst P (begun s c.new-tally.result c.new-tally.ensures) (may_tick size c.args.now s x (turn_may c.requires.order.0 size c.args.now s x c.requires.order.1)))
 
 pub event_stage-requires-clause-ring : goal.event_stage-requires-clause-ring
 event_stage-requires-clause-ring g c = c.tick_stage.ensures.ring (g.R.DeviceRing.held c.args.ring.now) c.requires.ring
@@ -42,7 +43,7 @@ event_stage-requires-clause-may g c =
     let P : Turning → Type 0 = λ t. Runs (unless_failed (tick_stage c.args.now) t) x0 t1 x1 in
     let r1 : Runs (ticks size c.args.now s) x0 t1 x1 = subst P (sym (begun s c.new-tally.result c.new-tally.ensures)) (c.tick_stage.ensures.calls (g.R.DeviceRing.contents c.args.ring.now)) in
     let M : ℕ → Type 0 = λ n. MayRun (turn_of n c.args.now s) x0 in
-    let may1 = may_event size c.args.now s t1 x0 x1 (subst M (sym c.size-size.ensures.value) c.requires.may) r1 in
+    let may1 = may_event size c.args.now s t1 x0 x1 (subst M (sym c.size-size.ensures.value) (turn_may c.requires.order.0 (g.R.DeviceRing.size c.args.ring.now) c.args.now s x0 c.requires.order.1)) r1 in
     (c.tick_stage.new.tally, (g.H.HostNet.contents c.tick_stage.new.host, g.H.HostNet.faults c.tick_stage.new.host, may_now size c.args.now s (event_stage) (from_take size c.args.now s) t1 x1 may1))
 
 pub take_stage-requires-clause-may : goal.take_stage-requires-clause-may
@@ -57,7 +58,7 @@ take_stage-requires-clause-may g c =
     let P : Turning → Type 0 = λ t. Runs (unless_failed (tick_stage c.args.now) t) x0 t1 x1 in
     let r1 : Runs (ticks size c.args.now s) x0 t1 x1 = subst P (sym (begun s c.new-tally.result c.new-tally.ensures)) (c.tick_stage.ensures.calls (g.R.DeviceRing.contents c.args.ring.now)) in
     let M : ℕ → Type 0 = λ n. MayRun (turn_of n c.args.now s) x0 in
-    let may1 = may_event size c.args.now s t1 x0 x1 (subst M (sym c.size-size.ensures.value) c.requires.may) r1 in
+    let may1 = may_event size c.args.now s t1 x0 x1 (subst M (sym c.size-size.ensures.value) (turn_may c.requires.order.0 (g.R.DeviceRing.size c.args.ring.now) c.args.now s x0 c.requires.order.1)) r1 in
     let may2 = may_then size c.args.now s (event_stage) (from_take size c.args.now s) t1 x1 may1 t2 x2 (c.event_stage.ensures.calls c.tick_stage.new.tally (g.H.HostNet.contents c.tick_stage.new.host) (g.H.HostNet.faults c.tick_stage.new.host)) in
     may_now size c.args.now s (take_stage size) (from_hands size c.args.now s) t2 x2 may2
 
@@ -75,7 +76,7 @@ hands_stage-requires-clause-may g c =
     let P : Turning → Type 0 = λ t. Runs (unless_failed (tick_stage c.args.now) t) x0 t1 x1 in
     let r1 : Runs (ticks size c.args.now s) x0 t1 x1 = subst P (sym (begun s c.new-tally.result c.new-tally.ensures)) (c.tick_stage.ensures.calls (g.R.DeviceRing.contents c.args.ring.now)) in
     let M : ℕ → Type 0 = λ n. MayRun (turn_of n c.args.now s) x0 in
-    let may1 = may_event size c.args.now s t1 x0 x1 (subst M (sym c.size-size.ensures.value) c.requires.may) r1 in
+    let may1 = may_event size c.args.now s t1 x0 x1 (subst M (sym c.size-size.ensures.value) (turn_may c.requires.order.0 (g.R.DeviceRing.size c.args.ring.now) c.args.now s x0 c.requires.order.1)) r1 in
     let may2 = may_then size c.args.now s (event_stage) (from_take size c.args.now s) t1 x1 may1 t2 x2 (c.event_stage.ensures.calls c.tick_stage.new.tally (g.H.HostNet.contents c.tick_stage.new.host) (g.H.HostNet.faults c.tick_stage.new.host)) in
     let may3 = may_then size c.args.now s (take_stage size) (from_hands size c.args.now s) t2 x2 may2 t3 x3 (c.take_stage.ensures.calls) in
     (g.R.DeviceRing.contents c.take_stage.new.ring, may_now size c.args.now s (shake_hands) (from_pump size c.args.now s) t3 x3 may3)
@@ -96,7 +97,7 @@ pump_stage-requires-clause-may g c =
     let P : Turning → Type 0 = λ t. Runs (unless_failed (tick_stage c.args.now) t) x0 t1 x1 in
     let r1 : Runs (ticks size c.args.now s) x0 t1 x1 = subst P (sym (begun s c.new-tally.result c.new-tally.ensures)) (c.tick_stage.ensures.calls (g.R.DeviceRing.contents c.args.ring.now)) in
     let M : ℕ → Type 0 = λ n. MayRun (turn_of n c.args.now s) x0 in
-    let may1 = may_event size c.args.now s t1 x0 x1 (subst M (sym c.size-size.ensures.value) c.requires.may) r1 in
+    let may1 = may_event size c.args.now s t1 x0 x1 (subst M (sym c.size-size.ensures.value) (turn_may c.requires.order.0 (g.R.DeviceRing.size c.args.ring.now) c.args.now s x0 c.requires.order.1)) r1 in
     let may2 = may_then size c.args.now s (event_stage) (from_take size c.args.now s) t1 x1 may1 t2 x2 (c.event_stage.ensures.calls c.tick_stage.new.tally (g.H.HostNet.contents c.tick_stage.new.host) (g.H.HostNet.faults c.tick_stage.new.host)) in
     let may3 = may_then size c.args.now s (take_stage size) (from_hands size c.args.now s) t2 x2 may2 t3 x3 (c.take_stage.ensures.calls) in
     let may4 = may_then size c.args.now s (shake_hands) (from_pump size c.args.now s) t3 x3 may3 t4 x4 (c.hands_stage.ensures.calls (g.R.DeviceRing.contents c.take_stage.new.ring)) in
@@ -120,7 +121,7 @@ fill_stage-requires-clause-may g c =
     let P : Turning → Type 0 = λ t. Runs (unless_failed (tick_stage c.args.now) t) x0 t1 x1 in
     let r1 : Runs (ticks size c.args.now s) x0 t1 x1 = subst P (sym (begun s c.new-tally.result c.new-tally.ensures)) (c.tick_stage.ensures.calls (g.R.DeviceRing.contents c.args.ring.now)) in
     let M : ℕ → Type 0 = λ n. MayRun (turn_of n c.args.now s) x0 in
-    let may1 = may_event size c.args.now s t1 x0 x1 (subst M (sym c.size-size.ensures.value) c.requires.may) r1 in
+    let may1 = may_event size c.args.now s t1 x0 x1 (subst M (sym c.size-size.ensures.value) (turn_may c.requires.order.0 (g.R.DeviceRing.size c.args.ring.now) c.args.now s x0 c.requires.order.1)) r1 in
     let may2 = may_then size c.args.now s (event_stage) (from_take size c.args.now s) t1 x1 may1 t2 x2 (c.event_stage.ensures.calls c.tick_stage.new.tally (g.H.HostNet.contents c.tick_stage.new.host) (g.H.HostNet.faults c.tick_stage.new.host)) in
     let may3 = may_then size c.args.now s (take_stage size) (from_hands size c.args.now s) t2 x2 may2 t3 x3 (c.take_stage.ensures.calls) in
     let may4 = may_then size c.args.now s (shake_hands) (from_pump size c.args.now s) t3 x3 may3 t4 x4 (c.hands_stage.ensures.calls (g.R.DeviceRing.contents c.take_stage.new.ring)) in
@@ -147,7 +148,7 @@ returns g c =
     let P : Turning → Type 0 = λ t. Runs (unless_failed (tick_stage c.args.now) t) x0 t1 x1 in
     let r1 : Runs (ticks size c.args.now s) x0 t1 x1 = subst P (sym (begun s c.new-tally.result c.new-tally.ensures)) (c.tick_stage.ensures.calls (g.R.DeviceRing.contents c.args.ring.now)) in
     let end : ProxyState × Turn = (c.fill_stage.new.self, c.turned.result) in
-    let before : c.counters-before.result ≡ counters_of s.device = c.counters-before.ensures ∙ ap (λ (y : ProxyState). counters_of y.device) c.self.view_is in
+    let before : c.counters-before.result ≡ counters_of s.device = c.counters-before.ensures.counters ∙ ap (λ (y : ProxyState). counters_of y.device) c.self.view_is in
     let answer : c.turned.result ≡ turned s t6 = c.turned.ensures.turned s before in
     let l6 : Runs (from_end size c.args.now s t6) x6 end x6 = (ap (λ (y : Turn). let p : ProxyState × Turn = (c.fill_stage.new.self, y) in p) (sym answer), refl) in
     let l5 = stage_then size c.args.now s (fill_stage) (from_end size c.args.now s) t5 t6 end x5 x6 x6 (c.fill_stage.ensures.calls) l6 in
@@ -157,9 +158,13 @@ returns g c =
     let l1 = stage_then size c.args.now s (event_stage) (from_take size c.args.now s) t1 t2 end x1 x2 x6 (c.event_stage.ensures.calls c.tick_stage.new.tally (g.H.HostNet.contents c.tick_stage.new.host) (g.H.HostNet.faults c.tick_stage.new.host)) l2 in
     let runs = stage_then size c.args.now s (tick_stage c.args.now) (from_event size c.args.now s) (start s) t1 end x0 x1 x6 r1 l1 in
     let R : ℕ → Type 0 = λ n. Runs (turn_of n c.args.now s) x0 end x6 in
+    let whole = g.R.DeviceRing.size c.args.ring.now in
+    let ran : Runs (turn_of whole c.args.now s) x0 end x6 = subst R c.size-size.ensures.value runs in
     record {
       ring = c.fill_stage.ensures.ring;
-      calls = subst R c.size-size.ensures.value runs;
+      calls = ran;
+      streams = turn_streams s x0 x6 whole c.args.now end ran;
+      honest = turn_honest s x0 x6 whole c.args.now end ran;
       kept = λ f failed.
           let Q : DeviceTree (ProxyState × Turn) → Type 0 = λ tree. Runs tree x0 end x6 in
           let done = subst Q (nothing size c.args.now s f failed) runs in

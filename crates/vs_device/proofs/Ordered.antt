@@ -1,0 +1,89 @@
+-- What a call keeps, from the conversation that it ran: the open streams of the connections, and the connections that the log left.
+use Rattle.std.proofs.Common.{ℕ, ◌<◌, ◌^◌, Bool, List, Result}
+use Rattle.vs_flow.specs.declared.flow.Flow.{Flow}
+use Rattle.vs_flow.specs.declared.table.TableFault.{TableFault}
+use Rattle.vs_matching.specs.Steps.{IsNextFlow}
+use Rattle.vs_page.specs.Log.{Device}
+use Rattle.vs_ring_port.specs.declared.failure.Failure.{Failure}
+use Rattle.vs_device_parts.specs.Calls.{Allows, Situation}
+use Rattle.vs_device_parts.specs.Playing.{CanMake, Runs}
+use Rattle.vs_device_parts.specs.Receiving.{fill_rx_of, pay_event_of}
+use Rattle.vs_device_parts.specs.State.{DeviceState}
+use Rattle.vs_device_parts.specs.Streams.{Writing, pump_of, tick_of}
+use Rattle.vs_device_parts.specs.Transmitting.{take_tx_of}
+use Rattle.vs_device_parts.specs.Turns.{open_of, reset_of}
+use Rattle.vs_device_parts.specs.declared.answers.Filled.{Filled}
+use Rattle.vs_device_parts.specs.declared.answers.Taken.{Taken}
+use Rattle.vs_device_laws.specs.Split.{CanReach}
+use Rattle.vs_device_laws.specs.Streams.{FindsFree, FindsStreams}
+use Rattle.vs_device_laws.proofs.Closing.{keeps_tick}
+use Rattle.vs_device_laws.proofs.Conditions.{quiet_can}
+use Rattle.vs_device_laws.proofs.Keeping.{keeps_end as streams_end}
+use Rattle.vs_device_laws.proofs.Opening.{both_found, keeps_open, keeps_reset}
+use Rattle.vs_device_laws.proofs.Receiving.{keeps_fill_rx}
+use Rattle.vs_device_laws.proofs.Transmitting.{keeps_take_tx}
+use Rattle.vs_device_laws.proofs.Writing.{keeps_pump}
+use Rattle.vs_device_log.specs.Honest.{IsFitFlow, IsWith, ends_of_state, port_after}
+use Rattle.vs_device_log.proofs.Filling.{fill_keeps}
+use Rattle.vs_device_log.proofs.Keeping.{keeps_end}
+use Rattle.vs_device_log.proofs.Transmitting.{take_keeps}
+use Rattle.vs_device_log.proofs.Turning.{open_keeps, pay_keeps, pump_keeps, reset_keeps, tick_keeps}
+
+module _ (s : DeviceState) (a b : Situation) where
+  pub take_streams : (x : DeviceState × Taken) → Runs (take_tx_of s) a x b → (others : List ℕ) → FindsStreams others s a
+      → FindsStreams others x.0 b
+  take_streams x runs others has =
+      streams_end CanMake Allows _ (take_tx_of s) a b x (keeps_take_tx CanMake quiet_can others s a has) runs
+
+  pub take_honest : (x : DeviceState × Taken) → Runs (take_tx_of s) a x b → (first port : ℕ) → IsWith first port s a.ring
+      → IsWith first port x.0 b.ring
+  take_honest x runs first port holds = keeps_end _ (take_tx_of s) a b x (take_keeps first port s a.ring holds) runs
+
+  pub pay_honest : (x : DeviceState × Result Bool Failure) → Runs (pay_event_of s) a x b → (first port : ℕ) → IsWith first port s a.ring
+      → IsWith first port x.0 b.ring
+  pay_honest x runs first port holds = keeps_end _ (pay_event_of s) a b x (pay_keeps first port s a.ring holds) runs
+
+  pub fill_streams : (x : DeviceState × Result Filled Failure) → Runs (fill_rx_of s) a x b → (others : List ℕ) → FindsStreams others s a
+      → FindsStreams others x.0 b
+  fill_streams x runs others has = streams_end CanReach Allows _ (fill_rx_of s) a b x (keeps_fill_rx others s a has) runs
+
+  pub fill_honest : (x : DeviceState × Result Filled Failure) → Runs (fill_rx_of s) a x b → (first port : ℕ) → IsWith first port s a.ring
+      → IsWith first port x.0 b.ring
+  fill_honest x runs first port holds = keeps_end _ (fill_rx_of s) a b x (fill_keeps first port s a.ring holds) runs
+
+  pub tick_streams : (now : ℕ) (t : DeviceState) → Runs (tick_of now s) a t b → (others : List ℕ) → FindsStreams others s a
+      → FindsStreams others t b
+  tick_streams now t runs others has =
+      streams_end CanMake Allows _ (tick_of now s) a b t (keeps_tick CanMake quiet_can others now s a has) runs
+
+  pub tick_honest : (now : ℕ) (t : DeviceState) → Runs (tick_of now s) a t b → (first port : ℕ) → IsWith first port s a.ring
+      → IsWith first port t b.ring
+  tick_honest now t runs first port holds = keeps_end _ (tick_of now s) a b t (tick_keeps first port now s a.ring holds) runs
+
+  pub pump_streams : (w : Writing) → Runs (pump_of s) a w b → (others : List ℕ) → FindsStreams others s a → FindsStreams others w.state b
+  pump_streams w runs others has = streams_end CanMake Allows _ (pump_of s) a b w (keeps_pump CanMake quiet_can others s a has) runs
+
+  pub pump_honest : (w : Writing) → Runs (pump_of s) a w b → (first port : ℕ) → IsWith first port s a.ring
+      → IsWith first port w.state b.ring
+  pump_honest w runs first port holds = keeps_end _ (pump_of s) a b w (pump_keeps first port s a.ring holds) runs
+
+  pub reset_streams : (cid : ℕ) (x : DeviceState × Result (Unit {0}) Failure) → Runs (reset_of cid s) a x b → (others : List ℕ)
+      → FindsStreams others s a → FindsStreams others x.0 b
+  reset_streams cid x runs others has =
+      streams_end CanMake Allows _ (reset_of cid s) a b x (keeps_reset CanMake quiet_can others cid s a has) runs
+
+  pub reset_honest : (cid : ℕ) (x : DeviceState × Result (Unit {0}) Failure) → cid < 2 ^ 64 → Runs (reset_of cid s) a x b
+      → (first port : ℕ) → IsWith first port s a.ring → IsWith first port x.0 b.ring
+  reset_honest cid x fits runs first port holds = keeps_end _ (reset_of cid s) a b x (reset_keeps first port cid fits s a.ring holds) runs
+
+  pub open_streams : (flow : Flow) (stream : ℕ) (x : DeviceState × Result ℕ TableFault) → Runs (open_of flow stream s) a x b
+      → (others : List ℕ) → FindsStreams others s a → FindsFree stream others s a → FindsStreams others x.0 b
+  open_streams flow stream x runs others has free =
+      streams_end CanMake Allows _ (open_of flow stream s) a b x
+      (keeps_open CanMake quiet_can others flow stream s a (both_found others stream s a has free)) runs
+
+  pub open_honest : (flow : Flow) (stream : ℕ) (x : DeviceState × Result ℕ TableFault) → IsFitFlow flow → Runs (open_of flow stream s) a x b
+      → (first port : ℕ) → IsNextFlow Device flow (ends_of_state port s) → IsWith first port s a.ring
+      → IsWith first (port_after flow port x.1) x.0 b.ring
+  open_honest flow stream x fits runs first port next holds =
+      keeps_end _ (open_of flow stream s) a b x (open_keeps first port flow stream s next fits a.ring holds) runs

@@ -1,0 +1,25 @@
+use Rattle.std.proofs.Common.{ℕ, ◌<◌, ◌^◌, List, [], sym, ap, subst, arith}
+use Rattle.vs_flow.specs.Table.{Table}
+use Rattle.vs_replies.specs.declared.Replies.{Replies}
+use Rattle.vs_replies.specs.declared.Reply.{Reply}
+use Rattle.vs_ring_port.specs.Contents.{RingContents}
+use Rattle.vs_device_parts.specs.State.{DeviceConnection}
+use Rattle.vs_device_parts.specs.Turns.{new_device}
+use Rattle.vs_device_log.specs.Honest.{IsWith}
+use Rattle.vs_device_log.proofs.Turning.{new_with}
+use Rattle.vs_device.proofs.device.Device.new.Goals as goal
+
+-- A new device, where its table and its replies are these.
+abbrev IsNewWith : ℕ → ℕ → RingContents → Table DeviceConnection → List Reply → Type 0
+IsNewWith cid port ring t replies = IsWith cid port (record (new_device cid []) { table = t; replies = replies }) ring
+
+pub returns-clause-honest : goal.returns-clause-honest
+returns-clause-honest c = λ port ring fresh.
+    let cid = c.args.cid in
+    let low = c.requires.cid.1 in
+    let fits : cid < 2 ^ 64 = omega (arith, low) in
+    let replies : List Reply = c.in_ok-new-2.field-0.owed in
+    let start = new_with port cid [] ring fits fresh in
+    let none = subst (λ (r : List Reply). IsNewWith cid port ring (new_device cid []).table r)
+    (sym (ap (λ (x : Replies). x.owed) c.in_ok-new-2.ensures)) start in
+    subst (λ (t : Table DeviceConnection). IsNewWith cid port ring t replies) (sym c.in_ok-new.ensures) none
