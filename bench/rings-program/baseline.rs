@@ -169,11 +169,15 @@ fn two(size: usize, count: u32) -> (u32, u128) {
     (right, start.elapsed().as_millis())
 }
 
+/// The rows of one thread, and then those of two, unless the argument `one` is given.
 fn main() {
     let count = 1_000_000;
     for size in [8, 256] {
         let (right, took) = one(size, count);
         println!("one {size} {right} {took}");
+    }
+    if std::env::args().any(|word| word == "one") {
+        return;
     }
     for size in [8, 256] {
         let (right, took) = two(size, count);

@@ -28,6 +28,7 @@ pub struct DeviceQueue {
 }
 
 /// Takes the page that the driver gave first of those not yet taken, with its slot.
+#[inline(always)]
 pub(crate) fn take(port: &mut Port, numbers: &mut DeviceQueue, queue: Queue) -> Option<(u64, Page)>
     requires seat { IsDeviceSeat port.old.token.me }
     requires numbers { DeviceNumbers port.old.size (queue_in queue port.old.token.me.0) numbers.old }
@@ -49,6 +50,7 @@ pub(crate) fn take(port: &mut Port, numbers: &mut DeviceQueue, queue: Queue) -> 
 }
 
 /// Gives a page back in the slot that it came from.
+#[inline(always)]
 pub(crate) fn give(port: &mut Port, numbers: &mut DeviceQueue, queue: Queue, slot: u64, page: Page)
     requires seat { IsDeviceSeat port.old.token.me }
     requires numbers { DeviceNumbers port.old.size (queue_in queue port.old.token.me.0) numbers.old }
@@ -81,6 +83,7 @@ pub(crate) fn look(port: &mut Port, numbers: &mut DeviceQueue, queue: Queue) -> 
 }
 
 /// The chain of a page that the device takes. A page of tx is to be read; one of rx or event is emptied, to be written into.
+#[inline(always)]
 fn chain_for(queue: Queue, place: u16, page: &mut Page) -> Chain
     ensures chain { result ≡ chain_with queue place page.old }
     ensures page { page.new ≡ to_read queue page.old }
@@ -105,6 +108,7 @@ fn chain_for(queue: Queue, place: u16, page: &mut Page) -> Chain
 }
 
 /// The same chain once more: one for the device, one for the rings.
+#[inline(always)]
 fn twin(chain: &Chain) -> Chain
     ensures { result ≡ chain.now }
 {
@@ -142,6 +146,7 @@ pub(crate) fn take_chain(
 }
 
 /// How many entries the log gets where the device returns this page: one where it holds a packet on rx, or an event.
+#[inline(always)]
 fn entries_in(queue: Queue, page: &Page) -> u64
     ensures { result ≡ entries_in queue page.now }
 {

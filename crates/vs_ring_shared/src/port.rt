@@ -23,6 +23,7 @@ use vs_page::Page;
 use vs_ring_port::Queue;
 
 /// Where a queue's words begin, first the driver's and then the device's, and where its slots begin.
+#[inline(always)]
 fn driver_base(size: u64, queue: Queue) -> u64
     requires { size ≤ QUEUE_SIZE_MAX }
     ensures { result ≡ driver_base size queue }
@@ -34,6 +35,7 @@ fn driver_base(size: u64, queue: Queue) -> u64
     }
 }
 
+#[inline(always)]
 fn device_base(size: u64, queue: Queue) -> u64
     requires { size ≤ QUEUE_SIZE_MAX }
     ensures { result ≡ device_base size queue }
@@ -41,6 +43,7 @@ fn device_base(size: u64, queue: Queue) -> u64
     driver_base(size, queue) + (2 * size + 1)
 }
 
+#[inline(always)]
 fn slots_base(size: u64, queue: Queue) -> u64
     requires { size ≤ QUEUE_SIZE_MAX }
     ensures { result ≡ slots_base size queue }
@@ -65,6 +68,7 @@ pub struct Port {
 
 impl Port {
     /// The driver stores the descriptor word of a slot of its own, which comes out empty.
+    #[inline(always)]
     pub(crate) fn describe(&mut self, queue: Queue, slot: u64, word: u64)
         requires owner { self.old.token.me.0.owner ≡ Driver }
         requires near { slot < self.old.size }
@@ -81,6 +85,7 @@ impl Port {
 
     /// The driver stores an available entry, behind those that it gave and staged, of which there are `count` modulo 2^16: the page in the
     /// slot goes home.
+    #[inline(always)]
     pub(crate) fn enter(&mut self, queue: Queue, slot: u64, count: u16)
         requires owner { self.old.token.me.0.owner ≡ Driver }
         requires near { slot < self.old.size }
@@ -102,6 +107,7 @@ impl Port {
     }
 
     /// The driver stores the available index, `count`: all pages staged are given.
+    #[inline(always)]
     pub(crate) fn publish(&mut self, queue: Queue, count: u16)
         requires owner { self.old.token.me.0.owner ≡ Driver }
         requires count { count ≡ offered (queue_in queue self.old.token.me.0) % 65536 }
@@ -116,6 +122,7 @@ impl Port {
     }
 
     /// The driver loads the used index.
+    #[inline(always)]
     pub(crate) fn look_back(&mut self, queue: Queue) -> u64
         requires owner { self.old.token.me.0.owner ≡ Driver }
         ensures size { self.new.size ≡ self.old.size }
@@ -128,6 +135,7 @@ impl Port {
     }
 
     /// The driver loads the next used element, behind the `count` pages that it took, modulo 2^16: the page comes out of its slot.
+    #[inline(always)]
     pub(crate) fn reap(&mut self, queue: Queue, count: u16) -> u64
         requires owner { self.old.token.me.0.owner ≡ Driver }
         requires known { let q = queue_in queue self.old.token.me.0 in taken q < q.seen }
@@ -155,6 +163,7 @@ impl Port {
     }
 
     /// The device loads the available index.
+    #[inline(always)]
     pub(crate) fn look_ahead(&mut self, queue: Queue) -> u64
         requires owner { self.old.token.me.0.owner ≡ Device }
         ensures size { self.new.size ≡ self.old.size }
@@ -167,6 +176,7 @@ impl Port {
     }
 
     /// The device loads the next available entry, behind the `count` pages that it took, modulo 2^16.
+    #[inline(always)]
     pub(crate) fn read_entry(&mut self, queue: Queue, count: u16) -> u64
         requires owner { self.old.token.me.0.owner ≡ Device }
         requires known { let q = queue_in queue self.old.token.me.0 in taken q < q.seen }
@@ -182,6 +192,7 @@ impl Port {
     }
 
     /// The device loads the descriptor word of the slot that the entry names: the page comes out of it.
+    #[inline(always)]
     pub(crate) fn take(&mut self, queue: Queue, slot: u64)
         requires owner { self.old.token.me.0.owner ≡ Device }
         requires near { slot < self.old.size }
@@ -199,6 +210,7 @@ impl Port {
 
     /// The device stores the next used element, behind the `count` pages that it gave back, modulo 2^16. It names a slot of the device's own,
     /// which comes out empty.
+    #[inline(always)]
     pub(crate) fn name(&mut self, queue: Queue, word: u64, count: u16)
         requires owner { self.old.token.me.0.owner ≡ Device }
         requires held { 0 < times (slot_in word) (queue_in queue self.old.token.me.0).held }
@@ -216,6 +228,7 @@ impl Port {
     }
 
     /// The device stores the used index, `count`: the page in the slot goes home and is given back.
+    #[inline(always)]
     pub(crate) fn give(&mut self, queue: Queue, slot: u64, count: u16)
         requires owner { self.old.token.me.0.owner ≡ Device }
         requires held { 0 < times slot (queue_in queue self.old.token.me.0).held }
@@ -247,6 +260,7 @@ impl Port {
     }
 
     /// Puts a page into the empty slot that is out.
+    #[inline(always)]
     pub(crate) fn put_in(&mut self, queue: Queue, slot: u64, page: Page)
         requires near { slot < self.old.size }
         requires is_out { self.old.token.me.1 ≡ (slots_base self.old.size queue + slot, None) ∷ [] }
@@ -260,6 +274,7 @@ impl Port {
     }
 
     /// Takes the page out of the slot that is out.
+    #[inline(always)]
     pub(crate) fn take_out(&mut self, queue: Queue, slot: u64) -> Page
         requires near { slot < self.old.size }
         requires is_out { (page : List ℕ) × (self.old.token.me.1 ≡ (slots_base self.old.size queue + slot, Some page) ∷ []) }
@@ -277,6 +292,7 @@ impl Port {
     }
 
     /// A load by which the empty slot that is out goes home.
+    #[inline(always)]
     pub(crate) fn lay(&mut self, queue: Queue, slot: u64)
         requires owner { (self.old.token.me.0.owner ≡ Driver) ⊎ (self.old.token.me.0.owner ≡ Device) }
         requires near { slot < self.old.size }
