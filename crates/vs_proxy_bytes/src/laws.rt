@@ -4,9 +4,13 @@ ghost use Rattle.std.specs.Prelude.{◌≡◌, ℕ, true, List, [], Some, Result
 ghost use Rattle.vs_contents.specs.CallTree.{Leads};
 ghost use Rattle.vs_flow.specs.declared.flow.Flow.{Flow};
 ghost use Rattle.vs_ring_port.specs.declared.failure.Failure.{Failure};
+ghost use Rattle.vs_device.specs.State.{DeviceState};
+ghost use Rattle.vs_device.specs.Transmitting.{take_tx_of};
+ghost use Rattle.vs_device.specs.declared.answers.Taken.{Taken};
 ghost use Rattle.vs_proxy.specs.State.{ProxyState};
 ghost use Rattle.vs_proxy.specs.Turns.{new_proxy, proxy_reset_of, turn_of};
 ghost use Rattle.vs_proxy.specs.declared.answers.Turn.{Turn};
+ghost use Rattle.vs_proxy_bytes.specs.Judged.{IsJudged};
 ghost use Rattle.vs_proxy_bytes.specs.Made.{Account, Made, Makes, account_of, is_on, payload_put, payload_taken};
 ghost use Rattle.vs_proxy_bytes.specs.Tied.{AccountsFor, IsGiven};
 
@@ -28,4 +32,12 @@ pub fn law_of_streams()
     ensures apart { (s : ProxyState) (calls : List Made) (i j : ℕ) (a b : Account) (flow : Flow) → AccountsFor s calls
         → account_of calls i ≡ Some a → account_of calls j ≡ Some b → is_on flow a ≡ true → is_on flow b ≡ true → i ≡ j }
     ensures put { (s : ProxyState) (calls : List Made) (flow : Flow) → AccountsFor s calls → payload_put calls flow ≡ payload_taken calls flow }
+{}
+
+/// Whatever the guest wrote as a packet: one from another CID or to another is dropped and counted; one whose verdict is RST is answered by an RST
+/// that is owed, and no other connection changes; the ring's failure is kept. None of these reaches a stream of the host. And only a packet whose
+/// verdict is that it is delivered is delivered to one.
+pub fn law_of_packets()
+    ensures judged { (s t : DeviceState) (calls later : List Made) (answer : Taken) → Leads Makes (take_tx_of s) calls (t, answer) later
+        → IsJudged answer s t calls later }
 {}
