@@ -1,13 +1,19 @@
 -- Lines of a hostile guest's script, one after the other.
-use Rattle.std.proofs.Common.{◌≡◌, ℕ, zero, suc, ◌+◌, ◌-◌, ◌==◌, ◌&&◌, nat_le, Bool, true, false, cond, List, [], ◌∷◌, ◌++◌, length, slice_get}
+use Rattle.std.proofs.Common.{◌≡◌, ℕ, ◌<◌, ◌≤◌, ◌^◌, arith, codes, decimal, zero, suc, ◌+◌, ◌-◌, ◌==◌, ◌&&◌, nat_le, Bool, true, false, cond, List, [], ◌∷◌, ◌++◌, length, slice_get}
 use Rattle.std.proofs.Common.{Option, Some, None, refl, sym, ap, subst, ◌∙◌}
 use Rattle.std.specs.Option.{option_and_then, option_map_or}
 use Rattle.vs_flow.specs.declared.flow.Flow.{Flow}
+use Rattle.vs_flow.specs.declared.flow.TheConstants.{ASSIGNED_LAST}
 use Rattle.vs_outside.specs.Host.{HostContents, Stream, stream_at, waits, with_stream}
 use Rattle.vs_outside.specs.HostProgram.{after_client, after_host_write, allowed, client_stream, closed, ended, host_write_answer, with_bytes}
 use Rattle.vs_outside.specs.declared.mem_stream.HostWritten.{HostWritten}
 use Rattle.vs_outside.specs.declared.mem_stream.HostWritten.TheVariants as written
+use Rattle.vs_outside.specs.HostBytes.{after_line, read_after_ok}
 use Rattle.vs_page.specs.Fair.{IsPrefixOf}
+use Rattle.vs_pipes.specs.Streamed.{has_line}
+use Rattle.vs_pipes.proofs.Lines.{after_front}
+use Rattle.vs_uds.proofs.Leading.{has_lf-digits}
+use Rattle.vs_uds.proofs.Ports.{WritesPort-decimal}
 use Rattle.vs_ring_plain.specs.Device.{DeviceState}
 use Rattle.vs_device.specs.Calls.{DeviceTree}
 use Rattle.vs_hostile.specs.Answer.{state_after}
@@ -43,7 +49,7 @@ changed at h stream f shows same = unseen_shows stream f h at shows (λ st o in_
   where
     by : (st : Stream) (o : Option Account) → ShowsIn st o → ShowsIn (f st) o
     by st None in_it = let s = same st in (s.1 ∙ in_it.0, s.2 ∙ in_it.1, s.3 ∙ in_it.2)
-    by st (Some a) in_it = let s = same st in (ap waits s.0 ∙ in_it.0, s.1 ∙ in_it.1, s.2 ∙ in_it.2, s.3 ∙ in_it.3)
+    by st (Some a) in_it = let s = same st in (ap waits s.0 ∙ in_it.0, s.1 ∙ in_it.1, s.2 ∙ in_it.2, s.3 ∙ in_it.3, in_it.4)
 
 written_shows : (at : ℕ → Option Account) (h : HostContents) (stream : ℕ) (bytes : List ℕ) (a : HostWritten) → Shows at h
     → Shows at (after_host_write stream bytes a h)
@@ -159,29 +165,58 @@ none_shows id = subst (λ (o : Option Stream). ShowsAt o None) (sym (by (id == 0
 pub run_holds : (lines : List Hostile) → Holds (state_after lines beginning) (calls_of lines beginning [])
 run_holds lines = lines_hold lines beginning [] (record { accounts = new_agrees _; shows = none_shows })
 
+-- Behind its OK line a stream was given what was delivered.
+ok_front : (port : ℕ) → port ≤ ASSIGNED_LAST → has_line (codes "OK " ++ decimal port) ≡ false
+ok_front port last =
+    let fits : port < 2 ^ 32 = omega (arith, last) in
+    has_lf-digits (decimal port) (WritesPort-decimal port fits).each
+
+read_front : (o : Option Flow) (st : Stream) (delivered : List ℕ) → ((flow : Flow) → st.by_client ≡ true → o ≡ Some flow → flow.host ≤ ASSIGNED_LAST)
+    → IsGivenOwn o st delivered → IsPrefixOf (read_after_ok st) delivered
+read_front o st delivered ported given = by o st.by_client refl ported given
+  where
+    by : (o : Option Flow) (b : Bool) → st.by_client ≡ b → ((flow : Flow) → st.by_client ≡ true → o ≡ Some flow → flow.host ≤ ASSIGNED_LAST)
+        → IsGivenOwn o st delivered → IsPrefixOf (cond st.by_client (after_line st.given) st.given) delivered
+    by None true is ported nothing = rw is (subst (λ (bytes : List ℕ). IsPrefixOf (after_line bytes) delivered) (sym nothing) (delivered, refl))
+    by None false is ported nothing = rw is (subst (λ (bytes : List ℕ). IsPrefixOf bytes delivered) (sym nothing) (delivered, refl))
+    by (Some flow) true is ported front =
+        let line : IsPrefixOf st.given (ok_line_of true flow ++ delivered) =
+        subst (λ (b : Bool). IsPrefixOf st.given (ok_line_of b flow ++ delivered)) is front in
+        rw is (after_front (codes "OK " ++ decimal flow.host) delivered st.given (ok_front flow.host (ported flow is refl)) line)
+    by (Some flow) false is ported front =
+        let line : IsPrefixOf st.given (ok_line_of false flow ++ delivered) =
+        subst (λ (b : Bool). IsPrefixOf st.given (ok_line_of b flow ++ delivered)) is front in
+        rw is line
+
 -- So each stream is given what is its own.
+own_given : (o : Option Flow) (st : Stream) (a : Account) → st.by_client ≡ a.by_client → st.given ≡ a.given → IsGiven o a → IsGivenOwn o st a.delivered
+own_given None st a client same nothing = same ∙ nothing
+own_given (Some flow) st a client same front =
+    subst (λ (bytes : List ℕ). IsPrefixOf bytes (ok_line_of st.by_client flow ++ a.delivered)) (sym same)
+    (subst (λ (b : Bool). IsPrefixOf a.given (ok_line_of b flow ++ a.delivered)) (sym client) front)
+
 shown_isolated : (id : ℕ) (st : Stream) (calls : List Made) (given : (a : Account) → account_of calls id ≡ Some a → IsGiven a.label a)
     → ShowsIn st (account_of calls id) → IsIsolated id st calls
 shown_isolated id st calls given shows = by (account_of calls id) refl shows
   where
-    own : (o : Option Flow) (a : Account) → st.by_client ≡ a.by_client → st.given ≡ a.given → IsGiven o a → IsGivenOwn o st a.delivered
-    own None a client same nothing = same ∙ nothing
-    own (Some flow) a client same front =
-        subst (λ (bytes : List ℕ). IsPrefixOf bytes (ok_line_of st.by_client flow ++ a.delivered)) (sym same)
-        (subst (λ (b : Bool). IsPrefixOf a.given (ok_line_of b flow ++ a.delivered)) (sym client) front)
-
     by : (o : Option Account) → account_of calls id ≡ o → ShowsIn st o → IsIsolated id st calls
-    by None is in_it = record {
-      label = in_it.1 ∙ ap (λ (o : Option Account). option_and_then (λ a. a.label) o) (sym is);
-      given = subst (λ (o : Option Flow). IsGivenOwn o st (delivered_to id calls)) (sym in_it.1) in_it.2;
-    }
-    by (Some a) is in_it = record {
-      label = in_it.2 ∙ ap (λ (o : Option Account). option_and_then (λ a. a.label) o) (sym is);
-      given = subst (λ (o : Option Flow). IsGivenOwn o st (delivered_to id calls)) (sym in_it.2)
-          (subst (λ (bytes : List ℕ). IsGivenOwn a.label st bytes)
-          (ap (λ (o : Option Account). option_map_or (λ a. a.delivered) o []) (sym is))
-          (own a.label a in_it.1 in_it.3 (given a is)));
-    }
+    by None is in_it =
+        let own : IsGivenOwn st.label st (delivered_to id calls) =
+        subst (λ (o : Option Flow). IsGivenOwn o st (delivered_to id calls)) (sym in_it.1) in_it.2 in record {
+          label = in_it.1 ∙ ap (λ (o : Option Account). option_and_then (λ a. a.label) o) (sym is);
+          given = own;
+          read = read_front st.label st (delivered_to id calls)
+              (λ flow client label. let both : None ≡ Some flow = sym in_it.1 ∙ label in absurd cc) own;
+        }
+    by (Some a) is in_it =
+        let own : IsGivenOwn st.label st (delivered_to id calls) =
+        subst (λ (o : Option Flow). IsGivenOwn o st (delivered_to id calls)) (sym in_it.2)
+        (subst (λ (bytes : List ℕ). IsGivenOwn a.label st bytes) (ap (λ (o : Option Account). option_map_or (λ a. a.delivered) o []) (sym is))
+        (own_given a.label st a in_it.1 in_it.3 (given a is))) in record {
+          label = in_it.2 ∙ ap (λ (o : Option Account). option_and_then (λ a. a.label) o) (sym is);
+          given = own;
+          read = read_front st.label st (delivered_to id calls) (λ flow client label. in_it.4 flow (sym in_it.1 ∙ client) (sym in_it.2 ∙ label)) own;
+        }
 
 pub run_isolated : (lines : List Hostile) (id : ℕ) (st : Stream) → stream_at id (state_after lines beginning).host ≡ Some st
     → IsIsolated id st (calls_of lines beginning [])

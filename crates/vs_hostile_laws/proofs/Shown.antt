@@ -1,8 +1,10 @@
 -- A host in memory, and the accounts of its streams, through each call of the proxy.
-use Rattle.std.proofs.Common.{◌≡◌, ◌≢◌, ℕ, zero, suc, ◌+◌, ◌-◌, ◌==◌, Bool, true, false, cond, List, [], ◌∷◌, ◌++◌, length, slice_get, slice_set}
+use Rattle.std.proofs.Common.{◌≡◌, ◌≤◌, ◌≢◌, ℕ, zero, suc, ◌+◌, ◌-◌, ◌==◌, Bool, true, false, cond, List, [], ◌∷◌, ◌++◌, length, slice_get, slice_set}
 use Rattle.std.proofs.Common.{Option, Some, None, refl, sym, ap, subst, ◌∙◌, arith}
 use Rattle.std.specs.Option.{option_map, option_map_or}
 use Rattle.std.proofs.lemmas.Bool.Decides.{nat_tests}
+use Rattle.vs_flow.specs.declared.flow.Flow.{Flow}
+use Rattle.vs_flow.specs.declared.flow.TheConstants.{ASSIGNED_LAST}
 use Rattle.vs_header.specs.declared.Header.{Header}
 use Rattle.vs_outside.specs.Host.{HostContents, Stream}
 use Rattle.vs_outside.specs.Host.{stream_at}
@@ -12,9 +14,13 @@ use Rattle.vs_page.specs.Log.{flow_to_host}
 use Rattle.vs_proxy_bytes.specs.Made.{Account, delivering, is_on}
 
 -- A stream that the proxy wasn't given yet is a client's, and was given nothing; another one is what its account says.
+-- The port of a client's connection is one that is assigned, or one below.
+abbrev pub IsPorted : Account → Type 0
+IsPorted a = (flow : Flow) → a.by_client ≡ true → a.label ≡ Some flow → flow.host ≤ ASSIGNED_LAST
+
 abbrev pub ShowsIn : Stream → Option Account → Type 0
 ShowsIn st None = (st.by_client ≡ true) × (st.label ≡ None) × (st.given ≡ [])
-ShowsIn st (Some a) = (waits st.state ≡ false) × (st.by_client ≡ a.by_client) × (st.label ≡ a.label) × (st.given ≡ a.given)
+ShowsIn st (Some a) = (waits st.state ≡ false) × (st.by_client ≡ a.by_client) × (st.label ≡ a.label) × (st.given ≡ a.given) × IsPorted a
 
 abbrev pub ShowsAt : Option Stream → Option Account → Type 0
 ShowsAt None a = a ≡ None
@@ -61,7 +67,7 @@ same_seen g same None None shows = shows
 same_seen g same None (Some a) shows = absurd cc
 same_seen g same (Some st) None shows = shows
 same_seen g same (Some st) (Some a) shows =
-    let s = same a in (shows.0, shows.1 ∙ sym s.0, shows.2 ∙ sym s.1, shows.3 ∙ sym s.2)
+    let s = same a in (shows.0, shows.1 ∙ sym s.0, shows.2 ∙ sym s.1, shows.3 ∙ sym s.2, λ flow client label. shows.4 flow (sym s.0 ∙ client) (sym s.1 ∙ label))
 
 pub delivers_same : (h : Option Header) (payload : List ℕ) (a : Account)
     → ((delivering h payload a).by_client ≡ a.by_client) × ((delivering h payload a).label ≡ a.label) × ((delivering h payload a).given ≡ a.given)

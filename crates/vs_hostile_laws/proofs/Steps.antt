@@ -4,6 +4,7 @@ use Rattle.std.proofs.Common.{refl, sym, ap, subst, ◌∙◌, arith}
 use Rattle.std.specs.Option.{option_map, option_map_or}
 use Rattle.vs_contents.specs.CallTree.{Done, Ask, played}
 use Rattle.vs_flow.specs.declared.flow.Flow.{Flow}
+use Rattle.vs_flow.specs.declared.flow.TheConstants.{ASSIGNED_LAST}
 use Rattle.vs_outside.specs.Host.{HostContents, Stream, accept_answer, after_accept, after_close, after_dial, after_failed, after_label, after_read}
 use Rattle.vs_outside.specs.Host.{after_shut_write, after_write, called, dial_answer, dialed_stream, fails_now, give_bytes, is_listened, read_answer}
 use Rattle.vs_outside.specs.Host.{stream_at, take_bytes, taken_of, waits, write_answer, write_of}
@@ -37,6 +38,9 @@ failed_shows c at shows = by (fails_now c)
 unknown : (st : Stream) (o : Option Account) → waits st.state ≡ true → ShowsIn st o → o ≡ None
 unknown st None waiting shows = refl
 unknown st (Some a) waiting shows = let both : true ≡ false = sym waiting ∙ shows.0 in absurd cc
+
+one_flow : (f g : Flow) → Some f ≡ Some g → f ≡ g
+one_flow f g is = cc
 
 dialed_id : (path : List ℕ) (id : ℕ) (c : HostContents) → dial_answer path c ≡ dialed.Stream id → id ≡ length c.streams + 1
 dialed_id path id c is = by (fails_now c) (is_listened path c) is
@@ -80,7 +84,7 @@ module _ (c : HostContents) (calls : List Made) (shows : Shows (account_of calls
             (λ gone was. let both : Some w.0 ≡ None = sym w.1 ∙ gone in absurd cc)
             (λ st at in_it.
             let s : ShowsIn st None = subst (ShowsIn st) none in_it in
-            subst (ShowsIn (record st { state = state.Open })) (sym ch.here) (refl, s.0, s.1, s.2)),
+            subst (ShowsIn (record st { state = state.Open })) (sym ch.here) (refl, s.0, s.1, s.2, λ flow client label. absurd cc)),
       )
 
   dial_shows : (path : List ℕ) (flow : Flow) (a : Dialed) → dial_answer path c ≡ a → Shown (Dial path flow) a (after_dial flow a c)
@@ -95,13 +99,13 @@ module _ (c : HostContents) (calls : List Made) (shows : Shows (account_of calls
       let ch : Changes (account_of calls) now id (new_account (Some flow) false) = comes (new_account (Some flow) false) id (account_of calls) in (
         ap (account_of calls) place ∙ none,
         new_shows (dialed_stream flow c.prepared) c (account_of calls) now shows
-            (subst (ShowsIn (dialed_stream flow c.prepared)) (sym ch.here ∙ ap now place) (refl, refl, refl, refl))
+            (subst (ShowsIn (dialed_stream flow c.prepared)) (sym ch.here ∙ ap now place) (refl, refl, refl, refl, λ other client label. absurd cc))
             (λ j other. ch.others j (λ same. other (same ∙ place))),
       )
 
-  label_shows : (stream : ℕ) (flow : Flow) (answer : Unit {0}) → (a : Account) × (account_of calls stream ≡ Some a)
+  label_shows : (stream : ℕ) (flow : Flow) (answer : Unit {0}) → flow.host ≤ ASSIGNED_LAST → (a : Account) × (account_of calls stream ≡ Some a)
       → Shown (Label stream flow) answer (after_label stream flow c)
-  label_shows stream flow answer (a, is) =
+  label_shows stream flow answer last (a, is) =
       let now : ℕ → Option Account = account_of (made (Label stream flow) answer ∷ calls) in
       let ch : Changes (account_of calls) now stream (labelled flow a) = changes (labelled flow) stream (account_of calls) a is in (
         tt,
@@ -109,7 +113,13 @@ module _ (c : HostContents) (calls : List Made) (shows : Shows (account_of calls
             (λ gone was. let both : Some a ≡ None = sym is ∙ was in absurd cc)
             (λ st at in_it.
             let s : ShowsIn st (Some a) = subst (ShowsIn st) is in_it in
-            subst (ShowsIn (record st { label = Some flow })) (sym ch.here) (s.0, s.1, refl, s.3)),
+            subst (ShowsIn (record st { label = Some flow })) (sym ch.here) (
+              s.0,
+              s.1,
+              refl,
+              s.3,
+              λ other client label. subst (λ (f : Flow). f.host ≤ ASSIGNED_LAST) (one_flow flow other label) last,
+            )),
       )
 
   read_shows : (stream : ℕ) (a : StreamRead) → Shows (account_of calls) (after_read stream a c)
@@ -133,7 +143,7 @@ module _ (c : HostContents) (calls : List Made) (shows : Shows (account_of calls
             (λ gone was. let both : Some x ≡ None = sym known ∙ was in absurd cc)
             (λ st at in_it.
             let s : ShowsIn st (Some x) = subst (ShowsIn st) known in_it in
-            subst (ShowsIn (give_bytes n bytes st)) (sym ch.here) (s.0, s.1, s.2, ap (λ (given : List ℕ). given ++ take n bytes) s.3)),
+            subst (ShowsIn (give_bytes n bytes st)) (sym ch.here) (s.0, s.1, s.2, ap (λ (given : List ℕ). given ++ take n bytes) s.3, s.4)),
       )
   write_shows stream bytes write.Again is known = (tt, shows)
   write_shows stream bytes write.Closed is known = (tt, shows)
@@ -160,7 +170,7 @@ module _ (c : HostContents) (calls : List Made) (shows : Shows (account_of calls
 
       by : (st : Stream) (o : Option Account) → ShowsIn st o → ShowsIn (record st { state = state.Closed }) (option_map shut o)
       by st None in_it = in_it
-      by st (Some a) in_it = (refl, in_it.1, in_it.2, in_it.3)
+      by st (Some a) in_it = (refl, in_it.1, in_it.2, in_it.3, in_it.4)
 
 -- Each call.
 pub step_shows : (call : Call) (around : Around) (calls : List Made) (P : Type 0) → Asks call calls P → Shows (account_of calls) around.host
@@ -182,7 +192,7 @@ step_shows (Ring (PublishCid cid)) around calls P asks shows =
     (tt, λ id. same_seen shut (λ a. (refl, refl, refl)) (stream_at id around.host) (account_of calls id) (shows id))
 step_shows Accept around calls P asks shows = accept_shows around.host calls shows (accept_answer around.host) refl
 step_shows (Dial path flow) around calls P asks shows = dial_shows around.host calls shows path flow (dial_answer path around.host) refl
-step_shows (Label stream flow) around calls P asks shows = label_shows around.host calls shows stream flow tt asks.0
+step_shows (Label stream flow) around calls P asks shows = label_shows around.host calls shows stream flow tt asks.1 asks.0
 step_shows (ReadStream stream n) around calls P asks shows = (tt, read_shows around.host calls shows stream (read_answer stream n around.host))
 step_shows (WriteStream stream bytes) around calls P asks shows =
     write_shows around.host calls shows stream bytes (write_answer stream (length bytes) around.host) refl asks.0

@@ -3,6 +3,7 @@ use Rattle.std.specs.Prelude.{◌≡◌, ℕ, ◌++◌, List, [], Option, Some, 
 use Rattle.std.specs.Option.{option_map_or, option_and_then}
 use Rattle.vs_flow.specs.declared.flow.Flow.{Flow}
 use Rattle.vs_outside.specs.Host.{Stream}
+use Rattle.vs_outside.specs.HostBytes.{read_after_ok}
 use Rattle.vs_page.specs.Fair.{IsPrefixOf}
 use Rattle.vs_proxy_bytes.specs.Made.{Made, account_of}
 use Rattle.vs_proxy_bytes.specs.Tied.{ok_line_of}
@@ -24,3 +25,5 @@ IsGivenOwn (Some flow) s delivered = IsPrefixOf s.given (ok_line_of s.by_client 
 pub record IsIsolated (id : ℕ) (s : Stream) (calls : List Made) : Type 0 where
   pub label : s.label ≡ flow_of id calls
   pub given : IsGivenOwn s.label s (delivered_to id calls)
+  -- So what its program reads behind the OK line are these payloads, as far as they were given.
+  pub read : IsPrefixOf (read_after_ok s) (delivered_to id calls)

@@ -1,20 +1,21 @@
 -- What a conversation keeps: what holds at each of its ends, of what it leaves and of the calls made.
-use Rattle.std.proofs.Common.{◌≡◌, ℕ, zero, suc, Bool, true, false, List, [], ◌∷◌, Some, subst, sym}
+use Rattle.std.proofs.Common.{◌≡◌, ℕ, ◌≤◌, zero, suc, Bool, true, false, List, [], ◌∷◌, Some, subst, sym}
 use Rattle.vs_contents.specs.CallTree.{Done, Ask, bind, for_each, while_up_to, Leads}
+use Rattle.vs_flow.specs.declared.flow.TheConstants.{ASSIGNED_LAST}
 use Rattle.vs_device.specs.Calls.{Call, Answer, DeviceTree, Ring, Accept, Dial, Label, ReadStream, WriteStream, ShutWrite, CloseStream}
 use Rattle.vs_proxy_bytes.specs.Made.{Account, Made, MayGet, Makes, account_of}
 
 abbrev pub made : (call : Call) → Answer call → Made
 made call answer = record { call = call; answer = answer }
 
--- A stream that is labelled or written to is one that was given.
+-- A stream that is labelled or written to is one that was given. A label has an assigned port, or one below it.
 abbrev pub Asks : Call → List Made → Type 0 → Type 0
-Asks (Label stream flow) calls P = ((a : Account) × (account_of calls stream ≡ Some a)) × P
+Asks (Label stream flow) calls P = ((a : Account) × (account_of calls stream ≡ Some a)) × (flow.host ≤ ASSIGNED_LAST) × P
 Asks (WriteStream stream bytes) calls P = ((a : Account) × (account_of calls stream ≡ Some a)) × P
 Asks call calls P = P
 
 pub asked_for : (call : Call) (calls : List Made) (P : Type 0) → Asks call calls P → P
-asked_for (Label stream flow) calls P asks = asks.1
+asked_for (Label stream flow) calls P asks = asks.2
 asked_for (WriteStream stream bytes) calls P asks = asks.1
 asked_for (Ring call) calls P asks = asks
 asked_for Accept calls P asks = asks
@@ -24,7 +25,7 @@ asked_for (ShutWrite stream) calls P asks = asks
 asked_for (CloseStream stream) calls P asks = asks
 
 pub asks_weaker : (call : Call) (calls : List Made) (P R : Type 0) → (P → R) → Asks call calls P → Asks call calls R
-asks_weaker (Label stream flow) calls P R then asks = (asks.0, then asks.1)
+asks_weaker (Label stream flow) calls P R then asks = (asks.0, asks.1, then asks.2)
 asks_weaker (WriteStream stream bytes) calls P R then asks = (asks.0, then asks.1)
 asks_weaker (Ring call) calls P R then asks = then asks
 asks_weaker Accept calls P R then asks = then asks

@@ -7,6 +7,7 @@ use Rattle.vs_conn.specs.End.{asked}
 use Rattle.vs_contents.specs.CallTree.{Done, Ask, bind, for_each}
 use Rattle.vs_flow.specs.Table.{IsTable, Table, emptied, entry_under, next_entry, refusal, slots}
 use Rattle.vs_flow.specs.declared.flow.Flow.{Flow}
+use Rattle.vs_flow.specs.declared.flow.TheConstants.{ASSIGNED_LAST}
 use Rattle.vs_flow.specs.declared.table.TableFault.{TableFault}
 use Rattle.vs_flow.proofs.Tables.{accepted, with_value_sound}
 use Rattle.vs_history.specs.declared.TheConstants.{BUF_ALLOC}
@@ -64,11 +65,11 @@ new_agrees room = record {
 pub waits_unlabelled : (at : ℕ → Option Account) (stream : ℕ) → at stream ≡ Some (new_account None true) → (a : Account) → at stream ≡ Some a → a.label ≡ None
 waits_unlabelled at stream waits a is = ap (λ (b : Account). b.label) (one_account at stream a (new_account None true) is waits)
 
-pub keeps_open : (hands after : List Handshake) (flow : Flow) (stream : ℕ) (s : DeviceState) (calls : List Made)
+pub keeps_open : (hands after : List Handshake) (flow : Flow) (stream : ℕ) (s : DeviceState) (calls : List Made) → flow.host ≤ ASSIGNED_LAST
     → account_of calls stream ≡ Some (new_account None true) → All (λ h. account_of calls h.stream ≡ Some (new_account None true)) after
     → All (λ h. h.stream ≢ stream) after → AllPairs (λ g h. g.stream ≢ h.stream) after → Has hands s calls
     → Keeps (λ x later. Has after x.0 later) (open_of flow stream s) calls
-keeps_open hands after flow stream s calls waits waiting others apart x = by (refusal s.table flow) refl
+keeps_open hands after flow stream s calls last waits waiting others apart x = by (refusal s.table flow) refl
   where
     asks : DeviceTree (DeviceState × Result ℕ TableFault)
     asks = Ask (Label stream flow) (λ a. Done (with_client flow stream s, Ok s.table.given))
@@ -93,7 +94,7 @@ keeps_open hands after flow stream s calls waits waiting others apart x = by (re
       over = x.over;
       carried = x.carried;
     }
-    by None is = ((new_account None true, waits), λ answer fit. opens is answer)
+    by None is = ((new_account None true, waits), last, λ answer fit. opens is answer)
 
 -- While connections are closed for a reset, what the streams were given stays.
 pub record AreClosing (at : ℕ → Option Account) (put taken : Flow → List ℕ) (t : Table DeviceConnection) : Type 0 where

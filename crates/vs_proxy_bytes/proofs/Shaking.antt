@@ -1,11 +1,13 @@
 -- Handshakes: their clients' streams are given nothing before they have a connection.
-use Rattle.std.proofs.Common.{◌≡◌, ◌≢◌, ℕ, ◌+◌, ◌==◌, Bool, true, false, cond, List, [], ◌∷◌, ◌++◌, length, nat_lt, Option, Some, None, refl, sym, ap, ◌∙◌, arith}
+use Rattle.std.proofs.Common.{◌≡◌, ◌≢◌, ℕ, ◌+◌, ◌≤◌, ◌&&◌, nat_le, ◌==◌, Bool, true, false, cond, List, [], ◌∷◌, ◌++◌, length, nat_lt, Option, Some, None, refl, sym, ap, ◌∙◌, arith}
 use Rattle.std.specs.List.{All, AllPairs}
 use Rattle.std.proofs.lemmas.List.Elements.{All-push}
 use Rattle.std.proofs.lemmas.List.Quantifiers.{all_pairs_push}
 use Rattle.std.proofs.lemmas.Bool.Decides.{nat_tests}
 use Rattle.vs_contents.specs.CallTree.{Done, Ask, for_each}
+use Rattle.vs_flow.specs.Table.{has_place}
 use Rattle.vs_flow.specs.declared.flow.Flow.{Flow}
+use Rattle.vs_flow.specs.declared.flow.TheConstants.{ASSIGNED_LAST}
 use Rattle.vs_outside.specs.declared.host_net.Accepted.{Accepted}
 use Rattle.vs_outside.specs.declared.host_net.Accepted.TheVariants as accepted
 use Rattle.vs_outside.specs.declared.host_net.StreamRead.{StreamRead}
@@ -39,6 +41,15 @@ Turns t calls = AccountsFor t.state calls
 
 abbrev pub TurnsFirst : Turning × Bool → List Made → Type 0
 TurnsFirst r calls = AccountsFor r.0.state calls
+
+-- A connection opens under a port that is assigned.
+last_port : (s : ProxyState) → may_open s ≡ true → s.next_port ≤ ASSIGNED_LAST
+last_port s may = by (has_place s.device.table) (nat_le s.next_port ASSIGNED_LAST) refl may
+  where
+    by : (a b : Bool) → nat_le s.next_port ASSIGNED_LAST ≡ b → (a && b) ≡ true → s.next_port ≤ ASSIGNED_LAST
+    by true true is both = grind (arith, nat_tests, is)
+    by true false is both = absurd cc
+    by false b is both = absurd cc
 
 -- The handshake on a stream.
 pub record WaitsOn (stream : ℕ) (s : ProxyState) (calls : List Made) (h : Handshake) : Type 0 where
@@ -82,12 +93,12 @@ module _ (stream : ℕ) (t : Turning) (calls : List Made) (waits : account_of ca
       }
 
   -- Its client gets a connection.
-  keeps_opening : (port : ℕ) → Keeps Turns (opening stream port t) calls
-  keeps_opening port =
+  keeps_opening : (port : ℕ) → t.state.next_port ≤ ASSIGNED_LAST → Keeps Turns (opening stream port t) calls
+  keeps_opening port last =
       let flow : Flow = record { guest = port; host = t.state.next_port } in
       keeps_then Turns (λ r later. Has (without_stream stream hs) r.0 later) (open_of flow stream t.state.device)
       (λ r. Done (record t { state = record (with_device r.0 (without_handshake stream t.state)) { next_port = t.state.next_port + 1 } })) calls
-      (keeps_open hs (without_stream stream hs) flow stream t.state.device calls waits rest_waits rest_other rest_apart x)
+      (keeps_open hs (without_stream stream hs) flow stream t.state.device calls last waits rest_waits rest_other rest_apart x)
       (λ r later kept. kept)
 
   -- Its line is whole, or bad, or goes on.
@@ -95,14 +106,15 @@ module _ (stream : ℕ) (t : Turning) (calls : List Made) (waits : account_of ca
   keeps_line_decided step.More = x
   keeps_line_decided step.Bad = keeps_then TurnsFirst Turns (dropping stream t) (λ u. Done (u, false)) calls keeps_dropping (λ u later kept. kept)
   keeps_line_decided (step.Port port) =
-      keeps_then TurnsFirst Turns (if_open (may_open t.state) port) (λ u. Done (u, false)) calls (by port (may_open t.state)) (λ u later kept. kept)
+      keeps_then TurnsFirst Turns (if_open (may_open t.state) port) (λ u. Done (u, false)) calls (by port (may_open t.state) refl)
+      (λ u later kept. kept)
     where
       if_open : Bool → ℕ → DeviceTree Turning
       if_open b port = cond b (opening stream port t) (dropping stream t)
 
-      by : (port : ℕ) (b : Bool) → Keeps Turns (if_open b port) calls
-      by port true = keeps_opening port
-      by port false = keeps_dropping
+      by : (port : ℕ) (b : Bool) → may_open t.state ≡ b → Keeps Turns (if_open b port) calls
+      by port true may = keeps_opening port (last_port t.state may)
+      by port false may = keeps_dropping
 
 -- Timeouts.
 keeps_tick_handshake : (stream : ℕ) (t : Turning) (calls : List Made) → Turns t calls → Keeps Turns (tick_handshake stream t) calls
