@@ -20,7 +20,8 @@ failing o s = record s { device = record s.device { failed = o } }
 pub turn_fails : (size now : ℕ) (s : ProxyState) (f : Failure) → s.device.failed ≡ Some f
     → ◌≡◌ {A = DeviceTree (ProxyState × Turn)} (turn_of size now s) (Done (s, turn.Failed f))
 turn_fails size now s f is =
-    let P : Option Failure → Type 0 = λ o. ◌≡◌ {A = DeviceTree (ProxyState × Turn)} (turn_of size now (failing o s)) (Done (failing o s, turn.Failed f)) in
+    let P : Option Failure → Type 0 = λ o. ◌≡◌ {A = DeviceTree (ProxyState × Turn)} (turn_of size now (failing o s))
+    (Done (failing o s, turn.Failed f)) in
     subst P (sym is) refl
 
 pub reset_fails : (cid : ℕ) (s : ProxyState) (f : Failure) → s.device.failed ≡ Some f

@@ -1,11 +1,13 @@
 -- Lines of a hostile guest's script, one after the other.
-use Rattle.std.proofs.Common.{◌≡◌, ℕ, ◌<◌, ◌≤◌, ◌^◌, arith, codes, decimal, zero, suc, ◌+◌, ◌-◌, ◌==◌, ◌&&◌, nat_le, Bool, true, false, cond, List, [], ◌∷◌, ◌++◌, length, slice_get}
+use Rattle.std.proofs.Common.{◌≡◌, ℕ, ◌<◌, ◌≤◌, ◌^◌, arith, codes, decimal, zero, suc, ◌+◌, ◌-◌, ◌==◌, ◌&&◌, nat_le, Bool, true, false}
+use Rattle.std.proofs.Common.{cond, List, [], ◌∷◌, ◌++◌, length, slice_get}
 use Rattle.std.proofs.Common.{Option, Some, None, refl, sym, ap, subst, ◌∙◌}
 use Rattle.std.specs.Option.{option_and_then, option_map_or}
 use Rattle.vs_flow.specs.declared.flow.Flow.{Flow}
 use Rattle.vs_flow.specs.declared.flow.TheConstants.{ASSIGNED_LAST}
 use Rattle.vs_outside.specs.Host.{HostContents, Stream, stream_at, waits, with_stream}
-use Rattle.vs_outside.specs.HostProgram.{after_client, after_host_write, allowed, client_stream, closed, ended, host_write_answer, with_bytes}
+use Rattle.vs_outside.specs.HostProgram.{after_client, after_host_write, allowed, client_stream, closed, ended, host_write_answer}
+use Rattle.vs_outside.specs.HostProgram.{with_bytes}
 use Rattle.vs_outside.specs.declared.mem_stream.HostWritten.{HostWritten}
 use Rattle.vs_outside.specs.declared.mem_stream.HostWritten.TheVariants as written
 use Rattle.vs_outside.specs.HostBytes.{after_line, read_after_ok}
@@ -18,7 +20,8 @@ use Rattle.vs_ring_plain.specs.Device.{DeviceState}
 use Rattle.vs_device.specs.Calls.{DeviceTree}
 use Rattle.vs_hostile.specs.Answer.{state_after}
 use Rattle.vs_hostile.specs.Answers.{Around}
-use Rattle.vs_hostile.specs.Run.{Done, GuestState, HasMemory, HasRings, HasTurned, HostileState, Nothing, Said, beginning, first_line, host_does, hostile_does, line_in, outside_does}
+use Rattle.vs_hostile.specs.Run.{Done, GuestState, HasMemory, HasRings, HasTurned, HostileState, Nothing, Said, beginning, first_line}
+use Rattle.vs_hostile.specs.Run.{host_does, hostile_does, line_in, outside_does}
 use Rattle.vs_hostile.specs.Run.{WasReset, over, over_rings}
 use Rattle.vs_hostile_laws.specs.Isolated.{IsGivenOwn, IsIsolated, delivered_to}
 use Rattle.vs_hostile_laws.specs.Recorded.{calls_of, made_in, made_over, outside_made, recorded}
@@ -32,8 +35,10 @@ use Rattle.vs_proxy_bytes.proofs.Keeping.{Keeps}
 use Rattle.vs_proxy_bytes.proofs.Opening.{new_agrees}
 use Rattle.vs_proxy_bytes.proofs.Turning.{keeps_proxy_reset, keeps_turn}
 use Rattle.vs_script.specs.Data.{bytes_of}
-use Rattle.vs_script.specs.Hostile.{Hostile, Memory as SetMemory, Rings as SetRings, Write, WriteDesc, Give, Index, Packet, Before, Look, Around as OfOutside}
-use Rattle.vs_script.specs.Outside.{Client, Host, HostAllow, HostClosed, HostEnd, HostFail, HostListen, HostUnlisten, HostWrite, OfHost, Outside, Reset, Tick}
+use Rattle.vs_script.specs.Hostile.{Hostile, Memory as SetMemory, Rings as SetRings, Write, WriteDesc, Give, Index, Packet, Before, Look}
+use Rattle.vs_script.specs.Hostile.{Around as OfOutside}
+use Rattle.vs_script.specs.Outside.{Client, Host, HostAllow, HostClosed, HostEnd, HostFail, HostListen, HostUnlisten, HostWrite, OfHost}
+use Rattle.vs_script.specs.Outside.{Outside, Reset, Tick}
 use Rattle.vs_script.specs.Outside.{Turn as TakeTurn}
 
 -- The calls made so far account for what the proxy holds, and show what the host holds.
@@ -43,7 +48,8 @@ pub record Holds (s : HostileState) (calls : List Made) : Type 0 where
 
 -- What the host's programs do.
 changed : (at : ℕ → Option Account) (h : HostContents) (stream : ℕ) (f : Stream → Stream) → Shows at h
-    → ((st : Stream) → ((f st).state ≡ st.state) × ((f st).by_client ≡ st.by_client) × ((f st).label ≡ st.label) × ((f st).given ≡ st.given))
+    → ((st : Stream) → ((f st).state ≡ st.state) × ((f st).by_client ≡ st.by_client) × ((f st).label ≡ st.label) ×
+    ((f st).given ≡ st.given))
     → Shows at (with_stream stream f h)
 changed at h stream f shows same = unseen_shows stream f h at shows (λ st o in_it. by st o in_it)
   where
@@ -88,16 +94,22 @@ over_holds {A} tree said ring s calls keeps shows =
 outside_holds : (line : Outside) (ring : DeviceState) (s : HostileState) (calls : List Made) → Holds s calls
     → Holds (outside_does line ring s).0 (outside_made line ring s calls)
 outside_holds TakeTurn ring s calls holds =
-    over_holds (turn_of ring.size s.now s.proxy) (λ t. HasTurned t) ring s calls (keeps_turn ring.size s.now s.proxy calls holds.accounts) holds.shows
+    over_holds (turn_of ring.size s.now s.proxy) (λ t. HasTurned t) ring s calls
+    (keeps_turn ring.size s.now s.proxy calls holds.accounts) holds.shows
 outside_holds (Reset cid) ring s calls holds = by (nat_le 3 cid && nat_le cid 4294967294)
   where
     by : (b : Bool) → Holds (cond b (over (proxy_reset_of cid s.proxy) (λ r. WasReset r) ring s) (s, Done)).0
         (cond b (recorded (proxy_reset_of cid s.proxy) ring s.host calls) calls)
-    by true = over_holds (proxy_reset_of cid s.proxy) (λ r. WasReset r) ring s calls (keeps_proxy_reset cid s.proxy calls holds.accounts) holds.shows
+    by true = over_holds (proxy_reset_of cid s.proxy) (λ r. WasReset r) ring s calls
+        (keeps_proxy_reset cid s.proxy calls holds.accounts) holds.shows
     by false = holds
 outside_holds (Tick ms) ring s calls holds = record { accounts = holds.accounts; shows = holds.shows }
 outside_holds Client ring s calls holds = record { accounts = holds.accounts; shows = client_shows (account_of calls) s.host holds.shows }
-outside_holds (OfHost line) ring s calls holds = record { accounts = holds.accounts; shows = host_shows (account_of calls) line s.host holds.shows }
+outside_holds (OfHost line) ring s calls holds = record {
+  accounts = holds.accounts;
+  shows = host_shows
+      (account_of calls) line s.host holds.shows;
+}
 
 -- A line changes neither proxy nor host, but where it is one on what surrounds the guest.
 same_holds : (guest : GuestState) (s : HostileState) (calls : List Made) → Holds s calls → Holds (record s { guest = guest }) calls
@@ -128,7 +140,8 @@ first_holds (Before nth addr bytes) s calls holds = holds
 first_holds (Look addr len) s calls holds = holds
 first_holds (OfOutside line) s calls holds = holds
 
-line_holds : (line : Hostile) (s : HostileState) (calls : List Made) → Holds s calls → Holds (hostile_does line s).0 (made_in s.guest line s calls)
+line_holds : (line : Hostile) (s : HostileState) (calls : List Made) → Holds s calls → Holds (hostile_does line s).0
+    (made_in s.guest line s calls)
 line_holds line s calls holds = by s.guest line
   where
     by : (guest : GuestState) (line : Hostile) → Holds (line_in guest line s).0 (made_in guest line s calls)
@@ -145,7 +158,8 @@ line_holds line s calls holds = by s.guest line
     by (HasMemory memory) (OfOutside line) = holds
     by (HasRings ring) line = rings_hold line ring s calls holds
 
-lines_hold : (lines : List Hostile) (s : HostileState) (calls : List Made) → Holds s calls → Holds (state_after lines s) (calls_of lines s calls)
+lines_hold : (lines : List Hostile) (s : HostileState) (calls : List Made) → Holds s calls → Holds (state_after lines s)
+    (calls_of lines s calls)
 lines_hold [] s calls holds = holds
 lines_hold (line ∷ lines) s calls holds =
     lines_hold lines (hostile_does line s).0 (made_in s.guest line s calls) (line_holds line s calls holds)
@@ -171,13 +185,15 @@ ok_front port last =
     let fits : port < 2 ^ 32 = omega (arith, last) in
     has_lf-digits (decimal port) (WritesPort-decimal port fits).each
 
-read_front : (o : Option Flow) (st : Stream) (delivered : List ℕ) → ((flow : Flow) → st.by_client ≡ true → o ≡ Some flow → flow.host ≤ ASSIGNED_LAST)
+read_front : (o : Option Flow) (st : Stream) (delivered : List ℕ) → ((flow : Flow) → st.by_client ≡ true → o ≡ Some flow
+    → flow.host ≤ ASSIGNED_LAST)
     → IsGivenOwn o st delivered → IsPrefixOf (read_after_ok st) delivered
 read_front o st delivered ported given = by o st.by_client refl ported given
   where
     by : (o : Option Flow) (b : Bool) → st.by_client ≡ b → ((flow : Flow) → st.by_client ≡ true → o ≡ Some flow → flow.host ≤ ASSIGNED_LAST)
         → IsGivenOwn o st delivered → IsPrefixOf (cond st.by_client (after_line st.given) st.given) delivered
-    by None true is ported nothing = rw is (subst (λ (bytes : List ℕ). IsPrefixOf (after_line bytes) delivered) (sym nothing) (delivered, refl))
+    by None true is ported nothing = rw is (subst (λ (bytes : List ℕ). IsPrefixOf (after_line bytes) delivered) (sym nothing)
+        (delivered, refl))
     by None false is ported nothing = rw is (subst (λ (bytes : List ℕ). IsPrefixOf bytes delivered) (sym nothing) (delivered, refl))
     by (Some flow) true is ported front =
         let line : IsPrefixOf st.given (ok_line_of true flow ++ delivered) =
@@ -189,7 +205,8 @@ read_front o st delivered ported given = by o st.by_client refl ported given
         rw is line
 
 -- So each stream is given what is its own.
-own_given : (o : Option Flow) (st : Stream) (a : Account) → st.by_client ≡ a.by_client → st.given ≡ a.given → IsGiven o a → IsGivenOwn o st a.delivered
+own_given : (o : Option Flow) (st : Stream) (a : Account) → st.by_client ≡ a.by_client → st.given ≡ a.given → IsGiven o a
+    → IsGivenOwn o st a.delivered
 own_given None st a client same nothing = same ∙ nothing
 own_given (Some flow) st a client same front =
     subst (λ (bytes : List ℕ). IsPrefixOf bytes (ok_line_of st.by_client flow ++ a.delivered)) (sym same)
@@ -211,11 +228,13 @@ shown_isolated id st calls given shows = by (account_of calls id) refl shows
     by (Some a) is in_it =
         let own : IsGivenOwn st.label st (delivered_to id calls) =
         subst (λ (o : Option Flow). IsGivenOwn o st (delivered_to id calls)) (sym in_it.2)
-        (subst (λ (bytes : List ℕ). IsGivenOwn a.label st bytes) (ap (λ (o : Option Account). option_map_or (λ a. a.delivered) o []) (sym is))
+        (subst (λ (bytes : List ℕ). IsGivenOwn a.label st bytes) (ap (λ (o : Option Account). option_map_or (λ a. a.delivered) o [])
+        (sym is))
         (own_given a.label st a in_it.1 in_it.3 (given a is))) in record {
           label = in_it.2 ∙ ap (λ (o : Option Account). option_and_then (λ a. a.label) o) (sym is);
           given = own;
-          read = read_front st.label st (delivered_to id calls) (λ flow client label. in_it.4 flow (sym in_it.1 ∙ client) (sym in_it.2 ∙ label)) own;
+          read = read_front st.label st (delivered_to id calls) (λ flow client label. in_it.4 flow (sym in_it.1 ∙ client) (sym in_it.2
+              ∙ label)) own;
         }
 
 pub run_isolated : (lines : List Hostile) (id : ℕ) (st : Stream) → stream_at id (state_after lines beginning).host ≡ Some st

@@ -1,5 +1,6 @@
 -- A host in memory, and the accounts of its streams, through each call of the proxy.
-use Rattle.std.proofs.Common.{◌≡◌, ◌≤◌, ◌≢◌, ℕ, zero, suc, ◌+◌, ◌-◌, ◌==◌, Bool, true, false, cond, List, [], ◌∷◌, ◌++◌, length, slice_get, slice_set}
+use Rattle.std.proofs.Common.{◌≡◌, ◌≤◌, ◌≢◌, ℕ, zero, suc, ◌+◌, ◌-◌, ◌==◌, Bool, true, false, cond, List, [], ◌∷◌, ◌++◌, length, slice_get}
+use Rattle.std.proofs.Common.{slice_set}
 use Rattle.std.proofs.Common.{Option, Some, None, refl, sym, ap, subst, ◌∙◌, arith}
 use Rattle.std.specs.Option.{option_map, option_map_or}
 use Rattle.std.proofs.lemmas.Bool.Decides.{nat_tests}
@@ -30,7 +31,8 @@ abbrev pub Shows : (ℕ → Option Account) → HostContents → Type 0
 Shows at c = (id : ℕ) → ShowsAt (stream_at id c) (at id)
 
 -- One stream changes, and its account.
-same_streams : (id : ℕ) (f : Stream → Stream) (c : HostContents) → stream_at id c ≡ None → (j : ℕ) → stream_at j (with_stream id f c) ≡ stream_at j c
+same_streams : (id : ℕ) (f : Stream → Stream) (c : HostContents) → stream_at id c ≡ None → (j : ℕ) → stream_at j (with_stream id f c)
+    ≡ stream_at j c
 same_streams id f c none j =
     ap (λ (xs : List Stream). stream_at j (record c { streams = xs }))
     (ap (λ (o : Option Stream). option_map_or (λ s. slice_set c.streams (id - 1) (f s)) o c.streams) none)
@@ -41,9 +43,12 @@ module _ (stream : ℕ) (f : Stream → Stream) (c : HostContents) (at now : ℕ
   pub change_shows : Shows now (with_stream stream f c)
   change_shows id = by (id == stream) refl
     where
-      there : (o : Option Stream) → stream_at stream c ≡ o → ShowsAt o (at stream) → ShowsAt (stream_at stream (with_stream stream f c)) (now stream)
-      there None is at_none = subst (λ (o : Option Stream). ShowsAt o (now stream)) (sym (same_streams stream f c is stream ∙ is)) (none is at_none)
-      there (Some st) is in_it = subst (λ (o : Option Stream). ShowsAt o (now stream)) (sym (stream_at-with_stream stream f c st is)) (here st is in_it)
+      there : (o : Option Stream) → stream_at stream c ≡ o → ShowsAt o (at stream) → ShowsAt (stream_at stream (with_stream stream f c))
+          (now stream)
+      there None is at_none = subst (λ (o : Option Stream). ShowsAt o (now stream)) (sym (same_streams stream f c is stream ∙ is))
+          (none is at_none)
+      there (Some st) is in_it = subst (λ (o : Option Stream). ShowsAt o (now stream)) (sym (stream_at-with_stream stream f c st is))
+          (here st is in_it)
 
       by : (b : Bool) → (id == stream) ≡ b → ShowsAt (stream_at id (with_stream stream f c)) (now id)
       by true is =
@@ -58,19 +63,29 @@ module _ (stream : ℕ) (f : Stream → Stream) (c : HostContents) (at now : ℕ
 -- A change that no account sees.
 pub unseen_shows : (stream : ℕ) (f : Stream → Stream) (c : HostContents) (at : ℕ → Option Account) → Shows at c
     → ((st : Stream) (a : Option Account) → ShowsIn st a → ShowsIn (f st) a) → Shows at (with_stream stream f c)
-unseen_shows stream f c at shows same = change_shows stream f c at at shows (λ id other. refl) (λ gone none. none) (λ st is. same st (at stream))
+unseen_shows stream f c at shows same = change_shows stream f c at at shows (λ id other. refl) (λ gone none. none)
+    (λ st is. same st (at stream))
 
 -- A change of accounts that no stream sees.
-pub same_seen : (g : Account → Account) → ((a : Account) → ((g a).by_client ≡ a.by_client) × ((g a).label ≡ a.label) × ((g a).given ≡ a.given))
+pub same_seen : (g : Account → Account) → ((a : Account) → ((g a).by_client ≡ a.by_client) × ((g a).label ≡ a.label) ×
+    ((g a).given ≡ a.given))
     → (o : Option Stream) (a : Option Account) → ShowsAt o a → ShowsAt o (option_map g a)
 same_seen g same None None shows = shows
 same_seen g same None (Some a) shows = absurd cc
 same_seen g same (Some st) None shows = shows
 same_seen g same (Some st) (Some a) shows =
-    let s = same a in (shows.0, shows.1 ∙ sym s.0, shows.2 ∙ sym s.1, shows.3 ∙ sym s.2, λ flow client label. shows.4 flow (sym s.0 ∙ client) (sym s.1 ∙ label))
+    let s = same a in (
+      shows.0,
+      shows.1 ∙ sym s.0,
+      shows.2 ∙ sym s.1,
+      shows.3 ∙ sym s.2,
+      λ flow client label. shows.4 flow
+          (sym s.0 ∙ client) (sym s.1 ∙ label),
+    )
 
 pub delivers_same : (h : Option Header) (payload : List ℕ) (a : Account)
-    → ((delivering h payload a).by_client ≡ a.by_client) × ((delivering h payload a).label ≡ a.label) × ((delivering h payload a).given ≡ a.given)
+    → ((delivering h payload a).by_client ≡ a.by_client) × ((delivering h payload a).label ≡ a.label) ×
+    ((delivering h payload a).given ≡ a.given)
 delivers_same None payload a = (refl, refl, refl)
 delivers_same (Some h) payload a = by (is_on (flow_to_host h) a)
   where

@@ -5,8 +5,10 @@ use Rattle.std.specs.Option.{option_map, option_map_or}
 use Rattle.vs_contents.specs.CallTree.{Done, Ask, played}
 use Rattle.vs_flow.specs.declared.flow.Flow.{Flow}
 use Rattle.vs_flow.specs.declared.flow.TheConstants.{ASSIGNED_LAST}
-use Rattle.vs_outside.specs.Host.{HostContents, Stream, accept_answer, after_accept, after_close, after_dial, after_failed, after_label, after_read}
-use Rattle.vs_outside.specs.Host.{after_shut_write, after_write, called, dial_answer, dialed_stream, fails_now, give_bytes, is_listened, read_answer}
+use Rattle.vs_outside.specs.Host.{HostContents, Stream, accept_answer, after_accept, after_close, after_dial, after_failed, after_label}
+use Rattle.vs_outside.specs.Host.{after_read}
+use Rattle.vs_outside.specs.Host.{after_shut_write, after_write, called, dial_answer, dialed_stream, fails_now, give_bytes, is_listened}
+use Rattle.vs_outside.specs.Host.{read_answer}
 use Rattle.vs_outside.specs.Host.{stream_at, take_bytes, taken_of, waits, write_answer, write_of}
 use Rattle.vs_outside.specs.declared.host_net.Accepted.{Accepted}
 use Rattle.vs_outside.specs.declared.host_net.Accepted.TheVariants as accepted
@@ -22,7 +24,8 @@ use Rattle.vs_ring_port.specs.Contents.{Take, Read, Write, Return, Given, Publis
 use Rattle.vs_device.specs.Calls.{Answer, Call, DeviceTree, Ring, Accept, Dial, Label, ReadStream, WriteStream, ShutWrite, CloseStream}
 use Rattle.vs_hostile.specs.Answers.{Around, answer_around}
 use Rattle.vs_hostile_laws.specs.Recorded.{Recorded, recording}
-use Rattle.vs_hostile_laws.proofs.Shown.{Shows, ShowsAt, ShowsIn, change_shows, delivers_same, new_shows, none_there, same_seen, unseen_shows}
+use Rattle.vs_hostile_laws.proofs.Shown.{Shows, ShowsAt, ShowsIn, change_shows, delivers_same, new_shows, none_there, same_seen}
+use Rattle.vs_hostile_laws.proofs.Shown.{unseen_shows}
 use Rattle.vs_proxy_bytes.specs.Made.{Account, Made, MayGet, account_of, delivering, header_in, labelled, new_account, shut, with_given}
 use Rattle.vs_proxy_bytes.proofs.Accounts.{Changes, changes, changing, comes, differs, self_is}
 use Rattle.vs_proxy_bytes.proofs.Keeping.{Asks, Keeps, keeps_answer, made}
@@ -51,7 +54,8 @@ dialed_id path id c is = by (fails_now c) (is_listened path c) is
     by false true is = cc
     by false false is = absurd cc
 
-write_short : (len n : ℕ) (b : Bool) (o : Option Stream) → cond b write.Failed (option_map_or (write_of len) o write.Again) ≡ write.Took n → n ≤ len
+write_short : (len n : ℕ) (b : Bool) (o : Option Stream) → cond b write.Failed (option_map_or (write_of len) o write.Again) ≡ write.Took n
+    → n ≤ len
 write_short len n true o is = absurd cc
 write_short len n false None is = absurd cc
 write_short len n false (Some st) is = by st.host_closed (taken_of len st == 0) is
@@ -96,14 +100,17 @@ module _ (c : HostContents) (calls : List Made) (shows : Shows (account_of calls
       subst (λ (o : Option Stream). ShowsAt o (account_of calls (length c.streams + 1))) (none_there (dialed_stream flow c.prepared) c)
       (shows (length c.streams + 1)) in
       let now : ℕ → Option Account = account_of (made (Dial path flow) (dialed.Stream id) ∷ calls) in
-      let ch : Changes (account_of calls) now id (new_account (Some flow) false) = comes (new_account (Some flow) false) id (account_of calls) in (
+      let ch : Changes (account_of calls) now id (new_account (Some flow) false) = comes (new_account (Some flow) false) id
+      (account_of calls) in (
         ap (account_of calls) place ∙ none,
         new_shows (dialed_stream flow c.prepared) c (account_of calls) now shows
-            (subst (ShowsIn (dialed_stream flow c.prepared)) (sym ch.here ∙ ap now place) (refl, refl, refl, refl, λ other client label. absurd cc))
+            (subst (ShowsIn (dialed_stream flow c.prepared)) (sym ch.here ∙ ap now place)
+            (refl, refl, refl, refl, λ other client label. absurd cc))
             (λ j other. ch.others j (λ same. other (same ∙ place))),
       )
 
-  label_shows : (stream : ℕ) (flow : Flow) (answer : Unit {0}) → flow.host ≤ ASSIGNED_LAST → (a : Account) × (account_of calls stream ≡ Some a)
+  label_shows : (stream : ℕ) (flow : Flow) (answer : Unit {0}) → flow.host ≤ ASSIGNED_LAST → (a : Account) ×
+      (account_of calls stream ≡ Some a)
       → Shown (Label stream flow) answer (after_label stream flow c)
   label_shows stream flow answer last (a, is) =
       let now : ℕ → Option Account = account_of (made (Label stream flow) answer ∷ calls) in
@@ -180,11 +187,13 @@ step_shows (Ring (Take queue)) around calls P asks shows = (tt, shows)
 step_shows (Ring (Read chain place n)) around calls P asks shows = (tt, λ id. by id (place == 0))
   where
     by : (id : ℕ) (b : Bool) → ShowsAt (stream_at id around.host)
-        (cond b (account_of calls id) (option_map (delivering (header_in calls) (answer_around (Ring (Read chain place n)) around).0) (account_of calls id)))
+        (cond b (account_of calls id) (option_map (delivering (header_in calls) (answer_around (Ring (Read chain place n)) around).0)
+        (account_of calls id)))
     by id true = shows id
     by id false =
         same_seen (delivering (header_in calls) (answer_around (Ring (Read chain place n)) around).0)
-        (delivers_same (header_in calls) (answer_around (Ring (Read chain place n)) around).0) (stream_at id around.host) (account_of calls id) (shows id)
+        (delivers_same (header_in calls) (answer_around (Ring (Read chain place n)) around).0) (stream_at id around.host)
+        (account_of calls id) (shows id)
 step_shows (Ring (Write chain place bytes)) around calls P asks shows = (tt, shows)
 step_shows (Ring (Return chain len)) around calls P asks shows = (tt, shows)
 step_shows (Ring (Given queue)) around calls P asks shows = (tt, shows)
@@ -193,7 +202,11 @@ step_shows (Ring (PublishCid cid)) around calls P asks shows =
 step_shows Accept around calls P asks shows = accept_shows around.host calls shows (accept_answer around.host) refl
 step_shows (Dial path flow) around calls P asks shows = dial_shows around.host calls shows path flow (dial_answer path around.host) refl
 step_shows (Label stream flow) around calls P asks shows = label_shows around.host calls shows stream flow tt asks.1 asks.0
-step_shows (ReadStream stream n) around calls P asks shows = (tt, read_shows around.host calls shows stream (read_answer stream n around.host))
+step_shows (ReadStream stream n) around calls P asks shows = (
+  tt,
+  read_shows around.host calls shows stream
+      (read_answer stream n around.host),
+)
 step_shows (WriteStream stream bytes) around calls P asks shows =
     write_shows around.host calls shows stream bytes (write_answer stream (length bytes) around.host) refl asks.0
 step_shows (ShutWrite stream) around calls P asks shows = (tt, shut_shows around.host calls shows stream)
@@ -204,7 +217,8 @@ pub record Ends {A : Type 0} (Q : A → List Made → Type 0) (r : A × Recorded
   pub kept : Q r.0 r.1.calls
   pub shows : Shows (account_of r.1.calls) r.1.around.host
 
-pub played_shows : {A : Type 0} (Q : A → List Made → Type 0) (tree : DeviceTree A) (around : Around) (calls : List Made) → Keeps Q tree calls
+pub played_shows : {A : Type 0} (Q : A → List Made → Type 0) (tree : DeviceTree A) (around : Around) (calls : List Made)
+    → Keeps Q tree calls
     → Shows (account_of calls) around.host → Ends Q (played recording tree (record { around = around; calls = calls }))
 played_shows Q (Done x) around calls keeps shows = record { kept = keeps; shows = shows }
 played_shows Q (Ask call next) around calls keeps shows =

@@ -8,7 +8,8 @@ use Rattle.vs_page.specs.Fair.{IsPrefixOf}
 use Rattle.vs_proxy_bytes.specs.Made.{Made, account_of}
 use Rattle.vs_proxy_bytes.specs.Tied.{ok_line_of}
 
--- The payloads delivered on the connection of a stream, joined: those of packets of its flow, read while it had its label and wasn't closed.
+-- The payloads delivered on the connection of a stream, joined: those of packets of its flow, read while it had its label and wasn't
+-- closed.
 abbrev pub delivered_to : ℕ → List Made → List ℕ
 delivered_to id calls = option_map_or (λ a. a.delivered) (account_of calls id) []
 
@@ -16,7 +17,8 @@ delivered_to id calls = option_map_or (λ a. a.delivered) (account_of calls id) 
 abbrev pub flow_of : ℕ → List Made → Option Flow
 flow_of id calls = option_and_then (λ a. a.label) (account_of calls id)
 
--- A stream without a label was given nothing. One with a label was given a prefix of its OK line, where a client made it, and these payloads.
+-- A stream without a label was given nothing. One with a label was given a prefix of its OK line, where a client made it, and these
+-- payloads.
 abbrev pub IsGivenOwn : Option Flow → Stream → List ℕ → Type 0
 IsGivenOwn None s delivered = s.given ≡ []
 IsGivenOwn (Some flow) s delivered = IsPrefixOf s.given (ok_line_of s.by_client flow ++ delivered)

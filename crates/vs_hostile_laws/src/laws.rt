@@ -16,9 +16,9 @@ ghost use Rattle.vs_hostile_laws.specs.Isolated.{IsIsolated, delivered_to};
 ghost use Rattle.vs_hostile_laws.specs.Recorded.{calls_of};
 ghost use Rattle.vs_hostile_laws.specs.Worked.{two_lines};
 
-/// After any lines of a hostile script each stream was given a prefix of its OK line and the payloads delivered on its own connection; at no time
-/// have two streams the connection of one flow; and the payload put on a flow is what was taken of the streams of that flow, each byte once and in
-/// order.
+/// After any lines of a hostile script each stream was given a prefix of its OK line and the payloads delivered on its own connection; at
+/// no time have two streams the connection of one flow; and the payload put on a flow is what was taken of the streams of that flow, each
+/// byte once and in order.
 pub fn law_of_isolation()
     ensures given { (lines : List Hostile) (id : ℕ) (s : Stream) → stream_at id (state_after lines beginning).host ≡ Some s
         → IsIsolated id s (calls_of lines beginning []) }

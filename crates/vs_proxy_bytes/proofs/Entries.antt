@@ -1,5 +1,6 @@
 -- Connections and handshakes with the accounts of their streams, through each change of them.
-use Rattle.std.proofs.Common.{◌≡◌, ◌≢◌, ℕ, ◌==◌, ◌&&◌, not, Bool, true, false, cond, List, [], ◌++◌, Contains, Option, Some, None, refl, sym, ap, subst, ◌∙◌, arith}
+use Rattle.std.proofs.Common.{◌≡◌, ◌≢◌, ℕ, ◌==◌, ◌&&◌, not, Bool, true, false, cond, List, [], ◌++◌, Contains, Option, Some, None, refl}
+use Rattle.std.proofs.Common.{sym, ap, subst, ◌∙◌, arith}
 use Rattle.std.specs.List.{All, AllPairs}
 use Rattle.std.specs.Option.{option_map, option_map_or, option_and_then, option_or}
 use Rattle.std.proofs.lemmas.Bool.Decides.{nat_tests}
@@ -49,11 +50,13 @@ stream_there None id is = absurd cc
 stream_there (Some d) id is = (d, refl, cc)
 
 -- A connection and the account of its stream.
-abbrev pub join_of : (at : ℕ → Option Account) (t : Table DeviceConnection) (hands : List Handshake) → AreTied at t hands → (e : DeviceEntry)
+abbrev pub join_of : (at : ℕ → Option Account) (t : Table DeviceConnection) (hands : List Handshake) → AreTied at t hands →
+    (e : DeviceEntry)
     → Contains t.entries e → IsTied at e
 join_of at t hands x e is = All-contains (IsTied at) t.entries e x.joined is
 
-module _ (at now : ℕ → Option Account) (t : Table DeviceConnection) (hands : List Handshake) (x : AreTied at t hands) (stream : ℕ) (new : Account)
+module _ (at now : ℕ → Option Account) (t : Table DeviceConnection) (hands : List Handshake) (x : AreTied at t hands) (stream : ℕ)
+    (new : Account)
     (ch : Changes at now stream new) where
   -- The others' accounts stay.
   entry_kept : (y : DeviceEntry) → y.value.stream ≢ stream → IsTied at y → IsTied now y
@@ -65,8 +68,10 @@ module _ (at now : ℕ → Option Account) (t : Table DeviceConnection) (hands :
   -- A stream that wasn't there before is none that is waited for.
   pub waiting_kept : at stream ≡ None → All (λ h. now h.stream ≡ Some (new_account None true)) hands
   waiting_kept none =
-      All-weaker (λ (h : Handshake). at h.stream ≡ Some (new_account None true)) (λ (h : Handshake). now h.stream ≡ Some (new_account None true))
-      (λ h was. hand_kept h (λ same. let both : None ≡ Some (new_account None true) = sym none ∙ ap at (sym same) ∙ was in absurd cc) was) hands x.waiting
+      All-weaker (λ (h : Handshake). at h.stream ≡ Some (new_account None true))
+      (λ (h : Handshake). now h.stream ≡ Some (new_account None true))
+      (λ h was. hand_kept h (λ same. let both : None ≡ Some (new_account None true) = sym none ∙ ap at (sym same)
+      ∙ was in absurd cc) was) hands x.waiting
 
   given_kept : IsGiven new.label new → (id : ℕ) (a : Account) → now id ≡ Some a → IsGiven a.label a
   given_kept here id a is = by (id == stream) refl
@@ -87,7 +92,8 @@ module _ (at now : ℕ → Option Account) (t : Table DeviceConnection) (hands :
       by true same =
           let place : id ≡ stream = grind (arith, nat_tests, same) in
           let one : new ≡ a = one_account now stream new a ch.here (ap now (sym place) ∙ is) in
-          here f (ap (λ (y : Account). y.label) one ∙ label) (ap (λ (y : Account). y.closed) one ∙ still) ∙ ap (λ (n : ℕ). Some n) (sym place)
+          here f (ap (λ (y : Account). y.label) one ∙ label) (ap (λ (y : Account). y.closed) one ∙ still) ∙ ap (λ (n : ℕ). Some n)
+          (sym place)
       by false other =
           let apart : id ≢ stream = grind (arith, nat_tests, other) in
           others id f apart (x.serves id a f (sym (ch.others id apart) ∙ is) label still)
@@ -97,7 +103,8 @@ module _ (at now : ℕ → Option Account) (t : Table DeviceConnection) (hands :
     entry_apart : (y : DeviceEntry) → IsTied at y → y.value.stream ≢ stream
     entry_apart y was same = no_label was.0 y.flow was.2.label (unlabelled was.0 (ap at (sym same) ∙ was.1))
 
-    pub hands_changed : (after : List Handshake) → new.label ≡ None → new.given ≡ [] → All (λ h. now h.stream ≡ Some (new_account None true)) after
+    pub hands_changed : (after : List Handshake) → new.label ≡ None → new.given ≡ [] → All
+        (λ h. now h.stream ≡ Some (new_account None true)) after
         → AllPairs (λ g h. g.stream ≢ h.stream) after → AreTied now t after
     hands_changed after none nothing waiting apart = record {
       table = x.table;
@@ -109,7 +116,8 @@ module _ (at now : ℕ → Option Account) (t : Table DeviceConnection) (hands :
     }
 
     -- A connection comes into the table.
-    module _ (flow : Flow) (c : DeviceConnection) (its : c.stream ≡ stream) (free : IsAccepted t flow) (tied : IsTiedTo new (next_entry t flow c)) where
+    module _ (flow : Flow) (c : DeviceConnection) (its : c.stream ≡ stream) (free : IsAccepted t flow)
+        (tied : IsTiedTo new (next_entry t flow c)) where
       served : (f : Flow) → new.label ≡ Some f → stream_of (with_entry t flow c) f ≡ Some stream
       served f label =
           let same : flow ≡ f = one_label new new flow f refl tied.label label in
@@ -152,7 +160,8 @@ module _ (t : Table DeviceConnection) (sound : IsTable t) (e : DeviceEntry) (is 
       sym (entry_of_found t f d sound found).under ∙ ap (λ (n : ℕ). entry_under t n) slot ∙ under_slot t sound e is in
       cc
 
-  pub stream_of-with_value : (c : DeviceConnection) → c.stream ≡ e.value.stream → (f : Flow) → stream_of (with_value t e.slot c) f ≡ stream_of t f
+  pub stream_of-with_value : (c : DeviceConnection) → c.stream ≡ e.value.stream → (f : Flow) → stream_of (with_value t e.slot c) f
+      ≡ stream_of t f
   stream_of-with_value c same f = ap stream_in (entry_of-with_value t e.slot c f) ∙ by (entry_of t f) refl
     where
       by : (o : Option DeviceEntry) → entry_of t f ≡ o → stream_in (option_map (revalued e.slot c) o) ≡ stream_in o
@@ -193,10 +202,12 @@ module _ (at now : ℕ → Option Account) (t : Table DeviceConnection) (hands :
       (ap (λ (a : Account). a.label) (one_account at e.value.stream joined.0 (new_account None true) joined.1 (ap at (sym same) ∙ was)))
 
   hands_kept : All (λ h. now h.stream ≡ Some (new_account None true)) hands
-  hands_kept = All-weaker (λ (h : Handshake). at h.stream ≡ Some (new_account None true)) (λ (h : Handshake). now h.stream ≡ Some (new_account None true))
+  hands_kept = All-weaker (λ (h : Handshake). at h.stream ≡ Some (new_account None true))
+      (λ (h : Handshake). now h.stream ≡ Some (new_account None true))
       (λ h was. hand_kept at now t hands x e.value.stream new ch h (hand_other h was) was) hands x.waiting
 
-  pub moved : (c : DeviceConnection) → c.stream ≡ e.value.stream → IsTiedTo new (record e { value = c }) → AreTied now (with_value t e.slot c) hands
+  pub moved : (c : DeviceConnection) → c.stream ≡ e.value.stream → IsTiedTo new (record e { value = c }) → AreTied now
+      (with_value t e.slot c) hands
   moved c same tied = record {
     table = with_value_sound t e.slot c x.table;
     joined = changed t x.table e is (IsTied at) (IsTied now) c x.joined (new, ap now same ∙ ch.here, tied)

@@ -1,5 +1,6 @@
 -- What one packet of the guest does, step by step.
-use Rattle.std.proofs.Common.{◌≡◌, ℕ, ◌-◌, ◌==◌, ◌&&◌, Bool, true, false, cond, List, [], ◌∷◌, ◌++◌, length, nat_le, nat_lt, Option, Some, None}
+use Rattle.std.proofs.Common.{◌≡◌, ℕ, ◌-◌, ◌==◌, ◌&&◌, Bool, true, false, cond, List, [], ◌∷◌, ◌++◌, length, nat_le, nat_lt, Option, Some}
+use Rattle.std.proofs.Common.{None}
 use Rattle.std.proofs.Common.{refl, sym, ap, subst, ◌∙◌, arith}
 use Rattle.std.specs.Option.{option_map}
 use Rattle.std.proofs.lemmas.Bool.Decides.{nat_tests}
@@ -35,7 +36,8 @@ use Rattle.vs_device.specs.Calls.{CloseStream, Dial, DeviceTree, Ring}
 use Rattle.vs_device.specs.Connections.{after_leaving, stream_closed, with_connection, with_reply}
 use Rattle.vs_device.specs.State.{DeviceEntry, DeviceState}
 use Rattle.vs_device.specs.Streams.{closing, leaving}
-use Rattle.vs_device.specs.Transmitting.{dial_answered, failing, heard, on_header, on_known, on_next, on_packet, on_unknown, refused, take_tx_of}
+use Rattle.vs_device.specs.Transmitting.{dial_answered, failing, heard, on_header, on_known, on_next, on_packet, on_unknown, refused}
+use Rattle.vs_device.specs.Transmitting.{take_tx_of}
 use Rattle.vs_device.specs.Transmitting.{try_request, unknown_why}
 use Rattle.vs_device.specs.declared.answers.Taken.{Taken}
 use Rattle.vs_device.specs.declared.answers.Taken.TheVariants as taken
@@ -45,7 +47,8 @@ use Rattle.vs_proxy_bytes.specs.Made.{Account, Made, MayGet, account_of, header_
 use Rattle.vs_proxy_bytes.proofs.Keeping.{Keeps, keeps_then, made}
 
 -- An end that refuses a packet owes RST.
-refusing : (e : DeviceEntry) (h : Header) (w : Why) → verdict_of e.value.end h ≡ verdict.Rst w → owes_of (heard h e.value).end ≡ Some owed.Rst
+refusing : (e : DeviceEntry) (h : Header) (w : Why) → verdict_of e.value.end h ≡ verdict.Rst w → owes_of (heard h e.value).end
+    ≡ Some owed.Rst
 refusing e h w is = ap (λ (v : Verdict). owes_of (after_op (op_named h.op) e.value.end h v)) is
 
 -- Closing a stream delivers nothing.
@@ -73,7 +76,8 @@ module _ (h : Header) (s : DeviceState) (calls : List Made) (kept : is_dropped D
         sym says ∙ ap (λ (x : DeviceEntry). verdict_of x.value.end h) same
 
     -- One that is neither refused nor delivered.
-    other_answer : (v : Verdict) (t : DeviceState) (later : List Made) → header_in later ≡ Some h → verdict_of e.value.end h ≡ v → ((w : Why) → v ≡ verdict.Rst w → ⊥)
+    other_answer : (v : Verdict) (t : DeviceState) (later : List Made) → header_in later ≡ Some h → verdict_of e.value.end h ≡ v →
+        ((w : Why) → v ≡ verdict.Rst w → ⊥)
         → ((v ≡ verdict.Deliver → ⊥) → (id : ℕ) → delivered_in (account_of later id) ≡ delivered_in (account_of calls id)) → Now v t later
     other_answer v t later got says never none = record {
       header = got;
@@ -84,7 +88,8 @@ module _ (h : Header) (s : DeviceState) (calls : List Made) (kept : is_dropped D
     }
 
     -- One that is refused.
-    refused_answer : (w : Why) (t : DeviceState) → verdict_of e.value.end h ≡ verdict.Rst w → t.table ≡ with_value s.table e.slot (heard h e.value)
+    refused_answer : (w : Why) (t : DeviceState) → verdict_of e.value.end h ≡ verdict.Rst w → t.table ≡ with_value s.table e.slot
+        (heard h e.value)
         → t.replies ≡ s.replies → Now (verdict.Rst w) t calls
     refused_answer w t says table replies = record {
       header = header;
@@ -100,7 +105,8 @@ module _ (h : Header) (s : DeviceState) (calls : List Made) (kept : is_dropped D
     known_answers : (v : Verdict) → verdict_of e.value.end h ≡ v → Keeps (Now v) (on_known v chain h e s) calls
     known_answers verdict.Accept says = other_answer verdict.Accept _ calls header says (λ w is. absurd cc) (λ no id. refl)
     known_answers verdict.Deliver says = λ payload fit.
-        other_answer verdict.Deliver _ (made (Ring (Read chain HEADER_LEN h.len)) payload ∷ calls) header says (λ w is. absurd cc) (λ no. absurd (no refl))
+        other_answer verdict.Deliver _ (made (Ring (Read chain HEADER_LEN h.len)) payload ∷ calls) header says (λ w is. absurd cc)
+        (λ no. absurd (no refl))
     known_answers verdict.Peer says = message (is_reset h)
       where
         left : DeviceEntry
@@ -117,7 +123,8 @@ module _ (h : Header) (s : DeviceState) (calls : List Made) (kept : is_dropped D
         message : (b : Bool) → Keeps (λ t later. IsAnswered h verdict.Peer s t calls later)
             (cond b (leaving (record e { value = heard h e.value }) s) (Done (with_connection e.slot (heard h e.value) s))) calls
         message true =
-            keeps_then (λ t later. IsAnswered h verdict.Peer s t calls later) (λ t later. IsAnswered h verdict.Peer s (after_leaving e.slot t) calls later)
+            keeps_then (λ t later. IsAnswered h verdict.Peer s t calls later)
+            (λ t later. IsAnswered h verdict.Peer s (after_leaving e.slot t) calls later)
             (closing (record e { value = heard h e.value }) stream_closed s) (λ t. Done (after_leaving e.slot t)) calls
             (closed_by e.value.closed) (λ t later is. is)
         message false = other_answer verdict.Peer _ calls header says (λ w is. absurd cc) (λ no id. refl)
@@ -140,7 +147,8 @@ module _ (h : Header) (s : DeviceState) (calls : List Made) (kept : is_dropped D
         → v ≡ verdict_of d.value.end h
     not_known v still d at = let both : None ≡ Some d = sym none ∙ at in absurd cc
 
-    reply_answer : (w : Why) (t : DeviceState) (later : List Made) → header_in later ≡ Some h → t.table ≡ s.table → t.replies ≡ s.replies ++ reply_to h ∷ []
+    reply_answer : (w : Why) (t : DeviceState) (later : List Made) → header_in later ≡ Some h → t.table ≡ s.table → t.replies
+        ≡ s.replies ++ reply_to h ∷ []
         → ((id : ℕ) → account_of later id ≡ account_of calls id) → IsAnswered h (verdict.Rst w) s t calls later
     reply_answer w t later got table replies same = record {
       header = got;
@@ -152,8 +160,10 @@ module _ (h : Header) (s : DeviceState) (calls : List Made) (kept : is_dropped D
 
     dial_answer_is : (path : List ℕ) (answer : Dialed) → MayGet (Dial path (flow_to_host h)) answer calls
         → Unknown (dial_answered h answer s) (made (Dial path (flow_to_host h)) answer ∷ calls)
-    dial_answer_is path dialed.Refused fit = reply_answer why.NotLive _ (made (Dial path (flow_to_host h)) dialed.Refused ∷ calls) header refl refl (λ id. refl)
-    dial_answer_is path dialed.Failed fit = reply_answer why.NotLive _ (made (Dial path (flow_to_host h)) dialed.Failed ∷ calls) header refl refl (λ id. refl)
+    dial_answer_is path dialed.Refused fit = reply_answer why.NotLive _
+        (made (Dial path (flow_to_host h)) dialed.Refused ∷ calls) header refl refl (λ id. refl)
+    dial_answer_is path dialed.Failed fit = reply_answer why.NotLive _
+        (made (Dial path (flow_to_host h)) dialed.Failed ∷ calls) header refl refl (λ id. refl)
     dial_answer_is path (dialed.Stream stream) fit = record {
       header = header;
       dropped = λ on. absurd (no_bool (is_dropped Device s.cid h) on kept);
@@ -163,7 +173,8 @@ module _ (h : Header) (s : DeviceState) (calls : List Made) (kept : is_dropped D
     }
       where
         by : (id : ℕ) (b : Bool) → (stream == id) ≡ b
-            → delivered_in (cond b (Some (new_account (Some (flow_to_host h)) false)) (account_of calls id)) ≡ delivered_in (account_of calls id)
+            → delivered_in (cond b (Some (new_account (Some (flow_to_host h)) false)) (account_of calls id)) ≡ delivered_in
+            (account_of calls id)
         by id false is = refl
         by id true is =
             let place : stream ≡ id = grind (arith, nat_tests, is) in
@@ -198,7 +209,8 @@ module _ (h : Header) (s : DeviceState) (calls : List Made) (kept : is_dropped D
 abbrev Answers : Header → DeviceState → List Made → DeviceState × Verdict → List Made → Type 0
 Answers h s calls x later = IsAnswered h x.1 s x.0 calls later
 
-packet_answers : (chain : Chain) (h : Header) (s : DeviceState) (calls : List Made) → header_in calls ≡ Some h → Keeps (Answers h s calls) (on_packet chain h s) calls
+packet_answers : (chain : Chain) (h : Header) (s : DeviceState) (calls : List Made) → header_in calls ≡ Some h → Keeps (Answers h s calls)
+    (on_packet chain h s) calls
 packet_answers chain h s calls header = by (is_dropped Device s.cid h) refl (entry_of s.table (flow_to_host h)) refl
   where
     known : DeviceEntry → DeviceTree (DeviceState × Verdict)
@@ -216,8 +228,10 @@ packet_answers chain h s calls header = by (is_dropped Device s.cid h) refl (ent
     }
     by false off None found = unknown_answers h s calls off header found
     by false off (Some e) found =
-        keeps_then (Answers h s calls) (λ t later. IsAnswered h (verdict_of e.value.end h) s t calls later) (on_known (verdict_of e.value.end h) chain h e s)
-        (λ t. Done (t, verdict_of e.value.end h)) calls (known_answers h s calls off header chain e found (verdict_of e.value.end h) refl) (λ t later kept. kept)
+        keeps_then (Answers h s calls) (λ t later. IsAnswered h (verdict_of e.value.end h) s t calls later)
+        (on_known (verdict_of e.value.end h) chain h e s)
+        (λ t. Done (t, verdict_of e.value.end h)) calls (known_answers h s calls off header chain e found (verdict_of e.value.end h) refl)
+        (λ t later kept. kept)
 
 -- The return of a chain, and what was read before, are nothing to a stream.
 returned_answer : (h : Header) (v : Verdict) (s t : DeviceState) (calls later : List Made) (chain : Chain) (a : Unit {0})
@@ -229,7 +243,8 @@ abbrev Judges : DeviceState → List Made → DeviceState × Taken → List Made
 Judges s calls x later = IsJudged x.1 s x.0 calls later
 
 -- No stream sees that a packet was taken, and its header read.
-since_answer : (h : Header) (v : Verdict) (s t : DeviceState) (calls mid later : List Made) → AreUnmoved calls mid → IsAnswered h v s t mid later
+since_answer : (h : Header) (v : Verdict) (s t : DeviceState) (calls mid later : List Made) → AreUnmoved calls mid
+    → IsAnswered h v s t mid later
     → IsAnswered h v s t calls later
 since_answer h v s t calls mid later same x = record {
   header = x.header;
@@ -249,7 +264,8 @@ header_judged chain h s first calls header same = by (nat_lt (chain.readable - H
     returned : DeviceState × Verdict → DeviceTree (DeviceState × Taken)
     returned r = Ask (Ring (Return chain 0)) (λ a. Done (r.0, taken.Packet r.1))
 
-    by : (b : Bool) → Keeps (Judges s first) (cond b (Done (failing fails s, taken.Failed fails)) (bind (on_packet chain h s) returned)) calls
+    by : (b : Bool) → Keeps (Judges s first) (cond b (Done (failing fails s, taken.Failed fails))
+        (bind (on_packet chain h s) returned)) calls
     by true = (refl, refl, same)
     by false =
         keeps_then (Judges s first) (Answers h s calls) (on_packet chain h s) returned calls (packet_answers chain h s calls header)
@@ -259,9 +275,11 @@ header_judged chain h s first calls header same = by (nat_lt (chain.readable - H
               (returned_answer h r.1 s r.0 calls later chain a kept),
         ))
 
-next_judged : (answer : Next) (s : DeviceState) (calls : List Made) → Keeps (Judges s calls) (on_next answer s) (made (Ring (Take Tx)) answer ∷ calls)
+next_judged : (answer : Next) (s : DeviceState) (calls : List Made) → Keeps (Judges s calls) (on_next answer s)
+    (made (Ring (Take Tx)) answer ∷ calls)
 next_judged (next.Chain chain) s calls = λ bytes fit.
-    header_judged chain (header_of bytes) s calls (made (Ring (Read chain 0 HEADER_LEN)) bytes ∷ made (Ring (Take Tx)) (next.Chain chain) ∷ calls) refl
+    header_judged chain (header_of bytes) s calls (made (Ring (Read chain 0 HEADER_LEN)) bytes ∷ made (Ring (Take Tx))
+    (next.Chain chain) ∷ calls) refl
     (λ id. refl)
 next_judged next.None s calls = (refl, λ id. refl)
 next_judged (next.Failed f) s calls = (refl, refl, λ id. refl)
@@ -273,7 +291,11 @@ take_tx_judged s calls = by s.failed refl (nat_le REPLIES (length s.replies))
     takes = Ask (Ring (Take Tx)) (λ answer. on_next answer s)
 
     by : (o : Option Failure) → s.failed ≡ o → (b : Bool)
-        → Keeps (Judges s calls) (elim o [ Some f ↦ Done (s, taken.Failed f) | None ↦ cond b (Done (s, taken.RepliesFull REPLIES)) takes ]) calls
+        → Keeps (Judges s calls) (elim o [
+          | Some f ↦ Done (s, taken.Failed f)
+          | None ↦ cond b
+              (Done (s, taken.RepliesFull REPLIES)) takes
+        ]) calls
     by (Some f) is b = (is, refl, λ id. refl)
     by None is true = (refl, refl)
     by None is false = λ answer fit. next_judged answer s calls

@@ -43,7 +43,8 @@ abbrev pub Answered : {A : Type 0} → (A → List Made → Type 0) → (call : 
 Answered Q call next calls = (a : Answer call) → MayGet call a calls → Keeps Q (next a) (made call a ∷ calls)
 
 module _ {A : Type 0} (Q : A → List Made → Type 0) where
-  pub keeps_answer : (call : Call) (next : Answer call → DeviceTree A) (calls : List Made) → Keeps Q (Ask call next) calls → Answered Q call next calls
+  pub keeps_answer : (call : Call) (next : Answer call → DeviceTree A) (calls : List Made) → Keeps Q (Ask call next) calls
+      → Answered Q call next calls
   keeps_answer call next calls keeps = asked_for call calls (Answered Q call next calls) keeps
 
   pub keeps_end : (p : DeviceTree A) (calls later : List Made) (x : A) → Keeps Q p calls → Leads Makes p calls x later → Q x later
@@ -69,12 +70,14 @@ module _ {A : Type 0} (P : A → List Made → Type 0) where
   by_last n step rest (y, true) calls kept = rest y calls kept
   by_last n step rest (y, false) calls kept = kept
 
-  pub keeps_while : (step : A → DeviceTree (A × Bool)) → ((x : A) (calls : List Made) → P x calls → Keeps (λ r later. P r.0 later) (step x) calls)
+  pub keeps_while : (step : A → DeviceTree (A × Bool)) → ((x : A) (calls : List Made) → P x calls → Keeps (λ r later. P r.0 later)
+      (step x) calls)
       → (n : ℕ) (x : A) (calls : List Made) → P x calls → Keeps P (while_up_to n step x) calls
   keeps_while step each zero x calls holds = holds
   keeps_while step each (suc n) x calls holds =
       let go : A × Bool → DeviceTree A = λ r. elim r.1 [ true ↦ while_up_to n step r.0 | false ↦ Done r.0 ] in
-      let rest : (y : A) (later : List Made) → P y later → Keeps P (while_up_to n step y) later = λ y later kept. keeps_while step each n y later kept in
+      let rest : (y : A) (later : List Made) → P y later → Keeps P
+      (while_up_to n step y) later = λ y later kept. keeps_while step each n y later kept in
       keeps_then P (λ r later. P r.0 later) (step x) go calls (each x calls holds) (by_last n step rest)
 
   pub keeps_each : {X : Type 0} (step : X → A → DeviceTree A) → ((i : X) (x : A) (calls : List Made) → P x calls → Keeps P (step i x) calls)

@@ -1,5 +1,6 @@
 -- A client's connection, and a transport reset.
-use Rattle.std.proofs.Common.{◌≡◌, ◌≢◌, ℕ, ◌^◌, ◌≤◌, ◌==◌, Bool, true, false, cond, List, [], ◌∷◌, Option, Some, None, Result, Ok, Err, refl, sym, ap, subst, ◌∙◌, arith}
+use Rattle.std.proofs.Common.{◌≡◌, ◌≢◌, ℕ, ◌^◌, ◌≤◌, ◌==◌, Bool, true, false, cond, List, [], ◌∷◌, Option, Some, None, Result, Ok, Err}
+use Rattle.std.proofs.Common.{refl, sym, ap, subst, ◌∙◌, arith}
 use Rattle.std.specs.List.{All, AllPairs}
 use Rattle.std.specs.Option.{option_map}
 use Rattle.std.proofs.lemmas.List.Elements.{All-push}
@@ -62,7 +63,8 @@ new_agrees room = record {
 }
 
 -- A handshake's stream has no label.
-pub waits_unlabelled : (at : ℕ → Option Account) (stream : ℕ) → at stream ≡ Some (new_account None true) → (a : Account) → at stream ≡ Some a → a.label ≡ None
+pub waits_unlabelled : (at : ℕ → Option Account) (stream : ℕ) → at stream ≡ Some (new_account None true) → (a : Account) → at stream
+    ≡ Some a → a.label ≡ None
 waits_unlabelled at stream waits a is = ap (λ (b : Account). b.label) (one_account at stream a (new_account None true) is waits)
 
 pub keeps_open : (hands after : List Handshake) (flow : Flow) (stream : ℕ) (s : DeviceState) (calls : List Made) → flow.host ≤ ASSIGNED_LAST
@@ -74,23 +76,27 @@ keeps_open hands after flow stream s calls last waits waiting others apart x = b
     asks : DeviceTree (DeviceState × Result ℕ TableFault)
     asks = Ask (Label stream flow) (λ a. Done (with_client flow stream s, Ok s.table.given))
 
-    opens : refusal s.table flow ≡ None → (answer : Unit {0}) → Has after (with_client flow stream s) (made (Label stream flow) answer ∷ calls)
+    opens : refusal s.table flow ≡ None → (answer : Unit {0}) → Has after (with_client flow stream s)
+        (made (Label stream flow) answer ∷ calls)
     opens none answer =
         let c : DeviceConnection = new_connection (asked BUF_ALLOC) stream true in
         let now : ℕ → Option Account = account_of (made (Label stream flow) answer ∷ calls) in
         let ch : Changes (account_of calls) now stream (labelled flow (new_account None true)) =
         changes (labelled flow) stream (account_of calls) (new_account None true) waits in record {
           tied = added (account_of calls) now s.table hands x.tied stream (labelled flow (new_account None true)) ch
-              (waits_unlabelled (account_of calls) stream waits) flow c refl (accepted s.table flow none) (client_tie s.table flow stream) after
+              (waits_unlabelled (account_of calls) stream waits) flow c refl (accepted s.table flow none)
+              (client_tie s.table flow stream) after
               (λ i d within. ch.others _ (others i d within) ∙ waiting i d within) apart;
           over = All-push IsOver s.table.entries (next_entry s.table flow c) x.over (λ closed. absurd cc);
           carried = x.carried;
         }
 
-    by : (o : Option TableFault) → refusal s.table flow ≡ o → Keeps (λ x later. Has after x.0 later) (elim o [ Some fault ↦ Done (s, Err fault) | None ↦ asks ]) calls
+    by : (o : Option TableFault) → refusal s.table flow ≡ o → Keeps (λ x later. Has after x.0 later)
+        (elim o [ Some fault ↦ Done (s, Err fault) | None ↦ asks ]) calls
     by (Some fault) is = record {
       tied = hands_changed (account_of calls) (account_of calls) s.table hands x.tied stream (new_account None true)
-          (stays (account_of calls) stream (new_account None true) waits) (waits_unlabelled (account_of calls) stream waits) after refl refl waiting apart;
+          (stays (account_of calls) stream (new_account None true) waits)
+          (waits_unlabelled (account_of calls) stream waits) after refl refl waiting apart;
       over = x.over;
       carried = x.carried;
     }
@@ -106,12 +112,14 @@ there_before : (o : Option Account) (a : Account) → option_map shut o ≡ Some
 there_before None a is = absurd cc
 there_before (Some b) a is = (b, refl, cc)
 
-given_after : (o : Option Account) → ((b : Account) → o ≡ Some b → IsGiven b.label b) → (a : Account) → option_map shut o ≡ Some a → IsGiven a.label a
+given_after : (o : Option Account) → ((b : Account) → o ≡ Some b → IsGiven b.label b) → (a : Account) → option_map shut o ≡ Some a
+    → IsGiven a.label a
 given_after o given a is =
     let b = there_before o a is in
     subst (λ (y : Account). IsGiven y.label y) b.2 (given_shut b.0.label b.0 (given b.0 b.1))
 
-closed_given : (at : ℕ → Option Account) (stream : ℕ) → ((id : ℕ) (a : Account) → at id ≡ Some a → IsGiven a.label a) → (id : ℕ) (a : Account)
+closed_given : (at : ℕ → Option Account) (stream : ℕ) → ((id : ℕ) (a : Account) → at id ≡ Some a → IsGiven a.label a) → (id : ℕ)
+    (a : Account)
     → changing shut stream at id ≡ Some a → IsGiven a.label a
 closed_given at stream given id a is = by (stream == id) is
   where
@@ -144,7 +152,8 @@ pub record AreReset (at : ℕ → Option Account) (put taken : Flow → List ℕ
   pub none : t.entries ≡ []
   pub closed : (id : ℕ) (a : Account) → at id ≡ Some a → a.closed ≡ true
 
-pub reset_agrees : (at : ℕ → Option Account) (put taken : Flow → List ℕ) (t : Table DeviceConnection) → AreReset at put taken t → Agree at put taken t []
+pub reset_agrees : (at : ℕ → Option Account) (put taken : Flow → List ℕ) (t : Table DeviceConnection) → AreReset at put taken t
+    → Agree at put taken t []
 reset_agrees at put taken t x = record {
   tied = record {
     table = x.closing.table;
@@ -178,7 +187,8 @@ abbrev pub ResetEnds : List Handshake → DeviceState × Result (Unit {0}) Failu
 ResetEnds hands (s, Ok y) calls = AreReset (account_of calls) (payload_put calls) (payload_taken calls) s.table
 ResetEnds hands (s, Err f) calls = Has hands s calls
 
-pub keeps_reset : (hands : List Handshake) (cid : ℕ) (s : DeviceState) (calls : List Made) → Has hands s calls → Keeps (ResetEnds hands) (reset_of cid s) calls
+pub keeps_reset : (hands : List Handshake) (cid : ℕ) (s : DeviceState) (calls : List Made) → Has hands s calls → Keeps (ResetEnds hands)
+    (reset_of cid s) calls
 keeps_reset hands cid s calls x = by s.failed
   where
     ends : DeviceState → DeviceTree (DeviceState × Result (Unit {0}) Failure)
@@ -196,9 +206,11 @@ keeps_reset hands cid s calls x = by s.failed
       closed = λ id a is. let b = there_before (account_of later id) a is in ap (λ (y : Account). y.closed) (sym b.2);
     }
 
-    by : (o : Option Failure) → Keeps (ResetEnds hands) (elim o [ Some f ↦ Done (s, Err f) | None ↦ bind (for_each close_slot (slots s.table) s) ends ]) calls
+    by : (o : Option Failure) → Keeps (ResetEnds hands)
+        (elim o [ Some f ↦ Done (s, Err f) | None ↦ bind (for_each close_slot (slots s.table) s) ends ]) calls
     by (Some f) = x
     by None =
         keeps_then (ResetEnds hands) Closing (for_each close_slot (slots s.table) s) ends calls
-        (keeps_each Closing close_slot keeps_close_slot (slots s.table) s calls (record { table = x.tied.table; given = x.tied.given; carried = x.carried }))
+        (keeps_each Closing close_slot keeps_close_slot (slots s.table) s calls
+        (record { table = x.tied.table; given = x.tied.given; carried = x.carried }))
         (λ t later kept. λ answer fit. emptied_now t later kept answer)

@@ -1,5 +1,6 @@
 -- Handshakes: their clients' streams are given nothing before they have a connection.
-use Rattle.std.proofs.Common.{◌≡◌, ◌≢◌, ℕ, ◌+◌, ◌≤◌, ◌&&◌, nat_le, ◌==◌, Bool, true, false, cond, List, [], ◌∷◌, ◌++◌, length, nat_lt, Option, Some, None, refl, sym, ap, ◌∙◌, arith}
+use Rattle.std.proofs.Common.{◌≡◌, ◌≢◌, ℕ, ◌+◌, ◌≤◌, ◌&&◌, nat_le, ◌==◌, Bool, true, false, cond, List, [], ◌∷◌, ◌++◌, length, nat_lt}
+use Rattle.std.proofs.Common.{Option, Some, None, refl, sym, ap, ◌∙◌, arith}
 use Rattle.std.specs.List.{All, AllPairs}
 use Rattle.std.proofs.lemmas.List.Elements.{All-push}
 use Rattle.std.proofs.lemmas.List.Quantifiers.{all_pairs_push}
@@ -56,7 +57,8 @@ pub record WaitsOn (stream : ℕ) (s : ProxyState) (calls : List Made) (h : Hand
   pub is : h.stream ≡ stream
   pub waits : account_of calls stream ≡ Some (new_account None true)
 
-waits_on : (stream : ℕ) (s : ProxyState) (calls : List Made) (h : Handshake) → handshake_on stream s ≡ Some h → AccountsFor s calls → WaitsOn stream s calls h
+waits_on : (stream : ℕ) (s : ProxyState) (calls : List Made) (h : Handshake) → handshake_on stream s ≡ Some h → AccountsFor s calls
+    → WaitsOn stream s calls h
 waits_on stream s calls h found x =
     let at = find_place (λ (y : Handshake). y.stream == stream) s.handshakes h found in
     let passes = found_passes (λ (y : Handshake). y.stream == stream) s.handshakes h found in
@@ -68,7 +70,8 @@ waits_on stream s calls h found x =
     }
 
 -- A handshake ends.
-module _ (stream : ℕ) (t : Turning) (calls : List Made) (waits : account_of calls stream ≡ Some (new_account None true)) (x : Turns t calls) where
+module _ (stream : ℕ) (t : Turning) (calls : List Made) (waits : account_of calls stream ≡ Some (new_account None true))
+    (x : Turns t calls) where
   abbrev hs : List Handshake
   hs = t.state.handshakes
 
@@ -84,7 +87,8 @@ module _ (stream : ℕ) (t : Turning) (calls : List Made) (waits : account_of ca
   pub keeps_dropping : Keeps Turns (dropping stream t) calls
   keeps_dropping answer fit =
       let now : ℕ → Option Account = account_of (made (CloseStream stream) answer ∷ calls) in
-      let ch : Changes (account_of calls) now stream (shut (new_account None true)) = changes shut stream (account_of calls) (new_account None true) waits in record {
+      let ch : Changes (account_of calls) now stream (shut (new_account None true)) = changes shut stream (account_of calls)
+      (new_account None true) waits in record {
         tied = hands_changed (account_of calls) now t.state.device.table hs x.tied stream (shut (new_account None true)) ch
             (waits_unlabelled (account_of calls) stream waits) (without_stream stream hs) refl refl
             (λ i d within. ch.others _ (rest_other i d within) ∙ rest_waits i d within) rest_apart;
@@ -97,14 +101,18 @@ module _ (stream : ℕ) (t : Turning) (calls : List Made) (waits : account_of ca
   keeps_opening port last =
       let flow : Flow = record { guest = port; host = t.state.next_port } in
       keeps_then Turns (λ r later. Has (without_stream stream hs) r.0 later) (open_of flow stream t.state.device)
-      (λ r. Done (record t { state = record (with_device r.0 (without_handshake stream t.state)) { next_port = t.state.next_port + 1 } })) calls
+      (λ r. Done (record t {
+        state = record (with_device r.0
+            (without_handshake stream t.state)) { next_port = t.state.next_port + 1 };
+      })) calls
       (keeps_open hs (without_stream stream hs) flow stream t.state.device calls last waits rest_waits rest_other rest_apart x)
       (λ r later kept. kept)
 
   -- Its line is whole, or bad, or goes on.
   keeps_line_decided : (s : Step) → Keeps TurnsFirst (line_decided stream s t) calls
   keeps_line_decided step.More = x
-  keeps_line_decided step.Bad = keeps_then TurnsFirst Turns (dropping stream t) (λ u. Done (u, false)) calls keeps_dropping (λ u later kept. kept)
+  keeps_line_decided step.Bad = keeps_then TurnsFirst Turns (dropping stream t) (λ u. Done (u, false)) calls keeps_dropping
+      (λ u later kept. kept)
   keeps_line_decided (step.Port port) =
       keeps_then TurnsFirst Turns (if_open (may_open t.state) port) (λ u. Done (u, false)) calls (by port (may_open t.state) refl)
       (λ u later kept. kept)
@@ -140,7 +148,8 @@ keeps_answered (accepted.Stream stream) t calls x fit =
     let at : ℕ → Option Account = account_of calls in
     let now : ℕ → Option Account = account_of (made Accept (accepted.Stream stream) ∷ calls) in
     let ch : Changes (account_of calls) now stream (new_account None true) = comes (new_account None true) stream (account_of calls) in
-    let kept = waiting_kept (account_of calls) now t.state.device.table t.state.handshakes x.tied stream (new_account None true) ch fit in record {
+    let kept = waiting_kept (account_of calls) now t.state.device.table t.state.handshakes x.tied stream
+    (new_account None true) ch fit in record {
       tied = hands_changed (account_of calls) now t.state.device.table t.state.handshakes x.tied stream (new_account None true) ch
           (λ a is. let both : None ≡ Some a = sym fit ∙ is in absurd cc) (t.state.handshakes ++ h ∷ []) refl refl
           (All-push (λ (g : Handshake). now g.stream ≡ Some (new_account None true)) t.state.handshakes h kept ch.here)
@@ -169,7 +178,8 @@ line_agrees stream line t calls x = record {
     table = x.tied.table;
     joined = x.tied.joined;
     waiting = with_all (λ (h : Handshake). account_of calls h.stream ≡ Some (new_account None true))
-        (λ (h : Handshake). account_of calls h.stream ≡ Some (new_account None true)) stream line t.state.handshakes x.tied.apart x.tied.waiting
+        (λ (h : Handshake). account_of calls h.stream ≡ Some
+        (new_account None true)) stream line t.state.handshakes x.tied.apart x.tied.waiting
         (λ h same was. was) (λ h other was. was);
     apart = with_apart stream line t.state.handshakes x.tied.apart;
     given = x.tied.given;
@@ -179,7 +189,8 @@ line_agrees stream line t calls x = record {
   carried = x.carried;
 }
 
-module _ (h : Handshake) (t : Turning) (calls : List Made) (waits : account_of calls h.stream ≡ Some (new_account None true)) (x : Turns t calls) where
+module _ (h : Handshake) (t : Turning) (calls : List Made) (waits : account_of calls h.stream ≡ Some (new_account None true))
+    (x : Turns t calls) where
   keeps_byte_read : (answer : StreamRead) (bytes : List ℕ) → Keeps TurnsFirst (byte_read h answer bytes t) calls
   keeps_byte_read (read.Got n) bytes =
       let line : List ℕ = h.line ++ bytes in
@@ -187,7 +198,8 @@ module _ (h : Handshake) (t : Turning) (calls : List Made) (waits : account_of c
       keeps_line_decided h.stream u calls waits (line_agrees h.stream line t calls x) (connect_step line)
   keeps_byte_read read.Again bytes = x
   keeps_byte_read read.End bytes =
-      keeps_then TurnsFirst Turns (dropping h.stream t) (λ u. Done (u, false)) calls (keeps_dropping h.stream t calls waits x) (λ u later kept. kept)
+      keeps_then TurnsFirst Turns (dropping h.stream t) (λ u. Done (u, false)) calls (keeps_dropping h.stream t calls waits x)
+      (λ u later kept. kept)
   keeps_byte_read read.Failed bytes =
       keeps_then TurnsFirst Turns (dropping h.stream (host_fault t)) (λ u. Done (u, false)) calls
       (keeps_dropping h.stream (host_fault t) calls waits x) (λ u later kept. kept)

@@ -38,7 +38,8 @@ pub record IsAnswered (h : Header) (v : Verdict) (s t : DeviceState) (calls late
   -- One from another CID or to another is counted, and that is all.
   pub dropped : is_dropped Device s.cid h ≡ true → (t ≡ record s { dropped = counted s.dropped }) × AreUnmoved calls later
   -- Of another one the verdict is that of its connection's end, where its flow has one.
-  pub known : is_dropped Device s.cid h ≡ false → (e : DeviceEntry) → entry_of s.table (flow_to_host h) ≡ Some e → v ≡ verdict_of e.value.end h
+  pub known : is_dropped Device s.cid h ≡ false → (e : DeviceEntry) → entry_of s.table (flow_to_host h) ≡ Some e → v
+      ≡ verdict_of e.value.end h
   pub refused : (why : Why) → v ≡ verdict.Rst why → OwesReset (entry_of s.table (flow_to_host h)) h s t × AreUnmoved calls later
   -- Only a packet with the verdict Deliver is delivered to a stream.
   pub delivered : (v ≡ verdict.Deliver → ⊥) → (id : ℕ) → delivered_in (account_of later id) ≡ delivered_in (account_of calls id)

@@ -1,6 +1,7 @@
--- The calls that a proxy made on its ring and on its host with the answers that it got, newest first; and what they say of each stream of the
--- host: the account of that stream.
-use Rattle.std.specs.Prelude.{◌≡◌, ℕ, ◌≤◌, ◌==◌, ◌&&◌, not, Bool, true, false, if◌then◌else◌, List, [], ◌∷◌, ◌++◌, length, take, drop, bytes_eq, Option, Some, None}
+-- The calls that a proxy made on its ring and on its host with the answers that it got, newest first; and what they say of each stream
+-- of the host: the account of that stream.
+use Rattle.std.specs.Prelude.{◌≡◌, ℕ, ◌≤◌, ◌==◌, ◌&&◌, not, Bool, true, false, if◌then◌else◌, List, [], ◌∷◌, ◌++◌, length, take, drop}
+use Rattle.std.specs.Prelude.{bytes_eq, Option, Some, None}
 use Rattle.std.specs.Option.{option_map, option_map_or}
 use Rattle.byteorder.specs.Endian.{little_bytes}
 use Rattle.vs_flow.specs.Flow.{same_flow}
@@ -19,8 +20,8 @@ pub record Made : Type 0 where
   pub call : Call
   pub answer : Answer call
 
--- Of one stream: the flow that it is labelled with, whether a client of the host made it, whether the proxy closed it or the transport was reset;
--- the bytes that it was given; and the payloads delivered on its connection.
+-- Of one stream: the flow that it is labelled with, whether a client of the host made it, whether the proxy closed it or the transport
+-- was reset; the bytes that it was given; and the payloads delivered on its connection.
 pub record Account : Type 0 where
   pub label : Option Flow
   pub by_client : Bool
@@ -62,8 +63,8 @@ abbrev pub delivering : Option Header → List ℕ → Account → Account
 delivering None payload a = a
 delivering (Some h) payload a = with_delivery (flow_to_host h) payload a
 
--- What one more call says of the stream of an id, where the packet got last has this header. There is no account before an accept or a dial gave
--- the stream.
+-- What one more call says of the stream of an id, where the packet got last has this header. There is no account before an accept or a
+-- dial gave the stream.
 abbrev pub accounted : (call : Call) → Answer call → Option Header → ℕ → Option Account → Option Account
 accounted Accept (accepted.Stream stream) h id a = if stream == id then Some (new_account None true) else a
 accounted (Dial path flow) (dialed.Stream stream) h id a = if stream == id then Some (new_account (Some flow) false) else a

@@ -17,7 +17,8 @@ use Rattle.vs_proxy_bytes.specs.Made.{Account, Made, account_of, new_account, pa
 abbrev pub ok_line_of : Bool → Flow → List ℕ
 ok_line_of by_client flow = if by_client then ok_text flow.host else []
 
--- A stream is given its OK line, and then the payloads delivered on its own connection: a prefix of them all. Without a label it is given nothing.
+-- A stream is given its OK line, and then the payloads delivered on its own connection: a prefix of them all. Without a label it is given
+-- nothing.
 abbrev pub IsGiven : Option Flow → Account → Type 0
 IsGiven None a = a.given ≡ []
 IsGiven (Some flow) a = IsPrefixOf a.given (ok_line_of a.by_client flow ++ a.delivered)
@@ -26,7 +27,8 @@ IsGiven (Some flow) a = IsPrefixOf a.given (ok_line_of a.by_client flow ++ a.del
 abbrev pub gives_all : DeviceConnection → Bool
 gives_all c = not c.closed && gives c.end
 
--- A connection and the account of its stream: what the stream was given and what is held are what came, all of it while the stream is given all.
+-- A connection and the account of its stream: what the stream was given and what is held are what came, all of it while the stream is given
+-- all.
 pub record IsTiedTo (a : Account) (e : DeviceEntry) : Type 0 where
   pub label : a.label ≡ Some e.flow
   pub client : a.by_client ≡ e.value.by_client
@@ -41,8 +43,8 @@ IsTied at e = (a : Account) × (at e.value.stream ≡ Some a) × IsTiedTo a e
 abbrev pub stream_of : Table DeviceConnection → Flow → Option ℕ
 stream_of t flow = option_map (λ e. e.value.stream) (entry_of t flow)
 
--- Each connection is tied to its stream, each handshake has a client's stream of its own that has no label yet; a stream with a label that isn't
--- closed is that of the connection of its flow.
+-- Each connection is tied to its stream, each handshake has a client's stream of its own that has no label yet; a stream with a label
+-- that isn't closed is that of the connection of its flow.
 pub record AreTied (at : ℕ → Option Account) (t : Table DeviceConnection) (hands : List Handshake) : Type 0 where
   pub table : IsTable t
   pub joined : All (IsTied at) t.entries

@@ -1,5 +1,5 @@
 use Rattle.vs_proxy_bytes.specs.Made.{account_of}
-use Rattle.vs_proxy_bytes.proofs.Entries.{streams_apart}
+use Rattle.vs_proxy_bytes.proofs.Entries.{join_of, streams_apart}
 use Rattle.vs_proxy_bytes.proofs.laws.law_of_streams.Goals as goal
 
 pub returns-clause-given : goal.returns-clause-given
@@ -11,3 +11,6 @@ returns-clause-apart c = λ s calls i j a b flow holds is also on same.
 
 pub returns-clause-put : goal.returns-clause-put
 returns-clause-put c = λ s calls flow holds. holds.carried flow
+
+pub returns-clause-held : goal.returns-clause-held
+returns-clause-held c = λ s calls e holds is. join_of (account_of calls) s.device.table s.handshakes holds.tied e is
