@@ -10,10 +10,10 @@ use Rattle.vs_outside.specs.HostProgram.{after_client, after_host_write, allowed
 use Rattle.vs_outside.specs.HostProgram.{with_bytes}
 use Rattle.vs_outside.specs.declared.mem_stream.HostWritten.{HostWritten}
 use Rattle.vs_outside.specs.declared.mem_stream.HostWritten.TheVariants as written
-use Rattle.vs_outside.specs.HostBytes.{after_line, read_after_ok}
+use Rattle.vs_outside.specs.HostBytes.{after_line, read_after_ok, wrote_after_connect}
 use Rattle.vs_page.specs.Fair.{IsPrefixOf}
 use Rattle.vs_pipes.specs.Streamed.{has_line}
-use Rattle.vs_pipes.proofs.Lines.{after_front}
+use Rattle.vs_pipes.proofs.Lines.{after_front, after_longer}
 use Rattle.vs_uds.proofs.Leading.{has_lf-digits}
 use Rattle.vs_uds.proofs.Ports.{WritesPort-decimal}
 use Rattle.vs_ring_plain.specs.Device.{DeviceState}
@@ -25,12 +25,12 @@ use Rattle.vs_hostile.specs.Run.{host_does, hostile_does, line_in, outside_does}
 use Rattle.vs_hostile.specs.Run.{WasReset, over, over_rings}
 use Rattle.vs_hostile_laws.specs.Isolated.{IsGivenOwn, IsIsolated, delivered_to}
 use Rattle.vs_hostile_laws.specs.Recorded.{calls_of, made_in, made_over, outside_made, recorded}
-use Rattle.vs_hostile_laws.proofs.Shown.{Shows, ShowsAt, ShowsIn, new_shows, none_there, unseen_shows}
+use Rattle.vs_hostile_laws.proofs.Shown.{IsRead, Shows, ShowsAt, ShowsIn, new_shows, none_there, unseen_shows}
 use Rattle.vs_hostile_laws.proofs.Steps.{played_same, played_shows}
 use Rattle.vs_proxy.specs.State.{ProxyState}
 use Rattle.vs_proxy.specs.Turns.{proxy_reset_of, turn_of}
 use Rattle.vs_proxy_bytes.specs.Made.{Account, Made, account_of}
-use Rattle.vs_proxy_bytes.specs.Tied.{AccountsFor, IsGiven, ok_line_of}
+use Rattle.vs_proxy_bytes.specs.Tied.{AccountsFor, IsGiven, IsWhole, ok_line_of}
 use Rattle.vs_proxy_bytes.proofs.Keeping.{Keeps}
 use Rattle.vs_proxy_bytes.proofs.Opening.{new_agrees}
 use Rattle.vs_proxy_bytes.proofs.Turning.{keeps_proxy_reset, keeps_turn}
@@ -48,18 +48,19 @@ pub record Holds (s : HostileState) (calls : List Made) : Type 0 where
 
 -- What the host's programs do.
 changed : (at : ℕ → Option Account) (h : HostContents) (stream : ℕ) (f : Stream → Stream) → Shows at h
-    → ((st : Stream) → ((f st).state ≡ st.state) × ((f st).by_client ≡ st.by_client) × ((f st).label ≡ st.label) ×
-    ((f st).given ≡ st.given))
+    → ((st : Stream) → ((f st).state ≡ st.state) × ((f st).by_client ≡ st.by_client) × ((f st).label ≡ st.label)
+    × ((f st).given ≡ st.given) × ((f st).taken ≡ st.taken))
     → Shows at (with_stream stream f h)
 changed at h stream f shows same = unseen_shows stream f h at shows (λ st o in_it. by st o in_it)
   where
     by : (st : Stream) (o : Option Account) → ShowsIn st o → ShowsIn (f st) o
-    by st None in_it = let s = same st in (s.1 ∙ in_it.0, s.2 ∙ in_it.1, s.3 ∙ in_it.2)
-    by st (Some a) in_it = let s = same st in (ap waits s.0 ∙ in_it.0, s.1 ∙ in_it.1, s.2 ∙ in_it.2, s.3 ∙ in_it.3, in_it.4)
+    by st None in_it = let s = same st in (s.1 ∙ in_it.0, s.2 ∙ in_it.1, s.3 ∙ in_it.2, s.4 ∙ in_it.3)
+    by st (Some a) in_it = let s = same st in (ap waits s.0 ∙ in_it.0, s.1 ∙ in_it.1, s.2 ∙ in_it.2, s.3 ∙ in_it.3, in_it.4, s.4
+        ∙ in_it.5, in_it.6)
 
 written_shows : (at : ℕ → Option Account) (h : HostContents) (stream : ℕ) (bytes : List ℕ) (a : HostWritten) → Shows at h
     → Shows at (after_host_write stream bytes a h)
-written_shows at h stream bytes written.Ok shows = changed at h stream (with_bytes bytes) shows (λ st. (refl, refl, refl, refl))
+written_shows at h stream bytes written.Ok shows = changed at h stream (with_bytes bytes) shows (λ st. (refl, refl, refl, refl, refl))
 written_shows at h stream bytes written.Ended shows = shows
 written_shows at h stream bytes written.NoStream shows = shows
 
@@ -67,16 +68,17 @@ host_shows : (at : ℕ → Option Account) (line : Host) (h : HostContents) → 
 host_shows at (HostListen port) h shows = shows
 host_shows at (HostUnlisten port) h shows = shows
 host_shows at (HostWrite stream content) h shows = written_shows at h stream (bytes_of content) (host_write_answer stream h) shows
-host_shows at (HostAllow stream n) h shows = changed at h stream (allowed 18446744073709551615 n) shows (λ st. (refl, refl, refl, refl))
-host_shows at (HostEnd stream) h shows = changed at h stream ended shows (λ st. (refl, refl, refl, refl))
-host_shows at (HostClosed stream) h shows = changed at h stream closed shows (λ st. (refl, refl, refl, refl))
+host_shows at (HostAllow stream n) h shows = changed at h stream (allowed 18446744073709551615 n) shows
+    (λ st. (refl, refl, refl, refl, refl))
+host_shows at (HostEnd stream) h shows = changed at h stream ended shows (λ st. (refl, refl, refl, refl, refl))
+host_shows at (HostClosed stream) h shows = changed at h stream closed shows (λ st. (refl, refl, refl, refl, refl))
 host_shows at (HostFail n) h shows = shows
 
 client_shows : (at : ℕ → Option Account) (h : HostContents) → Shows at h → Shows at (after_client h)
 client_shows at h shows =
     let none : at (length h.streams + 1) ≡ None =
     subst (λ (o : Option Stream). ShowsAt o (at (length h.streams + 1))) (none_there client_stream h) (shows (length h.streams + 1)) in
-    new_shows client_stream h at at shows (subst (ShowsIn client_stream) (sym none) (refl, refl, refl)) (λ id other. refl)
+    new_shows client_stream h at at shows (subst (ShowsIn client_stream) (sym none) (refl, refl, refl, refl)) (λ id other. refl)
 
 -- A conversation of the proxy.
 over_holds : {A : Type 0} (tree : DeviceTree (ProxyState × A)) (said : A → Said) (ring : DeviceState) (s : HostileState) (calls : List Made)
@@ -212,6 +214,19 @@ own_given (Some flow) st a client same front =
     subst (λ (bytes : List ℕ). IsPrefixOf bytes (ok_line_of st.by_client flow ++ a.delivered)) (sym same)
     (subst (λ (b : Bool). IsPrefixOf a.given (ok_line_of b flow ++ a.delivered)) (sym client) front)
 
+-- What its program wrote behind the CONNECT line is what was taken since its stream has a label.
+wrote_own : (flow : Flow) (st : Stream) (a : Account) → a.label ≡ Some flow → ShowsIn st (Some a) → wrote_after_connect st ≡ a.taken
+wrote_own flow st a label in_it = by st.by_client refl
+  where
+    was : IsRead (Some flow) a
+    was = subst (λ (o : Option Flow). IsRead o a) label in_it.6
+
+    by : (b : Bool) → st.by_client ≡ b → cond st.by_client (after_line st.taken) st.taken ≡ a.taken
+    by true is =
+        let whole : IsWhole a.line = was.0 (sym in_it.1 ∙ is) in
+        rw is (ap after_line in_it.5 ∙ after_longer a.line a.taken whole.0 ∙ ap (λ (bytes : List ℕ). bytes ++ a.taken) whole.1)
+    by false is = rw is (in_it.5 ∙ ap (λ (bytes : List ℕ). bytes ++ a.taken) (was.1 (sym in_it.1 ∙ is)))
+
 shown_isolated : (id : ℕ) (st : Stream) (calls : List Made) (given : (a : Account) → account_of calls id ≡ Some a → IsGiven a.label a)
     → ShowsIn st (account_of calls id) → IsIsolated id st calls
 shown_isolated id st calls given shows = by (account_of calls id) refl shows
@@ -224,6 +239,7 @@ shown_isolated id st calls given shows = by (account_of calls id) refl shows
           given = own;
           read = read_front st.label st (delivered_to id calls)
               (λ flow client label. let both : None ≡ Some flow = sym in_it.1 ∙ label in absurd cc) own;
+          wrote = λ flow label. let both : None ≡ Some flow = sym in_it.1 ∙ label in absurd cc;
         }
     by (Some a) is in_it =
         let own : IsGivenOwn st.label st (delivered_to id calls) =
@@ -235,6 +251,8 @@ shown_isolated id st calls given shows = by (account_of calls id) refl shows
           given = own;
           read = read_front st.label st (delivered_to id calls) (λ flow client label. in_it.4 flow (sym in_it.1 ∙ client) (sym in_it.2
               ∙ label)) own;
+          wrote = λ flow label. wrote_own flow st a (sym in_it.2 ∙ label) in_it
+              ∙ ap (λ (o : Option Account). option_map_or (λ a. a.taken) o []) (sym is);
         }
 
 pub run_isolated : (lines : List Hostile) (id : ℕ) (st : Stream) → stream_at id (state_after lines beginning).host ≡ Some st

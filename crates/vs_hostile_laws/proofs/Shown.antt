@@ -12,6 +12,7 @@ use Rattle.vs_outside.specs.Host.{stream_at}
 use Rattle.vs_outside.specs.Host.{waits, with_stream}
 use Rattle.vs_outside.proofs.Frames.{keeps_others, stream_at-with_stream}
 use Rattle.vs_page.specs.Log.{flow_to_host}
+use Rattle.vs_proxy_bytes.specs.Tied.{IsWhole}
 use Rattle.vs_proxy_bytes.specs.Made.{Account, delivering, is_on}
 
 -- A stream that the proxy wasn't given yet is a client's, and was given nothing; another one is what its account says.
@@ -19,9 +20,22 @@ use Rattle.vs_proxy_bytes.specs.Made.{Account, delivering, is_on}
 abbrev pub IsPorted : Account → Type 0
 IsPorted a = (flow : Flow) → a.by_client ≡ true → a.label ≡ Some flow → flow.host ≤ ASSIGNED_LAST
 
+-- Nothing is taken behind a client's line before its stream has a label; then the line is whole. The stream of a dial has no line.
+abbrev pub IsRead : Option Flow → Account → Type 0
+IsRead None a = a.taken ≡ []
+IsRead (Some flow) a = (a.by_client ≡ true → IsWhole a.line) × (a.by_client ≡ false → a.line ≡ [])
+
+pub read_same : (o : Option Flow) (a b : Account) → b.by_client ≡ a.by_client → b.line ≡ a.line → b.taken ≡ a.taken → IsRead o a
+    → IsRead o b
+read_same None a b client line taken is = taken ∙ is
+read_same (Some flow) a b client line taken is =
+    (λ on. subst IsWhole (sym line) (is.0 (sym client ∙ on)), λ off. line ∙ is.1 (sym client ∙ off))
+
 abbrev pub ShowsIn : Stream → Option Account → Type 0
-ShowsIn st None = (st.by_client ≡ true) × (st.label ≡ None) × (st.given ≡ [])
-ShowsIn st (Some a) = (waits st.state ≡ false) × (st.by_client ≡ a.by_client) × (st.label ≡ a.label) × (st.given ≡ a.given) × IsPorted a
+ShowsIn st None = (st.by_client ≡ true) × (st.label ≡ None) × (st.given ≡ []) × (st.taken ≡ [])
+ShowsIn st (Some a) =
+    (waits st.state ≡ false) × (st.by_client ≡ a.by_client) × (st.label ≡ a.label) × (st.given ≡ a.given) × IsPorted a
+    × (st.taken ≡ a.line ++ a.taken) × IsRead a.label a
 
 abbrev pub ShowsAt : Option Stream → Option Account → Type 0
 ShowsAt None a = a ≡ None
@@ -67,33 +81,50 @@ unseen_shows stream f c at shows same = change_shows stream f c at at shows (λ 
     (λ st is. same st (at stream))
 
 -- A change of accounts that no stream sees.
-pub same_seen : (g : Account → Account) → ((a : Account) → ((g a).by_client ≡ a.by_client) × ((g a).label ≡ a.label) ×
-    ((g a).given ≡ a.given))
-    → (o : Option Stream) (a : Option Account) → ShowsAt o a → ShowsAt o (option_map g a)
+pub record IsUnseen (g : Account → Account) (a : Account) : Type 0 where
+  pub client : (g a).by_client ≡ a.by_client
+  pub label : (g a).label ≡ a.label
+  pub given : (g a).given ≡ a.given
+  pub line : (g a).line ≡ a.line
+  pub taken : (g a).taken ≡ a.taken
+
+pub unseen_in : (g : Account → Account) (st : Stream) (a : Account) → IsUnseen g a → ShowsIn st (Some a) → ShowsIn st (Some (g a))
+unseen_in g st a s shows = (
+  shows.0,
+  shows.1 ∙ sym s.client,
+  shows.2 ∙ sym s.label,
+  shows.3 ∙ sym s.given,
+  λ flow client label. shows.4 flow (sym s.client ∙ client) (sym s.label ∙ label),
+  shows.5 ∙ ap (λ (bytes : List ℕ). bytes ++ a.taken) (sym s.line) ∙ ap (λ (bytes : List ℕ). (g a).line ++ bytes) (sym s.taken),
+  subst (λ (o : Option Flow). IsRead o (g a)) (sym s.label) (read_same a.label a (g a) s.client s.line s.taken shows.6),
+)
+
+pub same_seen : (g : Account → Account) → ((a : Account) → IsUnseen g a) → (o : Option Stream) (a : Option Account) → ShowsAt o a
+    → ShowsAt o (option_map g a)
 same_seen g same None None shows = shows
 same_seen g same None (Some a) shows = absurd cc
 same_seen g same (Some st) None shows = shows
-same_seen g same (Some st) (Some a) shows =
-    let s = same a in (
-      shows.0,
-      shows.1 ∙ sym s.0,
-      shows.2 ∙ sym s.1,
-      shows.3 ∙ sym s.2,
-      λ flow client label. shows.4 flow
-          (sym s.0 ∙ client) (sym s.1 ∙ label),
-    )
+same_seen g same (Some st) (Some a) shows = unseen_in g st a (same a) shows
 
-pub delivers_same : (h : Option Header) (payload : List ℕ) (a : Account)
-    → ((delivering h payload a).by_client ≡ a.by_client) × ((delivering h payload a).label ≡ a.label) ×
-    ((delivering h payload a).given ≡ a.given)
-delivers_same None payload a = (refl, refl, refl)
-delivers_same (Some h) payload a = by (is_on (flow_to_host h) a)
+pub delivers_same : (h : Option Header) (payload : List ℕ) (a : Account) → IsUnseen (delivering h payload) a
+delivers_same None payload a = record { client = refl; label = refl; given = refl; line = refl; taken = refl }
+delivers_same (Some h) payload a = by (is_on (flow_to_host h) a) refl
   where
-    by : (b : Bool) → ((cond b (record a { delivered = a.delivered ++ payload }) a).by_client ≡ a.by_client)
-        × ((cond b (record a { delivered = a.delivered ++ payload }) a).label ≡ a.label)
-        × ((cond b (record a { delivered = a.delivered ++ payload }) a).given ≡ a.given)
-    by true = (refl, refl, refl)
-    by false = (refl, refl, refl)
+    by : (b : Bool) → is_on (flow_to_host h) a ≡ b → IsUnseen (delivering (Some h) payload) a
+    by true is = record {
+      client = ap (λ (b : Bool). (cond b (record a { delivered = a.delivered ++ payload }) a).by_client) is;
+      label = ap (λ (b : Bool). (cond b (record a { delivered = a.delivered ++ payload }) a).label) is;
+      given = ap (λ (b : Bool). (cond b (record a { delivered = a.delivered ++ payload }) a).given) is;
+      line = ap (λ (b : Bool). (cond b (record a { delivered = a.delivered ++ payload }) a).line) is;
+      taken = ap (λ (b : Bool). (cond b (record a { delivered = a.delivered ++ payload }) a).taken) is;
+    }
+    by false is = record {
+      client = ap (λ (b : Bool). (cond b (record a { delivered = a.delivered ++ payload }) a).by_client) is;
+      label = ap (λ (b : Bool). (cond b (record a { delivered = a.delivered ++ payload }) a).label) is;
+      given = ap (λ (b : Bool). (cond b (record a { delivered = a.delivered ++ payload }) a).given) is;
+      line = ap (λ (b : Bool). (cond b (record a { delivered = a.delivered ++ payload }) a).line) is;
+      taken = ap (λ (b : Bool). (cond b (record a { delivered = a.delivered ++ payload }) a).taken) is;
+    }
 
 -- One stream more.
 get_other : (xs : List Stream) (y : Stream) (k : ℕ) → k ≢ length xs → slice_get (xs ++ y ∷ []) k ≡ slice_get xs k

@@ -22,11 +22,17 @@ use Rattle.vs_outside.specs.declared.host_net.StreamWrite.TheVariants as write
 use Rattle.vs_outside.proofs.Frames.{accepts_waiting}
 use Rattle.vs_ring_port.specs.Contents.{Take, Read, Write, Return, Given, PublishCid}
 use Rattle.vs_device.specs.Calls.{Answer, Call, DeviceTree, Ring, Accept, Dial, Label, ReadStream, WriteStream, ShutWrite, CloseStream}
-use Rattle.vs_hostile.specs.Answers.{Around, answer_around}
+use Rattle.vs_hostile.specs.Answers.{Around, answer_around, bytes_with}
+use Rattle.vs_proxy_bytes.specs.Tied.{IsWhole, reading_account}
+use Rattle.std.proofs.Common.{append_assoc, min, []}
+use Rattle.std.proofs.lemmas.List.{append-nil, length-take}
+use Rattle.vs_outside.specs.Host.{next_bytes, read_of}
 use Rattle.vs_hostile_laws.specs.Recorded.{Recorded, recording}
-use Rattle.vs_hostile_laws.proofs.Shown.{Shows, ShowsAt, ShowsIn, change_shows, delivers_same, new_shows, none_there, same_seen}
+use Rattle.vs_hostile_laws.proofs.Shown.{IsRead, Shows, ShowsAt, ShowsIn, read_same, change_shows, delivers_same, new_shows, none_there}
+use Rattle.vs_hostile_laws.proofs.Shown.{same_seen}
 use Rattle.vs_hostile_laws.proofs.Shown.{unseen_shows}
 use Rattle.vs_proxy_bytes.specs.Made.{Account, Made, MayGet, account_of, delivering, header_in, labelled, new_account, shut, with_given}
+use Rattle.vs_proxy_bytes.specs.Made.{took, with_taken}
 use Rattle.vs_proxy_bytes.proofs.Accounts.{Changes, changes, changing, comes, differs, self_is}
 use Rattle.vs_proxy_bytes.proofs.Keeping.{Asks, Keeps, keeps_answer, made}
 
@@ -69,6 +75,44 @@ write_short len n false (Some st) is = by st.host_closed (taken_of len st == 0) 
     by false true is = absurd cc
     by false false is = let same : taken_of len st ≡ n = cc in subst (λ (k : ℕ). k ≤ len) same (taken_short st.room)
 
+read_short : (n k : ℕ) (b : Bool) (o : Option Stream) → cond b read.Failed (option_map_or (read_of n) o read.Again) ≡ read.Got k
+    → length (option_map_or (λ (s : Stream). take k s.untaken) o []) ≤ n
+read_short n k true o is = absurd cc
+read_short n k false None is = absurd cc
+read_short n k false (Some st) is = by (length st.untaken == 0) st.ended is
+  where
+    by : (a b : Bool) → cond a (cond b read.End read.Again) (read.Got (min n (length st.untaken))) ≡ read.Got k → length
+        (take k st.untaken) ≤ n
+    by true true is = absurd cc
+    by true false is = absurd cc
+    by false b is = let same : min n (length st.untaken) ≡ k = cc in omega (arith, same, length-take k st.untaken)
+
+-- Bytes that were taken of a stream.
+took_shows : (o : Option Flow) (k : ℕ) (bytes : List ℕ) (st : Stream) (x : Account) → bytes ≡ take k st.untaken → x.label ≡ o
+    → ShowsIn st (Some x) → ShowsIn (take_bytes k st) (Some (took o bytes x))
+took_shows None k bytes st x got label in_it =
+    let none : x.taken ≡ [] = subst (λ (o : Option Flow). IsRead o x) label in_it.6 in (
+      in_it.0,
+      in_it.1,
+      in_it.2,
+      in_it.3,
+      in_it.4,
+      ap (λ (b : List ℕ). st.taken ++ b) (sym got)
+          ∙ ap (λ (b : List ℕ). b ++ bytes) (in_it.5 ∙ ap (λ (b : List ℕ). x.line ++ b) none ∙ append-nil x.line)
+          ∙ sym (append-nil (x.line ++ bytes)) ∙ ap (λ (b : List ℕ). (x.line ++ bytes) ++ b) (sym none),
+      subst (λ (o : Option Flow). IsRead o (took None bytes x)) (sym label) none,
+    )
+took_shows (Some flow) k bytes st x got label in_it =
+    let was : IsRead (Some flow) x = subst (λ (o : Option Flow). IsRead o x) label in_it.6 in (
+      in_it.0,
+      in_it.1,
+      in_it.2,
+      in_it.3,
+      in_it.4,
+      ap (λ (b : List ℕ). st.taken ++ b) (sym got) ∙ ap (λ (b : List ℕ). b ++ bytes) in_it.5 ∙ append_assoc x.line x.taken bytes,
+      subst (λ (o : Option Flow). IsRead o (took (Some flow) bytes x)) (sym label) was,
+    )
+
 module _ (c : HostContents) (calls : List Made) (shows : Shows (account_of calls) c) where
   -- What a call's answer may be, and what holds after it.
   abbrev pub Shown : (call : Call) → Answer call → HostContents → Type 0
@@ -88,7 +132,8 @@ module _ (c : HostContents) (calls : List Made) (shows : Shows (account_of calls
             (λ gone was. let both : Some w.0 ≡ None = sym w.1 ∙ gone in absurd cc)
             (λ st at in_it.
             let s : ShowsIn st None = subst (ShowsIn st) none in_it in
-            subst (ShowsIn (record st { state = state.Open })) (sym ch.here) (refl, s.0, s.1, s.2, λ flow client label. absurd cc)),
+            subst (ShowsIn (record st { state = state.Open })) (sym ch.here)
+                (refl, s.0, s.1, s.2, (λ flow client label. absurd cc), s.3, refl)),
       )
 
   dial_shows : (path : List ℕ) (flow : Flow) (a : Dialed) → dial_answer path c ≡ a → Shown (Dial path flow) a (after_dial flow a c)
@@ -105,14 +150,15 @@ module _ (c : HostContents) (calls : List Made) (shows : Shows (account_of calls
         ap (account_of calls) place ∙ none,
         new_shows (dialed_stream flow c.prepared) c (account_of calls) now shows
             (subst (ShowsIn (dialed_stream flow c.prepared)) (sym ch.here ∙ ap now place)
-            (refl, refl, refl, refl, λ other client label. absurd cc))
+            (refl, refl, refl, refl, (λ other client label. absurd cc), refl, (λ on. absurd cc, λ off. refl)))
             (λ j other. ch.others j (λ same. other (same ∙ place))),
       )
 
-  label_shows : (stream : ℕ) (flow : Flow) (answer : Unit {0}) → flow.host ≤ ASSIGNED_LAST → (a : Account) ×
-      (account_of calls stream ≡ Some a)
+  label_shows : (stream : ℕ) (flow : Flow) (answer : Unit {0}) → flow.host ≤ ASSIGNED_LAST
+      → (line : List ℕ) × (account_of calls stream ≡ Some (reading_account line)) × IsWhole line
       → Shown (Label stream flow) answer (after_label stream flow c)
-  label_shows stream flow answer last (a, is) =
+  label_shows stream flow answer last (line, is, whole) =
+      let a : Account = reading_account line in
       let now : ℕ → Option Account = account_of (made (Label stream flow) answer ∷ calls) in
       let ch : Changes (account_of calls) now stream (labelled flow a) = changes (labelled flow) stream (account_of calls) a is in (
         tt,
@@ -126,18 +172,31 @@ module _ (c : HostContents) (calls : List Made) (shows : Shows (account_of calls
               refl,
               s.3,
               λ other client label. subst (λ (f : Flow). f.host ≤ ASSIGNED_LAST) (one_flow flow other label) last,
+              s.5,
+              (λ on. whole, λ off. absurd cc),
             )),
       )
 
-  read_shows : (stream : ℕ) (a : StreamRead) → Shows (account_of calls) (after_read stream a c)
-  read_shows stream (read.Got n) = unseen_shows stream (take_bytes n) (called c) (account_of calls) shows (λ st o in_it. by st o in_it)
-    where
-      by : (st : Stream) (o : Option Account) → ShowsIn st o → ShowsIn (take_bytes n st) o
-      by st None in_it = in_it
-      by st (Some a) in_it = in_it
-  read_shows stream read.Again = shows
-  read_shows stream read.End = shows
-  read_shows stream read.Failed = shows
+  read_shows : (stream n : ℕ) (a : StreamRead) → read_answer stream n c ≡ a → (x : Account) × (account_of calls stream ≡ Some x)
+      → Shown (ReadStream stream n) (a, bytes_with stream a c) (after_read stream a c)
+  read_shows stream n (read.Got k) is (x, known) =
+      let bytes : List ℕ = next_bytes stream k c in
+      let now : ℕ → Option Account = account_of (made (ReadStream stream n) (read.Got k, bytes) ∷ calls) in
+      let ch : Changes (account_of calls) now stream (with_taken bytes x) = changes (with_taken bytes) stream (account_of calls) x known in
+          (
+        read_short n k (fails_now c) (stream_at stream c) is,
+        change_shows stream (take_bytes k) (called c) (account_of calls) now shows ch.others
+            (λ gone was. let both : Some x ≡ None = sym known ∙ was in absurd cc)
+            (λ st at in_it.
+            let got : take k st.untaken ≡ bytes = ap (λ (o : Option Stream). option_map_or (λ (s : Stream). take k s.untaken) o [])
+                (sym at) in
+            subst (ShowsIn (take_bytes k st)) (sym ch.here)
+            (subst (λ (b : List ℕ). ShowsIn (take_bytes k st) (Some (with_taken b x))) got
+            (took_shows x.label k (take k st.untaken) st x refl refl (subst (ShowsIn st) known in_it)))),
+      )
+  read_shows stream n read.Again is known = (tt, shows)
+  read_shows stream n read.End is known = (tt, shows)
+  read_shows stream n read.Failed is known = (tt, shows)
 
   write_shows : (stream : ℕ) (bytes : List ℕ) (a : StreamWrite) → write_answer stream (length bytes) c ≡ a
       → (x : Account) × (account_of calls stream ≡ Some x) → Shown (WriteStream stream bytes) a (after_write stream bytes a c)
@@ -150,7 +209,15 @@ module _ (c : HostContents) (calls : List Made) (shows : Shows (account_of calls
             (λ gone was. let both : Some x ≡ None = sym known ∙ was in absurd cc)
             (λ st at in_it.
             let s : ShowsIn st (Some x) = subst (ShowsIn st) known in_it in
-            subst (ShowsIn (give_bytes n bytes st)) (sym ch.here) (s.0, s.1, s.2, ap (λ (given : List ℕ). given ++ take n bytes) s.3, s.4)),
+            subst (ShowsIn (give_bytes n bytes st)) (sym ch.here) (
+              s.0,
+              s.1,
+              s.2,
+              ap (λ (given : List ℕ). given ++ take n bytes) s.3,
+              s.4,
+              s.5,
+              read_same x.label x (with_given (take n bytes) x) refl refl refl s.6,
+            )),
       )
   write_shows stream bytes write.Again is known = (tt, shows)
   write_shows stream bytes write.Closed is known = (tt, shows)
@@ -177,7 +244,7 @@ module _ (c : HostContents) (calls : List Made) (shows : Shows (account_of calls
 
       by : (st : Stream) (o : Option Account) → ShowsIn st o → ShowsIn (record st { state = state.Closed }) (option_map shut o)
       by st None in_it = in_it
-      by st (Some a) in_it = (refl, in_it.1, in_it.2, in_it.3, in_it.4)
+      by st (Some a) in_it = (refl, in_it.1, in_it.2, in_it.3, in_it.4, in_it.5, read_same a.label a (shut a) refl refl refl in_it.6)
 
 -- Each call.
 pub step_shows : (call : Call) (around : Around) (calls : List Made) (P : Type 0) → Asks call calls P → Shows (account_of calls) around.host
@@ -198,15 +265,13 @@ step_shows (Ring (Write chain place bytes)) around calls P asks shows = (tt, sho
 step_shows (Ring (Return chain len)) around calls P asks shows = (tt, shows)
 step_shows (Ring (Given queue)) around calls P asks shows = (tt, shows)
 step_shows (Ring (PublishCid cid)) around calls P asks shows =
-    (tt, λ id. same_seen shut (λ a. (refl, refl, refl)) (stream_at id around.host) (account_of calls id) (shows id))
+    (tt, λ id. same_seen shut (λ a. record { client = refl; label = refl; given = refl; line = refl; taken = refl })
+        (stream_at id around.host) (account_of calls id) (shows id))
 step_shows Accept around calls P asks shows = accept_shows around.host calls shows (accept_answer around.host) refl
 step_shows (Dial path flow) around calls P asks shows = dial_shows around.host calls shows path flow (dial_answer path around.host) refl
 step_shows (Label stream flow) around calls P asks shows = label_shows around.host calls shows stream flow tt asks.1 asks.0
-step_shows (ReadStream stream n) around calls P asks shows = (
-  tt,
-  read_shows around.host calls shows stream
-      (read_answer stream n around.host),
-)
+step_shows (ReadStream stream n) around calls P asks shows =
+    read_shows around.host calls shows stream n (read_answer stream n around.host) refl asks.0
 step_shows (WriteStream stream bytes) around calls P asks shows =
     write_shows around.host calls shows stream bytes (write_answer stream (length bytes) around.host) refl asks.0
 step_shows (ShutWrite stream) around calls P asks shows = (tt, shut_shows around.host calls shows stream)

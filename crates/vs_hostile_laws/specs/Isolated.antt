@@ -3,7 +3,7 @@ use Rattle.std.specs.Prelude.{◌≡◌, ℕ, ◌++◌, List, [], Option, Some, 
 use Rattle.std.specs.Option.{option_map_or, option_and_then}
 use Rattle.vs_flow.specs.declared.flow.Flow.{Flow}
 use Rattle.vs_outside.specs.Host.{Stream}
-use Rattle.vs_outside.specs.HostBytes.{read_after_ok}
+use Rattle.vs_outside.specs.HostBytes.{read_after_ok, wrote_after_connect}
 use Rattle.vs_page.specs.Fair.{IsPrefixOf}
 use Rattle.vs_proxy_bytes.specs.Made.{Made, account_of}
 use Rattle.vs_proxy_bytes.specs.Tied.{ok_line_of}
@@ -12,6 +12,10 @@ use Rattle.vs_proxy_bytes.specs.Tied.{ok_line_of}
 -- closed.
 abbrev pub delivered_to : ℕ → List Made → List ℕ
 delivered_to id calls = option_map_or (λ a. a.delivered) (account_of calls id) []
+
+-- The bytes that were taken of it since it has its label, and so were put on its flow.
+abbrev pub taken_from : ℕ → List Made → List ℕ
+taken_from id calls = option_map_or (λ a. a.taken) (account_of calls id) []
 
 -- The flow of that connection.
 abbrev pub flow_of : ℕ → List Made → Option Flow
@@ -29,3 +33,5 @@ pub record IsIsolated (id : ℕ) (s : Stream) (calls : List Made) : Type 0 where
   pub given : IsGivenOwn s.label s (delivered_to id calls)
   -- So what its program reads behind the OK line are these payloads, as far as they were given.
   pub read : IsPrefixOf (read_after_ok s) (delivered_to id calls)
+  -- And what was taken of it since is all that its program wrote behind the CONNECT line.
+  pub wrote : (flow : Flow) → s.label ≡ Some flow → wrote_after_connect s ≡ taken_from id calls

@@ -17,9 +17,11 @@ use Rattle.vs_device.specs.State.{DeviceConnection, DeviceEntry}
 use Rattle.vs_proxy.specs.State.{Handshake}
 use Rattle.vs_pipes.proofs.Changes.{changed, others_left, under_slot}
 use Rattle.vs_pipes.proofs.Logs.{shorter}
-use Rattle.vs_proxy_bytes.specs.Made.{Account, is_on, new_account, shut}
-use Rattle.vs_proxy_bytes.specs.Tied.{AreTied, IsGiven, IsTied, IsTiedTo, ok_line_of, stream_of}
-use Rattle.vs_proxy_bytes.proofs.Accounts.{Changes}
+use Rattle.vs_proxy_bytes.specs.Made.{Account, is_on, shut, took, with_taken}
+use Rattle.vs_proxy_bytes.specs.Tied.{AreTied, IsGiven, IsTied, IsTiedTo, ok_line_of, reading_account, stream_of}
+use Rattle.vs_uds.specs.Reading.{is_decided}
+use Rattle.vs_uds.specs.declared.connect.TheConstants.{CONNECT_MAX}
+use Rattle.vs_proxy_bytes.proofs.Accounts.{Changes, changing}
 
 pub one_account : (at : ℕ → Option Account) (id : ℕ) (a b : Account) → at id ≡ Some a → at id ≡ Some b → a ≡ b
 one_account at id a b is other = let both : Some a ≡ Some b = sym is ∙ other in cc
@@ -62,15 +64,16 @@ module _ (at now : ℕ → Option Account) (t : Table DeviceConnection) (hands :
   entry_kept : (y : DeviceEntry) → y.value.stream ≢ stream → IsTied at y → IsTied now y
   entry_kept y other was = (was.0, ch.others y.value.stream other ∙ was.1, was.2)
 
-  hand_kept : (h : Handshake) → h.stream ≢ stream → at h.stream ≡ Some (new_account None true) → now h.stream ≡ Some (new_account None true)
+  hand_kept : (h : Handshake) → h.stream ≢ stream → at h.stream ≡ Some (reading_account h.line) → now h.stream ≡ Some
+      (reading_account h.line)
   hand_kept h other was = ch.others h.stream other ∙ was
 
   -- A stream that wasn't there before is none that is waited for.
-  pub waiting_kept : at stream ≡ None → All (λ h. now h.stream ≡ Some (new_account None true)) hands
+  pub waiting_kept : at stream ≡ None → All (λ h. now h.stream ≡ Some (reading_account h.line)) hands
   waiting_kept none =
-      All-weaker (λ (h : Handshake). at h.stream ≡ Some (new_account None true))
-      (λ (h : Handshake). now h.stream ≡ Some (new_account None true))
-      (λ h was. hand_kept h (λ same. let both : None ≡ Some (new_account None true) = sym none ∙ ap at (sym same)
+      All-weaker (λ (h : Handshake). at h.stream ≡ Some (reading_account h.line))
+      (λ (h : Handshake). now h.stream ≡ Some (reading_account h.line))
+      (λ h was. hand_kept h (λ same. let both : None ≡ Some (reading_account h.line) = sym none ∙ ap at (sym same)
       ∙ was in absurd cc) was) hands x.waiting
 
   given_kept : IsGiven new.label new → (id : ℕ) (a : Account) → now id ≡ Some a → IsGiven a.label a
@@ -104,12 +107,14 @@ module _ (at now : ℕ → Option Account) (t : Table DeviceConnection) (hands :
     entry_apart y was same = no_label was.0 y.flow was.2.label (unlabelled was.0 (ap at (sym same) ∙ was.1))
 
     pub hands_changed : (after : List Handshake) → new.label ≡ None → new.given ≡ [] → All
-        (λ h. now h.stream ≡ Some (new_account None true)) after
+        (λ h. is_decided CONNECT_MAX h.line ≡ false) after → All
+        (λ h. now h.stream ≡ Some (reading_account h.line)) after
         → AllPairs (λ g h. g.stream ≢ h.stream) after → AreTied now t after
-    hands_changed after none nothing waiting apart = record {
+    hands_changed after none nothing undecided waiting apart = record {
       table = x.table;
       joined = All-weaker (IsTied at) (IsTied now) (λ y was. entry_kept y (entry_apart y was) was) t.entries x.joined;
       waiting = waiting;
+      undecided = undecided;
       apart = apart;
       given = given_kept (subst (λ (o : Option Flow). IsGiven o new) (sym none) nothing);
       serves = serves_kept t (λ f label still. absurd (no_label new f label none)) (λ id f other is. is);
@@ -134,14 +139,16 @@ module _ (at now : ℕ → Option Account) (t : Table DeviceConnection) (hands :
           ∙ ap (λ (o : Option DeviceEntry). stream_in (option_or o (cond (same_flow f flow) (Some (next_entry t flow c)) None))) d.1
           ∙ ap (λ (n : ℕ). Some n) d.2
 
-      pub added : (after : List Handshake) → All (λ h. now h.stream ≡ Some (new_account None true)) after
+      pub added : (after : List Handshake) → All (λ h. is_decided CONNECT_MAX h.line ≡ false) after → All
+          (λ h. now h.stream ≡ Some (reading_account h.line)) after
           → AllPairs (λ g h. g.stream ≢ h.stream) after → AreTied now (with_entry t flow c) after
-      added after waiting apart = record {
+      added after undecided waiting apart = record {
         table = with_entry_sound t flow c x.table free;
         joined = All-push (IsTied now) t.entries (next_entry t flow c)
             (All-weaker (IsTied at) (IsTied now) (λ y was. entry_kept y (entry_apart y was) was) t.entries x.joined)
             (new, ap now its ∙ ch.here, tied);
         waiting = waiting;
+        undecided = undecided;
         apart = apart;
         given = given_kept (given_of new (next_entry t flow c) tied);
         serves = serves_kept (with_entry t flow c) (λ f label still. served f label) (λ id f other is. others_served id f is);
@@ -196,14 +203,14 @@ module _ (at now : ℕ → Option Account) (t : Table DeviceConnection) (hands :
       other (one_label was.0 joined.0 y.flow e.flow (one_account at e.value.stream was.0 joined.0 (ap at (sym same) ∙ was.1) joined.1)
       was.2.label joined.2.label)
 
-  hand_other : (h : Handshake) → at h.stream ≡ Some (new_account None true) → h.stream ≢ e.value.stream
+  pub hand_other : (h : Handshake) → at h.stream ≡ Some (reading_account h.line) → h.stream ≢ e.value.stream
   hand_other h was same =
       no_label joined.0 e.flow joined.2.label
-      (ap (λ (a : Account). a.label) (one_account at e.value.stream joined.0 (new_account None true) joined.1 (ap at (sym same) ∙ was)))
+      (ap (λ (a : Account). a.label) (one_account at e.value.stream joined.0 (reading_account h.line) joined.1 (ap at (sym same) ∙ was)))
 
-  hands_kept : All (λ h. now h.stream ≡ Some (new_account None true)) hands
-  hands_kept = All-weaker (λ (h : Handshake). at h.stream ≡ Some (new_account None true))
-      (λ (h : Handshake). now h.stream ≡ Some (new_account None true))
+  hands_kept : All (λ h. now h.stream ≡ Some (reading_account h.line)) hands
+  hands_kept = All-weaker (λ (h : Handshake). at h.stream ≡ Some (reading_account h.line))
+      (λ (h : Handshake). now h.stream ≡ Some (reading_account h.line))
       (λ h was. hand_kept at now t hands x e.value.stream new ch h (hand_other h was) was) hands x.waiting
 
   pub moved : (c : DeviceConnection) → c.stream ≡ e.value.stream → IsTiedTo new (record e { value = c }) → AreTied now
@@ -213,6 +220,7 @@ module _ (at now : ℕ → Option Account) (t : Table DeviceConnection) (hands :
     joined = changed t x.table e is (IsTied at) (IsTied now) c x.joined (new, ap now same ∙ ch.here, tied)
         (λ y other was. entry_kept at now t hands x e.value.stream new ch y (entry_other y other was) was);
     waiting = hands_kept;
+    undecided = x.undecided;
     apart = x.apart;
     given = given_kept at now t hands x e.value.stream new ch (given_of new (record e { value = c }) tied);
     serves = serves_kept at now t hands x e.value.stream new ch (with_value t e.slot c)
@@ -228,6 +236,7 @@ module _ (at now : ℕ → Option Account) (t : Table DeviceConnection) (hands :
     joined = others_left t x.table e is (IsTied at) (IsTied now) x.joined
         (λ y other was. entry_kept at now t hands x e.value.stream new ch y (entry_other y other was) was);
     waiting = hands_kept;
+    undecided = x.undecided;
     apart = x.apart;
     given = given_kept at now t hands x e.value.stream new ch given;
     serves = serves_kept at now t hands x e.value.stream new ch (without t e.slot)
@@ -253,3 +262,72 @@ streams_apart at t hands x i j a b flow is also on same =
     let m = on_label flow b same in
     let both : Some i ≡ Some j = sym (x.serves i a flow is l.0 l.1) ∙ x.serves j b flow also m.0 m.1 in
     cc
+
+-- Bytes are taken of a stream: its label stays, and all that it was given.
+took_same : (o : Option Flow) (bytes : List ℕ) (a : Account) → ((took o bytes a).label ≡ a.label) × ((took o bytes a).closed ≡ a.closed)
+took_same None bytes a = (refl, refl)
+took_same (Some flow) bytes a = (refl, refl)
+
+took_given : (o p : Option Flow) (bytes : List ℕ) (a : Account) → IsGiven o a → IsGiven o (took p bytes a)
+took_given None None bytes a given = given
+took_given None (Some flow) bytes a given = given
+took_given (Some flow) None bytes a given = given
+took_given (Some flow) (Some other) bytes a given = given
+
+tied_taken : (a : Account) (e : DeviceEntry) (bytes : List ℕ) → IsTiedTo a e → IsTiedTo (with_taken bytes a) e
+tied_taken a e bytes x =
+    subst (λ (o : Option Flow). IsTiedTo (took o bytes a) e) (sym x.label)
+    (record { label = x.label; client = x.client; closed = x.closed; drains = x.drains; asked = x.asked })
+
+mapped_there : (f : Account → Account) (o : Option Account) (a : Account) → option_map f o ≡ Some a → (b : Account) × (o ≡ Some b) ×
+    (f b ≡ a)
+mapped_there f None a is = absurd cc
+mapped_there f (Some b) a is = (b, refl, cc)
+
+module _ (at : ℕ → Option Account) (t : Table DeviceConnection) (hands : List Handshake) (x : AreTied at t hands) (stream : ℕ)
+    (bytes : List ℕ) where
+  abbrev now : ℕ → Option Account
+  now = changing (with_taken bytes) stream at
+
+  tied_still : (y : DeviceEntry) → IsTied at y → IsTied now y
+  tied_still y was = by (stream == y.value.stream)
+    where
+      by : (b : Bool) → (a : Account) × (cond b (option_map (with_taken bytes) (at y.value.stream)) (at y.value.stream) ≡ Some a)
+          × IsTiedTo a y
+      by true = (with_taken bytes was.0, ap (option_map (with_taken bytes)) was.1, tied_taken was.0 y bytes was.2)
+      by false = was
+
+  given_still : (id : ℕ) (a : Account) → now id ≡ Some a → IsGiven a.label a
+  given_still id a is = by (stream == id) is
+    where
+      by : (b : Bool) → cond b (option_map (with_taken bytes) (at id)) (at id) ≡ Some a → IsGiven a.label a
+      by true is =
+          let b = mapped_there (with_taken bytes) (at id) a is in
+          subst (λ (y : Account). IsGiven y.label y) b.2
+          (subst (λ (o : Option Flow). IsGiven o (with_taken bytes b.0)) (sym (took_same b.0.label bytes b.0).0)
+          (took_given b.0.label b.0.label bytes b.0 (x.given id b.0 b.1)))
+      by false is = x.given id a is
+
+  serves_still : (id : ℕ) (a : Account) (flow : Flow) → now id ≡ Some a → a.label ≡ Some flow → a.closed ≡ false → stream_of t flow
+      ≡ Some id
+  serves_still id a flow is label still = by (stream == id) is
+    where
+      by : (b : Bool) → cond b (option_map (with_taken bytes) (at id)) (at id) ≡ Some a → stream_of t flow ≡ Some id
+      by true is =
+          let b = mapped_there (with_taken bytes) (at id) a is in
+          let same = took_same b.0.label bytes b.0 in
+          x.serves id b.0 flow b.1 (sym same.0 ∙ ap (λ (y : Account). y.label) b.2 ∙ label)
+          (sym same.1 ∙ ap (λ (y : Account). y.closed) b.2 ∙ still)
+      by false is = x.serves id a flow is label still
+
+  pub taken_tied : (after : List Handshake) → All (λ h. is_decided CONNECT_MAX h.line ≡ false) after
+      → All (λ h. now h.stream ≡ Some (reading_account h.line)) after → AllPairs (λ g h. g.stream ≢ h.stream) after → AreTied now t after
+  taken_tied after undecided waiting apart = record {
+    table = x.table;
+    joined = All-weaker (IsTied at) (IsTied now) tied_still t.entries x.joined;
+    waiting = waiting;
+    undecided = undecided;
+    apart = apart;
+    given = given_still;
+    serves = serves_still;
+  }

@@ -4,13 +4,17 @@ use Rattle.vs_contents.specs.CallTree.{Done, Ask, bind, for_each, while_up_to, L
 use Rattle.vs_flow.specs.declared.flow.TheConstants.{ASSIGNED_LAST}
 use Rattle.vs_device.specs.Calls.{Call, Answer, DeviceTree, Ring, Accept, Dial, Label, ReadStream, WriteStream, ShutWrite, CloseStream}
 use Rattle.vs_proxy_bytes.specs.Made.{Account, Made, MayGet, Makes, account_of}
+use Rattle.vs_proxy_bytes.specs.Tied.{IsWhole, reading_account}
 
 abbrev pub made : (call : Call) → Answer call → Made
 made call answer = record { call = call; answer = answer }
 
--- A stream that is labelled or written to is one that was given. A label has an assigned port, or one below it.
+-- A stream that is read or written to is one that was given. One that is labelled is a client's whose line is whole; its port is assigned,
+-- or below.
 abbrev pub Asks : Call → List Made → Type 0 → Type 0
-Asks (Label stream flow) calls P = ((a : Account) × (account_of calls stream ≡ Some a)) × (flow.host ≤ ASSIGNED_LAST) × P
+Asks (Label stream flow) calls P =
+    ((line : List ℕ) × (account_of calls stream ≡ Some (reading_account line)) × IsWhole line) × (flow.host ≤ ASSIGNED_LAST) × P
+Asks (ReadStream stream n) calls P = ((a : Account) × (account_of calls stream ≡ Some a)) × P
 Asks (WriteStream stream bytes) calls P = ((a : Account) × (account_of calls stream ≡ Some a)) × P
 Asks call calls P = P
 
@@ -20,7 +24,7 @@ asked_for (WriteStream stream bytes) calls P asks = asks.1
 asked_for (Ring call) calls P asks = asks
 asked_for Accept calls P asks = asks
 asked_for (Dial path flow) calls P asks = asks
-asked_for (ReadStream stream n) calls P asks = asks
+asked_for (ReadStream stream n) calls P asks = asks.1
 asked_for (ShutWrite stream) calls P asks = asks
 asked_for (CloseStream stream) calls P asks = asks
 
@@ -30,7 +34,7 @@ asks_weaker (WriteStream stream bytes) calls P R then asks = (asks.0, then asks.
 asks_weaker (Ring call) calls P R then asks = then asks
 asks_weaker Accept calls P R then asks = then asks
 asks_weaker (Dial path flow) calls P R then asks = then asks
-asks_weaker (ReadStream stream n) calls P R then asks = then asks
+asks_weaker (ReadStream stream n) calls P R then asks = (asks.0, then asks.1)
 asks_weaker (ShutWrite stream) calls P R then asks = then asks
 asks_weaker (CloseStream stream) calls P R then asks = then asks
 

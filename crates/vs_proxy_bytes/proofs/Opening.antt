@@ -20,17 +20,19 @@ use Rattle.vs_device.specs.State.{DeviceConnection, DeviceEntry, DeviceState}
 use Rattle.vs_device.specs.Streams.{closing}
 use Rattle.vs_device.specs.Turns.{after_reset, close_slot, open_of, reset_of}
 use Rattle.vs_proxy.specs.State.{Handshake}
-use Rattle.vs_proxy_bytes.specs.Made.{Account, Made, account_of, labelled, new_account, payload_put, payload_taken, shut}
-use Rattle.vs_proxy_bytes.specs.Tied.{Agree, IsGiven, IsOver, IsTied, IsTiedTo}
+use Rattle.vs_proxy_bytes.specs.Made.{Account, Made, account_of, labelled, payload_put, payload_taken, shut}
+use Rattle.vs_proxy_bytes.specs.Tied.{Agree, IsGiven, IsOver, IsTied, IsTiedTo, IsWhole, reading_account}
+use Rattle.vs_uds.specs.Reading.{is_decided}
+use Rattle.vs_uds.specs.declared.connect.TheConstants.{CONNECT_MAX}
 use Rattle.vs_proxy_bytes.proofs.Accounts.{Changes, changes, changing, stays}
 use Rattle.vs_proxy_bytes.proofs.Closing.{Has}
 use Rattle.vs_proxy_bytes.proofs.Entries.{added, given_shut, hands_changed, one_account}
 use Rattle.vs_proxy_bytes.proofs.Keeping.{Keeps, keeps_each, keeps_then, made}
 
 -- The connection of a client's stream.
-client_tie : (t : Table DeviceConnection) (flow : Flow) (stream : ℕ)
-    → IsTiedTo (labelled flow (new_account None true)) (next_entry t flow (new_connection (asked BUF_ALLOC) stream true))
-client_tie t flow stream = record {
+client_tie : (t : Table DeviceConnection) (flow : Flow) (stream : ℕ) (line : List ℕ)
+    → IsTiedTo (labelled flow (reading_account line)) (next_entry t flow (new_connection (asked BUF_ALLOC) stream true))
+client_tie t flow stream line = record {
   label = refl;
   client = refl;
   closed = refl;
@@ -54,6 +56,7 @@ new_agrees room = record {
     table = no_entries room 0 (omega arith);
     joined = λ i d within. absurd (omega (arith, within));
     waiting = λ i d within. absurd (omega (arith, within));
+    undecided = λ i d within. absurd (omega (arith, within));
     apart = λ i j d less within. absurd (omega (arith, within));
     given = λ id a is. absurd cc;
     serves = λ id a flow is label still. absurd cc;
@@ -63,15 +66,16 @@ new_agrees room = record {
 }
 
 -- A handshake's stream has no label.
-pub waits_unlabelled : (at : ℕ → Option Account) (stream : ℕ) → at stream ≡ Some (new_account None true) → (a : Account) → at stream
-    ≡ Some a → a.label ≡ None
-waits_unlabelled at stream waits a is = ap (λ (b : Account). b.label) (one_account at stream a (new_account None true) is waits)
+pub waits_unlabelled : (at : ℕ → Option Account) (stream : ℕ) (line : List ℕ) → at stream ≡ Some (reading_account line) → (a : Account)
+    → at stream ≡ Some a → a.label ≡ None
+waits_unlabelled at stream line waits a is = ap (λ (b : Account). b.label) (one_account at stream a (reading_account line) is waits)
 
-pub keeps_open : (hands after : List Handshake) (flow : Flow) (stream : ℕ) (s : DeviceState) (calls : List Made) → flow.host ≤ ASSIGNED_LAST
-    → account_of calls stream ≡ Some (new_account None true) → All (λ h. account_of calls h.stream ≡ Some (new_account None true)) after
+pub keeps_open : (hands after : List Handshake) (flow : Flow) (stream : ℕ) (line : List ℕ) (s : DeviceState) (calls : List Made)
+    → flow.host ≤ ASSIGNED_LAST → IsWhole line → account_of calls stream ≡ Some (reading_account line)
+    → All (λ h. is_decided CONNECT_MAX h.line ≡ false) after → All (λ h. account_of calls h.stream ≡ Some (reading_account h.line)) after
     → All (λ h. h.stream ≢ stream) after → AllPairs (λ g h. g.stream ≢ h.stream) after → Has hands s calls
     → Keeps (λ x later. Has after x.0 later) (open_of flow stream s) calls
-keeps_open hands after flow stream s calls last waits waiting others apart x = by (refusal s.table flow) refl
+keeps_open hands after flow stream line s calls last whole waits undecided waiting others apart x = by (refusal s.table flow) refl
   where
     asks : DeviceTree (DeviceState × Result ℕ TableFault)
     asks = Ask (Label stream flow) (λ a. Done (with_client flow stream s, Ok s.table.given))
@@ -81,11 +85,11 @@ keeps_open hands after flow stream s calls last waits waiting others apart x = b
     opens none answer =
         let c : DeviceConnection = new_connection (asked BUF_ALLOC) stream true in
         let now : ℕ → Option Account = account_of (made (Label stream flow) answer ∷ calls) in
-        let ch : Changes (account_of calls) now stream (labelled flow (new_account None true)) =
-        changes (labelled flow) stream (account_of calls) (new_account None true) waits in record {
-          tied = added (account_of calls) now s.table hands x.tied stream (labelled flow (new_account None true)) ch
-              (waits_unlabelled (account_of calls) stream waits) flow c refl (accepted s.table flow none)
-              (client_tie s.table flow stream) after
+        let ch : Changes (account_of calls) now stream (labelled flow (reading_account line)) =
+        changes (labelled flow) stream (account_of calls) (reading_account line) waits in record {
+          tied = added (account_of calls) now s.table hands x.tied stream (labelled flow (reading_account line)) ch
+              (waits_unlabelled (account_of calls) stream line waits) flow c refl (accepted s.table flow none)
+              (client_tie s.table flow stream line) after undecided
               (λ i d within. ch.others _ (others i d within) ∙ waiting i d within) apart;
           over = All-push IsOver s.table.entries (next_entry s.table flow c) x.over (λ closed. absurd cc);
           carried = x.carried;
@@ -94,13 +98,13 @@ keeps_open hands after flow stream s calls last waits waiting others apart x = b
     by : (o : Option TableFault) → refusal s.table flow ≡ o → Keeps (λ x later. Has after x.0 later)
         (elim o [ Some fault ↦ Done (s, Err fault) | None ↦ asks ]) calls
     by (Some fault) is = record {
-      tied = hands_changed (account_of calls) (account_of calls) s.table hands x.tied stream (new_account None true)
-          (stays (account_of calls) stream (new_account None true) waits)
-          (waits_unlabelled (account_of calls) stream waits) after refl refl waiting apart;
+      tied = hands_changed (account_of calls) (account_of calls) s.table hands x.tied stream (reading_account line)
+          (stays (account_of calls) stream (reading_account line) waits)
+          (waits_unlabelled (account_of calls) stream line waits) after refl refl undecided waiting apart;
       over = x.over;
       carried = x.carried;
     }
-    by None is = ((new_account None true, waits), last, λ answer fit. opens is answer)
+    by None is = ((line, waits, whole), last, λ answer fit. opens is answer)
 
 -- While connections are closed for a reset, what the streams were given stays.
 pub record AreClosing (at : ℕ → Option Account) (put taken : Flow → List ℕ) (t : Table DeviceConnection) : Type 0 where
@@ -159,6 +163,7 @@ reset_agrees at put taken t x = record {
     table = x.closing.table;
     joined = nothing (IsTied at);
     waiting = λ i d within. absurd (omega (arith, within));
+    undecided = λ i d within. absurd (omega (arith, within));
     apart = λ i j d less within. absurd (omega (arith, within));
     given = x.closing.given;
     serves = λ id a flow is label still. let both : true ≡ false = sym (x.closed id a is) ∙ still in absurd cc;

@@ -3,6 +3,7 @@ use Rattle.std.proofs.Common.{◌≡◌, ℕ, ◌+◌, ◌==◌, Bool, true, fal
 use Rattle.std.proofs.Common.{Result, Ok, Err, refl, sym, ap, subst, ◌∙◌}
 use Rattle.std.specs.Option.{option_map_or}
 use Rattle.std.proofs.lemmas.List.{append-nil}
+use Rattle.std.proofs.lemmas.List.Elements.{All-weaker}
 use Rattle.vs_flow.specs.declared.flow.Flow.{Flow}
 use Rattle.vs_conn.specs.End.{owes_of, paid_of, wanting_credit, with_payload_sent}
 use Rattle.vs_conn.specs.Headers.{owed_header, payload_header}
@@ -36,9 +37,11 @@ use Rattle.vs_device.specs.State.{DeviceConnection, DeviceEntry, DeviceState}
 use Rattle.vs_device.specs.Streams.{closing}
 use Rattle.vs_device_laws.proofs.Ends.{owes_reset, shut_over}
 use Rattle.vs_proxy.specs.State.{Handshake}
-use Rattle.vs_proxy_bytes.specs.Made.{Account, Made, account_of, is_for, is_of, payload_put, payload_taken, ports_of}
-use Rattle.vs_proxy_bytes.specs.Tied.{Agree, AgreesWith, IsTied}
+use Rattle.vs_proxy_bytes.specs.Made.{Account, Made, account_of, is_for, is_of, payload_put, payload_taken, ports_of, with_taken}
+use Rattle.vs_proxy_bytes.specs.Tied.{Agree, AgreesWith, IsTied, reading_account}
 use Rattle.vs_proxy_bytes.proofs.Closing.{Has, agree_same, join, keeps_cut_off, keeps_leaving, over_there, there_under}
+use Rattle.vs_proxy_bytes.proofs.Accounts.{Changes, changes, changing, stays}
+use Rattle.vs_proxy_bytes.proofs.Entries.{hand_other, taken_tied}
 use Rattle.vs_proxy_bytes.proofs.Keeping.{Keeps, keeps_each, keeps_then, keeps_while, made}
 use Rattle.vs_proxy_bytes.proofs.Ties.{end_changes, shuts}
 
@@ -240,11 +243,17 @@ module _ (hands : List Handshake) where
     -- The bytes that were read of its stream are put on its flow.
     reads_own : (n k : ℕ) (payload : List ℕ) (r : Filling) (calls : List Made) → entry_under r.state.table slot ≡ Some e
         → Has hands r.state calls
-        → Agree (account_of calls)
+        → Agree (account_of (made (ReadStream e.value.stream n) (read.Got k, payload) ∷ calls))
         (λ flow. cond (is_for flow (header_bytes (own_header r payload))) (payload_put calls flow ++ payload) (payload_put calls flow))
         (payload_taken (made (ReadStream e.value.stream n) (read.Got k, payload) ∷ calls)) r.state.table hands
     reads_own n k payload r calls found x = record {
-      tied = x.tied;
+      tied = taken_tied (account_of calls) r.state.table hands x.tied e.value.stream payload hands x.tied.undecided
+          (All-weaker (λ (h : Handshake). account_of calls h.stream ≡ Some (reading_account h.line))
+          (λ (h : Handshake). account_of (made (ReadStream e.value.stream n) (read.Got k, payload) ∷ calls) h.stream ≡ Some
+              (reading_account h.line))
+          (λ h was. ch.others h.stream (hand_other (account_of calls) (account_of calls) r.state.table hands x.tied e
+          (there_under r.state.table slot e found) t.0 (stays (account_of calls) e.value.stream t.0 t.1) h was)
+              ∙ was) hands x.tied.waiting) x.tied.apart;
       over = x.over;
       carried = λ flow.
           ap (λ (bytes : List ℕ). cond (bytes_eq (ports_of flow) (ports_of e.flow)) (bytes ++ payload) bytes) (x.carried flow)
@@ -256,6 +265,10 @@ module _ (hands : List Handshake) where
         t : IsTied (account_of calls) e
         t = join (account_of calls) (payload_put calls) (payload_taken calls) r.state.table hands x e
             (there_under r.state.table slot e found)
+
+        ch : Changes (account_of calls) (changing (with_taken payload) e.value.stream (account_of calls)) e.value.stream
+            (with_taken payload t.0)
+        ch = changes (with_taken payload) e.value.stream (account_of calls) t.0 t.1
 
     keeps_put_payload : (chain : Chain) (n k : ℕ) (payload : List ℕ) (r : Filling) (calls : List Made) → entry_under r.state.table slot
         ≡ Some e
@@ -301,8 +314,12 @@ module _ (hands : List Handshake) where
 
         by : (o : Option Chain) → Keeps Fills (elim o [ None ↦ Done r | Some chain ↦ asks chain ]) calls
         by None = x
-        by (Some chain) = λ answer fit.
-            keeps_read_answered chain (read_room (free_of e.value.end.credit) chain) answer.0 answer.1 r calls found x
+        by (Some chain) =
+            let t = join (account_of calls) (payload_put calls) (payload_taken calls) r.state.table hands x e
+            (there_under r.state.table slot e found) in (
+              (t.0, t.1),
+              λ answer fit. keeps_read_answered chain (read_room (free_of e.value.end.credit) chain) answer.0 answer.1 r calls found x,
+            )
 
   keeps_read_stream : (slot : ℕ) (e : DeviceEntry) (r : Filling) (calls : List Made) → entry_under r.state.table slot ≡ Some e
       → Has hands r.state calls

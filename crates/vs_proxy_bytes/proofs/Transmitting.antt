@@ -97,7 +97,7 @@ module _ (hands : List Handshake) where
       (account_of calls) in record {
         tied = added (account_of calls) now s.table hands x.tied id (new_account (Some flow) false) ch
             (λ a is. let both : None ≡ Some a = sym fit ∙ is in absurd cc) flow c refl (accepted s.table flow (rw (none, place) refl))
-            (dialed_tie s.table flow h id) hands
+            (dialed_tie s.table flow h id) hands x.tied.undecided
             (waiting_kept (account_of calls) now s.table hands x.tied id (new_account (Some flow) false) ch fit) x.tied.apart;
         over = All-push IsOver s.table.entries (next_entry s.table flow c) x.over (λ closed. absurd cc);
         carried = x.carried;

@@ -6,10 +6,13 @@ use Rattle.vs_conn.specs.declared.end.State.TheVariants.{Asked, Ended}
 use Rattle.vs_flow.specs.Table.{Table, IsTable, entry_of}
 use Rattle.vs_flow.specs.declared.flow.Flow.{Flow}
 use Rattle.vs_page.specs.Fair.{IsPrefixOf}
+use Rattle.vs_outside.specs.HostBytes.{after_line}
 use Rattle.vs_uds.specs.OkLine.{ok_text}
+use Rattle.vs_uds.specs.Reading.{is_decided}
+use Rattle.vs_uds.specs.declared.connect.TheConstants.{CONNECT_MAX}
 use Rattle.vs_device.specs.State.{DeviceConnection, DeviceEntry}
 use Rattle.vs_pipes.specs.Drains.{Drains}
-use Rattle.vs_pipes.specs.Streamed.{gives}
+use Rattle.vs_pipes.specs.Streamed.{gives, has_line}
 use Rattle.vs_proxy.specs.State.{Handshake, ProxyState}
 use Rattle.vs_proxy_bytes.specs.Made.{Account, Made, account_of, new_account, payload_put, payload_taken}
 
@@ -43,12 +46,20 @@ IsTied at e = (a : Account) × (at e.value.stream ≡ Some a) × IsTiedTo a e
 abbrev pub stream_of : Table DeviceConnection → Flow → Option ℕ
 stream_of t flow = option_map (λ e. e.value.stream) (entry_of t flow)
 
+-- The account of a client's stream while its line is read; and when the line is whole: it has its LF, and nothing is taken behind it.
+abbrev pub reading_account : List ℕ → Account
+reading_account line = record (new_account None true) { line = line }
+
+abbrev pub IsWhole : List ℕ → Type 0
+IsWhole line = (has_line line ≡ true) × (after_line line ≡ [])
+
 -- Each connection is tied to its stream, each handshake has a client's stream of its own that has no label yet; a stream with a label
 -- that isn't closed is that of the connection of its flow.
 pub record AreTied (at : ℕ → Option Account) (t : Table DeviceConnection) (hands : List Handshake) : Type 0 where
   pub table : IsTable t
   pub joined : All (IsTied at) t.entries
-  pub waiting : All (λ h. at h.stream ≡ Some (new_account None true)) hands
+  pub waiting : All (λ h. at h.stream ≡ Some (reading_account h.line)) hands
+  pub undecided : All (λ h. is_decided CONNECT_MAX h.line ≡ false) hands
   pub apart : AllPairs (λ g h. g.stream ≢ h.stream) hands
   pub given : (id : ℕ) (a : Account) → at id ≡ Some a → IsGiven a.label a
   pub serves : (id : ℕ) (a : Account) (flow : Flow) → at id ≡ Some a → a.label ≡ Some flow → a.closed ≡ false → stream_of t flow ≡ Some id
