@@ -25,12 +25,12 @@ use Rattle.vs_hostile.specs.Run.{host_does, hostile_does, line_in, outside_does}
 use Rattle.vs_hostile.specs.Run.{WasReset, over, over_rings}
 use Rattle.vs_hostile_laws.specs.Isolated.{IsGivenOwn, IsIsolated, delivered_to}
 use Rattle.vs_hostile_laws.specs.Recorded.{calls_of, made_in, made_over, outside_made, recorded}
-use Rattle.vs_hostile_laws.proofs.Shown.{IsRead, Shows, ShowsAt, ShowsIn, new_shows, none_there, unseen_shows}
+use Rattle.vs_hostile_laws.proofs.Shown.{Shows, ShowsAt, ShowsIn, new_shows, none_there, unseen_shows}
 use Rattle.vs_hostile_laws.proofs.Steps.{played_same, played_shows}
 use Rattle.vs_proxy.specs.State.{ProxyState}
 use Rattle.vs_proxy.specs.Turns.{proxy_reset_of, turn_of}
 use Rattle.vs_proxy_bytes.specs.Made.{Account, Made, account_of}
-use Rattle.vs_proxy_bytes.specs.Tied.{AccountsFor, IsGiven, IsWhole, ok_line_of}
+use Rattle.vs_proxy_bytes.specs.Tied.{AccountsFor, IsGiven, IsLine, IsRead, IsWhole, ok_line_of}
 use Rattle.vs_proxy_bytes.proofs.Keeping.{Keeps}
 use Rattle.vs_proxy_bytes.proofs.Opening.{new_agrees}
 use Rattle.vs_proxy_bytes.proofs.Turning.{keeps_proxy_reset, keeps_turn}
@@ -55,8 +55,16 @@ changed at h stream f shows same = unseen_shows stream f h at shows (λ st o in_
   where
     by : (st : Stream) (o : Option Account) → ShowsIn st o → ShowsIn (f st) o
     by st None in_it = let s = same st in (s.1 ∙ in_it.0, s.2 ∙ in_it.1, s.3 ∙ in_it.2, s.4 ∙ in_it.3)
-    by st (Some a) in_it = let s = same st in (ap waits s.0 ∙ in_it.0, s.1 ∙ in_it.1, s.2 ∙ in_it.2, s.3 ∙ in_it.3, in_it.4, s.4
-        ∙ in_it.5, in_it.6)
+    by st (Some a) in_it = let s = same st in (
+      ap waits s.0 ∙ in_it.0,
+      s.1 ∙ in_it.1,
+      s.2 ∙ in_it.2,
+      s.3 ∙ in_it.3,
+      in_it.4,
+      s.4
+          ∙ in_it.5,
+      in_it.6,
+    )
 
 written_shows : (at : ℕ → Option Account) (h : HostContents) (stream : ℕ) (bytes : List ℕ) (a : HostWritten) → Shows at h
     → Shows at (after_host_write stream bytes a h)
@@ -223,9 +231,9 @@ wrote_own flow st a label in_it = by st.by_client refl
 
     by : (b : Bool) → st.by_client ≡ b → cond st.by_client (after_line st.taken) st.taken ≡ a.taken
     by true is =
-        let whole : IsWhole a.line = was.0 (sym in_it.1 ∙ is) in
+        let whole : IsWhole a.line = subst (λ (c : Bool). IsLine c a.line) (sym in_it.1 ∙ is) was in
         rw is (ap after_line in_it.5 ∙ after_longer a.line a.taken whole.0 ∙ ap (λ (bytes : List ℕ). bytes ++ a.taken) whole.1)
-    by false is = rw is (in_it.5 ∙ ap (λ (bytes : List ℕ). bytes ++ a.taken) (was.1 (sym in_it.1 ∙ is)))
+    by false is = rw is (in_it.5 ∙ ap (λ (bytes : List ℕ). bytes ++ a.taken) (subst (λ (c : Bool). IsLine c a.line) (sym in_it.1 ∙ is) was))
 
 shown_isolated : (id : ℕ) (st : Stream) (calls : List Made) (given : (a : Account) → account_of calls id ≡ Some a → IsGiven a.label a)
     → ShowsIn st (account_of calls id) → IsIsolated id st calls
@@ -259,5 +267,5 @@ pub run_isolated : (lines : List Hostile) (id : ℕ) (st : Stream) → stream_at
     → IsIsolated id st (calls_of lines beginning [])
 run_isolated lines id st is =
     let holds = run_holds lines in
-    shown_isolated id st (calls_of lines beginning []) (holds.accounts.tied.given id)
+    shown_isolated id st (calls_of lines beginning []) (λ a is. (holds.accounts.tied.lawful id a is).0)
     (subst (λ (o : Option Stream). ShowsAt o (account_of (calls_of lines beginning []) id)) is (holds.shows id))

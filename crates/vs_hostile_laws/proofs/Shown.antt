@@ -12,7 +12,7 @@ use Rattle.vs_outside.specs.Host.{stream_at}
 use Rattle.vs_outside.specs.Host.{waits, with_stream}
 use Rattle.vs_outside.proofs.Frames.{keeps_others, stream_at-with_stream}
 use Rattle.vs_page.specs.Log.{flow_to_host}
-use Rattle.vs_proxy_bytes.specs.Tied.{IsWhole}
+use Rattle.vs_proxy_bytes.specs.Tied.{IsLine, IsRead}
 use Rattle.vs_proxy_bytes.specs.Made.{Account, delivering, is_on}
 
 -- A stream that the proxy wasn't given yet is a client's, and was given nothing; another one is what its account says.
@@ -20,16 +20,12 @@ use Rattle.vs_proxy_bytes.specs.Made.{Account, delivering, is_on}
 abbrev pub IsPorted : Account → Type 0
 IsPorted a = (flow : Flow) → a.by_client ≡ true → a.label ≡ Some flow → flow.host ≤ ASSIGNED_LAST
 
--- Nothing is taken behind a client's line before its stream has a label; then the line is whole. The stream of a dial has no line.
-abbrev pub IsRead : Option Flow → Account → Type 0
-IsRead None a = a.taken ≡ []
-IsRead (Some flow) a = (a.by_client ≡ true → IsWhole a.line) × (a.by_client ≡ false → a.line ≡ [])
-
+-- What is read of a stream stays lawful where nothing of it changes.
 pub read_same : (o : Option Flow) (a b : Account) → b.by_client ≡ a.by_client → b.line ≡ a.line → b.taken ≡ a.taken → IsRead o a
     → IsRead o b
 read_same None a b client line taken is = taken ∙ is
 read_same (Some flow) a b client line taken is =
-    (λ on. subst IsWhole (sym line) (is.0 (sym client ∙ on)), λ off. line ∙ is.1 (sym client ∙ off))
+    subst (λ (c : Bool). IsLine c b.line) (sym client) (subst (λ (bytes : List ℕ). IsLine a.by_client bytes) (sym line) is)
 
 abbrev pub ShowsIn : Stream → Option Account → Type 0
 ShowsIn st None = (st.by_client ≡ true) × (st.label ≡ None) × (st.given ≡ []) × (st.taken ≡ [])

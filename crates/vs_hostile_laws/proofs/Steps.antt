@@ -23,12 +23,12 @@ use Rattle.vs_outside.proofs.Frames.{accepts_waiting}
 use Rattle.vs_ring_port.specs.Contents.{Take, Read, Write, Return, Given, PublishCid}
 use Rattle.vs_device.specs.Calls.{Answer, Call, DeviceTree, Ring, Accept, Dial, Label, ReadStream, WriteStream, ShutWrite, CloseStream}
 use Rattle.vs_hostile.specs.Answers.{Around, answer_around, bytes_with}
-use Rattle.vs_proxy_bytes.specs.Tied.{IsWhole, reading_account}
+use Rattle.vs_proxy_bytes.specs.Tied.{IsRead, IsWhole, reading_account}
 use Rattle.std.proofs.Common.{append_assoc, min, []}
 use Rattle.std.proofs.lemmas.List.{append-nil, length-take}
 use Rattle.vs_outside.specs.Host.{next_bytes, read_of}
 use Rattle.vs_hostile_laws.specs.Recorded.{Recorded, recording}
-use Rattle.vs_hostile_laws.proofs.Shown.{IsRead, Shows, ShowsAt, ShowsIn, read_same, change_shows, delivers_same, new_shows, none_there}
+use Rattle.vs_hostile_laws.proofs.Shown.{Shows, ShowsAt, ShowsIn, read_same, change_shows, delivers_same, new_shows, none_there}
 use Rattle.vs_hostile_laws.proofs.Shown.{same_seen}
 use Rattle.vs_hostile_laws.proofs.Shown.{unseen_shows}
 use Rattle.vs_proxy_bytes.specs.Made.{Account, Made, MayGet, account_of, delivering, header_in, labelled, new_account, shut, with_given}
@@ -133,7 +133,7 @@ module _ (c : HostContents) (calls : List Made) (shows : Shows (account_of calls
             (λ st at in_it.
             let s : ShowsIn st None = subst (ShowsIn st) none in_it in
             subst (ShowsIn (record st { state = state.Open })) (sym ch.here)
-                (refl, s.0, s.1, s.2, (λ flow client label. absurd cc), s.3, refl)),
+            (refl, s.0, s.1, s.2, (λ flow client label. absurd cc), s.3, refl)),
       )
 
   dial_shows : (path : List ℕ) (flow : Flow) (a : Dialed) → dial_answer path c ≡ a → Shown (Dial path flow) a (after_dial flow a c)
@@ -150,7 +150,7 @@ module _ (c : HostContents) (calls : List Made) (shows : Shows (account_of calls
         ap (account_of calls) place ∙ none,
         new_shows (dialed_stream flow c.prepared) c (account_of calls) now shows
             (subst (ShowsIn (dialed_stream flow c.prepared)) (sym ch.here ∙ ap now place)
-            (refl, refl, refl, refl, (λ other client label. absurd cc), refl, (λ on. absurd cc, λ off. refl)))
+            (refl, refl, refl, refl, (λ other client label. absurd cc), refl, refl))
             (λ j other. ch.others j (λ same. other (same ∙ place))),
       )
 
@@ -173,7 +173,7 @@ module _ (c : HostContents) (calls : List Made) (shows : Shows (account_of calls
               s.3,
               λ other client label. subst (λ (f : Flow). f.host ≤ ASSIGNED_LAST) (one_flow flow other label) last,
               s.5,
-              (λ on. whole, λ off. absurd cc),
+              whole,
             )),
       )
 
@@ -182,14 +182,13 @@ module _ (c : HostContents) (calls : List Made) (shows : Shows (account_of calls
   read_shows stream n (read.Got k) is (x, known) =
       let bytes : List ℕ = next_bytes stream k c in
       let now : ℕ → Option Account = account_of (made (ReadStream stream n) (read.Got k, bytes) ∷ calls) in
-      let ch : Changes (account_of calls) now stream (with_taken bytes x) = changes (with_taken bytes) stream (account_of calls) x known in
-          (
+      let ch : Changes (account_of calls) now stream (with_taken bytes x) = changes (with_taken bytes) stream (account_of calls) x known in (
         read_short n k (fails_now c) (stream_at stream c) is,
         change_shows stream (take_bytes k) (called c) (account_of calls) now shows ch.others
             (λ gone was. let both : Some x ≡ None = sym known ∙ was in absurd cc)
             (λ st at in_it.
             let got : take k st.untaken ≡ bytes = ap (λ (o : Option Stream). option_map_or (λ (s : Stream). take k s.untaken) o [])
-                (sym at) in
+            (sym at) in
             subst (ShowsIn (take_bytes k st)) (sym ch.here)
             (subst (λ (b : List ℕ). ShowsIn (take_bytes k st) (Some (with_taken b x))) got
             (took_shows x.label k (take k st.untaken) st x refl refl (subst (ShowsIn st) known in_it)))),
@@ -264,9 +263,11 @@ step_shows (Ring (Read chain place n)) around calls P asks shows = (tt, λ id. b
 step_shows (Ring (Write chain place bytes)) around calls P asks shows = (tt, shows)
 step_shows (Ring (Return chain len)) around calls P asks shows = (tt, shows)
 step_shows (Ring (Given queue)) around calls P asks shows = (tt, shows)
-step_shows (Ring (PublishCid cid)) around calls P asks shows =
-    (tt, λ id. same_seen shut (λ a. record { client = refl; label = refl; given = refl; line = refl; taken = refl })
-        (stream_at id around.host) (account_of calls id) (shows id))
+step_shows (Ring (PublishCid cid)) around calls P asks shows = (
+  tt,
+  λ id. same_seen shut (λ a. record { client = refl; label = refl; given = refl; line = refl; taken = refl })
+      (stream_at id around.host) (account_of calls id) (shows id),
+)
 step_shows Accept around calls P asks shows = accept_shows around.host calls shows (accept_answer around.host) refl
 step_shows (Dial path flow) around calls P asks shows = dial_shows around.host calls shows path flow (dial_answer path around.host) refl
 step_shows (Label stream flow) around calls P asks shows = label_shows around.host calls shows stream flow tt asks.1 asks.0

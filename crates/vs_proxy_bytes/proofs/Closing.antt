@@ -16,7 +16,7 @@ use Rattle.vs_conn.specs.End.{aborted}
 use Rattle.vs_proxy.specs.State.{Handshake}
 use Rattle.vs_pipes.proofs.Changes.{changed, others_left}
 use Rattle.vs_proxy_bytes.specs.Made.{Account, Made, account_of, payload_put, payload_taken, shut}
-use Rattle.vs_proxy_bytes.specs.Tied.{Agree, AgreesWith, IsGiven, IsOver, IsTied, IsTiedTo}
+use Rattle.vs_proxy_bytes.specs.Tied.{Agree, AgreesWith, IsLawful, IsOver, IsTied, IsTiedTo}
 use Rattle.vs_proxy_bytes.proofs.Accounts.{Changes, changes, changing, stays}
 use Rattle.vs_proxy_bytes.proofs.Entries.{given_of, given_shut, join_of, left, moved}
 use Rattle.vs_proxy_bytes.proofs.Keeping.{Keeps, keeps_each, keeps_then, made}
@@ -62,7 +62,7 @@ module _ (at now : ℕ → Option Account) (put taken : Flow → List ℕ) (t : 
     carried = x.carried;
   }
 
-  pub agree_left : new.closed ≡ true → IsGiven new.label new → Agree now put taken (without t e.slot) hands
+  pub agree_left : new.closed ≡ true → IsLawful new.label new → Agree now put taken (without t e.slot) hands
   agree_left closed given = record {
     tied = left at now t hands x.tied e is new ch closed given;
     over = others_left t x.tied.table e is IsOver IsOver x.over (λ y other was. was);

@@ -18,7 +18,7 @@ use Rattle.vs_proxy.specs.State.{Handshake}
 use Rattle.vs_pipes.proofs.Changes.{changed, others_left, under_slot}
 use Rattle.vs_pipes.proofs.Logs.{shorter}
 use Rattle.vs_proxy_bytes.specs.Made.{Account, is_on, shut, took, with_taken}
-use Rattle.vs_proxy_bytes.specs.Tied.{AreTied, IsGiven, IsTied, IsTiedTo, ok_line_of, reading_account, stream_of}
+use Rattle.vs_proxy_bytes.specs.Tied.{AreTied, IsLawful, IsTied, IsTiedTo, ok_line_of, reading_account, stream_of}
 use Rattle.vs_uds.specs.Reading.{is_decided}
 use Rattle.vs_uds.specs.declared.connect.TheConstants.{CONNECT_MAX}
 use Rattle.vs_proxy_bytes.proofs.Accounts.{Changes, changing}
@@ -33,14 +33,16 @@ pub no_label : (a : Account) (f : Flow) → a.label ≡ Some f → a.label ≡ N
 no_label a f is none = let both : Some f ≡ None = sym is ∙ none in absurd cc
 
 -- What a connection's stream was given is a prefix of what came.
-pub given_of : (a : Account) (e : DeviceEntry) → IsTiedTo a e → IsGiven a.label a
+pub given_of : (a : Account) (e : DeviceEntry) → IsTiedTo a e → IsLawful a.label a
 given_of a e x =
-    subst (λ (o : Option Flow). IsGiven o a) (sym x.label)
-    (subst (λ (b : Bool). IsPrefixOf a.given (ok_line_of b e.flow ++ a.delivered)) (sym x.client)
-    (shorter a.given (e.value.ok_line ++ e.value.pending) (ok_line_of e.value.by_client e.flow ++ a.delivered) x.drains.front))
+    subst (λ (o : Option Flow). IsLawful o a) (sym x.label) (
+      subst (λ (b : Bool). IsPrefixOf a.given (ok_line_of b e.flow ++ a.delivered)) (sym x.client)
+          (shorter a.given (e.value.ok_line ++ e.value.pending) (ok_line_of e.value.by_client e.flow ++ a.delivered) x.drains.front),
+      x.line,
+    )
 
 -- Closing a stream gives it nothing.
-pub given_shut : (o : Option Flow) (a : Account) → IsGiven o a → IsGiven o (shut a)
+pub given_shut : (o : Option Flow) (a : Account) → IsLawful o a → IsLawful o (shut a)
 given_shut None a given = given
 given_shut (Some flow) a given = given
 
@@ -76,14 +78,14 @@ module _ (at now : ℕ → Option Account) (t : Table DeviceConnection) (hands :
       (λ h was. hand_kept h (λ same. let both : None ≡ Some (reading_account h.line) = sym none ∙ ap at (sym same)
       ∙ was in absurd cc) was) hands x.waiting
 
-  given_kept : IsGiven new.label new → (id : ℕ) (a : Account) → now id ≡ Some a → IsGiven a.label a
+  given_kept : IsLawful new.label new → (id : ℕ) (a : Account) → now id ≡ Some a → IsLawful a.label a
   given_kept here id a is = by (id == stream) refl
     where
-      by : (b : Bool) → (id == stream) ≡ b → IsGiven a.label a
+      by : (b : Bool) → (id == stream) ≡ b → IsLawful a.label a
       by true same =
           let place : id ≡ stream = grind (arith, nat_tests, same) in
-          subst (λ (y : Account). IsGiven y.label y) (one_account now stream new a ch.here (ap now (sym place) ∙ is)) here
-      by false other = x.given id a (sym (ch.others id (grind (arith, nat_tests, other))) ∙ is)
+          subst (λ (y : Account). IsLawful y.label y) (one_account now stream new a ch.here (ap now (sym place) ∙ is)) here
+      by false other = x.lawful id a (sym (ch.others id (grind (arith, nat_tests, other))) ∙ is)
 
   -- A stream with a label that isn't closed serves its flow, this one and the others.
   serves_kept : (u : Table DeviceConnection) → ((f : Flow) → new.label ≡ Some f → new.closed ≡ false → stream_of u f ≡ Some stream)
@@ -106,17 +108,17 @@ module _ (at now : ℕ → Option Account) (t : Table DeviceConnection) (hands :
     entry_apart : (y : DeviceEntry) → IsTied at y → y.value.stream ≢ stream
     entry_apart y was same = no_label was.0 y.flow was.2.label (unlabelled was.0 (ap at (sym same) ∙ was.1))
 
-    pub hands_changed : (after : List Handshake) → new.label ≡ None → new.given ≡ [] → All
+    pub hands_changed : (after : List Handshake) → new.label ≡ None → new.given ≡ [] → new.taken ≡ [] → All
         (λ h. is_decided CONNECT_MAX h.line ≡ false) after → All
         (λ h. now h.stream ≡ Some (reading_account h.line)) after
         → AllPairs (λ g h. g.stream ≢ h.stream) after → AreTied now t after
-    hands_changed after none nothing undecided waiting apart = record {
+    hands_changed after none nothing unread undecided waiting apart = record {
       table = x.table;
       joined = All-weaker (IsTied at) (IsTied now) (λ y was. entry_kept y (entry_apart y was) was) t.entries x.joined;
       waiting = waiting;
       undecided = undecided;
       apart = apart;
-      given = given_kept (subst (λ (o : Option Flow). IsGiven o new) (sym none) nothing);
+      lawful = given_kept (subst (λ (o : Option Flow). IsLawful o new) (sym none) (nothing, unread));
       serves = serves_kept t (λ f label still. absurd (no_label new f label none)) (λ id f other is. is);
     }
 
@@ -150,7 +152,7 @@ module _ (at now : ℕ → Option Account) (t : Table DeviceConnection) (hands :
         waiting = waiting;
         undecided = undecided;
         apart = apart;
-        given = given_kept (given_of new (next_entry t flow c) tied);
+        lawful = given_kept (given_of new (next_entry t flow c) tied);
         serves = serves_kept (with_entry t flow c) (λ f label still. served f label) (λ id f other is. others_served id f is);
       }
 
@@ -222,7 +224,7 @@ module _ (at now : ℕ → Option Account) (t : Table DeviceConnection) (hands :
     waiting = hands_kept;
     undecided = x.undecided;
     apart = x.apart;
-    given = given_kept at now t hands x e.value.stream new ch (given_of new (record e { value = c }) tied);
+    lawful = given_kept at now t hands x e.value.stream new ch (given_of new (record e { value = c }) tied);
     serves = serves_kept at now t hands x e.value.stream new ch (with_value t e.slot c)
         (λ f label still. stream_of-with_value t x.table e is c same f
         ∙ ap (λ (g : Flow). stream_of t g) (one_label new new f e.flow refl label tied.label) ∙ ap stream_in (own_flow t x.table e is))
@@ -230,7 +232,7 @@ module _ (at now : ℕ → Option Account) (t : Table DeviceConnection) (hands :
   }
 
   -- It leaves, with its stream closed.
-  pub left : new.closed ≡ true → IsGiven new.label new → AreTied now (without t e.slot) hands
+  pub left : new.closed ≡ true → IsLawful new.label new → AreTied now (without t e.slot) hands
   left closed given = record {
     table = without_sound t e.slot x.table;
     joined = others_left t x.table e is (IsTied at) (IsTied now) x.joined
@@ -238,7 +240,7 @@ module _ (at now : ℕ → Option Account) (t : Table DeviceConnection) (hands :
     waiting = hands_kept;
     undecided = x.undecided;
     apart = x.apart;
-    given = given_kept at now t hands x e.value.stream new ch given;
+    lawful = given_kept at now t hands x e.value.stream new ch given;
     serves = serves_kept at now t hands x e.value.stream new ch (without t e.slot)
         (λ f label still. let both : true ≡ false = sym closed ∙ still in absurd cc)
         (λ id f other found. stream_of-without t x.table e is id f other found);
@@ -268,16 +270,14 @@ took_same : (o : Option Flow) (bytes : List ℕ) (a : Account) → ((took o byte
 took_same None bytes a = (refl, refl)
 took_same (Some flow) bytes a = (refl, refl)
 
-took_given : (o p : Option Flow) (bytes : List ℕ) (a : Account) → IsGiven o a → IsGiven o (took p bytes a)
-took_given None None bytes a given = given
-took_given None (Some flow) bytes a given = given
-took_given (Some flow) None bytes a given = given
-took_given (Some flow) (Some other) bytes a given = given
+took_given : (o : Option Flow) (bytes : List ℕ) (a : Account) → IsLawful o a → IsLawful o (took o bytes a)
+took_given None bytes a given = given
+took_given (Some flow) bytes a given = given
 
 tied_taken : (a : Account) (e : DeviceEntry) (bytes : List ℕ) → IsTiedTo a e → IsTiedTo (with_taken bytes a) e
 tied_taken a e bytes x =
     subst (λ (o : Option Flow). IsTiedTo (took o bytes a) e) (sym x.label)
-    (record { label = x.label; client = x.client; closed = x.closed; drains = x.drains; asked = x.asked })
+    (record { label = x.label; client = x.client; closed = x.closed; line = x.line; drains = x.drains; asked = x.asked })
 
 mapped_there : (f : Account → Account) (o : Option Account) (a : Account) → option_map f o ≡ Some a → (b : Account) × (o ≡ Some b) ×
     (f b ≡ a)
@@ -297,16 +297,16 @@ module _ (at : ℕ → Option Account) (t : Table DeviceConnection) (hands : Lis
       by true = (with_taken bytes was.0, ap (option_map (with_taken bytes)) was.1, tied_taken was.0 y bytes was.2)
       by false = was
 
-  given_still : (id : ℕ) (a : Account) → now id ≡ Some a → IsGiven a.label a
+  given_still : (id : ℕ) (a : Account) → now id ≡ Some a → IsLawful a.label a
   given_still id a is = by (stream == id) is
     where
-      by : (b : Bool) → cond b (option_map (with_taken bytes) (at id)) (at id) ≡ Some a → IsGiven a.label a
+      by : (b : Bool) → cond b (option_map (with_taken bytes) (at id)) (at id) ≡ Some a → IsLawful a.label a
       by true is =
           let b = mapped_there (with_taken bytes) (at id) a is in
-          subst (λ (y : Account). IsGiven y.label y) b.2
-          (subst (λ (o : Option Flow). IsGiven o (with_taken bytes b.0)) (sym (took_same b.0.label bytes b.0).0)
-          (took_given b.0.label b.0.label bytes b.0 (x.given id b.0 b.1)))
-      by false is = x.given id a is
+          subst (λ (y : Account). IsLawful y.label y) b.2
+          (subst (λ (o : Option Flow). IsLawful o (with_taken bytes b.0)) (sym (took_same b.0.label bytes b.0).0)
+          (took_given b.0.label bytes b.0 (x.lawful id b.0 b.1)))
+      by false is = x.lawful id a is
 
   serves_still : (id : ℕ) (a : Account) (flow : Flow) → now id ≡ Some a → a.label ≡ Some flow → a.closed ≡ false → stream_of t flow
       ≡ Some id
@@ -328,6 +328,6 @@ module _ (at : ℕ → Option Account) (t : Table DeviceConnection) (hands : Lis
     waiting = waiting;
     undecided = undecided;
     apart = apart;
-    given = given_still;
+    lawful = given_still;
     serves = serves_still;
   }

@@ -21,7 +21,7 @@ use Rattle.vs_device.specs.Streams.{closing}
 use Rattle.vs_device.specs.Turns.{after_reset, close_slot, open_of, reset_of}
 use Rattle.vs_proxy.specs.State.{Handshake}
 use Rattle.vs_proxy_bytes.specs.Made.{Account, Made, account_of, labelled, payload_put, payload_taken, shut}
-use Rattle.vs_proxy_bytes.specs.Tied.{Agree, IsGiven, IsOver, IsTied, IsTiedTo, IsWhole, reading_account}
+use Rattle.vs_proxy_bytes.specs.Tied.{Agree, IsLawful, IsOver, IsTied, IsTiedTo, IsWhole, reading_account}
 use Rattle.vs_uds.specs.Reading.{is_decided}
 use Rattle.vs_uds.specs.declared.connect.TheConstants.{CONNECT_MAX}
 use Rattle.vs_proxy_bytes.proofs.Accounts.{Changes, changes, changing, stays}
@@ -30,12 +30,13 @@ use Rattle.vs_proxy_bytes.proofs.Entries.{added, given_shut, hands_changed, one_
 use Rattle.vs_proxy_bytes.proofs.Keeping.{Keeps, keeps_each, keeps_then, made}
 
 -- The connection of a client's stream.
-client_tie : (t : Table DeviceConnection) (flow : Flow) (stream : ℕ) (line : List ℕ)
+client_tie : (t : Table DeviceConnection) (flow : Flow) (stream : ℕ) (line : List ℕ) → IsWhole line
     → IsTiedTo (labelled flow (reading_account line)) (next_entry t flow (new_connection (asked BUF_ALLOC) stream true))
-client_tie t flow stream line = record {
+client_tie t flow stream line whole = record {
   label = refl;
   client = refl;
   closed = refl;
+  line = whole;
   drains = record { front = (_, refl); whole = λ on. absurd cc };
   asked = λ on. (refl, refl, refl, refl);
 }
@@ -58,7 +59,7 @@ new_agrees room = record {
     waiting = λ i d within. absurd (omega (arith, within));
     undecided = λ i d within. absurd (omega (arith, within));
     apart = λ i j d less within. absurd (omega (arith, within));
-    given = λ id a is. absurd cc;
+    lawful = λ id a is. absurd cc;
     serves = λ id a flow is label still. absurd cc;
   };
   over = λ i d within. absurd (omega (arith, within));
@@ -89,7 +90,7 @@ keeps_open hands after flow stream line s calls last whole waits undecided waiti
         changes (labelled flow) stream (account_of calls) (reading_account line) waits in record {
           tied = added (account_of calls) now s.table hands x.tied stream (labelled flow (reading_account line)) ch
               (waits_unlabelled (account_of calls) stream line waits) flow c refl (accepted s.table flow none)
-              (client_tie s.table flow stream line) after undecided
+              (client_tie s.table flow stream line whole) after undecided
               (λ i d within. ch.others _ (others i d within) ∙ waiting i d within) apart;
           over = All-push IsOver s.table.entries (next_entry s.table flow c) x.over (λ closed. absurd cc);
           carried = x.carried;
@@ -100,7 +101,7 @@ keeps_open hands after flow stream line s calls last whole waits undecided waiti
     by (Some fault) is = record {
       tied = hands_changed (account_of calls) (account_of calls) s.table hands x.tied stream (reading_account line)
           (stays (account_of calls) stream (reading_account line) waits)
-          (waits_unlabelled (account_of calls) stream line waits) after refl refl undecided waiting apart;
+          (waits_unlabelled (account_of calls) stream line waits) after refl refl refl undecided waiting apart;
       over = x.over;
       carried = x.carried;
     }
@@ -110,24 +111,24 @@ keeps_open hands after flow stream line s calls last whole waits undecided waiti
 pub record AreClosing (at : ℕ → Option Account) (put taken : Flow → List ℕ) (t : Table DeviceConnection) : Type 0 where
   pub table : IsTable t
   pub carried : (flow : Flow) → put flow ≡ taken flow
-  pub given : (id : ℕ) (a : Account) → at id ≡ Some a → IsGiven a.label a
+  pub lawful : (id : ℕ) (a : Account) → at id ≡ Some a → IsLawful a.label a
 
 there_before : (o : Option Account) (a : Account) → option_map shut o ≡ Some a → (b : Account) × (o ≡ Some b) × (shut b ≡ a)
 there_before None a is = absurd cc
 there_before (Some b) a is = (b, refl, cc)
 
-given_after : (o : Option Account) → ((b : Account) → o ≡ Some b → IsGiven b.label b) → (a : Account) → option_map shut o ≡ Some a
-    → IsGiven a.label a
+given_after : (o : Option Account) → ((b : Account) → o ≡ Some b → IsLawful b.label b) → (a : Account) → option_map shut o ≡ Some a
+    → IsLawful a.label a
 given_after o given a is =
     let b = there_before o a is in
-    subst (λ (y : Account). IsGiven y.label y) b.2 (given_shut b.0.label b.0 (given b.0 b.1))
+    subst (λ (y : Account). IsLawful y.label y) b.2 (given_shut b.0.label b.0 (given b.0 b.1))
 
-closed_given : (at : ℕ → Option Account) (stream : ℕ) → ((id : ℕ) (a : Account) → at id ≡ Some a → IsGiven a.label a) → (id : ℕ)
+closed_given : (at : ℕ → Option Account) (stream : ℕ) → ((id : ℕ) (a : Account) → at id ≡ Some a → IsLawful a.label a) → (id : ℕ)
     (a : Account)
-    → changing shut stream at id ≡ Some a → IsGiven a.label a
+    → changing shut stream at id ≡ Some a → IsLawful a.label a
 closed_given at stream given id a is = by (stream == id) is
   where
-    by : (b : Bool) → cond b (option_map shut (at id)) (at id) ≡ Some a → IsGiven a.label a
+    by : (b : Bool) → cond b (option_map shut (at id)) (at id) ≡ Some a → IsLawful a.label a
     by true is = given_after (at id) (given id) a is
     by false is = given id a is
 
@@ -139,10 +140,10 @@ keeps_close_slot slot s calls x = by (entry_under s.table slot)
   where
     closes : (e : DeviceEntry) (b : Bool) → Keeps Closing (cond b (Done (with_connection e.slot (stream_closed e.value) s))
         (Ask (CloseStream e.value.stream) (λ _. Done (with_connection e.slot (stream_closed e.value) s)))) calls
-    closes e true = record { table = with_value_sound s.table e.slot (stream_closed e.value) x.table; given = x.given; carried = x.carried }
+    closes e true = record { table = with_value_sound s.table e.slot (stream_closed e.value) x.table; lawful = x.lawful; carried = x.carried }
     closes e false = λ a fit. record {
       table = with_value_sound s.table e.slot (stream_closed e.value) x.table;
-      given = closed_given (account_of calls) e.value.stream x.given;
+      lawful = closed_given (account_of calls) e.value.stream x.lawful;
       carried = x.carried;
     }
 
@@ -165,7 +166,7 @@ reset_agrees at put taken t x = record {
     waiting = λ i d within. absurd (omega (arith, within));
     undecided = λ i d within. absurd (omega (arith, within));
     apart = λ i j d less within. absurd (omega (arith, within));
-    given = x.closing.given;
+    lawful = x.closing.lawful;
     serves = λ id a flow is label still. let both : true ≡ false = sym (x.closed id a is) ∙ still in absurd cc;
   };
   over = nothing IsOver;
@@ -179,7 +180,7 @@ reset_agrees at put taken t x = record {
 pub reset_closes : (at : ℕ → Option Account) (put taken : Flow → List ℕ) (t : Table DeviceConnection) (stream : ℕ) → AreReset at put taken t
     → AreReset (changing shut stream at) put taken t
 reset_closes at put taken t stream x = record {
-  closing = record { table = x.closing.table; given = closed_given at stream x.closing.given; carried = x.closing.carried };
+  closing = record { table = x.closing.table; lawful = closed_given at stream x.closing.lawful; carried = x.closing.carried };
   none = x.none;
   closed = λ id a is. by id a (stream == id) is;
 }
@@ -204,7 +205,7 @@ keeps_reset hands cid s calls x = by s.failed
     emptied_now t later kept answer = record {
       closing = record {
         table = no_entries t.table.room t.table.given kept.table.slots_left;
-        given = λ id a is. given_after (account_of later id) (kept.given id) a is;
+        lawful = λ id a is. given_after (account_of later id) (kept.lawful id) a is;
         carried = kept.carried;
       };
       none = refl;
@@ -217,5 +218,5 @@ keeps_reset hands cid s calls x = by s.failed
     by None =
         keeps_then (ResetEnds hands) Closing (for_each close_slot (slots s.table) s) ends calls
         (keeps_each Closing close_slot keeps_close_slot (slots s.table) s calls
-        (record { table = x.tied.table; given = x.tied.given; carried = x.carried }))
+        (record { table = x.tied.table; lawful = x.tied.lawful; carried = x.carried }))
         (λ t later kept. λ answer fit. emptied_now t later kept answer)

@@ -250,10 +250,10 @@ module _ (hands : List Handshake) where
       tied = taken_tied (account_of calls) r.state.table hands x.tied e.value.stream payload hands x.tied.undecided
           (All-weaker (λ (h : Handshake). account_of calls h.stream ≡ Some (reading_account h.line))
           (λ (h : Handshake). account_of (made (ReadStream e.value.stream n) (read.Got k, payload) ∷ calls) h.stream ≡ Some
-              (reading_account h.line))
+          (reading_account h.line))
           (λ h was. ch.others h.stream (hand_other (account_of calls) (account_of calls) r.state.table hands x.tied e
           (there_under r.state.table slot e found) t.0 (stays (account_of calls) e.value.stream t.0 t.1) h was)
-              ∙ was) hands x.tied.waiting) x.tied.apart;
+          ∙ was) hands x.tied.waiting) x.tied.apart;
       over = x.over;
       carried = λ flow.
           ap (λ (bytes : List ℕ). cond (bytes_eq (ports_of flow) (ports_of e.flow)) (bytes ++ payload) bytes) (x.carried flow)

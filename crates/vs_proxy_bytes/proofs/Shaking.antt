@@ -105,7 +105,7 @@ rest_agrees stream t calls x = record {
         (reading_account h.line)) stream t.state.handshakes x.tied.waiting;
     undecided = without_all (λ (h : Handshake). is_decided CONNECT_MAX h.line ≡ false) stream t.state.handshakes x.tied.undecided;
     apart = without_pairs (λ (g : Handshake) (h : Handshake). g.stream ≢ h.stream) stream t.state.handshakes x.tied.apart;
-    given = x.tied.given;
+    lawful = x.tied.lawful;
     serves = x.tied.serves;
   };
   over = x.over;
@@ -123,7 +123,7 @@ module _ (stream : ℕ) (rest : List Handshake) (t : Turning) (calls : List Made
       (reading_account line) waits in
       let kept : AgreesWith (made (CloseStream stream) answer ∷ calls) t.state.device.table rest = record {
         tied = hands_changed (account_of calls) now t.state.device.table rest x.tied stream (shut (reading_account line)) ch
-            (waits_unlabelled (account_of calls) stream line waits) rest refl refl x.tied.undecided
+            (waits_unlabelled (account_of calls) stream line waits) rest refl refl refl x.tied.undecided
             (λ i d within. ch.others _ (others i d within) ∙ x.tied.waiting i d within) x.tied.apart;
         over = x.over;
         carried = x.carried;
@@ -166,7 +166,7 @@ keeps_tick_handshake stream t calls x = by (handshake_on stream t.state) refl
     late : (h : Handshake) → handshake_on stream t.state ≡ Some h → (b : Bool) → Keeps Turns (cond b (dropping stream t) (Done t)) calls
     late h found true = keeps_dropping stream (without_stream stream t.state.handshakes) t calls h.line
         (waits_on stream t.state calls h found x).waits (without_none stream t.state.handshakes x.tied.apart) refl
-            (rest_agrees stream t calls x)
+        (rest_agrees stream t calls x)
     late h found false = x
 
     by : (o : Option Handshake) → handshake_on stream t.state ≡ o → Keeps Turns
@@ -188,7 +188,7 @@ keeps_answered (accepted.Stream stream) t calls x fit =
     let kept = waiting_kept (account_of calls) now t.state.device.table t.state.handshakes x.tied stream
     (new_account None true) ch fit in record {
       tied = hands_changed (account_of calls) now t.state.device.table t.state.handshakes x.tied stream (new_account None true) ch
-          (λ a is. let both : None ≡ Some a = sym fit ∙ is in absurd cc) (t.state.handshakes ++ h ∷ []) refl refl
+          (λ a is. let both : None ≡ Some a = sym fit ∙ is in absurd cc) (t.state.handshakes ++ h ∷ []) refl refl refl
           (All-push (λ (g : Handshake). is_decided CONNECT_MAX g.line ≡ false) t.state.handshakes h x.tied.undecided refl)
           (All-push (λ (g : Handshake). now g.stream ≡ Some (reading_account g.line)) t.state.handshakes h kept ch.here)
           (all_pairs_push (λ (g : Handshake) (k : Handshake). g.stream ≢ k.stream) t.state.handshakes h x.tied.apart
@@ -246,7 +246,7 @@ module _ (h : Handshake) (t : Turning) (calls : List Made) (waits : account_of c
           tied = taken_tied (account_of calls) t.state.device.table (without_stream h.stream hs) r.tied h.stream bytes
               (without_stream h.stream hs)
               r.tied.undecided (λ i d within. elsewhere (get_or (without_stream h.stream hs) i d) (others i d within)
-                  (r.tied.waiting i d within)) r.tied.apart;
+              (r.tied.waiting i d within)) r.tied.apart;
           over = x.over;
           carried = still_carried;
         }
@@ -267,7 +267,7 @@ module _ (h : Handshake) (t : Turning) (calls : List Made) (waits : account_of c
     keeps_got : Keeps TurnsFirst (byte_read h (read.Got n) bytes t) later
     keeps_got =
         keeps_line_decided h.stream (without_stream h.stream hs) longer later line now_waits others
-            (without_after h.stream line hs) rest_now
+        (without_after h.stream line hs) rest_now
         (λ port is. whole_line h.line bytes port undecided one is) (connect_step line) refl more_now
 
   keeps_byte_read : (answer : StreamRead) (bytes : List ℕ) → MayGet (ReadStream h.stream 1) (answer, bytes) calls
@@ -277,14 +277,14 @@ module _ (h : Handshake) (t : Turning) (calls : List Made) (waits : account_of c
   keeps_byte_read read.End bytes fit =
       keeps_then TurnsFirst Turns (dropping h.stream t) (λ u. Done (u, false)) (made (ReadStream h.stream 1) (read.End, bytes) ∷ calls)
       (keeps_dropping h.stream (without_stream h.stream hs) t (made (ReadStream h.stream 1)
-          (read.End, bytes) ∷ calls) h.line waits others refl
+      (read.End, bytes) ∷ calls) h.line waits others refl
       (rest_agrees h.stream t calls x))
       (λ u later kept. kept)
   keeps_byte_read read.Failed bytes fit =
       keeps_then TurnsFirst Turns (dropping h.stream (host_fault t)) (λ u. Done (u, false))
       (made (ReadStream h.stream 1) (read.Failed, bytes) ∷ calls)
       (keeps_dropping h.stream (without_stream h.stream hs) (host_fault t)
-          (made (ReadStream h.stream 1) (read.Failed, bytes) ∷ calls) h.line
+      (made (ReadStream h.stream 1) (read.Failed, bytes) ∷ calls) h.line
       waits others refl (rest_agrees h.stream t calls x))
       (λ u later kept. kept)
 

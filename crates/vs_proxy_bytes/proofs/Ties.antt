@@ -52,6 +52,7 @@ end_changes a e c x client closed line pending less asks = record {
   label = x.label;
   client = x.client ∙ sym client;
   closed = x.closed ∙ sym closed;
+  line = x.line;
   drains = record {
     front = subst (λ (bytes : List ℕ). IsPrefixOf (a.given ++ bytes) (ok_line_of c.by_client e.flow ++ a.delivered)) (sym same)
         (subst (λ (b : Bool). IsPrefixOf (a.given ++ held e.value) (ok_line_of b e.flow ++ a.delivered)) (sym client) x.drains.front);
@@ -78,6 +79,7 @@ closes a e c x client asks = record {
   label = x.label;
   client = x.client ∙ sym client;
   closed = refl;
+  line = x.line;
   drains = record {
     front = subst (λ (b : Bool). IsPrefixOf (a.given ++ []) (ok_line_of b e.flow ++ a.delivered)) (sym client) (nothing_held a e x);
     whole = λ on. absurd cc;
@@ -105,6 +107,7 @@ shuts a e bits now x = by (with_shut e.value.end bits).own.receive refl
       label = x.label;
       client = x.client;
       closed = x.closed;
+      line = x.line;
       drains = record {
         front = subst (λ (b : Bool). IsPrefixOf (a.given ++ (cond b [] e.value.ok_line ++ cond b [] e.value.pending)) (came a e)) (sym is)
             (nothing_held a e x);
@@ -128,6 +131,7 @@ delivers a e h payload x still is = record {
   label = x.label;
   client = x.client;
   closed = x.closed;
+  line = x.line;
   drains = record {
     front = all_of (a.given ++ (e.value.ok_line ++ (e.value.pending ++ payload)))
         (ok_line_of e.value.by_client e.flow ++ (a.delivered ++ payload)) all;
@@ -150,6 +154,7 @@ answers a e h x is = record {
   label = x.label;
   client = x.client;
   closed = x.closed;
+  line = x.line;
   drains = record {
     front = all_of (a.given ++ (ok_line_of e.value.by_client e.flow ++ e.value.pending))
         (ok_line_of e.value.by_client e.flow ++ a.delivered) all;
@@ -192,6 +197,7 @@ writes a e n x less = record {
   label = x.label;
   client = x.client;
   closed = x.closed;
+  line = x.line;
   drains = record {
     front = subst (λ (bytes : List ℕ). IsPrefixOf bytes (came a e)) (sym all) x.drains.front;
     whole = λ on. all ∙ x.drains.whole

@@ -65,6 +65,7 @@ dialed_tie t flow h stream = record {
   label = refl;
   client = refl;
   closed = refl;
+  line = refl;
   drains = record { front = ([], refl); whole = λ on. refl };
   asked = λ on. absurd cc;
 }

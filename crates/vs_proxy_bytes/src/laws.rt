@@ -12,7 +12,7 @@ ghost use Rattle.vs_proxy.specs.Turns.{new_proxy, proxy_reset_of, turn_of};
 ghost use Rattle.vs_proxy.specs.declared.answers.Turn.{Turn};
 ghost use Rattle.vs_proxy_bytes.specs.Judged.{IsJudged};
 ghost use Rattle.vs_proxy_bytes.specs.Made.{Account, Made, Makes, account_of, is_on, payload_put, payload_taken};
-ghost use Rattle.vs_proxy_bytes.specs.Tied.{AccountsFor, IsGiven, IsTied};
+ghost use Rattle.vs_proxy_bytes.specs.Tied.{AccountsFor, IsGiven, IsRead, IsTied};
 
 /// The calls that were made for a proxy account for what it holds: before its first call, and after each turn and each reset, whatever the
 /// ring answers, and whatever a host that gives no stream twice and takes no more bytes than it is given.
@@ -25,11 +25,14 @@ pub fn law_of_accounts()
 {}
 
 /// So it is with each stream: what it was given is a prefix of its OK line and the payloads delivered on its own connection. What it was
-/// given and what its connection holds are all of them, while the connection gives all. At no time have two streams the connection of one
-/// flow; and the payload put on a flow is what was taken of the streams of that flow, each byte once and in order.
+/// given and what its connection holds are all of them, while the connection gives all. Of a client's stream nothing is taken behind the LF
+/// of its line before it has a label. At no time have two streams the connection of one flow; and the payload put on a flow is what was
+/// taken of the streams of that flow, each byte once and in order.
 pub fn law_of_streams()
     ensures given { (s : ProxyState) (calls : List Made) (id : ℕ) (a : Account) → AccountsFor s calls → account_of calls id ≡ Some a
         → IsGiven a.label a }
+    ensures read { (s : ProxyState) (calls : List Made) (id : ℕ) (a : Account) → AccountsFor s calls → account_of calls id ≡ Some a
+        → IsRead a.label a }
     ensures held { (s : ProxyState) (calls : List Made) (e : DeviceEntry) → AccountsFor s calls → Contains s.device.table.entries e
         → IsTied (account_of calls) e }
     ensures apart { (s : ProxyState) (calls : List Made) (i j : ℕ) (a b : Account) (flow : Flow) → AccountsFor s calls
