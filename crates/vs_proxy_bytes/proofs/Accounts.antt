@@ -1,5 +1,6 @@
 -- What a call says of the stream that it names, and of all others.
-use Rattle.std.proofs.Common.{◌≡◌, ◌≢◌, ℕ, ◌==◌, ◌&&◌, not, Bool, true, false, cond, List, ◌++◌, Option, Some, None, refl, sym, ap, ◌∙◌, arith}
+use Rattle.std.proofs.Common.{◌≡◌, ◌≢◌, ℕ, ◌==◌, ◌&&◌, not, Bool, true, false, cond, List, ◌++◌, Option, Some, None, refl, sym, ap, ◌∙◌}
+use Rattle.std.proofs.Common.{arith}
 use Rattle.std.specs.Option.{option_map, option_map_or}
 use Rattle.std.proofs.lemmas.Bool.Decides.{nat_tests}
 use Rattle.vs_flow.specs.Flow.{same_flow}
@@ -48,10 +49,12 @@ pub is_delivered : (flow : Flow) (payload : List ℕ) (a : Account) → a.label 
     → with_delivery flow payload a ≡ record a { delivered = a.delivered ++ payload }
 is_delivered flow payload a label still =
     ap (λ (b : Bool). cond b (record a { delivered = a.delivered ++ payload }) a)
-    (ap (λ (c : Bool). not c && option_map_or (same_flow flow) a.label false) still ∙ ap (λ (o : Option Flow). option_map_or (same_flow flow) o false) label
+    (ap (λ (c : Bool). not c && option_map_or (same_flow flow) a.label false) still ∙ ap
+    (λ (o : Option Flow). option_map_or (same_flow flow) o false) label
     ∙ same_self flow)
 
-pub not_delivered : (flow : Flow) (payload : List ℕ) (a : Account) → (a.label ≡ Some flow → a.closed ≡ false → ⊥) → with_delivery flow payload a ≡ a
+pub not_delivered : (flow : Flow) (payload : List ℕ) (a : Account) → (a.label ≡ Some flow → a.closed ≡ false → ⊥)
+    → with_delivery flow payload a ≡ a
 not_delivered flow payload a other = by a.closed a.label refl refl
   where
     by : (b : Bool) (o : Option Flow) → a.closed ≡ b → a.label ≡ o

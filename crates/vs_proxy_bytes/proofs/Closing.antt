@@ -1,5 +1,6 @@
 -- Connections whose end changes, streams that are closed, connections that leave.
-use Rattle.std.proofs.Common.{◌≡◌, ℕ, ◌==◌, not, Bool, true, false, cond, List, [], ◌∷◌, map, filter, Contains, Option, Some, None, refl, sym, ap, subst, ◌∙◌}
+use Rattle.std.proofs.Common.{◌≡◌, ℕ, ◌==◌, not, Bool, true, false, cond, List, [], ◌∷◌, map, filter, Contains, Option, Some, None, refl}
+use Rattle.std.proofs.Common.{sym, ap, subst, ◌∙◌}
 use Rattle.std.proofs.lemmas.List.Elements.{All-contains}
 use Rattle.vs_conn.specs.declared.end.State.TheVariants as state
 use Rattle.vs_contents.specs.CallTree.{Done, Ask}
@@ -15,7 +16,7 @@ use Rattle.vs_conn.specs.End.{aborted}
 use Rattle.vs_proxy_parts.specs.State.{Handshake}
 use Rattle.vs_pipes.proofs.Changes.{changed, others_left}
 use Rattle.vs_proxy_bytes.specs.Made.{Account, Made, account_of, payload_put, payload_taken, shut}
-use Rattle.vs_proxy_bytes.specs.Tied.{Agree, AgreesWith, IsGiven, IsOver, IsTied, IsTiedTo}
+use Rattle.vs_proxy_bytes.specs.Tied.{Agree, AgreesWith, IsLawful, IsOver, IsTied, IsTiedTo}
 use Rattle.vs_proxy_bytes.proofs.Accounts.{Changes, changes, changing, stays}
 use Rattle.vs_proxy_bytes.proofs.Entries.{given_of, given_shut, join_of, left, moved}
 use Rattle.vs_proxy_bytes.proofs.Keeping.{Keeps, keeps_each, keeps_then, made}
@@ -37,7 +38,8 @@ left_entries slot c (e ∷ es) = by (e.slot == slot) refl (left_entries slot c e
     others xs = filter (λ (e : DeviceEntry). not (e.slot == slot)) xs
 
     by : (b : Bool) → (e.slot == slot) ≡ b
-        → filter (λ (e : DeviceEntry). not (e.slot == slot)) (map (revalued slot c) es) ≡ filter (λ (e : DeviceEntry). not (e.slot == slot)) es
+        → filter (λ (e : DeviceEntry). not (e.slot == slot)) (map (revalued slot c) es) ≡ filter
+        (λ (e : DeviceEntry). not (e.slot == slot)) es
         → filter (λ (e : DeviceEntry). not (e.slot == slot)) (cond (e.slot == slot) (record e { value = c }) e ∷ map (revalued slot c) es)
         ≡ filter (λ (e : DeviceEntry). not (e.slot == slot)) (e ∷ es)
     by true is same = rw is (rw is same)
@@ -49,8 +51,10 @@ without_changed t slot c =
 
 -- A connection and its stream's account change, or the connection leaves.
 module _ (at now : ℕ → Option Account) (put taken : Flow → List ℕ) (t : Table DeviceConnection) (hands : List Handshake)
-    (x : Agree at put taken t hands) (e : DeviceEntry) (is : Contains t.entries e) (new : Account) (ch : Changes at now e.value.stream new) where
-  pub agree_moved : (c : DeviceConnection) → c.stream ≡ e.value.stream → IsTiedTo new (record e { value = c }) → (c.closed ≡ true → c.end.state ≡ state.Ended)
+    (x : Agree at put taken t hands) (e : DeviceEntry) (is : Contains t.entries e) (new : Account)
+    (ch : Changes at now e.value.stream new) where
+  pub agree_moved : (c : DeviceConnection) → c.stream ≡ e.value.stream → IsTiedTo new (record e { value = c }) →
+      (c.closed ≡ true → c.end.state ≡ state.Ended)
       → Agree now put taken (with_value t e.slot c) hands
   agree_moved c same tied over = record {
     tied = moved at now t hands x.tied e is new ch c same tied;
@@ -58,7 +62,7 @@ module _ (at now : ℕ → Option Account) (put taken : Flow → List ℕ) (t : 
     carried = x.carried;
   }
 
-  pub agree_left : new.closed ≡ true → IsGiven new.label new → Agree now put taken (without t e.slot) hands
+  pub agree_left : new.closed ≡ true → IsLawful new.label new → Agree now put taken (without t e.slot) hands
   agree_left closed given = record {
     tied = left at now t hands x.tied e is new ch closed given;
     over = others_left t x.tied.table e is IsOver IsOver x.over (λ y other was. was);
@@ -99,9 +103,11 @@ module _ (hands : List Handshake) where
             (Ask (CloseStream e.value.stream) (λ _. Done (with_connection e.slot (cut_off e.value) s)))) calls
         by true was =
             agree_same (account_of calls) (payload_put calls) (payload_taken calls) s.table hands x e is (cut_off e.value) refl
-            (subst (λ (a : Account). IsTiedTo a (record e { value = cut_off e.value })) (closed_before tie.0 e tie.2 was) closed_tie) (λ on. refl)
+            (subst (λ (a : Account). IsTiedTo a (record e { value = cut_off e.value })) (closed_before tie.0 e tie.2 was) closed_tie)
+            (λ on. refl)
         by false still = λ a fit.
-            agree_moved (account_of calls) (account_of (made (CloseStream e.value.stream) a ∷ calls)) (payload_put calls) (payload_taken calls) s.table hands x e is (shut tie.0)
+            agree_moved (account_of calls) (account_of (made (CloseStream e.value.stream) a ∷ calls)) (payload_put calls)
+            (payload_taken calls) s.table hands x e is (shut tie.0)
             (changes shut e.value.stream (account_of calls) tie.0 tie.1) (cut_off e.value) refl closed_tie (λ on. refl)
 
     -- It leaves the table, whatever it heard before.
@@ -116,16 +122,19 @@ module _ (hands : List Handshake) where
 
         gone : (later : List Made) → AgreesWith later (without s.table e.slot) hands
             → AgreesWith later (without (with_value s.table e.slot (stream_closed v)) e.slot) hands
-        gone later kept = subst (λ (t : Table DeviceConnection). AgreesWith later t hands) (sym (without_changed s.table e.slot (stream_closed v))) kept
+        gone later kept = subst (λ (t : Table DeviceConnection). AgreesWith later t hands)
+            (sym (without_changed s.table e.slot (stream_closed v))) kept
 
         by : (b : Bool) → v.closed ≡ b
             → Keeps Left (cond b (Done (with_connection e.slot (stream_closed v) s))
             (Ask (CloseStream v.stream) (λ _. Done (with_connection e.slot (stream_closed v) s)))) calls
         by true was = gone calls
-            (agree_left (account_of calls) (account_of calls) (payload_put calls) (payload_taken calls) s.table hands x e is tie.0 (stays (account_of calls) e.value.stream tie.0 tie.1)
+            (agree_left (account_of calls) (account_of calls) (payload_put calls) (payload_taken calls) s.table hands x e is tie.0
+            (stays (account_of calls) e.value.stream tie.0 tie.1)
             (tie.2.closed ∙ sym closed_as ∙ was) (given_of tie.0 e tie.2))
         by false still = λ a fit. gone (made (CloseStream v.stream) a ∷ calls)
-            (agree_left (account_of calls) (account_of (made (CloseStream v.stream) a ∷ calls)) (payload_put calls) (payload_taken calls) s.table hands x e is (shut tie.0)
+            (agree_left (account_of calls) (account_of (made (CloseStream v.stream) a ∷ calls)) (payload_put calls)
+            (payload_taken calls) s.table hands x e is (shut tie.0)
             (subst (λ (n : ℕ). Changes (account_of calls) (changing shut n (account_of calls)) e.value.stream (shut tie.0)) (sym stream_as)
             (changes shut e.value.stream (account_of calls) tie.0 tie.1))
             refl (given_shut tie.0.label tie.0 (given_of tie.0 e tie.2)))
@@ -134,7 +143,8 @@ module _ (hands : List Handshake) where
   keeps_tick_slot : (slot : ℕ) (s : DeviceState) (calls : List Made) → Has hands s calls → Keeps (Has hands) (tick_slot slot s) calls
   keeps_tick_slot slot s calls x = by (entry_under s.table slot) refl
     where
-      late : (e : DeviceEntry) → entry_under s.table slot ≡ Some e → (b : Bool) → Keeps (Has hands) (cond b (closing e cut_off s) (Done s)) calls
+      late : (e : DeviceEntry) → entry_under s.table slot ≡ Some e → (b : Bool) → Keeps (Has hands)
+          (cond b (closing e cut_off s) (Done s)) calls
       late e found true = keeps_cut_off s calls x e (there_under s.table slot e found)
       late e found false = x
 

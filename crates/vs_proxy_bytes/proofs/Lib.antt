@@ -9,3 +9,4 @@ pub mod Receiving
 pub mod Opening
 pub mod Shaking
 pub mod Turning
+pub mod Judging

@@ -1,5 +1,6 @@
 -- A client's connection, and a transport reset.
-use Rattle.std.proofs.Common.{◌≡◌, ◌≢◌, ℕ, ◌^◌, ◌≤◌, ◌==◌, Bool, true, false, cond, List, [], ◌∷◌, Option, Some, None, Result, Ok, Err, refl, sym, ap, subst, ◌∙◌, arith}
+use Rattle.std.proofs.Common.{◌≡◌, ◌≢◌, ℕ, ◌^◌, ◌≤◌, ◌==◌, Bool, true, false, cond, List, [], ◌∷◌, Option, Some, None, Result, Ok, Err}
+use Rattle.std.proofs.Common.{refl, sym, ap, subst, ◌∙◌, arith}
 use Rattle.std.specs.List.{All, AllPairs}
 use Rattle.std.specs.Option.{option_map}
 use Rattle.std.proofs.lemmas.List.Elements.{All-push}
@@ -7,6 +8,7 @@ use Rattle.vs_conn.specs.End.{asked}
 use Rattle.vs_contents.specs.CallTree.{Done, Ask, bind, for_each}
 use Rattle.vs_flow.specs.Table.{IsTable, Table, emptied, entry_under, next_entry, refusal, slots}
 use Rattle.vs_flow.specs.declared.flow.Flow.{Flow}
+use Rattle.vs_flow.specs.declared.flow.TheConstants.{ASSIGNED_LAST}
 use Rattle.vs_flow.specs.declared.table.TableFault.{TableFault}
 use Rattle.vs_flow.proofs.Tables.{accepted, with_value_sound}
 use Rattle.vs_history.specs.declared.TheConstants.{BUF_ALLOC}
@@ -18,20 +20,23 @@ use Rattle.vs_device_parts.specs.State.{DeviceConnection, DeviceEntry, DeviceSta
 use Rattle.vs_device_parts.specs.Streams.{closing}
 use Rattle.vs_device_parts.specs.Turns.{after_reset, close_slot, open_of, reset_of}
 use Rattle.vs_proxy_parts.specs.State.{Handshake}
-use Rattle.vs_proxy_bytes.specs.Made.{Account, Made, account_of, labelled, new_account, payload_put, payload_taken, shut}
-use Rattle.vs_proxy_bytes.specs.Tied.{Agree, IsGiven, IsOver, IsTied, IsTiedTo}
+use Rattle.vs_proxy_bytes.specs.Made.{Account, Made, account_of, labelled, payload_put, payload_taken, shut}
+use Rattle.vs_proxy_bytes.specs.Tied.{Agree, IsLawful, IsOver, IsTied, IsTiedTo, IsWhole, reading_account}
+use Rattle.vs_uds.specs.Reading.{is_decided}
+use Rattle.vs_uds.specs.declared.connect.TheConstants.{CONNECT_MAX}
 use Rattle.vs_proxy_bytes.proofs.Accounts.{Changes, changes, changing, stays}
 use Rattle.vs_proxy_bytes.proofs.Closing.{Has}
 use Rattle.vs_proxy_bytes.proofs.Entries.{added, given_shut, hands_changed, one_account}
 use Rattle.vs_proxy_bytes.proofs.Keeping.{Keeps, keeps_each, keeps_then, made}
 
 -- The connection of a client's stream.
-client_tie : (t : Table DeviceConnection) (flow : Flow) (stream : ℕ)
-    → IsTiedTo (labelled flow (new_account None true)) (next_entry t flow (new_connection (asked BUF_ALLOC) stream true))
-client_tie t flow stream = record {
+client_tie : (t : Table DeviceConnection) (flow : Flow) (stream : ℕ) (line : List ℕ) → IsWhole line
+    → IsTiedTo (labelled flow (reading_account line)) (next_entry t flow (new_connection (asked BUF_ALLOC) stream true))
+client_tie t flow stream line whole = record {
   label = refl;
   client = refl;
   closed = refl;
+  line = whole;
   drains = record { front = (_, refl); whole = λ on. absurd cc };
   asked = λ on. (refl, refl, refl, refl);
 }
@@ -52,8 +57,9 @@ new_agrees room = record {
     table = no_entries room 0 (omega arith);
     joined = λ i d within. absurd (omega (arith, within));
     waiting = λ i d within. absurd (omega (arith, within));
+    undecided = λ i d within. absurd (omega (arith, within));
     apart = λ i j d less within. absurd (omega (arith, within));
-    given = λ id a is. absurd cc;
+    lawful = λ id a is. absurd cc;
     serves = λ id a flow is label still. absurd cc;
   };
   over = λ i d within. absurd (omega (arith, within));
@@ -61,60 +67,68 @@ new_agrees room = record {
 }
 
 -- A handshake's stream has no label.
-pub waits_unlabelled : (at : ℕ → Option Account) (stream : ℕ) → at stream ≡ Some (new_account None true) → (a : Account) → at stream ≡ Some a → a.label ≡ None
-waits_unlabelled at stream waits a is = ap (λ (b : Account). b.label) (one_account at stream a (new_account None true) is waits)
+pub waits_unlabelled : (at : ℕ → Option Account) (stream : ℕ) (line : List ℕ) → at stream ≡ Some (reading_account line) → (a : Account)
+    → at stream ≡ Some a → a.label ≡ None
+waits_unlabelled at stream line waits a is = ap (λ (b : Account). b.label) (one_account at stream a (reading_account line) is waits)
 
-pub keeps_open : (hands after : List Handshake) (flow : Flow) (stream : ℕ) (s : DeviceState) (calls : List Made)
-    → account_of calls stream ≡ Some (new_account None true) → All (λ h. account_of calls h.stream ≡ Some (new_account None true)) after
+pub keeps_open : (hands after : List Handshake) (flow : Flow) (stream : ℕ) (line : List ℕ) (s : DeviceState) (calls : List Made)
+    → flow.host ≤ ASSIGNED_LAST → IsWhole line → account_of calls stream ≡ Some (reading_account line)
+    → All (λ h. is_decided CONNECT_MAX h.line ≡ false) after → All (λ h. account_of calls h.stream ≡ Some (reading_account h.line)) after
     → All (λ h. h.stream ≢ stream) after → AllPairs (λ g h. g.stream ≢ h.stream) after → Has hands s calls
     → Keeps (λ x later. Has after x.0 later) (open_of flow stream s) calls
-keeps_open hands after flow stream s calls waits waiting others apart x = by (refusal s.table flow) refl
+keeps_open hands after flow stream line s calls last whole waits undecided waiting others apart x = by (refusal s.table flow) refl
   where
     asks : DeviceTree (DeviceState × Result ℕ TableFault)
     asks = Ask (Label stream flow) (λ a. Done (with_client flow stream s, Ok s.table.given))
 
-    opens : refusal s.table flow ≡ None → (answer : Unit {0}) → Has after (with_client flow stream s) (made (Label stream flow) answer ∷ calls)
+    opens : refusal s.table flow ≡ None → (answer : Unit {0}) → Has after (with_client flow stream s)
+        (made (Label stream flow) answer ∷ calls)
     opens none answer =
         let c : DeviceConnection = new_connection (asked BUF_ALLOC) stream true in
         let now : ℕ → Option Account = account_of (made (Label stream flow) answer ∷ calls) in
-        let ch : Changes (account_of calls) now stream (labelled flow (new_account None true)) =
-        changes (labelled flow) stream (account_of calls) (new_account None true) waits in record {
-          tied = added (account_of calls) now s.table hands x.tied stream (labelled flow (new_account None true)) ch
-              (waits_unlabelled (account_of calls) stream waits) flow c refl (accepted s.table flow none) (client_tie s.table flow stream) after
+        let ch : Changes (account_of calls) now stream (labelled flow (reading_account line)) =
+        changes (labelled flow) stream (account_of calls) (reading_account line) waits in record {
+          tied = added (account_of calls) now s.table hands x.tied stream (labelled flow (reading_account line)) ch
+              (waits_unlabelled (account_of calls) stream line waits) flow c refl (accepted s.table flow none)
+              (client_tie s.table flow stream line whole) after undecided
               (λ i d within. ch.others _ (others i d within) ∙ waiting i d within) apart;
           over = All-push IsOver s.table.entries (next_entry s.table flow c) x.over (λ closed. absurd cc);
           carried = x.carried;
         }
 
-    by : (o : Option TableFault) → refusal s.table flow ≡ o → Keeps (λ x later. Has after x.0 later) (elim o [ Some fault ↦ Done (s, Err fault) | None ↦ asks ]) calls
+    by : (o : Option TableFault) → refusal s.table flow ≡ o → Keeps (λ x later. Has after x.0 later)
+        (elim o [ Some fault ↦ Done (s, Err fault) | None ↦ asks ]) calls
     by (Some fault) is = record {
-      tied = hands_changed (account_of calls) (account_of calls) s.table hands x.tied stream (new_account None true)
-          (stays (account_of calls) stream (new_account None true) waits) (waits_unlabelled (account_of calls) stream waits) after refl refl waiting apart;
+      tied = hands_changed (account_of calls) (account_of calls) s.table hands x.tied stream (reading_account line)
+          (stays (account_of calls) stream (reading_account line) waits)
+          (waits_unlabelled (account_of calls) stream line waits) after refl refl refl undecided waiting apart;
       over = x.over;
       carried = x.carried;
     }
-    by None is = ((new_account None true, waits), λ answer fit. opens is answer)
+    by None is = ((line, waits, whole), last, λ answer fit. opens is answer)
 
 -- While connections are closed for a reset, what the streams were given stays.
 pub record AreClosing (at : ℕ → Option Account) (put taken : Flow → List ℕ) (t : Table DeviceConnection) : Type 0 where
   pub table : IsTable t
   pub carried : (flow : Flow) → put flow ≡ taken flow
-  pub given : (id : ℕ) (a : Account) → at id ≡ Some a → IsGiven a.label a
+  pub lawful : (id : ℕ) (a : Account) → at id ≡ Some a → IsLawful a.label a
 
 there_before : (o : Option Account) (a : Account) → option_map shut o ≡ Some a → (b : Account) × (o ≡ Some b) × (shut b ≡ a)
 there_before None a is = absurd cc
 there_before (Some b) a is = (b, refl, cc)
 
-given_after : (o : Option Account) → ((b : Account) → o ≡ Some b → IsGiven b.label b) → (a : Account) → option_map shut o ≡ Some a → IsGiven a.label a
+given_after : (o : Option Account) → ((b : Account) → o ≡ Some b → IsLawful b.label b) → (a : Account) → option_map shut o ≡ Some a
+    → IsLawful a.label a
 given_after o given a is =
     let b = there_before o a is in
-    subst (λ (y : Account). IsGiven y.label y) b.2 (given_shut b.0.label b.0 (given b.0 b.1))
+    subst (λ (y : Account). IsLawful y.label y) b.2 (given_shut b.0.label b.0 (given b.0 b.1))
 
-closed_given : (at : ℕ → Option Account) (stream : ℕ) → ((id : ℕ) (a : Account) → at id ≡ Some a → IsGiven a.label a) → (id : ℕ) (a : Account)
-    → changing shut stream at id ≡ Some a → IsGiven a.label a
+closed_given : (at : ℕ → Option Account) (stream : ℕ) → ((id : ℕ) (a : Account) → at id ≡ Some a → IsLawful a.label a) → (id : ℕ)
+    (a : Account)
+    → changing shut stream at id ≡ Some a → IsLawful a.label a
 closed_given at stream given id a is = by (stream == id) is
   where
-    by : (b : Bool) → cond b (option_map shut (at id)) (at id) ≡ Some a → IsGiven a.label a
+    by : (b : Bool) → cond b (option_map shut (at id)) (at id) ≡ Some a → IsLawful a.label a
     by true is = given_after (at id) (given id) a is
     by false is = given id a is
 
@@ -126,10 +140,10 @@ keeps_close_slot slot s calls x = by (entry_under s.table slot)
   where
     closes : (e : DeviceEntry) (b : Bool) → Keeps Closing (cond b (Done (with_connection e.slot (stream_closed e.value) s))
         (Ask (CloseStream e.value.stream) (λ _. Done (with_connection e.slot (stream_closed e.value) s)))) calls
-    closes e true = record { table = with_value_sound s.table e.slot (stream_closed e.value) x.table; given = x.given; carried = x.carried }
+    closes e true = record { table = with_value_sound s.table e.slot (stream_closed e.value) x.table; lawful = x.lawful; carried = x.carried }
     closes e false = λ a fit. record {
       table = with_value_sound s.table e.slot (stream_closed e.value) x.table;
-      given = closed_given (account_of calls) e.value.stream x.given;
+      lawful = closed_given (account_of calls) e.value.stream x.lawful;
       carried = x.carried;
     }
 
@@ -143,14 +157,16 @@ pub record AreReset (at : ℕ → Option Account) (put taken : Flow → List ℕ
   pub none : t.entries ≡ []
   pub closed : (id : ℕ) (a : Account) → at id ≡ Some a → a.closed ≡ true
 
-pub reset_agrees : (at : ℕ → Option Account) (put taken : Flow → List ℕ) (t : Table DeviceConnection) → AreReset at put taken t → Agree at put taken t []
+pub reset_agrees : (at : ℕ → Option Account) (put taken : Flow → List ℕ) (t : Table DeviceConnection) → AreReset at put taken t
+    → Agree at put taken t []
 reset_agrees at put taken t x = record {
   tied = record {
     table = x.closing.table;
     joined = nothing (IsTied at);
     waiting = λ i d within. absurd (omega (arith, within));
+    undecided = λ i d within. absurd (omega (arith, within));
     apart = λ i j d less within. absurd (omega (arith, within));
-    given = x.closing.given;
+    lawful = x.closing.lawful;
     serves = λ id a flow is label still. let both : true ≡ false = sym (x.closed id a is) ∙ still in absurd cc;
   };
   over = nothing IsOver;
@@ -164,7 +180,7 @@ reset_agrees at put taken t x = record {
 pub reset_closes : (at : ℕ → Option Account) (put taken : Flow → List ℕ) (t : Table DeviceConnection) (stream : ℕ) → AreReset at put taken t
     → AreReset (changing shut stream at) put taken t
 reset_closes at put taken t stream x = record {
-  closing = record { table = x.closing.table; given = closed_given at stream x.closing.given; carried = x.closing.carried };
+  closing = record { table = x.closing.table; lawful = closed_given at stream x.closing.lawful; carried = x.closing.carried };
   none = x.none;
   closed = λ id a is. by id a (stream == id) is;
 }
@@ -177,7 +193,8 @@ abbrev pub ResetEnds : List Handshake → DeviceState × Result (Unit {0}) Failu
 ResetEnds hands (s, Ok y) calls = AreReset (account_of calls) (payload_put calls) (payload_taken calls) s.table
 ResetEnds hands (s, Err f) calls = Has hands s calls
 
-pub keeps_reset : (hands : List Handshake) (cid : ℕ) (s : DeviceState) (calls : List Made) → Has hands s calls → Keeps (ResetEnds hands) (reset_of cid s) calls
+pub keeps_reset : (hands : List Handshake) (cid : ℕ) (s : DeviceState) (calls : List Made) → Has hands s calls → Keeps (ResetEnds hands)
+    (reset_of cid s) calls
 keeps_reset hands cid s calls x = by s.failed
   where
     ends : DeviceState → DeviceTree (DeviceState × Result (Unit {0}) Failure)
@@ -188,16 +205,18 @@ keeps_reset hands cid s calls x = by s.failed
     emptied_now t later kept answer = record {
       closing = record {
         table = no_entries t.table.room t.table.given kept.table.slots_left;
-        given = λ id a is. given_after (account_of later id) (kept.given id) a is;
+        lawful = λ id a is. given_after (account_of later id) (kept.lawful id) a is;
         carried = kept.carried;
       };
       none = refl;
       closed = λ id a is. let b = there_before (account_of later id) a is in ap (λ (y : Account). y.closed) (sym b.2);
     }
 
-    by : (o : Option Failure) → Keeps (ResetEnds hands) (elim o [ Some f ↦ Done (s, Err f) | None ↦ bind (for_each close_slot (slots s.table) s) ends ]) calls
+    by : (o : Option Failure) → Keeps (ResetEnds hands)
+        (elim o [ Some f ↦ Done (s, Err f) | None ↦ bind (for_each close_slot (slots s.table) s) ends ]) calls
     by (Some f) = x
     by None =
         keeps_then (ResetEnds hands) Closing (for_each close_slot (slots s.table) s) ends calls
-        (keeps_each Closing close_slot keeps_close_slot (slots s.table) s calls (record { table = x.tied.table; given = x.tied.given; carried = x.carried }))
+        (keeps_each Closing close_slot keeps_close_slot (slots s.table) s calls
+        (record { table = x.tied.table; lawful = x.tied.lawful; carried = x.carried }))
         (λ t later kept. λ answer fit. emptied_now t later kept answer)

@@ -1,7 +1,9 @@
 -- Packets to the guest, and the reads of the host's streams that give their payload: no stream is given a byte.
-use Rattle.std.proofs.Common.{◌≡◌, ℕ, ◌+◌, ◌==◌, Bool, true, false, not, cond, List, [], ◌∷◌, ◌++◌, length, bytes_eq, Option, Some, None, Result, Ok, Err, refl, sym, ap, subst, ◌∙◌}
+use Rattle.std.proofs.Common.{◌≡◌, ℕ, ◌+◌, ◌==◌, Bool, true, false, not, cond, List, [], ◌∷◌, ◌++◌, length, bytes_eq, Option, Some, None}
+use Rattle.std.proofs.Common.{Result, Ok, Err, refl, sym, ap, subst, ◌∙◌}
 use Rattle.std.specs.Option.{option_map_or}
 use Rattle.std.proofs.lemmas.List.{append-nil}
+use Rattle.std.proofs.lemmas.List.Elements.{All-weaker}
 use Rattle.vs_flow.specs.declared.flow.Flow.{Flow}
 use Rattle.vs_conn.specs.End.{owes_of, paid_of, wanting_credit, with_payload_sent}
 use Rattle.vs_conn.specs.Headers.{owed_header, payload_header}
@@ -35,15 +37,18 @@ use Rattle.vs_device_parts.specs.State.{DeviceConnection, DeviceEntry, DeviceSta
 use Rattle.vs_device_parts.specs.Streams.{closing}
 use Rattle.vs_device_laws.proofs.Ends.{owes_reset, shut_over}
 use Rattle.vs_proxy_parts.specs.State.{Handshake}
-use Rattle.vs_proxy_bytes.specs.Made.{Account, Made, account_of, is_for, is_of, payload_put, payload_taken, ports_of}
-use Rattle.vs_proxy_bytes.specs.Tied.{Agree, AgreesWith, IsTied}
+use Rattle.vs_proxy_bytes.specs.Made.{Account, Made, account_of, is_for, is_of, payload_put, payload_taken, ports_of, with_taken}
+use Rattle.vs_proxy_bytes.specs.Tied.{Agree, AgreesWith, IsTied, reading_account}
 use Rattle.vs_proxy_bytes.proofs.Closing.{Has, agree_same, join, keeps_cut_off, keeps_leaving, over_there, there_under}
+use Rattle.vs_proxy_bytes.proofs.Accounts.{Changes, changes, changing, stays}
+use Rattle.vs_proxy_bytes.proofs.Entries.{hand_other, taken_tied}
 use Rattle.vs_proxy_bytes.proofs.Keeping.{Keeps, keeps_each, keeps_then, keeps_while, made}
 use Rattle.vs_proxy_bytes.proofs.Ties.{end_changes, shuts}
 
 module _ (hands : List Handshake) where
   -- A connection has another end, and nothing else of it changes.
-  pub has_end : (slot : ℕ) (e : DeviceEntry) (s : DeviceState) (calls : List Made) (c : DeviceConnection) → entry_under s.table slot ≡ Some e
+  pub has_end : (slot : ℕ) (e : DeviceEntry) (s : DeviceState) (calls : List Made) (c : DeviceConnection) → entry_under s.table slot
+      ≡ Some e
       → c.stream ≡ e.value.stream → c.by_client ≡ e.value.by_client → c.closed ≡ e.value.closed
       → c.ok_line ≡ e.value.ok_line → c.pending ≡ e.value.pending → (gives c.end ≡ true → gives e.value.end ≡ true)
       → (c.end.state ≡ Asked → e.value.end.state ≡ Asked) → (e.value.end.state ≡ Ended → c.end.state ≡ Ended) → Has hands s calls
@@ -51,7 +56,8 @@ module _ (hands : List Handshake) where
   has_end slot e s calls c found stream client closed line pending less asks over x =
       let is = there_under s.table slot e found in
       let t = join (account_of calls) (payload_put calls) (payload_taken calls) s.table hands x e is in
-      agree_same (account_of calls) (payload_put calls) (payload_taken calls) s.table hands x e is c stream (end_changes t.0 e c t.2 client closed line pending less asks)
+      agree_same (account_of calls) (payload_put calls) (payload_taken calls) s.table hands x e is c stream
+      (end_changes t.0 e c t.2 client closed line pending less asks)
       (λ on. over (over_there (account_of calls) (payload_put calls) (payload_taken calls) s.table hands x e is (sym closed ∙ on)))
 
   from_table : (s t : DeviceState) (calls : List Made) → t.table ≡ s.table → Has hands s calls → Has hands t calls
@@ -107,7 +113,8 @@ module _ (hands : List Handshake) where
   keeps_hold : (r : Filling) (calls : List Made) → Has hands r.state calls → Keeps (Held r) (hold r) calls
   keeps_hold r calls x = by r.state.chain
     where
-      by : (o : Option Chain) → Keeps (Held r) (elim o [ Some chain ↦ Done r | None ↦ Ask (Ring (Take Rx)) (λ answer. Done (holding answer r)) ]) calls
+      by : (o : Option Chain) → Keeps (Held r)
+          (elim o [ Some chain ↦ Done r | None ↦ Ask (Ring (Take Rx)) (λ answer. Done (holding answer r)) ]) calls
       by (Some chain) = (x, refl)
       by None = λ answer fit. (x, holding_table answer r)
 
@@ -118,11 +125,16 @@ module _ (hands : List Handshake) where
   keeps_event_on next.None s calls x = x
   keeps_event_on (next.Failed f) s calls x = x
 
-  pub keeps_pay_event : (s : DeviceState) (calls : List Made) → Has hands s calls → Keeps (λ y later. Has hands y.0 later) (pay_event_of s) calls
+  pub keeps_pay_event : (s : DeviceState) (calls : List Made) → Has hands s calls → Keeps (λ y later. Has hands y.0 later)
+      (pay_event_of s) calls
   keeps_pay_event s calls x = by s.failed s.event_owed
     where
       by : (o : Option Failure) (b : Bool) → Keeps (λ y later. Has hands y.0 later)
-          (elim o [ Some f ↦ Done (s, Err f) | None ↦ cond b (Ask (Ring (Take Event)) (λ answer. event_on answer s)) (Done (s, Ok false)) ]) calls
+          (elim o [
+            | Some f ↦ Done (s, Err f)
+            | None ↦ cond b (Ask (Ring (Take Event)) (λ answer. event_on answer s))
+                (Done (s, Ok false))
+          ]) calls
       by (Some f) b = x
       by None false = x
       by None true = λ answer fit. keeps_event_on answer s (made (Ring (Take Event)) answer ∷ calls) x
@@ -144,7 +156,8 @@ module _ (hands : List Handshake) where
         → Keeps Fills (bind (put_on chain h [] q) after_put) later
     unfolding after_put
     keeps_put_in chain q later table x =
-        keeps_then Fills (Put q) (put_on chain h [] q) after_put later (keeps_put_on chain h [] q later (without_payload h later q.state.table x))
+        keeps_then Fills (Put q) (put_on chain h [] q) after_put later
+        (keeps_put_on chain h [] q later (without_payload h later q.state.table x))
         (λ p last put.
         let same : p.state.table ≡ q.state.table = ap (λ (s : DeviceState). s.table) put.1 in
         keeps_then Fills (Has hands) (f p.state) (λ s. Done (record p { state = s })) last
@@ -153,7 +166,8 @@ module _ (hands : List Handshake) where
     keeps_put_packet : Keeps Fills (put_packet h f r) calls
     unfolding after_put
     keeps_put_packet =
-        keeps_then Fills (Held r) (hold r) (λ q. elim q.state.chain [ None ↦ Done q | Some chain ↦ bind (put_on chain h [] q) after_put ]) calls
+        keeps_then Fills (Held r) (hold r)
+        (λ q. elim q.state.chain [ None ↦ Done q | Some chain ↦ bind (put_on chain h [] q) after_put ]) calls
         (keeps_hold r calls x) (λ q later held. by q later held.1 (from_table r.state q.state later held.1 held.0) q.state.chain)
       where
         by : (q : Filling) (later : List Made) → q.state.table ≡ r.state.table → Has hands q.state later → (o : Option Chain)
@@ -162,10 +176,12 @@ module _ (hands : List Handshake) where
         by q later table x (Some chain) = keeps_put_in chain q later table x
 
   -- Owed replies.
-  keeps_put_reply_of : (replies : List Reply) (r : Filling) (calls : List Made) → Has hands r.state calls → Keeps FillsFirst (put_reply_of replies r) calls
+  keeps_put_reply_of : (replies : List Reply) (r : Filling) (calls : List Made) → Has hands r.state calls → Keeps FillsFirst
+      (put_reply_of replies r) calls
   keeps_put_reply_of [] r calls x = x
   keeps_put_reply_of (reply ∷ replies) r calls x =
-      keeps_then FillsFirst Fills (put_packet (reply_header reply r.state) (λ s. Done (record s { replies = replies })) r) (λ q. Done (q, not q.over)) calls
+      keeps_then FillsFirst Fills (put_packet (reply_header reply r.state) (λ s. Done (record s { replies = replies })) r)
+      (λ q. Done (q, not q.over)) calls
       (keeps_put_packet (reply_header reply r.state) (λ s. Done (record s { replies = replies })) r calls (λ s later table kept. kept) x)
       (λ q later kept. kept)
 
@@ -183,26 +199,32 @@ module _ (hands : List Handshake) where
       (pays_gives e.value.end owed.Response owes) (pays_asked e.value.end owed.Response)
       (λ over. absurd (let rst = owes_reset e.value.end owed.Response owes over in cc)) x
   keeps_after_paying slot e owed.CreditUpdate s calls found owes x =
-      has_end slot e s calls (record e.value { end = paid_of e.value.end owed.CreditUpdate }) found refl refl refl refl refl (λ on. on) (λ on. on) (λ on. on) x
+      has_end slot e s calls (record e.value { end = paid_of e.value.end owed.CreditUpdate }) found refl refl refl refl refl (λ on. on)
+      (λ on. on) (λ on. on) x
   keeps_after_paying slot e owed.CreditRequest s calls found owes x =
-      has_end slot e s calls (record e.value { end = paid_of e.value.end owed.CreditRequest }) found refl refl refl refl refl (λ on. on) (λ on. on) (λ on. on) x
+      has_end slot e s calls (record e.value { end = paid_of e.value.end owed.CreditRequest }) found refl refl refl refl refl (λ on. on)
+      (λ on. on) (λ on. on) x
   keeps_after_paying slot e (owed.Shutdown bits) s calls found owes x =
-      has_end slot e s calls (record e.value { end = paid_of e.value.end (owed.Shutdown bits) }) found refl refl refl refl refl (λ on. on) (λ on. on) (λ on. on) x
+      has_end slot e s calls (record e.value { end = paid_of e.value.end (owed.Shutdown bits) }) found refl refl refl refl refl (λ on. on)
+      (λ on. on) (λ on. on) x
 
   keeps_put_owed : (slot : ℕ) (r : Filling) (calls : List Made) → Has hands r.state calls → Keeps FillsFirst (put_owed slot r) calls
   keeps_put_owed slot r calls x = by (entry_under r.state.table slot) refl
     where
       puts : DeviceEntry → Owed → DeviceTree (Filling × Bool)
-      puts e what = bind (put_packet (owed_header e.value.end (route_to_guest r.state.cid e.flow) what) (after_paying what e) r) (λ q. Done (q, not q.over))
+      puts e what = bind (put_packet (owed_header e.value.end (route_to_guest r.state.cid e.flow) what) (after_paying what e) r)
+          (λ q. Done (q, not q.over))
 
       owing : (e : DeviceEntry) → entry_under r.state.table slot ≡ Some e → (o : Option Owed) → owes_of e.value.end ≡ o
           → Keeps FillsFirst (elim o [ None ↦ Done (r, false) | Some what ↦ puts e what ]) calls
       owing e found None owes = x
       owing e found (Some what) owes =
-          keeps_then FillsFirst Fills (put_packet (owed_header e.value.end (route_to_guest r.state.cid e.flow) what) (after_paying what e) r)
+          keeps_then FillsFirst Fills (put_packet (owed_header e.value.end (route_to_guest r.state.cid e.flow) what)
+          (after_paying what e) r)
           (λ q. Done (q, not q.over)) calls
           (keeps_put_packet (owed_header e.value.end (route_to_guest r.state.cid e.flow) what) (after_paying what e) r calls
-          (λ s later table kept. keeps_after_paying slot e what s later (ap (λ (t : Table DeviceConnection). entry_under t slot) table ∙ found) owes kept) x)
+          (λ s later table kept. keeps_after_paying slot e what s later (ap (λ (t : Table DeviceConnection). entry_under t slot) table
+          ∙ found) owes kept) x)
           (λ q later kept. kept)
 
       by : (o : Option DeviceEntry) → entry_under r.state.table slot ≡ o
@@ -219,12 +241,19 @@ module _ (hands : List Handshake) where
     own_header r payload = payload_header e.value.end (route_to_guest r.state.cid e.flow) (length payload)
 
     -- The bytes that were read of its stream are put on its flow.
-    reads_own : (n k : ℕ) (payload : List ℕ) (r : Filling) (calls : List Made) → entry_under r.state.table slot ≡ Some e → Has hands r.state calls
-        → Agree (account_of calls)
+    reads_own : (n k : ℕ) (payload : List ℕ) (r : Filling) (calls : List Made) → entry_under r.state.table slot ≡ Some e
+        → Has hands r.state calls
+        → Agree (account_of (made (ReadStream e.value.stream n) (read.Got k, payload) ∷ calls))
         (λ flow. cond (is_for flow (header_bytes (own_header r payload))) (payload_put calls flow ++ payload) (payload_put calls flow))
         (payload_taken (made (ReadStream e.value.stream n) (read.Got k, payload) ∷ calls)) r.state.table hands
     reads_own n k payload r calls found x = record {
-      tied = x.tied;
+      tied = taken_tied (account_of calls) r.state.table hands x.tied e.value.stream payload hands x.tied.undecided
+          (All-weaker (λ (h : Handshake). account_of calls h.stream ≡ Some (reading_account h.line))
+          (λ (h : Handshake). account_of (made (ReadStream e.value.stream n) (read.Got k, payload) ∷ calls) h.stream ≡ Some
+          (reading_account h.line))
+          (λ h was. ch.others h.stream (hand_other (account_of calls) (account_of calls) r.state.table hands x.tied e
+          (there_under r.state.table slot e found) t.0 (stays (account_of calls) e.value.stream t.0 t.1) h was)
+          ∙ was) hands x.tied.waiting) x.tied.apart;
       over = x.over;
       carried = λ flow.
           ap (λ (bytes : List ℕ). cond (bytes_eq (ports_of flow) (ports_of e.flow)) (bytes ++ payload) bytes) (x.carried flow)
@@ -234,12 +263,20 @@ module _ (hands : List Handshake) where
     }
       where
         t : IsTied (account_of calls) e
-        t = join (account_of calls) (payload_put calls) (payload_taken calls) r.state.table hands x e (there_under r.state.table slot e found)
+        t = join (account_of calls) (payload_put calls) (payload_taken calls) r.state.table hands x e
+            (there_under r.state.table slot e found)
 
-    keeps_put_payload : (chain : Chain) (n k : ℕ) (payload : List ℕ) (r : Filling) (calls : List Made) → entry_under r.state.table slot ≡ Some e
-        → Has hands r.state calls → Keeps Fills (put_payload chain e payload r) (made (ReadStream e.value.stream n) (read.Got k, payload) ∷ calls)
+        ch : Changes (account_of calls) (changing (with_taken payload) e.value.stream (account_of calls)) e.value.stream
+            (with_taken payload t.0)
+        ch = changes (with_taken payload) e.value.stream (account_of calls) t.0 t.1
+
+    keeps_put_payload : (chain : Chain) (n k : ℕ) (payload : List ℕ) (r : Filling) (calls : List Made) → entry_under r.state.table slot
+        ≡ Some e
+        → Has hands r.state calls → Keeps Fills (put_payload chain e payload r)
+        (made (ReadStream e.value.stream n) (read.Got k, payload) ∷ calls)
     keeps_put_payload chain n k payload r calls found x =
-        keeps_then Fills (Put r) (put_on chain (own_header r payload) payload r) _ (made (ReadStream e.value.stream n) (read.Got k, payload) ∷ calls)
+        keeps_then Fills (Put r) (put_on chain (own_header r payload) payload r) _
+        (made (ReadStream e.value.stream n) (read.Got k, payload) ∷ calls)
         (keeps_put_on chain (own_header r payload) payload r (made (ReadStream e.value.stream n) (read.Got k, payload) ∷ calls)
         (reads_own n k payload r calls found x))
         (λ p later put.
@@ -256,9 +293,11 @@ module _ (hands : List Handshake) where
     keeps_read_answered chain n read.End payload r calls found x =
         let is = there_under r.state.table slot e found in
         let t = join (account_of calls) (payload_put calls) (payload_taken calls) r.state.table hands x e is in
-        agree_same (account_of calls) (payload_put calls) (payload_taken calls) r.state.table hands x e is (after_shut 2 r.state.now e.value) refl
+        agree_same (account_of calls) (payload_put calls) (payload_taken calls) r.state.table hands x e is
+        (after_shut 2 r.state.now e.value) refl
         (shuts t.0 e 2 r.state.now t.2)
-        (λ on. shut_over e.value.end 2 (over_there (account_of calls) (payload_put calls) (payload_taken calls) r.state.table hands x e is on))
+        (λ on. shut_over e.value.end 2 (over_there (account_of calls) (payload_put calls)
+        (payload_taken calls) r.state.table hands x e is on))
     keeps_read_answered chain n read.Failed payload r calls found x =
         keeps_then Fills (Has hands) (closing e cut_off (with_fault r.state)) (λ s. Done (record r { state = s }))
         (made (ReadStream e.value.stream n) (read.Failed, payload) ∷ calls)
@@ -275,10 +314,15 @@ module _ (hands : List Handshake) where
 
         by : (o : Option Chain) → Keeps Fills (elim o [ None ↦ Done r | Some chain ↦ asks chain ]) calls
         by None = x
-        by (Some chain) = λ answer fit.
-            keeps_read_answered chain (read_room (free_of e.value.end.credit) chain) answer.0 answer.1 r calls found x
+        by (Some chain) =
+            let t = join (account_of calls) (payload_put calls) (payload_taken calls) r.state.table hands x e
+            (there_under r.state.table slot e found) in (
+              (t.0, t.1),
+              λ answer fit. keeps_read_answered chain (read_room (free_of e.value.end.credit) chain) answer.0 answer.1 r calls found x,
+            )
 
-  keeps_read_stream : (slot : ℕ) (e : DeviceEntry) (r : Filling) (calls : List Made) → entry_under r.state.table slot ≡ Some e → Has hands r.state calls
+  keeps_read_stream : (slot : ℕ) (e : DeviceEntry) (r : Filling) (calls : List Made) → entry_under r.state.table slot ≡ Some e
+      → Has hands r.state calls
       → Keeps Fills (read_stream e r) calls
   keeps_read_stream slot e r calls found x = by (may_read e.value.end e.value.end.state) (free_of e.value.end.credit == 0)
     where
@@ -298,7 +342,8 @@ module _ (hands : List Handshake) where
   keeps_serve_slot : (slot : ℕ) (r : Filling) (calls : List Made) → Has hands r.state calls → Keeps Fills (serve_slot slot r) calls
   keeps_serve_slot slot r calls x = by r.over
     where
-      reads : (o : Option DeviceEntry) → entry_under r.state.table slot ≡ o → Keeps Fills (elim o [ None ↦ Done r | Some e ↦ read_stream e r ]) calls
+      reads : (o : Option DeviceEntry) → entry_under r.state.table slot ≡ o → Keeps Fills
+          (elim o [ None ↦ Done r | Some e ↦ read_stream e r ]) calls
       reads None found = x
       reads (Some e) found = keeps_read_stream slot e r calls found x
 
@@ -310,13 +355,15 @@ module _ (hands : List Handshake) where
       rest : Filling → DeviceTree Filling
       rest q = cond q.over (Done q) (while_up_to OWED_MAX (put_owed slot) q)
 
-      by : (b : Bool) → Keeps Fills (cond b (Done r) (bind (elim (entry_under r.state.table slot) [ None ↦ Done r | Some e ↦ read_stream e r ]) rest)) calls
+      by : (b : Bool) → Keeps Fills (cond b (Done r) (bind
+          (elim (entry_under r.state.table slot) [ None ↦ Done r | Some e ↦ read_stream e r ]) rest)) calls
       by true = x
       by false =
           keeps_then Fills Fills (elim (entry_under r.state.table slot) [ None ↦ Done r | Some e ↦ read_stream e r ]) rest calls
           (reads (entry_under r.state.table slot) refl) (λ q later kept. pays q later kept q.over)
 
-  pub keeps_fill_rx : (s : DeviceState) (calls : List Made) → Has hands s calls → Keeps (λ y later. Has hands y.0 later) (fill_rx_of s) calls
+  pub keeps_fill_rx : (s : DeviceState) (calls : List Made) → Has hands s calls → Keeps (λ y later. Has hands y.0 later)
+      (fill_rx_of s) calls
   keeps_fill_rx s calls x = by s.failed
     where
       start : Filling

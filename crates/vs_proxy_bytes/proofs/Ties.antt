@@ -1,5 +1,6 @@
 -- A connection and the account of its stream, through each small step of the connection.
-use Rattle.std.proofs.Common.{◌≡◌, ℕ, zero, suc, ◌-◌, ◌≤◌, ◌&&◌, not, Bool, true, false, cond, List, [], ◌∷◌, ◌++◌, length, take, drop, refl, sym, ap, subst, ◌∙◌, append_assoc, take-append-drop, arith}
+use Rattle.std.proofs.Common.{◌≡◌, ℕ, zero, suc, ◌-◌, ◌≤◌, ◌&&◌, not, Bool, true, false, cond, List, [], ◌∷◌, ◌++◌, length, take, drop}
+use Rattle.std.proofs.Common.{refl, sym, ap, subst, ◌∙◌, append_assoc, take-append-drop, arith}
 use Rattle.std.proofs.lemmas.Grind.{common_steps}
 use Rattle.std.proofs.lemmas.List.{append-nil, length-take, take-take}
 use Rattle.vs_conn.specs.End.{ConnectionEnd, verdict_of, with_shut}
@@ -12,7 +13,8 @@ use Rattle.vs_device_parts.specs.State.{DeviceConnection, DeviceEntry}
 use Rattle.vs_device_parts.specs.Streams.{to_write}
 use Rattle.vs_device_parts.specs.Transmitting.{heard}
 use Rattle.vs_pipes.specs.Streamed.{gives}
-use Rattle.vs_pipes.proofs.Gives.{accepted_other, accepts_asked, delivered_other, delivers_gives, forwards_asked, forwards_gives, shuts_asked, shuts_gives}
+use Rattle.vs_pipes.proofs.Gives.{accepted_other, accepts_asked, delivered_other, delivers_gives, forwards_asked, forwards_gives}
+use Rattle.vs_pipes.proofs.Gives.{shuts_asked, shuts_gives}
 use Rattle.vs_pipes.proofs.Logs.{all_of, shorter}
 use Rattle.vs_proxy_bytes.specs.Made.{Account}
 use Rattle.vs_proxy_bytes.specs.Tied.{IsTiedTo, gives_all, ok_line_of}
@@ -42,13 +44,15 @@ pub gives_both : (c : DeviceConnection) → c.closed ≡ false → gives c.end �
 gives_both c still is = ap (λ (b : Bool). not b && gives c.end) still ∙ is
 
 -- Nothing of it moves: its end changes, as do the moments that it counts from.
-pub end_changes : (a : Account) (e : DeviceEntry) (c : DeviceConnection) → IsTiedTo a e → c.by_client ≡ e.value.by_client → c.closed ≡ e.value.closed
+pub end_changes : (a : Account) (e : DeviceEntry) (c : DeviceConnection) → IsTiedTo a e → c.by_client ≡ e.value.by_client → c.closed
+    ≡ e.value.closed
     → c.ok_line ≡ e.value.ok_line → c.pending ≡ e.value.pending → (gives c.end ≡ true → gives e.value.end ≡ true)
     → (c.end.state ≡ state.Asked → e.value.end.state ≡ state.Asked) → IsTiedTo a (record e { value = c })
 end_changes a e c x client closed line pending less asks = record {
   label = x.label;
   client = x.client ∙ sym client;
   closed = x.closed ∙ sym closed;
+  line = x.line;
   drains = record {
     front = subst (λ (bytes : List ℕ). IsPrefixOf (a.given ++ bytes) (ok_line_of c.by_client e.flow ++ a.delivered)) (sym same)
         (subst (λ (b : Bool). IsPrefixOf (a.given ++ held e.value) (ok_line_of b e.flow ++ a.delivered)) (sym client) x.drains.front);
@@ -65,14 +69,17 @@ end_changes a e c x client closed line pending less asks = record {
 -- What it held is dropped: it is over, or its stream is closed.
 pub nothing_held : (a : Account) (e : DeviceEntry) → IsTiedTo a e → IsPrefixOf (a.given ++ []) (came a e)
 nothing_held a e x =
-    subst (λ (bytes : List ℕ). IsPrefixOf bytes (came a e)) (sym (append-nil a.given)) (shorter a.given (held e.value) (came a e) x.drains.front)
+    subst (λ (bytes : List ℕ). IsPrefixOf bytes (came a e)) (sym (append-nil a.given))
+    (shorter a.given (held e.value) (came a e) x.drains.front)
 
 pub closes : (a : Account) (e : DeviceEntry) (c : DeviceConnection) → IsTiedTo a e → c.by_client ≡ e.value.by_client
-    → (c.end.state ≡ state.Asked → e.value.end.state ≡ state.Asked) → IsTiedTo (record a { closed = true }) (record e { value = stream_closed c })
+    → (c.end.state ≡ state.Asked → e.value.end.state ≡ state.Asked) → IsTiedTo (record a { closed = true })
+    (record e { value = stream_closed c })
 closes a e c x client asks = record {
   label = x.label;
   client = x.client ∙ sym client;
   closed = refl;
+  line = x.line;
   drains = record {
     front = subst (λ (b : Bool). IsPrefixOf (a.given ++ []) (ok_line_of b e.flow ++ a.delivered)) (sym client) (nothing_held a e x);
     whole = λ on. absurd cc;
@@ -81,7 +88,8 @@ closes a e c x client asks = record {
 }
 
 -- The account of a stream that was closed before.
-pub closed_before : (a : Account) (e : DeviceEntry) → IsTiedTo a e → e.value.closed ≡ true → ◌≡◌ {A = Account} (record a { closed = true }) a
+pub closed_before : (a : Account) (e : DeviceEntry) → IsTiedTo a e → e.value.closed ≡ true → ◌≡◌ {A = Account}
+    (record a { closed = true }) a
 closed_before a e x was = ap (λ (b : Bool). let r : Account = record a { closed = b } in r) (sym (x.closed ∙ was))
 
 -- It decides to shut directions.
@@ -99,8 +107,10 @@ shuts a e bits now x = by (with_shut e.value.end bits).own.receive refl
       label = x.label;
       client = x.client;
       closed = x.closed;
+      line = x.line;
       drains = record {
-        front = subst (λ (b : Bool). IsPrefixOf (a.given ++ (cond b [] e.value.ok_line ++ cond b [] e.value.pending)) (came a e)) (sym is) (nothing_held a e x);
+        front = subst (λ (b : Bool). IsPrefixOf (a.given ++ (cond b [] e.value.ok_line ++ cond b [] e.value.pending)) (came a e)) (sym is)
+            (nothing_held a e x);
         whole = λ on. absurd (shut_none e.value.end bits is (gives_then (after_shut bits now e.value) on));
       };
       asked = λ on.
@@ -115,12 +125,18 @@ shuts a e bits now x = by (with_shut e.value.end bits).own.receive refl
 -- Payload is delivered behind what it holds.
 pub delivers : (a : Account) (e : DeviceEntry) (h : Header) (payload : List ℕ) → IsTiedTo a e → e.value.closed ≡ false
     → verdict_of e.value.end h ≡ verdict.Deliver
-    → IsTiedTo (record a { delivered = a.delivered ++ payload }) (record e { value = record (heard h e.value) { pending = e.value.pending ++ payload } })
+    → IsTiedTo (record a { delivered = a.delivered ++ payload })
+    (record e { value = record (heard h e.value) { pending = e.value.pending ++ payload } })
 delivers a e h payload x still is = record {
   label = x.label;
   client = x.client;
   closed = x.closed;
-  drains = record { front = all_of (a.given ++ (e.value.ok_line ++ (e.value.pending ++ payload))) (ok_line_of e.value.by_client e.flow ++ (a.delivered ++ payload)) all; whole = λ on. all };
+  line = x.line;
+  drains = record {
+    front = all_of (a.given ++ (e.value.ok_line ++ (e.value.pending ++ payload)))
+        (ok_line_of e.value.by_client e.flow ++ (a.delivered ++ payload)) all;
+    whole = λ on. all;
+  };
   asked = λ on. absurd (delivered_other e.value.end h is on);
 }
   where
@@ -138,7 +154,12 @@ answers a e h x is = record {
   label = x.label;
   client = x.client;
   closed = x.closed;
-  drains = record { front = all_of (a.given ++ (ok_line_of e.value.by_client e.flow ++ e.value.pending)) (ok_line_of e.value.by_client e.flow ++ a.delivered) all; whole = λ on. all };
+  line = x.line;
+  drains = record {
+    front = all_of (a.given ++ (ok_line_of e.value.by_client e.flow ++ e.value.pending))
+        (ok_line_of e.value.by_client e.flow ++ a.delivered) all;
+    whole = λ on. all;
+  };
   asked = λ on. absurd (accepted_other e.value.end h is on);
 }
   where
@@ -176,6 +197,7 @@ writes a e n x less = record {
   label = x.label;
   client = x.client;
   closed = x.closed;
+  line = x.line;
   drains = record {
     front = subst (λ (bytes : List ℕ). IsPrefixOf bytes (came a e)) (sym all) x.drains.front;
     whole = λ on. all ∙ x.drains.whole
@@ -185,9 +207,11 @@ writes a e n x less = record {
   asked = λ on. nothing (x.asked (forwards_asked e.value.end (n - length e.value.ok_line) on));
 }
   where
-    all : (a.given ++ take n (to_write e.value)) ++ (drop n e.value.ok_line ++ drop (n - length e.value.ok_line) e.value.pending) ≡ a.given ++ held e.value
+    all : (a.given ++ take n (to_write e.value)) ++ (drop n e.value.ok_line ++ drop (n - length e.value.ok_line) e.value.pending)
+        ≡ a.given ++ held e.value
     all =
-        ap (λ (bytes : List ℕ). (a.given ++ bytes) ++ (drop n e.value.ok_line ++ drop (n - length e.value.ok_line) e.value.pending)) (first_of n (held e.value) less)
+        ap (λ (bytes : List ℕ). (a.given ++ bytes) ++ (drop n e.value.ok_line ++ drop (n - length e.value.ok_line) e.value.pending))
+        (first_of n (held e.value) less)
         ∙ ap (λ (bytes : List ℕ). (a.given ++ take n (held e.value)) ++ bytes) (sym (drop_both n e.value.ok_line e.value.pending))
         ∙ append_assoc a.given (take n (held e.value)) (drop n (held e.value))
         ∙ ap (λ (bytes : List ℕ). a.given ++ bytes) (take-append-drop n (held e.value))
@@ -197,7 +221,8 @@ writes a e n x less = record {
         × (drop (n - length e.value.ok_line) e.value.pending ≡ [])
     nothing (given, delivered, line, pending) = (
       ap (λ (bytes : List ℕ). bytes ++ take n (to_write e.value)) given
-          ∙ ap (λ (bytes : List ℕ). take n (take 4096 (bytes ++ e.value.pending))) line ∙ ap (λ (bytes : List ℕ). take n (take 4096 bytes)) pending
+          ∙ ap (λ (bytes : List ℕ). take n (take 4096 (bytes ++ e.value.pending))) line ∙ ap
+          (λ (bytes : List ℕ). take n (take 4096 bytes)) pending
           ∙ ap (take n) (take_none 4096) ∙ take_none n,
       delivered,
       ap (drop n) line ∙ drop_none n,

@@ -1,5 +1,6 @@
 -- Packets of the guest: payload goes to the stream of its own flow.
-use Rattle.std.proofs.Common.{◌≡◌, ℕ, ◌-◌, ◌==◌, ◌&&◌, Bool, true, false, cond, List, [], ◌∷◌, ◌++◌, length, nat_le, nat_lt, Contains, Option, Some, None, refl, sym, ap, subst, ◌∙◌}
+use Rattle.std.proofs.Common.{◌≡◌, ℕ, ◌-◌, ◌==◌, ◌&&◌, Bool, true, false, cond, List, [], ◌∷◌, ◌++◌, length, nat_le, nat_lt, Contains}
+use Rattle.std.proofs.Common.{Option, Some, None, refl, sym, ap, subst, ◌∙◌}
 use Rattle.std.specs.Option.{option_map}
 use Rattle.std.proofs.lemmas.List.Elements.{All-push}
 use Rattle.vs_conn.specs.End.{answering, is_reset, is_stream, verdict_of}
@@ -44,10 +45,12 @@ use Rattle.vs_device_parts.specs.Calls.{Dial, DeviceTree, Ring}
 use Rattle.vs_device_parts.specs.Connections.{new_connection, with_connection, with_reply}
 use Rattle.vs_device_parts.specs.State.{DeviceConnection, DeviceEntry, DeviceState}
 use Rattle.vs_device_parts.specs.Streams.{leaving}
-use Rattle.vs_device_parts.specs.Transmitting.{dial_answered, failing, heard, on_header, on_known, on_next, on_packet, on_unknown, refused, take_tx_of, try_request, unknown_why}
+use Rattle.vs_device_parts.specs.Transmitting.{dial_answered, failing, heard, on_header, on_known, on_next, on_packet, on_unknown, refused}
+use Rattle.vs_device_parts.specs.Transmitting.{take_tx_of, try_request, unknown_why}
 use Rattle.vs_device_laws.proofs.Ends.{heard_over}
 use Rattle.vs_proxy_parts.specs.State.{Handshake}
-use Rattle.vs_proxy_bytes.specs.Made.{Account, Made, MayGet, account_of, delivering, header_in, new_account, payload_put, payload_taken, with_delivery}
+use Rattle.vs_proxy_bytes.specs.Made.{Account, Made, MayGet, account_of, delivering, header_in, new_account, payload_put, payload_taken}
+use Rattle.vs_proxy_bytes.specs.Made.{with_delivery}
 use Rattle.vs_proxy_bytes.specs.Tied.{Agree, IsOver, IsTied, IsTiedTo, ok_line_of, stream_of}
 use Rattle.vs_proxy_bytes.proofs.Accounts.{Changes, comes, is_delivered, not_delivered}
 use Rattle.vs_proxy_bytes.proofs.Closing.{Has, agree_moved, agree_same, join, keeps_leaving, over_there, there_of}
@@ -62,6 +65,7 @@ dialed_tie t flow h stream = record {
   label = refl;
   client = refl;
   closed = refl;
+  line = refl;
   drains = record { front = ([], refl); whole = λ on. refl };
   asked = λ on. absurd cc;
 }
@@ -90,10 +94,11 @@ module _ (hands : List Handshake) where
       let flow : Flow = flow_to_host h in
       let c : DeviceConnection = new_connection (answering BUF_ALLOC h) id false in
       let now : ℕ → Option Account = account_of (made (Dial path flow) (dialed.Stream id) ∷ calls) in
-      let ch : Changes (account_of calls) now id (new_account (Some flow) false) = comes (new_account (Some flow) false) id (account_of calls) in record {
+      let ch : Changes (account_of calls) now id (new_account (Some flow) false) = comes (new_account (Some flow) false) id
+      (account_of calls) in record {
         tied = added (account_of calls) now s.table hands x.tied id (new_account (Some flow) false) ch
             (λ a is. let both : None ≡ Some a = sym fit ∙ is in absurd cc) flow c refl (accepted s.table flow (rw (none, place) refl))
-            (dialed_tie s.table flow h id) hands
+            (dialed_tie s.table flow h id) hands x.tied.undecided
             (waiting_kept (account_of calls) now s.table hands x.tied id (new_account (Some flow) false) ch fit) x.tied.apart;
         over = All-push IsOver s.table.entries (next_entry s.table flow c) x.over (λ closed. absurd cc);
         carried = x.carried;
@@ -135,10 +140,12 @@ module _ (hands : List Handshake) where
     was_over : e.value.closed ≡ true → e.value.end.state ≡ Ended
     was_over = over_there (account_of calls) (payload_put calls) (payload_taken calls) s.table hands x e is
 
-    heard_keeps : (v : Verdict) → verdict_of e.value.end h ≡ v → (v ≡ verdict.Accept → ⊥) → Has hands (with_connection e.slot (heard h e.value) s) calls
+    heard_keeps : (v : Verdict) → verdict_of e.value.end h ≡ v → (v ≡ verdict.Accept → ⊥) → Has hands
+        (with_connection e.slot (heard h e.value) s) calls
     heard_keeps v says other =
         agree_same (account_of calls) (payload_put calls) (payload_taken calls) s.table hands x e is (heard h e.value) refl
-        (end_changes tie.0 e (heard h e.value) tie.2 refl refl refl refl (hears_gives e.value.end h v says other) (hears_asked e.value.end h))
+        (end_changes tie.0 e (heard h e.value) tie.2 refl refl refl refl (hears_gives e.value.end h v says other)
+        (hears_asked e.value.end h))
         (λ on. heard_over e.value.end h (was_over on))
 
     same : flow_to_host h ≡ e.flow
@@ -168,27 +175,32 @@ module _ (hands : List Handshake) where
       delivery : Changes (account_of calls) (now (Some h)) e.value.stream (record tie.0 { delivered = tie.0.delivered ++ payload })
       delivery = record {
         here = ap (option_map (with_delivery (flow_to_host h) payload)) tie.1
-            ∙ ap (λ (a : Account). Some a) (is_delivered (flow_to_host h) payload tie.0 (tie.2.label ∙ ap (λ (f : Flow). Some f) (sym same)) (tie.2.closed ∙ still));
+            ∙ ap (λ (a : Account). Some a) (is_delivered (flow_to_host h) payload tie.0 (tie.2.label
+            ∙ ap (λ (f : Flow). Some f) (sym same)) (tie.2.closed ∙ still));
         others = elsewhere;
       }
 
       pub delivered_keeps : Has hands (with_connection e.slot (record (heard h e.value) { pending = e.value.pending ++ payload }) s)
           (made (Ring (Read chain HEADER_LEN h.len)) payload ∷ calls)
       delivered_keeps =
-          subst (λ (o : Option Header). Agree (now o) (payload_put calls) (payload_taken calls) (with_value s.table e.slot (record (heard h e.value) { pending = e.value.pending ++ payload })) hands)
+          subst (λ (o : Option Header). Agree (now o) (payload_put calls) (payload_taken calls)
+          (with_value s.table e.slot (record (heard h e.value) { pending = e.value.pending ++ payload })) hands)
           (sym header)
-          (agree_moved (account_of calls) (now (Some h)) (payload_put calls) (payload_taken calls) s.table hands x e is (record tie.0 { delivered = tie.0.delivered ++ payload }) delivery
+          (agree_moved (account_of calls) (now (Some h)) (payload_put calls) (payload_taken calls) s.table hands x e is
+          (record tie.0 { delivered = tie.0.delivered ++ payload }) delivery
           (record (heard h e.value) { pending = e.value.pending ++ payload }) refl (delivers tie.0 e h payload tie.2 still is_delivery)
           (λ on. heard_over e.value.end h (was_over on)))
 
     keeps_on_known : (v : Verdict) → verdict_of e.value.end h ≡ v → Keeps (Has hands) (on_known v chain h e s) calls
     keeps_on_known verdict.Accept says =
-        agree_same (account_of calls) (payload_put calls) (payload_taken calls) s.table hands x e is (record (heard h e.value) { ok_line = ok_line_of e.value.by_client e.flow }) refl
+        agree_same (account_of calls) (payload_put calls) (payload_taken calls) s.table hands x e is
+        (record (heard h e.value) { ok_line = ok_line_of e.value.by_client e.flow }) refl
         (answers tie.0 e h tie.2 says) (λ on. heard_over e.value.end h (was_over on))
     keeps_on_known verdict.Deliver says = λ payload fit. delivered_keeps payload says
     keeps_on_known verdict.Peer says = message (is_reset h)
       where
-        message : (b : Bool) → Keeps (Has hands) (cond b (leaving (record e { value = heard h e.value }) s) (Done (with_connection e.slot (heard h e.value) s))) calls
+        message : (b : Bool) → Keeps (Has hands) (cond b (leaving (record e { value = heard h e.value }) s)
+            (Done (with_connection e.slot (heard h e.value) s))) calls
         message true = keeps_leaving hands s calls x e is (heard h e.value) refl refl
         message false = heard_keeps verdict.Peer says (λ other. absurd cc)
     keeps_on_known (verdict.Rst (why.Overrun o)) says = heard_keeps (verdict.Rst (why.Overrun o)) says (λ other. absurd cc)
@@ -209,7 +221,8 @@ module _ (hands : List Handshake) where
       known e = let v = verdict_of e.value.end h in bind (on_known v chain h e s) (λ t. Done (t, v))
 
       by : (b : Bool) (o : Option DeviceEntry) → entry_of s.table (flow_to_host h) ≡ o
-          → Keeps HasFirst (cond b (Done (record s { dropped = counted s.dropped }, verdict.Ignore)) (elim o [ None ↦ on_unknown h s | Some e ↦ known e ])) calls
+          → Keeps HasFirst (cond b (Done (record s { dropped = counted s.dropped }, verdict.Ignore))
+          (elim o [ None ↦ on_unknown h s | Some e ↦ known e ])) calls
       by true o found = x
       by false None found = keeps_on_unknown h s calls found x
       by false (Some e) found =
@@ -229,7 +242,8 @@ module _ (hands : List Handshake) where
       by : (b : Bool) → Keeps HasFirst (cond b (Done (failing fails s, taken.Failed fails)) (bind (on_packet chain h s) returned)) calls
       by true = x
       by false =
-          keeps_then HasFirst HasFirst (on_packet chain h s) returned calls (keeps_on_packet chain h s calls header x) (λ r later kept. λ a fit. kept)
+          keeps_then HasFirst HasFirst (on_packet chain h s) returned calls (keeps_on_packet chain h s calls header x)
+          (λ r later kept. λ a fit. kept)
 
   keeps_on_next : (answer : Next) (s : DeviceState) (calls : List Made) → Has hands s calls → Keeps HasFirst (on_next answer s) calls
   keeps_on_next (next.Chain chain) s calls x = λ bytes fit.

@@ -51,10 +51,12 @@ keeps_pump_stage t calls x =
 
 keeps_fill_stage : (t : Turning) (calls : List Made) → Turns t calls → Keeps Turns (fill_stage t) calls
 keeps_fill_stage t calls x =
-    keeps_then Turns (λ r later. Has t.state.handshakes r.0 later) (fill_rx_of t.state.device) (λ r. Done (filled r.1 (device_after r.0 t))) calls
+    keeps_then Turns (λ r later. Has t.state.handshakes r.0 later) (fill_rx_of t.state.device)
+    (λ r. Done (filled r.1 (device_after r.0 t))) calls
     (keeps_fill_rx t.state.handshakes t.state.device calls x) (λ r later kept. by r.0 later r.1 kept)
   where
-    by : (s : DeviceState) (later : List Made) (r : Result Filled Failure) → Has t.state.handshakes s later → Turns (filled r (device_after s t)) later
+    by : (s : DeviceState) (later : List Made) (r : Result Filled Failure) → Has t.state.handshakes s later → Turns
+        (filled r (device_after s t)) later
     by s later (Ok f) kept = kept
     by s later (Err f) kept = kept
 
@@ -82,20 +84,26 @@ TurnEnds x calls = AccountsFor x.0 calls
 
 pub keeps_turn : (size now : ℕ) (s : ProxyState) (calls : List Made) → AccountsFor s calls → Keeps TurnEnds (turn_of size now s) calls
 keeps_turn size now s calls x =
-    keeps_then TurnEnds Turns (unless_failed (tick_stage now) (start s)) _ calls (keeps_unless (tick_stage now) (keeps_tick_stage now) (start s) calls x)
+    keeps_then TurnEnds Turns (unless_failed (tick_stage now) (start s)) _ calls
+    (keeps_unless (tick_stage now) (keeps_tick_stage now) (start s) calls x)
     (λ t later kept.
-    keeps_then TurnEnds Turns (unless_failed event_stage t) _ later (keeps_unless event_stage keeps_event_stage t later kept) (λ t later kept.
-    keeps_then TurnEnds Turns (unless_failed (take_stage size) t) _ later (keeps_unless (take_stage size) (keeps_take_stage size) t later kept)
+    keeps_then TurnEnds Turns (unless_failed event_stage t) _ later (keeps_unless event_stage keeps_event_stage t later kept)
     (λ t later kept.
-    keeps_then TurnEnds Turns (unless_failed shake_hands t) _ later (keeps_unless shake_hands keeps_shake_hands t later kept) (λ t later kept.
+    keeps_then TurnEnds Turns (unless_failed (take_stage size) t) _ later
+    (keeps_unless (take_stage size) (keeps_take_stage size) t later kept)
+    (λ t later kept.
+    keeps_then TurnEnds Turns (unless_failed shake_hands t) _ later (keeps_unless shake_hands keeps_shake_hands t later kept)
+    (λ t later kept.
     keeps_then TurnEnds Turns (unless_failed pump_stage t) _ later (keeps_unless pump_stage keeps_pump_stage t later kept) (λ t later kept.
     keeps_then TurnEnds Turns (unless_failed fill_stage t) _ later (keeps_unless fill_stage keeps_fill_stage t later kept)
     (λ t later kept. kept))))))
 
 -- A reset.
-keeps_close_handshake : (d : DeviceState) (stream : ℕ) (s : ProxyState) (calls : List Made) → AreReset (account_of calls) (payload_put calls) (payload_taken calls) d.table
+keeps_close_handshake : (d : DeviceState) (stream : ℕ) (s : ProxyState) (calls : List Made) → AreReset (account_of calls)
+    (payload_put calls) (payload_taken calls) d.table
     → Keeps (λ t later. AreReset (account_of later) (payload_put later) (payload_taken later) d.table) (close_handshake stream s) calls
-keeps_close_handshake d stream s calls x = λ answer fit. reset_closes (account_of calls) (payload_put calls) (payload_taken calls) d.table stream x
+keeps_close_handshake d stream s calls x = λ answer fit. reset_closes (account_of calls) (payload_put calls)
+    (payload_taken calls) d.table stream x
 
 pub keeps_proxy_reset : (cid : ℕ) (s : ProxyState) (calls : List Made) → AccountsFor s calls
     → Keeps (λ x later. AccountsFor x.0 later) (proxy_reset_of cid s) calls
@@ -107,7 +115,9 @@ keeps_proxy_reset cid s calls x =
         → Keeps (λ x last. AccountsFor x.0 last) (reset_with (d, r) s) later
     by d (Err f) later kept = kept
     by d (Ok y) later kept =
-        keeps_then (λ x last. AccountsFor x.0 last) (λ t last. AreReset (account_of last) (payload_put last) (payload_taken last) d.table) (for_each close_handshake (streams_of s) s)
+        keeps_then (λ x last. AccountsFor x.0 last) (λ t last. AreReset (account_of last) (payload_put last) (payload_taken last) d.table)
+        (for_each close_handshake (streams_of s) s)
         (λ t. Done (record (with_device d t) { handshakes = [] }, Ok tt)) later
-        (keeps_each (λ t last. AreReset (account_of last) (payload_put last) (payload_taken last) d.table) close_handshake (keeps_close_handshake d) (streams_of s) s later kept)
+        (keeps_each (λ t last. AreReset (account_of last) (payload_put last) (payload_taken last) d.table) close_handshake
+        (keeps_close_handshake d) (streams_of s) s later kept)
         (λ t last left. reset_agrees (account_of last) (payload_put last) (payload_taken last) d.table left)

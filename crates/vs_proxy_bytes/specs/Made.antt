@@ -1,6 +1,7 @@
--- The calls that a proxy made on its ring and on its host with the answers that it got, newest first; and what they say of each stream of the
--- host: the account of that stream.
-use Rattle.std.specs.Prelude.{◌≡◌, ℕ, ◌≤◌, ◌==◌, ◌&&◌, not, Bool, true, false, if◌then◌else◌, List, [], ◌∷◌, ◌++◌, length, take, drop, bytes_eq, Option, Some, None}
+-- The calls that a proxy made on its ring and on its host with the answers that it got, newest first; and what they say of each stream
+-- of the host: the account of that stream.
+use Rattle.std.specs.Prelude.{◌≡◌, ℕ, ◌≤◌, ◌==◌, ◌&&◌, not, Bool, true, false, if◌then◌else◌, List, [], ◌∷◌, ◌++◌, length, take, drop}
+use Rattle.std.specs.Prelude.{bytes_eq, Option, Some, None}
 use Rattle.std.specs.Option.{option_map, option_map_or}
 use Rattle.byteorder.specs.Endian.{little_bytes}
 use Rattle.vs_flow.specs.Flow.{same_flow}
@@ -19,18 +20,21 @@ pub record Made : Type 0 where
   pub call : Call
   pub answer : Answer call
 
--- Of one stream: the flow that it is labelled with, whether a client of the host made it, whether the proxy closed it or the transport was reset;
--- the bytes that it was given; and the payloads delivered on its connection.
+-- Of one stream: the flow that it is labelled with, whether a client of the host made it, whether the proxy closed it or the transport
+-- was reset; the bytes that it was given, and the payloads delivered on its connection; the bytes that were taken of it before it had a
+-- label, which are its client's line, and since.
 pub record Account : Type 0 where
   pub label : Option Flow
   pub by_client : Bool
   pub closed : Bool
   pub given : List ℕ
   pub delivered : List ℕ
+  pub line : List ℕ
+  pub taken : List ℕ
 
 -- A stream that an accept gave, and one that a dial gave.
 abbrev pub new_account : Option Flow → Bool → Account
-new_account label by_client = record { label = label; by_client = by_client; closed = false; given = []; delivered = [] }
+new_account label by_client = record { label = label; by_client = by_client; closed = false; given = []; delivered = []; line = []; taken = [] }
 
 abbrev pub labelled : Flow → Account → Account
 labelled flow a = record a { label = Some flow }
@@ -40,6 +44,13 @@ shut a = record a { closed = true }
 
 abbrev pub with_given : List ℕ → Account → Account
 with_given bytes a = record a { given = a.given ++ bytes }
+
+abbrev pub took : Option Flow → List ℕ → Account → Account
+took None bytes a = record a { line = a.line ++ bytes }
+took (Some flow) bytes a = record a { taken = a.taken ++ bytes }
+
+abbrev pub with_taken : List ℕ → Account → Account
+with_taken bytes a = took a.label bytes a
 
 -- A connection of a flow is one of the stream that has it as its label, until that stream is closed or the transport reset.
 abbrev pub is_on : Flow → Account → Bool
@@ -62,12 +73,13 @@ abbrev pub delivering : Option Header → List ℕ → Account → Account
 delivering None payload a = a
 delivering (Some h) payload a = with_delivery (flow_to_host h) payload a
 
--- What one more call says of the stream of an id, where the packet got last has this header. There is no account before an accept or a dial gave
--- the stream.
+-- What one more call says of the stream of an id, where the packet got last has this header. There is no account before an accept or a
+-- dial gave the stream.
 abbrev pub accounted : (call : Call) → Answer call → Option Header → ℕ → Option Account → Option Account
 accounted Accept (accepted.Stream stream) h id a = if stream == id then Some (new_account None true) else a
 accounted (Dial path flow) (dialed.Stream stream) h id a = if stream == id then Some (new_account (Some flow) false) else a
 accounted (Label stream flow) answer h id a = if stream == id then option_map (labelled flow) a else a
+accounted (ReadStream stream n) (read.Got k, bytes) h id a = if stream == id then option_map (with_taken bytes) a else a
 accounted (WriteStream stream bytes) (write.Took n) h id a = if stream == id then option_map (with_given (take n bytes)) a else a
 accounted (CloseStream stream) answer h id a = if stream == id then option_map shut a else a
 accounted (Ring (PublishCid cid)) answer h id a = option_map shut a
@@ -116,10 +128,12 @@ abbrev pub payload_taken : List Made → Flow → List ℕ
 payload_taken [] flow = []
 payload_taken (m ∷ calls) flow = taking m.call m.answer (account_of calls) flow (payload_taken calls flow)
 
--- A ring may answer as it likes, and so may a host, but that no stream comes twice, and none takes more bytes than it is given.
+-- A ring may answer as it likes, and so may a host, but that no stream comes twice, and none gives more bytes than there is room
+-- for, or takes more than it is given.
 abbrev pub MayGet : (call : Call) → Answer call → List Made → Type 0
 MayGet Accept (accepted.Stream stream) calls = account_of calls stream ≡ None
 MayGet (Dial path flow) (dialed.Stream stream) calls = account_of calls stream ≡ None
+MayGet (ReadStream stream n) (read.Got k, bytes) calls = length bytes ≤ n
 MayGet (WriteStream stream bytes) (write.Took n) calls = n ≤ length bytes
 MayGet call answer calls = Unit {0}
 
