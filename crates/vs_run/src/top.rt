@@ -1,17 +1,22 @@
 //! The command's top: its words, the script that it reads, and the status that it ends with.
 
-ghost use Rattle.std.specs.Prelude.{◌≡◌, ◌≢◌, ◌<◌, ◌-◌, ◌^◌, ℕ, List, Some, None, Ok, Err, true, false, map, string_bytes};
+ghost use Rattle.std.specs.Prelude.{◌≡◌, ◌≢◌, ◌<◌, ◌-◌, ◌^◌, ℕ, List, [], Some, None, Ok, Err, true, false, map, string_bytes};
 ghost use Rattle.vs_outside.specs.Faults.{CountsFault};
+ghost use Rattle.vs_outside.specs.Host.{Stream, stream_at};
 ghost use Rattle.vs_peer.specs.Pieces.{Emits};
 ghost use Rattle.vs_peer.specs.Statuses.{NoFault, Says, is_faultless};
 ghost use Rattle.vs_peer.specs.Text.{read_fault_text};
 ghost use Rattle.vs_play.specs.Answer.{play_of};
 ghost use Rattle.vs_play_laws.specs.Headline.{IsLawful};
-ghost use Rattle.vs_hostile.specs.Answer.{hostile_of};
+ghost use Rattle.vs_hostile.specs.Answer.{hostile_of, state_after};
+ghost use Rattle.vs_hostile.specs.Run.{beginning};
+ghost use Rattle.vs_hostile_laws.specs.Isolated.{IsIsolated};
+ghost use Rattle.vs_hostile_laws.specs.Recorded.{calls_of};
 ghost use Rattle.vs_report.specs.Gives.{joined};
 ghost use Rattle.vs_script.specs.Fault.{refused_text};
 ghost use Rattle.vs_script.specs.Play.{Event};
-ghost use Rattle.vs_script.specs.Script.{Plays, parse_of};
+ghost use Rattle.vs_script.specs.Hostile.{Hostile as Attack};
+ghost use Rattle.vs_script.specs.Script.{Attacks, Plays, parse_of};
 ghost use Rattle.vs_script.specs.declared.script.Command.TheVariants as script_of;
 ghost use Rattle.vs_script.specs.declared.fault.Refused.{Refused};
 ghost use Rattle.vs_words.specs.Command.{Play, Hostile, Peer, command_of};
@@ -24,6 +29,7 @@ use crate::hostile::hostile_script;
 use crate::play::play_script;
 use std::alloc::AllocGlobal;
 use std::sync::Wait;
+use vs_hostile_laws::laws::law_of_isolation;
 use vs_outside::{Clock, Gate, HostNet, Sink, Source};
 use vs_peer::peer;
 use vs_play_laws::laws::law_of_plays;
@@ -114,8 +120,13 @@ pub fn vsock_main<R: AllocGlobal + Wait, S: Source, K: Sink, H: HostNet, C: Cloc
     // The headline's first three parts hold of the world that a play reaches, over every script.
     ensures headline { (n : ℕ) (text : List ℕ) (lines : List (ℕ × Event)) → parse_of script_of.Play text ≡ Ok (Plays lines)
         → IsLawful n (map (λ l. l.1) lines) }
+    // Its fourth part, of what a hostile guest's run reaches: no stream is given another connection's bytes.
+    ensures isolated { (text : List ℕ) (lines : List (ℕ × Attack)) → parse_of script_of.Hostile text ≡ Ok (Attacks lines)
+        → (id : ℕ) (s : Stream) → stream_at id (state_after (map (λ l. l.1) lines) beginning).host ≡ Some s
+        → IsIsolated id s (calls_of (map (λ l. l.1) lines) beginning []) }
 {
     law_of_plays();
+    law_of_isolation();
     run(rt, words, script, host, gate, out)
 }
 

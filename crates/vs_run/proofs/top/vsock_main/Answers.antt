@@ -27,3 +27,9 @@ returns-clause-status_2 g c = λ two text told.
     (g.S.Source.faults c.args.script.now) (g.H.HostNet.faults c.args.host.now) (g.K.Sink.faults c.args.out.now))
     (lent (g.S.Source.contents c.run.new.script) (g.H.HostNet.contents c.run.new.host) (g.K.Sink.contents c.run.new.out)
     (g.S.Source.faults c.run.new.script) (g.H.HostNet.faults c.run.new.host) (g.K.Sink.faults c.run.new.out)) c.run.result text c.run.ensures.does two told
+
+pub returns-clause-headline : goal.returns-clause-headline
+returns-clause-headline g c = c.law_of_plays.ensures.scripts
+
+pub returns-clause-isolated : goal.returns-clause-isolated
+returns-clause-isolated g c = λ text lines is. c.law_of_isolation.ensures.given (map (λ l. l.1) lines)
