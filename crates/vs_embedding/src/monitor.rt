@@ -64,7 +64,7 @@ impl<V: Virtqueues> Monitor<V> {
     /// One turn at the moment `now`, in milliseconds of a clock that doesn't fall.
     pub fn serve(&mut self, now: u64) -> Served {
         match self.proxy.turn(&mut self.ring, &mut self.host, now) {
-            Turn::Turned(turned) => served(&turned),
+            Turn::Turned(turned) => outcome_of(&turned),
             Turn::Failed(_) => Served::NeedsReset,
         }
     }
@@ -86,7 +86,7 @@ impl<V: Virtqueues> Monitor<V> {
 }
 
 // Whether a turn moved anything.
-fn served(turned: &Turned) -> Served {
+fn outcome_of(turned: &Turned) -> Served {
     let moved = turned.took != 0
         || turned.put != 0
         || turned.read != 0

@@ -20,12 +20,13 @@ use Rattle.vs_ring_plain.specs.Device.{DeviceState}
 use Rattle.vs_device_parts.specs.Calls.{DeviceTree}
 use Rattle.vs_hostile.specs.Answer.{state_after}
 use Rattle.vs_hostile.specs.Answers.{Around}
-use Rattle.vs_hostile.specs.Run.{Done, GuestState, HasMemory, HasRings, HasTurned, HostileState, Nothing, Said, beginning, first_line}
+use Rattle.vs_hostile.specs.Run.{Done, GuestState, HasMemory, HasRings, HasTurned, HostileState, Nothing, Said, beginning}
 use Rattle.vs_hostile.specs.Run.{host_does, hostile_does, line_in, outside_does}
 use Rattle.vs_hostile.specs.Run.{WasReset, over, over_rings}
 use Rattle.vs_hostile_laws.specs.Isolated.{IsGivenOwn, IsIsolated, delivered_to}
 use Rattle.vs_hostile_laws.specs.Recorded.{calls_of, made_in, made_over, outside_made, recorded}
-use Rattle.vs_hostile_laws.proofs.Shown.{Shows, ShowsAt, ShowsIn, new_shows, none_there, unseen_shows}
+use Rattle.vs_proxy_bytes.specs.Told.{Shows, ShowsAt, ShowsIn}
+use Rattle.vs_proxy_bytes.proofs.Shown.{new_shows, none_there, unseen_shows}
 use Rattle.vs_hostile_laws.proofs.Steps.{played_same, played_shows}
 use Rattle.vs_proxy_parts.specs.State.{ProxyState}
 use Rattle.vs_proxy_parts.specs.Turns.{proxy_reset_of, turn_of}
@@ -138,34 +139,13 @@ rings_hold (Before nth addr bytes) ring s calls holds = same_holds _ s calls hol
 rings_hold (Look addr len) ring s calls holds = holds
 rings_hold (OfOutside line) ring s calls holds = outside_holds line ring s calls holds
 
-first_holds : (line : Hostile) (s : HostileState) (calls : List Made) → Holds s calls → Holds (first_line line s).0 calls
-first_holds (SetMemory memory) s calls holds = same_holds _ s calls holds
-first_holds (SetRings n) s calls holds = holds
-first_holds (Write addr bytes) s calls holds = holds
-first_holds (WriteDesc queue number desc) s calls holds = holds
-first_holds (Give queue place head) s calls holds = holds
-first_holds (Index queue value) s calls holds = holds
-first_holds (Packet addr header bytes) s calls holds = holds
-first_holds (Before nth addr bytes) s calls holds = holds
-first_holds (Look addr len) s calls holds = holds
-first_holds (OfOutside line) s calls holds = holds
-
 line_holds : (line : Hostile) (s : HostileState) (calls : List Made) → Holds s calls → Holds (hostile_does line s).0
     (made_in s.guest line s calls)
 line_holds line s calls holds = by s.guest line
   where
     by : (guest : GuestState) (line : Hostile) → Holds (line_in guest line s).0 (made_in guest line s calls)
-    by Nothing line = first_holds line s calls holds
-    by (HasMemory memory) (SetMemory span) = holds
-    by (HasMemory memory) (SetRings n) = same_holds _ s calls holds
-    by (HasMemory memory) (Write addr bytes) = holds
-    by (HasMemory memory) (WriteDesc queue number desc) = holds
-    by (HasMemory memory) (Give queue place head) = holds
-    by (HasMemory memory) (Index queue value) = holds
-    by (HasMemory memory) (Packet addr header bytes) = holds
-    by (HasMemory memory) (Before nth addr bytes) = holds
-    by (HasMemory memory) (Look addr len) = holds
-    by (HasMemory memory) (OfOutside line) = holds
+    by Nothing line = same_holds _ s calls holds
+    by (HasMemory memory) line = same_holds _ s calls holds
     by (HasRings ring) line = rings_hold line ring s calls holds
 
 lines_hold : (lines : List Hostile) (s : HostileState) (calls : List Made) → Holds s calls → Holds (state_after lines s)

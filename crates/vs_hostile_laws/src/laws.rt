@@ -32,12 +32,12 @@ pub fn law_of_isolation()
 pub fn law_of_failure()
     ensures turn { (ring : DeviceState) (s : HostileState) (f : Failure) → s.guest ≡ HasRings ring → s.proxy.device.failed ≡ Some f
         → hostile_does (Around Turn) s ≡ (s, HasTurned (Failed f)) }
-    ensures reset { (ring : DeviceState) (s : HostileState) (cid : ℕ) (f : Failure) → s.guest ≡ HasRings ring → s.proxy.device.failed ≡ Some f
-        → 3 ≤ cid → cid ≤ 4294967294 → hostile_does (Around (Reset cid)) s ≡ (s, WasReset (Err f)) }
+    ensures reset { (ring : DeviceState) (s : HostileState) (cid : ℕ) (f : Failure) → s.guest ≡ HasRings ring
+        → s.proxy.device.failed ≡ Some f → 3 ≤ cid → cid ≤ 4294967294 → hostile_does (Around (Reset cid)) s ≡ (s, WasReset (Err f)) }
 {}
 
-/// Runs that are computed: an RW whose length the guest changes once the device read it, of which the one byte of the length that was read is
-/// delivered; and two connections, where a byte on a flow that isn't open and one from another CID are delivered to none.
+/// Runs that are computed: an RW whose length the guest changes once the device read it, of which the one byte of the length that was
+/// read is delivered; and two connections, where a byte on a flow that isn't open and one from another CID are delivered to none.
 pub fn worked_isolation()
     ensures changed { delivered_to 1 (calls_of changed_lines beginning []) ≡ 120 ∷ [] }
     ensures first { delivered_to 1 (calls_of two_lines beginning []) ≡ 97 ∷ [] }

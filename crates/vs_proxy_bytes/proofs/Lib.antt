@@ -10,3 +10,5 @@ pub mod Opening
 pub mod Shaking
 pub mod Turning
 pub mod Judging
+pub mod Shown
+pub mod Telling

@@ -140,7 +140,12 @@ keeps_close_slot slot s calls x = by (entry_under s.table slot)
   where
     closes : (e : DeviceEntry) (b : Bool) → Keeps Closing (cond b (Done (with_connection e.slot (stream_closed e.value) s))
         (Ask (CloseStream e.value.stream) (λ _. Done (with_connection e.slot (stream_closed e.value) s)))) calls
-    closes e true = record { table = with_value_sound s.table e.slot (stream_closed e.value) x.table; lawful = x.lawful; carried = x.carried }
+    closes e true = record {
+      table = with_value_sound s.table e.slot
+          (stream_closed e.value) x.table;
+      lawful = x.lawful;
+      carried = x.carried;
+    }
     closes e false = λ a fit. record {
       table = with_value_sound s.table e.slot (stream_closed e.value) x.table;
       lawful = closed_given (account_of calls) e.value.stream x.lawful;

@@ -1,3 +1,4 @@
 pub mod Made
 pub mod Tied
 pub mod Judged
+pub mod Told

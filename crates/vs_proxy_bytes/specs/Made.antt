@@ -34,7 +34,15 @@ pub record Account : Type 0 where
 
 -- A stream that an accept gave, and one that a dial gave.
 abbrev pub new_account : Option Flow → Bool → Account
-new_account label by_client = record { label = label; by_client = by_client; closed = false; given = []; delivered = []; line = []; taken = [] }
+new_account label by_client = record {
+  label = label;
+  by_client = by_client;
+  closed = false;
+  given = [];
+  delivered = [];
+  line = [];
+  taken = [];
+}
 
 abbrev pub labelled : Flow → Account → Account
 labelled flow a = record a { label = Some flow }

@@ -20,8 +20,7 @@ use Rattle.vs_proxy_bytes.specs.Made.{Account, Made, account_of, new_account, pa
 abbrev pub ok_line_of : Bool → Flow → List ℕ
 ok_line_of by_client flow = if by_client then ok_text flow.host else []
 
--- A stream is given its OK line, and then the payloads delivered on its own connection: a prefix of them all. Without a label it is given
--- nothing.
+-- A stream is given a prefix of its OK line and the payloads delivered on its own connection. Without a label it is given nothing.
 abbrev pub IsGiven : Option Flow → Account → Type 0
 IsGiven None a = a.given ≡ []
 IsGiven (Some flow) a = IsPrefixOf a.given (ok_line_of a.by_client flow ++ a.delivered)
@@ -49,8 +48,7 @@ IsLawful o a = IsGiven o a × IsRead o a
 abbrev pub gives_all : DeviceConnection → Bool
 gives_all c = not c.closed && gives c.end
 
--- A connection and the account of its stream: what the stream was given and what is held are what came, all of it while the stream is given
--- all.
+-- A connection and the account of its stream: what the stream was given and what is held are what came, all of it while all is given.
 pub record IsTiedTo (a : Account) (e : DeviceEntry) : Type 0 where
   pub label : a.label ≡ Some e.flow
   pub client : a.by_client ≡ e.value.by_client

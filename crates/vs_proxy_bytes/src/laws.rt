@@ -3,7 +3,10 @@
 ghost use Rattle.std.specs.Prelude.{◌≡◌, ℕ, true, List, [], Some, Result, Contains};
 ghost use Rattle.vs_contents.specs.CallTree.{Leads};
 ghost use Rattle.vs_flow.specs.declared.flow.Flow.{Flow};
+ghost use Rattle.vs_outside.specs.Host.{HostContents};
 ghost use Rattle.vs_ring_port.specs.declared.failure.Failure.{Failure};
+ghost use Rattle.vs_device_parts.specs.Calls.{Situation};
+ghost use Rattle.vs_device_parts.specs.Playing.{Runs};
 ghost use Rattle.vs_device_parts.specs.State.{DeviceEntry, DeviceState};
 ghost use Rattle.vs_device_parts.specs.Transmitting.{take_tx_of};
 ghost use Rattle.vs_device_parts.specs.declared.answers.Taken.{Taken};
@@ -13,6 +16,7 @@ ghost use Rattle.vs_proxy_parts.specs.declared.answers.Turn.{Turn};
 ghost use Rattle.vs_proxy_bytes.specs.Judged.{IsJudged};
 ghost use Rattle.vs_proxy_bytes.specs.Made.{Account, Made, Makes, account_of, is_on, payload_put, payload_taken};
 ghost use Rattle.vs_proxy_bytes.specs.Tied.{AccountsFor, IsGiven, IsRead, IsTied};
+ghost use Rattle.vs_proxy_bytes.specs.Told.{IsTold, Shows};
 
 /// The calls that were made for a proxy account for what it holds: before its first call, and after each turn and each reset, whatever the
 /// ring answers, and whatever a host that gives no stream twice and takes no more bytes than it is given.
@@ -47,4 +51,15 @@ pub fn law_of_streams()
 pub fn law_of_packets()
     ensures judged { (s t : DeviceState) (calls later : List Made) (answer : Taken) → Leads Makes (take_tx_of s) calls (t, answer) later
         → IsJudged answer s t calls later }
+{}
+
+/// Over any ring and a host that exposes its contents: each turn and each reset is such a list of calls, which account for the streams of
+/// the host, as they did before it.
+pub fn law_of_hosts()
+    ensures turn { (size now : ℕ) (s : ProxyState) (calls : List Made) (h : HostContents) (c d : Situation) (x : ProxyState × Turn)
+        → AccountsFor s calls → c.host ≡ Some h → Shows (account_of calls) h → Runs (turn_of size now s) c x d
+        → IsTold (turn_of size now s) calls x d }
+    ensures reset { (cid : ℕ) (s : ProxyState) (calls : List Made) (h : HostContents) (c d : Situation)
+        (x : ProxyState × Result (Unit {0}) Failure) → AccountsFor s calls → c.host ≡ Some h → Shows (account_of calls) h
+        → Runs (proxy_reset_of cid s) c x d → IsTold (proxy_reset_of cid s) calls x d }
 {}
