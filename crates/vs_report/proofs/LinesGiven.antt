@@ -72,3 +72,9 @@ gives_next old mid new f m g xs ys (Err fault.Sink) a b = (subst (λ zs. EmitsSo
 pub gives_less : (old new : Option (List ℕ)) (f g : ℕ) (xs ys : List (List ℕ)) (e : GiveError) → GivesLines old new f g xs (Err e) → GivesLines old new f g (xs ++ ys) (Err e)
 gives_less old new f g xs ys fault.OutOfMemory a = (lines_more old new xs ys a.0, a.1)
 gives_less old new f g xs ys fault.Sink a = (subst (λ zs. EmitsSome old new zs) (sym (joined_append xs ys)) (some_more old new (joined xs) (joined ys) a.0), a.1)
+
+-- none of some lines, of which one stands behind others
+pub nothing_behind : (old : Option (List ℕ)) (f : ℕ) (xs : List (List ℕ)) (y : List ℕ) (ys : List (List ℕ)) (r : Result (Unit {0}) GiveError)
+    → r ≡ Err fault.OutOfMemory → GivesLines old old f f (xs ++ y ∷ ys) r
+nothing_behind old f [] y ys r e = nothing_given old f y ys r e
+nothing_behind old f (x ∷ xs) y ys r e = nothing_given old f x (xs ++ y ∷ ys) r e

@@ -1,5 +1,10 @@
-use Rattle.std.proofs.Common.{Ok, arith}
+use Rattle.std.proofs.Common.{Ok, Err, Result, ℕ, ap, ◌≡◌, map, arith}
 use Rattle.vs_hostile.proofs.Attacks.{attack_given, attack_less, attack_until}
+use Rattle.vs_report.proofs.LinesGiven.{nothing_behind}
+use Rattle.vs_report.specs.declared.giving.GiveError.TheVariants.{OutOfMemory}
+use Rattle.vs_script.specs.Script.{numbered_hostile}
+use Rattle.vs_hostile.specs.Answer.{given, lines_of, state_after, texts_of}
+use Rattle.vs_hostile.specs.Run.{beginning}
 use Rattle.vs_hostile.proofs.run.hostile.Goals as goal
 
 pub returns-in_err-give_lines-clause-lines : goal.returns-in_err-give_lines-clause-lines
@@ -24,3 +29,9 @@ returns-clause-lines g c =
     (g.K.Sink.contents c.give_report.new.out) (g.K.Sink.faults c.args.out.now) (g.K.Sink.faults c.give_report.new.out)
     c.give_lines.new.world (g.K.Sink.contents c.give_lines.new.out) (g.K.Sink.faults c.give_lines.new.out)
     (Ok c.status.result) c.in_ok-give_lines.ensures.state c.in_ok-give_lines.ensures.printed c.in_ok-give_report.ensures
+
+pub returns-in_err-world-clause-lines : goal.returns-in_err-world-clause-lines
+returns-in_err-world-clause-lines g c =
+    let failed : c.from_residual.result ≡ Err OutOfMemory = grind (arith, c.from_residual.ensures) in
+    nothing_behind (g.K.Sink.contents c.args.out.now) (g.K.Sink.faults c.args.out.now)
+    (texts_of (lines_of (map numbered_hostile c.args.lines.now)) beginning) _ _ (given c.from_residual.result) (ap given failed)

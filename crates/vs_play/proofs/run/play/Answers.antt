@@ -1,4 +1,7 @@
-use Rattle.std.proofs.Common.{arith}
+use Rattle.std.proofs.Common.{map, arith}
+use Rattle.vs_report.proofs.LinesGiven.{nothing_behind}
+use Rattle.vs_script.specs.Script.{numbered_event}
+use Rattle.vs_play.specs.Answer.{events_in, opened_play, texts_of}
 use Rattle.vs_play.proofs.LinesPlayed.{events_of, run_until, run_given}
 use Rattle.vs_play.proofs.run.play.Goals as goal
 
@@ -17,3 +20,9 @@ returns g c =
     (g.K.Sink.faults c.args.out.now) (g.K.Sink.faults c.play_lines.new.out) (g.K.Sink.faults c.report.new.out)
     c.report.result c.in_ok-play.ensures.world c.play_lines.new.play c.in_ok-play_lines.ensures.world c.in_ok-play_lines.ensures.printed
     c.report.ensures
+
+pub returns-in_err-play : goal.returns-in_err-play
+returns-in_err-play g c =
+    nothing_behind (g.K.Sink.contents c.args.out.now) (g.K.Sink.faults c.args.out.now)
+    (texts_of (events_in (map numbered_event c.args.lines.now)) (opened_play (g.R.BothEnds.ends c.args.rings).lists.size)) _ _
+    c.from_residual.result (grind (arith, c.from_residual.ensures))
