@@ -1,5 +1,8 @@
 -- What a monitor's ring keeps: the size of its queues, the chains that the device holds, newest first, and for how many it has room.
 use Rattle.std.specs.Prelude.{ℕ, List, None, false}
+use Rattle.vs_device_parts.specs.Calls.{Situation}
+use Rattle.vs_device_parts.specs.Playing.{IsItsRing, situation}
+use Rattle.vs_proxy_log.specs.Order.{IsInOrder}
 use Rattle.vs_ring_port.specs.Contents.{RingContents}
 use Rattle.vs_ring_port.specs.declared.device_ring.Chain.{Chain}
 use Rattle.vs_proxy_parts.specs.State.{ProxyState}
@@ -17,3 +20,12 @@ silent = record { lists = None; log = None; other = None; plain = None; honest =
 pub record MonitorState : Type 0 where
   pub proxy : ProxyState
   pub ring : RingState
+
+-- A ring and a host that expose nothing.
+abbrev pub nothing_exposed : Situation
+nothing_exposed = situation silent None 0
+
+-- Between its calls the proxy holds the ring's chains, and is in order.
+pub record IsServing (m : MonitorState) : Type 0 where
+  pub chains : IsItsRing m.ring.held m.proxy.device
+  pub order : (first : ℕ) × IsInOrder first m.proxy nothing_exposed

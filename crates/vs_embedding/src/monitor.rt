@@ -9,6 +9,7 @@ use crate::queues::{MonitorRing, Virtqueues};
 use std::alloc::{AllocError, Global};
 use std::marker::Model;
 use vs_proxy::{Proxy, Turn, Turned};
+use vs_proxy_log::laws::law_of_order;
 
 /// What a round of the device's thread came to.
 #[derive(Clone, Copy, Debug, PartialEq, Eq)]
@@ -30,14 +31,13 @@ pub struct Monitor<V> {
 }
 
 impl<V> Model for Monitor<V> {
-    ghost use Rattle.vs_embedding.specs.Ring.{MonitorState};
-    ghost use Rattle.vs_device_parts.specs.Playing.{IsItsRing};
+    ghost use Rattle.vs_embedding.specs.Ring.{IsServing, MonitorState};
 
     ghost Value = { MonitorState };
 
     ghost view = { λ m. record { proxy = m.proxy; ring = m.ring } };
 
-    ghost invariant = { λ m. IsItsRing m.ring.held m.proxy.device };
+    ghost invariant = { λ m. IsServing (record { proxy = m.proxy; ring = m.ring }) };
 }
 
 impl<V: Virtqueues> Monitor<V> {
@@ -56,6 +56,7 @@ impl<V: Virtqueues> Monitor<V> {
         requires cid { (3 ≤ cid) × (cid ≤ 4294967294) }
         requires base { (1 ≤ length base.now) × (length base.now ≤ BASE_MAX) }
     {
+        law_of_order();
         let ring = MonitorRing::new(alloc, queues, size)?;
         let proxy = Proxy::new(alloc, cid, base)?;
         Ok(Monitor { proxy, ring, host })
