@@ -29,10 +29,8 @@ use crate::hostile::hostile_script;
 use crate::play::play_script;
 use std::alloc::AllocGlobal;
 use std::sync::Wait;
-use vs_hostile_laws::laws::law_of_isolation;
 use vs_outside::{Clock, Gate, HostNet, Sink, Source};
 use vs_peer::peer;
-use vs_play_laws::laws::law_of_plays;
 use vs_words::{Command, WordsError, command_of};
 
 /// The status of words that name no command.
@@ -125,8 +123,6 @@ pub fn vsock_main<R: AllocGlobal + Wait, S: Source, K: Sink, H: HostNet, C: Cloc
         → (id : ℕ) (s : Stream) → stream_at id (state_after (map (λ l. l.1) lines) beginning).host ≡ Some s
         → IsIsolated id s (calls_of (map (λ l. l.1) lines) beginning []) }
 {
-    law_of_plays();
-    law_of_isolation();
     run(rt, words, script, host, gate, out)
 }
 

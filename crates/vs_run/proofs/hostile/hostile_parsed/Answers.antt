@@ -1,6 +1,8 @@
-use Rattle.std.proofs.Common.{Ok, subst, sym}
-use Rattle.vs_hostile.specs.Answer.{answer_to}
-use Rattle.vs_script.specs.Script.{script_view}
+use Rattle.std.proofs.Common.{Ok, List, map, subst, sym}
+use Rattle.vs_hostile.specs.Answer.{answer_to, attack_of}
+use Rattle.vs_script.specs.Script.{numbered_hostile, script_view}
+use Rattle.vs_script.specs.declared.hostile.HostileLine.{HostileLine}
+use Rattle.vs_script.specs.declared.script.Numbered.{Numbered}
 use Rattle.vs_script.specs.declared.script.Script.{Script}
 use Rattle.vs_run.specs.Ends.{EndsAnswer}
 use Rattle.vs_run.proofs.Endings.{gave_nothing}
@@ -18,3 +20,11 @@ returns-in-Play g c =
     (g.K.Sink.faults c.args.out.now) (answer_to (Ok (script_view s))).lines (answer_to (Ok (script_view s))).status 0) (sym c.in-Play.is)
     (gave_nothing (g.K.Sink.contents c.args.out.now) (g.K.Sink.faults c.args.out.now))
 
+pub returns-in-Hostile : goal.returns-in-Hostile
+returns-in-Hostile g c =
+    subst (λ (s : Script). EndsAnswer (g.K.Sink.contents c.args.out.now) (g.K.Sink.contents c.hostile_lines.new.out) (g.K.Sink.faults c.args.out.now)
+    (g.K.Sink.faults c.hostile_lines.new.out) (answer_to (Ok (script_view s))).lines (answer_to (Ok (script_view s))).status c.hostile_lines.result)
+    (sym c.in-Hostile.is)
+    (subst (λ (xs : List (Numbered HostileLine)). EndsAnswer (g.K.Sink.contents c.args.out.now) (g.K.Sink.contents c.hostile_lines.new.out)
+    (g.K.Sink.faults c.args.out.now) (g.K.Sink.faults c.hostile_lines.new.out) (attack_of (map numbered_hostile xs)).lines
+    (attack_of (map numbered_hostile xs)).status c.hostile_lines.result) c.deref.ensures.value c.hostile_lines.ensures)

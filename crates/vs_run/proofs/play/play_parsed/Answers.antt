@@ -1,6 +1,8 @@
-use Rattle.std.proofs.Common.{Ok, subst, sym}
-use Rattle.vs_play.specs.Answer.{answer_to}
-use Rattle.vs_script.specs.Script.{script_view}
+use Rattle.std.proofs.Common.{Ok, List, map, subst, sym}
+use Rattle.vs_play.specs.Answer.{answer_to, events_in, printed}
+use Rattle.vs_script.specs.Script.{numbered_event, script_view}
+use Rattle.vs_script.specs.declared.play.PlayLine.{PlayLine}
+use Rattle.vs_script.specs.declared.script.Numbered.{Numbered}
 use Rattle.vs_script.specs.declared.script.Script.{Script}
 use Rattle.vs_run.specs.Ends.{EndsAnswer}
 use Rattle.vs_run.proofs.Endings.{gave_nothing}
@@ -18,3 +20,11 @@ returns-in-Hostile g c =
     (g.K.Sink.faults c.args.out.now) (answer_to c.args.queue (Ok (script_view s))).lines (answer_to c.args.queue (Ok (script_view s))).status 0) (sym c.in-Hostile.is)
     (gave_nothing (g.K.Sink.contents c.args.out.now) (g.K.Sink.faults c.args.out.now))
 
+pub returns-in-Play : goal.returns-in-Play
+returns-in-Play g c =
+    subst (λ (s : Script). EndsAnswer (g.K.Sink.contents c.args.out.now) (g.K.Sink.contents c.play_lines.new.out) (g.K.Sink.faults c.args.out.now)
+    (g.K.Sink.faults c.play_lines.new.out) (answer_to c.args.queue (Ok (script_view s))).lines (answer_to c.args.queue (Ok (script_view s))).status
+    c.play_lines.result) (sym c.in-Play.is)
+    (subst (λ (xs : List (Numbered PlayLine)). EndsAnswer (g.K.Sink.contents c.args.out.now) (g.K.Sink.contents c.play_lines.new.out)
+    (g.K.Sink.faults c.args.out.now) (g.K.Sink.faults c.play_lines.new.out) (printed c.args.queue (events_in (map numbered_event xs))) 0
+    c.play_lines.result) c.deref.ensures.value c.play_lines.ensures)

@@ -2,6 +2,8 @@ use Rattle.std.proofs.Common.{map, string_bytes}
 use Rattle.vs_words.specs.Command.{command_of}
 use Rattle.vs_run.specs.Does.{lent}
 use Rattle.vs_run.proofs.Causes.{attack_written, no_script_at_2, play_written}
+use Rattle.vs_hostile_laws.proofs.Lines.{run_isolated}
+use Rattle.vs_play_laws.proofs.Lawful.{each_script}
 use Rattle.vs_run.proofs.top.vsock_main.Goals as goal
 
 pub returns-clause-plays : goal.returns-clause-plays
@@ -29,7 +31,7 @@ returns-clause-status_2 g c = λ two text told.
     (g.S.Source.faults c.run.new.script) (g.H.HostNet.faults c.run.new.host) (g.K.Sink.faults c.run.new.out)) c.run.result text c.run.ensures.does two told
 
 pub returns-clause-headline : goal.returns-clause-headline
-returns-clause-headline g c = c.law_of_plays.ensures.scripts
+returns-clause-headline g c = each_script
 
 pub returns-clause-isolated : goal.returns-clause-isolated
-returns-clause-isolated g c = λ text lines is. c.law_of_isolation.ensures.given (map (λ l. l.1) lines)
+returns-clause-isolated g c = λ text lines is. run_isolated (map (λ l. l.1) lines)
