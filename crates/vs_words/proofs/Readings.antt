@@ -79,7 +79,7 @@ module _ (command : Text) (names : List Text) (a : App) (is : a ≡ app_with com
       go (Some options) same h =
           let k = subst (Parses command names words) same h in
           let kinds : HasKind [] e = subst (λ ks. HasKind ks e) (ap (λ (b : App). fault_of b words) is
-              ∙ k.0) (fails (ap is_simple_and_free is ∙ simple)) in
+          ∙ k.0) (fails (ap is_simple_and_free is ∙ simple)) in
           rw (out_of_memory e kinds) tt
       go None same h = any_error (error_of (kind_of e)) same
 

@@ -110,7 +110,7 @@ without_new name (g ∷ gs) new =
 
 with_new : (g : Given) (before : List Given) → is_given g.name before ≡ false
     → with_values g.name (reading_by (built_rule g.name)) CommandLine (g.value ∷ []) (map given_row before) ≡ map given_row
-        (before ++ g ∷ [])
+    (before ++ g ∷ [])
 with_new g [] new = refl
 with_new g (b ∷ bs) new =
     let parts = or_false (bytes_eq b.name g.name) (is_given g.name bs) new in
@@ -121,7 +121,7 @@ pub used_new : (g : Given) (before : List Given) → is_given g.name before ≡ 
     → used (built_rule g.name) (g.value ∷ []) (map given_row before) ≡ map given_row (before ++ g ∷ [])
 used_new g before new =
     ap (with_values g.name (reading_by (built_rule g.name)) CommandLine (g.value ∷ [])) (without_new g.name before new)
-        ∙ with_new g before new
+    ∙ with_new g before new
 
 -- and has no fault; one that was given has
 pub use_new : (g : Given) (before : List Given) → is_given g.name before ≡ false

@@ -60,7 +60,7 @@ chars_some x xs text = go (chars (x ∷ xs)) refl
     go (c ∷ cs) e = (c, ap (λ (l : List ℕ). slice_get l 0) e)
     go [] e =
         let whole : chars (45 ∷ x ∷ xs) ≡ 45 ∷ [] = chars_past_char (45 ∷ x ∷ xs) (x ∷ xs) 45 text (hyphen (x ∷ xs))
-            ∙ ap (λ (l : List ℕ). 45 ∷ l) e in
+        ∙ ap (λ (l : List ℕ). 45 ∷ l) e in
         let same : 45 ∷ [] ≡ 45 ∷ x ∷ xs = sym alone ∙ ap encodes (sym whole) ∙ encodes-chars (45 ∷ x ∷ xs) text in
         absurd (omega (arith, ap length same))
 
@@ -122,7 +122,7 @@ module _ (command : Text) (names : List Text) where
         → is_empty (turn_fault shape [] (walk_at before pending (option name)) word) ≡ false
     short_waits name word x xs c d l h first =
         or_left (word_fault shape [] false (option name) word (held_at before pending)) _ (rw (d, l, h)
-            (short_word idle word x xs c d l h first))
+        (short_word idle word x xs c d l h first))
 
     -- an option that the command hasn't
     pub unknown_idle : (word name : Text) (value : Option Text) → bytes_eq word dashes ≡ false → long_of word ≡ Some (name, value)
@@ -205,19 +205,19 @@ module _ (command : Text) (names : List Text) where
   pub value_walked : (before : List Given) (id word : Text) → bytes_eq word dashes ≡ false → long_of word ≡ None → short_of word ≡ None
       → is_known id names ≡ true → bytes_eq id id ≡ true
       → ◌≡◌ {A = Walk} (walked (rules names) [] (walk_at before (Some (id, [])) (option id)) word) (walk_at before (Some
-          (id, word ∷ [])) idle)
+      (id, word ∷ [])) idle)
   unfolding walked
   value_walked before id word d l h k same = rw (d, l, h, by_id id names, k, same) refl
 
   -- settling what waits
   pub settle_given : (before : List Given) (g : Given) → is_known g.name names ≡ true
       → settle_fault (rules names) false (held_at before (Some (g.name, g.value ∷ []))) ≡ use_fault false (built_rule g.name)
-          (g.value ∷ []) (map given_row before)
+      (g.value ∷ []) (map given_row before)
   settle_given before g k = rw (by_id g.name names, k) refl
 
   pub settled_given : (before : List Given) (g : Given) → is_known g.name names ≡ true
       → settled_rows (rules names) (Some (g.name, g.value ∷ [])) (map given_row before) ≡ used (built_rule g.name) (g.value ∷ [])
-          (map given_row before)
+      (map given_row before)
   settled_given before g k = rw (by_id g.name names, k) refl
 
   pub settle_name : (before : List Given) (name : Text) → is_known name names ≡ true

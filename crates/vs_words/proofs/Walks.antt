@@ -163,7 +163,7 @@ module _ (command : Text) (names : List Text) where
   abbrev end_fault_of : Walk → Kinds
   end_fault_of w = or_else [] (or_else (settle_fault (rules names) false w.held)
       (or_else (defaults_fault (settled (rules names) w.held).rows (rules names)) (check_fault (shape_with command names) (finished
-          (rules names) w.held) false)))
+      (rules names) w.held) false)))
 
   abbrev fault_from : Walk → List Text → Kinds
   fault_from w words = or_else (walk_fault (shape_with command names) [] w words) (end_fault_of (fold (walked (rules names) []) w words))
@@ -174,16 +174,16 @@ module _ (command : Text) (names : List Text) where
   end_is : (w : Walk) → end_fault_of w ≡ settle_fault (rules names) false w.held
   end_is w =
       rw (no_defaults (settled (rules names) w.held).rows names, no_check (finished (rules names) w.held)) (or_nil (settle_fault
-          (rules names) false w.held))
+      (rules names) false w.held))
 
   -- one word
   next_fault : (w : Walk) (word : Text) (words : List Text)
       → fault_from w (word ∷ words) ≡ or_else (turn_fault (shape_with command names) [] w word) (fault_from (walked
-          (rules names) [] w word) words)
+      (rules names) [] w word) words)
   unfolding walk_fault
   next_fault w word words =
       or_assoc (turn_fault (shape_with command names) [] w word) (walk_fault (shape_with command names) [] (walked
-          (rules names) [] w word) words) _
+      (rules names) [] w word) words) _
 
   -- a word with a fault
   stops : (r : Option (List Given)) (w : Walk) (word : Text) (words : List Text) → r ≡ None
@@ -192,13 +192,13 @@ module _ (command : Text) (names : List Text) where
   stops r w word words none bad =
       no_answer r (fault_from w (word ∷ words)) (rows_from w (word ∷ words)) none
       (ap is_empty (next_fault w word words) ∙ or_left (turn_fault (shape_with command names) [] w word) (fault_from (walked
-          (rules names) [] w word) words) bad)
+      (rules names) [] w word) words) bad)
 
   -- a word without one
   goes_on : (r r' : Option (List Given)) (w w' : Walk) (word : Text) (words : List Text) → r ≡ r'
       → turn_fault (shape_with command names) [] w word ≡ []
       → walked (rules names) [] w word ≡ w' → Meets r' (fault_from w' words) (rows_from w' words)
-          → Meets r (fault_from w (word ∷ words)) (rows_from w (word ∷ words))
+      → Meets r (fault_from w (word ∷ words)) (rows_from w (word ∷ words))
   goes_on r r' w w' word words same good is h =
       meets r' r (fault_from w' words) (fault_from w (word ∷ words)) (rows_from w' words) (rows_from w (word ∷ words)) same
       (next_fault w word words ∙ ap (λ (k : Kinds). or_else k (fault_from (walked (rules names) [] w word) words)) good
@@ -212,7 +212,7 @@ module _ (command : Text) (names : List Text) where
       ((have_names names before xs ≡ true) × (settle_fault (rules names) false (held_at command names before pending) ≡ [])
       × (settled_rows (rules names) pending (map given_row before) ≡ map given_row (before ++ xs)))
       ⊎ ((have_names names before xs ≡ false) × (is_empty (settle_fault (rules names) false
-          (held_at command names before pending)) ≡ false))
+      (held_at command names before pending)) ≡ false))
 
   settles_nothing : (before : List Given) → Settles before None []
   settles_nothing before = inl (refl, refl, ap (map given_row) (sym (append-nil before)))
@@ -222,8 +222,12 @@ module _ (command : Text) (names : List Text) where
     where
       go : (b : Bool) → is_given g.name before ≡ b → Settles before (Some (g.name, g.value ∷ [])) (g ∷ [])
       go false e =
-          inl (rw (k, e) refl, settle_given command names before g k ∙ use_new g before e, settled_given command names before g k
-              ∙ used_new g before e)
+          inl (
+            rw (k, e) refl,
+            settle_given command names before g k ∙ use_new g before e,
+            settled_given command names before g k
+                ∙ used_new g before e,
+          )
       go true e = inr (rw (k, e) refl, ap is_empty (settle_given command names before g k ∙ use_again g before e))
 
   -- the words are at their end
@@ -232,7 +236,7 @@ module _ (command : Text) (names : List Text) where
       → Settles before pending xs → Meets (answer before xs (Some [])) (end_fault_of w) (finished (rules names) w.held)
   at_end before pending xs w is (inl h) =
       meets (Some (before ++ xs)) (answer before xs (Some [])) [] (end_fault_of w) (map given_row (before ++ xs)) (finished
-          (rules names) w.held)
+      (rules names) w.held)
       (ap (taken before) (append-nil xs) ∙ rw h.0 refl)
       (end_is w ∙ ap (settle_fault (rules names) false) is ∙ h.1)
       (ap (finished (rules names)) is ∙ same_rows (settled (rules names) (held_at command names before pending)).rows names ∙ h.2)
@@ -252,7 +256,7 @@ module _ (command : Text) (names : List Text) where
   abbrev Rest : List Text → Type 0
   Rest words = (before : List Given) (p : Pending) → IsFine p
       → Meets (answer before (list_of p) (given_by (name_of p) words)) (fault_from (state before p) words) (rows_from
-          (state before p) words)
+      (state before p) words)
 
   module _ (before : List Given) (pending : Option (Text × List Text)) (xs : List Given) (settled_is : Settles before pending xs) where
     abbrev now : Walk
@@ -279,7 +283,7 @@ module _ (command : Text) (names : List Text) where
     whole_idle : (word name value : Text) (words : List Text) → bytes_eq word dashes ≡ false → long_of word ≡ Some (name, Some value)
         → is_known name names ≡ true → Rest words → Settles before pending xs
         → Meets (answer before (xs ++ record { name = name; value = value } ∷ []) (given_by None words)) (fault_from now (word ∷ words))
-            (rows_from now (word ∷ words))
+        (rows_from now (word ∷ words))
     whole_idle word name value words d l k ih (inr h) =
         let g : Given = record { name = name; value = value } in
         stops (answer before (xs ++ g ∷ []) (given_by None words)) now word words
@@ -291,7 +295,7 @@ module _ (command : Text) (names : List Text) where
       where
         go : (b : Bool) → is_given name (before ++ xs) ≡ b
             → Meets (answer before (xs ++ record { name = name; value = value } ∷ []) (given_by None words)) (fault_from now
-                (word ∷ words)) (rows_from now (word ∷ words))
+            (word ∷ words)) (rows_from now (word ∷ words))
         go true e =
             let g : Given = record { name = name; value = value } in
             stops (answer before (xs ++ g ∷ []) (given_by None words)) now word words
@@ -300,15 +304,15 @@ module _ (command : Text) (names : List Text) where
             ∙ or_left (or_else (settle_fault (rules names) false now_held) (use_fault false (built_rule name) (value ∷ []) rows_now)) []
             (or_right (settle_fault (rules names) false now_held) (use_fault false (built_rule name) (value ∷ []) rows_now)
             (ap (λ (rs : List Row). is_empty (use_fault false (built_rule name) (value ∷ []) rs)) h.2
-                ∙ ap is_empty (use_again g (before ++ xs) e))))
+            ∙ ap is_empty (use_again g (before ++ xs) e))))
         go false e =
             let g : Given = record { name = name; value = value } in
             let all : List Given = before ++ (xs ++ g ∷ []) in
             let rows_are : used (built_rule name) (value ∷ []) rows_now ≡ map given_row all =
             ap (used (built_rule name) (value ∷ [])) h.2 ∙ used_new g (before ++ xs) e
-                ∙ ap (map given_row) (append_assoc before xs (g ∷ [])) in
+            ∙ ap (map given_row) (append_assoc before xs (g ∷ [])) in
             goes_on (answer before (xs ++ g ∷ []) (given_by None words)) (answer all [] (given_by None words)) now
-                (state all Nothing) word words
+            (state all Nothing) word words
             (resplit before (xs ++ g ∷ []) (given_by None words) (have_both before xs (g ∷ []) ∙ rw (h.0, k, e) refl))
             (whole_fault command names before pending word name value d l k
             ∙ or_nil (or_else (settle_fault (rules names) false now_held) (use_fault false (built_rule name) (value ∷ []) rows_now))
@@ -327,22 +331,28 @@ module _ (command : Text) (names : List Text) where
         (ap is_empty (name_fault command names before pending word name d l k) ∙ or_left (settle_fault (rules names) false now_held) [] h.1)
     name_idle word name words d l k ih (inl h) =
         goes_on (answer before xs (given_by (Some name) words)) (answer (before ++ xs) [] (given_by (Some name) words)) now (state
-            (before ++ xs) (Waits name)) word words
+        (before ++ xs) (Waits name)) word words
         (resplit before xs (given_by (Some name) words) h.0)
         (name_fault command names before pending word name d l k ∙ or_nil (settle_fault (rules names) false now_held) ∙ h.1)
         (name_walked command names before pending word name d l k
-        ∙ ap (λ (rs : List Row). record (walk_at command names before pending (option name)) { held = record { rows = rs; pending = Some
-            (name, []); skip = 0 } }) h.2)
+        ∙ ap (λ (rs : List Row). record (walk_at command names before pending (option name)) {
+          held = record {
+            rows = rs;
+            pending = Some
+                (name, []);
+            skip = 0;
+          };
+        }) h.2)
         (ih (before ++ xs) (Waits name) k)
 
     from_idle : (word : Text) (words : List Text) → IsUtf8 word → Rest words → Look word
         → Meets (answer before xs (given_by None (word ∷ words))) (fault_from now (word ∷ words)) (rows_from now (word ∷ words))
     from_idle word words text ih (Plain v d l h) =
         stops (answer before xs (given_by None (word ∷ words))) now word words (rw l (rw d refl))
-            (plain_idle command names before pending word d l h)
+        (plain_idle command names before pending word d l h)
     from_idle word words text ih (Dashes e) =
         subst (λ (w : Text). Meets (answer before xs (given_by None (w ∷ words))) (fault_from now (w ∷ words)) (rows_from now
-            (w ∷ words))) (sym e) (dashes_idle words)
+        (w ∷ words))) (sym e) (dashes_idle words)
     from_idle word words text ih (Short x ys e v d l h) =
         let first = chars_some x ys (subst IsUtf8 e text) in
         stops (answer before xs (given_by None (word ∷ words))) now word words (rw l (rw d refl))
@@ -404,7 +414,7 @@ module _ (command : Text) (names : List Text) where
         (ih before (Has g) known)
     from_waits word words text ih (Dashes e) =
         subst (λ (w : Text). Meets (waiting_answer (w ∷ words)) (fault_from then_now (w ∷ words)) (rows_from then_now (w ∷ words)))
-            (sym e) (dashes_waits words)
+        (sym e) (dashes_waits words)
     from_waits word words text ih (Short x ys e v d l h) =
         let first = chars_some x ys (subst IsUtf8 e text) in
         stops (waiting_answer (word ∷ words)) then_now word words (rw v refl)
@@ -434,7 +444,7 @@ module _ (command : Text) (names : List Text) where
       from_idle before None [] (settles_nothing before) word words texts.0 (parses words texts.1) (look word)
   parses (word ∷ words) texts before (Has g) fine =
       from_idle before (Some (g.name, g.value ∷ [])) (g ∷ []) (settles_given before g fine) word words texts.0 (parses words texts.1)
-          (look word)
+      (look word)
   parses (word ∷ words) texts before (Waits name) fine = from_waits before name fine word words texts.0 (parses words texts.1) (look word)
 
   -- ---- the command
@@ -451,7 +461,7 @@ module _ (command : Text) (names : List Text) where
       let stop = (walk (rules names) [] nothing_held (drop 1 words)).stopped in
       ap (λ (a : App). built_fault a nothing_held (drop 1 words)) (built_is command names)
       ∙ ap (λ (b : Bool). level_fault (shape_with command names) [] nothing_held (drop 1 words) b (entered_fault built_app stop))
-          (no_stop stop).0
+      (no_stop stop).0
       ∙ ap (level_fault (shape_with command names) [] nothing_held (drop 1 words) false) (no_stop stop).1
 
   matches_are : (words : List Text) → matches_of (app_with command names) words ≡ rows_from (walk_from nothing_held) (drop 1 words)

@@ -91,7 +91,7 @@ play_with options = play_of (rings_of (value_of (codes "rings") options)) (queue
 abbrev pub peer_with : List Given → Option Command
 peer_with options =
     peer_of (base_of (value_of (codes "base") options)) (port_of (value_of (codes "port") options)) (idle_of (value_of
-        (codes "idle") options))
+    (codes "idle") options))
 
 -- The command of words, of which the first is its name.
 abbrev pub play_words : List (List ℕ) → Option Command

@@ -12,4 +12,4 @@ returns-in_err-value-clause-value c =
     let read : ParsesUnsigned 32 10 c.args.word.now c.parse.result = c.parse.ensures.value.0 in
     rw (c.from_residual.ensures, digits, leading)
     (sym (within-err c.args.low c.args.high c.args.word.now c.parse.result digits (omega arith) read (sym c.ok.ensures.value
-        ∙ c.in_err-value.was)))
+    ∙ c.in_err-value.was)))

@@ -15,6 +15,6 @@ pub returns-in_err-try_get_matches_from : goal.returns-in_err-try_get_matches_fr
 returns-in_err-try_get_matches_from c =
     let is : app_of c.disable_help_flag-command.result ≡ app_with (codes "hostile") [] = search rules in
     let said : c.from_residual.result ≡ Err (error_of (kind_of c.in_err-try_get_matches_from.field-0.0)) = grind
-        (arith, c.from_residual.ensures) in
+    (arith, c.from_residual.ensures) in
     err_said (codes "hostile") [] (app_of c.disable_help_flag-command.result) is refl refl _ (texts_behind c.args.words.now)
     c.in_err-try_get_matches_from.field-0.0 c.from_residual.result (λ e. c.in_err-try_get_matches_from.ensures.kinds e) said

@@ -19,7 +19,7 @@ returns c =
     let two : app_of c.in_ok-command-2.command ≡ app_with (codes "peer") (codes "base" ∷ codes "port" ∷ []) =
     c.in_ok-command-2.ensures.shape (search rules) ∙ ap₂ with_rule one port in
     let is : app_of c.in_ok-command-3.command ≡ app_with (codes "peer") names = c.in_ok-command-3.ensures.shape (search rules)
-        ∙ ap₂ with_rule two idle in
+    ∙ ap₂ with_rule two idle in
     ok_reads (codes "peer") names (app_of c.in_ok-command-3.command) is refl refl _ (texts_behind c.args.words.now)
     c.in_ok-try_get_matches_from.field-0 c.in_ok-try_get_matches_from.ensures.matches (λ e. c.in_ok-try_get_matches_from.ensures.kinds e)
 
@@ -34,9 +34,9 @@ returns-in_err-try_get_matches_from c =
     let two : app_of c.in_ok-command-2.command ≡ app_with (codes "peer") (codes "base" ∷ codes "port" ∷ []) =
     c.in_ok-command-2.ensures.shape (search rules) ∙ ap₂ with_rule one port in
     let is : app_of c.in_ok-command-3.command ≡ app_with (codes "peer") names = c.in_ok-command-3.ensures.shape (search rules)
-        ∙ ap₂ with_rule two idle in
+    ∙ ap₂ with_rule two idle in
     let said : c.from_residual-in_err-try_get_matches_from.result ≡ Err (error_of (kind_of c.in_err-try_get_matches_from.field-0.0)) =
     grind (arith, c.from_residual-in_err-try_get_matches_from.ensures) in
     err_said (codes "peer") names (app_of c.in_ok-command-3.command) is refl refl _ (texts_behind c.args.words.now)
     c.in_err-try_get_matches_from.field-0.0 c.from_residual-in_err-try_get_matches_from.result
-        (λ e. c.in_err-try_get_matches_from.ensures.kinds e) said
+    (λ e. c.in_err-try_get_matches_from.ensures.kinds e) said

@@ -16,7 +16,7 @@ returns c =
     let one : app_of c.in_ok-command.command ≡ app_with (codes "play") (codes "rings" ∷ []) =
     c.in_ok-command.ensures.shape (search rules) ∙ ap₂ with_rule none rings in
     let is : app_of c.in_ok-command-2.command ≡ app_with (codes "play") names = c.in_ok-command-2.ensures.shape (search rules)
-        ∙ ap₂ with_rule one queue in
+    ∙ ap₂ with_rule one queue in
     ok_reads (codes "play") names (app_of c.in_ok-command-2.command) is refl refl _ (texts_behind c.args.words.now)
     c.in_ok-try_get_matches_from.field-0 c.in_ok-try_get_matches_from.ensures.matches (λ e. c.in_ok-try_get_matches_from.ensures.kinds e)
 
@@ -28,9 +28,9 @@ returns-in_err-try_get_matches_from c =
     let one : app_of c.in_ok-command.command ≡ app_with (codes "play") (codes "rings" ∷ []) =
     c.in_ok-command.ensures.shape (search rules) ∙ ap₂ with_rule none rings in
     let is : app_of c.in_ok-command-2.command ≡ app_with (codes "play") names = c.in_ok-command-2.ensures.shape (search rules)
-        ∙ ap₂ with_rule one queue in
+    ∙ ap₂ with_rule one queue in
     let said : c.from_residual-in_err-try_get_matches_from.result ≡ Err (error_of (kind_of c.in_err-try_get_matches_from.field-0.0)) =
     grind (arith, c.from_residual-in_err-try_get_matches_from.ensures) in
     err_said (codes "play") names (app_of c.in_ok-command-2.command) is refl refl _ (texts_behind c.args.words.now)
     c.in_err-try_get_matches_from.field-0.0 c.from_residual-in_err-try_get_matches_from.result
-        (λ e. c.in_err-try_get_matches_from.ensures.kinds e) said
+    (λ e. c.in_err-try_get_matches_from.ensures.kinds e) said

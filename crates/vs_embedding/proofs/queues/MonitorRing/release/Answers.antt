@@ -14,7 +14,7 @@ pub returns : goal.returns
 returns g c =
     let items = rw c.unwrap-returned.ensures at c.remove.ensures.items in
     let held = items ∙ sym (without_found c.args.chain.now c.self.inside.held.items c.unwrap-place.result (sym c.find.ensures ∙ c.unwrap-place.ensures))
-        ∙ ap (λ (s : RingState). without c.args.chain.now s.held) c.self.view_is in
+    ∙ ap (λ (s : RingState). without c.args.chain.now s.held) c.self.view_is in
     let size = ap (λ (s : RingState). s.size) c.self.view_is in
     let room = c.remove.ensures.capacity ∙ ap (λ (s : RingState). s.room) c.self.view_is in
     ap₂ (λ (n : ℕ) (hs : List Chain). let s : RingState = record { size = c.self.inside.size; held = hs; room = n } in s) room held
