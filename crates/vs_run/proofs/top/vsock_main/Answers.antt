@@ -4,6 +4,7 @@ use Rattle.vs_run.specs.Does.{lent}
 use Rattle.vs_run.proofs.Causes.{attack_written, no_script_at_2, play_written}
 use Rattle.vs_hostile_laws.proofs.Lines.{run_isolated}
 use Rattle.vs_play_laws.proofs.Lawful.{each_script}
+use Rattle.vs_run.proofs.Statuses.{cause_at, is_one}
 use Rattle.vs_run.proofs.top.vsock_main.Goals as goal
 
 pub returns-clause-plays : goal.returns-clause-plays
@@ -35,3 +36,59 @@ returns-clause-headline g c = each_script
 
 pub returns-clause-isolated : goal.returns-clause-isolated
 returns-clause-isolated g c = λ text lines is. run_isolated (map (λ l. l.1) lines)
+
+pub returns-clause-status_1 : goal.returns-clause-status_1
+returns-clause-status_1 g c = λ is.
+    cause_at (command_of (map string_bytes c.args.words.now))
+    (lent (g.S.Source.contents c.args.script.now) (g.H.HostNet.contents c.args.host.now) (g.K.Sink.contents c.args.out.now)
+    (g.S.Source.faults c.args.script.now) (g.H.HostNet.faults c.args.host.now) (g.K.Sink.faults c.args.out.now))
+    (lent (g.S.Source.contents c.run.new.script) (g.H.HostNet.contents c.run.new.host) (g.K.Sink.contents c.run.new.out)
+    (g.S.Source.faults c.run.new.script) (g.H.HostNet.faults c.run.new.host) (g.K.Sink.faults c.run.new.out)) c.run.result 1 c.run.ensures.does is
+
+pub returns-clause-status_3 : goal.returns-clause-status_3
+returns-clause-status_3 g c = λ is.
+    cause_at (command_of (map string_bytes c.args.words.now))
+    (lent (g.S.Source.contents c.args.script.now) (g.H.HostNet.contents c.args.host.now) (g.K.Sink.contents c.args.out.now)
+    (g.S.Source.faults c.args.script.now) (g.H.HostNet.faults c.args.host.now) (g.K.Sink.faults c.args.out.now))
+    (lent (g.S.Source.contents c.run.new.script) (g.H.HostNet.contents c.run.new.host) (g.K.Sink.contents c.run.new.out)
+    (g.S.Source.faults c.run.new.script) (g.H.HostNet.faults c.run.new.host) (g.K.Sink.faults c.run.new.out)) c.run.result 3 c.run.ensures.does is
+
+pub returns-clause-status_4 : goal.returns-clause-status_4
+returns-clause-status_4 g c = λ is.
+    cause_at (command_of (map string_bytes c.args.words.now))
+    (lent (g.S.Source.contents c.args.script.now) (g.H.HostNet.contents c.args.host.now) (g.K.Sink.contents c.args.out.now)
+    (g.S.Source.faults c.args.script.now) (g.H.HostNet.faults c.args.host.now) (g.K.Sink.faults c.args.out.now))
+    (lent (g.S.Source.contents c.run.new.script) (g.H.HostNet.contents c.run.new.host) (g.K.Sink.contents c.run.new.out)
+    (g.S.Source.faults c.run.new.script) (g.H.HostNet.faults c.run.new.host) (g.K.Sink.faults c.run.new.out)) c.run.result 4 c.run.ensures.does is
+
+pub returns-clause-status_5 : goal.returns-clause-status_5
+returns-clause-status_5 g c = λ is.
+    cause_at (command_of (map string_bytes c.args.words.now))
+    (lent (g.S.Source.contents c.args.script.now) (g.H.HostNet.contents c.args.host.now) (g.K.Sink.contents c.args.out.now)
+    (g.S.Source.faults c.args.script.now) (g.H.HostNet.faults c.args.host.now) (g.K.Sink.faults c.args.out.now))
+    (lent (g.S.Source.contents c.run.new.script) (g.H.HostNet.contents c.run.new.host) (g.K.Sink.contents c.run.new.out)
+    (g.S.Source.faults c.run.new.script) (g.H.HostNet.faults c.run.new.host) (g.K.Sink.faults c.run.new.out)) c.run.result 5 c.run.ensures.does is
+
+pub returns-clause-status_6 : goal.returns-clause-status_6
+returns-clause-status_6 g c = λ is.
+    cause_at (command_of (map string_bytes c.args.words.now))
+    (lent (g.S.Source.contents c.args.script.now) (g.H.HostNet.contents c.args.host.now) (g.K.Sink.contents c.args.out.now)
+    (g.S.Source.faults c.args.script.now) (g.H.HostNet.faults c.args.host.now) (g.K.Sink.faults c.args.out.now))
+    (lent (g.S.Source.contents c.run.new.script) (g.H.HostNet.contents c.run.new.host) (g.K.Sink.contents c.run.new.out)
+    (g.S.Source.faults c.run.new.script) (g.H.HostNet.faults c.run.new.host) (g.K.Sink.faults c.run.new.out)) c.run.result 6 c.run.ensures.does is
+
+pub returns-clause-status_8 : goal.returns-clause-status_8
+returns-clause-status_8 g c = λ is.
+    cause_at (command_of (map string_bytes c.args.words.now))
+    (lent (g.S.Source.contents c.args.script.now) (g.H.HostNet.contents c.args.host.now) (g.K.Sink.contents c.args.out.now)
+    (g.S.Source.faults c.args.script.now) (g.H.HostNet.faults c.args.host.now) (g.K.Sink.faults c.args.out.now))
+    (lent (g.S.Source.contents c.run.new.script) (g.H.HostNet.contents c.run.new.host) (g.K.Sink.contents c.run.new.out)
+    (g.S.Source.faults c.run.new.script) (g.H.HostNet.faults c.run.new.host) (g.K.Sink.faults c.run.new.out)) c.run.result 8 c.run.ensures.does is
+
+pub returns-clause-statuses : goal.returns-clause-statuses
+returns-clause-statuses g c =
+    is_one (command_of (map string_bytes c.args.words.now))
+    (lent (g.S.Source.contents c.args.script.now) (g.H.HostNet.contents c.args.host.now) (g.K.Sink.contents c.args.out.now)
+    (g.S.Source.faults c.args.script.now) (g.H.HostNet.faults c.args.host.now) (g.K.Sink.faults c.args.out.now))
+    (lent (g.S.Source.contents c.run.new.script) (g.H.HostNet.contents c.run.new.host) (g.K.Sink.contents c.run.new.out)
+    (g.S.Source.faults c.run.new.script) (g.H.HostNet.faults c.run.new.host) (g.K.Sink.faults c.run.new.out)) c.run.result c.run.ensures.does

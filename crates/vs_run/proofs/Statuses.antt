@@ -1,0 +1,143 @@
+-- From what a command did to the cause of its status.
+use Rattle.std.proofs.Common.{◌≡◌, ◌⊎◌, inl, inr, ◌∙◌, ℕ, zero, suc, true, nat_le, List, Option, Some, None, Result, Ok, Err, refl, sym, subst}
+use Rattle.vs_hostile.specs.Answer.{answer_to as hostile_answer, status_of}
+use Rattle.vs_outside.specs.Faults.{CountsFault}
+use Rattle.vs_peer.specs.Ends.{EndsAs, Lent}
+use Rattle.vs_peer.specs.Statuses as statuses
+use Rattle.vs_peer.specs.Statuses.{Says}
+use Rattle.vs_peer.specs.Text.{no_memory_text, read_fault_text}
+use Rattle.vs_play.specs.Answer.{answer_to as play_answer}
+use Rattle.vs_ring_port.specs.declared.failure.Failure.{Failure}
+use Rattle.vs_script.specs.Script.{Attacks, Plays, Runs, Saying}
+use Rattle.vs_script.specs.declared.fault.Refused.{Refused}
+use Rattle.vs_script.specs.declared.script.Command.{Command}
+use Rattle.vs_script.specs.declared.script.Command.TheVariants as script_of
+use Rattle.vs_words.specs.Command as words
+use Rattle.vs_run.specs.Does.{Does, is_client, is_status}
+use Rattle.vs_run.specs.Ends.{EndsAnswer, EndsParsed, EndsScript, EndsWith, NoMemory, Read, SourceFails, refusal_text, usage_text}
+
+-- A status with its cause.
+data Cause (command : Option words.Command) (old new : Lent) (r : ℕ) : Type 0 where
+  Done : r ≡ 0 → Cause command old new r
+  Usage : r ≡ 1 → command ≡ None → Cause command old new r
+  BadScript : r ≡ 2 → Cause command old new r
+  SourceFault : r ≡ 3 → CountsFault true old.source_faults new.source_faults → Cause command old new r
+  SinkFault : r ≡ 4 → CountsFault true old.sink_faults new.sink_faults → Cause command old new r
+  Waited : r ≡ 5 → is_client command ≡ true → Cause command old new r
+  HostFault : r ≡ 6 → CountsFault true old.host_faults new.host_faults → Cause command old new r
+  DeviceFailed : r ≡ 7 → Cause command old new r
+  NotAnswered : r ≡ 8 → is_client command ≡ true → Cause command old new r
+  OutOfMemory : r ≡ 9 → Cause command old new r
+
+-- What each status says.
+abbrev pub At : ℕ → Option words.Command → Lent → Lent → Type 0
+At zero command old new = Unit {0}
+At (suc zero) command old new = command ≡ None
+At (suc (suc zero)) command old new = Unit {0}
+At (suc (suc (suc zero))) command old new = CountsFault true old.source_faults new.source_faults
+At (suc (suc (suc (suc zero)))) command old new = CountsFault true old.sink_faults new.sink_faults
+At (suc (suc (suc (suc (suc zero))))) command old new = is_client command ≡ true
+At (suc (suc (suc (suc (suc (suc zero)))))) command old new = CountsFault true old.host_faults new.host_faults
+At (suc (suc (suc (suc (suc (suc (suc zero))))))) command old new = Unit {0}
+At (suc (suc (suc (suc (suc (suc (suc (suc zero)))))))) command old new = is_client command ≡ true
+At (suc (suc (suc (suc (suc (suc (suc (suc (suc n))))))))) command old new = Unit {0}
+
+module _ (command : Option words.Command) (old new : Lent) (r : ℕ) where
+  abbrev Is : ℕ → Type 0
+  Is n = At n command old new
+
+  at : Cause command old new r → At r command old new
+  at (Done e) = subst Is (sym e) tt
+  at (Usage e h) = subst Is (sym e) h
+  at (BadScript e) = subst Is (sym e) tt
+  at (SourceFault e h) = subst Is (sym e) h
+  at (SinkFault e h) = subst Is (sym e) h
+  at (Waited e h) = subst Is (sym e) h
+  at (HostFault e h) = subst Is (sym e) h
+  at (DeviceFailed e) = subst Is (sym e) tt
+  at (NotAnswered e h) = subst Is (sym e) h
+  at (OutOfMemory e) = subst Is (sym e) tt
+
+  abbrev Small : ℕ → Type 0
+  Small n = nat_le n 9 ≡ true
+
+  small : Cause command old new r → nat_le r 9 ≡ true
+  small (Done e) = subst Small (sym e) refl
+  small (Usage e h) = subst Small (sym e) refl
+  small (BadScript e) = subst Small (sym e) refl
+  small (SourceFault e h) = subst Small (sym e) refl
+  small (SinkFault e h) = subst Small (sym e) refl
+  small (Waited e h) = subst Small (sym e) refl
+  small (HostFault e h) = subst Small (sym e) refl
+  small (DeviceFailed e) = subst Small (sym e) refl
+  small (NotAnswered e h) = subst Small (sym e) refl
+  small (OutOfMemory e) = subst Small (sym e) refl
+
+  -- a line's own status, which has its cause, or that of a sink that failed
+  as_cause : (line : List ℕ) (status : ℕ) → (r ≡ status → Cause command old new r)
+      → EndsAs old.out new.out old.sink_faults new.sink_faults line status r → Cause command old new r
+  as_cause line status own (inl h) = own h.0
+  as_cause line status own (inr h) = SinkFault h.0 h.2
+
+  with_cause : (line : List ℕ) (status : ℕ) → (r ≡ status → Cause command old new r)
+      → EndsWith old.out new.out old.sink_faults new.sink_faults line status r → Cause command old new r
+  with_cause line status own (inl h) = as_cause line status own h
+  with_cause line status own (inr h) = as_cause no_memory_text 9 (λ e. OutOfMemory e) h
+
+  answer_cause : (lines : List (List ℕ)) (own : ℕ) → (r ≡ own → Cause command old new r)
+      → EndsAnswer old.out new.out old.sink_faults new.sink_faults lines own r → Cause command old new r
+  answer_cause lines own cause (text, status, inl w, h) = as_cause text status (λ e. cause (e ∙ w.1)) h
+  answer_cause lines own cause (text, status, inr w, h) = as_cause text status (λ e. OutOfMemory (e ∙ w.5)) h
+
+  module _ (lines : Result Saying Refused → List (List ℕ)) (own : Result Saying Refused → ℕ)
+      (causes : (s : Saying) → r ≡ own (Ok s) → Cause command old new r) where
+    parsed_cause : (p : Result Saying Refused) → EndsParsed lines own old.out new.out old.sink_faults new.sink_faults p r → Cause command old new r
+    parsed_cause (Ok s) h = answer_cause (lines (Ok s)) (own (Ok s)) (causes s) h
+    parsed_cause (Err e) h = with_cause (refusal_text e) 2 (λ same. BadScript same) h
+
+    script_cause : (c : Command) → EndsScript c lines own old.source old.source_faults new.source_faults old.out new.out old.sink_faults new.sink_faults r
+        → Cause command old new r
+    script_cause c (Read bytes reads kept h) = parsed_cause _ h
+    script_cause c (SourceFails counts h) = as_cause read_fault_text 3 (λ e. SourceFault e counts) h
+    script_cause c (NoMemory kept h) = as_cause no_memory_text 9 (λ e. OutOfMemory e) h
+
+  play_status : (queue : ℕ) (s : Saying) → r ≡ (play_answer queue (Ok s)).status → Cause command old new r
+  play_status queue (Plays lines) e = Done e
+  play_status queue (Runs apps) e = Done e
+  play_status queue (Attacks lines) e = Done e
+
+  failed_status : (f : Option Failure) → r ≡ status_of f → Cause command old new r
+  failed_status None e = Done e
+  failed_status (Some f) e = DeviceFailed e
+
+  hostile_status : (s : Saying) → r ≡ (hostile_answer (Ok s)).status → Cause command old new r
+  hostile_status (Plays lines) e = Done e
+  hostile_status (Runs apps) e = Done e
+  hostile_status (Attacks lines) e = failed_status _ e
+
+  says_cause : is_client command ≡ true → (base : List ℕ) (port idle : ℕ) → Says base port idle old new r → Cause command old new r
+  says_cause client base port idle (statuses.Done e h) = Done e
+  says_cause client base port idle (statuses.TooLong e h) = BadScript e
+  says_cause client base port idle (statuses.SourceFault e h) = SourceFault e h.counts
+  says_cause client base port idle (statuses.SinkFault e h) = SinkFault e h.counts
+  says_cause client base port idle (statuses.Waited e h) = Waited e client
+  says_cause client base port idle (statuses.HostFault e h) = HostFault e h.counts
+  says_cause client base port idle (statuses.Refused e h) = NotAnswered e client
+  says_cause client base port idle (statuses.NoMemory e h) = OutOfMemory e
+
+cause : (command : Option words.Command) (old new : Lent) (r : ℕ) → Does command old new r → Cause command old new r
+cause None old new r h = with_cause None old new r usage_text 1 (λ e. Usage e refl) h.0
+cause (Some (words.Play kind queue)) old new r h =
+    script_cause (Some (words.Play kind queue)) old new r (λ said. (play_answer queue said).lines) (λ said. (play_answer queue said).status)
+    (play_status (Some (words.Play kind queue)) old new r queue) script_of.Play h.0
+cause (Some words.Hostile) old new r h =
+    script_cause (Some words.Hostile) old new r (λ said. (hostile_answer said).lines) (λ said. (hostile_answer said).status)
+    (hostile_status (Some words.Hostile) old new r) script_of.Hostile h.0
+cause (Some (words.Peer base port idle)) old new r h = says_cause (Some (words.Peer base port idle)) old new r refl base port idle h.0
+
+-- What the status says, and that there is no other.
+pub cause_at : (command : Option words.Command) (old new : Lent) (r n : ℕ) → Does command old new r → r ≡ n → At n command old new
+cause_at command old new r n h e = subst (λ k. At k command old new) e (at command old new r (cause command old new r h))
+
+pub is_one : (command : Option words.Command) (old new : Lent) (r : ℕ) → Does command old new r → is_status r ≡ true
+is_one command old new r h = small command old new r (cause command old new r h)
