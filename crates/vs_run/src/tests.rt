@@ -1,3 +1,5 @@
+ghost use Rattle.std.specs.Prelude.{◌≤◌};
+
 use crate::vsock_main;
 use std::alloc::{AllocError, AllocGlobal, Global};
 use std::sync::Wait;
@@ -50,7 +52,9 @@ fn ends<R: AllocGlobal + Wait>(
     fails: (u64, u64),
     status: u8,
     printed: &str,
-) -> Result<bool, AllocError> {
+) -> Result<bool, AllocError>
+    requires piece { 1 ≤ piece }
+{
     let alloc = rt.alloc();
     let mut source = MemSource::new(alloc, Vec::from_slice(alloc, script.as_bytes())?, piece);
     let mut sink = MemSink::new(alloc, piece);
