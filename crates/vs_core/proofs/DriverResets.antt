@@ -17,7 +17,7 @@ use Rattle.vs_driver_parts.specs.Connections.{after_close, after_leaving, after_
 use Rattle.vs_driver_parts.specs.Receiving.{after_reset, all_left, reset_reply, with_reply}
 use Rattle.std.proofs.Common.{Contains}
 use Rattle.vs_flow.proofs.Tables.{without_sound}
-use Rattle.vs_pipes.proofs.Received.{same_received}
+use Rattle.vs_core.proofs.Received.{same_received}
 use Rattle.vs_core.proofs.Receives.{StillReceives, leaves, none_read}
 use Rattle.vs_core.specs.Pipes.{none_on, put_on}
 use Rattle.vs_core.proofs.Payloads.{nothing_more}

@@ -27,7 +27,7 @@ use Rattle.vs_credit.specs.Credit.{unread_of}
 use Rattle.vs_matching.specs.Heard.{route_of}
 use Rattle.vs_history.specs.declared.packet.Packet.{Packet}
 use Rattle.vs_pipes.specs.Drains.{receives}
-use Rattle.vs_pipes.proofs.Gone.{closed_received}
+use Rattle.vs_core.proofs.Gone.{closed_received}
 use Rattle.vs_pipes.proofs.Logs.{only_on}
 use Rattle.vs_pipes.proofs.Steps as steps
 use Rattle.vs_pipes.proofs.Steps.{comes_out, ended_goes, forwards_less, pays_less, shut_goes, stays_still}

@@ -42,7 +42,7 @@ use Rattle.vs_matching.proofs.Both.{next_is_fair}
 use Rattle.vs_matching.proofs.Fair.{got_in_order, heard_all}
 use Rattle.vs_pipes.specs.Drains.{receives}
 use Rattle.vs_pipes.proofs.Logs.{got_after_put, got_passes, none_passed, passed_after_got, passed_after_put, put_passes}
-use Rattle.vs_pipes.proofs.Received.{opened_received, same_received}
+use Rattle.vs_core.proofs.Received.{opened_received, same_received}
 use Rattle.vs_pipes.proofs.Steps as steps
 use Rattle.vs_pipes.proofs.Steps.{comes_in, delivers_to, hears_less, only_delivered, stays_still}
 use Rattle.vs_core.proofs.Receives.{after_got_empty, got_empty, hears, leaves, none_read, passes_by}

@@ -4,6 +4,8 @@ pub mod Fits
 pub mod Runs
 pub mod Entries
 pub mod Wire
+pub mod Received
+pub mod Gone
 pub mod DriverSide
 pub mod DriverTakes
 pub mod DriverResets

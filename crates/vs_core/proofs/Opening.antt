@@ -12,7 +12,7 @@ use Rattle.vs_outside.specs.Host.{Stream}
 use Rattle.vs_pipes.specs.Streamed.{IsStreamed, Seen, look, seen}
 use Rattle.vs_pipes.proofs.Cids.{SameCids, no_cids}
 use Rattle.vs_proxy_parts.specs.Turns.{new_proxy}
-use Rattle.vs_pipes.specs.Received.{IsReceived}
+use Rattle.vs_core.specs.Received.{IsReceived}
 use Rattle.vs_ring_port.specs.DriverCalls.{driver_answer, Stage, Publish}
 use Rattle.vs_ring_port.specs.EndLog.{EndLog, all_put, entries_marked}
 use Rattle.vs_ring_port.specs.Lists.{Rings}

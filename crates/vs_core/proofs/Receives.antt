@@ -22,10 +22,10 @@ use Rattle.vs_driver_parts.specs.Connections.{entry_answer, gone_answer, is_at_e
 use Rattle.vs_driver_parts.proofs.Known.{flow_gone, flow_known, recv_gone_some, recv_known, unread_gone_some, unread_known}
 use Rattle.vs_driver_parts.proofs.GoneChanges.{read_none}
 use Rattle.vs_pipes.specs.Drains.{got_on, receives}
-use Rattle.vs_pipes.specs.Received.{AreReceived, IsReceived}
-use Rattle.vs_pipes.proofs.Gone.{read_received}
+use Rattle.vs_core.specs.Received.{AreReceived, IsReceived}
+use Rattle.vs_core.proofs.Gone.{read_received}
 use Rattle.vs_pipes.proofs.Logs.{got_after_got, got_after_put, none_on_any, nothing_more, only_on, passed_after_got, passed_after_put}
-use Rattle.vs_pipes.proofs.Received.{changed_received, left_received, more_received, same_received, without_received}
+use Rattle.vs_core.proofs.Received.{changed_received, left_received, more_received, same_received, without_received}
 use Rattle.vs_pipes.proofs.Steps.{Goes}
 use Rattle.vs_core.specs.Calls.{is_on}
 use Rattle.vs_core.specs.GuestSteps.{bytes_got}

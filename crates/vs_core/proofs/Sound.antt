@@ -25,8 +25,8 @@ use Rattle.vs_core.specs.Events.{Event, GuestCalls, GuestTakes, GuestStages, Gue
 use Rattle.vs_core.specs.Events.{at_moment, call_made, device_step, driver_step, happens, has_failed, holds, is_at_rest, is_guest_cid, line_read, none_staged, proxy_step, reset_made, unless_failed, where_possible, works_on}
 use Rattle.vs_core.specs.GuestSteps.{makes_call, takes_page, stages_page, stages_reply, stages_owed}
 use Rattle.vs_core.specs.Calls.{received_on, sent_on}
-use Rattle.vs_pipes.specs.Received.{IsReceived}
-use Rattle.vs_pipes.proofs.Received.{same_received}
+use Rattle.vs_core.specs.Received.{IsReceived}
+use Rattle.vs_core.proofs.Received.{same_received}
 use Rattle.vs_core.specs.Pipes.{none_on, put_on}
 use Rattle.vs_core.proofs.Payloads.{nothing_more}
 use Rattle.vs_flow.specs.declared.flow.Flow.{Flow}

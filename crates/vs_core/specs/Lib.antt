@@ -9,6 +9,7 @@ pub mod Laws
 pub mod Sides
 pub mod Pages
 pub mod Worked
+pub mod Received
 pub mod Pipes
 pub mod Steps
 pub mod WorkedBytes

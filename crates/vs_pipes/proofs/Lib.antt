@@ -1,7 +1,5 @@
 pub mod Changes
 pub mod Logs
-pub mod Received
-pub mod Gone
 pub mod Steps
 pub mod Lines
 pub mod Streamed

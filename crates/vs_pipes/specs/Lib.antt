@@ -1,3 +1,2 @@
 pub mod Drains
-pub mod Received
 pub mod Streamed

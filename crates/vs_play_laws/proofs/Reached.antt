@@ -22,7 +22,7 @@ use Rattle.vs_page.specs.Open.{WasOpened, is_left_open, is_open}
 use Rattle.vs_page.proofs.Opened.{was_opened}
 use Rattle.vs_page.proofs.PayloadLogs.{all_got, all_put, prefix}
 use Rattle.vs_pipes.specs.Drains.{Drains, receives}
-use Rattle.vs_pipes.specs.Received.{IsReceived, ReceivedOn, ReceivesOn}
+use Rattle.vs_core.specs.Received.{IsReceived, ReceivedOn, ReceivesOn}
 use Rattle.vs_pipes.specs.Streamed.{IsJoined, IsStreamed, Seen, gives, line_for, look, seen}
 use Rattle.vs_pipes.proofs.Hosts.{there as is_there}
 use Rattle.vs_pipes.proofs.Logs.{prefix_then}

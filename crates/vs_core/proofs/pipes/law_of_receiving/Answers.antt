@@ -7,7 +7,7 @@ use Rattle.vs_page.specs.Fair.{IsPrefixOf, payload_got}
 use Rattle.vs_page.specs.Log.{Driver}
 use Rattle.vs_page.proofs.PayloadLogs.{all_got, prefix}
 use Rattle.vs_pipes.specs.Drains.{Drains, got_on, receives}
-use Rattle.vs_pipes.specs.Received.{ReceivedOn, ReceivesOn}
+use Rattle.vs_core.specs.Received.{ReceivedOn, ReceivesOn}
 use Rattle.vs_pipes.proofs.Logs.{prefix_then}
 use Rattle.vs_core.specs.Calls.{received_on}
 use Rattle.vs_core.specs.Events.{Event, run}

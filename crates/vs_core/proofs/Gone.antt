@@ -18,7 +18,7 @@ use Rattle.vs_driver_parts.specs.State.{DriverConnection, DriverEntry, GoneConne
 use Rattle.vs_driver_parts.specs.Connections.{all_gone_after_read, without_gone}
 use Rattle.vs_driver_parts.proofs.Numbers.{numbers_gone_without}
 use Rattle.vs_pipes.specs.Drains.{Drains, got_on, receives}
-use Rattle.vs_pipes.specs.Received.{AreReceived, ReceivedOn, ReceivesOn}
+use Rattle.vs_core.specs.Received.{AreReceived, ReceivedOn, ReceivesOn}
 use Rattle.vs_pipes.proofs.Logs.{not_on, only_on, shorter, there_on}
 
 module _ (r : Flow → List ℕ) (log : Log) (port id : ℕ) (t : Table DriverConnection) (gone : List GoneConnection) (x : AreReceived r log port id t gone) where

@@ -14,7 +14,7 @@ use Rattle.vs_driver_parts.specs.State.{DriverConnection, DriverEntry, GoneConne
 use Rattle.vs_driver_parts.proofs.Ids.{value_of}
 use Rattle.vs_driver_parts.proofs.Numbers.{numbers_left, numbers_with_entry, numbers_with_value, numbers_without}
 use Rattle.vs_pipes.specs.Drains.{Drains, got_on, has_passed, receives}
-use Rattle.vs_pipes.specs.Received.{AreReceived, ReceivedOn, ReceivesOn}
+use Rattle.vs_core.specs.Received.{AreReceived, ReceivedOn, ReceivesOn}
 use Rattle.vs_pipes.proofs.Changes.{changed, others_left, under_slot}
 use Rattle.vs_pipes.proofs.Logs.{all_of, longer, none_got, not_on, only_on, prefix_of_none, shorter, there_on}
 
