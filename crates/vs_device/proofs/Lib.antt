@@ -11,3 +11,4 @@ mod EventPaying
 mod Resetting
 mod Returning
 mod Ordered
+mod Accounted

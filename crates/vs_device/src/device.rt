@@ -1,11 +1,13 @@
 //! The device: its connections, what it owes to unknown flows, the event that it owes, the chain that it holds, and what it counted.
 
-ghost use Rattle.std.specs.Prelude.{◌≡◌, ◌≤◌, ℕ, List, IfOk, length};
+ghost use Rattle.std.specs.Prelude.{◌≡◌, ◌≤◌, ℕ, List, [], Some, IfOk, length};
 ghost use Rattle.vs_outside.specs.Host.{HostContents};
 ghost use Rattle.vs_ring_port.specs.Contents.{RingContents};
 ghost use Rattle.vs_ring_port.specs.EndLog.{EndLog};
 ghost use Rattle.vs_device_laws.specs.Streams.{AreOpen, HasStreams};
 ghost use Rattle.vs_device_log.specs.Honest.{AgreesWith, IsFresh, IsWith};
+ghost use Rattle.vs_proxy_bytes.specs.Made.{account_of};
+ghost use Rattle.vs_proxy_bytes.specs.Told.{AreAccounted, Shows};
 ghost use Rattle.vs_uds.specs.declared.path.TheConstants.{BASE_MAX};
 ghost use Rattle.vs_device_parts.specs.Connections.{with_fault};
 ghost use Rattle.vs_device_parts.specs.Transmitting.{failing};
@@ -81,6 +83,9 @@ impl Device {
         ensures streams { IfOk result (λ device. (others : List ℕ) (host : HostContents) → AreOpen others host
             → HasStreams others device.table host) }
         ensures honest { IfOk result (λ device. (port : ℕ) (ring : RingContents) → IsFresh ring → IsWith cid port device ring) }
+        // With a host whose streams are those of clients that weren't accepted yet, no call is made, and that accounts for them.
+        ensures bytes { IfOk result (λ device. (host : HostContents) → Shows (account_of []) host
+            → AreAccounted [] device.table [] (Some host)) }
     {
         Ok(Device {
             cid,

@@ -1,6 +1,7 @@
 //! The event of a transport reset (Virtio 1.2, section 5.10.6.7).
 
-ghost use Rattle.std.specs.Prelude.{◌≡◌, ◌≤◌, ◌&&◌, ℕ, not, true, false, Contains, Some, Ok, Err, IfOk, IfErr};
+ghost use Rattle.std.specs.Prelude.{◌≡◌, ◌≤◌, ◌&&◌, ℕ, not, true, false, List, Contains, Option, Some, Ok, Err, IfOk, IfErr};
+ghost use Rattle.vs_contents.specs.CallTree.{Leads};
 ghost use Rattle.byteorder.specs.Endian.{little_bytes};
 ghost use Rattle.vs_ring_port.specs.Chains.{without};
 ghost use Rattle.vs_ring_port.specs.Contents.{Write, Return};
@@ -9,6 +10,11 @@ ghost use Rattle.vs_ring_port.specs.declared.device_ring.Next.TheVariants as nex
 ghost use Rattle.vs_ring_port.specs.declared.failure.Failure.{Failure};
 ghost use Rattle.vs_device_parts.specs.Playing.{AllowsOnRing, IsItsRing, MayRunOnRing, RunsOnRing};
 ghost use Rattle.vs_device_log.specs.Honest.{IsWith};
+ghost use Rattle.vs_outside.specs.Host.{HostContents};
+ghost use Rattle.vs_proxy_bytes.specs.Judged.{AreUnmoved};
+ghost use Rattle.vs_proxy_bytes.specs.Made.{Made, Makes};
+ghost use Rattle.vs_proxy_bytes.specs.Told.{AreAccounted, StayAccounted};
+ghost use Rattle.vs_proxy_parts.specs.State.{Handshake};
 ghost use Rattle.vs_device_parts.specs.Receiving.{event_on, pay_event_of};
 
 use crate::device::Device;
@@ -31,6 +37,12 @@ impl Device {
         // Over an honest ring that tells its log the connections are those that the log left, and all that is put keeps the log fair.
         ensures honest { (first port : ℕ) → IsWith first port self.old (R.contents ring.old)
             → IsWith first port self.new (R.contents ring.new) }
+        // The calls made account for the host's streams, as they did before, and say nothing more of any.
+        ensures bytes { (calls : List Made) (hands : List Handshake) (host : Option HostContents)
+            → AreAccounted calls self.old.table hands host
+            → StayAccounted (pay_event_of self.old) calls (self.new, result) self.new.table hands host }
+        ensures unmoved { (calls later : List Made) → Leads Makes (pay_event_of self.old) calls (self.new, result) later
+            → AreUnmoved calls later }
     {
         if let Some(failure) = self.failed {
             return Err(failure);

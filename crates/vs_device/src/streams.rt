@@ -9,6 +9,9 @@ ghost use Rattle.vs_outside.specs.declared.host_net.StreamWrite.TheVariants.{Clo
 ghost use Rattle.vs_ring_port.specs.Contents.{RingContents};
 ghost use Rattle.vs_device_laws.specs.Streams.{HasStreams};
 ghost use Rattle.vs_device_log.specs.Honest.{IsWith};
+ghost use Rattle.vs_proxy_bytes.specs.Made.{Made};
+ghost use Rattle.vs_proxy_bytes.specs.Told.{AreAccounted, StayAccounted};
+ghost use Rattle.vs_proxy_parts.specs.State.{Handshake};
 ghost use Rattle.vs_device_parts.specs.declared.limits.TheConstants.{WRITE_MAX};
 ghost use Rattle.vs_device_parts.specs.Connections.{is_timed_out};
 ghost use Rattle.vs_device_parts.specs.Playing.{MayRunOnHost, RunsOnHost};
@@ -34,6 +37,9 @@ impl Device {
             → ForSome (H.contents host.new) (HasStreams others self.new.table) }
         // The connections stay those that the log of an honest ring left.
         ensures honest { (first port : ℕ) (ring : RingContents) → IsWith first port self.old ring → IsWith first port self.new ring }
+        // The calls made account for the host's streams, as they did before.
+        ensures bytes { (calls : List Made) (hands : List Handshake) → AreAccounted calls self.old.table hands (H.contents host.old)
+            → StayAccounted (tick_of now self.old) calls self.new self.new.table hands (H.contents host.new) }
     {
         self.moment = now;
         let slots = self.slots.all();
@@ -75,6 +81,9 @@ impl Device {
             → ForSome (H.contents host.new) (HasStreams others self.new.table) }
         // The connections stay those that the log of an honest ring left.
         ensures honest { (first port : ℕ) (ring : RingContents) → IsWith first port self.old ring → IsWith first port self.new ring }
+        // The calls made account for the host's streams, as they did before.
+        ensures bytes { (calls : List Made) (hands : List Handshake) → AreAccounted calls self.old.table hands (H.contents host.old)
+            → StayAccounted (pump_of self.old) calls (writing self.new result) self.new.table hands (H.contents host.new) }
     {
         let slots = self.slots.all();
         let mut wrote = 0;

@@ -4,6 +4,7 @@ ghost use Rattle.std.specs.Prelude.{◌≡◌, ◌≤◌, ◌<◌, ◌+◌, ◌-
 ghost use Rattle.std.specs.Option.{ForSome};
 ghost use Rattle.vs_conn.specs.End.{is_reset, is_stream, may_shut, verdict_of};
 ghost use Rattle.vs_conn.specs.declared.end.Verdict.TheVariants.{Accept, Deliver, Peer};
+ghost use Rattle.vs_contents.specs.CallTree.{Leads};
 ghost use Rattle.vs_credit.specs.Credit.{unread_of};
 ghost use Rattle.vs_flow.specs.Table.{IsTable, entry_of, entry_under, has_place, value_under, with_value};
 ghost use Rattle.vs_header.specs.declared.TheConstants.{HEADER_LEN};
@@ -25,6 +26,10 @@ ghost use Rattle.vs_device_parts.specs.State.{DeviceConnection, DeviceEntry, Dev
 ghost use Rattle.vs_device_parts.specs.Taking.{after_refusal, asks_for_stream, is_not_for_host, known_packet};
 ghost use Rattle.vs_device_laws.specs.Streams.{HasStreams};
 ghost use Rattle.vs_device_log.specs.Honest.{IsWith};
+ghost use Rattle.vs_proxy_bytes.specs.Judged.{IsJudged};
+ghost use Rattle.vs_proxy_bytes.specs.Made.{Made, Makes};
+ghost use Rattle.vs_proxy_bytes.specs.Told.{AreAccounted, StayAccounted};
+ghost use Rattle.vs_proxy_parts.specs.State.{Handshake};
 ghost use Rattle.vs_device_parts.specs.Transmitting.{dial_answered, failing, heard, on_header, on_known, on_next, on_packet, on_unknown, refused, take_tx_of, try_request, unknown_why};
 
 use crate::device::Device;
@@ -64,6 +69,12 @@ impl Device {
         // Over an honest ring that tells its log the connections are those that the log left, and all that is put keeps the log fair.
         ensures honest { (first port : ℕ) → IsWith first port self.old (R.contents ring.old)
             → IsWith first port self.new (R.contents ring.new) }
+        // The calls made account for the host's streams, as they did before.
+        ensures bytes { (calls : List Made) (hands : List Handshake) → AreAccounted calls self.old.table hands (H.contents host.old)
+            → StayAccounted (take_tx_of self.old) calls (self.new, result) self.new.table hands (H.contents host.new) }
+        // An invalid packet is answered by RST, or dropped and counted, or is the ring's failure, and reaches no stream.
+        ensures judged { (calls later : List Made) → Leads Makes (take_tx_of self.old) calls (self.new, result) later
+            → IsJudged result self.old self.new calls later }
     {
         if let Some(failure) = self.failed {
             return Taken::Failed(failure);

@@ -13,6 +13,9 @@ ghost use Rattle.vs_ring_port.specs.Contents.{RingContents};
 ghost use Rattle.vs_ring_port.specs.EndLog.{EndLog};
 ghost use Rattle.vs_device_laws.specs.Streams.{HasStreams, IsFree};
 ghost use Rattle.vs_device_log.specs.Honest.{AgreesWith, IsLeftOpen, IsWith, ends_of_state, port_after};
+ghost use Rattle.vs_proxy_bytes.specs.Made.{Made};
+ghost use Rattle.vs_proxy_bytes.specs.Told.{AreAccounted, IsAsking, StayAccounted};
+ghost use Rattle.vs_proxy_parts.specs.State.{Handshake};
 ghost use Rattle.vs_device_parts.specs.State.{DeviceEntry};
 ghost use Rattle.vs_device_parts.specs.Playing.{IsItsRing, MayRun, MayRunOnHost, Runs, RunsOnHost, situation};
 ghost use Rattle.vs_device_parts.specs.Turns.{after_reset, close_slot, open_of, reset_of, table_shown};
@@ -52,6 +55,10 @@ impl Device {
         // The connections stay those that the log of an honest ring left, and the one whose REQUEST is owed, on the next host port.
         ensures honest { (first port : ℕ) (ring : RingContents) → IsNextFlow log.Device flow (ends_of_state port self.old)
             → IsWith first port self.old ring → IsWith first (port_after flow port result) self.new ring }
+        // The calls made account for the host's streams, as they did before, where the stream is that of a client whose line is whole.
+        ensures bytes { (calls : List Made) (hands : List Handshake) → AreAccounted calls self.old.table hands (H.contents host.old)
+            → IsAsking stream flow calls hands
+            → StayAccounted (open_of flow stream self.old) calls (self.new, result) self.new.table hands (H.contents host.new) }
     {
         if let Some(fault) = self.slots.refusal(flow) {
             return Err(fault);
@@ -87,6 +94,9 @@ impl Device {
         // Over an honest ring that tells its log the connections are those that the log left, and all that is put keeps the log fair.
         ensures honest { (first port : ℕ) → IsWith first port self.old (R.contents ring.old)
             → IsWith first port self.new (R.contents ring.new) }
+        // The calls made account for the host's streams, as they did before; handshakes are forgotten.
+        ensures bytes { (calls : List Made) (hands : List Handshake) → AreAccounted calls self.old.table hands (H.contents host.old)
+            → StayAccounted (reset_of cid self.old) calls (self.new, result) self.new.table [] (H.contents host.new) }
     {
         if let Some(failure) = self.failed {
             return Err(failure);

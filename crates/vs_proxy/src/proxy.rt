@@ -1,11 +1,14 @@
 //! The proxy: the device, the handshakes of the host's clients, and the host ports that it gives.
 
-ghost use Rattle.std.specs.Prelude.{◌≡◌, ◌≤◌, ℕ, IfOk, length};
+ghost use Rattle.std.specs.Prelude.{◌≡◌, ◌≤◌, ℕ, [], Some, IfOk, length};
+ghost use Rattle.vs_outside.specs.Host.{HostContents};
 ghost use Rattle.vs_ring_port.specs.EndLog.{EndLog};
 ghost use Rattle.vs_uds.specs.declared.path.TheConstants.{BASE_MAX};
 ghost use Rattle.vs_device_parts.specs.Calls.{Situation};
 ghost use Rattle.vs_device_parts.specs.Turns.{counters_of};
 ghost use Rattle.vs_device_log.specs.Honest.{AgreesWith, IsFresh};
+ghost use Rattle.vs_proxy_bytes.specs.Made.{account_of};
+ghost use Rattle.vs_proxy_bytes.specs.Told.{AreAccounted, Shows};
 ghost use Rattle.vs_proxy_log.specs.Order.{IsInOrder};
 ghost use Rattle.vs_proxy_parts.specs.Turns.{new_proxy};
 
@@ -45,6 +48,9 @@ impl Proxy {
         ensures state { IfOk result (λ proxy. proxy ≡ new_proxy cid base.now) }
         // With a host, and with a ring on which nothing passed, it is in order.
         ensures order { IfOk result (λ proxy. (a : Situation) → IsFresh a.ring → IsInOrder cid proxy a) }
+        // With a host whose streams are those of clients that weren't accepted yet, no call is made, and that accounts for them.
+        ensures bytes { IfOk result (λ proxy. (host : HostContents) → Shows (account_of []) host
+            → AreAccounted [] proxy.device.table proxy.handshakes (Some host)) }
     {
         Ok(Proxy {
             device: Device::new(alloc, cid, base)?,

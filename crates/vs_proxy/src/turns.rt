@@ -1,6 +1,6 @@
 //! The turn of a proxy, and a transport reset.
 
-ghost use Rattle.std.specs.Prelude.{◌≡◌, ◌≤◌, ◌<◌, ◌+◌, ◌^◌, ℕ, Contains, length, [], true, Some, None, IfErr, OnErr, OnOk, Err};
+ghost use Rattle.std.specs.Prelude.{◌≡◌, ◌≤◌, ◌<◌, ◌+◌, ◌^◌, ℕ, List, Contains, length, [], true, Some, None, IfErr, OnErr, OnOk, Err};
 ghost use Rattle.std.specs.Option.{ForSome};
 ghost use Rattle.vs_contents.specs.CallTree.{for_each};
 ghost use Rattle.vs_history.specs.declared.TheConstants.{BUF_ALLOC};
@@ -14,6 +14,8 @@ ghost use Rattle.vs_device_log.specs.Honest.{AgreesWith, IsLeftOpen};
 ghost use Rattle.vs_proxy_log.specs.Honest.{IsProxyWith};
 ghost use Rattle.vs_proxy_log.specs.Order.{IsInOrder};
 ghost use Rattle.vs_proxy_parts.specs.Handshakes.{streams_of};
+ghost use Rattle.vs_proxy_bytes.specs.Made.{Made};
+ghost use Rattle.vs_proxy_bytes.specs.Told.{AreAccounted, StayAccounted};
 ghost use Rattle.vs_proxy_parts.specs.State.{ProxyState};
 ghost use Rattle.vs_proxy_parts.specs.Turning.{turning_of};
 ghost use Rattle.vs_proxy_parts.specs.Turns.{close_handshake, proxy_reset_of, turn_of, turned};
@@ -47,6 +49,12 @@ impl Proxy {
             → ForSome (H.contents host.new) (HasStreams (streams_of self.new) self.new.device.table) }
         // Over an honest ring that tells its log the connections are those that the log left, and all that is put keeps the log fair.
         ensures honest { (first : ℕ) → IsProxyWith first self.old (R.contents ring.old) → IsProxyWith first self.new (R.contents ring.new) }
+        // The calls made account for the host's streams, as they did before: what a stream is given is the payload delivered on its own
+        // connection, and what is taken of it is put on its flow.
+        ensures bytes { (calls : List Made)
+            → AreAccounted calls self.old.device.table self.old.handshakes (H.contents host.old)
+            → StayAccounted (turn_of (R.size ring.old) now self.old) calls (self.new, result)
+            self.new.device.table self.new.handshakes (H.contents host.new) }
     {
         let size = ring.size();
         let before = self.device.counters();
@@ -108,6 +116,11 @@ impl Proxy {
             → ForSome (H.contents host.new) (HasStreams (streams_of self.new) self.new.device.table) }
         // Over an honest ring that tells its log the connections are those that the log left, and all that is put keeps the log fair.
         ensures honest { (first : ℕ) → IsProxyWith first self.old (R.contents ring.old) → IsProxyWith first self.new (R.contents ring.new) }
+        // The calls made account for the host's streams, as they did before.
+        ensures bytes { (calls : List Made)
+            → AreAccounted calls self.old.device.table self.old.handshakes (H.contents host.old)
+            → StayAccounted (proxy_reset_of cid self.old) calls (self.new, result)
+            self.new.device.table self.new.handshakes (H.contents host.new) }
     {
         self.device.reset(ring, host, cid)?;
         self.close_handshakes(host);

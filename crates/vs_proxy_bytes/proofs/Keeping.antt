@@ -68,6 +68,14 @@ module _ {A : Type 0} (Q : A → List Made → Type 0) where
       asks_weaker call calls (Answered R call next calls) (Answered Q call (λ a. bind (next a) f) calls)
       (λ kept. λ a fit. keeps_then R (next a) f (made call a ∷ calls) (kept a fit) then) keeps
 
+-- What is weaker is kept too.
+pub keeps_weaker : {A : Type 0} (Q R : A → List Made → Type 0) (p : DeviceTree A) (calls : List Made)
+    → ((x : A) (later : List Made) → Q x later → R x later) → Keeps Q p calls → Keeps R p calls
+keeps_weaker {A} Q R (Done x) calls then keeps = then x calls keeps
+keeps_weaker {A} Q R (Ask call next) calls then keeps =
+    asks_weaker call calls (Answered Q call next calls) (Answered R call next calls)
+    (λ kept. λ a fit. keeps_weaker Q R (next a) (made call a ∷ calls) then (kept a fit)) keeps
+
 module _ {A : Type 0} (P : A → List Made → Type 0) where
   by_last : (n : ℕ) (step : A → DeviceTree (A × Bool)) → ((x : A) (calls : List Made) → P x calls → Keeps P (while_up_to n step x) calls)
       → (r : A × Bool) (calls : List Made) → P r.0 calls → Keeps P (elim r.1 [ true ↦ while_up_to n step r.0 | false ↦ Done r.0 ]) calls

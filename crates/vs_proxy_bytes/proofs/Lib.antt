@@ -11,4 +11,5 @@ pub mod Shaking
 pub mod Turning
 pub mod Judging
 pub mod Shown
+pub mod Carrying
 pub mod Telling

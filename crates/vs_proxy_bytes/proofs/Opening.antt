@@ -27,7 +27,7 @@ use Rattle.vs_uds.specs.declared.connect.TheConstants.{CONNECT_MAX}
 use Rattle.vs_proxy_bytes.proofs.Accounts.{Changes, changes, changing, stays}
 use Rattle.vs_proxy_bytes.proofs.Closing.{Has}
 use Rattle.vs_proxy_bytes.proofs.Entries.{added, given_shut, hands_changed, one_account}
-use Rattle.vs_proxy_bytes.proofs.Keeping.{Keeps, keeps_each, keeps_then, made}
+use Rattle.vs_proxy_bytes.proofs.Keeping.{Keeps, keeps_each, keeps_then, keeps_weaker, made}
 
 -- The connection of a client's stream.
 client_tie : (t : Table DeviceConnection) (flow : Flow) (stream : ℕ) (line : List ℕ) → IsWhole line
@@ -181,6 +181,23 @@ reset_agrees at put taken t x = record {
     nothing : (P : DeviceEntry → Type 0) → All P t.entries
     nothing P = subst (All P) (sym x.none) (λ i d within. absurd (omega (arith, within)))
 
+-- Handshakes are forgotten.
+without_hands : (at : ℕ → Option Account) (put taken : Flow → List ℕ) (t : Table DeviceConnection) (hands : List Handshake)
+    → Agree at put taken t hands → Agree at put taken t []
+without_hands at put taken t hands x = record {
+  tied = record {
+    table = x.tied.table;
+    joined = x.tied.joined;
+    waiting = λ i d within. absurd (omega (arith, within));
+    undecided = λ i d within. absurd (omega (arith, within));
+    apart = λ i j d less within. absurd (omega (arith, within));
+    lawful = x.tied.lawful;
+    serves = x.tied.serves;
+  };
+  over = x.over;
+  carried = x.carried;
+}
+
 -- A stream more is closed.
 pub reset_closes : (at : ℕ → Option Account) (put taken : Flow → List ℕ) (t : Table DeviceConnection) (stream : ℕ) → AreReset at put taken t
     → AreReset (changing shut stream at) put taken t
@@ -225,3 +242,15 @@ keeps_reset hands cid s calls x = by s.failed
         (keeps_each Closing close_slot keeps_close_slot (slots s.table) s calls
         (record { table = x.tied.table; lawful = x.tied.lawful; carried = x.carried }))
         (λ t later kept. λ answer fit. emptied_now t later kept answer)
+
+-- After it no handshake is left either.
+reset_ends : (hands : List Handshake) (x : DeviceState × Result (Unit {0}) Failure) (calls : List Made) → ResetEnds hands x calls
+    → Has [] x.0 calls
+reset_ends hands (s, Ok y) calls kept = reset_agrees (account_of calls) (payload_put calls) (payload_taken calls) s.table kept
+reset_ends hands (s, Err f) calls kept = without_hands (account_of calls) (payload_put calls) (payload_taken calls) s.table hands kept
+
+pub keeps_reset_alone : (hands : List Handshake) (cid : ℕ) (s : DeviceState) (calls : List Made) → Has hands s calls
+    → Keeps (λ x later. Has [] x.0 later) (reset_of cid s) calls
+keeps_reset_alone hands cid s calls x =
+    keeps_weaker (ResetEnds hands) (λ y later. Has [] y.0 later) (reset_of cid s) calls (λ y later kept. reset_ends hands y later kept)
+    (keeps_reset hands cid s calls x)

@@ -12,7 +12,7 @@ use Rattle.vs_outside.specs.Host.{with_stream}
 use Rattle.vs_outside.proofs.Frames.{keeps_others, stream_at-with_stream}
 use Rattle.vs_page.specs.Log.{flow_to_host}
 use Rattle.vs_proxy_bytes.specs.Tied.{IsLine, IsRead}
-use Rattle.vs_proxy_bytes.specs.Made.{Account, delivering, is_on}
+use Rattle.vs_proxy_bytes.specs.Made.{Account, delivering, is_on, with_delivery}
 use Rattle.vs_proxy_bytes.specs.Told.{Shows, ShowsAt, ShowsIn}
 
 -- What is read of a stream stays lawful where nothing of it changes.
@@ -84,11 +84,10 @@ same_seen g same None (Some a) shows = absurd cc
 same_seen g same (Some st) None shows = shows
 same_seen g same (Some st) (Some a) shows = unseen_in g st a (same a) shows
 
-pub delivers_same : (h : Option Header) (payload : List ℕ) (a : Account) → IsUnseen (delivering h payload) a
-delivers_same None payload a = record { client = refl; label = refl; given = refl; line = refl; taken = refl }
-delivers_same (Some h) payload a = by (is_on (flow_to_host h) a) refl
+delivery_same : (flow : Flow) (payload : List ℕ) (a : Account) → IsUnseen (with_delivery flow payload) a
+delivery_same flow payload a = by (is_on flow a) refl
   where
-    by : (b : Bool) → is_on (flow_to_host h) a ≡ b → IsUnseen (delivering (Some h) payload) a
+    by : (b : Bool) → is_on flow a ≡ b → IsUnseen (with_delivery flow payload) a
     by true is = record {
       client = ap (λ (b : Bool). (cond b (record a { delivered = a.delivered ++ payload }) a).by_client) is;
       label = ap (λ (b : Bool). (cond b (record a { delivered = a.delivered ++ payload }) a).label) is;
@@ -103,6 +102,14 @@ delivers_same (Some h) payload a = by (is_on (flow_to_host h) a) refl
       line = ap (λ (b : Bool). (cond b (record a { delivered = a.delivered ++ payload }) a).line) is;
       taken = ap (λ (b : Bool). (cond b (record a { delivered = a.delivered ++ payload }) a).taken) is;
     }
+
+pub delivers_same : (h : Option Header) (n : ℕ) (payload : List ℕ) (a : Account) → IsUnseen (delivering h n payload) a
+delivers_same None n payload a = record { client = refl; label = refl; given = refl; line = refl; taken = refl }
+delivers_same (Some h) n payload a = by (n == h.len)
+  where
+    by : (b : Bool) → IsUnseen (λ (x : Account). cond b (with_delivery (flow_to_host h) payload x) x) a
+    by true = delivery_same (flow_to_host h) payload a
+    by false = record { client = refl; label = refl; given = refl; line = refl; taken = refl }
 
 -- One stream more.
 get_other : (xs : List Stream) (y : Stream) (k : ℕ) → k ≢ length xs → slice_get (xs ++ y ∷ []) k ≡ slice_get xs k

@@ -4,6 +4,7 @@ use Rattle.std.proofs.Common.{refl, sym, ap, subst, ◌∙◌}
 use Rattle.std.specs.Option.{option_map, option_map_or}
 use Rattle.vs_contents.specs.CallTree.{Done, Ask}
 use Rattle.vs_flow.specs.declared.flow.Flow.{Flow}
+use Rattle.vs_header.specs.declared.TheConstants.{HEADER_LEN}
 use Rattle.vs_flow.specs.declared.flow.TheConstants.{ASSIGNED_LAST}
 use Rattle.vs_outside.specs.Host.{HostContents, Stream, accept_answer, after_accept, after_close, after_dial, after_failed, after_label}
 use Rattle.vs_outside.specs.Host.{after_read}
@@ -26,15 +27,19 @@ use Rattle.std.proofs.Common.{append_assoc, []}
 use Rattle.std.proofs.lemmas.List.{append-nil}
 use Rattle.vs_proxy_bytes.specs.Made.{Account, Made, MayGet, account_of, delivering, header_in, labelled, new_account, shut, with_given}
 use Rattle.vs_proxy_bytes.specs.Made.{took, with_taken}
-use Rattle.vs_proxy_bytes.specs.Told.{IsTold, Shows, ShowsAt, ShowsIn}
+use Rattle.vs_proxy_bytes.specs.Told.{AreAccounted, Shows, ShowsAt, ShowsIn, StayAccounted}
 use Rattle.vs_proxy_bytes.proofs.Shown.{change_shows, delivers_same, new_shows, none_there, read_same, same_seen, unseen_shows}
 use Rattle.vs_contents.specs.Contents.{Exposes}
 use Rattle.vs_contents.specs.CallTree.{Leads}
 use Rattle.vs_device_parts.specs.Calls.{Allows, IsReadOf, Situation, TakesWithin}
 use Rattle.vs_outside.specs.Host.{IsDialed, IsWritten}
-use Rattle.vs_proxy_parts.specs.State.{ProxyState}
-use Rattle.vs_proxy_bytes.specs.Tied.{AccountsFor}
+use Rattle.vs_device_parts.specs.Playing.{Runs}
+use Rattle.vs_device_parts.specs.State.{DeviceConnection}
+use Rattle.vs_flow.specs.Table.{Table}
+use Rattle.vs_proxy_parts.specs.State.{Handshake}
+use Rattle.vs_proxy_bytes.specs.Tied.{AgreesWith}
 use Rattle.vs_proxy_bytes.proofs.Accounts.{Changes, changes, changing, comes, differs, self_is}
+use Rattle.vs_proxy_bytes.proofs.Carrying.{carries}
 use Rattle.vs_proxy_bytes.proofs.Keeping.{Asks, Keeps, keeps_answer, made}
 
 -- A call that failed.
@@ -222,14 +227,14 @@ module _ (c : HostContents) (calls : List Made) (shows : Shows (account_of calls
 pub ring_shows : (call : DeviceCall) (a : DeviceAnswer call) (c : HostContents) (calls : List Made) → Shows (account_of calls) c
     → MayGet (Ring call) a calls × Shows (account_of (made (Ring call) a ∷ calls)) c
 ring_shows (Take queue) a c calls shows = (tt, shows)
-ring_shows (Read chain place n) payload c calls shows = (tt, λ id. by id (place == 0))
+ring_shows (Read chain place n) payload c calls shows = (tt, λ id. by id (place == HEADER_LEN))
   where
     by : (id : ℕ) (b : Bool)
-        → ShowsAt (stream_at id c) (cond b (account_of calls id) (option_map (delivering (header_in calls) payload) (account_of calls id)))
-    by id true = shows id
-    by id false =
-        same_seen (delivering (header_in calls) payload) (delivers_same (header_in calls) payload) (stream_at id c) (account_of calls id)
-        (shows id)
+        → ShowsAt (stream_at id c) (cond b (option_map (delivering (header_in calls) n payload) (account_of calls id)) (account_of calls id))
+    by id true =
+        same_seen (delivering (header_in calls) n payload) (delivers_same (header_in calls) n payload) (stream_at id c)
+        (account_of calls id) (shows id)
+    by id false = shows id
 ring_shows (Write chain place bytes) a c calls shows = (tt, shows)
 ring_shows (Return chain len) a c calls shows = (tt, shows)
 ring_shows (Given queue) a c calls shows = (tt, shows)
@@ -280,29 +285,36 @@ step_told (CloseStream stream) a old new h calls P asks is shows allowed =
     let s = close_shows h calls shows stream a in record { may = s.0; host = after_close stream h; is = e.1; shows = s.1 }
 
 -- A whole conversation.
-pub leads_told : {A : Type 0} (tree : DeviceTree (ProxyState × A)) (calls : List Made) (old new : Situation) (x : ProxyState × A)
-    (h : HostContents)
-    → Keeps (λ y later. AccountsFor y.0 later) tree calls → old.host ≡ Some h → Shows (account_of calls) h → Leads Allows tree old x new
-    → IsTold tree calls x new
-leads_told {A} (Done y) calls old new x h keeps is shows leads =
-    let P : ProxyState × A → Type 0 = λ z. AccountsFor z.0 calls in
+leads_told : {A : Type 0} (t : A → Table DeviceConnection) (hands : A → List Handshake) (tree : DeviceTree A) (calls : List Made)
+    (old new : Situation) (x : A) (h : HostContents) → Keeps (λ y later. AgreesWith later (t y) (hands y)) tree calls → old.host ≡ Some h
+    → Shows (account_of calls) h → Leads Allows tree old x new → StayAccounted tree calls x (t x) (hands x) new.host
+leads_told {A} t hands (Done y) calls old new x h keeps is shows leads =
+    let P : A → Type 0 = λ z. AgreesWith calls (t z) (hands z) in
+    let holds : AgreesWith calls (t x) (hands x) = subst P leads.0 keeps in
     record {
       later = calls;
       made = (leads.0, refl);
-      accounts = subst P leads.0 keeps;
-      host = h;
-      exposed = subst (λ (s : Situation). s.host ≡ Some h) leads.1 is;
-      shows = shows;
+      stay = record {
+        accounts = holds;
+        contents = h;
+        exposed = subst (λ (s : Situation). s.host ≡ Some h) leads.1 is;
+        shows = shows;
+        carried = carries calls (t x) (hands x) holds;
+      };
     }
-leads_told {A} (Ask call next) calls old new x h keeps is shows leads =
+leads_told {A} t hands (Ask call next) calls old new x h keeps is shows leads =
     let a = leads.0 in
     let step = step_told call a old leads.1 h calls _ keeps is shows leads.2 in
-    let rest = leads_told (next a) (made call a ∷ calls) leads.1 new x step.host
-    (keeps_answer (λ y later. AccountsFor y.0 later) call next calls keeps a step.may) step.is step.shows leads.3 in record {
+    let rest = leads_told t hands (next a) (made call a ∷ calls) leads.1 new x step.host
+    (keeps_answer (λ y later. AgreesWith later (t y) (hands y)) call next calls keeps a step.may) step.is step.shows leads.3 in record {
       later = rest.later;
       made = (a, made call a ∷ calls, (step.may, refl), rest.made);
-      accounts = rest.accounts;
-      host = rest.host;
-      exposed = rest.exposed;
-      shows = rest.shows;
+      stay = rest.stay;
     }
+
+pub stay_accounted : {A : Type 0} (t : A → Table DeviceConnection) (hands : A → List Handshake) (tree : DeviceTree A) (calls : List Made)
+    (old new : Situation) (x : A) (s : Table DeviceConnection) (hs : List Handshake)
+    → Keeps (λ y later. AgreesWith later (t y) (hands y)) tree calls → AreAccounted calls s hs old.host → Runs tree old x new
+    → StayAccounted tree calls x (t x) (hands x) new.host
+stay_accounted t hands tree calls old new x s hs keeps was runs =
+    leads_told t hands tree calls old new x was.contents keeps was.exposed was.shows runs

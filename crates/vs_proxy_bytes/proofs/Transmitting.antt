@@ -52,7 +52,7 @@ use Rattle.vs_proxy_parts.specs.State.{Handshake}
 use Rattle.vs_proxy_bytes.specs.Made.{Account, Made, MayGet, account_of, delivering, header_in, new_account, payload_put, payload_taken}
 use Rattle.vs_proxy_bytes.specs.Made.{with_delivery}
 use Rattle.vs_proxy_bytes.specs.Tied.{Agree, IsOver, IsTied, IsTiedTo, ok_line_of, stream_of}
-use Rattle.vs_proxy_bytes.proofs.Accounts.{Changes, comes, is_delivered, not_delivered}
+use Rattle.vs_proxy_bytes.proofs.Accounts.{Changes, comes, is_delivered, not_delivered, self_is}
 use Rattle.vs_proxy_bytes.proofs.Closing.{Has, agree_moved, agree_same, join, keeps_leaving, over_there, there_of}
 use Rattle.vs_proxy_bytes.proofs.Entries.{added, waiting_kept}
 use Rattle.vs_proxy_bytes.proofs.Keeping.{Keeps, keeps_then, made}
@@ -156,13 +156,20 @@ module _ (hands : List Handshake) where
       with_payload : Account → Account
       with_payload a = record a { delivered = a.delivered ++ payload }
 
-      abbrev now : Option Header → ℕ → Option Account
-      now o id = option_map (delivering o payload) (account_of calls id)
+      abbrev now : ℕ → Option Account
+      now id = option_map (with_delivery (flow_to_host h) payload) (account_of calls id)
+
+      abbrev read : Option Header → ℕ → Option Account
+      read o id = option_map (delivering o h.len payload) (account_of calls id)
+
+      -- All of the payload is read.
+      abbrev if_all : Bool → ℕ → Option Account
+      if_all b id = option_map (λ (a : Account). cond b (with_delivery (flow_to_host h) payload a) a) (account_of calls id)
 
       still : e.value.closed ≡ false
       still = not_over e h is_delivery was_over
 
-      elsewhere : (id : ℕ) → (id ≡ e.value.stream → ⊥) → now (Some h) id ≡ account_of calls id
+      elsewhere : (id : ℕ) → (id ≡ e.value.stream → ⊥) → now id ≡ account_of calls id
       elsewhere id other = by (account_of calls id) refl
         where
           by : (o : Option Account) → account_of calls id ≡ o → option_map (with_delivery (flow_to_host h) payload) o ≡ o
@@ -172,7 +179,7 @@ module _ (hands : List Handshake) where
               let both : Some e.value.stream ≡ Some id = sym (ap (option_map (λ (d : DeviceEntry). d.value.stream)) found) ∙ its in
               other cc))
 
-      delivery : Changes (account_of calls) (now (Some h)) e.value.stream (record tie.0 { delivered = tie.0.delivered ++ payload })
+      delivery : Changes (account_of calls) now e.value.stream (record tie.0 { delivered = tie.0.delivered ++ payload })
       delivery = record {
         here = ap (option_map (with_delivery (flow_to_host h) payload)) tie.1
             ∙ ap (λ (a : Account). Some a) (is_delivered (flow_to_host h) payload tie.0 (tie.2.label
@@ -183,13 +190,16 @@ module _ (hands : List Handshake) where
       pub delivered_keeps : Has hands (with_connection e.slot (record (heard h e.value) { pending = e.value.pending ++ payload }) s)
           (made (Ring (Read chain HEADER_LEN h.len)) payload ∷ calls)
       delivered_keeps =
-          subst (λ (o : Option Header). Agree (now o) (payload_put calls) (payload_taken calls)
+          subst (λ (o : Option Header). Agree (read o) (payload_put calls) (payload_taken calls)
           (with_value s.table e.slot (record (heard h e.value) { pending = e.value.pending ++ payload })) hands)
           (sym header)
-          (agree_moved (account_of calls) (now (Some h)) (payload_put calls) (payload_taken calls) s.table hands x e is
+          (subst (λ (b : Bool). Agree (if_all b) (payload_put calls) (payload_taken calls)
+          (with_value s.table e.slot (record (heard h e.value) { pending = e.value.pending ++ payload })) hands)
+          (sym (self_is h.len))
+          (agree_moved (account_of calls) now (payload_put calls) (payload_taken calls) s.table hands x e is
           (record tie.0 { delivered = tie.0.delivered ++ payload }) delivery
           (record (heard h e.value) { pending = e.value.pending ++ payload }) refl (delivers tie.0 e h payload tie.2 still is_delivery)
-          (λ on. heard_over e.value.end h (was_over on)))
+          (λ on. heard_over e.value.end h (was_over on))))
 
     keeps_on_known : (v : Verdict) → verdict_of e.value.end h ≡ v → Keeps (Has hands) (on_known v chain h e s) calls
     keeps_on_known verdict.Accept says =

@@ -1,10 +1,12 @@
 -- A turn, stage by stage, and a reset.
-use Rattle.std.proofs.Common.{ℕ, ◌+◌, Bool, true, false, List, [], Option, Some, None, Result, Ok, Err}
+use Rattle.std.proofs.Common.{ℕ, ◌+◌, Bool, true, false, List, [], Option, Some, None, Result, Ok, Err, refl}
 use Rattle.vs_contents.specs.CallTree.{Done, for_each}
 use Rattle.vs_ring_port.specs.declared.failure.Failure.{Failure}
 use Rattle.vs_device_parts.specs.declared.answers.Filled.{Filled}
 use Rattle.vs_device_parts.specs.declared.answers.Taken.{Taken}
-use Rattle.vs_device_parts.specs.Calls.{DeviceTree}
+use Rattle.vs_device_parts.specs.Calls.{DeviceTree, Situation}
+use Rattle.vs_device_parts.specs.Playing.{Runs}
+use Rattle.vs_outside.specs.Host.{HostContents}
 use Rattle.vs_device_parts.specs.Receiving.{fill_rx_of, pay_event_of}
 use Rattle.vs_device_parts.specs.State.{DeviceState}
 use Rattle.vs_device_parts.specs.Streams.{pump_of, tick_of}
@@ -17,9 +19,12 @@ use Rattle.vs_proxy_parts.specs.Turns.{take_one, take_stage, tick_stage, took_pa
 use Rattle.vs_proxy_parts.specs.declared.answers.Turn.{Turn}
 use Rattle.vs_proxy_bytes.specs.Made.{Made, account_of, payload_put, payload_taken}
 use Rattle.vs_proxy_bytes.specs.Tied.{AccountsFor}
+use Rattle.vs_proxy_bytes.specs.Told.{AreAccounted, Shows, StayAccounted}
+use Rattle.vs_proxy_bytes.proofs.Carrying.{carries}
+use Rattle.vs_proxy_bytes.proofs.Telling.{stay_accounted}
 use Rattle.vs_proxy_bytes.proofs.Closing.{Has, keeps_tick}
 use Rattle.vs_proxy_bytes.proofs.Keeping.{Keeps, keeps_each, keeps_then, keeps_while}
-use Rattle.vs_proxy_bytes.proofs.Opening.{AreReset, ResetEnds, keeps_reset, reset_agrees, reset_closes}
+use Rattle.vs_proxy_bytes.proofs.Opening.{AreReset, ResetEnds, keeps_reset, new_agrees, reset_agrees, reset_closes}
 use Rattle.vs_proxy_bytes.proofs.Receiving.{keeps_fill_rx, keeps_pay_event}
 use Rattle.vs_proxy_bytes.proofs.Shaking.{Turns, TurnsFirst, keeps_shake_hands, keeps_tick_handshakes}
 use Rattle.vs_proxy_bytes.proofs.Transmitting.{keeps_take_tx}
@@ -121,3 +126,28 @@ keeps_proxy_reset cid s calls x =
         (keeps_each (λ t last. AreReset (account_of last) (payload_put last) (payload_taken last) d.table) close_handshake
         (keeps_close_handshake d) (streams_of s) s later kept)
         (λ t last left. reset_agrees (account_of last) (payload_put last) (payload_taken last) d.table left)
+
+-- The calls made account for the host's streams, before a call and after it.
+pub turn_accounted : (size now : ℕ) (s : ProxyState) (a b : Situation) (x : ProxyState × Turn) → Runs (turn_of size now s) a x b
+    → (calls : List Made) → AreAccounted calls s.device.table s.handshakes a.host
+    → StayAccounted (turn_of size now s) calls x x.0.device.table x.0.handshakes b.host
+turn_accounted size now s a b x runs calls was =
+    stay_accounted (λ y. y.0.device.table) (λ y. y.0.handshakes) (turn_of size now s) calls a b x s.device.table s.handshakes
+    (keeps_turn size now s calls was.accounts) was runs
+
+pub reset_accounted : (cid : ℕ) (s : ProxyState) (a b : Situation) (x : ProxyState × Result (Unit {0}) Failure)
+    → Runs (proxy_reset_of cid s) a x b → (calls : List Made) → AreAccounted calls s.device.table s.handshakes a.host
+    → StayAccounted (proxy_reset_of cid s) calls x x.0.device.table x.0.handshakes b.host
+reset_accounted cid s a b x runs calls was =
+    stay_accounted (λ y. y.0.device.table) (λ y. y.0.handshakes) (proxy_reset_of cid s) calls a b x s.device.table s.handshakes
+    (keeps_proxy_reset cid s calls was.accounts) was runs
+
+pub new_accounted : (room : ℕ) (host : HostContents) → Shows (account_of []) host
+    → AreAccounted [] (record { room = room; entries = []; given = 0 }) [] (Some host)
+new_accounted room host shows = record {
+  accounts = new_agrees room;
+  contents = host;
+  exposed = refl;
+  shows = shows;
+  carried = carries [] _ [] (new_agrees room);
+}

@@ -1,4 +1,5 @@
 pub mod Made
 pub mod Tied
 pub mod Judged
+pub mod Carried
 pub mod Told

@@ -6,8 +6,11 @@ use Rattle.std.specs.Option.{option_map, option_map_or}
 use Rattle.byteorder.specs.Endian.{little_bytes}
 use Rattle.vs_flow.specs.Flow.{same_flow}
 use Rattle.vs_flow.specs.declared.flow.Flow.{Flow}
+use Rattle.vs_header.specs.Op.{op_number}
 use Rattle.vs_header.specs.Packet.{header_of}
 use Rattle.vs_header.specs.declared.Header.{Header}
+use Rattle.vs_header.specs.declared.Op.TheVariants.{Rw}
+use Rattle.vs_header.specs.declared.TheConstants.{HEADER_LEN}
 use Rattle.vs_outside.specs.declared.host_net.Accepted.TheVariants as accepted
 use Rattle.vs_outside.specs.declared.host_net.Dialed.TheVariants as dialed
 use Rattle.vs_outside.specs.declared.host_net.StreamRead.TheVariants as read
@@ -67,7 +70,7 @@ is_on flow a = not a.closed && option_map_or (same_flow flow) a.label false
 abbrev pub with_delivery : Flow → List ℕ → Account → Account
 with_delivery flow payload a = if is_on flow a then record a { delivered = a.delivered ++ payload } else a
 
--- The header of the last packet that was got of the guest: the bytes read at place 0 of its chain. Its payload stands behind it.
+-- The header of the last packet that was got of the guest: the bytes read at place 0 of its chain. Its payload stands behind these 44.
 abbrev pub header_read : (call : Call) → Answer call → Option Header → Option Header
 header_read (Ring (Read chain place n)) bytes before = if place == 0 then Some (header_of bytes) else before
 header_read call answer before = before
@@ -76,10 +79,10 @@ abbrev pub header_in : List Made → Option Header
 header_in [] = None
 header_in (m ∷ calls) = header_read m.call m.answer (header_in calls)
 
--- A payload is read of a packet with this header.
-abbrev pub delivering : Option Header → List ℕ → Account → Account
-delivering None payload a = a
-delivering (Some h) payload a = with_delivery (flow_to_host h) payload a
+-- The payload of a packet with this header is read: as many bytes as it says.
+abbrev pub delivering : Option Header → ℕ → List ℕ → Account → Account
+delivering None n payload a = a
+delivering (Some h) n payload a = if n == h.len then with_delivery (flow_to_host h) payload a else a
 
 -- What one more call says of the stream of an id, where the packet got last has this header. There is no account before an accept or a
 -- dial gave the stream.
@@ -91,7 +94,7 @@ accounted (ReadStream stream n) (read.Got k, bytes) h id a = if stream == id the
 accounted (WriteStream stream bytes) (write.Took n) h id a = if stream == id then option_map (with_given (take n bytes)) a else a
 accounted (CloseStream stream) answer h id a = if stream == id then option_map shut a else a
 accounted (Ring (PublishCid cid)) answer h id a = option_map shut a
-accounted (Ring (Read chain place n)) payload h id a = if place == 0 then a else option_map (delivering h payload) a
+accounted (Ring (Read chain place n)) payload h id a = if place == HEADER_LEN then option_map (delivering h n payload) a else a
 accounted call answer h id a = a
 
 abbrev pub account_of : List Made → ℕ → Option Account
@@ -102,10 +105,12 @@ account_of (m ∷ calls) id = accounted m.call m.answer (header_in calls) id (ac
 abbrev pub ports_of : Flow → List ℕ
 ports_of flow = little_bytes 4 flow.host ++ little_bytes 4 flow.guest
 
+-- These are the bytes of a header of RW on a flow. The operation stands at place 30.
 abbrev pub is_for : Flow → List ℕ → Bool
-is_for flow head = bytes_eq (ports_of flow) (take 8 (drop 16 head))
+is_for flow head =
+    bytes_eq (little_bytes 2 (op_number Rw)) (take 2 (drop 30 head)) && bytes_eq (ports_of flow) (take 8 (drop 16 head))
 
--- The bytes of the header of the last packet that was put: those written at place 0 of its chain. Its payload is written behind them.
+-- The bytes of the header of the last packet that was put: those written at place 0 of its chain. Its payload is written behind these 44.
 abbrev pub header_written : (call : Call) → List ℕ → List ℕ
 header_written (Ring (Write chain place bytes)) before = if place == 0 then bytes else before
 header_written call before = before
@@ -114,10 +119,10 @@ abbrev pub header_put : List Made → List ℕ
 header_put [] = []
 header_put (m ∷ calls) = header_written m.call (header_put calls)
 
--- The payload put on a flow so far, where a payload is written behind this header.
+-- The payload put on a flow so far, in packets of RW, where a payload is written behind this header.
 abbrev pub putting : (call : Call) → List ℕ → Flow → List ℕ → List ℕ
 putting (Ring (Write chain place bytes)) head flow before =
-    if place == 0 then before else if is_for flow head then before ++ bytes else before
+    if place == HEADER_LEN then (if is_for flow head then before ++ bytes else before) else before
 putting call head flow before = before
 
 abbrev pub payload_put : List Made → Flow → List ℕ

@@ -1,13 +1,17 @@
 -- A host in memory, and the accounts of its streams.
-use Rattle.std.specs.Prelude.{◌≡◌, ℕ, ◌≤◌, ◌++◌, true, false, List, [], Option, Some, None}
+use Rattle.std.specs.Prelude.{◌≡◌, ◌≢◌, ℕ, ◌≤◌, ◌++◌, true, false, List, [], Option, Some, None}
+use Rattle.std.specs.List.{All}
 use Rattle.vs_contents.specs.CallTree.{Leads}
 use Rattle.vs_flow.specs.declared.flow.Flow.{Flow}
 use Rattle.vs_flow.specs.declared.flow.TheConstants.{ASSIGNED_LAST}
 use Rattle.vs_outside.specs.Host.{HostContents, Stream, stream_at, waits}
-use Rattle.vs_device_parts.specs.Calls.{DeviceTree, Situation}
-use Rattle.vs_proxy_parts.specs.State.{ProxyState}
+use Rattle.vs_flow.specs.Table.{Table}
+use Rattle.vs_device_parts.specs.Calls.{DeviceTree}
+use Rattle.vs_device_parts.specs.State.{DeviceConnection}
+use Rattle.vs_proxy_parts.specs.State.{Handshake}
+use Rattle.vs_proxy_bytes.specs.Carried.{Carries}
 use Rattle.vs_proxy_bytes.specs.Made.{Account, Made, Makes, account_of}
-use Rattle.vs_proxy_bytes.specs.Tied.{AccountsFor, IsRead}
+use Rattle.vs_proxy_bytes.specs.Tied.{AgreesWith, IsRead, IsWhole, reading_account}
 
 -- The port of a client's connection is one that is assigned, or one below.
 abbrev pub IsPorted : Account → Type 0
@@ -28,13 +32,27 @@ ShowsAt (Some st) a = ShowsIn st a
 abbrev pub Shows : (ℕ → Option Account) → HostContents → Type 0
 Shows at c = (id : ℕ) → ShowsAt (stream_at id c) (at id)
 
--- A conversation that ended so made these calls, behind those made before. They account for what the proxy holds, and for the streams
--- of the host.
-pub record IsTold {A : Type 0} (tree : DeviceTree (ProxyState × A)) (calls : List Made) (x : ProxyState × A)
-    (new : Situation) : Type 0 where
+-- The calls made so far account for these connections and handshakes, and for the streams of a host that exposes its contents.
+pub record AreAccounted (calls : List Made) (t : Table DeviceConnection) (hands : List Handshake) (host : Option HostContents) : Type 0 where
+  pub accounts : AgreesWith calls t hands
+  pub contents : HostContents
+  pub exposed : host ≡ Some contents
+  pub shows : Shows (account_of calls) contents
+  -- So this is what they carried.
+  pub carried : Carries calls t
+
+-- A conversation that ended so made these calls, behind those made before, and they account for what it left.
+pub record StayAccounted {A : Type 0} (tree : DeviceTree A) (calls : List Made) (x : A) (t : Table DeviceConnection)
+    (hands : List Handshake) (host : Option HostContents) : Type 0 where
   pub later : List Made
   pub made : Leads Makes tree calls x later
-  pub accounts : AccountsFor x.0 later
-  pub host : HostContents
-  pub exposed : new.host ≡ Some host
-  pub shows : Shows (account_of later) host
+  pub stay : AreAccounted later t hands host
+
+-- A client's stream whose line is whole and asks for a connection: it has no label, and is that of none of these handshakes. The flow has
+-- a host port that is assigned, or one below.
+pub record IsAsking (stream : ℕ) (flow : Flow) (calls : List Made) (hands : List Handshake) : Type 0 where
+  pub line : List ℕ
+  pub waits : account_of calls stream ≡ Some (reading_account line)
+  pub whole : IsWhole line
+  pub port : flow.host ≤ ASSIGNED_LAST
+  pub apart : All (λ h. h.stream ≢ stream) hands

@@ -11,6 +11,7 @@ use Rattle.vs_device_parts.specs.Receiving.{Filling, filled_of, fill_rx_of, put_
 use Rattle.vs_device_parts.specs.State.{DeviceState}
 use Rattle.vs_device_parts.specs.declared.answers.Filled.{Filled}
 use Rattle.vs_device.proofs.Ordered.{fill_honest, fill_streams}
+use Rattle.vs_device.proofs.Accounted.{fill_accounted}
 use Rattle.vs_device.proofs.device.Device.fill_rx.Goals as goal
 
 abbrev start : DeviceState → Filling
@@ -75,6 +76,14 @@ returns-clause-streams g c =
 pub returns-clause-honest : goal.returns-clause-honest
 returns-clause-honest g c =
     fill_honest c.args.self.now
+    (situation (g.R.DeviceRing.contents c.args.ring.now) (g.H.HostNet.contents c.args.host.now) (g.H.HostNet.faults c.args.host.now))
+    (situation (g.R.DeviceRing.contents c.serve.new.ring) (g.H.HostNet.contents c.serve.new.host) (g.H.HostNet.faults c.serve.new.host))
+    (c.serve.new.self, c.filled.result)
+    (returns-clause-calls g c)
+
+pub returns-clause-bytes : goal.returns-clause-bytes
+returns-clause-bytes g c =
+    fill_accounted c.args.self.now
     (situation (g.R.DeviceRing.contents c.args.ring.now) (g.H.HostNet.contents c.args.host.now) (g.H.HostNet.faults c.args.host.now))
     (situation (g.R.DeviceRing.contents c.serve.new.ring) (g.H.HostNet.contents c.serve.new.host) (g.H.HostNet.faults c.serve.new.host))
     (c.serve.new.self, c.filled.result)

@@ -1,4 +1,4 @@
-use Rattle.std.proofs.Common.{ℕ, ◌<◌, ◌^◌, List, [], sym, ap, subst, arith}
+use Rattle.std.proofs.Common.{ℕ, ◌<◌, ◌^◌, List, [], Some, sym, ap, subst, arith}
 use Rattle.vs_flow.specs.Table.{Table}
 use Rattle.vs_replies.specs.declared.Replies.{Replies}
 use Rattle.vs_replies.specs.declared.Reply.{Reply}
@@ -7,6 +7,9 @@ use Rattle.vs_device_parts.specs.State.{DeviceConnection}
 use Rattle.vs_device_parts.specs.Turns.{new_device}
 use Rattle.vs_device_log.specs.Honest.{IsWith}
 use Rattle.vs_device_log.proofs.Turning.{new_with}
+use Rattle.vs_device_parts.specs.declared.limits.TheConstants.{CONNECTIONS}
+use Rattle.vs_proxy_bytes.specs.Told.{AreAccounted}
+use Rattle.vs_proxy_bytes.proofs.Turning.{new_accounted}
 use Rattle.vs_device.proofs.device.Device.new.Goals as goal
 
 -- A new device, where its table and its replies are these.
@@ -23,3 +26,7 @@ returns-clause-honest c = λ port ring fresh.
     let none = subst (λ (r : List Reply). IsNewWith cid port ring (new_device cid []).table r)
     (sym (ap (λ (x : Replies). x.owed) c.in_ok-new-2.ensures)) start in
     subst (λ (t : Table DeviceConnection). IsNewWith cid port ring t replies) (sym c.in_ok-new.ensures) none
+
+pub returns-clause-bytes : goal.returns-clause-bytes
+returns-clause-bytes c = λ host shows.
+    subst (λ (t : Table DeviceConnection). AreAccounted [] t [] (Some host)) (sym c.in_ok-new.ensures) (new_accounted CONNECTIONS host shows)

@@ -17,6 +17,7 @@ use Rattle.vs_device_parts.proofs.Each.{each_more, may_each_step, may_each_more,
 use Rattle.vs_device_parts.proofs.Under.{under}
 use Rattle.vs_device.proofs.Resetting.{closes, opened, may_close_all, was_reset}
 use Rattle.vs_device.proofs.Ordered.{open_honest, open_streams}
+use Rattle.vs_device.proofs.Accounted.{open_accounted}
 use Rattle.vs_device.proofs.device.Device.open.Goals as goal
 
 pub returns-clause-calls : goal.returns-clause-calls
@@ -45,3 +46,12 @@ returns-clause-honest g c = λ first port ring.
     open_honest c.args.self.now (situation ring (g.H.HostNet.contents c.args.host.now) (g.H.HostNet.faults c.args.host.now))
     (situation ring (g.H.HostNet.contents c.label.new.host) (g.H.HostNet.faults c.label.new.host)) c.args.flow c.args.stream
     (t, Ok c.open_client-slot.result) (record { guest = search rules; host = search rules }) (returns-clause-calls g c ring) first port
+
+pub returns-clause-bytes : goal.returns-clause-bytes
+returns-clause-bytes g c =
+    let ring = c.requires.may.0 in
+    let d = c.self.inside in
+    let t : DeviceState = the_view (record d { slots = c.open_client-slot.new.self; opened = c.saturating_add-self-inside.result }) in
+    open_accounted c.args.self.now (situation ring (g.H.HostNet.contents c.args.host.now) (g.H.HostNet.faults c.args.host.now))
+    (situation ring (g.H.HostNet.contents c.label.new.host) (g.H.HostNet.faults c.label.new.host)) c.args.flow c.args.stream
+    (t, Ok c.open_client-slot.result) (returns-clause-calls g c ring)

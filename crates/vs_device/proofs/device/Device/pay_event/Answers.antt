@@ -17,6 +17,7 @@ use Rattle.vs_device.specs.contracts.device.Device.{the_view}
 use Rattle.vs_device.proofs.EventPaying.{may_event, took_event, by_chain, put, may_return}
 use Rattle.vs_device.proofs.Resetting.{may_close_all, was_reset}
 use Rattle.vs_device.proofs.Ordered.{pay_honest}
+use Rattle.vs_device.proofs.Accounted.{pay_accounted}
 use Rattle.vs_device.proofs.device.Device.pay_event.Goals as goal
 
 pub put_event-requires-clause-may : goal.put_event-requires-clause-may
@@ -85,3 +86,27 @@ returns-in-Failed-clause-honest g c =
     (situation (g.R.DeviceRing.contents c.args.ring.now) None 0)
     (situation (g.R.DeviceRing.contents c.take.new.ring) None 0)
     (c.fail.new.self, Err c.in-Failed.failure) (returns-in-Failed-clause-calls g c None 0)
+
+pub returns-in-Chain-clause-bytes : goal.returns-in-Chain-clause-bytes
+returns-in-Chain-clause-bytes g c = λ calls hands host.
+    pay_accounted c.args.self.now
+    (situation (g.R.DeviceRing.contents c.args.ring.now) host 0)
+    (situation (g.R.DeviceRing.contents c.put_event.new.ring) host 0)
+    (c.put_event.new.self, Ok true) (returns-in-Chain-clause-calls g c host 0)
+    calls hands
+
+pub returns-in-None-clause-bytes : goal.returns-in-None-clause-bytes
+returns-in-None-clause-bytes g c = λ calls hands host.
+    pay_accounted c.args.self.now
+    (situation (g.R.DeviceRing.contents c.args.ring.now) host 0)
+    (situation (g.R.DeviceRing.contents c.take.new.ring) host 0)
+    (c.args.self.now, Ok false) (returns-in-None-clause-calls g c host 0)
+    calls hands
+
+pub returns-in-Failed-clause-bytes : goal.returns-in-Failed-clause-bytes
+returns-in-Failed-clause-bytes g c = λ calls hands host.
+    pay_accounted c.args.self.now
+    (situation (g.R.DeviceRing.contents c.args.ring.now) host 0)
+    (situation (g.R.DeviceRing.contents c.take.new.ring) host 0)
+    (c.fail.new.self, Err c.in-Failed.failure) (returns-in-Failed-clause-calls g c host 0)
+    calls hands

@@ -17,6 +17,7 @@ use Rattle.vs_device.specs.contracts.device.Device.{the_view}
 use Rattle.vs_device.proofs.EventPaying.{may_event, took_event, by_chain, put, may_return}
 use Rattle.vs_device.proofs.Resetting.{may_close_all, was_reset}
 use Rattle.vs_device.proofs.Ordered.{reset_honest, reset_streams}
+use Rattle.vs_device.proofs.Accounted.{reset_accounted}
 use Rattle.vs_device.proofs.device.Device.reset.Goals as goal
 
 pub close_all-requires : goal.close_all-requires
@@ -53,4 +54,12 @@ returns-clause-honest g c =
     (situation (g.R.DeviceRing.contents c.args.ring.now) (g.H.HostNet.contents c.args.host.now) (g.H.HostNet.faults c.args.host.now))
     (situation (g.R.DeviceRing.contents c.publish_cid.new.ring) (g.H.HostNet.contents c.close_all.new.host) (g.H.HostNet.faults c.close_all.new.host))
     c.args.cid (c.forget.new.self, Ok tt) (omega (arith, low))
+    (returns-clause-calls g c)
+
+pub returns-clause-bytes : goal.returns-clause-bytes
+returns-clause-bytes g c =
+    reset_accounted c.args.self.now
+    (situation (g.R.DeviceRing.contents c.args.ring.now) (g.H.HostNet.contents c.args.host.now) (g.H.HostNet.faults c.args.host.now))
+    (situation (g.R.DeviceRing.contents c.publish_cid.new.ring) (g.H.HostNet.contents c.close_all.new.host) (g.H.HostNet.faults c.close_all.new.host))
+    c.args.cid (c.forget.new.self, Ok tt)
     (returns-clause-calls g c)

@@ -36,6 +36,7 @@ use Rattle.std.proofs.Common.{nat_le}
 use Rattle.vs_device_parts.specs.declared.limits.TheConstants.{REPLIES}
 use Rattle.vs_device.proofs.Takings.{may_next, took_next, by_next}
 use Rattle.vs_device.proofs.Ordered.{take_honest, take_streams}
+use Rattle.vs_device.proofs.Accounted.{take_accounted, take_judged}
 use Rattle.vs_device.proofs.device.Device.take_tx.Goals as goal
 
 pub take_chain-requires-clause-may : goal.take_chain-requires-clause-may
@@ -138,3 +139,36 @@ returns-in-Failed-clause-honest g c =
     (situation (g.R.DeviceRing.contents c.take.new.ring) (g.H.HostNet.contents c.args.host.now) (g.H.HostNet.faults c.args.host.now))
     (c.fail.new.self, taken.Failed c.in-Failed.failure)
     (returns-in-Failed-clause-calls g c)
+
+pub returns-in-Chain-clause-bytes : goal.returns-in-Chain-clause-bytes
+returns-in-Chain-clause-bytes g c =
+    take_accounted c.args.self.now
+    (situation (g.R.DeviceRing.contents c.args.ring.now) (g.H.HostNet.contents c.args.host.now) (g.H.HostNet.faults c.args.host.now))
+    (situation (g.R.DeviceRing.contents c.take_chain.new.ring) (g.H.HostNet.contents c.take_chain.new.host) (g.H.HostNet.faults c.take_chain.new.host))
+    (c.take_chain.new.self, c.take_chain.result)
+    (returns-in-Chain-clause-calls g c)
+
+pub returns-in-None-clause-bytes : goal.returns-in-None-clause-bytes
+returns-in-None-clause-bytes g c =
+    take_accounted c.args.self.now
+    (situation (g.R.DeviceRing.contents c.args.ring.now) (g.H.HostNet.contents c.args.host.now) (g.H.HostNet.faults c.args.host.now))
+    (situation (g.R.DeviceRing.contents c.take.new.ring) (g.H.HostNet.contents c.args.host.now) (g.H.HostNet.faults c.args.host.now))
+    (c.args.self.now, taken.None)
+    (returns-in-None-clause-calls g c)
+
+pub returns-in-Failed-clause-bytes : goal.returns-in-Failed-clause-bytes
+returns-in-Failed-clause-bytes g c =
+    take_accounted c.args.self.now
+    (situation (g.R.DeviceRing.contents c.args.ring.now) (g.H.HostNet.contents c.args.host.now) (g.H.HostNet.faults c.args.host.now))
+    (situation (g.R.DeviceRing.contents c.take.new.ring) (g.H.HostNet.contents c.args.host.now) (g.H.HostNet.faults c.args.host.now))
+    (c.fail.new.self, taken.Failed c.in-Failed.failure)
+    (returns-in-Failed-clause-calls g c)
+
+pub returns-in-Chain-clause-judged : goal.returns-in-Chain-clause-judged
+returns-in-Chain-clause-judged g c = take_judged c.args.self.now c.take_chain.new.self c.take_chain.result
+
+pub returns-in-None-clause-judged : goal.returns-in-None-clause-judged
+returns-in-None-clause-judged g c = take_judged c.args.self.now c.args.self.now taken.None
+
+pub returns-in-Failed-clause-judged : goal.returns-in-Failed-clause-judged
+returns-in-Failed-clause-judged g c = take_judged c.args.self.now c.fail.new.self (taken.Failed c.in-Failed.failure)

@@ -19,6 +19,7 @@ use Rattle.vs_device_parts.proofs.Under.{IsUnder, under, has_slot, value_of, non
 use Rattle.vs_device_parts.proofs.Each.{each_more, may_each_step, may_each_more, each_end}
 use Rattle.vs_device.proofs.Pumping.{took, host_closed, write_failed, may_fail, may_be_answered, wrote, may_shut_write, was_shut, took_within, HasStream, has_stream, may_write_pending, may_shut_then, pumped}
 use Rattle.vs_device.proofs.Ordered.{tick_honest, tick_streams}
+use Rattle.vs_device.proofs.Accounted.{tick_accounted}
 use Rattle.vs_device.proofs.device.Device.tick.Goals as goal
 
 pub tick_slot-requires : goal.tick_slot-requires
@@ -71,3 +72,10 @@ returns-clause-honest g c = λ first port ring.
     (situation ring (g.H.HostNet.contents c.loop-slot.host) (g.H.HostNet.faults c.loop-slot.host))
     c.args.now c.loop-slot.self (returns-clause-calls g c ring)
     first port
+
+pub returns-clause-bytes : goal.returns-clause-bytes
+returns-clause-bytes g c =
+    let ring = c.requires.may.0 in
+    tick_accounted c.args.self.now (situation ring (g.H.HostNet.contents c.args.host.now) (g.H.HostNet.faults c.args.host.now))
+    (situation ring (g.H.HostNet.contents c.loop-slot.host) (g.H.HostNet.faults c.loop-slot.host))
+    c.args.now c.loop-slot.self (returns-clause-calls g c ring)

@@ -10,6 +10,7 @@ use Rattle.vs_proxy_parts.specs.Turns.{close_handshake}
 use Rattle.vs_proxy.specs.contracts.proxy.Proxy.{the_view}
 use Rattle.vs_proxy_log.specs.Honest.{IsProxyWith}
 use Rattle.vs_proxy_log.proofs.Ordered.{reset_honest, reset_may, reset_streams}
+use Rattle.vs_proxy_bytes.proofs.Turning.{reset_accounted}
 use Rattle.vs_proxy.proofs.Resetting.{may_close_all, may_reset, was_reset}
 use Rattle.vs_proxy.proofs.proxy.Proxy.reset.Goals as goal
 
@@ -70,3 +71,11 @@ returns-in_err-reset-clause-honest g c = λ first holds.
     let P : ProxyState → Type 0 = λ x. IsProxyWith first x (g.R.DeviceRing.contents c.args.ring.now) in
     let seen : IsProxyWith first (the_view c.self.inside) (g.R.DeviceRing.contents c.args.ring.now) = subst P (sym c.self.view_is) holds in
     (seen.0, c.reset.ensures.honest first c.self.inside.next_port seen.1)
+
+pub returns-clause-bytes : goal.returns-clause-bytes
+returns-clause-bytes g c =
+    let s : ProxyState = c.args.self.now in
+    let x = situation (g.R.DeviceRing.contents c.args.ring.now) (g.H.HostNet.contents c.args.host.now) (g.H.HostNet.faults c.args.host.now) in
+    let z = situation (g.R.DeviceRing.contents c.reset.new.ring) (g.H.HostNet.contents c.close_handshakes.new.host) (g.H.HostNet.faults c.close_handshakes.new.host) in
+    let u : ProxyState = the_view (record c.self.inside { device = c.reset.new.self; handshakes = c.clear.new.self }) in
+    reset_accounted c.args.cid s x z (u, Ok tt) (returns-clause-calls g c)
