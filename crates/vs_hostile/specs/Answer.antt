@@ -1,24 +1,17 @@
 -- What a hostile guest's script prints, and the status that it ends with, as a function of its bytes.
 use Rattle.std.specs.Prelude.{ℕ, List, [], ◌∷◌, ◌++◌, length, map, codes, decimal, Option, Some, None, Result, Ok, Err}
-use Rattle.vs_proxy_parts.specs.declared.answers.Turn.{Turn}
-use Rattle.vs_proxy_parts.specs.declared.answers.Turn.TheVariants as turn
+use Rattle.vs_report.specs.Answers.{Answer, refusal}
 use Rattle.vs_report.specs.Bytes.{data_text}
-use Rattle.vs_report.specs.DeviceLines.{failure_text, turned_text, reset_text}
+use Rattle.vs_report.specs.DeviceLines.{turn_text, reset_text}
 use Rattle.vs_report.specs.HostLines.{ok_text, client_text, write_text, stream_there_text}
 use Rattle.vs_report.specs.Report.{device_open_text, stream_texts}
 use Rattle.vs_report.specs.declared.giving.GiveError.{GiveError}
 use Rattle.vs_ring_port.specs.declared.failure.Failure.{Failure}
-use Rattle.vs_script.specs.Fault.{refused_text}
 use Rattle.vs_script.specs.Hostile.{Hostile}
 use Rattle.vs_script.specs.Script.{Saying, Attacks, parse_of}
 use Rattle.vs_script.specs.declared.fault.Refused.{Refused}
 use Rattle.vs_script.specs.declared.script.Command.TheVariants as command
 use Rattle.vs_hostile.specs.Run.{HostileState, Said, Done, Bytes, HasTurned, WasReset, StreamIs, Wrote, IsThere, beginning, hostile_does}
-
--- What a turn prints.
-abbrev pub turn_text : Turn → List ℕ
-turn_text (turn.Turned t) = turned_text t.took t.put t.read t.wrote t.opened t.closed
-turn_text (turn.Failed f) = failure_text f
 
 -- What a line prints.
 abbrev pub looked_text : List ℕ → List ℕ
@@ -57,19 +50,11 @@ abbrev pub status_of : Option Failure → ℕ
 status_of None = 0
 status_of (Some f) = 7
 
--- An answer: the lines that are printed, each with its LF, and the status.
-pub record Answer : Type 0 where
-  pub lines : List (List ℕ)
-  pub status : ℕ
-
 -- What lines print from there on.
 abbrev pub printed : List Hostile → HostileState → Answer
 printed lines s =
     let last = state_after lines s in
     record { lines = texts_of lines s ++ report_texts last; status = status_of last.proxy.device.failed }
-
-abbrev pub refusal : Refused → Answer
-refusal r = record { lines = (refused_text r ++ codes "\n") ∷ []; status = 2 }
 
 -- The lines of a script, without their numbers. Scripts of other commands have none.
 abbrev pub lines_of : List (ℕ × Hostile) → List Hostile

@@ -1,6 +1,6 @@
 -- Worked examples: scripts of hostile guests, and what each prints.
 use Rattle.std.specs.Prelude.{ℕ, zero, suc, ◌+◌, List, [], ◌∷◌, ◌++◌, codes}
-use Rattle.vs_hostile.specs.Answer.{Answer}
+use Rattle.vs_report.specs.Answers.{Answer}
 
 -- The available index jumps, and the device stays failed.
 abbrev pub available_index_jumps : List ℕ

@@ -8,7 +8,7 @@ ghost use Rattle.vs_report.specs.HostLines.{ok_text};
 ghost use Rattle.vs_script.specs.Hostile.{hostile_view};
 ghost use Rattle.vs_script.specs.Outside as outside;
 ghost use Rattle.vs_script.specs.Outside.{outside_view};
-ghost use Rattle.vs_hostile.specs.Answer.{looked_text, said_text, turn_text};
+ghost use Rattle.vs_hostile.specs.Answer.{looked_text, said_text};
 ghost use Rattle.vs_hostile.specs.Guest.{guest_writes, looked};
 ghost use Rattle.vs_hostile.specs.Ready.{IsServing, with_rings};
 ghost use Rattle.vs_hostile.specs.Run.{outside_does, over_rings};
@@ -22,7 +22,7 @@ use std::fmt::Write;
 use vs_outside::{Clock, MemHost, StepClock};
 use vs_proxy::{Proxy, Turn};
 use vs_report::bytes::push_data;
-use vs_report::device_lines::{push_failure, push_reset, push_turned};
+use vs_report::device_lines::{push_reset, push_turn};
 use vs_report::host_lines::push_ok;
 use vs_script::{HostileLine, OutsideLine};
 
@@ -51,16 +51,6 @@ fn turn_line(
 {
     let turn = take_turn(ring, proxy, host, now)?;
     push_turn(text, turn)
-}
-
-// What a turn prints.
-fn push_turn(text: &mut String, turn: Turn) -> Result<(), AllocError>
-    ensures { OnOk result (string_bytes text.new ≡ string_bytes text.old ++ turn_text turn) }
-{
-    match turn {
-        Turn::Turned(t) => push_turned(text, t.took, t.put, t.read, t.wrote, t.opened, t.closed),
-        Turn::Failed(failure) => push_failure(text, failure),
-    }
 }
 
 // `reset CID`

@@ -139,7 +139,7 @@ rings_hold (Before nth addr bytes) ring s calls holds = same_holds _ s calls hol
 rings_hold (Look addr len) ring s calls holds = holds
 rings_hold (OfOutside line) ring s calls holds = outside_holds line ring s calls holds
 
-line_holds : (line : Hostile) (s : HostileState) (calls : List Made) → Holds s calls → Holds (hostile_does line s).0
+pub line_holds : (line : Hostile) (s : HostileState) (calls : List Made) → Holds s calls → Holds (hostile_does line s).0
     (made_in s.guest line s calls)
 line_holds line s calls holds = by s.guest line
   where
@@ -166,8 +166,11 @@ none_shows id = subst (λ (o : Option Stream). ShowsAt o None) (sym (by (id == 0
     by true = refl
     by false = no_stream (id - 1)
 
+pub beginning_holds : Holds beginning []
+beginning_holds = record { accounts = new_agrees _; shows = none_shows }
+
 pub run_holds : (lines : List Hostile) → Holds (state_after lines beginning) (calls_of lines beginning [])
-run_holds lines = lines_hold lines beginning [] (record { accounts = new_agrees _; shows = none_shows })
+run_holds lines = lines_hold lines beginning [] beginning_holds
 
 -- Behind its OK line a stream was given what was delivered.
 ok_front : (port : ℕ) → port ≤ ASSIGNED_LAST → has_line (codes "OK " ++ decimal port) ≡ false

@@ -3,7 +3,7 @@ use Rattle.std.proofs.Common.{◌≡◌, ℕ, ◌≤◌, ◌==◌, min, Bool, tr
 use Rattle.std.proofs.Common.{subst, arith}
 use Rattle.std.specs.Option.{option_map_or}
 use Rattle.std.proofs.lemmas.List.{length-take}
-use Rattle.vs_contents.specs.CallTree.{Done, Ask, played}
+use Rattle.vs_contents.specs.CallTree.{Done, Ask, Leads, played}
 use Rattle.vs_outside.specs.Host.{HostContents, IsDialed, Stream, accept_answer, dial_answer, fails_now, read_answer, read_of, stream_at}
 use Rattle.vs_outside.specs.Host.{taken_of, write_answer, write_of}
 use Rattle.vs_outside.specs.declared.host_net.Dialed.{Dialed}
@@ -16,7 +16,7 @@ use Rattle.vs_device_parts.specs.Calls.{Call, DeviceTree, IsReadOf, TakesWithin,
 use Rattle.vs_device_parts.specs.Calls.{CloseStream}
 use Rattle.vs_hostile.specs.Answers.{Around, answer_around, bytes_with}
 use Rattle.vs_hostile_laws.specs.Recorded.{Recorded, recording}
-use Rattle.vs_proxy_bytes.specs.Made.{Made, MayGet, account_of}
+use Rattle.vs_proxy_bytes.specs.Made.{Made, Makes, MayGet, account_of}
 use Rattle.vs_proxy_bytes.specs.Told.{Shows}
 use Rattle.vs_proxy_bytes.proofs.Keeping.{Asks, Keeps, keeps_answer, made}
 use Rattle.vs_proxy_bytes.proofs.Telling.{accept_shows, close_shows, dial_shows, label_shows, read_shows, ring_shows, shut_shows}
@@ -101,6 +101,20 @@ played_shows Q (Ask call next) around calls keeps shows =
     let step = step_shows call around calls _ keeps shows in
     let a = answer_around call around in
     played_shows Q (next a.0) a.1 (made call a.0 ∷ calls) (keeps_answer Q call next calls keeps a.0 step.0) step.1
+
+-- And the calls that were recorded are those that it made.
+pub played_makes : {A : Type 0} (Q : A → List Made → Type 0) (tree : DeviceTree A) (around : Around) (calls : List Made)
+    → Keeps Q tree calls → Shows (account_of calls) around.host
+    → let r = played recording tree (record { around = around; calls = calls }) in Leads Makes tree calls r.0 r.1.calls
+played_makes Q (Done x) around calls keeps shows = (refl, refl)
+played_makes Q (Ask call next) around calls keeps shows =
+    let step = step_shows call around calls _ keeps shows in
+    let a = answer_around call around in (
+      a.0,
+      made call a.0 ∷ calls,
+      (step.0, refl),
+      played_makes Q (next a.0) a.1 (made call a.0 ∷ calls) (keeps_answer Q call next calls keeps a.0 step.0) step.1,
+    )
 
 -- It is the conversation as it was played before it was recorded.
 pub record IsPlayed {A : Type 0} (r : A × Recorded) (s : A × Around) : Type 0 where

@@ -1,12 +1,22 @@
--- What a stream of the host may be given.
-use Rattle.std.specs.Prelude.{◌≡◌, ℕ, ◌++◌, List, [], Option, Some, None}
+-- What a hostile guest can't do: what a stream of the host may be given, what is put on a flow, and what a failed device does.
+use Rattle.std.specs.Prelude.{◌≡◌, ℕ, ◌≤◌, ◌++◌, List, [], Option, Some, None, Err}
 use Rattle.std.specs.Option.{option_map_or, option_and_then}
 use Rattle.vs_flow.specs.declared.flow.Flow.{Flow}
-use Rattle.vs_outside.specs.Host.{Stream}
+use Rattle.vs_outside.specs.Host.{Stream, stream_at}
 use Rattle.vs_outside.specs.HostBytes.{read_after_ok, wrote_after_connect}
 use Rattle.vs_page.specs.Fair.{IsPrefixOf}
+use Rattle.vs_ring_plain.specs.Device.{DeviceState}
+use Rattle.vs_ring_port.specs.declared.failure.Failure.{Failure}
+use Rattle.vs_proxy_parts.specs.declared.answers.Turn.TheVariants.{Failed}
+use Rattle.vs_proxy_bytes.specs.Carried.{Carries}
 use Rattle.vs_proxy_bytes.specs.Made.{Made, account_of}
+use Rattle.vs_proxy_bytes.specs.Packets.{AreJudged}
 use Rattle.vs_proxy_bytes.specs.Tied.{ok_line_of}
+use Rattle.vs_script.specs.Hostile.{Around, Hostile}
+use Rattle.vs_script.specs.Outside.{Reset, Turn}
+use Rattle.vs_hostile.specs.Answer.{state_after}
+use Rattle.vs_hostile.specs.Run.{HasRings, HasTurned, HostileState, WasReset, beginning, hostile_does}
+use Rattle.vs_hostile_laws.specs.Recorded.{calls_of}
 
 -- The payloads delivered on the connection of a stream, joined: those of packets of its flow, read while it had its label and wasn't
 -- closed.
@@ -35,3 +45,21 @@ pub record IsIsolated (id : ℕ) (s : Stream) (calls : List Made) : Type 0 where
   pub read : IsPrefixOf (read_after_ok s) (delivered_to id calls)
   -- And what was taken of it since is all that its program wrote behind the CONNECT line.
   pub wrote : (flow : Flow) → s.label ≡ Some flow → wrote_after_connect s ≡ taken_from id calls
+
+-- A device that failed: each turn and each reset tells the failure again, and all stays, the proxy, the memory, the host and its streams.
+pub record StaysFailed (s : HostileState) (f : Failure) : Type 0 where
+  pub turn : hostile_does (Around Turn) s ≡ (s, HasTurned (Failed f))
+  pub reset : (cid : ℕ) → 3 ≤ cid → cid ≤ 4294967294 → hostile_does (Around (Reset cid)) s ≡ (s, WasReset (Err f))
+
+-- What lines of a hostile guest's script lead to, with the calls that the proxy made by then.
+pub record IsSafe (lines : List Hostile) : Type 0 where
+  -- Each stream has what is its own, and no other.
+  pub streams : (id : ℕ) (s : Stream) → stream_at id (state_after lines beginning).host ≡ Some s
+      → IsIsolated id s (calls_of lines beginning [])
+  -- What was carried: no two streams have one connection, and what is put on a flow is what was taken of its streams, in order.
+  pub carried : Carries (calls_of lines beginning []) (state_after lines beginning).proxy.device.table
+  -- Each packet that the device read was judged: an invalid one got RST, was dropped and counted, or was the device's failure.
+  pub packets : AreJudged beginning.proxy.device [] (state_after lines beginning).proxy.device (calls_of lines beginning [])
+  -- A failure is kept.
+  pub kept : (ring : DeviceState) (f : Failure) → (state_after lines beginning).guest ≡ HasRings ring
+      → (state_after lines beginning).proxy.device.failed ≡ Some f → StaysFailed (state_after lines beginning) f

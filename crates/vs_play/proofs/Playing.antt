@@ -22,7 +22,8 @@ use Rattle.vs_proxy_parts.specs.State.{ProxyState}
 use Rattle.vs_proxy_parts.specs.Turns.{new_proxy, proxy_reset_of, turn_of}
 use Rattle.vs_core.specs.World.{first_cid}
 use Rattle.vs_play.specs.Answer.{base_path, opened_host, opened_play}
-use Rattle.vs_play.specs.Lines.{event_played, played_line, reply_text, turn_text}
+use Rattle.vs_play.specs.Lines.{event_played, played_line, reply_text}
+use Rattle.vs_report.specs.DeviceLines.{turn_text}
 use Rattle.vs_play.proofs.Devices.{served_new}
 use Rattle.vs_play.proofs.Served.{StayOpen, served_host, served_rings}
 use Rattle.vs_play.specs.Ready.{IsDriven, IsOpened, IsReady, IsServed, PlayState, Plays, over_both, over_lists, shown, world_in}

@@ -2,12 +2,12 @@
 use Rattle.std.specs.Prelude.{ℕ, List, [], ◌∷◌, ◌++◌, length, map, codes, Result, Ok, Err}
 use Rattle.vs_outside.specs.Host.{HostContents}
 use Rattle.vs_outside.specs.HostProgram.{new_host, plain}
-use Rattle.vs_script.specs.Fault.{refused_text}
 use Rattle.vs_script.specs.Play.{Event}
 use Rattle.vs_script.specs.Script.{Saying, Plays, parse_of}
 use Rattle.vs_script.specs.declared.fault.Refused.{Refused}
 use Rattle.vs_script.specs.declared.script.Command.TheVariants as command
 use Rattle.vs_core.specs.World.{World, opening}
+use Rattle.vs_report.specs.Answers.{Answer, refusal}
 use Rattle.vs_report.specs.Report.{report}
 use Rattle.vs_report.specs.declared.giving.Totals.{Totals}
 use Rattle.vs_play.specs.Lines.{PlayWorld, event_played}
@@ -45,17 +45,9 @@ totals_of w = record {
 abbrev pub report_of : World → List (List ℕ)
 report_of w = report (totals_of w) w.host.streams
 
--- An answer: the lines that are printed, each with its LF, and the status.
-pub record Answer : Type 0 where
-  pub lines : List (List ℕ)
-  pub status : ℕ
-
 -- What a play of these lines over queues of n pages prints.
 abbrev pub printed : ℕ → List Event → List (List ℕ)
 printed n es = texts_of es (opened_play n) ++ report_of (world_after es (opened_play n)).world
-
-abbrev pub refusal : Refused → Answer
-refusal r = record { lines = (refused_text r ++ codes "\n") ∷ []; status = 2 }
 
 -- The event lines of a script, without their numbers.
 abbrev pub events_in : List (ℕ × Event) → List Event

@@ -1,6 +1,6 @@
 -- Worked examples: scripts, and what each prints.
 use Rattle.std.specs.Prelude.{ℕ, List, [], ◌∷◌, ◌++◌, codes}
-use Rattle.vs_play.specs.Answer.{Answer}
+use Rattle.vs_report.specs.Answers.{Answer}
 
 -- A client of the host connects, and both sides talk.
 abbrev pub client : List ℕ

@@ -6,8 +6,6 @@ use Rattle.vs_driver_parts.specs.State.{DriverState}
 use Rattle.vs_driver_parts.specs.declared.answers.Accepted.{Accepted}
 use Rattle.vs_driver_parts.specs.declared.answers.Accepted.TheVariants as accepted
 use Rattle.vs_driver_parts.specs.declared.answers.ConnectError.{ConnectError}
-use Rattle.vs_proxy_parts.specs.declared.answers.Turn.{Turn}
-use Rattle.vs_proxy_parts.specs.declared.answers.Turn.TheVariants as turn
 use Rattle.vs_script.specs.Data.{bytes_of}
 use Rattle.vs_script.specs.Outside.{Outside, Host}
 use Rattle.vs_script.specs.Outside as outside
@@ -19,7 +17,7 @@ use Rattle.vs_core.specs.Plays.{Line, Said, line}
 use Rattle.vs_core.specs.Plays as world
 use Rattle.vs_core.specs.World.{World}
 use Rattle.vs_report.specs.GuestLines.{connect_text, listen_text, unlisten_text, accept_text, send_text, recv_text, shutdown_text, close_text, state_text, poll_text}
-use Rattle.vs_report.specs.DeviceLines.{failure_text, turned_text, reset_text}
+use Rattle.vs_report.specs.DeviceLines.{turn_text, reset_text}
 use Rattle.vs_report.specs.HostLines.{ok_text, client_text, write_text, stream_there_text}
 
 -- The flow of a connection that was opened or accepted.
@@ -42,11 +40,6 @@ reply_text (call.Recv id n) reply s = recv_text reply.0 reply.1
 reply_text (call.Shutdown id bits) reply s = shutdown_text reply
 reply_text (call.Close id) reply s = close_text reply
 reply_text (call.LookAt id) reply s = state_text reply
-
--- What a turn prints.
-abbrev pub turn_text : Turn → List ℕ
-turn_text (turn.Turned t) = turned_text t.took t.put t.read t.wrote t.opened t.closed
-turn_text (turn.Failed f) = failure_text f
 
 -- What a line of the world prints.
 abbrev pub said_text : Said → World → List ℕ

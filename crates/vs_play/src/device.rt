@@ -6,7 +6,6 @@ ghost use Rattle.vs_device_parts.specs.Turns.{table_shown};
 ghost use Rattle.vs_proxy_parts.specs.Turns.{new_proxy, proxy_reset_of, turn_of};
 ghost use Rattle.vs_core.specs.World.{first_cid};
 ghost use Rattle.vs_play.specs.Answer.{base_path, opened_host};
-ghost use Rattle.vs_play.specs.Lines.{turn_text};
 ghost use Rattle.vs_play.specs.Ready.{IsDriven, IsServed, over_both};
 
 use std::alloc::{AllocError, Global};
@@ -14,7 +13,6 @@ use vs_both_ends::BothEnds;
 use vs_outside::MemHost;
 use vs_page::FIRST_CID;
 use vs_proxy::{Proxy, Turn};
-use vs_report::device_lines::{push_failure, push_turned};
 use vs_ring_port::Failure;
 
 // The base path of the host's sockets in a play.
@@ -68,16 +66,6 @@ pub fn reset<R: BothEnds>(
     let answer = proxy.reset(rings, host, cid as u64);
     fed(host)?;
     Ok(answer)
-}
-
-/// What a turn prints.
-pub fn push_turn(text: &mut String, answer: Turn) -> Result<(), AllocError>
-    ensures { OnOk result (string_bytes text.new ≡ string_bytes text.old ++ turn_text answer) }
-{
-    match answer {
-        Turn::Turned(t) => push_turned(text, t.took, t.put, t.read, t.wrote, t.opened, t.closed),
-        Turn::Failed(failure) => push_failure(text, failure),
-    }
 }
 
 /// How many entries the device's table has.

@@ -17,7 +17,7 @@ use vs_both_ends::BothEnds;
 use vs_driver::Driver;
 use vs_outside::{Clock, MemHost, MemStream, StepClock};
 use vs_proxy::Proxy;
-use vs_report::device_lines::push_reset;
+use vs_report::device_lines::{push_reset, push_turn};
 use vs_report::giving::Totals;
 use vs_report::guest_lines::{
     push_accept, push_close, push_connect, push_listen, push_poll, push_recv, push_send,
@@ -261,7 +261,7 @@ impl<R: BothEnds> Play<R> {
     {
         let now = self.clock.now();
         let answer = device::turn(&mut self.proxy, &mut self.rings, &mut self.host, now)?;
-        device::push_turn(text, answer)
+        push_turn(text, answer)
     }
 
     // `reset CID`

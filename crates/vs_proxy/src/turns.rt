@@ -2,7 +2,7 @@
 
 ghost use Rattle.std.specs.Prelude.{◌≡◌, ◌≤◌, ◌<◌, ◌+◌, ◌^◌, ℕ, List, Contains, length, [], true, Some, None, IfErr, OnErr, OnOk, Err};
 ghost use Rattle.std.specs.Option.{ForSome};
-ghost use Rattle.vs_contents.specs.CallTree.{for_each};
+ghost use Rattle.vs_contents.specs.CallTree.{Leads, for_each};
 ghost use Rattle.vs_history.specs.declared.TheConstants.{BUF_ALLOC};
 ghost use Rattle.vs_ring_port.specs.EndLog.{EndLog};
 ghost use Rattle.vs_ring_port.specs.declared.failure.Failure.{Failure};
@@ -14,7 +14,8 @@ ghost use Rattle.vs_device_log.specs.Honest.{AgreesWith, IsLeftOpen};
 ghost use Rattle.vs_proxy_log.specs.Honest.{IsProxyWith};
 ghost use Rattle.vs_proxy_log.specs.Order.{IsInOrder};
 ghost use Rattle.vs_proxy_parts.specs.Handshakes.{streams_of};
-ghost use Rattle.vs_proxy_bytes.specs.Made.{Made};
+ghost use Rattle.vs_proxy_bytes.specs.Made.{Made, Makes};
+ghost use Rattle.vs_proxy_bytes.specs.Packets.{AreJudged};
 ghost use Rattle.vs_proxy_bytes.specs.Told.{AreAccounted, StayAccounted};
 ghost use Rattle.vs_proxy_parts.specs.State.{ProxyState};
 ghost use Rattle.vs_proxy_parts.specs.Turning.{turning_of};
@@ -55,6 +56,9 @@ impl Proxy {
             → AreAccounted calls self.old.device.table self.old.handshakes (H.contents host.old)
             → StayAccounted (turn_of (R.size ring.old) now self.old) calls (self.new, result)
             self.new.device.table self.new.handshakes (H.contents host.new) }
+        // Each packet of the guest that was read was judged: an invalid one got RST, was dropped and counted, or is the ring's failure.
+        ensures judged { (calls later : List Made) → Leads Makes (turn_of (R.size ring.old) now self.old) calls (self.new, result) later
+            → AreJudged self.old.device calls self.new.device later }
     {
         let size = ring.size();
         let before = self.device.counters();

@@ -13,3 +13,5 @@ pub mod Judging
 pub mod Shown
 pub mod Carrying
 pub mod Telling
+pub mod Quiet
+pub mod Packets

@@ -1,5 +1,6 @@
 pub mod Made
 pub mod Tied
 pub mod Judged
+pub mod Packets
 pub mod Carried
 pub mod Told

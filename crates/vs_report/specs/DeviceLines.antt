@@ -1,5 +1,7 @@
 -- What the lines print that are the device's turns and resets, each with its LF.
 use Rattle.std.specs.Prelude.{ℕ, List, ◌++◌, codes, decimal, Result, Ok, Err}
+use Rattle.vs_proxy_parts.specs.declared.answers.Turn.{Turn}
+use Rattle.vs_proxy_parts.specs.declared.answers.Turn.TheVariants as turn
 use Rattle.vs_ring_port.specs.declared.failure.Failure.{Failure}
 use Rattle.vs_ring_port.specs.declared.failure.Failure.TheVariants as failure
 
@@ -34,6 +36,11 @@ moved_text wrote opened closed = codes " " ++ decimal wrote ++ codes " " ++ deci
 abbrev pub turned_text : (took put read wrote opened closed : ℕ) → List ℕ
 turned_text took put read wrote opened closed =
     codes "turned " ++ decimal took ++ codes " " ++ decimal put ++ codes " " ++ decimal read ++ moved_text wrote opened closed
+
+-- What a turn prints: what moved, or the failure of the ring.
+abbrev pub turn_text : Turn → List ℕ
+turn_text (turn.Turned t) = turned_text t.took t.put t.read t.wrote t.opened t.closed
+turn_text (turn.Failed f) = failure_text f
 
 -- reset CID
 abbrev pub reset_text : Result (Unit {0}) Failure → List ℕ

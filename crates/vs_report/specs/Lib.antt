@@ -4,3 +4,4 @@ pub mod DeviceLines
 pub mod HostLines
 pub mod Report
 pub mod Gives
+pub mod Answers

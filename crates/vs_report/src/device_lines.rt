@@ -1,15 +1,26 @@
 //! What the lines print that are the device's turns and resets.
 
 ghost use Rattle.std.specs.Prelude.{◌≡◌, ◌++◌, OnOk, string_bytes};
-ghost use Rattle.vs_report.specs.DeviceLines.{one_value_text, two_values_text, failure_text, moved_text, turned_text, reset_text};
+ghost use Rattle.vs_report.specs.DeviceLines.{one_value_text, two_values_text, failure_text, moved_text, turn_text, turned_text, reset_text};
 
 use itoa::Buffer;
 use std::alloc::AllocError;
 use std::fmt::Write;
+use vs_proxy_parts::answers::Turn;
 use vs_ring_port::Failure;
 
-/// `turn`: packets taken and put, bytes read of the host's streams and written to them, connections opened and closed.
-pub fn push_turned(
+/// `turn`: what moved, or the failure of the ring.
+pub fn push_turn(out: &mut String, turn: Turn) -> Result<(), AllocError>
+    ensures { OnOk result (string_bytes out.new ≡ string_bytes out.old ++ turn_text turn) }
+{
+    match turn {
+        Turn::Turned(t) => push_turned(out, t.took, t.put, t.read, t.wrote, t.opened, t.closed),
+        Turn::Failed(failure) => push_failure(out, failure),
+    }
+}
+
+// What moved: packets taken and put, bytes read of the host's streams and written to them, connections opened and closed.
+fn push_turned(
     out: &mut String,
     took: u32,
     put: u32,

@@ -139,5 +139,5 @@ cause (Some (words.Peer base port idle)) old new r h = says_cause (Some (words.P
 pub cause_at : (command : Option words.Command) (old new : Lent) (r n : ℕ) → Does command old new r → r ≡ n → At n command old new
 cause_at command old new r n h e = subst (λ k. At k command old new) e (at command old new r (cause command old new r h))
 
-pub is_one : (command : Option words.Command) (old new : Lent) (r : ℕ) → Does command old new r → is_status r ≡ true
-is_one command old new r h = small command old new r (cause command old new r h)
+pub is_known : (command : Option words.Command) (old new : Lent) (r : ℕ) → Does command old new r → is_status r ≡ true
+is_known command old new r h = small command old new r (cause command old new r h)

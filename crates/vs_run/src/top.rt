@@ -2,16 +2,13 @@
 
 ghost use Rattle.std.specs.Prelude.{◌≡◌, ◌≢◌, ◌<◌, ◌-◌, ◌^◌, ℕ, List, [], Some, None, Ok, Err, true, false, map, string_bytes};
 ghost use Rattle.vs_outside.specs.Faults.{CountsFault};
-ghost use Rattle.vs_outside.specs.Host.{Stream, stream_at};
 ghost use Rattle.vs_peer.specs.Pieces.{Emits};
 ghost use Rattle.vs_peer.specs.Statuses.{NoFault, Says, is_faultless};
 ghost use Rattle.vs_peer.specs.Text.{read_fault_text};
 ghost use Rattle.vs_play.specs.Answer.{play_of};
 ghost use Rattle.vs_play_laws.specs.Headline.{IsLawful};
-ghost use Rattle.vs_hostile.specs.Answer.{hostile_of, state_after};
-ghost use Rattle.vs_hostile.specs.Run.{beginning};
-ghost use Rattle.vs_hostile_laws.specs.Isolated.{IsIsolated};
-ghost use Rattle.vs_hostile_laws.specs.Recorded.{calls_of};
+ghost use Rattle.vs_hostile.specs.Answer.{hostile_of};
+ghost use Rattle.vs_hostile_laws.specs.Isolated.{IsSafe};
 ghost use Rattle.vs_report.specs.Gives.{joined};
 ghost use Rattle.vs_script.specs.Fault.{refused_text};
 ghost use Rattle.vs_script.specs.Play.{Event};
@@ -118,10 +115,9 @@ pub fn vsock_main<R: AllocGlobal + Wait, S: Source, K: Sink, H: HostNet, C: Cloc
     // The headline's first three parts hold of the world that a play reaches, over every script.
     ensures headline { (n : ℕ) (text : List ℕ) (lines : List (ℕ × Event)) → parse_of script_of.Play text ≡ Ok (Plays lines)
         → IsLawful n (map (λ l. l.1) lines) }
-    // Its fourth part, of what a hostile guest's run reaches: no stream is given another connection's bytes.
+    // Its fourth part, of what a hostile guest's run reaches: no stream is given another connection's bytes, and a failure is kept.
     ensures isolated { (text : List ℕ) (lines : List (ℕ × Attack)) → parse_of script_of.Hostile text ≡ Ok (Attacks lines)
-        → (id : ℕ) (s : Stream) → stream_at id (state_after (map (λ l. l.1) lines) beginning).host ≡ Some s
-        → IsIsolated id s (calls_of (map (λ l. l.1) lines) beginning []) }
+        → IsSafe (map (λ l. l.1) lines) }
 {
     run(rt, words, script, host, gate, out)
 }

@@ -2,9 +2,9 @@ use Rattle.std.proofs.Common.{map, string_bytes}
 use Rattle.vs_words.specs.Command.{command_of}
 use Rattle.vs_run.specs.Does.{lent}
 use Rattle.vs_run.proofs.Causes.{attack_written, no_script_at_2, play_written}
-use Rattle.vs_hostile_laws.proofs.Lines.{run_isolated}
+use Rattle.vs_hostile_laws.proofs.Safe.{each_safe}
 use Rattle.vs_play_laws.proofs.Lawful.{each_script}
-use Rattle.vs_run.proofs.Statuses.{cause_at, is_one}
+use Rattle.vs_run.proofs.Statuses.{cause_at, is_known}
 use Rattle.vs_run.proofs.top.vsock_main.Goals as goal
 
 pub returns-clause-plays : goal.returns-clause-plays
@@ -35,7 +35,7 @@ pub returns-clause-headline : goal.returns-clause-headline
 returns-clause-headline g c = each_script
 
 pub returns-clause-isolated : goal.returns-clause-isolated
-returns-clause-isolated g c = λ text lines is. run_isolated (map (λ l. l.1) lines)
+returns-clause-isolated g c = λ text lines is. each_safe (map (λ l. l.1) lines)
 
 pub returns-clause-status_1 : goal.returns-clause-status_1
 returns-clause-status_1 g c = λ is.
@@ -87,7 +87,7 @@ returns-clause-status_8 g c = λ is.
 
 pub returns-clause-statuses : goal.returns-clause-statuses
 returns-clause-statuses g c =
-    is_one (command_of (map string_bytes c.args.words.now))
+    is_known (command_of (map string_bytes c.args.words.now))
     (lent (g.S.Source.contents c.args.script.now) (g.H.HostNet.contents c.args.host.now) (g.K.Sink.contents c.args.out.now)
     (g.S.Source.faults c.args.script.now) (g.H.HostNet.faults c.args.host.now) (g.K.Sink.faults c.args.out.now))
     (lent (g.S.Source.contents c.run.new.script) (g.H.HostNet.contents c.run.new.host) (g.K.Sink.contents c.run.new.out)

@@ -9,6 +9,7 @@ use Rattle.vs_proxy_parts.specs.Turns.{event_stage, fill_stage, pump_stage, take
 use Rattle.vs_proxy_parts.specs.declared.answers.Turn.{Turn}
 use Rattle.vs_proxy_parts.specs.declared.tally.Tally.{Tally}
 use Rattle.vs_proxy_log.proofs.Ordered.{turn_honest, turn_may, turn_streams}
+use Rattle.vs_proxy_bytes.proofs.Packets.{turn_is_judged}
 use Rattle.vs_proxy_bytes.proofs.Turning.{turn_accounted}
 use Rattle.vs_proxy.proofs.WholeTurn.{from_end, from_event, from_fill, from_hands, from_pump, from_take, may_event, may_now, may_then, may_tick, nothing, stage_then, ticks}
 use Rattle.vs_proxy.proofs.proxy.Proxy.turn.Goals as goal
@@ -167,6 +168,7 @@ returns g c =
       streams = turn_streams s x0 x6 whole c.args.now end ran;
       honest = turn_honest s x0 x6 whole c.args.now end ran;
       bytes = turn_accounted whole c.args.now s x0 x6 end ran;
+      judged = λ calls later leads. turn_is_judged whole c.args.now s calls later end leads;
       kept = λ f failed.
           let Q : DeviceTree (ProxyState × Turn) → Type 0 = λ tree. Runs tree x0 end x6 in
           let done = subst Q (nothing size c.args.now s f failed) runs in

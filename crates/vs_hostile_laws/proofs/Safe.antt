@@ -1,0 +1,24 @@
+-- Each list of lines of a hostile guest's script is safe.
+use Rattle.std.proofs.Common.{[], List}
+use Rattle.vs_hostile.specs.Answer.{state_after}
+use Rattle.vs_hostile.specs.Run.{HostileState, beginning}
+use Rattle.vs_proxy_bytes.proofs.Carrying.{carries}
+use Rattle.vs_hostile_laws.specs.Isolated.{IsSafe}
+use Rattle.vs_hostile_laws.specs.Recorded.{calls_of}
+use Rattle.vs_hostile_laws.proofs.Failing.{reset_stays, turn_stays}
+use Rattle.vs_hostile_laws.proofs.Lines.{beginning_holds, run_holds, run_isolated}
+use Rattle.vs_hostile_laws.proofs.Packets.{lines_judged}
+use Rattle.vs_script.specs.Hostile.{Hostile}
+
+pub each_safe : (lines : List Hostile) → IsSafe lines
+each_safe lines =
+    let last : HostileState = state_after lines beginning in
+    record {
+      streams = run_isolated lines;
+      carried = carries (calls_of lines beginning []) last.proxy.device.table last.proxy.handshakes (run_holds lines).accounts;
+      packets = lines_judged lines beginning [] beginning_holds;
+      kept = λ ring f rings is. record {
+        turn = turn_stays ring last f rings is;
+        reset = λ cid. reset_stays ring last cid f rings is;
+      };
+    }
