@@ -49,7 +49,7 @@ use Rattle.vs_matching.specs.Ends.{is_new}
 use Rattle.vs_device_parts.specs.Transmitting.{dial_answered, failing, heard, on_known, on_packet, on_unknown, refused, try_request, unknown_why}
 use Rattle.vs_wrap.specs.Wrap.{counted}
 use Rattle.vs_core.specs.Answers.{Around, answer_around}
-use Rattle.vs_core.specs.DeviceSteps.{header_came}
+use Rattle.vs_device_parts.specs.Steps.{header_came}
 use Rattle.vs_core.proofs.Chains.{HoldsRx}
 use Rattle.vs_core.proofs.DeviceSide as side
 use Rattle.vs_core.proofs.DeviceSide.{DeviceHolds, IsFresh, Kept, end_in, entry_fits, entry_fresh, seated}

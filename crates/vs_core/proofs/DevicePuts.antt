@@ -30,7 +30,7 @@ use Rattle.vs_device_parts.specs.Connections.{after_leaving, route_to_guest, str
 use Rattle.vs_device_parts.specs.Receiving.{Filling, after_paying, put_packet, put_reply_of, reply_header}
 use Rattle.vs_device_parts.specs.State.{DeviceConnection, DeviceEntry, DeviceState}
 use Rattle.vs_core.specs.Answers.{Around}
-use Rattle.vs_core.specs.DeviceSteps.{filling, puts_owed, puts_reply}
+use Rattle.vs_device_parts.specs.Steps.{filling, puts_owed, puts_reply}
 use Rattle.vs_core.specs.Pages.{is_held}
 use Rattle.vs_core.specs.Sides.{flow_to_guest}
 use Rattle.vs_core.proofs.Chains.{HoldsRx, both_written, bytes_written, first_written, held_written}

@@ -18,7 +18,7 @@ use Rattle.vs_device_parts.specs.Connections.{after_shut, cut_off, with_connecti
 use Rattle.vs_device_parts.specs.Receiving.{may_read, read_answered, read_room, read_with_chain}
 use Rattle.vs_device_parts.specs.State.{DeviceConnection, DeviceEntry, DeviceState}
 use Rattle.vs_core.specs.Answers.{Around, bytes_with}
-use Rattle.vs_core.specs.DeviceSteps.{filling, puts_payload, reads}
+use Rattle.vs_device_parts.specs.Steps.{filling, puts_payload, reads}
 use Rattle.vs_core.proofs.Chains.{HoldsRx}
 use Rattle.vs_core.proofs.DeviceEvents.{KeptBy, Over}
 use Rattle.vs_core.proofs.DeviceSide as side

@@ -34,7 +34,7 @@ use Rattle.vs_device_parts.specs.Receiving.{may_read, put_payload}
 use Rattle.vs_device_parts.specs.State.{DeviceConnection, DeviceEntry, DeviceState}
 use Rattle.vs_device_parts.specs.Streams.{Writing, closing, is_written_out, tick_slot, to_write, write_answered, write_pending}
 use Rattle.vs_core.specs.Answers.{Around}
-use Rattle.vs_core.specs.DeviceSteps.{filling, shuts_write, writes, writes_on, writing}
+use Rattle.vs_device_parts.specs.Steps.{filling, shuts_write, writes, writes_on, writing}
 use Rattle.vs_core.proofs.Chains.{HoldsRx}
 use Rattle.vs_core.proofs.DeviceEvents.{KeptBy, Over}
 use Rattle.vs_core.proofs.DevicePuts as puts_of

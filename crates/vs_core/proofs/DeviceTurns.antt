@@ -23,7 +23,7 @@ use Rattle.vs_device_parts.specs.Receiving.{hold, holding}
 use Rattle.vs_device_parts.specs.State.{DeviceState}
 use Rattle.vs_device_parts.specs.declared.limits.TheConstants.{REPLIES}
 use Rattle.vs_core.specs.Answers.{Around, answer_around}
-use Rattle.vs_core.specs.DeviceSteps.{chain_came, filling, header_came, puts_event, returns, takes_chain}
+use Rattle.vs_device_parts.specs.Steps.{chain_came, filling, header_came, puts_event, returns, takes_chain}
 use Rattle.vs_core.specs.Pages.{AllHold, PageHolds, is_held}
 use Rattle.vs_core.proofs.Chains.{HoldsRx, bytes_written, first_written, held_more, held_without, held_written, same_self}
 use Rattle.vs_core.proofs.DeviceEvents.{KeptBy, Over, header_came_keeps, header_is}

@@ -32,7 +32,7 @@ use Rattle.vs_driver_parts.specs.declared.answers.Sent.{Sent}
 use Rattle.vs_driver_parts.specs.declared.limits.TheConstants.{REPLIES_FULL}
 use Rattle.vs_driver_parts.specs.Connections.{route_to_host, connect_refusal, connected, next_flow, with_end}
 use Rattle.vs_driver_parts.specs.Conversations.{DriverTree, Round, after_paying, connect_with_page, has_page, one_more_in_flight, one_put, owed_bytes, payload_bytes, payload_of, publish_of, put_owed_of, put_reply_of, reap_one, reaped, reply_header, request_bytes, send_with_page, stage_packet, start}
-use Rattle.vs_core.specs.GuestSteps.{connects, sends, sends_on, sends_with_credit, stages_owed, stages_page, stages_reply, takes_page}
+use Rattle.vs_driver_parts.specs.Steps.{connects, sends, sends_on, sends_with_credit, stages_owed, stages_page, stages_reply, takes_page}
 use Rattle.vs_core.specs.Pages.{AllHold, TxHolds}
 use Rattle.vs_header.specs.declared.Header.{Header}
 use Rattle.std.proofs.Common.{length-append}
@@ -67,7 +67,7 @@ use Rattle.vs_core.specs.Calls.{GuestCall, Connect, Listen, Unlisten, Accept, Se
 use Rattle.vs_core.specs.GuestSteps.{makes_call}
 use Rattle.vs_driver_parts.specs.Receiving.{after_reset, on_packet}
 use Rattle.std.proofs.Common.{append_assoc}
-use Rattle.vs_core.specs.GuestSteps.{event_came, packet_came}
+use Rattle.vs_driver_parts.specs.Steps.{event_came, packet_came}
 
 -- A page that is staged behind others.
 staged_last : (pages : List (List ℕ)) (page : List ℕ) (log : Log)

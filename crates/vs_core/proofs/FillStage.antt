@@ -26,7 +26,7 @@ use Rattle.vs_device_parts.specs.declared.answers.Filled.{Filled}
 use Rattle.vs_proxy_parts.specs.State.{ProxyState, with_device}
 use Rattle.vs_proxy_parts.specs.Turns.{device_after, fill_stage, filled}
 use Rattle.vs_core.specs.Answers.{Around, answer_around, bytes_with}
-use Rattle.vs_core.specs.DeviceSteps.{filling, puts_owed, puts_payload, puts_reply, reads, takes_chain}
+use Rattle.vs_device_parts.specs.Steps.{filling, puts_owed, puts_payload, puts_reply, reads, takes_chain}
 use Rattle.vs_core.specs.Events.{DevicePays, DeviceReads, DeviceReplies, DeviceTakes}
 use Rattle.vs_core.specs.Steps.{Leads}
 use Rattle.vs_core.specs.World.{World, around}

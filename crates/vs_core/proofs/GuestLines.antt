@@ -18,11 +18,12 @@ use Rattle.vs_driver_parts.specs.declared.answers.ConnectError.{ConnectError}
 use Rattle.vs_driver_parts.specs.declared.answers.Sent.{Sent}
 use Rattle.vs_driver_parts.specs.declared.answers.Sent.TheVariants as sent
 use Rattle.vs_core.specs.Calls.{GuestCall, ReplyTo, Connect, Listen, Unlisten, Accept, Send, Recv, Shutdown, Close, LookAt, is_right}
-use Rattle.vs_core.specs.GuestSteps.{connects, flow_named, makes_call, sends, sends_on, sends_with_credit}
+use Rattle.vs_driver_parts.specs.Steps.{connects, sends, sends_on, sends_with_credit}
+use Rattle.vs_core.specs.GuestSteps.{flow_named, makes_call}
 use Rattle.vs_core.specs.Plays.{guest_line}
 use Rattle.vs_core.specs.Events.{call_made}
 use Rattle.vs_core.specs.Events.{Event, GuestCalls, GuestTakes, driver_step, happens, is_at_rest, none_staged, run, where_possible, works_on}
-use Rattle.vs_core.specs.GuestSteps.{takes_page}
+use Rattle.vs_driver_parts.specs.Steps.{takes_page}
 use Rattle.vs_core.specs.Steps.{Leads}
 use Rattle.vs_core.specs.World.{World}
 

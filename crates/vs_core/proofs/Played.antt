@@ -20,8 +20,9 @@ use Rattle.vs_device_parts.specs.Calls.{DeviceTree, Call, Ring, Accept, Dial, La
 use Rattle.vs_core.specs.Answers.{Around, answer_around}
 use Rattle.vs_core.specs.Events.{Event, GuestCalls, GuestTakes, GuestStages, GuestReplies, GuestPays, GuestPublishes, DeviceTakes, DeviceReturns, DevicePutsEvent, DeviceReplies, DeviceReads, DevicePays, DeviceWrites, DeviceShutsWrite, ProxyAccepts, ProxyReads, Moment, TimesOut, HandshakeTimesOut, Reset, HostListens, HostUnlistens, ClientConnects, HostWrites, HostTakes, HostEnds, HostCloses, HostFails, happens, run, where_possible, unless_failed, has_failed}
 use Rattle.vs_core.specs.Events.{is_guest_cid, reset_made, is_at_rest, works_on, holds, driver_step, device_step, proxy_step, call_made, line_read}
-use Rattle.vs_core.specs.GuestSteps.{makes_call, takes_page, stages_page, stages_reply, stages_owed}
-use Rattle.vs_core.specs.DeviceSteps.{takes_chain, returns, puts_event, puts_reply, puts_owed, puts_payload, writes, shuts_write}
+use Rattle.vs_driver_parts.specs.Steps.{takes_page, stages_page, stages_reply, stages_owed}
+use Rattle.vs_core.specs.GuestSteps.{makes_call}
+use Rattle.vs_device_parts.specs.Steps.{takes_chain, returns, puts_event, puts_reply, puts_owed, puts_payload, writes, shuts_write}
 use Rattle.vs_core.specs.Calls.{is_right}
 use Rattle.vs_core.specs.Laws.{AreQueued, IsQueued}
 use Rattle.vs_core.specs.World.{World, driver_plays, device_plays, opening}

@@ -20,7 +20,7 @@ use Rattle.vs_driver_parts.specs.Receiving.{after_reset, is_reset_event, on_page
 use Rattle.vs_driver_parts.specs.State.{DriverEntry, DriverState}
 use Rattle.vs_driver_parts.specs.declared.limits.TheConstants.{REPLIES_FULL}
 use Rattle.vs_core.specs.Events.{Event, GuestPays, GuestPublishes, GuestReplies, GuestStages, GuestTakes, driver_step, happens, is_at_rest, none_staged, works_on}
-use Rattle.vs_core.specs.GuestSteps.{event_came, packet_came, stages_owed, stages_page, stages_reply, takes_page}
+use Rattle.vs_driver_parts.specs.Steps.{event_came, packet_came, stages_owed, stages_page, stages_reply, takes_page}
 use Rattle.vs_core.specs.Steps.{Leads}
 use Rattle.vs_core.specs.World.{World}
 use Rattle.vs_core.proofs.GuestLines.{leads_none, leads_one, leads_then, played_bind, possible_is, reaps_all, with_driver}

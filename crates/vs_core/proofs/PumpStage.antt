@@ -12,7 +12,7 @@ use Rattle.vs_device_parts.specs.Streams.{Writing, is_written_out, pump_of, pump
 use Rattle.vs_proxy_parts.specs.State.{ProxyState, with_device}
 use Rattle.vs_proxy_parts.specs.Turns.{device_after, pump_stage}
 use Rattle.vs_core.specs.Answers.{Around, answer_around}
-use Rattle.vs_core.specs.DeviceSteps.{shuts_write, writes, writes_on, writing}
+use Rattle.vs_device_parts.specs.Steps.{shuts_write, writes, writes_on, writing}
 use Rattle.vs_core.specs.Events.{DeviceShutsWrite, DeviceWrites}
 use Rattle.vs_core.specs.Steps.{Leads}
 use Rattle.vs_core.specs.World.{World, around}

@@ -20,7 +20,7 @@ use Rattle.vs_proxy_parts.specs.Handshakes.{streams_of}
 use Rattle.vs_proxy_parts.specs.State.{ProxyState, with_device}
 use Rattle.vs_proxy_parts.specs.Turns.{close_handshake, reset_with}
 use Rattle.vs_core.specs.Events.{GuestTakes, Reset, driver_step, happens, is_guest_cid, reset_made, works_on}
-use Rattle.vs_core.specs.GuestSteps.{event_came, takes_page}
+use Rattle.vs_driver_parts.specs.Steps.{event_came, takes_page}
 use Rattle.vs_core.specs.Laws.{IsEmptied}
 use Rattle.vs_core.specs.World.{World, around}
 use Rattle.vs_core.proofs.DeviceLeads.{ends_played}

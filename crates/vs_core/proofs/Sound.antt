@@ -20,10 +20,11 @@ use Rattle.vs_proxy_parts.specs.State.{ProxyState, Turning, start, with_device}
 use Rattle.vs_proxy_parts.specs.Turns.{proxy_reset_of}
 use Rattle.vs_core.specs.Answers.{answer_around}
 use Rattle.vs_core.specs.Calls.{Journal, is_right}
-use Rattle.vs_core.specs.DeviceSteps.{takes_chain, returns, puts_event, puts_reply, puts_owed, puts_payload, writes, shuts_write}
+use Rattle.vs_device_parts.specs.Steps.{takes_chain, returns, puts_event, puts_reply, puts_owed, puts_payload, writes, shuts_write}
 use Rattle.vs_core.specs.Events.{Event, GuestCalls, GuestTakes, GuestStages, GuestReplies, GuestPays, GuestPublishes, DeviceTakes, DeviceReturns, DevicePutsEvent, DeviceReplies, DeviceReads, DevicePays, DeviceWrites, DeviceShutsWrite, ProxyAccepts, ProxyReads, Moment, TimesOut, HandshakeTimesOut, Reset, HostListens, HostUnlistens, ClientConnects, HostWrites, HostTakes, HostEnds, HostCloses, HostFails}
 use Rattle.vs_core.specs.Events.{at_moment, call_made, device_step, driver_step, happens, has_failed, holds, is_at_rest, is_guest_cid, line_read, none_staged, proxy_step, reset_made, unless_failed, where_possible, works_on}
-use Rattle.vs_core.specs.GuestSteps.{makes_call, takes_page, stages_page, stages_reply, stages_owed}
+use Rattle.vs_driver_parts.specs.Steps.{takes_page, stages_page, stages_reply, stages_owed}
+use Rattle.vs_core.specs.GuestSteps.{makes_call}
 use Rattle.vs_core.specs.Calls.{received_on, sent_on}
 use Rattle.vs_core.specs.Received.{IsReceived}
 use Rattle.vs_core.proofs.Received.{same_received}

@@ -38,7 +38,7 @@ use Rattle.vs_device_parts.specs.declared.limits.TheConstants.{REPLIES}
 use Rattle.vs_proxy_parts.specs.State.{Turning, with_device}
 use Rattle.vs_proxy_parts.specs.Turns.{device_after, event_stage, take_one, take_stage, took_packet}
 use Rattle.vs_core.specs.Answers.{Around, answer_around}
-use Rattle.vs_core.specs.DeviceSteps.{chain_came, puts_event, returns, takes_chain}
+use Rattle.vs_device_parts.specs.Steps.{chain_came, puts_event, returns, takes_chain}
 use Rattle.vs_core.specs.Events.{DevicePutsEvent, DeviceReturns, DeviceTakes, device_step, holds}
 use Rattle.vs_core.specs.Pages.{is_held}
 use Rattle.vs_core.specs.Steps.{Leads}

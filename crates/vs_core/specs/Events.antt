@@ -17,8 +17,9 @@ use Rattle.vs_proxy_parts.specs.Handshakes.{tick_handshake, accept_one, read_byt
 use Rattle.vs_proxy_parts.specs.State.{Turning, start, with_device}
 use Rattle.vs_proxy_parts.specs.Turns.{proxy_reset_of}
 use Rattle.vs_core.specs.Calls.{GuestCall, ReplyTo, is_right}
-use Rattle.vs_core.specs.DeviceSteps.{takes_chain, returns, puts_event, puts_reply, puts_owed, puts_payload, writes, shuts_write}
-use Rattle.vs_core.specs.GuestSteps.{takes_page, stages_page, stages_reply, stages_owed, makes_call, flow_named}
+use Rattle.vs_device_parts.specs.Steps.{takes_chain, returns, puts_event, puts_reply, puts_owed, puts_payload, writes, shuts_write}
+use Rattle.vs_driver_parts.specs.Steps.{takes_page, stages_page, stages_reply, stages_owed}
+use Rattle.vs_core.specs.GuestSteps.{makes_call, flow_named}
 use Rattle.vs_core.specs.Pages.{is_held}
 use Rattle.vs_core.specs.World.{World, driver_plays, device_plays}
 

@@ -1,21 +1,18 @@
 -- What closing a stream comes to, and leaving the table.
-use Rattle.std.proofs.Common.{◌≡◌, ℕ, ◌==◌, Bool, true, false, not, cond, List, [], ◌∷◌, map, Option, Some, None, refl, sym, ap, subst, ◌∙◌, arith}
+use Rattle.std.proofs.Common.{◌≡◌, ℕ, ◌==◌, Bool, true, false, not, cond, List, [], ◌∷◌, map, Option, refl, sym, ap, subst, ◌∙◌}
 use Rattle.std.specs.List.{filter}
-use Rattle.std.specs.Option.{ForSome, option_map}
-use Rattle.std.proofs.lemmas.Bool.Decides.{nat_tests}
-use Rattle.vs_contents.specs.CallTree.{Done, Ask, bind, Leads}
+use Rattle.vs_contents.specs.CallTree.{Done, Ask, bind}
 use Rattle.vs_contents.proofs.Leads.{leads_of, leads_bind}
 use Rattle.vs_contents.proofs.Conditions.{may_of}
-use Rattle.vs_flow.specs.Table.{Table, entry_under, value_under, with_value, without, revalued}
-use Rattle.vs_flow.proofs.Entries.{found_passes}
+use Rattle.vs_flow.specs.Table.{Table, with_value, without, revalued}
 use Rattle.vs_flow.proofs.Tables.{revalued-slot}
-use Rattle.vs_outside.specs.Host.{HostContents, IsOpen}
+use Rattle.vs_outside.specs.Host.{HostContents}
 use Rattle.vs_ring_port.specs.Contents.{RingContents}
 use Rattle.vs_wrap.specs.Wrap.{counted}
 use Rattle.vs_device_parts.specs.Calls.{Situation, DeviceTree, Allows, CloseStream}
 use Rattle.vs_device_parts.specs.State.{DeviceConnection, DeviceEntry, DeviceState}
 use Rattle.vs_device_parts.specs.Connections.{with_connection, stream_closed, after_leaving}
-use Rattle.vs_device_parts.specs.Playing.{CanMake, MayRun, MayRunOnHost, MayClose, Runs, RunsOnHost, AllowsOnHost, situation}
+use Rattle.vs_device_parts.specs.Playing.{CanMake, MayRun, MayClose, Runs, AllowsOnHost, situation}
 use Rattle.vs_device_parts.specs.Streams.{closing, leaving}
 use Rattle.vs_device_parts.proofs.Under.{with_value_twice}
 

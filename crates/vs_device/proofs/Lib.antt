@@ -12,3 +12,5 @@ mod Resetting
 mod Returning
 mod Ordered
 mod Accounted
+mod Among
+mod Stepping

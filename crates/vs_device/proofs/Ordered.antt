@@ -1,12 +1,15 @@
 -- What a call keeps, from the conversation that it ran: the open streams of the connections, and the connections that the log left.
-use Rattle.std.proofs.Common.{ℕ, ◌<◌, ◌^◌, Bool, List, Result}
+use Rattle.std.proofs.Common.{◌≡◌, ℕ, ◌<◌, ◌^◌, Bool, false, List, Option, Some, None, Result, refl, subst}
+use Rattle.std.specs.Option.{ForSome}
+use Rattle.vs_outside.specs.Host.{HostContents}
+use Rattle.vs_ring_port.specs.Contents.{RingContents}
 use Rattle.vs_flow.specs.declared.flow.Flow.{Flow}
 use Rattle.vs_flow.specs.declared.table.TableFault.{TableFault}
 use Rattle.vs_matching.specs.Steps.{IsNextFlow}
 use Rattle.vs_page.specs.Log.{Device}
 use Rattle.vs_ring_port.specs.declared.failure.Failure.{Failure}
-use Rattle.vs_device_parts.specs.Calls.{Allows, Situation}
-use Rattle.vs_device_parts.specs.Playing.{CanMake, Runs}
+use Rattle.vs_device_parts.specs.Calls.{Allows, DeviceTree, Situation}
+use Rattle.vs_device_parts.specs.Playing.{CanMake, Runs, RunsOnHost, RunsOnRing, situation}
 use Rattle.vs_device_parts.specs.Receiving.{fill_rx_of, pay_event_of}
 use Rattle.vs_device_parts.specs.State.{DeviceState}
 use Rattle.vs_device_parts.specs.Streams.{Writing, pump_of, tick_of}
@@ -15,10 +18,10 @@ use Rattle.vs_device_parts.specs.Turns.{open_of, reset_of}
 use Rattle.vs_device_parts.specs.declared.answers.Filled.{Filled}
 use Rattle.vs_device_parts.specs.declared.answers.Taken.{Taken}
 use Rattle.vs_device_laws.specs.Split.{CanReach}
-use Rattle.vs_device_laws.specs.Streams.{FindsFree, FindsStreams}
+use Rattle.vs_device_laws.specs.Streams.{FindsFree, FindsStreams, HasStreams}
 use Rattle.vs_device_laws.proofs.Closing.{keeps_tick}
 use Rattle.vs_device_laws.proofs.Conditions.{quiet_can}
-use Rattle.vs_device_laws.proofs.Keeping.{keeps_end as streams_end}
+use Rattle.vs_device_laws.proofs.Keeping.{Keeps, keeps_end as streams_end}
 use Rattle.vs_device_laws.proofs.Opening.{both_found, keeps_open, keeps_reset}
 use Rattle.vs_device_laws.proofs.Receiving.{keeps_fill_rx}
 use Rattle.vs_device_laws.proofs.Transmitting.{keeps_take_tx}
@@ -87,3 +90,27 @@ module _ (s : DeviceState) (a b : Situation) where
       → IsWith first (port_after flow port x.1) x.0 b.ring
   open_honest flow stream x fits runs first port next holds =
       keeps_end _ (open_of flow stream s) a b x (open_keeps first port flow stream s next fits a.ring holds) runs
+
+-- A ring that exposes nothing.
+abbrev untold : RingContents
+untold = record { lists = None; log = None; other = None; plain = None; honest = false }
+
+-- What a single step keeps of the streams, by what its conversation keeps.
+module _ (tree : DeviceTree DeviceState) (others : List ℕ) (s t : DeviceState) where
+  pub step_streams : (a b : Situation) → (FindsStreams others s a → Keeps CanReach Allows (FindsStreams others) tree a) → Runs tree a t b
+      → FindsStreams others s a → FindsStreams others t b
+  step_streams a b keeps runs has = streams_end CanReach Allows (FindsStreams others) tree a b t (keeps has) runs
+
+  pub ring_step_streams : (old new : RingContents) (host : HostContents)
+      → ((a : Situation) → FindsStreams others s a → Keeps CanReach Allows (FindsStreams others) tree a) → RunsOnRing tree old t new
+      → HasStreams others s.table host → HasStreams others t.table host
+  ring_step_streams old new host keeps runs has =
+      let a = situation old (Some host) 0 in
+      let found : FindsStreams others s a = λ h is. let P : HostContents → Type 0 = λ x. HasStreams others s.table x in let same : host ≡ h = cc in subst P same has in
+      step_streams a (situation new (Some host) 0) (keeps a) (runs (Some host) 0) found host refl
+
+  pub host_step_streams : (old new : Option HostContents) (faults counted : ℕ)
+      → ((a : Situation) → FindsStreams others s a → Keeps CanReach Allows (FindsStreams others) tree a) → RunsOnHost tree old faults t new counted
+      → ForSome old (HasStreams others s.table) → ForSome new (HasStreams others t.table)
+  host_step_streams old new faults counted keeps runs has =
+      let a = situation untold old faults in step_streams a (situation untold new counted) (keeps a) (runs untold) has

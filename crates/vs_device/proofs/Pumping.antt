@@ -1,17 +1,17 @@
 -- What writing to the host's streams comes to.
-use Rattle.std.proofs.Common.{◌≡◌, ◌≢◌, ℕ, ◌+◌, ◌≤◌, ◌==◌, Bool, true, false, not, cond, List, length, Option, Some, None, refl, sym, ap, subst, ◌∙◌, arith}
+use Rattle.std.proofs.Common.{◌≡◌, ◌≢◌, ℕ, ◌+◌, ◌≤◌, ◌==◌, Bool, true, false, not, length, Option, Some, None, refl, sym, ap, subst, arith}
 use Rattle.std.specs.Option.{ForSome, option_map_or}
 use Rattle.std.proofs.lemmas.Bool.Decides.{nat_tests}
 use Rattle.vs_contents.specs.CallTree.{Done, Ask, bind}
 use Rattle.vs_contents.proofs.Leads.{leads_of, leads_bind}
 use Rattle.vs_contents.proofs.Conditions.{may_first, may_rest, may_of}
-use Rattle.vs_flow.specs.Table.{Table, entry_under}
-use Rattle.vs_outside.specs.Host.{HostContents, IsOpen, TakesSome}
+use Rattle.vs_flow.specs.Table.{entry_under}
+use Rattle.vs_outside.specs.Host.{IsOpen, TakesSome}
 use Rattle.vs_outside.specs.InOut.{MovesSome}
 use Rattle.vs_outside.specs.declared.host_net.StreamWrite.{StreamWrite}
 use Rattle.vs_outside.specs.declared.host_net.StreamWrite.TheVariants as write
 use Rattle.vs_device_parts.specs.Calls.{Situation, DeviceTree, Allows, WriteStream, ShutWrite}
-use Rattle.vs_device_parts.specs.State.{DeviceConnection, DeviceEntry, DeviceState}
+use Rattle.vs_device_parts.specs.State.{DeviceEntry, DeviceState}
 use Rattle.vs_device_parts.specs.Connections.{with_connection, with_fault, after_shut, after_written, cut_off}
 use Rattle.vs_device_parts.specs.Playing.{CanMake, MayRun, Runs}
 use Rattle.vs_device_parts.specs.Streams.{Writing, closing, pump_slot, shut_write, to_write, write_answered, write_pending, is_written_out}

@@ -1,7 +1,7 @@
 -- What reading a stream comes to, for the packet that it puts.
 use Rattle.std.specs.Prelude.{if◌then◌else◌, ◌==◌, ◌&&◌, ◌||◌, not, Err, Ok, IsOkAnd}
 use Rattle.std.specs.Option.{IfSome}
-use Rattle.std.proofs.Common.{◌≡◌, ℕ, ◌+◌, ◌≤◌, arith, Bool, true, false, List, length, Option, Some, None, refl, sym, ap, subst, ◌∙◌}
+use Rattle.std.proofs.Common.{◌≡◌, ℕ, ◌+◌, ◌≤◌, arith, Bool, true, false, cond, List, length, Option, Some, None, refl, sym, ap, subst, ◌∙◌}
 use Rattle.vs_contents.specs.CallTree.{Done, Ask, bind, while_up_to}
 use Rattle.vs_contents.proofs.Leads.{leads_of, leads_bind}
 use Rattle.vs_contents.proofs.Conditions.{may_first, may_rest, may_of}
@@ -24,7 +24,8 @@ use Rattle.vs_device_parts.specs.Connections.{with_connection, route_to_guest}
 use Rattle.vs_device_parts.specs.Filling.{read_slot}
 use Rattle.vs_device_parts.specs.Playing.{CanMake, MayRun, Runs}
 use Rattle.vs_device_parts.specs.Receiving.{Filling, hold, written, put_on, put_owed, put_payload, may_read, read_room, read_answered, read_with_chain, read_stream, serve_slot}
-use Rattle.vs_device_parts.specs.State.{DeviceEntry}
+use Rattle.vs_device_parts.specs.State.{DeviceEntry, DeviceState}
+use Rattle.vs_device_parts.specs.Steps.{filling, puts_payload, reads, to_read}
 
 -- payload is put
 module _ (chain : Chain) (e : DeviceEntry) (payload : List ℕ) (r : Filling) where
@@ -69,27 +70,98 @@ module _ (chain : Chain) (e : DeviceEntry) (q : Filling) (held : q.state.chain �
   may_answered answer bytes c m may allowed = (may_of CanMake Allows _ _ c asks may).1 (answer, bytes) m allowed
 
 -- a connection without credit wants some, one with credit needs a chain
-module _ (r : Filling) (slot : ℕ) (e : DeviceEntry) (found : entry_under r.state.table slot ≡ Some e) (reads : may_read e.value.end e.value.end.state ≡ true) where
-  abbrev wants : Filling
-  wants = record r { state = with_connection e.slot (record e.value { end = wanting_credit e.value.end }) r.state }
+abbrev want : DeviceEntry → DeviceState → DeviceState
+want e s = with_connection e.slot (record e.value { end = wanting_credit e.value.end }) s
 
-  slot_is : read_slot slot r ≡ read_stream e r
-  slot_is = rw (found, read_slot) refl
+pub record IsToRead (slot : ℕ) (s t : DeviceState) : Type 0 where
+  pub entry : DeviceEntry
+  pub found : entry_under s.table slot ≡ Some entry
+  pub reads : may_read entry.value.end entry.value.end.state ≡ true
+  pub some : (free_of entry.value.end.credit == 0) ≡ false
+  pub same : t ≡ s
 
-  wanting_is : (free_of e.value.end.credit == 0) ≡ true → read_slot slot r ≡ Done wants
-  wanting_is none = slot_is ∙ rw (reads, none, read_stream) refl
+abbrev Asked : Type 0
+Asked = DeviceState × Bool
 
-  reading_is : (free_of e.value.end.credit == 0) ≡ false → read_slot slot r ≡ bind (hold r) (read_with_chain e)
-  reading_is some = slot_is ∙ rw (reads, some, read_stream) refl
+apart : (t u : DeviceState) (a b : Bool) → (let is : Asked = (t, a) in is) ≡ (u, b) → a ≡ b
+apart t u a b is = ap (λ (r : Asked). r.1) is
 
-  pub wanted : (c : Situation) → (free_of e.value.end.credit == 0) ≡ true → Runs (read_slot slot r) c wants c
-  wanted c none = leads_of Allows _ _ c c wants (wanting_is none) (refl, refl)
+true_false : true ≡ false → ⊥
+true_false is = absurd (cc)
 
-  pub read_then : (q p : Filling) (c m t : Situation) → (free_of e.value.end.credit == 0) ≡ false → Runs (hold r) c q m → Runs (read_with_chain e q) m p t → Runs (read_slot slot r) c p t
-  read_then q p c m t some holds rest = leads_of Allows _ _ c t p (reading_is some) (leads_bind Allows (hold r) (read_with_chain e) c m t q p holds rest)
+module _ (slot : ℕ) (s t : DeviceState) where
+  reads_by : (a b : Bool) (e : DeviceEntry) → entry_under s.table slot ≡ Some e → may_read e.value.end e.value.end.state ≡ a
+      → (free_of e.value.end.credit == 0) ≡ b → (let is : Asked = (t, true) in is) ≡ cond a (cond b (want e s, false) (s, true)) (s, false) → IsToRead slot s t
+  reads_by true true e found may free is = absurd (true_false (apart t (want e s) true false is))
+  reads_by true false e found may free is = record { entry = e; found = found; reads = may; some = free; same = ap (λ (r : Asked). r.0) is }
+  reads_by false b e found may free is = absurd (true_false (apart t s true false is))
 
-  pub may_read_then : (q : Filling) (c m : Situation) → (free_of e.value.end.credit == 0) ≡ false → MayRun (read_slot slot r) c → Runs (hold r) c q m → MayRun (read_with_chain e q) m
-  may_read_then q c m some may holds = may_rest CanMake Allows (hold r) (read_with_chain e) c m q (may_of CanMake Allows _ _ c (reading_is some) may) holds
+  reads_at : (o : Option DeviceEntry) → entry_under s.table slot ≡ o
+      → (let is : Asked = (t, true) in is) ≡ elim o [
+        | None ↦ (s, false)
+        | Some e ↦ cond (may_read e.value.end e.value.end.state) (cond (free_of e.value.end.credit == 0) (want e s, false) (s, true)) (s, false)
+      ] → IsToRead slot s t
+  reads_at None found is = absurd (true_false (apart t s true false is))
+  reads_at (Some e) found is = reads_by (may_read e.value.end e.value.end.state) (free_of e.value.end.credit == 0) e found refl refl is
+
+  pub reads_stream : (t, true) ≡ to_read slot s → IsToRead slot s t
+  reads_stream is = reads_at (entry_under s.table slot) refl is
+
+module _ (slot : ℕ) (t : DeviceState) where
+  module _ (A : Type 0) (s : DeviceState) (done : DeviceState → DeviceTree A) where
+    rests_by : (a b : Bool) (e : DeviceEntry) (page : DeviceTree A) → (let is : Asked = (t, false) in is) ≡ cond a (cond b (want e s, false) (s, true)) (s, false)
+        → cond a (cond b (done (want e s)) page) (done s) ≡ done t
+    rests_by true true e page is = ap done (sym (ap (λ (r : Asked). r.0) is))
+    rests_by true false e page is = absurd (true_false (sym (apart t s false true is)))
+    rests_by false b e page is = ap done (sym (ap (λ (r : Asked). r.0) is))
+
+    rests_at : (o : Option DeviceEntry) (page : DeviceEntry → DeviceTree A)
+        → (let is : Asked = (t, false) in is) ≡ elim o [
+          | None ↦ (s, false)
+          | Some e ↦ cond (may_read e.value.end e.value.end.state) (cond (free_of e.value.end.credit == 0) (want e s, false) (s, true)) (s, false)
+        ] → (let tree : DeviceTree A = elim o [
+          | None ↦ done s
+          | Some e ↦ cond (may_read e.value.end e.value.end.state) (cond (free_of e.value.end.credit == 0) (done (want e s)) (page e)) (done s)
+        ] in tree) ≡ done t
+    rests_at None page is = ap done (sym (ap (λ (r : Asked). r.0) is))
+    rests_at (Some e) page is = rests_by (may_read e.value.end e.value.end.state) (free_of e.value.end.credit == 0) e (page e) is
+
+  pub not_read : (r : Filling) → (t, false) ≡ to_read slot r.state → read_slot slot r ≡ Done (record r { state = t })
+  not_read r is =
+      rests_at Filling r.state (λ u. Done (record r { state = u })) (entry_under r.state.table slot) (λ e. bind (hold r) (read_with_chain e)) is
+
+  pub step_not_read : (s : DeviceState) → (t, false) ≡ to_read slot s → puts_payload slot s ≡ Done t
+  step_not_read s is =
+      rests_at DeviceState s (λ u. Done u) (entry_under s.table slot) (λ e. bind (read_with_chain e (filling s)) (λ r. Done r.state)) is
+
+pub wants_is : (slot : ℕ) (s : DeviceState) (e : DeviceEntry) → entry_under s.table slot ≡ Some e → may_read e.value.end e.value.end.state ≡ true
+    → (free_of e.value.end.credit == 0) ≡ true → to_read slot s ≡ (want e s, false)
+wants_is slot s e found reads none = rw (found, reads, none, to_read) refl
+
+module _ (slot : ℕ) (r : Filling) (t : DeviceState) (k : IsToRead slot r.state t) where
+  reading_is : read_slot slot r ≡ bind (hold r) (read_with_chain k.entry)
+  reading_is = rw (k.found, read_slot) (rw (k.reads, k.some, read_stream) refl)
+
+  pub read_then : (q p : Filling) (c m u : Situation) → Runs (hold r) c q m → Runs (read_with_chain k.entry q) m p u → Runs (read_slot slot r) c p u
+  read_then q p c m u holds rest = leads_of Allows _ _ c u p reading_is (leads_bind Allows (hold r) (read_with_chain k.entry) c m u q p holds rest)
+
+  pub may_read_then : (q : Filling) (c m : Situation) → MayRun (read_slot slot r) c → Runs (hold r) c q m → MayRun (read_with_chain k.entry q) m
+  may_read_then q c m may holds = may_rest CanMake Allows (hold r) (read_with_chain k.entry) c m q (may_of CanMake Allows _ _ c reading_is may) holds
+
+of_filling : Filling → DeviceTree DeviceState
+of_filling r = Done r.state
+
+module _ (slot : ℕ) (s t : DeviceState) (k : IsToRead slot s t) where
+  step_is : puts_payload slot s ≡ bind (read_with_chain k.entry (filling s)) of_filling
+  unfolding of_filling
+  step_is = rw (k.found, puts_payload) (rw (k.reads, k.some, reads) refl)
+
+  pub may_step_read : (c : Situation) → MayRun (puts_payload slot s) c → MayRun (read_with_chain k.entry (filling s)) c
+  may_step_read c may = may_first CanMake Allows (read_with_chain k.entry (filling s)) of_filling c (may_of CanMake Allows _ _ c step_is may)
+
+  pub read_stepped : (p : Filling) (c u : Situation) → Runs (read_with_chain k.entry (filling s)) c p u → Runs (puts_payload slot s) c p.state u
+  unfolding of_filling
+  read_stepped p c u rest = leads_of Allows _ _ c u p.state step_is (leads_bind Allows (read_with_chain k.entry (filling s)) of_filling c u u p p.state rest (refl, refl))
 
 -- a connection is served
 abbrev owed_on : ℕ → Filling → Bool → DeviceTree Filling
@@ -156,3 +228,6 @@ pub record Fits (e : ConnectionEnd) (chain : Chain) (n : ℕ) : Type 0 where
 
 pub fits : (e : ConnectionEnd) (chain : Chain) (n : ℕ) → HEADER_LEN + 1 ≤ chain.writable → n ≤ read_room (free_of e.credit) chain → Fits e chain n
 fits e chain n long le = record { within = omega (arith, long, le); credit = omega (arith, le); most = omega (arith, le) }
+
+pub same_entry : (o : Option DeviceEntry) (e f : DeviceEntry) → o ≡ Some e → o ≡ Some f → e ≡ f
+same_entry o e f is also = let both : Some e ≡ Some f = sym is ∙ also in cc

@@ -1,5 +1,5 @@
 -- A chain of tx may be returned with nothing.
-use Rattle.std.proofs.Common.{◌≡◌, ℕ, ◌≤◌, true, length, take, sym, subst, arith}
+use Rattle.std.proofs.Common.{◌≡◌, take, sym, subst, arith}
 use Rattle.vs_ring_port.specs.declared.device_ring.Chain.{Chain}
 use Rattle.vs_ring_port.specs.declared.queue.Queue.{Queue}
 use Rattle.vs_ring_port.specs.declared.queue.Queue.TheVariants.{Tx}

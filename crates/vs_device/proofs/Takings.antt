@@ -1,11 +1,12 @@
 -- What taking a packet comes to.
-use Rattle.std.proofs.Common.{◌≡◌, ℕ, ◌+◌, ◌-◌, ◌≤◌, ◌<◌, Bool, true, false, cond, List, [], ◌∷◌, length, nat_lt, nat_le, Option, Some, None, refl, sym, ap, subst, ◌∙◌, arith}
+use Rattle.std.proofs.Common.{◌≡◌, ℕ, ◌-◌, Bool, true, false, cond, List, ◌∷◌, length, nat_lt, nat_le, Option, Some, None, Result, Ok, Err, refl, sym, ap, subst, ◌∙◌, arith}
 use Rattle.std.specs.List.{Contains}
+use Rattle.std.proofs.Math.Path.{fun_ext}
 use Rattle.vs_contents.specs.CallTree.{Done, Ask, bind}
+use Rattle.vs_device.proofs.Trees.{bind_assoc}
 use Rattle.vs_contents.proofs.Leads.{leads_of, leads_bind}
-use Rattle.vs_contents.proofs.Conditions.{may_first, may_rest, may_of}
+use Rattle.vs_contents.proofs.Conditions.{may_first, may_of}
 use Rattle.vs_conn.specs.declared.end.Verdict.{Verdict}
-use Rattle.vs_conn.specs.declared.end.Verdict.TheVariants as verdict
 use Rattle.vs_flow.specs.Flow.{is_assigned}
 use Rattle.vs_flow.specs.Table.{entry_of, has_place}
 use Rattle.vs_header.specs.Packet.{header_of}
@@ -29,8 +30,9 @@ use Rattle.vs_device_parts.specs.declared.limits.TheConstants.{REPLIES}
 use Rattle.vs_device_parts.specs.Calls.{Situation, DeviceTree, Allows, Ring, Dial}
 use Rattle.vs_device_parts.specs.State.{DeviceEntry, DeviceState}
 use Rattle.vs_device_parts.specs.Playing.{CanMake, MayRun, Runs}
+use Rattle.vs_device_parts.specs.Steps.{heard_chain, heard_header}
 use Rattle.vs_device_parts.specs.Taking.{is_not_for_host, known_packet}
-use Rattle.vs_device_parts.specs.Transmitting.{dial_answered, failing, on_header, on_next, on_packet, on_unknown, take_tx_of, try_request}
+use Rattle.vs_device_parts.specs.Transmitting.{dial_answered, failing, on_next, on_packet, on_unknown, take_tx_of, try_request}
 
 -- the newest of the chains that are held
 same_queue_refl : (q : Queue) → same_queue q q ≡ true
@@ -47,6 +49,9 @@ newest_held c held chains is = let P : List Chain → Type 0 = λ xs. Contains x
 pub without_newest : (c : Chain) (held chains : List Chain) → held ≡ c ∷ chains → without c held ≡ chains
 without_newest c held chains is =
     ap (without c) is ∙ ap (λ (b : Bool). cond b chains (c ∷ without c chains)) (same_chain_refl c)
+
+abbrev pub Heard : Type 0
+Heard = DeviceState × Result Verdict Failure
 
 -- a REQUEST is tried
 module _ (h : Header) (s : DeviceState) where
@@ -76,43 +81,75 @@ module _ (chain : Chain) (h : Header) (s : DeviceState) (ours : is_not_for_host 
   pub was_unknown : (r : DeviceState × Verdict) (x y : Situation) → entry_of s.table (flow_to_host h) ≡ None → Runs (on_unknown h s) x r y → Runs (on_packet chain h s) x r y
   was_unknown r x y none runs = leads_of Allows _ _ x y r (by_none none) runs
 
--- a packet of which the chain holds all
+-- a packet of which the chain holds all, and one that says more
 module _ (chain : Chain) (h : Header) (s : DeviceState) where
-  after_packet : DeviceState × Verdict → DeviceTree (DeviceState × Taken)
-  after_packet r = Ask (Ring (Return chain 0)) (λ _. Done (r.0, taken.Packet r.1))
+  of_packet : DeviceState × Verdict → DeviceTree Heard
+  of_packet r = Done (r.0, Ok r.1)
 
-  whole : nat_lt (chain.readable - HEADER_LEN) h.len ≡ false → on_header chain h s ≡ bind (on_packet chain h s) after_packet
-  unfolding after_packet
+  whole : nat_lt (chain.readable - HEADER_LEN) h.len ≡ false → heard_header chain h s ≡ bind (on_packet chain h s) of_packet
+  unfolding of_packet
   whole fits = rw fits refl
 
-  pub may_packet : (x : Situation) → nat_lt (chain.readable - HEADER_LEN) h.len ≡ false → MayRun (on_header chain h s) x → MayRun (on_packet chain h s) x
-  may_packet x fits may = may_first CanMake Allows (on_packet chain h s) after_packet x (may_of CanMake Allows _ _ x (whole fits) may)
+  pub may_packet : (x : Situation) → nat_lt (chain.readable - HEADER_LEN) h.len ≡ false → MayRun (heard_header chain h s) x → MayRun (on_packet chain h s) x
+  may_packet x fits may = may_first CanMake Allows (on_packet chain h s) of_packet x (may_of CanMake Allows _ _ x (whole fits) may)
 
-  pub took_packet : (t : DeviceState) (v : Verdict) (x y z : Situation) → nat_lt (chain.readable - HEADER_LEN) h.len ≡ false
-      → Runs (on_packet chain h s) x (t, v) y → Allows (Ring (Return chain 0)) tt y z → Runs (on_header chain h s) x (t, taken.Packet v) z
-  unfolding after_packet
-  took_packet t v x y z fits first allowed =
-      leads_of Allows _ _ x z (t, taken.Packet v) (whole fits)
-      (leads_bind Allows (on_packet chain h s) after_packet x y z (t, v) (t, taken.Packet v) first (tt, z, allowed, (refl, refl)))
+  pub took_packet : (t : DeviceState) (v : Verdict) (x y : Situation) → nat_lt (chain.readable - HEADER_LEN) h.len ≡ false
+      → Runs (on_packet chain h s) x (t, v) y → Runs (heard_header chain h s) x (t, Ok v) y
+  unfolding of_packet
+  took_packet t v x y fits first =
+      leads_of Allows _ _ x y (t, Ok v) (whole fits) (leads_bind Allows (on_packet chain h s) of_packet x y y (t, v) (t, Ok v) first (refl, refl))
 
   pub too_short : (t : DeviceState) (x : Situation) → nat_lt (chain.readable - HEADER_LEN) h.len ≡ true
       → t ≡ failing (failure.PayloadShort h.len (chain.readable - HEADER_LEN)) s
-      → Runs (on_header chain h s) x (t, taken.Failed (failure.PayloadShort h.len (chain.readable - HEADER_LEN))) x
+      → Runs (heard_header chain h s) x (t, Err (failure.PayloadShort h.len (chain.readable - HEADER_LEN))) x
   too_short t x short end =
       let f : Failure = failure.PayloadShort h.len (chain.readable - HEADER_LEN) in
-      let r : DeviceState × Taken = (t, taken.Failed f) in
-      let q : DeviceState × Taken = (failing f s, taken.Failed f) in
-      let same : on_header chain h s ≡ Done q = rw short refl in
-      let last : q ≡ r = ap (λ (u : DeviceState). let p : DeviceState × Taken = (u, taken.Failed f) in p) (sym end) in
-      leads_of Allows _ _ x x r same (last, refl)
+      let q : Heard = (failing f s, Err f) in
+      let same : heard_header chain h s ≡ Done q = rw short refl in
+      let last : q ≡ (t, Err f) = ap (λ (u : DeviceState). let p : Heard = (u, Err f) in p) (sym end) in
+      leads_of Allows _ _ x x (t, Err f) same (last, refl)
 
 -- its header is read
 module _ (chain : Chain) (s : DeviceState) (bytes : List ℕ) (h : Header) (is : h ≡ header_of bytes) (x y : Situation) (allowed : Allows (Ring (Read chain 0 HEADER_LEN)) bytes x y) where
-  pub may_header : MayRun (on_next (next.Chain chain) s) x → MayRun (on_header chain h s) y
-  may_header may = let P : Header → Type 0 = λ k. MayRun (on_header chain k s) y in subst P (sym is) (may.1 bytes y allowed)
+  pub may_header : MayRun (heard_chain chain s) x → MayRun (heard_header chain h s) y
+  may_header may = let P : Header → Type 0 = λ k. MayRun (heard_header chain k s) y in subst P (sym is) (may.1 bytes y allowed)
 
-  pub read_header : (r : DeviceState × Taken) (z : Situation) → Runs (on_header chain h s) y r z → Runs (on_next (next.Chain chain) s) x r z
-  read_header r z rest = let P : Header → Type 0 = λ k. Runs (on_header chain k s) y r z in (bytes, y, allowed, subst P is rest)
+  pub read_header : (r : Heard) (z : Situation) → Runs (heard_header chain h s) y r z → Runs (heard_chain chain s) x r z
+  read_header r z rest = let P : Header → Type 0 = λ k. Runs (heard_header chain k s) y r z in (bytes, y, allowed, subst P is rest)
+
+-- a chain whose packet was heard is returned, unless the ring failed
+module _ (chain : Chain) (s : DeviceState) where
+  after_heard : Heard → DeviceTree (DeviceState × Taken)
+  after_heard r = elim r.1 [ Ok v ↦ Ask (Ring (Return chain 0)) (λ _. Done (r.0, taken.Packet v)) | Err f ↦ Done (r.0, taken.Failed f) ]
+
+  header_by : (h : Header) (b : Bool) → (let f = failure.PayloadShort h.len (chain.readable - HEADER_LEN) in
+      let tree : DeviceTree (DeviceState × Taken) = cond b (Done (failing f s, taken.Failed f))
+      (bind (on_packet chain h s) (λ r. Ask (Ring (Return chain 0)) (λ _. Done (r.0, taken.Packet r.1)))) in tree)
+      ≡ bind (let f = failure.PayloadShort h.len (chain.readable - HEADER_LEN) in
+      let tree : DeviceTree Heard = cond b (Done (failing f s, Err f)) (bind (on_packet chain h s) (λ r. Done (r.0, Ok r.1))) in tree) after_heard
+  unfolding after_heard
+  header_by h true = refl
+  header_by h false = sym (bind_assoc (on_packet chain h s) (λ r. Done (r.0, Ok r.1)) after_heard)
+
+  next_is : on_next (next.Chain chain) s ≡ bind (heard_chain chain s) after_heard
+  next_is = ap (Ask (Ring (Read chain 0 HEADER_LEN))) (fun_ext (λ bytes. header_by (header_of bytes) (nat_lt (chain.readable - HEADER_LEN) (header_of bytes).len)))
+
+  pub may_hear : (x : Situation) → MayRun (on_next (next.Chain chain) s) x → MayRun (heard_chain chain s) x
+  may_hear x may = may_first CanMake Allows (heard_chain chain s) after_heard x (may_of CanMake Allows _ _ x next_is may)
+
+  pub heard_returned : (t : DeviceState) (v : Verdict) (x y z : Situation) → Runs (heard_chain chain s) x (t, Ok v) y → Allows (Ring (Return chain 0)) tt y z
+      → Runs (on_next (next.Chain chain) s) x (t, taken.Packet v) z
+  unfolding after_heard
+  heard_returned t v x y z first allowed =
+      leads_of Allows _ _ x z (t, taken.Packet v) next_is
+      (leads_bind Allows (heard_chain chain s) after_heard x y z (t, Ok v) (t, taken.Packet v) first (tt, z, allowed, (refl, refl)))
+
+  pub heard_failed : (t : DeviceState) (f : Failure) (x y : Situation) → Runs (heard_chain chain s) x (t, Err f) y
+      → Runs (on_next (next.Chain chain) s) x (t, taken.Failed f) y
+  unfolding after_heard
+  heard_failed t f x y first =
+      leads_of Allows _ _ x y (t, taken.Failed f) next_is
+      (leads_bind Allows (heard_chain chain s) after_heard x y y (t, Err f) (t, taken.Failed f) first (refl, refl))
 
 -- the next chain of tx
 module _ (s : DeviceState) (sound : s.failed ≡ None) (room : nat_le REPLIES (length s.replies) ≡ false) where

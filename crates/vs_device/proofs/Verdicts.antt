@@ -1,8 +1,8 @@
 -- What the verdict on a packet of a connection comes to.
-use Rattle.std.proofs.Common.{◌≡◌, ℕ, Bool, true, false, cond, List, [], ◌++◌, refl, sym, ap, subst, ◌∙◌}
-use Rattle.vs_contents.specs.CallTree.{Done, Ask, bind}
+use Rattle.std.proofs.Common.{◌≡◌, ℕ, true, false, cond, List, [], ◌++◌, refl, sym, ap, subst, ◌∙◌}
+use Rattle.vs_contents.specs.CallTree.{Done, bind}
 use Rattle.vs_contents.proofs.Leads.{leads_of, leads_bind}
-use Rattle.vs_contents.proofs.Conditions.{may_first, may_rest, may_of}
+use Rattle.vs_contents.proofs.Conditions.{may_first, may_of}
 use Rattle.vs_header.specs.declared.Header.{Header}
 use Rattle.vs_header.specs.declared.TheConstants.{HEADER_LEN}
 use Rattle.vs_conn.specs.End.{is_reset, verdict_of}
@@ -14,7 +14,7 @@ use Rattle.vs_ring_port.specs.declared.device_ring.Chain.{Chain}
 use Rattle.vs_ring_port.specs.Contents.{Read}
 use Rattle.vs_uds.specs.OkLine.{ok_text}
 use Rattle.vs_device_parts.specs.Calls.{Situation, DeviceTree, Allows, Ring}
-use Rattle.vs_device_parts.specs.State.{DeviceConnection, DeviceEntry, DeviceState}
+use Rattle.vs_device_parts.specs.State.{DeviceEntry, DeviceState}
 use Rattle.vs_device_parts.specs.Connections.{with_connection, stream_closed, after_leaving}
 use Rattle.vs_device_parts.specs.Playing.{CanMake, MayRun, MayClose, Runs}
 use Rattle.vs_device_parts.specs.Streams.{leaving, closing}

@@ -63,8 +63,8 @@ impl Device {
         }
     }
 
-    // Puts the owed event into a chain.
-    fn put_event<R: DeviceRing>(&mut self, ring: &mut R, chain: Chain)
+    /// Puts the owed event into a chain.
+    pub(crate) fn put_event<R: DeviceRing>(&mut self, ring: &mut R, chain: Chain)
         requires is_held { Contains (R.held ring.old) chain }
         requires long_enough { 4 ≤ chain.writable }
         requires owed { self.old.event_owed ≡ true }

@@ -7,6 +7,7 @@ mod device;
 mod events;
 mod receive;
 mod shown;
+pub mod steps;
 mod streams;
 mod transmit;
 mod turns;

@@ -22,9 +22,10 @@ ghost use Rattle.vs_proxy_bytes.specs.Told.{AreAccounted, StayAccounted};
 ghost use Rattle.vs_proxy_parts.specs.State.{Handshake};
 ghost use Rattle.vs_device_parts.specs.Connections.{route_to_guest};
 ghost use Rattle.vs_device_parts.specs.Filling.{filling_of, is_rst, put_header, read_slot, serve_all, serve_rest};
-ghost use Rattle.vs_device_parts.specs.Playing.{IsItsRing, IsRingOf, MayRun, MayRunOnHost, MayRunOnRing, Runs, RunsOnHost, RunsOnRing, situation};
+ghost use Rattle.vs_device_parts.specs.Playing.{IsAmong, IsItsRing, IsRingOf, MayRun, MayRunOnHost, MayRunOnRing, Runs, RunsOnHost, RunsOnRing, beside, situation};
 ghost use Rattle.vs_device_parts.specs.Receiving.{after_paying, fill_rx_of, filled_of, hold, may_read, put_owed, put_payload, put_reply, read_room, read_with_chain, serve_slot};
 ghost use Rattle.vs_device_parts.specs.State.{DeviceEntry};
+ghost use Rattle.vs_device_parts.specs.Steps.{to_read};
 ghost use Rattle.vs_device_parts.specs.declared.limits.TheConstants.{CONNECTIONS, REPLIES};
 
 use crate::device::Device;
@@ -178,35 +179,46 @@ impl Device {
         ensures read { fill.new.read ≤ fill.old.read + PAYLOAD_MAX }
         ensures calls { Runs (read_slot slot (filling_of self.old fill.old)) (situation (R.contents ring.old) (H.contents host.old) (H.faults host.old)) (filling_of self.new fill.new) (situation (R.contents ring.new) (H.contents host.new) (H.faults host.new)) }
     {
+        if self.is_to_read(slot) {
+            self.hold(ring, fill);
+            self.read_with_chain(ring, host, slot, fill);
+        }
+    }
+
+    /// Whether the stream of the connection in a slot is to be read. Where it may send and has no credit it wants some.
+    pub(crate) fn is_to_read(&mut self, slot: Slot) -> bool
+        ensures read { (self.new, result) ≡ to_read slot self.old }
+        ensures chain { self.new.chain ≡ self.old.chain }
+    {
         let Some(connection) = self.slots.connection(slot) else {
-            return;
+            return false;
         };
         if !connection.may_read() {
-            return;
+            return false;
         }
         if connection.free() == 0 {
             self.slots.want_credit(slot);
-            return;
+            return false;
         }
-        self.hold(ring, fill);
-        self.read_with_chain(ring, host, slot, fill);
+        true
     }
 
-    // Reads the stream of the connection in a slot, which has credit, into the chain that is held, where one is.
-    fn read_with_chain<R: DeviceRing, H: HostNet>(
+    /// Reads the stream of the connection in a slot, which has credit, into the chain that is held, where one is.
+    pub(crate) fn read_with_chain<R: DeviceRing, H: HostNet>(
         &mut self,
         ring: &mut R,
         host: &mut H,
         slot: Slot,
         fill: &mut Fill,
     )
-        requires ring { IsRingOf (R.held ring.old) self.old }
+        requires ring { IsAmong (R.held ring.old) self.old }
         requires few { fill.old.put < 2 ^ 14 }
         requires few_read { fill.old.read < 2 ^ 20 }
         requires reads { IfSome (value_under self.old.table slot) (λ c. may_read c.end c.end.state ≡ true) }
         requires credit { IfSome (value_under self.old.table slot) (λ c. 0 < free_of c.end.credit) }
         requires may { (e : DeviceEntry) → entry_under self.old.table slot ≡ Some e → MayRun (read_with_chain e (filling_of self.old fill.old)) (situation (R.contents ring.old) (H.contents host.old) (H.faults host.old)) }
-        ensures ring { IsRingOf (R.held ring.new) self.new }
+        ensures ring { IsAmong (R.held ring.new) self.new }
+        ensures beside { beside self.new.chain (R.held ring.new) ≡ beside self.old.chain (R.held ring.old) }
         ensures count { fill.new.put ≤ fill.old.put + 1 }
         ensures read { fill.new.read ≤ fill.old.read + PAYLOAD_MAX }
         ensures calls { (e : DeviceEntry) → entry_under self.old.table slot ≡ Some e → Runs (read_with_chain e (filling_of self.old fill.old)) (situation (R.contents ring.old) (H.contents host.old) (H.faults host.old)) (filling_of self.new fill.new) (situation (R.contents ring.new) (H.contents host.new) (H.faults host.new)) }
@@ -238,14 +250,15 @@ impl Device {
         payload: &[u8],
         fill: &mut Fill,
     )
-        requires ring { IsRingOf (R.held ring.old) self.old }
+        requires ring { IsAmong (R.held ring.old) self.old }
         requires few { fill.old.put < 2 ^ 14 }
         requires few_read { fill.old.read < 2 ^ 20 }
         requires most { length payload.now ≤ PAYLOAD_MAX }
         requires room { IfSome self.old.chain (λ chain. HEADER_LEN + length payload.now ≤ chain.writable) }
         requires credit { IfSome (value_under self.old.table slot) (λ c. CanSend c.end (length payload.now)) }
         requires may { (e : DeviceEntry) (chain : Chain) → entry_under self.old.table slot ≡ Some e → self.old.chain ≡ Some chain → MayRunOnRing (put_payload chain e payload.now (filling_of self.old fill.old)) (R.contents ring.old) }
-        ensures ring { IsRingOf (R.held ring.new) self.new }
+        ensures ring { IsAmong (R.held ring.new) self.new }
+        ensures beside { beside self.new.chain (R.held ring.new) ≡ beside self.old.chain (R.held ring.old) }
         ensures count { fill.new.put ≤ fill.old.put + 1 }
         ensures read { fill.new.read ≤ fill.old.read + PAYLOAD_MAX }
         ensures calls { (e : DeviceEntry) (chain : Chain) → entry_under self.old.table slot ≡ Some e → self.old.chain ≡ Some chain → RunsOnRing (put_payload chain e payload.now (filling_of self.old fill.old)) (R.contents ring.old) (filling_of self.new fill.new) (R.contents ring.new) }
@@ -282,13 +295,14 @@ impl Device {
         }
     }
 
-    // Puts the oldest owed reply, if there is one and a chain for it.
-    fn put_reply<R: DeviceRing>(&mut self, ring: &mut R, fill: &mut Fill) -> bool
-        requires ring { IsRingOf (R.held ring.old) self.old }
+    /// Puts the oldest owed reply, if there is one and a chain for it.
+    pub(crate) fn put_reply<R: DeviceRing>(&mut self, ring: &mut R, fill: &mut Fill) -> bool
+        requires ring { IsAmong (R.held ring.old) self.old }
         requires going { fill.old.over ≡ false }
         requires few { fill.old.put < 2 ^ 16 }
         requires may { MayRunOnRing (put_reply (filling_of self.old fill.old)) (R.contents ring.old) }
-        ensures ring { IsRingOf (R.held ring.new) self.new }
+        ensures ring { IsAmong (R.held ring.new) self.new }
+        ensures beside { beside self.new.chain (R.held ring.new) ≡ beside self.old.chain (R.held ring.old) }
         ensures over { result ≡ true → fill.new.over ≡ false }
         ensures count { fill.new.put ≤ fill.old.put + 1 }
         ensures read { fill.new.read ≡ fill.old.read }
@@ -329,19 +343,20 @@ impl Device {
         }
     }
 
-    // Puts the packet that the connection in a slot owes, if it owes one and a chain is there.
-    fn put_owed<R: DeviceRing, H: HostNet>(
+    /// Puts the packet that the connection in a slot owes, if it owes one and a chain is there.
+    pub(crate) fn put_owed<R: DeviceRing, H: HostNet>(
         &mut self,
         ring: &mut R,
         host: &mut H,
         slot: Slot,
         fill: &mut Fill,
     ) -> bool
-        requires ring { IsRingOf (R.held ring.old) self.old }
+        requires ring { IsAmong (R.held ring.old) self.old }
         requires going { fill.old.over ≡ false }
         requires few { fill.old.put < 2 ^ 16 }
         requires may { MayRun (put_owed slot (filling_of self.old fill.old)) (situation (R.contents ring.old) (H.contents host.old) (H.faults host.old)) }
-        ensures ring { IsRingOf (R.held ring.new) self.new }
+        ensures ring { IsAmong (R.held ring.new) self.new }
+        ensures beside { beside self.new.chain (R.held ring.new) ≡ beside self.old.chain (R.held ring.old) }
         ensures over { result ≡ true → fill.new.over ≡ false }
         ensures count { fill.new.put ≤ fill.old.put + 1 }
         ensures read { fill.new.read ≡ fill.old.read }
@@ -374,11 +389,12 @@ impl Device {
 
     // Puts a packet without payload where a chain is or becomes held, and tells whether it did.
     fn put_header<R: DeviceRing>(&mut self, ring: &mut R, header: &Header, fill: &mut Fill) -> bool
-        requires ring { IsRingOf (R.held ring.old) self.old }
+        requires ring { IsAmong (R.held ring.old) self.old }
         requires going { fill.old.over ≡ false }
         requires few { fill.old.put < 2 ^ 16 }
         requires may { MayRunOnRing (put_header header.now (filling_of self.old fill.old)) (R.contents ring.old) }
-        ensures ring { IsRingOf (R.held ring.new) self.new }
+        ensures ring { IsAmong (R.held ring.new) self.new }
+        ensures beside { beside self.new.chain (R.held ring.new) ≡ beside self.old.chain (R.held ring.old) }
         ensures over { fill.new.over ≡ not result }
         ensures count { fill.new.put ≤ fill.old.put + 1 }
         ensures read { fill.new.read ≡ fill.old.read }
@@ -394,11 +410,12 @@ impl Device {
         true
     }
 
-    // Holds a chain of the receive queue: the one that is held already, or the next one. Where there is none, the stage is over.
-    fn hold<R: DeviceRing>(&mut self, ring: &mut R, fill: &mut Fill)
-        requires ring { IsRingOf (R.held ring.old) self.old }
+    /// Holds a chain of the receive queue: the one that is held already, or the next one. Where there is none, the stage is over.
+    pub(crate) fn hold<R: DeviceRing>(&mut self, ring: &mut R, fill: &mut Fill)
+        requires ring { IsAmong (R.held ring.old) self.old }
         requires going { fill.old.over ≡ false }
-        ensures ring { IsRingOf (R.held ring.new) self.new }
+        ensures ring { IsAmong (R.held ring.new) self.new }
+        ensures beside { beside self.new.chain (R.held ring.new) ≡ beside self.old.chain (R.held ring.old) }
         ensures over { fill.new.over ≡ not (is_some self.new.chain) }
         ensures others { self.new ≡ record self.old { chain = self.new.chain; failed = self.new.failed } }
         ensures counts { fill.new ≡ record fill.old { over = fill.new.over } }

@@ -48,8 +48,8 @@ impl Device {
         }
     }
 
-    // Ends the connection in a slot where it waits too long.
-    fn tick_slot<H: HostNet>(&mut self, host: &mut H, slot: Slot)
+    /// Ends the connection in a slot where it waits too long.
+    pub(crate) fn tick_slot<H: HostNet>(&mut self, host: &mut H, slot: Slot)
         requires may { MayRunOnHost (tick_slot slot self.old) (H.contents host.old) (H.faults host.old) }
         ensures calls { RunsOnHost (tick_slot slot self.old) (H.contents host.old) (H.faults host.old) self.new (H.contents host.new) (H.faults host.new) }
         ensures chain { self.new.chain ≡ self.old.chain }
@@ -107,8 +107,8 @@ impl Device {
         }
     }
 
-    // Whether a connection is in a slot whose stream isn't closed.
-    fn has_stream(&self, slot: Slot) -> bool
+    /// Whether a connection is in a slot whose stream isn't closed.
+    pub(crate) fn has_stream(&self, slot: Slot) -> bool
         ensures { result ≡ option_map_or (λ e. not e.value.closed) (entry_under self.now.table slot) false }
     {
         match self.slots.connection(slot) {
@@ -117,8 +117,8 @@ impl Device {
         }
     }
 
-    // Writes the first bytes that are pending on the connection in a slot.
-    fn write_pending<H: HostNet>(&mut self, host: &mut H, slot: Slot, wrote: &mut u32)
+    /// Writes the first bytes that are pending on the connection in a slot.
+    pub(crate) fn write_pending<H: HostNet>(&mut self, host: &mut H, slot: Slot, wrote: &mut u32)
         requires few { wrote.old + WRITE_MAX < 2 ^ 32 }
         requires may { (e : DeviceEntry) → entry_under self.old.table slot ≡ Some e → MayRunOnHost (write_pending e (writing self.old wrote.old)) (H.contents host.old) (H.faults host.old) }
         ensures calls { (e : DeviceEntry) → entry_under self.old.table slot ≡ Some e → RunsOnHost (write_pending e (writing self.old wrote.old)) (H.contents host.old) (H.faults host.old) (writing self.new wrote.new) (H.contents host.new) (H.faults host.new) }
@@ -168,8 +168,8 @@ impl Device {
         }
     }
 
-    // Shuts the write side of the stream of the connection in a slot, where the guest sends no more and all is written.
-    fn shut_write<H: HostNet>(&mut self, host: &mut H, slot: Slot)
+    /// Shuts the write side of the stream of the connection in a slot, where the guest sends no more and all is written.
+    pub(crate) fn shut_write<H: HostNet>(&mut self, host: &mut H, slot: Slot)
         requires may { (e : DeviceEntry) → entry_under self.old.table slot ≡ Some e → is_written_out e.value ≡ true → ForSome (H.contents host.old) (IsOpen e.value.stream) }
         ensures calls { (n : ℕ) → RunsOnHost (shut_write slot (writing self.old n)) (H.contents host.old) (H.faults host.old) (writing self.new n) (H.contents host.new) (H.faults host.new) }
         ensures chain { self.new.chain ≡ self.old.chain }

@@ -1,6 +1,6 @@
 //! Packets that the device takes from the guest (Virtio 1.2, sections 5.10.6.1 to 5.10.6.5).
 
-ghost use Rattle.std.specs.Prelude.{◌≡◌, ◌≤◌, ◌<◌, ◌+◌, ◌-◌, ◌∷◌, ◌++◌, [], ℕ, List, true, false, Some, None, Contains, IfSome, length, nat_lt};
+ghost use Rattle.std.specs.Prelude.{◌≡◌, ◌≤◌, ◌<◌, ◌+◌, ◌-◌, ◌∷◌, ◌++◌, [], ℕ, List, true, false, Some, None, Contains, IfSome, IfErr, length, nat_lt};
 ghost use Rattle.std.specs.Option.{ForSome};
 ghost use Rattle.vs_conn.specs.End.{is_reset, is_stream, may_shut, verdict_of};
 ghost use Rattle.vs_conn.specs.declared.end.Verdict.TheVariants.{Accept, Deliver, Peer};
@@ -23,6 +23,7 @@ ghost use Rattle.vs_device_parts.specs.Calls.{DeviceTree};
 ghost use Rattle.vs_device_parts.specs.Connections.{with_connection, with_reply};
 ghost use Rattle.vs_device_parts.specs.Playing.{AllowsOnRing, IsItsRing, IsRxChain, MayClose, MayRun, Runs, RunsOnHost, held_by, situation};
 ghost use Rattle.vs_device_parts.specs.State.{DeviceConnection, DeviceEntry, DeviceState};
+ghost use Rattle.vs_device_parts.specs.Steps.{heard_chain};
 ghost use Rattle.vs_device_parts.specs.Taking.{after_refusal, asks_for_stream, is_not_for_host, known_packet};
 ghost use Rattle.vs_device_laws.specs.Streams.{HasStreams};
 ghost use Rattle.vs_device_log.specs.Honest.{IsWith};
@@ -112,18 +113,41 @@ impl Device {
         ensures failed { (f : Failure) → result ≡ taken.Failed f → self.new.failed ≡ Some f }
         ensures some { (n : ℕ) → result ≡ taken.RepliesFull n → ⊥ }
     {
-        let header = read_header(ring, &chain);
-        if is_short(&chain, header.len) {
+        match self.hear(ring, host, &chain) {
+            Ok(verdict) => {
+                return_read(ring, chain);
+                Taken::Packet(verdict)
+            }
+            Err(failure) => Taken::Failed(failure),
+        }
+    }
+
+    /// Hears the packet in a chain, which stays held. The error is the failure that it says more payload than the chain has.
+    pub(crate) fn hear<R: DeviceRing, H: HostNet>(
+        &mut self,
+        ring: &mut R,
+        host: &mut H,
+        chain: &Chain,
+    ) -> Result<Verdict, Failure>
+        requires is_held { Contains (R.held ring.old) chain.now }
+        requires long_enough { IsLongEnough Tx chain.now }
+        requires room { length self.old.replies < REPLIES }
+        requires may { MayRun (heard_chain chain.now self.old) (situation (R.contents ring.old) (H.contents host.old) (H.faults host.old)) }
+        ensures held { R.held ring.new ≡ R.held ring.old }
+        ensures chain { self.new.chain ≡ self.old.chain }
+        ensures calls { Runs (heard_chain chain.now self.old) (situation (R.contents ring.old) (H.contents host.old) (H.faults host.old)) (self.new, result) (situation (R.contents ring.new) (H.contents host.new) (H.faults host.new)) }
+        ensures failed { IfErr result (λ f. self.new.failed ≡ Some f) }
+    {
+        let header = read_header(ring, chain);
+        if is_short(chain, header.len) {
             let failure = Failure::PayloadShort {
                 len: header.len,
                 held: chain.readable - HEADER_LEN as u64,
             };
             self.fail(failure);
-            return Taken::Failed(failure);
+            return Err(failure);
         }
-        let verdict = self.on_packet(ring, host, &chain, &header);
-        return_read(ring, chain);
-        Taken::Packet(verdict)
+        Ok(self.on_packet(ring, host, chain, &header))
     }
 
     // Takes a packet whose payload lies in its chain.

@@ -79,9 +79,10 @@ impl Device {
         cid: u64,
     ) -> Result<(), Failure>
         requires cid { (3 ≤ cid) × (cid ≤ 4294967294) }
-        requires ring { IsItsRing (R.held ring.old) self.old }
         requires may { MayRun (reset_of cid self.old) (situation (R.contents ring.old) (H.contents host.old) (H.faults host.old)) }
-        ensures ring { IsItsRing (R.held ring.new) self.new }
+        ensures ring { IsItsRing (R.held ring.old) self.old → IsItsRing (R.held ring.new) self.new }
+        ensures held { R.held ring.new ≡ R.held ring.old }
+        ensures chain { self.new.chain ≡ self.old.chain }
         ensures calls { Runs (reset_of cid self.old) (situation (R.contents ring.old) (H.contents host.old) (H.faults host.old)) (self.new, result) (situation (R.contents ring.new) (H.contents host.new) (H.faults host.new)) }
         ensures refused { IfErr result (λ f. self.old.failed ≡ Some f) }
         ensures unchanged { OnErr result (self.new ≡ self.old) }

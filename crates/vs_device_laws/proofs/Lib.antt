@@ -7,3 +7,4 @@ pub mod Transmitting
 pub mod Receiving
 pub mod Opening
 pub mod Conditions
+pub mod Stepping

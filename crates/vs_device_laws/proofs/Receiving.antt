@@ -93,7 +93,7 @@ module _ (others : List ℕ) where
   abbrev pub FillsFirst : Filling × Bool → Situation → Type 0
   FillsFirst x c = FindsStreams others x.0.state c
 
-  from_table : (s t : DeviceState) (c d : Situation) → d.host ≡ c.host → t.table ≡ s.table → FindsStreams others s c
+  pub from_table : (s t : DeviceState) (c d : Situation) → d.host ≡ c.host → t.table ≡ s.table → FindsStreams others s c
       → FindsStreams others t d
   from_table s t c d host table has =
       let P : Table DeviceConnection → Type 0 = λ u. ForSome d.host (HasStreams others u) in
@@ -222,7 +222,7 @@ module _ (others : List ℕ) where
         (keeps_cut_off CanReach (λ call s quiet can. can) others (with_fault r.state) c e (found_by_slot r.state.table slot e found) has)
         (λ s d kept. kept)
 
-    keeps_read_with_chain : (r : Filling) (c : Situation) → entry_under r.state.table slot ≡ Some e
+    pub keeps_read_with_chain : (r : Filling) (c : Situation) → entry_under r.state.table slot ≡ Some e
         → may_read e.value.end e.value.end.state ≡ true
         → FindsStreams others r.state c → Keeps CanReach Allows Fills (read_with_chain e r) c
     keeps_read_with_chain r c found reads has = by r.state.chain

@@ -12,3 +12,4 @@ pub mod Playing
 pub mod Filling
 pub mod Written
 pub mod Taking
+pub mod Steps

@@ -1,11 +1,11 @@
 -- How a device, its ring and its host belong together, and what it takes to make a call.
-use Rattle.std.specs.Prelude.{◌≡◌, ◌<◌, ℕ, false, List, [], ◌∷◌, Option, Some, None}
+use Rattle.std.specs.Prelude.{◌≡◌, ◌<◌, ℕ, false, List, [], ◌∷◌, Option, Some, None, Contains}
 use Rattle.std.specs.Option.{ForSome, IfSome}
 use Rattle.vs_contents.specs.CallTree.{Leads, MayPlay}
 use Rattle.vs_outside.specs.Host.{HostContents, IsOpen}
 use Rattle.vs_ring_port.specs.declared.device_ring.Chain.{Chain}
 use Rattle.vs_ring_port.specs.declared.queue.Queue.TheVariants.{Rx}
-use Rattle.vs_ring_port.specs.Chains.{IsLongEnough}
+use Rattle.vs_ring_port.specs.Chains.{IsLongEnough, without}
 use Rattle.vs_ring_port.specs.Contents.{RingContents, DeviceCall, DeviceAnswer, Write, Return}
 use Rattle.vs_ring_port.specs.DeviceCalls.{LeavesNoGap, CanReturn}
 use Rattle.vs_device_parts.specs.Calls.{Call, Answer, Ring, Label, ReadStream, WriteStream, ShutWrite, CloseStream, Situation, DeviceTree, Allows}
@@ -62,6 +62,14 @@ held_by (Some chain) = chain ∷ []
 
 abbrev pub IsRxChain : Chain → Type 0
 IsRxChain chain = (chain.queue ≡ Rx) × IsLongEnough Rx chain
+
+-- A receive chain that the device holds is among those that were taken of its ring and not returned; and the others of them.
+abbrev pub IsAmong : List Chain → DeviceState → Type 0
+IsAmong held s = IfSome s.chain (λ chain. Contains held chain × IsRxChain chain)
+
+abbrev pub beside : Option Chain → List Chain → List Chain
+beside None held = held
+beside (Some chain) held = without chain held
 
 -- The ring is the device's: the chains taken of it and not returned are those that the device holds.
 pub record IsRingOf (held : List Chain) (s : DeviceState) : Type 0 where

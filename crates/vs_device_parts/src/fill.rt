@@ -1,5 +1,7 @@
 //! What a call of `fill_rx` did so far.
 
+ghost use Rattle.std.specs.Prelude.{◌≡◌, false};
+
 /// What a call of `fill_rx` did so far.
 #[derive(Clone, Copy, Debug, PartialEq, Eq)]
 pub struct Fill {
@@ -9,4 +11,17 @@ pub struct Fill {
     pub read: u32,
     /// No chain is there for the next packet, or the ring failed.
     pub over: bool,
+}
+
+impl Fill {
+    /// Nothing yet.
+    pub fn none() -> Fill
+        ensures { result ≡ record { put = 0; read = 0; over = false } }
+    {
+        Fill {
+            put: 0,
+            read: 0,
+            over: false,
+        }
+    }
 }

@@ -1,10 +1,11 @@
 //! A packet in a chain of the receive queue, and the read of a stream that gives its payload.
 
-ghost use Rattle.std.specs.Prelude.{◌≡◌, ◌≤◌, ◌+◌, [], ◌∷◌, length};
+ghost use Rattle.std.specs.Prelude.{◌≡◌, ◌≤◌, ◌+◌, length, Contains};
 ghost use Rattle.std.specs.Option.{ForSome};
 ghost use Rattle.vs_header.specs.declared.TheConstants.{HEADER_LEN};
 ghost use Rattle.vs_outside.specs.Host.{IsOpen, ReadsSome};
 ghost use Rattle.vs_page.specs.declared.page.TheConstants.{PAYLOAD_MAX};
+ghost use Rattle.vs_ring_port.specs.Chains.{without};
 ghost use Rattle.vs_device_parts.specs.Calls.{ReadStream};
 ghost use Rattle.vs_device_parts.specs.Filling.{bytes_read};
 ghost use Rattle.vs_device_parts.specs.Playing.{AllowsOnHost, MayRunOnRing, RunsOnRing};
@@ -16,11 +17,11 @@ use vs_ring_port::{Chain, DeviceRing};
 
 /// Writes a packet into a chain, header first, and returns the chain.
 pub fn write_packet<R: DeviceRing>(ring: &mut R, chain: Chain, header: &Header, payload: &[u8])
-    requires held { R.held ring.old ≡ chain ∷ [] }
+    requires is_held { Contains (R.held ring.old) chain }
     requires room { HEADER_LEN + length payload.now ≤ chain.writable }
     requires most { length payload.now ≤ PAYLOAD_MAX }
     requires may { MayRunOnRing (written chain header.now payload.now) (R.contents ring.old) }
-    ensures held { R.held ring.new ≡ [] }
+    ensures held { R.held ring.new ≡ without chain (R.held ring.old) }
     ensures calls { RunsOnRing (written chain header.now payload.now) (R.contents ring.old) tt (R.contents ring.new) }
 {
     ring.write(&chain, 0, &header.encode());

@@ -3,6 +3,7 @@ pub mod RingPages
 pub mod Connecting
 pub mod Sending
 pub mod Taking
+pub mod Stepping
 pub mod Paying
 pub mod Posting
 pub mod Ending

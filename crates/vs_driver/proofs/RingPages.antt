@@ -1,5 +1,5 @@
 -- What the steps on the ring's pages come to.
-use Rattle.std.proofs.Common.{◌≡◌, ◌≢◌, ℕ, ◌+◌, ◌-◌, ◌==◌, true, false, List, Some, None, refl, sym, ap, subst, arith}
+use Rattle.std.proofs.Common.{◌≡◌, ◌≢◌, ℕ, ◌+◌, ◌-◌, ◌==◌, true, false, List, Some, None, refl, sym, ap, subst, arith, ◌∙◌}
 use Rattle.std.proofs.lemmas.Bool.Decides.{nat_tests}
 use Rattle.vs_contents.specs.CallTree.{Done, Ask}
 use Rattle.vs_contents.proofs.Leads.{leads_of}
@@ -7,11 +7,12 @@ use Rattle.vs_contents.proofs.Conditions.{may_of}
 use Rattle.vs_ring_port.specs.declared.queue.Queue.{Queue}
 use Rattle.vs_ring_port.specs.declared.queue.Queue.TheVariants.{Tx}
 use Rattle.vs_ring_port.specs.declared.queue.TheConstants.{STAGED_MAX}
+use Rattle.vs_ring_port.specs.Counts.{Counts}
 use Rattle.vs_ring_port.specs.Contents.{RingContents}
 use Rattle.vs_ring_port.specs.DriverCalls.{Stage, Publish, Reap, CanPublish, DriverAllows}
 use Rattle.vs_driver_parts.specs.State.{DriverState}
 use Rattle.vs_driver_parts.specs.Conversations.{reap_one, reaped, stage_of, after_stage, post_packet, stage_packet, one_more_in_flight}
-use Rattle.vs_driver_parts.specs.Playing.{CanMake, MayPublishAll, Plays, RingAllows}
+use Rattle.vs_driver_parts.specs.Playing.{CanMake, IsAtWork, IsResting, IsRingOf, IsWorking, MayPublishAll, Plays, RingAllows, SamePages, all_flown}
 
 reap_asks : (g : DriverState) → g.in_flight ≢ 0 → reap_one g ≡ Ask (Reap Tx) (λ page. Done (reaped g page))
 reap_asks g some = let e : (g.in_flight == 0) ≡ false = grind (arith, nat_tests) in rw e refl
@@ -70,3 +71,48 @@ packet_staged bytes page g h new s t same after plays =
     let P : List ℕ → Type 0 = λ b. Plays (stage_of Tx b h) s new t in
     let Q : DriverState → Type 0 = λ x. Plays (stage_of Tx bytes x) s new t in
     subst Q after (subst P same plays)
+
+-- a ring stays the driver's where its pages stay, and where transmit pages alone come and go
+module _ (n : ℕ) (f w : Counts) (g h : DriverState) (same : SamePages g h) where
+  pub ring_same : IsRingOf n f w g → IsRingOf n f w h
+  ring_same ring = record {
+    size = same.0 ∙ ring.size;
+    flight = ring.flight ∙ ap (λ (k : ℕ). let c : Counts = record { rx = n; tx = k; event = n } in c) (sym same.1);
+    staged = ring.staged;
+    none = same.2 ∙ ring.none;
+  }
+
+  pub rest_same : IsResting n f w g → IsResting n f w h
+  rest_same ring = record {
+    size = same.0 ∙ ring.size;
+    flight = ring.flight ∙ sym same.1;
+    staged = ring.staged;
+    none = same.2 ∙ ring.none;
+  }
+
+module _ (n m : ℕ) (f f' v w : Counts) (g h : DriverState) (size : m ≡ n) (flight : f' ≡ record f { tx = h.in_flight }) where
+  all_but_tx : f ≡ all_flown n g → f' ≡ all_flown m h
+  all_but_tx all =
+      flight ∙ (ap (λ (c : Counts). let d : Counts = record c { tx = h.in_flight } in d) all
+      ∙ ap (λ (k : ℕ). let d : Counts = record { rx = k; tx = h.in_flight; event = k } in d) (sym size))
+
+  pub ring_after : IsRingOf n f v g → IsResting m f' w h → IsRingOf m f' w h
+  ring_after ring rest = record { size = rest.size; flight = all_but_tx ring.flight; staged = rest.staged; none = rest.none }
+
+  pub work_after : IsAtWork Tx n f v g → IsWorking Tx m f' w h → IsAtWork Tx m f' w h
+  work_after ring work = record { size = work.size; flight = all_but_tx ring.flight; staged = work.staged; few = work.few }
+
+pub rests : (n : ℕ) (f w : Counts) (g : DriverState) → IsRingOf n f w g → IsResting n f w g
+rests n f w g ring = record { size = ring.size; flight = ap (λ (c : Counts). c.tx) ring.flight; staged = ring.staged; none = ring.none }
+
+pub works : (n : ℕ) (f w : Counts) (g : DriverState) → IsAtWork Tx n f w g → IsWorking Tx n f w g
+works n f w g ring = record { size = ring.size; flight = ap (λ (c : Counts). c.tx) ring.flight; staged = ring.staged; few = ring.few }
+
+pub ring_after_reap : (n m : ℕ) (f f' v w : Counts) (g h : DriverState) → m ≡ n → f' ≡ record f { tx = h.in_flight } → w ≡ v
+    → h ≡ record g { in_flight = h.in_flight } → IsRingOf n f v g → IsRingOf m f' w h
+ring_after_reap n m f f' v w g h size flight staged others ring = record {
+  size = ap (λ (x : DriverState). x.size) others ∙ (ring.size ∙ sym size);
+  flight = all_but_tx n m f f' v w g h size flight ring.flight;
+  staged = staged ∙ ring.staged;
+  none = ap (λ (x : DriverState). x.staged) others ∙ ring.none;
+}

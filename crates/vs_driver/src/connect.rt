@@ -10,7 +10,7 @@ ghost use Rattle.vs_driver_parts.specs.declared.answers.ConnectError.{ConnectErr
 ghost use Rattle.vs_driver_parts.specs.Connections.{connect_refusal, connected, is_full, is_spent, next_flow, route_to_host};
 ghost use Rattle.vs_driver_parts.specs.Conversations.{connect_of, connect_with_page};
 ghost use Rattle.vs_driver.specs.Outcomes.{Opens, Refuses, FindsNoPage};
-ghost use Rattle.vs_driver_parts.specs.Playing.{IsRingOf, MayPublishAll, Plays};
+ghost use Rattle.vs_driver_parts.specs.Playing.{IsResting, IsRingOf, MayPublishAll, Plays};
 ghost use Rattle.vs_driver_log.specs.Honest.{IsHonest, IsHonestWith};
 
 use crate::driver::Driver;
@@ -50,8 +50,8 @@ impl Driver {
         self.connect_with_page(ring, host_port)
     }
 
-    // Why a connect is refused before a page is looked for.
-    fn connect_refusal(&self, host_port: u32) -> Option<ConnectError>
+    /// Why a connect is refused before a page is looked for.
+    pub(crate) fn connect_refusal(&self, host_port: u32) -> Option<ConnectError>
         ensures { result ≡ connect_refusal host_port self.now }
     {
         if is_assigned(host_port) {
@@ -69,16 +69,18 @@ impl Driver {
         None
     }
 
-    // Puts the REQUEST of a new connection, if a page is free.
-    fn connect_with_page<R: DriverRing>(
+    /// Puts the REQUEST of a new connection, if a page is free.
+    pub(crate) fn connect_with_page<R: DriverRing>(
         &mut self,
         ring: &mut R,
         host_port: u32,
     ) -> Result<ConnId, ConnectError>
-        requires ring { IsRingOf (R.size ring.old) (R.flight ring.old) (R.staged ring.old) self.old }
+        requires ring { IsResting (R.size ring.old) (R.flight ring.old) (R.staged ring.old) self.old }
         requires free { connect_refusal host_port self.old ≡ None }
         requires may { MayPublishAll (connect_with_page host_port self.old) (R.contents ring.old) }
-        ensures ring { IsRingOf (R.size ring.new) (R.flight ring.new) (R.staged ring.new) self.new }
+        ensures ring { IsResting (R.size ring.new) (R.flight ring.new) (R.staged ring.new) self.new }
+        ensures flight { R.flight ring.new ≡ record (R.flight ring.old) { tx = self.new.in_flight } }
+        ensures same_size { R.size ring.new ≡ R.size ring.old }
         ensures calls { Plays (connect_with_page host_port self.old) (R.contents ring.old) (self.new, result) (R.contents ring.new) }
         ensures opened { IfOk result (Opens host_port self.old self.new) }
         ensures refused { IfErr result (FindsNoPage self.old self.new) }

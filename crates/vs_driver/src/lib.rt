@@ -12,6 +12,7 @@ mod receive;
 mod recv;
 mod ring_pages;
 mod send;
+pub mod steps;
 mod table;
 mod take;
 

@@ -7,7 +7,7 @@ ghost use Rattle.vs_ring_port.specs.declared.queue.Queue.TheVariants.{Tx};
 ghost use Rattle.vs_ring_port.specs.Counts.{at, no_counts, one_more, with_count};
 ghost use Rattle.vs_ring_port.specs.declared.queue.TheConstants.{STAGED_MAX};
 ghost use Rattle.vs_driver_parts.specs.Conversations.{reap_one, reap_all, stage_of, after_stage, publish_of, stage_packet, post_packet, one_more_in_flight, has_page};
-ghost use Rattle.vs_driver_parts.specs.Playing.{IsRingOf, IsAtWork, IsStaging, MayPublishAll, Plays};
+ghost use Rattle.vs_driver_parts.specs.Playing.{IsRingOf, IsAtWork, IsResting, IsWorking, MayPublishAll, Plays};
 
 use crate::driver::Driver;
 use vs_header::Header;
@@ -15,10 +15,12 @@ use vs_page::{Page, put_packet};
 use vs_ring_port::{DriverRing, Queue, Reaped};
 
 impl Driver {
-    // Takes back one transmit page, if one is in flight and the device returned one.
-    fn reap<R: DriverRing>(&mut self, ring: &mut R) -> bool
-        requires ring { IsRingOf (R.size ring.old) (R.flight ring.old) (R.staged ring.old) self.old }
-        ensures ring { IsRingOf (R.size ring.new) (R.flight ring.new) (R.staged ring.new) self.new }
+    /// Takes back one transmit page, if one is in flight and the device returned one.
+    pub(crate) fn reap<R: DriverRing>(&mut self, ring: &mut R) -> bool
+        requires flight { (R.flight ring.old).tx ≡ self.old.in_flight }
+        ensures flight { R.flight ring.new ≡ record (R.flight ring.old) { tx = self.new.in_flight } }
+        ensures same_staged { R.staged ring.new ≡ R.staged ring.old }
+        ensures same_size { R.size ring.new ≡ R.size ring.old }
         ensures calls { Plays (reap_one self.old) (R.contents ring.old) (self.new, result) (R.contents ring.new) }
         ensures others { self.new ≡ record self.old { in_flight = self.new.in_flight } }
     {
@@ -56,11 +58,13 @@ impl Driver {
         header: &Header,
         payload: &[u8],
     )
-        requires ring { IsRingOf (R.size ring.old) (R.flight ring.old) (R.staged ring.old) self.old }
+        requires ring { IsResting (R.size ring.old) (R.flight ring.old) (R.staged ring.old) self.old }
         requires free { has_page self.old ≡ true }
         requires payload { length payload.now ≤ PAYLOAD_MAX }
         requires may { MayPublishAll (post_packet (header_bytes header.now ++ payload.now) self.old) (R.contents ring.old) }
-        ensures ring { IsRingOf (R.size ring.new) (R.flight ring.new) (R.staged ring.new) self.new }
+        ensures ring { IsResting (R.size ring.new) (R.flight ring.new) (R.staged ring.new) self.new }
+        ensures flight { R.flight ring.new ≡ record (R.flight ring.old) { tx = self.new.in_flight } }
+        ensures same_size { R.size ring.new ≡ R.size ring.old }
         ensures calls { Plays (post_packet (header_bytes header.now ++ payload.now) self.old) (R.contents ring.old) self.new (R.contents ring.new) }
         ensures state { self.new ≡ one_more_in_flight self.old }
     {
@@ -74,10 +78,12 @@ impl Driver {
 
     /// Posts a packet without payload. A page has to be free.
     pub(crate) fn post_header<R: DriverRing>(&mut self, ring: &mut R, header: &Header)
-        requires ring { IsRingOf (R.size ring.old) (R.flight ring.old) (R.staged ring.old) self.old }
+        requires ring { IsResting (R.size ring.old) (R.flight ring.old) (R.staged ring.old) self.old }
         requires free { has_page self.old ≡ true }
         requires may { MayPublishAll (post_packet (header_bytes header.now) self.old) (R.contents ring.old) }
-        ensures ring { IsRingOf (R.size ring.new) (R.flight ring.new) (R.staged ring.new) self.new }
+        ensures ring { IsResting (R.size ring.new) (R.flight ring.new) (R.staged ring.new) self.new }
+        ensures flight { R.flight ring.new ≡ record (R.flight ring.old) { tx = self.new.in_flight } }
+        ensures same_size { R.size ring.new ≡ R.size ring.old }
         ensures calls { Plays (post_packet (header_bytes header.now) self.old) (R.contents ring.old) self.new (R.contents ring.new) }
         ensures state { self.new ≡ one_more_in_flight self.old }
     {
@@ -86,28 +92,18 @@ impl Driver {
 
     /// Stages a transmit page with a packet without payload; 16 staged pages are published together. A page has to be free.
     pub(crate) fn stage_packet<R: DriverRing>(&mut self, ring: &mut R, header: &Header)
-        requires ring { IsAtWork Tx (R.size ring.old) (R.flight ring.old) (R.staged ring.old) self.old }
+        requires ring { IsWorking Tx (R.size ring.old) (R.flight ring.old) (R.staged ring.old) self.old }
         requires free { has_page self.old ≡ true }
         requires may { MayPublishAll (stage_packet (header_bytes header.now) self.old) (R.contents ring.old) }
-        ensures ring { IsAtWork Tx (R.size ring.new) (R.flight ring.new) (R.staged ring.new) self.new }
+        ensures ring { IsWorking Tx (R.size ring.new) (R.flight ring.new) (R.staged ring.new) self.new }
+        ensures flight { R.flight ring.new ≡ record (R.flight ring.old) { tx = self.new.in_flight } }
+        ensures same_size { R.size ring.new ≡ R.size ring.old }
         ensures calls { Plays (stage_packet (header_bytes header.now) self.old) (R.contents ring.old) self.new (R.contents ring.new) }
         ensures state { self.new ≡ record (one_more_in_flight self.old) { staged = self.new.staged } }
     {
         let mut page = self.pages.take();
         put_packet(&mut page, header, &[]);
-        self.stage(ring, Queue::Tx, page);
-    }
-
-    /// Stages a page; 16 staged pages are published together. With it all pages of the ring are in flight.
-    pub(crate) fn stage<R: DriverRing>(&mut self, ring: &mut R, queue: Queue, page: Page)
-        requires ring { IsStaging queue (R.size ring.old) (R.flight ring.old) (R.staged ring.old) self.old }
-        requires header { queue ≡ Tx → 44 ≤ length page }
-        requires may { MayPublishAll (stage_of queue page self.old) (R.contents ring.old) }
-        ensures ring { IsAtWork queue (R.size ring.new) (R.flight ring.new) (R.staged ring.new) self.new }
-        ensures calls { Plays (stage_of queue page self.old) (R.contents ring.old) self.new (R.contents ring.new) }
-        ensures state { self.new ≡ record self.old { staged = self.new.staged } }
-    {
-        self.stage_page(ring, queue, page);
+        self.stage_page(ring, Queue::Tx, page);
     }
 
     /// Stages a page; 16 staged pages are published together.

@@ -1,15 +1,16 @@
 //! Sending on a connection (Virtio 1.2, section 5.10.6.3).
 
-ghost use Rattle.std.specs.Prelude.{◌≡◌, ℕ, ◌≤◌, ◌<◌, ◌==◌, true, length, min, Some, None, Ok, Err, is_some};
+ghost use Rattle.std.specs.Prelude.{◌≡◌, ℕ, ◌≤◌, ◌<◌, ◌==◌, true, length, min, Some, None, Ok, Err, IfOk, is_some};
 ghost use Rattle.vs_conn.specs.End.{CanSend, may_send_of, wanting_credit};
 ghost use Rattle.vs_conn.specs.declared.end.State.TheVariants.{Live};
 ghost use Rattle.vs_credit.specs.Credit.{free_of};
-ghost use Rattle.vs_flow.specs.Table.{entry_under};
+ghost use Rattle.vs_flow.specs.Table.{IsTable, entry_under};
 ghost use Rattle.vs_page.specs.declared.page.TheConstants.{PAYLOAD_MAX};
 ghost use Rattle.vs_driver_parts.specs.State.{DriverEntry, entry_known_as, gone_known_as};
 ghost use Rattle.vs_driver_parts.specs.Connections.{unread_of_id, with_end};
-ghost use Rattle.vs_driver_parts.specs.Conversations.{send_of, send_on, send_with_credit, send_with_page, send_stopped, no_credit, not_sent};
-ghost use Rattle.vs_driver_parts.specs.Playing.{IsRingOf, MayPublishAll, Plays};
+ghost use Rattle.vs_driver_parts.specs.Conversations.{send_of, send_with_page, send_stopped, no_credit, not_sent};
+ghost use Rattle.vs_driver_parts.specs.Steps.{ready_on, ready_to_send, ready_with};
+ghost use Rattle.vs_driver_parts.specs.Playing.{IsResting, IsRingOf, MayPublishAll, Plays, SamePages};
 ghost use Rattle.vs_driver.specs.Outcomes.{Sends};
 ghost use Rattle.vs_driver.specs.Pipes.{KeepsOthers};
 ghost use Rattle.vs_driver_log.specs.Honest.{IsHonest, IsHonestWith};
@@ -39,9 +40,26 @@ impl Driver {
         ensures others { KeepsOthers id self.old self.new }
         ensures honest { (first : ℕ) → IsHonestWith first self.old (R.contents ring.old) → IsHonestWith first self.new (R.contents ring.new) }
     {
+        match self.ready_to_send(id, bytes.len()) {
+            Ok((slot, most)) => {
+                self.reap_all(ring);
+                self.send_with_page(ring, slot, &bytes[..most])
+            }
+            Err(answer) => answer,
+        }
+    }
+
+    /// What a send comes to before a page is looked for: how many bytes go on the connection in which slot, or an answer.
+    pub(crate) fn ready_to_send(&mut self, id: ConnId, len: usize) -> Result<(Slot, usize), Sent>
+        ensures ready { (self.new, result) ≡ ready_to_send id len self.old }
+        ensures sound { IsTable self.old.table }
+        ensures in_flight { self.old.in_flight ≤ self.old.size }
+        ensures within { IfOk result (λ (_, most). (most ≤ len) × (most ≤ PAYLOAD_MAX)) }
+        ensures pages { SamePages self.old self.new }
+    {
         match self.slots.known_as(id) {
-            Some(slot) => self.send_in(ring, slot, bytes),
-            None => self.not_sent(id),
+            Some(slot) => self.ready_in(slot, len),
+            None => Err(self.not_sent(id)),
         }
     }
 
@@ -56,45 +74,36 @@ impl Driver {
         }
     }
 
-    // Sends on the connection in a slot.
-    fn send_in<R: DriverRing>(&mut self, ring: &mut R, slot: Slot, bytes: &[u8]) -> Sent
-        requires ring { IsRingOf (R.size ring.old) (R.flight ring.old) (R.staged ring.old) self.old }
-        requires may { (e : DriverEntry) → entry_under self.old.table slot ≡ Some e → MayPublishAll (send_on e bytes.now self.old) (R.contents ring.old) }
+    // What a send on the connection in a slot comes to.
+    fn ready_in(&mut self, slot: Slot, len: usize) -> Result<(Slot, usize), Sent>
         requires held { is_some (entry_under self.old.table slot) ≡ true }
-        ensures ring { IsRingOf (R.size ring.new) (R.flight ring.new) (R.staged ring.new) self.new }
-        ensures calls { (e : DriverEntry) → entry_under self.old.table slot ≡ Some e → Plays (send_on e bytes.now self.old) (R.contents ring.old) (self.new, result) (R.contents ring.new) }
+        ensures ready { (e : DriverEntry) → entry_under self.old.table slot ≡ Some e → (self.new, result) ≡ ready_on e len self.old }
+        ensures within { IfOk result (λ (_, most). (most ≤ len) × (most ≤ PAYLOAD_MAX)) }
+        ensures pages { SamePages self.old self.new }
     {
         match self.slots.may_send(slot) {
-            Some(Ok(credit)) => self.send_with_credit(ring, slot, credit, bytes),
-            Some(Err(why)) => stopped(why),
+            Some(Ok(credit)) => self.ready_with(slot, credit, len),
+            Some(Err(why)) => Err(stopped(why)),
             None => unreachable!(),
         }
     }
 
-    // Sends on the connection in a slot, which has this much credit.
-    fn send_with_credit<R: DriverRing>(
-        &mut self,
-        ring: &mut R,
-        slot: Slot,
-        credit: u32,
-        bytes: &[u8],
-    ) -> Sent
-        requires ring { IsRingOf (R.size ring.old) (R.flight ring.old) (R.staged ring.old) self.old }
+    // What a send comes to on the connection in a slot, which has this much credit.
+    fn ready_with(&mut self, slot: Slot, credit: u32, len: usize) -> Result<(Slot, usize), Sent>
         requires credit { (e : DriverEntry) → entry_under self.old.table slot ≡ Some e → may_send_of e.value.end ≡ Ok credit }
-        requires may { (e : DriverEntry) → entry_under self.old.table slot ≡ Some e → MayPublishAll (send_with_credit e credit bytes.now self.old) (R.contents ring.old) }
         requires held { is_some (entry_under self.old.table slot) ≡ true }
-        ensures ring { IsRingOf (R.size ring.new) (R.flight ring.new) (R.staged ring.new) self.new }
-        ensures calls { (e : DriverEntry) → entry_under self.old.table slot ≡ Some e → Plays (send_with_credit e credit bytes.now self.old) (R.contents ring.old) (self.new, result) (R.contents ring.new) }
+        ensures ready { (e : DriverEntry) → entry_under self.old.table slot ≡ Some e → (self.new, result) ≡ ready_with e credit len self.old }
+        ensures within { IfOk result (λ (_, most). (most ≤ len) × (most ≤ PAYLOAD_MAX)) }
+        ensures pages { SamePages self.old self.new }
     {
-        if bytes.is_empty() {
-            return Sent::Took(0);
+        if len == 0 {
+            return Err(Sent::Took(0));
         }
         if credit == 0 {
-            return self.no_credit(slot);
+            return Err(self.no_credit(slot));
         }
-        self.reap_all(ring);
-        let most = (credit as usize).min(PAYLOAD_MAX).min(bytes.len());
-        self.send_with_page(ring, slot, &bytes[..most])
+        let most = (credit as usize).min(PAYLOAD_MAX).min(len);
+        Ok((slot, most))
     }
 
     // Finds no credit on the connection in a slot, and asks for some.
@@ -117,14 +126,21 @@ impl Driver {
         }
     }
 
-    // Puts payload on the connection in a slot, if a page is free.
-    fn send_with_page<R: DriverRing>(&mut self, ring: &mut R, slot: Slot, payload: &[u8]) -> Sent
-        requires ring { IsRingOf (R.size ring.old) (R.flight ring.old) (R.staged ring.old) self.old }
+    /// Puts payload on the connection in a slot, if a page is free.
+    pub(crate) fn send_with_page<R: DriverRing>(
+        &mut self,
+        ring: &mut R,
+        slot: Slot,
+        payload: &[u8],
+    ) -> Sent
+        requires ring { IsResting (R.size ring.old) (R.flight ring.old) (R.staged ring.old) self.old }
         requires payload { length payload.now ≤ PAYLOAD_MAX }
         requires credit { (e : DriverEntry) → entry_under self.old.table slot ≡ Some e → CanSend e.value.end (length payload.now) }
         requires may { (e : DriverEntry) → entry_under self.old.table slot ≡ Some e → MayPublishAll (send_with_page e payload.now self.old) (R.contents ring.old) }
         requires held { is_some (entry_under self.old.table slot) ≡ true }
-        ensures ring { IsRingOf (R.size ring.new) (R.flight ring.new) (R.staged ring.new) self.new }
+        ensures ring { IsResting (R.size ring.new) (R.flight ring.new) (R.staged ring.new) self.new }
+        ensures flight { R.flight ring.new ≡ record (R.flight ring.old) { tx = self.new.in_flight } }
+        ensures same_size { R.size ring.new ≡ R.size ring.old }
         ensures calls { (e : DriverEntry) → entry_under self.old.table slot ≡ Some e → Plays (send_with_page e payload.now self.old) (R.contents ring.old) (self.new, result) (R.contents ring.new) }
     {
         if !self.pages.has_page() {

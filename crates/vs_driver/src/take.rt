@@ -1,11 +1,14 @@
 //! The first stages of a poll: events and packets are taken from the ring, and their pages given back to it.
 
-ghost use Rattle.std.specs.Prelude.{◌≡◌, ◌+◌, ◌-◌, ◌<◌, ◌≤◌, ◌==◌, [], length, false, true, ◌^◌};
+ghost use Rattle.std.specs.Prelude.{◌≡◌, ◌+◌, ◌-◌, ◌<◌, ◌≤◌, ◌==◌, [], length, false, true, ◌^◌, OnSome, IfNone};
 ghost use Rattle.vs_ring_port.specs.declared.queue.Queue.TheVariants.{Rx, Tx, Event};
 ghost use Rattle.vs_driver_parts.specs.Conversations.{take_all, all_taken, take_event, take_packet, event_taken, stage_of, round_of, start};
+ghost use Rattle.vs_ring_port.specs.Counts.{at, no_counts, one_more, with_count};
+ghost use Rattle.vs_ring_port.specs.declared.queue.TheConstants.{STAGED_MAX};
+ghost use Rattle.vs_driver_parts.specs.Steps.{reap_event, reap_packet};
 ghost use Rattle.vs_driver_parts.specs.declared.limits.TheConstants.{REPLIES_FULL};
 ghost use Rattle.vs_driver_parts.specs.Receiving.{is_reset_event};
-ghost use Rattle.vs_driver_parts.specs.Playing.{IsRingOf, IsAtWork, IsStaging, MayPublishAll, Plays};
+ghost use Rattle.vs_driver_parts.specs.Playing.{IsRingOf, IsAtWork, MayPublishAll, Plays, SamePages};
 
 use crate::driver::Driver;
 use byteorder::{ByteOrder, LittleEndian};
@@ -53,25 +56,51 @@ impl Driver {
         ensures calls { Plays (take_event (round_of self.old tally.old)) (R.contents ring.old) (round_of self.new tally.new, result) (R.contents ring.new) }
         ensures count { tally.new.count ≤ tally.old.count + 1 }
     {
+        match self.reap_event(ring, tally) {
+            Some(page) => {
+                self.stage_empty(ring, Queue::Event, page);
+                true
+            }
+            None => false,
+        }
+    }
+
+    /// Takes an event, and gives its page. Nothing where none is taken.
+    pub(crate) fn reap_event<R: DriverRing>(
+        &mut self,
+        ring: &mut R,
+        tally: &mut Tally,
+    ) -> Option<Page>
+        requires few { tally.old.count < 2 ^ 16 }
+        ensures back { OnSome result (R.flight ring.old ≡ one_more Event (R.flight ring.new)) }
+        ensures none { IfNone result (R.flight ring.new ≡ R.flight ring.old) }
+        ensures room { OnSome result ((R.flight ring.new).event < R.size ring.new) }
+        ensures same_staged { R.staged ring.new ≡ R.staged ring.old }
+        ensures same_size { R.size ring.new ≡ R.size ring.old }
+        ensures pages { SamePages self.old self.new }
+        ensures calls { Plays (reap_event (round_of self.old tally.old)) (R.contents ring.old) (round_of self.new tally.new, result) (R.contents ring.new) }
+        ensures count { tally.new.count ≤ tally.old.count + 1 }
+    {
         if self.replies.len() > REPLIES_FULL {
-            return false;
+            return None;
         }
         match ring.reap(Queue::Event) {
             Reaped::Back(page) => {
                 self.on_event(ring, &page, tally);
-                self.stage_empty(ring, Queue::Event, page);
-                true
+                Some(page)
             }
-            Reaped::None => false,
+            Reaped::None => None,
         }
     }
 
     // Takes a page of the event queue. At a transport reset the guest's CID is loaded.
     fn on_event<R: DriverRing>(&mut self, ring: &mut R, page: &Page, tally: &mut Tally)
-        requires ring { IsStaging Event (R.size ring.old) (R.flight ring.old) (R.staged ring.old) self.old }
         requires few { tally.old.count < 2 ^ 16 }
         requires replies { length self.old.replies ≤ REPLIES_FULL }
-        ensures ring { IsStaging Event (R.size ring.new) (R.flight ring.new) (R.staged ring.new) self.new }
+        ensures same_flight { R.flight ring.new ≡ R.flight ring.old }
+        ensures same_staged { R.staged ring.new ≡ R.staged ring.old }
+        ensures same_size { R.size ring.new ≡ R.size ring.old }
+        ensures pages { SamePages self.old self.new }
         ensures calls { Plays (event_taken page.now (round_of self.old tally.old)) (R.contents ring.old) (round_of self.new tally.new) (R.contents ring.new) }
         ensures count { tally.new.count ≡ tally.old.count + 1 }
     {
@@ -123,31 +152,61 @@ impl Driver {
         ensures calls { Plays (take_packet (round_of self.old tally.old)) (R.contents ring.old) (round_of self.new tally.new, result) (R.contents ring.new) }
         ensures count { tally.new.count ≤ tally.old.count + 1 }
     {
+        match self.reap_packet(ring, tally) {
+            Some(page) => {
+                self.stage_empty(ring, Queue::Rx, page);
+                true
+            }
+            None => false,
+        }
+    }
+
+    /// Takes a packet, and gives its page. Nothing where none is taken.
+    pub(crate) fn reap_packet<R: DriverRing>(
+        &mut self,
+        ring: &mut R,
+        tally: &mut Tally,
+    ) -> Option<Page>
+        requires few { tally.old.count < 2 ^ 16 }
+        ensures back { OnSome result (R.flight ring.old ≡ one_more Rx (R.flight ring.new)) }
+        ensures none { IfNone result (R.flight ring.new ≡ R.flight ring.old) }
+        ensures room { OnSome result ((R.flight ring.new).rx < R.size ring.new) }
+        ensures same_staged { R.staged ring.new ≡ R.staged ring.old }
+        ensures same_size { R.size ring.new ≡ R.size ring.old }
+        ensures pages { SamePages self.old self.new }
+        ensures calls { Plays (reap_packet (round_of self.old tally.old)) (R.contents ring.old) (round_of self.new tally.new, result) (R.contents ring.new) }
+        ensures count { tally.new.count ≤ tally.old.count + 1 }
+    {
         if self.replies.len() >= REPLIES_FULL {
-            return false;
+            return None;
         }
         match ring.reap(Queue::Rx) {
             Reaped::Back(page) => {
                 self.on_page(&page);
                 tally.count += 1;
-                self.stage_empty(ring, Queue::Rx, page);
-                true
+                Some(page)
             }
-            Reaped::None => false,
+            Reaped::None => None,
         }
     }
 
-    // Stages a page for the device to write into.
-    fn stage_empty<R: DriverRing>(&mut self, ring: &mut R, queue: Queue, page: Page)
-        requires ring { IsStaging queue (R.size ring.old) (R.flight ring.old) (R.staged ring.old) self.old }
+    /// Stages a page for the device to write into.
+    pub(crate) fn stage_empty<R: DriverRing>(&mut self, ring: &mut R, queue: Queue, page: Page)
+        requires room { at queue (R.flight ring.old) < R.size ring.old }
+        requires staged { R.staged ring.old ≡ with_count queue self.old.staged no_counts }
+        requires few { self.old.staged < STAGED_MAX }
         requires queue { queue ≡ Tx → ⊥ }
         requires may { MayPublishAll (stage_of queue [] self.old) (R.contents ring.old) }
-        ensures ring { IsAtWork queue (R.size ring.new) (R.flight ring.new) (R.staged ring.new) self.new }
+        ensures flight { R.flight ring.new ≡ one_more queue (R.flight ring.old) }
+        ensures staged { R.staged ring.new ≡ with_count queue self.new.staged no_counts }
+        ensures few { self.new.staged < STAGED_MAX }
+        ensures same_size { R.size ring.new ≡ R.size ring.old }
         ensures calls { Plays (stage_of queue [] self.old) (R.contents ring.old) self.new (R.contents ring.new) }
+        ensures state { self.new ≡ record self.old { staged = self.new.staged } }
     {
         let mut page = page;
         page.clear();
-        self.stage(ring, queue, page);
+        self.stage_page(ring, queue, page);
     }
 }
 

@@ -27,7 +27,8 @@ use Rattle.vs_driver_parts.specs.Conversations.{connect_of, connect_with_page, h
 use Rattle.vs_driver_parts.specs.Playing.{MayPublishAll, Plays}
 use Rattle.vs_driver_log.specs.Honest.{AgreesWith, IsFitState, IsFresh, IsHonestWith, ends_of_state}
 use Rattle.vs_driver_log.proofs.Keeping.{Keeps, keeps_bind, keeps_end, keeps_may, keeps_weaker, keeps_while}
-use Rattle.vs_driver_log.proofs.Ringing.{IsAtRest, IsLeft, Tells, agrees, at_rest, can_publish_other, moves, tells_weaker}
+use Rattle.vs_driver_log.specs.Staged.{IsLeft}
+use Rattle.vs_driver_log.proofs.Ringing.{IsAtRest, Tells, agrees, at_rest, can_publish_other, moves, tells_weaker}
 use Rattle.vs_driver_log.proofs.Staging.{Rests, SameBut, post_tx, reap_keeps}
 use Rattle.vs_driver_log.proofs.Putting.{connect_puts, send_puts}
 use Rattle.vs_driver_log.proofs.Polling.{not_tx_event, not_tx_rx, poll_keeps}
@@ -41,7 +42,7 @@ pub honest_of : (first : ℕ) (s : DriverState) (c : RingContents) → Rests fir
 honest_of first s c rests = tells_weaker (IsAtRest first s) (AgreesWith first s) (agrees first s) c rests
 
 -- A step that puts and gets nothing.
-changed : (first : ℕ) (s t : DriverState) (l : EndLog) → Changes s t → IsAtRest first s l → IsAtRest first t l
+pub changed : (first : ℕ) (s t : DriverState) (l : EndLog) → Changes s t → IsAtRest first s l → IsAtRest first t l
 changed first s t l step rest = (
   step.fits,
   record {
@@ -59,7 +60,7 @@ still_honest first s t c step honest =
 
 module _ (first : ℕ) where
   -- connect.
-  abbrev ConnectRests : DriverState × Result ℕ ConnectError → RingContents → Type 0
+  abbrev pub ConnectRests : DriverState × Result ℕ ConnectError → RingContents → Type 0
   ConnectRests x c = Rests first x.0 c
 
   opened_by : (b : Bool) (host : ℕ) (s : DriverState) (c : RingContents) → host < 2 ^ 32 → connect_refusal host s ≡ None → Rests first s c
@@ -72,7 +73,7 @@ module _ (first : ℕ) where
       (post_tx first s (connected host s) (request_bytes host s) c (λ l rest. connect_puts host s port rest.0 free) rests))
   opened_by false host s c port free rests = rests
 
-  connect_page_keeps : (host : ℕ) (s : DriverState) (c : RingContents) → host < 2 ^ 32 → connect_refusal host s ≡ None → Rests first s c
+  pub connect_page_keeps : (host : ℕ) (s : DriverState) (c : RingContents) → host < 2 ^ 32 → connect_refusal host s ≡ None → Rests first s c
       → Keeps ConnectRests (connect_with_page host s) c
   connect_page_keeps host s c port free rests = opened_by (has_page s) host s c port free rests
 
@@ -89,10 +90,10 @@ module _ (first : ℕ) where
   connect_keeps host s c port rests = connect_by (connect_refusal host s) host s c refl port rests
 
   -- send.
-  abbrev SendRests : DriverState × Sent → RingContents → Type 0
+  abbrev pub SendRests : DriverState × Sent → RingContents → Type 0
   SendRests x c = Rests first x.0 c
 
-  paged_by : (b : Bool) (e : DriverEntry) (payload : List ℕ) (s : DriverState) (c : RingContents) → (IsFitState s → Stands s e)
+  pub paged_by : (b : Bool) (e : DriverEntry) (payload : List ℕ) (s : DriverState) (c : RingContents) → (IsFitState s → Stands s e)
       → CanSend e.value.end (length payload) → length payload ≤ PAYLOAD_MAX → Rests first s c
       → Keeps SendRests (cond b (bind (post_packet (payload_bytes e payload s) s)
       (λ t. Done (connections.with_end (with_payload_sent e.value.end (length payload)) e t, sent.Took (length payload))))
@@ -106,7 +107,7 @@ module _ (first : ℕ) where
       (post_tx first s (after s) (payload_bytes e payload s) c (λ l rest. send_puts e payload s rest.0 (stands rest.0) can few) rests))
   paged_by false e payload s c stands can few rests = rests
 
-  can_send : (e : DriverEntry) (credit : ℕ) (bytes : List ℕ) → may_send_of e.value.end ≡ Ok credit
+  pub can_send : (e : DriverEntry) (credit : ℕ) (bytes : List ℕ) → may_send_of e.value.end ≡ Ok credit
       → CanSend e.value.end (length (payload_of credit bytes)) × (length (payload_of credit bytes) ≤ PAYLOAD_MAX)
   can_send e credit bytes is =
       let short = length-take (min credit PAYLOAD_MAX) bytes in

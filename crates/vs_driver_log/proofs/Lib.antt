@@ -11,3 +11,4 @@ pub mod Polling
 pub mod Changing
 pub mod Calls
 pub mod Shown
+pub mod Stepping

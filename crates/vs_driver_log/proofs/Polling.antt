@@ -30,7 +30,8 @@ use Rattle.vs_driver_parts.specs.Playing.{BringsFit, RingAllows}
 use Rattle.vs_driver_parts.proofs.Ids.{has_slot}
 use Rattle.vs_driver_log.specs.Honest.{IsFitState, ends_of_state}
 use Rattle.vs_driver_log.proofs.Keeping.{Keeps, keeps_bind, keeps_each, keeps_weaker, keeps_while}
-use Rattle.vs_driver_log.proofs.Ringing.{IsAtRest, IsLeft, Tells, moves, tells_weaker}
+use Rattle.vs_driver_log.specs.Staged.{IsLeft}
+use Rattle.vs_driver_log.proofs.Ringing.{IsAtRest, Tells, moves, tells_weaker}
 use Rattle.vs_driver_log.proofs.Putting.{owed_puts, reply_puts}
 use Rattle.vs_driver_log.proofs.Resetting.{resets}
 use Rattle.vs_driver_log.proofs.Staging.{Rests, SameBut, Ties, publish_other, publish_tx, reap_keeps, rests_tied, stage_other, stage_tx}
@@ -53,18 +54,18 @@ gets_by first s page (Some p) entries is fits ports left fair =
     let g = gets_packet first p s entries fits (ports p is) (packet_whole page p is).0 left.matches fair in
     (g.fits, record { none_refused = g.broken ∙ left.none_refused; packets = left.packets; matches = g.matches; fair = fair })
 
-gets_page : (first : ℕ) (s : DriverState) (page : List ℕ) (l : EndLog) → BringsFit page → IsAtRest first s l → IsFairLog Driver (log_reaped Rx (Some page) l).entries
+pub gets_page : (first : ℕ) (s : DriverState) (page : List ℕ) (l : EndLog) → BringsFit page → IsAtRest first s l → IsFairLog Driver (log_reaped Rx (Some page) l).entries
     → IsAtRest first (on_page page s) (log_reaped Rx (Some page) l)
 gets_page first s page l ports rest fair =
     let g = gets_by first s page (packet_held page) l.entries refl rest.0 ports rest.1 fair in
     (g.0, g.1, rest.2)
 
 -- An event comes back. Where it tells a reset, something passed.
-abbrev HasPassed : Bool → Log → Type 0
+abbrev pub HasPassed : Bool → Log → Type 0
 HasPassed true entries = (entry : LogEntry) × (older : Log) × (entries ≡ entry ∷ older)
 HasPassed false entries = Unit {0}
 
-abbrev AfterEvent : ℕ → List ℕ → DriverState → EndLog → Type 0
+abbrev pub AfterEvent : ℕ → List ℕ → DriverState → EndLog → Type 0
 AfterEvent first page s l = IsAtRest first s l × HasPassed (is_reset_event page) l.entries
 
 passed : (b : Bool) (entry : LogEntry) (older : Log) → HasPassed b (entry ∷ older)
@@ -81,7 +82,7 @@ event_by first s (Some id) entries left fair = (
   passed (id == 0) (GotEvent id) entries,
 )
 
-gets_event : (first : ℕ) (s : DriverState) (page : List ℕ) (l : EndLog) → IsAtRest first s l → IsFairLog Driver (log_reaped Event (Some page) l).entries
+pub gets_event : (first : ℕ) (s : DriverState) (page : List ℕ) (l : EndLog) → IsAtRest first s l → IsFairLog Driver (log_reaped Event (Some page) l).entries
     → AfterEvent first page s (log_reaped Event (Some page) l)
 gets_event first s page l rest fair =
     let e = event_by first s (event_held page) l.entries rest.1 fair in ((rest.0, e.0, rest.2), e.1)
@@ -99,20 +100,20 @@ loads first cid s l less rest has =
     (r.fits, subst (λ (log : Log). IsLeft first (after_reset cid s).broken (ends_of_state (after_reset cid s)) [] log) (sym marked) left, rest.2)
 
 module _ (first : ℕ) where
-  abbrev RoundRests : Round → RingContents → Type 0
+  abbrev pub RoundRests : Round → RingContents → Type 0
   RoundRests r c = Rests first r.state c
 
-  abbrev RoundTies : Round → RingContents → Type 0
+  abbrev pub RoundTies : Round → RingContents → Type 0
   RoundTies r c = Ties first r.state c
 
-  abbrev PairRests : Round × Bool → RingContents → Type 0
+  abbrev pub PairRests : Round × Bool → RingContents → Type 0
   PairRests x c = RoundRests x.0 c
 
-  abbrev PairTies : Round × Bool → RingContents → Type 0
+  abbrev pub PairTies : Round × Bool → RingContents → Type 0
   PairTies x c = RoundTies x.0 c
 
   -- Events.
-  taken_by : (b : Bool) (r : Round) (c : RingContents) → Tells (λ l. IsAtRest first r.state l × HasPassed b l.entries) c
+  pub taken_by : (b : Bool) (r : Round) (c : RingContents) → Tells (λ l. IsAtRest first r.state l × HasPassed b l.entries) c
       → Keeps RoundRests (cond b (Ask LoadCid (λ cid. Done (record r { state = after_reset cid r.state; count = r.count + 1; reset = true })))
       (Done (record r { count = r.count + 1 }))) c
   taken_by true r c tells = (
@@ -184,7 +185,7 @@ module _ (first : ℕ) where
           (stage_tx first r.state (record r.state { replies = rest }) (header_bytes (reply_header r.state.cid reply)) c (λ l tie. reply_puts reply rest r.state tie.0 is) ties)
       by false = ties
 
-  put_reply_keeps : (r : Round) (c : RingContents) → RoundTies r c → Keeps PairTies (put_reply r) c
+  pub put_reply_keeps : (r : Round) (c : RingContents) → RoundTies r c → Keeps PairTies (put_reply r) c
   put_reply_keeps r c ties = reply_by r.state.replies r c refl ties
 
   -- What a connection owes.
@@ -218,7 +219,7 @@ module _ (first : ℕ) where
   entry_by None slot r c found ties = ties
   entry_by (Some e) slot r c found ties = owes_by (owes_of e.value.end) slot e r c found refl ties
 
-  put_owed_keeps : (slot : ℕ) (r : Round) (c : RingContents) → RoundTies r c → Keeps PairTies (put_owed slot r) c
+  pub put_owed_keeps : (slot : ℕ) (r : Round) (c : RingContents) → RoundTies r c → Keeps PairTies (put_owed slot r) c
   put_owed_keeps slot r c ties = entry_by (entry_under r.state.table slot) slot r c refl ties
 
   pay_slot_keeps : (slot : ℕ) (r : Round) (c : RingContents) → RoundTies r c → Keeps RoundTies (pay_slot slot r) c

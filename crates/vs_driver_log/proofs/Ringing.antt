@@ -17,24 +17,14 @@ use Rattle.vs_ring_port.specs.Contents.{RingContents}
 use Rattle.vs_ring_port.specs.DriverCalls.{DriverMoves, HoldsPacket, CanPublish}
 use Rattle.vs_ring_port.specs.EndLog.{EndLog, all_put, log_published, log_staged, with_packet}
 use Rattle.vs_ring_port.specs.Lists.{Rings}
-use Rattle.vs_matching.specs.Ends.{Ends}
 use Rattle.vs_matching.specs.Matches.{Matches}
 use Rattle.vs_driver_parts.specs.State.{DriverState}
 use Rattle.vs_driver_log.specs.Honest.{AgreesWith, IsFitState, ends_of_state}
+use Rattle.vs_driver_log.specs.Staged.{IsLeft, IsTied}
 
 -- P holds of the log of an honest ring, where it tells it.
 abbrev pub Tells : (EndLog → Type 0) → RingContents → Type 0
 Tells P c = c.honest ≡ true → ForSome c.log P
-
--- The driver's connections are those that the log leaves with the packets that are staged, and it is fair with them.
-pub record IsLeft (first broken : ℕ) (part : Ends) (staged : List (List ℕ)) (entries : Log) : Type 0 where
-  pub none_refused : broken ≡ 0
-  pub packets : All HoldsPacket staged
-  pub matches : Matches Driver first part (all_put staged entries)
-  pub fair : IsFairLog Driver (all_put staged entries)
-
-abbrev pub IsTied : ℕ → DriverState → EndLog → Type 0
-IsTied first s l = IsFitState s × IsLeft first s.broken (ends_of_state s) l.staged.tx l.entries
 
 -- The same where no packet is staged.
 abbrev pub IsAtRest : ℕ → DriverState → EndLog → Type 0

@@ -11,7 +11,8 @@ use Rattle.vs_driver_parts.specs.State.{DriverState}
 use Rattle.vs_driver_parts.specs.Conversations.{one_more_in_flight, post_packet, publish_of, reap_all, reap_one, reaped, stage_of, stage_packet}
 use Rattle.vs_driver_parts.specs.Playing.{RingAllows}
 use Rattle.vs_driver_log.proofs.Keeping.{Keeps, keeps_while}
-use Rattle.vs_driver_log.proofs.Ringing.{IsAtRest, IsTied, Puts, Tells, can_publish, can_publish_other, moves, publishes, publishes_other, stages, stages_other, tells_weaker, tied}
+use Rattle.vs_driver_log.specs.Staged.{IsTied}
+use Rattle.vs_driver_log.proofs.Ringing.{IsAtRest, Puts, Tells, can_publish, can_publish_other, moves, publishes, publishes_other, stages, stages_other, tells_weaker, tied}
 
 -- What holds of the driver that a conversation ends with.
 abbrev pub Rests : ℕ → DriverState → RingContents → Type 0

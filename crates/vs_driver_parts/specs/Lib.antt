@@ -10,3 +10,4 @@ pub mod Held
 pub mod PageCounts
 pub mod PageFields
 pub mod SlotFields
+pub mod Steps

@@ -8,7 +8,7 @@ use Rattle.vs_ring_port.specs.declared.queue.Queue.{Queue}
 use Rattle.vs_ring_port.specs.declared.queue.Queue.TheVariants.{Rx}
 use Rattle.vs_ring_port.specs.declared.queue.TheConstants.{STAGED_MAX}
 use Rattle.vs_ring_port.specs.Contents.{RingContents}
-use Rattle.vs_ring_port.specs.Counts.{Counts, at, no_counts, one_more, with_count}
+use Rattle.vs_ring_port.specs.Counts.{Counts, no_counts, with_count}
 use Rattle.vs_ring_port.specs.DriverCalls.{DriverCall, DriverAnswer, Stage, Publish, Reap, LoadCid, DriverAllows, CanPublish}
 use Rattle.vs_driver_parts.specs.State.{DriverState}
 use Rattle.vs_driver_parts.specs.Conversations.{DriverTree}
@@ -35,11 +35,17 @@ pub record IsRingOf (n : ℕ) (flown waiting : Counts) (s : DriverState) : Type 
   pub staged : waiting ≡ no_counts
   pub none : s.staged ≡ 0
 
--- A page of a queue is about to be staged: with it all pages are in flight.
-pub record IsStaging (queue : Queue) (n : ℕ) (flown waiting : Counts) (s : DriverState) : Type 0 where
+-- What a step that moves one page has to find, however many receive and event pages are in flight: as many transmit pages as the
+-- driver counts, and none is staged; or as many of the queue in work are as it counts.
+pub record IsResting (n : ℕ) (flown waiting : Counts) (s : DriverState) : Type 0 where
   pub size : s.size ≡ n
-  pub flight : one_more queue flown ≡ all_flown n s
-  pub room : at queue flown < n
+  pub flight : flown.tx ≡ s.in_flight
+  pub staged : waiting ≡ no_counts
+  pub none : s.staged ≡ 0
+
+pub record IsWorking (queue : Queue) (n : ℕ) (flown waiting : Counts) (s : DriverState) : Type 0 where
+  pub size : s.size ≡ n
+  pub flight : flown.tx ≡ s.in_flight
   pub staged : waiting ≡ with_count queue s.staged no_counts
   pub few : s.staged < STAGED_MAX
 

@@ -82,6 +82,13 @@ impl Pages {
         self.free.push_reserved(page);
     }
 
+    /// Pages of the queue in work that are staged and not published.
+    pub fn staged(&self) -> u16
+        ensures { result ≡ self.now.staged }
+    {
+        self.staged
+    }
+
     /// Counts a page of the queue in work as staged.
     pub fn count_staged(&mut self)
         requires few { self.old.staged < STAGED_MAX }

@@ -5,3 +5,4 @@ mod Filling
 mod Staging
 mod Resetting
 mod WholeTurn
+mod Stepping

@@ -5,6 +5,7 @@ mod lines;
 mod proxy;
 mod shaking;
 mod stages;
+pub mod steps;
 #[cfg(test)]
 mod tests;
 mod turns;

@@ -72,8 +72,13 @@ impl Proxy {
         }
     }
 
-    // Reads the next byte of the line of the handshake on a stream, and tells whether more of the line is to be read.
-    fn read_byte<H: HostNet>(&mut self, host: &mut H, stream: u64, tally: &mut Tally) -> bool
+    /// Reads the next byte of the line of the handshake on a stream, and tells whether more of the line is to be read.
+    pub(crate) fn read_byte<H: HostNet>(
+        &mut self,
+        host: &mut H,
+        stream: u64,
+        tally: &mut Tally,
+    ) -> bool
         requires few { tally.old.hands < 2 ^ 18 }
         requires few_read { tally.old.read < 2 ^ 18 }
         requires may { MayRunOnHost (read_byte stream (turning_of self.old tally.old)) (H.contents host.old) (H.faults host.old) }

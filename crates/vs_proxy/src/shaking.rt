@@ -32,8 +32,13 @@ impl Proxy {
         }
     }
 
-    // Ends the handshake on a stream where it waits too long for its line.
-    fn tick_handshake<H: HostNet>(&mut self, host: &mut H, stream: u64, tally: &mut Tally)
+    /// Ends the handshake on a stream where it waits too long for its line.
+    pub(crate) fn tick_handshake<H: HostNet>(
+        &mut self,
+        host: &mut H,
+        stream: u64,
+        tally: &mut Tally,
+    )
         requires few { tally.old.hands < 2 ^ 16 }
         requires may { MayRunOnHost (tick_handshake stream (turning_of self.old tally.old)) (H.contents host.old) (H.faults host.old) }
         ensures count { tally.new.hands ≤ tally.old.hands + 1 }

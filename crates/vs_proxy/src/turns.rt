@@ -6,7 +6,7 @@ ghost use Rattle.vs_contents.specs.CallTree.{Leads, for_each};
 ghost use Rattle.vs_history.specs.declared.TheConstants.{BUF_ALLOC};
 ghost use Rattle.vs_ring_port.specs.EndLog.{EndLog};
 ghost use Rattle.vs_ring_port.specs.declared.failure.Failure.{Failure};
-ghost use Rattle.vs_device_parts.specs.Playing.{IsItsRing, MayRunOnHost, Runs, RunsOnHost, situation};
+ghost use Rattle.vs_device_parts.specs.Playing.{IsItsRing, MayRun, MayRunOnHost, Runs, RunsOnHost, situation};
 ghost use Rattle.vs_device_parts.specs.Turns.{counters_of, table_shown};
 ghost use Rattle.vs_device_parts.specs.State.{DeviceEntry};
 ghost use Rattle.vs_device_laws.specs.Streams.{HasStreams};
@@ -125,6 +125,29 @@ impl Proxy {
             → AreAccounted calls self.old.device.table self.old.handshakes (H.contents host.old)
             → StayAccounted (proxy_reset_of cid self.old) calls (self.new, result)
             self.new.device.table self.new.handshakes (H.contents host.new) }
+    {
+        self.reset_all(ring, host, cid)
+    }
+
+    /// The same, whatever chains are held beside the device's own.
+    pub(crate) fn reset_all<R: DeviceRing, H: HostNet>(
+        &mut self,
+        ring: &mut R,
+        host: &mut H,
+        cid: u64,
+    ) -> Result<(), Failure>
+        requires cid { (3 ≤ cid) × (cid ≤ 4294967294) }
+        requires may { MayRun (proxy_reset_of cid self.old) (situation (R.contents ring.old) (H.contents host.old) (H.faults host.old)) }
+        ensures ring { IsItsRing (R.held ring.old) self.old.device → IsItsRing (R.held ring.new) self.new.device }
+        ensures held { R.held ring.new ≡ R.held ring.old }
+        ensures chain { self.new.device.chain ≡ self.old.device.chain }
+        ensures calls { Runs (proxy_reset_of cid self.old) (situation (R.contents ring.old) (H.contents host.old) (H.faults host.old)) (self.new, result) (situation (R.contents ring.new) (H.contents host.new) (H.faults host.new)) }
+        ensures refused { IfErr result (λ f. self.old.device.failed ≡ Some f) }
+        ensures unchanged { OnErr result (self.new ≡ self.old) }
+        ensures kept { (f : Failure) → self.old.device.failed ≡ Some f → result ≡ Err f }
+        ensures empty { OnOk result ((self.new.device.table.entries ≡ []) × (self.new.device.replies ≡ []) × (self.new.handshakes ≡ [])) }
+        ensures published { OnOk result ((self.new.device.cid ≡ cid) × (self.new.device.event_owed ≡ true)) }
+        ensures port { self.new.next_port ≡ self.old.next_port }
     {
         self.device.reset(ring, host, cid)?;
         self.close_handshakes(host);

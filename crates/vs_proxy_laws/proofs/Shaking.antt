@@ -97,7 +97,7 @@ module _ (Can : Call → Situation → Type 0) (reaches : (call : Call) (s : Sit
         by port false = keeps_dropping
 
   -- TIMEOUTS
-  keeps_tick_handshake : (stream : ℕ) (t : Turning) (c : Situation) → Turns t c → Keeps Can Allows Turns (tick_handshake stream t) c
+  pub keeps_tick_handshake : (stream : ℕ) (t : Turning) (c : Situation) → Turns t c → Keeps Can Allows Turns (tick_handshake stream t) c
   keeps_tick_handshake stream t c has = by (handshake_on stream t.state) refl
     where
       late : (h : Handshake) → handshake_on stream t.state ≡ Some h → (b : Bool)
@@ -133,7 +133,7 @@ module _ (Can : Call → Situation → Type 0) (reaches : (call : Call) (s : Sit
       (HasStreams (streams_of t.state) t.state.device.table) allowed.host
       (λ k is has. has_moved (streams_of t.state) t.state.device.table k has (after_accept accepted.Failed k) (λ id still. still)) has
 
-  keeps_accept_one : (t : Turning) (c : Situation) → Turns t c → Keeps Can Allows Turns (accept_one t) c
+  pub keeps_accept_one : (t : Turning) (c : Situation) → Turns t c → Keeps Can Allows Turns (accept_one t) c
   keeps_accept_one t c has = by (nat_lt (length t.state.handshakes) HANDSHAKES)
     where
       by : (b : Bool) → Keeps Can Allows Turns (cond b (Ask Accept (λ answer. Done (accept_answered answer t))) (Done t)) c
@@ -159,7 +159,7 @@ module _ (Can : Call → Situation → Type 0) (reaches : (call : Call) (s : Sit
         keeps_then Can Allows TurnsFirst Turns (dropping h.stream (host_fault t)) (λ u. Done (u, false)) c
         (keeps_dropping h.stream (host_fault t) c there has) (λ u d kept. kept)
 
-  keeps_read_byte : (stream : ℕ) (t : Turning) (c : Situation) → Turns t c → Keeps Can Allows TurnsFirst (read_byte stream t) c
+  pub keeps_read_byte : (stream : ℕ) (t : Turning) (c : Situation) → Turns t c → Keeps Can Allows TurnsFirst (read_byte stream t) c
   keeps_read_byte stream t c has = by (handshake_on stream t.state) refl
     where
       by : (o : Option Handshake) → handshake_on stream t.state ≡ o → Keeps Can Allows TurnsFirst

@@ -1,8 +1,6 @@
-use Rattle.std.proofs.Common.{◌≡◌, ℕ, Bool, true, false, Option, sym, ap, subst, ◌∙◌, rules}
-use Rattle.vs_outside.specs.Host.{HostContents}
-use Rattle.vs_ring_port.specs.Contents.{RingContents}
+use Rattle.std.proofs.Common.{◌≡◌, ℕ, false, sym, subst, ◌∙◌, rules}
 use Rattle.vs_device_parts.specs.Calls.{Allows, CloseStream}
-use Rattle.vs_device_parts.specs.Playing.{AllowsOnHost, situation}
+use Rattle.vs_device_parts.specs.Playing.{situation}
 use Rattle.vs_device.proofs.Leaving.{is_closed_now}
 use Rattle.vs_device.proofs.closing.close_unless_closed.Goals as goal
 

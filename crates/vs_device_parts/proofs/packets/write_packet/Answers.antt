@@ -3,12 +3,9 @@ use Rattle.std.proofs.lemmas.Bool.Decides.{nat_tests}
 use Rattle.vs_ring_port.specs.Contents.{Write}
 use Rattle.vs_ring_port.specs.DeviceCalls.{DeviceAllows}
 use Rattle.vs_device_parts.specs.Playing.{situation}
-use Rattle.vs_device_parts.proofs.Held.{is_held}
+use Rattle.vs_device_parts.proofs.Held.{still_held}
 use Rattle.vs_device_parts.proofs.Writes.{may_return_header, may_write_payload, may_return_packet, header_written, packet_written}
 use Rattle.vs_device_parts.proofs.packets.write_packet.Goals as goal
-
-pub write-requires-clause-is_held : goal.write-requires-clause-is_held
-write-requires-clause-is_held g c = is_held (g.R.DeviceRing.held c.args.ring.now) c.args.chain c.requires.held
 
 pub done-requires-clause-written : goal.done-requires-clause-written
 done-requires-clause-written g c =
@@ -20,7 +17,7 @@ done-requires-clause-written g c =
     none c.requires.may.2 (subst P c.encode.ensures.bytes c.write.ensures.contents, refl, refl, tt) (omega arith)
 
 pub write-requires-else-is_empty-clause-is_held : goal.write-requires-else-is_empty-clause-is_held
-write-requires-else-is_empty-clause-is_held g c = is_held (g.R.DeviceRing.held c.write.new.self) c.args.chain (c.write.ensures.held ∙ c.requires.held)
+write-requires-else-is_empty-clause-is_held g c = still_held (g.R.DeviceRing.held c.args.ring.now) (g.R.DeviceRing.held c.write.new.self) c.args.chain c.write.ensures.held c.requires.is_held
 
 pub write-requires-else-is_empty-clause-no_gap : goal.write-requires-else-is_empty-clause-no_gap
 write-requires-else-is_empty-clause-no_gap g c =
@@ -33,7 +30,8 @@ write-requires-else-is_empty-clause-no_gap g c =
 
 pub done-requires-else-is_empty-clause-is_held : goal.done-requires-else-is_empty-clause-is_held
 done-requires-else-is_empty-clause-is_held g c =
-    is_held (g.R.DeviceRing.held c.write-else-is_empty.new.self) c.args.chain (c.write-else-is_empty.ensures.held ∙ (c.write.ensures.held ∙ c.requires.held))
+    still_held (g.R.DeviceRing.held c.args.ring.now) (g.R.DeviceRing.held c.write-else-is_empty.new.self) c.args.chain
+    (c.write-else-is_empty.ensures.held ∙ c.write.ensures.held) c.requires.is_held
 
 pub done-requires-else-is_empty-clause-written : goal.done-requires-else-is_empty-clause-written
 done-requires-else-is_empty-clause-written g c =

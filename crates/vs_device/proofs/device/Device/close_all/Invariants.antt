@@ -1,7 +1,6 @@
-use Rattle.std.proofs.Common.{◌≡◌, ℕ, ◌*◌, ◌≤◌, length, drop, Option}
+use Rattle.std.proofs.Common.{◌≡◌, ℕ, drop, Option}
 use Rattle.vs_contents.specs.CallTree.{for_each}
 use Rattle.vs_outside.specs.Host.{HostContents}
-use Rattle.vs_device_parts.specs.declared.limits.TheConstants.{CONNECTIONS, WRITE_MAX}
 use Rattle.vs_device_parts.specs.State.{DeviceState}
 use Rattle.vs_device_parts.specs.Playing.{MayRunOnHost, RunsOnHost}
 use Rattle.vs_flow.specs.Table.{slots}

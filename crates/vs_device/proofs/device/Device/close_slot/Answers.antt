@@ -1,21 +1,7 @@
-use Rattle.std.proofs.Common.{◌≡◌, ℕ, ◌+◌, ◌<◌, ◌∷◌, Bool, true, false, List, length, map, drop, Option, Some, None, is_some, Ok, Err, refl, sym, ap, subst, ◌∙◌, rules, arith}
-use Rattle.std.specs.List.{slice_get}
-use Rattle.std.specs.Option.{option_map}
-use Rattle.vs_contents.specs.CallTree.{for_each}
-use Rattle.vs_flow.specs.Table.{Table, entry_of, entry_under, value_under, has_place, refusal, slots}
-use Rattle.vs_flow.specs.declared.flow.Flow.{Flow}
-use Rattle.vs_conn.specs.declared.end.State.{State}
-use Rattle.vs_ring_port.specs.Contents.{RingContents}
-use Rattle.vs_device_parts.specs.Calls.{Situation, Allows, Label}
-use Rattle.vs_device_parts.specs.Connections.{stream_closed, with_client}
-use Rattle.vs_device_parts.specs.Playing.{MayClose, MayRun, Runs, situation}
-use Rattle.vs_device_parts.specs.State.{DeviceConnection, DeviceEntry, DeviceState}
-use Rattle.vs_device_parts.specs.Streams.{closing}
-use Rattle.vs_device_parts.specs.Turns.{after_reset, close_slot, open_of, reset_of}
-use Rattle.vs_device.specs.contracts.device.Device.{the_view}
-use Rattle.vs_device_parts.proofs.Each.{each_more, may_each_step, may_each_more, each_end}
-use Rattle.vs_device_parts.proofs.Under.{under}
-use Rattle.vs_device.proofs.Resetting.{closes, opened, may_close_all, was_reset}
+use Rattle.std.proofs.Common.{◌≡◌, true, Some, is_some, sym, ap, ◌∙◌, rules}
+use Rattle.vs_flow.specs.Table.{entry_under, value_under}
+use Rattle.vs_device_parts.specs.State.{DeviceState}
+use Rattle.vs_device.proofs.Resetting.{closes}
 use Rattle.vs_device_parts.proofs.Under.{some_value}
 use Rattle.vs_device.proofs.device.Device.close_slot.Goals as goal
 

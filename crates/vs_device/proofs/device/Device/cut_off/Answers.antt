@@ -1,13 +1,10 @@
-use Rattle.std.proofs.Common.{◌≡◌, ℕ, Some, refl, sym, ap, ◌∙◌}
+use Rattle.std.proofs.Common.{◌≡◌, Some, refl, sym}
 use Rattle.vs_contents.proofs.Leads.{leads_to}
-use Rattle.vs_flow.specs.Table.{Table, entry_under, with_value}
+use Rattle.vs_flow.specs.Table.{entry_under, with_value}
 use Rattle.vs_device_parts.specs.Calls.{Allows}
-use Rattle.vs_device_parts.specs.State.{DeviceConnection, DeviceState}
-use Rattle.vs_device_parts.specs.Connections.{with_connection, cut_off, stream_closed, after_leaving}
-use Rattle.vs_device_parts.specs.Playing.{situation}
-use Rattle.vs_device_parts.specs.Streams.{closing, leaving}
+use Rattle.vs_device_parts.specs.Connections.{cut_off}
 use Rattle.vs_device.specs.contracts.device.Device.{the_view}
-use Rattle.vs_device.proofs.Leaving.{changed, leaves}
+use Rattle.vs_device.proofs.Leaving.{changed}
 use Rattle.vs_device_parts.proofs.Under.{has_slot, value_of}
 use Rattle.vs_device.proofs.device.Device.cut_off.Goals as goal
 

@@ -1,21 +1,14 @@
-use Rattle.std.proofs.Common.{◌≡◌, ℕ, Bool, true, false, Option, Some, None, Result, Ok, Err, refl, sym, ap, subst, ◌∙◌, rules, arith}
-use Rattle.byteorder.specs.Endian.{little_bytes}
-use Rattle.vs_outside.specs.Host.{HostContents}
-use Rattle.vs_ring_port.specs.Contents.{RingContents, Take, Write, Return, PublishCid}
+use Rattle.std.proofs.Common.{◌≡◌, Bool, true, false, None, Result, Ok, Err, refl, sym, ap, subst, rules}
+use Rattle.vs_ring_port.specs.Contents.{Take}
 use Rattle.vs_ring_port.specs.declared.device_ring.Next.{Next}
 use Rattle.vs_ring_port.specs.declared.device_ring.Next.TheVariants as next
 use Rattle.vs_ring_port.specs.declared.failure.Failure.{Failure}
 use Rattle.vs_ring_port.specs.declared.queue.Queue.TheVariants.{Event}
-use Rattle.vs_contents.specs.CallTree.{for_each}
-use Rattle.vs_flow.specs.Table.{slots}
-use Rattle.vs_device_parts.specs.Calls.{Situation, Allows, Ring}
-use Rattle.vs_device_parts.specs.Playing.{MayRun, Runs, situation}
+use Rattle.vs_device_parts.specs.Calls.{Allows, Ring}
+use Rattle.vs_device_parts.specs.Playing.{MayRun, situation}
 use Rattle.vs_device_parts.specs.State.{DeviceState}
-use Rattle.vs_device_parts.specs.Receiving.{event_on, pay_event_of}
-use Rattle.vs_device_parts.specs.Turns.{after_reset, close_slot, reset_of}
-use Rattle.vs_device.specs.contracts.device.Device.{the_view}
-use Rattle.vs_device.proofs.EventPaying.{may_event, took_event, by_chain, put, may_return}
-use Rattle.vs_device.proofs.Resetting.{may_close_all, was_reset}
+use Rattle.vs_device_parts.specs.Receiving.{event_on}
+use Rattle.vs_device.proofs.EventPaying.{may_event, took_event, by_chain}
 use Rattle.vs_device.proofs.Ordered.{pay_honest}
 use Rattle.vs_device.proofs.Accounted.{pay_accounted}
 use Rattle.vs_device.proofs.device.Device.pay_event.Goals as goal

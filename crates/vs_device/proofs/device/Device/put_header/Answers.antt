@@ -1,12 +1,14 @@
-use Rattle.std.proofs.Common.{◌≡◌, ◌+◌, true, false, Option, Some, None, sym, ap, ◌∙◌}
+use Rattle.std.proofs.Common.{◌≡◌, ◌+◌, ◌≤◌, true, false, Option, Some, None, sym, ap, ◌∙◌, arith}
+use Rattle.vs_header.specs.declared.TheConstants.{HEADER_LEN}
 use Rattle.vs_contents.proofs.Leads.{leads_to}
 use Rattle.vs_ring_port.specs.declared.device_ring.Chain.{Chain}
 use Rattle.vs_device_parts.specs.Calls.{Allows}
 use Rattle.vs_device_parts.specs.Filling.{filling_of, put_header}
-use Rattle.vs_device_parts.specs.Playing.{situation}
+use Rattle.vs_device_parts.specs.Playing.{IsRxChain, beside, situation}
 use Rattle.vs_device_parts.specs.Receiving.{Filling}
 use Rattle.vs_device_parts.specs.State.{DeviceState}
 use Rattle.vs_device.specs.contracts.device.Device.{the_view}
+use Rattle.vs_device.proofs.Among.{beside_one, held_one, none_among}
 use Rattle.vs_device.proofs.Putting.{after_put, header_put, header_waits, may_write}
 use Rattle.vs_device.proofs.device.Device.put_header.Goals as goal
 
@@ -49,3 +51,24 @@ returns-clause-calls g c = λ host faults.
     let state : the_view (record d { chain = c.take.new.self }) ≡ record c.hold.new.self { chain = None } =
     ap (λ (o : Option Chain). the_view (record d { chain = o })) c.in-Some.ensures.after ∙ ap (λ (s : DeviceState). record s { chain = None }) c.self.view_is in
     leads_to Allows (put_header c.args.header.now r) from end (after_put q, true) _ (ap (λ (s : DeviceState). (record q { state = s; put = q.put + 1 }, true)) (sym state)) put
+
+pub write_packet-requires-clause-is_held : goal.write_packet-requires-clause-is_held
+write_packet-requires-clause-is_held g c =
+    let is : c.hold.new.self.chain ≡ Some c.in-Some.chain = ap (λ (s : DeviceState). s.chain) (sym c.self.view_is) ∙ sym c.in-Some.ensures.value in
+    (held_one c.hold.new.self.chain c.in-Some.chain (g.R.DeviceRing.held c.hold.new.ring) is c.hold.ensures.ring).0
+
+pub write_packet-requires-clause-room : goal.write_packet-requires-clause-room
+write_packet-requires-clause-room g c =
+    let is : c.hold.new.self.chain ≡ Some c.in-Some.chain = ap (λ (s : DeviceState). s.chain) (sym c.self.view_is) ∙ sym c.in-Some.ensures.value in
+    let rx : IsRxChain c.in-Some.chain = (held_one c.hold.new.self.chain c.in-Some.chain (g.R.DeviceRing.held c.hold.new.ring) is c.hold.ensures.ring).1 in
+    let long : HEADER_LEN + 1 ≤ c.in-Some.chain.writable = rx.1 in
+    omega (arith, long)
+
+pub returns-clause-ring : goal.returns-clause-ring
+returns-clause-ring g c = none_among _ _ c.in-Some.ensures.after
+
+pub returns-clause-beside : goal.returns-clause-beside
+returns-clause-beside g c =
+    let is : c.hold.new.self.chain ≡ Some c.in-Some.chain = ap (λ (s : DeviceState). s.chain) (sym c.self.view_is) ∙ sym c.in-Some.ensures.value in
+    ap (λ (o : Option Chain). beside o (g.R.DeviceRing.held c.write_packet.new.ring)) c.in-Some.ensures.after
+    ∙ (c.write_packet.ensures.held ∙ (beside_one c.hold.new.self.chain c.in-Some.chain (g.R.DeviceRing.held c.hold.new.ring) is ∙ c.hold.ensures.beside))

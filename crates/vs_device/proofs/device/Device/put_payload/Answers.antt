@@ -8,10 +8,11 @@ use Rattle.vs_ring_port.specs.declared.device_ring.Chain.{Chain}
 use Rattle.vs_device_parts.specs.Calls.{Allows}
 use Rattle.vs_device_parts.specs.Connections.{with_connection, route_to_guest}
 use Rattle.vs_device_parts.specs.Filling.{filling_of}
-use Rattle.vs_device_parts.specs.Playing.{MayRun, Runs, situation}
+use Rattle.vs_device_parts.specs.Playing.{MayRun, Runs, beside, situation}
 use Rattle.vs_device_parts.specs.Receiving.{Filling, written, put_payload}
 use Rattle.vs_device_parts.specs.State.{DeviceConnection, DeviceEntry, DeviceState}
 use Rattle.vs_device.specs.contracts.device.Device.{the_view}
+use Rattle.vs_device.proofs.Among.{beside_one, held_one, none_among}
 use Rattle.vs_device.proofs.Paying.{mapped}
 use Rattle.vs_device.proofs.Reading.{header, after_payload, payload_put, may_put}
 use Rattle.vs_device_parts.proofs.Under.{has_slot, value_of}
@@ -62,3 +63,17 @@ returns-clause-calls g c = λ e chain is held host faults.
     let p : Filling = after_payload chain e payload r in
     leads_to Allows (put_payload chain e payload r) from to p (record p { state = the_view (record d { slots = c.sent.new.self; chain = c.take.new.self; last_put = Some slot }) })
     (ap (λ (x : DeviceState). record p { state = x }) (sym state)) (payload_put chain e payload r from to writes)
+
+pub write_packet-requires-clause-is_held : goal.write_packet-requires-clause-is_held
+write_packet-requires-clause-is_held g c =
+    let is : c.args.self.now.chain ≡ Some c.in-Some-take.chain = ap (λ (x : DeviceState). x.chain) (sym c.self.view_is) ∙ sym c.in-Some-take.ensures.value in
+    (held_one c.args.self.now.chain c.in-Some-take.chain (g.R.DeviceRing.held c.args.ring.now) is c.requires.ring).0
+
+pub returns-clause-ring : goal.returns-clause-ring
+returns-clause-ring g c = none_among _ _ c.in-Some-take.ensures.after
+
+pub returns-clause-beside : goal.returns-clause-beside
+returns-clause-beside g c =
+    let is : c.args.self.now.chain ≡ Some c.in-Some-take.chain = ap (λ (x : DeviceState). x.chain) (sym c.self.view_is) ∙ sym c.in-Some-take.ensures.value in
+    ap (λ (o : Option Chain). beside o (g.R.DeviceRing.held c.write_packet.new.ring)) c.in-Some-take.ensures.after
+    ∙ (c.write_packet.ensures.held ∙ beside_one c.args.self.now.chain c.in-Some-take.chain (g.R.DeviceRing.held c.args.ring.now) is)

@@ -4,6 +4,7 @@ use Rattle.vs_device_parts.specs.Calls.{Allows}
 use Rattle.vs_device_parts.specs.Filling.{filling_of}
 use Rattle.vs_device_parts.specs.Playing.{CanMake, situation}
 use Rattle.vs_device_parts.specs.Receiving.{Filling, put_reply}
+use Rattle.vs_device.proofs.Among.{among, ring_of}
 use Rattle.vs_device.proofs.device.Device.put_replies.Goals as goal
 
 pub put_reply-requires-clause-may : goal.put_reply-requires-clause-may
@@ -32,7 +33,7 @@ loop-preserved g c =
         may_more Allows put_reply CanMake c.len-most.result c.loop.counter before after (situation from may.0 may.1) (situation to may.0 may.1)
             c.loop-test.true may.2 (c.if-not-put_reply.ensures.calls may.0 may.1),
       );
-      ring = c.if-not-put_reply.ensures.ring;
+      ring = ring_of _ _ _ _ c.loop.invariant.ring c.if-not-put_reply.ensures.beside c.if-not-put_reply.ensures.ring;
       going = c.if-not-put_reply.ensures.over refl;
       small = omega (arith, c.loop.invariant.small, c.if-not-put_reply.ensures.count);
       read = c.if-not-put_reply.ensures.read ∙ c.loop.invariant.read;
@@ -44,3 +45,9 @@ returns-clause-calls g c = λ host faults.
     let r : Filling = filling_of c.loop.self c.loop.fill in
     let from = situation (g.R.DeviceRing.contents c.loop.ring) host faults in
     c.loop.invariant.goes_on host faults r from (while_end Allows put_reply c.len-most.result c.loop.counter r from c.loop-test.false)
+
+pub put_reply-requires-clause-ring : goal.put_reply-requires-clause-ring
+put_reply-requires-clause-ring g c = among _ _ c.loop.invariant.ring
+
+pub returns-then-not-put_reply-clause-ring : goal.returns-then-not-put_reply-clause-ring
+returns-then-not-put_reply-clause-ring g c = ring_of _ _ _ _ c.loop.invariant.ring c.if-not-put_reply.ensures.beside c.if-not-put_reply.ensures.ring

@@ -14,7 +14,7 @@ use Rattle.vs_wrap.specs.Wrap.{counted}
 use Rattle.vs_device_parts.specs.Calls.{Allows}
 use Rattle.vs_device_parts.specs.Connections.{with_fault, after_shut, cut_off}
 use Rattle.vs_device_parts.specs.Filling.{filling_of}
-use Rattle.vs_device_parts.specs.Playing.{CanMake, IsRxChain, MayRun, Runs, situation}
+use Rattle.vs_device_parts.specs.Playing.{CanMake, MayRun, Runs, situation}
 use Rattle.vs_device_parts.specs.Receiving.{Filling, may_read, read_room, put_payload}
 use Rattle.vs_device_parts.specs.State.{DeviceConnection, DeviceEntry, DeviceState}
 use Rattle.vs_device_parts.specs.Streams.{closing}
@@ -22,6 +22,7 @@ use Rattle.vs_device.specs.contracts.device.Device.{the_view}
 use Rattle.vs_device.proofs.Leaving.{changed, may_close}
 use Rattle.vs_device.proofs.Reading.{answered, may_ask, may_answered, can_send, if_some, at_some, same_read, fits}
 use Rattle.vs_device_parts.proofs.Under.{has_slot, value_of, under}
+use Rattle.vs_device.proofs.Among.{held_one}
 use Rattle.vs_device.proofs.device.Device.read_with_chain.Goals as goal
 
 pub read_into-requires-clause-open : goal.read_into-requires-clause-open
@@ -61,7 +62,7 @@ put_payload-requires-clause-room g c =
     let conn : DeviceConnection = c.in-Some-connection.connection.now in
     let n = c.in-Got.n in
     let bytes : List ℕ = take n c.read_into.new.out in
-    let long : HEADER_LEN + 1 ≤ chain.writable = (at_some s.chain chain IsRxChain held c.requires.ring.rx).1 in
+    let long : HEADER_LEN + 1 ≤ chain.writable = (held_one s.chain chain (g.R.DeviceRing.held c.args.ring.now) held c.requires.ring).1.1 in
     let room : c.read_room-room.result ≡ read_room (free_of conn.end.credit) chain = c.read_room-room.ensures.room chain refl ∙ ap (λ (k : ℕ). read_room k chain) c.free.ensures in
     let f = fits conn.end chain n long (omega (arith, room, c.in-Got.ensures.some.0)) in
     let len : length bytes ≡ n = length-take-le n c.read_into.new.out (omega (arith, f.most, c.read_into.auto.out)) in
@@ -82,7 +83,7 @@ put_payload-requires-clause-credit g c =
     let conn : DeviceConnection = c.in-Some-connection.connection.now in
     let n = c.in-Got.n in
     let bytes : List ℕ = take n c.read_into.new.out in
-    let long : HEADER_LEN + 1 ≤ chain.writable = (at_some s.chain chain IsRxChain held c.requires.ring.rx).1 in
+    let long : HEADER_LEN + 1 ≤ chain.writable = (held_one s.chain chain (g.R.DeviceRing.held c.args.ring.now) held c.requires.ring).1.1 in
     let room : c.read_room-room.result ≡ read_room (free_of conn.end.credit) chain = c.read_room-room.ensures.room chain refl ∙ ap (λ (k : ℕ). read_room k chain) c.free.ensures in
     let f = fits conn.end chain n long (omega (arith, room, c.in-Got.ensures.some.0)) in
     let len : length bytes ≡ n = length-take-le n c.read_into.new.out (omega (arith, f.most, c.read_into.auto.out)) in

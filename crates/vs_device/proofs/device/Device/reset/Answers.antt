@@ -1,20 +1,7 @@
-use Rattle.std.proofs.Common.{◌≡◌, ℕ, Bool, true, false, Option, Some, None, Result, Ok, Err, refl, sym, ap, subst, ◌∙◌, rules, arith}
-use Rattle.byteorder.specs.Endian.{little_bytes}
-use Rattle.vs_outside.specs.Host.{HostContents}
-use Rattle.vs_ring_port.specs.Contents.{RingContents, Take, Write, Return, PublishCid}
-use Rattle.vs_ring_port.specs.declared.device_ring.Next.{Next}
-use Rattle.vs_ring_port.specs.declared.device_ring.Next.TheVariants as next
-use Rattle.vs_ring_port.specs.declared.failure.Failure.{Failure}
-use Rattle.vs_ring_port.specs.declared.queue.Queue.TheVariants.{Event}
-use Rattle.vs_contents.specs.CallTree.{for_each}
-use Rattle.vs_flow.specs.Table.{slots}
-use Rattle.vs_device_parts.specs.Calls.{Situation, Allows, Ring}
-use Rattle.vs_device_parts.specs.Playing.{MayRun, Runs, situation}
+use Rattle.std.proofs.Common.{◌≡◌, None, Ok, ap, ◌∙◌, rules, arith}
+use Rattle.vs_device_parts.specs.Playing.{situation}
 use Rattle.vs_device_parts.specs.State.{DeviceState}
-use Rattle.vs_device_parts.specs.Receiving.{event_on, pay_event_of}
-use Rattle.vs_device_parts.specs.Turns.{after_reset, close_slot, reset_of}
-use Rattle.vs_device.specs.contracts.device.Device.{the_view}
-use Rattle.vs_device.proofs.EventPaying.{may_event, took_event, by_chain, put, may_return}
+use Rattle.vs_device.proofs.Among.{same_ring}
 use Rattle.vs_device.proofs.Resetting.{may_close_all, was_reset}
 use Rattle.vs_device.proofs.Ordered.{reset_honest, reset_streams}
 use Rattle.vs_device.proofs.Accounted.{reset_accounted}
@@ -63,3 +50,14 @@ returns-clause-bytes g c =
     (situation (g.R.DeviceRing.contents c.publish_cid.new.ring) (g.H.HostNet.contents c.close_all.new.host) (g.H.HostNet.faults c.close_all.new.host))
     c.args.cid (c.forget.new.self, Ok tt)
     (returns-clause-calls g c)
+
+pub returns-clause-held : goal.returns-clause-held
+returns-clause-held g c = c.publish_cid.ensures.held
+
+pub returns-clause-chain : goal.returns-clause-chain
+returns-clause-chain g c = ap (λ (s : DeviceState). s.chain) c.forget.ensures ∙ c.close_all.ensures.chain
+
+pub returns-clause-ring : goal.returns-clause-ring
+returns-clause-ring g c = λ its _.
+    let sound : c.args.self.now.failed ≡ None = rw (← c.self.view_is) (search rules) in
+    same_ring _ _ _ _ (returns-clause-held g c) (returns-clause-chain g c) (its sound)

@@ -1,23 +1,12 @@
-use Rattle.std.proofs.Common.{◌≡◌, ◌≢◌, ℕ, ◌+◌, ◌*◌, ◌≤◌, ◌<◌, Bool, true, false, List, length, drop, get_or, Option, Some, None, refl, sym, ap, subst, ◌∙◌, rules, arith}
-use Rattle.std.specs.Option.{ForSome, IfSome}
-use Rattle.vs_contents.specs.CallTree.{for_each}
-use Rattle.vs_contents.proofs.Leads.{leads_to}
-use Rattle.vs_flow.specs.Table.{Table, entry_under, value_under, with_value, slots}
-use Rattle.vs_outside.specs.Host.{HostContents, IsOpen, TakesSome}
-use Rattle.vs_outside.specs.declared.host_net.StreamWrite.{StreamWrite}
-use Rattle.vs_outside.specs.declared.host_net.StreamWrite.TheVariants as write
+use Rattle.std.proofs.Common.{◌≡◌, ◌≢◌, ℕ, List, length, Some, sym, ap, subst, ◌∙◌, rules}
+use Rattle.vs_flow.specs.Table.{entry_under, value_under}
 use Rattle.vs_ring_port.specs.Contents.{RingContents}
-use Rattle.vs_device_parts.specs.Calls.{Situation, Allows, WriteStream, ShutWrite}
-use Rattle.vs_device_parts.specs.State.{DeviceConnection, DeviceEntry, DeviceState}
-use Rattle.vs_device_parts.specs.Connections.{with_connection, with_fault, cut_off, after_shut, after_written}
-use Rattle.vs_device_parts.specs.Playing.{MayClose, MayRun, MayRunOnHost, Runs, RunsOnHost, situation}
-use Rattle.vs_device_parts.specs.Streams.{closing, Writing, pump_of, pump_slot, write_pending, write_answered, to_write, shut_write, is_written_out, tick_slot, tick_of}
+use Rattle.vs_device_parts.specs.Calls.{Situation, Allows, WriteStream}
+use Rattle.vs_device_parts.specs.State.{DeviceConnection, DeviceState}
+use Rattle.vs_device_parts.specs.Playing.{situation}
+use Rattle.vs_device_parts.specs.Streams.{Writing, to_write}
 use Rattle.vs_device_parts.specs.Written.{writing}
-use Rattle.vs_device.specs.contracts.device.Device.{the_view}
-use Rattle.vs_device.proofs.Leaving.{changed, may_close}
-use Rattle.vs_device_parts.proofs.Under.{IsUnder, under, has_slot, value_of, none_under}
-use Rattle.vs_device_parts.proofs.Each.{each_more, may_each_step, may_each_more, each_end}
-use Rattle.vs_device.proofs.Pumping.{took, host_closed, write_failed, may_fail, may_be_answered, wrote, may_shut_write, was_shut, took_within, HasStream, has_stream, may_write_pending, may_shut_then, pumped}
+use Rattle.vs_device.proofs.Pumping.{may_be_answered, wrote}
 use Rattle.std.proofs.Common.{take}
 use Rattle.vs_device_parts.proofs.Under.{value_is}
 use Rattle.vs_device.proofs.device.Device.write_pending.Goals as goal

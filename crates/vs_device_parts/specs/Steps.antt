@@ -1,5 +1,5 @@
 -- The steps of device and proxy: each moves one page at most, with the host's calls that go with it, or is one call on the host.
-use Rattle.std.specs.Prelude.{ℕ, ◌-◌, ◌==◌, nat_lt, nat_le, false, if◌then◌else◌, length, Some, None}
+use Rattle.std.specs.Prelude.{ℕ, ◌-◌, ◌==◌, nat_lt, nat_le, Bool, true, false, if◌then◌else◌, length, Some, None, Result, Ok, Err}
 use Rattle.byteorder.specs.Endian.{little_bytes}
 use Rattle.vs_contents.specs.CallTree.{Done, Ask, bind}
 use Rattle.vs_credit.specs.Credit.{free_of}
@@ -12,6 +12,8 @@ use Rattle.vs_ring_port.specs.Contents.{Take, Read, Write, Return}
 use Rattle.vs_ring_port.specs.declared.device_ring.Chain.{Chain}
 use Rattle.vs_ring_port.specs.declared.device_ring.Next.{Next}
 use Rattle.vs_ring_port.specs.declared.device_ring.Next.TheVariants as next
+use Rattle.vs_conn.specs.declared.end.Verdict.{Verdict}
+use Rattle.vs_ring_port.specs.declared.failure.Failure.{Failure}
 use Rattle.vs_ring_port.specs.declared.failure.Failure.TheVariants as failure
 use Rattle.vs_ring_port.specs.declared.queue.Queue.{Queue}
 use Rattle.vs_ring_port.specs.declared.queue.Queue.TheVariants.{Rx, Tx, Event}
@@ -36,6 +38,16 @@ chain_came (next.Failed f) s = Done (failing f s)
 
 abbrev pub filling : DeviceState → Filling
 filling s = record { state = s; put = 0; read = 0; over = false }
+
+-- The packet in a chain is heard: with its verdict, or the failure that it says more payload than the chain has.
+abbrev pub heard_header : Chain → Header → DeviceState → DeviceTree (DeviceState × Result Verdict Failure)
+heard_header chain h s =
+    let held = chain.readable - HEADER_LEN in
+    if nat_lt held h.len then (let f = failure.PayloadShort h.len held in Done (failing f s, Err f))
+    else bind (on_packet chain h s) (λ r. Done (r.0, Ok r.1))
+
+abbrev pub heard_chain : Chain → DeviceState → DeviceTree (DeviceState × Result Verdict Failure)
+heard_chain chain s = Ask (Ring (Read chain 0 HEADER_LEN)) (λ bytes. heard_header chain (header_of bytes) s)
 
 -- It takes one page of a queue. A transmit packet it takes while fewer than 64 replies are owed, a receive page where it holds none, an
 -- event page where an event is owed.
@@ -69,6 +81,16 @@ reads e s =
     (if free_of e.value.end.credit == 0 then Done (with_connection e.slot (record e.value { end = wanting_credit e.value.end }) s)
     else bind (read_with_chain e (filling s)) (λ r. Done r.state))
     else Done s
+
+-- Whether a connection's stream is to be read: where it may send and has no credit it wants some.
+abbrev pub to_read : ℕ → DeviceState → DeviceState × Bool
+to_read slot s = elim (entry_under s.table slot) [
+  | None ↦ (s, false)
+  | Some e ↦
+      if may_read e.value.end e.value.end.state then
+      (if free_of e.value.end.credit == 0 then (with_connection e.slot (record e.value { end = wanting_credit e.value.end }) s, false) else (s, true))
+      else (s, false)
+]
 
 abbrev pub puts_payload : ℕ → DeviceState → DeviceTree DeviceState
 puts_payload slot s = elim (entry_under s.table slot) [ None ↦ Done s | Some e ↦ reads e s ]

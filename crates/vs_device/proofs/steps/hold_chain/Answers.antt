@@ -1,0 +1,24 @@
+use Rattle.std.proofs.Common.{subst}
+use Rattle.vs_device_parts.specs.Filling.{filling_of}
+use Rattle.vs_device_parts.specs.Playing.{Runs, situation}
+use Rattle.vs_device_parts.specs.Receiving.{Filling, hold}
+use Rattle.vs_device_parts.specs.declared.fill.Fill.{Fill}
+use Rattle.vs_device.proofs.Stepping.{hold_stepped}
+use Rattle.vs_device_parts.specs.Steps.{takes_chain}
+use Rattle.vs_device_laws.proofs.Stepping.{takes_keeps}
+use Rattle.vs_device.proofs.Ordered.{ring_step_streams}
+use Rattle.vs_ring_port.specs.declared.queue.Queue.TheVariants.{Rx}
+use Rattle.vs_device.proofs.steps.hold_chain.Goals as goal
+
+pub returns-clause-calls : goal.returns-clause-calls
+returns-clause-calls g c = λ host faults.
+    let x = situation (g.R.DeviceRing.contents c.args.ring.now) host faults in
+    let y = situation (g.R.DeviceRing.contents c.hold.new.ring) host faults in
+    let q : Filling = filling_of c.hold.new.self c.hold.new.fill in
+    let P : Fill → Type 0 = λ f. Runs (hold (filling_of c.args.device.now f)) x q y in
+    hold_stepped c.args.device.now q x y (subst P c.none-fill.ensures (c.hold.ensures.calls host faults))
+
+pub returns-clause-streams : goal.returns-clause-streams
+returns-clause-streams g c = λ others host.
+    ring_step_streams (takes_chain Rx c.args.device.now) others c.args.device.now c.hold.new.self (g.R.DeviceRing.contents c.args.ring.now) (g.R.DeviceRing.contents c.hold.new.ring) host
+    (takes_keeps others Rx c.args.device.now) (returns-clause-calls g c)

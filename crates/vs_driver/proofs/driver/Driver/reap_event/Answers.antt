@@ -1,0 +1,16 @@
+use Rattle.std.proofs.Common.{◌≡◌, false, nat_lt, length, rules}
+use Rattle.vs_driver_parts.specs.declared.limits.TheConstants.{REPLIES_FULL}
+use Rattle.vs_driver_parts.specs.Conversations.{round_of}
+use Rattle.vs_driver.proofs.Taking.{no_event, one_event}
+use Rattle.vs_driver.proofs.driver.Driver.reap_event.Goals as goal
+
+pub returns-in-Back-clause-calls : goal.returns-in-Back-clause-calls
+returns-in-Back-clause-calls g c =
+    let few : nat_lt REPLIES_FULL (length c.args.self.now.replies) ≡ false = search rules in
+    one_event (round_of c.args.self.now c.args.tally.now) (g.R.DriverRing.contents c.args.ring.now) (round_of c.on_event.new.self c.on_event.new.tally) c.in-Back.page
+    (g.R.DriverRing.contents c.reap.new.self) (g.R.DriverRing.contents c.on_event.new.ring) few c.in-Back.ensures.contents c.on_event.ensures.calls
+
+pub returns-in-None-clause-calls : goal.returns-in-None-clause-calls
+returns-in-None-clause-calls g c =
+    let few : nat_lt REPLIES_FULL (length c.args.self.now.replies) ≡ false = search rules in
+    no_event (round_of c.args.self.now c.args.tally.now) (g.R.DriverRing.contents c.args.ring.now) (g.R.DriverRing.contents c.reap.new.self) few c.in-None.ensures.contents

@@ -1,0 +1,88 @@
+-- The driver's steps: each moves one page at most, on the pages as they stand.
+use Rattle.std.specs.Prelude.{ℕ, ◌+◌, ◌==◌, min, nat_lt, nat_le, true, false, if◌then◌else◌, List, [], length, Option, Some, None, Result, Ok, Err}
+use Rattle.vs_contents.specs.CallTree.{Done, Ask, bind}
+use Rattle.vs_conn.specs.End.{may_send_of, wanting_credit}
+use Rattle.vs_page.specs.declared.page.TheConstants.{PAYLOAD_MAX}
+use Rattle.vs_ring_port.specs.declared.queue.Queue.{Queue}
+use Rattle.vs_ring_port.specs.declared.queue.Queue.TheVariants.{Rx, Tx, Event}
+use Rattle.vs_ring_port.specs.DriverCalls.{Reap}
+use Rattle.vs_driver_parts.specs.declared.answers.ConnectError.{ConnectError}
+use Rattle.vs_driver_parts.specs.declared.answers.Sent.{Sent}
+use Rattle.vs_driver_parts.specs.declared.answers.Sent.TheVariants as sent
+use Rattle.vs_driver_parts.specs.declared.limits.TheConstants.{REPLIES_FULL}
+use Rattle.vs_driver_parts.specs.State.{DriverState, DriverEntry, entry_known_as}
+use Rattle.vs_driver_parts.specs.Conversations.{DriverTree, Round, start, event_taken, reap_one, stage_of, put_reply, put_owed, connect_with_page, send_with_page, payload_of, no_credit, send_stopped, not_sent}
+use Rattle.vs_driver_parts.specs.Connections.{connect_refusal, with_end}
+use Rattle.vs_driver_parts.specs.Receiving.{on_page}
+
+-- An event, or a packet, is taken with its page, which isn't staged again.
+abbrev pub heard_event : Round → Option (List ℕ) → DriverTree (Round × Option (List ℕ))
+heard_event r None = Done (r, None)
+heard_event r (Some page) = bind (event_taken page r) (λ q. Done (q, Some page))
+
+abbrev pub reap_event : Round → DriverTree (Round × Option (List ℕ))
+reap_event r = if nat_lt REPLIES_FULL (length r.state.replies) then Done (r, None) else Ask (Reap Event) (heard_event r)
+
+abbrev pub heard_packet : Round → Option (List ℕ) → DriverTree (Round × Option (List ℕ))
+heard_packet r None = Done (r, None)
+heard_packet r (Some page) = Done (record r { state = on_page page r.state; count = r.count + 1 }, Some page)
+
+abbrev pub reap_packet : Round → DriverTree (Round × Option (List ℕ))
+reap_packet r = if nat_le REPLIES_FULL (length r.state.replies) then Done (r, None) else Ask (Reap Rx) (heard_packet r)
+
+-- It takes one page of a queue, where it still takes any, and does what the page asks of it. A transmit page just comes back.
+abbrev pub event_came : Option (List ℕ) → DriverState → DriverTree DriverState
+event_came None s = Done s
+event_came (Some page) s = bind (event_taken page (start s)) (λ r. Done r.state)
+
+abbrev pub packet_came : Option (List ℕ) → DriverState → DriverState
+packet_came None s = s
+packet_came (Some page) s = on_page page s
+
+abbrev pub takes_page : Queue → DriverState → DriverTree DriverState
+takes_page Tx s = bind (reap_one s) (λ r. Done r.0)
+takes_page Event s = if nat_lt REPLIES_FULL (length s.replies) then Done s else Ask (Reap Event) (λ page. event_came page s)
+takes_page Rx s = if nat_le REPLIES_FULL (length s.replies) then Done s else Ask (Reap Rx) (λ page. Done (packet_came page s))
+
+-- It stages a page without a packet, the oldest reply, or what a connection owes.
+abbrev pub stages_page : Queue → DriverState → DriverTree DriverState
+stages_page Tx s = Done s
+stages_page queue s = stage_of queue [] s
+
+abbrev pub stages_reply : DriverState → DriverTree DriverState
+stages_reply s = bind (put_reply (start s)) (λ r. Done r.0.state)
+
+abbrev pub stages_owed : ℕ → DriverState → DriverTree DriverState
+stages_owed slot s = bind (put_owed slot (start s)) (λ r. Done r.0.state)
+
+-- connect and send, on the pages as they stand.
+abbrev pub connects : ℕ → DriverState → DriverTree (DriverState × Result ℕ ConnectError)
+connects port s = elim (connect_refusal port s) [ Some refusal ↦ Done (s, Err refusal) | None ↦ connect_with_page port s ]
+
+abbrev pub sends_with_credit : DriverEntry → ℕ → List ℕ → DriverState → DriverTree (DriverState × Sent)
+sends_with_credit e credit bytes s =
+    if length bytes == 0 then Done (s, sent.Took 0)
+    else if credit == 0 then Done (with_end (wanting_credit e.value.end) e s, no_credit e.value.end)
+    else send_with_page e (payload_of credit bytes) s
+
+abbrev pub sends_on : DriverEntry → List ℕ → DriverState → DriverTree (DriverState × Sent)
+sends_on e bytes s = elim (may_send_of e.value.end) [
+  | Err why ↦ Done (s, send_stopped why)
+  | Ok credit ↦ sends_with_credit e credit bytes s
+]
+
+abbrev pub sends : ℕ → List ℕ → DriverState → DriverTree (DriverState × Sent)
+sends id bytes s = elim (entry_known_as id s) [ None ↦ Done (s, not_sent id s) | Some e ↦ sends_on e bytes s ]
+
+-- What a send comes to before a page is looked for: an answer, or how many bytes go on the connection in which slot.
+abbrev pub ready_with : DriverEntry → ℕ → ℕ → DriverState → DriverState × Result (ℕ × ℕ) Sent
+ready_with e credit len s =
+    if len == 0 then (s, Err (sent.Took 0))
+    else if credit == 0 then (with_end (wanting_credit e.value.end) e s, Err (no_credit e.value.end))
+    else (s, Ok (e.slot, min (min credit PAYLOAD_MAX) len))
+
+abbrev pub ready_on : DriverEntry → ℕ → DriverState → DriverState × Result (ℕ × ℕ) Sent
+ready_on e len s = elim (may_send_of e.value.end) [ Err why ↦ (s, Err (send_stopped why)) | Ok credit ↦ ready_with e credit len s ]
+
+abbrev pub ready_to_send : ℕ → ℕ → DriverState → DriverState × Result (ℕ × ℕ) Sent
+ready_to_send id len s = elim (entry_known_as id s) [ None ↦ (s, Err (not_sent id s)) | Some e ↦ ready_on e len s ]
