@@ -32,7 +32,7 @@ use Rattle.vs_driver_parts.specs.declared.answers.Sent.{Sent}
 use Rattle.vs_driver_parts.specs.declared.limits.TheConstants.{REPLIES_FULL}
 use Rattle.vs_driver_parts.specs.Connections.{route_to_host, connect_refusal, connected, next_flow, with_end}
 use Rattle.vs_driver_parts.specs.Conversations.{DriverTree, Round, after_paying, connect_with_page, has_page, one_more_in_flight, one_put, owed_bytes, payload_bytes, payload_of, publish_of, put_owed_of, put_reply_of, reap_one, reaped, reply_header, request_bytes, send_with_page, stage_packet, start}
-use Rattle.vs_driver_parts.specs.Steps.{connects, sends, sends_on, sends_with_credit, stages_owed, stages_page, stages_reply, takes_page}
+use Rattle.vs_driver_parts.specs.Steps.{connects, sends, sends_on, sends_with_credit, stages_owed, stages_reply, takes_page}
 use Rattle.vs_core.specs.Pages.{AllHold, TxHolds}
 use Rattle.vs_header.specs.declared.Header.{Header}
 use Rattle.std.proofs.Common.{length-append}
@@ -65,9 +65,9 @@ use Rattle.vs_conn.specs.End.{with_payload_sent}
 use Rattle.std.proofs.Common.{IsOkAnd}
 use Rattle.vs_core.specs.Calls.{GuestCall, Connect, Listen, Unlisten, Accept, Send, Recv, Shutdown, Close, LookAt, is_right}
 use Rattle.vs_core.specs.GuestSteps.{makes_call}
-use Rattle.vs_driver_parts.specs.Receiving.{after_reset, on_packet}
+use Rattle.vs_driver_parts.specs.Conversations.{event_reaped, goes_on_with, packet_reaped, staged_again}
+use Rattle.vs_driver_parts.specs.Receiving.{after_reset, on_packet, on_page}
 use Rattle.std.proofs.Common.{append_assoc}
-use Rattle.vs_driver_parts.specs.Steps.{event_came, packet_came}
 
 -- A page that is staged behind others.
 staged_last : (pages : List (List ℕ)) (page : List ℕ) (log : Log)
@@ -179,20 +179,7 @@ module _ (device : Seat) (first : ℕ) (s : DriverState) (lists : Rings) (log : 
       by None is = still
       by (Some e) is = owing e (found_by (λ (x : DriverEntry). x.slot == slot) s.table.entries e is).0 (owes_of e.value.end) refl
 
-  -- Pages without a packet are staged, and pages are published.
-  pub stages_page_keeps : (queue : Queue) → KeptBy (stages_page queue s)
-  stages_page_keeps Tx = still
-  stages_page_keeps Rx = by (s.staged + 1 == 16)
-    where
-      by : (b : Bool) → KeptBy (Ask (Stage Rx []) (λ _. cond b (Ask (Publish Rx) (λ _. Done (record s { staged = 0 }))) (Done (record s { staged = s.staged + 1 }))))
-      by true = (recounted s s.in_flight 0 now now refl same, pages)
-      by false = (recounted s s.in_flight (s.staged + 1) now now refl same, pages)
-  stages_page_keeps Event = by (s.staged + 1 == 16)
-    where
-      by : (b : Bool) → KeptBy (Ask (Stage Event []) (λ _. cond b (Ask (Publish Event) (λ _. Done (record s { staged = 0 }))) (Done (record s { staged = s.staged + 1 }))))
-      by true = (recounted s s.in_flight 0 now now refl same, pages)
-      by false = (recounted s s.in_flight (s.staged + 1) now now refl same, pages)
-
+  -- Staged pages are published.
   pub publishes_keeps : (queue : Queue) → KeptBy (publish_of queue s)
   publishes_keeps Rx = (recounted s s.in_flight 0 now now refl same, pages)
   publishes_keeps Tx = (recounted s s.in_flight 0 now now refl same, (all_hold lists.tx.given log.staged.tx pages.0 pages.1, tt))
@@ -250,10 +237,48 @@ module _ (device : Seat) (first : ℕ) (s : DriverState) (lists : Rings) (log : 
         subst (λ (l : Log). Kept device s now (on_packet p s) l) (moved (GotPacket p))
         (takes.takes device first s now sound holds puts p next (next_fits now device.log p next device_puts) (packet_whole page p held).0)
 
+    -- The rings after a page was taken of a queue, with what the log says then.
+    abbrev rx_reaped : Log → Rings × EndLog
+    rx_reaped entries = (record lists { rx = record lists.rx { back = all_but_oldest lists.rx.back } }, record log { entries = entries })
+
+    abbrev event_reaped_with : Log → Rings × EndLog
+    event_reaped_with entries =
+        (record lists { event = record lists.event { back = all_but_oldest lists.event.back } }, record log { entries = entries })
+
+    -- Its page is staged again.
+    abbrev Again : Queue → Round → Rings × EndLog → Type 0
+    Again queue r x =
+        let y = played driver_answer (bind (staged_again queue r) (λ r. Done r.0.state)) x in
+        Kept device s now y.0 (log_with_staged y.1.1) × TxHolds y.1.0 y.1.1
+
+    rx_again : (r : Round) (entries : Log) → Kept device s now r.state (all_put log.staged.tx entries) → Again Rx r (rx_reaped entries)
+    rx_again r entries kept = by (r.state.staged + 1 == 16)
+      where
+        by : (b : Bool) → (let y = played driver_answer (bind (bind (Ask (Stage Rx []) (λ _. cond b
+            (Ask (Publish Rx) (λ _. Done (record r.state { staged = 0 }))) (Done (record r.state { staged = r.state.staged + 1 }))))
+            (goes_on_with r)) (λ r. Done r.0.state)) (rx_reaped entries) in
+            Kept device s now y.0 (log_with_staged y.1.1) × TxHolds y.1.0 y.1.1)
+        by true = (recounted r.state r.state.in_flight 0 _ _ refl kept, pages)
+        by false = (recounted r.state r.state.in_flight (r.state.staged + 1) _ _ refl kept, pages)
+
+    event_again : (r : Round) (entries : Log) → Kept device s now r.state (all_put log.staged.tx entries)
+        → Again Event r (event_reaped_with entries)
+    event_again r entries kept = by (r.state.staged + 1 == 16)
+      where
+        by : (b : Bool) → (let y = played driver_answer (bind (bind (Ask (Stage Event []) (λ _. cond b
+            (Ask (Publish Event) (λ _. Done (record r.state { staged = 0 }))) (Done (record r.state { staged = r.state.staged + 1 }))))
+            (goes_on_with r)) (λ r. Done r.0.state)) (event_reaped_with entries) in
+            Kept device s now y.0 (log_with_staged y.1.1) × TxHolds y.1.0 y.1.1)
+        by true = (recounted r.state r.state.in_flight 0 _ _ refl kept, pages)
+        by false = (recounted r.state r.state.in_flight (r.state.staged + 1) _ _ refl kept, pages)
+
     rx_taken : (back : List (List ℕ)) → lists.rx.back ≡ back
-        → Kept device s now (packet_came (oldest back) s) (all_put log.staged.tx (entries_reaped Rx (oldest back) log.entries))
-    rx_taken [] is = same
-    rx_taken (page ∷ pages) is = packet_taken page pages is (packet_held page) refl
+        → (let r = played driver_answer (bind (packet_reaped (start s) (oldest back)) (λ r. Done r.0.state))
+        (rx_reaped (entries_reaped Rx (oldest back) log.entries)) in
+        Kept device s now r.0 (log_with_staged r.1.1) × TxHolds r.1.0 r.1.1)
+    rx_taken [] is = still
+    rx_taken (page ∷ ps) is =
+        rx_again (record (start s) { state = on_page page s; count = 1 }) _ (packet_taken page ps is (packet_held page) refl)
 
     reset_taken : (id : ℕ) → IsNextEvent now device.log id
         → Kept device s now (after_reset lists.cid s) (all_put log.staged.tx (Mark lists.cid ∷ GotEvent id ∷ log.entries))
@@ -266,32 +291,31 @@ module _ (device : Seat) (first : ℕ) (s : DriverState) (lists : Rings) (log : 
         (side.kept_then device s s (after_reset lists.cid s) now (GotEvent id ∷ now) (Mark lists.cid ∷ GotEvent id ∷ now) one two)
 
     -- After an event was reaped: what is asked then, over rings that gave it.
-    abbrev EventKept : List ℕ → Option ℕ → Bool → Type 0
-    EventKept page held is_reset =
-        let r = played driver_answer (bind (cond is_reset (Ask LoadCid (λ cid. Done (record (start s) { state = after_reset cid s; count = 1; reset = true })))
-        (Done (record (start s) { count = 1 }))) (λ (r : Round). Done r.state))
-        (record lists { event = record lists.event { back = all_but_oldest lists.event.back } }, record log { entries = with_event (λ id. GotEvent id) held log.entries }) in
+    abbrev EventKept : Option ℕ → Bool → Type 0
+    EventKept held is_reset =
+        let r = played driver_answer (bind (bind (cond is_reset
+        (Ask LoadCid (λ cid. Done (record (start s) { state = after_reset cid s; count = 1; reset = true })))
+        (Done (record (start s) { count = 1 }))) (staged_again Event)) (λ r. Done r.0.state))
+        (event_reaped_with (with_event (λ id. GotEvent id) held log.entries)) in
         Kept device s now r.0 (log_with_staged r.1.1) × TxHolds r.1.0 r.1.1
 
     id_taken : (page : List ℕ) (pages : List (List ℕ)) (id : ℕ) → lists.event.back ≡ page ∷ pages → event_held page ≡ Some id → (b : Bool)
-        → EventKept page (Some id) b
-    id_taken page ps id back held true = (reset_taken id (next_event page ps id back held), pages)
-    id_taken page ps id back held false = (
-      subst (λ (l : Log). Kept device s now s l) (moved (GotEvent id))
-          (takes.takes_event device first s now sound holds puts id (next_event page ps id back held)),
-      pages,
-    )
+        → EventKept (Some id) b
+    id_taken page ps id back held true =
+        event_again (record (start s) { state = after_reset lists.cid s; count = 1; reset = true }) _
+        (reset_taken id (next_event page ps id back held))
+    id_taken page ps id back held false =
+        event_again (record (start s) { count = 1 }) _ (subst (λ (l : Log). Kept device s now s l) (moved (GotEvent id))
+        (takes.takes_event device first s now sound holds puts id (next_event page ps id back held)))
 
     event_by : (page : List ℕ) (pages : List (List ℕ)) → lists.event.back ≡ page ∷ pages → (o : Option ℕ) → event_held page ≡ o
-        → EventKept page o (elim o as (λ _. Bool) [ None ↦ false | Some id ↦ id == 0 ])
-    event_by page ps back None held = still
+        → EventKept o (elim o as (λ _. Bool) [ None ↦ false | Some id ↦ id == 0 ])
+    event_by page ps back None held = event_again (record (start s) { count = 1 }) log.entries same
     event_by page ps back (Some id) held = id_taken page ps id back held (id == 0)
 
     event_taken_of : (back : List (List ℕ)) → lists.event.back ≡ back
-        → (let r = played driver_answer (event_came (oldest back) s) (
-          record lists { event = record lists.event { back = all_but_oldest lists.event.back } },
-          record log { entries = entries_reaped Event (oldest back) log.entries },
-        ) in
+        → (let r = played driver_answer (bind (event_reaped (start s) (oldest back)) (λ r. Done r.0.state))
+        (event_reaped_with (entries_reaped Event (oldest back) log.entries)) in
         Kept device s now r.0 (log_with_staged r.1.1) × TxHolds r.1.0 r.1.1)
     event_taken_of [] is = still
     event_taken_of (page ∷ ps) is = event_by page ps is (event_held page) refl
@@ -300,12 +324,12 @@ module _ (device : Seat) (first : ℕ) (s : DriverState) (lists : Rings) (log : 
     takes_page_keeps Tx = reaps_tx
     takes_page_keeps Rx = by (nat_le REPLIES_FULL (length s.replies))
       where
-        by : (b : Bool) → KeptBy (cond b (Done s) (Ask (Reap Rx) (λ page. Done (packet_came page s))))
+        by : (b : Bool) → KeptBy (bind (cond b (Done (start s, false)) (Ask (Reap Rx) (packet_reaped (start s)))) (λ r. Done r.0.state))
         by true = still
-        by false = (rx_taken lists.rx.back refl, pages)
+        by false = rx_taken lists.rx.back refl
     takes_page_keeps Event = by (nat_lt REPLIES_FULL (length s.replies))
       where
-        by : (b : Bool) → KeptBy (cond b (Done s) (Ask (Reap Event) (λ page. event_came page s)))
+        by : (b : Bool) → KeptBy (bind (cond b (Done (start s, false)) (Ask (Reap Event) (event_reaped (start s)))) (λ r. Done r.0.state))
         by true = still
         by false = event_taken_of lists.event.back refl
 

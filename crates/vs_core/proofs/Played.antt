@@ -18,9 +18,9 @@ use Rattle.vs_page.specs.Held.{packet_held, event_held, held_in}
 use Rattle.std.proofs.lemmas.List.{append-nil}
 use Rattle.vs_device_parts.specs.Calls.{DeviceTree, Call, Ring, Accept, Dial, Label, ReadStream, WriteStream, ShutWrite, CloseStream}
 use Rattle.vs_core.specs.Answers.{Around, answer_around}
-use Rattle.vs_core.specs.Events.{Event, GuestCalls, GuestTakes, GuestStages, GuestReplies, GuestPays, GuestPublishes, DeviceTakes, DeviceReturns, DevicePutsEvent, DeviceReplies, DeviceReads, DevicePays, DeviceWrites, DeviceShutsWrite, ProxyAccepts, ProxyReads, Moment, TimesOut, HandshakeTimesOut, Reset, HostListens, HostUnlistens, ClientConnects, HostWrites, HostTakes, HostEnds, HostCloses, HostFails, happens, run, where_possible, unless_failed, has_failed}
-use Rattle.vs_core.specs.Events.{is_guest_cid, reset_made, is_at_rest, works_on, holds, driver_step, device_step, proxy_step, call_made, line_read}
-use Rattle.vs_driver_parts.specs.Steps.{takes_page, stages_page, stages_reply, stages_owed}
+use Rattle.vs_core.specs.Events.{Event, GuestCalls, GuestTakes, GuestReplies, GuestPays, GuestPublishes, DeviceTakes, DeviceReturns, DevicePutsEvent, DeviceReplies, DeviceReads, DevicePays, DeviceWrites, DeviceShutsWrite, ProxyAccepts, ProxyReads, Moment, TimesOut, HandshakeTimesOut, Reset, HostListens, HostUnlistens, ClientConnects, HostWrites, HostTakes, HostEnds, HostCloses, HostFails, happens, run, where_possible, unless_failed, has_failed}
+use Rattle.vs_core.specs.Events.{is_guest_cid, reset_made, is_at_rest, works_on, holds, holds_event, driver_step, device_step, proxy_step, call_made, line_read}
+use Rattle.vs_driver_parts.specs.Steps.{takes_page, stages_reply, stages_owed}
 use Rattle.vs_core.specs.GuestSteps.{makes_call}
 use Rattle.vs_device_parts.specs.Steps.{takes_chain, returns, puts_event, puts_reply, puts_owed, puts_payload, writes, shuts_write}
 use Rattle.vs_core.specs.Calls.{is_right}
@@ -73,9 +73,6 @@ happens_keeps (GuestCalls call) w q =
     possible_keeps (is_at_rest w.rings.driver.staged && is_right call) (λ v. (call_made call v).0) w (driver_plays_keeps (makes_call call w.driver) w q) q
 happens_keeps (GuestTakes queue) w q =
     possible_keeps (works_on queue w.rings.driver.staged) (driver_step (takes_page queue)) w (driver_plays_keeps (takes_page queue w.driver) w q) q
-happens_keeps (GuestStages queue) w q =
-    possible_keeps (works_on queue w.rings.driver.staged) (driver_step (stages_page queue)) w
-    (driver_plays_keeps (stages_page queue w.driver) w q) q
 happens_keeps GuestReplies w q =
     possible_keeps (works_on queue.Tx w.rings.driver.staged) (driver_step stages_reply) w (driver_plays_keeps (stages_reply w.driver) w q) q
 happens_keeps (GuestPays slot) w q =
@@ -87,7 +84,7 @@ happens_keeps (DeviceTakes queue) w q =
 happens_keeps (DeviceReturns chain) w q =
     possible_keeps (holds queue.Tx chain w) (device_step (returns chain)) w (device_plays_keeps (returns chain w.proxy.device) w q) q
 happens_keeps (DevicePutsEvent chain) w q =
-    possible_keeps (holds queue.Event chain w) (device_step (puts_event chain)) w (device_plays_keeps (puts_event chain w.proxy.device) w q) q
+    possible_keeps (holds_event chain w) (device_step (puts_event chain)) w (device_plays_keeps (puts_event chain w.proxy.device) w q) q
 happens_keeps DeviceReplies w q =
     failed_keeps (has_failed w) (device_step puts_reply) w refl (device_plays_keeps (puts_reply w.proxy.device) w q) q
 happens_keeps (DeviceReads slot) w q =

@@ -6,7 +6,7 @@ use Rattle.vs_conn.specs.declared.end.Owed.{Owed}
 use Rattle.vs_flow.specs.Table.{entry_under, slots}
 use Rattle.vs_replies.specs.declared.Reply.{Reply}
 use Rattle.vs_ring_port.specs.DriverCalls.{driver_answer, LoadCid, Publish, Reap, Stage}
-use Rattle.vs_ring_port.specs.EndLog.{EndLog, Pages, log_reaped}
+use Rattle.vs_ring_port.specs.EndLog.{EndLog, Pages, log_loaded, log_reaped}
 use Rattle.vs_ring_port.specs.Lists.{Rings, after_reap, oldest}
 use Rattle.vs_ring_port.specs.declared.queue.Queue.{Queue}
 use Rattle.vs_ring_port.specs.declared.queue.Queue.TheVariants as q
@@ -15,12 +15,12 @@ use Rattle.vs_conn.specs.declared.end.TheConstants.{OWED_MAX}
 use Rattle.vs_driver_parts.specs.Conversations.{all_taken, pay_all, pay_and_publish, pay_slot, poll_of, poll_packets, poll_puts, poll_reaps, polled, publish_and_pay, put_all, put_replies, reap_all, take_all}
 use Rattle.vs_driver_parts.specs.Conversations.{after_paying, has_page, one_more_in_flight, one_put, owed_bytes, put_owed_of, put_reply_of, reply_header, stage_packet}
 use Rattle.vs_ring_port.specs.EndLog.{with_pages}
-use Rattle.vs_driver_parts.specs.Conversations.{DriverTree, Round, event_reaped, goes_on_with, packet_reaped, publish_of, published, put_owed, put_reply, stage_of, staged_again, start, take_event, take_packet}
+use Rattle.vs_driver_parts.specs.Conversations.{DriverTree, Round, event_reaped, goes_on_with, packet_reaped, publish_of, published, put_owed, put_reply, staged_again, start, take_event, take_packet}
 use Rattle.vs_driver_parts.specs.Receiving.{after_reset, is_reset_event, on_page}
 use Rattle.vs_driver_parts.specs.State.{DriverEntry, DriverState}
 use Rattle.vs_driver_parts.specs.declared.limits.TheConstants.{REPLIES_FULL}
-use Rattle.vs_core.specs.Events.{Event, GuestPays, GuestPublishes, GuestReplies, GuestStages, GuestTakes, driver_step, happens, is_at_rest, none_staged, works_on}
-use Rattle.vs_driver_parts.specs.Steps.{event_came, packet_came, stages_owed, stages_page, stages_reply, takes_page}
+use Rattle.vs_core.specs.Events.{Event, GuestPays, GuestPublishes, GuestReplies, GuestTakes, driver_step, happens, is_at_rest, none_staged, works_on}
+use Rattle.vs_driver_parts.specs.Steps.{stages_owed, stages_reply, takes_page}
 use Rattle.vs_core.specs.Steps.{Leads}
 use Rattle.vs_core.specs.World.{World}
 use Rattle.vs_core.proofs.GuestLines.{leads_none, leads_one, leads_then, played_bind, possible_is, reaps_all, with_driver}
@@ -82,53 +82,63 @@ one_event : (queue : Queue) (e : Event) (step : DriverState → DriverTree Drive
 one_event queue e step w s r works is same after = record { leads = leads_one e w _ (is ∙ same); works = after }
 
 -- The same step in any round does the same.
-record IsSame (w : World) (x : DriverState × (Rings × EndLog)) (s : DriverState) (r : Rings × EndLog) : Type 0 where
+record IsSame (queue : Queue) (w : World) (x : DriverState × (Rings × EndLog)) (s : DriverState) (r : Rings × EndLog) : Type 0 where
   same : with_driver x.0 x.1 w ≡ with_driver s r w
-  works : works_on q.Tx r.1.staged ≡ true
+  works : works_on queue r.1.staged ≡ true
 
-abbrev Alike : World → ℕ → Bool → (Round → DriverTree (Round × Bool)) → Type 0
-Alike w count reset step =
-    let r = plays (step (round w.driver count reset)) w in
-    IsSame w (plays (bind (step (start w.driver)) (λ r. Done r.0.state)) w) r.0.0.state r.1
+abbrev AlikeFrom : Queue → World → ℕ → Bool → Rings × EndLog → (Round → DriverTree (Round × Bool)) → Type 0
+AlikeFrom queue w count reset x step =
+    let r = played driver_answer (step (round w.driver count reset)) x in
+    IsSame queue w (played driver_answer (bind (step (start w.driver)) (λ r. Done r.0.state)) x) r.0.0.state r.1
+
+abbrev Alike : Queue → World → ℕ → Bool → (Round → DriverTree (Round × Bool)) → Type 0
+Alike queue w count reset step = AlikeFrom queue w count reset (w.rings.lists, w.rings.driver) step
+
+still_works : (queue : Queue) (pages : List (List ℕ)) (staged : Pages) → works_on queue staged ≡ true
+    → works_on queue (with_pages queue pages staged) ≡ true
+still_works q.Rx pages staged works = works
+still_works q.Tx pages staged works = works
+still_works q.Event pages staged works = works
 
 staged_alike : (w : World) (count : ℕ) (reset : Bool) → works_on q.Tx w.rings.driver.staged ≡ true → (bytes : List ℕ) (t : DriverState)
-    → Alike w count reset (λ r. bind (stage_packet bytes t) (one_put r))
+    → Alike q.Tx w count reset (λ r. bind (stage_packet bytes t) (one_put r))
 staged_alike w count reset works bytes t = by (t.staged + 1 == 16)
   where
-    by : (b : Bool) → Alike w count reset (λ r. bind (Ask (Stage q.Tx bytes) (λ _. cond b
+    by : (b : Bool) → Alike q.Tx w count reset (λ r. bind (Ask (Stage q.Tx bytes) (λ _. cond b
         (Ask (Publish q.Tx) (λ _. Done (record (one_more_in_flight t) { staged = 0 })))
         (Done (record (one_more_in_flight t) { staged = t.staged + 1 })))) (one_put r))
     by true = record { same = refl; works = works }
     by false = record { same = refl; works = works }
 
-reply_alike : (w : World) (count : ℕ) (reset : Bool) → works_on q.Tx w.rings.driver.staged ≡ true → Alike w count reset put_reply
+reply_alike : (w : World) (count : ℕ) (reset : Bool) → works_on q.Tx w.rings.driver.staged ≡ true → Alike q.Tx w count reset put_reply
 reply_alike w count reset works = by w.driver.replies
   where
-    with_page : (reply : Reply) (rest : List Reply) (b : Bool) → Alike w count reset (λ r. cond b
+    with_page : (reply : Reply) (rest : List Reply) (b : Bool) → Alike q.Tx w count reset (λ r. cond b
         (bind (stage_packet (header_bytes (reply_header w.driver.cid reply)) (record w.driver { replies = rest })) (one_put r)) (Done (r, false)))
     with_page reply rest true = staged_alike w count reset works (header_bytes (reply_header w.driver.cid reply)) (record w.driver { replies = rest })
     with_page reply rest false = record { same = refl; works = works }
 
-    by : (rs : List Reply) → Alike w count reset (put_reply_of rs)
+    by : (rs : List Reply) → Alike q.Tx w count reset (put_reply_of rs)
     by [] = record { same = refl; works = works }
     by (reply ∷ rest) = with_page reply rest (has_page w.driver)
 
-owed_alike : (slot : ℕ) (w : World) (count : ℕ) (reset : Bool) → works_on q.Tx w.rings.driver.staged ≡ true → Alike w count reset (put_owed slot)
+owed_alike : (slot : ℕ) (w : World) (count : ℕ) (reset : Bool) → works_on q.Tx w.rings.driver.staged ≡ true
+    → Alike q.Tx w count reset (put_owed slot)
 owed_alike slot w count reset works = by (entry_under w.driver.table slot)
   where
-    with_page : (e : DriverEntry) (what : Owed) (b : Bool) → Alike w count reset (λ r. cond b
+    with_page : (e : DriverEntry) (what : Owed) (b : Bool) → Alike q.Tx w count reset (λ r. cond b
         (bind (stage_packet (owed_bytes what e w.driver) (after_paying what e w.driver)) (one_put r)) (Done (r, false)))
     with_page e what true = staged_alike w count reset works (owed_bytes what e w.driver) (after_paying what e w.driver)
     with_page e what false = record { same = refl; works = works }
 
-    owing : (e : DriverEntry) (o : Option Owed) → Alike w count reset (λ r. elim o as (λ _. DriverTree (Round × Bool)) [
+    owing : (e : DriverEntry) (o : Option Owed) → Alike q.Tx w count reset (λ r. elim o as (λ _. DriverTree (Round × Bool)) [
       | None ↦ Done (r, false)
       | Some what ↦ put_owed_of what e r
     ])
     owing e None = record { same = refl; works = works }
     owing e (Some what) = with_page e what (has_page w.driver)
 
-    by : (o : Option DriverEntry) → Alike w count reset (λ r. elim o as (λ _. DriverTree (Round × Bool)) [
+    by : (o : Option DriverEntry) → Alike q.Tx w count reset (λ r. elim o as (λ _. DriverTree (Round × Bool)) [
       | None ↦ Done (r, false)
       | Some e ↦ elim (owes_of e.value.end) as (λ _. DriverTree (Round × Bool)) [ None ↦ Done (r, false) | Some what ↦ put_owed_of what e r ]
     ])
@@ -152,101 +162,67 @@ publishes_does : (queue : Queue) (w : World) → works_on queue w.rings.driver.s
     → let r = plays (publish_of queue w.driver) w in Does queue w r.0 r.1
 publishes_does queue w works =
     one_event queue (GuestPublishes queue) (publish_of queue) w _ _ works
-    (possible_is (works_on queue w.rings.driver.staged) (driver_step (publish_of queue)) w works) refl (still_works queue w.rings.driver.staged works)
-  where
-    still_works : (queue : Queue) (staged : Pages) → works_on queue staged ≡ true → works_on queue (with_pages queue [] staged) ≡ true
-    still_works q.Rx staged works = works
-    still_works q.Tx staged works = works
-    still_works q.Event staged works = works
-
--- A page without a packet is staged.
-stages_does : (queue : Queue) (w : World) → works_on queue w.rings.driver.staged ≡ true
-    → let r = plays (stages_page queue w.driver) w in Does queue w r.0 r.1
-stages_does queue w works =
-    one_event queue (GuestStages queue) (stages_page queue) w _ _ works
-    (possible_is (works_on queue w.rings.driver.staged) (driver_step (stages_page queue)) w works) refl (still_works queue works)
-  where
-    rx_by : (b : Bool) → works_on q.Rx w.rings.driver.staged ≡ true → works_on q.Rx (plays (Ask (Stage q.Rx []) (λ _. cond b
-        (Ask (Publish q.Rx) (λ _. Done (record w.driver { staged = 0 }))) (Done (record w.driver { staged = w.driver.staged + 1 })))) w).1.1.staged ≡ true
-    rx_by true works = works
-    rx_by false works = works
-
-    event_by : (b : Bool) → works_on q.Event w.rings.driver.staged ≡ true → works_on q.Event (plays (Ask (Stage q.Event []) (λ _. cond b
-        (Ask (Publish q.Event) (λ _. Done (record w.driver { staged = 0 }))) (Done (record w.driver { staged = w.driver.staged + 1 })))) w).1.1.staged ≡ true
-    event_by true works = works
-    event_by false works = works
-
-    still_works : (queue : Queue) → works_on queue w.rings.driver.staged ≡ true → works_on queue (plays (stages_page queue w.driver) w).1.1.staged ≡ true
-    still_works q.Rx works = rx_by (w.driver.staged + 1 == 16) works
-    still_works q.Tx works = works
-    still_works q.Event works = event_by (w.driver.staged + 1 == 16) works
+    (possible_is (works_on queue w.rings.driver.staged) (driver_step (publish_of queue)) w works) refl
+    (still_works queue [] w.rings.driver.staged works)
 
 -- A page that was taken is staged again.
-again_rx : (w : World) (count : ℕ) (reset : Bool) → works_on q.Rx w.rings.driver.staged ≡ true
-    → let r = plays (staged_again q.Rx (round w.driver count reset)) w in Does q.Rx w r.0.0.state r.1
-again_rx w count reset works =
-    let one = stages_does q.Rx w works in
-    does_then q.Rx w (stage_of q.Rx [] w.driver) (goes_on_with (round w.driver count reset)) (λ r. r.0.state) (λ s. s) one (does_nothing q.Rx _ one.works)
+again_alike : (queue : Queue) (w : World) (count : ℕ) (reset : Bool) (x : Rings × EndLog) → works_on queue x.1.staged ≡ true
+    → (f : Round → Round) (t : DriverState) → AlikeFrom queue w count reset x (λ r. staged_again queue (record (f r) { state = t }))
+again_alike queue w count reset x works f t = by (t.staged + 1 == 16)
+  where
+    by : (b : Bool) → AlikeFrom queue w count reset x (λ r. bind (Ask (Stage queue []) (λ _. cond b
+        (Ask (Publish queue) (λ _. Done (record t { staged = 0 })))
+        (Done (record t { staged = t.staged + 1 })))) (goes_on_with (record (f r) { state = t })))
+    by true = record { same = refl; works = still_works queue [] _ (still_works queue _ x.1.staged works) }
+    by false = record { same = refl; works = still_works queue _ x.1.staged works }
 
-again_event : (w : World) (count : ℕ) (reset : Bool) → works_on q.Event w.rings.driver.staged ≡ true
-    → let r = plays (staged_again q.Event (round w.driver count reset)) w in Does q.Event w r.0.0.state r.1
-again_event w count reset works =
-    let one = stages_does q.Event w works in
-    does_then q.Event w (stage_of q.Event [] w.driver) (goes_on_with (round w.driver count reset)) (λ r. r.0.state) (λ s. s) one
-    (does_nothing q.Event _ one.works)
+-- A packet is taken.
+packet_alike : (w : World) (count : ℕ) (reset : Bool) → works_on q.Rx w.rings.driver.staged ≡ true → Alike q.Rx w count reset take_packet
+packet_alike w count reset works = by (nat_le REPLIES_FULL (length w.driver.replies))
+  where
+    came : (o : Option (List ℕ))
+        → AlikeFrom q.Rx w count reset (after_reap q.Rx w.rings.lists, log_reaped q.Rx o w.rings.driver) (λ r. packet_reaped r o)
+    came None = record { same = refl; works = works }
+    came (Some page) =
+        again_alike q.Rx w count reset (after_reap q.Rx w.rings.lists, log_reaped q.Rx (Some page) w.rings.driver) works
+        (λ r. record r { count = r.count + 1 }) (on_page page w.driver)
 
-takes_leads : (queue : Queue) (w : World) → works_on queue w.rings.driver.staged ≡ true → Leads w (driver_step (takes_page queue) w)
-takes_leads queue w works =
-    leads_one (GuestTakes queue) w _ (possible_is (works_on queue w.rings.driver.staged) (driver_step (takes_page queue)) w works)
+    by : (b : Bool) → Alike q.Rx w count reset (λ r. cond b (Done (r, false)) (Ask (Reap q.Rx) (packet_reaped r)))
+    by true = record { same = refl; works = works }
+    by false = came (oldest w.rings.lists.rx.back)
 
--- One packet.
+-- An event is.
+event_alike : (w : World) (count : ℕ) (reset : Bool) → works_on q.Event w.rings.driver.staged ≡ true → Alike q.Event w count reset take_event
+event_alike w count reset works = by (nat_lt REPLIES_FULL (length w.driver.replies))
+  where
+    taken : (x : Rings × EndLog) → works_on q.Event x.1.staged ≡ true → (b : Bool) → AlikeFrom q.Event w count reset x (λ r. bind (cond b
+        (Ask LoadCid (λ cid. Done (record r { state = after_reset cid r.state; count = r.count + 1; reset = true })))
+        (Done (record r { count = r.count + 1 }))) (staged_again q.Event))
+    taken x works true =
+        again_alike q.Event w count reset (x.0, log_loaded x.0.cid x.1) works (λ r. record r { count = r.count + 1; reset = true })
+        (after_reset x.0.cid w.driver)
+    taken x works false = again_alike q.Event w count reset x works (λ r. record r { count = r.count + 1 }) w.driver
+
+    came : (o : Option (List ℕ))
+        → AlikeFrom q.Event w count reset (after_reap q.Event w.rings.lists, log_reaped q.Event o w.rings.driver) (λ r. event_reaped r o)
+    came None = record { same = refl; works = works }
+    came (Some page) = taken (after_reap q.Event w.rings.lists, log_reaped q.Event (Some page) w.rings.driver) works (is_reset_event page)
+
+    by : (b : Bool) → Alike q.Event w count reset (λ r. cond b (Done (r, false)) (Ask (Reap q.Event) (event_reaped r)))
+    by true = record { same = refl; works = works }
+    by false = came (oldest w.rings.lists.event.back)
+
 packet_does : StepDoes q.Rx take_packet
-packet_does w count reset works = by (nat_le REPLIES_FULL (length w.driver.replies)) (takes_leads q.Rx w works)
-  where
-    came : (o : Option (List ℕ)) → Leads w (with_driver (packet_came o w.driver) (after_reap q.Rx w.rings.lists, log_reaped q.Rx o w.rings.driver) w)
-        → (let r = played driver_answer (packet_reaped (round w.driver count reset) o) (after_reap q.Rx w.rings.lists, log_reaped q.Rx o w.rings.driver) in
-        Does q.Rx w r.0.0.state r.1)
-    came None leads = record { leads = leads; works = works }
-    came (Some page) leads =
-        let v = with_driver (on_page page w.driver) (after_reap q.Rx w.rings.lists, log_reaped q.Rx (Some page) w.rings.driver) w in
-        let again = again_rx v (count + 1) reset works in
-        record { leads = leads_then w v _ leads again.leads; works = again.works }
+packet_does w count reset works =
+    let alike = packet_alike w count reset works in
+    one_event q.Rx (GuestTakes q.Rx) (takes_page q.Rx) w _ _ works
+    (possible_is (works_on q.Rx w.rings.driver.staged) (driver_step (takes_page q.Rx)) w works) alike.same alike.works
 
-    by : (b : Bool) → (let x = plays (cond b (Done w.driver) (Ask (Reap q.Rx) (λ page. Done (packet_came page w.driver)))) w in Leads w (with_driver x.0 x.1 w))
-        → (let r = plays (cond b (Done (round w.driver count reset, false)) (Ask (Reap q.Rx) (packet_reaped (round w.driver count reset)))) w in
-        Does q.Rx w r.0.0.state r.1)
-    by true leads = does_nothing q.Rx w works
-    by false leads = came (oldest w.rings.lists.rx.back) leads
-
--- One event.
 event_does : StepDoes q.Event take_event
-event_does w count reset works = by (nat_lt REPLIES_FULL (length w.driver.replies)) (takes_leads q.Event w works)
-  where
-    taken : (page : List ℕ) (b : Bool)
-        → (let s : Rings × EndLog = (after_reap q.Event w.rings.lists, log_reaped q.Event (Some page) w.rings.driver) in
-        let x = played driver_answer (bind (cond b (Ask LoadCid (λ cid. Done (record (start w.driver) { state = after_reset cid w.driver; count = 1; reset = true })))
-        (Done (record (start w.driver) { count = 1 }))) (λ (r : Round). Done r.state)) s in Leads w (with_driver x.0 x.1 w))
-        → (let s : Rings × EndLog = (after_reap q.Event w.rings.lists, log_reaped q.Event (Some page) w.rings.driver) in
-        let r = played driver_answer (bind (cond b
-        (Ask LoadCid (λ cid. Done (record (round w.driver count reset) { state = after_reset cid w.driver; count = count + 1; reset = true })))
-        (Done (record (round w.driver count reset) { count = count + 1 }))) (staged_again q.Event)) s in Does q.Event w r.0.0.state r.1)
-    taken page true leads =
-        let again = again_event _ (count + 1) true works in record { leads = leads_then w _ _ leads again.leads; works = again.works }
-    taken page false leads =
-        let again = again_event _ (count + 1) reset works in record { leads = leads_then w _ _ leads again.leads; works = again.works }
-
-    came : (o : Option (List ℕ)) → (let x = played driver_answer (event_came o w.driver) (after_reap q.Event w.rings.lists, log_reaped q.Event o w.rings.driver) in
-        Leads w (with_driver x.0 x.1 w))
-        → (let r = played driver_answer (event_reaped (round w.driver count reset) o) (after_reap q.Event w.rings.lists, log_reaped q.Event o w.rings.driver) in
-        Does q.Event w r.0.0.state r.1)
-    came None leads = record { leads = leads; works = works }
-    came (Some page) leads = taken page (is_reset_event page) leads
-
-    by : (b : Bool) → (let x = plays (cond b (Done w.driver) (Ask (Reap q.Event) (λ page. event_came page w.driver))) w in Leads w (with_driver x.0 x.1 w))
-        → (let r = plays (cond b (Done (round w.driver count reset, false)) (Ask (Reap q.Event) (event_reaped (round w.driver count reset)))) w in
-        Does q.Event w r.0.0.state r.1)
-    by true leads = does_nothing q.Event w works
-    by false leads = came (oldest w.rings.lists.event.back) leads
+event_does w count reset works =
+    let alike = event_alike w count reset works in
+    one_event q.Event (GuestTakes q.Event) (takes_page q.Event) w _ _ works
+    (possible_is (works_on q.Event w.rings.driver.staged) (driver_step (takes_page q.Event)) w works) alike.same alike.works
 
 -- Nothing is left staged.
 pub record Rests (w : World) (s : DriverState) (r : Rings × EndLog) : Type 0 where

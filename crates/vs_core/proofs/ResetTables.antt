@@ -1,18 +1,18 @@
 -- At the step at which an end takes a transport reset its table is empty.
-use Rattle.std.proofs.Common.{◌≡◌, ℕ, nat_lt, Bool, true, false, cond, List, [], length, Option, Some, None, Result, Ok, Err, refl, sym, ap, subst, ◌∙◌}
+use Rattle.std.proofs.Common.{◌≡◌, ℕ, ◌+◌, ◌==◌, nat_lt, Bool, true, false, cond, List, [], length, Option, Some, None, Result, Ok, Err, refl, sym, ap, subst, ◌∙◌}
 use Rattle.vs_contents.specs.CallTree.{Done, Ask, bind, for_each, played}
 use Rattle.vs_contents.proofs.Leads.{AllEnds, ends_bind}
 use Rattle.vs_flow.specs.Table.{slots}
 use Rattle.vs_ring_port.specs.Contents.{PublishCid}
-use Rattle.vs_ring_port.specs.DriverCalls.{LoadCid, Reap, driver_answer}
-use Rattle.vs_ring_port.specs.EndLog.{EndLog, log_reaped}
+use Rattle.vs_ring_port.specs.DriverCalls.{LoadCid, Publish, Reap, Stage, driver_answer}
+use Rattle.vs_ring_port.specs.EndLog.{EndLog, log_loaded, log_reaped}
 use Rattle.vs_ring_port.specs.Lists.{Rings, after_reap, oldest}
 use Rattle.vs_ring_port.specs.declared.failure.Failure.{Failure}
 use Rattle.vs_ring_port.specs.declared.queue.Queue.TheVariants as q
 use Rattle.vs_device_parts.specs.Calls.{DeviceTree, Ring}
 use Rattle.vs_device_parts.specs.State.{DeviceState}
 use Rattle.vs_device_parts.specs.Turns.{after_reset, close_slot}
-use Rattle.vs_driver_parts.specs.Conversations.{Round, start}
+use Rattle.vs_driver_parts.specs.Conversations.{Round, event_reaped, goes_on_with, staged_again, start}
 use Rattle.vs_driver_parts.specs.Receiving.{is_reset_event}
 use Rattle.vs_driver_parts.specs.Receiving as driver_parts
 use Rattle.vs_driver_parts.specs.declared.limits.TheConstants.{REPLIES_FULL}
@@ -20,7 +20,7 @@ use Rattle.vs_proxy_parts.specs.Handshakes.{streams_of}
 use Rattle.vs_proxy_parts.specs.State.{ProxyState, with_device}
 use Rattle.vs_proxy_parts.specs.Turns.{close_handshake, reset_with}
 use Rattle.vs_core.specs.Events.{GuestTakes, Reset, driver_step, happens, is_guest_cid, reset_made, works_on}
-use Rattle.vs_driver_parts.specs.Steps.{event_came, takes_page}
+use Rattle.vs_driver_parts.specs.Steps.{takes_page}
 use Rattle.vs_core.specs.Laws.{IsEmptied}
 use Rattle.vs_core.specs.World.{World, around}
 use Rattle.vs_core.proofs.DeviceLeads.{ends_played}
@@ -71,26 +71,41 @@ module _ {fresh : Type 0} (w : World) (well : IsWell fresh w) (page : List ℕ) 
   abbrev reaped : Rings × EndLog
   reaped = (after_reap q.Event w.rings.lists, log_reaped q.Event (Some page) w.rings.driver)
 
-  took_event : (b : Bool) → b ≡ true → (played driver_answer (bind (cond b
+  -- Its page is staged again: the table stays.
+  staged_table : (r : Round) (x : Rings × EndLog)
+      → (played driver_answer (bind (staged_again q.Event r) (λ r. Done r.0.state)) x).0.table.entries ≡ r.state.table.entries
+  staged_table r x = by (r.state.staged + 1 == 16)
+    where
+      by : (b : Bool) → (played driver_answer (bind (bind (Ask (Stage q.Event []) (λ _. cond b
+          (Ask (Publish q.Event) (λ _. Done (record r.state { staged = 0 })))
+          (Done (record r.state { staged = r.state.staged + 1 })))) (goes_on_with r)) (λ r. Done r.0.state)) x).0.table.entries
+          ≡ r.state.table.entries
+      by true = refl
+      by false = refl
+
+  took_event : (b : Bool) → b ≡ true → (played driver_answer (bind (bind (cond b
       (Ask LoadCid (λ cid. Done (record (start w.driver) { state = driver_parts.after_reset cid w.driver; count = 1; reset = true })))
-      (Done (record (start w.driver) { count = 1 }))) (λ (r : Round). Done r.state)) reaped).0.table.entries ≡ []
+      (Done (record (start w.driver) { count = 1 }))) (staged_again q.Event)) (λ r. Done r.0.state)) reaped).0.table.entries ≡ []
   took_event false is = absurd cc
-  took_event true is = ap (λ t. t.entries) (left_all w.driver.table.entries
-      (record w.driver { cid = w.rings.lists.cid }) refl well.driver.sound.rising).table
+  took_event true is =
+      let cid = w.rings.lists.cid in
+      staged_table (record (start w.driver) { state = driver_parts.after_reset cid w.driver; count = 1; reset = true })
+      (reaped.0, log_loaded cid reaped.1)
+      ∙ ap (λ t. t.entries) (left_all w.driver.table.entries (record w.driver { cid = cid }) refl well.driver.sound.rising).table
 
   came : (o : Option (List ℕ)) → o ≡ Some page → is_reset_event page ≡ true
-      → (played driver_answer (event_came o w.driver)
+      → (played driver_answer (bind (event_reaped (start w.driver) o) (λ r. Done r.0.state))
       (after_reap q.Event w.rings.lists, log_reaped q.Event o w.rings.driver)).0.table.entries ≡ []
   came None is reset = absurd cc
   came (Some other) is reset =
       let same : other ≡ page = cc in
-      subst (λ (p : List ℕ). (played driver_answer (event_came (Some p) w.driver)
+      subst (λ (p : List ℕ). (played driver_answer (bind (event_reaped (start w.driver) (Some p)) (λ r. Done r.0.state))
       (after_reap q.Event w.rings.lists, log_reaped q.Event (Some p) w.rings.driver)).0.table.entries ≡ []) (sym same)
       (took_event (is_reset_event page) reset)
 
   takes : (b : Bool) → b ≡ false → oldest w.rings.lists.event.back ≡ Some page → is_reset_event page ≡ true
-      → (played driver_answer (cond b (Done w.driver) (Ask (Reap q.Event)
-      (λ p. event_came p w.driver))) (w.rings.lists, w.rings.driver)).0.table.entries ≡ []
+      → (played driver_answer (bind (cond b (Done (start w.driver, false)) (Ask (Reap q.Event) (event_reaped (start w.driver))))
+      (λ r. Done r.0.state)) (w.rings.lists, w.rings.driver)).0.table.entries ≡ []
   takes true is page_is reset = absurd cc
   takes false is page_is reset = came (oldest w.rings.lists.event.back) page_is reset
 

@@ -21,9 +21,9 @@ use Rattle.vs_proxy_parts.specs.Turns.{proxy_reset_of}
 use Rattle.vs_core.specs.Answers.{answer_around}
 use Rattle.vs_core.specs.Calls.{Journal, is_right}
 use Rattle.vs_device_parts.specs.Steps.{takes_chain, returns, puts_event, puts_reply, puts_owed, puts_payload, writes, shuts_write}
-use Rattle.vs_core.specs.Events.{Event, GuestCalls, GuestTakes, GuestStages, GuestReplies, GuestPays, GuestPublishes, DeviceTakes, DeviceReturns, DevicePutsEvent, DeviceReplies, DeviceReads, DevicePays, DeviceWrites, DeviceShutsWrite, ProxyAccepts, ProxyReads, Moment, TimesOut, HandshakeTimesOut, Reset, HostListens, HostUnlistens, ClientConnects, HostWrites, HostTakes, HostEnds, HostCloses, HostFails}
-use Rattle.vs_core.specs.Events.{at_moment, call_made, device_step, driver_step, happens, has_failed, holds, is_at_rest, is_guest_cid, line_read, none_staged, proxy_step, reset_made, unless_failed, where_possible, works_on}
-use Rattle.vs_driver_parts.specs.Steps.{takes_page, stages_page, stages_reply, stages_owed}
+use Rattle.vs_core.specs.Events.{Event, GuestCalls, GuestTakes, GuestReplies, GuestPays, GuestPublishes, DeviceTakes, DeviceReturns, DevicePutsEvent, DeviceReplies, DeviceReads, DevicePays, DeviceWrites, DeviceShutsWrite, ProxyAccepts, ProxyReads, Moment, TimesOut, HandshakeTimesOut, Reset, HostListens, HostUnlistens, ClientConnects, HostWrites, HostTakes, HostEnds, HostCloses, HostFails}
+use Rattle.vs_core.specs.Events.{at_moment, call_made, device_step, driver_step, happens, has_failed, holds, holds_event, is_at_rest, is_guest_cid, line_read, none_staged, proxy_step, reset_made, unless_failed, where_possible, works_on}
+use Rattle.vs_driver_parts.specs.Steps.{takes_page, stages_reply, stages_owed}
 use Rattle.vs_core.specs.GuestSteps.{makes_call}
 use Rattle.vs_core.specs.Calls.{received_on, sent_on}
 use Rattle.vs_core.specs.Received.{IsReceived}
@@ -316,9 +316,6 @@ module _ (fresh : Type 0) (w : World) (well : IsWell fresh w) where
       (driver_events.makes_call_keeps (both_of w).device first_cid w.driver w.rings.lists w.rings.driver well.sound well.driver well.driver_puts well.pages call
       (second_true _ _ may)))
   happens_goes (GuestTakes queue) = possible fresh (works_on queue w.rings.driver.staged) (driver_step (takes_page queue)) w well (takes_goes queue)
-  happens_goes (GuestStages queue) =
-      possible fresh (works_on queue w.rings.driver.staged) (driver_step (stages_page queue)) w well (λ may. driver_step_goes (stages_page queue)
-      (driver_events.stages_page_keeps (both_of w).device first_cid w.driver w.rings.lists w.rings.driver well.sound well.driver well.driver_puts well.pages queue))
   happens_goes GuestReplies =
       possible fresh (works_on q.Tx w.rings.driver.staged) (driver_step stages_reply) w well (λ may. driver_step_goes stages_reply
       (driver_events.stages_reply_keeps (both_of w).device first_cid w.driver w.rings.lists w.rings.driver well.sound well.driver well.driver_puts well.pages))
@@ -334,9 +331,11 @@ module _ (fresh : Type 0) (w : World) (well : IsWell fresh w) where
       (device_turns.returns_tx (both_of w).driver first_cid w.proxy.next_port w.proxy.device (around w) well.sound well.device well.device_puts well.chain well.known fresh w.proxy.handshakes well.streams
       chain (queue_is q.Tx chain.queue (first_true _ _ may))))
   happens_goes (DevicePutsEvent chain) =
-      possible fresh (holds q.Event chain w) (device_step (puts_event chain)) w well (λ may. device_step_goes (puts_event chain)
+      possible fresh (holds_event chain w) (device_step (puts_event chain)) w well (λ may. device_step_goes (puts_event chain)
       (device_turns.puts_event_keeps (both_of w).driver first_cid w.proxy.next_port w.proxy.device (around w) well.sound well.device well.device_puts well.chain
-      well.known fresh w.proxy.handshakes well.streams chain (queue_is q.Event chain.queue (first_true _ _ may)) (second_true _ _ may)))
+      well.known fresh w.proxy.handshakes well.streams chain
+      (queue_is q.Event chain.queue (first_true _ _ (first_true (holds q.Event chain w) _ may)))
+      (second_true _ _ (first_true (holds q.Event chain w) _ may))))
   happens_goes DeviceReplies = unfailed fresh (has_failed w) (device_step puts_reply) w refl well (device_step_goes puts_reply
       (device_puts.puts_reply_keeps (both_of w).driver first_cid w.proxy.next_port w.proxy.device (around w) well.sound well.device well.device_puts well.chain well.known fresh w.proxy.handshakes well.streams))
   happens_goes (DeviceReads slot) = unfailed fresh (has_failed w) (device_step (puts_payload slot)) w refl well (device_step_goes (puts_payload slot)

@@ -39,7 +39,7 @@ use Rattle.vs_proxy_parts.specs.State.{Turning, with_device}
 use Rattle.vs_proxy_parts.specs.Turns.{device_after, event_stage, take_one, take_stage, took_packet}
 use Rattle.vs_core.specs.Answers.{Around, answer_around}
 use Rattle.vs_device_parts.specs.Steps.{chain_came, puts_event, returns, takes_chain}
-use Rattle.vs_core.specs.Events.{DevicePutsEvent, DeviceReturns, DeviceTakes, device_step, holds}
+use Rattle.vs_core.specs.Events.{DevicePutsEvent, DeviceReturns, DeviceTakes, device_step, holds, holds_event}
 use Rattle.vs_core.specs.Pages.{is_held}
 use Rattle.vs_core.specs.Steps.{Leads}
 use Rattle.vs_core.specs.World.{World, around}
@@ -309,10 +309,10 @@ module _ (w : World) where
       let v = owing true (page ∷ pages) in
       let c = chain_with q.Event w.rings.lists.event.place page in
       let u = with_proxy v.proxy (answer_around (Ring (Take q.Event)) (around v)).1 v in
-      let held : holds q.Event c u ≡ true = ap (λ (b : Bool). cond b true (is_held c w.rings.device.held)) (same_self c) in
+      let held : holds_event c u ≡ true = ap (λ (b : Bool). cond b true (is_held c w.rings.device.held) && true) (same_self c) in
       record {
         leads = leads_then v u _ (device_event (DeviceTakes q.Event) (takes_chain q.Event) v refl refl)
-            (leads_one (DevicePutsEvent c) u _ (possible_is (holds q.Event c u) (device_step (puts_event c)) u held));
+            (leads_one (DevicePutsEvent c) u _ (possible_is (holds_event c u) (device_step (puts_event c)) u held));
         fine = refl;
       }
 

@@ -18,7 +18,7 @@ use Rattle.vs_proxy_parts.specs.State.{Turning, start, with_device}
 use Rattle.vs_proxy_parts.specs.Turns.{proxy_reset_of}
 use Rattle.vs_core.specs.Calls.{GuestCall, ReplyTo, is_right}
 use Rattle.vs_device_parts.specs.Steps.{takes_chain, returns, puts_event, puts_reply, puts_owed, puts_payload, writes, shuts_write}
-use Rattle.vs_driver_parts.specs.Steps.{takes_page, stages_page, stages_reply, stages_owed}
+use Rattle.vs_driver_parts.specs.Steps.{takes_page, stages_reply, stages_owed}
 use Rattle.vs_core.specs.GuestSteps.{makes_call, flow_named}
 use Rattle.vs_core.specs.Pages.{is_held}
 use Rattle.vs_core.specs.World.{World, driver_plays, device_plays}
@@ -27,10 +27,9 @@ use Rattle.vs_core.specs.World.{World, driver_plays, device_plays}
 pub data Event : Type 0 where
   -- The guest makes a call.
   GuestCalls : GuestCall → Event
-  -- The driver takes a page of a queue; it stages one without a packet, the oldest reply, or what a connection owes; it publishes those
-  -- that are staged.
+  -- The driver takes a page of a queue, and stages it again; it stages the oldest reply, or what a connection owes; it publishes those that
+  -- are staged.
   GuestTakes : Queue → Event
-  GuestStages : Queue → Event
   GuestReplies : Event
   GuestPays : ℕ → Event
   GuestPublishes : Queue → Event
@@ -81,6 +80,10 @@ is_at_rest staged = none_staged staged.rx && none_staged staged.tx && none_stage
 abbrev pub holds : Queue → Chain → World → Bool
 holds queue chain w = same_queue queue chain.queue && is_held chain w.rings.device.held
 
+-- One of the event queue, with room for an event.
+abbrev pub holds_event : Chain → World → Bool
+holds_event chain w = holds q.Event chain w && nat_le 4 chain.writable
+
 -- A step of the driver, of the device, of the proxy, of the host's programs.
 abbrev pub driver_step : (DriverState → DriverTree DriverState) → World → World
 driver_step step w = let r = driver_plays (step w.driver) w in record r.1 { driver = r.0 }
@@ -127,13 +130,12 @@ unless_failed step w = if has_failed w then w else step w
 abbrev pub happens : Event → World → World
 happens (GuestCalls call) w = where_possible (is_at_rest w.rings.driver.staged && is_right call) (λ v. (call_made call v).0) w
 happens (GuestTakes queue) w = where_possible (works_on queue w.rings.driver.staged) (driver_step (takes_page queue)) w
-happens (GuestStages queue) w = where_possible (works_on queue w.rings.driver.staged) (driver_step (stages_page queue)) w
 happens GuestReplies w = where_possible (works_on q.Tx w.rings.driver.staged) (driver_step stages_reply) w
 happens (GuestPays slot) w = where_possible (works_on q.Tx w.rings.driver.staged) (driver_step (stages_owed slot)) w
 happens (GuestPublishes queue) w = where_possible (works_on queue w.rings.driver.staged) (driver_step (publish_of queue)) w
 happens (DeviceTakes queue) w = unless_failed (device_step (takes_chain queue)) w
 happens (DeviceReturns chain) w = where_possible (holds q.Tx chain w) (device_step (returns chain)) w
-happens (DevicePutsEvent chain) w = where_possible (holds q.Event chain w) (device_step (puts_event chain)) w
+happens (DevicePutsEvent chain) w = where_possible (holds_event chain w) (device_step (puts_event chain)) w
 happens DeviceReplies w = unless_failed (device_step puts_reply) w
 happens (DeviceReads slot) w = unless_failed (device_step (puts_payload slot)) w
 happens (DevicePays slot) w = unless_failed (device_step (puts_owed slot)) w

@@ -130,8 +130,9 @@ impl Device {
     {
         let slots = self.slots.all();
         let round = round_from(self.last_put, slots.as_slice());
+        let mut buffer = [0; PAYLOAD_MAX];
         for slot in round.as_slice() {
-            self.serve_slot(ring, host, *slot, fill);
+            self.serve_slot(ring, host, *slot, &mut buffer, fill);
         }
     }
 
@@ -141,6 +142,7 @@ impl Device {
         ring: &mut R,
         host: &mut H,
         slot: Slot,
+        buffer: &mut [u8; PAYLOAD_MAX],
         fill: &mut Fill,
     )
         requires ring { IsRingOf (R.held ring.old) self.old }
@@ -155,7 +157,7 @@ impl Device {
         if fill.over {
             return;
         }
-        self.read_slot(ring, host, slot, fill);
+        self.read_slot(ring, host, slot, buffer, fill);
         if !fill.over {
             self.put_all_owed(ring, host, slot, fill);
         }
@@ -167,6 +169,7 @@ impl Device {
         ring: &mut R,
         host: &mut H,
         slot: Slot,
+        buffer: &mut [u8; PAYLOAD_MAX],
         fill: &mut Fill,
     )
         requires ring { IsRingOf (R.held ring.old) self.old }
@@ -181,7 +184,7 @@ impl Device {
     {
         if self.is_to_read(slot) {
             self.hold(ring, fill);
-            self.read_with_chain(ring, host, slot, fill);
+            self.read_with_chain(ring, host, slot, buffer, fill);
         }
     }
 
@@ -209,6 +212,7 @@ impl Device {
         ring: &mut R,
         host: &mut H,
         slot: Slot,
+        buffer: &mut [u8; PAYLOAD_MAX],
         fill: &mut Fill,
     )
         requires ring { IsAmong (R.held ring.old) self.old }
@@ -230,9 +234,8 @@ impl Device {
             return;
         };
         let room = read_room(connection.free(), chain.writable);
-        let mut payload = [0; PAYLOAD_MAX];
-        match read_into(host, connection.stream(), &mut payload, room) {
-            StreamRead::Got(n) => self.put_payload(ring, slot, &payload[..n], fill),
+        match read_into(host, connection.stream(), buffer, room) {
+            StreamRead::Got(n) => self.put_payload(ring, slot, &buffer[..n], fill),
             StreamRead::Again => {}
             StreamRead::End => self.slots.shut(slot, 2, self.moment),
             StreamRead::Failed => {

@@ -12,10 +12,11 @@ ghost use Rattle.vs_device_parts.specs.Streams.{tick_slot};
 
 use crate::device::Device;
 use vs_device_parts::fill::Fill;
-use vs_device_parts::limits::REPLIES;
+use vs_device_parts::limits::{REPLIES, WRITE_MAX};
 use vs_device_parts::ring_calls::{return_read, take};
 use vs_flow::Slot;
 use vs_outside::HostNet;
+use vs_page::PAYLOAD_MAX;
 use vs_ring_port::{Chain, DeviceRing, Next, Queue};
 
 /// Takes a packet that the guest sent, while fewer than 64 replies are owed. Its chain stays held.
@@ -139,7 +140,8 @@ pub fn put_payload<R: DeviceRing, H: HostNet>(
 {
     if device.is_to_read(slot) {
         let mut fill = Fill::none();
-        device.read_with_chain(ring, host, slot, &mut fill);
+        let mut buffer = [0; PAYLOAD_MAX];
+        device.read_with_chain(ring, host, slot, &mut buffer, &mut fill);
     }
 }
 
@@ -152,8 +154,9 @@ pub fn write<H: HostNet>(device: &mut Device, host: &mut H, slot: Slot)
         → ForSome (H.contents host.new) (HasStreams others device.new.table) }
 {
     if device.has_stream(slot) {
+        let mut buffer = [0; WRITE_MAX];
         let mut wrote = 0;
-        device.write_pending(host, slot, &mut wrote);
+        device.write_pending(host, slot, &mut buffer, &mut wrote);
     }
 }
 

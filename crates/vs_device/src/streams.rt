@@ -86,15 +86,22 @@ impl Device {
             → StayAccounted (pump_of self.old) calls (writing self.new result) self.new.table hands (H.contents host.new) }
     {
         let slots = self.slots.all();
+        let mut buffer = [0; WRITE_MAX];
         let mut wrote = 0;
         for slot in slots.as_slice() {
-            self.pump_slot(host, *slot, &mut wrote);
+            self.pump_slot(host, *slot, &mut buffer, &mut wrote);
         }
         wrote
     }
 
     // Writes what is pending on the connection in a slot, whose stream isn't closed.
-    fn pump_slot<H: HostNet>(&mut self, host: &mut H, slot: Slot, wrote: &mut u32)
+    fn pump_slot<H: HostNet>(
+        &mut self,
+        host: &mut H,
+        slot: Slot,
+        buffer: &mut [u8; WRITE_MAX],
+        wrote: &mut u32,
+    )
         requires few { wrote.old + WRITE_MAX < 2 ^ 32 }
         requires may { MayRunOnHost (pump_slot slot (writing self.old wrote.old)) (H.contents host.old) (H.faults host.old) }
         ensures calls { RunsOnHost (pump_slot slot (writing self.old wrote.old)) (H.contents host.old) (H.faults host.old) (writing self.new wrote.new) (H.contents host.new) (H.faults host.new) }
@@ -102,7 +109,7 @@ impl Device {
         ensures count { wrote.new ≤ wrote.old + WRITE_MAX }
     {
         if self.has_stream(slot) {
-            self.write_pending(host, slot, wrote);
+            self.write_pending(host, slot, buffer, wrote);
             self.shut_write(host, slot);
         }
     }
@@ -118,18 +125,23 @@ impl Device {
     }
 
     /// Writes the first bytes that are pending on the connection in a slot.
-    pub(crate) fn write_pending<H: HostNet>(&mut self, host: &mut H, slot: Slot, wrote: &mut u32)
+    pub(crate) fn write_pending<H: HostNet>(
+        &mut self,
+        host: &mut H,
+        slot: Slot,
+        buffer: &mut [u8; WRITE_MAX],
+        wrote: &mut u32,
+    )
         requires few { wrote.old + WRITE_MAX < 2 ^ 32 }
         requires may { (e : DeviceEntry) → entry_under self.old.table slot ≡ Some e → MayRunOnHost (write_pending e (writing self.old wrote.old)) (H.contents host.old) (H.faults host.old) }
         ensures calls { (e : DeviceEntry) → entry_under self.old.table slot ≡ Some e → RunsOnHost (write_pending e (writing self.old wrote.old)) (H.contents host.old) (H.faults host.old) (writing self.new wrote.new) (H.contents host.new) (H.faults host.new) }
         ensures chain { self.new.chain ≡ self.old.chain }
         ensures count { wrote.new ≤ wrote.old + WRITE_MAX }
     {
-        let mut buffer = [0; WRITE_MAX];
         let Some(connection) = self.slots.connection(slot) else {
             return;
         };
-        let len = connection.copy_to_write(&mut buffer);
+        let len = connection.copy_to_write(buffer);
         if len == 0 {
             return;
         }

@@ -12,7 +12,7 @@ use Rattle.vs_ring_port.specs.Contents.{RingContents}
 use Rattle.vs_ring_port.specs.DriverCalls.{Stage, Publish, Reap, CanPublish, DriverAllows}
 use Rattle.vs_driver_parts.specs.State.{DriverState}
 use Rattle.vs_driver_parts.specs.Conversations.{reap_one, reaped, stage_of, after_stage, post_packet, stage_packet, one_more_in_flight}
-use Rattle.vs_driver_parts.specs.Playing.{CanMake, IsAtWork, IsResting, IsRingOf, IsWorking, MayPublishAll, Plays, RingAllows, SamePages, all_flown}
+use Rattle.vs_driver_parts.specs.Playing.{CanMake, IsRingOf, MayPublishAll, Plays, RingAllows, SamePages}
 
 reap_asks : (g : DriverState) → g.in_flight ≢ 0 → reap_one g ≡ Ask (Reap Tx) (λ page. Done (reaped g page))
 reap_asks g some = let e : (g.in_flight == 0) ≡ false = grind (arith, nat_tests) in rw e refl
@@ -82,37 +82,12 @@ module _ (n : ℕ) (f w : Counts) (g h : DriverState) (same : SamePages g h) whe
     none = same.2 ∙ ring.none;
   }
 
-  pub rest_same : IsResting n f w g → IsResting n f w h
-  rest_same ring = record {
-    size = same.0 ∙ ring.size;
-    flight = ring.flight ∙ sym same.1;
-    staged = ring.staged;
-    none = same.2 ∙ ring.none;
-  }
-
-module _ (n m : ℕ) (f f' v w : Counts) (g h : DriverState) (size : m ≡ n) (flight : f' ≡ record f { tx = h.in_flight }) where
-  all_but_tx : f ≡ all_flown n g → f' ≡ all_flown m h
-  all_but_tx all =
-      flight ∙ (ap (λ (c : Counts). let d : Counts = record c { tx = h.in_flight } in d) all
-      ∙ ap (λ (k : ℕ). let d : Counts = record { rx = k; tx = h.in_flight; event = k } in d) (sym size))
-
-  pub ring_after : IsRingOf n f v g → IsResting m f' w h → IsRingOf m f' w h
-  ring_after ring rest = record { size = rest.size; flight = all_but_tx ring.flight; staged = rest.staged; none = rest.none }
-
-  pub work_after : IsAtWork Tx n f v g → IsWorking Tx m f' w h → IsAtWork Tx m f' w h
-  work_after ring work = record { size = work.size; flight = all_but_tx ring.flight; staged = work.staged; few = work.few }
-
-pub rests : (n : ℕ) (f w : Counts) (g : DriverState) → IsRingOf n f w g → IsResting n f w g
-rests n f w g ring = record { size = ring.size; flight = ap (λ (c : Counts). c.tx) ring.flight; staged = ring.staged; none = ring.none }
-
-pub works : (n : ℕ) (f w : Counts) (g : DriverState) → IsAtWork Tx n f w g → IsWorking Tx n f w g
-works n f w g ring = record { size = ring.size; flight = ap (λ (c : Counts). c.tx) ring.flight; staged = ring.staged; few = ring.few }
-
 pub ring_after_reap : (n m : ℕ) (f f' v w : Counts) (g h : DriverState) → m ≡ n → f' ≡ record f { tx = h.in_flight } → w ≡ v
     → h ≡ record g { in_flight = h.in_flight } → IsRingOf n f v g → IsRingOf m f' w h
 ring_after_reap n m f f' v w g h size flight staged others ring = record {
   size = ap (λ (x : DriverState). x.size) others ∙ (ring.size ∙ sym size);
-  flight = all_but_tx n m f f' v w g h size flight ring.flight;
+  flight = flight ∙ (ap (λ (c : Counts). let d : Counts = record c { tx = h.in_flight } in d) ring.flight
+      ∙ ap (λ (k : ℕ). let d : Counts = record { rx = k; tx = h.in_flight; event = k } in d) (sym size));
   staged = staged ∙ ring.staged;
   none = ap (λ (x : DriverState). x.staged) others ∙ ring.none;
 }

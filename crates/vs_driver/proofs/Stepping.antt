@@ -1,29 +1,22 @@
 -- What single steps come to.
-use Rattle.std.proofs.Common.{◌≡◌, ℕ, Bool, true, false, cond, List, [], length, nat_le, nat_lt, Option, Some, None, Result, Err, refl, sym, ap, subst}
-use Rattle.std.proofs.Math.Path.{fun_ext}
-use Rattle.vs_contents.specs.CallTree.{Done, Ask, bind}
+use Rattle.std.proofs.Common.{◌≡◌, ℕ, Bool, Some, None, Result, Err, refl, sym, subst}
+use Rattle.vs_contents.specs.CallTree.{Done}
 use Rattle.vs_contents.proofs.Leads.{leads_of, leads_bind}
 use Rattle.vs_contents.proofs.Conditions.{may_first, may_of}
 use Rattle.vs_ring_port.specs.declared.queue.Queue.{Queue}
 use Rattle.vs_ring_port.specs.declared.queue.Queue.TheVariants.{Rx, Tx, Event}
 use Rattle.vs_ring_port.specs.Contents.{RingContents}
-use Rattle.vs_ring_port.specs.DriverCalls.{Reap}
 use Rattle.vs_driver_parts.specs.declared.answers.ConnectError.{ConnectError}
-use Rattle.vs_driver_parts.specs.declared.limits.TheConstants.{REPLIES_FULL}
 use Rattle.vs_driver_parts.specs.State.{DriverState}
 use Rattle.vs_driver_parts.specs.Connections.{connect_refusal}
-use Rattle.vs_driver_parts.specs.Conversations.{DriverTree, Round, connect_with_page, event_taken, put_owed, put_reply, reap_one, stage_of, start}
+use Rattle.vs_driver_parts.specs.Conversations.{DriverTree, Round, connect_with_page, put_owed, put_reply, reap_one, start, take_event, take_packet}
 use Rattle.vs_driver_parts.specs.Playing.{CanMake, MayPublishAll, Plays, RingAllows}
-use Rattle.vs_driver_parts.specs.Steps.{connects, event_came, heard_event, heard_packet, packet_came, reap_event, reap_packet, stages_owed, stages_page, stages_reply, takes_page}
-use Rattle.vs_driver_log.specs.Staged.{IsWorkingWith}
-use Rattle.vs_driver_log.proofs.Keeping.{keeps_end}
+use Rattle.vs_driver_parts.specs.Steps.{connects, stages_owed, stages_reply, takes_page}
+use Rattle.vs_driver_log.specs.Staged.{IsAtWorkWith, IsWorkingWith}
+use Rattle.vs_driver_log.proofs.Keeping.{keeps_end, keeps_may}
 use Rattle.vs_driver_log.proofs.Stepping.{takes_keeps}
-use Rattle.vs_driver.proofs.Taking.{event_then}
 
 -- the state that a step leaves
-of_reap : Round × Option (List ℕ) → DriverTree DriverState
-of_reap x = Done x.0.state
-
 of_put : Round × Bool → DriverTree DriverState
 of_put x = Done x.0.state
 
@@ -31,40 +24,14 @@ of_back : DriverState × Bool → DriverTree DriverState
 of_back x = Done x.0
 
 module _ (s : DriverState) where
-  event_came_is : (page : Option (List ℕ)) → event_came page s ≡ bind (heard_event (start s) page) of_reap
-  unfolding of_reap
-  event_came_is None = refl
-  event_came_is (Some page) = event_then page (start s) (λ q. Done (q, Some page)) of_reap
-
-  event_by : (b : Bool) → (let tree : DriverTree DriverState = cond b (Done s) (Ask (Reap Event) (λ page. event_came page s)) in tree)
-      ≡ bind (let tree : DriverTree (Round × Option (List ℕ)) = cond b (Done (start s, None)) (Ask (Reap Event) (heard_event (start s))) in tree) of_reap
-  unfolding of_reap
-  event_by true = refl
-  event_by false = ap (Ask (Reap Event)) (fun_ext event_came_is)
-
-  packet_came_is : (page : Option (List ℕ)) → (let tree : DriverTree DriverState = Done (packet_came page s) in tree) ≡ bind (heard_packet (start s) page) of_reap
-  unfolding of_reap
-  packet_came_is None = refl
-  packet_came_is (Some page) = refl
-
-  packet_by : (b : Bool) → (let tree : DriverTree DriverState = cond b (Done s) (Ask (Reap Rx) (λ page. Done (packet_came page s))) in tree)
-      ≡ bind (let tree : DriverTree (Round × Option (List ℕ)) = cond b (Done (start s, None)) (Ask (Reap Rx) (heard_packet (start s))) in tree) of_reap
-  unfolding of_reap
-  packet_by true = refl
-  packet_by false = ap (Ask (Reap Rx)) (fun_ext packet_came_is)
-
   module _ (c m : RingContents) where
-    pub event_stepped : (r : Round) (page : Option (List ℕ)) → Plays (reap_event (start s)) c (r, page) m → Plays (takes_page Event s) c r.state m
-    unfolding of_reap
-    event_stepped r page plays =
-        leads_of RingAllows _ _ c m r.state (event_by (nat_lt REPLIES_FULL (length s.replies)))
-        (leads_bind RingAllows (reap_event (start s)) of_reap c m m (r, page) r.state plays (refl, refl))
+    pub packet_stepped : (r : Round) (b : Bool) → Plays (take_packet (start s)) c (r, b) m → Plays (takes_page Rx s) c r.state m
+    unfolding of_put
+    packet_stepped r b plays = leads_bind RingAllows (take_packet (start s)) of_put c m m (r, b) r.state plays (refl, refl)
 
-    pub packet_stepped : (r : Round) (page : Option (List ℕ)) → Plays (reap_packet (start s)) c (r, page) m → Plays (takes_page Rx s) c r.state m
-    unfolding of_reap
-    packet_stepped r page plays =
-        leads_of RingAllows _ _ c m r.state (packet_by (nat_le REPLIES_FULL (length s.replies)))
-        (leads_bind RingAllows (reap_packet (start s)) of_reap c m m (r, page) r.state plays (refl, refl))
+    pub event_stepped : (r : Round) (b : Bool) → Plays (take_event (start s)) c (r, b) m → Plays (takes_page Event s) c r.state m
+    unfolding of_put
+    event_stepped r b plays = leads_bind RingAllows (take_event (start s)) of_put c m m (r, b) r.state plays (refl, refl)
 
     pub back_stepped : (t : DriverState) (b : Bool) → Plays (reap_one s) c (t, b) m → Plays (takes_page Tx s) c t m
     unfolding of_back
@@ -87,22 +54,28 @@ module _ (s : DriverState) where
     unfolding of_put
     may_step_owed slot may = may_first CanMake RingAllows (put_owed slot (start s)) of_put c may
 
-  pub stays_honest : (queue q : Queue) (first : ℕ) (t : DriverState) (c d : RingContents) → queue ≡ q → Plays (takes_page q s) c t d
-      → IsWorkingWith queue first s c → IsWorkingWith queue first t d
-  stays_honest queue q first t c d is plays honest =
-      let P : Queue → Type 0 = λ x. Plays (takes_page x s) c t d in
-      keeps_end (λ u e. IsWorkingWith queue first u e) (takes_page queue s) c d t (takes_keeps first queue s c honest) (subst P (sym is) plays)
+  -- of the queue that it is
+  pub page_taken : (queue q : Queue) (t : DriverState) (c m : RingContents) → queue ≡ q → Plays (takes_page q s) c t m
+      → Plays (takes_page queue s) c t m
+  page_taken queue q t c m is plays = let P : Queue → Type 0 = λ x. Plays (takes_page x s) c t m in subst P (sym is) plays
 
-  stages_is : (queue : Queue) → (queue ≡ Tx → ⊥) → stages_page queue s ≡ stage_of queue [] s
-  stages_is Rx other = refl
-  stages_is Tx other = absurd (other refl)
-  stages_is Event other = refl
+  pub stays_honest : (queue : Queue) (first : ℕ) (t : DriverState) (c m : RingContents) → Plays (takes_page queue s) c t m
+      → IsWorkingWith queue first s c → IsWorkingWith queue first t m
+  stays_honest queue first t c m plays honest =
+      keeps_end (λ u d. IsWorkingWith queue first u d) (takes_page queue s) c m t (takes_keeps first queue s c honest) plays
 
-  pub may_stage_empty : (queue : Queue) (c : RingContents) → (queue ≡ Tx → ⊥) → MayPublishAll (stages_page queue s) c → MayPublishAll (stage_of queue [] s) c
-  may_stage_empty queue c other may = may_of CanMake RingAllows _ _ c (stages_is queue other) may
+  may_take : (queue q : Queue) (c : RingContents) → queue ≡ q → IsAtWorkWith queue s c → MayPublishAll (takes_page q s) c
+  may_take queue q c is (first, honest) =
+      let P : Queue → Type 0 = λ x. MayPublishAll (takes_page x s) c in
+      subst P is (keeps_may (λ u e. IsWorkingWith queue first u e) (takes_page queue s) c (takes_keeps first queue s c honest))
 
-  pub empty_staged : (queue : Queue) (t : DriverState) (c m : RingContents) → (queue ≡ Tx → ⊥) → Plays (stage_of queue [] s) c t m → Plays (stages_page queue s) c t m
-  empty_staged queue t c m other plays = leads_of RingAllows _ _ c m t (stages_is queue other) plays
+  pub may_take_packet : (queue : Queue) (c : RingContents) → queue ≡ Rx → IsAtWorkWith queue s c → MayPublishAll (take_packet (start s)) c
+  unfolding of_put
+  may_take_packet queue c is honest = may_first CanMake RingAllows (take_packet (start s)) of_put c (may_take queue Rx c is honest)
+
+  pub may_take_event : (queue : Queue) (c : RingContents) → queue ≡ Event → IsAtWorkWith queue s c → MayPublishAll (take_event (start s)) c
+  unfolding of_put
+  may_take_event queue c is honest = may_first CanMake RingAllows (take_event (start s)) of_put c (may_take queue Event c is honest)
 
   -- connect
   module _ (port : ℕ) where

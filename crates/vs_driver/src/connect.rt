@@ -10,7 +10,7 @@ ghost use Rattle.vs_driver_parts.specs.declared.answers.ConnectError.{ConnectErr
 ghost use Rattle.vs_driver_parts.specs.Connections.{connect_refusal, connected, is_full, is_spent, next_flow, route_to_host};
 ghost use Rattle.vs_driver_parts.specs.Conversations.{connect_of, connect_with_page};
 ghost use Rattle.vs_driver.specs.Outcomes.{Opens, Refuses, FindsNoPage};
-ghost use Rattle.vs_driver_parts.specs.Playing.{IsResting, IsRingOf, MayPublishAll, Plays};
+ghost use Rattle.vs_driver_parts.specs.Playing.{IsRingOf, MayPublishAll, Plays};
 ghost use Rattle.vs_driver_log.specs.Honest.{IsHonest, IsHonestWith};
 
 use crate::driver::Driver;
@@ -75,11 +75,10 @@ impl Driver {
         ring: &mut R,
         host_port: u32,
     ) -> Result<ConnId, ConnectError>
-        requires ring { IsResting (R.size ring.old) (R.flight ring.old) (R.staged ring.old) self.old }
+        requires ring { IsRingOf (R.size ring.old) (R.flight ring.old) (R.staged ring.old) self.old }
         requires free { connect_refusal host_port self.old ≡ None }
         requires may { MayPublishAll (connect_with_page host_port self.old) (R.contents ring.old) }
-        ensures ring { IsResting (R.size ring.new) (R.flight ring.new) (R.staged ring.new) self.new }
-        ensures flight { R.flight ring.new ≡ record (R.flight ring.old) { tx = self.new.in_flight } }
+        ensures ring { IsRingOf (R.size ring.new) (R.flight ring.new) (R.staged ring.new) self.new }
         ensures same_size { R.size ring.new ≡ R.size ring.old }
         ensures calls { Plays (connect_with_page host_port self.old) (R.contents ring.old) (self.new, result) (R.contents ring.new) }
         ensures opened { IfOk result (Opens host_port self.old self.new) }

@@ -11,7 +11,7 @@ ghost use Rattle.vs_driver_parts.specs.declared.limits.TheConstants.{REPLIES};
 ghost use Rattle.vs_conn.specs.declared.end.TheConstants.{OWED_MAX};
 ghost use Rattle.vs_driver_parts.specs.State.{DriverEntry};
 ghost use Rattle.vs_driver_parts.specs.Conversations.{put_all, put_replies, put_reply, pay_all, pay_slot, put_owed, after_paying, is_rst, reply_header, round_of};
-ghost use Rattle.vs_driver_parts.specs.Playing.{IsRingOf, IsAtWork, IsWorking, MayPublishAll, Plays, SamePages};
+ghost use Rattle.vs_driver_parts.specs.Playing.{IsRingOf, IsAtWork, MayPublishAll, Plays, SamePages};
 
 use crate::driver::Driver;
 use vs_conn::{OWED_MAX, Owed, Route};
@@ -57,11 +57,10 @@ impl Driver {
 
     /// Stages the oldest owed reply, if there is one and a page is free.
     pub(crate) fn put_reply<R: DriverRing>(&mut self, ring: &mut R, tally: &mut Tally) -> bool
-        requires ring { IsWorking Tx (R.size ring.old) (R.flight ring.old) (R.staged ring.old) self.old }
+        requires ring { IsAtWork Tx (R.size ring.old) (R.flight ring.old) (R.staged ring.old) self.old }
         requires few { tally.old.count < 2 ^ 16 }
         requires may { MayPublishAll (put_reply (round_of self.old tally.old)) (R.contents ring.old) }
-        ensures ring { IsWorking Tx (R.size ring.new) (R.flight ring.new) (R.staged ring.new) self.new }
-        ensures flight { R.flight ring.new ≡ record (R.flight ring.old) { tx = self.new.in_flight } }
+        ensures ring { IsAtWork Tx (R.size ring.new) (R.flight ring.new) (R.staged ring.new) self.new }
         ensures same_size { R.size ring.new ≡ R.size ring.old }
         ensures calls { Plays (put_reply (round_of self.old tally.old)) (R.contents ring.old) (round_of self.new tally.new, result) (R.contents ring.new) }
         ensures count { tally.new.count ≤ tally.old.count + 1 }
@@ -116,11 +115,10 @@ impl Driver {
         slot: Slot,
         tally: &mut Tally,
     ) -> bool
-        requires ring { IsWorking Tx (R.size ring.old) (R.flight ring.old) (R.staged ring.old) self.old }
+        requires ring { IsAtWork Tx (R.size ring.old) (R.flight ring.old) (R.staged ring.old) self.old }
         requires few { tally.old.count < 2 ^ 16 }
         requires may { MayPublishAll (put_owed slot (round_of self.old tally.old)) (R.contents ring.old) }
-        ensures ring { IsWorking Tx (R.size ring.new) (R.flight ring.new) (R.staged ring.new) self.new }
-        ensures flight { R.flight ring.new ≡ record (R.flight ring.old) { tx = self.new.in_flight } }
+        ensures ring { IsAtWork Tx (R.size ring.new) (R.flight ring.new) (R.staged ring.new) self.new }
         ensures same_size { R.size ring.new ≡ R.size ring.old }
         ensures calls { Plays (put_owed slot (round_of self.old tally.old)) (R.contents ring.old) (round_of self.new tally.new, result) (R.contents ring.new) }
         ensures count { tally.new.count ≤ tally.old.count + 1 }

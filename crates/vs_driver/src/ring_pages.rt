@@ -7,7 +7,7 @@ ghost use Rattle.vs_ring_port.specs.declared.queue.Queue.TheVariants.{Tx};
 ghost use Rattle.vs_ring_port.specs.Counts.{at, no_counts, one_more, with_count};
 ghost use Rattle.vs_ring_port.specs.declared.queue.TheConstants.{STAGED_MAX};
 ghost use Rattle.vs_driver_parts.specs.Conversations.{reap_one, reap_all, stage_of, after_stage, publish_of, stage_packet, post_packet, one_more_in_flight, has_page};
-ghost use Rattle.vs_driver_parts.specs.Playing.{IsRingOf, IsAtWork, IsResting, IsWorking, MayPublishAll, Plays};
+ghost use Rattle.vs_driver_parts.specs.Playing.{IsRingOf, IsAtWork, MayPublishAll, Plays};
 
 use crate::driver::Driver;
 use vs_header::Header;
@@ -58,12 +58,11 @@ impl Driver {
         header: &Header,
         payload: &[u8],
     )
-        requires ring { IsResting (R.size ring.old) (R.flight ring.old) (R.staged ring.old) self.old }
+        requires ring { IsRingOf (R.size ring.old) (R.flight ring.old) (R.staged ring.old) self.old }
         requires free { has_page self.old ≡ true }
         requires payload { length payload.now ≤ PAYLOAD_MAX }
         requires may { MayPublishAll (post_packet (header_bytes header.now ++ payload.now) self.old) (R.contents ring.old) }
-        ensures ring { IsResting (R.size ring.new) (R.flight ring.new) (R.staged ring.new) self.new }
-        ensures flight { R.flight ring.new ≡ record (R.flight ring.old) { tx = self.new.in_flight } }
+        ensures ring { IsRingOf (R.size ring.new) (R.flight ring.new) (R.staged ring.new) self.new }
         ensures same_size { R.size ring.new ≡ R.size ring.old }
         ensures calls { Plays (post_packet (header_bytes header.now ++ payload.now) self.old) (R.contents ring.old) self.new (R.contents ring.new) }
         ensures state { self.new ≡ one_more_in_flight self.old }
@@ -78,11 +77,10 @@ impl Driver {
 
     /// Posts a packet without payload. A page has to be free.
     pub(crate) fn post_header<R: DriverRing>(&mut self, ring: &mut R, header: &Header)
-        requires ring { IsResting (R.size ring.old) (R.flight ring.old) (R.staged ring.old) self.old }
+        requires ring { IsRingOf (R.size ring.old) (R.flight ring.old) (R.staged ring.old) self.old }
         requires free { has_page self.old ≡ true }
         requires may { MayPublishAll (post_packet (header_bytes header.now) self.old) (R.contents ring.old) }
-        ensures ring { IsResting (R.size ring.new) (R.flight ring.new) (R.staged ring.new) self.new }
-        ensures flight { R.flight ring.new ≡ record (R.flight ring.old) { tx = self.new.in_flight } }
+        ensures ring { IsRingOf (R.size ring.new) (R.flight ring.new) (R.staged ring.new) self.new }
         ensures same_size { R.size ring.new ≡ R.size ring.old }
         ensures calls { Plays (post_packet (header_bytes header.now) self.old) (R.contents ring.old) self.new (R.contents ring.new) }
         ensures state { self.new ≡ one_more_in_flight self.old }
@@ -92,11 +90,10 @@ impl Driver {
 
     /// Stages a transmit page with a packet without payload; 16 staged pages are published together. A page has to be free.
     pub(crate) fn stage_packet<R: DriverRing>(&mut self, ring: &mut R, header: &Header)
-        requires ring { IsWorking Tx (R.size ring.old) (R.flight ring.old) (R.staged ring.old) self.old }
+        requires ring { IsAtWork Tx (R.size ring.old) (R.flight ring.old) (R.staged ring.old) self.old }
         requires free { has_page self.old ≡ true }
         requires may { MayPublishAll (stage_packet (header_bytes header.now) self.old) (R.contents ring.old) }
-        ensures ring { IsWorking Tx (R.size ring.new) (R.flight ring.new) (R.staged ring.new) self.new }
-        ensures flight { R.flight ring.new ≡ record (R.flight ring.old) { tx = self.new.in_flight } }
+        ensures ring { IsAtWork Tx (R.size ring.new) (R.flight ring.new) (R.staged ring.new) self.new }
         ensures same_size { R.size ring.new ≡ R.size ring.old }
         ensures calls { Plays (stage_packet (header_bytes header.now) self.old) (R.contents ring.old) self.new (R.contents ring.new) }
         ensures state { self.new ≡ record (one_more_in_flight self.old) { staged = self.new.staged } }
@@ -150,6 +147,7 @@ impl Driver {
         requires ring { IsAtWork queue (R.size ring.old) (R.flight ring.old) (R.staged ring.old) self.old }
         requires may { MayPublishAll (publish_of queue self.old) (R.contents ring.old) }
         ensures ring { IsRingOf (R.size ring.new) (R.flight ring.new) (R.staged ring.new) self.new }
+        ensures same_size { R.size ring.new ≡ R.size ring.old }
         ensures calls { Plays (publish_of queue self.old) (R.contents ring.old) self.new (R.contents ring.new) }
         ensures state { self.new ≡ record self.old { staged = 0 } }
     {

@@ -10,7 +10,7 @@ ghost use Rattle.vs_driver_parts.specs.State.{DriverEntry, entry_known_as, gone_
 ghost use Rattle.vs_driver_parts.specs.Connections.{unread_of_id, with_end};
 ghost use Rattle.vs_driver_parts.specs.Conversations.{send_of, send_with_page, send_stopped, no_credit, not_sent};
 ghost use Rattle.vs_driver_parts.specs.Steps.{ready_on, ready_to_send, ready_with};
-ghost use Rattle.vs_driver_parts.specs.Playing.{IsResting, IsRingOf, MayPublishAll, Plays, SamePages};
+ghost use Rattle.vs_driver_parts.specs.Playing.{IsRingOf, MayPublishAll, Plays, SamePages};
 ghost use Rattle.vs_driver.specs.Outcomes.{Sends};
 ghost use Rattle.vs_driver.specs.Pipes.{KeepsOthers};
 ghost use Rattle.vs_driver_log.specs.Honest.{IsHonest, IsHonestWith};
@@ -133,13 +133,12 @@ impl Driver {
         slot: Slot,
         payload: &[u8],
     ) -> Sent
-        requires ring { IsResting (R.size ring.old) (R.flight ring.old) (R.staged ring.old) self.old }
+        requires ring { IsRingOf (R.size ring.old) (R.flight ring.old) (R.staged ring.old) self.old }
         requires payload { length payload.now ≤ PAYLOAD_MAX }
         requires credit { (e : DriverEntry) → entry_under self.old.table slot ≡ Some e → CanSend e.value.end (length payload.now) }
         requires may { (e : DriverEntry) → entry_under self.old.table slot ≡ Some e → MayPublishAll (send_with_page e payload.now self.old) (R.contents ring.old) }
         requires held { is_some (entry_under self.old.table slot) ≡ true }
-        ensures ring { IsResting (R.size ring.new) (R.flight ring.new) (R.staged ring.new) self.new }
-        ensures flight { R.flight ring.new ≡ record (R.flight ring.old) { tx = self.new.in_flight } }
+        ensures ring { IsRingOf (R.size ring.new) (R.flight ring.new) (R.staged ring.new) self.new }
         ensures same_size { R.size ring.new ≡ R.size ring.old }
         ensures calls { (e : DriverEntry) → entry_under self.old.table slot ≡ Some e → Plays (send_with_page e payload.now self.old) (R.contents ring.old) (self.new, result) (R.contents ring.new) }
     {

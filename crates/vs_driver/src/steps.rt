@@ -1,11 +1,10 @@
 //! Single steps of the driver, each of which moves one page at most: what it does in one event of the world.
 
-ghost use Rattle.std.specs.Prelude.{◌≡◌, ◌<◌, ℕ, OnSome, IfNone};
-ghost use Rattle.vs_ring_port.specs.Counts.{at, one_more};
+ghost use Rattle.std.specs.Prelude.{◌≡◌, ℕ};
 ghost use Rattle.vs_ring_port.specs.declared.queue.Queue.TheVariants.{Tx};
 ghost use Rattle.vs_driver_parts.specs.Conversations.{publish_of};
-ghost use Rattle.vs_driver_parts.specs.Playing.{IsResting, IsWorking, Plays};
-ghost use Rattle.vs_driver_parts.specs.Steps.{connects, sends, stages_owed, stages_page, stages_reply, takes_page};
+ghost use Rattle.vs_driver_parts.specs.Playing.{IsAtWork, IsRingOf, Plays};
+ghost use Rattle.vs_driver_parts.specs.Steps.{connects, sends, stages_owed, stages_reply, takes_page};
 ghost use Rattle.vs_driver_log.specs.Honest.{IsHonest, IsHonestWith};
 ghost use Rattle.vs_driver_log.specs.Staged.{IsAtWorkWith, IsWorkingWith};
 
@@ -13,7 +12,6 @@ use crate::driver::Driver;
 use vs_driver_parts::answers::{ConnId, ConnectError, Sent};
 use vs_driver_parts::tally::Tally;
 use vs_flow::Slot;
-use vs_page::Page;
 use vs_ring_port::{DriverRing, Queue};
 
 /// Pages staged on the queue in work and not published.
@@ -23,51 +21,36 @@ pub fn staged(driver: &Driver) -> u16
     driver.pages.staged()
 }
 
-/// Takes one page of a queue, and does what it asks: an event while 64 or fewer replies are owed, a packet while fewer are. Gives the page,
-/// which isn't staged again. A transmit page just comes back to the driver.
-pub fn take_page<R: DriverRing>(driver: &mut Driver, ring: &mut R, queue: Queue) -> Option<Page>
-    requires ring { IsWorking queue (R.size ring.old) (R.flight ring.old) (R.staged ring.old) driver.old }
+/// Takes one page of a queue, and does what it asks: an event while 64 or fewer replies are owed, a packet while fewer are. Its page is
+/// staged again. A transmit page just comes back to the driver.
+pub fn take_page<R: DriverRing>(driver: &mut Driver, ring: &mut R, queue: Queue)
+    requires ring { IsAtWork queue (R.size ring.old) (R.flight ring.old) (R.staged ring.old) driver.old }
     requires honest { IsAtWorkWith queue driver.old (R.contents ring.old) }
-    ensures ring { IsWorking queue (R.size ring.new) (R.flight ring.new) (R.staged ring.new) driver.new }
+    ensures ring { IsAtWork queue (R.size ring.new) (R.flight ring.new) (R.staged ring.new) driver.new }
     ensures calls { Plays (takes_page queue driver.old) (R.contents ring.old) driver.new (R.contents ring.new) }
-    ensures back { OnSome result (R.flight ring.old ≡ one_more queue (R.flight ring.new)) }
-    ensures none { IfNone result (R.flight ring.new ≡ record (R.flight ring.old) { tx = driver.new.in_flight }) }
     ensures same_size { R.size ring.new ≡ R.size ring.old }
     ensures honest { (first : ℕ) → IsWorkingWith queue first driver.old (R.contents ring.old) → IsWorkingWith queue first driver.new (R.contents ring.new) }
 {
     let mut tally = Tally::none();
     match queue {
-        Queue::Rx => driver.reap_packet(ring, &mut tally),
+        Queue::Rx => {
+            driver.take_packet(ring, &mut tally);
+        }
         Queue::Tx => {
             driver.reap(ring);
-            None
         }
-        Queue::Event => driver.reap_event(ring, &mut tally),
+        Queue::Event => {
+            driver.take_event(ring, &mut tally);
+        }
     }
-}
-
-/// Stages a page for the device to write into. One of the queue's descriptors has to be free.
-pub fn stage_page<R: DriverRing>(driver: &mut Driver, ring: &mut R, queue: Queue, page: Page)
-    requires ring { IsWorking queue (R.size ring.old) (R.flight ring.old) (R.staged ring.old) driver.old }
-    requires room { at queue (R.flight ring.old) < R.size ring.old }
-    requires queue { queue ≡ Tx → ⊥ }
-    requires honest { IsAtWorkWith queue driver.old (R.contents ring.old) }
-    ensures ring { IsWorking queue (R.size ring.new) (R.flight ring.new) (R.staged ring.new) driver.new }
-    ensures calls { Plays (stages_page queue driver.old) (R.contents ring.old) driver.new (R.contents ring.new) }
-    ensures flight { R.flight ring.new ≡ one_more queue (R.flight ring.old) }
-    ensures same_size { R.size ring.new ≡ R.size ring.old }
-    ensures honest { (first : ℕ) → IsWorkingWith queue first driver.old (R.contents ring.old) → IsWorkingWith queue first driver.new (R.contents ring.new) }
-{
-    driver.stage_empty(ring, queue, page);
 }
 
 /// Stages the oldest owed reply, if there is one and a page is free.
 pub fn stage_reply<R: DriverRing>(driver: &mut Driver, ring: &mut R)
-    requires ring { IsWorking Tx (R.size ring.old) (R.flight ring.old) (R.staged ring.old) driver.old }
+    requires ring { IsAtWork Tx (R.size ring.old) (R.flight ring.old) (R.staged ring.old) driver.old }
     requires honest { IsAtWorkWith Tx driver.old (R.contents ring.old) }
-    ensures ring { IsWorking Tx (R.size ring.new) (R.flight ring.new) (R.staged ring.new) driver.new }
+    ensures ring { IsAtWork Tx (R.size ring.new) (R.flight ring.new) (R.staged ring.new) driver.new }
     ensures calls { Plays (stages_reply driver.old) (R.contents ring.old) driver.new (R.contents ring.new) }
-    ensures flight { R.flight ring.new ≡ record (R.flight ring.old) { tx = driver.new.in_flight } }
     ensures same_size { R.size ring.new ≡ R.size ring.old }
     ensures honest { (first : ℕ) → IsWorkingWith Tx first driver.old (R.contents ring.old) → IsWorkingWith Tx first driver.new (R.contents ring.new) }
 {
@@ -77,11 +60,10 @@ pub fn stage_reply<R: DriverRing>(driver: &mut Driver, ring: &mut R)
 
 /// Stages a packet that the connection in a slot owes, if it owes one and a page is free.
 pub fn stage_owed<R: DriverRing>(driver: &mut Driver, ring: &mut R, slot: Slot)
-    requires ring { IsWorking Tx (R.size ring.old) (R.flight ring.old) (R.staged ring.old) driver.old }
+    requires ring { IsAtWork Tx (R.size ring.old) (R.flight ring.old) (R.staged ring.old) driver.old }
     requires honest { IsAtWorkWith Tx driver.old (R.contents ring.old) }
-    ensures ring { IsWorking Tx (R.size ring.new) (R.flight ring.new) (R.staged ring.new) driver.new }
+    ensures ring { IsAtWork Tx (R.size ring.new) (R.flight ring.new) (R.staged ring.new) driver.new }
     ensures calls { Plays (stages_owed slot driver.old) (R.contents ring.old) driver.new (R.contents ring.new) }
-    ensures flight { R.flight ring.new ≡ record (R.flight ring.old) { tx = driver.new.in_flight } }
     ensures same_size { R.size ring.new ≡ R.size ring.old }
     ensures honest { (first : ℕ) → IsWorkingWith Tx first driver.old (R.contents ring.old) → IsWorkingWith Tx first driver.new (R.contents ring.new) }
 {
@@ -91,15 +73,14 @@ pub fn stage_owed<R: DriverRing>(driver: &mut Driver, ring: &mut R, slot: Slot)
 
 /// Publishes the pages that are staged on a queue.
 pub fn publish<R: DriverRing>(driver: &mut Driver, ring: &mut R, queue: Queue)
-    requires ring { IsWorking queue (R.size ring.old) (R.flight ring.old) (R.staged ring.old) driver.old }
+    requires ring { IsAtWork queue (R.size ring.old) (R.flight ring.old) (R.staged ring.old) driver.old }
     requires honest { IsAtWorkWith queue driver.old (R.contents ring.old) }
-    ensures ring { IsResting (R.size ring.new) (R.flight ring.new) (R.staged ring.new) driver.new }
+    ensures ring { IsRingOf (R.size ring.new) (R.flight ring.new) (R.staged ring.new) driver.new }
     ensures calls { Plays (publish_of queue driver.old) (R.contents ring.old) driver.new (R.contents ring.new) }
-    ensures same_flight { R.flight ring.new ≡ R.flight ring.old }
     ensures same_size { R.size ring.new ≡ R.size ring.old }
     ensures honest { (first : ℕ) → IsWorkingWith queue first driver.old (R.contents ring.old) → IsHonestWith first driver.new (R.contents ring.new) }
 {
-    driver.publish_staged(ring, queue);
+    driver.publish(ring, queue);
 }
 
 /// Asks for a connection, as `connect` does, on the pages as they stand: none is taken back.
@@ -108,11 +89,10 @@ pub fn connect<R: DriverRing>(
     ring: &mut R,
     host_port: u32,
 ) -> Result<ConnId, ConnectError>
-    requires ring { IsResting (R.size ring.old) (R.flight ring.old) (R.staged ring.old) driver.old }
+    requires ring { IsRingOf (R.size ring.old) (R.flight ring.old) (R.staged ring.old) driver.old }
     requires honest { IsHonest driver.old (R.contents ring.old) }
-    ensures ring { IsResting (R.size ring.new) (R.flight ring.new) (R.staged ring.new) driver.new }
+    ensures ring { IsRingOf (R.size ring.new) (R.flight ring.new) (R.staged ring.new) driver.new }
     ensures calls { Plays (connects host_port driver.old) (R.contents ring.old) (driver.new, result) (R.contents ring.new) }
-    ensures flight { R.flight ring.new ≡ record (R.flight ring.old) { tx = driver.new.in_flight } }
     ensures same_size { R.size ring.new ≡ R.size ring.old }
     ensures honest { (first : ℕ) → IsHonestWith first driver.old (R.contents ring.old) → IsHonestWith first driver.new (R.contents ring.new) }
 {
@@ -124,11 +104,10 @@ pub fn connect<R: DriverRing>(
 
 /// Sends bytes, as `send` does, on the pages as they stand: none is taken back.
 pub fn send<R: DriverRing>(driver: &mut Driver, ring: &mut R, id: ConnId, bytes: &[u8]) -> Sent
-    requires ring { IsResting (R.size ring.old) (R.flight ring.old) (R.staged ring.old) driver.old }
+    requires ring { IsRingOf (R.size ring.old) (R.flight ring.old) (R.staged ring.old) driver.old }
     requires honest { IsHonest driver.old (R.contents ring.old) }
-    ensures ring { IsResting (R.size ring.new) (R.flight ring.new) (R.staged ring.new) driver.new }
+    ensures ring { IsRingOf (R.size ring.new) (R.flight ring.new) (R.staged ring.new) driver.new }
     ensures calls { Plays (sends id bytes.now driver.old) (R.contents ring.old) (driver.new, result) (R.contents ring.new) }
-    ensures flight { R.flight ring.new ≡ record (R.flight ring.old) { tx = driver.new.in_flight } }
     ensures same_size { R.size ring.new ≡ R.size ring.old }
     ensures honest { (first : ℕ) → IsHonestWith first driver.old (R.contents ring.old) → IsHonestWith first driver.new (R.contents ring.new) }
 {

@@ -1,11 +1,10 @@
 //! The first stages of a poll: events and packets are taken from the ring, and their pages given back to it.
 
-ghost use Rattle.std.specs.Prelude.{◌≡◌, ◌+◌, ◌-◌, ◌<◌, ◌≤◌, ◌==◌, [], length, false, true, ◌^◌, OnSome, IfNone};
+ghost use Rattle.std.specs.Prelude.{◌≡◌, ◌+◌, ◌-◌, ◌<◌, ◌≤◌, ◌==◌, [], length, false, true, ◌^◌};
 ghost use Rattle.vs_ring_port.specs.declared.queue.Queue.TheVariants.{Rx, Tx, Event};
 ghost use Rattle.vs_driver_parts.specs.Conversations.{take_all, all_taken, take_event, take_packet, event_taken, stage_of, round_of, start};
 ghost use Rattle.vs_ring_port.specs.Counts.{at, no_counts, one_more, with_count};
 ghost use Rattle.vs_ring_port.specs.declared.queue.TheConstants.{STAGED_MAX};
-ghost use Rattle.vs_driver_parts.specs.Steps.{reap_event, reap_packet};
 ghost use Rattle.vs_driver_parts.specs.declared.limits.TheConstants.{REPLIES_FULL};
 ghost use Rattle.vs_driver_parts.specs.Receiving.{is_reset_event};
 ghost use Rattle.vs_driver_parts.specs.Playing.{IsRingOf, IsAtWork, MayPublishAll, Plays, SamePages};
@@ -47,49 +46,26 @@ impl Driver {
         tally
     }
 
-    // Takes an event, and stages its page again. False where none is taken.
-    fn take_event<R: DriverRing>(&mut self, ring: &mut R, tally: &mut Tally) -> bool
+    /// Takes an event, and stages its page again. False where none is taken.
+    pub(crate) fn take_event<R: DriverRing>(&mut self, ring: &mut R, tally: &mut Tally) -> bool
         requires ring { IsAtWork Event (R.size ring.old) (R.flight ring.old) (R.staged ring.old) self.old }
         requires few { tally.old.count < 2 ^ 16 }
         requires may { MayPublishAll (take_event (round_of self.old tally.old)) (R.contents ring.old) }
         ensures ring { IsAtWork Event (R.size ring.new) (R.flight ring.new) (R.staged ring.new) self.new }
+        ensures same_size { R.size ring.new ≡ R.size ring.old }
         ensures calls { Plays (take_event (round_of self.old tally.old)) (R.contents ring.old) (round_of self.new tally.new, result) (R.contents ring.new) }
         ensures count { tally.new.count ≤ tally.old.count + 1 }
     {
-        match self.reap_event(ring, tally) {
-            Some(page) => {
-                self.stage_empty(ring, Queue::Event, page);
-                true
-            }
-            None => false,
-        }
-    }
-
-    /// Takes an event, and gives its page. Nothing where none is taken.
-    pub(crate) fn reap_event<R: DriverRing>(
-        &mut self,
-        ring: &mut R,
-        tally: &mut Tally,
-    ) -> Option<Page>
-        requires few { tally.old.count < 2 ^ 16 }
-        ensures back { OnSome result (R.flight ring.old ≡ one_more Event (R.flight ring.new)) }
-        ensures none { IfNone result (R.flight ring.new ≡ R.flight ring.old) }
-        ensures room { OnSome result ((R.flight ring.new).event < R.size ring.new) }
-        ensures same_staged { R.staged ring.new ≡ R.staged ring.old }
-        ensures same_size { R.size ring.new ≡ R.size ring.old }
-        ensures pages { SamePages self.old self.new }
-        ensures calls { Plays (reap_event (round_of self.old tally.old)) (R.contents ring.old) (round_of self.new tally.new, result) (R.contents ring.new) }
-        ensures count { tally.new.count ≤ tally.old.count + 1 }
-    {
         if self.replies.len() > REPLIES_FULL {
-            return None;
+            return false;
         }
         match ring.reap(Queue::Event) {
             Reaped::Back(page) => {
                 self.on_event(ring, &page, tally);
-                Some(page)
+                self.stage_empty(ring, Queue::Event, page);
+                true
             }
-            Reaped::None => None,
+            Reaped::None => false,
         }
     }
 
@@ -143,55 +119,32 @@ impl Driver {
         tally
     }
 
-    // Takes a packet, and stages its page again. False where none is taken.
-    fn take_packet<R: DriverRing>(&mut self, ring: &mut R, tally: &mut Tally) -> bool
+    /// Takes a packet, and stages its page again. False where none is taken.
+    pub(crate) fn take_packet<R: DriverRing>(&mut self, ring: &mut R, tally: &mut Tally) -> bool
         requires ring { IsAtWork Rx (R.size ring.old) (R.flight ring.old) (R.staged ring.old) self.old }
         requires few { tally.old.count < 2 ^ 16 }
         requires may { MayPublishAll (take_packet (round_of self.old tally.old)) (R.contents ring.old) }
         ensures ring { IsAtWork Rx (R.size ring.new) (R.flight ring.new) (R.staged ring.new) self.new }
+        ensures same_size { R.size ring.new ≡ R.size ring.old }
         ensures calls { Plays (take_packet (round_of self.old tally.old)) (R.contents ring.old) (round_of self.new tally.new, result) (R.contents ring.new) }
         ensures count { tally.new.count ≤ tally.old.count + 1 }
     {
-        match self.reap_packet(ring, tally) {
-            Some(page) => {
-                self.stage_empty(ring, Queue::Rx, page);
-                true
-            }
-            None => false,
-        }
-    }
-
-    /// Takes a packet, and gives its page. Nothing where none is taken.
-    pub(crate) fn reap_packet<R: DriverRing>(
-        &mut self,
-        ring: &mut R,
-        tally: &mut Tally,
-    ) -> Option<Page>
-        requires few { tally.old.count < 2 ^ 16 }
-        ensures back { OnSome result (R.flight ring.old ≡ one_more Rx (R.flight ring.new)) }
-        ensures none { IfNone result (R.flight ring.new ≡ R.flight ring.old) }
-        ensures room { OnSome result ((R.flight ring.new).rx < R.size ring.new) }
-        ensures same_staged { R.staged ring.new ≡ R.staged ring.old }
-        ensures same_size { R.size ring.new ≡ R.size ring.old }
-        ensures pages { SamePages self.old self.new }
-        ensures calls { Plays (reap_packet (round_of self.old tally.old)) (R.contents ring.old) (round_of self.new tally.new, result) (R.contents ring.new) }
-        ensures count { tally.new.count ≤ tally.old.count + 1 }
-    {
         if self.replies.len() >= REPLIES_FULL {
-            return None;
+            return false;
         }
         match ring.reap(Queue::Rx) {
             Reaped::Back(page) => {
                 self.on_page(&page);
                 tally.count += 1;
-                Some(page)
+                self.stage_empty(ring, Queue::Rx, page);
+                true
             }
-            Reaped::None => None,
+            Reaped::None => false,
         }
     }
 
-    /// Stages a page for the device to write into.
-    pub(crate) fn stage_empty<R: DriverRing>(&mut self, ring: &mut R, queue: Queue, page: Page)
+    // Stages a page for the device to write into.
+    fn stage_empty<R: DriverRing>(&mut self, ring: &mut R, queue: Queue, page: Page)
         requires room { at queue (R.flight ring.old) < R.size ring.old }
         requires staged { R.staged ring.old ≡ with_count queue self.old.staged no_counts }
         requires few { self.old.staged < STAGED_MAX }

@@ -54,18 +54,18 @@ gets_by first s page (Some p) entries is fits ports left fair =
     let g = gets_packet first p s entries fits (ports p is) (packet_whole page p is).0 left.matches fair in
     (g.fits, record { none_refused = g.broken ∙ left.none_refused; packets = left.packets; matches = g.matches; fair = fair })
 
-pub gets_page : (first : ℕ) (s : DriverState) (page : List ℕ) (l : EndLog) → BringsFit page → IsAtRest first s l → IsFairLog Driver (log_reaped Rx (Some page) l).entries
+gets_page : (first : ℕ) (s : DriverState) (page : List ℕ) (l : EndLog) → BringsFit page → IsAtRest first s l → IsFairLog Driver (log_reaped Rx (Some page) l).entries
     → IsAtRest first (on_page page s) (log_reaped Rx (Some page) l)
 gets_page first s page l ports rest fair =
     let g = gets_by first s page (packet_held page) l.entries refl rest.0 ports rest.1 fair in
     (g.0, g.1, rest.2)
 
 -- An event comes back. Where it tells a reset, something passed.
-abbrev pub HasPassed : Bool → Log → Type 0
+abbrev HasPassed : Bool → Log → Type 0
 HasPassed true entries = (entry : LogEntry) × (older : Log) × (entries ≡ entry ∷ older)
 HasPassed false entries = Unit {0}
 
-abbrev pub AfterEvent : ℕ → List ℕ → DriverState → EndLog → Type 0
+abbrev AfterEvent : ℕ → List ℕ → DriverState → EndLog → Type 0
 AfterEvent first page s l = IsAtRest first s l × HasPassed (is_reset_event page) l.entries
 
 passed : (b : Bool) (entry : LogEntry) (older : Log) → HasPassed b (entry ∷ older)
@@ -82,7 +82,7 @@ event_by first s (Some id) entries left fair = (
   passed (id == 0) (GotEvent id) entries,
 )
 
-pub gets_event : (first : ℕ) (s : DriverState) (page : List ℕ) (l : EndLog) → IsAtRest first s l → IsFairLog Driver (log_reaped Event (Some page) l).entries
+gets_event : (first : ℕ) (s : DriverState) (page : List ℕ) (l : EndLog) → IsAtRest first s l → IsFairLog Driver (log_reaped Event (Some page) l).entries
     → AfterEvent first page s (log_reaped Event (Some page) l)
 gets_event first s page l rest fair =
     let e = event_by first s (event_held page) l.entries rest.1 fair in ((rest.0, e.0, rest.2), e.1)
@@ -113,7 +113,7 @@ module _ (first : ℕ) where
   PairTies x c = RoundTies x.0 c
 
   -- Events.
-  pub taken_by : (b : Bool) (r : Round) (c : RingContents) → Tells (λ l. IsAtRest first r.state l × HasPassed b l.entries) c
+  taken_by : (b : Bool) (r : Round) (c : RingContents) → Tells (λ l. IsAtRest first r.state l × HasPassed b l.entries) c
       → Keeps RoundRests (cond b (Ask LoadCid (λ cid. Done (record r { state = after_reset cid r.state; count = r.count + 1; reset = true })))
       (Done (record r { count = r.count + 1 }))) c
   taken_by true r c tells = (
@@ -141,7 +141,7 @@ module _ (first : ℕ) where
   event_step true r c rests = rests
   event_step false r c rests = (tt, λ page d made. event_reaped_keeps page r c d made rests)
 
-  take_event_keeps : (r : Round) (c : RingContents) → RoundRests r c → Keeps PairRests (take_event r) c
+  pub take_event_keeps : (r : Round) (c : RingContents) → RoundRests r c → Keeps PairRests (take_event r) c
   take_event_keeps r c rests = event_step (nat_lt REPLIES_FULL (length r.state.replies)) r c rests
 
   -- Packets.
@@ -158,7 +158,7 @@ module _ (first : ℕ) where
   packet_step true r c rests = rests
   packet_step false r c rests = (tt, λ page d made. packet_reaped_keeps page r c d made rests)
 
-  take_packet_keeps : (r : Round) (c : RingContents) → RoundRests r c → Keeps PairRests (take_packet r) c
+  pub take_packet_keeps : (r : Round) (c : RingContents) → RoundRests r c → Keeps PairRests (take_packet r) c
   take_packet_keeps r c rests = packet_step (nat_le REPLIES_FULL (length r.state.replies)) r c rests
 
   -- Each of these parts ends by publishing what it staged.

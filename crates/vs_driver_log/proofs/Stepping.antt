@@ -1,5 +1,5 @@
 -- What each single step of the driver keeps over an honest ring.
-use Rattle.std.proofs.Common.{◌≡◌, ℕ, ◌<◌, ◌^◌, ◌==◌, nat_lt, nat_le, Bool, true, false, cond, List, [], length, Option, Some, None, Result, Ok, Err, refl}
+use Rattle.std.proofs.Common.{◌≡◌, ℕ, ◌<◌, ◌^◌, ◌==◌, Bool, true, false, cond, List, length, Option, Some, None, Result, Ok, Err, refl}
 use Rattle.vs_contents.specs.CallTree.{Done, Ask}
 use Rattle.vs_conn.specs.End.{may_send_of, wanting_credit}
 use Rattle.vs_conn.specs.declared.end.Stop.{Stop}
@@ -11,22 +11,19 @@ use Rattle.vs_ring_port.specs.EndLog.{EndLog, log_reaped}
 use Rattle.vs_driver_parts.specs.declared.answers.ConnectError.{ConnectError}
 use Rattle.vs_driver_parts.specs.declared.answers.Sent.{Sent}
 use Rattle.vs_driver_parts.specs.declared.answers.Sent.TheVariants as sent
-use Rattle.vs_driver_parts.specs.declared.limits.TheConstants.{REPLIES_FULL}
 use Rattle.vs_driver_parts.specs.State.{DriverEntry, DriverState, entry_known_as}
 use Rattle.vs_driver_parts.specs.Connections.{connect_refusal}
 use Rattle.vs_driver_parts.specs.Connections as connections
-use Rattle.vs_driver_parts.specs.Conversations.{connect_with_page, event_taken, has_page, no_credit, not_sent, payload_of, publish_of, put_owed, put_reply, reap_one, reaped, send_stopped, send_with_page, start}
-use Rattle.vs_driver_parts.specs.Playing.{RingAllows}
-use Rattle.vs_driver_parts.specs.Receiving.{is_reset_event, on_page}
-use Rattle.vs_driver_parts.specs.Steps.{connects, event_came, packet_came, sends, sends_on, sends_with_credit, stages_owed, stages_page, stages_reply, takes_page}
+use Rattle.vs_driver_parts.specs.Conversations.{connect_with_page, has_page, no_credit, not_sent, payload_of, publish_of, put_owed, put_reply, reap_one, reaped, send_stopped, send_with_page, start, take_event, take_packet}
+use Rattle.vs_driver_parts.specs.Steps.{connects, sends, sends_on, sends_with_credit, stages_owed, stages_reply, takes_page}
 use Rattle.vs_driver_log.specs.Honest.{IsFitState, IsHonestWith}
 use Rattle.vs_driver_log.specs.Staged.{IsTied, IsTiedWith, IsWorkingWith}
 use Rattle.vs_driver_log.proofs.Calls.{can_send, changed, connect_page_keeps, honest_of, paged_by, rests_of}
 use Rattle.vs_driver_log.proofs.Changing.{stands_known, wanting_changes}
 use Rattle.vs_driver_log.proofs.Keeping.{Keeps, keeps_bind, keeps_weaker}
-use Rattle.vs_driver_log.proofs.Polling.{AfterEvent, gets_event, gets_page, not_tx_event, not_tx_rx, put_owed_keeps, put_reply_keeps, taken_by}
+use Rattle.vs_driver_log.proofs.Polling.{PairRests, not_tx_event, not_tx_rx, put_owed_keeps, put_reply_keeps, take_event_keeps, take_packet_keeps}
 use Rattle.vs_driver_log.proofs.Ringing.{IsAtRest, moves, tells_weaker}
-use Rattle.vs_driver_log.proofs.Staging.{Rests, publish_other, publish_tx, stage_other}
+use Rattle.vs_driver_log.proofs.Staging.{Rests, publish_other, publish_tx}
 use Rattle.vs_driver_log.proofs.Tabling.{Stands}
 
 module _ (first : ℕ) where
@@ -46,55 +43,19 @@ module _ (first : ℕ) where
     λ page d made. moves _ _ _ (log_reaped Tx page) c d made.1 (IsTied first s) (IsTied first (reaped s page).0) (λ l tie fair. back_same s page l tie) ties,
   )
 
-  -- An event is taken.
-  event_came_keeps : (page : Option (List ℕ)) (s : DriverState) (c d : RingContents) → RingAllows (Reap Event) page c d → Rests first s c
-      → Keeps (Rests first) (event_came page s) d
-  event_came_keeps None s c d made rests =
-      moves _ _ _ (log_reaped Event None) c d made.1 (IsAtRest first s) (IsAtRest first s) (λ l rest fair. rest) rests
-  event_came_keeps (Some page) s c d made rests =
-      keeps_bind (Rests first) (event_taken page (start s)) (λ r. Done r.state) d
-      (taken_by first (is_reset_event page) (start s) d
-      (moves _ _ _ (log_reaped Event (Some page)) c d made.1 (IsAtRest first s) (AfterEvent first page s)
-      (λ l rest fair. gets_event first s page l rest fair) rests))
-
-  event_by : (b : Bool) (s : DriverState) (c : RingContents) → Rests first s c
-      → Keeps (Rests first) (cond b (Done s) (Ask (Reap Event) (λ page. event_came page s))) c
-  event_by true s c rests = rests
-  event_by false s c rests = (tt, λ page d made. event_came_keeps page s c d made rests)
-
-  -- A packet is taken.
-  packet_came_keeps : (page : Option (List ℕ)) (s : DriverState) (c d : RingContents) → RingAllows (Reap Rx) page c d → Rests first s c
-      → Rests first (packet_came page s) d
-  packet_came_keeps None s c d made rests =
-      moves _ _ _ (log_reaped Rx None) c d made.1 (IsAtRest first s) (IsAtRest first s) (λ l rest fair. rest) rests
-  packet_came_keeps (Some page) s c d made rests =
-      moves _ _ _ (log_reaped Rx (Some page)) c d made.1 (IsAtRest first s) (IsAtRest first (on_page page s))
-      (λ l rest fair. gets_page first s page l made.0 rest fair) rests
-
-  packet_by : (b : Bool) (s : DriverState) (c : RingContents) → Rests first s c
-      → Keeps (Rests first) (cond b (Done s) (Ask (Reap Rx) (λ page. Done (packet_came page s)))) c
-  packet_by true s c rests = rests
-  packet_by false s c rests = (tt, λ page d made. packet_came_keeps page s c d made rests)
-
+  -- A page is taken, and a receive or event page staged again.
   pub takes_keeps : (queue : Queue) (s : DriverState) (c : RingContents) → IsWorkingWith queue first s c
       → Keeps (IsWorkingWith queue first) (takes_page queue s) c
   takes_keeps Tx s c ties =
       keeps_bind (IsTiedWith first) (reap_one s) (λ r. Done r.0) c (back_by (s.in_flight == 0) s c ties)
   takes_keeps Rx s c honest =
-      keeps_weaker (Rests first) Honest (honest_of first) (takes_page Rx s) c
-      (packet_by (nat_le REPLIES_FULL (length s.replies)) s c (rests_of first s c honest))
+      keeps_bind Honest (take_packet (start s)) (λ r. Done r.0.state) c
+      (keeps_weaker (PairRests first) (λ r d. Honest r.0.state d) (λ r d. honest_of first r.0.state d) (take_packet (start s)) c
+      (take_packet_keeps first (start s) c (rests_of first s c honest)))
   takes_keeps Event s c honest =
-      keeps_weaker (Rests first) Honest (honest_of first) (takes_page Event s) c
-      (event_by (nat_lt REPLIES_FULL (length s.replies)) s c (rests_of first s c honest))
-
-  pub stages_keeps : (queue : Queue) (s : DriverState) (c : RingContents) → IsWorkingWith queue first s c
-      → Keeps (IsWorkingWith queue first) (stages_page queue s) c
-  stages_keeps Tx s c ties = ties
-  stages_keeps Rx s c honest =
-      keeps_weaker (Rests first) Honest (honest_of first) (stages_page Rx s) c (stage_other first Rx not_tx_rx s [] c (rests_of first s c honest))
-  stages_keeps Event s c honest =
-      keeps_weaker (Rests first) Honest (honest_of first) (stages_page Event s) c
-      (stage_other first Event not_tx_event s [] c (rests_of first s c honest))
+      keeps_bind Honest (take_event (start s)) (λ r. Done r.0.state) c
+      (keeps_weaker (PairRests first) (λ r d. Honest r.0.state d) (λ r d. honest_of first r.0.state d) (take_event (start s)) c
+      (take_event_keeps first (start s) c (rests_of first s c honest)))
 
   pub publish_keeps : (queue : Queue) (s : DriverState) (c : RingContents) → IsWorkingWith queue first s c → Keeps Honest (publish_of queue s) c
   publish_keeps Tx s c ties = keeps_weaker (Rests first) Honest (honest_of first) (publish_of Tx s) c (publish_tx first s c ties)

@@ -35,20 +35,6 @@ pub record IsRingOf (n : ℕ) (flown waiting : Counts) (s : DriverState) : Type 
   pub staged : waiting ≡ no_counts
   pub none : s.staged ≡ 0
 
--- What a step that moves one page has to find, however many receive and event pages are in flight: as many transmit pages as the
--- driver counts, and none is staged; or as many of the queue in work are as it counts.
-pub record IsResting (n : ℕ) (flown waiting : Counts) (s : DriverState) : Type 0 where
-  pub size : s.size ≡ n
-  pub flight : flown.tx ≡ s.in_flight
-  pub staged : waiting ≡ no_counts
-  pub none : s.staged ≡ 0
-
-pub record IsWorking (queue : Queue) (n : ℕ) (flown waiting : Counts) (s : DriverState) : Type 0 where
-  pub size : s.size ≡ n
-  pub flight : flown.tx ≡ s.in_flight
-  pub staged : waiting ≡ with_count queue s.staged no_counts
-  pub few : s.staged < STAGED_MAX
-
 -- What a ring asks of a call that the driver makes.
 abbrev pub CanMake : DriverCall → RingContents → Type 0
 CanMake (Stage queue page) c = Unit {0}

@@ -1,54 +1,25 @@
 -- The driver's steps: each moves one page at most, on the pages as they stand.
-use Rattle.std.specs.Prelude.{ℕ, ◌+◌, ◌==◌, min, nat_lt, nat_le, true, false, if◌then◌else◌, List, [], length, Option, Some, None, Result, Ok, Err}
-use Rattle.vs_contents.specs.CallTree.{Done, Ask, bind}
+use Rattle.std.specs.Prelude.{ℕ, ◌==◌, min, if◌then◌else◌, List, length, Some, None, Result, Ok, Err}
+use Rattle.vs_contents.specs.CallTree.{Done, bind}
 use Rattle.vs_conn.specs.End.{may_send_of, wanting_credit}
 use Rattle.vs_page.specs.declared.page.TheConstants.{PAYLOAD_MAX}
 use Rattle.vs_ring_port.specs.declared.queue.Queue.{Queue}
 use Rattle.vs_ring_port.specs.declared.queue.Queue.TheVariants.{Rx, Tx, Event}
-use Rattle.vs_ring_port.specs.DriverCalls.{Reap}
 use Rattle.vs_driver_parts.specs.declared.answers.ConnectError.{ConnectError}
 use Rattle.vs_driver_parts.specs.declared.answers.Sent.{Sent}
 use Rattle.vs_driver_parts.specs.declared.answers.Sent.TheVariants as sent
-use Rattle.vs_driver_parts.specs.declared.limits.TheConstants.{REPLIES_FULL}
 use Rattle.vs_driver_parts.specs.State.{DriverState, DriverEntry, entry_known_as}
-use Rattle.vs_driver_parts.specs.Conversations.{DriverTree, Round, start, event_taken, reap_one, stage_of, put_reply, put_owed, connect_with_page, send_with_page, payload_of, no_credit, send_stopped, not_sent}
+use Rattle.vs_driver_parts.specs.Conversations.{DriverTree, start, reap_one, take_event, take_packet, put_reply, put_owed, connect_with_page, send_with_page, payload_of, no_credit, send_stopped, not_sent}
 use Rattle.vs_driver_parts.specs.Connections.{connect_refusal, with_end}
-use Rattle.vs_driver_parts.specs.Receiving.{on_page}
 
--- An event, or a packet, is taken with its page, which isn't staged again.
-abbrev pub heard_event : Round → Option (List ℕ) → DriverTree (Round × Option (List ℕ))
-heard_event r None = Done (r, None)
-heard_event r (Some page) = bind (event_taken page r) (λ q. Done (q, Some page))
-
-abbrev pub reap_event : Round → DriverTree (Round × Option (List ℕ))
-reap_event r = if nat_lt REPLIES_FULL (length r.state.replies) then Done (r, None) else Ask (Reap Event) (heard_event r)
-
-abbrev pub heard_packet : Round → Option (List ℕ) → DriverTree (Round × Option (List ℕ))
-heard_packet r None = Done (r, None)
-heard_packet r (Some page) = Done (record r { state = on_page page r.state; count = r.count + 1 }, Some page)
-
-abbrev pub reap_packet : Round → DriverTree (Round × Option (List ℕ))
-reap_packet r = if nat_le REPLIES_FULL (length r.state.replies) then Done (r, None) else Ask (Reap Rx) (heard_packet r)
-
--- It takes one page of a queue, where it still takes any, and does what the page asks of it. A transmit page just comes back.
-abbrev pub event_came : Option (List ℕ) → DriverState → DriverTree DriverState
-event_came None s = Done s
-event_came (Some page) s = bind (event_taken page (start s)) (λ r. Done r.state)
-
-abbrev pub packet_came : Option (List ℕ) → DriverState → DriverState
-packet_came None s = s
-packet_came (Some page) s = on_page page s
-
+-- It takes one page of a queue, where it still takes any, does what the page asks of it, and stages the page again. A transmit page just
+-- comes back.
 abbrev pub takes_page : Queue → DriverState → DriverTree DriverState
+takes_page Rx s = bind (take_packet (start s)) (λ r. Done r.0.state)
 takes_page Tx s = bind (reap_one s) (λ r. Done r.0)
-takes_page Event s = if nat_lt REPLIES_FULL (length s.replies) then Done s else Ask (Reap Event) (λ page. event_came page s)
-takes_page Rx s = if nat_le REPLIES_FULL (length s.replies) then Done s else Ask (Reap Rx) (λ page. Done (packet_came page s))
+takes_page Event s = bind (take_event (start s)) (λ r. Done r.0.state)
 
--- It stages a page without a packet, the oldest reply, or what a connection owes.
-abbrev pub stages_page : Queue → DriverState → DriverTree DriverState
-stages_page Tx s = Done s
-stages_page queue s = stage_of queue [] s
-
+-- It stages the oldest reply, or what a connection owes.
 abbrev pub stages_reply : DriverState → DriverTree DriverState
 stages_reply s = bind (put_reply (start s)) (λ r. Done r.0.state)
 

@@ -26,8 +26,8 @@ use Rattle.vs_proxy_log.proofs.Turning.{new_proxy_with, proxy_reset_keeps, turn_
 use Rattle.vs_core.specs.World.{first_cid}
 use Rattle.vs_play.specs.Answer.{base_path}
 use Rattle.vs_play.specs.Ready.{IsDriven, IsServed}
-use Rattle.vs_play.proofs.Flown.{LeavesDriver}
-use Rattle.vs_play.proofs.OverBoth.{IsPlayed, over}
+use Rattle.vs_world.proofs.Flown.{LeavesDriver}
+use Rattle.vs_world.proofs.OverBoth.{IsPlayed, over}
 
 -- The rings stay the driver's.
 pub driven_still : (v w : Ends) → LeavesDriver v w → (s : DriverState) → IsDriven s v → IsDriven s w

@@ -1,7 +1,4 @@
-pub mod OverLists
 pub mod OverRings
-pub mod Flown
-pub mod OverBoth
 pub mod Served
 pub mod Devices
 pub mod Driven

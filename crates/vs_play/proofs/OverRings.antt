@@ -16,8 +16,9 @@ use Rattle.vs_device_parts.specs.State.{DeviceState}
 use Rattle.vs_proxy_parts.specs.State.{ProxyState}
 use Rattle.vs_proxy_log.specs.Order.{IsInOrder}
 use Rattle.vs_both_ends.specs.Seen.{IsDeviceOf, IsDriverOf}
-use Rattle.vs_play.specs.Ready.{IsDriven, over_lists}
-use Rattle.vs_play.proofs.OverLists.{over}
+use Rattle.vs_play.specs.Ready.{IsDriven}
+use Rattle.vs_world.specs.Over.{over_lists}
+use Rattle.vs_world.proofs.OverLists.{over}
 
 module _ (e : Ends) (n : ℕ) (flown waiting : Counts) (c : RingContents) (shows : IsDriverOf e n flown waiting c) where
   pub ring_of : (s : DriverState) → IsDriven s e → IsRingOf n flown waiting s

@@ -25,8 +25,10 @@ use Rattle.vs_play.specs.Answer.{base_path, opened_host, opened_play}
 use Rattle.vs_play.specs.Lines.{event_played, played_line, reply_text}
 use Rattle.vs_report.specs.DeviceLines.{turn_text}
 use Rattle.vs_play.proofs.Devices.{served_new}
-use Rattle.vs_play.proofs.Served.{StayOpen, served_host, served_rings}
-use Rattle.vs_play.specs.Ready.{IsDriven, IsOpened, IsReady, IsServed, PlayState, Plays, over_both, over_lists, shown, world_in}
+use Rattle.vs_world.proofs.StayOpen.{StayOpen}
+use Rattle.vs_play.proofs.Served.{served_host, served_rings}
+use Rattle.vs_play.specs.Ready.{IsDriven, IsOpened, IsReady, IsServed, PlayState, Plays, shown, world_in}
+use Rattle.vs_world.specs.Over.{over_both, over_lists}
 
 -- The play once its driver made a call.
 abbrev pub with_driver : PlayState → DriverState → Ends → PlayState

@@ -1,10 +1,7 @@
 -- What a play holds between two lines, and what it is for a line to be played.
 use Rattle.std.specs.Prelude.{◌≡◌, ◌≤◌, ℕ, List, [], ◌++◌, Some}
-use Rattle.vs_contents.specs.CallTree.{played}
 use Rattle.vs_ring_port.specs.Chains.{chains_of}
-use Rattle.vs_ring_port.specs.DriverCalls.{driver_answer}
 use Rattle.vs_ring_list.specs.Ends.{Ends, device_contents, driver_contents, flight_of, staged_of}
-use Rattle.vs_driver_parts.specs.Conversations.{DriverTree}
 use Rattle.vs_driver_parts.specs.Playing.{IsRingOf}
 use Rattle.vs_driver_parts.specs.State.{DriverState}
 use Rattle.vs_driver_parts.specs.declared.answers.Received.{Received}
@@ -14,26 +11,12 @@ use Rattle.vs_script.specs.Outside as outside
 use Rattle.vs_script.specs.Play as script
 use Rattle.vs_script.specs.Play.{Event}
 use Rattle.vs_outside.specs.Host.{HostContents}
-use Rattle.vs_device_parts.specs.Calls.{DeviceTree}
 use Rattle.vs_device_parts.specs.Playing.{IsItsRing, situation}
 use Rattle.vs_proxy_parts.specs.State.{ProxyState}
 use Rattle.vs_proxy_log.specs.Order.{IsInOrder}
-use Rattle.vs_core.specs.Answers.{Around, answer_around}
 use Rattle.vs_core.specs.World.{first_cid}
 use Rattle.vs_play.specs.Answer.{opened_play}
 use Rattle.vs_play.specs.Lines.{PlayWorld, event_played}
-
--- What a conversation of the driver's leads to over list rings.
-abbrev pub over_lists : {A : Type 0} → DriverTree A → Ends → A × Ends
-over_lists tree e = let r = played driver_answer tree (e.lists, e.driver) in (r.0, record e { lists = r.1.0; driver = r.1.1 })
-
--- What the device sees of the rings and of the host, and what a conversation of the device's leads to over both.
-abbrev pub beside : Ends → HostContents → Around
-beside e h = record { lists = e.lists; log = e.device; host = h }
-
-abbrev pub over_both : {A : Type 0} → DeviceTree A → Ends → HostContents → A × (Ends × HostContents)
-over_both tree e h =
-    let r = played answer_around tree (beside e h) in (r.0, (record e { lists = r.1.lists; device = r.1.log }, r.1.host))
 
 -- The rings and the host are the proxy's: the device holds its chains, and the proxy is in order with its log and its streams.
 pub record IsServed (s : ProxyState) (e : Ends) (h : HostContents) : Type 0 where

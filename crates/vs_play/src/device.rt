@@ -6,7 +6,8 @@ ghost use Rattle.vs_device_parts.specs.Turns.{table_shown};
 ghost use Rattle.vs_proxy_parts.specs.Turns.{new_proxy, proxy_reset_of, turn_of};
 ghost use Rattle.vs_core.specs.World.{first_cid};
 ghost use Rattle.vs_play.specs.Answer.{base_path, opened_host};
-ghost use Rattle.vs_play.specs.Ready.{IsDriven, IsServed, over_both};
+ghost use Rattle.vs_play.specs.Ready.{IsDriven, IsServed};
+ghost use Rattle.vs_world.specs.Over.{over_both};
 
 use std::alloc::{AllocError, Global};
 use vs_both_ends::BothEnds;

@@ -9,7 +9,8 @@ ghost use Rattle.vs_driver_parts.specs.declared.limits.TheConstants.{FIRST_PORT}
 ghost use Rattle.vs_core.specs.Calls as call;
 ghost use Rattle.vs_core.specs.GuestSteps.{makes_call};
 ghost use Rattle.vs_play.specs.Lines.{flow_opened, flow_accepted};
-ghost use Rattle.vs_play.specs.Ready.{IsBits, IsDriven, over_lists, got_count};
+ghost use Rattle.vs_play.specs.Ready.{IsBits, IsDriven, got_count};
+ghost use Rattle.vs_world.specs.Over.{over_lists};
 
 use std::alloc::{AllocError, Global};
 use vs_both_ends::BothEnds;

@@ -176,8 +176,8 @@ impl Proxy {
         tally.read += filled.read;
     }
 
-    // Whether the ring failed.
-    fn has_failed(&self) -> bool
+    /// Whether the ring failed.
+    pub(crate) fn has_failed(&self) -> bool
         ensures { result ≡ is_some self.now.device.failed }
     {
         self.device.failure().is_some()

@@ -1,7 +1,7 @@
 //! Single steps of the proxy and of its device, each of which moves one page at most or makes one call on the host: what they do in one event
 //! of the world.
 
-ghost use Rattle.std.specs.Prelude.{◌≡◌, ◌≤◌, ℕ, Bool, List, Contains};
+ghost use Rattle.std.specs.Prelude.{◌≡◌, ◌≤◌, ℕ, Bool, List, Contains, is_some};
 ghost use Rattle.std.specs.Option.{ForSome};
 ghost use Rattle.vs_outside.specs.Host.{HostContents};
 ghost use Rattle.vs_ring_port.specs.declared.queue.Queue.TheVariants.{Event, Rx, Tx};
@@ -19,6 +19,13 @@ use vs_flow::Slot;
 use vs_outside::HostNet;
 use vs_proxy_parts::tally::Tally;
 use vs_ring_port::{Chain, DeviceRing, Failure};
+
+/// Whether a ring failed, after which the device does nothing.
+pub fn has_failed(proxy: &Proxy) -> bool
+    ensures { result ≡ is_some proxy.now.device.failed }
+{
+    proxy.has_failed()
+}
 
 /// The device takes a packet that the guest sent, while fewer than 64 replies are owed. Its chain stays held.
 pub fn take_packet<R: DeviceRing, H: HostNet>(proxy: &mut Proxy, ring: &mut R, host: &mut H)

@@ -1,5 +1,5 @@
 //! Rings that are plain lists in one thread.
-ghost use Rattle.std.specs.Prelude.{◌≡◌, ◌++◌};
+ghost use Rattle.std.specs.Prelude.{◌≡◌, ◌++◌, is_some, position};
 ghost use Rattle.vs_page.specs.Fair.{IsFairLog};
 ghost use Rattle.vs_page.specs.Held.{event_held, held_in, packet_held};
 ghost use Rattle.vs_page.specs.Log.{Driver, Device, HasGotAll, events_got, events_put, packets_got, packets_put};
@@ -7,7 +7,9 @@ ghost use Rattle.vs_ring_port.specs.Contents.{DeviceAnswer, DeviceCall};
 ghost use Rattle.vs_ring_port.specs.DeviceCalls.{DeviceAllows, device_answer};
 ghost use Rattle.vs_ring_port.specs.DriverCalls.{DriverAllows, DriverAnswer, DriverCall, driver_answer};
 ghost use Rattle.vs_ring_port.specs.Lists.{chain_with, to_read};
-ghost use Rattle.vs_ring_list.specs.Ends.{Ends, device_contents, driver_contents};
+ghost use Rattle.vs_ring_port.specs.Chains.{same_chain};
+ghost use Rattle.vs_ring_port.specs.Counts.{at};
+ghost use Rattle.vs_ring_list.specs.Ends.{Ends, device_contents, driver_contents, staged_of};
 
 use crate::held_chains::HeldChains;
 use crate::journal::Journal;
@@ -60,6 +62,20 @@ impl ListRings {
             cid: FIRST_CID,
             journal: Journal::new(alloc)?,
         })
+    }
+
+    /// How many pages of a queue are staged and not published.
+    pub fn staged(&self, queue: Queue) -> usize
+        ensures { result ≡ at queue (staged_of self.now) }
+    {
+        self.queues.staged(queue)
+    }
+
+    /// Whether that very chain was taken and not returned.
+    pub fn holds(&self, chain: &Chain) -> bool
+        ensures { result ≡ is_some (position (λ h. same_chain chain.now h.chain) self.now.device.held) }
+    {
+        self.held.find(chain).is_some()
     }
 }
 

@@ -10,12 +10,12 @@ use Rattle.vs_driver_parts.specs.Steps.{sends}
 use Rattle.vs_driver_parts.proofs.Known.{some_inj}
 use Rattle.vs_driver_log.proofs.Keeping.{keeps_end, keeps_may}
 use Rattle.vs_driver_log.proofs.Stepping.{sends_keeps}
-use Rattle.vs_driver.proofs.RingPages.{rest_same}
+use Rattle.vs_driver.proofs.RingPages.{ring_same}
 use Rattle.vs_driver.proofs.Sending.{IsReady, can_send, found_ready, ready_goes, step_sends, step_stops}
 use Rattle.vs_driver.proofs.steps.send.Goals as goal
 
 pub send_with_page-requires-clause-ring : goal.send_with_page-requires-clause-ring
-send_with_page-requires-clause-ring g c = rest_same _ _ _ _ _ c.in-Ok.ensures.pages c.requires.ring
+send_with_page-requires-clause-ring g c = ring_same _ _ _ _ _ c.in-Ok.ensures.pages c.requires.ring
 
 pub send_with_page-requires-clause-credit : goal.send_with_page-requires-clause-credit
 send_with_page-requires-clause-credit g c =
@@ -72,7 +72,7 @@ returns-in-Ok-clause-calls g c =
     leads_of RingAllows _ _ from _ _ tree (c.send_with_page.ensures.calls k.entry found)
 
 pub returns-in-Err-clause-ring : goal.returns-in-Err-clause-ring
-returns-in-Err-clause-ring g c = rest_same _ _ _ _ _ c.in-Err.ensures.pages c.requires.ring
+returns-in-Err-clause-ring g c = ring_same _ _ _ _ _ c.in-Err.ensures.pages c.requires.ring
 
 pub returns-in-Err-clause-calls : goal.returns-in-Err-clause-calls
 returns-in-Err-clause-calls g c =

@@ -1,7 +1,8 @@
 use Rattle.std.proofs.Common.{sym, ap₂, subst}
 use Rattle.vs_contents.specs.CallTree.{Done}
 use Rattle.vs_driver_parts.specs.Playing.{SamePages}
-use Rattle.vs_play.proofs.Driven.{driven_stays, accept_stays}
+use Rattle.vs_play.proofs.Driven.{driven_stays}
+use Rattle.vs_world.proofs.SamePages.{accept_stays}
 use Rattle.vs_play.proofs.guest.accept.Goals as goal
 
 pub returns-clause-made : goal.returns-clause-made

@@ -5,7 +5,7 @@ use Rattle.vs_ring_list.specs.Ends.{driver_contents, empty_ends, flight_of, stag
 use Rattle.vs_driver_parts.specs.Conversations.{new_of}
 use Rattle.vs_driver_parts.specs.declared.limits.TheConstants.{FIRST_PORT}
 use Rattle.vs_driver_log.specs.Honest.{IsFresh}
-use Rattle.vs_play.specs.Ready.{over_lists}
+use Rattle.vs_world.specs.Over.{over_lists}
 use Rattle.vs_play.proofs.OverRings.{driven_as, played_as}
 use Rattle.vs_play.proofs.guest.new.Goals as goal
 

@@ -2,7 +2,6 @@ use Rattle.std.proofs.Common.{◌≡◌, None, ◌<◌, ◌^◌, rules}
 use Rattle.vs_driver_parts.specs.Connections.{connect_refusal}
 use Rattle.vs_driver_log.proofs.Calls.{connect_honest, connect_may}
 use Rattle.vs_driver.proofs.Connecting.{may_connect_page, connect_reaped}
-use Rattle.vs_driver.proofs.RingPages.{ring_after, rests}
 use Rattle.vs_driver.proofs.driver.Driver.connect.Goals as goal
 
 pub connect_with_page-requires-clause-may : goal.connect_with_page-requires-clause-may
@@ -23,10 +22,3 @@ returns-clause-honest g c = λ first honest.
     let port : c.args.host_port < 2 ^ 32 = search rules in
     connect_honest first c.args.host_port c.args.self.now (g.R.DriverRing.contents c.args.ring.now) (g.R.DriverRing.contents c.connect_with_page.new.ring)
     (c.connect_with_page.new.self, c.connect_with_page.result) port honest (returns-clause-calls g c)
-
-pub connect_with_page-requires-clause-ring : goal.connect_with_page-requires-clause-ring
-connect_with_page-requires-clause-ring g c = rests _ _ _ _ c.reap_all.ensures.ring
-
-pub returns-clause-ring : goal.returns-clause-ring
-returns-clause-ring g c =
-    ring_after _ _ _ _ _ _ _ _ c.connect_with_page.ensures.same_size c.connect_with_page.ensures.flight c.reap_all.ensures.ring c.connect_with_page.ensures.ring

@@ -2,7 +2,6 @@ use Rattle.std.proofs.Common.{arith}
 use Rattle.vs_contents.proofs.Loops.{while_more, while_stop, while_end, may_step, may_more}
 use Rattle.vs_driver_parts.specs.Playing.{CanMake, RingAllows}
 use Rattle.vs_driver_parts.specs.Conversations.{Round, round_of, put_owed}
-use Rattle.vs_driver.proofs.RingPages.{work_after, works}
 use Rattle.vs_driver.proofs.driver.Driver.pay_slot.Goals as goal
 
 pub put_owed-requires-clause-may : goal.put_owed-requires-clause-may
@@ -21,7 +20,7 @@ loop-preserved g c =
     record {
       goes_on = λ x t rest. c.loop.invariant.goes_on x t (while_more RingAllows (put_owed c.args.slot) 4 c.loop.counter before after x from to t c.loop-test.true c.if-not-put_owed.ensures.calls rest);
       may = may_more RingAllows (put_owed c.args.slot) CanMake 4 c.loop.counter before after from to c.loop-test.true c.loop.invariant.may c.if-not-put_owed.ensures.calls;
-      ring = work_after _ _ _ _ _ _ _ _ c.if-not-put_owed.ensures.same_size c.if-not-put_owed.ensures.flight c.loop.invariant.ring c.if-not-put_owed.ensures.ring;
+      ring = c.if-not-put_owed.ensures.ring;
       small = omega (arith, c.loop.invariant.small, c.if-not-put_owed.ensures.count);
     }
 
@@ -29,9 +28,3 @@ pub returns-clause-calls : goal.returns-clause-calls
 returns-clause-calls g c =
     let r : Round = round_of c.loop.self c.loop.tally in
     c.loop.invariant.goes_on r (g.R.DriverRing.contents c.loop.ring) (while_end RingAllows (put_owed c.args.slot) 4 c.loop.counter r (g.R.DriverRing.contents c.loop.ring) c.loop-test.false)
-
-pub put_owed-requires-clause-ring : goal.put_owed-requires-clause-ring
-put_owed-requires-clause-ring g c = works _ _ _ _ c.loop.invariant.ring
-
-pub returns-then-not-put_owed-clause-ring : goal.returns-then-not-put_owed-clause-ring
-returns-then-not-put_owed-clause-ring g c = work_after _ _ _ _ _ _ _ _ c.if-not-put_owed.ensures.same_size c.if-not-put_owed.ensures.flight c.loop.invariant.ring c.if-not-put_owed.ensures.ring

@@ -2,7 +2,6 @@ use Rattle.std.proofs.Common.{arith}
 use Rattle.vs_contents.proofs.Loops.{while_more, while_stop, may_step, may_more}
 use Rattle.vs_driver_parts.specs.Playing.{CanMake, RingAllows}
 use Rattle.vs_driver_parts.specs.Conversations.{Round, round_of, put_reply}
-use Rattle.vs_driver.proofs.RingPages.{work_after, works}
 use Rattle.vs_driver.proofs.driver.Driver.put_replies.Goals as goal
 
 pub put_reply-requires-clause-may : goal.put_reply-requires-clause-may
@@ -21,13 +20,7 @@ loop-preserved g c =
     record {
       goes_on = λ x t rest. c.loop.invariant.goes_on x t (while_more RingAllows put_reply c.len-most.result c.loop.counter before after x from to t c.loop-test.true c.if-not-put_reply.ensures.calls rest);
       may = may_more RingAllows put_reply CanMake c.len-most.result c.loop.counter before after from to c.loop-test.true c.loop.invariant.may c.if-not-put_reply.ensures.calls;
-      ring = work_after _ _ _ _ _ _ _ _ c.if-not-put_reply.ensures.same_size c.if-not-put_reply.ensures.flight c.loop.invariant.ring c.if-not-put_reply.ensures.ring;
+      ring = c.if-not-put_reply.ensures.ring;
       small = omega (arith, c.loop.invariant.small, c.if-not-put_reply.ensures.count);
       most = c.loop.invariant.most;
     }
-
-pub put_reply-requires-clause-ring : goal.put_reply-requires-clause-ring
-put_reply-requires-clause-ring g c = works _ _ _ _ c.loop.invariant.ring
-
-pub returns-then-not-put_reply-clause-ring : goal.returns-then-not-put_reply-clause-ring
-returns-then-not-put_reply-clause-ring g c = work_after _ _ _ _ _ _ _ _ c.if-not-put_reply.ensures.same_size c.if-not-put_reply.ensures.flight c.loop.invariant.ring c.if-not-put_reply.ensures.ring

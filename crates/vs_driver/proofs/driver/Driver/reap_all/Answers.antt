@@ -1,8 +1,9 @@
-use Rattle.std.proofs.Common.{rules}
+use Rattle.std.proofs.Common.{ap, rules}
 use Rattle.vs_contents.proofs.Loops.{while_more, while_stop}
+use Rattle.vs_ring_port.specs.Counts.{Counts}
 use Rattle.vs_driver_parts.specs.Playing.{RingAllows}
 use Rattle.vs_driver_parts.specs.Conversations.{reap_one}
-use Rattle.vs_driver.proofs.RingPages.{ring_after_reap, rests}
+use Rattle.vs_driver.proofs.RingPages.{ring_after_reap}
 use Rattle.vs_driver.proofs.driver.Driver.reap_all.Goals as goal
 
 pub returns-then-not-reap-clause-calls : goal.returns-then-not-reap-clause-calls
@@ -17,7 +18,7 @@ loop-preserved g c = record {
 }
 
 pub reap-requires : goal.reap-requires
-reap-requires g c = record { flight = (rests _ _ _ _ c.loop.invariant.ring).flight }
+reap-requires g c = record { flight = ap (λ (f : Counts). f.tx) c.loop.invariant.ring.flight }
 
 pub returns-then-not-reap-clause-ring : goal.returns-then-not-reap-clause-ring
 returns-then-not-reap-clause-ring g c =

@@ -10,15 +10,12 @@ use Rattle.vs_driver_log.proofs.Calls.{send_honest, send_may}
 use Rattle.vs_driver.specs.Outcomes.{Sends}
 use Rattle.vs_driver.proofs.Ending.{send_ends}
 use Rattle.vs_driver.proofs.Pipes.{send_leaves}
-use Rattle.vs_driver.proofs.RingPages.{ring_after, ring_same, rests}
+use Rattle.vs_driver.proofs.RingPages.{ring_same}
 use Rattle.vs_driver.proofs.Sending.{IsReady, can_send, found_ready, may_after_reaping, ready_goes, send_stops, sent_whole}
 use Rattle.vs_driver.proofs.driver.Driver.send.Goals as goal
 
 pub reap_all-requires : goal.reap_all-requires
 reap_all-requires g c = record { ring = ring_same _ _ _ _ _ c.in-Ok.ensures.pages c.requires.ring }
-
-pub send_with_page-requires-clause-ring : goal.send_with_page-requires-clause-ring
-send_with_page-requires-clause-ring g c = rests _ _ _ _ c.reap_all.ensures.ring
 
 pub send_with_page-requires-clause-credit : goal.send_with_page-requires-clause-credit
 send_with_page-requires-clause-credit g c =
@@ -61,10 +58,6 @@ send_with_page-requires-clause-held g c =
     ap (λ (x : DriverState). entry_under x.table c.in-Ok.slot) c.reap_all.ensures.others ∙ (ap (λ (x : DriverState). entry_under x.table c.in-Ok.slot) k.same
     ∙ found_ready c.args.id c.in-Ok.slot c.in-Ok.most c.args.bytes.now s t k c.in-Ok.ensures.sound) in
     ap is_some found
-
-pub returns-in-Ok-clause-ring : goal.returns-in-Ok-clause-ring
-returns-in-Ok-clause-ring g c =
-    ring_after _ _ _ _ _ _ _ _ c.send_with_page.ensures.same_size c.send_with_page.ensures.flight c.reap_all.ensures.ring c.send_with_page.ensures.ring
 
 pub returns-in-Ok-clause-calls : goal.returns-in-Ok-clause-calls
 returns-in-Ok-clause-calls g c =

@@ -5,7 +5,7 @@ use Rattle.vs_report.specs.HostLines.{client_text}
 use Rattle.vs_script.specs.Outside as outside
 use Rattle.vs_script.specs.Play as script
 use Rattle.vs_play.specs.Ready.{IsReady}
-use Rattle.vs_play.proofs.Served.{client_stays}
+use Rattle.vs_world.proofs.StayOpen.{client_stays}
 use Rattle.vs_play.proofs.Playing.{host_plays}
 use Rattle.vs_play.proofs.play.Play.client.Goals as goal
 

@@ -6,7 +6,7 @@ use Rattle.vs_report.specs.HostLines.{stream_there_text}
 use Rattle.vs_script.specs.Outside as outside
 use Rattle.vs_script.specs.Play as script
 use Rattle.vs_play.specs.Ready.{IsReady}
-use Rattle.vs_play.proofs.Served.{stream_stays}
+use Rattle.vs_world.proofs.StayOpen.{stream_stays}
 use Rattle.vs_play.proofs.Playing.{host_plays}
 use Rattle.vs_play.proofs.play.Play.host_allow.Goals as goal
 

@@ -6,7 +6,7 @@ use Rattle.vs_script.specs.Data.{Given}
 use Rattle.vs_script.specs.Outside as outside
 use Rattle.vs_script.specs.Play as script
 use Rattle.vs_play.specs.Ready.{IsReady}
-use Rattle.vs_play.proofs.Served.{host_write_stays}
+use Rattle.vs_world.proofs.StayOpen.{host_write_stays}
 use Rattle.vs_play.proofs.Playing.{host_plays}
 use Rattle.vs_play.proofs.play.Play.host_write.Goals as goal
 

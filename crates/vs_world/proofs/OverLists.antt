@@ -9,7 +9,7 @@ use Rattle.vs_ring_list.specs.Ends.{Ends, driver_contents}
 use Rattle.vs_ring_list.proofs.Determined.{driver_determined}
 use Rattle.vs_driver_parts.specs.Conversations.{DriverTree}
 use Rattle.vs_driver_parts.specs.Playing.{RingAllows, Plays}
-use Rattle.vs_play.specs.Ready.{over_lists}
+use Rattle.vs_world.specs.Over.{over_lists}
 
 -- What list rings expose after a call of the driver's.
 record IsMiddle (v : Ends) (m : RingContents) : Type 0 where

@@ -23,8 +23,8 @@ use Rattle.vs_device_parts.specs.Calls.{Call, Answer, Ring, Accept, Dial, Label,
 use Rattle.vs_device_parts.specs.Playing.{Runs, situation}
 use Rattle.vs_device_log.proofs.Keeping.{Can, Moves, Keeps, fitted, moved}
 use Rattle.vs_core.specs.Answers.{Around, answer_around, bytes_with}
-use Rattle.vs_play.specs.Ready.{beside, over_both}
-use Rattle.vs_play.proofs.Flown.{LeavesDriver, leaves_stay, leaves_then, leaves_call}
+use Rattle.vs_world.specs.Over.{beside, over_both}
+use Rattle.vs_world.proofs.Flown.{LeavesDriver, leaves_stay, leaves_then, leaves_call}
 
 -- What list rings expose after a call of the device's.
 record IsMiddle (v : Ends) (m : RingContents) : Type 0 where
