@@ -1,5 +1,5 @@
 -- What a device's call leaves of what the driver's end sees: its log, the size of the rings, and how many pages are in flight.
-use Rattle.std.proofs.Common.{◌≡◌, ℕ, List, [], ◌∷◌, Some, refl, sym, ap, ap₂, subst, ◌∙◌}
+use Rattle.std.proofs.Common.{◌≡◌, ℕ, List, [], ◌∷◌, refl, sym, ap, subst, ◌∙◌}
 use Rattle.vs_ring_port.specs.Contents.{DeviceCall, DeviceAnswer, Take, Read, Write, Return, Given, PublishCid}
 use Rattle.vs_ring_port.specs.Counts.{Counts}
 use Rattle.vs_ring_port.specs.DeviceCalls.{device_answer}
@@ -10,7 +10,7 @@ use Rattle.vs_ring_port.specs.declared.queue.Queue.TheVariants.{Rx, Tx, Event}
 use Rattle.vs_ring_list.specs.Ends.{Ends, device_contents, flight_of}
 use Rattle.vs_ring_list.proofs.Flights.{flight_of-taken, in_flight-written, in_flight-returned}
 use Rattle.vs_device_parts.specs.Calls.{Ring}
-use Rattle.vs_device_log.proofs.Keeping.{Can}
+use Rattle.vs_world.proofs.Holding.{IsHeldFor}
 
 pub record LeavesDriver (old new : Ends) : Type 0 where
   pub driver : new.driver ≡ old.driver
@@ -58,7 +58,7 @@ size_returned Rx page w = refl
 size_returned Tx page w = refl
 size_returned Event page w = refl
 
-leaves : (call : DeviceCall) (v : Ends) → Can (Ring call) (device_contents v) → LeavesDriver v (after call v)
+leaves : (call : DeviceCall) (v : Ends) → IsHeldFor (Ring call) (device_contents v) → LeavesDriver v (after call v)
 leaves (Take queue) v can = record {
   driver = refl;
   size = size_taken queue v;
@@ -71,7 +71,7 @@ leaves (Write chain place bytes) v can = record {
   flight = same_counts _ _ (in_flight-written Rx chain place bytes v) (in_flight-written Tx chain place bytes v)
       (in_flight-written Event chain place bytes v);
 }
-leaves (Return chain len) v can = let held = can.1 v.device refl in record {
+leaves (Return chain len) v can = let held = can v.device refl in record {
   driver = refl;
   size = size_returned chain.queue _ v.lists;
   flight = same_counts _ _ (in_flight-returned Rx chain len v held) (in_flight-returned Tx chain len v held)
@@ -80,7 +80,7 @@ leaves (Return chain len) v can = let held = can.1 v.device refl in record {
 leaves (Given queue) v can = leaves_stay v
 leaves (PublishCid cid) v can = record { driver = refl; size = refl; flight = refl }
 
-pub leaves_call : (call : DeviceCall) (a : DeviceAnswer call) (v w : Ends) → Can (Ring call) (device_contents v)
+pub leaves_call : (call : DeviceCall) (a : DeviceAnswer call) (v w : Ends) → IsHeldFor (Ring call) (device_contents v)
     → device_answer call (v.lists, v.device) ≡ (a, (w.lists, w.device)) → w.driver ≡ v.driver → LeavesDriver v w
 leaves_call call a v w can answer driver =
     let is : after call v ≡ w =

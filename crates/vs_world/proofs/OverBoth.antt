@@ -1,10 +1,10 @@
 -- Over list rings with a host in memory that isn't starved each conversation of the device's has one end.
 use Rattle.std.specs.Option.{option_map_or}
-use Rattle.std.proofs.Common.{◌≡◌, ℕ, ◌+◌, Bool, true, false, cond, List, [], ◌∷◌, length, Option, Some, None, unwrap_or, Contains, refl, sym, ap, ap₂, subst, ◌∙◌}
-use Rattle.vs_contents.specs.CallTree.{Done, Ask, Leads, played}
+use Rattle.std.proofs.Common.{◌≡◌, ℕ, ◌+◌, Bool, true, false, cond, List, length, Option, Some, None, unwrap_or, refl, sym, ap, ap₂, subst, ◌∙◌}
+use Rattle.vs_contents.specs.CallTree.{Done, Ask, played}
 use Rattle.vs_contents.specs.Contents.{Exposes}
 use Rattle.vs_flow.specs.declared.flow.Flow.{Flow}
-use Rattle.vs_outside.specs.Host.{HostContents, accept_answer, after_accept, dial_answer, after_dial, after_label, read_answer, after_read, next_bytes, write_answer, after_write, after_shut_write, after_close, after_failed, called, fails_now, is_listened, IsDialed, IsWritten, accept_failed, dial_failed, read_failed, write_failed, stream_at, write_of}
+use Rattle.vs_outside.specs.Host.{HostContents, after_accept, after_dial, after_label, after_read, after_write, after_shut_write, after_close, after_failed, called, fails_now, is_listened, IsDialed, IsWritten, stream_at, write_of}
 use Rattle.vs_outside.specs.declared.host_net.Accepted.{Accepted}
 use Rattle.vs_outside.specs.declared.host_net.Accepted.TheVariants as accepted
 use Rattle.vs_outside.specs.declared.host_net.Dialed.{Dialed}
@@ -14,17 +14,18 @@ use Rattle.vs_outside.specs.declared.host_net.StreamRead.TheVariants as read
 use Rattle.vs_outside.specs.declared.host_net.StreamWrite.{StreamWrite}
 use Rattle.vs_outside.specs.declared.host_net.StreamWrite.TheVariants as write
 use Rattle.vs_ring_port.specs.Contents.{RingContents, DeviceCall, DeviceAnswer, Take, Read, Write, Return, Given, PublishCid}
-use Rattle.vs_ring_port.specs.DeviceCalls.{DeviceAllows, DeviceMoves, device_answer}
+use Rattle.vs_ring_port.specs.DeviceCalls.{DeviceAllows, DeviceMoves}
 use Rattle.vs_ring_port.specs.EndLog.{EndLog}
 use Rattle.vs_ring_port.specs.Lists.{Rings}
 use Rattle.vs_ring_list.specs.Ends.{Ends, device_contents}
 use Rattle.vs_ring_list.proofs.Determined.{device_determined}
 use Rattle.vs_device_parts.specs.Calls.{Call, Answer, Ring, Accept, Dial, Label, ReadStream, WriteStream, ShutWrite, CloseStream, Situation, DeviceTree, Allows, HostMoves, IsReadOf}
 use Rattle.vs_device_parts.specs.Playing.{Runs, situation}
-use Rattle.vs_device_log.proofs.Keeping.{Can, Moves, Keeps, fitted, moved}
+use Rattle.vs_device_log.proofs.Keeping.{Keeps}
 use Rattle.vs_core.specs.Answers.{Around, answer_around, bytes_with}
 use Rattle.vs_world.specs.Over.{beside, over_both}
 use Rattle.vs_world.proofs.Flown.{LeavesDriver, leaves_stay, leaves_then, leaves_call}
+use Rattle.vs_world.proofs.Holding.{IsHeldFor, MayHold, kept_held}
 
 -- What list rings expose after a call of the device's.
 record IsMiddle (v : Ends) (m : RingContents) : Type 0 where
@@ -65,7 +66,7 @@ record IsStep (call : Call) (a : Answer call) (v : Ends) (h : HostContents) (t :
   fed : host.starved ≡ false → h.starved ≡ false
   answered : host.starved ≡ false → answer_around call (beside v h) ≡ (a, beside ends host)
 
-ring_step : (call : DeviceCall) (a : DeviceAnswer call) (v : Ends) (h : HostContents) (s t : Situation) → Can (Ring call) (device_contents v)
+ring_step : (call : DeviceCall) (a : DeviceAnswer call) (v : Ends) (h : HostContents) (s t : Situation) → IsHeldFor (Ring call) (device_contents v)
     → s.ring ≡ device_contents v → s.host ≡ Some h → Allows (Ring call) a s t → IsStep (Ring call) a v h t
 ring_step call a v h s t can ring host allowed =
     let first : DeviceAllows call a (device_contents v) t.ring = subst (λ c. DeviceAllows call a c t.ring) ring allowed.0 in
@@ -166,7 +167,7 @@ write_answered stream bytes write.Closed v h is e = ap (write_result stream byte
 write_answered stream bytes write.Failed v h is e =
     ap (write_result stream bytes v h) (ap (λ (b : Bool). cond b write.Failed (other_write stream (length bytes) h)) (fails h e))
 
-step : (call : Call) (a : Answer call) (v : Ends) (h : HostContents) (s t : Situation) → Can call (device_contents v)
+step : (call : Call) (a : Answer call) (v : Ends) (h : HostContents) (s t : Situation) → IsHeldFor call (device_contents v)
     → s.ring ≡ device_contents v → s.host ≡ Some h → Allows call a s t → IsStep call a v h t
 step (Ring call) a v h s t can ring host allowed = ring_step call a v h s t can ring host allowed
 step Accept a v h s t can ring host allowed =
@@ -196,37 +197,33 @@ record IsEnd {A : Type 0} (tree : DeviceTree A) (v : Ends) (h : HostContents) (x
   fed : host.starved ≡ false → h.starved ≡ false
   answered : host.starved ≡ false → played answer_around tree (beside v h) ≡ (x, beside ends host)
 
-module _ {A : Type 0} (Q : A → RingContents → Type 0) where
-  ends_at : (tree : DeviceTree A) (v : Ends) (h : HostContents) (s : Situation) (x : A) (t : Situation) → s.ring ≡ device_contents v
-      → s.host ≡ Some h → Keeps Q tree (device_contents v) → Runs tree s x t → IsEnd tree v h x t
-  ends_at (Done y) v h s x t ring host keeps runs = record {
-    ends = v;
-    host = h;
-    ring_is = ap (λ (z : Situation). z.ring) (sym runs.1) ∙ ring;
-    host_is = ap (λ (z : Situation). z.host) (sym runs.1) ∙ host;
-    same = leaves_stay v;
-    fed = λ e. e;
-    answered = λ e. ap (λ (z : A). (z, beside v h)) runs.0;
-  }
-  ends_at (Ask call k) v h s x t ring host keeps runs =
-      let a = runs.0 in
-      let m = runs.1 in
-      let st = step call a v h s m keeps.0 ring host runs.2 in
-      let went : Moves call a (device_contents v) m.ring = subst (λ c. Moves call a c m.ring) ring (moved call a s m runs.2) in
-      let next : Keeps Q (k a) (device_contents st.ends) =
-      subst (λ c. Keeps Q (k a) c) st.ring_is (keeps.1 a m.ring (fitted call a s m runs.2) went) in
-      let rest = ends_at (k a) st.ends st.host m x t st.ring_is st.host_is next runs.3 in
-      record {
-        ends = rest.ends;
-        host = rest.host;
-        ring_is = rest.ring_is;
-        host_is = rest.host_is;
-        same = leaves_then v st.ends rest.ends st.same rest.same;
-        fed = λ e. st.fed (rest.fed e);
-        answered = λ e.
-            subst (λ (r : Answer call × Around). played answer_around (k r.0) r.1 ≡ (x, beside rest.ends rest.host)) (sym (st.answered (rest.fed e)))
-            (rest.answered e);
-      }
+ends_at : {A : Type 0} (tree : DeviceTree A) (v : Ends) (h : HostContents) (s : Situation) (x : A) (t : Situation) → s.ring ≡ device_contents v
+    → s.host ≡ Some h → MayHold tree s → Runs tree s x t → IsEnd tree v h x t
+ends_at {A} (Done y) v h s x t ring host may runs = record {
+  ends = v;
+  host = h;
+  ring_is = ap (λ (z : Situation). z.ring) (sym runs.1) ∙ ring;
+  host_is = ap (λ (z : Situation). z.host) (sym runs.1) ∙ host;
+  same = leaves_stay v;
+  fed = λ e. e;
+  answered = λ e. ap (λ (z : A). (z, beside v h)) runs.0;
+}
+ends_at (Ask call k) v h s x t ring host may runs =
+    let a = runs.0 in
+    let m = runs.1 in
+    let st = step call a v h s m (subst (IsHeldFor call) ring may.0) ring host runs.2 in
+    let rest = ends_at (k a) st.ends st.host m x t st.ring_is st.host_is (may.1 a m runs.2) runs.3 in
+    record {
+      ends = rest.ends;
+      host = rest.host;
+      ring_is = rest.ring_is;
+      host_is = rest.host_is;
+      same = leaves_then v st.ends rest.ends st.same rest.same;
+      fed = λ e. st.fed (rest.fed e);
+      answered = λ e.
+          subst (λ (r : Answer call × Around). played answer_around (k r.0) r.1 ≡ (x, beside rest.ends rest.host)) (sym (st.answered (rest.fed e)))
+          (rest.answered e);
+    }
 
 -- Two rings that expose the same are the same.
 exposed : (v w : Ends) → device_contents v ≡ device_contents w → v ≡ w
@@ -243,12 +240,12 @@ pub record IsPlayed {A : Type 0} (tree : DeviceTree A) (v : Ends) (h : HostConte
   pub same : LeavesDriver v w
   pub played : g.starved ≡ false → over_both tree v h ≡ (x, (w, g))
 
-pub over : {A : Type 0} (Q : A → RingContents → Type 0) (tree : DeviceTree A) (v w : Ends) (h g : HostContents) (n m : ℕ) (x : A)
-    → Keeps Q tree (device_contents v)
+pub over_held : {A : Type 0} (tree : DeviceTree A) (v w : Ends) (h g : HostContents) (n m : ℕ) (x : A)
+    → MayHold tree (situation (device_contents v) (Some h) n)
     → Runs tree (situation (device_contents v) (Some h) n) x (situation (device_contents w) (Some g) m)
     → IsPlayed tree v h x w g
-over {A} Q tree v w h g n m x keeps runs =
-    let e = ends_at Q tree v h _ x _ refl refl keeps runs in
+over_held {A} tree v w h g n m x may runs =
+    let e = ends_at tree v h _ x _ refl refl may runs in
     let w_is : e.ends ≡ w = sym (exposed w e.ends e.ring_is) in
     let g_is : e.host ≡ g = ap (λ (o : Option HostContents). unwrap_or o e.host) (sym e.host_is) in
     record {
@@ -260,3 +257,9 @@ over {A} Q tree v w h g n m x keeps runs =
           ∙ (ap (λ (d : EndLog). (x, (record { lists = e.ends.lists; driver = d; device = e.ends.device }, e.host))) (sym e.same.driver)
           ∙ ap₂ (λ (a : Ends) (b : HostContents). (x, (a, b))) w_is g_is);
     }
+
+pub over : {A : Type 0} (Q : A → RingContents → Type 0) (tree : DeviceTree A) (v w : Ends) (h g : HostContents) (n m : ℕ) (x : A)
+    → Keeps Q tree (device_contents v)
+    → Runs tree (situation (device_contents v) (Some h) n) x (situation (device_contents w) (Some g) m)
+    → IsPlayed tree v h x w g
+over Q tree v w h g n m x keeps runs = over_held tree v w h g n m x (kept_held Q tree (situation (device_contents v) (Some h) n) keeps) runs

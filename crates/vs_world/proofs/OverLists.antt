@@ -1,5 +1,5 @@
 -- Over list rings each conversation of the driver's has one end.
-use Rattle.std.proofs.Common.{◌≡◌, ℕ, Bool, List, Option, Some, None, unwrap_or, refl, sym, ap, ap₂, subst, ◌∙◌}
+use Rattle.std.proofs.Common.{◌≡◌, Some, None, unwrap_or, refl, sym, ap, ap₂, subst, ◌∙◌}
 use Rattle.vs_contents.specs.CallTree.{Done, Ask, Leads, played}
 use Rattle.vs_ring_port.specs.Contents.{RingContents}
 use Rattle.vs_ring_port.specs.DriverCalls.{DriverCall, DriverAnswer, Stage, Publish, Reap, LoadCid, DriverAllows, DriverMoves, driver_answer}

@@ -6,6 +6,7 @@ use Rattle.vs_ring_port.specs.declared.queue.Queue.{Queue}
 use Rattle.vs_ring_port.specs.declared.queue.TheConstants.{STAGED_MAX}
 use Rattle.vs_ring_list.specs.Ends.{Ends, flight_of, staged_of}
 use Rattle.vs_outside.specs.Host.{HostContents}
+use Rattle.vs_outside.specs.HostProgram.{new_host, plain}
 use Rattle.vs_driver_parts.specs.Playing.{all_flown}
 use Rattle.vs_driver_parts.specs.State.{DriverState}
 use Rattle.vs_driver_log.specs.Staged.{IsTied}
@@ -29,6 +30,10 @@ shown w = record { driver = w.driver; proxy = w.proxy; rings = w.rings; host = w
 
 abbrev pub with_journal : Journal → WorldState → World
 with_journal journal s = record { driver = s.driver; proxy = s.proxy; rings = s.rings; host = s.host; journal = journal }
+
+-- A host at which nobody listens, with this base path.
+abbrev pub opened_host : List ℕ → HostContents
+opened_host base = (new_host base [] plain).contents
 
 -- The rings are the driver's: all receive and event pages are in flight, and as many transmit pages as it counts; pages may be staged on
 -- one queue; and their log, with the packets that are staged, left its connections.

@@ -2,6 +2,14 @@
 //! (Virtio 1.2, section 5.10.6).
 #![tactic(auto)]
 
+mod device;
+mod device_events;
+pub mod event;
+mod guest;
+mod host_events;
+mod step;
 mod world;
 
+pub use event::{Event, GuestCall, Reply};
+pub use step::run;
 pub use world::World;
