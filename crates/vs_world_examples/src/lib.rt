@@ -1,0 +1,5 @@
+//! Worked examples of the world as a program.
+#![tactic(auto)]
+
+#[cfg(test)]
+mod tests;
