@@ -16,13 +16,13 @@ ghost use Rattle.vs_page.specs.Fair.{IsFairLog, IsPrefixOf, payload_got, payload
 ghost use Rattle.vs_page.specs.Log.{Device, Driver, HasGotAll, IsNextPacket, Log, flow_got};
 ghost use Rattle.vs_page.specs.Open.{is_dropped, is_open};
 ghost use Rattle.vs_page.specs.declared.log.LogEntry.TheVariants.{Mark};
-ghost use Rattle.vs_core.specs.Calls.{GuestCall, is_right, sent_on};
-ghost use Rattle.vs_core.specs.Events.{Event, happens, is_at_rest, is_guest_cid, run};
-ghost use Rattle.vs_core.specs.Laws.{IsQueued};
-ghost use Rattle.vs_core.specs.Plays.{guest_line, poll_line, reset_line};
-ghost use Rattle.vs_core.specs.Steps.{Leads};
-ghost use Rattle.vs_core.specs.Sides.{Runs, both_of};
-ghost use Rattle.vs_core.specs.World.{World, first_cid, opening};
+ghost use Rattle.vs_world.specs.Calls.{GuestCall, is_right, sent_on};
+ghost use Rattle.vs_world.specs.Events.{Event, happens, is_at_rest, is_guest_cid, run};
+ghost use Rattle.vs_world.specs.Laws.{IsQueued};
+ghost use Rattle.vs_world.specs.Plays.{guest_line, poll_line, reset_line};
+ghost use Rattle.vs_world.specs.Steps.{Leads};
+ghost use Rattle.vs_world.specs.Sides.{Runs, both_of};
+ghost use Rattle.vs_world.specs.World.{World, first_cid, opening};
 
 /// After any list of events what each end got is what the other put first, packets on tx and on rx and ids of events; and what was put and
 /// not got is just what the pages between them hold. So the payload that an end got on a connection is a prefix of the payload that the

@@ -1,9 +1,20 @@
-//! The world of one thread: a driver and a device with its proxy over list rings, a host in memory, and all that may happen between them,
-//! step by step (Virtio 1.2, section 5.10.6).
+//! The world of one thread as a program, a driver and a device with its proxy over list rings and a host in memory, one event at a time;
+//! and the laws of every list of events (Virtio 1.2, section 5.10.6).
 #![tactic(auto)]
 
+mod device;
+mod device_events;
+pub mod event;
+mod guest;
+mod host_events;
 pub mod laws;
 pub mod pipes;
 pub mod resets;
 pub mod scripts;
+mod step;
 pub mod worked;
+mod world;
+
+pub use event::{Event, GuestCall, Reply};
+pub use step::run;
+pub use world::World;

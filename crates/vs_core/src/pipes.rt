@@ -13,12 +13,12 @@ ghost use Rattle.vs_page.specs.Log.{Device, Driver, history_of};
 ghost use Rattle.vs_pipes.specs.Drains.{Drains, receives};
 ghost use Rattle.vs_pipes.specs.Streamed.{gives, line_for};
 ghost use Rattle.vs_proxy_parts.specs.State.{Handshake};
-ghost use Rattle.vs_core.specs.Calls.{received_on, sent_on};
-ghost use Rattle.vs_core.specs.Events.{Event, run};
-ghost use Rattle.vs_core.specs.Pipes.{IsFresh};
-ghost use Rattle.vs_core.specs.Plays.{AreRight, Line, after};
-ghost use Rattle.vs_core.specs.Sides.{both_of};
-ghost use Rattle.vs_core.specs.World.{opening};
+ghost use Rattle.vs_world.specs.Calls.{received_on, sent_on};
+ghost use Rattle.vs_world.specs.Events.{Event, run};
+ghost use Rattle.vs_world.specs.Pipes.{IsFresh};
+ghost use Rattle.vs_world.specs.Plays.{AreRight, Line, after};
+ghost use Rattle.vs_world.specs.Sides.{both_of};
+ghost use Rattle.vs_world.specs.World.{opening};
 
 /// After any list of events the bytes that the guest received on a connection, and then the unread ones, are the payload that the driver
 /// got there, while the connection takes payload; what it received is a prefix of that in any case, so of the payload that the device put

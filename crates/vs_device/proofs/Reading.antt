@@ -1,15 +1,12 @@
 -- What reading a stream comes to, for the packet that it puts.
-use Rattle.std.specs.Prelude.{if◌then◌else◌, ◌==◌, ◌&&◌, ◌||◌, not, Err, Ok, IsOkAnd}
+use Rattle.std.specs.Prelude.{if◌then◌else◌, ◌==◌}
 use Rattle.std.specs.Option.{IfSome}
 use Rattle.std.proofs.Common.{◌≡◌, ℕ, ◌+◌, ◌≤◌, arith, Bool, true, false, cond, List, length, Option, Some, None, refl, sym, ap, subst, ◌∙◌}
 use Rattle.vs_contents.specs.CallTree.{Done, Ask, bind, while_up_to}
 use Rattle.vs_contents.proofs.Leads.{leads_of, leads_bind}
 use Rattle.vs_contents.proofs.Conditions.{may_first, may_rest, may_of}
-use Rattle.vs_conn.specs.End.{ConnectionEnd, CanSend, state_may_send, with_payload_sent, wanting_credit}
-use Rattle.vs_conn.specs.declared.end.State.{State}
+use Rattle.vs_conn.specs.End.{ConnectionEnd, with_payload_sent, wanting_credit}
 use Rattle.vs_conn.specs.declared.end.State.TheVariants as state
-use Rattle.vs_conn.specs.declared.end.Stop.{Stop}
-use Rattle.vs_conn.specs.declared.end.Stop.TheVariants.{ShutDown}
 use Rattle.vs_header.specs.declared.TheConstants.{HEADER_LEN}
 use Rattle.vs_page.specs.declared.page.TheConstants.{PAYLOAD_MAX}
 use Rattle.vs_conn.specs.Headers.{payload_header}
@@ -191,21 +188,6 @@ module _ (slot : ℕ) (r : Filling) (going : r.over ≡ false) where
   pub served_over : (q : Filling) (c m : Situation) → q.over ≡ true → Runs (read_slot slot r) c q m → Runs (serve_slot slot r) c q m
   served_over q c m over first =
       leads_of Allows _ _ c m q served_is (leads_bind Allows (read_slot slot r) (then_owed slot) c m m q q first (leads_of Allows _ _ m m q (ap (owed_on slot q) over) (refl, refl)))
-
--- where both ends let it send, so much may be sent as there is credit for
-send_on : (r s : Bool) (n free : ℕ) → (not r && not s) ≡ true → n ≤ free → IsOkAnd {T = ℕ} {E = Stop} (if s || r then Err ShutDown else Ok free) (λ f. n ≤ f)
-send_on false false n free is le = le
-send_on false true n free is le = absurd (cc)
-send_on true s n free is le = absurd (cc)
-
-may_send_on : (e : ConnectionEnd) (s : State) (n : ℕ) → may_read e s ≡ true → n ≤ free_of e.credit → IsOkAnd (state_may_send s e) (λ free. n ≤ free)
-may_send_on e state.Live n reads le = send_on e.peer.receive e.own.send n (free_of e.credit) reads le
-may_send_on e state.Asked n reads le = absurd (cc)
-may_send_on e state.Answering n reads le = absurd (cc)
-may_send_on e state.Ended n reads le = absurd (cc)
-
-pub can_send : (e : ConnectionEnd) (n : ℕ) → may_read e e.state ≡ true → n ≤ free_of e.credit → CanSend e n
-can_send e n reads le = may_send_on e e.state n reads le
 
 pub if_some : {X : Type 0} (o : Option X) (x : X) (P : X → Type 0) → o ≡ Some x → P x → IfSome o P
 if_some {X = X} o x P is holds = let Q : Option X → Type 0 = λ p. IfSome p P in subst Q (sym is) holds

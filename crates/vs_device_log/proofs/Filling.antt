@@ -3,7 +3,7 @@ use Rattle.std.proofs.Common.{◌≡◌, ℕ, ◌+◌, ◌≤◌, ◌==◌, ◌&
 use Rattle.std.proofs.Common.{Contains, Option, Some, None, Result, Ok, Err, refl, sym, subst, ◌∙◌, arith, IfSome, IsOkAnd}
 use Rattle.std.proofs.lemmas.Grind.{common_steps}
 use Rattle.vs_contents.specs.CallTree.{Done, bind, for_each, while_up_to}
-use Rattle.vs_conn.specs.End.{ConnectionEnd, owes_of, paid_of, state_may_send, wanting_credit, with_payload_sent}
+use Rattle.vs_conn.specs.End.{CanSend, ConnectionEnd, owes_of, paid_of, state_may_send, wanting_credit, with_payload_sent}
 use Rattle.vs_conn.specs.Headers.{owed_header, payload_header}
 use Rattle.vs_conn.specs.declared.end.Owed.{Owed}
 use Rattle.vs_conn.specs.declared.end.Owed.TheVariants as owed
@@ -40,18 +40,21 @@ use Rattle.vs_device_log.proofs.Writing.{writes_first, written_keeps}
 pub live_old : (e : ConnectionEnd) → may_read e e.state ≡ true → is_new e ≡ false
 live_old e is = grind (arith, common_steps, is)
 
-can_send : (e : ConnectionEnd) (n : ℕ) → n ≤ free_of e.credit → (x : State) → may_read e x ≡ true → IsOkAnd (state_may_send x e)
-    (λ free. n ≤ free)
-can_send e n less state.Live is = live e.own.send e.peer.receive is
+-- where both ends let it send, so much may be sent as there is credit for
+may_send_on : (e : ConnectionEnd) (s : State) (n : ℕ) → may_read e s ≡ true → n ≤ free_of e.credit → IsOkAnd (state_may_send s e) (λ free. n ≤ free)
+may_send_on e state.Live n may fits = live e.own.send e.peer.receive may
   where
     live : (a b : Bool) → (not b && not a) ≡ true → IsOkAnd (cond (a || b) (Err ShutDown) (Ok (free_of e.credit))) (λ free. n ≤ free)
-    live false false is = less
+    live false false is = fits
     live true false is = absurd cc
     live true true is = absurd cc
     live false true is = absurd cc
-can_send e n less state.Asked is = absurd cc
-can_send e n less state.Answering is = absurd cc
-can_send e n less state.Ended is = absurd cc
+may_send_on e state.Asked n may fits = absurd cc
+may_send_on e state.Answering n may fits = absurd cc
+may_send_on e state.Ended n may fits = absurd cc
+
+pub can_send : (e : ConnectionEnd) (n : ℕ) → may_read e e.state ≡ true → n ≤ free_of e.credit → CanSend e n
+can_send e n may fits = may_send_on e e.state n may fits
 
 pub under_there : (s : DeviceState) (slot : ℕ) (e : DeviceEntry) → entry_under s.table slot ≡ Some e → Contains s.table.entries e
 under_there s slot e under = (found_by (λ (x : DeviceEntry). x.slot == slot) s.table.entries e under).0
@@ -235,7 +238,7 @@ module _ (first port : ℕ) where
           keeps_bind Over (put_on chain h payload chained) after c
           (written_keeps first port r.state (λ x d. Keeps Over (after x) d) (Done p) t h payload
           (λ fits. send_puts port r.state fits e there payload
-          (can_send e.value.end (length payload) (omega (arith, short)) e.value.end.state may) (omega (arith, short)) old)
+          (can_send e.value.end (length payload) may (omega (arith, short))) (omega (arith, short)) old)
           chain holds.0.0 (omega (arith, short, holds.0.1)) refl c
           (writes_first first port (record r.state { chain = Some chain }) chain c refl going holds)
           (λ d told. ((tt, told), λ still. going)))

@@ -27,7 +27,9 @@ use Rattle.vs_device_parts.specs.Connections.{route_to_guest, with_connection}
 use Rattle.vs_device_parts.specs.Receiving.{reply_header}
 use Rattle.vs_device_parts.specs.State.{DeviceConnection, DeviceEntry, DeviceState}
 use Rattle.vs_device_log.specs.Honest.{HoldsBytes, IsFit, IsFitEntry, IsFitReply, IsFitState, ends_of_state, ends_with, reply_flow}
-use Rattle.vs_device_log.proofs.Bytes.{held_alone, held_payload, header_fits, owed_flags_fit, reset_fits}
+use Rattle.vs_page.proofs.Packets.{held_alone, held_payload}
+use Rattle.vs_matching.proofs.OwedFlags.{owed_flags_fit}
+use Rattle.vs_device_log.proofs.Bytes.{header_fits, reset_fits}
 use Rattle.vs_device_log.proofs.Fits.{fits_paid, fits_sent}
 use Rattle.vs_device_log.proofs.Tabling.{begun_fits, connection_ends, connection_fits, entry_fits, has_end, left_ends, left_fits}
 

@@ -1,10 +1,9 @@
 -- What taking a packet of the guest keeps.
-use Rattle.std.proofs.Common.{◌≡◌, ℕ, ◌+◌, ◌-◌, ◌<◌, ◌≤◌, ◌==◌, nat_le, nat_lt, Bool, true, false, cond, if◌then◌else◌, List, [], ◌∷◌}
-use Rattle.std.proofs.Common.{length, take, drop, slice_index, get_or-drop, Option, Some, None, refl, sym, ap, subst, ◌∙◌, arith, IfSome}
+use Rattle.std.proofs.Common.{◌≡◌, ℕ, ◌-◌, ◌≤◌, ◌==◌, nat_le, nat_lt, Bool, true, false, cond, if◌then◌else◌, List, [], ◌∷◌}
+use Rattle.std.proofs.Common.{length, take, drop, Option, Some, None, refl, sym, ap, subst, ◌∙◌, arith, IfSome}
 use Rattle.std.proofs.Common.{length-drop}
 use Rattle.std.proofs.lemmas.Bool.Decides.{nat_tests}
 use Rattle.std.specs.Option.{option_map}
-use Rattle.byteorder.specs.Numbers.{little_from-lt}
 use Rattle.vs_contents.specs.CallTree.{Done, Ask, bind}
 use Rattle.vs_conn.specs.declared.end.Verdict.{Verdict}
 use Rattle.vs_header.specs.Op.{op_number}
@@ -18,7 +17,7 @@ use Rattle.vs_page.specs.Fair.{IsFairLog}
 use Rattle.vs_page.specs.Held.{FitsWire, packet_held, packet_with, payload_held}
 use Rattle.vs_page.specs.Log.{Device, Log, flow_got}
 use Rattle.vs_page.specs.declared.log.LogEntry.TheVariants.{GotPacket}
-use Rattle.vs_page.proofs.Holding.{packet_whole}
+use Rattle.vs_page.proofs.Holding.{header_fits, packet_whole}
 use Rattle.vs_ring_port.specs.Chains.{Held}
 use Rattle.vs_ring_port.specs.Contents.{RingContents, Read, Return, Take}
 use Rattle.vs_ring_port.specs.DeviceCalls.{DeviceAllows, IsTakenAs}
@@ -41,24 +40,6 @@ use Rattle.vs_device_log.specs.Honest.{IsLeft, IsToldOf, IsWith, unwritten}
 use Rattle.vs_device_log.proofs.Hearing.{After, Came, Heard, IsCome, packet_keeps}
 use Rattle.vs_device_log.proofs.Keeping.{Keeps, keeps_then}
 use Rattle.vs_device_log.proofs.Ringing.{HoldsFirst, Tells, bytes_held, first_there, moves, returned_entries, returned_held, tells_weaker}
-
--- A header that is read of bytes fits its fields.
-moved : (n : ℕ) (xs : List ℕ) → ((i : ℕ) → slice_index xs i < 256) → (i : ℕ) → slice_index (drop n xs) i < 256
-moved n xs each i = rw get_or-drop (each (n + i))
-
-header_fits : (xs : List ℕ) → ((i : ℕ) → slice_index xs i < 256) → FitsWire (header_of xs)
-header_fits xs each = record {
-  src_cid = little_from-lt 0 8 xs each;
-  dst_cid = little_from-lt 0 8 (drop 8 xs) (moved 8 xs each);
-  src_port = little_from-lt 0 4 (drop 16 xs) (moved 16 xs each);
-  dst_port = little_from-lt 0 4 (drop 20 xs) (moved 20 xs each);
-  len = little_from-lt 0 4 (drop 24 xs) (moved 24 xs each);
-  kind = little_from-lt 0 2 (drop 28 xs) (moved 28 xs each);
-  op = little_from-lt 0 2 (drop 30 xs) (moved 30 xs each);
-  flags = little_from-lt 0 4 (drop 32 xs) (moved 32 xs each);
-  buf_alloc = little_from-lt 0 4 (drop 36 xs) (moved 36 xs each);
-  fwd_cnt = little_from-lt 0 4 (drop 40 xs) (moved 40 xs each);
-}
 
 -- The packet that a page holds has the page's header, and a page with a header holds a packet unless its len is above what follows.
 some_test : {A : Type 0} (b : Bool) (o : Option A) (x : A) → cond b o None ≡ Some x → o ≡ Some x

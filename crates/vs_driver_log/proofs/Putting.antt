@@ -36,7 +36,9 @@ use Rattle.vs_driver_parts.specs.Connections.{connect_refusal, connected, is_ful
 use Rattle.vs_driver_parts.specs.Connections as connections
 use Rattle.vs_driver_parts.specs.Conversations.{after_paying, owed_bytes, payload_bytes, reply_header, request_bytes}
 use Rattle.vs_driver_log.specs.Honest.{IsFitFlow, IsFitReply, IsFitState, end_in, ends_of_state, reply_flow, reply_flows}
-use Rattle.vs_driver_log.proofs.Bytes.{held_alone, held_payload, header_fits, owed_flags_fit, reset_fits}
+use Rattle.vs_page.proofs.Packets.{held_alone, held_payload}
+use Rattle.vs_matching.proofs.OwedFlags.{owed_flags_fit}
+use Rattle.vs_driver_log.proofs.Bytes.{header_fits, reset_fits}
 use Rattle.vs_driver_log.proofs.Fits.{IsHeldBy, paid_fits, sent_fits}
 use Rattle.vs_driver_log.proofs.Ringing.{Puts}
 use Rattle.vs_driver_log.proofs.Tabling.{Stands, connection_ends, connection_fits, entry_fits, has_end, leaves, opening_fits}

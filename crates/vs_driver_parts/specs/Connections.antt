@@ -136,6 +136,10 @@ recv_of id n s = elim (entry_known_as id s) [
   | None ↦ elim (gone_known_as id s) [ None ↦ got.Unknown | Some g ↦ gone_answer n g ]
 ]
 
+abbrev pub got_count : Received → ℕ
+got_count (got.Got n) = n
+got_count _ = 0
+
 -- The bytes that it gives: of the connection's unread ones the first.
 abbrev pub unread_of_id : ℕ → DriverState → List ℕ
 unread_of_id id s = elim (entry_known_as id s) [

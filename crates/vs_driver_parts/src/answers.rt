@@ -1,5 +1,8 @@
 //! What the driver's calls answer.
 
+ghost use Rattle.std.specs.Prelude.{◌≡◌};
+ghost use Rattle.vs_driver_parts.specs.Connections.{got_count};
+
 /// Number of a connection, from 1 on. None is given twice.
 pub type ConnId = u32;
 
@@ -101,6 +104,18 @@ pub enum Received {
     Reset,
     /// The connection is open, and nothing is unread.
     Empty,
+}
+
+impl Received {
+    /// How many bytes were read: 0 where none were.
+    pub fn count(self) -> usize
+        ensures { result ≡ got_count self }
+    {
+        match self {
+            Received::Got(n) => n,
+            _ => 0,
+        }
+    }
 }
 
 /// What a shutdown answers.

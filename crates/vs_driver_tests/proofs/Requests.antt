@@ -9,7 +9,7 @@ use Rattle.vs_header.specs.declared.Header.{Header}
 use Rattle.vs_history.specs.Packets.{packet_bytes}
 use Rattle.vs_page.specs.Held.{packet_held}
 use Rattle.vs_ring_port.specs.DriverCalls.{HoldsPacket}
-use Rattle.vs_driver_log.proofs.Bytes.{held_alone}
+use Rattle.vs_page.proofs.Packets.{held_alone}
 use Rattle.vs_flow.specs.Flow.{is_assigned, same_flow}
 use Rattle.vs_flow.specs.declared.flow.Flow.{Flow}
 use Rattle.vs_flow.proofs.Entries.{same_flow_false, same_flow_true}

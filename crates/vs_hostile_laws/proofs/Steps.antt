@@ -1,11 +1,9 @@
 -- A conversation over rings in a guest's memory and a host: its calls account for the host, and it is the one that was played.
-use Rattle.std.proofs.Common.{◌≡◌, ℕ, ◌≤◌, ◌==◌, min, Bool, true, false, cond, List, [], ◌∷◌, length, take, Option, Some, None, refl, sym}
-use Rattle.std.proofs.Common.{subst, arith}
-use Rattle.std.specs.Option.{option_map_or}
-use Rattle.std.proofs.lemmas.List.{length-take}
+use Rattle.std.proofs.Common.{◌≡◌, ℕ, ◌≤◌, List, ◌∷◌, length, refl, sym}
+use Rattle.std.proofs.Common.{arith}
 use Rattle.vs_contents.specs.CallTree.{Done, Ask, Leads, played}
-use Rattle.vs_outside.specs.Host.{HostContents, IsDialed, Stream, accept_answer, dial_answer, fails_now, read_answer, read_of, stream_at}
-use Rattle.vs_outside.specs.Host.{taken_of, write_answer, write_of}
+use Rattle.vs_outside.specs.Host.{HostContents, IsDialed, accept_answer, dial_answer, fails_now, read_answer, stream_at}
+use Rattle.vs_outside.specs.Host.{write_answer}
 use Rattle.vs_outside.specs.declared.host_net.Dialed.{Dialed}
 use Rattle.vs_outside.specs.declared.host_net.Dialed.TheVariants as dialed
 use Rattle.vs_outside.specs.declared.host_net.StreamRead.{StreamRead}
@@ -17,6 +15,7 @@ use Rattle.vs_device_parts.specs.Calls.{CloseStream}
 use Rattle.vs_hostile.specs.Answers.{Around, answer_around, bytes_with}
 use Rattle.vs_hostile_laws.specs.Recorded.{Recorded, recording}
 use Rattle.vs_proxy_bytes.specs.Made.{Made, Makes, MayGet, account_of}
+use Rattle.vs_pipes.proofs.Short.{bytes_short, read_short, write_short}
 use Rattle.vs_proxy_bytes.specs.Told.{Shows}
 use Rattle.vs_proxy_bytes.proofs.Keeping.{Asks, Keeps, keeps_answer, made}
 use Rattle.vs_proxy_bytes.proofs.Telling.{accept_shows, close_shows, dial_shows, label_shows, read_shows, ring_shows, shut_shows}
@@ -28,36 +27,12 @@ dial_is path c (dialed.Stream id) is = sym is
 dial_is path c dialed.Refused is = sym is
 dial_is path c dialed.Failed is = tt
 
-write_short : (len n : ℕ) (b : Bool) (o : Option Stream) → cond b write.Failed (option_map_or (write_of len) o write.Again) ≡ write.Took n
-    → n ≤ len
-write_short len n true o is = absurd cc
-write_short len n false None is = absurd cc
-write_short len n false (Some st) is = by st.host_closed (taken_of len st == 0) is
-  where
-    taken_short : (o : Option ℕ) → option_map_or (λ room. min len room) o len ≤ len
-    taken_short None = omega arith
-    taken_short (Some room) = omega arith
-
-    by : (a b : Bool) → cond a write.Closed (cond b write.Again (write.Took (taken_of len st))) ≡ write.Took n → n ≤ len
-    by true b is = absurd cc
-    by false true is = absurd cc
-    by false false is = let same : taken_of len st ≡ n = cc in subst (λ (k : ℕ). k ≤ len) same (taken_short st.room)
-
-read_short : (n k : ℕ) (b : Bool) (o : Option Stream) → cond b read.Failed (option_map_or (read_of n) o read.Again) ≡ read.Got k
-    → length (option_map_or (λ (s : Stream). take k s.untaken) o []) ≤ n
-read_short n k true o is = absurd cc
-read_short n k false None is = absurd cc
-read_short n k false (Some st) is = by (length st.untaken == 0) st.ended is
-  where
-    by : (a b : Bool) → cond a (cond b read.End read.Again) (read.Got (min n (length st.untaken))) ≡ read.Got k → length
-        (take k st.untaken) ≤ n
-    by true true is = absurd cc
-    by true false is = absurd cc
-    by false b is = let same : min n (length st.untaken) ≡ k = cc in omega (arith, same, length-take k st.untaken)
-
 read_is : (stream n : ℕ) (c : HostContents) (a : StreamRead) → read_answer stream n c ≡ a
     → IsReadOf stream n (a, bytes_with stream a c) c × (length (bytes_with stream a c) ≤ n)
-read_is stream n c (read.Got k) is = ((sym is, refl), read_short n k (fails_now c) (stream_at stream c) is)
+read_is stream n c (read.Got k) is = (
+  (sym is, refl),
+  let few = bytes_short k (stream_at stream c) in let short = read_short n k (fails_now c) (stream_at stream c) is in omega (arith, few, short),
+)
 read_is stream n c read.Again is = ((sym is, refl), omega arith)
 read_is stream n c read.End is = ((sym is, refl), omega arith)
 read_is stream n c read.Failed is = ((sym is, refl), omega arith)

@@ -8,3 +8,4 @@ pub mod Slots
 pub mod Keeps
 pub mod Both
 pub mod Voices
+pub mod OwedFlags

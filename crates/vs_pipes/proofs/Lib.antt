@@ -9,3 +9,4 @@ pub mod Hands
 pub mod Opens
 pub mod Gives
 pub mod Cids
+pub mod Short

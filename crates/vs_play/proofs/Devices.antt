@@ -23,7 +23,7 @@ use Rattle.vs_proxy_parts.specs.declared.answers.Turn.{Turn}
 use Rattle.vs_proxy_laws.proofs.Lists.{none_open}
 use Rattle.vs_proxy_laws.proofs.Turning.{keeps_proxy_reset, keeps_turn}
 use Rattle.vs_proxy_log.proofs.Turning.{new_proxy_with, proxy_reset_keeps, turn_keeps}
-use Rattle.vs_core.specs.World.{first_cid}
+use Rattle.vs_world.specs.World.{first_cid}
 use Rattle.vs_play.specs.Answer.{base_path}
 use Rattle.vs_play.specs.Ready.{IsDriven, IsServed}
 use Rattle.vs_world.proofs.Flown.{LeavesDriver}

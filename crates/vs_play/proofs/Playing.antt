@@ -15,13 +15,13 @@ use Rattle.vs_ring_port.specs.declared.failure.Failure.{Failure}
 use Rattle.vs_proxy_parts.specs.declared.answers.Turn as answers
 use Rattle.vs_report.specs.DeviceLines.{reset_text}
 use Rattle.vs_script.specs.Play.{Event, Poll, Around}
-use Rattle.vs_core.specs.GuestSteps.{makes_call}
-use Rattle.vs_core.specs.Calls.{GuestCall, ReplyTo}
-use Rattle.vs_core.specs.Plays.{Guest, whole_call}
+use Rattle.vs_world.specs.GuestSteps.{makes_call}
+use Rattle.vs_world.specs.Calls.{GuestCall, ReplyTo}
+use Rattle.vs_world.specs.Plays.{Guest, whole_call}
 use Rattle.vs_proxy_parts.specs.State.{ProxyState}
 use Rattle.vs_proxy_parts.specs.Turns.{new_proxy, proxy_reset_of, turn_of}
-use Rattle.vs_core.specs.World.{first_cid}
-use Rattle.vs_play.specs.Answer.{base_path, opened_host, opened_play}
+use Rattle.vs_world.specs.World.{first_cid, opened_host}
+use Rattle.vs_play.specs.Answer.{base_path, opened_play}
 use Rattle.vs_play.specs.Lines.{event_played, played_line, reply_text}
 use Rattle.vs_report.specs.DeviceLines.{turn_text}
 use Rattle.vs_play.proofs.Devices.{served_new}
@@ -164,7 +164,7 @@ own_size : (n : ℕ) (v : Ends) → v ≡ empty_ends n → v ≡ empty_ends v.li
 own_size n v empty = subst (λ e. e ≡ empty_ends e.lists.size) (sym empty) refl
 
 begun_same : (n : ℕ) (v w : Ends) (s : DriverState) (x : ProxyState) (h : HostContents) → v ≡ empty_ends n
-    → over_lists (new_of v.lists.size FIRST_PORT 1) v ≡ (s, w) → x ≡ new_proxy first_cid base_path → h ≡ opened_host
+    → over_lists (new_of v.lists.size FIRST_PORT 1) v ≡ (s, w) → x ≡ new_proxy first_cid base_path → h ≡ opened_host base_path
     → begun s x w h ≡ shown (opened_play n)
 begun_same n v w s x h empty played made host =
     let there : over_lists (new_of n FIRST_PORT 1) (empty_ends n) ≡ (s, w) = subst (λ e. over_lists (new_of e.lists.size FIRST_PORT 1) e ≡ (s, w)) empty played in
@@ -184,7 +184,7 @@ begun_ready n v w s x h empty played made driven = record {
 }
 
 pub opens : (n : ℕ) (v w : Ends) (s : DriverState) (x : ProxyState) (h : HostContents) (p : PlayState) → v ≡ empty_ends n
-    → over_lists (new_of v.lists.size FIRST_PORT 1) v ≡ (s, w) → x ≡ new_proxy first_cid base_path → h ≡ opened_host → IsDriven s w
+    → over_lists (new_of v.lists.size FIRST_PORT 1) v ≡ (s, w) → x ≡ new_proxy first_cid base_path → h ≡ opened_host base_path → IsDriven s w
     → p ≡ begun s x w h → IsOpened v.lists.size p
 opens n v w s x h p empty played made host driven is = subst (IsOpened v.lists.size) (sym is) (record {
   world = begun_same v.lists.size v w s x h (own_size n v empty) played made host;

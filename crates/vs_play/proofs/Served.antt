@@ -9,7 +9,7 @@ use Rattle.vs_device_laws.specs.Streams.{HasStreams}
 use Rattle.vs_proxy_parts.specs.Handshakes.{streams_of}
 use Rattle.vs_proxy_parts.specs.State.{ProxyState}
 use Rattle.vs_proxy_log.specs.Honest.{IsProxyWith}
-use Rattle.vs_core.specs.World.{first_cid}
+use Rattle.vs_world.specs.World.{first_cid}
 use Rattle.vs_play.specs.Ready.{IsServed}
 use Rattle.vs_world.proofs.StayOpen.{StayOpen, still_has}
 

@@ -1,12 +1,10 @@
 -- The answer of a play: the lines that a script prints, and the status that it ends with, as a function of its bytes.
 use Rattle.std.specs.Prelude.{ℕ, List, [], ◌∷◌, ◌++◌, length, map, codes, Result, Ok, Err}
-use Rattle.vs_outside.specs.Host.{HostContents}
-use Rattle.vs_outside.specs.HostProgram.{new_host, plain}
 use Rattle.vs_script.specs.Play.{Event}
 use Rattle.vs_script.specs.Script.{Saying, Plays, parse_of}
 use Rattle.vs_script.specs.declared.fault.Refused.{Refused}
 use Rattle.vs_script.specs.declared.script.Command.TheVariants as command
-use Rattle.vs_core.specs.World.{World, opening}
+use Rattle.vs_world.specs.World.{World, opened_host, opening}
 use Rattle.vs_report.specs.Answers.{Answer, refusal}
 use Rattle.vs_report.specs.Report.{report}
 use Rattle.vs_report.specs.declared.giving.Totals.{Totals}
@@ -16,11 +14,8 @@ use Rattle.vs_play.specs.Lines.{PlayWorld, event_played}
 abbrev pub base_path : List ℕ
 base_path = codes "v.sock"
 
-abbrev pub opened_host : HostContents
-opened_host = (new_host base_path [] plain).contents
-
 abbrev pub opened_play : ℕ → PlayWorld
-opened_play n = record { world = opening n opened_host; moment = 0 }
+opened_play n = record { world = opening n (opened_host base_path); moment = 0 }
 
 -- What event lines lead to, and what they print.
 abbrev pub world_after : List Event → PlayWorld → PlayWorld

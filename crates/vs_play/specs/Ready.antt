@@ -4,8 +4,6 @@ use Rattle.vs_ring_port.specs.Chains.{chains_of}
 use Rattle.vs_ring_list.specs.Ends.{Ends, device_contents, driver_contents, flight_of, staged_of}
 use Rattle.vs_driver_parts.specs.Playing.{IsRingOf}
 use Rattle.vs_driver_parts.specs.State.{DriverState}
-use Rattle.vs_driver_parts.specs.declared.answers.Received.{Received}
-use Rattle.vs_driver_parts.specs.declared.answers.Received.TheVariants as received
 use Rattle.vs_driver_log.specs.Honest.{IsHonest}
 use Rattle.vs_script.specs.Outside as outside
 use Rattle.vs_script.specs.Play as script
@@ -14,7 +12,7 @@ use Rattle.vs_outside.specs.Host.{HostContents}
 use Rattle.vs_device_parts.specs.Playing.{IsItsRing, situation}
 use Rattle.vs_proxy_parts.specs.State.{ProxyState}
 use Rattle.vs_proxy_log.specs.Order.{IsInOrder}
-use Rattle.vs_core.specs.World.{first_cid}
+use Rattle.vs_world.specs.World.{first_cid}
 use Rattle.vs_play.specs.Answer.{opened_play}
 use Rattle.vs_play.specs.Lines.{PlayWorld, event_played}
 
@@ -37,11 +35,6 @@ abbrev pub IsPlayable : Event → Type 0
 IsPlayable (script.Shutdown id bits) = IsBits bits
 IsPlayable (script.Around (outside.Reset cid)) = (3 ≤ cid) × (cid ≤ 4294967294)
 IsPlayable _ = Unit {0}
-
--- How many bytes a receive got.
-abbrev pub got_count : Received → ℕ
-got_count (received.Got n) = n
-got_count _ = 0
 
 -- What a play holds: its world without the journal of the calls that the guest made.
 pub record PlayState : Type 0 where

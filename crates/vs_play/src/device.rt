@@ -4,8 +4,8 @@ ghost use Rattle.std.specs.Prelude.{◌≡◌, ◌≤◌, ◌++◌, Result, IfOk
 ghost use Rattle.vs_driver_parts.specs.State.{DriverState};
 ghost use Rattle.vs_device_parts.specs.Turns.{table_shown};
 ghost use Rattle.vs_proxy_parts.specs.Turns.{new_proxy, proxy_reset_of, turn_of};
-ghost use Rattle.vs_core.specs.World.{first_cid};
-ghost use Rattle.vs_play.specs.Answer.{base_path, opened_host};
+ghost use Rattle.vs_world.specs.World.{first_cid, opened_host};
+ghost use Rattle.vs_play.specs.Answer.{base_path};
 ghost use Rattle.vs_play.specs.Ready.{IsDriven, IsServed};
 ghost use Rattle.vs_world.specs.Over.{over_both};
 
@@ -28,7 +28,7 @@ pub fn new(alloc: Global) -> Result<Proxy, AllocError>
 
 /// A host at which nobody listens. The only error is want of memory.
 pub fn new_host(alloc: Global) -> Result<MemHost, AllocError>
-    ensures { IfOk result (λ host. host.contents ≡ opened_host) }
+    ensures { IfOk result (λ host. host.contents ≡ opened_host base_path) }
 {
     MemHost::new(alloc, BASE_PATH)
 }

@@ -6,10 +6,10 @@ ghost use Rattle.vs_ring_list.specs.Ends.{Ends, empty_ends};
 ghost use Rattle.vs_driver_parts.specs.Conversations.{new_of, connect_of, send_of, poll_of};
 ghost use Rattle.vs_driver_parts.specs.Connections.{table_shown};
 ghost use Rattle.vs_driver_parts.specs.declared.limits.TheConstants.{FIRST_PORT};
-ghost use Rattle.vs_core.specs.Calls as call;
-ghost use Rattle.vs_core.specs.GuestSteps.{makes_call};
+ghost use Rattle.vs_world.specs.Calls as call;
+ghost use Rattle.vs_world.specs.GuestSteps.{makes_call};
 ghost use Rattle.vs_play.specs.Lines.{flow_opened, flow_accepted};
-ghost use Rattle.vs_play.specs.Ready.{IsBits, IsDriven, got_count};
+ghost use Rattle.vs_play.specs.Ready.{IsBits, IsDriven};
 ghost use Rattle.vs_world.specs.Over.{over_lists};
 
 use std::alloc::{AllocError, Global};
@@ -107,18 +107,8 @@ pub fn recv(
 {
     let mut out = vec![in alloc; 0; len]?;
     let answer = driver.recv(id, &mut out);
-    out.truncate(got_count(answer));
+    out.truncate(answer.count());
     Ok((answer, out))
-}
-
-// Bytes that a receive got.
-fn got_count(answer: Received) -> usize
-    ensures { result ≡ got_count answer }
-{
-    match answer {
-        Received::Got(n) => n,
-        _ => 0,
-    }
 }
 
 /// Shuts directions of a connection.

@@ -22,21 +22,21 @@ use Rattle.vs_script.specs.Play.{Event}
 use Rattle.vs_script.specs.Script.{Plays, parse_of}
 use Rattle.vs_script.specs.declared.script.Command.TheVariants as command
 use Rattle.vs_report.specs.Report.{counts_text, device_open_text, guest_open_text, stream_texts}
-use Rattle.vs_core.specs.Calls.{sent_on}
-use Rattle.vs_core.specs.Events.{is_at_rest, is_guest_cid, reset_made}
-use Rattle.vs_core.specs.Laws.{IsEmptied}
-use Rattle.vs_core.specs.Pipes.{IsFresh}
-use Rattle.vs_core.specs.Sides.{both_of, device_ends, driver_ends}
-use Rattle.vs_core.specs.Steps.{Leads}
-use Rattle.vs_core.specs.World.{World, first_cid}
-use Rattle.vs_core.proofs.Bytes.{wrote_is_put}
-use Rattle.vs_core.proofs.CallRests.{opening_rests}
-use Rattle.vs_core.proofs.Growing.{Grows, runs_grow}
-use Rattle.vs_core.proofs.GuestLines.{possible_is}
-use Rattle.vs_core.proofs.Opening.{opening_well, run_goes}
-use Rattle.vs_core.proofs.ResetTables.{device_emptied}
-use Rattle.vs_core.proofs.ScriptLines.{script_leads, script_rests}
-use Rattle.vs_core.proofs.Sound.{Goes, IsWell}
+use Rattle.vs_world.specs.Calls.{sent_on}
+use Rattle.vs_world.specs.Events.{is_at_rest, is_guest_cid, reset_made}
+use Rattle.vs_world.specs.Laws.{IsEmptied}
+use Rattle.vs_world.specs.Pipes.{IsFresh}
+use Rattle.vs_world.specs.Sides.{both_of, device_ends, driver_ends}
+use Rattle.vs_world.specs.Steps.{Leads}
+use Rattle.vs_world.specs.World.{World, first_cid}
+use Rattle.vs_world.proofs.Bytes.{wrote_is_put}
+use Rattle.vs_world.proofs.CallRests.{opening_rests}
+use Rattle.vs_world.proofs.Growing.{Grows, runs_grow}
+use Rattle.vs_world.proofs.GuestLines.{possible_is}
+use Rattle.vs_world.proofs.Opening.{opening_well, run_goes}
+use Rattle.vs_world.proofs.ResetTables.{device_emptied}
+use Rattle.vs_world.proofs.ScriptLines.{script_leads, script_rests}
+use Rattle.vs_world.proofs.Sound.{Goes, IsWell}
 use Rattle.vs_play.specs.Answer.{base_path, opened_play, texts_of, world_after}
 use Rattle.vs_play.specs.Lines.{PlayWorld}
 use Rattle.vs_play_laws.specs.Bounded.{AreBounded}

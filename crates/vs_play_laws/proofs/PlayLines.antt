@@ -8,14 +8,14 @@ use Rattle.vs_script.specs.Outside.{Host, Outside}
 use Rattle.vs_script.specs.Outside as outside
 use Rattle.vs_script.specs.Play.{Event}
 use Rattle.vs_script.specs.Play as script
-use Rattle.vs_core.specs.Calls as call
-use Rattle.vs_core.specs.Calls.{is_on, received_on, sent_on}
-use Rattle.vs_core.specs.Events.{is_guest_cid}
-use Rattle.vs_core.specs.GuestSteps.{flow_named}
-use Rattle.vs_core.specs.Plays.{AreRight, Line, after, is_given_right}
-use Rattle.vs_core.specs.Plays as world
-use Rattle.vs_core.specs.World.{World}
-use Rattle.vs_core.proofs.Payloads.{either_none, nothing_more}
+use Rattle.vs_world.specs.Calls as call
+use Rattle.vs_world.specs.Calls.{is_on, received_on, sent_on}
+use Rattle.vs_world.specs.Events.{is_guest_cid}
+use Rattle.vs_world.specs.GuestSteps.{flow_named}
+use Rattle.vs_world.specs.Plays.{AreRight, Line, after, is_given_right}
+use Rattle.vs_world.specs.Plays as world
+use Rattle.vs_world.specs.World.{World}
+use Rattle.vs_world.proofs.Payloads.{either_none, nothing_more}
 use Rattle.vs_play.specs.Answer.{world_after}
 use Rattle.vs_play.specs.Lines.{PlayWorld, event_played, host_line}
 use Rattle.vs_play_laws.specs.Bounded.{AreBounded, IsBounded}

@@ -22,17 +22,17 @@ use Rattle.vs_page.specs.Open.{WasOpened, is_left_open, is_open}
 use Rattle.vs_page.proofs.Opened.{was_opened}
 use Rattle.vs_page.proofs.PayloadLogs.{all_got, all_put, prefix}
 use Rattle.vs_pipes.specs.Drains.{Drains, receives}
-use Rattle.vs_core.specs.Received.{IsReceived, ReceivedOn, ReceivesOn}
+use Rattle.vs_world.specs.Received.{IsReceived, ReceivedOn, ReceivesOn}
 use Rattle.vs_pipes.specs.Streamed.{IsJoined, IsStreamed, Seen, gives, line_for, look, seen}
 use Rattle.vs_pipes.proofs.Hosts.{there as is_there}
 use Rattle.vs_pipes.proofs.Logs.{prefix_then}
 use Rattle.vs_ring_port.specs.EndLog.{all_put as with_pages}
-use Rattle.vs_core.specs.Calls.{received_on, sent_on}
-use Rattle.vs_core.specs.Events.{is_at_rest, none_staged}
-use Rattle.vs_core.specs.Sides.{device_ends, driver_ends, log_with_staged}
-use Rattle.vs_core.specs.World.{World, first_cid}
-use Rattle.vs_core.proofs.Bytes.{read_is_got, wrote_is_put}
-use Rattle.vs_core.proofs.Sound.{IsWell}
+use Rattle.vs_world.specs.Calls.{received_on, sent_on}
+use Rattle.vs_world.specs.Events.{is_at_rest, none_staged}
+use Rattle.vs_world.specs.Sides.{device_ends, driver_ends, log_with_staged}
+use Rattle.vs_world.specs.World.{World, first_cid}
+use Rattle.vs_world.proofs.Bytes.{read_is_got, wrote_is_put}
+use Rattle.vs_world.proofs.Sound.{IsWell}
 use Rattle.vs_play_laws.specs.Headline.{Carries, HasOwnStreams, HoldsOpen, HoldsTheRest, IsQueued, KeepsCredit, PutsWithinCredit}
 use Rattle.vs_play_laws.specs.Headline.{device_flows, device_log}
 use Rattle.vs_play_laws.specs.Headline.{driver_log, guest_flows}

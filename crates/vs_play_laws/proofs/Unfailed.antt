@@ -28,23 +28,23 @@ use Rattle.vs_proxy_parts.specs.State.{ProxyState, Turning, start, with_device}
 use Rattle.vs_proxy_parts.specs.Turns.{close_handshake, event_stage, fill_stage, proxy_reset_of, pump_stage, reset_with, take_one, take_stage}
 use Rattle.vs_proxy_parts.specs.Turns.{tick_stage, turned, unless_failed}
 use Rattle.vs_proxy_parts.specs.declared.answers.Turn.{Turn}
-use Rattle.vs_core.specs.Answers.{Around, answer_around}
-use Rattle.vs_core.specs.Events.{is_at_rest}
-use Rattle.vs_core.specs.Pages.{AllHold, PageHolds}
-use Rattle.vs_core.specs.Plays.{Line, Guest, Poll, TurnAt, ResetTo, Client, HostListen, HostUnlisten, HostWrite, HostAllow, HostEnd}
-use Rattle.vs_core.specs.Plays.{HostClosed, HostFail, AreRight, after, line, reset_line, turn_line}
-use Rattle.vs_core.specs.Steps.{Leads}
-use Rattle.vs_core.specs.World.{World, around}
-use Rattle.vs_core.proofs.Chains.{same_self}
-use Rattle.vs_core.proofs.DeviceEvents.{header_is}
-use Rattle.vs_core.proofs.DeviceLeads.{Does, EndsFine, device_bind, ends_played, plays, with_proxy}
-use Rattle.vs_core.proofs.FillStage.{fill_stage_does}
-use Rattle.vs_core.proofs.Opening.{run_goes}
-use Rattle.vs_core.proofs.PumpStage.{pump_stage_does}
-use Rattle.vs_core.proofs.ScriptLines.{line_leads, line_rests}
-use Rattle.vs_core.proofs.Sound.{IsWell}
-use Rattle.vs_core.proofs.TakeStage.{counts, event_stage_does, take_goes, take_stage_leads}
-use Rattle.vs_core.proofs.TickStage.{shake_does, tick_stage_does, turning_at}
+use Rattle.vs_world.specs.Answers.{Around, answer_around}
+use Rattle.vs_world.specs.Events.{is_at_rest}
+use Rattle.vs_world.specs.Pages.{AllHold, PageHolds}
+use Rattle.vs_world.specs.Plays.{Line, Guest, Poll, TurnAt, ResetTo, Client, HostListen, HostUnlisten, HostWrite, HostAllow, HostEnd}
+use Rattle.vs_world.specs.Plays.{HostClosed, HostFail, AreRight, after, line, reset_line, turn_line}
+use Rattle.vs_world.specs.Steps.{Leads}
+use Rattle.vs_world.specs.World.{World, around}
+use Rattle.vs_world.proofs.Chains.{same_self}
+use Rattle.vs_world.proofs.DeviceEvents.{header_is}
+use Rattle.vs_world.proofs.DeviceLeads.{Does, EndsFine, device_bind, ends_played, plays, with_proxy}
+use Rattle.vs_world.proofs.FillStage.{fill_stage_does}
+use Rattle.vs_world.proofs.Opening.{run_goes}
+use Rattle.vs_world.proofs.PumpStage.{pump_stage_does}
+use Rattle.vs_world.proofs.ScriptLines.{line_leads, line_rests}
+use Rattle.vs_world.proofs.Sound.{IsWell}
+use Rattle.vs_world.proofs.TakeStage.{counts, event_stage_does, take_goes, take_stage_leads}
+use Rattle.vs_world.proofs.TickStage.{shake_does, tick_stage_does, turning_at}
 
 abbrev IsFine : ProxyState → Type 0
 IsFine p = p.device.failed ≡ None

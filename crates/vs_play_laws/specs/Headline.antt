@@ -23,11 +23,11 @@ use Rattle.vs_script.specs.Play as script
 use Rattle.vs_script.specs.Play.{Event}
 use Rattle.vs_report.specs.GuestLines.{recv_text, send_text}
 use Rattle.vs_report.specs.Report.{counts_text, device_open_text, guest_open_text, stream_texts}
-use Rattle.vs_core.specs.Calls.{received_on, sent_on}
-use Rattle.vs_core.specs.Laws.{IsEmptied}
-use Rattle.vs_core.specs.Sides.{device_ends, driver_ends}
-use Rattle.vs_core.specs.Steps.{Leads}
-use Rattle.vs_core.specs.World.{World, first_cid}
+use Rattle.vs_world.specs.Calls.{received_on, sent_on}
+use Rattle.vs_world.specs.Laws.{IsEmptied}
+use Rattle.vs_world.specs.Sides.{device_ends, driver_ends}
+use Rattle.vs_world.specs.Steps.{Leads}
+use Rattle.vs_world.specs.World.{World, first_cid}
 use Rattle.vs_play.specs.Answer.{opened_play, printed, texts_of, world_after}
 use Rattle.vs_play.specs.Lines.{event_played}
 use Rattle.vs_play_laws.specs.Said.{received_in, recv_answer, recv_bytes, send_answer, sent_in}

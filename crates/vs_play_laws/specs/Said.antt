@@ -8,9 +8,9 @@ use Rattle.vs_driver_parts.specs.declared.answers.Sent.{Sent}
 use Rattle.vs_script.specs.Data.{Content, bytes_of}
 use Rattle.vs_script.specs.Play as script
 use Rattle.vs_script.specs.Play.{Event}
-use Rattle.vs_core.specs.Calls.{is_on, took}
-use Rattle.vs_core.specs.GuestSteps.{bytes_got}
-use Rattle.vs_core.specs.World.{driver_plays}
+use Rattle.vs_world.specs.Calls.{is_on, took}
+use Rattle.vs_world.specs.GuestSteps.{bytes_got}
+use Rattle.vs_world.specs.World.{driver_plays}
 use Rattle.vs_play.specs.Lines.{PlayWorld, event_played}
 
 -- The answer of `send C DATA`.

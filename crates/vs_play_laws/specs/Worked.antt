@@ -10,7 +10,7 @@ use Rattle.vs_script.specs.Play.{Event}
 use Rattle.vs_script.specs.Script.{Saying, Plays, parse_of}
 use Rattle.vs_script.specs.declared.fault.Refused.{Refused}
 use Rattle.vs_script.specs.declared.script.Command.TheVariants as command
-use Rattle.vs_core.specs.World.{World, first_cid}
+use Rattle.vs_world.specs.World.{World, first_cid}
 use Rattle.vs_play.specs.Answer.{opened_play}
 use Rattle.vs_play_laws.specs.Headline.{device_flows, device_log, driver_log, guest_flows, guest_replies, world_of}
 use Rattle.vs_play_laws.specs.Said.{received_in, sent_in}

@@ -32,7 +32,8 @@ use Rattle.vs_proxy_parts.specs.Handshakes.{without_handshake}
 use Rattle.vs_proxy_parts.specs.State.{Handshake, Turning, with_device}
 use Rattle.vs_proxy_parts.specs.declared.limits.TheConstants.{HANDSHAKES}
 use Rattle.vs_proxy_log.specs.Honest.{IsProxyWith}
-use Rattle.vs_proxy_log.proofs.Ports.{later, port_fits}
+use Rattle.vs_uds.proofs.Decided.{port_fits}
+use Rattle.vs_proxy_log.proofs.Ports.{later}
 
 module _ (first : ℕ) where
   abbrev pub Turns : Turning → RingContents → Type 0

@@ -197,7 +197,7 @@ impl HeldChains {
                     head,
                     self.lists.at(queue.queue),
                 );
-                let chain = twin(&hold.chain);
+                let chain = hold.chain.twin();
                 self.holds.push_front_reserved(hold);
                 Ok(Some(chain))
             }
@@ -306,17 +306,5 @@ fn chain_of(queue: Queue, place: u16, pieces: &[Piece]) -> Chain
         place,
         readable,
         writable,
-    }
-}
-
-// The same chain once more: one for the device, one for this end.
-fn twin(chain: &Chain) -> Chain
-    ensures { result ≡ chain.now }
-{
-    Chain {
-        queue: chain.queue,
-        place: chain.place,
-        readable: chain.readable,
-        writable: chain.writable,
     }
 }

@@ -3,3 +3,4 @@ pub mod Ports
 pub mod Readings
 pub mod OkLines
 pub mod ConnectLines
+pub mod Decided

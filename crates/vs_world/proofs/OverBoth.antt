@@ -22,7 +22,7 @@ use Rattle.vs_ring_list.proofs.Determined.{device_determined}
 use Rattle.vs_device_parts.specs.Calls.{Call, Answer, Ring, Accept, Dial, Label, ReadStream, WriteStream, ShutWrite, CloseStream, Situation, DeviceTree, Allows, HostMoves, IsReadOf}
 use Rattle.vs_device_parts.specs.Playing.{Runs, situation}
 use Rattle.vs_device_log.proofs.Keeping.{Keeps}
-use Rattle.vs_core.specs.Answers.{Around, answer_around, bytes_with}
+use Rattle.vs_world.specs.Answers.{Around, answer_around, bytes_with}
 use Rattle.vs_world.specs.Over.{beside, over_both}
 use Rattle.vs_world.proofs.Flown.{LeavesDriver, leaves_stay, leaves_then, leaves_call}
 use Rattle.vs_world.proofs.Holding.{IsHeldFor, MayHold, kept_held}

@@ -9,7 +9,7 @@ use Rattle.vs_device_parts.specs.Calls.{DeviceTree}
 use Rattle.vs_device_parts.specs.State.{DeviceState}
 use Rattle.vs_proxy_parts.specs.State.{ProxyState, Turning, start, with_device}
 use Rattle.vs_proxy_parts.specs.Turns.{proxy_reset_of}
-use Rattle.vs_core.specs.Answers.{Around, answer_around}
+use Rattle.vs_world.specs.Answers.{Around, answer_around}
 
 -- What a conversation of the driver's leads to over list rings.
 abbrev pub over_lists : {A : Type 0} → DriverTree A → Ends → A × Ends

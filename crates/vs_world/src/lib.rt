@@ -1,15 +1,3 @@
-//! The world of one thread as a program: a driver and a device with its proxy over list rings, and a host in memory, one event at a time
-//! (Virtio 1.2, section 5.10.6).
+//! The world of one thread: a driver and a device with its proxy over list rings, a host in memory, and all that may happen between them,
+//! step by step (Virtio 1.2, section 5.10.6). Definitions and lemmas alone: `vs_core` has the laws and the program.
 #![tactic(auto)]
-
-mod device;
-mod device_events;
-pub mod event;
-mod guest;
-mod host_events;
-mod step;
-mod world;
-
-pub use event::{Event, GuestCall, Reply};
-pub use step::run;
-pub use world::World;

@@ -8,11 +8,11 @@ use Rattle.vs_matching.proofs.Both.{device_has_room, driver_accepts}
 use Rattle.vs_matching.proofs.Voices.{device_takes}
 use Rattle.vs_page.specs.Log.{Device, IsNextPacket, flow_got}
 use Rattle.vs_page.specs.Open.{is_dropped}
-use Rattle.vs_core.specs.Events.{run}
-use Rattle.vs_core.specs.Sides.{both_of}
-use Rattle.vs_core.specs.World.{first_cid, opening}
-use Rattle.vs_core.proofs.Opening.{opening_is, reached, run_well}
-use Rattle.vs_core.proofs.Runs.{and_then, stays}
+use Rattle.vs_world.specs.Events.{run}
+use Rattle.vs_world.specs.Sides.{both_of}
+use Rattle.vs_world.specs.World.{first_cid, opening}
+use Rattle.vs_world.proofs.Opening.{opening_is, reached, run_well}
+use Rattle.vs_world.proofs.Runs.{and_then, stays}
 use Rattle.vs_core.proofs.laws.law_of_next_packets.Goals as goal
 
 pub returns-clause-driver : goal.returns-clause-driver

@@ -4,11 +4,11 @@ use Rattle.vs_outside.specs.Host.{HostContents}
 use Rattle.vs_page.specs.Fair.{IsPrefixOf, payload_got, payload_put}
 use Rattle.vs_page.specs.Log.{Device, Driver}
 use Rattle.vs_page.proofs.PayloadLogs.{all_put, prefix}
-use Rattle.vs_core.specs.Calls.{sent_on}
-use Rattle.vs_core.specs.Events.{Event, run}
-use Rattle.vs_core.specs.Sides.{both_of}
-use Rattle.vs_core.specs.World.{opening}
-use Rattle.vs_core.proofs.Opening.{run_well}
+use Rattle.vs_world.specs.Calls.{sent_on}
+use Rattle.vs_world.specs.Events.{Event, run}
+use Rattle.vs_world.specs.Sides.{both_of}
+use Rattle.vs_world.specs.World.{opening}
+use Rattle.vs_world.proofs.Opening.{run_well}
 use Rattle.vs_core.proofs.laws.law_of_sending.Goals as goal
 
 put : (n : ℕ) (host : HostContents) (es : List Event) (f : Flow) → let w = run es (opening n host) in

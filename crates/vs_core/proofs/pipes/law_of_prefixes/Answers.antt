@@ -1,4 +1,4 @@
-use Rattle.vs_core.proofs.Prefixes.{to_guest, to_host}
+use Rattle.vs_world.proofs.Prefixes.{to_guest, to_host}
 use Rattle.vs_core.proofs.pipes.law_of_prefixes.Goals as goal
 
 pub returns-clause-to_guest : goal.returns-clause-to_guest

@@ -7,13 +7,13 @@ use Rattle.vs_page.specs.Fair.{IsPrefixOf, payload_got}
 use Rattle.vs_page.specs.Log.{Driver}
 use Rattle.vs_page.proofs.PayloadLogs.{all_got, prefix}
 use Rattle.vs_pipes.specs.Drains.{Drains, got_on, receives}
-use Rattle.vs_core.specs.Received.{ReceivedOn, ReceivesOn}
+use Rattle.vs_world.specs.Received.{ReceivedOn, ReceivesOn}
 use Rattle.vs_pipes.proofs.Logs.{prefix_then}
-use Rattle.vs_core.specs.Calls.{received_on}
-use Rattle.vs_core.specs.Events.{Event, run}
-use Rattle.vs_core.specs.Sides.{both_of}
-use Rattle.vs_core.specs.World.{opening}
-use Rattle.vs_core.proofs.Opening.{run_well}
+use Rattle.vs_world.specs.Calls.{received_on}
+use Rattle.vs_world.specs.Events.{Event, run}
+use Rattle.vs_world.specs.Sides.{both_of}
+use Rattle.vs_world.specs.World.{opening}
+use Rattle.vs_world.proofs.Opening.{run_well}
 use Rattle.vs_core.proofs.pipes.law_of_receiving.Goals as goal
 
 module _ (n : ℕ) (host : HostContents) (es : List Event) where

@@ -1,7 +1,7 @@
 use Rattle.std.proofs.Common.{subst}
-use Rattle.vs_core.specs.World.{World}
-use Rattle.vs_core.proofs.Prefixes.{ToGuest, ToHost, to_guest, to_host}
-use Rattle.vs_core.proofs.ScriptLines.{opened_leads}
+use Rattle.vs_world.specs.World.{World}
+use Rattle.vs_world.proofs.Prefixes.{ToGuest, ToHost, to_guest, to_host}
+use Rattle.vs_world.proofs.ScriptLines.{opened_leads}
 use Rattle.vs_core.proofs.pipes.law_of_script_bytes.Goals as goal
 
 pub returns-clause-to_guest : goal.returns-clause-to_guest

@@ -7,13 +7,13 @@ use Rattle.vs_page.specs.Fair.{IsFairLog, payload_put}
 use Rattle.vs_page.specs.Log.{Device, Driver, Log, Role, history_of}
 use Rattle.vs_page.proofs.PayloadLogs.{all_put, shut_put}
 use Rattle.vs_matching.specs.Both.{at}
-use Rattle.vs_core.specs.Events.{Event, run}
-use Rattle.vs_core.specs.Pipes.{IsFresh}
-use Rattle.vs_core.specs.Sides.{both_of}
-use Rattle.vs_core.specs.World.{opening}
-use Rattle.vs_core.proofs.Bytes.{wrote_is_put}
-use Rattle.vs_core.proofs.Growing.{Grows, runs_grow}
-use Rattle.vs_core.proofs.Opening.{run_goes, run_well}
+use Rattle.vs_world.specs.Events.{Event, run}
+use Rattle.vs_world.specs.Pipes.{IsFresh}
+use Rattle.vs_world.specs.Sides.{both_of}
+use Rattle.vs_world.specs.World.{opening}
+use Rattle.vs_world.proofs.Bytes.{wrote_is_put}
+use Rattle.vs_world.proofs.Growing.{Grows, runs_grow}
+use Rattle.vs_world.proofs.Opening.{run_goes, run_well}
 use Rattle.vs_core.proofs.pipes.law_of_shutting.Goals as goal
 
 -- What was put stays.

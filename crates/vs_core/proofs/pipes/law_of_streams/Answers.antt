@@ -11,11 +11,11 @@ use Rattle.vs_proxy_parts.specs.State.{Handshake}
 use Rattle.vs_pipes.specs.Drains.{Drains}
 use Rattle.vs_pipes.specs.Streamed.{IsJoined, Seen, gives, line_for, look, reading, seen}
 use Rattle.vs_pipes.proofs.Hosts.{there as is_there}
-use Rattle.vs_core.specs.Events.{run}
-use Rattle.vs_core.specs.Sides.{both_of}
-use Rattle.vs_core.specs.World.{opening}
-use Rattle.vs_core.proofs.Bytes.{read_is_got, wrote_is_put}
-use Rattle.vs_core.proofs.Opening.{run_well}
+use Rattle.vs_world.specs.Events.{run}
+use Rattle.vs_world.specs.Sides.{both_of}
+use Rattle.vs_world.specs.World.{opening}
+use Rattle.vs_world.proofs.Bytes.{read_is_got, wrote_is_put}
+use Rattle.vs_world.proofs.Opening.{run_well}
 use Rattle.vs_core.proofs.pipes.law_of_streams.Goals as goal
 
 pub returns-clause-put : goal.returns-clause-put

@@ -1,6 +1,6 @@
 use Rattle.std.proofs.Common.{arith}
 use Rattle.vs_proxy_parts.specs.Turns.{proxy_reset_of}
-use Rattle.vs_core.specs.World.{first_cid}
+use Rattle.vs_world.specs.World.{first_cid}
 use Rattle.vs_play.proofs.Devices.{driven_still, reset_played, reset_serves}
 use Rattle.vs_play.proofs.OverRings.{its_ring, order_as, ring_is, runs_as}
 use Rattle.vs_play.proofs.device.reset.Goals as goal

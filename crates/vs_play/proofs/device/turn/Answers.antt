@@ -1,5 +1,5 @@
 use Rattle.vs_proxy_parts.specs.Turns.{turn_of}
-use Rattle.vs_core.specs.World.{first_cid}
+use Rattle.vs_world.specs.World.{first_cid}
 use Rattle.vs_play.proofs.Devices.{driven_still, turn_played, turn_serves}
 use Rattle.vs_play.proofs.OverRings.{its_ring, order_as, ring_is, runs_as}
 use Rattle.vs_play.proofs.device.turn.Goals as goal

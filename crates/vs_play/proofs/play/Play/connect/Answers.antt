@@ -2,7 +2,7 @@ use Rattle.std.proofs.Common.{◌++◌, ap, refl, sym, subst, string_bytes, ◌�
 use Rattle.std.proofs.lemmas.Result.{on_ok_weaker}
 use Rattle.vs_report.specs.GuestLines.{connect_text}
 use Rattle.vs_script.specs.Play as script
-use Rattle.vs_core.specs.Calls as call
+use Rattle.vs_world.specs.Calls as call
 use Rattle.vs_play.specs.Ready.{IsReady}
 use Rattle.vs_play.proofs.Playing.{guest_plays}
 use Rattle.vs_play.proofs.play.Play.connect.Goals as goal

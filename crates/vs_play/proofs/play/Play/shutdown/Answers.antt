@@ -1,7 +1,7 @@
 use Rattle.std.proofs.Common.{refl, sym, subst}
 use Rattle.std.proofs.lemmas.Result.{on_ok_weaker}
 use Rattle.vs_script.specs.Play as script
-use Rattle.vs_core.specs.Calls as call
+use Rattle.vs_world.specs.Calls as call
 use Rattle.vs_play.specs.Ready.{IsReady}
 use Rattle.vs_play.proofs.Playing.{call_plays}
 use Rattle.vs_play.proofs.play.Play.shutdown.Goals as goal

@@ -1,7 +1,7 @@
 use Rattle.std.proofs.Common.{◌++◌, ap, refl, sym, subst, string_bytes, ◌∙◌}
 use Rattle.std.proofs.lemmas.Result.{on_ok_weaker}
 use Rattle.vs_script.specs.Play as script
-use Rattle.vs_core.specs.Calls as call
+use Rattle.vs_world.specs.Calls as call
 use Rattle.vs_report.specs.GuestLines.{state_text}
 use Rattle.vs_play.specs.Ready.{IsReady}
 use Rattle.vs_play.proofs.Playing.{call_plays}

@@ -1,0 +1,107 @@
+-- Each single step of the device and of the proxy may be made in a world that events lead to.
+use Rattle.std.proofs.Common.{◌≡◌, ℕ, ◌&&◌, nat_le, Bool, true, false, Option, Some, unwrap_or, refl, ap, subst, arith}
+use Rattle.std.proofs.lemmas.Bool.Decides.{nat_tests}
+use Rattle.vs_outside.specs.Host.{HostContents}
+use Rattle.vs_ring_port.specs.Chains.{chains_of, same_queue}
+use Rattle.vs_ring_port.specs.declared.device_ring.Chain.{Chain}
+use Rattle.vs_ring_port.specs.declared.queue.Queue.{Queue}
+use Rattle.vs_ring_port.specs.declared.queue.Queue.TheVariants.{Event}
+use Rattle.vs_ring_list.specs.Ends.{device_contents}
+use Rattle.vs_device_parts.specs.Calls.{Situation, Allows}
+use Rattle.vs_device_parts.specs.Playing.{CanMake, IsAmong, MayRun, situation}
+use Rattle.vs_device_parts.specs.Steps.{puts_event, puts_owed, puts_payload, puts_reply, shuts_write, takes_chain, writes}
+use Rattle.vs_device_parts.specs.Streams.{tick_slot}
+use Rattle.vs_device_laws.specs.Split.{CanReach}
+use Rattle.vs_device_laws.specs.Streams.{HasStreams}
+use Rattle.vs_device_laws.proofs.Conditions.{may_where, quiet_can}
+use Rattle.vs_device_laws.proofs.Keeping.{keeps_may}
+use Rattle.vs_device_laws.proofs.Stepping.{puts_event_keeps, puts_owed_keeps, puts_payload_keeps, puts_reply_keeps}
+use Rattle.vs_proxy_parts.specs.Handshakes.{read_byte, streams_of, tick_handshake}
+use Rattle.vs_proxy_parts.specs.State.{start}
+use Rattle.vs_proxy_parts.specs.Turns.{proxy_reset_of}
+use Rattle.vs_proxy_laws.proofs.Shaking.{FindsAll, keeps_read_byte, keeps_tick_handshake}
+use Rattle.vs_proxy_laws.proofs.Turning.{keeps_proxy_reset}
+use Rattle.vs_world.specs.Events.{holds}
+use Rattle.vs_world.specs.Pages.{is_held}
+use Rattle.vs_world.specs.Sides.{both_of}
+use Rattle.vs_world.specs.World.{World, first_cid}
+use Rattle.vs_world.proofs.DeviceTurns.{queue_is}
+use Rattle.vs_world.proofs.Sound.{IsWell}
+use Rattle.vs_core.proofs.Puts.{puts_event_may, puts_owed_may, puts_payload_may, puts_reply_may}
+use Rattle.vs_core.proofs.Reaches.{shuts_may, takes_may, times_out_may, writes_may}
+
+-- Both of two tests.
+first_true : (a b : Bool) → (a && b) ≡ true → a ≡ true
+first_true true b is = refl
+first_true false b is = absurd cc
+
+second_true : (a b : Bool) → (a && b) ≡ true → b ≡ true
+second_true true b is = is
+second_true false b is = absurd cc
+
+-- What the device finds in the world, where n calls of the host failed so far.
+abbrev pub here : World → ℕ → Situation
+here w n = situation (device_contents w.rings) (Some w.host) n
+
+module _ (w : World) (n : ℕ) (has : HasStreams (streams_of w.proxy) w.proxy.device.table w.host) where
+  finds : FindsAll w.proxy (here w n)
+  finds h is =
+      let same : w.host ≡ h = ap (λ (o : Option HostContents). unwrap_or o w.host) is in
+      subst (HasStreams (streams_of w.proxy) w.proxy.device.table) same has
+
+  pub may_take : (queue : Queue) → MayRun (takes_chain queue w.proxy.device) (here w n)
+  may_take queue = takes_may (streams_of w.proxy) queue w.proxy.device (here w n) finds
+
+  pub may_write : (slot : ℕ) → MayRun (writes slot w.proxy.device) (here w n)
+  may_write slot = writes_may (streams_of w.proxy) slot w.proxy.device (here w n) finds
+
+  pub may_shut : (slot : ℕ) → MayRun (shuts_write slot w.proxy.device) (here w n)
+  may_shut slot = shuts_may (streams_of w.proxy) slot w.proxy.device (here w n) finds
+
+  pub may_tick : (slot : ℕ) → MayRun (tick_slot slot w.proxy.device) (here w n)
+  may_tick slot = times_out_may (streams_of w.proxy) slot w.proxy.device (here w n) finds
+
+  pub may_line : (stream : ℕ) → MayRun (read_byte stream (start w.proxy)) (here w n)
+  may_line stream = keeps_may CanMake Allows _ (read_byte stream (start w.proxy)) (here w n)
+      (keeps_read_byte CanMake quiet_can stream (start w.proxy) (here w n) finds)
+
+  pub may_tick_line : (stream : ℕ) → MayRun (tick_handshake stream (start w.proxy)) (here w n)
+  may_tick_line stream = keeps_may CanMake Allows _ (tick_handshake stream (start w.proxy)) (here w n)
+      (keeps_tick_handshake CanMake quiet_can stream (start w.proxy) (here w n) finds)
+
+  pub may_reset : (cid : ℕ) → MayRun (proxy_reset_of cid w.proxy) (here w n)
+  may_reset cid = keeps_may CanMake Allows _ (proxy_reset_of cid w.proxy) (here w n)
+      (keeps_proxy_reset CanMake quiet_can cid w.proxy (here w n) finds)
+
+  -- What puts a page asks of the ring too.
+  pub may_event : (chain : Chain) → holds Event chain w ≡ true → nat_le 4 chain.writable ≡ true
+      → MayRun (puts_event chain w.proxy.device) (here w n)
+  may_event chain is room =
+      let queue = queue_is Event chain.queue (first_true (same_queue Event chain.queue) (is_held chain w.rings.device.held) is) in
+      let held = second_true (same_queue Event chain.queue) (is_held chain w.rings.device.held) is in
+      may_where (puts_event chain w.proxy.device) (here w n)
+      (keeps_may CanReach Allows _ (puts_event chain w.proxy.device) (here w n)
+      (puts_event_keeps (streams_of w.proxy) chain w.proxy.device (here w n) finds))
+      (puts_event_may w.proxy.device w.rings.device (here w n) refl chain queue held (grind (arith, nat_tests, room)))
+
+  module _ (fresh : Type 0) (well : IsWell fresh w) (among : IsAmong (chains_of w.rings.device.held) w.proxy.device) where
+    pub may_reply : MayRun (puts_reply w.proxy.device) (here w n)
+    may_reply = may_where (puts_reply w.proxy.device) (here w n)
+        (keeps_may CanReach Allows _ (puts_reply w.proxy.device) (here w n)
+        (puts_reply_keeps (streams_of w.proxy) w.proxy.device (here w n) finds))
+        (puts_reply_may (both_of w).driver first_cid w.proxy.next_port w.proxy.device w.rings.device well.sound well.device
+        well.device_puts well.chain among (here w n) refl)
+
+    pub may_read : (slot : ℕ) → MayRun (puts_payload slot w.proxy.device) (here w n)
+    may_read slot = may_where (puts_payload slot w.proxy.device) (here w n)
+        (keeps_may CanReach Allows _ (puts_payload slot w.proxy.device) (here w n)
+        (puts_payload_keeps (streams_of w.proxy) slot w.proxy.device (here w n) finds))
+        (puts_payload_may (both_of w).driver first_cid w.proxy.next_port w.proxy.device w.rings.device well.sound well.device
+        well.device_puts well.chain among (here w n) refl slot)
+
+    pub may_pay : (slot : ℕ) → MayRun (puts_owed slot w.proxy.device) (here w n)
+    may_pay slot = may_where (puts_owed slot w.proxy.device) (here w n)
+        (keeps_may CanReach Allows _ (puts_owed slot w.proxy.device) (here w n)
+        (puts_owed_keeps (streams_of w.proxy) slot w.proxy.device (here w n) finds))
+        (puts_owed_may (both_of w).driver first_cid w.proxy.next_port w.proxy.device w.rings.device well.sound well.device
+        well.device_puts well.chain among (here w n) refl slot)

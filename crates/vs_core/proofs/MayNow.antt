@@ -1,0 +1,71 @@
+-- Each step of the device and of the proxy may be made in a world that is ready.
+use Rattle.std.proofs.Common.{◌≡◌, ℕ, ◌&&◌, nat_le, true, Some}
+use Rattle.vs_ring_port.specs.Chains.{same_queue}
+use Rattle.vs_ring_port.specs.declared.device_ring.Chain.{Chain}
+use Rattle.vs_ring_port.specs.declared.queue.Queue.{Queue}
+use Rattle.vs_ring_port.specs.declared.queue.Queue.TheVariants.{Event}
+use Rattle.vs_ring_list.specs.Ends.{device_contents}
+use Rattle.vs_device_parts.specs.Calls.{DeviceTree}
+use Rattle.vs_device_parts.specs.Playing.{MayRun, situation}
+use Rattle.vs_device_parts.specs.Steps.{puts_event, puts_owed, puts_payload, puts_reply, shuts_write, takes_chain, writes}
+use Rattle.vs_device_parts.specs.Streams.{tick_slot}
+use Rattle.vs_proxy_parts.specs.Handshakes.{read_byte, tick_handshake}
+use Rattle.vs_proxy_parts.specs.State.{ProxyState, start}
+use Rattle.vs_proxy_parts.specs.Turns.{proxy_reset_of}
+use Rattle.vs_world.specs.Pages.{is_held}
+use Rattle.vs_world.specs.World.{World}
+use Rattle.vs_world.proofs.Sound.{IsWell}
+use Rattle.vs_core.specs.Ready.{IsReady, IsServedAtWork, WorldState}
+use Rattle.vs_core.proofs.DeviceHappening.{of_reached}
+use Rattle.vs_core.proofs.May.{here, may_event, may_line, may_pay, may_read, may_reply, may_reset, may_shut, may_take, may_tick, may_tick_line, may_write}
+
+abbrev pub MayNow : {A : Type 0} → (ProxyState → DeviceTree A) → WorldState → ℕ → Type 0
+MayNow tree s n = MayRun (tree s.proxy) (situation (device_contents s.rings) (Some s.host) n)
+
+now_may : {A : Type 0} (tree : ProxyState → DeviceTree A) (s : WorldState) (n : ℕ) → IsReady s
+    → ((fresh : Type 0) (w : World) → IsWell fresh w → IsServedAtWork w.proxy w.rings w.host → MayRun (tree w.proxy) (here w n)) → MayNow tree s n
+now_may tree s n ready all =
+    of_reached (λ (x : WorldState). IsServedAtWork x.proxy x.rings x.host → MayNow tree x n) s ready.reached all ready.served
+
+module _ (s : WorldState) (n : ℕ) (ready : IsReady s) where
+  pub take_now : (queue : Queue) → MayNow (λ p. takes_chain queue p.device) s n
+  take_now queue = now_may (λ p. takes_chain queue p.device) s n ready (λ fresh w well served. may_take w n served.streams queue)
+
+  pub write_now : (slot : ℕ) → MayNow (λ p. writes slot p.device) s n
+  write_now slot = now_may (λ p. writes slot p.device) s n ready (λ fresh w well served. may_write w n served.streams slot)
+
+  pub shut_now : (slot : ℕ) → MayNow (λ p. shuts_write slot p.device) s n
+  shut_now slot = now_may (λ p. shuts_write slot p.device) s n ready (λ fresh w well served. may_shut w n served.streams slot)
+
+  pub tick_now : (slot : ℕ) → MayNow (λ p. tick_slot slot p.device) s n
+  tick_now slot = now_may (λ p. tick_slot slot p.device) s n ready (λ fresh w well served. may_tick w n served.streams slot)
+
+  pub line_now : (stream : ℕ) → MayNow (λ p. read_byte stream (start p)) s n
+  line_now stream = now_may (λ p. read_byte stream (start p)) s n ready (λ fresh w well served. may_line w n served.streams stream)
+
+  pub late_now : (stream : ℕ) → MayNow (λ p. tick_handshake stream (start p)) s n
+  late_now stream = now_may (λ p. tick_handshake stream (start p)) s n ready
+      (λ fresh w well served. may_tick_line w n served.streams stream)
+
+  pub reset_now : (cid : ℕ) → MayNow (λ p. proxy_reset_of cid p) s n
+  reset_now cid = now_may (λ p. proxy_reset_of cid p) s n ready (λ fresh w well served. may_reset w n served.streams cid)
+
+  pub event_now : (chain : Chain) → (same_queue Event chain.queue && is_held chain s.rings.device.held) ≡ true
+      → nat_le 4 chain.writable ≡ true
+      → MayNow (λ p. puts_event chain p.device) s n
+  event_now chain held room =
+      of_reached (λ (x : WorldState). IsServedAtWork x.proxy x.rings x.host
+      → (same_queue Event chain.queue && is_held chain x.rings.device.held) ≡ true
+      → MayNow (λ p. puts_event chain p.device) x n) s ready.reached
+      (λ fresh w well served is. may_event w n served.streams chain is room) ready.served held
+
+  pub reply_now : MayNow (λ p. puts_reply p.device) s n
+  reply_now = now_may (λ p. puts_reply p.device) s n ready (λ fresh w well served. may_reply w n served.streams fresh well served.chain)
+
+  pub read_now : (slot : ℕ) → MayNow (λ p. puts_payload slot p.device) s n
+  read_now slot = now_may (λ p. puts_payload slot p.device) s n ready
+      (λ fresh w well served. may_read w n served.streams fresh well served.chain slot)
+
+  pub pay_now : (slot : ℕ) → MayNow (λ p. puts_owed slot p.device) s n
+  pay_now slot = now_may (λ p. puts_owed slot p.device) s n ready
+      (λ fresh w well served. may_pay w n served.streams fresh well served.chain slot)

@@ -1,0 +1,13 @@
+use Rattle.std.proofs.Common.{sym, ap₂, subst}
+use Rattle.vs_contents.specs.CallTree.{Done}
+use Rattle.vs_driver_parts.specs.Playing.{SamePages}
+use Rattle.vs_core.proofs.Driven.{driven_stays}
+use Rattle.vs_world.proofs.SamePages.{accept_stays}
+use Rattle.vs_core.proofs.guest.accept.Goals as goal
+
+pub returns-clause-made : goal.returns-clause-made
+returns-clause-made c = sym (ap₂ (λ s r. Done (s, r)) c.accept.ensures.accepted c.accept.ensures.answer)
+
+pub returns-clause-driven : goal.returns-clause-driven
+returns-clause-driven c = driven_stays c.args.driver.now c.accept.new.self
+    (subst (λ s. SamePages c.args.driver.now s) (sym c.accept.ensures.accepted) (accept_stays c.args.port c.args.driver.now)) c.accept.ensures.honest

@@ -1,0 +1,11 @@
+use Rattle.vs_world.specs.World.{opened_host, opening}
+use Rattle.vs_core.specs.Ready.{IsReady}
+use Rattle.vs_core.proofs.Running.{IsLed}
+use Rattle.vs_core.proofs.step.run.Given as goal
+
+-- The next event may happen, and those that are left lead to where all lead.
+abbrev pub invariant-loop-event : goal.invariant-loop-event
+invariant-loop-event l = record {
+  ready : IsReady l.world;
+  led : IsLed l.fn.events l.event-index l.world (opening l.fn.n (opened_host l.fn.base));
+}

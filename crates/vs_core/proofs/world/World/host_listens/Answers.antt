@@ -1,0 +1,14 @@
+use Rattle.std.proofs.Common.{ap, refl, sym, subst}
+use Rattle.std.proofs.lemmas.Result.{on_ok_weaker}
+use Rattle.vs_outside.specs.HostProgram.{after_listen}
+use Rattle.vs_world.specs.Events.{HostListens}
+use Rattle.vs_core.specs.Ready.{IsReady}
+use Rattle.vs_core.proofs.DeviceHappening.{host_did}
+use Rattle.vs_core.proofs.world.World.host_listens.Goals as goal
+
+pub returns : goal.returns
+returns c =
+    let ready = subst IsReady (sym c.self.view_is) c.requires.ready in
+    rw (← c.self.view_is) (on_ok_weaker c.listen.result
+    (λ is. host_did (HostListens c.args.port) (after_listen c.args.port) _ c.listen.new.self.contents refl (ap (λ m. m.contents) is)
+    (λ id still. still) ready) c.listen.ensures.ok)

@@ -1,0 +1,13 @@
+use Rattle.std.proofs.Common.{◌≡◌, refl, subst, sym, true}
+use Rattle.vs_world.specs.Calls as call
+use Rattle.vs_world.specs.Events.{is_at_rest}
+use Rattle.vs_core.specs.Ready.{IsReady, WorldState}
+use Rattle.vs_core.proofs.Happening.{calls}
+use Rattle.vs_core.proofs.world.World.unlisten.Goals as goal
+
+pub returns : goal.returns
+returns c =
+    let ready = subst IsReady (sym c.self.view_is) c.requires.ready in
+    let rest = subst (λ (w : WorldState). is_at_rest w.rings.driver.staged ≡ true) (sym c.self.view_is) c.requires.rest in
+    rw (← c.self.view_is) (calls (call.Unlisten c.args.port) _ ready c.unlisten.new.driver c.unlisten.result _ rest refl
+    c.unlisten.ensures.made (c.unlisten.ensures.driven _ rest ready.driven) refl)

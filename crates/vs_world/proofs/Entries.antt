@@ -1,0 +1,56 @@
+-- Entries of a table whose ends fit, through changes of the table.
+use Rattle.std.proofs.Common.{◌≡◌, ℕ, ◌^◌, ◌<◌, ◌==◌, Bool, true, false, not, cond, List, [], ◌∷◌, map, filter, Contains, refl, ap, subst}
+use Rattle.std.specs.List.{All}
+use Rattle.std.proofs.lemmas.List.Elements.{All-filter, All-push, All-map}
+use Rattle.vs_conn.specs.End.{ConnectionEnd}
+use Rattle.vs_flow.specs.Table.{Table, revalued, with_value, without, with_entry, next_entry}
+use Rattle.vs_flow.specs.declared.flow.Flow.{Flow}
+use Rattle.vs_flow.specs.declared.table.Entry.{Entry}
+use Rattle.vs_flow.proofs.Tables.{revalued-slot}
+use Rattle.vs_device_log.specs.Honest.{HoldsBytes}
+
+pub record FlowFits (f : Flow) : Type 0 where
+  pub guest : f.guest < 2 ^ 32
+  pub host : f.host < 2 ^ 32
+
+module _ {T : Type 0} (end_of : T → ConnectionEnd) (held_of : T → ℕ) where
+  pub record EntryFits (x : Entry T) : Type 0 where
+    pub flow : FlowFits x.flow
+    pub credit : HoldsBytes (end_of x.value).credit (held_of x.value)
+
+  revalued_fits : (slot : ℕ) (v : T) (x : Entry T) → HoldsBytes (end_of v).credit (held_of v) → EntryFits x → EntryFits (revalued slot v x)
+  revalued_fits slot v x new old = by (x.slot == slot)
+    where
+      by : (b : Bool) → EntryFits (cond b (record x { value = v }) x)
+      by true = record { flow = old.flow; credit = new }
+      by false = old
+
+  pub fits_with_value : (t : Table T) (slot : ℕ) (v : T) → HoldsBytes (end_of v).credit (held_of v) → All EntryFits t.entries
+      → All EntryFits (with_value t slot v).entries
+  fits_with_value t slot v new old =
+      All-map EntryFits (revalued slot v) t.entries (λ i d less. revalued_fits slot v _ new (old i d less))
+
+  pub fits_without : (t : Table T) (slot : ℕ) → All EntryFits t.entries → All EntryFits (without t slot).entries
+  fits_without t slot old = All-filter (λ (e : Entry T). not (e.slot == slot)) EntryFits t.entries old
+
+  pub fits_with_entry : (t : Table T) (f : Flow) (v : T) → FlowFits f → HoldsBytes (end_of v).credit (held_of v) → All EntryFits t.entries
+      → All EntryFits (with_entry t f v).entries
+  fits_with_entry t f v flow new old = All-push EntryFits t.entries (next_entry t f v) old (record { flow = flow; credit = new })
+
+  pub fits_at : (xs : List (Entry T)) (x : Entry T) → Contains xs x → All EntryFits xs → EntryFits x
+  fits_at xs x (i, less, is) all = subst EntryFits is (all i x less)
+
+  -- A change of an entry that then leaves.
+  same_kept : (slot : ℕ) (v : T) (es : List (Entry T))
+      → filter (λ e. not (e.slot == slot)) (map (revalued slot v) es) ≡ filter (λ e. not (e.slot == slot)) es
+  same_kept slot v [] = refl
+  same_kept slot v (e ∷ es) = by (e.slot == slot) refl (same_kept slot v es)
+    where
+      by : (b : Bool) → (e.slot == slot) ≡ b
+          → filter (λ x. not (x.slot == slot)) (map (revalued slot v) es) ≡ filter (λ x. not (x.slot == slot)) es
+          → filter (λ x. not (x.slot == slot)) (revalued slot v e ∷ map (revalued slot v) es) ≡ filter (λ x. not (x.slot == slot)) (e ∷ es)
+      by true at rest = rw (revalued-slot slot v e, at) rest
+      by false at rest = rw (revalued-slot slot v e, at) (ap (λ (xs : List (Entry T)). e ∷ xs) rest)
+
+  pub without_changed : (t : Table T) (slot : ℕ) (v : T) → without (with_value t slot v) slot ≡ without t slot
+  without_changed t slot v = ap (λ (es : List (Entry T)). let x : Table T = record t { entries = es } in x) (same_kept slot v t.entries)

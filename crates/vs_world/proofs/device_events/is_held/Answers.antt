@@ -1,6 +1,0 @@
-use Rattle.std.proofs.Common.{◌∙◌}
-use Rattle.vs_world.proofs.DeviceHappening.{is_found}
-use Rattle.vs_world.proofs.device_events.is_held.Goals as goal
-
-pub returns : goal.returns
-returns c = c.holds.ensures ∙ is_found c.args.chain.now c.args.rings.now.device.held
