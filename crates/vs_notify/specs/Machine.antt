@@ -65,14 +65,14 @@ abbrev pub shows_next : Index → Bool
 shows_next i = not (word_of i.published == word_of i.taken)
 
 abbrev pub with_loaded : Suppression → Index → Index
-with_loaded by i = record i {
+with_loaded mode i = record i {
   loaded = i.published;
   publisher = Free;
-  kicked = i.kicked || needs_kick by i.word (word_of i.published) (word_of i.loaded);
+  kicked = i.kicked || needs_kick mode i.word (word_of i.published) (word_of i.loaded);
 }
 
 abbrev pub with_word : Suppression → ℕ → Index → Index
-with_word by w i = record i { word = w; consumer = if asks_for_next by w (word_of i.taken) then Asked else Working }
+with_word mode w i = record i { word = w; consumer = if asks_for_next mode w (word_of i.taken) then Asked else Working }
 
 abbrev pub with_look : Index → Index
 with_look i = record i {
@@ -82,18 +82,18 @@ with_look i = record i {
 
 -- What isn't possible leaves all as it is.
 abbrev pub happens : Suppression → ℕ → Event → Index → Index
-happens by size (Publish n) i = if may_publish size n i then record i { published = i.published + n; publisher = Owing } else i
-happens by size LoadWord i = if owes i.publisher then with_loaded by i else i
-happens by size Take i = if not (rests i.consumer) && shows_next i
+happens mode size (Publish n) i = if may_publish size n i then record i { published = i.published + n; publisher = Owing } else i
+happens mode size LoadWord i = if owes i.publisher then with_loaded mode i else i
+happens mode size Take i = if not (rests i.consumer) && shows_next i
     then record i { taken = i.taken + 1; consumer = Working; kicked = false } else i
-happens by size (StoreWord w) i = if rests i.consumer then i else with_word by (word_of w) i
-happens by size Look i = if rests i.consumer then i else with_look i
-happens by size Wake i = if rests i.consumer then record i { consumer = Working } else i
+happens mode size (StoreWord w) i = if rests i.consumer then i else with_word mode (word_of w) i
+happens mode size Look i = if rests i.consumer then i else with_look i
+happens mode size Wake i = if rests i.consumer then record i { consumer = Working } else i
 
 -- Where events lead, one after another.
 abbrev pub run : Suppression → ℕ → List Event → Index → Index
-run by size [] i = i
-run by size (e ∷ es) i = run by size es (happens by size e i)
+run mode size [] i = i
+run mode size (e ∷ es) i = run mode size es (happens mode size e i)
 
 -- The same with a consumer that doesn't look a second time: it rests as soon as it has stored its word.
 abbrev pub unlooked : Consumer → Consumer
@@ -102,10 +102,11 @@ unlooked Asked = Resting
 unlooked Resting = Resting
 
 abbrev pub run_unlooked : Suppression → ℕ → List Event → Index → Index
-run_unlooked by size [] i = i
-run_unlooked by size (e ∷ es) i = let next = happens by size e i in run_unlooked by size es (record next { consumer = unlooked next.consumer })
+run_unlooked mode size [] i = i
+run_unlooked mode size (e ∷ es) i =
+    let next = happens mode size e i in run_unlooked mode size es (record next { consumer = unlooked next.consumer })
 
--- No wake-up is lost: where the consumer rests, and something is published that it hasn't taken, the publisher still has to load the word, or
--- found since the consumer's look that a kick is needed.
+-- No wake-up is lost: where the consumer rests, and something is published that it hasn't taken, the publisher still has to load the word,
+-- or found since the consumer's look that a kick is needed.
 abbrev pub LosesNone : Index → Type 0
 LosesNone i = i.consumer ≡ Resting → i.taken < i.published → (i.publisher ≡ Owing) ⊎ (i.kicked ≡ true)

@@ -1,24 +1,25 @@
 //! No wake-up is lost: laws of one index, over every list of accesses of its publisher and its consumer.
 
 ghost use Rattle.std.specs.Prelude.{◌≡◌, ℕ, ◌+◌, ◌^◌, ◌<◌, ◌≤◌, true, false, List, [], ◌∷◌};
-ghost use Rattle.vs_notify.specs.Machine.{Event, Free, Index, LoadWord, Look, LosesNone, Owing, Publish, StoreWord, Take, Wake, may_publish, run, run_unlooked, start};
+ghost use Rattle.vs_notify.specs.Machine.{Event, LoadWord, Look, Publish, StoreWord, Take, Wake};
+ghost use Rattle.vs_notify.specs.Machine.{Free, Index, LosesNone, Owing, may_publish, run, run_unlooked, start};
 ghost use Rattle.vs_notify.specs.Words.{vring_need_event};
 ghost use Rattle.vs_notify.specs.declared.Consumer.TheVariants.{Resting, Working};
 ghost use Rattle.vs_notify.specs.declared.Suppression.{Suppression};
 ghost use Rattle.vs_notify.specs.declared.Suppression.TheVariants.{EventIndex, Flags};
 ghost use Rattle.vs_notify.specs.declared.TheConstants.{VIRTQ_USED_F_NO_NOTIFY};
 
-/// After any list of accesses, in any order, no wake-up is lost: where the consumer rests, and something is published that it hasn't taken, the
-/// publisher still has to load the word, or found since the consumer's look that a kick is needed. A ring has at most 32,768 entries; the
-/// words tell the counts as long as it has fewer than 2^16.
+/// After any list of accesses, in any order, no wake-up is lost: where the consumer rests, and something is published that it hasn't taken,
+/// the publisher still has to load the word, or found since the consumer's look that a kick is needed. A ring has at most 32,768 entries;
+/// the words tell the counts as long as it has fewer than 2^16.
 pub fn law_of_wake_ups()
-    ensures loses_none { (by : Suppression) (size : ℕ) (events : List Event) → size < 2 ^ 16 → LosesNone (run by size events start) }
-    ensures in_flight { (by : Suppression) (size : ℕ) (events : List Event) → let i = run by size events start in
+    ensures loses_none { (mode : Suppression) (size : ℕ) (events : List Event) → size < 2 ^ 16 → LosesNone (run mode size events start) }
+    ensures in_flight { (mode : Suppression) (size : ℕ) (events : List Event) → let i = run mode size events start in
         (i.taken ≤ i.published) × (i.published ≤ i.taken + size) }
-    ensures since_load { (by : Suppression) (size : ℕ) (events : List Event) → let i = run by size events start in
+    ensures since_load { (mode : Suppression) (size : ℕ) (events : List Event) → let i = run mode size events start in
         (i.loaded ≤ i.published) × (i.published < i.loaded + 2 ^ 16) }
     // A publisher that loads the word after each store may publish whatever the ring has room for.
-    ensures may_publish { (by : Suppression) (size n : ℕ) (events : List Event) → size < 2 ^ 16 → let i = run by size events start in
+    ensures may_publish { (mode : Suppression) (size n : ℕ) (events : List Event) → size < 2 ^ 16 → let i = run mode size events start in
         i.publisher ≡ Free → 1 ≤ n → i.published + n ≤ i.taken + size → may_publish size n i ≡ true }
 {}
 
@@ -68,7 +69,8 @@ pub fn worked_runs()
         record { published = 65535; loaded = 65535; taken = 65535; word = 7; publisher = Free; consumer = Working; kicked = false }
         ≡ record { published = 65537; loaded = 65537; taken = 65535; word = 65535; publisher = Free; consumer = Resting; kicked = true } }
     // By flags: none while the consumer works, one after it has cleared them.
-    ensures by_flags { run Flags 8 (StoreWord VIRTQ_USED_F_NO_NOTIFY ∷ Publish 1 ∷ LoadWord ∷ Take ∷ StoreWord 0 ∷ Look ∷ Publish 1 ∷ LoadWord ∷ []) start
+    ensures by_flags { run Flags 8
+        (StoreWord VIRTQ_USED_F_NO_NOTIFY ∷ Publish 1 ∷ LoadWord ∷ Take ∷ StoreWord 0 ∷ Look ∷ Publish 1 ∷ LoadWord ∷ []) start
         ≡ record { published = 2; loaded = 2; taken = 1; word = 0; publisher = Free; consumer = Resting; kicked = true } }
     // No more is published than the ring has room for.
     ensures full { run Flags 2 (Publish 1 ∷ Publish 1 ∷ Publish 1 ∷ []) start

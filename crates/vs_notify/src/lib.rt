@@ -1,10 +1,10 @@
 //! When a notification is needed on a split virtqueue (Virtio 1.2, sections 2.7.7 and 2.7.10), and why none is lost.
 //!
 //! A queue has two indices. The driver publishes available buffers, which the device takes; the device publishes used buffers, which the
-//! driver takes. So each index has a publisher and a consumer, and what is said here holds of both. By a word of its own the consumer says when
-//! it has to be kicked: by its event index (`avail_event` is the device's, `used_event` the driver's) where VIRTIO_F_EVENT_IDX was negotiated,
-//! by bit 0 of its flags where it was not. The publisher stores the index, and then loads that word. A consumer that found nothing stores its
-//! word, and then loads the index once more: it may rest only where this second look shows nothing either.
+//! driver takes. So each index has a publisher and a consumer, and what is said here holds of both. By a word of its own the consumer says
+//! when it has to be kicked: by its event index (`avail_event` is the device's, `used_event` the driver's) where VIRTIO_F_EVENT_IDX was
+//! negotiated, by bit 0 of its flags where it was not. The publisher stores the index, and then loads that word. A consumer that found nothing
+//! stores its word, and then loads the index once more: it may rest only where this second look shows nothing either.
 #![tactic(auto)]
 
 pub mod laws;
@@ -85,8 +85,8 @@ impl Suppression {
 }
 
 impl Consumer {
-    /// Whether it may rest, by the index that it loads and the count of entries taken: only after it asked to be told of the next, and where the
-    /// index shows none.
+    /// Whether it may rest, by the index that it loads and the count of entries taken: only after it asked to be told of the next, and where
+    /// the index shows none.
     pub fn may_rest(self, index: u16, taken: u16) -> bool
         ensures exact { result ≡ may_rest self index taken }
         // In counts, where fewer than 2^16 entries are published and not taken, it has taken all.
