@@ -3,7 +3,7 @@ use Rattle.std.specs.Prelude.{ℕ, List, [], ◌∷◌, ◌++◌, length, map, c
 use Rattle.vs_report.specs.Answers.{Answer, refusal}
 use Rattle.vs_report.specs.Bytes.{data_text}
 use Rattle.vs_report.specs.DeviceLines.{turn_text, reset_text}
-use Rattle.vs_report.specs.HostLines.{ok_text, client_text, write_text, stream_there_text}
+use Rattle.vs_report.specs.HostLines.{ok_text, client_text}
 use Rattle.vs_report.specs.Report.{device_open_text, stream_texts}
 use Rattle.vs_report.specs.declared.giving.GiveError.{GiveError}
 use Rattle.vs_ring_port.specs.declared.failure.Failure.{Failure}
@@ -11,7 +11,7 @@ use Rattle.vs_script.specs.Hostile.{Hostile}
 use Rattle.vs_script.specs.Script.{Saying, Attacks, parse_of}
 use Rattle.vs_script.specs.declared.fault.Refused.{Refused}
 use Rattle.vs_script.specs.declared.script.Command.TheVariants as command
-use Rattle.vs_hostile.specs.Run.{HostileState, Said, Done, Bytes, HasTurned, WasReset, StreamIs, Wrote, IsThere, beginning, hostile_does}
+use Rattle.vs_hostile.specs.Run.{HostileState, Said, Done, Bytes, HasTurned, WasReset, StreamIs, HostPrints, beginning, hostile_does}
 
 -- What a line prints.
 abbrev pub looked_text : List ℕ → List ℕ
@@ -23,8 +23,7 @@ said_text (Bytes bytes) = looked_text bytes
 said_text (HasTurned t) = turn_text t
 said_text (WasReset r) = reset_text r
 said_text (StreamIs n) = client_text n
-said_text (Wrote answer) = write_text answer
-said_text (IsThere found) = stream_there_text found
+said_text (HostPrints text) = text
 
 -- What lines lead to, and what they print.
 abbrev pub state_after : List Hostile → HostileState → HostileState

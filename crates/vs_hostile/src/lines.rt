@@ -14,7 +14,6 @@ ghost use Rattle.vs_hostile.specs.Ready.{IsServing, with_rings};
 ghost use Rattle.vs_hostile.specs.Run.{outside_does, over_rings};
 
 use crate::guest::write_line;
-use crate::host_lines::{client, host_line};
 use crate::turns::{reset_all, take_turn};
 use crate::whole::WholeSide;
 use std::alloc::{AllocError, Global};
@@ -23,7 +22,7 @@ use vs_outside::{Clock, MemHost, StepClock};
 use vs_proxy::{Proxy, Turn};
 use vs_report::bytes::push_data;
 use vs_report::device_lines::{push_reset, push_turn};
-use vs_report::host_lines::push_ok;
+use vs_report::host_lines::{client, host_line, push_ok};
 use vs_script::{HostileLine, OutsideLine};
 
 /// The lowest CID of a guest.

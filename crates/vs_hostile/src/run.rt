@@ -14,8 +14,7 @@ use crate::world::HostileWorld;
 use std::alloc::{AllocError, Global};
 use std::marker::Model;
 use vs_outside::Sink;
-use vs_peer::emit;
-use vs_report::giving::{GiveError, give_device_open, give_streams};
+use vs_report::giving::{GiveError, give_device_open, give_streams, give_text};
 use vs_script::{HostileLine, Numbered, Script};
 
 /// A hostile guest's script in the course of its run.
@@ -128,8 +127,7 @@ fn give_line<K: Sink>(
 {
     text.clear();
     world.line(line, text)?;
-    emit(out, text.as_bytes())?;
-    Ok(())
+    give_text(text, out)
 }
 
 // Gives the report: the entries of the device's table, each stream, and what was counted.
@@ -157,6 +155,5 @@ fn give_counted<K: Sink>(
     let counters = world.counters();
     text.clear();
     push_counted(text, counters.dropped, counters.overrun, counters.faults)?;
-    emit(out, text.as_bytes())?;
-    Ok(())
+    give_text(text, out)
 }

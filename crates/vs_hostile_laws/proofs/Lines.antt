@@ -21,10 +21,11 @@ use Rattle.vs_device_parts.specs.Calls.{DeviceTree}
 use Rattle.vs_hostile.specs.Answer.{state_after}
 use Rattle.vs_hostile.specs.Answers.{Around}
 use Rattle.vs_hostile.specs.Run.{Done, GuestState, HasMemory, HasRings, HasTurned, HostileState, Nothing, Said, beginning}
-use Rattle.vs_hostile.specs.Run.{host_does, hostile_does, line_in, outside_does}
+use Rattle.vs_hostile.specs.Run.{hostile_does, line_in, outside_does}
 use Rattle.vs_hostile.specs.Run.{WasReset, over, over_rings}
 use Rattle.vs_hostile_laws.specs.Isolated.{IsGivenOwn, IsIsolated, delivered_to}
 use Rattle.vs_hostile_laws.specs.Recorded.{calls_of, made_in, made_over, outside_made, recorded}
+use Rattle.vs_report.specs.HostLines.{host_played}
 use Rattle.vs_proxy_bytes.specs.Told.{Shows, ShowsAt, ShowsIn}
 use Rattle.vs_proxy_bytes.proofs.Shown.{new_shows, none_there, unseen_shows}
 use Rattle.vs_hostile_laws.proofs.Steps.{played_same, played_shows}
@@ -73,7 +74,7 @@ written_shows at h stream bytes written.Ok shows = changed at h stream (with_byt
 written_shows at h stream bytes written.Ended shows = shows
 written_shows at h stream bytes written.NoStream shows = shows
 
-host_shows : (at : ℕ → Option Account) (line : Host) (h : HostContents) → Shows at h → Shows at (host_does line h).0
+host_shows : (at : ℕ → Option Account) (line : Host) (h : HostContents) → Shows at h → Shows at (host_played line h).0
 host_shows at (HostListen port) h shows = shows
 host_shows at (HostUnlisten port) h shows = shows
 host_shows at (HostWrite stream content) h shows = written_shows at h stream (bytes_of content) (host_write_answer stream h) shows

@@ -1,8 +1,8 @@
--- Each line of a script may be played.
-use Rattle.std.proofs.Common.{◌≡◌, ◌≤◌, ◌&&◌, if◌then◌else◌, ℕ, nat_le, nat_lt, Bool, true, false, List, [], ◌∷◌, ◌++◌, map, length, Option, Some, None, Result, Ok, Err, codes, bytes_eq, refl, subst, arith}
+-- Each line of a script is within the bounds of its fields, and so may be played.
+use Rattle.std.proofs.Common.{◌≡◌, ◌≤◌, ◌&&◌, if◌then◌else◌, ℕ, nat_le, nat_lt, Bool, true, false, List, [], ◌∷◌, ◌++◌, length, Option, Some, None, Result, Ok, Err, codes, bytes_eq, refl, subst, arith}
 use Rattle.std.proofs.lemmas.Bool.Decides.{nat_tests}
-use Rattle.std.specs.List.{AllByRecursion, list_all}
-use Rattle.vs_script.specs.Text.{is_empty, is_graphic, words_of}
+use Rattle.std.specs.List.{AllByRecursion}
+use Rattle.vs_script.specs.Text.{is_empty, words_of}
 use Rattle.vs_script.specs.Field.{Read, Field, after, held, ending, word, is_numeral, within, number_in, number, port, id, bits, content, only, named}
 use Rattle.vs_script.specs.Outside.{Host, Outside, host_line, outside_line}
 use Rattle.vs_script.specs.Outside as outside
@@ -17,6 +17,7 @@ use Rattle.vs_script.specs.declared.words.TheConstants.{MAX_BITS}
 use Rattle.vs_script.specs.declared.script.Command.TheVariants as command
 use Rattle.vs_script.specs.declared.script.TheConstants.{MAX_SCRIPT, MAX_LINE, MAX_EVENTS}
 use Rattle.vs_play.specs.Answer.{events_in}
+use Rattle.vs_play.specs.Bounded.{AreBounded, IsBounded}
 use Rattle.vs_play.specs.Ready.{IsPlayable}
 
 -- What is read has a property, where nothing is at fault.
@@ -36,9 +37,6 @@ holds_after : {X Y : Type 0} (Q : X → Type 0) (P : Y → Type 0) (r : Read X) 
     → Holds (λ found. Q found.0) r → ((x : X) (rest : List (List ℕ)) → Q x → Holds P (f x rest)) → Holds P (after r f)
 holds_after Q P (Ok found) f h next = next found.0 found.1 h
 holds_after Q P (Err why) f h next = tt
-
-abbrev Any : {X : Type 0} → X → Type 0
-Any x = Unit {0}
 
 any : {X E : Type 0} (r : Result X E) → Holds (λ x. Unit {0}) r
 any (Ok x) = tt
@@ -89,7 +87,7 @@ holds_number low high words =
 
 -- The lines on what surrounds the driver.
 abbrev MayBe : Outside → Type 0
-MayBe line = IsPlayable (script.Around line)
+MayBe line = IsBounded (script.Around line)
 
 may_outside : (name : List ℕ) (words : List (List ℕ)) → Holds MayBe (outside_line name words)
 may_outside name words =
@@ -102,51 +100,60 @@ may_outside name words =
     (holds_if MayBe (bytes_eq name (codes "host")) _ _
     (holds_behind MayBe (word words) _ (λ act rest. holds_always MayBe outside.OfHost (host_line act rest) (λ line. tt))) tt))))
 
-may_shutdown : (words : List (List ℕ)) → Holds IsPlayable (shutdown_line words)
-may_shutdown words = holds_behind IsPlayable (id words) _ (λ c rest.
-    holds_named (IsFrom 1 MAX_BITS) IsPlayable (script.Shutdown c) (only bits rest) (holds_only (IsFrom 1 MAX_BITS) bits rest (holds_number 1 MAX_BITS rest))
+may_connect : (words : List (List ℕ)) → Holds IsBounded (named script.Connect (only port words))
+may_connect words = holds_named (IsFrom 0 4294967295) IsBounded script.Connect (only port words)
+    (holds_only (IsFrom 0 4294967295) port words (holds_number 0 4294967295 words)) (λ n is. is.1)
+
+may_recv : (words : List (List ℕ)) → Holds IsBounded (recv_line words)
+may_recv words = holds_behind IsBounded (id words) _ (λ c rest.
+    holds_named (IsFrom 1 65536) IsBounded (script.Recv c) (only (number 1 65536) rest) (holds_only (IsFrom 1 65536) (number 1 65536) rest
+    (holds_number 1 65536 rest)) (λ n is. is))
+
+may_shutdown : (words : List (List ℕ)) → Holds IsBounded (shutdown_line words)
+may_shutdown words = holds_behind IsBounded (id words) _ (λ c rest.
+    holds_named (IsFrom 1 MAX_BITS) IsBounded (script.Shutdown c) (only bits rest) (holds_only (IsFrom 1 MAX_BITS) bits rest (holds_number 1 MAX_BITS rest))
     (λ b is. is))
 
-may_named : (name : List ℕ) (words : List (List ℕ)) → Holds IsPlayable (named_line name words)
+may_named : (name : List ℕ) (words : List (List ℕ)) → Holds IsBounded (named_line name words)
 may_named name words =
-    holds_if IsPlayable (bytes_eq name (codes "connect")) _ _ (holds_always IsPlayable script.Connect _ (λ x. tt))
-    (holds_if IsPlayable (bytes_eq name (codes "listen")) _ _ (holds_always IsPlayable script.Listen _ (λ x. tt))
-    (holds_if IsPlayable (bytes_eq name (codes "unlisten")) _ _ (holds_always IsPlayable script.Unlisten _ (λ x. tt))
-    (holds_if IsPlayable (bytes_eq name (codes "accept")) _ _ (holds_always IsPlayable script.Accept _ (λ x. tt))
-    (holds_if IsPlayable (bytes_eq name (codes "send")) _ _
-    (holds_behind IsPlayable (id words) _ (λ c rest. holds_behind IsPlayable (content MAX_FILL rest) _ (λ bytes behind. holds_ending IsPlayable (script.Send c bytes) behind tt)))
-    (holds_if IsPlayable (bytes_eq name (codes "recv")) _ _
-    (holds_behind IsPlayable (id words) _ (λ c rest. holds_always IsPlayable (script.Recv c) _ (λ n. tt)))
-    (holds_if IsPlayable (bytes_eq name (codes "shutdown")) _ _ (may_shutdown words)
-    (holds_if IsPlayable (bytes_eq name (codes "close")) _ _ (holds_always IsPlayable script.Close _ (λ x. tt))
-    (holds_if IsPlayable (bytes_eq name (codes "state")) _ _ (holds_always IsPlayable script.State _ (λ x. tt))
-    (holds_if IsPlayable (bytes_eq name (codes "poll")) _ _ (holds_ending IsPlayable script.Poll words tt)
-    (holds_named MayBe IsPlayable script.Around (outside_line name words) (may_outside name words) (λ line is. is)))))))))))
+    holds_if IsBounded (bytes_eq name (codes "connect")) _ _ (may_connect words)
+    (holds_if IsBounded (bytes_eq name (codes "listen")) _ _ (holds_always IsBounded script.Listen _ (λ x. tt))
+    (holds_if IsBounded (bytes_eq name (codes "unlisten")) _ _ (holds_always IsBounded script.Unlisten _ (λ x. tt))
+    (holds_if IsBounded (bytes_eq name (codes "accept")) _ _ (holds_always IsBounded script.Accept _ (λ x. tt))
+    (holds_if IsBounded (bytes_eq name (codes "send")) _ _
+    (holds_behind IsBounded (id words) _ (λ c rest. holds_behind IsBounded (content MAX_FILL rest) _ (λ bytes behind. holds_ending IsBounded (script.Send c bytes) behind tt)))
+    (holds_if IsBounded (bytes_eq name (codes "recv")) _ _
+    (may_recv words)
+    (holds_if IsBounded (bytes_eq name (codes "shutdown")) _ _ (may_shutdown words)
+    (holds_if IsBounded (bytes_eq name (codes "close")) _ _ (holds_always IsBounded script.Close _ (λ x. tt))
+    (holds_if IsBounded (bytes_eq name (codes "state")) _ _ (holds_always IsBounded script.State _ (λ x. tt))
+    (holds_if IsBounded (bytes_eq name (codes "poll")) _ _ (holds_ending IsBounded script.Poll words tt)
+    (holds_named MayBe IsBounded script.Around (outside_line name words) (may_outside name words) (λ line is. is)))))))))))
 
-may_play : (words : List (List ℕ)) → Holds IsPlayable (play_line words)
-may_play words = holds_behind IsPlayable (word words) named_line may_named
+may_play : (words : List (List ℕ)) → Holds IsBounded (play_line words)
+may_play words = holds_behind IsBounded (word words) named_line may_named
 
--- All lines may be played.
-abbrev pub AllPlayable : List (ℕ × Event) → Type 0
-AllPlayable lines = AllByRecursion IsPlayable (events_in lines)
+-- All lines are.
+abbrev AllBounded : List (ℕ × Event) → Type 0
+AllBounded lines = AllByRecursion IsBounded (events_in lines)
 
-all_more : (lines : List (ℕ × Event)) (n : ℕ) (e : Event) → AllPlayable lines → IsPlayable e → AllPlayable (lines ++ (n, e) ∷ [])
+all_more : (lines : List (ℕ × Event)) (n : ℕ) (e : Event) → AllBounded lines → IsBounded e → AllBounded (lines ++ (n, e) ∷ [])
 all_more [] n e all may = (may, tt)
 all_more (l ∷ lines) n e all may = (all.0, all_more lines n e all.1 may)
 
-all_pushed : (lines : List (ℕ × Event)) (n : ℕ) (r : Result Event Why) → AllPlayable lines → Holds IsPlayable r
-    → Holds AllPlayable (chained r (λ event. pushed MAX_EVENTS lines (n, event)))
+all_pushed : (lines : List (ℕ × Event)) (n : ℕ) (r : Result Event Why) → AllBounded lines → Holds IsBounded r
+    → Holds AllBounded (chained r (λ event. pushed MAX_EVENTS lines (n, event)))
 all_pushed lines n (Ok e) all may =
-    holds_if AllPlayable (nat_lt (length lines) MAX_EVENTS) (Ok (lines ++ (n, e) ∷ [])) (Err TooMany) (all_more lines n e all may) tt
+    holds_if AllBounded (nat_lt (length lines) MAX_EVENTS) (Ok (lines ++ (n, e) ∷ [])) (Err TooMany) (all_more lines n e all may) tt
 all_pushed lines n (Err why) all may = tt
 
 abbrev IsOfPlays : Saying → Type 0
-IsOfPlays (Plays lines) = AllPlayable lines
+IsOfPlays (Plays lines) = AllBounded lines
 IsOfPlays _ = Unit {0}
 
 all_words : (saying : Saying) (n : ℕ) (words : List (List ℕ)) → IsOfPlays saying → Holds IsOfPlays (add_words saying n words)
 all_words (Plays lines) n words all =
-    holds_named AllPlayable IsOfPlays Plays (add_event lines n words) (all_pushed lines n (play_line words) all (may_play words)) (λ more is. is)
+    holds_named AllBounded IsOfPlays Plays (add_event lines n words) (all_pushed lines n (play_line words) all (may_play words)) (λ more is. is)
 all_words (Runs apps) n words all = holds_always IsOfPlays Runs (add_run apps words) (λ more. tt)
 all_words (Attacks lines) n words all = holds_always IsOfPlays Attacks (add_hostile lines n words) (λ more. tt)
 
@@ -162,7 +169,42 @@ all_lines (line ∷ lines) saying all =
     (holds_if IsOfPlays (nat_le (length line.1) MAX_LINE) (add_words saying line.0 (words_of line.1)) (Err TooLong) (all_words saying line.0 (words_of line.1) all) tt)
     (all_lines lines)
 
--- Each line of a script that is read for a play may be played.
-pub all_playable : (bytes : List ℕ) (lines : List (ℕ × Event)) → parse_of command.Play bytes ≡ Ok (Plays lines) → AllByRecursion IsPlayable (events_in lines)
-all_playable bytes lines is = subst (Holds IsOfPlays) is
+all_said : (bytes : List ℕ) (lines : List (ℕ × Event)) → parse_of command.Play bytes ≡ Ok (Plays lines) → AllBounded lines
+all_said bytes lines is = subst (Holds IsOfPlays) is
     (holds_if IsOfPlays (nat_le (length bytes) MAX_SCRIPT) (add_lines (Plays []) (lines_from 1 bytes)) _ (all_lines (lines_from 1 bytes) (Plays []) tt) tt)
+
+bounded : (es : List Event) → AllByRecursion IsBounded es → AreBounded es
+bounded [] all = tt
+bounded (e ∷ es) all = (all.0, bounded es all.1)
+
+-- Each line of a script that is read for a play is within bounds.
+pub all_bounded : (bytes : List ℕ) (lines : List (ℕ × Event)) → parse_of command.Play bytes ≡ Ok (Plays lines) → AreBounded (events_in lines)
+all_bounded bytes lines is = bounded (events_in lines) (all_said bytes lines is)
+
+-- And so may be played.
+around_plays : (line : Outside) → IsBounded (script.Around line) → IsPlayable (script.Around line)
+around_plays outside.Turn h = tt
+around_plays (outside.Reset _) h = h
+around_plays (outside.Tick _) h = tt
+around_plays outside.Client h = tt
+around_plays (outside.OfHost _) h = tt
+
+line_plays : (e : Event) → IsBounded e → IsPlayable e
+line_plays (script.Connect _) h = tt
+line_plays (script.Listen _) h = tt
+line_plays (script.Unlisten _) h = tt
+line_plays (script.Accept _) h = tt
+line_plays (script.Send _ _) h = tt
+line_plays (script.Recv _ _) h = tt
+line_plays (script.Shutdown _ _) h = h
+line_plays (script.Close _) h = tt
+line_plays (script.State _) h = tt
+line_plays script.Poll h = tt
+line_plays (script.Around line) h = around_plays line h
+
+all_play : (es : List Event) → AllByRecursion IsBounded es → AllByRecursion IsPlayable es
+all_play [] all = tt
+all_play (e ∷ es) all = (line_plays e all.0, all_play es all.1)
+
+pub all_playable : (bytes : List ℕ) (lines : List (ℕ × Event)) → parse_of command.Play bytes ≡ Ok (Plays lines) → AllByRecursion IsPlayable (events_in lines)
+all_playable bytes lines is = all_play (events_in lines) (all_said bytes lines is)

@@ -1,4 +1,6 @@
 pub mod Lines
 pub mod Answer
 pub mod Ready
+pub mod Bounded
+pub mod Told
 pub mod Examples

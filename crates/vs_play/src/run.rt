@@ -15,8 +15,7 @@ use crate::play::Play;
 use std::alloc::Global;
 use vs_both_ends::BothEnds;
 use vs_outside::Sink;
-use vs_peer::emit;
-use vs_report::giving::{GiveError, give_report};
+use vs_report::giving::{GiveError, give_report, give_text};
 use vs_script::{Numbered, PlayLine};
 
 /// Plays the lines of a script in order over empty rings, and then reports: how many entries each table has, what each stream's program
@@ -75,8 +74,7 @@ fn play_line<R: BothEnds, K: Sink>(
 {
     text.clear();
     play.line(line, text)?;
-    emit(out, text.as_bytes())?;
-    Ok(())
+    give_text(text, out)
 }
 
 // Gives the report.

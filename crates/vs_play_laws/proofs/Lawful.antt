@@ -39,13 +39,13 @@ use Rattle.vs_world.proofs.ScriptLines.{script_leads, script_rests}
 use Rattle.vs_world.proofs.Sound.{Goes, IsWell}
 use Rattle.vs_play.specs.Answer.{base_path, opened_play, texts_of, world_after}
 use Rattle.vs_play.specs.Lines.{PlayWorld}
-use Rattle.vs_play_laws.specs.Bounded.{AreBounded}
+use Rattle.vs_play.specs.Bounded.{AreBounded}
 use Rattle.vs_play_laws.specs.Headline.{IsLawful, StaysShut, world_of}
 use Rattle.vs_play_laws.proofs.PlayLines.{after_both, cid_right, front_bounded, lines_of, lines_receive, lines_right, lines_send}
 use Rattle.vs_play_laws.proofs.PlayLines.{rest_bounded, world_is}
 use Rattle.vs_play_laws.proofs.Shutting.{IsShut, is_shut, run_shut}
 use Rattle.vs_play_laws.proofs.Unfailed.{script_fine}
-use Rattle.vs_play_laws.proofs.Spelled.{all_bounded}
+use Rattle.vs_play.proofs.Scripts.{all_bounded}
 use Rattle.vs_play_laws.proofs.Reached.{carries, holds_open, holds_rest, keeps_credit, log_is, many_device, many_guest, own_streams, queued}
 
 -- A play's host has no streams at first.

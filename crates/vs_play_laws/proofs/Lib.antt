@@ -1,5 +1,3 @@
-pub mod Parsed
-pub mod Spelled
 pub mod PlayLines
 pub mod OwnStreams
 pub mod Unfailed

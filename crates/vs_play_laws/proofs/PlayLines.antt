@@ -18,7 +18,7 @@ use Rattle.vs_world.specs.World.{World}
 use Rattle.vs_world.proofs.Payloads.{either_none, nothing_more}
 use Rattle.vs_play.specs.Answer.{world_after}
 use Rattle.vs_play.specs.Lines.{PlayWorld, event_played, host_line}
-use Rattle.vs_play_laws.specs.Bounded.{AreBounded, IsBounded}
+use Rattle.vs_play.specs.Bounded.{AreBounded, IsBounded}
 use Rattle.vs_play_laws.specs.Said.{received_by, received_in, sent_by, sent_in}
 
 -- The line of the world that an event line is, at a moment. That time passes is none.

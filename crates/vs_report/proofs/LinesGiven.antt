@@ -1,5 +1,5 @@
 -- How giving lines to a sink adds up.
-use Rattle.std.proofs.Common.{◌≡◌, ◌≤◌, arith, ℕ, ◌+◌, ◌<◌, true, List, [], ◌∷◌, ◌++◌, length, take, Option, Some, None, Result, Ok, Err, refl, sym, ap, ◌∙◌, subst, append_assoc, append-nil}
+use Rattle.std.proofs.Common.{◌≡◌, ◌≤◌, arith, ℕ, ◌+◌, ◌<◌, true, List, [], ◌∷◌, ◌++◌, length, take, Option, Some, None, Result, Ok, Err, refl, sym, ap, ◌∙◌, subst, append_assoc, append-nil, OnOk}
 use Rattle.std.proofs.Math.Seq.{take-append-add}
 use Rattle.std.proofs.lemmas.List.{length-append, take-append-le}
 use Rattle.vs_outside.specs.Faults.{CountsFault}
@@ -78,3 +78,16 @@ pub nothing_behind : (old : Option (List ℕ)) (f : ℕ) (xs : List (List ℕ)) 
     → r ≡ Err fault.OutOfMemory → GivesLines old old f f (xs ++ y ∷ ys) r
 nothing_behind old f [] y ys r e = nothing_given old f y ys r e
 nothing_behind old f (x ∷ xs) y ys r e = nothing_given old f x (xs ++ y ∷ ys) r e
+
+-- What is known of a line that was given, and of one that wasn't.
+pub at_any_end : {P : Type 0} (r : Result (Unit {0}) GiveError) → P → OnOk r P
+at_any_end (Ok u) h = h
+at_any_end (Err e) h = tt
+
+pub at_no_end : (P : Type 0) (r : Result (Unit {0}) GiveError) (e : GiveError) → r ≡ Err e → OnOk r P
+at_no_end P r e is = subst (λ x. OnOk x P) (sym is) tt
+
+pub given_as : (old new : Option (List ℕ)) (f g : ℕ) (r : Result (Unit {0}) GiveError) (none said text : List ℕ) → none ≡ [] → text ≡ none ++ said
+    → GivesLines old new f g (text ∷ []) r → GivesLines old new f g (said ∷ []) r
+given_as old new f g r none said text empty is given =
+    subst (λ (t : List ℕ). GivesLines old new f g (t ∷ []) r) (is ∙ ap (λ (t : List ℕ). t ++ said) empty) given
