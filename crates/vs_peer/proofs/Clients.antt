@@ -9,8 +9,7 @@ use Rattle.vs_flow.specs.declared.flow.Flow.{Flow}
 use Rattle.vs_outside.specs.Host.{Stream, HostContents, stream_at, IsOpen, fails_now, is_listened, dialed_stream, after_dial, IsDialed}
 use Rattle.vs_outside.specs.declared.host_net.Dialed.TheVariants as dialed
 use Rattle.vs_outside.proofs.Frames.{open-dialed, open_of, stream_at-after_failed}
-use Rattle.vs_peer.specs.Passing.{Moves}
-use Rattle.vs_peer.specs.Receiving.{SameStreams}
+use Rattle.vs_peer.specs.Passing.{Moves, SameStreams}
 use Rattle.vs_peer.specs.Client.{HasClient, IsUnheard, client_flow}
 
 -- A relation that follows from another.

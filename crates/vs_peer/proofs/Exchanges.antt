@@ -7,9 +7,9 @@ use Rattle.vs_contents.specs.Contents.{Relates}
 use Rattle.vs_outside.specs.Host.{Stream, HostContents, IsOpen, stream_at}
 use Rattle.vs_outside.specs.Faults.{CountsFault}
 use Rattle.vs_peer.specs.Failing.{sink_failed}
-use Rattle.vs_peer.specs.Passing.{Moves, Now, ReadsAgain, ReadsEnd, WritesAgain}
+use Rattle.vs_peer.specs.Passing.{Moves, Now, ReadsAgain, ReadsEnd, WritesAgain, SameStreams}
 use Rattle.vs_peer.specs.Pieces.{Emits}
-use Rattle.vs_peer.specs.Receiving.{Receives, SameStreams}
+use Rattle.vs_peer.specs.Receiving.{Receives}
 use Rattle.vs_peer.specs.Sending.{IsSending, IsStill, GoesOn, Sends, between, is_shut, shuts}
 use Rattle.vs_peer.specs.Exchanging.{Exchanges, Exchanged, ExchangedCut, Leaves, Stepped, SteppedCut, Steps, comes_to, still}
 use Rattle.vs_peer.specs.declared.exchange.Progress.{Progress}
@@ -176,11 +176,7 @@ done id bytes t host after out out' progress.Still is h left = absurd (never is)
     never : progress.Still ≡ progress.Done → ⊥
     never e = cc
 
-pub waits : (id : ℕ) (bytes : List ℕ) (t : Sending) (host after : Option HostContents) (out out' : Option (List ℕ)) (e : Stop) →
-    e ≡ stop.Waited → (p : Progress) →
+pub waits : (id : ℕ) (bytes : List ℕ) (t : Sending) (host after : Option HostContents) (out out' : Option (List ℕ)) (p : Progress) →
     p ≡ progress.Still → Exchanged id bytes t host after out out' → Leaves id bytes t after p →
-    Exchanges id bytes host after out out' (Err e)
-waits id bytes t host after out out' e is p still h left =
-    let P : Stop → Type 0 = λ x. Exchanges id bytes host after out out' (Err x) in
-    let Q : Progress → Type 0 = λ x. Leaves id bytes t after x in
-    subst P (sym is) (t, h, subst Q still left)
+    Exchanges id bytes host after out out' (Err stop.Waited)
+waits id bytes t host after out out' p still h left = let Q : Progress → Type 0 = λ x. Leaves id bytes t after x in (t, h, subst Q still left)

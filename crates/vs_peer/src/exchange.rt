@@ -10,7 +10,7 @@ ghost use Rattle.vs_peer.specs.Sending.{GoesOn, IsSending};
 use crate::receive::{Came, receive};
 use crate::send::{Sending, Side};
 use crate::stop::Stop;
-use crate::wait::one_more;
+use crate::wait::gives_up;
 use std::sync::Wait;
 use vs_outside::{Gate, HostNet, Sink};
 
@@ -50,7 +50,11 @@ pub fn exchange<R: Wait, H: HostNet, K: Sink, G: Gate>(
         match step(host, id, bytes, &mut sending, out)? {
             Progress::Done => return Ok(()),
             Progress::Moved => waited = 0,
-            Progress::Still => waited = one_more(waited, idle, gate)?,
+            Progress::Still => {
+                if gives_up(&mut waited, idle, gate) {
+                    return Err(Stop::Waited);
+                }
+            }
         }
     }
     unreachable!()

@@ -11,6 +11,7 @@ mod send;
 mod sink;
 mod source;
 mod stop;
+mod stream;
 mod text;
 mod wait;
 

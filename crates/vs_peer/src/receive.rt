@@ -8,6 +8,7 @@ ghost use Rattle.vs_peer.specs.Receiving.{Gives, Receives};
 
 use crate::sink::{SinkFault, emit};
 use crate::stop::Stop;
+use crate::stream::read;
 use vs_outside::{HostNet, Sink, StreamRead};
 
 /// The most bytes that are read at once.
@@ -33,7 +34,7 @@ pub fn receive<H: HostNet, K: Sink>(host: &mut H, id: u64, out: &mut K) -> Resul
     ensures sink_faults { CountsFault (sink_failed result) (K.faults out.old) (K.faults out.new) }
 {
     let mut piece = [0; PIECE];
-    match host.read(id, &mut piece) {
+    match read(host, id, &mut piece) {
         StreamRead::Got(n) => give(out, &piece[..n]),
         StreamRead::End => Ok(Came::End),
         StreamRead::Again => Ok(Came::Nothing),
