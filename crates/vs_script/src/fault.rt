@@ -69,7 +69,7 @@ pub enum ParseFault {
 }
 
 /// Why a line isn't read.
-#[derive(Clone, Copy, Debug, PartialEq, Eq)]
+#[derive(Clone, Copy)]
 pub enum LineFault {
     /// It is refused.
     Refused(Why),

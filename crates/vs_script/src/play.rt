@@ -7,14 +7,14 @@ ghost use Rattle.vs_script.specs.Play.{play_view, play_line, named_line, send_li
 use crate::data::Data;
 use crate::fault::{LineFault, Why};
 use crate::outside::{MAX_FILL, OutsideLine, outside_line};
-use crate::words::Words;
+use crate::words::{Words, is};
 use std::alloc::Global;
 
 /// The most bytes that one `recv` of a play asks for.
 const MAX_RECV: u32 = 65_536;
 
 /// An event line of a play.
-#[derive(Debug, PartialEq, Eq, Drop)]
+#[derive(Drop)]
 pub enum PlayLine {
     /// `connect PORT`: the guest asks for a connection to a port of the host.
     Connect { port: u32 },
@@ -54,31 +54,31 @@ fn named_line(alloc: Global, name: &[u8], words: &mut Words) -> Result<PlayLine,
     ensures ok { IfOk result (λ line. named_line name.now words.old ≡ Ok (play_view line)) }
     ensures fault { IfErr result (IsFault (named_line name.now words.old)) }
 {
-    if name == b"connect".as_slice() {
+    if is(name, b"connect") {
         let port = words.only_port()?;
         Ok(PlayLine::Connect { port })
-    } else if name == b"listen".as_slice() {
+    } else if is(name, b"listen") {
         let port = words.only_port()?;
         Ok(PlayLine::Listen { port })
-    } else if name == b"unlisten".as_slice() {
+    } else if is(name, b"unlisten") {
         let port = words.only_port()?;
         Ok(PlayLine::Unlisten { port })
-    } else if name == b"accept".as_slice() {
+    } else if is(name, b"accept") {
         let port = words.only_port()?;
         Ok(PlayLine::Accept { port })
-    } else if name == b"send".as_slice() {
+    } else if is(name, b"send") {
         send_line(alloc, words)
-    } else if name == b"recv".as_slice() {
+    } else if is(name, b"recv") {
         Ok(recv_line(words)?)
-    } else if name == b"shutdown".as_slice() {
+    } else if is(name, b"shutdown") {
         Ok(shutdown_line(words)?)
-    } else if name == b"close".as_slice() {
+    } else if is(name, b"close") {
         let id = words.only_id()?;
         Ok(PlayLine::Close { id })
-    } else if name == b"state".as_slice() {
+    } else if is(name, b"state") {
         let id = words.only_id()?;
         Ok(PlayLine::State { id })
-    } else if name == b"poll".as_slice() {
+    } else if is(name, b"poll") {
         words.end()?;
         Ok(PlayLine::Poll)
     } else {

@@ -30,7 +30,7 @@ pub const MAX_APPS: usize = 64;
 pub const MAX_INSTRUCTIONS: usize = 1_000;
 
 /// The command that a script is for.
-#[derive(Clone, Copy, Debug, PartialEq, Eq)]
+#[derive(Clone, Copy)]
 pub enum Command {
     /// `play`: event lines on one thread.
     Play,
@@ -41,14 +41,14 @@ pub enum Command {
 }
 
 /// A line and its number in the script, which counts all lines from 1.
-#[derive(Debug, PartialEq, Eq, Drop)]
+#[derive(Drop)]
 pub struct Numbered<L> {
     pub number: u64,
     pub line: L,
 }
 
 /// A script: its event lines, or its apps.
-#[derive(Debug, PartialEq, Eq, Drop)]
+#[derive(Drop)]
 pub enum Script {
     /// The event lines of a play, in order.
     Play(Vec<Numbered<PlayLine>>),

@@ -1,6 +1,6 @@
 //! The words of a line, and the fields that they write, read from left to right.
 
-ghost use Rattle.std.specs.Prelude.{true, false, ◌≡◌, ◌≤◌, ◌<◌, ◌∷◌, [], ◌==◌, ℕ, not, length, drop, IfOk, IfErr, MatchOption, Ok, Err};
+ghost use Rattle.std.specs.Prelude.{true, false, ◌≡◌, ◌≤◌, ◌<◌, ◌∷◌, [], ◌==◌, ℕ, bytes_eq, not, length, drop, IfOk, IfErr, MatchOption, Ok, Err};
 ghost use Rattle.std.specs.List.{list_all, position_or_len};
 ghost use Rattle.vs_script.specs.Text.{words_of, is_empty, is_graphic};
 ghost use Rattle.vs_script.specs.Data.{content_of};
@@ -62,7 +62,7 @@ impl<'a> Words<'a> {
         ensures fault { IfErr result (λ why. keyword name.now self.old ≡ Err why) }
     {
         let word = self.word()?;
-        if word == name {
+        if is(word, name) {
             Ok(())
         } else {
             Err(Why::BadWord)
@@ -237,9 +237,9 @@ impl<'a> Words<'a> {
         ensures fault { IfErr result (IsFault (content limit self.old)) }
     {
         let word = self.word()?;
-        if word == b"-".as_slice() {
+        if is(word, b"-") {
             Ok(Data::Given(Vec::new(alloc)))
-        } else if word == b"fill".as_slice() {
+        } else if is(word, b"fill") {
             Ok(self.fill(limit)?)
         } else {
             match hex_bytes(alloc, word)? {
@@ -258,6 +258,13 @@ impl<'a> Words<'a> {
         let start = self.number8(0, u8::MAX)?;
         Ok(Data::Fill(Fill { n, start }))
     }
+}
+
+/// Whether a word is this text.
+pub fn is(word: &[u8], text: &[u8]) -> bool
+    ensures { result ≡ bytes_eq word.now text.now }
+{
+    word == text
 }
 
 /// Whether each byte of a word is printable ASCII.
