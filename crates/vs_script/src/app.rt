@@ -2,11 +2,11 @@
 
 ghost use Rattle.std.specs.Prelude.{◌≡◌, IfOk, IfErr, Ok, Err};
 ghost use Rattle.vs_script.specs.Field.{IsFault};
-ghost use Rattle.vs_script.specs.App.{instruction_view, run_view, instruction_line, run_line, run_line_named};
+ghost use Rattle.vs_script.specs.App.{instruction_view, run_view, instruction_line, connection_instruction, run_line, run_line_named};
 
 use crate::data::Data;
 use crate::fault::{LineFault, Why};
-use crate::words::{Words, is};
+use crate::words::{MAX_BITS, Words, is};
 use std::alloc::Global;
 
 /// The most bytes that an instruction fills.
@@ -98,7 +98,21 @@ fn instruction_line(alloc: Global, name: &[u8], words: &mut Words) -> Result<Ins
     } else if is(name, b"accept") {
         let port = words.only_port()?;
         Ok(Instruction::Accept { port })
-    } else if is(name, b"send") {
+    } else {
+        connection_instruction(alloc, name, words)
+    }
+}
+
+/// The instruction of a name that is none of those on ports, and the words behind it.
+fn connection_instruction(
+    alloc: Global,
+    name: &[u8],
+    words: &mut Words,
+) -> Result<Instruction, LineFault>
+    ensures ok { IfOk result (λ line. connection_instruction name.now words.old ≡ Ok (instruction_view line)) }
+    ensures fault { IfErr result (IsFault (connection_instruction name.now words.old)) }
+{
+    if is(name, b"send") {
         let content = words.only_content(alloc, MAX_APP_FILL)?;
         Ok(Instruction::Send { content })
     } else if is(name, b"recv") {
@@ -111,7 +125,7 @@ fn instruction_line(alloc: Global, name: &[u8], words: &mut Words) -> Result<Ins
         let content = words.only_content(alloc, MAX_APP_FILL)?;
         Ok(Instruction::Exchange { content })
     } else if is(name, b"shutdown") {
-        let bits = words.only_bits()?;
+        let bits = words.only_number8(1, MAX_BITS)?;
         Ok(Instruction::Shutdown { bits })
     } else if is(name, b"close") {
         words.end()?;

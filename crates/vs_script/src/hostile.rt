@@ -108,20 +108,21 @@ pub fn hostile_line(
     ensures fault { IfErr result (IsFault (hostile_line stage words.old)) }
 {
     match stage {
-        Stage::NoMemory => Ok(memory_line(words)?),
-        Stage::NoRings(memory) => Ok(rings_line(memory, words)?),
+        Stage::NoMemory => memory_line(words),
+        Stage::NoRings(memory) => rings_line(memory, words),
         Stage::Ready(memory, n) => inside_line(alloc, memory, n, words),
     }
 }
 
 /// `memory BASE SIZE`.
-fn memory_line(words: &mut Words) -> Result<HostileLine, Why>
+fn memory_line(words: &mut Words) -> Result<HostileLine, LineFault>
     ensures ok { IfOk result (λ line. memory_line words.old ≡ Ok (hostile_view line)) }
-    ensures fault { IfErr result (λ why. memory_line words.old ≡ Err why) }
+    ensures fault { IfErr result (IsFault (memory_line words.old)) }
 {
     words.keyword(b"memory")?;
     let at = base(words)?;
-    let len = words.only_number(MIN_MEMORY, MAX_MEMORY)?;
+    let len = words.number(MIN_MEMORY, MAX_MEMORY)?;
+    words.end()?;
     let memory = Span { at, len };
     Ok(HostileLine::Memory { memory })
 }
@@ -140,9 +141,9 @@ fn base(words: &mut Words) -> Result<u64, Why>
 }
 
 /// `rings N`, over this memory.
-fn rings_line(memory: Span, words: &mut Words) -> Result<HostileLine, Why>
+fn rings_line(memory: Span, words: &mut Words) -> Result<HostileLine, LineFault>
     ensures ok { IfOk result (λ line. rings_line memory words.old ≡ Ok (hostile_view line)) }
-    ensures fault { IfErr result (λ why. rings_line memory words.old ≡ Err why) }
+    ensures fault { IfErr result (IsFault (rings_line memory words.old)) }
 {
     words.keyword(b"rings")?;
     let n = queue_size(words)?;
@@ -150,7 +151,7 @@ fn rings_line(memory: Span, words: &mut Words) -> Result<HostileLine, Why>
     if rings_fit(memory, n) {
         Ok(HostileLine::Rings { n })
     } else {
-        Err(Why::BadNumber)
+        Err(LineFault::Refused(Why::BadNumber))
     }
 }
 
@@ -249,17 +250,17 @@ fn guest_line(
     if is(name, b"write") {
         write_line(alloc, words)
     } else if is(name, b"desc") {
-        Ok(desc_line(n, words)?)
+        desc_line(n, words)
     } else if is(name, b"give") {
-        Ok(give_line(n, words)?)
+        give_line(n, words)
     } else if is(name, b"index") {
-        Ok(index_line(words)?)
+        index_line(words)
     } else if is(name, b"packet") {
         packet_line(alloc, words)
     } else if is(name, b"before") {
         before_line(alloc, words)
     } else if is(name, b"look") {
-        Ok(look_line(words)?)
+        look_line(words)
     } else {
         let line = outside_line(alloc, name, words)?;
         Ok(HostileLine::Outside(line))
@@ -303,9 +304,9 @@ fn write_line(alloc: Global, words: &mut Words) -> Result<HostileLine, LineFault
 }
 
 /// `Q I ADDR LEN FLAGS NEXT` of `desc`, where queues have n entries.
-fn desc_line(n: u16, words: &mut Words) -> Result<HostileLine, Why>
+fn desc_line(n: u16, words: &mut Words) -> Result<HostileLine, LineFault>
     ensures ok { IfOk result (λ line. desc_line n words.old ≡ Ok (hostile_view line)) }
-    ensures fault { IfErr result (λ why. desc_line n words.old ≡ Err why) }
+    ensures fault { IfErr result (IsFault (desc_line n words.old)) }
 {
     let queue = queue(words)?;
     let number = place(n, words)?;
@@ -332,9 +333,9 @@ fn descriptor(words: &mut Words) -> Result<Desc, Why>
 }
 
 /// `Q PLACE HEAD` of `give`, where queues have n entries.
-fn give_line(n: u16, words: &mut Words) -> Result<HostileLine, Why>
+fn give_line(n: u16, words: &mut Words) -> Result<HostileLine, LineFault>
     ensures ok { IfOk result (λ line. give_line n words.old ≡ Ok (hostile_view line)) }
-    ensures fault { IfErr result (λ why. give_line n words.old ≡ Err why) }
+    ensures fault { IfErr result (IsFault (give_line n words.old)) }
 {
     let queue = queue(words)?;
     let place = place(n, words)?;
@@ -343,9 +344,9 @@ fn give_line(n: u16, words: &mut Words) -> Result<HostileLine, Why>
 }
 
 /// `Q V` of `index`.
-fn index_line(words: &mut Words) -> Result<HostileLine, Why>
+fn index_line(words: &mut Words) -> Result<HostileLine, LineFault>
     ensures ok { IfOk result (λ line. index_line words.old ≡ Ok (hostile_view line)) }
-    ensures fault { IfErr result (λ why. index_line words.old ≡ Err why) }
+    ensures fault { IfErr result (IsFault (index_line words.old)) }
 {
     let queue = queue(words)?;
     let value = words.only_any16()?;
@@ -402,9 +403,9 @@ fn before_line(alloc: Global, words: &mut Words) -> Result<HostileLine, LineFaul
 }
 
 /// `ADDR N` of `look`.
-fn look_line(words: &mut Words) -> Result<HostileLine, Why>
+fn look_line(words: &mut Words) -> Result<HostileLine, LineFault>
     ensures ok { IfOk result (λ line. look_line words.old ≡ Ok (hostile_view line)) }
-    ensures fault { IfErr result (λ why. look_line words.old ≡ Err why) }
+    ensures fault { IfErr result (IsFault (look_line words.old)) }
 {
     let addr = words.any64()?;
     let len = words.only_number8(1, MAX_LOOK)?;

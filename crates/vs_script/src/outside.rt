@@ -101,7 +101,7 @@ fn host_line(alloc: Global, act: &[u8], words: &mut Words) -> Result<HostLine, L
     } else if is(act, b"write") {
         host_write(alloc, words)
     } else if is(act, b"allow") {
-        Ok(host_allow(words)?)
+        host_allow(words)
     } else if is(act, b"end") {
         let stream = words.only_id()?;
         Ok(HostLine::End { stream })
@@ -128,9 +128,9 @@ fn host_write(alloc: Global, words: &mut Words) -> Result<HostLine, LineFault>
 }
 
 /// `H N` of `host allow`.
-fn host_allow(words: &mut Words) -> Result<HostLine, Why>
+fn host_allow(words: &mut Words) -> Result<HostLine, LineFault>
     ensures ok { IfOk result (λ line. host_allow words.old ≡ Ok (host_view line)) }
-    ensures fault { IfErr result (λ why. host_allow words.old ≡ Err why) }
+    ensures fault { IfErr result (IsFault (host_allow words.old)) }
 {
     let stream = words.id()?;
     let n = words.only_number32(0, MAX_ALLOW)?;

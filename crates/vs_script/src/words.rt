@@ -5,7 +5,7 @@ ghost use Rattle.std.specs.List.{list_all, position_or_len};
 ghost use Rattle.vs_script.specs.Text.{words_of, is_empty, is_graphic};
 ghost use Rattle.vs_script.specs.Data.{content_of};
 ghost use Rattle.vs_script.specs.declared.fault.Why.TheVariants.{BadWord};
-ghost use Rattle.vs_script.specs.Field.{word, keyword, number, number16, number32, number64, port, id, bits, fill, content, only, IsFault};
+ghost use Rattle.vs_script.specs.Field.{word, keyword, number, number16, number32, number64, port, id, fill, content, only, IsFault};
 
 use crate::data::{Data, Fill};
 use crate::fault::{LineFault, Why};
@@ -144,14 +144,6 @@ impl<'a> Words<'a> {
         self.number16(0, u16::MAX)
     }
 
-    /// PORT: any number of 32 bits.
-    pub fn port(&mut self) -> Result<u32, Why>
-        ensures ok { IfOk result (λ n. port self.old ≡ Ok (n, self.new)) }
-        ensures fault { IfErr result (λ why. port self.old ≡ Err why) }
-    {
-        self.number32(0, u32::MAX)
-    }
-
     /// C or H, which names a connection or a stream: a number of 32 bits from 1 on.
     pub fn id(&mut self) -> Result<u32, Why>
         ensures ok { IfOk result (λ n. id self.old ≡ Ok (n, self.new)) }
@@ -160,22 +152,18 @@ impl<'a> Words<'a> {
         self.number32(1, u32::MAX)
     }
 
-    /// PORT, and no word more.
+    /// PORT, of 32 bits, and no word more.
     pub fn only_port(&mut self) -> Result<u32, Why>
         ensures { result ≡ only port self.old }
     {
-        let port = self.port()?;
-        self.end()?;
-        Ok(port)
+        self.only_number32(0, u32::MAX)
     }
 
     /// C or H, and no word more.
     pub fn only_id(&mut self) -> Result<u32, Why>
         ensures { result ≡ only id self.old }
     {
-        let id = self.id()?;
-        self.end()?;
-        Ok(id)
+        self.only_number32(1, u32::MAX)
     }
 
     /// A number of 32 bits from `low` to `high`, and no word more.
@@ -183,15 +171,6 @@ impl<'a> Words<'a> {
         ensures { result ≡ only (number low high) self.old }
     {
         let n = self.number32(low, high)?;
-        self.end()?;
-        Ok(n)
-    }
-
-    /// A number of 64 bits from `low` to `high`, and no word more.
-    pub fn only_number(&mut self, low: u64, high: u64) -> Result<u64, Why>
-        ensures { result ≡ only (number low high) self.old }
-    {
-        let n = self.number(low, high)?;
         self.end()?;
         Ok(n)
     }
@@ -212,13 +191,6 @@ impl<'a> Words<'a> {
         let n = self.any16()?;
         self.end()?;
         Ok(n)
-    }
-
-    /// B, bits of a shutdown, and no word more.
-    pub fn only_bits(&mut self) -> Result<u8, Why>
-        ensures { result ≡ only bits self.old }
-    {
-        self.only_number8(1, MAX_BITS)
     }
 
     /// DATA, where `fill` fills at most `limit` bytes, and no word more.
