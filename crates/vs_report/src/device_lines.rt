@@ -59,7 +59,7 @@ pub fn push_reset(out: &mut String, answer: Result<(), Failure>) -> Result<(), A
     ensures { OnOk result (string_bytes out.new ≡ string_bytes out.old ++ reset_text answer) }
 {
     match answer {
-        Ok(()) => write!(out, "ok\n"),
+        Ok(()) => out.push_str("ok\n"),
         Err(failure) => push_failure(out, failure),
     }
 }

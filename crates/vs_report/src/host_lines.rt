@@ -110,7 +110,7 @@ fn fail(host: &mut MemHost, n: u32, text: &mut String) -> Result<(), AllocError>
 pub fn push_ok(out: &mut String) -> Result<(), AllocError>
     ensures { OnOk result (string_bytes out.new ≡ string_bytes out.old ++ ok_text) }
 {
-    write!(out, "ok\n")
+    out.push_str("ok\n")
 }
 
 // The number of a client's stream.
@@ -125,9 +125,9 @@ fn push_write(out: &mut String, answer: HostWritten) -> Result<(), AllocError>
     ensures { OnOk result (string_bytes out.new ≡ string_bytes out.old ++ write_text answer) }
 {
     match answer {
-        HostWritten::Ok => write!(out, "ok\n"),
-        HostWritten::Ended => write!(out, "ended\n"),
-        HostWritten::NoStream => write!(out, "no stream\n"),
+        HostWritten::Ok => out.push_str("ok\n"),
+        HostWritten::Ended => out.push_str("ended\n"),
+        HostWritten::NoStream => out.push_str("no stream\n"),
     }
 }
 
@@ -136,8 +136,8 @@ fn push_stream_there(out: &mut String, found: bool) -> Result<(), AllocError>
     ensures { OnOk result (string_bytes out.new ≡ string_bytes out.old ++ stream_there_text found) }
 {
     if found {
-        write!(out, "ok\n")
+        out.push_str("ok\n")
     } else {
-        write!(out, "no stream\n")
+        out.push_str("no stream\n")
     }
 }
