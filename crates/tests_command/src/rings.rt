@@ -45,6 +45,23 @@ fn each_kind_of_rings_prints_the_same(rt: HostRuntime) -> Result<(), Fail> {
     Ok(())
 }
 
+/// A REQUEST for a port where nobody listens lies in two pieces, of 20 and 24 bytes, behind descriptors 0 and 1 of tx; rx has a page of 100 bytes
+/// behind descriptor 3. Looked at are the RST in it, the used ring of rx, and the used index of tx.
+const PIECES: (&str, &str) = (
+    "memory 4096 65536\nrings 8\nwrite 8192 03000000000000000200000000000000d0070000\n\
+     write 9000 350000000000000001000100000000000000010000000000\ndesc tx 0 8192 20 1 1\ndesc tx 1 9000 24 0 0\ngive tx 0 0\n\
+     index tx 1\ndesc rx 3 12288 100 2 0\ngive rx 0 3\nindex rx 1\nturn\nlook 12288 44\nlook 4248 12\nlook 4474 2\n",
+    "ok\nok\nok\nok\nok\nok\nok\nok\nok\nok\nok\nturned 1 1 0 0 0 0\n\
+     bytes 0200000000000000030000000000000035000000d00700000000000001000300000000000000000000000000\n\
+     bytes 00000100030000002c000000\nbytes 0100\ndevice open 0\ndropped 0 overrun 0 faults 0\n",
+);
+
+#[test]
+fn a_packet_in_two_pieces_is_answered(rt: HostRuntime) -> Result<(), Fail> {
+    assert!(rt; are_printed(&rt, &["vsock hostile"], &[PIECES])?);
+    Ok(())
+}
+
 /// A script of 20,000 lines: on one connection 6,665 bytes, each with a turn and a poll of its own, and one line more.
 fn long(alloc: Global) -> Result<String, AllocError> {
     let mut script = String::from_str(alloc, "host listen 52\nconnect 52\nturn\npoll\nstate 1\n")?;
