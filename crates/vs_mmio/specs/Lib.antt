@@ -1,0 +1,4 @@
+pub mod Table
+pub mod Status
+pub mod Queue
+pub mod Registers

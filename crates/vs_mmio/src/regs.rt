@@ -1,0 +1,210 @@
+//! The registers, and the calls of a device's monitor on them.
+ghost use Rattle.std.specs.Prelude.{◌≡◌, ◌<◌, ◌≤◌, Some};
+ghost use Rattle.vs_mmio.specs.Queue.{queue_after, queue_value};
+ghost use Rattle.vs_mmio.specs.Registers.{after_register, at_selected, bytes_of, fresh, is_config, of_selected, queue_in, value_of};
+ghost use Rattle.vs_mmio.specs.Registers.{with_features, with_status};
+ghost use Rattle.vs_mmio.specs.Table.{queue_numbered};
+ghost use Rattle.vs_mmio.specs.declared.register.Register.TheVariants as register;
+
+use crate::queue::{Halves, Limits, QueueRegs, ReadyQueue};
+use crate::register::{QueueRegister, Register, Virtqueue, queue_of, register_of};
+use crate::status::{Interrupt, Status, accepts, offered};
+use std::marker::Model;
+
+/// What `MagicValue` reads: `virt`, little-endian.
+pub const MAGIC: u32 = 0x7472_6976;
+
+/// What `Version` reads: devices of Virtio 1.
+pub const VERSION: u32 = 2;
+
+/// What `DeviceId` reads: a socket device (Virtio 1.2, section 5.10.1).
+pub const DEVICE_ID: u32 = 19;
+
+/// What `VendorId` reads.
+pub const VENDOR_ID: u32 = 0;
+
+/// Offset of `Status`.
+pub const STATUS_AT: u64 = 0x070;
+
+/// Offset of the configuration, which is the guest's CID (Virtio 1.2, section 5.10.4).
+pub const CONFIG_AT: u64 = 0x100;
+
+/// Bytes of the configuration.
+pub const CONFIG_LEN: u64 = 8;
+
+/// What a write asks of the device's monitor.
+#[derive(Clone, Copy, Debug, PartialEq, Eq)]
+pub enum Wrote {
+    /// Nothing more.
+    Done,
+    /// The driver reset the device: device and rings are to be made anew.
+    Renew,
+}
+
+/// What the registers hold.
+#[derive(Clone, Copy, Debug)]
+pub struct RegisterState {
+    /// The guest's CID.
+    pub cid: u64,
+    pub limits: Limits,
+    pub device_features_sel: u32,
+    pub driver_features_sel: u32,
+    pub queue_sel: u32,
+    /// The features that the driver wrote.
+    pub features: Halves,
+    pub status: Status,
+    pub interrupt: Interrupt,
+    /// The configuration's generation, modulo 2^32.
+    pub generation: u32,
+    /// What the driver wrote last to `QueueNotify`.
+    pub notified: u32,
+    pub rx: QueueRegs,
+    pub tx: QueueRegs,
+    pub event: QueueRegs,
+}
+
+impl RegisterState {
+    // Registers to which the driver wrote nothing.
+    fn new(cid: u64, limits: Limits) -> RegisterState
+        ensures { result ≡ fresh cid limits }
+    {
+        RegisterState {
+            cid,
+            limits,
+            device_features_sel: 0,
+            driver_features_sel: 0,
+            queue_sel: 0,
+            features: Halves { low: 0, high: 0 },
+            status: Status::new(),
+            interrupt: Interrupt::new(),
+            generation: 0,
+            notified: 0,
+            rx: QueueRegs::new(),
+            tx: QueueRegs::new(),
+            event: QueueRegs::new(),
+        }
+    }
+
+    // The registers of a queue.
+    fn queue(&self, queue: Virtqueue) -> QueueRegs
+        ensures { result ≡ queue_in self.now queue }
+    {
+        match queue {
+            Virtqueue::Rx => self.rx,
+            Virtqueue::Tx => self.tx,
+            Virtqueue::Event => self.event,
+        }
+    }
+
+    // What a read of a register answers.
+    fn value(&self, register: Option<Register>) -> u32
+        ensures { result ≡ value_of register self.now }
+    {
+        match register {
+            Some(Register::MagicValue) => MAGIC,
+            Some(Register::Version) => VERSION,
+            Some(Register::DeviceId) => DEVICE_ID,
+            Some(Register::VendorId) => VENDOR_ID,
+            Some(Register::DeviceFeatures) => offered(self.device_features_sel),
+            Some(Register::Queue(field)) => self.queue_value(field),
+            Some(Register::InterruptStatus) => self.interrupt.number(),
+            Some(Register::Status) => self.status.number(),
+            Some(Register::ConfigGeneration) => self.generation,
+            _ => 0,
+        }
+    }
+
+    // What a read of a register of the selected queue answers.
+    fn queue_value(&self, field: QueueRegister) -> u32
+        ensures { result ≡ of_selected (queue_value field self.now.limits.max) (queue_numbered self.now.queue_sel) self.now }
+    {
+        match queue_of(self.queue_sel) {
+            Some(queue) => self.queue(queue).read(field, self.limits.max),
+            None => 0,
+        }
+    }
+
+    // Writes a register of the selected queue.
+    fn write_queue(&mut self, field: QueueRegister, value: u32)
+        ensures { self.new ≡ at_selected (queue_after field value self.old.limits self.old.status.features_ok)
+            (queue_numbered self.old.queue_sel) self.old }
+    {
+        let (limits, features_ok) = (self.limits, self.status.features_ok);
+        match queue_of(self.queue_sel) {
+            Some(Virtqueue::Rx) => self.rx.write(field, value, limits, features_ok),
+            Some(Virtqueue::Tx) => self.tx.write(field, value, limits, features_ok),
+            Some(Virtqueue::Event) => self.event.write(field, value, limits, features_ok),
+            None => {}
+        }
+    }
+
+    // Writes a half of the driver's features.
+    fn write_features(&mut self, value: u32)
+        ensures { self.new ≡ with_features value self.old }
+    {
+        if !self.status.features_ok {
+            match self.driver_features_sel {
+                0 => self.features.low = value,
+                1 => self.features.high = value,
+                _ => {}
+            }
+        }
+    }
+
+    // Writes the selector of the halves of the driver's features.
+    fn select_features(&mut self, value: u32)
+        ensures { self.new ≡ after_register (Some register.DriverFeaturesSel) value self.old }
+    {
+        if !self.status.features_ok {
+            self.driver_features_sel = value;
+        }
+    }
+
+    // Writes the status.
+    fn write_status(&mut self, value: u32)
+        ensures { self.new ≡ with_status value self.old }
+    {
+        if value == 0 {
+            *self = RegisterState::new(self.cid, self.limits);
+        } else {
+            let accepted = accepts(self.features);
+            self.status.add(value, accepted);
+        }
+    }
+
+    // Writes a register.
+    fn write(&mut self, register: Option<Register>, value: u32)
+        ensures { self.new ≡ after_register register value self.old }
+    {
+        match register {
+            Some(Register::DeviceFeaturesSel) => self.device_features_sel = value,
+            Some(Register::DriverFeatures) => self.write_features(value),
+            Some(Register::DriverFeaturesSel) => self.select_features(value),
+            Some(Register::QueueSel) => self.queue_sel = value,
+            Some(Register::Queue(field)) => self.write_queue(field, value),
+            Some(Register::QueueNotify) => self.notified = value,
+            Some(Register::InterruptAck) => self.interrupt.acknowledge(value),
+            Some(Register::Status) => self.write_status(value),
+            _ => {}
+        }
+    }
+}
+
+// Whether an access is one of the configuration: 1, 2 or 4 bytes, aligned.
+fn is_config_access(offset: u64, width: u32) -> bool
+    ensures { result ≡ is_config offset width }
+{
+    offset >= CONFIG_AT
+        && offset < CONFIG_AT + CONFIG_LEN
+        && (width == 1 || width == 2 || width == 4)
+        && offset % width as u64 == 0
+}
+
+// The bytes of a number from a place on, little-endian.
+fn bytes_at(number: u64, at: u64, width: u32) -> u32
+    requires place { at < 8 }
+    requires width { width ≤ 4 }
+    ensures { result ≡ bytes_of number at width }
+{
+    ((number >> (8 * at)) % 2u64.pow(8 * width)) as u32
+}
