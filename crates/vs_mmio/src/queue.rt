@@ -1,5 +1,5 @@
 //! The registers of one queue, and where its three areas may lie (Virtio 1.2, sections 2.7 and 4.2.2).
-ghost use Rattle.std.specs.Prelude.{◌≡◌, ◌+◌, ◌<◌, ◌^◌, nat_le};
+ghost use Rattle.std.specs.Prelude.{◌≡◌, ◌+◌, ◌<◌, ◌≤◌, nat_le};
 ghost use Rattle.vs_mmio.specs.Queue.{is_apart, is_fit, is_placed, may_be_ready, no_queue, place_of, queue_after, queue_value};
 ghost use Rattle.vs_mmio.specs.Queue.{ready_after, whole, written};
 
@@ -157,9 +157,9 @@ impl QueueRegs {
         }
     }
 
-    /// Size and addresses. The size has to be one of 16 bits.
-    pub fn place(&self) -> ReadyQueue
-        requires { self.now.size < 2 ^ 16 }
+    /// Size and addresses. The size has to be at most the largest.
+    pub fn place(&self, max: u16) -> ReadyQueue
+        requires { self.now.size ≤ max }
         ensures { result ≡ place_of self.now }
     {
         ReadyQueue {
@@ -176,7 +176,7 @@ impl QueueRegs {
     {
         self.size.is_power_of_two()
             && self.size <= limits.max as u32
-            && self.place().is_placed(limits)
+            && self.place(limits.max).is_placed(limits)
     }
 
     // Writes Ready: 1 sets it where it may be set, 0 takes it away.

@@ -1,10 +1,13 @@
 //! The registers, and the calls of a device's monitor on them.
-ghost use Rattle.std.specs.Prelude.{◌≡◌, ◌<◌, ◌≤◌, Some};
-ghost use Rattle.vs_mmio.specs.Queue.{queue_after, queue_value};
-ghost use Rattle.vs_mmio.specs.Registers.{after_register, at_selected, bytes_of, fresh, is_config, of_selected, queue_in, value_of};
-ghost use Rattle.vs_mmio.specs.Registers.{with_features, with_status};
+ghost use Rattle.std.specs.Prelude.{◌≡◌, ◌<◌, ◌≤◌, true, IfSome, IsTrue, Some};
+ghost use Rattle.std.specs.Int.{is_power_of_two};
+ghost use Rattle.vs_mmio.specs.Calls.{Failed, SetCid, Used, Write, after};
+ghost use Rattle.vs_mmio.specs.Queue.{is_placed, queue_after, queue_value};
+ghost use Rattle.vs_mmio.specs.Registers.{IsInOrder, after_register, at_selected, bytes_of, features_of, fresh, is_config, may_run_of};
+ghost use Rattle.vs_mmio.specs.Registers.{of_selected, queue_in, read_of, shown, value_of, with_features, with_status, wrote_of};
 ghost use Rattle.vs_mmio.specs.Table.{queue_numbered};
 ghost use Rattle.vs_mmio.specs.declared.register.Register.TheVariants as register;
+ghost use Rattle.vs_mmio.specs.declared.regs.Wrote.TheVariants.{Renew};
 
 use crate::queue::{Halves, Limits, QueueRegs, ReadyQueue};
 use crate::register::{QueueRegister, Register, Virtqueue, queue_of, register_of};
@@ -124,6 +127,32 @@ impl RegisterState {
         }
     }
 
+    // What a read answers.
+    fn read(&self, offset: u64, width: u32) -> u32
+        ensures { result ≡ read_of self.now offset width }
+    {
+        if is_config_access(offset, width) {
+            bytes_at(self.cid, offset - CONFIG_AT, width)
+        } else if width == 4 {
+            self.value(register_of(offset))
+        } else {
+            0
+        }
+    }
+
+    // Size and addresses of a queue that is ready.
+    fn shown(&self, queue: Virtqueue) -> Option<ReadyQueue>
+        requires { IsInOrder self.now }
+        ensures { result ≡ shown (queue_in self.now queue) }
+    {
+        let regs = self.queue(queue);
+        if regs.ready {
+            Some(regs.place(self.limits.max))
+        } else {
+            None
+        }
+    }
+
     // Writes a register of the selected queue.
     fn write_queue(&mut self, field: QueueRegister, value: u32)
         ensures { self.new ≡ at_selected (queue_after field value self.old.limits self.old.status.features_ok)
@@ -207,4 +236,121 @@ fn bytes_at(number: u64, at: u64, width: u32) -> u32
     ensures { result ≡ bytes_of number at width }
 {
     ((number >> (8 * at)) % 2u64.pow(8 * width)) as u32
+}
+
+/// The virtio-mmio registers of one socket device. Each call is total, and takes no memory.
+#[derive(Debug, Drop)]
+pub struct Regs {
+    state: RegisterState,
+}
+
+impl Model for Regs {
+    ghost use Rattle.vs_mmio.specs.Registers.{IsInOrder};
+    ghost use Rattle.vs_mmio.specs.declared.regs.RegisterState.{RegisterState};
+
+    ghost Value = { RegisterState };
+
+    ghost view = { λ regs. regs.state };
+
+    ghost invariant = { λ regs. IsInOrder regs.state };
+}
+
+impl Regs {
+    /// Registers as they are at first: of a device whose guest has the CID `cid`, with queues of `max` entries at most, which lie
+    /// in the `size` bytes from the guest's address `base` on.
+    pub fn new(cid: u64, max: u16, base: u64, size: u64) -> Regs
+        ensures { result ≡ fresh cid (record { max = max; base = base; size = size }) }
+    {
+        let limits = Limits { max, base, size };
+        Regs {
+            state: RegisterState::new(cid, limits),
+        }
+    }
+
+    /// What the driver reads: a register at its offset, `width` 4; 1, 2 or 4 bytes of the configuration, aligned. 0 at every other
+    /// offset or width, and of registers that the driver only writes.
+    pub fn read(&self, offset: u64, width: u32) -> u32
+        ensures { result ≡ read_of self.now offset width }
+    {
+        self.state.read(offset, width)
+    }
+
+    /// The driver writes four bytes. Where the register may not be written, or there is none, nothing changes. At `Renew`, which is
+    /// the answer to 0 in the status alone, the registers are as at first, with the CID and the limits of before.
+    pub fn write(&mut self, offset: u64, value: u32) -> Wrote
+        ensures step { self.new ≡ after (Write offset value) self.old }
+        ensures answer { result ≡ wrote_of offset value }
+        ensures renewed { result ≡ Renew → self.new ≡ fresh self.old.cid self.old.limits }
+    {
+        self.state.write(register_of(offset), value);
+        if offset == STATUS_AT && value == 0 {
+            Wrote::Renew
+        } else {
+            Wrote::Done
+        }
+    }
+
+    /// The guest's CID has changed, in a transport reset: the configuration has its next generation, and the driver is
+    /// interrupted for it.
+    pub fn set_cid(&mut self, cid: u64)
+        ensures { self.new ≡ after (SetCid cid) self.old }
+    {
+        self.state.cid = cid;
+        self.state.generation = self.state.generation.wrapping_add(1);
+        self.state.interrupt.configuration = true;
+    }
+
+    /// The device has failed: it needs a reset, and the driver is interrupted once for that.
+    pub fn failed(&mut self)
+        ensures { self.new ≡ after Failed self.old }
+    {
+        if !self.state.status.needs_reset {
+            self.state.status.needs_reset = true;
+            self.state.interrupt.configuration = true;
+        }
+    }
+
+    /// The device has stored a used index: the driver is interrupted for it.
+    pub fn used(&mut self)
+        ensures { self.new ≡ after Used self.old }
+    {
+        self.state.interrupt.used_buffer = true;
+    }
+
+    /// A queue that is ready, and `None` where it isn't.
+    pub fn queue(&self, queue: Virtqueue) -> Option<ReadyQueue>
+        ensures exact { result ≡ shown (queue_in self.now queue) }
+        ensures negotiated { IfSome result (λ _. self.now.status.features_ok ≡ true) }
+        ensures sized { IfSome result (λ q. IsTrue (is_power_of_two q.size) × (q.size ≤ self.now.limits.max)) }
+        ensures placed { IfSome result (λ q. IsTrue (is_placed self.now.limits q)) }
+    {
+        self.state.shown(queue)
+    }
+
+    /// Whether the device may run: the driver is set up, and all three queues are ready.
+    pub fn may_run(&self) -> bool
+        ensures exact { result ≡ may_run_of self.now }
+        ensures negotiated { result ≡ true → self.now.status.features_ok ≡ true }
+    {
+        let state = self.state;
+        state.status.driver_ok && state.rx.ready && state.tx.ready && state.event.ready
+    }
+
+    /// The feature bits that driver and device agreed on: none before `FEATURES_OK`.
+    pub fn features(&self) -> u64
+        ensures { result ≡ features_of self.now }
+    {
+        if self.state.status.features_ok {
+            self.state.features.whole()
+        } else {
+            0
+        }
+    }
+
+    /// What the driver wrote last to `QueueNotify`: the number of a queue.
+    pub fn notified(&self) -> u32
+        ensures { result ≡ self.now.notified }
+    {
+        self.state.notified
+    }
 }
