@@ -14,7 +14,7 @@ use Rattle.vs_mmio.specs.declared.register.Register.TheVariants as register
 use Rattle.vs_mmio.specs.declared.register.Virtqueue.{Virtqueue}
 use Rattle.vs_mmio.specs.declared.register.Virtqueue.TheVariants.{Rx, Tx, Event}
 use Rattle.vs_mmio.specs.declared.regs.RegisterState.{RegisterState}
-use Rattle.vs_mmio.specs.declared.regs.TheConstants.{CONFIG_AT, CONFIG_LEN, MAGIC, VERSION, DEVICE_ID, VENDOR_ID, STATUS_AT}
+use Rattle.vs_mmio.specs.declared.regs.TheConstants.{CONFIG_AT, CONFIG_LEN, STATUS_AT}
 use Rattle.vs_mmio.specs.declared.regs.Wrote.{Wrote}
 use Rattle.vs_mmio.specs.declared.regs.Wrote.TheVariants.{Done, Renew}
 
@@ -55,10 +55,7 @@ at_selected f None r = r
 
 -- What a read of a register answers. A register that is written alone reads 0.
 abbrev pub value_of : Option Register → RegisterState → ℕ
-value_of (Some register.MagicValue) r = MAGIC
-value_of (Some register.Version) r = VERSION
-value_of (Some register.DeviceId) r = DEVICE_ID
-value_of (Some register.VendorId) r = VENDOR_ID
+value_of (Some (register.Constant value)) r = value
 value_of (Some register.DeviceFeatures) r = offered_half r.device_features_sel
 value_of (Some (register.Queue field)) r = of_selected (queue_value field r.limits.max) (queue_numbered r.queue_sel) r
 value_of (Some register.InterruptStatus) r = interrupt_number r.interrupt

@@ -5,14 +5,15 @@ use Rattle.std.specs.Map.{lookup}
 use Rattle.vs_mmio.specs.declared.register.Register.{Register}
 use Rattle.vs_mmio.specs.declared.register.Register.TheVariants as register
 use Rattle.vs_mmio.specs.declared.register.QueueRegister.TheVariants as queue
+use Rattle.vs_mmio.specs.declared.register.TheConstants.{DEVICE_ID, MAGIC, VENDOR_ID, VERSION}
 use Rattle.vs_mmio.specs.declared.register.Virtqueue.{Virtqueue}
 use Rattle.vs_mmio.specs.declared.register.Virtqueue.TheVariants.{Rx, Tx, Event}
 
 abbrev pub table : List (ℕ × Register)
-table = (0x000, register.MagicValue)
-    ∷ (0x004, register.Version)
-    ∷ (0x008, register.DeviceId)
-    ∷ (0x00c, register.VendorId)
+table = (0x000, register.Constant MAGIC)
+    ∷ (0x004, register.Constant VERSION)
+    ∷ (0x008, register.Constant DEVICE_ID)
+    ∷ (0x00c, register.Constant VENDOR_ID)
     ∷ (0x010, register.DeviceFeatures)
     ∷ (0x014, register.DeviceFeaturesSel)
     ∷ (0x020, register.DriverFeatures)

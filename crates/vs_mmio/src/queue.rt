@@ -1,12 +1,12 @@
 //! The registers of one queue, and where its three areas may lie (Virtio 1.2, sections 2.7 and 4.2.2).
 ghost use Rattle.std.specs.Prelude.{◌≡◌, ◌+◌, ◌<◌, ◌≤◌, nat_le};
-ghost use Rattle.vs_mmio.specs.Queue.{is_apart, is_fit, is_placed, may_be_ready, no_queue, place_of, queue_after, queue_value};
+ghost use Rattle.vs_mmio.specs.Queue.{is_apart, is_fit, is_placed, may_be_ready, place_of, queue_after, queue_value};
 ghost use Rattle.vs_mmio.specs.Queue.{ready_after, whole, written};
 
 use crate::register::QueueRegister;
 
 /// A number of 64 bits that the driver writes by halves.
-#[derive(Clone, Copy, Debug, PartialEq, Eq)]
+#[derive(Clone, Copy, Debug, Default, PartialEq, Eq)]
 pub struct Halves {
     pub low: u32,
     pub high: u32,
@@ -21,7 +21,7 @@ pub struct Limits {
 }
 
 /// What the driver wrote of one queue.
-#[derive(Clone, Copy, Debug, PartialEq, Eq)]
+#[derive(Clone, Copy, Debug, Default, PartialEq, Eq)]
 pub struct QueueRegs {
     /// Entries.
     pub size: u32,
@@ -118,20 +118,6 @@ impl ReadyQueue {
 }
 
 impl QueueRegs {
-    /// The registers of a queue of which the driver wrote nothing.
-    pub fn new() -> QueueRegs
-        ensures { result ≡ no_queue }
-    {
-        let zero = Halves { low: 0, high: 0 };
-        QueueRegs {
-            size: 0,
-            ready: false,
-            desc: zero,
-            driver: zero,
-            device: zero,
-        }
-    }
-
     /// What a read of a register answers.
     pub fn read(&self, register: QueueRegister, max: u16) -> u32
         ensures { result ≡ queue_value register max self.now }

@@ -2,13 +2,20 @@
 ghost use Rattle.std.specs.Prelude.{◌≡◌};
 ghost use Rattle.vs_mmio.specs.Table.{queue_numbered, register_at};
 
+/// What `MagicValue` reads: `virt`, little-endian.
+pub const MAGIC: u32 = 0x7472_6976;
+/// What `Version` reads: devices of Virtio 1.
+pub const VERSION: u32 = 2;
+/// What `DeviceId` reads: a socket device (Virtio 1.2, section 5.10.1).
+pub const DEVICE_ID: u32 = 19;
+/// What `VendorId` reads.
+pub const VENDOR_ID: u32 = 0;
+
 /// A register. Those of shared memory and of the reset of one queue are left out.
 #[derive(Clone, Copy, Debug, PartialEq, Eq)]
 pub enum Register {
-    MagicValue,
-    Version,
-    DeviceId,
-    VendorId,
+    /// It reads the same always: `MagicValue`, `Version`, `DeviceId`, `VendorId`.
+    Constant(u32),
     DeviceFeatures,
     DeviceFeaturesSel,
     DriverFeatures,
@@ -50,10 +57,10 @@ pub fn register_of(offset: u64) -> Option<Register>
     ensures { result ≡ register_at offset }
 {
     match offset {
-        0x000 => Some(Register::MagicValue),
-        0x004 => Some(Register::Version),
-        0x008 => Some(Register::DeviceId),
-        0x00c => Some(Register::VendorId),
+        0x000 => Some(Register::Constant(MAGIC)),
+        0x004 => Some(Register::Constant(VERSION)),
+        0x008 => Some(Register::Constant(DEVICE_ID)),
+        0x00c => Some(Register::Constant(VENDOR_ID)),
         0x010 => Some(Register::DeviceFeatures),
         0x014 => Some(Register::DeviceFeaturesSel),
         0x020 => Some(Register::DriverFeatures),

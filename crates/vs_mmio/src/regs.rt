@@ -1,12 +1,11 @@
 //! The registers, and the calls of a device's monitor on them.
-ghost use Rattle.std.specs.Prelude.{◌≡◌, ◌<◌, ◌≤◌, true, IfSome, IsTrue, Some};
+ghost use Rattle.std.specs.Prelude.{◌≡◌, ◌<◌, ◌≤◌, true, IfSome, IsTrue};
 ghost use Rattle.std.specs.Int.{is_power_of_two};
 ghost use Rattle.vs_mmio.specs.Calls.{Failed, SetCid, Used, Write, after};
 ghost use Rattle.vs_mmio.specs.Queue.{is_placed, queue_after, queue_value};
 ghost use Rattle.vs_mmio.specs.Registers.{IsInOrder, after_register, at_selected, bytes_of, features_of, fresh, is_config, may_run_of};
 ghost use Rattle.vs_mmio.specs.Registers.{of_selected, queue_in, read_of, shown, value_of, with_features, with_status, wrote_of};
 ghost use Rattle.vs_mmio.specs.Table.{queue_numbered};
-ghost use Rattle.vs_mmio.specs.declared.register.Register.TheVariants as register;
 ghost use Rattle.vs_mmio.specs.declared.regs.Wrote.TheVariants.{Renew};
 
 use crate::queue::{Halves, Limits, QueueRegs, ReadyQueue};
@@ -14,24 +13,10 @@ use crate::register::{QueueRegister, Register, Virtqueue, queue_of, register_of}
 use crate::status::{Interrupt, Status, accepts, offered};
 use std::marker::Model;
 
-/// What `MagicValue` reads: `virt`, little-endian.
-pub const MAGIC: u32 = 0x7472_6976;
-
-/// What `Version` reads: devices of Virtio 1.
-pub const VERSION: u32 = 2;
-
-/// What `DeviceId` reads: a socket device (Virtio 1.2, section 5.10.1).
-pub const DEVICE_ID: u32 = 19;
-
-/// What `VendorId` reads.
-pub const VENDOR_ID: u32 = 0;
-
 /// Offset of `Status`.
 pub const STATUS_AT: u64 = 0x070;
-
 /// Offset of the configuration, which is the guest's CID (Virtio 1.2, section 5.10.4).
 pub const CONFIG_AT: u64 = 0x100;
-
 /// Bytes of the configuration.
 pub const CONFIG_LEN: u64 = 8;
 
@@ -77,14 +62,14 @@ impl RegisterState {
             device_features_sel: 0,
             driver_features_sel: 0,
             queue_sel: 0,
-            features: Halves { low: 0, high: 0 },
-            status: Status::new(),
-            interrupt: Interrupt::new(),
+            features: Halves::default(),
+            status: Status::default(),
+            interrupt: Interrupt::default(),
             generation: 0,
             notified: 0,
-            rx: QueueRegs::new(),
-            tx: QueueRegs::new(),
-            event: QueueRegs::new(),
+            rx: QueueRegs::default(),
+            tx: QueueRegs::default(),
+            event: QueueRegs::default(),
         }
     }
 
@@ -104,10 +89,7 @@ impl RegisterState {
         ensures { result ≡ value_of register self.now }
     {
         match register {
-            Some(Register::MagicValue) => MAGIC,
-            Some(Register::Version) => VERSION,
-            Some(Register::DeviceId) => DEVICE_ID,
-            Some(Register::VendorId) => VENDOR_ID,
+            Some(Register::Constant(value)) => value,
             Some(Register::DeviceFeatures) => offered(self.device_features_sel),
             Some(Register::Queue(field)) => self.queue_value(field),
             Some(Register::InterruptStatus) => self.interrupt.number(),
@@ -124,32 +106,6 @@ impl RegisterState {
         match queue_of(self.queue_sel) {
             Some(queue) => self.queue(queue).read(field, self.limits.max),
             None => 0,
-        }
-    }
-
-    // What a read answers.
-    fn read(&self, offset: u64, width: u32) -> u32
-        ensures { result ≡ read_of self.now offset width }
-    {
-        if is_config_access(offset, width) {
-            bytes_at(self.cid, offset - CONFIG_AT, width)
-        } else if width == 4 {
-            self.value(register_of(offset))
-        } else {
-            0
-        }
-    }
-
-    // Size and addresses of a queue that is ready.
-    fn shown(&self, queue: Virtqueue) -> Option<ReadyQueue>
-        requires { IsInOrder self.now }
-        ensures { result ≡ shown (queue_in self.now queue) }
-    {
-        let regs = self.queue(queue);
-        if regs.ready {
-            Some(regs.place(self.limits.max))
-        } else {
-            None
         }
     }
 
@@ -180,15 +136,6 @@ impl RegisterState {
         }
     }
 
-    // Writes the selector of the halves of the driver's features.
-    fn select_features(&mut self, value: u32)
-        ensures { self.new ≡ after_register (Some register.DriverFeaturesSel) value self.old }
-    {
-        if !self.status.features_ok {
-            self.driver_features_sel = value;
-        }
-    }
-
     // Writes the status.
     fn write_status(&mut self, value: u32)
         ensures { self.new ≡ with_status value self.old }
@@ -208,7 +155,11 @@ impl RegisterState {
         match register {
             Some(Register::DeviceFeaturesSel) => self.device_features_sel = value,
             Some(Register::DriverFeatures) => self.write_features(value),
-            Some(Register::DriverFeaturesSel) => self.select_features(value),
+            Some(Register::DriverFeaturesSel) => {
+                if !self.status.features_ok {
+                    self.driver_features_sel = value;
+                }
+            }
             Some(Register::QueueSel) => self.queue_sel = value,
             Some(Register::Queue(field)) => self.write_queue(field, value),
             Some(Register::QueueNotify) => self.notified = value,
@@ -272,7 +223,13 @@ impl Regs {
     pub fn read(&self, offset: u64, width: u32) -> u32
         ensures { result ≡ read_of self.now offset width }
     {
-        self.state.read(offset, width)
+        if is_config_access(offset, width) {
+            bytes_at(self.state.cid, offset - CONFIG_AT, width)
+        } else if width == 4 {
+            self.state.value(register_of(offset))
+        } else {
+            0
+        }
     }
 
     /// The driver writes four bytes. Where the register may not be written, or there is none, nothing changes. At `Renew`, which is
@@ -324,7 +281,12 @@ impl Regs {
         ensures sized { IfSome result (λ q. IsTrue (is_power_of_two q.size) × (q.size ≤ self.now.limits.max)) }
         ensures placed { IfSome result (λ q. IsTrue (is_placed self.now.limits q)) }
     {
-        self.state.shown(queue)
+        let regs = self.state.queue(queue);
+        if regs.ready {
+            Some(regs.place(self.state.limits.max))
+        } else {
+            None
+        }
     }
 
     /// Whether the device may run: the driver is set up, and all three queues are ready.

@@ -1,46 +1,36 @@
 //! Device status (Virtio 1.2, section 2.1), feature bits (section 2.2) and interrupt status (section 4.2.2).
 ghost use Rattle.std.specs.Prelude.{◌≡◌};
-ghost use Rattle.vs_mmio.specs.Status.{acknowledged, are_accepted, bit_if, has, interrupt_number, no_interrupt};
-ghost use Rattle.vs_mmio.specs.Status.{no_status, offered_half, status_after, status_number};
+ghost use Rattle.vs_mmio.specs.Status.{acknowledged, are_accepted, bit_if, has, interrupt_number};
+ghost use Rattle.vs_mmio.specs.Status.{offered_half, status_after, status_number};
 
 use crate::queue::Halves;
 
 /// Status bit: the guest has found the device.
 pub const ACKNOWLEDGE: u32 = 1;
-
 /// Status bit: the guest knows how to drive the device.
 pub const DRIVER: u32 = 2;
-
 /// Status bit: the driver is set up.
 pub const DRIVER_OK: u32 = 4;
-
 /// Status bit: the features are negotiated.
 pub const FEATURES_OK: u32 = 8;
-
 /// Status bit: the device has failed.
 pub const DEVICE_NEEDS_RESET: u32 = 64;
-
 /// Status bit: the guest has given the device up.
 pub const FAILED: u32 = 128;
-
 /// Interrupt status: a used index was stored.
 pub const USED_BUFFER: u32 = 1;
-
 /// Interrupt status: the configuration or the device status changed.
 pub const CONFIGURATION_CHANGE: u32 = 2;
-
 /// Feature bits 0 to 31 that the device offers: stream sockets (0), seqpacket sockets (1), indirect descriptors (28), event
 /// index (29).
 pub const OFFERED_LOW: u32 = 0x3000_0003;
-
 /// Feature bits 32 to 63 that the device offers: `VERSION_1` alone.
 pub const OFFERED_HIGH: u32 = 1;
-
 /// Feature bit 32 in its half.
 pub const VERSION_1: u32 = 1;
 
 /// The bits of the device status.
-#[derive(Clone, Copy, Debug, PartialEq, Eq)]
+#[derive(Clone, Copy, Debug, Default, PartialEq, Eq)]
 pub struct Status {
     pub acknowledge: bool,
     pub driver: bool,
@@ -51,7 +41,7 @@ pub struct Status {
 }
 
 /// What the driver is interrupted for.
-#[derive(Clone, Copy, Debug, PartialEq, Eq)]
+#[derive(Clone, Copy, Debug, Default, PartialEq, Eq)]
 pub struct Interrupt {
     pub used_buffer: bool,
     pub configuration: bool,
@@ -92,20 +82,6 @@ pub fn accepts(features: Halves) -> bool
 }
 
 impl Status {
-    /// No bit is set.
-    pub fn new() -> Status
-        ensures { result ≡ no_status }
-    {
-        Status {
-            acknowledge: false,
-            driver: false,
-            driver_ok: false,
-            features_ok: false,
-            needs_reset: false,
-            failed: false,
-        }
-    }
-
     /// The status as a number.
     pub fn number(&self) -> u32
         ensures { result ≡ status_number self.now }
@@ -132,16 +108,6 @@ impl Status {
 }
 
 impl Interrupt {
-    /// There is no interrupt.
-    pub fn new() -> Interrupt
-        ensures { result ≡ no_interrupt }
-    {
-        Interrupt {
-            used_buffer: false,
-            configuration: false,
-        }
-    }
-
     /// The interrupt status as a number.
     pub fn number(&self) -> u32
         ensures { result ≡ interrupt_number self.now }
