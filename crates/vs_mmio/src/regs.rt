@@ -127,12 +127,13 @@ impl RegisterState {
     fn write_features(&mut self, value: u32)
         ensures { self.new ≡ with_features value self.old }
     {
-        if !self.status.features_ok {
-            match self.driver_features_sel {
-                0 => self.features.low = value,
-                1 => self.features.high = value,
-                _ => {}
-            }
+        if self.status.features_ok {
+            return;
+        }
+        match self.driver_features_sel {
+            0 => self.features.low = value,
+            1 => self.features.high = value,
+            _ => {}
         }
     }
 
