@@ -6,14 +6,14 @@ ghost use Rattle.vs_mmio.specs.Queue.{ready_after, whole, written};
 use crate::register::QueueRegister;
 
 /// A number of 64 bits that the driver writes by halves.
-#[derive(Clone, Copy, Debug, Default, PartialEq, Eq)]
+#[derive(Clone, Copy, Default)]
 pub struct Halves {
     pub low: u32,
     pub high: u32,
 }
 
 /// What a queue has to keep to: the largest size, and the guest's memory, of `size` bytes from the address `base` on.
-#[derive(Clone, Copy, Debug, PartialEq, Eq)]
+#[derive(Clone, Copy)]
 pub struct Limits {
     pub max: u16,
     pub base: u64,
@@ -21,7 +21,7 @@ pub struct Limits {
 }
 
 /// What the driver wrote of one queue.
-#[derive(Clone, Copy, Debug, Default, PartialEq, Eq)]
+#[derive(Clone, Copy, Default)]
 pub struct QueueRegs {
     /// Entries.
     pub size: u32,
@@ -44,7 +44,7 @@ pub struct ReadyQueue {
 }
 
 /// One of the three areas of a queue: its address and its bytes, and what its address is a multiple of.
-#[derive(Clone, Copy, Debug)]
+#[derive(Clone, Copy)]
 pub struct Area {
     pub at: u64,
     pub len: u64,

@@ -12,7 +12,7 @@ pub const DEVICE_ID: u32 = 19;
 pub const VENDOR_ID: u32 = 0;
 
 /// A register. Those of shared memory and of the reset of one queue are left out.
-#[derive(Clone, Copy, Debug, PartialEq, Eq)]
+#[derive(Clone, Copy)]
 pub enum Register {
     /// It reads the same always: `MagicValue`, `Version`, `DeviceId`, `VendorId`.
     Constant(u32),
@@ -31,7 +31,7 @@ pub enum Register {
 }
 
 /// A register that each queue has.
-#[derive(Clone, Copy, Debug, PartialEq, Eq)]
+#[derive(Clone, Copy)]
 pub enum QueueRegister {
     NumMax,
     Num,

@@ -30,7 +30,7 @@ pub enum Wrote {
 }
 
 /// What the registers hold.
-#[derive(Clone, Copy, Debug)]
+#[derive(Clone, Copy)]
 pub struct RegisterState {
     /// The guest's CID.
     pub cid: u64,
@@ -191,7 +191,7 @@ fn bytes_at(number: u64, at: u64, width: u32) -> u32
 }
 
 /// The virtio-mmio registers of one socket device. Each call is total, and takes no memory.
-#[derive(Debug, Drop)]
+#[derive(Drop)]
 pub struct Regs {
     state: RegisterState,
 }

@@ -30,7 +30,7 @@ pub const OFFERED_HIGH: u32 = 1;
 pub const VERSION_1: u32 = 1;
 
 /// The bits of the device status.
-#[derive(Clone, Copy, Debug, Default, PartialEq, Eq)]
+#[derive(Clone, Copy, Default)]
 pub struct Status {
     pub acknowledge: bool,
     pub driver: bool,
@@ -41,7 +41,7 @@ pub struct Status {
 }
 
 /// What the driver is interrupted for.
-#[derive(Clone, Copy, Debug, Default, PartialEq, Eq)]
+#[derive(Clone, Copy, Default)]
 pub struct Interrupt {
     pub used_buffer: bool,
     pub configuration: bool,
