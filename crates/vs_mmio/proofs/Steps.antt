@@ -52,7 +52,8 @@ selected_step : (field : QueueRegister) (v : ℕ) (selected : Option Virtqueue) 
     → IsStep r (at_selected (queue_after field v r.limits r.status.features_ok) selected r)
 selected_step field v (Some Rx) r = let s = queue_step field v r.limits r.status.features_ok r.rx in search (rules, s.rightly, s.stays)
 selected_step field v (Some Tx) r = let s = queue_step field v r.limits r.status.features_ok r.tx in search (rules, s.rightly, s.stays)
-selected_step field v (Some Event) r = let s = queue_step field v r.limits r.status.features_ok r.event in search (rules, s.rightly, s.stays)
+selected_step field v (Some Event) r =
+    let s = queue_step field v r.limits r.status.features_ok r.event in search (rules, s.rightly, s.stays)
 selected_step field v None r = search rules
 
 register_step : (register : Option Register) (v : ℕ) (r : RegisterState) → IsStep r (after_register register v r)
@@ -94,7 +95,8 @@ pub run_limits : (calls : List Call) (r : RegisterState) → (run calls r).limit
 run_limits [] r = refl
 run_limits (call ∷ calls) r = run_limits calls (after call r) ∙ (step call r).limits
 
-pub ready_rightly : (r : RegisterState) → IsInOrder r → (queue : Virtqueue) → IsReadyRightly r.limits r.status.features_ok (queue_in r queue)
+pub ready_rightly : (r : RegisterState) → IsInOrder r → (queue : Virtqueue)
+    → IsReadyRightly r.limits r.status.features_ok (queue_in r queue)
 ready_rightly r o Rx = o.rx
 ready_rightly r o Tx = o.tx
 ready_rightly r o Event = o.event

@@ -16,7 +16,8 @@ pub returns-clause-shown : goal.returns-clause-shown
 returns-clause-shown c = λ cid limits calls queue.
     let r = led_to cid limits calls in
     let right = ready_rightly r (in_order cid limits calls) queue in
-    if_shown (λ (p : ReadyQueue). IsTrue (may_be_ready limits p)) (queue_in r queue) (λ ready. rw (run_limits calls (fresh cid limits)) at (right ready).1)
+    if_shown (λ (p : ReadyQueue). IsTrue (may_be_ready limits p)) (queue_in r queue)
+    (λ ready. rw (run_limits calls (fresh cid limits)) at (right ready).1)
 
 pub returns-clause-kept : goal.returns-clause-kept
 returns-clause-kept c = λ r call queue. step_of_queue call r queue
