@@ -1,0 +1,5 @@
+pub mod Table
+pub mod Status
+pub mod Queue
+pub mod Registers
+pub mod Calls
