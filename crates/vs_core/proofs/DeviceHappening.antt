@@ -28,6 +28,7 @@ use Rattle.vs_world.proofs.Flown.{LeavesDriver}
 use Rattle.vs_world.proofs.OverBoth.{IsPlayed}
 use Rattle.vs_world.proofs.StayOpen.{StayOpen, still_has}
 use Rattle.vs_core.specs.Ready.{Happens, IsReached, IsReady, IsServedAtWork, WorldState, shown, with_journal}
+use Rattle.vs_core.proofs.Driven.{both_are}
 use Rattle.vs_core.proofs.Happening.{happened, where_is}
 use Rattle.vs_core.proofs.Stepped.{driven_still, line_after, reset_played, step_after, step_serves, turn_after, turn_serves}
 
@@ -165,17 +166,13 @@ held_contains chain (h ∷ held) is = by (λ more. held_contains chain held more
     by rest true same is = (0, omega arith, sym (same_chain_is chain h.chain same))
     by rest false same is = let more = rest is in let lt = more.1 in (suc more.0, omega (arith, lt), more.2)
 
-pub both_true : (a b : Bool) → (a && b) ≡ true → (a ≡ true) × (b ≡ true)
-both_true true b is = (refl, is)
-both_true false b is = absurd cc
-
 pub held_of_queue : (queue : Queue) (chain : Chain) (held : List Held) → (same_queue queue chain.queue && is_held chain held) ≡ true
     → Contains (chains_of held) chain
-held_of_queue queue chain held is = held_contains chain held (both_true (same_queue queue chain.queue) (is_held chain held) is).1
+held_of_queue queue chain held is = held_contains chain held (both_are (same_queue queue chain.queue) (is_held chain held) is).1
 
 pub of_queue : (queue : Queue) (chain : Chain) (held : List Held) → (same_queue queue chain.queue && is_held chain held) ≡ true
     → chain.queue ≡ queue
-of_queue queue chain held is = sym (same_queue_is queue chain.queue (both_true (same_queue queue chain.queue) (is_held chain held) is).0)
+of_queue queue chain held is = sym (same_queue_is queue chain.queue (both_are (same_queue queue chain.queue) (is_held chain held) is).0)
 
 -- So is another that is the same.
 pub same_held : (queue : Queue) (x chain : Chain) (held : List Held) → x ≡ chain → (same_queue queue chain.queue && is_held chain held) ≡ true

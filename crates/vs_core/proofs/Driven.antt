@@ -26,7 +26,8 @@ empty_is : (pages : List (List ℕ)) → none_staged pages ≡ true → pages �
 empty_is [] is = refl
 empty_is (page ∷ pages) is = absurd cc
 
-both_are : (a b : Bool) → (a && b) ≡ true → (a ≡ true) × (b ≡ true)
+-- Both of two tests.
+pub both_are : (a b : Bool) → (a && b) ≡ true → (a ≡ true) × (b ≡ true)
 both_are true true is = (refl, refl)
 both_are true false is = absurd cc
 both_are false b is = absurd cc

@@ -117,15 +117,6 @@ step_serves s t v w h g others chain streams served = record {
       (streams (streams_of s) (has_some (streams_of s) s.device h served.streams) g refl);
 }
 
-pub ring_serves : (s t : ProxyState) (v w : Ends) (h : HostContents) → t ≡ with_device t.device s
-    → IsAmong (chains_of w.device.held) t.device
-    → ((others : List ℕ) (host : HostContents) → HasStreams others s.device.table host → HasStreams others t.device.table host)
-    → IsServedAtWork s v h → IsServedAtWork t w h
-ring_serves s t v w h others chain streams served = record {
-  chain = chain;
-  streams = subst (λ (ids : List ℕ). HasStreams ids t.device.table h) (same_streams s t others) (streams (streams_of s) h served.streams);
-}
-
 -- The chain that the device holds is as before.
 pub still_among : (held : List Chain) (s t : DeviceState) → t.chain ≡ s.chain → IsAmong held s → IsAmong held t
 still_among held s t same among = subst (λ (o : Option Chain). IfSome o (λ chain. Contains held chain × IsRxChain chain)) (sym same) among
