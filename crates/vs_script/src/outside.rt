@@ -2,7 +2,7 @@
 
 ghost use Rattle.std.specs.Prelude.{◌≡◌, IfOk, IfErr, Ok, Err};
 ghost use Rattle.vs_script.specs.Field.{IsFault};
-ghost use Rattle.vs_script.specs.Outside.{host_view, outside_view, host_line, host_write, host_allow, outside_line};
+ghost use Rattle.vs_script.specs.Outside.{host_view, outside_view, host_line, stream_line, host_write, host_allow, outside_line};
 
 use crate::data::Data;
 use crate::fault::{LineFault, Why};
@@ -98,7 +98,17 @@ fn host_line(alloc: Global, act: &[u8], words: &mut Words) -> Result<HostLine, L
     } else if is(act, b"unlisten") {
         let port = words.only_port()?;
         Ok(HostLine::Unlisten { port })
-    } else if is(act, b"write") {
+    } else {
+        stream_line(alloc, act, words)
+    }
+}
+
+/// What a line says behind `host` and the name of an act that is none of those on ports.
+fn stream_line(alloc: Global, act: &[u8], words: &mut Words) -> Result<HostLine, LineFault>
+    ensures ok { IfOk result (λ line. stream_line act.now words.old ≡ Ok (host_view line)) }
+    ensures fault { IfErr result (IsFault (stream_line act.now words.old)) }
+{
+    if is(act, b"write") {
         host_write(alloc, words)
     } else if is(act, b"allow") {
         host_allow(words)
