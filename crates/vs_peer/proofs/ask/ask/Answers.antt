@@ -1,9 +1,21 @@
 use Rattle.std.proofs.Common.{◌≡◌, [], false, ◌+◌, ◌-◌, ◌++◌, length, take, drop, refl, ap, sym, ◌∙◌, arith}
 use Rattle.std.proofs.Math.Seq.{take-add}
-use Rattle.std.proofs.lemmas.List.{take_rest}
+use Rattle.std.proofs.lemmas.List.{take_all, take_rest}
 use Rattle.vs_peer.proofs.Pieces.{rest_length}
 use Rattle.vs_peer.proofs.Streams.{relates_as, relates_then, still_moves}
 use Rattle.vs_peer.proofs.ask.ask.Goals as goal
+
+pub write-requires-clause-some : goal.write-requires-clause-some
+write-requires-clause-some g c = omega (arith, rest_length c.args.line.now c.loop.at, c.loop.invariant.within)
+
+pub overflow_add-at : goal.overflow_add-at
+overflow_add-at g c = omega (arith, rest_length c.args.line.now c.loop.at, c.in-Took.ensures.some.0)
+
+pub returns-then-at-line-clause-asks : goal.returns-then-at-line-clause-asks
+returns-then-at-line-clause-asks g c =
+    let xs = c.args.line.now in
+    let whole : take c.loop.at xs ≡ xs = take_all c.loop.at xs (omega arith) in
+    relates_as c.args.id (take c.loop.at xs) xs [] [] false false _ _ c.loop.invariant.passes whole refl refl
 
 pub loop-preserved-in-Took : goal.loop-preserved-in-Took
 loop-preserved-in-Took g c =
