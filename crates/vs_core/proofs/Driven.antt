@@ -1,5 +1,5 @@
 -- The rings stay the driver's over its steps and its calls.
-use Rattle.std.proofs.Common.{◌≡◌, ℕ, ◌<◌, ◌&&◌, ◌==◌, Bool, true, false, List, [], ◌∷◌, length, Option, Some, unwrap_or, refl, sym, ap, subst, ◌∙◌, rules}
+use Rattle.std.proofs.Common.{◌≡◌, ℕ, ◌<◌, ◌&&◌, Bool, true, false, List, [], ◌∷◌, length, Option, Some, unwrap_or, refl, sym, ap, subst, ◌∙◌, rules}
 use Rattle.vs_ring_port.specs.Contents.{RingContents}
 use Rattle.vs_ring_port.specs.Counts.{at, no_counts, with_count}
 use Rattle.vs_ring_port.specs.EndLog.{EndLog, Pages, pages_at}
@@ -18,10 +18,6 @@ use Rattle.vs_world.proofs.Polls.{rest_works}
 use Rattle.vs_core.specs.Ready.{IsDrivenAtWork}
 
 -- What is staged.
-pub none_is : (pages : List (List ℕ)) → (length pages == 0) ≡ none_staged pages
-none_is [] = refl
-none_is (page ∷ pages) = search rules
-
 empty_is : (pages : List (List ℕ)) → none_staged pages ≡ true → pages ≡ []
 empty_is [] is = refl
 empty_is (page ∷ pages) is = absurd cc

@@ -27,7 +27,6 @@ use Rattle.vs_world.specs.Over.{over_lists}
 use Rattle.vs_core.specs.Ready.{Happens, IsDrivenAtWork, IsReached, IsReady, IsServedAtWork, WorldState, shown, with_journal}
 use Rattle.vs_core.specs.Views.{Steps, Tells, TellsWhere}
 use Rattle.vs_core.specs.declared.event.Reply.{Reply}
-use Rattle.vs_core.specs.declared.event.Reply.TheVariants as reply
 
 -- What happens doesn't look at the journal.
 abbrev plain : World → World
@@ -185,12 +184,3 @@ module _ (c : GuestCall) (old : WorldState) (ready : IsReady old) where
       → Steps (event.GuestCalls c) old (with_driver old s old.rings) told
   calls s answer told rest right made driven tells =
       calls_on s answer old.rings told rest right (ap (λ t. over_lists t old.rings) made) driven tells
-
-  pub no_call : is_at_rest old.rings.driver.staged ≡ false → Steps (event.GuestCalls c) old old reply.None
-  no_call rest =
-      let may : possible ≡ false = rw rest refl in
-      record {
-        happened =
-            nothing_happened (event.GuestCalls c) old (sym (ap shown (where_not possible (λ v. (call_made c v).0) (with_journal [] old) may))) ready;
-        answer = subst (λ b. TellsWhere b c (call_made c (with_journal [] old)).1 reply.None) (sym may) refl;
-      }

@@ -3,12 +3,10 @@ use Rattle.std.proofs.Common.{◌≡◌, inl, inr, ℕ, true, List, ◌++◌, Op
 use Rattle.vs_outside.specs.Faults.{CountsFault}
 use Rattle.vs_outside.specs.Host.{HostContents}
 use Rattle.vs_peer.specs.Conversing.{Converses}
-use Rattle.vs_peer.specs.Ends.{EndsAs, EndsUnread, HostFails, Lent, Meets, NoMemory, PeerEnds, SourceFails, Waits}
-use Rattle.vs_peer.specs.Failing.{host_failed, sink_failed, source_failed}
+use Rattle.vs_peer.specs.Ends.{EndsAs, HostFails, Meets, Waits}
+use Rattle.vs_peer.specs.Failing.{host_failed, sink_failed}
 use Rattle.vs_peer.specs.Pieces.{Emits}
 use Rattle.vs_peer.specs.Text.{host_fault_text, waited_text}
-use Rattle.vs_peer.specs.declared.source.ReadError.{ReadError}
-use Rattle.vs_peer.specs.declared.source.ReadError.TheVariants as read_error
 use Rattle.vs_peer.specs.declared.stop.Stop.{Stop}
 use Rattle.vs_peer.specs.declared.stop.Stop.TheVariants as stop
 use Rattle.vs_peer.proofs.Pieces.{emits_append, emits_then_some}
@@ -70,10 +68,3 @@ module _ (base : List ℕ) (port : ℕ) (source : List ℕ) (idle : ℕ) (host h
       let P : Stop → Type 0 = λ x. Known (Err x) in
       let k : Known (Err stop.Host) = subst P is (known, host_faults, sink_faults) in
       fails_on k.0 k.1 k.2 h
-
-pub unread_ends : (base : List ℕ) (port idle : ℕ) (old new : Lent) (result : ℕ) (e : ReadError) →
-    CountsFault (source_failed {A = List ℕ} (Err e)) old.source_faults new.source_faults → new.host ≡ old.host →
-    new.host_faults ≡ old.host_faults →
-    EndsUnread old.out new.out old.sink_faults new.sink_faults e result → PeerEnds base port idle old new result
-unread_ends base port idle old new result read_error.Fault counts host faults h = SourceFails counts host faults h
-unread_ends base port idle old new result read_error.OutOfMemory counts host faults h = NoMemory counts host faults h

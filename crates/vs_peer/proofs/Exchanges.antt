@@ -1,10 +1,9 @@
 -- Steps of an exchange, one after another.
-use Rattle.std.proofs.Common.{◌≡◌, inl, inr, ℕ, Bool, true, false, ◌||◌, List, [], ◌++◌, take, Option, Some, None, Result, Ok, Err, refl}
+use Rattle.std.proofs.Common.{◌≡◌, inl, inr, ℕ, Bool, true, false, ◌||◌, List, [], ◌++◌, take, Option, Some, None, Ok, Err, refl}
 use Rattle.std.proofs.Common.{sym, subst, ◌∙◌, append-nil, arith}
 use Rattle.std.specs.Prelude.{IsSomeAnd}
-use Rattle.std.specs.Option.{ForSome}
 use Rattle.vs_contents.specs.Contents.{Relates}
-use Rattle.vs_outside.specs.Host.{Stream, HostContents, IsOpen, stream_at}
+use Rattle.vs_outside.specs.Host.{Stream, HostContents, stream_at}
 use Rattle.vs_outside.specs.Faults.{CountsFault}
 use Rattle.vs_peer.specs.Failing.{sink_failed}
 use Rattle.vs_peer.specs.Passing.{Moves, Now, ReadsAgain, ReadsEnd, WritesAgain}
@@ -23,7 +22,7 @@ use Rattle.vs_peer.specs.declared.stop.Stop.{Stop}
 use Rattle.vs_peer.specs.declared.stop.Stop.TheVariants as stop
 use Rattle.vs_peer.proofs.Pieces.{emits_none, emits_append, emits_then_some}
 use Rattle.vs_peer.proofs.Sends.{joined_between}
-use Rattle.vs_peer.proofs.Streams.{moves_closed, moves_not, relates_as, relates_not, relates_then}
+use Rattle.vs_peer.proofs.Streams.{moves_not, relates_as, relates_not, relates_then}
 
 -- A call that changes no stream passes nothing.
 pub relates_same : (id : ℕ) (a b : Option HostContents) → Relates a b SameStreams → Relates a b (Moves id [] [] false)
@@ -82,23 +81,6 @@ module _ (id : ℕ) (bytes : List ℕ) (s t : Sending) (host mid after : Option 
   step_goes b came.Bytes h r = (record { taken = r.0; passes = sent_and r.0 r.1; gets = r.2 }, tt)
   step_goes b came.Nothing h r = (no_bytes r.0 r.2, nothing_came b h r.0 r.1)
   step_goes b came.End h r = (no_bytes r.0 r.2, end_came t.side b refl h r.0 r.1)
-
-  -- what was closed stays closed
-  receives_moves : (result : Result Came Stop) → Receives id mid after out out' result →
-      (taken : List ℕ) × Relates mid after (Moves id [] taken false)
-  receives_moves (Ok came.Bytes) r = (r.0, r.1)
-  receives_moves (Ok came.Nothing) r = ([], relates_same id mid after r.0)
-  receives_moves (Ok came.End) r = ([], relates_same id mid after r.0)
-  receives_moves (Err stop.Sink) r = (r.0, r.1)
-  receives_moves (Err stop.Host) r = ([], relates_same id mid after r.0)
-  receives_moves (Err stop.Waited) r = absurd r
-  receives_moves (Err stop.Refused) r = absurd r
-
-  pub still_sending : (result : Result Came Stop) → Receives id mid after out out' result → ForSome mid (IsOpen id) →
-      IsSending id bytes t mid → IsSending id bytes t after
-  still_sending result r was i =
-      let m = receives_moves result r in
-      record { within = i.within; whole = i.whole; cut = i.cut; closed = λ e. moves_closed id [] m.0 false mid after m.1 was (i.closed e) }
 
 -- the write failed
 pub write_fails : (id : ℕ) (bytes : List ℕ) (s t : Sending) (host mid : Option HostContents) (out : Option (List ℕ)) (e : Stop) →

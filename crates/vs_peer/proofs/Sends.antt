@@ -6,12 +6,6 @@ use Rattle.std.proofs.lemmas.List.{take-take, drop-take}
 pub piece_of : (xs : List ℕ) (a n m : ℕ) → n ≤ m → take n (take m (drop a xs)) ≡ drop a (take (a + n) xs)
 piece_of xs a n m le = take-take n m (drop a xs) le ∙ sym (drop-take a n xs)
 
-pub none_between : (xs : List ℕ) (a : ℕ) → drop a (take a xs) ≡ []
-none_between [] zero = refl
-none_between [] (suc a) = refl
-none_between (x ∷ xs) zero = refl
-none_between (x ∷ xs) (suc a) = none_between xs a
-
 pub joined_between : (xs : List ℕ) (a b : ℕ) → a ≤ b → take a xs ++ drop a (take b xs) ≡ take b xs
 joined_between xs zero b le = refl
 joined_between [] (suc a) zero le = refl

@@ -1,12 +1,10 @@
 -- What each call does to the client's stream.
-use Rattle.std.proofs.Common.{◌≡◌, ℕ, zero, suc, ◌≤◌, Bool, true, false, cond, ◌||◌, List, [], ◌∷◌, ◌++◌, length, take, min, ◌==◌, ◌≢◌}
-use Rattle.std.proofs.Common.{Option, Some, None, refl, sym, ap, ◌∙◌, subst, append_assoc, append-nil, arith}
+use Rattle.std.proofs.Common.{◌≡◌, ℕ, Bool, true, false, ◌||◌, List, [], ◌++◌, take}
+use Rattle.std.proofs.Common.{Option, Some, None, refl, sym, ap, ◌∙◌, subst, append_assoc, append-nil}
 use Rattle.std.specs.Prelude.{IsSomeAnd}
-use Rattle.std.proofs.lemmas.Bool.Decides.{nat_tests}
-use Rattle.std.specs.Option.{ForSome, option_map_or}
+use Rattle.std.specs.Option.{ForSome}
 use Rattle.vs_contents.specs.Contents.{Exposes, Relates}
-use Rattle.vs_outside.specs.Host.{Stream, HostContents, stream_at, KeepsOthers, IsOpen, called, fails_now, after_failed, read_of}
-use Rattle.vs_outside.specs.Host.{write_of, read_answer, write_answer}
+use Rattle.vs_outside.specs.Host.{Stream, HostContents, stream_at, KeepsOthers, IsOpen, called, after_failed}
 use Rattle.vs_outside.specs.Host.{after_read, after_write, after_shut_write, take_bytes, give_bytes, ReadsFrom, next_bytes}
 use Rattle.vs_outside.specs.declared.host_net.StreamState.TheVariants as state
 use Rattle.vs_outside.specs.declared.host_net.StreamRead.{StreamRead}
@@ -14,7 +12,7 @@ use Rattle.vs_outside.specs.declared.host_net.StreamRead.TheVariants as read
 use Rattle.vs_outside.specs.declared.host_net.StreamWrite.{StreamWrite}
 use Rattle.vs_outside.specs.declared.host_net.StreamWrite.TheVariants as write
 use Rattle.vs_outside.proofs.Frames.{stream_at-with_stream, keeps_others, stream_at-after_failed, open_of}
-use Rattle.vs_peer.specs.Passing.{IsMoved, Moves, Now, IsClosed, WritesAgain, ReadsAgain, ReadsEnd}
+use Rattle.vs_peer.specs.Passing.{IsMoved, Moves}
 
 -- Nothing passed.
 same_stream : (s : Stream) → IsMoved [] [] false s s
@@ -86,12 +84,6 @@ exposed_relates P f R (Some a) None h then = cc
 exposed_relates P f R (Some a) (Some b) h then =
     let same : f a ≡ b = cc in subst (λ x. R a x) same (then a refl h.0)
 
-pub exposed_now : (P : HostContents → Type 0) (f : HostContents → HostContents) (Q : HostContents → Type 0) (a b : Option HostContents) →
-    Exposes a b P f → ((c : HostContents) → a ≡ Some c → P c → Q (f c)) → ForSome b Q
-exposed_now P f Q None b h then c is = cc
-exposed_now P f Q (Some a) b h then c is =
-    let same : f a ≡ c = cc in subst Q same (then a refl h.0)
-
 -- The stream stays open.
 opened : (o : Option Stream) → IsSomeAnd o (λ s. s.state ≡ state.Open) → (s : Stream) × (o ≡ Some s) × (s.state ≡ state.Open)
 opened None h = absurd h
@@ -106,21 +98,6 @@ moves_open id g k w (Some a) (Some b) m was c is =
     let t = m.stream s.0 s.1 in
     let same : b ≡ c = cc in
     subst (IsOpen id) same (open_of id b t.0 t.1 (t.2.state ∙ s.2))
-
--- What was closed stays closed.
-found : {P : Stream → Type 0} (o : Option Stream) → IsSomeAnd o P → (s : Stream) × (o ≡ Some s) × P s
-found None h = absurd h
-found (Some s) h = (s, refl, h)
-
-pub moves_closed : (id : ℕ) (g k : List ℕ) (w : Bool) (a b : Option HostContents) → Relates a b (Moves id g k w) →
-    ForSome a (IsOpen id) → Now id IsClosed a → Now id IsClosed b
-moves_closed id g k w None b m was closed c is = cc
-moves_closed id g k w (Some a) None m was closed c is = cc
-moves_closed id g k w (Some a) (Some b) m was closed c is =
-    let s = found {P = IsClosed} (stream_at id a) (closed a refl) in
-    let t = m.stream s.0 s.1 in
-    let same : b ≡ c = cc in
-    subst (λ x. IsSomeAnd (stream_at id x) IsClosed) same (rw t.1 (t.2.closed ∙ s.2))
 
 -- A write, a read, a shutting of the write side.
 abbrev pub given_by : StreamWrite → List ℕ → List ℕ
@@ -180,79 +157,3 @@ shut_writes id c =
       shut = refl;
       closed = refl;
     })
-
--- What the answers say of the stream.
-full : (n : ℕ) (room : Option ℕ) → 1 ≤ n → (option_map_or (λ r. min n r) room n == 0) ≡ true → room ≡ Some 0
-full zero room some h = absurd (omega (arith, some))
-full (suc n) None some h = absurd (grind (arith, nat_tests, h))
-full (suc n) (Some zero) some h = refl
-full (suc n) (Some (suc r)) some h = absurd (grind (arith, nat_tests, h))
-
-again_of : (n : ℕ) (s : Stream) (b d : Bool) → s.host_closed ≡ b → (option_map_or (λ r. min n r) s.room n == 0) ≡ d → 1 ≤ n →
-    write.Again ≡ cond b write.Closed (cond d write.Again (write.Took (option_map_or (λ r. min n r) s.room n))) → WritesAgain s
-again_of n s true d p q some h = cc
-again_of n s false true p q some h = record { takes = p; full = full n s.room some q }
-again_of n s false false p q some h = cc
-
-closed_of : (b d : Bool) (n : ℕ) → write.Closed ≡ cond b write.Closed (cond d write.Again (write.Took n)) → b ≡ true
-closed_of true d n h = refl
-closed_of false true n h = cc
-closed_of false false n h = cc
-
-not_failing : (b : Bool) (a d : StreamWrite) → a ≢ write.Failed → a ≡ cond b write.Failed d → a ≡ d
-not_failing true a d fails h = absurd (fails h)
-not_failing false a d fails h = h
-
-not_failing_read : (b : Bool) (a d : StreamRead) → a ≢ read.Failed → a ≡ cond b read.Failed d → a ≡ d
-not_failing_read true a d fails h = absurd (fails h)
-not_failing_read false a d fails h = h
-
-pub writes_again : (id n : ℕ) (c : HostContents) → IsOpen id c → 1 ≤ n → write.Again ≡ write_answer id n c →
-    IsSomeAnd (stream_at id (called c)) WritesAgain
-writes_again id n c was some h =
-    let s = opened (stream_at id c) was in
-    let by : write.Again ≡ option_map_or (write_of n) (stream_at id c) write.Again = not_failing (fails_now c) write.Again _ (λ e. cc) h in
-    let of : write.Again ≡ write_of n s.0 = by ∙ ap (λ o. option_map_or (write_of n) o write.Again) s.1 in
-    rw s.1 (again_of n s.0 s.0.host_closed (option_map_or (λ r. min n r) s.0.room n == 0) refl refl some of)
-
-pub writes_closed : (id n : ℕ) (c : HostContents) → IsOpen id c → write.Closed ≡ write_answer id n c →
-    IsSomeAnd (stream_at id (called c)) IsClosed
-writes_closed id n c was h =
-    let s = opened (stream_at id c) was in
-    let by : write.Closed ≡ option_map_or (write_of n) (stream_at id c) write.Again = not_failing (fails_now c) write.Closed _
-    (λ e. cc) h in
-    let of : write.Closed ≡ write_of n s.0 = by ∙ ap (λ o. option_map_or (write_of n) o write.Again) s.1 in
-    rw s.1 (closed_of s.0.host_closed (option_map_or (λ r. min n r) s.0.room n == 0) _ of)
-
-no_bytes : (xs : List ℕ) → (length xs == 0) ≡ true → xs ≡ []
-no_bytes [] h = refl
-no_bytes (x ∷ xs) h = absurd (grind (arith, nat_tests, h))
-
-read_again_of : (room : ℕ) (s : Stream) (z b : Bool) → (length s.untaken == 0) ≡ z → s.ended ≡ b →
-    read.Again ≡ cond z (cond b read.End read.Again) (read.Got (min room (length s.untaken))) → ReadsAgain s
-read_again_of room s true true p q h = cc
-read_again_of room s true false p q h = record { none = no_bytes s.untaken p; more = q }
-read_again_of room s false b p q h = cc
-
-read_end_of : (room : ℕ) (s : Stream) (z b : Bool) → (length s.untaken == 0) ≡ z → s.ended ≡ b →
-    read.End ≡ cond z (cond b read.End read.Again) (read.Got (min room (length s.untaken))) → ReadsEnd s
-read_end_of room s true true p q h = record { none = no_bytes s.untaken p; over = q }
-read_end_of room s true false p q h = cc
-read_end_of room s false b p q h = cc
-
-pub reads_again : (id room : ℕ) (c : HostContents) → IsOpen id c → read.Again ≡ read_answer id room c →
-    IsSomeAnd (stream_at id (called c)) ReadsAgain
-reads_again id room c was h =
-    let s = opened (stream_at id c) was in
-    let by : read.Again ≡ option_map_or (read_of room) (stream_at id c) read.Again = not_failing_read (fails_now c) read.Again _
-    (λ e. cc) h in
-    let of : read.Again ≡ read_of room s.0 = by ∙ ap (λ o. option_map_or (read_of room) o read.Again) s.1 in
-    rw s.1 (read_again_of room s.0 (length s.0.untaken == 0) s.0.ended refl refl of)
-
-pub reads_end : (id room : ℕ) (c : HostContents) → IsOpen id c → read.End ≡ read_answer id room c →
-    IsSomeAnd (stream_at id (called c)) ReadsEnd
-reads_end id room c was h =
-    let s = opened (stream_at id c) was in
-    let by : read.End ≡ option_map_or (read_of room) (stream_at id c) read.Again = not_failing_read (fails_now c) read.End _ (λ e. cc) h in
-    let of : read.End ≡ read_of room s.0 = by ∙ ap (λ o. option_map_or (read_of room) o read.Again) s.1 in
-    rw s.1 (read_end_of room s.0 (length s.0.untaken == 0) s.0.ended refl refl of)

@@ -1,5 +1,5 @@
 -- Lines that are read: a byte more, and a line that ends.
-use Rattle.std.proofs.Common.{◌≡◌, ◌≢◌, ℕ, zero, suc, ◌<◌, ◌≤◌, ◌==◌, nat_le, ◌||◌, Bool, true, false, cond, List, [], ◌∷◌, ◌++◌, length, get_or, Option, Some, None, refl, sym, ap, ◌∙◌, arith, length-append}
+use Rattle.std.proofs.Common.{◌≡◌, ◌≢◌, ℕ, zero, suc, ◌<◌, ◌==◌, nat_le, ◌||◌, Bool, true, false, cond, List, [], ◌∷◌, ◌++◌, length, get_or, Option, Some, None, refl, sym, ap, ◌∙◌, arith, length-append}
 use Rattle.std.specs.List.{All, AllPairs, list_any}
 use Rattle.std.proofs.lemmas.Bool.Decides.{nat_tests}
 use Rattle.std.proofs.lemmas.List.{same_from_push}
@@ -14,14 +14,6 @@ use Rattle.vs_pipes.specs.Streamed.{has_line}
 use Rattle.std.proofs.Common.{append_assoc, replicate}
 
 -- The lines without that of a stream.
-without_length : (id : ℕ) (hs : List Handshake) → length (without_stream id hs) ≤ length hs
-without_length id [] = omega arith
-without_length id (h ∷ hs) = by (h.stream == id) (without_length id hs)
-  where
-    by : (b : Bool) → length (without_stream id hs) ≤ length hs → length (cond b hs (h ∷ without_stream id hs)) ≤ suc (length hs)
-    by true less = omega arith
-    by false less = omega (arith, less)
-
 all_tail : (P : Handshake → Type 0) (h : Handshake) (hs : List Handshake) → All P (h ∷ hs) → All P hs
 all_tail P h hs all i d within = all (suc i) d (omega (arith, within))
 

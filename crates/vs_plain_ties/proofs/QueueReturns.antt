@@ -126,9 +126,6 @@ module _ (queue : Queue) (n at : ℕ) (nonzero : 0 < n) (limit : n ≤ 32768) (d
     returns_behind : returns_at ≡ (q.reaped + length l.back) % n
     returns_behind = ap (λ x. x % n) tie.returned ∙ wraps n (q.reaped + length l.back) divides
 
-    not_id : (j : ℕ) → 0 < times j out + times j back → id ≡ j → ⊥
-    not_id j some same = omega (arith, some, tie.once j, counted j, ap (λ (x : ℕ). times x (id ∷ [])) same, times-self id)
-
     pub tie_returned : (new : Shown) → Untouched n (Elem returns_at ∷ UsedIdx ∷ []) s new → new.elem returns_at
         ≡ record { id = id; len = length page }
         → new.used ≡ (t.used + 1) % 2 ^ 16 → new.page id (length page) ≡ page → length page ≤ 4096

@@ -37,9 +37,6 @@ holds_after : {X Y : Type 0} (Q : X → Type 0) (P : Y → Type 0) (r : Read X) 
 holds_after Q P (Ok found) f h next = next found.0 found.1 h
 holds_after Q P (Err why) f h next = tt
 
-abbrev Any : {X : Type 0} → X → Type 0
-Any x = Unit {0}
-
 any : {X E : Type 0} (r : Result X E) → Holds (λ x. Unit {0}) r
 any (Ok x) = tt
 any (Err e) = tt
