@@ -2,6 +2,7 @@
 use Rattle.std.proofs.Common.{◌≡◌, ℕ, suc, ◌+◌, ◌&&◌, Bool, true, false, cond, List, [], ◌∷◌, Option, Some, is_some, Contains, refl, sym, ap, subst, ◌∙◌, arith}
 use Rattle.std.specs.List.{position, position_from}
 use Rattle.std.proofs.lemmas.Iterator.Adapters.{position_from-zero}
+use Rattle.std.proofs.lemmas.Bool.{and_parts}
 use Rattle.vs_outside.specs.Host.{HostContents}
 use Rattle.vs_ring_port.specs.Chains.{Held, chains_of, same_chain, same_queue}
 use Rattle.vs_ring_port.specs.declared.device_ring.Chain.{Chain}
@@ -109,14 +110,10 @@ held_contains chain (h ∷ held) is = by (λ more. held_contains chain held more
     by rest true same is = (0, omega arith, sym (same_chain_is chain h.chain same))
     by rest false same is = let more = rest is in let lt = more.1 in (suc more.0, omega (arith, lt), more.2)
 
-pub both_true : (a b : Bool) → (a && b) ≡ true → (a ≡ true) × (b ≡ true)
-both_true true b is = (refl, is)
-both_true false b is = absurd cc
-
 pub held_of_queue : (queue : Queue) (chain : Chain) (held : List Held) → (same_queue queue chain.queue && is_held chain held) ≡ true
     → Contains (chains_of held) chain
-held_of_queue queue chain held is = held_contains chain held (both_true (same_queue queue chain.queue) (is_held chain held) is).1
+held_of_queue queue chain held is = held_contains chain held (and_parts (same_queue queue chain.queue) (is_held chain held) is).1
 
 pub of_queue : (queue : Queue) (chain : Chain) (held : List Held) → (same_queue queue chain.queue && is_held chain held) ≡ true
     → chain.queue ≡ queue
-of_queue queue chain held is = sym (same_queue_is queue chain.queue (both_true (same_queue queue chain.queue) (is_held chain held) is).0)
+of_queue queue chain held is = sym (same_queue_is queue chain.queue (and_parts (same_queue queue chain.queue) (is_held chain held) is).0)

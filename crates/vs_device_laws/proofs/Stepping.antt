@@ -30,7 +30,7 @@ use Rattle.vs_device_laws.proofs.Receiving.{Fills, FillsFirst, from_table, keeps
 use Rattle.vs_device_laws.proofs.Transmitting.{keeps_on_packet}
 use Rattle.vs_device_laws.proofs.Writing.{finds_changed, keeps_shut_write, keeps_write_pending}
 
-reach : (call : Call) (s : Situation) → is_quiet call ≡ true → CanReach call s → CanReach call s
+pub reach : (call : Call) (s : Situation) → is_quiet call ≡ true → CanReach call s → CanReach call s
 reach call s quiet can = can
 
 module _ (others : List ℕ) where

@@ -35,7 +35,7 @@ slice_get-set_other (z ∷ zs) zero (suc j) y h = refl
 slice_get-set_other (z ∷ zs) (suc k) zero y h = refl
 slice_get-set_other (z ∷ zs) (suc k) (suc j) y h = slice_get-set_other zs k j y (λ e. h (ap suc e))
 
-slice_get-append : {X : Type 0} (xs ys : List X) (k : ℕ) (x : X) → slice_get xs k ≡ Some x → slice_get (xs ++ ys) k ≡ Some x
+pub slice_get-append : {X : Type 0} (xs ys : List X) (k : ℕ) (x : X) → slice_get xs k ≡ Some x → slice_get (xs ++ ys) k ≡ Some x
 slice_get-append [] ys k x h = cc
 slice_get-append (z ∷ zs) ys zero x h = h
 slice_get-append (z ∷ zs) ys (suc k) x h = slice_get-append zs ys k x h
@@ -120,7 +120,7 @@ stream_at-after_dial id flow dialed.Refused c s h = h
 stream_at-after_dial id flow dialed.Failed c s h = stream_at-after_failed id c ∙ h
 
 -- OPEN STREAMS
-open_stream : (o : Option Stream) → IsSomeAnd o (λ s. s.state ≡ state.Open) → (s : Stream) × (o ≡ Some s) × (s.state ≡ state.Open)
+pub open_stream : (o : Option Stream) → IsSomeAnd o (λ s. s.state ≡ state.Open) → (s : Stream) × (o ≡ Some s) × (s.state ≡ state.Open)
 open_stream None h = absurd h
 open_stream (Some s) h = (s, refl, h)
 

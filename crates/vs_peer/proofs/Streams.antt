@@ -1,17 +1,15 @@
 -- What each call does to the client's stream.
 use Rattle.std.proofs.Common.{◌≡◌, ℕ, Bool, true, false, ◌||◌, List, [], ◌++◌, take}
 use Rattle.std.proofs.Common.{Option, Some, None, refl, sym, ap, ◌∙◌, subst, append_assoc, append-nil}
-use Rattle.std.specs.Prelude.{IsSomeAnd}
 use Rattle.std.specs.Option.{ForSome}
 use Rattle.vs_contents.specs.Contents.{Exposes, Relates}
 use Rattle.vs_outside.specs.Host.{Stream, HostContents, stream_at, KeepsOthers, IsOpen, called, after_failed}
 use Rattle.vs_outside.specs.Host.{after_read, after_write, after_shut_write, take_bytes, give_bytes, ReadsFrom, next_bytes}
-use Rattle.vs_outside.specs.declared.host_net.StreamState.TheVariants as state
 use Rattle.vs_outside.specs.declared.host_net.StreamRead.{StreamRead}
 use Rattle.vs_outside.specs.declared.host_net.StreamRead.TheVariants as read
 use Rattle.vs_outside.specs.declared.host_net.StreamWrite.{StreamWrite}
 use Rattle.vs_outside.specs.declared.host_net.StreamWrite.TheVariants as write
-use Rattle.vs_outside.proofs.Frames.{stream_at-with_stream, keeps_others, stream_at-after_failed, open_of}
+use Rattle.vs_outside.proofs.Frames.{keeps_others, open_of, open_stream, stream_at-after_failed, stream_at-with_stream}
 use Rattle.vs_peer.specs.Passing.{IsMoved, Moves}
 
 -- Nothing passed.
@@ -85,16 +83,12 @@ exposed_relates P f R (Some a) (Some b) h then =
     let same : f a ≡ b = cc in subst (λ x. R a x) same (then a refl h.0)
 
 -- The stream stays open.
-opened : (o : Option Stream) → IsSomeAnd o (λ s. s.state ≡ state.Open) → (s : Stream) × (o ≡ Some s) × (s.state ≡ state.Open)
-opened None h = absurd h
-opened (Some s) h = (s, refl, h)
-
 pub moves_open : (id : ℕ) (g k : List ℕ) (w : Bool) (a b : Option HostContents) → Relates a b (Moves id g k w) → ForSome a (IsOpen id) →
     ForSome b (IsOpen id)
 moves_open id g k w None b m was c is = cc
 moves_open id g k w (Some a) None m was c is = cc
 moves_open id g k w (Some a) (Some b) m was c is =
-    let s = opened (stream_at id a) (was a refl) in
+    let s = open_stream (stream_at id a) (was a refl) in
     let t = m.stream s.0 s.1 in
     let same : b ≡ c = cc in
     subst (IsOpen id) same (open_of id b t.0 t.1 (t.2.state ∙ s.2))

@@ -40,7 +40,7 @@ IsGoodTaken r NoChain = ⊤
 IsGoodTaken r (Chain head pieces) = IsGood r pieces
 IsGoodTaken r (Failed failure) = ⊤
 
-choice : {X : Type 0} (P : X → Type 0) (b : Bool) (x y : X) → (b ≡ true → P x) → (b ≡ false → P y) → P (cond b x y)
+pub choice : {X : Type 0} (P : X → Type 0) (b : Bool) (x y : X) → (b ≡ true → P x) → (b ≡ false → P y) → P (cond b x y)
 choice P true x y here there = here refl
 choice P false x y here there = there refl
 

@@ -1,6 +1,7 @@
 use Rattle.std.proofs.Common.{◌≡◌, ◌≤◌, ◌&&◌, nat_le, true, Some, Contains, refl, sym, subst, arith}
 use Rattle.std.proofs.lemmas.Bool.Decides.{nat_tests}
 use Rattle.std.proofs.lemmas.Result.{on_ok_weaker}
+use Rattle.std.proofs.lemmas.Bool.{and_parts}
 use Rattle.vs_ring_port.specs.Chains.{chains_of, same_queue}
 use Rattle.vs_ring_port.specs.declared.queue.Queue.TheVariants.{Event}
 use Rattle.vs_ring_list.specs.Ends.{device_contents}
@@ -10,7 +11,7 @@ use Rattle.vs_world.specs.Events.{DevicePutsEvent, device_step}
 use Rattle.vs_world.specs.Pages.{is_held}
 use Rattle.vs_world.specs.Over.{device_after}
 use Rattle.vs_core.specs.Ready.{IsReady}
-use Rattle.vs_core.proofs.DeviceHappening.{both_true, held_of_queue, of_queue, where_did}
+use Rattle.vs_core.proofs.DeviceHappening.{held_of_queue, of_queue, where_did}
 use Rattle.vs_core.proofs.MayNow.{event_now}
 use Rattle.vs_core.proofs.world.World.device_puts_event.Goals as goal
 
@@ -18,7 +19,7 @@ abbrev held : goal.After-twin → Type 0
 held c = (same_queue Event c.args.chain.now.queue && is_held c.args.chain.now c.self.inside.rings.device.held) ≡ true
 
 tests : (c : goal.After-twin) → held c × (nat_le 4 c.args.chain.now.writable ≡ true)
-tests c = both_true (same_queue Event c.args.chain.now.queue && is_held c.args.chain.now c.self.inside.rings.device.held)
+tests c = and_parts (same_queue Event c.args.chain.now.queue && is_held c.args.chain.now c.self.inside.rings.device.held)
     (nat_le 4 c.args.chain.now.writable) (sym c.if-not-holds_event.ensures)
 
 pub put_event-requires-clause-is_held : goal.put_event-requires-clause-is_held
