@@ -3,6 +3,7 @@ use Rattle.std.proofs.Common.{◌≡◌, ℕ, suc, ◌+◌, ◌&&◌, Bool, true
 use Rattle.std.specs.Option.{ForSome}
 use Rattle.std.specs.List.{position, position_from}
 use Rattle.std.proofs.lemmas.Iterator.Adapters.{position_from-zero}
+use Rattle.std.proofs.lemmas.Bool.{and_parts}
 use Rattle.vs_outside.specs.Host.{HostContents}
 use Rattle.vs_ring_port.specs.Chains.{Held, chains_of, same_chain, same_queue}
 use Rattle.vs_ring_port.specs.declared.device_ring.Chain.{Chain}
@@ -28,7 +29,6 @@ use Rattle.vs_world.proofs.Flown.{LeavesDriver}
 use Rattle.vs_world.proofs.OverBoth.{IsPlayed}
 use Rattle.vs_world.proofs.StayOpen.{StayOpen, still_has}
 use Rattle.vs_core.specs.Ready.{Happens, IsReached, IsReady, IsServedAtWork, WorldState, shown, with_journal}
-use Rattle.vs_core.proofs.Driven.{both_are}
 use Rattle.vs_core.proofs.Happening.{happened, where_is}
 use Rattle.vs_core.proofs.Stepped.{driven_still, line_after, reset_played, step_after, step_serves, turn_after, turn_serves}
 
@@ -168,11 +168,11 @@ held_contains chain (h ∷ held) is = by (λ more. held_contains chain held more
 
 pub held_of_queue : (queue : Queue) (chain : Chain) (held : List Held) → (same_queue queue chain.queue && is_held chain held) ≡ true
     → Contains (chains_of held) chain
-held_of_queue queue chain held is = held_contains chain held (both_are (same_queue queue chain.queue) (is_held chain held) is).1
+held_of_queue queue chain held is = held_contains chain held (and_parts (same_queue queue chain.queue) (is_held chain held) is).1
 
 pub of_queue : (queue : Queue) (chain : Chain) (held : List Held) → (same_queue queue chain.queue && is_held chain held) ≡ true
     → chain.queue ≡ queue
-of_queue queue chain held is = sym (same_queue_is queue chain.queue (both_are (same_queue queue chain.queue) (is_held chain held) is).0)
+of_queue queue chain held is = sym (same_queue_is queue chain.queue (and_parts (same_queue queue chain.queue) (is_held chain held) is).0)
 
 -- So is another that is the same.
 pub same_held : (queue : Queue) (x chain : Chain) (held : List Held) → x ≡ chain → (same_queue queue chain.queue && is_held chain held) ≡ true

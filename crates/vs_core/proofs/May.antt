@@ -1,12 +1,15 @@
 -- Each single step of the device and of the proxy may be made in a world that events lead to.
 use Rattle.std.proofs.Common.{◌≡◌, ℕ, nat_le, true, Option, Some, unwrap_or, refl, ap, subst, arith}
+use Rattle.std.proofs.Common.{◌≡◌, ℕ, nat_le, true, Option, Some, unwrap_or, refl, sym, ap, subst, arith}
 use Rattle.std.proofs.lemmas.Bool.Decides.{nat_tests}
+use Rattle.std.proofs.lemmas.Bool.{and_parts}
 use Rattle.vs_outside.specs.Host.{HostContents}
 use Rattle.vs_ring_port.specs.Chains.{chains_of, same_queue}
 use Rattle.vs_ring_port.specs.declared.device_ring.Chain.{Chain}
 use Rattle.vs_ring_port.specs.declared.queue.Queue.{Queue}
 use Rattle.vs_ring_port.specs.declared.queue.Queue.TheVariants.{Event}
 use Rattle.vs_ring_list.specs.Ends.{device_contents}
+use Rattle.vs_ring_list.proofs.Held.{same_queue_is}
 use Rattle.vs_device_parts.specs.Calls.{Situation, Allows}
 use Rattle.vs_device_parts.specs.Playing.{CanMake, IsAmong, MayRun, situation}
 use Rattle.vs_device_parts.specs.Steps.{puts_event, puts_owed, puts_payload, puts_reply, shuts_write, takes_chain, writes}
@@ -25,9 +28,7 @@ use Rattle.vs_world.specs.Events.{holds}
 use Rattle.vs_world.specs.Pages.{is_held}
 use Rattle.vs_world.specs.Sides.{both_of}
 use Rattle.vs_world.specs.World.{World, first_cid}
-use Rattle.vs_world.proofs.DeviceTurns.{queue_is}
 use Rattle.vs_world.proofs.Sound.{IsWell}
-use Rattle.vs_core.proofs.Driven.{both_are}
 use Rattle.vs_core.proofs.Puts.{puts_event_may, puts_owed_may, puts_payload_may, puts_reply_may}
 use Rattle.vs_core.proofs.Reaches.{shuts_may, takes_may, times_out_may, writes_may}
 
@@ -69,8 +70,8 @@ module _ (w : World) (n : ℕ) (has : HasStreams (streams_of w.proxy) w.proxy.de
   pub may_event : (chain : Chain) → holds Event chain w ≡ true → nat_le 4 chain.writable ≡ true
       → MayRun (puts_event chain w.proxy.device) (here w n)
   may_event chain is room =
-      let queue = queue_is Event chain.queue (both_are (same_queue Event chain.queue) (is_held chain w.rings.device.held) is).0 in
-      let held = (both_are (same_queue Event chain.queue) (is_held chain w.rings.device.held) is).1 in
+      let queue = sym (same_queue_is Event chain.queue (and_parts (same_queue Event chain.queue) (is_held chain w.rings.device.held) is).0) in
+      let held = (and_parts (same_queue Event chain.queue) (is_held chain w.rings.device.held) is).1 in
       may_where (puts_event chain w.proxy.device) (here w n)
       (keeps_may CanReach Allows _ (puts_event chain w.proxy.device) (here w n)
       (puts_event_keeps (streams_of w.proxy) chain w.proxy.device (here w n) finds))

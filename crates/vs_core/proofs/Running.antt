@@ -24,10 +24,6 @@ rest_from events place e within at =
 abbrev pub IsLed : List program.Event → ℕ → WorldState → World → Type 0
 IsLed events place s w = shown (run (drop place (events_of events)) (with_journal [] s)) ≡ shown (run (events_of events) w)
 
-pub led_first : (events : List program.Event) (s : WorldState) (w : World) → s ≡ shown w → IsLed events 0 s w
-led_first events s w is =
-    ap (λ (x : WorldState). shown (run (events_of events) (with_journal [] x))) is ∙ sym (run_blind (events_of events) w)
-
 pub led_next : (events : List program.Event) (place : ℕ) (e : program.Event) (s t : WorldState) (w : World) → place < length events
     → e ≡ get_or events place e → IsLed events place s w → t ≡ shown (happens (event_view e) (with_journal [] s)) → IsLed events (place + 1) t w
 led_next events place e s t w within at led is =

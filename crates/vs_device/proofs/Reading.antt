@@ -185,10 +185,6 @@ module _ (slot : ℕ) (r : Filling) (going : r.over ≡ false) where
   served q p c m t on first rest =
       leads_of Allows _ _ c t p served_is (leads_bind Allows (read_slot slot r) (then_owed slot) c m t q p first (leads_of Allows _ _ m t p (ap (owed_on slot q) on) rest))
 
-  pub served_over : (q : Filling) (c m : Situation) → q.over ≡ true → Runs (read_slot slot r) c q m → Runs (serve_slot slot r) c q m
-  served_over q c m over first =
-      leads_of Allows _ _ c m q served_is (leads_bind Allows (read_slot slot r) (then_owed slot) c m m q q first (leads_of Allows _ _ m m q (ap (owed_on slot q) over) (refl, refl)))
-
 pub if_some : {X : Type 0} (o : Option X) (x : X) (P : X → Type 0) → o ≡ Some x → P x → IfSome o P
 if_some {X = X} o x P is holds = let Q : Option X → Type 0 = λ p. IfSome p P in subst Q (sym is) holds
 

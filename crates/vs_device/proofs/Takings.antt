@@ -32,7 +32,7 @@ use Rattle.vs_device_parts.specs.State.{DeviceEntry, DeviceState}
 use Rattle.vs_device_parts.specs.Playing.{CanMake, MayRun, Runs}
 use Rattle.vs_device_parts.specs.Steps.{heard_chain, heard_header}
 use Rattle.vs_device_parts.specs.Taking.{is_not_for_host, known_packet}
-use Rattle.vs_device_parts.specs.Transmitting.{dial_answered, failing, on_next, on_packet, on_unknown, take_tx_of, try_request}
+use Rattle.vs_device_parts.specs.Transmitting.{dial_answered, failing, on_next, on_packet, take_tx_of, try_request}
 
 -- the newest of the chains that are held
 same_queue_refl : (q : Queue) → same_queue q q ≡ true
@@ -68,18 +68,12 @@ module _ (chain : Chain) (h : Header) (s : DeviceState) (ours : is_not_for_host 
   by_entry : (e : DeviceEntry) → entry_of s.table (flow_to_host h) ≡ Some e → on_packet chain h s ≡ known_packet chain h e s
   by_entry e found = rw (ours, found, on_packet) refl
 
-  by_none : entry_of s.table (flow_to_host h) ≡ None → on_packet chain h s ≡ on_unknown h s
-  by_none none = rw (ours, none, on_packet) refl
-
   pub may_be_known : (e : DeviceEntry) (x : Situation) → entry_of s.table (flow_to_host h) ≡ Some e → MayRun (on_packet chain h s) x → MayRun (known_packet chain h e s) x
   may_be_known e x found may = may_of CanMake Allows _ _ x (by_entry e found) may
 
   pub was_known : (e : DeviceEntry) (r : DeviceState × Verdict) (x y : Situation) → entry_of s.table (flow_to_host h) ≡ Some e → Runs (known_packet chain h e s) x r y
       → Runs (on_packet chain h s) x r y
   was_known e r x y found runs = leads_of Allows _ _ x y r (by_entry e found) runs
-
-  pub was_unknown : (r : DeviceState × Verdict) (x y : Situation) → entry_of s.table (flow_to_host h) ≡ None → Runs (on_unknown h s) x r y → Runs (on_packet chain h s) x r y
-  was_unknown r x y none runs = leads_of Allows _ _ x y r (by_none none) runs
 
 -- a packet of which the chain holds all, and one that says more
 module _ (chain : Chain) (h : Header) (s : DeviceState) where

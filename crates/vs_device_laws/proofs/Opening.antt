@@ -26,7 +26,7 @@ use Rattle.vs_device_laws.proofs.Tables.{stream_changed, stream_closed_under, va
 use Rattle.vs_device_laws.proofs.Writing.{all_stay}
 
 -- No connection, no stream.
-empty_sound : (room given : ℕ) → given ≤ 2 ^ 64 → IsTable {T = DeviceConnection} (record { room = room; entries = []; given = given })
+pub empty_sound : (room given : ℕ) → given ≤ 2 ^ 64 → IsTable {T = DeviceConnection} (record { room = room; entries = []; given = given })
 empty_sound room given left = record {
   within = omega arith;
   rising = λ i j d lt within. absurd (omega arith);

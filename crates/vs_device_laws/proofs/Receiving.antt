@@ -54,7 +54,7 @@ keeps_put_on chain h payload r c =
     (λ a. Done (record r { state = record r.state { chain = None }; put = r.put + 1 })) c
     (keeps_written chain h payload c) (λ a d same. (same, refl))
 
-holding_table : (answer : Next) (r : Filling) → (holding answer r).state.table ≡ r.state.table
+pub holding_table : (answer : Next) (r : Filling) → (holding answer r).state.table ≡ r.state.table
 holding_table (next.Chain chain) r = refl
 holding_table next.None r = refl
 holding_table (next.Failed f) r = refl

@@ -39,10 +39,10 @@ Changes port s t = ChangesTo port s.cid s.overrun s.table s.replies t.cid t.over
 abbrev pub FollowsAs : ConnectionEnd → ConnectionEnd → Type 0
 FollowsAs old new = (side : Side) (h : History) → Follows side (puts h) (gots h) old → Follows side (puts h) (gots h) new
 
-shut_old : (e : ConnectionEnd) (bits : ℕ) → is_new e ≡ false → is_new (with_shut e bits) ≡ false
+pub shut_old : (e : ConnectionEnd) (bits : ℕ) → is_new e ≡ false → is_new (with_shut e bits) ≡ false
 shut_old e bits is = grind (arith, common_steps, is)
 
-forward_old : (e : ConnectionEnd) (n : ℕ) → is_new e ≡ false → is_new (with_payload_forwarded e n) ≡ false
+pub forward_old : (e : ConnectionEnd) (n : ℕ) → is_new e ≡ false → is_new (with_payload_forwarded e n) ≡ false
 forward_old e n is = grind (arith, common_steps, is)
 
 -- A flow's end in place of itself.
@@ -56,7 +56,7 @@ none_replaced f e (y ∷ ys) none = at (same_flow f y.flow) refl none (none_repl
     at true same empty rest = absurd cc
     at false same empty rest = rw same (ap (λ (zs : List FlowEnd). y ∷ zs) (rest empty))
 
-same_replaced : (f : Flow) (e : ConnectionEnd) (xs : List FlowEnd) → ends_of f xs ≡ e ∷ [] → replaced f e xs ≡ xs
+pub same_replaced : (f : Flow) (e : ConnectionEnd) (xs : List FlowEnd) → ends_of f xs ≡ e ∷ [] → replaced f e xs ≡ xs
 same_replaced f e [] is = refl
 same_replaced f e (x ∷ xs) is = by (same_flow f x.flow) refl is (same_replaced f e xs)
   where

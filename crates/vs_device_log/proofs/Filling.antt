@@ -213,9 +213,6 @@ module _ (first port : ℕ) where
     old : is_new e.value.end ≡ false
     old = live_old e.value.end may
 
-    within : Chain → ℕ
-    within chain = read_room (free_of e.value.end.credit) chain
-
     module _ (chain : Chain) (going : r.state.failed ≡ None) (over : r.over ≡ false) where
       abbrev chained : Filling
       chained = record r { state = record r.state { chain = Some chain } }

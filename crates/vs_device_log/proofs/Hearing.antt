@@ -47,14 +47,14 @@ use Rattle.vs_device_log.proofs.Tabling.{IsFitConnection, begun_fits, entry_fits
 use Rattle.vs_device_log.proofs.Taking.{drops_it, has_its_room, ignores_it, leaves_with, opens, replies_to, stays_with}
 
 -- A packet ends a connection where it is an RST of a stream.
-abbrev peer_resets : Verdict → Header → Bool
+abbrev pub peer_resets : Verdict → Header → Bool
 peer_resets verdict.Peer h = is_reset h
 peer_resets _ h = false
 
-rst_leaves : (e : ConnectionEnd) (h : Header) → peer_resets (verdict_of e h) h ≡ (is_reset h && is_stream h)
+pub rst_leaves : (e : ConnectionEnd) (h : Header) → peer_resets (verdict_of e h) h ≡ (is_reset h && is_stream h)
 rst_leaves e h = grind (arith, common_steps)
 
-still_new : (e : ConnectionEnd) (h : Header) → is_new (end_after e h) ≡ true → is_new e ≡ true
+pub still_new : (e : ConnectionEnd) (h : Header) → is_new (end_after e h) ≡ true → is_new e ≡ true
 still_new e h = grind (arith, common_steps)
 
 accept_old : (e : ConnectionEnd) (h : Header) → verdict_of e h ≡ verdict.Accept → is_new (end_after e h) ≡ false

@@ -29,6 +29,7 @@ use Rattle.vs_device_parts.specs.Receiving.{event_on, written}
 use Rattle.vs_device_parts.specs.State.{DeviceState}
 use Rattle.vs_device_log.specs.Packets.{HasAdded, HasTaken, HoldsLast, IsWholeAs, packet_with}
 use Rattle.vs_device_log.proofs.Ringing.{both_written, bytes_held, one_written, returned_entries, returned_held, written_held}
+use Rattle.vs_device_log.proofs.Transmitting.{some_test}
 
 -- What a call does to the log, between the logs before and after it.
 related : (call : DeviceCall) (a : DeviceAnswer call) (L : Rings → Type 0) (f : Rings → Rings) (R : EndLog → Type 0) (g : EndLog → EndLog)
@@ -156,10 +157,6 @@ parts_by : (h : Header) (p : Packet) (o : Option (List ℕ)) → option_map (pac
 parts_by h p None is = absurd cc
 parts_by h p (Some payload) is =
     let same : packet_with h payload ≡ p = cc in (sym (ap (λ (q : Packet). q.header) same), ap (λ (q : Packet). Some q.payload) same)
-
-some_test : {A : Type 0} (b : Bool) (o : Option A) (x : A) → cond b o None ≡ Some x → o ≡ Some x
-some_test true o x is = is
-some_test false o x is = absurd cc
 
 pub heard_there : (page : List ℕ) (p : Packet) → packet_held page ≡ Some p
     → (p.header ≡ header_of (take HEADER_LEN page)) × (is_rw p ≡ true → p.payload ≡ take p.header.len (drop HEADER_LEN page))

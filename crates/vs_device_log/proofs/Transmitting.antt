@@ -42,7 +42,7 @@ use Rattle.vs_device_log.proofs.Keeping.{Keeps, keeps_then}
 use Rattle.vs_device_log.proofs.Ringing.{HoldsFirst, Tells, bytes_held, first_there, moves, returned_entries, returned_held, tells_weaker}
 
 -- The packet that a page holds has the page's header, and a page with a header holds a packet unless its len is above what follows.
-some_test : {A : Type 0} (b : Bool) (o : Option A) (x : A) → cond b o None ≡ Some x → o ≡ Some x
+pub some_test : {A : Type 0} (b : Bool) (o : Option A) (x : A) → cond b o None ≡ Some x → o ≡ Some x
 some_test true o x is = is
 some_test false o x is = absurd cc
 
@@ -52,7 +52,7 @@ header_by h p None is = absurd cc
 header_by h p (Some payload) is = let same : ◌≡◌ {A = Packet} record { header = h; payload = payload } p = cc in sym
     (ap (λ (q : Packet). q.header) same)
 
-header_is : (page : List ℕ) (p : Packet) → packet_held page ≡ Some p → p.header ≡ header_of (take HEADER_LEN page)
+pub header_is : (page : List ℕ) (p : Packet) → packet_held page ≡ Some p → p.header ≡ header_of (take HEADER_LEN page)
 header_is page p held =
     header_by (header_of (take HEADER_LEN page)) p (payload_held (header_of (take HEADER_LEN page)) (drop HEADER_LEN page))
     (some_test (nat_le HEADER_LEN (length page)) (packet_with (header_of (take HEADER_LEN page)) (drop HEADER_LEN page)) p held)

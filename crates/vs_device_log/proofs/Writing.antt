@@ -52,9 +52,6 @@ module _ (first port : ℕ) (s : DeviceState) where
   module _ (t : DeviceState) (h : Header) (payload : List ℕ) (puts : IsFitState s → Puts port s h payload t) (chain : Chain)
       (rx : chain.queue ≡ Rx)
       (bytes : List ℕ) (len : ℕ) (page_is : take len bytes ≡ header_bytes h ++ payload) where
-    packet : Packet
-    packet = record { header = h; payload = payload }
-
     entries_are : (l : EndLog) (p : AgreesWith first port s l) → entries_returned Rx (take len bytes) l.entries ≡ PutPacket
         (record { header = h; payload = payload }) ∷ l.entries
     entries_are l p =

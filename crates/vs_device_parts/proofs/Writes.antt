@@ -10,10 +10,6 @@ use Rattle.vs_device_parts.specs.Playing.{CanMake, MayRun, Runs}
 use Rattle.vs_device_parts.specs.Receiving.{written}
 
 module _ (chain : Chain) (h : Header) where
-  pub may_write_header : (payload : List ℕ) (c : Situation) → MayRun (written chain h payload) c → CanMake (Ring (Write chain 0 (header_bytes h))) c
-  may_write_header [] c may = may.0
-  may_write_header (x ∷ xs) c may = may.0
-
   pub may_return_header : (payload : List ℕ) (c m : Situation) → length payload ≡ 0 → MayRun (written chain h payload) c
       → Allows (Ring (Write chain 0 (header_bytes h))) tt c m → CanMake (Ring (Return chain HEADER_LEN)) m
   may_return_header [] c m none may one = (may.1 tt m one).0

@@ -199,18 +199,6 @@ module _ (size port id : ℕ) (port_fits : port ≤ LAST_PORT) where
         (keeps_weaker IsMade (λ t d. Keeps IsMade (publish_of queue t) d) publish_made (posts queue s) c
         (keeps_while IsMade (post_one queue) post_one_made s.size s c is))
 
-  none_stands : IsFitState made → (cid : ℕ) → cid < 2 ^ 64 → IsFitState (record made { cid = cid })
-  none_stands fits cid less = record {
-    cid_fits = less;
-    port_left = fits.port_left;
-    sound = fits.sound;
-    places = fits.places;
-    given = fits.given;
-    entries = fits.entries;
-    ports = fits.ports;
-    owed = fits.owed;
-  }
-
   empty_table : IsTable made.table
   empty_table = record {
     within = omega arith;

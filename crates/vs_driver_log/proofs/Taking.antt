@@ -2,6 +2,7 @@
 use Rattle.std.proofs.Common.{◌≡◌, ℕ, ◌<◌, ◌≤◌, ◌&&◌, nat_le, Bool, true, false, cond, not, List, [], ◌∷◌, ◌++◌, Option, Some, None, refl, sym, ap, subst, ◌∙◌, arith, rules}
 use Rattle.std.proofs.lemmas.Bool.Decides.{nat_tests}
 use Rattle.std.proofs.lemmas.List.Elements.{All-push}
+use Rattle.std.proofs.lemmas.Bool.{and_parts}
 use Rattle.vs_conn.specs.End.{ConnectionEnd, answering, end_after, is_refused, is_reset, is_stream, verdict_of}
 use Rattle.vs_conn.specs.Follows.{IsSpace}
 use Rattle.vs_conn.specs.declared.end.Verdict.{Verdict}
@@ -145,10 +146,6 @@ open_by f s true true false false av cv dv is = absurd cc
 answering_held : (h : Header) (id : ℕ) → IsHeldBy (record { id = id; end = answering BUF_ALLOC h; unread = []; unanswered = true; closed = false })
 answering_held h id = record { unread = refl; fits = omega arith; space = omega arith; least = omega arith; alloc = omega arith; rx_cnt = omega arith; fwd_cnt = omega arith }
 
-both : (a b : Bool) → (a && b) ≡ true → (a ≡ true) × (b ≡ true)
-both true b is = (refl, is)
-both false b is = absurd cc
-
 module _ (first : ℕ) (p : Packet) (s : DriverState) (log : Log) (fits : IsFitState s) (none : entry_of s.table (flow_to_guest p.header) ≡ None)
     (ports : FitsPorts p.header) (m : Matches Driver first (ends_of_state s) log) (fair : IsFairLog Driver (GotPacket p ∷ log)) where
   no_end : HasNone (flow_got Driver p) (ends_of_state s)
@@ -178,7 +175,7 @@ module _ (first : ℕ) (p : Packet) (s : DriverState) (log : Log) (fits : IsFitS
       let c : DriverConnection = record { id = s.next_id; end = answering BUF_ALLOC p.header; unread = []; unanswered = true; closed = false } in
       let free : IsAccepted s.table f = record { absent = none; place = omega (arith, room.place, fits.places); slot = omega (arith, fits.given, room.id) } in
       let space : IsSpace BUF_ALLOC = (omega arith, omega arith) in
-      let request : packets.is_request p ≡ true = (both (is_stream p.header) (packets.is_request p) asks).1 in
+      let request : packets.is_request p ≡ true = (and_parts (is_stream p.header) (packets.is_request p) asks).1 in
       let ends : ends_of_state (with_request f p.header s) ≡ accepted f BUF_ALLOC p.header (ends_of_state s) =
       ap (λ (es : List FlowEnd). let part : Ends = record (ends_of_state s) { entries = es } in part) (added_slot end_in s.table f c) in
       record {

@@ -54,9 +54,6 @@ left_by false e c s =
     ap (λ (t : Table DriverConnection). record s { table = t; gone = cond (is_let_go e.value) s.gone (s.gone ++ gone_as e ∷ []) }) (without_changed s.table e.slot c)
 
 module _ (p : Packet) (e : DriverEntry) (s : DriverState) (slot : ℕ) (at : e.slot ≡ slot) where
-  changed : Verdict → DriverEntry
-  changed v = with_its e (after_packet v p e.value)
-
   pub refused : (v : Verdict) (m new : DriverState) → is_refused v ≡ true → m ≡ with_connection slot (after_packet v p e.value) s
       → new ≡ leaves_list (with_its e (after_packet v p e.value)) (record m { broken = counted m.broken }) → new ≡ after_verdict v p e s
   refused (verdict.Rst why) m new true_is mid is =

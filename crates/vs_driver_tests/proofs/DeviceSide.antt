@@ -2,7 +2,7 @@
 use Rattle.std.proofs.Common.{◌≡◌, ℕ, zero, suc, ◌+◌, List, [], ◌∷◌, ◌++◌, length, take, drop, Option, Some, Contains, refl, sym, ap, subst, ◌∙◌, append-nil}
 use Rattle.std.proofs.Math.Seq.{take-length}
 use Rattle.vs_ring_port.specs.Chains.{bytes_in, chains_of}
-use Rattle.vs_ring_port.specs.Contents.{Take, Read, Write, Return}
+use Rattle.vs_ring_port.specs.Contents.{Take, Write, Return}
 use Rattle.vs_ring_port.specs.Counts.{Counts}
 use Rattle.vs_ring_port.specs.DeviceCalls.{DeviceAllows}
 use Rattle.vs_ring_port.specs.EndLog.{EndLog, log_returned, log_taken, log_written, with_packet}
@@ -72,14 +72,6 @@ take_same queue chain v w allows = record {
   size = ap (λ (x : Ends). x.lists.size) (is_taken queue chain v w allows) ∙ size_taken queue v;
   flight = flight_taken queue (queue_of queue v.lists).given chain v w refl allows;
 }
-
--- bytes are read
-pub read_same : (chain : Chain) (place count : ℕ) (bytes : List ℕ) (v w : Ends)
-    → DeviceAllows (Read chain place count) bytes (device_contents v) (device_contents w) → SameForDriver v w
-read_same chain place count bytes v w allows =
-    let d = device_determined (Read chain place count) bytes v w allows in
-    let is : w ≡ v = same_ends w v (sym (ap (λ x. x.1.0) d.0)) d.1 (sym (ap (λ x. x.1.1) d.0)) in
-    record { driver = d.1; size = ap (λ (x : Ends). x.lists.size) is; flight = ap flight_of is }
 
 -- bytes are written
 pub write_same : (chain : Chain) (place : ℕ) (bytes : List ℕ) (v w : Ends)

@@ -9,6 +9,8 @@ use Rattle.vs_device_laws.specs.Streams.{HasStreams}
 use Rattle.vs_proxy_parts.specs.Handshakes.{streams_of}
 use Rattle.vs_proxy_parts.specs.State.{ProxyState}
 use Rattle.vs_script.specs.Outside.{Host}
+use Rattle.std.proofs.Common.{◌≡◌, ℕ, Bool, true, false, cond, List, ◌++◌, refl, sym, ap, subst, ◌∙◌}
+use Rattle.vs_device_parts.specs.State.{DeviceState}
 use Rattle.vs_script.specs.Data.{bytes_of}
 use Rattle.byteorder.specs.Endian.{little_bytes}
 use Rattle.vs_header.specs.Packet.{header_bytes}

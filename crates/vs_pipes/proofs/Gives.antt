@@ -1,8 +1,8 @@
 -- What the end of a device's connection does to the payload that its stream is given.
-use Rattle.std.proofs.Common.{◌≡◌, ℕ, Bool, true, false, cond, List, [], ◌∷◌, ◌++◌, Contains, Some, refl, sym, ap, subst, ◌∙◌, append_assoc, arith}
+use Rattle.std.proofs.Common.{◌≡◌, ℕ, zero, suc, ◌-◌, ◌≤◌, Bool, true, false, cond, List, [], ◌∷◌, ◌++◌, length, take, drop, Contains, Some, refl, sym, ap, subst, ◌∙◌, append_assoc, arith}
 use Rattle.std.proofs.lemmas.Bool.Decides.{nat_tests}
 use Rattle.std.proofs.lemmas.Grind.{common_steps}
-use Rattle.std.proofs.lemmas.List.{append-nil}
+use Rattle.std.proofs.lemmas.List.{append-nil, length-take, take-take}
 use Rattle.vs_conn.specs.End.{ConnectionEnd, end_after, owes_of, paid_of, verdict_of, with_payload_forwarded, with_shut}
 use Rattle.vs_conn.specs.declared.end.Owed.{Owed}
 use Rattle.vs_conn.specs.declared.end.Owed.TheVariants as owed
@@ -162,3 +162,15 @@ kept_empty false bytes is = is
 pub comes_behind : (b d : Bool) (line pending more : List ℕ) → b ≡ true → Goes b d (line ++ pending) (line ++ (pending ++ more)) [] more
 comes_behind b d line pending more is =
     subst (λ (bytes : List ℕ). Goes b d (line ++ pending) bytes [] more) (append_assoc line pending more) (comes_in b d (line ++ pending) more is)
+
+-- A stream takes the first of the bytes that it is offered.
+pub drop_both : (n : ℕ) (xs ys : List ℕ) → drop n (xs ++ ys) ≡ drop n xs ++ drop (n - length xs) ys
+drop_both zero [] ys = refl
+drop_both (suc n) [] ys = let same : suc n ≡ suc n - 0 = omega arith in ap (λ (k : ℕ). drop k ys) same
+drop_both zero (x ∷ xs) ys = let same : 0 ≡ 0 - suc (length xs) = omega arith in ap (λ (k : ℕ). x ∷ xs ++ drop k ys) same
+drop_both (suc n) (x ∷ xs) ys =
+    let same : n - length xs ≡ suc n - suc (length xs) = omega arith in
+    drop_both n xs ys ∙ ap (λ (k : ℕ). drop n xs ++ drop k ys) same
+
+pub first_of : (n : ℕ) (all : List ℕ) → n ≤ length (take 4096 all) → take n (take 4096 all) ≡ take n all
+first_of n all less = take-take n 4096 all (omega (arith, less, length-take 4096 all))

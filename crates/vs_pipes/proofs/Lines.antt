@@ -12,9 +12,6 @@ abbrev pub rest_of : List ℕ → List ℕ
 rest_of [] = []
 rest_of (x ∷ xs) = cond (x == 10) xs (rest_of xs)
 
-no_end : ℕ → Bool
-no_end b = not (b == 10)
-
 abbrev cut : ℕ → List ℕ → List ℕ
 cut n xs = option_map_or (λ place. drop (place + 1) xs) (cond (nat_lt n (length xs)) (Some n) None) []
 

@@ -58,7 +58,7 @@ put_by false p h = refl
 pub got_after_put : (role : Role) (p : Packet) (log : Log) (f : Flow) → got_on role f (PutPacket p ∷ log) ≡ got_on role f log
 got_after_put role p log f = put_by (same_flow f (flow_put role p)) p (history_of role f log)
 
-put_more_by : (b : Bool) (p : Packet) (h : History) → payload_of (puts (cond b (Put p ∷ h) h)) ≡ payload_of (puts h) ++ cond b p.payload []
+pub put_more_by : (b : Bool) (p : Packet) (h : History) → payload_of (puts (cond b (Put p ∷ h) h)) ≡ payload_of (puts h) ++ cond b p.payload []
 put_more_by true p h = refl
 put_more_by false p h = nothing_more (payload_of (puts h))
 

@@ -238,15 +238,15 @@ module _ (c : HostContents) (log : Log) (port : ℕ) (t : Table DeviceConnection
       }))
 
 -- DIAL: a connection opens with a new stream.
-get_end : (xs : List Stream) (y : Stream) → slice_get (xs ++ y ∷ []) (length xs) ≡ Some y
+pub get_end : (xs : List Stream) (y : Stream) → slice_get (xs ++ y ∷ []) (length xs) ≡ Some y
 get_end [] y = refl
 get_end (x ∷ xs) y = get_end xs y
 
-get_past : (xs : List Stream) → slice_get xs (length xs) ≡ None
+pub get_past : (xs : List Stream) → slice_get xs (length xs) ≡ None
 get_past [] = refl
 get_past (x ∷ xs) = get_past xs
 
-get_other : (xs : List Stream) (y : Stream) (k : ℕ) → k ≢ length xs → slice_get (xs ++ y ∷ []) k ≡ slice_get xs k
+pub get_other : (xs : List Stream) (y : Stream) (k : ℕ) → k ≢ length xs → slice_get (xs ++ y ∷ []) k ≡ slice_get xs k
 get_other [] y zero other = absurd (other refl)
 get_other [] y (suc k) other = refl
 get_other (x ∷ xs) y zero other = refl

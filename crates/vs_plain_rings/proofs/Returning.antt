@@ -1,5 +1,5 @@
 -- A chain that the device returns is the page that the driver gets back.
-use Rattle.std.proofs.Common.{inr, ◌≡◌, ◌⊎◌, ℕ, ◌+◌, ◌*◌, ◌%◌, ◌^◌, ◌<◌, ◌≤◌, Bool, false, cond, List, length, Option, None, Some, refl, sym, ap, ap₂, ◌∙◌, subst, arith}
+use Rattle.std.proofs.Common.{inr, ◌≡◌, ◌⊎◌, ℕ, ◌+◌, ◌*◌, ◌%◌, ◌^◌, ◌<◌, ◌≤◌, Bool, false, cond, List, length, Option, None, Some, refl, sym, ap, ◌∙◌, subst, arith}
 use Rattle.std.specs.Prelude.{◌==◌, ◌||◌, nat_le, min, slice_index_or}
 use Rattle.std.proofs.lemmas.Bool.Decides.{nat_tests}
 use Rattle.std.proofs.lemmas.Nat.{mod_below}
@@ -16,12 +16,8 @@ use Rattle.vs_ring_port.specs.declared.queue.Queue.{Queue}
 use Rattle.vs_plain_driver.specs.Queue.{DriverQueueState, flight_in, next_elem, next_used, numbered, page_back, reaped_page}
 use Rattle.vs_plain_rings.specs.Posting.{CanReap, returned, ring_of}
 use Rattle.vs_plain_ties.proofs.Frames.{inner, kept, length_written, written}
-
--- an element's bytes hold it
-elem_back : (e : UsedElem) → e.id < 2 ^ 32 → e.len < 2 ^ 32 → used_elem_of (used_elem_bytes e) ≡ e
-elem_back e id len =
-    ap₂ (λ a b. let x : UsedElem = record { id = a; len = b } in x) (little_number-little_bytes 4 e.id (omega (arith, id)))
-    (little_number-little_bytes 4 e.len (omega (arith, len)))
+use Rattle.vs_plain_ties.proofs.Encoded.{elem_back}
+use Rattle.vs_plain_ties.proofs.Reaping.{or_false}
 
 -- the next index is another one
 index_moves : (used : ℕ) → used < 2 ^ 16 → ((used + 1) % 2 ^ 16 == used) ≡ false
@@ -111,9 +107,6 @@ module _ (q : DriverQueueState) (at head len base accesses : ℕ) (bytes : List 
 
   choice : (b : Bool) (x y : Option (ℕ × List ℕ)) → b ≡ false → cond b x y ≡ y
   choice b x y off = rw off refl
-
-  or_false : (a b c : Bool) → a ≡ false → b ≡ false → c ≡ false → (a || b || c) ≡ false
-  or_false a b c fa fb fc = rw (fa, fb, fc) refl
 
   no : ((q.staged == flight_in q) || (little_number 2 (bytes_at m3 I 2) == q.reaped) || nat_le q.n (next_elem areas q m3).id) ≡ false
   no = or_false _ _ _ can.published

@@ -59,13 +59,6 @@ module _ (p : PartsState) (h : History) (now : BothEnds) (is : (let x : BothEnds
       tied_as (ByDriver (Stage queue page)) (staged_parts queue page p) q new parts (same_device queue _ _) calls
       (told.told_staged p queue page ends tied fits header less)
 
-  pub allows_staged : (queue : Queue) (page : List ℕ) (q : PartsState) (new : History) → q ≡ staged_parts queue page p
-      → new ≡ then h (ByDriver (Stage queue page))
-      → DriverAllows (Stage queue page) tt (driver_contents now) (driver_told (ends_by q.device.size new))
-  allows_staged queue page q new parts calls =
-      driver_as (ByDriver (Stage queue page)) (λ x y. DriverAllows (Stage queue page) tt (driver_told x) (driver_told y)) q.device.size new
-      (ap (λ (x : PartsState). x.device.size) parts ∙ same_device queue _ _) calls (told.allows_staged p queue page ends tied)
-
   -- those staged are published
   pub tied_published : (queue : Queue) (q : PartsState) (new : History) → q ≡ published_parts queue p
       → new ≡ then h (ByDriver (Publish queue))

@@ -169,7 +169,7 @@ heads_without c (h ∷ held) hold is j = by (λ e. heads_without c held hold e j
       more (rest e),
     )
 
-heads_length : (q : Queue) (h : HeldChain) (held : List HeldChain)
+pub heads_length : (q : Queue) (h : HeldChain) (held : List HeldChain)
     → length (heads_of q (h ∷ held)) ≡ cond (same_queue q h.chain.queue) 1 0 + length (heads_of q held)
 heads_length q h held = by (same_queue q h.chain.queue)
   where

@@ -16,7 +16,7 @@ use Rattle.vs_plain_ties.proofs.Modulo.{apart, wraps_further}
 use Rattle.vs_plain_ties.proofs.Rows.{IsSameAt, back_kept, back_length, out_kept, out_length, out_push}
 use Rattle.vs_plain_ties.proofs.Spots.{AvailIdx, Describing, Entry, PageOf, Untouched}
 
-push_length : {A : Type 0} (xs : List A) (x : A) → length (xs ++ x ∷ []) ≡ length xs + 1
+pub push_length : {A : Type 0} (xs : List A) (x : A) → length (xs ++ x ∷ []) ≡ length xs + 1
 push_length xs x = length-append xs (x ∷ [])
 
 module _ (queue : Queue) (n at : ℕ) (nonzero : 0 < n) (limit : n ≤ 32768) (divides : 2 ^ 16 % n

@@ -25,14 +25,12 @@ use Rattle.vs_plain_ties.proofs.QueueReturns.{id_has, row, tie_reaped}
 use Rattle.vs_plain_ties.proofs.QueueSteps.{out_count}
 use Rattle.vs_plain_ties.proofs.Rows.{back_length}
 use Rattle.vs_plain_ties.proofs.Spots.{untouched_none}
-
-chosen : {A : Type 0} (b : Bool) (x y : A) → b ≡ false → cond b x y ≡ y
-chosen b x y off = rw off refl
+use Rattle.vs_plain_ties.proofs.Taking.{chosen}
 
 first_of : {A : Type 0} (b : Bool) (x y : A) → b ≡ true → cond b x y ≡ x
 first_of b x y on = rw on refl
 
-or_false : (a b c : Bool) → a ≡ false → b ≡ false → c ≡ false → (a || b || c) ≡ false
+pub or_false : (a b c : Bool) → a ≡ false → b ≡ false → c ≡ false → (a || b || c) ≡ false
 or_false a b c fa fb fc = rw (fa, fb, fc) refl
 
 or_second : (a b c : Bool) → b ≡ true → (a || b || c) ≡ true

@@ -35,7 +35,7 @@ use Rattle.vs_plain_ties.proofs.Queues.{turned}
 use Rattle.vs_plain_ties.proofs.Quiet.{IsQuietly, held_seen, quiet_step, quietly_after, quietly_now, seen}
 use Rattle.vs_plain_ties.proofs.Spots.{untouched_same}
 
-chosen : {A : Type 0} (b : Bool) (x y : A) → b ≡ false → cond b x y ≡ y
+pub chosen : {A : Type 0} (b : Bool) (x y : A) → b ≡ false → cond b x y ≡ y
 chosen b x y off = rw off refl
 
 -- the descriptor of a page breaks no rule

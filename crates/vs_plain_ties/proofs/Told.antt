@@ -115,11 +115,6 @@ module _ (p : PartsState) where
       by [] none = absurd (omega (arith, less, tied.sizes queue, ap length none))
       by (id ∷ rest) free = tied_staged p w tied queue page fits header id rest free
 
-  pub allows_staged : (queue : Queue) (page : List ℕ) (ends : Option Ends) → IsTiedTo p ends
-      → DriverAllows (Stage queue page) tt (driver_told ends) (driver_told (drives ends (after_driver (Stage queue page))))
-  allows_staged queue page None tied = quiet _ _ _ _
-  allows_staged queue page (Some w) tied = driver_moves _ _ _ _ w tt tt tied.logs.driver_fair
-
   -- those staged are published
   fair_then : (queue : Queue) (w : Ends) → AreTied p w → CanPublish queue (driver_told (Some w))
       → IsFairLog Driver (entries_published queue (pages_at queue w.driver.staged) w.driver.entries)

@@ -1,6 +1,5 @@
 pub mod Lines
 pub mod Answer
 pub mod Ready
-pub mod Bounded
 pub mod Told
 pub mod Examples

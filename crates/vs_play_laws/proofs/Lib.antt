@@ -1,5 +1,4 @@
 pub mod PlayLines
-pub mod OwnStreams
 pub mod Unfailed
 pub mod Shutting
 pub mod Reached

@@ -15,11 +15,12 @@ use Rattle.vs_world.specs.GuestSteps.{flow_named}
 use Rattle.vs_world.specs.Plays.{AreRight, Line, after, is_given_right}
 use Rattle.vs_world.specs.Plays as world
 use Rattle.vs_world.specs.World.{World}
-use Rattle.vs_world.proofs.Payloads.{either_none, nothing_more}
+use Rattle.vs_world.proofs.Payloads.{either_none}
 use Rattle.vs_play.specs.Answer.{world_after}
 use Rattle.vs_play.specs.Lines.{PlayWorld, event_played, host_line}
-use Rattle.vs_play.specs.Bounded.{AreBounded, IsBounded}
+use Rattle.vs_script.specs.Bounds.{AreBounded, IsBounded}
 use Rattle.vs_play_laws.specs.Said.{received_by, received_in, sent_by, sent_in}
+use Rattle.vs_pipes.proofs.Logs.{nothing_more}
 
 -- The line of the world that an event line is, at a moment. That time passes is none.
 abbrev lines_around : Outside → ℕ → List Line

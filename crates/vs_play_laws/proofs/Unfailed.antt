@@ -35,8 +35,6 @@ use Rattle.vs_world.specs.Plays.{Line, Guest, Poll, TurnAt, ResetTo, Client, Hos
 use Rattle.vs_world.specs.Plays.{HostClosed, HostFail, AreRight, after, line, reset_line, turn_line}
 use Rattle.vs_world.specs.Steps.{Leads}
 use Rattle.vs_world.specs.World.{World, around}
-use Rattle.vs_world.proofs.Chains.{same_self}
-use Rattle.vs_world.proofs.DeviceEvents.{header_is}
 use Rattle.vs_world.proofs.DeviceLeads.{Does, EndsFine, device_bind, ends_played, plays, with_proxy}
 use Rattle.vs_world.proofs.FillStage.{fill_stage_does}
 use Rattle.vs_world.proofs.Opening.{run_goes}
@@ -45,14 +43,12 @@ use Rattle.vs_world.proofs.ScriptLines.{line_leads, line_rests}
 use Rattle.vs_world.proofs.Sound.{IsWell}
 use Rattle.vs_world.proofs.TakeStage.{counts, event_stage_does, take_goes, take_stage_leads}
 use Rattle.vs_world.proofs.TickStage.{shake_does, tick_stage_does, turning_at}
+use Rattle.vs_world.proofs.ResetTables.{all_ends}
+use Rattle.vs_device_log.proofs.Transmitting.{header_is}
+use Rattle.vs_device_log.proofs.Ringing.{same_self}
 
 abbrev IsFine : ProxyState → Type 0
 IsFine p = p.device.failed ≡ None
-
--- What holds of every value holds of each end.
-all_done : {A : Type 0} (P : A → Type 0) → ((x : A) → P x) → (tree : DeviceTree A) → AllEnds P tree
-all_done P all (Done x) = all x
-all_done P all (Ask call k) = λ a. all_done P all (k a)
 
 -- Events lead to a world that is well.
 well_after : (fresh : Type 0) (w v : World) → IsWell fresh w → Leads w v → IsWell fresh v
@@ -93,7 +89,7 @@ module _ (w : World) (t : Turning) where
         (ends_bind (λ (r : DeviceState × Taken). AllEnds (λ (x : Turning × Bool). x.1
         ≡ true) (counts (turning_at here t) r)) (on_packet c h s)
         (λ r. Ask (Ring (Return c 0)) (λ _. Done (r.0, taken.Packet r.1)))
-        (all_done (λ (r : DeviceState × Verdict). (b : Unit {0}) → AllEnds (λ (x : Turning × Bool). x.1 ≡ true)
+        (all_ends (λ (r : DeviceState × Verdict). (b : Unit {0}) → AllEnds (λ (x : Turning × Bool). x.1 ≡ true)
         (counts (turning_at here t) (r.0, taken.Packet r.1))) (λ r b. refl) (on_packet c h s))))
 
     header_ends : (h : Header) (b : Bool) → b ≡ false
@@ -224,7 +220,7 @@ ResetFine r = IsFine r.0
 hands_fine : (d : DeviceState) (s : ProxyState) → d.failed ≡ None → AllEnds ResetFine (reset_with (d, Ok tt) s)
 hands_fine d s fine =
     ends_bind ResetFine (for_each close_handshake (streams_of s) s) (λ t. Done (record (with_device d t) { handshakes = [] }, Ok tt))
-    (all_done (λ (t : ProxyState). IsFine (record (with_device d t) { handshakes = [] })) (λ t. fine) (for_each close_handshake
+    (all_ends (λ (t : ProxyState). IsFine (record (with_device d t) { handshakes = [] })) (λ t. fine) (for_each close_handshake
     (streams_of s) s))
 
 reset_ends : (cid : ℕ) (s : ProxyState) (o : Option Failure) → o ≡ None → s.device.failed ≡ None → AllEnds ResetFine (bind

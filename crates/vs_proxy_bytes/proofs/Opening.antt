@@ -1,5 +1,5 @@
 -- A client's connection, and a transport reset.
-use Rattle.std.proofs.Common.{◌≡◌, ◌≢◌, ℕ, ◌^◌, ◌≤◌, ◌==◌, Bool, true, false, cond, List, [], ◌∷◌, Option, Some, None, Result, Ok, Err}
+use Rattle.std.proofs.Common.{◌≡◌, ◌≢◌, ℕ, ◌≤◌, ◌==◌, Bool, true, false, cond, List, [], ◌∷◌, Option, Some, None, Result, Ok, Err}
 use Rattle.std.proofs.Common.{refl, sym, ap, subst, ◌∙◌, arith}
 use Rattle.std.specs.List.{All, AllPairs}
 use Rattle.std.specs.Option.{option_map}
@@ -28,6 +28,7 @@ use Rattle.vs_proxy_bytes.proofs.Accounts.{Changes, changes, changing, stays}
 use Rattle.vs_proxy_bytes.proofs.Closing.{Has}
 use Rattle.vs_proxy_bytes.proofs.Entries.{added, given_shut, hands_changed, one_account}
 use Rattle.vs_proxy_bytes.proofs.Keeping.{Keeps, keeps_each, keeps_then, keeps_weaker, made}
+use Rattle.vs_device_laws.proofs.Opening.{empty_sound}
 
 -- The connection of a client's stream.
 client_tie : (t : Table DeviceConnection) (flow : Flow) (stream : ℕ) (line : List ℕ) → IsWhole line
@@ -41,20 +42,11 @@ client_tie t flow stream line whole = record {
   asked = λ on. (refl, refl, refl, refl);
 }
 
-no_entries : (room given : ℕ) → given ≤ 2 ^ 64 → IsTable {T = DeviceConnection} (record { room = room; entries = []; given = given })
-no_entries room given left = record {
-  within = omega arith;
-  rising = λ i j d lt within. absurd (omega arith);
-  distinct = λ i j d lt within. absurd (omega arith);
-  were_given = λ k d within. absurd (omega arith);
-  slots_left = left;
-}
-
 -- Before the first call.
 pub new_agrees : (room : ℕ) → Agree (λ id. None) (λ flow. []) (λ flow. []) (record { room = room; entries = []; given = 0 }) []
 new_agrees room = record {
   tied = record {
-    table = no_entries room 0 (omega arith);
+    table = empty_sound room 0 (omega arith);
     joined = λ i d within. absurd (omega (arith, within));
     waiting = λ i d within. absurd (omega (arith, within));
     undecided = λ i d within. absurd (omega (arith, within));
@@ -226,7 +218,7 @@ keeps_reset hands cid s calls x = by s.failed
         → AreReset (account_of (made (Ring (PublishCid cid)) answer ∷ later)) (payload_put later) (payload_taken later) (emptied t.table)
     emptied_now t later kept answer = record {
       closing = record {
-        table = no_entries t.table.room t.table.given kept.table.slots_left;
+        table = empty_sound t.table.room t.table.given kept.table.slots_left;
         lawful = λ id a is. given_after (account_of later id) (kept.lawful id) a is;
         carried = kept.carried;
       };

@@ -36,6 +36,7 @@ use Rattle.vs_device_parts.specs.Receiving.{read_with_chain, reply_header, round
 use Rattle.vs_device_parts.specs.State.{DeviceConnection, DeviceEntry, DeviceState}
 use Rattle.vs_device_parts.specs.Streams.{closing}
 use Rattle.vs_device_laws.proofs.Ends.{owes_reset, shut_over}
+use Rattle.vs_device_laws.proofs.Receiving.{holding_table}
 use Rattle.vs_proxy_parts.specs.State.{Handshake}
 use Rattle.vs_proxy_bytes.specs.Made.{Account, Made, account_of, is_for, is_of, payload_put, payload_taken, ports_of, with_taken}
 use Rattle.vs_proxy_bytes.specs.Tied.{Agree, AgreesWith, IsTied, reading_account}
@@ -101,11 +102,6 @@ module _ (hands : List Handshake) where
       keeps_then (Put r) (λ y later. AgreesWith later r.state.table hands) (written chain h payload)
       (λ a. Done (record r { state = record r.state { chain = None }; put = r.put + 1 })) calls
       (keeps_written chain h payload calls r.state.table x) (λ y later kept. (kept, refl))
-
-  holding_table : (answer : Next) (r : Filling) → (holding answer r).state.table ≡ r.state.table
-  holding_table (next.Chain chain) r = refl
-  holding_table next.None r = refl
-  holding_table (next.Failed f) r = refl
 
   abbrev Held : Filling → Filling → List Made → Type 0
   Held r q later = AgreesWith later r.state.table hands × (q.state.table ≡ r.state.table)

@@ -153,9 +153,6 @@ module _ (hands : List Handshake) where
 
     -- Payload goes to no other stream.
     module _ (payload : List ℕ) (is_delivery : verdict_of e.value.end h ≡ verdict.Deliver) where
-      with_payload : Account → Account
-      with_payload a = record a { delivered = a.delivered ++ payload }
-
       abbrev now : ℕ → Option Account
       now id = option_map (with_delivery (flow_to_host h) payload) (account_of calls id)
 

@@ -68,15 +68,6 @@ set_removed [] i h lt = absurd (omega arith)
 set_removed (x ∷ xs) zero h lt = refl
 set_removed (x ∷ xs) (suc i) h lt = ap (λ (ys : List Handshake). x ∷ ys) (set_removed xs i h (omega arith))
 
-pub all_removed : (P : Handshake → Type 0) (hs : List Handshake) (i : ℕ) → i < length hs → All P hs → All P (remove hs i)
-all_removed P [] i lt all = absurd (omega arith)
-all_removed P (x ∷ xs) zero lt all = λ k d within. all (suc k) d (omega arith)
-all_removed P (x ∷ xs) (suc i) lt all = by (all_removed P xs i (omega arith) (λ k d within. all (suc k) d (omega arith)))
-  where
-    by : All P (remove xs i) → All P (x ∷ remove xs i)
-    by rest zero d within = all 0 d (omega arith)
-    by rest (suc k) d within = rest k d (omega arith)
-
 -- a line that isn't decided takes the byte, and stays undecided while more is to come
 no_more : (o : Option ℕ) → port_or_bad o ≡ step.More → ⊥
 no_more None e = cc

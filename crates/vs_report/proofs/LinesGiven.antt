@@ -7,7 +7,7 @@ use Rattle.vs_peer.specs.Pieces.{Emits, EmitsSome}
 use Rattle.vs_report.specs.Gives.{EmitsLines, GivesLines, joined}
 use Rattle.vs_report.specs.declared.giving.GiveError.{GiveError}
 use Rattle.vs_report.specs.declared.giving.GiveError.TheVariants as fault
-use Rattle.vs_peer.proofs.Pieces.{emits_none, emits_append}
+use Rattle.vs_peer.proofs.Pieces.{emits_append}
 
 pub joined_append : (xs ys : List (List ℕ)) → joined (xs ++ ys) ≡ joined xs ++ joined ys
 joined_append [] ys = refl
@@ -41,17 +41,6 @@ lines_append (Some held) mid new xs ys e h =
 no_lines : (old : Option (List ℕ)) (x : List ℕ) (xs : List (List ℕ)) → EmitsLines old old (x ∷ xs)
 no_lines None x xs = refl
 no_lines (Some held) x xs = ([], x, xs, refl, ap (λ ys. Some ys) (sym (append-nil held)))
-
--- all of no lines
-pub gives_none : (old : Option (List ℕ)) (f : ℕ) → GivesLines old old f f [] (Ok tt)
-gives_none old f = (emits_none old, refl)
-
--- one line, whole or in part
-pub gives_line : (old new : Option (List ℕ)) (f g : ℕ) (x : List ℕ) → Emits old new x → g ≡ f → GivesLines old new f g (x ∷ []) (Ok tt)
-gives_line old new f g x e same = (subst (λ ys. Emits old new ys) (sym (append-nil x)) e, same)
-
-pub gives_part : (old new : Option (List ℕ)) (f g : ℕ) (x : List ℕ) → EmitsSome old new x → CountsFault true f g → GivesLines old new f g (x ∷ []) (Err fault.Sink)
-gives_part old new f g x e counts = (subst (λ ys. EmitsSome old new ys) (sym (append-nil x)) e, counts)
 
 -- none of some lines, where there is no memory for the first
 pub gives_nothing : (old : Option (List ℕ)) (f : ℕ) (x : List ℕ) (xs : List (List ℕ)) → GivesLines old old f f (x ∷ xs) (Err fault.OutOfMemory)

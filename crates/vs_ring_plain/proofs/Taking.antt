@@ -11,13 +11,9 @@ use Rattle.vs_layout.specs.declared.entry.TheConstants.{INDIRECT, NEXT}
 use Rattle.vs_ring_plain.specs.declared.piece.Piece.{Piece}
 use Rattle.vs_ring_plain.specs.Accesses.{Accesses, Done, Read, MakesAtMost}
 use Rattle.vs_ring_plain.specs.Chain.{Ring, Taken, Chain, NoChain, Failed, unless, piece, in_table, table_faults, in_queue, taking, has, ahead, too_small, total_len}
+use Rattle.vs_ring_plain.proofs.Outcomes.{choice}
 use Rattle.vs_ring_port.specs.declared.failure.Failure.{Failure}
 use Rattle.vs_ring_port.specs.declared.failure.Failure.TheVariants.{AddrRange, AvailJump, HeadRange, Indirect, IndirectLen, IndirectNested, IndirectNext, NextRange}
-
--- what holds of both, each under its case, holds of the choice
-choice : {X : Type 0} (P : X → Type 0) (b : Bool) (x y : X) → (b ≡ true → P x) → (b ≡ false → P y) → P (cond b x y)
-choice P true x y here there = here refl
-choice P false x y here there = there refl
 
 done : {A : Type 0} (k : ℕ) (P : ℕ → ℕ → Type 0) (a : A) → MakesAtMost k P (Done a)
 unfolding MakesAtMost

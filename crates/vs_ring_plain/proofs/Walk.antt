@@ -174,12 +174,6 @@ one_more a m pieces number w some ends =
     let counts : a.queue.n - length pieces ≡ suc (fewer a pieces) = omega arith in
     sym (w.rest ends) ∙ ap (λ (k : ℕ). over (a.walk k number pieces ends) m) counts
 
-pub exit_long : (a : Along) (m : Memory) (pieces : List Piece) (number : ℕ) → Comes a m pieces number → a.queue.n ≤ length pieces
-    → (ends : List Piece → Accesses Taken) → a.whole ends ≡ (Failed (ChainLong a.queue.n), m)
-exit_long a m pieces number w full ends =
-    let none : a.queue.n - length pieces ≡ 0 = omega arith in
-    sym (w.rest ends) ∙ ap (λ (k : ℕ). over (a.walk k number pieces ends) m) none ∙ a.is_walk.long number pieces ends m
-
 pub exit_range : (a : Along) (m : Memory) (pieces : List Piece) (number : ℕ) → Comes a m pieces number → length pieces < a.queue.n
     → a.entries ≤ number
     → (ends : List Piece → Accesses Taken) → a.whole ends ≡ (Failed (NextRange number a.entries), m)

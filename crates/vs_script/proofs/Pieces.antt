@@ -49,14 +49,6 @@ lines_of-only (x ∷ y ∷ text) some h = elim (cases_Bool (x == 10)) [
       rw (e, lines_of-only (y ∷ text) (omega arith) (omega arith)) refl
 ]
 
--- spaces before the first word say nothing
-pub words_of-start : (line : List ℕ) → words_of (drop (word_start line) line) ≡ words_of line
-words_of-start [] = refl
-words_of-start (x ∷ line) = elim (cases_Bool (x == 32)) [
-  | inl e ↦ rw (e, one-add) (words_of-start line)
-  | inr e ↦ rw e (rw e refl)
-]
-
 -- the pieces behind the first
 abbrev pieces_behind : List ℕ → List (List ℕ)
 pieces_behind [] = []

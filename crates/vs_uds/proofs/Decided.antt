@@ -8,7 +8,7 @@ use Rattle.vs_uds.specs.declared.scan.Step.TheVariants as step
 use Rattle.vs_uds.proofs.Leading.{chosen}
 use Rattle.vs_uds.proofs.Ports.{WritesPort-port_in}
 
-decided : (d : Bool) (o : Option ℕ) (port : ℕ) → cond d (port_or_bad o) step.More ≡ step.Port port → o ≡ Some port
+pub decided : (d : Bool) (o : Option ℕ) (port : ℕ) → cond d (port_or_bad o) step.More ≡ step.Port port → o ≡ Some port
 decided true None port is = absurd cc
 decided true (Some p) port is = let same : p ≡ port = cc in ap (λ (n : ℕ). Some n) same
 decided false o port is = absurd cc

@@ -33,19 +33,19 @@ failed_as o w = record w { proxy = with_device (record w.proxy.device { failed =
 abbrev CallLeads : {A : Type 0} → (DeviceState → DeviceTree (DeviceState × A)) → World → Type 0
 CallLeads call w = Leads w (device_calls (λ r. r.0) (call w.proxy.device) w)
 
-pub events_lead : (w : World) → CallLeads pay_event_of w
-events_lead w = by w.proxy.device.failed (λ fine. (event_does w fine).leads)
+called : {A : Type 0} (call : DeviceState → DeviceTree (DeviceState × A)) (w : World) → ((f : Failure) → CallLeads call (failed_as (Some f) w))
+    → (w.proxy.device.failed ≡ None → CallLeads call w) → CallLeads call w
+called call w failed leads = by w.proxy.device.failed leads
   where
-    by : (o : Option Failure) → (o ≡ None → CallLeads pay_event_of (failed_as o w)) → CallLeads pay_event_of (failed_as o w)
+    by : (o : Option Failure) → (o ≡ None → CallLeads call (failed_as o w)) → CallLeads call (failed_as o w)
     by None leads = leads refl
-    by (Some f) leads = leads_none (failed_as (Some f) w) _ refl
+    by (Some f) leads = failed f
+
+pub events_lead : (w : World) → CallLeads pay_event_of w
+events_lead w = called pay_event_of w (λ f. leads_none (failed_as (Some f) w) _ refl) (λ fine. (event_does w fine).leads)
 
 pub fills_lead : (w : World) → CallLeads fill_rx_of w
-fills_lead w = by w.proxy.device.failed (λ fine. (fill_does w fine).leads)
-  where
-    by : (o : Option Failure) → (o ≡ None → CallLeads fill_rx_of (failed_as o w)) → CallLeads fill_rx_of (failed_as o w)
-    by None leads = leads refl
-    by (Some f) leads = leads_none (failed_as (Some f) w) _ refl
+fills_lead w = called fill_rx_of w (λ f. leads_none (failed_as (Some f) w) _ refl) (λ fine. (fill_does w fine).leads)
 
 -- A packet that is taken, from what the turn does with it.
 uncounted : (w : World) (d : DeviceState) (taken : Taken) (a : Around)
@@ -68,8 +68,4 @@ takes_fine w fine =
     (take_goes w (start w.proxy) fine).leads)
 
 pub takes_lead : (w : World) → CallLeads take_tx_of w
-takes_lead w = by w.proxy.device.failed (takes_fine w)
-  where
-    by : (o : Option Failure) → (o ≡ None → CallLeads take_tx_of (failed_as o w)) → CallLeads take_tx_of (failed_as o w)
-    by None leads = leads refl
-    by (Some f) leads = leads_none (failed_as (Some f) w) _ refl
+takes_lead w = called take_tx_of w (λ f. leads_none (failed_as (Some f) w) _ refl) (takes_fine w)

@@ -1,11 +1,10 @@
 -- Each of the device's conversations is some of the steps of the two ends.
-use Rattle.std.proofs.Common.{◌≡◌, ℕ, ◌+◌, ◌-◌, ◌^◌, ◌<◌, ◌≤◌, ◌==◌, ◌&&◌, nat_le, nat_lt, Bool, true, false, cond, List, [], ◌∷◌, ◌++◌, length, take, drop, Contains, Option, Some, None, refl, sym, ap, subst, ◌∙◌, arith, length-append}
+use Rattle.std.proofs.Common.{◌≡◌, ℕ, ◌+◌, ◌-◌, ◌^◌, ◌<◌, ◌≤◌, ◌==◌, ◌&&◌, nat_lt, Bool, true, false, cond, List, [], ◌∷◌, ◌++◌, length, take, drop, Contains, Option, Some, None, refl, sym, ap, subst, ◌∙◌, arith, length-append}
 use Rattle.std.proofs.lemmas.Bool.Decides.{nat_tests}
 use Rattle.std.proofs.lemmas.Grind.{common_steps}
 use Rattle.std.proofs.lemmas.List.{length-take}
-use Rattle.std.specs.Option.{option_map}
 use Rattle.vs_contents.specs.CallTree.{Done, Ask, bind, played}
-use Rattle.vs_conn.specs.End.{ConnectionEnd, end_after, is_reset, is_stream, verdict_of}
+use Rattle.vs_conn.specs.End.{end_after, is_reset, is_stream, verdict_of}
 use Rattle.vs_conn.specs.declared.end.Verdict.{Verdict}
 use Rattle.vs_conn.specs.declared.end.Verdict.TheVariants as verdict
 use Rattle.vs_conn.specs.declared.end.Why.{Why}
@@ -13,14 +12,13 @@ use Rattle.vs_conn.specs.declared.end.Why.TheVariants as why
 use Rattle.vs_flow.specs.Flow.{is_assigned, same_flow}
 use Rattle.vs_flow.specs.Table.{entry_of, has_place}
 use Rattle.vs_flow.proofs.Entries.{same_flow_true}
-use Rattle.vs_header.specs.Packet.{header_of}
 use Rattle.vs_header.specs.declared.Header.{Header}
 use Rattle.vs_history.specs.Packets.{is_request, is_rst}
 use Rattle.vs_history.specs.declared.packet.Packet.{Packet}
 use Rattle.vs_outside.specs.Host.{HostContents, dial_answer}
 use Rattle.vs_outside.specs.declared.host_net.Dialed.{Dialed}
 use Rattle.vs_outside.specs.declared.host_net.Dialed.TheVariants as dialed
-use Rattle.vs_page.specs.Held.{FitsWire, packet_held, packet_with, payload_held}
+use Rattle.vs_page.specs.Held.{FitsWire}
 use Rattle.vs_page.specs.Log.{Log, Device, IsNextPacket, flow_to_host}
 use Rattle.vs_page.specs.Open.{is_dropped}
 use Rattle.vs_page.specs.declared.log.LogEntry.TheVariants.{GotPacket}
@@ -57,6 +55,7 @@ use Rattle.vs_world.proofs.DeviceTakes as takes
 use Rattle.vs_world.proofs.DeviceTakes.{heard_fresh}
 use Rattle.vs_device_log.specs.Honest.{HoldsBytes}
 use Rattle.vs_device_log.proofs.Fits.{delivered, fits_after}
+use Rattle.vs_device_log.proofs.Hearing.{peer_resets, rst_leaves}
 use Rattle.vs_world.proofs.Wire.{PutsFit}
 use Rattle.std.specs.List.{All}
 use Rattle.vs_device_parts.specs.Connections.{with_dialed}
@@ -77,28 +76,6 @@ use Rattle.vs_pipes.proofs.Logs.{got_passes, none_passed, passed_after_got, put_
 use Rattle.vs_pipes.proofs.Opens.{dial_host}
 use Rattle.vs_pipes.proofs.Streamed.{join_of}
 use Rattle.vs_world.proofs.Streams.{StreamedIf, accepts_streams, called_host, delivered_rw, delivers_streams, dialed_id, empty_streams, failed_host, first_request, got_nothing, hears_streams, leaves_streams, passes_streams, request_empty, reset_empty, unknown_streams}
-
--- The header of the packet that a page holds.
-some_test : {A : Type 0} (b : Bool) (o : Option A) (x : A) → cond b o None ≡ Some x → o ≡ Some x
-some_test true o x is = is
-some_test false o x is = absurd cc
-
-header_by : (h : Header) (p : Packet) (o : Option (List ℕ)) → option_map (λ payload. record { header = h; payload = payload }) o ≡ Some p → p.header ≡ h
-header_by h p None is = absurd cc
-header_by h p (Some payload) is = let same : ◌≡◌ {A = Packet} record { header = h; payload = payload } p = cc in sym (ap (λ (q : Packet). q.header) same)
-
-pub header_is : (page : List ℕ) (p : Packet) → packet_held page ≡ Some p → p.header ≡ header_of (take 44 page)
-header_is page p held =
-    header_by (header_of (take 44 page)) p (payload_held (header_of (take 44 page)) (drop 44 page))
-    (some_test (nat_le 44 (length page)) (packet_with (header_of (take 44 page)) (drop 44 page)) p held)
-
--- A packet ends a connection where it is an RST of a stream.
-abbrev peer_resets : Verdict → Header → Bool
-peer_resets verdict.Peer h = is_reset h
-peer_resets _ h = false
-
-rst_leaves : (e : ConnectionEnd) (h : Header) → peer_resets (verdict_of e h) h ≡ (is_reset h && is_stream h)
-rst_leaves e h = grind (arith, common_steps)
 
 abbrev with_verdict : Verdict → DeviceTree DeviceState → DeviceTree DeviceState
 with_verdict v tree = bind {A = DeviceState × Verdict} (bind tree (λ t. Done (t, v))) (λ r. Done r.0)

@@ -36,7 +36,7 @@ use Rattle.vs_world.specs.Sides.{flow_to_guest}
 use Rattle.vs_world.proofs.Chains.{HoldsRx, both_written, bytes_written, first_written, held_written}
 use Rattle.vs_world.proofs.DeviceEvents.{KeptBy, Over}
 use Rattle.vs_world.proofs.DeviceSide as side
-use Rattle.vs_world.proofs.DeviceSide.{DeviceHolds, IsFresh, Kept, end_in, entry_fits, entry_fresh, not_fresh, seated}
+use Rattle.vs_world.proofs.DeviceSide.{DeviceHolds, IsFresh, Kept, end_in, entry_fits, not_fresh, seated}
 use Rattle.vs_world.proofs.DeviceTurns.{same_cid, still}
 use Rattle.vs_world.proofs.Fits.{holds_header}
 use Rattle.vs_world.proofs.Wire.{PutsFit, not_payload}
@@ -151,14 +151,6 @@ module _ (driver : Seat) (first port : ℕ) (s : DeviceState) (a : Around) (soun
     pays_other what v owes end pending fresh stays_in last =
         let k = side.pays_as driver first port s a.log.entries sound holds puts what e v there owes end pending fresh stays_in in
         record { runs = k.runs; holds = k.holds; puts = k.puts; overrun = k.overrun }
-
-    fresh_old : (v : DeviceConnection) → v.end ≡ e.value.end → v.ok_line ≡ e.value.ok_line → v.asked_at ≡ e.value.asked_at
-        → v.shut_at ≡ e.value.shut_at → IsFresh v
-    fresh_old v end ok asked shut = let f = entry_fresh driver first port s a.log.entries sound holds puts e there in record {
-      ok_line = λ new. ok ∙ f.ok_line (sym (ap is_new end) ∙ new);
-      asked_at = λ new. asked ∙ f.asked_at (sym (ap is_new end) ∙ new);
-      shut_at = λ new. shut ∙ f.shut_at (sym (ap is_new end) ∙ new);
-    }
 
     paid_fresh : (what : Owed) → owes_of e.value.end ≡ Some what → is_new (paid_of e.value.end what) ≡ false
     paid_fresh owed.Rst owes = grind (arith, common_steps, owes)

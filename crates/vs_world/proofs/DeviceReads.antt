@@ -53,9 +53,6 @@ module _ (driver : Seat) (first port : ℕ) (s : DeviceState) (a : Around) (soun
     held : HoldsRx (Some c) a.log.held
     held = subst (λ (o : Option Chain). HoldsRx o a.log.held) is rx
 
-    room : ℕ
-    room = read_room (free_of e.value.end.credit) c
-
     old : is_new e.value.end ≡ false
     old = live_old e.value.end may
 

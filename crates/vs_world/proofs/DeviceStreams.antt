@@ -1,11 +1,10 @@
 -- What the device does with its connections' streams.
 use Rattle.std.proofs.Common.{◌≡◌, ℕ, ◌-◌, ◌^◌, ◌<◌, ◌≤◌, ◌==◌, ◌&&◌, ◌||◌, not, Bool, true, false, cond, List, [], ◌∷◌, ◌++◌, length, drop, Contains, Option, Some, None, refl, sym, ap, subst, ◌∙◌, arith}
 use Rattle.std.proofs.lemmas.Bool.Decides.{nat_tests}
-use Rattle.std.proofs.lemmas.Grind.{common_steps}
 use Rattle.std.proofs.lemmas.List.{length-take, length-drop, append-nil}
 use Rattle.std.proofs.Common.{length-append}
 use Rattle.vs_contents.specs.CallTree.{Done, Ask, bind}
-use Rattle.vs_conn.specs.End.{ConnectionEnd, with_payload_forwarded, with_payload_sent, with_shut}
+use Rattle.vs_conn.specs.End.{with_payload_sent, with_shut}
 use Rattle.vs_conn.specs.Headers.{payload_header}
 use Rattle.vs_credit.specs.Credit.{free_of}
 use Rattle.vs_flow.specs.Table.{entry_under}
@@ -41,6 +40,7 @@ use Rattle.vs_world.proofs.DeviceTurns.{still, quiet}
 use Rattle.vs_device_log.specs.Honest.{HoldsBytes}
 use Rattle.vs_device_log.specs.Honest.{HoldsBytes}
 use Rattle.vs_device_log.proofs.Fits.{fits_forwarded, fits_shut}
+use Rattle.vs_device_log.proofs.Changing.{forward_old, shut_old}
 use Rattle.vs_world.proofs.Fits.{holds_payload}
 use Rattle.vs_world.proofs.Wire.{PutsFit}
 use Rattle.vs_flow.specs.Table.{with_value}
@@ -48,12 +48,6 @@ use Rattle.vs_outside.specs.Host.{HostContents, after_close, after_failed, after
 use Rattle.vs_proxy_parts.specs.State.{Handshake}
 use Rattle.vs_pipes.proofs.HostCalls.{closed_host}
 use Rattle.vs_world.proofs.Streams.{StreamedIf, called_host, cuts_streams, ends_streams, failed_host, shut_write_host, shuts_streams, writes_streams}
-
-shut_old : (e : ConnectionEnd) (bits : ℕ) → is_new e ≡ false → is_new (with_shut e bits) ≡ false
-shut_old e bits is = grind (arith, common_steps, is)
-
-forward_old : (e : ConnectionEnd) (n : ℕ) → is_new e ≡ false → is_new (with_payload_forwarded e n) ≡ false
-forward_old e n is = grind (arith, common_steps, is)
 
 module _ (driver : Seat) (first port : ℕ) (s : DeviceState) (a : Around) (sound : IsSound first (seated driver port s a.log.entries))
     (holds : DeviceHolds port s) (puts : PutsFit a.log.entries) (rx : HoldsRx s.chain a.log.held) (known : a.lists.cid < 2 ^ 64) (fresh : Type 0) (lines : List Handshake)

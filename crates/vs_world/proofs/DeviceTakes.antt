@@ -30,11 +30,9 @@ use Rattle.vs_world.proofs.DeviceSide.{DeviceHolds, FreshEntry, IsFresh, Kept, a
 use Rattle.vs_world.proofs.DriverSide.{ReplyFits}
 use Rattle.vs_world.proofs.Entries.{FlowFits, fits_with_entry}
 use Rattle.vs_device_log.specs.Honest.{HoldsBytes}
+use Rattle.vs_device_log.proofs.Hearing.{still_new}
 use Rattle.vs_world.proofs.Runs.{one_step}
 use Rattle.vs_world.proofs.Wire.{PutsFit}
-
-still_new : (e : ConnectionEnd) (h : Header) → is_new (end_after e h) ≡ true → is_new e ≡ true
-still_new e h = grind (arith, common_steps)
 
 -- What a packet leaves of a connection whose REQUEST isn't put.
 pub heard_fresh : (old c : DeviceConnection) (h : Header) → c.end ≡ end_after old.end h → c.ok_line ≡ old.ok_line → c.asked_at ≡ old.asked_at

@@ -25,8 +25,8 @@ use Rattle.vs_device_parts.specs.declared.limits.TheConstants.{REPLIES}
 use Rattle.vs_world.specs.Answers.{Around, answer_around}
 use Rattle.vs_device_parts.specs.Steps.{chain_came, filling, header_came, puts_event, returns, takes_chain}
 use Rattle.vs_world.specs.Pages.{AllHold, PageHolds, is_held}
-use Rattle.vs_world.proofs.Chains.{HoldsRx, bytes_written, first_written, held_more, held_without, held_written, same_self}
-use Rattle.vs_world.proofs.DeviceEvents.{KeptBy, Over, header_came_keeps, header_is}
+use Rattle.vs_world.proofs.Chains.{HoldsRx, bytes_written, first_written, held_more, held_without, held_written}
+use Rattle.vs_world.proofs.DeviceEvents.{KeptBy, Over, header_came_keeps}
 use Rattle.vs_world.proofs.DeviceSide as side
 use Rattle.vs_world.proofs.DeviceSide.{DeviceHolds, IsFresh, Kept, end_in, seated}
 use Rattle.vs_world.proofs.Wire.{PutsFit, next_fits}
@@ -40,17 +40,8 @@ use Rattle.vs_proxy_parts.specs.State.{Handshake}
 use Rattle.vs_pipes.specs.Streamed.{gives, look}
 use Rattle.vs_pipes.proofs.Streamed.{same_streamed}
 use Rattle.vs_world.proofs.Streams.{StreamedIf, payload_in}
-
-pub queue_is : (q r : Queue) → same_queue q r ≡ true → r ≡ q
-queue_is Rx Rx is = refl
-queue_is Tx Tx is = refl
-queue_is Event Event is = refl
-queue_is Rx Tx is = absurd cc
-queue_is Rx Event is = absurd cc
-queue_is Tx Rx is = absurd cc
-queue_is Tx Event is = absurd cc
-queue_is Event Rx is = absurd cc
-queue_is Event Tx is = absurd cc
+use Rattle.vs_device_log.proofs.Transmitting.{header_is}
+use Rattle.vs_device_log.proofs.Ringing.{same_self}
 
 pub same_cid : (q : Queue) (page : List ℕ) (lists : Rings) → (after_return q page lists).cid ≡ lists.cid
 same_cid Rx page lists = refl

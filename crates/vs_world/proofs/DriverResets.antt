@@ -20,12 +20,12 @@ use Rattle.vs_flow.proofs.Tables.{without_sound}
 use Rattle.vs_world.proofs.Received.{same_received}
 use Rattle.vs_world.proofs.Receives.{StillReceives, leaves, none_read}
 use Rattle.vs_world.specs.Pipes.{none_on, put_on}
-use Rattle.vs_world.proofs.Payloads.{nothing_more}
 use Rattle.vs_world.specs.Sides.{flow_to_host}
 use Rattle.vs_world.proofs.DriverSide.{DriverHolds, Kept, ReplyFits, close, end_in, held_in, kept_still, kept_then, seated}
 use Rattle.vs_world.proofs.Entries.{EntryFits}
 use Rattle.vs_world.proofs.Runs.{keeps_sound, one_step}
 use Rattle.vs_world.proofs.Wire.{PutsFit}
+use Rattle.vs_pipes.proofs.Logs.{nothing_more}
 
 -- The replies that a reset owes.
 abbrev reply_for : DriverEntry → Reply

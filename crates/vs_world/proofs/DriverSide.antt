@@ -28,13 +28,13 @@ use Rattle.vs_matching.specs.Heard.{route_of}
 use Rattle.vs_history.specs.declared.packet.Packet.{Packet}
 use Rattle.vs_pipes.specs.Drains.{receives}
 use Rattle.vs_world.proofs.Gone.{closed_received}
-use Rattle.vs_pipes.proofs.Logs.{only_on}
+use Rattle.vs_pipes.proofs.Logs.{only_on, nothing_more}
 use Rattle.vs_pipes.proofs.Steps as steps
 use Rattle.vs_pipes.proofs.Steps.{comes_out, ended_goes, forwards_less, pays_less, shut_goes, stays_still}
 use Rattle.std.proofs.Common.{take}
 use Rattle.vs_world.proofs.Receives.{Receives, StillReceives, after_put, changes, entry_reads, gone_reads, leaves, none_read, nothing_there, read_out, reads_of, said_as, then_reads}
 use Rattle.vs_world.specs.Pipes.{none_on, put_on}
-use Rattle.vs_world.proofs.Payloads.{nothing_more, sent_empty, sent_put}
+use Rattle.vs_world.proofs.Payloads.{sent_empty, sent_put}
 use Rattle.std.proofs.lemmas.List.{append-nil}
 use Rattle.vs_flow.specs.Flow.{same_flow}
 use Rattle.vs_flow.specs.declared.flow.Flow.{Flow}

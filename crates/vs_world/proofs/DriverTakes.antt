@@ -41,13 +41,13 @@ use Rattle.vs_driver_parts.specs.Receiving.{after_packet as as_heard}
 use Rattle.vs_matching.proofs.Both.{next_is_fair}
 use Rattle.vs_matching.proofs.Fair.{got_in_order, heard_all}
 use Rattle.vs_pipes.specs.Drains.{receives}
-use Rattle.vs_pipes.proofs.Logs.{got_after_put, got_passes, none_passed, passed_after_got, passed_after_put, put_passes}
+use Rattle.vs_pipes.proofs.Logs.{got_after_put, got_passes, none_passed, passed_after_got, passed_after_put, put_passes, nothing_more}
 use Rattle.vs_world.proofs.Received.{opened_received, same_received}
 use Rattle.vs_pipes.proofs.Steps as steps
 use Rattle.vs_pipes.proofs.Steps.{comes_in, delivers_to, hears_less, only_delivered, stays_still}
 use Rattle.vs_world.proofs.Receives.{after_got_empty, got_empty, hears, leaves, none_read, passes_by}
 use Rattle.vs_world.specs.Pipes.{put_on}
-use Rattle.vs_world.proofs.Payloads.{nothing_more, sent_empty, sent_got}
+use Rattle.vs_world.proofs.Payloads.{sent_empty, sent_got}
 use Rattle.vs_world.specs.Sides.{driver_ends, flow_to_host}
 use Rattle.vs_world.proofs.DriverSide.{DriverHolds, Holds, Kept, ReplyFits, end_in, entry_fits, held_in, holds_changed, left_broken, left_ends, left_holds, seated}
 use Rattle.vs_world.proofs.Entries.{FlowFits, fits_with_entry}

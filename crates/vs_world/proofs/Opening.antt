@@ -10,7 +10,7 @@ use Rattle.std.proofs.Common.{◌-◌, slice_get, Some, None}
 use Rattle.std.specs.Option.{option_map}
 use Rattle.vs_outside.specs.Host.{Stream}
 use Rattle.vs_pipes.specs.Streamed.{IsStreamed, Seen, look, seen}
-use Rattle.vs_pipes.proofs.Cids.{SameCids, no_cids}
+use Rattle.vs_matching.proofs.Voices.{AreVoiced, voices_start}
 use Rattle.vs_proxy_parts.specs.Turns.{new_proxy}
 use Rattle.vs_world.specs.Received.{IsReceived}
 use Rattle.vs_ring_port.specs.DriverCalls.{driver_answer, Stage, Publish}
@@ -218,7 +218,7 @@ module _ (n : ℕ) (host : HostContents) where
     known = subst (λ (c : ℕ). c < 2 ^ 64) (sym new.cid) (omega arith);
     broken = ap (λ (s : DriverState). s.broken) new.state;
     overrun = refl;
-    cids = subst SameCids opening_is (no_cids (both.new_seat first_cid FIRST_PORT).part (both.new_seat first_cid ASSIGNED_FIRST).part refl refl);
+    cids = subst (AreVoiced first_cid) opening_is (voices_start first_cid FIRST_PORT ASSIGNED_FIRST);
     streams = none_streamed host (opening n host).proxy.next_port;
     received = none_received n (opening n host).driver (log_with_staged (opening n host).rings.driver) new.state;
     sent = λ f. ap (put_on f) (sym log_empty);

@@ -1,5 +1,6 @@
 -- A poll of the driver's is a list of events.
 use Rattle.std.proofs.Common.{◌≡◌, ℕ, zero, suc, ◌+◌, ◌==◌, ◌&&◌, nat_le, nat_lt, Bool, true, false, cond, List, [], ◌∷◌, length, Option, Some, None, refl, sym, ap, subst, ◌∙◌}
+use Rattle.std.proofs.lemmas.Bool.{and_parts}
 use Rattle.vs_contents.specs.CallTree.{Done, Ask, bind, for_each, played, while_up_to}
 use Rattle.vs_conn.specs.End.{owes_of}
 use Rattle.vs_conn.specs.declared.end.Owed.{Owed}
@@ -235,14 +236,10 @@ all_three false b c x y z = absurd cc
 all_three true false c x y z = absurd cc
 all_three true true false x y z = absurd cc
 
-both_true : (a b : Bool) → (a && b) ≡ true → (a ≡ true) × (b ≡ true)
-both_true true b is = (refl, is)
-both_true false b is = absurd cc
-
 pub published_rests : (queue : Queue) (staged : Pages) → works_on queue staged ≡ true → is_at_rest (with_pages queue [] staged) ≡ true
-published_rests q.Rx staged works = let w = both_true (none_staged staged.tx) (none_staged staged.event) works in all_three _ _ _ refl w.0 w.1
-published_rests q.Tx staged works = let w = both_true (none_staged staged.rx) (none_staged staged.event) works in all_three _ _ _ w.0 refl w.1
-published_rests q.Event staged works = let w = both_true (none_staged staged.rx) (none_staged staged.tx) works in all_three _ _ _ w.0 w.1 refl
+published_rests q.Rx staged works = let w = and_parts (none_staged staged.tx) (none_staged staged.event) works in all_three _ _ _ refl w.0 w.1
+published_rests q.Tx staged works = let w = and_parts (none_staged staged.rx) (none_staged staged.event) works in all_three _ _ _ w.0 refl w.1
+published_rests q.Event staged works = let w = and_parts (none_staged staged.rx) (none_staged staged.tx) works in all_three _ _ _ w.0 w.1 refl
 
 pub rest_works : (queue : Queue) (staged : Pages) → is_at_rest staged ≡ true → works_on queue staged ≡ true
 rest_works queue staged rest = by queue (none_staged staged.rx) (none_staged staged.tx) (none_staged staged.event) refl refl refl rest

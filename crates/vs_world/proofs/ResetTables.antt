@@ -29,7 +29,7 @@ use Rattle.vs_world.proofs.GuestLines.{possible_is}
 use Rattle.vs_world.proofs.Sound.{IsWell}
 
 -- The device's, and its proxy's.
-all_ends : {A : Type 0} (P : A → Type 0) → ((x : A) → P x) → (tree : DeviceTree A) → AllEnds P tree
+pub all_ends : {A : Type 0} (P : A → Type 0) → ((x : A) → P x) → (tree : DeviceTree A) → AllEnds P tree
 all_ends P all (Done x) = all x
 all_ends P all (Ask call k) = λ a. all_ends P all (k a)
 

@@ -27,8 +27,5 @@ and_then b c d x y = record {
   ends = run_append x.steps y.steps b ∙ ap (run y.steps) x.ends ∙ y.ends;
 }
 
-pub runs_to : (b c d : Both) → c ≡ d → Runs b c → Runs b d
-runs_to b c d is r = record { steps = r.steps; may = r.may; ends = r.ends ∙ is }
-
 pub keeps_sound : (first : ℕ) (b c : Both) → Runs b c → IsSound first b → IsSound first c
 keeps_sound first b c r s = subst (λ e. IsSound first e) r.ends (run_keeps first r.steps b s r.may)

@@ -16,17 +16,17 @@ use Rattle.vs_flow.specs.Flow.{is_assigned, same_flow}
 use Rattle.vs_flow.specs.Table.{IsTable, Table, entry_of, with_value, without}
 use Rattle.vs_flow.specs.declared.flow.Flow.{Flow}
 use Rattle.vs_flow.proofs.Entries.{none_found}
-use Rattle.vs_history.specs.History.{Allows, Answerer, Asker, Entry, Got, History, IsFair, Side, gots, is_begun, puts}
+use Rattle.vs_history.specs.History.{Answerer, Asker, Got, History, IsFair, Side, gots, is_begun, puts}
 use Rattle.vs_driver_parts.proofs.Delivers.{delivers, named_rw}
-use Rattle.std.proofs.Common.{zero, suc}
-use Rattle.std.proofs.lemmas.List.{length-take, take-take}
+use Rattle.std.proofs.Math.Seq.{drop-nil, take-nil}
 use Rattle.vs_conn.specs.End.{with_payload_sent}
 use Rattle.vs_device_parts.specs.Streams.{to_write}
 use Rattle.vs_matching.specs.Steps.{payload_on}
+use Rattle.vs_matching.proofs.Fair.{fair_begun}
 use Rattle.vs_outside.specs.declared.host_net.StreamRead.TheVariants as read
 use Rattle.vs_outside.specs.declared.host_net.StreamWrite.TheVariants as write
 use Rattle.vs_pipes.specs.Drains.{Drains}
-use Rattle.vs_pipes.proofs.Gives.{forwards_asked, forwards_gives}
+use Rattle.vs_pipes.proofs.Gives.{drop_both, first_of, forwards_asked, forwards_gives}
 use Rattle.vs_pipes.proofs.HostCalls.{read_host, write_host}
 use Rattle.vs_pipes.proofs.Hosts.{unseen}
 use Rattle.vs_pipes.proofs.Steps.{comes_out}
@@ -102,18 +102,6 @@ payload_in page p held carries =
     ap (λ (g : Header). take g.len (drop 44 page)) parts.0 ∙ cc
 
 -- A REQUEST that comes is a connection's first packet.
-allows_begins : (side : Side) (entry : Entry) → Allows side [] entry → is_begun side (puts (entry ∷ [])) (gots (entry ∷ [])) ≡ true
-allows_begins = grind (arith, common_steps)
-
-begun_later : (side : Side) (h : History) (entry : Entry) → is_begun side (puts h) (gots h) ≡ true
-    → is_begun side (puts (entry ∷ h)) (gots (entry ∷ h)) ≡ true
-begun_later = grind (arith, common_steps)
-
-fair_begun : (side : Side) (h : History) (entry : Entry) → IsFair side (entry ∷ h)
-    → is_begun side (puts (entry ∷ h)) (gots (entry ∷ h)) ≡ true
-fair_begun side [] entry fair = allows_begins side entry fair.0
-fair_begun side (x ∷ h) entry fair = begun_later side (x ∷ h) entry (fair_begun side h x fair.1)
-
 not_begun : (side : Side) (h : History) (p : Packet) → is_request p ≡ true → IsFair side (Got p ∷ h) → is_begun side (puts h) (gots h) ≡ false
 not_begun Asker h p is fair = let timely = fair.0.timely in absurd (grind (arith, nat_tests, common_steps, is, timely))
 not_begun Answerer h p is fair = let timely = fair.0.timely in grind (arith, nat_tests, common_steps, is, timely)
@@ -142,22 +130,6 @@ dialed_id path stream c is = by (fails_now c) (is_listened path c) is
     by true b is = absurd cc
     by false false is = absurd cc
     by false true is = cc
-
-take_none : (n : ℕ) → ◌≡◌ {A = List ℕ} (take n []) []
-take_none zero = refl
-take_none (suc n) = refl
-
-drop_none : (n : ℕ) → ◌≡◌ {A = List ℕ} (drop n []) []
-drop_none zero = refl
-drop_none (suc n) = refl
-
-drop_both : (n : ℕ) (xs ys : List ℕ) → drop n (xs ++ ys) ≡ drop n xs ++ drop (n - length xs) ys
-drop_both zero [] ys = refl
-drop_both (suc n) [] ys = let same : suc n ≡ suc n - 0 = omega arith in ap (λ (k : ℕ). drop k ys) same
-drop_both zero (x ∷ xs) ys = let same : 0 ≡ 0 - suc (length xs) = omega arith in ap (λ (k : ℕ). x ∷ xs ++ drop k ys) same
-drop_both (suc n) (x ∷ xs) ys =
-    let same : n - length xs ≡ suc n - suc (length xs) = omega arith in
-    drop_both n xs ys ∙ ap (λ (k : ℕ). drop n xs ++ drop k ys) same
 
 -- A packet without payload was put.
 pub put_empty : (c : HostContents) (log : Log) (port : ℕ) (t : Table DeviceConnection) (hands : List Handshake) (p : Packet) → p.payload ≡ []
@@ -295,17 +267,14 @@ module _ (c : HostContents) (log : Log) (port : ℕ) (t : Table DeviceConnection
       (append-nil (line_for e.flow ++ got_on Device e.flow log)) out)))
       (λ on. nothing e n j.stream.given (j.asked (forwards_asked e.value.end (n - length e.value.ok_line) on)))
     where
-      first_of : (n : ℕ) (all : List ℕ) → n ≤ length (take 4096 all) → take n (take 4096 all) ≡ take n all
-      first_of n all less = take-take n 4096 all (omega (arith, less, length-take 4096 all))
-
       nothing : (e : DeviceEntry) (n : ℕ) (given : List ℕ) → (given ≡ []) × (e.value.ok_line ≡ []) × (e.value.pending ≡ [])
           → (given ++ take n (to_write e.value) ≡ []) × (drop n e.value.ok_line ≡ []) × (drop (n - length e.value.ok_line) e.value.pending ≡ [])
       nothing e n given (a, b, d) = (
         ap (λ (bytes : List ℕ). bytes ++ take n (to_write e.value)) a
             ∙ ap (λ (bytes : List ℕ). take n (take 4096 (bytes ++ e.value.pending))) b ∙ ap (λ (bytes : List ℕ). take n (take 4096 bytes)) d
-            ∙ ap (take n) (take_none 4096) ∙ take_none n,
-        ap (drop n) b ∙ drop_none n,
-        ap (drop (n - length e.value.ok_line)) d ∙ drop_none (n - length e.value.ok_line),
+            ∙ ap (take n) (take-nil 4096) ∙ take-nil n,
+        ap (drop n) b ∙ drop-nil n,
+        ap (drop (n - length e.value.ok_line)) d ∙ drop-nil (n - length e.value.ok_line),
       )
 
 -- Calls on the host that change no bytes.

@@ -43,10 +43,10 @@ use Rattle.vs_world.specs.Events.{DevicePutsEvent, DeviceReturns, DeviceTakes, d
 use Rattle.vs_world.specs.Pages.{is_held}
 use Rattle.vs_world.specs.Steps.{Leads}
 use Rattle.vs_world.specs.World.{World, around}
-use Rattle.vs_world.proofs.Chains.{same_self}
 use Rattle.vs_world.proofs.DeviceLeads.{Does, device_bind, device_event, does_nothing, does_then, leads_bind, plays, with_proxy}
 use Rattle.vs_world.proofs.GuestLines.{leads_none, leads_one, leads_then, possible_is}
 use Rattle.vs_world.proofs.TickStage.{TurnDoes, turning_at}
+use Rattle.vs_device_log.proofs.Ringing.{same_self}
 
 -- A conversation that moves no page: it reads what it holds, and calls the host.
 abbrev MovesNone : Call → Type 0

@@ -3,6 +3,8 @@ use Rattle.std.proofs.lemmas.Bool.Decides.{nat_tests}
 use Rattle.std.proofs.lemmas.Result.{on_ok_weaker}
 use Rattle.vs_ring_port.specs.Chains.{Held, same_queue}
 use Rattle.vs_ring_port.specs.declared.device_ring.Chain.{Chain}
+use Rattle.std.proofs.lemmas.Bool.{and_parts}
+use Rattle.vs_ring_port.specs.Chains.{chains_of, same_queue}
 use Rattle.vs_ring_port.specs.declared.queue.Queue.TheVariants.{Event}
 use Rattle.vs_device_parts.specs.Steps.{puts_event}
 use Rattle.vs_world.specs.Events.{DevicePutsEvent}
@@ -10,7 +12,7 @@ use Rattle.vs_world.specs.Pages.{is_held}
 use Rattle.vs_world.proofs.OverBoth.{IsPlayed}
 use Rattle.vs_core.specs.Ready.{IsReady}
 use Rattle.vs_core.proofs.DeviceHappening.{chain_did, held_of_queue, of_queue, same_held}
-use Rattle.vs_core.proofs.Driven.{both_are}
+use Rattle.vs_core.proofs.DeviceHappening.{held_of_queue, of_queue, where_did}
 use Rattle.vs_core.proofs.MayNow.{event_now}
 use Rattle.vs_core.proofs.Returning.{event_some}
 use Rattle.vs_core.proofs.Stepped.{run_played}
@@ -20,10 +22,10 @@ use Rattle.vs_core.proofs.world.World.device_puts_event.Goals as goal
 module _ (x chain : Chain) (held : List Held) (same : x ≡ chain)
     (is : ((same_queue Event chain.queue && is_held chain held) && nat_le 4 chain.writable) ≡ true) where
   on_event : (same_queue Event x.queue && is_held x held) ≡ true
-  on_event = same_held Event x chain held same (both_are _ (nat_le 4 chain.writable) is).0
+  on_event = same_held Event x chain held same (and_parts _ (nat_le 4 chain.writable) is).0
 
   has_room : nat_le 4 x.writable ≡ true
-  has_room = subst (λ y. nat_le 4 y.writable ≡ true) (sym same) (both_are (same_queue Event chain.queue && is_held chain held) _ is).1
+  has_room = subst (λ y. nat_le 4 y.writable ≡ true) (sym same) (and_parts (same_queue Event chain.queue && is_held chain held) _ is).1
 
 pub put_event-requires-clause-ring : goal.put_event-requires-clause-ring
 put_event-requires-clause-ring c = (subst IsReady (sym c.self.view_is) c.requires.ready).served.chain

@@ -1,4 +1,4 @@
--- The numbers of a play's lines that its laws rest on.
+-- The bounds of a play's numbers.
 use Rattle.std.specs.Prelude.{◌≤◌, List, [], ◌∷◌}
 use Rattle.vs_script.specs.Outside as outside
 use Rattle.vs_script.specs.Play as script
