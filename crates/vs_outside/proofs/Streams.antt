@@ -6,7 +6,8 @@ use Rattle.std.specs.Option.{is_none, is_some}
 use Rattle.std.proofs.lemmas.List.Sums.{sum_by-set}
 use Rattle.std.proofs.lemmas.Option.{slice_get-get_or, slice_get_within, get_or_from_slice_get}
 use Rattle.std.proofs.lemmas.Bool.Decides.{nat_tests}
-use Rattle.vs_outside.specs.Host.{Stream, HostContents, stream_at, IsOpen, called, after_read, taken_of, write_of, after_write, after_label}
+use Rattle.vs_outside.specs.Host.{Stream, HostContents, stream_at, IsOpen, called, fails_now, ReadsFrom, IsRead, read_of, after_read}
+use Rattle.vs_outside.specs.Host.{taken_of, write_of, after_write, after_label}
 use Rattle.vs_flow.specs.declared.flow.Flow.{Flow}
 use Rattle.vs_outside.specs.HostProgram.{unlabelled, ReadsStream, stream_after_write}
 use Rattle.vs_outside.specs.declared.host_net.StreamState.TheVariants as state
@@ -60,6 +61,23 @@ after_reads id (read.Got n) out c old new opened at h = rw (open_at id c old ope
 after_reads id read.End out c old new opened at h = put_back id c old new at h
 after_reads id read.Again out c old new opened at h = put_back id c old new at h
 after_reads id read.Failed out c old new opened at h = put_back id c old new at h
+
+reads_from : (id : ℕ) (answer : StreamRead) (out : List ℕ) (c : HostContents) (old new : Stream) → stream_at id c ≡ Some old →
+    ReadsStream answer out old new → ReadsFrom id answer out c
+reads_from id (read.Got n) out c old new there h = rw there h.0
+reads_from id read.End out c old new there h = tt
+reads_from id read.Again out c old new there h = tt
+reads_from id read.Failed out c old new there h = tt
+
+-- what an open stream answers is the call's answer, where that isn't to fail
+pub is_read : (id : ℕ) (answer : StreamRead) (out : List ℕ) (c : HostContents) (old new : Stream) → IsOpen id c →
+    old ≡ get_or c.streams (id - 1) old → fails_now c ≡ false → answer ≡ read_of (length out) old → ReadsStream answer out old new →
+    IsRead id answer out c
+is_read id answer out c old new opened at works by h =
+    let there = open_at id c old opened at in (
+      rw (works, there) by,
+      reads_from id answer out c old new there h,
+    )
 
 never_failed : (a b : Bool) (n : ℕ) → write.Failed ≡ cond a write.Closed (cond b write.Again (write.Took n)) → ⊥
 never_failed true b n h = cc
