@@ -233,34 +233,3 @@ fn is_within(base: u64, size: u64, addr: u64, len: u64) -> bool
 {
     len == 0 || (base <= addr && len <= size && addr - base <= size - len)
 }
-
-#[cfg(test)]
-mod tests {
-    use super::*;
-    use std::alloc::AllocError;
-
-    // Two changes before the second access, in their order, and one before the third.
-    #[test]
-    fn changes_come_before_their_access(rt: HostRuntime) -> Result<(), AllocError> {
-        let mut mem = PlainMem::new(rt.alloc(), 4096, 16)?;
-        assert_eq!(rt; mem.write(4100, &[1, 2, 3, 4]), Ok(()));
-        mem.change_before(rt.alloc(), 2, 4101, &[7, 7])?;
-        mem.change_before(rt.alloc(), 2, 4102, &[8])?;
-        mem.change_before(rt.alloc(), 3, 4100, &[9])?;
-        let mut out = [0; 4];
-        assert_eq!(rt; mem.read(4100, &mut out), Ok(()));
-        assert_eq!(rt; out, [1, 2, 3, 4]);
-        assert_eq!(rt; mem.read(5000, &mut out[..0]), Ok(()));
-        assert_eq!(rt;
-            mem.read(4109, &mut out),
-            Err(AddrRange { addr: 4109, len: 4 })
-        );
-        assert_eq!(rt; mem.read(4100, &mut out), Ok(()));
-        assert_eq!(rt; out, [1, 7, 8, 4]);
-        assert_eq!(rt; mem.look(4100, &mut out), Ok(()));
-        assert_eq!(rt; mem.read(4100, &mut out), Ok(()));
-        assert_eq!(rt; out, [9, 7, 8, 4]);
-        assert_eq!(rt; mem.accesses(), 4);
-        Ok(())
-    }
-}

@@ -19,6 +19,3 @@ pub use crate::client::{
 };
 pub use crate::sink::{SinkFault, emit};
 pub use crate::source::{ReadError, SOURCE_MAX, read_source};
-
-#[cfg(test)]
-mod tests;

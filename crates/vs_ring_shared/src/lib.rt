@@ -12,13 +12,9 @@ mod held;
 mod making;
 mod meeting;
 mod names;
-#[cfg(test)]
-mod packet_tests;
 mod plays;
 mod port;
 mod shared_rings;
-#[cfg(test)]
-mod tests;
 
 pub use counters::Met;
 pub use device_end::DeviceEnd;
