@@ -1,12 +1,11 @@
 //! The client of the mapping over a host in memory: what comes back, and calls that fail.
 
+use crate::client::client;
 use std::alloc::{AllocError, AllocGlobal, Global};
 use std::sync::Wait;
 use std::test::Fail;
 use vs_outside::{FreeGate, MemSink, MemSource, PeerHost, PreparedStream};
-use vs_peer::{
-    BAD_SOURCE, DONE, HOST_FAULT, READ_FAULT, REFUSED, SINK_FAULT, SOURCE_MAX, WAITED, peer,
-};
+use vs_peer::{BAD_SOURCE, DONE, HOST_FAULT, READ_FAULT, REFUSED, SINK_FAULT, SOURCE_MAX, WAITED};
 
 const IDLE: u32 = 3;
 
@@ -29,16 +28,7 @@ fn run<R: AllocGlobal + Wait>(
     let mut source = MemSource::new(rt.alloc(), Vec::from_slice(rt.alloc(), b"yo")?, 1);
     let mut sink = MemSink::new(rt.alloc(), 1);
     sink.fail(sink_fails)?;
-    let status = peer(
-        rt,
-        "v.sock",
-        70,
-        IDLE,
-        &mut source,
-        host,
-        &FreeGate,
-        &mut sink,
-    );
+    let status = client(rt, "v.sock", IDLE, &mut source, host, &FreeGate, &mut sink);
     Ok((status, sink))
 }
 
@@ -103,78 +93,95 @@ fn bytes_without_an_end_are_waited_for(rt: HostRuntime) -> Result<(), Fail> {
     Ok(())
 }
 
-#[test]
-fn nobody_listens(rt: HostRuntime) -> Result<(), Fail> {
-    let mut host = PeerHost::refusing(rt.alloc(), "v.sock")?;
-    let (status, sink) = run(&rt, &mut host, 0)?;
-    assert_eq!(rt;
-        (status, sink.bytes()),
-        (REFUSED, b"peer refused\n".as_slice())
-    );
-    Ok(())
+/// A client that is answered and done, where a call of the host fails, or of the sink; none, where that is 0.
+fn failing<R: AllocGlobal + Wait>(
+    rt: &R,
+    host_fails: u64,
+    sink_fails: u64,
+) -> Result<(u8, MemSink), AllocError> {
+    let stream = prepared(rt.alloc(), b"OK 1073741824\nhi", true)?;
+    let mut host = PeerHost::new(rt.alloc(), "v.sock", stream)?;
+    host.fail(host_fails)?;
+    run(rt, &mut host, sink_fails)
 }
 
-#[test]
-fn each_call_of_the_host_fails_once(rt: HostRuntime) -> Result<(), Fail> {
+/// How many of the first calls of the host, each failed by itself, end the client as such.
+fn failed_host_calls<R: AllocGlobal + Wait>(rt: &R, calls: u64) -> Result<u8, AllocError> {
     let mut failed = 0u8;
-    for n in 1..40 {
-        let stream = prepared(rt.alloc(), b"OK 1073741824\nhi", true)?;
-        let mut host = PeerHost::new(rt.alloc(), "v.sock", stream)?;
-        host.fail(n)?;
-        let (status, sink) = run(&rt, &mut host, 0)?;
+    for n in 1..calls {
+        let (status, sink) = failing(rt, n, 0)?;
         if status == HOST_FAULT && sink.bytes().ends_with(b"host fault\n") {
             failed = failed.saturating_add(1);
         }
     }
-    assert_eq!(rt; failed, 19);
-    Ok(())
+    Ok(failed)
 }
 
 #[test]
-fn each_call_of_the_sink_fails_once(rt: HostRuntime) -> Result<(), Fail> {
+fn each_call_of_the_host_fails_once(rt: HostRuntime) -> Result<(), Fail> {
+    assert!(rt; failed_host_calls(&rt, 40)? == 19);
+    Ok(())
+}
+
+/// How many of the first calls of the sink, each failed by itself, end the client as such, with less than it has to write.
+fn failed_writes<R: AllocGlobal + Wait>(rt: &R, calls: u64) -> Result<u8, AllocError> {
     let whole = b"port 1073741824\nhi";
     let mut failed = 0u8;
-    for n in 1..40 {
-        let stream = prepared(rt.alloc(), b"OK 1073741824\nhi", true)?;
-        let mut host = PeerHost::new(rt.alloc(), "v.sock", stream)?;
-        let (status, sink) = run(&rt, &mut host, n)?;
+    for n in 1..calls {
+        let (status, sink) = failing(rt, 0, n)?;
         if status == SINK_FAULT && whole.starts_with(sink.bytes()) && sink.bytes().len() < 18 {
             failed = failed.saturating_add(1);
         }
     }
-    assert_eq!(rt; failed, 18);
+    Ok(failed)
+}
+
+#[test]
+fn each_call_of_the_sink_fails_once(rt: HostRuntime) -> Result<(), Fail> {
+    assert!(rt; failed_writes(&rt, 40)? == 18);
+    Ok(())
+}
+
+/// Whether a client with this source ends with that status and text, at a host where nobody listens.
+fn ends_at<R: AllocGlobal + Wait>(
+    rt: &R,
+    mut source: MemSource,
+    status: u8,
+    written: &[u8],
+) -> Result<bool, AllocError> {
+    let mut host = PeerHost::refusing(rt.alloc(), "v.sock")?;
+    let mut sink = MemSink::new(rt.alloc(), 64);
+    let ended = client(
+        rt,
+        "v.sock",
+        IDLE,
+        &mut source,
+        &mut host,
+        &FreeGate,
+        &mut sink,
+    );
+    Ok(ended == status && sink.bytes() == written)
+}
+
+#[test]
+fn a_source_fails(rt: HostRuntime) -> Result<(), Fail> {
+    let mut source = MemSource::new(rt.alloc(), Vec::new(rt.alloc()), 1);
+    source.fail(1)?;
+    assert!(rt; ends_at(&rt, source, READ_FAULT, b"read fault\n")?);
     Ok(())
 }
 
 #[test]
-fn a_source_fails_or_is_too_long(rt: HostRuntime) -> Result<(), Fail> {
-    let mut host = PeerHost::refusing(rt.alloc(), "v.sock")?;
-    let mut sink = MemSink::new(rt.alloc(), 64);
-    let mut source = MemSource::new(rt.alloc(), Vec::new(rt.alloc()), 1);
-    source.fail(1)?;
-    let failed = peer(
-        &rt,
-        "v.sock",
-        70,
-        IDLE,
-        &mut source,
-        &mut host,
-        &FreeGate,
-        &mut sink,
-    );
+fn a_source_is_too_long(rt: HostRuntime) -> Result<(), Fail> {
     let bytes = vec![in rt.alloc(); 0; SOURCE_MAX + 1]?;
-    let mut source = MemSource::new(rt.alloc(), bytes, 4096);
-    let long = peer(
-        &rt,
-        "v.sock",
-        70,
-        IDLE,
-        &mut source,
-        &mut host,
-        &FreeGate,
-        &mut sink,
-    );
-    assert_eq!(rt; (failed, long), (READ_FAULT, BAD_SOURCE));
-    assert_eq!(rt; sink.bytes(), b"read fault\nline 0 TooLong\n".as_slice());
+    let source = MemSource::new(rt.alloc(), bytes, 4096);
+    assert!(rt; ends_at(&rt, source, BAD_SOURCE, b"line 0 TooLong\n")?);
+    Ok(())
+}
+
+#[test]
+fn nobody_listens(rt: HostRuntime) -> Result<(), Fail> {
+    let source = MemSource::new(rt.alloc(), Vec::from_slice(rt.alloc(), b"yo")?, 1);
+    assert!(rt; ends_at(&rt, source, REFUSED, b"peer refused\n")?);
     Ok(())
 }

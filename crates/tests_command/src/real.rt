@@ -1,5 +1,6 @@
 //! The client of the mapping over real Unix sockets, and the machine's readers and writers.
 
+use crate::client::client;
 use std::alloc::{AllocError, AllocGlobal};
 use std::fs::{self, Files};
 use std::io::{self, Read, Write};
@@ -14,7 +15,7 @@ use vs_outside::{
     Accepted, Clock, Dialed, HostNet, MemSink, MemSource, Sink, SinkWrite, Source, SourceRead,
     Started, StreamRead, StreamWrite,
 };
-use vs_peer::{DONE, REFUSED, WAITED, peer};
+use vs_peer::{DONE, REFUSED, WAITED};
 use vs_real::{MachineClock, ReadSource, UnixHost, WriteSink, YieldGate};
 
 /// Steps in a row in which nothing moves, where the other end answers at last.
@@ -81,7 +82,7 @@ fn read_to_end(stream: &mut UnixStream) -> io::Result<()> {
 }
 
 /// The status of a client over real sockets that sends so many bytes, and what it wrote.
-fn client<R: AllocGlobal + Wait, H: HostNet>(
+fn sending<R: AllocGlobal + Wait, H: HostNet>(
     rt: &R,
     host: &mut H,
     path: &str,
@@ -91,7 +92,7 @@ fn client<R: AllocGlobal + Wait, H: HostNet>(
     let bytes = vec![in rt.alloc(); 7; bytes]?;
     let mut source = MemSource::new(rt.alloc(), bytes, 4096);
     let mut sink = MemSink::new(rt.alloc(), 4096);
-    let status = peer(rt, path, 70, idle, &mut source, host, &YieldGate, &mut sink);
+    let status = client(rt, path, idle, &mut source, host, &YieldGate, &mut sink);
     Ok((status, sink))
 }
 
@@ -107,7 +108,7 @@ fn ends<R: AllocGlobal + Wait + Threads + Net + Files + Clone + Drop>(
     let listener = UnixListener::bind(rt, path)?;
     let server = thread::spawn(rt, move || serve(listener, answer))?;
     let mut host = UnixHost::new(rt.clone()?)?;
-    let (ended, sink) = client(rt, &mut host, path, 2, idle)?;
+    let (ended, sink) = sending(rt, &mut host, path, 2, idle)?;
     let faults = host.faults();
     drop(host);
     let _ = server.join(rt);
@@ -121,7 +122,7 @@ fn a_client_and_an_echo(rt: HostRuntime) -> Result<(), Fail> {
     let listener = UnixListener::bind(&rt, path.as_str())?;
     let server = thread::spawn(&rt, move || serve(listener, Answer::Echo))?;
     let mut host = UnixHost::new(rt.clone()?)?;
-    let (status, sink) = client(&rt, &mut host, path.as_str(), BYTES, PATIENT)?;
+    let (status, sink) = sending(&rt, &mut host, path.as_str(), BYTES, PATIENT)?;
     server.join(&rt)?;
     fs::remove_file(&rt, path.as_str())?;
     assert_eq!(rt; (status, host.faults()), (DONE, 0));
@@ -161,7 +162,7 @@ fn a_listener_that_never_answers(rt: HostRuntime) -> Result<(), Fail> {
 fn nobody_listens(rt: HostRuntime) -> Result<(), Fail> {
     let path = format!(in rt.alloc(); "/tmp/vs_real-{}-nobody", process::id(rt.process()))?;
     let mut host = UnixHost::new(rt.clone()?)?;
-    let (status, sink) = client(&rt, &mut host, path.as_str(), 2, PATIENT)?;
+    let (status, sink) = sending(&rt, &mut host, path.as_str(), 2, PATIENT)?;
     assert_eq!(rt; (status, host.faults()), (REFUSED, 0));
     assert_eq!(rt; sink.bytes(), b"peer refused\n".as_slice());
     Ok(())

@@ -79,7 +79,13 @@ const LONG_ENDS: &str = "took 1\nturned 1 0 0 1 0 0\npolled 0 0 0\nguest open 1\
 #[test]
 fn twenty_thousand_lines_over_eight_shared_pages(rt: HostRuntime) -> Result<(), Fail> {
     let script = long(rt.alloc())?;
-    let (status, sink) = played(&rt, "vsock play --rings shared --queue 8", script.as_str())?;
+    let (status, sink) = played(
+        &rt,
+        "vsock play --rings shared --queue 8",
+        script.as_str(),
+        4_096,
+        (0, 0),
+    )?;
     assert!(rt; status == 0 && sink.bytes().ends_with(LONG_ENDS.as_bytes()));
     Ok(())
 }

@@ -1,6 +1,6 @@
 //! Words, statuses, and sources and sinks that fail.
 
-use crate::running::{ends, run};
+use crate::running::{ends, played, run};
 use std::alloc::{AllocError, AllocGlobal};
 use std::sync::Wait;
 use std::test::Fail;
@@ -22,14 +22,9 @@ const HOSTILE_PRINTED: &str = "ok\nok\nok\nfailed AvailJump 0 9\nfailed AvailJum
 
 /// How many of the first calls of the sink, each failed by itself, end the play of hello with status 4 and less than its whole answer.
 fn failed_writes<R: AllocGlobal + Wait>(rt: &R, calls: u64) -> Result<u64, AllocError> {
-    let alloc = rt.alloc();
     let mut failed = 0u64;
     for n in 1..calls {
-        let mut source = MemSource::new(alloc, Vec::from_slice(alloc, HELLO.as_bytes())?, 100);
-        let mut sink = MemSink::new(alloc, 100);
-        sink.fail(n)?;
-        let mut host = PeerHost::refusing(alloc, "v.sock")?;
-        let status = run(rt, "vsock play", &mut source, &mut host, &mut sink)?;
+        let (status, sink) = played(rt, "vsock play", HELLO, 100, (0, n))?;
         let part = HELLO_PRINTED.as_bytes().starts_with(sink.bytes());
         if status == 4 && part && sink.bytes().len() < HELLO_PRINTED.len() {
             failed = failed.saturating_add(1);

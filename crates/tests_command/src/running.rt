@@ -29,8 +29,28 @@ pub fn run<R: AllocGlobal + Wait>(
     Ok(vsock_main(rt, &words, source, host, &mut clock, &FreeGate, sink))
 }
 
-/// Whether a command line's run of a script, in pieces of that size, ends with this status and prints this. The nth call of the source
-/// fails, and of the sink; none, where that is 0.
+/// The status of a command line's run of a script, in pieces of that size, and what it prints. The nth call of the source fails, and of the
+/// sink; none, where that is 0.
+pub fn played<R: AllocGlobal + Wait>(
+    rt: &R,
+    line: &str,
+    script: &str,
+    piece: usize,
+    fails: (u64, u64),
+) -> Result<(u8, MemSink), AllocError>
+    requires piece { 1 ≤ piece }
+{
+    let alloc = rt.alloc();
+    let mut source = MemSource::new(alloc, Vec::from_slice(alloc, script.as_bytes())?, piece);
+    let mut sink = MemSink::new(alloc, piece);
+    source.fail(fails.0)?;
+    sink.fail(fails.1)?;
+    let mut host = PeerHost::refusing(alloc, "v.sock")?;
+    let status = run(rt, line, &mut source, &mut host, &mut sink)?;
+    Ok((status, sink))
+}
+
+/// Whether such a run ends with this status and prints this.
 pub fn ends<R: AllocGlobal + Wait>(
     rt: &R,
     line: &str,
@@ -42,14 +62,8 @@ pub fn ends<R: AllocGlobal + Wait>(
 ) -> Result<bool, AllocError>
     requires piece { 1 ≤ piece }
 {
-    let alloc = rt.alloc();
-    let mut source = MemSource::new(alloc, Vec::from_slice(alloc, script.as_bytes())?, piece);
-    let mut sink = MemSink::new(alloc, piece);
-    source.fail(fails.0)?;
-    sink.fail(fails.1)?;
-    let mut host = PeerHost::refusing(alloc, "v.sock")?;
-    let answered = run(rt, line, &mut source, &mut host, &mut sink)?;
-    Ok(answered == status && sink.bytes() == printed.as_bytes())
+    let (ended, sink) = played(rt, line, script, piece, fails)?;
+    Ok(ended == status && sink.bytes() == printed.as_bytes())
 }
 
 /// Whether each of these scripts, played by each of these command lines, ends with status 0 and prints its text.
@@ -66,18 +80,4 @@ pub fn are_printed<R: AllocGlobal + Wait>(
         }
     }
     Ok(true)
-}
-
-/// The status of a command line's run of a script, and what it prints.
-pub fn played<R: AllocGlobal + Wait>(
-    rt: &R,
-    line: &str,
-    script: &str,
-) -> Result<(u8, MemSink), AllocError> {
-    let alloc = rt.alloc();
-    let mut source = MemSource::new(alloc, Vec::from_slice(alloc, script.as_bytes())?, 4_096);
-    let mut sink = MemSink::new(alloc, 4_096);
-    let mut host = PeerHost::refusing(alloc, "v.sock")?;
-    let status = run(rt, line, &mut source, &mut host, &mut sink)?;
-    Ok((status, sink))
 }

@@ -24,7 +24,7 @@ fn ends_with<R: AllocGlobal + Wait>(
     last: &str,
 ) -> Result<bool, AllocError> {
     let script = script_of(rt.alloc(), texts)?;
-    let (status, sink) = played(rt, line, script.as_str())?;
+    let (status, sink) = played(rt, line, script.as_str(), 4_096, (0, 0))?;
     Ok(status == 0 && sink.bytes().ends_with(last.as_bytes()))
 }
 

@@ -10,4 +10,3 @@ pub mod DeviceEnds
 pub mod Meetings
 pub mod Together
 pub mod SharedEnds
-pub mod Senders
