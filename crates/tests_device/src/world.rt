@@ -1,8 +1,7 @@
 //! Bytes of the guest come to a program of the host, and bytes of the program to the guest, one page move at a time.
 
-ghost use Rattle.std.specs.Prelude.{IfOk, OnOk};
-ghost use Rattle.vs_core.specs.Ready.{IsReady};
-ghost use Rattle.vs_core.specs.Views.{HasBits, event_view};
+ghost use Rattle.std.specs.Prelude.{OnOk};
+ghost use Rattle.vs_core.specs.{Ready.IsReady, Views.HasBits, Views.event_view};
 
 use std::alloc::{AllocError, Global};
 use vs_core::{Event, GuestCall, Reply, World, run};

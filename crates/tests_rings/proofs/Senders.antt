@@ -2,8 +2,7 @@
 use Rattle.std.proofs.Common.{rules, ℕ, [], ◌∷◌, refl, arith}
 use Rattle.vs_header.specs.Op.{op_number}
 use Rattle.vs_header.specs.declared.Op.TheVariants.{Request, Rst}
-use Rattle.vs_page.specs.Fair.{IsFairLog}
-use Rattle.vs_page.specs.Log.{Driver, Log}
+use Rattle.vs_page.specs.{Fair.IsFairLog, Log.Driver, Log.Log}
 use Rattle.vs_page.specs.declared.log.LogEntry.TheVariants.{PutPacket}
 use Rattle.vs_page.proofs.Entries.{one_put}
 use Rattle.tests_rings.specs.Senders.{Asked, bare, numbered}

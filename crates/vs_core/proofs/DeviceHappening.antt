@@ -1,7 +1,7 @@
 -- What the device, the proxy and the host's programs do is an event of the world.
-use Rattle.std.proofs.Common.{◌≡◌, ℕ, suc, ◌+◌, ◌&&◌, Bool, true, false, cond, List, [], ◌∷◌, Option, Some, Result, is_some, Contains, refl, sym, ap, subst, ◌∙◌, arith}
-use Rattle.std.specs.Option.{ForSome}
-use Rattle.std.specs.List.{position, position_from}
+use Rattle.std.proofs.Common.{◌≡◌, ℕ, suc, ◌+◌, ◌&&◌, Bool, true, false, cond, List, [], ◌∷◌, Option, Some, Result, is_some, Contains, refl}
+use Rattle.std.proofs.Common.{sym, ap, subst, ◌∙◌, arith}
+use Rattle.std.specs.{Option.ForSome, List.position, List.position_from}
 use Rattle.std.proofs.lemmas.Iterator.Adapters.{position_from-zero}
 use Rattle.std.proofs.lemmas.Bool.{and_parts}
 use Rattle.vs_outside.specs.Host.{HostContents}
@@ -11,23 +11,14 @@ use Rattle.vs_ring_port.specs.declared.failure.Failure.{Failure}
 use Rattle.vs_ring_port.specs.declared.queue.Queue.{Queue}
 use Rattle.vs_ring_list.specs.Ends.{Ends}
 use Rattle.vs_ring_list.proofs.Held.{same_chain_is, same_queue_is}
-use Rattle.vs_device_parts.specs.Calls.{DeviceTree}
-use Rattle.vs_device_parts.specs.Playing.{IsAmong}
-use Rattle.vs_device_parts.specs.State.{DeviceState}
+use Rattle.vs_device_parts.specs.{Calls.DeviceTree, Playing.IsAmong, State.DeviceState}
 use Rattle.vs_device_laws.specs.Streams.{HasStreams}
 use Rattle.vs_proxy_parts.specs.Handshakes.{read_byte, streams_of}
-use Rattle.vs_proxy_parts.specs.State.{ProxyState, Turning, start, with_device}
-use Rattle.vs_proxy_parts.specs.Turns.{proxy_reset_of}
-use Rattle.vs_world.specs.Events.{Event, Moment, device_step, happens, has_failed, host_step, line_read, proxy_step, reset_made, run, is_guest_cid, unless_failed, where_possible}
-use Rattle.vs_world.specs.Over.{device_after, proxy_after, reset_after}
-use Rattle.vs_world.specs.Pages.{is_held}
-use Rattle.vs_world.specs.Pipes.{IsFresh}
-use Rattle.vs_world.specs.World.{World, opening}
-use Rattle.vs_world.proofs.Opening.{run_well}
-use Rattle.vs_world.proofs.Sound.{IsWell}
-use Rattle.vs_world.proofs.Flown.{LeavesDriver}
-use Rattle.vs_world.proofs.OverBoth.{IsPlayed}
-use Rattle.vs_world.proofs.StayOpen.{StayOpen, still_has}
+use Rattle.vs_proxy_parts.specs.{State.ProxyState, State.Turning, State.start, State.with_device, Turns.proxy_reset_of}
+use Rattle.vs_world.specs.Events.{Event, Moment, device_step, happens, has_failed, host_step, line_read, proxy_step, reset_made, run}
+use Rattle.vs_world.specs.Events.{is_guest_cid, unless_failed, where_possible}
+use Rattle.vs_world.specs.{Over.device_after, Over.proxy_after, Over.reset_after, Pages.is_held, Pipes.IsFresh, World.World, World.opening}
+use Rattle.vs_world.proofs.{Opening.run_well, Sound.IsWell, Flown.LeavesDriver, OverBoth.IsPlayed, StayOpen.StayOpen, StayOpen.still_has}
 use Rattle.vs_core.specs.Ready.{Happens, IsReached, IsReady, IsServedAtWork, WorldState, shown, with_journal}
 use Rattle.vs_core.proofs.Happening.{happened, where_is}
 use Rattle.vs_core.proofs.Stepped.{driven_still, line_after, reset_played, step_after, step_serves, turn_after, turn_serves}

@@ -1,22 +1,17 @@
 -- The rings stay the driver's over its steps and its calls.
 use Rattle.std.proofs.Common.{◌≡◌, ℕ, ◌<◌, true, [], length, Option, Some, unwrap_or, refl, sym, ap, subst, ◌∙◌, rules}
 use Rattle.std.proofs.lemmas.Bool.{and_parts}
-use Rattle.vs_ring_port.specs.Contents.{RingContents}
-use Rattle.vs_ring_port.specs.Counts.{at, no_counts, with_count}
+use Rattle.vs_ring_port.specs.{Contents.RingContents, Counts.at, Counts.no_counts, Counts.with_count}
 use Rattle.vs_ring_port.specs.EndLog.{EndLog, Pages, pages_at}
-use Rattle.vs_ring_port.specs.declared.queue.Queue.{Queue}
+use Rattle.vs_ring_port.specs.declared.queue.{Queue.Queue, TheConstants.STAGED_MAX}
 use Rattle.vs_ring_port.specs.declared.queue.Queue.TheVariants.{Rx, Tx, Event}
-use Rattle.vs_ring_port.specs.declared.queue.TheConstants.{STAGED_MAX}
 use Rattle.vs_ring_list.specs.Ends.{Ends, driver_contents, flight_of, staged_of}
-use Rattle.vs_driver_parts.specs.Playing.{IsAtWork, IsRingOf, SamePages}
-use Rattle.vs_driver_parts.specs.State.{DriverState}
+use Rattle.vs_driver_parts.specs.{Playing.IsAtWork, Playing.IsRingOf, Playing.SamePages, State.DriverState}
 use Rattle.vs_driver_log.specs.Honest.{AgreesWith, IsHonest, IsHonestWith, ends_of_state}
 use Rattle.vs_driver_log.specs.Staged.{IsAtWorkWith, IsLeft, IsTied, IsWorkingWith}
 use Rattle.vs_driver_log.proofs.Ringing.{agrees, at_rest, tied}
-use Rattle.vs_world.specs.Events.{is_at_rest, none_staged, works_on}
-use Rattle.vs_world.specs.World.{first_cid}
-use Rattle.vs_world.proofs.Polls.{rest_works}
-use Rattle.vs_world.proofs.Sound.{nothing_staged}
+use Rattle.vs_world.specs.{Events.is_at_rest, Events.none_staged, Events.works_on, World.first_cid}
+use Rattle.vs_world.proofs.{Polls.rest_works, Sound.nothing_staged}
 use Rattle.vs_core.specs.Ready.{IsDrivenAtWork}
 
 -- On any other queue than the one in work nothing is staged.

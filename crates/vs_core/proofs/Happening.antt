@@ -1,38 +1,29 @@
 -- What an event leads to, and that the next one may happen.
-use Rattle.std.proofs.Common.{◌≡◌, ℕ, ◌<◌, ◌^◌, ◌&&◌, ◌↔◌, nat_lt, Bool, true, false, List, [], ◌∷◌, ◌++◌, is_some, Result, Ok, Err, OnOk, OnErr, IsOk, IsTrue, is_ok, refl, sym, ap, subst, ◌∙◌, arith, rules}
+use Rattle.std.proofs.Common.{◌≡◌, ℕ, ◌<◌, ◌^◌, ◌&&◌, ◌↔◌, nat_lt, Bool, true, false, List, [], ◌∷◌, ◌++◌, is_some, Result, Ok, Err, OnOk}
+use Rattle.std.proofs.Common.{OnErr, IsOk, IsTrue, is_ok, refl, sym, ap, subst, ◌∙◌, arith, rules}
 use Rattle.std.proofs.lemmas.Bool.Decides.{nat_tests}
 use Rattle.vs_contents.specs.CallTree.{Done}
 use Rattle.vs_outside.specs.Host.{HostContents}
-use Rattle.vs_ring_port.specs.Chains.{chains_of}
-use Rattle.vs_ring_port.specs.Contents.{RingContents}
-use Rattle.vs_ring_port.specs.EndLog.{EndLog}
+use Rattle.vs_ring_port.specs.{Chains.chains_of, Contents.RingContents, EndLog.EndLog}
 use Rattle.vs_ring_port.specs.declared.queue.Queue.{Queue}
 use Rattle.vs_ring_port.specs.declared.queue.Queue.TheVariants as q
 use Rattle.vs_ring_list.specs.Ends.{Ends, driver_contents, flight_of, staged_of}
-use Rattle.vs_driver_parts.specs.Conversations.{DriverTree, publish_of}
-use Rattle.vs_driver_parts.specs.Connections.{after_unlisten}
+use Rattle.vs_driver_parts.specs.{Conversations.DriverTree, Conversations.publish_of, Connections.after_unlisten}
 use Rattle.vs_driver_parts.specs.Listening.{listen_of, listener_on, listening}
-use Rattle.vs_driver_parts.specs.Playing.{IsAtWork, IsRingOf, Plays, SamePages}
-use Rattle.vs_driver_parts.specs.State.{DriverState}
-use Rattle.vs_driver_parts.specs.declared.answers.ListenError.{ListenError}
-use Rattle.vs_driver_parts.specs.declared.answers.NotListening.{NotListening}
+use Rattle.vs_driver_parts.specs.{Playing.IsAtWork, Playing.IsRingOf, Playing.Plays, Playing.SamePages, State.DriverState}
 use Rattle.vs_driver_parts.specs.Steps.{stages_owed, stages_reply, takes_page}
-use Rattle.vs_driver_log.specs.Honest.{IsHonestWith}
-use Rattle.vs_driver_log.specs.Staged.{IsWorkingWith}
-use Rattle.vs_device_parts.specs.Calls.{DeviceTree}
-use Rattle.vs_device_parts.specs.Playing.{IsAmong}
-use Rattle.vs_device_parts.specs.State.{DeviceState}
+use Rattle.vs_driver_parts.specs.declared.answers.{ListenError.ListenError, NotListening.NotListening}
+use Rattle.vs_driver_log.specs.{Honest.IsHonestWith, Staged.IsWorkingWith}
+use Rattle.vs_device_parts.specs.{Calls.DeviceTree, Playing.IsAmong, State.DeviceState}
 use Rattle.vs_device_parts.specs.Steps.{takes_chain, returns, puts_event, puts_reply, puts_owed, puts_payload, writes, shuts_write}
 use Rattle.vs_device_parts.specs.Streams.{tick_slot}
-use Rattle.vs_proxy_parts.specs.Handshakes.{accept_one, tick_handshake}
-use Rattle.vs_proxy_parts.specs.State.{ProxyState}
+use Rattle.vs_proxy_parts.specs.{Handshakes.accept_one, Handshakes.tick_handshake, State.ProxyState}
 use Rattle.vs_world.specs.Calls.{GuestCall, ReplyTo, is_right}
 use Rattle.vs_world.specs.Calls as call
-use Rattle.vs_world.specs.Events.{Event, call_made, device_step, driver_step, happens, has_failed, holds, is_at_rest, is_guest_cid, line_read, proxy_step, reset_made, run, unless_failed, where_possible, works_on}
+use Rattle.vs_world.specs.Events.{Event, call_made, device_step, driver_step, happens, has_failed, holds, is_at_rest, is_guest_cid}
+use Rattle.vs_world.specs.Events.{line_read, proxy_step, reset_made, run, unless_failed, where_possible, works_on}
 use Rattle.vs_world.specs.Events as event
-use Rattle.vs_world.specs.GuestSteps.{makes_call}
-use Rattle.vs_world.specs.World.{World, first_cid, opening}
-use Rattle.vs_world.specs.Over.{over_lists}
+use Rattle.vs_world.specs.{GuestSteps.makes_call, World.World, World.first_cid, World.opening, Over.over_lists}
 use Rattle.vs_world.proofs.OverLists.{over}
 use Rattle.vs_core.proofs.Driven.{driven_stays, honest_rest, rested, stepped, works_with}
 use Rattle.vs_core.specs.Ready.{Happens, IsDrivenAtWork, IsReached, IsReady, IsServedAtWork, WorldState, shown, with_journal}

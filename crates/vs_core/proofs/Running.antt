@@ -2,10 +2,8 @@
 use Rattle.std.proofs.Common.{◌≡◌, ℕ, ◌+◌, ◌<◌, ◌≤◌, List, [], ◌∷◌, length, map, drop, get_or, sym, ap, ◌∙◌}
 use Rattle.std.proofs.Math.ListN.{drop_of_length-le}
 use Rattle.std.proofs.lemmas.List.{drop_more, drop-map, length-map}
-use Rattle.vs_world.specs.Events.{Event, happens, run}
-use Rattle.vs_world.specs.World.{World}
-use Rattle.vs_core.specs.Ready.{WorldState, shown, with_journal}
-use Rattle.vs_core.specs.Views.{event_view}
+use Rattle.vs_world.specs.{Events.Event, Events.happens, Events.run, World.World}
+use Rattle.vs_core.specs.{Ready.WorldState, Ready.shown, Ready.with_journal, Views.event_view}
 use Rattle.vs_core.specs.declared.event.Event as program
 use Rattle.vs_core.proofs.Happening.{run_blind}
 

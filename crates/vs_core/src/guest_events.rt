@@ -7,8 +7,7 @@ ghost use Rattle.vs_ring_list.specs.Ends.{Ends};
 ghost use Rattle.vs_world.specs.Calls as call;
 ghost use Rattle.vs_world.specs.Events.{GuestCalls, GuestPays, GuestPublishes, GuestReplies, GuestTakes, is_at_rest, none_staged, works_on};
 ghost use Rattle.vs_world.specs.GuestSteps.{makes_call};
-ghost use Rattle.vs_core.specs.Ready.{Happens, IsDrivenAtWork, IsReady};
-ghost use Rattle.vs_core.specs.Views.{HasBits, Steps, call_view};
+ghost use Rattle.vs_core.specs.{Ready.Happens, Ready.IsDrivenAtWork, Ready.IsReady, Views.HasBits, Views.Steps, Views.call_view};
 
 use crate::event::{GuestCall, Reply};
 use crate::world::World;

@@ -3,11 +3,9 @@ use Rattle.std.proofs.Common.{◌≡◌, ◌≢◌, ℕ, ◌+◌, ◌≤◌, ◌
 use Rattle.std.specs.Option.{ForSome, option_map_or}
 use Rattle.std.proofs.lemmas.Bool.Decides.{nat_tests}
 use Rattle.vs_contents.specs.CallTree.{Done, Ask, bind}
-use Rattle.vs_contents.proofs.Leads.{leads_of, leads_bind}
-use Rattle.vs_contents.proofs.Conditions.{may_rest, may_of}
+use Rattle.vs_contents.proofs.{Leads.leads_of, Leads.leads_bind, Conditions.may_rest, Conditions.may_of}
 use Rattle.vs_flow.specs.Table.{entry_under}
-use Rattle.vs_outside.specs.Host.{IsOpen, TakesSome}
-use Rattle.vs_outside.specs.InOut.{MovesSome}
+use Rattle.vs_outside.specs.{Host.IsOpen, Host.TakesSome, InOut.MovesSome}
 use Rattle.vs_outside.specs.declared.host_net.StreamWrite.{StreamWrite}
 use Rattle.vs_outside.specs.declared.host_net.StreamWrite.TheVariants as write
 use Rattle.vs_device_parts.specs.Calls.{Situation, DeviceTree, Allows, WriteStream, ShutWrite}

@@ -2,21 +2,17 @@
 use Rattle.std.proofs.Common.{◌≡◌, ℕ, ◌+◌, Bool, true, false, not, List, [], ◌∷◌, drop, Option, Some, None, refl, sym, ap, subst, ◌∙◌}
 use Rattle.std.specs.List.{slice_get}
 use Rattle.vs_contents.specs.CallTree.{Done, bind}
-use Rattle.vs_contents.proofs.Leads.{leads_of, leads_bind}
-use Rattle.vs_contents.proofs.Conditions.{may_first, may_rest, may_of}
+use Rattle.vs_contents.proofs.{Leads.leads_of, Leads.leads_bind, Conditions.may_first, Conditions.may_rest, Conditions.may_of}
 use Rattle.vs_header.specs.declared.Header.{Header}
 use Rattle.vs_replies.specs.declared.Reply.{Reply}
 use Rattle.vs_ring_port.specs.declared.device_ring.Chain.{Chain}
-use Rattle.vs_conn.specs.End.{owes_of}
-use Rattle.vs_conn.specs.Headers.{owed_header}
+use Rattle.vs_conn.specs.{End.owes_of, Headers.owed_header}
 use Rattle.vs_conn.specs.declared.end.Owed.{Owed}
 use Rattle.vs_flow.specs.Table.{entry_under}
-use Rattle.vs_device_parts.specs.Calls.{DeviceTree, Situation, Allows}
-use Rattle.vs_device_parts.specs.Connections.{route_to_guest}
-use Rattle.vs_device_parts.specs.Filling.{put_header}
+use Rattle.vs_device_parts.specs.{Calls.DeviceTree, Calls.Situation, Calls.Allows, Connections.route_to_guest, Filling.put_header}
 use Rattle.vs_device_parts.specs.Playing.{CanMake, MayRun, Runs}
-use Rattle.vs_device_parts.specs.Receiving.{Filling, hold, written, put_on, put_packet, reply_header, put_reply, put_reply_of, put_owed, after_paying}
-use Rattle.vs_device_parts.specs.State.{DeviceState, DeviceEntry}
+use Rattle.vs_device_parts.specs.Receiving.{Filling, hold, written, put_on, put_packet, reply_header, put_reply, put_reply_of, put_owed}
+use Rattle.vs_device_parts.specs.{Receiving.after_paying, State.DeviceState, State.DeviceEntry}
 use Rattle.vs_device.proofs.Trees.{bind_same, bind_assoc}
 
 -- what follows the packet that was put

@@ -2,17 +2,13 @@
 use Rattle.std.proofs.Common.{◌≡◌, ℕ, ◌-◌, ◌≤◌, Bool, true, false, cond, List, [], ◌∷◌, ◌++◌, length, drop, Contains, refl, sym, ap, subst}
 use Rattle.std.proofs.Common.{◌∙◌, arith, length-append, length-drop, length-take}
 use Rattle.std.proofs.lemmas.Grind.{common_steps}
-use Rattle.vs_conn.specs.End.{ConnectionEnd, wanting_credit, with_payload_forwarded, with_shut}
-use Rattle.vs_conn.specs.Follows.{Follows}
+use Rattle.vs_conn.specs.{End.ConnectionEnd, End.wanting_credit, End.with_payload_forwarded, End.with_shut, Follows.Follows}
 use Rattle.vs_conn.proofs.Steps.{abort_follows, ask_follows, forward_follows, shut_follows}
 use Rattle.vs_history.specs.History.{Side, gots, puts, History}
-use Rattle.vs_flow.specs.Flow.{same_flow}
-use Rattle.vs_flow.specs.Table.{Table}
+use Rattle.vs_flow.specs.{Flow.same_flow, Table.Table}
 use Rattle.vs_flow.specs.declared.flow.Flow.{Flow}
 use Rattle.vs_page.specs.Log.{Device, Log, side_of}
-use Rattle.vs_matching.specs.Ends.{Ends, FlowEnd, ends_of, is_new, replaced}
-use Rattle.vs_matching.specs.Heard.{heard_of}
-use Rattle.vs_matching.specs.Matches.{Matches}
+use Rattle.vs_matching.specs.{Ends.Ends, Ends.FlowEnd, Ends.ends_of, Ends.is_new, Ends.replaced, Heard.heard_of, Matches.Matches}
 use Rattle.vs_matching.specs.Steps.{with_end}
 use Rattle.vs_matching.proofs.Keeps.{changes}
 use Rattle.vs_replies.specs.declared.Reply.{Reply}

@@ -1,12 +1,10 @@
 -- What connect comes to in each case.
 use Rattle.std.proofs.Common.{◌≡◌, ℕ, true, None, Result, Ok, refl, sym, ap}
 use Rattle.vs_contents.specs.CallTree.{Done, bind}
-use Rattle.vs_contents.proofs.Leads.{leads_of, leads_bind}
-use Rattle.vs_contents.proofs.Conditions.{may_first, may_rest, may_of}
+use Rattle.vs_contents.proofs.{Leads.leads_of, Leads.leads_bind, Conditions.may_first, Conditions.may_rest, Conditions.may_of}
 use Rattle.vs_ring_port.specs.Contents.{RingContents}
 use Rattle.vs_driver_parts.specs.declared.answers.ConnectError.{ConnectError}
-use Rattle.vs_driver_parts.specs.State.{DriverState}
-use Rattle.vs_driver_parts.specs.Connections.{connect_refusal, connected}
+use Rattle.vs_driver_parts.specs.{State.DriverState, Connections.connect_refusal, Connections.connected}
 use Rattle.vs_driver_parts.specs.Conversations.{DriverTree, connect_of, connect_with_page, request_bytes, post_packet, reap_all, has_page}
 use Rattle.vs_driver_parts.specs.Playing.{CanMake, MayPublishAll, Plays, RingAllows}
 

@@ -1,20 +1,17 @@
 -- What single steps come to.
 use Rattle.std.proofs.Common.{◌≡◌, ℕ, Bool, None, Result, refl, sym, subst}
 use Rattle.vs_contents.specs.CallTree.{Done}
-use Rattle.vs_contents.proofs.Leads.{leads_of, leads_bind}
-use Rattle.vs_contents.proofs.Conditions.{may_first, may_of}
+use Rattle.vs_contents.proofs.{Leads.leads_of, Leads.leads_bind, Conditions.may_first, Conditions.may_of}
 use Rattle.vs_ring_port.specs.declared.queue.Queue.{Queue}
 use Rattle.vs_ring_port.specs.declared.queue.Queue.TheVariants.{Rx, Tx, Event}
 use Rattle.vs_ring_port.specs.Contents.{RingContents}
 use Rattle.vs_driver_parts.specs.declared.answers.ConnectError.{ConnectError}
-use Rattle.vs_driver_parts.specs.State.{DriverState}
-use Rattle.vs_driver_parts.specs.Connections.{connect_refusal}
-use Rattle.vs_driver_parts.specs.Conversations.{DriverTree, Round, connect_with_page, put_owed, put_reply, reap_one, start, take_event, take_packet}
-use Rattle.vs_driver_parts.specs.Playing.{CanMake, MayPublishAll, Plays, RingAllows}
+use Rattle.vs_driver_parts.specs.{State.DriverState, Connections.connect_refusal}
+use Rattle.vs_driver_parts.specs.Conversations.{DriverTree, Round, connect_with_page, put_owed, put_reply, reap_one, start, take_event}
+use Rattle.vs_driver_parts.specs.{Conversations.take_packet, Playing.CanMake, Playing.MayPublishAll, Playing.Plays, Playing.RingAllows}
 use Rattle.vs_driver_parts.specs.Steps.{connects, stages_owed, stages_reply, takes_page}
 use Rattle.vs_driver_log.specs.Staged.{IsAtWorkWith, IsWorkingWith}
-use Rattle.vs_driver_log.proofs.Keeping.{keeps_end, keeps_may}
-use Rattle.vs_driver_log.proofs.Stepping.{takes_keeps}
+use Rattle.vs_driver_log.proofs.{Keeping.keeps_end, Keeping.keeps_may, Stepping.takes_keeps}
 
 -- the state that a step leaves
 of_put : Round × Bool → DriverTree DriverState

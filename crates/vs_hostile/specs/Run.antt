@@ -2,20 +2,16 @@
 use Rattle.std.specs.Prelude.{ℕ, ◌+◌, ◌&&◌, nat_le, min, if◌then◌else◌, List, [], length, Option, None, Some, Result, codes}
 use Rattle.vs_contents.specs.CallTree.{played}
 use Rattle.vs_layout.specs.declared.span.Span.{Span}
-use Rattle.vs_outside.specs.Host.{HostContents}
-use Rattle.vs_outside.specs.HostProgram.{after_client, new_host, plain}
+use Rattle.vs_outside.specs.{Host.HostContents, HostProgram.after_client, HostProgram.new_host, HostProgram.plain}
 use Rattle.vs_ring_port.specs.declared.failure.Failure.{Failure}
 use Rattle.vs_ring_plain.specs.Device.{DeviceState}
 use Rattle.vs_device_parts.specs.Calls.{DeviceTree}
-use Rattle.vs_proxy_parts.specs.State.{ProxyState}
-use Rattle.vs_proxy_parts.specs.Turns.{new_proxy, turn_of, proxy_reset_of}
+use Rattle.vs_proxy_parts.specs.{State.ProxyState, Turns.new_proxy, Turns.turn_of, Turns.proxy_reset_of}
 use Rattle.vs_proxy_parts.specs.declared.answers.Turn.{Turn}
 use Rattle.vs_report.specs.HostLines.{host_played}
 use Rattle.vs_script.specs.Hostile.{Hostile, Memory as SetMemory, Rings as SetRings, Look, Around as OfOutside}
 use Rattle.vs_script.specs.Outside.{Outside, Turn as TakeTurn, Reset, Tick, Client, OfHost}
-use Rattle.vs_hostile.specs.Answers.{answer_around}
-use Rattle.vs_hostile.specs.Guest.{guest_writes, looked}
-use Rattle.vs_hostile.specs.Rings.{rings_of}
+use Rattle.vs_hostile.specs.{Answers.answer_around, Guest.guest_writes, Guest.looked, Rings.rings_of}
 
 -- The guest's memory as far as the script has set it up: nothing, where it lies, or the rings in it.
 pub data GuestState : Type 0 where

@@ -1,14 +1,12 @@
 -- What each call does: it keeps registers in order, their limits, a queue that stays ready, and the features while FEATURES_OK stands.
-use Rattle.std.proofs.Common.{rules, ◌≡◌, ℕ, ◌&&◌, nat_le, Bool, true, false, cond, IsTrue, IfSome, Option, Some, None}
-use Rattle.std.proofs.Common.{List, [], ◌∷◌, refl, ◌∙◌, arith}
+use Rattle.std.proofs.Common.{rules, ◌≡◌, ℕ, ◌&&◌, nat_le, Bool, true, false, cond, IsTrue, IfSome, Option, Some, None, List, [], ◌∷◌, refl}
+use Rattle.std.proofs.Common.{◌∙◌, arith}
 use Rattle.std.specs.Int.{is_power_of_two}
 use Rattle.vs_mmio.specs.Calls.{Call, Failed, Read, SetCid, Used, Write, after, led_to, run}
 use Rattle.vs_mmio.specs.Queue.{is_placed, may_be_ready, place_of, queue_after, written}
 use Rattle.vs_mmio.specs.Registers.{IsInOrder, IsReadyRightly, after_register, at_selected, fresh, queue_in, shown}
 use Rattle.vs_mmio.specs.Table.{queue_numbered, register_at}
-use Rattle.vs_mmio.specs.declared.queue.Limits.{Limits}
-use Rattle.vs_mmio.specs.declared.queue.QueueRegs.{QueueRegs}
-use Rattle.vs_mmio.specs.declared.queue.ReadyQueue.{ReadyQueue}
+use Rattle.vs_mmio.specs.declared.queue.{Limits.Limits, QueueRegs.QueueRegs, ReadyQueue.ReadyQueue}
 use Rattle.vs_mmio.specs.declared.register.QueueRegister.{QueueRegister}
 use Rattle.vs_mmio.specs.declared.register.QueueRegister.TheVariants as queue
 use Rattle.vs_mmio.specs.declared.register.Register.{Register}

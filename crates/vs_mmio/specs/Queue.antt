@@ -2,11 +2,7 @@
 use Rattle.std.specs.Prelude.{ℕ, ◌+◌, ◌*◌, ◌%◌, ◌^◌, ◌==◌, ◌&&◌, ◌||◌, not, nat_le, Bool, false, if◌then◌else◌}
 use Rattle.std.specs.Int.{is_power_of_two}
 use Rattle.vs_mmio.specs.Status.{bit_if}
-use Rattle.vs_mmio.specs.declared.queue.Area.{Area}
-use Rattle.vs_mmio.specs.declared.queue.Halves.{Halves}
-use Rattle.vs_mmio.specs.declared.queue.Limits.{Limits}
-use Rattle.vs_mmio.specs.declared.queue.QueueRegs.{QueueRegs}
-use Rattle.vs_mmio.specs.declared.queue.ReadyQueue.{ReadyQueue}
+use Rattle.vs_mmio.specs.declared.queue.{Area.Area, Halves.Halves, Limits.Limits, QueueRegs.QueueRegs, ReadyQueue.ReadyQueue}
 use Rattle.vs_mmio.specs.declared.register.QueueRegister.{QueueRegister}
 use Rattle.vs_mmio.specs.declared.register.QueueRegister.TheVariants as queue
 

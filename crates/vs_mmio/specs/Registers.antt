@@ -1,21 +1,17 @@
 -- The registers of the socket device as a plain machine (Virtio 1.2, sections 2.1, 2.2, 4.2.2 and 5.10.4): what each call of the
 -- device's monitor answers, and what it leaves.
-use Rattle.std.specs.Prelude.{◌≡◌, ℕ, ◌+◌, ◌-◌, ◌*◌, ◌/◌, ◌%◌, ◌^◌, ◌==◌, ◌&&◌, ◌||◌, nat_le, nat_lt, Bool, true, IsTrue}
-use Rattle.std.specs.Prelude.{Option, None, Some, if◌then◌else◌}
+use Rattle.std.specs.Prelude.{◌≡◌, ℕ, ◌+◌, ◌-◌, ◌*◌, ◌/◌, ◌%◌, ◌^◌, ◌==◌, ◌&&◌, ◌||◌, nat_le, nat_lt, Bool, true, IsTrue, Option, None}
+use Rattle.std.specs.Prelude.{Some, if◌then◌else◌}
 use Rattle.vs_mmio.specs.Queue.{may_be_ready, no_queue, place_of, queue_after, queue_value, whole}
-use Rattle.vs_mmio.specs.Status.{acknowledged, are_accepted, interrupt_number, no_interrupt, no_status}
-use Rattle.vs_mmio.specs.Status.{offered_half, status_after, status_number}
-use Rattle.vs_mmio.specs.Table.{queue_numbered, register_at}
-use Rattle.vs_mmio.specs.declared.queue.Limits.{Limits}
-use Rattle.vs_mmio.specs.declared.queue.QueueRegs.{QueueRegs}
-use Rattle.vs_mmio.specs.declared.queue.ReadyQueue.{ReadyQueue}
+use Rattle.vs_mmio.specs.Status.{acknowledged, are_accepted, interrupt_number, no_interrupt, no_status, offered_half, status_after}
+use Rattle.vs_mmio.specs.{Status.status_number, Table.queue_numbered, Table.register_at}
+use Rattle.vs_mmio.specs.declared.queue.{Limits.Limits, QueueRegs.QueueRegs, ReadyQueue.ReadyQueue}
 use Rattle.vs_mmio.specs.declared.register.Register.{Register}
 use Rattle.vs_mmio.specs.declared.register.Register.TheVariants as register
 use Rattle.vs_mmio.specs.declared.register.Virtqueue.{Virtqueue}
 use Rattle.vs_mmio.specs.declared.register.Virtqueue.TheVariants.{Rx, Tx, Event}
 use Rattle.vs_mmio.specs.declared.regs.RegisterState.{RegisterState}
-use Rattle.vs_mmio.specs.declared.regs.TheConstants.{CONFIG_AT, CONFIG_LEN, STATUS_AT}
-use Rattle.vs_mmio.specs.declared.regs.Wrote.{Wrote}
+use Rattle.vs_mmio.specs.declared.regs.{TheConstants.CONFIG_AT, TheConstants.CONFIG_LEN, TheConstants.STATUS_AT, Wrote.Wrote}
 use Rattle.vs_mmio.specs.declared.regs.Wrote.TheVariants.{Done, Renew}
 
 -- Registers to which the driver wrote nothing.

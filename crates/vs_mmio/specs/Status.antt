@@ -1,10 +1,9 @@
 -- Device status (Virtio 1.2, section 2.1), feature bits (section 2.2) and interrupt status (section 4.2.2).
 use Rattle.std.specs.Prelude.{ℕ, ◌+◌, ◌==◌, ◌&&◌, ◌||◌, not, Bool, false, if◌then◌else◌, bit_and}
 use Rattle.vs_mmio.specs.declared.queue.Halves.{Halves}
-use Rattle.vs_mmio.specs.declared.status.Interrupt.{Interrupt}
-use Rattle.vs_mmio.specs.declared.status.Status.{Status}
-use Rattle.vs_mmio.specs.declared.status.TheConstants.{ACKNOWLEDGE, DRIVER, DRIVER_OK, FEATURES_OK, DEVICE_NEEDS_RESET, FAILED}
-use Rattle.vs_mmio.specs.declared.status.TheConstants.{USED_BUFFER, CONFIGURATION_CHANGE, OFFERED_LOW, OFFERED_HIGH, VERSION_1}
+use Rattle.vs_mmio.specs.declared.status.{Interrupt.Interrupt, Status.Status}
+use Rattle.vs_mmio.specs.declared.status.TheConstants.{ACKNOWLEDGE, DRIVER, DRIVER_OK, FEATURES_OK, DEVICE_NEEDS_RESET, FAILED, USED_BUFFER}
+use Rattle.vs_mmio.specs.declared.status.TheConstants.{CONFIGURATION_CHANGE, OFFERED_LOW, OFFERED_HIGH, VERSION_1}
 
 -- A value has a bit.
 abbrev pub has : ℕ → ℕ → Bool

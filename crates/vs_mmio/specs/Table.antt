@@ -1,7 +1,6 @@
 -- The registers of a device by offset (Virtio 1.2, section 4.2.2), but for those of shared memory and of the reset of one queue;
 -- and the queues of the socket device by number (section 5.10.2).
-use Rattle.std.specs.Prelude.{ℕ, ◌==◌, List, [], ◌∷◌, Option, slice_get}
-use Rattle.std.specs.Map.{lookup}
+use Rattle.std.specs.{Prelude.ℕ, Prelude.◌==◌, Prelude.List, Prelude.[], Prelude.◌∷◌, Prelude.Option, Prelude.slice_get, Map.lookup}
 use Rattle.vs_mmio.specs.declared.register.Register.{Register}
 use Rattle.vs_mmio.specs.declared.register.Register.TheVariants as register
 use Rattle.vs_mmio.specs.declared.register.QueueRegister.TheVariants as queue

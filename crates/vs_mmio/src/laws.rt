@@ -1,15 +1,12 @@
 //! Laws of the registers, over every list of calls: accesses of the driver, and what the device's monitor tells.
 ghost use Rattle.std.specs.Prelude.{◌≡◌, ℕ, true, false, IfSome, IsTrue, List, None};
 ghost use Rattle.std.specs.List.{AllByRecursion};
-ghost use Rattle.vs_mmio.specs.Calls.{Call, Write, after, led_to, read_only, write_only};
-ghost use Rattle.vs_mmio.specs.Queue.{may_be_ready};
+ghost use Rattle.vs_mmio.specs.{Calls.Call, Calls.Write, Calls.after, Calls.led_to, Calls.read_only, Calls.write_only, Queue.may_be_ready};
 ghost use Rattle.vs_mmio.specs.Registers.{after_write, fresh, may_run_of, queue_in, read_of, shown};
-ghost use Rattle.vs_mmio.specs.Status.{are_accepted};
-ghost use Rattle.vs_mmio.specs.Table.{register_at};
+ghost use Rattle.vs_mmio.specs.{Status.are_accepted, Table.register_at};
 ghost use Rattle.vs_mmio.specs.declared.queue.Limits.{Limits};
 ghost use Rattle.vs_mmio.specs.declared.register.Virtqueue.{Virtqueue};
-ghost use Rattle.vs_mmio.specs.declared.regs.RegisterState.{RegisterState};
-ghost use Rattle.vs_mmio.specs.declared.regs.TheConstants.{STATUS_AT};
+ghost use Rattle.vs_mmio.specs.declared.regs.{RegisterState.RegisterState, TheConstants.STATUS_AT};
 
 /// The standard's columns R and W. What the driver only writes reads 0, and what it only reads stays when it is written, as does
 /// everything where an offset has no register. 0 in the status makes the registers as at first.

@@ -1,7 +1,7 @@
 //! The registers of one queue, and where its three areas may lie (Virtio 1.2, sections 2.7 and 4.2.2).
 ghost use Rattle.std.specs.Prelude.{◌≡◌, ◌+◌, ◌<◌, ◌≤◌, nat_le};
-ghost use Rattle.vs_mmio.specs.Queue.{is_apart, is_fit, is_placed, may_be_ready, place_of, queue_after, queue_value};
-ghost use Rattle.vs_mmio.specs.Queue.{ready_after, whole, written};
+ghost use Rattle.vs_mmio.specs.Queue.{is_apart, is_fit, is_placed, may_be_ready, place_of, queue_after, queue_value, ready_after, whole};
+ghost use Rattle.vs_mmio.specs.Queue.{written};
 
 use crate::register::QueueRegister;
 

@@ -1,6 +1,5 @@
 //! The registers, and the calls of a device's monitor on them.
-ghost use Rattle.std.specs.Prelude.{◌≡◌, ◌<◌, ◌≤◌, true, IfSome, IsTrue};
-ghost use Rattle.std.specs.Int.{is_power_of_two};
+ghost use Rattle.std.specs.{Prelude.◌≡◌, Prelude.◌<◌, Prelude.◌≤◌, Prelude.true, Prelude.IfSome, Prelude.IsTrue, Int.is_power_of_two};
 ghost use Rattle.vs_mmio.specs.Calls.{Failed, SetCid, Used, Write, after};
 ghost use Rattle.vs_mmio.specs.Queue.{is_placed, queue_after, queue_value};
 ghost use Rattle.vs_mmio.specs.Registers.{IsInOrder, after_register, at_selected, bytes_of, features_of, fresh, is_config, may_run_of};

@@ -1,7 +1,7 @@
 //! Device status (Virtio 1.2, section 2.1), feature bits (section 2.2) and interrupt status (section 4.2.2).
 ghost use Rattle.std.specs.Prelude.{◌≡◌};
-ghost use Rattle.vs_mmio.specs.Status.{acknowledged, are_accepted, bit_if, has, interrupt_number};
-ghost use Rattle.vs_mmio.specs.Status.{offered_half, status_after, status_number};
+ghost use Rattle.vs_mmio.specs.Status.{acknowledged, are_accepted, bit_if, has, interrupt_number, offered_half, status_after};
+ghost use Rattle.vs_mmio.specs.Status.{status_number};
 
 use crate::queue::Halves;
 

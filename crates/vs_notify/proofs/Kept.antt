@@ -1,7 +1,8 @@
 -- What every access keeps.
 use Rattle.std.proofs.Common.{◌≡◌, ℕ, ◌+◌, ◌^◌, ◌<◌, ◌≤◌, ◌⊎◌, true, false, List, [], ◌∷◌, arith}
 use Rattle.vs_notify.specs.Words.{needs_kick, asks_for_next, may_rest}
-use Rattle.vs_notify.specs.Machine.{Free, Index, Event, Publish, LoadWord, Take, StoreWord, Look, Wake, happens, run, start, owes, rests, word_of, may_publish, LosesNone}
+use Rattle.vs_notify.specs.Machine.{Free, Index, Event, Publish, LoadWord, Take, StoreWord, Look, Wake, happens, run, start, owes, rests}
+use Rattle.vs_notify.specs.Machine.{word_of, may_publish, LosesNone}
 use Rattle.vs_notify.specs.declared.Suppression.{Suppression}
 use Rattle.vs_notify.specs.declared.Suppression.TheVariants.{Flags, EventIndex}
 

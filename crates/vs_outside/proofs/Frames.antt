@@ -1,16 +1,14 @@
 -- What a call of the proxy does to the streams: its own stream is changed as the call says, and the others stay.
-use Rattle.std.proofs.Common.{◌≡◌, ◌≢◌, ℕ, zero, suc, ◌+◌, ◌-◌, ◌≤◌, Bool, true, false, cond, eqb, List, [], ◌∷◌, ◌++◌, length, get_or}
-use Rattle.std.proofs.Common.{set, Option, None, Some, refl, ap, ◌∙◌, arith}
-use Rattle.std.specs.Prelude.{slice_get, IsSomeAnd, position}
-use Rattle.std.specs.Option.{option_map, option_map_or}
+use Rattle.std.proofs.Common.{◌≡◌, ◌≢◌, ℕ, zero, suc, ◌+◌, ◌-◌, ◌≤◌, Bool, true, false, cond, eqb, List, [], ◌∷◌, ◌++◌, length, get_or, set}
+use Rattle.std.proofs.Common.{Option, None, Some, refl, ap, ◌∙◌, arith}
+use Rattle.std.specs.{Prelude.slice_get, Prelude.IsSomeAnd, Prelude.position, Option.option_map, Option.option_map_or}
 use Rattle.std.proofs.lemmas.Bool.Decides.{nat_tests}
 use Rattle.std.proofs.lemmas.Option.{slice_get_past}
 use Rattle.std.proofs.lemmas.List.Quantifiers.{position-Some}
 use Rattle.vs_flow.specs.declared.flow.Flow.{Flow}
 use Rattle.vs_outside.specs.Host.{Stream, HostContents, stream_at, with_stream, IsOpen, KeepsOthers, called, fails_now, after_failed}
-use Rattle.vs_outside.specs.Host.{is_waiting, waits, has_label, take_bytes, give_bytes, accept_answer}
-use Rattle.vs_outside.specs.Host.{after_accept, dialed_stream, after_dial, after_label, after_read}
-use Rattle.vs_outside.specs.Host.{after_write, after_shut_write, after_close}
+use Rattle.vs_outside.specs.Host.{is_waiting, waits, has_label, take_bytes, give_bytes, accept_answer, after_accept, dialed_stream}
+use Rattle.vs_outside.specs.Host.{after_dial, after_label, after_read, after_write, after_shut_write, after_close}
 use Rattle.vs_outside.specs.HostProgram.{client_stream}
 use Rattle.vs_outside.proofs.Streams.{stream_there}
 use Rattle.vs_outside.specs.declared.host_net.StreamState.{StreamState}

@@ -1,7 +1,6 @@
 //! A host in memory, whose programs are played by calls of its own.
-ghost use Rattle.std.specs.Prelude.{◌≡◌, ◌<◌, ◌+◌, ◌++◌, ◌∷◌, [], not, length, filter, bytes_eq, string_bytes, MatchOption, None, Some, IsTrue, ◌↔◌};
-ghost use Rattle.std.specs.Prelude.{position, IfSome, IfOk, OnOk, OnErr};
-ghost use Rattle.std.specs.List.{list_any};
+ghost use Rattle.std.specs.Prelude.{◌≡◌, ◌<◌, ◌+◌, ◌∷◌, [], not, length, filter, bytes_eq, string_bytes, MatchOption, None, Some, IsTrue};
+ghost use Rattle.std.specs.{Prelude.◌↔◌, Prelude.position, Prelude.IfSome, Prelude.IfOk, Prelude.OnOk, Prelude.OnErr, List.list_any};
 ghost use Rattle.vs_outside.specs.Faults.{CountsFault};
 ghost use Rattle.vs_outside.specs.Host.{IsOpen, fails_now, is_waiting, stream_at, with_stream, after_label, read_failed, ReadsSome, IsRead};
 ghost use Rattle.vs_outside.specs.Host.{after_read, write_failed, TakesSome, IsWritten, after_write, after_shut_write, after_close};

@@ -1,9 +1,6 @@
 //! A source, a sink, a clock and a gate in memory.
 ghost use Rattle.std.specs.Prelude.{◌≡◌, ◌≤◌, ◌+◌, ◌++◌, ◌∷◌, [], min, length, Some, OnOk, OnErr};
-ghost use Rattle.std.specs.Bool.{⊤};
-ghost use Rattle.vs_contents.specs.Contents.{Exposes};
-ghost use Rattle.vs_outside.specs.Faults.{CountsFault};
-ghost use Rattle.vs_outside.specs.InOut.{read_failed, ReadsSome, ReadsNext, left_after, write_failed, TakesSome, written_after};
+ghost use Rattle.vs_outside.specs.InOut.{ReadsSome, ReadsNext, TakesSome};
 ghost use Rattle.vs_outside.specs.MemIo.{new_source, read_answer, after_read, new_sink, IsWritten, after_write};
 
 use crate::fail_list::FailList;

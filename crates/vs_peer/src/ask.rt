@@ -1,9 +1,7 @@
 //! How a client asks for a port of the guest, and is answered (Firecracker's vsock documentation).
 ghost use Rattle.std.specs.Option.{ForSome};
-ghost use Rattle.vs_outside.specs.Faults.{CountsFault};
-ghost use Rattle.vs_outside.specs.Host.{IsOpen};
-ghost use Rattle.vs_peer.specs.Failing.{host_failed};
-ghost use Rattle.vs_peer.specs.Asking.{Asks, Answers};
+ghost use Rattle.vs_outside.specs.{Faults.CountsFault, Host.IsOpen};
+ghost use Rattle.vs_peer.specs.{Failing.host_failed, Asking.Asks, Asking.Answers};
 
 use crate::stop::Stop;
 use crate::stream::{read, write};

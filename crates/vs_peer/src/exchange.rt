@@ -1,10 +1,7 @@
 //! What passes once a client was answered: the bytes of its source one way, and what comes to its sink the other.
-ghost use Rattle.std.specs.Prelude.{◌≡◌};
-ghost use Rattle.std.specs.Option.{ForSome};
-ghost use Rattle.vs_outside.specs.Faults.{CountsFault};
-ghost use Rattle.vs_outside.specs.Host.{IsOpen};
-ghost use Rattle.vs_peer.specs.Failing.{host_failed, sink_failed};
-ghost use Rattle.vs_peer.specs.Exchanging.{Exchanges, Steps, comes_to};
+ghost use Rattle.std.specs.{Prelude.◌≡◌, Option.ForSome};
+ghost use Rattle.vs_outside.specs.{Faults.CountsFault, Host.IsOpen};
+ghost use Rattle.vs_peer.specs.{Failing.host_failed, Failing.sink_failed, Exchanging.Exchanges, Exchanging.Steps, Exchanging.comes_to};
 ghost use Rattle.vs_peer.specs.Sending.{GoesOn, IsSending};
 
 use crate::receive::{Came, receive};

@@ -1,10 +1,7 @@
 //! What a client receives: the bytes of its stream, which go to its sink.
-ghost use Rattle.std.specs.Prelude.{◌≡◌};
 ghost use Rattle.std.specs.Option.{ForSome};
-ghost use Rattle.vs_outside.specs.Faults.{CountsFault};
-ghost use Rattle.vs_outside.specs.Host.{IsOpen};
-ghost use Rattle.vs_peer.specs.Failing.{host_failed, sink_failed};
-ghost use Rattle.vs_peer.specs.Receiving.{Gives, Receives};
+ghost use Rattle.vs_outside.specs.{Faults.CountsFault, Host.IsOpen};
+ghost use Rattle.vs_peer.specs.{Failing.host_failed, Failing.sink_failed, Receiving.Gives, Receiving.Receives};
 
 use crate::sink::{SinkFault, emit};
 use crate::stop::Stop;

@@ -1,8 +1,6 @@
 //! One write to a stream, or one read of it, by what passes.
-ghost use Rattle.std.specs.Prelude.{◌≤◌, length};
-ghost use Rattle.std.specs.Option.{ForSome};
-ghost use Rattle.vs_outside.specs.Faults.{CountsFault};
-ghost use Rattle.vs_outside.specs.Host.{IsOpen, ReadsSome, TakesSome, read_failed, write_failed};
+ghost use Rattle.std.specs.{Prelude.◌≤◌, Prelude.length, Option.ForSome};
+ghost use Rattle.vs_outside.specs.{Faults.CountsFault, Host.IsOpen, Host.ReadsSome, Host.TakesSome, Host.read_failed, Host.write_failed};
 ghost use Rattle.vs_peer.specs.Passing.{ReadPasses, WritePasses};
 
 use vs_outside::{HostNet, StreamRead, StreamWrite};

@@ -2,8 +2,7 @@
 use Rattle.std.proofs.Common.{◌≡◌, ◌≢◌, ℕ, ◌==◌, Bool, true, false, not, List, [], ◌∷◌, ◌++◌, refl, sym, ap, ◌∙◌, subst, arith}
 use Rattle.std.proofs.lemmas.Bool.Decides.{nat_tests}
 use Rattle.std.proofs.lemmas.Grind.{common_steps}
-use Rattle.vs_conn.specs.End.{ConnectionEnd}
-use Rattle.vs_conn.specs.Follows.{Follows}
+use Rattle.vs_conn.specs.{End.ConnectionEnd, Follows.Follows}
 use Rattle.vs_conn.specs.declared.end.State.TheVariants.{Ended}
 use Rattle.vs_flow.specs.declared.flow.Flow.{Flow}
 use Rattle.vs_history.specs.History.{Answerer, Asker, Got, Side, gots, puts}
@@ -12,14 +11,9 @@ use Rattle.vs_history.specs.declared.packet.Packet.{Packet}
 use Rattle.vs_page.specs.Log.{Device, Driver, IsNextPacket, Log, flow_got, history_of, side_of}
 use Rattle.vs_page.specs.Open.{cid_of, is_dropped}
 use Rattle.vs_page.specs.declared.log.LogEntry.TheVariants.{GotPacket}
-use Rattle.vs_page.proofs.Entries.{got_on, on_flow}
-use Rattle.vs_page.proofs.Flows.{same_self}
-use Rattle.vs_matching.specs.Both.{Both, IsSound}
-use Rattle.vs_matching.specs.Heard.{heard_of}
-use Rattle.vs_matching.specs.Steps.{HasEnd}
-use Rattle.vs_matching.proofs.Both.{next_is_fair}
-use Rattle.vs_matching.proofs.Fair.{got_one}
-use Rattle.vs_matching.proofs.Steps.{cid_heard}
+use Rattle.vs_page.proofs.{Entries.got_on, Entries.on_flow, Flows.same_self}
+use Rattle.vs_matching.specs.{Both.Both, Both.IsSound, Heard.heard_of, Steps.HasEnd}
+use Rattle.vs_matching.proofs.{Both.next_is_fair, Fair.got_one, Steps.cid_heard}
 use Rattle.vs_matching.proofs.Voices.{AllSpeak, AreVoiced, IsOneVoice, keep, one_older}
 use Rattle.vs_pipes.specs.Streamed.{gives}
 

@@ -1,16 +1,14 @@
 -- Lines that are read: a byte more, and a line that ends.
-use Rattle.std.proofs.Common.{◌≡◌, ◌≢◌, ℕ, zero, suc, ◌<◌, ◌==◌, nat_le, ◌||◌, Bool, true, false, cond, List, [], ◌∷◌, ◌++◌, length, get_or, Some, refl, sym, ap, ◌∙◌, arith, length-append}
+use Rattle.std.proofs.Common.{◌≡◌, ◌≢◌, ℕ, zero, suc, ◌<◌, ◌==◌, nat_le, ◌||◌, Bool, true, false, cond, List, [], ◌∷◌, ◌++◌, length, get_or}
+use Rattle.std.proofs.Common.{Some, refl, sym, ap, ◌∙◌, arith, length-append}
 use Rattle.std.specs.List.{All, AllPairs, list_any}
 use Rattle.std.proofs.lemmas.Bool.Decides.{nat_tests}
 use Rattle.std.proofs.lemmas.List.{same_from_push}
-use Rattle.vs_proxy_parts.specs.Handshakes.{with_line, without_stream}
-use Rattle.vs_proxy_parts.specs.State.{Handshake}
-use Rattle.vs_uds.specs.ConnectLine.{connect_port, connect_step, connect_word}
-use Rattle.vs_uds.specs.Reading.{is_decided}
+use Rattle.vs_proxy_parts.specs.{Handshakes.with_line, Handshakes.without_stream, State.Handshake}
+use Rattle.vs_uds.specs.{ConnectLine.connect_port, ConnectLine.connect_step, ConnectLine.connect_word, Reading.is_decided}
 use Rattle.vs_uds.specs.declared.connect.TheConstants.{CONNECT_MAX}
 use Rattle.vs_uds.specs.declared.scan.Step.TheVariants as step
-use Rattle.vs_uds.proofs.ConnectLines.{IsWordLine-word_port}
-use Rattle.vs_uds.proofs.Decided.{decided}
+use Rattle.vs_uds.proofs.{ConnectLines.IsWordLine-word_port, Decided.decided}
 use Rattle.vs_pipes.specs.Streamed.{has_line}
 use Rattle.std.proofs.Common.{append_assoc, replicate}
 

@@ -8,8 +8,7 @@ use Rattle.vs_history.specs.History.{Got, History, Put, gots, puts}
 use Rattle.vs_history.specs.declared.packet.Packet.{Packet}
 use Rattle.vs_matching.specs.Heard.{is_empty}
 use Rattle.vs_page.proofs.Flows.{same_self}
-use Rattle.vs_page.specs.Fair.{IsPrefixOf, payload_of}
-use Rattle.vs_page.specs.Log.{Log, Role, flow_got, flow_put, history_of}
+use Rattle.vs_page.specs.{Fair.IsPrefixOf, Fair.payload_of, Log.Log, Log.Role, Log.flow_got, Log.flow_put, Log.history_of}
 use Rattle.vs_page.specs.declared.log.LogEntry.TheVariants.{GotPacket, PutPacket}
 use Rattle.vs_pipes.specs.Drains.{got_on, has_passed, put_on}
 

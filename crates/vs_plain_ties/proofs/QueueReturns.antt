@@ -1,14 +1,13 @@
 -- One queue whose lists lie in its memory, as pages are taken, returned and reaped.
-use Rattle.std.proofs.Common.{◌≡◌, ℕ, zero, suc, ◌+◌, ◌%◌, ◌^◌, ◌<◌, ◌≤◌, List, [], ◌∷◌, ◌++◌, length, None, refl, sym, ap, ◌∙◌, subst, arith}
+use Rattle.std.proofs.Common.{◌≡◌, ℕ, zero, suc, ◌+◌, ◌%◌, ◌^◌, ◌<◌, ◌≤◌, List, [], ◌∷◌, ◌++◌, length, None, refl, sym, ap, ◌∙◌, subst}
+use Rattle.std.proofs.Common.{arith}
 use Rattle.std.specs.Prelude.{set}
-use Rattle.std.proofs.lemmas.List.{get_or-set_other, length-set}
-use Rattle.std.proofs.lemmas.Nat.{mod_below}
+use Rattle.std.proofs.lemmas.{List.get_or-set_other, List.length-set, Nat.mod_below}
 use Rattle.vs_ring_port.specs.Lists.{Lists}
 use Rattle.vs_ring_port.specs.declared.queue.Queue.{Queue}
 use Rattle.vs_ring_plain.specs.declared.turns.Turns.{Turns}
 use Rattle.vs_plain_driver.specs.Queue.{DriverQueueState}
-use Rattle.vs_plain_ties.specs.Queue.{AreBack, AreOut, HasPage, IsQueueTied, times}
-use Rattle.vs_plain_ties.specs.Shown.{Shown}
+use Rattle.vs_plain_ties.specs.{Queue.AreBack, Queue.AreOut, Queue.HasPage, Queue.IsQueueTied, Queue.times, Shown.Shown}
 use Rattle.vs_plain_ties.proofs.Counting.{times-cons, times-push, times-self}
 use Rattle.vs_plain_ties.proofs.Modulo.{apart, further, mod_small, wraps}
 use Rattle.vs_plain_ties.proofs.QueueSteps.{back_count, push_length}

@@ -1,33 +1,24 @@
 -- A turn and a reset over list rings with a host in memory.
-use Rattle.std.proofs.Common.{◌≡◌, ℕ, ◌<◌, ◌≤◌, ◌^◌, false, List, [], ◌++◌, Option, Result, Some, unwrap_or, arith, refl, sym, ap, subst, ◌∙◌}
-use Rattle.vs_ring_port.specs.Counts.{Counts}
-use Rattle.vs_ring_port.specs.EndLog.{EndLog}
+use Rattle.std.proofs.Common.{◌≡◌, ℕ, ◌<◌, ◌≤◌, ◌^◌, false, List, [], ◌++◌, Option, Result, Some, unwrap_or, arith, refl, sym, ap, subst}
+use Rattle.std.proofs.Common.{◌∙◌}
+use Rattle.vs_ring_port.specs.{Counts.Counts, EndLog.EndLog, Chains.chains_of}
 use Rattle.vs_ring_port.specs.declared.failure.Failure.{Failure}
 use Rattle.vs_ring_list.specs.Ends.{Ends, device_contents, driver_contents, empty_ends, staged_of}
 use Rattle.vs_outside.specs.Host.{HostContents}
 use Rattle.vs_driver_parts.specs.State.{DriverState}
 use Rattle.vs_driver_log.specs.Honest.{IsHonestWith}
-use Rattle.vs_ring_port.specs.Chains.{chains_of}
-use Rattle.vs_device_parts.specs.Calls.{Allows, Situation}
-use Rattle.vs_device_parts.specs.Playing.{CanMake, IsItsRing, Runs, situation}
+use Rattle.vs_device_parts.specs.{Calls.Allows, Calls.Situation, Playing.CanMake, Playing.IsItsRing, Playing.Runs, Playing.situation}
 use Rattle.vs_device_laws.specs.Split.{CanReach}
-use Rattle.vs_device_laws.proofs.Conditions.{quiet_can}
-use Rattle.vs_device_laws.proofs.Keeping.{keeps_end as streams_end}
-use Rattle.vs_device_laws.proofs.Opening.{new_has}
+use Rattle.vs_device_laws.proofs.{Conditions.quiet_can, Keeping.keeps_end as streams_end, Opening.new_has}
 use Rattle.vs_device_log.proofs.Keeping.{keeps_end}
-use Rattle.vs_proxy_parts.specs.State.{ProxyState}
-use Rattle.vs_proxy_parts.specs.Turns.{new_proxy, proxy_reset_of, turn_of}
+use Rattle.vs_proxy_parts.specs.{State.ProxyState, Turns.new_proxy, Turns.proxy_reset_of, Turns.turn_of}
 use Rattle.vs_proxy_parts.specs.declared.answers.Turn.{Turn}
-use Rattle.vs_proxy_laws.proofs.Lists.{none_open}
-use Rattle.vs_proxy_laws.proofs.Turning.{keeps_proxy_reset, keeps_turn}
+use Rattle.vs_proxy_laws.proofs.{Lists.none_open, Turning.keeps_proxy_reset, Turning.keeps_turn}
 use Rattle.vs_proxy_log.proofs.Turning.{new_proxy_with, proxy_reset_keeps, turn_keeps}
 use Rattle.vs_world.specs.World.{first_cid}
-use Rattle.vs_play.specs.Answer.{base_path}
-use Rattle.vs_play.specs.Ready.{IsDriven, IsServed}
-use Rattle.vs_play.specs.Told.{Serves}
+use Rattle.vs_play.specs.{Answer.base_path, Ready.IsDriven, Ready.IsServed, Told.Serves}
 use Rattle.vs_report.specs.DeviceLines.{reset_text, turn_text}
-use Rattle.vs_world.proofs.Flown.{LeavesDriver}
-use Rattle.vs_world.proofs.OverBoth.{IsPlayed, over}
+use Rattle.vs_world.proofs.{Flown.LeavesDriver, OverBoth.IsPlayed, OverBoth.over}
 
 -- The rings stay the driver's.
 pub driven_still : (v w : Ends) → LeavesDriver v w → (s : DriverState) → IsDriven s v → IsDriven s w

@@ -1,23 +1,16 @@
 -- Over rings that are seen as their ends a call of the driver's or the device's has one end: the one that it has over lists.
 use Rattle.std.proofs.Common.{◌≡◌, ℕ, List, ◌++◌, Option, Some, sym, ap, subst, ◌∙◌}
 use Rattle.vs_outside.specs.Host.{HostContents}
-use Rattle.vs_ring_port.specs.Chains.{chains_of}
-use Rattle.vs_ring_port.specs.Contents.{RingContents}
-use Rattle.vs_ring_port.specs.Counts.{Counts}
+use Rattle.vs_ring_port.specs.{Chains.chains_of, Contents.RingContents, Counts.Counts}
 use Rattle.vs_ring_port.specs.declared.device_ring.Chain.{Chain}
 use Rattle.vs_ring_list.specs.Ends.{Ends, device_contents, driver_contents}
-use Rattle.vs_driver_parts.specs.Conversations.{DriverTree}
-use Rattle.vs_driver_parts.specs.Playing.{IsRingOf, Plays, all_flown}
-use Rattle.vs_driver_parts.specs.State.{DriverState}
+use Rattle.vs_driver_parts.specs.{Conversations.DriverTree, Playing.IsRingOf, Playing.Plays, Playing.all_flown, State.DriverState}
 use Rattle.vs_driver_log.specs.Honest.{IsHonest, IsHonestWith}
-use Rattle.vs_device_parts.specs.Calls.{DeviceTree}
-use Rattle.vs_device_parts.specs.Playing.{IsItsRing, Runs, situation}
-use Rattle.vs_device_parts.specs.State.{DeviceState}
+use Rattle.vs_device_parts.specs.{Calls.DeviceTree, Playing.IsItsRing, Playing.Runs, Playing.situation, State.DeviceState}
 use Rattle.vs_proxy_parts.specs.State.{ProxyState}
 use Rattle.vs_proxy_log.specs.Order.{IsInOrder}
 use Rattle.vs_both_ends.specs.Seen.{IsDeviceOf, IsDriverOf}
-use Rattle.vs_play.specs.Ready.{IsDriven}
-use Rattle.vs_play.specs.Told.{Answers}
+use Rattle.vs_play.specs.{Ready.IsDriven, Told.Answers}
 use Rattle.vs_world.specs.Over.{over_lists}
 use Rattle.vs_world.proofs.OverLists.{over}
 

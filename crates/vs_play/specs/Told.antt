@@ -1,7 +1,6 @@
 -- What a line on one end of the rings does, and what it prints.
 use Rattle.std.specs.Prelude.{◌≡◌, ℕ, List, ◌++◌}
-use Rattle.vs_driver_parts.specs.Conversations.{DriverTree, poll_of}
-use Rattle.vs_driver_parts.specs.State.{DriverState}
+use Rattle.vs_driver_parts.specs.{Conversations.DriverTree, Conversations.poll_of, State.DriverState}
 use Rattle.vs_device_parts.specs.Calls.{DeviceTree}
 use Rattle.vs_outside.specs.Host.{HostContents}
 use Rattle.vs_proxy_parts.specs.State.{ProxyState}
@@ -11,11 +10,8 @@ use Rattle.vs_script.specs.Data.{bytes_of}
 use Rattle.vs_script.specs.Play as script
 use Rattle.vs_script.specs.Play.{Event}
 use Rattle.vs_world.specs.Calls as call
-use Rattle.vs_world.specs.Calls.{GuestCall, ReplyTo}
-use Rattle.vs_world.specs.Over.{over_both, over_lists}
-use Rattle.vs_world.specs.Plays.{whole_call}
-use Rattle.vs_play.specs.Lines.{reply_text}
-use Rattle.vs_play.specs.Ready.{IsDriven, IsServed}
+use Rattle.vs_world.specs.{Calls.GuestCall, Calls.ReplyTo, Over.over_both, Over.over_lists, Plays.whole_call}
+use Rattle.vs_play.specs.{Lines.reply_text, Ready.IsDriven, Ready.IsServed}
 
 -- A conversation of the driver's over the rings: its answer is printed behind what stood there, and the rings stay the driver's.
 pub record Answers {A : Type 0} (tree : DriverTree (DriverState × A)) (text_of : A → DriverState → List ℕ) (new : DriverState) (v w : Ends)

@@ -3,18 +3,14 @@
 ghost use Rattle.std.specs.Prelude.{◌≡◌, ℕ, IfOk, OnOk, length, string_bytes};
 ghost use Rattle.vs_contents.specs.CallTree.{Done};
 ghost use Rattle.vs_ring_list.specs.Ends.{Ends, empty_ends};
-ghost use Rattle.vs_driver_parts.specs.Conversations.{new_of, poll_of};
-ghost use Rattle.vs_driver_parts.specs.Connections.{table_shown};
+ghost use Rattle.vs_driver_parts.specs.{Conversations.new_of, Conversations.poll_of, Connections.table_shown};
 ghost use Rattle.vs_driver_parts.specs.declared.limits.TheConstants.{FIRST_PORT};
 ghost use Rattle.vs_report.specs.GuestLines.{poll_text};
-ghost use Rattle.vs_script.specs.Data.{bytes_of, content_of};
-ghost use Rattle.vs_script.specs.Play.{play_view};
+ghost use Rattle.vs_script.specs.{Data.bytes_of, Data.content_of, Play.play_view};
 ghost use Rattle.vs_world.specs.Calls as call;
-ghost use Rattle.vs_world.specs.GuestSteps.{makes_call};
-ghost use Rattle.vs_play.specs.Lines.{flow_opened, flow_accepted};
-ghost use Rattle.vs_play.specs.Ready.{IsBits, IsDriven, IsPlayable};
+ghost use Rattle.vs_world.specs.{GuestSteps.makes_call, Over.over_lists};
+ghost use Rattle.vs_play.specs.{Lines.flow_opened, Lines.flow_accepted, Ready.IsBits, Ready.IsDriven, Ready.IsPlayable};
 ghost use Rattle.vs_play.specs.Told.{Answers, Drives, Replies};
-ghost use Rattle.vs_world.specs.Over.{over_lists};
 
 use std::alloc::{AllocError, Global};
 use vs_both_ends::BothEnds;

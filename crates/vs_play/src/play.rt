@@ -3,10 +3,8 @@
 ghost use Rattle.std.specs.Prelude.{◌≡◌, ℕ, IfOk, OnOk, string_bytes};
 ghost use Rattle.vs_ring_list.specs.Ends.{empty_ends};
 ghost use Rattle.vs_script.specs.Play as script;
-ghost use Rattle.vs_script.specs.Outside.{outside_view};
-ghost use Rattle.vs_script.specs.Play.{play_view};
-ghost use Rattle.vs_play.specs.Answer.{totals_of};
-ghost use Rattle.vs_play.specs.Ready.{IsOpened, IsPlayable, IsReady, Plays, world_in};
+ghost use Rattle.vs_script.specs.{Outside.outside_view, Play.play_view};
+ghost use Rattle.vs_play.specs.{Answer.totals_of, Ready.IsOpened, Ready.IsPlayable, Ready.IsReady, Ready.Plays, Ready.world_in};
 
 use crate::device::{self, reset, turn};
 use crate::guest::{self, guest_line};

@@ -1,51 +1,34 @@
 -- What holds of each play.
 use Rattle.std.proofs.Common.{◌≡◌, ℕ, true, List, [], ◌∷◌, ◌++◌, None, refl, sym, ap, subst, ◌∙◌, map, Ok}
 use Rattle.vs_flow.specs.declared.flow.Flow.{Flow}
-use Rattle.vs_history.specs.History.{puts}
-use Rattle.vs_history.specs.Packets.{has, shuts_send}
+use Rattle.vs_history.specs.{History.puts, Packets.has, Packets.shuts_send}
 use Rattle.vs_driver_parts.specs.State.{DriverEntry}
 use Rattle.vs_device_parts.specs.State.{DeviceEntry}
-use Rattle.vs_matching.specs.Both.{Both, at}
-use Rattle.vs_matching.specs.Steps.{HasEnd}
+use Rattle.vs_matching.specs.{Both.Both, Both.at, Steps.HasEnd}
 use Rattle.vs_matching.proofs.Slots.{one_end}
-use Rattle.vs_outside.specs.HostBytes.{host_wrote}
+use Rattle.vs_outside.specs.{HostBytes.host_wrote, Host.HostContents, HostProgram.new_host, HostProgram.plain}
 use Rattle.vs_pipes.specs.Drains.{put_on}
 use Rattle.std.specs.List.{Contains}
-use Rattle.vs_outside.specs.Host.{HostContents}
-use Rattle.vs_outside.specs.HostProgram.{new_host, plain}
 use Rattle.vs_page.specs.Log.{Device, Driver, Log, Role, history_of}
 use Rattle.vs_script.specs.Outside as outside
 use Rattle.vs_script.specs.Play as script
-use Rattle.vs_script.specs.Play.{Event}
-use Rattle.vs_script.specs.Script.{Plays, parse_of}
+use Rattle.vs_script.specs.{Play.Event, Script.Plays, Script.parse_of}
 use Rattle.vs_script.specs.declared.script.Command.TheVariants as command
 use Rattle.vs_report.specs.Report.{counts_text, device_open_text, guest_open_text, stream_texts}
-use Rattle.vs_world.specs.Calls.{sent_on}
-use Rattle.vs_world.specs.Events.{is_at_rest, is_guest_cid, reset_made}
-use Rattle.vs_world.specs.Laws.{IsEmptied}
-use Rattle.vs_world.specs.Pipes.{IsFresh}
-use Rattle.vs_world.specs.Sides.{both_of, device_ends, driver_ends}
-use Rattle.vs_world.specs.Steps.{Leads}
-use Rattle.vs_world.specs.World.{World, first_cid}
-use Rattle.vs_world.proofs.Bytes.{wrote_is_put}
-use Rattle.vs_world.proofs.CallRests.{opening_rests}
-use Rattle.vs_world.proofs.GuestLines.{possible_is}
-use Rattle.vs_world.proofs.Opening.{opening_well, run_goes}
-use Rattle.vs_world.proofs.ResetTables.{device_emptied}
-use Rattle.vs_world.proofs.ScriptLines.{script_leads, script_rests}
-use Rattle.vs_world.proofs.Sound.{Goes, IsWell}
+use Rattle.vs_world.specs.{Calls.sent_on, Events.is_at_rest, Events.is_guest_cid, Events.reset_made, Laws.IsEmptied, Pipes.IsFresh}
+use Rattle.vs_world.specs.{Sides.both_of, Sides.device_ends, Sides.driver_ends, Steps.Leads, World.World, World.first_cid}
+use Rattle.vs_world.proofs.{Bytes.wrote_is_put, CallRests.opening_rests, GuestLines.possible_is, Opening.opening_well, Opening.run_goes}
+use Rattle.vs_world.proofs.{ResetTables.device_emptied, ScriptLines.script_leads, ScriptLines.script_rests, Sound.Goes, Sound.IsWell}
 use Rattle.vs_world.proofs.Carried.{sent_stays, wrote_stays}
-use Rattle.vs_play.specs.Answer.{base_path, opened_play, texts_of, world_after}
-use Rattle.vs_play.specs.Lines.{PlayWorld}
+use Rattle.vs_play.specs.{Answer.base_path, Answer.opened_play, Answer.texts_of, Answer.world_after, Lines.PlayWorld}
 use Rattle.vs_script.specs.Bounds.{AreBounded}
 use Rattle.vs_play_laws.specs.Headline.{IsLawful, StaysShut, world_of}
 use Rattle.vs_play_laws.proofs.PlayLines.{after_both, cid_right, front_bounded, lines_of, lines_receive, lines_right, lines_send}
-use Rattle.vs_play_laws.proofs.PlayLines.{rest_bounded, world_is}
-use Rattle.vs_play_laws.proofs.Shutting.{IsShut, is_shut, run_shut}
+use Rattle.vs_play_laws.proofs.{PlayLines.rest_bounded, PlayLines.world_is, Shutting.IsShut, Shutting.is_shut, Shutting.run_shut}
 use Rattle.vs_play_laws.proofs.Unfailed.{script_fine}
+use Rattle.vs_play_laws.proofs.Reached.{carries, holds_open, holds_rest, keeps_credit, log_is, many_device, many_guest, own_streams, queued}
 use Rattle.vs_play.proofs.Scripts.{all_bounded}
 use Rattle.vs_script.proofs.Bounded.{all_bounded}
-use Rattle.vs_play_laws.proofs.Reached.{carries, holds_open, holds_rest, keeps_credit, log_is, many_device, many_guest, own_streams, queued}
 
 -- A play's host has no streams at first.
 abbrev play_host : HostContents

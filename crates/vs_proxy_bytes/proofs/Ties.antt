@@ -1,8 +1,7 @@
 -- A connection and the account of its stream, through each small step of the connection.
-use Rattle.std.proofs.Common.{◌≡◌, ℕ, ◌-◌, ◌≤◌, ◌&&◌, not, Bool, true, false, cond, List, [], ◌++◌, length, take, drop}
-use Rattle.std.proofs.Common.{refl, sym, ap, subst, ◌∙◌, append_assoc, take-append-drop, arith}
-use Rattle.std.proofs.lemmas.Grind.{common_steps}
-use Rattle.std.proofs.lemmas.List.{append-nil}
+use Rattle.std.proofs.Common.{◌≡◌, ℕ, ◌-◌, ◌≤◌, ◌&&◌, not, Bool, true, false, cond, List, [], ◌++◌, length, take, drop, refl, sym, ap}
+use Rattle.std.proofs.Common.{subst, ◌∙◌, append_assoc, take-append-drop, arith}
+use Rattle.std.proofs.lemmas.{Grind.common_steps, List.append-nil}
 use Rattle.std.proofs.Math.Seq.{drop-nil, take-nil}
 use Rattle.vs_conn.specs.End.{ConnectionEnd, verdict_of, with_shut}
 use Rattle.vs_conn.specs.declared.end.State.TheVariants as state
@@ -10,15 +9,11 @@ use Rattle.vs_conn.specs.declared.end.Verdict.TheVariants as verdict
 use Rattle.vs_header.specs.declared.Header.{Header}
 use Rattle.vs_page.specs.Fair.{IsPrefixOf}
 use Rattle.vs_device_parts.specs.Connections.{after_shut, after_written, stream_closed}
-use Rattle.vs_device_parts.specs.State.{DeviceConnection, DeviceEntry}
-use Rattle.vs_device_parts.specs.Streams.{to_write}
-use Rattle.vs_device_parts.specs.Transmitting.{heard}
+use Rattle.vs_device_parts.specs.{State.DeviceConnection, State.DeviceEntry, Streams.to_write, Transmitting.heard}
 use Rattle.vs_pipes.specs.Streamed.{gives}
-use Rattle.vs_pipes.proofs.Gives.{accepted_other, accepts_asked, delivered_other, delivers_gives, drop_both, first_of, forwards_asked, forwards_gives}
-use Rattle.vs_pipes.proofs.Gives.{shuts_asked, shuts_gives}
-use Rattle.vs_pipes.proofs.Logs.{all_of, shorter}
-use Rattle.vs_proxy_bytes.specs.Made.{Account}
-use Rattle.vs_proxy_bytes.specs.Tied.{IsTiedTo, gives_all, ok_line_of}
+use Rattle.vs_pipes.proofs.Gives.{accepted_other, accepts_asked, delivered_other, delivers_gives, drop_both, first_of, forwards_asked}
+use Rattle.vs_pipes.proofs.{Gives.forwards_gives, Gives.shuts_asked, Gives.shuts_gives, Logs.all_of, Logs.shorter}
+use Rattle.vs_proxy_bytes.specs.{Made.Account, Tied.IsTiedTo, Tied.gives_all, Tied.ok_line_of}
 
 -- The bytes that came for a connection.
 abbrev pub came : Account → DeviceEntry → List ℕ

@@ -1,16 +1,14 @@
 -- The handshake on a stream, by its place.
-use Rattle.std.proofs.Common.{◌≡◌, ℕ, zero, suc, ◌<◌, ◌==◌, Bool, true, false, cond, List, [], ◌∷◌, ◌++◌, length, get_or, set, ltb, Option, Some, None, refl, sym, ap, ◌∙◌, arith}
+use Rattle.std.proofs.Common.{◌≡◌, ℕ, zero, suc, ◌<◌, ◌==◌, Bool, true, false, cond, List, [], ◌∷◌, ◌++◌, length, get_or, set, ltb, Option}
+use Rattle.std.proofs.Common.{Some, None, refl, sym, ap, ◌∙◌, arith}
 use Rattle.std.specs.List.{All, find, remove, position, position_or_len}
-use Rattle.std.proofs.lemmas.List.Folds.{find_at}
-use Rattle.std.proofs.lemmas.List.Quantifiers.{position-Some}
+use Rattle.std.proofs.lemmas.List.{Folds.find_at, Quantifiers.position-Some}
 use Rattle.std.proofs.lemmas.Option.{slice_get_past}
 use Rattle.std.proofs.lemmas.Bool.Decides.{nat_tests}
-use Rattle.vs_uds.specs.ConnectLine.{connect_port, connect_step}
-use Rattle.vs_uds.specs.Reading.{fed, is_decided, port_or_bad}
+use Rattle.vs_uds.specs.{ConnectLine.connect_port, ConnectLine.connect_step, Reading.fed, Reading.is_decided, Reading.port_or_bad}
 use Rattle.vs_uds.specs.declared.connect.TheConstants.{CONNECT_MAX}
 use Rattle.vs_uds.specs.declared.scan.Step.TheVariants as step
-use Rattle.vs_proxy_parts.specs.State.{Handshake}
-use Rattle.vs_proxy_parts.specs.Handshakes.{with_line, without_stream}
+use Rattle.vs_proxy_parts.specs.{State.Handshake, Handshakes.with_line, Handshakes.without_stream}
 
 abbrev is_on : ℕ → Handshake → Bool
 is_on stream h = h.stream == stream

@@ -1,5 +1,4 @@
 //! A host's streams over Unix sockets (Firecracker's vsock documentation).
-ghost use Rattle.std.specs.Prelude.{◌≡◌};
 ghost use Rattle.vs_outside.specs.Faults.{CountsFault};
 
 use crate::sockets::Sockets;

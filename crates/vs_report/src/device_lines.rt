@@ -1,7 +1,8 @@
 //! What the lines print that are the device's turns and resets.
 
 ghost use Rattle.std.specs.Prelude.{◌≡◌, ◌++◌, OnOk, string_bytes};
-ghost use Rattle.vs_report.specs.DeviceLines.{one_value_text, two_values_text, failure_text, moved_text, turn_text, turned_text, reset_text};
+ghost use Rattle.vs_report.specs.DeviceLines.{one_value_text, two_values_text, failure_text, moved_text, turn_text, turned_text};
+ghost use Rattle.vs_report.specs.DeviceLines.{reset_text};
 
 use itoa::Buffer;
 use std::alloc::AllocError;

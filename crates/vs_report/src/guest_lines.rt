@@ -2,7 +2,8 @@
 
 ghost use Rattle.std.specs.Prelude.{◌≡◌, ◌++◌, OnOk, string_bytes, codes, decimal};
 ghost use Rattle.vs_report.specs.Bytes.{data_text};
-ghost use Rattle.vs_report.specs.GuestLines.{connection_text, connect_text, refused_text, listen_text, unlisten_text, accept_text, send_text, recv_text, shutdown_text, close_text, state_text, reset_text, poll_text};
+ghost use Rattle.vs_report.specs.GuestLines.{connection_text, connect_text, refused_text, listen_text, unlisten_text, accept_text};
+ghost use Rattle.vs_report.specs.GuestLines.{send_text, recv_text, shutdown_text, close_text, state_text, reset_text, poll_text};
 
 use crate::bytes::push_data;
 use crate::number::push_named;

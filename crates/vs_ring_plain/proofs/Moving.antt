@@ -1,14 +1,13 @@
 -- Reading and writing a chain piece by piece.
-use Rattle.std.proofs.Common.{◌≡◌, ℕ, ◌+◌, ◌-◌, ◌≤◌, ◌==◌, Bool, true, false, cond, List, [], ◌∷◌, ◌++◌, length, take, drop, refl, sym, ap, ◌∙◌, arith}
+use Rattle.std.proofs.Common.{◌≡◌, ℕ, ◌+◌, ◌-◌, ◌≤◌, ◌==◌, Bool, true, false, cond, List, [], ◌∷◌, ◌++◌, length, take, drop, refl, sym, ap}
+use Rattle.std.proofs.Common.{◌∙◌, arith}
 use Rattle.std.specs.Prelude.{min}
 use Rattle.std.proofs.lemmas.Bool.Decides.{nat_tests}
 use Rattle.std.proofs.lemmas.List.{append-nil, drop-drop, take-append-drop}
 use Rattle.std.proofs.lemmas.List.Sums.{sum_by-cons}
 use Rattle.vs_guest_mem.specs.Memory.{Memory, accessed, after_access, after_write, bytes_at}
 use Rattle.vs_ring_plain.specs.declared.piece.Piece.{Piece}
-use Rattle.vs_ring_plain.specs.Accesses.{over}
-use Rattle.vs_ring_plain.specs.Chain.{total_len}
-use Rattle.vs_ring_plain.specs.Pieces.{reading, spans, writing}
+use Rattle.vs_ring_plain.specs.{Accesses.over, Chain.total_len, Pieces.reading, Pieces.spans, Pieces.writing}
 
 -- how much of a piece is skipped, and how much is used
 abbrev pub skipped : Piece → ℕ → ℕ

@@ -1,16 +1,16 @@
 -- Each line of a play that is read is within the bounds of its fields.
-use Rattle.std.proofs.Common.{◌≡◌, ◌≤◌, ◌&&◌, if◌then◌else◌, ℕ, nat_le, nat_lt, Bool, true, false, List, [], ◌∷◌, ◌++◌, map, length, Option, Some, None, Result, Ok, Err, codes, bytes_eq, refl, subst, arith}
+use Rattle.std.proofs.Common.{◌≡◌, ◌≤◌, ◌&&◌, if◌then◌else◌, ℕ, nat_le, nat_lt, Bool, true, false, List, [], ◌∷◌, ◌++◌, map, length, Option}
+use Rattle.std.proofs.Common.{Some, None, Result, Ok, Err, codes, bytes_eq, refl, subst, arith}
 use Rattle.std.proofs.lemmas.Bool.Decides.{nat_tests}
-use Rattle.vs_script.specs.Bounds.{AreBounded, IsBounded}
-use Rattle.vs_script.specs.Text.{is_empty, words_of}
+use Rattle.vs_script.specs.{Bounds.AreBounded, Bounds.IsBounded, Text.is_empty, Text.words_of}
 use Rattle.vs_script.specs.Field.{Read, after, held, ending, word, is_numeral, number_in, number, port, id, content, only, named}
 use Rattle.vs_script.specs.Outside.{Outside, host_line, outside_line}
 use Rattle.vs_script.specs.Outside as outside
 use Rattle.vs_script.specs.Play.{Event, named_line, play_line}
 use Rattle.vs_script.specs.Play as script
-use Rattle.vs_script.specs.Script.{Saying, Plays, Runs, Attacks, chained, pushed, add_event, add_run, add_hostile, add_words, add_lines, lines_from, add_line, unless_refused, parse_of}
-use Rattle.vs_script.specs.declared.fault.Refused.{Refused}
-use Rattle.vs_script.specs.declared.fault.Why.{Why}
+use Rattle.vs_script.specs.Script.{Saying, Plays, Runs, Attacks, chained, pushed, add_event, add_run, add_hostile, add_words, add_lines}
+use Rattle.vs_script.specs.Script.{lines_from, add_line, unless_refused, parse_of}
+use Rattle.vs_script.specs.declared.fault.{Refused.Refused, Why.Why}
 use Rattle.vs_script.specs.declared.fault.Why.TheVariants.{BadNumber}
 use Rattle.vs_script.specs.declared.outside.TheConstants.{MAX_FILL}
 use Rattle.vs_script.specs.declared.words.TheConstants.{MAX_BITS}

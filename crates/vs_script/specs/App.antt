@@ -4,8 +4,7 @@ use Rattle.vs_script.specs.Data.{Content, content_of}
 use Rattle.vs_script.specs.Field.{after, ending, word, number, port, bits, content, only, named}
 use Rattle.vs_script.specs.declared.fault.Why.{Why}
 use Rattle.vs_script.specs.declared.fault.Why.TheVariants.{BadWord}
-use Rattle.vs_script.specs.declared.app.App.{App}
-use Rattle.vs_script.specs.declared.app.Instruction.{Instruction}
+use Rattle.vs_script.specs.declared.app.{App.App, Instruction.Instruction}
 use Rattle.vs_script.specs.declared.app.Instruction.TheVariants as code
 use Rattle.vs_script.specs.declared.app.RunLine.{RunLine}
 use Rattle.vs_script.specs.declared.app.RunLine.TheVariants as run

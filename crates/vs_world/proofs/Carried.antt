@@ -5,25 +5,17 @@ use Rattle.std.proofs.lemmas.List.Elements.{All-contains}
 use Rattle.vs_driver_parts.specs.State.{DriverEntry, GoneConnection}
 use Rattle.vs_device_parts.specs.State.{DeviceEntry}
 use Rattle.vs_flow.specs.declared.flow.Flow.{Flow}
-use Rattle.vs_history.specs.History.{puts}
-use Rattle.vs_history.specs.Packets.{has, shuts_send}
-use Rattle.vs_outside.specs.Host.{Stream, stream_at}
-use Rattle.vs_outside.specs.HostBytes.{host_read, host_wrote}
+use Rattle.vs_history.specs.{History.puts, Packets.has, Packets.shuts_send}
+use Rattle.vs_outside.specs.{Host.Stream, Host.stream_at, HostBytes.host_read, HostBytes.host_wrote}
 use Rattle.vs_page.specs.Fair.{IsFairLog, IsPrefixOf, payload_got, payload_put}
 use Rattle.vs_page.specs.Log.{Device, Driver, Log, Role, history_of}
 use Rattle.vs_page.proofs.PayloadLogs.{all_got, all_put, prefix, shut_put}
 use Rattle.vs_matching.specs.Both.{at}
 use Rattle.vs_pipes.specs.Drains.{Drains, got_on, receives}
 use Rattle.vs_pipes.specs.Streamed.{IsJoined, Seen, gives, line_for, look, seen}
-use Rattle.vs_pipes.proofs.Hosts.{there as is_there}
-use Rattle.vs_pipes.proofs.Logs.{prefix_then}
-use Rattle.vs_world.specs.Calls.{received_on, sent_on}
-use Rattle.vs_world.specs.Received.{ReceivedOn, ReceivesOn}
-use Rattle.vs_world.specs.Sides.{both_of}
-use Rattle.vs_world.specs.World.{World}
-use Rattle.vs_world.proofs.Bytes.{read_is_got, wrote_is_put}
-use Rattle.vs_world.proofs.Growing.{Grows, runs_grow}
-use Rattle.vs_world.proofs.Sound.{Goes, IsWell}
+use Rattle.vs_pipes.proofs.{Hosts.there as is_there, Logs.prefix_then}
+use Rattle.vs_world.specs.{Calls.received_on, Calls.sent_on, Received.ReceivedOn, Received.ReceivesOn, Sides.both_of, World.World}
+use Rattle.vs_world.proofs.{Bytes.read_is_got, Bytes.wrote_is_put, Growing.Grows, Growing.runs_grow, Sound.Goes, Sound.IsWell}
 
 abbrev pub ToGuest : Flow → World → Type 0
 ToGuest f w = IsPrefixOf (received_on f w.journal) (host_wrote f 1 w.host)

@@ -1,5 +1,6 @@
 -- Chains that the device holds, and what is written into them.
-use Rattle.std.proofs.Common.{◌≡◌, ℕ, ◌+◌, ◌==◌, ◌&&◌, Bool, true, false, cond, List, [], ◌∷◌, ◌++◌, length, take, drop, Option, Some, None, refl, sym, ap, ◌∙◌, length-append}
+use Rattle.std.proofs.Common.{◌≡◌, ℕ, ◌+◌, ◌==◌, ◌&&◌, Bool, true, false, cond, List, [], ◌∷◌, ◌++◌, length, take, drop, Option, Some, None}
+use Rattle.std.proofs.Common.{refl, sym, ap, ◌∙◌, length-append}
 use Rattle.std.proofs.lemmas.List.{take_at}
 use Rattle.vs_page.specs.Overwriting.{overwritten}
 use Rattle.vs_world.specs.Pages.{is_held}

@@ -4,8 +4,7 @@ use Rattle.vs_flow.specs.Flow.{same_flow}
 use Rattle.vs_flow.specs.declared.flow.Flow.{Flow}
 use Rattle.vs_history.specs.History.{History, Got, puts}
 use Rattle.vs_history.specs.declared.packet.Packet.{Packet}
-use Rattle.vs_page.specs.Fair.{payload_of}
-use Rattle.vs_page.specs.Log.{Driver, Log, flow_got, flow_put, history_of}
+use Rattle.vs_page.specs.{Fair.payload_of, Log.Driver, Log.Log, Log.flow_got, Log.flow_put, Log.history_of}
 use Rattle.vs_page.specs.declared.log.LogEntry.TheVariants.{GotPacket, PutPacket}
 use Rattle.vs_world.specs.Pipes.{put_on}
 use Rattle.vs_pipes.proofs.Logs.{nothing_more, put_more_by}

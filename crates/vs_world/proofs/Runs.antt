@@ -1,10 +1,9 @@
 -- Small steps of the two ends, one after another.
-use Rattle.std.proofs.Common.{◌≡◌, List, [], ◌∷◌, ◌++◌, refl, sym, ap, subst, ◌∙◌}
+use Rattle.std.proofs.Common.{◌≡◌, List, [], ◌∷◌, ◌++◌, refl, sym, ap, subst, ◌∙◌, ℕ}
 use Rattle.vs_page.specs.Log.{Role}
 use Rattle.vs_matching.specs.Both.{Both, Happening, MayHappen, MayRun, Step, happens, run, IsSound}
 use Rattle.vs_matching.proofs.Both.{run_keeps}
 use Rattle.vs_world.specs.Sides.{Runs}
-use Rattle.std.proofs.Common.{ℕ}
 
 may_append : (xs ys : List Happening) (b : Both) → MayRun xs b → MayRun ys (run xs b) → MayRun (xs ++ ys) b
 may_append [] ys b first then_ = then_

@@ -1,10 +1,7 @@
 use Rattle.std.proofs.Common.{ℕ, List, subst}
-use Rattle.vs_page.specs.Fair.{IsPrefixOf, payload_got}
-use Rattle.vs_page.specs.Log.{Device}
-use Rattle.vs_world.specs.Events.{run}
-use Rattle.vs_world.specs.World.{opening}
-use Rattle.vs_world.proofs.Carried.{sent_is, to_device}
-use Rattle.vs_world.proofs.Opening.{run_well}
+use Rattle.vs_page.specs.{Fair.IsPrefixOf, Fair.payload_got, Log.Device}
+use Rattle.vs_world.specs.{Events.run, World.opening}
+use Rattle.vs_world.proofs.{Carried.sent_is, Carried.to_device, Opening.run_well}
 use Rattle.vs_core.proofs.laws.law_of_sending.Goals as goal
 
 pub returns-clause-put : goal.returns-clause-put

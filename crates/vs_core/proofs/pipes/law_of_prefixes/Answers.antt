@@ -1,7 +1,5 @@
-use Rattle.vs_world.specs.Events.{run}
-use Rattle.vs_world.specs.World.{opening}
-use Rattle.vs_world.proofs.Carried.{to_guest, to_host}
-use Rattle.vs_world.proofs.Opening.{run_well}
+use Rattle.vs_world.specs.{Events.run, World.opening}
+use Rattle.vs_world.proofs.{Carried.to_guest, Carried.to_host, Opening.run_well}
 use Rattle.vs_core.proofs.pipes.law_of_prefixes.Goals as goal
 
 pub returns-clause-to_guest : goal.returns-clause-to_guest

@@ -1,8 +1,5 @@
-use Rattle.vs_world.specs.Events.{run}
-use Rattle.vs_world.specs.Pipes.{IsFresh}
-use Rattle.vs_world.specs.World.{opening}
-use Rattle.vs_world.proofs.Carried.{sent_stays, wrote_stays}
-use Rattle.vs_world.proofs.Opening.{run_goes, run_well}
+use Rattle.vs_world.specs.{Events.run, Pipes.IsFresh, World.opening}
+use Rattle.vs_world.proofs.{Carried.sent_stays, Carried.wrote_stays, Opening.run_goes, Opening.run_well}
 use Rattle.vs_core.proofs.pipes.law_of_shutting.Goals as goal
 
 pub returns-clause-sent : goal.returns-clause-sent

@@ -1,16 +1,12 @@
 use Rattle.std.proofs.Common.{◌≡◌, ℕ, [], Option, unwrap_or, refl, sym, ap, subst}
-use Rattle.vs_ring_port.specs.Counts.{no_counts}
-use Rattle.vs_ring_port.specs.EndLog.{EndLog, empty_log}
+use Rattle.vs_ring_port.specs.{Counts.no_counts, EndLog.EndLog, EndLog.empty_log}
 use Rattle.vs_ring_list.specs.Ends.{Ends, driver_contents, empty_ends, flight_of, staged_of}
-use Rattle.vs_driver_parts.specs.Conversations.{new_of}
-use Rattle.vs_driver_parts.specs.Playing.{Plays}
-use Rattle.vs_driver_parts.specs.State.{DriverState}
+use Rattle.vs_driver_parts.specs.{Conversations.new_of, Playing.Plays, State.DriverState}
 use Rattle.vs_driver_parts.specs.declared.limits.TheConstants.{FIRST_PORT}
 use Rattle.vs_driver_log.specs.Honest.{IsFresh, IsHonestWith}
 use Rattle.vs_world.proofs.OverLists.{over}
 use Rattle.vs_world.specs.Over.{over_lists}
-use Rattle.vs_core.proofs.Driven.{rested}
-use Rattle.vs_core.proofs.Opened.{cid_of}
+use Rattle.vs_core.proofs.{Driven.rested, Opened.cid_of}
 use Rattle.vs_core.proofs.world.guest_end.Goals as goal
 
 pub new-requires-2-clause-unused : goal.new-requires-2-clause-unused

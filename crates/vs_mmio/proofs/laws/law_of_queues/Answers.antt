@@ -1,8 +1,6 @@
 use Rattle.std.proofs.Common.{IsTrue, arith}
 use Rattle.vs_mmio.proofs.Steps.{if_shown, in_order, ready_rightly, run_limits, step_of_queue}
-use Rattle.vs_mmio.specs.Calls.{led_to}
-use Rattle.vs_mmio.specs.Queue.{may_be_ready}
-use Rattle.vs_mmio.specs.Registers.{fresh, queue_in}
+use Rattle.vs_mmio.specs.{Calls.led_to, Queue.may_be_ready, Registers.fresh, Registers.queue_in}
 use Rattle.vs_mmio.specs.declared.queue.ReadyQueue.{ReadyQueue}
 use Rattle.vs_mmio.proofs.laws.law_of_queues.Goals as goal
 

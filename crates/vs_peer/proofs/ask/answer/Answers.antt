@@ -1,6 +1,5 @@
 use Rattle.std.proofs.Common.{◌≡◌, [], false, length, refl, sym, ◌∙◌, inl, inr}
-use Rattle.vs_peer.proofs.Answering.{byte_came}
-use Rattle.vs_peer.proofs.Streams.{still_moves}
+use Rattle.vs_peer.proofs.{Answering.byte_came, Streams.still_moves}
 use Rattle.vs_peer.proofs.ask.answer.Goals as goal
 
 pub loop-preserved-in-More : goal.loop-preserved-in-More

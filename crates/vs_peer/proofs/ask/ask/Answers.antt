@@ -1,8 +1,7 @@
 use Rattle.std.proofs.Common.{◌≡◌, [], false, ◌+◌, ◌-◌, ◌++◌, length, take, drop, refl, ap, sym, ◌∙◌, arith}
 use Rattle.std.proofs.Math.Seq.{take-add}
 use Rattle.std.proofs.lemmas.List.{take_all, take_rest}
-use Rattle.vs_peer.proofs.Pieces.{rest_length}
-use Rattle.vs_peer.proofs.Streams.{relates_as, relates_then, still_moves}
+use Rattle.vs_peer.proofs.{Pieces.rest_length, Streams.relates_as, Streams.relates_then, Streams.still_moves}
 use Rattle.vs_peer.proofs.ask.ask.Goals as goal
 
 pub write-requires-clause-some : goal.write-requires-clause-some

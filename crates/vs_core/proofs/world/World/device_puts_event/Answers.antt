@@ -1,21 +1,15 @@
 use Rattle.std.proofs.Common.{◌≡◌, ◌&&◌, nat_le, true, List, Some, refl, sym, subst, arith}
 use Rattle.std.proofs.lemmas.Bool.Decides.{nat_tests}
-use Rattle.std.proofs.lemmas.Result.{on_ok_weaker}
+use Rattle.std.proofs.lemmas.{Result.on_ok_weaker, Bool.and_parts}
 use Rattle.vs_ring_port.specs.Chains.{Held, same_queue}
 use Rattle.vs_ring_port.specs.declared.device_ring.Chain.{Chain}
-use Rattle.std.proofs.lemmas.Bool.{and_parts}
-use Rattle.vs_ring_port.specs.Chains.{chains_of, same_queue}
 use Rattle.vs_ring_port.specs.declared.queue.Queue.TheVariants.{Event}
 use Rattle.vs_device_parts.specs.Steps.{puts_event}
-use Rattle.vs_world.specs.Events.{DevicePutsEvent}
-use Rattle.vs_world.specs.Pages.{is_held}
+use Rattle.vs_world.specs.{Events.DevicePutsEvent, Pages.is_held}
 use Rattle.vs_world.proofs.OverBoth.{IsPlayed}
 use Rattle.vs_core.specs.Ready.{IsReady}
 use Rattle.vs_core.proofs.DeviceHappening.{chain_did, held_of_queue, of_queue, same_held}
-use Rattle.vs_core.proofs.DeviceHappening.{held_of_queue, of_queue, where_did}
-use Rattle.vs_core.proofs.MayNow.{event_now}
-use Rattle.vs_core.proofs.Returning.{event_some}
-use Rattle.vs_core.proofs.Stepped.{run_played}
+use Rattle.vs_core.proofs.{MayNow.event_now, Returning.event_some, Stepped.run_played}
 use Rattle.vs_core.proofs.world.World.device_puts_event.Goals as goal
 
 -- The chain is held on the event queue, and has room.

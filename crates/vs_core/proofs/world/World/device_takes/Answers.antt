@@ -5,10 +5,7 @@ use Rattle.vs_device_parts.specs.Steps.{takes_chain}
 use Rattle.vs_world.specs.Events.{DeviceTakes}
 use Rattle.vs_world.proofs.OverBoth.{IsPlayed}
 use Rattle.vs_core.specs.Ready.{IsReady}
-use Rattle.vs_core.proofs.DeviceHappening.{device_did}
-use Rattle.vs_core.proofs.MayNow.{take_now}
-use Rattle.vs_core.proofs.Returning.{takes_some}
-use Rattle.vs_core.proofs.Stepped.{run_played}
+use Rattle.vs_core.proofs.{DeviceHappening.device_did, MayNow.take_now, Returning.takes_some, Stepped.run_played}
 use Rattle.vs_core.proofs.world.World.device_takes.Goals as goal
 
 pub hold_chain-requires : goal.hold_chain-requires

@@ -4,10 +4,7 @@ use Rattle.vs_ring_list.specs.Ends.{device_contents}
 use Rattle.vs_device_parts.specs.Steps.{writes}
 use Rattle.vs_world.specs.Events.{DeviceWrites}
 use Rattle.vs_core.specs.Ready.{IsReady}
-use Rattle.vs_core.proofs.DeviceHappening.{device_did}
-use Rattle.vs_core.proofs.MayNow.{write_now}
-use Rattle.vs_core.proofs.Returning.{writes_some}
-use Rattle.vs_core.proofs.Stepped.{run_played, still_among}
+use Rattle.vs_core.proofs.{DeviceHappening.device_did, MayNow.write_now, Returning.writes_some, Stepped.run_played, Stepped.still_among}
 use Rattle.vs_core.proofs.world.World.device_writes.Goals as goal
 
 pub write-requires : goal.write-requires

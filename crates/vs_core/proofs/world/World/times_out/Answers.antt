@@ -4,10 +4,7 @@ use Rattle.vs_ring_list.specs.Ends.{device_contents}
 use Rattle.vs_device_parts.specs.Streams.{tick_slot}
 use Rattle.vs_world.specs.Events.{TimesOut}
 use Rattle.vs_core.specs.Ready.{IsReady}
-use Rattle.vs_core.proofs.DeviceHappening.{device_did}
-use Rattle.vs_core.proofs.MayNow.{tick_now}
-use Rattle.vs_core.proofs.Returning.{tick_some}
-use Rattle.vs_core.proofs.Stepped.{run_played, still_among}
+use Rattle.vs_core.proofs.{DeviceHappening.device_did, MayNow.tick_now, Returning.tick_some, Stepped.run_played, Stepped.still_among}
 use Rattle.vs_core.proofs.world.World.times_out.Goals as goal
 
 pub time_out-requires : goal.time_out-requires

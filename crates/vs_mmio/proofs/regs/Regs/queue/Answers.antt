@@ -1,7 +1,6 @@
 use Rattle.std.proofs.Common.{◌≡◌, true}
 use Rattle.vs_mmio.proofs.Steps.{ready_has, ready_rightly}
-use Rattle.vs_mmio.specs.Queue.{place_of}
-use Rattle.vs_mmio.specs.Registers.{queue_in}
+use Rattle.vs_mmio.specs.{Queue.place_of, Registers.queue_in}
 use Rattle.vs_mmio.proofs.regs.Regs.queue.Goals as goal
 
 pub returns-then-regs-clause-placed : goal.returns-then-regs-clause-placed

@@ -1,7 +1,6 @@
 use Rattle.std.proofs.Common.{◌≡◌, ◌≤◌, [], false, ◌+◌, ◌-◌, length, take, drop, refl, ap, ◌∙◌, arith}
 use Rattle.std.proofs.lemmas.List.{take_rest}
-use Rattle.vs_peer.proofs.Streams.{relates_as}
-use Rattle.vs_peer.proofs.Sends.{length_take_le, nothing_sent, piece_of}
+use Rattle.vs_peer.proofs.{Streams.relates_as, Sends.length_take_le, Sends.nothing_sent, Sends.piece_of}
 use Rattle.vs_peer.proofs.send.Sending.write.Goals as goal
 
 pub returns-in-Took-clause-passes : goal.returns-in-Took-clause-passes
