@@ -82,7 +82,7 @@ impl Source for MemSource {
         if left.is_empty() {
             return SourceRead::End;
         }
-        let n = self.piece.min(out.len()).min(left.len());
+        let n = self.piece.min(out.len().min(left.len()));
         out[..n].copy_from_slice(&left[..n]);
         self.at += n;
         SourceRead::Got(n)
