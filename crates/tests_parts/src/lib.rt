@@ -14,8 +14,6 @@ mod guest_mem;
 #[cfg(test)]
 mod header;
 #[cfg(test)]
-mod outside;
-#[cfg(test)]
 mod page;
 #[cfg(test)]
 mod replies;
