@@ -29,6 +29,7 @@ use Rattle.vs_core.proofs.Driven.{driven_stays, honest_rest, rested, stepped, wo
 use Rattle.vs_core.specs.Ready.{Happens, IsDrivenAtWork, IsReached, IsReady, IsServedAtWork, WorldState, shown, with_journal}
 use Rattle.vs_core.specs.Views.{Steps, Tells, TellsWhere}
 use Rattle.vs_core.specs.declared.event.Reply.{Reply}
+use Rattle.vs_core.specs.declared.event.Reply.TheVariants as reply
 
 -- What happens doesn't look at the journal.
 abbrev plain : World → World
