@@ -27,7 +27,6 @@ use Rattle.vs_play_laws.proofs.PlayLines.{after_both, cid_right, front_bounded, 
 use Rattle.vs_play_laws.proofs.{PlayLines.rest_bounded, PlayLines.world_is, Shutting.IsShut, Shutting.is_shut, Shutting.run_shut}
 use Rattle.vs_play_laws.proofs.Unfailed.{script_fine}
 use Rattle.vs_play_laws.proofs.Reached.{carries, holds_open, holds_rest, keeps_credit, log_is, many_device, many_guest, own_streams, queued}
-use Rattle.vs_play.proofs.Scripts.{all_bounded}
 use Rattle.vs_script.proofs.Bounded.{all_bounded}
 
 -- A play's host has no streams at first.

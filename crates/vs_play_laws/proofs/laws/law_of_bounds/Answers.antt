@@ -1,4 +1,3 @@
-use Rattle.vs_play.proofs.Scripts.{all_bounded}
 use Rattle.vs_script.proofs.Bounded.{all_bounded}
 use Rattle.vs_play_laws.proofs.laws.law_of_bounds.Goals as goal
 
