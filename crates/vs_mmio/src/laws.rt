@@ -1,25 +1,23 @@
 //! Laws of the registers, over every list of calls: accesses of the driver, and what the device's monitor tells.
-ghost use Rattle.std.specs.Prelude.{◌≡◌, ℕ, true, false, IfSome, IsTrue, List, None};
-ghost use Rattle.std.specs.List.{AllByRecursion};
-ghost use Rattle.vs_mmio.specs.Calls.{Call, Write, after, led_to, read_only, write_only};
+ghost use Rattle.std.specs.{Prelude.◌≡◌, Prelude.ℕ, Prelude.◌==◌, Prelude.true, Prelude.false, Prelude.IfSome, Prelude.IsTrue};
+ghost use Rattle.std.specs.{Prelude.List, Prelude.None, List.AllByRecursion};
 ghost use Rattle.vs_mmio.specs.Queue.{may_be_ready};
-ghost use Rattle.vs_mmio.specs.Registers.{after_write, fresh, may_run_of, queue_in, read_of, shown};
-ghost use Rattle.vs_mmio.specs.Status.{are_accepted};
-ghost use Rattle.vs_mmio.specs.Table.{register_at};
-ghost use Rattle.vs_mmio.specs.declared.queue.Limits.{Limits};
-ghost use Rattle.vs_mmio.specs.declared.register.Virtqueue.{Virtqueue};
-ghost use Rattle.vs_mmio.specs.declared.regs.RegisterState.{RegisterState};
+ghost use Rattle.vs_mmio.specs.Registers.{Call, Write, after, after_write, are_accepted, fresh, led_to, may_run_of, queue_in, read_of};
+ghost use Rattle.vs_mmio.specs.Registers.{read_only, shown, writable, write_only};
+ghost use Rattle.vs_mmio.specs.declared.{queue.Limits.Limits, queue.Virtqueue.Virtqueue, regs.RegisterState.RegisterState};
 ghost use Rattle.vs_mmio.specs.declared.regs.TheConstants.{STATUS_AT};
 
 /// The standard's columns R and W. What the driver only writes reads 0, and what it only reads stays when it is written, as does
-/// everything where an offset has no register. 0 in the status makes the registers as at first.
+/// everything at an offset that isn't to be written. 0 in the status makes the registers as at first.
 pub fn law_of_the_table()
     ensures write_only { (r : RegisterState) → AllByRecursion (λ (offset : ℕ). read_of r offset 4 ≡ 0) write_only }
     ensures read_only { (r : RegisterState) (v : ℕ) → AllByRecursion (λ (offset : ℕ). after_write offset v r ≡ r) read_only }
-    ensures elsewhere { (r : RegisterState) (offset v : ℕ) → register_at offset ≡ None → after_write offset v r ≡ r }
+    ensures elsewhere { (r : RegisterState) (offset v : ℕ) → AllByRecursion (λ (at : ℕ). (offset == at) ≡ false) writable
+        → after_write offset v r ≡ r }
     ensures renewed { (r : RegisterState) → after (Write STATUS_AT 0) r ≡ fresh r.cid r.limits }
 {}
 
+#[tactic(auto, using(crate::proofs::Steps::hidden, crate::proofs::Steps::shown_rightly, crate::proofs::Steps::kept))]
 /// Queues after any calls. None is shown before `FEATURES_OK`. One that is shown has a size that is a power of two up to the
 /// largest, and areas that are aligned, inside the memory and apart; it keeps both as long as it is ready, whatever is called.
 pub fn law_of_queues()
@@ -31,6 +29,7 @@ pub fn law_of_queues()
         → (queue_in (after call r) queue).ready ≡ true → queue_in (after call r) queue ≡ queue_in r queue }
 {}
 
+#[tactic(auto, using(crate::proofs::Steps::accepted, crate::proofs::Steps::features_kept))]
 /// Features after any calls. Where `FEATURES_OK` stands, those that the driver wrote are offered, with `VERSION_1` among them, and
 /// they stay as long as it stands.
 pub fn law_of_features()
@@ -40,6 +39,7 @@ pub fn law_of_features()
         → (after call r).status.features_ok ≡ true → (after call r).features ≡ r.features }
 {}
 
+#[tactic(auto, using(crate::proofs::Steps::negotiated))]
 /// When the device may run, after any calls: not before `DRIVER_OK`, not before all three queues are ready, and so not before
 /// `FEATURES_OK`.
 pub fn law_of_running()

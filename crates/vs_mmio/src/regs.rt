@@ -1,18 +1,24 @@
 //! The registers, and the calls of a device's monitor on them.
-ghost use Rattle.std.specs.Prelude.{◌≡◌, ◌<◌, ◌≤◌, true, IfSome, IsTrue};
-ghost use Rattle.std.specs.Int.{is_power_of_two};
-ghost use Rattle.vs_mmio.specs.Calls.{Failed, SetCid, Used, Write, after};
-ghost use Rattle.vs_mmio.specs.Queue.{is_placed, queue_after, queue_value};
-ghost use Rattle.vs_mmio.specs.Registers.{IsInOrder, after_register, at_selected, bytes_of, features_of, fresh, is_config, may_run_of};
-ghost use Rattle.vs_mmio.specs.Registers.{of_selected, queue_in, read_of, shown, value_of, with_features, with_status, wrote_of};
-ghost use Rattle.vs_mmio.specs.Table.{queue_numbered};
-ghost use Rattle.vs_mmio.specs.declared.regs.Wrote.TheVariants.{Renew};
+ghost use Rattle.std.specs.{Prelude.◌≡◌, Prelude.◌<◌, Prelude.◌≤◌, Prelude.true, Prelude.IfSome, Prelude.IsTrue, Int.is_power_of_two};
+ghost use Rattle.vs_mmio.specs.Queue.{is_placed, queue_after};
+ghost use Rattle.vs_mmio.specs.Registers.{Failed, IsInOrder, SetCid, Used, Write, after, after_write, at_selected, bytes_of, features_of};
+ghost use Rattle.vs_mmio.specs.Registers.{fresh, is_config, may_run_of, queue_in, read_of, selected_ready, shown, wrote_of};
+ghost use Rattle.vs_mmio.specs.declared.{regs.RegisterState.RegisterState, regs.Wrote.TheVariants.Renew};
 
-use crate::queue::{Halves, Limits, QueueRegs, ReadyQueue};
-use crate::register::{QueueRegister, Register, Virtqueue, queue_of, register_of};
-use crate::status::{Interrupt, Status, accepts, offered};
+use crate::queue::{Limits, QueueRegs, ReadyQueue, Virtqueue, with_half};
+use crate::status::{CONFIGURATION_CHANGE, Status, USED_BUFFER, offered, value_if};
 use std::marker::Model;
 
+// What the first registers read: `virt` in little-endian bytes, Virtio 1, a socket device (section 5.10.1), no vendor.
+pub const MAGIC: u32 = 0x7472_6976;
+
+pub const VERSION: u32 = 2;
+
+pub const DEVICE_ID: u32 = 19;
+
+pub const VENDOR_ID: u32 = 0;
+/// Number of queues.
+pub const QUEUES: u32 = 3;
 /// Offset of `Status`.
 pub const STATUS_AT: u64 = 0x070;
 /// Offset of the configuration, which is the guest's CID (Virtio 1.2, section 5.10.4).
@@ -30,7 +36,7 @@ pub enum Wrote {
 }
 
 /// What the registers hold.
-#[derive(Clone, Copy)]
+#[derive(Clone, Copy, Default)]
 pub struct RegisterState {
     /// The guest's CID.
     pub cid: u64,
@@ -39,9 +45,9 @@ pub struct RegisterState {
     pub driver_features_sel: u32,
     pub queue_sel: u32,
     /// The features that the driver wrote.
-    pub features: Halves,
+    pub features: u64,
     pub status: Status,
-    pub interrupt: Interrupt,
+    pub interrupt: u32,
     /// The configuration's generation, modulo 2^32.
     pub generation: u32,
     /// What the driver wrote last to `QueueNotify`.
@@ -56,117 +62,68 @@ impl RegisterState {
     fn new(cid: u64, limits: Limits) -> RegisterState
         ensures { result ≡ fresh cid limits }
     {
-        RegisterState {
-            cid,
-            limits,
-            device_features_sel: 0,
-            driver_features_sel: 0,
-            queue_sel: 0,
-            features: Halves::default(),
-            status: Status::default(),
-            interrupt: Interrupt::default(),
-            generation: 0,
-            notified: 0,
-            rx: QueueRegs::default(),
-            tx: QueueRegs::default(),
-            event: QueueRegs::default(),
-        }
+        let mut state = RegisterState::default();
+        state.cid = cid;
+        state.limits = limits;
+        state
     }
 
-    // The registers of a queue.
-    fn queue(&self, queue: Virtqueue) -> QueueRegs
-        ensures { result ≡ queue_in self.now queue }
+    // Whether the queue that QueueSel names is ready.
+    fn selected_ready(&self) -> bool
+        ensures { result ≡ selected_ready self.now }
     {
-        match queue {
-            Virtqueue::Rx => self.rx,
-            Virtqueue::Tx => self.tx,
-            Virtqueue::Event => self.event,
-        }
-    }
-
-    // What a read of a register answers.
-    fn value(&self, register: Option<Register>) -> u32
-        ensures { result ≡ value_of register self.now }
-    {
-        match register {
-            Some(Register::Constant(value)) => value,
-            Some(Register::DeviceFeatures) => offered(self.device_features_sel),
-            Some(Register::Queue(field)) => self.queue_value(field),
-            Some(Register::InterruptStatus) => self.interrupt.number(),
-            Some(Register::Status) => self.status.number(),
-            Some(Register::ConfigGeneration) => self.generation,
-            _ => 0,
-        }
-    }
-
-    // What a read of a register of the selected queue answers.
-    fn queue_value(&self, field: QueueRegister) -> u32
-        ensures { result ≡ of_selected (queue_value field self.now.limits.max) (queue_numbered self.now.queue_sel) self.now }
-    {
-        match queue_of(self.queue_sel) {
-            Some(queue) => self.queue(queue).read(field, self.limits.max),
-            None => 0,
+        match self.queue_sel {
+            0 => self.rx.ready,
+            1 => self.tx.ready,
+            2 => self.event.ready,
+            _ => false,
         }
     }
 
     // Writes a register of the selected queue.
-    fn write_queue(&mut self, field: QueueRegister, value: u32)
-        ensures { self.new ≡ at_selected (queue_after field value self.old.limits self.old.status.features_ok)
-            (queue_numbered self.old.queue_sel) self.old }
+    fn write_queue(&mut self, offset: u64, value: u32)
+        ensures { self.new ≡ at_selected (queue_after offset value self.old.limits self.old.status.features_ok) self.old }
     {
         let (limits, features_ok) = (self.limits, self.status.features_ok);
-        match queue_of(self.queue_sel) {
-            Some(Virtqueue::Rx) => self.rx.write(field, value, limits, features_ok),
-            Some(Virtqueue::Tx) => self.tx.write(field, value, limits, features_ok),
-            Some(Virtqueue::Event) => self.event.write(field, value, limits, features_ok),
-            None => {}
-        }
-    }
-
-    // Writes a half of the driver's features.
-    fn write_features(&mut self, value: u32)
-        ensures { self.new ≡ with_features value self.old }
-    {
-        if self.status.features_ok {
-            return;
-        }
-        match self.driver_features_sel {
-            0 => self.features.low = value,
-            1 => self.features.high = value,
+        match self.queue_sel {
+            0 => self.rx.write(offset, value, limits, features_ok),
+            1 => self.tx.write(offset, value, limits, features_ok),
+            2 => self.event.write(offset, value, limits, features_ok),
             _ => {}
         }
     }
 
-    // Writes the status.
     fn write_status(&mut self, value: u32)
-        ensures { self.new ≡ with_status value self.old }
+        ensures { self.new ≡ after_write STATUS_AT value self.old }
     {
         if value == 0 {
             *self = RegisterState::new(self.cid, self.limits);
         } else {
-            let accepted = accepts(self.features);
-            self.status.add(value, accepted);
+            self.status.add(value, self.features);
         }
     }
 
-    // Writes a register.
-    fn write(&mut self, register: Option<Register>, value: u32)
-        ensures { self.new ≡ after_register register value self.old }
+    fn write(&mut self, offset: u64, value: u32)
+        ensures { self.new ≡ after_write offset value self.old }
     {
-        match register {
-            Some(Register::DeviceFeaturesSel) => self.device_features_sel = value,
-            Some(Register::DriverFeatures) => self.write_features(value),
-            Some(Register::DriverFeaturesSel) => {
-                if !self.status.features_ok {
+        let open = !self.status.features_ok;
+        match offset {
+            0x014 => self.device_features_sel = value,
+            0x020 => {
+                if open {
+                    self.features = with_half(self.features, self.driver_features_sel, value);
+                }
+            }
+            0x024 => {
+                if open {
                     self.driver_features_sel = value;
                 }
             }
-            Some(Register::QueueSel) => self.queue_sel = value,
-            Some(Register::Queue(field)) => self.write_queue(field, value),
-            Some(Register::QueueNotify) => self.notified = value,
-            Some(Register::InterruptAck) => self.interrupt.acknowledge(value),
-            Some(Register::Status) => self.write_status(value),
-            _ => {}
+            0x030 => self.queue_sel = value,
+            0x050 => self.notified = value,
+            0x064 => self.interrupt &= !value,
+            STATUS_AT => self.write_status(value),
+            _ => self.write_queue(offset, value),
         }
     }
 }
@@ -197,8 +154,7 @@ pub struct Regs {
 }
 
 impl Model for Regs {
-    ghost use Rattle.vs_mmio.specs.Registers.{IsInOrder};
-    ghost use Rattle.vs_mmio.specs.declared.regs.RegisterState.{RegisterState};
+    ghost use Rattle.vs_mmio.specs.{Registers.IsInOrder, declared.regs.RegisterState.RegisterState};
 
     ghost Value = { RegisterState };
 
@@ -214,9 +170,8 @@ impl Regs {
         ensures { result ≡ fresh cid (record { max = max; base = base; size = size }) }
     {
         let limits = Limits { max, base, size };
-        Regs {
-            state: RegisterState::new(cid, limits),
-        }
+        let state = RegisterState::new(cid, limits);
+        Regs { state }
     }
 
     /// What the driver reads: a register at its offset, `width` 4; 1, 2 or 4 bytes of the configuration, aligned. 0 at every other
@@ -224,12 +179,25 @@ impl Regs {
     pub fn read(&self, offset: u64, width: u32) -> u32
         ensures { result ≡ read_of self.now offset width }
     {
+        let state = self.state;
         if is_config_access(offset, width) {
-            bytes_at(self.state.cid, offset - CONFIG_AT, width)
-        } else if width == 4 {
-            self.state.value(register_of(offset))
-        } else {
-            0
+            return bytes_at(state.cid, offset - CONFIG_AT, width);
+        }
+        if width != 4 {
+            return 0;
+        }
+        match offset {
+            0x000 => MAGIC,
+            0x004 => VERSION,
+            0x008 => DEVICE_ID,
+            0x00c => VENDOR_ID,
+            0x010 => offered(state.device_features_sel),
+            0x034 => value_if(state.queue_sel < QUEUES, u32::from(state.limits.max)),
+            0x044 => state.selected_ready() as u32,
+            0x060 => state.interrupt,
+            0x070 => state.status.number(),
+            0x0fc => state.generation,
+            _ => 0,
         }
     }
 
@@ -240,7 +208,7 @@ impl Regs {
         ensures answer { result ≡ wrote_of offset value }
         ensures renewed { result ≡ Renew → self.new ≡ fresh self.old.cid self.old.limits }
     {
-        self.state.write(register_of(offset), value);
+        self.state.write(offset, value);
         if offset == STATUS_AT && value == 0 {
             Wrote::Renew
         } else {
@@ -255,7 +223,7 @@ impl Regs {
     {
         self.state.cid = cid;
         self.state.generation = self.state.generation.wrapping_add(1);
-        self.state.interrupt.configuration = true;
+        self.state.interrupt |= CONFIGURATION_CHANGE;
     }
 
     /// The device has failed: it needs a reset, and the driver is interrupted once for that.
@@ -264,7 +232,7 @@ impl Regs {
     {
         if !self.state.status.needs_reset {
             self.state.status.needs_reset = true;
-            self.state.interrupt.configuration = true;
+            self.state.interrupt |= CONFIGURATION_CHANGE;
         }
     }
 
@@ -272,7 +240,7 @@ impl Regs {
     pub fn used(&mut self)
         ensures { self.new ≡ after Used self.old }
     {
-        self.state.interrupt.used_buffer = true;
+        self.state.interrupt |= USED_BUFFER;
     }
 
     /// A queue that is ready, and `None` where it isn't.
@@ -282,12 +250,12 @@ impl Regs {
         ensures sized { IfSome result (λ q. IsTrue (is_power_of_two q.size) × (q.size ≤ self.now.limits.max)) }
         ensures placed { IfSome result (λ q. IsTrue (is_placed self.now.limits q)) }
     {
-        let regs = self.state.queue(queue);
-        if regs.ready {
-            Some(regs.place(self.state.limits.max))
-        } else {
-            None
-        }
+        let regs = match queue {
+            Virtqueue::Rx => self.state.rx,
+            Virtqueue::Tx => self.state.tx,
+            Virtqueue::Event => self.state.event,
+        };
+        regs.ready.then_some(regs.place)
     }
 
     /// Whether the device may run: the driver is set up, and all three queues are ready.
@@ -304,7 +272,7 @@ impl Regs {
         ensures { result ≡ features_of self.now }
     {
         if self.state.status.features_ok {
-            self.state.features.whole()
+            self.state.features
         } else {
             0
         }
