@@ -43,10 +43,12 @@ status_after value features s =
       failed = s.failed || has value FAILED;
     }
 
+abbrev pub no_queue : QueueRegs
+no_queue = record { ready = false; place = record { size = 0; desc = 0; driver = 0; device = 0 } }
+
 -- Registers to which the driver wrote nothing.
 abbrev pub fresh : ℕ → Limits → RegisterState
 fresh cid limits =
-    let q : QueueRegs = record { ready = false; place = record { size = 0; desc = 0; driver = 0; device = 0 } } in
     record {
       cid = cid;
       limits = limits;
@@ -59,9 +61,9 @@ fresh cid limits =
       interrupt = 0;
       generation = 0;
       notified = 0;
-      rx = q;
-      tx = q;
-      event = q;
+      rx = no_queue;
+      tx = no_queue;
+      event = no_queue;
     }
 
 abbrev pub queue_in : RegisterState → Virtqueue → QueueRegs
@@ -69,11 +71,11 @@ queue_in r Rx = r.rx
 queue_in r Tx = r.tx
 queue_in r Event = r.event
 
--- The queue that QueueSel names is ready.
-abbrev pub selected_ready : RegisterState → Bool
-selected_ready r = ((r.queue_sel == 0) && r.rx.ready) || ((r.queue_sel == 1) && r.tx.ready) || ((r.queue_sel == 2) && r.event.ready)
+-- A queue by its number (section 5.10.2); one that there isn't has nothing written.
+abbrev pub queue_at : ℕ → RegisterState → QueueRegs
+queue_at number r = if number == 0 then r.rx else if number == 1 then r.tx else if number == 2 then r.event else no_queue
 
--- That queue changes, where there is one.
+-- The queue that QueueSel names changes, where there is one.
 abbrev pub at_selected : (QueueRegs → QueueRegs) → RegisterState → RegisterState
 at_selected f r =
     let at : ℕ → QueueRegs → QueueRegs = λ number q. if r.queue_sel == number then f q else q in
@@ -88,7 +90,7 @@ reads = (0x000, λ r. MAGIC)
     ∷ (0x00c, λ r. VENDOR_ID)
     ∷ (0x010, λ r. offered_half r.device_features_sel)
     ∷ (0x034, λ r. value_where (nat_lt r.queue_sel QUEUES) r.limits.max)
-    ∷ (0x044, λ r. value_where (selected_ready r) 1)
+    ∷ (0x044, λ r. value_where (queue_at r.queue_sel r).ready 1)
     ∷ (0x060, λ r. r.interrupt)
     ∷ (0x070, λ r. status_number r.status)
     ∷ (0x0fc, λ r. r.generation)
@@ -111,14 +113,10 @@ abbrev pub is_config : ℕ → ℕ → Bool
 is_config offset width = nat_le CONFIG_AT offset && nat_lt offset (CONFIG_AT + CONFIG_LEN)
     && ((width == 1) || (width == 2) || (width == 4)) && (offset % width == 0)
 
--- The bytes of a number from a place on, little-endian.
-abbrev pub bytes_of : ℕ → ℕ → ℕ → ℕ
-bytes_of number at width = number / 2 ^ (8 * at) % 2 ^ (8 * width)
-
--- What a read answers: the guest's CID in the configuration; a register at its offset, four bytes wide; else 0.
+-- What a read answers: bytes of the guest's CID in the configuration, little-endian; a register at its offset, four bytes wide; else 0.
 abbrev pub read_of : RegisterState → ℕ → ℕ → ℕ
 read_of r offset width =
-    if is_config offset width then bytes_of r.cid (offset - CONFIG_AT) width
+    if is_config offset width then r.cid / 2 ^ (8 * (offset - CONFIG_AT)) % 2 ^ (8 * width)
     else if width == 4 then unwrap_or (lookup (λ at. offset == at) reads) (λ r. 0) r
     else 0
 

@@ -1,8 +1,8 @@
 //! The registers, and the calls of a device's monitor on them.
 ghost use Rattle.std.specs.{Prelude.◌≡◌, Prelude.◌<◌, Prelude.◌≤◌, Prelude.true, Prelude.IfSome, Prelude.IsTrue, Int.is_power_of_two};
-ghost use Rattle.vs_mmio.specs.Queue.{is_placed, queue_after};
-ghost use Rattle.vs_mmio.specs.Registers.{Failed, IsInOrder, SetCid, Used, Write, after, after_write, at_selected, bytes_of, features_of};
-ghost use Rattle.vs_mmio.specs.Registers.{fresh, is_config, may_run_of, queue_in, read_of, selected_ready, shown, wrote_of};
+ghost use Rattle.vs_mmio.specs.Queue.{is_placed};
+ghost use Rattle.vs_mmio.specs.Registers.{Failed, IsInOrder, SetCid, Used, Write, after, after_write, features_of};
+ghost use Rattle.vs_mmio.specs.Registers.{fresh, is_config, may_run_of, queue_at, queue_in, read_of, shown, wrote_of};
 ghost use Rattle.vs_mmio.specs.declared.{regs.RegisterState.RegisterState, regs.Wrote.TheVariants.Renew};
 
 use crate::queue::{Limits, QueueRegs, ReadyQueue, Virtqueue, with_half};
@@ -17,13 +17,13 @@ pub const VERSION: u32 = 2;
 pub const DEVICE_ID: u32 = 19;
 
 pub const VENDOR_ID: u32 = 0;
-/// Number of queues.
+// Number of queues; offsets of `Status` and of the configuration, which is the guest's CID (section 5.10.4), and its bytes.
 pub const QUEUES: u32 = 3;
-/// Offset of `Status`.
+
 pub const STATUS_AT: u64 = 0x070;
-/// Offset of the configuration, which is the guest's CID (Virtio 1.2, section 5.10.4).
+
 pub const CONFIG_AT: u64 = 0x100;
-/// Bytes of the configuration.
+
 pub const CONFIG_LEN: u64 = 8;
 
 /// What a write asks of the device's monitor.
@@ -35,22 +35,19 @@ pub enum Wrote {
     Renew,
 }
 
-/// What the registers hold.
+/// What the registers hold: the guest's CID, what the driver wrote (its features, and last to `QueueNotify`), the bits of the
+/// interrupt status, and the configuration's generation, modulo 2^32.
 #[derive(Clone, Copy, Default)]
 pub struct RegisterState {
-    /// The guest's CID.
     pub cid: u64,
     pub limits: Limits,
     pub device_features_sel: u32,
     pub driver_features_sel: u32,
     pub queue_sel: u32,
-    /// The features that the driver wrote.
     pub features: u64,
     pub status: Status,
     pub interrupt: u32,
-    /// The configuration's generation, modulo 2^32.
     pub generation: u32,
-    /// What the driver wrote last to `QueueNotify`.
     pub notified: u32,
     pub rx: QueueRegs,
     pub tx: QueueRegs,
@@ -68,62 +65,43 @@ impl RegisterState {
         state
     }
 
-    // Whether the queue that QueueSel names is ready.
-    fn selected_ready(&self) -> bool
-        ensures { result ≡ selected_ready self.now }
+    // A queue by its number. One that there isn't has nothing written.
+    fn queue(&self, number: u32) -> QueueRegs
+        ensures { result ≡ queue_at number self.now }
     {
-        match self.queue_sel {
-            0 => self.rx.ready,
-            1 => self.tx.ready,
-            2 => self.event.ready,
-            _ => false,
+        match number {
+            0 => self.rx,
+            1 => self.tx,
+            2 => self.event,
+            _ => QueueRegs::default(),
         }
     }
 
-    // Writes a register of the selected queue.
-    fn write_queue(&mut self, offset: u64, value: u32)
-        ensures { self.new ≡ at_selected (queue_after offset value self.old.limits self.old.status.features_ok) self.old }
-    {
-        let (limits, features_ok) = (self.limits, self.status.features_ok);
-        match self.queue_sel {
-            0 => self.rx.write(offset, value, limits, features_ok),
-            1 => self.tx.write(offset, value, limits, features_ok),
-            2 => self.event.write(offset, value, limits, features_ok),
-            _ => {}
-        }
-    }
-
-    fn write_status(&mut self, value: u32)
-        ensures { self.new ≡ after_write STATUS_AT value self.old }
-    {
-        if value == 0 {
-            *self = RegisterState::new(self.cid, self.limits);
-        } else {
-            self.status.add(value, self.features);
-        }
-    }
-
+    // Writes a register. The driver's features stay once they are negotiated.
     fn write(&mut self, offset: u64, value: u32)
         ensures { self.new ≡ after_write offset value self.old }
     {
-        let open = !self.status.features_ok;
+        let (limits, negotiated) = (self.limits, self.status.features_ok);
+        if negotiated && (offset == 0x020 || offset == 0x024) {
+            return;
+        }
         match offset {
             0x014 => self.device_features_sel = value,
-            0x020 => {
-                if open {
-                    self.features = with_half(self.features, self.driver_features_sel, value);
-                }
-            }
-            0x024 => {
-                if open {
-                    self.driver_features_sel = value;
-                }
-            }
+            0x020 => self.features = with_half(self.features, self.driver_features_sel, value),
+            0x024 => self.driver_features_sel = value,
             0x030 => self.queue_sel = value,
             0x050 => self.notified = value,
             0x064 => self.interrupt &= !value,
-            STATUS_AT => self.write_status(value),
-            _ => self.write_queue(offset, value),
+            STATUS_AT => match value {
+                0 => *self = RegisterState::new(self.cid, limits),
+                _ => self.status.add(value, self.features),
+            },
+            _ => match self.queue_sel {
+                0 => self.rx.write(offset, value, limits, negotiated),
+                1 => self.tx.write(offset, value, limits, negotiated),
+                2 => self.event.write(offset, value, limits, negotiated),
+                _ => {}
+            },
         }
     }
 }
@@ -136,15 +114,6 @@ fn is_config_access(offset: u64, width: u32) -> bool
         && offset < CONFIG_AT + CONFIG_LEN
         && (width == 1 || width == 2 || width == 4)
         && offset % width as u64 == 0
-}
-
-// The bytes of a number from a place on, little-endian.
-fn bytes_at(number: u64, at: u64, width: u32) -> u32
-    requires place { at < 8 }
-    requires width { width ≤ 4 }
-    ensures { result ≡ bytes_of number at width }
-{
-    ((number >> (8 * at)) % 2u64.pow(8 * width)) as u32
 }
 
 /// The virtio-mmio registers of one socket device. Each call is total, and takes no memory.
@@ -181,7 +150,7 @@ impl Regs {
     {
         let state = self.state;
         if is_config_access(offset, width) {
-            return bytes_at(state.cid, offset - CONFIG_AT, width);
+            return ((state.cid >> (8 * (offset - CONFIG_AT))) % 2u64.pow(8 * width)) as u32;
         }
         if width != 4 {
             return 0;
@@ -193,7 +162,7 @@ impl Regs {
             0x00c => VENDOR_ID,
             0x010 => offered(state.device_features_sel),
             0x034 => value_if(state.queue_sel < QUEUES, u32::from(state.limits.max)),
-            0x044 => state.selected_ready() as u32,
+            0x044 => state.queue(state.queue_sel).ready as u32,
             0x060 => state.interrupt,
             0x070 => state.status.number(),
             0x0fc => state.generation,
@@ -250,11 +219,7 @@ impl Regs {
         ensures sized { IfSome result (λ q. IsTrue (is_power_of_two q.size) × (q.size ≤ self.now.limits.max)) }
         ensures placed { IfSome result (λ q. IsTrue (is_placed self.now.limits q)) }
     {
-        let regs = match queue {
-            Virtqueue::Rx => self.state.rx,
-            Virtqueue::Tx => self.state.tx,
-            Virtqueue::Event => self.state.event,
-        };
+        let regs = self.state.queue(queue as u32);
         regs.ready.then_some(regs.place)
     }
 

@@ -1,6 +1,6 @@
 //! Device status (Virtio 1.2, section 2.1), feature bits (section 2.2) and interrupt status (section 4.2.2).
 ghost use Rattle.std.specs.Prelude.{◌≡◌};
-ghost use Rattle.vs_mmio.specs.Registers.{are_accepted, has, offered_half, status_after, status_number, value_where};
+ghost use Rattle.vs_mmio.specs.Registers.{are_accepted, offered_half, status_after, status_number, value_where};
 
 // Bits of the device status: the guest has found the device, knows how to drive it, is set up, has negotiated the features; the
 // device has failed; the guest has given the device up.
@@ -43,13 +43,6 @@ pub fn value_if(holds: bool, value: u32) -> u32
     if holds { value } else { 0 }
 }
 
-// Whether a value has a bit.
-fn has_bit(value: u32, bit: u32) -> bool
-    ensures { result ≡ has value bit }
-{
-    value & bit != 0
-}
-
 /// The half of the offered features that a selector names; there are two.
 pub fn offered(selector: u32) -> u32
     ensures { result ≡ offered_half selector }
@@ -86,10 +79,10 @@ impl Status {
     pub fn add(&mut self, value: u32, features: u64)
         ensures { self.new ≡ status_after value features self.old }
     {
-        self.acknowledge = self.acknowledge || has_bit(value, ACKNOWLEDGE);
-        self.driver = self.driver || has_bit(value, DRIVER);
-        self.features_ok = self.features_ok || has_bit(value, FEATURES_OK) && accepts(features);
-        self.driver_ok = self.driver_ok || has_bit(value, DRIVER_OK) && self.features_ok;
-        self.failed = self.failed || has_bit(value, FAILED);
+        self.acknowledge = self.acknowledge || value & ACKNOWLEDGE != 0;
+        self.driver = self.driver || value & DRIVER != 0;
+        self.features_ok = self.features_ok || value & FEATURES_OK != 0 && accepts(features);
+        self.driver_ok = self.driver_ok || value & DRIVER_OK != 0 && self.features_ok;
+        self.failed = self.failed || value & FAILED != 0;
     }
 }

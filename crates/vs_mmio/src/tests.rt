@@ -19,65 +19,41 @@ fn writes(regs: &mut Regs, values: &[(u64, u32)]) {
     }
 }
 
-// A queue of 8 entries at a page: its descriptors, its available ring behind them, and then its used ring.
+// Sets up a queue of 8 entries at a page: its descriptors, its available ring behind them, and then its used ring.
 fn sets_up(regs: &mut Regs, queue: u32, at: u32) -> bool {
     regs.write(0x030, queue);
     let found = reads(regs, &[(0x044, 0), (0x034, 256)]) && !regs.may_run();
     writes(regs, &[(0x038, 8), (0x080, at), (0x084, 0)]);
-    writes(
-        regs,
-        &[
-            (0x090, at | 128),
-            (0x094, 0),
-            (0x0a0, at | 152),
-            (0x0a4, 0),
-            (0x044, 1),
-        ],
-    );
+    writes(regs, &[(0x090, at | 128), (0x094, 0)]);
+    writes(regs, &[(0x0a0, at | 152), (0x0a4, 0), (0x044, 1)]);
     found && reads(regs, &[(0x044, 1), (0x080, 0)])
 }
 
 #[test]
 fn linux_driver_finds_the_device(rt: HostRuntime) {
     let mut regs = Regs::new(3, 256, 4_096, 65_536);
-    assert!(rt;
-        reads(
-            &regs,
-            &[(0x000, 0x7472_6976), (0x004, 2), (0x008, 19), (0x00c, 0)]
-        )
-    );
+    assert!(rt; reads(&regs, &[(0x000, 0x7472_6976), (0x004, 2), (0x008, 19)]));
     writes(&mut regs, &[(0x070, 0), (0x070, 1), (0x070, 3), (0x014, 1)]);
-    assert!(rt; reads(&regs, &[(0x070, 3), (0x010, 1)]));
-    writes(
-        &mut regs,
-        &[
-            (0x014, 0),
-            (0x024, 1),
-            (0x020, 1),
-            (0x024, 0),
-            (0x020, 0x3000_0003),
-            (0x070, 11),
-        ],
-    );
-    assert!(rt; reads(&regs, &[(0x010, 0x3000_0003), (0x070, 11), (0x020, 0)]));
+    assert!(rt; reads(&regs, &[(0x070, 3), (0x010, 1), (0x00c, 0)]));
+    writes(&mut regs, &[(0x014, 0), (0x024, 1), (0x020, 1), (0x024, 0)]);
+    assert!(rt; reads(&regs, &[(0x010, 0x3000_0003), (0x020, 0)]));
+    writes(&mut regs, &[(0x020, 0x3000_0003), (0x070, 11)]);
+    assert!(rt; reads(&regs, &[(0x070, 11)]));
     for (queue, at) in [(0, 4_096), (1, 8_192), (2, 12_288)] {
         assert!(rt; sets_up(&mut regs, queue, at));
     }
     assert!(rt; reads(&regs, &[(0x0fc, 0), (0x100, 3), (0x104, 0)]) && !regs.may_run());
     writes(&mut regs, &[(0x070, 15), (0x050, 0)]);
     assert!(rt; reads(&regs, &[(0x070, 15)]) && regs.may_run());
-    assert_eq!(rt; (regs.features(), regs.notified()), (0x1_3000_0003, 0));
-    let tx = regs.queue(Virtqueue::Tx);
+    assert!(rt; regs.features() == 0x1_3000_0003 && regs.notified() == 0);
     let (size, desc, driver, device) = (8, 8_192, 8_320, 8_344);
-    assert_eq!(rt;
-        tx,
-        Some(ReadyQueue {
-            size,
-            desc,
-            driver,
-            device
-        })
-    );
+    let tx = ReadyQueue {
+        size,
+        desc,
+        driver,
+        device,
+    };
+    assert_eq!(rt; regs.queue(Virtqueue::Tx), Some(tx));
     regs.used();
     regs.set_cid(9);
     assert!(rt; reads(&regs, &[(0x060, 3), (0x0fc, 1), (0x100, 9)]));
