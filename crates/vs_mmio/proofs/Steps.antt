@@ -92,14 +92,8 @@ kept r call Rx = (step call r).rx
 kept r call Tx = (step call r).tx
 kept r call Event = (step call r).event
 
-pub accepted : (cid : ℕ) (l : Limits) (calls : List Call) → (led_to cid l calls).status.features_ok ≡ true
-    → are_accepted (led_to cid l calls).features ≡ true
-accepted cid l calls = (in_order cid l calls).0.accepted
+pub order : (offset v : ℕ) (r : RegisterState) → IsInOrder r → IsInOrder (after (Write offset v) r)
+order offset v r = (step (Write offset v) r).order
 
-pub features_kept : (r : RegisterState) (call : Call) → r.status.features_ok ≡ true → (after call r).status.features_ok ≡ true
-    → (after call r).features ≡ r.features
-features_kept r call = (step call r).features
-
-pub negotiated : (cid : ℕ) (l : Limits) (calls : List Call) → (led_to cid l calls).status.features_ok ≡ false
-    → may_run_of (led_to cid l calls) ≡ false
-negotiated cid l calls off = let driver_ok = (in_order cid l calls).0.driver_ok in grind (arith, driver_ok, off)
+pub in_order_all : (cid : ℕ) (l : Limits) (calls : List Call) → IsInOrder (led_to cid l calls)
+in_order_all cid l calls = (in_order cid l calls).0

@@ -22,10 +22,6 @@ abbrev pub status_number : Status → ℕ
 status_number s = value_where s.acknowledge ACKNOWLEDGE + value_where s.driver DRIVER + value_where s.driver_ok DRIVER_OK
     + value_where s.features_ok FEATURES_OK + value_where s.needs_reset DEVICE_NEEDS_RESET + value_where s.failed FAILED
 
--- Half 0 or half 1 of the offered features; there is no other.
-abbrev pub offered_half : ℕ → ℕ
-offered_half selector = if selector == 0 then OFFERED % 2 ^ 32 else if selector == 1 then OFFERED / 2 ^ 32 else 0
-
 -- The driver's features are offered, and VERSION_1 is among them.
 abbrev pub are_accepted : ℕ → Bool
 are_accepted features = (bit_and features OFFERED == features) && has features VERSION_1
@@ -33,15 +29,11 @@ are_accepted features = (bit_and features OFFERED == features) && has features V
 -- The status after a write of a value that isn't 0: its bits are added, FEATURES_OK only where the features are accepted, and
 -- DRIVER_OK only where FEATURES_OK stands then. The bit of the device's failure is the device's own.
 abbrev pub status_after : ℕ → ℕ → Status → Status
-status_after value features s =
-    let features_ok = s.features_ok || (has value FEATURES_OK && are_accepted features) in
-    record s {
-      acknowledge = s.acknowledge || has value ACKNOWLEDGE;
-      driver = s.driver || has value DRIVER;
-      features_ok = features_ok;
-      driver_ok = s.driver_ok || (has value DRIVER_OK && features_ok);
-      failed = s.failed || has value FAILED;
-    }
+status_after v features s =
+    let features_ok = s.features_ok || (has v FEATURES_OK && are_accepted features) in
+    let added : Status =
+    record s { acknowledge = s.acknowledge || has v ACKNOWLEDGE; driver = s.driver || has v DRIVER; failed = s.failed || has v FAILED } in
+    record added { features_ok = features_ok; driver_ok = s.driver_ok || (has v DRIVER_OK && features_ok) }
 
 abbrev pub no_queue : QueueRegs
 no_queue = record { ready = false; place = record { size = 0; desc = 0; driver = 0; device = 0 } }
@@ -88,7 +80,7 @@ reads = (0x000, λ r. MAGIC)
     ∷ (0x004, λ r. VERSION)
     ∷ (0x008, λ r. DEVICE_ID)
     ∷ (0x00c, λ r. VENDOR_ID)
-    ∷ (0x010, λ r. offered_half r.device_features_sel)
+    ∷ (0x010, λ r. if r.device_features_sel == 0 then OFFERED % 2 ^ 32 else if r.device_features_sel == 1 then OFFERED / 2 ^ 32 else 0)
     ∷ (0x034, λ r. value_where (nat_lt r.queue_sel QUEUES) r.limits.max)
     ∷ (0x044, λ r. value_where (queue_at r.queue_sel r).ready 1)
     ∷ (0x060, λ r. r.interrupt)

@@ -29,7 +29,7 @@ pub fn law_of_queues()
         → (queue_in (after call r) queue).ready ≡ true → queue_in (after call r) queue ≡ queue_in r queue }
 {}
 
-#[tactic(auto, using(crate::proofs::Steps::accepted, crate::proofs::Steps::features_kept))]
+#[tactic(auto, using(crate::proofs::Steps::in_order_all, crate::proofs::Steps::step))]
 /// Features after any calls. Where `FEATURES_OK` stands, those that the driver wrote are offered, with `VERSION_1` among them, and
 /// they stay as long as it stands.
 pub fn law_of_features()
@@ -39,7 +39,7 @@ pub fn law_of_features()
         → (after call r).status.features_ok ≡ true → (after call r).features ≡ r.features }
 {}
 
-#[tactic(auto, using(crate::proofs::Steps::negotiated))]
+#[tactic(auto, using(crate::proofs::Steps::in_order_all))]
 /// When the device may run, after any calls: not before `DRIVER_OK`, not before all three queues are ready, and so not before
 /// `FEATURES_OK`.
 pub fn law_of_running()

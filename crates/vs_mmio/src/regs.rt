@@ -6,7 +6,7 @@ ghost use Rattle.vs_mmio.specs.Registers.{fresh, is_config, may_run_of, queue_at
 ghost use Rattle.vs_mmio.specs.declared.{regs.RegisterState.RegisterState, regs.Wrote.TheVariants.Renew};
 
 use crate::queue::{Limits, QueueRegs, ReadyQueue, Virtqueue, with_half};
-use crate::status::{CONFIGURATION_CHANGE, Status, USED_BUFFER, offered, value_if};
+use crate::status::{CONFIGURATION_CHANGE, OFFERED, Status, USED_BUFFER, value_if};
 use std::marker::Model;
 
 // What the first registers read: `virt` in little-endian bytes, Virtio 1, a socket device (section 5.10.1), no vendor.
@@ -160,7 +160,11 @@ impl Regs {
             0x004 => VERSION,
             0x008 => DEVICE_ID,
             0x00c => VENDOR_ID,
-            0x010 => offered(state.device_features_sel),
+            0x010 => match state.device_features_sel {
+                0 => (OFFERED % 0x1_0000_0000) as u32,
+                1 => (OFFERED >> 32) as u32,
+                _ => 0,
+            },
             0x034 => value_if(state.queue_sel < QUEUES, u32::from(state.limits.max)),
             0x044 => state.queue(state.queue_sel).ready as u32,
             0x060 => state.interrupt,
@@ -170,6 +174,7 @@ impl Regs {
         }
     }
 
+    #[tactic(auto, using(crate::proofs::Steps::order))]
     /// The driver writes four bytes. Where the register may not be written, or there is none, nothing changes. At `Renew`, which is
     /// the answer to 0 in the status alone, the registers are as at first, with the CID and the limits of before.
     pub fn write(&mut self, offset: u64, value: u32) -> Wrote

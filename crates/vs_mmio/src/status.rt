@@ -1,6 +1,6 @@
 //! Device status (Virtio 1.2, section 2.1), feature bits (section 2.2) and interrupt status (section 4.2.2).
 ghost use Rattle.std.specs.Prelude.{◌≡◌};
-ghost use Rattle.vs_mmio.specs.Registers.{are_accepted, offered_half, status_after, status_number, value_where};
+ghost use Rattle.vs_mmio.specs.Registers.{are_accepted, status_after, status_number, value_where};
 
 // Bits of the device status: the guest has found the device, knows how to drive it, is set up, has negotiated the features; the
 // device has failed; the guest has given the device up.
@@ -41,17 +41,6 @@ pub fn value_if(holds: bool, value: u32) -> u32
     ensures { result ≡ value_where holds value }
 {
     if holds { value } else { 0 }
-}
-
-/// The half of the offered features that a selector names; there are two.
-pub fn offered(selector: u32) -> u32
-    ensures { result ≡ offered_half selector }
-{
-    match selector {
-        0 => (OFFERED % 0x1_0000_0000) as u32,
-        1 => (OFFERED >> 32) as u32,
-        _ => 0,
-    }
 }
 
 /// Whether the device accepts the driver's features: all are offered, and `VERSION_1` is among them.
