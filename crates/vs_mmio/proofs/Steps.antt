@@ -2,7 +2,7 @@
 use Rattle.std.proofs.Common.{rules, arith, refl, ◌≡◌, ◌∙◌, ℕ, ◌==◌, Bool, true, false, cond, IsTrue, IfSome, Option, Some, None, List, [], ◌∷◌}
 use Rattle.std.specs.{List.AllByRecursion, Map.lookup, Option.unwrap_or}
 use Rattle.vs_mmio.specs.Queue.{may_be_ready, queue_after, written}
-use Rattle.vs_mmio.specs.Registers.{Call, Failed, Read, SetCid, Used, Write, after, at_selected, fresh, led_to, writes}
+use Rattle.vs_mmio.specs.Registers.{Call, Failed, Read, SetCid, Used, Write, after, after_write, at_selected, fresh, led_to, writes}
 use Rattle.vs_mmio.specs.Registers.{IsInOrder, IsReadyRightly, are_accepted, may_run_of, queue_in, shown}
 use Rattle.vs_mmio.specs.declared.{queue.Limits.Limits, queue.QueueRegs.QueueRegs, queue.ReadyQueue.ReadyQueue}
 use Rattle.vs_mmio.specs.declared.{queue.Virtqueue.Virtqueue, regs.RegisterState.RegisterState}
@@ -43,57 +43,23 @@ selected_step offset v r =
     queue_step (r.queue_sel == n) (offset == 0x044) v r.limits r.status.features_ok q (written offset v q.place) in
     search (rules, (s 0 r.rx).rightly, (s 1 r.tx).rightly, (s 2 r.event).rightly, (s 0 r.rx).stays, (s 1 r.tx).stays, (s 2 r.event).stays)
 
-each_step : AllByRecursion (λ row. (v : ℕ) (r : RegisterState) → IsStep r (row.1 v r)) writes
-each_step =
+pub write_step : (offset v : ℕ) (r : RegisterState) → IsStep r (after_write offset v r)
+write_step offset =
+    at_each (λ f. (v : ℕ) (r : RegisterState) → IsStep r (f v r)) (λ v r. at_selected (queue_after offset v r.limits r.status.features_ok) r)
+    (selected_step offset) (λ at. offset == at) writes
     (λ v r. search rules, (λ v r. search rules, (λ v r. search rules, (λ v r. search rules, (λ v r. search rules, (λ v r. search rules, (λ v r. search rules, tt)))))))
 
 pub step : (call : Call) (r : RegisterState) → IsStep r (after call r)
 step (Read offset width) r = search rules
-step (Write offset v) r =
-    at_each (λ f. (v : ℕ) (r : RegisterState) → IsStep r (f v r)) (λ v r. at_selected (queue_after offset v r.limits r.status.features_ok) r)
-    (selected_step offset) (λ at. offset == at) writes each_step v r
+step (Write offset v) r = write_step offset v r
 step (SetCid cid) r = search rules
 step Failed r = search rules
 step Used r = search rules
 
--- registers after any calls, and the limits that they began with
-in_order : (cid : ℕ) (l : Limits) (calls : List Call) → IsInOrder (led_to cid l calls) × ((led_to cid l calls).limits ≡ l)
-in_order cid l [] = (search rules, refl)
-in_order cid l (call ∷ calls) =
-    let s = step call (led_to cid l calls) in
-    let o = in_order cid l calls in
-    (s.order o.0, s.limits ∙ o.1)
+pub in_order : (cid : ℕ) (l : Limits) (calls : List Call) → IsInOrder (led_to cid l calls)
+in_order cid l [] = search rules
+in_order cid l (call ∷ calls) = (step call (led_to cid l calls)).order (in_order cid l calls)
 
-rightly : (r : RegisterState) → IsInOrder r → (queue : Virtqueue) → IsReadyRightly r.limits r.status.features_ok (queue_in r queue)
-rightly r o Rx = o.rx
-rightly r o Tx = o.tx
-rightly r o Event = o.event
-
-if_shown : (P : ReadyQueue → Type 0) (p : ReadyQueue) (b : Bool) → (b ≡ true → P p) → IfSome (cond b (Some p) None) P
-if_shown P p true holds = holds refl
-if_shown P p false holds = tt
-
--- the laws
-pub hidden : (cid : ℕ) (l : Limits) (calls : List Call) (queue : Virtqueue) → (led_to cid l calls).status.features_ok ≡ false
-    → shown (queue_in (led_to cid l calls) queue) ≡ None
-hidden cid l calls queue off = let right = rightly (led_to cid l calls) (in_order cid l calls).0 queue in grind (arith, right, off)
-
-pub shown_rightly : (cid : ℕ) (l : Limits) (calls : List Call) (queue : Virtqueue)
-    → IfSome (shown (queue_in (led_to cid l calls) queue)) (λ q. IsTrue (may_be_ready l q))
-shown_rightly cid l calls queue =
-    let r = led_to cid l calls in
-    let q = queue_in r queue in
-    let o = in_order cid l calls in
-    if_shown (λ p. IsTrue (may_be_ready l p)) q.place q.ready (λ ready. rw o.1 at (rightly r o.0 queue ready).1)
-
-pub kept : (r : RegisterState) (call : Call) (queue : Virtqueue) → (queue_in r queue).ready ≡ true
-    → (queue_in (after call r) queue).ready ≡ true → queue_in (after call r) queue ≡ queue_in r queue
-kept r call Rx = (step call r).rx
-kept r call Tx = (step call r).tx
-kept r call Event = (step call r).event
-
-pub order : (offset v : ℕ) (r : RegisterState) → IsInOrder r → IsInOrder (after (Write offset v) r)
-order offset v r = (step (Write offset v) r).order
-
-pub in_order_all : (cid : ℕ) (l : Limits) (calls : List Call) → IsInOrder (led_to cid l calls)
-in_order_all cid l calls = (in_order cid l calls).0
+pub limits_stay : (cid : ℕ) (l : Limits) (calls : List Call) → (led_to cid l calls).limits ≡ l
+limits_stay cid l [] = refl
+limits_stay cid l (call ∷ calls) = (step call (led_to cid l calls)).limits ∙ limits_stay cid l calls

@@ -1,4 +1,6 @@
 //! Laws of the registers, over every list of calls: accesses of the driver, and what the device's monitor tells.
+#![tactic(auto, using(crate::proofs::Steps::in_order, crate::proofs::Steps::limits_stay, crate::proofs::Steps::step))]
+
 ghost use Rattle.std.specs.{Prelude.◌≡◌, Prelude.ℕ, Prelude.◌==◌, Prelude.true, Prelude.false, Prelude.IfSome, Prelude.IsTrue};
 ghost use Rattle.std.specs.{Prelude.List, Prelude.None, List.AllByRecursion};
 ghost use Rattle.vs_mmio.specs.Queue.{may_be_ready};
@@ -17,7 +19,6 @@ pub fn law_of_the_table()
     ensures renewed { (r : RegisterState) → after (Write STATUS_AT 0) r ≡ fresh r.cid r.limits }
 {}
 
-#[tactic(auto, using(crate::proofs::Steps::hidden, crate::proofs::Steps::shown_rightly, crate::proofs::Steps::kept))]
 /// Queues after any calls. None is shown before `FEATURES_OK`. One that is shown has a size that is a power of two up to the
 /// largest, and areas that are aligned, inside the memory and apart; it keeps both as long as it is ready, whatever is called.
 pub fn law_of_queues()
@@ -29,7 +30,6 @@ pub fn law_of_queues()
         → (queue_in (after call r) queue).ready ≡ true → queue_in (after call r) queue ≡ queue_in r queue }
 {}
 
-#[tactic(auto, using(crate::proofs::Steps::in_order_all, crate::proofs::Steps::step))]
 /// Features after any calls. Where `FEATURES_OK` stands, those that the driver wrote are offered, with `VERSION_1` among them, and
 /// they stay as long as it stands.
 pub fn law_of_features()
@@ -39,7 +39,6 @@ pub fn law_of_features()
         → (after call r).status.features_ok ≡ true → (after call r).features ≡ r.features }
 {}
 
-#[tactic(auto, using(crate::proofs::Steps::in_order_all))]
 /// When the device may run, after any calls: not before `DRIVER_OK`, not before all three queues are ready, and so not before
 /// `FEATURES_OK`.
 pub fn law_of_running()

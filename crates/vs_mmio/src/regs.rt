@@ -174,7 +174,7 @@ impl Regs {
         }
     }
 
-    #[tactic(auto, using(crate::proofs::Steps::order))]
+    #[tactic(auto, using(crate::proofs::Steps::write_step))]
     /// The driver writes four bytes. Where the register may not be written, or there is none, nothing changes. At `Renew`, which is
     /// the answer to 0 in the status alone, the registers are as at first, with the CID and the limits of before.
     pub fn write(&mut self, offset: u64, value: u32) -> Wrote
