@@ -1,12 +1,9 @@
 -- What each call does: it keeps registers in order, their limits, a queue that stays ready, and the features while FEATURES_OK stands.
-use Rattle.std.proofs.Common.{rules, arith, refl, ◌≡◌, ◌∙◌, ℕ, ◌==◌, Bool, true, false, cond, IsTrue, IfSome, Option, Some, None, List, [], ◌∷◌}
+use Rattle.std.proofs.Common.{rules, arith, refl, ◌≡◌, ◌∙◌, ℕ, ◌==◌, Bool, true, false, cond, Option, Some, List, [], ◌∷◌}
 use Rattle.std.specs.{List.AllByRecursion, Map.lookup, Option.unwrap_or}
-use Rattle.vs_mmio.specs.Queue.{may_be_ready, queue_after, written}
-use Rattle.vs_mmio.specs.Registers.{Call, Failed, Read, SetCid, Used, Write, after, after_write, at_selected, fresh, led_to, writes}
-use Rattle.vs_mmio.specs.Registers.{IsInOrder, IsReadyRightly, are_accepted, may_run_of, queue_in, shown}
-use Rattle.vs_mmio.specs.declared.{queue.Limits.Limits, queue.QueueRegs.QueueRegs, queue.ReadyQueue.ReadyQueue}
-use Rattle.vs_mmio.specs.declared.{queue.Virtqueue.Virtqueue, regs.RegisterState.RegisterState}
-use Rattle.vs_mmio.specs.declared.queue.Virtqueue.TheVariants.{Rx, Tx, Event}
+use Rattle.vs_mmio.specs.{Queue.queue_after, Queue.written, Registers.IsInOrder, Registers.IsReadyRightly, declared.queue.Limits.Limits}
+use Rattle.vs_mmio.specs.Registers.{Call, Failed, Read, SetCid, Used, Write, after, after_write, at_selected, led_to, writes}
+use Rattle.vs_mmio.specs.declared.{queue.QueueRegs.QueueRegs, queue.ReadyQueue.ReadyQueue, regs.RegisterState.RegisterState}
 
 pub record IsStep (r s : RegisterState) : Type 0 where
   pub order : IsInOrder r → IsInOrder s

@@ -100,15 +100,12 @@ writes = (0x014, λ v r. record r { device_features_sel = v })
     ∷ (STATUS_AT, λ v r. if v == 0 then fresh r.cid r.limits else record r { status = status_after v r.features r.status })
     ∷ []
 
--- A piece of the configuration: 1, 2 or 4 bytes, aligned.
-abbrev pub is_config : ℕ → ℕ → Bool
-is_config offset width = nat_le CONFIG_AT offset && nat_lt offset (CONFIG_AT + CONFIG_LEN)
-    && ((width == 1) || (width == 2) || (width == 4)) && (offset % width == 0)
-
--- What a read answers: bytes of the guest's CID in the configuration, little-endian; a register at its offset, four bytes wide; else 0.
+-- What a read answers: 1, 2 or 4 bytes of the configuration, aligned, which is the guest's CID, little-endian; a register at its
+-- offset, four bytes wide; else 0.
 abbrev pub read_of : RegisterState → ℕ → ℕ → ℕ
 read_of r offset width =
-    if is_config offset width then r.cid / 2 ^ (8 * (offset - CONFIG_AT)) % 2 ^ (8 * width)
+    if ((width == 1) || (width == 2) || (width == 4)) && (offset % width == 0) && nat_le CONFIG_AT offset
+    && nat_lt offset (CONFIG_AT + CONFIG_LEN) then r.cid / 2 ^ (8 * (offset - CONFIG_AT)) % 2 ^ (8 * width)
     else if width == 4 then unwrap_or (lookup (λ at. offset == at) reads) (λ r. 0) r
     else 0
 

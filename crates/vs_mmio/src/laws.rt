@@ -3,9 +3,8 @@
 
 ghost use Rattle.std.specs.{Prelude.◌≡◌, Prelude.ℕ, Prelude.◌==◌, Prelude.true, Prelude.false, Prelude.IfSome, Prelude.IsTrue};
 ghost use Rattle.std.specs.{Prelude.List, Prelude.None, List.AllByRecursion};
-ghost use Rattle.vs_mmio.specs.Queue.{may_be_ready};
 ghost use Rattle.vs_mmio.specs.Registers.{Call, Write, after, after_write, are_accepted, fresh, led_to, may_run_of, queue_in, read_of};
-ghost use Rattle.vs_mmio.specs.Registers.{read_only, shown, writable, write_only};
+ghost use Rattle.vs_mmio.specs.{Queue.may_be_ready, Registers.read_only, Registers.shown, Registers.writable, Registers.write_only};
 ghost use Rattle.vs_mmio.specs.declared.{queue.Limits.Limits, queue.Virtqueue.Virtqueue, regs.RegisterState.RegisterState};
 ghost use Rattle.vs_mmio.specs.declared.regs.TheConstants.{STATUS_AT};
 

@@ -7,8 +7,9 @@ pub mod queue;
 pub mod regs;
 pub mod status;
 
-pub use queue::{Limits, ReadyQueue, Virtqueue};
+pub use queue::{Limits, QueueRegs, ReadyQueue, Virtqueue};
 pub use regs::{RegisterState, Regs, Wrote};
+pub use status::Status;
 
 #[cfg(test)]
 mod tests;

@@ -1,6 +1,6 @@
 //! What the driver writes of one queue, and where its three areas may lie (Virtio 1.2, sections 2.7 and 4.2.2).
 ghost use Rattle.std.specs.Prelude.{◌≡◌, ◌<◌};
-ghost use Rattle.vs_mmio.specs.Queue.{is_apart, is_fit, is_placed, may_be_ready, queue_after, with_half, written};
+ghost use Rattle.vs_mmio.specs.Queue.{is_apart, is_fit, is_placed, queue_after, with_half, written};
 
 /// Offset of `QueueReady`.
 pub const READY_AT: u64 = 0x044;
@@ -82,13 +82,6 @@ impl ReadyQueue {
             && is_apart(self.desc, desc, self.device, device)
     }
 
-    // Whether size and areas are such that the queue may be ready.
-    fn may_be_ready(&self, limits: Limits) -> bool
-        ensures { result ≡ may_be_ready limits self.now }
-    {
-        self.size.is_power_of_two() && self.size <= limits.max && self.is_placed(limits)
-    }
-
     // Writes the size or half an address. A size of 16 bits or more stays one that no queue may have.
     fn write(&mut self, offset: u64, value: u32)
         ensures { self.new ≡ written offset value self.old }
@@ -112,7 +105,8 @@ impl QueueRegs {
         ensures { self.new ≡ queue_after offset value limits features_ok self.old }
     {
         if offset == READY_AT {
-            let allowed = features_ok && self.place.may_be_ready(limits);
+            let sized = self.place.size.is_power_of_two() && self.place.size <= limits.max;
+            let allowed = features_ok && sized && self.place.is_placed(limits);
             self.ready = value != 0 && (self.ready || value == 1 && allowed);
         } else if !self.ready {
             self.place.write(offset, value);

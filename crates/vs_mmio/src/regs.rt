@@ -1,29 +1,28 @@
 //! The registers, and the calls of a device's monitor on them.
 ghost use Rattle.std.specs.{Prelude.◌≡◌, Prelude.◌<◌, Prelude.◌≤◌, Prelude.true, Prelude.IfSome, Prelude.IsTrue, Int.is_power_of_two};
-ghost use Rattle.vs_mmio.specs.Queue.{is_placed};
 ghost use Rattle.vs_mmio.specs.Registers.{Failed, IsInOrder, SetCid, Used, Write, after, after_write, features_of};
-ghost use Rattle.vs_mmio.specs.Registers.{fresh, is_config, may_run_of, queue_at, queue_in, read_of, shown, wrote_of};
-ghost use Rattle.vs_mmio.specs.declared.{regs.RegisterState.RegisterState, regs.Wrote.TheVariants.Renew};
+ghost use Rattle.vs_mmio.specs.Registers.{fresh, may_run_of, queue_at, queue_in, read_of, shown, wrote_of};
+ghost use Rattle.vs_mmio.specs.{Queue.is_placed, declared.regs.Wrote.TheVariants.Renew};
 
 use crate::queue::{Limits, QueueRegs, ReadyQueue, Virtqueue, with_half};
 use crate::status::{CONFIGURATION_CHANGE, OFFERED, Status, USED_BUFFER, value_if};
 use std::marker::Model;
 
-// What the first registers read: `virt` in little-endian bytes, Virtio 1, a socket device (section 5.10.1), no vendor.
+/// What `MagicValue` reads: `virt`, little-endian.
 pub const MAGIC: u32 = 0x7472_6976;
-
+/// What `Version` reads: devices of Virtio 1.
 pub const VERSION: u32 = 2;
-
+/// What `DeviceId` reads: a socket device (Virtio 1.2, section 5.10.1).
 pub const DEVICE_ID: u32 = 19;
-
+/// What `VendorId` reads.
 pub const VENDOR_ID: u32 = 0;
-// Number of queues; offsets of `Status` and of the configuration, which is the guest's CID (section 5.10.4), and its bytes.
+/// Number of queues.
 pub const QUEUES: u32 = 3;
-
+/// Offset of `Status`.
 pub const STATUS_AT: u64 = 0x070;
-
+/// Offset of the configuration, which is the guest's CID (Virtio 1.2, section 5.10.4).
 pub const CONFIG_AT: u64 = 0x100;
-
+/// Bytes of the configuration.
 pub const CONFIG_LEN: u64 = 8;
 
 /// What a write asks of the device's monitor.
@@ -106,16 +105,6 @@ impl RegisterState {
     }
 }
 
-// Whether an access is one of the configuration: 1, 2 or 4 bytes, aligned.
-fn is_config_access(offset: u64, width: u32) -> bool
-    ensures { result ≡ is_config offset width }
-{
-    offset >= CONFIG_AT
-        && offset < CONFIG_AT + CONFIG_LEN
-        && (width == 1 || width == 2 || width == 4)
-        && offset % width as u64 == 0
-}
-
 /// The virtio-mmio registers of one socket device. Each call is total, and takes no memory.
 #[derive(Drop)]
 pub struct Regs {
@@ -149,7 +138,8 @@ impl Regs {
         ensures { result ≡ read_of self.now offset width }
     {
         let state = self.state;
-        if is_config_access(offset, width) {
+        let aligned = (width == 1 || width == 2 || width == 4) && offset % width as u64 == 0;
+        if aligned && offset >= CONFIG_AT && offset < CONFIG_AT + CONFIG_LEN {
             return ((state.cid >> (8 * (offset - CONFIG_AT))) % 2u64.pow(8 * width)) as u32;
         }
         if width != 4 {
@@ -190,8 +180,7 @@ impl Regs {
         }
     }
 
-    /// The guest's CID has changed, in a transport reset: the configuration has its next generation, and the driver is
-    /// interrupted for it.
+    /// The guest's CID has changed: the configuration has its next generation, and the driver is interrupted for it.
     pub fn set_cid(&mut self, cid: u64)
         ensures { self.new ≡ after (SetCid cid) self.old }
     {

@@ -2,22 +2,21 @@
 ghost use Rattle.std.specs.Prelude.{◌≡◌};
 ghost use Rattle.vs_mmio.specs.Registers.{are_accepted, status_after, status_number, value_where};
 
-// Bits of the device status: the guest has found the device, knows how to drive it, is set up, has negotiated the features; the
-// device has failed; the guest has given the device up.
+/// Status bit: the guest has found the device.
 pub const ACKNOWLEDGE: u32 = 1;
-
+/// Status bit: the guest knows how to drive the device.
 pub const DRIVER: u32 = 2;
-
+/// Status bit: the driver is set up.
 pub const DRIVER_OK: u32 = 4;
-
+/// Status bit: the features are negotiated.
 pub const FEATURES_OK: u32 = 8;
-
+/// Status bit: the device has failed.
 pub const DEVICE_NEEDS_RESET: u32 = 64;
-
+/// Status bit: the guest has given the device up.
 pub const FAILED: u32 = 128;
-// Bits of the interrupt status: a used index was stored; the configuration or the device status changed.
+/// Interrupt status: a used index was stored.
 pub const USED_BUFFER: u32 = 1;
-
+/// Interrupt status: the configuration or the device status changed.
 pub const CONFIGURATION_CHANGE: u32 = 2;
 /// Feature bit 32.
 pub const VERSION_1: u64 = 0x1_0000_0000;
@@ -43,8 +42,8 @@ pub fn value_if(holds: bool, value: u32) -> u32
     if holds { value } else { 0 }
 }
 
-/// Whether the device accepts the driver's features: all are offered, and `VERSION_1` is among them.
-pub fn accepts(features: u64) -> bool
+// Whether the device accepts the driver's features: all are offered, and `VERSION_1` is among them.
+fn accepts(features: u64) -> bool
     ensures { result ≡ are_accepted features }
 {
     features & OFFERED == features && features & VERSION_1 != 0
