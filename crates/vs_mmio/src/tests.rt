@@ -1,5 +1,4 @@
-//! The accesses of Linux's driver when it finds the device (`virtio_mmio.c`, `virtio.c`, `virtio_transport.c`), and what each read
-//! has to answer.
+//! The accesses of Linux's driver when it finds the device (`virtio_mmio.c`, `virtio.c`, `virtio_transport.c`), and their answers.
 
 use crate::{ReadyQueue, Regs, Virtqueue, Wrote};
 
@@ -46,12 +45,11 @@ fn linux_driver_finds_the_device(rt: HostRuntime) {
     writes(&mut regs, &[(0x070, 15), (0x050, 0)]);
     assert!(rt; reads(&regs, &[(0x070, 15)]) && regs.may_run());
     assert!(rt; regs.features() == 0x1_3000_0003 && regs.notified() == 0);
-    let (size, desc, driver, device) = (8, 8_192, 8_320, 8_344);
     let tx = ReadyQueue {
-        size,
-        desc,
-        driver,
-        device,
+        size: 8,
+        desc: 8_192,
+        driver: 8_320,
+        device: 8_344,
     };
     assert_eq!(rt; regs.queue(Virtqueue::Tx), Some(tx));
     regs.used();
