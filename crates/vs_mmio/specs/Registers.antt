@@ -82,9 +82,9 @@ reads = (0x000, λ r. MAGIC)
     ∷ (0x00c, λ r. VENDOR_ID)
     ∷ (0x010, λ r. if r.device_features_sel == 0 then OFFERED % 2 ^ 32 else if r.device_features_sel == 1 then OFFERED / 2 ^ 32 else 0)
     ∷ (0x034, λ r. value_where (nat_lt r.queue_sel QUEUES) r.limits.max)
-    ∷ (0x044, λ r. value_where (queue_at r.queue_sel r).ready 1)
+    ∷ (READY_AT, λ r. value_where (queue_at r.queue_sel r).ready 1)
     ∷ (0x060, λ r. r.interrupt)
-    ∷ (0x070, λ r. status_number r.status)
+    ∷ (STATUS_AT, λ r. status_number r.status)
     ∷ (0x0fc, λ r. r.generation)
     ∷ []
 

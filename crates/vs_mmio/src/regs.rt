@@ -4,7 +4,7 @@ ghost use Rattle.vs_mmio.specs.Registers.{Failed, IsInOrder, SetCid, Used, Write
 ghost use Rattle.vs_mmio.specs.Registers.{fresh, may_run_of, queue_at, queue_in, read_of, shown, wrote_of};
 ghost use Rattle.vs_mmio.specs.{Queue.is_placed, declared.regs.Wrote.TheVariants.Renew};
 
-use crate::queue::{Limits, QueueRegs, ReadyQueue, Virtqueue, with_half};
+use crate::queue::{Limits, QueueRegs, READY_AT, ReadyQueue, Virtqueue, with_half};
 use crate::status::{CONFIGURATION_CHANGE, OFFERED, Status, USED_BUFFER, value_if};
 use std::marker::Model;
 
@@ -156,9 +156,9 @@ impl Regs {
                 _ => 0,
             },
             0x034 => value_if(state.queue_sel < QUEUES, u32::from(state.limits.max)),
-            0x044 => state.queue(state.queue_sel).ready as u32,
+            READY_AT => state.queue(state.queue_sel).ready as u32,
             0x060 => state.interrupt,
-            0x070 => state.status.number(),
+            STATUS_AT => state.status.number(),
             0x0fc => state.generation,
             _ => 0,
         }
