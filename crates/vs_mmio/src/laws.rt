@@ -1,19 +1,20 @@
 //! Laws of the registers, over every list of calls: accesses of the driver, and what the device's monitor tells.
-ghost use Rattle.std.specs.Prelude.{◌≡◌, ℕ, true, false, IfSome, IsTrue, List, None};
-ghost use Rattle.std.specs.List.{AllByRecursion};
-ghost use Rattle.vs_mmio.specs.{Calls.Call, Calls.Write, Calls.after, Calls.led_to, Calls.read_only, Calls.write_only, Queue.may_be_ready};
-ghost use Rattle.vs_mmio.specs.Registers.{after_write, fresh, may_run_of, queue_in, read_of, shown};
-ghost use Rattle.vs_mmio.specs.{Status.are_accepted, Table.register_at};
-ghost use Rattle.vs_mmio.specs.declared.queue.Limits.{Limits};
-ghost use Rattle.vs_mmio.specs.declared.register.Virtqueue.{Virtqueue};
-ghost use Rattle.vs_mmio.specs.declared.regs.{RegisterState.RegisterState, TheConstants.STATUS_AT};
+#![tactic(auto, using(crate::proofs::Steps::in_order, crate::proofs::Steps::limits_stay, crate::proofs::Steps::step))]
+
+ghost use Rattle.std.specs.{Prelude.◌≡◌, Prelude.ℕ, Prelude.◌==◌, Prelude.true, Prelude.false, Prelude.IfSome, Prelude.IsTrue};
+ghost use Rattle.std.specs.{Prelude.List, Prelude.None, List.AllByRecursion};
+ghost use Rattle.vs_mmio.specs.Registers.{Call, Write, after, after_write, are_accepted, fresh, led_to, may_run_of, queue_in, read_of};
+ghost use Rattle.vs_mmio.specs.{Queue.may_be_ready, Registers.read_only, Registers.shown, Registers.writable, Registers.write_only};
+ghost use Rattle.vs_mmio.specs.declared.{queue.Limits.Limits, queue.Virtqueue.Virtqueue, regs.RegisterState.RegisterState};
+ghost use Rattle.vs_mmio.specs.declared.regs.TheConstants.{STATUS_AT};
 
 /// The standard's columns R and W. What the driver only writes reads 0, and what it only reads stays when it is written, as does
-/// everything where an offset has no register. 0 in the status makes the registers as at first.
+/// everything at an offset that isn't to be written. 0 in the status makes the registers as at first.
 pub fn law_of_the_table()
     ensures write_only { (r : RegisterState) → AllByRecursion (λ (offset : ℕ). read_of r offset 4 ≡ 0) write_only }
     ensures read_only { (r : RegisterState) (v : ℕ) → AllByRecursion (λ (offset : ℕ). after_write offset v r ≡ r) read_only }
-    ensures elsewhere { (r : RegisterState) (offset v : ℕ) → register_at offset ≡ None → after_write offset v r ≡ r }
+    ensures elsewhere { (r : RegisterState) (offset v : ℕ) → AllByRecursion (λ (at : ℕ). (offset == at) ≡ false) writable
+        → after_write offset v r ≡ r }
     ensures renewed { (r : RegisterState) → after (Write STATUS_AT 0) r ≡ fresh r.cid r.limits }
 {}
 

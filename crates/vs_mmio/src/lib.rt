@@ -4,14 +4,12 @@
 
 pub mod laws;
 pub mod queue;
-pub mod register;
 pub mod regs;
 pub mod status;
 
-pub use queue::{Halves, Limits, QueueRegs, ReadyQueue};
-pub use register::{QueueRegister, Register, Virtqueue};
+pub use queue::{Limits, QueueRegs, ReadyQueue, Virtqueue};
 pub use regs::{RegisterState, Regs, Wrote};
-pub use status::{Interrupt, Status};
+pub use status::Status;
 
 #[cfg(test)]
 mod tests;

@@ -1,41 +1,28 @@
-//! The registers of one queue, and where its three areas may lie (Virtio 1.2, sections 2.7 and 4.2.2).
-ghost use Rattle.std.specs.Prelude.{◌≡◌, ◌+◌, ◌<◌, ◌≤◌, nat_le};
-ghost use Rattle.vs_mmio.specs.Queue.{is_apart, is_fit, is_placed, may_be_ready, place_of, queue_after, queue_value, ready_after, whole};
-ghost use Rattle.vs_mmio.specs.Queue.{written};
+//! What the driver writes of one queue, and where its three areas may lie (Virtio 1.2, sections 2.7 and 4.2.2).
+ghost use Rattle.std.specs.Prelude.{◌≡◌, ◌<◌};
+ghost use Rattle.vs_mmio.specs.Queue.{is_apart, is_fit, is_placed, queue_after, with_half, written};
 
-use crate::register::QueueRegister;
+/// Offset of `QueueReady`.
+pub const READY_AT: u64 = 0x044;
 
-/// A number of 64 bits that the driver writes by halves.
-#[derive(Clone, Copy, Default)]
-pub struct Halves {
-    pub low: u32,
-    pub high: u32,
+/// A queue of the socket device (Virtio 1.2, section 5.10.2).
+#[derive(Clone, Copy)]
+pub enum Virtqueue {
+    Rx,
+    Tx,
+    Event,
 }
 
 /// What a queue has to keep to: the largest size, and the guest's memory, of `size` bytes from the address `base` on.
-#[derive(Clone, Copy)]
+#[derive(Clone, Copy, Default)]
 pub struct Limits {
     pub max: u16,
     pub base: u64,
     pub size: u64,
 }
 
-/// What the driver wrote of one queue.
-#[derive(Clone, Copy, Default)]
-pub struct QueueRegs {
-    /// Entries.
-    pub size: u32,
-    pub ready: bool,
-    /// Address of the descriptor area.
-    pub desc: Halves,
-    /// Address of the driver area, the available ring.
-    pub driver: Halves,
-    /// Address of the device area, the used ring.
-    pub device: Halves,
-}
-
-/// A queue that is ready: its entries, and the addresses of its descriptors, its available ring and its used ring.
-#[derive(Clone, Copy, Debug, PartialEq, Eq)]
+/// A queue's entries, and the addresses of its descriptors, its available ring and its used ring.
+#[derive(Clone, Copy, Debug, Default, PartialEq, Eq)]
 pub struct ReadyQueue {
     pub size: u16,
     pub desc: u64,
@@ -43,148 +30,86 @@ pub struct ReadyQueue {
     pub device: u64,
 }
 
-/// One of the three areas of a queue: its address and its bytes, and what its address is a multiple of.
-#[derive(Clone, Copy)]
-pub struct Area {
-    pub at: u64,
-    pub len: u64,
-    pub align: u64,
+/// What the driver wrote of one queue.
+#[derive(Clone, Copy, Default)]
+pub struct QueueRegs {
+    pub ready: bool,
+    pub place: ReadyQueue,
 }
 
-impl Halves {
-    /// The number.
-    pub fn whole(&self) -> u64
-        ensures { result ≡ whole self.now }
-    {
-        self.high as u64 * 0x1_0000_0000 + self.low as u64
+/// A number with another half, low (0) or high (1). There are two halves of 32 bits.
+pub fn with_half(number: u64, half: u32, value: u32) -> u64
+    ensures { result ≡ with_half half value number }
+{
+    match half {
+        0 => (number >> 32 << 32) + value as u64,
+        1 => ((value as u64) << 32) + number % 0x1_0000_0000,
+        _ => number,
     }
 }
 
-impl Area {
-    // Whether it ends at an address or before.
-    fn ends_by(&self, end: u64) -> bool
-        ensures { result ≡ nat_le (self.now.at + self.now.len) end }
-    {
-        self.at <= end && self.len <= end - self.at
-    }
+// Whether bytes from an address on are aligned and lie inside the memory.
+fn is_fit(at: u64, len: u64, align: u64, limits: Limits) -> bool
+    requires { 0 < align }
+    ensures { result ≡ is_fit limits at len align }
+{
+    at % align == 0
+        && at >= limits.base
+        && at - limits.base <= limits.size
+        && len <= limits.size - (at - limits.base)
+}
 
-    // Whether it is aligned and lies inside the memory.
-    fn is_fit(&self, limits: Limits) -> bool
-        requires { 0 < self.now.align }
-        ensures { result ≡ is_fit limits self.now }
-    {
-        self.at % self.align == 0
-            && self.at >= limits.base
-            && self.at - limits.base <= limits.size
-            && self.len <= limits.size - (self.at - limits.base)
-    }
-
-    // Whether it has no byte in common with another one.
-    fn is_apart(&self, other: Area) -> bool
-        ensures { result ≡ is_apart self.now other }
-    {
-        self.ends_by(other.at) || other.ends_by(self.at)
-    }
+// Whether bytes from two addresses on have none in common.
+fn is_apart(a: u64, a_len: u64, b: u64, b_len: u64) -> bool
+    ensures { result ≡ is_apart a a_len b b_len }
+{
+    a <= b && a_len <= b - a || b <= a && b_len <= a - b
 }
 
 impl ReadyQueue {
     /// Whether the three areas are aligned, lie inside the memory and have no byte in common.
+    #[tactic(auto, unfolding(crate::specs::Queue::is_placed))]
     pub fn is_placed(&self, limits: Limits) -> bool
         ensures { result ≡ is_placed limits self.now }
     {
         let n = self.size as u64;
-        let desc = Area {
-            at: self.desc,
-            len: 16 * n,
-            align: 16,
-        };
-        let driver = Area {
-            at: self.driver,
-            len: 6 + 2 * n,
-            align: 2,
-        };
-        let device = Area {
-            at: self.device,
-            len: 6 + 8 * n,
-            align: 4,
-        };
-        desc.is_fit(limits)
-            && driver.is_fit(limits)
-            && device.is_fit(limits)
-            && desc.is_apart(driver)
-            && driver.is_apart(device)
-            && desc.is_apart(device)
+        let (desc, driver, device) = (16 * n, 6 + 2 * n, 6 + 8 * n);
+        is_fit(self.desc, desc, 16, limits)
+            && is_fit(self.driver, driver, 2, limits)
+            && is_fit(self.device, device, 4, limits)
+            && is_apart(self.desc, desc, self.driver, driver)
+            && is_apart(self.driver, driver, self.device, device)
+            && is_apart(self.desc, desc, self.device, device)
+    }
+
+    // Writes the size or half an address. A size of 16 bits or more stays one that no queue may have.
+    fn write(&mut self, offset: u64, value: u32)
+        ensures { self.new ≡ written offset value self.old }
+    {
+        match offset {
+            0x038 => self.size = value.min(0xffff) as u16,
+            0x080 => self.desc = with_half(self.desc, 0, value),
+            0x084 => self.desc = with_half(self.desc, 1, value),
+            0x090 => self.driver = with_half(self.driver, 0, value),
+            0x094 => self.driver = with_half(self.driver, 1, value),
+            0x0a0 => self.device = with_half(self.device, 0, value),
+            0x0a4 => self.device = with_half(self.device, 1, value),
+            _ => {}
+        }
     }
 }
 
 impl QueueRegs {
-    /// What a read of a register answers.
-    pub fn read(&self, register: QueueRegister, max: u16) -> u32
-        ensures { result ≡ queue_value register max self.now }
+    /// Writes a register: `QueueReady` where the queue may be ready, the others as long as it isn't.
+    pub fn write(&mut self, offset: u64, value: u32, limits: Limits, features_ok: bool)
+        ensures { self.new ≡ queue_after offset value limits features_ok self.old }
     {
-        match register {
-            QueueRegister::NumMax => max as u32,
-            QueueRegister::Ready => self.ready as u32,
-            _ => 0,
-        }
-    }
-
-    /// Writes a register: `Ready` where the queue may be ready, the others as long as it isn't.
-    pub fn write(&mut self, register: QueueRegister, value: u32, limits: Limits, features_ok: bool)
-        ensures { self.new ≡ queue_after register value limits features_ok self.old }
-    {
-        match register {
-            QueueRegister::Ready => self.set_ready(value, features_ok && self.may_be_ready(limits)),
-            _ => {
-                if !self.ready {
-                    self.put(register, value);
-                }
-            }
-        }
-    }
-
-    /// Size and addresses. The size has to be at most the largest.
-    pub fn place(&self, max: u16) -> ReadyQueue
-        requires { self.now.size ≤ max }
-        ensures { result ≡ place_of self.now }
-    {
-        ReadyQueue {
-            size: self.size as u16,
-            desc: self.desc.whole(),
-            driver: self.driver.whole(),
-            device: self.device.whole(),
-        }
-    }
-
-    // Whether size and areas are such that the queue may be ready.
-    fn may_be_ready(&self, limits: Limits) -> bool
-        ensures { result ≡ may_be_ready limits (place_of self.now) }
-    {
-        self.size.is_power_of_two()
-            && self.size <= limits.max as u32
-            && self.place(limits.max).is_placed(limits)
-    }
-
-    // Writes Ready: 1 sets it where it may be set, 0 takes it away.
-    fn set_ready(&mut self, value: u32, allowed: bool)
-        ensures { self.new ≡ ready_after value allowed self.old }
-    {
-        self.ready = value != 0 && (self.ready || value == 1 && allowed);
-    }
-
-    // Writes another register.
-    fn put(&mut self, register: QueueRegister, value: u32)
-        ensures { self.new ≡ written register value self.old }
-    {
-        match register {
-            QueueRegister::Num => self.size = value,
-            QueueRegister::DescLow => self.desc.low = value,
-            QueueRegister::DescHigh => self.desc.high = value,
-            QueueRegister::DriverLow => self.driver.low = value,
-            QueueRegister::DriverHigh => self.driver.high = value,
-            QueueRegister::DeviceLow => self.device.low = value,
-            QueueRegister::DeviceHigh => self.device.high = value,
-            _ => {}
+        if offset == READY_AT {
+            let sized = self.place.size.is_power_of_two() && self.place.size <= limits.max;
+            let allowed = features_ok && sized && self.place.is_placed(limits);
+            self.ready = value != 0 && (self.ready || value == 1 && allowed);
+        } else if !self.ready {
+            self.place.write(offset, value);
         }
     }
 }

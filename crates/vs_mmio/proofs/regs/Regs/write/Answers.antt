@@ -1,7 +1,0 @@
-use Rattle.vs_mmio.specs.Calls.{Write}
-use Rattle.vs_mmio.proofs.Steps.{step}
-use Rattle.vs_mmio.proofs.regs.Regs.write.Goals as goal
-
-pub invariant_of-self : goal.invariant_of-self
-invariant_of-self c = rw (c.write.ensures, c.register_of.ensures)
-    ((step (Write c.args.offset c.args.value) c.self.inside.state).order c.self.invariant)
