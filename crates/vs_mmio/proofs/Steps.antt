@@ -41,10 +41,9 @@ selected_step offset v r =
     search (rules, (s 0 r.rx).rightly, (s 1 r.tx).rightly, (s 2 r.event).rightly, (s 0 r.rx).stays, (s 1 r.tx).stays, (s 2 r.event).stays)
 
 pub write_step : (offset v : ℕ) (r : RegisterState) → IsStep r (after_write offset v r)
-write_step offset =
-    at_each (λ f. (v : ℕ) (r : RegisterState) → IsStep r (f v r)) (λ v r. at_selected (queue_after offset v r.limits r.status.features_ok) r)
-    (selected_step offset) (λ at. offset == at) writes
-    (λ v r. search rules, (λ v r. search rules, (λ v r. search rules, (λ v r. search rules, (λ v r. search rules, (λ v r. search rules, (λ v r. search rules, tt)))))))
+write_step offset v r =
+    at_each (λ f. IsStep r (f v r)) (λ v r. at_selected (queue_after offset v r.limits r.status.features_ok) r) (selected_step offset v r)
+    (λ at. offset == at) writes (search rules)
 
 pub step : (call : Call) (r : RegisterState) → IsStep r (after call r)
 step (Read offset width) r = search rules
