@@ -37,6 +37,8 @@ new_host base listening prepared = record {
     to_fail = [];
     starts_to_fail = [];
     starved = false;
+    label_calls = 0;
+    shut_write_calls = 0;
   };
   faults = 0;
 }

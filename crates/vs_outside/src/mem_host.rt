@@ -1,7 +1,7 @@
 //! A host in memory, whose programs are played by calls of its own.
 ghost use Rattle.std.specs.Prelude.{◌≡◌, ◌<◌, ◌+◌, ◌∷◌, [], not, length, filter, bytes_eq, string_bytes, MatchOption, None, Some, IsTrue};
 ghost use Rattle.std.specs.{Prelude.◌↔◌, Prelude.position, Prelude.IfSome, Prelude.IfOk, Prelude.OnOk, Prelude.OnErr, List.list_any};
-ghost use Rattle.vs_outside.specs.Faults.{CountsFault};
+ghost use Rattle.vs_outside.specs.Faults.{CountsFault, one_more};
 ghost use Rattle.vs_outside.specs.Host.{IsOpen, fails_now, is_waiting, stream_at, with_stream, after_label, read_failed, ReadsSome, IsRead};
 ghost use Rattle.vs_outside.specs.Host.{after_read, write_failed, TakesSome, IsWritten, after_write, after_shut_write, after_close};
 ghost use Rattle.vs_outside.specs.HostProgram.{plain, new_host, port_path, after_listen, after_unlisten, after_client, has_stream};
@@ -52,6 +52,8 @@ pub struct MemHost {
     to_fail: FailList,
     starts_to_fail: FailList,
     starved: bool,
+    label_calls: u64,
+    shut_write_calls: u64,
     faults: u64,
 }
 
@@ -71,6 +73,8 @@ impl Model for MemHost {
         to_fail = m.to_fail;
         starts_to_fail = m.starts_to_fail;
         starved = m.starved;
+        label_calls = m.label_calls;
+        shut_write_calls = m.shut_write_calls;
       };
       faults = m.faults;
     } };
@@ -104,6 +108,8 @@ impl MemHost {
             to_fail: FailList::new(alloc),
             starts_to_fail: FailList::new(alloc),
             starved: false,
+            label_calls: 0,
+            shut_write_calls: 0,
             faults: 0,
         })
     }
@@ -349,6 +355,7 @@ impl HostNet for MemHost {
         requires { IsOpen id self.old.contents }
         ensures { self.new ≡ record self.old { contents = after_label id flow self.old.contents } }
     {
+        self.label_calls = one_more(self.label_calls);
         if !self.streams[id as usize - 1].set_label(flow) {
             return;
         }
@@ -392,6 +399,7 @@ impl HostNet for MemHost {
         requires { IsOpen id self.old.contents }
         ensures { self.new ≡ record self.old { contents = after_shut_write id self.old.contents } }
     {
+        self.shut_write_calls = one_more(self.shut_write_calls);
         self.change(id, StreamChange::ShutWrite);
     }
 
@@ -401,6 +409,13 @@ impl HostNet for MemHost {
     {
         self.change(id, StreamChange::Close);
     }
+}
+
+/// A count after one more. It stands still at its last value.
+fn one_more(count: u64) -> u64
+    ensures { result ≡ one_more count }
+{
+    count.saturating_add(1)
 }
 
 /// The text of a port's path: the base path, `_`, and the port in decimal.

@@ -25,7 +25,7 @@ use Rattle.vs_pipes.specs.Drains.{Drains}
 use Rattle.vs_pipes.proofs.Gives.{drop_both, first_of, forwards_asked, forwards_gives}
 use Rattle.vs_pipes.proofs.{HostCalls.read_host, HostCalls.write_host, Hosts.unseen, Steps.comes_out, Streamed.join_of}
 use Rattle.vs_outside.specs.Host.{after_failed, after_read, after_shut_write, after_write, called, dial_answer, fails_now, is_listened}
-use Rattle.vs_outside.specs.Host.{next_bytes}
+use Rattle.vs_outside.specs.Host.{next_bytes, with_shut_write_call}
 use Rattle.vs_outside.specs.declared.host_net.Dialed.TheVariants as dialed
 use Rattle.vs_outside.proofs.Frames.{stream_at-after_failed}
 use Rattle.vs_pipes.proofs.HostCalls.{same_host}
@@ -277,7 +277,8 @@ called_host c log port t hands x = same_host c (called c) log port t hands (λ j
 
 pub shut_write_host : (id : ℕ) (c : HostContents) (log : Log) (port : ℕ) (t : Table DeviceConnection) (hands : List Handshake) → IsStreamed c log port t hands
     → IsStreamed (after_shut_write id c) log port t hands
-shut_write_host id c log port t hands x = same_host c (after_shut_write id c) log port t hands (unseen id (λ s. record s { write_shut = true }) c (λ st. refl)) refl x
+shut_write_host id c log port t hands x = same_host c (after_shut_write id c) log port t hands
+    (unseen id (λ s. record s { write_shut = true }) (with_shut_write_call c) (λ st. refl)) refl x
 
 -- No connection is left.
 pub emptied_streams : (c : HostContents) (log : Log) (port : ℕ) (t u : Table DeviceConnection) (hands : List Handshake) → u.entries ≡ []

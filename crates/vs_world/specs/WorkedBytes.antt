@@ -1,6 +1,6 @@
 -- What the worked scripts leave: the bytes of their connections, at both ends.
 use Rattle.std.specs.Prelude.{ℕ, List, [], ◌∷◌}
-use Rattle.vs_flow.specs.declared.flow.Flow.{Flow}
+use Rattle.vs_flow.specs.{Connection.first_of, declared.flow.Flow.Flow}
 use Rattle.vs_outside.specs.HostBytes.{host_read, host_wrote}
 use Rattle.vs_page.specs.{Fair.payload_got, Fair.payload_put, Log.Device}
 use Rattle.vs_world.specs.{Calls.received_on, Calls.sent_on, World.World}
@@ -18,8 +18,8 @@ abbrev pub carried_on : Flow → World → Carried
 carried_on f w = record {
   sent = sent_on f w.journal;
   to_host = payload_got Device f 1 w.rings.device.entries;
-  read = host_read f 1 w.host;
-  wrote = host_wrote f 1 w.host;
+  read = host_read (first_of f) w.host;
+  wrote = host_wrote (first_of f) w.host;
   to_guest = payload_put Device f 1 w.rings.device.entries;
   received = received_on f w.journal;
 }
