@@ -15,6 +15,7 @@ use itoa::Buffer;
 use std::alloc::{AllocError, Global};
 use std::marker::Model;
 use vs_flow::Flow;
+use vs_header::Kind;
 
 /// A path that is listened on.
 #[derive(Drop)]
@@ -145,22 +146,22 @@ impl MemHost {
         self.faults
     }
 
-    /// Listens on a port, at its path. Where there is no memory for it, all is as before.
-    pub fn listen(&mut self, port: u32) -> Result<(), AllocError>
-        ensures ok { OnOk result (self.new ≡ record self.old { contents = after_listen port self.old.contents }) }
+    /// Listens on a port for sockets of that kind, at their path. Where there is no memory for it, all is as before.
+    pub fn listen(&mut self, port: u32, kind: Kind) -> Result<(), AllocError>
+        ensures ok { OnOk result (self.new ≡ record self.old { contents = after_listen port kind self.old.contents }) }
         ensures err { OnErr result (self.new ≡ self.old) }
     {
-        let text = port_path(*self.streams.allocator(), &self.base, port)?;
+        let text = port_path(*self.streams.allocator(), &self.base, port, kind)?;
         self.listening.push(ListenedPath { text })?;
         Ok(())
     }
 
-    /// Listens on a port no more. Where there is no memory for the path's text, all is as before.
-    pub fn unlisten(&mut self, port: u32) -> Result<(), AllocError>
-        ensures ok { OnOk result (self.new ≡ record self.old { contents = after_unlisten port self.old.contents }) }
+    /// Listens on a port for sockets of that kind no more. Where there is no memory for the path's text, all is as before.
+    pub fn unlisten(&mut self, port: u32, kind: Kind) -> Result<(), AllocError>
+        ensures ok { OnOk result (self.new ≡ record self.old { contents = after_unlisten port kind self.old.contents }) }
         ensures err { OnErr result (self.new ≡ self.old) }
     {
-        let text = port_path(*self.streams.allocator(), &self.base, port)?;
+        let text = port_path(*self.streams.allocator(), &self.base, port, kind)?;
         remove_path(&mut self.listening, &text);
         Ok(())
     }
@@ -418,13 +419,17 @@ fn one_more(count: u64) -> u64
     count.saturating_add(1)
 }
 
-/// The text of a port's path: the base path, `_`, and the port in decimal.
-fn port_path(alloc: Global, base: &str, port: u32) -> Result<String, AllocError>
-    ensures { IfOk result (λ text. string_bytes text ≡ port_path base.now port) }
+/// The text of a port's path: the base path, `_`, and the port in decimal; for messages with `.seq` behind it.
+fn port_path(alloc: Global, base: &str, port: u32, kind: Kind) -> Result<String, AllocError>
+    ensures { IfOk result (λ text. string_bytes text ≡ port_path base.now port kind) }
 {
     let mut text = String::from_str(alloc, base)?;
     text.push('_')?;
     text.push_str(Buffer::new().format(port))?;
+    match kind {
+        Kind::Stream => (),
+        Kind::Seqpacket => text.push_str(".seq")?,
+    }
     Ok(text)
 }
 

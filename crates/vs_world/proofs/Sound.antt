@@ -51,6 +51,7 @@ use Rattle.vs_flow.specs.Table.{Table}
 use Rattle.vs_history.specs.{History.Got, History.IsFair, Packets.is_rw}
 use Rattle.vs_matching.specs.{Both.Both, Ends.ends_of, Ends.entries_of}
 use Rattle.vs_matching.proofs.{Both.next_is_fair, Slots.one_end, Voices.AreVoiced, Voices.voices_run}
+use Rattle.vs_header.specs.declared.Kind.TheVariants as kind
 use Rattle.vs_outside.specs.Host.{with_stream}
 use Rattle.vs_outside.specs.HostProgram.{after_fail, after_host_write, after_listen, after_unlisten, allowed, closed, ended}
 use Rattle.vs_outside.specs.HostProgram.{host_write_answer, with_bytes}
@@ -320,8 +321,8 @@ module _ (fresh : Type 0) (w : World) (well : IsWell fresh w) where
       let k = proxy_resets.reset_keeps (both_of w).driver first_cid w.proxy (around w) well.sound well.device well.device_puts well.chain well.known fresh well.streams cid
       (guest_cid_fits cid may) in
       device_goes fresh (proxy_reset_of cid w.proxy) (λ r. r.0) w well (k.kept, k.chain, k.cid, k.streams))
-  happens_goes (HostListens port) = host_goes _ (λ ok. same_host w.host (after_listen port w.host) _ _ _ _ (λ j. refl) refl (well.streams ok))
-  happens_goes (HostUnlistens port) = host_goes _ (λ ok. same_host w.host (after_unlisten port w.host) _ _ _ _ (λ j. refl) refl (well.streams ok))
+  happens_goes (HostListens port) = host_goes _ (λ ok. same_host w.host (after_listen port kind.Stream w.host) _ _ _ _ (λ j. refl) refl (well.streams ok))
+  happens_goes (HostUnlistens port) = host_goes _ (λ ok. same_host w.host (after_unlisten port kind.Stream w.host) _ _ _ _ (λ j. refl) refl (well.streams ok))
   happens_goes ClientConnects = host_goes _ (λ ok. client_host w.host _ _ _ _ (well.streams ok))
   happens_goes (HostWrites stream bytes) = host_goes _ (λ ok. host_written stream bytes (host_write_answer stream w.host) w.host _ _ _ _ (well.streams ok))
   happens_goes (HostTakes stream n) = host_goes _ (λ ok. same_host w.host (with_stream stream (allowed 18446744073709551615 n) w.host) _ _ _ _ (unseen stream (allowed 18446744073709551615 n) w.host (λ st. refl)) refl (well.streams ok))

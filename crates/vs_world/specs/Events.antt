@@ -1,6 +1,7 @@
 -- What may happen in the world, one page move or one call at a time, and what each leads to.
 use Rattle.std.specs.Prelude.{ℕ, ◌&&◌, nat_le, Bool, true, false, if◌then◌else◌, List, [], ◌∷◌, is_some}
 use Rattle.vs_contents.specs.CallTree.{Done, bind}
+use Rattle.vs_header.specs.declared.Kind.TheVariants as kind
 use Rattle.vs_outside.specs.Host.{HostContents, with_stream}
 use Rattle.vs_outside.specs.HostProgram.{after_listen, after_unlisten, after_client, after_host_write, host_write_answer, allowed, ended}
 use Rattle.vs_outside.specs.HostProgram.{closed, after_fail}
@@ -141,8 +142,8 @@ happens (Moment now) w = at_moment now w
 happens (TimesOut slot) w = unless_failed (device_step (tick_slot slot)) w
 happens (HandshakeTimesOut stream) w = unless_failed (proxy_step (tick_handshake stream)) w
 happens (Reset cid) w = where_possible (is_guest_cid cid) (reset_made cid) w
-happens (HostListens port) w = host_step (after_listen port) w
-happens (HostUnlistens port) w = host_step (after_unlisten port) w
+happens (HostListens port) w = host_step (after_listen port kind.Stream) w
+happens (HostUnlistens port) w = host_step (after_unlisten port kind.Stream) w
 happens ClientConnects w = host_step after_client w
 happens (HostWrites stream bytes) w = host_step (λ c. after_host_write stream bytes (host_write_answer stream c) c) w
 happens (HostTakes stream n) w = host_step (with_stream stream (allowed (18446744073709551615) n)) w
