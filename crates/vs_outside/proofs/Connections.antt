@@ -1,7 +1,6 @@
 -- The connections that streams are: each has one stream.
 use Rattle.std.proofs.Common.{◌≡◌, ℕ, ◌+◌, ◌-◌, List, get_or, Option, Some, None, refl, sym, ap, subst, ◌∙◌, arith}
-use Rattle.std.specs.{Prelude.option_and_then, Prelude.position, Prelude.slice_get, Option.option_map}
-use Rattle.std.specs.Prelude.{◌==◌}
+use Rattle.std.specs.{Prelude.option_and_then, Prelude.position, Prelude.slice_get, Prelude.◌==◌, Option.option_map}
 use Rattle.std.proofs.lemmas.Bool.Decides.{nat_tests}
 use Rattle.std.proofs.lemmas.List.Quantifiers.{position-Some}
 use Rattle.std.proofs.lemmas.Option.{slice_get-get_or}
