@@ -124,7 +124,7 @@ pub takes_one : (chain : Chain) (a b : Situation) → Allows (Ring (Take Tx)) (n
     (HasTaken chain)
 takes_one chain a b allowed =
     related _ _ _ _ _ (log_taken Tx (next.Chain chain) allowed.0.0) a.ring b.ring allowed.0.1 (HasTaken chain)
-    (λ l is asked. by allowed.0.0 l asked)
+    (λ l is asked. by allowed.0.0 l asked.0)
   where
     by : (page : Option (List ℕ)) (l : EndLog) → IsTakenAs Tx (next.Chain chain) page → HasTaken chain l
         (log_taken Tx (next.Chain chain) page l)

@@ -85,7 +85,7 @@ module _ (first port : ℕ) where
         (fit.queue_is, fit.long),
         moves _ _ _ _ _ (log_taken Rx (next.Chain chain) made.0) c d made.1 (IsToldOf first port s)
             (IsToldOf first port (record s { chain = Some chain }))
-            (λ h l asked was fair. taken_by made.0 h l asked was) holds.1,
+            (λ h l asked was fair. taken_by made.0 h l asked.0 was) holds.1,
       )
     where
       taken_by : (page : Option (List ℕ)) (h : Bool) (l : EndLog) → IsTakenAs Rx (next.Chain chain) page → IsToldOf first port s h l

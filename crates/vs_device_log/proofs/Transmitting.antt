@@ -204,7 +204,7 @@ module _ (first port : ℕ) (s : DeviceState) where
   next_keeps (next.Chain chain) c d going fit made holds =
       read_keeps chain fit.long fit.queue_is holds.0 going d
       (moves _ _ _ _ _ (log_taken Tx (next.Chain chain) made.0) c d made.1 (IsToldOf first port s) (Took chain fit.long fit.queue_is)
-      (λ hon l asked was fair. by made.0 hon l asked was fair) holds.1)
+      (λ hon l asked was fair. by made.0 hon l asked.0 was fair) holds.1)
     where
       by : (page : Option (List ℕ)) (hon : Bool) (l : EndLog) → IsTakenAs Tx (next.Chain chain) page → IsToldOf first port s hon l
           → (hon ≡ true → IsFairLog Device (log_taken Tx (next.Chain chain) page l).entries)

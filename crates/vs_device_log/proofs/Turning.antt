@@ -192,7 +192,7 @@ module _ (first port : ℕ) where
         (unwritten s.chain) d (omega arith)
         (moves _ _ _ _ _ (log_taken Event (next.Chain chain) made.0) c d made.1 (IsToldOf first port s)
         (Writes first port s chain [] (unwritten s.chain))
-        (λ hon l asked was fair. by made.0 hon l asked was) holds.1)
+        (λ hon l asked was fair. by made.0 hon l asked.0 was) holds.1)
         (λ e now. event_returned chain fit.queue_is fit.long holds.0 e now)
       where
         by : (page : Option (List ℕ)) (hon : Bool) (l : EndLog) → IsTakenAs Event (next.Chain chain) page → IsToldOf first port s hon l

@@ -40,7 +40,7 @@ module _ (first : ℕ) where
   back_by true s c ties = ties
   back_by false s c ties = (
     tt,
-    λ page d made. moves _ _ _ (log_reaped Tx page) c d made.1 (IsTied first s) (IsTied first (reaped s page).0) (λ l tie fair. back_same s page l tie) ties,
+    λ page d made. moves _ _ _ _ _ (log_reaped Tx page) c d made.1 (IsTied first s) (IsTied first (reaped s page).0) (λ l tie fair. back_same s page l tie) ties,
   )
 
   -- A page is taken, and a receive or event page staged again.

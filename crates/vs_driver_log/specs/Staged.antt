@@ -1,11 +1,9 @@
 -- The driver and its log between two steps of a call, where packets may be staged and not published.
 use Rattle.std.specs.Prelude.{◌≡◌, ℕ, true, List}
-use Rattle.std.specs.List.{All}
 use Rattle.std.specs.Option.{ForSome}
 use Rattle.vs_page.specs.Fair.{IsFairLog}
 use Rattle.vs_page.specs.Log.{Driver, Log}
 use Rattle.vs_ring_port.specs.Contents.{RingContents}
-use Rattle.vs_ring_port.specs.DriverCalls.{HoldsPacket}
 use Rattle.vs_ring_port.specs.EndLog.{EndLog, all_put}
 use Rattle.vs_ring_port.specs.declared.queue.Queue.{Queue}
 use Rattle.vs_ring_port.specs.declared.queue.Queue.TheVariants.{Tx}
@@ -17,7 +15,6 @@ use Rattle.vs_driver_log.specs.Honest.{IsFitState, IsHonestWith, ends_of_state}
 -- The driver's connections are those that the log leaves with the packets that are staged, and it is fair with them.
 pub record IsLeft (first broken : ℕ) (part : Ends) (staged : List (List ℕ)) (entries : Log) : Type 0 where
   pub none_refused : broken ≡ 0
-  pub packets : All HoldsPacket staged
   pub matches : Matches Driver first part (all_put staged entries)
   pub fair : IsFairLog Driver (all_put staged entries)
 

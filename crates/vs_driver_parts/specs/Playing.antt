@@ -9,7 +9,7 @@ use Rattle.vs_ring_port.specs.declared.queue.Queue.TheVariants.{Rx}
 use Rattle.vs_ring_port.specs.declared.queue.TheConstants.{STAGED_MAX}
 use Rattle.vs_ring_port.specs.Contents.{RingContents}
 use Rattle.vs_ring_port.specs.Counts.{Counts, no_counts, with_count}
-use Rattle.vs_ring_port.specs.DriverCalls.{DriverCall, DriverAnswer, Stage, Publish, Reap, LoadCid, DriverAllows, CanPublish}
+use Rattle.vs_ring_port.specs.DriverCalls.{DriverCall, DriverAnswer, Stage, Publish, Reap, LoadCid, DriverAllows, CanPublish, CanStage}
 use Rattle.vs_driver_parts.specs.State.{DriverState}
 use Rattle.vs_driver_parts.specs.Conversations.{DriverTree}
 
@@ -37,7 +37,7 @@ pub record IsRingOf (n : ℕ) (flown waiting : Counts) (s : DriverState) : Type 
 
 -- What a ring asks of a call that the driver makes.
 abbrev pub CanMake : DriverCall → RingContents → Type 0
-CanMake (Stage queue page) c = Unit {0}
+CanMake (Stage queue page) c = CanStage queue page c
 CanMake (Publish queue) c = CanPublish queue c
 CanMake (Reap queue) c = Unit {0}
 CanMake LoadCid c = Unit {0}
