@@ -235,36 +235,3 @@ fn refill<T>(slots: &mut IndexMap<Flow, Slot>, entries: &[Entry<T>])
         slots.insert(entry.flow, entry.slot).unwrap();
     }
 }
-
-#[cfg(test)]
-mod tests {
-    use super::*;
-    use std::test::Fail;
-
-    #[test]
-    fn entries_come_and_go(rt: HostRuntime) -> Result<(), Fail> {
-        let first = Flow {
-            guest: 1024,
-            host: 52,
-        };
-        let second = Flow {
-            guest: 1025,
-            host: 52,
-        };
-        let mut table = FlowTable::new(rt.alloc(), 2)?;
-        assert_eq!(rt; table.insert(first, 10), Ok(0));
-        assert_eq!(rt; table.insert(second, 20), Ok(1));
-        assert!(rt; !table.has_place());
-        assert_eq!(rt; table.entries().len(), 2);
-        assert_eq!(rt; table.remove(0), Some(10));
-        assert!(rt; table.has_place());
-        assert_eq!(rt; table.insert(first, 30), Ok(2));
-        if let Some(value) = table.get_mut(2) {
-            *value = 40;
-        }
-        assert_eq!(rt; table.get(2).copied(), Some(40));
-        assert_eq!(rt; table.by_flow(first), Some(2));
-        assert_eq!(rt; table.next_after(2), Some(1));
-        Ok(())
-    }
-}

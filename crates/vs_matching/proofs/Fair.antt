@@ -42,7 +42,7 @@ begun_later : (side : Side) (h : History) (entry : Entry) → is_begun side (put
     → is_begun side (puts (entry ∷ h)) (gots (entry ∷ h)) ≡ true
 begun_later = grind (arith, common_steps)
 
-fair_begun : (side : Side) (h : History) (entry : Entry) → IsFair side (entry ∷ h)
+pub fair_begun : (side : Side) (h : History) (entry : Entry) → IsFair side (entry ∷ h)
     → is_begun side (puts (entry ∷ h)) (gots (entry ∷ h)) ≡ true
 fair_begun side [] entry fair = allows_begins side entry fair.0
 fair_begun side (x ∷ h) entry fair = begun_later side (x ∷ h) entry (fair_begun side h x fair.1)

@@ -34,24 +34,24 @@ use Rattle.vs_matching.proofs.Steps.{cid_heard}
 use Rattle.vs_matching.proofs.Tables.{only_end}
 
 -- The device drops a packet exactly where the guest's CID isn't this.
-abbrev Speaks : ℕ → Packet → Type 0
+abbrev pub Speaks : ℕ → Packet → Type 0
 Speaks cid q = (c : ℕ) → is_dropped Device c q.header ≡ not (cid == c)
 
-abbrev AllSpeak : ℕ → List Packet → Type 0
+abbrev pub AllSpeak : ℕ → List Packet → Type 0
 AllSpeak cid [] = Unit {0}
 AllSpeak cid (q ∷ qs) = Speaks cid q × AllSpeak cid qs
 
 -- Each packet but an RST has the CID of all before it.
-abbrev IsOneVoice : List Packet → Type 0
+abbrev pub IsOneVoice : List Packet → Type 0
 IsOneVoice [] = Unit {0}
 IsOneVoice (p ∷ ps) = (is_rst p ≡ false → (cid : ℕ) × Speaks cid p × AllSpeak cid ps) × IsOneVoice ps
 
-one_older : (rest ps : List Packet) → IsOneVoice (rest ++ ps) → IsOneVoice ps
+pub one_older : (rest ps : List Packet) → IsOneVoice (rest ++ ps) → IsOneVoice ps
 one_older [] ps one = one
 one_older (q ∷ rest) ps one = one_older rest ps one.1
 
 -- The packets that the device doesn't drop under a CID.
-abbrev keep : ℕ → List Packet → List Packet
+abbrev pub keep : ℕ → List Packet → List Packet
 keep c [] = []
 keep c (q ∷ qs) = if is_dropped Device c q.header then keep c qs else q ∷ keep c qs
 
@@ -66,9 +66,9 @@ speaks_by : (cid : ℕ) (q : Packet) → q.header.src_cid ≡ cid → q.header.d
 speaks_by cid q from to c = grind (arith, common_steps)
 
 -- The driver: on a flow that has a connection all packets put have its CID.
-record IsVoiced (w : Seat) : Type 0 where
-  voices : (f : Flow) → IsOneVoice (puts (history_of Driver f w.log))
-  spoken : (f : Flow) (e : ConnectionEnd) → HasEnd f e w.part → AllSpeak w.part.cid (puts (history_of Driver f w.log))
+pub record IsVoiced (w : Seat) : Type 0 where
+  pub voices : (f : Flow) → IsOneVoice (puts (history_of Driver f w.log))
+  pub spoken : (f : Flow) (e : ConnectionEnd) → HasEnd f e w.part → AllSpeak w.part.cid (puts (history_of Driver f w.log))
 
 history_put : (role : Role) (f : Flow) (p : Packet) (log : Log) → flow_put role p ≡ f
     → history_of role f (PutPacket p ∷ log) ≡ Put p ∷ history_of role f log
@@ -201,10 +201,10 @@ packet_had first (x ∷ more) p answer part log e are m order v has =
     v.spoken f x (are ∙ ap (λ es. x ∷ es) none)
 
 -- The device: on a flow that is left open it heard the packets of the guest's CID.
-abbrev KeepsOn : ℕ → Flow → Log → Type 0
+abbrev pub KeepsOn : ℕ → Flow → Log → Type 0
 KeepsOn first f log = gots (heard_of Device first f log) ≡ keep (cid_of first log) (gots (history_of Device f log))
 
-abbrev IsKeeping : ℕ → Log → Type 0
+abbrev pub IsKeeping : ℕ → Log → Type 0
 IsKeeping first log = (f : Flow) → is_left_open Device first f log ≡ true → KeepsOn first f log
 
 request_opens : (p : Packet) → opened_by p false ≡ true → is_request p ≡ true
@@ -261,9 +261,9 @@ keeps_got_at first g p log true same fair before opens =
 keeps_got_at first g p log false same fair before opens = rw same (before g (rw same at opens))
 
 -- Both.
-record AreVoiced (first : ℕ) (b : Both) : Type 0 where
-  driver : IsVoiced b.driver
-  device : IsKeeping first b.device.log
+pub record AreVoiced (first : ℕ) (b : Both) : Type 0 where
+  pub driver : IsVoiced b.driver
+  pub device : IsKeeping first b.device.log
 
 open_silent : (first : ℕ) (f : Flow) (part : Ends) (log : Log) → heard_of Driver first f log ≡ []
     → AllSpeak part.cid (puts (history_of Driver f log))
@@ -336,13 +336,13 @@ voices_step : (role : Role) (first : ℕ) (step : Step) (b : Both) → IsSound f
 voices_step Driver first step b s may v = record { driver = driver_step first step b s may v.driver; device = v.device }
 voices_step Device first step b s may v = record { driver = v.driver; device = device_step first step b s may v.device }
 
-voices_run : (first : ℕ) (xs : List Happening) (b : Both) → IsSound first b → MayRun xs b → AreVoiced first b → AreVoiced first (run xs b)
+pub voices_run : (first : ℕ) (xs : List Happening) (b : Both) → IsSound first b → MayRun xs b → AreVoiced first b → AreVoiced first (run xs b)
 voices_run first [] b s may v = v
 voices_run first (x ∷ xs) b s may v =
     voices_run first xs (happens x.role x.step b) (step_keeps x.role first x.step b s may.0) may.1
     (voices_step x.role first x.step b s may.0 v)
 
-voices_start : (first guest_port host_port : ℕ) → AreVoiced first (start first guest_port host_port)
+pub voices_start : (first guest_port host_port : ℕ) → AreVoiced first (start first guest_port host_port)
 voices_start first guest_port host_port = record {
   driver = record { voices = λ f. tt; spoken = λ f e has. tt };
   device = λ f opens. refl;
