@@ -2,38 +2,35 @@
 use Rattle.std.proofs.Common.{◌≡◌, ℕ, ◌+◌, ◌<◌, ◌^◌, ◌==◌, nat_le, nat_lt, Bool, true, false, cond, List, [], ◌∷◌, length, Option, Some}
 use Rattle.std.proofs.Common.{None, refl, sym, ap, subst, ◌∙◌}
 use Rattle.vs_contents.specs.CallTree.{Done, Ask, bind}
-use Rattle.vs_conn.specs.End.{owes_of}
-use Rattle.vs_conn.specs.declared.end.{Owed.Owed, TheConstants.OWED_MAX}
+use Rattle.vs_conn.specs.{End.owes_of, declared.end.Owed.Owed, declared.end.TheConstants.OWED_MAX}
 use Rattle.vs_flow.specs.Table.{entry_under, slots}
 use Rattle.vs_header.specs.Packet.{header_bytes}
 use Rattle.vs_history.specs.declared.packet.Packet.{Packet}
-use Rattle.vs_page.specs.{Fair.IsFairLog, Held.event_held, Held.packet_held, Log.Driver, Log.Log}
-use Rattle.vs_page.specs.declared.log.LogEntry.{LogEntry}
+use Rattle.vs_page.specs.{Fair.IsFairLog, Held.event_held, Held.packet_held, Log.Driver, Log.Log, declared.log.LogEntry.LogEntry}
 use Rattle.vs_page.specs.declared.log.LogEntry.TheVariants.{GotEvent, GotPacket, Mark}
 use Rattle.vs_page.proofs.Holding.{packet_whole}
 use Rattle.vs_replies.specs.declared.Reply.{Reply}
-use Rattle.vs_ring_port.specs.declared.queue.Queue.{Queue}
-use Rattle.vs_ring_port.specs.declared.queue.Queue.TheVariants.{Rx, Tx, Event}
 use Rattle.vs_ring_port.specs.{Contents.RingContents, DriverCalls.Reap, DriverCalls.LoadCid}
 use Rattle.vs_ring_port.specs.EndLog.{EndLog, entries_marked, log_loaded, log_reaped, with_event, with_packet}
+use Rattle.vs_ring_port.specs.declared.queue.Queue.{Queue}
+use Rattle.vs_ring_port.specs.declared.queue.Queue.TheVariants.{Rx, Tx, Event}
 use Rattle.vs_matching.proofs.{Keeps.takes_event, Slots.found_by}
-use Rattle.vs_driver_parts.specs.declared.answers.Polled.{Polled}
-use Rattle.vs_driver_parts.specs.declared.limits.TheConstants.{REPLIES_FULL}
-use Rattle.vs_driver_parts.specs.State.{DriverEntry, DriverState}
-use Rattle.vs_driver_parts.specs.Receiving.{after_reset, is_reset_event, on_packet, on_page}
+use Rattle.vs_driver_parts.specs.{declared.answers.Polled.Polled, declared.limits.TheConstants.REPLIES_FULL}
 use Rattle.vs_driver_parts.specs.Conversations.{DriverTree, Round, after_paying, all_taken, event_reaped, event_taken, goes_on_with}
 use Rattle.vs_driver_parts.specs.Conversations.{has_page, one_put, owed_bytes, packet_reaped, pay_all, pay_and_publish, pay_slot, poll_of}
 use Rattle.vs_driver_parts.specs.Conversations.{poll_packets, poll_puts, poll_reaps, polled, publish_and_pay, publish_of, published}
 use Rattle.vs_driver_parts.specs.Conversations.{put_all, put_owed, put_owed_of, put_replies, put_reply, put_reply_of, reap_all}
 use Rattle.vs_driver_parts.specs.Conversations.{reply_header, stage_of, stage_packet, staged_again, start, take_all, take_event}
-use Rattle.vs_driver_parts.specs.{Conversations.take_packet, Conversations.with_state, Playing.BringsFit, Playing.RingAllows}
+use Rattle.vs_driver_parts.specs.Conversations.{take_packet, with_state}
+use Rattle.vs_driver_parts.specs.State.{DriverEntry, DriverState}
+use Rattle.vs_driver_parts.specs.Receiving.{after_reset, is_reset_event, on_packet, on_page}
+use Rattle.vs_driver_parts.specs.Playing.{BringsFit, RingAllows}
 use Rattle.vs_driver_parts.proofs.Ids.{has_slot}
 use Rattle.vs_driver_log.specs.{Honest.IsFitState, Honest.ends_of_state, Staged.IsLeft}
+use Rattle.vs_driver_log.proofs.{Putting.owed_puts, Putting.reply_puts, Resetting.resets, Tabling.Stands, Taking.gets_packet}
 use Rattle.vs_driver_log.proofs.Keeping.{Keeps, keeps_bind, keeps_each, keeps_weaker, keeps_while}
-use Rattle.vs_driver_log.proofs.Ringing.{IsAtRest, Tells, moves, tells_weaker}
-use Rattle.vs_driver_log.proofs.{Putting.owed_puts, Putting.reply_puts, Resetting.resets}
 use Rattle.vs_driver_log.proofs.Staging.{Rests, SameBut, Ties, publish_other, publish_tx, reap_keeps, rests_tied, stage_other, stage_tx}
-use Rattle.vs_driver_log.proofs.{Tabling.Stands, Taking.gets_packet}
+use Rattle.vs_driver_log.proofs.Ringing.{IsAtRest, Tells, moves, tells_weaker}
 
 pub not_tx_rx : Rx ≡ Tx → ⊥
 not_tx_rx is = absurd cc
@@ -49,7 +46,7 @@ gets_by : (first : ℕ) (s : DriverState) (page : List ℕ) (o : Option Packet) 
 gets_by first s page None entries is fits ports left fair = (fits, left)
 gets_by first s page (Some p) entries is fits ports left fair =
     let g = gets_packet first p s entries fits (ports p is) (packet_whole page p is).0 left.matches fair in
-    (g.fits, record { none_refused = g.broken ∙ left.none_refused; packets = left.packets; matches = g.matches; fair = fair })
+    (g.fits, record { none_refused = g.broken ∙ left.none_refused; matches = g.matches; fair = fair })
 
 gets_page : (first : ℕ) (s : DriverState) (page : List ℕ) (l : EndLog) → BringsFit page → IsAtRest first s l → IsFairLog Driver (log_reaped Rx (Some page) l).entries
     → IsAtRest first (on_page page s) (log_reaped Rx (Some page) l)
@@ -75,7 +72,7 @@ event_by : (first : ℕ) (s : DriverState) (o : Option ℕ) (entries : Log) → 
     × HasPassed (elim o [ None ↦ false | Some id ↦ id == 0 ]) (with_event (λ id. GotEvent id) o entries)
 event_by first s None entries left fair = (left, tt)
 event_by first s (Some id) entries left fair = (
-  record { none_refused = left.none_refused; packets = left.packets; matches = takes_event Driver first id (ends_of_state s) entries left.matches; fair = fair },
+  record { none_refused = left.none_refused; matches = takes_event Driver first id (ends_of_state s) entries left.matches; fair = fair },
   passed (id == 0) (GotEvent id) entries,
 )
 
@@ -90,8 +87,7 @@ loads first cid s l less rest has =
     let marked : entries_marked cid l.entries ≡ Mark cid ∷ l.entries = ap (entries_marked cid) has.2 ∙ ap (λ (log : Log). Mark cid ∷ log) (sym has.2) in
     let left : IsLeft first (after_reset cid s).broken (ends_of_state (after_reset cid s)) [] (Mark cid ∷ l.entries) = record {
       none_refused = r.broken ∙ rest.1.none_refused;
-      packets = rest.1.packets;
-      matches = r.matches first l.entries rest.1.matches;
+        matches = r.matches first l.entries rest.1.matches;
       fair = rest.1.fair;
     } in
     (r.fits, subst (λ (log : Log). IsLeft first (after_reset cid s).broken (ends_of_state (after_reset cid s)) [] log) (sym marked) left, rest.2)
@@ -115,7 +111,7 @@ module _ (first : ℕ) where
       (Done (record r { count = r.count + 1 }))) c
   taken_by true r c tells = (
     tt,
-    λ cid d made. moves _ _ _ (log_loaded cid) c d made.1 (λ l. IsAtRest first r.state l × HasPassed true l.entries) (IsAtRest first (after_reset cid r.state))
+    λ cid d made. moves _ _ _ _ _ (log_loaded cid) c d made.1 (λ l. IsAtRest first r.state l × HasPassed true l.entries) (IsAtRest first (after_reset cid r.state))
         (λ l both fair. loads first cid r.state l made.0 both.0 both.1) tells,
   )
   taken_by false r c tells = tells_weaker (λ l. IsAtRest first r.state l × HasPassed false l.entries) (IsAtRest first r.state) (λ l both. both.0) c tells
@@ -126,12 +122,12 @@ module _ (first : ℕ) where
   event_reaped_keeps : (page : Option (List ℕ)) (r : Round) (c d : RingContents) → RingAllows (Reap Event) page c d → RoundRests r c
       → Keeps PairRests (event_reaped r page) d
   event_reaped_keeps None r c d made rests =
-      moves _ _ _ (log_reaped Event None) c d made.1 (IsAtRest first r.state) (IsAtRest first r.state) (λ l rest fair. rest) rests
+      moves _ _ _ _ _ (log_reaped Event None) c d made.1 (IsAtRest first r.state) (IsAtRest first r.state) (λ l rest fair. rest) rests
   event_reaped_keeps (Some page) r c d made rests =
       keeps_bind PairRests (event_taken page r) (staged_again Event) d
       (keeps_weaker RoundRests (λ x e. Keeps PairRests (staged_again Event x) e) (λ x e kept. again Event not_tx_event x e kept) (event_taken page r) d
       (taken_by (is_reset_event page) r d
-      (moves _ _ _ (log_reaped Event (Some page)) c d made.1 (IsAtRest first r.state) (AfterEvent first page r.state)
+      (moves _ _ _ _ _ (log_reaped Event (Some page)) c d made.1 (IsAtRest first r.state) (AfterEvent first page r.state)
       (λ l rest fair. gets_event first r.state page l rest fair) rests)))
 
   event_step : (b : Bool) (r : Round) (c : RingContents) → RoundRests r c → Keeps PairRests (cond b (Done (r, false)) (Ask (Reap Event) (event_reaped r))) c
@@ -145,10 +141,10 @@ module _ (first : ℕ) where
   packet_reaped_keeps : (page : Option (List ℕ)) (r : Round) (c d : RingContents) → RingAllows (Reap Rx) page c d → RoundRests r c
       → Keeps PairRests (packet_reaped r page) d
   packet_reaped_keeps None r c d made rests =
-      moves _ _ _ (log_reaped Rx None) c d made.1 (IsAtRest first r.state) (IsAtRest first r.state) (λ l rest fair. rest) rests
+      moves _ _ _ _ _ (log_reaped Rx None) c d made.1 (IsAtRest first r.state) (IsAtRest first r.state) (λ l rest fair. rest) rests
   packet_reaped_keeps (Some page) r c d made rests =
       again Rx not_tx_rx (record r { state = on_page page r.state; count = r.count + 1 }) d
-      (moves _ _ _ (log_reaped Rx (Some page)) c d made.1 (IsAtRest first r.state) (IsAtRest first (on_page page r.state))
+      (moves _ _ _ _ _ (log_reaped Rx (Some page)) c d made.1 (IsAtRest first r.state) (IsAtRest first (on_page page r.state))
       (λ l rest fair. gets_page first r.state page l made.0 rest fair) rests)
 
   packet_step : (b : Bool) (r : Round) (c : RingContents) → RoundRests r c → Keeps PairRests (cond b (Done (r, false)) (Ask (Reap Rx) (packet_reaped r))) c
