@@ -1,25 +1,19 @@
 -- What an end does keeps its history fair, and the end following it.
-use Rattle.std.proofs.Common.{rules, ◌≡◌, ◌≢◌, ℕ, ◌+◌, ◌<◌, ◌≤◌, ◌%◌, ◌^◌, Bool, true, false, List, [], ◌∷◌, length, Some}
-use Rattle.std.proofs.Common.{refl, arith}
+use Rattle.std.proofs.Common.{rules, ◌≡◌, ◌≢◌, ℕ, ◌+◌, ◌<◌, ◌≤◌, ◌%◌, ◌^◌, Bool, true, false, List, [], ◌∷◌, length, Some, refl, arith}
 use Rattle.std.proofs.lemmas.Grind.{common_steps}
 use Rattle.vs_wrap.specs.Wrap.{difference32, sum32, unwrap32}
-use Rattle.vs_conn.specs.End.{CanSend, ConnectionEnd, aborted, answering, asked, grown, wanting_credit}
-use Rattle.vs_conn.specs.End.{is_drained}
-use Rattle.vs_conn.specs.End.{owes_of, paid_of, settled, shut_credit}
-use Rattle.vs_conn.specs.End.{with_payload_forwarded, with_payload_sent, with_shut}
+use Rattle.vs_conn.specs.{Shut.joined, Shut.shut_of, declared.end.Owed.Owed}
+use Rattle.vs_conn.specs.{declared.route.Route.Route, declared.shut.Shut.Shut}
+use Rattle.vs_conn.specs.End.{CanSend, ConnectionEnd, aborted, answering, asked, grown, wanting_credit, is_drained, owes_of, paid_of}
+use Rattle.vs_conn.specs.End.{settled, shut_credit, with_payload_forwarded, with_payload_sent, with_shut}
 use Rattle.vs_conn.specs.Follows.{Follows, IsLeftBy, IsSpace, IsTaken, forwarded_of, owed_packet, payload_packet}
-use Rattle.vs_conn.specs.Shut.{joined, shut_of}
-use Rattle.vs_conn.specs.declared.end.Owed.{Owed}
-use Rattle.vs_conn.specs.declared.end.Owed.TheVariants as owed
 use Rattle.vs_conn.specs.declared.end.State.TheVariants.{Answering, Ended, Live}
-use Rattle.vs_conn.specs.declared.route.Route.{Route}
-use Rattle.vs_conn.specs.declared.shut.Shut.{Shut}
 use Rattle.vs_credit.specs.Credit.{free_of, room_of, unread_of, with_forwarded}
-use Rattle.vs_history.specs.declared.TheConstants.{BUF_ALLOC_MAX}
-use Rattle.vs_history.specs.History.{Answerer, Asker, MayPut, Side, is_begun}
+use Rattle.vs_limits.specs.declared.TheConstants.{BUF_ALLOC_MAX}
+use Rattle.vs_history.specs.{History.Answerer, History.Asker, History.MayPut, History.Side, History.is_begun, declared.packet.Packet.Packet}
 use Rattle.vs_history.specs.Packets.{IsFormed, allowance, bytes, is_request, flags_receive, flags_send, told_forwarded}
-use Rattle.vs_history.specs.declared.packet.Packet.{Packet}
 use Rattle.vs_history.proofs.Fair.{BothSound}
+use Rattle.vs_conn.specs.declared.end.Owed.TheVariants as owed
 
 -- Making an end.
 pub opening_may : (alloc : ℕ) (route : Route) → IsSpace alloc → MayPut Asker [] [] (owed_packet (asked alloc) route owed.Request)

@@ -1,15 +1,12 @@
 -- The end that the packets put and got at it leave. Lists of packets run newest first.
 use Rattle.std.specs.Prelude.{◌≡◌, ◌≢◌, ℕ, ◌<◌, ◌≤◌, ◌%◌, ◌^◌, true, false, if◌then◌else◌, List, [], length}
 use Rattle.vs_wrap.specs.Wrap.{unwrap32}
-use Rattle.vs_history.specs.declared.TheConstants.{BUF_ALLOC, BUF_ALLOC_MAX}
-use Rattle.vs_history.specs.declared.packet.Packet.{Packet}
+use Rattle.vs_limits.specs.declared.TheConstants.{BUF_ALLOC, BUF_ALLOC_MAX}
 use Rattle.vs_history.specs.Packets.{bytes, has, is_request, is_rst, is_rw, shuts_receive, shuts_send, size, told_alloc, told_forwarded}
+use Rattle.vs_history.specs.declared.packet.Packet.{Packet}
 use Rattle.vs_history.specs.History.{Side, Asker, Answerer, is_answered, is_begun}
-use Rattle.vs_conn.specs.End.{ConnectionEnd, IsSettled}
-use Rattle.vs_conn.specs.Headers.{owed_header, payload_header}
-use Rattle.vs_conn.specs.Shut.{is_within, neither}
-use Rattle.vs_conn.specs.declared.end.Owed.{Owed}
-use Rattle.vs_conn.specs.declared.end.State.{State}
+use Rattle.vs_conn.specs.{End.ConnectionEnd, End.IsSettled, Headers.owed_header, Headers.payload_header, Shut.is_within, Shut.neither}
+use Rattle.vs_conn.specs.{declared.end.Owed.Owed, declared.end.State.State}
 use Rattle.vs_conn.specs.declared.end.State.TheVariants.{Asked, Answering, Live, Ended}
 use Rattle.vs_conn.specs.declared.route.Route.{Route}
 

@@ -1,15 +1,13 @@
 -- Two ends of one connection with what passed at each, over any order of what they do.
 use Rattle.std.specs.Prelude.{◌≡◌, ℕ, ◌≤◌, List, [], ◌∷◌, length, Some}
 use Rattle.vs_credit.specs.Credit.{unread_of}
-use Rattle.vs_history.specs.declared.TheConstants.{BUF_ALLOC_MAX}
-use Rattle.vs_history.specs.declared.packet.Packet.{Packet}
+use Rattle.vs_limits.specs.declared.TheConstants.{BUF_ALLOC_MAX}
 use Rattle.vs_history.specs.History.{History, Put, Got, Side, Asker, Answerer, peer, puts, gots, IsFair, HasGot, IsNext}
-use Rattle.vs_conn.specs.End.{CanSend, ConnectionEnd, aborted, answering, asked, end_after, grown, owes_of, paid_of}
-use Rattle.vs_conn.specs.End.{wanting_credit, with_payload_forwarded, with_payload_sent, with_shut}
-use Rattle.vs_conn.specs.Follows.{Follows, owed_packet, payload_packet}
-use Rattle.vs_conn.specs.declared.end.Owed.{Owed}
+use Rattle.vs_history.specs.declared.packet.Packet.{Packet}
+use Rattle.vs_conn.specs.{Follows.Follows, Follows.owed_packet, Follows.payload_packet, declared.end.Owed.Owed, declared.route.Route.Route}
+use Rattle.vs_conn.specs.End.{CanSend, ConnectionEnd, aborted, answering, asked, end_after, grown, owes_of, paid_of, wanting_credit}
+use Rattle.vs_conn.specs.End.{with_payload_forwarded, with_payload_sent, with_shut}
 use Rattle.vs_conn.specs.declared.end.Owed.TheVariants as owed
-use Rattle.vs_conn.specs.declared.route.Route.{Route}
 
 -- Of each side its end and its history. What one put and the other didn't get is under way.
 pub record Pair : Type 0 where

@@ -14,7 +14,7 @@ ghost use Rattle.vs_conn.specs.declared.end.Verdict.TheVariants as verdict;
 ghost use Rattle.vs_credit.specs.Credit.{free_of, unread_of};
 ghost use Rattle.vs_header.specs.Op.{op_named};
 ghost use Rattle.vs_header.specs.declared.Op.TheVariants as op;
-ghost use Rattle.vs_history.specs.declared.TheConstants.{BUF_ALLOC_MAX};
+ghost use Rattle.vs_limits.specs.declared.TheConstants.{BUF_ALLOC_MAX};
 
 use crate::route::Route;
 use crate::shut::Shut;

@@ -13,7 +13,7 @@ ghost use Rattle.vs_conn.specs.declared.end.State.TheVariants.{Ended};
 ghost use Rattle.vs_credit.specs.Credit.{free_of, room_of, unread_of};
 ghost use Rattle.vs_history.specs.History.{Answerer, Asker, Got, History, IsFair, IsNext, Put, Side, gots, peer, puts};
 ghost use Rattle.vs_history.specs.Packets.{allowance, bytes, is_request};
-ghost use Rattle.vs_history.specs.declared.TheConstants.{BUF_ALLOC_MAX};
+ghost use Rattle.vs_limits.specs.declared.TheConstants.{BUF_ALLOC_MAX};
 ghost use Rattle.vs_history.specs.declared.packet.Packet.{Packet};
 
 /// A connection begins by the asker's REQUEST. An end that was made to ask owes it and may put it, and follows what passed then. An end

@@ -1,24 +1,21 @@
 -- A packet that is got: the device's connections are those that the log with it leaves.
+use Rattle.std.proofs.{lemmas.List.map-append, lemmas.List.Elements.All-push}
 use Rattle.std.proofs.Common.{◌≡◌, ℕ, ◌&&◌, Bool, true, false, cond, List, [], ◌∷◌, Contains, None, refl, sym, ap, subst, ◌∙◌, arith}
-use Rattle.std.proofs.lemmas.List.{map-append}
-use Rattle.std.proofs.lemmas.List.Elements.{All-push}
 use Rattle.vs_conn.specs.End.{ConnectionEnd, answering, end_after, is_reset, is_stream, verdict_of}
 use Rattle.vs_conn.specs.Follows.{IsSpace, IsTaken}
-use Rattle.vs_history.specs.Packets.{is_request, is_rst}
-use Rattle.vs_history.specs.declared.TheConstants.{BUF_ALLOC}
-use Rattle.vs_history.specs.declared.packet.Packet.{Packet}
-use Rattle.vs_flow.specs.Table.{entry_of, has_place, refusal, with_value, without}
-use Rattle.vs_flow.specs.declared.flow.Flow.{Flow}
+use Rattle.vs_history.specs.{Packets.is_request, Packets.is_rst, declared.packet.Packet.Packet}
+use Rattle.vs_limits.specs.declared.TheConstants.{BUF_ALLOC}
+use Rattle.vs_flow.specs.{Table.entry_of, Table.has_place, Table.refusal, Table.with_value, Table.without, declared.flow.Flow.Flow}
 use Rattle.vs_flow.proofs.Tables.{accepted}
 use Rattle.vs_page.specs.{Fair.IsFairLog, Held.FitsWire, Log.Device, Log.Log, Log.flow_to_host, Log.side_of, Open.is_dropped}
 use Rattle.vs_page.specs.declared.log.LogEntry.TheVariants.{GotPacket}
 use Rattle.vs_replies.specs.Owed.{reply_to}
 use Rattle.vs_matching.specs.{Ends.Ends, Ends.FlowEnd, Heard.IsInOrder, Heard.heard_of, Matches.Matches}
 use Rattle.vs_matching.specs.Steps.{HasEnd, HasNone, left, is_overrun, taken, with_end}
-use Rattle.vs_matching.proofs.Keeps.{accepts, drops, has_room, ignores, refuses, takes}
 use Rattle.vs_matching.proofs.{Fair.got_in_order, Fair.got_is_taken, Slots.added_slot, Slots.no_entry}
-use Rattle.vs_device_parts.specs.State.{DeviceConnection, DeviceEntry, DeviceState}
+use Rattle.vs_matching.proofs.Keeps.{accepts, drops, has_room, ignores, refuses, takes}
 use Rattle.vs_device_parts.specs.Connections.{new_connection, with_connection, with_dialed, with_reply}
+use Rattle.vs_device_parts.specs.State.{DeviceConnection, DeviceEntry, DeviceState}
 use Rattle.vs_device_log.specs.Honest.{IsFitFlow, IsFitReply, IsLeft, ends_of_state, end_in, reply_flow}
 use Rattle.vs_device_log.proofs.Tabling.{IsFitConnection, begun_fits, connection_ends, connection_fits, has_end, left_ends, left_fits}
 use Rattle.vs_device_log.proofs.Tabling.{opening_fits}

@@ -5,7 +5,7 @@ ghost use Rattle.vs_driver_parts.specs.Connections.{route_to_host};
 
 use vs_conn::Route;
 use vs_flow::Flow;
-use vs_page::HOST_CID;
+use vs_limits::HOST_CID;
 
 /// The route of packets on a flow to the host.
 pub fn route_to_host(cid: u64, flow: Flow) -> Route

@@ -1,10 +1,8 @@
 -- What a fair history says of all that was put and got.
-use Rattle.std.proofs.Common.{◌≤◌, List, [], ◌∷◌, ◌++◌, arith}
-use Rattle.std.proofs.lemmas.Grind.{common_steps}
-use Rattle.vs_history.specs.declared.packet.Packet.{Packet}
-use Rattle.vs_history.specs.declared.TheConstants.{BUF_ALLOC_MAX}
-use Rattle.vs_history.specs.Packets.{bytes, told_forwarded, told_alloc, allowance}
+use Rattle.std.proofs.{Common.◌≤◌, Common.List, Common.[], Common.◌∷◌, Common.◌++◌, Common.arith, lemmas.Grind.common_steps}
+use Rattle.vs_history.specs.{declared.packet.Packet.Packet, Packets.bytes, Packets.told_forwarded, Packets.told_alloc, Packets.allowance}
 use Rattle.vs_history.specs.History.{History, Entry, Put, Got, Side, puts, gots, MayPut, Allows, IsFair, IsOpening}
+use Rattle.vs_limits.specs.declared.TheConstants.{BUF_ALLOC_MAX}
 
 -- What an end tells never falls.
 pub record Rises (p : Packet) (ps : List Packet) : Type 0 where

@@ -1,11 +1,11 @@
 -- What passed at one end of a connection, and when that is fair. Histories run newest first.
 use Rattle.std.specs.Prelude.{◌≡◌, ◌+◌, ◌≤◌, Bool, true, false, ◌&&◌, List, [], ◌∷◌, ◌++◌, Option, Some, None}
-use Rattle.vs_header.specs.Op.{op_named}
-use Rattle.vs_history.specs.declared.packet.Packet.{Packet}
-use Rattle.vs_header.specs.declared.Op.{Op}
+use Rattle.vs_header.specs.{Op.op_named, declared.Op.Op}
 use Rattle.vs_header.specs.declared.Op.TheVariants.{Invalid, Request, Response, Rst}
-use Rattle.vs_history.specs.declared.TheConstants.{BUF_ALLOC, BUF_ALLOC_MAX}
-use Rattle.vs_history.specs.Packets.{is_request, is_response, is_rst, is_rw, shuts_receive, shuts_send, has, size, bytes, forwarded_by, told_alloc, allowance, IsFormed}
+use Rattle.vs_history.specs.Packets.{is_request, is_response, is_rst, is_rw, shuts_receive, shuts_send, has, size, bytes, forwarded_by}
+use Rattle.vs_history.specs.Packets.{told_alloc, allowance, IsFormed}
+use Rattle.vs_history.specs.declared.packet.Packet.{Packet}
+use Rattle.vs_limits.specs.declared.TheConstants.{BUF_ALLOC, BUF_ALLOC_MAX}
 
 -- An end put a packet, or got one.
 pub data Entry : Type 0 where

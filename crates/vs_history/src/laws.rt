@@ -2,7 +2,7 @@
 
 ghost use Rattle.std.specs.Prelude.{◌≡◌, ◌+◌, ◌<◌, ◌≤◌, true, false, List, [], ◌∷◌, ◌++◌};
 ghost use Rattle.vs_history.specs.declared.packet.Packet.{Packet};
-ghost use Rattle.vs_history.specs.declared.TheConstants.{BUF_ALLOC, BUF_ALLOC_MAX};
+ghost use Rattle.vs_limits.specs.declared.TheConstants.{BUF_ALLOC, BUF_ALLOC_MAX};
 ghost use Rattle.vs_history.specs.History.{Allows, Entry, Got, HasGot, History, IsFair, IsNext, IsOpening, Put, Side, gots, peer, puts};
 ghost use Rattle.vs_history.specs.Packets.{allowance, bytes, forwarded_by, is_request, is_rst, is_rw, has, shuts_send, size, told_alloc, told_forwarded};
 

@@ -10,9 +10,3 @@ pub mod laws;
 pub mod packet;
 
 pub use packet::Packet;
-
-/// Bytes of buffer space that an end advertises at first (`buf_alloc`).
-pub const BUF_ALLOC: u32 = 65_536;
-
-/// The most bytes of buffer space that an end may advertise.
-pub const BUF_ALLOC_MAX: u32 = 262_144;

@@ -2,36 +2,27 @@
 use Rattle.std.proofs.Common.{rules, ◌≡◌, ℕ, ◌==◌, Bool, true, false, ◌&&◌, not, if◌then◌else◌, List, [], ◌∷◌, ◌++◌, Option, Some, None}
 use Rattle.std.proofs.Common.{refl, sym, ap, ◌∙◌, subst, arith}
 use Rattle.std.proofs.lemmas.Grind.{common_steps}
-use Rattle.vs_conn.specs.End.{ConnectionEnd, is_refused, is_stream, paid_of, verdict_of}
-use Rattle.vs_conn.specs.Follows.{Follows}
+use Rattle.vs_conn.specs.{End.ConnectionEnd, End.is_refused, End.is_stream, End.paid_of, End.verdict_of, Follows.Follows}
 use Rattle.vs_conn.specs.declared.end.Owed.{Owed}
-use Rattle.vs_conn.specs.declared.end.Owed.TheVariants as owed
 use Rattle.vs_conn.proofs.Getting.{get_taken}
-use Rattle.vs_flow.specs.Flow.{same_flow}
-use Rattle.vs_flow.specs.declared.flow.Flow.{Flow}
+use Rattle.vs_flow.specs.{Flow.same_flow, declared.flow.Flow.Flow}
+use Rattle.vs_history.specs.{Packets.is_request, Packets.is_rst, declared.packet.Packet.Packet}
 use Rattle.vs_history.specs.History.{Got, History, IsFair, Put, Side, gots, puts}
-use Rattle.vs_history.specs.Packets.{is_request, is_rst}
-use Rattle.vs_history.specs.declared.packet.Packet.{Packet}
-use Rattle.vs_page.specs.Fair.{IsFairLog, IsFairOn}
 use Rattle.vs_page.specs.Log.{Driver, Device, IsNextPacket, Log, Role, flow_got, flow_put, history_of, side_of}
+use Rattle.vs_page.specs.Fair.{IsFairLog, IsFairOn}
 use Rattle.vs_page.specs.Open.{cid_of, is_dropped, is_left_open, opened_by, opened_by_got}
 use Rattle.vs_page.specs.declared.log.LogEntry.TheVariants.{GotPacket, PutPacket}
-use Rattle.vs_page.specs.declared.log.TheConstants.{HOST_CID}
-use Rattle.vs_page.proofs.Entries.{got_on, on_flow}
-use Rattle.vs_page.proofs.Flows.{same_is, same_self}
+use Rattle.vs_limits.specs.declared.TheConstants.{HOST_CID}
+use Rattle.vs_page.proofs.{Entries.got_on, Entries.on_flow, Flows.same_is, Flows.same_self}
+use Rattle.vs_matching.specs.{Ends.Ends, Ends.ends_of, Heard.IsInOrder, Heard.heard_of, Matches.MatchesFlows}
 use Rattle.vs_matching.specs.Both.{Asks, Both, Decides, Happening, IsSound, MakesReset, MayHappen, MayRun, Opens, Pays, PutsEvent, Replies}
-use Rattle.vs_matching.specs.Both.{Seat, Sends, Step, Takes, TakesEvent, TakesReset, after_packet, answered, decided, happens}
-use Rattle.vs_matching.specs.Both.{run, start}
-use Rattle.vs_matching.specs.Ends.{Ends, ends_of}
-use Rattle.vs_matching.specs.Heard.{IsInOrder, heard_of}
-use Rattle.vs_matching.specs.Matches.{MatchesFlows}
+use Rattle.vs_matching.specs.Both.{Seat, Sends, Step, Takes, TakesEvent, TakesReset, after_packet, answered, decided, happens, run, start}
 use Rattle.vs_matching.specs.Steps.{HasEnd, left, owed_on, paid, payload_on, reply_on, request_on, with_end}
-use Rattle.vs_matching.proofs.Both.{next_is_fair, run_keeps, start_sound, step_keeps}
-use Rattle.vs_matching.proofs.Entries.{added_other, replaced_other, without_other}
+use Rattle.vs_matching.proofs.{Entries.added_other, Entries.replaced_other, Entries.without_other, Frame.same_of, Steps.cid_heard}
 use Rattle.vs_matching.proofs.Fair.{empty_is, fair_put_asks, first_asks, got_in_order, got_one, heard_none, heard_puts, own_got_fair}
-use Rattle.vs_matching.proofs.Frame.{same_of}
-use Rattle.vs_matching.proofs.Steps.{cid_heard}
+use Rattle.vs_matching.proofs.Both.{next_is_fair, run_keeps, start_sound, step_keeps}
 use Rattle.vs_matching.proofs.Tables.{only_end}
+use Rattle.vs_conn.specs.declared.end.Owed.TheVariants as owed
 
 -- The device drops a packet exactly where the guest's CID isn't this.
 abbrev pub Speaks : ℕ → Packet → Type 0

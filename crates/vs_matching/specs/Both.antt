@@ -1,22 +1,18 @@
 -- The driver and the device, each with its connections and its log, over any order of their steps.
 use Rattle.std.specs.Prelude.{◌≡◌, ℕ, ◌≤◌, Bool, true, false, if◌then◌else◌, List, [], ◌∷◌, length, Option, Some, None}
-use Rattle.vs_conn.specs.End.{CanSend, ConnectionEnd, aborted, grown, owes_of, wanting_credit, with_payload_forwarded}
-use Rattle.vs_conn.specs.End.{with_payload_sent, with_shut}
-use Rattle.vs_conn.specs.Follows.{IsSpace}
-use Rattle.vs_conn.specs.declared.end.Owed.{Owed}
+use Rattle.vs_conn.specs.{Follows.IsSpace, declared.end.Owed.Owed}
+use Rattle.vs_conn.specs.End.{CanSend, ConnectionEnd, aborted, grown, owes_of, wanting_credit, with_payload_forwarded, with_payload_sent}
+use Rattle.vs_conn.specs.End.{with_shut}
 use Rattle.vs_credit.specs.Credit.{unread_of}
 use Rattle.vs_flow.specs.declared.flow.Flow.{Flow}
-use Rattle.vs_history.specs.Packets.{is_request, is_rst}
-use Rattle.vs_history.specs.declared.TheConstants.{BUF_ALLOC_MAX}
-use Rattle.vs_history.specs.declared.packet.Packet.{Packet}
-use Rattle.vs_page.specs.Fair.{IsFairLog}
+use Rattle.vs_history.specs.{Packets.is_request, Packets.is_rst, declared.packet.Packet.Packet}
+use Rattle.vs_limits.specs.declared.TheConstants.{BUF_ALLOC_MAX}
+use Rattle.vs_page.specs.{Fair.IsFairLog, Open.is_dropped}
 use Rattle.vs_page.specs.Log.{Driver, Device, HasGotAll, IsNextEvent, IsNextPacket, Log, Role, flow_got, other_role}
-use Rattle.vs_page.specs.Open.{is_dropped}
 use Rattle.vs_page.specs.declared.log.LogEntry.TheVariants.{GotEvent, GotPacket, Mark, PutEvent, PutPacket}
-use Rattle.vs_matching.specs.Ends.{Ends, ends_of, is_new}
-use Rattle.vs_matching.specs.Matches.{Matches}
-use Rattle.vs_matching.specs.Steps.{HasEnd, IsNextFlow, accepted, asking, emptied, opened, owed_on, paid, payload_on, refused}
-use Rattle.vs_matching.specs.Steps.{reply_on, request_on, reset, taken, with_end, with_replies}
+use Rattle.vs_matching.specs.{Ends.Ends, Ends.ends_of, Ends.is_new, Matches.Matches}
+use Rattle.vs_matching.specs.Steps.{HasEnd, IsNextFlow, accepted, asking, emptied, opened, owed_on, paid, payload_on, refused, reply_on}
+use Rattle.vs_matching.specs.Steps.{request_on, reset, taken, with_end, with_replies}
 
 -- What a connection decides, or forwards to its application.
 pub data Decision : Type 0 where

@@ -1,18 +1,14 @@
 -- A connection over a transport reset, and packets and logs that show why the definitions say no less.
 use Rattle.std.specs.Prelude.{ℕ, List, [], ◌∷◌, Some, None}
-use Rattle.vs_conn.specs.End.{ConnectionEnd, answering, asked, paid_of}
-use Rattle.vs_conn.specs.Follows.{owed_packet, payload_packet}
-use Rattle.vs_conn.specs.declared.end.Owed.TheVariants as owed
+use Rattle.vs_conn.specs.{End.ConnectionEnd, End.answering, End.asked, End.paid_of, Follows.owed_packet, Follows.payload_packet}
 use Rattle.vs_flow.specs.declared.flow.Flow.{Flow}
-use Rattle.vs_flow.specs.declared.flow.TheConstants.{ASSIGNED_FIRST}
-use Rattle.vs_history.specs.declared.TheConstants.{BUF_ALLOC}
+use Rattle.vs_limits.specs.declared.TheConstants.{ASSIGNED_FIRST, BUF_ALLOC}
 use Rattle.vs_history.specs.declared.packet.Packet.{Packet}
 use Rattle.vs_page.specs.Log.{Log, Driver, Device}
 use Rattle.vs_page.specs.declared.log.LogEntry.TheVariants.{GotPacket, PutPacket}
+use Rattle.vs_matching.specs.{Ends.Ends, Heard.route_of, Steps.accepted, Steps.owed_on, Steps.refused, Steps.reply_on, Steps.request_on}
 use Rattle.vs_matching.specs.Both.{Happening, MakesReset, Opens, Pays, PutsEvent, Replies, Takes, TakesEvent, TakesReset}
-use Rattle.vs_matching.specs.Ends.{Ends}
-use Rattle.vs_matching.specs.Heard.{route_of}
-use Rattle.vs_matching.specs.Steps.{accepted, owed_on, refused, reply_on, request_on}
+use Rattle.vs_conn.specs.declared.end.Owed.TheVariants as owed
 
 abbrev pub guest_cid : ℕ
 guest_cid = 3

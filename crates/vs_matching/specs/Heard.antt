@@ -1,15 +1,13 @@
 -- What an end heard on a flow, and the order in which packets come.
 use Rattle.std.specs.Prelude.{◌≡◌, ◌≤◌, ℕ, Bool, true, false, ◌&&◌, not, if◌then◌else◌, [], ◌∷◌}
 use Rattle.vs_conn.specs.declared.route.Route.{Route}
-use Rattle.vs_flow.specs.Flow.{same_flow}
-use Rattle.vs_flow.specs.declared.flow.Flow.{Flow}
+use Rattle.vs_flow.specs.{Flow.same_flow, declared.flow.Flow.Flow}
+use Rattle.vs_history.specs.{Packets.allowance, Packets.bytes, Packets.is_request, Packets.told_forwarded, declared.packet.Packet.Packet}
 use Rattle.vs_history.specs.History.{History, Put, Got, Side, Asker, Answerer, puts, gots}
-use Rattle.vs_history.specs.Packets.{allowance, bytes, is_request, told_forwarded}
-use Rattle.vs_history.specs.declared.packet.Packet.{Packet}
 use Rattle.vs_page.specs.Log.{Log, Role, Driver, Device, flow_put, flow_got, history_of, side_of}
 use Rattle.vs_page.specs.Open.{cid_of, is_dropped}
 use Rattle.vs_page.specs.declared.log.LogEntry.TheVariants.{PutPacket, GotPacket}
-use Rattle.vs_page.specs.declared.log.TheConstants.{HOST_CID}
+use Rattle.vs_limits.specs.declared.TheConstants.{HOST_CID}
 
 -- What passed on a flow, without the packets that were dropped.
 abbrev pub heard_of : Role → ℕ → Flow → Log → History

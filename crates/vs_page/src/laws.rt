@@ -8,7 +8,7 @@ ghost use Rattle.vs_header.specs.declared.Kind.TheVariants.{Stream};
 ghost use Rattle.vs_header.specs.declared.Op.TheVariants.{Rst, Rw};
 ghost use Rattle.vs_flow.specs.declared.flow.Flow.{Flow};
 ghost use Rattle.vs_history.specs.declared.packet.Packet.{Packet};
-ghost use Rattle.vs_history.specs.declared.TheConstants.{BUF_ALLOC, BUF_ALLOC_MAX};
+ghost use Rattle.vs_limits.specs.declared.TheConstants.{BUF_ALLOC, BUF_ALLOC_MAX};
 ghost use Rattle.vs_history.specs.History.{Allows, Entry, Got, History, IsOpening, Put, gots, puts};
 ghost use Rattle.vs_history.specs.Packets.{IsFormed, allowance, bytes, forwarded_by, has, is_rst, is_rw, packet_bytes, shuts_send, size};
 ghost use Rattle.vs_history.specs.Packets.{told_alloc, told_forwarded};

@@ -1,31 +1,28 @@
 -- What the host's streams took and gave, as a line is read and a connection opens.
+use Rattle.std.proofs.{lemmas.Bool.Decides.nat_tests, lemmas.List.Elements.Contains-push}
 use Rattle.std.proofs.Common.{◌≡◌, ◌≢◌, ℕ, zero, suc, ◌+◌, ◌-◌, ◌==◌, min, Bool, true, false, cond, List, [], ◌∷◌, ◌++◌, length, take}
 use Rattle.std.proofs.Common.{get_or, slice_get, Option, Some, None, is_some, refl, sym, ap, subst, ◌∙◌, arith}
-use Rattle.std.specs.{List.All, List.find, Option.option_map, Option.option_map_or}
-use Rattle.std.proofs.lemmas.Bool.Decides.{nat_tests}
-use Rattle.std.proofs.lemmas.List.Elements.{Contains-push}
 use Rattle.std.proofs.lemmas.Option.{get_or_from_slice_get, slice_get_within}
+use Rattle.std.specs.{List.All, List.find, Option.option_map, Option.option_map_or}
 use Rattle.vs_conn.specs.End.{answering, asked}
 use Rattle.vs_device_parts.specs.{Connections.new_connection, State.DeviceConnection}
-use Rattle.vs_flow.specs.{Flow.is_assigned, Table.Table, Table.with_entry}
-use Rattle.vs_flow.specs.declared.flow.Flow.{Flow}
+use Rattle.vs_flow.specs.{Flow.is_assigned, Table.Table, Table.with_entry, declared.flow.Flow.Flow}
 use Rattle.vs_flow.proofs.{Entries.found_passes, Lookups.find_place}
 use Rattle.vs_header.specs.declared.Header.{Header}
-use Rattle.vs_history.specs.declared.TheConstants.{BUF_ALLOC}
+use Rattle.vs_limits.specs.declared.TheConstants.{BUF_ALLOC}
 use Rattle.vs_outside.specs.Host.{HostContents, Stream, after_dial, after_label, after_read, called, dialed_stream, fails_now, has_label}
 use Rattle.vs_outside.specs.Host.{next_bytes, read_answer, read_of, stream_at, take_bytes, with_label_call}
 use Rattle.vs_outside.specs.HostBytes.{after_line}
-use Rattle.vs_outside.specs.declared.host_net.Dialed.TheVariants as dialed
-use Rattle.vs_outside.specs.declared.host_net.StreamRead.TheVariants as read
 use Rattle.vs_page.specs.Log.{Device, Log}
 use Rattle.vs_proxy_parts.specs.{Handshakes.with_line, Handshakes.without_stream, State.Handshake}
-use Rattle.vs_uds.specs.{OkLine.ok_text, Reading.is_decided}
-use Rattle.vs_uds.specs.declared.connect.TheConstants.{CONNECT_MAX}
-use Rattle.vs_pipes.specs.Drains.{got_on, has_passed, put_on}
+use Rattle.vs_uds.specs.{OkLine.ok_text, Reading.is_decided, declared.connect.TheConstants.CONNECT_MAX}
 use Rattle.vs_pipes.specs.Streamed.{AreLines, AreStreamed, IsStreamed, Seen, client_waits, has_line, line_for, look, reading, seen}
-use Rattle.vs_pipes.proofs.Hands.{with_all, with_apart, without_all, without_none, without_pairs}
+use Rattle.vs_pipes.specs.Drains.{got_on, has_passed, put_on}
 use Rattle.vs_pipes.proofs.{Hosts.changed_seen, Hosts.others_seen, Hosts.there, HostCalls.more_kept, HostCalls.some_seen}
 use Rattle.vs_pipes.proofs.{Logs.none_got, Logs.none_put, Streamed.opened_streamed, Streamed.unlabelled_streamed}
+use Rattle.vs_pipes.proofs.Hands.{with_all, with_apart, without_all, without_none, without_pairs}
+use Rattle.vs_outside.specs.declared.host_net.Dialed.TheVariants as dialed
+use Rattle.vs_outside.specs.declared.host_net.StreamRead.TheVariants as read
 
 -- A byte is read where there is one.
 pub one_byte : (id n : ℕ) (c : HostContents) → read_answer id 1 c ≡ read.Got n → (byte : ℕ) × (next_bytes id n c ≡ byte ∷ [])

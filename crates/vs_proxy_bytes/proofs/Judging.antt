@@ -1,42 +1,37 @@
 -- What one packet of the guest does, step by step.
 use Rattle.std.proofs.Common.{◌≡◌, ℕ, ◌-◌, ◌==◌, ◌&&◌, Bool, true, false, cond, List, [], ◌∷◌, ◌++◌, length, nat_le, nat_lt, Option, Some}
 use Rattle.std.proofs.Common.{None, refl, sym, ap, subst, ◌∙◌, arith}
-use Rattle.std.specs.Option.{option_map}
 use Rattle.std.proofs.lemmas.Bool.Decides.{nat_tests}
-use Rattle.vs_conn.specs.End.{after_op, is_reset, is_stream, owes_of, verdict_of}
-use Rattle.vs_conn.specs.declared.end.Owed.TheVariants as owed
-use Rattle.vs_conn.specs.declared.end.Verdict.{Verdict}
-use Rattle.vs_conn.specs.declared.end.Verdict.TheVariants as verdict
+use Rattle.std.specs.Option.{option_map}
+use Rattle.vs_conn.specs.{End.after_op, End.is_reset, End.is_stream, End.owes_of, End.verdict_of, declared.end.Verdict.Verdict}
 use Rattle.vs_conn.specs.declared.end.Why.{Why}
-use Rattle.vs_conn.specs.declared.end.Why.TheVariants as why
 use Rattle.vs_contents.specs.CallTree.{Done, Ask, bind}
 use Rattle.vs_flow.specs.{Flow.is_assigned, Table.entry_of, Table.has_place, Table.with_value}
-use Rattle.vs_header.specs.{Op.op_named, Op.op_number, Packet.header_of}
-use Rattle.vs_header.specs.declared.{Header.Header, TheConstants.HEADER_LEN}
+use Rattle.vs_header.specs.{Op.op_named, Op.op_number, Packet.header_of, declared.Header.Header, declared.TheConstants.HEADER_LEN}
 use Rattle.vs_header.specs.declared.Op.TheVariants.{Request}
 use Rattle.vs_outside.specs.declared.host_net.Dialed.{Dialed}
-use Rattle.vs_outside.specs.declared.host_net.Dialed.TheVariants as dialed
 use Rattle.vs_page.specs.{Log.Device, Log.flow_to_host, Open.is_dropped}
 use Rattle.vs_replies.specs.Owed.{reply_to}
-use Rattle.vs_ring_port.specs.Contents.{Read, Return, Take}
-use Rattle.vs_ring_port.specs.declared.device_ring.{Chain.Chain, Next.Next}
-use Rattle.vs_ring_port.specs.declared.device_ring.Next.TheVariants as next
-use Rattle.vs_ring_port.specs.declared.failure.Failure.{Failure}
-use Rattle.vs_ring_port.specs.declared.failure.Failure.TheVariants as failure
-use Rattle.vs_ring_port.specs.declared.queue.Queue.TheVariants.{Tx}
+use Rattle.vs_ring_port.specs.{Contents.Read, Contents.Return, Contents.Take, declared.device_ring.Chain.Chain}
+use Rattle.vs_ring_port.specs.{declared.device_ring.Next.Next, declared.failure.Failure.Failure, declared.queue.Queue.TheVariants.Tx}
 use Rattle.vs_uds.specs.Path.{path_of}
 use Rattle.vs_wrap.specs.Wrap.{counted}
-use Rattle.vs_device_parts.specs.Calls.{CloseStream, Dial, DeviceTree, Ring}
+use Rattle.vs_device_parts.specs.{Calls.CloseStream, Calls.Dial, Calls.DeviceTree, Calls.Ring, State.DeviceEntry, State.DeviceState}
+use Rattle.vs_device_parts.specs.{Streams.closing, Streams.leaving, declared.answers.Taken.Taken}
 use Rattle.vs_device_parts.specs.Connections.{after_leaving, stream_closed, with_connection, with_reply}
-use Rattle.vs_device_parts.specs.{State.DeviceEntry, State.DeviceState, Streams.closing, Streams.leaving}
 use Rattle.vs_device_parts.specs.Transmitting.{dial_answered, failing, heard, on_header, on_known, on_next, on_packet, on_unknown, refused}
 use Rattle.vs_device_parts.specs.Transmitting.{take_tx_of, try_request, unknown_why}
-use Rattle.vs_device_parts.specs.declared.answers.Taken.{Taken}
-use Rattle.vs_device_parts.specs.declared.answers.Taken.TheVariants as taken
-use Rattle.vs_device_parts.specs.declared.limits.TheConstants.{REPLIES}
+use Rattle.vs_limits.specs.declared.TheConstants.{DEVICE_REPLIES}
 use Rattle.vs_proxy_bytes.specs.Judged.{AreUnmoved, IsAnswered, IsJudged, OwesReset, delivered_in}
 use Rattle.vs_proxy_bytes.specs.Made.{Account, Made, MayGet, account_of, header_in, new_account, shut}
 use Rattle.vs_proxy_bytes.proofs.Keeping.{Keeps, keeps_then, made}
+use Rattle.vs_conn.specs.declared.end.Owed.TheVariants as owed
+use Rattle.vs_conn.specs.declared.end.Verdict.TheVariants as verdict
+use Rattle.vs_conn.specs.declared.end.Why.TheVariants as why
+use Rattle.vs_outside.specs.declared.host_net.Dialed.TheVariants as dialed
+use Rattle.vs_ring_port.specs.declared.device_ring.Next.TheVariants as next
+use Rattle.vs_ring_port.specs.declared.failure.Failure.TheVariants as failure
+use Rattle.vs_device_parts.specs.declared.answers.Taken.TheVariants as taken
 
 -- An end that refuses a packet owes RST.
 refusing : (e : DeviceEntry) (h : Header) (w : Why) → verdict_of e.value.end h ≡ verdict.Rst w → owes_of (heard h e.value).end
@@ -277,7 +272,7 @@ next_judged next.None s calls = (refl, λ id. refl)
 next_judged (next.Failed f) s calls = (refl, refl, λ id. refl)
 
 pub take_tx_judged : (s : DeviceState) (calls : List Made) → Keeps (Judges s calls) (take_tx_of s) calls
-take_tx_judged s calls = by s.failed refl (nat_le REPLIES (length s.replies))
+take_tx_judged s calls = by s.failed refl (nat_le DEVICE_REPLIES (length s.replies))
   where
     takes : DeviceTree (DeviceState × Taken)
     takes = Ask (Ring (Take Tx)) (λ answer. on_next answer s)
@@ -286,7 +281,7 @@ take_tx_judged s calls = by s.failed refl (nat_le REPLIES (length s.replies))
         → Keeps (Judges s calls) (elim o [
           | Some f ↦ Done (s, taken.Failed f)
           | None ↦ cond b
-              (Done (s, taken.RepliesFull REPLIES)) takes
+              (Done (s, taken.RepliesFull DEVICE_REPLIES)) takes
         ]) calls
     by (Some f) is b = (is, refl, λ id. refl)
     by None is true = (refl, refl)

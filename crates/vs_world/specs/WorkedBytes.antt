@@ -1,5 +1,6 @@
 -- What the worked scripts leave: the bytes of their connections, at both ends.
 use Rattle.std.specs.Prelude.{ℕ, List, [], ◌∷◌}
+use Rattle.vs_limits.specs.declared.TheConstants.{ASSIGNED_FIRST}
 use Rattle.vs_flow.specs.{Connection.first_of, declared.flow.Flow.Flow}
 use Rattle.vs_outside.specs.HostBytes.{host_read, host_wrote}
 use Rattle.vs_page.specs.{Fair.payload_got, Fair.payload_put, Log.Device}
@@ -40,7 +41,7 @@ hello_bytes = record {
 }
 
 abbrev pub client_flow : Flow
-client_flow = record { guest = 70; host = 1073741824 }
+client_flow = record { guest = 70; host = ASSIGNED_FIRST }
 
 abbrev pub client_bytes : Carried
 client_bytes = record {
