@@ -30,8 +30,8 @@ for_log : (role : Role) (log : EndLog) → IsFairLog role log.entries → ForSom
 for_log role log fair l e = let same : log ≡ l = cc in subst (λ (k : EndLog). IsFairLog role k.entries) same fair
 
 -- where nothing is known, a call of the driver is allowed
-quiet : (call : DriverCall) (answer : DriverAnswer call) (P : Rings → Type 0) (f : Rings → Rings) (Q : EndLog → Type 0) (g : EndLog → EndLog)
-    → DriverMoves call answer P f Q g (driver_told None) (driver_told None)
+quiet : (call : DriverCall) (answer : DriverAnswer call) (P : Rings → Type 0) (f : Rings → Rings) (Q : EndLog → Type 0)
+    (g : EndLog → EndLog) → DriverMoves call answer P f Q g (driver_told None) (driver_told None)
 quiet call answer P f Q g = record {
   lists = refl;
   log = refl;
