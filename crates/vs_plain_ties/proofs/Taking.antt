@@ -86,7 +86,8 @@ readable Rx place at page = omega arith
 readable Tx place at page = omega arith
 readable Event place at page = omega arith
 
-taken_whole : (q : Queue) (place : ℕ) (page : List ℕ) → (q ≡ Tx → HoldsPacket page) → IsTakenWhole q (next_at q place (Some page)) (Some page)
+taken_whole : (q : Queue) (place : ℕ) (page : List ℕ) → (q ≡ Tx → HoldsPacket page)
+    → IsTakenWhole q (next_at q place (Some page)) (Some page)
 taken_whole Rx place page holds = tt
 taken_whole Tx place page holds = holds refl
 taken_whole Event place page holds = tt

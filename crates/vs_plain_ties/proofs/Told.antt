@@ -5,9 +5,9 @@ use Rattle.std.proofs.lemmas.Bool.{false≢true}
 use Rattle.vs_page.specs.{Fair.IsFairLog, Log.Device, Log.Driver, Log.Role}
 use Rattle.vs_ring_port.specs.Chains.{bytes_in, held_of}
 use Rattle.vs_ring_port.specs.Contents.{DeviceAnswer, DeviceCall, Given, PublishCid, Read, Return, Take, Write}
-use Rattle.vs_ring_port.specs.DeviceCalls.{CanReturn, DeviceAllows, DeviceMoves, IsTakenAs, IsTakenWhole, IsWholePacket, LeavesNoGap}
-use Rattle.vs_ring_port.specs.DriverCalls.{CanPublish, CanStage, DriverAllows, DriverAnswer, DriverCall, DriverMoves, HoldsPacket, LoadCid}
-use Rattle.vs_ring_port.specs.DriverCalls.{Publish, Reap, Stage}
+use Rattle.vs_ring_port.specs.DeviceCalls.{CanReturn, DeviceAllows, DeviceMoves, IsTakenAs, IsWholePacket, LeavesNoGap}
+use Rattle.vs_ring_port.specs.DriverCalls.{CanPublish, CanStage, DriverAllows, DriverAnswer, DriverCall, DriverMoves, LoadCid, Publish}
+use Rattle.vs_ring_port.specs.DriverCalls.{Reap, Stage}
 use Rattle.vs_ring_port.specs.EndLog.{EndLog, entries_published, entries_returned, pages_at}
 use Rattle.vs_ring_port.specs.Lists.{Rings, next_at, next_back, next_given, queue_of}
 use Rattle.vs_ring_port.specs.declared.device_ring.{Chain.Chain, Next.Next}
@@ -30,8 +30,8 @@ for_log : (role : Role) (log : EndLog) → IsFairLog role log.entries → ForSom
 for_log role log fair l e = let same : log ≡ l = cc in subst (λ (k : EndLog). IsFairLog role k.entries) same fair
 
 -- where nothing is known, a call of the driver is allowed
-quiet : (call : DriverCall) (answer : DriverAnswer call) (P : Rings → Type 0) (f : Rings → Rings) (Q : EndLog → Type 0) (g : EndLog → EndLog)
-    → DriverMoves call answer P f Q g (driver_told None) (driver_told None)
+quiet : (call : DriverCall) (answer : DriverAnswer call) (P : Rings → Type 0) (f : Rings → Rings) (Q : EndLog → Type 0)
+    (g : EndLog → EndLog) → DriverMoves call answer P f Q g (driver_told None) (driver_told None)
 quiet call answer P f Q g = record {
   lists = refl;
   log = refl;
