@@ -73,6 +73,11 @@ module _ {X : Type 0} where
   pub All_at : (P : X → Type 0) (xs : List X) (i : ℕ) (x : X) → All P xs → slice_get xs i ≡ Some x → P x
   All_at P xs i x h e = subst P (get_or_from_slice_get xs i x x e) (h i x (slice_get_within xs i x e))
 
+-- slots at most one come first
+pub parted_by : (keys : List (ℕ × ℕ)) (slot : ℕ) → AllPairs (λ j k. j.0 < k.0) keys → IsPartitionedBy (λ k. nat_le k.0 slot) keys
+parted_by keys slot rising i j d le lt passes =
+    grind (arith, nat_tests, rising i j d, λ (same : i ≡ j). ap (λ n. (get_or keys n d).0) same)
+
 module _ {T : Type 0} where
   -- a look-up among the slots is a search by flow
   pub lookup-slots_by_flow : (test : Flow → Bool) (es : List (Entry T))
@@ -84,26 +89,6 @@ module _ {T : Type 0} where
   pub slots_by_flow-revalued : (slot : ℕ) (w : T) (es : List (Entry T)) → slots_by_flow (map (revalued slot w) es) ≡ slots_by_flow es
   slots_by_flow-revalued slot w [] = refl
   slots_by_flow-revalued slot w (e ∷ es) = grind (arith, slots_by_flow-revalued slot w es)
-
-  -- a step of the loop that fills the map of slots
-  pub record IsNextSlot (es : List (Entry T)) (i : ℕ) (e : Entry T) : Type 0 where
-    pub absent : lookup (same_flow e.flow) (slots_by_flow (take i es)) ≡ None
-    pub more : slots_by_flow (take (i + 1) es) ≡ slots_by_flow (take i es) ++ (e.flow, e.slot) ∷ []
-
-  pub next_slot : (es : List (Entry T)) (i : ℕ) (e : Entry T) → AllPairs (λ d e. d.flow ≢ e.flow) es → i < length es → e ≡ get_or es i e
-      → IsNextSlot es i e
-  next_slot es i e distinct within read =
-      let none : find (λ (d : Entry T). same_flow e.flow d.flow) (take i es) ≡ None =
-      find_none (λ (d : Entry T). same_flow e.flow d.flow) (take i es) (λ k d lt.
-      let before : k < i = omega (arith, length-take i es) in
-      let there : get_or (take i es) k d ≡ get_or es k e = get_or-take i es k d before ∙ get_or_default es k d e (omega arith) in
-      let here : e.flow ≡ (get_or es i e).flow = ap (λ (x : Entry T). x.flow) read in
-      rw there (same_flow_false _ _ (λ same. distinct k i e before within (sym same ∙ here)))) in
-      record {
-        absent = lookup-slots_by_flow (same_flow e.flow) (take i es) ∙ ap (option_map (λ (d : Entry T). d.slot)) none;
-        more = subst (λ (d : Entry T). slots_by_flow (take (i + 1) es) ≡ slots_by_flow (take i es) ++ (d.flow, d.slot) ∷ [])
-            (sym read) (map_more (λ (d : Entry T). (d.flow, d.slot)) es i e within);
-      }
 
   pub rising_tail : (e : Entry T) (es : List (Entry T)) → IsRising (e ∷ es) → IsRising es
   rising_tail e es h i j d lt within = h (suc i) (suc j) d (omega arith) (omega arith)
@@ -133,37 +118,6 @@ module _ {T : Type 0} where
       let above : e.slot < x.slot = All_at (λ y. e.slot < y.slot) es i x (above_head e es rising) at in
       grind (arith, nat_tests, above, remove_at es i x (rising_tail e es rising) at)
 
-  -- writing a value at a place changes the value under its slot
-  pub set_at : (es : List (Entry T)) (i : ℕ) (x : Entry T) (w : T) → IsRising es → slice_get es i ≡ Some x
-      → set es i (record x { value = w }) ≡ map (revalued x.slot w) es
-  set_at [] i x w rising at = absurd (cc)
-  set_at (e ∷ es) zero x w rising at =
-      let rest : map (revalued x.slot w) es ≡ es =
-      map_fixed (revalued x.slot w) es (λ k d lt. let above = above_head e es rising k d lt in grind (arith, nat_tests, above)) in
-      grind (arith, nat_tests, rest)
-  set_at (e ∷ es) (suc i) x w rising at =
-      let above : e.slot < x.slot = All_at (λ y. e.slot < y.slot) es i x (above_head e es rising) at in
-      grind (arith, nat_tests, above, set_at es i x w (rising_tail e es rising) at)
-
-  -- a binary search by slot ends at the entry under the slot, or where there is none
-  pub searched : (es : List (Entry T)) (slot : ℕ) (r : Result ℕ ℕ) → IsRising es → IsSearchInRange r (length es)
-      → IsBinarySearchResult (λ e. nat_cmp e.slot slot) es r → option_and_then (slice_get es) (result_ok r) ≡ find (λ e. e.slot == slot) es
-  searched es slot (Ok i) rising within equal =
-      elim (slice_get_cases es i).1 [
-        | inl w ↦
-            let here : w.0.slot ≡ slot = ap (λ (e : Entry T). e.slot) (sym w.3) ∙ ranked _ slot _ (sym (equal w.0)) in
-            w.2 ∙ subst (λ n. Some w.0 ≡ find (λ (e : Entry T). e.slot == n) es) here (sym (found_at es i w.0 rising w.2))
-        | inr w ↦ absurd (omega (arith, within))
-      ]
-  searched es slot (Err i) rising within parted =
-      let rise : IsNonDecreasingBy (λ (e : Entry T). ordering_index (nat_cmp e.slot slot)) es =
-      λ j k d le lt. grind (arith, nat_tests, rising j k d, λ (same : j ≡ k). ap (λ n. (get_or es n d).slot) same) in
-      let halves = parted rise in
-      sym (find_none (λ e. e.slot == slot) es (λ k d lt.
-      let before : k < i → (get_or es k d).slot < slot = λ below. ranked _ slot _ (sym (halves.0 k d (omega arith) below)) in
-      let behind : i ≤ k → slot < (get_or es k d).slot = λ above. ranked _ slot _ (sym (halves.1 k d above lt)) in
-      grind (arith, nat_tests, before, behind)))
-
   -- where no entry has the slot, leaving it out leaves all
   pub all_others : (es : List (Entry T)) (slot : ℕ) → find (λ e. e.slot == slot) es ≡ None → filter (λ e. not (e.slot == slot)) es ≡ es
   all_others es slot none =
@@ -182,11 +136,6 @@ module _ {T : Type 0} where
       (λ k d low lt. above (suc k) d (omega arith) (omega arith)) in
       grind (arith, nat_tests, here, rest)
 
-  -- the entries at most a slot come first
-  pub parted_by : (es : List (Entry T)) (slot : ℕ) → IsRising es → IsPartitionedBy (λ e. nat_le e.slot slot) es
-  parted_by es slot rising i j d le lt passes =
-      grind (arith, nat_tests, rising i j d, λ (same : i ≡ j). ap (λ n. (get_or es n d).slot) same)
-
   -- the slot of that entry, or of the first entry where there is none
   pub next_found : (es : List (Entry T)) (slot i : ℕ) (o : Option (Entry T)) → option_or (slice_get es i) (slice_get es 0) ≡ o
       → AllWithin (λ e. nat_le e.slot slot ≡ true) es 0 i → AllWithin (λ e. nat_le e.slot slot ≡ false) es i (length es)
@@ -195,23 +144,3 @@ module _ {T : Type 0} where
       let f : Entry T → ℕ = λ e. e.slot in
       sym (ap (option_map f) found) ∙ option_map-option_or f (slice_get es i) (slice_get es 0)
       ∙ (λ j. option_or (first_above es slot i below above j) (sym (slice_get-map f es 0) j))
-
-  -- the entry that a search by slot ended at: it is the one under the slot, and an edit at its place is one by its slot
-  pub record IsPlaceOf (es : List (Entry T)) (slot i : ℕ) (x : Entry T) : Type 0 where
-    pub at : slice_get es i ≡ Some x
-    pub found : Some x ≡ find (λ e. e.slot == slot) es
-    pub removed : remove es i ≡ filter (λ e. not (e.slot == slot)) es
-    pub written : (w : T) → set es i (record x { value = w }) ≡ map (revalued slot w) es
-
-  pub place_found : (es : List (Entry T)) (slot i : ℕ) (x : Entry T) → IsRising es → slice_get es i ≡ find (λ e. e.slot == slot) es
-      → i < length es → x ≡ get_or es i x → IsPlaceOf es slot i x
-  place_found es slot i x rising search_end within read =
-      let at : slice_get es i ≡ Some x = slice_get_read es (length es) i x refl within read in
-      let passes = found_passes (λ (e : Entry T). e.slot == slot) es x (sym search_end ∙ at) in
-      let same : x.slot ≡ slot = grind (arith, nat_tests, passes) in
-      subst (λ n. IsPlaceOf es n i x) same (record {
-        at = at;
-        found = sym (found_at es i x rising at);
-        removed = remove_at es i x rising at;
-        written = λ w. set_at es i x w rising at;
-      })

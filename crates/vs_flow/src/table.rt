@@ -1,15 +1,18 @@
 //! The table of an end's connections: by flow, by slot, and in the order in which they were opened.
-ghost use Rattle.std.specs.Prelude.{◌≡◌, ◌≢◌, ◌+◌, ◌<◌, ◌≤◌, ◌==◌, AllPairs, [], length, find, Some, None, IfOk, IfErr, OnOk, OnErr, IfSome, filter, not, slice_get, option_copied, vec_capacity};
-ghost use Rattle.std.specs.Option.{option_map, option_and_then, option_copied_mut};
+ghost use Rattle.std.specs.Prelude.{◌≡◌, ◌≢◌, ◌+◌, ◌<◌, ◌≤◌, ◌==◌, AllPairs, [], length, Some, None, IfOk, IfErr, OnOk, OnErr, filter, not, slice_get, option_copied};
+ghost use Rattle.std.specs.Option.{option_map, option_copied_mut};
 ghost use Rattle.std.specs.Borrow.{sem};
-ghost use Rattle.indexmap.specs.IndexMap.{index_map_len, spare};
-ghost use Rattle.vs_flow.specs.Entries.{slots_by_flow};
+ghost use Rattle.indexmap.specs.IndexMap.{index_map_len, spare, IsEmpty};
+ghost use Rattle.slab.specs.Slab.{get};
+ghost use Rattle.vs_flow.specs.Entries.{entries_of, slots_by_flow, AreLedTo};
 ghost use Rattle.vs_flow.specs.Table.{IsTable, IsRising, entry_under, entry_of, value_under, slot_after, has_place, refusal, with_entry, without, emptied};
 
 use crate::flow::Flow;
 use indexmap::IndexMap;
+use slab::Slab;
 use std::alloc::{AllocError, Global};
 use std::marker::Model;
+use std::mem;
 
 /// The number of an entry. A table counts its slots up from 0 and gives none twice, so rising slot is order of opening.
 pub type Slot = u64;
@@ -38,13 +41,17 @@ pub enum TableFault {
 ///
 /// Virtio 1.2, section 5.10.6.2, names a flow by the CIDs and ports of both ends. Between one guest and its host the ports suffice.
 ///
-/// `new` makes the room for all entries, and no other call takes memory. A flow is found by its hash and a slot by a binary search;
-/// `remove` takes time in proportion to the entries.
+/// `new` makes the room for all entries, and no other call takes memory. A flow and a slot are found by their hash; `remove` takes time in
+/// proportion to the entries, of which it moves none.
 #[derive(Drop)]
 pub struct FlowTable<T> {
     n: usize,
-    // By rising slot.
-    entries: Vec<Entry<T>>,
+    // By keys that the slab picks.
+    entries: Slab<Entry<T>>,
+    // The key of each slot's entry, by rising slot.
+    keys: IndexMap<Slot, usize>,
+    // Empty, with room for as many keys: a removal fills it with those that stay, and exchanges the two.
+    other_keys: IndexMap<Slot, usize>,
     // The slot of each flow.
     slots: IndexMap<Flow, Slot>,
     // `None` once the last slot was given.
@@ -71,10 +78,14 @@ impl<T> FlowTable<T> {
         ensures empty { IfOk result (λ t. t ≡ record { room = n; entries = []; given = 0 }) }
         ensures sound { IfOk result IsTable }
     {
+        let keys = IndexMap::with_capacity(alloc, n)?;
+        let other_keys = IndexMap::with_capacity(alloc, n)?;
         let slots = IndexMap::with_capacity(alloc, n)?;
         Ok(FlowTable {
             n,
-            entries: Vec::with_capacity(alloc, n)?,
+            entries: Slab::with_capacity(alloc, n)?,
+            keys,
+            other_keys,
             slots,
             next: Some(0),
         })
@@ -85,7 +96,7 @@ impl<T> FlowTable<T> {
         ensures len { result ≡ length self.now.entries }
         ensures sound { IsTable self.now }
     {
-        self.entries.len()
+        self.keys.len()
     }
 
     /// Tells whether a place is free and a slot is left, so that a flow that isn't there can be inserted.
@@ -94,17 +105,9 @@ impl<T> FlowTable<T> {
         ensures sound { IsTable self.now }
     {
         match self.next {
-            Some(_slot) => self.entries.len() < self.n,
+            Some(_slot) => self.keys.len() < self.n,
             None => false,
         }
-    }
-
-    /// Returns the entries, by rising slot.
-    pub fn entries(&self) -> &[Entry<T>]
-        ensures entries { result.now ≡ self.now.entries }
-        ensures sound { IsTable self.now }
-    {
-        &self.entries
     }
 
     /// Adds an entry for a flow, under the next slot, and returns that slot.
@@ -125,9 +128,10 @@ impl<T> FlowTable<T> {
         }
         let full = TableFault::Full { n: self.n };
         match self.next {
-            Some(slot) if self.entries.len() < self.n => {
+            Some(slot) if self.keys.len() < self.n => {
+                let key = self.entries.insert_reserved(Entry { slot, flow, value });
+                self.keys.insert(slot, key).unwrap();
                 self.slots.insert(flow, slot).unwrap();
-                self.entries.push_reserved(Entry { slot, flow, value });
                 self.next = slot.checked_add(1);
                 Ok(slot)
             }
@@ -140,8 +144,8 @@ impl<T> FlowTable<T> {
         ensures value { option_copied result ≡ value_under self.now slot }
         ensures sound { IsTable self.now }
     {
-        let place = place_of(&self.entries, slot)?;
-        Some(&self.entries[place].value)
+        let entry = self.under(slot)?;
+        Some(&entry.value)
     }
 
     /// Returns the value under a slot to write to, or `None` where the slot isn't held. Nothing else of the table can change.
@@ -150,8 +154,8 @@ impl<T> FlowTable<T> {
         ensures value { option_copied_mut result ≡ value_under self.old slot }
         ensures sound { IsTable self.old }
     {
-        let place = place_of(&self.entries, slot)?;
-        Some(&mut self.entries[place].value)
+        let key = *self.keys.get(&slot)?;
+        Some(&mut self.entries[key].value)
     }
 
     /// Returns the slot of a flow, or `None` where the flow isn't there.
@@ -167,8 +171,8 @@ impl<T> FlowTable<T> {
         ensures flow { result ≡ option_map (λ e. e.flow) (entry_under self.now slot) }
         ensures sound { IsTable self.now }
     {
-        let place = place_of(&self.entries, slot)?;
-        Some(self.entries[place].flow)
+        let entry = self.under(slot)?;
+        Some(entry.flow)
     }
 
     /// Returns the entry at a place, counted from 0 by rising slot, or `None` where there are no more.
@@ -176,7 +180,17 @@ impl<T> FlowTable<T> {
         ensures entry { option_copied result ≡ slice_get self.now.entries place }
         ensures sound { IsTable self.now }
     {
-        self.entries.get(place)
+        let (_slot, key) = self.keys.get_index(place)?;
+        self.entries.get(*key)
+    }
+
+    // The entry under a slot.
+    fn under(&self, slot: Slot) -> Option<&Entry<T>>
+        ensures entry { option_copied result ≡ entry_under self.now slot }
+        ensures sound { IsTable self.now }
+    {
+        let key = self.keys.get(&slot)?;
+        self.entries.get(*key)
     }
 
     /// Takes the entry under a slot out and returns its value, or `None` where the slot isn't held. The other entries keep their
@@ -186,9 +200,12 @@ impl<T> FlowTable<T> {
         ensures removed { self.new ≡ without self.old slot }
         ensures sound { IsTable self.new }
     {
-        let place = place_of(&self.entries, slot)?;
-        let entry = self.entries.remove(place);
-        refill(&mut self.slots, &self.entries);
+        let key = *self.keys.get(&slot)?;
+        let entry = self.entries.remove(key);
+        keep_others(&self.keys, slot, &mut self.other_keys);
+        self.keys.clear();
+        mem::swap(&mut self.keys, &mut self.other_keys);
+        refill(&mut self.slots, &self.keys, &self.entries);
         Some(entry.value)
     }
 
@@ -197,7 +214,7 @@ impl<T> FlowTable<T> {
         ensures next { result ≡ slot_after self.now slot }
         ensures sound { IsTable self.now }
     {
-        let place = self.entries.partition_point(|e| e.slot <= slot);
+        let place = self.keys.partition_point(|held, _key| *held <= slot);
         let next = self.at(place).or(self.at(0))?;
         Some(next.slot)
     }
@@ -210,28 +227,41 @@ impl<T> FlowTable<T> {
         ensures sound { IsTable self.new }
     {
         self.entries.clear();
+        self.keys.clear();
         self.slots.clear();
     }
 }
 
-// The place of the entry under a slot, by rising slot.
-fn place_of<T>(entries: &[Entry<T>], slot: Slot) -> Option<usize>
-    requires { IsRising entries.now }
-    ensures found { IfSome result (λ i. i < length entries.now) }
-    ensures entry { option_and_then (slice_get entries.now) result ≡ find (λ e. e.slot == slot) entries.now }
+// Fills an empty map with the keys of all slots but one, in their order. A map that forgets a single slot may have lost that slot's room,
+// and `clear` gives all room back.
+fn keep_others(keys: &IndexMap<Slot, usize>, slot: Slot, others: &mut IndexMap<Slot, usize>)
+    requires rising { AllPairs (λ j k. j.0 < k.0) keys.now.entries }
+    requires empty { IsEmpty others.old }
+    requires room { index_map_len keys.now ≤ spare others.old }
+    ensures kept { others.new.entries ≡ filter (λ k. not (k.0 == slot)) keys.now.entries }
+    ensures room { spare others.old ≤ index_map_len others.new + spare others.new }
 {
-    entries.binary_search_by_key(&slot, |e| e.slot).ok()
+    for (held, key) in keys {
+        if *held != slot {
+            others.insert(*held, *key).unwrap();
+        }
+    }
 }
 
-// Fills the map of slots anew. A map that forgets a single flow may have lost that flow's room, and `clear` gives all room back.
-fn refill<T>(slots: &mut IndexMap<Flow, Slot>, entries: &[Entry<T>])
-    requires distinct { AllPairs (λ d e. d.flow ≢ e.flow) entries.now }
-    requires room { length entries.now ≤ index_map_len slots.old + spare slots.old }
-    ensures filled { slots.new.entries ≡ slots_by_flow entries.now }
+// Fills the map of slots anew.
+fn refill<T>(
+    slots: &mut IndexMap<Flow, Slot>,
+    keys: &IndexMap<Slot, usize>,
+    entries: &Slab<Entry<T>>,
+)
+    requires led { AreLedTo (get entries.now) keys.now.entries (entries_of (get entries.now) keys.now.entries) }
+    requires distinct { AllPairs (λ d e. d.flow ≢ e.flow) (entries_of (get entries.now) keys.now.entries) }
+    requires room { index_map_len keys.now ≤ index_map_len slots.old + spare slots.old }
+    ensures filled { slots.new.entries ≡ slots_by_flow (entries_of (get entries.now) keys.now.entries) }
     ensures room { index_map_len slots.old + spare slots.old ≤ index_map_len slots.new + spare slots.new }
 {
     slots.clear();
-    for entry in entries {
-        slots.insert(entry.flow, entry.slot).unwrap();
+    for (slot, key) in keys {
+        slots.insert(entries[*key].flow, *slot).unwrap();
     }
 }

@@ -61,5 +61,8 @@ pub const TIMEOUT: u64 = 2_000;
 /// The most bytes of one write to a host's stream.
 pub const WRITE_MAX: usize = 4_096;
 
+/// Pairs of ports of connections that are over cleanly, which an end keeps to use again.
+pub const CLEAN_PAIRS: usize = 64;
+
 /// Handshakes of the host's clients at once.
 pub const HANDSHAKES: usize = 16;
