@@ -1,14 +1,12 @@
 //! Flows whose ports may be used again, since both ends closed the connection cleanly.
 ghost use Rattle.std.specs.Prelude.{◌≡◌, ◌≤◌, ◌==◌, [], IfOk, position};
-ghost use Rattle.vs_flow.specs.declared.clean_pairs.TheConstants.{CLEAN_PAIRS};
+ghost use Rattle.vs_limits.specs.declared.TheConstants.{CLEAN_PAIRS};
 ghost use Rattle.vs_flow.specs.CleanPairs.{kept, oldest, without_oldest, goes_to};
 
 use crate::flow::Flow;
 use std::alloc::{AllocError, Global};
 use std::marker::Model;
-
-/// How many flows are kept at most.
-pub const CLEAN_PAIRS: usize = 64;
+use vs_limits::CLEAN_PAIRS;
 
 /// The flows whose connections were closed cleanly, the oldest first: no packet of them is on its way, so a connection may use such a pair
 /// of ports again. At most `CLEAN_PAIRS` are kept.
