@@ -38,10 +38,6 @@ remarked m (n ∷ ms) some =
       long = omega (arith, length-append (take (length ms) (n ∷ ms)) (m ∷ []), length-take (length ms) (n ∷ ms));
     }
 
-pub nothing_marked : (m : Mark) (ms : List Mark) → length ms ≤ 0 → with_last m ms ≡ ms
-nothing_marked m [] none = refl
-nothing_marked m (n ∷ ms) none = absurd (omega (arith, none))
-
 pub as_many : (n : ℕ) (last : Mark) → length (marks_of n last) ≡ n
 as_many zero last = refl
 as_many (suc zero) last = refl

@@ -1,7 +1,6 @@
 -- How `CleanPairs` holds its flows. No public clause cites this module.
 use Rattle.std.specs.Prelude.{◌≤◌, length, vec_capacity}
-use Rattle.vs_flow.specs.declared.clean_pairs.CleanPairs.TheInside.{Inside}
-use Rattle.vs_flow.specs.declared.clean_pairs.TheConstants.{CLEAN_PAIRS}
+use Rattle.vs_flow.specs.{declared.clean_pairs.CleanPairs.TheInside.Inside, declared.clean_pairs.TheConstants.CLEAN_PAIRS}
 
 -- no more flows than may be kept, and room for as many
 pub record HasRoom (c : Inside) : Type 0 where

@@ -1,7 +1,6 @@
 -- The host ports that the device assigns itself.
 use Rattle.std.specs.Prelude.{ℕ, Bool, nat_le, ◌&&◌, ◌==◌}
-use Rattle.vs_flow.specs.declared.flow.Flow.{Flow}
-use Rattle.vs_flow.specs.declared.flow.TheConstants.{ASSIGNED_FIRST, ASSIGNED_LAST}
+use Rattle.vs_flow.specs.{declared.flow.Flow.Flow, declared.flow.TheConstants.ASSIGNED_FIRST, declared.flow.TheConstants.ASSIGNED_LAST}
 
 -- whether a host port is one of those that the device assigns
 abbrev pub is_assigned : ℕ → Bool
