@@ -1,21 +1,11 @@
 -- Lists of entries whose slots rise: where a slot stands, and what an edit at its place leaves.
-use Rattle.std.proofs.Common.{◌≡◌, ◌≢◌, ℕ, zero, suc, ◌+◌, ◌<◌, ◌≤◌, Bool, true, false, not, cond, ◌==◌, nat_le, nat_lt, List, [], ◌∷◌, ◌++◌, length, map, take, get_or, set, Option, Some, None, Result, Ok, Err, refl, ap, sym, subst, inl, inr, arith, ◌∙◌}
-use Rattle.std.specs.List.{All, AllPairs, AllWithin, find, filter, remove, slice_get}
-use Rattle.std.specs.List.Sorted.{IsSearchInRange, IsBinarySearchResult, IsNonDecreasingBy, IsPartitionedBy}
-use Rattle.std.specs.Option.{option_and_then, option_map, option_or, option_copied}
-use Rattle.std.specs.Borrow.{Bor}
-use Rattle.std.specs.Result.{result_ok}
-use Rattle.std.specs.Ordering.{nat_cmp, ordering_index}
-use Rattle.std.proofs.lemmas.Cmp.{ranked}
+use Rattle.std.proofs.Common.{◌≡◌, ◌≢◌, ℕ, zero, suc, ◌<◌, Bool, true, false, not, cond, ◌==◌, nat_le, nat_lt, List, [], ◌∷◌, length, map}
+use Rattle.std.proofs.Common.{get_or, Option, Some, None, refl, ap, sym, subst, arith, ◌∙◌}
 use Rattle.std.proofs.lemmas.Bool.Decides.{nat_tests}
-use Rattle.std.proofs.lemmas.List.Folds.{map_fixed}
-use Rattle.std.proofs.lemmas.List.{map_more, get_or-take, get_or_default, length-take}
-use Rattle.std.proofs.lemmas.Option.{slice_get_cases, slice_get_read, slice_get-map, get_or_from_slice_get, slice_get_within}
-use Rattle.vs_flow.specs.declared.table.Entry.{Entry}
-use Rattle.std.specs.Map.{lookup}
-use Rattle.vs_flow.specs.declared.flow.Flow.{Flow}
-use Rattle.vs_flow.specs.Flow.{same_flow}
-use Rattle.vs_flow.specs.Entries.{slots_by_flow}
+use Rattle.std.proofs.lemmas.Option.{slice_get-map, get_or_from_slice_get, slice_get_within}
+use Rattle.std.specs.{List.Sorted.IsPartitionedBy, Option.option_map, Option.option_or, Option.option_copied, Borrow.Bor, Map.lookup}
+use Rattle.std.specs.List.{All, AllPairs, AllWithin, find, filter, remove, slice_get}
+use Rattle.vs_flow.specs.{declared.table.Entry.Entry, declared.flow.Flow.Flow, Flow.same_flow, Entries.slots_by_flow}
 use Rattle.vs_flow.specs.Table.{IsRising, revalued}
 
 pub same_flow_true : (f g : Flow) → same_flow f g ≡ true → f ≡ g

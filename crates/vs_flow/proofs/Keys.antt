@@ -1,28 +1,19 @@
 -- Slots whose keys lead to entries: what is found by a slot and by a place, and what insertions, removals and writes leave.
-use Rattle.std.proofs.Common.{◌≡◌, ◌≢◌, ℕ, zero, suc, ◌+◌, ◌<◌, ◌≤◌, Bool, true, false, not, cond, ◌==◌, List, [], ◌∷◌, ◌++◌, length, map, get_or, Option, Some, None, is_some, refl, ap, sym, subst, ◌∙◌, arith, length-append, nat_eq}
-use Rattle.std.specs.List.{All, AllPairs, AllWithin, find, filter, remove, slice_get}
-use Rattle.std.specs.Map.{lookup}
-use Rattle.std.specs.Option.{option_and_then}
-use Rattle.std.proofs.lemmas.Bool.Decides.{nat_tests}
-use Rattle.std.proofs.lemmas.List.Edits.{length-remove}
-use Rattle.std.proofs.lemmas.List.Elements.{All-cons, All-map}
-use Rattle.std.proofs.lemmas.List.Folds.{map_fixed}
-use Rattle.std.proofs.lemmas.List.{append_assoc}
-use Rattle.std.proofs.lemmas.List.Kept.{AllPairs-cons, AllPairs-filter}
-use Rattle.std.proofs.lemmas.List.Sums.{sum_by-set}
-use Rattle.std.proofs.lemmas.List.Filters.{length-filter_both}
-use Rattle.std.proofs.lemmas.Option.{slice_get_within}
-use Rattle.std.proofs.Math.ListN.{get_or-append}
+use Rattle.std.proofs.{lemmas.Bool.Decides.nat_tests, lemmas.List.Edits.length-remove}
+use Rattle.std.proofs.{lemmas.List.Elements.All-cons, lemmas.List.Elements.All-map, lemmas.List.Folds.map_fixed, lemmas.List.append_assoc}
+use Rattle.std.proofs.{lemmas.List.Kept.AllPairs-cons, lemmas.List.Kept.AllPairs-filter, lemmas.List.Sums.sum_by-set}
+use Rattle.std.proofs.{lemmas.List.Filters.length-filter_both, lemmas.Option.slice_get_within, Math.ListN.get_or-append}
+use Rattle.std.proofs.Common.{◌≡◌, ◌≢◌, ℕ, zero, suc, ◌+◌, ◌<◌, ◌≤◌, Bool, true, false, not, cond, ◌==◌, List, [], ◌∷◌, ◌++◌, length, map}
+use Rattle.std.proofs.Common.{get_or, Option, Some, None, is_some, refl, ap, sym, subst, ◌∙◌, arith, length-append, nat_eq}
 use Rattle.std.proofs.Math.Seq.{get_or-append_seam}
+use Rattle.std.specs.{List.All, List.AllPairs, List.AllWithin, List.find, List.filter, List.remove, List.slice_get, Map.lookup}
+use Rattle.std.specs.Option.{option_and_then}
 use Rattle.indexmap.specs.IndexMap.{insert_entry}
 use Rattle.indexmap.proofs.MapLemmas.{absent_from_lookup, insert_entry-absent}
 use Rattle.slab.specs.Slab.{ContainsKey, Slab, Updates, get, slab_len, with_value}
 use Rattle.slab.proofs.SlabLemmas.{ContainsKey-within, Updates-with_value}
-use Rattle.vs_flow.specs.declared.flow.Flow.{Flow}
-use Rattle.vs_flow.specs.declared.table.Entry.{Entry}
-use Rattle.vs_flow.specs.Flow.{same_flow}
-use Rattle.vs_flow.specs.Entries.{entries_of, slots_by_flow, AreLedTo}
-use Rattle.vs_flow.specs.Table.{IsRising, revalued}
+use Rattle.vs_flow.specs.{declared.flow.Flow.Flow, declared.table.Entry.Entry, Flow.same_flow}
+use Rattle.vs_flow.specs.{Entries.entries_of, Entries.slots_by_flow, Entries.AreLedTo, Table.IsRising, Table.revalued}
 use Rattle.vs_flow.proofs.Entries.{above_head, remove_at, rising_tail, same_flow_false}
 use Rattle.vs_flow.proofs.Lookups.{find_place, others_differ, tail_distinct}
 

@@ -1,4 +1,4 @@
-use Rattle.std.proofs.Common.{ap, ◌∙◌, sym}
+use Rattle.std.proofs.Common.{ap, ◌∙◌}
 use Rattle.std.specs.Option.{option_and_then, option_copied}
 use Rattle.slab.specs.Slab.{get}
 use Rattle.vs_flow.specs.TableFields.{table_of}
