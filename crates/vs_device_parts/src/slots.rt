@@ -368,7 +368,7 @@ fn all_buffers(alloc: Global) -> Result<Vec<Buffers>, AllocError>
     ensures room { IfOk result (λ v. DEVICE_CONNECTIONS ≤ vec_capacity v) }
 {
     let mut all = Vec::with_capacity(alloc, DEVICE_CONNECTIONS)?;
-    for _ in 0..CONNECTIONS {
+    for _ in 0..DEVICE_CONNECTIONS {
         all.push_reserved(spare_buffers(alloc)?);
     }
     Ok(all)

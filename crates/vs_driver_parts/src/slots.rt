@@ -442,7 +442,7 @@ fn buffers(alloc: Global) -> Result<Vec<ByteFifo>, AllocError>
     ensures room { IfOk result (λ v. DRIVER_CONNECTIONS ≤ vec_capacity v) }
 {
     let mut buffers = Vec::with_capacity(alloc, DRIVER_CONNECTIONS)?;
-    for _ in 0..SLOTS {
+    for _ in 0..DRIVER_CONNECTIONS {
         buffers.push_reserved(ByteFifo::new(alloc, BUFFER_LEN)?);
     }
     Ok(buffers)
