@@ -183,8 +183,8 @@ fn work<'x, N: RingName + Send, R: Threads + Wait + Sync>(
     );
 }
 
-/// Twice `half` events pass between three threads. Once these have ended the ends meet: the numbers answered are those of two logs that fit,
-/// of ends of one table.
+/// Twice `half` events pass between three threads. Once these have ended the ends meet: the numbers answered are those of two logs that
+/// fit, of ends of one table.
 fn relay_locked<N: RingName + Send, R: Threads + Wait + Sync>(
     rt: &R,
     poster: Poster<N>,
