@@ -213,11 +213,7 @@ enum Way {
 }
 
 /// One thread sends and gets `count` numbers, one by one. Answers how many came as they were sent.
-fn one_by_one<N: RingName>(
-    mut poster: Poster<N>,
-    mut device: DeviceEnd<N>,
-    count: u32,
-) -> u32 {
+fn one_by_one<N: RingName>(mut poster: Poster<N>, mut device: DeviceEnd<N>, count: u32) -> u32 {
     for number in 0..count {
         serve_one(&mut device, number);
         poster.pass();
