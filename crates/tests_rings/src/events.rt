@@ -183,8 +183,8 @@ fn work<'x, N: RingName + Send, R: Threads + Wait + Sync>(
     );
 }
 
-/// Twice `half` events pass between three threads. Once these have ended the ends meet: the numbers answered are those of two logs that fit,
-/// of ends of one table.
+/// Twice `half` events pass between three threads. Once these have ended the ends meet: the numbers answered are those of two logs that
+/// fit, of ends of one table.
 fn relay_locked<N: RingName + Send, R: Threads + Wait + Sync>(
     rt: &R,
     poster: Poster<N>,
@@ -213,11 +213,7 @@ enum Way {
 }
 
 /// One thread sends and gets `count` numbers, one by one. Answers how many came as they were sent.
-fn one_by_one<N: RingName>(
-    mut poster: Poster<N>,
-    mut device: DeviceEnd<N>,
-    count: u32,
-) -> u32 {
+fn one_by_one<N: RingName>(mut poster: Poster<N>, mut device: DeviceEnd<N>, count: u32) -> u32 {
     for number in 0..count {
         serve_one(&mut device, number);
         poster.pass();

@@ -1,5 +1,5 @@
-//! Tests of shared rings whose ends have a name: threads pass a million pages, also under a lock, indices wrap, ends meet, and the stores of an
-//! index are counted.
+//! Tests of shared rings whose ends have a name: threads pass a million pages, and some under a lock, indices wrap, ends meet, and the
+//! stores of an index are counted.
 #![tactic(auto)]
 
 #[cfg(test)]

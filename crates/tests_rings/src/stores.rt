@@ -10,9 +10,13 @@ use vs_page::Page;
 use vs_ring_port::{DeviceRing, DriverRing, Queue};
 use vs_ring_shared::{DeviceEnd, DriverEnd, NewRings, RingName, make, named};
 
-/// Stages so many empty pages on rx, for as many of which a descriptor is free, and publishes them: one store of the available index. Answers
+/// Stages so many empty pages on rx, those for which a descriptor is free, and publishes them: one store of the available index. Answers
 /// whether one was free for each.
-fn publish_pages<N: RingName>(driver: &mut DriverEnd<N>, alloc: Global, count: u16) -> Result<bool, AllocError>
+fn publish_pages<N: RingName>(
+    driver: &mut DriverEnd<N>,
+    alloc: Global,
+    count: u16,
+) -> Result<bool, AllocError>
     requires none_staged { driver.old.rx.staged ≡ [] }
     requires some { 0 < count }
     requires few { count ≤ STAGED_MAX }

@@ -138,7 +138,8 @@ impl DeviceSide {
     }
 }
 
-/// What is true of it between any two calls. Its log is fair, and the chains that it holds are the pages of each queue that it took and didn't give back.
+/// What is true of it between any two calls. Its log is fair, and the chains that it holds are the pages of each queue that it took and didn't
+/// give back.
 pub(crate) fn laws_of_device_side(side: &DeviceSide)
     ensures size { (0 < side.now.sight.size) × (side.now.sight.size ≤ QUEUE_SIZE_MAX) }
     ensures fair { IsFairLog log.Device side.now.sight.log }

@@ -131,8 +131,8 @@ impl DriverSide {
     }
 }
 
-/// What is true of it between any two calls. Its log is fair; it took back no more pages of a queue than it gave; and at most as many are in flight, staged ones included, as the
-/// queue has descriptors.
+/// What is true of it between any two calls. Its log is fair; it took back no more pages of a queue than it gave; and at most as many are in
+/// flight, staged ones included, as the queue has descriptors.
 pub(crate) fn laws_of_driver_side(side: &DriverSide)
     ensures size { (0 < side.now.size) × (side.now.size ≤ QUEUE_SIZE_MAX) }
     ensures fair { IsFairLog log.Driver side.now.log }
