@@ -6,8 +6,7 @@ use Rattle.vs_guest_mem.specs.Memory.{Memory, zeroed}
 use Rattle.vs_ring_list.specs.Ends.{Ends, IsQueueSize, empty_ends}
 use Rattle.vs_plain_ties.specs.Exposed.{BothEnds, first_ends}
 use Rattle.vs_plain_rings.specs.Counted.{AreCounted}
-use Rattle.vs_both_ends.specs.Standard.{memory_size}
-use Rattle.vs_both_ends.specs.View.{known}
+use Rattle.vs_both_ends.specs.{Standard.memory_size, View.known}
 use Rattle.vs_both_ends.proofs.Memory.{known_at}
 
 -- What both ends count.

@@ -1,8 +1,6 @@
 -- What each end of rings shows, by their ends.
 use Rattle.std.specs.Prelude.{◌≡◌, ℕ, List}
-use Rattle.vs_ring_port.specs.Chains.{chains_of}
-use Rattle.vs_ring_port.specs.Contents.{RingContents}
-use Rattle.vs_ring_port.specs.Counts.{Counts}
+use Rattle.vs_ring_port.specs.{Chains.chains_of, Contents.RingContents, Counts.Counts}
 use Rattle.vs_ring_port.specs.declared.device_ring.Chain.{Chain}
 use Rattle.vs_ring_list.specs.Ends.{Ends, device_contents, driver_contents, flight_of, staged_of}
 

@@ -1,6 +1,5 @@
 -- The memory of standard rings that nobody else changes.
-use Rattle.std.specs.Prelude.{ℕ, ◌+◌, ◌-◌, ◌*◌}
-use Rattle.std.specs.Int.{next_multiple_of}
+use Rattle.std.specs.{Prelude.ℕ, Prelude.◌+◌, Prelude.◌-◌, Prelude.◌*◌, Int.next_multiple_of}
 use Rattle.vs_layout.specs.Layout.{queue_areas_of}
 use Rattle.vs_page.specs.declared.page.TheConstants.{PAGE_LEN}
 use Rattle.vs_both_ends.specs.declared.standard_rings.TheConstants.{MEMORY_BASE}

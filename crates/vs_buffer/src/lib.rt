@@ -100,27 +100,3 @@ impl ByteFifo {
         self.ring.clear();
     }
 }
-
-#[cfg(test)]
-mod tests {
-    use super::*;
-    use std::test::Fail;
-
-    // Bytes come out in the order in which they were put, also where they wrap round the end of the memory.
-    #[test]
-    fn bytes_come_out_in_order(rt: HostRuntime) -> Result<(), Fail> {
-        let mut fifo = ByteFifo::new(rt.alloc(), 8)?;
-        let mut out = [0; 7];
-        fifo.put(b"abcdef");
-        assert_eq!(rt; fifo.take_into(&mut out[..4]), 4);
-        assert_eq!(rt; out, *b"abcd\0\0\0");
-        fifo.put(b"ghijk");
-        assert_eq!(rt; fifo.copy_front(&mut out), 7);
-        assert_eq!(rt; out, *b"efghijk");
-        fifo.drop_front(6);
-        assert_eq!(rt; fifo.take_into(&mut out), 1);
-        assert_eq!(rt; out, *b"kfghijk");
-        assert!(rt; fifo.is_empty());
-        Ok(())
-    }
-}

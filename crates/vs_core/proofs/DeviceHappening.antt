@@ -1,26 +1,27 @@
 -- What the device, the proxy and the host's programs do is an event of the world.
-use Rattle.std.proofs.Common.{◌≡◌, ℕ, suc, ◌+◌, ◌&&◌, Bool, true, false, cond, List, [], ◌∷◌, Option, Some, is_some, Contains, refl, sym, ap, subst, ◌∙◌, arith}
-use Rattle.std.specs.List.{position, position_from}
+use Rattle.std.proofs.Common.{◌≡◌, ℕ, suc, ◌+◌, ◌&&◌, Bool, true, false, cond, List, [], ◌∷◌, Option, Some, Result, is_some, Contains, refl}
+use Rattle.std.proofs.Common.{sym, ap, subst, ◌∙◌, arith}
+use Rattle.std.specs.{Option.ForSome, List.position, List.position_from}
 use Rattle.std.proofs.lemmas.Iterator.Adapters.{position_from-zero}
+use Rattle.std.proofs.lemmas.Bool.{and_parts}
 use Rattle.vs_outside.specs.Host.{HostContents}
 use Rattle.vs_ring_port.specs.Chains.{Held, chains_of, same_chain, same_queue}
 use Rattle.vs_ring_port.specs.declared.device_ring.Chain.{Chain}
+use Rattle.vs_ring_port.specs.declared.failure.Failure.{Failure}
 use Rattle.vs_ring_port.specs.declared.queue.Queue.{Queue}
 use Rattle.vs_ring_list.specs.Ends.{Ends}
 use Rattle.vs_ring_list.proofs.Held.{same_chain_is, same_queue_is}
-use Rattle.vs_driver_parts.specs.State.{DriverState}
+use Rattle.vs_device_parts.specs.{Calls.DeviceTree, Playing.IsAmong, State.DeviceState}
 use Rattle.vs_device_laws.specs.Streams.{HasStreams}
-use Rattle.vs_proxy_parts.specs.Handshakes.{streams_of}
-use Rattle.vs_proxy_parts.specs.State.{ProxyState, with_device}
-use Rattle.vs_world.specs.Events.{Event, Moment, happens, has_failed, host_step, run, unless_failed, where_possible}
-use Rattle.vs_world.specs.Pages.{is_held}
-use Rattle.vs_world.specs.Pipes.{IsFresh}
-use Rattle.vs_world.specs.World.{World, opening}
-use Rattle.vs_world.proofs.Opening.{run_well}
-use Rattle.vs_world.proofs.Sound.{IsWell}
-use Rattle.vs_core.specs.Ready.{Happens, IsDrivenAtWork, IsReached, IsReady, IsServedAtWork, WorldState, shown, with_journal}
+use Rattle.vs_proxy_parts.specs.Handshakes.{read_byte, streams_of}
+use Rattle.vs_proxy_parts.specs.{State.ProxyState, State.Turning, State.start, State.with_device, Turns.proxy_reset_of}
+use Rattle.vs_world.specs.Events.{Event, Moment, device_step, happens, has_failed, host_step, line_read, proxy_step, reset_made, run}
+use Rattle.vs_world.specs.Events.{is_guest_cid, unless_failed, where_possible}
+use Rattle.vs_world.specs.{Over.device_after, Over.proxy_after, Over.reset_after, Pages.is_held, Pipes.IsFresh, World.World, World.opening}
+use Rattle.vs_world.proofs.{Opening.run_well, Sound.IsWell, Flown.LeavesDriver, OverBoth.IsPlayed, StayOpen.StayOpen, StayOpen.still_has}
+use Rattle.vs_core.specs.Ready.{Happens, IsReached, IsReady, IsServedAtWork, WorldState, shown, with_journal}
 use Rattle.vs_core.proofs.Happening.{happened, where_is}
-use Rattle.vs_world.proofs.StayOpen.{StayOpen, still_has}
+use Rattle.vs_core.proofs.Stepped.{driven_still, line_after, reset_played, step_after, step_serves, turn_after, turn_serves}
 
 -- The test of the rings says what the events' says.
 found_from : (chain : Chain) (held : List Held) (i : ℕ)
@@ -55,26 +56,73 @@ bare old = with_journal [] old
 unless_not : (f : World → World) (w : World) → has_failed w ≡ false → unless_failed f w ≡ f w
 unless_not f w is = rw is refl
 
-module _ (e : Event) (f : World → World) (old : WorldState) (ready : IsReady old) where
-  -- A step where the device hasn't failed.
-  pub unless_did : (r : Left) (s : ProxyState) (w : Ends) (h : HostContents)
-      → happens e (bare old) ≡ unless_failed f (bare old) → shown (f (bare old)) ≡ with_left old r → is_some old.proxy.device.failed ≡ false
-      → r ≡ (s, (w, h)) → IsServedAtWork s w h → ((d : DriverState) → IsDrivenAtWork d old.rings → IsDrivenAtWork d w)
-      → Happens e old (with_left old (s, (w, h)))
-  unless_did r s w h means is goes played served driven =
-      happened e old (with_left old (s, (w, h)))
-      (sym (ap shown (means ∙ unless_not f (bare old) goes) ∙ (is ∙ ap (λ (x : Left). with_left old x) played))) ready
-      (driven old.driver ready.driven) served
+-- A step that was played over the rings and the host is the event, where the host found memory.
+module _ (e : Event) (old : WorldState) (ready : IsReady old) (t : ProxyState) (w : Ends) (g : HostContents) where
+  acted : (f : World → World) (r : Left) → happens e (bare old) ≡ f (bare old) → shown (f (bare old)) ≡ with_left old r
+      → r ≡ (t, (w, g)) → LeavesDriver old.rings w → IsServedAtWork t w g → Happens e old (with_left old (t, (w, g)))
+  acted f r means is played same served =
+      happened e old (with_left old (t, (w, g)))
+      (sym (ap shown means ∙ (is ∙ ap (λ (x : Left). with_left old x) played))) ready
+      (driven_still old.rings w same old.driver ready.driven) served
 
-  -- The same where something is possible.
-  pub where_did : (b : Bool) (r : Left) (s : ProxyState) (w : Ends) (h : HostContents)
-      → happens e (bare old) ≡ where_possible b f (bare old) → shown (f (bare old)) ≡ with_left old r → b ≡ true
-      → r ≡ (s, (w, h)) → IsServedAtWork s w h → ((d : DriverState) → IsDrivenAtWork d old.rings → IsDrivenAtWork d w)
-      → Happens e old (with_left old (s, (w, h)))
-  where_did b r s w h means is goes played served driven =
-      happened e old (with_left old (s, (w, h)))
-      (sym (ap shown (means ∙ where_is b f (bare old) goes) ∙ (is ∙ ap (λ (x : Left). with_left old x) played))) ready
-      (driven old.driver ready.driven) served
+  -- The streams of the device's connections stay.
+  abbrev KeepsStreams : Type 0
+  KeepsStreams = (others : List ℕ) → ForSome (Some old.host) (HasStreams others old.proxy.device.table)
+      → ForSome (Some g) (HasStreams others t.device.table)
+
+  abbrev TurnKeepsStreams : Type 0
+  TurnKeepsStreams = ForSome (Some old.host) (HasStreams (streams_of old.proxy) old.proxy.device.table)
+      → ForSome (Some g) (HasStreams (streams_of t) t.device.table)
+
+  -- One of the device's.
+  module _ (step : DeviceState → DeviceTree DeviceState) (others : t ≡ with_device t.device old.proxy)
+      (played : IsPlayed (step old.proxy.device) old.rings old.host t.device w g) (chain : IsAmong (chains_of w.device.held) t.device)
+      (streams : KeepsStreams) (fed : g.starved ≡ false) where
+    stepped : happens e (bare old) ≡ device_step step (bare old) → Happens e old (with_left old (t, (w, g)))
+    stepped means =
+        acted (device_step step) (device_after step old.proxy old.rings old.host) means refl
+        (step_after step old.proxy t old.rings w old.host g others played fed) played.same
+        (step_serves old.proxy t old.rings w old.host g others chain streams ready.served)
+
+    pub device_did : happens e (bare old) ≡ unless_failed (device_step step) (bare old) → is_some old.proxy.device.failed ≡ false
+        → Happens e old (with_left old (t, (w, g)))
+    device_did means goes = stepped (means ∙ unless_not (device_step step) (bare old) goes)
+
+    pub chain_did : (b : Bool) → b ≡ true → happens e (bare old) ≡ where_possible b (device_step step) (bare old)
+        → Happens e old (with_left old (t, (w, g)))
+    chain_did b is means = stepped (means ∙ where_is b (device_step step) (bare old) is)
+
+  -- One of the proxy's.
+  module _ (chain : IsAmong (chains_of w.device.held) t.device) (streams : TurnKeepsStreams) (fed : g.starved ≡ false) where
+    turned : (f : World → World) (r : Left) → happens e (bare old) ≡ f (bare old) → shown (f (bare old)) ≡ with_left old r
+        → r ≡ (t, (w, g)) → LeavesDriver old.rings w → Happens e old (with_left old (t, (w, g)))
+    turned f r means is played same =
+        acted f r means is played same (turn_serves old.proxy t old.rings w old.host g chain streams ready.served)
+
+    pub turn_did : (step : Turning → DeviceTree Turning) (u : Turning) → happens e (bare old) ≡ unless_failed (proxy_step step) (bare old)
+        → is_some old.proxy.device.failed ≡ false → u.state ≡ t → IsPlayed (step (start old.proxy)) old.rings old.host u w g
+        → Happens e old (with_left old (t, (w, g)))
+    turn_did step u means goes is played =
+        turned (proxy_step step) (proxy_after step old.proxy old.rings old.host) (means ∙ unless_not (proxy_step step) (bare old) goes) refl
+        (turn_after step old.proxy t u old.rings w old.host g is played fed) played.same
+
+    -- It reads a byte of a line.
+    pub line_did : (stream : ℕ) (u : Turning × Bool) → happens e (bare old) ≡ unless_failed (proxy_step (line_read stream)) (bare old)
+        → is_some old.proxy.device.failed ≡ false → u.0.state ≡ t → IsPlayed (read_byte stream (start old.proxy)) old.rings old.host u w g
+        → Happens e old (with_left old (t, (w, g)))
+    line_did stream u means goes is played =
+        turned (proxy_step (line_read stream)) (proxy_after (line_read stream) old.proxy old.rings old.host)
+        (means ∙ unless_not (proxy_step (line_read stream)) (bare old) goes) refl
+        (line_after stream old.proxy t u old.rings w old.host g is played fed) played.same
+
+    -- A transport reset.
+    pub reset_did : (cid : ℕ) (answer : Result (Unit {0}) Failure)
+        → happens e (bare old) ≡ where_possible (is_guest_cid cid) (reset_made cid) (bare old) → is_guest_cid cid ≡ true
+        → IsPlayed (proxy_reset_of cid old.proxy) old.rings old.host (t, answer) w g → Happens e old (with_left old (t, (w, g)))
+    reset_did cid answer means is played =
+        turned (reset_made cid) (reset_after cid old.proxy old.rings old.host)
+        (means ∙ where_is (is_guest_cid cid) (reset_made cid) (bare old) is) refl
+        (reset_played cid old.proxy t answer old.rings w old.host g played fed) played.same
 
 -- What a program of the host does.
 pub host_did : (e : Event) (f : HostContents → HostContents) (old : WorldState) (h : HostContents)
@@ -109,14 +157,15 @@ held_contains chain (h ∷ held) is = by (λ more. held_contains chain held more
     by rest true same is = (0, omega arith, sym (same_chain_is chain h.chain same))
     by rest false same is = let more = rest is in let lt = more.1 in (suc more.0, omega (arith, lt), more.2)
 
-pub both_true : (a b : Bool) → (a && b) ≡ true → (a ≡ true) × (b ≡ true)
-both_true true b is = (refl, is)
-both_true false b is = absurd cc
-
 pub held_of_queue : (queue : Queue) (chain : Chain) (held : List Held) → (same_queue queue chain.queue && is_held chain held) ≡ true
     → Contains (chains_of held) chain
-held_of_queue queue chain held is = held_contains chain held (both_true (same_queue queue chain.queue) (is_held chain held) is).1
+held_of_queue queue chain held is = held_contains chain held (and_parts (same_queue queue chain.queue) (is_held chain held) is).1
 
 pub of_queue : (queue : Queue) (chain : Chain) (held : List Held) → (same_queue queue chain.queue && is_held chain held) ≡ true
     → chain.queue ≡ queue
-of_queue queue chain held is = sym (same_queue_is queue chain.queue (both_true (same_queue queue chain.queue) (is_held chain held) is).0)
+of_queue queue chain held is = sym (same_queue_is queue chain.queue (and_parts (same_queue queue chain.queue) (is_held chain held) is).0)
+
+-- So is another that is the same.
+pub same_held : (queue : Queue) (x chain : Chain) (held : List Held) → x ≡ chain → (same_queue queue chain.queue && is_held chain held) ≡ true
+    → (same_queue queue x.queue && is_held x held) ≡ true
+same_held queue x chain held same is = subst (λ y. (same_queue queue y.queue && is_held y held) ≡ true) (sym same) is

@@ -1,46 +1,29 @@
 -- The rings stay the driver's over its steps and its calls.
-use Rattle.std.proofs.Common.{◌≡◌, ℕ, ◌<◌, ◌&&◌, ◌==◌, Bool, true, false, List, [], ◌∷◌, length, Option, Some, unwrap_or, refl, sym, ap, subst, ◌∙◌, rules}
-use Rattle.vs_ring_port.specs.Contents.{RingContents}
-use Rattle.vs_ring_port.specs.Counts.{at, no_counts, with_count}
+use Rattle.std.proofs.Common.{◌≡◌, ℕ, ◌<◌, true, [], length, Option, Some, unwrap_or, refl, sym, ap, subst, ◌∙◌, rules}
+use Rattle.std.proofs.lemmas.Bool.{and_parts}
+use Rattle.vs_ring_port.specs.{Contents.RingContents, Counts.at, Counts.no_counts, Counts.with_count}
 use Rattle.vs_ring_port.specs.EndLog.{EndLog, Pages, pages_at}
-use Rattle.vs_ring_port.specs.declared.queue.Queue.{Queue}
+use Rattle.vs_ring_port.specs.declared.queue.{Queue.Queue, TheConstants.STAGED_MAX}
 use Rattle.vs_ring_port.specs.declared.queue.Queue.TheVariants.{Rx, Tx, Event}
-use Rattle.vs_ring_port.specs.declared.queue.TheConstants.{STAGED_MAX}
 use Rattle.vs_ring_list.specs.Ends.{Ends, driver_contents, flight_of, staged_of}
-use Rattle.vs_driver_parts.specs.Playing.{IsAtWork, IsRingOf, SamePages}
-use Rattle.vs_driver_parts.specs.State.{DriverState}
+use Rattle.vs_driver_parts.specs.{Playing.IsAtWork, Playing.IsRingOf, Playing.SamePages, State.DriverState}
 use Rattle.vs_driver_log.specs.Honest.{AgreesWith, IsHonest, IsHonestWith, ends_of_state}
 use Rattle.vs_driver_log.specs.Staged.{IsAtWorkWith, IsLeft, IsTied, IsWorkingWith}
 use Rattle.vs_driver_log.proofs.Ringing.{agrees, at_rest, tied}
-use Rattle.vs_world.specs.Events.{is_at_rest, none_staged, works_on}
-use Rattle.vs_world.specs.World.{first_cid}
-use Rattle.vs_world.proofs.Polls.{rest_works}
+use Rattle.vs_world.specs.{Events.is_at_rest, Events.none_staged, Events.works_on, World.first_cid}
+use Rattle.vs_world.proofs.{Polls.rest_works, Sound.nothing_staged}
 use Rattle.vs_core.specs.Ready.{IsDrivenAtWork}
 
--- What is staged.
-pub none_is : (pages : List (List ℕ)) → (length pages == 0) ≡ none_staged pages
-none_is [] = refl
-none_is (page ∷ pages) = search rules
-
-empty_is : (pages : List (List ℕ)) → none_staged pages ≡ true → pages ≡ []
-empty_is [] is = refl
-empty_is (page ∷ pages) is = absurd cc
-
-both_are : (a b : Bool) → (a && b) ≡ true → (a ≡ true) × (b ≡ true)
-both_are true true is = (refl, refl)
-both_are true false is = absurd cc
-both_are false b is = absurd cc
-
--- On any other queue than the one in work nothing is.
+-- On any other queue than the one in work nothing is staged.
 others_empty : (queue q : Queue) (staged : Pages) → works_on queue staged ≡ true → (queue ≡ q → ⊥) → pages_at q staged ≡ []
 others_empty Rx Rx staged works other = absurd (other refl)
-others_empty Rx Tx staged works other = empty_is staged.tx (both_are (none_staged staged.tx) (none_staged staged.event) works).0
-others_empty Rx Event staged works other = empty_is staged.event (both_are (none_staged staged.tx) (none_staged staged.event) works).1
-others_empty Tx Rx staged works other = empty_is staged.rx (both_are (none_staged staged.rx) (none_staged staged.event) works).0
+others_empty Rx Tx staged works other = nothing_staged staged.tx (and_parts (none_staged staged.tx) (none_staged staged.event) works).0
+others_empty Rx Event staged works other = nothing_staged staged.event (and_parts (none_staged staged.tx) (none_staged staged.event) works).1
+others_empty Tx Rx staged works other = nothing_staged staged.rx (and_parts (none_staged staged.rx) (none_staged staged.event) works).0
 others_empty Tx Tx staged works other = absurd (other refl)
-others_empty Tx Event staged works other = empty_is staged.event (both_are (none_staged staged.rx) (none_staged staged.event) works).1
-others_empty Event Rx staged works other = empty_is staged.rx (both_are (none_staged staged.rx) (none_staged staged.tx) works).0
-others_empty Event Tx staged works other = empty_is staged.tx (both_are (none_staged staged.rx) (none_staged staged.tx) works).1
+others_empty Tx Event staged works other = nothing_staged staged.event (and_parts (none_staged staged.rx) (none_staged staged.event) works).1
+others_empty Event Rx staged works other = nothing_staged staged.rx (and_parts (none_staged staged.rx) (none_staged staged.tx) works).0
+others_empty Event Tx staged works other = nothing_staged staged.tx (and_parts (none_staged staged.rx) (none_staged staged.tx) works).1
 others_empty Event Event staged works other = absurd (other refl)
 
 counted_at : (q : Queue) (n : ℕ) → at q (with_count q n no_counts) ≡ n

@@ -1,29 +1,31 @@
 -- What an event leads to, and that the next one may happen.
-use Rattle.std.proofs.Common.{◌≡◌, ℕ, ◌<◌, ◌^◌, ◌&&◌, nat_lt, Bool, true, false, List, [], ◌∷◌, ◌++◌, refl, sym, ap, subst, ◌∙◌, arith}
+use Rattle.std.proofs.Common.{◌≡◌, ℕ, ◌<◌, ◌^◌, ◌&&◌, ◌↔◌, nat_lt, Bool, true, false, List, [], ◌∷◌, ◌++◌, is_some, Result, Ok, Err, OnOk}
+use Rattle.std.proofs.Common.{OnErr, IsOk, IsTrue, is_ok, refl, sym, ap, subst, ◌∙◌, arith, rules}
 use Rattle.std.proofs.lemmas.Bool.Decides.{nat_tests}
 use Rattle.vs_contents.specs.CallTree.{Done}
 use Rattle.vs_outside.specs.Host.{HostContents}
-use Rattle.vs_ring_port.specs.Chains.{chains_of}
-use Rattle.vs_ring_port.specs.EndLog.{EndLog}
+use Rattle.vs_ring_port.specs.{Chains.chains_of, Contents.RingContents, EndLog.EndLog}
 use Rattle.vs_ring_port.specs.declared.queue.Queue.{Queue}
 use Rattle.vs_ring_port.specs.declared.queue.Queue.TheVariants as q
-use Rattle.vs_ring_list.specs.Ends.{Ends}
-use Rattle.vs_driver_parts.specs.Conversations.{DriverTree, publish_of}
-use Rattle.vs_driver_parts.specs.State.{DriverState}
+use Rattle.vs_ring_list.specs.Ends.{Ends, driver_contents, flight_of, staged_of}
+use Rattle.vs_driver_parts.specs.{Conversations.DriverTree, Conversations.publish_of, Connections.after_unlisten}
+use Rattle.vs_driver_parts.specs.Listening.{listen_of, listener_on, listening}
+use Rattle.vs_driver_parts.specs.{Playing.IsAtWork, Playing.IsRingOf, Playing.Plays, Playing.SamePages, State.DriverState}
 use Rattle.vs_driver_parts.specs.Steps.{stages_owed, stages_reply, takes_page}
-use Rattle.vs_device_parts.specs.Calls.{DeviceTree}
-use Rattle.vs_device_parts.specs.Playing.{IsAmong}
-use Rattle.vs_device_parts.specs.State.{DeviceState}
+use Rattle.vs_driver_parts.specs.declared.answers.{ListenError.ListenError, NotListening.NotListening}
+use Rattle.vs_driver_log.specs.{Honest.IsHonestWith, Staged.IsWorkingWith}
+use Rattle.vs_device_parts.specs.{Calls.DeviceTree, Playing.IsAmong, State.DeviceState}
 use Rattle.vs_device_parts.specs.Steps.{takes_chain, returns, puts_event, puts_reply, puts_owed, puts_payload, writes, shuts_write}
 use Rattle.vs_device_parts.specs.Streams.{tick_slot}
-use Rattle.vs_proxy_parts.specs.Handshakes.{accept_one, tick_handshake}
-use Rattle.vs_proxy_parts.specs.State.{ProxyState}
+use Rattle.vs_proxy_parts.specs.{Handshakes.accept_one, Handshakes.tick_handshake, State.ProxyState}
 use Rattle.vs_world.specs.Calls.{GuestCall, ReplyTo, is_right}
-use Rattle.vs_world.specs.Events.{Event, call_made, device_step, driver_step, happens, has_failed, holds, is_at_rest, is_guest_cid, line_read, proxy_step, reset_made, run, unless_failed, where_possible, works_on}
+use Rattle.vs_world.specs.Calls as call
+use Rattle.vs_world.specs.Events.{Event, call_made, device_step, driver_step, happens, has_failed, holds, is_at_rest, is_guest_cid}
+use Rattle.vs_world.specs.Events.{line_read, proxy_step, reset_made, run, unless_failed, where_possible, works_on}
 use Rattle.vs_world.specs.Events as event
-use Rattle.vs_world.specs.GuestSteps.{makes_call}
-use Rattle.vs_world.specs.World.{World, opening}
-use Rattle.vs_world.specs.Over.{over_lists}
+use Rattle.vs_world.specs.{GuestSteps.makes_call, World.World, World.first_cid, World.opening, Over.over_lists}
+use Rattle.vs_world.proofs.OverLists.{over}
+use Rattle.vs_core.proofs.Driven.{driven_stays, honest_rest, rested, stepped, works_with}
 use Rattle.vs_core.specs.Ready.{Happens, IsDrivenAtWork, IsReached, IsReady, IsServedAtWork, WorldState, shown, with_journal}
 use Rattle.vs_core.specs.Views.{Steps, Tells, TellsWhere}
 use Rattle.vs_core.specs.declared.event.Reply.{Reply}
@@ -139,13 +141,30 @@ with_driver old s w = record old { driver = s; rings = w }
 module _ (e : Event) (queue : Queue) (step : DriverState → DriverTree DriverState) (old : WorldState)
     (means : happens e (with_journal [] old) ≡ where_possible (works_on queue old.rings.driver.staged) (driver_step step) (with_journal [] old))
     (ready : IsReady old) where
-  pub steps_on : (s : DriverState) (w : Ends) → works_on queue old.rings.driver.staged ≡ true → over_lists (step old.driver) old.rings ≡ (s, w) → IsDrivenAtWork s w
+  steps_on : (s : DriverState) (w : Ends) → works_on queue old.rings.driver.staged ≡ true → over_lists (step old.driver) old.rings ≡ (s, w) → IsDrivenAtWork s w
       → Happens e old (with_driver old s w)
   steps_on s w works played driven =
       let is : shown (driver_step step (with_journal [] old)) ≡ with_driver old s w = ap (λ (r : DriverState × Ends). with_driver old r.0 r.1) played in
       happened e old (with_driver old s w)
       (sym (ap shown (means ∙ where_is _ (driver_step step) (with_journal [] old) works) ∙ is))
       ready driven (served_rings old.proxy old.rings w old.host (device_stays (step old.driver) old.rings w s played) ready.served)
+
+  -- After one the pages that it stages, or those staged before, are the driver's; after a publish none is staged.
+  module _ (works : works_on queue old.rings.driver.staged ≡ true) (s : DriverState) (w : Ends)
+      (played : Plays (step old.driver) (driver_contents old.rings) s (driver_contents w)) where
+    pub stages_on : IsAtWork queue w.lists.size (flight_of w) (staged_of w) s
+        → ((first : ℕ) → IsWorkingWith queue first old.driver (driver_contents old.rings) → IsWorkingWith queue first s (driver_contents w))
+        → Happens e old (with_driver old s w)
+    stages_on ring honest =
+        steps_on s w works (over (step old.driver) old.rings w s played)
+        (stepped queue s w ring (honest first_cid (works_with queue old.driver old.rings works ready.driven)))
+
+    pub publishes_on : IsRingOf w.lists.size (flight_of w) (staged_of w) s
+        → ((first : ℕ) → IsWorkingWith queue first old.driver (driver_contents old.rings) → IsHonestWith first s (driver_contents w))
+        → Happens e old (with_driver old s w)
+    publishes_on ring honest =
+        steps_on s w works (over (step old.driver) old.rings w s played)
+        (rested s w ring (honest first_cid (works_with queue old.driver old.rings works ready.driven)))
 
   pub works_elsewhere : works_on queue old.rings.driver.staged ≡ false → Happens e old old
   works_elsewhere works =
@@ -160,7 +179,7 @@ module _ (c : GuestCall) (old : WorldState) (ready : IsReady old) where
   abbrev possible : Bool
   possible = is_at_rest old.rings.driver.staged && is_right c
 
-  pub calls_on : (s : DriverState) (answer : ReplyTo c) (w : Ends) (told : Reply) → is_at_rest old.rings.driver.staged ≡ true → is_right c ≡ true
+  calls_on : (s : DriverState) (answer : ReplyTo c) (w : Ends) (told : Reply) → is_at_rest old.rings.driver.staged ≡ true → is_right c ≡ true
       → over_lists (makes_call c old.driver) old.rings ≡ ((s, answer), w) → IsDrivenAtWork s w → Tells c answer told
       → Steps (event.GuestCalls c) old (with_driver old s w) told
   calls_on s answer w told rest right played driven tells =
@@ -179,12 +198,30 @@ module _ (c : GuestCall) (old : WorldState) (ready : IsReady old) where
             (subst (λ a. Tells c a told) (sym same) tells);
       }
 
+  -- One that puts a page.
+  pub sends_on : (s : DriverState) (answer : ReplyTo c) (w : Ends) (told : Reply) → is_at_rest old.rings.driver.staged ≡ true → is_right c ≡ true
+      → Plays (makes_call c old.driver) (driver_contents old.rings) (s, answer) (driver_contents w)
+      → IsRingOf w.lists.size (flight_of w) (staged_of w) s
+      → ((first : ℕ) → IsHonestWith first old.driver (driver_contents old.rings) → IsHonestWith first s (driver_contents w))
+      → Tells c answer told → Steps (event.GuestCalls c) old (with_driver old s w) told
+  sends_on s answer w told rest right played ring honest tells =
+      calls_on s answer w told rest right (over (makes_call c old.driver) old.rings w (s, answer) played)
+      (rested s w ring (honest first_cid (honest_rest old.driver old.rings rest ready.driven))) tells
+
   -- One that leaves the rings.
   pub calls : (s : DriverState) (answer : ReplyTo c) (told : Reply) → is_at_rest old.rings.driver.staged ≡ true → is_right c ≡ true
       → makes_call c old.driver ≡ Done (s, answer) → IsDrivenAtWork s old.rings → Tells c answer told
       → Steps (event.GuestCalls c) old (with_driver old s old.rings) told
   calls s answer told rest right made driven tells =
       calls_on s answer old.rings told rest right (ap (λ t. over_lists t old.rings) made) driven tells
+
+  -- And the driver's pages.
+  pub calls_in : (s : DriverState) (answer : ReplyTo c) (told : Reply) → is_at_rest old.rings.driver.staged ≡ true → is_right c ≡ true
+      → makes_call c old.driver ≡ Done (s, answer) → SamePages old.driver s
+      → ((first : ℕ) (ring : RingContents) → IsHonestWith first old.driver ring → IsHonestWith first s ring)
+      → Tells c answer told → Steps (event.GuestCalls c) old (with_driver old s old.rings) told
+  calls_in s answer told rest right made same honest tells =
+      calls s answer told rest right made (driven_stays old.driver s same honest old.rings rest ready.driven) tells
 
   pub no_call : is_at_rest old.rings.driver.staged ≡ false → Steps (event.GuestCalls c) old old reply.None
   no_call rest =
@@ -194,3 +231,31 @@ module _ (c : GuestCall) (old : WorldState) (ready : IsReady old) where
             nothing_happened (event.GuestCalls c) old (sym (ap shown (where_not possible (λ v. (call_made c v).0) (with_journal [] old) may))) ready;
         answer = subst (λ b. TellsWhere b c (call_made c (with_journal [] old)).1 reply.None) (sym may) refl;
       }
+
+-- What a listen made, and an unlisten.
+abbrev listened : ℕ → DriverState → Result (Unit {0}) ListenError → DriverTree (DriverState × Result (Unit {0}) ListenError)
+listened port s q = Done (elim q [ Ok x ↦ listening port s | Err why ↦ s ], q)
+
+pub listen_made : (port : ℕ) (s t : DriverState) (r : Result (Unit {0}) ListenError) → r ≡ listen_of port s → OnOk r (t ≡ listening port s)
+    → OnErr r (t ≡ s) → makes_call (call.Listen port) s ≡ Done (t, r)
+listen_made port s t (Ok x) is ok err = subst (λ q. listened port s q ≡ Done (t, Ok x)) is (ap (λ v. Done (v, Ok x)) (sym ok))
+listen_made port s t (Err why) is ok err = subst (λ q. listened port s q ≡ Done (t, Err why)) is (ap (λ v. Done (v, Err why)) (sym err))
+
+found_is : (found : Bool) (r : Result (Unit {0}) NotListening) → IsOk r ↔ IsTrue found → found ≡ is_ok r
+found_is true (Ok x) answer = refl
+found_is true (Err why) answer = search rules
+found_is false (Ok x) answer = search rules
+found_is false (Err why) answer = refl
+
+abbrev unlistened : ℕ → DriverState → Bool → DriverTree (DriverState × Bool)
+unlistened port s found = Done (elim found [ true ↦ after_unlisten port s | false ↦ s ], found)
+
+pub unlisten_made : (port : ℕ) (s t : DriverState) (r : Result (Unit {0}) NotListening) (b : Bool) → b ≡ is_ok r
+    → IsOk r ↔ IsTrue (is_some (listener_on port s.listeners)) → OnOk r (t ≡ after_unlisten port s) → OnErr r (t ≡ s)
+    → makes_call (call.Unlisten port) s ≡ Done (t, b)
+unlisten_made port s t (Ok x) b is answer ok err =
+    subst (λ q. unlistened port s q ≡ Done (t, b)) (sym (found_is _ (Ok x) answer))
+    (subst (λ k. unlistened port s true ≡ Done (t, k)) (sym is) (ap (λ v. Done (v, true)) (sym ok)))
+unlisten_made port s t (Err why) b is answer ok err =
+    subst (λ q. unlistened port s q ≡ Done (t, b)) (sym (found_is _ (Err why) answer))
+    (subst (λ k. unlistened port s false ≡ Done (t, k)) (sym is) (ap (λ v. Done (v, false)) (sym err)))

@@ -1,43 +1,26 @@
 -- Each single step of the device and of the proxy may be made in a world that events lead to.
-use Rattle.std.proofs.Common.{◌≡◌, ℕ, ◌&&◌, nat_le, Bool, true, false, Option, Some, unwrap_or, refl, ap, subst, arith}
+use Rattle.std.proofs.Common.{◌≡◌, ℕ, nat_le, true, Option, Some, unwrap_or, refl, ap, subst, arith, sym}
 use Rattle.std.proofs.lemmas.Bool.Decides.{nat_tests}
+use Rattle.std.proofs.lemmas.Bool.{and_parts}
 use Rattle.vs_outside.specs.Host.{HostContents}
 use Rattle.vs_ring_port.specs.Chains.{chains_of, same_queue}
 use Rattle.vs_ring_port.specs.declared.device_ring.Chain.{Chain}
 use Rattle.vs_ring_port.specs.declared.queue.Queue.{Queue}
 use Rattle.vs_ring_port.specs.declared.queue.Queue.TheVariants.{Event}
 use Rattle.vs_ring_list.specs.Ends.{device_contents}
-use Rattle.vs_device_parts.specs.Calls.{Situation, Allows}
-use Rattle.vs_device_parts.specs.Playing.{CanMake, IsAmong, MayRun, situation}
+use Rattle.vs_ring_list.proofs.Held.{same_queue_is}
+use Rattle.vs_device_parts.specs.{Calls.Situation, Calls.Allows, Playing.CanMake, Playing.IsAmong, Playing.MayRun, Playing.situation}
 use Rattle.vs_device_parts.specs.Steps.{puts_event, puts_owed, puts_payload, puts_reply, shuts_write, takes_chain, writes}
 use Rattle.vs_device_parts.specs.Streams.{tick_slot}
-use Rattle.vs_device_laws.specs.Split.{CanReach}
-use Rattle.vs_device_laws.specs.Streams.{HasStreams}
-use Rattle.vs_device_laws.proofs.Conditions.{may_where, quiet_can}
-use Rattle.vs_device_laws.proofs.Keeping.{keeps_may}
+use Rattle.vs_device_laws.specs.{Split.CanReach, Streams.HasStreams}
+use Rattle.vs_device_laws.proofs.{Conditions.may_where, Conditions.quiet_can, Keeping.keeps_may}
 use Rattle.vs_device_laws.proofs.Stepping.{puts_event_keeps, puts_owed_keeps, puts_payload_keeps, puts_reply_keeps}
-use Rattle.vs_proxy_parts.specs.Handshakes.{read_byte, streams_of, tick_handshake}
-use Rattle.vs_proxy_parts.specs.State.{start}
-use Rattle.vs_proxy_parts.specs.Turns.{proxy_reset_of}
-use Rattle.vs_proxy_laws.proofs.Shaking.{FindsAll, keeps_read_byte, keeps_tick_handshake}
-use Rattle.vs_proxy_laws.proofs.Turning.{keeps_proxy_reset}
-use Rattle.vs_world.specs.Events.{holds}
-use Rattle.vs_world.specs.Pages.{is_held}
-use Rattle.vs_world.specs.Sides.{both_of}
-use Rattle.vs_world.specs.World.{World, first_cid}
-use Rattle.vs_world.proofs.DeviceTurns.{queue_is}
+use Rattle.vs_proxy_parts.specs.{Handshakes.read_byte, Handshakes.streams_of, Handshakes.tick_handshake, State.start, Turns.proxy_reset_of}
+use Rattle.vs_proxy_laws.proofs.{Shaking.FindsAll, Shaking.keeps_read_byte, Shaking.keeps_tick_handshake, Turning.keeps_proxy_reset}
+use Rattle.vs_world.specs.{Events.holds, Pages.is_held, Sides.both_of, World.World, World.first_cid}
 use Rattle.vs_world.proofs.Sound.{IsWell}
 use Rattle.vs_core.proofs.Puts.{puts_event_may, puts_owed_may, puts_payload_may, puts_reply_may}
 use Rattle.vs_core.proofs.Reaches.{shuts_may, takes_may, times_out_may, writes_may}
-
--- Both of two tests.
-first_true : (a b : Bool) → (a && b) ≡ true → a ≡ true
-first_true true b is = refl
-first_true false b is = absurd cc
-
-second_true : (a b : Bool) → (a && b) ≡ true → b ≡ true
-second_true true b is = is
-second_true false b is = absurd cc
 
 -- What the device finds in the world, where n calls of the host failed so far.
 abbrev pub here : World → ℕ → Situation
@@ -77,8 +60,8 @@ module _ (w : World) (n : ℕ) (has : HasStreams (streams_of w.proxy) w.proxy.de
   pub may_event : (chain : Chain) → holds Event chain w ≡ true → nat_le 4 chain.writable ≡ true
       → MayRun (puts_event chain w.proxy.device) (here w n)
   may_event chain is room =
-      let queue = queue_is Event chain.queue (first_true (same_queue Event chain.queue) (is_held chain w.rings.device.held) is) in
-      let held = second_true (same_queue Event chain.queue) (is_held chain w.rings.device.held) is in
+      let queue = sym (same_queue_is Event chain.queue (and_parts (same_queue Event chain.queue) (is_held chain w.rings.device.held) is).0) in
+      let held = (and_parts (same_queue Event chain.queue) (is_held chain w.rings.device.held) is).1 in
       may_where (puts_event chain w.proxy.device) (here w n)
       (keeps_may CanReach Allows _ (puts_event chain w.proxy.device) (here w n)
       (puts_event_keeps (streams_of w.proxy) chain w.proxy.device (here w n) finds))

@@ -1,32 +1,22 @@
 -- The world in which nothing has happened yet.
 use Rattle.std.proofs.Common.{◌≡◌, ℕ, List, [], sym, ap, subst, ◌∙◌}
-use Rattle.vs_outside.specs.Host.{HostContents}
-use Rattle.vs_outside.specs.HostProgram.{HostMemory, new_host, plain}
+use Rattle.vs_outside.specs.{Host.HostContents, HostProgram.HostMemory, HostProgram.new_host, HostProgram.plain}
 use Rattle.vs_ring_list.specs.Ends.{Ends, empty_ends}
 use Rattle.vs_matching.specs.Both.{Both}
-use Rattle.vs_driver_parts.specs.Conversations.{new_of}
-use Rattle.vs_driver_parts.specs.State.{DriverState}
+use Rattle.vs_driver_parts.specs.{Conversations.new_of, State.DriverState}
 use Rattle.vs_driver_parts.specs.declared.limits.TheConstants.{FIRST_PORT}
 use Rattle.vs_device_laws.proofs.Opening.{new_has}
-use Rattle.vs_proxy_parts.specs.State.{ProxyState}
-use Rattle.vs_proxy_parts.specs.Turns.{new_proxy}
+use Rattle.vs_proxy_parts.specs.{State.ProxyState, Turns.new_proxy}
 use Rattle.vs_proxy_laws.proofs.Lists.{none_open}
-use Rattle.vs_world.specs.World.{first_cid, opened_host, opening}
+use Rattle.vs_world.specs.{World.first_cid, World.opened_host, World.opening, Over.over_lists}
 use Rattle.vs_world.proofs.Opening.{opening_is}
-use Rattle.vs_world.specs.Over.{over_lists}
 use Rattle.vs_core.specs.Ready.{IsDrivenAtWork, IsReady, IsServedAtWork, WorldState, shown}
 use Rattle.vs_core.proofs.Happening.{device_stays, served_rings}
 
--- A driver just made over empty rings.
-made_at : (n : ℕ) (v w : Ends) (s : DriverState) → v ≡ empty_ends n → over_lists (new_of v.lists.size FIRST_PORT 1) v ≡ (s, w)
-    → over_lists (new_of n FIRST_PORT 1) (empty_ends n) ≡ (s, w)
-made_at n v w s empty played = subst (λ e. over_lists (new_of e.lists.size FIRST_PORT 1) e ≡ (s, w)) empty played
-
--- It loads the first CID.
-pub cid_of : (n : ℕ) (v w : Ends) (s : DriverState) → v ≡ empty_ends n → over_lists (new_of v.lists.size FIRST_PORT 1) v ≡ (s, w) → s.cid ≡ first_cid
-cid_of n v w s empty played =
-    sym (ap (λ (r : DriverState × Ends). r.0.cid) (made_at n v w s empty played))
-    ∙ sym (ap (λ (b : Both). b.driver.part.cid) (opening_is n (opened_host [])))
+-- A driver just made loads the first CID.
+pub cid_of : (n : ℕ) (w : Ends) (s : DriverState) → over_lists (new_of n FIRST_PORT 1) (empty_ends n) ≡ (s, w) → s.cid ≡ first_cid
+cid_of n w s played =
+    sym (ap (λ (r : DriverState × Ends). r.0.cid) played) ∙ sym (ap (λ (b : Both). b.driver.part.cid) (opening_is n (opened_host [])))
 
 -- A proxy just made, over empty rings.
 served_new : (n : ℕ) (base : List ℕ) (h : HostContents) → IsServedAtWork (new_proxy first_cid base) (empty_ends n) h
@@ -35,12 +25,12 @@ served_new n base h = record { chain = tt; streams = new_has [] first_cid base h
 abbrev pub begun : DriverState → ProxyState → Ends → HostContents → WorldState
 begun s x w h = record { driver = s; proxy = x; rings = w; host = h }
 
-module _ (n : ℕ) (base : List ℕ) (v w : Ends) (s : DriverState) (x : ProxyState) (h : HostMemory) (empty : v ≡ empty_ends n)
-    (played : over_lists (new_of v.lists.size FIRST_PORT 1) v ≡ (s, w)) (made : x ≡ new_proxy first_cid base) (host : h ≡ new_host base [] plain) where
+module _ (n : ℕ) (base : List ℕ) (w : Ends) (s : DriverState) (x : ProxyState) (h : HostMemory)
+    (played : over_lists (new_of n FIRST_PORT 1) (empty_ends n) ≡ (s, w)) (made : x ≡ new_proxy first_cid base) (host : h ≡ new_host base [] plain) where
   pub begun_as : begun s x w h.contents ≡ shown (opening n (opened_host base))
   begun_as =
       let first = over_lists (new_of n FIRST_PORT 1) (empty_ends n) in
-      ap (λ (r : DriverState × Ends). begun r.0 x r.1 h.contents) (sym (made_at n v w s empty played))
+      ap (λ (r : DriverState × Ends). begun r.0 x r.1 h.contents) (sym played)
       ∙ (ap (λ y. begun first.0 y first.1 h.contents) made
       ∙ ap (λ (m : HostMemory). begun first.0 (new_proxy first_cid base) first.1 m.contents) host)
 
@@ -50,6 +40,6 @@ module _ (n : ℕ) (base : List ℕ) (v w : Ends) (s : DriverState) (x : ProxySt
     driven = driven;
     served =
         subst (λ y. IsServedAtWork y w h.contents) (sym made)
-        (served_rings (new_proxy first_cid base) v w h.contents (device_stays (new_of v.lists.size FIRST_PORT 1) v w s played)
-        (subst (λ e. IsServedAtWork (new_proxy first_cid base) e h.contents) (sym empty) (served_new n base h.contents)));
+        (served_rings (new_proxy first_cid base) (empty_ends n) w h.contents (device_stays (new_of n FIRST_PORT 1) (empty_ends n) w s played)
+        (served_new n base h.contents));
   }

@@ -1,32 +1,25 @@
 -- What the device puts into a chain that it holds may be put: the chain has room, and the log stays fair.
-use Rattle.std.proofs.Common.{◌≡◌, ℕ, ◌+◌, ◌≤◌, ◌==◌, not, Bool, true, false, cond, List, [], ◌∷◌, ◌++◌, length}
-use Rattle.std.proofs.Common.{Contains, Option, Some, None, IfSome, refl, sym, ap, subst, ◌∙◌, arith}
+use Rattle.std.proofs.Common.{◌≡◌, ℕ, ◌+◌, ◌≤◌, ◌==◌, not, Bool, true, false, cond, List, [], ◌∷◌, ◌++◌, length, Contains, Option, Some}
+use Rattle.std.proofs.Common.{None, IfSome, refl, sym, ap, subst, ◌∙◌, arith}
 use Rattle.std.proofs.lemmas.List.{append-nil}
 use Rattle.vs_contents.specs.CallTree.{Done, Ask, bind}
-use Rattle.vs_conn.specs.End.{owes_of, wanting_credit}
-use Rattle.vs_conn.specs.Headers.{owed_header, payload_header}
+use Rattle.vs_conn.specs.{End.owes_of, End.wanting_credit, Headers.owed_header, Headers.payload_header}
 use Rattle.vs_conn.specs.declared.end.Owed.{Owed}
 use Rattle.vs_conn.specs.declared.end.Owed.TheVariants as owed
 use Rattle.vs_credit.specs.Credit.{free_of}
 use Rattle.vs_flow.specs.Table.{entry_under}
 use Rattle.vs_header.specs.Packet.{header_bytes}
-use Rattle.vs_header.specs.declared.Header.{Header}
-use Rattle.vs_header.specs.declared.TheConstants.{HEADER_LEN}
+use Rattle.vs_header.specs.declared.{Header.Header, TheConstants.HEADER_LEN}
 use Rattle.vs_history.specs.declared.packet.Packet.{Packet}
 use Rattle.vs_outside.specs.declared.host_net.StreamRead.{StreamRead}
 use Rattle.vs_outside.specs.declared.host_net.StreamRead.TheVariants as read
-use Rattle.vs_page.specs.Fair.{IsFairLog}
-use Rattle.vs_page.specs.Held.{FitsWire, packet_held}
-use Rattle.vs_page.specs.Log.{Device}
+use Rattle.vs_page.specs.{Fair.IsFairLog, Held.FitsWire, Held.packet_held, Log.Device}
 use Rattle.vs_page.specs.declared.log.LogEntry.TheVariants.{PutPacket}
 use Rattle.vs_replies.specs.declared.Reply.{Reply}
-use Rattle.vs_ring_port.specs.Chains.{chains_of}
-use Rattle.vs_ring_port.specs.Contents.{RingContents}
-use Rattle.vs_ring_port.specs.EndLog.{EndLog}
+use Rattle.vs_ring_port.specs.{Chains.chains_of, Contents.RingContents, EndLog.EndLog}
 use Rattle.vs_ring_port.specs.declared.device_ring.Chain.{Chain}
 use Rattle.vs_ring_port.specs.declared.queue.Queue.TheVariants.{Event}
-use Rattle.vs_matching.specs.Both.{IsSound, Pays, Seat, Sends}
-use Rattle.vs_matching.specs.Heard.{route_of}
+use Rattle.vs_matching.specs.{Both.IsSound, Both.Pays, Both.Seat, Both.Sends, Heard.route_of}
 use Rattle.vs_matching.specs.Steps.{owed_on, payload_on, reply_on}
 use Rattle.vs_matching.proofs.Both.{step_keeps}
 use Rattle.vs_device_parts.specs.Calls.{CloseStream, Situation, DeviceTree}
@@ -38,14 +31,11 @@ use Rattle.vs_device_parts.specs.State.{DeviceEntry, DeviceState}
 use Rattle.vs_device_parts.specs.Steps.{filling, puts_event, puts_owed, puts_payload, puts_reply, reads}
 use Rattle.vs_device_laws.specs.Split.{MayPut}
 use Rattle.vs_device_log.proofs.Filling.{can_send, under_there}
-use Rattle.vs_world.specs.Pages.{is_held}
-use Rattle.vs_world.specs.Sides.{flow_to_guest}
+use Rattle.vs_world.specs.{Pages.is_held, Sides.flow_to_guest}
 use Rattle.vs_world.proofs.Chains.{HoldsRx}
 use Rattle.vs_world.proofs.DeviceSide as side
-use Rattle.vs_world.proofs.DeviceSide.{DeviceHolds, entry_fits, seated}
-use Rattle.vs_world.proofs.Fits.{holds_header, holds_payload}
-use Rattle.vs_world.proofs.Runs.{keeps_sound}
-use Rattle.vs_world.proofs.Wire.{PutsFit, RouteFits, not_payload, owed_fits, payload_fits}
+use Rattle.vs_world.proofs.{DeviceSide.DeviceHolds, DeviceSide.entry_fits, DeviceSide.seated, Fits.holds_header, Fits.holds_payload}
+use Rattle.vs_world.proofs.{Runs.keeps_sound, Wire.PutsFit, Wire.RouteFits, Wire.not_payload, Wire.owed_fits, Wire.payload_fits}
 use Rattle.vs_core.proofs.Written.{MayHold, event_may, written_may}
 
 -- The owed event may be put into an event chain that is held.

@@ -2,10 +2,8 @@
 use Rattle.std.proofs.Common.{◌≡◌, ℕ, ◌+◌, ◌<◌, ◌≤◌, List, [], ◌∷◌, length, map, drop, get_or, sym, ap, ◌∙◌}
 use Rattle.std.proofs.Math.ListN.{drop_of_length-le}
 use Rattle.std.proofs.lemmas.List.{drop_more, drop-map, length-map}
-use Rattle.vs_world.specs.Events.{Event, happens, run}
-use Rattle.vs_world.specs.World.{World}
-use Rattle.vs_core.specs.Ready.{WorldState, shown, with_journal}
-use Rattle.vs_core.specs.Views.{event_view}
+use Rattle.vs_world.specs.{Events.Event, Events.happens, Events.run, World.World}
+use Rattle.vs_core.specs.{Ready.WorldState, Ready.shown, Ready.with_journal, Views.event_view}
 use Rattle.vs_core.specs.declared.event.Event as program
 use Rattle.vs_core.proofs.Happening.{run_blind}
 
@@ -23,10 +21,6 @@ rest_from events place e within at =
 -- Those that are left lead to where all lead.
 abbrev pub IsLed : List program.Event → ℕ → WorldState → World → Type 0
 IsLed events place s w = shown (run (drop place (events_of events)) (with_journal [] s)) ≡ shown (run (events_of events) w)
-
-pub led_first : (events : List program.Event) (s : WorldState) (w : World) → s ≡ shown w → IsLed events 0 s w
-led_first events s w is =
-    ap (λ (x : WorldState). shown (run (events_of events) (with_journal [] x))) is ∙ sym (run_blind (events_of events) w)
 
 pub led_next : (events : List program.Event) (place : ℕ) (e : program.Event) (s t : WorldState) (w : World) → place < length events
     → e ≡ get_or events place e → IsLed events place s w → t ≡ shown (happens (event_view e) (with_journal [] s)) → IsLed events (place + 1) t w

@@ -1,34 +1,27 @@
 -- What a step of the device's or the proxy's leads to, and what it keeps.
-use Rattle.std.proofs.Common.{◌≡◌, ℕ, nat_lt, Bool, true, false, cond, List, length, Option, Some, Result, unwrap_or, Contains, refl, sym, ap, subst, ◌∙◌}
+use Rattle.std.proofs.Common.{◌≡◌, ℕ, nat_lt, Bool, true, false, cond, List, length, Option, Some, Result, unwrap_or, Contains, refl, sym}
+use Rattle.std.proofs.Common.{ap, subst, ◌∙◌}
 use Rattle.std.specs.Option.{ForSome, IfSome}
 use Rattle.vs_contents.specs.CallTree.{Done, Ask, bind, played}
 use Rattle.vs_outside.specs.Host.{HostContents}
-use Rattle.vs_ring_port.specs.Chains.{chains_of}
-use Rattle.vs_ring_port.specs.EndLog.{EndLog}
+use Rattle.vs_ring_port.specs.{Chains.chains_of, EndLog.EndLog}
 use Rattle.vs_ring_port.specs.declared.failure.Failure.{Failure}
 use Rattle.vs_ring_list.specs.Ends.{Ends, device_contents, staged_of}
 use Rattle.vs_driver_log.specs.Staged.{IsTied}
-use Rattle.vs_driver_parts.specs.Playing.{all_flown}
-use Rattle.vs_driver_parts.specs.State.{DriverState}
+use Rattle.vs_driver_parts.specs.{Playing.all_flown, State.DriverState}
 use Rattle.vs_device_laws.specs.Streams.{HasStreams}
 use Rattle.vs_device_parts.specs.Calls.{Accept, DeviceTree, Situation}
-use Rattle.vs_device_parts.specs.Playing.{IsAmong, IsRxChain, MayRun, Runs, situation}
-use Rattle.vs_device_parts.specs.State.{DeviceState}
+use Rattle.vs_device_parts.specs.{Playing.IsAmong, Playing.IsRxChain, Playing.MayRun, Playing.Runs, Playing.situation, State.DeviceState}
 use Rattle.vs_device_parts.specs.Steps.{returns}
 use Rattle.vs_device_log.proofs.Keeping.{HoldsChain}
 use Rattle.vs_ring_port.specs.declared.device_ring.Chain.{Chain}
 use Rattle.vs_proxy_parts.specs.Handshakes.{accept_answered, accept_one, read_byte, streams_of}
-use Rattle.vs_proxy_parts.specs.State.{ProxyState, Turning, start, with_device}
-use Rattle.vs_proxy_parts.specs.Turns.{proxy_reset_of}
+use Rattle.vs_proxy_parts.specs.{State.ProxyState, State.Turning, State.start, State.with_device, Turns.proxy_reset_of}
 use Rattle.vs_proxy_parts.specs.declared.limits.TheConstants.{HANDSHAKES}
-use Rattle.vs_world.specs.Answers.{Around, answer_around}
-use Rattle.vs_world.specs.Events.{line_read}
-use Rattle.vs_world.specs.World.{first_cid}
+use Rattle.vs_world.specs.{Answers.Around, Answers.answer_around, Events.line_read, World.first_cid}
 use Rattle.vs_world.specs.Over.{beside, device_after, proxy_after, reset_after}
 use Rattle.vs_core.specs.Ready.{IsDrivenAtWork, IsServedAtWork}
-use Rattle.vs_world.proofs.Flown.{LeavesDriver}
-use Rattle.vs_world.proofs.Holding.{AllReturnSome, some_held}
-use Rattle.vs_world.proofs.OverBoth.{IsPlayed, over_held}
+use Rattle.vs_world.proofs.{Flown.LeavesDriver, Holding.AllReturnSome, Holding.some_held, OverBoth.IsPlayed, OverBoth.over_held}
 
 -- The rings stay the driver's.
 pub driven_still : (v w : Ends) → LeavesDriver v w → (s : DriverState) → IsDrivenAtWork s v → IsDrivenAtWork s w
@@ -115,15 +108,6 @@ step_serves s t v w h g others chain streams served = record {
   streams =
       subst (λ (ids : List ℕ). HasStreams ids t.device.table g) (same_streams s t others)
       (streams (streams_of s) (has_some (streams_of s) s.device h served.streams) g refl);
-}
-
-pub ring_serves : (s t : ProxyState) (v w : Ends) (h : HostContents) → t ≡ with_device t.device s
-    → IsAmong (chains_of w.device.held) t.device
-    → ((others : List ℕ) (host : HostContents) → HasStreams others s.device.table host → HasStreams others t.device.table host)
-    → IsServedAtWork s v h → IsServedAtWork t w h
-ring_serves s t v w h others chain streams served = record {
-  chain = chain;
-  streams = subst (λ (ids : List ℕ). HasStreams ids t.device.table h) (same_streams s t others) (streams (streams_of s) h served.streams);
 }
 
 -- The chain that the device holds is as before.

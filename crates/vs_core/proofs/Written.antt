@@ -1,30 +1,22 @@
 -- What may be written into a chain that is held, and returned with it.
 use Rattle.std.specs.Option.{ForSome}
-use Rattle.std.proofs.Common.{◌≡◌, ℕ, ◌+◌, ◌≤◌, true, List, [], ◌∷◌, ◌++◌, length, take, Option, Some, IsSomeAnd}
-use Rattle.std.proofs.Common.{refl, sym, ap, subst, ◌∙◌, arith, length-append}
+use Rattle.std.proofs.Common.{◌≡◌, ℕ, ◌+◌, ◌≤◌, true, List, [], ◌∷◌, ◌++◌, length, take, Option, Some, IsSomeAnd, refl, sym, ap, subst, ◌∙◌}
+use Rattle.std.proofs.Common.{arith, length-append}
 use Rattle.std.proofs.lemmas.List.{append-nil, length-take}
-use Rattle.vs_contents.specs.CallTree.{Ask, bind}
-use Rattle.vs_contents.specs.Contents.{Exposes}
+use Rattle.vs_contents.specs.{CallTree.Ask, CallTree.bind, Contents.Exposes}
 use Rattle.vs_header.specs.Packet.{header_bytes}
-use Rattle.vs_header.specs.declared.Header.{Header}
-use Rattle.vs_header.specs.declared.TheConstants.{HEADER_LEN}
+use Rattle.vs_header.specs.declared.{Header.Header, TheConstants.HEADER_LEN}
 use Rattle.vs_history.specs.Packets.{packet_bytes}
 use Rattle.vs_history.specs.declared.packet.Packet.{Packet}
-use Rattle.vs_page.specs.Fair.{IsFairLog}
-use Rattle.vs_page.specs.Held.{packet_held}
-use Rattle.vs_page.specs.Log.{Device, Log}
-use Rattle.vs_page.specs.Overwriting.{overwritten}
+use Rattle.vs_page.specs.{Fair.IsFairLog, Held.packet_held, Log.Device, Log.Log, Overwriting.overwritten}
 use Rattle.vs_page.specs.declared.log.LogEntry.TheVariants.{PutPacket}
-use Rattle.vs_ring_port.specs.Chains.{bytes_in}
-use Rattle.vs_ring_port.specs.Contents.{RingContents, Write, Return}
-use Rattle.vs_ring_port.specs.DeviceCalls.{CanReturn, IsWholePacket}
-use Rattle.vs_ring_port.specs.DriverCalls.{HoldsPacket}
+use Rattle.vs_ring_port.specs.{Chains.bytes_in, Contents.RingContents, Contents.Write, Contents.Return}
+use Rattle.vs_ring_port.specs.{DeviceCalls.CanReturn, DeviceCalls.IsWholePacket, DriverCalls.HoldsPacket}
 use Rattle.vs_ring_port.specs.EndLog.{EndLog, entries_returned, log_written, with_packet}
 use Rattle.vs_ring_port.specs.declared.device_ring.Chain.{Chain}
 use Rattle.vs_ring_port.specs.declared.queue.Queue.{Queue}
 use Rattle.vs_ring_port.specs.declared.queue.Queue.TheVariants.{Rx, Event}
-use Rattle.vs_device_parts.specs.Calls.{Ring, Situation, DeviceTree}
-use Rattle.vs_device_parts.specs.Receiving.{written}
+use Rattle.vs_device_parts.specs.{Calls.Ring, Calls.Situation, Calls.DeviceTree, Receiving.written}
 use Rattle.vs_device_laws.specs.Split.{MayPut}
 use Rattle.vs_world.specs.Pages.{is_held}
 use Rattle.vs_world.proofs.Chains.{both_written, bytes_written, first_written, held_written}

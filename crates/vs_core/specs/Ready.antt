@@ -1,21 +1,15 @@
 -- What a world holds between two events, and what it is for an event to happen in it.
 use Rattle.std.specs.Prelude.{◌≡◌, ◌<◌, ℕ, List, []}
-use Rattle.vs_ring_port.specs.Chains.{chains_of}
-use Rattle.vs_ring_port.specs.Counts.{no_counts, with_count}
-use Rattle.vs_ring_port.specs.declared.queue.Queue.{Queue}
-use Rattle.vs_ring_port.specs.declared.queue.TheConstants.{STAGED_MAX}
+use Rattle.vs_ring_port.specs.{Chains.chains_of, Counts.no_counts, Counts.with_count}
+use Rattle.vs_ring_port.specs.declared.queue.{Queue.Queue, TheConstants.STAGED_MAX}
 use Rattle.vs_ring_list.specs.Ends.{Ends, flight_of, staged_of}
 use Rattle.vs_outside.specs.Host.{HostContents}
-use Rattle.vs_driver_parts.specs.Playing.{all_flown}
-use Rattle.vs_driver_parts.specs.State.{DriverState}
+use Rattle.vs_driver_parts.specs.{Playing.all_flown, State.DriverState}
 use Rattle.vs_driver_log.specs.Staged.{IsTied}
 use Rattle.vs_device_parts.specs.Playing.{IsAmong}
 use Rattle.vs_device_laws.specs.Streams.{HasStreams}
-use Rattle.vs_proxy_parts.specs.Handshakes.{streams_of}
-use Rattle.vs_proxy_parts.specs.State.{ProxyState}
-use Rattle.vs_world.specs.Calls.{Journal}
-use Rattle.vs_world.specs.Events.{Event, happens, run}
-use Rattle.vs_world.specs.World.{World, first_cid, opening}
+use Rattle.vs_proxy_parts.specs.{Handshakes.streams_of, State.ProxyState}
+use Rattle.vs_world.specs.{Calls.Journal, Events.Event, Events.happens, Events.run, World.World, World.first_cid, World.opening}
 
 -- A world without the journal of the calls that the guest made.
 pub record WorldState : Type 0 where

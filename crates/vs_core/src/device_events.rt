@@ -1,18 +1,18 @@
 //! What the device and its proxy do in the world, one event at a time. The only error is want of memory, which the host found in a dial or a
 //! write, and then the world may not go on.
 
-ghost use Rattle.std.specs.Prelude.{◌≡◌, ◌&&◌, OnOk, nat_le};
+ghost use Rattle.std.specs.Prelude.{◌≡◌, ◌&&◌, OnOk, false, nat_le};
 ghost use Rattle.vs_ring_port.specs.Chains.{same_queue};
 ghost use Rattle.vs_ring_port.specs.declared.queue.Queue.TheVariants as q;
-ghost use Rattle.vs_world.specs.Events.{DevicePays, DevicePutsEvent, DeviceReads, DeviceReplies, DeviceReturns, DeviceShutsWrite, DeviceTakes, DeviceWrites};
-ghost use Rattle.vs_world.specs.Events.{HandshakeTimesOut, Moment, ProxyAccepts, ProxyReads, Reset, TimesOut, is_guest_cid};
-ghost use Rattle.vs_world.specs.Pages.{is_held};
+ghost use Rattle.vs_world.specs.Events.{DevicePays, DevicePutsEvent, DeviceReads, DeviceReplies, DeviceReturns, DeviceShutsWrite};
+ghost use Rattle.vs_world.specs.Events.{DeviceTakes, DeviceWrites, HandshakeTimesOut, Moment, ProxyAccepts, ProxyReads, Reset, TimesOut};
+ghost use Rattle.vs_world.specs.{Events.is_guest_cid, Pages.is_held};
 ghost use Rattle.vs_core.specs.Ready.{Happens, IsReady};
 
-use crate::device;
 use crate::world::World;
 use std::alloc::AllocError;
 use vs_flow::Slot;
+use vs_outside::MemHost;
 use vs_proxy::steps;
 use vs_ring_list::ListRings;
 use vs_ring_port::{Chain, Queue};
@@ -26,7 +26,20 @@ impl World {
         if steps::has_failed(&self.proxy) {
             return Ok(());
         }
-        device::take_page(&mut self.proxy, &mut self.rings, &mut self.host, queue)
+        match queue {
+            Queue::Rx => {
+                steps::hold_chain(&mut self.proxy, &mut self.rings);
+                fed(&self.host)
+            }
+            Queue::Tx => {
+                steps::take_packet(&mut self.proxy, &mut self.rings, &mut self.host);
+                fed(&self.host)
+            }
+            Queue::Event => {
+                steps::take_event(&self.proxy, &mut self.rings);
+                fed(&self.host)
+            }
+        }
     }
 
     /// It returns a transmit page.
@@ -37,7 +50,8 @@ impl World {
         if !holds_packet(&self.rings, chain) {
             return Ok(());
         }
-        device::return_chain(&self.proxy, &mut self.rings, &self.host, chain.twin())
+        steps::return_chain(&self.proxy, &mut self.rings, chain.twin());
+        fed(&self.host)
     }
 
     /// It puts the event that it owes.
@@ -48,7 +62,8 @@ impl World {
         if !holds_event(&self.rings, chain) {
             return Ok(());
         }
-        device::put_event(&mut self.proxy, &mut self.rings, &self.host, chain.twin())
+        steps::put_event(&mut self.proxy, &mut self.rings, chain.twin());
+        fed(&self.host)
     }
 
     /// It puts the oldest reply that it owes.
@@ -59,7 +74,8 @@ impl World {
         if steps::has_failed(&self.proxy) {
             return Ok(());
         }
-        device::put_reply(&mut self.proxy, &mut self.rings, &self.host)
+        steps::put_reply(&mut self.proxy, &mut self.rings);
+        fed(&self.host)
     }
 
     /// It puts payload that it reads of a connection's stream.
@@ -70,7 +86,8 @@ impl World {
         if steps::has_failed(&self.proxy) {
             return Ok(());
         }
-        device::put_payload(&mut self.proxy, &mut self.rings, &mut self.host, slot)
+        steps::put_payload(&mut self.proxy, &mut self.rings, &mut self.host, slot);
+        fed(&self.host)
     }
 
     /// It puts what a connection owes.
@@ -81,7 +98,8 @@ impl World {
         if steps::has_failed(&self.proxy) {
             return Ok(());
         }
-        device::put_owed(&mut self.proxy, &mut self.rings, &mut self.host, slot)
+        steps::put_owed(&mut self.proxy, &mut self.rings, &mut self.host, slot);
+        fed(&self.host)
     }
 
     /// It writes to a connection's stream.
@@ -92,7 +110,8 @@ impl World {
         if steps::has_failed(&self.proxy) {
             return Ok(());
         }
-        device::write(&mut self.proxy, &self.rings, &mut self.host, slot)
+        steps::write(&mut self.proxy, &mut self.host, slot);
+        fed(&self.host)
     }
 
     /// It shuts the side of a connection's stream that it writes to.
@@ -103,7 +122,8 @@ impl World {
         if steps::has_failed(&self.proxy) {
             return Ok(());
         }
-        device::shut_write(&mut self.proxy, &self.rings, &mut self.host, slot)
+        steps::shut_write(&mut self.proxy, &mut self.host, slot);
+        fed(&self.host)
     }
 
     /// The proxy accepts a client.
@@ -114,7 +134,8 @@ impl World {
         if steps::has_failed(&self.proxy) {
             return Ok(());
         }
-        device::accept(&mut self.proxy, &self.rings, &mut self.host)
+        steps::accept(&mut self.proxy, &mut self.host);
+        fed(&self.host)
     }
 
     /// It reads a byte of a client's line.
@@ -125,7 +146,8 @@ impl World {
         if steps::has_failed(&self.proxy) {
             return Ok(());
         }
-        device::read_line(&mut self.proxy, &self.rings, &mut self.host, stream)
+        steps::read_line(&mut self.proxy, &mut self.host, stream);
+        fed(&self.host)
     }
 
     /// The moment is this now, in milliseconds.
@@ -144,7 +166,8 @@ impl World {
         if steps::has_failed(&self.proxy) {
             return Ok(());
         }
-        device::time_out(&mut self.proxy, &self.rings, &mut self.host, slot)
+        steps::time_out(&mut self.proxy, &mut self.host, slot);
+        fed(&self.host)
     }
 
     /// A client's handshake times out.
@@ -155,7 +178,8 @@ impl World {
         if steps::has_failed(&self.proxy) {
             return Ok(());
         }
-        device::time_out_handshake(&mut self.proxy, &self.rings, &mut self.host, stream)
+        steps::time_out_handshake(&mut self.proxy, &mut self.host, stream);
+        fed(&self.host)
     }
 
     /// A transport reset: the guest gets this CID.
@@ -166,7 +190,8 @@ impl World {
         if !is_guest_cid(cid) {
             return Ok(());
         }
-        device::reset(&mut self.proxy, &mut self.rings, &mut self.host, cid)
+        let _answer = steps::reset(&mut self.proxy, &mut self.rings, &mut self.host, cid);
+        fed(&self.host)
     }
 }
 
@@ -217,4 +242,14 @@ fn holds_event(rings: &ListRings, chain: &Chain) -> bool
     ensures { result ≡ ((same_queue q.Event chain.now.queue && is_held chain.now rings.now.device.held) && nat_le 4 chain.now.writable) }
 {
     holds_on_event(rings, chain) && 4 <= chain.writable
+}
+
+// The host found memory in each dial and each write. The only error is that it didn't.
+fn fed(host: &MemHost) -> Result<(), AllocError>
+    ensures { OnOk result (host.now.contents.starved ≡ false) }
+{
+    if host.starved() {
+        return Err(AllocError);
+    }
+    Ok(())
 }

@@ -4,12 +4,9 @@ ghost use Rattle.std.specs.Prelude.{◌≡◌, ℕ, ◌≤◌, ◌||◌, false, 
 ghost use Rattle.vs_history.specs.declared.TheConstants.{BUF_ALLOC};
 ghost use Rattle.vs_conn.specs.End.{ConnectionEnd, is_refused, verdict_of};
 ghost use Rattle.vs_driver_parts.specs.declared.limits.TheConstants.{FIRST_PORT};
-ghost use Rattle.vs_flow.specs.declared.flow.Flow.{Flow};
-ghost use Rattle.vs_flow.specs.declared.flow.TheConstants.{ASSIGNED_FIRST};
+ghost use Rattle.vs_flow.specs.declared.flow.{Flow.Flow, TheConstants.ASSIGNED_FIRST};
 ghost use Rattle.vs_history.specs.declared.packet.Packet.{Packet};
-ghost use Rattle.vs_matching.specs.Both.{start};
-ghost use Rattle.vs_matching.specs.Ends.{begun_flows, flows_of, is_among, new_flows};
-ghost use Rattle.vs_matching.specs.Matches.{Matches};
+ghost use Rattle.vs_matching.specs.{Both.start, Ends.begun_flows, Ends.flows_of, Ends.is_among, Ends.new_flows, Matches.Matches};
 ghost use Rattle.vs_matching.specs.Steps.{HasEnd, is_overrun};
 ghost use Rattle.vs_outside.specs.Host.{HostContents};
 ghost use Rattle.vs_page.specs.Fair.{IsFairLog, IsPrefixOf, payload_got, payload_put};
@@ -17,11 +14,8 @@ ghost use Rattle.vs_page.specs.Log.{Device, Driver, HasGotAll, IsNextPacket, Log
 ghost use Rattle.vs_page.specs.Open.{is_dropped, is_open};
 ghost use Rattle.vs_page.specs.declared.log.LogEntry.TheVariants.{Mark};
 ghost use Rattle.vs_world.specs.Calls.{GuestCall, is_right, sent_on};
-ghost use Rattle.vs_world.specs.Events.{Event, happens, is_at_rest, is_guest_cid, run};
-ghost use Rattle.vs_world.specs.Laws.{IsQueued};
-ghost use Rattle.vs_world.specs.Plays.{guest_line, poll_line, reset_line};
-ghost use Rattle.vs_world.specs.Steps.{Leads};
-ghost use Rattle.vs_world.specs.Sides.{Runs, both_of};
+ghost use Rattle.vs_world.specs.{Events.Event, Events.happens, Events.is_at_rest, Events.is_guest_cid, Events.run, Laws.IsQueued};
+ghost use Rattle.vs_world.specs.{Plays.guest_line, Plays.poll_line, Plays.reset_line, Steps.Leads, Sides.Runs, Sides.both_of};
 ghost use Rattle.vs_world.specs.World.{World, first_cid, opening};
 
 /// After any list of events what each end got is what the other put first, packets on tx and on rx and ids of events; and what was put and

@@ -2,10 +2,9 @@
 //! and the laws of every list of events (Virtio 1.2, section 5.10.6).
 #![tactic(auto)]
 
-mod device;
 mod device_events;
 pub mod event;
-mod guest;
+mod guest_events;
 mod host_events;
 pub mod laws;
 pub mod pipes;

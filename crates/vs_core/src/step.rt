@@ -1,13 +1,10 @@
 //! Events, one after another.
 
-ghost use Rattle.std.specs.Prelude.{◌≡◌, ◌≤◌, IfOk, Ok, length, map};
-ghost use Rattle.std.specs.List.{All};
+ghost use Rattle.std.specs.{Prelude.◌≡◌, Prelude.◌≤◌, Prelude.IfOk, Prelude.Ok, Prelude.length, Prelude.map, List.All};
 ghost use Rattle.vs_ring_list.specs.Ends.{IsQueueSize};
 ghost use Rattle.vs_uds.specs.declared.path.TheConstants.{BASE_MAX};
-ghost use Rattle.vs_world.specs.Events.{run};
-ghost use Rattle.vs_world.specs.World.{opened_host, opening};
-ghost use Rattle.vs_core.specs.Ready.{IsReady, shown};
-ghost use Rattle.vs_core.specs.Views.{HasBits, Steps, event_view};
+ghost use Rattle.vs_world.specs.{Events.run, World.opened_host, World.opening};
+ghost use Rattle.vs_core.specs.{Ready.IsReady, Ready.shown, Views.HasBits, Views.Steps, Views.event_view};
 ghost use Rattle.vs_core.specs.declared.event.Reply.TheVariants as reply;
 
 use crate::event::{Event, Reply};

@@ -5,27 +5,14 @@ use Rattle.vs_contents.specs.CallTree.{Leads}
 use Rattle.vs_flow.specs.declared.flow.Flow.{Flow}
 use Rattle.vs_flow.specs.declared.table.TableFault.{TableFault}
 use Rattle.vs_ring_port.specs.declared.failure.Failure.{Failure}
-use Rattle.vs_device_parts.specs.Calls.{Situation}
-use Rattle.vs_device_parts.specs.Playing.{Runs}
-use Rattle.vs_device_parts.specs.Receiving.{fill_rx_of, pay_event_of}
-use Rattle.vs_device_parts.specs.State.{DeviceState}
-use Rattle.vs_device_parts.specs.Streams.{Writing, pump_of, tick_of}
-use Rattle.vs_device_parts.specs.Transmitting.{take_tx_of}
-use Rattle.vs_device_parts.specs.Turns.{open_of, reset_of}
-use Rattle.vs_device_parts.specs.declared.answers.Filled.{Filled}
-use Rattle.vs_device_parts.specs.declared.answers.Taken.{Taken}
+use Rattle.vs_device_parts.specs.{Calls.Situation, Playing.Runs, Receiving.fill_rx_of, Receiving.pay_event_of, State.DeviceState}
+use Rattle.vs_device_parts.specs.{Streams.Writing, Streams.pump_of, Streams.tick_of, Transmitting.take_tx_of, Turns.open_of, Turns.reset_of}
+use Rattle.vs_device_parts.specs.declared.answers.{Filled.Filled, Taken.Taken}
 use Rattle.vs_proxy_parts.specs.State.{Handshake}
-use Rattle.vs_proxy_bytes.specs.Judged.{IsJudged}
-use Rattle.vs_proxy_bytes.specs.Made.{Made, Makes}
-use Rattle.vs_proxy_bytes.specs.Told.{AreAccounted, IsAsking, StayAccounted}
-use Rattle.vs_proxy_bytes.proofs.Closing.{keeps_tick}
-use Rattle.vs_proxy_bytes.proofs.Judging.{take_tx_judged}
-use Rattle.vs_proxy_bytes.proofs.Keeping.{keeps_end}
-use Rattle.vs_proxy_bytes.proofs.Opening.{keeps_open, keeps_reset_alone}
-use Rattle.vs_proxy_bytes.proofs.Receiving.{keeps_fill_rx, keeps_pay_event}
-use Rattle.vs_proxy_bytes.proofs.Telling.{stay_accounted}
-use Rattle.vs_proxy_bytes.proofs.Transmitting.{keeps_take_tx}
-use Rattle.vs_proxy_bytes.proofs.Writing.{keeps_pump}
+use Rattle.vs_proxy_bytes.specs.{Judged.IsJudged, Made.Made, Made.Makes, Told.AreAccounted, Told.IsAsking, Told.StayAccounted}
+use Rattle.vs_proxy_bytes.proofs.{Closing.keeps_tick, Judging.take_tx_judged, Keeping.keeps_end}
+use Rattle.vs_proxy_bytes.proofs.{Opening.keeps_open, Opening.keeps_reset_alone, Receiving.keeps_fill_rx, Receiving.keeps_pay_event}
+use Rattle.vs_proxy_bytes.proofs.{Telling.stay_accounted, Transmitting.keeps_take_tx, Writing.keeps_pump}
 
 module _ (s : DeviceState) (a b : Situation) where
   pub take_accounted : (x : DeviceState × Taken) → Runs (take_tx_of s) a x b → (calls : List Made) (hands : List Handshake)

@@ -1,10 +1,10 @@
 -- The receive chain that a device holds, among all chains that were taken of its ring.
-use Rattle.std.proofs.Common.{◌≡◌, zero, suc, ◌<◌, Bool, true, false, cond, List, [], ◌∷◌, Option, Some, None, Contains, refl, sym, ap, subst, ◌∙◌, arith}
+use Rattle.std.proofs.Common.{◌≡◌, zero, suc, ◌<◌, Bool, true, false, cond, List, [], ◌∷◌, Option, Some, None, Contains, sym, ap, subst}
+use Rattle.std.proofs.Common.{◌∙◌, arith}
 use Rattle.std.specs.Option.{IfSome}
 use Rattle.vs_ring_port.specs.Chains.{same_chain, without}
 use Rattle.vs_ring_port.specs.declared.device_ring.Chain.{Chain}
-use Rattle.vs_device_parts.specs.State.{DeviceState}
-use Rattle.vs_device_parts.specs.Playing.{IsAmong, IsRingOf, IsRxChain, beside, held_by}
+use Rattle.vs_device_parts.specs.{State.DeviceState, Playing.IsAmong, Playing.IsRingOf, Playing.IsRxChain, Playing.beside, Playing.held_by}
 use Rattle.vs_device.proofs.Takings.{newest_held, without_newest}
 
 -- where it is the only one
@@ -53,9 +53,6 @@ held_one o c held is has = let P : Option Chain → Type 0 = λ x. IfSome x (λ 
 
 pub beside_one : (o : Option Chain) (c : Chain) (held : List Chain) → o ≡ Some c → without c held ≡ beside o held
 beside_one o c held is = sym (ap (λ (x : Option Chain). beside x held) is)
-
-pub took_one : (c : Chain) (held : List Chain) → without c (c ∷ held) ≡ held
-took_one c held = without_newest c (c ∷ held) held refl
 
 pub same_among : (held held' : List Chain) (s s' : DeviceState) → held' ≡ held → s'.chain ≡ s.chain → IsAmong held s → IsAmong held' s'
 same_among held held' s s' same chain has =

@@ -2,18 +2,14 @@
 use Rattle.std.proofs.Common.{◌≡◌, Bool, true, false, cond, Option, Some, None, Result, Ok, Err, refl, sym, ap, subst, ◌∙◌, arith}
 use Rattle.byteorder.specs.Endian.{little_bytes}
 use Rattle.vs_contents.specs.CallTree.{Done, Ask}
-use Rattle.vs_contents.proofs.Leads.{leads_of}
-use Rattle.vs_contents.proofs.Conditions.{may_of}
-use Rattle.vs_ring_port.specs.declared.device_ring.Chain.{Chain}
-use Rattle.vs_ring_port.specs.declared.device_ring.Next.{Next}
+use Rattle.vs_contents.proofs.{Leads.leads_of, Conditions.may_of}
+use Rattle.vs_ring_port.specs.declared.device_ring.{Chain.Chain, Next.Next}
 use Rattle.vs_ring_port.specs.declared.device_ring.Next.TheVariants as next
 use Rattle.vs_ring_port.specs.declared.failure.Failure.{Failure}
 use Rattle.vs_ring_port.specs.declared.queue.Queue.TheVariants.{Event}
-use Rattle.vs_ring_port.specs.Contents.{Take, Write, Return}
-use Rattle.vs_ring_port.specs.DeviceCalls.{CanReturn}
+use Rattle.vs_ring_port.specs.{Contents.Take, Contents.Write, Contents.Return, DeviceCalls.CanReturn}
 use Rattle.vs_device_parts.specs.Calls.{Situation, DeviceTree, Allows, Ring}
-use Rattle.vs_device_parts.specs.Playing.{CanMake, MayRun, Runs}
-use Rattle.vs_device_parts.specs.Receiving.{event_on, pay_event_of}
+use Rattle.vs_device_parts.specs.{Playing.CanMake, Playing.MayRun, Playing.Runs, Receiving.event_on, Receiving.pay_event_of}
 use Rattle.vs_device_parts.specs.State.{DeviceState}
 
 module _ (s : DeviceState) (sound : s.failed ≡ None) (owed : s.event_owed ≡ true) where

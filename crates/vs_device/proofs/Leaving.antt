@@ -1,34 +1,21 @@
 -- What closing a stream comes to, and leaving the table.
-use Rattle.std.proofs.Common.{◌≡◌, ℕ, ◌==◌, Bool, true, false, not, cond, List, [], ◌∷◌, map, Option, refl, sym, ap, subst, ◌∙◌}
+use Rattle.std.proofs.Common.{◌≡◌, ℕ, ◌==◌, Bool, true, false, not, cond, List, [], ◌∷◌, map, refl, sym, ap, subst, ◌∙◌}
 use Rattle.std.specs.List.{filter}
 use Rattle.vs_contents.specs.CallTree.{Done, Ask, bind}
-use Rattle.vs_contents.proofs.Leads.{leads_of, leads_bind}
-use Rattle.vs_contents.proofs.Conditions.{may_of}
+use Rattle.vs_contents.proofs.{Leads.leads_of, Leads.leads_bind, Conditions.may_of}
 use Rattle.vs_flow.specs.Table.{Table, with_value, without, revalued}
 use Rattle.vs_flow.proofs.Tables.{revalued-slot}
-use Rattle.vs_outside.specs.Host.{HostContents}
-use Rattle.vs_ring_port.specs.Contents.{RingContents}
 use Rattle.vs_wrap.specs.Wrap.{counted}
 use Rattle.vs_device_parts.specs.Calls.{Situation, DeviceTree, Allows, CloseStream}
 use Rattle.vs_device_parts.specs.State.{DeviceConnection, DeviceEntry, DeviceState}
 use Rattle.vs_device_parts.specs.Connections.{with_connection, stream_closed, after_leaving}
-use Rattle.vs_device_parts.specs.Playing.{CanMake, MayRun, MayClose, Runs, AllowsOnHost, situation}
-use Rattle.vs_device_parts.specs.Streams.{closing, leaving}
+use Rattle.vs_device_parts.specs.{Playing.CanMake, Playing.MayRun, Playing.MayClose, Playing.Runs, Streams.closing, Streams.leaving}
 use Rattle.vs_device_parts.proofs.Under.{with_value_twice}
 
 -- a stream is closed, or was
 module _ (e : DeviceEntry) (f : DeviceConnection → DeviceConnection) (s : DeviceState) where
-  ended : DeviceState
-  ended = with_connection e.slot (f e.value) s
-
-  is_done : e.value.closed ≡ true → closing e f s ≡ Done (with_connection e.slot (f e.value) s)
-  is_done is = rw is refl
-
   asks : e.value.closed ≡ false → closing e f s ≡ Ask (CloseStream e.value.stream) (λ _. Done (with_connection e.slot (f e.value) s))
   asks is = rw is refl
-
-  pub was_closed : (x : Situation) → e.value.closed ≡ true → Runs (closing e f s) x (with_connection e.slot (f e.value) s) x
-  was_closed x is = leads_of Allows _ _ x x (with_connection e.slot (f e.value) s) (is_done is) (refl, refl)
 
   pub is_closed_now : (x y : Situation) → e.value.closed ≡ false → Allows (CloseStream e.value.stream) tt x y → Runs (closing e f s) x (with_connection e.slot (f e.value) s) y
   is_closed_now x y is allowed = leads_of Allows _ _ x y (with_connection e.slot (f e.value) s) (asks is) (tt, y, allowed, (refl, refl))
@@ -56,14 +43,6 @@ leaves e s t x y closed is =
     let m : DeviceState = with_connection e.slot (stream_closed e.value) s in
     let end : after_leaving e.slot m ≡ t = ap (λ (u : Table DeviceConnection). let r : DeviceState = record (after_leaving e.slot s) { table = u } in r) (without_with_value s.table e.slot (stream_closed e.value)) ∙ sym is in
     leads_bind Allows (closing e stream_closed s) _ x y y m t closed (end, refl)
-
--- the same call where only the connection's stream is known
-pub closes_as : (d e : DeviceEntry) (f : DeviceConnection → DeviceConnection) (s : DeviceState) (r : RingContents) (h k : Option HostContents) (m n : ℕ)
-    → e.value.closed ≡ d.value.closed → e.value.stream ≡ d.value.stream → d.value.closed ≡ false → AllowsOnHost (CloseStream d.value.stream) tt h m k n
-    → Runs (closing e f s) (situation r h m) (with_connection e.slot (f e.value) s) (situation r k n)
-closes_as d e f s r h k m n closed stream still allowed =
-    let P : ℕ → Type 0 = λ id. Allows (CloseStream id) tt (situation r h m) (situation r k n) in
-    is_closed_now e f s (situation r h m) (situation r k n) (closed ∙ still) (subst P (sym stream) (allowed r))
 
 -- the device with another connection under a slot
 pub changed : (s new : DeviceState) (slot : ℕ) (e : DeviceEntry) (c : DeviceConnection) (t : Table DeviceConnection) → s ≡ new → t ≡ with_value s.table slot c → e.slot ≡ slot

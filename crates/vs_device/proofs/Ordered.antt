@@ -10,26 +10,15 @@ use Rattle.vs_page.specs.Log.{Device}
 use Rattle.vs_ring_port.specs.declared.failure.Failure.{Failure}
 use Rattle.vs_device_parts.specs.Calls.{Allows, DeviceTree, Situation}
 use Rattle.vs_device_parts.specs.Playing.{CanMake, Runs, RunsOnHost, RunsOnRing, situation}
-use Rattle.vs_device_parts.specs.Receiving.{fill_rx_of, pay_event_of}
-use Rattle.vs_device_parts.specs.State.{DeviceState}
-use Rattle.vs_device_parts.specs.Streams.{Writing, pump_of, tick_of}
-use Rattle.vs_device_parts.specs.Transmitting.{take_tx_of}
-use Rattle.vs_device_parts.specs.Turns.{open_of, reset_of}
-use Rattle.vs_device_parts.specs.declared.answers.Filled.{Filled}
-use Rattle.vs_device_parts.specs.declared.answers.Taken.{Taken}
-use Rattle.vs_device_laws.specs.Split.{CanReach}
-use Rattle.vs_device_laws.specs.Streams.{FindsFree, FindsStreams, HasStreams}
-use Rattle.vs_device_laws.proofs.Closing.{keeps_tick}
-use Rattle.vs_device_laws.proofs.Conditions.{quiet_can}
-use Rattle.vs_device_laws.proofs.Keeping.{Keeps, keeps_end as streams_end}
-use Rattle.vs_device_laws.proofs.Opening.{both_found, keeps_open, keeps_reset}
-use Rattle.vs_device_laws.proofs.Receiving.{keeps_fill_rx}
-use Rattle.vs_device_laws.proofs.Transmitting.{keeps_take_tx}
-use Rattle.vs_device_laws.proofs.Writing.{keeps_pump}
+use Rattle.vs_device_parts.specs.{Receiving.fill_rx_of, Receiving.pay_event_of, State.DeviceState}
+use Rattle.vs_device_parts.specs.{Streams.Writing, Streams.pump_of, Streams.tick_of, Transmitting.take_tx_of, Turns.open_of, Turns.reset_of}
+use Rattle.vs_device_parts.specs.declared.answers.{Filled.Filled, Taken.Taken}
+use Rattle.vs_device_laws.specs.{Split.CanReach, Streams.FindsFree, Streams.FindsStreams, Streams.HasStreams}
+use Rattle.vs_device_laws.proofs.{Closing.keeps_tick, Conditions.quiet_can, Keeping.Keeps, Keeping.keeps_end as streams_end}
+use Rattle.vs_device_laws.proofs.{Opening.both_found, Opening.keeps_open, Opening.keeps_reset, Receiving.keeps_fill_rx}
+use Rattle.vs_device_laws.proofs.{Transmitting.keeps_take_tx, Writing.keeps_pump}
 use Rattle.vs_device_log.specs.Honest.{IsFitFlow, IsWith, ends_of_state, port_after}
-use Rattle.vs_device_log.proofs.Filling.{fill_keeps}
-use Rattle.vs_device_log.proofs.Keeping.{keeps_end}
-use Rattle.vs_device_log.proofs.Transmitting.{take_keeps}
+use Rattle.vs_device_log.proofs.{Filling.fill_keeps, Keeping.keeps_end, Transmitting.take_keeps}
 use Rattle.vs_device_log.proofs.Turning.{open_keeps, pay_keeps, pump_keeps, reset_keeps, tick_keeps}
 
 module _ (s : DeviceState) (a b : Situation) where

@@ -3,11 +3,9 @@ use Rattle.std.proofs.Common.{◌≡◌, ◌≢◌, ℕ, ◌+◌, ◌≤◌, ◌
 use Rattle.std.specs.Option.{ForSome, option_map_or}
 use Rattle.std.proofs.lemmas.Bool.Decides.{nat_tests}
 use Rattle.vs_contents.specs.CallTree.{Done, Ask, bind}
-use Rattle.vs_contents.proofs.Leads.{leads_of, leads_bind}
-use Rattle.vs_contents.proofs.Conditions.{may_first, may_rest, may_of}
+use Rattle.vs_contents.proofs.{Leads.leads_of, Leads.leads_bind, Conditions.may_rest, Conditions.may_of}
 use Rattle.vs_flow.specs.Table.{entry_under}
-use Rattle.vs_outside.specs.Host.{IsOpen, TakesSome}
-use Rattle.vs_outside.specs.InOut.{MovesSome}
+use Rattle.vs_outside.specs.{Host.IsOpen, Host.TakesSome, InOut.MovesSome}
 use Rattle.vs_outside.specs.declared.host_net.StreamWrite.{StreamWrite}
 use Rattle.vs_outside.specs.declared.host_net.StreamWrite.TheVariants as write
 use Rattle.vs_device_parts.specs.Calls.{Situation, DeviceTree, Allows, WriteStream, ShutWrite}
@@ -40,12 +38,6 @@ module _ (e : DeviceEntry) (s : DeviceState) (k : ℕ) (answer : StreamWrite) (t
   write_failed x y is runs =
       let P : StreamWrite → Type 0 = λ a. Runs (write_answered e a (writing s k)) x (writing t k) y in
       subst P (sym is) (leads_bind Allows (closing e cut_off (with_fault s)) ended x y y t (writing t k) runs (refl, refl))
-
-  pub may_fail : (x : Situation) → answer ≡ write.Failed → MayRun (write_answered e answer (writing s k)) x → MayRun (closing e cut_off (with_fault s)) x
-  unfolding ended
-  may_fail x is may =
-      let P : StreamWrite → Type 0 = λ a. MayRun (write_answered e a (writing s k)) x in
-      may_first CanMake Allows (closing e cut_off (with_fault s)) ended x (subst P is may)
 
 not_zero : (n : ℕ) → n ≢ 0 → (n == 0) ≡ false
 not_zero n some = grind (arith, nat_tests, some)
@@ -95,9 +87,6 @@ has_stream (Some e) h = record { entry = e; is = refl; open_ = by e.value.closed
 module _ (slot : ℕ) (w : Writing) (e : DeviceEntry) (found : entry_under w.state.table slot ≡ Some e) (still : e.value.closed ≡ false) where
   pumps : pump_slot slot w ≡ bind (write_pending e w) (shut_write slot)
   pumps = rw (found, still, pump_slot) refl
-
-  pub may_write_pending : (x : Situation) → MayRun (pump_slot slot w) x → MayRun (write_pending e w) x
-  may_write_pending x may = may_first CanMake Allows (write_pending e w) (shut_write slot) x (may_of CanMake Allows _ _ x pumps may)
 
   pub may_shut_then : (x y : Situation) (u : Writing) → MayRun (pump_slot slot w) x → Runs (write_pending e w) x u y → MayRun (shut_write slot u) y
   may_shut_then x y u may first = may_rest CanMake Allows (write_pending e w) (shut_write slot) x y u (may_of CanMake Allows _ _ x pumps may) first

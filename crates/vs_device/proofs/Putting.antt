@@ -2,21 +2,17 @@
 use Rattle.std.proofs.Common.{◌≡◌, ℕ, ◌+◌, Bool, true, false, not, List, [], ◌∷◌, drop, Option, Some, None, refl, sym, ap, subst, ◌∙◌}
 use Rattle.std.specs.List.{slice_get}
 use Rattle.vs_contents.specs.CallTree.{Done, bind}
-use Rattle.vs_contents.proofs.Leads.{leads_of, leads_bind}
-use Rattle.vs_contents.proofs.Conditions.{may_first, may_rest, may_of}
+use Rattle.vs_contents.proofs.{Leads.leads_of, Leads.leads_bind, Conditions.may_first, Conditions.may_rest, Conditions.may_of}
 use Rattle.vs_header.specs.declared.Header.{Header}
 use Rattle.vs_replies.specs.declared.Reply.{Reply}
 use Rattle.vs_ring_port.specs.declared.device_ring.Chain.{Chain}
-use Rattle.vs_conn.specs.End.{owes_of}
-use Rattle.vs_conn.specs.Headers.{owed_header}
+use Rattle.vs_conn.specs.{End.owes_of, Headers.owed_header}
 use Rattle.vs_conn.specs.declared.end.Owed.{Owed}
 use Rattle.vs_flow.specs.Table.{entry_under}
-use Rattle.vs_device_parts.specs.Calls.{DeviceTree, Situation, Allows}
-use Rattle.vs_device_parts.specs.Connections.{route_to_guest}
-use Rattle.vs_device_parts.specs.Filling.{put_header}
+use Rattle.vs_device_parts.specs.{Calls.DeviceTree, Calls.Situation, Calls.Allows, Connections.route_to_guest, Filling.put_header}
 use Rattle.vs_device_parts.specs.Playing.{CanMake, MayRun, Runs}
-use Rattle.vs_device_parts.specs.Receiving.{Filling, hold, written, put_on, put_packet, reply_header, put_reply, put_reply_of, put_owed, after_paying}
-use Rattle.vs_device_parts.specs.State.{DeviceState, DeviceEntry}
+use Rattle.vs_device_parts.specs.Receiving.{Filling, hold, written, put_on, put_packet, reply_header, put_reply, put_reply_of, put_owed}
+use Rattle.vs_device_parts.specs.{Receiving.after_paying, State.DeviceState, State.DeviceEntry}
 use Rattle.vs_device.proofs.Trees.{bind_same, bind_assoc}
 
 -- what follows the packet that was put
@@ -142,12 +138,6 @@ module _ (r : Filling) (reply : Reply) (first : Some reply ≡ slice_get r.state
   pub may_reply : (c : Situation) → MayRun (put_reply r) c → MayRun (put_header h r) c
   may_reply c may = may_header h without_first r c (may_first CanMake Allows (put_packet h without_first r) gone_on c (may_of CanMake Allows _ _ c replies_are may))
 
-pub no_reply : (r : Filling) (c : Situation) → None ≡ slice_get r.state.replies 0 → Runs (put_reply r) c (r, false) c
-no_reply r c none = leads_of Allows _ _ c c (r, false) (cases r.state.replies none) (refl, refl) where
-  cases : (xs : List Reply) → None ≡ slice_get xs 0 → put_reply_of xs r ≡ Done (r, false)
-  cases [] none = refl
-  cases (x ∷ xs) none = absurd (cc)
-
 -- the packet that a connection owes
 module _ (r : Filling) (slot : ℕ) (e : DeviceEntry) (what : Owed) (found : entry_under r.state.table slot ≡ Some e) (owes : owes_of e.value.end ≡ Some what) where
   abbrev owed : Header
@@ -169,9 +159,3 @@ module _ (r : Filling) (slot : ℕ) (e : DeviceEntry) (what : Owed) (found : ent
   pub may_pay : (p : Filling) (c m : Situation) → MayRun (put_owed slot r) c → Runs (put_header owed r) c (p, true) m → MayRun (after_paying what e p.state) m
   may_pay p c m may put =
       may_after owed (after_paying what e) r p c m (may_first CanMake Allows (put_packet owed (after_paying what e) r) gone_on c (may_of CanMake Allows _ _ c owed_is may)) put
-
-pub nothing_owed : (r : Filling) (slot : ℕ) (c : Situation) → ((e : DeviceEntry) → entry_under r.state.table slot ≡ Some e → owes_of e.value.end ≡ None) → Runs (put_owed slot r) c (r, false) c
-nothing_owed r slot c none = leads_of Allows _ _ c c (r, false) (cases (entry_under r.state.table slot) refl) (refl, refl) where
-  cases : (o : Option DeviceEntry) → entry_under r.state.table slot ≡ o → put_owed slot r ≡ Done (r, false)
-  cases None is = rw (is, put_owed) refl
-  cases (Some e) is = let nothing = none e is in rw (is, nothing, put_owed) refl

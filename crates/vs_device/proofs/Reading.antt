@@ -1,28 +1,24 @@
 -- What reading a stream comes to, for the packet that it puts.
-use Rattle.std.specs.Prelude.{if◌then◌else◌, ◌==◌}
-use Rattle.std.specs.Option.{IfSome}
+use Rattle.std.specs.{Prelude.if◌then◌else◌, Prelude.◌==◌, Option.IfSome}
 use Rattle.std.proofs.Common.{◌≡◌, ℕ, ◌+◌, ◌≤◌, arith, Bool, true, false, cond, List, length, Option, Some, None, refl, sym, ap, subst, ◌∙◌}
 use Rattle.vs_contents.specs.CallTree.{Done, Ask, bind, while_up_to}
-use Rattle.vs_contents.proofs.Leads.{leads_of, leads_bind}
-use Rattle.vs_contents.proofs.Conditions.{may_first, may_rest, may_of}
+use Rattle.vs_contents.proofs.{Leads.leads_of, Leads.leads_bind, Conditions.may_first, Conditions.may_rest, Conditions.may_of}
 use Rattle.vs_conn.specs.End.{ConnectionEnd, with_payload_sent, wanting_credit}
 use Rattle.vs_conn.specs.declared.end.State.TheVariants as state
-use Rattle.vs_header.specs.declared.TheConstants.{HEADER_LEN}
+use Rattle.vs_header.specs.declared.{TheConstants.HEADER_LEN, Header.Header}
 use Rattle.vs_page.specs.declared.page.TheConstants.{PAYLOAD_MAX}
 use Rattle.vs_conn.specs.Headers.{payload_header}
 use Rattle.vs_conn.specs.declared.end.TheConstants.{OWED_MAX}
 use Rattle.vs_credit.specs.Credit.{free_of}
 use Rattle.vs_flow.specs.Table.{entry_under}
-use Rattle.vs_header.specs.declared.Header.{Header}
 use Rattle.vs_outside.specs.declared.host_net.StreamRead.{StreamRead}
 use Rattle.vs_ring_port.specs.declared.device_ring.Chain.{Chain}
 use Rattle.vs_device_parts.specs.Calls.{DeviceTree, Situation, Allows, ReadStream}
-use Rattle.vs_device_parts.specs.Connections.{with_connection, route_to_guest}
-use Rattle.vs_device_parts.specs.Filling.{read_slot}
+use Rattle.vs_device_parts.specs.{Connections.with_connection, Connections.route_to_guest, Filling.read_slot}
 use Rattle.vs_device_parts.specs.Playing.{CanMake, MayRun, Runs}
-use Rattle.vs_device_parts.specs.Receiving.{Filling, hold, written, put_on, put_owed, put_payload, may_read, read_room, read_answered, read_with_chain, read_stream, serve_slot}
-use Rattle.vs_device_parts.specs.State.{DeviceEntry, DeviceState}
-use Rattle.vs_device_parts.specs.Steps.{filling, puts_payload, reads, to_read}
+use Rattle.vs_device_parts.specs.Receiving.{Filling, hold, written, put_on, put_owed, put_payload, may_read, read_room, read_answered}
+use Rattle.vs_device_parts.specs.Receiving.{read_with_chain, read_stream, serve_slot}
+use Rattle.vs_device_parts.specs.{State.DeviceEntry, State.DeviceState, Steps.filling, Steps.puts_payload, Steps.reads, Steps.to_read}
 
 -- payload is put
 module _ (chain : Chain) (e : DeviceEntry) (payload : List ℕ) (r : Filling) where
@@ -184,10 +180,6 @@ module _ (slot : ℕ) (r : Filling) (going : r.over ≡ false) where
   pub served : (q p : Filling) (c m t : Situation) → q.over ≡ false → Runs (read_slot slot r) c q m → Runs (while_up_to OWED_MAX (put_owed slot) q) m p t → Runs (serve_slot slot r) c p t
   served q p c m t on first rest =
       leads_of Allows _ _ c t p served_is (leads_bind Allows (read_slot slot r) (then_owed slot) c m t q p first (leads_of Allows _ _ m t p (ap (owed_on slot q) on) rest))
-
-  pub served_over : (q : Filling) (c m : Situation) → q.over ≡ true → Runs (read_slot slot r) c q m → Runs (serve_slot slot r) c q m
-  served_over q c m over first =
-      leads_of Allows _ _ c m q served_is (leads_bind Allows (read_slot slot r) (then_owed slot) c m m q q first (leads_of Allows _ _ m m q (ap (owed_on slot q) over) (refl, refl)))
 
 pub if_some : {X : Type 0} (o : Option X) (x : X) (P : X → Type 0) → o ≡ Some x → P x → IfSome o P
 if_some {X = X} o x P is holds = let Q : Option X → Type 0 = λ p. IfSome p P in subst Q (sym is) holds

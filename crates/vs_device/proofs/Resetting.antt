@@ -1,18 +1,15 @@
 -- What opening a connection and a transport reset come to.
 use Rattle.std.proofs.Common.{◌≡◌, ℕ, Option, Some, None, Result, Ok, Err, refl, sym, ap, ◌∙◌}
 use Rattle.vs_contents.specs.CallTree.{Done, Ask, bind, for_each}
-use Rattle.vs_contents.proofs.Leads.{leads_of, leads_bind}
-use Rattle.vs_contents.proofs.Conditions.{may_first, may_of}
+use Rattle.vs_contents.proofs.{Leads.leads_of, Leads.leads_bind, Conditions.may_first, Conditions.may_of}
 use Rattle.vs_flow.specs.Table.{entry_under, refusal, slots}
 use Rattle.vs_flow.specs.declared.flow.Flow.{Flow}
 use Rattle.vs_flow.specs.declared.table.TableFault.{TableFault}
 use Rattle.vs_ring_port.specs.declared.failure.Failure.{Failure}
 use Rattle.vs_ring_port.specs.Contents.{PublishCid}
 use Rattle.vs_device_parts.specs.Calls.{Situation, DeviceTree, Allows, Ring, Label}
-use Rattle.vs_device_parts.specs.Connections.{stream_closed, with_client}
-use Rattle.vs_device_parts.specs.Playing.{CanMake, MayRun, Runs}
-use Rattle.vs_device_parts.specs.State.{DeviceEntry, DeviceState}
-use Rattle.vs_device_parts.specs.Streams.{closing}
+use Rattle.vs_device_parts.specs.{Connections.stream_closed, Connections.with_client, Playing.CanMake, Playing.MayRun, Playing.Runs}
+use Rattle.vs_device_parts.specs.{State.DeviceEntry, State.DeviceState, Streams.closing}
 use Rattle.vs_device_parts.specs.Turns.{after_reset, close_slot, open_of, reset_of}
 
 -- a slot whose stream is closed

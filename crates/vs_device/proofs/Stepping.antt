@@ -1,19 +1,18 @@
 -- What single steps come to.
-use Rattle.std.proofs.Common.{◌≡◌, ℕ, zero, suc, ◌<◌, Bool, true, false, not, cond, List, [], ◌∷◌, length, nat_le, nat_lt, ◌-◌, get_or, Option, Some, None, is_some, Result, Ok, Err, Contains, refl, sym, ap, subst, ◌∙◌, arith}
+use Rattle.std.proofs.Common.{◌≡◌, ℕ, zero, suc, ◌<◌, Bool, true, false, not, cond, List, [], ◌∷◌, length, nat_le, nat_lt, ◌-◌, get_or}
+use Rattle.std.proofs.Common.{Option, Some, None, is_some, Result, Ok, Err, Contains, refl, sym, ap, subst, ◌∙◌, arith}
 use Rattle.std.proofs.Math.Path.{fun_ext}
 use Rattle.std.specs.Option.{IfSome, option_map_or}
 use Rattle.byteorder.specs.Endian.{little_bytes}
 use Rattle.vs_contents.specs.CallTree.{Done, Ask, bind}
-use Rattle.vs_contents.proofs.Leads.{leads_of, leads_bind}
-use Rattle.vs_contents.proofs.Conditions.{may_first, may_of}
+use Rattle.vs_contents.proofs.{Leads.leads_of, Leads.leads_bind, Conditions.may_first, Conditions.may_of}
 use Rattle.vs_device.proofs.Trees.{bind_assoc}
 use Rattle.vs_flow.specs.Table.{entry_under}
 use Rattle.vs_header.specs.Packet.{header_of}
 use Rattle.vs_header.specs.declared.TheConstants.{HEADER_LEN}
 use Rattle.vs_ring_port.specs.Chains.{held_after, same_chain, same_queue, without}
 use Rattle.vs_ring_port.specs.Contents.{Read, Return, Take, Write}
-use Rattle.vs_ring_port.specs.declared.device_ring.Chain.{Chain}
-use Rattle.vs_ring_port.specs.declared.device_ring.Next.{Next}
+use Rattle.vs_ring_port.specs.declared.device_ring.{Chain.Chain, Next.Next}
 use Rattle.vs_ring_port.specs.declared.device_ring.Next.TheVariants as next
 use Rattle.vs_ring_port.specs.declared.queue.Queue.{Queue}
 use Rattle.vs_ring_port.specs.declared.queue.Queue.TheVariants.{Rx, Tx, Event}
@@ -21,10 +20,10 @@ use Rattle.vs_device_parts.specs.Calls.{Allows, DeviceTree, Ring, Situation}
 use Rattle.vs_device_parts.specs.Playing.{CanMake, IsAmong, IsRxChain, MayRun, Runs}
 use Rattle.vs_device_parts.specs.Receiving.{Filling, event_on, hold, put_owed, put_reply}
 use Rattle.vs_device_parts.specs.State.{DeviceEntry, DeviceState}
-use Rattle.vs_device_parts.specs.Steps.{chain_came, filling, heard_chain, puts_event, puts_owed, puts_reply, shuts_write, takes_chain, writes, writes_on, writing}
-use Rattle.vs_device_parts.specs.Streams.{Writing, shut_write, write_pending}
-use Rattle.vs_device_parts.specs.declared.limits.TheConstants.{REPLIES}
+use Rattle.vs_device_parts.specs.Steps.{chain_came, filling, heard_chain, puts_event, puts_owed, puts_reply, shuts_write, takes_chain}
+use Rattle.vs_device_parts.specs.{Steps.writes, Steps.writes_on, Steps.writing, Streams.Writing, Streams.shut_write, Streams.write_pending}
 use Rattle.vs_device_parts.specs.Transmitting.{failing, on_packet}
+use Rattle.vs_device_parts.specs.declared.limits.TheConstants.{REPLIES}
 use Rattle.vs_device.proofs.Takings.{Heard}
 use Rattle.vs_header.specs.declared.Header.{Header}
 use Rattle.vs_ring_port.specs.declared.failure.Failure.{Failure}

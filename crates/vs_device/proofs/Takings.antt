@@ -1,38 +1,32 @@
 -- What taking a packet comes to.
-use Rattle.std.proofs.Common.{◌≡◌, ℕ, ◌-◌, Bool, true, false, cond, List, ◌∷◌, length, nat_lt, nat_le, Option, Some, None, Result, Ok, Err, refl, sym, ap, subst, ◌∙◌, arith}
+use Rattle.std.proofs.Common.{◌≡◌, ℕ, ◌-◌, Bool, true, false, cond, List, ◌∷◌, length, nat_lt, nat_le, Option, Some, None, Result, Ok, Err}
+use Rattle.std.proofs.Common.{refl, sym, ap, subst, ◌∙◌, arith}
 use Rattle.std.specs.List.{Contains}
 use Rattle.std.proofs.Math.Path.{fun_ext}
 use Rattle.vs_contents.specs.CallTree.{Done, Ask, bind}
 use Rattle.vs_device.proofs.Trees.{bind_assoc}
-use Rattle.vs_contents.proofs.Leads.{leads_of, leads_bind}
-use Rattle.vs_contents.proofs.Conditions.{may_first, may_of}
+use Rattle.vs_contents.proofs.{Leads.leads_of, Leads.leads_bind, Conditions.may_first, Conditions.may_of}
 use Rattle.vs_conn.specs.declared.end.Verdict.{Verdict}
-use Rattle.vs_flow.specs.Flow.{is_assigned}
-use Rattle.vs_flow.specs.Table.{entry_of, has_place}
+use Rattle.vs_flow.specs.{Flow.is_assigned, Table.entry_of, Table.has_place}
 use Rattle.vs_header.specs.Packet.{header_of}
-use Rattle.vs_header.specs.declared.Header.{Header}
-use Rattle.vs_header.specs.declared.TheConstants.{HEADER_LEN}
+use Rattle.vs_header.specs.declared.{Header.Header, TheConstants.HEADER_LEN}
 use Rattle.vs_outside.specs.declared.host_net.Dialed.{Dialed}
 use Rattle.vs_page.specs.Log.{flow_to_host}
-use Rattle.vs_ring_port.specs.declared.device_ring.Chain.{Chain}
-use Rattle.vs_ring_port.specs.declared.device_ring.Next.{Next}
+use Rattle.vs_ring_port.specs.declared.device_ring.{Chain.Chain, Next.Next}
 use Rattle.vs_ring_port.specs.declared.device_ring.Next.TheVariants as next
 use Rattle.vs_ring_port.specs.declared.failure.Failure.{Failure}
 use Rattle.vs_ring_port.specs.declared.failure.Failure.TheVariants as failure
 use Rattle.vs_ring_port.specs.declared.queue.Queue.{Queue}
 use Rattle.vs_ring_port.specs.declared.queue.Queue.TheVariants.{Rx, Tx, Event}
-use Rattle.vs_ring_port.specs.Chains.{same_queue, same_chain, without}
-use Rattle.vs_ring_port.specs.Contents.{Take, Read, Return}
+use Rattle.vs_ring_port.specs.{Chains.same_queue, Chains.same_chain, Chains.without, Contents.Take, Contents.Read, Contents.Return}
 use Rattle.vs_uds.specs.Path.{path_of}
 use Rattle.vs_device_parts.specs.declared.answers.Taken.{Taken}
 use Rattle.vs_device_parts.specs.declared.answers.Taken.TheVariants as taken
 use Rattle.vs_device_parts.specs.declared.limits.TheConstants.{REPLIES}
 use Rattle.vs_device_parts.specs.Calls.{Situation, DeviceTree, Allows, Ring, Dial}
-use Rattle.vs_device_parts.specs.State.{DeviceEntry, DeviceState}
-use Rattle.vs_device_parts.specs.Playing.{CanMake, MayRun, Runs}
-use Rattle.vs_device_parts.specs.Steps.{heard_chain, heard_header}
-use Rattle.vs_device_parts.specs.Taking.{is_not_for_host, known_packet}
-use Rattle.vs_device_parts.specs.Transmitting.{dial_answered, failing, on_next, on_packet, on_unknown, take_tx_of, try_request}
+use Rattle.vs_device_parts.specs.{State.DeviceEntry, State.DeviceState, Playing.CanMake, Playing.MayRun, Playing.Runs}
+use Rattle.vs_device_parts.specs.{Steps.heard_chain, Steps.heard_header, Taking.is_not_for_host, Taking.known_packet}
+use Rattle.vs_device_parts.specs.Transmitting.{dial_answered, failing, on_next, on_packet, take_tx_of, try_request}
 
 -- the newest of the chains that are held
 same_queue_refl : (q : Queue) → same_queue q q ≡ true
@@ -68,18 +62,12 @@ module _ (chain : Chain) (h : Header) (s : DeviceState) (ours : is_not_for_host 
   by_entry : (e : DeviceEntry) → entry_of s.table (flow_to_host h) ≡ Some e → on_packet chain h s ≡ known_packet chain h e s
   by_entry e found = rw (ours, found, on_packet) refl
 
-  by_none : entry_of s.table (flow_to_host h) ≡ None → on_packet chain h s ≡ on_unknown h s
-  by_none none = rw (ours, none, on_packet) refl
-
   pub may_be_known : (e : DeviceEntry) (x : Situation) → entry_of s.table (flow_to_host h) ≡ Some e → MayRun (on_packet chain h s) x → MayRun (known_packet chain h e s) x
   may_be_known e x found may = may_of CanMake Allows _ _ x (by_entry e found) may
 
   pub was_known : (e : DeviceEntry) (r : DeviceState × Verdict) (x y : Situation) → entry_of s.table (flow_to_host h) ≡ Some e → Runs (known_packet chain h e s) x r y
       → Runs (on_packet chain h s) x r y
   was_known e r x y found runs = leads_of Allows _ _ x y r (by_entry e found) runs
-
-  pub was_unknown : (r : DeviceState × Verdict) (x y : Situation) → entry_of s.table (flow_to_host h) ≡ None → Runs (on_unknown h s) x r y → Runs (on_packet chain h s) x r y
-  was_unknown r x y none runs = leads_of Allows _ _ x y r (by_none none) runs
 
 -- a packet of which the chain holds all, and one that says more
 module _ (chain : Chain) (h : Header) (s : DeviceState) where

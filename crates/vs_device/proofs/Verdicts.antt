@@ -1,10 +1,8 @@
 -- What the verdict on a packet of a connection comes to.
 use Rattle.std.proofs.Common.{◌≡◌, ℕ, true, false, cond, List, [], ◌++◌, refl, sym, ap, subst, ◌∙◌}
 use Rattle.vs_contents.specs.CallTree.{Done, bind}
-use Rattle.vs_contents.proofs.Leads.{leads_of, leads_bind}
-use Rattle.vs_contents.proofs.Conditions.{may_first, may_of}
-use Rattle.vs_header.specs.declared.Header.{Header}
-use Rattle.vs_header.specs.declared.TheConstants.{HEADER_LEN}
+use Rattle.vs_contents.proofs.{Leads.leads_of, Leads.leads_bind, Conditions.may_first, Conditions.may_of}
+use Rattle.vs_header.specs.declared.{Header.Header, TheConstants.HEADER_LEN}
 use Rattle.vs_conn.specs.End.{is_reset, verdict_of}
 use Rattle.vs_conn.specs.declared.end.Verdict.{Verdict}
 use Rattle.vs_conn.specs.declared.end.Verdict.TheVariants as verdict
@@ -13,13 +11,10 @@ use Rattle.vs_conn.specs.declared.end.Why.TheVariants as why
 use Rattle.vs_ring_port.specs.declared.device_ring.Chain.{Chain}
 use Rattle.vs_ring_port.specs.Contents.{Read}
 use Rattle.vs_uds.specs.OkLine.{ok_text}
-use Rattle.vs_device_parts.specs.Calls.{Situation, DeviceTree, Allows, Ring}
-use Rattle.vs_device_parts.specs.State.{DeviceEntry, DeviceState}
+use Rattle.vs_device_parts.specs.{Calls.Situation, Calls.DeviceTree, Calls.Allows, Calls.Ring, State.DeviceEntry, State.DeviceState}
 use Rattle.vs_device_parts.specs.Connections.{with_connection, stream_closed, after_leaving}
-use Rattle.vs_device_parts.specs.Playing.{CanMake, MayRun, MayClose, Runs}
-use Rattle.vs_device_parts.specs.Streams.{leaving, closing}
-use Rattle.vs_device_parts.specs.Taking.{after_refusal, known_packet}
-use Rattle.vs_device_parts.specs.Transmitting.{heard, on_known}
+use Rattle.vs_device_parts.specs.{Playing.CanMake, Playing.MayRun, Playing.MayClose, Playing.Runs, Streams.leaving, Streams.closing}
+use Rattle.vs_device_parts.specs.{Taking.after_refusal, Taking.known_packet, Transmitting.heard, Transmitting.on_known}
 use Rattle.vs_device.proofs.Leaving.{may_close}
 
 module _ (chain : Chain) (h : Header) (e : DeviceEntry) (s t : DeviceState) where

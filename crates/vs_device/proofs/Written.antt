@@ -3,8 +3,7 @@ use Rattle.std.proofs.Common.{◌≡◌, ℕ, ◌+◌, ◌≤◌, ◌++◌, leng
 use Rattle.std.specs.Option.{IfSome, option_map}
 use Rattle.std.proofs.lemmas.List.{length-take}
 use Rattle.vs_flow.specs.Table.{Table, entry_under, value_under}
-use Rattle.vs_device_parts.specs.State.{DeviceConnection, DeviceEntry}
-use Rattle.vs_device_parts.specs.Streams.{to_write}
+use Rattle.vs_device_parts.specs.{State.DeviceConnection, State.DeviceEntry, Streams.to_write}
 
 within : (n : ℕ) (c : DeviceConnection) → n ≤ length (to_write c) → n ≤ length c.ok_line + length c.pending
 within n c le = omega (arith, le, length-take 4096 (c.ok_line ++ c.pending), length-append c.ok_line c.pending)

@@ -1,6 +1,5 @@
 -- What always holds of the fields of a device. No public clause cites this module.
-use Rattle.std.specs.Prelude.{◌≡◌, ◌≤◌, length}
-use Rattle.std.specs.String.{string_bytes}
+use Rattle.std.specs.{Prelude.◌≡◌, Prelude.◌≤◌, Prelude.length, String.string_bytes}
 use Rattle.vs_history.specs.declared.TheConstants.{BUF_ALLOC}
 use Rattle.vs_uds.specs.declared.path.TheConstants.{BASE_MAX}
 use Rattle.vs_device.specs.declared.device.Device.TheInside.{Inside}

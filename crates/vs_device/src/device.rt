@@ -2,16 +2,12 @@
 
 ghost use Rattle.std.specs.Prelude.{◌≡◌, ◌≤◌, ℕ, List, [], Some, IfOk, length};
 ghost use Rattle.vs_outside.specs.Host.{HostContents};
-ghost use Rattle.vs_ring_port.specs.Contents.{RingContents};
-ghost use Rattle.vs_ring_port.specs.EndLog.{EndLog};
+ghost use Rattle.vs_ring_port.specs.{Contents.RingContents, EndLog.EndLog};
 ghost use Rattle.vs_device_laws.specs.Streams.{AreOpen, HasStreams};
 ghost use Rattle.vs_device_log.specs.Honest.{AgreesWith, IsFresh, IsWith};
-ghost use Rattle.vs_proxy_bytes.specs.Made.{account_of};
-ghost use Rattle.vs_proxy_bytes.specs.Told.{AreAccounted, Shows};
+ghost use Rattle.vs_proxy_bytes.specs.{Made.account_of, Told.AreAccounted, Told.Shows};
 ghost use Rattle.vs_uds.specs.declared.path.TheConstants.{BASE_MAX};
-ghost use Rattle.vs_device_parts.specs.Connections.{with_fault};
-ghost use Rattle.vs_device_parts.specs.Transmitting.{failing};
-ghost use Rattle.vs_device_parts.specs.Turns.{counters_of, new_device};
+ghost use Rattle.vs_device_parts.specs.{Connections.with_fault, Transmitting.failing, Turns.counters_of, Turns.new_device};
 
 use std::alloc::{AllocError, Global};
 use std::marker::Model;

@@ -1,11 +1,9 @@
 //! The last stage of a turn: packets are put on the receive queue, what is owed to unknown flows first, and then, connection by connection,
 //! what is read of the host's streams and what each owes (Virtio 1.2, sections 5.10.6.1 to 5.10.6.5).
 
-ghost use Rattle.std.specs.Prelude.{◌≡◌, ◌≤◌, ◌<◌, ◌+◌, ◌*◌, ◌^◌, ℕ, List};
-ghost use Rattle.std.specs.Prelude.{not, length, false, true, Some, None, is_some, IfSome, Err, IfErr, IfOk, OnOk};
-ghost use Rattle.std.specs.Option.{ForSome};
-ghost use Rattle.vs_conn.specs.End.{CanSend, owes_of};
-ghost use Rattle.vs_conn.specs.Headers.{reset_header};
+ghost use Rattle.std.specs.Prelude.{◌≡◌, ◌≤◌, ◌<◌, ◌+◌, ◌*◌, ◌^◌, ℕ, List, not, length, false, true, Some, None, is_some, IfSome, Err};
+ghost use Rattle.std.specs.{Prelude.IfErr, Prelude.IfOk, Prelude.OnOk, Option.ForSome};
+ghost use Rattle.vs_conn.specs.{End.CanSend, End.owes_of, Headers.reset_header};
 ghost use Rattle.vs_conn.specs.declared.end.Owed.TheVariants as owed;
 ghost use Rattle.vs_conn.specs.declared.end.TheConstants.{OWED_MAX};
 ghost use Rattle.vs_contents.specs.CallTree.{while_up_to};
@@ -17,14 +15,14 @@ ghost use Rattle.vs_ring_port.specs.declared.device_ring.Chain.{Chain};
 ghost use Rattle.vs_ring_port.specs.declared.failure.Failure.{Failure};
 ghost use Rattle.vs_device_laws.specs.Streams.{HasStreams};
 ghost use Rattle.vs_device_log.specs.Honest.{IsWith};
-ghost use Rattle.vs_proxy_bytes.specs.Made.{Made};
-ghost use Rattle.vs_proxy_bytes.specs.Told.{AreAccounted, StayAccounted};
+ghost use Rattle.vs_proxy_bytes.specs.{Made.Made, Told.AreAccounted, Told.StayAccounted};
 ghost use Rattle.vs_proxy_parts.specs.State.{Handshake};
 ghost use Rattle.vs_device_parts.specs.Connections.{route_to_guest};
 ghost use Rattle.vs_device_parts.specs.Filling.{filling_of, is_rst, put_header, read_slot, serve_all, serve_rest};
-ghost use Rattle.vs_device_parts.specs.Playing.{IsAmong, IsItsRing, IsRingOf, MayRun, MayRunOnHost, MayRunOnRing, Runs, RunsOnHost, RunsOnRing, beside, situation};
-ghost use Rattle.vs_device_parts.specs.Receiving.{after_paying, fill_rx_of, filled_of, hold, may_read, put_owed, put_payload, put_reply, read_room, read_with_chain, serve_slot};
-ghost use Rattle.vs_device_parts.specs.State.{DeviceEntry};
+ghost use Rattle.vs_device_parts.specs.Playing.{IsAmong, IsItsRing, IsRingOf, MayRun, MayRunOnHost, MayRunOnRing, Runs, RunsOnHost};
+ghost use Rattle.vs_device_parts.specs.Playing.{RunsOnRing, beside, situation};
+ghost use Rattle.vs_device_parts.specs.Receiving.{after_paying, fill_rx_of, filled_of, hold, may_read, put_owed, put_payload, put_reply};
+ghost use Rattle.vs_device_parts.specs.{Receiving.read_room, Receiving.read_with_chain, Receiving.serve_slot, State.DeviceEntry};
 ghost use Rattle.vs_device_parts.specs.Steps.{to_read};
 ghost use Rattle.vs_device_parts.specs.declared.limits.TheConstants.{CONNECTIONS, REPLIES};
 

@@ -1,8 +1,7 @@
 //! Single steps of the device, each of which moves one page at most or makes one call on the host: what the device does in one event of the
 //! world. Chains that were taken stay held until they are returned.
 
-ghost use Rattle.std.specs.Prelude.{◌≡◌, ◌≤◌, ℕ, List, Contains};
-ghost use Rattle.std.specs.Option.{ForSome};
+ghost use Rattle.std.specs.{Prelude.◌≡◌, Prelude.◌≤◌, Prelude.ℕ, Prelude.List, Prelude.Contains, Option.ForSome};
 ghost use Rattle.vs_outside.specs.Host.{HostContents};
 ghost use Rattle.vs_ring_port.specs.declared.queue.Queue.TheVariants.{Event, Rx, Tx};
 ghost use Rattle.vs_device_laws.specs.Streams.{HasStreams};

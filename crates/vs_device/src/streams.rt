@@ -9,15 +9,12 @@ ghost use Rattle.vs_outside.specs.declared.host_net.StreamWrite.TheVariants.{Clo
 ghost use Rattle.vs_ring_port.specs.Contents.{RingContents};
 ghost use Rattle.vs_device_laws.specs.Streams.{HasStreams};
 ghost use Rattle.vs_device_log.specs.Honest.{IsWith};
-ghost use Rattle.vs_proxy_bytes.specs.Made.{Made};
-ghost use Rattle.vs_proxy_bytes.specs.Told.{AreAccounted, StayAccounted};
+ghost use Rattle.vs_proxy_bytes.specs.{Made.Made, Told.AreAccounted, Told.StayAccounted};
 ghost use Rattle.vs_proxy_parts.specs.State.{Handshake};
 ghost use Rattle.vs_device_parts.specs.declared.limits.TheConstants.{WRITE_MAX};
-ghost use Rattle.vs_device_parts.specs.Connections.{is_timed_out};
-ghost use Rattle.vs_device_parts.specs.Playing.{MayRunOnHost, RunsOnHost};
-ghost use Rattle.vs_device_parts.specs.State.{DeviceEntry};
-ghost use Rattle.vs_device_parts.specs.Streams.{tick_of, tick_slot, pump_of, pump_slot, write_pending, write_answered, to_write, shut_write, is_written_out};
-ghost use Rattle.vs_device_parts.specs.Written.{writing};
+ghost use Rattle.vs_device_parts.specs.{Connections.is_timed_out, Playing.MayRunOnHost, Playing.RunsOnHost, State.DeviceEntry};
+ghost use Rattle.vs_device_parts.specs.Streams.{tick_of, tick_slot, pump_of, pump_slot, write_pending, write_answered, to_write};
+ghost use Rattle.vs_device_parts.specs.{Streams.shut_write, Streams.is_written_out, Written.writing};
 
 use crate::device::Device;
 use vs_device_parts::host_calls::{shut_write, write};

@@ -1,20 +1,17 @@
 //! Connections that clients of the host ask for, transport resets, and what the device shows of its connections.
 
 ghost use Rattle.std.specs.Prelude.{◌≡◌, ◌≤◌, ◌<◌, ◌^◌, ℕ, List, Contains, [], true, Some, IfOk, IfErr, OnErr, OnOk, Err, length};
-ghost use Rattle.std.specs.Iterator.{YieldsFirst, item_count};
-ghost use Rattle.std.specs.Option.{ForSome};
+ghost use Rattle.std.specs.{Iterator.YieldsFirst, Iterator.item_count, Option.ForSome};
 ghost use Rattle.vs_contents.specs.CallTree.{for_each};
 ghost use Rattle.vs_flow.specs.Table.{refusal, slots};
 ghost use Rattle.vs_ring_port.specs.declared.failure.Failure.{Failure};
 ghost use Rattle.vs_history.specs.declared.TheConstants.{BUF_ALLOC};
 ghost use Rattle.vs_matching.specs.Steps.{IsNextFlow};
 ghost use Rattle.vs_page.specs.Log as log;
-ghost use Rattle.vs_ring_port.specs.Contents.{RingContents};
-ghost use Rattle.vs_ring_port.specs.EndLog.{EndLog};
+ghost use Rattle.vs_ring_port.specs.{Contents.RingContents, EndLog.EndLog};
 ghost use Rattle.vs_device_laws.specs.Streams.{HasStreams, IsFree};
 ghost use Rattle.vs_device_log.specs.Honest.{AgreesWith, IsLeftOpen, IsWith, ends_of_state, port_after};
-ghost use Rattle.vs_proxy_bytes.specs.Made.{Made};
-ghost use Rattle.vs_proxy_bytes.specs.Told.{AreAccounted, IsAsking, StayAccounted};
+ghost use Rattle.vs_proxy_bytes.specs.{Made.Made, Told.AreAccounted, Told.IsAsking, Told.StayAccounted};
 ghost use Rattle.vs_proxy_parts.specs.State.{Handshake};
 ghost use Rattle.vs_device_parts.specs.State.{DeviceEntry};
 ghost use Rattle.vs_device_parts.specs.Playing.{IsItsRing, MayRun, MayRunOnHost, Runs, RunsOnHost, situation};

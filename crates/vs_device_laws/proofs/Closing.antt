@@ -8,8 +8,7 @@ use Rattle.vs_device_parts.specs.Calls.{Call, CloseStream, Situation, Allows}
 use Rattle.vs_device_parts.specs.Connections.{after_leaving, cut_off, is_timed_out, stream_closed, with_connection}
 use Rattle.vs_device_parts.specs.State.{DeviceConnection, DeviceEntry, DeviceState}
 use Rattle.vs_device_parts.specs.Streams.{closing, leaving, tick_of, tick_slot}
-use Rattle.vs_device_laws.specs.Split.{CanReach, is_quiet}
-use Rattle.vs_device_laws.specs.Streams.{FindsStreams, HasStreams, joined_stream}
+use Rattle.vs_device_laws.specs.{Split.CanReach, Split.is_quiet, Streams.FindsStreams, Streams.HasStreams, Streams.joined_stream}
 use Rattle.vs_device_laws.proofs.Keeping.{Keeps, keeps_each, keeps_then}
 use Rattle.vs_device_laws.proofs.Tables.{IsEntry, entry_by_slot, has_changed, has_closed, has_left, has_left_closing, some_after, some_from}
 use Rattle.vs_device_laws.proofs.Tables.{stream_by_entry}

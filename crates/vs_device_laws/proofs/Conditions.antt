@@ -2,9 +2,8 @@
 use Rattle.std.proofs.Common.{◌≡◌, ◌==◌, true, arith}
 use Rattle.std.proofs.lemmas.Bool.Decides.{nat_tests}
 use Rattle.vs_ring_port.specs.Contents.{Take, Read, Write, Return, Given, PublishCid}
-use Rattle.vs_device_parts.specs.Calls.{Call, Ring, Accept, Dial, Label, ReadStream, WriteStream, ShutWrite, CloseStream, Situation, DeviceTree}
-use Rattle.vs_device_parts.specs.Calls.{Allows}
-use Rattle.vs_device_parts.specs.Playing.{CanMake, MayRun}
+use Rattle.vs_device_parts.specs.Calls.{Call, Ring, Accept, Dial, Label, ReadStream, WriteStream, ShutWrite, CloseStream, Situation}
+use Rattle.vs_device_parts.specs.{Calls.DeviceTree, Calls.Allows, Playing.CanMake, Playing.MayRun}
 use Rattle.vs_device_laws.specs.Split.{CanPut, CanReach, MayPut, MayReach, is_quiet}
 use Rattle.vs_device_laws.proofs.Keeping.{may_both}
 

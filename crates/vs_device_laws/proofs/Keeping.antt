@@ -21,16 +21,6 @@ module _ {Call : Type 0} {Answer : Call → Type 0} {S A : Type 0} (Can : (call 
       subst R leads.1 (subst P leads.0 keeps)
   keeps_end (Ask call next) s t x keeps leads = keeps_end (next leads.0) leads.1 t x (keeps.1 leads.0 leads.1 leads.2) leads.3
 
-  pub keeps_weaker : (R : A → S → Type 0) → ((x : A) (t : S) → Q x t → R x t) → (p : CallTree Call Answer A) (s : S)
-      → Keeps Can Allows Q p s → Keeps Can Allows R p s
-  keeps_weaker R then (Done x) s keeps = then x s keeps
-  keeps_weaker R then (Ask call next) s keeps = (keeps.0, λ a t allowed. keeps_weaker R then (next a) t (keeps.1 a t allowed))
-
-  pub keeps_bind : {B : Type 0} (p : CallTree Call Answer B) (f : B → CallTree Call Answer A) (s : S)
-      → Keeps Can Allows (λ x t. Keeps Can Allows Q (f x) t) p s → Keeps Can Allows Q (bind p f) s
-  keeps_bind (Done x) f s keeps = keeps
-  keeps_bind (Ask call next) f s keeps = (keeps.0, λ a t allowed. keeps_bind (next a) f t (keeps.1 a t allowed))
-
   -- the first leads to what the second begins with
   pub keeps_then : {B : Type 0} (R : B → S → Type 0) (p : CallTree Call Answer B) (f : B → CallTree Call Answer A) (s : S)
       → Keeps Can Allows R p s → ((x : B) (t : S) → R x t → Keeps Can Allows Q (f x) t) → Keeps Can Allows Q (bind p f) s

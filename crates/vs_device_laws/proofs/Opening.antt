@@ -14,19 +14,16 @@ use Rattle.vs_ring_port.specs.Contents.{PublishCid}
 use Rattle.vs_ring_port.specs.declared.failure.Failure.{Failure}
 use Rattle.vs_device_parts.specs.Calls.{Call, Label, Ring, Situation, DeviceTree, Allows}
 use Rattle.vs_device_parts.specs.Connections.{new_connection, stream_closed, with_client}
-use Rattle.vs_device_parts.specs.State.{DeviceConnection, DeviceEntry, DeviceState}
-use Rattle.vs_device_parts.specs.Streams.{closing}
+use Rattle.vs_device_parts.specs.{State.DeviceConnection, State.DeviceEntry, State.DeviceState, Streams.closing}
 use Rattle.vs_device_parts.specs.Turns.{after_reset, close_slot, new_device, open_of, reset_of}
 use Rattle.vs_device_laws.specs.Split.{CanReach, is_quiet}
 use Rattle.vs_device_laws.specs.Streams.{AreOpen, FindsFree, FindsStreams, HasStreams, IsFree, JoinsStreams}
-use Rattle.vs_device_laws.proofs.Closing.{keeps_closing}
-use Rattle.vs_device_laws.proofs.Keeping.{Keeps, keeps_each, keeps_then}
+use Rattle.vs_device_laws.proofs.{Closing.keeps_closing, Keeping.Keeps, Keeping.keeps_each, Keeping.keeps_then}
 use Rattle.vs_device_laws.proofs.Tables.{IsEntry, closed_at, entry_by_slot, fewer, has_added, some_after, some_from, stream_by_entry}
-use Rattle.vs_device_laws.proofs.Tables.{stream_changed, stream_closed_under, value_by_entry}
-use Rattle.vs_device_laws.proofs.Writing.{all_stay}
+use Rattle.vs_device_laws.proofs.{Tables.stream_changed, Tables.stream_closed_under, Tables.value_by_entry, Writing.all_stay}
 
 -- No connection, no stream.
-empty_sound : (room given : ℕ) → given ≤ 2 ^ 64 → IsTable {T = DeviceConnection} (record { room = room; entries = []; given = given })
+pub empty_sound : (room given : ℕ) → given ≤ 2 ^ 64 → IsTable {T = DeviceConnection} (record { room = room; entries = []; given = given })
 empty_sound room given left = record {
   within = omega arith;
   rising = λ i j d lt within. absurd (omega arith);

@@ -2,8 +2,7 @@
 use Rattle.std.proofs.Common.{◌≡◌, ℕ, ◌+◌, ◌==◌, Bool, true, false, not, cond, List, [], ◌∷◌, length, Option, Some, None, Result, Ok, Err}
 use Rattle.std.proofs.Common.{refl, sym, ap, subst, ◌∙◌}
 use Rattle.std.specs.Option.{ForSome}
-use Rattle.vs_conn.specs.End.{owes_of, paid_of, wanting_credit, with_payload_sent}
-use Rattle.vs_conn.specs.Headers.{owed_header, payload_header}
+use Rattle.vs_conn.specs.{End.owes_of, End.paid_of, End.wanting_credit, End.with_payload_sent, Headers.owed_header, Headers.payload_header}
 use Rattle.vs_conn.specs.declared.end.Owed.{Owed}
 use Rattle.vs_conn.specs.declared.end.Owed.TheVariants as owed
 use Rattle.vs_conn.specs.declared.end.TheConstants.{OWED_MAX}
@@ -17,21 +16,18 @@ use Rattle.vs_outside.specs.declared.host_net.StreamRead.TheVariants as read
 use Rattle.vs_outside.proofs.Frames.{open-after_read, others-after_read}
 use Rattle.vs_replies.specs.declared.Reply.{Reply}
 use Rattle.vs_ring_port.specs.Contents.{Take}
-use Rattle.vs_ring_port.specs.declared.device_ring.Chain.{Chain}
-use Rattle.vs_ring_port.specs.declared.device_ring.Next.{Next}
+use Rattle.vs_ring_port.specs.declared.device_ring.{Chain.Chain, Next.Next}
 use Rattle.vs_ring_port.specs.declared.device_ring.Next.TheVariants as next
 use Rattle.vs_ring_port.specs.declared.failure.Failure.{Failure}
 use Rattle.vs_ring_port.specs.declared.queue.Queue.TheVariants.{Event, Rx}
 use Rattle.vs_device_parts.specs.declared.answers.Filled.{Filled}
 use Rattle.vs_device_parts.specs.Calls.{ReadStream, Ring, Situation, DeviceTree, Allows}
 use Rattle.vs_device_parts.specs.Connections.{after_shut, cut_off, route_to_guest, with_connection, with_fault}
-use Rattle.vs_device_parts.specs.Receiving.{Filling, after_paying, event_on, fill_rx_of, filled_of, hold, holding, may_read, pay_event_of, put_on}
-use Rattle.vs_device_parts.specs.Receiving.{put_owed, put_packet, put_payload, put_reply, put_reply_of, read_answered, read_room, read_stream}
-use Rattle.vs_device_parts.specs.Receiving.{read_with_chain, reply_header, round_from, serve_slot, written}
-use Rattle.vs_device_parts.specs.State.{DeviceConnection, DeviceEntry, DeviceState}
-use Rattle.vs_device_parts.specs.Streams.{closing}
-use Rattle.vs_device_laws.specs.Split.{CanReach}
-use Rattle.vs_device_laws.specs.Streams.{FindsStreams, HasStreams}
+use Rattle.vs_device_parts.specs.Receiving.{Filling, after_paying, event_on, fill_rx_of, filled_of, hold, holding, may_read, pay_event_of}
+use Rattle.vs_device_parts.specs.Receiving.{put_on, put_owed, put_packet, put_payload, put_reply, put_reply_of, read_answered, read_room}
+use Rattle.vs_device_parts.specs.Receiving.{read_stream, read_with_chain, reply_header, round_from, serve_slot, written}
+use Rattle.vs_device_parts.specs.{State.DeviceConnection, State.DeviceEntry, State.DeviceState, Streams.closing}
+use Rattle.vs_device_laws.specs.{Split.CanReach, Streams.FindsStreams, Streams.HasStreams}
 use Rattle.vs_device_laws.proofs.Closing.{found_by_slot, keeps_cut_off, keeps_leaving, stays}
 use Rattle.vs_device_laws.proofs.Ends.{owes_reset, reads_not, shut_over}
 use Rattle.vs_device_laws.proofs.Keeping.{Keeps, keeps_each, keeps_then, keeps_while}
@@ -54,7 +50,7 @@ keeps_put_on chain h payload r c =
     (λ a. Done (record r { state = record r.state { chain = None }; put = r.put + 1 })) c
     (keeps_written chain h payload c) (λ a d same. (same, refl))
 
-holding_table : (answer : Next) (r : Filling) → (holding answer r).state.table ≡ r.state.table
+pub holding_table : (answer : Next) (r : Filling) → (holding answer r).state.table ≡ r.state.table
 holding_table (next.Chain chain) r = refl
 holding_table next.None r = refl
 holding_table (next.Failed f) r = refl

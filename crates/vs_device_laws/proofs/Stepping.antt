@@ -5,32 +5,28 @@ use Rattle.vs_conn.specs.End.{wanting_credit}
 use Rattle.vs_credit.specs.Credit.{free_of}
 use Rattle.vs_flow.specs.Table.{entry_under}
 use Rattle.vs_header.specs.Packet.{header_of}
-use Rattle.vs_header.specs.declared.Header.{Header}
-use Rattle.vs_header.specs.declared.TheConstants.{HEADER_LEN}
+use Rattle.vs_header.specs.declared.{Header.Header, TheConstants.HEADER_LEN}
 use Rattle.vs_ring_port.specs.Contents.{Take, Write, Return}
-use Rattle.vs_ring_port.specs.declared.device_ring.Chain.{Chain}
-use Rattle.vs_ring_port.specs.declared.device_ring.Next.{Next}
+use Rattle.vs_ring_port.specs.declared.device_ring.{Chain.Chain, Next.Next}
 use Rattle.vs_ring_port.specs.declared.device_ring.Next.TheVariants as next
 use Rattle.vs_ring_port.specs.declared.failure.Failure.TheVariants as failure
 use Rattle.vs_ring_port.specs.declared.queue.Queue.{Queue}
 use Rattle.vs_ring_port.specs.declared.queue.Queue.TheVariants.{Rx, Tx, Event}
-use Rattle.vs_device_parts.specs.Calls.{Call, Ring, Situation, Allows}
-use Rattle.vs_device_parts.specs.Connections.{with_connection}
+use Rattle.vs_device_parts.specs.{Calls.Call, Calls.Ring, Calls.Situation, Calls.Allows, Connections.with_connection}
 use Rattle.vs_device_parts.specs.Receiving.{hold, may_read, put_owed, put_reply, read_with_chain}
 use Rattle.vs_device_parts.specs.State.{DeviceEntry, DeviceState}
-use Rattle.vs_device_parts.specs.Steps.{chain_came, filling, puts_event, puts_owed, puts_payload, puts_reply, reads, returns, shuts_write, takes_chain, writes, writes_on, writing}
+use Rattle.vs_device_parts.specs.Steps.{chain_came, filling, puts_event, puts_owed, puts_payload, puts_reply, reads, shuts_write}
+use Rattle.vs_device_parts.specs.Steps.{takes_chain, writes, writes_on, writing}
 use Rattle.vs_device_parts.specs.Streams.{shut_write, tick_slot, write_pending}
 use Rattle.vs_device_parts.specs.Transmitting.{failing, on_packet}
 use Rattle.vs_device_parts.specs.declared.limits.TheConstants.{REPLIES}
-use Rattle.vs_device_laws.specs.Split.{CanReach, is_quiet}
-use Rattle.vs_device_laws.specs.Streams.{FindsStreams}
-use Rattle.vs_device_laws.proofs.Closing.{found_by_slot, keeps_tick_slot, stays}
-use Rattle.vs_device_laws.proofs.Keeping.{Keeps, keeps_then}
-use Rattle.vs_device_laws.proofs.Receiving.{Fills, FillsFirst, from_table, keeps_hold, keeps_put_owed, keeps_put_reply_of, keeps_read_with_chain}
-use Rattle.vs_device_laws.proofs.Transmitting.{keeps_on_packet}
+use Rattle.vs_device_laws.specs.{Split.CanReach, Split.is_quiet, Streams.FindsStreams}
+use Rattle.vs_device_laws.proofs.{Closing.found_by_slot, Closing.keeps_tick_slot, Closing.stays, Keeping.Keeps, Keeping.keeps_then}
+use Rattle.vs_device_laws.proofs.Receiving.{Fills, FillsFirst, from_table, keeps_hold, keeps_put_owed, keeps_put_reply_of}
+use Rattle.vs_device_laws.proofs.{Receiving.keeps_read_with_chain, Transmitting.keeps_on_packet}
 use Rattle.vs_device_laws.proofs.Writing.{finds_changed, keeps_shut_write, keeps_write_pending}
 
-reach : (call : Call) (s : Situation) → is_quiet call ≡ true → CanReach call s → CanReach call s
+pub reach : (call : Call) (s : Situation) → is_quiet call ≡ true → CanReach call s → CanReach call s
 reach call s quiet can = can
 
 module _ (others : List ℕ) where
@@ -70,10 +66,6 @@ module _ (others : List ℕ) where
       keeps_then CanReach Allows (FindsStreams others) (λ q d. (d.host ≡ c.host) × (q.state.table ≡ s.table)) (hold (filling s))
       (λ r. Done r.state) c (keeps_hold (filling s) c) (λ q d held. from_table others s q.state c d held.0 held.1 has)
   takes_keeps Event s c has = event_by s.event_owed s c has
-
-  pub returns_keeps : (chain : Chain) (s : DeviceState) (c : Situation) → FindsStreams others s c
-      → Keeps CanReach Allows (FindsStreams others) (returns chain s) c
-  returns_keeps chain s c has = (tt, λ a d allowed. stays others s.table c d allowed.1 has)
 
   -- Packets and events are put.
   puts_by : (b : Bool) (chain : Chain) (bytes : List ℕ) (s : DeviceState) (c : Situation) → FindsStreams others s c

@@ -7,21 +7,17 @@ use Rattle.vs_conn.specs.declared.end.State.TheVariants.{Ended}
 use Rattle.vs_contents.specs.Contents.{Exposes}
 use Rattle.vs_flow.specs.Table.{Table, IsTable, entry_of, entry_under, value_under, next_entry, with_entry, with_value, without, revalued}
 use Rattle.vs_flow.specs.declared.flow.Flow.{Flow}
-use Rattle.vs_flow.proofs.Entries.{found_passes}
 use Rattle.vs_flow.proofs.Lookups.{entry_under-with_entry, entry_under-with_value, entry_under-without, entry_of_found}
 use Rattle.vs_flow.proofs.Tables.{with_value_sound, without_sound}
 use Rattle.vs_outside.specs.Host.{HostContents, IsOpen, after_close}
 use Rattle.vs_outside.proofs.Frames.{others-after_close, stays_open}
 use Rattle.vs_device_parts.specs.State.{DeviceConnection, DeviceEntry}
+use Rattle.vs_device_parts.proofs.Under.{has_slot}
 use Rattle.vs_device_laws.specs.Streams.{AreOver, HasStreams, JoinsStreams, joined_stream, stream_under}
 
 -- the entry stands under its slot
 abbrev pub IsEntry : Table DeviceConnection → DeviceEntry → Type 0
 IsEntry t e = entry_under t e.slot ≡ Some e
-
-pub has_slot : (t : Table DeviceConnection) (slot : ℕ) (e : DeviceEntry) → entry_under t slot ≡ Some e → e.slot ≡ slot
-has_slot t slot e found = let passes = found_passes (λ (d : DeviceEntry). d.slot == slot) t.entries e found in grind
-    (arith, nat_tests, passes)
 
 pub entry_by_slot : (t : Table DeviceConnection) (slot : ℕ) (e : DeviceEntry) → entry_under t slot ≡ Some e → IsEntry t e
 entry_by_slot t slot e found = let P : ℕ → Type 0 = λ n. entry_under t n ≡ Some e in subst P (sym (has_slot t slot e found)) found

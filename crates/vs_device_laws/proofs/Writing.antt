@@ -13,12 +13,11 @@ use Rattle.vs_device_parts.specs.Connections.{after_shut, after_written, cut_off
 use Rattle.vs_device_parts.specs.State.{DeviceConnection, DeviceEntry, DeviceState}
 use Rattle.vs_device_parts.specs.Streams.{Writing, closing, is_written_out, pump_of, pump_slot, shut_write, to_write, write_answered}
 use Rattle.vs_device_parts.specs.Streams.{write_pending}
-use Rattle.vs_device_laws.specs.Split.{CanReach, is_quiet}
-use Rattle.vs_device_laws.specs.Streams.{FindsStreams, HasStreams, joined_stream}
+use Rattle.vs_device_parts.proofs.Under.{has_slot}
+use Rattle.vs_device_laws.specs.{Split.CanReach, Split.is_quiet, Streams.FindsStreams, Streams.HasStreams, Streams.joined_stream}
 use Rattle.vs_device_laws.proofs.Closing.{IsFound, found_by_slot, keeps_cut_off, stream_open}
-use Rattle.vs_device_laws.proofs.Ends.{forwarded_over, shut_over}
-use Rattle.vs_device_laws.proofs.Keeping.{Keeps, keeps_each, keeps_then}
-use Rattle.vs_device_laws.proofs.Tables.{has_changed, has_moved, has_slot, some_after, some_from, value_by_entry}
+use Rattle.vs_device_laws.proofs.{Ends.forwarded_over, Ends.shut_over, Keeping.Keeps, Keeping.keeps_each, Keeping.keeps_then}
+use Rattle.vs_device_laws.proofs.Tables.{has_changed, has_moved, some_after, some_from, value_by_entry}
 
 -- a call on one stream keeps all open that it doesn't close
 pub all_stay : (stream : ℕ) (h k : HostContents) → KeepsOthers stream h k → (IsOpen stream h → IsOpen stream k) → (id : ℕ) → IsOpen id h

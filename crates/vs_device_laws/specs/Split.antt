@@ -2,8 +2,7 @@
 use Rattle.std.specs.Prelude.{◌==◌, Bool, true, false}
 use Rattle.vs_contents.specs.CallTree.{MayPlay}
 use Rattle.vs_ring_port.specs.Contents.{Write, Return}
-use Rattle.vs_device_parts.specs.Calls.{Call, Ring, Situation, DeviceTree, Allows}
-use Rattle.vs_device_parts.specs.Playing.{CanMake}
+use Rattle.vs_device_parts.specs.{Calls.Call, Calls.Ring, Calls.Situation, Calls.DeviceTree, Calls.Allows, Playing.CanMake}
 
 -- The stream that a call names is open. Calls on the ring name none.
 abbrev pub CanReach : Call → Situation → Type 0

@@ -4,8 +4,7 @@ use Rattle.std.specs.Option.{ForSome}
 use Rattle.vs_conn.specs.declared.end.State.TheVariants.{Ended}
 use Rattle.vs_flow.specs.Table.{Table, IsTable, value_under}
 use Rattle.vs_outside.specs.Host.{HostContents, IsOpen}
-use Rattle.vs_device_parts.specs.Calls.{Situation}
-use Rattle.vs_device_parts.specs.State.{DeviceConnection, DeviceState}
+use Rattle.vs_device_parts.specs.{Calls.Situation, State.DeviceConnection, State.DeviceState}
 
 -- The stream of a connection, until the device closed it; and that of the connection in a slot.
 abbrev pub joined_stream : DeviceConnection → Option ℕ

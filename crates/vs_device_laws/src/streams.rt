@@ -1,20 +1,15 @@
 //! The host's streams that the device's calls name are open.
 
-ghost use Rattle.std.specs.Prelude.{◌≡◌, ℕ, Bool, List, Result};
-ghost use Rattle.std.specs.Option.{ForSome};
+ghost use Rattle.std.specs.Prelude.{ℕ, Bool, List, Result};
 ghost use Rattle.vs_flow.specs.declared.flow.Flow.{Flow};
 ghost use Rattle.vs_flow.specs.declared.table.TableFault.{TableFault};
 ghost use Rattle.vs_outside.specs.Host.{HostContents};
 ghost use Rattle.vs_ring_port.specs.declared.failure.Failure.{Failure};
-ghost use Rattle.vs_device_parts.specs.Calls.{DeviceTree, Situation};
-ghost use Rattle.vs_device_parts.specs.Playing.{MayRun, Runs};
-ghost use Rattle.vs_device_parts.specs.Receiving.{fill_rx_of, pay_event_of};
-ghost use Rattle.vs_device_parts.specs.State.{DeviceState};
-ghost use Rattle.vs_device_parts.specs.Streams.{Writing, pump_of, tick_of};
-ghost use Rattle.vs_device_parts.specs.Transmitting.{take_tx_of};
+ghost use Rattle.vs_device_parts.specs.{Calls.DeviceTree, Calls.Situation, Playing.MayRun, Playing.Runs};
+ghost use Rattle.vs_device_parts.specs.{Receiving.fill_rx_of, Receiving.pay_event_of, State.DeviceState};
+ghost use Rattle.vs_device_parts.specs.{Streams.Writing, Streams.pump_of, Streams.tick_of, Transmitting.take_tx_of};
 ghost use Rattle.vs_device_parts.specs.Turns.{new_device, open_of, reset_of};
-ghost use Rattle.vs_device_parts.specs.declared.answers.Filled.{Filled};
-ghost use Rattle.vs_device_parts.specs.declared.answers.Taken.{Taken};
+ghost use Rattle.vs_device_parts.specs.declared.answers.{Filled.Filled, Taken.Taken};
 ghost use Rattle.vs_device_laws.specs.Split.{MayPut, MayReach};
 ghost use Rattle.vs_device_laws.specs.Streams.{AreOpen, FindsFree, FindsStreams, HasStreams};
 

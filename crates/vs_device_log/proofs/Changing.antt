@@ -2,17 +2,13 @@
 use Rattle.std.proofs.Common.{◌≡◌, ℕ, ◌-◌, ◌≤◌, Bool, true, false, cond, List, [], ◌∷◌, ◌++◌, length, drop, Contains, refl, sym, ap, subst}
 use Rattle.std.proofs.Common.{◌∙◌, arith, length-append, length-drop, length-take}
 use Rattle.std.proofs.lemmas.Grind.{common_steps}
-use Rattle.vs_conn.specs.End.{ConnectionEnd, wanting_credit, with_payload_forwarded, with_shut}
-use Rattle.vs_conn.specs.Follows.{Follows}
+use Rattle.vs_conn.specs.{End.ConnectionEnd, End.wanting_credit, End.with_payload_forwarded, End.with_shut, Follows.Follows}
 use Rattle.vs_conn.proofs.Steps.{abort_follows, ask_follows, forward_follows, shut_follows}
 use Rattle.vs_history.specs.History.{Side, gots, puts, History}
-use Rattle.vs_flow.specs.Flow.{same_flow}
-use Rattle.vs_flow.specs.Table.{Table}
+use Rattle.vs_flow.specs.{Flow.same_flow, Table.Table}
 use Rattle.vs_flow.specs.declared.flow.Flow.{Flow}
 use Rattle.vs_page.specs.Log.{Device, Log, side_of}
-use Rattle.vs_matching.specs.Ends.{Ends, FlowEnd, ends_of, is_new, replaced}
-use Rattle.vs_matching.specs.Heard.{heard_of}
-use Rattle.vs_matching.specs.Matches.{Matches}
+use Rattle.vs_matching.specs.{Ends.Ends, Ends.FlowEnd, Ends.ends_of, Ends.is_new, Ends.replaced, Heard.heard_of, Matches.Matches}
 use Rattle.vs_matching.specs.Steps.{with_end}
 use Rattle.vs_matching.proofs.Keeps.{changes}
 use Rattle.vs_replies.specs.declared.Reply.{Reply}
@@ -39,10 +35,10 @@ Changes port s t = ChangesTo port s.cid s.overrun s.table s.replies t.cid t.over
 abbrev pub FollowsAs : ConnectionEnd → ConnectionEnd → Type 0
 FollowsAs old new = (side : Side) (h : History) → Follows side (puts h) (gots h) old → Follows side (puts h) (gots h) new
 
-shut_old : (e : ConnectionEnd) (bits : ℕ) → is_new e ≡ false → is_new (with_shut e bits) ≡ false
+pub shut_old : (e : ConnectionEnd) (bits : ℕ) → is_new e ≡ false → is_new (with_shut e bits) ≡ false
 shut_old e bits is = grind (arith, common_steps, is)
 
-forward_old : (e : ConnectionEnd) (n : ℕ) → is_new e ≡ false → is_new (with_payload_forwarded e n) ≡ false
+pub forward_old : (e : ConnectionEnd) (n : ℕ) → is_new e ≡ false → is_new (with_payload_forwarded e n) ≡ false
 forward_old e n is = grind (arith, common_steps, is)
 
 -- A flow's end in place of itself.
@@ -56,7 +52,7 @@ none_replaced f e (y ∷ ys) none = at (same_flow f y.flow) refl none (none_repl
     at true same empty rest = absurd cc
     at false same empty rest = rw same (ap (λ (zs : List FlowEnd). y ∷ zs) (rest empty))
 
-same_replaced : (f : Flow) (e : ConnectionEnd) (xs : List FlowEnd) → ends_of f xs ≡ e ∷ [] → replaced f e xs ≡ xs
+pub same_replaced : (f : Flow) (e : ConnectionEnd) (xs : List FlowEnd) → ends_of f xs ≡ e ∷ [] → replaced f e xs ≡ xs
 same_replaced f e [] is = refl
 same_replaced f e (x ∷ xs) is = by (same_flow f x.flow) refl is (same_replaced f e xs)
   where

@@ -24,8 +24,8 @@ use Rattle.vs_matching.specs.Ends.{is_new}
 use Rattle.vs_matching.proofs.Slots.{found_by}
 use Rattle.vs_device_parts.specs.declared.answers.Filled.{Filled as FilledAnswer}
 use Rattle.vs_device_parts.specs.Calls.{DeviceTree}
-use Rattle.vs_device_parts.specs.Connections.{after_leaving, after_shut, cut_off, route_to_guest, stream_closed, with_connection, with_fault}
-use Rattle.vs_device_parts.specs.Playing.{IsRxChain}
+use Rattle.vs_device_parts.specs.Connections.{after_leaving, after_shut, cut_off, route_to_guest, stream_closed, with_connection}
+use Rattle.vs_device_parts.specs.{Connections.with_fault, Playing.IsRxChain}
 use Rattle.vs_device_parts.specs.Receiving.{Filling, after_paying, fill_rx_of, filled_of, hold, may_read, put_on, put_owed, put_packet}
 use Rattle.vs_device_parts.specs.Receiving.{put_payload, put_reply, put_reply_of, read_answered, read_room, read_stream, read_with_chain}
 use Rattle.vs_device_parts.specs.Receiving.{reply_header, round_from, serve_slot}
@@ -212,9 +212,6 @@ module _ (first port : ℕ) where
       (may : may_read e.value.end e.value.end.state ≡ true) where
     old : is_new e.value.end ≡ false
     old = live_old e.value.end may
-
-    within : Chain → ℕ
-    within chain = read_room (free_of e.value.end.credit) chain
 
     module _ (chain : Chain) (going : r.state.failed ≡ None) (over : r.over ≡ false) where
       abbrev chained : Filling

@@ -10,8 +10,7 @@ use Rattle.vs_conn.specs.declared.end.Verdict.TheVariants as verdict
 use Rattle.vs_credit.specs.Credit.{room_of, with_forwarded, with_sent, with_taken}
 use Rattle.vs_credit.specs.declared.Credit.{Credit}
 use Rattle.vs_header.specs.Op.{op_named}
-use Rattle.vs_header.specs.declared.Header.{Header}
-use Rattle.vs_header.specs.declared.Op.{Op}
+use Rattle.vs_header.specs.declared.{Header.Header, Op.Op}
 use Rattle.vs_header.specs.declared.Op.TheVariants as op
 use Rattle.vs_history.specs.declared.TheConstants.{BUF_ALLOC}
 use Rattle.vs_device_log.specs.Honest.{HoldsBytes}

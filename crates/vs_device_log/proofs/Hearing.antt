@@ -9,52 +9,41 @@ use Rattle.vs_conn.specs.declared.end.Verdict.{Verdict}
 use Rattle.vs_conn.specs.declared.end.Verdict.TheVariants as verdict
 use Rattle.vs_conn.specs.declared.end.Why.{Why}
 use Rattle.vs_conn.specs.declared.end.Why.TheVariants as why
-use Rattle.vs_flow.specs.Flow.{is_assigned, same_flow}
-use Rattle.vs_flow.specs.Table.{entry_of, has_place}
+use Rattle.vs_flow.specs.{Flow.is_assigned, Flow.same_flow, Table.entry_of, Table.has_place}
 use Rattle.vs_flow.proofs.Entries.{same_flow_true}
 use Rattle.vs_header.specs.Op.{op_named}
-use Rattle.vs_header.specs.declared.Header.{Header}
-use Rattle.vs_header.specs.declared.TheConstants.{HEADER_LEN}
+use Rattle.vs_header.specs.declared.{Header.Header, TheConstants.HEADER_LEN}
 use Rattle.vs_history.specs.Packets.{is_request}
 use Rattle.vs_history.specs.declared.packet.Packet.{Packet}
 use Rattle.vs_outside.specs.declared.host_net.Dialed.{Dialed}
 use Rattle.vs_outside.specs.declared.host_net.Dialed.TheVariants as dialed
-use Rattle.vs_page.specs.Fair.{IsFairLog}
-use Rattle.vs_page.specs.Held.{FitsWire}
-use Rattle.vs_page.specs.Log.{Device, Log, flow_to_host}
-use Rattle.vs_page.specs.Open.{is_dropped}
+use Rattle.vs_page.specs.{Fair.IsFairLog, Held.FitsWire, Log.Device, Log.Log, Log.flow_to_host, Open.is_dropped}
 use Rattle.vs_page.specs.declared.log.LogEntry.TheVariants.{GotPacket}
 use Rattle.vs_replies.specs.Owed.{reply_to}
-use Rattle.vs_ring_port.specs.Chains.{Held, bytes_in}
-use Rattle.vs_ring_port.specs.Contents.{RingContents}
-use Rattle.vs_ring_port.specs.EndLog.{EndLog}
+use Rattle.vs_ring_port.specs.{Chains.Held, Chains.bytes_in, Contents.RingContents, EndLog.EndLog}
 use Rattle.vs_ring_port.specs.declared.device_ring.Chain.{Chain}
-use Rattle.vs_matching.specs.Ends.{is_new}
-use Rattle.vs_matching.specs.Steps.{is_overrun}
+use Rattle.vs_matching.specs.{Ends.is_new, Steps.is_overrun}
 use Rattle.vs_matching.proofs.Slots.{found_by}
 use Rattle.vs_device_parts.specs.Calls.{DeviceTree, Dial}
 use Rattle.vs_device_parts.specs.Connections.{after_leaving, stream_closed, with_connection, with_dialed, with_fault, with_reply}
-use Rattle.vs_device_parts.specs.State.{DeviceConnection, DeviceEntry, DeviceState}
-use Rattle.vs_device_parts.specs.Streams.{leaving}
+use Rattle.vs_device_parts.specs.{State.DeviceConnection, State.DeviceEntry, State.DeviceState, Streams.leaving}
 use Rattle.vs_device_parts.specs.Transmitting.{dial_answered, heard, on_known, on_packet, on_unknown, refused, try_request, unknown_why}
 use Rattle.vs_wrap.specs.Wrap.{counted}
 use Rattle.vs_device_log.specs.Honest.{AgreesWith, HoldsBytes, IsLeft, unwritten}
-use Rattle.vs_device_log.proofs.Fits.{delivered, fewer, fits_after}
-use Rattle.vs_device_log.proofs.Keeping.{Keeps, keeps_bind}
-use Rattle.vs_device_log.proofs.Ringing.{HoldsFirst, Tells, moves, tells_weaker}
-use Rattle.vs_device_log.proofs.Steps.{closing_keeps}
+use Rattle.vs_device_log.proofs.{Fits.delivered, Fits.fewer, Fits.fits_after, Keeping.Keeps, Keeping.keeps_bind}
+use Rattle.vs_device_log.proofs.{Ringing.HoldsFirst, Ringing.Tells, Ringing.moves, Ringing.tells_weaker, Steps.closing_keeps}
 use Rattle.vs_device_log.proofs.Tabling.{IsFitConnection, begun_fits, entry_fits}
 use Rattle.vs_device_log.proofs.Taking.{drops_it, has_its_room, ignores_it, leaves_with, opens, replies_to, stays_with}
 
 -- A packet ends a connection where it is an RST of a stream.
-abbrev peer_resets : Verdict → Header → Bool
+abbrev pub peer_resets : Verdict → Header → Bool
 peer_resets verdict.Peer h = is_reset h
 peer_resets _ h = false
 
-rst_leaves : (e : ConnectionEnd) (h : Header) → peer_resets (verdict_of e h) h ≡ (is_reset h && is_stream h)
+pub rst_leaves : (e : ConnectionEnd) (h : Header) → peer_resets (verdict_of e h) h ≡ (is_reset h && is_stream h)
 rst_leaves e h = grind (arith, common_steps)
 
-still_new : (e : ConnectionEnd) (h : Header) → is_new (end_after e h) ≡ true → is_new e ≡ true
+pub still_new : (e : ConnectionEnd) (h : Header) → is_new (end_after e h) ≡ true → is_new e ≡ true
 still_new e h = grind (arith, common_steps)
 
 accept_old : (e : ConnectionEnd) (h : Header) → verdict_of e h ≡ verdict.Accept → is_new (end_after e h) ≡ false

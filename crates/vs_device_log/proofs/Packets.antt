@@ -6,29 +6,24 @@ use Rattle.std.specs.Option.{ForSome, option_map}
 use Rattle.byteorder.specs.Endian.{little_bytes}
 use Rattle.vs_contents.specs.Contents.{Exposes, Relates}
 use Rattle.vs_header.specs.Packet.{header_bytes, header_of}
-use Rattle.vs_header.specs.declared.Header.{Header}
-use Rattle.vs_header.specs.declared.TheConstants.{HEADER_LEN}
+use Rattle.vs_header.specs.declared.{Header.Header, TheConstants.HEADER_LEN}
 use Rattle.vs_history.specs.Packets.{is_rw}
 use Rattle.vs_history.specs.declared.packet.Packet.{Packet}
-use Rattle.vs_page.specs.Held.{packet_held, payload_held}
-use Rattle.vs_page.specs.Log.{Log}
-use Rattle.vs_page.specs.Overwriting.{overwritten}
+use Rattle.vs_page.specs.{Held.packet_held, Held.payload_held, Log.Log, Overwriting.overwritten}
 use Rattle.vs_page.specs.declared.log.LogEntry.TheVariants.{PutEvent, PutPacket}
 use Rattle.vs_ring_port.specs.Chains.{Held, bytes_in}
 use Rattle.vs_ring_port.specs.Contents.{DeviceAnswer, DeviceCall, Read, Return, RingContents, Take, Write}
 use Rattle.vs_ring_port.specs.DeviceCalls.{DeviceMoves, IsTakenAs}
-use Rattle.vs_ring_port.specs.EndLog.{EndLog, log_returned, log_taken, log_written, with_packet}
-use Rattle.vs_ring_port.specs.Lists.{Rings}
+use Rattle.vs_ring_port.specs.{EndLog.EndLog, EndLog.log_returned, EndLog.log_taken, EndLog.log_written, EndLog.with_packet, Lists.Rings}
 use Rattle.vs_ring_port.specs.declared.device_ring.Chain.{Chain}
 use Rattle.vs_ring_port.specs.declared.device_ring.Next.TheVariants as next
 use Rattle.vs_ring_port.specs.declared.failure.Failure.{Failure}
 use Rattle.vs_ring_port.specs.declared.queue.Queue.TheVariants.{Event, Rx, Tx}
-use Rattle.vs_device_parts.specs.Calls.{Allows, Ring, Situation}
-use Rattle.vs_device_parts.specs.Playing.{Runs}
-use Rattle.vs_device_parts.specs.Receiving.{event_on, written}
+use Rattle.vs_device_parts.specs.{Calls.Allows, Calls.Ring, Calls.Situation, Playing.Runs, Receiving.event_on, Receiving.written}
 use Rattle.vs_device_parts.specs.State.{DeviceState}
 use Rattle.vs_device_log.specs.Packets.{HasAdded, HasTaken, HoldsLast, IsWholeAs, packet_with}
 use Rattle.vs_device_log.proofs.Ringing.{both_written, bytes_held, one_written, returned_entries, returned_held, written_held}
+use Rattle.vs_device_log.proofs.Transmitting.{some_test}
 
 -- What a call does to the log, between the logs before and after it.
 related : (call : DeviceCall) (a : DeviceAnswer call) (L : Rings → Type 0) (f : Rings → Rings) (R : EndLog → Type 0) (g : EndLog → EndLog)
@@ -156,10 +151,6 @@ parts_by : (h : Header) (p : Packet) (o : Option (List ℕ)) → option_map (pac
 parts_by h p None is = absurd cc
 parts_by h p (Some payload) is =
     let same : packet_with h payload ≡ p = cc in (sym (ap (λ (q : Packet). q.header) same), ap (λ (q : Packet). Some q.payload) same)
-
-some_test : {A : Type 0} (b : Bool) (o : Option A) (x : A) → cond b o None ≡ Some x → o ≡ Some x
-some_test true o x is = is
-some_test false o x is = absurd cc
 
 pub heard_there : (page : List ℕ) (p : Packet) → packet_held page ≡ Some p
     → (p.header ≡ header_of (take HEADER_LEN page)) × (is_rw p ≡ true → p.payload ≡ take p.header.len (drop HEADER_LEN page))

@@ -2,8 +2,7 @@
 use Rattle.std.proofs.Common.{◌≡◌, ℕ, suc, ◌<◌, ◌^◌, false, List, [], ◌∷◌, ◌++◌, length, map, Contains, Some, refl, sym, ap, subst, ◌∙◌}
 use Rattle.std.proofs.Common.{arith}
 use Rattle.std.specs.List.{All}
-use Rattle.std.proofs.lemmas.Grind.{common_steps}
-use Rattle.std.proofs.lemmas.List.{append-nil}
+use Rattle.std.proofs.lemmas.{Grind.common_steps, List.append-nil}
 use Rattle.vs_conn.specs.End.{CanSend, ConnectionEnd, owes_of, paid_of, with_payload_sent}
 use Rattle.vs_conn.specs.Headers.{owed_flags, owed_header, owed_op, payload_header}
 use Rattle.vs_conn.specs.declared.end.Owed.{Owed}
@@ -14,23 +13,17 @@ use Rattle.vs_header.specs.declared.Op.TheVariants as op
 use Rattle.vs_history.specs.declared.packet.Packet.{Packet}
 use Rattle.vs_flow.specs.declared.flow.Flow.{Flow}
 use Rattle.vs_flow.specs.Table.{Table, with_value, without}
-use Rattle.vs_page.specs.Fair.{IsFairLog}
-use Rattle.vs_page.specs.Held.{FitsWire, packet_held}
-use Rattle.vs_page.specs.Log.{Device, Log}
+use Rattle.vs_page.specs.{Fair.IsFairLog, Held.FitsWire, Held.packet_held, Log.Device, Log.Log}
 use Rattle.vs_page.specs.declared.log.LogEntry.TheVariants.{PutPacket}
 use Rattle.vs_replies.specs.declared.Reply.{Reply}
-use Rattle.vs_matching.specs.Ends.{Ends, is_new}
-use Rattle.vs_matching.specs.Matches.{Matches}
-use Rattle.vs_matching.specs.Steps.{owed_on, paid, payload_on, with_end}
+use Rattle.vs_matching.specs.{Ends.Ends, Ends.is_new, Matches.Matches, Steps.owed_on, Steps.paid, Steps.payload_on, Steps.with_end}
 use Rattle.vs_matching.proofs.Keeps.{pays, pays_fair, replies, replies_fair, sends, sends_fair}
-use Rattle.vs_device_parts.specs.Connections.{route_to_guest, with_connection}
-use Rattle.vs_device_parts.specs.Receiving.{reply_header}
+use Rattle.vs_matching.proofs.OwedFlags.{owed_flags_fit}
+use Rattle.vs_device_parts.specs.{Connections.route_to_guest, Connections.with_connection, Receiving.reply_header}
 use Rattle.vs_device_parts.specs.State.{DeviceConnection, DeviceEntry, DeviceState}
 use Rattle.vs_device_log.specs.Honest.{HoldsBytes, IsFit, IsFitEntry, IsFitReply, IsFitState, ends_of_state, ends_with, reply_flow}
 use Rattle.vs_page.proofs.Packets.{held_alone, held_payload}
-use Rattle.vs_matching.proofs.OwedFlags.{owed_flags_fit}
-use Rattle.vs_device_log.proofs.Bytes.{header_fits, reset_fits}
-use Rattle.vs_device_log.proofs.Fits.{fits_paid, fits_sent}
+use Rattle.vs_device_log.proofs.{Bytes.header_fits, Bytes.reset_fits, Fits.fits_paid, Fits.fits_sent}
 use Rattle.vs_device_log.proofs.Tabling.{begun_fits, connection_ends, connection_fits, entry_fits, has_end, left_ends, left_fits}
 
 -- What a step does that puts the packet with this header and payload.

@@ -1,18 +1,14 @@
 -- What a call on a ring that tells its log keeps.
-use Rattle.std.proofs.Common.{◌≡◌, ℕ, ◌+◌, ◌≤◌, Bool, true, cond, List, [], ◌∷◌, ◌++◌, Contains, length, take, drop, Option, Some, None, refl, sym}
-use Rattle.std.proofs.Common.{ap, subst, ◌∙◌, arith, length-append}
+use Rattle.std.proofs.Common.{◌≡◌, ℕ, ◌+◌, ◌≤◌, Bool, true, cond, List, [], ◌∷◌, ◌++◌, Contains, length, take, drop, Option, Some, None}
+use Rattle.std.proofs.Common.{refl, sym, ap, subst, ◌∙◌, arith, length-append}
 use Rattle.std.proofs.lemmas.Bool.Decides.{nat_tests}
 use Rattle.std.proofs.lemmas.List.{take_at}
 use Rattle.std.specs.Option.{ForSome}
 use Rattle.vs_contents.specs.Contents.{Exposes}
-use Rattle.vs_page.specs.Fair.{IsFairLog}
-use Rattle.vs_page.specs.Log.{Device}
-use Rattle.vs_page.specs.Overwriting.{overwritten}
+use Rattle.vs_page.specs.{Fair.IsFairLog, Log.Device, Overwriting.overwritten}
 use Rattle.vs_ring_port.specs.Chains.{Held, bytes_in, chains_of, same_chain, same_queue, with_bytes, without_held}
-use Rattle.vs_ring_port.specs.Contents.{RingContents, DeviceCall, DeviceAnswer}
-use Rattle.vs_ring_port.specs.DeviceCalls.{DeviceMoves}
-use Rattle.vs_ring_port.specs.EndLog.{EndLog, entries_returned, log_returned, log_written}
-use Rattle.vs_ring_port.specs.Lists.{Rings}
+use Rattle.vs_ring_port.specs.{Contents.RingContents, Contents.DeviceCall, Contents.DeviceAnswer, DeviceCalls.DeviceMoves}
+use Rattle.vs_ring_port.specs.{EndLog.EndLog, EndLog.entries_returned, EndLog.log_returned, EndLog.log_written, Lists.Rings}
 use Rattle.vs_ring_port.specs.declared.device_ring.Chain.{Chain}
 use Rattle.vs_ring_port.specs.declared.queue.Queue.{Queue}
 use Rattle.vs_ring_port.specs.declared.queue.Queue.TheVariants.{Rx, Tx, Event}

@@ -4,15 +4,13 @@ use Rattle.std.proofs.lemmas.List.Elements.{All-nil, All-cons}
 use Rattle.std.proofs.Common.{true, ◌≡◌, ℕ, ◌≤◌, List, [], ◌∷◌, map, length, Contains, refl, ap, ◌∙◌, arith}
 use Rattle.vs_flow.specs.declared.flow.Flow.{Flow}
 use Rattle.vs_history.specs.declared.TheConstants.{BUF_ALLOC}
-use Rattle.vs_page.specs.Fair.{IsFairLog}
-use Rattle.vs_page.specs.Log.{Device, Log, packets_put}
+use Rattle.vs_page.specs.{Fair.IsFairLog, Log.Device, Log.Log, Log.packets_put}
 use Rattle.vs_page.specs.declared.log.LogEntry.TheVariants.{GotEvent, GotPacket, Mark, PutEvent, PutPacket}
 use Rattle.vs_page.proofs.Entries.{one_got, one_put}
 use Rattle.vs_ring_port.specs.EndLog.{EndLog}
 use Rattle.vs_matching.specs.Ends.{FlowEnd, flows_of, is_among, is_new}
 use Rattle.vs_matching.proofs.Tables.{all_open, end_new}
-use Rattle.vs_device_parts.specs.State.{DeviceEntry, DeviceState}
-use Rattle.vs_device_parts.specs.Turns.{table_shown}
+use Rattle.vs_device_parts.specs.{State.DeviceEntry, State.DeviceState, Turns.table_shown}
 use Rattle.vs_device_log.specs.Honest.{Advertises, AgreesWith, IsClients, IsLeftOpen, ends_of_state, flows_shown}
 use Rattle.vs_device_log.proofs.Tabling.{entry_fits, has_end}
 

@@ -1,25 +1,16 @@
 -- Steps of the device between its calls on the ring, and the chain that it takes for a packet.
 use Rattle.std.proofs.Common.{◌≡◌, ℕ, Bool, true, false, not, cond, List, [], ◌∷◌, Option, Some, None, refl, sym, ap, subst, ◌∙◌, IfSome}
 use Rattle.vs_contents.specs.CallTree.{Done, Ask, bind}
-use Rattle.vs_ring_port.specs.Chains.{Held}
-use Rattle.vs_ring_port.specs.Contents.{RingContents, Take}
-use Rattle.vs_ring_port.specs.DeviceCalls.{DeviceAllows, IsTakenAs}
+use Rattle.vs_ring_port.specs.{Chains.Held, Contents.RingContents, Contents.Take, DeviceCalls.DeviceAllows, DeviceCalls.IsTakenAs}
 use Rattle.vs_ring_port.specs.EndLog.{EndLog, log_taken}
-use Rattle.vs_ring_port.specs.declared.device_ring.Chain.{Chain}
-use Rattle.vs_ring_port.specs.declared.device_ring.Next.{Next}
+use Rattle.vs_ring_port.specs.declared.device_ring.{Chain.Chain, Next.Next}
 use Rattle.vs_ring_port.specs.declared.device_ring.Next.TheVariants as next
 use Rattle.vs_ring_port.specs.declared.queue.Queue.TheVariants.{Rx}
-use Rattle.vs_device_parts.specs.Calls.{CloseStream, DeviceTree, IsFitAnswer}
-use Rattle.vs_device_parts.specs.Connections.{with_connection}
-use Rattle.vs_device_parts.specs.Playing.{IsRxChain}
+use Rattle.vs_device_parts.specs.{Calls.CloseStream, Calls.DeviceTree, Calls.IsFitAnswer, Connections.with_connection, Playing.IsRxChain}
 use Rattle.vs_device_parts.specs.Receiving.{Filling, hold, holding}
-use Rattle.vs_device_parts.specs.State.{DeviceConnection, DeviceEntry, DeviceState}
-use Rattle.vs_device_parts.specs.Streams.{closing}
-use Rattle.vs_device_parts.specs.Transmitting.{failing}
+use Rattle.vs_device_parts.specs.{State.DeviceConnection, State.DeviceEntry, State.DeviceState, Streams.closing, Transmitting.failing}
 use Rattle.vs_device_log.specs.Honest.{IsFitState, IsToldOf, IsWith, unwritten}
-use Rattle.vs_device_log.proofs.Changing.{Changes}
-use Rattle.vs_device_log.proofs.Keeping.{Goes, Keeps}
-use Rattle.vs_device_log.proofs.Ringing.{moves}
+use Rattle.vs_device_log.proofs.{Changing.Changes, Keeping.Goes, Keeping.Keeps, Ringing.moves}
 
 module _ (first port : ℕ) where
   -- A step that puts and gets nothing.

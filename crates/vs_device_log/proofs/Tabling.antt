@@ -5,11 +5,9 @@ use Rattle.std.proofs.lemmas.List.Elements.{All-map, All-push, All-filter}
 use Rattle.vs_flow.specs.Table.{Table, with_value, without, with_entry, next_entry, revalued}
 use Rattle.vs_flow.specs.declared.flow.Flow.{Flow}
 use Rattle.vs_flow.proofs.Tables.{revalued-slot, with_value_sound, without_sound, with_entry_sound, IsAccepted}
-use Rattle.vs_matching.specs.Ends.{Ends, FlowEnd, entries_of, is_new}
-use Rattle.vs_matching.specs.Steps.{HasEnd, with_end, left}
+use Rattle.vs_matching.specs.{Ends.Ends, Ends.FlowEnd, Ends.entries_of, Ends.is_new, Steps.HasEnd, Steps.with_end, Steps.left}
 use Rattle.vs_matching.proofs.Slots.{changed_slot, one_end, removed_slot}
-use Rattle.vs_device_parts.specs.State.{DeviceConnection, DeviceEntry, DeviceState}
-use Rattle.vs_device_parts.specs.Connections.{with_connection}
+use Rattle.vs_device_parts.specs.{State.DeviceConnection, State.DeviceEntry, State.DeviceState, Connections.with_connection}
 use Rattle.vs_device_log.specs.Honest.{HasNothing, HoldsBytes, IsFit, IsFitEntry, IsFitFlow, IsFitState, end_in, ends_of_state}
 
 -- What is kept of a connection.

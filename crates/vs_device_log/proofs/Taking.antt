@@ -10,19 +10,13 @@ use Rattle.vs_history.specs.declared.packet.Packet.{Packet}
 use Rattle.vs_flow.specs.Table.{entry_of, has_place, refusal, with_value, without}
 use Rattle.vs_flow.specs.declared.flow.Flow.{Flow}
 use Rattle.vs_flow.proofs.Tables.{accepted}
-use Rattle.vs_page.specs.Fair.{IsFairLog}
-use Rattle.vs_page.specs.Held.{FitsWire}
-use Rattle.vs_page.specs.Log.{Device, Log, flow_to_host, side_of}
-use Rattle.vs_page.specs.Open.{is_dropped}
+use Rattle.vs_page.specs.{Fair.IsFairLog, Held.FitsWire, Log.Device, Log.Log, Log.flow_to_host, Log.side_of, Open.is_dropped}
 use Rattle.vs_page.specs.declared.log.LogEntry.TheVariants.{GotPacket}
 use Rattle.vs_replies.specs.Owed.{reply_to}
-use Rattle.vs_matching.specs.Ends.{Ends, FlowEnd}
-use Rattle.vs_matching.specs.Heard.{IsInOrder, heard_of}
-use Rattle.vs_matching.specs.Matches.{Matches}
+use Rattle.vs_matching.specs.{Ends.Ends, Ends.FlowEnd, Heard.IsInOrder, Heard.heard_of, Matches.Matches}
 use Rattle.vs_matching.specs.Steps.{HasEnd, HasNone, left, is_overrun, taken, with_end}
 use Rattle.vs_matching.proofs.Keeps.{accepts, drops, has_room, ignores, refuses, takes}
-use Rattle.vs_matching.proofs.Fair.{got_in_order, got_is_taken}
-use Rattle.vs_matching.proofs.Slots.{added_slot, no_entry}
+use Rattle.vs_matching.proofs.{Fair.got_in_order, Fair.got_is_taken, Slots.added_slot, Slots.no_entry}
 use Rattle.vs_device_parts.specs.State.{DeviceConnection, DeviceEntry, DeviceState}
 use Rattle.vs_device_parts.specs.Connections.{new_connection, with_connection, with_dialed, with_reply}
 use Rattle.vs_device_log.specs.Honest.{IsFitFlow, IsFitReply, IsLeft, ends_of_state, end_in, reply_flow}

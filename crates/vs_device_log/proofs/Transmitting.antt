@@ -1,29 +1,23 @@
 -- What taking a packet of the guest keeps.
-use Rattle.std.proofs.Common.{◌≡◌, ℕ, ◌-◌, ◌≤◌, ◌==◌, nat_le, nat_lt, Bool, true, false, cond, if◌then◌else◌, List, [], ◌∷◌}
-use Rattle.std.proofs.Common.{length, take, drop, Option, Some, None, refl, sym, ap, subst, ◌∙◌, arith, IfSome}
-use Rattle.std.proofs.Common.{length-drop}
+use Rattle.std.proofs.Common.{◌≡◌, ℕ, ◌-◌, ◌≤◌, ◌==◌, nat_le, nat_lt, Bool, true, false, cond, if◌then◌else◌, List, [], ◌∷◌, length, take}
+use Rattle.std.proofs.Common.{drop, Option, Some, None, refl, sym, ap, subst, ◌∙◌, arith, IfSome, length-drop}
 use Rattle.std.proofs.lemmas.Bool.Decides.{nat_tests}
 use Rattle.std.specs.Option.{option_map}
 use Rattle.vs_contents.specs.CallTree.{Done, Ask, bind}
 use Rattle.vs_conn.specs.declared.end.Verdict.{Verdict}
-use Rattle.vs_header.specs.Op.{op_number}
-use Rattle.vs_header.specs.Packet.{header_of}
-use Rattle.vs_header.specs.declared.Header.{Header}
+use Rattle.vs_header.specs.{Op.op_number, Packet.header_of}
+use Rattle.vs_header.specs.declared.{Header.Header, TheConstants.HEADER_LEN}
 use Rattle.vs_header.specs.declared.Op.TheVariants.{Rw}
-use Rattle.vs_header.specs.declared.TheConstants.{HEADER_LEN}
 use Rattle.vs_history.specs.Packets.{size}
 use Rattle.vs_history.specs.declared.packet.Packet.{Packet}
-use Rattle.vs_page.specs.Fair.{IsFairLog}
-use Rattle.vs_page.specs.Held.{FitsWire, packet_held, packet_with, payload_held}
+use Rattle.vs_page.specs.{Fair.IsFairLog, Held.FitsWire, Held.packet_held, Held.packet_with, Held.payload_held}
 use Rattle.vs_page.specs.Log.{Device, Log, flow_got}
 use Rattle.vs_page.specs.declared.log.LogEntry.TheVariants.{GotPacket}
 use Rattle.vs_page.proofs.Holding.{header_fits, packet_whole}
-use Rattle.vs_ring_port.specs.Chains.{Held}
-use Rattle.vs_ring_port.specs.Contents.{RingContents, Read, Return, Take}
+use Rattle.vs_ring_port.specs.{Chains.Held, Contents.RingContents, Contents.Read, Contents.Return, Contents.Take}
 use Rattle.vs_ring_port.specs.DeviceCalls.{DeviceAllows, IsTakenAs}
 use Rattle.vs_ring_port.specs.EndLog.{EndLog, log_returned, log_taken, with_packet}
-use Rattle.vs_ring_port.specs.declared.device_ring.Chain.{Chain}
-use Rattle.vs_ring_port.specs.declared.device_ring.Next.{Next}
+use Rattle.vs_ring_port.specs.declared.device_ring.{Chain.Chain, Next.Next}
 use Rattle.vs_ring_port.specs.declared.device_ring.Next.TheVariants as next
 use Rattle.vs_ring_port.specs.declared.failure.Failure.{Failure}
 use Rattle.vs_ring_port.specs.declared.failure.Failure.TheVariants as failure
@@ -32,9 +26,7 @@ use Rattle.vs_matching.proofs.Fair.{own_got_fair}
 use Rattle.vs_device_parts.specs.declared.answers.Taken.{Taken}
 use Rattle.vs_device_parts.specs.declared.answers.Taken.TheVariants as taken
 use Rattle.vs_device_parts.specs.declared.limits.TheConstants.{REPLIES}
-use Rattle.vs_device_parts.specs.Calls.{IsFitAnswer, Ring}
-use Rattle.vs_device_parts.specs.Playing.{IsRxChain}
-use Rattle.vs_device_parts.specs.State.{DeviceState}
+use Rattle.vs_device_parts.specs.{Calls.IsFitAnswer, Calls.Ring, Playing.IsRxChain, State.DeviceState}
 use Rattle.vs_device_parts.specs.Transmitting.{failing, on_header, on_next, on_packet, take_tx_of}
 use Rattle.vs_device_log.specs.Honest.{IsLeft, IsToldOf, IsWith, unwritten}
 use Rattle.vs_device_log.proofs.Hearing.{After, Came, Heard, IsCome, packet_keeps}
@@ -42,7 +34,7 @@ use Rattle.vs_device_log.proofs.Keeping.{Keeps, keeps_then}
 use Rattle.vs_device_log.proofs.Ringing.{HoldsFirst, Tells, bytes_held, first_there, moves, returned_entries, returned_held, tells_weaker}
 
 -- The packet that a page holds has the page's header, and a page with a header holds a packet unless its len is above what follows.
-some_test : {A : Type 0} (b : Bool) (o : Option A) (x : A) → cond b o None ≡ Some x → o ≡ Some x
+pub some_test : {A : Type 0} (b : Bool) (o : Option A) (x : A) → cond b o None ≡ Some x → o ≡ Some x
 some_test true o x is = is
 some_test false o x is = absurd cc
 
@@ -52,7 +44,7 @@ header_by h p None is = absurd cc
 header_by h p (Some payload) is = let same : ◌≡◌ {A = Packet} record { header = h; payload = payload } p = cc in sym
     (ap (λ (q : Packet). q.header) same)
 
-header_is : (page : List ℕ) (p : Packet) → packet_held page ≡ Some p → p.header ≡ header_of (take HEADER_LEN page)
+pub header_is : (page : List ℕ) (p : Packet) → packet_held page ≡ Some p → p.header ≡ header_of (take HEADER_LEN page)
 header_is page p held =
     header_by (header_of (take HEADER_LEN page)) p (payload_held (header_of (take HEADER_LEN page)) (drop HEADER_LEN page))
     (some_test (nat_le HEADER_LEN (length page)) (packet_with (header_of (take HEADER_LEN page)) (drop HEADER_LEN page)) p held)

@@ -5,8 +5,7 @@ use Rattle.std.proofs.Common.{length-append, length-take}
 use Rattle.std.proofs.lemmas.Bool.Decides.{nat_tests}
 use Rattle.byteorder.specs.Endian.{little_bytes}
 use Rattle.vs_contents.specs.CallTree.{Done, Ask, bind, for_each}
-use Rattle.vs_conn.specs.End.{asked}
-use Rattle.vs_conn.specs.Follows.{IsSpace}
+use Rattle.vs_conn.specs.{End.asked, Follows.IsSpace}
 use Rattle.vs_flow.specs.Table.{IsTable, Table, emptied, entry_under, refusal, slots}
 use Rattle.vs_flow.specs.declared.flow.Flow.{Flow}
 use Rattle.vs_flow.specs.declared.table.TableFault.{TableFault}
@@ -14,41 +13,30 @@ use Rattle.vs_flow.proofs.Tables.{accepted}
 use Rattle.vs_history.specs.declared.TheConstants.{BUF_ALLOC}
 use Rattle.vs_outside.specs.declared.host_net.StreamWrite.{StreamWrite}
 use Rattle.vs_outside.specs.declared.host_net.StreamWrite.TheVariants as write
-use Rattle.vs_page.specs.Log.{Device, Log}
-use Rattle.vs_page.specs.Overwriting.{overwritten}
-use Rattle.vs_ring_port.specs.Chains.{Held, bytes_in}
-use Rattle.vs_ring_port.specs.Contents.{RingContents, PublishCid, Return, Take}
+use Rattle.vs_page.specs.{Log.Device, Log.Log, Overwriting.overwritten}
+use Rattle.vs_ring_port.specs.{Chains.Held, Chains.bytes_in, Contents.RingContents, Contents.PublishCid, Contents.Return, Contents.Take}
 use Rattle.vs_ring_port.specs.DeviceCalls.{DeviceAllows, IsTakenAs, IsWholePacket}
 use Rattle.vs_ring_port.specs.EndLog.{EndLog, log_reset, log_returned, log_taken}
-use Rattle.vs_ring_port.specs.declared.device_ring.Chain.{Chain}
-use Rattle.vs_ring_port.specs.declared.device_ring.Next.{Next}
+use Rattle.vs_ring_port.specs.declared.device_ring.{Chain.Chain, Next.Next}
 use Rattle.vs_ring_port.specs.declared.device_ring.Next.TheVariants as next
 use Rattle.vs_ring_port.specs.declared.failure.Failure.{Failure}
 use Rattle.vs_ring_port.specs.declared.queue.Queue.{Queue}
 use Rattle.vs_ring_port.specs.declared.queue.Queue.TheVariants.{Event}
-use Rattle.vs_matching.specs.Ends.{Ends, FlowEnd, is_new}
-use Rattle.vs_matching.specs.Matches.{Matches}
-use Rattle.vs_matching.specs.Steps.{IsNextFlow}
-use Rattle.vs_matching.proofs.Keeps.{asks, makes_reset, puts_event, start_matches}
-use Rattle.vs_matching.proofs.Slots.{added_slot, found_by}
+use Rattle.vs_matching.specs.{Ends.Ends, Ends.FlowEnd, Ends.is_new, Matches.Matches, Steps.IsNextFlow}
+use Rattle.vs_matching.proofs.{Keeps.asks, Keeps.makes_reset, Keeps.puts_event, Keeps.start_matches, Slots.added_slot, Slots.found_by}
 use Rattle.vs_device_parts.specs.Calls.{CloseStream, DeviceTree, IsFitAnswer, Label, Ring, TakesWithin, ShutWrite, WriteStream}
 use Rattle.vs_device_parts.specs.Connections.{after_shut, after_written, cut_off, is_timed_out, new_connection, stream_closed, with_client}
-use Rattle.vs_device_parts.specs.Connections.{with_connection, with_fault}
-use Rattle.vs_device_parts.specs.Playing.{IsRxChain}
-use Rattle.vs_device_parts.specs.Receiving.{event_on, pay_event_of}
-use Rattle.vs_device_parts.specs.State.{DeviceConnection, DeviceEntry, DeviceState}
+use Rattle.vs_device_parts.specs.{Connections.with_connection, Connections.with_fault, Playing.IsRxChain}
+use Rattle.vs_device_parts.specs.{Receiving.event_on, Receiving.pay_event_of, State.DeviceConnection, State.DeviceEntry, State.DeviceState}
 use Rattle.vs_device_parts.specs.Streams.{Writing, closing, is_written_out, pump_of, pump_slot, shut_write, tick_of, tick_slot, to_write}
-use Rattle.vs_device_parts.specs.Streams.{write_answered, write_pending}
-use Rattle.vs_device_parts.specs.Transmitting.{failing}
+use Rattle.vs_device_parts.specs.{Streams.write_answered, Streams.write_pending, Transmitting.failing}
 use Rattle.vs_device_parts.specs.Turns.{after_reset, close_slot, new_device, open_of, reset_of}
 use Rattle.vs_device_log.specs.Honest.{IsFitFlow, IsFitState, IsFresh, IsLeft, IsToldOf, IsWith, end_in, ends_of_state, port_after}
 use Rattle.vs_device_log.specs.Honest.{unwritten}
-use Rattle.vs_device_log.proofs.Changing.{cuts, shuts, unseen, writes}
-use Rattle.vs_device_log.proofs.Filling.{under_there}
+use Rattle.vs_device_log.proofs.{Changing.cuts, Changing.shuts, Changing.unseen, Changing.writes, Filling.under_there}
 use Rattle.vs_device_log.proofs.Keeping.{Keeps, keeps_each, keeps_then}
 use Rattle.vs_device_log.proofs.Ringing.{Tells, bytes_held, first_there, moves, returned_entries, returned_held, tells_weaker}
-use Rattle.vs_device_log.proofs.Steps.{changed, closing_keeps}
-use Rattle.vs_device_log.proofs.Tabling.{IsFitConnection, entry_fits, opening_fits}
+use Rattle.vs_device_log.proofs.{Steps.changed, Steps.closing_keeps, Tabling.IsFitConnection, Tabling.entry_fits, Tabling.opening_fits}
 use Rattle.vs_device_log.proofs.Writing.{Writes, write_keeps}
 
 -- A connection that waits since a moment has begun, and so has one that has something to write.

@@ -4,30 +4,21 @@ use Rattle.std.proofs.Common.{◌∙◌, arith, IsSomeAnd}
 use Rattle.std.proofs.lemmas.List.{append-nil}
 use Rattle.vs_contents.specs.CallTree.{Ask, bind}
 use Rattle.vs_header.specs.Packet.{header_bytes}
-use Rattle.vs_header.specs.declared.Header.{Header}
-use Rattle.vs_header.specs.declared.TheConstants.{HEADER_LEN}
+use Rattle.vs_header.specs.declared.{Header.Header, TheConstants.HEADER_LEN}
 use Rattle.vs_history.specs.Packets.{packet_bytes}
 use Rattle.vs_history.specs.declared.packet.Packet.{Packet}
-use Rattle.vs_page.specs.Fair.{IsFairLog}
-use Rattle.vs_page.specs.Held.{packet_held}
-use Rattle.vs_page.specs.Log.{Device, Log}
-use Rattle.vs_page.specs.Overwriting.{overwritten}
+use Rattle.vs_page.specs.{Fair.IsFairLog, Held.packet_held, Log.Device, Log.Log, Overwriting.overwritten}
 use Rattle.vs_page.specs.declared.log.LogEntry.TheVariants.{PutPacket}
-use Rattle.vs_ring_port.specs.Chains.{Held, bytes_in}
-use Rattle.vs_ring_port.specs.Contents.{RingContents, Return, Write}
-use Rattle.vs_ring_port.specs.DeviceCalls.{CanReturn, IsWholePacket}
-use Rattle.vs_ring_port.specs.DriverCalls.{HoldsPacket}
+use Rattle.vs_ring_port.specs.{Chains.Held, Chains.bytes_in, Contents.RingContents, Contents.Return, Contents.Write}
+use Rattle.vs_ring_port.specs.{DeviceCalls.CanReturn, DeviceCalls.IsWholePacket, DriverCalls.HoldsPacket}
 use Rattle.vs_ring_port.specs.EndLog.{EndLog, entries_returned, log_returned, log_written, with_packet}
 use Rattle.vs_ring_port.specs.declared.device_ring.Chain.{Chain}
 use Rattle.vs_ring_port.specs.declared.queue.Queue.{Queue}
 use Rattle.vs_ring_port.specs.declared.queue.Queue.TheVariants.{Rx}
 use Rattle.vs_matching.specs.Matches.{Matches}
-use Rattle.vs_device_parts.specs.Calls.{DeviceTree, Ring}
-use Rattle.vs_device_parts.specs.Receiving.{written}
-use Rattle.vs_device_parts.specs.State.{DeviceState}
+use Rattle.vs_device_parts.specs.{Calls.DeviceTree, Calls.Ring, Receiving.written, State.DeviceState}
 use Rattle.vs_device_log.specs.Honest.{AgreesWith, IsFitState, IsToldOf, IsWith, ends_of_state, unwritten}
-use Rattle.vs_device_log.proofs.Keeping.{Keeps}
-use Rattle.vs_device_log.proofs.Putting.{Puts}
+use Rattle.vs_device_log.proofs.{Keeping.Keeps, Putting.Puts}
 use Rattle.vs_device_log.proofs.Ringing.{HoldsFirst, Tells, both_written, bytes_held, first_there, moves, one_written, overwritten_long}
 use Rattle.vs_device_log.proofs.Ringing.{returned_entries, returned_held, written_held}
 
@@ -52,9 +43,6 @@ module _ (first port : ℕ) (s : DeviceState) where
   module _ (t : DeviceState) (h : Header) (payload : List ℕ) (puts : IsFitState s → Puts port s h payload t) (chain : Chain)
       (rx : chain.queue ≡ Rx)
       (bytes : List ℕ) (len : ℕ) (page_is : take len bytes ≡ header_bytes h ++ payload) where
-    packet : Packet
-    packet = record { header = h; payload = payload }
-
     entries_are : (l : EndLog) (p : AgreesWith first port s l) → entries_returned Rx (take len bytes) l.entries ≡ PutPacket
         (record { header = h; payload = payload }) ∷ l.entries
     entries_are l p =

@@ -1,8 +1,6 @@
 -- Where a ring tells the device's log: the chains that the device holds, and over an honest ring its connections and the log.
 use Rattle.std.specs.Prelude.{◌≡◌, ℕ, ◌+◌, ◌<◌, ◌≤◌, ◌^◌, ◌||◌, Bool, false, true, List, [], ◌∷◌, map, length, Option, Some, None, Result}
-use Rattle.std.specs.Prelude.{Ok, Err, IfSome}
-use Rattle.std.specs.List.{All}
-use Rattle.std.specs.Option.{ForSome}
+use Rattle.std.specs.{Prelude.Ok, Prelude.Err, Prelude.IfSome, List.All, Option.ForSome}
 use Rattle.vs_conn.specs.End.{ConnectionEnd}
 use Rattle.vs_conn.specs.declared.end.State.{State}
 use Rattle.vs_credit.specs.Credit.{unread_of}
@@ -10,22 +8,15 @@ use Rattle.vs_credit.specs.declared.Credit.{Credit}
 use Rattle.vs_flow.specs.Table.{IsTable, Table}
 use Rattle.vs_flow.specs.declared.flow.Flow.{Flow}
 use Rattle.vs_flow.specs.declared.table.TableFault.{TableFault}
-use Rattle.vs_history.specs.History.{Asker}
-use Rattle.vs_history.specs.Packets.{is_rst}
+use Rattle.vs_history.specs.{History.Asker, Packets.is_rst}
 use Rattle.vs_history.specs.declared.TheConstants.{BUF_ALLOC}
 use Rattle.vs_history.specs.declared.packet.Packet.{Packet}
-use Rattle.vs_page.specs.Fair.{IsFairLog}
-use Rattle.vs_page.specs.Log.{Device, Log, side_of}
-use Rattle.vs_page.specs.Open.{is_open}
+use Rattle.vs_page.specs.{Fair.IsFairLog, Log.Device, Log.Log, Log.side_of, Open.is_open}
 use Rattle.vs_replies.specs.declared.Reply.{Reply}
-use Rattle.vs_ring_port.specs.Chains.{Held}
-use Rattle.vs_ring_port.specs.Contents.{RingContents}
-use Rattle.vs_ring_port.specs.EndLog.{EndLog}
+use Rattle.vs_ring_port.specs.{Chains.Held, Contents.RingContents, EndLog.EndLog}
 use Rattle.vs_ring_port.specs.declared.device_ring.Chain.{Chain}
-use Rattle.vs_matching.specs.Ends.{Ends, entries_of, is_among, is_new, new_flows}
-use Rattle.vs_matching.specs.Matches.{Matches}
-use Rattle.vs_device_parts.specs.Playing.{IsRxChain}
-use Rattle.vs_device_parts.specs.State.{DeviceConnection, DeviceEntry, DeviceState}
+use Rattle.vs_matching.specs.{Ends.Ends, Ends.entries_of, Ends.is_among, Ends.is_new, Ends.new_flows, Matches.Matches}
+use Rattle.vs_device_parts.specs.{Playing.IsRxChain, State.DeviceConnection, State.DeviceEntry, State.DeviceState}
 
 -- The flow to which a reply is owed.
 abbrev pub reply_flow : Reply → Flow

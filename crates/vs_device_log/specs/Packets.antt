@@ -6,8 +6,7 @@ use Rattle.vs_history.specs.declared.packet.Packet.{Packet}
 use Rattle.vs_page.specs.Held.{packet_held}
 use Rattle.vs_page.specs.declared.log.LogEntry.{LogEntry}
 use Rattle.vs_page.specs.declared.log.LogEntry.TheVariants.{GotPacket}
-use Rattle.vs_ring_port.specs.Chains.{Held}
-use Rattle.vs_ring_port.specs.EndLog.{EndLog, with_packet}
+use Rattle.vs_ring_port.specs.{Chains.Held, EndLog.EndLog, EndLog.with_packet}
 use Rattle.vs_ring_port.specs.declared.device_ring.Chain.{Chain}
 
 -- The chain was taken last, of those that are held, and these are its bytes.

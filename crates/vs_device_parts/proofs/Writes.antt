@@ -1,19 +1,13 @@
 -- A packet is written into a chain: its header, its payload where there is some, and the chain is returned.
 use Rattle.std.proofs.Common.{◌≡◌, ℕ, ◌+◌, ◌<◌, List, [], ◌∷◌, length, refl, arith}
 use Rattle.vs_header.specs.Packet.{header_bytes}
-use Rattle.vs_header.specs.declared.Header.{Header}
-use Rattle.vs_header.specs.declared.TheConstants.{HEADER_LEN}
+use Rattle.vs_header.specs.declared.{Header.Header, TheConstants.HEADER_LEN}
 use Rattle.vs_ring_port.specs.declared.device_ring.Chain.{Chain}
 use Rattle.vs_ring_port.specs.Contents.{Write, Return}
-use Rattle.vs_device_parts.specs.Calls.{Ring, Situation, Allows}
-use Rattle.vs_device_parts.specs.Playing.{CanMake, MayRun, Runs}
+use Rattle.vs_device_parts.specs.{Calls.Ring, Calls.Situation, Calls.Allows, Playing.CanMake, Playing.MayRun, Playing.Runs}
 use Rattle.vs_device_parts.specs.Receiving.{written}
 
 module _ (chain : Chain) (h : Header) where
-  pub may_write_header : (payload : List ℕ) (c : Situation) → MayRun (written chain h payload) c → CanMake (Ring (Write chain 0 (header_bytes h))) c
-  may_write_header [] c may = may.0
-  may_write_header (x ∷ xs) c may = may.0
-
   pub may_return_header : (payload : List ℕ) (c m : Situation) → length payload ≡ 0 → MayRun (written chain h payload) c
       → Allows (Ring (Write chain 0 (header_bytes h))) tt c m → CanMake (Ring (Return chain HEADER_LEN)) m
   may_return_header [] c m none may one = (may.1 tt m one).0

@@ -1,7 +1,7 @@
 -- Small steps on a device's connections, apart from ring and host.
-use Rattle.std.specs.Prelude.{ℕ, ◌+◌, ◌-◌, ◌^◌, ◌==◌, ◌&&◌, ◌||◌, not, min, nat_le, Bool, true, false, if◌then◌else◌, List, [], ◌∷◌, ◌++◌, length, map, drop, Option, Some, None}
-use Rattle.vs_conn.specs.End.{ConnectionEnd, asked, answering, aborted, with_shut, with_payload_forwarded}
-use Rattle.vs_conn.specs.Shut.{is_both}
+use Rattle.std.specs.Prelude.{ℕ, ◌+◌, ◌-◌, ◌&&◌, ◌||◌, nat_le, Bool, true, false, if◌then◌else◌, List, [], ◌∷◌, ◌++◌, length, drop, Option}
+use Rattle.std.specs.Prelude.{Some, None}
+use Rattle.vs_conn.specs.{End.ConnectionEnd, End.asked, End.answering, End.aborted, End.with_shut, End.with_payload_forwarded, Shut.is_both}
 use Rattle.vs_conn.specs.declared.end.State.{State}
 use Rattle.vs_conn.specs.declared.end.State.TheVariants as state
 use Rattle.vs_conn.specs.declared.route.Route.{Route}
@@ -13,7 +13,7 @@ use Rattle.vs_page.specs.declared.log.TheConstants.{HOST_CID}
 use Rattle.vs_replies.specs.declared.Reply.{Reply}
 use Rattle.vs_device_parts.specs.declared.limits.TheConstants.{TIMEOUT}
 use Rattle.vs_wrap.specs.Wrap.{counted}
-use Rattle.vs_device_parts.specs.State.{DeviceConnection, DeviceState, DeviceEntry}
+use Rattle.vs_device_parts.specs.State.{DeviceConnection, DeviceState}
 
 abbrev pub with_fault : DeviceState → DeviceState
 with_fault s = record s { faults = counted s.faults }

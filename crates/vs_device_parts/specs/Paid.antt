@@ -1,5 +1,5 @@
 -- A connection after it put what it owed: from its REQUEST on it waits for the answer.
-use Rattle.std.specs.Prelude.{ℕ, Option, Some}
+use Rattle.std.specs.Prelude.{ℕ, Some}
 use Rattle.vs_conn.specs.End.{paid_of}
 use Rattle.vs_conn.specs.declared.end.Owed.{Owed}
 use Rattle.vs_conn.specs.declared.end.Owed.TheVariants as owed

@@ -8,8 +8,8 @@ use Rattle.vs_ring_port.specs.declared.queue.Queue.TheVariants.{Rx}
 use Rattle.vs_ring_port.specs.Chains.{IsLongEnough, without}
 use Rattle.vs_ring_port.specs.Contents.{RingContents, DeviceCall, DeviceAnswer, Write, Return}
 use Rattle.vs_ring_port.specs.DeviceCalls.{LeavesNoGap, CanReturn}
-use Rattle.vs_device_parts.specs.Calls.{Call, Answer, Ring, Label, ReadStream, WriteStream, ShutWrite, CloseStream, Situation, DeviceTree, Allows}
-use Rattle.vs_device_parts.specs.State.{DeviceConnection, DeviceState}
+use Rattle.vs_device_parts.specs.Calls.{Call, Answer, Ring, Label, ReadStream, WriteStream, ShutWrite, CloseStream, Situation, DeviceTree}
+use Rattle.vs_device_parts.specs.{Calls.Allows, State.DeviceConnection, State.DeviceState}
 
 abbrev pub situation : RingContents → Option HostContents → ℕ → Situation
 situation ring host faults = record { ring = ring; host = host; faults = faults }

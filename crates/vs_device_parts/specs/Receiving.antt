@@ -1,10 +1,10 @@
 -- Packets and events that the device puts to the guest.
-use Rattle.std.specs.Prelude.{ℕ, ◌+◌, ◌-◌, ◌==◌, ◌&&◌, not, min, nat_lt, nat_le, Bool, true, false, if◌then◌else◌, List, [], ◌∷◌, ◌++◌, length, filter, Option, Some, None, Result, Ok, Err}
+use Rattle.std.specs.Prelude.{ℕ, ◌+◌, ◌-◌, ◌==◌, ◌&&◌, not, min, nat_lt, nat_le, Bool, true, false, if◌then◌else◌, List, [], ◌∷◌, ◌++◌}
+use Rattle.std.specs.Prelude.{length, filter, Option, Some, None, Result, Ok, Err}
 use Rattle.byteorder.specs.Endian.{little_bytes}
 use Rattle.vs_contents.specs.CallTree.{Done, Ask, bind, for_each, while_up_to}
 use Rattle.vs_header.specs.Packet.{header_bytes}
-use Rattle.vs_header.specs.declared.Header.{Header}
-use Rattle.vs_header.specs.declared.TheConstants.{HEADER_LEN}
+use Rattle.vs_header.specs.declared.{Header.Header, TheConstants.HEADER_LEN}
 use Rattle.vs_credit.specs.Credit.{free_of}
 use Rattle.vs_conn.specs.End.{ConnectionEnd, owes_of, paid_of, with_payload_sent, wanting_credit}
 use Rattle.vs_conn.specs.Headers.{owed_header, payload_header, reset_header}
@@ -18,19 +18,16 @@ use Rattle.vs_outside.specs.declared.host_net.StreamRead.TheVariants as read
 use Rattle.vs_page.specs.declared.page.TheConstants.{PAYLOAD_MAX}
 use Rattle.vs_page.specs.declared.log.TheConstants.{HOST_CID}
 use Rattle.vs_replies.specs.declared.Reply.{Reply}
-use Rattle.vs_ring_port.specs.declared.device_ring.Chain.{Chain}
-use Rattle.vs_ring_port.specs.declared.device_ring.Next.{Next}
+use Rattle.vs_ring_port.specs.declared.device_ring.{Chain.Chain, Next.Next}
 use Rattle.vs_ring_port.specs.declared.device_ring.Next.TheVariants as next
 use Rattle.vs_ring_port.specs.declared.failure.Failure.{Failure}
 use Rattle.vs_ring_port.specs.declared.queue.Queue.TheVariants.{Rx, Event}
-use Rattle.vs_ring_port.specs.Contents.{Take, Write, Return, PublishCid}
+use Rattle.vs_ring_port.specs.Contents.{Take, Write, Return}
 use Rattle.vs_device_parts.specs.declared.answers.Filled.{Filled}
 use Rattle.vs_conn.specs.declared.end.TheConstants.{OWED_MAX}
-use Rattle.vs_device_parts.specs.Calls.{DeviceTree, Ring, ReadStream, CloseStream}
+use Rattle.vs_device_parts.specs.Calls.{DeviceTree, Ring, ReadStream}
 use Rattle.vs_device_parts.specs.Connections.{with_connection, with_fault, route_to_guest, cut_off, after_shut}
-use Rattle.vs_device_parts.specs.State.{DeviceConnection, DeviceState, DeviceEntry}
-use Rattle.vs_device_parts.specs.Streams.{closing, leaving}
-use Rattle.vs_device_parts.specs.Transmitting.{failing}
+use Rattle.vs_device_parts.specs.{State.DeviceState, State.DeviceEntry, Streams.closing, Streams.leaving, Transmitting.failing}
 
 -- The owed event: the id 0 of a transport reset, where an event chain is there.
 abbrev pub event_on : Next → DeviceState → DeviceTree (DeviceState × Result Bool Failure)

@@ -1,9 +1,7 @@
 -- The buffers of a connection: its OK line, and the bytes that are pending for the host's stream.
-use Rattle.std.specs.Prelude.{◌≡◌, ◌≢◌, ◌+◌, ◌^◌, ◌<◌, ◌≤◌, true, [], length}
-use Rattle.vs_buffer.specs.Fifo.{Fifo}
+use Rattle.std.specs.Prelude.{◌≡◌, ◌+◌, ◌^◌, ◌<◌, ◌≤◌, true, [], length}
 use Rattle.vs_conn.specs.End.{ConnectionEnd, may_shut}
 use Rattle.vs_credit.specs.Credit.{unread_of}
-use Rattle.vs_credit.specs.declared.Credit.{Credit}
 use Rattle.vs_history.specs.declared.TheConstants.{BUF_ALLOC}
 use Rattle.vs_uds.specs.declared.ok.TheConstants.{OK_MAX}
 use Rattle.vs_device_parts.specs.declared.connection.Buffers.{Buffers}

@@ -1,6 +1,5 @@
 -- What always holds of the fields of the device's slots. No public clause cites this module.
-use Rattle.std.specs.Prelude.{◌≡◌, ◌+◌, ◌≤◌, length, vec_capacity}
-use Rattle.std.specs.List.{All}
+use Rattle.std.specs.{Prelude.◌≡◌, Prelude.◌+◌, Prelude.◌≤◌, Prelude.length, Prelude.vec_capacity, List.All}
 use Rattle.vs_flow.specs.Table.{IsTable}
 use Rattle.vs_device_parts.specs.declared.limits.TheConstants.{CONNECTIONS}
 use Rattle.vs_device_parts.specs.declared.slots.Slots.TheInside.{Inside}

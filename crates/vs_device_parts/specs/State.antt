@@ -1,5 +1,5 @@
 -- What the device holds, as plain lists.
-use Rattle.std.specs.Prelude.{ℕ, ◌==◌, Bool, List, Option}
+use Rattle.std.specs.Prelude.{ℕ, Bool, List, Option}
 use Rattle.vs_conn.specs.End.{ConnectionEnd}
 use Rattle.vs_flow.specs.Table.{Table}
 use Rattle.vs_flow.specs.declared.table.Entry.{Entry}

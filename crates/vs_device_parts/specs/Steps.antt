@@ -6,22 +6,18 @@ use Rattle.vs_credit.specs.Credit.{free_of}
 use Rattle.vs_conn.specs.End.{wanting_credit}
 use Rattle.vs_flow.specs.Table.{entry_under}
 use Rattle.vs_header.specs.Packet.{header_of}
-use Rattle.vs_header.specs.declared.Header.{Header}
-use Rattle.vs_header.specs.declared.TheConstants.{HEADER_LEN}
+use Rattle.vs_header.specs.declared.{Header.Header, TheConstants.HEADER_LEN}
 use Rattle.vs_ring_port.specs.Contents.{Take, Read, Write, Return}
-use Rattle.vs_ring_port.specs.declared.device_ring.Chain.{Chain}
-use Rattle.vs_ring_port.specs.declared.device_ring.Next.{Next}
+use Rattle.vs_ring_port.specs.declared.device_ring.{Chain.Chain, Next.Next}
 use Rattle.vs_ring_port.specs.declared.device_ring.Next.TheVariants as next
 use Rattle.vs_conn.specs.declared.end.Verdict.{Verdict}
 use Rattle.vs_ring_port.specs.declared.failure.Failure.{Failure}
 use Rattle.vs_ring_port.specs.declared.failure.Failure.TheVariants as failure
 use Rattle.vs_ring_port.specs.declared.queue.Queue.{Queue}
 use Rattle.vs_ring_port.specs.declared.queue.Queue.TheVariants.{Rx, Tx, Event}
-use Rattle.vs_device_parts.specs.Calls.{DeviceTree, Ring}
-use Rattle.vs_device_parts.specs.Connections.{with_connection}
+use Rattle.vs_device_parts.specs.{Calls.DeviceTree, Calls.Ring, Connections.with_connection}
 use Rattle.vs_device_parts.specs.Receiving.{Filling, hold, put_reply, put_owed, may_read, read_with_chain}
-use Rattle.vs_device_parts.specs.State.{DeviceState, DeviceEntry}
-use Rattle.vs_device_parts.specs.Streams.{Writing, write_pending, shut_write}
+use Rattle.vs_device_parts.specs.{State.DeviceState, State.DeviceEntry, Streams.Writing, Streams.write_pending, Streams.shut_write}
 use Rattle.vs_device_parts.specs.Transmitting.{failing, on_packet}
 use Rattle.vs_device_parts.specs.declared.limits.TheConstants.{REPLIES}
 

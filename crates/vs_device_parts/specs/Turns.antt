@@ -1,5 +1,5 @@
 -- Reset and opening.
-use Rattle.std.specs.Prelude.{ℕ, Bool, true, false, List, [], ◌∷◌, Option, Some, None, Result, Ok, Err, map}
+use Rattle.std.specs.Prelude.{ℕ, true, false, List, [], Some, None, Result, Ok, Err, map}
 use Rattle.vs_contents.specs.CallTree.{Done, Ask, bind, for_each}
 use Rattle.vs_flow.specs.Table.{entry_under, slots, emptied, refusal}
 use Rattle.vs_flow.specs.declared.flow.Flow.{Flow}
@@ -8,10 +8,8 @@ use Rattle.vs_conn.specs.declared.end.State.{State}
 use Rattle.vs_ring_port.specs.declared.failure.Failure.{Failure}
 use Rattle.vs_ring_port.specs.Contents.{PublishCid}
 use Rattle.vs_device_parts.specs.declared.answers.Counters.{Counters}
-use Rattle.vs_device_parts.specs.Calls.{DeviceTree, Ring, Label, CloseStream}
-use Rattle.vs_device_parts.specs.Connections.{with_client, stream_closed}
-use Rattle.vs_device_parts.specs.State.{DeviceState, DeviceEntry}
-use Rattle.vs_device_parts.specs.Streams.{closing}
+use Rattle.vs_device_parts.specs.{Calls.DeviceTree, Calls.Ring, Calls.Label, Connections.with_client, Connections.stream_closed}
+use Rattle.vs_device_parts.specs.{State.DeviceState, Streams.closing}
 use Rattle.vs_device_parts.specs.declared.limits.TheConstants.{CONNECTIONS}
 
 -- A device before its first call.

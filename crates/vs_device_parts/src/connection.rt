@@ -1,7 +1,7 @@
 //! A connection of the device's table: its end, the host's stream that it is joined to, and what is left to write to that stream.
 
-ghost use Rattle.std.specs.Prelude.{◌≡◌, ◌≤◌, ◌==◌, ◌+◌, ◌-◌, ◌++◌, [], true, false, Some, if◌then◌else◌, length, take, drop};
-ghost use Rattle.vs_conn.specs.End.{CanSend, ConnectionEnd, asked, answering, may_shut, owes_of, verdict_of, view_of, wanting_credit, with_payload_sent};
+ghost use Rattle.std.specs.Prelude.{◌≡◌, ◌≤◌, ◌==◌, ◌+◌, ◌-◌, ◌++◌, [], true, false, Some, if◌then◌else◌, length, take};
+ghost use Rattle.vs_conn.specs.End.{CanSend, asked, answering, may_shut, owes_of, verdict_of, view_of, wanting_credit, with_payload_sent};
 ghost use Rattle.vs_conn.specs.Headers.{owed_header, payload_header};
 ghost use Rattle.vs_conn.specs.declared.end.State.TheVariants.{Live};
 ghost use Rattle.vs_conn.specs.declared.end.Verdict.TheVariants.{Deliver, Accept};
@@ -9,12 +9,9 @@ ghost use Rattle.vs_credit.specs.Credit.{free_of, unread_of};
 ghost use Rattle.vs_history.specs.declared.TheConstants.{BUF_ALLOC};
 ghost use Rattle.vs_uds.specs.OkLine.{ok_text};
 ghost use Rattle.vs_device_parts.specs.declared.limits.TheConstants.{WRITE_MAX};
-ghost use Rattle.vs_device_parts.specs.Connections.{after_shut, after_written, cut_off, is_late, is_timed_out, new_connection, stream_closed};
-ghost use Rattle.vs_device_parts.specs.Paid.{paid_connection};
-ghost use Rattle.vs_device_parts.specs.Receiving.{may_read};
-ghost use Rattle.vs_device_parts.specs.Room.{IsSpare};
-ghost use Rattle.vs_device_parts.specs.Streams.{to_write, is_written_out};
-ghost use Rattle.vs_device_parts.specs.Transmitting.{heard};
+ghost use Rattle.vs_device_parts.specs.Connections.{after_shut, after_written, cut_off, is_late, is_timed_out, new_connection};
+ghost use Rattle.vs_device_parts.specs.{Connections.stream_closed, Paid.paid_connection, Receiving.may_read, Room.IsSpare};
+ghost use Rattle.vs_device_parts.specs.{Streams.to_write, Streams.is_written_out, Transmitting.heard};
 
 use crate::limits::{TIMEOUT, WRITE_MAX};
 use std::marker::Model;

@@ -1,9 +1,7 @@
 //! The device's calls on the host, each as it stands in a conversation.
 
-ghost use Rattle.std.specs.Prelude.{◌≡◌, ◌≤◌, List, ℕ, length, take, Option};
-ghost use Rattle.std.specs.Option.{ForSome};
-ghost use Rattle.vs_outside.specs.Host.{HostContents, IsOpen, ReadsSome, TakesSome};
-ghost use Rattle.vs_outside.specs.declared.host_net.StreamRead.{StreamRead};
+ghost use Rattle.std.specs.{Prelude.length, Option.ForSome};
+ghost use Rattle.vs_outside.specs.Host.{IsOpen, TakesSome};
 ghost use Rattle.vs_device_parts.specs.Calls.{Label, Dial, WriteStream, ShutWrite, CloseStream};
 ghost use Rattle.vs_device_parts.specs.Playing.{AllowsOnHost};
 

@@ -4,8 +4,7 @@ ghost use Rattle.std.specs.Prelude.{◌≡◌, ◌<◌, ◌≤◌, ◌+◌, List
 ghost use Rattle.vs_header.specs.Packet.{header_of};
 ghost use Rattle.vs_header.specs.declared.TheConstants.{HEADER_LEN};
 ghost use Rattle.vs_ring_port.specs.Chains.{chain_of, held_after, IsLongEnough, without};
-ghost use Rattle.vs_ring_port.specs.Contents.{Take, Read, Return, PublishCid};
-ghost use Rattle.vs_ring_port.specs.DeviceCalls.{CanReturn};
+ghost use Rattle.vs_ring_port.specs.{Contents.Take, Contents.Read, Contents.Return, Contents.PublishCid, DeviceCalls.CanReturn};
 ghost use Rattle.vs_device_parts.specs.Playing.{AllowsOnRing};
 
 use vs_header::{HEADER_LEN, Header};

@@ -1,22 +1,19 @@
 //! The device's slots: the connections of the table, and the buffers of free slots.
 
-ghost use Rattle.std.specs.Prelude.{◌≡◌, ◌<◌, ◌≤◌, ◌++◌, ◌+◌, ◌==◌, [], true, false, length, Some, None, if◌then◌else◌, IfOk, IfSome, IfNone, IsSomeAnd, option_copied, slice_get, ◌^◌, vec_capacity};
-ghost use Rattle.std.specs.List.{All};
-ghost use Rattle.std.specs.Option.{option_map};
+ghost use Rattle.std.specs.Prelude.{◌≡◌, ◌<◌, ◌≤◌, ◌++◌, ◌+◌, [], true, false, length, Some, None, if◌then◌else◌, IfOk, IfSome, IfNone};
+ghost use Rattle.std.specs.{Prelude.IsSomeAnd, Prelude.option_copied, Prelude.slice_get, Prelude.vec_capacity, List.All, Option.option_map};
 ghost use Rattle.vs_conn.specs.End.{CanSend, asked, answering, may_shut, owes_of, verdict_of, wanting_credit, with_payload_sent};
 ghost use Rattle.vs_conn.specs.Headers.{owed_header, payload_header};
 ghost use Rattle.vs_conn.specs.declared.end.State.TheVariants.{Live};
 ghost use Rattle.vs_conn.specs.declared.end.Verdict.TheVariants.{Deliver, Accept};
 ghost use Rattle.vs_credit.specs.Credit.{free_of, unread_of};
-ghost use Rattle.vs_flow.specs.Table.{IsTable, emptied, entry_of, entry_under, has_place, refusal, slots, value_under, with_entry, with_value, without};
+ghost use Rattle.vs_flow.specs.Table.{IsTable, emptied, entry_of, entry_under, has_place, refusal, slots, value_under, with_entry};
+ghost use Rattle.vs_flow.specs.Table.{with_value, without};
 ghost use Rattle.vs_history.specs.declared.TheConstants.{BUF_ALLOC};
 ghost use Rattle.vs_uds.specs.OkLine.{ok_text};
 ghost use Rattle.vs_device_parts.specs.declared.limits.TheConstants.{CONNECTIONS};
 ghost use Rattle.vs_device_parts.specs.Connections.{after_shut, after_written, cut_off, new_connection, route_to_guest, stream_closed};
-ghost use Rattle.vs_device_parts.specs.Paid.{paid_connection};
-ghost use Rattle.vs_device_parts.specs.Room.{IsSpare};
-ghost use Rattle.vs_device_parts.specs.State.{DeviceConnection, DeviceEntry};
-ghost use Rattle.vs_device_parts.specs.Transmitting.{heard};
+ghost use Rattle.vs_device_parts.specs.{Paid.paid_connection, Room.IsSpare, State.DeviceConnection, State.DeviceEntry, Transmitting.heard};
 
 use crate::connection::{Buffers, Connection};
 use crate::limits::CONNECTIONS;

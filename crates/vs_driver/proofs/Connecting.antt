@@ -1,13 +1,10 @@
 -- What connect comes to in each case.
-use Rattle.std.proofs.Common.{◌≡◌, ℕ, true, false, Some, None, Result, Ok, Err, refl, sym, ap}
+use Rattle.std.proofs.Common.{◌≡◌, ℕ, true, None, Result, Ok, refl, sym, ap}
 use Rattle.vs_contents.specs.CallTree.{Done, bind}
-use Rattle.vs_contents.proofs.Leads.{leads_of, leads_bind}
-use Rattle.vs_contents.proofs.Conditions.{may_first, may_rest, may_of}
+use Rattle.vs_contents.proofs.{Leads.leads_of, Leads.leads_bind, Conditions.may_first, Conditions.may_rest, Conditions.may_of}
 use Rattle.vs_ring_port.specs.Contents.{RingContents}
 use Rattle.vs_driver_parts.specs.declared.answers.ConnectError.{ConnectError}
-use Rattle.vs_driver_parts.specs.declared.answers.ConnectError.TheVariants as refused
-use Rattle.vs_driver_parts.specs.State.{DriverState}
-use Rattle.vs_driver_parts.specs.Connections.{connect_refusal, connected}
+use Rattle.vs_driver_parts.specs.{State.DriverState, Connections.connect_refusal, Connections.connected}
 use Rattle.vs_driver_parts.specs.Conversations.{DriverTree, connect_of, connect_with_page, request_bytes, post_packet, reap_all, has_page}
 use Rattle.vs_driver_parts.specs.Playing.{CanMake, MayPublishAll, Plays, RingAllows}
 
@@ -15,23 +12,14 @@ after_post : ℕ → DriverState → DriverTree (DriverState × Result ℕ Conne
 after_post host t = Done (connected host t, Ok t.next_id)
 
 module _ (host : ℕ) (s : DriverState) where
-  refuses : (e : ConnectError) → connect_refusal host s ≡ Some e → connect_of host s ≡ Done (s, Err e)
-  refuses e is = rw (is, connect_of) refl
-
   reaps : connect_refusal host s ≡ None → connect_of host s ≡ bind (reap_all s) (connect_with_page host)
   reaps is = rw (is, connect_of) refl
-
-  finds_none : has_page s ≡ false → connect_with_page host s ≡ Done (s, Err (refused.NoDescriptor s.in_flight))
-  finds_none is = rw (is, connect_with_page) refl
 
   finds_page : has_page s ≡ true → connect_with_page host s ≡ bind (post_packet (request_bytes host s) s) (after_post host)
   unfolding after_post
   finds_page is = rw (is, connect_with_page) refl
 
   module _ (c : RingContents) where
-    pub connect_refused : (e : ConnectError) → connect_refusal host s ≡ Some e → Plays (connect_of host s) c (s, Err e) c
-    connect_refused e is = leads_of RingAllows _ _ c c (s, Err e) (refuses e is) (refl, refl)
-
     pub connect_reaped : (t : DriverState) (m e : RingContents) (x : DriverState × Result ℕ ConnectError) → connect_refusal host s ≡ None
         → Plays (reap_all s) c t m → Plays (connect_with_page host t) m x e → Plays (connect_of host s) c x e
     connect_reaped t m e x is first rest =
@@ -41,9 +29,6 @@ module _ (host : ℕ) (s : DriverState) where
         → Plays (reap_all s) c t m → MayPublishAll (connect_with_page host t) m
     may_connect_page t m is may first =
         may_rest CanMake RingAllows (reap_all s) (connect_with_page host) c m t (may_of CanMake RingAllows _ _ c (reaps is) may) first
-
-    pub connect_no_page : has_page s ≡ false → Plays (connect_with_page host s) c (s, Err (refused.NoDescriptor s.in_flight)) c
-    connect_no_page is = leads_of RingAllows _ _ c c (s, Err (refused.NoDescriptor s.in_flight)) (finds_none is) (refl, refl)
 
     pub connect_posted : (t u : DriverState) (m : RingContents) → has_page s ≡ true → Plays (post_packet (request_bytes host s) s) c t m
         → u ≡ connected host t → Plays (connect_with_page host s) c (u, Ok t.next_id) m

@@ -1,11 +1,10 @@
 -- What putting replies and what connections owe comes to.
-use Rattle.std.proofs.Common.{◌≡◌, ℕ, Bool, true, false, cond, List, [], ◌∷◌, length, drop, Option, Some, None, ◌+◌, ◌<◌, ◌≤◌, get_or, drop-cons, add-one, refl, sym, ap, subst, ◌∙◌}
-use Rattle.std.specs.List.{slice_get}
+use Rattle.std.proofs.Common.{◌≡◌, ℕ, Bool, true, false, cond, List, [], ◌∷◌, length, drop, Option, Some, None, ◌+◌, ◌<◌, ◌≤◌, get_or}
+use Rattle.std.proofs.Common.{drop-cons, add-one, refl, sym, ap, subst, ◌∙◌}
+use Rattle.std.specs.{List.slice_get, Option.IsSomeAnd}
 use Rattle.std.proofs.Math.ListN.{drop_of_length-le}
-use Rattle.std.specs.Option.{IsSomeAnd}
 use Rattle.vs_contents.specs.CallTree.{Done, bind, for_each}
-use Rattle.vs_contents.proofs.Leads.{leads_of, leads_bind}
-use Rattle.vs_contents.proofs.Conditions.{may_first, may_rest, may_of}
+use Rattle.vs_contents.proofs.{Leads.leads_of, Leads.leads_bind, Conditions.may_first, Conditions.may_rest, Conditions.may_of}
 use Rattle.vs_header.specs.Packet.{header_bytes}
 use Rattle.vs_conn.specs.End.{owes_of}
 use Rattle.vs_conn.specs.declared.end.Owed.{Owed}
@@ -13,9 +12,9 @@ use Rattle.vs_conn.specs.declared.end.Owed.TheVariants as owed
 use Rattle.vs_flow.specs.Table.{entry_under}
 use Rattle.vs_replies.specs.declared.Reply.{Reply}
 use Rattle.vs_ring_port.specs.Contents.{RingContents}
-use Rattle.vs_driver_parts.specs.State.{DriverEntry, DriverState}
-use Rattle.vs_driver_parts.specs.Connections.{with_connection, paid_connection}
-use Rattle.vs_driver_parts.specs.Conversations.{Round, stage_packet, one_put, has_page, put_reply, put_reply_of, reply_header, put_owed, owed_bytes, after_paying, is_rst, pay_slot}
+use Rattle.vs_driver_parts.specs.{State.DriverEntry, State.DriverState, Connections.with_connection, Connections.paid_connection}
+use Rattle.vs_driver_parts.specs.Conversations.{Round, stage_packet, one_put, has_page, put_reply, put_reply_of, reply_header, put_owed}
+use Rattle.vs_driver_parts.specs.Conversations.{owed_bytes, after_paying, is_rst, pay_slot}
 use Rattle.vs_driver_parts.specs.Playing.{CanMake, MayPublishAll, Plays, RingAllows}
 
 pub paid_other : (what : Owed) (slot : ℕ) (e : DriverEntry) (s : DriverState) → is_rst what ≡ false → e.slot ≡ slot

@@ -1,36 +1,10 @@
 -- What the steps on the ring's pages come to.
-use Rattle.std.proofs.Common.{◌≡◌, ◌≢◌, ℕ, ◌+◌, ◌-◌, ◌==◌, true, false, List, Some, None, refl, sym, ap, subst, arith, ◌∙◌}
-use Rattle.std.proofs.lemmas.Bool.Decides.{nat_tests}
-use Rattle.vs_contents.specs.CallTree.{Done, Ask}
-use Rattle.vs_contents.proofs.Leads.{leads_of}
-use Rattle.vs_contents.proofs.Conditions.{may_of}
-use Rattle.vs_ring_port.specs.declared.queue.Queue.{Queue}
+use Rattle.std.proofs.Common.{◌≡◌, ℕ, List, refl, sym, ap, subst, ◌∙◌}
 use Rattle.vs_ring_port.specs.declared.queue.Queue.TheVariants.{Tx}
-use Rattle.vs_ring_port.specs.declared.queue.TheConstants.{STAGED_MAX}
-use Rattle.vs_ring_port.specs.Counts.{Counts}
-use Rattle.vs_ring_port.specs.Contents.{RingContents}
-use Rattle.vs_ring_port.specs.DriverCalls.{Stage, Publish, Reap, CanPublish, DriverAllows}
+use Rattle.vs_ring_port.specs.{Counts.Counts, Contents.RingContents, DriverCalls.Stage, DriverCalls.Publish}
 use Rattle.vs_driver_parts.specs.State.{DriverState}
-use Rattle.vs_driver_parts.specs.Conversations.{reap_one, reaped, stage_of, after_stage, post_packet, stage_packet, one_more_in_flight}
-use Rattle.vs_driver_parts.specs.Playing.{CanMake, IsRingOf, MayPublishAll, Plays, RingAllows, SamePages}
-
-reap_asks : (g : DriverState) → g.in_flight ≢ 0 → reap_one g ≡ Ask (Reap Tx) (λ page. Done (reaped g page))
-reap_asks g some = let e : (g.in_flight == 0) ≡ false = grind (arith, nat_tests) in rw e refl
-
--- a page came back, none did, none is in flight
-pub reap_back : (g h : DriverState) (page : List ℕ) (s t : RingContents) → g.in_flight ≢ 0 → h ≡ record g { in_flight = g.in_flight - 1 }
-    → DriverAllows (Reap Tx) (Some page) s t → Plays (reap_one g) s (h, true) t
-reap_back g h page s t some after answered =
-    leads_of RingAllows _ _ s t (h, true) (reap_asks g some) (Some page, t, (tt, answered), (ap (λ k. (k, true)) (sym after), refl))
-
-pub reap_nothing : (g : DriverState) (s t : RingContents) → g.in_flight ≢ 0 → DriverAllows (Reap Tx) None s t → Plays (reap_one g) s (g, false) t
-reap_nothing g s t some answered = leads_of RingAllows _ _ s t (g, false) (reap_asks g some) (None, t, (tt, answered), (refl, refl))
-
-pub reap_zero : (g : DriverState) (s : RingContents) → g.in_flight ≡ 0 → Plays (reap_one g) s (g, false) s
-reap_zero g s none =
-    let e : (g.in_flight == 0) ≡ true = grind (arith, nat_tests) in
-    let same : reap_one g ≡ Done (g, false) = rw e refl in
-    leads_of RingAllows _ _ s s (g, false) same (refl, refl)
+use Rattle.vs_driver_parts.specs.Conversations.{stage_of, post_packet, stage_packet, one_more_in_flight}
+use Rattle.vs_driver_parts.specs.Playing.{IsRingOf, MayPublishAll, Plays, RingAllows, SamePages}
 
 -- a page was staged and published
 pub posted : (bytes page : List ℕ) (g h : DriverState) (s m t : RingContents) → page ≡ bytes → h ≡ one_more_in_flight g
@@ -38,24 +12,6 @@ pub posted : (bytes page : List ℕ) (g h : DriverState) (s m t : RingContents) 
 posted bytes page g h s m t same after staged published =
     let P : List ℕ → Type 0 = λ b. RingAllows (Stage Tx b) tt s m in
     (tt, m, subst P same staged, (tt, t, published, (sym after, refl)))
-
--- a page was staged: what comes after it
-all_staged : (queue : Queue) (g : DriverState) → g.staged + 1 ≡ STAGED_MAX → after_stage queue g ≡ Ask (Publish queue) (λ _. Done (record g { staged = 0 }))
-all_staged queue g full = let e : (g.staged + 1 == STAGED_MAX) ≡ true = grind (arith, nat_tests) in rw e refl
-
-some_staged : (queue : Queue) (g : DriverState) → g.staged + 1 ≢ STAGED_MAX → after_stage queue g ≡ Done (record g { staged = g.staged + 1 })
-some_staged queue g few = let e : (g.staged + 1 == STAGED_MAX) ≡ false = grind (arith, nat_tests) in rw e refl
-
-pub staged_all : (queue : Queue) (g h : DriverState) (s t : RingContents) → g.staged + 1 ≡ STAGED_MAX → h ≡ record g { staged = 0 }
-    → RingAllows (Publish queue) tt s t → Plays (after_stage queue g) s h t
-staged_all queue g h s t full after answered = leads_of RingAllows _ _ s t h (all_staged queue g full) (tt, t, answered, (sym after, refl))
-
-pub staged_one : (queue : Queue) (g h : DriverState) (s : RingContents) → g.staged + 1 ≢ STAGED_MAX → h ≡ record g { staged = g.staged + 1 }
-    → Plays (after_stage queue g) s h s
-staged_one queue g h s few after = leads_of RingAllows _ _ s s h (some_staged queue g few) (sym after, refl)
-
-pub may_publish_all : (queue : Queue) (g : DriverState) (s : RingContents) → g.staged + 1 ≡ STAGED_MAX → MayPublishAll (after_stage queue g) s → CanPublish queue s
-may_publish_all queue g s full may = let all = may_of CanMake RingAllows _ _ s (all_staged queue g full) may in all.0
 
 -- a packet is staged
 pub may_stage : (bytes page : List ℕ) (g h : DriverState) (s : RingContents) → page ≡ bytes → h ≡ one_more_in_flight g

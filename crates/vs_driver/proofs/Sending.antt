@@ -1,10 +1,10 @@
 -- What send comes to in each case.
-use Rattle.std.proofs.Common.{◌≡◌, ℕ, ◌==◌, Bool, true, false, cond, min, List, length, take, Option, Some, None, Result, Ok, Err, is_some, refl, sym, ap, subst, ◌∙◌, ◌≤◌, IsOkAnd, arith, length-take}
+use Rattle.std.proofs.Common.{◌≡◌, ℕ, ◌==◌, Bool, true, false, cond, min, List, length, take, Option, Some, None, Result, Ok, Err, is_some}
+use Rattle.std.proofs.Common.{refl, sym, ap, subst, ◌∙◌, ◌≤◌, IsOkAnd, arith, length-take}
 use Rattle.std.proofs.lemmas.List.{take_min}
 use Rattle.std.specs.Option.{IfSome, option_map}
 use Rattle.vs_contents.specs.CallTree.{Done, bind}
-use Rattle.vs_contents.proofs.Leads.{leads_of, leads_bind}
-use Rattle.vs_contents.proofs.Conditions.{may_first, may_rest, may_of}
+use Rattle.vs_contents.proofs.{Leads.leads_of, Leads.leads_bind, Conditions.may_first, Conditions.may_rest, Conditions.may_of}
 use Rattle.vs_conn.specs.End.{CanSend, ConnectionEnd, may_send_of, state_may_send, wanting_credit, with_payload_sent}
 use Rattle.vs_conn.specs.declared.end.State.{State}
 use Rattle.vs_conn.specs.declared.end.State.TheVariants as state
@@ -15,14 +15,13 @@ use Rattle.vs_flow.specs.Table.{IsTable, Table, entry_under, value_under}
 use Rattle.vs_ring_port.specs.Contents.{RingContents}
 use Rattle.vs_driver_parts.specs.declared.answers.Sent.{Sent}
 use Rattle.vs_driver_parts.specs.declared.answers.Sent.TheVariants as sent
-use Rattle.vs_driver_parts.specs.State.{DriverConnection, DriverEntry, DriverState, entry_known_as}
-use Rattle.vs_driver_parts.specs.Connections.{with_end}
-use Rattle.vs_driver_parts.specs.Conversations.{DriverTree, send_of, send_on, send_stopped, send_with_credit, send_with_page, no_credit, not_sent, payload_of, payload_bytes, post_packet, reap_all, has_page}
+use Rattle.vs_driver_parts.specs.{State.DriverConnection, State.DriverEntry, State.DriverState, State.entry_known_as, Connections.with_end}
+use Rattle.vs_driver_parts.specs.Conversations.{DriverTree, send_of, send_on, send_stopped, send_with_credit, send_with_page, no_credit}
+use Rattle.vs_driver_parts.specs.Conversations.{not_sent, payload_of, payload_bytes, post_packet, reap_all, has_page}
 use Rattle.vs_driver_parts.specs.Steps.{ready_on, ready_to_send, ready_with, sends, sends_on, sends_with_credit}
-use Rattle.vs_page.specs.declared.page.TheConstants.{PAYLOAD_MAX}
 use Rattle.vs_driver_parts.specs.Playing.{CanMake, MayPublishAll, Plays, RingAllows}
-use Rattle.vs_driver_parts.proofs.Ids.{value_of}
-use Rattle.vs_driver_parts.proofs.Known.{known_at}
+use Rattle.vs_page.specs.declared.page.TheConstants.{PAYLOAD_MAX}
+use Rattle.vs_driver_parts.proofs.{Ids.value_of, Known.known_at}
 
 pub record IsThere {X : Type 0} (o : Option X) : Type 0 where
   pub one : X

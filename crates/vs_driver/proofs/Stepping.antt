@@ -1,20 +1,17 @@
 -- What single steps come to.
-use Rattle.std.proofs.Common.{◌≡◌, ℕ, Bool, Some, None, Result, Err, refl, sym, subst}
+use Rattle.std.proofs.Common.{◌≡◌, ℕ, Bool, None, Result, refl, sym, subst}
 use Rattle.vs_contents.specs.CallTree.{Done}
-use Rattle.vs_contents.proofs.Leads.{leads_of, leads_bind}
-use Rattle.vs_contents.proofs.Conditions.{may_first, may_of}
+use Rattle.vs_contents.proofs.{Leads.leads_of, Leads.leads_bind, Conditions.may_first, Conditions.may_of}
 use Rattle.vs_ring_port.specs.declared.queue.Queue.{Queue}
 use Rattle.vs_ring_port.specs.declared.queue.Queue.TheVariants.{Rx, Tx, Event}
 use Rattle.vs_ring_port.specs.Contents.{RingContents}
 use Rattle.vs_driver_parts.specs.declared.answers.ConnectError.{ConnectError}
-use Rattle.vs_driver_parts.specs.State.{DriverState}
-use Rattle.vs_driver_parts.specs.Connections.{connect_refusal}
-use Rattle.vs_driver_parts.specs.Conversations.{DriverTree, Round, connect_with_page, put_owed, put_reply, reap_one, start, take_event, take_packet}
-use Rattle.vs_driver_parts.specs.Playing.{CanMake, MayPublishAll, Plays, RingAllows}
+use Rattle.vs_driver_parts.specs.{State.DriverState, Connections.connect_refusal}
+use Rattle.vs_driver_parts.specs.Conversations.{DriverTree, Round, connect_with_page, put_owed, put_reply, reap_one, start, take_event}
+use Rattle.vs_driver_parts.specs.{Conversations.take_packet, Playing.CanMake, Playing.MayPublishAll, Playing.Plays, Playing.RingAllows}
 use Rattle.vs_driver_parts.specs.Steps.{connects, stages_owed, stages_reply, takes_page}
 use Rattle.vs_driver_log.specs.Staged.{IsAtWorkWith, IsWorkingWith}
-use Rattle.vs_driver_log.proofs.Keeping.{keeps_end, keeps_may}
-use Rattle.vs_driver_log.proofs.Stepping.{takes_keeps}
+use Rattle.vs_driver_log.proofs.{Keeping.keeps_end, Keeping.keeps_may, Stepping.takes_keeps}
 
 -- the state that a step leaves
 of_put : Round × Bool → DriverTree DriverState
@@ -79,18 +76,12 @@ module _ (s : DriverState) where
 
   -- connect
   module _ (port : ℕ) where
-    step_refuses : (e : ConnectError) → connect_refusal port s ≡ Some e → connects port s ≡ Done (s, Err e)
-    step_refuses e is = rw (is, connects) refl
-
     step_connects : connect_refusal port s ≡ None → connects port s ≡ connect_with_page port s
     step_connects is = rw (is, connects) refl
 
     module _ (c m : RingContents) (x : DriverState × Result ℕ ConnectError) where
       pub connect_stepped : connect_refusal port s ≡ None → Plays (connect_with_page port s) c x m → Plays (connects port s) c x m
       connect_stepped is plays = leads_of RingAllows _ _ c m x (step_connects is) plays
-
-    pub refusal_stepped : (c : RingContents) (e : ConnectError) → connect_refusal port s ≡ Some e → Plays (connects port s) c (s, Err e) c
-    refusal_stepped c e is = leads_of RingAllows _ _ c c (s, Err e) (step_refuses e is) (refl, refl)
 
     pub may_step_connect : (c : RingContents) → connect_refusal port s ≡ None → MayPublishAll (connects port s) c → MayPublishAll (connect_with_page port s) c
     may_step_connect c is may = may_of CanMake RingAllows _ _ c (step_connects is) may

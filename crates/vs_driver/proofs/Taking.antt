@@ -1,15 +1,14 @@
 -- What taking events comes to.
 use Rattle.std.proofs.Common.{◌≡◌, ℕ, Bool, true, false, List, [], length, nat_le, nat_lt, ◌+◌, Some, None, refl, subst}
 use Rattle.vs_contents.specs.CallTree.{Ask}
-use Rattle.vs_contents.proofs.Leads.{leads_of, leads_bind}
-use Rattle.vs_contents.proofs.Conditions.{may_first}
+use Rattle.vs_contents.proofs.{Leads.leads_of, Leads.leads_bind, Conditions.may_first}
 use Rattle.vs_ring_port.specs.declared.queue.Queue.{Queue}
 use Rattle.vs_ring_port.specs.declared.queue.Queue.TheVariants.{Event, Rx}
-use Rattle.vs_ring_port.specs.Contents.{RingContents}
-use Rattle.vs_ring_port.specs.DriverCalls.{Reap, DriverAllows}
+use Rattle.vs_ring_port.specs.{Contents.RingContents, DriverCalls.Reap, DriverCalls.DriverAllows}
 use Rattle.vs_driver_parts.specs.declared.limits.TheConstants.{REPLIES_FULL}
 use Rattle.vs_driver_parts.specs.State.{DriverState}
-use Rattle.vs_driver_parts.specs.Conversations.{Round, take_event, take_packet, packet_reaped, event_reaped, event_taken, staged_again, goes_on_with, stage_of, publish_of, published, with_state}
+use Rattle.vs_driver_parts.specs.Conversations.{Round, take_event, take_packet, packet_reaped, event_reaped, event_taken, staged_again}
+use Rattle.vs_driver_parts.specs.Conversations.{goes_on_with, stage_of, publish_of, published, with_state}
 use Rattle.vs_driver_parts.specs.Playing.{BringsFit, CanMake, MayPublishAll, Plays, RingAllows}
 use Rattle.vs_driver_parts.specs.Receiving.{on_page}
 

@@ -1,16 +1,15 @@
 //! Opening a connection from the guest (Virtio 1.2, section 5.10.6.4).
 
-ghost use Rattle.std.specs.Prelude.{◌≡◌, ℕ, ◌==◌, ◌||◌, ◌<◌, ◌≤◌, nat_lt, nat_le, Some, None, Err, IfOk, IfErr};
-ghost use Rattle.vs_conn.specs.End.{asked};
-ghost use Rattle.vs_conn.specs.Headers.{owed_header};
+ghost use Rattle.std.specs.Prelude.{◌≡◌, ℕ, ◌||◌, ◌<◌, Some, None, Err, IfOk, IfErr};
+ghost use Rattle.vs_conn.specs.{End.asked, Headers.owed_header};
 ghost use Rattle.vs_conn.specs.declared.end.Owed.TheVariants as owed;
 ghost use Rattle.vs_flow.specs.declared.flow.Flow.{Flow};
 ghost use Rattle.vs_history.specs.declared.TheConstants.{BUF_ALLOC};
 ghost use Rattle.vs_driver_parts.specs.declared.answers.ConnectError.{ConnectError};
-ghost use Rattle.vs_driver_parts.specs.Connections.{connect_refusal, connected, is_full, is_spent, next_flow, route_to_host};
+ghost use Rattle.vs_driver_parts.specs.Connections.{connect_refusal, connected, next_flow, route_to_host};
 ghost use Rattle.vs_driver_parts.specs.Conversations.{connect_of, connect_with_page};
-ghost use Rattle.vs_driver.specs.Outcomes.{Opens, Refuses, FindsNoPage};
 ghost use Rattle.vs_driver_parts.specs.Playing.{IsRingOf, MayPublishAll, Plays};
+ghost use Rattle.vs_driver.specs.Outcomes.{Opens, Refuses, FindsNoPage};
 ghost use Rattle.vs_driver_log.specs.Honest.{IsHonest, IsHonestWith};
 
 use crate::driver::Driver;

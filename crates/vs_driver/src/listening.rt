@@ -1,6 +1,6 @@
 //! Listening on ports, and accepting the connections that wait there (Virtio 1.2, section 5.10.6.4).
 
-ghost use Rattle.std.specs.Prelude.{◌≡◌, ℕ, ◌↔◌, OnOk, OnErr, IfErr, IsErr, true, Some, length, is_some};
+ghost use Rattle.std.specs.Prelude.{◌≡◌, ℕ, OnOk, OnErr, Some, is_some};
 ghost use Rattle.vs_driver_parts.specs.Listening.{listen_of, listening, accept_of, after_accept, is_answered, next_accepted};
 ghost use Rattle.vs_ring_port.specs.Contents.{RingContents};
 ghost use Rattle.vs_driver_log.specs.Honest.{IsHonestWith};

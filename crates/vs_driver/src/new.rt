@@ -1,6 +1,6 @@
 //! Making a driver: its memory first, then all receive and event pages are posted (Virtio 1.2, section 5.10.6.1).
 
-ghost use Rattle.std.specs.Prelude.{◌≡◌, ◌≢◌, ◌+◌, ◌<◌, ◌≤◌, [], length, IfOk, OnErr};
+ghost use Rattle.std.specs.Prelude.{◌≡◌, ◌≢◌, ◌<◌, ◌≤◌, [], length, IfOk, OnErr};
 ghost use Rattle.std.specs.List.{All};
 ghost use Rattle.vs_ring_port.specs.declared.queue.Queue.TheVariants.{Rx, Tx, Event};
 ghost use Rattle.vs_ring_port.specs.Counts.{at, no_counts, with_count};

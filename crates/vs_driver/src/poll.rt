@@ -1,8 +1,7 @@
 //! A poll of the driver's ring: events and packets are taken, pages come back, and what is owed is put (Virtio 1.2, section 5.10.6).
 
 ghost use Rattle.std.specs.Prelude.{ℕ};
-ghost use Rattle.vs_driver_parts.specs.Conversations.{poll_of};
-ghost use Rattle.vs_driver_parts.specs.Playing.{IsRingOf, Plays};
+ghost use Rattle.vs_driver_parts.specs.{Conversations.poll_of, Playing.IsRingOf, Playing.Plays};
 ghost use Rattle.vs_driver_log.specs.Honest.{IsHonest, IsHonestWith};
 
 use crate::driver::Driver;

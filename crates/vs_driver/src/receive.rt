@@ -1,17 +1,16 @@
 //! What the driver does with the packets that it takes, and at a transport reset (Virtio 1.2, sections 5.10.6.4 to 5.10.6.7).
 
-ghost use Rattle.std.specs.Prelude.{◌≡◌, ℕ, List, ◌<◌, ◌≤◌, ◌==◌, ◌&&◌, ◌+◌, ◌^◌, ◌++◌, ◌∷◌, [], true, length, is_some, nat_le, Some, None};
+ghost use Rattle.std.specs.Prelude.{◌≡◌, ℕ, List, ◌<◌, ◌≤◌, ◌==◌, ◌&&◌, ◌^◌, [], true, length, Some, None};
 ghost use Rattle.vs_conn.specs.End.{is_refused};
-ghost use Rattle.vs_flow.specs.Table.{IsTable, entry_of, entry_under};
+ghost use Rattle.vs_flow.specs.Table.{entry_of, entry_under};
 ghost use Rattle.vs_flow.specs.declared.flow.Flow.{Flow};
 ghost use Rattle.vs_history.specs.declared.packet.Packet.{Packet};
-ghost use Rattle.vs_page.specs.Held.{IsWhole};
-ghost use Rattle.vs_page.specs.Log.{flow_to_guest};
+ghost use Rattle.vs_page.specs.{Held.IsWhole, Log.flow_to_guest};
 ghost use Rattle.vs_driver_parts.specs.declared.limits.TheConstants.{REPLIES, REPLIES_FULL};
-ghost use Rattle.vs_driver_parts.specs.State.{DriverEntry};
-ghost use Rattle.vs_driver_parts.specs.Connections.{after_leaving, leaves_list, waits_no_more, with_request};
+ghost use Rattle.vs_driver_parts.specs.{State.DriverEntry, Connections.after_leaving, Connections.leaves_list, Connections.with_request};
 ghost use Rattle.vs_driver_parts.specs.Playing.{BringsFit, FitsPorts, SamePages};
-ghost use Rattle.vs_driver_parts.specs.Receiving.{ends_connection, on_page, on_packet, on_known, on_unknown, is_request, may_open, with_reply, after_reset, all_left, reset_reply};
+ghost use Rattle.vs_driver_parts.specs.Receiving.{ends_connection, on_page, on_packet, on_known, on_unknown, is_request, may_open};
+ghost use Rattle.vs_driver_parts.specs.Receiving.{with_reply, after_reset};
 ghost use Rattle.vs_wrap.specs.Wrap.{counted};
 
 use crate::driver::Driver;

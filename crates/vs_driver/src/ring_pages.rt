@@ -6,7 +6,8 @@ ghost use Rattle.vs_page.specs.declared.page.TheConstants.{PAYLOAD_MAX};
 ghost use Rattle.vs_ring_port.specs.declared.queue.Queue.TheVariants.{Tx};
 ghost use Rattle.vs_ring_port.specs.Counts.{at, no_counts, one_more, with_count};
 ghost use Rattle.vs_ring_port.specs.declared.queue.TheConstants.{STAGED_MAX};
-ghost use Rattle.vs_driver_parts.specs.Conversations.{reap_one, reap_all, stage_of, after_stage, publish_of, stage_packet, post_packet, one_more_in_flight, has_page};
+ghost use Rattle.vs_driver_parts.specs.Conversations.{reap_one, reap_all, stage_of, after_stage, publish_of, stage_packet, post_packet};
+ghost use Rattle.vs_driver_parts.specs.Conversations.{one_more_in_flight, has_page};
 ghost use Rattle.vs_driver_parts.specs.Playing.{IsRingOf, IsAtWork, MayPublishAll, Plays};
 
 use crate::driver::Driver;

@@ -2,17 +2,13 @@
 
 ghost use Rattle.std.specs.Prelude.{◌≡◌, ℕ, ◌≤◌, ◌<◌, ◌==◌, true, length, min, Some, None, Ok, Err, IfOk, is_some};
 ghost use Rattle.vs_conn.specs.End.{CanSend, may_send_of, wanting_credit};
-ghost use Rattle.vs_conn.specs.declared.end.State.TheVariants.{Live};
-ghost use Rattle.vs_credit.specs.Credit.{free_of};
 ghost use Rattle.vs_flow.specs.Table.{IsTable, entry_under};
 ghost use Rattle.vs_page.specs.declared.page.TheConstants.{PAYLOAD_MAX};
-ghost use Rattle.vs_driver_parts.specs.State.{DriverEntry, entry_known_as, gone_known_as};
-ghost use Rattle.vs_driver_parts.specs.Connections.{unread_of_id, with_end};
+ghost use Rattle.vs_driver_parts.specs.{State.DriverEntry, Connections.unread_of_id, Connections.with_end};
 ghost use Rattle.vs_driver_parts.specs.Conversations.{send_of, send_with_page, send_stopped, no_credit, not_sent};
 ghost use Rattle.vs_driver_parts.specs.Steps.{ready_on, ready_to_send, ready_with};
 ghost use Rattle.vs_driver_parts.specs.Playing.{IsRingOf, MayPublishAll, Plays, SamePages};
-ghost use Rattle.vs_driver.specs.Outcomes.{Sends};
-ghost use Rattle.vs_driver.specs.Pipes.{KeepsOthers};
+ghost use Rattle.vs_driver.specs.{Outcomes.Sends, Pipes.KeepsOthers};
 ghost use Rattle.vs_driver_log.specs.Honest.{IsHonest, IsHonestWith};
 
 use crate::driver::Driver;

@@ -1,7 +1,6 @@
 //! What the driver shows of its connections.
 
-ghost use Rattle.std.specs.Prelude.{◌≡◌, ℕ, ◌<◌, ◌^◌, length};
-ghost use Rattle.std.specs.Iterator.{YieldsFirst, item_count};
+ghost use Rattle.std.specs.{Prelude.◌≡◌, Prelude.ℕ, Prelude.◌<◌, Prelude.◌^◌, Prelude.length, Iterator.YieldsFirst, Iterator.item_count};
 ghost use Rattle.vs_ring_port.specs.EndLog.{EndLog};
 ghost use Rattle.vs_driver_parts.specs.Connections.{state_of, state_shown, flow_of, table_shown};
 ghost use Rattle.vs_driver_log.specs.Honest.{AgreesWith, IsLeftOpen};

@@ -2,12 +2,12 @@
 
 ghost use Rattle.std.specs.Prelude.{◌≡◌, ◌+◌, ◌-◌, ◌<◌, ◌≤◌, ◌==◌, [], length, false, true, ◌^◌};
 ghost use Rattle.vs_ring_port.specs.declared.queue.Queue.TheVariants.{Rx, Tx, Event};
-ghost use Rattle.vs_driver_parts.specs.Conversations.{take_all, all_taken, take_event, take_packet, event_taken, stage_of, round_of, start};
+ghost use Rattle.vs_driver_parts.specs.Conversations.{take_all, all_taken, take_event, take_packet, event_taken, stage_of, round_of};
+ghost use Rattle.vs_driver_parts.specs.Receiving.{is_reset_event};
+ghost use Rattle.vs_driver_parts.specs.Playing.{IsRingOf, IsAtWork, MayPublishAll, Plays, SamePages};
 ghost use Rattle.vs_ring_port.specs.Counts.{at, no_counts, one_more, with_count};
 ghost use Rattle.vs_ring_port.specs.declared.queue.TheConstants.{STAGED_MAX};
 ghost use Rattle.vs_driver_parts.specs.declared.limits.TheConstants.{REPLIES_FULL};
-ghost use Rattle.vs_driver_parts.specs.Receiving.{is_reset_event};
-ghost use Rattle.vs_driver_parts.specs.Playing.{IsRingOf, IsAtWork, MayPublishAll, Plays, SamePages};
 
 use crate::driver::Driver;
 use byteorder::{ByteOrder, LittleEndian};

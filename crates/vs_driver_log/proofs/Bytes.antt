@@ -4,8 +4,7 @@ use Rattle.vs_header.specs.declared.Op.{Op}
 use Rattle.vs_flow.specs.declared.flow.Flow.{Flow}
 use Rattle.vs_page.specs.Held.{FitsWire}
 use Rattle.vs_page.proofs.Packets.{op_small}
-use Rattle.vs_conn.specs.End.{ConnectionEnd}
-use Rattle.vs_conn.specs.Headers.{header_from, reset_header}
+use Rattle.vs_conn.specs.{End.ConnectionEnd, Headers.header_from, Headers.reset_header}
 use Rattle.vs_driver_parts.specs.Connections.{route_to_host}
 use Rattle.vs_driver_log.specs.Honest.{IsFitFlow}
 

@@ -1,5 +1,6 @@
 -- What each call of the driver keeps over an honest ring.
-use Rattle.std.proofs.Common.{◌≡◌, ℕ, ◌+◌, ◌<◌, ◌≤◌, ◌^◌, ◌==◌, Bool, true, false, cond, min, List, [], length, Option, Some, None, Result, Ok, Err, refl, sym, ap, subst, ◌∙◌, arith, length-take}
+use Rattle.std.proofs.Common.{◌≡◌, ℕ, ◌+◌, ◌<◌, ◌≤◌, ◌^◌, ◌==◌, Bool, true, false, cond, min, List, [], length, Option, Some, None, Result}
+use Rattle.std.proofs.Common.{Ok, Err, refl, sym, ap, subst, ◌∙◌, arith, length-take}
 use Rattle.std.specs.Prelude.{IsOkAnd}
 use Rattle.vs_contents.specs.CallTree.{Done, Ask, bind}
 use Rattle.vs_conn.specs.End.{CanSend, may_send_of, wanting_credit, with_payload_sent}
@@ -7,33 +8,31 @@ use Rattle.vs_conn.specs.declared.end.Stop.{Stop}
 use Rattle.vs_flow.specs.Table.{IsTable}
 use Rattle.vs_page.specs.Log.{Driver, Log}
 use Rattle.vs_page.specs.declared.page.TheConstants.{PAYLOAD_MAX}
-use Rattle.vs_ring_port.specs.declared.queue.Queue.{Queue}
+use Rattle.vs_ring_port.specs.declared.queue.{Queue.Queue, TheConstants.STAGED_MAX}
 use Rattle.vs_ring_port.specs.declared.queue.Queue.TheVariants.{Rx, Tx, Event}
-use Rattle.vs_ring_port.specs.declared.queue.TheConstants.{STAGED_MAX}
-use Rattle.vs_ring_port.specs.Contents.{RingContents}
-use Rattle.vs_ring_port.specs.DriverCalls.{Publish}
+use Rattle.vs_ring_port.specs.{Contents.RingContents, DriverCalls.Publish}
 use Rattle.vs_ring_port.specs.EndLog.{EndLog, entries_marked, log_loaded, log_published, log_staged}
 use Rattle.vs_matching.proofs.Keeps.{start_matches}
 use Rattle.vs_driver_parts.specs.declared.answers.ConnectError.{ConnectError}
 use Rattle.vs_driver_parts.specs.declared.answers.ConnectError.TheVariants as refused
-use Rattle.vs_driver_parts.specs.declared.answers.Polled.{Polled}
-use Rattle.vs_driver_parts.specs.declared.answers.Sent.{Sent}
+use Rattle.vs_driver_parts.specs.declared.answers.{Polled.Polled, Sent.Sent}
 use Rattle.vs_driver_parts.specs.declared.answers.Sent.TheVariants as sent
 use Rattle.vs_driver_parts.specs.declared.limits.TheConstants.{LAST_PORT}
 use Rattle.vs_driver_parts.specs.State.{DriverEntry, DriverState, entry_known_as}
 use Rattle.vs_driver_parts.specs.Connections.{connect_refusal, connected}
 use Rattle.vs_driver_parts.specs.Connections as connections
-use Rattle.vs_driver_parts.specs.Conversations.{connect_of, connect_with_page, has_page, load_cid, new_of, new_state, no_credit, not_sent, one_more_in_flight, payload_bytes, payload_of, poll_of, post_all, post_events, post_one, post_packet, posts, publish_of, reap_all, request_bytes, send_of, send_on, send_stopped, send_with_credit, send_with_page, stage_of}
+use Rattle.vs_driver_parts.specs.Conversations.{connect_of, connect_with_page, has_page, load_cid, new_of, new_state, no_credit, not_sent}
+use Rattle.vs_driver_parts.specs.Conversations.{one_more_in_flight, payload_bytes, payload_of, poll_of, post_all, post_events, post_one}
+use Rattle.vs_driver_parts.specs.Conversations.{post_packet, posts, publish_of, reap_all, request_bytes, send_of, send_on, send_stopped}
+use Rattle.vs_driver_parts.specs.Conversations.{send_with_credit, send_with_page, stage_of}
 use Rattle.vs_driver_parts.specs.Playing.{MayPublishAll, Plays}
 use Rattle.vs_driver_log.specs.Honest.{AgreesWith, IsFitState, IsFresh, IsHonestWith, ends_of_state}
-use Rattle.vs_driver_log.proofs.Keeping.{Keeps, keeps_bind, keeps_end, keeps_may, keeps_weaker, keeps_while}
 use Rattle.vs_driver_log.specs.Staged.{IsLeft}
+use Rattle.vs_driver_log.proofs.Keeping.{Keeps, keeps_bind, keeps_end, keeps_may, keeps_weaker, keeps_while}
 use Rattle.vs_driver_log.proofs.Ringing.{IsAtRest, Tells, agrees, at_rest, can_publish_other, moves, tells_weaker}
 use Rattle.vs_driver_log.proofs.Staging.{Rests, SameBut, post_tx, reap_keeps}
-use Rattle.vs_driver_log.proofs.Putting.{connect_puts, send_puts}
-use Rattle.vs_driver_log.proofs.Polling.{not_tx_event, not_tx_rx, poll_keeps}
-use Rattle.vs_driver_log.proofs.Tabling.{Stands}
-use Rattle.vs_driver_log.proofs.Changing.{Changes, stands_known, wanting_changes}
+use Rattle.vs_driver_log.proofs.{Putting.connect_puts, Putting.send_puts, Polling.not_tx_event, Polling.not_tx_rx, Polling.poll_keeps}
+use Rattle.vs_driver_log.proofs.{Tabling.Stands, Changing.Changes, Changing.stands_known, Changing.wanting_changes}
 
 pub rests_of : (first : ℕ) (s : DriverState) (c : RingContents) → IsHonestWith first s c → Rests first s c
 rests_of first s c honest = tells_weaker (AgreesWith first s) (IsAtRest first s) (at_rest first s) c honest
@@ -198,18 +197,6 @@ module _ (size port id : ℕ) (port_fits : port ≤ LAST_PORT) where
         keeps_bind IsMade (posts queue s) (publish_of queue) c
         (keeps_weaker IsMade (λ t d. Keeps IsMade (publish_of queue t) d) publish_made (posts queue s) c
         (keeps_while IsMade (post_one queue) post_one_made s.size s c is))
-
-  none_stands : IsFitState made → (cid : ℕ) → cid < 2 ^ 64 → IsFitState (record made { cid = cid })
-  none_stands fits cid less = record {
-    cid_fits = less;
-    port_left = fits.port_left;
-    sound = fits.sound;
-    places = fits.places;
-    given = fits.given;
-    entries = fits.entries;
-    ports = fits.ports;
-    owed = fits.owed;
-  }
 
   empty_table : IsTable made.table
   empty_table = record {

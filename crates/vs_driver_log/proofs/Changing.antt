@@ -1,22 +1,21 @@
 -- Calls that make no use of the ring: the driver still matches its log.
-use Rattle.std.proofs.Common.{◌≡◌, ℕ, ◌≤◌, ◌==◌, Bool, true, false, cond, min, List, [], ◌∷◌, length, Option, Some, None, refl, sym, subst, ◌∙◌, arith}
-use Rattle.vs_conn.specs.End.{ConnectionEnd, wanting_credit}
-use Rattle.vs_conn.specs.Follows.{Follows}
+use Rattle.std.proofs.Common.{◌≡◌, ℕ, ◌≤◌, ◌==◌, Bool, true, false, cond, min, List, [], ◌∷◌, length, Option, Some, None, refl, sym, subst}
+use Rattle.std.proofs.Common.{◌∙◌, arith}
+use Rattle.vs_conn.specs.{End.ConnectionEnd, End.wanting_credit, Follows.Follows}
 use Rattle.vs_conn.specs.declared.end.State.{State}
 use Rattle.vs_conn.specs.declared.end.State.TheVariants as state
 use Rattle.vs_conn.proofs.Steps.{abort_follows, ask_follows, forward_follows, shut_follows}
 use Rattle.vs_credit.specs.Credit.{unread_of}
 use Rattle.vs_history.specs.History.{Side, gots, puts, History}
 use Rattle.vs_page.specs.Log.{Driver, Log, side_of}
-use Rattle.vs_matching.specs.Ends.{Ends}
-use Rattle.vs_matching.specs.Heard.{heard_of}
-use Rattle.vs_matching.specs.Matches.{Matches}
-use Rattle.vs_matching.proofs.Keeps.{changes}
-use Rattle.vs_matching.proofs.Slots.{found_by}
-use Rattle.vs_matching.proofs.Tables.{driver_begun}
-use Rattle.vs_driver_parts.specs.State.{DriverConnection, DriverEntry, DriverState, GoneConnection, entry_known_as, gone_known_as, is_known_as}
+use Rattle.vs_matching.specs.{Ends.Ends, Heard.heard_of, Matches.Matches}
+use Rattle.vs_matching.proofs.{Keeps.changes, Slots.found_by, Tables.driver_begun}
+use Rattle.vs_driver_parts.specs.State.{DriverConnection, DriverEntry, DriverState, GoneConnection, entry_known_as, gone_known_as}
+use Rattle.vs_driver_parts.specs.State.{is_known_as}
 use Rattle.vs_driver_parts.specs.Listening.{after_accept, listening, next_accepted, with_waiting, without_id}
-use Rattle.vs_driver_parts.specs.Connections.{after_close, after_closing, after_read, after_recv, after_shut, after_shutdown, after_unlisten, all_closed, all_gone_after_read, entry_closed, entry_read, gone_closed, shut_in, waiting_on, waits_no_more, with_connection, without_gone, without_listener}
+use Rattle.vs_driver_parts.specs.Connections.{after_close, after_closing, after_read, after_recv, after_shut, after_shutdown}
+use Rattle.vs_driver_parts.specs.Connections.{after_unlisten, all_closed, all_gone_after_read, entry_closed, entry_read, gone_closed}
+use Rattle.vs_driver_parts.specs.Connections.{shut_in, waiting_on, with_connection, without_gone}
 use Rattle.vs_driver_parts.specs.Connections as connections
 use Rattle.vs_driver_parts.proofs.Ids.{found_under}
 use Rattle.vs_driver_log.specs.Honest.{IsFitState, ends_of_state}

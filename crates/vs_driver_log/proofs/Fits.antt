@@ -1,12 +1,12 @@
 -- The buffer of a connection holds what its end counts as unread, whatever the end does.
-use Rattle.std.proofs.Common.{◌≡◌, ℕ, ◌+◌, ◌-◌, ◌<◌, ◌≤◌, ◌^◌, Bool, true, false, cond, min, List, [], ◌++◌, length, drop, Option, Some, None, refl, sym, ap, subst, ◌∙◌, arith, length-append, length-drop, eq-eqb}
+use Rattle.std.proofs.Common.{◌≡◌, ℕ, ◌+◌, ◌-◌, ◌<◌, ◌≤◌, ◌^◌, Bool, true, false, cond, min, List, [], ◌++◌, length, drop, Option, Some}
+use Rattle.std.proofs.Common.{None, refl, sym, ap, subst, ◌∙◌, arith, length-append, length-drop, eq-eqb}
 use Rattle.vs_wrap.specs.Wrap.{difference32, sum32}
 use Rattle.vs_credit.specs.Credit.{room_of, with_taken, with_forwarded, with_heard}
 use Rattle.vs_credit.specs.declared.Credit.{Credit}
 use Rattle.vs_history.specs.declared.TheConstants.{BUF_ALLOC}
 use Rattle.vs_history.specs.declared.packet.Packet.{Packet}
-use Rattle.vs_header.specs.declared.Header.{Header}
-use Rattle.vs_header.specs.declared.Op.{Op}
+use Rattle.vs_header.specs.declared.{Header.Header, Op.Op}
 use Rattle.vs_header.specs.declared.Op.TheVariants as op
 use Rattle.vs_header.specs.Op.{op_named}
 use Rattle.vs_page.specs.Held.{IsWhole}
@@ -18,8 +18,7 @@ use Rattle.vs_conn.specs.declared.end.State.{State}
 use Rattle.vs_conn.specs.declared.end.State.TheVariants as state
 use Rattle.vs_conn.specs.declared.end.Verdict.{Verdict}
 use Rattle.vs_conn.specs.declared.end.Verdict.TheVariants as verdict
-use Rattle.vs_driver_parts.specs.Room.{HasRoom}
-use Rattle.vs_driver_parts.specs.State.{DriverConnection}
+use Rattle.vs_driver_parts.specs.{Room.HasRoom, State.DriverConnection}
 use Rattle.vs_driver_parts.specs.Connections.{after_read, after_shut, after_closing, paid_connection}
 use Rattle.vs_driver_parts.specs.Receiving.{after_packet}
 use Rattle.vs_driver_parts.proofs.Delivers.{delivers, named_rw}

@@ -1,10 +1,8 @@
 -- What a conversation keeps: what holds at each of its ends, where each of its calls may be made.
 use Rattle.std.proofs.Common.{ℕ, zero, suc, Bool, true, false, List, [], ◌∷◌, subst}
 use Rattle.vs_contents.specs.CallTree.{Done, Ask, bind, for_each, while_up_to}
-use Rattle.vs_ring_port.specs.Contents.{RingContents}
-use Rattle.vs_ring_port.specs.DriverCalls.{DriverAnswer}
-use Rattle.vs_driver_parts.specs.Conversations.{DriverTree}
-use Rattle.vs_driver_parts.specs.Playing.{CanMake, MayPublishAll, Plays, RingAllows}
+use Rattle.vs_ring_port.specs.{Contents.RingContents, DriverCalls.DriverAnswer}
+use Rattle.vs_driver_parts.specs.{Conversations.DriverTree, Playing.CanMake, Playing.MayPublishAll, Playing.Plays, Playing.RingAllows}
 
 abbrev pub Keeps : {A : Type 0} → (A → RingContents → Type 0) → DriverTree A → RingContents → Type 0
 Keeps Q (Done x) c = Q x c

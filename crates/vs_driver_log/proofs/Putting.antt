@@ -1,11 +1,11 @@
 -- The steps at which the driver puts a packet: a connection of its own is asked for, payload is sent, what is owed is paid.
-use Rattle.std.proofs.Common.{◌≡◌, ℕ, ◌+◌, ◌<◌, ◌≤◌, ◌^◌, nat_lt, nat_le, Bool, true, false, cond, List, [], ◌∷◌, length, Some, None, refl, sym, ap, subst, ◌∙◌, arith, ◌||◌}
+use Rattle.std.proofs.Common.{◌≡◌, ℕ, ◌+◌, ◌<◌, ◌≤◌, ◌^◌, nat_lt, nat_le, Bool, true, false, cond, List, [], ◌∷◌, length, Some, None, refl}
+use Rattle.std.proofs.Common.{sym, ap, subst, ◌∙◌, arith, ◌||◌}
 use Rattle.std.specs.List.{All}
 use Rattle.std.proofs.lemmas.Bool.Decides.{nat_tests}
 use Rattle.std.proofs.lemmas.List.{append-nil}
 use Rattle.std.proofs.lemmas.List.Elements.{All-head, All-tail}
-use Rattle.vs_conn.specs.End.{CanSend, ConnectionEnd, asked, owes_of, paid_of, with_payload_sent}
-use Rattle.vs_conn.specs.Follows.{IsSpace}
+use Rattle.vs_conn.specs.{End.CanSend, End.ConnectionEnd, End.asked, End.owes_of, End.paid_of, End.with_payload_sent, Follows.IsSpace}
 use Rattle.vs_conn.specs.Headers.{owed_flags, owed_header, owed_op, payload_header}
 use Rattle.vs_conn.specs.declared.end.Owed.{Owed}
 use Rattle.vs_conn.specs.declared.end.Owed.TheVariants as owed
@@ -13,18 +13,14 @@ use Rattle.vs_header.specs.Packet.{header_bytes}
 use Rattle.vs_header.specs.declared.Header.{Header}
 use Rattle.vs_header.specs.declared.Op.TheVariants as op
 use Rattle.vs_history.specs.declared.TheConstants.{BUF_ALLOC}
-use Rattle.vs_flow.specs.Flow.{is_assigned}
-use Rattle.vs_flow.specs.Table.{entry_of}
+use Rattle.vs_flow.specs.{Flow.is_assigned, Table.entry_of}
 use Rattle.vs_flow.specs.declared.flow.Flow.{Flow}
-use Rattle.vs_flow.proofs.Tables.{IsAccepted}
-use Rattle.vs_flow.proofs.Entries.{find_none}
-use Rattle.vs_page.specs.Held.{FitsWire}
-use Rattle.vs_page.specs.Log.{Driver, side_by}
+use Rattle.vs_flow.proofs.{Tables.IsAccepted, Entries.find_none}
+use Rattle.vs_page.specs.{Held.FitsWire, Log.Driver, Log.side_by}
 use Rattle.vs_page.specs.declared.log.LogEntry.TheVariants.{PutPacket}
 use Rattle.vs_page.specs.declared.page.TheConstants.{PAYLOAD_MAX}
 use Rattle.vs_replies.specs.declared.Reply.{Reply}
-use Rattle.vs_matching.specs.Ends.{Ends, FlowEnd}
-use Rattle.vs_matching.specs.Matches.{Matches}
+use Rattle.vs_matching.specs.{Ends.Ends, Ends.FlowEnd, Matches.Matches}
 use Rattle.vs_matching.specs.Steps.{IsNextFlow, opened, owed_on, paid, payload_on, reply_on, request_on, with_end}
 use Rattle.vs_matching.proofs.Keeps.{opens, opens_fair, pays, pays_fair, replies, replies_fair, sends, sends_fair}
 use Rattle.vs_matching.proofs.Slots.{added_slot}
@@ -32,15 +28,14 @@ use Rattle.vs_driver_parts.specs.declared.limits.TheConstants.{LAST_ID, LAST_POR
 use Rattle.vs_driver_parts.specs.declared.answers.ConnectError.{ConnectError}
 use Rattle.vs_driver_parts.specs.declared.answers.ConnectError.TheVariants as refused
 use Rattle.vs_driver_parts.specs.State.{DriverConnection, DriverEntry, DriverState, slots_held}
-use Rattle.vs_driver_parts.specs.Connections.{connect_refusal, connected, is_full, is_spent, next_flow, paid_connection, route_to_host, with_connection}
+use Rattle.vs_driver_parts.specs.Connections.{connect_refusal, connected, is_full, next_flow, paid_connection, route_to_host}
+use Rattle.vs_driver_parts.specs.Connections.{with_connection}
 use Rattle.vs_driver_parts.specs.Connections as connections
 use Rattle.vs_driver_parts.specs.Conversations.{after_paying, owed_bytes, payload_bytes, reply_header, request_bytes}
 use Rattle.vs_driver_log.specs.Honest.{IsFitFlow, IsFitReply, IsFitState, end_in, ends_of_state, reply_flow, reply_flows}
 use Rattle.vs_page.proofs.Packets.{held_alone, held_payload}
 use Rattle.vs_matching.proofs.OwedFlags.{owed_flags_fit}
-use Rattle.vs_driver_log.proofs.Bytes.{header_fits, reset_fits}
-use Rattle.vs_driver_log.proofs.Fits.{IsHeldBy, paid_fits, sent_fits}
-use Rattle.vs_driver_log.proofs.Ringing.{Puts}
+use Rattle.vs_driver_log.proofs.{Bytes.header_fits, Bytes.reset_fits, Fits.IsHeldBy, Fits.paid_fits, Fits.sent_fits, Ringing.Puts}
 use Rattle.vs_driver_log.proofs.Tabling.{Stands, connection_ends, connection_fits, entry_fits, has_end, leaves, opening_fits}
 
 -- The packet that a connection owes is put.

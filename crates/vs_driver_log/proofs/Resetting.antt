@@ -1,23 +1,19 @@
 -- A transport reset: all connections leave, and a reply is owed to each flow.
 use Rattle.std.proofs.Common.{◌≡◌, ℕ, ◌<◌, ◌^◌, ◌==◌, not, List, [], ◌∷◌, ◌++◌, map, Some, refl, sym, ap, subst, ◌∙◌, arith}
-use Rattle.std.specs.List.{filter, slice_get}
-use Rattle.std.specs.Prelude.{Contains}
+use Rattle.std.specs.{List.filter, List.slice_get, Prelude.Contains}
 use Rattle.std.proofs.lemmas.List.{append-nil, append_assoc}
 use Rattle.vs_flow.specs.Table.{IsRising}
 use Rattle.vs_flow.specs.declared.flow.Flow.{Flow}
 use Rattle.vs_page.specs.Log.{Driver, Log}
 use Rattle.vs_page.specs.declared.log.LogEntry.TheVariants.{Mark}
 use Rattle.vs_replies.specs.declared.Reply.{Reply}
-use Rattle.vs_matching.specs.Ends.{Ends, FlowEnd, flows_of}
-use Rattle.vs_matching.specs.Matches.{Matches}
+use Rattle.vs_matching.specs.{Ends.Ends, Ends.FlowEnd, Ends.flows_of, Matches.Matches}
 use Rattle.vs_matching.proofs.Keeps.{takes_reset}
-use Rattle.vs_driver_parts.specs.State.{DriverEntry, DriverState}
-use Rattle.vs_driver_parts.specs.Connections.{after_leaving}
+use Rattle.vs_driver_parts.specs.{State.DriverEntry, State.DriverState, Connections.after_leaving}
 use Rattle.vs_driver_parts.specs.Receiving.{after_reset, all_left, reset_reply, with_reply}
 use Rattle.vs_driver_parts.proofs.Packets.{first_under, others_left}
 use Rattle.vs_driver_log.specs.Honest.{IsFitState, ends_of_state, reply_flows}
-use Rattle.vs_driver_log.proofs.Tabling.{Stands, entry_fits, leaves}
-use Rattle.vs_driver_log.proofs.Taking.{reply_added, with_reply_fits}
+use Rattle.vs_driver_log.proofs.{Tabling.Stands, Tabling.entry_fits, Tabling.leaves, Taking.reply_added, Taking.with_reply_fits}
 
 -- An entry as it counts among the ends.
 abbrev out : DriverEntry → FlowEnd

@@ -1,26 +1,19 @@
 -- What one call on an honest ring that tells its log keeps.
 use Rattle.std.proofs.Common.{◌≡◌, ℕ, true, List, [], ◌∷◌, ◌++◌, Option, Some, None, refl, sym, ap, subst, ◌∙◌, arith}
-use Rattle.std.specs.List.{All}
-use Rattle.std.specs.Prelude.{IsSomeAnd}
+use Rattle.std.specs.{List.All, Prelude.IsSomeAnd, Option.ForSome}
 use Rattle.std.proofs.lemmas.List.Elements.{All-nil, All-cons, All-append}
-use Rattle.std.specs.Option.{ForSome}
 use Rattle.vs_contents.specs.Contents.{Exposes}
 use Rattle.vs_history.specs.declared.packet.Packet.{Packet}
 use Rattle.vs_history.specs.Packets.{packet_bytes}
-use Rattle.vs_page.specs.Fair.{IsFairLog}
-use Rattle.vs_page.specs.Held.{packet_held}
-use Rattle.vs_page.specs.Log.{Driver, Log}
+use Rattle.vs_page.specs.{Fair.IsFairLog, Held.packet_held, Log.Driver, Log.Log}
 use Rattle.vs_page.specs.declared.log.LogEntry.TheVariants.{PutPacket}
 use Rattle.vs_ring_port.specs.declared.queue.Queue.{Queue}
 use Rattle.vs_ring_port.specs.declared.queue.Queue.TheVariants.{Rx, Tx, Event}
-use Rattle.vs_ring_port.specs.Contents.{RingContents}
-use Rattle.vs_ring_port.specs.DriverCalls.{DriverMoves, HoldsPacket, CanPublish}
-use Rattle.vs_ring_port.specs.EndLog.{EndLog, all_put, log_published, log_staged, with_packet}
-use Rattle.vs_ring_port.specs.Lists.{Rings}
+use Rattle.vs_ring_port.specs.{Contents.RingContents, DriverCalls.DriverMoves, DriverCalls.HoldsPacket, DriverCalls.CanPublish}
+use Rattle.vs_ring_port.specs.{EndLog.EndLog, EndLog.all_put, EndLog.log_published, EndLog.log_staged, EndLog.with_packet, Lists.Rings}
 use Rattle.vs_matching.specs.Matches.{Matches}
 use Rattle.vs_driver_parts.specs.State.{DriverState}
-use Rattle.vs_driver_log.specs.Honest.{AgreesWith, IsFitState, ends_of_state}
-use Rattle.vs_driver_log.specs.Staged.{IsLeft, IsTied}
+use Rattle.vs_driver_log.specs.{Honest.AgreesWith, Honest.IsFitState, Honest.ends_of_state, Staged.IsLeft, Staged.IsTied}
 
 -- P holds of the log of an honest ring, where it tells it.
 abbrev pub Tells : (EndLog → Type 0) → RingContents → Type 0

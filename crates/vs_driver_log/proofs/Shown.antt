@@ -7,9 +7,7 @@ use Rattle.vs_ring_port.specs.DriverCalls.{DriverCall, DriverAnswer, Stage, Publ
 use Rattle.vs_ring_port.specs.EndLog.{EndLog}
 use Rattle.vs_matching.specs.Ends.{FlowEnd, flows_of, is_among}
 use Rattle.vs_matching.proofs.Tables.{driver_open}
-use Rattle.vs_driver_parts.specs.State.{DriverEntry, DriverState}
-use Rattle.vs_driver_parts.specs.Connections.{table_shown}
-use Rattle.vs_driver_parts.specs.Conversations.{DriverTree}
+use Rattle.vs_driver_parts.specs.{State.DriverEntry, State.DriverState, Connections.table_shown, Conversations.DriverTree}
 use Rattle.vs_driver_parts.specs.Playing.{Plays, RingAllows}
 use Rattle.vs_driver_log.specs.Honest.{AgreesWith, IsLeftOpen, ends_of_state, flows_shown}
 

@@ -1,18 +1,17 @@
 -- What staging, publishing and getting back pages keeps.
 use Rattle.std.proofs.Common.{◌≡◌, ℕ, ◌+◌, ◌-◌, ◌==◌, Bool, true, false, cond, List, Option, Some, None, refl, ap}
 use Rattle.vs_contents.specs.CallTree.{Done, Ask}
-use Rattle.vs_ring_port.specs.declared.queue.Queue.{Queue}
+use Rattle.vs_ring_port.specs.declared.queue.{Queue.Queue, TheConstants.STAGED_MAX}
 use Rattle.vs_ring_port.specs.declared.queue.Queue.TheVariants.{Tx}
-use Rattle.vs_ring_port.specs.declared.queue.TheConstants.{STAGED_MAX}
-use Rattle.vs_ring_port.specs.Contents.{RingContents}
-use Rattle.vs_ring_port.specs.DriverCalls.{Publish, Reap}
+use Rattle.vs_ring_port.specs.{Contents.RingContents, DriverCalls.Publish, DriverCalls.Reap}
 use Rattle.vs_ring_port.specs.EndLog.{EndLog, log_published, log_reaped, log_staged}
 use Rattle.vs_driver_parts.specs.State.{DriverState}
-use Rattle.vs_driver_parts.specs.Conversations.{one_more_in_flight, post_packet, publish_of, reap_all, reap_one, reaped, stage_of, stage_packet}
-use Rattle.vs_driver_parts.specs.Playing.{RingAllows}
+use Rattle.vs_driver_parts.specs.Conversations.{one_more_in_flight, post_packet, publish_of, reap_all, reap_one, reaped, stage_of}
+use Rattle.vs_driver_parts.specs.{Conversations.stage_packet, Playing.RingAllows}
 use Rattle.vs_driver_log.proofs.Keeping.{Keeps, keeps_while}
+use Rattle.vs_driver_log.proofs.Ringing.{IsAtRest, Puts, Tells, can_publish, can_publish_other, moves, publishes, publishes_other, stages}
+use Rattle.vs_driver_log.proofs.Ringing.{stages_other, tells_weaker, tied}
 use Rattle.vs_driver_log.specs.Staged.{IsTied}
-use Rattle.vs_driver_log.proofs.Ringing.{IsAtRest, Puts, Tells, can_publish, can_publish_other, moves, publishes, publishes_other, stages, stages_other, tells_weaker, tied}
 
 -- What holds of the driver that a conversation ends with.
 abbrev pub Rests : ℕ → DriverState → RingContents → Type 0

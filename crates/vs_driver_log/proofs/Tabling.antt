@@ -1,15 +1,14 @@
 -- What steps on the table do to the driver's numbers, and to its connections as ends.
-use Rattle.std.proofs.Common.{◌≡◌, ℕ, ◌+◌, ◌<◌, ◌≤◌, ◌==◌, Bool, true, false, cond, not, List, [], ◌∷◌, ◌++◌, get_or, Some, refl, ap, ◌∙◌, arith}
-use Rattle.std.specs.List.{find}
+use Rattle.std.proofs.Common.{◌≡◌, ℕ, ◌+◌, ◌<◌, ◌≤◌, ◌==◌, Bool, true, false, cond, not, List, [], ◌∷◌, ◌++◌, get_or, Some, refl, ap, ◌∙◌}
+use Rattle.std.proofs.Common.{arith}
 use Rattle.std.specs.Prelude.{Contains}
 use Rattle.std.proofs.lemmas.List.Elements.{All-map, All-push, All-filter}
 use Rattle.vs_flow.specs.Flow.{is_assigned}
-use Rattle.vs_flow.specs.Table.{Table, IsTable, entry_under, with_entry, without, next_entry, revalued}
+use Rattle.vs_flow.specs.Table.{Table, entry_under, with_entry, without, next_entry, revalued}
 use Rattle.vs_flow.specs.declared.flow.Flow.{Flow}
 use Rattle.vs_flow.proofs.Tables.{revalued-flow, with_value_sound, without_sound, with_entry_sound, IsAccepted}
-use Rattle.vs_matching.specs.Ends.{Ends, FlowEnd, entries_of}
-use Rattle.vs_matching.specs.Steps.{HasEnd, with_end, left}
-use Rattle.vs_matching.proofs.Slots.{changed_slot, found_by, one_end, removed_slot}
+use Rattle.vs_matching.specs.{Ends.Ends, Ends.FlowEnd, Ends.entries_of, Steps.HasEnd, Steps.with_end, Steps.left}
+use Rattle.vs_matching.proofs.Slots.{changed_slot, one_end, removed_slot}
 use Rattle.vs_driver_parts.specs.declared.limits.TheConstants.{LAST_PORT}
 use Rattle.vs_driver_parts.specs.State.{DriverConnection, DriverEntry, DriverState, GoneConnection}
 use Rattle.vs_driver_parts.specs.Connections.{with_connection, after_leaving, waits_no_more, is_let_go, gone_as}
@@ -21,10 +20,6 @@ use Rattle.vs_driver_log.proofs.Fits.{IsHeldBy}
 pub record Stands (s : DriverState) (e : DriverEntry) : Type 0 where
   pub under : entry_under s.table e.slot ≡ Some e
   pub contains : Contains s.table.entries e
-
-pub stands_by : (s : DriverState) (test : DriverEntry → Bool) (e : DriverEntry) → IsTable s.table → find test s.table.entries ≡ Some e
-    → entry_under s.table e.slot ≡ Some e → Stands s e
-stands_by s test e sound found under = let by = found_by test s.table.entries e found in record { under = under; contains = by.0 }
 
 pub has_end : (s : DriverState) (e : DriverEntry) → IsFitState s → Stands s e → HasEnd e.flow e.value.end (ends_of_state s)
 has_end s e fits stands = one_end end_in s.table e fits.sound stands.contains
@@ -91,13 +86,6 @@ leaves s e c fits stands =
       broken = by.2;
       replies = by.1;
     }
-
--- Listeners, those that are gone, and what is refused change nothing of the ends.
-pub list_left : (b : Bool) (s : DriverState) (e : DriverEntry)
-    → let s' : DriverState = cond b (waits_no_more e s) s in
-    (ends_of_state s' ≡ ends_of_state s) × (s'.broken ≡ s.broken) × (IsFitState s → IsFitState s')
-list_left true s e = (refl, refl, λ fits. fits)
-list_left false s e = (refl, refl, λ fits. fits)
 
 -- A connection more.
 pub opening_fits : (s : DriverState) (f : Flow) (c : DriverConnection) (port : ℕ) → IsFitState s → IsAccepted s.table f → IsFitFlow f → IsHeldBy c

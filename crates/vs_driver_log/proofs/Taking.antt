@@ -1,7 +1,9 @@
 -- A packet that is got: the driver's connections are those that the log with it leaves, and a fair one is never refused.
-use Rattle.std.proofs.Common.{◌≡◌, ℕ, ◌<◌, ◌≤◌, ◌&&◌, nat_le, Bool, true, false, cond, not, List, [], ◌∷◌, ◌++◌, Option, Some, None, refl, sym, ap, subst, ◌∙◌, arith, rules}
+use Rattle.std.proofs.Common.{◌≡◌, ℕ, ◌<◌, ◌≤◌, ◌&&◌, nat_le, Bool, true, false, cond, not, List, [], ◌∷◌, ◌++◌, Option, Some, None, refl}
+use Rattle.std.proofs.Common.{sym, ap, subst, ◌∙◌, arith, rules}
 use Rattle.std.proofs.lemmas.Bool.Decides.{nat_tests}
 use Rattle.std.proofs.lemmas.List.Elements.{All-push}
+use Rattle.std.proofs.lemmas.Bool.{and_parts}
 use Rattle.vs_conn.specs.End.{ConnectionEnd, answering, end_after, is_refused, is_reset, is_stream, verdict_of}
 use Rattle.vs_conn.specs.Follows.{IsSpace}
 use Rattle.vs_conn.specs.declared.end.Verdict.{Verdict}
@@ -11,33 +13,26 @@ use Rattle.vs_history.specs.Packets.{is_rst}
 use Rattle.vs_history.specs.Packets as packets
 use Rattle.vs_history.specs.declared.TheConstants.{BUF_ALLOC}
 use Rattle.vs_history.specs.declared.packet.Packet.{Packet}
-use Rattle.vs_flow.specs.Flow.{is_assigned, same_flow}
-use Rattle.vs_flow.specs.Table.{entry_of}
+use Rattle.vs_flow.specs.{Flow.is_assigned, Flow.same_flow, Table.entry_of}
 use Rattle.vs_flow.specs.declared.flow.Flow.{Flow}
 use Rattle.vs_flow.proofs.Tables.{IsAccepted}
-use Rattle.vs_page.specs.Fair.{IsFairLog}
-use Rattle.vs_page.specs.Held.{IsWhole}
-use Rattle.vs_page.specs.Log.{Driver, Log, flow_got, flow_to_guest, side_of}
+use Rattle.vs_page.specs.{Fair.IsFairLog, Held.IsWhole, Log.Driver, Log.Log, Log.flow_got, Log.flow_to_guest, Log.side_of}
 use Rattle.vs_page.specs.declared.log.LogEntry.TheVariants.{GotPacket}
 use Rattle.vs_page.proofs.Flows.{same_is}
 use Rattle.vs_replies.specs.Owed.{reply_to}
 use Rattle.vs_replies.specs.declared.Reply.{Reply}
-use Rattle.vs_matching.specs.Ends.{Ends, FlowEnd}
-use Rattle.vs_matching.specs.Heard.{IsInOrder, heard_of}
-use Rattle.vs_matching.specs.Matches.{Matches}
+use Rattle.vs_matching.specs.{Ends.Ends, Ends.FlowEnd, Heard.IsInOrder, Heard.heard_of, Matches.Matches}
 use Rattle.vs_matching.specs.Steps.{HasEnd, HasNone, accepted, is_message, left, taken, with_end}
 use Rattle.vs_matching.specs.Steps as steps
 use Rattle.vs_matching.proofs.Keeps.{accepts, ignores, refuses, takes}
 use Rattle.vs_matching.proofs.Fair.{got_in_order, got_is_taken, got_not_refused, heard_all}
 use Rattle.vs_matching.proofs.Slots.{added_slot, found_by, no_entry}
 use Rattle.vs_driver_parts.specs.declared.limits.TheConstants.{LAST_ID, SLOTS}
-use Rattle.vs_driver_parts.specs.Playing.{FitsPorts}
-use Rattle.vs_driver_parts.specs.State.{DriverConnection, DriverEntry, DriverState, slots_held}
+use Rattle.vs_driver_parts.specs.{Playing.FitsPorts, State.DriverConnection, State.DriverEntry, State.DriverState, State.slots_held}
 use Rattle.vs_driver_parts.specs.Listening.{has_place}
 use Rattle.vs_driver_parts.specs.Connections.{after_leaving, is_full, with_connection, with_request}
 use Rattle.vs_driver_parts.specs.Receiving.{after_packet, after_verdict, is_request, may_open, on_known, on_packet, on_unknown, with_reply}
-use Rattle.vs_driver_parts.proofs.Ids.{found_under}
-use Rattle.vs_driver_parts.proofs.Packets.{packet_known, packet_unknown}
+use Rattle.vs_driver_parts.proofs.{Ids.found_under, Packets.packet_known, Packets.packet_unknown}
 use Rattle.vs_driver_log.specs.Honest.{IsFitFlow, IsFitReply, IsFitState, end_in, ends_of_state, reply_flow, reply_flows}
 use Rattle.vs_driver_log.proofs.Fits.{IsHeldBy, packet_fits}
 use Rattle.vs_driver_log.proofs.Tabling.{Stands, connection_ends, connection_fits, entry_fits, has_end, leaves, opening_fits}
@@ -145,10 +140,6 @@ open_by f s true true false false av cv dv is = absurd cc
 answering_held : (h : Header) (id : ℕ) → IsHeldBy (record { id = id; end = answering BUF_ALLOC h; unread = []; unanswered = true; closed = false })
 answering_held h id = record { unread = refl; fits = omega arith; space = omega arith; least = omega arith; alloc = omega arith; rx_cnt = omega arith; fwd_cnt = omega arith }
 
-both : (a b : Bool) → (a && b) ≡ true → (a ≡ true) × (b ≡ true)
-both true b is = (refl, is)
-both false b is = absurd cc
-
 module _ (first : ℕ) (p : Packet) (s : DriverState) (log : Log) (fits : IsFitState s) (none : entry_of s.table (flow_to_guest p.header) ≡ None)
     (ports : FitsPorts p.header) (m : Matches Driver first (ends_of_state s) log) (fair : IsFairLog Driver (GotPacket p ∷ log)) where
   no_end : HasNone (flow_got Driver p) (ends_of_state s)
@@ -178,7 +169,7 @@ module _ (first : ℕ) (p : Packet) (s : DriverState) (log : Log) (fits : IsFitS
       let c : DriverConnection = record { id = s.next_id; end = answering BUF_ALLOC p.header; unread = []; unanswered = true; closed = false } in
       let free : IsAccepted s.table f = record { absent = none; place = omega (arith, room.place, fits.places); slot = omega (arith, fits.given, room.id) } in
       let space : IsSpace BUF_ALLOC = (omega arith, omega arith) in
-      let request : packets.is_request p ≡ true = (both (is_stream p.header) (packets.is_request p) asks).1 in
+      let request : packets.is_request p ≡ true = (and_parts (is_stream p.header) (packets.is_request p) asks).1 in
       let ends : ends_of_state (with_request f p.header s) ≡ accepted f BUF_ALLOC p.header (ends_of_state s) =
       ap (λ (es : List FlowEnd). let part : Ends = record (ends_of_state s) { entries = es } in part) (added_slot end_in s.table f c) in
       record {

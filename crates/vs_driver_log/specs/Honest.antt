@@ -1,24 +1,17 @@
 -- Where an honest ring tells the driver's log: the driver's connections are those that the log left open, and the log is fair.
 use Rattle.std.specs.Prelude.{◌≡◌, ℕ, ◌+◌, ◌<◌, ◌≤◌, ◌^◌, false, true, List, [], ◌∷◌}
-use Rattle.std.specs.List.{All}
-use Rattle.std.specs.Option.{ForSome}
+use Rattle.std.specs.{List.All, Option.ForSome}
 use Rattle.vs_conn.specs.End.{ConnectionEnd}
 use Rattle.vs_conn.specs.declared.end.State.{State}
-use Rattle.vs_flow.specs.Flow.{is_assigned}
-use Rattle.vs_flow.specs.Table.{IsTable, Table}
+use Rattle.vs_flow.specs.{Flow.is_assigned, Table.IsTable, Table.Table}
 use Rattle.vs_flow.specs.declared.flow.Flow.{Flow}
 use Rattle.vs_history.specs.declared.TheConstants.{BUF_ALLOC}
-use Rattle.vs_page.specs.Fair.{IsFairLog}
-use Rattle.vs_page.specs.Log.{Driver}
-use Rattle.vs_page.specs.Open.{is_open}
+use Rattle.vs_page.specs.{Fair.IsFairLog, Log.Driver, Open.is_open}
 use Rattle.vs_replies.specs.declared.Reply.{Reply}
-use Rattle.vs_ring_port.specs.Contents.{RingContents}
-use Rattle.vs_ring_port.specs.EndLog.{EndLog}
-use Rattle.vs_matching.specs.Ends.{Ends, entries_of, is_among}
-use Rattle.vs_matching.specs.Matches.{Matches}
+use Rattle.vs_ring_port.specs.{Contents.RingContents, EndLog.EndLog}
+use Rattle.vs_matching.specs.{Ends.Ends, Ends.entries_of, Ends.is_among, Matches.Matches}
 use Rattle.vs_driver_parts.specs.declared.limits.TheConstants.{LAST_PORT, SLOTS}
-use Rattle.vs_driver_parts.specs.Room.{HasRoom}
-use Rattle.vs_driver_parts.specs.State.{DriverConnection, DriverEntry, DriverState}
+use Rattle.vs_driver_parts.specs.{Room.HasRoom, State.DriverConnection, State.DriverEntry, State.DriverState}
 
 -- The flow to which a reply is owed.
 abbrev pub reply_flow : Reply → Flow

@@ -1,16 +1,10 @@
 -- The driver and its log between two steps of a call, where packets may be staged and not published.
-use Rattle.std.specs.Prelude.{◌≡◌, ℕ, true, List}
-use Rattle.std.specs.List.{All}
-use Rattle.std.specs.Option.{ForSome}
-use Rattle.vs_page.specs.Fair.{IsFairLog}
-use Rattle.vs_page.specs.Log.{Driver, Log}
-use Rattle.vs_ring_port.specs.Contents.{RingContents}
-use Rattle.vs_ring_port.specs.DriverCalls.{HoldsPacket}
-use Rattle.vs_ring_port.specs.EndLog.{EndLog, all_put}
+use Rattle.std.specs.{Prelude.◌≡◌, Prelude.ℕ, Prelude.true, Prelude.List, List.All, Option.ForSome}
+use Rattle.vs_page.specs.{Fair.IsFairLog, Log.Driver, Log.Log}
+use Rattle.vs_ring_port.specs.{Contents.RingContents, DriverCalls.HoldsPacket, EndLog.EndLog, EndLog.all_put}
 use Rattle.vs_ring_port.specs.declared.queue.Queue.{Queue}
 use Rattle.vs_ring_port.specs.declared.queue.Queue.TheVariants.{Tx}
-use Rattle.vs_matching.specs.Ends.{Ends}
-use Rattle.vs_matching.specs.Matches.{Matches}
+use Rattle.vs_matching.specs.{Ends.Ends, Matches.Matches}
 use Rattle.vs_driver_parts.specs.State.{DriverState}
 use Rattle.vs_driver_log.specs.Honest.{IsFitState, IsHonestWith, ends_of_state}
 

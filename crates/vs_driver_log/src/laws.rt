@@ -2,18 +2,13 @@
 
 ghost use Rattle.std.specs.Prelude.{◌≡◌, ◌<◌, ◌≤◌, ◌^◌, ℕ, List, Result};
 ghost use Rattle.vs_contents.specs.CallTree.{Leads};
-ghost use Rattle.vs_ring_port.specs.Contents.{RingContents};
-ghost use Rattle.vs_ring_port.specs.DriverCalls.{DriverAllows};
-ghost use Rattle.vs_ring_port.specs.EndLog.{EndLog};
-ghost use Rattle.vs_driver_parts.specs.declared.answers.ConnectError.{ConnectError};
-ghost use Rattle.vs_driver_parts.specs.declared.answers.Polled.{Polled};
-ghost use Rattle.vs_driver_parts.specs.declared.answers.Sent.{Sent};
+ghost use Rattle.vs_ring_port.specs.{Contents.RingContents, DriverCalls.DriverAllows, EndLog.EndLog};
+ghost use Rattle.vs_driver_parts.specs.declared.answers.{ConnectError.ConnectError, Polled.Polled, Sent.Sent};
 ghost use Rattle.vs_driver_parts.specs.declared.limits.TheConstants.{LAST_PORT};
 ghost use Rattle.vs_driver_parts.specs.State.{DriverState};
 ghost use Rattle.vs_driver_parts.specs.Connections.{after_close, after_recv, after_shutdown, after_unlisten, table_shown};
 ghost use Rattle.vs_driver_parts.specs.Conversations.{DriverTree, connect_of, new_of, poll_of, send_of};
-ghost use Rattle.vs_driver_parts.specs.Listening.{after_accept, listening};
-ghost use Rattle.vs_driver_parts.specs.Playing.{MayPublishAll, Plays};
+ghost use Rattle.vs_driver_parts.specs.{Listening.after_accept, Listening.listening, Playing.MayPublishAll, Playing.Plays};
 ghost use Rattle.vs_driver_log.specs.Honest.{AgreesWith, IsFresh, IsHonestWith, IsLeftOpen};
 
 /// Over an honest ring all that a call puts may be put: it keeps the log fair, so the driver never exceeds the credit that was advertised.

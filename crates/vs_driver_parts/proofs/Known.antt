@@ -1,14 +1,15 @@
 -- A connection by the id that the application knows it by.
-use Rattle.std.proofs.Common.{◌≡◌, ℕ, true, not, [], Option, Some, None, refl, sym, ap, ◌∙◌, arith}
+use Rattle.std.proofs.Common.{◌≡◌, ℕ, true, not, Option, Some, None, refl, sym, ap, ◌∙◌, arith}
 use Rattle.std.specs.Option.{option_map}
 use Rattle.std.proofs.lemmas.Bool.Decides.{nat_tests}
 use Rattle.vs_flow.specs.Table.{IsTable, entry_under}
 use Rattle.vs_flow.proofs.Entries.{found_passes}
 use Rattle.vs_driver_parts.specs.State.{DriverEntry, DriverState, GoneConnection, is_known_as, entry_known_as, gone_known_as}
 use Rattle.vs_driver_parts.specs.declared.answers.Closed.TheVariants as closed
-use Rattle.vs_driver_parts.specs.declared.answers.Received.TheVariants as got
 use Rattle.vs_driver_parts.specs.Listening.{is_answered}
-use Rattle.vs_driver_parts.specs.Connections.{close_of, is_known, after_close, entry_closed, shutdown_of, shut_answer, after_shutdown, shut_in, recv_of, entry_answer, gone_answer, unread_of_id, after_recv, entry_read, all_gone_after_read, flow_of, state_of, state_shown}
+use Rattle.vs_driver_parts.specs.Connections.{close_of, is_known, after_close, entry_closed, shutdown_of, shut_answer, after_shutdown}
+use Rattle.vs_driver_parts.specs.Connections.{shut_in, recv_of, entry_answer, gone_answer, unread_of_id, after_recv, entry_read}
+use Rattle.vs_driver_parts.specs.Connections.{all_gone_after_read, flow_of}
 use Rattle.vs_driver_parts.proofs.Ids.{found_under}
 
 pub record IsMapped {X Y : Type 0} (f : X → Y) (o : Option X) (y : Y) : Type 0 where
@@ -76,16 +77,10 @@ module _ (id : ℕ) (s : DriverState) (e : DriverEntry) (known : entry_known_as 
   pub flow_known : flow_of id s ≡ Some e.flow
   flow_known = rw (known, flow_of) refl
 
-  pub state_known : state_of id s ≡ state_shown e.value.end.state
-  state_known = rw (known, state_of) refl
-
   pub answered_known : is_answered s id ≡ not e.value.unanswered
   answered_known = rw (known, is_answered) refl
 
 module _ (id : ℕ) (s : DriverState) (unknown : entry_known_as id s ≡ None) where
-  pub recv_gone_none : (n : ℕ) → gone_known_as id s ≡ None → recv_of id n s ≡ got.Unknown
-  recv_gone_none n none = rw (unknown, none, recv_of) refl
-
   pub recv_gone_some : (n : ℕ) (g : GoneConnection) → gone_known_as id s ≡ Some g → recv_of id n s ≡ gone_answer n g
   recv_gone_some n g some = rw (unknown, some, recv_of) refl
 
@@ -94,9 +89,6 @@ module _ (id : ℕ) (s : DriverState) (unknown : entry_known_as id s ≡ None) w
 
   pub after_recv_gone : (n : ℕ) → after_recv id n s ≡ record s { gone = all_gone_after_read id n s.gone }
   after_recv_gone n = rw (unknown, after_recv) refl
-
-  pub unread_gone_none : gone_known_as id s ≡ None → unread_of_id id s ≡ []
-  unread_gone_none none = rw (unknown, none, unread_of_id) refl
 
   pub unread_gone_some : (g : GoneConnection) → gone_known_as id s ≡ Some g → unread_of_id id s ≡ g.unread
   unread_gone_some g some = rw (unknown, some, unread_of_id) refl

@@ -1,5 +1,6 @@
 -- Places in lists: code finds the one element with a property by its place, and writes there or removes it.
-use Rattle.std.proofs.Common.{◌≡◌, ◌≢◌, ℕ, zero, suc, ◌+◌, ◌<◌, ◌==◌, Bool, true, false, not, cond, List, [], ◌∷◌, length, map, get_or, set, ltb, drop, Option, Some, None, is_some, refl, sym, ap, ◌∙◌, arith, drop-cons, add-one, ◌≤◌}
+use Rattle.std.proofs.Common.{◌≡◌, ◌≢◌, ℕ, zero, suc, ◌+◌, ◌<◌, ◌==◌, Bool, true, false, not, cond, List, [], ◌∷◌, length, map, get_or, set}
+use Rattle.std.proofs.Common.{ltb, drop, Option, Some, None, is_some, refl, sym, ap, ◌∙◌, arith, drop-cons, add-one, ◌≤◌}
 use Rattle.std.proofs.Math.ListN.{drop_of_length-le}
 use Rattle.std.specs.List.{All, AllPairs, find, filter, remove, position, position_or_len, slice_get}
 use Rattle.std.proofs.lemmas.List.Folds.{find_at}

@@ -1,17 +1,15 @@
 -- The numbers of connections after each change of the slots.
-use Rattle.std.proofs.Common.{◌≡◌, ◌≢◌, ℕ, suc, take, drop, ◌+◌, ◌<◌, ◌≤◌, ◌==◌, Bool, true, false, not, List, [], ◌∷◌, ◌++◌, length, get_or, set, Some, refl, sym, ap, ◌∙◌, arith, length-set}
+use Rattle.std.proofs.Common.{◌≡◌, ◌≢◌, ℕ, suc, take, drop, ◌+◌, ◌<◌, ◌≤◌, ◌==◌, Bool, true, false, not, List, [], ◌∷◌, ◌++◌, length}
+use Rattle.std.proofs.Common.{get_or, Some, refl, sym, ap, ◌∙◌, arith}
 use Rattle.std.specs.List.{All, filter, remove}
 use Rattle.std.proofs.lemmas.Bool.Decides.{nat_tests}
-use Rattle.std.proofs.lemmas.List.{get_or-set_same, get_or-set_other}
 use Rattle.std.proofs.lemmas.List.Elements.{All-append, All-drop, All-map, All-push, All-take, All-filter, filter_passes}
-use Rattle.std.proofs.lemmas.List.Kept.{AllPairs-filter}
-use Rattle.std.proofs.lemmas.List.Quantifiers.{all_pairs_push, all_pairs_remove}
+use Rattle.std.proofs.lemmas.List.{Kept.AllPairs-filter, Quantifiers.all_pairs_push, Quantifiers.all_pairs_remove}
 use Rattle.vs_flow.specs.Flow.{is_assigned}
 use Rattle.vs_flow.specs.Table.{Table, IsTable, entry_under, value_under, with_value, with_entry, without, next_entry, revalued}
 use Rattle.vs_flow.specs.declared.flow.Flow.{Flow}
 use Rattle.vs_flow.proofs.Tables.{revalued-slot, revalued-flow}
-use Rattle.vs_driver_parts.specs.State.{DriverConnection, DriverEntry, GoneConnection}
-use Rattle.vs_driver_parts.specs.SlotFields.{AreNumbered}
+use Rattle.vs_driver_parts.specs.{State.DriverConnection, State.DriverEntry, State.GoneConnection, SlotFields.AreNumbered}
 use Rattle.vs_driver_parts.proofs.Ids.{HasId, under, entry_has}
 
 All_remove : {X : Type 0} (P : X → Type 0) (xs : List X) (i : ℕ) → All P xs → All P (remove xs i)
@@ -95,29 +93,6 @@ module _ (first port next : ℕ) (t : Table DriverConnection) (gone : List GoneC
             (λ k d lt same. entry_has (λ (y : DriverEntry). y.value.id ≢ (get_or gone k d).id) here t.entries e (kept.apart k d lt) found (sym id ∙ sym same));
         ports = rest.ports;
       }
-
-  pub numbers_gone_changed : (i : ℕ) (m : GoneConnection) → i < length gone → ((d : GoneConnection) → m.id ≡ (get_or gone i d).id)
-      → AreNumbered first port next t (set gone i m)
-  numbers_gone_changed i m within is =
-      let same : (k : ℕ) (d : GoneConnection) → (get_or (set gone i m) k d).id ≡ (get_or gone k d).id = λ k d. by k d (k == i) refl in
-      record {
-        given = kept.given;
-        slots = kept.slots;
-        below = λ k d lt. let shorter : k < length gone = omega (arith, lt, length-set gone i m) in rw (same k d) (kept.below k d shorter);
-        apart = λ k d lt. let shorter : k < length gone = omega (arith, lt, length-set gone i m) in rw (same k d) (kept.apart k d shorter);
-        distinct = λ j k d less lt.
-            let shorter : k < length gone = omega (arith, lt, length-set gone i m) in rw (same j d, same k d) (kept.distinct j k d less shorter);
-        ports = kept.ports;
-      }
-    where
-      by : (k : ℕ) (d : GoneConnection) (b : Bool) → (k == i) ≡ b → (get_or (set gone i m) k d).id ≡ (get_or gone k d).id
-      by k d true at =
-          let here : k ≡ i = grind (arith, nat_tests, at) in
-          ap (λ (n : ℕ). (get_or (set gone i m) n d).id) here ∙ (ap (λ (x : GoneConnection). x.id) (get_or-set_same gone i m d within)
-          ∙ (is d ∙ ap (λ (n : ℕ). (get_or gone n d).id) (sym here)))
-      by k d false at =
-          let other : k ≢ i = grind (arith, nat_tests, at) in
-          ap (λ (x : GoneConnection). x.id) (get_or-set_other gone i k m d other)
 
   pub numbers_gone_without : (p : GoneConnection → Bool) → AreNumbered first port next t (filter p gone)
   numbers_gone_without p = record {

@@ -1,19 +1,18 @@
 -- What a packet of a connection, and a transport reset, come to.
-use Rattle.std.proofs.Common.{◌≡◌, ◌≢◌, ℕ, ◌+◌, ◌<◌, ◌==◌, Bool, true, false, not, cond, List, [], ◌∷◌, ◌++◌, length, map, Some, None, refl, sym, ap, subst, ◌∙◌, arith, eq-eqb, length-append}
-use Rattle.std.specs.List.{AllPairs, filter, slice_get}
-use Rattle.std.specs.Option.{option_map}
+use Rattle.std.proofs.Common.{◌≡◌, ◌≢◌, ℕ, ◌+◌, ◌<◌, ◌==◌, Bool, true, false, not, cond, List, [], ◌∷◌, ◌++◌, length, map, Some, None, refl}
+use Rattle.std.proofs.Common.{sym, ap, subst, ◌∙◌, arith, eq-eqb, length-append}
+use Rattle.std.specs.{List.AllPairs, List.filter, List.slice_get, Option.option_map}
 use Rattle.vs_conn.specs.End.{is_refused}
 use Rattle.vs_conn.specs.declared.end.Verdict.{Verdict}
 use Rattle.vs_conn.specs.declared.end.Verdict.TheVariants as verdict
 use Rattle.vs_flow.specs.Table.{Table, IsTable, entry_of, entry_under, with_value, without, revalued}
-use Rattle.vs_flow.proofs.Entries.{found_at}
-use Rattle.vs_flow.proofs.Tables.{revalued-slot}
-use Rattle.vs_flow.proofs.Lookups.{entry_under-with_value}
+use Rattle.vs_flow.proofs.{Entries.found_at, Tables.revalued-slot, Lookups.entry_under-with_value}
 use Rattle.vs_history.specs.declared.packet.Packet.{Packet}
 use Rattle.vs_page.specs.Log.{flow_to_guest}
 use Rattle.vs_driver_parts.specs.State.{DriverConnection, DriverEntry, DriverState}
 use Rattle.vs_driver_parts.specs.Connections.{with_connection, leaves_list, after_leaving, waits_no_more, is_let_go, gone_as}
-use Rattle.vs_driver_parts.specs.Receiving.{on_packet, on_known, on_unknown, after_verdict, after_packet, ends_connection, with_reply, reset_reply, all_left}
+use Rattle.vs_driver_parts.specs.Receiving.{on_packet, on_known, on_unknown, after_verdict, after_packet, ends_connection, with_reply}
+use Rattle.vs_driver_parts.specs.Receiving.{reset_reply, all_left}
 use Rattle.vs_wrap.specs.Wrap.{counted}
 use Rattle.vs_driver_parts.proofs.Lists.{AtMostOnePasses, one_passes, kept_none}
 
@@ -54,9 +53,6 @@ left_by false e c s =
     ap (λ (t : Table DriverConnection). record s { table = t; gone = cond (is_let_go e.value) s.gone (s.gone ++ gone_as e ∷ []) }) (without_changed s.table e.slot c)
 
 module _ (p : Packet) (e : DriverEntry) (s : DriverState) (slot : ℕ) (at : e.slot ≡ slot) where
-  changed : Verdict → DriverEntry
-  changed v = with_its e (after_packet v p e.value)
-
   pub refused : (v : Verdict) (m new : DriverState) → is_refused v ≡ true → m ≡ with_connection slot (after_packet v p e.value) s
       → new ≡ leaves_list (with_its e (after_packet v p e.value)) (record m { broken = counted m.broken }) → new ≡ after_verdict v p e s
   refused (verdict.Rst why) m new true_is mid is =

@@ -7,9 +7,7 @@ use Rattle.vs_conn.specs.declared.end.State.TheVariants as state
 use Rattle.vs_conn.specs.declared.end.Verdict.{Verdict}
 use Rattle.vs_conn.specs.declared.end.Verdict.TheVariants as verdict
 use Rattle.vs_history.specs.declared.packet.Packet.{Packet}
-use Rattle.vs_driver_parts.specs.State.{DriverConnection}
-use Rattle.vs_driver_parts.specs.Connections.{paid_connection, after_closing}
-use Rattle.vs_driver_parts.specs.Receiving.{after_packet}
+use Rattle.vs_driver_parts.specs.{State.DriverConnection, Connections.paid_connection, Connections.after_closing, Receiving.after_packet}
 
 pub paid_id : (what : Owed) (c : DriverConnection) → (paid_connection what c).id ≡ c.id
 paid_id owed.Response c = refl

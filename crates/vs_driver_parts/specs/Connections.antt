@@ -1,8 +1,8 @@
 -- What the driver's calls do to its connections, apart from the ring.
-use Rattle.std.specs.Prelude.{ℕ, ◌+◌, ◌==◌, ◌||◌, not, min, nat_lt, nat_le, Bool, true, false, if◌then◌else◌, List, [], ◌∷◌, ◌++◌, length, map, filter, take, drop, Option, Some, None, is_some}
+use Rattle.std.specs.Prelude.{ℕ, ◌+◌, ◌==◌, ◌||◌, not, min, nat_lt, nat_le, Bool, true, false, if◌then◌else◌, List, [], ◌∷◌, ◌++◌, length}
+use Rattle.std.specs.Prelude.{map, filter, take, drop, Option, Some, None, is_some}
 use Rattle.std.specs.Option.{option_map, option_map_or}
-use Rattle.vs_flow.specs.Flow.{is_assigned}
-use Rattle.vs_flow.specs.Table.{with_entry, with_value, without}
+use Rattle.vs_flow.specs.{Flow.is_assigned, Table.with_entry, Table.with_value, Table.without}
 use Rattle.vs_flow.specs.declared.flow.Flow.{Flow}
 use Rattle.vs_header.specs.declared.Header.{Header}
 use Rattle.vs_history.specs.declared.TheConstants.{BUF_ALLOC}
@@ -24,8 +24,8 @@ use Rattle.vs_driver_parts.specs.declared.answers.Received.TheVariants as got
 use Rattle.vs_driver_parts.specs.declared.answers.Shut.{Shut}
 use Rattle.vs_driver_parts.specs.declared.answers.Shut.TheVariants as shut
 use Rattle.vs_driver_parts.specs.declared.limits.TheConstants.{LAST_PORT, LAST_ID, SLOTS}
-use Rattle.vs_driver_parts.specs.State.{DriverConnection, GoneConnection, Listener, DriverState, DriverEntry, slots_held, entry_known_as, gone_known_as}
-use Rattle.vs_driver_parts.specs.Listening.{with_waiting, without_id, listener_on}
+use Rattle.vs_driver_parts.specs.State.{DriverConnection, GoneConnection, Listener, DriverState, DriverEntry, slots_held, entry_known_as}
+use Rattle.vs_driver_parts.specs.{State.gone_known_as, Listening.with_waiting, Listening.without_id, Listening.listener_on}
 
 -- The driver with another connection in the place of an entry's.
 abbrev pub with_connection : ℕ → DriverConnection → DriverState → DriverState

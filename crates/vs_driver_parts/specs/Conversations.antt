@@ -1,5 +1,6 @@
 -- The driver's calls on its ring, in their order, and what each call of the driver answers (Virtio 1.2, section 5.10.6).
-use Rattle.std.specs.Prelude.{ℕ, ◌+◌, ◌-◌, ◌==◌, min, nat_lt, nat_le, Bool, true, false, if◌then◌else◌, List, [], ◌∷◌, ◌++◌, length, take, Option, Some, None, is_some, Result, Ok, Err}
+use Rattle.std.specs.Prelude.{ℕ, ◌+◌, ◌-◌, ◌==◌, min, nat_lt, nat_le, Bool, true, false, if◌then◌else◌, List, [], ◌∷◌, ◌++◌, length, take}
+use Rattle.std.specs.Prelude.{Option, Some, None, is_some, Result, Ok, Err}
 use Rattle.vs_contents.specs.CallTree.{CallTree, Done, Ask, bind, for_each, while_up_to}
 use Rattle.vs_header.specs.Packet.{header_bytes}
 use Rattle.vs_header.specs.declared.Header.{Header}
@@ -14,20 +15,19 @@ use Rattle.vs_history.specs.declared.TheConstants.{BUF_ALLOC}
 use Rattle.vs_page.specs.declared.page.TheConstants.{PAYLOAD_MAX}
 use Rattle.vs_page.specs.declared.log.TheConstants.{HOST_CID}
 use Rattle.vs_replies.specs.declared.Reply.{Reply}
-use Rattle.vs_ring_port.specs.declared.queue.Queue.{Queue}
+use Rattle.vs_ring_port.specs.declared.queue.{Queue.Queue, TheConstants.STAGED_MAX}
 use Rattle.vs_ring_port.specs.declared.queue.Queue.TheVariants.{Rx, Tx, Event}
-use Rattle.vs_ring_port.specs.declared.queue.TheConstants.{STAGED_MAX}
 use Rattle.vs_ring_port.specs.DriverCalls.{DriverCall, DriverAnswer, Stage, Publish, Reap, LoadCid}
 use Rattle.vs_driver_parts.specs.declared.answers.ConnectError.{ConnectError}
 use Rattle.vs_driver_parts.specs.declared.answers.ConnectError.TheVariants as refused
-use Rattle.vs_driver_parts.specs.declared.answers.Polled.{Polled}
-use Rattle.vs_driver_parts.specs.declared.answers.Sent.{Sent}
+use Rattle.vs_driver_parts.specs.declared.answers.{Polled.Polled, Sent.Sent}
 use Rattle.vs_driver_parts.specs.declared.answers.Sent.TheVariants as sent
 use Rattle.vs_driver_parts.specs.declared.tally.Tally.{Tally}
 use Rattle.vs_driver_parts.specs.declared.limits.TheConstants.{REPLIES_FULL, SLOTS}
 use Rattle.vs_conn.specs.declared.end.TheConstants.{OWED_MAX}
 use Rattle.vs_driver_parts.specs.State.{DriverState, DriverEntry, entry_known_as, gone_known_as}
-use Rattle.vs_driver_parts.specs.Connections.{with_end, with_connection, route_to_host, next_flow, connect_refusal, connected, after_leaving, paid_connection}
+use Rattle.vs_driver_parts.specs.Connections.{with_end, with_connection, route_to_host, next_flow, connect_refusal, connected}
+use Rattle.vs_driver_parts.specs.Connections.{after_leaving, paid_connection}
 use Rattle.vs_driver_parts.specs.Receiving.{on_page, is_reset_event, after_reset}
 
 abbrev pub DriverTree : Type 0 → Type 0

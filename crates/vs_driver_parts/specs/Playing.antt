@@ -1,17 +1,13 @@
 -- How a driver and its ring belong together, and what it takes to make a call.
-use Rattle.std.specs.Prelude.{◌≡◌, ℕ, ◌<◌, ◌^◌, List, Option, Some}
-use Rattle.std.specs.Option.{ForSome}
+use Rattle.std.specs.{Prelude.◌≡◌, Prelude.ℕ, Prelude.◌<◌, Prelude.◌^◌, Prelude.List, Prelude.Option, Prelude.Some, Option.ForSome}
 use Rattle.vs_contents.specs.CallTree.{Leads, MayPlay}
 use Rattle.vs_header.specs.declared.Header.{Header}
 use Rattle.vs_page.specs.Held.{packet_held}
-use Rattle.vs_ring_port.specs.declared.queue.Queue.{Queue}
+use Rattle.vs_ring_port.specs.declared.queue.{Queue.Queue, TheConstants.STAGED_MAX}
 use Rattle.vs_ring_port.specs.declared.queue.Queue.TheVariants.{Rx}
-use Rattle.vs_ring_port.specs.declared.queue.TheConstants.{STAGED_MAX}
-use Rattle.vs_ring_port.specs.Contents.{RingContents}
-use Rattle.vs_ring_port.specs.Counts.{Counts, no_counts, with_count}
+use Rattle.vs_ring_port.specs.{Contents.RingContents, Counts.Counts, Counts.no_counts, Counts.with_count}
 use Rattle.vs_ring_port.specs.DriverCalls.{DriverCall, DriverAnswer, Stage, Publish, Reap, LoadCid, DriverAllows, CanPublish}
-use Rattle.vs_driver_parts.specs.State.{DriverState}
-use Rattle.vs_driver_parts.specs.Conversations.{DriverTree}
+use Rattle.vs_driver_parts.specs.{State.DriverState, Conversations.DriverTree}
 
 -- The counts of pages stay.
 abbrev pub SamePages : DriverState → DriverState → Type 0

@@ -7,18 +7,15 @@ use Rattle.vs_history.specs.declared.packet.Packet.{Packet}
 use Rattle.vs_conn.specs.End.{verdict_of, end_after, is_stream, is_reset}
 use Rattle.vs_conn.specs.declared.end.Verdict.{Verdict}
 use Rattle.vs_conn.specs.declared.end.Verdict.TheVariants as verdict
-use Rattle.vs_flow.specs.Flow.{is_assigned}
-use Rattle.vs_flow.specs.Table.{entry_of}
+use Rattle.vs_flow.specs.{Flow.is_assigned, Table.entry_of}
 use Rattle.vs_flow.specs.declared.flow.Flow.{Flow}
-use Rattle.vs_page.specs.Held.{packet_held, event_held}
-use Rattle.vs_page.specs.Log.{flow_to_guest}
+use Rattle.vs_page.specs.{Held.packet_held, Held.event_held, Log.flow_to_guest}
 use Rattle.vs_replies.specs.Owed.{reply_to}
 use Rattle.vs_replies.specs.declared.Reply.{Reply}
 use Rattle.vs_driver_parts.specs.declared.limits.TheConstants.{LAST_ID}
-use Rattle.vs_driver_parts.specs.State.{DriverConnection, DriverState, DriverEntry}
-use Rattle.vs_driver_parts.specs.Listening.{has_place}
-use Rattle.vs_wrap.specs.Wrap.{counted}
+use Rattle.vs_driver_parts.specs.{State.DriverConnection, State.DriverState, State.DriverEntry, Listening.has_place}
 use Rattle.vs_driver_parts.specs.Connections.{with_connection, with_request, is_full, leaves_list, after_leaving}
+use Rattle.vs_wrap.specs.Wrap.{counted}
 
 abbrev pub with_reply : Reply → DriverState → DriverState
 with_reply reply s = record s { replies = s.replies ++ reply ∷ [] }

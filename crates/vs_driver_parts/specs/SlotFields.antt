@@ -1,12 +1,10 @@
 -- What always holds of the fields of the driver's slots. No public clause cites this module.
 use Rattle.std.specs.Prelude.{◌≡◌, ◌≢◌, ℕ, false, ◌+◌, ◌<◌, ◌≤◌, AllPairs, List, length, vec_capacity}
 use Rattle.std.specs.List.{All}
-use Rattle.vs_flow.specs.Flow.{is_assigned}
-use Rattle.vs_flow.specs.Table.{Table, IsTable}
+use Rattle.vs_flow.specs.{Flow.is_assigned, Table.Table, Table.IsTable}
 use Rattle.vs_driver_parts.specs.declared.limits.TheConstants.{SLOTS, LAST_ID, LAST_PORT}
 use Rattle.vs_driver_parts.specs.declared.slots.Slots.TheInside.{Inside}
-use Rattle.vs_driver_parts.specs.Room.{IsSpare}
-use Rattle.vs_driver_parts.specs.State.{DriverConnection, GoneConnection}
+use Rattle.vs_driver_parts.specs.{Room.IsSpare, State.DriverConnection, State.GoneConnection}
 
 -- A slot and an id are given together, from the first id on; an id that is gone is none of the table's, and is there once. The flow of a
 -- connection that this side opened has a guest port below the next.

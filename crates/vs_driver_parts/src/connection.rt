@@ -1,8 +1,8 @@
 //! A connection of the driver's table: its end, and the bytes that came in on it and weren't read.
 
 ghost use Rattle.std.specs.Prelude.{◌≡◌, ◌≤◌, ◌==◌, ◌+◌, ◌++◌, [], true, false, Some, length, min, take, drop};
-ghost use Rattle.vs_conn.specs.End.{CanSend, asked, answering, may_send_of, may_shut, owes_of, paid_of, verdict_of, view_of, wanting_credit, with_payload_sent};
-ghost use Rattle.vs_conn.specs.Headers.{owed_header, payload_header};
+ghost use Rattle.vs_conn.specs.End.{CanSend, asked, answering, may_send_of, may_shut, owes_of, paid_of, verdict_of, view_of};
+ghost use Rattle.vs_conn.specs.{End.wanting_credit, End.with_payload_sent, Headers.owed_header, Headers.payload_header};
 ghost use Rattle.vs_conn.specs.declared.end.Owed.TheVariants as owed;
 ghost use Rattle.vs_conn.specs.declared.end.State.TheVariants.{Live};
 ghost use Rattle.vs_credit.specs.Credit.{free_of};
@@ -10,8 +10,7 @@ ghost use Rattle.vs_history.specs.declared.TheConstants.{BUF_ALLOC};
 ghost use Rattle.vs_history.specs.declared.packet.Packet.{Packet};
 ghost use Rattle.vs_page.specs.Held.{IsWhole};
 ghost use Rattle.vs_driver_parts.specs.Connections.{after_read, after_shut, after_closing, paid_connection, is_let_go};
-ghost use Rattle.vs_driver_parts.specs.Receiving.{after_packet};
-ghost use Rattle.vs_driver_parts.specs.Room.{IsSpare};
+ghost use Rattle.vs_driver_parts.specs.{Receiving.after_packet, Room.IsSpare};
 
 use crate::answers::ConnId;
 use std::marker::Model;

@@ -1,6 +1,6 @@
 //! The ports that are listened on, and the connections that wait there to be accepted.
 
-ghost use Rattle.std.specs.Prelude.{◌≡◌, ◌≤◌, ◌<◌, ◌==◌, ◌∷◌, ◌++◌, [], true, false, length, nat_lt, nat_le, is_some, position, filter, find, not, IfOk, IfSome, Some};
+ghost use Rattle.std.specs.Prelude.{◌≡◌, ◌<◌, ◌==◌, [], true, false, length, nat_le, is_some, position, IfOk, Some};
 ghost use Rattle.std.specs.Option.{option_map_or};
 ghost use Rattle.vs_driver_parts.specs.declared.limits.TheConstants.{LISTENERS, WAITING};
 ghost use Rattle.vs_driver_parts.specs.Listening.{listener_on, with_waiting, waiting_too, without_id, has_place, with_port};

@@ -1,8 +1,8 @@
 //! The driver's transmit pages: those that are free, how many are in flight, and how many pages of the queue in work are staged.
 
-ghost use Rattle.std.specs.Prelude.{◌≡◌, [], ◌+◌, ◌-◌, ◌<◌, ◌≤◌, ◌==◌, false, true, length, vec_capacity, if◌then◌else◌, nat_lt, IfOk, OnOk, IfSome, OnSome, IfNone};
+ghost use Rattle.std.specs.Prelude.{◌≡◌, [], ◌+◌, ◌-◌, ◌<◌, ◌≤◌, ◌==◌, length, vec_capacity, nat_lt, IfOk};
 ghost use Rattle.std.specs.List.{All};
-ghost use Rattle.vs_ring_port.specs.declared.queue.TheConstants.{QUEUE_SIZE_MAX, STAGED_MAX};
+ghost use Rattle.vs_ring_port.specs.declared.queue.TheConstants.{STAGED_MAX};
 ghost use Rattle.vs_driver_parts.specs.PageCounts.{PageCounts};
 
 use std::alloc::{AllocError, Global};

@@ -1,8 +1,8 @@
 //! The driver's slots: connections of the table, those that are gone and not closed, and the buffers of free slots.
 
-ghost use Rattle.std.specs.Prelude.{◌≡◌, ◌<◌, ◌≤◌, ◌++◌, ◌==◌, [], true, false, length, min, take, drop, find, Some, None, IfOk, IfSome, IfNone, IsSomeAnd, option_copied, position, remove, slice_get, ◌^◌, vec_capacity};
-ghost use Rattle.std.specs.List.{All};
-ghost use Rattle.std.specs.Option.{option_map, option_and_then};
+ghost use Rattle.std.specs.Prelude.{◌≡◌, ◌<◌, ◌≤◌, ◌++◌, ◌==◌, [], true, false, length, min, take, drop, find, Some, None, IfOk, IfSome};
+ghost use Rattle.std.specs.Prelude.{IfNone, IsSomeAnd, option_copied, position, remove, slice_get, ◌^◌, vec_capacity};
+ghost use Rattle.std.specs.{List.All, Option.option_map};
 ghost use Rattle.vs_conn.specs.Headers.{owed_header, payload_header};
 ghost use Rattle.vs_conn.specs.End.{CanSend, answering, may_send_of, owes_of, verdict_of, may_shut, with_payload_sent, wanting_credit};
 ghost use Rattle.vs_conn.specs.declared.end.State.TheVariants.{Live};
@@ -11,11 +11,10 @@ ghost use Rattle.vs_flow.specs.Flow.{is_assigned};
 ghost use Rattle.vs_flow.specs.Table.{IsTable, entry_of, entry_under, slots, value_under, with_entry};
 ghost use Rattle.vs_history.specs.declared.packet.Packet.{Packet};
 ghost use Rattle.vs_page.specs.Held.{IsWhole};
-ghost use Rattle.vs_driver_parts.specs.declared.limits.TheConstants.{FIRST_PORT, LAST_PORT, LAST_ID, SLOTS};
+ghost use Rattle.vs_driver_parts.specs.declared.limits.TheConstants.{LAST_PORT, LAST_ID, SLOTS};
 ghost use Rattle.vs_driver_parts.specs.State.{DriverEntry, DriverConnection, GoneConnection, is_known_as};
-ghost use Rattle.vs_driver_parts.specs.Connections.{route_to_host, after_read, after_shut, after_closing, paid_connection, without_gone, all_gone_after_read};
-ghost use Rattle.vs_driver_parts.specs.Receiving.{after_packet};
-ghost use Rattle.vs_driver_parts.specs.Room.{IsSpare};
+ghost use Rattle.vs_driver_parts.specs.Connections.{route_to_host, after_read, after_shut, after_closing, paid_connection, without_gone};
+ghost use Rattle.vs_driver_parts.specs.{Connections.all_gone_after_read, Receiving.after_packet, Room.IsSpare};
 ghost use Rattle.vs_driver_parts.specs.Held.{KnowsNone, no_slots, held_in, with_asked_in, with_answering_in, with_connection_in, left_in};
 
 use crate::answers::ConnId;

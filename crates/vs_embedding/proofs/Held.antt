@@ -1,9 +1,8 @@
 -- The first chain of a list that is a given one, found by its place.
-use Rattle.std.proofs.Common.{inl, inr, refl, ◌≡◌, ℕ, zero, suc, ◌<◌, true, false, List, [], ◌∷◌, length, get_or, Some, Contains, sym, ap, ◌∙◌, arith}
-use Rattle.std.specs.List.{position, remove, position_or_len}
-use Rattle.std.specs.Option.{IsSome}
-use Rattle.std.proofs.lemmas.List.Sums.{fails_before_first, passes_at_first}
-use Rattle.std.proofs.lemmas.List.Quantifiers.{position-Some}
+use Rattle.std.proofs.Common.{inl, inr, refl, ◌≡◌, ℕ, zero, suc, ◌<◌, true, false, List, [], ◌∷◌, length, get_or, Some, Contains, sym, ap}
+use Rattle.std.proofs.Common.{◌∙◌, arith}
+use Rattle.std.specs.{List.position, List.remove, List.position_or_len, Option.IsSome}
+use Rattle.std.proofs.lemmas.List.{Sums.fails_before_first, Quantifiers.position-Some}
 use Rattle.std.proofs.lemmas.Bool.{false≢true, cases_lt, lt-ltb}
 use Rattle.vs_ring_port.specs.declared.device_ring.Chain.{Chain}
 use Rattle.vs_ring_port.specs.Chains.{same_chain, same_queue, without}

@@ -1,7 +1,6 @@
 -- What a monitor's ring keeps: the size of its queues, the chains that the device holds, newest first, and for how many it has room.
 use Rattle.std.specs.Prelude.{ℕ, List, None, false}
-use Rattle.vs_device_parts.specs.Calls.{Situation}
-use Rattle.vs_device_parts.specs.Playing.{IsItsRing, situation}
+use Rattle.vs_device_parts.specs.{Calls.Situation, Playing.IsItsRing, Playing.situation}
 use Rattle.vs_proxy_log.specs.Order.{IsInOrder}
 use Rattle.vs_ring_port.specs.Contents.{RingContents}
 use Rattle.vs_ring_port.specs.declared.device_ring.Chain.{Chain}

@@ -1,7 +1,5 @@
 //! A host of the monitor's own: a log collector inside the monitor.
 
-ghost use Rattle.std.specs.Prelude.{◌≡◌};
-
 use vs_flow::Flow;
 use vs_outside::{Accepted, Dialed, HostNet, Started, StreamRead, StreamWrite};
 

@@ -1,8 +1,8 @@
 //! A monitor's own virtqueues as the device's end of the rings.
 
 ghost use Rattle.std.specs.Prelude.{◌≡◌, ◌<◌, ◌≤◌, ◌*◌, ℕ, [], length, IfOk, IfSome, IsNone, Contains};
-ghost use Rattle.vs_ring_port.specs.declared.queue.TheConstants.{QUEUE_SIZE_MAX};
 ghost use Rattle.std.specs.List.{position};
+ghost use Rattle.vs_ring_port.specs.declared.queue.TheConstants.{QUEUE_SIZE_MAX};
 ghost use Rattle.vs_ring_port.specs.Chains.{chain_of, held_after, IsLongEnough, same_chain, without};
 
 use std::alloc::{AllocError, Global};

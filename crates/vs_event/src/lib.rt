@@ -76,26 +76,3 @@ impl OwedEvent {
         self.owed = false;
     }
 }
-
-#[cfg(test)]
-mod tests {
-    use super::*;
-
-    #[test]
-    fn record_to_and_from_bytes(rt: HostRuntime) {
-        assert_eq!(rt; event_bytes(TRANSPORT_RESET), [0, 0, 0, 0]);
-        assert_eq!(rt; event_bytes(0x0102_0304), [4, 3, 2, 1]);
-        assert_eq!(rt; event_of(&[4, 3, 2, 1]), 0x0102_0304);
-    }
-
-    #[test]
-    fn two_resets_owe_one_event(rt: HostRuntime) {
-        let mut event = OwedEvent::new();
-        assert_eq!(rt; event.owed(), false);
-        event.owe();
-        event.owe();
-        assert_eq!(rt; event.owed(), true);
-        event.paid();
-        assert_eq!(rt; event.owed(), false);
-    }
-}

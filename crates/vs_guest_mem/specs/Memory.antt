@@ -1,7 +1,7 @@
 -- A guest's memory, and what others write into it between a device's accesses. An access is one read or write of one contiguous
 -- piece of at least one byte.
-use Rattle.std.specs.Prelude.{ℕ, ◌+◌, ◌-◌, ◌<◌, ◌^◌, ◌==◌, ◌||◌, ◌&&◌, Bool, IsTrue, nat_le, nat_lt, List, [], ◌++◌, length, take, drop, filter, fold, replicate, min, if◌then◌else◌, All}
-use Rattle.std.specs.List.{retain_mut}
+use Rattle.std.specs.Prelude.{ℕ, ◌+◌, ◌-◌, ◌<◌, ◌^◌, ◌==◌, ◌||◌, ◌&&◌, Bool, IsTrue, nat_le, nat_lt, List, [], ◌++◌, length, take, drop}
+use Rattle.std.specs.{Prelude.filter, Prelude.fold, Prelude.replicate, Prelude.min, Prelude.if◌then◌else◌, Prelude.All, List.retain_mut}
 
 -- A write that is to be made before an access to come: the first from now on is 1.
 pub record Change : Type 0 where

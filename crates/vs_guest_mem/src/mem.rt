@@ -1,6 +1,6 @@
 //! Plain memory: bytes from an address on, a count of accesses, and changes to come.
-ghost use Rattle.std.specs.Prelude.{◌≡◌, ◌==◌, ◌+◌, ◌<◌, ◌≤◌, ◌^◌, ◌++◌, ◌∷◌, [], ◌↔◌, IsTrue, IfOk, IfErr, OnOk, OnErr, is_ok, length};
-ghost use Rattle.vs_guest_mem.specs.Memory.{Change, accessed, after_access, after_write, bytes_at, is_inside, is_within, zeroed};
+ghost use Rattle.std.specs.Prelude.{◌≡◌, ◌==◌, ◌+◌, ◌<◌, ◌≤◌, ◌^◌, ◌++◌, ◌∷◌, [], IsTrue, IfOk, IfErr, OnOk, OnErr, is_ok, length};
+ghost use Rattle.vs_guest_mem.specs.Memory.{accessed, after_write, bytes_at, is_inside, is_within, zeroed};
 
 use crate::change::{PlannedWrite, make_due, overwrite, pass};
 use std::alloc::{AllocError, Global};
@@ -232,35 +232,4 @@ fn is_within(base: u64, size: u64, addr: u64, len: u64) -> bool
     ensures { result ≡ is_within base size addr len }
 {
     len == 0 || (base <= addr && len <= size && addr - base <= size - len)
-}
-
-#[cfg(test)]
-mod tests {
-    use super::*;
-    use std::alloc::AllocError;
-
-    // Two changes before the second access, in their order, and one before the third.
-    #[test]
-    fn changes_come_before_their_access(rt: HostRuntime) -> Result<(), AllocError> {
-        let mut mem = PlainMem::new(rt.alloc(), 4096, 16)?;
-        assert_eq!(rt; mem.write(4100, &[1, 2, 3, 4]), Ok(()));
-        mem.change_before(rt.alloc(), 2, 4101, &[7, 7])?;
-        mem.change_before(rt.alloc(), 2, 4102, &[8])?;
-        mem.change_before(rt.alloc(), 3, 4100, &[9])?;
-        let mut out = [0; 4];
-        assert_eq!(rt; mem.read(4100, &mut out), Ok(()));
-        assert_eq!(rt; out, [1, 2, 3, 4]);
-        assert_eq!(rt; mem.read(5000, &mut out[..0]), Ok(()));
-        assert_eq!(rt;
-            mem.read(4109, &mut out),
-            Err(AddrRange { addr: 4109, len: 4 })
-        );
-        assert_eq!(rt; mem.read(4100, &mut out), Ok(()));
-        assert_eq!(rt; out, [1, 7, 8, 4]);
-        assert_eq!(rt; mem.look(4100, &mut out), Ok(()));
-        assert_eq!(rt; mem.read(4100, &mut out), Ok(()));
-        assert_eq!(rt; out, [9, 7, 8, 4]);
-        assert_eq!(rt; mem.accesses(), 4);
-        Ok(())
-    }
 }

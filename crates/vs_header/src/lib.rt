@@ -3,9 +3,7 @@
 #![tactic(auto)]
 
 ghost use Rattle.std.specs.Prelude.{◌≡◌, ◌≢◌, ◌≤◌, IfNone, IfSome};
-ghost use Rattle.vs_header.specs.Kind.{kind_named, kind_number};
-ghost use Rattle.vs_header.specs.Op.{op_named, op_number};
-ghost use Rattle.vs_header.specs.Packet.{header_bytes, header_of};
+ghost use Rattle.vs_header.specs.{Kind.kind_named, Kind.kind_number, Op.op_named, Op.op_number, Packet.header_bytes, Packet.header_of};
 
 use byteorder::{ByteOrder, LittleEndian};
 
@@ -164,36 +162,5 @@ pub fn kind_of(number: u16) -> Option<Kind>
         1 => Some(Kind::Stream),
         2 => Some(Kind::Seqpacket),
         _ => None,
-    }
-}
-
-#[cfg(test)]
-mod tests {
-    use super::*;
-
-    // The bytes of a REQUEST, written out by hand from the standard's layout.
-    const REQUEST: [u8; 44] = [
-        0x03, 0, 0, 0, 0, 0, 0, 0, 0x02, 0, 0, 0, 0, 0, 0, 0, 0x00, 0x04, 0, 0, 0x34, 0, 0, 0, 0,
-        0, 0, 0, 0x01, 0, 0x01, 0, 0, 0, 0, 0, 0x00, 0x00, 0x01, 0x00, 0, 0, 0, 0,
-    ];
-
-    #[test]
-    fn request_to_and_from_bytes(rt: HostRuntime) {
-        let request = Header {
-            src_cid: 3,
-            dst_cid: 2,
-            src_port: 1024,
-            dst_port: 52,
-            len: 0,
-            kind: Kind::Stream.number(),
-            op: Op::Request.number(),
-            flags: 0,
-            buf_alloc: 65536,
-            fwd_cnt: 0,
-        };
-        assert_eq!(rt; request.encode(), REQUEST);
-        assert_eq!(rt; Header::decode(&REQUEST), request);
-        assert_eq!(rt; op_of(request.op), Some(Op::Request));
-        assert_eq!(rt; kind_of(request.kind), Some(Kind::Stream));
     }
 }

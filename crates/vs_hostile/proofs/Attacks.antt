@@ -1,14 +1,13 @@
 -- How the lines of a run add up.
-use Rattle.std.proofs.Common.{◌≡◌, ◌<◌, ℕ, ◌+◌, List, [], ◌∷◌, ◌++◌, length, map, drop, get_or, Option, Result, Ok, Err, refl, sym, ap, ◌∙◌, subst, append_assoc}
+use Rattle.std.proofs.Common.{◌≡◌, ◌<◌, ℕ, ◌+◌, List, [], ◌∷◌, ◌++◌, length, map, drop, get_or, Option, Result, Ok, Err, sym, ap, ◌∙◌}
+use Rattle.std.proofs.Common.{subst, append_assoc}
 use Rattle.std.proofs.lemmas.List.{drop_more, drop-map, length-map}
 use Rattle.vs_device_parts.specs.Turns.{table_shown}
 use Rattle.vs_outside.specs.Host.{Stream}
-use Rattle.vs_report.specs.Gives.{GivesLines}
-use Rattle.vs_report.specs.Report.{device_open_text, stream_texts}
+use Rattle.vs_report.specs.{Gives.GivesLines, Report.device_open_text, Report.stream_texts}
 use Rattle.vs_report.specs.declared.giving.GiveError.{GiveError}
-use Rattle.vs_report.proofs.LinesGiven.{gives_none, gives_next, gives_less}
-use Rattle.vs_script.specs.Hostile.{Hostile, hostile_view}
-use Rattle.vs_script.specs.Script.{numbered_hostile}
+use Rattle.vs_report.proofs.LinesGiven.{gives_next, gives_less}
+use Rattle.vs_script.specs.{Hostile.Hostile, Hostile.hostile_view, Script.numbered_hostile}
 use Rattle.vs_script.specs.declared.hostile.HostileLine.{HostileLine}
 use Rattle.vs_script.specs.declared.script.Numbered.{Numbered}
 use Rattle.vs_hostile.specs.Answer.{attack_of, counted_text, given, lines_of, report_texts, said_text, state_after, texts_of}
@@ -37,10 +36,6 @@ pub record Ran (lines : List Hostile) (place : ℕ) (start now : HostileState) (
   pub texts : texts_of lines start ≡ done ++ texts_of (drop place lines) now
   pub state : state_after lines start ≡ state_after (drop place lines) now
   pub all_given : GivesLines old new f g done (Ok tt)
-
--- Before the first line.
-pub ran_none : (lines : List Hostile) (start : HostileState) (old : Option (List ℕ)) (f : ℕ) → Ran lines 0 start start old old f f
-ran_none lines start old f = record { done = []; texts = refl; state = refl; all_given = gives_none old f }
 
 -- A further line.
 pub ran_next : (xs : List (Numbered HostileLine)) (place : ℕ) (x : Numbered HostileLine) (start now next : HostileState)

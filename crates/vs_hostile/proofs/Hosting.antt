@@ -1,36 +1,22 @@
 -- Streams that are open stay so, whatever the host's programs do.
-use Rattle.std.proofs.Common.{◌≡◌, ◌≢◌, ℕ, zero, suc, ◌==◌, Bool, true, false, cond, List, [], ◌∷◌, ◌++◌, Option, Some, None, IsSomeAnd, unwrap_or, refl, sym, ap, subst, ◌∙◌, arith}
-use Rattle.std.proofs.lemmas.Bool.Decides.{nat_tests}
-use Rattle.std.specs.Prelude.{◌-◌, ◌&&◌, nat_lt, length, slice_get}
+use Rattle.std.proofs.Common.{◌≡◌, ℕ, Bool, true, false, cond, List, ◌++◌, Option, unwrap_or, refl, sym, ap, subst, ◌∙◌}
+use Rattle.std.specs.Prelude.{◌&&◌, nat_lt, length}
 use Rattle.vs_flow.specs.Table.{Table}
-use Rattle.vs_outside.specs.Host.{HostContents, IsOpen, Stream, stream_at, with_stream}
-use Rattle.vs_outside.specs.HostProgram.{after_client, after_host_write, allowed, client_stream, closed, ended, host_write_answer, with_bytes}
-use Rattle.vs_outside.specs.declared.host_net.StreamState.TheVariants as state
-use Rattle.vs_outside.specs.declared.mem_stream.HostWritten.{HostWritten}
-use Rattle.vs_outside.specs.declared.mem_stream.HostWritten.TheVariants as written
-use Rattle.vs_outside.proofs.Frames.{keeps_others, open_of, stays_open, stream_at-with_stream, stream_place}
-use Rattle.vs_device_parts.specs.Playing.{IsItsRing}
-use Rattle.vs_device_parts.specs.State.{DeviceConnection, DeviceState}
+use Rattle.vs_outside.specs.Host.{HostContents}
+use Rattle.vs_device_parts.specs.{Playing.IsItsRing, State.DeviceConnection, State.DeviceState}
 use Rattle.vs_device_laws.specs.Streams.{HasStreams}
-use Rattle.vs_proxy_parts.specs.Handshakes.{streams_of}
-use Rattle.vs_proxy_parts.specs.State.{ProxyState}
-use Rattle.vs_script.specs.Outside.{Host, HostListen, HostUnlisten, HostWrite, HostAllow, HostEnd, HostClosed, HostFail}
-use Rattle.vs_script.specs.Data.{bytes_of}
+use Rattle.vs_proxy_parts.specs.{Handshakes.streams_of, State.ProxyState}
+use Rattle.vs_script.specs.{Outside.Host, Data.bytes_of, Hostile.Hostile}
 use Rattle.byteorder.specs.Endian.{little_bytes}
 use Rattle.vs_header.specs.Packet.{header_bytes}
-use Rattle.vs_layout.specs.Entry.{desc_bytes}
-use Rattle.vs_layout.specs.Layout.{avail_entry, avail_idx, desc_entry}
+use Rattle.vs_layout.specs.{Entry.desc_bytes, Layout.avail_entry, Layout.avail_idx, Layout.desc_entry}
 use Rattle.vs_guest_mem.specs.Memory.{after_write, is_inside}
 use Rattle.vs_ring_plain.specs.Device.{DeviceState as Side, areas_at, chains_held, with_change, with_memory}
 use Rattle.vs_ring_port.specs.declared.device_ring.Chain.{Chain}
-use Rattle.vs_script.specs.Hostile.{Hostile}
 use Rattle.vs_script.specs.Hostile as hostile
-use Rattle.vs_hostile.specs.Guest.{guest_writes, poked, poked_at}
-use Rattle.vs_hostile.specs.Ready.{IsServing}
-use Rattle.vs_hostile.specs.Run.{host_does}
-
-abbrev pub Opens : HostContents → HostContents → Type 0
-Opens h k = (id : ℕ) → IsOpen id h → IsOpen id k
+use Rattle.vs_hostile.specs.{Guest.guest_writes, Guest.poked, Guest.poked_at, Ready.IsServing}
+use Rattle.vs_report.specs.HostLines.{host_played}
+use Rattle.vs_report.proofs.HostPrograms.{Opens, host_opens}
 
 has_opened : (others : List ℕ) (t : Table DeviceConnection) (h k : HostContents) → Opens h k → HasStreams others t h → HasStreams others t k
 has_opened others t h k opens has = record {
@@ -53,52 +39,8 @@ serves_on p h k opens s = record {
   ring = s.ring;
 }
 
-open_stream : (o : Option Stream) → IsSomeAnd o (λ s. s.state ≡ state.Open) → (s : Stream) × (o ≡ Some s) × (s.state ≡ state.Open)
-open_stream None h = absurd h
-open_stream (Some s) h = (s, refl, h)
-
-with_stream_opens : (stream : ℕ) (f : Stream → Stream) (h : HostContents) → ((s : Stream) → (f s).state ≡ s.state) → Opens h (with_stream stream f h)
-with_stream_opens stream f h same id still = by (id == stream) refl
-  where
-    by : (b : Bool) → (id == stream) ≡ b → IsOpen id (with_stream stream f h)
-    by true is =
-        let one : stream ≡ id = grind (arith, nat_tests, is) in
-        let s = open_stream (stream_at id h) still in
-        subst (λ (k : ℕ). IsOpen id (with_stream k f h)) (sym one)
-        (open_of id (with_stream id f h) (f s.0) (stream_at-with_stream id f h s.0 s.1) (same s.0 ∙ s.2))
-    by false is =
-        let differ : id ≢ stream = grind (arith, nat_tests, is) in stays_open stream id h (with_stream stream f h) (keeps_others stream f h) differ still
-
-get_more : (xs ys : List Stream) (k : ℕ) (x : Stream) → slice_get xs k ≡ Some x → slice_get (xs ++ ys) k ≡ Some x
-get_more [] ys k x h = cc
-get_more (z ∷ zs) ys zero x h = h
-get_more (z ∷ zs) ys (suc k) x h = get_more zs ys k x h
-
-pub client_opens : (h : HostContents) → Opens h (after_client h)
-client_opens h id still =
-    let s = open_stream (stream_at id h) still in
-    let p = stream_place id h s.0 s.1 in
-    let more = h.streams ++ client_stream ∷ [] in
-    let there : stream_at id (after_client h) ≡ Some s.0 =
-    ap (λ (b : Bool). cond b None (slice_get more (id - 1))) p.0 ∙ get_more h.streams (client_stream ∷ []) (id - 1) s.0 p.1 in
-    open_of id (after_client h) s.0 there s.2
-
-write_opens : (stream : ℕ) (bytes : List ℕ) (a : HostWritten) (h : HostContents) → Opens h (after_host_write stream bytes a h)
-write_opens stream bytes written.Ok h = with_stream_opens stream (with_bytes bytes) h (λ s. refl)
-write_opens stream bytes written.Ended h = λ id still. still
-write_opens stream bytes written.NoStream h = λ id still. still
-
-pub host_opens : (line : Host) (h : HostContents) → Opens h (host_does line h).0
-host_opens (HostListen port) h = λ id still. still
-host_opens (HostUnlisten port) h = λ id still. still
-host_opens (HostWrite stream content) h = write_opens stream (bytes_of content) (host_write_answer stream h) h
-host_opens (HostAllow stream n) h = with_stream_opens stream (allowed 18446744073709551615 n) h (λ s. refl)
-host_opens (HostEnd stream) h = with_stream_opens stream ended h (λ s. refl)
-host_opens (HostClosed stream) h = with_stream_opens stream closed h (λ s. refl)
-host_opens (HostFail n) h = λ id still. still
-
-pub host_serves : (line : Host) (p : ProxyState) (h k : HostContents) → k ≡ (host_does line h).0 → IsServing p h → IsServing p k
-host_serves line p h k is s = subst (λ (x : HostContents). IsServing p x) (sym is) (serves_on p h (host_does line h).0 (host_opens line h) s)
+pub host_serves : (line : Host) (p : ProxyState) (h k : HostContents) → k ≡ (host_played line h).0 → IsServing p h → IsServing p k
+host_serves line p h k is s = subst (λ (x : HostContents). IsServing p x) (sym is) (serves_on p h (host_played line h).0 (host_opens line h) s)
 
 -- The guest's writes leave the chains that the device holds.
 kept_if : (b : Bool) (d e : Side) → chains_held e ≡ chains_held d → chains_held (cond b e d) ≡ chains_held d

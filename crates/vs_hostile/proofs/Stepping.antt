@@ -9,24 +9,11 @@ use Rattle.vs_device_parts.specs.Playing.{IsItsRing}
 use Rattle.vs_proxy_parts.specs.State.{ProxyState}
 use Rattle.vs_script.specs.Hostile.{Hostile}
 use Rattle.vs_script.specs.Hostile as hostile
-use Rattle.vs_hostile.specs.Answer.{said_text}
-use Rattle.vs_hostile.specs.Ready.{IsReady, Steps, held_in}
-use Rattle.vs_hostile.specs.Rings.{are_placed}
-use Rattle.vs_hostile.specs.Run.{GuestState, Nothing, HasMemory, HostileState, Said, Done, first_set_up, hostile_does, line_in, rings_in, second_set_up, with_guest}
+use Rattle.vs_hostile.specs.{Answer.said_text, Ready.IsReady, Ready.Steps, Ready.held_in, Rings.are_placed}
+use Rattle.vs_hostile.specs.Run.{GuestState, HasMemory, HostileState, Said, Done, hostile_does, line_in, rings_in, second_set_up}
+use Rattle.vs_hostile.specs.Run.{with_guest}
 
--- No chain is held in a memory without rings, nor in rings just made.
-first_holds_none : (line : Hostile) → held_in (first_set_up line) ≡ []
-first_holds_none (hostile.Memory memory) = refl
-first_holds_none (hostile.Rings n) = refl
-first_holds_none (hostile.Write addr bytes) = refl
-first_holds_none (hostile.WriteDesc q i desc) = refl
-first_holds_none (hostile.Give q at head) = refl
-first_holds_none (hostile.Index q value) = refl
-first_holds_none (hostile.Packet addr header bytes) = refl
-first_holds_none (hostile.Before access addr bytes) = refl
-first_holds_none (hostile.Look addr len) = refl
-first_holds_none (hostile.Around line) = refl
-
+-- No chain is held in rings just made.
 made_hold_none : (b : Bool) (memory : Span) (d : DeviceState) → chains_held d ≡ [] → held_in (rings_in memory (cond b (Some d) None)) ≡ []
 made_hold_none true memory d none = none
 made_hold_none false memory d none = refl
@@ -59,11 +46,6 @@ module _ (line : Hostile) (old new : HostileState) (text text' : List ℕ) (was 
               serving = r.serving;
             });
       }
-
-pub steps_first : (line : Hostile) (old new : HostileState) (text text' : List ℕ) → old.guest ≡ Nothing
-    → new ≡ with_guest (first_set_up line) old → text' ≡ text ++ ok_text → IsReady old → Steps line old new text text'
-steps_first line old new text text' is moved prints r =
-    steps_to line old new text text' Nothing (first_set_up line) is (sym (first_holds_none line)) refl moved prints r
 
 pub steps_second : (line : Hostile) (memory : Span) (old new : HostileState) (text text' : List ℕ) → old.guest ≡ HasMemory memory
     → new ≡ with_guest (second_set_up line memory) old → text' ≡ text ++ ok_text → IsReady old → Steps line old new text text'

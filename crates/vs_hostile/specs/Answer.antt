@@ -1,17 +1,13 @@
 -- What a hostile guest's script prints, and the status that it ends with, as a function of its bytes.
 use Rattle.std.specs.Prelude.{ℕ, List, [], ◌∷◌, ◌++◌, length, map, codes, decimal, Option, Some, None, Result, Ok, Err}
-use Rattle.vs_report.specs.Answers.{Answer, refusal}
-use Rattle.vs_report.specs.Bytes.{data_text}
-use Rattle.vs_report.specs.DeviceLines.{turn_text, reset_text}
-use Rattle.vs_report.specs.HostLines.{ok_text, client_text, write_text, stream_there_text}
-use Rattle.vs_report.specs.Report.{device_open_text, stream_texts}
+use Rattle.vs_report.specs.{Answers.Answer, Answers.refusal, Bytes.data_text, DeviceLines.turn_text, DeviceLines.reset_text}
+use Rattle.vs_report.specs.{HostLines.ok_text, HostLines.client_text, Report.device_open_text, Report.stream_texts}
 use Rattle.vs_report.specs.declared.giving.GiveError.{GiveError}
 use Rattle.vs_ring_port.specs.declared.failure.Failure.{Failure}
-use Rattle.vs_script.specs.Hostile.{Hostile}
-use Rattle.vs_script.specs.Script.{Saying, Attacks, parse_of}
+use Rattle.vs_script.specs.{Hostile.Hostile, Script.Saying, Script.Attacks, Script.parse_of}
 use Rattle.vs_script.specs.declared.fault.Refused.{Refused}
 use Rattle.vs_script.specs.declared.script.Command.TheVariants as command
-use Rattle.vs_hostile.specs.Run.{HostileState, Said, Done, Bytes, HasTurned, WasReset, StreamIs, Wrote, IsThere, beginning, hostile_does}
+use Rattle.vs_hostile.specs.Run.{HostileState, Said, Done, Bytes, HasTurned, WasReset, StreamIs, HostPrints, beginning, hostile_does}
 
 -- What a line prints.
 abbrev pub looked_text : List ℕ → List ℕ
@@ -23,8 +19,7 @@ said_text (Bytes bytes) = looked_text bytes
 said_text (HasTurned t) = turn_text t
 said_text (WasReset r) = reset_text r
 said_text (StreamIs n) = client_text n
-said_text (Wrote answer) = write_text answer
-said_text (IsThere found) = stream_there_text found
+said_text (HostPrints text) = text
 
 -- What lines lead to, and what they print.
 abbrev pub state_after : List Hostile → HostileState → HostileState

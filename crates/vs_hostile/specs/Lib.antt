@@ -1,7 +1,6 @@
 pub mod Answers
 pub mod Guest
 pub mod Run
-pub mod Worked
 pub mod Answer
 pub mod Rows
 pub mod Whole

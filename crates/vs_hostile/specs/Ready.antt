@@ -8,9 +8,7 @@ use Rattle.vs_device_parts.specs.Playing.{IsItsRing, situation}
 use Rattle.vs_proxy_parts.specs.State.{ProxyState}
 use Rattle.vs_proxy_log.specs.Order.{IsInOrder}
 use Rattle.vs_script.specs.Hostile.{Hostile}
-use Rattle.vs_script.specs.Outside.{Host}
-use Rattle.vs_hostile.specs.Answer.{said_text}
-use Rattle.vs_hostile.specs.Run.{GuestState, Nothing, HasMemory, HasRings, HostileState, hostile_does, host_does}
+use Rattle.vs_hostile.specs.{Answer.said_text, Run.GuestState, Run.Nothing, Run.HasMemory, Run.HasRings, Run.HostileState, Run.hostile_does}
 
 abbrev pub held_in : GuestState → List Chain
 held_in Nothing = []
@@ -35,11 +33,6 @@ pub record Steps (line : Hostile) (old new : HostileState) (text text' : List �
   pub state : new ≡ (hostile_does line old).0
   pub printed : text' ≡ text ++ said_text (hostile_does line old).1
   pub ready : IsReady new
-
--- A line on the host's programs was run.
-pub record HostSteps (line : Host) (old new : HostContents) (text text' : List ℕ) : Type 0 where
-  pub host : new ≡ (host_does line old).0
-  pub printed : text' ≡ text ++ said_text (host_does line old).1
 
 -- The rings, the proxy, the host and the moment.
 abbrev pub with_rings : DeviceState → ProxyState → HostContents → ℕ → HostileState

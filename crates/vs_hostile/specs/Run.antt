@@ -1,24 +1,17 @@
--- A hostile guest's run: each line of its script, what it answers, and the report at the end.
-use Rattle.std.specs.Prelude.{ℕ, ◌+◌, ◌&&◌, nat_le, min, if◌then◌else◌, Bool, List, [], ◌∷◌, length, map, Option, None, Some, Result, codes}
+-- A hostile guest's run: each line of its script, and what it answers.
+use Rattle.std.specs.Prelude.{ℕ, ◌+◌, ◌&&◌, nat_le, min, if◌then◌else◌, List, [], length, Option, None, Some, Result, codes}
 use Rattle.vs_contents.specs.CallTree.{played}
-use Rattle.vs_flow.specs.declared.flow.Flow.{Flow}
 use Rattle.vs_layout.specs.declared.span.Span.{Span}
-use Rattle.vs_outside.specs.Host.{HostContents, with_stream}
-use Rattle.vs_outside.specs.HostProgram.{after_listen, after_unlisten, after_client, after_host_write, host_write_answer, has_stream, allowed, ended, closed, after_fail, new_host, plain}
-use Rattle.vs_outside.specs.HostBytes.{wrote_after_connect, read_after_ok}
-use Rattle.vs_outside.specs.declared.mem_stream.HostWritten.{HostWritten}
+use Rattle.vs_outside.specs.{Host.HostContents, HostProgram.after_client, HostProgram.new_host, HostProgram.plain}
 use Rattle.vs_ring_port.specs.declared.failure.Failure.{Failure}
 use Rattle.vs_ring_plain.specs.Device.{DeviceState}
 use Rattle.vs_device_parts.specs.Calls.{DeviceTree}
-use Rattle.vs_proxy_parts.specs.State.{ProxyState}
-use Rattle.vs_proxy_parts.specs.Turns.{new_proxy, turn_of, proxy_reset_of}
+use Rattle.vs_proxy_parts.specs.{State.ProxyState, Turns.new_proxy, Turns.turn_of, Turns.proxy_reset_of}
 use Rattle.vs_proxy_parts.specs.declared.answers.Turn.{Turn}
+use Rattle.vs_report.specs.HostLines.{host_played}
 use Rattle.vs_script.specs.Hostile.{Hostile, Memory as SetMemory, Rings as SetRings, Look, Around as OfOutside}
-use Rattle.vs_script.specs.Outside.{Host, HostListen, HostUnlisten, HostWrite, HostAllow, HostEnd, HostClosed, HostFail, Outside, Turn as TakeTurn, Reset, Tick, Client, OfHost}
-use Rattle.vs_hostile.specs.Answers.{answer_around}
-use Rattle.vs_script.specs.Data.{bytes_of}
-use Rattle.vs_hostile.specs.Guest.{guest_writes, looked}
-use Rattle.vs_hostile.specs.Rings.{rings_of}
+use Rattle.vs_script.specs.Outside.{Outside, Turn as TakeTurn, Reset, Tick, Client, OfHost}
+use Rattle.vs_hostile.specs.{Answers.answer_around, Guest.guest_writes, Guest.looked, Rings.rings_of}
 
 -- The guest's memory as far as the script has set it up: nothing, where it lies, or the rings in it.
 pub data GuestState : Type 0 where
@@ -40,8 +33,7 @@ pub data Said : Type 0 where
   HasTurned : Turn → Said
   WasReset : Result (Unit {0}) Failure → Said
   StreamIs : ℕ → Said
-  Wrote : HostWritten → Said
-  IsThere : Bool → Said
+  HostPrints : List ℕ → Said
 
 abbrev pub with_guest : GuestState → HostileState → HostileState
 with_guest guest s = record s { guest = guest }
@@ -52,23 +44,13 @@ over tree said ring s =
     let r = played answer_around tree (record { ring = ring; host = s.host }) in
     (record s { guest = HasRings r.1.ring; proxy = r.0.0; host = r.1.host }, said r.0.1)
 
--- What the host's programs do.
-abbrev pub host_does : Host → HostContents → HostContents × Said
-host_does (HostListen port) h = (after_listen port h, Done)
-host_does (HostUnlisten port) h = (after_unlisten port h, Done)
-host_does (HostWrite stream content) h = let a = host_write_answer stream h in (after_host_write stream (bytes_of content) a h, Wrote a)
-host_does (HostAllow stream n) h = (with_stream stream (allowed 18446744073709551615 n) h, IsThere (has_stream stream h))
-host_does (HostEnd stream) h = (with_stream stream ended h, IsThere (has_stream stream h))
-host_does (HostClosed stream) h = (with_stream stream closed h, IsThere (has_stream stream h))
-host_does (HostFail n) h = (after_fail n h, Done)
-
 -- A line on what surrounds the guest. The moment stands still at the last of its type. A CID is 3 to 4,294,967,294 in all scripts.
 abbrev pub outside_does : Outside → DeviceState → HostileState → HostileState × Said
 outside_does TakeTurn ring s = over (turn_of ring.size s.now s.proxy) (λ t. HasTurned t) ring s
 outside_does (Reset cid) ring s = if nat_le 3 cid && nat_le cid 4294967294 then over (proxy_reset_of cid s.proxy) (λ r. WasReset r) ring s else (s, Done)
 outside_does (Tick ms) ring s = (record s { now = min 18446744073709551615 (s.now + ms) }, Done)
 outside_does Client ring s = (record s { host = after_client s.host }, StreamIs (length s.host.streams + 1))
-outside_does (OfHost line) ring s = let r = host_does line s.host in (record s { host = r.0 }, r.1)
+outside_does (OfHost line) ring s = let r = host_played line s.host in (record s { host = r.0 }, HostPrints r.1)
 
 -- A line once the rings are there.
 abbrev pub over_rings : Hostile → DeviceState → HostileState → HostileState × Said
@@ -105,32 +87,3 @@ base_path = codes "v.sock"
 
 abbrev pub beginning : HostileState
 beginning = record { guest = Nothing; proxy = new_proxy 3 base_path; host = (new_host base_path [] plain).contents; now = 0 }
-
--- What the report shows of a stream: its label, what its program wrote behind a CONNECT line, and read behind an OK line.
-pub record StreamShown : Type 0 where
-  pub label : Option Flow
-  pub wrote : List ℕ
-  pub read : List ℕ
-
-pub record Report : Type 0 where
-  pub device_open : ℕ
-  pub streams : List StreamShown
-  pub dropped : ℕ
-  pub overrun : ℕ
-  pub faults : ℕ
-  pub failed : Option Failure
-
-abbrev pub report : HostileState → Report
-report s = record {
-  device_open = length s.proxy.device.table.entries;
-  streams = map (λ t. record { label = t.label; wrote = wrote_after_connect t; read = read_after_ok t }) s.host.streams;
-  dropped = s.proxy.device.dropped;
-  overrun = s.proxy.device.overrun;
-  faults = s.proxy.device.faults;
-  failed = s.proxy.device.failed;
-}
-
--- The answers of a script's lines, and the report at its end.
-abbrev pub hostile_run : List Hostile → HostileState → List Said × Report
-hostile_run [] s = ([], report s)
-hostile_run (line ∷ lines) s = let r = hostile_does line s in let rest = hostile_run lines r.0 in (r.1 ∷ rest.0, rest.1)

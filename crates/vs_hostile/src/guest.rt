@@ -1,14 +1,11 @@
 //! What a hostile guest writes into the memory of the device's rings.
 
-ghost use Rattle.std.specs.Prelude.{◌≡◌, ◌<◌, ◌≤◌, ◌+◌, ◌++◌, ◌^◌, IfOk, OnErr, OnOk, length};
+ghost use Rattle.std.specs.Prelude.{◌≡◌, ◌<◌, ◌+◌, ◌++◌, ◌^◌, IfOk, OnErr, OnOk, length};
 ghost use Rattle.byteorder.specs.Endian.{little_bytes};
 ghost use Rattle.vs_header.specs.Packet.{header_bytes};
-ghost use Rattle.vs_layout.specs.Entry.{desc_bytes};
-ghost use Rattle.vs_layout.specs.Layout.{AreInside, avail_entry, avail_idx, desc_entry};
-ghost use Rattle.vs_ring_plain.specs.Device.{areas_at};
-ghost use Rattle.vs_ring_plain.specs.Take.{whole};
-ghost use Rattle.vs_script.specs.Data.{bytes_of, content_of};
-ghost use Rattle.vs_script.specs.Hostile.{hostile_view};
+ghost use Rattle.vs_layout.specs.{Entry.desc_bytes, Layout.AreInside, Layout.avail_entry, Layout.avail_idx, Layout.desc_entry};
+ghost use Rattle.vs_ring_plain.specs.{Device.areas_at, Take.whole};
+ghost use Rattle.vs_script.specs.{Data.bytes_of, Data.content_of, Hostile.hostile_view};
 ghost use Rattle.vs_hostile.specs.Guest.{guest_writes, planned, poked, poked_at};
 
 use byteorder::{ByteOrder, LittleEndian};

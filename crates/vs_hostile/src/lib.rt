@@ -3,7 +3,6 @@
 #![tactic(auto)]
 
 pub mod guest;
-pub mod host_lines;
 pub mod lines;
 pub mod report;
 pub mod rings;

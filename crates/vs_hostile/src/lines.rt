@@ -2,19 +2,15 @@
 
 ghost use Rattle.std.specs.Prelude.{◌≡◌, ◌≤◌, ◌&&◌, ◌++◌, ℕ, nat_le, IfOk, IsTrue, OnOk, string_bytes};
 ghost use Rattle.vs_ring_plain.specs.Device.{chains_held};
-ghost use Rattle.vs_device_parts.specs.Playing.{IsItsRing};
-ghost use Rattle.vs_device_parts.specs.State.{DeviceState};
+ghost use Rattle.vs_device_parts.specs.{Playing.IsItsRing, State.DeviceState};
 ghost use Rattle.vs_report.specs.HostLines.{ok_text};
 ghost use Rattle.vs_script.specs.Hostile.{hostile_view};
 ghost use Rattle.vs_script.specs.Outside as outside;
 ghost use Rattle.vs_script.specs.Outside.{outside_view};
-ghost use Rattle.vs_hostile.specs.Answer.{looked_text, said_text};
-ghost use Rattle.vs_hostile.specs.Guest.{guest_writes, looked};
-ghost use Rattle.vs_hostile.specs.Ready.{IsServing, with_rings};
-ghost use Rattle.vs_hostile.specs.Run.{outside_does, over_rings};
+ghost use Rattle.vs_hostile.specs.{Answer.looked_text, Answer.said_text, Guest.guest_writes, Guest.looked};
+ghost use Rattle.vs_hostile.specs.{Ready.IsServing, Ready.with_rings, Run.outside_does, Run.over_rings};
 
 use crate::guest::write_line;
-use crate::host_lines::{client, host_line};
 use crate::turns::{reset_all, take_turn};
 use crate::whole::WholeSide;
 use std::alloc::{AllocError, Global};
@@ -23,7 +19,7 @@ use vs_outside::{Clock, MemHost, StepClock};
 use vs_proxy::{Proxy, Turn};
 use vs_report::bytes::push_data;
 use vs_report::device_lines::{push_reset, push_turn};
-use vs_report::host_lines::push_ok;
+use vs_report::host_lines::{client, host_line, push_ok};
 use vs_script::{HostileLine, OutsideLine};
 
 /// The lowest CID of a guest.

@@ -1,8 +1,7 @@
 //! The rings of a hostile guest: three queues from the lowest address of its memory on.
 
-ghost use Rattle.std.specs.Prelude.{◌≡◌, ◌≤◌, ◌^◌, ◌<◌, IfOk};
-ghost use Rattle.vs_layout.specs.Layout.{AreInside, queue_areas_of};
-ghost use Rattle.vs_layout.specs.Span.{span_end};
+ghost use Rattle.std.specs.Prelude.{◌≡◌, ◌≤◌, ◌<◌, IfOk};
+ghost use Rattle.vs_layout.specs.{Layout.AreInside, Layout.queue_areas_of, Span.span_end};
 ghost use Rattle.vs_hostile.specs.Rings.{are_placed, rings_of};
 
 use crate::whole::WholeSide;

@@ -1,21 +1,17 @@
 //! The run of a hostile guest's script: line by line, or whole with its report, line by line to a sink.
 
 ghost use Rattle.std.specs.Prelude.{◌≡◌, ◌∷◌, [], IfOk, OnOk, map, option_map, string_bytes};
-ghost use Rattle.vs_script.specs.Hostile.{hostile_view};
-ghost use Rattle.vs_script.specs.Script.{numbered_hostile, script_view};
+ghost use Rattle.vs_script.specs.{Hostile.hostile_view, Script.numbered_hostile, Script.script_view};
 ghost use Rattle.vs_report.specs.Gives.{GivesLines};
-ghost use Rattle.vs_hostile.specs.Answer.{attack_of, counted_text, given, lines_in, lines_of, report_texts};
-ghost use Rattle.vs_hostile.specs.Answer.{said_text, state_after, texts_of};
-ghost use Rattle.vs_hostile.specs.Ready.{IsReady, StepsNext};
-ghost use Rattle.vs_hostile.specs.Run.{beginning, hostile_does};
+ghost use Rattle.vs_hostile.specs.Answer.{attack_of, counted_text, given, lines_in, lines_of, report_texts, said_text, state_after};
+ghost use Rattle.vs_hostile.specs.{Answer.texts_of, Ready.IsReady, Ready.StepsNext, Run.beginning, Run.hostile_does};
 
 use crate::report::{push_counted, status};
 use crate::world::HostileWorld;
 use std::alloc::{AllocError, Global};
 use std::marker::Model;
 use vs_outside::Sink;
-use vs_peer::emit;
-use vs_report::giving::{GiveError, give_device_open, give_streams};
+use vs_report::giving::{GiveError, give_device_open, give_streams, give_text};
 use vs_script::{HostileLine, Numbered, Script};
 
 /// A hostile guest's script in the course of its run.
@@ -128,8 +124,7 @@ fn give_line<K: Sink>(
 {
     text.clear();
     world.line(line, text)?;
-    emit(out, text.as_bytes())?;
-    Ok(())
+    give_text(text, out)
 }
 
 // Gives the report: the entries of the device's table, each stream, and what was counted.
@@ -157,6 +152,5 @@ fn give_counted<K: Sink>(
     let counters = world.counters();
     text.clear();
     push_counted(text, counters.dropped, counters.overrun, counters.faults)?;
-    emit(out, text.as_bytes())?;
-    Ok(())
+    give_text(text, out)
 }

@@ -5,8 +5,7 @@ ghost use Rattle.vs_contents.specs.CallTree.{played};
 ghost use Rattle.vs_device_parts.specs.Playing.{IsItsRing};
 ghost use Rattle.vs_proxy_parts.specs.Turns.{proxy_reset_of, turn_of};
 ghost use Rattle.vs_ring_plain.specs.Device.{chains_held};
-ghost use Rattle.vs_hostile.specs.Answers.{answer_around};
-ghost use Rattle.vs_hostile.specs.Ready.{IsServing};
+ghost use Rattle.vs_hostile.specs.{Answers.answer_around, Ready.IsServing};
 
 use crate::whole::WholeSide;
 use std::alloc::AllocError;

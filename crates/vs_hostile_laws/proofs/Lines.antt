@@ -1,10 +1,8 @@
 -- Lines of a hostile guest's script, one after the other.
 use Rattle.std.proofs.Common.{◌≡◌, ℕ, ◌<◌, ◌≤◌, ◌^◌, arith, codes, decimal, zero, suc, ◌+◌, ◌-◌, ◌==◌, ◌&&◌, nat_le, Bool, true, false}
-use Rattle.std.proofs.Common.{cond, List, [], ◌∷◌, ◌++◌, length, slice_get}
-use Rattle.std.proofs.Common.{Option, Some, None, refl, sym, ap, subst, ◌∙◌}
+use Rattle.std.proofs.Common.{cond, List, [], ◌∷◌, ◌++◌, length, slice_get, Option, Some, None, refl, sym, ap, subst, ◌∙◌}
 use Rattle.std.specs.Option.{option_and_then, option_map_or}
-use Rattle.vs_flow.specs.declared.flow.Flow.{Flow}
-use Rattle.vs_flow.specs.declared.flow.TheConstants.{ASSIGNED_LAST}
+use Rattle.vs_flow.specs.declared.flow.{Flow.Flow, TheConstants.ASSIGNED_LAST}
 use Rattle.vs_outside.specs.Host.{HostContents, Stream, stream_at, waits, with_stream}
 use Rattle.vs_outside.specs.HostProgram.{after_client, after_host_write, allowed, client_stream, closed, ended, host_write_answer}
 use Rattle.vs_outside.specs.HostProgram.{with_bytes}
@@ -14,33 +12,26 @@ use Rattle.vs_outside.specs.HostBytes.{after_line, read_after_ok, wrote_after_co
 use Rattle.vs_page.specs.Fair.{IsPrefixOf}
 use Rattle.vs_pipes.specs.Streamed.{has_line}
 use Rattle.vs_pipes.proofs.Lines.{after_front, after_longer}
-use Rattle.vs_uds.proofs.Leading.{has_lf-digits}
-use Rattle.vs_uds.proofs.Ports.{WritesPort-decimal}
+use Rattle.vs_uds.proofs.{Leading.has_lf-digits, Ports.WritesPort-decimal}
 use Rattle.vs_ring_plain.specs.Device.{DeviceState}
 use Rattle.vs_device_parts.specs.Calls.{DeviceTree}
-use Rattle.vs_hostile.specs.Answer.{state_after}
-use Rattle.vs_hostile.specs.Answers.{Around}
-use Rattle.vs_hostile.specs.Run.{Done, GuestState, HasMemory, HasRings, HasTurned, HostileState, Nothing, Said, beginning}
-use Rattle.vs_hostile.specs.Run.{host_does, hostile_does, line_in, outside_does}
-use Rattle.vs_hostile.specs.Run.{WasReset, over, over_rings}
+use Rattle.vs_hostile.specs.{Answer.state_after, Answers.Around}
+use Rattle.vs_hostile.specs.Run.{Done, GuestState, HasMemory, HasRings, HasTurned, HostileState, Nothing, Said, beginning, hostile_does}
+use Rattle.vs_hostile.specs.Run.{line_in, outside_does, WasReset, over, over_rings}
 use Rattle.vs_hostile_laws.specs.Isolated.{IsGivenOwn, IsIsolated, delivered_to}
 use Rattle.vs_hostile_laws.specs.Recorded.{calls_of, made_in, made_over, outside_made, recorded}
-use Rattle.vs_proxy_bytes.specs.Told.{Shows, ShowsAt, ShowsIn}
-use Rattle.vs_proxy_bytes.proofs.Shown.{new_shows, none_there, unseen_shows}
-use Rattle.vs_hostile_laws.proofs.Steps.{played_same, played_shows}
-use Rattle.vs_proxy_parts.specs.State.{ProxyState}
-use Rattle.vs_proxy_parts.specs.Turns.{proxy_reset_of, turn_of}
-use Rattle.vs_proxy_bytes.specs.Made.{Account, Made, account_of}
+use Rattle.vs_report.specs.HostLines.{host_played}
+use Rattle.vs_proxy_bytes.specs.{Told.Shows, Told.ShowsAt, Told.ShowsIn, Made.Account, Made.Made, Made.account_of}
 use Rattle.vs_proxy_bytes.specs.Tied.{AccountsFor, IsGiven, IsLine, IsRead, IsWhole, ok_line_of}
-use Rattle.vs_proxy_bytes.proofs.Keeping.{Keeps}
-use Rattle.vs_proxy_bytes.proofs.Opening.{new_agrees}
+use Rattle.vs_proxy_bytes.proofs.{Shown.new_shows, Shown.none_there, Shown.unseen_shows, Keeping.Keeps, Opening.new_agrees}
 use Rattle.vs_proxy_bytes.proofs.Turning.{keeps_proxy_reset, keeps_turn}
+use Rattle.vs_hostile_laws.proofs.Steps.{played_same, played_shows}
+use Rattle.vs_proxy_parts.specs.{State.ProxyState, Turns.proxy_reset_of, Turns.turn_of}
 use Rattle.vs_script.specs.Data.{bytes_of}
 use Rattle.vs_script.specs.Hostile.{Hostile, Memory as SetMemory, Rings as SetRings, Write, WriteDesc, Give, Index, Packet, Before, Look}
 use Rattle.vs_script.specs.Hostile.{Around as OfOutside}
 use Rattle.vs_script.specs.Outside.{Client, Host, HostAllow, HostClosed, HostEnd, HostFail, HostListen, HostUnlisten, HostWrite, OfHost}
-use Rattle.vs_script.specs.Outside.{Outside, Reset, Tick}
-use Rattle.vs_script.specs.Outside.{Turn as TakeTurn}
+use Rattle.vs_script.specs.Outside.{Outside, Reset, Tick, Turn as TakeTurn}
 
 -- The calls made so far account for what the proxy holds, and show what the host holds.
 pub record Holds (s : HostileState) (calls : List Made) : Type 0 where
@@ -73,7 +64,7 @@ written_shows at h stream bytes written.Ok shows = changed at h stream (with_byt
 written_shows at h stream bytes written.Ended shows = shows
 written_shows at h stream bytes written.NoStream shows = shows
 
-host_shows : (at : ℕ → Option Account) (line : Host) (h : HostContents) → Shows at h → Shows at (host_does line h).0
+host_shows : (at : ℕ → Option Account) (line : Host) (h : HostContents) → Shows at h → Shows at (host_played line h).0
 host_shows at (HostListen port) h shows = shows
 host_shows at (HostUnlisten port) h shows = shows
 host_shows at (HostWrite stream content) h shows = written_shows at h stream (bytes_of content) (host_write_answer stream h) shows

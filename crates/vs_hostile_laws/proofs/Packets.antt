@@ -1,29 +1,20 @@
 -- Each packet that the device read in a run was judged.
-use Rattle.std.proofs.Common.{◌≡◌, ℕ, ◌&&◌, nat_le, Bool, true, false, cond, List, [], ◌∷◌, Result, refl, subst}
+use Rattle.std.proofs.Common.{◌&&◌, nat_le, Bool, true, false, cond, List, [], ◌∷◌, subst}
 use Rattle.vs_contents.specs.CallTree.{Leads}
 use Rattle.vs_ring_plain.specs.Device.{DeviceState}
-use Rattle.vs_ring_port.specs.declared.failure.Failure.{Failure}
 use Rattle.vs_device_parts.specs.Calls.{DeviceTree}
-use Rattle.vs_hostile.specs.Answer.{state_after}
-use Rattle.vs_hostile.specs.Answers.{Around}
+use Rattle.vs_hostile.specs.{Answer.state_after, Answers.Around}
 use Rattle.vs_hostile.specs.Run.{Done, GuestState, HasMemory, HasRings, HasTurned, HostileState, Nothing, Said, WasReset, hostile_does}
 use Rattle.vs_hostile.specs.Run.{line_in, outside_does, over, over_rings}
-use Rattle.vs_proxy_parts.specs.State.{ProxyState}
-use Rattle.vs_proxy_parts.specs.Turns.{proxy_reset_of, turn_of}
-use Rattle.vs_proxy_bytes.specs.Made.{Made, Makes, account_of}
-use Rattle.vs_proxy_bytes.specs.Packets.{AreJudged}
-use Rattle.vs_proxy_bytes.specs.Tied.{AccountsFor}
-use Rattle.vs_proxy_bytes.specs.Told.{Shows}
-use Rattle.vs_proxy_bytes.proofs.Keeping.{Keeps}
-use Rattle.vs_proxy_bytes.proofs.Packets.{joined, nothing_judged, reset_is_judged, turn_is_judged}
+use Rattle.vs_proxy_parts.specs.{State.ProxyState, Turns.proxy_reset_of, Turns.turn_of}
+use Rattle.vs_proxy_bytes.specs.{Made.Made, Made.Makes, Made.account_of, Packets.AreJudged, Tied.AccountsFor, Told.Shows}
+use Rattle.vs_proxy_bytes.proofs.{Keeping.Keeps, Packets.joined, Packets.nothing_judged, Packets.reset_is_judged, Packets.turn_is_judged}
 use Rattle.vs_proxy_bytes.proofs.Turning.{keeps_proxy_reset, keeps_turn}
 use Rattle.vs_script.specs.Hostile.{Hostile, Memory as SetMemory, Rings as SetRings, Write, WriteDesc, Give, Index, Packet, Before, Look}
 use Rattle.vs_script.specs.Hostile.{Around as OfOutside}
-use Rattle.vs_script.specs.Outside.{Client, OfHost, Outside, Reset, Tick}
-use Rattle.vs_script.specs.Outside.{Turn as TakeTurn}
+use Rattle.vs_script.specs.Outside.{Client, OfHost, Outside, Reset, Tick, Turn as TakeTurn}
 use Rattle.vs_hostile_laws.specs.Recorded.{calls_of, made_in, made_over, outside_made, recorded}
-use Rattle.vs_hostile_laws.proofs.Lines.{Holds, line_holds}
-use Rattle.vs_hostile_laws.proofs.Steps.{played_makes, played_same}
+use Rattle.vs_hostile_laws.proofs.{Lines.Holds, Lines.line_holds, Steps.played_makes, Steps.played_same}
 
 over_judged : {A : Type 0} (tree : DeviceTree (ProxyState × A)) (said : A → Said) (ring : DeviceState) (s : HostileState) (calls : List Made)
     → Keeps (λ x later. AccountsFor x.0 later) tree calls → Shows (account_of calls) s.host

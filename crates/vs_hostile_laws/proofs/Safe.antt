@@ -1,12 +1,9 @@
 -- Each list of lines of a hostile guest's script is safe.
 use Rattle.std.proofs.Common.{[], List}
-use Rattle.vs_hostile.specs.Answer.{state_after}
-use Rattle.vs_hostile.specs.Run.{HostileState, beginning}
+use Rattle.vs_hostile.specs.{Answer.state_after, Run.HostileState, Run.beginning}
 use Rattle.vs_proxy_bytes.proofs.Carrying.{carries}
-use Rattle.vs_hostile_laws.specs.Isolated.{IsSafe}
-use Rattle.vs_hostile_laws.specs.Recorded.{calls_of}
-use Rattle.vs_hostile_laws.proofs.Failing.{reset_stays, turn_stays}
-use Rattle.vs_hostile_laws.proofs.Lines.{beginning_holds, run_holds, run_isolated}
+use Rattle.vs_hostile_laws.specs.{Isolated.IsSafe, Recorded.calls_of}
+use Rattle.vs_hostile_laws.proofs.{Failing.reset_stays, Failing.turn_stays, Lines.beginning_holds, Lines.run_holds, Lines.run_isolated}
 use Rattle.vs_hostile_laws.proofs.Packets.{lines_judged}
 use Rattle.vs_script.specs.Hostile.{Hostile}
 

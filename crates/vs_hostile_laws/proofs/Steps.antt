@@ -1,22 +1,19 @@
 -- A conversation over rings in a guest's memory and a host: its calls account for the host, and it is the one that was played.
-use Rattle.std.proofs.Common.{◌≡◌, ℕ, ◌≤◌, List, ◌∷◌, length, refl, sym}
-use Rattle.std.proofs.Common.{arith}
+use Rattle.std.proofs.Common.{◌≡◌, ℕ, ◌≤◌, List, ◌∷◌, length, refl, sym, arith}
 use Rattle.vs_contents.specs.CallTree.{Done, Ask, Leads, played}
-use Rattle.vs_outside.specs.Host.{HostContents, IsDialed, accept_answer, dial_answer, fails_now, read_answer, stream_at}
-use Rattle.vs_outside.specs.Host.{write_answer}
+use Rattle.vs_outside.specs.Host.{HostContents, IsDialed, accept_answer, dial_answer, fails_now, read_answer, stream_at, write_answer}
 use Rattle.vs_outside.specs.declared.host_net.Dialed.{Dialed}
 use Rattle.vs_outside.specs.declared.host_net.Dialed.TheVariants as dialed
 use Rattle.vs_outside.specs.declared.host_net.StreamRead.{StreamRead}
 use Rattle.vs_outside.specs.declared.host_net.StreamRead.TheVariants as read
 use Rattle.vs_outside.specs.declared.host_net.StreamWrite.{StreamWrite}
 use Rattle.vs_outside.specs.declared.host_net.StreamWrite.TheVariants as write
-use Rattle.vs_device_parts.specs.Calls.{Call, DeviceTree, IsReadOf, TakesWithin, Ring, Accept, Dial, Label, ReadStream, WriteStream, ShutWrite}
-use Rattle.vs_device_parts.specs.Calls.{CloseStream}
+use Rattle.vs_device_parts.specs.Calls.{Call, DeviceTree, IsReadOf, TakesWithin, Ring, Accept, Dial, Label, ReadStream, WriteStream}
+use Rattle.vs_device_parts.specs.Calls.{ShutWrite, CloseStream}
 use Rattle.vs_hostile.specs.Answers.{Around, answer_around, bytes_with}
 use Rattle.vs_hostile_laws.specs.Recorded.{Recorded, recording}
-use Rattle.vs_proxy_bytes.specs.Made.{Made, Makes, MayGet, account_of}
+use Rattle.vs_proxy_bytes.specs.{Made.Made, Made.Makes, Made.MayGet, Made.account_of, Told.Shows}
 use Rattle.vs_pipes.proofs.Short.{bytes_short, read_short, write_short}
-use Rattle.vs_proxy_bytes.specs.Told.{Shows}
 use Rattle.vs_proxy_bytes.proofs.Keeping.{Asks, Keeps, keeps_answer, made}
 use Rattle.vs_proxy_bytes.proofs.Telling.{accept_shows, close_shows, dial_shows, label_shows, read_shows, ring_shows, shut_shows}
 use Rattle.vs_proxy_bytes.proofs.Telling.{write_shows}

@@ -2,18 +2,13 @@
 use Rattle.std.specs.Prelude.{◌≡◌, ℕ, ◌≤◌, ◌++◌, List, [], Option, Some, None, Err}
 use Rattle.std.specs.Option.{option_map_or, option_and_then}
 use Rattle.vs_flow.specs.declared.flow.Flow.{Flow}
-use Rattle.vs_outside.specs.Host.{Stream, stream_at}
-use Rattle.vs_outside.specs.HostBytes.{read_after_ok, wrote_after_connect}
+use Rattle.vs_outside.specs.{Host.Stream, Host.stream_at, HostBytes.read_after_ok, HostBytes.wrote_after_connect}
 use Rattle.vs_page.specs.Fair.{IsPrefixOf}
 use Rattle.vs_ring_plain.specs.Device.{DeviceState}
 use Rattle.vs_ring_port.specs.declared.failure.Failure.{Failure}
 use Rattle.vs_proxy_parts.specs.declared.answers.Turn.TheVariants.{Failed}
-use Rattle.vs_proxy_bytes.specs.Carried.{Carries}
-use Rattle.vs_proxy_bytes.specs.Made.{Made, account_of}
-use Rattle.vs_proxy_bytes.specs.Packets.{AreJudged}
-use Rattle.vs_proxy_bytes.specs.Tied.{ok_line_of}
-use Rattle.vs_script.specs.Hostile.{Around, Hostile}
-use Rattle.vs_script.specs.Outside.{Reset, Turn}
+use Rattle.vs_proxy_bytes.specs.{Carried.Carries, Made.Made, Made.account_of, Packets.AreJudged, Tied.ok_line_of}
+use Rattle.vs_script.specs.{Hostile.Around, Hostile.Hostile, Outside.Reset, Outside.Turn}
 use Rattle.vs_hostile.specs.Answer.{state_after}
 use Rattle.vs_hostile.specs.Run.{HasRings, HasTurned, HostileState, WasReset, beginning, hostile_does}
 use Rattle.vs_hostile_laws.specs.Recorded.{calls_of}

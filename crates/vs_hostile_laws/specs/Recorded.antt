@@ -4,12 +4,10 @@ use Rattle.vs_contents.specs.CallTree.{played}
 use Rattle.vs_outside.specs.Host.{HostContents}
 use Rattle.vs_ring_plain.specs.Device.{DeviceState}
 use Rattle.vs_device_parts.specs.Calls.{Answer, Call, DeviceTree}
-use Rattle.vs_hostile.specs.Answers.{Around, answer_around}
-use Rattle.vs_hostile.specs.Run.{GuestState, HasRings, HostileState, hostile_does}
+use Rattle.vs_hostile.specs.{Answers.Around, Answers.answer_around, Run.GuestState, Run.HasRings, Run.HostileState, Run.hostile_does}
 use Rattle.vs_proxy_parts.specs.Turns.{proxy_reset_of, turn_of}
 use Rattle.vs_proxy_bytes.specs.Made.{Made}
-use Rattle.vs_script.specs.Hostile.{Hostile, Around as OfOutside}
-use Rattle.vs_script.specs.Outside.{Outside, Reset, Turn as TakeTurn}
+use Rattle.vs_script.specs.{Hostile.Hostile, Hostile.Around as OfOutside, Outside.Outside, Outside.Reset, Outside.Turn as TakeTurn}
 
 -- What surrounds the device, and the calls that it made so far. A call is answered as before, and recorded.
 pub record Recorded : Type 0 where

@@ -2,12 +2,8 @@
 
 ghost use Rattle.std.specs.Prelude.{◌≡◌, List, [], ◌∷◌};
 ghost use Rattle.vs_script.specs.Hostile.{Hostile};
-ghost use Rattle.vs_hostile.specs.Answer.{state_after};
-ghost use Rattle.vs_hostile.specs.Run.{beginning};
-ghost use Rattle.vs_hostile.specs.Worked.{changed_lines};
-ghost use Rattle.vs_hostile_laws.specs.Isolated.{IsSafe, delivered_to};
-ghost use Rattle.vs_hostile_laws.specs.Recorded.{calls_of};
-ghost use Rattle.vs_hostile_laws.specs.Worked.{two_lines};
+ghost use Rattle.vs_hostile.specs.{Answer.state_after, Run.beginning};
+ghost use Rattle.vs_hostile_laws.specs.{Isolated.IsSafe, Isolated.delivered_to, Recorded.calls_of, Worked.changed_lines, Worked.two_lines};
 
 /// After any lines of a hostile script each stream was given a prefix of its OK line and the payloads delivered on its own connection; at
 /// no time have two streams the connection of one flow; and the payload put on a flow is what was taken of the streams of that flow, each

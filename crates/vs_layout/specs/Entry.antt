@@ -2,8 +2,7 @@
 use Rattle.std.specs.Prelude.{ℕ, List, ◌++◌}
 use Rattle.byteorder.specs.Endian.{little_bytes}
 use Rattle.vs_header.specs.Packet.{field_at}
-use Rattle.vs_layout.specs.declared.entry.Desc.{Desc}
-use Rattle.vs_layout.specs.declared.entry.UsedElem.{UsedElem}
+use Rattle.vs_layout.specs.declared.entry.{Desc.Desc, UsedElem.UsedElem}
 
 -- addr 8 bytes, len 4, flags 2, next 2
 abbrev pub desc_bytes : Desc → List ℕ

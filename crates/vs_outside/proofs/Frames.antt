@@ -1,16 +1,14 @@
 -- What a call of the proxy does to the streams: its own stream is changed as the call says, and the others stay.
-use Rattle.std.proofs.Common.{◌≡◌, ◌≢◌, ℕ, zero, suc, ◌+◌, ◌-◌, ◌≤◌, Bool, true, false, cond, eqb, List, [], ◌∷◌, ◌++◌, length, get_or}
-use Rattle.std.proofs.Common.{set, Option, None, Some, refl, ap, ◌∙◌, arith}
-use Rattle.std.specs.Prelude.{slice_get, IsSomeAnd, position}
-use Rattle.std.specs.Option.{option_map, option_map_or}
+use Rattle.std.proofs.Common.{◌≡◌, ◌≢◌, ℕ, zero, suc, ◌+◌, ◌-◌, ◌≤◌, Bool, true, false, cond, eqb, List, [], ◌∷◌, ◌++◌, length, get_or, set}
+use Rattle.std.proofs.Common.{Option, None, Some, refl, ap, ◌∙◌, arith}
+use Rattle.std.specs.{Prelude.slice_get, Prelude.IsSomeAnd, Prelude.position, Option.option_map, Option.option_map_or}
 use Rattle.std.proofs.lemmas.Bool.Decides.{nat_tests}
 use Rattle.std.proofs.lemmas.Option.{slice_get_past}
 use Rattle.std.proofs.lemmas.List.Quantifiers.{position-Some}
 use Rattle.vs_flow.specs.declared.flow.Flow.{Flow}
 use Rattle.vs_outside.specs.Host.{Stream, HostContents, stream_at, with_stream, IsOpen, KeepsOthers, called, fails_now, after_failed}
-use Rattle.vs_outside.specs.Host.{is_waiting, waits, has_label, take_bytes, give_bytes, is_listened, write_of, accept_answer}
-use Rattle.vs_outside.specs.Host.{after_accept, dialed_stream, dial_answer, IsDialed, after_dial, after_label, after_read, write_answer}
-use Rattle.vs_outside.specs.Host.{IsWritten, after_write, after_shut_write, after_close}
+use Rattle.vs_outside.specs.Host.{is_waiting, waits, has_label, take_bytes, give_bytes, accept_answer, after_accept, dialed_stream}
+use Rattle.vs_outside.specs.Host.{after_dial, after_label, after_read, after_write, after_shut_write, after_close}
 use Rattle.vs_outside.specs.HostProgram.{client_stream}
 use Rattle.vs_outside.proofs.Streams.{stream_there}
 use Rattle.vs_outside.specs.declared.host_net.StreamState.{StreamState}
@@ -35,7 +33,7 @@ slice_get-set_other (z ∷ zs) zero (suc j) y h = refl
 slice_get-set_other (z ∷ zs) (suc k) zero y h = refl
 slice_get-set_other (z ∷ zs) (suc k) (suc j) y h = slice_get-set_other zs k j y (λ e. h (ap suc e))
 
-slice_get-append : {X : Type 0} (xs ys : List X) (k : ℕ) (x : X) → slice_get xs k ≡ Some x → slice_get (xs ++ ys) k ≡ Some x
+pub slice_get-append : {X : Type 0} (xs ys : List X) (k : ℕ) (x : X) → slice_get xs k ≡ Some x → slice_get (xs ++ ys) k ≡ Some x
 slice_get-append [] ys k x h = cc
 slice_get-append (z ∷ zs) ys zero x h = h
 slice_get-append (z ∷ zs) ys (suc k) x h = slice_get-append zs ys k x h
@@ -120,7 +118,7 @@ stream_at-after_dial id flow dialed.Refused c s h = h
 stream_at-after_dial id flow dialed.Failed c s h = stream_at-after_failed id c ∙ h
 
 -- OPEN STREAMS
-open_stream : (o : Option Stream) → IsSomeAnd o (λ s. s.state ≡ state.Open) → (s : Stream) × (o ≡ Some s) × (s.state ≡ state.Open)
+pub open_stream : (o : Option Stream) → IsSomeAnd o (λ s. s.state ≡ state.Open) → (s : Stream) × (o ≡ Some s) × (s.state ≡ state.Open)
 open_stream None h = absurd h
 open_stream (Some s) h = (s, refl, h)
 
@@ -169,30 +167,6 @@ open-dialed flow id c e =
       rw (counted, back) (slice_get_past c.streams (length c.streams) (omega arith)),
       rw (counted, back) (slice_get-append_end c.streams (dialed_stream flow c.prepared)),
     )
-
--- A dial's answer is the one that the contents give, where the host found memory. So is a write's.
-pub dialed_exactly : (path : List ℕ) (flow : Flow) (answer : Dialed) (c : HostContents) → IsDialed path answer c →
-    (after_dial flow answer c).starved ≡ false → answer ≡ dial_answer path c
-dialed_exactly path flow (dialed.Stream id) c h after = h
-dialed_exactly path flow dialed.Refused c h after = h
-dialed_exactly path flow dialed.Failed c h after = fails_on_purpose (fails_now c) after
-  where
-    fails_on_purpose : (b : Bool) → (cond b (called c) (record (called c) { starved = true })).starved ≡ false →
-        dialed.Failed ≡ cond b dialed.Failed (cond (is_listened path c) (dialed.Stream (length c.streams + 1)) dialed.Refused)
-    fails_on_purpose true e = refl
-    fails_on_purpose false e = cc
-
-pub written_exactly : (id : ℕ) (bytes : List ℕ) (answer : StreamWrite) (c : HostContents) → IsWritten id (length bytes) answer c →
-    (after_write id bytes answer c).starved ≡ false → answer ≡ write_answer id (length bytes) c
-written_exactly id bytes (write.Took n) c h after = h
-written_exactly id bytes write.Again c h after = h
-written_exactly id bytes write.Closed c h after = h
-written_exactly id bytes write.Failed c h after = fails_on_purpose (fails_now c) after
-  where
-    fails_on_purpose : (b : Bool) → (cond b (called c) (record (called c) { starved = true })).starved ≡ false →
-        write.Failed ≡ cond b write.Failed (option_map_or (write_of (length bytes)) (stream_at id c) write.Again)
-    fails_on_purpose true e = refl
-    fails_on_purpose false e = cc
 
 accepted_place : (b : Bool) (o : Option ℕ) (id : ℕ) →
     cond b accepted.Failed (option_map_or accepted.Stream (option_map (λ place. place + 1) o) accepted.None) ≡ accepted.Stream id →

@@ -1,19 +1,22 @@
 -- The streams of a host, by id: where they stand, and what a call does to one of them and to the others.
-use Rattle.std.proofs.Common.{◌≡◌, ℕ, zero, suc, ◌+◌, ◌-◌, ◌<◌, Bool, true, false, cond, eqb, List, [], ◌∷◌, ◌++◌, length, get_or, set}
+use Rattle.std.proofs.Common.{◌≡◌, ℕ, zero, suc, ◌+◌, ◌-◌, ◌<◌, Bool, true, false, cond, eqb, List, [], ◌∷◌, ◌++◌, length, min, get_or, set}
 use Rattle.std.proofs.Common.{Option, None, Some, refl, sym, ap, ◌∙◌, arith}
-use Rattle.std.specs.Prelude.{slice_get, IsSomeAnd}
-use Rattle.std.specs.Option.{is_none, is_some}
+use Rattle.std.specs.{Prelude.slice_get, Prelude.IsSomeAnd, Option.is_none, Option.is_some}
 use Rattle.std.proofs.lemmas.List.Sums.{sum_by-set}
 use Rattle.std.proofs.lemmas.Option.{slice_get-get_or, slice_get_within, get_or_from_slice_get}
 use Rattle.std.proofs.lemmas.Bool.Decides.{nat_tests}
-use Rattle.vs_outside.specs.Host.{Stream, HostContents, stream_at, IsOpen, called, after_read, taken_of, write_of, after_write, after_label}
+use Rattle.vs_outside.specs.Host.{Stream, HostContents, stream_at, IsOpen, called, fails_now, ReadsFrom, IsRead, read_of, read_failed}
+use Rattle.vs_outside.specs.Host.{after_read, taken_of, write_of, write_answer, write_failed, IsWritten, after_write, after_label}
+use Rattle.vs_outside.specs.Faults.{CountsFault}
+use Rattle.vs_outside.specs.HostProgram.{changed, unlabelled, ReadsStream, stream_after_write}
 use Rattle.vs_flow.specs.declared.flow.Flow.{Flow}
-use Rattle.vs_outside.specs.HostProgram.{unlabelled, ReadsStream, stream_after_write}
 use Rattle.vs_outside.specs.declared.host_net.StreamState.TheVariants as state
 use Rattle.vs_outside.specs.declared.host_net.StreamRead.{StreamRead}
 use Rattle.vs_outside.specs.declared.host_net.StreamRead.TheVariants as read
 use Rattle.vs_outside.specs.declared.host_net.StreamWrite.{StreamWrite}
 use Rattle.vs_outside.specs.declared.host_net.StreamWrite.TheVariants as write
+use Rattle.vs_outside.specs.declared.mem_stream.StreamChange.{StreamChange}
+use Rattle.vs_outside.specs.declared.mem_stream.StreamChange.TheVariants as change
 
 -- the stream at a place
 pub stream_there : (id place : ℕ) (c : HostContents) (d : Stream) → id ≡ place + 1 → place < length c.streams →
@@ -61,10 +64,62 @@ after_reads id read.End out c old new opened at h = put_back id c old new at h
 after_reads id read.Again out c old new opened at h = put_back id c old new at h
 after_reads id read.Failed out c old new opened at h = put_back id c old new at h
 
+reads_from : (id : ℕ) (answer : StreamRead) (out : List ℕ) (c : HostContents) (old new : Stream) → stream_at id c ≡ Some old →
+    ReadsStream answer out old new → ReadsFrom id answer out c
+reads_from id (read.Got n) out c old new there h = rw there h.0
+reads_from id read.End out c old new there h = tt
+reads_from id read.Again out c old new there h = tt
+reads_from id read.Failed out c old new there h = tt
+
+-- what an open stream answers is the call's answer, where that isn't to fail
+pub is_read : (id : ℕ) (answer : StreamRead) (out : List ℕ) (c : HostContents) (old new : Stream) → IsOpen id c →
+    old ≡ get_or c.streams (id - 1) old → fails_now c ≡ false → answer ≡ read_of (length out) old → ReadsStream answer out old new →
+    IsRead id answer out c
+is_read id answer out c old new opened at works by h =
+    let there = open_at id c old opened at in (
+      rw (works, there) by,
+      reads_from id answer out c old new there h,
+    )
+
+never_failed_read : (a b : Bool) (n : ℕ) → read.Failed ≡ cond a (cond b read.End read.Again) (read.Got n) → ⊥
+never_failed_read true true n h = cc
+never_failed_read true false n h = cc
+never_failed_read false b n h = cc
+
+works_read : (room : ℕ) (answer : StreamRead) (s : Stream) → answer ≡ read_of room s → read_failed answer ≡ false
+works_read room (read.Got n) s h = refl
+works_read room read.End s h = refl
+works_read room read.Again s h = refl
+works_read room read.Failed s h = absurd (never_failed_read (eqb (length s.untaken) 0) s.ended (min room (length s.untaken)) h)
+
+pub read_counts_none : (room : ℕ) (answer : StreamRead) (s : Stream) (old new : ℕ) → answer ≡ read_of room s → new ≡ old →
+    CountsFault (read_failed answer) old new
+read_counts_none room answer s old new by h = rw (works_read room answer s by) h
+
 never_failed : (a b : Bool) (n : ℕ) → write.Failed ≡ cond a write.Closed (cond b write.Again (write.Took n)) → ⊥
 never_failed true b n h = cc
 never_failed false true n h = cc
 never_failed false false n h = cc
+
+works_write : (n : ℕ) (answer : StreamWrite) (s : Stream) → answer ≡ write_of n s → write_failed answer ≡ false
+works_write n (write.Took k) s h = refl
+works_write n write.Again s h = refl
+works_write n write.Closed s h = refl
+works_write n write.Failed s h = absurd (never_failed s.host_closed (eqb (taken_of n s) 0) (taken_of n s) h)
+
+pub write_counts_none : (n : ℕ) (answer : StreamWrite) (s : Stream) (old new : ℕ) → answer ≡ write_of n s → new ≡ old →
+    CountsFault (write_failed answer) old new
+write_counts_none n answer s old new by h = rw (works_write n answer s by) h
+
+as_written : (id n : ℕ) (answer : StreamWrite) (c : HostContents) → answer ≡ write_answer id n c → IsWritten id n answer c
+as_written id n (write.Took k) c h = h
+as_written id n write.Again c h = h
+as_written id n write.Closed c h = h
+as_written id n write.Failed c h = tt
+
+pub is_written : (id n : ℕ) (answer : StreamWrite) (c : HostContents) (old : Stream) → IsOpen id c → old ≡ get_or c.streams (id - 1) old →
+    fails_now c ≡ false → answer ≡ write_of n old → IsWritten id n answer c
+is_written id n answer c old opened at unfailing by = as_written id n answer c (rw (unfailing, open_at id c old opened at) by)
 
 pub after_writes : (id : ℕ) (answer : StreamWrite) (bytes : List ℕ) (c : HostContents) (old new : Stream) →
     answer ≡ write_of (length bytes) old → IsOpen id c → old ≡ get_or c.streams (id - 1) old →
@@ -75,6 +130,25 @@ after_writes id write.Again bytes c old new by opened at h = put_back id c old n
 after_writes id write.Closed bytes c old new by opened at h = put_back id c old new at h
 after_writes id write.Failed bytes c old new by opened at h =
     absurd (never_failed old.host_closed (eqb (taken_of (length bytes) old) 0) (taken_of (length bytes) old) by)
+
+-- a change of a stream leaves its label, so as many have none as before
+label_kept : (most : ℕ) (x : StreamChange) (s : Stream) → (changed most x s).label ≡ s.label
+label_kept most change.Accept s = refl
+label_kept most change.ShutWrite s = refl
+label_kept most change.Close s = refl
+label_kept most (change.Allow n) s = refl
+label_kept most change.End s = refl
+label_kept most change.CloseByHost s = refl
+
+pub as_many_unlabelled : (most : ℕ) (x : StreamChange) (streams : List Stream) (place : ℕ) (old new : Stream) →
+    old ≡ get_or streams place old → new ≡ changed most x old → place < length streams →
+    unlabelled (set streams place new) ≡ unlabelled streams
+as_many_unlabelled most x streams place old new at is within =
+    let count : Stream → ℕ = λ s. cond (is_none s.label) 1 0 in
+    let kept : new.label ≡ old.label = rw is (label_kept most x old) in
+    let before : count (get_or streams place old) ≡ count old = rw (← at) refl in
+    let after : count new ≡ count old = rw kept refl in
+    omega (arith, sum_by-set count streams place new old within, before, after)
 
 -- one stream less has no label once a stream got its first
 pub labels_one : (id : ℕ) (c : HostContents) (streams : List Stream) (old new : Stream) → IsOpen id c → streams ≡ c.streams →

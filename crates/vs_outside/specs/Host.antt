@@ -2,12 +2,9 @@
 -- (The mapping of sockets is that of Firecracker's vsock documentation.)
 use Rattle.std.specs.Prelude.{◌≡◌, ◌≢◌, ℕ, ◌+◌, ◌-◌, min, ◌==◌, Bool, true, false, if◌then◌else◌, List, [], ◌∷◌, ◌++◌, length, take, drop}
 use Rattle.std.specs.Prelude.{position, slice_get, slice_set, Option, None, Some, IsSomeAnd}
-use Rattle.std.specs.List.{list_any}
-use Rattle.std.specs.Option.{is_some, option_map, option_map_or}
-use Rattle.std.specs.Str.{bytes_eq}
+use Rattle.std.specs.{List.list_any, Option.is_some, Option.option_map, Option.option_map_or, Str.bytes_eq}
 use Rattle.vs_flow.specs.declared.flow.Flow.{Flow}
-use Rattle.vs_outside.specs.Faults.{fails_next, counted_down}
-use Rattle.vs_outside.specs.InOut.{MovesSome}
+use Rattle.vs_outside.specs.{Faults.fails_next, Faults.counted_down, InOut.MovesSome}
 use Rattle.vs_outside.specs.declared.host_net.StreamState.{StreamState}
 use Rattle.vs_outside.specs.declared.host_net.StreamState.TheVariants as state
 use Rattle.vs_outside.specs.declared.host_net.Started.{Started}

@@ -3,7 +3,7 @@ use Rattle.std.specs.Prelude.{◌≡◌, ℕ, ◌+◌, min, Bool, true, false, n
 use Rattle.std.specs.Prelude.{is_some, is_none, unwrap_or, count_by, take, codes, decimal, bytes_eq}
 use Rattle.std.specs.Option.{option_map_or}
 use Rattle.vs_outside.specs.Faults.{one_more}
-use Rattle.vs_outside.specs.Host.{Stream, Prepared, HostContents, stream_at, with_stream, take_bytes, give_bytes, dialed_stream}
+use Rattle.vs_outside.specs.Host.{Stream, Prepared, HostContents, called, stream_at, with_stream, take_bytes, give_bytes, dialed_stream}
 use Rattle.vs_flow.specs.declared.flow.Flow.{Flow}
 use Rattle.vs_outside.specs.declared.host_net.StreamRead.{StreamRead}
 use Rattle.vs_outside.specs.declared.host_net.StreamRead.TheVariants as read
@@ -13,6 +13,8 @@ use Rattle.vs_outside.specs.declared.host_net.StreamState.{StreamState}
 use Rattle.vs_outside.specs.declared.host_net.StreamState.TheVariants as state
 use Rattle.vs_outside.specs.declared.mem_stream.HostWritten.{HostWritten}
 use Rattle.vs_outside.specs.declared.mem_stream.HostWritten.TheVariants as written
+use Rattle.vs_outside.specs.declared.mem_stream.StreamChange.{StreamChange}
+use Rattle.vs_outside.specs.declared.mem_stream.StreamChange.TheVariants as change
 
 -- What a host in memory exposes, and how many of its calls failed.
 pub record HostMemory : Type 0 where
@@ -107,6 +109,15 @@ ended s = record s { ended = true }
 abbrev pub closed : Stream → Stream
 closed s = record s { host_closed = true }
 
+-- What each change does to a stream; the room for bytes stands still at `most`.
+abbrev pub changed : ℕ → StreamChange → Stream → Stream
+changed most change.Accept s = record s { state = state.Open }
+changed most change.ShutWrite s = record s { write_shut = true }
+changed most change.Close s = record s { state = state.Closed }
+changed most (change.Allow n) s = allowed most n s
+changed most change.End s = ended s
+changed most change.CloseByHost s = closed s
+
 -- The nth accept, dial, read or write from now is to fail.
 abbrev pub after_fail : ℕ → HostContents → HostContents
 after_fail n c = record c { to_fail = c.to_fail ++ n ∷ [] }
@@ -115,9 +126,10 @@ after_fail n c = record c { to_fail = c.to_fail ++ n ∷ [] }
 abbrev pub after_fail_start : ℕ → HostContents → HostContents
 after_fail_start n c = record c { starts_to_fail = c.starts_to_fail ++ n ∷ [] }
 
--- One more call failed; or the one that failed found no memory.
-abbrev pub counts_fault : HostMemory → HostMemory
-counts_fault m = record m { faults = one_more m.faults }
+-- One more accept, dial, read or write was made, which failed on purpose or didn't; or the one that failed found no memory.
+abbrev pub after_call : Bool → HostMemory → HostMemory
+after_call true m = record m { contents = called m.contents; faults = one_more m.faults }
+after_call false m = record m { contents = called m.contents }
 
 abbrev pub starves : HostMemory → HostMemory
 starves m = record m { contents = record m.contents { starved = true }; faults = one_more m.faults }

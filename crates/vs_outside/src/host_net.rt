@@ -1,7 +1,5 @@
 //! A host's streams, as the proxy uses them (Firecracker's vsock documentation).
-ghost use Rattle.std.specs.Prelude.{◌≡◌, ℕ, Option, length};
-ghost use Rattle.std.specs.Bool.{⊤};
-ghost use Rattle.std.specs.Option.{ForSome};
+ghost use Rattle.std.specs.{Prelude.◌≡◌, Prelude.ℕ, Prelude.Option, Prelude.length, Bool.⊤, Option.ForSome};
 ghost use Rattle.vs_contents.specs.Contents.{Exposes};
 ghost use Rattle.vs_outside.specs.Faults.{CountsFault};
 ghost use Rattle.vs_outside.specs.Host.{HostContents, IsOpen, start_failed, start_answer, after_start, accept_failed, accept_answer};

@@ -1,6 +1,5 @@
 //! Where bytes are read from and written to, the clock, and the gate.
-ghost use Rattle.std.specs.Prelude.{◌≡◌, ◌≤◌, ℕ, Option, List, length};
-ghost use Rattle.std.specs.Bool.{⊤};
+ghost use Rattle.std.specs.{Prelude.◌≡◌, Prelude.◌≤◌, Prelude.ℕ, Prelude.Option, Prelude.List, Prelude.length, Bool.⊤};
 ghost use Rattle.vs_contents.specs.Contents.{Exposes};
 ghost use Rattle.vs_outside.specs.Faults.{CountsFault};
 ghost use Rattle.vs_outside.specs.InOut.{read_failed, ReadsSome, ReadsNext, left_after, write_failed, TakesSome, written_after};

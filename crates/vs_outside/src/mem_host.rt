@@ -1,17 +1,16 @@
 //! A host in memory, whose programs are played by calls of its own.
-ghost use Rattle.std.specs.Prelude.{◌≡◌, ◌<◌, ◌+◌, ◌++◌, ◌∷◌, [], not, length, filter, bytes_eq, string_bytes, MatchOption, None, Some, IsTrue, ◌↔◌};
-ghost use Rattle.std.specs.Prelude.{position, IfSome, IfOk, OnOk, OnErr};
-ghost use Rattle.std.specs.List.{list_any};
+ghost use Rattle.std.specs.Prelude.{◌≡◌, ◌<◌, ◌+◌, ◌∷◌, [], not, length, filter, bytes_eq, string_bytes, MatchOption, None, Some, IsTrue};
+ghost use Rattle.std.specs.{Prelude.◌↔◌, Prelude.position, Prelude.IfSome, Prelude.IfOk, Prelude.OnOk, Prelude.OnErr, List.list_any};
 ghost use Rattle.vs_outside.specs.Faults.{CountsFault};
-ghost use Rattle.vs_outside.specs.Host.{IsOpen, is_waiting, stream_at, with_stream, after_label, read_failed, ReadsSome, IsRead};
+ghost use Rattle.vs_outside.specs.Host.{IsOpen, fails_now, is_waiting, stream_at, with_stream, after_label, read_failed, ReadsSome, IsRead};
 ghost use Rattle.vs_outside.specs.Host.{after_read, write_failed, TakesSome, IsWritten, after_write, after_shut_write, after_close};
 ghost use Rattle.vs_outside.specs.HostProgram.{plain, new_host, port_path, after_listen, after_unlisten, after_client, has_stream};
 ghost use Rattle.vs_outside.specs.HostProgram.{host_write_answer, after_host_write, allowed, ended, closed, after_fail, after_fail_start};
-ghost use Rattle.vs_outside.specs.HostProgram.{counts_fault, starves, adds_dialed};
+ghost use Rattle.vs_outside.specs.HostProgram.{changed, after_call, starves, adds_dialed};
 
 use crate::fail_list::FailList;
 use crate::host_net::{Accepted, Dialed, HostNet, Started, StreamRead, StreamState, StreamWrite};
-use crate::mem_stream::{HostWritten, MemStream, PreparedStream};
+use crate::mem_stream::{HostWritten, MemStream, PreparedStream, StreamChange};
 use itoa::Buffer;
 use std::alloc::{AllocError, Global};
 use std::marker::Model;
@@ -19,7 +18,7 @@ use vs_flow::Flow;
 
 /// A path that is listened on.
 #[derive(Drop)]
-struct ListenedPath {
+pub(crate) struct ListenedPath {
     text: String,
 }
 
@@ -84,22 +83,23 @@ impl MemHost {
     pub fn new(alloc: Global, base: &str) -> Result<MemHost, AllocError>
         ensures { IfOk result (λ host. host ≡ new_host base.now [] plain) }
     {
-        MemHost::prepared(alloc, base, PreparedStream::plain(alloc))
+        MemHost::prepared(alloc, base, Vec::new(alloc), PreparedStream::plain(alloc))
     }
 
-    /// The same, whose dials make streams like that one.
+    /// A host without streams at which these paths are listened on, and whose dials make streams like that one.
     pub(crate) fn prepared(
         alloc: Global,
         base: &str,
+        listening: Vec<ListenedPath>,
         prepared: PreparedStream,
     ) -> Result<MemHost, AllocError>
-        ensures { IfOk result (λ host. host ≡ new_host base.now [] prepared) }
+        ensures { IfOk result (λ host. host ≡ new_host base.now listening.items prepared) }
     {
         Ok(MemHost {
             base: String::from_str(alloc, base)?,
             streams: Vec::new(alloc),
             labelled: Vec::new(alloc),
-            listening: Vec::new(alloc),
+            listening,
             prepared,
             to_fail: FailList::new(alloc),
             starts_to_fail: FailList::new(alloc),
@@ -145,18 +145,6 @@ impl MemHost {
         ensures err { OnErr result (self.new ≡ self.old) }
     {
         let text = port_path(*self.streams.allocator(), &self.base, port)?;
-        self.listening.push(ListenedPath { text })?;
-        Ok(())
-    }
-
-    /// Listens at the base path itself. Where there is no memory for it, all is as before.
-    pub(crate) fn listen_at_base(&mut self) -> Result<(), AllocError>
-        ensures ok { OnOk result (self.new ≡ record self.old {
-          contents = record self.old.contents { listening = self.old.contents.listening ++ self.old.contents.base ∷ [] };
-        }) }
-        ensures err { OnErr result (self.new ≡ self.old) }
-    {
-        let text = String::from_str(*self.streams.allocator(), &self.base)?;
         self.listening.push(ListenedPath { text })?;
         Ok(())
     }
@@ -211,13 +199,7 @@ impl MemHost {
         ensures found { result ≡ has_stream id self.old.contents }
         ensures after { self.new ≡ record self.old { contents = with_stream id (allowed usize.MAX n) self.old.contents } }
     {
-        match self.place(id) {
-            Some(place) => {
-                self.streams[place].allow(n);
-                true
-            }
-            None => false,
-        }
+        self.change(id, StreamChange::Allow(n))
     }
 
     /// The host's program ends a stream: it writes no more. Answers whether there is such a stream.
@@ -225,13 +207,7 @@ impl MemHost {
         ensures found { result ≡ has_stream id self.old.contents }
         ensures after { self.new ≡ record self.old { contents = with_stream id ended self.old.contents } }
     {
-        match self.place(id) {
-            Some(place) => {
-                self.streams[place].end();
-                true
-            }
-            None => false,
-        }
+        self.change(id, StreamChange::End)
     }
 
     /// The host's program closes a stream: it takes nothing more. Answers whether there is such a stream.
@@ -239,9 +215,17 @@ impl MemHost {
         ensures found { result ≡ has_stream id self.old.contents }
         ensures after { self.new ≡ record self.old { contents = with_stream id closed self.old.contents } }
     {
+        self.change(id, StreamChange::CloseByHost)
+    }
+
+    /// Changes a stream so. Answers whether there is such a stream.
+    fn change(&mut self, id: u64, change: StreamChange) -> bool
+        ensures found { result ≡ has_stream id self.old.contents }
+        ensures after { self.new ≡ record self.old { contents = with_stream id (changed usize.MAX change) self.old.contents } }
+    {
         match self.place(id) {
             Some(place) => {
-                self.streams[place].close_by_host();
+                self.streams[place].change(change);
                 true
             }
             None => false,
@@ -264,11 +248,16 @@ impl MemHost {
         self.starts_to_fail.add(n)
     }
 
-    /// Counts a call that failed on purpose.
-    fn count_fault(&mut self)
-        ensures { self.new ≡ counts_fault self.old }
+    /// Counts the accept, dial, read or write that is made now. Answers whether it is to fail, and counts that fault.
+    fn fails(&mut self) -> bool
+        ensures answer { result ≡ fails_now self.old.contents }
+        ensures after { self.new ≡ after_call result self.old }
     {
-        self.faults = self.faults.saturating_add(1);
+        let fails = self.to_fail.call();
+        if fails {
+            self.faults = self.faults.saturating_add(1);
+        }
+        fails
     }
 
     /// Counts a call that failed for want of memory.
@@ -296,7 +285,7 @@ impl MemHost {
     /// The place of the oldest client's stream that waits to be accepted.
     fn oldest_client(&self) -> Option<usize>
         ensures first { result ≡ position is_waiting self.now.contents.streams }
-        ensures within { IfSome result (λ place. place < length self.now.contents.streams) }
+        ensures fits { IfSome result (λ place. place < u64.MAX) }
     {
         self.streams.iter().position(|stream| stream.is_waiting())
     }
@@ -320,29 +309,28 @@ impl HostNet for MemHost {
 
     fn start(&mut self, path: &str) -> Started {
         if self.starts_to_fail.call() {
-            self.count_fault();
+            self.faults = self.faults.saturating_add(1);
             return Started::Failed;
         }
         Started::Ready
     }
 
     fn accept(&mut self) -> Accepted {
-        if self.to_fail.call() {
-            self.count_fault();
+        if self.fails() {
             return Accepted::Failed;
         }
         match self.oldest_client() {
             Some(place) => {
-                self.streams[place].set_state(StreamState::Open);
-                Accepted::Stream(place as u64 + 1)
+                let id = place as u64 + 1;
+                self.change(id, StreamChange::Accept);
+                Accepted::Stream(id)
             }
             None => Accepted::None,
         }
     }
 
     fn dial(&mut self, path: &str, flow: Flow) -> Dialed {
-        if self.to_fail.call() {
-            self.count_fault();
+        if self.fails() {
             return Dialed::Failed;
         }
         if !is_listened(&self.listening, path) {
@@ -374,8 +362,7 @@ impl HostNet for MemHost {
         ensures exact { IsRead id result out.new self.old.contents }
         ensures after { self.new.contents ≡ after_read id result self.old.contents }
     {
-        if self.to_fail.call() {
-            self.count_fault();
+        if self.fails() {
             return StreamRead::Failed;
         }
         self.streams[id as usize - 1].read(out)
@@ -388,8 +375,7 @@ impl HostNet for MemHost {
         ensures exact { IsWritten id (length bytes.now) result self.old.contents }
         ensures after { self.new.contents ≡ after_write id bytes.now result self.old.contents }
     {
-        if self.to_fail.call() {
-            self.count_fault();
+        if self.fails() {
             return StreamWrite::Failed;
         }
         let stream = &mut self.streams[id as usize - 1];
@@ -406,14 +392,14 @@ impl HostNet for MemHost {
         requires { IsOpen id self.old.contents }
         ensures { self.new ≡ record self.old { contents = after_shut_write id self.old.contents } }
     {
-        self.streams[id as usize - 1].shut_write();
+        self.change(id, StreamChange::ShutWrite);
     }
 
     fn close(&mut self, id: u64)
         requires { IsOpen id self.old.contents }
         ensures { self.new ≡ record self.old { contents = after_close id self.old.contents } }
     {
-        self.streams[id as usize - 1].set_state(StreamState::Closed);
+        self.change(id, StreamChange::Close);
     }
 }
 
@@ -425,6 +411,16 @@ fn port_path(alloc: Global, base: &str, port: u32) -> Result<String, AllocError>
     text.push('_')?;
     text.push_str(Buffer::new().format(port))?;
     Ok(text)
+}
+
+/// That path alone.
+pub(crate) fn one_path(alloc: Global, path: &str) -> Result<Vec<ListenedPath>, AllocError>
+    ensures { IfOk result (λ paths. paths.items ≡ path.now ∷ []) }
+{
+    let mut paths = Vec::with_capacity(alloc, 1)?;
+    let text = String::from_str(alloc, path)?;
+    paths.push_reserved(ListenedPath { text });
+    Ok(paths)
 }
 
 /// Whether the path is one of those.
@@ -439,61 +435,4 @@ fn remove_path(paths: &mut Vec<ListenedPath>, path: &str)
     ensures { paths.new.items ≡ filter (λ p. not (bytes_eq p path.now)) paths.old.items }
 {
     paths.retain(|p| p.as_str() != path);
-}
-
-#[cfg(test)]
-mod tests {
-    use super::*;
-    use crate::peer_host::PeerHost;
-    use std::test::Fail;
-
-    const FLOW: Flow = Flow {
-        guest: 1024,
-        host: 52,
-    };
-
-    fn made<H: HostNet>(host: &mut H, path: &str) -> (Started, Accepted, Dialed) {
-        (host.start(path), host.accept(), host.dial(path, FLOW))
-    }
-
-    #[test]
-    fn streams_pass_bytes_both_ways(rt: HostRuntime) -> Result<(), Fail> {
-        let mut host = MemHost::new(rt.alloc(), "v.sock")?;
-        host.listen(52)?;
-        host.client()?;
-        assert_eq!(rt;
-            made(&mut host, "v.sock_52"),
-            (Started::Ready, Accepted::Stream(1), Dialed::Stream(2))
-        );
-        assert_eq!(rt; host.host_write(2, b"abcdef")?, HostWritten::Ok);
-        assert!(rt; host.is_open(2));
-        assert_eq!(rt; host.write(2, b"hello"), StreamWrite::Took(5));
-        assert!(rt; !host.starved());
-        assert_eq!(rt; host.faults(), 0);
-        assert_eq!(rt; host.streams().len(), 2);
-        for stream in host.streams() {
-            assert!(rt; stream.is_by_client() || stream.read_after_ok() == b"hello".as_slice());
-        }
-        Ok(())
-    }
-
-    #[test]
-    fn a_peer_gives_what_is_prepared(rt: HostRuntime) -> Result<(), Fail> {
-        let prepared = PreparedStream {
-            bytes: Vec::from_slice(rt.alloc(), b"OK")?,
-            ended: true,
-            room: Some(0),
-            closed: false,
-        };
-        let mut host = PeerHost::new(rt.alloc(), "v.sock", prepared)?;
-        assert_eq!(rt;
-            made(&mut host, "v.sock"),
-            (Started::Ready, Accepted::None, Dialed::Stream(1))
-        );
-        assert!(rt; host.host().is_open(1));
-        let mut out = [0; 4];
-        assert_eq!(rt; host.read(1, &mut out), StreamRead::Got(2));
-        assert_eq!(rt; out, *b"OK\0\0");
-        Ok(())
-    }
 }

@@ -1,9 +1,6 @@
 //! A source, a sink, a clock and a gate in memory.
 ghost use Rattle.std.specs.Prelude.{◌≡◌, ◌≤◌, ◌+◌, ◌++◌, ◌∷◌, [], min, length, Some, OnOk, OnErr};
-ghost use Rattle.std.specs.Bool.{⊤};
-ghost use Rattle.vs_contents.specs.Contents.{Exposes};
-ghost use Rattle.vs_outside.specs.Faults.{CountsFault};
-ghost use Rattle.vs_outside.specs.InOut.{read_failed, ReadsSome, ReadsNext, left_after, write_failed, TakesSome, written_after};
+ghost use Rattle.vs_outside.specs.InOut.{ReadsSome, ReadsNext, TakesSome};
 ghost use Rattle.vs_outside.specs.MemIo.{new_source, read_answer, after_read, new_sink, IsWritten, after_write};
 
 use crate::fail_list::FailList;
@@ -82,7 +79,7 @@ impl Source for MemSource {
         if left.is_empty() {
             return SourceRead::End;
         }
-        let n = self.piece.min(out.len()).min(left.len());
+        let n = self.piece.min(out.len().min(left.len()));
         out[..n].copy_from_slice(&left[..n]);
         self.at += n;
         SourceRead::Got(n)
@@ -218,47 +215,4 @@ impl Gate for FreeGate {
     fn turned(&self, n: u64) {}
 
     fn pause(&self) {}
-}
-
-#[cfg(test)]
-mod tests {
-    use super::*;
-    use std::test::Fail;
-
-    fn copied<S: Source, K: Sink>(source: &mut S, sink: &mut K) -> (SourceRead, SinkWrite) {
-        let mut room = [0; 4];
-        let read = source.read(&mut room);
-        (read, sink.write(&room))
-    }
-
-    fn told<C: Clock, G: Gate>(clock: &mut C, gate: &G) -> u64 {
-        gate.before(0, 1);
-        gate.holding(0);
-        gate.turned(1);
-        gate.pause();
-        clock.now()
-    }
-
-    #[test]
-    fn the_calls_that_are_to_fail_fail(rt: HostRuntime) -> Result<(), Fail> {
-        let bytes = Vec::from_slice(rt.alloc(), b"abcde")?;
-        let mut source = MemSource::new(rt.alloc(), bytes, 3);
-        source.fail(2)?;
-        let mut sink = MemSink::new(rt.alloc(), 2);
-        sink.fail(1)?;
-        assert_eq!(rt;
-            copied(&mut source, &mut sink),
-            (SourceRead::Got(3), SinkWrite::Failed)
-        );
-        assert_eq!(rt;
-            copied(&mut source, &mut sink),
-            (SourceRead::Failed, SinkWrite::Took(2))
-        );
-        assert_eq!(rt; (source.faults(), sink.faults()), (1, 1));
-        assert_eq!(rt; sink.bytes(), b"\0\0".as_slice());
-        let mut clock = StepClock::new();
-        clock.tick(2_000);
-        assert_eq!(rt; told(&mut clock, &FreeGate), 2_000);
-        Ok(())
-    }
 }

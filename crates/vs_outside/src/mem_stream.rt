@@ -2,8 +2,7 @@
 ghost use Rattle.std.specs.Prelude.{◌≡◌, ◌≤◌, ◌<◌, ◌-◌, ◌==◌, true, length, min, take, position, IfSome, IfOk, OnOk, OnErr, is_none};
 ghost use Rattle.std.specs.Option.{option_map};
 ghost use Rattle.vs_outside.specs.Host.{dialed_stream, is_waiting, read_of, taken_of, write_of};
-ghost use Rattle.vs_outside.specs.HostProgram.{plain, client_stream, ReadsStream, stream_after_write, is_over, with_bytes, allowed};
-ghost use Rattle.vs_outside.specs.HostProgram.{ended, closed};
+ghost use Rattle.vs_outside.specs.HostProgram.{plain, client_stream, ReadsStream, stream_after_write, is_over, with_bytes, changed};
 ghost use Rattle.vs_outside.specs.HostBytes.{after_line, wrote_after_connect, read_after_ok};
 
 use crate::host_net::{StreamRead, StreamState, StreamWrite};
@@ -23,6 +22,23 @@ pub enum HostWritten {
     Ended,
     /// There is no stream of that id.
     NoStream,
+}
+
+/// A change of a stream that moves no bytes.
+#[derive(Clone, Copy)]
+pub(crate) enum StreamChange {
+    /// The proxy accepts it.
+    Accept,
+    /// The proxy shuts the side that it writes to.
+    ShutWrite,
+    /// The proxy closes it.
+    Close,
+    /// The host's program takes so many bytes more.
+    Allow(usize),
+    /// The host's program ends it.
+    End,
+    /// The host's program closes it.
+    CloseByHost,
 }
 
 /// What a stream is like when a dial makes it, at the end of the host's program.
@@ -229,18 +245,20 @@ impl MemStream {
         first
     }
 
-    /// The proxy was given the stream, or closed it.
-    pub(crate) fn set_state(&mut self, state: StreamState)
-        ensures { self.new ≡ record self.old { state = state } }
+    /// Changes the stream so.
+    pub(crate) fn change(&mut self, change: StreamChange)
+        ensures { self.new ≡ changed usize.MAX change self.old }
     {
-        self.state = state;
-    }
-
-    /// The proxy shuts the side that it writes to.
-    pub(crate) fn shut_write(&mut self)
-        ensures { self.new ≡ record self.old { write_shut = true } }
-    {
-        self.write_shut = true;
+        match change {
+            StreamChange::Accept => self.state = StreamState::Open,
+            StreamChange::ShutWrite => self.write_shut = true,
+            StreamChange::Close => self.state = StreamState::Closed,
+            StreamChange::Allow(n) => {
+                self.room = Some(self.room.unwrap_or(0).saturating_add(n));
+            }
+            StreamChange::End => self.ended = true,
+            StreamChange::CloseByHost => self.host_closed = true,
+        }
     }
 
     /// The proxy reads the next bytes into the front of `out`.
@@ -304,27 +322,6 @@ impl MemStream {
         ensures err { OnErr result (self.new ≡ self.old) }
     {
         self.written.extend_from_slice(bytes)
-    }
-
-    /// The host's program takes `n` bytes more.
-    pub(crate) fn allow(&mut self, n: usize)
-        ensures { self.new ≡ allowed usize.MAX n self.old }
-    {
-        self.room = Some(self.room.unwrap_or(0).saturating_add(n));
-    }
-
-    /// The host's program ends the stream.
-    pub(crate) fn end(&mut self)
-        ensures { self.new ≡ ended self.old }
-    {
-        self.ended = true;
-    }
-
-    /// The host's program closes the stream.
-    pub(crate) fn close_by_host(&mut self)
-        ensures { self.new ≡ closed self.old }
-    {
-        self.host_closed = true;
     }
 }
 

@@ -3,7 +3,7 @@ ghost use Rattle.std.specs.Prelude.{◌≡◌, ◌∷◌, [], Some, IfOk, OnOk, 
 ghost use Rattle.vs_outside.specs.HostProgram.{plain, new_host, after_fail, after_fail_start};
 
 use crate::host_net::{Accepted, Dialed, HostNet, Started, StreamRead, StreamWrite};
-use crate::mem_host::MemHost;
+use crate::mem_host::{MemHost, one_path};
 use crate::mem_stream::PreparedStream;
 use std::alloc::{AllocError, Global};
 use std::marker::Model;
@@ -28,8 +28,7 @@ impl PeerHost {
     pub fn new(alloc: Global, base: &str, prepared: PreparedStream) -> Result<PeerHost, AllocError>
         ensures { IfOk result (λ host. host ≡ new_host base.now (base.now ∷ []) prepared) }
     {
-        let mut host = MemHost::prepared(alloc, base, prepared)?;
-        host.listen_at_base()?;
+        let host = MemHost::prepared(alloc, base, one_path(alloc, base)?, prepared)?;
         Ok(PeerHost { host })
     }
 

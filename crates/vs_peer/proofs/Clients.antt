@@ -1,17 +1,14 @@
 -- A client's stream, from its dial on.
 use Rattle.std.proofs.Common.{◌≡◌, ◌≢◌, ℕ, zero, suc, ◌+◌, ◌-◌, Bool, true, false, cond, eqb, ◌||◌, List, [], ◌∷◌, ◌++◌, length, Option}
 use Rattle.std.proofs.Common.{Some, None, refl, sym, ap, subst, ◌∙◌, arith}
-use Rattle.std.specs.Prelude.{slice_get, IsSomeAnd}
-use Rattle.std.specs.Option.{ForSome}
+use Rattle.std.specs.{Prelude.slice_get, Prelude.IsSomeAnd, Option.ForSome}
 use Rattle.std.proofs.lemmas.Bool.Decides.{nat_tests}
 use Rattle.vs_contents.specs.Contents.{Relates}
 use Rattle.vs_flow.specs.declared.flow.Flow.{Flow}
 use Rattle.vs_outside.specs.Host.{Stream, HostContents, stream_at, IsOpen, fails_now, is_listened, dialed_stream, after_dial, IsDialed}
 use Rattle.vs_outside.specs.declared.host_net.Dialed.TheVariants as dialed
 use Rattle.vs_outside.proofs.Frames.{open-dialed, open_of, stream_at-after_failed}
-use Rattle.vs_peer.specs.Passing.{Moves}
-use Rattle.vs_peer.specs.Receiving.{SameStreams}
-use Rattle.vs_peer.specs.Client.{HasClient, IsUnheard, client_flow}
+use Rattle.vs_peer.specs.{Passing.Moves, Passing.SameStreams, Client.HasClient, Client.IsUnheard, Client.client_flow}
 
 -- A relation that follows from another.
 pub relates_map : (R S : HostContents → HostContents → Type 0) (a b : Option HostContents) → ((x y : HostContents) → R x y → S x y) →

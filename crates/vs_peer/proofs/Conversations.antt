@@ -8,14 +8,10 @@ use Rattle.vs_outside.specs.Host.{Stream, HostContents, stream_at}
 use Rattle.vs_uds.specs.ConnectLine.{connect_text}
 use Rattle.vs_peer.specs.Client.{Any, IsAnswered, IsUnanswered, Opens}
 use Rattle.vs_peer.specs.Conversing.{Carries, Converses, Failed, HasSent, IsDone, IsFailed, IsStuckNow, IsWaiting, Stuck, Unanswered}
-use Rattle.vs_peer.specs.Conversing.{Unopened}
-use Rattle.vs_peer.specs.Exchanging.{Exchanges, IsStuck}
-use Rattle.vs_peer.specs.Passing.{IsClosed, Moves, ReadsAgain, ReadsEnd, WritesAgain}
-use Rattle.vs_peer.specs.Pieces.{Emits}
-use Rattle.vs_peer.specs.Sending.{IsSending, IsStill, is_shut}
-use Rattle.vs_peer.specs.Text.{port_text, GivesPort}
-use Rattle.vs_peer.specs.declared.send.Sending.{Sending}
-use Rattle.vs_peer.specs.declared.send.Side.{Side}
+use Rattle.vs_peer.specs.{Conversing.Unopened, Exchanging.Exchanges, Exchanging.IsStuck}
+use Rattle.vs_peer.specs.{Passing.IsClosed, Passing.Moves, Passing.ReadsAgain, Passing.ReadsEnd, Passing.WritesAgain, Pieces.Emits}
+use Rattle.vs_peer.specs.{Sending.IsSending, Sending.IsStill, Sending.is_shut, Text.port_text, Text.GivesPort}
+use Rattle.vs_peer.specs.declared.send.{Sending.Sending, Side.Side}
 use Rattle.vs_peer.specs.declared.send.Side.TheVariants as side
 use Rattle.vs_peer.specs.declared.stop.Stop.{Stop}
 use Rattle.vs_peer.specs.declared.stop.Stop.TheVariants as stop

@@ -1,11 +1,9 @@
 -- The last line, behind what was written before.
 use Rattle.std.proofs.Common.{◌≡◌, inl, inr, ℕ, true, List, ◌++◌, Option, Result, Err, refl, subst, ◌∙◌}
-use Rattle.vs_outside.specs.Faults.{CountsFault}
-use Rattle.vs_outside.specs.Host.{HostContents}
+use Rattle.vs_outside.specs.{Faults.CountsFault, Host.HostContents}
 use Rattle.vs_peer.specs.Conversing.{Converses}
 use Rattle.vs_peer.specs.Ends.{EndsAs, EndsUnread, HostFails, Lent, Meets, NoMemory, PeerEnds, SourceFails, Waits}
-use Rattle.vs_peer.specs.Failing.{host_failed, sink_failed, source_failed}
-use Rattle.vs_peer.specs.Pieces.{Emits}
+use Rattle.vs_peer.specs.{Failing.host_failed, Failing.sink_failed, Failing.source_failed, Pieces.Emits}
 use Rattle.vs_peer.specs.Text.{host_fault_text, waited_text}
 use Rattle.vs_peer.specs.declared.source.ReadError.{ReadError}
 use Rattle.vs_peer.specs.declared.source.ReadError.TheVariants as read_error

@@ -1,28 +1,23 @@
 -- Steps of an exchange, one after another.
 use Rattle.std.proofs.Common.{◌≡◌, inl, inr, ℕ, Bool, true, false, ◌||◌, List, [], ◌++◌, take, Option, Some, None, Result, Ok, Err, refl}
 use Rattle.std.proofs.Common.{sym, subst, ◌∙◌, append-nil, arith}
-use Rattle.std.specs.Prelude.{IsSomeAnd}
-use Rattle.std.specs.Option.{ForSome}
+use Rattle.std.specs.{Prelude.IsSomeAnd, Option.ForSome}
 use Rattle.vs_contents.specs.Contents.{Relates}
-use Rattle.vs_outside.specs.Host.{Stream, HostContents, IsOpen, stream_at}
-use Rattle.vs_outside.specs.Faults.{CountsFault}
+use Rattle.vs_outside.specs.{Host.Stream, Host.HostContents, Host.IsOpen, Host.stream_at, Faults.CountsFault}
 use Rattle.vs_peer.specs.Failing.{sink_failed}
-use Rattle.vs_peer.specs.Passing.{Moves, Now, ReadsAgain, ReadsEnd, WritesAgain}
-use Rattle.vs_peer.specs.Pieces.{Emits}
-use Rattle.vs_peer.specs.Receiving.{Receives, SameStreams}
+use Rattle.vs_peer.specs.Passing.{Moves, Now, ReadsAgain, ReadsEnd, WritesAgain, SameStreams}
+use Rattle.vs_peer.specs.{Pieces.Emits, Receiving.Receives}
 use Rattle.vs_peer.specs.Sending.{IsSending, IsStill, GoesOn, Sends, between, is_shut, shuts}
 use Rattle.vs_peer.specs.Exchanging.{Exchanges, Exchanged, ExchangedCut, Leaves, Stepped, SteppedCut, Steps, comes_to, still}
 use Rattle.vs_peer.specs.declared.exchange.Progress.{Progress}
 use Rattle.vs_peer.specs.declared.exchange.Progress.TheVariants as progress
 use Rattle.vs_peer.specs.declared.receive.Came.{Came}
 use Rattle.vs_peer.specs.declared.receive.Came.TheVariants as came
-use Rattle.vs_peer.specs.declared.send.Sending.{Sending}
-use Rattle.vs_peer.specs.declared.send.Side.{Side}
+use Rattle.vs_peer.specs.declared.send.{Sending.Sending, Side.Side}
 use Rattle.vs_peer.specs.declared.send.Side.TheVariants as side
 use Rattle.vs_peer.specs.declared.stop.Stop.{Stop}
 use Rattle.vs_peer.specs.declared.stop.Stop.TheVariants as stop
-use Rattle.vs_peer.proofs.Pieces.{emits_none, emits_append, emits_then_some}
-use Rattle.vs_peer.proofs.Sends.{joined_between}
+use Rattle.vs_peer.proofs.{Pieces.emits_none, Pieces.emits_append, Pieces.emits_then_some, Sends.joined_between}
 use Rattle.vs_peer.proofs.Streams.{moves_closed, moves_not, relates_as, relates_not, relates_then}
 
 -- A call that changes no stream passes nothing.
@@ -176,11 +171,7 @@ done id bytes t host after out out' progress.Still is h left = absurd (never is)
     never : progress.Still ≡ progress.Done → ⊥
     never e = cc
 
-pub waits : (id : ℕ) (bytes : List ℕ) (t : Sending) (host after : Option HostContents) (out out' : Option (List ℕ)) (e : Stop) →
-    e ≡ stop.Waited → (p : Progress) →
+pub waits : (id : ℕ) (bytes : List ℕ) (t : Sending) (host after : Option HostContents) (out out' : Option (List ℕ)) (p : Progress) →
     p ≡ progress.Still → Exchanged id bytes t host after out out' → Leaves id bytes t after p →
-    Exchanges id bytes host after out out' (Err e)
-waits id bytes t host after out out' e is p still h left =
-    let P : Stop → Type 0 = λ x. Exchanges id bytes host after out out' (Err x) in
-    let Q : Progress → Type 0 = λ x. Leaves id bytes t after x in
-    subst P (sym is) (t, h, subst Q still left)
+    Exchanges id bytes host after out out' (Err stop.Waited)
+waits id bytes t host after out out' p still h left = let Q : Progress → Type 0 = λ x. Leaves id bytes t after x in (t, h, subst Q still left)

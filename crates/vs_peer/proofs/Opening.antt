@@ -7,8 +7,7 @@ use Rattle.vs_uds.specs.ConnectLine.{connect_text}
 use Rattle.vs_peer.specs.Asking.{Answers, AnswersBad, AnswersPort, AnswersSome, Asks, AsksSome}
 use Rattle.vs_peer.specs.Client.{Any, Asked, Asking, Closed, Dials, Ended, HasClient, IsAnswered, IsAsked, IsAsking, IsRefused}
 use Rattle.vs_peer.specs.Client.{IsUnanswered, IsUnheard, Misheard, Opens, Unheard}
-use Rattle.vs_peer.specs.Passing.{IsClosed, Moves, Now, ReadsAgain, ReadsEnd, WritesAgain}
-use Rattle.vs_peer.specs.Receiving.{SameStreams}
+use Rattle.vs_peer.specs.Passing.{IsClosed, Moves, Now, ReadsAgain, ReadsEnd, WritesAgain, SameStreams}
 use Rattle.vs_peer.specs.declared.stop.Stop.{Stop}
 use Rattle.vs_peer.specs.declared.stop.Stop.TheVariants as stop
 use Rattle.vs_peer.proofs.Clients.{client_now, client_then, client_as, relates_both, relates_map, relates_now}

@@ -2,8 +2,7 @@
 use Rattle.std.proofs.Common.{ℕ, List, [], false, Option, Result, Ok, Err}
 use Rattle.vs_contents.specs.Contents.{Relates}
 use Rattle.vs_outside.specs.Host.{HostContents}
-use Rattle.vs_peer.specs.Passing.{Moves}
-use Rattle.vs_peer.specs.Receiving.{Gives, Receives}
+use Rattle.vs_peer.specs.{Passing.Moves, Receiving.Gives, Receiving.Receives}
 use Rattle.vs_peer.specs.declared.receive.Came.{Came}
 use Rattle.vs_peer.specs.declared.receive.Came.TheVariants as came
 use Rattle.vs_peer.specs.declared.stop.Stop.{Stop}

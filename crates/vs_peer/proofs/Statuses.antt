@@ -6,10 +6,9 @@ use Rattle.std.proofs.lemmas.List.{length-take}
 use Rattle.std.proofs.lemmas.Bool.Decides.{nat_tests}
 use Rattle.vs_outside.specs.Faults.{CountsFault}
 use Rattle.vs_peer.specs.Ends as ends
-use Rattle.vs_peer.specs.Ends.{EndsAs, Lent, Means, Meets, PeerEnds}
-use Rattle.vs_peer.specs.Pieces.{Emits, EmitsSome, IsReading, ReadsAll}
-use Rattle.vs_peer.specs.Statuses.{Belongs, Came, Done, HostFault, IsSource, Line, NoFault, NoMemory, Refused, Says, SinkFault}
-use Rattle.vs_peer.specs.Statuses.{SourceFault, TooLong, Waited, is_faultless}
+use Rattle.vs_peer.specs.{Ends.Lent, Ends.Meets, Ends.PeerEnds, Pieces.Emits, Pieces.EmitsSome, Pieces.IsReading, Pieces.ReadsAll}
+use Rattle.vs_peer.specs.Statuses.{Belongs, Came, Done, HostFault, IsSource, Line, NoFault, NoMemory, Refused, Says, SinkFault, SourceFault}
+use Rattle.vs_peer.specs.Statuses.{TooLong, Waited, is_faultless}
 use Rattle.vs_peer.specs.Text.{no_memory_text, read_fault_text, too_long_text}
 use Rattle.vs_peer.specs.declared.source.TheConstants.{SOURCE_MAX}
 

@@ -1,20 +1,19 @@
 -- What each call does to the client's stream.
 use Rattle.std.proofs.Common.{◌≡◌, ℕ, zero, suc, ◌≤◌, Bool, true, false, cond, ◌||◌, List, [], ◌∷◌, ◌++◌, length, take, min, ◌==◌, ◌≢◌}
 use Rattle.std.proofs.Common.{Option, Some, None, refl, sym, ap, ◌∙◌, subst, append_assoc, append-nil, arith}
-use Rattle.std.specs.Prelude.{IsSomeAnd}
+use Rattle.std.specs.{Prelude.IsSomeAnd, Option.ForSome, Option.option_map_or}
 use Rattle.std.proofs.lemmas.Bool.Decides.{nat_tests}
-use Rattle.std.specs.Option.{ForSome, option_map_or}
 use Rattle.vs_contents.specs.Contents.{Exposes, Relates}
-use Rattle.vs_outside.specs.Host.{Stream, HostContents, stream_at, KeepsOthers, IsOpen, called, fails_now, after_failed, read_of}
-use Rattle.vs_outside.specs.Host.{write_of, read_answer, write_answer}
-use Rattle.vs_outside.specs.Host.{after_read, after_write, after_shut_write, take_bytes, give_bytes, ReadsFrom, next_bytes}
+use Rattle.vs_outside.specs.Host.{Stream, HostContents, stream_at, KeepsOthers, IsOpen, called, fails_now, read_of, write_of, read_answer}
+use Rattle.vs_outside.specs.Host.{write_answer, after_read, after_write, after_shut_write, take_bytes, give_bytes, ReadsFrom, next_bytes}
+use Rattle.vs_outside.specs.Host.{IsRead, IsWritten}
 use Rattle.vs_outside.specs.declared.host_net.StreamState.TheVariants as state
 use Rattle.vs_outside.specs.declared.host_net.StreamRead.{StreamRead}
 use Rattle.vs_outside.specs.declared.host_net.StreamRead.TheVariants as read
 use Rattle.vs_outside.specs.declared.host_net.StreamWrite.{StreamWrite}
 use Rattle.vs_outside.specs.declared.host_net.StreamWrite.TheVariants as write
 use Rattle.vs_outside.proofs.Frames.{stream_at-with_stream, keeps_others, stream_at-after_failed, open_of}
-use Rattle.vs_peer.specs.Passing.{IsMoved, Moves, Now, IsClosed, WritesAgain, ReadsAgain, ReadsEnd}
+use Rattle.vs_peer.specs.Passing.{IsMoved, Moves, Now, IsClosed, WritesAgain, ReadsAgain, ReadsEnd, SameStreams, ReadPasses, WritePasses}
 
 -- Nothing passed.
 same_stream : (s : Stream) → IsMoved [] [] false s s
@@ -77,6 +76,18 @@ relates_as id g g' k k' w w' a b m p q r =
     let R : Bool → Type 0 = λ x. Relates a b (Moves id g' k' x) in
     subst R r (subst Q q (subst P p m))
 
+pub same_moves : (id : ℕ) (a b : Option HostContents) → Relates a b SameStreams → Relates a b (Moves id [] [] false)
+same_moves id None b same = same
+same_moves id (Some a) None same = absurd same
+same_moves id (Some a) (Some b) same = moves_not id a b same
+
+-- One thing passed, and then nothing.
+pub still_moves : (id : ℕ) (g k : List ℕ) (w : Bool) (a b c : Option HostContents) → Relates a b (Moves id g k w) →
+    Relates b c SameStreams → Relates a c (Moves id g k w)
+still_moves id g k w a b c m same =
+    relates_as id (g ++ []) g (k ++ []) k w w a c (relates_then id g [] k [] w false a b c m (same_moves id b c same)) (append-nil g)
+    (append-nil k) refl
+
 -- What a call's clause says of the contents.
 pub exposed_relates : (P : HostContents → Type 0) (f : HostContents → HostContents) (R : HostContents → HostContents →
     Type 0) (a b : Option HostContents) →
@@ -86,7 +97,7 @@ exposed_relates P f R (Some a) None h then = cc
 exposed_relates P f R (Some a) (Some b) h then =
     let same : f a ≡ b = cc in subst (λ x. R a x) same (then a refl h.0)
 
-pub exposed_now : (P : HostContents → Type 0) (f : HostContents → HostContents) (Q : HostContents → Type 0) (a b : Option HostContents) →
+exposed_now : (P : HostContents → Type 0) (f : HostContents → HostContents) (Q : HostContents → Type 0) (a b : Option HostContents) →
     Exposes a b P f → ((c : HostContents) → a ≡ Some c → P c → Q (f c)) → ForSome b Q
 exposed_now P f Q None b h then c is = cc
 exposed_now P f Q (Some a) b h then c is =
@@ -123,35 +134,23 @@ moves_closed id g k w (Some a) (Some b) m was closed c is =
     subst (λ x. IsSomeAnd (stream_at id x) IsClosed) same (rw t.1 (t.2.closed ∙ s.2))
 
 -- A write, a read, a shutting of the write side.
-abbrev pub given_by : StreamWrite → List ℕ → List ℕ
-given_by (write.Took n) bytes = take n bytes
-given_by _ bytes = []
-
-abbrev pub taken_by : StreamRead → List ℕ → List ℕ
-taken_by (read.Got n) out = take n out
-taken_by _ out = []
-
 changed : (id : ℕ) (g k : List ℕ) (w : Bool) (f : Stream → Stream) (c d : HostContents) →
     ((s : Stream) → stream_at id c ≡ Some s → stream_at id d ≡ Some (f s)) → KeepsOthers id c d →
     ((s : Stream) → stream_at id c ≡ Some s → IsMoved g k w s (f s)) → Moves id g k w c d
 changed id g k w f c d there others moved = record { stream = λ s at. (f s, there s at, moved s at); others = others }
 
-pub wrote : (id : ℕ) (bytes : List ℕ) (answer : StreamWrite) (c : HostContents) →
-    Moves id (given_by answer bytes) [] false c (after_write id bytes answer c)
-wrote id bytes (write.Took n) c =
+wrote : (id n : ℕ) (bytes : List ℕ) (c : HostContents) → Moves id (take n bytes) [] false c (after_write id bytes (write.Took n) c)
+wrote id n bytes c =
     changed id (take n bytes) [] false (give_bytes n bytes) c (after_write id bytes (write.Took n) c)
     (λ s there. stream_at-with_stream id (give_bytes n bytes) (called c) s there) (keeps_others id (give_bytes n bytes) (called c))
     (λ s there. record { label = refl; state = refl; given = refl; taken = sym (append-nil s.taken); shut = refl; closed = refl })
-wrote id bytes write.Again c = moves_not id c (called c) (λ other. refl)
-wrote id bytes write.Closed c = moves_not id c (called c) (λ other. refl)
-wrote id bytes write.Failed c = moves_not id c (after_failed c) (λ other. stream_at-after_failed other c)
 
 next_of : (id n : ℕ) (c : HostContents) (s : Stream) → stream_at id c ≡ Some s → next_bytes id n c ≡ take n s.untaken
 next_of id n c s there = rw there refl
 
-pub reads : (id : ℕ) (answer : StreamRead) (out : List ℕ) (c : HostContents) → ReadsFrom id answer out c →
-    Moves id [] (taken_by answer out) false c (after_read id answer c)
-reads id (read.Got n) out c from =
+reads : (id n : ℕ) (out : List ℕ) (c : HostContents) → ReadsFrom id (read.Got n) out c →
+    Moves id [] (take n out) false c (after_read id (read.Got n) c)
+reads id n out c from =
     changed id [] (take n out) false (take_bytes n) c (after_read id (read.Got n) c)
     (λ s there. stream_at-with_stream id (take_bytes n) (called c) s there) (keeps_others id (take_bytes n) (called c))
     (λ s there. record {
@@ -162,9 +161,6 @@ reads id (read.Got n) out c from =
       shut = refl;
       closed = refl;
     })
-reads id read.End out c from = moves_not id c (called c) (λ other. refl)
-reads id read.Again out c from = moves_not id c (called c) (λ other. refl)
-reads id read.Failed out c from = moves_not id c (called c) (λ other. refl)
 
 pub shut_writes : (id : ℕ) (c : HostContents) → Moves id [] [] true c (after_shut_write id c)
 shut_writes id c =
@@ -207,7 +203,7 @@ not_failing_read : (b : Bool) (a d : StreamRead) → a ≢ read.Failed → a ≡
 not_failing_read true a d fails h = absurd (fails h)
 not_failing_read false a d fails h = h
 
-pub writes_again : (id n : ℕ) (c : HostContents) → IsOpen id c → 1 ≤ n → write.Again ≡ write_answer id n c →
+writes_again : (id n : ℕ) (c : HostContents) → IsOpen id c → 1 ≤ n → write.Again ≡ write_answer id n c →
     IsSomeAnd (stream_at id (called c)) WritesAgain
 writes_again id n c was some h =
     let s = opened (stream_at id c) was in
@@ -215,7 +211,7 @@ writes_again id n c was some h =
     let of : write.Again ≡ write_of n s.0 = by ∙ ap (λ o. option_map_or (write_of n) o write.Again) s.1 in
     rw s.1 (again_of n s.0 s.0.host_closed (option_map_or (λ r. min n r) s.0.room n == 0) refl refl some of)
 
-pub writes_closed : (id n : ℕ) (c : HostContents) → IsOpen id c → write.Closed ≡ write_answer id n c →
+writes_closed : (id n : ℕ) (c : HostContents) → IsOpen id c → write.Closed ≡ write_answer id n c →
     IsSomeAnd (stream_at id (called c)) IsClosed
 writes_closed id n c was h =
     let s = opened (stream_at id c) was in
@@ -240,7 +236,7 @@ read_end_of room s true true p q h = record { none = no_bytes s.untaken p; over 
 read_end_of room s true false p q h = cc
 read_end_of room s false b p q h = cc
 
-pub reads_again : (id room : ℕ) (c : HostContents) → IsOpen id c → read.Again ≡ read_answer id room c →
+reads_again : (id room : ℕ) (c : HostContents) → IsOpen id c → read.Again ≡ read_answer id room c →
     IsSomeAnd (stream_at id (called c)) ReadsAgain
 reads_again id room c was h =
     let s = opened (stream_at id c) was in
@@ -249,10 +245,57 @@ reads_again id room c was h =
     let of : read.Again ≡ read_of room s.0 = by ∙ ap (λ o. option_map_or (read_of room) o read.Again) s.1 in
     rw s.1 (read_again_of room s.0 (length s.0.untaken == 0) s.0.ended refl refl of)
 
-pub reads_end : (id room : ℕ) (c : HostContents) → IsOpen id c → read.End ≡ read_answer id room c →
+reads_end : (id room : ℕ) (c : HostContents) → IsOpen id c → read.End ≡ read_answer id room c →
     IsSomeAnd (stream_at id (called c)) ReadsEnd
 reads_end id room c was h =
     let s = opened (stream_at id c) was in
     let by : read.End ≡ option_map_or (read_of room) (stream_at id c) read.Again = not_failing_read (fails_now c) read.End _ (λ e. cc) h in
     let of : read.End ≡ read_of room s.0 = by ∙ ap (λ o. option_map_or (read_of room) o read.Again) s.1 in
     rw s.1 (read_end_of room s.0 (length s.0.untaken == 0) s.0.ended refl refl of)
+
+-- What passes in a write and in a read; the stream stays open.
+pub write_passes : (id : ℕ) (bytes : List ℕ) (answer : StreamWrite) (a b : Option HostContents) → 1 ≤ length bytes → ForSome a (IsOpen id) →
+    Exposes a b (IsWritten id (length bytes) answer) (after_write id bytes answer) → WritePasses id bytes answer a b
+write_passes id bytes (write.Took n) a b some was h =
+    exposed_relates _ _ (Moves id (take n bytes) [] false) a b h (λ c is p. wrote id n bytes c)
+write_passes id bytes write.Again a b some was h = (
+  exposed_relates _ _ SameStreams a b h (λ c is p other. refl),
+  exposed_now _ _ (λ c. IsSomeAnd (stream_at id c) WritesAgain) a b h (λ c is p. writes_again id (length bytes) c (was c is) some p),
+)
+write_passes id bytes write.Closed a b some was h = (
+  exposed_relates _ _ SameStreams a b h (λ c is p other. refl),
+  exposed_now _ _ (λ c. IsSomeAnd (stream_at id c) IsClosed) a b h (λ c is p. writes_closed id (length bytes) c (was c is) p),
+)
+write_passes id bytes write.Failed a b some was h =
+    exposed_relates _ _ SameStreams a b h (λ c is p other. stream_at-after_failed other c)
+
+same_open : (id : ℕ) (a b : Option HostContents) → Relates a b SameStreams → ForSome a (IsOpen id) → ForSome b (IsOpen id)
+same_open id a b same was = moves_open id [] [] false a b (same_moves id a b same) was
+
+pub write_open : (id : ℕ) (bytes : List ℕ) (answer : StreamWrite) (a b : Option HostContents) → WritePasses id bytes answer a b →
+    ForSome a (IsOpen id) → ForSome b (IsOpen id)
+write_open id bytes (write.Took n) a b p was = moves_open id (take n bytes) [] false a b p was
+write_open id bytes write.Again a b p was = same_open id a b p.0 was
+write_open id bytes write.Closed a b p was = same_open id a b p.0 was
+write_open id bytes write.Failed a b p was = same_open id a b p was
+
+pub read_passes : (id : ℕ) (out : List ℕ) (answer : StreamRead) (a b : Option HostContents) → ForSome a (IsOpen id) →
+    Exposes a b (IsRead id answer out) (after_read id answer) → ReadPasses id out answer a b
+read_passes id out (read.Got n) a b was h =
+    exposed_relates _ _ (Moves id [] (take n out) false) a b h (λ c is p. reads id n out c p.1)
+read_passes id out read.End a b was h = (
+  exposed_relates _ _ SameStreams a b h (λ c is p other. refl),
+  exposed_now _ _ (λ c. IsSomeAnd (stream_at id c) ReadsEnd) a b h (λ c is p. reads_end id (length out) c (was c is) p.0),
+)
+read_passes id out read.Again a b was h = (
+  exposed_relates _ _ SameStreams a b h (λ c is p other. refl),
+  exposed_now _ _ (λ c. IsSomeAnd (stream_at id c) ReadsAgain) a b h (λ c is p. reads_again id (length out) c (was c is) p.0),
+)
+read_passes id out read.Failed a b was h = exposed_relates _ _ SameStreams a b h (λ c is p other. refl)
+
+pub read_open : (id : ℕ) (out : List ℕ) (answer : StreamRead) (a b : Option HostContents) → ReadPasses id out answer a b →
+    ForSome a (IsOpen id) → ForSome b (IsOpen id)
+read_open id out (read.Got n) a b p was = moves_open id [] (take n out) false a b p was
+read_open id out read.End a b p was = same_open id a b p.0 was
+read_open id out read.Again a b p was = same_open id a b p.0 was
+read_open id out read.Failed a b p was = same_open id a b p was

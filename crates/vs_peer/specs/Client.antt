@@ -3,11 +3,9 @@ use Rattle.std.specs.Prelude.{◌≡◌, ◌<◌, ℕ, ◌+◌, Bool, false, Lis
 use Rattle.vs_contents.specs.Contents.{Relates}
 use Rattle.vs_flow.specs.declared.flow.Flow.{Flow}
 use Rattle.vs_outside.specs.Host.{Stream, HostContents, stream_at, is_listened, KeepsOthers}
-use Rattle.vs_uds.specs.ConnectLine.{connect_text}
-use Rattle.vs_uds.specs.OkLine.{IsOkLine, ok_step}
+use Rattle.vs_uds.specs.{ConnectLine.connect_text, OkLine.IsOkLine, OkLine.ok_step}
 use Rattle.vs_uds.specs.declared.scan.Step.TheVariants.{More, Bad}
-use Rattle.vs_peer.specs.Passing.{IsClosed, ReadsAgain, ReadsEnd, WritesAgain}
-use Rattle.vs_peer.specs.Receiving.{SameStreams}
+use Rattle.vs_peer.specs.Passing.{IsClosed, ReadsAgain, ReadsEnd, WritesAgain, SameStreams}
 use Rattle.vs_peer.specs.declared.converse.Opened.{Opened}
 use Rattle.vs_peer.specs.declared.stop.Stop.{Stop}
 use Rattle.vs_peer.specs.declared.stop.Stop.TheVariants as stop

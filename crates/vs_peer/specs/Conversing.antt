@@ -2,11 +2,9 @@
 use Rattle.std.specs.Prelude.{◌≡◌, ◌≤◌, ◌<◌, ◌⊎◌, ℕ, true, List, [], ◌++◌, length, take, Option, Result, Ok, Err}
 use Rattle.vs_contents.specs.Contents.{Relates}
 use Rattle.vs_outside.specs.Host.{Stream, HostContents}
-use Rattle.vs_uds.specs.ConnectLine.{connect_text}
-use Rattle.vs_uds.specs.OkLine.{IsOkLine}
+use Rattle.vs_uds.specs.{ConnectLine.connect_text, OkLine.IsOkLine}
 use Rattle.vs_peer.specs.Client.{IsClient, IsRefused, IsUnanswered}
-use Rattle.vs_peer.specs.Passing.{IsClosed, ReadsAgain, ReadsEnd, WritesAgain}
-use Rattle.vs_peer.specs.Pieces.{Emits, EmitsSome}
+use Rattle.vs_peer.specs.{Passing.IsClosed, Passing.ReadsAgain, Passing.ReadsEnd, Passing.WritesAgain, Pieces.Emits, Pieces.EmitsSome}
 use Rattle.vs_peer.specs.Text.{port_text}
 use Rattle.vs_peer.specs.declared.stop.Stop.{Stop}
 use Rattle.vs_peer.specs.declared.stop.Stop.TheVariants as stop

@@ -1,10 +1,8 @@
 -- How a client ends: what it writes, and its status.
 use Rattle.std.specs.Prelude.{◌≡◌, ◌≤◌, ◌<◌, ◌⊎◌, ℕ, true, List, ◌++◌, length, Option}
 use Rattle.vs_contents.specs.Contents.{Relates}
-use Rattle.vs_outside.specs.Faults.{CountsFault}
-use Rattle.vs_outside.specs.Host.{HostContents}
-use Rattle.vs_peer.specs.Client.{IsRefused}
-use Rattle.vs_peer.specs.Conversing.{Carries, IsDone, IsFailed, IsWaiting}
+use Rattle.vs_outside.specs.{Faults.CountsFault, Host.HostContents}
+use Rattle.vs_peer.specs.{Client.IsRefused, Conversing.Carries, Conversing.IsDone, Conversing.IsFailed, Conversing.IsWaiting}
 use Rattle.vs_peer.specs.Pieces.{Emits, EmitsSome, ReadsAll}
 use Rattle.vs_peer.specs.Text.{host_fault_text, no_memory_text, read_fault_text, refused_text, too_long_text, waited_text}
 use Rattle.vs_peer.specs.declared.source.ReadError.{ReadError}

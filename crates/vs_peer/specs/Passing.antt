@@ -1,7 +1,12 @@
 -- What passes at a client's end of its stream.
-use Rattle.std.specs.Prelude.{◌≡◌, ℕ, Bool, true, false, ◌||◌, List, [], ◌++◌, Option, Some, IsSomeAnd}
+use Rattle.std.specs.Prelude.{◌≡◌, ℕ, Bool, true, false, ◌||◌, List, [], ◌++◌, take, Option, Some, IsSomeAnd}
 use Rattle.std.specs.Option.{ForSome}
+use Rattle.vs_contents.specs.Contents.{Relates}
 use Rattle.vs_outside.specs.Host.{Stream, HostContents, stream_at, KeepsOthers}
+use Rattle.vs_outside.specs.declared.host_net.StreamRead.{StreamRead}
+use Rattle.vs_outside.specs.declared.host_net.StreamRead.TheVariants as read
+use Rattle.vs_outside.specs.declared.host_net.StreamWrite.{StreamWrite}
+use Rattle.vs_outside.specs.declared.host_net.StreamWrite.TheVariants as write
 
 -- A stream between two moments, between which these bytes were given to it and these taken of it, and its write side was shut or wasn't.
 pub record IsMoved (given' taken' : List ℕ) (shut' : Bool) (s t : Stream) : Type 0 where
@@ -39,3 +44,21 @@ pub record ReadsAgain (s : Stream) : Type 0 where
 pub record ReadsEnd (s : Stream) : Type 0 where
   pub none : s.untaken ≡ []
   pub over : s.ended ≡ true
+
+-- All streams are as before.
+abbrev pub SameStreams : HostContents → HostContents → Type 0
+SameStreams before after = (id : ℕ) → stream_at id after ≡ stream_at id before
+
+-- What passes in a write of these bytes, by its answer. Where none are taken, all streams are as before, and say why.
+abbrev pub WritePasses : ℕ → List ℕ → StreamWrite → Option HostContents → Option HostContents → Type 0
+WritePasses id bytes (write.Took n) before after = Relates before after (Moves id (take n bytes) [] false)
+WritePasses id bytes write.Again before after = Relates before after SameStreams × Now id WritesAgain after
+WritePasses id bytes write.Closed before after = Relates before after SameStreams × Now id IsClosed after
+WritePasses id bytes write.Failed before after = Relates before after SameStreams
+
+-- What passes in a read into the front of `out`, by its answer.
+abbrev pub ReadPasses : ℕ → List ℕ → StreamRead → Option HostContents → Option HostContents → Type 0
+ReadPasses id out (read.Got n) before after = Relates before after (Moves id [] (take n out) false)
+ReadPasses id out read.End before after = Relates before after SameStreams × Now id ReadsEnd after
+ReadPasses id out read.Again before after = Relates before after SameStreams × Now id ReadsAgain after
+ReadPasses id out read.Failed before after = Relates before after SameStreams

@@ -1,8 +1,8 @@
 -- What a client receives.
 use Rattle.std.specs.Prelude.{◌≡◌, ℕ, false, List, [], Option, Result, Ok, Err}
 use Rattle.vs_contents.specs.Contents.{Relates}
-use Rattle.vs_outside.specs.Host.{HostContents, stream_at}
-use Rattle.vs_peer.specs.Passing.{Moves, Now, ReadsAgain, ReadsEnd}
+use Rattle.vs_outside.specs.Host.{HostContents}
+use Rattle.vs_peer.specs.Passing.{Moves, Now, ReadsAgain, ReadsEnd, SameStreams}
 use Rattle.vs_peer.specs.Pieces.{Emits, EmitsSome}
 use Rattle.vs_peer.specs.declared.receive.Came.{Came}
 use Rattle.vs_peer.specs.declared.receive.Came.TheVariants as came
@@ -14,10 +14,6 @@ abbrev pub Gives : Option (List ℕ) → Option (List ℕ) → List ℕ → Resu
 Gives old new bytes (Ok came.Bytes) = Emits old new bytes
 Gives old new bytes (Err stop.Sink) = EmitsSome old new bytes
 Gives old new bytes _ = ⊥
-
--- All streams are as before.
-abbrev pub SameStreams : HostContents → HostContents → Type 0
-SameStreams before after = (id : ℕ) → stream_at id after ≡ stream_at id before
 
 -- The bytes that were taken of the stream went to the sink. Where nothing came all streams are as before.
 abbrev pub Receives : ℕ → Option HostContents → Option HostContents → Option (List ℕ) → Option (List ℕ) → Result Came Stop → Type 0

@@ -2,8 +2,7 @@
 use Rattle.std.specs.Prelude.{◌≡◌, ◌≢◌, ◌≤◌, ◌<◌, ◌⊎◌, ℕ, Bool, true, false, ◌||◌, List, length, take, drop, Option, Result, Ok, Err}
 use Rattle.vs_outside.specs.Host.{HostContents}
 use Rattle.vs_peer.specs.Passing.{Now, IsClosed, WritesAgain}
-use Rattle.vs_peer.specs.declared.send.Sending.{Sending}
-use Rattle.vs_peer.specs.declared.send.Side.{Side}
+use Rattle.vs_peer.specs.declared.send.{Sending.Sending, Side.Side}
 use Rattle.vs_peer.specs.declared.send.Side.TheVariants as side
 use Rattle.vs_peer.specs.declared.stop.Stop.{Stop}
 use Rattle.vs_peer.specs.declared.stop.Stop.TheVariants as stop

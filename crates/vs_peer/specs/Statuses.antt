@@ -3,9 +3,7 @@ use Rattle.std.specs.Prelude.{◌≡◌, ◌<◌, ◌⊎◌, ◌-◌, ◌^◌, �
 use Rattle.std.specs.Option.{ForSome}
 use Rattle.vs_contents.specs.Contents.{Relates}
 use Rattle.vs_outside.specs.Faults.{CountsFault}
-use Rattle.vs_peer.specs.Client.{IsRefused}
-use Rattle.vs_peer.specs.Conversing.{Carries, IsDone, IsWaiting}
-use Rattle.vs_peer.specs.Ends.{Lent, Means}
+use Rattle.vs_peer.specs.{Client.IsRefused, Conversing.Carries, Conversing.IsDone, Conversing.IsWaiting, Ends.Lent, Ends.Means}
 use Rattle.vs_peer.specs.Pieces.{Emits, EmitsSome}
 use Rattle.vs_peer.specs.Text.{host_fault_text, no_memory_text, read_fault_text, refused_text, too_long_text, waited_text}
 use Rattle.vs_peer.specs.declared.source.TheConstants.{SOURCE_MAX}

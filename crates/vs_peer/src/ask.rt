@@ -1,12 +1,11 @@
 //! How a client asks for a port of the guest, and is answered (Firecracker's vsock documentation).
 ghost use Rattle.std.specs.Option.{ForSome};
-ghost use Rattle.vs_outside.specs.Faults.{CountsFault};
-ghost use Rattle.vs_outside.specs.Host.{IsOpen};
-ghost use Rattle.vs_peer.specs.Failing.{host_failed};
-ghost use Rattle.vs_peer.specs.Asking.{Asks, Answers};
+ghost use Rattle.vs_outside.specs.{Faults.CountsFault, Host.IsOpen};
+ghost use Rattle.vs_peer.specs.{Failing.host_failed, Asking.Asks, Asking.Answers};
 
 use crate::stop::Stop;
-use crate::wait::one_more;
+use crate::stream::{read, write};
+use crate::wait::gives_up;
 use std::sync::Wait;
 use vs_outside::{Gate, HostNet, StreamRead, StreamWrite};
 use vs_uds::{OkLine, Step};
@@ -31,12 +30,16 @@ pub fn ask<R: Wait, H: HostNet, G: Gate>(
         if at == line.len() {
             return Ok(());
         }
-        match host.write(id, &line[at..]) {
+        match write(host, id, &line[at..]) {
             StreamWrite::Took(n) => {
                 at += n;
                 waited = 0;
             }
-            StreamWrite::Again => waited = one_more(waited, idle, gate)?,
+            StreamWrite::Again => {
+                if gives_up(&mut waited, idle, gate) {
+                    return Err(Stop::Waited);
+                }
+            }
             StreamWrite::Closed => return Err(Stop::Refused),
             StreamWrite::Failed => return Err(Stop::Host),
         }
@@ -61,13 +64,17 @@ pub fn answer<R: Wait, H: HostNet, G: Gate>(
     let mut byte = [0];
     let mut waited = 0;
     for _ in rt.forever() {
-        match host.read(id, &mut byte) {
+        match read(host, id, &mut byte) {
             StreamRead::Got(_) => match line.feed(byte[0]) {
                 Step::More => waited = 0,
                 Step::Port(port) => return Ok(port),
                 Step::Bad => return Err(Stop::Refused),
             },
-            StreamRead::Again => waited = one_more(waited, idle, gate)?,
+            StreamRead::Again => {
+                if gives_up(&mut waited, idle, gate) {
+                    return Err(Stop::Waited);
+                }
+            }
             StreamRead::End => return Err(Stop::Refused),
             StreamRead::Failed => return Err(Stop::Host),
         }

@@ -1,13 +1,7 @@
 //! A client's whole conversation with a host.
-ghost use Rattle.std.specs.Option.{ForSome};
-ghost use Rattle.std.specs.Prelude.{IfOk};
-ghost use Rattle.vs_contents.specs.Contents.{Relates};
-ghost use Rattle.vs_outside.specs.Faults.{CountsFault};
-ghost use Rattle.vs_outside.specs.Host.{IsOpen};
-ghost use Rattle.vs_peer.specs.Client.{Dials, Opens};
-ghost use Rattle.vs_peer.specs.Conversing.{Converses};
-ghost use Rattle.vs_peer.specs.Failing.{host_failed, sink_failed};
-ghost use Rattle.vs_peer.specs.Text.{GivesPort};
+ghost use Rattle.std.specs.{Option.ForSome, Prelude.IfOk};
+ghost use Rattle.vs_outside.specs.{Faults.CountsFault, Host.IsOpen};
+ghost use Rattle.vs_peer.specs.{Client.Dials, Client.Opens, Conversing.Converses, Failing.host_failed, Failing.sink_failed, Text.GivesPort};
 
 use crate::ask::{answer, ask};
 use crate::exchange::exchange;

@@ -1,16 +1,13 @@
 //! What passes once a client was answered: the bytes of its source one way, and what comes to its sink the other.
-ghost use Rattle.std.specs.Prelude.{◌≡◌};
-ghost use Rattle.std.specs.Option.{ForSome};
-ghost use Rattle.vs_outside.specs.Faults.{CountsFault};
-ghost use Rattle.vs_outside.specs.Host.{IsOpen};
-ghost use Rattle.vs_peer.specs.Failing.{host_failed, sink_failed};
-ghost use Rattle.vs_peer.specs.Exchanging.{Exchanges, Steps, comes_to};
+ghost use Rattle.std.specs.{Prelude.◌≡◌, Option.ForSome};
+ghost use Rattle.vs_outside.specs.{Faults.CountsFault, Host.IsOpen};
+ghost use Rattle.vs_peer.specs.{Failing.host_failed, Failing.sink_failed, Exchanging.Exchanges, Exchanging.Steps, Exchanging.comes_to};
 ghost use Rattle.vs_peer.specs.Sending.{GoesOn, IsSending};
 
 use crate::receive::{Came, receive};
 use crate::send::{Sending, Side};
 use crate::stop::Stop;
-use crate::wait::one_more;
+use crate::wait::gives_up;
 use std::sync::Wait;
 use vs_outside::{Gate, HostNet, Sink};
 
@@ -50,7 +47,11 @@ pub fn exchange<R: Wait, H: HostNet, K: Sink, G: Gate>(
         match step(host, id, bytes, &mut sending, out)? {
             Progress::Done => return Ok(()),
             Progress::Moved => waited = 0,
-            Progress::Still => waited = one_more(waited, idle, gate)?,
+            Progress::Still => {
+                if gives_up(&mut waited, idle, gate) {
+                    return Err(Stop::Waited);
+                }
+            }
         }
     }
     unreachable!()

@@ -11,6 +11,7 @@ mod send;
 mod sink;
 mod source;
 mod stop;
+mod stream;
 mod text;
 mod wait;
 
@@ -19,6 +20,3 @@ pub use crate::client::{
 };
 pub use crate::sink::{SinkFault, emit};
 pub use crate::source::{ReadError, SOURCE_MAX, read_source};
-
-#[cfg(test)]
-mod tests;

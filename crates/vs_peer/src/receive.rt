@@ -1,13 +1,11 @@
 //! What a client receives: the bytes of its stream, which go to its sink.
-ghost use Rattle.std.specs.Prelude.{◌≡◌};
 ghost use Rattle.std.specs.Option.{ForSome};
-ghost use Rattle.vs_outside.specs.Faults.{CountsFault};
-ghost use Rattle.vs_outside.specs.Host.{IsOpen};
-ghost use Rattle.vs_peer.specs.Failing.{host_failed, sink_failed};
-ghost use Rattle.vs_peer.specs.Receiving.{Gives, Receives};
+ghost use Rattle.vs_outside.specs.{Faults.CountsFault, Host.IsOpen};
+ghost use Rattle.vs_peer.specs.{Failing.host_failed, Failing.sink_failed, Receiving.Gives, Receiving.Receives};
 
 use crate::sink::{SinkFault, emit};
 use crate::stop::Stop;
+use crate::stream::read;
 use vs_outside::{HostNet, Sink, StreamRead};
 
 /// The most bytes that are read at once.
@@ -33,7 +31,7 @@ pub fn receive<H: HostNet, K: Sink>(host: &mut H, id: u64, out: &mut K) -> Resul
     ensures sink_faults { CountsFault (sink_failed result) (K.faults out.old) (K.faults out.new) }
 {
     let mut piece = [0; PIECE];
-    match host.read(id, &mut piece) {
+    match read(host, id, &mut piece) {
         StreamRead::Got(n) => give(out, &piece[..n]),
         StreamRead::End => Ok(Came::End),
         StreamRead::Again => Ok(Came::Nothing),

@@ -1,14 +1,12 @@
 //! What a client sends once it was answered: the bytes of its source, and then the end of its side.
-ghost use Rattle.std.specs.Prelude.{◌≡◌, [], false};
-ghost use Rattle.std.specs.Option.{ForSome};
+ghost use Rattle.std.specs.{Prelude.◌≡◌, Prelude.[], Prelude.false, Option.ForSome};
 ghost use Rattle.vs_contents.specs.Contents.{Relates};
-ghost use Rattle.vs_outside.specs.Host.{IsOpen};
-ghost use Rattle.vs_outside.specs.Faults.{CountsFault};
+ghost use Rattle.vs_outside.specs.{Host.IsOpen, Faults.CountsFault};
 ghost use Rattle.vs_peer.specs.Sending.{IsSending, GoesOn, between, Sends, Writes, shuts};
-ghost use Rattle.vs_peer.specs.Passing.{Moves};
-ghost use Rattle.vs_peer.specs.Failing.{host_failed};
+ghost use Rattle.vs_peer.specs.{Passing.Moves, Failing.host_failed};
 
 use crate::stop::Stop;
+use crate::stream::write;
 use vs_outside::{HostNet, StreamWrite};
 
 /// The most bytes that are written at once.
@@ -69,14 +67,11 @@ impl Sending {
         ensures sends { Writes id bytes.now self.new (H.contents host.new) result }
         ensures faults { CountsFault (host_failed result) (H.faults host.old) (H.faults host.new) }
     {
-        if self.side != Side::Open {
-            return Ok(false);
-        }
-        if self.sent == bytes.len() {
+        if self.side != Side::Open || self.sent == bytes.len() {
             return Ok(false);
         }
         let unsent = &bytes[self.sent..];
-        match host.write(id, &unsent[..unsent.len().min(PIECE)]) {
+        match write(host, id, &unsent[..unsent.len().min(PIECE)]) {
             StreamWrite::Took(n) => {
                 self.sent += n;
                 Ok(true)

@@ -1,8 +1,7 @@
 //! Reading all of a source.
-ghost use Rattle.std.specs.Prelude.{◌≤◌, IfOk};
+ghost use Rattle.std.specs.Prelude.{IfOk};
 ghost use Rattle.vs_outside.specs.Faults.{CountsFault};
-ghost use Rattle.vs_peer.specs.Failing.{source_failed};
-ghost use Rattle.vs_peer.specs.Pieces.{ReadsAll};
+ghost use Rattle.vs_peer.specs.{Failing.source_failed, Pieces.ReadsAll};
 
 use std::alloc::{AllocError, Global};
 use vs_outside::{Source, SourceRead};

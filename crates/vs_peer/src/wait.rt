@@ -1,20 +1,15 @@
 //! For how many steps in a row a client waits.
-ghost use Rattle.std.specs.Prelude.{◌≡◌, Err};
+ghost use Rattle.std.specs.Prelude.{◌≡◌, nat_le};
 ghost use Rattle.vs_peer.specs.Waiting.{after_still};
 
-use crate::stop::Stop;
 use vs_outside::Gate;
 
-/// One more step in a row in which nothing moved, after so many. With the `idle`th one the client stops.
-pub fn one_more<G: Gate>(waited: u32, idle: u32, gate: &G) -> Result<u32, Stop>
-    ensures steps { result ≡ after_still waited idle }
-    ensures stops { (stop : Stop) → result ≡ Err stop → stop ≡ Stop.Waited }
+/// One more step in a row in which nothing moved. Answers whether it is the `idle`th one, with which the client stops.
+pub fn gives_up<G: Gate>(waited: &mut u32, idle: u32, gate: &G) -> bool
+    ensures steps { waited.new ≡ after_still waited.old }
+    ensures stops { result ≡ nat_le idle waited.new }
 {
     gate.pause();
-    let waited = waited.saturating_add(1);
-    if waited >= idle {
-        Err(Stop::Waited)
-    } else {
-        Ok(waited)
-    }
+    *waited = waited.saturating_add(1);
+    *waited >= idle
 }

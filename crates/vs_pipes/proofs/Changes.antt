@@ -1,11 +1,10 @@
 -- A table in which one entry changes, or leaves: what holds of each entry.
-use Rattle.std.proofs.Common.{◌≡◌, ◌≢◌, ℕ, ◌<◌, ◌==◌, nat_lt, Bool, true, false, not, length, get_or, Contains, refl, sym, ap, subst, ◌∙◌, arith}
+use Rattle.std.proofs.Common.{◌≡◌, ◌≢◌, ℕ, ◌<◌, ◌==◌, nat_lt, Bool, true, false, not, length, get_or, Contains, refl, sym, ap, subst, ◌∙◌}
+use Rattle.std.proofs.Common.{arith, Some}
 use Rattle.std.specs.List.{All}
 use Rattle.std.proofs.lemmas.Bool.Decides.{nat_tests}
-use Rattle.std.proofs.lemmas.List.{get_or_default}
+use Rattle.std.proofs.lemmas.{List.get_or_default, Option.slice_get-get_or}
 use Rattle.std.proofs.lemmas.List.Elements.{All-filter, All-map, filter_passes}
-use Rattle.std.proofs.Common.{Some}
-use Rattle.std.proofs.lemmas.Option.{slice_get-get_or}
 use Rattle.vs_flow.proofs.Entries.{found_at}
 use Rattle.vs_flow.specs.Table.{entry_under, IsTable, Table, revalued, with_value, without}
 use Rattle.vs_flow.specs.declared.table.Entry.{Entry}

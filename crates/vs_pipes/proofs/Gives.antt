@@ -1,8 +1,8 @@
 -- What the end of a device's connection does to the payload that its stream is given.
-use Rattle.std.proofs.Common.{◌≡◌, ℕ, Bool, true, false, cond, List, [], ◌∷◌, ◌++◌, Contains, Some, refl, sym, ap, subst, ◌∙◌, append_assoc, arith}
+use Rattle.std.proofs.Common.{◌≡◌, ℕ, zero, suc, ◌-◌, ◌≤◌, Bool, true, false, cond, List, [], ◌∷◌, ◌++◌, length, take, drop, Contains, Some}
+use Rattle.std.proofs.Common.{refl, sym, ap, subst, ◌∙◌, append_assoc, arith}
 use Rattle.std.proofs.lemmas.Bool.Decides.{nat_tests}
-use Rattle.std.proofs.lemmas.Grind.{common_steps}
-use Rattle.std.proofs.lemmas.List.{append-nil}
+use Rattle.std.proofs.lemmas.{Grind.common_steps, List.append-nil, List.length-take, List.take-take}
 use Rattle.vs_conn.specs.End.{ConnectionEnd, end_after, owes_of, paid_of, verdict_of, with_payload_forwarded, with_shut}
 use Rattle.vs_conn.specs.declared.end.Owed.{Owed}
 use Rattle.vs_conn.specs.declared.end.Owed.TheVariants as owed
@@ -17,13 +17,11 @@ use Rattle.vs_history.specs.Packets.{has, is_response, is_rw}
 use Rattle.vs_history.specs.History.{Asker, Got, History, IsFair, Put, gots}
 use Rattle.vs_history.specs.declared.packet.Packet.{Packet}
 use Rattle.vs_outside.specs.Host.{HostContents}
-use Rattle.vs_page.specs.Fair.{payload_of}
-use Rattle.vs_page.specs.Log.{Device, Log}
+use Rattle.vs_page.specs.{Fair.payload_of, Log.Device, Log.Log}
 use Rattle.vs_proxy_parts.specs.State.{Handshake}
 use Rattle.vs_pipes.specs.Drains.{Drains, got_on, has_passed, put_on}
 use Rattle.vs_pipes.specs.Streamed.{IsJoined, IsStreamed, gives, line_for, look}
-use Rattle.vs_pipes.proofs.Logs.{all_of, only_on, there_on}
-use Rattle.vs_pipes.proofs.Steps.{Goes, comes_in, drops, stays_still}
+use Rattle.vs_pipes.proofs.{Logs.all_of, Logs.only_on, Logs.there_on, Steps.Goes, Steps.comes_in, Steps.drops, Steps.stays_still}
 use Rattle.vs_pipes.proofs.Streamed.{changed_streamed, join_of}
 
 -- An end whose stream is given all was such an end before.
@@ -162,3 +160,15 @@ kept_empty false bytes is = is
 pub comes_behind : (b d : Bool) (line pending more : List ℕ) → b ≡ true → Goes b d (line ++ pending) (line ++ (pending ++ more)) [] more
 comes_behind b d line pending more is =
     subst (λ (bytes : List ℕ). Goes b d (line ++ pending) bytes [] more) (append_assoc line pending more) (comes_in b d (line ++ pending) more is)
+
+-- A stream takes the first of the bytes that it is offered.
+pub drop_both : (n : ℕ) (xs ys : List ℕ) → drop n (xs ++ ys) ≡ drop n xs ++ drop (n - length xs) ys
+drop_both zero [] ys = refl
+drop_both (suc n) [] ys = let same : suc n ≡ suc n - 0 = omega arith in ap (λ (k : ℕ). drop k ys) same
+drop_both zero (x ∷ xs) ys = let same : 0 ≡ 0 - suc (length xs) = omega arith in ap (λ (k : ℕ). x ∷ xs ++ drop k ys) same
+drop_both (suc n) (x ∷ xs) ys =
+    let same : n - length xs ≡ suc n - suc (length xs) = omega arith in
+    drop_both n xs ys ∙ ap (λ (k : ℕ). drop n xs ++ drop k ys) same
+
+pub first_of : (n : ℕ) (all : List ℕ) → n ≤ length (take 4096 all) → take n (take 4096 all) ≡ take n all
+first_of n all less = take-take n 4096 all (omega (arith, less, length-take 4096 all))

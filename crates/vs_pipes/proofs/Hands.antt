@@ -1,27 +1,18 @@
 -- Lines that are read: a byte more, and a line that ends.
-use Rattle.std.proofs.Common.{◌≡◌, ◌≢◌, ℕ, zero, suc, ◌<◌, ◌≤◌, ◌==◌, nat_le, ◌||◌, Bool, true, false, cond, List, [], ◌∷◌, ◌++◌, length, get_or, Option, Some, None, refl, sym, ap, ◌∙◌, arith, length-append}
+use Rattle.std.proofs.Common.{◌≡◌, ◌≢◌, ℕ, zero, suc, ◌<◌, ◌==◌, nat_le, ◌||◌, Bool, true, false, cond, List, [], ◌∷◌, ◌++◌, length, get_or}
+use Rattle.std.proofs.Common.{Some, refl, sym, ap, ◌∙◌, arith, length-append}
 use Rattle.std.specs.List.{All, AllPairs, list_any}
 use Rattle.std.proofs.lemmas.Bool.Decides.{nat_tests}
 use Rattle.std.proofs.lemmas.List.{same_from_push}
-use Rattle.vs_proxy_parts.specs.Handshakes.{with_line, without_stream}
-use Rattle.vs_proxy_parts.specs.State.{Handshake}
-use Rattle.vs_uds.specs.ConnectLine.{connect_port, connect_step, connect_word}
-use Rattle.vs_uds.specs.Reading.{is_decided, port_or_bad}
+use Rattle.vs_proxy_parts.specs.{Handshakes.with_line, Handshakes.without_stream, State.Handshake}
+use Rattle.vs_uds.specs.{ConnectLine.connect_port, ConnectLine.connect_step, ConnectLine.connect_word, Reading.is_decided}
 use Rattle.vs_uds.specs.declared.connect.TheConstants.{CONNECT_MAX}
 use Rattle.vs_uds.specs.declared.scan.Step.TheVariants as step
-use Rattle.vs_uds.proofs.ConnectLines.{IsWordLine-word_port}
+use Rattle.vs_uds.proofs.{ConnectLines.IsWordLine-word_port, Decided.decided}
 use Rattle.vs_pipes.specs.Streamed.{has_line}
 use Rattle.std.proofs.Common.{append_assoc, replicate}
 
 -- The lines without that of a stream.
-without_length : (id : ℕ) (hs : List Handshake) → length (without_stream id hs) ≤ length hs
-without_length id [] = omega arith
-without_length id (h ∷ hs) = by (h.stream == id) (without_length id hs)
-  where
-    by : (b : Bool) → length (without_stream id hs) ≤ length hs → length (cond b hs (h ∷ without_stream id hs)) ≤ suc (length hs)
-    by true less = omega arith
-    by false less = omega (arith, less)
-
 all_tail : (P : Handshake → Type 0) (h : Handshake) (hs : List Handshake) → All P (h ∷ hs) → All P hs
 all_tail P h hs all i d within = all (suc i) d (omega (arith, within))
 
@@ -131,15 +122,10 @@ either_false true b is = absurd cc
 pub no_line : (line : List ℕ) → is_decided CONNECT_MAX line ≡ false → has_line line ≡ false
 no_line line is = either_false (list_any (λ (b : ℕ). b == 10) line) (nat_le 32 (length line)) is
 
-found : (d : Bool) (o : Option ℕ) (port : ℕ) → cond d (port_or_bad o) step.More ≡ step.Port port → o ≡ Some port
-found true None port is = absurd cc
-found true (Some p) port is = let same : p ≡ port = cc in ap (λ (n : ℕ). Some n) same
-found false o port is = absurd cc
-
 pub ends_by : (line : List ℕ) (byte port : ℕ) → is_decided CONNECT_MAX line ≡ false → connect_step (line ++ byte ∷ []) ≡ step.Port port → byte ≡ 10
 ends_by line byte port open_line is =
     let short : length line < 32 = short_by (list_any (λ (b : ℕ). b == 10) line) open_line in
-    let got : connect_port (line ++ byte ∷ []) ≡ Some port = found (is_decided 32 (line ++ byte ∷ [])) (connect_port (line ++ byte ∷ [])) port is in
+    let got : connect_port (line ++ byte ∷ []) ≡ Some port = decided (is_decided 32 (line ++ byte ∷ [])) (connect_port (line ++ byte ∷ [])) port is in
     let word = IsWordLine-word_port connect_word (line ++ byte ∷ []) port (omega (arith, short, length-append line (byte ∷ []))) got in
     let front = word.letters ++ replicate word.before 32 ++ word.digits ++ replicate word.after 32 ++ replicate word.returns 13 in
     let same : line ++ byte ∷ [] ≡ front ++ 10 ∷ [] = word.parts ∙ sym (simp append_assoc) in

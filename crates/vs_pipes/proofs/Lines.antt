@@ -1,7 +1,7 @@
 -- What stands behind the first line of some bytes.
-use Rattle.std.proofs.Common.{◌≡◌, ℕ, suc, ◌+◌, ◌==◌, ◌||◌, not, nat_lt, Bool, true, false, cond, List, [], ◌∷◌, ◌++◌, length, drop, Some, None, refl, sym, ap, subst, ◌∙◌, arith}
-use Rattle.std.specs.List.{prefix_len}
-use Rattle.std.specs.Option.{option_map_or}
+use Rattle.std.proofs.Common.{◌≡◌, ℕ, suc, ◌+◌, ◌==◌, ◌||◌, not, nat_lt, Bool, true, false, cond, List, [], ◌∷◌, ◌++◌, length, drop, Some}
+use Rattle.std.proofs.Common.{None, refl, sym, ap, subst, ◌∙◌, arith}
+use Rattle.std.specs.{List.prefix_len, Option.option_map_or}
 use Rattle.std.proofs.lemmas.Bool.Decides.{nat_tests}
 use Rattle.vs_outside.specs.HostBytes.{after_line}
 use Rattle.vs_page.specs.Fair.{IsPrefixOf}
@@ -11,9 +11,6 @@ use Rattle.vs_pipes.specs.Streamed.{has_line}
 abbrev pub rest_of : List ℕ → List ℕ
 rest_of [] = []
 rest_of (x ∷ xs) = cond (x == 10) xs (rest_of xs)
-
-no_end : ℕ → Bool
-no_end b = not (b == 10)
 
 abbrev cut : ℕ → List ℕ → List ℕ
 cut n xs = option_map_or (λ place. drop (place + 1) xs) (cond (nat_lt n (length xs)) (Some n) None) []

@@ -8,8 +8,7 @@ use Rattle.vs_history.specs.History.{Got, History, Put, gots, puts}
 use Rattle.vs_history.specs.declared.packet.Packet.{Packet}
 use Rattle.vs_matching.specs.Heard.{is_empty}
 use Rattle.vs_page.proofs.Flows.{same_self}
-use Rattle.vs_page.specs.Fair.{IsPrefixOf, payload_of}
-use Rattle.vs_page.specs.Log.{Log, Role, flow_got, flow_put, history_of}
+use Rattle.vs_page.specs.{Fair.IsPrefixOf, Fair.payload_of, Log.Log, Log.Role, Log.flow_got, Log.flow_put, Log.history_of}
 use Rattle.vs_page.specs.declared.log.LogEntry.TheVariants.{GotPacket, PutPacket}
 use Rattle.vs_pipes.specs.Drains.{got_on, has_passed, put_on}
 
@@ -58,7 +57,7 @@ put_by false p h = refl
 pub got_after_put : (role : Role) (p : Packet) (log : Log) (f : Flow) → got_on role f (PutPacket p ∷ log) ≡ got_on role f log
 got_after_put role p log f = put_by (same_flow f (flow_put role p)) p (history_of role f log)
 
-put_more_by : (b : Bool) (p : Packet) (h : History) → payload_of (puts (cond b (Put p ∷ h) h)) ≡ payload_of (puts h) ++ cond b p.payload []
+pub put_more_by : (b : Bool) (p : Packet) (h : History) → payload_of (puts (cond b (Put p ∷ h) h)) ≡ payload_of (puts h) ++ cond b p.payload []
 put_more_by true p h = refl
 put_more_by false p h = nothing_more (payload_of (puts h))
 

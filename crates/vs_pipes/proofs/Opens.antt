@@ -1,37 +1,30 @@
 -- What the host's streams took and gave, as a line is read and a connection opens.
-use Rattle.std.proofs.Common.{◌≡◌, ◌≢◌, ℕ, zero, suc, ◌+◌, ◌-◌, ◌==◌, min, Bool, true, false, cond, List, [], ◌∷◌, ◌++◌, length, take, get_or, slice_get, Option, Some, None, is_some, refl, sym, ap, subst, ◌∙◌, arith}
-use Rattle.std.specs.List.{All, find}
-use Rattle.std.specs.Option.{option_map, option_map_or}
+use Rattle.std.proofs.Common.{◌≡◌, ◌≢◌, ℕ, zero, suc, ◌+◌, ◌-◌, ◌==◌, min, Bool, true, false, cond, List, [], ◌∷◌, ◌++◌, length, take}
+use Rattle.std.proofs.Common.{get_or, slice_get, Option, Some, None, is_some, refl, sym, ap, subst, ◌∙◌, arith}
+use Rattle.std.specs.{List.All, List.find, Option.option_map, Option.option_map_or}
 use Rattle.std.proofs.lemmas.Bool.Decides.{nat_tests}
 use Rattle.std.proofs.lemmas.List.Elements.{Contains-push}
 use Rattle.std.proofs.lemmas.Option.{get_or_from_slice_get, slice_get_within}
 use Rattle.vs_conn.specs.End.{answering, asked}
-use Rattle.vs_device_parts.specs.Connections.{new_connection}
-use Rattle.vs_device_parts.specs.State.{DeviceConnection}
-use Rattle.vs_flow.specs.Flow.{is_assigned}
-use Rattle.vs_flow.specs.Table.{Table, with_entry}
+use Rattle.vs_device_parts.specs.{Connections.new_connection, State.DeviceConnection}
+use Rattle.vs_flow.specs.{Flow.is_assigned, Table.Table, Table.with_entry}
 use Rattle.vs_flow.specs.declared.flow.Flow.{Flow}
-use Rattle.vs_flow.proofs.Entries.{found_passes}
-use Rattle.vs_flow.proofs.Lookups.{find_place}
+use Rattle.vs_flow.proofs.{Entries.found_passes, Lookups.find_place}
 use Rattle.vs_header.specs.declared.Header.{Header}
 use Rattle.vs_history.specs.declared.TheConstants.{BUF_ALLOC}
-use Rattle.vs_outside.specs.Host.{HostContents, Stream, after_dial, after_label, after_read, called, dialed_stream, fails_now, has_label, next_bytes, read_answer, read_of, stream_at, take_bytes}
-use Rattle.vs_outside.specs.HostBytes.{after_line}
+use Rattle.vs_outside.specs.Host.{HostContents, Stream, after_dial, after_label, after_read, called, dialed_stream, fails_now, has_label}
+use Rattle.vs_outside.specs.{Host.next_bytes, Host.read_answer, Host.read_of, Host.stream_at, Host.take_bytes, HostBytes.after_line}
 use Rattle.vs_outside.specs.declared.host_net.Dialed.TheVariants as dialed
 use Rattle.vs_outside.specs.declared.host_net.StreamRead.TheVariants as read
 use Rattle.vs_page.specs.Log.{Device, Log}
-use Rattle.vs_proxy_parts.specs.Handshakes.{with_line, without_stream}
-use Rattle.vs_proxy_parts.specs.State.{Handshake}
-use Rattle.vs_uds.specs.OkLine.{ok_text}
-use Rattle.vs_uds.specs.Reading.{is_decided}
+use Rattle.vs_proxy_parts.specs.{Handshakes.with_line, Handshakes.without_stream, State.Handshake}
+use Rattle.vs_uds.specs.{OkLine.ok_text, Reading.is_decided}
 use Rattle.vs_uds.specs.declared.connect.TheConstants.{CONNECT_MAX}
 use Rattle.vs_pipes.specs.Drains.{got_on, has_passed, put_on}
 use Rattle.vs_pipes.specs.Streamed.{AreLines, AreStreamed, IsStreamed, Seen, client_waits, has_line, line_for, look, reading, seen}
 use Rattle.vs_pipes.proofs.Hands.{with_all, with_apart, without_all, without_none, without_pairs}
-use Rattle.vs_pipes.proofs.Hosts.{changed_seen, others_seen, there}
-use Rattle.vs_pipes.proofs.HostCalls.{more_kept, some_seen}
-use Rattle.vs_pipes.proofs.Logs.{none_got, none_put}
-use Rattle.vs_pipes.proofs.Streamed.{opened_streamed, unlabelled_streamed}
+use Rattle.vs_pipes.proofs.{Hosts.changed_seen, Hosts.others_seen, Hosts.there, HostCalls.more_kept, HostCalls.some_seen}
+use Rattle.vs_pipes.proofs.{Logs.none_got, Logs.none_put, Streamed.opened_streamed, Streamed.unlabelled_streamed}
 
 -- A byte is read where there is one.
 pub one_byte : (id n : ℕ) (c : HostContents) → read_answer id 1 c ≡ read.Got n → (byte : ℕ) × (next_bytes id n c ≡ byte ∷ [])
@@ -238,15 +231,15 @@ module _ (c : HostContents) (log : Log) (port : ℕ) (t : Table DeviceConnection
       }))
 
 -- DIAL: a connection opens with a new stream.
-get_end : (xs : List Stream) (y : Stream) → slice_get (xs ++ y ∷ []) (length xs) ≡ Some y
+pub get_end : (xs : List Stream) (y : Stream) → slice_get (xs ++ y ∷ []) (length xs) ≡ Some y
 get_end [] y = refl
 get_end (x ∷ xs) y = get_end xs y
 
-get_past : (xs : List Stream) → slice_get xs (length xs) ≡ None
+pub get_past : (xs : List Stream) → slice_get xs (length xs) ≡ None
 get_past [] = refl
 get_past (x ∷ xs) = get_past xs
 
-get_other : (xs : List Stream) (y : Stream) (k : ℕ) → k ≢ length xs → slice_get (xs ++ y ∷ []) k ≡ slice_get xs k
+pub get_other : (xs : List Stream) (y : Stream) (k : ℕ) → k ≢ length xs → slice_get (xs ++ y ∷ []) k ≡ slice_get xs k
 get_other [] y zero other = absurd (other refl)
 get_other [] y (suc k) other = refl
 get_other (x ∷ xs) y zero other = refl

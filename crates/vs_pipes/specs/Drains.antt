@@ -6,8 +6,7 @@ use Rattle.vs_conn.specs.declared.end.State.TheVariants.{Ended}
 use Rattle.vs_flow.specs.declared.flow.Flow.{Flow}
 use Rattle.vs_history.specs.History.{gots, puts}
 use Rattle.vs_matching.specs.Heard.{is_empty}
-use Rattle.vs_page.specs.Fair.{IsPrefixOf, payload_of}
-use Rattle.vs_page.specs.Log.{Log, Role, history_of}
+use Rattle.vs_page.specs.{Fair.IsPrefixOf, Fair.payload_of, Log.Log, Log.Role, Log.history_of}
 
 -- What came out of a buffer, and then what it holds, is a prefix of what came in; and all of it, while nothing is left out.
 pub record Drains (all : Bool) (out held came : List ℕ) : Type 0 where

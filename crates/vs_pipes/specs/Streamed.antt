@@ -1,22 +1,17 @@
 -- What the host's streams took and gave, against the packets of their flows.
-use Rattle.std.specs.Prelude.{◌≡◌, ◌≢◌, ℕ, ◌<◌, ◌++◌, ◌==◌, not, Bool, true, false, if◌then◌else◌, List, [], Option, Some, None, AllPairs, Contains}
-use Rattle.std.specs.List.{All, list_any}
-use Rattle.std.specs.Option.{option_map}
+use Rattle.std.specs.Prelude.{◌≡◌, ◌≢◌, ℕ, ◌<◌, ◌++◌, ◌==◌, not, Bool, true, false, if◌then◌else◌, List, [], Option, Some, None, AllPairs}
+use Rattle.std.specs.{Prelude.Contains, List.All, List.list_any, Option.option_map}
 use Rattle.vs_conn.specs.End.{ConnectionEnd}
 use Rattle.vs_conn.specs.declared.end.State.{State}
 use Rattle.vs_conn.specs.declared.end.State.TheVariants.{Answering, Asked, Live}
 use Rattle.vs_device_parts.specs.State.{DeviceConnection, DeviceEntry}
-use Rattle.vs_flow.specs.Flow.{is_assigned}
-use Rattle.vs_flow.specs.Table.{Table}
+use Rattle.vs_flow.specs.{Flow.is_assigned, Table.Table}
 use Rattle.vs_flow.specs.declared.flow.Flow.{Flow}
-use Rattle.vs_outside.specs.Host.{HostContents, Stream, stream_at, waits}
-use Rattle.vs_outside.specs.HostBytes.{after_line}
+use Rattle.vs_outside.specs.{Host.HostContents, Host.Stream, Host.stream_at, Host.waits, HostBytes.after_line}
 use Rattle.vs_uds.specs.declared.scan.TheConstants.{LF}
-use Rattle.vs_page.specs.Fair.{IsPrefixOf}
-use Rattle.vs_page.specs.Log.{Device, Log}
+use Rattle.vs_page.specs.{Fair.IsPrefixOf, Log.Device, Log.Log}
 use Rattle.vs_proxy_parts.specs.State.{Handshake}
-use Rattle.vs_uds.specs.OkLine.{ok_text}
-use Rattle.vs_uds.specs.Reading.{is_decided}
+use Rattle.vs_uds.specs.{OkLine.ok_text, Reading.is_decided}
 use Rattle.vs_uds.specs.declared.connect.TheConstants.{CONNECT_MAX}
 use Rattle.vs_pipes.specs.Drains.{Drains, got_on, has_passed, put_on}
 

@@ -1,15 +1,13 @@
 //! The driver's end of one queue.
-ghost use Rattle.std.specs.Prelude.{min, IfSome, ◌≡◌, ◌<◌, ◌≤◌, ◌+◌, ◌-◌, ◌*◌, ◌^◌, [], ◌∷◌, length, nat_lt, replicate, IfOk, IfErr, IfNone, OnOk, OnErr, OnSome, IsTrue, None, Some, is_ok};
-ghost use Rattle.std.specs.List.{range_with_len};
-ghost use Rattle.vs_guest_mem.specs.Memory.{after_write, bytes_at, is_inside};
+ghost use Rattle.std.specs.Prelude.{min, IfSome, ◌≡◌, ◌<◌, ◌≤◌, ◌+◌, ◌-◌, ◌*◌, ◌^◌, [], length, nat_lt, replicate, IfOk, IfErr, IfNone};
+ghost use Rattle.std.specs.Prelude.{OnOk, OnErr, OnSome, IsTrue, None, Some, is_ok};
+ghost use Rattle.std.specs.{List.range_with_len, VecDeque.deque_capacity};
+ghost use Rattle.vs_guest_mem.specs.Memory.{bytes_at, is_inside};
 ghost use Rattle.byteorder.specs.Endian.{little_bytes, little_number};
-ghost use Rattle.std.specs.VecDeque.{deque_capacity};
 ghost use Rattle.vs_page.specs.declared.page.TheConstants.{PAGE_LEN};
-ghost use Rattle.vs_layout.specs.Entry.{desc_bytes, used_elem_of};
-ghost use Rattle.vs_layout.specs.Layout.{avail_entry, desc_entry, used_elem, AreInside};
-ghost use Rattle.vs_ring_plain.specs.Device.{SamePlace, areas_at, with_memory};
-ghost use Rattle.vs_ring_plain.specs.Take.{whole};
-ghost use Rattle.vs_ring_port.specs.declared.queue.TheConstants.{QUEUE_SIZE_MAX, STAGED_MAX};
+ghost use Rattle.vs_layout.specs.{Entry.used_elem_of, Layout.used_elem, Layout.AreInside};
+ghost use Rattle.vs_ring_plain.specs.{Device.SamePlace, Device.areas_at, Device.with_memory, Take.whole};
+ghost use Rattle.vs_ring_port.specs.declared.queue.TheConstants.{QUEUE_SIZE_MAX};
 ghost use Rattle.vs_plain_driver.specs.Queue.{
   desc_for,
   flight_in,

@@ -1,29 +1,18 @@
 -- What both ends count is what the lists say.
-use Rattle.std.proofs.Common.{◌≡◌, ℕ, ◌+◌, ◌-◌, Bool, true, false, cond, List, [], ◌∷◌, ◌++◌, length, length-append, map, refl, sym, ap, ap₂, ◌∙◌, subst, arith}
-use Rattle.vs_ring_port.specs.Chains.{Held, chains_of, held_of, same_queue}
-use Rattle.vs_ring_port.specs.Counts.{Counts}
-use Rattle.vs_ring_port.specs.EndLog.{pages_at}
+use Rattle.std.proofs.Common.{◌≡◌, ℕ, ◌+◌, ◌-◌, cond, List, [], ◌∷◌, length, length-append, map, refl, sym, ap₂, ◌∙◌, arith}
+use Rattle.vs_ring_port.specs.{Chains.Held, Chains.chains_of, Chains.held_of, Chains.same_queue, Counts.Counts, EndLog.pages_at}
 use Rattle.vs_ring_port.specs.Lists.{queue_of}
 use Rattle.vs_ring_port.specs.declared.device_ring.Chain.{Chain}
 use Rattle.vs_ring_port.specs.declared.queue.Queue.{Queue}
 use Rattle.vs_ring_port.specs.declared.queue.Queue.TheVariants.{Rx, Tx, Event}
 use Rattle.vs_ring_list.specs.Ends.{Ends, in_flight}
 use Rattle.vs_ring_list.proofs.Flights.{held_of-cons}
-use Rattle.vs_ring_plain.specs.Device.{HeldChain, chains_held}
+use Rattle.vs_ring_plain.specs.Device.{HeldChain}
 use Rattle.vs_plain_driver.specs.Queue.{flight_in}
-use Rattle.vs_plain_ties.specs.Parts.{PartsState, driver_at}
-use Rattle.vs_plain_ties.specs.Shown.{Shown}
+use Rattle.vs_plain_ties.specs.{Parts.PartsState, Parts.driver_at, Shown.Shown}
 use Rattle.vs_plain_ties.specs.Tie.{AreHeldAs, AreTied, heads_of, shown_of, start_of}
-use Rattle.vs_plain_ties.proofs.Rows.{back_length, out_length}
+use Rattle.vs_plain_ties.proofs.{Rows.back_length, Rows.out_length, Held.heads_length}
 use Rattle.vs_plain_rings.specs.Counted.{AreCounted}
-
-heads_length : (q : Queue) (h : HeldChain) (held : List HeldChain)
-    → length (heads_of q (h ∷ held)) ≡ cond (same_queue q h.chain.queue) 1 0 + length (heads_of q held)
-heads_length q h held = by (same_queue q h.chain.queue)
-  where
-    by : (b : Bool) → length (cond b (h.head ∷ heads_of q held) (heads_of q held)) ≡ cond b 1 0 + length (heads_of q held)
-    by true = omega arith
-    by false = omega arith
 
 -- the chains that the device holds
 heads_held : (at : Queue → ℕ) (s : Queue → Shown) (q : Queue) (held : List HeldChain) (chains : List Held) → AreHeldAs at s held chains

@@ -1,10 +1,10 @@
 -- Rings that are made are in order.
-use Rattle.std.proofs.Common.{◌≡◌, ℕ, ◌+◌, ◌*◌, ◌-◌, ◌%◌, ◌≤◌, Bool, true, false, cond, Option, Some, None, IfSome, length, refl, ap, ◌∙◌, sym, ap₂, arith}
+use Rattle.std.proofs.Common.{◌≡◌, ℕ, ◌+◌, ◌*◌, ◌-◌, ◌%◌, ◌≤◌, Bool, true, false, cond, Option, Some, None, IfSome, length, refl, ap, ◌∙◌}
+use Rattle.std.proofs.Common.{sym, ap₂, arith}
 use Rattle.std.specs.Prelude.{nat_le}
 use Rattle.std.proofs.lemmas.Bool.Decides.{nat_tests}
 use Rattle.vs_guest_mem.specs.Memory.{Memory}
-use Rattle.vs_plain_driver.specs.Queue.{DriverQueueState}
-use Rattle.vs_plain_driver.specs.View.{ArePagesIn}
+use Rattle.vs_plain_driver.specs.{Queue.DriverQueueState, View.ArePagesIn}
 use Rattle.vs_layout.specs.Layout.{queue_areas_of}
 use Rattle.vs_layout.specs.declared.placement.QueueAreas.{QueueAreas}
 use Rattle.vs_ring_plain.specs.Device.{DeviceState, new_device, with_memory}

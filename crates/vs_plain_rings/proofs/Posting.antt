@@ -1,12 +1,12 @@
 -- A page that the driver posts is the chain that the device takes.
-use Rattle.std.proofs.Common.{inr, ◌≡◌, ◌⊎◌, ℕ, ◌+◌, ◌*◌, ◌%◌, ◌^◌, ◌<◌, ◌≤◌, Bool, true, false, List, [], ◌∷◌, length, Option, refl, sym, ap, ap₂, ◌∙◌, subst, arith}
+use Rattle.std.proofs.Common.{inr, ◌≡◌, ◌⊎◌, ℕ, ◌+◌, ◌*◌, ◌%◌, ◌^◌, ◌<◌, ◌≤◌, Bool, true, false, List, [], ◌∷◌, length, Option, refl, sym}
+use Rattle.std.proofs.Common.{ap, ◌∙◌, subst, arith}
 use Rattle.std.proofs.lemmas.Bool.Decides.{nat_tests}
 use Rattle.std.proofs.lemmas.Nat.{mod_below}
 use Rattle.byteorder.specs.Endian.{little_bytes, little_number}
 use Rattle.vs_guest_mem.specs.Memory.{Memory, after_access, after_write, bytes_at, is_within}
 use Rattle.vs_header.proofs.RoundTrip.{little_number-little_bytes}
-use Rattle.vs_layout.specs.Entry.{desc_bytes, desc_of}
-use Rattle.vs_layout.specs.Layout.{avail_entry, avail_idx, desc_entry}
+use Rattle.vs_layout.specs.{Entry.desc_bytes, Entry.desc_of, Layout.avail_entry, Layout.avail_idx, Layout.desc_entry}
 use Rattle.vs_layout.specs.declared.entry.Desc.{Desc}
 use Rattle.vs_layout.specs.declared.place.Areas.{Areas}
 use Rattle.vs_ring_plain.specs.Accesses.{over}
@@ -17,16 +17,7 @@ use Rattle.vs_ring_port.specs.declared.queue.Queue.{Queue}
 use Rattle.vs_ring_port.specs.declared.queue.Queue.TheVariants.{Rx, Tx, Event}
 use Rattle.vs_plain_driver.specs.Queue.{desc_for}
 use Rattle.vs_plain_rings.specs.Posting.{CanPost, idle_queue, posted, ring_of}
-use Rattle.vs_plain_ties.proofs.Frames.{inner, kept, length_written, written}
-
--- a descriptor's bytes hold it
-pub desc_back : (d : Desc) → d.addr < 2 ^ 64 → d.len < 2 ^ 32 → d.flags < 2 ^ 16 → d.next < 2 ^ 16 → desc_of (desc_bytes d) ≡ d
-desc_back d addr len flags next =
-    let of : ℕ → ℕ → ℕ → ℕ → Desc = λ a l f n. record { addr = a; len = l; flags = f; next = n } in
-    ap₂ (λ a l. of a l (little_number 2 (little_bytes 2 d.flags)) (little_number 2 (little_bytes 2 d.next)))
-    (little_number-little_bytes 8 d.addr (omega (arith, addr))) (little_number-little_bytes 4 d.len (omega (arith, len)))
-    ∙ ap₂ (of d.addr d.len) (little_number-little_bytes 2 d.flags (omega (arith, flags))) (little_number-little_bytes 2 d.next (omega
-    (arith, next)))
+use Rattle.vs_plain_ties.proofs.{Frames.inner, Frames.kept, Frames.length_written, Frames.written, Encoded.desc_back}
 
 -- one more than it was, modulo 2^16
 one_ahead : (p : ℕ) → p < 2 ^ 16 → ahead ((p + 1) % 2 ^ 16) p ≡ 1

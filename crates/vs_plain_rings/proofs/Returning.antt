@@ -1,13 +1,13 @@
 -- A chain that the device returns is the page that the driver gets back.
-use Rattle.std.proofs.Common.{inr, ◌≡◌, ◌⊎◌, ℕ, ◌+◌, ◌*◌, ◌%◌, ◌^◌, ◌<◌, ◌≤◌, Bool, false, cond, List, length, Option, None, Some, refl, sym, ap, ap₂, ◌∙◌, subst, arith}
+use Rattle.std.proofs.Common.{inr, ◌≡◌, ◌⊎◌, ℕ, ◌+◌, ◌*◌, ◌%◌, ◌^◌, ◌<◌, ◌≤◌, Bool, false, cond, List, length, Option, None, Some, refl}
+use Rattle.std.proofs.Common.{sym, ap, ◌∙◌, subst, arith}
 use Rattle.std.specs.Prelude.{◌==◌, ◌||◌, nat_le, min, slice_index_or}
 use Rattle.std.proofs.lemmas.Bool.Decides.{nat_tests}
 use Rattle.std.proofs.lemmas.Nat.{mod_below}
 use Rattle.byteorder.specs.Endian.{little_bytes, little_number}
 use Rattle.vs_guest_mem.specs.Memory.{Memory, after_access, after_write, bytes_at}
 use Rattle.vs_header.proofs.RoundTrip.{little_number-little_bytes}
-use Rattle.vs_layout.specs.Entry.{used_elem_bytes, used_elem_of}
-use Rattle.vs_layout.specs.Layout.{used_elem, used_idx}
+use Rattle.vs_layout.specs.{Entry.used_elem_bytes, Entry.used_elem_of, Layout.used_elem, Layout.used_idx}
 use Rattle.vs_layout.specs.declared.entry.UsedElem.{UsedElem}
 use Rattle.vs_layout.specs.declared.place.Areas.{Areas}
 use Rattle.vs_ring_plain.specs.Still.{IsStill}
@@ -15,13 +15,7 @@ use Rattle.vs_ring_plain.proofs.Still.{is_quiet, quiet}
 use Rattle.vs_ring_port.specs.declared.queue.Queue.{Queue}
 use Rattle.vs_plain_driver.specs.Queue.{DriverQueueState, flight_in, next_elem, next_used, numbered, page_back, reaped_page}
 use Rattle.vs_plain_rings.specs.Posting.{CanReap, returned, ring_of}
-use Rattle.vs_plain_ties.proofs.Frames.{inner, kept, length_written, written}
-
--- an element's bytes hold it
-elem_back : (e : UsedElem) → e.id < 2 ^ 32 → e.len < 2 ^ 32 → used_elem_of (used_elem_bytes e) ≡ e
-elem_back e id len =
-    ap₂ (λ a b. let x : UsedElem = record { id = a; len = b } in x) (little_number-little_bytes 4 e.id (omega (arith, id)))
-    (little_number-little_bytes 4 e.len (omega (arith, len)))
+use Rattle.vs_plain_ties.proofs.{Frames.inner, Frames.kept, Frames.length_written, Frames.written, Encoded.elem_back, Reaping.or_false}
 
 -- the next index is another one
 index_moves : (used : ℕ) → used < 2 ^ 16 → ((used + 1) % 2 ^ 16 == used) ≡ false
@@ -111,9 +105,6 @@ module _ (q : DriverQueueState) (at head len base accesses : ℕ) (bytes : List 
 
   choice : (b : Bool) (x y : Option (ℕ × List ℕ)) → b ≡ false → cond b x y ≡ y
   choice b x y off = rw off refl
-
-  or_false : (a b c : Bool) → a ≡ false → b ≡ false → c ≡ false → (a || b || c) ≡ false
-  or_false a b c fa fb fc = rw (fa, fb, fc) refl
 
   no : ((q.staged == flight_in q) || (little_number 2 (bytes_at m3 I 2) == q.reaped) || nat_le q.n (next_elem areas q m3).id) ≡ false
   no = or_false _ _ _ can.published

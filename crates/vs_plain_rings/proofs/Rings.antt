@@ -1,11 +1,11 @@
 -- Each call keeps standard rings tied to their memory, and is one that the ports allow.
-use Rattle.std.proofs.Common.{◌≡◌, ℕ, ◌+◌, ◌<◌, ◌≤◌, List, [], length, Option, None, Some, Contains, Bool, true, false, cond, refl, sym, ap, ap₂, ◌∙◌, subst}
+use Rattle.std.proofs.Common.{◌≡◌, ℕ, ◌+◌, ◌<◌, ◌≤◌, List, [], length, Option, None, Some, Contains, Bool, true, false, cond, refl, sym, ap}
+use Rattle.std.proofs.Common.{ap₂, ◌∙◌, subst}
 use Rattle.std.specs.Option.{ForSome}
 use Rattle.vs_ring_port.specs.Contents.{Given, PublishCid, Read, Return, Take, Write}
 use Rattle.vs_ring_port.specs.DeviceCalls.{CanReturn, DeviceAllows, LeavesNoGap}
 use Rattle.vs_ring_port.specs.DriverCalls.{CanPublish, DriverAllows, LoadCid, Publish, Reap, Stage}
-use Rattle.vs_ring_port.specs.declared.device_ring.Chain.{Chain}
-use Rattle.vs_ring_port.specs.declared.device_ring.Next.{Next}
+use Rattle.vs_ring_port.specs.declared.device_ring.{Chain.Chain, Next.Next}
 use Rattle.vs_ring_port.specs.declared.queue.Queue.{Queue}
 use Rattle.vs_ring_port.specs.declared.queue.Queue.TheVariants.{Rx, Tx, Event}
 use Rattle.vs_ring_journal.specs.History.{ByDevice, ByDriver, History, RingCall, then}
@@ -58,13 +58,6 @@ module _ (p : PartsState) (h : History) (now : BothEnds) (is : (let x : BothEnds
   tied_staged queue page q new parts calls fits header less =
       tied_as (ByDriver (Stage queue page)) (staged_parts queue page p) q new parts (same_device queue _ _) calls
       (told.told_staged p queue page ends tied fits header less)
-
-  pub allows_staged : (queue : Queue) (page : List ℕ) (q : PartsState) (new : History) → q ≡ staged_parts queue page p
-      → new ≡ then h (ByDriver (Stage queue page))
-      → DriverAllows (Stage queue page) tt (driver_contents now) (driver_told (ends_by q.device.size new))
-  allows_staged queue page q new parts calls =
-      driver_as (ByDriver (Stage queue page)) (λ x y. DriverAllows (Stage queue page) tt (driver_told x) (driver_told y)) q.device.size new
-      (ap (λ (x : PartsState). x.device.size) parts ∙ same_device queue _ _) calls (told.allows_staged p queue page ends tied)
 
   -- those staged are published
   pub tied_published : (queue : Queue) (q : PartsState) (new : History) → q ≡ published_parts queue p

@@ -2,16 +2,12 @@
 use Rattle.std.specs.Prelude.{◌≡◌, ℕ, ◌+◌, ◌*◌, ◌^◌, ◌<◌, ◌≤◌, ◌==◌, Bool, false, List, ◌∷◌, length, slice_index_or, Option, None, Some}
 use Rattle.vs_guest_mem.specs.Memory.{Memory}
 use Rattle.vs_header.specs.declared.TheConstants.{HEADER_LEN}
-use Rattle.vs_layout.specs.Layout.{AreInside, IsPlaced, avail_area, desc_area, used_area}
-use Rattle.vs_layout.specs.Span.{IsApart}
+use Rattle.vs_layout.specs.{Layout.AreInside, Layout.IsPlaced, Layout.avail_area, Layout.desc_area, Layout.used_area, Span.IsApart}
 use Rattle.vs_layout.specs.declared.place.Areas.{Areas}
 use Rattle.vs_page.specs.declared.page.TheConstants.{PAGE_LEN}
-use Rattle.vs_ring_port.specs.declared.queue.Queue.{Queue}
+use Rattle.vs_ring_port.specs.declared.queue.{Queue.Queue, TheConstants.QUEUE_SIZE_MAX}
 use Rattle.vs_ring_port.specs.declared.queue.Queue.TheVariants.{Tx}
-use Rattle.vs_ring_port.specs.declared.queue.TheConstants.{QUEUE_SIZE_MAX}
-use Rattle.vs_ring_plain.specs.Accesses.{over}
-use Rattle.vs_ring_plain.specs.Chain.{Ring}
-use Rattle.vs_ring_plain.specs.Pieces.{returning}
+use Rattle.vs_ring_plain.specs.{Accesses.over, Chain.Ring, Pieces.returning}
 use Rattle.vs_plain_driver.specs.Queue.{DriverQueueState, flight_in, published_memory, staged_memory, staged_queue}
 
 -- The driver's end of a queue of n descriptors whose pages lie from an address on, of which none is staged and the descriptor id is the

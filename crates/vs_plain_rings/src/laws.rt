@@ -4,9 +4,7 @@ ghost use Rattle.vs_guest_mem.specs.Memory.{Memory, after_access, bytes_at};
 ghost use Rattle.vs_layout.specs.declared.place.Areas.{Areas};
 ghost use Rattle.vs_page.specs.declared.page.TheConstants.{PAGE_LEN};
 ghost use Rattle.vs_ring_port.specs.declared.queue.Queue.{Queue};
-ghost use Rattle.vs_ring_plain.specs.Accesses.{over};
-ghost use Rattle.vs_ring_plain.specs.Chain.{Chain, piece_of, taking};
-ghost use Rattle.vs_ring_plain.specs.Still.{IsStill};
+ghost use Rattle.vs_ring_plain.specs.{Accesses.over, Chain.Chain, Chain.piece_of, Chain.taking, Still.IsStill};
 ghost use Rattle.vs_plain_driver.specs.Queue.{DriverQueueState, desc_for, next_used, reaped_page};
 ghost use Rattle.vs_plain_rings.specs.Posting.{CanPost, CanReap, idle_queue, posted, returned, ring_of};
 

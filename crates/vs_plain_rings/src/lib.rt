@@ -4,7 +4,5 @@
 pub mod laws;
 pub mod parts;
 pub mod plain_rings;
-#[cfg(test)]
-mod tests;
 
 pub use plain_rings::PlainRings;

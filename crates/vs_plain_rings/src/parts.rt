@@ -1,5 +1,6 @@
 //! Both ends of standard rings: the device's with the memory, and the driver's of each queue.
-ghost use Rattle.std.specs.Prelude.{◌≡◌, ◌<◌, ◌≤◌, ◌+◌, ◌-◌, ◌*◌, ◌%◌, ◌^◌, [], ◌∷◌, length, Contains, IfOk, IfErr, IfNone, OnOk, OnErr, OnSome, IfSome, None, Some, nat_le, if◌then◌else◌, IsTrue, is_ok};
+ghost use Rattle.std.specs.Prelude.{◌≡◌, ◌<◌, ◌≤◌, ◌+◌, ◌-◌, ◌*◌, ◌%◌, ◌^◌, [], length, Contains, IfOk, IfErr, IfNone, OnOk, OnErr, OnSome};
+ghost use Rattle.std.specs.Prelude.{IfSome, None, Some, nat_le, if◌then◌else◌, IsTrue, is_ok};
 ghost use Rattle.vs_guest_mem.specs.Memory.{after_write, is_inside};
 ghost use Rattle.vs_layout.specs.Layout.{AreInside, queue_areas_of};
 ghost use Rattle.vs_page.specs.declared.page.TheConstants.{PAGE_LEN};

@@ -1,17 +1,14 @@
 //! Standard rings as both traits.
-ghost use Rattle.std.specs.Prelude.{◌≡◌, ◌<◌, ◌≤◌, ◌+◌, ◌^◌, [], length, if◌then◌else◌, None, Some};
-ghost use Rattle.std.specs.Prelude.{IfOk, IfErr, OnOk, OnErr, IsTrue, is_ok};
-ghost use Rattle.std.specs.Option.{ForSome};
+ghost use Rattle.std.specs.Prelude.{◌≡◌, ◌<◌, ◌≤◌, ◌+◌, ◌^◌, [], length, if◌then◌else◌, None, Some, IfOk, IfErr, OnOk, OnErr, IsTrue};
+ghost use Rattle.std.specs.{Prelude.is_ok, Option.ForSome};
 ghost use Rattle.vs_guest_mem.specs.Memory.{after_write, is_inside};
 ghost use Rattle.vs_layout.specs.Layout.{queue_areas_of};
 ghost use Rattle.vs_ring_port.specs.declared.queue.TheConstants.{QUEUE_SIZE_MAX};
 ghost use Rattle.vs_ring_port.specs.DriverCalls.{page_of};
 ghost use Rattle.vs_ring_plain.specs.Device.{with_change};
-ghost use Rattle.vs_plain_ties.specs.Exposed.{are_alone, first_ends};
-ghost use Rattle.vs_page.specs.Fair.{IsFairLog};
-ghost use Rattle.vs_page.specs.Log.{Device, Driver, HasGotAll};
-ghost use Rattle.vs_plain_ties.specs.Parts.{new_parts, with_parts_memory};
+ghost use Rattle.vs_plain_ties.specs.{Exposed.are_alone, Exposed.first_ends, Parts.new_parts, Parts.with_parts_memory};
 ghost use Rattle.vs_plain_ties.specs.Tie.{IsLaid, areas_of, start_of};
+ghost use Rattle.vs_page.specs.{Fair.IsFairLog, Log.Device, Log.Driver, Log.HasGotAll};
 ghost use Rattle.vs_plain_rings.specs.Counted.{AreCounted};
 
 use crate::parts::{Parts, pages_from};

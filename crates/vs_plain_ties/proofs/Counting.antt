@@ -1,5 +1,5 @@
 -- How often numbers stand in lists.
-use Rattle.std.proofs.Common.{◌≡◌, ◌⊎◌, inl, inr, false, ℕ, ◌+◌, ◌<◌, true, List, [], ◌∷◌, ◌++◌, refl, sym, ap, arith}
+use Rattle.std.proofs.Common.{◌≡◌, ◌⊎◌, inl, inr, false, ℕ, ◌+◌, ◌<◌, true, List, [], ◌∷◌, ◌++◌, refl, sym, arith}
 use Rattle.std.specs.Prelude.{◌==◌}
 use Rattle.std.proofs.lemmas.Bool.Decides.{eqb_tells, nat_tests}
 use Rattle.vs_plain_ties.specs.Queue.{times}
@@ -19,10 +19,6 @@ times-append id (x ∷ xs) ys = omega (arith, times-append id xs ys)
 
 pub times-push : (id x : ℕ) (xs : List ℕ) → times id (xs ++ x ∷ []) ≡ times id xs + times id (x ∷ [])
 times-push id x xs = times-append id xs (x ∷ [])
-
--- a number that stands in a list isn't one that doesn't
-pub others : (id j : ℕ) (xs : List ℕ) → times id xs ≡ 0 → 0 < times j xs → id ≡ j → ⊥
-others id j xs none some same = omega (arith, none, some, ap (λ (x : ℕ). times x xs) same)
 
 pub here : (id : ℕ) (xs : List ℕ) → 0 < times id (id ∷ xs)
 here id xs = omega (arith, times-cons id id xs, times-self id)

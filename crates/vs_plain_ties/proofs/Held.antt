@@ -1,5 +1,6 @@
 -- Chains that the device holds, with their bytes.
-use Rattle.std.proofs.Common.{◌≡◌, ℕ, zero, suc, ◌+◌, ◌*◌, ◌<◌, ◌≤◌, Bool, true, false, cond, not, ◌&&◌, ◌==◌, List, [], ◌∷◌, length, map, get_or, Some, Contains, refl, sym, ap, ◌∙◌, subst, arith}
+use Rattle.std.proofs.Common.{◌≡◌, ℕ, zero, suc, ◌+◌, ◌*◌, ◌<◌, ◌≤◌, Bool, true, false, cond, not, ◌&&◌, ◌==◌, List, [], ◌∷◌, length, map}
+use Rattle.std.proofs.Common.{get_or, Some, Contains, refl, sym, ap, ◌∙◌, subst, arith}
 use Rattle.std.specs.Prelude.{count_by}
 use Rattle.std.proofs.lemmas.Bool.{false≢true}
 use Rattle.std.proofs.lemmas.List.Sums.{sum_by-cons}
@@ -9,11 +10,8 @@ use Rattle.vs_ring_port.specs.declared.device_ring.Chain.{Chain}
 use Rattle.vs_ring_port.specs.declared.queue.Queue.{Queue}
 use Rattle.vs_ring_plain.specs.Device.{HeldChain, hold_of, without_hold}
 use Rattle.vs_ring_plain.specs.declared.piece.Piece.{Piece}
-use Rattle.vs_plain_ties.specs.Queue.{times}
-use Rattle.vs_plain_ties.specs.Shown.{Shown}
-use Rattle.vs_plain_ties.specs.Tie.{AreHeldAs, IsHeldAs, heads_of}
-use Rattle.vs_plain_ties.proofs.Counting.{here, times-cons, times-self}
-use Rattle.vs_plain_ties.proofs.Queues.{turned}
+use Rattle.vs_plain_ties.specs.{Queue.times, Shown.Shown, Tie.AreHeldAs, Tie.IsHeldAs, Tie.heads_of}
+use Rattle.vs_plain_ties.proofs.{Counting.here, Counting.times-cons, Counting.times-self, Queues.turned}
 
 -- the first descriptor of a chain stands among those of its queue
 pub heads_here : (h : HeldChain) (held : List HeldChain) → heads_of h.chain.queue (h ∷ held) ≡ h.head ∷ heads_of h.chain.queue held
@@ -169,7 +167,7 @@ heads_without c (h ∷ held) hold is j = by (λ e. heads_without c held hold e j
       more (rest e),
     )
 
-heads_length : (q : Queue) (h : HeldChain) (held : List HeldChain)
+pub heads_length : (q : Queue) (h : HeldChain) (held : List HeldChain)
     → length (heads_of q (h ∷ held)) ≡ cond (same_queue q h.chain.queue) 1 0 + length (heads_of q held)
 heads_length q h held = by (same_queue q h.chain.queue)
   where

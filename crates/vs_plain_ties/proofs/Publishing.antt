@@ -5,23 +5,17 @@ use Rattle.std.proofs.lemmas.Bool.Decides.{nat_tests}
 use Rattle.byteorder.specs.Endian.{little_bytes, little_number}
 use Rattle.vs_guest_mem.specs.Memory.{Memory, after_write}
 use Rattle.vs_header.proofs.RoundTrip.{little_number-little_bytes}
-use Rattle.vs_page.specs.Fair.{IsFairLog}
-use Rattle.vs_page.specs.Log.{Driver}
-use Rattle.vs_ring_port.specs.Chains.{same_queue}
-use Rattle.vs_ring_port.specs.DriverCalls.{LoadCid, Publish}
-use Rattle.vs_ring_port.specs.EndLog.{entries_published, pages_at}
+use Rattle.vs_page.specs.{Fair.IsFairLog, Log.Driver}
+use Rattle.vs_ring_port.specs.{Chains.same_queue, DriverCalls.LoadCid, DriverCalls.Publish, EndLog.entries_published, EndLog.pages_at}
 use Rattle.vs_ring_port.specs.Lists.{Lists, queue_of}
 use Rattle.vs_ring_port.specs.declared.queue.Queue.{Queue}
 use Rattle.vs_ring_list.specs.Ends.{Ends}
 use Rattle.vs_ring_list.proofs.Ties.{tied-load, tied-publish}
 use Rattle.vs_ring_plain.specs.Device.{turns_at}
 use Rattle.vs_plain_driver.specs.Queue.{DriverQueueState, published_memory, published_queue}
-use Rattle.vs_plain_ties.specs.Calls.{after_driver}
-use Rattle.vs_plain_ties.specs.Parts.{PartsState, driver_at, published_parts}
-use Rattle.vs_plain_ties.specs.Shown.{shown}
+use Rattle.vs_plain_ties.specs.{Calls.after_driver, Parts.PartsState, Parts.driver_at, Parts.published_parts, Shown.shown}
 use Rattle.vs_plain_ties.specs.Tie.{AreTied, areas_of, heads_of, shown_of, start_of}
-use Rattle.vs_plain_ties.proofs.Assemble.{driver_form, driver_form_is, driver_step}
-use Rattle.vs_plain_ties.proofs.Frames.{length_written, written}
+use Rattle.vs_plain_ties.proofs.{Assemble.driver_form, Assemble.driver_form_is, Assemble.driver_step, Frames.length_written, Frames.written}
 use Rattle.vs_plain_ties.proofs.QueueSteps.{tie_published}
 use Rattle.vs_plain_ties.proofs.Spots.{AvailIdx, Untouched, high, low, untouched_none, untouched_other, untouched_own}
 

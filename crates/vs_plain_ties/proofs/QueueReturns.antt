@@ -1,22 +1,18 @@
 -- One queue whose lists lie in its memory, as pages are taken, returned and reaped.
-use Rattle.std.proofs.Common.{◌≡◌, ℕ, zero, suc, ◌+◌, ◌%◌, ◌^◌, ◌<◌, ◌≤◌, List, [], ◌∷◌, ◌++◌, length, None, refl, sym, ap, ◌∙◌, subst, arith, length-append}
+use Rattle.std.proofs.Common.{◌≡◌, ℕ, zero, suc, ◌+◌, ◌%◌, ◌^◌, ◌<◌, ◌≤◌, List, [], ◌∷◌, ◌++◌, length, None, refl, sym, ap, ◌∙◌, subst}
+use Rattle.std.proofs.Common.{arith}
 use Rattle.std.specs.Prelude.{set}
-use Rattle.std.proofs.lemmas.List.{get_or-set_other, length-set}
-use Rattle.std.proofs.lemmas.Nat.{mod_below}
+use Rattle.std.proofs.lemmas.{List.get_or-set_other, List.length-set, Nat.mod_below}
 use Rattle.vs_ring_port.specs.Lists.{Lists}
 use Rattle.vs_ring_port.specs.declared.queue.Queue.{Queue}
 use Rattle.vs_ring_plain.specs.declared.turns.Turns.{Turns}
 use Rattle.vs_plain_driver.specs.Queue.{DriverQueueState}
-use Rattle.vs_plain_ties.specs.Queue.{AreBack, AreOut, HasPage, IsQueueTied, times}
-use Rattle.vs_plain_ties.specs.Shown.{Shown}
+use Rattle.vs_plain_ties.specs.{Queue.AreBack, Queue.AreOut, Queue.HasPage, Queue.IsQueueTied, Queue.times, Shown.Shown}
 use Rattle.vs_plain_ties.proofs.Counting.{times-cons, times-push, times-self}
 use Rattle.vs_plain_ties.proofs.Modulo.{apart, further, mod_small, wraps}
-use Rattle.vs_plain_ties.proofs.QueueSteps.{back_count}
+use Rattle.vs_plain_ties.proofs.QueueSteps.{back_count, push_length}
 use Rattle.vs_plain_ties.proofs.Rows.{IsSameAt, back_index, back_kept, back_push, out_index, out_kept}
 use Rattle.vs_plain_ties.proofs.Spots.{Elem, UsedIdx, Untouched}
-
-push_length : {A : Type 0} (xs : List A) (x : A) → length (xs ++ x ∷ []) ≡ length xs + 1
-push_length xs x = length-append xs (x ∷ [])
 
 module _ (queue : Queue) (n at : ℕ) (nonzero : 0 < n) (limit : n ≤ 32768) (divides : 2 ^ 16 % n
     ≡ 0) (s : Shown) (q : DriverQueueState) (t : Turns)
@@ -125,9 +121,6 @@ module _ (queue : Queue) (n at : ℕ) (nonzero : 0 < n) (limit : n ≤ 32768) (d
 
     returns_behind : returns_at ≡ (q.reaped + length l.back) % n
     returns_behind = ap (λ x. x % n) tie.returned ∙ wraps n (q.reaped + length l.back) divides
-
-    not_id : (j : ℕ) → 0 < times j out + times j back → id ≡ j → ⊥
-    not_id j some same = omega (arith, some, tie.once j, counted j, ap (λ (x : ℕ). times x (id ∷ [])) same, times-self id)
 
     pub tie_returned : (new : Shown) → Untouched n (Elem returns_at ∷ UsedIdx ∷ []) s new → new.elem returns_at
         ≡ record { id = id; len = length page }

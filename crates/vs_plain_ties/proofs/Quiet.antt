@@ -1,20 +1,15 @@
 -- Accesses that change nothing.
 use Rattle.std.proofs.Common.{◌≡◌, ℕ, ◌==◌, Bool, true, false, cond, List, [], length, refl, sym, ap, ◌∙◌, subst}
 use Rattle.vs_guest_mem.specs.Memory.{Memory, accessed, after_access}
-use Rattle.vs_ring_port.specs.EndLog.{pages_at}
-use Rattle.vs_ring_port.specs.Lists.{queue_of}
+use Rattle.vs_ring_port.specs.{EndLog.pages_at, Lists.queue_of}
 use Rattle.vs_ring_port.specs.declared.queue.Queue.{Queue}
 use Rattle.vs_ring_port.specs.declared.queue.Queue.TheVariants.{Rx}
 use Rattle.vs_ring_list.specs.Ends.{Ends}
 use Rattle.vs_ring_plain.specs.Device.{turns_at, with_memory}
 use Rattle.vs_ring_plain.proofs.Still.{still_after, still_bytes}
-use Rattle.vs_plain_ties.specs.Parts.{PartsState, driver_at}
-use Rattle.vs_plain_ties.specs.Queue.{IsQueueTied}
-use Rattle.vs_plain_ties.specs.Shown.{Shown, shown}
+use Rattle.vs_plain_ties.specs.{Parts.PartsState, Parts.driver_at, Queue.IsQueueTied, Shown.Shown, Shown.shown}
 use Rattle.vs_plain_ties.specs.Tie.{AreHeldAs, AreTied, areas_of, heads_of, shown_of, start_of}
-use Rattle.vs_plain_ties.proofs.Assemble.{device_step}
-use Rattle.vs_plain_ties.proofs.Held.{held_kept}
-use Rattle.vs_plain_ties.proofs.Spots.{seen_same, untouched_same}
+use Rattle.vs_plain_ties.proofs.{Assemble.device_step, Held.held_kept, Spots.seen_same, Spots.untouched_same}
 
 -- a memory with the same bytes to which no change is to come
 pub record IsQuietly (m new : Memory) : Type 0 where

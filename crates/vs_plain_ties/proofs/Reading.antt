@@ -1,56 +1,32 @@
 -- Bytes of a chain that is held are read, and written.
-use Rattle.std.proofs.Common.{◌≡◌, ℕ, ◌+◌, ◌-◌, ◌*◌, ◌<◌, ◌≤◌, Bool, true, false, cond, List, [], ◌∷◌, ◌++◌, length, take, drop, Contains, refl, sym, ap, ap₂, ◌∙◌, subst, arith, length-append, length-drop, length-take-le}
+use Rattle.std.proofs.Common.{◌≡◌, ℕ, ◌+◌, ◌-◌, ◌*◌, ◌<◌, ◌≤◌, Bool, true, false, cond, List, [], ◌∷◌, ◌++◌, length, take, drop, Contains}
+use Rattle.std.proofs.Common.{refl, sym, ap, ap₂, ◌∙◌, subst, arith, length-append, length-drop, length-take-le}
 use Rattle.std.specs.Prelude.{◌==◌}
 use Rattle.std.proofs.Math.Seq.{take-length}
-use Rattle.std.proofs.lemmas.Bool.Decides.{nat_tests}
-use Rattle.std.proofs.lemmas.List.{take-append-drop}
 use Rattle.vs_guest_mem.specs.Memory.{Memory, accessed, after_write, bytes_at}
 use Rattle.vs_page.specs.Overwriting.{overwritten}
-use Rattle.vs_ring_port.specs.Chains.{bytes_in, same_queue, with_bytes}
-use Rattle.vs_ring_port.specs.Contents.{Read, Write}
-use Rattle.vs_ring_port.specs.EndLog.{pages_at}
+use Rattle.vs_ring_port.specs.{Chains.bytes_in, Chains.same_queue, Chains.with_bytes, Contents.Read, Contents.Write, EndLog.pages_at}
 use Rattle.vs_ring_port.specs.Lists.{queue_of, with_queue}
 use Rattle.vs_ring_port.specs.declared.device_ring.Chain.{Chain}
 use Rattle.vs_ring_port.specs.declared.queue.Queue.{Queue}
 use Rattle.vs_ring_port.specs.declared.queue.Queue.TheVariants.{Rx, Tx, Event}
-use Rattle.vs_ring_list.specs.Ends.{Ends}
-use Rattle.vs_ring_list.specs.Sound.{IsTied}
+use Rattle.vs_ring_list.specs.{Ends.Ends, Sound.IsTied}
 use Rattle.vs_ring_list.proofs.Held.{same_queue_refl}
 use Rattle.vs_ring_plain.specs.Accesses.{over}
 use Rattle.vs_ring_plain.specs.Device.{DeviceState, answer_to, chains_held, hold_of, pieces_of, turns_at, with_memory}
 use Rattle.vs_ring_plain.specs.Pieces.{reading, spans, writing}
 use Rattle.vs_ring_plain.specs.declared.piece.Piece.{Piece}
-use Rattle.vs_ring_plain.proofs.Moving.{read_step, skipped, used}
-use Rattle.vs_plain_ties.specs.Calls.{after_device}
-use Rattle.vs_plain_ties.specs.Parts.{PartsState, driver_at}
-use Rattle.vs_plain_ties.specs.Queue.{times}
-use Rattle.vs_plain_ties.specs.Shown.{Shown, shown}
+use Rattle.vs_ring_plain.proofs.Moving.{is_zero, read_step, skipped, unwritten, used}
+use Rattle.vs_plain_ties.specs.{Calls.after_device, Parts.PartsState, Parts.driver_at, Queue.times, Shown.Shown, Shown.shown}
 use Rattle.vs_plain_ties.specs.Tie.{AreHeldAs, AreTied, IsLaid, areas_of, heads_of, shown_of, start_of}
-use Rattle.vs_plain_ties.proofs.Assemble.{device_ends, device_form, device_step}
-use Rattle.vs_plain_ties.proofs.Frames.{length_written}
-use Rattle.vs_plain_ties.proofs.Held.{Found, found, held_written}
-use Rattle.vs_plain_ties.proofs.Parts.{read_part, written_part}
-use Rattle.vs_plain_ties.proofs.QueueSteps.{tie_written}
-use Rattle.vs_plain_ties.proofs.Queues.{of_each}
-use Rattle.vs_plain_ties.proofs.Quiet.{IsQuietly, quiet_step, quietly_accessed, seen}
+use Rattle.vs_plain_ties.proofs.{Assemble.device_ends, Assemble.device_form, Assemble.device_step, Frames.length_written}
+use Rattle.vs_plain_ties.proofs.{Held.Found, Held.found, Held.held_written, Parts.read_part, Parts.written_part, QueueSteps.tie_written}
+use Rattle.vs_plain_ties.proofs.{Queues.of_each, Quiet.IsQuietly, Quiet.quiet_step, Quiet.quietly_accessed, Quiet.seen}
 use Rattle.vs_plain_ties.proofs.Spots.{PageOf, Untouched, high, laid_same, low, untouched_other, untouched_own}
-
-is_zero : (n : ℕ) → (n == 0) ≡ true → n ≡ 0
-is_zero n h = grind (arith, nat_tests)
 
 empty_list : (xs : List ℕ) → length xs ≡ 0 → xs ≡ []
 empty_list [] none = refl
 empty_list (x ∷ xs) none = absurd (omega (arith, none))
-
-append_nil : (xs : List ℕ) → xs ++ [] ≡ xs
-append_nil [] = refl
-append_nil (x ∷ xs) = ap (λ (ys : List ℕ). x ∷ ys) (append_nil xs)
-
-unwritten : (m : Memory) (addr : ℕ) → after_write m addr [] ≡ m
-unwritten m addr =
-    let same : addr - m.base + 0 ≡ addr - m.base = omega arith in
-    rw (same, append_nil (take (addr - m.base) m.bytes)) (ap (λ (bytes : List ℕ). record m { bytes = bytes }) (take-append-drop (addr -
-    m.base) m.bytes))
 
 -- a part of one piece
 read_one : (p : Piece) (place count : ℕ) (m : Memory) → place + count ≤ p.len

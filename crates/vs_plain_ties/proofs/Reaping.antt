@@ -1,13 +1,12 @@
 -- A page is reaped, or none.
-use Rattle.std.proofs.Common.{◌≡◌, ◌⊎◌, inl, inr, ℕ, ◌+◌, ◌*◌, ◌%◌, ◌^◌, ◌<◌, Bool, true, false, cond, List, [], ◌∷◌, ◌++◌, length, Option, None, Some, refl, sym, ap, ◌∙◌, subst, arith}
+use Rattle.std.proofs.Common.{◌≡◌, ◌⊎◌, inl, inr, ℕ, ◌+◌, ◌*◌, ◌%◌, ◌^◌, ◌<◌, Bool, true, false, cond, List, [], ◌∷◌, ◌++◌, length, Option}
+use Rattle.std.proofs.Common.{None, Some, refl, sym, ap, ◌∙◌, subst, arith}
 use Rattle.std.specs.Prelude.{◌==◌, ◌||◌, min, nat_le, set, slice_index_or}
 use Rattle.std.proofs.lemmas.Bool.Decides.{eqb_tells, nat_tests}
 use Rattle.vs_guest_mem.specs.Memory.{Memory, bytes_at}
-use Rattle.vs_layout.specs.Entry.{used_elem_of}
-use Rattle.vs_layout.specs.Layout.{used_elem}
+use Rattle.vs_layout.specs.{Entry.used_elem_of, Layout.used_elem}
 use Rattle.vs_layout.specs.declared.entry.UsedElem.{UsedElem}
-use Rattle.vs_ring_port.specs.DriverCalls.{Reap}
-use Rattle.vs_ring_port.specs.EndLog.{entries_reaped, pages_at}
+use Rattle.vs_ring_port.specs.{DriverCalls.Reap, EndLog.entries_reaped, EndLog.pages_at}
 use Rattle.vs_ring_port.specs.Lists.{Lists, all_but_oldest, next_back, oldest, queue_of}
 use Rattle.vs_ring_port.specs.declared.queue.Queue.{Queue}
 use Rattle.vs_ring_port.specs.declared.queue.Queue.TheVariants.{Rx, Tx, Event}
@@ -15,24 +14,17 @@ use Rattle.vs_ring_list.specs.Ends.{Ends}
 use Rattle.vs_ring_list.proofs.Ties.{tied-reap}
 use Rattle.vs_ring_plain.specs.Device.{turns_at}
 use Rattle.vs_plain_driver.specs.Queue.{DriverQueueState, flight_in, next_elem, numbered, page_back, reaped_page, reaped_queue}
-use Rattle.vs_plain_ties.specs.Calls.{after_driver}
-use Rattle.vs_plain_ties.specs.Parts.{PartsState, driver_at, reaped_parts, used_in, with_driver}
-use Rattle.vs_plain_ties.specs.Queue.{HasPage, IsBack, IsQueueTied}
-use Rattle.vs_plain_ties.specs.Shown.{Shown}
+use Rattle.vs_plain_ties.specs.{Calls.after_driver, Parts.PartsState, Parts.driver_at, Parts.reaped_parts, Parts.used_in, Parts.with_driver}
+use Rattle.vs_plain_ties.specs.{Queue.HasPage, Queue.IsBack, Queue.IsQueueTied, Shown.Shown}
 use Rattle.vs_plain_ties.specs.Tie.{AreTied, areas_of, heads_of, shown_of, start_of}
 use Rattle.vs_plain_ties.proofs.Assemble.{driver_form, driver_step, ends_form}
-use Rattle.vs_plain_ties.proofs.QueueReturns.{id_has, row, tie_reaped}
-use Rattle.vs_plain_ties.proofs.QueueSteps.{out_count}
-use Rattle.vs_plain_ties.proofs.Rows.{back_length}
-use Rattle.vs_plain_ties.proofs.Spots.{untouched_none}
-
-chosen : {A : Type 0} (b : Bool) (x y : A) → b ≡ false → cond b x y ≡ y
-chosen b x y off = rw off refl
+use Rattle.vs_plain_ties.proofs.{QueueReturns.id_has, QueueReturns.row, QueueReturns.tie_reaped, QueueSteps.out_count, Rows.back_length}
+use Rattle.vs_plain_ties.proofs.{Spots.untouched_none, Taking.chosen}
 
 first_of : {A : Type 0} (b : Bool) (x y : A) → b ≡ true → cond b x y ≡ x
 first_of b x y on = rw on refl
 
-or_false : (a b c : Bool) → a ≡ false → b ≡ false → c ≡ false → (a || b || c) ≡ false
+pub or_false : (a b c : Bool) → a ≡ false → b ≡ false → c ≡ false → (a || b || c) ≡ false
 or_false a b c fa fb fc = rw (fa, fb, fc) refl
 
 or_second : (a b c : Bool) → b ≡ true → (a || b || c) ≡ true

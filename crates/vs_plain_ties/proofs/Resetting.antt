@@ -6,11 +6,9 @@ use Rattle.vs_ring_port.specs.declared.queue.Queue.{Queue}
 use Rattle.vs_ring_port.specs.declared.queue.Queue.TheVariants.{Rx, Tx, Event}
 use Rattle.vs_ring_list.specs.Ends.{Ends}
 use Rattle.vs_plain_driver.specs.Queue.{DriverQueueState}
-use Rattle.vs_plain_ties.specs.Calls.{after_device}
-use Rattle.vs_plain_ties.specs.Parts.{PartsState, driver_at}
+use Rattle.vs_plain_ties.specs.{Calls.after_device, Parts.PartsState, Parts.driver_at}
 use Rattle.vs_plain_ties.specs.Tie.{AreTied, IsTiedAt, areas_of, shown_of, start_in, start_of}
-use Rattle.vs_plain_ties.proofs.Assemble.{laid_from}
-use Rattle.vs_plain_ties.proofs.Held.{held_from, held_kept}
+use Rattle.vs_plain_ties.proofs.{Assemble.laid_from, Held.held_from, Held.held_kept}
 
 module _ (p : PartsState) (w : Ends) (tied : AreTied p w) (cid : ℕ) where
   abbrev new : PartsState

@@ -1,19 +1,16 @@
 -- A chain that is held is returned; the pages given are counted; the guest's CID is published.
-use Rattle.std.proofs.Common.{◌≡◌, ℕ, ◌+◌, ◌-◌, ◌*◌, ◌%◌, ◌^◌, ◌<◌, ◌≤◌, false, List, [], ◌∷◌, ◌++◌, length, take, drop, Contains, refl, sym, ap, ◌∙◌, subst, arith, length-take-le}
+use Rattle.std.proofs.Common.{◌≡◌, ℕ, ◌+◌, ◌-◌, ◌*◌, ◌%◌, ◌^◌, ◌<◌, ◌≤◌, false, List, [], ◌∷◌, ◌++◌, length, take, drop, Contains, refl}
+use Rattle.std.proofs.Common.{sym, ap, ◌∙◌, subst, arith, length-take-le}
 use Rattle.std.specs.Prelude.{min}
-use Rattle.std.proofs.lemmas.List.{take-take}
-use Rattle.std.proofs.lemmas.Nat.{mod_below}
+use Rattle.std.proofs.lemmas.{List.take-take, Nat.mod_below}
 use Rattle.byteorder.specs.Endian.{little_bytes, little_number}
 use Rattle.vs_guest_mem.specs.Memory.{Memory, after_access, after_write, bytes_at}
 use Rattle.vs_header.proofs.RoundTrip.{little_number-little_bytes}
 use Rattle.vs_layout.specs.Entry.{used_elem_bytes, used_elem_of}
 use Rattle.vs_layout.specs.declared.entry.UsedElem.{UsedElem}
-use Rattle.vs_page.specs.Fair.{IsFairLog}
-use Rattle.vs_page.specs.Log.{Device}
-use Rattle.vs_ring_port.specs.Chains.{bytes_in, held_of, same_queue, without_held}
-use Rattle.vs_ring_port.specs.Contents.{Given, Return}
-use Rattle.vs_ring_port.specs.EndLog.{entries_returned, pages_at}
-use Rattle.vs_ring_port.specs.Lists.{Lists, queue_of}
+use Rattle.vs_page.specs.{Fair.IsFairLog, Log.Device}
+use Rattle.vs_ring_port.specs.{Chains.bytes_in, Chains.held_of, Chains.same_queue, Chains.without_held, Contents.Given, Contents.Return}
+use Rattle.vs_ring_port.specs.{EndLog.entries_returned, EndLog.pages_at, Lists.Lists, Lists.queue_of}
 use Rattle.vs_ring_port.specs.declared.device_ring.Chain.{Chain}
 use Rattle.vs_ring_port.specs.declared.queue.Queue.{Queue}
 use Rattle.vs_ring_list.specs.Ends.{Ends}
@@ -21,20 +18,16 @@ use Rattle.vs_ring_list.proofs.Ties.{tied-return}
 use Rattle.vs_ring_plain.specs.Chain.{ahead}
 use Rattle.vs_ring_plain.specs.Device.{DeviceState, HeldChain, answer_to, chains_held, head_of, hold_of, turns_at, without_hold}
 use Rattle.vs_ring_plain.specs.declared.turns.Turns.{Turns}
-use Rattle.vs_plain_ties.specs.Calls.{after_device}
-use Rattle.vs_plain_ties.specs.Parts.{PartsState, driver_at}
-use Rattle.vs_plain_ties.specs.Shown.{Shown, shown}
+use Rattle.vs_plain_ties.specs.{Calls.after_device, Parts.PartsState, Parts.driver_at, Shown.Shown, Shown.shown}
 use Rattle.vs_plain_ties.specs.Tie.{AreHeldAs, AreTied, IsLaid, areas_of, heads_of, shown_of, start_of}
-use Rattle.vs_plain_ties.proofs.Assemble.{TieOf, device_form, device_step}
-use Rattle.vs_plain_ties.proofs.Encoded.{elem_back}
+use Rattle.vs_plain_ties.proofs.{Assemble.TieOf, Assemble.device_form, Assemble.device_step, Encoded.elem_back}
 use Rattle.vs_plain_ties.proofs.Frames.{length_written, written}
 use Rattle.vs_plain_ties.proofs.Held.{fewer_heads, heads_beside, heads_without, held_count, held_kept, held_without}
-use Rattle.vs_plain_ties.proofs.QueueReturns.{tie_returned}
-use Rattle.vs_plain_ties.proofs.QueueSteps.{out_count}
-use Rattle.vs_plain_ties.proofs.Queues.{of_each}
+use Rattle.vs_plain_ties.proofs.{QueueReturns.tie_returned, QueueSteps.out_count, Queues.of_each}
 use Rattle.vs_plain_ties.proofs.Quiet.{IsQuietly, quiet_step, quietly_after, quietly_now, seen}
 use Rattle.vs_plain_ties.proofs.Reading.{below, bytes_there, f}
-use Rattle.vs_plain_ties.proofs.Spots.{Elem, UsedIdx, Untouched, high, laid_same, low, seen_same, untouched_both, untouched_other, untouched_own, untouched_then}
+use Rattle.vs_plain_ties.proofs.Spots.{Elem, UsedIdx, Untouched, high, laid_same, low, seen_same, untouched_both, untouched_other}
+use Rattle.vs_plain_ties.proofs.Spots.{untouched_own, untouched_then}
 
 module _ (p : PartsState) (w : Ends) (tied : AreTied p w) where
   abbrev d : DeviceState

@@ -1,10 +1,8 @@
 -- Pages one after another in the available ring, and in the used ring.
 use Rattle.std.proofs.Common.{◌≡◌, ℕ, ◌+◌, ◌%◌, ◌<◌, ◌≤◌, List, [], ◌∷◌, ◌++◌, length, refl, ◌∙◌, subst, arith}
 use Rattle.vs_ring_port.specs.declared.queue.Queue.{Queue}
-use Rattle.vs_plain_ties.specs.Queue.{AreBack, AreOut, IsBack, IsOut, times}
-use Rattle.vs_plain_ties.specs.Shown.{Shown}
-use Rattle.vs_plain_ties.proofs.Counting.{here, there}
-use Rattle.vs_plain_ties.proofs.Modulo.{further}
+use Rattle.vs_plain_ties.specs.{Queue.AreBack, Queue.AreOut, Queue.IsBack, Queue.IsOut, Queue.times, Shown.Shown}
+use Rattle.vs_plain_ties.proofs.{Counting.here, Counting.there, Modulo.further}
 
 -- a descriptor and its page are what they were
 pub record IsSameAt (s new : Shown) (id : ℕ) : Type 0 where

@@ -10,8 +10,7 @@ use Rattle.vs_layout.specs.declared.place.Areas.{Areas}
 use Rattle.vs_ring_plain.proofs.Still.{quiet}
 use Rattle.vs_ring_port.specs.Chains.{same_queue}
 use Rattle.vs_ring_port.specs.declared.queue.Queue.{Queue}
-use Rattle.vs_plain_ties.specs.Shown.{Shown, shown}
-use Rattle.vs_plain_ties.specs.Tie.{IsAreaLaid, IsLaid}
+use Rattle.vs_plain_ties.specs.{Shown.Shown, Shown.shown, Tie.IsAreaLaid, Tie.IsLaid}
 use Rattle.vs_plain_ties.proofs.Frames.{inner, kept}
 
 pub data Spot : Type 0 where

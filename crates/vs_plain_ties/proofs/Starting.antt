@@ -1,7 +1,7 @@
 -- Both ends before the first call.
-use Rattle.std.proofs.Common.{true≢false, inl, inr, ◌⊎◌, ◌≡◌, ℕ, zero, suc, ◌+◌, ◌-◌, ◌*◌, ◌%◌, ◌^◌, ◌<◌, ◌≤◌, Bool, true, false, cond, List, [], ◌∷◌, length, Option, None, Some, refl, sym, ap, ◌∙◌, subst, arith}
-use Rattle.std.specs.List.{range_with_len}
-use Rattle.std.specs.Prelude.{◌==◌, ◌&&◌, is_some, nat_le}
+use Rattle.std.proofs.Common.{true≢false, inl, inr, ◌⊎◌, ◌≡◌, ℕ, zero, suc, ◌+◌, ◌-◌, ◌*◌, ◌%◌, ◌^◌, ◌<◌, ◌≤◌, Bool, true, false, cond}
+use Rattle.std.proofs.Common.{List, [], ◌∷◌, length, Option, None, Some, refl, sym, ap, ◌∙◌, subst, arith}
+use Rattle.std.specs.{List.range_with_len, Prelude.◌==◌, Prelude.◌&&◌, Prelude.is_some, Prelude.nat_le}
 use Rattle.std.proofs.lemmas.Bool.Decides.{eqb_tells, nat_tests}
 use Rattle.std.proofs.lemmas.List.{length-replicate}
 use Rattle.std.proofs.lemmas.List.FromFn.{length-range_with_len}
@@ -16,14 +16,10 @@ use Rattle.vs_ring_port.specs.declared.queue.Queue.TheVariants.{Rx, Tx, Event}
 use Rattle.vs_ring_list.specs.Ends.{empty_ends}
 use Rattle.vs_ring_plain.specs.Device.{areas_at, new_device}
 use Rattle.vs_plain_ties.specs.Parts.{PartsState, cleared_queue, driver_at, new_parts, new_queue, pages_behind, pages_start}
-use Rattle.vs_plain_ties.specs.Queue.{IsQueueTied, times}
-use Rattle.vs_plain_ties.specs.Shown.{Shown, shown}
-use Rattle.vs_plain_ties.specs.Tie.{AreTied, IsAreaLaid, IsLaid, IsTiedAt, IsTiedTo, start_of}
-use Rattle.vs_plain_ties.specs.Exposed.{first_ends}
-use Rattle.vs_plain_ties.proofs.Assemble.{laid_from}
-use Rattle.vs_plain_ties.proofs.Counting.{times-cons, times-other, times-self}
-use Rattle.vs_plain_ties.proofs.Frames.{length_written, written}
-use Rattle.vs_plain_ties.proofs.Modulo.{mod_small}
+use Rattle.vs_plain_ties.specs.{Queue.IsQueueTied, Queue.times, Shown.Shown, Shown.shown}
+use Rattle.vs_plain_ties.specs.{Tie.AreTied, Tie.IsAreaLaid, Tie.IsLaid, Tie.IsTiedAt, Tie.IsTiedTo, Tie.start_of, Exposed.first_ends}
+use Rattle.vs_plain_ties.proofs.{Assemble.laid_from, Counting.times-cons, Counting.times-other, Counting.times-self}
+use Rattle.vs_plain_ties.proofs.{Frames.length_written, Frames.written, Modulo.mod_small}
 use Rattle.vs_plain_ties.proofs.Spots.{AvailIdx, UsedIdx, Untouched, high, laid_same, low, untouched_other, untouched_own, untouched_both}
 
 -- the numbers below n, each once

@@ -1,35 +1,26 @@
 -- Each call keeps the ends tied, where they are known; and it is one that the ports allow.
 use Rattle.std.proofs.Common.{◌≡◌, ℕ, ◌+◌, ◌<◌, ◌≤◌, List, [], ◌∷◌, length, Option, None, Some, Contains, refl, sym, ap, ◌∙◌, subst, arith}
-use Rattle.std.specs.Option.{ForSome}
-use Rattle.std.specs.Prelude.{option_map}
+use Rattle.std.specs.{Option.ForSome, Prelude.option_map}
 use Rattle.std.proofs.lemmas.Bool.{false≢true}
-use Rattle.vs_page.specs.Fair.{IsFairLog}
-use Rattle.vs_page.specs.Log.{Device, Driver, Role}
+use Rattle.vs_page.specs.{Fair.IsFairLog, Log.Device, Log.Driver, Log.Role}
 use Rattle.vs_ring_port.specs.Chains.{bytes_in, held_of}
 use Rattle.vs_ring_port.specs.Contents.{DeviceAnswer, DeviceCall, Given, PublishCid, Read, Return, Take, Write}
 use Rattle.vs_ring_port.specs.DeviceCalls.{CanReturn, DeviceAllows, DeviceMoves, IsTakenAs, IsWholePacket, LeavesNoGap}
 use Rattle.vs_ring_port.specs.DriverCalls.{CanPublish, DriverAllows, DriverMoves, LoadCid, Publish, Reap, Stage}
 use Rattle.vs_ring_port.specs.EndLog.{EndLog, entries_published, entries_returned, pages_at}
 use Rattle.vs_ring_port.specs.Lists.{Rings, next_at, next_back, next_given, queue_of}
-use Rattle.vs_ring_port.specs.declared.device_ring.Chain.{Chain}
-use Rattle.vs_ring_port.specs.declared.device_ring.Next.{Next}
+use Rattle.vs_ring_port.specs.declared.device_ring.{Chain.Chain, Next.Next}
 use Rattle.vs_ring_port.specs.declared.queue.Queue.{Queue}
 use Rattle.vs_ring_port.specs.declared.queue.Queue.TheVariants.{Rx, Tx, Event}
 use Rattle.vs_ring_list.specs.Ends.{Ends}
 use Rattle.vs_ring_list.proofs.Ties.{fair-return_event}
 use Rattle.vs_ring_plain.specs.Device.{DeviceState, answer_to, chains_held, plain_state}
 use Rattle.vs_plain_driver.specs.Queue.{flight_in, reaped_page}
-use Rattle.vs_plain_ties.specs.Calls.{after_device, after_driver}
-use Rattle.vs_plain_ties.specs.Exposed.{device_told, driver_told}
+use Rattle.vs_plain_ties.specs.{Calls.after_device, Calls.after_driver, Exposed.device_told, Exposed.driver_told}
 use Rattle.vs_plain_ties.specs.Parts.{PartsState, driver_at, published_parts, reaped_parts, staged_parts, used_in}
 use Rattle.vs_plain_ties.specs.Tie.{AreTied, IsTiedTo, areas_of}
-use Rattle.vs_plain_ties.proofs.Publishing.{tied_loaded, tied_published}
-use Rattle.vs_plain_ties.proofs.Reaping.{reaps}
-use Rattle.vs_plain_ties.proofs.Reading.{reads, tied_written}
-use Rattle.vs_plain_ties.proofs.Resetting.{tied_reset}
-use Rattle.vs_plain_ties.proofs.Returning.{counts, tied_returned}
-use Rattle.vs_plain_ties.proofs.Staging.{tied_staged}
-use Rattle.vs_plain_ties.proofs.Taking.{takes}
+use Rattle.vs_plain_ties.proofs.{Publishing.tied_loaded, Publishing.tied_published, Reaping.reaps, Reading.reads, Reading.tied_written}
+use Rattle.vs_plain_ties.proofs.{Resetting.tied_reset, Returning.counts, Returning.tied_returned, Staging.tied_staged, Taking.takes}
 
 abbrev pub drives : (ends : Option Ends) → (Ends → Ends) → Option Ends
 drives ends f = option_map f ends
@@ -114,11 +105,6 @@ module _ (p : PartsState) where
       by : (free : List ℕ) → (driver_at queue p).free ≡ free → AreTied (staged_parts queue page p) (after_driver (Stage queue page) w)
       by [] none = absurd (omega (arith, less, tied.sizes queue, ap length none))
       by (id ∷ rest) free = tied_staged p w tied queue page fits header id rest free
-
-  pub allows_staged : (queue : Queue) (page : List ℕ) (ends : Option Ends) → IsTiedTo p ends
-      → DriverAllows (Stage queue page) tt (driver_told ends) (driver_told (drives ends (after_driver (Stage queue page))))
-  allows_staged queue page None tied = quiet _ _ _ _
-  allows_staged queue page (Some w) tied = driver_moves _ _ _ _ w tt tt tied.logs.driver_fair
 
   -- those staged are published
   fair_then : (queue : Queue) (w : Ends) → AreTied p w → CanPublish queue (driver_told (Some w))

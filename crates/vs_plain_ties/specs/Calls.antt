@@ -1,8 +1,6 @@
 -- Both ends of rings after some calls.
 use Rattle.std.specs.Prelude.{ℕ, List, [], ◌∷◌, Option, option_map}
-use Rattle.vs_ring_port.specs.Contents.{DeviceCall}
-use Rattle.vs_ring_port.specs.DeviceCalls.{device_answer}
-use Rattle.vs_ring_port.specs.DriverCalls.{DriverCall, driver_answer}
+use Rattle.vs_ring_port.specs.{Contents.DeviceCall, DeviceCalls.device_answer, DriverCalls.DriverCall, DriverCalls.driver_answer}
 use Rattle.vs_ring_list.specs.Ends.{Ends, empty_ends}
 use Rattle.vs_ring_journal.specs.History.{History, RingCall, ByDriver, ByDevice}
 

@@ -10,7 +10,8 @@ use Rattle.vs_ring_port.specs.Counts.{Counts}
 use Rattle.vs_ring_port.specs.declared.queue.Queue.{Queue}
 use Rattle.vs_ring_port.specs.declared.queue.Queue.TheVariants.{Rx, Tx, Event}
 use Rattle.vs_ring_plain.specs.Device.{DeviceState, areas_at, new_device, with_memory}
-use Rattle.vs_plain_driver.specs.Queue.{DriverQueueState, flight_in, next_used, published_memory, published_queue, reaped_queue, staged_memory, staged_queue}
+use Rattle.vs_plain_driver.specs.Queue.{DriverQueueState, flight_in, next_used, published_memory, published_queue, reaped_queue}
+use Rattle.vs_plain_driver.specs.Queue.{staged_memory, staged_queue}
 
 -- The device's end with the memory, the driver's end of each queue, and the guest's CID.
 pub record PartsState : Type 0 where

@@ -4,9 +4,7 @@ use Rattle.byteorder.specs.Endian.{little_number}
 use Rattle.vs_guest_mem.specs.Memory.{Memory, bytes_at}
 use Rattle.vs_layout.specs.Entry.{desc_of, used_elem_of}
 use Rattle.vs_layout.specs.Layout.{avail_entry, avail_idx, desc_entry, used_elem, used_idx}
-use Rattle.vs_layout.specs.declared.entry.Desc.{Desc}
-use Rattle.vs_layout.specs.declared.entry.TheConstants.{DESC_LEN}
-use Rattle.vs_layout.specs.declared.entry.UsedElem.{UsedElem}
+use Rattle.vs_layout.specs.declared.entry.{Desc.Desc, TheConstants.DESC_LEN, UsedElem.UsedElem}
 use Rattle.vs_layout.specs.declared.place.Areas.{Areas}
 use Rattle.vs_page.specs.declared.page.TheConstants.{PAGE_LEN}
 

@@ -6,9 +6,7 @@ ghost use Rattle.vs_ring_port.specs.Contents.{DeviceAnswer, DeviceCall, RingCont
 ghost use Rattle.vs_ring_port.specs.DeviceCalls.{DeviceAllows, device_answer};
 ghost use Rattle.vs_ring_port.specs.DriverCalls.{DriverAllows, DriverAnswer, DriverCall, driver_answer};
 ghost use Rattle.vs_ring_list.specs.Ends.{Ends, empty_ends};
-ghost use Rattle.vs_plain_ties.specs.Exposed.{first_ends};
-ghost use Rattle.vs_plain_ties.specs.Parts.{pages_start};
-ghost use Rattle.vs_plain_ties.specs.Seen.{ShowsDevice, ShowsDriver};
+ghost use Rattle.vs_plain_ties.specs.{Exposed.first_ends, Parts.pages_start, Seen.ShowsDevice, Seen.ShowsDriver};
 
 /// Over a ring that exposes its lists and logs a conversation of either end has one outcome, which the lists and that end's log give:
 /// whichever ring it is. So it has the same one over standard rings as over list rings, and leaves the same lists and logs.

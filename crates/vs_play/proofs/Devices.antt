@@ -1,33 +1,24 @@
 -- A turn and a reset over list rings with a host in memory.
-use Rattle.std.proofs.Common.{◌≡◌, ℕ, ◌<◌, ◌^◌, false, [], Option, Result, Some, unwrap_or, arith, refl, sym, ap, subst, ◌∙◌}
-use Rattle.vs_ring_port.specs.Contents.{RingContents}
-use Rattle.vs_ring_port.specs.Counts.{Counts}
-use Rattle.vs_ring_port.specs.EndLog.{EndLog}
+use Rattle.std.proofs.Common.{◌≡◌, ℕ, ◌<◌, ◌≤◌, ◌^◌, false, List, [], ◌++◌, Option, Result, Some, unwrap_or, arith, refl, sym, ap, subst}
+use Rattle.std.proofs.Common.{◌∙◌}
+use Rattle.vs_ring_port.specs.{Counts.Counts, EndLog.EndLog, Chains.chains_of}
 use Rattle.vs_ring_port.specs.declared.failure.Failure.{Failure}
-use Rattle.vs_ring_list.specs.Ends.{Ends, device_contents, driver_contents, empty_ends, flight_of, staged_of}
+use Rattle.vs_ring_list.specs.Ends.{Ends, device_contents, driver_contents, empty_ends, staged_of}
 use Rattle.vs_outside.specs.Host.{HostContents}
-use Rattle.vs_driver_parts.specs.Playing.{IsRingOf}
 use Rattle.vs_driver_parts.specs.State.{DriverState}
 use Rattle.vs_driver_log.specs.Honest.{IsHonestWith}
-use Rattle.vs_ring_port.specs.Chains.{chains_of}
-use Rattle.vs_device_parts.specs.Calls.{Allows, Situation}
-use Rattle.vs_device_parts.specs.Playing.{CanMake, IsItsRing, Runs, situation}
+use Rattle.vs_device_parts.specs.{Calls.Allows, Calls.Situation, Playing.CanMake, Playing.IsItsRing, Playing.Runs, Playing.situation}
 use Rattle.vs_device_laws.specs.Split.{CanReach}
-use Rattle.vs_device_laws.proofs.Conditions.{quiet_can}
-use Rattle.vs_device_laws.proofs.Keeping.{keeps_end as streams_end}
-use Rattle.vs_device_laws.proofs.Opening.{new_has}
+use Rattle.vs_device_laws.proofs.{Conditions.quiet_can, Keeping.keeps_end as streams_end, Opening.new_has}
 use Rattle.vs_device_log.proofs.Keeping.{keeps_end}
-use Rattle.vs_proxy_parts.specs.State.{ProxyState}
-use Rattle.vs_proxy_parts.specs.Turns.{new_proxy, proxy_reset_of, turn_of}
+use Rattle.vs_proxy_parts.specs.{State.ProxyState, Turns.new_proxy, Turns.proxy_reset_of, Turns.turn_of}
 use Rattle.vs_proxy_parts.specs.declared.answers.Turn.{Turn}
-use Rattle.vs_proxy_laws.proofs.Lists.{none_open}
-use Rattle.vs_proxy_laws.proofs.Turning.{keeps_proxy_reset, keeps_turn}
+use Rattle.vs_proxy_laws.proofs.{Lists.none_open, Turning.keeps_proxy_reset, Turning.keeps_turn}
 use Rattle.vs_proxy_log.proofs.Turning.{new_proxy_with, proxy_reset_keeps, turn_keeps}
 use Rattle.vs_world.specs.World.{first_cid}
-use Rattle.vs_play.specs.Answer.{base_path}
-use Rattle.vs_play.specs.Ready.{IsDriven, IsServed}
-use Rattle.vs_world.proofs.Flown.{LeavesDriver}
-use Rattle.vs_world.proofs.OverBoth.{IsPlayed, over}
+use Rattle.vs_play.specs.{Answer.base_path, Ready.IsDriven, Ready.IsServed, Told.Serves}
+use Rattle.vs_report.specs.DeviceLines.{reset_text, turn_text}
+use Rattle.vs_world.proofs.{Flown.LeavesDriver, OverBoth.IsPlayed, OverBoth.over}
 
 -- The rings stay the driver's.
 pub driven_still : (v w : Ends) → LeavesDriver v w → (s : DriverState) → IsDriven s v → IsDriven s w
@@ -85,6 +76,36 @@ module _ (s : ProxyState) (v w : Ends) (h g : HostContents) (n m : ℕ) (served 
       ring = keeps_end _ (proxy_reset_of cid s) before behind x (proxy_reset_keeps first_cid cid s (device_contents v) fits served.order.ring) runs;
     };
   }
+
+  -- And what they print.
+  pub turn_served : (size now : ℕ) (x : ProxyState) (t : Turn) (text text' : List ℕ)
+      → Runs (turn_of size now s) (situation (device_contents v) (Some h) n) (x, t) (situation (device_contents w) (Some g) m)
+      → IsItsRing (chains_of w.device.held) x.device → g.starved ≡ false → text' ≡ text ++ turn_text t
+      → Serves (turn_of size now s) turn_text x v w h g text text'
+  turn_served size now x t text text' runs chains fed printed =
+      let played = turn_played size now s v w h g n m (x, t) served runs in
+      record {
+        answer = t;
+        played = played.played fed;
+        printed = printed;
+        served = turn_serves size now (x, t) chains runs;
+        driven = driven_still v w played.same;
+      }
+
+  pub reset_served : (cid : ℕ) (x : ProxyState) (r : Result (Unit {0}) Failure) (text text' : List ℕ) → cid ≤ 4294967294
+      → Runs (proxy_reset_of cid s) (situation (device_contents v) (Some h) n) (x, r) (situation (device_contents w) (Some g) m)
+      → IsItsRing (chains_of w.device.held) x.device → g.starved ≡ false → text' ≡ text ++ reset_text r
+      → Serves (proxy_reset_of cid s) reset_text x v w h g text text'
+  reset_served cid x r text text' low runs chains fed printed =
+      let fits : cid < 2 ^ 64 = omega arith in
+      let played = reset_played cid s v w h g n m (x, r) fits served runs in
+      record {
+        answer = r;
+        played = played.played fed;
+        printed = printed;
+        served = reset_serves cid (x, r) fits chains runs;
+        driven = driven_still v w played.same;
+      }
 
 -- A proxy just made, over empty rings with a host without streams.
 pub served_new : (n : ℕ) (h : HostContents) → IsServed (new_proxy first_cid base_path) (empty_ends n) h

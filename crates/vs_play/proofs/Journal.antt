@@ -1,7 +1,6 @@
 -- What a line does, and what it prints, doesn't look at the journal of the calls that the guest made.
 use Rattle.std.proofs.Common.{◌≡◌, ℕ, List, [], ◌∷◌, refl, sym, ap, ◌∙◌}
-use Rattle.vs_script.specs.Data.{bytes_of}
-use Rattle.vs_script.specs.Outside.{Outside, OfHost}
+use Rattle.vs_script.specs.{Data.bytes_of, Outside.Outside, Outside.OfHost}
 use Rattle.vs_script.specs.Outside as outside
 use Rattle.vs_script.specs.Play.{Event}
 use Rattle.vs_script.specs.Play as script

@@ -1,17 +1,16 @@
 -- How the lines of a play add up.
-use Rattle.std.proofs.Common.{◌≡◌, ◌<◌, ℕ, zero, suc, ◌+◌, List, [], ◌∷◌, ◌++◌, length, map, drop, slice_get, get_or, Option, Some, Result, Ok, Err, refl, sym, ap, ◌∙◌, subst, append_assoc, append-nil}
+use Rattle.std.proofs.Common.{◌≡◌, ◌<◌, ℕ, zero, suc, ◌+◌, List, [], ◌∷◌, ◌++◌, length, map, drop, slice_get, get_or, Option, Some, Result}
+use Rattle.std.proofs.Common.{Ok, Err, refl, sym, ap, ◌∙◌, subst, append_assoc}
 use Rattle.std.proofs.lemmas.List.{drop_more, drop-map}
 use Rattle.std.specs.List.{AllByRecursion}
-use Rattle.vs_script.specs.Play.{Event, play_view}
-use Rattle.vs_script.specs.Script.{numbered_event}
+use Rattle.vs_script.specs.{Play.Event, Play.play_view, Script.numbered_event}
 use Rattle.vs_script.specs.declared.play.PlayLine.{PlayLine}
 use Rattle.vs_script.specs.declared.script.Numbered.{Numbered}
 use Rattle.vs_report.specs.Gives.{GivesLines}
 use Rattle.vs_report.specs.declared.giving.GiveError.{GiveError}
-use Rattle.vs_report.proofs.LinesGiven.{gives_none, gives_next, gives_less}
+use Rattle.vs_report.proofs.LinesGiven.{gives_next, gives_less}
 use Rattle.vs_play.specs.Answer.{events_in, opened_play, printed, report_of, texts_of, world_after}
-use Rattle.vs_play.specs.Lines.{event_played}
-use Rattle.vs_play.specs.Ready.{IsPlayable, PlayState, shown, world_in}
+use Rattle.vs_play.specs.{Lines.event_played, Ready.IsPlayable, Ready.PlayState, Ready.shown, Ready.world_in}
 use Rattle.vs_play.proofs.Journal.{after_alike, report_alike, texts_alike}
 
 -- The event lines of a script, as the program holds them.
@@ -51,10 +50,6 @@ pub record Played (es : List Event) (place : ℕ) (start now : PlayState) (old n
   pub world : shown (world_after es (world_in start)) ≡ shown (world_after (drop place es) (world_in now))
   pub given : GivesLines old new f g done (Ok tt)
 
--- Before the first line.
-pub played_none : (es : List Event) (start : PlayState) (old : Option (List ℕ)) (f : ℕ) → Played es 0 start start old old f f
-played_none es start old f = record { done = []; texts = refl; world = refl; given = gives_none old f }
-
 module _ (lines : List (Numbered PlayLine)) (place : ℕ) (line : Numbered PlayLine) (start now : PlayState) (old mid new : Option (List ℕ)) (f m g : ℕ)
     (within : place < length lines) (at : line ≡ get_or lines place line) (p : Played (events_of lines) place start now old mid f m) where
   abbrev one : List ℕ
@@ -85,16 +80,6 @@ module _ (lines : List (Numbered PlayLine)) (place : ℕ) (line : Numbered PlayL
       (subst (λ ts. GivesLines old new f g ts (Err e))
       (sym (p.texts ∙ ap (λ es. p.done ++ texts_of es (world_in now)) (rest_from lines place line within at)))
       (gives_next old mid new f m g p.done (one ∷ others) (Err e) p.given (gives_less mid new m g (one ∷ []) others e given)))
-
--- Behind the last line.
-module _ (lines : List (Numbered PlayLine)) (start now : PlayState) (old new : Option (List ℕ)) (f g : ℕ) (place : ℕ)
-    (over : drop place (events_of lines) ≡ []) (p : Played (events_of lines) place start now old new f g) where
-  pub played_whole : GivesLines old new f g (texts_of (events_of lines) (world_in start)) (Ok tt)
-  played_whole = subst (λ ts. GivesLines old new f g ts (Ok tt))
-      (sym (p.texts ∙ ap (λ es. p.done ++ texts_of es (world_in now)) over ∙ append-nil p.done)) p.given
-
-  pub played_to : now ≡ shown (world_after (events_of lines) (world_in start))
-  played_to = sym (p.world ∙ ap (λ es. shown (world_after es (world_in now))) over)
 
 -- A play whose lines end with an error ends there; one whose lines are all played ends with its report.
 module _ (n : ℕ) (es : List Event) (w : PlayState) (old mid new : Option (List ℕ)) (f m g : ℕ) (r : Result (Unit {0}) GiveError)

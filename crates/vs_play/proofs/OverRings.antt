@@ -1,22 +1,16 @@
 -- Over rings that are seen as their ends a call of the driver's or the device's has one end: the one that it has over lists.
-use Rattle.std.proofs.Common.{◌≡◌, ℕ, List, Option, Some, sym, ap, subst, ◌∙◌}
+use Rattle.std.proofs.Common.{◌≡◌, ℕ, List, ◌++◌, Option, Some, sym, ap, subst, ◌∙◌}
 use Rattle.vs_outside.specs.Host.{HostContents}
-use Rattle.vs_ring_port.specs.Chains.{chains_of}
-use Rattle.vs_ring_port.specs.Contents.{RingContents}
-use Rattle.vs_ring_port.specs.Counts.{Counts}
+use Rattle.vs_ring_port.specs.{Chains.chains_of, Contents.RingContents, Counts.Counts}
 use Rattle.vs_ring_port.specs.declared.device_ring.Chain.{Chain}
 use Rattle.vs_ring_list.specs.Ends.{Ends, device_contents, driver_contents}
-use Rattle.vs_driver_parts.specs.Conversations.{DriverTree}
-use Rattle.vs_driver_parts.specs.Playing.{IsRingOf, Plays, all_flown}
-use Rattle.vs_driver_parts.specs.State.{DriverState}
+use Rattle.vs_driver_parts.specs.{Conversations.DriverTree, Playing.IsRingOf, Playing.Plays, Playing.all_flown, State.DriverState}
 use Rattle.vs_driver_log.specs.Honest.{IsHonest, IsHonestWith}
-use Rattle.vs_device_parts.specs.Calls.{DeviceTree}
-use Rattle.vs_device_parts.specs.Playing.{IsItsRing, Runs, situation}
-use Rattle.vs_device_parts.specs.State.{DeviceState}
+use Rattle.vs_device_parts.specs.{Calls.DeviceTree, Playing.IsItsRing, Playing.Runs, Playing.situation, State.DeviceState}
 use Rattle.vs_proxy_parts.specs.State.{ProxyState}
 use Rattle.vs_proxy_log.specs.Order.{IsInOrder}
 use Rattle.vs_both_ends.specs.Seen.{IsDeviceOf, IsDriverOf}
-use Rattle.vs_play.specs.Ready.{IsDriven}
+use Rattle.vs_play.specs.{Ready.IsDriven, Told.Answers}
 use Rattle.vs_world.specs.Over.{over_lists}
 use Rattle.vs_world.proofs.OverLists.{over}
 
@@ -50,6 +44,19 @@ pub played_as : {A : Type 0} (tree : DriverTree A) (v w : Ends) (n m : ℕ) (f g
     → IsDriverOf v n f k c → IsDriverOf w m g l d → Plays tree c x d → over_lists tree v ≡ (x, w)
 played_as tree v w n m f g k l c d x old new plays =
     over tree v w x (subst (λ t. Plays tree (driver_contents v) x t) new.exposes (subst (λ t. Plays tree t x d) old.exposes plays))
+
+pub answered : {A : Type 0} (tree : DriverTree (DriverState × A)) (text_of : A → DriverState → List ℕ) (v w : Ends) (n m : ℕ) (f g k l : Counts)
+    (c d : RingContents) (s t : DriverState) (a : A) (text text' : List ℕ) → IsDriverOf v n f k c → IsDriverOf w m g l d → IsDriven s v
+    → Plays tree c (t, a) d → IsRingOf m g l t → ((first : ℕ) → IsHonestWith first s c → IsHonestWith first t d)
+    → text' ≡ text ++ text_of a t → Answers tree text_of t v w text text'
+answered tree text_of v w n m f g k l c d s t a text text' old new driven plays ring honest printed =
+    let first = driven.honest.0 in
+    record {
+      answer = a;
+      played = played_as tree v w n m f g k l c d (t, a) old new plays;
+      printed = printed;
+      driven = driven_as w m g l d new first t ring (honest first (honest_with v n f k c old first s driven.honest.1));
+    }
 
 -- The device's calls.
 pub its_ring : (v : Ends) (n : ℕ) (held : List Chain) (c : RingContents) (s : DeviceState) → IsDeviceOf v n held c

@@ -1,34 +1,26 @@
--- A call of the guest's is a line of the play.
-use Rattle.std.proofs.Common.{◌≡◌, ℕ, ◌+◌, min, List, ◌++◌, Result, refl, sym, ap, subst, ◌∙◌}
+-- What a line does on one end of the rings, the host or the moment is a line of the play.
+use Rattle.std.proofs.Common.{◌≡◌, ℕ, ◌+◌, min, List, ◌++◌, length, Result, Ok, Err, OnOk, refl, sym, ap, subst, ◌∙◌}
 use Rattle.vs_ring_list.specs.Ends.{Ends, empty_ends}
-use Rattle.vs_driver_parts.specs.State.{DriverState}
-use Rattle.vs_contents.specs.CallTree.{Done}
-use Rattle.vs_driver_parts.specs.Conversations.{DriverTree, new_of, poll_of}
+use Rattle.vs_driver_parts.specs.{Conversations.DriverTree, Conversations.new_of, State.DriverState}
 use Rattle.vs_driver_parts.specs.declared.limits.TheConstants.{FIRST_PORT}
-use Rattle.vs_driver_parts.specs.declared.answers.Polled.{Polled}
-use Rattle.vs_outside.specs.Host.{HostContents}
-use Rattle.vs_outside.specs.HostProgram.{HostMemory}
-use Rattle.vs_report.specs.GuestLines.{poll_text}
-use Rattle.vs_report.specs.HostLines.{ok_text}
-use Rattle.vs_script.specs.Outside.{Reset, Tick, Turn}
-use Rattle.vs_ring_port.specs.declared.failure.Failure.{Failure}
-use Rattle.vs_proxy_parts.specs.declared.answers.Turn as answers
-use Rattle.vs_report.specs.DeviceLines.{reset_text}
-use Rattle.vs_script.specs.Play.{Event, Poll, Around}
-use Rattle.vs_world.specs.GuestSteps.{makes_call}
-use Rattle.vs_world.specs.Calls.{GuestCall, ReplyTo}
-use Rattle.vs_world.specs.Plays.{Guest, whole_call}
-use Rattle.vs_proxy_parts.specs.State.{ProxyState}
-use Rattle.vs_proxy_parts.specs.Turns.{new_proxy, proxy_reset_of, turn_of}
-use Rattle.vs_world.specs.World.{first_cid, opened_host}
-use Rattle.vs_play.specs.Answer.{base_path, opened_play}
-use Rattle.vs_play.specs.Lines.{event_played, played_line, reply_text}
-use Rattle.vs_report.specs.DeviceLines.{turn_text}
-use Rattle.vs_play.proofs.Devices.{served_new}
+use Rattle.vs_device_parts.specs.Calls.{DeviceTree}
+use Rattle.vs_outside.specs.{Host.HostContents, HostProgram.after_client}
+use Rattle.vs_proxy_parts.specs.{State.ProxyState, Turns.new_proxy, Turns.proxy_reset_of, Turns.turn_of}
+use Rattle.vs_report.specs.{DeviceLines.reset_text, DeviceLines.turn_text, HostLines.client_text, HostLines.host_played, HostLines.ok_text}
+use Rattle.vs_report.proofs.HostPrograms.{client_opens, host_opens}
+use Rattle.vs_script.specs.Outside as outside
+use Rattle.vs_script.specs.Outside.{Client, Host, OfHost, Outside, Reset, Tick, Turn}
+use Rattle.vs_script.specs.Play as script
+use Rattle.vs_script.specs.Play.{Event, Around, play_view}
+use Rattle.vs_script.specs.declared.outside.OutsideLine.{OutsideLine}
+use Rattle.vs_script.specs.declared.play.PlayLine.{PlayLine}
+use Rattle.vs_script.specs.declared.play.PlayLine.TheVariants as lines
+use Rattle.vs_world.specs.{Over.over_both, Over.over_lists, World.first_cid, World.opened_host}
 use Rattle.vs_world.proofs.StayOpen.{StayOpen}
-use Rattle.vs_play.proofs.Served.{served_host, served_rings}
+use Rattle.vs_play.specs.{Answer.base_path, Answer.opened_play, Lines.event_played}
 use Rattle.vs_play.specs.Ready.{IsDriven, IsOpened, IsReady, IsServed, PlayState, Plays, shown, world_in}
-use Rattle.vs_world.specs.Over.{over_both, over_lists}
+use Rattle.vs_play.specs.Told.{Answers, Drives, Serves}
+use Rattle.vs_play.proofs.{Devices.served_new, Served.served_host, Served.served_rings}
 
 -- The play once its driver made a call.
 abbrev pub with_driver : PlayState → DriverState → Ends → PlayState
@@ -38,113 +30,86 @@ with_driver p s e = record p { driver = s; rings = e }
 pub device_stays : {A : Type 0} (tree : DriverTree A) (v w : Ends) (x : A) → over_lists tree v ≡ (x, w) → w.device ≡ v.device
 device_stays {A} tree v w x played = sym (ap (λ (r : A × Ends). r.1.device) played)
 
--- A call of the driver's over the rings.
-pub guest_plays : (said : Event) (c : GuestCall) (p : PlayState) (s : DriverState) (reply : ReplyTo c) (e : Ends) (text text' : List ℕ)
-    → event_played said (world_in p) ≡ played_line (Guest c) (world_in p)
-    → over_lists (whole_call c p.driver) p.rings ≡ ((s, reply), e)
-    → IsReady p → IsDriven s e → text' ≡ text ++ reply_text c reply s
-    → Plays said p (with_driver p s e) text text'
-guest_plays said c p s reply e text text' means played ready driven printed =
-    let F : (DriverState × ReplyTo c) × Ends → PlayState × List ℕ = λ r. (with_driver p r.0.0 r.1, reply_text c r.0.1 r.0.0) in
-    let whole : (shown (played_line (Guest c) (world_in p)).0, (played_line (Guest c) (world_in p)).1) ≡ (with_driver p s e, reply_text c reply s) = ap F played in
-    record {
-      world = sym (ap (λ r. shown r.0) means ∙ ap (λ r. r.0) whole);
-      printed = printed ∙ ap (λ t. text ++ t) (sym (ap (λ r. r.1) means ∙ ap (λ r. r.1) whole));
-      ready = record {
-        driven = driven;
-        served = served_rings p.proxy p.rings e p.host (device_stays (whole_call c p.driver) p.rings e (s, reply) played) ready.served;
-      };
-    }
+-- What a line leads to, without the journal, and what it prints.
+abbrev line_shown : Event → PlayState → PlayState × List ℕ
+line_shown said p = let r = event_played said (world_in p) in (shown r.0, r.1)
 
--- A call without the rings.
-pub call_plays : (said : Event) (c : GuestCall) (p : PlayState) (s : DriverState) (reply : ReplyTo c) (text text' : List ℕ)
-    → event_played said (world_in p) ≡ played_line (Guest c) (world_in p)
-    → whole_call c p.driver ≡ makes_call c p.driver
-    → makes_call c p.driver ≡ Done (s, reply)
-    → IsReady p → IsDriven s p.rings → text' ≡ text ++ reply_text c reply s
-    → Plays said p (with_driver p s p.rings) text text'
-call_plays said c p s reply text text' means whole made ready driven printed =
-    guest_plays said c p s reply p.rings text text' means (ap (λ t. over_lists t p.rings) (whole ∙ made)) ready driven printed
+is_shown : (said : Event) (p new : PlayState) (text text' said_so : List ℕ) → line_shown said p ≡ (new, said_so) → text' ≡ text ++ said_so
+    → IsReady new → Plays said p new text text'
+is_shown said p new text text' said_so is printed ready = record {
+  world = sym (ap (λ (r : PlayState × List ℕ). r.0) is);
+  printed = printed ∙ ap (λ t. text ++ t) (sym (ap (λ (r : PlayState × List ℕ). r.1) is));
+  ready = ready;
+}
 
--- A poll.
-pub poll_plays : (p : PlayState) (s : DriverState) (polled : Polled) (e : Ends) (text text' : List ℕ)
-    → over_lists (poll_of p.driver) p.rings ≡ ((s, polled), e)
-    → IsReady p → IsDriven s e → text' ≡ text ++ poll_text polled
-    → Plays Poll p (with_driver p s e) text text'
-poll_plays p s polled e text text' played ready driven printed =
-    let F : (DriverState × Polled) × Ends → PlayState × List ℕ = λ r. (with_driver p r.0.0 r.1, poll_text r.0.1) in
-    let whole : (shown (event_played Poll (world_in p)).0, (event_played Poll (world_in p)).1) ≡ (with_driver p s e, poll_text polled) = ap F played in
-    record {
-      world = sym (ap (λ r. r.0) whole);
-      printed = printed ∙ ap (λ t. text ++ t) (sym (ap (λ r. r.1) whole));
-      ready = record {
-        driven = driven;
-        served = served_rings p.proxy p.rings e p.host (device_stays (poll_of p.driver) p.rings e (s, polled) played) ready.served;
-      };
-    }
+-- A conversation of the driver's over the rings.
+answers_play : {A : Type 0} (said : Event) (tree : DriverTree (DriverState × A)) (text_of : A → DriverState → List ℕ) (p : PlayState)
+    (s : DriverState) (w : Ends) (text text' : List ℕ)
+    → line_shown said p ≡ (let r = over_lists tree p.rings in (with_driver p r.0.0 r.1, text_of r.0.1 r.0.0))
+    → IsReady p → Answers tree text_of s p.rings w text text' → Plays said p (with_driver p s w) text text'
+answers_play {A} said tree text_of p s w text text' means ready a =
+    let seen : (DriverState × A) × Ends → PlayState × List ℕ = λ r. (with_driver p r.0.0 r.1, text_of r.0.1 r.0.0) in
+    is_shown said p (with_driver p s w) text text' (text_of a.answer s) (means ∙ ap seen a.played) a.printed (record {
+      driven = a.driven;
+      served = served_rings p.proxy p.rings w p.host (device_stays tree p.rings w (s, a.answer) a.played) ready.served;
+    })
 
--- What the host's programs do.
-pub host_plays : (said : Event) (f : HostContents → HostContents) (t : List ℕ) (p : PlayState) (old new : HostMemory) (text text' : List ℕ)
-    → shown (event_played said (world_in p)).0 ≡ record p { host = f p.host } → (event_played said (world_in p)).1 ≡ t
-    → p.host ≡ old.contents → new ≡ record old { contents = f old.contents }
-    → StayOpen p.host (f p.host) → IsReady p → text' ≡ text ++ t
-    → Plays said p (record p { host = new.contents }) text text'
-host_plays said f t p old new text text' world answer held is opens ready printed =
-    let h : new.contents ≡ f p.host = ap (λ m. m.contents) is ∙ ap f (sym held) in
-    record {
-      world = sym (world ∙ ap (λ (x : HostContents). record p { host = x }) (sym h));
-      printed = printed ∙ ap (λ x. text ++ x) (sym answer);
-      ready = record {
-        driven = ready.driven;
-        served = subst (λ (x : HostContents). IsServed p.proxy p.rings x) (sym h) (served_host p.proxy p.rings p.host (f p.host) opens ready.served);
-      };
-    }
+-- A line on the driver.
+module _ (p : PlayState) (s : DriverState) (w : Ends) (text text' : List ℕ) (ready : IsReady p) where
+  pub drives_play : (said : Event) → ((line : Outside) → said ≡ Around line → ⊥) → Drives said p.driver s p.rings w text text'
+      → Plays said p (with_driver p s w) text text'
+  drives_play (script.Connect port) guest h = answers_play (script.Connect port) _ _ p s w text text' refl ready h
+  drives_play (script.Listen port) guest h = answers_play (script.Listen port) _ _ p s w text text' refl ready h
+  drives_play (script.Unlisten port) guest h = answers_play (script.Unlisten port) _ _ p s w text text' refl ready h
+  drives_play (script.Accept port) guest h = answers_play (script.Accept port) _ _ p s w text text' refl ready h
+  drives_play (script.Send id content) guest h = answers_play (script.Send id content) _ _ p s w text text' refl ready h
+  drives_play (script.Recv id len) guest h = answers_play (script.Recv id len) _ _ p s w text text' refl ready h
+  drives_play (script.Shutdown id bits) guest h = answers_play (script.Shutdown id bits) _ _ p s w text text' refl ready h
+  drives_play (script.Close id) guest h = answers_play (script.Close id) _ _ p s w text text' refl ready h
+  drives_play (script.State id) guest h = answers_play (script.State id) _ _ p s w text text' refl ready h
+  drives_play script.Poll guest h = answers_play script.Poll _ _ p s w text text' refl ready h
+  drives_play (Around line) guest h = absurd (guest line refl)
 
--- A turn and a transport reset.
+pub no_outside : (line : PlayLine) → ((x : OutsideLine) → line ≡ lines.Outside x → ⊥) → (x : Outside) → play_view line ≡ Around x → ⊥
+no_outside (lines.Outside x) never y is = never x refl
+no_outside (lines.Connect port) never y is = cc (is)
+no_outside (lines.Listen port) never y is = cc (is)
+no_outside (lines.Unlisten port) never y is = cc (is)
+no_outside (lines.Accept port) never y is = cc (is)
+no_outside (lines.Send id content) never y is = cc (is)
+no_outside (lines.Recv id len) never y is = cc (is)
+no_outside (lines.Shutdown id bits) never y is = cc (is)
+no_outside (lines.Close id) never y is = cc (is)
+no_outside (lines.State id) never y is = cc (is)
+no_outside lines.Poll never y is = cc (is)
+
+-- A conversation of the proxy's over the rings and the host.
 abbrev pub with_device : PlayState → ProxyState → Ends → HostContents → PlayState
 with_device p s e h = record p { proxy = s; rings = e; host = h }
 
-pub turn_plays : (p : PlayState) (s : ProxyState) (t : answers.Turn) (e : Ends) (h : HostContents) (text text' : List ℕ)
-    → over_both (turn_of p.rings.lists.size p.moment p.proxy) p.rings p.host ≡ ((s, t), (e, h))
-    → IsServed s e h → IsDriven p.driver e → text' ≡ text ++ turn_text t
-    → Plays (Around Turn) p (with_device p s e h) text text'
-turn_plays p s t e h text text' played served driven printed =
-    let F : (ProxyState × answers.Turn) × (Ends × HostContents) → PlayState × List ℕ = λ r. (with_device p r.0.0 r.1.0 r.1.1, turn_text r.0.1) in
-    let whole : (shown (event_played (Around Turn) (world_in p)).0, (event_played (Around Turn) (world_in p)).1) ≡ (with_device p s e h, turn_text t) =
-    ap F played in
-    record {
-      world = sym (ap (λ r. r.0) whole);
-      printed = printed ∙ ap (λ x. text ++ x) (sym (ap (λ r. r.1) whole));
-      ready = record { driven = driven; served = served };
-    }
+serves_play : {A : Type 0} (said : Event) (tree : DeviceTree (ProxyState × A)) (text_of : A → List ℕ) (p : PlayState) (s : ProxyState) (w : Ends)
+    (h : HostContents) (text text' : List ℕ)
+    → line_shown said p ≡ (let r = over_both tree p.rings p.host in (with_device p r.0.0 r.1.0 r.1.1, text_of r.0.1))
+    → IsReady p → Serves tree text_of s p.rings w p.host h text text' → Plays said p (with_device p s w h) text text'
+serves_play {A} said tree text_of p s w h text text' means ready a =
+    let seen : (ProxyState × A) × (Ends × HostContents) → PlayState × List ℕ = λ r. (with_device p r.0.0 r.1.0 r.1.1, text_of r.0.1) in
+    is_shown said p (with_device p s w h) text text' (text_of a.answer) (means ∙ ap seen a.played) a.printed (record {
+      driven = a.driven p.driver ready.driven;
+      served = a.served;
+    })
 
 -- The clock tells the moment, and stays.
-pub turn_at_plays : (p : PlayState) (now moment : ℕ) (s : ProxyState) (t : answers.Turn) (e : Ends) (h : HostContents) (text text' : List ℕ)
-    → now ≡ p.moment → moment ≡ p.moment
-    → over_both (turn_of p.rings.lists.size now p.proxy) p.rings p.host ≡ ((s, t), (e, h))
-    → IsServed s e h → IsDriven p.driver e → text' ≡ text ++ turn_text t
-    → Plays (Around Turn) p (record (with_device p s e h) { moment = moment }) text text'
-turn_at_plays p now moment s t e h text text' at still played served driven printed =
-    let this : over_both (turn_of p.rings.lists.size p.moment p.proxy) p.rings p.host ≡ ((s, t), (e, h)) =
-    subst (λ (n : ℕ). over_both (turn_of p.rings.lists.size n p.proxy) p.rings p.host ≡ ((s, t), (e, h))) at played in
-    subst (λ (m : ℕ). Plays (Around Turn) p (record (with_device p s e h) { moment = m }) text text') (sym still)
-    (turn_plays p s t e h text text' this served driven printed)
+pub turn_plays : (p : PlayState) (now moment : ℕ) (s : ProxyState) (w : Ends) (h : HostContents) (text text' : List ℕ) → now ≡ p.moment
+    → moment ≡ p.moment → IsReady p → Serves (turn_of p.rings.lists.size now p.proxy) turn_text s p.rings w p.host h text text'
+    → Plays (Around Turn) p (record (with_device p s w h) { moment = moment }) text text'
+turn_plays p now moment s w h text text' at still ready serves =
+    subst (λ (m : ℕ). Plays (Around Turn) p (record (with_device p s w h) { moment = m }) text text') (sym still)
+    (serves_play (Around Turn) _ turn_text p s w h text text' refl ready
+    (subst (λ (n : ℕ). Serves (turn_of p.rings.lists.size n p.proxy) turn_text s p.rings w p.host h text text') at serves))
 
-pub reset_plays : (cid : ℕ) (p : PlayState) (s : ProxyState) (t : Result (Unit {0}) Failure) (e : Ends) (h : HostContents) (text text' : List ℕ)
-    → over_both (proxy_reset_of cid p.proxy) p.rings p.host ≡ ((s, t), (e, h))
-    → IsServed s e h → IsDriven p.driver e → text' ≡ text ++ reset_text t
-    → Plays (Around (Reset cid)) p (with_device p s e h) text text'
-reset_plays cid p s t e h text text' played served driven printed =
-    let F : (ProxyState × Result (Unit {0}) Failure) × (Ends × HostContents) → PlayState × List ℕ =
-    λ r. (with_device p r.0.0 r.1.0 r.1.1, reset_text r.0.1) in
-    let whole : (shown (event_played (Around (Reset cid)) (world_in p)).0, (event_played (Around (Reset cid)) (world_in p)).1)
-    ≡ (with_device p s e h, reset_text t) =
-    ap F played in
-    record {
-      world = sym (ap (λ r. r.0) whole);
-      printed = printed ∙ ap (λ x. text ++ x) (sym (ap (λ r. r.1) whole));
-      ready = record { driven = driven; served = served };
-    }
+pub reset_plays : (cid : ℕ) (p : PlayState) (s : ProxyState) (w : Ends) (h : HostContents) (text text' : List ℕ) → IsReady p
+    → Serves (proxy_reset_of cid p.proxy) reset_text s p.rings w p.host h text text' → Plays (Around (Reset cid)) p (with_device p s w h) text text'
+reset_plays cid p s w h text text' ready serves = serves_play (Around (Reset cid)) _ reset_text p s w h text text' refl ready serves
 
 -- Time passes.
 pub tick_plays : (ms : ℕ) (p : PlayState) (moment : ℕ) (text text' : List ℕ) → moment ≡ min 18446744073709551615 (p.moment + ms)
@@ -155,6 +120,42 @@ tick_plays ms p moment text text' is ready printed = record {
   printed = printed;
   ready = record { driven = ready.driven; served = ready.served };
 }
+
+-- What the host's programs do.
+with_host : (said : Event) (p : PlayState) (new : HostContents × List ℕ) (h : HostContents) (text text' : List ℕ)
+    → line_shown said p ≡ (record p { host = new.0 }, new.1) → StayOpen p.host new.0 → IsReady p → h ≡ new.0 → text' ≡ text ++ new.1
+    → Plays said p (record p { host = h }) text text'
+with_host said p new h text text' means opens ready is printed =
+    subst (λ (x : HostContents). Plays said p (record p { host = x }) text text') (sym is)
+    (is_shown said p (record p { host = new.0 }) text text' new.1 means printed (record {
+      driven = ready.driven;
+      served = served_host p.proxy p.rings p.host new.0 opens ready.served;
+    }))
+
+host_shown : (line : Host) (p : PlayState)
+    → line_shown (Around (OfHost line)) p ≡ (record p { host = (host_played line p.host).0 }, (host_played line p.host).1)
+host_shown (outside.HostListen port) p = refl
+host_shown (outside.HostUnlisten port) p = refl
+host_shown (outside.HostWrite stream content) p = refl
+host_shown (outside.HostAllow stream n) p = refl
+host_shown (outside.HostEnd stream) p = refl
+host_shown (outside.HostClosed stream) p = refl
+host_shown (outside.HostFail n) p = refl
+
+pub host_plays : (line : Host) (p : PlayState) (h : HostContents) (text text' : List ℕ) → IsReady p → h ≡ (host_played line p.host).0
+    → text' ≡ text ++ (host_played line p.host).1 → Plays (Around (OfHost line)) p (record p { host = h }) text text'
+host_plays line p h text text' ready is printed =
+    with_host (Around (OfHost line)) p (host_played line p.host) h text text' (host_shown line p) (host_opens line p.host) ready is printed
+
+pub client_plays : (p : PlayState) (h : HostContents) (text text' : List ℕ) → IsReady p → h ≡ after_client p.host
+    → text' ≡ text ++ client_text (length p.host.streams + 1) → Plays (Around Client) p (record p { host = h }) text text'
+client_plays p h text text' ready is printed =
+    with_host (Around Client) p (after_client p.host, client_text (length p.host.streams + 1)) h text text' refl (client_opens p.host) ready is printed
+
+-- Both clauses of a call that ended well.
+pub on_ok_both : {E P Q R : Type 0} (r : Result (Unit {0}) E) → (P → Q → R) → OnOk r P → OnOk r Q → OnOk r R
+on_ok_both (Ok u) f p q = f p q
+on_ok_both (Err e) f p q = tt
 
 -- A play just begun, of these parts.
 abbrev pub begun : DriverState → ProxyState → Ends → HostContents → PlayState

@@ -1,13 +1,11 @@
 -- The rings and the host stay the proxy's.
-use Rattle.std.proofs.Common.{◌≡◌, ◌-◌, Option, unwrap_or, refl, sym, ap, subst}
-use Rattle.vs_outside.specs.Host.{HostContents, Stream}
-use Rattle.vs_ring_port.specs.Chains.{chains_of}
-use Rattle.vs_ring_port.specs.EndLog.{EndLog}
+use Rattle.std.proofs.Common.{◌≡◌, Option, unwrap_or, refl, sym, ap, subst}
+use Rattle.vs_outside.specs.Host.{HostContents}
+use Rattle.vs_ring_port.specs.{Chains.chains_of, EndLog.EndLog}
 use Rattle.vs_ring_list.specs.Ends.{Ends, device_contents}
 use Rattle.vs_device_parts.specs.Playing.{IsItsRing}
 use Rattle.vs_device_laws.specs.Streams.{HasStreams}
-use Rattle.vs_proxy_parts.specs.Handshakes.{streams_of}
-use Rattle.vs_proxy_parts.specs.State.{ProxyState}
+use Rattle.vs_proxy_parts.specs.{Handshakes.streams_of, State.ProxyState}
 use Rattle.vs_proxy_log.specs.Honest.{IsProxyWith}
 use Rattle.vs_world.specs.World.{first_cid}
 use Rattle.vs_play.specs.Ready.{IsServed}

@@ -1,13 +1,11 @@
 -- The lines of a play: what each does to the world, and what it prints.
-use Rattle.std.specs.Prelude.{ℕ, ◌+◌, min, List, Option, Some, None, Result, Ok, Err}
+use Rattle.std.specs.Prelude.{ℕ, ◌+◌, min, List, Option, None, Result, Ok, Err}
 use Rattle.vs_flow.specs.declared.flow.Flow.{Flow}
-use Rattle.vs_driver_parts.specs.Connections.{flow_of}
-use Rattle.vs_driver_parts.specs.State.{DriverState}
+use Rattle.vs_driver_parts.specs.{Connections.flow_of, State.DriverState}
 use Rattle.vs_driver_parts.specs.declared.answers.Accepted.{Accepted}
 use Rattle.vs_driver_parts.specs.declared.answers.Accepted.TheVariants as accepted
 use Rattle.vs_driver_parts.specs.declared.answers.ConnectError.{ConnectError}
-use Rattle.vs_script.specs.Data.{bytes_of}
-use Rattle.vs_script.specs.Outside.{Outside, Host}
+use Rattle.vs_script.specs.{Data.bytes_of, Outside.Outside, Outside.Host}
 use Rattle.vs_script.specs.Outside as outside
 use Rattle.vs_script.specs.Play.{Event}
 use Rattle.vs_script.specs.Play as script
@@ -16,7 +14,8 @@ use Rattle.vs_world.specs.Calls as call
 use Rattle.vs_world.specs.Plays.{Line, Said, line}
 use Rattle.vs_world.specs.Plays as world
 use Rattle.vs_world.specs.World.{World}
-use Rattle.vs_report.specs.GuestLines.{connect_text, listen_text, unlisten_text, accept_text, send_text, recv_text, shutdown_text, close_text, state_text, poll_text}
+use Rattle.vs_report.specs.GuestLines.{connect_text, listen_text, unlisten_text, accept_text, send_text, recv_text, shutdown_text}
+use Rattle.vs_report.specs.GuestLines.{close_text, state_text, poll_text}
 use Rattle.vs_report.specs.DeviceLines.{turn_text, reset_text}
 use Rattle.vs_report.specs.HostLines.{ok_text, client_text, write_text, stream_there_text}
 

@@ -2,8 +2,7 @@
 use Rattle.std.specs.Prelude.{◌≡◌, ◌≤◌, ℕ, List, [], ◌++◌, Some}
 use Rattle.vs_ring_port.specs.Chains.{chains_of}
 use Rattle.vs_ring_list.specs.Ends.{Ends, device_contents, driver_contents, flight_of, staged_of}
-use Rattle.vs_driver_parts.specs.Playing.{IsRingOf}
-use Rattle.vs_driver_parts.specs.State.{DriverState}
+use Rattle.vs_driver_parts.specs.{Playing.IsRingOf, State.DriverState}
 use Rattle.vs_driver_log.specs.Honest.{IsHonest}
 use Rattle.vs_script.specs.Outside as outside
 use Rattle.vs_script.specs.Play as script
@@ -13,8 +12,7 @@ use Rattle.vs_device_parts.specs.Playing.{IsItsRing, situation}
 use Rattle.vs_proxy_parts.specs.State.{ProxyState}
 use Rattle.vs_proxy_log.specs.Order.{IsInOrder}
 use Rattle.vs_world.specs.World.{first_cid}
-use Rattle.vs_play.specs.Answer.{opened_play}
-use Rattle.vs_play.specs.Lines.{PlayWorld, event_played}
+use Rattle.vs_play.specs.{Answer.opened_play, Lines.PlayWorld, Lines.event_played}
 
 -- The rings and the host are the proxy's: the device holds its chains, and the proxy is in order with its log and its streams.
 pub record IsServed (s : ProxyState) (e : Ends) (h : HostContents) : Type 0 where

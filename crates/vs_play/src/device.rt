@@ -1,20 +1,18 @@
-//! The calls of the device with its proxy over rings on one thread and a host in memory, each with the one end that it leads to.
+//! The lines on the device with its proxy: what each does over the rings and the host, with the one end that it leads to, and what it prints.
 
-ghost use Rattle.std.specs.Prelude.{◌≡◌, ◌≤◌, ◌++◌, Result, IfOk, OnOk, false, length, string_bytes};
-ghost use Rattle.vs_driver_parts.specs.State.{DriverState};
+ghost use Rattle.std.specs.Prelude.{◌≡◌, ◌≤◌, IfOk, OnOk, false, length, string_bytes};
 ghost use Rattle.vs_device_parts.specs.Turns.{table_shown};
 ghost use Rattle.vs_proxy_parts.specs.Turns.{new_proxy, proxy_reset_of, turn_of};
+ghost use Rattle.vs_report.specs.DeviceLines.{reset_text, turn_text};
 ghost use Rattle.vs_world.specs.World.{first_cid, opened_host};
-ghost use Rattle.vs_play.specs.Answer.{base_path};
-ghost use Rattle.vs_play.specs.Ready.{IsDriven, IsServed};
-ghost use Rattle.vs_world.specs.Over.{over_both};
+ghost use Rattle.vs_play.specs.{Answer.base_path, Ready.IsServed, Told.Serves};
 
 use std::alloc::{AllocError, Global};
 use vs_both_ends::BothEnds;
 use vs_outside::MemHost;
 use vs_page::FIRST_CID;
-use vs_proxy::{Proxy, Turn};
-use vs_ring_port::Failure;
+use vs_proxy::Proxy;
+use vs_report::device_lines::{push_reset, push_turn};
 
 // The base path of the host's sockets in a play.
 const BASE_PATH: &str = "v.sock";
@@ -33,40 +31,40 @@ pub fn new_host(alloc: Global) -> Result<MemHost, AllocError>
     MemHost::new(alloc, BASE_PATH)
 }
 
-/// A turn at the moment `now`, in milliseconds. The only error is want of memory, which the host found in a dial or a write.
+/// `turn`, at the moment `now`, in milliseconds. The only error is want of memory, also where the host found none in a dial or a write.
 pub fn turn<R: BothEnds>(
     proxy: &mut Proxy,
     rings: &mut R,
     host: &mut MemHost,
     now: u64,
-) -> Result<Turn, AllocError>
+    text: &mut String,
+) -> Result<(), AllocError>
     requires served { IsServed proxy.old (R.ends rings.old) host.old.contents }
-    ensures played { IfOk result (λ answer. over_both (turn_of (R.ends rings.old).lists.size now proxy.old) (R.ends rings.old) host.old.contents ≡ ((proxy.new, answer), (R.ends rings.new, host.new.contents))) }
-    ensures served { IfOk result (λ answer. IsServed proxy.new (R.ends rings.new) host.new.contents) }
-    ensures driven { IfOk result (λ answer. (s : DriverState) → IsDriven s (R.ends rings.old) → IsDriven s (R.ends rings.new)) }
+    ensures { OnOk result (Serves (turn_of (R.ends rings.old).lists.size now proxy.old) turn_text proxy.new (R.ends rings.old) (R.ends rings.new)
+        host.old.contents host.new.contents (string_bytes text.old) (string_bytes text.new)) }
 {
     let answer = proxy.turn(rings, host, now);
     fed(host)?;
-    Ok(answer)
+    push_turn(text, answer)
 }
 
-/// A transport reset: the guest's CID is this one from now on, 3 to 4,294,967,294. The only error is want of memory, which the host found
-/// in a dial or a write before.
+/// `reset CID`: a transport reset. The guest's CID is this one from now on, 3 to 4,294,967,294. The only error is want of memory, also where
+/// the host found none in a dial or a write before.
 pub fn reset<R: BothEnds>(
     proxy: &mut Proxy,
     rings: &mut R,
     host: &mut MemHost,
     cid: u32,
-) -> Result<Result<(), Failure>, AllocError>
+    text: &mut String,
+) -> Result<(), AllocError>
     requires cid { (3 ≤ cid) × (cid ≤ 4294967294) }
     requires served { IsServed proxy.old (R.ends rings.old) host.old.contents }
-    ensures played { IfOk result (λ answer. over_both (proxy_reset_of cid proxy.old) (R.ends rings.old) host.old.contents ≡ ((proxy.new, answer), (R.ends rings.new, host.new.contents))) }
-    ensures served { IfOk result (λ answer. IsServed proxy.new (R.ends rings.new) host.new.contents) }
-    ensures driven { IfOk result (λ answer. (s : DriverState) → IsDriven s (R.ends rings.old) → IsDriven s (R.ends rings.new)) }
+    ensures { OnOk result (Serves (proxy_reset_of cid proxy.old) reset_text proxy.new (R.ends rings.old) (R.ends rings.new)
+        host.old.contents host.new.contents (string_bytes text.old) (string_bytes text.new)) }
 {
     let answer = proxy.reset(rings, host, cid as u64);
     fed(host)?;
-    Ok(answer)
+    push_reset(text, answer)
 }
 
 /// How many entries the device's table has.

@@ -1,23 +1,26 @@
-//! The calls of the guest's driver over rings on one thread, each with the one end that it leads to.
+//! The lines on the guest's driver: what each does over the rings, with the one end that it leads to, and what it prints.
 
-ghost use Rattle.std.specs.Prelude.{◌≡◌, ℕ, IfOk, length};
+ghost use Rattle.std.specs.Prelude.{◌≡◌, ℕ, IfOk, OnOk, length, string_bytes};
 ghost use Rattle.vs_contents.specs.CallTree.{Done};
 ghost use Rattle.vs_ring_list.specs.Ends.{Ends, empty_ends};
-ghost use Rattle.vs_driver_parts.specs.Conversations.{new_of, connect_of, send_of, poll_of};
-ghost use Rattle.vs_driver_parts.specs.Connections.{table_shown};
+ghost use Rattle.vs_driver_parts.specs.{Conversations.new_of, Conversations.poll_of, Connections.table_shown};
 ghost use Rattle.vs_driver_parts.specs.declared.limits.TheConstants.{FIRST_PORT};
+ghost use Rattle.vs_report.specs.GuestLines.{poll_text};
+ghost use Rattle.vs_script.specs.{Data.bytes_of, Data.content_of, Play.play_view};
 ghost use Rattle.vs_world.specs.Calls as call;
-ghost use Rattle.vs_world.specs.GuestSteps.{makes_call};
-ghost use Rattle.vs_play.specs.Lines.{flow_opened, flow_accepted};
-ghost use Rattle.vs_play.specs.Ready.{IsBits, IsDriven};
-ghost use Rattle.vs_world.specs.Over.{over_lists};
+ghost use Rattle.vs_world.specs.{GuestSteps.makes_call, Over.over_lists};
+ghost use Rattle.vs_play.specs.{Lines.flow_opened, Lines.flow_accepted, Ready.IsBits, Ready.IsDriven, Ready.IsPlayable};
+ghost use Rattle.vs_play.specs.Told.{Answers, Drives, Replies};
 
 use std::alloc::{AllocError, Global};
 use vs_both_ends::BothEnds;
-use vs_driver::{
-    Accepted, Closed, ConnId, ConnectError, Driver, ListenError, Polled, Received, Sent, Shut,
-};
+use vs_driver::{Accepted, ConnId, ConnectError, Driver, Received};
 use vs_flow::Flow;
+use vs_report::guest_lines::{
+    push_accept, push_close, push_connect, push_listen, push_poll, push_recv, push_send,
+    push_shutdown, push_state, push_unlisten,
+};
+use vs_script::{Data, PlayLine};
 
 /// A driver just made over empty rings. The only error is want of memory.
 pub fn new<R: BothEnds>(alloc: Global, rings: &mut R) -> Result<Driver, AllocError>
@@ -29,21 +32,56 @@ pub fn new<R: BothEnds>(alloc: Global, rings: &mut R) -> Result<Driver, AllocErr
     Ok(driver)
 }
 
-/// Asks the host for a connection.
-pub fn connect<R: BothEnds>(
+/// How many entries the driver's table has.
+pub fn guest_entries(driver: &Driver) -> usize
+    ensures { result ≡ length (table_shown driver.now) }
+{
+    driver.table().count()
+}
+
+/// Plays a line on the driver; any other line does nothing. The only error is want of memory.
+pub fn guest_line<R: BothEnds>(
+    driver: &mut Driver,
+    rings: &mut R,
+    line: &PlayLine,
+    text: &mut String,
+) -> Result<(), AllocError>
+    requires driven { IsDriven driver.old (R.ends rings.old) }
+    requires playable { IsPlayable (play_view line.now) }
+    ensures { OnOk result (Drives (play_view line.now) driver.old driver.new (R.ends rings.old) (R.ends rings.new) (string_bytes text.old) (string_bytes text.new)) }
+{
+    match line {
+        PlayLine::Connect { port } => connect(driver, rings, *port, text),
+        PlayLine::Listen { port } => listen(driver, *port, text),
+        PlayLine::Unlisten { port } => unlisten(driver, *port, text),
+        PlayLine::Accept { port } => accept(driver, *port, text),
+        PlayLine::Send { id, content } => send(driver, rings, *id, content, text),
+        PlayLine::Recv { id, len } => recv(driver, *id, *len, text),
+        PlayLine::Shutdown { id, bits } => shutdown(driver, *id, *bits, text),
+        PlayLine::Close { id } => close(driver, *id, text),
+        PlayLine::State { id } => state(driver, *id, text),
+        PlayLine::Poll => poll(driver, rings, text),
+        PlayLine::Outside(_) => Ok(()),
+    }
+}
+
+// `connect PORT`
+fn connect<R: BothEnds>(
     driver: &mut Driver,
     rings: &mut R,
     port: u32,
-) -> Result<ConnId, ConnectError>
+    text: &mut String,
+) -> Result<(), AllocError>
     requires driven { IsDriven driver.old (R.ends rings.old) }
-    ensures played { over_lists (connect_of port driver.old) (R.ends rings.old) ≡ ((driver.new, result), R.ends rings.new) }
-    ensures driven { IsDriven driver.new (R.ends rings.new) }
+    ensures { OnOk result (Replies (call.Connect port) driver.old driver.new (R.ends rings.old) (R.ends rings.new) (string_bytes text.old) (string_bytes text.new)) }
 {
-    driver.connect(rings, port)
+    let answer = driver.connect(rings, port);
+    let flow = flow_opened(driver, answer);
+    push_connect(text, answer, flow)
 }
 
-/// The flow of the connection that a connect opened.
-pub fn flow_opened(driver: &Driver, answer: Result<ConnId, ConnectError>) -> Option<Flow>
+// The flow of the connection that a connect opened.
+fn flow_opened(driver: &Driver, answer: Result<ConnId, ConnectError>) -> Option<Flow>
     ensures { result ≡ flow_opened answer driver.now }
 {
     match answer {
@@ -52,8 +90,41 @@ pub fn flow_opened(driver: &Driver, answer: Result<ConnId, ConnectError>) -> Opt
     }
 }
 
-/// The flow of the connection that an accept gave.
-pub fn flow_accepted(driver: &Driver, answer: Accepted) -> Option<Flow>
+// `listen PORT`
+fn listen(driver: &mut Driver, port: u32, text: &mut String) -> Result<(), AllocError>
+    ensures { (e : Ends) → IsDriven driver.old e → OnOk result (Replies (call.Listen port) driver.old driver.new e e (string_bytes text.old) (string_bytes text.new)) }
+{
+    let answer = driver.listen(port);
+    push_listen(text, answer)
+}
+
+// `unlisten PORT`
+fn unlisten(driver: &mut Driver, port: u32, text: &mut String) -> Result<(), AllocError>
+    ensures { (e : Ends) → IsDriven driver.old e → OnOk result (Replies (call.Unlisten port) driver.old driver.new e e (string_bytes text.old) (string_bytes text.new)) }
+{
+    let found = unlistened(driver, port);
+    push_unlisten(text, found)
+}
+
+// Listens on a port no more, and tells whether it was listened on.
+fn unlistened(driver: &mut Driver, port: u32) -> bool
+    ensures made { makes_call (call.Unlisten port) driver.old ≡ Done (driver.new, result) }
+    ensures driven { (e : Ends) → IsDriven driver.old e → IsDriven driver.new e }
+{
+    driver.unlisten(port).is_ok()
+}
+
+// `accept PORT`
+fn accept(driver: &mut Driver, port: u32, text: &mut String) -> Result<(), AllocError>
+    ensures { (e : Ends) → IsDriven driver.old e → OnOk result (Replies (call.Accept port) driver.old driver.new e e (string_bytes text.old) (string_bytes text.new)) }
+{
+    let answer = driver.accept(port);
+    let flow = flow_accepted(driver, answer);
+    push_accept(text, answer, flow)
+}
+
+// The flow of the connection that an accept gave.
+fn flow_accepted(driver: &Driver, answer: Accepted) -> Option<Flow>
     ensures { result ≡ flow_accepted answer driver.now }
 {
     match answer {
@@ -62,41 +133,46 @@ pub fn flow_accepted(driver: &Driver, answer: Accepted) -> Option<Flow>
     }
 }
 
-/// Listens on a port.
-pub fn listen(driver: &mut Driver, port: u32) -> Result<(), ListenError>
-    ensures made { makes_call (call.Listen port) driver.old ≡ Done (driver.new, result) }
-    ensures driven { (e : Ends) → IsDriven driver.old e → IsDriven driver.new e }
-{
-    driver.listen(port)
-}
-
-/// Listens on a port no more, and tells whether it was listened on.
-pub fn unlisten(driver: &mut Driver, port: u32) -> bool
-    ensures made { makes_call (call.Unlisten port) driver.old ≡ Done (driver.new, result) }
-    ensures driven { (e : Ends) → IsDriven driver.old e → IsDriven driver.new e }
-{
-    driver.unlisten(port).is_ok()
-}
-
-/// Accepts a connection that waits on a port.
-pub fn accept(driver: &mut Driver, port: u32) -> Accepted
-    ensures made { makes_call (call.Accept port) driver.old ≡ Done (driver.new, result) }
-    ensures driven { (e : Ends) → IsDriven driver.old e → IsDriven driver.new e }
-{
-    driver.accept(port)
-}
-
-/// Sends bytes on a connection.
-pub fn send<R: BothEnds>(driver: &mut Driver, rings: &mut R, id: ConnId, bytes: &[u8]) -> Sent
+// `send C DATA`
+fn send<R: BothEnds>(
+    driver: &mut Driver,
+    rings: &mut R,
+    id: ConnId,
+    content: &Data,
+    text: &mut String,
+) -> Result<(), AllocError>
     requires driven { IsDriven driver.old (R.ends rings.old) }
-    ensures played { over_lists (send_of id bytes.now driver.old) (R.ends rings.old) ≡ ((driver.new, result), R.ends rings.new) }
-    ensures driven { IsDriven driver.new (R.ends rings.new) }
+    ensures { OnOk result (Replies (call.Send id (bytes_of (content_of content.now))) driver.old driver.new (R.ends rings.old) (R.ends rings.new) (string_bytes text.old) (string_bytes text.new)) }
 {
-    driver.send(rings, id, bytes)
+    let bytes = content.to_vec(*text.allocator())?;
+    send_bytes(driver, rings, id, &bytes, text)
 }
 
-/// Receives at most so many bytes of a connection, and gives them. The only error is want of memory, and then nothing changes.
-pub fn recv(
+// The same, of these bytes.
+fn send_bytes<R: BothEnds>(
+    driver: &mut Driver,
+    rings: &mut R,
+    id: ConnId,
+    bytes: &[u8],
+    text: &mut String,
+) -> Result<(), AllocError>
+    requires driven { IsDriven driver.old (R.ends rings.old) }
+    ensures { OnOk result (Replies (call.Send id bytes.now) driver.old driver.new (R.ends rings.old) (R.ends rings.new) (string_bytes text.old) (string_bytes text.new)) }
+{
+    let answer = driver.send(rings, id, bytes);
+    push_send(text, answer)
+}
+
+// `recv C N`
+fn recv(driver: &mut Driver, id: ConnId, len: u32, text: &mut String) -> Result<(), AllocError>
+    ensures { (e : Ends) → IsDriven driver.old e → OnOk result (Replies (call.Recv id len) driver.old driver.new e e (string_bytes text.old) (string_bytes text.new)) }
+{
+    let (answer, bytes) = received(*text.allocator(), driver, id, len as usize)?;
+    push_recv(text, answer, &bytes)
+}
+
+// Receives at most so many bytes of a connection, and gives them. The only error is want of memory, and then nothing changes.
+fn received(
     alloc: Global,
     driver: &mut Driver,
     id: ConnId,
@@ -111,35 +187,39 @@ pub fn recv(
     Ok((answer, out))
 }
 
-/// Shuts directions of a connection.
-pub fn shutdown(driver: &mut Driver, id: ConnId, bits: u8) -> Shut
+// `shutdown C B`
+fn shutdown(driver: &mut Driver, id: ConnId, bits: u8, text: &mut String) -> Result<(), AllocError>
     requires bits { IsBits bits }
-    ensures made { makes_call (call.Shutdown id bits) driver.old ≡ Done (driver.new, result) }
-    ensures driven { (e : Ends) → IsDriven driver.old e → IsDriven driver.new e }
+    ensures { (e : Ends) → IsDriven driver.old e → OnOk result (Replies (call.Shutdown id bits) driver.old driver.new e e (string_bytes text.old) (string_bytes text.new)) }
 {
-    driver.shutdown(id, bits)
+    let answer = driver.shutdown(id, bits);
+    push_shutdown(text, answer)
 }
 
-/// Closes a connection.
-pub fn close(driver: &mut Driver, id: ConnId) -> Closed
-    ensures made { makes_call (call.Close id) driver.old ≡ Done (driver.new, result) }
-    ensures driven { (e : Ends) → IsDriven driver.old e → IsDriven driver.new e }
+// `close C`
+fn close(driver: &mut Driver, id: ConnId, text: &mut String) -> Result<(), AllocError>
+    ensures { (e : Ends) → IsDriven driver.old e → OnOk result (Replies (call.Close id) driver.old driver.new e e (string_bytes text.old) (string_bytes text.new)) }
 {
-    driver.close(id)
+    let answer = driver.close(id);
+    push_close(text, answer)
 }
 
-/// Polls the ring.
-pub fn poll<R: BothEnds>(driver: &mut Driver, rings: &mut R) -> Polled
+// `state C`
+fn state(driver: &Driver, id: ConnId, text: &mut String) -> Result<(), AllocError>
+    ensures { (e : Ends) → IsDriven driver.now e → OnOk result (Replies (call.LookAt id) driver.now driver.now e e (string_bytes text.old) (string_bytes text.new)) }
+{
+    push_state(text, driver.state(id))
+}
+
+// `poll`
+fn poll<R: BothEnds>(
+    driver: &mut Driver,
+    rings: &mut R,
+    text: &mut String,
+) -> Result<(), AllocError>
     requires driven { IsDriven driver.old (R.ends rings.old) }
-    ensures played { over_lists (poll_of driver.old) (R.ends rings.old) ≡ ((driver.new, result), R.ends rings.new) }
-    ensures driven { IsDriven driver.new (R.ends rings.new) }
+    ensures { OnOk result (Answers (poll_of driver.old) (λ polled s. poll_text polled) driver.new (R.ends rings.old) (R.ends rings.new) (string_bytes text.old) (string_bytes text.new)) }
 {
-    driver.poll(rings)
-}
-
-/// How many entries the driver's table has.
-pub fn guest_entries(driver: &Driver) -> usize
-    ensures { result ≡ length (table_shown driver.now) }
-{
-    driver.table().count()
+    let polled = driver.poll(rings);
+    push_poll(text, polled)
 }

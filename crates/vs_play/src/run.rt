@@ -1,22 +1,19 @@
 //! Playing a script: what each line prints, and then the report, given to a sink line by line.
 
-ghost use Rattle.std.specs.Prelude.{◌≡◌, ◌∷◌, [], ℕ, List, Ok, IfOk, OnOk, map};
+ghost use Rattle.std.specs.Prelude.{◌≡◌, ◌∷◌, [], ℕ, List, Ok, OnOk, map};
 ghost use Rattle.std.specs.List.{AllByRecursion};
 ghost use Rattle.vs_ring_list.specs.Ends.{empty_ends};
-ghost use Rattle.vs_script.specs.Play.{Event, play_view};
-ghost use Rattle.vs_script.specs.Script.{Plays as Saying, numbered_event, parse_of};
+ghost use Rattle.vs_script.specs.{Play.Event, Play.play_view, Script.Plays as Saying, Script.numbered_event, Script.parse_of};
 ghost use Rattle.vs_script.specs.declared.script.Command.TheVariants as command;
 ghost use Rattle.vs_report.specs.Gives.{GivesLines};
 ghost use Rattle.vs_play.specs.Answer.{events_in, printed, report_of, texts_of, world_after};
-ghost use Rattle.vs_play.specs.Lines.{event_played};
-ghost use Rattle.vs_play.specs.Ready.{IsPlayable, IsReady, shown, world_in};
+ghost use Rattle.vs_play.specs.{Lines.event_played, Ready.IsPlayable, Ready.IsReady, Ready.shown, Ready.world_in};
 
 use crate::play::Play;
 use std::alloc::Global;
 use vs_both_ends::BothEnds;
 use vs_outside::Sink;
-use vs_peer::emit;
-use vs_report::giving::{GiveError, give_report};
+use vs_report::giving::{GiveError, give_report, give_text};
 use vs_script::{Numbered, PlayLine};
 
 /// Plays the lines of a script in order over empty rings, and then reports: how many entries each table has, what each stream's program
@@ -75,8 +72,7 @@ fn play_line<R: BothEnds, K: Sink>(
 {
     text.clear();
     play.line(line, text)?;
-    emit(out, text.as_bytes())?;
-    Ok(())
+    give_text(text, out)
 }
 
 // Gives the report.

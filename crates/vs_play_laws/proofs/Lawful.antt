@@ -1,52 +1,33 @@
 -- What holds of each play.
 use Rattle.std.proofs.Common.{◌≡◌, ℕ, true, List, [], ◌∷◌, ◌++◌, None, refl, sym, ap, subst, ◌∙◌, map, Ok}
 use Rattle.vs_flow.specs.declared.flow.Flow.{Flow}
-use Rattle.vs_history.specs.History.{puts}
-use Rattle.vs_history.specs.Packets.{has, shuts_send}
+use Rattle.vs_history.specs.{History.puts, Packets.has, Packets.shuts_send}
 use Rattle.vs_driver_parts.specs.State.{DriverEntry}
 use Rattle.vs_device_parts.specs.State.{DeviceEntry}
-use Rattle.vs_matching.specs.Both.{Both, at}
-use Rattle.vs_matching.specs.Steps.{HasEnd}
+use Rattle.vs_matching.specs.{Both.Both, Both.at, Steps.HasEnd}
 use Rattle.vs_matching.proofs.Slots.{one_end}
-use Rattle.vs_outside.specs.HostBytes.{host_wrote}
+use Rattle.vs_outside.specs.{HostBytes.host_wrote, Host.HostContents, HostProgram.new_host, HostProgram.plain}
 use Rattle.vs_pipes.specs.Drains.{put_on}
 use Rattle.std.specs.List.{Contains}
-use Rattle.vs_outside.specs.Host.{HostContents}
-use Rattle.vs_outside.specs.HostProgram.{new_host, plain}
-use Rattle.vs_page.specs.Fair.{IsFairLog, payload_put}
 use Rattle.vs_page.specs.Log.{Device, Driver, Log, Role, history_of}
-use Rattle.vs_page.proofs.PayloadLogs.{all_put, shut_put}
 use Rattle.vs_script.specs.Outside as outside
 use Rattle.vs_script.specs.Play as script
-use Rattle.vs_script.specs.Play.{Event}
-use Rattle.vs_script.specs.Script.{Plays, parse_of}
+use Rattle.vs_script.specs.{Play.Event, Script.Plays, Script.parse_of}
 use Rattle.vs_script.specs.declared.script.Command.TheVariants as command
 use Rattle.vs_report.specs.Report.{counts_text, device_open_text, guest_open_text, stream_texts}
-use Rattle.vs_world.specs.Calls.{sent_on}
-use Rattle.vs_world.specs.Events.{is_at_rest, is_guest_cid, reset_made}
-use Rattle.vs_world.specs.Laws.{IsEmptied}
-use Rattle.vs_world.specs.Pipes.{IsFresh}
-use Rattle.vs_world.specs.Sides.{both_of, device_ends, driver_ends}
-use Rattle.vs_world.specs.Steps.{Leads}
-use Rattle.vs_world.specs.World.{World, first_cid}
-use Rattle.vs_world.proofs.Bytes.{wrote_is_put}
-use Rattle.vs_world.proofs.CallRests.{opening_rests}
-use Rattle.vs_world.proofs.Growing.{Grows, runs_grow}
-use Rattle.vs_world.proofs.GuestLines.{possible_is}
-use Rattle.vs_world.proofs.Opening.{opening_well, run_goes}
-use Rattle.vs_world.proofs.ResetTables.{device_emptied}
-use Rattle.vs_world.proofs.ScriptLines.{script_leads, script_rests}
-use Rattle.vs_world.proofs.Sound.{Goes, IsWell}
-use Rattle.vs_play.specs.Answer.{base_path, opened_play, texts_of, world_after}
-use Rattle.vs_play.specs.Lines.{PlayWorld}
-use Rattle.vs_play_laws.specs.Bounded.{AreBounded}
+use Rattle.vs_world.specs.{Calls.sent_on, Events.is_at_rest, Events.is_guest_cid, Events.reset_made, Laws.IsEmptied, Pipes.IsFresh}
+use Rattle.vs_world.specs.{Sides.both_of, Sides.device_ends, Sides.driver_ends, Steps.Leads, World.World, World.first_cid}
+use Rattle.vs_world.proofs.{Bytes.wrote_is_put, CallRests.opening_rests, GuestLines.possible_is, Opening.opening_well, Opening.run_goes}
+use Rattle.vs_world.proofs.{ResetTables.device_emptied, ScriptLines.script_leads, ScriptLines.script_rests, Sound.Goes, Sound.IsWell}
+use Rattle.vs_world.proofs.Carried.{sent_stays, wrote_stays}
+use Rattle.vs_play.specs.{Answer.base_path, Answer.opened_play, Answer.texts_of, Answer.world_after, Lines.PlayWorld}
+use Rattle.vs_script.specs.Bounds.{AreBounded}
 use Rattle.vs_play_laws.specs.Headline.{IsLawful, StaysShut, world_of}
 use Rattle.vs_play_laws.proofs.PlayLines.{after_both, cid_right, front_bounded, lines_of, lines_receive, lines_right, lines_send}
-use Rattle.vs_play_laws.proofs.PlayLines.{rest_bounded, world_is}
-use Rattle.vs_play_laws.proofs.Shutting.{IsShut, is_shut, run_shut}
+use Rattle.vs_play_laws.proofs.{PlayLines.rest_bounded, PlayLines.world_is, Shutting.IsShut, Shutting.is_shut, Shutting.run_shut}
 use Rattle.vs_play_laws.proofs.Unfailed.{script_fine}
-use Rattle.vs_play_laws.proofs.Spelled.{all_bounded}
 use Rattle.vs_play_laws.proofs.Reached.{carries, holds_open, holds_rest, keeps_credit, log_is, many_device, many_guest, own_streams, queued}
+use Rattle.vs_script.proofs.Bounded.{all_bounded}
 
 -- A play's host has no streams at first.
 abbrev play_host : HostContents
@@ -79,20 +60,8 @@ lines_fine : (es : List Event) (p : PlayWorld) → is_at_rest p.world.rings.driv
 lines_fine es p rest bounded well fine = subst (λ (w : World). w.proxy.device.failed ≡ None) (sym (world_is es p))
     (script_fine Fresh (lines_of es p) p.world rest well (lines_right es p bounded) fine)
 
--- What an end put stays once it told that it sends no more.
-stays_put : (role : Role) (older log : Log) (f : Flow) → Grows older log → IsFairLog role log
-    → has shuts_send (puts (history_of role f older)) ≡ true
-    → payload_put role f 1 log ≡ payload_put role f 1 older
-stays_put role older log f (newer, is) fair shut =
-    ap (payload_put role f 1) is ∙ shut_put role newer older f 1 (subst (IsFairLog role) is fair f) shut
-
 module _ (w v : World) (f : Flow) (well : IsWell Fresh w) (goes : Goes Fresh w v) where
-  kept : (role : Role) → has shuts_send (puts (history_of role f (at role (both_of w)).log)) ≡ true
-      → payload_put role f 1 (at role (both_of v)).log ≡ payload_put role f 1 (at role (both_of w)).log
-  kept role shut = stays_put role (at role (both_of w)).log (at role (both_of v)).log f (runs_grow role (both_of w) (both_of v) goes.runs)
-      (goes.well.sound.fair role) shut
-
-  -- The same from its decision on.
+  -- What an end put stays from its decision on that it sends no more.
   decided_put : (role : Role) → IsShut role first_cid f (at role (both_of w)).part (at role (both_of w)).log
       → put_on role f (at role (both_of v)).log ≡ put_on role f (at role (both_of w)).log
   decided_put role x = subst (λ (b : Both). put_on role f (at role b).log ≡ put_on role f (at role (both_of w)).log) goes.runs.ends
@@ -120,14 +89,9 @@ module _ (w v : World) (f : Flow) (well : IsWell Fresh w) (goes : Goes Fresh w v
 
   stays_shut : is_at_rest w.rings.driver.staged ≡ true → StaysShut f w v
   stays_shut rest = record {
-    sent = λ shut.
-        goes.well.sent f ∙ sym (all_put Driver (both_of v).driver.log f (goes.well.sound.fair Driver f))
-        ∙ kept Driver (ap (λ (log : Log). has shuts_send (puts (history_of Driver f log))) (log_is w well fresh rest) ∙ shut)
-        ∙ all_put Driver (both_of w).driver.log f (well.sound.fair Driver f) ∙ sym (well.sent f);
-    wrote = λ shut.
-        sym (wrote_is_put v.host _ _ _ _ (goes.well.streams fresh) f)
-        ∙ sym (all_put Device (both_of v).device.log f (goes.well.sound.fair Device f)) ∙ kept Device shut
-        ∙ all_put Device (both_of w).device.log f (well.sound.fair Device f) ∙ wrote_is_put w.host _ _ _ _ (well.streams fresh) f;
+    sent = λ shut. sent_stays w v well goes f
+        (ap (λ (log : Log). has shuts_send (puts (history_of Driver f log))) (log_is w well fresh rest) ∙ shut);
+    wrote = wrote_stays w v well goes f fresh;
     guest_shut = guest_decided;
     stream_ended = device_decided;
   }

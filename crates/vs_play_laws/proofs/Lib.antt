@@ -1,7 +1,4 @@
-pub mod Parsed
-pub mod Spelled
 pub mod PlayLines
-pub mod OwnStreams
 pub mod Unfailed
 pub mod Shutting
 pub mod Reached

@@ -3,23 +3,20 @@ use Rattle.std.proofs.Common.{◌≡◌, ◌≤◌, ◌^◌, ℕ, nat_lt, Bool, 
 use Rattle.std.proofs.lemmas.Bool.Decides.{nat_tests}
 use Rattle.vs_driver_parts.specs.Connections.{flow_of}
 use Rattle.vs_flow.specs.declared.flow.Flow.{Flow}
-use Rattle.vs_script.specs.Data.{bytes_of}
-use Rattle.vs_script.specs.Outside.{Host, Outside}
+use Rattle.vs_script.specs.{Data.bytes_of, Outside.Host, Outside.Outside}
 use Rattle.vs_script.specs.Outside as outside
 use Rattle.vs_script.specs.Play.{Event}
 use Rattle.vs_script.specs.Play as script
 use Rattle.vs_world.specs.Calls as call
-use Rattle.vs_world.specs.Calls.{is_on, received_on, sent_on}
-use Rattle.vs_world.specs.Events.{is_guest_cid}
-use Rattle.vs_world.specs.GuestSteps.{flow_named}
+use Rattle.vs_world.specs.{Calls.is_on, Calls.received_on, Calls.sent_on, Events.is_guest_cid, GuestSteps.flow_named}
 use Rattle.vs_world.specs.Plays.{AreRight, Line, after, is_given_right}
 use Rattle.vs_world.specs.Plays as world
 use Rattle.vs_world.specs.World.{World}
-use Rattle.vs_world.proofs.Payloads.{either_none, nothing_more}
-use Rattle.vs_play.specs.Answer.{world_after}
-use Rattle.vs_play.specs.Lines.{PlayWorld, event_played, host_line}
-use Rattle.vs_play_laws.specs.Bounded.{AreBounded, IsBounded}
+use Rattle.vs_world.proofs.Payloads.{either_none}
+use Rattle.vs_play.specs.{Answer.world_after, Lines.PlayWorld, Lines.event_played, Lines.host_line}
+use Rattle.vs_script.specs.Bounds.{AreBounded, IsBounded}
 use Rattle.vs_play_laws.specs.Said.{received_by, received_in, sent_by, sent_in}
+use Rattle.vs_pipes.proofs.Logs.{nothing_more}
 
 -- The line of the world that an event line is, at a moment. That time passes is none.
 abbrev lines_around : Outside → ℕ → List Line

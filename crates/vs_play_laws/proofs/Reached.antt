@@ -1,42 +1,27 @@
 -- What holds of a world in which nothing is staged, where it is well.
-use Rattle.std.proofs.Common.{◌≡◌, ◌≢◌, ℕ, suc, ◌&&◌, not, Bool, true, false, length, List, [], ◌∷◌, ◌++◌, Some, refl, sym, ap, subst}
+use Rattle.std.proofs.Common.{[], ap, Bool, false, get_or, length, List, not, refl, subst, suc, sym, true, ℕ, ◌&&◌, ◌++◌, ◌∷◌, ◌≡◌, ◌≢◌}
 use Rattle.std.proofs.Common.{◌∙◌, arith}
-use Rattle.std.proofs.lemmas.List.{length-map}
+use Rattle.std.proofs.lemmas.{List.length-map, Bool.and_parts}
 use Rattle.std.specs.List.{AllPairs}
-use Rattle.std.specs.Option.{option_map}
-use Rattle.std.proofs.lemmas.List.Elements.{All-map}
-use Rattle.std.proofs.lemmas.List.Kept.{AllPairs-cons}
+use Rattle.std.proofs.lemmas.List.{Elements.All-map, Elements.Contains-get_or, Kept.AllPairs-cons}
 use Rattle.vs_flow.specs.declared.flow.Flow.{Flow}
-use Rattle.vs_driver_parts.specs.State.{DriverEntry, GoneConnection}
-use Rattle.vs_device_parts.specs.State.{DeviceEntry}
 use Rattle.vs_history.specs.History.{History, IsFair, MayPut, Put, Side, gots, puts}
 use Rattle.vs_history.specs.declared.packet.Packet.{Packet}
-use Rattle.vs_matching.specs.Ends.{FlowEnd, begun_flows, flows_of, is_among}
-use Rattle.vs_matching.specs.Matches.{Matches, MatchesFlows}
+use Rattle.vs_matching.specs.{Ends.FlowEnd, Ends.begun_flows, Ends.flows_of, Ends.is_among, Matches.Matches, Matches.MatchesFlows}
 use Rattle.vs_matching.proofs.Tables.{all_open, driver_open, table_distinct, table_open}
-use Rattle.vs_outside.specs.Host.{Stream, stream_at}
-use Rattle.vs_outside.specs.HostBytes.{host_read, host_wrote}
 use Rattle.vs_page.specs.Fair.{IsFairLog, IsPrefixOf, payload_got, payload_put}
 use Rattle.vs_page.specs.Log.{Device, Driver, HasGotAll, Log, Role, side_of}
 use Rattle.vs_page.specs.Open.{WasOpened, is_left_open, is_open}
 use Rattle.vs_page.proofs.Opened.{was_opened}
-use Rattle.vs_page.proofs.PayloadLogs.{all_got, all_put, prefix}
 use Rattle.vs_pipes.specs.Drains.{Drains, receives}
-use Rattle.vs_world.specs.Received.{IsReceived, ReceivedOn, ReceivesOn}
-use Rattle.vs_pipes.specs.Streamed.{IsJoined, IsStreamed, Seen, gives, line_for, look, seen}
-use Rattle.vs_pipes.proofs.Hosts.{there as is_there}
-use Rattle.vs_pipes.proofs.Logs.{prefix_then}
 use Rattle.vs_ring_port.specs.EndLog.{all_put as with_pages}
-use Rattle.vs_world.specs.Calls.{received_on, sent_on}
-use Rattle.vs_world.specs.Events.{is_at_rest, none_staged}
-use Rattle.vs_world.specs.Sides.{device_ends, driver_ends, log_with_staged}
-use Rattle.vs_world.specs.World.{World, first_cid}
-use Rattle.vs_world.proofs.Bytes.{read_is_got, wrote_is_put}
-use Rattle.vs_world.proofs.Sound.{IsWell}
+use Rattle.vs_world.specs.{Calls.received_on, Calls.sent_on, Events.is_at_rest, Events.none_staged}
+use Rattle.vs_world.specs.{Sides.device_ends, Sides.driver_ends, Sides.log_with_staged, World.World, World.first_cid}
+use Rattle.vs_world.proofs.{Bytes.read_own, Bytes.wrote_own, Sound.IsWell}
+use Rattle.vs_world.proofs.Carried.{given_is, gone_of, one_stream, pending_of, received_is, sent_is, to_device, to_driver, to_guest}
+use Rattle.vs_world.proofs.Carried.{to_host, unread_of, wrote_is}
 use Rattle.vs_play_laws.specs.Headline.{Carries, HasOwnStreams, HoldsOpen, HoldsTheRest, IsQueued, KeepsCredit, PutsWithinCredit}
-use Rattle.vs_play_laws.specs.Headline.{device_flows, device_log}
-use Rattle.vs_play_laws.specs.Headline.{driver_log, guest_flows}
-use Rattle.vs_play_laws.proofs.OwnStreams.{read_own, wrote_own}
+use Rattle.vs_play_laws.specs.Headline.{device_flows, device_log, driver_log, guest_flows}
 
 -- No transmit page is staged.
 empty_by : (a : Bool) (pages : List (List ℕ)) (b : Bool) → (a && none_staged pages && b) ≡ true → pages ≡ []
@@ -44,14 +29,10 @@ empty_by a [] b is = refl
 empty_by true (p ∷ ps) b is = absurd cc
 empty_by false (p ∷ ps) b is = absurd cc
 
-left_by : (a b : Bool) → (a && not b) ≡ true → a ≡ true
-left_by true b is = refl
-left_by false b is = absurd cc
-
 -- A flow that is open was opened by the log.
 opened_by : (role : Role) (first : ℕ) (f : Flow) (log : Log) (owed : Bool) → is_open role first f log owed ≡ true
     → WasOpened role first f log
-opened_by role first f log owed is = was_opened role first f log (left_by (is_left_open role first f log) owed is)
+opened_by role first f log owed is = was_opened role first f log (and_parts (is_left_open role first f log) (not owed) is).0
 
 -- Each packet put on a fair log is within credit.
 allowed_at : (side : Side) (newer older : History) (p : Packet) → IsFair side (newer ++ Put p ∷ older)
@@ -95,88 +76,38 @@ module _ {fresh : Type 0} (w : World) (well : IsWell fresh w) (yes : fresh) (res
   device_matches : MatchesFlows Device first_cid (device_ends w.proxy) (device_log w)
   device_matches = (well.sound.matches Device).flows
 
-  received : IsReceived (λ f. received_on f w.journal) (driver_log w) w.driver
-  received = subst (λ (log : Log). IsReceived (λ f. received_on f w.journal) log w.driver) log_is well.received
+  -- What holds of the log with what is staged holds of the log.
+  at_rest : (P : Log → Type 0) → P (log_with_staged w.rings.driver) → P (driver_log w)
+  at_rest P of_staged = subst P log_is of_staged
 
-  streamed : IsStreamed w.host (device_log w) w.proxy.next_port w.proxy.device.table w.proxy.handshakes
-  streamed = well.streams yes
-
-  module _ (f : Flow) where
-    sent_is : payload_put Driver f 1 (driver_log w) ≡ sent_on f w.journal
-    sent_is = subst (λ (log : Log). payload_put Driver f 1 log ≡ sent_on f w.journal) log_is
-        (all_put Driver (log_with_staged w.rings.driver) f (well.sound.fair Driver f) ∙ sym (well.sent f))
-
-    wrote_is : payload_put Device f 1 (device_log w) ≡ host_wrote f 1 w.host
-    wrote_is = all_put Device (device_log w) f (device_fair f) ∙ wrote_is_put w.host _ _ _ _ streamed f
-
-    got_by_guest : IsPrefixOf (received_on f w.journal) (payload_got Driver f 1 (driver_log w))
-    got_by_guest = subst (λ (bytes : List ℕ). IsPrefixOf (received_on f w.journal) bytes) (sym (all_got Driver (driver_log w) f
-        (driver_fair f)))
-        (received.front f)
-
-    got_by_host : IsPrefixOf (host_read f 1 w.host) (payload_got Device f 1 (device_log w))
-    got_by_host = subst (λ (bytes : List ℕ). IsPrefixOf (host_read f 1 w.host) bytes) (sym (all_got Device (device_log w) f
-        (device_fair f)))
-        (read_is_got w.host _ _ _ _ streamed f)
-
-    to_driver : IsPrefixOf (payload_got Driver f 1 (driver_log w)) (payload_put Device f 1 (device_log w))
-    to_driver = prefix Driver (driver_log w) (device_log w) f 1 driver_ties
-
-    to_device : IsPrefixOf (payload_got Device f 1 (device_log w)) (payload_put Driver f 1 (driver_log w))
-    to_device = prefix Device (device_log w) (driver_log w) f 1 device_ties
-
-    pub carries : Carries w f
-    carries = record {
-      to_guest = subst (λ (bytes : List ℕ). IsPrefixOf (received_on f w.journal) bytes) wrote_is (prefix_then _ _ _ got_by_guest to_driver);
-      to_host = subst (λ (bytes : List ℕ). IsPrefixOf (host_read f 1 w.host) bytes) sent_is (prefix_then _ _ _ got_by_host to_device);
-      device_put = wrote_is;
-      driver_got = to_driver;
-      received = got_by_guest;
-      driver_put = sent_is;
-      device_got = to_device;
-      given = got_by_host;
-    }
-
-  -- What is unread.
-  unread_of : (e : DriverEntry) → ReceivesOn (λ f. received_on f w.journal) (driver_log w) e
-      → Drains (receives e.value.end) (received_on e.flow w.journal) e.value.unread (payload_got Driver e.flow 1 (driver_log w))
-  unread_of e x = subst (λ (bytes : List ℕ). Drains (receives e.value.end) (received_on e.flow w.journal) e.value.unread bytes)
-      (sym (all_got Driver (driver_log w) e.flow (driver_fair e.flow))) x.drains
-
-  left_of : (g : GoneConnection) → ReceivedOn (λ f. received_on f w.journal) (driver_log w) g
-      → IsPrefixOf (received_on g.flow w.journal ++ g.unread) (payload_got Driver g.flow 1 (driver_log w))
-  left_of g x = subst (λ (bytes : List ℕ). IsPrefixOf (received_on g.flow w.journal ++ g.unread) bytes)
-      (sym (all_got Driver (driver_log w) g.flow (driver_fair g.flow))) x.front
-
-  pending_of : (e : DeviceEntry) → IsJoined (look w.host) (device_log w) e
-      → (s : Stream) × (stream_at e.value.stream w.host ≡ Some s) × (s.label ≡ Some e.flow)
-      × Drains (gives e.value.end) s.given (e.value.ok_line ++ e.value.pending) (line_for e.flow ++ payload_got Device e.flow 1
-      (device_log w))
-  pending_of e j =
-      let st = is_there e.value.stream w.host j.stream j.there in (
-        st.stream,
-        st.at,
-        ap (λ (s : Seen). s.label) st.is ∙ j.label,
-        subst (λ (given : List ℕ). Drains (gives e.value.end) given (e.value.ok_line ++ e.value.pending)
-            (line_for e.flow ++ payload_got Device e.flow 1 (device_log w))) (ap (λ (s : Seen). s.given) (sym st.is))
-            (subst (λ (bytes : List ℕ). Drains (gives e.value.end) j.stream.given (e.value.ok_line ++ e.value.pending)
-            (line_for e.flow ++ bytes))
-            (sym (all_got Device (device_log w) e.flow (device_fair e.flow))) j.drains),
-      )
+  pub carries : (f : Flow) → Carries w f
+  carries f = record {
+    to_guest = to_guest w well yes f;
+    to_host = to_host w well yes f;
+    device_put = wrote_is w well yes f;
+    driver_got = at_rest (λ log. IsPrefixOf (payload_got Driver f 1 log) (payload_put Device f 1 (device_log w))) (to_driver w well f);
+    received = at_rest (λ log. IsPrefixOf (received_on f w.journal) (payload_got Driver f 1 log)) (received_is w well f);
+    driver_put = at_rest (λ log. payload_put Driver f 1 log ≡ sent_on f w.journal) (sent_is w well f);
+    device_got = at_rest (λ log. IsPrefixOf (payload_got Device f 1 (device_log w)) (payload_put Driver f 1 log)) (to_device w well f);
+    given = given_is w well yes f;
+  }
 
   pub holds_rest : HoldsTheRest w
   holds_rest = record {
-    unread = λ i d less. unread_of _ (received.held i d less);
-    gone = λ i d less. left_of _ (received.left i d less);
-    pending = λ i d less. pending_of _ (streamed.joined i d less);
+    unread = λ i d less. let e = get_or w.driver.table.entries i d in
+        at_rest (λ log. Drains (receives e.value.end) (received_on e.flow w.journal) e.value.unread (payload_got Driver e.flow 1 log))
+        (unread_of w well e (Contains-get_or w.driver.table.entries i d less));
+    gone = λ i d less. let g = get_or w.driver.gone i d in
+        at_rest (λ log. IsPrefixOf (received_on g.flow w.journal ++ g.unread) (payload_got Driver g.flow 1 log))
+        (gone_of w well g (Contains-get_or w.driver.gone i d less));
+    pending = λ i d less. pending_of w well yes _ (Contains-get_or w.proxy.device.table.entries i d less);
   }
 
   pub own_streams : HasOwnStreams w
   own_streams = record {
-    one = λ f i j s t at there label other. streamed.unique i j (seen s) (seen t) f (ap (option_map seen) at) (ap
-        (option_map seen) there) label other;
-    wrote = λ f i s at label. wrote_own w.host _ _ _ _ streamed f i s at label;
-    read = λ f i s at label. read_own w.host _ _ _ _ streamed f i s at label;
+    one = one_stream w well yes;
+    wrote = λ f i s at label. wrote_own w.host _ _ _ _ (well.streams yes) f i s at label;
+    read = λ f i s at label. read_own w.host _ _ _ _ (well.streams yes) f i s at label;
   }
 
   -- The tables.

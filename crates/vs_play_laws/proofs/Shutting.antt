@@ -1,7 +1,6 @@
 -- An end that decided to send no more on a connection puts no payload there.
 use Rattle.std.proofs.Common.{◌≡◌, ℕ, ◌≤◌, ◌&&◌, ◌||◌, not, Bool, true, false, cond, List, [], ◌∷◌, ◌++◌, length, Option, Some, None}
-use Rattle.std.proofs.Common.{IsOkAnd, Ok, Err, refl, sym, ap}
-use Rattle.std.proofs.Common.{subst, ◌∙◌}
+use Rattle.std.proofs.Common.{IsOkAnd, Ok, Err, refl, sym, ap, subst, ◌∙◌}
 use Rattle.std.proofs.lemmas.List.{append-nil}
 use Rattle.vs_conn.specs.End.{ConnectionEnd, answering, after_message, after_op, asked, end_after, is_stream, paid_of, state_may_send}
 use Rattle.vs_conn.specs.End.{verdict_of, with_payload_sent}
@@ -16,23 +15,19 @@ use Rattle.vs_flow.specs.Flow.{same_flow}
 use Rattle.vs_flow.specs.declared.flow.Flow.{Flow}
 use Rattle.vs_flow.proofs.Entries.{same_flow_true}
 use Rattle.vs_header.specs.Op.{op_named}
-use Rattle.vs_header.specs.declared.Header.{Header}
-use Rattle.vs_header.specs.declared.Op.{Op}
+use Rattle.vs_header.specs.declared.{Header.Header, Op.Op}
 use Rattle.vs_header.specs.declared.Op.TheVariants as op
-use Rattle.vs_history.specs.History.{Got, History, Put, Side, puts}
-use Rattle.vs_history.specs.Packets.{is_request, is_rst}
+use Rattle.vs_history.specs.{History.Got, History.History, History.Put, History.Side, History.puts, Packets.is_request, Packets.is_rst}
 use Rattle.vs_history.specs.declared.packet.Packet.{Packet}
 use Rattle.vs_matching.specs.Both.{Both, Decides, Decision, Forwards, Shuts, Aborts, WantsCredit, Grows, Happening, IsSound, MayHappen}
 use Rattle.vs_matching.specs.Both.{MayRun, Step, Opens, Asks, Sends, Pays, Replies, Takes, PutsEvent, TakesEvent, MakesReset, TakesReset}
 use Rattle.vs_matching.specs.Both.{after, after_packet, answered, at, decided, happens, run}
-use Rattle.vs_matching.specs.Ends.{Ends, ends_of, replaced, without_flow}
-use Rattle.vs_matching.specs.Heard.{heard_of, is_empty}
+use Rattle.vs_matching.specs.{Ends.Ends, Ends.ends_of, Ends.replaced, Ends.without_flow, Heard.heard_of, Heard.is_empty}
 use Rattle.vs_matching.specs.Matches.{IsLeftOn, MatchesFlows}
 use Rattle.vs_matching.specs.Steps.{HasEnd, accepted, asking, opened, owed_on, paid, payload_on, reply_on, request_on}
 use Rattle.vs_matching.proofs.Both.{next_is_fair, step_keeps}
 use Rattle.vs_matching.proofs.Entries.{added_other, replaced_other, replaced_same, without_other, without_same}
-use Rattle.vs_matching.proofs.Fair.{empty_is, got_asks, heard_none}
-use Rattle.vs_matching.proofs.Tables.{only_end}
+use Rattle.vs_matching.proofs.{Fair.empty_is, Fair.got_asks, Fair.heard_none, Tables.only_end}
 use Rattle.vs_page.specs.Fair.{IsFairLog, payload_of}
 use Rattle.vs_page.specs.Log.{Device, Driver, Log, Role, flow_got, flow_put, history_of, side_of}
 use Rattle.vs_page.specs.Open.{is_dropped}

@@ -8,51 +8,35 @@ use Rattle.vs_conn.specs.declared.end.Verdict.{Verdict}
 use Rattle.vs_flow.specs.Table.{entry_under, slots}
 use Rattle.vs_header.specs.Packet.{header_of}
 use Rattle.vs_header.specs.declared.Header.{Header}
-use Rattle.vs_ring_port.specs.Chains.{bytes_in}
-use Rattle.vs_ring_port.specs.Contents.{PublishCid, Return, Take}
-use Rattle.vs_ring_port.specs.Lists.{chain_with}
+use Rattle.vs_ring_port.specs.{Chains.bytes_in, Contents.PublishCid, Contents.Return, Contents.Take, Lists.chain_with}
 use Rattle.vs_ring_port.specs.declared.device_ring.Chain.{Chain}
 use Rattle.vs_ring_port.specs.declared.failure.Failure.{Failure}
 use Rattle.vs_ring_port.specs.declared.failure.Failure.TheVariants as failure
 use Rattle.vs_ring_port.specs.declared.queue.Queue.TheVariants as q
-use Rattle.vs_device_parts.specs.Calls.{CloseStream, DeviceTree, Ring}
-use Rattle.vs_device_parts.specs.Connections.{stream_closed, with_connection}
-use Rattle.vs_device_parts.specs.State.{DeviceEntry, DeviceState}
-use Rattle.vs_device_parts.specs.Transmitting.{failing, on_next, on_packet}
+use Rattle.vs_device_parts.specs.{Calls.CloseStream, Calls.DeviceTree, Calls.Ring, Connections.stream_closed, Connections.with_connection}
+use Rattle.vs_device_parts.specs.{State.DeviceEntry, State.DeviceState, Transmitting.failing, Transmitting.on_next, Transmitting.on_packet}
 use Rattle.vs_device_parts.specs.Turns.{after_reset, close_slot}
 use Rattle.vs_device_parts.specs.declared.answers.Taken.{Taken}
 use Rattle.vs_device_parts.specs.declared.answers.Taken.TheVariants as taken
 use Rattle.vs_device_parts.specs.declared.limits.TheConstants.{REPLIES}
 use Rattle.vs_proxy_parts.specs.Handshakes.{shake_hands, streams_of}
 use Rattle.vs_proxy_parts.specs.State.{ProxyState, Turning, start, with_device}
-use Rattle.vs_proxy_parts.specs.Turns.{close_handshake, event_stage, fill_stage, proxy_reset_of, pump_stage, reset_with, take_one, take_stage}
-use Rattle.vs_proxy_parts.specs.Turns.{tick_stage, turned, unless_failed}
+use Rattle.vs_proxy_parts.specs.Turns.{close_handshake, event_stage, fill_stage, proxy_reset_of, pump_stage, reset_with, take_one}
+use Rattle.vs_proxy_parts.specs.Turns.{take_stage, tick_stage, turned, unless_failed}
 use Rattle.vs_proxy_parts.specs.declared.answers.Turn.{Turn}
-use Rattle.vs_world.specs.Answers.{Around, answer_around}
-use Rattle.vs_world.specs.Events.{is_at_rest}
-use Rattle.vs_world.specs.Pages.{AllHold, PageHolds}
+use Rattle.vs_world.specs.{Answers.Around, Answers.answer_around, Events.is_at_rest, Pages.AllHold, Pages.PageHolds}
 use Rattle.vs_world.specs.Plays.{Line, Guest, Poll, TurnAt, ResetTo, Client, HostListen, HostUnlisten, HostWrite, HostAllow, HostEnd}
 use Rattle.vs_world.specs.Plays.{HostClosed, HostFail, AreRight, after, line, reset_line, turn_line}
-use Rattle.vs_world.specs.Steps.{Leads}
-use Rattle.vs_world.specs.World.{World, around}
-use Rattle.vs_world.proofs.Chains.{same_self}
-use Rattle.vs_world.proofs.DeviceEvents.{header_is}
+use Rattle.vs_world.specs.{Steps.Leads, World.World, World.around}
 use Rattle.vs_world.proofs.DeviceLeads.{Does, EndsFine, device_bind, ends_played, plays, with_proxy}
-use Rattle.vs_world.proofs.FillStage.{fill_stage_does}
-use Rattle.vs_world.proofs.Opening.{run_goes}
-use Rattle.vs_world.proofs.PumpStage.{pump_stage_does}
-use Rattle.vs_world.proofs.ScriptLines.{line_leads, line_rests}
-use Rattle.vs_world.proofs.Sound.{IsWell}
+use Rattle.vs_world.proofs.{FillStage.fill_stage_does, Opening.run_goes, PumpStage.pump_stage_does}
+use Rattle.vs_world.proofs.{ScriptLines.line_leads, ScriptLines.line_rests, Sound.IsWell}
 use Rattle.vs_world.proofs.TakeStage.{counts, event_stage_does, take_goes, take_stage_leads}
-use Rattle.vs_world.proofs.TickStage.{shake_does, tick_stage_does, turning_at}
+use Rattle.vs_world.proofs.{TickStage.shake_does, TickStage.tick_stage_does, TickStage.turning_at, ResetTables.all_ends}
+use Rattle.vs_device_log.proofs.{Transmitting.header_is, Ringing.same_self}
 
 abbrev IsFine : ProxyState → Type 0
 IsFine p = p.device.failed ≡ None
-
--- What holds of every value holds of each end.
-all_done : {A : Type 0} (P : A → Type 0) → ((x : A) → P x) → (tree : DeviceTree A) → AllEnds P tree
-all_done P all (Done x) = all x
-all_done P all (Ask call k) = λ a. all_done P all (k a)
 
 -- Events lead to a world that is well.
 well_after : (fresh : Type 0) (w v : World) → IsWell fresh w → Leads w v → IsWell fresh v
@@ -93,7 +77,7 @@ module _ (w : World) (t : Turning) where
         (ends_bind (λ (r : DeviceState × Taken). AllEnds (λ (x : Turning × Bool). x.1
         ≡ true) (counts (turning_at here t) r)) (on_packet c h s)
         (λ r. Ask (Ring (Return c 0)) (λ _. Done (r.0, taken.Packet r.1)))
-        (all_done (λ (r : DeviceState × Verdict). (b : Unit {0}) → AllEnds (λ (x : Turning × Bool). x.1 ≡ true)
+        (all_ends (λ (r : DeviceState × Verdict). (b : Unit {0}) → AllEnds (λ (x : Turning × Bool). x.1 ≡ true)
         (counts (turning_at here t) (r.0, taken.Packet r.1))) (λ r b. refl) (on_packet c h s))))
 
     header_ends : (h : Header) (b : Bool) → b ≡ false
@@ -224,7 +208,7 @@ ResetFine r = IsFine r.0
 hands_fine : (d : DeviceState) (s : ProxyState) → d.failed ≡ None → AllEnds ResetFine (reset_with (d, Ok tt) s)
 hands_fine d s fine =
     ends_bind ResetFine (for_each close_handshake (streams_of s) s) (λ t. Done (record (with_device d t) { handshakes = [] }, Ok tt))
-    (all_done (λ (t : ProxyState). IsFine (record (with_device d t) { handshakes = [] })) (λ t. fine) (for_each close_handshake
+    (all_ends (λ (t : ProxyState). IsFine (record (with_device d t) { handshakes = [] })) (λ t. fine) (for_each close_handshake
     (streams_of s) s))
 
 reset_ends : (cid : ℕ) (s : ProxyState) (o : Option Failure) → o ≡ None → s.device.failed ≡ None → AllEnds ResetFine (bind

@@ -1,4 +1,3 @@
-pub mod Bounded
 pub mod Said
 pub mod Headline
 pub mod Worked

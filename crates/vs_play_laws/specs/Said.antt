@@ -1,16 +1,12 @@
 -- What a play's lines sent and received on a connection, by the answers that they printed.
 use Rattle.std.specs.Prelude.{ℕ, if◌then◌else◌, List, [], ◌∷◌, ◌++◌}
 use Rattle.vs_flow.specs.declared.flow.Flow.{Flow}
-use Rattle.vs_driver_parts.specs.Connections.{flow_of, recv_of, unread_of_id}
-use Rattle.vs_driver_parts.specs.Conversations.{send_of}
-use Rattle.vs_driver_parts.specs.declared.answers.Received.{Received}
-use Rattle.vs_driver_parts.specs.declared.answers.Sent.{Sent}
+use Rattle.vs_driver_parts.specs.{Connections.flow_of, Connections.recv_of, Connections.unread_of_id, Conversations.send_of}
+use Rattle.vs_driver_parts.specs.declared.answers.{Received.Received, Sent.Sent}
 use Rattle.vs_script.specs.Data.{Content, bytes_of}
 use Rattle.vs_script.specs.Play as script
 use Rattle.vs_script.specs.Play.{Event}
-use Rattle.vs_world.specs.Calls.{is_on, took}
-use Rattle.vs_world.specs.GuestSteps.{bytes_got}
-use Rattle.vs_world.specs.World.{driver_plays}
+use Rattle.vs_world.specs.{Calls.is_on, Calls.took, GuestSteps.bytes_got, World.driver_plays}
 use Rattle.vs_play.specs.Lines.{PlayWorld, event_played}
 
 -- The answer of `send C DATA`.

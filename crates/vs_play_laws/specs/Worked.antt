@@ -2,12 +2,9 @@
 use Rattle.std.specs.Prelude.{ℕ, Bool, true, false, List, [], map, codes, Result, Ok}
 use Rattle.vs_flow.specs.declared.flow.Flow.{Flow}
 use Rattle.vs_outside.specs.HostBytes.{host_read, host_wrote}
-use Rattle.vs_page.specs.Fair.{payload_got, payload_put}
-use Rattle.vs_page.specs.Log.{Device, Driver}
-use Rattle.vs_page.specs.Open.{is_open}
+use Rattle.vs_page.specs.{Fair.payload_got, Fair.payload_put, Log.Device, Log.Driver, Open.is_open}
 use Rattle.vs_matching.specs.Ends.{is_among}
-use Rattle.vs_script.specs.Play.{Event}
-use Rattle.vs_script.specs.Script.{Saying, Plays, parse_of}
+use Rattle.vs_script.specs.{Play.Event, Script.Saying, Script.Plays, Script.parse_of}
 use Rattle.vs_script.specs.declared.fault.Refused.{Refused}
 use Rattle.vs_script.specs.declared.script.Command.TheVariants as command
 use Rattle.vs_world.specs.World.{World, first_cid}

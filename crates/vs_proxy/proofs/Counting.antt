@@ -1,6 +1,7 @@
 -- How many connections may come and leave in the device's calls.
 use Rattle.std.specs.Prelude.{if◌then◌else◌, Result, Ok, Err}
-use Rattle.std.proofs.Common.{◌≡◌, ℕ, zero, suc, ◌+◌, ◌≤◌, Bool, true, false, cond, List, [], ◌∷◌, length, ◌==◌, Option, Some, None, refl, arith}
+use Rattle.std.proofs.Common.{◌≡◌, ℕ, zero, suc, ◌+◌, ◌≤◌, Bool, true, false, cond, List, [], ◌∷◌, length, ◌==◌, Option, Some, None, refl}
+use Rattle.std.proofs.Common.{arith}
 use Rattle.vs_contents.specs.CallTree.{Done, Ask, bind, for_each, while_up_to}
 use Rattle.vs_contents.proofs.Leads.{AllEnds, ends_bind, ends_weaker}
 use Rattle.vs_flow.specs.Table.{entry_under, slots}
@@ -9,20 +10,18 @@ use Rattle.vs_outside.specs.declared.host_net.StreamWrite.TheVariants as write
 use Rattle.vs_ring_port.specs.declared.device_ring.Next.{Next}
 use Rattle.vs_ring_port.specs.declared.device_ring.Next.TheVariants as next
 use Rattle.vs_wrap.specs.Wrap.{counted}
-use Rattle.vs_device_parts.specs.Calls.{DeviceTree}
+use Rattle.vs_device_parts.specs.Calls.{DeviceTree, Ring, Label, CloseStream, WriteStream, ShutWrite}
 use Rattle.vs_device_parts.specs.State.{DeviceConnection, DeviceState, DeviceEntry}
-use Rattle.vs_device_parts.specs.Streams.{closing, leaving, tick_slot, tick_of, Writing, pump_of, pump_slot, write_answered, write_pending, shut_write, to_write, is_written_out}
-use Rattle.vs_device_parts.specs.Connections.{is_timed_out, cut_off, stream_closed}
+use Rattle.vs_device_parts.specs.Streams.{closing, leaving, tick_slot, tick_of, Writing, pump_of, pump_slot, write_answered, write_pending}
+use Rattle.vs_device_parts.specs.Streams.{shut_write, to_write, is_written_out}
+use Rattle.vs_device_parts.specs.Connections.{is_timed_out, cut_off, stream_closed, with_connection, with_fault, after_leaving, with_client}
+use Rattle.vs_device_parts.specs.{Receiving.event_on, Receiving.pay_event_of, Turns.open_of}
 use Rattle.vs_flow.specs.declared.flow.Flow.{Flow}
 use Rattle.vs_flow.specs.declared.table.TableFault.{TableFault}
 use Rattle.vs_flow.specs.Table.{refusal}
 use Rattle.vs_ring_port.specs.declared.failure.Failure.{Failure}
 use Rattle.vs_ring_port.specs.declared.queue.Queue.TheVariants.{Event}
 use Rattle.vs_ring_port.specs.Contents.{Take}
-use Rattle.vs_device_parts.specs.Calls.{Ring, Label, CloseStream, WriteStream, ShutWrite}
-use Rattle.vs_device_parts.specs.Connections.{with_connection, with_fault, after_leaving, with_client}
-use Rattle.vs_device_parts.specs.Receiving.{event_on, pay_event_of}
-use Rattle.vs_device_parts.specs.Turns.{open_of}
 use Rattle.vs_proxy_parts.specs.Turning.{CountsFew}
 
 pub one_more : (n : ℕ) → counted n ≤ n + 1

@@ -1,16 +1,12 @@
 -- A transport reset of the proxy.
-use Rattle.std.specs.Prelude.{Result, Ok, Err}
+use Rattle.std.specs.Prelude.{Result, Ok}
 use Rattle.std.proofs.Common.{◌≡◌, ℕ, [], refl, sym, ap}
 use Rattle.vs_contents.specs.CallTree.{Done, for_each}
-use Rattle.vs_contents.proofs.Leads.{leads_bind}
-use Rattle.vs_contents.proofs.Conditions.{may_first, may_rest}
+use Rattle.vs_contents.proofs.{Leads.leads_bind, Conditions.may_first, Conditions.may_rest}
 use Rattle.vs_ring_port.specs.declared.failure.Failure.{Failure}
-use Rattle.vs_device_parts.specs.Calls.{DeviceTree, Situation, Allows}
-use Rattle.vs_device_parts.specs.Playing.{CanMake, MayRun, Runs}
-use Rattle.vs_device_parts.specs.State.{DeviceState}
-use Rattle.vs_device_parts.specs.Turns.{reset_of}
-use Rattle.vs_proxy_parts.specs.Handshakes.{streams_of}
-use Rattle.vs_proxy_parts.specs.State.{ProxyState, with_device}
+use Rattle.vs_device_parts.specs.{Calls.DeviceTree, Calls.Situation, Calls.Allows, Playing.CanMake, Playing.MayRun, Playing.Runs}
+use Rattle.vs_device_parts.specs.{State.DeviceState, Turns.reset_of}
+use Rattle.vs_proxy_parts.specs.{Handshakes.streams_of, State.ProxyState, State.with_device}
 use Rattle.vs_proxy_parts.specs.Turns.{close_handshake, proxy_reset_of, reset_with}
 
 module _ (cid : ℕ) (s : ProxyState) where
@@ -26,11 +22,6 @@ module _ (cid : ℕ) (s : ProxyState) where
   pub may_close_all : (d : DeviceState) (x y : Situation) → MayRun (proxy_reset_of cid s) x → Runs (reset_of cid s.device) x (d, Ok tt) y → MayRun (for_each close_handshake (streams_of s) s) y
   may_close_all d x y may runs =
       may_first CanMake Allows (for_each close_handshake (streams_of s) s) (emptied_with d) y (may_rest CanMake Allows (reset_of cid s.device) then_close x y (d, Ok tt) may runs)
-
-  pub refused : (d : DeviceState) (f : Failure) (u : ProxyState) (x y : Situation) → Runs (reset_of cid s.device) x (d, Err f) y → u ≡ with_device d s → Runs (proxy_reset_of cid s) x (u, Err f) y
-  refused d f u x y runs end =
-      let last = ap (λ (v : ProxyState). let r : ProxyState × Result (Unit {0}) Failure = (v, Err f) in r) (sym end) in
-      leads_bind Allows (reset_of cid s.device) then_close x y y (d, Err f) (u, Err f) runs (last, refl)
 
   pub was_reset : (d : DeviceState) (u : ProxyState) (x y z : Situation) → Runs (reset_of cid s.device) x (d, Ok tt) y → Runs (for_each close_handshake (streams_of s) s) y s z
       → u ≡ record (with_device d s) { handshakes = [] } → Runs (proxy_reset_of cid s) x (u, Ok tt) z

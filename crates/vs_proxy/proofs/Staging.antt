@@ -1,23 +1,16 @@
 -- Stages that are left out once the ring failed.
 use Rattle.std.specs.Prelude.{Result}
-use Rattle.std.proofs.Common.{◌≡◌, ℕ, ◌+◌, Bool, true, false, List, Option, Some, None, is_some, refl, sym, ap, subst, ◌∙◌}
-use Rattle.std.specs.Option.{IfSome}
+use Rattle.std.proofs.Common.{◌≡◌, ℕ, ◌+◌, Bool, true, false, Option, Some, None, is_some, refl, sym, ap}
 use Rattle.vs_contents.specs.CallTree.{Done}
-use Rattle.vs_contents.proofs.Leads.{leads_bind, leads_of}
-use Rattle.vs_contents.proofs.Conditions.{may_first, may_of, may_rest}
-use Rattle.vs_ring_port.specs.declared.device_ring.Chain.{Chain}
+use Rattle.vs_contents.proofs.{Leads.leads_bind, Leads.leads_of, Conditions.may_first, Conditions.may_of, Conditions.may_rest}
 use Rattle.vs_ring_port.specs.declared.failure.Failure.{Failure}
-use Rattle.vs_device_parts.specs.Calls.{DeviceTree, Situation, Allows}
-use Rattle.vs_device_parts.specs.Playing.{CanMake, IsItsRing, IsRxChain, MayRun, Runs, held_by}
-use Rattle.vs_device_parts.specs.Receiving.{fill_rx_of, pay_event_of}
-use Rattle.vs_device_parts.specs.State.{DeviceState}
-use Rattle.vs_device_parts.specs.Streams.{Writing, pump_of, tick_of}
-use Rattle.vs_device_parts.specs.Transmitting.{take_tx_of}
-use Rattle.vs_device_parts.specs.declared.answers.Filled.{Filled}
-use Rattle.vs_device_parts.specs.declared.answers.Taken.{Taken}
-use Rattle.vs_proxy_parts.specs.Handshakes.{tick_handshakes}
-use Rattle.vs_proxy_parts.specs.State.{Turning}
-use Rattle.vs_proxy_parts.specs.Turns.{device_after, event_stage, fill_stage, filled, pump_stage, take_one, take_stage, tick_stage, took_packet, unless_failed}
+use Rattle.vs_device_parts.specs.{Calls.DeviceTree, Calls.Situation, Calls.Allows, Playing.CanMake, Playing.MayRun, Playing.Runs}
+use Rattle.vs_device_parts.specs.{Receiving.fill_rx_of, Receiving.pay_event_of, State.DeviceState}
+use Rattle.vs_device_parts.specs.{Streams.Writing, Streams.pump_of, Streams.tick_of, Transmitting.take_tx_of}
+use Rattle.vs_device_parts.specs.declared.answers.{Filled.Filled, Taken.Taken}
+use Rattle.vs_proxy_parts.specs.{Handshakes.tick_handshakes, State.Turning}
+use Rattle.vs_proxy_parts.specs.Turns.{device_after, event_stage, fill_stage, filled, pump_stage, take_one, tick_stage, took_packet}
+use Rattle.vs_proxy_parts.specs.Turns.{unless_failed}
 
 no_failure : (o : Option Failure) → is_some o ≡ false → o ≡ None
 no_failure None is = refl
@@ -27,13 +20,6 @@ module _ (stage : Turning → DeviceTree Turning) (t : Turning) where
   abbrev staged : Option Failure → DeviceTree Turning
   staged o = elim o [ Some f ↦ Done t | None ↦ stage t ]
 
-  pub left_out : (c : Situation) → is_some t.state.device.failed ≡ true → Runs (unless_failed stage t) c t c
-  left_out c is = by t.state.device.failed is
-    where
-      by : (o : Option Failure) → is_some o ≡ true → Runs (staged o) c t c
-      by (Some f) is = (refl, refl)
-      by None is = absurd cc
-
   goes_as : is_some t.state.device.failed ≡ false → unless_failed stage t ≡ stage t
   goes_as is = ap staged (no_failure t.state.device.failed is)
 
@@ -42,13 +28,6 @@ module _ (stage : Turning → DeviceTree Turning) (t : Turning) where
 
   pub may_stage : (c : Situation) → is_some t.state.device.failed ≡ false → MayRun (unless_failed stage t) c → MayRun (stage t) c
   may_stage c is may = may_of CanMake Allows _ _ c (goes_as is) may
-
--- a device that holds what it held has its ring
-pub same_ring : (held : List Chain) (s t : DeviceState) → is_some s.failed ≡ false → t.chain ≡ s.chain → IsItsRing held s → IsItsRing held t
-same_ring held s t sound chain ring = λ none.
-    let r = ring (no_failure s.failed sound) in
-    let P : Option Chain → Type 0 = λ o. IfSome o IsRxChain in
-    record { chains = r.chains ∙ ap held_by (sym chain); rx = subst P (sym chain) r.rx }
 
 -- The stages, each a call of the device.
 module _ (t : Turning) (x : Situation) (sound : is_some t.state.device.failed ≡ false) where
@@ -74,10 +53,6 @@ module _ (t : Turning) (x : Situation) (sound : is_some t.state.device.failed �
 
   pub paid : (r : DeviceState × Result Bool Failure) (u : Turning) (y : Situation) → Runs (pay_event_of t.state.device) x r y → u ≡ device_after r.0 t → Runs (unless_failed event_stage t) x u y
   paid r u y runs end = ran event_stage t u x y sound (leads_bind Allows (pay_event_of t.state.device) then_event x y y r u runs (sym end, refl))
-
-  -- packets from the guest
-  pub may_take : (size : ℕ) → MayRun (unless_failed (take_stage size) t) x → MayRun (take_stage size t) x
-  may_take size may = may_stage (take_stage size) t x sound may
 
   -- writes
   abbrev then_pump : Writing → DeviceTree Turning

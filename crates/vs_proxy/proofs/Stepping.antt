@@ -3,10 +3,8 @@ use Rattle.std.proofs.Common.{◌≡◌, ℕ, Bool, true, false, Option, None, s
 use Rattle.std.specs.Option.{ForSome}
 use Rattle.vs_outside.specs.Host.{HostContents}
 use Rattle.vs_ring_port.specs.Contents.{RingContents}
-use Rattle.vs_device_parts.specs.Calls.{Allows, Call, DeviceTree, Situation}
-use Rattle.vs_device_parts.specs.Playing.{RunsOnHost, situation}
-use Rattle.vs_device_laws.specs.Split.{CanReach, is_quiet}
-use Rattle.vs_device_laws.specs.Streams.{HasStreams}
+use Rattle.vs_device_parts.specs.{Calls.Allows, Calls.Call, Calls.DeviceTree, Calls.Situation, Playing.RunsOnHost, Playing.situation}
+use Rattle.vs_device_laws.specs.{Split.CanReach, Split.is_quiet, Streams.HasStreams}
 use Rattle.vs_device_laws.proofs.Keeping.{Keeps, keeps_end}
 use Rattle.vs_proxy_parts.specs.Handshakes.{accept_one, read_byte, streams_of, tick_handshake}
 use Rattle.vs_proxy_parts.specs.State.{ProxyState, Turning, start}

@@ -7,21 +7,16 @@ use Rattle.vs_conn.specs.End.{verdict_of, is_stream, is_reset}
 use Rattle.vs_conn.specs.declared.end.Verdict.{Verdict}
 use Rattle.vs_conn.specs.declared.end.Verdict.TheVariants as verdict
 use Rattle.vs_conn.specs.declared.end.Why.TheVariants as why
-use Rattle.vs_flow.specs.Flow.{is_assigned}
-use Rattle.vs_flow.specs.Table.{entry_of, has_place}
-use Rattle.vs_header.specs.Op.{op_number}
-use Rattle.vs_header.specs.Packet.{header_of}
-use Rattle.vs_header.specs.declared.Header.{Header}
+use Rattle.vs_flow.specs.{Flow.is_assigned, Table.entry_of, Table.has_place}
+use Rattle.vs_header.specs.{Op.op_number, Packet.header_of}
+use Rattle.vs_header.specs.declared.{Header.Header, TheConstants.HEADER_LEN}
 use Rattle.vs_header.specs.declared.Op.TheVariants.{Request}
-use Rattle.vs_header.specs.declared.TheConstants.{HEADER_LEN}
 use Rattle.vs_outside.specs.declared.host_net.Dialed.{Dialed}
 use Rattle.vs_outside.specs.declared.host_net.Dialed.TheVariants as dialed
-use Rattle.vs_page.specs.Log.{flow_to_host, Device}
-use Rattle.vs_page.specs.Open.{is_dropped}
+use Rattle.vs_page.specs.{Log.flow_to_host, Log.Device, Open.is_dropped}
 use Rattle.vs_replies.specs.Owed.{reply_to}
 use Rattle.vs_ring_port.specs.Contents.{Take, Return}
-use Rattle.vs_ring_port.specs.declared.device_ring.Chain.{Chain}
-use Rattle.vs_ring_port.specs.declared.device_ring.Next.{Next}
+use Rattle.vs_ring_port.specs.declared.device_ring.{Chain.Chain, Next.Next}
 use Rattle.vs_ring_port.specs.declared.device_ring.Next.TheVariants as next
 use Rattle.vs_ring_port.specs.declared.failure.Failure.{Failure}
 use Rattle.vs_ring_port.specs.declared.failure.Failure.TheVariants as failure
@@ -31,11 +26,10 @@ use Rattle.vs_device_parts.specs.declared.answers.Taken.{Taken}
 use Rattle.vs_device_parts.specs.declared.answers.Taken.TheVariants as taken
 use Rattle.vs_device_parts.specs.declared.limits.TheConstants.{REPLIES}
 use Rattle.vs_wrap.specs.Wrap.{counted}
-use Rattle.vs_device_parts.specs.Calls.{DeviceTree, Ring, Dial}
-use Rattle.vs_device_parts.specs.Connections.{with_connection, with_reply}
-use Rattle.vs_device_parts.specs.State.{DeviceEntry, DeviceState}
-use Rattle.vs_device_parts.specs.Streams.{leaving}
-use Rattle.vs_device_parts.specs.Transmitting.{dial_answered, failing, heard, on_header, on_known, on_next, on_packet, on_unknown, refused, take_tx_of, try_request, unknown_why}
+use Rattle.vs_device_parts.specs.{Calls.DeviceTree, Calls.Ring, Calls.Dial, Connections.with_connection, Connections.with_reply}
+use Rattle.vs_device_parts.specs.{State.DeviceEntry, State.DeviceState, Streams.leaving}
+use Rattle.vs_device_parts.specs.Transmitting.{dial_answered, failing, heard, on_header, on_known, on_next, on_packet, on_unknown, refused}
+use Rattle.vs_device_parts.specs.Transmitting.{take_tx_of, try_request, unknown_why}
 use Rattle.vs_proxy_parts.specs.Turning.{CountsFew}
 use Rattle.vs_proxy.proofs.Counting.{Ends, few_more, leaving_few, one_more, same_few}
 

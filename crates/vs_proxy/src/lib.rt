@@ -6,8 +6,6 @@ mod proxy;
 mod shaking;
 mod stages;
 pub mod steps;
-#[cfg(test)]
-mod tests;
 mod turns;
 
 pub use proxy::Proxy;

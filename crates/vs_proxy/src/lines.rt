@@ -2,16 +2,13 @@
 
 ghost use Rattle.std.specs.Prelude.{◌≡◌, ◌≤◌, ◌<◌, ◌+◌, ◌*◌, ◌^◌, ◌∷◌, [], Some, true};
 ghost use Rattle.std.specs.Option.{ForSome, is_some};
-ghost use Rattle.vs_contents.specs.CallTree.{while_up_to};
 ghost use Rattle.vs_outside.specs.Host.{IsOpen};
 ghost use Rattle.vs_outside.specs.declared.host_net.StreamRead.TheVariants as read;
 ghost use Rattle.vs_uds.specs.declared.connect.TheConstants.{CONNECT_MAX};
-ghost use Rattle.vs_device_parts.specs.Calls.{CloseStream};
-ghost use Rattle.vs_device_parts.specs.Playing.{AllowsOnHost, MayRunOnHost, RunsOnHost};
+ghost use Rattle.vs_device_parts.specs.{Calls.CloseStream, Playing.AllowsOnHost, Playing.MayRunOnHost, Playing.RunsOnHost};
 ghost use Rattle.vs_proxy_parts.specs.declared.limits.TheConstants.{HANDSHAKES};
 ghost use Rattle.vs_proxy_parts.specs.Handshakes.{byte_read, handshake_on, may_open, read_byte, read_line, shake_hands};
-ghost use Rattle.vs_proxy_parts.specs.State.{Handshake};
-ghost use Rattle.vs_proxy_parts.specs.Turning.{CountsFew, connecting, read_lines, turning_of};
+ghost use Rattle.vs_proxy_parts.specs.{State.Handshake, Turning.CountsFew, Turning.connecting, Turning.read_lines, Turning.turning_of};
 
 use crate::proxy::Proxy;
 use vs_flow::{ASSIGNED_LAST, Flow};

@@ -4,11 +4,9 @@ ghost use Rattle.std.specs.Prelude.{◌≡◌, ◌≤◌, ℕ, [], Some, IfOk, l
 ghost use Rattle.vs_outside.specs.Host.{HostContents};
 ghost use Rattle.vs_ring_port.specs.EndLog.{EndLog};
 ghost use Rattle.vs_uds.specs.declared.path.TheConstants.{BASE_MAX};
-ghost use Rattle.vs_device_parts.specs.Calls.{Situation};
-ghost use Rattle.vs_device_parts.specs.Turns.{counters_of};
+ghost use Rattle.vs_device_parts.specs.{Calls.Situation, Turns.counters_of};
 ghost use Rattle.vs_device_log.specs.Honest.{AgreesWith, IsFresh};
-ghost use Rattle.vs_proxy_bytes.specs.Made.{account_of};
-ghost use Rattle.vs_proxy_bytes.specs.Told.{AreAccounted, Shows};
+ghost use Rattle.vs_proxy_bytes.specs.{Made.account_of, Told.AreAccounted, Told.Shows};
 ghost use Rattle.vs_proxy_log.specs.Order.{IsInOrder};
 ghost use Rattle.vs_proxy_parts.specs.Turns.{new_proxy};
 

@@ -2,8 +2,7 @@
 
 ghost use Rattle.std.specs.Prelude.{◌≡◌, ◌≤◌, ◌<◌, ◌+◌, ◌^◌, Some, false};
 ghost use Rattle.std.specs.Option.{option_map_or};
-ghost use Rattle.vs_device_parts.specs.Playing.{MayRunOnHost, RunsOnHost};
-ghost use Rattle.vs_device_parts.specs.Connections.{is_late};
+ghost use Rattle.vs_device_parts.specs.{Playing.MayRunOnHost, Playing.RunsOnHost, Connections.is_late};
 ghost use Rattle.vs_proxy_parts.specs.declared.limits.TheConstants.{HANDSHAKES};
 ghost use Rattle.vs_proxy_parts.specs.Handshakes.{accept_one, dropping, handshake_on, tick_handshake, tick_handshakes};
 ghost use Rattle.vs_proxy_parts.specs.Turning.{CountsFew, turning_of};

@@ -7,10 +7,10 @@ ghost use Rattle.vs_uds.specs.declared.connect.TheConstants.{CONNECT_MAX};
 ghost use Rattle.vs_device_parts.specs.declared.limits.TheConstants.{CONNECTIONS, REPLIES};
 ghost use Rattle.vs_device_parts.specs.Playing.{IsItsRing, MayRun, MayRunOnHost, MayRunOnRing, Runs, RunsOnHost, RunsOnRing, situation};
 ghost use Rattle.vs_proxy_parts.specs.declared.limits.TheConstants.{HANDSHAKES};
-ghost use Rattle.vs_proxy_parts.specs.Handshakes.{shake_hands};
-ghost use Rattle.vs_proxy_parts.specs.Turning.{CountsFew, turning_of};
+ghost use Rattle.vs_proxy_parts.specs.{Handshakes.shake_hands, Turning.CountsFew, Turning.turning_of};
+ghost use Rattle.vs_proxy_parts.specs.Turns.{event_stage, fill_stage, pump_stage, take_one, take_stage, tick_stage, took_packet};
+ghost use Rattle.vs_proxy_parts.specs.Turns.{unless_failed};
 ghost use Rattle.vs_proxy_parts.specs.declared.tally.Tally.{Tally};
-ghost use Rattle.vs_proxy_parts.specs.Turns.{event_stage, fill_stage, pump_stage, take_one, take_stage, tick_stage, took_packet, unless_failed};
 
 use crate::proxy::Proxy;
 use vs_device::Taken;

@@ -10,8 +10,7 @@ ghost use Rattle.vs_device_parts.specs.Playing.{IsAmong, MayRun, MayRunOnHost, M
 ghost use Rattle.vs_device_parts.specs.Steps.{puts_event, puts_owed, puts_payload, puts_reply, returns, shuts_write, takes_chain, writes};
 ghost use Rattle.vs_device_parts.specs.Streams.{tick_slot};
 ghost use Rattle.vs_proxy_parts.specs.Handshakes.{accept_one, read_byte, streams_of, tick_handshake};
-ghost use Rattle.vs_proxy_parts.specs.Turns.{proxy_reset_of};
-ghost use Rattle.vs_proxy_parts.specs.State.{Turning, start, with_device};
+ghost use Rattle.vs_proxy_parts.specs.{Turns.proxy_reset_of, State.Turning, State.start, State.with_device};
 
 use crate::proxy::Proxy;
 use vs_device::steps;

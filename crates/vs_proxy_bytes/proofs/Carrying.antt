@@ -3,9 +3,7 @@ use Rattle.std.proofs.Common.{List}
 use Rattle.vs_flow.specs.Table.{Table}
 use Rattle.vs_device_parts.specs.State.{DeviceConnection}
 use Rattle.vs_proxy_parts.specs.State.{Handshake}
-use Rattle.vs_proxy_bytes.specs.Carried.{Carries}
-use Rattle.vs_proxy_bytes.specs.Made.{Made, account_of}
-use Rattle.vs_proxy_bytes.specs.Tied.{AgreesWith}
+use Rattle.vs_proxy_bytes.specs.{Carried.Carries, Made.Made, Made.account_of, Tied.AgreesWith}
 use Rattle.vs_proxy_bytes.proofs.Entries.{join_of, streams_apart}
 
 pub carries : (calls : List Made) (t : Table DeviceConnection) (hands : List Handshake) → AgreesWith calls t hands → Carries calls t

@@ -5,8 +5,8 @@ use Rattle.std.proofs.lemmas.List.Elements.{All-contains}
 use Rattle.vs_conn.specs.declared.end.State.TheVariants as state
 use Rattle.vs_contents.specs.CallTree.{Done, Ask}
 use Rattle.vs_flow.specs.Table.{Table, entry_of, entry_under, revalued, slots, with_value, without}
-use Rattle.vs_flow.specs.declared.flow.Flow.{Flow}
 use Rattle.vs_flow.specs.Flow.{same_flow}
+use Rattle.vs_flow.specs.declared.flow.Flow.{Flow}
 use Rattle.vs_matching.proofs.Slots.{found_by}
 use Rattle.vs_device_parts.specs.Calls.{CloseStream}
 use Rattle.vs_device_parts.specs.Connections.{after_leaving, cut_off, is_timed_out, stream_closed, with_connection}
@@ -19,8 +19,7 @@ use Rattle.vs_proxy_bytes.specs.Made.{Account, Made, account_of, payload_put, pa
 use Rattle.vs_proxy_bytes.specs.Tied.{Agree, AgreesWith, IsLawful, IsOver, IsTied, IsTiedTo}
 use Rattle.vs_proxy_bytes.proofs.Accounts.{Changes, changes, changing, stays}
 use Rattle.vs_proxy_bytes.proofs.Entries.{given_of, given_shut, join_of, left, moved}
-use Rattle.vs_proxy_bytes.proofs.Keeping.{Keeps, keeps_each, keeps_then, made}
-use Rattle.vs_proxy_bytes.proofs.Ties.{closed_before, closes}
+use Rattle.vs_proxy_bytes.proofs.{Keeping.Keeps, Keeping.keeps_each, Keeping.keeps_then, Keeping.made, Ties.closed_before, Ties.closes}
 
 pub there_under : (t : Table DeviceConnection) (slot : ℕ) (e : DeviceEntry) → entry_under t slot ≡ Some e → Contains t.entries e
 there_under t slot e found = (found_by (λ (x : DeviceEntry). x.slot == slot) t.entries e found).0

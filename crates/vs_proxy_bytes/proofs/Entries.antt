@@ -1,8 +1,7 @@
 -- Connections and handshakes with the accounts of their streams, through each change of them.
 use Rattle.std.proofs.Common.{◌≡◌, ◌≢◌, ℕ, ◌==◌, ◌&&◌, not, Bool, true, false, cond, List, [], ◌++◌, Contains, Option, Some, None, refl}
 use Rattle.std.proofs.Common.{sym, ap, subst, ◌∙◌, arith}
-use Rattle.std.specs.List.{All, AllPairs}
-use Rattle.std.specs.Option.{option_map, option_map_or, option_and_then, option_or}
+use Rattle.std.specs.{List.All, List.AllPairs, Option.option_map, Option.option_map_or, Option.option_and_then, Option.option_or}
 use Rattle.std.proofs.lemmas.Bool.Decides.{nat_tests}
 use Rattle.std.proofs.lemmas.List.Elements.{All-contains, All-push, All-weaker}
 use Rattle.vs_flow.specs.Flow.{same_flow}
@@ -15,8 +14,7 @@ use Rattle.vs_page.proofs.Flows.{same_self}
 use Rattle.vs_page.specs.Fair.{IsPrefixOf}
 use Rattle.vs_device_parts.specs.State.{DeviceConnection, DeviceEntry}
 use Rattle.vs_proxy_parts.specs.State.{Handshake}
-use Rattle.vs_pipes.proofs.Changes.{changed, others_left, under_slot}
-use Rattle.vs_pipes.proofs.Logs.{shorter}
+use Rattle.vs_pipes.proofs.{Changes.changed, Changes.others_left, Changes.under_slot, Logs.shorter}
 use Rattle.vs_proxy_bytes.specs.Made.{Account, is_on, shut, took, with_taken}
 use Rattle.vs_proxy_bytes.specs.Tied.{AreTied, IsLawful, IsTied, IsTiedTo, ok_line_of, reading_account, stream_of}
 use Rattle.vs_uds.specs.Reading.{is_decided}

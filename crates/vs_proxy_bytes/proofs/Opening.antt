@@ -1,14 +1,12 @@
 -- A client's connection, and a transport reset.
-use Rattle.std.proofs.Common.{◌≡◌, ◌≢◌, ℕ, ◌^◌, ◌≤◌, ◌==◌, Bool, true, false, cond, List, [], ◌∷◌, Option, Some, None, Result, Ok, Err}
-use Rattle.std.proofs.Common.{refl, sym, ap, subst, ◌∙◌, arith}
-use Rattle.std.specs.List.{All, AllPairs}
-use Rattle.std.specs.Option.{option_map}
+use Rattle.std.proofs.Common.{◌≡◌, ◌≢◌, ℕ, ◌≤◌, ◌==◌, Bool, true, false, cond, List, [], ◌∷◌, Option, Some, None, Result, Ok, Err, refl}
+use Rattle.std.proofs.Common.{sym, ap, subst, ◌∙◌, arith}
+use Rattle.std.specs.{List.All, List.AllPairs, Option.option_map}
 use Rattle.std.proofs.lemmas.List.Elements.{All-push}
 use Rattle.vs_conn.specs.End.{asked}
 use Rattle.vs_contents.specs.CallTree.{Done, Ask, bind, for_each}
 use Rattle.vs_flow.specs.Table.{IsTable, Table, emptied, entry_under, next_entry, refusal, slots}
-use Rattle.vs_flow.specs.declared.flow.Flow.{Flow}
-use Rattle.vs_flow.specs.declared.flow.TheConstants.{ASSIGNED_LAST}
+use Rattle.vs_flow.specs.declared.flow.{Flow.Flow, TheConstants.ASSIGNED_LAST}
 use Rattle.vs_flow.specs.declared.table.TableFault.{TableFault}
 use Rattle.vs_flow.proofs.Tables.{accepted, with_value_sound}
 use Rattle.vs_history.specs.declared.TheConstants.{BUF_ALLOC}
@@ -16,18 +14,17 @@ use Rattle.vs_ring_port.specs.Contents.{PublishCid}
 use Rattle.vs_ring_port.specs.declared.failure.Failure.{Failure}
 use Rattle.vs_device_parts.specs.Calls.{CloseStream, DeviceTree, Label, Ring}
 use Rattle.vs_device_parts.specs.Connections.{new_connection, stream_closed, with_client, with_connection}
-use Rattle.vs_device_parts.specs.State.{DeviceConnection, DeviceEntry, DeviceState}
-use Rattle.vs_device_parts.specs.Streams.{closing}
+use Rattle.vs_device_parts.specs.{State.DeviceConnection, State.DeviceEntry, State.DeviceState, Streams.closing}
 use Rattle.vs_device_parts.specs.Turns.{after_reset, close_slot, open_of, reset_of}
 use Rattle.vs_proxy_parts.specs.State.{Handshake}
 use Rattle.vs_proxy_bytes.specs.Made.{Account, Made, account_of, labelled, payload_put, payload_taken, shut}
 use Rattle.vs_proxy_bytes.specs.Tied.{Agree, IsLawful, IsOver, IsTied, IsTiedTo, IsWhole, reading_account}
 use Rattle.vs_uds.specs.Reading.{is_decided}
 use Rattle.vs_uds.specs.declared.connect.TheConstants.{CONNECT_MAX}
-use Rattle.vs_proxy_bytes.proofs.Accounts.{Changes, changes, changing, stays}
-use Rattle.vs_proxy_bytes.proofs.Closing.{Has}
+use Rattle.vs_proxy_bytes.proofs.{Accounts.Changes, Accounts.changes, Accounts.changing, Accounts.stays, Closing.Has}
 use Rattle.vs_proxy_bytes.proofs.Entries.{added, given_shut, hands_changed, one_account}
 use Rattle.vs_proxy_bytes.proofs.Keeping.{Keeps, keeps_each, keeps_then, keeps_weaker, made}
+use Rattle.vs_device_laws.proofs.Opening.{empty_sound}
 
 -- The connection of a client's stream.
 client_tie : (t : Table DeviceConnection) (flow : Flow) (stream : ℕ) (line : List ℕ) → IsWhole line
@@ -41,20 +38,11 @@ client_tie t flow stream line whole = record {
   asked = λ on. (refl, refl, refl, refl);
 }
 
-no_entries : (room given : ℕ) → given ≤ 2 ^ 64 → IsTable {T = DeviceConnection} (record { room = room; entries = []; given = given })
-no_entries room given left = record {
-  within = omega arith;
-  rising = λ i j d lt within. absurd (omega arith);
-  distinct = λ i j d lt within. absurd (omega arith);
-  were_given = λ k d within. absurd (omega arith);
-  slots_left = left;
-}
-
 -- Before the first call.
 pub new_agrees : (room : ℕ) → Agree (λ id. None) (λ flow. []) (λ flow. []) (record { room = room; entries = []; given = 0 }) []
 new_agrees room = record {
   tied = record {
-    table = no_entries room 0 (omega arith);
+    table = empty_sound room 0 (omega arith);
     joined = λ i d within. absurd (omega (arith, within));
     waiting = λ i d within. absurd (omega (arith, within));
     undecided = λ i d within. absurd (omega (arith, within));
@@ -226,7 +214,7 @@ keeps_reset hands cid s calls x = by s.failed
         → AreReset (account_of (made (Ring (PublishCid cid)) answer ∷ later)) (payload_put later) (payload_taken later) (emptied t.table)
     emptied_now t later kept answer = record {
       closing = record {
-        table = no_entries t.table.room t.table.given kept.table.slots_left;
+        table = empty_sound t.table.room t.table.given kept.table.slots_left;
         lawful = λ id a is. given_after (account_of later id) (kept.lawful id) a is;
         carried = kept.carried;
       };

@@ -7,25 +7,18 @@ use Rattle.vs_conn.specs.End.{is_reset, is_stream, verdict_of}
 use Rattle.vs_conn.specs.declared.end.Verdict.{Verdict}
 use Rattle.vs_conn.specs.declared.end.Verdict.TheVariants as verdict
 use Rattle.vs_conn.specs.declared.end.Why.TheVariants as why
-use Rattle.vs_flow.specs.Flow.{is_assigned}
-use Rattle.vs_flow.specs.Table.{entry_of, has_place}
-use Rattle.vs_header.specs.Op.{op_number}
-use Rattle.vs_header.specs.Packet.{header_of}
-use Rattle.vs_header.specs.declared.Header.{Header}
+use Rattle.vs_flow.specs.{Flow.is_assigned, Table.entry_of, Table.has_place}
+use Rattle.vs_header.specs.{Op.op_number, Packet.header_of}
+use Rattle.vs_header.specs.declared.{Header.Header, TheConstants.HEADER_LEN}
 use Rattle.vs_header.specs.declared.Op.TheVariants.{Request}
-use Rattle.vs_header.specs.declared.TheConstants.{HEADER_LEN}
-use Rattle.vs_page.specs.Log.{Device, flow_to_host}
-use Rattle.vs_page.specs.Open.{is_dropped}
+use Rattle.vs_page.specs.{Log.Device, Log.flow_to_host, Open.is_dropped}
 use Rattle.vs_ring_port.specs.Contents.{Take}
-use Rattle.vs_ring_port.specs.declared.device_ring.Chain.{Chain}
-use Rattle.vs_ring_port.specs.declared.device_ring.Next.{Next}
+use Rattle.vs_ring_port.specs.declared.device_ring.{Chain.Chain, Next.Next}
 use Rattle.vs_ring_port.specs.declared.device_ring.Next.TheVariants as next
 use Rattle.vs_ring_port.specs.declared.failure.Failure.{Failure}
 use Rattle.vs_ring_port.specs.declared.queue.Queue.TheVariants.{Tx}
-use Rattle.vs_device_parts.specs.Calls.{Answer, DeviceTree, Ring}
-use Rattle.vs_device_parts.specs.State.{DeviceEntry, DeviceState}
-use Rattle.vs_device_parts.specs.Receiving.{fill_rx_of, pay_event_of}
-use Rattle.vs_device_parts.specs.Streams.{pump_of, tick_of}
+use Rattle.vs_device_parts.specs.{Calls.Answer, Calls.DeviceTree, Calls.Ring, State.DeviceEntry, State.DeviceState}
+use Rattle.vs_device_parts.specs.{Receiving.fill_rx_of, Receiving.pay_event_of, Streams.pump_of, Streams.tick_of}
 use Rattle.vs_device_parts.specs.Transmitting.{heard, on_header, on_known, on_next, on_packet, on_unknown, take_tx_of, try_request}
 use Rattle.vs_device_parts.specs.Turns.{reset_of}
 use Rattle.vs_device_parts.specs.declared.answers.Taken.{Taken}
@@ -36,11 +29,9 @@ use Rattle.vs_proxy_parts.specs.State.{ProxyState, Turning, start}
 use Rattle.vs_proxy_parts.specs.Turns.{close_handshake, device_after, event_stage, fill_stage, proxy_reset_of, pump_stage, reset_with}
 use Rattle.vs_proxy_parts.specs.Turns.{take_one, take_stage, tick_stage, took_packet, turn_of, turned, unless_failed}
 use Rattle.vs_proxy_parts.specs.declared.answers.Turn.{Turn}
-use Rattle.vs_proxy_bytes.specs.Judged.{IsJudged}
-use Rattle.vs_proxy_bytes.specs.Made.{Made, Makes}
+use Rattle.vs_proxy_bytes.specs.{Judged.IsJudged, Made.Made, Made.Makes}
 use Rattle.vs_proxy_bytes.specs.Packets.{AreJudged, AreJudgedBy, Judged, Moment, Others, Takes, headers_read, reads_header}
-use Rattle.vs_proxy_bytes.proofs.Judging.{take_tx_judged}
-use Rattle.vs_proxy_bytes.proofs.Keeping.{keeps_end}
+use Rattle.vs_proxy_bytes.proofs.{Judging.take_tx_judged, Keeping.keeps_end}
 use Rattle.vs_proxy_bytes.proofs.Quiet.{IsQuiet, quiet_bind, quiet_counts, quiet_each, quiet_fill, quiet_if, quiet_leaving, quiet_pay_event}
 use Rattle.vs_proxy_bytes.proofs.Quiet.{quiet_pump, quiet_reset, quiet_shake_hands, quiet_tick, quiet_tick_handshakes}
 

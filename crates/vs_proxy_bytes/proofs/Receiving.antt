@@ -5,8 +5,7 @@ use Rattle.std.specs.Option.{option_map_or}
 use Rattle.std.proofs.lemmas.List.{append-nil}
 use Rattle.std.proofs.lemmas.List.Elements.{All-weaker}
 use Rattle.vs_flow.specs.declared.flow.Flow.{Flow}
-use Rattle.vs_conn.specs.End.{owes_of, paid_of, wanting_credit, with_payload_sent}
-use Rattle.vs_conn.specs.Headers.{owed_header, payload_header}
+use Rattle.vs_conn.specs.{End.owes_of, End.paid_of, End.wanting_credit, End.with_payload_sent, Headers.owed_header, Headers.payload_header}
 use Rattle.vs_conn.specs.declared.end.Owed.{Owed}
 use Rattle.vs_conn.specs.declared.end.Owed.TheVariants as owed
 use Rattle.vs_conn.specs.declared.end.State.TheVariants.{Asked, Ended}
@@ -22,20 +21,18 @@ use Rattle.vs_pipes.specs.Streamed.{gives}
 use Rattle.vs_pipes.proofs.Gives.{pays_asked, pays_gives}
 use Rattle.vs_replies.specs.declared.Reply.{Reply}
 use Rattle.vs_ring_port.specs.Contents.{Take}
-use Rattle.vs_ring_port.specs.declared.device_ring.Chain.{Chain}
-use Rattle.vs_ring_port.specs.declared.device_ring.Next.{Next}
+use Rattle.vs_ring_port.specs.declared.device_ring.{Chain.Chain, Next.Next}
 use Rattle.vs_ring_port.specs.declared.device_ring.Next.TheVariants as next
 use Rattle.vs_ring_port.specs.declared.failure.Failure.{Failure}
 use Rattle.vs_ring_port.specs.declared.queue.Queue.TheVariants.{Event, Rx}
 use Rattle.vs_device_parts.specs.declared.answers.Filled.{Filled}
 use Rattle.vs_device_parts.specs.Calls.{DeviceTree, ReadStream, Ring}
 use Rattle.vs_device_parts.specs.Connections.{after_shut, cut_off, route_to_guest, with_connection, with_fault}
-use Rattle.vs_device_parts.specs.Receiving.{Filling, after_paying, event_on, fill_rx_of, filled_of, hold, holding, may_read, pay_event_of, put_on}
-use Rattle.vs_device_parts.specs.Receiving.{put_owed, put_packet, put_payload, put_reply, put_reply_of, read_answered, read_room, read_stream}
-use Rattle.vs_device_parts.specs.Receiving.{read_with_chain, reply_header, round_from, serve_slot, written}
-use Rattle.vs_device_parts.specs.State.{DeviceConnection, DeviceEntry, DeviceState}
-use Rattle.vs_device_parts.specs.Streams.{closing}
-use Rattle.vs_device_laws.proofs.Ends.{owes_reset, shut_over}
+use Rattle.vs_device_parts.specs.Receiving.{Filling, after_paying, event_on, fill_rx_of, filled_of, hold, holding, may_read, pay_event_of}
+use Rattle.vs_device_parts.specs.Receiving.{put_on, put_owed, put_packet, put_payload, put_reply, put_reply_of, read_answered, read_room}
+use Rattle.vs_device_parts.specs.Receiving.{read_stream, read_with_chain, reply_header, round_from, serve_slot, written}
+use Rattle.vs_device_parts.specs.{State.DeviceConnection, State.DeviceEntry, State.DeviceState, Streams.closing}
+use Rattle.vs_device_laws.proofs.{Ends.owes_reset, Ends.shut_over, Receiving.holding_table}
 use Rattle.vs_proxy_parts.specs.State.{Handshake}
 use Rattle.vs_proxy_bytes.specs.Made.{Account, Made, account_of, is_for, is_of, payload_put, payload_taken, ports_of, with_taken}
 use Rattle.vs_proxy_bytes.specs.Tied.{Agree, AgreesWith, IsTied, reading_account}
@@ -101,11 +98,6 @@ module _ (hands : List Handshake) where
       keeps_then (Put r) (λ y later. AgreesWith later r.state.table hands) (written chain h payload)
       (λ a. Done (record r { state = record r.state { chain = None }; put = r.put + 1 })) calls
       (keeps_written chain h payload calls r.state.table x) (λ y later kept. (kept, refl))
-
-  holding_table : (answer : Next) (r : Filling) → (holding answer r).state.table ≡ r.state.table
-  holding_table (next.Chain chain) r = refl
-  holding_table next.None r = refl
-  holding_table (next.Failed f) r = refl
 
   abbrev Held : Filling → Filling → List Made → Type 0
   Held r q later = AgreesWith later r.state.table hands × (q.state.table ≡ r.state.table)

@@ -1,15 +1,12 @@
 -- Handshakes: their clients' streams are given nothing before they have a connection.
 use Rattle.std.proofs.Common.{◌≡◌, ◌≢◌, ℕ, ◌+◌, subst, get_or, ◌≤◌, ◌&&◌, nat_le, ◌==◌, Bool, true, false, cond, List, [], ◌∷◌, ◌++◌}
-use Rattle.std.proofs.Common.{length, nat_lt}
-use Rattle.std.proofs.Common.{Option, Some, None, refl, sym, ap, ◌∙◌, arith}
+use Rattle.std.proofs.Common.{length, nat_lt, Option, Some, None, refl, sym, ap, ◌∙◌, arith}
 use Rattle.std.specs.List.{All}
-use Rattle.std.proofs.lemmas.List.Elements.{All-push}
-use Rattle.std.proofs.lemmas.List.Quantifiers.{all_pairs_push}
+use Rattle.std.proofs.lemmas.List.{Elements.All-push, Quantifiers.all_pairs_push}
 use Rattle.std.proofs.lemmas.Bool.Decides.{nat_tests}
 use Rattle.vs_contents.specs.CallTree.{Done, Ask, for_each}
 use Rattle.vs_flow.specs.Table.{has_place}
-use Rattle.vs_flow.specs.declared.flow.Flow.{Flow}
-use Rattle.vs_flow.specs.declared.flow.TheConstants.{ASSIGNED_LAST}
+use Rattle.vs_flow.specs.declared.flow.{Flow.Flow, TheConstants.ASSIGNED_LAST}
 use Rattle.vs_outside.specs.declared.host_net.Accepted.{Accepted}
 use Rattle.vs_outside.specs.declared.host_net.Accepted.TheVariants as accepted
 use Rattle.vs_outside.specs.declared.host_net.StreamRead.{StreamRead}
@@ -20,23 +17,18 @@ use Rattle.vs_uds.specs.ConnectLine.{connect_port, connect_step}
 use Rattle.vs_uds.specs.declared.connect.TheConstants.{CONNECT_MAX}
 use Rattle.vs_uds.specs.declared.scan.Step.{Step}
 use Rattle.vs_uds.specs.declared.scan.Step.TheVariants as step
-use Rattle.vs_device_parts.specs.Calls.{Accept, CloseStream, DeviceTree, ReadStream}
-use Rattle.vs_device_parts.specs.Connections.{is_late}
-use Rattle.vs_device_parts.specs.Turns.{open_of}
-use Rattle.vs_flow.proofs.Entries.{All_at, found_passes}
-use Rattle.vs_flow.proofs.Lookups.{find_place}
+use Rattle.vs_device_parts.specs.{Calls.Accept, Calls.CloseStream, Calls.DeviceTree, Calls.ReadStream, Connections.is_late, Turns.open_of}
+use Rattle.vs_flow.proofs.{Entries.All_at, Entries.found_passes, Lookups.find_place}
 use Rattle.vs_pipes.proofs.Hands.{ends_by, no_line, with_all, with_apart, without_after, without_all, without_none, without_pairs}
-use Rattle.vs_proxy_parts.specs.Handshakes.{accept_answered, accept_one, byte_read, dropping, handshake_on, host_fault, line_decided, may_open}
-use Rattle.vs_proxy_parts.specs.Handshakes.{opening, read_byte, read_line}
-use Rattle.vs_proxy_parts.specs.Handshakes.{shake_hands, streams_of, tick_handshake, tick_handshakes, with_line, without_handshake}
-use Rattle.vs_proxy_parts.specs.Handshakes.{without_stream}
+use Rattle.vs_proxy_parts.specs.Handshakes.{accept_answered, accept_one, byte_read, dropping, handshake_on, host_fault, line_decided}
+use Rattle.vs_proxy_parts.specs.Handshakes.{may_open, opening, read_byte, read_line, shake_hands, streams_of, tick_handshake}
+use Rattle.vs_proxy_parts.specs.Handshakes.{tick_handshakes, with_line, without_handshake, without_stream}
 use Rattle.vs_proxy_parts.specs.State.{Handshake, ProxyState, Turning, with_device}
 use Rattle.vs_proxy_parts.specs.declared.limits.TheConstants.{HANDSHAKES}
 use Rattle.vs_proxy_bytes.specs.Made.{Account, Made, MayGet, account_of, is_of, new_account, payload_put, payload_taken, shut, with_taken}
 use Rattle.vs_proxy_bytes.specs.Tied.{AccountsFor, AgreesWith, IsWhole, reading_account}
 use Rattle.vs_uds.specs.Reading.{is_decided, port_or_bad}
-use Rattle.vs_proxy_bytes.proofs.Accounts.{Changes, changes, comes}
-use Rattle.vs_proxy_bytes.proofs.Closing.{Has}
+use Rattle.vs_proxy_bytes.proofs.{Accounts.Changes, Accounts.changes, Accounts.comes, Closing.Has}
 use Rattle.vs_proxy_bytes.proofs.Entries.{hands_changed, taken_tied, waiting_kept}
 use Rattle.vs_proxy_bytes.proofs.Keeping.{Keeps, keeps_each, keeps_then, keeps_while, made}
 use Rattle.vs_proxy_bytes.proofs.Opening.{keeps_open, waits_unlabelled}

@@ -1,19 +1,16 @@
 -- A host in memory, and the accounts of its streams, through each call of the proxy.
-use Rattle.std.proofs.Common.{◌≡◌, ◌≢◌, ℕ, zero, suc, ◌+◌, ◌-◌, ◌==◌, Bool, true, false, cond, List, [], ◌∷◌, ◌++◌, length, slice_get}
-use Rattle.std.proofs.Common.{slice_set}
+use Rattle.std.proofs.Common.{◌≡◌, ◌≢◌, ℕ, ◌+◌, ◌-◌, ◌==◌, Bool, true, false, cond, List, [], ◌∷◌, ◌++◌, length, slice_get, slice_set}
 use Rattle.std.proofs.Common.{Option, Some, None, refl, sym, ap, subst, ◌∙◌, arith}
 use Rattle.std.specs.Option.{option_map, option_map_or}
 use Rattle.std.proofs.lemmas.Bool.Decides.{nat_tests}
 use Rattle.vs_flow.specs.declared.flow.Flow.{Flow}
 use Rattle.vs_header.specs.declared.Header.{Header}
-use Rattle.vs_outside.specs.Host.{HostContents, Stream}
-use Rattle.vs_outside.specs.Host.{stream_at}
-use Rattle.vs_outside.specs.Host.{with_stream}
+use Rattle.vs_outside.specs.Host.{HostContents, Stream, stream_at, with_stream}
 use Rattle.vs_outside.proofs.Frames.{keeps_others, stream_at-with_stream}
 use Rattle.vs_page.specs.Log.{flow_to_host}
-use Rattle.vs_proxy_bytes.specs.Tied.{IsLine, IsRead}
-use Rattle.vs_proxy_bytes.specs.Made.{Account, delivering, is_on, with_delivery}
+use Rattle.vs_proxy_bytes.specs.{Tied.IsLine, Tied.IsRead, Made.Account, Made.delivering, Made.is_on, Made.with_delivery}
 use Rattle.vs_proxy_bytes.specs.Told.{Shows, ShowsAt, ShowsIn}
+use Rattle.vs_pipes.proofs.Opens.{get_end, get_other, get_past}
 
 -- What is read of a stream stays lawful where nothing of it changes.
 pub read_same : (o : Option Flow) (a b : Account) → b.by_client ≡ a.by_client → b.line ≡ a.line → b.taken ≡ a.taken → IsRead o a
@@ -111,21 +108,6 @@ delivers_same (Some h) n payload a = by (n == h.len)
     by true = delivery_same (flow_to_host h) payload a
     by false = record { client = refl; label = refl; given = refl; line = refl; taken = refl }
 
--- One stream more.
-get_other : (xs : List Stream) (y : Stream) (k : ℕ) → k ≢ length xs → slice_get (xs ++ y ∷ []) k ≡ slice_get xs k
-get_other [] y zero other = absurd (other refl)
-get_other [] y (suc k) other = refl
-get_other (x ∷ xs) y zero other = refl
-get_other (x ∷ xs) y (suc k) other = get_other xs y k (λ same. other (ap suc same))
-
-get_last : (xs : List Stream) (y : Stream) → slice_get (xs ++ y ∷ []) (length xs) ≡ Some y
-get_last [] y = refl
-get_last (x ∷ xs) y = get_last xs y
-
-get_past : (xs : List Stream) → slice_get xs (length xs) ≡ None
-get_past [] = refl
-get_past (x ∷ xs) = get_past xs
-
 module _ (y : Stream) (c : HostContents) where
   pub others_there : (id : ℕ) → id ≢ length c.streams + 1 → stream_at id (record c { streams = c.streams ++ y ∷ [] }) ≡ stream_at id c
   others_there id other = by (id == 0) refl
@@ -143,7 +125,7 @@ module _ (y : Stream) (c : HostContents) where
   back = omega arith
 
   pub new_there : stream_at (length c.streams + 1) (record c { streams = c.streams ++ y ∷ [] }) ≡ Some y
-  new_there = rw (new_place, back) (get_last c.streams y)
+  new_there = rw (new_place, back) (get_end c.streams y)
 
   pub none_there : stream_at (length c.streams + 1) c ≡ None
   none_there = rw (new_place, back) (get_past c.streams)

@@ -1,23 +1,19 @@
 -- A connection and the account of its stream, through each small step of the connection.
-use Rattle.std.proofs.Common.{◌≡◌, ℕ, zero, suc, ◌-◌, ◌≤◌, ◌&&◌, not, Bool, true, false, cond, List, [], ◌∷◌, ◌++◌, length, take, drop}
-use Rattle.std.proofs.Common.{refl, sym, ap, subst, ◌∙◌, append_assoc, take-append-drop, arith}
-use Rattle.std.proofs.lemmas.Grind.{common_steps}
-use Rattle.std.proofs.lemmas.List.{append-nil, length-take, take-take}
+use Rattle.std.proofs.Common.{◌≡◌, ℕ, ◌-◌, ◌≤◌, ◌&&◌, not, Bool, true, false, cond, List, [], ◌++◌, length, take, drop, refl, sym, ap}
+use Rattle.std.proofs.Common.{subst, ◌∙◌, append_assoc, take-append-drop, arith}
+use Rattle.std.proofs.lemmas.{Grind.common_steps, List.append-nil}
+use Rattle.std.proofs.Math.Seq.{drop-nil, take-nil}
 use Rattle.vs_conn.specs.End.{ConnectionEnd, verdict_of, with_shut}
 use Rattle.vs_conn.specs.declared.end.State.TheVariants as state
 use Rattle.vs_conn.specs.declared.end.Verdict.TheVariants as verdict
 use Rattle.vs_header.specs.declared.Header.{Header}
 use Rattle.vs_page.specs.Fair.{IsPrefixOf}
 use Rattle.vs_device_parts.specs.Connections.{after_shut, after_written, stream_closed}
-use Rattle.vs_device_parts.specs.State.{DeviceConnection, DeviceEntry}
-use Rattle.vs_device_parts.specs.Streams.{to_write}
-use Rattle.vs_device_parts.specs.Transmitting.{heard}
+use Rattle.vs_device_parts.specs.{State.DeviceConnection, State.DeviceEntry, Streams.to_write, Transmitting.heard}
 use Rattle.vs_pipes.specs.Streamed.{gives}
-use Rattle.vs_pipes.proofs.Gives.{accepted_other, accepts_asked, delivered_other, delivers_gives, forwards_asked, forwards_gives}
-use Rattle.vs_pipes.proofs.Gives.{shuts_asked, shuts_gives}
-use Rattle.vs_pipes.proofs.Logs.{all_of, shorter}
-use Rattle.vs_proxy_bytes.specs.Made.{Account}
-use Rattle.vs_proxy_bytes.specs.Tied.{IsTiedTo, gives_all, ok_line_of}
+use Rattle.vs_pipes.proofs.Gives.{accepted_other, accepts_asked, delivered_other, delivers_gives, drop_both, first_of, forwards_asked}
+use Rattle.vs_pipes.proofs.{Gives.forwards_gives, Gives.shuts_asked, Gives.shuts_gives, Logs.all_of, Logs.shorter}
+use Rattle.vs_proxy_bytes.specs.{Made.Account, Tied.IsTiedTo, Tied.gives_all, Tied.ok_line_of}
 
 -- The bytes that came for a connection.
 abbrev pub came : Account → DeviceEntry → List ℕ
@@ -172,25 +168,6 @@ answers a e h x is = record {
         ∙ ap (λ (bytes : List ℕ). ok_line_of e.value.by_client e.flow ++ bytes) (was.3 ∙ sym was.1)
 
 -- Its stream takes bytes.
-drop_none : (n : ℕ) → ◌≡◌ {A = List ℕ} (drop n []) []
-drop_none zero = refl
-drop_none (suc n) = refl
-
-take_none : (n : ℕ) → ◌≡◌ {A = List ℕ} (take n []) []
-take_none zero = refl
-take_none (suc n) = refl
-
-drop_both : (n : ℕ) (xs ys : List ℕ) → drop n (xs ++ ys) ≡ drop n xs ++ drop (n - length xs) ys
-drop_both zero [] ys = refl
-drop_both (suc n) [] ys = let same : suc n ≡ suc n - 0 = omega arith in ap (λ (k : ℕ). drop k ys) same
-drop_both zero (x ∷ xs) ys = let same : 0 ≡ 0 - suc (length xs) = omega arith in ap (λ (k : ℕ). x ∷ xs ++ drop k ys) same
-drop_both (suc n) (x ∷ xs) ys =
-    let same : n - length xs ≡ suc n - suc (length xs) = omega arith in
-    drop_both n xs ys ∙ ap (λ (k : ℕ). drop n xs ++ drop k ys) same
-
-first_of : (n : ℕ) (all : List ℕ) → n ≤ length (take 4096 all) → take n (take 4096 all) ≡ take n all
-first_of n all less = take-take n 4096 all (omega (arith, less, length-take 4096 all))
-
 pub writes : (a : Account) (e : DeviceEntry) (n : ℕ) → IsTiedTo a e → n ≤ length (to_write e.value)
     → IsTiedTo (record a { given = a.given ++ take n (to_write e.value) }) (record e { value = after_written n e.value })
 writes a e n x less = record {
@@ -223,8 +200,8 @@ writes a e n x less = record {
       ap (λ (bytes : List ℕ). bytes ++ take n (to_write e.value)) given
           ∙ ap (λ (bytes : List ℕ). take n (take 4096 (bytes ++ e.value.pending))) line ∙ ap
           (λ (bytes : List ℕ). take n (take 4096 bytes)) pending
-          ∙ ap (take n) (take_none 4096) ∙ take_none n,
+          ∙ ap (take n) (take-nil 4096) ∙ take-nil n,
       delivered,
-      ap (drop n) line ∙ drop_none n,
-      ap (drop (n - length e.value.ok_line)) pending ∙ drop_none (n - length e.value.ok_line),
+      ap (drop n) line ∙ drop-nil n,
+      ap (drop (n - length e.value.ok_line)) pending ∙ drop-nil (n - length e.value.ok_line),
     )

@@ -4,34 +4,26 @@ use Rattle.std.proofs.Common.{Option, Some, None, refl, sym, ap, subst, ◌∙�
 use Rattle.std.specs.Option.{option_map}
 use Rattle.std.proofs.lemmas.List.Elements.{All-push}
 use Rattle.vs_conn.specs.End.{answering, is_reset, is_stream, verdict_of}
-use Rattle.vs_conn.specs.declared.end.State.{State}
+use Rattle.vs_conn.specs.declared.end.{State.State, Verdict.Verdict}
 use Rattle.vs_conn.specs.declared.end.State.TheVariants.{Ended}
-use Rattle.vs_conn.specs.declared.end.Verdict.{Verdict}
 use Rattle.vs_conn.specs.declared.end.Verdict.TheVariants as verdict
 use Rattle.vs_conn.specs.declared.end.Why.TheVariants as why
 use Rattle.vs_contents.specs.CallTree.{Done, Ask, bind}
-use Rattle.vs_flow.specs.Flow.{is_assigned}
-use Rattle.vs_flow.specs.Table.{Table, entry_of, has_place, next_entry, with_value}
+use Rattle.vs_flow.specs.{Flow.is_assigned, Table.Table, Table.entry_of, Table.has_place, Table.next_entry, Table.with_value}
 use Rattle.vs_flow.specs.declared.flow.Flow.{Flow}
-use Rattle.vs_flow.proofs.Entries.{same_flow_true}
-use Rattle.vs_flow.proofs.Lookups.{entry_of_found}
-use Rattle.vs_flow.proofs.Tables.{accepted}
-use Rattle.vs_header.specs.Op.{op_number}
-use Rattle.vs_header.specs.Packet.{header_of}
-use Rattle.vs_header.specs.declared.Header.{Header}
+use Rattle.vs_flow.proofs.{Entries.same_flow_true, Lookups.entry_of_found, Tables.accepted}
+use Rattle.vs_header.specs.{Op.op_number, Packet.header_of}
+use Rattle.vs_header.specs.declared.{Header.Header, TheConstants.HEADER_LEN}
 use Rattle.vs_header.specs.declared.Op.TheVariants.{Request}
-use Rattle.vs_header.specs.declared.TheConstants.{HEADER_LEN}
 use Rattle.vs_history.specs.declared.TheConstants.{BUF_ALLOC}
 use Rattle.vs_outside.specs.declared.host_net.Dialed.{Dialed}
 use Rattle.vs_outside.specs.declared.host_net.Dialed.TheVariants as dialed
-use Rattle.vs_page.specs.Log.{Device, flow_to_host}
-use Rattle.vs_page.specs.Open.{is_dropped}
+use Rattle.vs_page.specs.{Log.Device, Log.flow_to_host, Open.is_dropped}
 use Rattle.vs_pipes.specs.Streamed.{gives_in}
 use Rattle.vs_pipes.proofs.Gives.{delivers_gives, hears_asked, hears_gives}
 use Rattle.vs_replies.specs.Owed.{reply_to}
 use Rattle.vs_ring_port.specs.Contents.{Read, Return, Take}
-use Rattle.vs_ring_port.specs.declared.device_ring.Chain.{Chain}
-use Rattle.vs_ring_port.specs.declared.device_ring.Next.{Next}
+use Rattle.vs_ring_port.specs.declared.device_ring.{Chain.Chain, Next.Next}
 use Rattle.vs_ring_port.specs.declared.device_ring.Next.TheVariants as next
 use Rattle.vs_ring_port.specs.declared.failure.Failure.{Failure}
 use Rattle.vs_ring_port.specs.declared.failure.Failure.TheVariants as failure
@@ -43,19 +35,16 @@ use Rattle.vs_device_parts.specs.declared.answers.Taken.TheVariants as taken
 use Rattle.vs_device_parts.specs.declared.limits.TheConstants.{REPLIES}
 use Rattle.vs_device_parts.specs.Calls.{Dial, DeviceTree, Ring}
 use Rattle.vs_device_parts.specs.Connections.{new_connection, with_connection, with_reply}
-use Rattle.vs_device_parts.specs.State.{DeviceConnection, DeviceEntry, DeviceState}
-use Rattle.vs_device_parts.specs.Streams.{leaving}
+use Rattle.vs_device_parts.specs.{State.DeviceConnection, State.DeviceEntry, State.DeviceState, Streams.leaving}
 use Rattle.vs_device_parts.specs.Transmitting.{dial_answered, failing, heard, on_header, on_known, on_next, on_packet, on_unknown, refused}
 use Rattle.vs_device_parts.specs.Transmitting.{take_tx_of, try_request, unknown_why}
 use Rattle.vs_device_laws.proofs.Ends.{heard_over}
 use Rattle.vs_proxy_parts.specs.State.{Handshake}
 use Rattle.vs_proxy_bytes.specs.Made.{Account, Made, MayGet, account_of, delivering, header_in, new_account, payload_put, payload_taken}
-use Rattle.vs_proxy_bytes.specs.Made.{with_delivery}
-use Rattle.vs_proxy_bytes.specs.Tied.{Agree, IsOver, IsTied, IsTiedTo, ok_line_of, stream_of}
+use Rattle.vs_proxy_bytes.specs.{Made.with_delivery, Tied.Agree, Tied.IsOver, Tied.IsTied, Tied.IsTiedTo, Tied.ok_line_of, Tied.stream_of}
 use Rattle.vs_proxy_bytes.proofs.Accounts.{Changes, comes, is_delivered, not_delivered, self_is}
 use Rattle.vs_proxy_bytes.proofs.Closing.{Has, agree_moved, agree_same, join, keeps_leaving, over_there, there_of}
-use Rattle.vs_proxy_bytes.proofs.Entries.{added, waiting_kept}
-use Rattle.vs_proxy_bytes.proofs.Keeping.{Keeps, keeps_then, made}
+use Rattle.vs_proxy_bytes.proofs.{Entries.added, Entries.waiting_kept, Keeping.Keeps, Keeping.keeps_then, Keeping.made}
 use Rattle.vs_proxy_bytes.proofs.Ties.{answers, delivers, end_changes}
 
 -- The connection of a stream that was dialed.
@@ -153,9 +142,6 @@ module _ (hands : List Handshake) where
 
     -- Payload goes to no other stream.
     module _ (payload : List ℕ) (is_delivery : verdict_of e.value.end h ≡ verdict.Deliver) where
-      with_payload : Account → Account
-      with_payload a = record a { delivered = a.delivered ++ payload }
-
       abbrev now : ℕ → Option Account
       now id = option_map (with_delivery (flow_to_host h) payload) (account_of calls id)
 

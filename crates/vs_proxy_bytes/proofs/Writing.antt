@@ -11,7 +11,7 @@ use Rattle.vs_device_parts.specs.Connections.{after_shut, after_written, cut_off
 use Rattle.vs_device_parts.specs.State.{DeviceEntry, DeviceState}
 use Rattle.vs_device_parts.specs.Streams.{Writing, closing, is_written_out, pump_of, pump_slot, shut_write, to_write, write_answered}
 use Rattle.vs_device_parts.specs.Streams.{write_pending}
-use Rattle.vs_device_laws.proofs.Tables.{has_slot}
+use Rattle.vs_device_parts.proofs.Under.{has_slot}
 use Rattle.vs_device_laws.proofs.Ends.{forwarded_over, shut_over}
 use Rattle.vs_proxy_parts.specs.State.{Handshake}
 use Rattle.vs_proxy_bytes.specs.Made.{Made, MayGet, account_of, payload_put, payload_taken, with_given}

@@ -8,12 +8,10 @@ use Rattle.vs_conn.specs.declared.end.Verdict.TheVariants as verdict
 use Rattle.vs_conn.specs.declared.end.Why.{Why}
 use Rattle.vs_flow.specs.Table.{entry_of, with_value}
 use Rattle.vs_header.specs.declared.Header.{Header}
-use Rattle.vs_page.specs.Log.{Device, flow_to_host}
-use Rattle.vs_page.specs.Open.{is_dropped}
+use Rattle.vs_page.specs.{Log.Device, Log.flow_to_host, Open.is_dropped}
 use Rattle.vs_replies.specs.Owed.{reply_to}
 use Rattle.vs_wrap.specs.Wrap.{counted}
-use Rattle.vs_device_parts.specs.State.{DeviceEntry, DeviceState}
-use Rattle.vs_device_parts.specs.Transmitting.{heard}
+use Rattle.vs_device_parts.specs.{State.DeviceEntry, State.DeviceState, Transmitting.heard}
 use Rattle.vs_device_parts.specs.declared.answers.Taken.{Taken}
 use Rattle.vs_device_parts.specs.declared.answers.Taken.TheVariants as taken
 use Rattle.vs_proxy_bytes.specs.Made.{Account, Made, account_of, header_in}

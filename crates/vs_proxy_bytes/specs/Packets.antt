@@ -1,11 +1,9 @@
 -- The packets of the guest in a list of calls: each one that was read was judged.
 use Rattle.std.specs.Prelude.{◌≡◌, ℕ, ◌+◌, ◌≤◌, ◌==◌, Bool, false, if◌then◌else◌, List, [], ◌∷◌}
 use Rattle.vs_ring_port.specs.Contents.{Read}
-use Rattle.vs_device_parts.specs.Calls.{Call, Ring}
-use Rattle.vs_device_parts.specs.State.{DeviceState}
+use Rattle.vs_device_parts.specs.{Calls.Call, Calls.Ring, State.DeviceState}
 use Rattle.vs_device_parts.specs.declared.answers.Taken.{Taken}
-use Rattle.vs_proxy_bytes.specs.Judged.{IsJudged}
-use Rattle.vs_proxy_bytes.specs.Made.{Made}
+use Rattle.vs_proxy_bytes.specs.{Judged.IsJudged, Made.Made}
 
 -- A packet is read by its header, which stands at place 0 of its chain.
 abbrev pub reads_header : Call → Bool

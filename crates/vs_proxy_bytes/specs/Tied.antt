@@ -1,18 +1,15 @@
 -- What the host's streams were given, against the payloads delivered on their connections.
 use Rattle.std.specs.Prelude.{◌≡◌, ◌≢◌, ℕ, ◌++◌, ◌&&◌, not, Bool, true, false, if◌then◌else◌, List, [], Option, Some, None, AllPairs}
-use Rattle.std.specs.List.{All}
-use Rattle.std.specs.Option.{option_map}
+use Rattle.std.specs.{List.All, Option.option_map}
 use Rattle.vs_conn.specs.declared.end.State.TheVariants.{Asked, Ended}
 use Rattle.vs_flow.specs.Table.{Table, IsTable, entry_of}
 use Rattle.vs_flow.specs.declared.flow.Flow.{Flow}
 use Rattle.vs_page.specs.Fair.{IsPrefixOf}
 use Rattle.vs_outside.specs.HostBytes.{after_line}
-use Rattle.vs_uds.specs.OkLine.{ok_text}
-use Rattle.vs_uds.specs.Reading.{is_decided}
+use Rattle.vs_uds.specs.{OkLine.ok_text, Reading.is_decided}
 use Rattle.vs_uds.specs.declared.connect.TheConstants.{CONNECT_MAX}
 use Rattle.vs_device_parts.specs.State.{DeviceConnection, DeviceEntry}
-use Rattle.vs_pipes.specs.Drains.{Drains}
-use Rattle.vs_pipes.specs.Streamed.{gives, has_line}
+use Rattle.vs_pipes.specs.{Drains.Drains, Streamed.gives, Streamed.has_line}
 use Rattle.vs_proxy_parts.specs.State.{Handshake, ProxyState}
 use Rattle.vs_proxy_bytes.specs.Made.{Account, Made, account_of, new_account, payload_put, payload_taken}
 

@@ -2,15 +2,12 @@
 use Rattle.std.specs.Prelude.{◌≡◌, ◌≢◌, ℕ, ◌≤◌, ◌++◌, true, false, List, [], Option, Some, None}
 use Rattle.std.specs.List.{All}
 use Rattle.vs_contents.specs.CallTree.{Leads}
-use Rattle.vs_flow.specs.declared.flow.Flow.{Flow}
-use Rattle.vs_flow.specs.declared.flow.TheConstants.{ASSIGNED_LAST}
+use Rattle.vs_flow.specs.declared.flow.{Flow.Flow, TheConstants.ASSIGNED_LAST}
 use Rattle.vs_outside.specs.Host.{HostContents, Stream, stream_at, waits}
 use Rattle.vs_flow.specs.Table.{Table}
-use Rattle.vs_device_parts.specs.Calls.{DeviceTree}
-use Rattle.vs_device_parts.specs.State.{DeviceConnection}
+use Rattle.vs_device_parts.specs.{Calls.DeviceTree, State.DeviceConnection}
 use Rattle.vs_proxy_parts.specs.State.{Handshake}
-use Rattle.vs_proxy_bytes.specs.Carried.{Carries}
-use Rattle.vs_proxy_bytes.specs.Made.{Account, Made, Makes, account_of}
+use Rattle.vs_proxy_bytes.specs.{Carried.Carries, Made.Account, Made.Made, Made.Makes, Made.account_of}
 use Rattle.vs_proxy_bytes.specs.Tied.{AgreesWith, IsRead, IsWhole, reading_account}
 
 -- The port of a client's connection is one that is assigned, or one below.

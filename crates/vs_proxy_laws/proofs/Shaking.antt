@@ -1,6 +1,6 @@
 -- Handshakes: each call names a stream that is open.
-use Rattle.std.proofs.Common.{◌≡◌, ℕ, ◌+◌, Bool, true, false, cond, List, [], ◌∷◌, ◌++◌, length, nat_lt, Option, Some, None, Contains}
-use Rattle.std.proofs.Common.{refl, sym, subst}
+use Rattle.std.proofs.Common.{◌≡◌, ℕ, ◌+◌, Bool, true, false, cond, List, [], ◌∷◌, ◌++◌, length, nat_lt, Option, Some, None, Contains, refl}
+use Rattle.std.proofs.Common.{sym, subst}
 use Rattle.std.specs.Option.{ForSome}
 use Rattle.vs_contents.specs.CallTree.{Done, Ask, for_each}
 use Rattle.vs_flow.specs.declared.flow.Flow.{Flow}
@@ -15,18 +15,13 @@ use Rattle.vs_uds.specs.declared.connect.TheConstants.{CONNECT_MAX}
 use Rattle.vs_uds.specs.declared.scan.Step.{Step}
 use Rattle.vs_uds.specs.declared.scan.Step.TheVariants as step
 use Rattle.vs_device_parts.specs.Calls.{Accept, Call, CloseStream, ReadStream, Situation, DeviceTree, Allows}
-use Rattle.vs_device_parts.specs.Connections.{is_late}
-use Rattle.vs_device_parts.specs.Turns.{open_of}
-use Rattle.vs_device_laws.specs.Split.{CanReach, is_quiet}
-use Rattle.vs_device_laws.specs.Streams.{FindsStreams, HasStreams, IsFree}
-use Rattle.vs_device_laws.proofs.Keeping.{Keeps, keeps_each, keeps_then, keeps_while}
-use Rattle.vs_device_laws.proofs.Opening.{keeps_open}
-use Rattle.vs_device_laws.proofs.Tables.{has_moved, some_after, some_from}
-use Rattle.vs_device_laws.proofs.Writing.{all_stay}
-use Rattle.vs_proxy_parts.specs.Handshakes.{accept_answered, accept_one, byte_read, dropping, handshake_on, host_fault, line_decided, may_open}
-use Rattle.vs_proxy_parts.specs.Handshakes.{opening, read_byte, read_line}
-use Rattle.vs_proxy_parts.specs.Handshakes.{shake_hands, streams_of, tick_handshake, tick_handshakes, with_line, without_handshake}
-use Rattle.vs_proxy_parts.specs.Handshakes.{without_stream}
+use Rattle.vs_device_parts.specs.{Connections.is_late, Turns.open_of}
+use Rattle.vs_device_laws.specs.{Split.CanReach, Split.is_quiet, Streams.FindsStreams, Streams.HasStreams, Streams.IsFree}
+use Rattle.vs_device_laws.proofs.{Keeping.Keeps, Keeping.keeps_each, Keeping.keeps_then, Keeping.keeps_while, Opening.keeps_open}
+use Rattle.vs_device_laws.proofs.{Tables.has_moved, Tables.some_after, Tables.some_from, Writing.all_stay}
+use Rattle.vs_proxy_parts.specs.Handshakes.{accept_answered, accept_one, byte_read, dropping, handshake_on, host_fault, line_decided}
+use Rattle.vs_proxy_parts.specs.Handshakes.{may_open, opening, read_byte, read_line, shake_hands, streams_of, tick_handshake}
+use Rattle.vs_proxy_parts.specs.Handshakes.{tick_handshakes, with_line, without_handshake, without_stream}
 use Rattle.vs_proxy_parts.specs.State.{Handshake, ProxyState, Turning, with_device}
 use Rattle.vs_proxy_parts.specs.declared.limits.TheConstants.{HANDSHAKES}
 use Rattle.vs_proxy_laws.proofs.Hosts.{has_accepted, has_dropped, has_of, is_free}

@@ -5,35 +5,21 @@ use Rattle.vs_contents.specs.CallTree.{Done, for_each}
 use Rattle.vs_flow.specs.Table.{Table}
 use Rattle.vs_outside.specs.Host.{IsOpen, after_close}
 use Rattle.vs_ring_port.specs.declared.failure.Failure.{Failure}
-use Rattle.vs_device_parts.specs.declared.answers.Filled.{Filled}
-use Rattle.vs_device_parts.specs.declared.answers.Taken.{Taken}
+use Rattle.vs_device_parts.specs.declared.answers.{Filled.Filled, Taken.Taken}
 use Rattle.vs_device_parts.specs.Calls.{Call, CloseStream, Situation, DeviceTree, Allows}
-use Rattle.vs_device_parts.specs.Receiving.{fill_rx_of, pay_event_of}
-use Rattle.vs_device_parts.specs.State.{DeviceConnection, DeviceState}
-use Rattle.vs_device_parts.specs.Streams.{pump_of, tick_of}
-use Rattle.vs_device_parts.specs.Transmitting.{take_tx_of}
-use Rattle.vs_device_parts.specs.Turns.{reset_of}
-use Rattle.vs_device_laws.specs.Split.{CanReach, is_quiet}
-use Rattle.vs_device_laws.specs.Streams.{FindsStreams, HasStreams}
-use Rattle.vs_device_laws.proofs.Closing.{keeps_tick}
-use Rattle.vs_device_laws.proofs.Keeping.{Keeps, keeps_then, keeps_while}
-use Rattle.vs_device_laws.proofs.Opening.{keeps_reset}
-use Rattle.vs_device_laws.proofs.Receiving.{keeps_fill_rx, keeps_pay_event}
-use Rattle.vs_device_laws.proofs.Tables.{some_after, some_from}
-use Rattle.vs_device_laws.proofs.Transmitting.{keeps_take_tx}
-use Rattle.vs_device_laws.proofs.Writing.{keeps_pump}
+use Rattle.vs_device_parts.specs.{Receiving.fill_rx_of, Receiving.pay_event_of, State.DeviceConnection, State.DeviceState}
+use Rattle.vs_device_parts.specs.{Streams.pump_of, Streams.tick_of, Transmitting.take_tx_of, Turns.reset_of}
+use Rattle.vs_device_laws.specs.{Split.CanReach, Split.is_quiet, Streams.FindsStreams, Streams.HasStreams}
+use Rattle.vs_device_laws.proofs.{Closing.keeps_tick, Keeping.Keeps, Keeping.keeps_then, Keeping.keeps_while, Opening.keeps_reset}
+use Rattle.vs_device_laws.proofs.{Receiving.keeps_fill_rx, Receiving.keeps_pay_event, Tables.some_after, Tables.some_from}
+use Rattle.vs_device_laws.proofs.{Transmitting.keeps_take_tx, Writing.keeps_pump, Stepping.reach}
 use Rattle.vs_proxy_parts.specs.Handshakes.{shake_hands, streams_of, tick_handshakes}
 use Rattle.vs_proxy_parts.specs.State.{ProxyState, Turning, start, with_device}
-use Rattle.vs_proxy_parts.specs.Turns.{close_handshake, device_after, event_stage, fill_stage, filled, proxy_reset_of, pump_stage, reset_with}
-use Rattle.vs_proxy_parts.specs.Turns.{take_one, take_stage}
-use Rattle.vs_proxy_parts.specs.Turns.{tick_stage, took_packet, turn_of, unless_failed}
+use Rattle.vs_proxy_parts.specs.Turns.{close_handshake, device_after, event_stage, fill_stage, filled, proxy_reset_of, pump_stage}
+use Rattle.vs_proxy_parts.specs.Turns.{reset_with, take_one, take_stage, tick_stage, took_packet, turn_of, unless_failed}
 use Rattle.vs_proxy_parts.specs.declared.answers.Turn.{Turn}
-use Rattle.vs_proxy_laws.proofs.Hosts.{has_dropped}
-use Rattle.vs_proxy_laws.proofs.Lists.{at_first, further}
+use Rattle.vs_proxy_laws.proofs.{Hosts.has_dropped, Lists.at_first, Lists.further}
 use Rattle.vs_proxy_laws.proofs.Shaking.{FindsAll, Turns, TurnsFirst, keeps_shake_hands, keeps_tick_handshakes}
-
-as_is : (call : Call) (s : Situation) → is_quiet call ≡ true → CanReach call s → CanReach call s
-as_is call s quiet can = can
 
 keeps_unless : (stage : Turning → DeviceTree Turning) (t : Turning) (c : Situation) → (Turns t c → Keeps CanReach Allows Turns (stage t) c)
     → Turns t c → Keeps CanReach Allows Turns (unless_failed stage t) c
@@ -51,8 +37,8 @@ module _ (t : Turning) (c : Situation) (has : Turns t c) where
   unfolding others
   keeps_tick_stage now =
       keeps_then CanReach Allows Turns (FindsStreams others) (tick_of now t.state.device) (λ d. tick_handshakes (device_after d t)) c
-      (keeps_tick CanReach as_is others now t.state.device c has)
-      (λ d e kept. keeps_tick_handshakes CanReach as_is (device_after d t) e kept)
+      (keeps_tick CanReach reach others now t.state.device c has)
+      (λ d e kept. keeps_tick_handshakes CanReach reach (device_after d t) e kept)
 
   pub keeps_event_stage : Keeps CanReach Allows Turns (event_stage t) c
   unfolding others
@@ -65,7 +51,7 @@ module _ (t : Turning) (c : Situation) (has : Turns t c) where
   keeps_pump_stage =
       keeps_then CanReach Allows Turns (λ w d. FindsStreams others w.state d) (pump_of t.state.device)
       (λ w. Done (record (device_after w.state t) { wrote = t.wrote + w.wrote })) c
-      (keeps_pump CanReach as_is others t.state.device c has) (λ w d kept. kept)
+      (keeps_pump CanReach reach others t.state.device c has) (λ w d kept. kept)
 
   pub keeps_fill_stage : Keeps CanReach Allows Turns (fill_stage t) c
   unfolding others
@@ -83,7 +69,7 @@ module _ (t : Turning) (c : Situation) (has : Turns t c) where
   unfolding others
   keeps_take_one =
       keeps_then CanReach Allows TurnsFirst (λ r d. FindsStreams others r.0 d) (take_tx_of t.state.device) ends c
-      (keeps_take_tx CanReach as_is others t.state.device c has) (λ r d kept. by r.0 d (took_packet r.1) kept)
+      (keeps_take_tx CanReach reach others t.state.device c has) (λ r d kept. by r.0 d (took_packet r.1) kept)
     where
       ends : DeviceState × Taken → DeviceTree (Turning × Bool)
       ends r = elim (took_packet r.1) [
@@ -110,7 +96,7 @@ keeps_turn size now s c has =
     keeps_then CanReach Allows Q Turns (unless_failed (take_stage size) t) _ d
     (keeps_unless (take_stage size) t d (λ has. keeps_take_stage size t d has) kept) (λ t d kept.
     keeps_then CanReach Allows Q Turns (unless_failed shake_hands t) _ d
-    (keeps_unless shake_hands t d (λ has. keeps_shake_hands CanReach as_is t d has) kept) (λ t d kept.
+    (keeps_unless shake_hands t d (λ has. keeps_shake_hands CanReach reach t d has) kept) (λ t d kept.
     keeps_then CanReach Allows Q Turns (unless_failed pump_stage t) _ d
     (keeps_unless pump_stage t d (λ has. keeps_pump_stage t d has) kept) (λ t d kept.
     keeps_then CanReach Allows Q Turns (unless_failed fill_stage t) _ d

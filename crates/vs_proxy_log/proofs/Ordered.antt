@@ -1,23 +1,16 @@
 -- A proxy in order: its turn and its reset may be made, and what each keeps, from the conversation that it ran.
 use Rattle.std.proofs.Common.{[], ℕ, ◌<◌, ◌^◌, List, Result}
 use Rattle.vs_ring_port.specs.declared.failure.Failure.{Failure}
-use Rattle.vs_device_parts.specs.Calls.{Allows, Situation}
-use Rattle.vs_device_parts.specs.Playing.{CanMake, MayRun, Runs}
-use Rattle.vs_device_laws.specs.Split.{CanReach}
-use Rattle.vs_device_laws.specs.Streams.{FindsStreams}
-use Rattle.vs_device_laws.proofs.Conditions.{may_where, quiet_can}
-use Rattle.vs_device_laws.proofs.Keeping.{keeps_may, keeps_end as streams_end}
+use Rattle.vs_device_parts.specs.{Calls.Allows, Calls.Situation, Playing.CanMake, Playing.MayRun, Playing.Runs}
+use Rattle.vs_device_laws.specs.{Split.CanReach, Streams.FindsStreams}
+use Rattle.vs_device_laws.proofs.{Conditions.may_where, Conditions.quiet_can, Keeping.keeps_may, Keeping.keeps_end as streams_end}
 use Rattle.vs_device_laws.proofs.Opening.{new_has}
 use Rattle.vs_device_log.specs.Honest.{IsFresh}
 use Rattle.vs_device_log.proofs.Keeping.{keeps_end, keeps_put}
-use Rattle.vs_proxy_parts.specs.Handshakes.{streams_of}
-use Rattle.vs_proxy_parts.specs.State.{ProxyState}
-use Rattle.vs_proxy_parts.specs.Turns.{new_proxy, proxy_reset_of, turn_of}
+use Rattle.vs_proxy_parts.specs.{Handshakes.streams_of, State.ProxyState, Turns.new_proxy, Turns.proxy_reset_of, Turns.turn_of}
 use Rattle.vs_proxy_parts.specs.declared.answers.Turn.{Turn}
-use Rattle.vs_proxy_laws.proofs.Lists.{none_open}
-use Rattle.vs_proxy_laws.proofs.Turning.{keeps_proxy_reset, keeps_turn}
-use Rattle.vs_proxy_log.specs.Honest.{IsProxyWith}
-use Rattle.vs_proxy_log.specs.Order.{IsInOrder}
+use Rattle.vs_proxy_laws.proofs.{Lists.none_open, Turning.keeps_proxy_reset, Turning.keeps_turn}
+use Rattle.vs_proxy_log.specs.{Honest.IsProxyWith, Order.IsInOrder}
 use Rattle.vs_proxy_log.proofs.Turning.{new_proxy_with, proxy_reset_keeps, turn_keeps}
 
 pub new_in_order : (cid : ℕ) (base : List ℕ) (a : Situation) → cid < 2 ^ 64 → IsFresh a.ring → IsInOrder cid (new_proxy cid base) a

@@ -2,8 +2,7 @@
 use Rattle.std.specs.Prelude.{ℕ}
 use Rattle.vs_device_parts.specs.Calls.{Situation}
 use Rattle.vs_device_laws.specs.Streams.{FindsStreams}
-use Rattle.vs_proxy_parts.specs.Handshakes.{streams_of}
-use Rattle.vs_proxy_parts.specs.State.{ProxyState}
+use Rattle.vs_proxy_parts.specs.{Handshakes.streams_of, State.ProxyState}
 use Rattle.vs_proxy_log.specs.Honest.{IsProxyWith}
 
 -- The streams of its handshakes and of its device are open, all different ones, and it agrees with its ring, where this was the guest's CID

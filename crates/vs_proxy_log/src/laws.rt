@@ -3,16 +3,12 @@
 ghost use Rattle.std.specs.Prelude.{◌<◌, ◌^◌, ℕ, List, Result};
 ghost use Rattle.vs_ring_port.specs.Contents.{RingContents};
 ghost use Rattle.vs_ring_port.specs.declared.failure.Failure.{Failure};
-ghost use Rattle.vs_device_parts.specs.Calls.{Situation};
-ghost use Rattle.vs_device_parts.specs.Playing.{MayRun, Runs};
+ghost use Rattle.vs_device_parts.specs.{Calls.Situation, Playing.MayRun, Playing.Runs};
 ghost use Rattle.vs_device_laws.specs.Streams.{FindsStreams};
 ghost use Rattle.vs_device_log.specs.Honest.{IsFresh};
-ghost use Rattle.vs_proxy_parts.specs.Handshakes.{streams_of};
-ghost use Rattle.vs_proxy_parts.specs.State.{ProxyState};
-ghost use Rattle.vs_proxy_parts.specs.Turns.{new_proxy, proxy_reset_of, turn_of};
+ghost use Rattle.vs_proxy_parts.specs.{Handshakes.streams_of, State.ProxyState, Turns.new_proxy, Turns.proxy_reset_of, Turns.turn_of};
 ghost use Rattle.vs_proxy_parts.specs.declared.answers.Turn.{Turn};
-ghost use Rattle.vs_proxy_log.specs.Honest.{IsProxyWith};
-ghost use Rattle.vs_proxy_log.specs.Order.{IsInOrder};
+ghost use Rattle.vs_proxy_log.specs.{Honest.IsProxyWith, Order.IsInOrder};
 
 /// Over a ring that tells its log a turn and a reset leave the proxy with its ring: the device holds the one chain that it keeps for the
 /// next packet, and over an honest ring its connections are those that the log left. Each packet of a turn keeps the log fair, so a turn

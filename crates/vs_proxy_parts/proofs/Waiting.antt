@@ -1,16 +1,14 @@
 -- The handshake on a stream, by its place.
-use Rattle.std.proofs.Common.{◌≡◌, ℕ, zero, suc, ◌<◌, ◌==◌, Bool, true, false, cond, List, [], ◌∷◌, ◌++◌, length, get_or, set, ltb, Option, Some, None, refl, sym, ap, ◌∙◌, arith}
+use Rattle.std.proofs.Common.{◌≡◌, ℕ, zero, suc, ◌<◌, ◌==◌, Bool, true, false, cond, List, [], ◌∷◌, ◌++◌, length, get_or, set, ltb, Option}
+use Rattle.std.proofs.Common.{Some, None, refl, sym, ap, ◌∙◌, arith}
 use Rattle.std.specs.List.{All, find, remove, position, position_or_len}
-use Rattle.std.proofs.lemmas.List.Folds.{find_at}
-use Rattle.std.proofs.lemmas.List.Quantifiers.{position-Some}
+use Rattle.std.proofs.lemmas.List.{Folds.find_at, Quantifiers.position-Some}
 use Rattle.std.proofs.lemmas.Option.{slice_get_past}
 use Rattle.std.proofs.lemmas.Bool.Decides.{nat_tests}
-use Rattle.vs_uds.specs.ConnectLine.{connect_port, connect_step}
-use Rattle.vs_uds.specs.Reading.{fed, is_decided, port_or_bad}
+use Rattle.vs_uds.specs.{ConnectLine.connect_port, ConnectLine.connect_step, Reading.fed, Reading.is_decided, Reading.port_or_bad}
 use Rattle.vs_uds.specs.declared.connect.TheConstants.{CONNECT_MAX}
 use Rattle.vs_uds.specs.declared.scan.Step.TheVariants as step
-use Rattle.vs_proxy_parts.specs.State.{Handshake}
-use Rattle.vs_proxy_parts.specs.Handshakes.{with_line, without_stream}
+use Rattle.vs_proxy_parts.specs.{State.Handshake, Handshakes.with_line, Handshakes.without_stream}
 
 abbrev is_on : ℕ → Handshake → Bool
 is_on stream h = h.stream == stream
@@ -67,15 +65,6 @@ pub set_removed : (hs : List Handshake) (i : ℕ) (h : Handshake) → i < length
 set_removed [] i h lt = absurd (omega arith)
 set_removed (x ∷ xs) zero h lt = refl
 set_removed (x ∷ xs) (suc i) h lt = ap (λ (ys : List Handshake). x ∷ ys) (set_removed xs i h (omega arith))
-
-pub all_removed : (P : Handshake → Type 0) (hs : List Handshake) (i : ℕ) → i < length hs → All P hs → All P (remove hs i)
-all_removed P [] i lt all = absurd (omega arith)
-all_removed P (x ∷ xs) zero lt all = λ k d within. all (suc k) d (omega arith)
-all_removed P (x ∷ xs) (suc i) lt all = by (all_removed P xs i (omega arith) (λ k d within. all (suc k) d (omega arith)))
-  where
-    by : All P (remove xs i) → All P (x ∷ remove xs i)
-    by rest zero d within = all 0 d (omega arith)
-    by rest (suc k) d within = rest k d (omega arith)
 
 -- a line that isn't decided takes the byte, and stays undecided while more is to come
 no_more : (o : Option ℕ) → port_or_bad o ≡ step.More → ⊥

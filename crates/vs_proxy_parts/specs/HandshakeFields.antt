@@ -1,6 +1,5 @@
 -- What always holds of the fields of a proxy's handshakes. No public clause cites this module.
-use Rattle.std.specs.Prelude.{◌≡◌, ◌≤◌, false, length, vec_capacity}
-use Rattle.std.specs.List.{All}
+use Rattle.std.specs.{Prelude.◌≡◌, Prelude.◌≤◌, Prelude.false, Prelude.length, Prelude.vec_capacity, List.All}
 use Rattle.vs_uds.specs.Reading.{is_decided}
 use Rattle.vs_uds.specs.declared.connect.TheConstants.{CONNECT_MAX}
 use Rattle.vs_proxy_parts.specs.declared.handshakes.Handshakes.TheInside.{Inside}

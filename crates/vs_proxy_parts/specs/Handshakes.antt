@@ -1,5 +1,6 @@
 -- Handshakes: a client of the host writes `CONNECT PORT` (Firecracker's vsock documentation).
-use Rattle.std.specs.Prelude.{ℕ, ◌+◌, ◌==◌, ◌&&◌, nat_lt, nat_le, Bool, true, false, if◌then◌else◌, List, [], ◌∷◌, ◌++◌, length, map, find, Option, Some, None}
+use Rattle.std.specs.Prelude.{ℕ, ◌+◌, ◌==◌, ◌&&◌, nat_lt, nat_le, Bool, true, false, if◌then◌else◌, List, [], ◌∷◌, ◌++◌, length, map, find}
+use Rattle.std.specs.Prelude.{Option, Some, None}
 use Rattle.vs_contents.specs.CallTree.{Done, Ask, bind, for_each, while_up_to}
 use Rattle.vs_flow.specs.Table.{has_place}
 use Rattle.vs_flow.specs.declared.flow.TheConstants.{ASSIGNED_LAST}
@@ -12,8 +13,7 @@ use Rattle.vs_uds.specs.declared.connect.TheConstants.{CONNECT_MAX}
 use Rattle.vs_uds.specs.declared.scan.Step.{Step}
 use Rattle.vs_uds.specs.declared.scan.Step.TheVariants as step
 use Rattle.vs_device_parts.specs.Calls.{DeviceTree, Accept, ReadStream, CloseStream}
-use Rattle.vs_device_parts.specs.Connections.{with_fault, is_late}
-use Rattle.vs_device_parts.specs.Turns.{open_of}
+use Rattle.vs_device_parts.specs.{Connections.with_fault, Connections.is_late, Turns.open_of}
 use Rattle.vs_proxy_parts.specs.State.{Handshake, ProxyState, Turning, with_device}
 use Rattle.vs_proxy_parts.specs.declared.limits.TheConstants.{HANDSHAKES}
 

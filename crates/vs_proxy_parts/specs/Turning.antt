@@ -1,9 +1,7 @@
 -- A turn in progress, as its steps count it.
 use Rattle.std.specs.Prelude.{ℕ, ◌+◌, ◌≤◌, if◌then◌else◌}
 use Rattle.vs_contents.specs.CallTree.{Done, Ask, bind, for_each}
-use Rattle.vs_device_parts.specs.Calls.{DeviceTree, CloseStream}
-use Rattle.vs_device_parts.specs.State.{DeviceState}
-use Rattle.vs_device_parts.specs.Turns.{open_of}
+use Rattle.vs_device_parts.specs.{Calls.DeviceTree, Calls.CloseStream, State.DeviceState, Turns.open_of}
 use Rattle.vs_proxy_parts.specs.declared.tally.Tally.{Tally}
 use Rattle.vs_proxy_parts.specs.State.{ProxyState, Turning, with_device}
 use Rattle.vs_proxy_parts.specs.Handshakes.{may_open, read_line, streams_of, without_handshake}

@@ -3,14 +3,9 @@ use Rattle.std.specs.Prelude.{ℕ, ◌+◌, ◌-◌, Bool, true, false, List, []
 use Rattle.vs_contents.specs.CallTree.{Done, Ask, bind, for_each, while_up_to}
 use Rattle.vs_flow.specs.declared.flow.TheConstants.{ASSIGNED_FIRST}
 use Rattle.vs_ring_port.specs.declared.failure.Failure.{Failure}
-use Rattle.vs_device_parts.specs.Calls.{DeviceTree, CloseStream}
-use Rattle.vs_device_parts.specs.State.{DeviceState}
-use Rattle.vs_device_parts.specs.Streams.{tick_of, pump_of}
-use Rattle.vs_device_parts.specs.Transmitting.{take_tx_of}
-use Rattle.vs_device_parts.specs.Receiving.{pay_event_of, fill_rx_of}
-use Rattle.vs_device_parts.specs.Turns.{new_device, reset_of}
-use Rattle.vs_device_parts.specs.declared.answers.Filled.{Filled}
-use Rattle.vs_device_parts.specs.declared.answers.Taken.{Taken}
+use Rattle.vs_device_parts.specs.{Calls.DeviceTree, Calls.CloseStream, State.DeviceState, Streams.tick_of, Streams.pump_of}
+use Rattle.vs_device_parts.specs.{Transmitting.take_tx_of, Receiving.pay_event_of, Receiving.fill_rx_of, Turns.new_device, Turns.reset_of}
+use Rattle.vs_device_parts.specs.declared.answers.{Filled.Filled, Taken.Taken}
 use Rattle.vs_device_parts.specs.declared.answers.Taken.TheVariants as taken
 use Rattle.vs_proxy_parts.specs.State.{ProxyState, Turning, start, with_device}
 use Rattle.vs_proxy_parts.specs.Handshakes.{streams_of, tick_handshakes, shake_hands}

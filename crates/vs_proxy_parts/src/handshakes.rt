@@ -1,7 +1,6 @@
 //! The handshakes of a proxy, in the order in which they were accepted.
 
-ghost use Rattle.std.specs.Prelude.{◌≡◌, ◌≤◌, ◌<◌, ◌==◌, ◌++◌, ◌∷◌, [], length, map, find, position, Some, None, IfOk, option_map, vec_capacity};
-ghost use Rattle.std.specs.List.{All};
+ghost use Rattle.std.specs.Prelude.{◌≡◌, ◌≤◌, ◌<◌, ◌==◌, ◌++◌, ◌∷◌, [], length, map, find, position, Some, IfOk, option_map};
 ghost use Rattle.vs_uds.specs.ConnectLine.{connect_step};
 ghost use Rattle.vs_uds.specs.declared.scan.Step.TheVariants as step;
 ghost use Rattle.vs_proxy_parts.specs.Handshakes.{with_line, without_stream};

@@ -1,11 +1,8 @@
 //! The proxy's calls on the host for handshakes, each as it stands in a conversation.
 
-ghost use Rattle.std.specs.Prelude.{◌≡◌, ◌∷◌, []};
-ghost use Rattle.std.specs.Option.{ForSome};
+ghost use Rattle.std.specs.{Prelude.◌∷◌, Prelude.[], Option.ForSome};
 ghost use Rattle.vs_outside.specs.Host.{IsOpen, ReadsSome};
-ghost use Rattle.vs_device_parts.specs.Calls.{Accept, CloseStream, ReadStream};
-ghost use Rattle.vs_device_parts.specs.Filling.{bytes_read};
-ghost use Rattle.vs_device_parts.specs.Playing.{AllowsOnHost};
+ghost use Rattle.vs_device_parts.specs.{Calls.Accept, Calls.CloseStream, Calls.ReadStream, Filling.bytes_read, Playing.AllowsOnHost};
 
 use vs_outside::{Accepted, HostNet, StreamRead};
 

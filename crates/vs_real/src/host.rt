@@ -1,5 +1,4 @@
 //! A host's streams over Unix sockets (Firecracker's vsock documentation).
-ghost use Rattle.std.specs.Prelude.{◌≡◌};
 ghost use Rattle.vs_outside.specs.Faults.{CountsFault};
 
 use crate::sockets::Sockets;
@@ -14,7 +13,8 @@ use vs_outside::{Accepted, Dialed, HostNet, Started, StreamRead, StreamWrite};
 /// that nothing can be there. Each error is a fault, and is counted.
 #[derive(Drop)]
 pub struct UnixHost<R> {
-    sockets: Sockets<R>,
+    rt: R,
+    sockets: Sockets,
     faults: u64,
 }
 
@@ -24,8 +24,10 @@ impl<R: Net + Files + AllocGlobal> UnixHost<R> {
     where
         R: Drop,
     {
+        let sockets = Sockets::new(&rt)?;
         Ok(UnixHost {
-            sockets: Sockets::new(rt)?,
+            rt,
+            sockets,
             faults: 0,
         })
     }
@@ -44,7 +46,7 @@ impl<R: Net + Files + AllocGlobal> HostNet for UnixHost<R> {
     ghost contents = { λ _. None };
 
     fn start(&mut self, path: &str) -> Started {
-        let started = self.sockets.start(path);
+        let started = self.sockets.start(&self.rt, path);
         self.faults = counted(self.faults, matches!(started, Started::Failed));
         started
     }
@@ -56,7 +58,7 @@ impl<R: Net + Files + AllocGlobal> HostNet for UnixHost<R> {
     }
 
     fn dial(&mut self, path: &str, flow: Flow) -> Dialed {
-        let dialed = self.sockets.dial(path);
+        let dialed = self.sockets.dial(&self.rt, path);
         self.faults = counted(self.faults, matches!(dialed, Dialed::Failed));
         dialed
     }

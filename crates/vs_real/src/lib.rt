@@ -14,6 +14,3 @@ pub use crate::clock::MachineClock;
 pub use crate::gate::YieldGate;
 pub use crate::host::UnixHost;
 pub use crate::stdio::{ReadSource, WriteSink};
-
-#[cfg(test)]
-mod tests;

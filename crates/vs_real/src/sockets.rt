@@ -30,8 +30,7 @@ struct Socket {
 
 /// Sockets of one poll: at most one that listens, and the streams by their ids, none of which is given twice.
 #[derive(Drop)]
-pub struct Sockets<R> {
-    rt: R,
+pub struct Sockets {
     poll: Poll,
     events: Events,
     // the number of the last poll
@@ -42,17 +41,13 @@ pub struct Sockets<R> {
     last_id: u64,
 }
 
-impl<R: Net + Files + AllocGlobal> Sockets<R> {
+impl Sockets {
     /// No socket yet. The error is want of memory, or that the system gives no poll.
-    pub fn new(rt: R) -> io::Result<Sockets<R>>
-    where
-        R: Drop,
-    {
-        let poll = Poll::new(&rt)?;
+    pub fn new<R: Net + AllocGlobal>(rt: &R) -> io::Result<Sockets> {
+        let poll = Poll::new(rt)?;
         let events = Events::with_capacity(rt.alloc(), EVENTS)?;
         let streams = IndexMap::new(rt.alloc());
         Ok(Sockets {
-            rt,
             poll,
             events,
             polls: 0,
@@ -64,52 +59,50 @@ impl<R: Net + Files + AllocGlobal> Sockets<R> {
     }
 
     /// Listens at a path.
-    pub fn start(&mut self, path: &str) -> Started {
-        match self.listen(path) {
-            Ok(()) => Started::Ready,
+    pub fn start<R: Net + Files>(&mut self, rt: &R, path: &str) -> Started {
+        match listening(rt, &self.poll, path) {
+            Ok(listener) => {
+                self.listener = Some(listener);
+                self.clients = Readiness::new();
+                Started::Ready
+            }
             Err(_) => Started::Failed,
         }
     }
 
-    fn listen(&mut self, path: &str) -> io::Result<()> {
-        let mut listener = UnixListener::bind(&self.rt, path)?;
-        self.poll
-            .registry()
-            .register(&mut listener, LISTENER, Interest::READABLE)?;
-        self.listener = Some(listener);
-        self.clients = Readiness::new();
-        Ok(())
-    }
-
     /// Accepts a client that waits.
     pub fn accept(&mut self) -> Accepted {
+        match self.clients.ask(self.polls) {
+            Ask::Socket => self.accept_now(),
+            Ask::Poll if !self.look() => Accepted::Failed,
+            _ => Accepted::None,
+        }
+    }
+
+    // Accepts a client, where one waits.
+    fn accept_now(&mut self) -> Accepted {
         let Some(listener) = &self.listener else {
             return Accepted::None;
         };
-        match self.clients.ask(self.polls) {
-            Ask::Socket => match listener.accept() {
-                Ok((stream, _)) => match self.add(stream) {
-                    Some(id) => Accepted::Stream(id),
-                    None => Accepted::Failed,
-                },
-                Err(e) if e.kind() == ErrorKind::WouldBlock => {
+        match listener.accept() {
+            Ok((stream, _)) => match self.add(stream) {
+                Some(id) => Accepted::Stream(id),
+                None => Accepted::Failed,
+            },
+            Err(e) => match e.kind() {
+                ErrorKind::WouldBlock => {
                     self.clients.wait(self.polls);
                     Accepted::None
                 }
-                Err(e) if e.kind() == ErrorKind::Interrupted => Accepted::None,
-                Err(_) => Accepted::Failed,
+                ErrorKind::Interrupted => Accepted::None,
+                _ => Accepted::Failed,
             },
-            Ask::Poll => match self.look() {
-                Ok(()) => Accepted::None,
-                Err(_) => Accepted::Failed,
-            },
-            Ask::Nothing => Accepted::None,
         }
     }
 
     /// Connects to whoever listens at a path.
-    pub fn dial(&mut self, path: &str) -> Dialed {
-        match UnixStream::connect(&self.rt, path) {
+    pub fn dial<R: Net + Files>(&mut self, rt: &R, path: &str) -> Dialed {
+        match UnixStream::connect(rt, path) {
             Ok(stream) => match self.add(stream) {
                 Some(id) => Dialed::Stream(id),
                 None => Dialed::Failed,
@@ -122,20 +115,7 @@ impl<R: Net + Files + AllocGlobal> Sockets<R> {
     // Keeps a new stream, under the next id. None: there is no memory, no id, or no place in the poll.
     fn add(&mut self, stream: UnixStream) -> Option<u64> {
         let id = self.last_id.checked_add(1)?;
-        let token = Token(usize::try_from(id).ok()?);
-        let mut socket = Socket {
-            stream,
-            input: Readiness::new(),
-            output: Readiness::new(),
-        };
-        self.poll
-            .registry()
-            .register(
-                &mut socket.stream,
-                token,
-                Interest::READABLE | Interest::WRITABLE,
-            )
-            .ok()?;
+        let socket = registered(&self.poll, stream, id)?;
         self.streams.insert(id, socket).ok()?;
         self.last_id = id;
         Some(id)
@@ -150,11 +130,8 @@ impl<R: Net + Files + AllocGlobal> Sockets<R> {
         };
         match socket.input.ask(self.polls) {
             Ask::Socket => read_once(socket, out, self.polls),
-            Ask::Poll => match self.look() {
-                Ok(()) => StreamRead::Again,
-                Err(_) => StreamRead::Failed,
-            },
-            Ask::Nothing => StreamRead::Again,
+            Ask::Poll if !self.look() => StreamRead::Failed,
+            _ => StreamRead::Again,
         }
     }
 
@@ -167,11 +144,8 @@ impl<R: Net + Files + AllocGlobal> Sockets<R> {
         };
         match socket.output.ask(self.polls) {
             Ask::Socket => write_once(socket, bytes, self.polls),
-            Ask::Poll => match self.look() {
-                Ok(()) => StreamWrite::Again,
-                Err(_) => StreamWrite::Failed,
-            },
-            Ask::Nothing => StreamWrite::Again,
+            Ask::Poll if !self.look() => StreamWrite::Failed,
+            _ => StreamWrite::Again,
         }
     }
 
@@ -187,18 +161,50 @@ impl<R: Net + Files + AllocGlobal> Sockets<R> {
         self.streams.swap_remove(&id);
     }
 
-    // Polls once, without waiting.
-    fn look(&mut self) -> io::Result<()> {
+    // Polls once, without waiting. Answers whether that went well.
+    fn look(&mut self) -> bool {
         self.polls = self.polls.wrapping_add(1);
-        self.poll.poll(&mut self.events, Some(Duration::ZERO))?;
-        for event in self.events.iter() {
-            if event.token() == LISTENER {
-                self.clients.wake();
-            } else if let Some(socket) = self.streams.get_mut(&(event.token().0 as u64)) {
-                wake(socket, event);
-            }
+        if self
+            .poll
+            .poll(&mut self.events, Some(Duration::ZERO))
+            .is_err()
+        {
+            return false;
         }
-        Ok(())
+        wake_all(&self.events, &mut self.clients, &mut self.streams);
+        true
+    }
+}
+
+// A socket that listens at a path, and is in the poll.
+fn listening<R: Net + Files>(rt: &R, poll: &Poll, path: &str) -> io::Result<UnixListener> {
+    let mut listener = UnixListener::bind(rt, path)?;
+    poll.registry()
+        .register(&mut listener, LISTENER, Interest::READABLE)?;
+    Ok(listener)
+}
+
+// Puts a stream into the poll, under the token of its id. None: there is no such token, or no place in the poll.
+fn registered(poll: &Poll, mut stream: UnixStream, id: u64) -> Option<Socket> {
+    let token = Token(usize::try_from(id).ok()?);
+    poll.registry()
+        .register(&mut stream, token, Interest::READABLE | Interest::WRITABLE)
+        .ok()?;
+    Some(Socket {
+        stream,
+        input: Readiness::new(),
+        output: Readiness::new(),
+    })
+}
+
+// What a poll showed: of the listener, and of streams.
+fn wake_all(events: &Events, clients: &mut Readiness, streams: &mut IndexMap<u64, Socket>) {
+    for event in events.iter() {
+        if event.token() == LISTENER {
+            clients.wake();
+        } else if let Some(socket) = streams.get_mut(&(event.token().0 as u64)) {
+            wake(socket, event);
+        }
     }
 }
 

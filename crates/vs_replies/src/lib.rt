@@ -3,8 +3,8 @@
 //! put (section 5.10.6.1).
 #![tactic(auto)]
 
-ghost use Rattle.std.specs.Prelude.{◌≡◌, ◌+◌, ◌-◌, ◌<◌, ◌≤◌, ◌==◌, ◌↔◌};
-ghost use Rattle.std.specs.Prelude.{[], ◌∷◌, ◌++◌, IfErr, IfOk, IsErr, OnErr, OnOk, drop, length, slice_get};
+ghost use Rattle.std.specs.Prelude.{◌≡◌, ◌+◌, ◌-◌, ◌<◌, ◌≤◌, ◌==◌, ◌↔◌, [], ◌∷◌, ◌++◌, IfErr, IfOk, IsErr, OnErr, OnOk, drop, length};
+ghost use Rattle.std.specs.Prelude.{slice_get};
 ghost use Rattle.vs_replies.specs.Owed.{reply_to};
 
 use circular_buffer::HeapCircularBuffer;
@@ -122,56 +122,5 @@ impl Replies {
         ensures { self.new ≡ record self.old { owed = [] } }
     {
         self.ring.clear();
-    }
-}
-
-#[cfg(test)]
-mod tests {
-    use super::*;
-    use std::test::Fail;
-    use vs_header::{Kind, Op};
-
-    // The reply to an RW from port 2000 to port 52.
-    fn reply() -> Reply {
-        Reply::to(&Header {
-            src_cid: 3,
-            dst_cid: 2,
-            src_port: 2000,
-            dst_port: 52,
-            len: 1,
-            kind: Kind::Stream.number(),
-            op: Op::Rw.number(),
-            flags: 0,
-            buf_alloc: 65_536,
-            fwd_cnt: 0,
-        })
-    }
-
-    #[test]
-    fn replies_are_paid_in_order(rt: HostRuntime) -> Result<(), Fail> {
-        let second = Reply {
-            src_port: 52,
-            dst_port: 2001,
-        };
-        let mut replies = Replies::new(rt.alloc(), 2)?;
-        assert_eq!(rt; replies.front(), None);
-        assert_eq!(rt; replies.owe(reply()), Ok(()));
-        assert_eq!(rt; replies.owe(second), Ok(()));
-        assert_eq!(rt; replies.owe(second), Err(Full { n: 2 }));
-        assert_eq!(rt;
-            replies.front(),
-            Some(Reply {
-                src_port: 52,
-                dst_port: 2000
-            })
-        );
-        if !replies.is_empty() {
-            replies.paid();
-        }
-        assert_eq!(rt; replies.front(), Some(second));
-        assert_eq!(rt; replies.room(), 1);
-        replies.clear();
-        assert!(rt; replies.is_empty());
-        Ok(())
     }
 }

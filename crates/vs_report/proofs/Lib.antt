@@ -1,2 +1,3 @@
 pub mod LinesGiven
 pub mod Reports
+pub mod HostPrograms

@@ -1,5 +1,6 @@
 -- How giving lines to a sink adds up.
-use Rattle.std.proofs.Common.{◌≡◌, ◌≤◌, arith, ℕ, ◌+◌, ◌<◌, true, List, [], ◌∷◌, ◌++◌, length, take, Option, Some, None, Result, Ok, Err, refl, sym, ap, ◌∙◌, subst, append_assoc, append-nil}
+use Rattle.std.proofs.Common.{◌≡◌, arith, ℕ, ◌+◌, true, List, [], ◌∷◌, ◌++◌, length, take, Option, Some, None, Result, Ok, Err, refl, sym}
+use Rattle.std.proofs.Common.{ap, ◌∙◌, subst, append_assoc, append-nil, OnOk}
 use Rattle.std.proofs.Math.Seq.{take-append-add}
 use Rattle.std.proofs.lemmas.List.{length-append, take-append-le}
 use Rattle.vs_outside.specs.Faults.{CountsFault}
@@ -7,7 +8,7 @@ use Rattle.vs_peer.specs.Pieces.{Emits, EmitsSome}
 use Rattle.vs_report.specs.Gives.{EmitsLines, GivesLines, joined}
 use Rattle.vs_report.specs.declared.giving.GiveError.{GiveError}
 use Rattle.vs_report.specs.declared.giving.GiveError.TheVariants as fault
-use Rattle.vs_peer.proofs.Pieces.{emits_none, emits_append}
+use Rattle.vs_peer.proofs.Pieces.{emits_append}
 
 pub joined_append : (xs ys : List (List ℕ)) → joined (xs ++ ys) ≡ joined xs ++ joined ys
 joined_append [] ys = refl
@@ -42,17 +43,6 @@ no_lines : (old : Option (List ℕ)) (x : List ℕ) (xs : List (List ℕ)) → E
 no_lines None x xs = refl
 no_lines (Some held) x xs = ([], x, xs, refl, ap (λ ys. Some ys) (sym (append-nil held)))
 
--- all of no lines
-pub gives_none : (old : Option (List ℕ)) (f : ℕ) → GivesLines old old f f [] (Ok tt)
-gives_none old f = (emits_none old, refl)
-
--- one line, whole or in part
-pub gives_line : (old new : Option (List ℕ)) (f g : ℕ) (x : List ℕ) → Emits old new x → g ≡ f → GivesLines old new f g (x ∷ []) (Ok tt)
-gives_line old new f g x e same = (subst (λ ys. Emits old new ys) (sym (append-nil x)) e, same)
-
-pub gives_part : (old new : Option (List ℕ)) (f g : ℕ) (x : List ℕ) → EmitsSome old new x → CountsFault true f g → GivesLines old new f g (x ∷ []) (Err fault.Sink)
-gives_part old new f g x e counts = (subst (λ ys. EmitsSome old new ys) (sym (append-nil x)) e, counts)
-
 -- none of some lines, where there is no memory for the first
 pub gives_nothing : (old : Option (List ℕ)) (f : ℕ) (x : List ℕ) (xs : List (List ℕ)) → GivesLines old old f f (x ∷ xs) (Err fault.OutOfMemory)
 gives_nothing old f x xs = (no_lines old x xs, refl)
@@ -78,3 +68,16 @@ pub nothing_behind : (old : Option (List ℕ)) (f : ℕ) (xs : List (List ℕ)) 
     → r ≡ Err fault.OutOfMemory → GivesLines old old f f (xs ++ y ∷ ys) r
 nothing_behind old f [] y ys r e = nothing_given old f y ys r e
 nothing_behind old f (x ∷ xs) y ys r e = nothing_given old f x (xs ++ y ∷ ys) r e
+
+-- What is known of a line that was given, and of one that wasn't.
+pub at_any_end : {P : Type 0} (r : Result (Unit {0}) GiveError) → P → OnOk r P
+at_any_end (Ok u) h = h
+at_any_end (Err e) h = tt
+
+pub at_no_end : (P : Type 0) (r : Result (Unit {0}) GiveError) (e : GiveError) → r ≡ Err e → OnOk r P
+at_no_end P r e is = subst (λ x. OnOk x P) (sym is) tt
+
+pub given_as : (old new : Option (List ℕ)) (f g : ℕ) (r : Result (Unit {0}) GiveError) (none said text : List ℕ) → none ≡ [] → text ≡ none ++ said
+    → GivesLines old new f g (text ∷ []) r → GivesLines old new f g (said ∷ []) r
+given_as old new f g r none said text empty is given =
+    subst (λ (t : List ℕ). GivesLines old new f g (t ∷ []) r) (is ∙ ap (λ (t : List ℕ). t ++ said) empty) given

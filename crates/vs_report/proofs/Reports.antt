@@ -1,11 +1,11 @@
 -- How the lines of a report add up.
-use Rattle.std.proofs.Common.{◌≡◌, ◌<◌, arith, ℕ, ◌+◌, List, [], ◌∷◌, ◌++◌, length, take, drop, get_or, Option, Result, Ok, Err, refl, sym, ap, ◌∙◌, subst}
-use Rattle.std.proofs.lemmas.List.{take_more, drop_more, length-take-le, take-append-drop}
+use Rattle.std.proofs.Common.{◌≡◌, ◌<◌, arith, ℕ, ◌+◌, List, [], ◌∷◌, ◌++◌, length, take, drop, get_or, Option, Result, Ok, Err, sym, ap}
+use Rattle.std.proofs.Common.{◌∙◌, subst}
+use Rattle.std.proofs.lemmas.List.{take_more, length-take-le, take-append-drop}
 use Rattle.vs_outside.specs.Host.{Stream}
 use Rattle.vs_report.specs.Gives.{GivesLines}
 use Rattle.vs_report.specs.Report.{guest_open_text, device_open_text, counts_text, stream_text, stream_texts, report}
-use Rattle.vs_report.specs.declared.giving.GiveError.{GiveError}
-use Rattle.vs_report.specs.declared.giving.Totals.{Totals}
+use Rattle.vs_report.specs.declared.giving.{GiveError.GiveError, Totals.Totals}
 use Rattle.vs_report.proofs.LinesGiven.{gives_next, gives_less}
 
 texts_append : (n : ℕ) (xs ys : List Stream) → stream_texts n (xs ++ ys) ≡ stream_texts n xs ++ stream_texts (n + length xs) ys

@@ -11,8 +11,7 @@ use Rattle.vs_driver_parts.specs.declared.answers.ConnectionState.{ConnectionSta
 use Rattle.vs_driver_parts.specs.declared.answers.ConnectionState.TheVariants as state
 use Rattle.vs_driver_parts.specs.declared.answers.ListenError.{ListenError}
 use Rattle.vs_driver_parts.specs.declared.answers.ListenError.TheVariants as unlistened
-use Rattle.vs_driver_parts.specs.declared.answers.Polled.{Polled}
-use Rattle.vs_driver_parts.specs.declared.answers.Received.{Received}
+use Rattle.vs_driver_parts.specs.declared.answers.{Polled.Polled, Received.Received}
 use Rattle.vs_driver_parts.specs.declared.answers.Received.TheVariants as received
 use Rattle.vs_driver_parts.specs.declared.answers.Sent.{Sent}
 use Rattle.vs_driver_parts.specs.declared.answers.Sent.TheVariants as sent

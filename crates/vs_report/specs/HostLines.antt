@@ -1,7 +1,12 @@
--- What the lines print that are what the host's programs do, and the moment, each with its LF.
+-- What the host's programs do on a line, and what that prints, each with its LF; and what a line on the moment prints.
 use Rattle.std.specs.Prelude.{ℕ, Bool, true, false, List, ◌++◌, codes, decimal}
+use Rattle.vs_outside.specs.Host.{HostContents, with_stream}
+use Rattle.vs_outside.specs.HostProgram.{after_fail, after_host_write, after_listen, after_unlisten, allowed, closed, ended, has_stream}
+use Rattle.vs_outside.specs.HostProgram.{host_write_answer}
 use Rattle.vs_outside.specs.declared.mem_stream.HostWritten.{HostWritten}
 use Rattle.vs_outside.specs.declared.mem_stream.HostWritten.TheVariants as written
+use Rattle.vs_script.specs.Data.{bytes_of}
+use Rattle.vs_script.specs.Outside.{Host, HostListen, HostUnlisten, HostWrite, HostAllow, HostEnd, HostClosed, HostFail}
 
 -- tick MS, host listen PORT, host unlisten PORT, host fail N
 abbrev pub ok_text : List ℕ
@@ -21,3 +26,14 @@ write_text written.NoStream = codes "no stream\n"
 abbrev pub stream_there_text : Bool → List ℕ
 stream_there_text true = codes "ok\n"
 stream_there_text false = codes "no stream\n"
+
+-- A line on the host's programs: the host after it, and what it prints.
+abbrev pub host_played : Host → HostContents → HostContents × List ℕ
+host_played (HostListen port) h = (after_listen port h, ok_text)
+host_played (HostUnlisten port) h = (after_unlisten port h, ok_text)
+host_played (HostWrite stream content) h =
+    let a = host_write_answer stream h in (after_host_write stream (bytes_of content) a h, write_text a)
+host_played (HostAllow stream n) h = (with_stream stream (allowed 18446744073709551615 n) h, stream_there_text (has_stream stream h))
+host_played (HostEnd stream) h = (with_stream stream ended h, stream_there_text (has_stream stream h))
+host_played (HostClosed stream) h = (with_stream stream closed h, stream_there_text (has_stream stream h))
+host_played (HostFail n) h = (after_fail n h, ok_text)

@@ -1,8 +1,7 @@
 -- The report behind the last line of a play, each line with its LF.
 use Rattle.std.specs.Prelude.{ℕ, ◌+◌, List, [], ◌∷◌, ◌++◌, codes, decimal, Option, Some, None}
 use Rattle.vs_flow.specs.declared.flow.Flow.{Flow}
-use Rattle.vs_outside.specs.Host.{Stream}
-use Rattle.vs_outside.specs.HostBytes.{wrote_after_connect, read_after_ok}
+use Rattle.vs_outside.specs.{Host.Stream, HostBytes.wrote_after_connect, HostBytes.read_after_ok}
 use Rattle.vs_report.specs.Bytes.{counted_text}
 use Rattle.vs_report.specs.declared.giving.Totals.{Totals}
 

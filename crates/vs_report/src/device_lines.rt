@@ -1,7 +1,8 @@
 //! What the lines print that are the device's turns and resets.
 
 ghost use Rattle.std.specs.Prelude.{◌≡◌, ◌++◌, OnOk, string_bytes};
-ghost use Rattle.vs_report.specs.DeviceLines.{one_value_text, two_values_text, failure_text, moved_text, turn_text, turned_text, reset_text};
+ghost use Rattle.vs_report.specs.DeviceLines.{one_value_text, two_values_text, failure_text, moved_text, turn_text, turned_text};
+ghost use Rattle.vs_report.specs.DeviceLines.{reset_text};
 
 use itoa::Buffer;
 use std::alloc::AllocError;
@@ -59,7 +60,7 @@ pub fn push_reset(out: &mut String, answer: Result<(), Failure>) -> Result<(), A
     ensures { OnOk result (string_bytes out.new ≡ string_bytes out.old ++ reset_text answer) }
 {
     match answer {
-        Ok(()) => write!(out, "ok\n"),
+        Ok(()) => out.push_str("ok\n"),
         Err(failure) => push_failure(out, failure),
     }
 }

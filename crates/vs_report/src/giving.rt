@@ -1,6 +1,6 @@
 //! Giving lines to a sink, each by itself, and the report of a play.
 
-ghost use Rattle.std.specs.Prelude.{◌≡◌, ◌∷◌, []};
+ghost use Rattle.std.specs.Prelude.{◌≡◌, ◌∷◌, [], string_bytes};
 ghost use Rattle.vs_report.specs.Gives.{GivesLines};
 ghost use Rattle.vs_report.specs.Report.{guest_open_text, device_open_text, stream_text, stream_texts, counts_text, report};
 
@@ -70,6 +70,14 @@ pub fn give_report<K: Sink>(
     give_device_open(totals.device_open, text, out)?;
     give_streams(streams, text, out)?;
     give_counts(totals, text, out)
+}
+
+/// Gives a line of this text.
+pub fn give_text<K: Sink>(text: &String, out: &mut K) -> Result<(), GiveError>
+    ensures { GivesLines (K.contents out.old) (K.contents out.new) (K.faults out.old) (K.faults out.new) (string_bytes text.now ∷ []) result }
+{
+    emit(out, text.as_bytes())?;
+    Ok(())
 }
 
 // Gives how many entries the driver's table has.

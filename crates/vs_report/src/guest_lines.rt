@@ -2,7 +2,8 @@
 
 ghost use Rattle.std.specs.Prelude.{◌≡◌, ◌++◌, OnOk, string_bytes, codes, decimal};
 ghost use Rattle.vs_report.specs.Bytes.{data_text};
-ghost use Rattle.vs_report.specs.GuestLines.{connection_text, connect_text, refused_text, listen_text, unlisten_text, accept_text, send_text, recv_text, shutdown_text, close_text, state_text, reset_text, poll_text};
+ghost use Rattle.vs_report.specs.GuestLines.{connection_text, connect_text, refused_text, listen_text, unlisten_text, accept_text};
+ghost use Rattle.vs_report.specs.GuestLines.{send_text, recv_text, shutdown_text, close_text, state_text, reset_text, poll_text};
 
 use crate::bytes::push_data;
 use crate::number::push_named;
@@ -41,7 +42,7 @@ fn push_connection(out: &mut String, id: ConnId, flow: Option<Flow>) -> Result<(
             Buffer::new().format(flow.guest),
             Buffer::new().format(flow.host)
         ),
-        None => write!(out, "unknown\n"),
+        None => out.push_str("unknown\n"),
     }
 }
 
@@ -52,7 +53,7 @@ fn push_refusal(out: &mut String, refusal: ConnectError) -> Result<(), AllocErro
     match refusal {
         ConnectError::BadPort { port } => write!(out, "bad port {}\n", Buffer::new().format(port)),
         ConnectError::Full { slots } => write!(out, "full {}\n", Buffer::new().format(slots)),
-        ConnectError::PortsSpent { .. } => write!(out, "ports spent\n"),
+        ConnectError::PortsSpent { .. } => out.push_str("ports spent\n"),
         ConnectError::NoDescriptor { in_flight } => push_named(
             out,
             "no descriptor",
@@ -66,8 +67,8 @@ pub fn push_listen(out: &mut String, answer: Result<(), ListenError>) -> Result<
     ensures { OnOk result (string_bytes out.new ≡ string_bytes out.old ++ listen_text answer) }
 {
     match answer {
-        Ok(()) => write!(out, "ok\n"),
-        Err(ListenError::Taken) => write!(out, "taken\n"),
+        Ok(()) => out.push_str("ok\n"),
+        Err(ListenError::Taken) => out.push_str("taken\n"),
         Err(ListenError::Full { listeners }) => {
             write!(out, "full {}\n", Buffer::new().format(listeners))
         }
@@ -79,9 +80,9 @@ pub fn push_unlisten(out: &mut String, found: bool) -> Result<(), AllocError>
     ensures { OnOk result (string_bytes out.new ≡ string_bytes out.old ++ unlisten_text found) }
 {
     if found {
-        write!(out, "ok\n")
+        out.push_str("ok\n")
     } else {
-        write!(out, "not listening\n")
+        out.push_str("not listening\n")
     }
 }
 
@@ -91,8 +92,8 @@ pub fn push_accept(out: &mut String, answer: Accepted, flow: Option<Flow>) -> Re
 {
     match answer {
         Accepted::Conn(id) => push_connection(out, id, flow),
-        Accepted::None => write!(out, "none\n"),
-        Accepted::NotListening => write!(out, "not listening\n"),
+        Accepted::None => out.push_str("none\n"),
+        Accepted::NotListening => out.push_str("not listening\n"),
     }
 }
 
@@ -102,10 +103,10 @@ pub fn push_send(out: &mut String, answer: Sent) -> Result<(), AllocError>
 {
     match answer {
         Sent::Took(n) => write!(out, "took {}\n", Buffer::new().format(n)),
-        Sent::Unknown => write!(out, "unknown\n"),
-        Sent::NotOpen => write!(out, "not open\n"),
-        Sent::Reset => write!(out, "reset\n"),
-        Sent::ShutDown => write!(out, "shut down\n"),
+        Sent::Unknown => out.push_str("unknown\n"),
+        Sent::NotOpen => out.push_str("not open\n"),
+        Sent::Reset => out.push_str("reset\n"),
+        Sent::ShutDown => out.push_str("shut down\n"),
         Sent::NoCredit { tx, alloc, fwd } => write!(
             out,
             "no credit {} {} {}\n",
@@ -123,11 +124,11 @@ pub fn push_recv(out: &mut String, answer: Received, bytes: &[u8]) -> Result<(),
 {
     match answer {
         Received::Got(n) => push_got(out, n, bytes),
-        Received::Unknown => write!(out, "unknown\n"),
-        Received::End => write!(out, "end\n"),
-        Received::NotOpen => write!(out, "not open\n"),
-        Received::Reset => write!(out, "reset\n"),
-        Received::Empty => write!(out, "empty\n"),
+        Received::Unknown => out.push_str("unknown\n"),
+        Received::End => out.push_str("end\n"),
+        Received::NotOpen => out.push_str("not open\n"),
+        Received::Reset => out.push_str("reset\n"),
+        Received::Empty => out.push_str("empty\n"),
     }
 }
 
@@ -137,7 +138,7 @@ fn push_got(out: &mut String, n: usize, bytes: &[u8]) -> Result<(), AllocError>
 {
     write!(out, "got {} ", Buffer::new().format(n))?;
     push_data(out, bytes)?;
-    write!(out, "\n")
+    out.push_str("\n")
 }
 
 /// `shutdown C B`
@@ -145,10 +146,10 @@ pub fn push_shutdown(out: &mut String, answer: Shut) -> Result<(), AllocError>
     ensures { OnOk result (string_bytes out.new ≡ string_bytes out.old ++ shutdown_text answer) }
 {
     match answer {
-        Shut::Done => write!(out, "ok\n"),
-        Shut::Unknown => write!(out, "unknown\n"),
-        Shut::NotOpen => write!(out, "not open\n"),
-        Shut::Reset => write!(out, "reset\n"),
+        Shut::Done => out.push_str("ok\n"),
+        Shut::Unknown => out.push_str("unknown\n"),
+        Shut::NotOpen => out.push_str("not open\n"),
+        Shut::Reset => out.push_str("reset\n"),
     }
 }
 
@@ -157,8 +158,8 @@ pub fn push_close(out: &mut String, answer: Closed) -> Result<(), AllocError>
     ensures { OnOk result (string_bytes out.new ≡ string_bytes out.old ++ close_text answer) }
 {
     match answer {
-        Closed::Done => write!(out, "ok\n"),
-        Closed::Unknown => write!(out, "unknown\n"),
+        Closed::Done => out.push_str("ok\n"),
+        Closed::Unknown => out.push_str("unknown\n"),
     }
 }
 
@@ -167,12 +168,12 @@ pub fn push_state(out: &mut String, state: ConnectionState) -> Result<(), AllocE
     ensures { OnOk result (string_bytes out.new ≡ string_bytes out.old ++ state_text state) }
 {
     match state {
-        ConnectionState::Asked => write!(out, "asked\n"),
-        ConnectionState::Answering => write!(out, "answering\n"),
-        ConnectionState::Live => write!(out, "open\n"),
-        ConnectionState::Ended => write!(out, "ended\n"),
-        ConnectionState::Gone => write!(out, "gone\n"),
-        ConnectionState::Unknown => write!(out, "unknown\n"),
+        ConnectionState::Asked => out.push_str("asked\n"),
+        ConnectionState::Answering => out.push_str("answering\n"),
+        ConnectionState::Live => out.push_str("open\n"),
+        ConnectionState::Ended => out.push_str("ended\n"),
+        ConnectionState::Gone => out.push_str("gone\n"),
+        ConnectionState::Unknown => out.push_str("unknown\n"),
     }
 }
 
@@ -194,8 +195,8 @@ fn push_reset(out: &mut String, reset: bool) -> Result<(), AllocError>
     ensures { OnOk result (string_bytes out.new ≡ string_bytes out.old ++ reset_text reset) }
 {
     if reset {
-        write!(out, " 1\n")
+        out.push_str(" 1\n")
     } else {
-        write!(out, " 0\n")
+        out.push_str(" 0\n")
     }
 }

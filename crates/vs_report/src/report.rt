@@ -51,7 +51,7 @@ fn push_labelled(
 {
     match label {
         Some(flow) => push_flow_bytes(out, flow, wrote, read),
-        None => write!(out, "- - wrote 0 - read 0 -\n"),
+        None => out.push_str("- - wrote 0 - read 0 -\n"),
     }
 }
 
@@ -78,9 +78,9 @@ fn push_flow_bytes(
 fn push_read(out: &mut String, read: &[u8]) -> Result<(), AllocError>
     ensures { OnOk result (string_bytes out.new ≡ string_bytes out.old ++ (codes " read " ++ counted_text read.now ++ codes "\n")) }
 {
-    write!(out, " read ")?;
+    out.push_str(" read ")?;
     push_counted(out, read)?;
-    write!(out, "\n")
+    out.push_str("\n")
 }
 
 /// What was counted: packets dropped, payload beyond the room, packets that broke a connection of the guest, calls of the host that failed.

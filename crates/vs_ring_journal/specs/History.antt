@@ -66,9 +66,6 @@ from_parts p =
     (cond (p.0 == 6) (ByDevice (Write (chain_in p) a bytes)) (cond (p.0 == 7) (ByDevice (Return (chain_in p) a))
     (cond (p.0 == 8) (ByDevice (Given queue)) (ByDevice (PublishCid p.1.1.0))))))))))
 
-chain_with : Queue → Chain → Chain
-chain_with queue chain = record chain { queue = queue }
-
 pub from_parts-to_parts : (call : RingCall) → from_parts (to_parts call) ≡ call
 from_parts-to_parts (ByDriver (Stage queue page)) = ap (λ q. ByDriver (Stage q page)) (queue_at-queue_number queue)
 from_parts-to_parts (ByDriver (Publish queue)) = ap (λ q. ByDriver (Publish q)) (queue_at-queue_number queue)

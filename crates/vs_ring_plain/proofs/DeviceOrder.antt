@@ -4,8 +4,7 @@ use Rattle.vs_guest_mem.specs.Memory.{Memory}
 use Rattle.vs_ring_port.specs.declared.device_ring.Chain.{Chain}
 use Rattle.vs_ring_plain.specs.declared.device.DeviceSide.TheInside.{Inside}
 use Rattle.vs_ring_plain.specs.declared.turns.QueueTurns.{QueueTurns}
-use Rattle.vs_ring_plain.specs.PieceTable.{HeldState}
-use Rattle.vs_ring_plain.specs.Device.{DeviceState, HeldChain, chains_held}
+use Rattle.vs_ring_plain.specs.{PieceTable.HeldState, Device.DeviceState, Device.HeldChain, Device.chains_held}
 use Rattle.vs_ring_plain.specs.Side.{IsInOrder, IsSoundHold, state_in}
 
 -- a chain that is held

@@ -1,14 +1,13 @@
 -- Reading and writing a chain piece by piece.
-use Rattle.std.proofs.Common.{◌≡◌, ℕ, ◌+◌, ◌-◌, ◌≤◌, ◌==◌, Bool, true, false, cond, List, [], ◌∷◌, ◌++◌, length, take, drop, refl, sym, ap, ◌∙◌, arith}
+use Rattle.std.proofs.Common.{◌≡◌, ℕ, ◌+◌, ◌-◌, ◌≤◌, ◌==◌, Bool, true, false, cond, List, [], ◌∷◌, ◌++◌, length, take, drop, refl, sym, ap}
+use Rattle.std.proofs.Common.{◌∙◌, arith}
 use Rattle.std.specs.Prelude.{min}
 use Rattle.std.proofs.lemmas.Bool.Decides.{nat_tests}
-use Rattle.std.proofs.lemmas.List.{drop-drop, take-append-drop}
+use Rattle.std.proofs.lemmas.List.{append-nil, drop-drop, take-append-drop}
 use Rattle.std.proofs.lemmas.List.Sums.{sum_by-cons}
 use Rattle.vs_guest_mem.specs.Memory.{Memory, accessed, after_access, after_write, bytes_at}
 use Rattle.vs_ring_plain.specs.declared.piece.Piece.{Piece}
-use Rattle.vs_ring_plain.specs.Accesses.{over}
-use Rattle.vs_ring_plain.specs.Chain.{total_len}
-use Rattle.vs_ring_plain.specs.Pieces.{reading, spans, writing}
+use Rattle.vs_ring_plain.specs.{Accesses.over, Chain.total_len, Pieces.reading, Pieces.spans, Pieces.writing}
 
 -- how much of a piece is skipped, and how much is used
 abbrev pub skipped : Piece → ℕ → ℕ
@@ -17,21 +16,17 @@ skipped p place = min place p.len
 abbrev pub used : Piece → ℕ → ℕ → ℕ
 used p place len = min (p.len - skipped p place) len
 
-is_zero : (n : ℕ) → (n == 0) ≡ true → n ≡ 0
+pub is_zero : (n : ℕ) → (n == 0) ≡ true → n ≡ 0
 is_zero n h = grind (arith, nat_tests)
 
 pub same_base : (m : Memory) (n : ℕ) → (accessed m n).base ≡ m.base
 same_base m n = elim (n == 0) as (λ b. (cond b m (after_access m)).base ≡ m.base) [ true ↦ refl | false ↦ refl ]
 
-append_nil : (xs : List ℕ) → xs ++ [] ≡ xs
-append_nil [] = refl
-append_nil (x ∷ xs) = ap (λ (ys : List ℕ). x ∷ ys) (append_nil xs)
-
 read_one : (more : List Piece) (before : List ℕ) (m : Memory) (addr count : ℕ) (b : Bool) → (count == 0) ≡ b
     → over (reading (cond b more (record { addr = addr; len = count } ∷ more)) before) m
     ≡ over (reading more (before ++ bytes_at (accessed m count) addr count)) (accessed m count)
 read_one more before m addr count true none =
-    rw (is_zero count none) (ap (λ (xs : List ℕ). over (reading more xs) m) (sym (append_nil before)))
+    rw (is_zero count none) (ap (λ (xs : List ℕ). over (reading more xs) m) (sym (append-nil before)))
 read_one more before m addr count false some = refl
 
 pub read_step : (p : Piece) (rest : List Piece) (place len : ℕ) (before : List ℕ) (m : Memory)
@@ -95,10 +90,10 @@ reads_more first pieces at len m now index place filled out after p from count r
     }
 
 -- a write of one piece
-unwritten : (m : Memory) (addr : ℕ) → after_write m addr [] ≡ m
+pub unwritten : (m : Memory) (addr : ℕ) → after_write m addr [] ≡ m
 unwritten m addr =
     let same : addr - m.base + 0 ≡ addr - m.base = omega arith in
-    rw (same, append_nil (take (addr - m.base) m.bytes)) (ap (λ (bytes : List ℕ). record m { bytes = bytes }) (take-append-drop (addr - m.base) m.bytes))
+    rw (same, append-nil (take (addr - m.base) m.bytes)) (ap (λ (bytes : List ℕ). record m { bytes = bytes }) (take-append-drop (addr - m.base) m.bytes))
 
 write_one : (more : List Piece) (bytes : List ℕ) (m : Memory) (addr count : ℕ) (b : Bool) → (count == 0) ≡ b
     → over (writing (cond b more (record { addr = addr; len = count } ∷ more)) bytes) m

@@ -1,23 +1,16 @@
 -- What comes of accesses: they leave the memory where it begins, and a chain that is taken has pieces that lie in it.
-use Rattle.std.proofs.Common.{◌≡◌, ℕ, zero, suc, ◌+◌, ◌≤◌, Bool, true, false, cond, not, List, [], ◌∷◌, ◌++◌, length, refl, ◌∙◌, arith, length-append, All, IsTrue}
-use Rattle.std.specs.Bool.{⊤}
+use Rattle.std.proofs.Common.{◌≡◌, ℕ, zero, suc, ◌+◌, ◌≤◌, Bool, true, false, cond, not, List, [], ◌∷◌, ◌++◌, length, refl, arith}
+use Rattle.std.proofs.Common.{length-append, All, IsTrue}
+use Rattle.std.specs.{Bool.⊤, Prelude.◌==◌, Prelude.◌||◌, Prelude.◌%◌, Prelude.◌/◌, Prelude.nat_le, Prelude.nat_lt}
 use Rattle.std.proofs.lemmas.List.Elements.{All-nil, All-push}
 use Rattle.vs_guest_mem.specs.Memory.{Memory, accessed, after_write, bytes_at, is_within}
 use Rattle.vs_layout.specs.Entry.{desc_of}
-use Rattle.vs_layout.specs.declared.entry.Desc.{Desc}
-use Rattle.vs_layout.specs.declared.entry.TheConstants.{INDIRECT, NEXT}
+use Rattle.vs_layout.specs.declared.entry.{Desc.Desc, TheConstants.INDIRECT, TheConstants.NEXT}
 use Rattle.vs_ring_plain.specs.declared.piece.Piece.{Piece}
 use Rattle.vs_ring_plain.specs.Accesses.{Accesses, Done, Read, Write, over}
-use Rattle.std.specs.Prelude.{◌==◌, ◌||◌, ◌%◌, ◌/◌, nat_le, nat_lt}
+use Rattle.vs_ring_plain.specs.Chain.{Ring, Taken, NoChain, Chain, Failed, ahead, unless, piece, piece_of, in_table, in_queue, taking, has}
+use Rattle.vs_ring_plain.specs.Chain.{too_small, total_len, wrong_way}
 use Rattle.byteorder.specs.Endian.{little_number}
-use Rattle.vs_ring_plain.specs.Chain.{Ring, Taken, NoChain, Chain, Failed, ahead, unless, piece, piece_of, in_table, in_queue, taking, has, too_small, total_len, wrong_way}
-use Rattle.vs_ring_plain.proofs.Moving.{same_base}
-
-pub base_over : {A : Type 0} (t : Accesses A) (m : Memory) → (over t m).1.base ≡ m.base
-base_over (Done a) m = refl
-base_over (Read addr len next) m = base_over (next (bytes_at (accessed m len) addr len)) (accessed m len) ∙ same_base m len
-base_over (Write addr bytes next) m =
-    base_over next (after_write (accessed m (length bytes)) addr bytes) ∙ same_base m (length bytes)
 
 -- P holds of whatever comes of it
 unfoldable pub Yields : {A : Type 0} → (A → Type 0) → Accesses A → Type 0
@@ -47,7 +40,7 @@ IsGoodTaken r NoChain = ⊤
 IsGoodTaken r (Chain head pieces) = IsGood r pieces
 IsGoodTaken r (Failed failure) = ⊤
 
-choice : {X : Type 0} (P : X → Type 0) (b : Bool) (x y : X) → (b ≡ true → P x) → (b ≡ false → P y) → P (cond b x y)
+pub choice : {X : Type 0} (P : X → Type 0) (b : Bool) (x y : X) → (b ≡ true → P x) → (b ≡ false → P y) → P (cond b x y)
 choice P true x y here there = here refl
 choice P false x y here there = there refl
 

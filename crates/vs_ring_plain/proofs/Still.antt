@@ -1,16 +1,14 @@
 -- Taking a chain of one descriptor from a memory that nobody else changes.
-use Rattle.std.proofs.Common.{◌≡◌, ℕ, zero, suc, ◌+◌, ◌-◌, ◌/◌, ◌%◌, ◌^◌, ◌<◌, ◌≤◌, Bool, true, false, cond, not, List, [], ◌∷◌, length, refl, sym, ap, ◌∙◌, subst, arith}
+use Rattle.std.proofs.Common.{◌≡◌, ℕ, suc, ◌-◌, ◌/◌, ◌<◌, Bool, true, false, cond, not, List, [], ◌∷◌, refl, sym, ap, ◌∙◌, subst, arith}
 use Rattle.std.specs.Prelude.{◌==◌, nat_le, nat_lt}
 use Rattle.std.proofs.lemmas.Bool.Decides.{nat_tests}
-use Rattle.byteorder.specs.Endian.{little_number}
-use Rattle.vs_guest_mem.specs.Memory.{Change, Memory, accessed, after_access, bytes_at, is_within}
-use Rattle.vs_layout.specs.Entry.{desc_of}
-use Rattle.vs_layout.specs.Layout.{avail_entry, avail_idx, desc_entry}
-use Rattle.vs_layout.specs.declared.entry.Desc.{Desc}
-use Rattle.vs_layout.specs.declared.entry.TheConstants.{DESC_LEN, INDIRECT, NEXT}
+use Rattle.vs_guest_mem.specs.Memory.{Change, Memory, after_access, bytes_at, is_within}
+use Rattle.vs_layout.specs.{Entry.desc_of, Layout.desc_entry}
+use Rattle.vs_layout.specs.declared.entry.{Desc.Desc, TheConstants.DESC_LEN, TheConstants.INDIRECT, TheConstants.NEXT}
 use Rattle.vs_ring_plain.specs.declared.piece.Piece.{Piece}
 use Rattle.vs_ring_plain.specs.Accesses.{Accesses, Done, over}
-use Rattle.vs_ring_plain.specs.Chain.{Ring, Taken, Chain, Failed, NoChain, ahead, has, in_queue, in_table, piece, piece_of, table_faults, taking, too_small, total_len, unless, wrong_way}
+use Rattle.vs_ring_plain.specs.Chain.{Ring, Taken, Chain, Failed, NoChain, ahead, has, in_queue, in_table, piece, piece_of, table_faults}
+use Rattle.vs_ring_plain.specs.Chain.{taking, too_small, total_len, unless, wrong_way}
 use Rattle.vs_ring_plain.specs.Still.{IsGiven, IsStill, index_in}
 use Rattle.vs_ring_port.specs.declared.failure.Failure.{Failure}
 use Rattle.vs_ring_port.specs.declared.failure.Failure.TheVariants.{HeadRange}

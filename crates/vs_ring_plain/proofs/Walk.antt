@@ -1,15 +1,15 @@
 -- Reading the descriptors of a chain one after another.
-use Rattle.std.proofs.Common.{◌≡◌, ℕ, suc, ◌+◌, ◌-◌, ◌*◌, ◌/◌, ◌<◌, ◌≤◌, Bool, true, false, not, List, [], ◌∷◌, ◌++◌, length, Ok, Err, refl, sym, ap, ◌∙◌, arith, length-append}
+use Rattle.std.proofs.Common.{◌≡◌, ℕ, suc, ◌+◌, ◌-◌, ◌*◌, ◌/◌, ◌<◌, ◌≤◌, Bool, true, false, not, List, [], ◌∷◌, ◌++◌, length, Ok, Err, refl}
+use Rattle.std.proofs.Common.{sym, ap, ◌∙◌, arith, length-append}
 use Rattle.std.specs.Prelude.{◌≢◌, ◌==◌, bit_and, nat_le, if◌then◌else◌}
 use Rattle.std.proofs.lemmas.Bool.Decides.{nat_tests}
 use Rattle.vs_guest_mem.specs.Memory.{Memory, after_access, bytes_at}
 use Rattle.vs_layout.specs.Entry.{desc_of}
-use Rattle.vs_layout.specs.declared.entry.Desc.{Desc}
-use Rattle.vs_layout.specs.declared.entry.TheConstants.{INDIRECT, NEXT}
+use Rattle.vs_layout.specs.declared.entry.{Desc.Desc, TheConstants.INDIRECT, TheConstants.NEXT}
 use Rattle.vs_ring_plain.specs.declared.piece.Piece.{Piece}
 use Rattle.vs_ring_plain.specs.Accesses.{Accesses, Done, over}
-use Rattle.vs_ring_plain.specs.Chain.{Ring, Taken, Failed, checked, unless, has, piece, piece_faults, piece_of, table_faults, in_queue, in_table}
-use Rattle.vs_ring_plain.specs.Take.{ring_in}
+use Rattle.vs_ring_plain.specs.Chain.{Ring, Taken, Failed, checked, unless, has, piece, piece_faults, piece_of, table_faults, in_queue}
+use Rattle.vs_ring_plain.specs.{Chain.in_table, Take.ring_in}
 use Rattle.vs_ring_port.specs.declared.failure.Failure.{Failure}
 use Rattle.vs_ring_port.specs.declared.failure.Failure.TheVariants.{ChainLong, IndirectNested, NextRange}
 use Rattle.vs_ring_plain.specs.declared.take.PlainQueue.{PlainQueue}
@@ -173,12 +173,6 @@ one_more : (a : Along) (m : Memory) (pieces : List Piece) (number : ℕ) → Com
 one_more a m pieces number w some ends =
     let counts : a.queue.n - length pieces ≡ suc (fewer a pieces) = omega arith in
     sym (w.rest ends) ∙ ap (λ (k : ℕ). over (a.walk k number pieces ends) m) counts
-
-pub exit_long : (a : Along) (m : Memory) (pieces : List Piece) (number : ℕ) → Comes a m pieces number → a.queue.n ≤ length pieces
-    → (ends : List Piece → Accesses Taken) → a.whole ends ≡ (Failed (ChainLong a.queue.n), m)
-exit_long a m pieces number w full ends =
-    let none : a.queue.n - length pieces ≡ 0 = omega arith in
-    sym (w.rest ends) ∙ ap (λ (k : ℕ). over (a.walk k number pieces ends) m) none ∙ a.is_walk.long number pieces ends m
 
 pub exit_range : (a : Along) (m : Memory) (pieces : List Piece) (number : ℕ) → Comes a m pieces number → length pieces < a.queue.n
     → a.entries ≤ number

@@ -1,18 +1,19 @@
 -- Taking a chain from a queue (Virtio 1.2, section 2.7): which pieces of memory are read, in which order, each once, and what comes
 -- of the values read: no chain, a chain, or the first rule that the driver broke. What lies in the memory plays no other part.
-use Rattle.std.specs.Prelude.{ℕ, zero, suc, ◌+◌, ◌-◌, ◌*◌, ◌/◌, ◌%◌, ◌^◌, ◌==◌, ◌||◌, Bool, not, nat_le, nat_lt, List, [], ◌∷◌, ◌++◌, sum_by, Result, Ok, Err, if◌then◌else◌, bit_and}
+use Rattle.std.specs.Prelude.{ℕ, zero, suc, ◌+◌, ◌-◌, ◌*◌, ◌/◌, ◌%◌, ◌^◌, ◌==◌, ◌||◌, Bool, not, nat_le, nat_lt, List, [], ◌∷◌, ◌++◌}
+use Rattle.std.specs.Prelude.{sum_by, Result, Ok, Err, if◌then◌else◌, bit_and}
 use Rattle.byteorder.specs.Endian.{little_number}
 use Rattle.vs_guest_mem.specs.Memory.{is_within}
 use Rattle.vs_header.specs.declared.TheConstants.{HEADER_LEN}
-use Rattle.vs_layout.specs.Entry.{desc_of}
-use Rattle.vs_layout.specs.Layout.{avail_entry, avail_idx, desc_entry}
-use Rattle.vs_layout.specs.declared.entry.Desc.{Desc}
-use Rattle.vs_layout.specs.declared.entry.TheConstants.{DESC_LEN, INDIRECT, NEXT, WRITE}
+use Rattle.vs_layout.specs.{Entry.desc_of, Layout.avail_entry, Layout.avail_idx, Layout.desc_entry}
+use Rattle.vs_layout.specs.declared.entry.{Desc.Desc, TheConstants.DESC_LEN, TheConstants.INDIRECT, TheConstants.NEXT, TheConstants.WRITE}
 use Rattle.vs_layout.specs.declared.place.Areas.{Areas}
 use Rattle.vs_ring_plain.specs.declared.piece.Piece.{Piece}
 use Rattle.vs_ring_plain.specs.Accesses.{Accesses, Done, Read}
 use Rattle.vs_ring_port.specs.declared.failure.Failure.{Failure}
-use Rattle.vs_ring_port.specs.declared.failure.Failure.TheVariants.{AvailJump, HeadRange, Indirect, TxWritable, RxReadable, AddrRange, ChainLong, NextRange, TxShort, RxSmall, EventSmall, IndirectNested, IndirectNext, IndirectLen}
+use Rattle.vs_ring_port.specs.declared.failure.Failure.TheVariants.{AvailJump, HeadRange, Indirect, TxWritable, RxReadable, AddrRange}
+use Rattle.vs_ring_port.specs.declared.failure.Failure.TheVariants.{ChainLong, NextRange, TxShort, RxSmall, EventSmall, IndirectNested}
+use Rattle.vs_ring_port.specs.declared.failure.Failure.TheVariants.{IndirectNext, IndirectLen}
 use Rattle.vs_ring_port.specs.declared.queue.Queue.{Queue}
 use Rattle.vs_ring_port.specs.declared.queue.Queue.TheVariants.{Rx, Tx, Event}
 

@@ -1,10 +1,8 @@
 -- Worked examples of taking a chain: a queue of 8 places in 65,536 bytes of memory from 4096 on, and the values read.
 use Rattle.std.specs.Prelude.{ℕ, Bool, true, false, List, ◌∷◌, Option}
 use Rattle.byteorder.specs.Endian.{little_bytes}
-use Rattle.vs_layout.specs.Entry.{desc_bytes}
-use Rattle.vs_layout.specs.Layout.{areas_of}
-use Rattle.vs_ring_plain.specs.Accesses.{with_values}
-use Rattle.vs_ring_plain.specs.Chain.{Ring, Taken, taking}
+use Rattle.vs_layout.specs.{Entry.desc_bytes, Layout.areas_of}
+use Rattle.vs_ring_plain.specs.{Accesses.with_values, Chain.Ring, Chain.Taken, Chain.taking}
 use Rattle.vs_ring_port.specs.declared.queue.Queue.{Queue}
 
 abbrev pub ring : Queue → Bool → Ring

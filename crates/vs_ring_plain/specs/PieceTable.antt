@@ -4,8 +4,7 @@ use Rattle.vs_ring_port.specs.declared.queue.Queue.{Queue}
 use Rattle.vs_ring_port.specs.declared.queue.Queue.TheVariants.{Rx, Tx, Event}
 use Rattle.vs_ring_port.specs.declared.device_ring.Chain.{Chain}
 use Rattle.vs_ring_port.specs.declared.failure.Failure.{Failure}
-use Rattle.vs_ring_plain.specs.Chain.{Taken, NoChain, Failed, Chain as Found}
-use Rattle.vs_ring_plain.specs.Device.{HeldChain, chain_at}
+use Rattle.vs_ring_plain.specs.{Chain.Taken, Chain.NoChain, Chain.Failed, Chain.Chain as Found, Device.HeldChain, Device.chain_at}
 use Rattle.vs_ring_plain.specs.declared.holds.HeldPieces.{HeldPieces}
 use Rattle.vs_ring_plain.specs.declared.holds.HeldPieces.TheVariants.{One, Listed}
 use Rattle.vs_ring_plain.specs.declared.piece.Piece.{Piece}

@@ -3,8 +3,7 @@ use Rattle.std.specs.Prelude.{ℕ, List, length, Option, None, Some, Result, Ok,
 use Rattle.vs_guest_mem.specs.Memory.{Memory}
 use Rattle.vs_layout.specs.declared.span.Span.{Span}
 use Rattle.vs_ring_plain.specs.declared.piece.Piece.{Piece}
-use Rattle.vs_ring_plain.specs.Accesses.{Accesses, over}
-use Rattle.vs_ring_plain.specs.Chain.{Ring, Taken, NoChain, Chain, Failed}
+use Rattle.vs_ring_plain.specs.{Accesses.Accesses, Accesses.over, Chain.Ring, Chain.Taken, Chain.NoChain, Chain.Chain, Chain.Failed}
 use Rattle.vs_ring_port.specs.declared.failure.Failure.{Failure}
 use Rattle.vs_ring_plain.specs.declared.take.PlainQueue.{PlainQueue}
 

@@ -1,10 +1,9 @@
 //! What the device does with a chain that it took: reads it, writes into it, returns it.
-ghost use Rattle.std.specs.Prelude.{◌≡◌, ◌+◌, ◌<◌, ◌≤◌, ◌^◌, All, IsTrue, length, []};
+ghost use Rattle.std.specs.Prelude.{◌≡◌, ◌+◌, ◌<◌, ◌≤◌, All, IsTrue, length, []};
 ghost use Rattle.byteorder.specs.Endian.{little_bytes};
 ghost use Rattle.vs_guest_mem.specs.Memory.{accessed, after_access, after_write, bytes_at, is_inside};
 ghost use Rattle.vs_layout.specs.Layout.{AreInside};
-ghost use Rattle.vs_ring_plain.specs.Accesses.{over};
-ghost use Rattle.vs_ring_plain.specs.Chain.{total_len};
+ghost use Rattle.vs_ring_plain.specs.{Accesses.over, Chain.total_len};
 ghost use Rattle.vs_ring_plain.specs.Pieces.{given, reading, returning, spans, writing};
 ghost use Rattle.vs_ring_plain.specs.Take.{ring_in, whole};
 

@@ -1,9 +1,8 @@
 //! The device's end of the three queues in a guest's memory.
 ghost use Rattle.std.specs.Prelude.{◌≡◌, ◌<◌, ◌≤◌, IfOk, Contains, length, ◌+◌, ◌^◌, IsTrue, IfErr, OnErr, OnOk, is_ok};
 ghost use Rattle.vs_guest_mem.specs.Memory.{after_write, bytes_at, is_inside};
-ghost use Rattle.vs_ring_port.specs.declared.queue.Queue.{Queue};
+ghost use Rattle.vs_ring_port.specs.declared.queue.{Queue.Queue, TheConstants.QUEUE_SIZE_MAX};
 ghost use Rattle.vs_layout.specs.Layout.{AreInside};
-ghost use Rattle.vs_ring_port.specs.declared.queue.TheConstants.{QUEUE_SIZE_MAX};
 ghost use Rattle.vs_ring_plain.specs.Device.{SamePlace, answer_to, areas_at, chains_held, new_device, with_change, with_memory};
 ghost use Rattle.vs_ring_plain.specs.Take.{whole};
 ghost use Rattle.vs_ring_port.specs.Contents.{Take, Read, Write, Return, Given};

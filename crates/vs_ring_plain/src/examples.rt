@@ -1,13 +1,15 @@
 //! What holds of taking a chain, and worked examples.
-ghost use Rattle.std.specs.Prelude.{codes, ◌≡◌, ℕ, ◌+◌, [], ◌∷◌, false, true, IsTrue, Some};
+ghost use Rattle.std.specs.Prelude.{codes, ◌≡◌, ℕ, ◌+◌, [], ◌∷◌, false, IsTrue, Some};
 ghost use Rattle.vs_guest_mem.specs.Memory.{is_within};
 ghost use Rattle.vs_layout.specs.Layout.{AreInside};
 ghost use Rattle.vs_ring_plain.specs.Accesses.{MakesAtMost, with_values};
 ghost use Rattle.vs_ring_plain.specs.Chain.{Ring, taking, Chain, NoChain, Failed, total_len};
 ghost use Rattle.vs_ring_plain.specs.Examples.{ring, word, desc, first_chain, first_chain_indirect};
-ghost use Rattle.vs_ring_port.specs.declared.failure.Failure.TheVariants.{AvailJump, HeadRange, Indirect, TxWritable, RxReadable, AddrRange, ChainLong, NextRange, TxShort, RxSmall, EventSmall, IndirectNested, IndirectNext, IndirectLen};
-ghost use Rattle.vs_ring_port.specs.declared.queue.Queue.TheVariants.{Rx, Tx, Event};
 ghost use Rattle.vs_ring_plain.specs.Pieces.{reading, spans};
+ghost use Rattle.vs_ring_port.specs.declared.failure.Failure.TheVariants.{AvailJump, HeadRange, Indirect, TxWritable, RxReadable};
+ghost use Rattle.vs_ring_port.specs.declared.failure.Failure.TheVariants.{AddrRange, ChainLong, NextRange, TxShort, RxSmall, EventSmall};
+ghost use Rattle.vs_ring_port.specs.declared.failure.Failure.TheVariants.{IndirectNested, IndirectNext, IndirectLen};
+ghost use Rattle.vs_ring_port.specs.declared.queue.Queue.TheVariants.{Rx, Tx, Event};
 
 /// Where a queue of n places lies in the memory, taking a chain makes n + 3 accesses at most, and each of them lies there too.
 pub fn taking_ends_inside_the_memory()

@@ -1,11 +1,10 @@
 //! The chains that the device holds, and their pieces.
-ghost use Rattle.std.specs.Prelude.{◌≡◌, ◌<◌, ◌≤◌, ◌^◌, ◌%◌, false, ◌&&◌, ◌==◌, not, count_by, length, position, Contains, IfOk, Some, [], map};
-ghost use Rattle.vs_guest_mem.specs.Memory.{Memory, is_inside};
+ghost use Rattle.std.specs.Prelude.{◌≡◌, ◌<◌, ◌≤◌, ◌^◌, ◌%◌, false, ◌&&◌, ◌==◌, not, count_by, length, position, Contains, IfOk, Some, []};
+ghost use Rattle.std.specs.Prelude.{map};
 ghost use Rattle.vs_layout.specs.Layout.{AreInside};
 ghost use Rattle.vs_ring_port.specs.Chains.{same_chain, same_queue};
 ghost use Rattle.vs_ring_port.specs.declared.queue.TheConstants.{QUEUE_SIZE_MAX};
-ghost use Rattle.vs_ring_plain.specs.Accesses.{over};
-ghost use Rattle.vs_ring_plain.specs.Chain.{taking};
+ghost use Rattle.vs_ring_plain.specs.{Accesses.over, Chain.taking};
 ghost use Rattle.vs_ring_plain.specs.Device.{chain_at, head_of, hold_of, is_busy, pieces_of, without_hold};
 ghost use Rattle.vs_ring_plain.specs.Held.{is_busy_with};
 ghost use Rattle.vs_ring_plain.specs.PieceTable.{is_listed, keeping, list_at, pieces_in, with_list};

@@ -8,6 +8,4 @@ mod holds;
 pub mod laws;
 pub mod piece;
 pub mod take;
-#[cfg(test)]
-mod tests;
 pub mod turns;

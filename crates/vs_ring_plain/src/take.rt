@@ -1,11 +1,11 @@
 //! Takes chains from a queue in a guest's memory.
-ghost use Rattle.std.specs.Prelude.{◌≡◌, ◌+◌, ◌-◌, ◌*◌, ◌<◌, ◌≤◌, ◌^◌, List, IsTrue, length, vec_len, vec_capacity, not, [], ◌∷◌};
+ghost use Rattle.std.specs.Prelude.{◌≡◌, ◌+◌, ◌-◌, ◌*◌, ◌<◌, ◌≤◌, ◌^◌, List, IsTrue, length, vec_capacity, not, [], ◌∷◌};
 ghost use Rattle.byteorder.specs.Endian.{little_number};
 ghost use Rattle.vs_guest_mem.specs.Memory.{Memory, after_access, bytes_at, is_inside};
-ghost use Rattle.vs_layout.specs.Entry.{desc_of};
-ghost use Rattle.vs_layout.specs.Layout.{AreInside};
+ghost use Rattle.vs_layout.specs.{Entry.desc_of, Layout.AreInside};
 ghost use Rattle.vs_ring_plain.specs.Accesses.{Accesses, Done, over};
-ghost use Rattle.vs_ring_plain.specs.Chain.{Chain, Taken, checked, in_queue, in_table, piece_faults, table_faults, too_small, taking, total_len, unless};
+ghost use Rattle.vs_ring_plain.specs.Chain.{Chain, Taken, checked, in_queue, in_table, piece_faults, table_faults, too_small, taking};
+ghost use Rattle.vs_ring_plain.specs.Chain.{total_len, unless};
 
 use crate::piece::Piece;
 use byteorder::{ByteOrder, LittleEndian};

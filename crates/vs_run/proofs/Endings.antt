@@ -1,9 +1,7 @@
 -- From how lines were given to how a command ends.
-use Rattle.std.proofs.Common.{◌≡◌, ◌⊎◌, inl, inr, ◌∙◌, ℕ, true, List, [], ◌∷◌, ◌++◌, Option, Some, None, Result, Ok, Err, refl, sym, ap, subst, append-nil}
+use Rattle.std.proofs.Common.{◌≡◌, inl, inr, ◌∙◌, ℕ, true, List, [], ◌∷◌, ◌++◌, Option, Some, None, Ok, Err, refl, sym, subst, append-nil}
 use Rattle.vs_outside.specs.Faults.{CountsFault}
-use Rattle.vs_peer.specs.Ends.{EndsAs}
-use Rattle.vs_peer.specs.Pieces.{Emits}
-use Rattle.vs_peer.specs.Text.{no_memory_text}
+use Rattle.vs_peer.specs.{Ends.EndsAs, Pieces.Emits, Text.no_memory_text}
 use Rattle.vs_peer.proofs.Pieces.{emits_none, emits_append}
 use Rattle.vs_report.specs.Gives.{GivesLines, joined}
 use Rattle.vs_report.specs.declared.giving.GiveError.{GiveError}

@@ -1,11 +1,10 @@
 -- From what a command did to the cause of its status.
-use Rattle.std.proofs.Common.{◌≡◌, ◌⊎◌, inl, inr, ◌∙◌, ℕ, zero, suc, true, nat_le, List, Option, Some, None, Result, Ok, Err, refl, sym, subst}
+use Rattle.std.proofs.Common.{◌≡◌, inl, inr, ◌∙◌, ℕ, zero, suc, true, nat_le, List, Option, Some, None, Result, Ok, Err, refl, sym, subst}
 use Rattle.vs_hostile.specs.Answer.{answer_to as hostile_answer, status_of}
 use Rattle.vs_outside.specs.Faults.{CountsFault}
 use Rattle.vs_peer.specs.Ends.{EndsAs, Lent}
 use Rattle.vs_peer.specs.Statuses as statuses
-use Rattle.vs_peer.specs.Statuses.{Says}
-use Rattle.vs_peer.specs.Text.{no_memory_text, read_fault_text}
+use Rattle.vs_peer.specs.{Statuses.Says, Text.no_memory_text, Text.read_fault_text}
 use Rattle.vs_play.specs.Answer.{answer_to as play_answer}
 use Rattle.vs_ring_port.specs.declared.failure.Failure.{Failure}
 use Rattle.vs_script.specs.Script.{Attacks, Plays, Runs, Saying}

@@ -1,9 +1,8 @@
 -- What the command does, by its words.
-use Rattle.std.specs.Prelude.{◌≡◌, ◌<◌, ◌||◌, ◌==◌, nat_le, ℕ, Bool, true, false, List, length, Option, Some, None, Err}
+use Rattle.std.specs.Prelude.{◌≡◌, ◌<◌, nat_le, ℕ, Bool, true, false, List, length, Option, Some, None, Err}
 use Rattle.vs_hostile.specs.Answer.{answer_to as hostile_answer}
 use Rattle.vs_outside.specs.Host.{HostContents}
-use Rattle.vs_peer.specs.Ends.{Lent}
-use Rattle.vs_peer.specs.Statuses.{NoFault, Says, is_faultless}
+use Rattle.vs_peer.specs.{Ends.Lent, Statuses.NoFault, Statuses.Says, Statuses.is_faultless}
 use Rattle.vs_peer.specs.declared.source.TheConstants.{SOURCE_MAX}
 use Rattle.vs_play.specs.Answer.{answer_to as play_answer}
 use Rattle.vs_script.specs.Script.{parse_of}

@@ -1,7 +1,6 @@
 -- Scripts that can be played.
 use Rattle.std.specs.List.{AllByRecursion}
-use Rattle.vs_play.specs.Answer.{events_in}
-use Rattle.vs_play.specs.Ready.{IsPlayable}
+use Rattle.vs_play.specs.{Answer.events_in, Ready.IsPlayable}
 use Rattle.vs_script.specs.Script.{Saying, Plays}
 
 -- Each line may be played, where a script is one of a play.

@@ -1,7 +1,6 @@
 //! The line that the command writes last, and its status.
 ghost use Rattle.std.specs.Prelude.{◌≡◌, ◌++◌, OnOk, codes, string_bytes};
-ghost use Rattle.vs_peer.specs.Ends.{EndsAs, EndsUnread};
-ghost use Rattle.vs_peer.specs.Text.{host_fault_text, no_memory_text};
+ghost use Rattle.vs_peer.specs.{Ends.EndsAs, Ends.EndsUnread, Text.host_fault_text, Text.no_memory_text};
 ghost use Rattle.vs_script.specs.Fault.{refused_text};
 ghost use Rattle.vs_run.specs.Ends.{EndsRefused, EndsWith};
 

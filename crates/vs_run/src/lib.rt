@@ -8,6 +8,3 @@ mod top;
 
 pub use crate::ending::{host_fault, no_memory};
 pub use crate::top::vsock_main;
-
-#[cfg(test)]
-mod tests;

@@ -1,13 +1,10 @@
 //! The command `play`.
-ghost use Rattle.std.specs.Prelude.{Ok, map};
-ghost use Rattle.std.specs.List.{AllByRecursion};
+ghost use Rattle.std.specs.{Prelude.Ok, Prelude.map, List.AllByRecursion};
 ghost use Rattle.vs_ring_list.specs.Ends.{IsQueueSize};
-ghost use Rattle.vs_play.specs.Answer.{answer_to, events_in, printed};
-ghost use Rattle.vs_play.specs.Ready.{IsPlayable};
+ghost use Rattle.vs_play.specs.{Answer.answer_to, Answer.events_in, Answer.printed, Ready.IsPlayable};
 ghost use Rattle.vs_script.specs.Script.{numbered_event, parse_of, script_view};
 ghost use Rattle.vs_script.specs.declared.script.Command.TheVariants as command;
-ghost use Rattle.vs_run.specs.Ends.{EndsAnswer, EndsParsed, EndsScript};
-ghost use Rattle.vs_run.specs.Played.{IsPlayed};
+ghost use Rattle.vs_run.specs.{Ends.EndsAnswer, Ends.EndsParsed, Ends.EndsScript, Played.IsPlayed};
 
 use crate::ending::{no_memory, refused, unread};
 use std::alloc::Global;

@@ -2,18 +2,13 @@
 
 ghost use Rattle.std.specs.Prelude.{◌≡◌, ◌≢◌, ◌<◌, ◌-◌, ◌^◌, ℕ, List, [], Some, None, Ok, Err, true, false, map, string_bytes};
 ghost use Rattle.vs_outside.specs.Faults.{CountsFault};
-ghost use Rattle.vs_peer.specs.Pieces.{Emits};
-ghost use Rattle.vs_peer.specs.Statuses.{NoFault, Says, is_faultless};
-ghost use Rattle.vs_peer.specs.Text.{read_fault_text};
+ghost use Rattle.vs_peer.specs.{Pieces.Emits, Statuses.NoFault, Statuses.Says, Statuses.is_faultless, Text.read_fault_text};
 ghost use Rattle.vs_play.specs.Answer.{play_of};
 ghost use Rattle.vs_play_laws.specs.Headline.{IsLawful};
 ghost use Rattle.vs_hostile.specs.Answer.{hostile_of};
 ghost use Rattle.vs_hostile_laws.specs.Isolated.{IsSafe};
 ghost use Rattle.vs_report.specs.Gives.{joined};
-ghost use Rattle.vs_script.specs.Fault.{refused_text};
-ghost use Rattle.vs_script.specs.Play.{Event};
-ghost use Rattle.vs_script.specs.Hostile.{Hostile as Attack};
-ghost use Rattle.vs_script.specs.Script.{Attacks, Plays, parse_of};
+ghost use Rattle.vs_script.specs.{Play.Event, Hostile.Hostile as Attack, Script.Attacks, Script.Plays, Script.parse_of};
 ghost use Rattle.vs_script.specs.declared.script.Command.TheVariants as script_of;
 ghost use Rattle.vs_script.specs.declared.fault.Refused.{Refused};
 ghost use Rattle.vs_words.specs.Command.{Play, Hostile, Peer, command_of};

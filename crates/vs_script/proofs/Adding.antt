@@ -1,13 +1,34 @@
--- An instruction behind those of the last app.
-use Rattle.std.proofs.Common.{◌≡◌, ℕ, suc, zero, List, [], ◌∷◌, length, map, Ok, Err, refl, sym, arith, slice_index_or, slice_set}
-use Rattle.vs_script.specs.App.{Act, app_view}
-use Rattle.vs_script.specs.Script.{pushed, add_act}
+-- One more behind others, and an instruction behind those of the last app.
+use Rattle.std.proofs.Common.{◌≡◌, ℕ, suc, zero, Bool, true, false, if◌then◌else◌, nat_lt, List, [], ◌∷◌, ◌++◌, length, map, Result, Ok}
+use Rattle.std.proofs.Common.{Err, refl, sym, ap, ◌∙◌, arith, slice_index_or, slice_set}
+use Rattle.std.specs.Prelude.{IfOk, IfErr}
+use Rattle.std.proofs.lemmas.List.{length-map, map-append}
+use Rattle.vs_script.specs.{App.Act, App.app_view, Script.pushed, Script.add_act, Field.named, Field.IsFault}
 use Rattle.vs_script.specs.declared.app.App.{App}
-use Rattle.vs_script.specs.Field.{IsFault}
-use Rattle.vs_script.specs.declared.fault.LineFault.{LineFault}
+use Rattle.vs_script.specs.declared.fault.{LineFault.LineFault, Why.Why}
 use Rattle.vs_script.specs.declared.fault.LineFault.TheVariants.{Refused, OutOfMemory}
-use Rattle.vs_script.specs.declared.fault.Why.{Why}
+use Rattle.vs_script.specs.declared.fault.Why.TheVariants.{TooMany}
 use Rattle.vs_script.specs.declared.script.TheConstants.{MAX_INSTRUCTIONS}
+
+module _ {X Y : Type 0} (view : X → Y) (most : ℕ) (xs : List X) (x : X) where
+  -- it is the same before and after a view of each
+  pushed-view : pushed most (map view xs) (view x) ≡ named (map view) (pushed most xs x)
+  pushed-view = rw (length-map xs view) (by (nat_lt (length xs) most))
+    where
+      by : (b : Bool) → (if b then Ok (map view xs ++ view x ∷ []) else Err TooMany) ≡ named (map view) (if b then Ok (xs ++ x ∷ []) else Err TooMany)
+      by true = ap (λ ys. Ok ys) (sym (map-append view xs (x ∷ [])))
+      by false = refl
+
+  pub pushed-ok : (more : List X) (r : Result (Unit {0}) LineFault) → IfOk r (λ _. pushed most xs x ≡ Ok more)
+      → IfOk r (λ _. pushed most (map view xs) (view x) ≡ Ok (map view more))
+  pushed-ok more (Ok u) is = pushed-view ∙ ap (named (map view)) is
+  pushed-ok more (Err fault) is = tt
+
+  pub pushed-fault : (r : Result (Unit {0}) LineFault) → IfErr r (IsFault (pushed most xs x))
+      → IfErr r (IsFault (pushed most (map view xs) (view x)))
+  pushed-fault (Ok u) is = tt
+  pushed-fault (Err (Refused why)) is = pushed-view ∙ ap (named (map view)) is
+  pushed-fault (Err OutOfMemory) is = tt
 
 pub add_act-ok : (act : Act) (app new : App) → pushed MAX_INSTRUCTIONS (app_view app) act ≡ Ok (app_view new) → (apps : List App) (i : ℕ)
     → length apps ≡ suc i → app ≡ slice_index_or apps i app → add_act (map app_view apps) act ≡ Ok (map app_view (slice_set apps i new))

@@ -3,3 +3,4 @@ pub mod Pieces
 pub mod Numerals
 pub mod HexDigits
 pub mod Adding
+pub mod Bounded

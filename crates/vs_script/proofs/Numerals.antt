@@ -1,16 +1,10 @@
 -- Numbers as words write them, and what `parse` makes of them.
-use Rattle.std.proofs.Common.{◌≡◌, ◌<◌, ◌^◌, ◌&&◌, ℕ, true, nat_le, List, [], ◌∷◌, length, Some, None, Result, Ok, Err, refl, arith, inl, inr, subst, leb-true}
-use Rattle.std.proofs.lemmas.Bool.{lt-leb, and_right}
-use Rattle.std.specs.Prelude.{MatchResult}
-use Rattle.std.specs.Result.{result_ok}
-use Rattle.std.specs.List.{list_all}
-use Rattle.std.specs.Char.{is_ascii_digit}
-use Rattle.std.specs.Str.{IsUtf8, all_ascii_digits}
+use Rattle.std.proofs.Common.{◌≡◌, ◌<◌, ◌^◌, ◌&&◌, ℕ, true, nat_le, List, [], ◌∷◌, length, Some, None, Result, Ok, Err, refl, arith, inl}
+use Rattle.std.proofs.Common.{inr, subst, leb-true}
+use Rattle.std.proofs.lemmas.{Bool.lt-leb, Bool.and_right, Bool.and_parts, Bool.cases_lt, Str.IsUtf8-from_ascii, Fmt.IsAscii-from_digits}
+use Rattle.std.specs.{Prelude.MatchResult, Result.result_ok, List.list_all, Char.is_ascii_digit, Str.IsUtf8, Str.all_ascii_digits}
 use Rattle.std.specs.Str.Parse.{digits_value, ParsesUnsigned}
-use Rattle.std.proofs.lemmas.Bool.{and_parts, cases_lt}
-use Rattle.std.proofs.lemmas.Str.{IsUtf8-from_ascii}
 use Rattle.std.proofs.lemmas.Str.Parse.{IsNumeralModel, numerals_by_value, tells_all_ascii_digits, parse_digits}
-use Rattle.std.proofs.lemmas.Fmt.{IsAscii-from_digits}
 use Rattle.vs_script.specs.Field.{is_numeral, number_in}
 use Rattle.vs_script.specs.declared.number.TheConstants.{MAX_DIGITS}
 

@@ -1,11 +1,10 @@
 -- The first line of a text and the first word of a line, by the place where each ends.
-use Rattle.std.proofs.Common.{◌≡◌, ◌==◌, ◌<◌, ◌≤◌, ◌+◌, ℕ, suc, Bool, false, not, List, [], ◌∷◌, length, take, drop, arith, unwrap_or, sym, subst, refl, inl, inr, one-add, suc-add}
-use Rattle.std.specs.Prelude.{filter, position, ◌≢◌}
-use Rattle.std.specs.List.{position_or_len, slice_split}
+use Rattle.std.proofs.Common.{◌≡◌, ◌==◌, ◌<◌, ◌≤◌, ◌+◌, ℕ, suc, Bool, false, not, List, [], ◌∷◌, length, take, drop, arith, unwrap_or, sym}
+use Rattle.std.proofs.Common.{subst, refl, inl, inr, one-add, suc-add}
+use Rattle.std.specs.{Prelude.filter, Prelude.position, Prelude.◌≢◌, List.position_or_len, List.slice_split}
 use Rattle.std.proofs.lemmas.Bool.{cases_lt, cases_Bool, lt-ltb, le-ltb}
 use Rattle.std.proofs.lemmas.List.Sums.{prefix_len-le-length}
-use Rattle.vs_script.specs.Text.{is_empty, words_of}
-use Rattle.vs_script.specs.Text.{lines_of}
+use Rattle.vs_script.specs.Text.{is_empty, words_of, lines_of}
 
 -- the place that `position` finds, or the length
 pub unwrap_or-position : {X : Type 0} (p : X → Bool) (xs : List X) → unwrap_or (position p xs) (length xs) ≡ position_or_len p xs
@@ -47,14 +46,6 @@ lines_of-only (x ∷ y ∷ text) some h = elim (cases_Bool (x == 10)) [
   | inr e ↦
       let h' : suc (suc (length text)) ≤ suc (line_end (y ∷ text)) = rw (e, one-add (line_end (y ∷ text))) at h in
       rw (e, lines_of-only (y ∷ text) (omega arith) (omega arith)) refl
-]
-
--- spaces before the first word say nothing
-pub words_of-start : (line : List ℕ) → words_of (drop (word_start line) line) ≡ words_of line
-words_of-start [] = refl
-words_of-start (x ∷ line) = elim (cases_Bool (x == 32)) [
-  | inl e ↦ rw (e, one-add) (words_of-start line)
-  | inr e ↦ rw e (rw e refl)
 ]
 
 -- the pieces behind the first

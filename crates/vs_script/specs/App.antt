@@ -4,8 +4,7 @@ use Rattle.vs_script.specs.Data.{Content, content_of}
 use Rattle.vs_script.specs.Field.{after, ending, word, number, port, bits, content, only, named}
 use Rattle.vs_script.specs.declared.fault.Why.{Why}
 use Rattle.vs_script.specs.declared.fault.Why.TheVariants.{BadWord}
-use Rattle.vs_script.specs.declared.app.App.{App}
-use Rattle.vs_script.specs.declared.app.Instruction.{Instruction}
+use Rattle.vs_script.specs.declared.app.{App.App, Instruction.Instruction}
 use Rattle.vs_script.specs.declared.app.Instruction.TheVariants as code
 use Rattle.vs_script.specs.declared.app.RunLine.{RunLine}
 use Rattle.vs_script.specs.declared.app.RunLine.TheVariants as run
@@ -47,19 +46,24 @@ run_view (run.Do instruction) = Do (instruction_view instruction)
 abbrev pub app_view : App → List Act
 app_view app = map instruction_view app.instructions.items
 
--- The instructions, by their name.
-abbrev pub instruction_line : List ℕ → List (List ℕ) → Result Act Why
-instruction_line name words =
-    if bytes_eq name (codes "connect") then named Connect (only port words)
-    else if bytes_eq name (codes "listen") then named Listen (only port words)
-    else if bytes_eq name (codes "accept") then named Accept (only port words)
-    else if bytes_eq name (codes "send") then named Send (only (content MAX_APP_FILL) words)
+-- The instructions that aren't on ports, by their name.
+abbrev pub connection_instruction : List ℕ → List (List ℕ) → Result Act Why
+connection_instruction name words =
+    if bytes_eq name (codes "send") then named Send (only (content MAX_APP_FILL) words)
     else if bytes_eq name (codes "recv") then named Recv (only (number 1 MAX_APP_RECV) words)
     else if bytes_eq name (codes "drain") then ending Drain words
     else if bytes_eq name (codes "exchange") then named Exchange (only (content MAX_APP_FILL) words)
     else if bytes_eq name (codes "shutdown") then named Shutdown (only bits words)
     else if bytes_eq name (codes "close") then ending Close words
     else Err BadWord
+
+-- The instructions, by their name.
+abbrev pub instruction_line : List ℕ → List (List ℕ) → Result Act Why
+instruction_line name words =
+    if bytes_eq name (codes "connect") then named Connect (only port words)
+    else if bytes_eq name (codes "listen") then named Listen (only port words)
+    else if bytes_eq name (codes "accept") then named Accept (only port words)
+    else connection_instruction name words
 
 -- `app`, or an instruction, which stands behind the first `app`.
 abbrev pub run_line_named : Bool → List ℕ → List (List ℕ) → Result RunStep Why

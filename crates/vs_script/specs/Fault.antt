@@ -1,9 +1,7 @@
 -- What a script is refused for.
 use Rattle.std.specs.Prelude.{ℕ, List, ◌++◌, codes, decimal}
-use Rattle.vs_script.specs.declared.fault.Why.{Why}
+use Rattle.vs_script.specs.declared.fault.{Why.Why, Refused.Refused, LineFault.LineFault}
 use Rattle.vs_script.specs.declared.fault.Why.TheVariants.{TooLong, BadWord, BadNumber, BadHex, TooMany}
-use Rattle.vs_script.specs.declared.fault.Refused.{Refused}
-use Rattle.vs_script.specs.declared.fault.LineFault.{LineFault}
 use Rattle.vs_script.specs.declared.fault.LineFault.TheVariants as line_fault
 use Rattle.vs_script.specs.declared.fault.ParseFault.{ParseFault}
 use Rattle.vs_script.specs.declared.fault.ParseFault.TheVariants as parse_fault

@@ -1,18 +1,15 @@
 -- The fields of a line, each read from the words that are left of it.
-use Rattle.std.specs.Prelude.{◌≡◌, ℕ, ◌+◌, ◌*◌, ◌&&◌, nat_le, if◌then◌else◌, Bool, List, [], ◌∷◌, length, codes, bytes_eq, Option, Some, None, option_map, Result, Ok, Err}
-use Rattle.std.specs.List.{list_all}
-use Rattle.std.specs.Str.{all_ascii_digits}
+use Rattle.std.specs.Prelude.{◌≡◌, ℕ, ◌+◌, ◌*◌, ◌&&◌, nat_le, if◌then◌else◌, Bool, List, [], ◌∷◌, length, codes, bytes_eq, Option, Some}
+use Rattle.std.specs.{Prelude.None, Prelude.option_map, Prelude.Result, Prelude.Ok, Prelude.Err, List.list_all, Str.all_ascii_digits}
 use Rattle.std.specs.Str.Parse.{digits_value}
 use Rattle.hex.specs.Hex.{hex_digit_value}
-use Rattle.vs_script.specs.Text.{is_empty, is_graphic}
-use Rattle.vs_script.specs.declared.fault.Why.{Why}
+use Rattle.vs_script.specs.{Text.is_empty, Text.is_graphic, Data.Content, Data.Given, Data.Fill}
+use Rattle.vs_script.specs.declared.fault.{Why.Why, LineFault.LineFault}
 use Rattle.vs_script.specs.declared.fault.Why.TheVariants.{BadWord, BadNumber, BadHex}
-use Rattle.vs_script.specs.declared.fault.LineFault.{LineFault}
 use Rattle.vs_script.specs.declared.fault.LineFault.TheVariants.{Refused, OutOfMemory}
 use Rattle.vs_script.specs.declared.number.TheConstants.{MAX_DIGITS}
 use Rattle.vs_script.specs.declared.words.TheConstants.{MAX_BITS}
 use Rattle.vs_script.specs.declared.hex_word.TheConstants.{MAX_HEX}
-use Rattle.vs_script.specs.Data.{Content, Given, Fill}
 
 -- What reading a field of the words left of a line gives: its value and the words behind it, or the line's fault.
 abbrev pub Read : Type 0 → Type 0

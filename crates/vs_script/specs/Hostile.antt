@@ -1,10 +1,8 @@
 -- Lines of a hostile guest: what it writes into the device's memory, and the turns that the device takes.
-use Rattle.std.specs.Prelude.{ℕ, ◌+◌, ◌%◌, ◌==◌, ◌&&◌, ◌||◌, nat_le, nat_lt, if◌then◌else◌, Bool, List, [], ◌∷◌, codes, bytes_eq, Option, Some, None, Result, Ok, Err}
-use Rattle.std.specs.List.{list_any}
-use Rattle.vs_header.specs.declared.Header.{Header}
-use Rattle.vs_header.specs.declared.TheConstants.{HEADER_LEN}
-use Rattle.vs_layout.specs.Layout.{queue_areas_of}
-use Rattle.vs_layout.specs.Span.{span_end}
+use Rattle.std.specs.Prelude.{ℕ, ◌+◌, ◌%◌, ◌==◌, ◌&&◌, ◌||◌, nat_le, nat_lt, if◌then◌else◌, Bool, List, [], ◌∷◌, codes, bytes_eq, Option}
+use Rattle.std.specs.{Prelude.Some, Prelude.None, Prelude.Result, Prelude.Ok, Prelude.Err, List.list_any}
+use Rattle.vs_header.specs.declared.{Header.Header, TheConstants.HEADER_LEN}
+use Rattle.vs_layout.specs.{Layout.queue_areas_of, Span.span_end}
 use Rattle.vs_layout.specs.declared.entry.Desc.{Desc}
 use Rattle.vs_layout.specs.declared.span.Span.{Span}
 use Rattle.vs_ring_port.specs.declared.queue.Queue.{Queue}
@@ -18,8 +16,8 @@ use Rattle.vs_script.specs.declared.outside.TheConstants.{MAX_FILL}
 use Rattle.vs_script.specs.declared.hostile.HostileLine.{HostileLine}
 use Rattle.vs_script.specs.declared.hostile.HostileLine.TheVariants as code
 use Rattle.vs_script.specs.declared.hostile.Stage.{Stage}
-use Rattle.vs_script.specs.declared.hostile.Stage.TheVariants.{NoMemory, NoRings, Ready}
 use Rattle.vs_script.specs.declared.hostile.TheConstants.{BASE_ALIGN, MAX_BASE, MIN_MEMORY, MAX_MEMORY, MAX_BEFORE, MAX_LOOK}
+use Rattle.vs_script.specs.declared.hostile.Stage.TheVariants.{NoMemory, NoRings, Ready}
 
 -- What a hostile guest does, or what happens around it.
 pub data Hostile : Type 0 where

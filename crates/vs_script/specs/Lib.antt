@@ -7,4 +7,5 @@ pub mod App
 pub mod Hostile
 pub mod Fault
 pub mod Script
+pub mod Bounds
 pub mod Examples

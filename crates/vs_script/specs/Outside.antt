@@ -53,17 +53,22 @@ host_write words = after (id words) (λ stream rest. after (content MAX_FILL res
 abbrev pub host_allow : List (List ℕ) → Result Host Why
 host_allow words = after (id words) (λ stream rest. named (HostAllow stream) (only (number 0 MAX_ALLOW) rest))
 
--- The lines that begin with `host`, by the word behind it.
-abbrev pub host_line : List ℕ → List (List ℕ) → Result Host Why
-host_line act words =
-    if bytes_eq act (codes "listen") then named HostListen (only port words)
-    else if bytes_eq act (codes "unlisten") then named HostUnlisten (only port words)
-    else if bytes_eq act (codes "write") then host_write words
+-- The lines that begin with `host` and aren't on ports, by the word behind it.
+abbrev pub stream_line : List ℕ → List (List ℕ) → Result Host Why
+stream_line act words =
+    if bytes_eq act (codes "write") then host_write words
     else if bytes_eq act (codes "allow") then host_allow words
     else if bytes_eq act (codes "end") then named HostEnd (only id words)
     else if bytes_eq act (codes "closed") then named HostClosed (only id words)
     else if bytes_eq act (codes "fail") then named HostFail (only (number 1 MAX_FAIL) words)
     else Err BadWord
+
+-- The lines that begin with `host`, by the word behind it.
+abbrev pub host_line : List ℕ → List (List ℕ) → Result Host Why
+host_line act words =
+    if bytes_eq act (codes "listen") then named HostListen (only port words)
+    else if bytes_eq act (codes "unlisten") then named HostUnlisten (only port words)
+    else stream_line act words
 
 -- turn, reset CID, tick MS, client, and the lines of the host, by their name.
 abbrev pub outside_line : List ℕ → List (List ℕ) → Result Outside Why

@@ -49,6 +49,17 @@ recv_line words = after (id words) (λ c rest. named (Recv c) (only (number 1 MA
 abbrev pub shutdown_line : List (List ℕ) → Result Event Why
 shutdown_line words = after (id words) (λ c rest. named (Shutdown c) (only bits rest))
 
+-- The lines that aren't on ports, by their name.
+abbrev pub connection_line : List ℕ → List (List ℕ) → Result Event Why
+connection_line name words =
+    if bytes_eq name (codes "send") then send_line words
+    else if bytes_eq name (codes "recv") then recv_line words
+    else if bytes_eq name (codes "shutdown") then shutdown_line words
+    else if bytes_eq name (codes "close") then named Close (only id words)
+    else if bytes_eq name (codes "state") then named State (only id words)
+    else if bytes_eq name (codes "poll") then ending Poll words
+    else named Around (outside_line name words)
+
 -- The lines of a play, by their name.
 abbrev pub named_line : List ℕ → List (List ℕ) → Result Event Why
 named_line name words =
@@ -56,13 +67,7 @@ named_line name words =
     else if bytes_eq name (codes "listen") then named Listen (only port words)
     else if bytes_eq name (codes "unlisten") then named Unlisten (only port words)
     else if bytes_eq name (codes "accept") then named Accept (only port words)
-    else if bytes_eq name (codes "send") then send_line words
-    else if bytes_eq name (codes "recv") then recv_line words
-    else if bytes_eq name (codes "shutdown") then shutdown_line words
-    else if bytes_eq name (codes "close") then named Close (only id words)
-    else if bytes_eq name (codes "state") then named State (only id words)
-    else if bytes_eq name (codes "poll") then ending Poll words
-    else named Around (outside_line name words)
+    else connection_line name words
 
 -- What the words of a line say in a play.
 abbrev pub play_line : List (List ℕ) → Result Event Why

@@ -2,11 +2,11 @@
 
 ghost use Rattle.std.specs.Prelude.{◌≡◌, IfOk, IfErr, Ok, Err};
 ghost use Rattle.vs_script.specs.Field.{IsFault};
-ghost use Rattle.vs_script.specs.App.{instruction_view, run_view, instruction_line, run_line, run_line_named};
+ghost use Rattle.vs_script.specs.App.{instruction_view, run_view, instruction_line, connection_instruction, run_line, run_line_named};
 
 use crate::data::Data;
 use crate::fault::{LineFault, Why};
-use crate::words::Words;
+use crate::words::{MAX_BITS, Words, is};
 use std::alloc::Global;
 
 /// The most bytes that an instruction fills.
@@ -16,7 +16,7 @@ const MAX_APP_FILL: u32 = 1_000_000;
 const MAX_APP_RECV: u32 = 1_000_000;
 
 /// An instruction of an app. Its connection is the last one that it connected or accepted.
-#[derive(Debug, PartialEq, Eq, Drop)]
+#[derive(Drop)]
 pub enum Instruction {
     /// `connect PORT`: connect to a port of the host.
     Connect { port: u32 },
@@ -39,14 +39,14 @@ pub enum Instruction {
 }
 
 /// An app: its instructions in order. Instruction I, counted from 1, stands at place I - 1.
-#[derive(Debug, PartialEq, Eq, Drop)]
+#[derive(Drop)]
 pub struct App {
     /// The instructions, 1,000 at most.
     pub instructions: Vec<Instruction>,
 }
 
 /// A line of a run.
-#[derive(Debug, PartialEq, Eq, Drop)]
+#[derive(Drop)]
 pub enum RunLine {
     /// `app`: an app begins.
     App,
@@ -73,7 +73,7 @@ fn run_line_named(
     ensures ok { IfOk result (λ line. run_line_named begun name.now words.old ≡ Ok (run_view line)) }
     ensures fault { IfErr result (IsFault (run_line_named begun name.now words.old)) }
 {
-    if name == b"app".as_slice() {
+    if is(name, b"app") {
         words.end()?;
         Ok(RunLine::App)
     } else if begun {
@@ -89,31 +89,45 @@ fn instruction_line(alloc: Global, name: &[u8], words: &mut Words) -> Result<Ins
     ensures ok { IfOk result (λ line. instruction_line name.now words.old ≡ Ok (instruction_view line)) }
     ensures fault { IfErr result (IsFault (instruction_line name.now words.old)) }
 {
-    if name == b"connect".as_slice() {
+    if is(name, b"connect") {
         let port = words.only_port()?;
         Ok(Instruction::Connect { port })
-    } else if name == b"listen".as_slice() {
+    } else if is(name, b"listen") {
         let port = words.only_port()?;
         Ok(Instruction::Listen { port })
-    } else if name == b"accept".as_slice() {
+    } else if is(name, b"accept") {
         let port = words.only_port()?;
         Ok(Instruction::Accept { port })
-    } else if name == b"send".as_slice() {
+    } else {
+        connection_instruction(alloc, name, words)
+    }
+}
+
+/// The instruction of a name that is none of those on ports, and the words behind it.
+fn connection_instruction(
+    alloc: Global,
+    name: &[u8],
+    words: &mut Words,
+) -> Result<Instruction, LineFault>
+    ensures ok { IfOk result (λ line. connection_instruction name.now words.old ≡ Ok (instruction_view line)) }
+    ensures fault { IfErr result (IsFault (connection_instruction name.now words.old)) }
+{
+    if is(name, b"send") {
         let content = words.only_content(alloc, MAX_APP_FILL)?;
         Ok(Instruction::Send { content })
-    } else if name == b"recv".as_slice() {
+    } else if is(name, b"recv") {
         let len = words.only_number32(1, MAX_APP_RECV)?;
         Ok(Instruction::Recv { len })
-    } else if name == b"drain".as_slice() {
+    } else if is(name, b"drain") {
         words.end()?;
         Ok(Instruction::Drain)
-    } else if name == b"exchange".as_slice() {
+    } else if is(name, b"exchange") {
         let content = words.only_content(alloc, MAX_APP_FILL)?;
         Ok(Instruction::Exchange { content })
-    } else if name == b"shutdown".as_slice() {
-        let bits = words.only_bits()?;
+    } else if is(name, b"shutdown") {
+        let bits = words.only_number8(1, MAX_BITS)?;
         Ok(Instruction::Shutdown { bits })
-    } else if name == b"close".as_slice() {
+    } else if is(name, b"close") {
         words.end()?;
         Ok(Instruction::Close)
     } else {

@@ -6,7 +6,7 @@ ghost use Rattle.vs_script.specs.Data.{content_of, size_of, byte_at, bytes_of, f
 use std::alloc::{AllocError, Global};
 
 /// The bytes that a line carries: as the script gives them, or by a rule.
-#[derive(Debug, PartialEq, Eq, Drop)]
+#[derive(Drop)]
 pub enum Data {
     /// These bytes: none, or 1 to 2,048 of them.
     Given(Vec<u8>),
@@ -15,7 +15,7 @@ pub enum Data {
 }
 
 /// Bytes by a rule, `fill N S`: the byte at place i is (start + 7i + i/251) mod 256.
-#[derive(Clone, Copy, Debug, PartialEq, Eq)]
+#[derive(Clone, Copy)]
 pub struct Fill {
     /// How many bytes.
     pub n: u32,

@@ -30,11 +30,11 @@ impl fmt::Display for Why {
 
     fn fmt<W: fmt::Write>(&self, f: &mut fmt::Formatter<W>) -> fmt::Result {
         match self {
-            Why::TooLong => write!(f, "TooLong"),
-            Why::BadWord => write!(f, "BadWord"),
-            Why::BadNumber => write!(f, "BadNumber"),
-            Why::BadHex => write!(f, "BadHex"),
-            Why::TooMany => write!(f, "TooMany"),
+            Why::TooLong => f.write_str("TooLong"),
+            Why::BadWord => f.write_str("BadWord"),
+            Why::BadNumber => f.write_str("BadNumber"),
+            Why::BadHex => f.write_str("BadHex"),
+            Why::TooMany => f.write_str("TooMany"),
         }
     }
 }
@@ -69,7 +69,7 @@ pub enum ParseFault {
 }
 
 /// Why a line isn't read.
-#[derive(Clone, Copy, Debug, PartialEq, Eq)]
+#[derive(Clone, Copy)]
 pub enum LineFault {
     /// It is refused.
     Refused(Why),

@@ -1,15 +1,16 @@
 //! Lines of a hostile guest: what it writes into the device's memory, and the turns that the device takes.
 
-ghost use Rattle.std.specs.Prelude.{◌≡◌, IfOk, IfErr, Ok, Err};
-ghost use Rattle.std.specs.Prelude.{◌≤◌};
+ghost use Rattle.std.specs.Prelude.{◌≡◌, IfOk, IfErr, Ok, Err, ◌≤◌};
 ghost use Rattle.vs_layout.specs.Layout.{queue_areas_of};
 ghost use Rattle.vs_script.specs.Field.{IsFault};
-ghost use Rattle.vs_script.specs.Hostile.{hostile_view, queue_named, queue, base, queue_size, header, descriptor, memory_line, rings_fit, rings_line, place, write_line, desc_line, give_line, index_line, packet_line, before_line, look_line, guest_line, touched, is_inside, inside_line, hostile_line};
+ghost use Rattle.vs_script.specs.Hostile.{hostile_view, queue, base, queue_size, header, descriptor, memory_line, rings_fit, rings_line};
+ghost use Rattle.vs_script.specs.Hostile.{place, write_line, desc_line, give_line, index_line, packet_line, before_line, look_line};
+ghost use Rattle.vs_script.specs.Hostile.{guest_line, touched, is_inside, inside_line, hostile_line};
 
 use crate::data::Data;
 use crate::fault::{LineFault, Why};
 use crate::outside::{MAX_FILL, OutsideLine, outside_line};
-use crate::words::Words;
+use crate::words::{Words, is};
 use std::alloc::Global;
 use vs_header::{HEADER_LEN, Header};
 use vs_layout::{Desc, Span, queue_areas};
@@ -34,7 +35,7 @@ const MAX_BEFORE: u32 = 10_000;
 const MAX_LOOK: u8 = 64;
 
 /// A line of a hostile guest.
-#[derive(Debug, PartialEq, Eq, Drop)]
+#[derive(Drop)]
 pub enum HostileLine {
     /// `memory BASE SIZE`, the first line: the device's memory, all 0. BASE is a multiple of 16 up to 2^62, SIZE 4,096 to 1,048,576.
     Memory {
@@ -88,7 +89,7 @@ pub enum HostileLine {
 }
 
 /// What the lines before have set up.
-#[derive(Clone, Copy, Debug, PartialEq, Eq)]
+#[derive(Clone, Copy)]
 pub enum Stage {
     /// There is no memory yet.
     NoMemory,
@@ -108,20 +109,21 @@ pub fn hostile_line(
     ensures fault { IfErr result (IsFault (hostile_line stage words.old)) }
 {
     match stage {
-        Stage::NoMemory => Ok(memory_line(words)?),
-        Stage::NoRings(memory) => Ok(rings_line(memory, words)?),
+        Stage::NoMemory => memory_line(words),
+        Stage::NoRings(memory) => rings_line(memory, words),
         Stage::Ready(memory, n) => inside_line(alloc, memory, n, words),
     }
 }
 
 /// `memory BASE SIZE`.
-fn memory_line(words: &mut Words) -> Result<HostileLine, Why>
+fn memory_line(words: &mut Words) -> Result<HostileLine, LineFault>
     ensures ok { IfOk result (λ line. memory_line words.old ≡ Ok (hostile_view line)) }
-    ensures fault { IfErr result (λ why. memory_line words.old ≡ Err why) }
+    ensures fault { IfErr result (IsFault (memory_line words.old)) }
 {
     words.keyword(b"memory")?;
     let at = base(words)?;
-    let len = words.only_number(MIN_MEMORY, MAX_MEMORY)?;
+    let len = words.number(MIN_MEMORY, MAX_MEMORY)?;
+    words.end()?;
     let memory = Span { at, len };
     Ok(HostileLine::Memory { memory })
 }
@@ -140,9 +142,9 @@ fn base(words: &mut Words) -> Result<u64, Why>
 }
 
 /// `rings N`, over this memory.
-fn rings_line(memory: Span, words: &mut Words) -> Result<HostileLine, Why>
+fn rings_line(memory: Span, words: &mut Words) -> Result<HostileLine, LineFault>
     ensures ok { IfOk result (λ line. rings_line memory words.old ≡ Ok (hostile_view line)) }
-    ensures fault { IfErr result (λ why. rings_line memory words.old ≡ Err why) }
+    ensures fault { IfErr result (IsFault (rings_line memory words.old)) }
 {
     words.keyword(b"rings")?;
     let n = queue_size(words)?;
@@ -150,7 +152,7 @@ fn rings_line(memory: Span, words: &mut Words) -> Result<HostileLine, Why>
     if rings_fit(memory, n) {
         Ok(HostileLine::Rings { n })
     } else {
-        Err(Why::BadNumber)
+        Err(LineFault::Refused(Why::BadNumber))
     }
 }
 
@@ -246,20 +248,20 @@ fn guest_line(
     ensures ok { IfOk result (λ line. guest_line n name.now words.old ≡ Ok (hostile_view line)) }
     ensures fault { IfErr result (IsFault (guest_line n name.now words.old)) }
 {
-    if name == b"write".as_slice() {
+    if is(name, b"write") {
         write_line(alloc, words)
-    } else if name == b"desc".as_slice() {
-        Ok(desc_line(n, words)?)
-    } else if name == b"give".as_slice() {
-        Ok(give_line(n, words)?)
-    } else if name == b"index".as_slice() {
-        Ok(index_line(words)?)
-    } else if name == b"packet".as_slice() {
+    } else if is(name, b"desc") {
+        desc_line(n, words)
+    } else if is(name, b"give") {
+        give_line(n, words)
+    } else if is(name, b"index") {
+        index_line(words)
+    } else if is(name, b"packet") {
         packet_line(alloc, words)
-    } else if name == b"before".as_slice() {
+    } else if is(name, b"before") {
         before_line(alloc, words)
-    } else if name == b"look".as_slice() {
-        Ok(look_line(words)?)
+    } else if is(name, b"look") {
+        look_line(words)
     } else {
         let line = outside_line(alloc, name, words)?;
         Ok(HostileLine::Outside(line))
@@ -272,11 +274,11 @@ fn queue(words: &mut Words) -> Result<Queue, Why>
     ensures fault { IfErr result (λ why. queue words.old ≡ Err why) }
 {
     let word = words.word()?;
-    if word == b"rx".as_slice() {
+    if is(word, b"rx") {
         Ok(Queue::Rx)
-    } else if word == b"tx".as_slice() {
+    } else if is(word, b"tx") {
         Ok(Queue::Tx)
-    } else if word == b"event".as_slice() {
+    } else if is(word, b"event") {
         Ok(Queue::Event)
     } else {
         Err(Why::BadWord)
@@ -303,9 +305,9 @@ fn write_line(alloc: Global, words: &mut Words) -> Result<HostileLine, LineFault
 }
 
 /// `Q I ADDR LEN FLAGS NEXT` of `desc`, where queues have n entries.
-fn desc_line(n: u16, words: &mut Words) -> Result<HostileLine, Why>
+fn desc_line(n: u16, words: &mut Words) -> Result<HostileLine, LineFault>
     ensures ok { IfOk result (λ line. desc_line n words.old ≡ Ok (hostile_view line)) }
-    ensures fault { IfErr result (λ why. desc_line n words.old ≡ Err why) }
+    ensures fault { IfErr result (IsFault (desc_line n words.old)) }
 {
     let queue = queue(words)?;
     let number = place(n, words)?;
@@ -323,22 +325,18 @@ fn descriptor(words: &mut Words) -> Result<Desc, Why>
     ensures ok { IfOk result (λ d. descriptor words.old ≡ Ok (d, words.new)) }
     ensures fault { IfErr result (λ why. descriptor words.old ≡ Err why) }
 {
-    let addr = words.any64()?;
-    let len = words.any32()?;
-    let flags = words.any16()?;
-    let next = words.any16()?;
     Ok(Desc {
-        addr,
-        len,
-        flags,
-        next,
+        addr: words.any64()?,
+        len: words.any32()?,
+        flags: words.any16()?,
+        next: words.any16()?,
     })
 }
 
 /// `Q PLACE HEAD` of `give`, where queues have n entries.
-fn give_line(n: u16, words: &mut Words) -> Result<HostileLine, Why>
+fn give_line(n: u16, words: &mut Words) -> Result<HostileLine, LineFault>
     ensures ok { IfOk result (λ line. give_line n words.old ≡ Ok (hostile_view line)) }
-    ensures fault { IfErr result (λ why. give_line n words.old ≡ Err why) }
+    ensures fault { IfErr result (IsFault (give_line n words.old)) }
 {
     let queue = queue(words)?;
     let place = place(n, words)?;
@@ -347,9 +345,9 @@ fn give_line(n: u16, words: &mut Words) -> Result<HostileLine, Why>
 }
 
 /// `Q V` of `index`.
-fn index_line(words: &mut Words) -> Result<HostileLine, Why>
+fn index_line(words: &mut Words) -> Result<HostileLine, LineFault>
     ensures ok { IfOk result (λ line. index_line words.old ≡ Ok (hostile_view line)) }
-    ensures fault { IfErr result (λ why. index_line words.old ≡ Err why) }
+    ensures fault { IfErr result (IsFault (index_line words.old)) }
 {
     let queue = queue(words)?;
     let value = words.only_any16()?;
@@ -376,27 +374,17 @@ fn header(words: &mut Words) -> Result<Header, Why>
     ensures ok { IfOk result (λ fields. header words.old ≡ Ok (fields, words.new)) }
     ensures fault { IfErr result (λ why. header words.old ≡ Err why) }
 {
-    let src_cid = words.any64()?;
-    let dst_cid = words.any64()?;
-    let src_port = words.any32()?;
-    let dst_port = words.any32()?;
-    let len = words.any32()?;
-    let kind = words.any16()?;
-    let op = words.any16()?;
-    let flags = words.any32()?;
-    let buf_alloc = words.any32()?;
-    let fwd_cnt = words.any32()?;
     Ok(Header {
-        src_cid,
-        dst_cid,
-        src_port,
-        dst_port,
-        len,
-        kind,
-        op,
-        flags,
-        buf_alloc,
-        fwd_cnt,
+        src_cid: words.any64()?,
+        dst_cid: words.any64()?,
+        src_port: words.any32()?,
+        dst_port: words.any32()?,
+        len: words.any32()?,
+        kind: words.any16()?,
+        op: words.any16()?,
+        flags: words.any32()?,
+        buf_alloc: words.any32()?,
+        fwd_cnt: words.any32()?,
     })
 }
 
@@ -416,9 +404,9 @@ fn before_line(alloc: Global, words: &mut Words) -> Result<HostileLine, LineFaul
 }
 
 /// `ADDR N` of `look`.
-fn look_line(words: &mut Words) -> Result<HostileLine, Why>
+fn look_line(words: &mut Words) -> Result<HostileLine, LineFault>
     ensures ok { IfOk result (λ line. look_line words.old ≡ Ok (hostile_view line)) }
-    ensures fault { IfErr result (λ why. look_line words.old ≡ Err why) }
+    ensures fault { IfErr result (IsFault (look_line words.old)) }
 {
     let addr = words.any64()?;
     let len = words.only_number8(1, MAX_LOOK)?;

@@ -1,7 +1,6 @@
 //! Numbers: what a word of decimal digits writes.
 
-ghost use Rattle.std.specs.Prelude.{◌≡◌, ◌≤◌, ◌<◌, ◌^◌};
-ghost use Rattle.std.specs.Option.{IfSome};
+ghost use Rattle.std.specs.{Prelude.◌≡◌, Prelude.◌≤◌, Prelude.◌<◌, Option.IfSome};
 ghost use Rattle.vs_script.specs.Field.{is_numeral, number_in};
 
 use std::str;

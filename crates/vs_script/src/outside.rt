@@ -2,11 +2,11 @@
 
 ghost use Rattle.std.specs.Prelude.{◌≡◌, IfOk, IfErr, Ok, Err};
 ghost use Rattle.vs_script.specs.Field.{IsFault};
-ghost use Rattle.vs_script.specs.Outside.{host_view, outside_view, host_line, host_write, host_allow, outside_line};
+ghost use Rattle.vs_script.specs.Outside.{host_view, outside_view, host_line, stream_line, host_write, host_allow, outside_line};
 
 use crate::data::Data;
 use crate::fault::{LineFault, Why};
-use crate::words::Words;
+use crate::words::{Words, is};
 use std::alloc::Global;
 
 /// The most bytes that a line of a play or of a hostile guest fills.
@@ -28,7 +28,7 @@ const MAX_ALLOW: u32 = 1_000_000;
 const MAX_FAIL: u32 = 1_000;
 
 /// A line on the device, the moment, or a program of the host.
-#[derive(Debug, PartialEq, Eq, Drop)]
+#[derive(Drop)]
 pub enum OutsideLine {
     /// `turn`: the device takes a turn.
     Turn,
@@ -43,7 +43,7 @@ pub enum OutsideLine {
 }
 
 /// A line on the programs of the host.
-#[derive(Debug, PartialEq, Eq, Drop)]
+#[derive(Drop)]
 pub enum HostLine {
     /// `host listen PORT`: a program listens at a port.
     Listen { port: u32 },
@@ -66,19 +66,19 @@ pub fn outside_line(alloc: Global, name: &[u8], words: &mut Words) -> Result<Out
     ensures ok { IfOk result (λ line. outside_line name.now words.old ≡ Ok (outside_view line)) }
     ensures fault { IfErr result (IsFault (outside_line name.now words.old)) }
 {
-    if name == b"turn".as_slice() {
+    if is(name, b"turn") {
         words.end()?;
         Ok(OutsideLine::Turn)
-    } else if name == b"reset".as_slice() {
+    } else if is(name, b"reset") {
         let cid = words.only_number32(CID_MIN, CID_MAX)?;
         Ok(OutsideLine::Reset { cid })
-    } else if name == b"tick".as_slice() {
+    } else if is(name, b"tick") {
         let ms = words.only_number32(0, MAX_TICK)?;
         Ok(OutsideLine::Tick { ms })
-    } else if name == b"client".as_slice() {
+    } else if is(name, b"client") {
         words.end()?;
         Ok(OutsideLine::Client)
-    } else if name == b"host".as_slice() {
+    } else if is(name, b"host") {
         let act = words.word()?;
         let line = host_line(alloc, act, words)?;
         Ok(OutsideLine::Host(line))
@@ -92,23 +92,33 @@ fn host_line(alloc: Global, act: &[u8], words: &mut Words) -> Result<HostLine, L
     ensures ok { IfOk result (λ line. host_line act.now words.old ≡ Ok (host_view line)) }
     ensures fault { IfErr result (IsFault (host_line act.now words.old)) }
 {
-    if act == b"listen".as_slice() {
+    if is(act, b"listen") {
         let port = words.only_port()?;
         Ok(HostLine::Listen { port })
-    } else if act == b"unlisten".as_slice() {
+    } else if is(act, b"unlisten") {
         let port = words.only_port()?;
         Ok(HostLine::Unlisten { port })
-    } else if act == b"write".as_slice() {
+    } else {
+        stream_line(alloc, act, words)
+    }
+}
+
+/// What a line says behind `host` and the name of an act that is none of those on ports.
+fn stream_line(alloc: Global, act: &[u8], words: &mut Words) -> Result<HostLine, LineFault>
+    ensures ok { IfOk result (λ line. stream_line act.now words.old ≡ Ok (host_view line)) }
+    ensures fault { IfErr result (IsFault (stream_line act.now words.old)) }
+{
+    if is(act, b"write") {
         host_write(alloc, words)
-    } else if act == b"allow".as_slice() {
-        Ok(host_allow(words)?)
-    } else if act == b"end".as_slice() {
+    } else if is(act, b"allow") {
+        host_allow(words)
+    } else if is(act, b"end") {
         let stream = words.only_id()?;
         Ok(HostLine::End { stream })
-    } else if act == b"closed".as_slice() {
+    } else if is(act, b"closed") {
         let stream = words.only_id()?;
         Ok(HostLine::Closed { stream })
-    } else if act == b"fail".as_slice() {
+    } else if is(act, b"fail") {
         let n = words.only_number32(1, MAX_FAIL)?;
         Ok(HostLine::Fail { n })
     } else {
@@ -128,9 +138,9 @@ fn host_write(alloc: Global, words: &mut Words) -> Result<HostLine, LineFault>
 }
 
 /// `H N` of `host allow`.
-fn host_allow(words: &mut Words) -> Result<HostLine, Why>
+fn host_allow(words: &mut Words) -> Result<HostLine, LineFault>
     ensures ok { IfOk result (λ line. host_allow words.old ≡ Ok (host_view line)) }
-    ensures fault { IfErr result (λ why. host_allow words.old ≡ Err why) }
+    ensures fault { IfErr result (IsFault (host_allow words.old)) }
 {
     let stream = words.id()?;
     let n = words.only_number32(0, MAX_ALLOW)?;

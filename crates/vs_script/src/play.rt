@@ -1,20 +1,20 @@
 //! Event lines of a play: what the guest does, and what happens around it.
 
-ghost use Rattle.std.specs.Prelude.{◌≡◌, IfOk, IfErr, Ok, Err};
+ghost use Rattle.std.specs.Prelude.{◌≡◌, IfOk, IfErr, Ok};
 ghost use Rattle.vs_script.specs.Field.{IsFault};
-ghost use Rattle.vs_script.specs.Play.{play_view, play_line, named_line, send_line, recv_line, shutdown_line};
+ghost use Rattle.vs_script.specs.Play.{play_view, play_line, named_line, connection_line, send_line, recv_line, shutdown_line};
 
 use crate::data::Data;
-use crate::fault::{LineFault, Why};
+use crate::fault::LineFault;
 use crate::outside::{MAX_FILL, OutsideLine, outside_line};
-use crate::words::Words;
+use crate::words::{MAX_BITS, Words, is};
 use std::alloc::Global;
 
 /// The most bytes that one `recv` of a play asks for.
 const MAX_RECV: u32 = 65_536;
 
 /// An event line of a play.
-#[derive(Debug, PartialEq, Eq, Drop)]
+#[derive(Drop)]
 pub enum PlayLine {
     /// `connect PORT`: the guest asks for a connection to a port of the host.
     Connect { port: u32 },
@@ -54,31 +54,41 @@ fn named_line(alloc: Global, name: &[u8], words: &mut Words) -> Result<PlayLine,
     ensures ok { IfOk result (λ line. named_line name.now words.old ≡ Ok (play_view line)) }
     ensures fault { IfErr result (IsFault (named_line name.now words.old)) }
 {
-    if name == b"connect".as_slice() {
+    if is(name, b"connect") {
         let port = words.only_port()?;
         Ok(PlayLine::Connect { port })
-    } else if name == b"listen".as_slice() {
+    } else if is(name, b"listen") {
         let port = words.only_port()?;
         Ok(PlayLine::Listen { port })
-    } else if name == b"unlisten".as_slice() {
+    } else if is(name, b"unlisten") {
         let port = words.only_port()?;
         Ok(PlayLine::Unlisten { port })
-    } else if name == b"accept".as_slice() {
+    } else if is(name, b"accept") {
         let port = words.only_port()?;
         Ok(PlayLine::Accept { port })
-    } else if name == b"send".as_slice() {
+    } else {
+        connection_line(alloc, name, words)
+    }
+}
+
+/// The event line of a name that is none of those on ports, and the words behind it.
+fn connection_line(alloc: Global, name: &[u8], words: &mut Words) -> Result<PlayLine, LineFault>
+    ensures ok { IfOk result (λ line. connection_line name.now words.old ≡ Ok (play_view line)) }
+    ensures fault { IfErr result (IsFault (connection_line name.now words.old)) }
+{
+    if is(name, b"send") {
         send_line(alloc, words)
-    } else if name == b"recv".as_slice() {
-        Ok(recv_line(words)?)
-    } else if name == b"shutdown".as_slice() {
-        Ok(shutdown_line(words)?)
-    } else if name == b"close".as_slice() {
+    } else if is(name, b"recv") {
+        recv_line(words)
+    } else if is(name, b"shutdown") {
+        shutdown_line(words)
+    } else if is(name, b"close") {
         let id = words.only_id()?;
         Ok(PlayLine::Close { id })
-    } else if name == b"state".as_slice() {
+    } else if is(name, b"state") {
         let id = words.only_id()?;
         Ok(PlayLine::State { id })
-    } else if name == b"poll".as_slice() {
+    } else if is(name, b"poll") {
         words.end()?;
         Ok(PlayLine::Poll)
     } else {
@@ -99,9 +109,9 @@ fn send_line(alloc: Global, words: &mut Words) -> Result<PlayLine, LineFault>
 }
 
 /// `C N` of `recv`.
-fn recv_line(words: &mut Words) -> Result<PlayLine, Why>
+fn recv_line(words: &mut Words) -> Result<PlayLine, LineFault>
     ensures ok { IfOk result (λ line. recv_line words.old ≡ Ok (play_view line)) }
-    ensures fault { IfErr result (λ why. recv_line words.old ≡ Err why) }
+    ensures fault { IfErr result (IsFault (recv_line words.old)) }
 {
     let id = words.id()?;
     let len = words.only_number32(1, MAX_RECV)?;
@@ -109,11 +119,11 @@ fn recv_line(words: &mut Words) -> Result<PlayLine, Why>
 }
 
 /// `C B` of `shutdown`.
-fn shutdown_line(words: &mut Words) -> Result<PlayLine, Why>
+fn shutdown_line(words: &mut Words) -> Result<PlayLine, LineFault>
     ensures ok { IfOk result (λ line. shutdown_line words.old ≡ Ok (play_view line)) }
-    ensures fault { IfErr result (λ why. shutdown_line words.old ≡ Err why) }
+    ensures fault { IfErr result (IsFault (shutdown_line words.old)) }
 {
     let id = words.id()?;
-    let bits = words.only_bits()?;
+    let bits = words.only_number8(1, MAX_BITS)?;
     Ok(PlayLine::Shutdown { id, bits })
 }

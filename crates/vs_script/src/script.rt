@@ -1,10 +1,9 @@
 //! Whole scripts: the limits, and the lines in order.
 
-ghost use Rattle.std.specs.Prelude.{◌≡◌, ◌≤◌, ◌<◌, ◌∷◌, ◌++◌, [], IfOk, IfErr, Ok, length, map, not, nat_lt};
-ghost use Rattle.vs_script.specs.Field.{IsFault};
-ghost use Rattle.vs_script.specs.App.{app_view, instruction_view};
-ghost use Rattle.vs_script.specs.Text.{lines_of, is_empty, is_skipped};
-ghost use Rattle.vs_script.specs.Script.{script_view, numbered_event, numbered_hostile, empty, pushed, add_event, add_act, add_run, stage_of, add_hostile, add_words, add_line, parse_of, IsRefused};
+ghost use Rattle.std.specs.Prelude.{◌≡◌, ◌<◌, ◌∷◌, [], IfOk, IfErr, Ok, length, map, not};
+ghost use Rattle.vs_script.specs.{Field.IsFault, App.app_view, App.instruction_view, Text.lines_of, Text.is_empty, Text.is_skipped};
+ghost use Rattle.vs_script.specs.Script.{script_view, numbered_event, numbered_hostile, empty, pushed, add_event, add_act, add_run};
+ghost use Rattle.vs_script.specs.Script.{stage_of, add_hostile, add_words, add_line, parse_of, IsRefused};
 ghost use Rattle.vs_script.specs.declared.fault.Why.TheVariants.{TooMany};
 
 use crate::app::{App, Instruction, RunLine, run_line};
@@ -30,7 +29,7 @@ pub const MAX_APPS: usize = 64;
 pub const MAX_INSTRUCTIONS: usize = 1_000;
 
 /// The command that a script is for.
-#[derive(Clone, Copy, Debug, PartialEq, Eq)]
+#[derive(Clone, Copy)]
 pub enum Command {
     /// `play`: event lines on one thread.
     Play,
@@ -41,14 +40,14 @@ pub enum Command {
 }
 
 /// A line and its number in the script, which counts all lines from 1.
-#[derive(Debug, PartialEq, Eq, Drop)]
+#[derive(Drop)]
 pub struct Numbered<L> {
     pub number: u64,
     pub line: L,
 }
 
 /// A script: its event lines, or its apps.
-#[derive(Debug, PartialEq, Eq, Drop)]
+#[derive(Drop)]
 pub enum Script {
     /// The event lines of a play, in order.
     Play(Vec<Numbered<PlayLine>>),
@@ -135,11 +134,7 @@ fn add_event(
     ensures fault { IfErr result (IsFault (add_event (map numbered_event lines.old.items) number words.old)) }
 {
     let line = play_line(alloc, words)?;
-    if !has_room(lines) {
-        return Err(LineFault::Refused(Why::TooMany));
-    }
-    push(lines, Numbered { number, line })?;
-    Ok(())
+    push(lines, MAX_EVENTS, Numbered { number, line })
 }
 
 /// Adds a line of a hostile guest.
@@ -154,18 +149,7 @@ fn add_hostile(
     ensures fault { IfErr result (IsFault (add_hostile (map numbered_hostile lines.old.items) number words.old)) }
 {
     let line = hostile_line(alloc, stage_of(lines), words)?;
-    if !has_room(lines) {
-        return Err(LineFault::Refused(Why::TooMany));
-    }
-    push(lines, Numbered { number, line })?;
-    Ok(())
-}
-
-/// Whether one more line may stand behind others.
-fn has_room<L>(lines: &[Numbered<L>]) -> bool
-    ensures { result ≡ nat_lt (length lines.now) MAX_EVENTS }
-{
-    lines.len() < MAX_EVENTS
+    push(lines, MAX_EVENTS, Numbered { number, line })
 }
 
 /// What the lines of a hostile guest have set up.
@@ -210,12 +194,8 @@ fn add_app(alloc: Global, apps: &mut Vec<App>) -> Result<(), LineFault>
     ensures ok { IfOk result (λ _. pushed MAX_APPS (map app_view apps.old.items) [] ≡ Ok (map app_view apps.new.items)) }
     ensures fault { IfErr result (IsFault (pushed MAX_APPS (map app_view apps.old.items) [])) }
 {
-    if apps.len() >= MAX_APPS {
-        return Err(LineFault::Refused(Why::TooMany));
-    }
     let instructions = Vec::new(alloc);
-    push(apps, App { instructions })?;
-    Ok(())
+    push(apps, MAX_APPS, App { instructions })
 }
 
 /// Adds an instruction to the last app.
@@ -238,20 +218,22 @@ impl App {
             ≡ Ok (app_view self.new)) }
         ensures fault { IfErr result (IsFault (pushed MAX_INSTRUCTIONS (app_view self.old) (instruction_view instruction))) }
     {
-        if self.instructions.len() >= MAX_INSTRUCTIONS {
-            return Err(LineFault::Refused(Why::TooMany));
-        }
-        push(&mut self.instructions, instruction)?;
-        Ok(())
+        push(&mut self.instructions, MAX_INSTRUCTIONS, instruction)
     }
 }
 
-/// Adds one behind others. The only error is want of memory.
-fn push<X: Drop>(xs: &mut Vec<X>, x: X) -> Result<(), AllocError>
-    ensures { IfOk result (λ _. xs.new.items ≡ xs.old.items ++ x ∷ []) }
+/// Adds one behind others, of which there are fewer than the most.
+fn push<X: Drop>(xs: &mut Vec<X>, most: usize, x: X) -> Result<(), LineFault>
+    ensures ok { IfOk result (λ _. pushed most xs.old.items x ≡ Ok xs.new.items) }
+    ensures fault { IfErr result (IsFault (pushed most xs.old.items x)) }
 {
-    xs.push(x)?;
-    Ok(())
+    if xs.len() >= most {
+        return Err(LineFault::Refused(Why::TooMany));
+    }
+    match xs.push(x) {
+        Ok(()) => Ok(()),
+        Err(e) => Err(AllocError::from(e).into()),
+    }
 }
 
 /// The first line of a text, without its LF, and the text behind it.

@@ -1,11 +1,10 @@
 //! The words of a line, and the fields that they write, read from left to right.
 
-ghost use Rattle.std.specs.Prelude.{true, false, ◌≡◌, ◌≤◌, ◌<◌, ◌∷◌, [], ◌==◌, ℕ, not, length, drop, IfOk, IfErr, MatchOption, Ok, Err};
-ghost use Rattle.std.specs.List.{list_all, position_or_len};
-ghost use Rattle.vs_script.specs.Text.{words_of, is_empty, is_graphic};
-ghost use Rattle.vs_script.specs.Data.{content_of};
+ghost use Rattle.std.specs.Prelude.{true, false, ◌≡◌, ◌≤◌, ◌<◌, ◌∷◌, [], ◌==◌, ℕ, bytes_eq, not, length, drop, IfOk, IfErr, MatchOption};
+ghost use Rattle.std.specs.{Prelude.Ok, Prelude.Err, List.list_all, List.position_or_len};
+ghost use Rattle.vs_script.specs.{Text.words_of, Text.is_empty, Text.is_graphic, Data.content_of};
+ghost use Rattle.vs_script.specs.Field.{word, keyword, number, number16, number32, number64, port, id, fill, content, only, IsFault};
 ghost use Rattle.vs_script.specs.declared.fault.Why.TheVariants.{BadWord};
-ghost use Rattle.vs_script.specs.Field.{word, keyword, number, number16, number32, number64, port, id, bits, fill, content, only, IsFault};
 
 use crate::data::{Data, Fill};
 use crate::fault::{LineFault, Why};
@@ -62,7 +61,7 @@ impl<'a> Words<'a> {
         ensures fault { IfErr result (λ why. keyword name.now self.old ≡ Err why) }
     {
         let word = self.word()?;
-        if word == name {
+        if is(word, name) {
             Ok(())
         } else {
             Err(Why::BadWord)
@@ -144,14 +143,6 @@ impl<'a> Words<'a> {
         self.number16(0, u16::MAX)
     }
 
-    /// PORT: any number of 32 bits.
-    pub fn port(&mut self) -> Result<u32, Why>
-        ensures ok { IfOk result (λ n. port self.old ≡ Ok (n, self.new)) }
-        ensures fault { IfErr result (λ why. port self.old ≡ Err why) }
-    {
-        self.number32(0, u32::MAX)
-    }
-
     /// C or H, which names a connection or a stream: a number of 32 bits from 1 on.
     pub fn id(&mut self) -> Result<u32, Why>
         ensures ok { IfOk result (λ n. id self.old ≡ Ok (n, self.new)) }
@@ -160,22 +151,18 @@ impl<'a> Words<'a> {
         self.number32(1, u32::MAX)
     }
 
-    /// PORT, and no word more.
+    /// PORT, of 32 bits, and no word more.
     pub fn only_port(&mut self) -> Result<u32, Why>
         ensures { result ≡ only port self.old }
     {
-        let port = self.port()?;
-        self.end()?;
-        Ok(port)
+        self.only_number32(0, u32::MAX)
     }
 
     /// C or H, and no word more.
     pub fn only_id(&mut self) -> Result<u32, Why>
         ensures { result ≡ only id self.old }
     {
-        let id = self.id()?;
-        self.end()?;
-        Ok(id)
+        self.only_number32(1, u32::MAX)
     }
 
     /// A number of 32 bits from `low` to `high`, and no word more.
@@ -183,15 +170,6 @@ impl<'a> Words<'a> {
         ensures { result ≡ only (number low high) self.old }
     {
         let n = self.number32(low, high)?;
-        self.end()?;
-        Ok(n)
-    }
-
-    /// A number of 64 bits from `low` to `high`, and no word more.
-    pub fn only_number(&mut self, low: u64, high: u64) -> Result<u64, Why>
-        ensures { result ≡ only (number low high) self.old }
-    {
-        let n = self.number(low, high)?;
         self.end()?;
         Ok(n)
     }
@@ -214,13 +192,6 @@ impl<'a> Words<'a> {
         Ok(n)
     }
 
-    /// B, bits of a shutdown, and no word more.
-    pub fn only_bits(&mut self) -> Result<u8, Why>
-        ensures { result ≡ only bits self.old }
-    {
-        self.only_number8(1, MAX_BITS)
-    }
-
     /// DATA, where `fill` fills at most `limit` bytes, and no word more.
     pub fn only_content(&mut self, alloc: Global, limit: u32) -> Result<Data, LineFault>
         ensures ok { IfOk result (λ found. only (content limit) self.old ≡ Ok (content_of found)) }
@@ -237,9 +208,9 @@ impl<'a> Words<'a> {
         ensures fault { IfErr result (IsFault (content limit self.old)) }
     {
         let word = self.word()?;
-        if word == b"-".as_slice() {
+        if is(word, b"-") {
             Ok(Data::Given(Vec::new(alloc)))
-        } else if word == b"fill".as_slice() {
+        } else if is(word, b"fill") {
             Ok(self.fill(limit)?)
         } else {
             match hex_bytes(alloc, word)? {
@@ -258,6 +229,13 @@ impl<'a> Words<'a> {
         let start = self.number8(0, u8::MAX)?;
         Ok(Data::Fill(Fill { n, start }))
     }
+}
+
+/// Whether a word is this text.
+pub fn is(word: &[u8], text: &[u8]) -> bool
+    ensures { result ≡ bytes_eq word.now text.now }
+{
+    word == text
 }
 
 /// Whether each byte of a word is printable ASCII.

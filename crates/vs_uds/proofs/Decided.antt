@@ -1,14 +1,13 @@
 -- A port of a CONNECT line has 32 bits.
-use Rattle.std.proofs.Common.{◌≡◌, ℕ, ◌<◌, ◌^◌, ◌==◌, ◌&&◌, true, false, cond, Bool, List, length, take, drop, slice_index, Option, Some, None, ap}
+use Rattle.std.proofs.Common.{◌≡◌, ℕ, ◌<◌, ◌^◌, ◌==◌, ◌&&◌, true, false, cond, Bool, List, length, take, drop, slice_index, Option, Some}
+use Rattle.std.proofs.Common.{None, ap}
 use Rattle.vs_uds.specs.ConnectLine.{connect_port, connect_step, connect_word, is_line_end, is_word}
-use Rattle.vs_uds.specs.Port.{port_in}
-use Rattle.vs_uds.specs.Reading.{is_decided, port_or_bad}
+use Rattle.vs_uds.specs.{Port.port_in, Reading.is_decided, Reading.port_or_bad}
 use Rattle.vs_uds.specs.Scan.{after_digits, leading_digits, without_leading_spaces}
 use Rattle.vs_uds.specs.declared.scan.Step.TheVariants as step
-use Rattle.vs_uds.proofs.Leading.{chosen}
-use Rattle.vs_uds.proofs.Ports.{WritesPort-port_in}
+use Rattle.vs_uds.proofs.{Leading.chosen, Ports.WritesPort-port_in}
 
-decided : (d : Bool) (o : Option ℕ) (port : ℕ) → cond d (port_or_bad o) step.More ≡ step.Port port → o ≡ Some port
+pub decided : (d : Bool) (o : Option ℕ) (port : ℕ) → cond d (port_or_bad o) step.More ≡ step.Port port → o ≡ Some port
 decided true None port is = absurd cc
 decided true (Some p) port is = let same : p ≡ port = cc in ap (λ (n : ℕ). Some n) same
 decided false o port is = absurd cc

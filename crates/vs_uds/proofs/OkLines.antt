@@ -1,13 +1,11 @@
 -- An OK line is what `ok_port` reads, and it is answered at its last byte.
-use Rattle.std.proofs.Common.{◌≡◌, ◌↔◌, ◌≤◌, ◌<◌, ◌^◌, ℕ, false, List, [], ◌∷◌, ◌++◌, length, take, drop, Some, refl, sym, ap, ◌∙◌, arith, codes, decimal, take-append-drop, length-append}
-use Rattle.std.proofs.lemmas.Bool.{and_parts}
-use Rattle.std.proofs.lemmas.Fmt.{length-decimal-le}
+use Rattle.std.proofs.Common.{◌≡◌, ◌↔◌, ◌≤◌, ◌<◌, ◌^◌, ℕ, false, List, [], ◌∷◌, ◌++◌, length, take, drop, Some, refl, sym, ap, ◌∙◌, arith}
+use Rattle.std.proofs.Common.{codes, decimal, take-append-drop, length-append}
+use Rattle.std.proofs.lemmas.{Bool.and_parts, Fmt.length-decimal-le}
 use Rattle.std.proofs.lemmas.Slice.Eq.{bytes_eq-Decides}
 use Rattle.std.specs.Str.{bytes_eq}
-use Rattle.vs_uds.specs.OkLine.{IsOkLine, ok_answers, ok_port, ok_step, ok_text}
-use Rattle.vs_uds.specs.Port.{port_in}
-use Rattle.vs_uds.specs.Reading.{port_at_end}
-use Rattle.vs_uds.specs.Scan.{after_digits, leading_digits}
+use Rattle.vs_uds.specs.{OkLine.IsOkLine, OkLine.ok_answers, OkLine.ok_port, OkLine.ok_step, OkLine.ok_text, Port.port_in}
+use Rattle.vs_uds.specs.{Reading.port_at_end, Scan.after_digits, Scan.leading_digits}
 use Rattle.vs_uds.proofs.Leading.{after_digits-append, chosen, leading_digits-append, has_lf-digits}
 use Rattle.vs_uds.proofs.Ports.{WritesPort-decimal, WritesPort-port_in, length-decimal_ten, port_in-WritesPort}
 use Rattle.vs_uds.proofs.Readings.{answers_to-line, has_lf, port-step_of, step_of-port}

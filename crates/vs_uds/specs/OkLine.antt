@@ -1,12 +1,9 @@
 -- The line `OK PORT` (Firecracker's vsock documentation).
 use Rattle.std.specs.Prelude.{ℕ, ◌≡◌, ◌≤◌, ◌&&◌, if◌then◌else◌, List, [], ◌∷◌, ◌++◌, length, take, drop, codes, decimal, Option, None}
 use Rattle.std.specs.Str.{bytes_eq}
-use Rattle.vs_uds.specs.Port.{WritesPort, port_in}
-use Rattle.vs_uds.specs.Reading.{answers_to, step_of}
-use Rattle.vs_uds.specs.Scan.{after_digits, leading_digits}
+use Rattle.vs_uds.specs.{Port.WritesPort, Port.port_in, Reading.answers_to, Reading.step_of, Scan.after_digits, Scan.leading_digits}
 use Rattle.vs_uds.specs.declared.ok.TheConstants.{OK_MAX}
-use Rattle.vs_uds.specs.declared.scan.TheConstants.{LF}
-use Rattle.vs_uds.specs.declared.scan.Step.{Step}
+use Rattle.vs_uds.specs.declared.scan.{TheConstants.LF, Step.Step}
 
 -- An OK line with this port: `OK `, digits, LF.
 pub record IsOkLine (line : List ℕ) (port : ℕ) : Type 0 where

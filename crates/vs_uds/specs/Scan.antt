@@ -1,7 +1,5 @@
 -- The parts of a text, from the left.
-use Rattle.std.specs.Prelude.{ℕ, ◌==◌, List, take, drop}
-use Rattle.std.specs.List.{prefix_len}
-use Rattle.std.specs.Char.{is_ascii_digit}
+use Rattle.std.specs.{Prelude.ℕ, Prelude.◌==◌, Prelude.List, Prelude.take, Prelude.drop, List.prefix_len, Char.is_ascii_digit}
 use Rattle.vs_uds.specs.declared.scan.TheConstants.{SPACE}
 
 -- A text without the spaces that it begins with.

@@ -25,39 +25,3 @@ pub use crate::ok::{OK_MAX, OkLine, OkText, ok_line};
 pub use crate::path::{BASE_MAX, PathText, listen_path};
 pub use crate::scan::Step;
 pub use crate::text::Text;
-
-#[cfg(test)]
-mod tests {
-    use super::*;
-
-    #[test]
-    fn a_client_asks_and_is_answered(rt: HostRuntime) {
-        let mut line = ConnectLine::new();
-        let mut step = Step::More;
-        for byte in b"Connect  0070 \r\n" {
-            step = line.feed(*byte);
-        }
-        assert_eq!(rt; step, Step::Port(70));
-        assert_eq!(rt; line.feed(b'h'), Step::Port(70));
-        assert_eq!(rt;
-            ok_line(1_073_741_824).as_bytes(),
-            b"OK 1073741824\n".as_slice()
-        );
-        assert_eq!(rt; connect_line(70).as_str(), "CONNECT 70\n");
-        assert_eq!(rt; listen_path("v.sock", 52).as_str(), "v.sock_52");
-    }
-
-    #[test]
-    fn an_answer_is_read_and_another_text_is_not(rt: HostRuntime) {
-        let mut line = OkLine::new();
-        let mut other = OkLine::new();
-        let mut step = Step::More;
-        let mut bad = Step::More;
-        for (byte, wrong) in b"OK 52\n".iter().zip(b"ok 52\n") {
-            step = line.feed(*byte);
-            bad = other.feed(*wrong);
-        }
-        assert_eq!(rt; step, Step::Port(52));
-        assert_eq!(rt; bad, Step::Bad);
-    }
-}

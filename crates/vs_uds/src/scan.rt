@@ -1,9 +1,6 @@
 //! What both lines share: a reader that is fed bytes, and the digits of a port.
-ghost use Rattle.std.specs.Prelude.{◌≡◌, ◌==◌};
-ghost use Rattle.std.specs.List.{prefix_len};
-ghost use Rattle.std.specs.Char.{is_ascii_digit};
-ghost use Rattle.vs_uds.specs.Port.{is_numeral, port_in};
-ghost use Rattle.vs_uds.specs.Reading.{fed, is_decided, port_or_bad};
+ghost use Rattle.std.specs.{Prelude.◌≡◌, Prelude.◌==◌, List.prefix_len, Char.is_ascii_digit};
+ghost use Rattle.vs_uds.specs.{Port.is_numeral, Port.port_in, Reading.fed, Reading.is_decided, Reading.port_or_bad};
 ghost use Rattle.vs_uds.specs.Scan.{after_digits, leading_digits, without_leading_spaces};
 
 use arrayvec::ArrayVec;

@@ -1,8 +1,6 @@
 -- What a parse reads of a command whose options each take one value, and what it finds of them.
-use Rattle.std.proofs.Common.{◌≡◌, ◌∙◌, ◌||◌, ℕ, Bool, true, false, cond, refl, ap, List, [], ◌∷◌, ◌++◌, map}
-use Rattle.std.proofs.Common.{Some, None}
-use Rattle.std.specs.List.{list_any}
-use Rattle.std.specs.Str.{bytes_eq}
+use Rattle.std.proofs.Common.{◌≡◌, ◌∙◌, ◌||◌, ℕ, Bool, true, false, cond, refl, ap, List, [], ◌∷◌, ◌++◌, map, Some, None}
+use Rattle.std.specs.{List.list_any, Str.bytes_eq}
 use Rattle.clap.specs.Walk.{Row, Rule, Text, arg_by_id, arg_by_index, arg_by_long, arg_by_short, has_row, reading_by, used, with_values}
 use Rattle.clap.specs.Walk.{without}
 use Rattle.clap.specs.Simple.{App, Shape, built, filled, filled_from, new_rule, new_shape}

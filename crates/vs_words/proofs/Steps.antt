@@ -1,15 +1,13 @@
 -- What one word does to a parse of a command whose options each take one value.
-use Rattle.std.proofs.Common.{◌≡◌, ◌∙◌, ◌==◌, ℕ, Bool, true, false, refl, sym, ap, arith, List, [], ◌∷◌}
-use Rattle.std.proofs.Common.{◌++◌, map, length, Option, Some, None}
-use Rattle.std.specs.Prelude.{slice_get}
-use Rattle.std.specs.Str.{IsUtf8, bytes_eq, chars}
+use Rattle.std.proofs.Common.{◌≡◌, ◌∙◌, ◌==◌, ℕ, Bool, true, false, refl, sym, ap, arith, List, [], ◌∷◌, ◌++◌, map, length, Option, Some}
+use Rattle.std.proofs.Common.{None}
+use Rattle.std.specs.{Prelude.slice_get, Str.IsUtf8, Str.bytes_eq, Str.chars}
 use Rattle.std.proofs.lemmas.Str.{chars_past_char, encodes-chars}
 use Rattle.std.proofs.Math.Utf8.{encode, encodes}
 use Rattle.std.proofs.lemmas.Bool.Decides.{Decides-eqb}
 use Rattle.clap.specs.Lexer.{long_of, name_and_value, short_of}
-use Rattle.clap.specs.Walk.{Held, Rule, Text, Waiting, Walk, idle, option, settled_rows, used, walked}
-use Rattle.clap.specs.Simple.{Shape}
-use Rattle.clap.specs.Kinds.{Kinds, or_else}
+use Rattle.clap.specs.Walk.{Held, Text, Waiting, Walk, idle, option, settled_rows, used, walked}
+use Rattle.clap.specs.{Simple.Shape, Kinds.Kinds, Kinds.or_else}
 use Rattle.clap.specs.Faults.{flags_fault, settle_fault, turn_fault, use_fault, word_fault}
 use Rattle.vs_words.specs.Options.{Given, is_empty, is_value}
 use Rattle.vs_words.proofs.Rules.{built_rule, by_id, by_long, given_row, is_known, no_index, no_short, rules, shape_with}

@@ -1,24 +1,21 @@
 -- A parse of a command whose options each take one value gives the options that its words give, or it has a fault.
-use Rattle.std.proofs.Common.{◌≡◌, ◌∙◌, ◌&&◌, ◌⊎◌, inl, inr, Bool, true, false, not, cond, refl, sym, ap, subst, List, []}
-use Rattle.std.proofs.Common.{◌∷◌, ◌++◌, map, fold, drop, Option, Some, None, append-nil, append_assoc}
-use Rattle.std.specs.Prelude.{if◌then◌else◌, option_map, option_and_then, is_some}
-use Rattle.std.specs.List.{list_any}
+use Rattle.std.proofs.Common.{◌≡◌, ◌∙◌, ◌&&◌, ◌⊎◌, inl, inr, Bool, true, false, not, cond, refl, sym, ap, subst, List, [], ◌∷◌, ◌++◌, map}
+use Rattle.std.proofs.Common.{fold, drop, Option, Some, None, append-nil, append_assoc}
+use Rattle.std.specs.{Prelude.if◌then◌else◌, Prelude.option_map, Prelude.option_and_then, Prelude.is_some, List.list_any}
 use Rattle.std.specs.Str.{IsUtf8, bytes_eq}
 use Rattle.std.proofs.lemmas.Slice.Eq.{bytes_eq-Decides}
 use Rattle.clap.specs.Lexer.{long_of}
 use Rattle.clap.specs.Walk.{Held, Row, Rule, Text, Waiting, Walk, finished, has_row, idle, nothing_held, option, settled, rows_after}
 use Rattle.clap.specs.Walk.{settled_rows, used, walk, walk_from, walked, with_default}
-use Rattle.clap.specs.Simple.{App, entered, matches_of, names_of}
-use Rattle.clap.specs.Kinds.{Kinds, or_else}
+use Rattle.clap.specs.{Simple.App, Simple.entered, Simple.matches_of, Simple.names_of, Kinds.Kinds, Kinds.or_else}
 use Rattle.clap.specs.Faults.{built_fault, check_fault, defaults_fault, entered_fault, fault_of, level_fault, settle_fault, turn_fault}
 use Rattle.clap.specs.Faults.{use_fault, walk_fault}
 use Rattle.vs_words.specs.Options.{Given, given_by, have_names, is_empty, is_given, is_value, options_of}
-use Rattle.vs_words.proofs.Rules.{app_with, built_is, built_rule, given_row, is_known, rules, shape_with, use_again}
-use Rattle.vs_words.proofs.Rules.{use_new, used_new}
-use Rattle.vs_words.proofs.Steps.{Look, Plain, Dashes, Long, Short, dashes, look, chars_some, or_left, or_right, or_nil, or_assoc}
-use Rattle.vs_words.proofs.Steps.{held_at, walk_at, trailing_at, plain_idle, short_idle, short_waits, unknown_idle, unknown_waits}
-use Rattle.vs_words.proofs.Steps.{whole_fault, whole_walked, name_fault, name_walked, long_waits, value_fault, value_walked, end_fault}
-use Rattle.vs_words.proofs.Steps.{end_walked, behind_end, settle_given, settled_given, settle_name}
+use Rattle.vs_words.proofs.Rules.{app_with, built_is, built_rule, given_row, is_known, rules, shape_with, use_again, use_new, used_new}
+use Rattle.vs_words.proofs.Steps.{Look, Plain, Dashes, Long, Short, dashes, look, chars_some, or_left, or_right, or_nil, or_assoc, held_at}
+use Rattle.vs_words.proofs.Steps.{walk_at, trailing_at, plain_idle, short_idle, short_waits, unknown_idle, unknown_waits, whole_fault}
+use Rattle.vs_words.proofs.Steps.{whole_walked, name_fault, name_walked, long_waits, value_fault, value_walked, end_fault, end_walked}
+use Rattle.vs_words.proofs.Steps.{behind_end, settle_given, settled_given, settle_name}
 
 -- the words are texts
 abbrev pub AreTexts : List Text → Type 0

@@ -1,7 +1,6 @@
 -- The options that words give.
-use Rattle.std.specs.Prelude.{◌==◌, ◌&&◌, Bool, true, false, not, if◌then◌else◌, ℕ, List, [], ◌∷◌, ◌++◌, codes, bytes_eq, find}
-use Rattle.std.specs.Prelude.{Option, Some, None, option_map, option_and_then}
-use Rattle.std.specs.List.{list_any}
+use Rattle.std.specs.Prelude.{◌==◌, ◌&&◌, Bool, true, false, not, if◌then◌else◌, ℕ, List, [], ◌∷◌, ◌++◌, codes, bytes_eq, find, Option}
+use Rattle.std.specs.{Prelude.Some, Prelude.None, Prelude.option_map, Prelude.option_and_then, List.list_any}
 use Rattle.clap.specs.Lexer.{long_of}
 
 -- An option: its name, without the hyphens, and its value.

@@ -1,6 +1,5 @@
 //! Numbers of the command line.
-ghost use Rattle.std.specs.Prelude.{◌≡◌, ◌≤◌};
-ghost use Rattle.std.specs.Option.{IfSome};
+ghost use Rattle.std.specs.{Prelude.◌≡◌, Prelude.◌≤◌, Option.IfSome};
 ghost use Rattle.vs_words.specs.Numbers.{is_digits, has_leading_zero, number_in};
 
 // Whether a word is decimal digits.

@@ -1,27 +1,23 @@
 -- What the host wrote and read of a flow, against the two logs.
-use Rattle.std.proofs.Common.{◌≡◌, ◌≢◌, ℕ, zero, suc, get_or, ◌^◌, ◌<◌, Bool, true, false, cond, List, [], ◌∷◌, ◌++◌, length, codes, decimal, slice_get, Contains, Option, Some, None, refl, sym, ap, subst, ◌∙◌, arith}
-use Rattle.std.specs.List.{filter}
-use Rattle.std.specs.Option.{option_and_then, option_map, option_map_or}
+use Rattle.std.proofs.Common.{◌≡◌, ◌≢◌, ℕ, zero, suc, get_or, ◌^◌, ◌<◌, Bool, true, false, cond, List, [], ◌∷◌, ◌++◌, length, codes}
+use Rattle.std.proofs.Common.{decimal, slice_get, Contains, Option, Some, None, refl, sym, ap, subst, ◌∙◌, arith}
+use Rattle.std.specs.{List.filter, Option.option_and_then, Option.option_map, Option.option_map_or}
 use Rattle.std.proofs.lemmas.Bool.Decides.{nat_tests}
 use Rattle.std.proofs.lemmas.List.Elements.{filter_passes}
-use Rattle.vs_flow.specs.Flow.{is_assigned, same_flow}
-use Rattle.vs_flow.specs.Table.{Table}
+use Rattle.vs_flow.specs.{Flow.is_assigned, Flow.same_flow, Table.Table}
 use Rattle.vs_flow.specs.declared.flow.Flow.{Flow}
 use Rattle.vs_flow.proofs.Entries.{same_flow_true}
 use Rattle.vs_device_parts.specs.State.{DeviceConnection}
 use Rattle.vs_outside.specs.Host.{HostContents, Stream, stream_at}
 use Rattle.vs_outside.specs.HostBytes.{after_line, host_read, host_wrote, is_labelled, read_after_ok, wrote_after_connect}
 use Rattle.vs_page.proofs.Flows.{same_self}
-use Rattle.vs_page.specs.Fair.{IsPrefixOf}
-use Rattle.vs_page.specs.Log.{Device, Log}
+use Rattle.vs_page.specs.{Fair.IsPrefixOf, Log.Device, Log.Log}
 use Rattle.vs_proxy_parts.specs.State.{Handshake}
-use Rattle.vs_uds.proofs.Leading.{has_lf-digits}
-use Rattle.vs_uds.proofs.Ports.{WritesPort-decimal}
+use Rattle.vs_uds.proofs.{Leading.has_lf-digits, Ports.WritesPort-decimal}
 use Rattle.vs_uds.specs.OkLine.{ok_text}
 use Rattle.vs_pipes.specs.Drains.{got_on, put_on}
 use Rattle.vs_pipes.specs.Streamed.{IsStreamed, Seen, has_line, line_for, look, seen}
-use Rattle.vs_pipes.proofs.Hosts.{there}
-use Rattle.vs_pipes.proofs.Lines.{after_front}
+use Rattle.vs_pipes.proofs.{Hosts.there, Lines.after_front}
 
 -- An OK line has no LF but its last byte.
 ok_front : (port : ℕ) → is_assigned port ≡ true → has_line (codes "OK " ++ decimal port) ≡ false
@@ -78,6 +74,11 @@ module _ (c : HostContents) (log : Log) (port : ℕ) (t : Table DeviceConnection
   abbrev read : Option ℕ → List ℕ
   read o = option_map_or read_after_ok (option_and_then (λ id. stream_at id c) o) []
 
+  first_passes : (xs : List ℕ) (id : ℕ) (ids : List ℕ) → xs ≡ id ∷ ids → ((k : ℕ) (d : ℕ) → k < length xs → is_labelled f c (get_or xs k d) ≡ true)
+      → is_labelled f c id ≡ true
+  first_passes [] id ids is all = absurd cc
+  first_passes (y ∷ ys) id ids is all = let same : y ≡ id = cc in ap (is_labelled f c) (sym same) ∙ all 0 y (omega arith)
+
   -- The first of the streams with the label.
   first_one : (ids : List ℕ) → filter (is_labelled f c) c.labelled ≡ ids
       → (put_on Device f log ≡ wrote (slice_get ids 0)) × IsPrefixOf (read (slice_get ids 0)) (got_on Device f log)
@@ -92,11 +93,6 @@ module _ (c : HostContents) (log : Log) (port : ℕ) (t : Table DeviceConnection
             (read_front st.0 st.0.by_client refl l.client l.gave),
       )
     where
-      first_passes : (xs : List ℕ) (id : ℕ) (ids : List ℕ) → xs ≡ id ∷ ids → ((k : ℕ) (d : ℕ) → k < length xs → is_labelled f c (get_or xs k d) ≡ true)
-          → is_labelled f c id ≡ true
-      first_passes [] id ids is all = absurd cc
-      first_passes (y ∷ ys) id ids is all = let same : y ≡ id = cc in ap (is_labelled f c) (sym same) ∙ all 0 y (omega arith)
-
       read_front : (st : Stream) (b : Bool) → st.by_client ≡ b → st.by_client ≡ is_assigned f.host → IsPrefixOf st.given (line_for f ++ got_on Device f log)
           → IsPrefixOf (cond st.by_client (after_line st.given) st.given) (got_on Device f log)
       read_front st true is client gave =
@@ -114,3 +110,18 @@ module _ (c : HostContents) (log : Log) (port : ℕ) (t : Table DeviceConnection
 
   pub read_is_got : IsPrefixOf (host_read f 1 c) (got_on Device f log)
   read_is_got = (first_one (filter (is_labelled f c) c.labelled) refl).1
+
+  -- The one stream with the label.
+  module _ (id : ℕ) (s : Stream) (at : stream_at id c ≡ Some s) (label : s.label ≡ Some f) where
+    first_at : (ids : List ℕ) → filter (is_labelled f c) c.labelled ≡ ids → option_and_then (λ id. stream_at id c) (slice_get ids 0) ≡ Some s
+    first_at [] is = absurd (no_stream is id (seen s) (ap (option_map seen) at) label)
+    first_at (other ∷ ids) is =
+        let st = passes_by (stream_at other c) (first_passes (filter (is_labelled f c) c.labelled) other ids is (filter_passes (is_labelled f c) c.labelled)) in
+        let same : other ≡ id = x.unique other id (seen st.0) (seen s) f (ap (option_map seen) st.1) (ap (option_map seen) at) st.2 label in
+        ap (λ (i : ℕ). stream_at i c) same ∙ at
+
+    pub wrote_own : wrote_after_connect s ≡ host_wrote f 1 c
+    wrote_own = ap (λ (o : Option Stream). option_map_or wrote_after_connect o []) (sym (first_at (filter (is_labelled f c) c.labelled) refl))
+
+    pub read_own : read_after_ok s ≡ host_read f 1 c
+    read_own = ap (λ (o : Option Stream). option_map_or read_after_ok o []) (sym (first_at (filter (is_labelled f c) c.labelled) refl))

@@ -1,6 +1,6 @@
 -- Chains that the device holds, and what is written into them.
-use Rattle.std.proofs.Common.{◌≡◌, ℕ, ◌+◌, ◌==◌, ◌&&◌, Bool, true, false, cond, List, [], ◌∷◌, ◌++◌, length, take, drop, Option, Some, None, refl, sym, ap, ◌∙◌, arith, length-append}
-use Rattle.std.proofs.lemmas.Bool.Decides.{nat_tests}
+use Rattle.std.proofs.Common.{◌≡◌, ℕ, ◌+◌, ◌==◌, ◌&&◌, Bool, true, false, cond, List, [], ◌∷◌, ◌++◌, length, take, drop, Option, Some, None}
+use Rattle.std.proofs.Common.{refl, sym, ap, ◌∙◌, length-append}
 use Rattle.std.proofs.lemmas.List.{take_at}
 use Rattle.vs_page.specs.Overwriting.{overwritten}
 use Rattle.vs_world.specs.Pages.{is_held}
@@ -13,14 +13,6 @@ use Rattle.vs_ring_port.specs.declared.queue.Queue.TheVariants.{Rx, Tx, Event}
 abbrev pub HoldsRx : Option Chain → List Held → Type 0
 HoldsRx None held = Unit {0}
 HoldsRx (Some chain) held = (chain.queue ≡ Rx) × (is_held chain held ≡ true)
-
-pub same_self : (c : Chain) → same_chain c c ≡ true
-same_self c = let q = by c.queue in grind (arith, nat_tests, q)
-  where
-    by : (q : Queue) → same_queue q q ≡ true
-    by Rx = refl
-    by Tx = refl
-    by Event = refl
 
 pub held_more : (c : Chain) (h : Held) (held : List Held) → is_held c held ≡ true → is_held c (h ∷ held) ≡ true
 held_more c h held is = by (same_chain c h.chain)

@@ -2,23 +2,13 @@
 use Rattle.std.proofs.Common.{◌≡◌, ℕ, Bool, true, false, Option, Some, None, refl, subst}
 use Rattle.vs_contents.specs.CallTree.{Done, played}
 use Rattle.vs_ring_port.specs.declared.failure.Failure.{Failure}
-use Rattle.vs_device_parts.specs.Calls.{DeviceTree}
-use Rattle.vs_device_parts.specs.Receiving.{fill_rx_of, pay_event_of}
-use Rattle.vs_device_parts.specs.State.{DeviceState}
-use Rattle.vs_device_parts.specs.Streams.{pump_of, tick_of}
-use Rattle.vs_device_parts.specs.Transmitting.{take_tx_of}
+use Rattle.vs_device_parts.specs.{Calls.DeviceTree, Receiving.fill_rx_of, Receiving.pay_event_of, State.DeviceState}
+use Rattle.vs_device_parts.specs.{Streams.pump_of, Streams.tick_of, Transmitting.take_tx_of}
 use Rattle.vs_device_parts.specs.declared.answers.Taken.{Taken}
-use Rattle.vs_proxy_parts.specs.State.{Turning, start, with_device}
-use Rattle.vs_proxy_parts.specs.Turns.{device_after, took_packet}
-use Rattle.vs_world.specs.Answers.{Around, answer_around}
-use Rattle.vs_world.specs.Steps.{Leads, device_calls}
-use Rattle.vs_world.specs.World.{World, around}
-use Rattle.vs_world.proofs.DeviceLeads.{device_bind, plays, with_proxy}
-use Rattle.vs_world.proofs.FillStage.{fill_does}
-use Rattle.vs_world.proofs.GuestLines.{leads_none}
-use Rattle.vs_world.proofs.PumpStage.{pump_all_does}
-use Rattle.vs_world.proofs.TakeStage.{counts, event_does, take_goes}
-use Rattle.vs_world.proofs.TickStage.{ticks_do}
+use Rattle.vs_proxy_parts.specs.{State.Turning, State.start, State.with_device, Turns.device_after, Turns.took_packet}
+use Rattle.vs_world.specs.{Answers.Around, Answers.answer_around, Steps.Leads, Steps.device_calls, World.World, World.around}
+use Rattle.vs_world.proofs.{DeviceLeads.device_bind, DeviceLeads.plays, DeviceLeads.with_proxy, FillStage.fill_does, GuestLines.leads_none}
+use Rattle.vs_world.proofs.{PumpStage.pump_all_does, TakeStage.counts, TakeStage.event_does, TakeStage.take_goes, TickStage.ticks_do}
 
 pub ticks_lead : (now : ℕ) (w : World) → w.proxy.device.failed ≡ None → Leads w (device_calls (λ d. d) (tick_of now w.proxy.device) w)
 ticks_lead now w fine = (ticks_do now w fine).leads
@@ -33,19 +23,19 @@ failed_as o w = record w { proxy = with_device (record w.proxy.device { failed =
 abbrev CallLeads : {A : Type 0} → (DeviceState → DeviceTree (DeviceState × A)) → World → Type 0
 CallLeads call w = Leads w (device_calls (λ r. r.0) (call w.proxy.device) w)
 
-pub events_lead : (w : World) → CallLeads pay_event_of w
-events_lead w = by w.proxy.device.failed (λ fine. (event_does w fine).leads)
+called : {A : Type 0} (call : DeviceState → DeviceTree (DeviceState × A)) (w : World) → ((f : Failure) → CallLeads call (failed_as (Some f) w))
+    → (w.proxy.device.failed ≡ None → CallLeads call w) → CallLeads call w
+called call w failed leads = by w.proxy.device.failed leads
   where
-    by : (o : Option Failure) → (o ≡ None → CallLeads pay_event_of (failed_as o w)) → CallLeads pay_event_of (failed_as o w)
+    by : (o : Option Failure) → (o ≡ None → CallLeads call (failed_as o w)) → CallLeads call (failed_as o w)
     by None leads = leads refl
-    by (Some f) leads = leads_none (failed_as (Some f) w) _ refl
+    by (Some f) leads = failed f
+
+pub events_lead : (w : World) → CallLeads pay_event_of w
+events_lead w = called pay_event_of w (λ f. leads_none (failed_as (Some f) w) _ refl) (λ fine. (event_does w fine).leads)
 
 pub fills_lead : (w : World) → CallLeads fill_rx_of w
-fills_lead w = by w.proxy.device.failed (λ fine. (fill_does w fine).leads)
-  where
-    by : (o : Option Failure) → (o ≡ None → CallLeads fill_rx_of (failed_as o w)) → CallLeads fill_rx_of (failed_as o w)
-    by None leads = leads refl
-    by (Some f) leads = leads_none (failed_as (Some f) w) _ refl
+fills_lead w = called fill_rx_of w (λ f. leads_none (failed_as (Some f) w) _ refl) (λ fine. (fill_does w fine).leads)
 
 -- A packet that is taken, from what the turn does with it.
 uncounted : (w : World) (d : DeviceState) (taken : Taken) (a : Around)
@@ -68,8 +58,4 @@ takes_fine w fine =
     (take_goes w (start w.proxy) fine).leads)
 
 pub takes_lead : (w : World) → CallLeads take_tx_of w
-takes_lead w = by w.proxy.device.failed (takes_fine w)
-  where
-    by : (o : Option Failure) → (o ≡ None → CallLeads take_tx_of (failed_as o w)) → CallLeads take_tx_of (failed_as o w)
-    by None leads = leads refl
-    by (Some f) leads = leads_none (failed_as (Some f) w) _ refl
+takes_lead w = called take_tx_of w (λ f. leads_none (failed_as (Some f) w) _ refl) (takes_fine w)

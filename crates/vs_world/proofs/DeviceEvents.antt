@@ -1,104 +1,64 @@
 -- Each of the device's conversations is some of the steps of the two ends.
-use Rattle.std.proofs.Common.{◌≡◌, ℕ, ◌+◌, ◌-◌, ◌^◌, ◌<◌, ◌≤◌, ◌==◌, ◌&&◌, nat_le, nat_lt, Bool, true, false, cond, List, [], ◌∷◌, ◌++◌, length, take, drop, Contains, Option, Some, None, refl, sym, ap, subst, ◌∙◌, arith, length-append}
+use Rattle.std.proofs.Common.{◌≡◌, ℕ, ◌+◌, ◌-◌, ◌^◌, ◌<◌, ◌≤◌, ◌==◌, ◌&&◌, nat_lt, Bool, true, false, cond, List, [], ◌∷◌, ◌++◌, length}
+use Rattle.std.proofs.Common.{take, drop, Contains, Option, Some, None, refl, sym, ap, subst, ◌∙◌, arith, length-append}
 use Rattle.std.proofs.lemmas.Bool.Decides.{nat_tests}
-use Rattle.std.proofs.lemmas.Grind.{common_steps}
-use Rattle.std.proofs.lemmas.List.{length-take}
-use Rattle.std.specs.Option.{option_map}
+use Rattle.std.proofs.lemmas.{Grind.common_steps, List.length-take}
 use Rattle.vs_contents.specs.CallTree.{Done, Ask, bind, played}
-use Rattle.vs_conn.specs.End.{ConnectionEnd, end_after, is_reset, is_stream, verdict_of}
+use Rattle.vs_conn.specs.End.{end_after, is_reset, is_stream, verdict_of}
 use Rattle.vs_conn.specs.declared.end.Verdict.{Verdict}
 use Rattle.vs_conn.specs.declared.end.Verdict.TheVariants as verdict
 use Rattle.vs_conn.specs.declared.end.Why.{Why}
 use Rattle.vs_conn.specs.declared.end.Why.TheVariants as why
-use Rattle.vs_flow.specs.Flow.{is_assigned, same_flow}
-use Rattle.vs_flow.specs.Table.{entry_of, has_place}
+use Rattle.vs_flow.specs.{Flow.is_assigned, Flow.same_flow, Table.entry_of, Table.has_place}
 use Rattle.vs_flow.proofs.Entries.{same_flow_true}
-use Rattle.vs_header.specs.Packet.{header_of}
 use Rattle.vs_header.specs.declared.Header.{Header}
 use Rattle.vs_history.specs.Packets.{is_request, is_rst}
 use Rattle.vs_history.specs.declared.packet.Packet.{Packet}
 use Rattle.vs_outside.specs.Host.{HostContents, dial_answer}
 use Rattle.vs_outside.specs.declared.host_net.Dialed.{Dialed}
 use Rattle.vs_outside.specs.declared.host_net.Dialed.TheVariants as dialed
-use Rattle.vs_page.specs.Held.{FitsWire, packet_held, packet_with, payload_held}
-use Rattle.vs_page.specs.Log.{Log, Device, IsNextPacket, flow_to_host}
-use Rattle.vs_page.specs.Open.{is_dropped}
+use Rattle.vs_page.specs.{Held.FitsWire, Log.Log, Log.Device, Log.IsNextPacket, Log.flow_to_host, Open.is_dropped}
 use Rattle.vs_page.specs.declared.log.LogEntry.TheVariants.{GotPacket}
 use Rattle.vs_replies.specs.Owed.{reply_to}
-use Rattle.vs_ring_port.specs.Chains.{bytes_in}
-use Rattle.vs_ring_port.specs.EndLog.{EndLog}
-use Rattle.vs_ring_port.specs.Lists.{Rings}
+use Rattle.vs_ring_port.specs.{Chains.bytes_in, EndLog.EndLog, Lists.Rings}
 use Rattle.vs_ring_port.specs.declared.device_ring.Chain.{Chain}
 use Rattle.vs_ring_port.specs.declared.failure.Failure.TheVariants as failure
-use Rattle.vs_matching.specs.Both.{IsSound, Seat}
+use Rattle.vs_matching.specs.{Both.IsSound, Both.Seat, Ends.ends_of, Ends.entries_of, Ends.is_new, Steps.is_overrun}
 use Rattle.vs_flow.specs.declared.flow.Flow.{Flow}
-use Rattle.vs_matching.specs.Ends.{ends_of, entries_of}
-use Rattle.vs_matching.specs.Steps.{is_overrun}
-use Rattle.vs_matching.proofs.Both.{device_has_room}
-use Rattle.vs_matching.proofs.Slots.{found_by, one_end}
+use Rattle.vs_matching.proofs.{Both.device_has_room, Slots.found_by, Slots.one_end}
 use Rattle.vs_uds.specs.Path.{path_of}
 use Rattle.vs_device_parts.specs.Calls.{CloseStream, DeviceTree, Dial}
-use Rattle.vs_device_parts.specs.Connections.{with_connection, with_fault, with_reply}
-use Rattle.vs_device_parts.specs.State.{DeviceConnection, DeviceEntry, DeviceState}
-use Rattle.vs_device_parts.specs.Streams.{leaving}
-use Rattle.vs_device_parts.specs.Connections.{after_leaving, stream_closed}
+use Rattle.vs_device_parts.specs.Connections.{with_connection, with_fault, with_reply, after_leaving, stream_closed}
+use Rattle.vs_device_parts.specs.{State.DeviceConnection, State.DeviceEntry, State.DeviceState, Streams.leaving}
+use Rattle.vs_device_parts.specs.Transmitting.{dial_answered, failing, heard, on_known, on_packet, on_unknown, refused, try_request}
+use Rattle.vs_device_parts.specs.{Transmitting.unknown_why, Steps.header_came}
 use Rattle.vs_flow.specs.Table.{with_value, without}
 use Rattle.vs_conn.specs.End.{after_op}
 use Rattle.vs_header.specs.Op.{op_named}
-use Rattle.vs_matching.specs.Ends.{is_new}
-use Rattle.vs_device_parts.specs.Transmitting.{dial_answered, failing, heard, on_known, on_packet, on_unknown, refused, try_request, unknown_why}
 use Rattle.vs_wrap.specs.Wrap.{counted}
 use Rattle.vs_world.specs.Answers.{Around, answer_around}
-use Rattle.vs_device_parts.specs.Steps.{header_came}
 use Rattle.vs_world.proofs.Chains.{HoldsRx}
 use Rattle.vs_world.proofs.DeviceSide as side
 use Rattle.vs_world.proofs.DeviceSide.{DeviceHolds, IsFresh, Kept, end_in, entry_fits, entry_fresh, seated}
 use Rattle.vs_world.proofs.DeviceTakes as takes
-use Rattle.vs_world.proofs.DeviceTakes.{heard_fresh}
+use Rattle.vs_world.proofs.{DeviceTakes.heard_fresh, Wire.PutsFit}
+use Rattle.vs_world.proofs.Streams.{StreamedIf, accepts_streams, called_host, delivered_rw, delivers_streams, dialed_id, empty_streams}
+use Rattle.vs_world.proofs.Streams.{failed_host, first_request, got_nothing, hears_streams, leaves_streams, passes_streams, request_empty}
+use Rattle.vs_world.proofs.Streams.{reset_empty, unknown_streams}
 use Rattle.vs_device_log.specs.Honest.{HoldsBytes}
-use Rattle.vs_device_log.proofs.Fits.{delivered, fits_after}
-use Rattle.vs_world.proofs.Wire.{PutsFit}
+use Rattle.vs_device_log.proofs.{Fits.delivered, Fits.fits_after, Hearing.peer_resets, Hearing.rst_leaves}
 use Rattle.std.specs.List.{All}
 use Rattle.vs_device_parts.specs.Connections.{with_dialed}
-use Rattle.vs_history.specs.History.{Got, IsFair}
-use Rattle.vs_history.specs.Packets.{is_rw}
+use Rattle.vs_history.specs.{History.Got, History.IsFair, Packets.is_rw}
 use Rattle.vs_matching.proofs.Both.{next_is_fair}
 use Rattle.vs_outside.specs.Host.{after_close, after_dial, called}
 use Rattle.vs_page.proofs.Flows.{same_self}
-use Rattle.vs_page.specs.Fair.{IsFairLog}
-use Rattle.vs_page.specs.Held.{IsWhole}
-use Rattle.vs_page.specs.Log.{flow_got, history_of, side_of}
+use Rattle.vs_page.specs.{Fair.IsFairLog, Held.IsWhole, Log.flow_got, Log.history_of, Log.side_of}
 use Rattle.vs_proxy_parts.specs.State.{Handshake}
 use Rattle.vs_uds.specs.OkLine.{ok_text}
-use Rattle.vs_pipes.specs.Drains.{has_passed}
-use Rattle.vs_pipes.specs.Streamed.{gives, look}
-use Rattle.vs_pipes.proofs.HostCalls.{closed_host}
-use Rattle.vs_pipes.proofs.Logs.{got_passes, none_passed, passed_after_got, put_after_got}
-use Rattle.vs_pipes.proofs.Opens.{dial_host}
-use Rattle.vs_pipes.proofs.Streamed.{join_of}
-use Rattle.vs_world.proofs.Streams.{StreamedIf, accepts_streams, called_host, delivered_rw, delivers_streams, dialed_id, empty_streams, failed_host, first_request, got_nothing, hears_streams, leaves_streams, passes_streams, request_empty, reset_empty, unknown_streams}
-
--- The header of the packet that a page holds.
-some_test : {A : Type 0} (b : Bool) (o : Option A) (x : A) → cond b o None ≡ Some x → o ≡ Some x
-some_test true o x is = is
-some_test false o x is = absurd cc
-
-header_by : (h : Header) (p : Packet) (o : Option (List ℕ)) → option_map (λ payload. record { header = h; payload = payload }) o ≡ Some p → p.header ≡ h
-header_by h p None is = absurd cc
-header_by h p (Some payload) is = let same : ◌≡◌ {A = Packet} record { header = h; payload = payload } p = cc in sym (ap (λ (q : Packet). q.header) same)
-
-pub header_is : (page : List ℕ) (p : Packet) → packet_held page ≡ Some p → p.header ≡ header_of (take 44 page)
-header_is page p held =
-    header_by (header_of (take 44 page)) p (payload_held (header_of (take 44 page)) (drop 44 page))
-    (some_test (nat_le 44 (length page)) (packet_with (header_of (take 44 page)) (drop 44 page)) p held)
-
--- A packet ends a connection where it is an RST of a stream.
-abbrev peer_resets : Verdict → Header → Bool
-peer_resets verdict.Peer h = is_reset h
-peer_resets _ h = false
-
-rst_leaves : (e : ConnectionEnd) (h : Header) → peer_resets (verdict_of e h) h ≡ (is_reset h && is_stream h)
-rst_leaves e h = grind (arith, common_steps)
+use Rattle.vs_pipes.specs.{Drains.has_passed, Streamed.gives, Streamed.look}
+use Rattle.vs_pipes.proofs.{HostCalls.closed_host, Logs.got_passes, Logs.none_passed, Logs.passed_after_got, Logs.put_after_got}
+use Rattle.vs_pipes.proofs.{Opens.dial_host, Streamed.join_of}
 
 abbrev with_verdict : Verdict → DeviceTree DeviceState → DeviceTree DeviceState
 with_verdict v tree = bind {A = DeviceState × Verdict} (bind tree (λ t. Done (t, v))) (λ r. Done r.0)

@@ -2,13 +2,11 @@
 use Rattle.std.proofs.Common.{◌≡◌, ℕ, zero, suc, Bool, true, false, cond, List, [], ◌∷◌, None, is_some, refl, sym, ap, subst, ◌∙◌}
 use Rattle.vs_contents.specs.CallTree.{Done, Ask, bind, for_each, played, while_up_to}
 use Rattle.vs_contents.proofs.Leads.{AllEnds}
-use Rattle.vs_device_parts.specs.Calls.{Answer, Call, DeviceTree}
-use Rattle.vs_device_parts.specs.State.{DeviceState}
+use Rattle.vs_device_parts.specs.{Calls.Answer, Calls.Call, Calls.DeviceTree, State.DeviceState}
 use Rattle.vs_proxy_parts.specs.State.{ProxyState, Turning, start, with_device}
 use Rattle.vs_world.specs.Answers.{Around, answer_around}
 use Rattle.vs_world.specs.Events.{Event, device_step, happens, has_failed, proxy_step, unless_failed}
-use Rattle.vs_world.specs.Steps.{Leads}
-use Rattle.vs_world.specs.World.{World, around}
+use Rattle.vs_world.specs.{Steps.Leads, World.World, World.around}
 use Rattle.vs_world.proofs.GuestLines.{leads_none, leads_one, leads_then}
 
 abbrev pub plays : {A : Type 0} → DeviceTree A → World → A × Around

@@ -1,53 +1,43 @@
 -- What the device puts into the receive chain that it holds.
-use Rattle.std.proofs.Common.{◌≡◌, ℕ, ◌+◌, ◌^◌, ◌<◌, ◌==◌, not, Bool, true, false, cond, List, [], ◌∷◌, ◌++◌, length, take, Contains, Option, Some, None, refl, sym, ap, subst, ◌∙◌, arith}
+use Rattle.std.proofs.Common.{◌≡◌, ℕ, ◌+◌, ◌^◌, ◌<◌, ◌==◌, not, Bool, true, false, cond, List, [], ◌∷◌, ◌++◌, length, take, Contains}
+use Rattle.std.proofs.Common.{Option, Some, None, refl, sym, ap, subst, ◌∙◌, arith}
 use Rattle.std.proofs.lemmas.Grind.{common_steps}
 use Rattle.vs_contents.specs.CallTree.{Done, Ask, bind}
-use Rattle.vs_conn.specs.End.{owes_of, paid_of}
-use Rattle.vs_conn.specs.Headers.{owed_header}
+use Rattle.vs_conn.specs.{End.owes_of, End.paid_of, Headers.owed_header}
 use Rattle.vs_conn.specs.declared.end.Owed.{Owed}
 use Rattle.vs_conn.specs.declared.end.Owed.TheVariants as owed
 use Rattle.vs_flow.specs.Table.{entry_under}
 use Rattle.vs_header.specs.Packet.{header_bytes}
 use Rattle.vs_header.specs.declared.Header.{Header}
 use Rattle.vs_history.specs.declared.packet.Packet.{Packet}
-use Rattle.vs_page.specs.Held.{packet_held}
-use Rattle.vs_page.specs.Log.{Log, Device}
-use Rattle.vs_page.specs.Overwriting.{overwritten}
+use Rattle.vs_page.specs.{Held.packet_held, Log.Log, Log.Device, Overwriting.overwritten}
 use Rattle.vs_page.specs.declared.log.LogEntry.TheVariants.{PutPacket}
 use Rattle.vs_replies.specs.declared.Reply.{Reply}
-use Rattle.vs_ring_port.specs.Chains.{bytes_in, with_bytes}
-use Rattle.vs_ring_port.specs.EndLog.{EndLog, entries_returned, with_packet}
+use Rattle.vs_ring_port.specs.{Chains.bytes_in, Chains.with_bytes, EndLog.EndLog, EndLog.entries_returned, EndLog.with_packet}
 use Rattle.vs_ring_port.specs.Lists.{Rings, after_return}
 use Rattle.vs_ring_port.specs.declared.device_ring.Chain.{Chain}
 use Rattle.vs_ring_port.specs.declared.queue.Queue.{Queue}
 use Rattle.vs_ring_port.specs.declared.queue.Queue.TheVariants.{Rx}
-use Rattle.vs_matching.specs.Both.{IsSound, Seat}
-use Rattle.vs_matching.specs.Ends.{is_new}
-use Rattle.vs_matching.specs.Steps.{owed_on, paid, reply_on, with_end}
+use Rattle.vs_matching.specs.{Both.IsSound, Both.Seat, Ends.is_new, Steps.owed_on, Steps.paid, Steps.reply_on, Steps.with_end}
 use Rattle.vs_matching.proofs.Slots.{found_by}
 use Rattle.vs_device_parts.specs.Calls.{CloseStream, DeviceTree}
 use Rattle.vs_device_parts.specs.Connections.{after_leaving, route_to_guest, stream_closed, with_connection}
 use Rattle.vs_device_parts.specs.Receiving.{Filling, after_paying, put_packet, put_reply_of, reply_header}
 use Rattle.vs_device_parts.specs.State.{DeviceConnection, DeviceEntry, DeviceState}
-use Rattle.vs_world.specs.Answers.{Around}
 use Rattle.vs_device_parts.specs.Steps.{filling, puts_owed, puts_reply}
-use Rattle.vs_world.specs.Pages.{is_held}
-use Rattle.vs_world.specs.Sides.{flow_to_guest}
+use Rattle.vs_world.specs.{Answers.Around, Pages.is_held, Sides.flow_to_guest}
 use Rattle.vs_world.proofs.Chains.{HoldsRx, both_written, bytes_written, first_written, held_written}
 use Rattle.vs_world.proofs.DeviceEvents.{KeptBy, Over}
 use Rattle.vs_world.proofs.DeviceSide as side
-use Rattle.vs_world.proofs.DeviceSide.{DeviceHolds, IsFresh, Kept, end_in, entry_fits, entry_fresh, not_fresh, seated}
-use Rattle.vs_world.proofs.DeviceTurns.{same_cid, still}
-use Rattle.vs_world.proofs.Fits.{holds_header}
-use Rattle.vs_world.proofs.Wire.{PutsFit, not_payload}
+use Rattle.vs_world.proofs.DeviceSide.{DeviceHolds, IsFresh, Kept, not_fresh, seated}
+use Rattle.vs_world.proofs.{DeviceTurns.same_cid, DeviceTurns.still, Fits.holds_header, Wire.PutsFit, Wire.not_payload}
+use Rattle.vs_world.proofs.Streams.{StreamedIf, ends_streams, leaves_streams, put_empty}
 use Rattle.vs_conn.specs.End.{ConnectionEnd}
 use Rattle.vs_flow.specs.Table.{with_value, without}
 use Rattle.vs_outside.specs.Host.{HostContents, after_close}
 use Rattle.vs_proxy_parts.specs.State.{Handshake}
 use Rattle.vs_pipes.specs.Streamed.{gives}
-use Rattle.vs_pipes.proofs.Gives.{pays_asked, pays_gives}
-use Rattle.vs_pipes.proofs.HostCalls.{closed_host}
-use Rattle.vs_world.proofs.Streams.{StreamedIf, ends_streams, leaves_streams, put_empty}
+use Rattle.vs_pipes.proofs.{Gives.pays_asked, Gives.pays_gives, HostCalls.closed_host}
 
 module _ (driver : Seat) (first port : ℕ) (s : DeviceState) (a : Around) (sound : IsSound first (seated driver port s a.log.entries))
     (holds : DeviceHolds port s) (puts : PutsFit a.log.entries) (rx : HoldsRx s.chain a.log.held) (known : a.lists.cid < 2 ^ 64) (fresh : Type 0) (lines : List Handshake)
@@ -151,14 +141,6 @@ module _ (driver : Seat) (first port : ℕ) (s : DeviceState) (a : Around) (soun
     pays_other what v owes end pending fresh stays_in last =
         let k = side.pays_as driver first port s a.log.entries sound holds puts what e v there owes end pending fresh stays_in in
         record { runs = k.runs; holds = k.holds; puts = k.puts; overrun = k.overrun }
-
-    fresh_old : (v : DeviceConnection) → v.end ≡ e.value.end → v.ok_line ≡ e.value.ok_line → v.asked_at ≡ e.value.asked_at
-        → v.shut_at ≡ e.value.shut_at → IsFresh v
-    fresh_old v end ok asked shut = let f = entry_fresh driver first port s a.log.entries sound holds puts e there in record {
-      ok_line = λ new. ok ∙ f.ok_line (sym (ap is_new end) ∙ new);
-      asked_at = λ new. asked ∙ f.asked_at (sym (ap is_new end) ∙ new);
-      shut_at = λ new. shut ∙ f.shut_at (sym (ap is_new end) ∙ new);
-    }
 
     paid_fresh : (what : Owed) → owes_of e.value.end ≡ Some what → is_new (paid_of e.value.end what) ≡ false
     paid_fresh owed.Rst owes = grind (arith, common_steps, owes)

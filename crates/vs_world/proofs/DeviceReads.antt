@@ -1,5 +1,6 @@
 -- What the device reads of its connections' streams.
-use Rattle.std.proofs.Common.{◌≡◌, ℕ, ◌^◌, ◌<◌, ◌≤◌, ◌==◌, Bool, true, false, cond, List, length, Contains, Option, Some, None, refl, subst, arith}
+use Rattle.std.proofs.Common.{◌≡◌, ℕ, ◌^◌, ◌<◌, ◌≤◌, ◌==◌, Bool, true, false, cond, List, length, Contains, Option, Some, None, refl, subst}
+use Rattle.std.proofs.Common.{arith}
 use Rattle.vs_contents.specs.CallTree.{Done, Ask, bind}
 use Rattle.vs_conn.specs.End.{wanting_credit}
 use Rattle.vs_credit.specs.Credit.{free_of}
@@ -7,31 +8,27 @@ use Rattle.vs_flow.specs.Table.{entry_under}
 use Rattle.vs_outside.specs.Host.{HostContents, after_read, fails_now, read_answer, stream_at}
 use Rattle.vs_outside.specs.declared.host_net.StreamRead.{StreamRead}
 use Rattle.vs_outside.specs.declared.host_net.StreamRead.TheVariants as read
-use Rattle.vs_ring_port.specs.EndLog.{EndLog}
-use Rattle.vs_ring_port.specs.Lists.{Rings}
+use Rattle.vs_ring_port.specs.{EndLog.EndLog, Lists.Rings}
 use Rattle.vs_ring_port.specs.declared.device_ring.Chain.{Chain}
-use Rattle.vs_matching.specs.Both.{IsSound, Seat, WantsCredit}
-use Rattle.vs_matching.specs.Ends.{is_new}
+use Rattle.vs_matching.specs.{Both.IsSound, Both.Seat, Both.WantsCredit, Ends.is_new}
 use Rattle.vs_matching.proofs.Slots.{found_by}
 use Rattle.vs_device_parts.specs.Calls.{CloseStream, DeviceTree, ReadStream}
 use Rattle.vs_device_parts.specs.Connections.{after_shut, cut_off, with_connection, with_fault}
 use Rattle.vs_device_parts.specs.Receiving.{may_read, read_answered, read_room, read_with_chain}
 use Rattle.vs_device_parts.specs.State.{DeviceConnection, DeviceEntry, DeviceState}
-use Rattle.vs_world.specs.Answers.{Around, bytes_with}
 use Rattle.vs_device_parts.specs.Steps.{filling, puts_payload, reads}
-use Rattle.vs_world.proofs.Chains.{HoldsRx}
-use Rattle.vs_world.proofs.DeviceEvents.{KeptBy, Over}
+use Rattle.vs_world.specs.Answers.{Around, bytes_with}
+use Rattle.vs_world.proofs.{Chains.HoldsRx, DeviceEvents.KeptBy, DeviceEvents.Over}
 use Rattle.vs_world.proofs.DeviceSide as side
 use Rattle.vs_world.proofs.DeviceSide.{DeviceHolds, Kept, entry_fits, not_fresh, seated}
 use Rattle.vs_world.proofs.DeviceStreams as streams
 use Rattle.vs_device_log.proofs.Filling.{live_old}
 use Rattle.vs_pipes.proofs.Short.{bytes_short, read_short}
-use Rattle.vs_world.proofs.DeviceTurns.{still}
-use Rattle.vs_world.proofs.Wire.{PutsFit}
+use Rattle.vs_world.proofs.{DeviceTurns.still, Wire.PutsFit}
+use Rattle.vs_world.proofs.Streams.{StreamedIf, called_host, ends_streams, reads_streams, shuts_streams}
 use Rattle.vs_flow.specs.Table.{with_value}
 use Rattle.vs_outside.specs.Host.{after_close, called, next_bytes}
 use Rattle.vs_proxy_parts.specs.State.{Handshake}
-use Rattle.vs_world.proofs.Streams.{StreamedIf, called_host, ends_streams, reads_streams, shuts_streams}
 
 module _ (driver : Seat) (first port : ℕ) (s : DeviceState) (a : Around) (sound : IsSound first (seated driver port s a.log.entries))
     (holds : DeviceHolds port s) (puts : PutsFit a.log.entries) (rx : HoldsRx s.chain a.log.held) (known : a.lists.cid < 2 ^ 64) (fresh : Type 0) (lines : List Handshake)
@@ -52,9 +49,6 @@ module _ (driver : Seat) (first port : ℕ) (s : DeviceState) (a : Around) (soun
   module _ (c : Chain) (is : s.chain ≡ Some c) (e : DeviceEntry) (there : Contains s.table.entries e) (may : may_read e.value.end e.value.end.state ≡ true) where
     held : HoldsRx (Some c) a.log.held
     held = subst (λ (o : Option Chain). HoldsRx o a.log.held) is rx
-
-    room : ℕ
-    room = read_room (free_of e.value.end.credit) c
 
     old : is_new e.value.end ≡ false
     old = live_old e.value.end may

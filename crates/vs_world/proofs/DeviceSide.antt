@@ -1,34 +1,29 @@
 -- What the device's small changes are among the steps of the two ends.
-use Rattle.std.proofs.Common.{◌≡◌, ℕ, suc, ◌^◌, ◌<◌, ◌≤◌, ◌==◌, not, Bool, true, false, cond, List, [], ◌∷◌, length, map, Contains, Some, None, refl, sym, ap, subst, ◌∙◌, arith}
+use Rattle.std.proofs.Common.{◌≡◌, ℕ, suc, ◌^◌, ◌<◌, ◌≤◌, ◌==◌, not, Bool, true, false, cond, List, [], ◌∷◌, length, map, Contains, Some}
+use Rattle.std.proofs.Common.{None, refl, sym, ap, subst, ◌∙◌, arith}
 use Rattle.std.specs.List.{All}
 use Rattle.std.proofs.lemmas.List.Elements.{All-filter, All-map}
 use Rattle.vs_conn.specs.End.{ConnectionEnd, CanSend, owes_of, paid_of, with_payload_sent}
 use Rattle.vs_conn.specs.declared.end.Owed.{Owed}
 use Rattle.vs_conn.specs.declared.end.Owed.TheVariants as owed
 use Rattle.vs_credit.specs.Credit.{unread_of}
-use Rattle.vs_flow.specs.Flow.{same_flow}
 use Rattle.vs_flow.specs.Table.{Table, IsTable, revalued, with_value, without}
-use Rattle.vs_flow.specs.declared.flow.Flow.{Flow}
 use Rattle.vs_flow.specs.declared.flow.TheConstants.{ASSIGNED_FIRST}
 use Rattle.vs_flow.proofs.Tables.{with_value_sound, without_sound}
 use Rattle.vs_page.specs.Log.{Log, Device}
 use Rattle.vs_page.specs.declared.log.LogEntry.TheVariants.{PutEvent, PutPacket}
 use Rattle.vs_replies.specs.declared.Reply.{Reply}
 use Rattle.vs_matching.specs.Both.{Both, Decides, Decision, IsSound, MayDecide, Pays, PutsEvent, Replies, Seat, Sends, decided}
-use Rattle.vs_matching.specs.Ends.{Ends, FlowEnd, ends_of, entries_of, is_new, replaced}
-use Rattle.vs_matching.specs.Heard.{route_of}
+use Rattle.vs_matching.specs.{Ends.Ends, Ends.FlowEnd, Ends.entries_of, Ends.is_new, Ends.replaced, Heard.route_of}
 use Rattle.vs_matching.specs.Steps.{HasEnd, left, paid, with_end, owed_on, payload_on, reply_on}
-use Rattle.vs_matching.proofs.Slots.{changed_slot, one_end, removed_slot}
-use Rattle.vs_matching.proofs.Tables.{end_new}
-use Rattle.vs_device_parts.specs.State.{DeviceConnection, DeviceEntry, DeviceState}
-use Rattle.vs_device_parts.specs.Connections.{with_connection}
+use Rattle.vs_matching.proofs.{Slots.changed_slot, Slots.one_end, Slots.removed_slot, Tables.end_new}
+use Rattle.vs_device_parts.specs.{State.DeviceConnection, State.DeviceEntry, State.DeviceState, Connections.with_connection}
 use Rattle.vs_world.specs.Sides.{Runs, flow_to_guest}
 use Rattle.vs_world.proofs.Entries.{EntryFits, fits_at, fits_with_value, fits_without, without_changed}
-use Rattle.vs_device_log.specs.Honest.{HoldsBytes}
-use Rattle.vs_device_log.proofs.Fits.{fits_paid, fits_sent}
-use Rattle.vs_world.proofs.DriverSide.{ReplyFits}
-use Rattle.vs_world.proofs.Runs.{one_step, stays}
+use Rattle.vs_world.proofs.{DriverSide.ReplyFits, Runs.one_step, Runs.stays}
 use Rattle.vs_world.proofs.Wire.{PutsFit, RouteFits, owed_fits, payload_fits, reset_fits}
+use Rattle.vs_device_log.specs.Honest.{HoldsBytes}
+use Rattle.vs_device_log.proofs.{Fits.fits_paid, Fits.fits_sent, Changing.same_replaced}
 
 abbrev pub end_in : DeviceConnection → ConnectionEnd
 end_in c = c.end
@@ -67,29 +62,6 @@ revalued_fresh slot v x new old = by (x.slot == slot)
     by : (b : Bool) → FreshEntry (cond b (record x { value = v }) x)
     by true = new
     by false = old
-
--- A flow's end in place of itself.
-none_replaced : (f : Flow) (e : ConnectionEnd) (ys : List FlowEnd) → ends_of f ys ≡ [] → replaced f e ys ≡ ys
-none_replaced f e [] none = refl
-none_replaced f e (y ∷ ys) none = at (same_flow f y.flow) refl none (none_replaced f e ys)
-  where
-    at : (b : Bool) → same_flow f y.flow ≡ b → cond b (y.end ∷ ends_of f ys) (ends_of f ys) ≡ [] → (ends_of f ys ≡ [] → replaced f e ys ≡ ys)
-        → replaced f e (y ∷ ys) ≡ y ∷ ys
-    at true same empty rest = absurd cc
-    at false same empty rest = rw same (ap (λ (zs : List FlowEnd). y ∷ zs) (rest empty))
-
-same_replaced : (f : Flow) (e : ConnectionEnd) (xs : List FlowEnd) → ends_of f xs ≡ e ∷ [] → replaced f e xs ≡ xs
-same_replaced f e [] is = refl
-same_replaced f e (x ∷ xs) is = by (same_flow f x.flow) refl is (same_replaced f e xs)
-  where
-    by : (b : Bool) → same_flow f x.flow ≡ b → cond b (x.end ∷ ends_of f xs) (ends_of f xs) ≡ e ∷ [] → (ends_of f xs ≡ e ∷ [] → replaced f e xs ≡ xs)
-        → replaced f e (x ∷ xs) ≡ x ∷ xs
-    by true same one rest =
-        let head : x.end ≡ e = cc in
-        let tail : ends_of f xs ≡ [] = cc in
-        rw same (ap (λ (z : ConnectionEnd). let y : FlowEnd = record x { end = z } in y ∷ replaced f e xs) (sym head)
-        ∙ ap (λ (zs : List FlowEnd). x ∷ zs) (none_replaced f e xs tail))
-    by false same one rest = rw same (ap (λ (zs : List FlowEnd). x ∷ zs) (rest one))
 
 module _ (driver : Seat) where
   abbrev pub at_part : Ends → Log → Both

@@ -1,59 +1,44 @@
 -- What the device does with its connections' streams.
-use Rattle.std.proofs.Common.{◌≡◌, ℕ, ◌-◌, ◌^◌, ◌<◌, ◌≤◌, ◌==◌, ◌&&◌, ◌||◌, not, Bool, true, false, cond, List, [], ◌∷◌, ◌++◌, length, drop, Contains, Option, Some, None, refl, sym, ap, subst, ◌∙◌, arith}
+use Rattle.std.proofs.Common.{◌≡◌, ℕ, ◌-◌, ◌^◌, ◌<◌, ◌≤◌, ◌==◌, ◌&&◌, ◌||◌, Bool, true, false, cond, List, [], ◌∷◌, ◌++◌, length, drop}
+use Rattle.std.proofs.Common.{Contains, Option, Some, None, refl, sym, ap, subst, ◌∙◌, arith, length-append}
 use Rattle.std.proofs.lemmas.Bool.Decides.{nat_tests}
-use Rattle.std.proofs.lemmas.Grind.{common_steps}
 use Rattle.std.proofs.lemmas.List.{length-take, length-drop, append-nil}
-use Rattle.std.proofs.Common.{length-append}
 use Rattle.vs_contents.specs.CallTree.{Done, Ask, bind}
-use Rattle.vs_conn.specs.End.{ConnectionEnd, with_payload_forwarded, with_payload_sent, with_shut}
-use Rattle.vs_conn.specs.Headers.{payload_header}
+use Rattle.vs_conn.specs.{End.with_payload_sent, End.with_shut, Headers.payload_header}
 use Rattle.vs_credit.specs.Credit.{free_of}
 use Rattle.vs_flow.specs.Table.{entry_under}
 use Rattle.vs_header.specs.Packet.{header_bytes}
 use Rattle.vs_outside.specs.Host.{after_write, fails_now, stream_at, write_answer}
 use Rattle.vs_outside.specs.declared.host_net.StreamWrite.{StreamWrite}
 use Rattle.vs_outside.specs.declared.host_net.StreamWrite.TheVariants as write
-use Rattle.vs_page.specs.Held.{packet_held}
-use Rattle.vs_page.specs.Log.{Device}
+use Rattle.vs_page.specs.{Held.packet_held, Log.Device}
 use Rattle.vs_page.specs.declared.log.LogEntry.TheVariants.{PutPacket}
-use Rattle.vs_ring_port.specs.EndLog.{EndLog}
-use Rattle.vs_ring_port.specs.Lists.{Rings}
+use Rattle.vs_ring_port.specs.{EndLog.EndLog, Lists.Rings}
 use Rattle.vs_ring_port.specs.declared.device_ring.Chain.{Chain}
-use Rattle.vs_matching.specs.Both.{Aborts, Forwards, IsSound, Seat, Shuts}
-use Rattle.vs_matching.specs.Ends.{is_new}
-use Rattle.vs_matching.specs.Steps.{payload_on}
+use Rattle.vs_matching.specs.{Both.Aborts, Both.Forwards, Both.IsSound, Both.Seat, Both.Shuts, Ends.is_new, Steps.payload_on}
 use Rattle.vs_matching.proofs.Slots.{found_by}
 use Rattle.vs_device_parts.specs.Calls.{CloseStream, DeviceTree, ShutWrite, WriteStream}
-use Rattle.vs_device_parts.specs.Connections.{after_shut, after_written, cut_off, is_asked, is_late, is_timed_out, route_to_guest, with_connection, with_fault}
-use Rattle.vs_device_parts.specs.Receiving.{may_read, put_payload}
+use Rattle.vs_device_parts.specs.Connections.{after_shut, after_written, cut_off, is_asked, is_late, is_timed_out, route_to_guest}
+use Rattle.vs_device_parts.specs.{Connections.with_connection, Connections.with_fault, Receiving.may_read, Receiving.put_payload}
 use Rattle.vs_device_parts.specs.State.{DeviceConnection, DeviceEntry, DeviceState}
 use Rattle.vs_device_parts.specs.Streams.{Writing, closing, is_written_out, tick_slot, to_write, write_answered, write_pending}
+use Rattle.vs_device_parts.specs.Steps.{filling, shuts_write, writes, writes_on, writing}
 use Rattle.vs_device_log.proofs.Filling.{can_send, live_old}
 use Rattle.vs_pipes.proofs.Short.{write_short}
 use Rattle.vs_world.specs.Answers.{Around}
-use Rattle.vs_device_parts.specs.Steps.{filling, shuts_write, writes, writes_on, writing}
-use Rattle.vs_world.proofs.Chains.{HoldsRx}
-use Rattle.vs_world.proofs.DeviceEvents.{KeptBy, Over}
+use Rattle.vs_world.proofs.{Chains.HoldsRx, DeviceEvents.KeptBy, DeviceEvents.Over}
 use Rattle.vs_world.proofs.DevicePuts as puts_of
 use Rattle.vs_world.proofs.DeviceSide as side
 use Rattle.vs_world.proofs.DeviceSide.{DeviceHolds, IsFresh, Kept, entry_fits, entry_fresh, new_unread, not_fresh, seated}
-use Rattle.vs_world.proofs.DeviceTurns.{still, quiet}
+use Rattle.vs_world.proofs.{DeviceTurns.still, DeviceTurns.quiet, Fits.holds_payload, Wire.PutsFit}
+use Rattle.vs_world.proofs.Streams.{StreamedIf, called_host, cuts_streams, ends_streams, failed_host, shut_write_host, shuts_streams}
+use Rattle.vs_world.proofs.Streams.{writes_streams}
 use Rattle.vs_device_log.specs.Honest.{HoldsBytes}
-use Rattle.vs_device_log.specs.Honest.{HoldsBytes}
-use Rattle.vs_device_log.proofs.Fits.{fits_forwarded, fits_shut}
-use Rattle.vs_world.proofs.Fits.{holds_payload}
-use Rattle.vs_world.proofs.Wire.{PutsFit}
+use Rattle.vs_device_log.proofs.{Fits.fits_forwarded, Fits.fits_shut, Changing.forward_old, Changing.shut_old}
 use Rattle.vs_flow.specs.Table.{with_value}
 use Rattle.vs_outside.specs.Host.{HostContents, after_close, after_failed, after_shut_write, called}
 use Rattle.vs_proxy_parts.specs.State.{Handshake}
 use Rattle.vs_pipes.proofs.HostCalls.{closed_host}
-use Rattle.vs_world.proofs.Streams.{StreamedIf, called_host, cuts_streams, ends_streams, failed_host, shut_write_host, shuts_streams, writes_streams}
-
-shut_old : (e : ConnectionEnd) (bits : ℕ) → is_new e ≡ false → is_new (with_shut e bits) ≡ false
-shut_old e bits is = grind (arith, common_steps, is)
-
-forward_old : (e : ConnectionEnd) (n : ℕ) → is_new e ≡ false → is_new (with_payload_forwarded e n) ≡ false
-forward_old e n is = grind (arith, common_steps, is)
 
 module _ (driver : Seat) (first port : ℕ) (s : DeviceState) (a : Around) (sound : IsSound first (seated driver port s a.log.entries))
     (holds : DeviceHolds port s) (puts : PutsFit a.log.entries) (rx : HoldsRx s.chain a.log.held) (known : a.lists.cid < 2 ^ 64) (fresh : Type 0) (lines : List Handshake)

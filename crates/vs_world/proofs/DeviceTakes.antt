@@ -1,22 +1,18 @@
 -- What the device takes and opens is among the steps of the two ends.
-use Rattle.std.proofs.Common.{◌≡◌, ℕ, ◌+◌, ◌^◌, ◌<◌, ◌≤◌, ◌&&◌, Bool, true, false, cond, List, [], ◌∷◌, length, Contains, Option, Some, None, refl, sym, ap, ◌∙◌, arith}
+use Rattle.std.proofs.Common.{◌≡◌, ℕ, ◌+◌, ◌^◌, ◌<◌, ◌≤◌, ◌&&◌, Bool, true, false, cond, List, [], ◌∷◌, length, Contains, Option, Some}
+use Rattle.std.proofs.Common.{None, refl, sym, ap, ◌∙◌, arith}
 use Rattle.std.proofs.lemmas.Bool.Decides.{nat_tests}
-use Rattle.std.proofs.lemmas.Grind.{common_steps}
-use Rattle.std.proofs.lemmas.List.{map-append}
+use Rattle.std.proofs.lemmas.{Grind.common_steps, List.map-append}
 use Rattle.std.proofs.lemmas.List.Elements.{All-push}
 use Rattle.vs_conn.specs.End.{ConnectionEnd, answering, asked, end_after, is_reset, is_stream}
-use Rattle.vs_flow.specs.Flow.{is_assigned}
-use Rattle.vs_flow.specs.Table.{entry_of, has_place, with_value, without, refusal}
-use Rattle.vs_flow.specs.declared.flow.Flow.{Flow}
-use Rattle.vs_flow.specs.declared.flow.TheConstants.{ASSIGNED_FIRST, ASSIGNED_LAST}
+use Rattle.vs_flow.specs.{Flow.is_assigned, Table.entry_of, Table.has_place, Table.with_value, Table.without, Table.refusal}
+use Rattle.vs_flow.specs.declared.flow.{Flow.Flow, TheConstants.ASSIGNED_FIRST, TheConstants.ASSIGNED_LAST}
 use Rattle.vs_flow.proofs.Tables.{with_entry_sound, IsAccepted, accepted}
 use Rattle.vs_header.specs.declared.Header.{Header}
 use Rattle.vs_history.specs.Packets.{is_request, is_rst}
 use Rattle.vs_history.specs.declared.TheConstants.{BUF_ALLOC}
 use Rattle.vs_history.specs.declared.packet.Packet.{Packet}
-use Rattle.vs_page.specs.Held.{FitsWire}
-use Rattle.vs_page.specs.Log.{Log, Device, IsNextPacket, flow_to_host, side_by}
-use Rattle.vs_page.specs.Open.{is_dropped}
+use Rattle.vs_page.specs.{Held.FitsWire, Log.Log, Log.Device, Log.IsNextPacket, Log.flow_to_host, Log.side_by, Open.is_dropped}
 use Rattle.vs_page.specs.declared.log.LogEntry.TheVariants.{GotPacket}
 use Rattle.vs_replies.specs.Owed.{reply_to}
 use Rattle.vs_matching.specs.Both.{Asks, IsSound, Seat, Takes, after_packet, answered}
@@ -26,15 +22,11 @@ use Rattle.vs_matching.proofs.Slots.{added_slot, changed_slot, no_entry, one_end
 use Rattle.vs_device_parts.specs.State.{DeviceConnection, DeviceEntry, DeviceState}
 use Rattle.vs_device_parts.specs.Connections.{new_connection, with_client, with_connection, with_dialed, with_opened, with_reply}
 use Rattle.vs_world.specs.Sides.{flow_to_guest}
-use Rattle.vs_world.proofs.DeviceSide.{DeviceHolds, FreshEntry, IsFresh, Kept, at_part, end_in, held_in, holds_changed, left_holds, left_part, not_fresh, part_of, seated}
-use Rattle.vs_world.proofs.DriverSide.{ReplyFits}
-use Rattle.vs_world.proofs.Entries.{FlowFits, fits_with_entry}
+use Rattle.vs_world.proofs.DeviceSide.{DeviceHolds, FreshEntry, IsFresh, Kept, at_part, end_in, held_in, holds_changed, left_holds}
+use Rattle.vs_world.proofs.{DeviceSide.left_part, DeviceSide.not_fresh, DeviceSide.part_of, DeviceSide.seated, DriverSide.ReplyFits}
+use Rattle.vs_world.proofs.{Entries.FlowFits, Entries.fits_with_entry, Runs.one_step, Wire.PutsFit}
 use Rattle.vs_device_log.specs.Honest.{HoldsBytes}
-use Rattle.vs_world.proofs.Runs.{one_step}
-use Rattle.vs_world.proofs.Wire.{PutsFit}
-
-still_new : (e : ConnectionEnd) (h : Header) → is_new (end_after e h) ≡ true → is_new e ≡ true
-still_new e h = grind (arith, common_steps)
+use Rattle.vs_device_log.proofs.Hearing.{still_new}
 
 -- What a packet leaves of a connection whose REQUEST isn't put.
 pub heard_fresh : (old c : DeviceConnection) (h : Header) → c.end ≡ end_after old.end h → c.ok_line ≡ old.ok_line → c.asked_at ≡ old.asked_at

@@ -1,13 +1,12 @@
 -- Each of the driver's conversations is some of the steps of the two ends.
-use Rattle.std.proofs.Common.{take}
-use Rattle.std.proofs.Common.{◌≡◌, ℕ, ◌+◌, ◌-◌, ◌^◌, ◌<◌, ◌≤◌, ◌==◌, min, nat_le, nat_lt, Bool, true, false, cond, List, [], ◌∷◌, ◌++◌, length, Contains, Option, Some, None, Result, Ok, Err, is_some, refl, sym, ap, subst, ◌∙◌, arith}
+use Rattle.std.proofs.Common.{take, ◌≡◌, ℕ, ◌+◌, ◌-◌, ◌^◌, ◌<◌, ◌≤◌, ◌==◌, min, nat_le, nat_lt, Bool, true, false, cond, List, [], ◌∷◌}
+use Rattle.std.proofs.Common.{◌++◌, length, Contains, Option, Some, None, Result, Ok, Err, is_some, refl, sym, ap, subst, ◌∙◌, arith}
+use Rattle.std.proofs.Common.{length-append}
 use Rattle.std.proofs.lemmas.Bool.Decides.{nat_tests}
 use Rattle.std.proofs.lemmas.List.{length-take}
 use Rattle.vs_contents.specs.CallTree.{Done, Ask, bind, played}
-use Rattle.vs_conn.specs.End.{CanSend, may_send_of, owes_of, wanting_credit}
-use Rattle.vs_conn.specs.Headers.{owed_header}
-use Rattle.vs_conn.specs.declared.end.Owed.{Owed}
-use Rattle.vs_conn.specs.declared.end.Stop.{Stop}
+use Rattle.vs_conn.specs.{End.CanSend, End.may_send_of, End.owes_of, End.wanting_credit, Headers.owed_header}
+use Rattle.vs_conn.specs.declared.end.{Owed.Owed, Stop.Stop}
 use Rattle.vs_flow.specs.Table.{entry_under}
 use Rattle.vs_header.specs.Packet.{header_bytes}
 use Rattle.vs_history.specs.declared.TheConstants.{BUF_ALLOC}
@@ -23,51 +22,43 @@ use Rattle.vs_ring_port.specs.EndLog.{EndLog, all_put, entries_reaped, with_even
 use Rattle.vs_ring_port.specs.Lists.{Rings, oldest, all_but_oldest}
 use Rattle.vs_ring_port.specs.declared.queue.Queue.{Queue}
 use Rattle.vs_ring_port.specs.declared.queue.Queue.TheVariants.{Rx, Tx, Event}
-use Rattle.vs_matching.specs.Both.{IsSound, Seat}
-use Rattle.vs_matching.specs.Steps.{owed_on, payload_on, reply_on, request_on}
+use Rattle.vs_matching.specs.{Both.IsSound, Both.Seat, Steps.owed_on, Steps.payload_on, Steps.reply_on, Steps.request_on}
 use Rattle.vs_matching.proofs.Slots.{found_by}
 use Rattle.vs_driver_parts.specs.State.{DriverEntry, DriverState, entry_known_as, is_known_as}
-use Rattle.vs_driver_parts.specs.declared.answers.ConnectError.{ConnectError}
-use Rattle.vs_driver_parts.specs.declared.answers.Sent.{Sent}
-use Rattle.vs_driver_parts.specs.declared.limits.TheConstants.{REPLIES_FULL}
 use Rattle.vs_driver_parts.specs.Connections.{route_to_host, connect_refusal, connected, next_flow, with_end}
-use Rattle.vs_driver_parts.specs.Conversations.{DriverTree, Round, after_paying, connect_with_page, has_page, one_more_in_flight, one_put, owed_bytes, payload_bytes, payload_of, publish_of, put_owed_of, put_reply_of, reap_one, reaped, reply_header, request_bytes, send_with_page, stage_packet, start}
+use Rattle.vs_driver_parts.specs.Conversations.{DriverTree, Round, after_paying, connect_with_page, has_page, one_more_in_flight, one_put}
+use Rattle.vs_driver_parts.specs.Conversations.{owed_bytes, payload_bytes, payload_of, publish_of, put_owed_of, put_reply_of, reap_one}
+use Rattle.vs_driver_parts.specs.Conversations.{reaped, reply_header, request_bytes, send_with_page, stage_packet, start}
 use Rattle.vs_driver_parts.specs.Steps.{connects, sends, sends_on, sends_with_credit, stages_owed, stages_reply, takes_page}
-use Rattle.vs_world.specs.Pages.{AllHold, TxHolds}
+use Rattle.vs_driver_parts.specs.declared.answers.{ConnectError.ConnectError, Sent.Sent}
+use Rattle.vs_driver_parts.specs.declared.limits.TheConstants.{REPLIES_FULL}
+use Rattle.vs_world.specs.{Pages.AllHold, Pages.TxHolds, Sides.driver_ends, Sides.flow_to_host, Sides.log_with_staged}
 use Rattle.vs_header.specs.declared.Header.{Header}
-use Rattle.std.proofs.Common.{length-append}
-use Rattle.vs_world.specs.Sides.{driver_ends, flow_to_host, log_with_staged}
 use Rattle.vs_world.proofs.DriverSide as side
 use Rattle.vs_world.proofs.DriverSide.{DriverHolds, Kept, KeptWith, seated}
 use Rattle.vs_world.proofs.Payloads.{either_none, front_of}
-use Rattle.vs_world.specs.Pipes.{none_on, put_on}
-use Rattle.vs_world.specs.Calls.{bytes_received, bytes_sent, is_on, took}
 use Rattle.vs_world.proofs.Receives.{StillReceives, none_read, reads_of, said_as}
+use Rattle.vs_world.specs.{Pipes.none_on, Pipes.put_on, Calls.bytes_received, Calls.bytes_sent, Calls.is_on, Calls.took}
 use Rattle.vs_world.specs.GuestSteps.{flow_named}
-use Rattle.vs_driver_parts.specs.Connections.{flow_of}
-use Rattle.vs_driver_parts.specs.State.{gone_known_as}
+use Rattle.vs_driver_parts.specs.{Connections.flow_of, State.gone_known_as}
 use Rattle.vs_driver_parts.proofs.Known.{flow_known}
 use Rattle.vs_flow.specs.Flow.{same_flow}
 use Rattle.vs_flow.specs.declared.flow.Flow.{Flow}
 use Rattle.vs_conn.specs.declared.end.Stop.TheVariants as stopped
 use Rattle.vs_world.proofs.DriverTakes as takes
 use Rattle.vs_world.proofs.DriverResets as resets
-use Rattle.vs_world.proofs.Fits.{holds_header, holds_payload}
-use Rattle.vs_world.proofs.Runs.{keeps_sound}
-use Rattle.vs_world.proofs.Wire.{PutsFit, next_fits, not_payload}
+use Rattle.vs_world.proofs.{Fits.holds_header, Fits.holds_payload, Runs.keeps_sound, Wire.PutsFit, Wire.next_fits, Wire.not_payload}
 use Rattle.vs_driver_parts.specs.declared.answers.ConnectError.TheVariants as connect_refused
 use Rattle.vs_driver_parts.specs.declared.answers.Sent.TheVariants as sent
 use Rattle.vs_driver_parts.specs.declared.answers.ListenError.{ListenError}
-use Rattle.vs_driver_parts.specs.Conversations.{no_credit, not_sent, post_packet, send_stopped}
-use Rattle.vs_driver_parts.specs.Connections.{after_unlisten}
+use Rattle.vs_driver_parts.specs.Conversations.{no_credit, not_sent, post_packet, send_stopped, event_reaped, goes_on_with, packet_reaped}
+use Rattle.vs_driver_parts.specs.{Conversations.staged_again, Connections.after_unlisten}
 use Rattle.vs_driver_parts.specs.Listening.{listen_of, listener_on, listening, next_accepted, with_waiting, without_id}
+use Rattle.vs_driver_parts.specs.Receiving.{after_reset, on_packet, on_page}
 use Rattle.vs_conn.specs.End.{with_payload_sent}
-use Rattle.std.proofs.Common.{IsOkAnd}
+use Rattle.std.proofs.Common.{IsOkAnd, append_assoc}
 use Rattle.vs_world.specs.Calls.{GuestCall, Connect, Listen, Unlisten, Accept, Send, Recv, Shutdown, Close, LookAt, is_right}
 use Rattle.vs_world.specs.GuestSteps.{makes_call}
-use Rattle.vs_driver_parts.specs.Conversations.{event_reaped, goes_on_with, packet_reaped, staged_again}
-use Rattle.vs_driver_parts.specs.Receiving.{after_reset, on_packet, on_page}
-use Rattle.std.proofs.Common.{append_assoc}
 
 -- A page that is staged behind others.
 staged_last : (pages : List (List ℕ)) (page : List ℕ) (log : Log)

@@ -1,31 +1,26 @@
 -- The driver takes a transport reset, and closes the connections that wait on a port.
-use Rattle.std.proofs.Common.{◌≡◌, ℕ, suc, ◌+◌, ◌^◌, ◌<◌, ◌≤◌, ◌==◌, not, Bool, true, false, cond, List, [], ◌∷◌, ◌++◌, map, filter, refl, sym, ap, subst, ◌∙◌, arith, append_assoc}
+use Rattle.std.proofs.Common.{◌≡◌, ℕ, suc, ◌+◌, ◌^◌, ◌<◌, ◌≤◌, ◌==◌, not, Bool, true, false, cond, List, [], ◌∷◌, ◌++◌, map, filter, refl}
+use Rattle.std.proofs.Common.{sym, ap, subst, ◌∙◌, arith, append_assoc, Contains}
 use Rattle.std.specs.List.{All}
 use Rattle.std.proofs.lemmas.Bool.Decides.{nat_tests}
 use Rattle.std.proofs.lemmas.List.{map-append, append-nil}
 use Rattle.std.proofs.lemmas.List.Elements.{All-push}
 use Rattle.vs_flow.specs.Table.{IsRising, IsTable, Table, without}
 use Rattle.vs_flow.specs.declared.flow.Flow.{Flow}
-use Rattle.vs_flow.proofs.Entries.{above_head, all_others, find_none, rising_tail}
+use Rattle.vs_flow.proofs.{Entries.above_head, Entries.all_others, Entries.find_none, Entries.rising_tail, Tables.without_sound}
 use Rattle.vs_page.specs.Log.{Log, Driver}
 use Rattle.vs_page.specs.declared.log.LogEntry.TheVariants.{Mark}
 use Rattle.vs_replies.specs.declared.Reply.{Reply}
-use Rattle.vs_matching.specs.Both.{Both, IsSound, Seat, TakesReset}
-use Rattle.vs_matching.specs.Ends.{Ends, entries_of, flows_of}
+use Rattle.vs_matching.specs.{Both.Both, Both.IsSound, Both.Seat, Both.TakesReset, Ends.Ends, Ends.entries_of, Ends.flows_of}
 use Rattle.vs_driver_parts.specs.State.{DriverConnection, DriverEntry, DriverState, GoneConnection}
-use Rattle.vs_driver_parts.specs.Connections.{after_close, after_leaving, after_unlisten, all_closed, gone_as, is_let_go, waiting_on, waits_no_more}
+use Rattle.vs_driver_parts.specs.Connections.{after_close, after_leaving, after_unlisten, all_closed, gone_as, is_let_go, waiting_on}
+use Rattle.vs_driver_parts.specs.Connections.{waits_no_more}
 use Rattle.vs_driver_parts.specs.Receiving.{after_reset, all_left, reset_reply, with_reply}
-use Rattle.std.proofs.Common.{Contains}
-use Rattle.vs_flow.proofs.Tables.{without_sound}
-use Rattle.vs_world.proofs.Received.{same_received}
-use Rattle.vs_world.proofs.Receives.{StillReceives, leaves, none_read}
-use Rattle.vs_world.specs.Pipes.{none_on, put_on}
-use Rattle.vs_world.proofs.Payloads.{nothing_more}
-use Rattle.vs_world.specs.Sides.{flow_to_host}
+use Rattle.vs_world.proofs.{Received.same_received, Receives.StillReceives, Receives.leaves, Receives.none_read}
 use Rattle.vs_world.proofs.DriverSide.{DriverHolds, Kept, ReplyFits, close, end_in, held_in, kept_still, kept_then, seated}
-use Rattle.vs_world.proofs.Entries.{EntryFits}
-use Rattle.vs_world.proofs.Runs.{keeps_sound, one_step}
-use Rattle.vs_world.proofs.Wire.{PutsFit}
+use Rattle.vs_world.proofs.{Entries.EntryFits, Runs.keeps_sound, Runs.one_step, Wire.PutsFit}
+use Rattle.vs_world.specs.{Pipes.none_on, Pipes.put_on, Sides.flow_to_host}
+use Rattle.vs_pipes.proofs.Logs.{nothing_more}
 
 -- The replies that a reset owes.
 abbrev reply_for : DriverEntry → Reply

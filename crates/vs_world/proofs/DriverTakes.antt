@@ -1,5 +1,6 @@
 -- What the driver opens and takes is among the steps of the two ends.
-use Rattle.std.proofs.Common.{◌≡◌, ℕ, ◌+◌, ◌^◌, ◌<◌, ◌≤◌, ◌&&◌, Bool, true, false, cond, List, [], ◌∷◌, ◌++◌, length, Contains, Option, Some, None, refl, sym, ap, subst, ◌∙◌, arith}
+use Rattle.std.proofs.Common.{◌≡◌, ℕ, ◌+◌, ◌^◌, ◌<◌, ◌≤◌, ◌&&◌, Bool, true, false, cond, List, [], ◌∷◌, ◌++◌, length, Contains, Option}
+use Rattle.std.proofs.Common.{Some, None, refl, sym, ap, subst, ◌∙◌, arith}
 use Rattle.std.proofs.lemmas.Bool.Decides.{nat_tests}
 use Rattle.std.proofs.lemmas.Grind.{common_steps}
 use Rattle.std.proofs.lemmas.List.Elements.{All-push}
@@ -7,11 +8,9 @@ use Rattle.vs_conn.specs.End.{ConnectionEnd, answering, asked, end_after, is_ref
 use Rattle.vs_conn.specs.declared.end.Owed.TheVariants as owed
 use Rattle.vs_conn.specs.declared.end.Verdict.{Verdict}
 use Rattle.vs_conn.specs.declared.end.Verdict.TheVariants as verdict
-use Rattle.vs_flow.specs.Flow.{is_assigned, same_flow}
-use Rattle.vs_flow.specs.Table.{entry_of, without}
+use Rattle.vs_flow.specs.{Flow.is_assigned, Flow.same_flow, Table.entry_of, Table.without}
 use Rattle.vs_flow.specs.declared.flow.Flow.{Flow}
-use Rattle.vs_flow.proofs.Entries.{same_flow_true}
-use Rattle.vs_flow.proofs.Tables.{with_entry_sound, IsAccepted}
+use Rattle.vs_flow.proofs.{Entries.same_flow_true, Tables.with_entry_sound, Tables.IsAccepted}
 use Rattle.vs_header.specs.declared.Header.{Header}
 use Rattle.vs_history.specs.Packets.{is_request, is_rst}
 use Rattle.vs_history.specs.declared.TheConstants.{BUF_ALLOC}
@@ -23,12 +22,13 @@ use Rattle.vs_replies.specs.Owed.{reply_to}
 use Rattle.vs_matching.specs.Both.{Both, IsSound, Opens, Seat, Takes, TakesEvent, after_packet, answered}
 use Rattle.vs_matching.specs.Ends.{Ends, FlowEnd, ends_of, entries_of, replaced}
 use Rattle.vs_matching.specs.Steps.{left, with_end, request_on, refused, taken}
-use Rattle.vs_matching.proofs.Both.{driver_accepts}
-use Rattle.vs_matching.proofs.Slots.{added_slot, changed_slot, found_by, no_entry, one_end}
+use Rattle.vs_matching.proofs.{Both.driver_accepts, Slots.added_slot, Slots.changed_slot, Slots.found_by, Slots.no_entry, Slots.one_end}
 use Rattle.vs_driver_parts.specs.State.{DriverConnection, DriverEntry, DriverState, GoneConnection}
+use Rattle.vs_driver_parts.specs.Connections.{connect_refusal, connected, is_full, is_spent, next_flow, waits_no_more, with_connection}
+use Rattle.vs_driver_parts.specs.Connections.{with_opened, with_request}
+use Rattle.vs_driver_parts.specs.Receiving.{after_verdict, ends_connection, is_request as asks, may_open, on_known, on_packet, on_unknown}
+use Rattle.vs_driver_parts.specs.Receiving.{with_reply}
 use Rattle.vs_driver_parts.specs.declared.limits.TheConstants.{LAST_ID, LAST_PORT, SLOTS}
-use Rattle.vs_driver_parts.specs.Connections.{connect_refusal, connected, is_full, is_spent, next_flow, waits_no_more, with_connection, with_opened, with_request}
-use Rattle.vs_driver_parts.specs.Receiving.{after_verdict, ends_connection, is_request as asks, may_open, on_known, on_packet, on_unknown, with_reply}
 use Rattle.vs_driver_parts.proofs.Delivers.{delivers, named_rw}
 use Rattle.vs_header.specs.Op.{op_named}
 use Rattle.vs_header.specs.declared.Op.TheVariants as op
@@ -36,25 +36,21 @@ use Rattle.vs_history.specs.Packets.{is_rw}
 use Rattle.std.proofs.Common.{length-append}
 use Rattle.std.proofs.lemmas.List.{map-append}
 use Rattle.vs_driver_parts.proofs.Packets.{packet_known, packet_unknown}
-use Rattle.vs_driver_parts.specs.Connections.{gone_as, is_let_go}
-use Rattle.vs_driver_parts.specs.Receiving.{after_packet as as_heard}
-use Rattle.vs_matching.proofs.Both.{next_is_fair}
-use Rattle.vs_matching.proofs.Fair.{got_in_order, heard_all}
+use Rattle.vs_driver_parts.specs.{Connections.gone_as, Connections.is_let_go, Receiving.after_packet as as_heard}
+use Rattle.vs_matching.proofs.{Both.next_is_fair, Fair.got_in_order, Fair.heard_all}
 use Rattle.vs_pipes.specs.Drains.{receives}
-use Rattle.vs_pipes.proofs.Logs.{got_after_put, got_passes, none_passed, passed_after_got, passed_after_put, put_passes}
+use Rattle.vs_pipes.proofs.Logs.{got_after_put, got_passes, none_passed, passed_after_got, passed_after_put, put_passes, nothing_more}
 use Rattle.vs_world.proofs.Received.{opened_received, same_received}
 use Rattle.vs_pipes.proofs.Steps as steps
 use Rattle.vs_pipes.proofs.Steps.{comes_in, delivers_to, hears_less, only_delivered, stays_still}
 use Rattle.vs_world.proofs.Receives.{after_got_empty, got_empty, hears, leaves, none_read, passes_by}
-use Rattle.vs_world.specs.Pipes.{put_on}
-use Rattle.vs_world.proofs.Payloads.{nothing_more, sent_empty, sent_got}
-use Rattle.vs_world.specs.Sides.{driver_ends, flow_to_host}
-use Rattle.vs_world.proofs.DriverSide.{DriverHolds, Holds, Kept, ReplyFits, end_in, entry_fits, held_in, holds_changed, left_broken, left_ends, left_holds, seated}
-use Rattle.vs_world.proofs.Entries.{FlowFits, fits_with_entry}
+use Rattle.vs_world.proofs.Payloads.{sent_empty, sent_got}
+use Rattle.vs_world.proofs.DriverSide.{DriverHolds, Holds, Kept, ReplyFits, end_in, entry_fits, held_in, holds_changed, left_broken}
+use Rattle.vs_world.proofs.{DriverSide.left_ends, DriverSide.left_holds, DriverSide.seated, Entries.FlowFits, Entries.fits_with_entry}
+use Rattle.vs_world.proofs.{Runs.one_step, Wire.PutsFit, Wire.owed_fits}
+use Rattle.vs_world.specs.{Pipes.put_on, Sides.driver_ends, Sides.flow_to_host}
 use Rattle.vs_device_log.specs.Honest.{HoldsBytes}
 use Rattle.vs_device_log.proofs.Fits.{delivered, fits_after}
-use Rattle.vs_world.proofs.Runs.{one_step}
-use Rattle.vs_world.proofs.Wire.{PutsFit, owed_fits}
 
 module _ (device : Seat) where
   abbrev at_part : Ends → Log → Both

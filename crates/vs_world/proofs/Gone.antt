@@ -1,20 +1,16 @@
 -- Connections that are gone: what is read of them, and when one is closed.
-use Rattle.std.proofs.Common.{◌≡◌, ◌≢◌, ℕ, zero, suc, ◌<◌, ◌==◌, nat_lt, not, Bool, true, false, cond, List, [], ◌∷◌, ◌++◌, length, drop, take, get_or, refl, sym, ap, subst, ◌∙◌, arith}
+use Rattle.std.proofs.Common.{◌≡◌, ◌≢◌, ℕ, zero, suc, ◌<◌, ◌==◌, nat_lt, not, Bool, true, false, cond, List, [], ◌∷◌, ◌++◌, length, drop}
+use Rattle.std.proofs.Common.{take, get_or, refl, sym, ap, subst, ◌∙◌, arith, append_assoc, take-append-drop}
 use Rattle.std.specs.List.{All}
 use Rattle.std.proofs.lemmas.Bool.Decides.{nat_tests}
-use Rattle.std.proofs.Common.{append_assoc, take-append-drop}
 use Rattle.std.proofs.lemmas.List.{get_or_default}
-use Rattle.std.proofs.lemmas.List.Elements.{All-filter}
-use Rattle.std.proofs.lemmas.List.Kept.{AllPairs-filter}
-use Rattle.vs_flow.specs.Flow.{same_flow}
+use Rattle.std.proofs.lemmas.List.{Elements.All-filter, Kept.AllPairs-filter}
+use Rattle.vs_flow.specs.{Flow.same_flow, Table.Table}
 use Rattle.vs_flow.proofs.Entries.{same_flow_true}
-use Rattle.vs_flow.specs.Table.{Table}
 use Rattle.vs_flow.specs.declared.flow.Flow.{Flow}
 use Rattle.vs_page.proofs.Flows.{same_self}
-use Rattle.vs_page.specs.Fair.{IsPrefixOf}
-use Rattle.vs_page.specs.Log.{Driver, Log}
-use Rattle.vs_driver_parts.specs.SlotFields.{AreNumbered}
-use Rattle.vs_driver_parts.specs.State.{DriverConnection, DriverEntry, GoneConnection}
+use Rattle.vs_page.specs.{Fair.IsPrefixOf, Log.Driver, Log.Log}
+use Rattle.vs_driver_parts.specs.{SlotFields.AreNumbered, State.DriverConnection, State.DriverEntry, State.GoneConnection}
 use Rattle.vs_driver_parts.specs.Connections.{all_gone_after_read, without_gone}
 use Rattle.vs_driver_parts.proofs.Numbers.{numbers_gone_without}
 use Rattle.vs_pipes.specs.Drains.{Drains, got_on, receives}

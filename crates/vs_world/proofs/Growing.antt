@@ -1,11 +1,11 @@
 -- Logs grow.
-use Rattle.std.proofs.Common.{◌≡◌, List, [], ◌∷◌, ◌++◌, refl, ap, subst, ◌∙◌}
+use Rattle.std.proofs.Common.{◌≡◌, List, [], ◌∷◌, ◌++◌, refl, ap, subst, ◌∙◌, ℕ}
 use Rattle.vs_page.specs.Log.{Device, Driver, Log, Role}
 use Rattle.vs_page.specs.declared.log.LogEntry.TheVariants.{GotEvent, GotPacket, Mark, PutEvent, PutPacket}
-use Rattle.vs_matching.specs.Both.{Asks, Both, Decides, Happening, MakesReset, Opens, Pays, PutsEvent, Replies, Sends, Step, Takes, TakesEvent, TakesReset, at, happens, log_after, run}
+use Rattle.vs_matching.specs.Both.{Asks, Both, Decides, Happening, MakesReset, Opens, Pays, PutsEvent, Replies, Sends, Step, Takes}
+use Rattle.vs_matching.specs.Both.{TakesEvent, TakesReset, at, happens, log_after, run}
 use Rattle.vs_matching.specs.Steps.{owed_on, payload_on, reply_on, request_on}
 use Rattle.vs_world.specs.Sides.{Runs}
-use Rattle.std.proofs.Common.{ℕ}
 
 -- A log and newer entries.
 abbrev pub Grows : Log → Log → Type 0

@@ -1,31 +1,24 @@
 -- Each call of the guest's, whole, is a list of events.
-use Rattle.std.proofs.Common.{◌≡◌, ℕ, zero, suc, ◌==◌, ◌&&◌, Bool, true, false, cond, List, [], ◌∷◌, ◌++◌, length, Option, Some, None, refl, sym, ap, subst, ◌∙◌}
+use Rattle.std.proofs.Common.{◌≡◌, ℕ, zero, suc, ◌==◌, ◌&&◌, Bool, true, false, cond, List, [], ◌∷◌, ◌++◌, length, Option, Some, None, refl}
+use Rattle.std.proofs.Common.{sym, ap, subst, ◌∙◌}
 use Rattle.vs_contents.specs.CallTree.{Done, Ask, bind, played, while_up_to}
-use Rattle.vs_ring_port.specs.DriverCalls.{driver_answer, Reap}
-use Rattle.vs_ring_port.specs.EndLog.{EndLog, Pages}
-use Rattle.vs_ring_port.specs.Lists.{Rings, oldest}
+use Rattle.vs_ring_port.specs.{DriverCalls.driver_answer, DriverCalls.Reap, EndLog.EndLog, EndLog.Pages, Lists.Rings, Lists.oldest}
 use Rattle.vs_ring_port.specs.declared.queue.Queue.TheVariants as q
-use Rattle.vs_driver_parts.specs.Conversations.{DriverTree, reap_all, reap_one, reaped}
-use Rattle.vs_driver_parts.specs.State.{DriverState}
+use Rattle.vs_driver_parts.specs.Conversations.{DriverTree, reap_all, reap_one, reaped, connect_with_page, no_credit, not_sent, payload_of}
+use Rattle.vs_driver_parts.specs.Conversations.{send_on, send_stopped, send_with_credit, send_with_page}
+use Rattle.vs_driver_parts.specs.State.{DriverState, DriverEntry, entry_known_as}
+use Rattle.vs_driver_parts.specs.Connections.{connect_refusal, flow_of, next_flow, with_end}
 use Rattle.std.proofs.Common.{Result, Ok, Err}
 use Rattle.vs_conn.specs.End.{may_send_of, wanting_credit}
 use Rattle.vs_conn.specs.declared.end.Stop.{Stop}
 use Rattle.vs_flow.specs.declared.flow.Flow.{Flow}
-use Rattle.vs_driver_parts.specs.Connections.{connect_refusal, flow_of, next_flow, with_end}
-use Rattle.vs_driver_parts.specs.Conversations.{connect_with_page, no_credit, not_sent, payload_of, send_on, send_stopped, send_with_credit, send_with_page}
-use Rattle.vs_driver_parts.specs.State.{DriverEntry, entry_known_as}
-use Rattle.vs_driver_parts.specs.declared.answers.ConnectError.{ConnectError}
-use Rattle.vs_driver_parts.specs.declared.answers.Sent.{Sent}
+use Rattle.vs_driver_parts.specs.declared.answers.{ConnectError.ConnectError, Sent.Sent}
 use Rattle.vs_driver_parts.specs.declared.answers.Sent.TheVariants as sent
 use Rattle.vs_world.specs.Calls.{GuestCall, ReplyTo, Connect, Listen, Unlisten, Accept, Send, Recv, Shutdown, Close, LookAt, is_right}
-use Rattle.vs_driver_parts.specs.Steps.{connects, sends, sends_on, sends_with_credit}
-use Rattle.vs_world.specs.GuestSteps.{flow_named, makes_call}
-use Rattle.vs_world.specs.Plays.{guest_line}
-use Rattle.vs_world.specs.Events.{call_made}
-use Rattle.vs_world.specs.Events.{Event, GuestCalls, GuestTakes, driver_step, happens, is_at_rest, none_staged, run, where_possible, works_on}
-use Rattle.vs_driver_parts.specs.Steps.{takes_page}
-use Rattle.vs_world.specs.Steps.{Leads}
-use Rattle.vs_world.specs.World.{World}
+use Rattle.vs_world.specs.{GuestSteps.flow_named, GuestSteps.makes_call, Plays.guest_line}
+use Rattle.vs_world.specs.Events.{call_made, Event, GuestCalls, GuestTakes, driver_step, happens, is_at_rest, none_staged, run}
+use Rattle.vs_world.specs.{Events.where_possible, Events.works_on, Steps.Leads, World.World}
+use Rattle.vs_driver_parts.specs.Steps.{connects, sends, sends_on, sends_with_credit, takes_page}
 
 run_append : (xs ys : List Event) (w : World) → run (xs ++ ys) w ≡ run ys (run xs w)
 run_append [] ys w = refl

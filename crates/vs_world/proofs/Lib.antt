@@ -28,7 +28,7 @@ pub mod Receives
 pub mod Streams
 pub mod Bytes
 pub mod Growing
-pub mod Prefixes
+pub mod Carried
 pub mod GuestLines
 pub mod Polls
 pub mod DeviceLeads

@@ -1,21 +1,18 @@
 -- The world in which nothing has happened yet.
-use Rattle.std.proofs.Common.{◌≡◌, ℕ, zero, suc, ◌+◌, ◌^◌, ◌<◌, ◌==◌, Bool, true, false, cond, List, [], ◌∷◌, refl, sym, ap, subst, ◌∙◌, arith}
+use Rattle.std.proofs.Common.{◌≡◌, ℕ, zero, suc, ◌+◌, ◌^◌, ◌<◌, ◌==◌, Bool, true, false, cond, List, [], ◌∷◌, refl, sym, ap, subst, ◌∙◌}
+use Rattle.std.proofs.Common.{arith, ◌-◌, slice_get, Some, None}
 use Rattle.vs_contents.specs.CallTree.{Done, Ask, bind, while_up_to, played}
 use Rattle.vs_flow.specs.Table.{IsTable}
 use Rattle.vs_flow.specs.declared.flow.TheConstants.{ASSIGNED_FIRST}
-use Rattle.vs_outside.specs.Host.{HostContents}
+use Rattle.vs_outside.specs.Host.{HostContents, Stream}
 use Rattle.vs_page.specs.Log.{Driver, Log}
-use Rattle.vs_pipes.specs.Drains.{got_on}
-use Rattle.std.proofs.Common.{◌-◌, slice_get, Some, None}
+use Rattle.vs_pipes.specs.{Drains.got_on, Streamed.IsStreamed, Streamed.Seen, Streamed.look, Streamed.seen}
 use Rattle.std.specs.Option.{option_map}
-use Rattle.vs_outside.specs.Host.{Stream}
-use Rattle.vs_pipes.specs.Streamed.{IsStreamed, Seen, look, seen}
-use Rattle.vs_pipes.proofs.Cids.{SameCids, no_cids}
+use Rattle.vs_matching.proofs.Voices.{AreVoiced, voices_start}
 use Rattle.vs_proxy_parts.specs.Turns.{new_proxy}
 use Rattle.vs_world.specs.Received.{IsReceived}
 use Rattle.vs_ring_port.specs.DriverCalls.{driver_answer, Stage, Publish}
-use Rattle.vs_ring_port.specs.EndLog.{EndLog, all_put, entries_marked}
-use Rattle.vs_ring_port.specs.Lists.{Rings}
+use Rattle.vs_ring_port.specs.{EndLog.EndLog, EndLog.all_put, EndLog.entries_marked, Lists.Rings}
 use Rattle.vs_ring_port.specs.declared.queue.Queue.TheVariants.{Rx, Event}
 use Rattle.vs_ring_list.specs.Ends.{empty_ends}
 use Rattle.vs_matching.specs.Both.{Both}
@@ -24,17 +21,12 @@ use Rattle.vs_matching.proofs.Both.{start_sound}
 use Rattle.vs_driver_parts.specs.Conversations.{DriverTree, load_cid, new_of, new_state, post_events, post_one, posts, publish_of}
 use Rattle.vs_driver_parts.specs.State.{DriverState}
 use Rattle.vs_driver_parts.specs.declared.limits.TheConstants.{FIRST_PORT}
-use Rattle.vs_world.specs.Pipes.{IsFresh, put_on}
-use Rattle.vs_world.specs.Pages.{AllHold}
+use Rattle.vs_world.specs.{Pipes.IsFresh, Pipes.put_on, Pages.AllHold}
 use Rattle.vs_world.specs.Events as events
-use Rattle.vs_world.specs.Events.{happens, run}
-use Rattle.vs_world.specs.Sides.{both_of, driver_ends, log_with_staged}
+use Rattle.vs_world.specs.{Events.happens, Events.run, Sides.both_of, Sides.driver_ends, Sides.log_with_staged}
 use Rattle.vs_world.specs.World.{World, opening, first_cid}
-use Rattle.vs_world.proofs.DriverSide.{DriverHolds}
-use Rattle.vs_world.proofs.Played.{opening_queued}
-use Rattle.vs_world.proofs.Runs.{and_then}
-use Rattle.vs_world.proofs.Sound.{Goes, IsWell, goes_still, happens_goes}
-use Rattle.vs_world.proofs.Wire.{PutsFit}
+use Rattle.vs_world.proofs.{DriverSide.DriverHolds, Played.opening_queued, Runs.and_then}
+use Rattle.vs_world.proofs.{Sound.Goes, Sound.IsWell, Sound.goes_still, Sound.happens_goes, Wire.PutsFit}
 
 -- Receive and event pages are on their way, and nothing else.
 record IsQuiet (lists : Rings) (log : EndLog) : Type 0 where
@@ -218,7 +210,7 @@ module _ (n : ℕ) (host : HostContents) where
     known = subst (λ (c : ℕ). c < 2 ^ 64) (sym new.cid) (omega arith);
     broken = ap (λ (s : DriverState). s.broken) new.state;
     overrun = refl;
-    cids = subst SameCids opening_is (no_cids (both.new_seat first_cid FIRST_PORT).part (both.new_seat first_cid ASSIGNED_FIRST).part refl refl);
+    cids = subst (AreVoiced first_cid) opening_is (voices_start first_cid FIRST_PORT ASSIGNED_FIRST);
     streams = none_streamed host (opening n host).proxy.next_port;
     received = none_received n (opening n host).driver (log_with_staged (opening n host).rings.driver) new.state;
     sent = λ f. ap (put_on f) (sym log_empty);

@@ -1,24 +1,16 @@
 -- What an entry of the driver's log adds to the payload that it put.
-use Rattle.std.proofs.Common.{◌≡◌, ℕ, zero, suc, length, take, Bool, true, false, cond, List, [], ◌∷◌, ◌++◌, refl, sym, ap, ◌∙◌}
-use Rattle.std.proofs.lemmas.List.{append-nil}
+use Rattle.std.proofs.Common.{◌≡◌, ℕ, zero, suc, length, take, Bool, true, false, cond, List, [], ◌∷◌, ◌++◌, refl, ap, ◌∙◌}
 use Rattle.vs_flow.specs.Flow.{same_flow}
 use Rattle.vs_flow.specs.declared.flow.Flow.{Flow}
-use Rattle.vs_history.specs.History.{History, Got, Put, puts}
+use Rattle.vs_history.specs.History.{History, Got, puts}
 use Rattle.vs_history.specs.declared.packet.Packet.{Packet}
-use Rattle.vs_page.specs.Fair.{payload_of}
-use Rattle.vs_page.specs.Log.{Driver, Log, flow_got, flow_put, history_of}
+use Rattle.vs_page.specs.{Fair.payload_of, Log.Driver, Log.Log, Log.flow_got, Log.flow_put, Log.history_of}
 use Rattle.vs_page.specs.declared.log.LogEntry.TheVariants.{GotPacket, PutPacket}
 use Rattle.vs_world.specs.Pipes.{put_on}
-
-pub nothing_more : (xs : List ℕ) → xs ≡ xs ++ []
-nothing_more xs = sym (append-nil xs)
-
-put_by : (b : Bool) (p : Packet) (h : History) → payload_of (puts (cond b (Put p ∷ h) h)) ≡ payload_of (puts h) ++ cond b p.payload []
-put_by true p h = refl
-put_by false p h = nothing_more (payload_of (puts h))
+use Rattle.vs_pipes.proofs.Logs.{nothing_more, put_more_by}
 
 pub sent_put : (p : Packet) (log : Log) (f : Flow) → put_on f (PutPacket p ∷ log) ≡ put_on f log ++ cond (same_flow f (flow_put Driver p)) p.payload []
-sent_put p log f = put_by (same_flow f (flow_put Driver p)) p (history_of Driver f log)
+sent_put p log f = put_more_by (same_flow f (flow_put Driver p)) p (history_of Driver f log)
 
 same_either : (b : Bool) (xs : List ℕ) → xs ≡ [] → cond b xs [] ≡ []
 same_either true xs is = is

@@ -1,5 +1,7 @@
 -- A poll of the driver's is a list of events.
-use Rattle.std.proofs.Common.{◌≡◌, ℕ, zero, suc, ◌+◌, ◌==◌, ◌&&◌, nat_le, nat_lt, Bool, true, false, cond, List, [], ◌∷◌, length, Option, Some, None, refl, sym, ap, subst, ◌∙◌}
+use Rattle.std.proofs.Common.{◌≡◌, ℕ, zero, suc, ◌+◌, ◌==◌, ◌&&◌, nat_le, nat_lt, Bool, true, false, cond, List, [], ◌∷◌, length, Option}
+use Rattle.std.proofs.Common.{Some, None, refl, sym, ap, subst, ◌∙◌}
+use Rattle.std.proofs.lemmas.Bool.{and_parts}
 use Rattle.vs_contents.specs.CallTree.{Done, Ask, bind, for_each, played, while_up_to}
 use Rattle.vs_conn.specs.End.{owes_of}
 use Rattle.vs_conn.specs.declared.end.Owed.{Owed}
@@ -12,17 +14,17 @@ use Rattle.vs_ring_port.specs.declared.queue.Queue.{Queue}
 use Rattle.vs_ring_port.specs.declared.queue.Queue.TheVariants as q
 use Rattle.vs_header.specs.Packet.{header_bytes}
 use Rattle.vs_conn.specs.declared.end.TheConstants.{OWED_MAX}
-use Rattle.vs_driver_parts.specs.Conversations.{all_taken, pay_all, pay_and_publish, pay_slot, poll_of, poll_packets, poll_puts, poll_reaps, polled, publish_and_pay, put_all, put_replies, reap_all, take_all}
-use Rattle.vs_driver_parts.specs.Conversations.{after_paying, has_page, one_more_in_flight, one_put, owed_bytes, put_owed_of, put_reply_of, reply_header, stage_packet}
-use Rattle.vs_ring_port.specs.EndLog.{with_pages}
-use Rattle.vs_driver_parts.specs.Conversations.{DriverTree, Round, event_reaped, goes_on_with, packet_reaped, publish_of, published, put_owed, put_reply, staged_again, start, take_event, take_packet}
-use Rattle.vs_driver_parts.specs.Receiving.{after_reset, is_reset_event, on_page}
-use Rattle.vs_driver_parts.specs.State.{DriverEntry, DriverState}
-use Rattle.vs_driver_parts.specs.declared.limits.TheConstants.{REPLIES_FULL}
-use Rattle.vs_world.specs.Events.{Event, GuestPays, GuestPublishes, GuestReplies, GuestTakes, driver_step, happens, is_at_rest, none_staged, works_on}
+use Rattle.vs_driver_parts.specs.Conversations.{all_taken, pay_all, pay_and_publish, pay_slot, poll_of, poll_packets, poll_puts, poll_reaps}
+use Rattle.vs_driver_parts.specs.Conversations.{polled, publish_and_pay, put_all, put_replies, reap_all, take_all, after_paying, has_page}
+use Rattle.vs_driver_parts.specs.Conversations.{one_more_in_flight, one_put, owed_bytes, put_owed_of, put_reply_of, reply_header}
+use Rattle.vs_driver_parts.specs.Conversations.{stage_packet, DriverTree, Round, event_reaped, goes_on_with, packet_reaped, publish_of}
+use Rattle.vs_driver_parts.specs.Conversations.{published, put_owed, put_reply, staged_again, start, take_event, take_packet}
+use Rattle.vs_driver_parts.specs.{Receiving.after_reset, Receiving.is_reset_event, Receiving.on_page, State.DriverEntry, State.DriverState}
 use Rattle.vs_driver_parts.specs.Steps.{stages_owed, stages_reply, takes_page}
-use Rattle.vs_world.specs.Steps.{Leads}
-use Rattle.vs_world.specs.World.{World}
+use Rattle.vs_ring_port.specs.EndLog.{with_pages}
+use Rattle.vs_driver_parts.specs.declared.limits.TheConstants.{REPLIES_FULL}
+use Rattle.vs_world.specs.Events.{Event, GuestPays, GuestPublishes, GuestReplies, GuestTakes, driver_step, happens, is_at_rest, none_staged}
+use Rattle.vs_world.specs.{Events.works_on, Steps.Leads, World.World}
 use Rattle.vs_world.proofs.GuestLines.{leads_none, leads_one, leads_then, played_bind, possible_is, reaps_all, with_driver}
 
 -- Events lead to this driver and these rings, and only that queue is worked on.
@@ -235,14 +237,10 @@ all_three false b c x y z = absurd cc
 all_three true false c x y z = absurd cc
 all_three true true false x y z = absurd cc
 
-both_true : (a b : Bool) → (a && b) ≡ true → (a ≡ true) × (b ≡ true)
-both_true true b is = (refl, is)
-both_true false b is = absurd cc
-
 pub published_rests : (queue : Queue) (staged : Pages) → works_on queue staged ≡ true → is_at_rest (with_pages queue [] staged) ≡ true
-published_rests q.Rx staged works = let w = both_true (none_staged staged.tx) (none_staged staged.event) works in all_three _ _ _ refl w.0 w.1
-published_rests q.Tx staged works = let w = both_true (none_staged staged.rx) (none_staged staged.event) works in all_three _ _ _ w.0 refl w.1
-published_rests q.Event staged works = let w = both_true (none_staged staged.rx) (none_staged staged.tx) works in all_three _ _ _ w.0 w.1 refl
+published_rests q.Rx staged works = let w = and_parts (none_staged staged.tx) (none_staged staged.event) works in all_three _ _ _ refl w.0 w.1
+published_rests q.Tx staged works = let w = and_parts (none_staged staged.rx) (none_staged staged.event) works in all_three _ _ _ w.0 refl w.1
+published_rests q.Event staged works = let w = and_parts (none_staged staged.rx) (none_staged staged.tx) works in all_three _ _ _ w.0 w.1 refl
 
 pub rest_works : (queue : Queue) (staged : Pages) → is_at_rest staged ≡ true → works_on queue staged ≡ true
 rest_works queue staged rest = by queue (none_staged staged.rx) (none_staged staged.tx) (none_staged staged.event) refl refl refl rest

@@ -1,34 +1,25 @@
 -- A transport reset that the proxy makes is one of the steps of the two ends.
-use Rattle.std.proofs.Common.{◌≡◌, ℕ, ◌^◌, ◌<◌, Bool, true, false, cond, List, [], ◌∷◌, Option, Some, None, Result, Ok, Err, refl, sym, subst, arith}
+use Rattle.std.proofs.Common.{◌≡◌, ℕ, ◌^◌, ◌<◌, Bool, true, false, cond, List, [], ◌∷◌, Option, Some, None, Result, Ok, Err, refl, sym}
+use Rattle.std.proofs.Common.{subst, arith}
 use Rattle.vs_contents.specs.CallTree.{Done, Ask, bind, for_each, played}
-use Rattle.vs_flow.specs.Table.{IsTable, entry_under, slots}
+use Rattle.vs_flow.specs.Table.{IsTable, entry_under, slots, emptied}
 use Rattle.vs_flow.proofs.Tables.{with_value_sound}
 use Rattle.vs_outside.specs.Host.{HostContents, after_close}
 use Rattle.vs_page.specs.Log.{Device}
 use Rattle.vs_page.specs.declared.log.LogEntry.TheVariants.{Mark}
-use Rattle.vs_ring_port.specs.Contents.{PublishCid}
-use Rattle.vs_ring_port.specs.EndLog.{EndLog}
+use Rattle.vs_ring_port.specs.{Contents.PublishCid, EndLog.EndLog}
 use Rattle.vs_ring_port.specs.declared.failure.Failure.{Failure}
 use Rattle.vs_matching.specs.Both.{IsSound, MakesReset, Seat}
-use Rattle.vs_device_parts.specs.Calls.{CloseStream, DeviceTree, Ring}
-use Rattle.vs_device_parts.specs.Connections.{stream_closed, with_connection}
-use Rattle.vs_device_parts.specs.State.{DeviceEntry, DeviceState}
-use Rattle.vs_device_parts.specs.Turns.{after_reset, close_slot}
-use Rattle.vs_proxy_parts.specs.Handshakes.{streams_of}
-use Rattle.vs_proxy_parts.specs.State.{ProxyState, with_device}
+use Rattle.vs_device_parts.specs.{Calls.CloseStream, Calls.DeviceTree, Calls.Ring, Connections.stream_closed, Connections.with_connection}
+use Rattle.vs_device_parts.specs.{State.DeviceEntry, State.DeviceState, Turns.after_reset, Turns.close_slot}
+use Rattle.vs_proxy_parts.specs.{Handshakes.streams_of, State.ProxyState, State.with_device}
 use Rattle.vs_proxy_parts.specs.Turns.{close_handshake, proxy_reset_of, reset_with}
 use Rattle.vs_world.specs.Answers.{Around, answer_around}
-use Rattle.vs_world.proofs.Chains.{HoldsRx}
-use Rattle.vs_world.proofs.DeviceSide.{DeviceHolds, Kept, seated}
-use Rattle.vs_world.proofs.ProxySide.{Over, StreamedWith, stays_as}
-use Rattle.vs_flow.specs.Table.{emptied}
+use Rattle.vs_world.proofs.{Chains.HoldsRx, DeviceSide.DeviceHolds, DeviceSide.Kept, DeviceSide.seated}
+use Rattle.vs_world.proofs.{ProxySide.Over, ProxySide.StreamedWith, ProxySide.stays_as, Streams.StreamedIf, Streams.emptied_streams}
+use Rattle.vs_world.proofs.{Runs.one_step, Wire.PutsFit}
 use Rattle.vs_pipes.specs.Streamed.{look}
-use Rattle.vs_pipes.proofs.HostCalls.{closed_host}
-use Rattle.vs_pipes.proofs.Opens.{no_lines}
-use Rattle.vs_pipes.proofs.Streamed.{same_streamed}
-use Rattle.vs_world.proofs.Streams.{StreamedIf, emptied_streams}
-use Rattle.vs_world.proofs.Runs.{one_step}
-use Rattle.vs_world.proofs.Wire.{PutsFit}
+use Rattle.vs_pipes.proofs.{HostCalls.closed_host, Opens.no_lines, Streamed.same_streamed}
 
 -- Three conversations one after another.
 played_twice : {A B C : Type 0} (p : DeviceTree A) (f : A → DeviceTree B) (g : B → DeviceTree C) (a : Around)

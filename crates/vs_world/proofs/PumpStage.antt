@@ -9,12 +9,9 @@ use Rattle.vs_device_parts.specs.Calls.{CloseStream, DeviceTree, ShutWrite, Writ
 use Rattle.vs_device_parts.specs.Connections.{cut_off, with_connection, with_fault}
 use Rattle.vs_device_parts.specs.State.{DeviceEntry, DeviceState}
 use Rattle.vs_device_parts.specs.Streams.{Writing, is_written_out, pump_of, pump_slot, shut_write, to_write, write_answered, write_pending}
-use Rattle.vs_proxy_parts.specs.State.{ProxyState, with_device}
-use Rattle.vs_proxy_parts.specs.Turns.{device_after, pump_stage}
-use Rattle.vs_world.specs.Answers.{Around, answer_around}
 use Rattle.vs_device_parts.specs.Steps.{shuts_write, writes, writes_on, writing}
-use Rattle.vs_world.specs.Events.{DeviceShutsWrite, DeviceWrites}
-use Rattle.vs_world.specs.Steps.{Leads}
+use Rattle.vs_proxy_parts.specs.{State.ProxyState, State.with_device, Turns.device_after, Turns.pump_stage}
+use Rattle.vs_world.specs.{Answers.Around, Answers.answer_around, Events.DeviceShutsWrite, Events.DeviceWrites, Steps.Leads}
 use Rattle.vs_world.specs.World.{World, around}
 use Rattle.vs_world.proofs.DeviceLeads as leads
 use Rattle.vs_world.proofs.DeviceLeads.{Does, device_event, does_nothing, does_then, plays, with_proxy}

@@ -1,6 +1,5 @@
 -- Each call on the rings keeps what is under way between the two logs.
 use Rattle.std.proofs.Common.{◌≡◌, ℕ, List, [], ◌∷◌, ◌++◌, take, Option, Some, None, refl, sym, ap, ◌∙◌, append_assoc}
-use Rattle.std.proofs.lemmas.List.{append-nil}
 use Rattle.vs_history.specs.declared.packet.Packet.{Packet}
 use Rattle.vs_page.specs.Held.{packet_held, event_held, held_in, listed}
 use Rattle.vs_page.specs.Log.{Log, packets_put, packets_got, events_put, events_got}
@@ -14,13 +13,7 @@ use Rattle.vs_ring_port.specs.Lists.{Rings, oldest, all_but_oldest, after_return
 use Rattle.vs_ring_port.specs.declared.queue.Queue.{Queue}
 use Rattle.vs_ring_port.specs.declared.queue.Queue.TheVariants.{Rx, Tx, Event}
 use Rattle.vs_world.specs.Laws.{AreQueued}
-
-pub held_in-append : {A : Type 0} (held : List ℕ → Option A) (older newer : List (List ℕ))
-    → held_in held (older ++ newer) ≡ held_in held newer ++ held_in held older
-held_in-append held [] newer = sym (append-nil (held_in held newer))
-held_in-append held (page ∷ older) newer =
-    ap (λ xs. xs ++ listed (held page)) (held_in-append held older newer) ∙ append_assoc (held_in held newer) (held_in held older)
-    (listed (held page))
+use Rattle.vs_ring_list.proofs.Ties.{held_in-append}
 
 -- What one more entry adds, and what it leaves.
 pub record Adds (old new : Log) (ps qs : List Packet) (is js : List ℕ) : Type 0 where

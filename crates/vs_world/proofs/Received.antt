@@ -1,15 +1,14 @@
 -- What the driver's connections received, through each change of them.
-use Rattle.std.proofs.Common.{◌≡◌, ◌≢◌, ℕ, ◌+◌, ◌<◌, ◌≤◌, Bool, true, false, List, [], ◌∷◌, ◌++◌, length, get_or, Contains, refl, sym, ap, subst, ◌∙◌}
+use Rattle.std.proofs.Common.{◌≡◌, ◌≢◌, ℕ, ◌+◌, ◌<◌, ◌≤◌, Bool, true, false, List, [], ◌∷◌, ◌++◌, length, get_or, Contains, refl, sym, ap}
+use Rattle.std.proofs.Common.{subst, ◌∙◌}
 use Rattle.std.specs.List.{All}
-use Rattle.std.proofs.lemmas.List.Elements.{All-contains, All-push, All-weaker}
-use Rattle.std.proofs.lemmas.List.Quantifiers.{all_pairs_push}
+use Rattle.std.proofs.lemmas.List.{Elements.All-contains, Elements.All-push, Elements.All-weaker, Quantifiers.all_pairs_push}
 use Rattle.vs_flow.specs.Flow.{is_assigned, same_flow}
 use Rattle.vs_flow.specs.Table.{IsTable, Table, next_entry, with_entry, with_value, without}
 use Rattle.vs_flow.specs.declared.flow.Flow.{Flow}
 use Rattle.vs_flow.proofs.Entries.{same_flow_true}
 use Rattle.vs_page.proofs.Flows.{same_self}
-use Rattle.vs_page.specs.Fair.{IsPrefixOf}
-use Rattle.vs_page.specs.Log.{Driver, Log}
+use Rattle.vs_page.specs.{Fair.IsPrefixOf, Log.Driver, Log.Log}
 use Rattle.vs_driver_parts.specs.State.{DriverConnection, DriverEntry, GoneConnection}
 use Rattle.vs_driver_parts.proofs.Ids.{value_of}
 use Rattle.vs_driver_parts.proofs.Numbers.{numbers_left, numbers_with_entry, numbers_with_value, numbers_without}

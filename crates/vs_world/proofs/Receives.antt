@@ -1,14 +1,13 @@
 -- What the driver's connections received, through its small changes.
-use Rattle.std.proofs.Common.{◌≡◌, ℕ, zero, suc, ◌==◌, Bool, true, false, cond, List, [], ◌∷◌, ◌++◌, length, take, Contains, Option, Some, None, refl, sym, ap, subst, ◌∙◌, arith}
+use Rattle.std.proofs.Common.{◌≡◌, ℕ, ◌==◌, Bool, true, false, cond, List, [], ◌∷◌, ◌++◌, length, take, Contains, Option, Some, None, refl}
+use Rattle.std.proofs.Common.{sym, ap, subst, ◌∙◌, arith}
 use Rattle.std.proofs.lemmas.Bool.Decides.{nat_tests}
-use Rattle.std.proofs.lemmas.List.{append-nil, take_min}
-use Rattle.std.proofs.lemmas.Option.{get_or_from_slice_get, slice_get_within}
-use Rattle.vs_flow.specs.Flow.{same_flow}
-use Rattle.vs_flow.specs.Table.{IsTable, entry_of, without}
+use Rattle.std.proofs.lemmas.{List.append-nil, List.take_min, Option.get_or_from_slice_get, Option.slice_get_within}
+use Rattle.std.proofs.Math.Seq.{take-nil}
+use Rattle.vs_flow.specs.{Flow.same_flow, Table.IsTable, Table.entry_of, Table.without}
 use Rattle.vs_flow.specs.declared.flow.Flow.{Flow}
-use Rattle.vs_flow.proofs.Entries.{found_passes, none_found}
+use Rattle.vs_flow.proofs.{Entries.found_passes, Entries.none_found, Lookups.find_place}
 use Rattle.vs_page.proofs.Flows.{same_self}
-use Rattle.vs_flow.proofs.Lookups.{find_place}
 use Rattle.vs_history.specs.declared.packet.Packet.{Packet}
 use Rattle.vs_page.specs.Log.{Driver, Log, flow_got}
 use Rattle.vs_page.specs.declared.log.LogEntry.TheVariants.{GotPacket, PutPacket}
@@ -22,14 +21,11 @@ use Rattle.vs_driver_parts.specs.Connections.{entry_answer, gone_answer, is_at_e
 use Rattle.vs_driver_parts.proofs.Known.{flow_gone, flow_known, recv_gone_some, recv_known, unread_gone_some, unread_known}
 use Rattle.vs_driver_parts.proofs.GoneChanges.{read_none}
 use Rattle.vs_pipes.specs.Drains.{got_on, receives}
-use Rattle.vs_world.specs.Received.{AreReceived, IsReceived}
+use Rattle.vs_world.specs.{Received.AreReceived, Received.IsReceived, Calls.is_on, GuestSteps.bytes_got, Pipes.none_on}
 use Rattle.vs_world.proofs.Gone.{read_received}
-use Rattle.vs_pipes.proofs.Logs.{got_after_got, got_after_put, none_on_any, nothing_more, only_on, passed_after_got, passed_after_put}
 use Rattle.vs_world.proofs.Received.{changed_received, left_received, more_received, same_received, without_received}
+use Rattle.vs_pipes.proofs.Logs.{got_after_got, got_after_put, none_on_any, nothing_more, only_on, passed_after_got, passed_after_put}
 use Rattle.vs_pipes.proofs.Steps.{Goes}
-use Rattle.vs_world.specs.Calls.{is_on}
-use Rattle.vs_world.specs.GuestSteps.{bytes_got}
-use Rattle.vs_world.specs.Pipes.{none_on}
 
 -- What was received, and then more.
 abbrev pub also : (Flow → List ℕ) → (Flow → List ℕ) → Flow → List ℕ
@@ -114,17 +110,13 @@ after_got_empty s log p none r x = same_received r r log (GotPacket p ∷ log) (
 abbrev pub reads_of : ℕ → ℕ → DriverState → Flow → List ℕ
 reads_of id n s f = cond (is_on f (flow_of id s)) (bytes_got (recv_of id n s) (unread_of_id id s)) []
 
-take_none : (n : ℕ) → ◌≡◌ {A = List ℕ} (take n []) []
-take_none zero = refl
-take_none (suc n) = refl
-
 -- Where nothing is unread.
 pub nothing_there : (n : ℕ) (s : DriverState) (log : Log) (at : Flow) (unread : List ℕ) → (length unread == 0) ≡ true
     → Receives (only_on at (take n unread)) s log s log
 nothing_there n s log at (x ∷ xs) is r y = absurd (grind (arith, nat_tests, is))
 nothing_there n s log at [] is r x =
     same_received r (also r (only_on at (take n []))) log log
-    (λ f. sym (ap (λ (bytes : List ℕ). r f ++ only_on at bytes f) (take_none n) ∙ none_on_any at f (r f))) (λ f. refl) (λ f is. is) _ _ _ _ x
+    (λ f. sym (ap (λ (bytes : List ℕ). r f ++ only_on at bytes f) (take-nil n) ∙ none_on_any at f (r f))) (λ f. refl) (λ f is. is) _ _ _ _ x
 
 none_given : (s : State) → (xs : List ℕ) → bytes_got (nothing_read s) xs ≡ []
 none_given state.Asked xs = refl
@@ -133,7 +125,7 @@ none_given state.Live xs = refl
 none_given state.Ended xs = refl
 
 bytes_of : (n : ℕ) (unread : List ℕ) (none : Received) → ((xs : List ℕ) → bytes_got none xs ≡ []) → bytes_got (read_of n unread none) unread ≡ take n unread
-bytes_of n [] none nothing = nothing [] ∙ sym (take_none n)
+bytes_of n [] none nothing = nothing [] ∙ sym (take-nil n)
 bytes_of n (x ∷ xs) none nothing = take_min n (x ∷ xs)
 
 entry_bytes : (n : ℕ) (e : DriverEntry) → bytes_got (entry_answer n e) e.value.unread ≡ take n e.value.unread

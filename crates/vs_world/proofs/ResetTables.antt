@@ -1,35 +1,27 @@
 -- At the step at which an end takes a transport reset its table is empty.
-use Rattle.std.proofs.Common.{◌≡◌, ℕ, ◌+◌, ◌==◌, nat_lt, Bool, true, false, cond, List, [], length, Option, Some, None, Result, Ok, Err, refl, sym, ap, subst, ◌∙◌}
+use Rattle.std.proofs.Common.{◌≡◌, ℕ, ◌+◌, ◌==◌, nat_lt, Bool, true, false, cond, List, [], length, Option, Some, None, Result, Ok, Err}
+use Rattle.std.proofs.Common.{refl, sym, ap, subst, ◌∙◌}
 use Rattle.vs_contents.specs.CallTree.{Done, Ask, bind, for_each, played}
 use Rattle.vs_contents.proofs.Leads.{AllEnds, ends_bind}
 use Rattle.vs_flow.specs.Table.{slots}
 use Rattle.vs_ring_port.specs.Contents.{PublishCid}
 use Rattle.vs_ring_port.specs.DriverCalls.{LoadCid, Publish, Reap, Stage, driver_answer}
-use Rattle.vs_ring_port.specs.EndLog.{EndLog, log_loaded, log_reaped}
-use Rattle.vs_ring_port.specs.Lists.{Rings, after_reap, oldest}
+use Rattle.vs_ring_port.specs.{EndLog.EndLog, EndLog.log_loaded, EndLog.log_reaped, Lists.Rings, Lists.after_reap, Lists.oldest}
 use Rattle.vs_ring_port.specs.declared.failure.Failure.{Failure}
 use Rattle.vs_ring_port.specs.declared.queue.Queue.TheVariants as q
-use Rattle.vs_device_parts.specs.Calls.{DeviceTree, Ring}
-use Rattle.vs_device_parts.specs.State.{DeviceState}
-use Rattle.vs_device_parts.specs.Turns.{after_reset, close_slot}
+use Rattle.vs_device_parts.specs.{Calls.DeviceTree, Calls.Ring, State.DeviceState, Turns.after_reset, Turns.close_slot}
 use Rattle.vs_driver_parts.specs.Conversations.{Round, event_reaped, goes_on_with, staged_again, start}
 use Rattle.vs_driver_parts.specs.Receiving.{is_reset_event}
 use Rattle.vs_driver_parts.specs.Receiving as driver_parts
 use Rattle.vs_driver_parts.specs.declared.limits.TheConstants.{REPLIES_FULL}
-use Rattle.vs_proxy_parts.specs.Handshakes.{streams_of}
-use Rattle.vs_proxy_parts.specs.State.{ProxyState, with_device}
-use Rattle.vs_proxy_parts.specs.Turns.{close_handshake, reset_with}
+use Rattle.vs_proxy_parts.specs.{Handshakes.streams_of, State.ProxyState, State.with_device, Turns.close_handshake, Turns.reset_with}
 use Rattle.vs_world.specs.Events.{GuestTakes, Reset, driver_step, happens, is_guest_cid, reset_made, works_on}
+use Rattle.vs_world.specs.{Laws.IsEmptied, World.World, World.around}
 use Rattle.vs_driver_parts.specs.Steps.{takes_page}
-use Rattle.vs_world.specs.Laws.{IsEmptied}
-use Rattle.vs_world.specs.World.{World, around}
-use Rattle.vs_world.proofs.DeviceLeads.{ends_played}
-use Rattle.vs_world.proofs.DriverResets.{left_all}
-use Rattle.vs_world.proofs.GuestLines.{possible_is}
-use Rattle.vs_world.proofs.Sound.{IsWell}
+use Rattle.vs_world.proofs.{DeviceLeads.ends_played, DriverResets.left_all, GuestLines.possible_is, Sound.IsWell}
 
 -- The device's, and its proxy's.
-all_ends : {A : Type 0} (P : A → Type 0) → ((x : A) → P x) → (tree : DeviceTree A) → AllEnds P tree
+pub all_ends : {A : Type 0} (P : A → Type 0) → ((x : A) → P x) → (tree : DeviceTree A) → AllEnds P tree
 all_ends P all (Done x) = all x
 all_ends P all (Ask call k) = λ a. all_ends P all (k a)
 

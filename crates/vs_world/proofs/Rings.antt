@@ -4,14 +4,12 @@ use Rattle.vs_contents.specs.CallTree.{Done, Ask, played}
 use Rattle.vs_ring_port.specs.Contents.{DeviceCall, Take, Read, Write, Return, Given, PublishCid}
 use Rattle.vs_ring_port.specs.DeviceCalls.{device_answer}
 use Rattle.vs_ring_port.specs.DriverCalls.{DriverCall, Stage, Publish, Reap, LoadCid, driver_answer}
-use Rattle.vs_ring_port.specs.EndLog.{EndLog}
-use Rattle.vs_ring_port.specs.Lists.{Rings, all_but_oldest, after_return}
+use Rattle.vs_ring_port.specs.{EndLog.EndLog, Lists.Rings, Lists.all_but_oldest, Lists.after_return}
 use Rattle.vs_ring_port.specs.declared.queue.Queue.{Queue}
 use Rattle.vs_ring_port.specs.declared.queue.Queue.TheVariants.{Rx, Tx, Event}
 use Rattle.vs_driver_parts.specs.Conversations.{DriverTree}
 use Rattle.vs_device_parts.specs.Calls.{DeviceTree, Call, Ring, Accept, Dial, Label, ReadStream, WriteStream, ShutWrite, CloseStream}
-use Rattle.vs_world.specs.Answers.{Around, answer_around}
-use Rattle.vs_world.specs.Pages.{AllHold}
+use Rattle.vs_world.specs.{Answers.Around, Answers.answer_around, Pages.AllHold}
 
 -- The driver leaves the CID.
 cid_left : (call : DriverCall) (lists : Rings) (log : EndLog) → (driver_answer call (lists, log)).1.0.cid ≡ lists.cid

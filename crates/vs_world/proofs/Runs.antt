@@ -1,10 +1,9 @@
 -- Small steps of the two ends, one after another.
-use Rattle.std.proofs.Common.{◌≡◌, List, [], ◌∷◌, ◌++◌, refl, sym, ap, subst, ◌∙◌}
+use Rattle.std.proofs.Common.{◌≡◌, List, [], ◌∷◌, ◌++◌, refl, sym, ap, subst, ◌∙◌, ℕ}
 use Rattle.vs_page.specs.Log.{Role}
 use Rattle.vs_matching.specs.Both.{Both, Happening, MayHappen, MayRun, Step, happens, run, IsSound}
 use Rattle.vs_matching.proofs.Both.{run_keeps}
 use Rattle.vs_world.specs.Sides.{Runs}
-use Rattle.std.proofs.Common.{ℕ}
 
 may_append : (xs ys : List Happening) (b : Both) → MayRun xs b → MayRun ys (run xs b) → MayRun (xs ++ ys) b
 may_append [] ys b first then_ = then_
@@ -26,9 +25,6 @@ and_then b c d x y = record {
   may = may_append x.steps y.steps b x.may (subst (λ e. MayRun y.steps e) (sym x.ends) y.may);
   ends = run_append x.steps y.steps b ∙ ap (run y.steps) x.ends ∙ y.ends;
 }
-
-pub runs_to : (b c d : Both) → c ≡ d → Runs b c → Runs b d
-runs_to b c d is r = record { steps = r.steps; may = r.may; ends = r.ends ∙ is }
 
 pub keeps_sound : (first : ℕ) (b c : Both) → Runs b c → IsSound first b → IsSound first c
 keeps_sound first b c r s = subst (λ e. IsSound first e) r.ends (run_keeps first r.steps b s r.may)

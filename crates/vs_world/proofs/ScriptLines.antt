@@ -4,14 +4,14 @@ use Rattle.std.proofs.lemmas.List.{append-nil}
 use Rattle.vs_flow.specs.declared.flow.Flow.{Flow}
 use Rattle.vs_outside.specs.Host.{HostContents}
 use Rattle.vs_world.specs.Calls.{sent_on}
-use Rattle.vs_world.specs.Events.{ClientConnects, HostCloses, HostEnds, HostFails, HostListens, HostTakes, HostUnlistens, HostWrites, Reset, is_at_rest, is_guest_cid, reset_made}
-use Rattle.vs_world.specs.Plays.{Line, Guest, Poll, TurnAt, ResetTo, Client, HostListen, HostUnlisten, HostWrite, HostAllow, HostEnd, HostClosed, HostFail, AreRight, after, line, is_given_right, play, report, sent_by}
-use Rattle.vs_world.specs.Steps.{Leads}
-use Rattle.vs_world.specs.World.{World, opening}
+use Rattle.vs_world.specs.Events.{ClientConnects, HostCloses, HostEnds, HostFails, HostListens, HostTakes, HostUnlistens, HostWrites, Reset}
+use Rattle.vs_world.specs.Events.{is_at_rest, is_guest_cid, reset_made}
+use Rattle.vs_world.specs.Plays.{Line, Guest, Poll, TurnAt, ResetTo, Client, HostListen, HostUnlisten, HostWrite, HostAllow, HostEnd}
+use Rattle.vs_world.specs.Plays.{HostClosed, HostFail, AreRight, after, line, is_given_right, play, report, sent_by}
+use Rattle.vs_world.specs.{Steps.Leads, World.World, World.opening}
 use Rattle.vs_world.proofs.CallRests.{call_rests, opening_rests}
 use Rattle.vs_world.proofs.GuestLines.{call_leads, leads_none, leads_one, leads_then, possible_is}
-use Rattle.vs_world.proofs.Polls.{poll_does}
-use Rattle.vs_world.proofs.TurnLines.{turn_leads}
+use Rattle.vs_world.proofs.{Polls.poll_does, TurnLines.turn_leads}
 
 pub line_leads : (l : Line) (w : World) → is_at_rest w.rings.driver.staged ≡ true → is_given_right l ≡ true → Leads w (line l w).0
 line_leads (Guest call) w rest may = call_leads w rest call may

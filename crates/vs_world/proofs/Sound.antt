@@ -1,88 +1,73 @@
 -- Each event is some of the steps of the two ends.
-use Rattle.std.proofs.Common.{◌≡◌, ℕ, ◌^◌, ◌<◌, ◌≤◌, ◌&&◌, nat_le, Bool, true, false, List, [], ◌∷◌, ◌++◌, refl, sym, ap, subst, ◌∙◌, arith, append_assoc}
+use Rattle.std.proofs.Common.{◌≡◌, ℕ, ◌^◌, ◌<◌, ◌≤◌, ◌&&◌, nat_le, Bool, true, false, List, [], ◌∷◌, ◌++◌, refl, sym, ap, subst, ◌∙◌, arith}
+use Rattle.std.proofs.Common.{append_assoc}
 use Rattle.std.proofs.lemmas.Bool.Decides.{nat_tests}
 use Rattle.vs_contents.specs.CallTree.{played}
 use Rattle.vs_history.specs.declared.packet.Packet.{Packet}
 use Rattle.vs_outside.specs.Host.{HostContents}
-use Rattle.vs_page.specs.Held.{held_in, packet_held}
-use Rattle.vs_page.specs.Log.{packets_put, packets_got}
+use Rattle.vs_page.specs.{Held.held_in, Held.packet_held, Log.packets_put, Log.packets_got}
 use Rattle.vs_ring_port.specs.DriverCalls.{driver_answer}
 use Rattle.vs_ring_port.specs.declared.queue.Queue.{Queue}
 use Rattle.vs_ring_port.specs.declared.queue.Queue.TheVariants as q
 use Rattle.vs_matching.specs.Both.{IsSound}
-use Rattle.vs_driver_parts.specs.Conversations.{DriverTree, publish_of}
-use Rattle.vs_driver_parts.specs.State.{DriverState}
-use Rattle.vs_device_parts.specs.Calls.{DeviceTree}
-use Rattle.vs_device_parts.specs.State.{DeviceState}
-use Rattle.vs_device_parts.specs.Streams.{tick_slot}
-use Rattle.vs_proxy_parts.specs.Handshakes.{accept_one, tick_handshake}
-use Rattle.vs_proxy_parts.specs.State.{ProxyState, Turning, start, with_device}
-use Rattle.vs_proxy_parts.specs.Turns.{proxy_reset_of}
-use Rattle.vs_world.specs.Answers.{answer_around}
-use Rattle.vs_world.specs.Calls.{Journal, is_right}
-use Rattle.vs_device_parts.specs.Steps.{takes_chain, returns, puts_event, puts_reply, puts_owed, puts_payload, writes, shuts_write}
-use Rattle.vs_world.specs.Events.{Event, GuestCalls, GuestTakes, GuestReplies, GuestPays, GuestPublishes, DeviceTakes, DeviceReturns, DevicePutsEvent, DeviceReplies, DeviceReads, DevicePays, DeviceWrites, DeviceShutsWrite, ProxyAccepts, ProxyReads, Moment, TimesOut, HandshakeTimesOut, Reset, HostListens, HostUnlistens, ClientConnects, HostWrites, HostTakes, HostEnds, HostCloses, HostFails}
-use Rattle.vs_world.specs.Events.{at_moment, call_made, device_step, driver_step, happens, has_failed, holds, holds_event, is_at_rest, is_guest_cid, line_read, none_staged, proxy_step, reset_made, unless_failed, where_possible, works_on}
+use Rattle.vs_driver_parts.specs.{Conversations.DriverTree, Conversations.publish_of, State.DriverState}
 use Rattle.vs_driver_parts.specs.Steps.{takes_page, stages_reply, stages_owed}
-use Rattle.vs_world.specs.GuestSteps.{makes_call}
-use Rattle.vs_world.specs.Calls.{received_on, sent_on}
-use Rattle.vs_world.specs.Received.{IsReceived}
-use Rattle.vs_world.proofs.Received.{same_received}
-use Rattle.vs_world.specs.Pipes.{none_on, put_on}
-use Rattle.vs_world.proofs.Payloads.{nothing_more}
-use Rattle.vs_flow.specs.declared.flow.Flow.{Flow}
-use Rattle.vs_world.specs.Laws.{IsQueued}
-use Rattle.vs_world.specs.Pages.{TxHolds}
+use Rattle.vs_device_parts.specs.{Calls.DeviceTree, State.DeviceState, Streams.tick_slot}
+use Rattle.vs_device_parts.specs.Steps.{takes_chain, returns, puts_event, puts_reply, puts_owed, puts_payload, writes, shuts_write}
+use Rattle.vs_proxy_parts.specs.Handshakes.{accept_one, tick_handshake}
+use Rattle.vs_proxy_parts.specs.{State.ProxyState, State.Turning, State.start, State.with_device, Turns.proxy_reset_of}
+use Rattle.vs_world.specs.{Answers.answer_around, Calls.Journal, Calls.is_right, Calls.received_on, Calls.sent_on}
+use Rattle.vs_world.specs.Events.{Event, GuestCalls, GuestTakes, GuestReplies, GuestPays, GuestPublishes, DeviceTakes, DeviceReturns}
+use Rattle.vs_world.specs.Events.{DevicePutsEvent, DeviceReplies, DeviceReads, DevicePays, DeviceWrites, DeviceShutsWrite, ProxyAccepts}
+use Rattle.vs_world.specs.Events.{ProxyReads, Moment, TimesOut, HandshakeTimesOut, Reset, HostListens, HostUnlistens, ClientConnects}
+use Rattle.vs_world.specs.Events.{HostWrites, HostTakes, HostEnds, HostCloses, HostFails, at_moment, call_made, device_step, driver_step}
+use Rattle.vs_world.specs.Events.{happens, has_failed, holds, holds_event, is_at_rest, is_guest_cid, line_read, none_staged, proxy_step}
+use Rattle.vs_world.specs.{Events.reset_made, Events.unless_failed, Events.where_possible, Events.works_on, GuestSteps.makes_call}
+use Rattle.vs_world.specs.{Received.IsReceived, Pipes.none_on, Pipes.put_on, Laws.IsQueued, Pages.TxHolds}
 use Rattle.vs_world.specs.Sides.{Runs, both_of, log_with_staged}
 use Rattle.vs_world.specs.World.{World, around, device_plays, driver_plays, first_cid}
-use Rattle.vs_world.proofs.Chains.{HoldsRx}
+use Rattle.vs_world.proofs.{Received.same_received, Chains.HoldsRx}
+use Rattle.vs_flow.specs.declared.flow.Flow.{Flow}
 use Rattle.vs_world.proofs.DevicePuts as device_puts
 use Rattle.vs_world.proofs.DeviceReads as device_reads
 use Rattle.vs_world.proofs.DeviceSide as device_side
 use Rattle.vs_world.proofs.DeviceSide.{DeviceHolds}
 use Rattle.vs_world.proofs.DeviceStreams as device_streams
 use Rattle.vs_world.proofs.DeviceTurns as device_turns
-use Rattle.vs_world.proofs.DeviceTurns.{queue_is}
 use Rattle.vs_world.proofs.DeviceEvents as device_events
 use Rattle.vs_world.proofs.DriverEvents as driver_events
 use Rattle.vs_world.proofs.DriverSide as driver_side
-use Rattle.vs_world.proofs.DriverSide.{DriverHolds}
-use Rattle.vs_world.proofs.Played.{device_plays_keeps, driver_plays_keeps}
+use Rattle.vs_world.proofs.{DriverSide.DriverHolds, Played.device_plays_keeps, Played.driver_plays_keeps}
 use Rattle.vs_world.proofs.ProxyResets as proxy_resets
 use Rattle.vs_world.proofs.ProxySide as proxy_side
-use Rattle.vs_world.proofs.Queues.{pages_put}
-use Rattle.vs_world.proofs.Rings.{device_leaves_given, driver_leaves_cid}
-use Rattle.vs_world.proofs.Runs.{keeps_sound, stays}
+use Rattle.vs_world.proofs.{Queues.pages_put, Rings.device_leaves_given, Rings.driver_leaves_cid, Runs.keeps_sound, Runs.stays}
 use Rattle.vs_world.proofs.Wire.{PutsFit}
 use Rattle.std.proofs.Common.{get_or}
 use Rattle.std.specs.List.{All}
 use Rattle.std.proofs.lemmas.List.Elements.{Contains-get_or}
+use Rattle.std.proofs.lemmas.Bool.{and_parts}
 use Rattle.vs_device_parts.specs.State.{DeviceConnection}
 use Rattle.vs_flow.specs.Table.{Table}
-use Rattle.vs_history.specs.History.{Got, IsFair}
-use Rattle.vs_history.specs.Packets.{is_rw}
-use Rattle.vs_matching.specs.Both.{Both}
-use Rattle.vs_matching.specs.Ends.{ends_of, entries_of}
-use Rattle.vs_matching.proofs.Both.{next_is_fair}
-use Rattle.vs_matching.proofs.Slots.{one_end}
+use Rattle.vs_history.specs.{History.Got, History.IsFair, Packets.is_rw}
+use Rattle.vs_matching.specs.{Both.Both, Ends.ends_of, Ends.entries_of}
+use Rattle.vs_matching.proofs.{Both.next_is_fair, Slots.one_end, Voices.AreVoiced, Voices.voices_run}
 use Rattle.vs_outside.specs.Host.{with_stream}
-use Rattle.vs_outside.specs.HostProgram.{after_fail, after_host_write, after_listen, after_unlisten, allowed, closed, ended, host_write_answer, with_bytes}
+use Rattle.vs_outside.specs.HostProgram.{after_fail, after_host_write, after_listen, after_unlisten, allowed, closed, ended}
+use Rattle.vs_outside.specs.HostProgram.{host_write_answer, with_bytes}
 use Rattle.vs_outside.specs.declared.mem_stream.HostWritten.{HostWritten}
 use Rattle.vs_outside.specs.declared.mem_stream.HostWritten.TheVariants as written
 use Rattle.vs_page.proofs.Flows.{same_self}
-use Rattle.vs_page.specs.Log.{Device, IsNextPacket, Log, flow_got, history_of, side_of}
-use Rattle.vs_page.specs.Open.{is_dropped}
+use Rattle.vs_page.specs.{Log.Device, Log.IsNextPacket, Log.Log, Log.flow_got, Log.history_of, Log.side_of, Open.is_dropped}
 use Rattle.vs_page.specs.declared.log.LogEntry.TheVariants.{GotPacket}
 use Rattle.vs_proxy_parts.specs.State.{Handshake}
 use Rattle.vs_pipes.specs.Streamed.{IsStreamed, gives}
-use Rattle.vs_pipes.proofs.Cids.{SameCids, dropped_empty, run_cids}
-use Rattle.vs_pipes.proofs.HostCalls.{client_host, same_host}
-use Rattle.vs_pipes.proofs.Hosts.{unseen}
+use Rattle.vs_pipes.proofs.{Cids.dropped_empty, HostCalls.client_host, HostCalls.same_host, Hosts.unseen, Logs.nothing_more}
 use Rattle.vs_world.proofs.Streams.{StreamedIf}
+use Rattle.vs_ring_list.proofs.Held.{same_queue_is}
 
 -- The CIDs of packets stay as the two ends go on.
-cids_kept : (first : ℕ) (b c : Both) → Runs b c → IsSound first b → SameCids b → SameCids c
-cids_kept first b c r s cids = subst SameCids r.ends (run_cids first r.steps b s r.may cids)
+cids_kept : (first : ℕ) (b c : Both) → Runs b c → IsSound first b → AreVoiced first b → AreVoiced first c
+cids_kept first b c r s cids = subst (AreVoiced first) r.ends (voices_run first r.steps b s r.may cids)
 
 -- The host's program writes.
 host_written : (id : ℕ) (bytes : List ℕ) (answer : HostWritten) (c : HostContents) (log : Log) (port : ℕ) (t : Table DeviceConnection) (hands : List Handshake)
@@ -107,7 +92,7 @@ pub record IsWell (fresh : Type 0) (w : World) : Type 0 where
   pub sent : (f : Flow) → sent_on f w.journal ≡ put_on f (log_with_staged w.rings.driver)
   pub received : IsReceived (λ f. received_on f w.journal) (log_with_staged w.rings.driver) w.driver
   pub overrun : w.proxy.device.overrun ≡ 0
-  pub cids : SameCids (both_of w)
+  pub cids : AreVoiced first_cid (both_of w)
   -- Of a host that had no streams at first.
   pub streams : StreamedIf fresh w.host w.rings.device.entries w.proxy.next_port w.proxy.device.table w.proxy.handshakes
 
@@ -186,15 +171,7 @@ unfailed fresh true step w is well goes = rw is (goes_still fresh w well)
 unfailed fresh false step w is well goes = rw is goes
 
 -- Nothing is staged.
-first_true : (a b : Bool) → (a && b) ≡ true → a ≡ true
-first_true true b is = refl
-first_true false b is = cc
-
-second_true : (a b : Bool) → (a && b) ≡ true → b ≡ true
-second_true true b is = is
-second_true false b is = absurd cc
-
-nothing_staged : (pages : List (List ℕ)) → none_staged pages ≡ true → pages ≡ []
+pub nothing_staged : (pages : List (List ℕ)) → none_staged pages ≡ true → pages ≡ []
 nothing_staged [] is = refl
 nothing_staged (page ∷ pages) is = absurd cc
 
@@ -230,7 +207,7 @@ module _ (fresh : Type 0) (w : World) (well : IsWell fresh w) where
       let e = get_or w.proxy.device.table.entries i d in
       let there = Contains-get_or w.proxy.device.table.entries i d within in
       let fair = next_is_fair Device first_cid p (both_of w) well.sound next in
-      dropped_empty first_cid (both_of w) well.cids p next dropped (not_payload_of p (fair (flow_got Device p))) e.value.end
+      dropped_empty first_cid (both_of w) well.sound well.cids p next dropped (not_payload_of p (fair (flow_got Device p))) e.value.end
       (subst (λ (f : Flow). ends_of f (entries_of (λ (c : DeviceConnection). c.end) w.proxy.device.table) ≡ e.value.end ∷ []) on
       (one_end (λ (c : DeviceConnection). c.end) w.proxy.device.table e well.device.sound there)) given
     where
@@ -245,10 +222,10 @@ module _ (fresh : Type 0) (w : World) (well : IsWell fresh w) where
       (driver_events.reaps_tx (both_of w).device first_cid w.driver w.rings.lists w.rings.driver well.sound well.driver well.driver_puts well.pages)
   takes_goes q.Rx may = driver_step_goes (takes_page q.Rx)
       (driver_events.takes_page_keeps (both_of w).device first_cid w.driver w.rings.lists w.rings.driver well.sound well.driver well.driver_puts well.pages
-      (nothing_staged w.rings.driver.staged.tx (first_true _ _ may)) well.device_puts well.queued.rx well.queued.event well.known q.Rx)
+      (nothing_staged w.rings.driver.staged.tx (and_parts _ _ may).0) well.device_puts well.queued.rx well.queued.event well.known q.Rx)
   takes_goes q.Event may = driver_step_goes (takes_page q.Event)
       (driver_events.takes_page_keeps (both_of w).device first_cid w.driver w.rings.lists w.rings.driver well.sound well.driver well.driver_puts well.pages
-      (nothing_staged w.rings.driver.staged.tx (second_true _ _ may)) well.device_puts well.queued.rx well.queued.event well.known q.Event)
+      (nothing_staged w.rings.driver.staged.tx (and_parts _ _ may).1) well.device_puts well.queued.rx well.queued.event well.known q.Event)
 
   device_takes_goes : (queue : Queue) → Goes fresh w (device_step (takes_chain queue) w)
   device_takes_goes q.Rx = device_step_goes (takes_chain q.Rx)
@@ -259,31 +236,11 @@ module _ (fresh : Type 0) (w : World) (well : IsWell fresh w) where
       (device_turns.takes_tx (both_of w).driver first_cid w.proxy.next_port w.proxy.device (around w) well.sound well.device well.device_puts well.chain well.known fresh w.proxy.handshakes well.streams
       (held_in packet_held w.rings.driver.staged.tx) tx_tied well.driver_puts well.pages.0 undropped)
 
-  at_moment_goes : (now : ℕ) → Goes fresh w (at_moment now w)
-  at_moment_goes now = record {
-    well = record {
-      queued = well.queued;
-      sound = well.sound;
-      driver = well.driver;
-      device = well.device;
-      driver_puts = well.driver_puts;
-      device_puts = well.device_puts;
-      pages = well.pages;
-      chain = well.chain;
-      known = well.known;
-      broken = well.broken;
-      sent = well.sent;
-      received = well.received;
-      overrun = well.overrun;
-      cids = well.cids;
-      streams = well.streams;
-    };
-    runs = stays _ _ refl;
-  }
-
-  host_goes : (host : HostContents)
-      → StreamedIf fresh host w.rings.device.entries w.proxy.next_port w.proxy.device.table w.proxy.handshakes → Goes fresh w (record w { host = host })
-  host_goes host streams = record {
+  -- The moment and the host change.
+  outside_goes : (now : ℕ) (host : HostContents)
+      → StreamedIf fresh host w.rings.device.entries w.proxy.next_port w.proxy.device.table w.proxy.handshakes
+      → Goes fresh w (at_moment now (record w { host = host }))
+  outside_goes now host streams = record {
     well = record {
       queued = well.queued;
       sound = well.sound;
@@ -304,9 +261,13 @@ module _ (fresh : Type 0) (w : World) (well : IsWell fresh w) where
     runs = stays _ _ refl;
   }
 
+  host_goes : (host : HostContents)
+      → StreamedIf fresh host w.rings.device.entries w.proxy.next_port w.proxy.device.table w.proxy.handshakes → Goes fresh w (record w { host = host })
+  host_goes host streams = outside_goes w.proxy.device.now host streams
+
   guest_cid_fits : (cid : ℕ) → is_guest_cid cid ≡ true → cid < 2 ^ 64
   guest_cid_fits cid is =
-      let below : nat_le cid 4294967294 ≡ true = second_true (nat_le 3 cid) (nat_le cid 4294967294) is in
+      let below : nat_le cid 4294967294 ≡ true = (and_parts (nat_le 3 cid) (nat_le cid 4294967294) is).1 in
       let less : cid ≤ 4294967294 = grind (arith, nat_tests, below) in omega (arith, less)
 
   pub happens_goes : (e : Event) → Goes fresh w (happens e w)
@@ -314,7 +275,7 @@ module _ (fresh : Type 0) (w : World) (well : IsWell fresh w) where
       possible fresh (is_at_rest w.rings.driver.staged && is_right call) (λ v. (call_made call v).0) w well
       (λ may. driver_goes fresh (makes_call call w.driver) (λ r. r.0) _ _ _ w well (λ f. refl) (λ f. refl)
       (driver_events.makes_call_keeps (both_of w).device first_cid w.driver w.rings.lists w.rings.driver well.sound well.driver well.driver_puts well.pages call
-      (second_true _ _ may)))
+      (and_parts _ _ may).1))
   happens_goes (GuestTakes queue) = possible fresh (works_on queue w.rings.driver.staged) (driver_step (takes_page queue)) w well (takes_goes queue)
   happens_goes GuestReplies =
       possible fresh (works_on q.Tx w.rings.driver.staged) (driver_step stages_reply) w well (λ may. driver_step_goes stages_reply
@@ -329,13 +290,13 @@ module _ (fresh : Type 0) (w : World) (well : IsWell fresh w) where
   happens_goes (DeviceReturns chain) =
       possible fresh (holds q.Tx chain w) (device_step (returns chain)) w well (λ may. device_step_goes (returns chain)
       (device_turns.returns_tx (both_of w).driver first_cid w.proxy.next_port w.proxy.device (around w) well.sound well.device well.device_puts well.chain well.known fresh w.proxy.handshakes well.streams
-      chain (queue_is q.Tx chain.queue (first_true _ _ may))))
+      chain (sym (same_queue_is q.Tx chain.queue (and_parts _ _ may).0))))
   happens_goes (DevicePutsEvent chain) =
       possible fresh (holds_event chain w) (device_step (puts_event chain)) w well (λ may. device_step_goes (puts_event chain)
       (device_turns.puts_event_keeps (both_of w).driver first_cid w.proxy.next_port w.proxy.device (around w) well.sound well.device well.device_puts well.chain
       well.known fresh w.proxy.handshakes well.streams chain
-      (queue_is q.Event chain.queue (first_true _ _ (first_true (holds q.Event chain w) _ may)))
-      (second_true _ _ (first_true (holds q.Event chain w) _ may))))
+      (sym (same_queue_is q.Event chain.queue (and_parts _ _ (and_parts (holds q.Event chain w) _ may).0).0))
+      (and_parts _ _ (and_parts (holds q.Event chain w) _ may).0).1))
   happens_goes DeviceReplies = unfailed fresh (has_failed w) (device_step puts_reply) w refl well (device_step_goes puts_reply
       (device_puts.puts_reply_keeps (both_of w).driver first_cid w.proxy.next_port w.proxy.device (around w) well.sound well.device well.device_puts well.chain well.known fresh w.proxy.handshakes well.streams))
   happens_goes (DeviceReads slot) = unfailed fresh (has_failed w) (device_step (puts_payload slot)) w refl well (device_step_goes (puts_payload slot)
@@ -350,7 +311,7 @@ module _ (fresh : Type 0) (w : World) (well : IsWell fresh w) where
       (proxy_side.accept_keeps (both_of w).driver first_cid w.proxy (around w) well.sound well.device well.device_puts well.chain well.known fresh well.streams))
   happens_goes (ProxyReads stream) = unfailed fresh (has_failed w) (proxy_step (line_read stream)) w refl well (proxy_step_goes (line_read stream)
       (proxy_side.line_read_keeps (both_of w).driver first_cid w.proxy (around w) well.sound well.device well.device_puts well.chain well.known fresh well.streams stream))
-  happens_goes (Moment now) = at_moment_goes now
+  happens_goes (Moment now) = outside_goes now w.host well.streams
   happens_goes (TimesOut slot) = unfailed fresh (has_failed w) (device_step (tick_slot slot)) w refl well (device_step_goes (tick_slot slot)
       (device_streams.tick_keeps (both_of w).driver first_cid w.proxy.next_port w.proxy.device (around w) well.sound well.device well.device_puts well.chain well.known fresh w.proxy.handshakes well.streams slot))
   happens_goes (HandshakeTimesOut stream) = unfailed fresh (has_failed w) (proxy_step (tick_handshake stream)) w refl well (proxy_step_goes (tick_handshake stream)

@@ -1,14 +1,14 @@
 -- Streams that are open stay open.
-use Rattle.std.proofs.Common.{◌≡◌, ℕ, zero, suc, ◌-◌, eqb, Bool, true, false, cond, List, [], ◌∷◌, ◌++◌, Option, Some, None, IsSomeAnd, refl, sym, ap, subst, ◌∙◌, arith}
+use Rattle.std.proofs.Common.{◌≡◌, ℕ, ◌-◌, eqb, Bool, true, false, cond, List, [], ◌∷◌, ◌++◌, Option, Some, None, refl, sym, ap, subst, ◌∙◌}
+use Rattle.std.proofs.Common.{arith}
 use Rattle.std.specs.Prelude.{slice_get}
 use Rattle.std.proofs.lemmas.Bool.Decides.{nat_tests}
 use Rattle.vs_flow.specs.Table.{Table}
 use Rattle.vs_outside.specs.Host.{HostContents, Stream, IsOpen, stream_at, with_stream}
 use Rattle.vs_outside.specs.HostProgram.{after_client, after_host_write, client_stream, with_bytes}
-use Rattle.vs_outside.specs.declared.host_net.StreamState.TheVariants as state
 use Rattle.vs_outside.specs.declared.mem_stream.HostWritten.{HostWritten}
 use Rattle.vs_outside.specs.declared.mem_stream.HostWritten.TheVariants as written
-use Rattle.vs_outside.proofs.Frames.{keeps_others, open_of, stays_open, stream_at-with_stream, stream_place}
+use Rattle.vs_outside.proofs.Frames.{keeps_others, open_of, open_stream, slice_get-append, stays_open, stream_at-with_stream, stream_place}
 use Rattle.vs_device_parts.specs.State.{DeviceConnection}
 use Rattle.vs_device_laws.specs.Streams.{HasStreams}
 
@@ -29,10 +29,6 @@ still_has others t h g opens has = let j = has.joins in record {
   over = has.over;
 }
 
-open_stream : (o : Option Stream) → IsSomeAnd o (λ s. s.state ≡ state.Open) → (s : Stream) × (o ≡ Some s) × (s.state ≡ state.Open)
-open_stream None h = absurd h
-open_stream (Some s) h = (s, refl, h)
-
 -- A stream's program changes, and no state.
 pub stream_stays : (id : ℕ) (f : Stream → Stream) (h : HostContents) → ((s : Stream) → (f s).state ≡ s.state) → StayOpen h (with_stream id f h)
 stream_stays id f h same other still = by (eqb other id) refl
@@ -44,11 +40,6 @@ stream_stays id f h same other still = by (eqb other id) refl
         subst (λ n. IsOpen n (with_stream id f h)) (sym at)
         (open_of id (with_stream id f h) (f s.0) (stream_at-with_stream id f h s.0 s.1) (same s.0 ∙ s.2))
     by false is = stays_open id other h (with_stream id f h) (keeps_others id f h) (λ at. let no = is in grind (arith, nat_tests, no, at)) still
-
-slice_get-append : {X : Type 0} (xs ys : List X) (k : ℕ) (x : X) → slice_get xs k ≡ Some x → slice_get (xs ++ ys) k ≡ Some x
-slice_get-append [] ys k x h = cc
-slice_get-append (z ∷ zs) ys zero x h = h
-slice_get-append (z ∷ zs) ys (suc k) x h = slice_get-append zs ys k x h
 
 pub client_stays : (h : HostContents) → StayOpen h (after_client h)
 client_stays h id still =

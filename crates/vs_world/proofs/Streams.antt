@@ -1,64 +1,57 @@
 -- What the host's streams took and gave, through the small changes of the device.
-use Rattle.std.proofs.Common.{◌≡◌, ℕ, ◌+◌, ◌-◌, ◌≤◌, ◌==◌, ◌&&◌, nat_le, Bool, true, false, cond, List, [], ◌∷◌, ◌++◌, length, take, drop, Contains, Option, Some, None, refl, sym, ap, subst, ◌∙◌, arith}
+use Rattle.std.proofs.Common.{◌≡◌, ℕ, ◌+◌, ◌-◌, ◌≤◌, ◌==◌, ◌&&◌, nat_le, Bool, true, false, cond, List, [], ◌∷◌, ◌++◌, length, take, drop}
+use Rattle.std.proofs.Common.{Contains, Option, Some, None, refl, sym, ap, subst, ◌∙◌, arith}
 use Rattle.std.proofs.lemmas.Bool.Decides.{nat_tests}
-use Rattle.std.proofs.lemmas.Grind.{common_steps}
-use Rattle.std.proofs.lemmas.List.{append-nil}
-use Rattle.std.specs.List.{All}
-use Rattle.std.specs.Option.{option_map}
+use Rattle.std.proofs.lemmas.{Grind.common_steps, List.append-nil}
+use Rattle.std.specs.{List.All, Option.option_map}
 use Rattle.vs_conn.specs.End.{ConnectionEnd, end_after, is_reset, is_stream, verdict_of, with_shut}
 use Rattle.vs_conn.specs.declared.end.State.TheVariants as state
 use Rattle.vs_conn.specs.declared.end.Verdict.{Verdict}
 use Rattle.vs_conn.specs.declared.end.Verdict.TheVariants as verdict
 use Rattle.vs_device_parts.specs.Connections.{after_shut, after_written, cut_off}
-use Rattle.vs_device_parts.specs.State.{DeviceConnection, DeviceEntry}
-use Rattle.vs_device_parts.specs.Transmitting.{heard}
-use Rattle.vs_flow.specs.Flow.{is_assigned, same_flow}
-use Rattle.vs_flow.specs.Table.{IsTable, Table, entry_of, with_value, without}
+use Rattle.vs_device_parts.specs.{State.DeviceConnection, State.DeviceEntry, Transmitting.heard, Streams.to_write}
+use Rattle.vs_flow.specs.{Flow.is_assigned, Flow.same_flow, Table.IsTable, Table.Table, Table.entry_of, Table.with_value, Table.without}
 use Rattle.vs_flow.specs.declared.flow.Flow.{Flow}
 use Rattle.vs_flow.proofs.Entries.{none_found}
-use Rattle.vs_history.specs.History.{Allows, Answerer, Asker, Entry, Got, History, IsFair, Side, gots, is_begun, puts}
+use Rattle.vs_history.specs.History.{Answerer, Asker, Got, History, IsFair, Side, gots, is_begun, puts}
 use Rattle.vs_driver_parts.proofs.Delivers.{delivers, named_rw}
-use Rattle.std.proofs.Common.{zero, suc}
-use Rattle.std.proofs.lemmas.List.{length-take, take-take}
+use Rattle.std.proofs.Math.Seq.{drop-nil, take-nil}
 use Rattle.vs_conn.specs.End.{with_payload_sent}
-use Rattle.vs_device_parts.specs.Streams.{to_write}
 use Rattle.vs_matching.specs.Steps.{payload_on}
+use Rattle.vs_matching.proofs.Fair.{fair_begun}
 use Rattle.vs_outside.specs.declared.host_net.StreamRead.TheVariants as read
 use Rattle.vs_outside.specs.declared.host_net.StreamWrite.TheVariants as write
 use Rattle.vs_pipes.specs.Drains.{Drains}
-use Rattle.vs_pipes.proofs.Gives.{forwards_asked, forwards_gives}
-use Rattle.vs_pipes.proofs.HostCalls.{read_host, write_host}
-use Rattle.vs_pipes.proofs.Hosts.{unseen}
-use Rattle.vs_pipes.proofs.Steps.{comes_out}
-use Rattle.vs_pipes.proofs.Streamed.{join_of}
-use Rattle.vs_outside.specs.Host.{after_failed, after_read, after_shut_write, after_write, called, dial_answer, fails_now, is_listened, next_bytes}
+use Rattle.vs_pipes.proofs.Gives.{drop_both, first_of, forwards_asked, forwards_gives}
+use Rattle.vs_pipes.proofs.{HostCalls.read_host, HostCalls.write_host, Hosts.unseen, Steps.comes_out, Streamed.join_of}
+use Rattle.vs_outside.specs.Host.{after_failed, after_read, after_shut_write, after_write, called, dial_answer, fails_now, is_listened}
+use Rattle.vs_outside.specs.Host.{next_bytes}
 use Rattle.vs_outside.specs.declared.host_net.Dialed.TheVariants as dialed
 use Rattle.vs_outside.proofs.Frames.{stream_at-after_failed}
 use Rattle.vs_pipes.proofs.HostCalls.{same_host}
 use Rattle.vs_history.specs.Packets.{has, is_request, is_response, is_rw}
 use Rattle.vs_history.specs.declared.packet.Packet.{Packet}
 use Rattle.vs_outside.specs.Host.{HostContents}
-use Rattle.vs_page.specs.Fair.{IsFairLog, payload_of}
+use Rattle.vs_page.specs.{Fair.IsFairLog, Fair.payload_of, Held.IsWhole, Held.packet_held, Held.packet_with, Held.payload_held}
+use Rattle.vs_page.specs.Log.{Device, Log, flow_got, flow_put, history_of, side_of}
 use Rattle.vs_header.specs.Packet.{header_of}
 use Rattle.vs_header.specs.declared.Header.{Header}
-use Rattle.vs_page.specs.Held.{IsWhole, packet_held, packet_with, payload_held}
-use Rattle.vs_page.specs.Log.{Device, Log, flow_got, flow_put, history_of, side_of}
 use Rattle.vs_page.specs.declared.log.LogEntry.TheVariants.{GotPacket, PutPacket}
 use Rattle.vs_page.proofs.Flows.{same_self}
 use Rattle.vs_proxy_parts.specs.State.{Handshake}
-use Rattle.vs_uds.specs.ConnectLine.{connect_port, connect_step}
-use Rattle.vs_uds.specs.Reading.{is_decided, port_or_bad}
+use Rattle.vs_uds.specs.{ConnectLine.connect_port, ConnectLine.connect_step, Reading.is_decided, Reading.port_or_bad}
 use Rattle.vs_uds.specs.declared.connect.TheConstants.{CONNECT_MAX}
 use Rattle.vs_uds.specs.declared.scan.Step.TheVariants as step
 use Rattle.vs_uds.specs.OkLine.{ok_text}
 use Rattle.vs_pipes.specs.Drains.{got_on, put_on}
 use Rattle.vs_pipes.specs.Streamed.{IsJoined, IsStreamed, gives, line_for, look, seen}
-use Rattle.vs_pipes.proofs.Gives.{accepted_other, accepts_asked, accepts_response, answered_host, comes_behind, delivered_other, delivers_gives, gives_delivered, goes_host, hears_asked, hears_gives, kept_empty, response_empty, shut_gives, shuts_asked, unanswered_got}
-use Rattle.vs_pipes.proofs.Logs.{got_after_got, got_after_put, none_on_any, only_on, passed_after_got, passed_after_put, put_after_got, put_after_put}
-use Rattle.vs_pipes.proofs.Steps.{Goes, drops, stays_still}
+use Rattle.vs_pipes.proofs.Gives.{accepted_other, accepts_asked, accepts_response, answered_host, comes_behind, delivered_other}
+use Rattle.vs_pipes.proofs.Gives.{delivers_gives, gives_delivered, goes_host, hears_asked, hears_gives, kept_empty, response_empty}
+use Rattle.vs_pipes.proofs.Gives.{shut_gives, shuts_asked, unanswered_got}
+use Rattle.vs_pipes.proofs.Logs.{got_after_got, got_after_put, none_on_any, only_on, passed_after_got, passed_after_put, put_after_got}
+use Rattle.vs_pipes.proofs.{Logs.put_after_put, Steps.Goes, Steps.drops, Steps.stays_still}
 use Rattle.vs_pipes.proofs.Streamed.{left_streamed, passed_streamed, same_streamed}
-use Rattle.vs_world.proofs.DeviceSide.{end_in, held_in}
-use Rattle.vs_world.proofs.Entries.{without_changed}
+use Rattle.vs_world.proofs.{DeviceSide.end_in, DeviceSide.held_in, Entries.without_changed}
 
 -- Where the host was fresh at first.
 abbrev pub StreamedIf : Type 0 → HostContents → Log → ℕ → Table DeviceConnection → List Handshake → Type 0
@@ -102,18 +95,6 @@ payload_in page p held carries =
     ap (λ (g : Header). take g.len (drop 44 page)) parts.0 ∙ cc
 
 -- A REQUEST that comes is a connection's first packet.
-allows_begins : (side : Side) (entry : Entry) → Allows side [] entry → is_begun side (puts (entry ∷ [])) (gots (entry ∷ [])) ≡ true
-allows_begins = grind (arith, common_steps)
-
-begun_later : (side : Side) (h : History) (entry : Entry) → is_begun side (puts h) (gots h) ≡ true
-    → is_begun side (puts (entry ∷ h)) (gots (entry ∷ h)) ≡ true
-begun_later = grind (arith, common_steps)
-
-fair_begun : (side : Side) (h : History) (entry : Entry) → IsFair side (entry ∷ h)
-    → is_begun side (puts (entry ∷ h)) (gots (entry ∷ h)) ≡ true
-fair_begun side [] entry fair = allows_begins side entry fair.0
-fair_begun side (x ∷ h) entry fair = begun_later side (x ∷ h) entry (fair_begun side h x fair.1)
-
 not_begun : (side : Side) (h : History) (p : Packet) → is_request p ≡ true → IsFair side (Got p ∷ h) → is_begun side (puts h) (gots h) ≡ false
 not_begun Asker h p is fair = let timely = fair.0.timely in absurd (grind (arith, nat_tests, common_steps, is, timely))
 not_begun Answerer h p is fair = let timely = fair.0.timely in grind (arith, nat_tests, common_steps, is, timely)
@@ -142,22 +123,6 @@ dialed_id path stream c is = by (fails_now c) (is_listened path c) is
     by true b is = absurd cc
     by false false is = absurd cc
     by false true is = cc
-
-take_none : (n : ℕ) → ◌≡◌ {A = List ℕ} (take n []) []
-take_none zero = refl
-take_none (suc n) = refl
-
-drop_none : (n : ℕ) → ◌≡◌ {A = List ℕ} (drop n []) []
-drop_none zero = refl
-drop_none (suc n) = refl
-
-drop_both : (n : ℕ) (xs ys : List ℕ) → drop n (xs ++ ys) ≡ drop n xs ++ drop (n - length xs) ys
-drop_both zero [] ys = refl
-drop_both (suc n) [] ys = let same : suc n ≡ suc n - 0 = omega arith in ap (λ (k : ℕ). drop k ys) same
-drop_both zero (x ∷ xs) ys = let same : 0 ≡ 0 - suc (length xs) = omega arith in ap (λ (k : ℕ). x ∷ xs ++ drop k ys) same
-drop_both (suc n) (x ∷ xs) ys =
-    let same : n - length xs ≡ suc n - suc (length xs) = omega arith in
-    drop_both n xs ys ∙ ap (λ (k : ℕ). drop n xs ++ drop k ys) same
 
 -- A packet without payload was put.
 pub put_empty : (c : HostContents) (log : Log) (port : ℕ) (t : Table DeviceConnection) (hands : List Handshake) (p : Packet) → p.payload ≡ []
@@ -295,17 +260,14 @@ module _ (c : HostContents) (log : Log) (port : ℕ) (t : Table DeviceConnection
       (append-nil (line_for e.flow ++ got_on Device e.flow log)) out)))
       (λ on. nothing e n j.stream.given (j.asked (forwards_asked e.value.end (n - length e.value.ok_line) on)))
     where
-      first_of : (n : ℕ) (all : List ℕ) → n ≤ length (take 4096 all) → take n (take 4096 all) ≡ take n all
-      first_of n all less = take-take n 4096 all (omega (arith, less, length-take 4096 all))
-
       nothing : (e : DeviceEntry) (n : ℕ) (given : List ℕ) → (given ≡ []) × (e.value.ok_line ≡ []) × (e.value.pending ≡ [])
           → (given ++ take n (to_write e.value) ≡ []) × (drop n e.value.ok_line ≡ []) × (drop (n - length e.value.ok_line) e.value.pending ≡ [])
       nothing e n given (a, b, d) = (
         ap (λ (bytes : List ℕ). bytes ++ take n (to_write e.value)) a
             ∙ ap (λ (bytes : List ℕ). take n (take 4096 (bytes ++ e.value.pending))) b ∙ ap (λ (bytes : List ℕ). take n (take 4096 bytes)) d
-            ∙ ap (take n) (take_none 4096) ∙ take_none n,
-        ap (drop n) b ∙ drop_none n,
-        ap (drop (n - length e.value.ok_line)) d ∙ drop_none (n - length e.value.ok_line),
+            ∙ ap (take n) (take-nil 4096) ∙ take-nil n,
+        ap (drop n) b ∙ drop-nil n,
+        ap (drop (n - length e.value.ok_line)) d ∙ drop-nil (n - length e.value.ok_line),
       )
 
 -- Calls on the host that change no bytes.

@@ -7,8 +7,7 @@ use Rattle.vs_conn.specs.declared.end.Owed.{Owed}
 use Rattle.vs_conn.specs.declared.end.Owed.TheVariants as owed
 use Rattle.vs_conn.specs.declared.route.Route.{Route}
 use Rattle.vs_history.specs.declared.packet.Packet.{Packet}
-use Rattle.vs_page.specs.Held.{FitsWire}
-use Rattle.vs_page.specs.Log.{Log, IsNextPacket, packets_put, packets_got}
+use Rattle.vs_page.specs.{Held.FitsWire, Log.Log, Log.IsNextPacket, Log.packets_put, Log.packets_got}
 use Rattle.vs_device_log.specs.Honest.{HoldsBytes}
 
 pub record RouteFits (r : Route) : Type 0 where

@@ -3,13 +3,8 @@ use Rattle.std.specs.Prelude.{ℕ, ◌^◌, nat_lt, Bool, true, false, if◌then
 use Rattle.std.specs.Option.{option_map_or}
 use Rattle.vs_flow.specs.Flow.{same_flow}
 use Rattle.vs_flow.specs.declared.flow.Flow.{Flow}
-use Rattle.vs_driver_parts.specs.declared.answers.Accepted.{Accepted}
-use Rattle.vs_driver_parts.specs.declared.answers.Closed.{Closed}
-use Rattle.vs_driver_parts.specs.declared.answers.ConnectError.{ConnectError}
-use Rattle.vs_driver_parts.specs.declared.answers.ConnectionState.{ConnectionState}
-use Rattle.vs_driver_parts.specs.declared.answers.ListenError.{ListenError}
-use Rattle.vs_driver_parts.specs.declared.answers.Received.{Received}
-use Rattle.vs_driver_parts.specs.declared.answers.Sent.{Sent}
+use Rattle.vs_driver_parts.specs.declared.answers.{Accepted.Accepted, Closed.Closed, ConnectError.ConnectError}
+use Rattle.vs_driver_parts.specs.declared.answers.{ConnectionState.ConnectionState, ListenError.ListenError, Received.Received, Sent.Sent}
 use Rattle.vs_driver_parts.specs.declared.answers.Sent.TheVariants as sent
 use Rattle.vs_driver_parts.specs.declared.answers.Shut.{Shut}
 

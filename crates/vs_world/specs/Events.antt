@@ -2,25 +2,19 @@
 use Rattle.std.specs.Prelude.{ℕ, ◌&&◌, nat_le, Bool, true, false, if◌then◌else◌, List, [], ◌∷◌, is_some}
 use Rattle.vs_contents.specs.CallTree.{Done, bind}
 use Rattle.vs_outside.specs.Host.{HostContents, with_stream}
-use Rattle.vs_outside.specs.HostProgram.{after_listen, after_unlisten, after_client, after_host_write, host_write_answer, allowed, ended, closed, after_fail}
-use Rattle.vs_ring_port.specs.Chains.{same_queue}
-use Rattle.vs_ring_port.specs.EndLog.{Pages}
+use Rattle.vs_outside.specs.HostProgram.{after_listen, after_unlisten, after_client, after_host_write, host_write_answer, allowed, ended}
+use Rattle.vs_outside.specs.HostProgram.{closed, after_fail}
+use Rattle.vs_ring_port.specs.{Chains.same_queue, EndLog.Pages}
 use Rattle.vs_ring_port.specs.declared.device_ring.Chain.{Chain}
 use Rattle.vs_ring_port.specs.declared.queue.Queue.{Queue}
 use Rattle.vs_ring_port.specs.declared.queue.Queue.TheVariants as q
-use Rattle.vs_driver_parts.specs.Conversations.{DriverTree, publish_of}
-use Rattle.vs_driver_parts.specs.State.{DriverState}
-use Rattle.vs_device_parts.specs.Calls.{DeviceTree}
-use Rattle.vs_device_parts.specs.State.{DeviceState}
-use Rattle.vs_device_parts.specs.Streams.{tick_slot}
-use Rattle.vs_proxy_parts.specs.Handshakes.{tick_handshake, accept_one, read_byte}
-use Rattle.vs_proxy_parts.specs.State.{Turning, start, with_device}
-use Rattle.vs_proxy_parts.specs.Turns.{proxy_reset_of}
-use Rattle.vs_world.specs.Calls.{GuestCall, ReplyTo, is_right}
-use Rattle.vs_device_parts.specs.Steps.{takes_chain, returns, puts_event, puts_reply, puts_owed, puts_payload, writes, shuts_write}
+use Rattle.vs_driver_parts.specs.{Conversations.DriverTree, Conversations.publish_of, State.DriverState}
 use Rattle.vs_driver_parts.specs.Steps.{takes_page, stages_reply, stages_owed}
-use Rattle.vs_world.specs.GuestSteps.{makes_call, flow_named}
-use Rattle.vs_world.specs.Pages.{is_held}
+use Rattle.vs_device_parts.specs.{Calls.DeviceTree, State.DeviceState, Streams.tick_slot}
+use Rattle.vs_device_parts.specs.Steps.{takes_chain, returns, puts_event, puts_reply, puts_owed, puts_payload, writes, shuts_write}
+use Rattle.vs_proxy_parts.specs.Handshakes.{tick_handshake, accept_one, read_byte}
+use Rattle.vs_proxy_parts.specs.{State.Turning, State.start, State.with_device, Turns.proxy_reset_of}
+use Rattle.vs_world.specs.{Calls.GuestCall, Calls.ReplyTo, Calls.is_right, GuestSteps.makes_call, GuestSteps.flow_named, Pages.is_held}
 use Rattle.vs_world.specs.World.{World, driver_plays, device_plays}
 
 -- A connection is named by its slot, a stream by its id.

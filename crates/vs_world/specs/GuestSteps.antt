@@ -3,9 +3,9 @@ use Rattle.std.specs.Prelude.{ℕ, true, false, List, [], take, Option, Some, No
 use Rattle.vs_contents.specs.CallTree.{Done}
 use Rattle.vs_driver_parts.specs.declared.answers.Received.{Received}
 use Rattle.vs_driver_parts.specs.declared.answers.Received.TheVariants as got
-use Rattle.vs_driver_parts.specs.State.{DriverState}
-use Rattle.vs_driver_parts.specs.Conversations.{DriverTree}
-use Rattle.vs_driver_parts.specs.Connections.{recv_of, unread_of_id, after_recv, shutdown_of, after_shutdown, close_of, after_close, after_unlisten, state_of, flow_of, next_flow}
+use Rattle.vs_driver_parts.specs.{State.DriverState, Conversations.DriverTree}
+use Rattle.vs_driver_parts.specs.Connections.{recv_of, unread_of_id, after_recv, shutdown_of, after_shutdown, close_of, after_close}
+use Rattle.vs_driver_parts.specs.Connections.{after_unlisten, state_of, flow_of, next_flow}
 use Rattle.vs_driver_parts.specs.Listening.{listener_on, listen_of, listening, accept_of, after_accept}
 use Rattle.vs_driver_parts.specs.Steps.{connects, sends}
 use Rattle.vs_flow.specs.declared.flow.Flow.{Flow}

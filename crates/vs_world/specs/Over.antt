@@ -5,10 +5,8 @@ use Rattle.vs_ring_port.specs.DriverCalls.{driver_answer}
 use Rattle.vs_ring_list.specs.Ends.{Ends}
 use Rattle.vs_outside.specs.Host.{HostContents}
 use Rattle.vs_driver_parts.specs.Conversations.{DriverTree}
-use Rattle.vs_device_parts.specs.Calls.{DeviceTree}
-use Rattle.vs_device_parts.specs.State.{DeviceState}
-use Rattle.vs_proxy_parts.specs.State.{ProxyState, Turning, start, with_device}
-use Rattle.vs_proxy_parts.specs.Turns.{proxy_reset_of}
+use Rattle.vs_device_parts.specs.{Calls.DeviceTree, State.DeviceState}
+use Rattle.vs_proxy_parts.specs.{State.ProxyState, State.Turning, State.start, State.with_device, Turns.proxy_reset_of}
 use Rattle.vs_world.specs.Answers.{Around, answer_around}
 
 -- What a conversation of the driver's leads to over list rings.

@@ -3,10 +3,8 @@ use Rattle.std.specs.Prelude.{◌≡◌, ◌≤◌, ◌+◌, ℕ, Bool, true, fa
 use Rattle.vs_header.specs.declared.TheConstants.{HEADER_LEN}
 use Rattle.vs_history.specs.declared.packet.Packet.{Packet}
 use Rattle.vs_page.specs.Held.{packet_held}
-use Rattle.vs_ring_port.specs.Chains.{Held, same_chain}
+use Rattle.vs_ring_port.specs.{Chains.Held, Chains.same_chain, EndLog.EndLog, Lists.Rings}
 use Rattle.vs_ring_port.specs.declared.device_ring.Chain.{Chain}
-use Rattle.vs_ring_port.specs.EndLog.{EndLog}
-use Rattle.vs_ring_port.specs.Lists.{Rings}
 
 -- A page holds a packet, with as many bytes as its header tells.
 pub record PageHolds (page : List ℕ) : Type 0 where

@@ -3,8 +3,7 @@ use Rattle.std.specs.Prelude.{◌≡◌, ℕ, List, []}
 use Rattle.vs_outside.specs.Host.{HostContents}
 use Rattle.vs_flow.specs.declared.flow.Flow.{Flow}
 use Rattle.vs_history.specs.History.{puts}
-use Rattle.vs_page.specs.Fair.{payload_of}
-use Rattle.vs_page.specs.Log.{Driver, Log, history_of}
+use Rattle.vs_page.specs.{Fair.payload_of, Log.Driver, Log.Log, Log.history_of}
 
 -- The payload that the driver put on a flow.
 abbrev pub put_on : Flow → Log → List ℕ

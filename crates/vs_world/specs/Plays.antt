@@ -2,7 +2,8 @@
 use Rattle.std.specs.Prelude.{◌≡◌, ℕ, ◌+◌, Bool, true, if◌then◌else◌, List, [], ◌∷◌, length, map, Option, Result}
 use Rattle.vs_flow.specs.declared.flow.Flow.{Flow}
 use Rattle.vs_outside.specs.Host.{HostContents, with_stream}
-use Rattle.vs_outside.specs.HostProgram.{after_listen, after_unlisten, after_client, after_host_write, host_write_answer, has_stream, allowed, ended, closed, after_fail}
+use Rattle.vs_outside.specs.HostProgram.{after_listen, after_unlisten, after_client, after_host_write, host_write_answer, has_stream}
+use Rattle.vs_outside.specs.HostProgram.{allowed, ended, closed, after_fail}
 use Rattle.vs_outside.specs.HostBytes.{wrote_after_connect, read_after_ok}
 use Rattle.vs_outside.specs.declared.mem_stream.HostWritten.{HostWritten}
 use Rattle.vs_ring_port.specs.declared.failure.Failure.{Failure}
@@ -12,8 +13,7 @@ use Rattle.vs_driver_parts.specs.declared.answers.Polled.{Polled}
 use Rattle.vs_proxy_parts.specs.Turns.{turn_of, proxy_reset_of}
 use Rattle.vs_proxy_parts.specs.declared.answers.Turn.{Turn}
 use Rattle.vs_world.specs.Calls.{GuestCall, ReplyTo, Connect, Send, bytes_sent, is_on, is_right}
-use Rattle.vs_world.specs.Events.{is_guest_cid}
-use Rattle.vs_world.specs.GuestSteps.{makes_call, flow_named}
+use Rattle.vs_world.specs.{Events.is_guest_cid, GuestSteps.makes_call, GuestSteps.flow_named}
 use Rattle.vs_world.specs.World.{World, driver_plays, device_plays}
 
 pub data Line : Type 0 where

@@ -1,10 +1,8 @@
 -- What the driver's connections received, against what came in on their flows.
-use Rattle.std.specs.Prelude.{◌≡◌, ◌≢◌, ℕ, ◌++◌, true, List, AllPairs}
-use Rattle.std.specs.List.{All}
+use Rattle.std.specs.{Prelude.◌≡◌, Prelude.◌≢◌, Prelude.ℕ, Prelude.◌++◌, Prelude.true, Prelude.List, Prelude.AllPairs, List.All}
 use Rattle.vs_flow.specs.Table.{Table}
 use Rattle.vs_flow.specs.declared.flow.Flow.{Flow}
-use Rattle.vs_page.specs.Fair.{IsPrefixOf}
-use Rattle.vs_page.specs.Log.{Driver, Log}
+use Rattle.vs_page.specs.{Fair.IsPrefixOf, Log.Driver, Log.Log}
 use Rattle.vs_driver_parts.specs.SlotFields.{AreNumbered}
 use Rattle.vs_driver_parts.specs.State.{DriverConnection, DriverEntry, DriverState, GoneConnection}
 use Rattle.vs_pipes.specs.Drains.{Drains, got_on, has_passed, receives}

@@ -1,8 +1,7 @@
 -- The two ends of the world as their connections and their logs, and what it is for one to come of another by their small steps.
 use Rattle.std.specs.Prelude.{◌≡◌, List, map}
 use Rattle.vs_flow.specs.declared.flow.Flow.{Flow}
-use Rattle.vs_matching.specs.Both.{Both, Happening, MayRun, run}
-use Rattle.vs_matching.specs.Ends.{Ends, entries_of}
+use Rattle.vs_matching.specs.{Both.Both, Both.Happening, Both.MayRun, Both.run, Ends.Ends, Ends.entries_of}
 use Rattle.vs_page.specs.Log.{Log}
 use Rattle.vs_replies.specs.declared.Reply.{Reply}
 use Rattle.vs_ring_port.specs.EndLog.{EndLog, all_put}

@@ -1,10 +1,8 @@
 -- Calls as lists of events.
 use Rattle.std.specs.Prelude.{◌≡◌, List}
-use Rattle.vs_device_parts.specs.Calls.{DeviceTree}
-use Rattle.vs_device_parts.specs.State.{DeviceState}
+use Rattle.vs_device_parts.specs.{Calls.DeviceTree, State.DeviceState}
 use Rattle.vs_proxy_parts.specs.State.{with_device}
-use Rattle.vs_world.specs.Events.{Event, run}
-use Rattle.vs_world.specs.World.{World, device_plays}
+use Rattle.vs_world.specs.{Events.Event, Events.run, World.World, World.device_plays}
 
 -- Some events lead from one world to another.
 abbrev pub Leads : World → World → Type 0

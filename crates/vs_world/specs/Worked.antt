@@ -11,7 +11,8 @@ use Rattle.vs_driver_parts.specs.declared.answers.Closed.TheVariants as closed
 use Rattle.vs_driver_parts.specs.declared.answers.ConnectionState.TheVariants as seen
 use Rattle.vs_proxy_parts.specs.declared.answers.Turn.TheVariants as turn
 use Rattle.vs_world.specs.Calls.{Connect, Listen, Accept, Send, Recv, Shutdown, Close, LookAt}
-use Rattle.vs_world.specs.Plays.{Line, Guest, Poll, TurnAt, ResetTo, Client, HostListen, HostWrite, HostFail, Said, Replied, HasPolled, HasTurned, WasReset, StreamIs, Wrote, IsThere, Report}
+use Rattle.vs_world.specs.Plays.{Line, Guest, Poll, TurnAt, ResetTo, Client, HostListen, HostWrite, HostFail, Said, Replied, HasPolled}
+use Rattle.vs_world.specs.Plays.{HasTurned, WasReset, StreamIs, Wrote, IsThere, Report}
 use Rattle.vs_world.specs.World.{World, opening}
 
 -- A world with queues of eight, at whose host nobody listens.

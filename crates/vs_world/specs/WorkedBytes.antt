@@ -2,10 +2,8 @@
 use Rattle.std.specs.Prelude.{ℕ, List, [], ◌∷◌}
 use Rattle.vs_flow.specs.declared.flow.Flow.{Flow}
 use Rattle.vs_outside.specs.HostBytes.{host_read, host_wrote}
-use Rattle.vs_page.specs.Fair.{payload_got, payload_put}
-use Rattle.vs_page.specs.Log.{Device}
-use Rattle.vs_world.specs.Calls.{received_on, sent_on}
-use Rattle.vs_world.specs.World.{World}
+use Rattle.vs_page.specs.{Fair.payload_got, Fair.payload_put, Log.Device}
+use Rattle.vs_world.specs.{Calls.received_on, Calls.sent_on, World.World}
 
 -- The bytes of a connection: sent and read, written and received; and the payload in the logs on the way.
 pub record Carried : Type 0 where

@@ -3,16 +3,12 @@ use Rattle.std.specs.Prelude.{ℕ, List, []}
 use Rattle.vs_contents.specs.CallTree.{played}
 use Rattle.vs_ring_port.specs.DriverCalls.{driver_answer}
 use Rattle.vs_ring_list.specs.Ends.{Ends, empty_ends}
-use Rattle.vs_outside.specs.Host.{HostContents}
-use Rattle.vs_outside.specs.HostProgram.{new_host, plain}
-use Rattle.vs_driver_parts.specs.State.{DriverState}
-use Rattle.vs_driver_parts.specs.Conversations.{DriverTree, new_of}
+use Rattle.vs_outside.specs.{Host.HostContents, HostProgram.new_host, HostProgram.plain}
+use Rattle.vs_driver_parts.specs.{State.DriverState, Conversations.DriverTree, Conversations.new_of}
 use Rattle.vs_driver_parts.specs.declared.limits.TheConstants.{FIRST_PORT}
 use Rattle.vs_device_parts.specs.Calls.{DeviceTree}
-use Rattle.vs_proxy_parts.specs.State.{ProxyState}
-use Rattle.vs_proxy_parts.specs.Turns.{new_proxy}
-use Rattle.vs_world.specs.Calls.{Journal}
-use Rattle.vs_world.specs.Answers.{Around, answer_around}
+use Rattle.vs_proxy_parts.specs.{State.ProxyState, Turns.new_proxy}
+use Rattle.vs_world.specs.{Calls.Journal, Answers.Around, Answers.answer_around}
 
 pub record World : Type 0 where
   pub driver : DriverState

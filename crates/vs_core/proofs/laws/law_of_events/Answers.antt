@@ -1,9 +1,5 @@
-use Rattle.vs_world.specs.Events.{run}
-use Rattle.vs_world.specs.World.{opening}
-use Rattle.vs_world.proofs.Opening.{opening_is, reached, run_well}
-use Rattle.vs_world.proofs.Runs.{and_then, stays}
-use Rattle.vs_world.proofs.Sound.{happens_goes}
-use Rattle.vs_world.specs.Pipes.{IsFresh}
+use Rattle.vs_world.specs.{Events.run, World.opening, Pipes.IsFresh}
+use Rattle.vs_world.proofs.{Opening.opening_is, Opening.reached, Opening.run_well, Runs.and_then, Runs.stays, Sound.happens_goes}
 use Rattle.vs_core.proofs.laws.law_of_events.Goals as goal
 
 pub returns-clause-each : goal.returns-clause-each

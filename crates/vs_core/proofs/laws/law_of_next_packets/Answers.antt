@@ -2,17 +2,11 @@ use Rattle.std.proofs.Common.{◌≡◌, false, subst}
 use Rattle.vs_conn.specs.End.{is_refused, verdict_of}
 use Rattle.vs_driver_parts.specs.declared.limits.TheConstants.{FIRST_PORT}
 use Rattle.vs_flow.specs.declared.flow.TheConstants.{ASSIGNED_FIRST}
-use Rattle.vs_matching.specs.Both.{Both}
-use Rattle.vs_matching.specs.Steps.{HasEnd}
-use Rattle.vs_matching.proofs.Both.{device_has_room, driver_accepts}
-use Rattle.vs_matching.proofs.Voices.{device_takes}
-use Rattle.vs_page.specs.Log.{Device, IsNextPacket, flow_got}
-use Rattle.vs_page.specs.Open.{is_dropped}
-use Rattle.vs_world.specs.Events.{run}
-use Rattle.vs_world.specs.Sides.{both_of}
-use Rattle.vs_world.specs.World.{first_cid, opening}
-use Rattle.vs_world.proofs.Opening.{opening_is, reached, run_well}
-use Rattle.vs_world.proofs.Runs.{and_then, stays}
+use Rattle.vs_matching.specs.{Both.Both, Steps.HasEnd}
+use Rattle.vs_matching.proofs.{Both.device_has_room, Both.driver_accepts, Voices.device_takes}
+use Rattle.vs_page.specs.{Log.Device, Log.IsNextPacket, Log.flow_got, Open.is_dropped}
+use Rattle.vs_world.specs.{Events.run, Sides.both_of, World.first_cid, World.opening}
+use Rattle.vs_world.proofs.{Opening.opening_is, Opening.reached, Opening.run_well, Runs.and_then, Runs.stays}
 use Rattle.vs_core.proofs.laws.law_of_next_packets.Goals as goal
 
 pub returns-clause-driver : goal.returns-clause-driver

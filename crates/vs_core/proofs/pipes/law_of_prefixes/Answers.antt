@@ -1,8 +1,9 @@
-use Rattle.vs_world.proofs.Prefixes.{to_guest, to_host}
+use Rattle.vs_world.specs.{Events.run, World.opening}
+use Rattle.vs_world.proofs.{Carried.to_guest, Carried.to_host, Opening.run_well}
 use Rattle.vs_core.proofs.pipes.law_of_prefixes.Goals as goal
 
 pub returns-clause-to_guest : goal.returns-clause-to_guest
-returns-clause-to_guest c = to_guest
+returns-clause-to_guest c = λ n host es f fresh. to_guest (run es (opening n host)) (run_well n host es) fresh f
 
 pub returns-clause-to_host : goal.returns-clause-to_host
-returns-clause-to_host c = to_host
+returns-clause-to_host c = λ n host es f fresh. to_host (run es (opening n host)) (run_well n host es) fresh f

@@ -1,52 +1,17 @@
-use Rattle.std.proofs.Common.{◌≡◌, ◌++◌, ℕ, List, Contains, sym, subst}
-use Rattle.std.proofs.lemmas.List.Elements.{All-contains}
-use Rattle.vs_driver_parts.specs.State.{DriverEntry, GoneConnection}
-use Rattle.vs_flow.specs.declared.flow.Flow.{Flow}
-use Rattle.vs_outside.specs.Host.{HostContents}
-use Rattle.vs_page.specs.Fair.{IsPrefixOf, payload_got}
-use Rattle.vs_page.specs.Log.{Driver}
-use Rattle.vs_page.proofs.PayloadLogs.{all_got, prefix}
-use Rattle.vs_pipes.specs.Drains.{Drains, got_on, receives}
-use Rattle.vs_world.specs.Received.{ReceivedOn, ReceivesOn}
 use Rattle.vs_pipes.proofs.Logs.{prefix_then}
-use Rattle.vs_world.specs.Calls.{received_on}
-use Rattle.vs_world.specs.Events.{Event, run}
-use Rattle.vs_world.specs.Sides.{both_of}
-use Rattle.vs_world.specs.World.{opening}
-use Rattle.vs_world.proofs.Opening.{run_well}
+use Rattle.vs_world.specs.{Events.run, World.opening}
+use Rattle.vs_world.proofs.{Carried.gone_of, Carried.received_is, Carried.to_driver, Carried.unread_of, Opening.run_well}
 use Rattle.vs_core.proofs.pipes.law_of_receiving.Goals as goal
 
-module _ (n : ℕ) (host : HostContents) (es : List Event) where
-  all : (f : Flow) → got_on Driver f (both_of (run es (opening n host))).driver.log ≡ payload_got Driver f 1 (both_of (run es (opening n host))).driver.log
-  all f = sym (all_got Driver (both_of (run es (opening n host))).driver.log f ((run_well n host es).sound.fair Driver f))
-
-  received : (f : Flow) → IsPrefixOf (received_on f (run es (opening n host)).journal) (payload_got Driver f 1 (both_of (run es (opening n host))).driver.log)
-  received f = subst (λ (bytes : List ℕ). IsPrefixOf (received_on f (run es (opening n host)).journal) bytes) (all f) ((run_well n host es).received.front f)
-
-  unread : (e : DriverEntry) → Contains (run es (opening n host)).driver.table.entries e
-      → Drains (receives e.value.end) (received_on e.flow (run es (opening n host)).journal) e.value.unread
-      (payload_got Driver e.flow 1 (both_of (run es (opening n host))).driver.log)
-  unread e there =
-      let w = run es (opening n host) in
-      subst (λ (bytes : List ℕ). Drains (receives e.value.end) (received_on e.flow w.journal) e.value.unread bytes) (all e.flow)
-      (All-contains (ReceivesOn (λ f. received_on f w.journal) (both_of w).driver.log) w.driver.table.entries e (run_well n host es).received.held there).drains
-
-  gone : (g : GoneConnection) → Contains (run es (opening n host)).driver.gone g
-      → IsPrefixOf (received_on g.flow (run es (opening n host)).journal ++ g.unread) (payload_got Driver g.flow 1 (both_of (run es (opening n host))).driver.log)
-  gone g there =
-      let w = run es (opening n host) in
-      subst (λ (bytes : List ℕ). IsPrefixOf (received_on g.flow w.journal ++ g.unread) bytes) (all g.flow)
-      (All-contains (ReceivedOn (λ f. received_on f w.journal) (both_of w).driver.log) w.driver.gone g (run_well n host es).received.left there).front
-
 pub returns-clause-received : goal.returns-clause-received
-returns-clause-received c = received
+returns-clause-received c = λ n host es f. received_is (run es (opening n host)) (run_well n host es) f
 
 pub returns-clause-unread : goal.returns-clause-unread
-returns-clause-unread c = unread
+returns-clause-unread c = λ n host es e there. unread_of (run es (opening n host)) (run_well n host es) e there
 
 pub returns-clause-gone : goal.returns-clause-gone
-returns-clause-gone c = gone
+returns-clause-gone c = λ n host es g there. gone_of (run es (opening n host)) (run_well n host es) g there
 
 pub returns-clause-put : goal.returns-clause-put
-returns-clause-put c = λ n host es f. let w = run es (opening n host) in
-    prefix_then _ _ _ (received n host es f) (prefix Driver (both_of w).driver.log (both_of w).device.log f 1 ((run_well n host es).sound.ties Driver))
+returns-clause-put c = λ n host es f. let w = run es (opening n host) in let well = run_well n host es in
+    prefix_then _ _ _ (received_is w well f) (to_driver w well f)

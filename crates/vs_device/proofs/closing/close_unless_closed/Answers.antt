@@ -1,6 +1,5 @@
 use Rattle.std.proofs.Common.{◌≡◌, ℕ, false, sym, subst, ◌∙◌, rules}
-use Rattle.vs_device_parts.specs.Calls.{Allows, CloseStream}
-use Rattle.vs_device_parts.specs.Playing.{situation}
+use Rattle.vs_device_parts.specs.{Calls.Allows, Calls.CloseStream, Playing.situation}
 use Rattle.vs_device.proofs.Leaving.{is_closed_now}
 use Rattle.vs_device.proofs.closing.close_unless_closed.Goals as goal
 

@@ -1,12 +1,8 @@
 use Rattle.std.proofs.Common.{subst}
-use Rattle.vs_device_parts.specs.Filling.{filling_of}
-use Rattle.vs_device_parts.specs.Playing.{Runs, situation}
-use Rattle.vs_device_parts.specs.Receiving.{Filling, hold}
+use Rattle.vs_device_parts.specs.{Filling.filling_of, Playing.Runs, Playing.situation, Receiving.Filling, Receiving.hold, Steps.takes_chain}
 use Rattle.vs_device_parts.specs.declared.fill.Fill.{Fill}
-use Rattle.vs_device.proofs.Stepping.{hold_stepped}
-use Rattle.vs_device_parts.specs.Steps.{takes_chain}
+use Rattle.vs_device.proofs.{Stepping.hold_stepped, Ordered.ring_step_streams}
 use Rattle.vs_device_laws.proofs.Stepping.{takes_keeps}
-use Rattle.vs_device.proofs.Ordered.{ring_step_streams}
 use Rattle.vs_ring_port.specs.declared.queue.Queue.TheVariants.{Rx}
 use Rattle.vs_device.proofs.steps.hold_chain.Goals as goal
 

@@ -1,11 +1,9 @@
 use Rattle.std.proofs.Common.{◌≡◌, true, false, sym, ap, ◌∙◌}
 use Rattle.vs_ring_port.specs.declared.queue.Queue.TheVariants.{Event, Rx}
-use Rattle.vs_device_parts.specs.Playing.{situation}
-use Rattle.vs_device_parts.specs.State.{DeviceState}
+use Rattle.vs_device_parts.specs.{Playing.situation, State.DeviceState, Steps.puts_event}
 use Rattle.vs_device.proofs.Stepping.{event_put, may_put_event, no_event_put, returned_among}
-use Rattle.vs_device_parts.specs.Steps.{puts_event}
-use Rattle.vs_device_laws.proofs.Stepping.{puts_event_keeps}
 use Rattle.vs_device.proofs.Ordered.{ring_step_streams}
+use Rattle.vs_device_laws.proofs.Stepping.{puts_event_keeps}
 use Rattle.vs_device.proofs.steps.put_event.Goals as goal
 
 pub put_event-requires-clause-may : goal.put_event-requires-clause-may

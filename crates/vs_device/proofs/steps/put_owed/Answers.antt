@@ -1,13 +1,9 @@
 use Rattle.std.proofs.Common.{◌≡◌, true, false, is_some, sym, ap, subst, ◌∙◌}
-use Rattle.vs_device_parts.specs.Filling.{filling_of}
-use Rattle.vs_device_parts.specs.Playing.{MayRun, Runs, situation}
-use Rattle.vs_device_parts.specs.Receiving.{Filling, put_owed}
-use Rattle.vs_device_parts.specs.State.{DeviceState}
+use Rattle.vs_device_parts.specs.{Filling.filling_of, Playing.MayRun, Playing.Runs, Playing.situation}
+use Rattle.vs_device_parts.specs.{Receiving.Filling, Receiving.put_owed, State.DeviceState, Steps.puts_owed}
 use Rattle.vs_device_parts.specs.declared.fill.Fill.{Fill}
-use Rattle.vs_device.proofs.Stepping.{may_put_owed, no_owed_stepped, owed_stepped}
-use Rattle.vs_device_parts.specs.Steps.{puts_owed}
+use Rattle.vs_device.proofs.{Stepping.may_put_owed, Stepping.no_owed_stepped, Stepping.owed_stepped, Ordered.step_streams}
 use Rattle.vs_device_laws.proofs.Stepping.{puts_owed_keeps}
-use Rattle.vs_device.proofs.Ordered.{step_streams}
 use Rattle.vs_device.proofs.steps.put_owed.Goals as goal
 
 pub put_owed-requires-clause-may : goal.put_owed-requires-clause-may

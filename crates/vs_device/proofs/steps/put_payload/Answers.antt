@@ -3,18 +3,15 @@ use Rattle.std.proofs.lemmas.Bool.Decides.{nat_tests}
 use Rattle.vs_contents.proofs.Leads.{leads_of}
 use Rattle.vs_credit.specs.Credit.{free_of}
 use Rattle.vs_flow.specs.Table.{entry_under, value_under}
-use Rattle.vs_device_parts.specs.Calls.{Allows}
-use Rattle.vs_device_parts.specs.Filling.{filling_of}
-use Rattle.vs_device_parts.specs.Playing.{MayRun, Runs, situation}
+use Rattle.vs_device_parts.specs.{Calls.Allows, Filling.filling_of, Playing.MayRun, Playing.Runs, Playing.situation}
 use Rattle.vs_device_parts.specs.Receiving.{Filling, may_read, read_with_chain}
-use Rattle.vs_device_parts.specs.State.{DeviceConnection, DeviceEntry, DeviceState}
+use Rattle.vs_device_parts.specs.{State.DeviceConnection, State.DeviceEntry, State.DeviceState, Steps.puts_payload}
 use Rattle.vs_device_parts.specs.declared.fill.Fill.{Fill}
 use Rattle.vs_device_parts.proofs.Under.{value_of}
 use Rattle.vs_device.proofs.Among.{same_among}
 use Rattle.vs_device.proofs.Reading.{IsToRead, if_some, may_step_read, read_stepped, reads_stream, same_entry, step_not_read}
-use Rattle.vs_device_parts.specs.Steps.{puts_payload}
-use Rattle.vs_device_laws.proofs.Stepping.{puts_payload_keeps}
 use Rattle.vs_device.proofs.Ordered.{step_streams}
+use Rattle.vs_device_laws.proofs.Stepping.{puts_payload_keeps}
 use Rattle.vs_device.proofs.steps.put_payload.Goals as goal
 
 pub read_with_chain-requires-clause-ring : goal.read_with_chain-requires-clause-ring

@@ -1,13 +1,9 @@
 use Rattle.std.proofs.Common.{◌≡◌, true, false, is_some, sym, ap, subst, ◌∙◌}
-use Rattle.vs_device_parts.specs.Filling.{filling_of}
-use Rattle.vs_device_parts.specs.Playing.{MayRun, Runs, situation}
-use Rattle.vs_device_parts.specs.Receiving.{Filling, put_reply}
-use Rattle.vs_device_parts.specs.State.{DeviceState}
+use Rattle.vs_device_parts.specs.{Filling.filling_of, Playing.MayRun, Playing.Runs, Playing.situation}
+use Rattle.vs_device_parts.specs.{Receiving.Filling, Receiving.put_reply, State.DeviceState, Steps.puts_reply}
 use Rattle.vs_device_parts.specs.declared.fill.Fill.{Fill}
-use Rattle.vs_device.proofs.Stepping.{may_put_reply, no_reply_stepped, reply_stepped}
-use Rattle.vs_device_parts.specs.Steps.{puts_reply}
+use Rattle.vs_device.proofs.{Stepping.may_put_reply, Stepping.no_reply_stepped, Stepping.reply_stepped, Ordered.ring_step_streams}
 use Rattle.vs_device_laws.proofs.Stepping.{puts_reply_keeps}
-use Rattle.vs_device.proofs.Ordered.{ring_step_streams}
 use Rattle.vs_device.proofs.steps.put_reply.Goals as goal
 
 pub put_reply-requires-clause-may : goal.put_reply-requires-clause-may

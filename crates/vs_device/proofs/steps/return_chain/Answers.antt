@@ -1,8 +1,7 @@
 use Rattle.std.proofs.Common.{◌≡◌, refl, sym, ◌∙◌}
 use Rattle.vs_ring_port.specs.declared.queue.Queue.TheVariants.{Rx, Tx}
 use Rattle.vs_device_parts.specs.Playing.{situation}
-use Rattle.vs_device.proofs.Returning.{returned_unread}
-use Rattle.vs_device.proofs.Stepping.{returned_among}
+use Rattle.vs_device.proofs.{Returning.returned_unread, Stepping.returned_among}
 use Rattle.vs_device.proofs.steps.return_chain.Goals as goal
 
 pub return_read-requires-clause-may : goal.return_read-requires-clause-may

@@ -1,6 +1,5 @@
 use Rattle.std.proofs.Common.{◌≡◌, true, false, sym, ap, ◌∙◌}
-use Rattle.vs_device_parts.specs.Playing.{situation}
-use Rattle.vs_device_parts.specs.State.{DeviceState}
+use Rattle.vs_device_parts.specs.{Playing.situation, State.DeviceState}
 use Rattle.vs_device.proofs.Stepping.{after_among, event_stepped, no_event_stepped}
 use Rattle.vs_device.proofs.steps.take_event.Goals as goal
 

@@ -3,14 +3,12 @@ use Rattle.vs_ring_port.specs.Contents.{Take}
 use Rattle.vs_ring_port.specs.declared.device_ring.Next.{Next}
 use Rattle.vs_ring_port.specs.declared.device_ring.Next.TheVariants as next
 use Rattle.vs_ring_port.specs.declared.queue.Queue.TheVariants.{Tx}
-use Rattle.vs_device_parts.specs.Calls.{Allows, Ring}
-use Rattle.vs_device_parts.specs.Playing.{MayRun, situation}
-use Rattle.vs_device_parts.specs.State.{DeviceState}
+use Rattle.vs_device_parts.specs.{Calls.Allows, Calls.Ring, Playing.MayRun, Playing.situation, State.DeviceState}
 use Rattle.vs_device_parts.specs.Steps.{chain_came, takes_chain}
 use Rattle.vs_device_parts.specs.declared.limits.TheConstants.{REPLIES}
 use Rattle.vs_device.proofs.Stepping.{by_came, came, may_be_heard, may_come, taken_among, takes_none, was_heard}
-use Rattle.vs_device_laws.proofs.Stepping.{takes_keeps}
 use Rattle.vs_device.proofs.Ordered.{step_streams}
+use Rattle.vs_device_laws.proofs.Stepping.{takes_keeps}
 use Rattle.vs_device.proofs.steps.take_packet.Goals as goal
 
 pub returns-then-len-ge-REPLIES-clause-calls : goal.returns-then-len-ge-REPLIES-clause-calls

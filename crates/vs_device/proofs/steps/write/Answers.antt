@@ -1,15 +1,10 @@
 use Rattle.std.proofs.Common.{◌≡◌, false, sym, subst}
 use Rattle.vs_ring_port.specs.Contents.{RingContents}
-use Rattle.vs_device_parts.specs.Playing.{situation}
-use Rattle.vs_device_parts.specs.State.{DeviceEntry, DeviceState}
-use Rattle.vs_device_parts.specs.Written.{writing}
+use Rattle.vs_device_parts.specs.{Playing.situation, State.DeviceEntry, State.DeviceState, Written.writing, Steps.writes}
 use Rattle.vs_flow.specs.Table.{entry_under}
-use Rattle.vs_device.proofs.Pumping.{has_stream}
-use Rattle.vs_device.proofs.Reading.{same_entry}
-use Rattle.vs_device.proofs.Stepping.{may_step_write, no_write_stepped, write_stepped}
-use Rattle.vs_device_parts.specs.Steps.{writes}
+use Rattle.vs_device.proofs.{Pumping.has_stream, Reading.same_entry}
+use Rattle.vs_device.proofs.{Stepping.may_step_write, Stepping.no_write_stepped, Stepping.write_stepped, Ordered.host_step_streams}
 use Rattle.vs_device_laws.proofs.Stepping.{writes_keeps}
-use Rattle.vs_device.proofs.Ordered.{host_step_streams}
 use Rattle.vs_device.proofs.steps.write.Goals as goal
 
 pub write_pending-requires-clause-may : goal.write_pending-requires-clause-may

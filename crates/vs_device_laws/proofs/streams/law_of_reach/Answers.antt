@@ -1,17 +1,9 @@
-use Rattle.vs_device_parts.specs.Calls.{Allows}
-use Rattle.vs_device_parts.specs.Playing.{CanMake}
-use Rattle.vs_device_parts.specs.Receiving.{fill_rx_of, pay_event_of}
-use Rattle.vs_device_parts.specs.Streams.{pump_of, tick_of}
-use Rattle.vs_device_parts.specs.Transmitting.{take_tx_of}
-use Rattle.vs_device_parts.specs.Turns.{open_of, reset_of}
+use Rattle.vs_device_parts.specs.{Calls.Allows, Playing.CanMake, Receiving.fill_rx_of, Receiving.pay_event_of}
+use Rattle.vs_device_parts.specs.{Streams.pump_of, Streams.tick_of, Transmitting.take_tx_of, Turns.open_of, Turns.reset_of}
 use Rattle.vs_device_laws.specs.Split.{CanReach}
-use Rattle.vs_device_laws.proofs.Closing.{keeps_tick}
-use Rattle.vs_device_laws.proofs.Conditions.{may_where, quiet_can}
-use Rattle.vs_device_laws.proofs.Keeping.{keeps_may}
+use Rattle.vs_device_laws.proofs.{Closing.keeps_tick, Conditions.may_where, Conditions.quiet_can, Keeping.keeps_may}
 use Rattle.vs_device_laws.proofs.Opening.{both_found, keeps_open, keeps_reset}
-use Rattle.vs_device_laws.proofs.Receiving.{keeps_fill_rx, keeps_pay_event}
-use Rattle.vs_device_laws.proofs.Transmitting.{keeps_take_tx}
-use Rattle.vs_device_laws.proofs.Writing.{keeps_pump}
+use Rattle.vs_device_laws.proofs.{Receiving.keeps_fill_rx, Receiving.keeps_pay_event, Transmitting.keeps_take_tx, Writing.keeps_pump}
 use Rattle.vs_device_laws.proofs.streams.law_of_reach.Goals as goal
 
 pub returns-clause-tick : goal.returns-clause-tick

@@ -1,7 +1,5 @@
-use Rattle.vs_device_parts.specs.Streams.{pump_of, tick_of}
-use Rattle.vs_device_parts.specs.Turns.{open_of}
-use Rattle.vs_device_log.proofs.Keeping.{keeps_end}
-use Rattle.vs_device_log.proofs.Turning.{open_keeps, pump_keeps, tick_keeps}
+use Rattle.vs_device_parts.specs.{Streams.pump_of, Streams.tick_of, Turns.open_of}
+use Rattle.vs_device_log.proofs.{Keeping.keeps_end, Turning.open_keeps, Turning.pump_keeps, Turning.tick_keeps}
 use Rattle.vs_device_log.proofs.laws.law_of_other_calls.Goals as goal
 
 pub returns-clause-tick : goal.returns-clause-tick

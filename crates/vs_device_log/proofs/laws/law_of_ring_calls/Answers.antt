@@ -1,14 +1,7 @@
-use Rattle.vs_device_parts.specs.Calls.{Allows}
-use Rattle.vs_device_parts.specs.Receiving.{fill_rx_of, pay_event_of}
-use Rattle.vs_device_parts.specs.Transmitting.{take_tx_of}
-use Rattle.vs_device_parts.specs.Turns.{reset_of}
+use Rattle.vs_device_parts.specs.{Calls.Allows, Receiving.fill_rx_of, Receiving.pay_event_of, Transmitting.take_tx_of, Turns.reset_of}
 use Rattle.vs_device_laws.specs.Split.{CanReach}
-use Rattle.vs_device_laws.proofs.Conditions.{may_where}
-use Rattle.vs_device_laws.proofs.Keeping.{keeps_may}
-use Rattle.vs_device_laws.proofs.Receiving.{keeps_fill_rx, keeps_pay_event}
-use Rattle.vs_device_log.proofs.Filling.{fill_keeps}
-use Rattle.vs_device_log.proofs.Keeping.{keeps_end, keeps_put}
-use Rattle.vs_device_log.proofs.Transmitting.{take_keeps}
+use Rattle.vs_device_laws.proofs.{Conditions.may_where, Keeping.keeps_may, Receiving.keeps_fill_rx, Receiving.keeps_pay_event}
+use Rattle.vs_device_log.proofs.{Filling.fill_keeps, Keeping.keeps_end, Keeping.keeps_put, Transmitting.take_keeps}
 use Rattle.vs_device_log.proofs.Turning.{new_with, pay_keeps, reset_keeps}
 use Rattle.vs_device_log.proofs.laws.law_of_ring_calls.Goals as goal
 

@@ -1,6 +1,5 @@
 use Rattle.std.proofs.Common.{◌≡◌, ◌++◌, take}
-use Rattle.std.specs.List.{filter}
-use Rattle.std.specs.Prelude.{nat_lt}
+use Rattle.std.specs.{List.filter, Prelude.nat_lt}
 use Rattle.vs_device_parts.proofs.round.push_above.Given as goal
 
 abbrev pub invariant-loop-slot : goal.invariant-loop-slot

@@ -1,6 +1,5 @@
 use Rattle.std.proofs.Common.{rules, arith, ◌≡◌, ◌<◌, ℕ, true, length, take, get_or, ap, length-append, List}
-use Rattle.std.specs.List.{filter}
-use Rattle.std.specs.Prelude.{nat_le}
+use Rattle.std.specs.{List.filter, Prelude.nat_le}
 use Rattle.std.proofs.lemmas.Bool.Decides.{nat_tests}
 use Rattle.vs_device_parts.proofs.Rounds.{is_room}
 use Rattle.vs_device_parts.proofs.round.push_up_to.Goals as goal

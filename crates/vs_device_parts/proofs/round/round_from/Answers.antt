@@ -1,6 +1,5 @@
 use Rattle.std.proofs.Common.{arith, ◌≡◌, ◌++◌, ℕ, length, ap, List, ◌∙◌}
-use Rattle.std.specs.List.{filter}
-use Rattle.std.specs.Prelude.{nat_lt}
+use Rattle.std.specs.{List.filter, Prelude.nat_lt}
 use Rattle.vs_device_parts.proofs.Rounds.{are_all}
 use Rattle.vs_device_parts.proofs.round.round_from.Goals as goal
 

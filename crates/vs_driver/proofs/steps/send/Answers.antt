@@ -1,15 +1,11 @@
 use Rattle.std.proofs.Common.{◌≡◌, Some, length, take, is_some, sym, ap, subst, refl, ◌∙◌}
-use Rattle.vs_contents.proofs.Leads.{leads_of}
-use Rattle.vs_contents.proofs.Conditions.{may_of}
+use Rattle.vs_contents.proofs.{Leads.leads_of, Conditions.may_of}
 use Rattle.vs_flow.specs.Table.{entry_under}
 use Rattle.vs_conn.specs.End.{CanSend}
-use Rattle.vs_driver_parts.specs.State.{DriverEntry, DriverState}
-use Rattle.vs_driver_parts.specs.Playing.{CanMake, MayPublishAll, RingAllows}
-use Rattle.vs_driver_parts.specs.Conversations.{send_with_page}
-use Rattle.vs_driver_parts.specs.Steps.{sends}
+use Rattle.vs_driver_parts.specs.{State.DriverEntry, State.DriverState, Playing.CanMake, Playing.MayPublishAll, Playing.RingAllows}
+use Rattle.vs_driver_parts.specs.{Conversations.send_with_page, Steps.sends}
 use Rattle.vs_driver_parts.proofs.Known.{some_inj}
-use Rattle.vs_driver_log.proofs.Keeping.{keeps_end, keeps_may}
-use Rattle.vs_driver_log.proofs.Stepping.{sends_keeps}
+use Rattle.vs_driver_log.proofs.{Keeping.keeps_end, Keeping.keeps_may, Stepping.sends_keeps}
 use Rattle.vs_driver.proofs.RingPages.{ring_same}
 use Rattle.vs_driver.proofs.Sending.{IsReady, can_send, found_ready, ready_goes, step_sends, step_stops}
 use Rattle.vs_driver.proofs.steps.send.Goals as goal

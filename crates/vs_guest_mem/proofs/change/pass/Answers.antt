@@ -1,5 +1,4 @@
-use Rattle.std.proofs.Common.{sym, ap, ◌∙◌}
-use Rattle.std.proofs.RetainMut.{retains_is_retain_mut}
+use Rattle.std.proofs.{Common.sym, Common.ap, Common.◌∙◌, RetainMut.retains_is_retain_mut}
 use Rattle.vs_guest_mem.specs.Memory.{is_later, nearer}
 use Rattle.vs_guest_mem.proofs.change.pass.Goals as goal
 

@@ -75,20 +75,16 @@ loop-preserved g c =
       sink_faults = c.in_ok-step.ensures.sink_faults ∙ c.loop.invariant.sink_faults;
     }
 
-pub returns-in_err-waited-in-Still-clause-exchanges : goal.returns-in_err-waited-in-Still-clause-exchanges
-returns-in_err-waited-in-Still-clause-exchanges g c =
-    let e = c.in_err-waited-in-Still.field-0.0 in
-    let is : c.from_residual-in_err-waited-in-Still.result ≡ Err e = grind (arith, c.from_residual-in_err-waited-in-Still.ensures) in
+pub returns-then-gives_up-clause-exchanges : goal.returns-then-gives_up-clause-exchanges
+returns-then-gives_up-clause-exchanges g c =
     let host = g.H.HostNet.contents c.args.host.now in
     let mid = g.H.HostNet.contents c.loop.host in
     let after = g.H.HostNet.contents c.step.new.host in
     let out = g.K.Sink.contents c.args.out.now in
     let out' = g.K.Sink.contents c.loop.out in
     let out'' = g.K.Sink.contents c.step.new.out in
-    let P : Result (Unit {0}) Stop → Type 0 = λ r. Exchanges c.args.id c.args.bytes.now host after out out'' r in
-    subst P (sym is) (waits c.args.id c.args.bytes.now c.step.new.sending host after out out'' e
-    (c.one_more.ensures.stops e c.in_err-waited-in-Still.was) c.in_ok-step.field-0 c.in-Still.is
+    waits c.args.id c.args.bytes.now c.step.new.sending host after out out'' c.in_ok-step.field-0 c.in-Still.is
     (goes_on c.args.id c.args.bytes.now c.loop.sending c.step.new.sending host mid after out out' out'' c.loop.invariant.exchanged
     c.step.ensures.goes_on
     c.step.ensures.sending c.in_ok-step.ensures.steps.0)
-    c.in_ok-step.ensures.steps.1)
+    c.in_ok-step.ensures.steps.1

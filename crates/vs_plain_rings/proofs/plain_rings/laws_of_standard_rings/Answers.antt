@@ -1,9 +1,7 @@
 use Rattle.std.proofs.Common.{subst}
 use Rattle.vs_ring_list.proofs.Ties.{device_got, driver_got}
-use Rattle.vs_plain_ties.specs.Exposed.{BothEnds}
-use Rattle.vs_plain_ties.specs.Tie.{IsTiedTo}
-use Rattle.vs_plain_rings.proofs.Counted.{are_counted}
-use Rattle.vs_plain_rings.proofs.Rings.{of_ends}
+use Rattle.vs_plain_ties.specs.{Exposed.BothEnds, Tie.IsTiedTo}
+use Rattle.vs_plain_rings.proofs.{Counted.are_counted, Rings.of_ends}
 use Rattle.vs_plain_rings.proofs.plain_rings.laws_of_standard_rings.Goals as goal
 
 tied : (c : goal.After-cid-cid) → IsTiedTo c.args.rings.now.parts c.args.rings.now.ends

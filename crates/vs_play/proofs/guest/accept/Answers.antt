@@ -1,13 +1,12 @@
-use Rattle.std.proofs.Common.{sym, ap₂, subst}
-use Rattle.vs_contents.specs.CallTree.{Done}
-use Rattle.vs_driver_parts.specs.Playing.{SamePages}
-use Rattle.vs_play.proofs.Driven.{driven_stays}
+use Rattle.std.proofs.Common.{◌++◌, ap, refl, string_bytes, ◌∙◌}
+use Rattle.std.proofs.lemmas.Result.{on_ok_weaker}
+use Rattle.vs_world.specs.Calls as call
+use Rattle.vs_report.specs.GuestLines.{accept_text}
 use Rattle.vs_world.proofs.SamePages.{accept_stays}
+use Rattle.vs_play.proofs.Driven.{replies_as}
 use Rattle.vs_play.proofs.guest.accept.Goals as goal
 
-pub returns-clause-made : goal.returns-clause-made
-returns-clause-made c = sym (ap₂ (λ s r. Done (s, r)) c.accept.ensures.accepted c.accept.ensures.answer)
-
-pub returns-clause-driven : goal.returns-clause-driven
-returns-clause-driven c = λ e. driven_stays c.args.driver.now c.accept.new.self e
-    (subst (λ s. SamePages c.args.driver.now s) (sym c.accept.ensures.accepted) (accept_stays c.args.port c.args.driver.now)) c.accept.ensures.honest
+pub returns : goal.returns
+returns c = λ e driven. on_ok_weaker c.push_accept.result (λ printed. replies_as (call.Accept c.args.port) _ _ _ _ _ e _ _ refl
+    c.accept-answer.ensures.accepted c.accept-answer.ensures.answer (accept_stays c.args.port c.args.driver.now) c.accept-answer.ensures.honest driven
+    (printed ∙ ap (λ f. string_bytes c.args.text.now ++ accept_text c.accept-answer.result f) c.flow_accepted-flow.ensures)) c.push_accept.ensures

@@ -1,13 +1,10 @@
-use Rattle.std.proofs.Common.{sym, ap₂, subst}
-use Rattle.vs_contents.specs.CallTree.{Done}
-use Rattle.vs_driver_parts.specs.Playing.{SamePages}
-use Rattle.vs_play.proofs.Driven.{driven_stays}
+use Rattle.std.proofs.Common.{refl}
+use Rattle.std.proofs.lemmas.Result.{on_ok_weaker}
+use Rattle.vs_world.specs.Calls as call
 use Rattle.vs_world.proofs.SamePages.{close_stays}
+use Rattle.vs_play.proofs.Driven.{replies_as}
 use Rattle.vs_play.proofs.guest.close.Goals as goal
 
-pub returns-clause-made : goal.returns-clause-made
-returns-clause-made c = sym (ap₂ (λ s r. Done (s, r)) c.close.ensures.state c.close.ensures.answer)
-
-pub returns-clause-driven : goal.returns-clause-driven
-returns-clause-driven c = λ e. driven_stays c.args.driver.now c.close.new.self e
-    (subst (λ s. SamePages c.args.driver.now s) (sym c.close.ensures.state) (close_stays c.args.id c.args.driver.now)) c.close.ensures.honest
+pub returns : goal.returns
+returns c = λ e driven. on_ok_weaker c.push_close.result (λ printed. replies_as (call.Close c.args.id) _ _ _ _ _ e _ _ refl
+    c.close-answer.ensures.state c.close-answer.ensures.answer (close_stays c.args.id c.args.driver.now) c.close-answer.ensures.honest driven printed) c.push_close.ensures

@@ -1,6 +1,5 @@
 use Rattle.std.proofs.Common.{◌≡◌, ℕ, [], Option, unwrap_or, refl, sym, ap, subst, ◌∙◌}
-use Rattle.vs_ring_port.specs.Counts.{no_counts}
-use Rattle.vs_ring_port.specs.EndLog.{EndLog, empty_log}
+use Rattle.vs_ring_port.specs.{Counts.no_counts, EndLog.EndLog, EndLog.empty_log}
 use Rattle.vs_ring_list.specs.Ends.{driver_contents, empty_ends, flight_of, staged_of}
 use Rattle.vs_driver_parts.specs.Conversations.{new_of}
 use Rattle.vs_driver_parts.specs.declared.limits.TheConstants.{FIRST_PORT}

@@ -1,10 +1,11 @@
-use Rattle.std.proofs.Common.{length, sym, subst}
-use Rattle.vs_driver_parts.specs.Playing.{SamePages}
-use Rattle.vs_play.proofs.Driven.{driven_stays}
-use Rattle.vs_world.proofs.SamePages.{recv_stays}
+use Rattle.std.proofs.Common.{◌++◌, ap, string_bytes, ◌∙◌}
+use Rattle.std.proofs.lemmas.Result.{on_ok_weaker}
+use Rattle.vs_world.specs.Calls as call
+use Rattle.vs_report.specs.GuestLines.{recv_text}
+use Rattle.vs_play.proofs.Driven.{replies}
 use Rattle.vs_play.proofs.guest.recv.Goals as goal
 
-pub returns-clause-driven : goal.returns-clause-driven
-returns-clause-driven c = λ e. driven_stays c.args.driver.now c.recv-answer.new.self e
-    (subst (λ s. SamePages c.args.driver.now s) (sym c.recv-answer.ensures.state) (recv_stays c.args.id (length c.deref_mut.result.now) c.args.driver.now))
-    c.recv-answer.ensures.honest
+pub returns : goal.returns
+returns c = λ e driven. on_ok_weaker c.push_recv.result (λ printed. replies (call.Recv c.args.id c.args.len) c.args.driver.now c.received.new.driver (c.in_ok-answer.answer, c.in_ok-answer.bytes.items) e _ _
+    c.in_ok-answer.ensures.made (c.in_ok-answer.ensures.driven e driven)
+    (printed ∙ ap (λ b. string_bytes c.args.text.now ++ recv_text c.in_ok-answer.answer b) c.deref.ensures.value)) c.push_recv.ensures

@@ -1,13 +1,11 @@
-use Rattle.std.proofs.Common.{sym, ap₂, subst}
-use Rattle.vs_contents.specs.CallTree.{Done}
-use Rattle.vs_driver_parts.specs.Playing.{SamePages}
-use Rattle.vs_play.proofs.Driven.{driven_stays}
+use Rattle.std.proofs.Common.{refl}
+use Rattle.std.proofs.lemmas.Result.{on_ok_weaker}
+use Rattle.vs_world.specs.Calls as call
 use Rattle.vs_world.proofs.SamePages.{shutdown_stays}
+use Rattle.vs_play.proofs.Driven.{replies_as}
 use Rattle.vs_play.proofs.guest.shutdown.Goals as goal
 
-pub returns-clause-made : goal.returns-clause-made
-returns-clause-made c = sym (ap₂ (λ s r. Done (s, r)) c.shutdown.ensures.state c.shutdown.ensures.answer)
-
-pub returns-clause-driven : goal.returns-clause-driven
-returns-clause-driven c = λ e. driven_stays c.args.driver.now c.shutdown.new.self e
-    (subst (λ s. SamePages c.args.driver.now s) (sym c.shutdown.ensures.state) (shutdown_stays c.args.id c.args.bits c.args.driver.now)) c.shutdown.ensures.honest
+pub returns : goal.returns
+returns c = λ e driven. on_ok_weaker c.push_shutdown.result (λ printed. replies_as (call.Shutdown c.args.id c.args.bits) _ _ _ _ _ e _ _ refl
+    c.shutdown-answer.ensures.state c.shutdown-answer.ensures.answer (shutdown_stays c.args.id c.args.bits c.args.driver.now)
+    c.shutdown-answer.ensures.honest driven printed) c.push_shutdown.ensures

@@ -1,8 +1,8 @@
-use Rattle.vs_play.proofs.Driven.{driven_stays}
-use Rattle.vs_world.proofs.SamePages.{unlistening_stays}
+use Rattle.std.proofs.lemmas.Result.{on_ok_weaker}
+use Rattle.vs_world.specs.Calls as call
+use Rattle.vs_play.proofs.Driven.{replies}
 use Rattle.vs_play.proofs.guest.unlisten.Goals as goal
 
-pub returns-clause-driven : goal.returns-clause-driven
-returns-clause-driven c = λ e. driven_stays c.args.driver.now c.unlisten.new.self e
-    (unlistening_stays c.args.port c.args.driver.now c.unlisten.new.self c.unlisten.result c.unlisten.ensures.state c.unlisten.ensures.unchanged)
-    c.unlisten.ensures.honest
+pub returns : goal.returns
+returns c = λ e driven. on_ok_weaker c.push_unlisten.result (λ printed. replies (call.Unlisten c.args.port) c.args.driver.now c.unlistened-found.new.driver c.unlistened-found.result e _ _
+    c.unlistened-found.ensures.made (c.unlistened-found.ensures.driven e driven) printed) c.push_unlisten.ensures

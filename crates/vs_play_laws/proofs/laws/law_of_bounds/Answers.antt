@@ -1,4 +1,4 @@
-use Rattle.vs_play_laws.proofs.Spelled.{all_bounded}
+use Rattle.vs_script.proofs.Bounded.{all_bounded}
 use Rattle.vs_play_laws.proofs.laws.law_of_bounds.Goals as goal
 
 pub returns : goal.returns

@@ -1,6 +1,5 @@
 use Rattle.std.proofs.Common.{subst}
-use Rattle.vs_device_parts.specs.Playing.{Runs, situation}
-use Rattle.vs_device_parts.specs.Steps.{returns}
+use Rattle.vs_device_parts.specs.{Playing.Runs, Playing.situation, Steps.returns}
 use Rattle.vs_proxy_parts.specs.State.{ProxyState}
 use Rattle.vs_proxy.proofs.steps.return_chain.Goals as goal
 

@@ -1,7 +1,5 @@
 use Rattle.vs_proxy_parts.specs.Turns.{proxy_reset_of, turn_of}
-use Rattle.vs_proxy_bytes.proofs.Keeping.{keeps_end}
-use Rattle.vs_proxy_bytes.proofs.Opening.{new_agrees}
-use Rattle.vs_proxy_bytes.proofs.Turning.{keeps_proxy_reset, keeps_turn}
+use Rattle.vs_proxy_bytes.proofs.{Keeping.keeps_end, Opening.new_agrees, Turning.keeps_proxy_reset, Turning.keeps_turn}
 use Rattle.vs_proxy_bytes.proofs.laws.law_of_accounts.Goals as goal
 
 pub returns-clause-new : goal.returns-clause-new

@@ -1,4 +1,5 @@
-use Rattle.std.proofs.Common.{◌≡◌, ℕ, zero, suc, ◌-◌, ◌==◌, Bool, true, false, cond, List, [], slice_get, Option, None, refl, sym, ap, subst, ◌∙◌}
+use Rattle.std.proofs.Common.{◌≡◌, ℕ, zero, suc, ◌-◌, ◌==◌, Bool, true, false, cond, List, [], slice_get, Option, None, refl, sym, ap}
+use Rattle.std.proofs.Common.{subst, ◌∙◌}
 use Rattle.vs_outside.specs.Host.{HostContents, Stream, stream_at}
 use Rattle.vs_proxy_bytes.specs.Told.{ShowsAt}
 use Rattle.vs_proxy_bytes.proofs.laws.law_of_new_hosts.Goals as goal

@@ -1,8 +1,6 @@
-use Rattle.vs_device_parts.specs.Calls.{Allows}
-use Rattle.vs_device_parts.specs.Playing.{CanMake}
+use Rattle.vs_device_parts.specs.{Calls.Allows, Playing.CanMake}
 use Rattle.vs_device_laws.specs.Split.{CanReach}
-use Rattle.vs_device_laws.proofs.Conditions.{may_where, quiet_can}
-use Rattle.vs_device_laws.proofs.Keeping.{keeps_may}
+use Rattle.vs_device_laws.proofs.{Conditions.may_where, Conditions.quiet_can, Keeping.keeps_may}
 use Rattle.vs_proxy_parts.specs.Turns.{proxy_reset_of, turn_of}
 use Rattle.vs_proxy_laws.proofs.Turning.{keeps_proxy_reset, keeps_turn}
 use Rattle.vs_proxy_laws.proofs.streams.law_of_reach.Goals as goal

@@ -1,13 +1,9 @@
 use Rattle.std.proofs.Common.{[]}
-use Rattle.vs_device_parts.specs.Calls.{Allows}
-use Rattle.vs_device_parts.specs.Playing.{CanMake}
+use Rattle.vs_device_parts.specs.{Calls.Allows, Playing.CanMake}
 use Rattle.vs_device_laws.specs.Split.{CanReach}
-use Rattle.vs_device_laws.proofs.Conditions.{quiet_can}
-use Rattle.vs_device_laws.proofs.Keeping.{keeps_end}
-use Rattle.vs_device_laws.proofs.Opening.{new_has}
+use Rattle.vs_device_laws.proofs.{Conditions.quiet_can, Keeping.keeps_end, Opening.new_has}
 use Rattle.vs_proxy_parts.specs.Turns.{proxy_reset_of, turn_of}
-use Rattle.vs_proxy_laws.proofs.Lists.{none_open}
-use Rattle.vs_proxy_laws.proofs.Turning.{keeps_proxy_reset, keeps_turn}
+use Rattle.vs_proxy_laws.proofs.{Lists.none_open, Turning.keeps_proxy_reset, Turning.keeps_turn}
 use Rattle.vs_proxy_laws.proofs.streams.law_of_streams.Goals as goal
 
 pub returns-clause-new : goal.returns-clause-new

@@ -1,5 +1,4 @@
-use Rattle.vs_proxy_log.proofs.Ordered.{reset_honest, turn_honest, turn_may}
-use Rattle.vs_proxy_log.proofs.Turning.{new_proxy_with}
+use Rattle.vs_proxy_log.proofs.{Ordered.reset_honest, Ordered.turn_honest, Ordered.turn_may, Turning.new_proxy_with}
 use Rattle.vs_proxy_log.proofs.laws.law_of_turns.Goals as goal
 
 pub returns-clause-new : goal.returns-clause-new

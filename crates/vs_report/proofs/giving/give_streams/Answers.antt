@@ -1,6 +1,5 @@
-use Rattle.std.proofs.Common.{Err, Ok, ◌≡◌, ◌+◌, [], ◌∷◌, ap, arith, subst}
-use Rattle.vs_report.specs.Report.{stream_text}
-use Rattle.vs_report.specs.Gives.{GivesLines}
+use Rattle.std.proofs.Common.{Err, Ok, ◌+◌, [], ◌∷◌, ap, arith, subst}
+use Rattle.vs_report.specs.{Report.stream_text, Gives.GivesLines}
 use Rattle.vs_report.proofs.Reports.{stream_given, streams_until}
 use Rattle.vs_report.proofs.giving.give_streams.Goals as goal
 

@@ -1,6 +1,5 @@
 use Rattle.std.proofs.Common.{◌≡◌, Ok, take}
-use Rattle.vs_report.specs.Report.{stream_texts}
-use Rattle.vs_report.specs.Gives.{GivesLines}
+use Rattle.vs_report.specs.{Report.stream_texts, Gives.GivesLines}
 use Rattle.vs_report.proofs.giving.give_streams.Given as goal
 
 -- as many streams were given as are numbered

@@ -1,7 +1,3 @@
-use Rattle.std.proofs.Common.{◌<◌, arith}
-use Rattle.std.proofs.lemmas.List.Quantifiers.{position-Some}
-use Rattle.vs_ring_port.specs.Chains.{same_chain}
-use Rattle.vs_ring_plain.specs.declared.holds.Hold.{Hold}
 use Rattle.vs_ring_plain.proofs.HeldChains.{found_if_held}
 use Rattle.vs_ring_plain.proofs.holds.place_of.Goals as goal
 

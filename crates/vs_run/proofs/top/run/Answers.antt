@@ -1,5 +1,5 @@
 use Rattle.std.proofs.Common.{◌≡◌, ◌∙◌, Some, ap, map, refl, subst, string_bytes, sym}
-use Rattle.vs_words.specs.Command.{Command, Hostile, Play, command_of, command_view}
+use Rattle.vs_words.specs.Command.{Hostile, Play, command_of, command_view}
 use Rattle.vs_run.specs.Does.{Does, lent}
 use Rattle.vs_run.proofs.top.run.Goals as goal
 

@@ -1,7 +1,6 @@
 use Rattle.std.proofs.Common.{rules, ◌≡◌, [], refl, codes, arith, Err}
 use Rattle.clap.specs.Words.{app_of, kind_of}
-use Rattle.vs_words.proofs.Readings.{err_said, ok_reads, texts_behind}
-use Rattle.vs_words.proofs.Rules.{app_with}
+use Rattle.vs_words.proofs.{Readings.err_said, Readings.ok_reads, Readings.texts_behind, Rules.app_with}
 use Rattle.vs_words.specs.Errors.{error_of}
 use Rattle.vs_words.proofs.options.hostile_options.Goals as goal
 

@@ -1,7 +1,6 @@
 use Rattle.std.proofs.Common.{rules, ◌≡◌, ◌∙◌, List, [], ◌∷◌, refl, codes, ap₂, arith, Err}
 use Rattle.clap.specs.Words.{Text, app_of, kind_of, rule_of, with_rule}
-use Rattle.vs_words.proofs.Readings.{err_said, ok_reads, texts_behind}
-use Rattle.vs_words.proofs.Rules.{app_with, option_rule}
+use Rattle.vs_words.proofs.{Readings.err_said, Readings.ok_reads, Readings.texts_behind, Rules.app_with, Rules.option_rule}
 use Rattle.vs_words.specs.Errors.{error_of}
 use Rattle.vs_words.proofs.options.play_options.Goals as goal
 

@@ -1,13 +1,19 @@
-use Rattle.std.proofs.Common.{◌≡◌, refl, subst, sym, true}
+use Rattle.std.proofs.Common.{◌≡◌, true, refl, sym, ap₂, subst}
+use Rattle.vs_contents.specs.CallTree.{Done}
+use Rattle.vs_driver_parts.specs.Playing.{SamePages}
 use Rattle.vs_world.specs.Calls as call
 use Rattle.vs_world.specs.Events.{is_at_rest}
+use Rattle.vs_world.proofs.SamePages.{accept_stays}
 use Rattle.vs_core.specs.Ready.{IsReady, WorldState}
-use Rattle.vs_core.proofs.Happening.{calls}
+use Rattle.vs_core.proofs.Happening.{calls_in}
 use Rattle.vs_core.proofs.world.World.accept.Goals as goal
 
 pub returns : goal.returns
 returns c =
     let ready = subst IsReady (sym c.self.view_is) c.requires.ready in
     let rest = subst (λ (w : WorldState). is_at_rest w.rings.driver.staged ≡ true) (sym c.self.view_is) c.requires.rest in
-    rw (← c.self.view_is) (calls (call.Accept c.args.port) _ ready c.accept.new.driver c.accept.result _ rest refl
-    c.accept.ensures.made (c.accept.ensures.driven _ rest ready.driven) refl)
+    let old = c.self.inside in
+    let d = c.accept in
+    rw (← c.self.view_is) (calls_in (call.Accept c.args.port) _ ready d.new.self d.result _ rest refl
+    (sym (ap₂ (λ s r. Done (s, r)) d.ensures.accepted d.ensures.answer))
+    (subst (λ s. SamePages old.driver s) (sym d.ensures.accepted) (accept_stays c.args.port old.driver)) d.ensures.honest refl)

@@ -1,58 +1,70 @@
-use Rattle.std.proofs.Common.{◌≡◌, ◌≤◌, ◌&&◌, nat_le, true, Some, Contains, refl, sym, subst, arith}
+use Rattle.std.proofs.Common.{◌≡◌, ◌&&◌, nat_le, true, List, Some, refl, sym, subst, arith}
 use Rattle.std.proofs.lemmas.Bool.Decides.{nat_tests}
-use Rattle.std.proofs.lemmas.Result.{on_ok_weaker}
-use Rattle.vs_ring_port.specs.Chains.{chains_of, same_queue}
+use Rattle.std.proofs.lemmas.{Result.on_ok_weaker, Bool.and_parts}
+use Rattle.vs_ring_port.specs.Chains.{Held, same_queue}
+use Rattle.vs_ring_port.specs.declared.device_ring.Chain.{Chain}
 use Rattle.vs_ring_port.specs.declared.queue.Queue.TheVariants.{Event}
-use Rattle.vs_ring_list.specs.Ends.{device_contents}
-use Rattle.vs_device_parts.specs.Playing.{MayRun, situation}
 use Rattle.vs_device_parts.specs.Steps.{puts_event}
-use Rattle.vs_world.specs.Events.{DevicePutsEvent, device_step}
-use Rattle.vs_world.specs.Pages.{is_held}
-use Rattle.vs_world.specs.Over.{device_after}
+use Rattle.vs_world.specs.{Events.DevicePutsEvent, Pages.is_held}
+use Rattle.vs_world.proofs.OverBoth.{IsPlayed}
 use Rattle.vs_core.specs.Ready.{IsReady}
-use Rattle.vs_core.proofs.DeviceHappening.{both_true, held_of_queue, of_queue, where_did}
-use Rattle.vs_core.proofs.MayNow.{event_now}
+use Rattle.vs_core.proofs.DeviceHappening.{chain_did, held_of_queue, of_queue, same_held}
+use Rattle.vs_core.proofs.{MayNow.event_now, Returning.event_some, Stepped.run_played}
 use Rattle.vs_core.proofs.world.World.device_puts_event.Goals as goal
 
-abbrev held : goal.After-twin → Type 0
-held c = (same_queue Event c.args.chain.now.queue && is_held c.args.chain.now c.self.inside.rings.device.held) ≡ true
+-- The chain is held on the event queue, and has room.
+module _ (x chain : Chain) (held : List Held) (same : x ≡ chain)
+    (is : ((same_queue Event chain.queue && is_held chain held) && nat_le 4 chain.writable) ≡ true) where
+  on_event : (same_queue Event x.queue && is_held x held) ≡ true
+  on_event = same_held Event x chain held same (and_parts _ (nat_le 4 chain.writable) is).0
 
-tests : (c : goal.After-twin) → held c × (nat_le 4 c.args.chain.now.writable ≡ true)
-tests c = both_true (same_queue Event c.args.chain.now.queue && is_held c.args.chain.now c.self.inside.rings.device.held)
-    (nat_le 4 c.args.chain.now.writable) (sym c.if-not-holds_event.ensures)
+  has_room : nat_le 4 x.writable ≡ true
+  has_room = subst (λ y. nat_le 4 y.writable ≡ true) (sym same) (and_parts (same_queue Event chain.queue && is_held chain held) _ is).1
+
+pub put_event-requires-clause-ring : goal.put_event-requires-clause-ring
+put_event-requires-clause-ring c = (subst IsReady (sym c.self.view_is) c.requires.ready).served.chain
 
 pub put_event-requires-clause-is_held : goal.put_event-requires-clause-is_held
 put_event-requires-clause-is_held c =
-    subst (λ chain. Contains (chains_of c.self.inside.rings.device.held) chain) (sym c.twin.ensures)
-    (held_of_queue Event c.args.chain.now c.self.inside.rings.device.held (tests c).0)
+    let held = c.self.inside.rings.device.held in
+    held_of_queue Event c.twin.result held (on_event _ c.args.chain.now held c.twin.ensures (sym c.if-not-holds_event.ensures))
 
 pub put_event-requires-clause-queue : goal.put_event-requires-clause-queue
 put_event-requires-clause-queue c =
-    subst (λ chain. chain.queue ≡ Event) (sym c.twin.ensures)
-    (of_queue Event c.args.chain.now c.self.inside.rings.device.held (tests c).0)
+    let held = c.self.inside.rings.device.held in
+    of_queue Event c.twin.result held (on_event _ c.args.chain.now held c.twin.ensures (sym c.if-not-holds_event.ensures))
 
 pub put_event-requires-clause-long_enough : goal.put_event-requires-clause-long_enough
 put_event-requires-clause-long_enough c =
-    let room = (tests c).1 in
-    subst (λ chain. 4 ≤ chain.writable) (sym c.twin.ensures) (grind (arith, nat_tests, room))
+    let room = has_room c.twin.result c.args.chain.now c.self.inside.rings.device.held c.twin.ensures (sym c.if-not-holds_event.ensures) in
+    grind (arith, nat_tests, room)
 
 pub put_event-requires-clause-may : goal.put_event-requires-clause-may
 put_event-requires-clause-may c =
-    let old = c.self.inside in
-    subst (λ chain. MayRun (puts_event chain old.proxy.device)
-    (situation (device_contents old.rings) (Some old.host.contents) old.host.faults))
-    (sym c.twin.ensures)
-    (event_now _ _ (subst IsReady (sym c.self.view_is) c.requires.ready) c.args.chain.now (tests c).0 (tests c).1)
+    let host = c.self.inside.host in
+    let held = c.self.inside.rings.device.held in
+    let chain = c.args.chain.now in
+    let tested = sym c.if-not-holds_event.ensures in (
+      Some host.contents,
+      host.faults,
+      event_now _ _ (subst IsReady (sym c.self.view_is) c.requires.ready) c.twin.result (on_event _ chain held c.twin.ensures tested)
+          (has_room _ chain held c.twin.ensures tested),
+    )
 
 pub returns : goal.returns
 returns c =
     let ready = subst IsReady (sym c.self.view_is) c.requires.ready in
     let old = c.self.inside in
     let chain = c.args.chain.now in
-    rw (← c.self.view_is) (on_ok_weaker c.put_event.result
-    (λ played. where_did (DevicePutsEvent chain) (device_step (puts_event chain)) _ ready _
-    (device_after (puts_event chain) old.proxy old.rings old.host.contents) c.put_event.new.proxy c.put_event.new.rings old.host.contents
-    refl refl (sym c.if-not-holds_event.ensures)
-    (subst (λ x. device_after (puts_event x) old.proxy old.rings old.host.contents ≡
-    (c.put_event.new.proxy, (c.put_event.new.rings, old.host.contents)))
-    c.twin.ensures played) c.put_event.ensures.served c.put_event.ensures.driven) c.put_event.ensures.played)
+    let d = c.put_event in
+    let host = old.host.contents in
+    let held = old.rings.device.held in
+    let tested = sym c.if-not-holds_event.ensures in
+    let played = run_played old.rings d.new.ring host host _ _ (puts_event c.twin.result old.proxy.device) d.new.proxy.device
+    (event_some c.twin.result old.proxy.device)
+    (event_now _ _ ready c.twin.result (on_event _ chain held c.twin.ensures tested) (has_room _ chain held c.twin.ensures tested))
+    (d.ensures.calls (Some host) old.host.faults) in
+    let same = subst (λ x. IsPlayed (puts_event x old.proxy.device) old.rings host d.new.proxy.device d.new.ring host) c.twin.ensures played in
+    rw (← c.self.view_is) (on_ok_weaker c.fed.result (λ fed. chain_did (DevicePutsEvent chain) _ ready d.new.proxy d.new.ring host
+    (puts_event chain) d.ensures.others same d.ensures.ring (λ others has x is. d.ensures.streams others x (has x is)) fed _ tested refl)
+    c.fed.ensures)

@@ -1,20 +1,22 @@
-use Rattle.std.proofs.Common.{refl, sym, subst}
+use Rattle.std.proofs.Common.{Some, refl, sym, subst}
 use Rattle.std.proofs.lemmas.Result.{on_ok_weaker}
 use Rattle.vs_device_parts.specs.Steps.{puts_reply}
-use Rattle.vs_world.specs.Events.{DeviceReplies, device_step}
-use Rattle.vs_world.specs.Over.{device_after}
+use Rattle.vs_world.specs.Events.{DeviceReplies}
 use Rattle.vs_core.specs.Ready.{IsReady}
-use Rattle.vs_core.proofs.DeviceHappening.{unless_did}
-use Rattle.vs_core.proofs.MayNow.{reply_now}
+use Rattle.vs_core.proofs.{DeviceHappening.device_did, MayNow.reply_now, Returning.reply_some, Stepped.run_played}
 use Rattle.vs_core.proofs.world.World.device_replies.Goals as goal
 
+pub put_reply-requires-clause-ring : goal.put_reply-requires-clause-ring
+put_reply-requires-clause-ring c = (subst IsReady (sym c.self.view_is) c.requires.ready).served.chain
+
 pub put_reply-requires-clause-may : goal.put_reply-requires-clause-may
-put_reply-requires-clause-may c = reply_now _ _ (subst IsReady (sym c.self.view_is) c.requires.ready)
+put_reply-requires-clause-may c = let host = c.self.inside.host in (Some host.contents, host.faults, reply_now _ _ (subst IsReady (sym c.self.view_is) c.requires.ready))
 
 pub returns : goal.returns
 returns c =
     let ready = subst IsReady (sym c.self.view_is) c.requires.ready in
     let old = c.self.inside in
-    rw (← c.self.view_is) (on_ok_weaker c.put_reply.result (λ played. unless_did DeviceReplies (device_step puts_reply) _ ready
-    (device_after puts_reply old.proxy old.rings old.host.contents) c.put_reply.new.proxy c.put_reply.new.rings c.self.inside.host.contents
-    refl refl (sym c.if-has_failed.ensures) played c.put_reply.ensures.served c.put_reply.ensures.driven) c.put_reply.ensures.played)
+    let d = c.put_reply in
+    let played = run_played old.rings d.new.ring old.host.contents old.host.contents _ _ (puts_reply old.proxy.device) d.new.proxy.device (reply_some old.proxy.device) (reply_now _ _ ready) (d.ensures.calls (Some old.host.contents) old.host.faults) in
+    rw (← c.self.view_is) (on_ok_weaker c.fed.result (λ fed. device_did DeviceReplies _ ready d.new.proxy d.new.ring old.host.contents puts_reply
+    d.ensures.others played d.ensures.ring (λ others has x is. d.ensures.streams others x (has x is)) fed refl (sym c.if-has_failed.ensures)) c.fed.ensures)

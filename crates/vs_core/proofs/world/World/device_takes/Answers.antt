@@ -1,22 +1,57 @@
-use Rattle.std.proofs.Common.{refl, sym, subst}
+use Rattle.std.proofs.Common.{Some, refl, sym, subst}
 use Rattle.std.proofs.lemmas.Result.{on_ok_weaker}
+use Rattle.vs_ring_port.specs.declared.queue.Queue.TheVariants.{Rx, Tx, Event}
 use Rattle.vs_device_parts.specs.Steps.{takes_chain}
-use Rattle.vs_world.specs.Events.{DeviceTakes, device_step}
-use Rattle.vs_world.specs.Over.{device_after}
+use Rattle.vs_world.specs.Events.{DeviceTakes}
+use Rattle.vs_world.proofs.OverBoth.{IsPlayed}
 use Rattle.vs_core.specs.Ready.{IsReady}
-use Rattle.vs_core.proofs.DeviceHappening.{unless_did}
-use Rattle.vs_core.proofs.MayNow.{take_now}
+use Rattle.vs_core.proofs.{DeviceHappening.device_did, MayNow.take_now, Returning.takes_some, Stepped.run_played}
 use Rattle.vs_core.proofs.world.World.device_takes.Goals as goal
 
-pub take_page-requires-clause-may : goal.take_page-requires-clause-may
-take_page-requires-clause-may c = take_now _ _ (subst IsReady (sym c.self.view_is) c.requires.ready) c.args.queue
+pub hold_chain-requires : goal.hold_chain-requires
+hold_chain-requires c = record { ring = (subst IsReady (sym c.self.view_is) c.requires.ready).served.chain }
 
-pub returns : goal.returns
-returns c =
+pub returns-in-Rx : goal.returns-in-Rx
+returns-in-Rx c =
     let ready = subst IsReady (sym c.self.view_is) c.requires.ready in
     let old = c.self.inside in
-    rw (← c.self.view_is) (on_ok_weaker c.take_page.result
-    (λ played. unless_did (DeviceTakes c.args.queue) (device_step (takes_chain c.args.queue)) _ ready
-    (device_after (takes_chain c.args.queue) old.proxy old.rings old.host.contents) c.take_page.new.proxy c.take_page.new.rings
-    c.take_page.new.host.contents
-    refl refl (sym c.if-has_failed.ensures) played c.take_page.ensures.served c.take_page.ensures.driven) c.take_page.ensures.played)
+    let d = c.hold_chain in
+    let played = run_played old.rings d.new.ring old.host.contents old.host.contents _ _ (takes_chain Rx old.proxy.device) d.new.proxy.device
+    (takes_some Rx old.proxy.device) (take_now _ _ ready Rx) (d.ensures.calls (Some old.host.contents) old.host.faults) in
+    let same = subst (λ q. IsPlayed (takes_chain q old.proxy.device) old.rings old.host.contents d.new.proxy.device d.new.ring old.host.contents)
+    (sym c.in-Rx.is) played in
+    rw (← c.self.view_is) (on_ok_weaker c.fed.result (λ fed. device_did (DeviceTakes c.args.queue) _ ready d.new.proxy d.new.ring old.host.contents
+    (takes_chain c.args.queue) d.ensures.others same d.ensures.ring (λ others has x is. d.ensures.streams others x (has x is)) fed refl (sym c.if-has_failed.ensures)) c.fed.ensures)
+
+pub take_packet-requires-clause-ring : goal.take_packet-requires-clause-ring
+take_packet-requires-clause-ring c = (subst IsReady (sym c.self.view_is) c.requires.ready).served.chain
+
+pub take_packet-requires-clause-may : goal.take_packet-requires-clause-may
+take_packet-requires-clause-may c = take_now _ _ (subst IsReady (sym c.self.view_is) c.requires.ready) Tx
+
+pub returns-in-Tx : goal.returns-in-Tx
+returns-in-Tx c =
+    let ready = subst IsReady (sym c.self.view_is) c.requires.ready in
+    let old = c.self.inside in
+    let d = c.take_packet in
+    let played = run_played old.rings d.new.ring old.host.contents d.new.host.contents _ _ (takes_chain Tx old.proxy.device) d.new.proxy.device
+    (takes_some Tx old.proxy.device) (take_now _ _ ready Tx) d.ensures.calls in
+    let same = subst (λ q. IsPlayed (takes_chain q old.proxy.device) old.rings old.host.contents d.new.proxy.device d.new.ring d.new.host.contents)
+    (sym c.in-Tx.is) played in
+    rw (← c.self.view_is) (on_ok_weaker c.fed-in-Tx.result (λ fed. device_did (DeviceTakes c.args.queue) _ ready d.new.proxy d.new.ring d.new.host.contents
+    (takes_chain c.args.queue) d.ensures.others same d.ensures.ring d.ensures.streams fed refl (sym c.if-has_failed.ensures)) c.fed-in-Tx.ensures)
+
+pub take_event-requires : goal.take_event-requires
+take_event-requires c = record { ring = (subst IsReady (sym c.self.view_is) c.requires.ready).served.chain }
+
+pub returns-in-Event : goal.returns-in-Event
+returns-in-Event c =
+    let ready = subst IsReady (sym c.self.view_is) c.requires.ready in
+    let old = c.self.inside in
+    let d = c.take_event in
+    let played = run_played old.rings d.new.ring old.host.contents old.host.contents _ _ (takes_chain Event old.proxy.device) old.proxy.device
+    (takes_some Event old.proxy.device) (take_now _ _ ready Event) (d.ensures.calls (Some old.host.contents) old.host.faults) in
+    let same = subst (λ q. IsPlayed (takes_chain q old.proxy.device) old.rings old.host.contents old.proxy.device d.new.ring old.host.contents)
+    (sym c.in-Event.is) played in
+    rw (← c.self.view_is) (on_ok_weaker c.fed-in-Event.result (λ fed. device_did (DeviceTakes c.args.queue) _ ready old.proxy d.new.ring old.host.contents
+    (takes_chain c.args.queue) refl same d.ensures.ring (λ others has. has) fed refl (sym c.if-has_failed.ensures)) c.fed-in-Event.ensures)

@@ -1,22 +1,20 @@
 use Rattle.std.proofs.Common.{refl, sym, subst}
 use Rattle.std.proofs.lemmas.Result.{on_ok_weaker}
+use Rattle.vs_ring_list.specs.Ends.{device_contents}
 use Rattle.vs_device_parts.specs.Steps.{writes}
-use Rattle.vs_world.specs.Events.{DeviceWrites, device_step}
-use Rattle.vs_world.specs.Over.{device_after}
+use Rattle.vs_world.specs.Events.{DeviceWrites}
 use Rattle.vs_core.specs.Ready.{IsReady}
-use Rattle.vs_core.proofs.DeviceHappening.{unless_did}
-use Rattle.vs_core.proofs.MayNow.{write_now}
+use Rattle.vs_core.proofs.{DeviceHappening.device_did, MayNow.write_now, Returning.writes_some, Stepped.run_played, Stepped.still_among}
 use Rattle.vs_core.proofs.world.World.device_writes.Goals as goal
 
-pub write-requires-clause-may : goal.write-requires-clause-may
-write-requires-clause-may c = write_now _ _ (subst IsReady (sym c.self.view_is) c.requires.ready) c.args.slot
+pub write-requires : goal.write-requires
+write-requires c = record { may = (device_contents c.self.inside.rings, write_now _ _ (subst IsReady (sym c.self.view_is) c.requires.ready) c.args.slot) }
 
 pub returns : goal.returns
 returns c =
     let ready = subst IsReady (sym c.self.view_is) c.requires.ready in
     let old = c.self.inside in
-    rw (← c.self.view_is) (on_ok_weaker c.write.result
-    (λ played. unless_did (DeviceWrites c.args.slot) (device_step (writes c.args.slot)) _ ready
-    (device_after (writes c.args.slot) old.proxy old.rings old.host.contents) c.write.new.proxy c.self.inside.rings
-    c.write.new.host.contents
-    refl refl (sym c.if-has_failed.ensures) played c.write.ensures.served c.write.ensures.driven) c.write.ensures.played)
+    let d = c.write in
+    let played = run_played old.rings old.rings old.host.contents d.new.host.contents _ _ (writes c.args.slot old.proxy.device) d.new.proxy.device (writes_some c.args.slot old.proxy.device) (write_now _ _ ready c.args.slot) (d.ensures.calls (device_contents old.rings)) in
+    rw (← c.self.view_is) (on_ok_weaker c.fed.result (λ fed. device_did (DeviceWrites c.args.slot) _ ready d.new.proxy old.rings d.new.host.contents (writes c.args.slot)
+    d.ensures.others played (still_among _ old.proxy.device d.new.proxy.device d.ensures.chain ready.served.chain) d.ensures.streams fed refl (sym c.if-has_failed.ensures)) c.fed.ensures)

@@ -1,6 +1,5 @@
 use Rattle.std.proofs.Common.{ap, refl, sym, subst}
-use Rattle.vs_outside.specs.Host.{with_stream}
-use Rattle.vs_outside.specs.HostProgram.{ended}
+use Rattle.vs_outside.specs.{Host.with_stream, HostProgram.ended}
 use Rattle.vs_world.specs.Events.{HostEnds}
 use Rattle.vs_core.specs.Ready.{IsReady}
 use Rattle.vs_core.proofs.DeviceHappening.{host_did}

@@ -1,13 +1,18 @@
-use Rattle.std.proofs.Common.{◌≡◌, refl, subst, sym, true}
+use Rattle.std.proofs.Common.{◌≡◌, true, refl, sym, subst}
 use Rattle.vs_world.specs.Calls as call
 use Rattle.vs_world.specs.Events.{is_at_rest}
+use Rattle.vs_world.proofs.SamePages.{listen_stays}
 use Rattle.vs_core.specs.Ready.{IsReady, WorldState}
-use Rattle.vs_core.proofs.Happening.{calls}
+use Rattle.vs_core.proofs.Happening.{calls_in, listen_made}
 use Rattle.vs_core.proofs.world.World.listen.Goals as goal
 
 pub returns : goal.returns
 returns c =
     let ready = subst IsReady (sym c.self.view_is) c.requires.ready in
     let rest = subst (λ (w : WorldState). is_at_rest w.rings.driver.staged ≡ true) (sym c.self.view_is) c.requires.rest in
-    rw (← c.self.view_is) (calls (call.Listen c.args.port) _ ready c.listen.new.driver c.listen.result _ rest refl
-    c.listen.ensures.made (c.listen.ensures.driven _ rest ready.driven) refl)
+    let old = c.self.inside in
+    let d = c.listen in
+    let port = c.args.port in
+    rw (← c.self.view_is) (calls_in (call.Listen port) _ ready d.new.self d.result _ rest refl
+    (listen_made port old.driver d.new.self d.result d.ensures.answer d.ensures.listens d.ensures.unchanged)
+    (listen_stays port old.driver d.new.self d.result d.ensures.listens d.ensures.unchanged) d.ensures.honest refl)

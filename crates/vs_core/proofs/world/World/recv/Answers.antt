@@ -9,5 +9,5 @@ pub returns : goal.returns
 returns c =
     let ready = subst IsReady (sym c.self.view_is) c.requires.ready in
     let rest = subst (λ (w : WorldState). is_at_rest w.rings.driver.staged ≡ true) (sym c.self.view_is) c.requires.rest in
-    rw (← c.self.view_is) (calls (call.Recv c.args.id c.args.len) _ ready c.recv.new.driver (c.in_ok-answer.answer, c.in_ok-answer.bytes.items) _ rest refl
+    rw (← c.self.view_is) (calls (call.Recv c.args.id c.args.len) _ ready c.received.new.driver (c.in_ok-answer.answer, c.in_ok-answer.bytes.items) _ rest refl
     c.in_ok-answer.ensures.made (c.in_ok-answer.ensures.driven _ rest ready.driven) refl)

@@ -1,13 +1,19 @@
-use Rattle.std.proofs.Common.{◌≡◌, refl, subst, sym, true}
+use Rattle.std.proofs.Common.{◌≡◌, true, refl, sym, ap₂, subst}
+use Rattle.vs_contents.specs.CallTree.{Done}
+use Rattle.vs_driver_parts.specs.Playing.{SamePages}
 use Rattle.vs_world.specs.Calls as call
 use Rattle.vs_world.specs.Events.{is_at_rest}
+use Rattle.vs_world.proofs.SamePages.{shutdown_stays}
 use Rattle.vs_core.specs.Ready.{IsReady, WorldState}
-use Rattle.vs_core.proofs.Happening.{calls}
+use Rattle.vs_core.proofs.Happening.{calls_in}
 use Rattle.vs_core.proofs.world.World.shutdown.Goals as goal
 
 pub returns : goal.returns
 returns c =
     let ready = subst IsReady (sym c.self.view_is) c.requires.ready in
     let rest = subst (λ (w : WorldState). is_at_rest w.rings.driver.staged ≡ true) (sym c.self.view_is) c.requires.rest in
-    rw (← c.self.view_is) (calls (call.Shutdown c.args.id c.args.bits) _ ready c.shutdown.new.driver c.shutdown.result _ rest refl
-    c.shutdown.ensures.made (c.shutdown.ensures.driven _ rest ready.driven) refl)
+    let old = c.self.inside in
+    let d = c.shutdown in
+    rw (← c.self.view_is) (calls_in (call.Shutdown c.args.id c.args.bits) _ ready d.new.self d.result _ rest refl
+    (sym (ap₂ (λ s r. Done (s, r)) d.ensures.state d.ensures.answer))
+    (subst (λ s. SamePages old.driver s) (sym d.ensures.state) (shutdown_stays c.args.id c.args.bits old.driver)) d.ensures.honest refl)

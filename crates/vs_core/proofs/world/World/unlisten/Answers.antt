@@ -1,13 +1,18 @@
-use Rattle.std.proofs.Common.{◌≡◌, refl, subst, sym, true}
+use Rattle.std.proofs.Common.{◌≡◌, true, refl, sym, subst}
 use Rattle.vs_world.specs.Calls as call
 use Rattle.vs_world.specs.Events.{is_at_rest}
+use Rattle.vs_world.proofs.SamePages.{unlistening_stays}
 use Rattle.vs_core.specs.Ready.{IsReady, WorldState}
-use Rattle.vs_core.proofs.Happening.{calls}
+use Rattle.vs_core.proofs.Happening.{calls_in, unlisten_made}
 use Rattle.vs_core.proofs.world.World.unlisten.Goals as goal
 
 pub returns : goal.returns
 returns c =
     let ready = subst IsReady (sym c.self.view_is) c.requires.ready in
     let rest = subst (λ (w : WorldState). is_at_rest w.rings.driver.staged ≡ true) (sym c.self.view_is) c.requires.rest in
-    rw (← c.self.view_is) (calls (call.Unlisten c.args.port) _ ready c.unlisten.new.driver c.unlisten.result _ rest refl
-    c.unlisten.ensures.made (c.unlisten.ensures.driven _ rest ready.driven) refl)
+    let old = c.self.inside in
+    let d = c.unlisten in
+    let port = c.args.port in
+    rw (← c.self.view_is) (calls_in (call.Unlisten port) _ ready d.new.self c.is_ok.result _ rest refl
+    (unlisten_made port old.driver d.new.self d.result c.is_ok.result c.is_ok.ensures.value d.ensures.answer d.ensures.state d.ensures.unchanged)
+    (unlistening_stays port old.driver d.new.self d.result d.ensures.state d.ensures.unchanged) d.ensures.honest refl)

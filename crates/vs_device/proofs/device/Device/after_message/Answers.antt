@@ -2,14 +2,10 @@ use Rattle.std.proofs.Common.{◌≡◌, ℕ, true, false, Some, refl, sym, ap, 
 use Rattle.vs_flow.specs.Table.{entry_under}
 use Rattle.vs_conn.specs.End.{is_reset}
 use Rattle.vs_header.specs.declared.Header.{Header}
-use Rattle.vs_device_parts.specs.State.{DeviceConnection, DeviceState}
-use Rattle.vs_device_parts.specs.Connections.{with_connection}
-use Rattle.vs_device_parts.specs.Playing.{Runs, situation}
-use Rattle.vs_device_parts.specs.Streams.{leaving}
-use Rattle.vs_device_parts.specs.Transmitting.{heard}
-use Rattle.vs_device.proofs.Leaving.{leaving_twice}
+use Rattle.vs_device_parts.specs.{State.DeviceConnection, State.DeviceState, Connections.with_connection, Playing.Runs, Playing.situation}
+use Rattle.vs_device_parts.specs.{Streams.leaving, Transmitting.heard}
+use Rattle.vs_device.proofs.{Leaving.leaving_twice, Verdicts.over, Verdicts.stays}
 use Rattle.vs_device_parts.proofs.Under.{has_slot, with_its, under_changed}
-use Rattle.vs_device.proofs.Verdicts.{over, stays}
 use Rattle.vs_device.proofs.device.Device.after_message.Goals as goal
 
 pub returns-then-is_reset-clause-calls : goal.returns-then-is_reset-clause-calls

@@ -3,14 +3,12 @@ use Rattle.vs_flow.specs.Table.{entry_under, with_value}
 use Rattle.vs_conn.specs.declared.end.Verdict.TheVariants as verdict
 use Rattle.vs_header.specs.declared.Header.{Header}
 use Rattle.vs_uds.specs.OkLine.{ok_text}
-use Rattle.vs_device_parts.specs.State.{DeviceConnection, DeviceState}
-use Rattle.vs_device_parts.specs.Connections.{with_connection}
-use Rattle.vs_device_parts.specs.Playing.{situation}
+use Rattle.vs_device_parts.specs.{State.DeviceConnection, State.DeviceState, Connections.with_connection, Playing.situation}
 use Rattle.vs_device_parts.specs.Transmitting.{heard}
 use Rattle.vs_device.specs.contracts.device.Device.{the_view}
 use Rattle.vs_device.proofs.Leaving.{changed_twice}
-use Rattle.vs_device_parts.proofs.Under.{has_slot, value_of, with_its, under_changed}
 use Rattle.vs_device.proofs.Verdicts.{accepted, delivered, refuses, counted_refusal, by_verdict, discards, ignores}
+use Rattle.vs_device_parts.proofs.Under.{has_slot, value_of, with_its, under_changed}
 use Rattle.vs_device.proofs.device.Device.after_verdict.Goals as goal
 
 pub returns-in-Accept-clause-calls : goal.returns-in-Accept-clause-calls

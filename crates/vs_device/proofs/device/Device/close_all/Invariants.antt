@@ -1,10 +1,8 @@
 use Rattle.std.proofs.Common.{◌≡◌, ℕ, drop, Option}
 use Rattle.vs_contents.specs.CallTree.{for_each}
 use Rattle.vs_outside.specs.Host.{HostContents}
-use Rattle.vs_device_parts.specs.State.{DeviceState}
-use Rattle.vs_device_parts.specs.Playing.{MayRunOnHost, RunsOnHost}
+use Rattle.vs_device_parts.specs.{State.DeviceState, Playing.MayRunOnHost, Playing.RunsOnHost, Turns.close_slot}
 use Rattle.vs_flow.specs.Table.{slots}
-use Rattle.vs_device_parts.specs.Turns.{close_slot}
 use Rattle.vs_device.proofs.device.Device.close_all.Given as goal
 
 -- whatever completes the rest completes the whole

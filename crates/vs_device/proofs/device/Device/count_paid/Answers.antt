@@ -1,7 +1,6 @@
 use Rattle.std.proofs.Common.{◌≡◌, true, false, Some, refl, sym, ap, ◌∙◌}
 use Rattle.vs_flow.specs.Table.{Table, entry_under}
-use Rattle.vs_device_parts.specs.Filling.{is_rst}
-use Rattle.vs_device_parts.specs.State.{DeviceConnection, DeviceState}
+use Rattle.vs_device_parts.specs.{Filling.is_rst, State.DeviceConnection, State.DeviceState}
 use Rattle.vs_device.specs.contracts.device.Device.{the_view}
 use Rattle.vs_device_parts.proofs.Under.{has_slot, value_of}
 use Rattle.vs_device.proofs.Paying.{after_other, paid_leaves, paid_stays}

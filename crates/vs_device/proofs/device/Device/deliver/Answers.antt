@@ -1,7 +1,6 @@
 use Rattle.std.proofs.Common.{◌≡◌, ℕ, ◌++◌, List, Some, ap, ◌∙◌}
 use Rattle.vs_flow.specs.Table.{Table, value_under}
-use Rattle.vs_device_parts.specs.State.{DeviceConnection, DeviceState}
-use Rattle.vs_device_parts.specs.Connections.{with_connection}
+use Rattle.vs_device_parts.specs.{State.DeviceConnection, State.DeviceState, Connections.with_connection}
 use Rattle.vs_device.specs.contracts.device.Device.{the_view}
 use Rattle.vs_device.proofs.device.Device.deliver.Goals as goal
 

@@ -1,8 +1,7 @@
 use Rattle.std.proofs.Common.{◌≡◌, Some, refl, sym}
 use Rattle.vs_contents.proofs.Leads.{leads_to}
 use Rattle.vs_flow.specs.Table.{entry_under, with_value}
-use Rattle.vs_device_parts.specs.Calls.{Allows}
-use Rattle.vs_device_parts.specs.Connections.{stream_closed}
+use Rattle.vs_device_parts.specs.{Calls.Allows, Connections.stream_closed}
 use Rattle.vs_device.specs.contracts.device.Device.{the_view}
 use Rattle.vs_device.proofs.Leaving.{changed}
 use Rattle.vs_device_parts.proofs.Under.{has_slot, value_of}

@@ -1,17 +1,13 @@
 use Rattle.std.specs.Prelude.{Result, Err, false}
 use Rattle.std.proofs.Common.{◌≡◌, length, Option, Some, None, refl, sym, ap, ◌∙◌}
 use Rattle.vs_contents.specs.CallTree.{Done, bind, while_up_to}
-use Rattle.vs_contents.proofs.Leads.{leads_of, leads_bind}
-use Rattle.vs_contents.proofs.Conditions.{may_first, may_rest, may_of}
+use Rattle.vs_contents.proofs.{Leads.leads_of, Leads.leads_bind, Conditions.may_first, Conditions.may_rest, Conditions.may_of}
 use Rattle.vs_ring_port.specs.declared.failure.Failure.{Failure}
-use Rattle.vs_device_parts.specs.Calls.{DeviceTree, Allows}
-use Rattle.vs_device_parts.specs.Filling.{filling_of, serve_rest}
+use Rattle.vs_device_parts.specs.{Calls.DeviceTree, Calls.Allows, Filling.filling_of, Filling.serve_rest}
 use Rattle.vs_device_parts.specs.Playing.{CanMake, situation}
-use Rattle.vs_device_parts.specs.Receiving.{Filling, filled_of, fill_rx_of, put_reply}
-use Rattle.vs_device_parts.specs.State.{DeviceState}
+use Rattle.vs_device_parts.specs.{Receiving.Filling, Receiving.filled_of, Receiving.fill_rx_of, Receiving.put_reply, State.DeviceState}
 use Rattle.vs_device_parts.specs.declared.answers.Filled.{Filled}
-use Rattle.vs_device.proofs.Ordered.{fill_honest, fill_streams}
-use Rattle.vs_device.proofs.Accounted.{fill_accounted}
+use Rattle.vs_device.proofs.{Ordered.fill_honest, Ordered.fill_streams, Accounted.fill_accounted}
 use Rattle.vs_device.proofs.device.Device.fill_rx.Goals as goal
 
 abbrev start : DeviceState → Filling

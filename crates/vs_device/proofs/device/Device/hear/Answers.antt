@@ -1,11 +1,8 @@
 use Rattle.std.proofs.Common.{◌≡◌, ◌-◌, true, false, List, Contains, nat_lt, sym, subst}
-use Rattle.vs_header.specs.declared.Header.{Header}
-use Rattle.vs_header.specs.declared.TheConstants.{HEADER_LEN}
+use Rattle.vs_header.specs.declared.{Header.Header, TheConstants.HEADER_LEN}
 use Rattle.vs_ring_port.specs.Contents.{Read}
 use Rattle.vs_ring_port.specs.declared.device_ring.Chain.{Chain}
-use Rattle.vs_device_parts.specs.Calls.{Allows, Ring}
-use Rattle.vs_device_parts.specs.State.{DeviceState}
-use Rattle.vs_device_parts.specs.Playing.{situation}
+use Rattle.vs_device_parts.specs.{Calls.Allows, Calls.Ring, State.DeviceState, Playing.situation}
 use Rattle.vs_device.proofs.Takings.{may_header, may_packet, read_header, too_short, took_packet}
 use Rattle.vs_device.proofs.device.Device.hear.Goals as goal
 

@@ -1,10 +1,8 @@
 use Rattle.std.proofs.Common.{ℕ, ◌<◌, ◌^◌, List, [], Some, sym, ap, subst, arith}
 use Rattle.vs_flow.specs.Table.{Table}
-use Rattle.vs_replies.specs.declared.Replies.{Replies}
-use Rattle.vs_replies.specs.declared.Reply.{Reply}
+use Rattle.vs_replies.specs.declared.{Replies.Replies, Reply.Reply}
 use Rattle.vs_ring_port.specs.Contents.{RingContents}
-use Rattle.vs_device_parts.specs.State.{DeviceConnection}
-use Rattle.vs_device_parts.specs.Turns.{new_device}
+use Rattle.vs_device_parts.specs.{State.DeviceConnection, Turns.new_device}
 use Rattle.vs_device_log.specs.Honest.{IsWith}
 use Rattle.vs_device_log.proofs.Turning.{new_with}
 use Rattle.vs_device_parts.specs.declared.limits.TheConstants.{CONNECTIONS}

@@ -2,10 +2,8 @@ use Rattle.std.proofs.Common.{◌≡◌, ◌+◌, ◌≤◌, true, length, Optio
 use Rattle.std.specs.Option.{IfSome}
 use Rattle.vs_flow.specs.Table.{Table, entry_under, value_under, with_value}
 use Rattle.vs_conn.specs.End.{may_shut}
-use Rattle.vs_device_parts.specs.State.{DeviceConnection, DeviceEntry, DeviceState}
-use Rattle.vs_device_parts.specs.Connections.{with_connection}
-use Rattle.vs_device_parts.specs.Playing.{MayClose, situation}
-use Rattle.vs_device_parts.specs.Transmitting.{heard}
+use Rattle.vs_device_parts.specs.{State.DeviceConnection, State.DeviceEntry, State.DeviceState, Connections.with_connection}
+use Rattle.vs_device_parts.specs.{Playing.MayClose, Playing.situation, Transmitting.heard}
 use Rattle.vs_device.specs.contracts.device.Device.{the_view}
 use Rattle.vs_device_parts.proofs.Under.{value_of, value_changed}
 use Rattle.vs_device.proofs.Verdicts.{known, may_leave}

@@ -3,11 +3,9 @@ use Rattle.vs_flow.specs.Table.{entry_of, entry_under}
 use Rattle.vs_flow.specs.declared.flow.Flow.{Flow}
 use Rattle.vs_header.specs.declared.Header.{Header}
 use Rattle.vs_page.specs.Log.{flow_to_host}
-use Rattle.vs_device_parts.specs.State.{DeviceEntry, DeviceState}
-use Rattle.vs_device_parts.specs.Playing.{MayRun, situation}
-use Rattle.vs_device_parts.specs.Taking.{known_packet}
+use Rattle.vs_device_parts.specs.{State.DeviceEntry, State.DeviceState, Playing.MayRun, Playing.situation}
+use Rattle.vs_device_parts.specs.Taking.{known_packet, is_not_for_host}
 use Rattle.vs_flow.proofs.Lookups.{entry_of_found}
-use Rattle.vs_device_parts.specs.Taking.{is_not_for_host}
 use Rattle.vs_device_parts.proofs.Under.{mapped}
 use Rattle.vs_device.proofs.Takings.{may_be_known, was_known}
 use Rattle.vs_device.proofs.device.Device.on_packet.Goals as goal

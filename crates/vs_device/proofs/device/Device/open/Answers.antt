@@ -1,12 +1,8 @@
 use Rattle.std.proofs.Common.{◌≡◌, None, Ok, rules}
 use Rattle.vs_flow.specs.Table.{refusal}
-use Rattle.vs_device_parts.specs.Connections.{with_client}
-use Rattle.vs_device_parts.specs.Playing.{situation}
-use Rattle.vs_device_parts.specs.State.{DeviceState}
+use Rattle.vs_device_parts.specs.{Connections.with_client, Playing.situation, State.DeviceState}
 use Rattle.vs_device.specs.contracts.device.Device.{the_view}
-use Rattle.vs_device.proofs.Resetting.{opened}
-use Rattle.vs_device.proofs.Ordered.{open_honest, open_streams}
-use Rattle.vs_device.proofs.Accounted.{open_accounted}
+use Rattle.vs_device.proofs.{Resetting.opened, Ordered.open_honest, Ordered.open_streams, Accounted.open_accounted}
 use Rattle.vs_device.proofs.device.Device.open.Goals as goal
 
 pub returns-clause-calls : goal.returns-clause-calls

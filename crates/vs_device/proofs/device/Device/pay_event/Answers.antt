@@ -4,12 +4,8 @@ use Rattle.vs_ring_port.specs.declared.device_ring.Next.{Next}
 use Rattle.vs_ring_port.specs.declared.device_ring.Next.TheVariants as next
 use Rattle.vs_ring_port.specs.declared.failure.Failure.{Failure}
 use Rattle.vs_ring_port.specs.declared.queue.Queue.TheVariants.{Event}
-use Rattle.vs_device_parts.specs.Calls.{Allows, Ring}
-use Rattle.vs_device_parts.specs.Playing.{MayRun, situation}
-use Rattle.vs_device_parts.specs.State.{DeviceState}
-use Rattle.vs_device_parts.specs.Receiving.{event_on}
-use Rattle.vs_device.proofs.EventPaying.{may_event, took_event, by_chain}
-use Rattle.vs_device.proofs.Ordered.{pay_honest}
+use Rattle.vs_device_parts.specs.{Calls.Allows, Calls.Ring, Playing.MayRun, Playing.situation, State.DeviceState, Receiving.event_on}
+use Rattle.vs_device.proofs.{EventPaying.may_event, EventPaying.took_event, EventPaying.by_chain, Ordered.pay_honest}
 use Rattle.vs_device.proofs.Accounted.{pay_accounted}
 use Rattle.vs_device.proofs.device.Device.pay_event.Goals as goal
 

@@ -1,10 +1,7 @@
 use Rattle.std.proofs.Common.{◌≤◌, ◌<◌, length, ◌∙◌, rules, arith}
-use Rattle.vs_device_parts.specs.Playing.{situation}
-use Rattle.vs_device_parts.specs.Streams.{Writing, pump_slot}
-use Rattle.vs_device_parts.specs.Written.{writing}
+use Rattle.vs_device_parts.specs.{Playing.situation, Streams.Writing, Streams.pump_slot, Written.writing}
 use Rattle.vs_device_parts.proofs.Each.{each_more, may_each_step, may_each_more, each_end}
-use Rattle.vs_device.proofs.Ordered.{pump_honest, pump_streams}
-use Rattle.vs_device.proofs.Accounted.{pump_accounted}
+use Rattle.vs_device.proofs.{Ordered.pump_honest, Ordered.pump_streams, Accounted.pump_accounted}
 use Rattle.vs_device.proofs.device.Device.pump_out.Goals as goal
 
 pub pump_slot-requires-clause-may : goal.pump_slot-requires-clause-may

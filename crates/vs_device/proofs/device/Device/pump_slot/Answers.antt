@@ -1,10 +1,7 @@
 use Rattle.std.proofs.Common.{sym}
 use Rattle.vs_flow.specs.Table.{entry_under}
 use Rattle.vs_ring_port.specs.Contents.{RingContents}
-use Rattle.vs_device_parts.specs.State.{DeviceState}
-use Rattle.vs_device_parts.specs.Playing.{situation}
-use Rattle.vs_device_parts.specs.Streams.{Writing}
-use Rattle.vs_device_parts.specs.Written.{writing}
+use Rattle.vs_device_parts.specs.{State.DeviceState, Playing.situation, Streams.Writing, Written.writing}
 use Rattle.vs_device.proofs.Pumping.{may_shut_write, has_stream, may_shut_then, pumped}
 use Rattle.vs_device.proofs.device.Device.pump_slot.Goals as goal
 

@@ -1,6 +1,5 @@
 use Rattle.std.proofs.Common.{◌≡◌, Bool, false, ap, ◌∙◌}
-use Rattle.vs_device_parts.specs.Playing.{situation}
-use Rattle.vs_device_parts.specs.State.{DeviceState}
+use Rattle.vs_device_parts.specs.{Playing.situation, State.DeviceState}
 use Rattle.vs_device.specs.contracts.device.Device.{the_view}
 use Rattle.vs_device.proofs.EventPaying.{put, may_return}
 use Rattle.vs_device.proofs.device.Device.put_event.Goals as goal

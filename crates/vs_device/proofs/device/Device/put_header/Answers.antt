@@ -2,11 +2,8 @@ use Rattle.std.proofs.Common.{◌≡◌, ◌+◌, ◌≤◌, true, false, Option
 use Rattle.vs_header.specs.declared.TheConstants.{HEADER_LEN}
 use Rattle.vs_contents.proofs.Leads.{leads_to}
 use Rattle.vs_ring_port.specs.declared.device_ring.Chain.{Chain}
-use Rattle.vs_device_parts.specs.Calls.{Allows}
-use Rattle.vs_device_parts.specs.Filling.{filling_of, put_header}
-use Rattle.vs_device_parts.specs.Playing.{IsRxChain, beside, situation}
-use Rattle.vs_device_parts.specs.Receiving.{Filling}
-use Rattle.vs_device_parts.specs.State.{DeviceState}
+use Rattle.vs_device_parts.specs.{Calls.Allows, Filling.filling_of, Filling.put_header}
+use Rattle.vs_device_parts.specs.{Playing.IsRxChain, Playing.beside, Playing.situation, Receiving.Filling, State.DeviceState}
 use Rattle.vs_device.specs.contracts.device.Device.{the_view}
 use Rattle.vs_device.proofs.Among.{beside_one, held_one, none_among}
 use Rattle.vs_device.proofs.Putting.{after_put, header_put, header_waits, may_write}

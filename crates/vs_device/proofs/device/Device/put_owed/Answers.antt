@@ -1,16 +1,12 @@
 use Rattle.std.proofs.Common.{◌≡◌, true, false, Some, sym, ap, subst, ◌∙◌}
-use Rattle.vs_conn.specs.End.{owes_of}
-use Rattle.vs_conn.specs.Headers.{owed_header}
+use Rattle.vs_conn.specs.{End.owes_of, Headers.owed_header}
 use Rattle.vs_conn.specs.declared.end.Owed.{Owed}
 use Rattle.vs_flow.specs.Table.{entry_under}
 use Rattle.vs_header.specs.declared.Header.{Header}
-use Rattle.vs_device_parts.specs.Connections.{route_to_guest}
-use Rattle.vs_device_parts.specs.Filling.{filling_of, put_header}
-use Rattle.vs_device_parts.specs.Playing.{MayRun, Runs, situation}
-use Rattle.vs_device_parts.specs.Receiving.{Filling, after_paying}
+use Rattle.vs_device_parts.specs.{Connections.route_to_guest, Filling.filling_of, Filling.put_header}
+use Rattle.vs_device_parts.specs.{Playing.MayRun, Playing.Runs, Playing.situation, Receiving.Filling, Receiving.after_paying}
 use Rattle.vs_device_parts.specs.State.{DeviceEntry, DeviceState}
-use Rattle.vs_device.proofs.Paying.{some_and}
-use Rattle.vs_device.proofs.Putting.{owed_put, owed_waits, may_owed, may_pay}
+use Rattle.vs_device.proofs.{Paying.some_and, Putting.owed_put, Putting.owed_waits, Putting.may_owed, Putting.may_pay}
 use Rattle.vs_device.proofs.device.Device.put_owed.Goals as goal
 
 pub put_header-requires-clause-may : goal.put_header-requires-clause-may

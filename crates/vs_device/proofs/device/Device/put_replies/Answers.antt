@@ -1,8 +1,6 @@
 use Rattle.std.proofs.Common.{refl, ◌∙◌, arith}
 use Rattle.vs_contents.proofs.Loops.{while_more, while_stop, while_end, may_step, may_more}
-use Rattle.vs_device_parts.specs.Calls.{Allows}
-use Rattle.vs_device_parts.specs.Filling.{filling_of}
-use Rattle.vs_device_parts.specs.Playing.{CanMake, situation}
+use Rattle.vs_device_parts.specs.{Calls.Allows, Filling.filling_of, Playing.CanMake, Playing.situation}
 use Rattle.vs_device_parts.specs.Receiving.{Filling, put_reply}
 use Rattle.vs_device.proofs.Among.{among, ring_of}
 use Rattle.vs_device.proofs.device.Device.put_replies.Goals as goal

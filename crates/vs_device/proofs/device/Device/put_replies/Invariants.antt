@@ -1,8 +1,7 @@
 use Rattle.std.proofs.Common.{◌≡◌, ◌-◌, ◌≤◌, ℕ, false, length, Option}
 use Rattle.vs_contents.specs.CallTree.{while_up_to}
 use Rattle.vs_outside.specs.Host.{HostContents}
-use Rattle.vs_device_parts.specs.Calls.{Situation}
-use Rattle.vs_device_parts.specs.Filling.{filling_of}
+use Rattle.vs_device_parts.specs.{Calls.Situation, Filling.filling_of}
 use Rattle.vs_device_parts.specs.Playing.{IsRingOf, MayRunOnRing, Runs, situation}
 use Rattle.vs_device_parts.specs.Receiving.{Filling, put_reply}
 use Rattle.vs_device_parts.specs.declared.limits.TheConstants.{REPLIES}

@@ -4,11 +4,8 @@ use Rattle.vs_contents.proofs.Leads.{leads_to}
 use Rattle.vs_header.specs.declared.Header.{Header}
 use Rattle.vs_replies.specs.Owed.{OwedReplies}
 use Rattle.vs_replies.specs.declared.Reply.{Reply}
-use Rattle.vs_device_parts.specs.Calls.{Allows}
-use Rattle.vs_device_parts.specs.Filling.{filling_of, put_header}
-use Rattle.vs_device_parts.specs.Playing.{situation, MayRun, Runs}
-use Rattle.vs_device_parts.specs.Receiving.{Filling, put_reply, reply_header}
-use Rattle.vs_device_parts.specs.State.{DeviceState}
+use Rattle.vs_device_parts.specs.{Calls.Allows, Filling.filling_of, Filling.put_header, Playing.situation, Playing.MayRun, Playing.Runs}
+use Rattle.vs_device_parts.specs.{Receiving.Filling, Receiving.put_reply, Receiving.reply_header, State.DeviceState}
 use Rattle.vs_device.specs.contracts.device.Device.{the_view}
 use Rattle.vs_device.proofs.Putting.{reply_put, reply_waits, may_reply}
 use Rattle.vs_device.proofs.device.Device.put_reply.Goals as goal

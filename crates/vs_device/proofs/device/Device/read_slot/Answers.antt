@@ -3,9 +3,7 @@ use Rattle.std.proofs.lemmas.Bool.Decides.{nat_tests}
 use Rattle.vs_contents.proofs.Leads.{leads_of}
 use Rattle.vs_credit.specs.Credit.{free_of}
 use Rattle.vs_flow.specs.Table.{entry_under, value_under}
-use Rattle.vs_device_parts.specs.Calls.{Allows}
-use Rattle.vs_device_parts.specs.Filling.{filling_of}
-use Rattle.vs_device_parts.specs.Playing.{MayRun, Runs, situation}
+use Rattle.vs_device_parts.specs.{Calls.Allows, Filling.filling_of, Playing.MayRun, Playing.Runs, Playing.situation}
 use Rattle.vs_device_parts.specs.Receiving.{Filling, hold, may_read, read_with_chain}
 use Rattle.vs_device_parts.specs.State.{DeviceConnection, DeviceEntry, DeviceState}
 use Rattle.vs_device_parts.proofs.Under.{value_of}

@@ -1,7 +1,6 @@
 use Rattle.std.proofs.Common.{◌≡◌, ℕ, ◌+◌, ◌≤◌, List, [], length, take, true, Some, refl, sym, ap, subst, ◌∙◌, rules, arith}
 use Rattle.std.proofs.lemmas.List.{length-take-le}
-use Rattle.vs_contents.proofs.Leads.{leads_bind}
-use Rattle.vs_contents.proofs.Conditions.{may_first}
+use Rattle.vs_contents.proofs.{Leads.leads_bind, Conditions.may_first}
 use Rattle.vs_conn.specs.End.{CanSend}
 use Rattle.vs_credit.specs.Credit.{free_of}
 use Rattle.vs_flow.specs.Table.{Table, entry_under, value_under, with_value}
@@ -11,19 +10,16 @@ use Rattle.vs_outside.specs.Host.{IsOpen}
 use Rattle.vs_outside.specs.declared.host_net.StreamRead.TheVariants as read
 use Rattle.vs_ring_port.specs.declared.device_ring.Chain.{Chain}
 use Rattle.vs_wrap.specs.Wrap.{counted}
-use Rattle.vs_device_parts.specs.Calls.{Allows}
-use Rattle.vs_device_parts.specs.Connections.{with_fault, after_shut, cut_off}
-use Rattle.vs_device_parts.specs.Filling.{filling_of}
+use Rattle.vs_device_parts.specs.{Calls.Allows, Connections.with_fault, Connections.after_shut, Connections.cut_off, Filling.filling_of}
 use Rattle.vs_device_parts.specs.Playing.{CanMake, MayRun, Runs, situation}
 use Rattle.vs_device_parts.specs.Receiving.{Filling, may_read, read_room, put_payload}
-use Rattle.vs_device_parts.specs.State.{DeviceConnection, DeviceEntry, DeviceState}
-use Rattle.vs_device_parts.specs.Streams.{closing}
+use Rattle.vs_device_parts.specs.{State.DeviceConnection, State.DeviceEntry, State.DeviceState, Streams.closing}
 use Rattle.vs_device.specs.contracts.device.Device.{the_view}
 use Rattle.vs_device.proofs.Leaving.{changed, may_close}
 use Rattle.vs_device.proofs.Reading.{answered, may_ask, may_answered, if_some, at_some, same_read, fits}
+use Rattle.vs_device.proofs.Among.{held_one}
 use Rattle.vs_device_parts.proofs.Under.{has_slot, value_of, under}
 use Rattle.vs_device_log.proofs.Filling.{can_send}
-use Rattle.vs_device.proofs.Among.{held_one}
 use Rattle.vs_device.proofs.device.Device.read_with_chain.Goals as goal
 
 pub read_into-requires-clause-open : goal.read_into-requires-clause-open

@@ -1,9 +1,6 @@
 use Rattle.std.proofs.Common.{◌≡◌, None, Ok, ap, ◌∙◌, rules, arith}
-use Rattle.vs_device_parts.specs.Playing.{situation}
-use Rattle.vs_device_parts.specs.State.{DeviceState}
-use Rattle.vs_device.proofs.Among.{same_ring}
-use Rattle.vs_device.proofs.Resetting.{may_close_all, was_reset}
-use Rattle.vs_device.proofs.Ordered.{reset_honest, reset_streams}
+use Rattle.vs_device_parts.specs.{Playing.situation, State.DeviceState}
+use Rattle.vs_device.proofs.{Among.same_ring, Resetting.may_close_all, Resetting.was_reset, Ordered.reset_honest, Ordered.reset_streams}
 use Rattle.vs_device.proofs.Accounted.{reset_accounted}
 use Rattle.vs_device.proofs.device.Device.reset.Goals as goal
 

@@ -1,10 +1,8 @@
 use Rattle.std.proofs.Common.{◌≡◌, ℕ, List, ◌<◌, ◌≤◌, length, sym, ap, subst, ◌∙◌, rules, arith}
 use Rattle.vs_contents.specs.CallTree.{for_each}
 use Rattle.vs_flow.specs.Table.{slots}
-use Rattle.vs_device_parts.specs.Filling.{filling_of}
-use Rattle.vs_device_parts.specs.Playing.{MayRun, Runs, situation}
-use Rattle.vs_device_parts.specs.Receiving.{Filling, serve_slot, round_from}
-use Rattle.vs_device_parts.specs.State.{DeviceState}
+use Rattle.vs_device_parts.specs.{Filling.filling_of, Playing.MayRun, Playing.Runs, Playing.situation}
+use Rattle.vs_device_parts.specs.{Receiving.Filling, Receiving.serve_slot, Receiving.round_from, State.DeviceState}
 use Rattle.vs_device_parts.proofs.Each.{each_more, may_each_step, may_each_more, each_end}
 use Rattle.vs_device.proofs.device.Device.serve_all.Goals as goal
 

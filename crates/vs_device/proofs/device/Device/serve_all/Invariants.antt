@@ -1,8 +1,7 @@
 use Rattle.std.proofs.Common.{◌+◌, ◌*◌, ◌≤◌, length, drop}
 use Rattle.vs_contents.specs.CallTree.{for_each}
 use Rattle.vs_page.specs.declared.page.TheConstants.{PAYLOAD_MAX}
-use Rattle.vs_device_parts.specs.Calls.{Situation}
-use Rattle.vs_device_parts.specs.Filling.{filling_of, serve_all}
+use Rattle.vs_device_parts.specs.{Calls.Situation, Filling.filling_of, Filling.serve_all}
 use Rattle.vs_device_parts.specs.Playing.{IsRingOf, MayRun, Runs, situation}
 use Rattle.vs_device_parts.specs.Receiving.{Filling, serve_slot}
 use Rattle.vs_device_parts.specs.declared.limits.TheConstants.{CONNECTIONS}

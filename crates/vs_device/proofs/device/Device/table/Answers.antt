@@ -1,6 +1,5 @@
 use Rattle.std.proofs.Common.{sym, subst}
-use Rattle.vs_device_parts.specs.State.{DeviceState}
-use Rattle.vs_device_parts.specs.Turns.{table_shown}
+use Rattle.vs_device_parts.specs.{State.DeviceState, Turns.table_shown}
 use Rattle.vs_device_log.specs.Honest.{AgreesWith, IsLeftOpen}
 use Rattle.vs_device_log.proofs.Shown.{left_open}
 use Rattle.vs_device.specs.contracts.device.Device.{the_view}

@@ -5,14 +5,10 @@ use Rattle.vs_ring_port.specs.declared.device_ring.Next.TheVariants as next
 use Rattle.vs_ring_port.specs.declared.failure.Failure.{Failure}
 use Rattle.vs_ring_port.specs.declared.queue.Queue.TheVariants.{Tx}
 use Rattle.vs_device_parts.specs.declared.answers.Taken.TheVariants as taken
-use Rattle.vs_device_parts.specs.Calls.{Allows, Ring}
-use Rattle.vs_device_parts.specs.State.{DeviceState}
-use Rattle.vs_device_parts.specs.Playing.{MayRun, situation}
-use Rattle.vs_device_parts.specs.Transmitting.{on_next}
+use Rattle.vs_device_parts.specs.{Calls.Allows, Calls.Ring, State.DeviceState, Playing.MayRun, Playing.situation, Transmitting.on_next}
 use Rattle.std.proofs.Common.{nat_le}
 use Rattle.vs_device_parts.specs.declared.limits.TheConstants.{REPLIES}
-use Rattle.vs_device.proofs.Takings.{may_next, took_next, by_next}
-use Rattle.vs_device.proofs.Ordered.{take_honest, take_streams}
+use Rattle.vs_device.proofs.{Takings.may_next, Takings.took_next, Takings.by_next, Ordered.take_honest, Ordered.take_streams}
 use Rattle.vs_device.proofs.Accounted.{take_accounted, take_judged}
 use Rattle.vs_device.proofs.device.Device.take_tx.Goals as goal
 

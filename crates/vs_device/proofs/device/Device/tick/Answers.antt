@@ -1,9 +1,7 @@
 use Rattle.std.proofs.Common.{◌≤◌, ◌<◌, length, ◌∙◌, rules}
-use Rattle.vs_device_parts.specs.Playing.{situation}
-use Rattle.vs_device_parts.specs.Streams.{tick_slot}
+use Rattle.vs_device_parts.specs.{Playing.situation, Streams.tick_slot}
 use Rattle.vs_device_parts.proofs.Each.{each_more, may_each_step, may_each_more, each_end}
-use Rattle.vs_device.proofs.Ordered.{tick_honest, tick_streams}
-use Rattle.vs_device.proofs.Accounted.{tick_accounted}
+use Rattle.vs_device.proofs.{Ordered.tick_honest, Ordered.tick_streams, Accounted.tick_accounted}
 use Rattle.vs_device.proofs.device.Device.tick.Goals as goal
 
 pub tick_slot-requires : goal.tick_slot-requires

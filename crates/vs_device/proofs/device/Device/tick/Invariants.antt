@@ -1,9 +1,7 @@
 use Rattle.std.proofs.Common.{◌≡◌, ℕ, drop, Option}
 use Rattle.vs_contents.specs.CallTree.{for_each}
 use Rattle.vs_outside.specs.Host.{HostContents}
-use Rattle.vs_device_parts.specs.State.{DeviceState}
-use Rattle.vs_device_parts.specs.Playing.{MayRunOnHost, RunsOnHost}
-use Rattle.vs_device_parts.specs.Streams.{tick_of, tick_slot}
+use Rattle.vs_device_parts.specs.{State.DeviceState, Playing.MayRunOnHost, Playing.RunsOnHost, Streams.tick_of, Streams.tick_slot}
 use Rattle.vs_device.proofs.device.Device.tick.Given as goal
 
 -- whatever completes the rest completes the whole

@@ -1,12 +1,9 @@
 use Rattle.std.proofs.Common.{◌≡◌, ℕ, true, false, List, subst, rules}
-use Rattle.vs_flow.specs.Table.{has_place}
+use Rattle.vs_flow.specs.{Table.has_place, Flow.is_assigned}
 use Rattle.vs_flow.specs.declared.flow.Flow.{Flow}
 use Rattle.vs_header.specs.declared.Header.{Header}
 use Rattle.vs_uds.specs.Path.{path_of}
-use Rattle.vs_device_parts.specs.Calls.{Allows, Dial}
-use Rattle.vs_device_parts.specs.State.{DeviceState}
-use Rattle.vs_device_parts.specs.Playing.{situation}
-use Rattle.vs_flow.specs.Flow.{is_assigned}
+use Rattle.vs_device_parts.specs.{Calls.Allows, Calls.Dial, State.DeviceState, Playing.situation}
 use Rattle.vs_device.proofs.Takings.{dialed}
 use Rattle.vs_device.proofs.device.Device.try_request.Goals as goal
 

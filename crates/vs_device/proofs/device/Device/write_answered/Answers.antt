@@ -2,13 +2,11 @@ use Rattle.std.proofs.Common.{◌≡◌, length, Some, ap, subst, ◌∙◌}
 use Rattle.vs_flow.specs.Table.{entry_under, with_value}
 use Rattle.vs_device_parts.specs.State.{DeviceConnection, DeviceState}
 use Rattle.vs_device_parts.specs.Connections.{with_connection, cut_off, after_shut, after_written}
-use Rattle.vs_device_parts.specs.Playing.{Runs, situation}
-use Rattle.vs_device_parts.specs.Streams.{closing, to_write}
+use Rattle.vs_device_parts.specs.{Playing.Runs, Playing.situation, Streams.closing, Streams.to_write}
 use Rattle.vs_device.specs.contracts.device.Device.{the_view}
-use Rattle.vs_device.proofs.Leaving.{changed}
-use Rattle.vs_device_parts.proofs.Under.{has_slot, value_of}
-use Rattle.vs_device.proofs.Pumping.{took, host_closed, write_failed, took_within}
+use Rattle.vs_device.proofs.{Leaving.changed, Pumping.took, Pumping.host_closed, Pumping.write_failed, Pumping.took_within}
 use Rattle.vs_device.proofs.Written.{written_within}
+use Rattle.vs_device_parts.proofs.Under.{has_slot, value_of}
 use Rattle.vs_device.proofs.device.Device.write_answered.Goals as goal
 
 pub written-requires : goal.written-requires

@@ -1,13 +1,9 @@
-use Rattle.std.proofs.Common.{◌≡◌, ◌≢◌, ℕ, List, length, Some, sym, ap, subst, ◌∙◌, rules}
+use Rattle.std.proofs.Common.{◌≡◌, ◌≢◌, ℕ, List, length, Some, sym, ap, subst, ◌∙◌, rules, take}
 use Rattle.vs_flow.specs.Table.{entry_under, value_under}
 use Rattle.vs_ring_port.specs.Contents.{RingContents}
-use Rattle.vs_device_parts.specs.Calls.{Situation, Allows, WriteStream}
-use Rattle.vs_device_parts.specs.State.{DeviceConnection, DeviceState}
-use Rattle.vs_device_parts.specs.Playing.{situation}
-use Rattle.vs_device_parts.specs.Streams.{Writing, to_write}
-use Rattle.vs_device_parts.specs.Written.{writing}
+use Rattle.vs_device_parts.specs.{Calls.Situation, Calls.Allows, Calls.WriteStream, State.DeviceConnection, State.DeviceState}
+use Rattle.vs_device_parts.specs.{Playing.situation, Streams.Writing, Streams.to_write, Written.writing}
 use Rattle.vs_device.proofs.Pumping.{may_be_answered, wrote}
-use Rattle.std.proofs.Common.{take}
 use Rattle.vs_device_parts.proofs.Under.{value_is}
 use Rattle.vs_device.proofs.device.Device.write_pending.Goals as goal
 

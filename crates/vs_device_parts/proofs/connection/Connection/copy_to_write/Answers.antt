@@ -1,6 +1,5 @@
-use Rattle.std.proofs.Common.{rules, arith, ◌≡◌, ◌≤◌, ◌+◌, ◌-◌, ℕ, List, ◌++◌, length, min, take, drop, sym, ap, ◌∙◌}
-use Rattle.vs_device_parts.specs.State.{DeviceConnection}
-use Rattle.vs_device_parts.specs.Streams.{to_write}
+use Rattle.std.proofs.Common.{rules, arith, ◌≡◌, ◌≤◌, ◌-◌, length, min, ap, ◌∙◌}
+use Rattle.vs_device_parts.specs.{State.DeviceConnection, Streams.to_write}
 use Rattle.vs_device_parts.proofs.Copying.{count_is, copied}
 use Rattle.vs_device_parts.proofs.connection.Connection.copy_to_write.Goals as goal
 

@@ -1,8 +1,7 @@
-use Rattle.std.proofs.Common.{◌≡◌, ◌<◌, ℕ, length, Some, None, sym, ap, ◌∙◌, arith, rules}
-use Rattle.vs_flow.specs.Table.{Table, value_under, without, emptied}
+use Rattle.std.proofs.Common.{◌≡◌, length, Some, ap, ◌∙◌, arith, rules}
+use Rattle.vs_flow.specs.Table.{Table, without, emptied}
 use Rattle.vs_device_parts.specs.State.{DeviceConnection, DeviceEntry}
-use Rattle.vs_device_parts.proofs.SlotChanges.{one_fewer}
-use Rattle.vs_device_parts.proofs.Under.{first_under, none_left, value_of}
+use Rattle.vs_device_parts.proofs.{SlotChanges.one_fewer, Under.first_under, Under.none_left, Under.value_of}
 use Rattle.vs_device_parts.proofs.slots.Slots.clear.Goals as goal
 
 pub loop-slot-smaller : goal.loop-slot-smaller

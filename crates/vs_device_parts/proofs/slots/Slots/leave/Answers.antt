@@ -1,10 +1,7 @@
-use Rattle.std.proofs.Common.{◌≡◌, ◌+◌, length, Some, None, sym, ap, subst, ◌∙◌, arith, rules}
+use Rattle.std.proofs.Common.{◌≡◌, length, Some, None, sym, ap, subst, ◌∙◌, arith, rules}
 use Rattle.std.proofs.lemmas.List.Elements.{All-push}
-use Rattle.vs_flow.specs.Table.{Table, IsTable, value_under, without}
-use Rattle.vs_device_parts.specs.State.{DeviceConnection}
-use Rattle.vs_device_parts.specs.Room.{IsSpare}
-use Rattle.vs_device_parts.specs.SlotFields.{AreKept}
-use Rattle.vs_device_parts.specs.declared.slots.Slots.TheInside.{Inside}
+use Rattle.vs_flow.specs.Table.{Table, value_under, without}
+use Rattle.vs_device_parts.specs.{State.DeviceConnection, Room.IsSpare, SlotFields.AreKept}
 use Rattle.vs_device_parts.proofs.SlotChanges.{none_leaves, one_fewer}
 use Rattle.vs_device_parts.proofs.slots.Slots.leave.Goals as goal
 

@@ -1,9 +1,7 @@
-use Rattle.std.proofs.Common.{◌≡◌, ◌+◌, ◌∷◌, [], length, ap, ◌∙◌, arith, rules, length-append}
+use Rattle.std.proofs.Common.{◌≡◌, ◌∷◌, [], length, ap, ◌∙◌, arith, length-append, true, None}
 use Rattle.vs_flow.specs.Table.{Table, with_entry, next_entry, has_place, entry_of}
-use Rattle.std.proofs.Common.{true, None}
 use Rattle.vs_flow.proofs.Tables.{with_entry_sound}
-use Rattle.vs_device_parts.specs.State.{DeviceConnection}
-use Rattle.vs_device_parts.specs.Room.{IsSpare}
+use Rattle.vs_device_parts.specs.{State.DeviceConnection, Room.IsSpare}
 use Rattle.vs_device_parts.proofs.SlotChanges.{accepts, all_front}
 use Rattle.vs_device_parts.proofs.slots.Slots.open_dialed.Goals as goal
 

@@ -1,6 +1,5 @@
 use Rattle.std.proofs.Common.{◌≡◌, rules}
-use Rattle.vs_driver_parts.specs.State.{DriverState}
-use Rattle.vs_driver_parts.specs.Listening.{after_accept}
+use Rattle.vs_driver_parts.specs.{State.DriverState, Listening.after_accept}
 use Rattle.vs_driver.specs.contracts.driver.Driver.{the_view}
 use Rattle.vs_driver.proofs.Kept.{accept_kept}
 use Rattle.vs_driver.proofs.driver.Driver.accept.Goals as goal

@@ -1,9 +1,7 @@
 use Rattle.std.proofs.Common.{◌≡◌, false, Some, sym, ap, ◌∙◌}
-use Rattle.vs_driver_parts.specs.State.{DriverState}
+use Rattle.vs_driver_parts.specs.{State.DriverState, Held.HeldSlots, Conversations.is_rst}
 use Rattle.vs_driver.specs.contracts.driver.Driver.{the_view}
 use Rattle.vs_flow.specs.Table.{entry_under}
-use Rattle.vs_driver_parts.specs.Held.{HeldSlots}
-use Rattle.vs_driver_parts.specs.Conversations.{is_rst}
 use Rattle.vs_driver_parts.proofs.Ids.{value_of, has_slot}
 use Rattle.vs_driver.proofs.Paying.{paid_other}
 use Rattle.vs_driver.proofs.driver.Driver.count_paid.Goals as goal

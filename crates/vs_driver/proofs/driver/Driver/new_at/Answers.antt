@@ -1,11 +1,9 @@
 use Rattle.std.proofs.Common.{◌≡◌, ℕ, refl, sym, ap, subst, ◌∙◌, rules}
 use Rattle.vs_ring_port.specs.declared.queue.Queue.TheVariants.{Rx, Event}
-use Rattle.vs_contents.proofs.Leads.{leads_bind}
-use Rattle.vs_contents.proofs.Conditions.{may_first, may_rest}
-use Rattle.vs_driver_parts.specs.State.{DriverState}
-use Rattle.vs_driver_parts.specs.Playing.{CanMake, MayPublishAll, Plays, RingAllows}
-use Rattle.vs_driver.specs.contracts.driver.Driver.{the_view}
+use Rattle.vs_contents.proofs.{Leads.leads_bind, Conditions.may_first, Conditions.may_rest}
+use Rattle.vs_driver_parts.specs.{State.DriverState, Playing.CanMake, Playing.MayPublishAll, Playing.Plays, Playing.RingAllows}
 use Rattle.vs_driver_parts.specs.Conversations.{new_state, post_all, post_events, load_cid}
+use Rattle.vs_driver.specs.contracts.driver.Driver.{the_view}
 use Rattle.vs_driver_log.proofs.Calls.{new_honest, new_may}
 use Rattle.vs_driver.proofs.driver.Driver.new_at.Goals as goal
 

@@ -1,9 +1,7 @@
 use Rattle.std.proofs.Common.{◌≡◌, true, false, None, length, get_or, ◌<◌, ◌≤◌, sym, ap, subst, ◌∙◌, rules}
 use Rattle.std.specs.List.{find}
-use Rattle.vs_driver_parts.specs.State.{DriverState}
+use Rattle.vs_driver_parts.specs.{State.DriverState, Listening.is_answered, Connections.waiting_on}
 use Rattle.vs_driver.specs.contracts.driver.Driver.{the_view}
-use Rattle.vs_driver_parts.specs.Listening.{is_answered}
-use Rattle.vs_driver_parts.specs.Connections.{waiting_on}
 use Rattle.vs_driver_parts.proofs.Lists.{find_here, find_later, find_ended}
 use Rattle.vs_driver.proofs.Reading.{next_is}
 use Rattle.vs_driver.proofs.driver.Driver.next_accepted.Goals as goal

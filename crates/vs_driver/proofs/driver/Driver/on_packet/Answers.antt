@@ -1,14 +1,10 @@
 use Rattle.std.proofs.Common.{◌≡◌, ℕ, Some, None, sym, ap, ◌∙◌}
-use Rattle.vs_flow.specs.Table.{entry_under}
+use Rattle.vs_flow.specs.{Table.entry_under, Table.Table, Table.entry_of, Flow.same_flow}
 use Rattle.vs_flow.specs.declared.flow.Flow.{Flow}
 use Rattle.vs_driver_parts.specs.State.{DriverConnection, DriverEntry, DriverState}
-use Rattle.vs_driver_parts.proofs.Known.{mapped, unmapped}
-use Rattle.vs_flow.specs.Flow.{same_flow}
-use Rattle.vs_flow.specs.Table.{Table, entry_of}
+use Rattle.vs_driver_parts.proofs.{Known.mapped, Known.unmapped, Ids.found_under, Packets.packet_known, Packets.packet_unknown}
 use Rattle.vs_history.specs.declared.packet.Packet.{Packet}
 use Rattle.vs_page.specs.Log.{flow_to_guest}
-use Rattle.vs_driver_parts.proofs.Ids.{found_under}
-use Rattle.vs_driver_parts.proofs.Packets.{packet_known, packet_unknown}
 use Rattle.vs_driver.proofs.driver.Driver.on_packet.Goals as goal
 
 pub returns-in-Some-clause-state : goal.returns-in-Some-clause-state

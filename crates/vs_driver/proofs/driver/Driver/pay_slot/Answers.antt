@@ -1,7 +1,6 @@
 use Rattle.std.proofs.Common.{arith}
 use Rattle.vs_contents.proofs.Loops.{while_more, while_stop, while_end, may_step, may_more}
-use Rattle.vs_driver_parts.specs.Playing.{CanMake, RingAllows}
-use Rattle.vs_driver_parts.specs.Conversations.{Round, round_of, put_owed}
+use Rattle.vs_driver_parts.specs.{Playing.CanMake, Playing.RingAllows, Conversations.Round, Conversations.round_of, Conversations.put_owed}
 use Rattle.vs_driver.proofs.driver.Driver.pay_slot.Goals as goal
 
 pub put_owed-requires-clause-may : goal.put_owed-requires-clause-may

@@ -1,10 +1,6 @@
 use Rattle.std.proofs.Common.{ℕ, sym, ap, ◌∙◌}
-use Rattle.vs_contents.proofs.Leads.{leads_bind}
-use Rattle.vs_contents.proofs.Conditions.{may_first, may_rest}
-use Rattle.vs_driver_parts.specs.State.{DriverState}
-use Rattle.vs_driver_parts.specs.Playing.{CanMake, RingAllows}
-use Rattle.vs_driver_parts.specs.Conversations.{publish_of}
-use Rattle.vs_driver_parts.specs.Conversations.{posts}
+use Rattle.vs_contents.proofs.{Leads.leads_bind, Conditions.may_first, Conditions.may_rest}
+use Rattle.vs_driver_parts.specs.{State.DriverState, Playing.CanMake, Playing.RingAllows, Conversations.publish_of, Conversations.posts}
 use Rattle.vs_driver.proofs.driver.Driver.post_all.Goals as goal
 
 pub stage_all-requires-clause-may : goal.stage_all-requires-clause-may

@@ -1,8 +1,6 @@
 use Rattle.vs_ring_port.specs.declared.queue.Queue.TheVariants.{Tx}
-use Rattle.vs_contents.proofs.Leads.{leads_bind}
-use Rattle.vs_contents.proofs.Conditions.{may_first, may_rest}
-use Rattle.vs_driver_parts.specs.State.{DriverState}
-use Rattle.vs_driver_parts.specs.Playing.{CanMake, RingAllows}
+use Rattle.vs_contents.proofs.{Leads.leads_bind, Conditions.may_first, Conditions.may_rest}
+use Rattle.vs_driver_parts.specs.{State.DriverState, Playing.CanMake, Playing.RingAllows}
 use Rattle.vs_driver_parts.specs.Conversations.{Round, round_of, put_replies, publish_and_pay, pay_and_publish, published, pay_all}
 use Rattle.vs_driver.proofs.Taking.{may_published, round_published}
 use Rattle.vs_driver.proofs.driver.Driver.put_all.Goals as goal

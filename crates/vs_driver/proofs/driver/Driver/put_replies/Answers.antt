@@ -1,7 +1,6 @@
 use Rattle.std.proofs.Common.{arith}
 use Rattle.vs_contents.proofs.Loops.{while_more, while_stop, may_step, may_more}
-use Rattle.vs_driver_parts.specs.Playing.{CanMake, RingAllows}
-use Rattle.vs_driver_parts.specs.Conversations.{Round, round_of, put_reply}
+use Rattle.vs_driver_parts.specs.{Playing.CanMake, Playing.RingAllows, Conversations.Round, Conversations.round_of, Conversations.put_reply}
 use Rattle.vs_driver.proofs.driver.Driver.put_replies.Goals as goal
 
 pub put_reply-requires-clause-may : goal.put_reply-requires-clause-may

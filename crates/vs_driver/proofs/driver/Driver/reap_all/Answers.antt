@@ -1,8 +1,7 @@
 use Rattle.std.proofs.Common.{ap, rules}
 use Rattle.vs_contents.proofs.Loops.{while_more, while_stop}
 use Rattle.vs_ring_port.specs.Counts.{Counts}
-use Rattle.vs_driver_parts.specs.Playing.{RingAllows}
-use Rattle.vs_driver_parts.specs.Conversations.{reap_one}
+use Rattle.vs_driver_parts.specs.{Playing.RingAllows, Conversations.reap_one}
 use Rattle.vs_driver.proofs.RingPages.{ring_after_reap}
 use Rattle.vs_driver.proofs.driver.Driver.reap_all.Goals as goal
 

@@ -1,9 +1,7 @@
 use Rattle.std.proofs.Common.{◌≡◌, ◌-◌}
 use Rattle.vs_contents.specs.CallTree.{while_up_to}
 use Rattle.vs_ring_port.specs.Contents.{RingContents}
-use Rattle.vs_driver_parts.specs.State.{DriverState}
-use Rattle.vs_driver_parts.specs.Conversations.{reap_one, reap_all}
-use Rattle.vs_driver_parts.specs.Playing.{IsRingOf, Plays}
+use Rattle.vs_driver_parts.specs.{State.DriverState, Conversations.reap_one, Conversations.reap_all, Playing.IsRingOf, Playing.Plays}
 use Rattle.vs_driver.proofs.driver.Driver.reap_all.Given as goal
 
 -- whatever completes the rest completes the whole

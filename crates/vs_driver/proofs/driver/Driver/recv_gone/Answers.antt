@@ -1,9 +1,8 @@
 use Rattle.std.proofs.Common.{◌≡◌, ℕ, List, Some, None, length, take, drop, ◌++◌, ◌==◌, sym, ap, ◌∙◌, rules}
 use Rattle.std.specs.List.{find}
-use Rattle.vs_driver_parts.specs.State.{DriverState, GoneConnection}
+use Rattle.vs_driver_parts.specs.{State.DriverState, State.GoneConnection, Connections.is_at_end}
 use Rattle.vs_driver.specs.contracts.driver.Driver.{the_view}
 use Rattle.vs_conn.specs.End.{view_of}
-use Rattle.vs_driver_parts.specs.Connections.{is_at_end}
 use Rattle.vs_driver_parts.specs.declared.answers.Received.TheVariants as got
 use Rattle.vs_driver_parts.proofs.GoneChanges.{read_none}
 use Rattle.vs_driver.proofs.Reading.{gone_some, gone_ended, gone_reset}

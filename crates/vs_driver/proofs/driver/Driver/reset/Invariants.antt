@@ -1,7 +1,6 @@
 use Rattle.std.proofs.Common.{◌≡◌, ◌+◌, ◌≤◌, length}
 use Rattle.vs_driver_parts.specs.declared.limits.TheConstants.{REPLIES}
-use Rattle.vs_driver_parts.specs.Playing.{SamePages}
-use Rattle.vs_driver_parts.specs.Receiving.{all_left, after_reset}
+use Rattle.vs_driver_parts.specs.{Playing.SamePages, Receiving.all_left, Receiving.after_reset}
 use Rattle.vs_driver.proofs.driver.Driver.reset.Given as goal
 
 -- those that are left leave as all do, and there is room for a reply to each

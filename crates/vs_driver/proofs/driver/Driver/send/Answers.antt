@@ -2,15 +2,12 @@ use Rattle.std.proofs.Common.{◌≡◌, Some, ◌≤◌, length, take, is_some,
 use Rattle.vs_contents.proofs.Leads.{end_of, leads_of}
 use Rattle.vs_flow.specs.Table.{entry_under}
 use Rattle.vs_conn.specs.End.{CanSend}
-use Rattle.vs_driver_parts.specs.State.{DriverEntry, DriverState}
-use Rattle.vs_driver_parts.specs.Playing.{MayPublishAll, Plays, RingAllows}
+use Rattle.vs_driver_parts.specs.{State.DriverEntry, State.DriverState, Playing.MayPublishAll, Playing.Plays, Playing.RingAllows}
 use Rattle.vs_driver_parts.specs.Conversations.{send_of, send_with_page, reap_all}
 use Rattle.vs_driver_parts.proofs.Known.{some_inj}
 use Rattle.vs_driver_log.proofs.Calls.{send_honest, send_may}
 use Rattle.vs_driver.specs.Outcomes.{Sends}
-use Rattle.vs_driver.proofs.Ending.{send_ends}
-use Rattle.vs_driver.proofs.Pipes.{send_leaves}
-use Rattle.vs_driver.proofs.RingPages.{ring_same}
+use Rattle.vs_driver.proofs.{Ending.send_ends, Pipes.send_leaves, RingPages.ring_same}
 use Rattle.vs_driver.proofs.Sending.{IsReady, can_send, found_ready, may_after_reaping, ready_goes, send_stops, sent_whole}
 use Rattle.vs_driver.proofs.driver.Driver.send.Goals as goal
 

@@ -3,8 +3,7 @@ use Rattle.vs_driver.specs.contracts.driver.Driver.{the_view}
 use Rattle.vs_driver_parts.proofs.Known.{KnownAt, known_at, shutdown_known, after_shutdown_known}
 use Rattle.vs_driver.proofs.Kept.{shutdown_kept}
 use Rattle.vs_driver.proofs.Pipes.{dropped_by, known_dropped, known_kept, known_shutdown_others, others_by, unchanged_by}
-use Rattle.vs_driver_parts.specs.Connections.{unread_of_id}
-use Rattle.vs_driver_parts.specs.State.{DriverState}
+use Rattle.vs_driver_parts.specs.{Connections.unread_of_id, State.DriverState}
 use Rattle.vs_flow.specs.Table.{IsTable}
 use Rattle.vs_driver.proofs.driver.Driver.shutdown.Goals as goal
 

@@ -2,8 +2,7 @@ use Rattle.std.proofs.Common.{List, ◌<◌, ◌≤◌, ◌^◌, map, length, sy
 use Rattle.std.proofs.lemmas.List.{length-map}
 use Rattle.vs_conn.specs.declared.end.State.{State}
 use Rattle.vs_flow.specs.declared.flow.Flow.{Flow}
-use Rattle.vs_driver_parts.specs.State.{DriverEntry, DriverState}
-use Rattle.vs_driver_parts.specs.Connections.{table_shown}
+use Rattle.vs_driver_parts.specs.{State.DriverEntry, State.DriverState, Connections.table_shown}
 use Rattle.vs_driver_log.specs.Honest.{AgreesWith, IsLeftOpen}
 use Rattle.vs_driver_log.proofs.Shown.{left_open}
 use Rattle.vs_driver.specs.contracts.driver.Driver.{the_view}

@@ -1,6 +1,5 @@
 use Rattle.vs_ring_port.specs.declared.queue.Queue.TheVariants.{Rx}
-use Rattle.vs_contents.proofs.Leads.{leads_bind}
-use Rattle.vs_contents.proofs.Conditions.{may_first, may_rest}
+use Rattle.vs_contents.proofs.{Leads.leads_bind, Conditions.may_first, Conditions.may_rest}
 use Rattle.vs_driver_parts.specs.Playing.{CanMake, RingAllows}
 use Rattle.vs_driver_parts.specs.Conversations.{round_of, all_taken, published, take_packet}
 use Rattle.vs_driver.proofs.Taking.{may_published, round_published}

@@ -1,9 +1,8 @@
 use Rattle.std.proofs.Common.{◌≡◌, ℕ, List, length, drop, get_or, ◌<◌, ◌≤◌, ◌+◌, sym, ap, subst, ◌∙◌, rules}
 use Rattle.vs_driver_parts.specs.State.{DriverState, Listener}
-use Rattle.vs_driver.specs.contracts.driver.Driver.{the_view}
 use Rattle.vs_driver_parts.specs.Connections.{waiting_on, all_closed, after_close, without_listener}
-use Rattle.vs_driver.proofs.Reading.{closed_next, closed_ended}
-use Rattle.vs_driver.proofs.Kept.{unlisten_kept}
+use Rattle.vs_driver.specs.contracts.driver.Driver.{the_view}
+use Rattle.vs_driver.proofs.{Reading.closed_next, Reading.closed_ended, Kept.unlisten_kept}
 use Rattle.vs_driver.proofs.driver.Driver.unlisten.Goals as goal
 
 pub loop-id-preserved : goal.loop-id-preserved

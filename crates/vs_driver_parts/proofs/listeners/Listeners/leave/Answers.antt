@@ -1,7 +1,6 @@
 use Rattle.std.proofs.Common.{◌≡◌, ◌==◌, sym, Some, None, rules}
 use Rattle.std.specs.List.{position}
-use Rattle.vs_driver_parts.specs.Listening.{without_id}
-use Rattle.vs_driver_parts.specs.State.{Listener}
+use Rattle.vs_driver_parts.specs.{Listening.without_id, State.Listener}
 use Rattle.vs_driver_parts.proofs.ListenerChanges.{waiting_there, waiting_nowhere}
 use Rattle.vs_driver_parts.proofs.listeners.Listeners.leave.Goals as goal
 

@@ -1,7 +1,6 @@
 use Rattle.std.proofs.Common.{◌≡◌, ◌==◌, true, sym, Some, None, rules}
 use Rattle.std.specs.List.{position}
-use Rattle.vs_driver_parts.specs.Listening.{waiting_too, has_place}
-use Rattle.vs_driver_parts.specs.State.{Listener}
+use Rattle.vs_driver_parts.specs.{Listening.waiting_too, Listening.has_place, State.Listener}
 use Rattle.vs_driver_parts.proofs.ListenerChanges.{waiting_there, waiting_nowhere, place_is_free}
 use Rattle.vs_driver_parts.proofs.listeners.Listeners.wait.Goals as goal
 

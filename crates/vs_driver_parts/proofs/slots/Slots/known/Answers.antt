@@ -1,10 +1,8 @@
 use Rattle.std.proofs.Common.{◌≡◌, ℕ, Some, sym, ap, ◌∙◌}
-use Rattle.std.specs.Option.{option_map}
-use Rattle.std.specs.List.{find}
+use Rattle.std.specs.{Option.option_map, List.find}
 use Rattle.vs_flow.specs.Table.{entry_under, value_under}
 use Rattle.vs_driver_parts.specs.State.{DriverEntry, is_known_as}
-use Rattle.vs_driver_parts.proofs.Ids.{found_under}
-use Rattle.vs_driver_parts.proofs.Known.{mapped}
+use Rattle.vs_driver_parts.proofs.{Ids.found_under, Known.mapped}
 use Rattle.vs_driver_parts.proofs.slots.Slots.known.Goals as goal
 
 pub returns : goal.returns

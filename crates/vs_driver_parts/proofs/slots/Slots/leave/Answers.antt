@@ -1,13 +1,9 @@
 use Rattle.std.proofs.Common.{◌≡◌, ℕ, List, length, Some, true, false, sym, ap, ◌∙◌, rules, arith}
 use Rattle.std.proofs.lemmas.List.Elements.{All-push}
 use Rattle.vs_flow.specs.Table.{Table, entry_under, without}
-use Rattle.vs_driver_parts.specs.Room.{IsSpare}
-use Rattle.vs_driver_parts.specs.State.{DriverConnection, GoneConnection}
-use Rattle.vs_driver_parts.specs.Connections.{is_let_go}
-use Rattle.vs_driver_parts.specs.Held.{HeldSlots}
+use Rattle.vs_driver_parts.specs.{Room.IsSpare, State.DriverConnection, State.GoneConnection, Connections.is_let_go, Held.HeldSlots}
 use Rattle.vs_driver_parts.specs.contracts.slots.Slots.{the_view}
-use Rattle.vs_driver_parts.proofs.Ids.{IsUnder, under}
-use Rattle.vs_driver_parts.proofs.Numbers.{numbers_without, numbers_left}
+use Rattle.vs_driver_parts.proofs.{Ids.IsUnder, Ids.under, Numbers.numbers_without, Numbers.numbers_left}
 use Rattle.vs_driver_parts.proofs.SlotChanges.{left_free, left_kept, one_fewer}
 use Rattle.vs_driver_parts.proofs.slots.Slots.leave.Goals as goal
 

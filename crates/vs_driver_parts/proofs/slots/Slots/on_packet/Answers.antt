@@ -1,8 +1,7 @@
 use Rattle.std.proofs.Common.{◌≡◌, Some, ap, ◌∙◌, rules}
 use Rattle.vs_flow.specs.Table.{value_under}
 use Rattle.vs_driver_parts.specs.State.{DriverConnection}
-use Rattle.vs_driver_parts.proofs.SameIds.{packet_id}
-use Rattle.vs_driver_parts.proofs.SlotChanges.{kept_with_connection}
+use Rattle.vs_driver_parts.proofs.{SameIds.packet_id, SlotChanges.kept_with_connection}
 use Rattle.vs_driver_parts.proofs.slots.Slots.on_packet.Goals as goal
 
 pub invariant_of-self-2 : goal.invariant_of-self-2

@@ -1,7 +1,6 @@
 use Rattle.std.proofs.Common.{◌≡◌, List, ◌==◌, Some, None, min, length, take, drop, ◌++◌, sym, ap, ◌∙◌, rules}
 use Rattle.std.specs.List.{position, find}
-use Rattle.vs_driver_parts.specs.State.{GoneConnection}
-use Rattle.vs_driver_parts.specs.Held.{HeldSlots}
+use Rattle.vs_driver_parts.specs.{State.GoneConnection, Held.HeldSlots}
 use Rattle.vs_driver_parts.specs.contracts.slots.Slots.{the_view}
 use Rattle.vs_driver_parts.proofs.Lists.{found_nowhere, one_passes}
 use Rattle.vs_driver_parts.proofs.GoneChanges.{first_gone, read_empty, read_there, read_nowhere}

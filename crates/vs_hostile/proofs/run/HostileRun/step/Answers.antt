@@ -2,8 +2,7 @@ use Rattle.std.proofs.Common.{◌≡◌, ◌+◌, ℕ, List, [], ◌∷◌, drop
 use Rattle.vs_script.specs.Hostile.{hostile_view}
 use Rattle.vs_script.specs.declared.hostile.HostileLine.{HostileLine}
 use Rattle.vs_script.specs.declared.script.Numbered.{Numbered}
-use Rattle.vs_hostile.specs.Ready.{RunState, Steps}
-use Rattle.vs_hostile.specs.Run.{HostileState}
+use Rattle.vs_hostile.specs.{Ready.RunState, Ready.Steps, Run.HostileState}
 use Rattle.vs_hostile.proofs.Attacks.{held_lines, rest_from}
 use Rattle.vs_hostile.proofs.run.HostileRun.step.Goals as goal
 

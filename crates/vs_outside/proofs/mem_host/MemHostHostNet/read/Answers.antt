@@ -1,12 +1,29 @@
-use Rattle.std.proofs.Common.{sym, subst}
-use Rattle.vs_outside.specs.Host.{IsOpen}
-use Rattle.vs_outside.specs.HostProgram.{HostMemory}
-use Rattle.vs_outside.proofs.Streams.{after_reads}
+use Rattle.std.proofs.Common.{Bool, ◌-◌, length, get_or, set, ap, sym, ◌∙◌}
+use Rattle.vs_outside.specs.HostProgram.{HostMemory, after_call}
+use Rattle.vs_outside.proofs.Streams.{after_reads, is_read, read_counts_none}
 use Rattle.vs_outside.proofs.mem_host.MemHostHostNet.read.Goals as goal
+
+pub returns-clause-exact : goal.returns-clause-exact
+returns-clause-exact c =
+    let m = c.args.self.now in
+    let old = c.index_mut.result.now in
+    let is = c.self.view_is ∙ (c.fails.ensures.after ∙ ap (λ (b : Bool). after_call b m) c.if-fails.false) in
+    is_read c.args.id c.read.result c.read.new.out m.contents old c.read.new.self c.requires
+    (c.index_mut.ensures.value ∙ ap (λ (x : HostMemory). get_or x.contents.streams (c.args.id - 1) old) is)
+    (sym c.fails.ensures.answer ∙ c.if-fails.false) (rw c.read.auto.out c.read.ensures.answer) c.read.ensures.reads
 
 pub returns-clause-after : goal.returns-clause-after
 returns-clause-after c =
-    let opened = subst (λ (m : HostMemory). IsOpen c.args.id m.contents) (sym c.self.view_is) c.requires in
-    rw (c.call.ensures.after, ← c.self.view_is)
-    (after_reads c.args.id c.read.result c.read.new.out _ c.index_mut.result.now c.read.new.self
-    opened c.index_mut.ensures.value c.read.ensures.reads)
+    let m = c.args.self.now in
+    let old = c.index_mut.result.now in
+    let is = c.self.view_is ∙ (c.fails.ensures.after ∙ ap (λ (b : Bool). after_call b m) c.if-fails.false) in
+    ap (λ (x : HostMemory). record x.contents { streams = set x.contents.streams (c.args.id - 1) c.read.new.self }) is
+    ∙ after_reads c.args.id c.read.result c.read.new.out m.contents old c.read.new.self c.requires
+    (c.index_mut.ensures.value ∙ ap (λ (x : HostMemory). get_or x.contents.streams (c.args.id - 1) old) is) c.read.ensures.reads
+
+pub returns-clause-counts : goal.returns-clause-counts
+returns-clause-counts c =
+    let m = c.args.self.now in
+    let is = c.self.view_is ∙ (c.fails.ensures.after ∙ ap (λ (b : Bool). after_call b m) c.if-fails.false) in
+    read_counts_none (length c.args.out.now) c.read.result c.index_mut.result.now _ _ c.read.ensures.answer
+    (ap (λ (x : HostMemory). x.faults) is)

@@ -1,15 +1,10 @@
-use Rattle.std.proofs.Common.{◌≡◌, ◌≤◌, ℕ, List, [], false, ◌+◌, ◌-◌, length, take, drop, ap, subst, ◌∙◌, arith}
+use Rattle.std.proofs.Common.{◌≡◌, ◌≤◌, [], false, ◌+◌, ◌-◌, length, take, drop, refl, ap, ◌∙◌, arith}
 use Rattle.std.proofs.lemmas.List.{take_rest}
-use Rattle.vs_outside.specs.Host.{after_write}
-use Rattle.vs_outside.specs.declared.host_net.StreamWrite.TheVariants as write
-use Rattle.vs_peer.specs.Passing.{Moves}
-use Rattle.vs_peer.proofs.Streams.{exposed_relates, moves_open, wrote}
-use Rattle.vs_peer.proofs.Sends.{length_take_le, piece_of}
+use Rattle.vs_peer.proofs.{Streams.relates_as, Sends.length_take_le, Sends.nothing_sent, Sends.piece_of}
 use Rattle.vs_peer.proofs.send.Sending.write.Goals as goal
 
 pub returns-in-Took-clause-passes : goal.returns-in-Took-clause-passes
 returns-in-Took-clause-passes g c =
-    let id = c.args.id in
     let xs = c.args.bytes.now in
     let a = c.args.self.now.sent in
     let n = c.in-Took.n in
@@ -17,9 +12,13 @@ returns-in-Took-clause-passes g c =
     let rest = take (length xs - a) (drop a xs) in
     let few : n ≤ m = omega (arith, c.in-Took.ensures.some.0, length_take_le rest m) in
     let same : take n (take m rest) ≡ drop a (take (a + n) xs) = ap (λ ys. take n (take m ys)) (take_rest xs a) ∙ piece_of xs a n m few in
-    exposed_relates _ _ (Moves id (drop a (take (a + n) xs)) [] false) _ _ c.in-Took.ensures.exact
-    (λ h is p. subst (λ (ys : List ℕ). Moves id ys [] false h (after_write id (take m rest) (write.Took n) h)) same (wrote id
-    (take m rest) (write.Took n) h))
+    relates_as c.args.id _ (drop a (take (a + n) xs)) [] [] false false _ _ c.in-Took.ensures.passes same refl refl
 
-pub returns-in-Took-clause-open : goal.returns-in-Took-clause-open
-returns-in-Took-clause-open g c = moves_open c.args.id _ [] false _ _ (returns-in-Took-clause-passes g c) c.requires.open
+pub returns-in-Again-clause-passes : goal.returns-in-Again-clause-passes
+returns-in-Again-clause-passes g c = nothing_sent c.args.id c.args.bytes.now c.args.self.now.sent _ _ c.in-Again.ensures.passes.0
+
+pub returns-in-Closed-clause-passes : goal.returns-in-Closed-clause-passes
+returns-in-Closed-clause-passes g c = nothing_sent c.args.id c.args.bytes.now c.args.self.now.sent _ _ c.in-Closed.ensures.passes.0
+
+pub returns-in-Failed-clause-passes : goal.returns-in-Failed-clause-passes
+returns-in-Failed-clause-passes g c = nothing_sent c.args.id c.args.bytes.now c.args.self.now.sent _ _ c.in-Failed.ensures.passes

@@ -1,4 +1,4 @@
-use Rattle.std.proofs.Common.{rules, arith}
+use Rattle.std.proofs.Common.{rules}
 use Rattle.vs_plain_driver.proofs.Sound.{sound_new}
 use Rattle.vs_plain_driver.proofs.driver_queue.DriverQueue.new.Goals as goal
 

@@ -2,10 +2,8 @@ use Rattle.std.specs.Prelude.{nat_lt}
 use Rattle.std.proofs.Common.{◌≡◌, ℕ, ◌+◌, ◌<◌, ◌∷◌, [], ◌++◌, List, length, true, refl, sym, ap, ◌∙◌, arith}
 use Rattle.std.proofs.lemmas.Bool.Decides.{nat_tests}
 use Rattle.vs_outside.specs.declared.host_net.Accepted.TheVariants as accepted
-use Rattle.vs_device_parts.specs.Connections.{with_fault}
-use Rattle.vs_device_parts.specs.State.{DeviceState}
-use Rattle.vs_proxy_parts.specs.State.{Handshake, ProxyState, Turning}
-use Rattle.vs_proxy_parts.specs.Turning.{turning_of}
+use Rattle.vs_device_parts.specs.{Connections.with_fault, State.DeviceState}
+use Rattle.vs_proxy_parts.specs.{State.Handshake, State.ProxyState, State.Turning, Turning.turning_of}
 use Rattle.vs_proxy_parts.specs.declared.limits.TheConstants.{HANDSHAKES}
 use Rattle.vs_proxy.specs.contracts.proxy.Proxy.{the_view}
 use Rattle.vs_proxy.proofs.Handshaking.{accepts}

@@ -2,9 +2,7 @@ use Rattle.std.proofs.Common.{◌≡◌, ℕ, List, ◌<◌, ◌≤◌, length, 
 use Rattle.vs_contents.specs.CallTree.{for_each}
 use Rattle.vs_device_parts.specs.Playing.{MayRun, Runs, situation}
 use Rattle.vs_device_parts.proofs.Each.{each_more, may_each_step, may_each_more, each_end}
-use Rattle.vs_proxy_parts.specs.Handshakes.{streams_of}
-use Rattle.vs_proxy_parts.specs.State.{ProxyState}
-use Rattle.vs_proxy_parts.specs.Turns.{close_handshake}
+use Rattle.vs_proxy_parts.specs.{Handshakes.streams_of, State.ProxyState, Turns.close_handshake}
 use Rattle.vs_proxy.proofs.proxy.Proxy.close_handshakes.Goals as goal
 
 pub loop-stream-init : goal.loop-stream-init

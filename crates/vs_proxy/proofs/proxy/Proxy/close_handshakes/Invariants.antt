@@ -1,11 +1,8 @@
 use Rattle.std.proofs.Common.{drop}
 use Rattle.vs_contents.specs.CallTree.{for_each}
 use Rattle.vs_ring_port.specs.Contents.{RingContents}
-use Rattle.vs_device_parts.specs.Calls.{Situation}
-use Rattle.vs_device_parts.specs.Playing.{MayRunOnHost, Runs, situation}
-use Rattle.vs_proxy_parts.specs.Handshakes.{streams_of}
-use Rattle.vs_proxy_parts.specs.State.{ProxyState}
-use Rattle.vs_proxy_parts.specs.Turns.{close_handshake}
+use Rattle.vs_device_parts.specs.{Calls.Situation, Playing.MayRunOnHost, Playing.Runs, Playing.situation}
+use Rattle.vs_proxy_parts.specs.{Handshakes.streams_of, State.ProxyState, Turns.close_handshake}
 use Rattle.vs_proxy.proofs.proxy.Proxy.close_handshakes.Given as goal
 
 -- whatever completes the rest completes the whole

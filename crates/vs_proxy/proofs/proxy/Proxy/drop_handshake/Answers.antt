@@ -1,7 +1,5 @@
 use Rattle.std.proofs.Common.{◌≡◌, ◌+◌, List, ap, ◌∙◌}
-use Rattle.vs_proxy_parts.specs.Handshakes.{without_handshake}
-use Rattle.vs_proxy_parts.specs.State.{Handshake, ProxyState, Turning}
-use Rattle.vs_proxy_parts.specs.Turning.{turning_of}
+use Rattle.vs_proxy_parts.specs.{Handshakes.without_handshake, State.Handshake, State.ProxyState, State.Turning, Turning.turning_of}
 use Rattle.vs_proxy.specs.contracts.proxy.Proxy.{the_view}
 use Rattle.vs_proxy.proofs.Handshaking.{drops, dropped}
 use Rattle.vs_proxy.proofs.proxy.Proxy.drop_handshake.Goals as goal

@@ -2,15 +2,10 @@ use Rattle.std.specs.Prelude.{Result}
 use Rattle.std.proofs.Common.{◌≡◌, Bool, false, is_some, sym, ap, subst, ◌∙◌}
 use Rattle.vs_contents.proofs.Leads.{end_of}
 use Rattle.vs_ring_port.specs.declared.failure.Failure.{Failure}
-use Rattle.vs_device_parts.specs.Calls.{Allows}
-use Rattle.vs_device_parts.specs.Playing.{MayRun, Runs, situation}
-use Rattle.vs_device_parts.specs.Receiving.{pay_event_of}
-use Rattle.vs_device_parts.specs.State.{DeviceState}
-use Rattle.vs_proxy_parts.specs.State.{ProxyState, Turning, with_device}
-use Rattle.vs_proxy_parts.specs.Turning.{CountsFew, turning_of}
+use Rattle.vs_device_parts.specs.{Calls.Allows, Playing.MayRun, Playing.Runs, Playing.situation, Receiving.pay_event_of, State.DeviceState}
+use Rattle.vs_proxy_parts.specs.{State.ProxyState, State.Turning, State.with_device, Turning.CountsFew, Turning.turning_of}
 use Rattle.vs_proxy.specs.contracts.proxy.Proxy.{the_view}
-use Rattle.vs_proxy.proofs.Counting.{event_few}
-use Rattle.vs_proxy.proofs.Staging.{may_event, paid}
+use Rattle.vs_proxy.proofs.{Counting.event_few, Staging.may_event, Staging.paid}
 use Rattle.vs_proxy.proofs.proxy.Proxy.event_stage.Goals as goal
 
 pub pay_event-paid-requires-clause-may : goal.pay_event-paid-requires-clause-may

@@ -2,18 +2,12 @@ use Rattle.std.specs.Prelude.{Result, Ok, Err}
 use Rattle.std.proofs.Common.{◌≡◌, ◌+◌, false, is_some, sym, ap, subst, ◌∙◌, arith}
 use Rattle.vs_contents.proofs.Leads.{end_of}
 use Rattle.vs_ring_port.specs.declared.failure.Failure.{Failure}
-use Rattle.vs_device_parts.specs.Calls.{Allows}
-use Rattle.vs_device_parts.specs.Playing.{MayRun, Runs, situation}
-use Rattle.vs_device_parts.specs.Receiving.{fill_rx_of}
-use Rattle.vs_device_parts.specs.State.{DeviceState}
+use Rattle.vs_device_parts.specs.{Calls.Allows, Playing.MayRun, Playing.Runs, Playing.situation, Receiving.fill_rx_of, State.DeviceState}
 use Rattle.vs_device_parts.specs.declared.answers.Filled.{Filled}
-use Rattle.vs_proxy_parts.specs.State.{ProxyState, Turning, with_device}
-use Rattle.vs_proxy_parts.specs.Turning.{CountsFew, turning_of}
+use Rattle.vs_proxy_parts.specs.{State.ProxyState, State.Turning, State.with_device, Turning.CountsFew, Turning.turning_of}
 use Rattle.vs_proxy.specs.contracts.proxy.Proxy.{the_view}
 use Rattle.vs_proxy_parts.specs.declared.tally.Tally.{Tally}
-use Rattle.vs_proxy.proofs.Counting.{few_more}
-use Rattle.vs_proxy.proofs.Filling.{FewFilled, fill_few}
-use Rattle.vs_proxy.proofs.Staging.{filled_up, may_fill}
+use Rattle.vs_proxy.proofs.{Counting.few_more, Filling.FewFilled, Filling.fill_few, Staging.filled_up, Staging.may_fill}
 use Rattle.vs_proxy.proofs.proxy.Proxy.fill_stage.Goals as goal
 
 pub fill_rx-requires-clause-may : goal.fill_rx-requires-clause-may

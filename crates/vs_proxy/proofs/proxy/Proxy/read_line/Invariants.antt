@@ -2,11 +2,8 @@ use Rattle.std.proofs.Common.{◌≡◌, ◌+◌, ◌-◌, ◌≤◌}
 use Rattle.vs_contents.specs.CallTree.{while_up_to}
 use Rattle.vs_ring_port.specs.Contents.{RingContents}
 use Rattle.vs_uds.specs.declared.connect.TheConstants.{CONNECT_MAX}
-use Rattle.vs_device_parts.specs.Calls.{Situation}
-use Rattle.vs_device_parts.specs.Playing.{MayRunOnHost, Runs, situation}
-use Rattle.vs_proxy_parts.specs.Handshakes.{read_byte, read_line}
-use Rattle.vs_proxy_parts.specs.State.{Turning}
-use Rattle.vs_proxy_parts.specs.Turning.{CountsFew, turning_of}
+use Rattle.vs_device_parts.specs.{Calls.Situation, Playing.MayRunOnHost, Playing.Runs, Playing.situation}
+use Rattle.vs_proxy_parts.specs.{Handshakes.read_byte, Handshakes.read_line, State.Turning, Turning.CountsFew, Turning.turning_of}
 use Rattle.vs_proxy.proofs.proxy.Proxy.read_line.Given as goal
 
 -- whatever completes the rest completes the whole

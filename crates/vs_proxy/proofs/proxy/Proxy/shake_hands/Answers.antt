@@ -1,6 +1,5 @@
 use Rattle.vs_device_parts.specs.Playing.{situation}
-use Rattle.vs_proxy_parts.specs.State.{Turning}
-use Rattle.vs_proxy_parts.specs.Turning.{turning_of}
+use Rattle.vs_proxy_parts.specs.{State.Turning, Turning.turning_of}
 use Rattle.vs_proxy.proofs.Handshaking.{may_lines, shook}
 use Rattle.vs_proxy.proofs.proxy.Proxy.shake_hands.Goals as goal
 

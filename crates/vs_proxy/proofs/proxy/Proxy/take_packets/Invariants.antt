@@ -1,10 +1,7 @@
 use Rattle.std.proofs.Common.{◌≡◌, ◌-◌, ◌≤◌}
 use Rattle.vs_contents.specs.CallTree.{while_up_to}
-use Rattle.vs_device_parts.specs.Calls.{Situation}
-use Rattle.vs_device_parts.specs.Playing.{IsItsRing, MayRun, Runs, situation}
-use Rattle.vs_proxy_parts.specs.State.{Turning}
-use Rattle.vs_proxy_parts.specs.Turning.{CountsFew, turning_of}
-use Rattle.vs_proxy_parts.specs.Turns.{take_one, take_stage}
+use Rattle.vs_device_parts.specs.{Calls.Situation, Playing.IsItsRing, Playing.MayRun, Playing.Runs, Playing.situation}
+use Rattle.vs_proxy_parts.specs.{State.Turning, Turning.CountsFew, Turning.turning_of, Turns.take_one, Turns.take_stage}
 use Rattle.vs_proxy.proofs.proxy.Proxy.take_packets.Given as goal
 
 -- whatever completes the rest completes the whole

@@ -1,27 +1,17 @@
 -- `new` picks no calls. Assumes `Logic`.
 use Rattle.std.proofs.Common.{[], ◌∷◌, Some, refl}
 use seplogic.Ra.Ura.{Ura}
-use mir.Syntax.{Fn}
-use mir.Val.{Val}
+use mir.{Syntax.Fn, Val.Val}
 use base.Logic.{SProp, ent}
-use prog.Memory.{Memory}
-use prog.Routine.{Routine}
-use prog.Wp.{Calls, Loops, WpFn, Tables}
-use contract.Monad.{Fun}
-use contract.Running.{tables, tables_of}
+use prog.{Memory.Memory, Routine.Routine, Wp.Calls, Wp.Loops, Wp.WpFn, Wp.Tables}
+use contract.{Monad.Fun, Running.tables, Running.tables_of}
 use sound.WpLaws.{WpFn-mono}
 use types.Logic.{Logic}
 use types.Kit.{‵, raw, ◌⊛◌, ◌$◌, ◌∵◌, !, qed, move, keep, drop, split, fjoin, suffices, done}
-use types.Part.{agg}
-use types.Run.{enter, returns, no_more}
+use types.{Part.agg, Run.enter, Run.returns, Run.no_more}
 use types.ByLocal.{alloc_all, pass_all, free_all, look_at, sets}
-use denote.RattleType.{owns}
-use denote.Signature.{types_at}
-use denote.Steps.{nothing}
-use denote.Triple.Clauses.{Clauses, Ended, closing}
-use denote.Triple.Entry.{alive}
-use denote.Triple.Spec.{Meets, triple_of}
-use denote.Triple.Table.{entered}
+use denote.{RattleType.owns, Signature.types_at, Steps.nothing}
+use denote.Triple.{Clauses.Clauses, Clauses.Ended, Clauses.closing, Entry.alive, Spec.Meets, Spec.triple_of, Table.entered}
 use denote.Triple.Walked.{says, Stays, walk_of, ends_at, walk_Meets}
 use Rattle.vs_ring_journal.proofs.Walks.{none, none_made}
 use Rattle.vs_ring_journal.specs.contracts.journal.Journal as Journal

@@ -1,8 +1,6 @@
-use Rattle.std.proofs.Common.{◌≡◌, ◌∷◌, List, [], Contains, map, sym, ap, ◌∙◌, subst}
+use Rattle.std.proofs.Common.{◌≡◌, List, Contains, map, sym, ap, ◌∙◌, subst}
 use Rattle.vs_ring_port.specs.declared.device_ring.Chain.{Chain}
-use Rattle.vs_ring_plain.specs.declared.holds.Hold.{Hold}
 use Rattle.vs_ring_plain.specs.declared.holds.HeldPieces.{HeldPieces}
-use Rattle.vs_ring_plain.specs.declared.piece.Piece.{Piece}
 use Rattle.vs_ring_plain.specs.Device.{HeldChain, hold_of, pieces_of}
 use Rattle.vs_ring_plain.specs.PieceTable.{HeldState, list_at, pieces_in}
 use Rattle.vs_ring_plain.proofs.HeldChains.{IsFound, chains-all_held, pieces_found}

@@ -1,9 +1,6 @@
 use Rattle.std.proofs.Common.{◌≡◌, ℕ, refl, List, Contains, map, sym, ap, ap₂, ◌∙◌, subst}
 use Rattle.vs_ring_port.specs.declared.device_ring.Chain.{Chain}
-use Rattle.vs_ring_plain.specs.declared.holds.Hold.{Hold}
-use Rattle.vs_ring_plain.specs.Device.{HeldChain, head_of, hold_of, without_hold}
-use Rattle.vs_ring_plain.specs.PieceTable.{HeldState}
-use Rattle.vs_ring_plain.specs.Held.{all_held}
+use Rattle.vs_ring_plain.specs.{Device.HeldChain, Device.head_of, Device.hold_of, Device.without_hold, PieceTable.HeldState, Held.all_held}
 use Rattle.vs_ring_plain.proofs.HeldChains.{IsFound, chains-all_held, hold_is, keeps_less, without_is}
 use Rattle.vs_ring_plain.proofs.holds.HeldChains.release.Goals as goal
 

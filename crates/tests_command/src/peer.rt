@@ -1,0 +1,187 @@
+//! The client of the mapping over a host in memory: what comes back, and calls that fail.
+
+use crate::client::client;
+use std::alloc::{AllocError, AllocGlobal, Global};
+use std::sync::Wait;
+use std::test::Fail;
+use vs_outside::{FreeGate, MemSink, MemSource, PeerHost, PreparedStream};
+use vs_peer::{BAD_SOURCE, DONE, HOST_FAULT, READ_FAULT, REFUSED, SINK_FAULT, SOURCE_MAX, WAITED};
+
+const IDLE: u32 = 3;
+
+/// What the host's program does at the other end of the stream.
+fn prepared(alloc: Global, bytes: &[u8], ended: bool) -> Result<PreparedStream, AllocError> {
+    Ok(PreparedStream {
+        bytes: Vec::from_slice(alloc, bytes)?,
+        ended,
+        room: None,
+        closed: false,
+    })
+}
+
+/// Runs a client of port 70 with the source `yo`, whose bytes come and go one by one.
+fn run<R: AllocGlobal + Wait>(
+    rt: &R,
+    host: &mut PeerHost,
+    sink_fails: u64,
+) -> Result<(u8, MemSink), AllocError> {
+    let mut source = MemSource::new(rt.alloc(), Vec::from_slice(rt.alloc(), b"yo")?, 1);
+    let mut sink = MemSink::new(rt.alloc(), 1);
+    sink.fail(sink_fails)?;
+    let status = client(rt, "v.sock", IDLE, &mut source, host, &FreeGate, &mut sink);
+    Ok((status, sink))
+}
+
+/// Whether the client ends with that status, writes that text, and gives these bytes to its stream.
+fn ends<R: AllocGlobal + Wait>(
+    rt: &R,
+    prepared: PreparedStream,
+    status: u8,
+    written: &[u8],
+    given: &[u8],
+) -> Result<bool, AllocError> {
+    let mut host = PeerHost::new(rt.alloc(), "v.sock", prepared)?;
+    let (ended, sink) = run(rt, &mut host, 0)?;
+    let mut right = ended == status && sink.bytes() == written;
+    for stream in host.host().streams() {
+        right = right && stream.given() == given;
+    }
+    Ok(right)
+}
+
+#[test]
+fn a_client_is_answered_and_is_done(rt: HostRuntime) -> Result<(), Fail> {
+    let stream = prepared(rt.alloc(), b"OK 1073741824\nhi", true)?;
+    assert!(rt; ends(&rt, stream, DONE, b"port 1073741824\nhi", b"CONNECT 70\nyo")?);
+    Ok(())
+}
+
+#[test]
+fn a_stream_that_ends_at_once_refuses(rt: HostRuntime) -> Result<(), Fail> {
+    let stream = prepared(rt.alloc(), b"", true)?;
+    assert!(rt; ends(&rt, stream, REFUSED, b"peer refused\n", b"CONNECT 70\n")?);
+    Ok(())
+}
+
+#[test]
+fn another_line_refuses(rt: HostRuntime) -> Result<(), Fail> {
+    let stream = prepared(rt.alloc(), b"ok 52\nhi", false)?;
+    assert!(rt; ends(&rt, stream, REFUSED, b"peer refused\n", b"CONNECT 70\n")?);
+    Ok(())
+}
+
+#[test]
+fn a_stream_without_room_is_waited_for(rt: HostRuntime) -> Result<(), Fail> {
+    let mut stream = prepared(rt.alloc(), b"", false)?;
+    stream.room = Some(0);
+    assert!(rt; ends(&rt, stream, WAITED, b"waited 3\n", b"")?);
+    Ok(())
+}
+
+#[test]
+fn bytes_without_an_end_are_waited_for(rt: HostRuntime) -> Result<(), Fail> {
+    let stream = prepared(rt.alloc(), b"OK 52\nhi", false)?;
+    assert!(rt;
+        ends(
+            &rt,
+            stream,
+            WAITED,
+            b"port 52\nhiwaited 3\n",
+            b"CONNECT 70\nyo"
+        )?
+    );
+    Ok(())
+}
+
+/// A client that is answered and done, where a call of the host fails, or of the sink; none, where that is 0.
+fn failing<R: AllocGlobal + Wait>(
+    rt: &R,
+    host_fails: u64,
+    sink_fails: u64,
+) -> Result<(u8, MemSink), AllocError> {
+    let stream = prepared(rt.alloc(), b"OK 1073741824\nhi", true)?;
+    let mut host = PeerHost::new(rt.alloc(), "v.sock", stream)?;
+    host.fail(host_fails)?;
+    run(rt, &mut host, sink_fails)
+}
+
+/// How many of the first calls of the host, each failed by itself, end the client as such.
+fn failed_host_calls<R: AllocGlobal + Wait>(rt: &R, calls: u64) -> Result<u8, AllocError> {
+    let mut failed = 0u8;
+    for n in 1..calls {
+        let (status, sink) = failing(rt, n, 0)?;
+        if status == HOST_FAULT && sink.bytes().ends_with(b"host fault\n") {
+            failed = failed.saturating_add(1);
+        }
+    }
+    Ok(failed)
+}
+
+#[test]
+fn each_call_of_the_host_fails_once(rt: HostRuntime) -> Result<(), Fail> {
+    assert!(rt; failed_host_calls(&rt, 40)? == 19);
+    Ok(())
+}
+
+/// How many of the first calls of the sink, each failed by itself, end the client as such, with less than it has to write.
+fn failed_writes<R: AllocGlobal + Wait>(rt: &R, calls: u64) -> Result<u8, AllocError> {
+    let whole = b"port 1073741824\nhi";
+    let mut failed = 0u8;
+    for n in 1..calls {
+        let (status, sink) = failing(rt, 0, n)?;
+        if status == SINK_FAULT && whole.starts_with(sink.bytes()) && sink.bytes().len() < 18 {
+            failed = failed.saturating_add(1);
+        }
+    }
+    Ok(failed)
+}
+
+#[test]
+fn each_call_of_the_sink_fails_once(rt: HostRuntime) -> Result<(), Fail> {
+    assert!(rt; failed_writes(&rt, 40)? == 18);
+    Ok(())
+}
+
+/// Whether a client with this source ends with that status and text, at a host where nobody listens.
+fn ends_at<R: AllocGlobal + Wait>(
+    rt: &R,
+    mut source: MemSource,
+    status: u8,
+    written: &[u8],
+) -> Result<bool, AllocError> {
+    let mut host = PeerHost::refusing(rt.alloc(), "v.sock")?;
+    let mut sink = MemSink::new(rt.alloc(), 64);
+    let ended = client(
+        rt,
+        "v.sock",
+        IDLE,
+        &mut source,
+        &mut host,
+        &FreeGate,
+        &mut sink,
+    );
+    Ok(ended == status && sink.bytes() == written)
+}
+
+#[test]
+fn a_source_fails(rt: HostRuntime) -> Result<(), Fail> {
+    let mut source = MemSource::new(rt.alloc(), Vec::new(rt.alloc()), 1);
+    source.fail(1)?;
+    assert!(rt; ends_at(&rt, source, READ_FAULT, b"read fault\n")?);
+    Ok(())
+}
+
+#[test]
+fn a_source_is_too_long(rt: HostRuntime) -> Result<(), Fail> {
+    let bytes = vec![in rt.alloc(); 0; SOURCE_MAX + 1]?;
+    let source = MemSource::new(rt.alloc(), bytes, 4096);
+    assert!(rt; ends_at(&rt, source, BAD_SOURCE, b"line 0 TooLong\n")?);
+    Ok(())
+}
+
+#[test]
+fn nobody_listens(rt: HostRuntime) -> Result<(), Fail> {
+    let source = MemSource::new(rt.alloc(), Vec::from_slice(rt.alloc(), b"yo")?, 1);
+    assert!(rt; ends_at(&rt, source, REFUSED, b"peer refused\n")?);
+    Ok(())
+}

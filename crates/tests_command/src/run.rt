@@ -1,0 +1,178 @@
+//! Words, statuses, and sources and sinks that fail.
+
+use crate::running::{ends, played, run};
+use std::alloc::{AllocError, AllocGlobal};
+use std::sync::Wait;
+use std::test::Fail;
+use vs_outside::{MemSink, MemSource, PeerHost, PreparedStream};
+
+const NONE: &str = "guest open 0\ndevice open 0\ndropped 0 overrun 0 broken 0 faults 0\n";
+
+const HELLO: &str = "host listen 52\nconnect 52\nturn\npoll\nsend 1 68656c6c6f\nturn\nrecv 1 10\n";
+
+const HELLO_PRINTED: &str =
+    "ok\nconn 1 on 1024 52\nturned 1 1 0 0 1 0\npolled 1 0 0\ntook 5\nturned 1 0 0 5 0 0\nempty\n\
+     guest open 1\ndevice open 1\nstream 1 1024 52 wrote 0 - read 5 68656c6c6f\n\
+     dropped 0 overrun 0 broken 0 faults 0\n";
+
+const HOSTILE: &str = "memory 4096 65536\nrings 8\nindex tx 9\nturn\nturn\n";
+
+const HOSTILE_PRINTED: &str = "ok\nok\nok\nfailed AvailJump 0 9\nfailed AvailJump 0 9\n\
+                               device open 0\ndropped 0 overrun 0 faults 0\n";
+
+/// How many of the first calls of the sink, each failed by itself, end the play of hello with status 4 and less than its whole answer.
+fn failed_writes<R: AllocGlobal + Wait>(rt: &R, calls: u64) -> Result<u64, AllocError> {
+    let mut failed = 0u64;
+    for n in 1..calls {
+        let (status, sink) = played(rt, "vsock play", HELLO, 100, (0, n))?;
+        let part = HELLO_PRINTED.as_bytes().starts_with(sink.bytes());
+        if status == 4 && part && sink.bytes().len() < HELLO_PRINTED.len() {
+            failed = failed.saturating_add(1);
+        }
+    }
+    Ok(failed)
+}
+
+/// How many of the first calls of the source, each failed by itself, end the play of hello with status 3 and `read fault`.
+fn failed_reads<R: AllocGlobal + Wait>(rt: &R, calls: u64) -> Result<u64, AllocError> {
+    let mut failed = 0u64;
+    for n in 1..calls {
+        if ends(rt, "vsock play", HELLO, 16, (n, 0), 3, "read fault\n")? {
+            failed = failed.saturating_add(1);
+        }
+    }
+    Ok(failed)
+}
+
+/// Whether each of these command lines is none.
+fn are_usage<R: AllocGlobal + Wait>(rt: &R, lines: &[&str]) -> Result<bool, AllocError> {
+    for line in lines {
+        if !ends(rt, line, HELLO, 100, (0, 0), 1, "usage\n")? {
+            return Ok(false);
+        }
+    }
+    Ok(true)
+}
+
+/// Whether each of these plays ends with its status and prints its text.
+fn are_answered<R: AllocGlobal + Wait>(
+    rt: &R,
+    plays: &[(&str, &str, u8, &str)],
+) -> Result<bool, AllocError> {
+    for (line, script, status, printed) in plays {
+        if !ends(rt, line, script, 100, (0, 0), *status, printed)? {
+            return Ok(false);
+        }
+    }
+    Ok(true)
+}
+
+/// What a client prints, and its status, whose stream gives these bytes.
+fn client<R: AllocGlobal + Wait>(rt: &R, line: &str) -> Result<(u8, MemSink), AllocError> {
+    let alloc = rt.alloc();
+    let mut source = MemSource::new(alloc, Vec::from_slice(alloc, b"yo")?, 1);
+    let mut sink = MemSink::new(alloc, 1);
+    let stream = PreparedStream {
+        bytes: Vec::from_slice(alloc, b"OK 1073741824\nhi")?,
+        ended: true,
+        room: None,
+        closed: false,
+    };
+    let mut host = PeerHost::new(alloc, "v.sock", stream)?;
+    let status = run(rt, line, &mut source, &mut host, &mut sink)?;
+    Ok((status, sink))
+}
+
+#[test]
+fn short_plays_print_their_answers(rt: HostRuntime) -> Result<(), Fail> {
+    let plays: [(&str, &str, u8, &str); 9] = [
+        ("vsock play", HELLO, 0, HELLO_PRINTED),
+        ("vsock play --rings list --queue=8", HELLO, 0, HELLO_PRINTED),
+        ("vsock play --", "", 0, NONE),
+        ("vsock hostile", HOSTILE, 7, HOSTILE_PRINTED),
+        ("vsock play", "send 1 6\n", 2, "line 1 BadHex\n"),
+        (
+            "vsock play",
+            "# none\n\n   \npoll x\n",
+            2,
+            "line 4 BadWord\n",
+        ),
+        ("vsock hostile", "turn\n", 2, "line 1 BadWord\n"),
+        (
+            "vsock play",
+            "connect 53\nturn\npoll\nrecv 1 1\nstate 1",
+            0,
+            "conn 1 on 1024 53\nturned 1 1 0 0 0 0\npolled 1 0 0\nreset\ngone\n\
+             guest open 0\ndevice open 0\ndropped 0 overrun 0 broken 0 faults 0\n",
+        ),
+        (
+            "vsock peer --base v.sock --port 70",
+            "yo",
+            8,
+            "peer refused\n",
+        ),
+    ];
+    assert!(rt; are_answered(&rt, &plays)?);
+    Ok(())
+}
+
+#[test]
+fn words_that_are_no_command_print_usage(rt: HostRuntime) -> Result<(), Fail> {
+    let lines = [
+        "",
+        "vsock",
+        "vsock --",
+        "vsock -- play",
+        "vsock help",
+        "vsock --help",
+        "vsock play --help",
+        "vsock play -h",
+        "vsock play list",
+        "vsock play --queue",
+        "vsock play --queue 9",
+        "vsock play --queue 08",
+        "vsock play --queue 8 --queue 8",
+        "vsock play --queue --rings list",
+        "vsock play --rings ring",
+        "vsock play -- --queue 8",
+        "vsock hostile --queue 8",
+        "vsock peer --base v.sock",
+        "vsock peer --port 1",
+        "vsock peer --base= --port 1",
+        "vsock peer --base v.sock --port 4294967296",
+        "vsock peer --base v.sock --port +1",
+        "vsock peer --base v.sock --port 01",
+        "vsock peer --base v.sock --port 1 --idle 0",
+        "vsock peer --base v.sock --port 1 --idle 1000001",
+    ];
+    assert!(rt; are_usage(&rt, &lines)?);
+    Ok(())
+}
+
+#[test]
+fn pieces_of_one_byte_print_the_same(rt: HostRuntime) -> Result<(), Fail> {
+    assert!(rt; ends(&rt, "vsock play", HELLO, 1, (0, 0), 0, HELLO_PRINTED)?);
+    Ok(())
+}
+
+#[test]
+fn each_call_of_the_sink_fails_once(rt: HostRuntime) -> Result<(), Fail> {
+    assert_eq!(rt; failed_writes(&rt, 20)?, 11);
+    Ok(())
+}
+
+#[test]
+fn each_call_of_the_source_fails_once(rt: HostRuntime) -> Result<(), Fail> {
+    assert_eq!(rt; failed_reads(&rt, 20)?, 6);
+    Ok(())
+}
+
+#[test]
+fn a_client_is_answered(rt: HostRuntime) -> Result<(), Fail> {
+    let (status, sink) = client(&rt, "vsock peer --base v.sock --port 70 --idle 3")?;
+    assert_eq!(rt;
+        (status, sink.bytes()),
+        (0, b"port 1073741824\nhi".as_slice())
+    );
+    Ok(())
+}

@@ -1,0 +1,83 @@
+//! The command over sources, sinks and hosts in memory.
+
+ghost use Rattle.std.specs.Prelude.{◌≤◌};
+
+use std::alloc::{AllocError, AllocGlobal, Global};
+use std::sync::Wait;
+use vs_outside::{FreeGate, MemSink, MemSource, PeerHost, StepClock};
+use vs_run::vsock_main;
+
+/// The words of a command line, the program's name first.
+fn words_of(alloc: Global, line: &str) -> Result<Vec<String>, AllocError> {
+    let mut words = Vec::new(alloc);
+    for word in line.split_ascii_whitespace() {
+        words.push(String::from_str(alloc, word)?)?;
+    }
+    Ok(words)
+}
+
+/// The status of a command line over this source, host and sink.
+pub fn run<R: AllocGlobal + Wait>(
+    rt: &R,
+    line: &str,
+    source: &mut MemSource,
+    host: &mut PeerHost,
+    sink: &mut MemSink,
+) -> Result<u8, AllocError> {
+    let words = words_of(rt.alloc(), line)?;
+    let mut clock = StepClock::new();
+    Ok(vsock_main(rt, &words, source, host, &mut clock, &FreeGate, sink))
+}
+
+/// The status of a command line's run of a script, in pieces of that size, and what it prints. The nth call of the source fails, and of the
+/// sink; none, where that is 0.
+pub fn played<R: AllocGlobal + Wait>(
+    rt: &R,
+    line: &str,
+    script: &str,
+    piece: usize,
+    fails: (u64, u64),
+) -> Result<(u8, MemSink), AllocError>
+    requires piece { 1 ≤ piece }
+{
+    let alloc = rt.alloc();
+    let mut source = MemSource::new(alloc, Vec::from_slice(alloc, script.as_bytes())?, piece);
+    let mut sink = MemSink::new(alloc, piece);
+    source.fail(fails.0)?;
+    sink.fail(fails.1)?;
+    let mut host = PeerHost::refusing(alloc, "v.sock")?;
+    let status = run(rt, line, &mut source, &mut host, &mut sink)?;
+    Ok((status, sink))
+}
+
+/// Whether such a run ends with this status and prints this.
+pub fn ends<R: AllocGlobal + Wait>(
+    rt: &R,
+    line: &str,
+    script: &str,
+    piece: usize,
+    fails: (u64, u64),
+    status: u8,
+    printed: &str,
+) -> Result<bool, AllocError>
+    requires piece { 1 ≤ piece }
+{
+    let (ended, sink) = played(rt, line, script, piece, fails)?;
+    Ok(ended == status && sink.bytes() == printed.as_bytes())
+}
+
+/// Whether each of these scripts, played by each of these command lines, ends with status 0 and prints its text.
+pub fn are_printed<R: AllocGlobal + Wait>(
+    rt: &R,
+    lines: &[&str],
+    plays: &[(&str, &str)],
+) -> Result<bool, AllocError> {
+    for line in lines {
+        for (script, printed) in plays {
+            if !ends(rt, line, script, 100, (0, 0), 0, printed)? {
+                return Ok(false);
+            }
+        }
+    }
+    Ok(true)
+}

@@ -1,0 +1,7 @@
+//! Tests of the driver alone, and of the world as a program.
+#![tactic(auto)]
+
+#[cfg(test)]
+mod driver;
+#[cfg(test)]
+mod world;

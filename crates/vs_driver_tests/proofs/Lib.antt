@@ -1,3 +1,0 @@
-mod DeviceSide
-mod Requests
-mod Ready
