@@ -8,7 +8,7 @@ use Rattle.vs_history.specs.declared.packet.Packet.{Packet}
 use Rattle.vs_conn.specs.End.{verdict_of, end_after, is_of, is_reset}
 use Rattle.vs_conn.specs.declared.end.Verdict.{Verdict}
 use Rattle.vs_conn.specs.declared.end.Verdict.TheVariants as verdict
-use Rattle.vs_flow.specs.{Flow.is_assigned, Table.entry_of}
+use Rattle.vs_flow.specs.{Flow.is_assigned, Flow.is_host, Table.entry_of}
 use Rattle.vs_flow.specs.declared.flow.Flow.{Flow}
 use Rattle.vs_page.specs.{Held.packet_held, Held.event_held, Log.Driver, Log.flow_to_guest, Open.is_dropped}
 use Rattle.vs_replies.specs.Owed.{reply_to}
@@ -41,14 +41,14 @@ after_verdict v p e s =
 abbrev pub on_known : Packet → DriverEntry → DriverState → DriverState
 on_known p e s = after_verdict (verdict_of e.value.end p.header) p e s
 
--- A REQUEST of an unknown flow opens a connection where its host port is one that the device assigns, the guest port is listened on with a
--- place on its list, and a slot and an id are left.
+-- A REQUEST of an unknown flow opens a connection where it comes from the host, its host port is one that the device assigns, the guest
+-- port is listened on with a place on its list, and a slot and an id are left.
 abbrev pub is_request : Header → Bool
 is_request h = is_of Stream h && (h.op == op_number Request)
 
 abbrev pub may_open : Flow → DriverState → Bool
 may_open flow s =
-    is_assigned flow.host && has_place flow.guest s.listeners && not (is_full s) && nat_le s.next_id LAST_ID
+    is_host flow && is_assigned flow.host && has_place flow.guest s.listeners && not (is_full s) && nat_le s.next_id LAST_ID
 
 -- Any other packet of an unknown flow gets RST, but RST itself.
 abbrev pub on_unknown : Packet → DriverState → DriverState
