@@ -24,7 +24,7 @@ use Rattle.vs_replies.specs.declared.Reply.{Reply}
 use Rattle.vs_matching.specs.{Ends.Ends, Ends.FlowEnd, Matches.Matches}
 use Rattle.vs_matching.specs.Steps.{IsNextFlow, opened, owed_on, paid, payload_on, reply_on, request_on, with_end}
 use Rattle.vs_matching.proofs.Keeps.{opens, opens_fair, pays, pays_fair, replies, replies_fair, sends, sends_fair}
-use Rattle.vs_matching.proofs.Slots.{added_slot}
+use Rattle.vs_matching.proofs.{Slots.added_slot, Steps.port_next}
 use Rattle.vs_driver_parts.specs.declared.limits.TheConstants.{LAST_ID, LAST_PORT, SLOTS}
 use Rattle.vs_driver_parts.specs.declared.answers.ConnectError.{ConnectError}
 use Rattle.vs_driver_parts.specs.declared.answers.ConnectError.TheVariants as refused
@@ -184,7 +184,8 @@ connect_puts host s host_fits fits free =
       slot = omega (arith, fits.given, may.id);
     } in
     let ends : ends_of_state (connected host s) ≡ opened Driver f Stream (ends_of_state s) =
-    ap (λ (es : List FlowEnd). let part : Ends = record (ends_of_state s) { entries = es; next_port = s.next_port + 1 } in part) (added_slot end_in s.table f c) in
+    ap (λ (es : List FlowEnd). let part : Ends = record (ends_of_state s) { entries = es; next_port = s.next_port + 1 } in part) (added_slot end_in s.table f c)
+    ∙ ap (λ (n : ℕ). let part : Ends = record (opened Driver f Stream (ends_of_state s)) { next_port = n } in part) (sym (port_next s.next_port)) in
     record {
       packet = request_on Driver s.cid f Stream;
       held = held_alone h wire refl;
