@@ -99,7 +99,12 @@ impl Connection {
         requires spare { IsSpare buffers }
         ensures { result ≡ new_connection (answering Stream BUF_ALLOC request.now) stream false }
     {
-        Connection::new(End::answer(Kind::Stream, BUF_ALLOC, request), stream, false, buffers)
+        Connection::new(
+            End::answer(Kind::Stream, BUF_ALLOC, request),
+            stream,
+            false,
+            buffers,
+        )
     }
 
     /// The host's stream that it is joined to.
