@@ -5,7 +5,8 @@ ghost use Rattle.vs_conn.specs.End.{is_refused};
 ghost use Rattle.vs_flow.specs.Table.{entry_of, entry_under};
 ghost use Rattle.vs_flow.specs.declared.flow.Flow.{Flow};
 ghost use Rattle.vs_history.specs.declared.packet.Packet.{Packet};
-ghost use Rattle.vs_page.specs.{Held.IsWhole, Log.Driver, Log.flow_to_guest, Open.is_dropped};
+ghost use Rattle.vs_page.specs.{Held.IsWhole, Log.flow_to_guest, Open.is_dropped};
+ghost use Rattle.vs_page.specs.Log as log;
 ghost use Rattle.vs_driver_parts.specs.declared.limits.TheConstants.{REPLIES, REPLIES_FULL};
 ghost use Rattle.vs_driver_parts.specs.{State.DriverEntry, Connections.after_leaving, Connections.leaves_list, Connections.with_request};
 ghost use Rattle.vs_driver_parts.specs.Playing.{BringsFit, FitsPorts, SamePages};
@@ -200,7 +201,7 @@ fn flow_between(guest: u32, host: u32, peer: u64) -> Flow
 
 // Whether a packet is dropped, where this is the guest's CID: it is another guest's, and for another CID.
 fn is_dropped(cid: u64, header: &Header) -> bool
-    ensures { result ≡ is_dropped Driver cid header.now }
+    ensures { result ≡ is_dropped log.Driver cid header.now }
 {
     !(header.src_cid == HOST_CID) && !(header.dst_cid == cid)
 }
