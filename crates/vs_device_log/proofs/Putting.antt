@@ -15,7 +15,7 @@ use Rattle.vs_matching.proofs.Keeps.{pays, pays_fair, replies, replies_fair, sen
 use Rattle.vs_matching.proofs.OwedFlags.{owed_flags_fit}
 use Rattle.vs_device_parts.specs.{Connections.route_to_guest, Connections.with_connection, Receiving.reply_header}
 use Rattle.vs_device_parts.specs.State.{DeviceConnection, DeviceEntry, DeviceState}
-use Rattle.vs_device_log.specs.Honest.{HoldsBytes, IsFit, IsFitEntry, IsFitReply, IsFitState, ends_of_state, ends_with, owed_reply}
+use Rattle.vs_device_log.specs.Honest.{HoldsBytes, IsFit, IsFitEntry, IsFitReply, IsFitState, ends_of_state, ends_with}
 use Rattle.vs_page.proofs.Packets.{held_alone, held_payload}
 use Rattle.vs_device_log.proofs.{Bytes.header_fits, Bytes.reset_fits, Fits.fits_paid, Fits.fits_sent}
 use Rattle.vs_device_log.proofs.Tabling.{begun_fits, connection_ends, connection_fits, entry_fits, has_end, left_ends, left_fits}
@@ -54,9 +54,7 @@ module _ (port : ℕ) (s : DeviceState) (fits : IsFitState s) where
       → Puts port s (reply_header reply s) [] (record s { replies = rest })
   reply_puts reply rest is =
       let owed : All IsFitReply (reply ∷ rest) = subst (λ (rs : List Reply). All IsFitReply rs) is fits.owed in
-      let r = owed_reply reply in
       let wire = reset_fits s.cid reply.flow reply.kind fits.cid_fits (owed 0 reply (omega arith)) in
-      let next : map owed_reply s.replies ≡ r ∷ map owed_reply rest = ap (map owed_reply) is in
       record {
         held = held_empty (reply_header reply s) wire refl;
         fits = record {
@@ -67,8 +65,8 @@ module _ (port : ℕ) (s : DeviceState) (fits : IsFitState s) where
               (omega (arith, less));
         };
         overrun_is = refl;
-        matches = λ first log m. replies Device first s.cid r (map owed_reply rest) (ends_of_state port s) log m next;
-        fair = λ first log m fair. replies_fair Device first s.cid r (map owed_reply rest) (ends_of_state port s) log m fair next;
+        matches = λ first log m. replies Device first s.cid reply rest (ends_of_state port s) log m is;
+        fair = λ first log m fair. replies_fair Device first s.cid reply rest (ends_of_state port s) log m fair is;
       }
 
   module _ (e : DeviceEntry) (there : Contains s.table.entries e) where

@@ -14,7 +14,7 @@ use Rattle.vs_matching.proofs.{Fair.got_in_order, Fair.got_is_taken, Slots.added
 use Rattle.vs_matching.proofs.Keeps.{accepts, drops, forgets, has_room, ignores, refuses, takes}
 use Rattle.vs_device_parts.specs.Connections.{new_connection, with_connection, with_dialed, with_reply}
 use Rattle.vs_device_parts.specs.State.{DeviceConnection, DeviceEntry, DeviceState}
-use Rattle.vs_device_log.specs.Honest.{IsFitFlow, IsFitReply, IsLeft, ends_of_state, end_in, owed_reply}
+use Rattle.vs_device_log.specs.Honest.{IsFitFlow, IsFitReply, IsLeft, ends_of_state, end_in}
 use Rattle.vs_device_log.proofs.Tabling.{IsFitConnection, begun_fits, connection_ends, connection_fits, has_end, left_ends, left_fits}
 use Rattle.vs_device_log.proofs.Tabling.{opening_fits}
 use Rattle.vs_header.specs.declared.Kind.TheVariants.{Stream}
@@ -124,10 +124,7 @@ module _ (first port : ℕ) (s : DeviceState) (p : Packet) (log : Log) (was : Is
           owed = All-push IsFitReply s.replies (reply_to (flow_to_host p.header) p.header) was.fits.owed flow_fits;
         };
         none_overrun = was.none_overrun;
-        matches = subst (λ (part : Ends). Matches Device first part (GotPacket p ∷ log))
-            (ap (λ (rs : List Reply). let part : Ends = record (ends_of_state port s) { replies = rs } in part)
-            (sym (map-append owed_reply s.replies (reply_to (flow_to_host p.header) p.header ∷ []))))
-            (refuses Device first p (ends_of_state port s) log was.matches kept no_end plain order);
+        matches = refuses Device first p (ends_of_state port s) log was.matches kept no_end plain order;
         fair = fair;
       }
 

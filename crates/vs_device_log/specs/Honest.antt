@@ -1,6 +1,6 @@
 -- Where a ring tells the device's log: the chains that the device holds, and over an honest ring its connections and the log.
 use Rattle.std.specs.{List.All, Option.ForSome}
-use Rattle.std.specs.Prelude.{◌≡◌, ℕ, ◌+◌, ◌<◌, ◌≤◌, ◌^◌, ◌||◌, Bool, false, true, List, [], ◌∷◌, map, length, Option, Some, None, Result}
+use Rattle.std.specs.Prelude.{◌≡◌, ℕ, ◌+◌, ◌<◌, ◌≤◌, ◌^◌, ◌||◌, Bool, false, true, List, [], ◌∷◌, length, Option, Some, None, Result}
 use Rattle.std.specs.Prelude.{Ok, Err, IfSome}
 use Rattle.vs_conn.specs.{End.ConnectionEnd, declared.end.State.State}
 use Rattle.vs_credit.specs.{Credit.unread_of, declared.Credit.Credit}
@@ -11,11 +11,6 @@ use Rattle.vs_replies.specs.declared.Reply.{Reply}
 use Rattle.vs_ring_port.specs.{Chains.Held, Contents.RingContents, EndLog.EndLog, declared.device_ring.Chain.Chain}
 use Rattle.vs_matching.specs.{Ends.Ends, Ends.entries_of, Ends.is_among, Ends.is_new, Ends.new_flows, Ends.replied, Matches.Matches}
 use Rattle.vs_device_parts.specs.{Playing.IsRxChain, State.DeviceConnection, State.DeviceEntry, State.DeviceState}
-use Rattle.vs_matching.specs.Ends as ends
-
--- A reply that is owed, as the logs' rules name it.
-abbrev pub owed_reply : Reply → ends.Reply
-owed_reply r = record { flow = r.flow; kind = r.kind }
 
 -- The device's connections, the replies that it owes, the next host port that is assigned, and the guest's CID. It keeps no flow to be used
 -- again.
@@ -25,7 +20,7 @@ end_in c = c.end
 abbrev pub ends_with : ℕ → ℕ → Table DeviceConnection → List Reply → Ends
 ends_with port cid table replies = record {
   entries = entries_of end_in table;
-  replies = map owed_reply replies;
+  replies = replies;
   clean = [];
   next_port = port;
   cid = cid;
@@ -109,7 +104,7 @@ flows_shown (x ∷ xs) = x.0 ∷ flows_shown xs
 abbrev pub IsLeftOpen : ℕ → DeviceState → List (Flow × State) → EndLog → Type 0
 IsLeftOpen first s shown l =
     (f : Flow) → is_among f (flows_shown shown)
-    ≡ (is_open Device first f l.entries (is_among f (replied (map owed_reply s.replies))) || is_among f (new_flows (entries_of end_in s.table)))
+    ≡ (is_open Device first f l.entries (is_among f (replied s.replies)) || is_among f (new_flows (entries_of end_in s.table)))
 
 -- Before the first call nothing was put or got, and no chain is held.
 abbrev pub IsFresh : RingContents → Type 0
