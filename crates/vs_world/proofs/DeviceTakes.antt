@@ -5,7 +5,7 @@ use Rattle.std.proofs.lemmas.Bool.Decides.{nat_tests}
 use Rattle.std.proofs.lemmas.{Grind.common_steps, List.map-append}
 use Rattle.std.proofs.lemmas.List.Elements.{All-push}
 use Rattle.vs_conn.specs.End.{ConnectionEnd, answering, asked, end_after, is_reset, is_stream}
-use Rattle.vs_flow.specs.{Flow.is_assigned, Table.entry_of, Table.has_place, Table.with_value, Table.without, Table.refusal}
+use Rattle.vs_flow.specs.{Flow.host_flow, Flow.is_assigned, Table.entry_of, Table.has_place, Table.with_value, Table.without, Table.refusal}
 use Rattle.vs_flow.specs.declared.flow.{Flow.Flow, TheConstants.ASSIGNED_FIRST, TheConstants.ASSIGNED_LAST}
 use Rattle.vs_flow.proofs.Tables.{with_entry_sound, IsAccepted, accepted}
 use Rattle.vs_header.specs.declared.Header.{Header}
@@ -54,10 +54,10 @@ module _ (driver : Seat) (first port : ℕ) (s : DeviceState) (log : Log) (sound
   }
 
   -- A client's connection opens, which owes its REQUEST.
-  pub asks : (guest stream : ℕ) → IsAccepted s.table (record { guest = guest; host = port }) → guest < 2 ^ 32 → port ≤ ASSIGNED_LAST
-      → Kept driver port s log (port + 1) (with_client (record { guest = guest; host = port }) stream s) log
+  pub asks : (guest stream : ℕ) → IsAccepted s.table (host_flow guest port) → guest < 2 ^ 32 → port ≤ ASSIGNED_LAST
+      → Kept driver port s log (port + 1) (with_client (host_flow guest port) stream s) log
   asks guest stream free fits last =
-      let f : Flow = record { guest = guest; host = port } in
+      let f : Flow = host_flow guest port in
       let c = new_connection (asked BUF_ALLOC) stream true in
       let inside : is_assigned port ≡ true = grind (arith, nat_tests, holds.port, last) in
       record {
