@@ -8,7 +8,7 @@ use Rattle.vs_flow.proofs.Tables.{accepted}
 use Rattle.vs_page.specs.{Fair.IsFairLog, Held.FitsWire, Log.Device, Log.Log, Log.flow_to_host, Log.side_of, Open.is_dropped}
 use Rattle.vs_page.specs.declared.log.LogEntry.TheVariants.{GotPacket}
 use Rattle.vs_replies.specs.Owed.{reply_to}
-use Rattle.vs_matching.specs.{Ends.Ends, Ends.FlowEnd, Ends.Reply, Heard.IsInOrder, Heard.heard_of, Matches.Matches}
+use Rattle.vs_matching.specs.{Ends.Ends, Ends.FlowEnd, Heard.IsInOrder, Heard.heard_of, Matches.Matches}
 use Rattle.vs_matching.specs.Steps.{HasEnd, HasNone, forgotten, is_kept, is_overrun, left, taken, with_clean, with_end}
 use Rattle.vs_matching.proofs.{Fair.got_in_order, Fair.got_is_taken, Slots.added_slot, Slots.no_entry}
 use Rattle.vs_matching.proofs.Keeps.{accepts, drops, forgets, has_room, ignores, refuses, takes}
