@@ -48,7 +48,7 @@ use Rattle.vs_world.proofs.Receives.{after_got_empty, got_empty, hears, leaves, 
 use Rattle.vs_world.proofs.Payloads.{sent_empty, sent_got}
 use Rattle.vs_world.proofs.DriverSide.{DriverHolds, Holds, Kept, end_in, entry_fits, held_in, holds_changed, left_broken}
 use Rattle.vs_world.proofs.{DriverSide.left_ends, DriverSide.left_holds, DriverSide.seated, Entries.FlowFits, Entries.ReplyFits, Entries.fits_with_entry}
-use Rattle.vs_world.proofs.{Once.AreOnce, Once.asked_once, Once.unheard, Runs.one_step, Runs.takes_step, Wire.PutsFit, Wire.owed_fits}
+use Rattle.vs_world.proofs.{Firsts.unheard, Once.AreOnce, Once.asked_once, Runs.one_step, Runs.takes_step, Wire.PutsFit, Wire.owed_fits}
 use Rattle.vs_world.specs.{Pipes.put_on, Sides.driver_ends}
 use Rattle.vs_device_log.specs.Honest.{HoldsBytes}
 use Rattle.vs_device_log.proofs.Fits.{delivered, fits_after}

@@ -30,37 +30,37 @@ present_none (Got p ∷ w) none = by (is_request p) none
 -- A REQUEST of the present connection is one of all.
 put_asked : (w : History) → has is_request (puts (present w)) ≡ true → 1 ≤ count is_request (puts w)
 put_asked [] is = absurd cc
-put_asked (Put p ∷ w) is = by (is_request p) is
+put_asked (Put p ∷ w) is = at (is_request p) refl (is_request p) (put_asked w) is
   where
-    by : (b : Bool) → has is_request (puts (cond b (Put p ∷ []) (Put p ∷ present w))) ≡ true
-        → 1 ≤ cond (is_request p) (count is_request (puts w) + 1) (count is_request (puts w))
-    by b is = at (is_request p) refl b is
-      where
-        at : (c : Bool) → is_request p ≡ c → (b : Bool) → has is_request (puts (cond b (Put p ∷ []) (Put p ∷ present w))) ≡ true
-            → 1 ≤ cond c (count is_request (puts w) + 1) (count is_request (puts w))
-        at true asks b is = omega arith
-        at false asks true is = let e : (is_request p || false) ≡ true = is in absurd (let f : (false || false) ≡ true = ap (λ (x : Bool). x || false) (sym asks) ∙ e in cc)
-        at false asks false is = put_asked w (ap (λ (x : Bool). x || has is_request (puts (present w))) (sym asks) ∙ is)
-put_asked (Got p ∷ w) is = by (is_request p) is
+    at : (c : Bool) → is_request p ≡ c → (b : Bool) → (has is_request (puts (present w)) ≡ true → 1 ≤ count is_request (puts w))
+        → has is_request (puts (cond b (Put p ∷ []) (Put p ∷ present w))) ≡ true
+        → 1 ≤ cond c (count is_request (puts w) + 1) (count is_request (puts w))
+    at true asks b rest is = omega arith
+    at false asks true rest is = absurd (let e : (false || false) ≡ true = ap (λ (x : Bool). x || false) (sym asks) ∙ is in cc)
+    at false asks false rest is = rest (ap (λ (x : Bool). x || has is_request (puts (present w))) (sym asks) ∙ is)
+put_asked (Got p ∷ w) is = by (is_request p) (put_asked w) is
   where
-    by : (b : Bool) → has is_request (puts (cond b (Got p ∷ []) (Got p ∷ present w))) ≡ true → 1 ≤ count is_request (puts w)
-    by true is = absurd cc
-    by false is = put_asked w is
+    by : (b : Bool) → (has is_request (puts (present w)) ≡ true → 1 ≤ count is_request (puts w))
+        → has is_request (puts (cond b (Got p ∷ []) (Got p ∷ present w))) ≡ true → 1 ≤ count is_request (puts w)
+    by true rest is = absurd cc
+    by false rest is = rest is
 
 got_asked : (w : History) → has is_request (gots (present w)) ≡ true → 1 ≤ count is_request (gots w)
 got_asked [] is = absurd cc
-got_asked (Got p ∷ w) is = at (is_request p) refl (is_request p) is
+got_asked (Got p ∷ w) is = at (is_request p) refl (is_request p) (got_asked w) is
   where
-    at : (c : Bool) → is_request p ≡ c → (b : Bool) → has is_request (gots (cond b (Got p ∷ []) (Got p ∷ present w))) ≡ true
+    at : (c : Bool) → is_request p ≡ c → (b : Bool) → (has is_request (gots (present w)) ≡ true → 1 ≤ count is_request (gots w))
+        → has is_request (gots (cond b (Got p ∷ []) (Got p ∷ present w))) ≡ true
         → 1 ≤ cond c (count is_request (gots w) + 1) (count is_request (gots w))
-    at true asks b is = omega arith
-    at false asks true is = let e : (is_request p || false) ≡ true = is in absurd (let f : (false || false) ≡ true = ap (λ (x : Bool). x || false) (sym asks) ∙ e in cc)
-    at false asks false is = got_asked w (ap (λ (x : Bool). x || has is_request (gots (present w))) (sym asks) ∙ is)
-got_asked (Put p ∷ w) is = by (is_request p) is
+    at true asks b rest is = omega arith
+    at false asks true rest is = absurd (let e : (false || false) ≡ true = ap (λ (x : Bool). x || false) (sym asks) ∙ is in cc)
+    at false asks false rest is = rest (ap (λ (x : Bool). x || has is_request (gots (present w))) (sym asks) ∙ is)
+got_asked (Put p ∷ w) is = by (is_request p) (got_asked w) is
   where
-    by : (b : Bool) → has is_request (gots (cond b (Put p ∷ []) (Put p ∷ present w))) ≡ true → 1 ≤ count is_request (gots w)
-    by true is = absurd cc
-    by false is = got_asked w is
+    by : (b : Bool) → (has is_request (gots (present w)) ≡ true → 1 ≤ count is_request (gots w))
+        → has is_request (gots (cond b (Put p ∷ []) (Put p ∷ present w))) ≡ true → 1 ≤ count is_request (gots w)
+    by true rest is = absurd cc
+    by false rest is = rest is
 
 begun_some : (side : Side) (w : History) → is_begun side (puts (present w)) (gots (present w)) ≡ true → 1 ≤ number_of side (puts w) (gots w)
 begun_some Asker w is = put_asked w is
@@ -83,28 +83,28 @@ asked_by side put got p may asks = let t = may.timely in grind (arith, common_st
 -- The present connection is all where there is one at most.
 pub once_present : (side : Side) (w : History) → IsFairAll side w → number_of side (puts w) (gots w) ≤ 1 → present w ≡ w
 once_present side [] fair few = refl
-once_present Asker (Put p ∷ w) fair few = by (is_request p) refl few
+once_present Asker (Put p ∷ w) fair few = by (is_request p) (once_present Asker w fair.1) few
   where
-    by : (b : Bool) → is_request p ≡ b → cond b (count is_request (puts w) + 1) (count is_request (puts w)) ≤ 1
+    by : (b : Bool) → (count is_request (puts w) ≤ 1 → present w ≡ w) → cond b (count is_request (puts w) + 1) (count is_request (puts w)) ≤ 1
         → cond b (Put p ∷ []) (Put p ∷ present w) ≡ Put p ∷ w
-    by true asks few = ap (λ (h : History). Put p ∷ h) (sym (none_begun Asker w fair.1 (omega (arith, few))))
-    by false other few = ap (λ (h : History). Put p ∷ h) (once_present Asker w fair.1 few)
-once_present Asker (Got p ∷ w) fair few = by (is_request p) refl
+    by true rest few = ap (λ (h : History). Put p ∷ h) (sym (none_begun Asker w fair.1 (omega (arith, few))))
+    by false rest few = ap (λ (h : History). Put p ∷ h) (rest few)
+once_present Asker (Got p ∷ w) fair few = by (is_request p) refl (once_present Asker w fair.1 few)
   where
-    by : (b : Bool) → is_request p ≡ b → cond b (Got p ∷ []) (Got p ∷ present w) ≡ Got p ∷ w
-    by true asks = let no : Answerer ≡ Asker = asked_by Answerer [] [] p (fair.0.opens asks).first asks in absurd cc
-    by false other = ap (λ (h : History). Got p ∷ h) (once_present Asker w fair.1 few)
-once_present Answerer (Got p ∷ w) fair few = by (is_request p) refl few
+    by : (b : Bool) → is_request p ≡ b → present w ≡ w → cond b (Got p ∷ []) (Got p ∷ present w) ≡ Got p ∷ w
+    by true asks rest = let no : Answerer ≡ Asker = asked_by Answerer [] [] p (fair.0.opens asks).first asks in absurd cc
+    by false other rest = ap (λ (h : History). Got p ∷ h) rest
+once_present Answerer (Got p ∷ w) fair few = by (is_request p) (once_present Answerer w fair.1) few
   where
-    by : (b : Bool) → is_request p ≡ b → cond b (count is_request (gots w) + 1) (count is_request (gots w)) ≤ 1
+    by : (b : Bool) → (count is_request (gots w) ≤ 1 → present w ≡ w) → cond b (count is_request (gots w) + 1) (count is_request (gots w)) ≤ 1
         → cond b (Got p ∷ []) (Got p ∷ present w) ≡ Got p ∷ w
-    by true asks few = ap (λ (h : History). Got p ∷ h) (sym (none_begun Answerer w fair.1 (omega (arith, few))))
-    by false other few = ap (λ (h : History). Got p ∷ h) (once_present Answerer w fair.1 few)
-once_present Answerer (Put p ∷ w) fair few = by (is_request p) refl
+    by true rest few = ap (λ (h : History). Got p ∷ h) (sym (none_begun Answerer w fair.1 (omega (arith, few))))
+    by false rest few = ap (λ (h : History). Got p ∷ h) (rest few)
+once_present Answerer (Put p ∷ w) fair few = by (is_request p) refl (once_present Answerer w fair.1 few)
   where
-    by : (b : Bool) → is_request p ≡ b → cond b (Put p ∷ []) (Put p ∷ present w) ≡ Put p ∷ w
-    by true asks = let no : Answerer ≡ Asker = asked_by Answerer [] [] p (fair.0.opens asks).first asks in absurd cc
-    by false other = ap (λ (h : History). Put p ∷ h) (once_present Answerer w fair.1 few)
+    by : (b : Bool) → is_request p ≡ b → present w ≡ w → cond b (Put p ∷ []) (Put p ∷ present w) ≡ Put p ∷ w
+    by true asks rest = let no : Answerer ≡ Asker = asked_by Answerer [] [] p (fair.0.opens asks).first asks in absurd cc
+    by false other rest = ap (λ (h : History). Put p ∷ h) rest
 
 -- In a log.
 pub once_history : (role : Role) (f : Flow) (log : Log) → IsFairOn role f log → number_on role f log ≤ 1 → history_of role f log ≡ whole_of role f log

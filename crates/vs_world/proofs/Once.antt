@@ -59,22 +59,24 @@ count_got : (b : Bool) (p : Packet) (h : History) → count is_request (puts (co
 count_got true p h = refl
 count_got false p h = refl
 
-put_other : (role : Role) (f : Flow) (p : Packet) (log : Log) (b : Bool) → same_flow f (flow_put role p) ≡ b → is_request p ≡ false
-    → asked_on role f (PutPacket p ∷ log) ≡ asked_on role f log
-put_other role f p log true is other = count_put (same_flow f (flow_put role p)) false p (whole_of role f log) other ∙ rw is refl
-put_other role f p log false is other = count_put (same_flow f (flow_put role p)) false p (whole_of role f log) other ∙ rw is refl
+put_other : (role : Role) (f : Flow) (p : Packet) (log : Log) → is_request p ≡ false → asked_on role f (PutPacket p ∷ log) ≡ asked_on role f log
+put_other role f p log other = by (same_flow f (flow_put role p))
+  where
+    by : (b : Bool) → count is_request (puts (cond b (Put p ∷ whole_of role f log) (whole_of role f log))) ≡ asked_on role f log
+    by true = count_put true false p (whole_of role f log) other
+    by false = refl
 
 put_elsewhere : (role : Role) (f : Flow) (p : Packet) (log : Log) → same_flow f (flow_put role p) ≡ false
     → asked_on role f (PutPacket p ∷ log) ≡ asked_on role f log
-put_elsewhere role f p log is = count_put (same_flow f (flow_put role p)) (is_request p) p (whole_of role f log) refl ∙ rw is refl
+put_elsewhere role f p log is = ap (λ (b : Bool). count is_request (puts (cond b (Put p ∷ whole_of role f log) (whole_of role f log)))) is
 
 put_request : (role : Role) (f : Flow) (p : Packet) (log : Log) → is_request p ≡ true → asked_on role f log ≡ 0
     → asked_on role f (PutPacket p ∷ log) ≤ 1
-put_request role f p log asks none = by (same_flow f (flow_put role p)) refl
+put_request role f p log asks none = by (same_flow f (flow_put role p))
   where
-    by : (b : Bool) → same_flow f (flow_put role p) ≡ b → asked_on role f (PutPacket p ∷ log) ≤ 1
-    by true is = omega (arith, count_put (same_flow f (flow_put role p)) true p (whole_of role f log) asks ∙ rw is refl, none)
-    by false is = omega (arith, put_elsewhere role f p log is, none)
+    by : (b : Bool) → count is_request (puts (cond b (Put p ∷ whole_of role f log) (whole_of role f log))) ≤ 1
+    by true = let more = count_put true true p (whole_of role f log) asks in omega (arith, more, none)
+    by false = omega (arith, none)
 
 got_same : (role : Role) (f : Flow) (p : Packet) (log : Log) → asked_on role f (GotPacket p ∷ log) ≡ asked_on role f log
 got_same role f p log = count_got (same_flow f (flow_got role p)) p (whole_of role f log)
@@ -250,7 +252,7 @@ seat_once role first (Asks g kind) b s may anew once f asker = by (same_flow f g
     })
 seat_once role first (Sends g e payload) b s may anew once f asker =
     let w = at role b in
-    stays role f w _ _ (once f asker) (put_other role f (payload_on role w.part.cid g e payload) w.log _ refl refl)
+    stays role f w _ _ (once f asker) (put_other role f (payload_on role w.part.cid g e payload) w.log refl)
     (changed_from role f g w (once f asker) e (with_payload_sent e (length payload)) may.0 (λ old. old))
 seat_once role first (Pays g e owed.Request) b s may anew once f asker = by (same_flow f g) refl
   where
@@ -274,27 +276,27 @@ seat_once role first (Pays g e owed.Request) b s may anew once f asker = by (sam
         (changed_from role f g w (once f asker) e (paid_of e owed.Request) may.0 (paid_old e owed.Request))
 seat_once role first (Pays g e owed.Rst) b s may anew once f asker =
     let w = at role b in
-    stays role f w _ _ (once f asker) (put_other role f (owed_on role w.part.cid g e owed.Rst) w.log _ refl refl)
+    stays role f w _ _ (once f asker) (put_other role f (owed_on role w.part.cid g e owed.Rst) w.log refl)
     (left_from role f g w (once f asker) (left g w.part) refl refl)
 seat_once role first (Pays g e owed.Response) b s may anew once f asker =
     let w = at role b in
-    stays role f w _ _ (once f asker) (put_other role f (owed_on role w.part.cid g e owed.Response) w.log _ refl refl)
+    stays role f w _ _ (once f asker) (put_other role f (owed_on role w.part.cid g e owed.Response) w.log refl)
     (changed_from role f g w (once f asker) e (paid_of e owed.Response) may.0 (paid_old e owed.Response))
 seat_once role first (Pays g e owed.CreditUpdate) b s may anew once f asker =
     let w = at role b in
-    stays role f w _ _ (once f asker) (put_other role f (owed_on role w.part.cid g e owed.CreditUpdate) w.log _ refl refl)
+    stays role f w _ _ (once f asker) (put_other role f (owed_on role w.part.cid g e owed.CreditUpdate) w.log refl)
     (changed_from role f g w (once f asker) e (paid_of e owed.CreditUpdate) may.0 (paid_old e owed.CreditUpdate))
 seat_once role first (Pays g e owed.CreditRequest) b s may anew once f asker =
     let w = at role b in
-    stays role f w _ _ (once f asker) (put_other role f (owed_on role w.part.cid g e owed.CreditRequest) w.log _ refl refl)
+    stays role f w _ _ (once f asker) (put_other role f (owed_on role w.part.cid g e owed.CreditRequest) w.log refl)
     (changed_from role f g w (once f asker) e (paid_of e owed.CreditRequest) may.0 (paid_old e owed.CreditRequest))
 seat_once role first (Pays g e (owed.Shutdown bits)) b s may anew once f asker =
     let w = at role b in
-    stays role f w _ _ (once f asker) (put_other role f (owed_on role w.part.cid g e (owed.Shutdown bits)) w.log _ refl refl)
+    stays role f w _ _ (once f asker) (put_other role f (owed_on role w.part.cid g e (owed.Shutdown bits)) w.log refl)
     (changed_from role f g w (once f asker) e (paid_of e (owed.Shutdown bits)) may.0 (paid_old e (owed.Shutdown bits)))
 seat_once role first (Replies r rest) b s may anew once f asker =
     let w = at role b in
-    stays role f w _ _ (once f asker) (put_other role f (reply_on role w.part.cid r) w.log _ refl refl)
+    stays role f w _ _ (once f asker) (put_other role f (reply_on role w.part.cid r) w.log refl)
     (same_from role f f w (once f asker) _ refl refl)
 seat_once role first (Decides g e what) b s may anew once f asker =
     let w = at role b in

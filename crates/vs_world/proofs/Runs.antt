@@ -29,8 +29,8 @@ pub takes_step : (role : Role) (p : Packet) (answer : Bool) (b c : Both) → May
     → happens role Forgets (happens role (Takes p answer) b) ≡ c → Runs b c
 takes_step role p answer b c may is = record {
   steps = record { role = role; step = Takes p answer } ∷ record { role = role; step = Forgets } ∷ [];
-  may = (may, tt, tt);
-  anew = (tt, tt, tt);
+  may = (may, (tt, tt));
+  anew = (tt, (tt, tt));
   ends = is;
 }
 
