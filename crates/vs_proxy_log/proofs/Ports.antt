@@ -18,10 +18,17 @@ later first port next s c less holds = (
         flows = record {
           on = p.matches.flows.on;
           unused = λ f asker above.
-              let u = p.matches.flows.unused f asker (omega (arith, less, above)) in record { silent = u.silent; no_end = u.no_end };
+              let u = p.matches.flows.unused f asker (omega (arith, less, above)) in record { silent = u.silent; no_end = u.no_end; not_kept = refl };
+          kept = λ f among. absurd cc;
+          once = tt;
           cid = p.matches.flows.cid;
         };
-        credit = p.matches.credit;
+        fairly = λ fair. let left = p.matches.fairly fair in record {
+          within = left.within;
+          kept = λ f among. absurd cc;
+          ready = left.ready;
+          replies = left.replies;
+        };
       };
       fair = p.fair;
     },
