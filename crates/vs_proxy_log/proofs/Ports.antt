@@ -1,5 +1,5 @@
 -- The host ports that are assigned, and the guest ports of CONNECT lines.
-use Rattle.std.proofs.Common.{ℕ, ◌≤◌, arith}
+use Rattle.std.proofs.Common.{ℕ, ◌≤◌, refl, arith}
 use Rattle.vs_ring_port.specs.Contents.{RingContents}
 use Rattle.vs_device_parts.specs.State.{DeviceState}
 use Rattle.vs_device_log.specs.Honest.{IsToldOf, IsWith}
