@@ -1,6 +1,6 @@
 -- A packet that is got: the device's connections are those that the log with it leaves.
-use Rattle.std.proofs.{lemmas.List.map-append, lemmas.List.Elements.All-push}
 use Rattle.std.proofs.Common.{◌≡◌, ℕ, ◌&&◌, Bool, true, false, cond, List, [], ◌∷◌, Contains, None, refl, sym, ap, subst, ◌∙◌, arith}
+use Rattle.std.proofs.lemmas.List.Elements.{All-push}
 use Rattle.vs_conn.specs.{End.ConnectionEnd, End.answering, End.end_after, End.is_reset, End.is_of, End.verdict_of, Follows.IsTaken}
 use Rattle.vs_history.specs.{Packets.is_request, Packets.is_rst, declared.TheConstants.BUF_ALLOC, declared.packet.Packet.Packet}
 use Rattle.vs_flow.specs.{Table.entry_of, Table.has_place, Table.refusal, Table.with_value, Table.without, declared.flow.Flow.Flow}
@@ -8,7 +8,7 @@ use Rattle.vs_flow.proofs.Tables.{accepted}
 use Rattle.vs_page.specs.{Fair.IsFairLog, Held.FitsWire, Log.Device, Log.Log, Log.flow_to_host, Log.side_of, Open.is_dropped}
 use Rattle.vs_page.specs.declared.log.LogEntry.TheVariants.{GotPacket}
 use Rattle.vs_replies.specs.Owed.{reply_to}
-use Rattle.vs_matching.specs.{Ends.Ends, Ends.FlowEnd, Ends.Reply, Heard.IsInOrder, Heard.heard_of, Matches.Matches}
+use Rattle.vs_matching.specs.{Ends.Ends, Ends.FlowEnd, Heard.IsInOrder, Heard.heard_of, Matches.Matches}
 use Rattle.vs_matching.specs.Steps.{HasEnd, HasNone, forgotten, is_kept, is_overrun, left, taken, with_clean, with_end}
 use Rattle.vs_matching.proofs.{Fair.got_in_order, Fair.got_is_taken, Slots.added_slot, Slots.no_entry}
 use Rattle.vs_matching.proofs.Keeps.{accepts, drops, forgets, has_room, ignores, refuses, takes}
