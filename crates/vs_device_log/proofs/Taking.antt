@@ -1,6 +1,6 @@
 -- A packet that is got: the device's connections are those that the log with it leaves.
-use Rattle.std.proofs.{lemmas.List.map-append, lemmas.List.Elements.All-push}
 use Rattle.std.proofs.Common.{◌≡◌, ℕ, ◌&&◌, Bool, true, false, cond, List, [], ◌∷◌, Contains, None, refl, sym, ap, subst, ◌∙◌, arith}
+use Rattle.std.proofs.lemmas.List.Elements.{All-push}
 use Rattle.vs_conn.specs.{End.ConnectionEnd, End.answering, End.end_after, End.is_reset, End.is_of, End.verdict_of, Follows.IsTaken}
 use Rattle.vs_history.specs.{Packets.is_request, Packets.is_rst, declared.TheConstants.BUF_ALLOC, declared.packet.Packet.Packet}
 use Rattle.vs_flow.specs.{Table.entry_of, Table.has_place, Table.refusal, Table.with_value, Table.without, declared.flow.Flow.Flow}
