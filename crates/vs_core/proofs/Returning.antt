@@ -9,7 +9,7 @@ use Rattle.vs_conn.specs.declared.end.Owed.TheVariants as owed
 use Rattle.vs_conn.specs.declared.end.Verdict.{Verdict}
 use Rattle.vs_conn.specs.declared.end.Verdict.TheVariants as verdict
 use Rattle.vs_conn.specs.declared.end.Why.TheVariants as why
-use Rattle.vs_flow.specs.{Flow.is_assigned, Table.entry_of, Table.entry_under, Table.has_place, Table.refusal, Table.slots}
+use Rattle.vs_flow.specs.{Flow.host_flow, Flow.is_assigned, Table.entry_of, Table.entry_under, Table.has_place, Table.refusal, Table.slots}
 use Rattle.vs_header.specs.{Op.op_number, Packet.header_of}
 use Rattle.vs_header.specs.declared.{Header.Header, TheConstants.HEADER_LEN}
 use Rattle.vs_header.specs.declared.Op.TheVariants.{Request}
@@ -213,8 +213,8 @@ late_some stream t =
 
 opens_some : (stream port : ℕ) (t : Turning) → AllReturnSome (opening stream port t)
 opens_some stream port t =
-    bind_some (open_of (record { guest = port; host = t.state.next_port }) stream t.state.device) _
-    (option_some (refusal t.state.device.table (record { guest = port; host = t.state.next_port })) _ _ (tt, λ a. tt) (λ fault. tt))
+    bind_some (open_of (host_flow port t.state.next_port) stream t.state.device) _
+    (option_some (refusal t.state.device.table (host_flow port t.state.next_port)) _ _ (tt, λ a. tt) (λ fault. tt))
     (λ r. tt)
 
 decided_some : (stream : ℕ) (a : Step) (t : Turning) → AllReturnSome (line_decided stream a t)

@@ -33,9 +33,9 @@ use vs_device_parts::fill::Fill;
 use vs_device_parts::packets::{read_into, write_packet};
 use vs_device_parts::round::round_from;
 use vs_flow::Slot;
-use vs_header::{HEADER_LEN, Header, Kind, Op};
+use vs_header::{HEADER_LEN, Header, Op};
 use vs_outside::{HostNet, StreamRead};
-use vs_page::{HOST_CID, PAYLOAD_MAX};
+use vs_page::PAYLOAD_MAX;
 use vs_replies::Reply;
 use vs_ring_port::{DeviceRing, Failure, Next, Queue};
 
@@ -455,15 +455,15 @@ fn is_rst(what: Owed) -> bool
 
 // The header of an RST that is owed to an unknown flow.
 fn reply_header(cid: u64, reply: Reply) -> Header
-    ensures { result ≡ reset_header (route_to_guest cid (record { guest = reply.dst_port; host = reply.src_port })) }
+    ensures { result ≡ reset_header reply.kind (route_to_guest cid reply.flow) }
 {
     Header {
-        src_cid: HOST_CID,
+        src_cid: reply.flow.peer,
         dst_cid: cid,
-        src_port: reply.src_port,
-        dst_port: reply.dst_port,
+        src_port: reply.flow.host,
+        dst_port: reply.flow.guest,
         len: 0,
-        kind: Kind::Stream.number(),
+        kind: reply.kind.number(),
         op: Op::Rst.number(),
         flags: 0,
         buf_alloc: 0,

@@ -35,10 +35,9 @@ use vs_device_parts::host_calls::dial;
 use vs_device_parts::limits::REPLIES;
 use vs_device_parts::ring_calls::{read_header, read_payload, return_read, take};
 use vs_device_parts::slots::Slots;
-use vs_flow::{Flow, Slot, is_assigned};
+use vs_flow::{Flow, HOST_CID, Slot, is_assigned};
 use vs_header::{HEADER_LEN, Header, Kind, Op};
 use vs_outside::{Dialed, HostNet};
-use vs_page::HOST_CID;
 use vs_replies::Reply;
 use vs_ring_port::{Chain, DeviceRing, Failure, Next, Queue};
 use vs_uds::listen_path;
@@ -287,7 +286,7 @@ impl Device {
         if is_request(header) {
             return self.try_request(host, flow, header);
         }
-        self.owe(Reply::to(header));
+        self.owe(Reply::to(flow, header));
         Verdict::Rst(unknown_why(header))
     }
 
@@ -339,7 +338,7 @@ impl Device {
         ensures refused { (self.new, result) ≡ refused header.now self.old }
         ensures chain { self.new.chain ≡ self.old.chain }
     {
-        self.owe(Reply::to(header));
+        self.owe(Reply::to(flow_to_host(header), header));
         Verdict::Rst(Why::NotLive)
     }
 
@@ -392,6 +391,7 @@ fn flow_to_host(header: &Header) -> Flow
     Flow {
         guest: header.src_port,
         host: header.dst_port,
+        peer: header.dst_cid,
     }
 }
 

@@ -1,6 +1,6 @@
 -- An end that is over stays so.
 use Rattle.std.proofs.Common.{◌≡◌, ℕ, Bool, true, false, cond, ◌&&◌, Option, Some, None, refl, sym, subst}
-use Rattle.vs_conn.specs.End.{ConnectionEnd, after_message, after_op, end_after, is_drained, is_reset, is_stream, owes_of, settled_state}
+use Rattle.vs_conn.specs.End.{ConnectionEnd, after_message, after_op, end_after, is_drained, is_reset, is_of, owes_of, settled_state}
 use Rattle.vs_conn.specs.End.{state_owes, shut_credit, with_heard_packet, with_payload_forwarded, with_shut}
 use Rattle.vs_conn.specs.Shut.{joined, shut_of}
 use Rattle.vs_credit.specs.Credit.{with_forwarded}
@@ -49,7 +49,7 @@ pub heard_over : (e : ConnectionEnd) (h : Header) → e.state ≡ Ended → (end
 unfolding over_end
 heard_over e h over =
     let P : State → Type 0 = λ s. (end_after (record e { state = s }) h).state ≡ Ended in
-    subst P (sym over) (heard_by e h (is_stream h && is_reset h))
+    subst P (sym over) (heard_by e h (is_of e.kind h && is_reset h))
 
 pub shut_over : (e : ConnectionEnd) (bits : ℕ) → e.state ≡ Ended → (with_shut e bits).state ≡ Ended
 shut_over e bits over = let own = joined e.own (shut_of bits) in settled_over e.state e.peer (shut_credit own e.credit) over

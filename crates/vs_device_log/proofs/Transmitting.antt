@@ -5,33 +5,27 @@ use Rattle.std.proofs.lemmas.Bool.Decides.{nat_tests}
 use Rattle.std.specs.Option.{option_map}
 use Rattle.vs_contents.specs.CallTree.{Done, Ask, bind}
 use Rattle.vs_conn.specs.declared.end.Verdict.{Verdict}
-use Rattle.vs_header.specs.{Op.op_number, Packet.header_of}
-use Rattle.vs_header.specs.declared.{Header.Header, TheConstants.HEADER_LEN}
+use Rattle.vs_header.specs.{Op.op_number, Packet.header_of, declared.Header.Header, declared.TheConstants.HEADER_LEN}
 use Rattle.vs_header.specs.declared.Op.TheVariants.{Rw}
-use Rattle.vs_history.specs.Packets.{size}
-use Rattle.vs_history.specs.declared.packet.Packet.{Packet}
+use Rattle.vs_history.specs.{Packets.size, declared.packet.Packet.Packet}
 use Rattle.vs_page.specs.{Fair.IsFairLog, Held.FitsWire, Held.packet_held, Held.packet_with, Held.payload_held}
-use Rattle.vs_page.specs.Log.{Device, Log, flow_got}
-use Rattle.vs_page.specs.declared.log.LogEntry.TheVariants.{GotPacket}
+use Rattle.vs_page.specs.{Log.Device, Log.Log, Log.flow_got, declared.log.LogEntry.TheVariants.GotPacket}
 use Rattle.vs_page.proofs.Holding.{header_fits, packet_whole}
 use Rattle.vs_ring_port.specs.{Chains.Held, Contents.RingContents, Contents.Read, Contents.Return, Contents.Take}
+use Rattle.vs_ring_port.specs.{EndLog.EndLog, EndLog.log_returned, EndLog.log_taken, EndLog.with_packet, declared.device_ring.Chain.Chain}
+use Rattle.vs_ring_port.specs.{declared.device_ring.Next.Next, declared.failure.Failure.Failure, declared.queue.Queue.TheVariants.Tx}
 use Rattle.vs_ring_port.specs.DeviceCalls.{DeviceAllows, IsTakenAs}
-use Rattle.vs_ring_port.specs.EndLog.{EndLog, log_returned, log_taken, with_packet}
-use Rattle.vs_ring_port.specs.declared.device_ring.{Chain.Chain, Next.Next}
-use Rattle.vs_ring_port.specs.declared.device_ring.Next.TheVariants as next
-use Rattle.vs_ring_port.specs.declared.failure.Failure.{Failure}
-use Rattle.vs_ring_port.specs.declared.failure.Failure.TheVariants as failure
-use Rattle.vs_ring_port.specs.declared.queue.Queue.TheVariants.{Tx}
-use Rattle.vs_matching.proofs.Fair.{own_got_fair}
-use Rattle.vs_device_parts.specs.declared.answers.Taken.{Taken}
-use Rattle.vs_device_parts.specs.declared.answers.Taken.TheVariants as taken
-use Rattle.vs_device_parts.specs.declared.limits.TheConstants.{REPLIES}
-use Rattle.vs_device_parts.specs.{Calls.IsFitAnswer, Calls.Ring, Playing.IsRxChain, State.DeviceState}
+use Rattle.vs_matching.proofs.Fair.{got_formed}
+use Rattle.vs_device_parts.specs.{declared.answers.Taken.Taken, declared.limits.TheConstants.REPLIES, Calls.IsFitAnswer, Calls.Ring}
+use Rattle.vs_device_parts.specs.{Playing.IsRxChain, State.DeviceState}
 use Rattle.vs_device_parts.specs.Transmitting.{failing, on_header, on_next, on_packet, take_tx_of}
 use Rattle.vs_device_log.specs.Honest.{IsLeft, IsToldOf, IsWith, unwritten}
+use Rattle.vs_device_log.proofs.Ringing.{HoldsFirst, Tells, bytes_held, first_there, moves, returned_entries, returned_held, tells_weaker}
 use Rattle.vs_device_log.proofs.Hearing.{After, Came, Heard, IsCome, packet_keeps}
 use Rattle.vs_device_log.proofs.Keeping.{Keeps, keeps_then}
-use Rattle.vs_device_log.proofs.Ringing.{HoldsFirst, Tells, bytes_held, first_there, moves, returned_entries, returned_held, tells_weaker}
+use Rattle.vs_ring_port.specs.declared.device_ring.Next.TheVariants as next
+use Rattle.vs_ring_port.specs.declared.failure.Failure.TheVariants as failure
+use Rattle.vs_device_parts.specs.declared.answers.Taken.TheVariants as taken
 
 -- The packet that a page holds has the page's header, and a page with a header holds a packet unless its len is above what follows.
 pub some_test : {A : Type 0} (b : Bool) (o : Option A) (x : A) → cond b o None ≡ Some x → o ≡ Some x
@@ -97,7 +91,7 @@ module _ (first port : ℕ) (s : DeviceState) where
         → IsLeft first port s.cid s.overrun s.table s.replies (with_packet (λ p. GotPacket p) o log)
     short_by h page log None held readable head short was fair = was
     short_by h page log (Some p) held readable head short was fair =
-        let formed = (own_got_fair Device p log (fair (flow_got Device p))).0.formed in
+        let formed = got_formed Device p log (fair (flow_got Device p)) in
         let whole = (packet_whole page p held).1 in
         let len : h.len ≡ size p = ap (λ (x : Header). x.len) (head ∙ sym (header_is page p held)) ∙ formed.len in
         absurd (grind (arith, nat_tests, short, whole, len, readable))

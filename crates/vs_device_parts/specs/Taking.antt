@@ -1,10 +1,11 @@
 -- Parts of what the device does with a packet, as the code has them.
 use Rattle.std.specs.Prelude.{ℕ, ◌==◌, ◌&&◌, Bool}
 use Rattle.vs_contents.specs.CallTree.{Done, bind}
-use Rattle.vs_conn.specs.End.{is_stream, verdict_of}
+use Rattle.vs_conn.specs.End.{is_of, verdict_of}
 use Rattle.vs_conn.specs.declared.end.{Verdict.Verdict, Why.Why}
 use Rattle.vs_header.specs.Op.{op_number}
 use Rattle.vs_header.specs.declared.Header.{Header}
+use Rattle.vs_header.specs.declared.Kind.TheVariants.{Stream}
 use Rattle.vs_header.specs.declared.Op.TheVariants.{Request}
 use Rattle.vs_ring_port.specs.declared.device_ring.Chain.{Chain}
 use Rattle.vs_conn.specs.declared.end.Why.TheVariants as why
@@ -18,7 +19,7 @@ known_packet chain h e s = let v = verdict_of e.value.end h in bind (on_known v 
 
 -- A REQUEST of a stream socket.
 abbrev pub asks_for_stream : Header → Bool
-asks_for_stream h = is_stream h && (h.op == op_number Request)
+asks_for_stream h = is_of Stream h && (h.op == op_number Request)
 
 -- The device drops it: its source isn't the guest, or its destination isn't the host.
 abbrev pub is_not_for_host : ℕ → Header → Bool

@@ -3,8 +3,9 @@ use Rattle.std.specs.Prelude.{◌+◌, ◌-◌, ◌==◌, ◌&&◌, ◌||◌, no
 use Rattle.vs_contents.specs.CallTree.{Done, Ask, bind}
 use Rattle.vs_header.specs.{Op.op_number, Packet.header_of}
 use Rattle.vs_header.specs.declared.{Header.Header, TheConstants.HEADER_LEN}
+use Rattle.vs_header.specs.declared.Kind.TheVariants.{Stream}
 use Rattle.vs_header.specs.declared.Op.TheVariants.{Request, Rst}
-use Rattle.vs_conn.specs.End.{verdict_of, end_after, is_stream, is_reset}
+use Rattle.vs_conn.specs.End.{verdict_of, end_after, is_of, is_reset}
 use Rattle.vs_conn.specs.declared.end.Verdict.{Verdict}
 use Rattle.vs_conn.specs.declared.end.Verdict.TheVariants as verdict
 use Rattle.vs_conn.specs.declared.end.Why.{Why}
@@ -51,7 +52,7 @@ on_known _ chain h e s = Done (with_connection e.slot (heard h e.value) s)
 -- A REQUEST of an unknown flow is tried: it gets RST where the device assigns its host port, where the table is full, and where the dial is
 -- refused or fails. Else it opens a connection.
 abbrev pub refused : Header → DeviceState → DeviceState × Verdict
-refused h s = (with_reply (reply_to h) s, verdict.Rst why.NotLive)
+refused h s = (with_reply (reply_to (flow_to_host h) h) s, verdict.Rst why.NotLive)
 
 abbrev pub dial_answered : Header → Dialed → DeviceState → DeviceState × Verdict
 dial_answered h (dialed.Stream stream) s = (with_dialed (flow_to_host h) h stream s, verdict.Accept)
@@ -66,13 +67,13 @@ try_request h s =
 
 -- The verdict on another packet of an unknown flow: RST is ignored, all else gets RST.
 abbrev pub unknown_why : Header → Why
-unknown_why h = if not (is_stream h) then why.BadKind else if (h.op == 0) || nat_lt 7 h.op then why.BadOp else why.NotLive
+unknown_why h = if not (is_of Stream h) then why.BadKind else if (h.op == 0) || nat_lt 7 h.op then why.BadOp else why.NotLive
 
 abbrev pub on_unknown : Header → DeviceState → DeviceTree (DeviceState × Verdict)
 on_unknown h s =
     if is_reset h then Done (s, verdict.Ignore)
-    else if is_stream h && (h.op == op_number Request) then try_request h s
-    else Done (with_reply (reply_to h) s, verdict.Rst (unknown_why h))
+    else if is_of Stream h && (h.op == op_number Request) then try_request h s
+    else Done (with_reply (reply_to (flow_to_host h) h) s, verdict.Rst (unknown_why h))
 
 -- A packet whose source isn't the guest, or whose destination isn't the host, is dropped and counted.
 abbrev pub on_packet : Chain → Header → DeviceState → DeviceTree (DeviceState × Verdict)

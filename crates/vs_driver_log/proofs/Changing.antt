@@ -40,14 +40,14 @@ stands_known id s e fits found =
 abbrev pub FollowsAs : ConnectionEnd → ConnectionEnd → Type 0
 FollowsAs old new = (side : Side) (h : History) → Follows side (puts h) (gots h) old → Follows side (puts h) (gots h) new
 
-connection_changes : (s : DriverState) (e : DriverEntry) (c : DriverConnection) → IsFitState s → Stands s e → IsHeldBy c → FollowsAs e.value.end c.end
-    → Changes s (with_connection e.slot c s)
-connection_changes s e c fits stands held follows = record {
+connection_changes : (s : DriverState) (e : DriverEntry) (c : DriverConnection) → IsFitState s → Stands s e → IsHeldBy c
+    → c.end.kind ≡ e.value.end.kind → FollowsAs e.value.end c.end → Changes s (with_connection e.slot c s)
+connection_changes s e c fits stands held kind follows = record {
   matches = λ first log m.
       let has = has_end s e fits stands in
       let begun = driver_begun first (ends_of_state s) log e.flow e.value.end m.flows has in
       subst (λ (x : Ends). Matches Driver first x log) (sym (connection_ends s e c fits stands))
-      (changes Driver first e.flow e.value.end c.end (ends_of_state s) log m has begun
+      (changes Driver first e.flow e.value.end c.end (ends_of_state s) log m has begun kind
       (follows (side_of Driver e.flow) (heard_of Driver first e.flow log)));
   fits = connection_fits s e.slot c fits held;
   broken = refl;
@@ -57,7 +57,7 @@ connection_changes s e c fits stands held follows = record {
 pub wanting_changes : (s : DriverState) (e : DriverEntry) → IsFitState s → Stands s e → Changes s (connections.with_end (wanting_credit e.value.end) e s)
 wanting_changes s e fits stands =
     let held = (entry_fits s e fits stands).buffer in
-    connection_changes s e (record e.value { end = wanting_credit e.value.end }) fits stands (holds_same e.value.end.credit _ e.value.unread held refl refl refl)
+    connection_changes s e (record e.value { end = wanting_credit e.value.end }) fits stands (holds_same e.value.end.credit _ e.value.unread held refl refl refl) refl
     (λ side h follows. ask_follows _ _ _ e.value.end follows)
 
 -- recv.
@@ -67,7 +67,7 @@ read_changes n s e fits stands =
     let k : ℕ = min n (length e.value.unread) in
     let within : k ≤ length e.value.unread = omega arith in
     let least : k ≤ unread_of e.value.end.credit = omega (arith, within, held.unread) in
-    connection_changes s e (after_read n e.value) fits stands (read_fits n e.value held)
+    connection_changes s e (after_read n e.value) fits stands (read_fits n e.value held) refl
     (λ side h follows. forward_follows _ _ _ e.value.end k follows least)
 
 entry_read_changes : (n : ℕ) (b : Bool) (s : DriverState) (e : DriverEntry) → IsFitState s → Stands s e
@@ -87,7 +87,7 @@ recv_changes id n s fits = by (entry_known_as id s) refl
 shut_changes : (bits : ℕ) (s : DriverState) (e : DriverEntry) → IsFitState s → Stands s e → Changes s (with_connection e.slot (after_shut bits e.value) s)
 shut_changes bits s e fits stands =
     let held = (entry_fits s e fits stands).buffer in
-    connection_changes s e (after_shut bits e.value) fits stands (shut_fits bits e.value held)
+    connection_changes s e (after_shut bits e.value) fits stands (shut_fits bits e.value held) refl
     (λ side h follows. shut_follows _ _ _ e.value.end bits follows)
 
 shut_by : (st : State) (bits : ℕ) (s : DriverState) (e : DriverEntry) → IsFitState s → Stands s e → Changes s (shut_in st bits e s)
@@ -110,10 +110,17 @@ closing_follows state.Asked c = λ side h follows. abort_follows _ _ _ c.end fol
 closing_follows state.Answering c = λ side h follows. abort_follows _ _ _ c.end follows
 closing_follows state.Ended c = λ side h follows. abort_follows _ _ _ c.end follows
 
+closing_kind : (st : State) (c : DriverConnection) → (after_closing st c).end.kind ≡ c.end.kind
+closing_kind state.Live c = refl
+closing_kind state.Asked c = refl
+closing_kind state.Answering c = refl
+closing_kind state.Ended c = refl
+
 entry_closed_changes : (s : DriverState) (e : DriverEntry) → IsFitState s → Stands s e → Changes s (entry_closed e s)
 entry_closed_changes s e fits stands =
     let held = (entry_fits s e fits stands).buffer in
-    let c = connection_changes s e (after_closing e.value.end.state e.value) fits stands (closing_fits e.value.end.state e.value held) (closing_follows e.value.end.state e.value) in
+    let c = connection_changes s e (after_closing e.value.end.state e.value) fits stands (closing_fits e.value.end.state e.value held)
+    (closing_kind e.value.end.state e.value) (closing_follows e.value.end.state e.value) in
     record { matches = c.matches; fits = c.fits; broken = c.broken }
 
 gone_closed_by : (o : Option GoneConnection) (id : ℕ) (s : DriverState) → IsFitState s → Changes s (elim o [

@@ -2,7 +2,7 @@
 use Rattle.std.proofs.Common.{◌≡◌, ℕ, ◌≤◌, Bool, true, false, cond, Option, Some, None, refl, arith}
 use Rattle.std.proofs.lemmas.Bool.Decides.{nat_tests}
 use Rattle.vs_conn.specs.End.{ConnectionEnd, verdict_of, state_verdict, op_verdict, payload_verdict, response_verdict, live_verdict}
-use Rattle.vs_conn.specs.End.{is_stream, is_reset}
+use Rattle.vs_conn.specs.End.{is_of, is_reset}
 use Rattle.vs_conn.specs.declared.end.State.{State}
 use Rattle.vs_conn.specs.declared.end.State.TheVariants as state
 use Rattle.vs_conn.specs.declared.end.Verdict.{Verdict}
@@ -60,9 +60,9 @@ by_ended false is = cc
 
 by_state : (s : State) (e : ConnectionEnd) (h : Header) → state_verdict s e h ≡ verdict.Deliver → IsDelivered e h
 by_state state.Ended e h is = absurd (by_ended _ is)
-by_state state.Asked e h is = by_open (is_stream h) (is_reset h) BadKind e h is
-by_state state.Answering e h is = by_open (is_stream h) (is_reset h) BadKind e h is
-by_state state.Live e h is = by_open (is_stream h) (is_reset h) BadKind e h is
+by_state state.Asked e h is = by_open (is_of e.kind h) (is_reset h) BadKind e h is
+by_state state.Answering e h is = by_open (is_of e.kind h) (is_reset h) BadKind e h is
+by_state state.Live e h is = by_open (is_of e.kind h) (is_reset h) BadKind e h is
 
 pub delivers : (e : ConnectionEnd) (h : Header) → verdict_of e h ≡ verdict.Deliver → IsDelivered e h
 delivers e h is = by_state e.state e h is

@@ -6,7 +6,7 @@ use Rattle.std.proofs.lemmas.{List.length-map, List.get_or_append_left, Option.s
 use Rattle.std.proofs.Math.Seq.{get_or-append_seam}
 use Rattle.std.proofs.lemmas.Bool.Decides.{nat_tests}
 use Rattle.std.proofs.lemmas.List.Edits.{length-remove}
-use Rattle.vs_flow.specs.Flow.{is_assigned, same_flow}
+use Rattle.vs_flow.specs.Flow.{host_flow, is_assigned, same_flow}
 use Rattle.vs_flow.specs.Table.{Table, IsTable, entry_of, entry_under, value_under, with_value, without, revalued}
 use Rattle.vs_flow.specs.declared.flow.Flow.{Flow}
 use Rattle.vs_flow.proofs.Entries.{find_none, found_passes, same_flow_false}
@@ -102,9 +102,9 @@ one_fewer t slot e sound found =
     rw removed fewer
 
 pub new_flow : (first port next : ℕ) (t : Table DriverConnection) (gone : List GoneConnection) (host : ℕ) → AreNumbered first port next t gone
-    → is_assigned host ≡ false → entry_of t (record { guest = port; host = host }) ≡ None
+    → is_assigned host ≡ false → entry_of t (host_flow port host) ≡ None
 new_flow first port next t gone host kept mine =
-    let flow : Flow = record { guest = port; host = host } in
+    let flow : Flow = host_flow port host in
     find_none (λ (e : DriverEntry). same_flow flow e.flow) t.entries (λ k d lt. same_flow_false flow (get_or t.entries k d).flow (λ same.
     let host_is : host ≡ (get_or t.entries k d).flow.host = ap (λ (f : Flow). f.host) same in
     let guest_is : port ≡ (get_or t.entries k d).flow.guest = ap (λ (f : Flow). f.guest) same in

@@ -9,6 +9,7 @@ use Rattle.vs_outside.specs.declared.host_net.StreamRead.TheVariants as read
 use Rattle.vs_uds.specs.ConnectLine.{connect_step}
 use Rattle.vs_uds.specs.declared.scan.Step.{Step}
 use Rattle.vs_uds.specs.declared.scan.Step.TheVariants as step
+use Rattle.vs_flow.specs.Flow.{host_flow}
 use Rattle.vs_flow.specs.declared.table.TableFault.{TableFault}
 use Rattle.vs_device_parts.specs.Calls.{DeviceTree, Situation, Allows, Accept, ReadStream, CloseStream}
 use Rattle.vs_device_parts.specs.{Playing.CanMake, Playing.MayRun, Playing.Runs, State.DeviceState, Turns.open_of}
@@ -122,7 +123,7 @@ module _ (stream port : ℕ) (t : Turning) where
   opened_by r = record t { state = record (with_device r.0 t.state) { next_port = t.state.next_port + 1 } }
 
   abbrev opens : DeviceTree (DeviceState × Result ℕ TableFault)
-  opens = open_of (record { guest = port; host = t.state.next_port }) stream t.state.device
+  opens = open_of (host_flow port t.state.next_port) stream t.state.device
 
   pub let_in : (r : DeviceState × Result ℕ TableFault) (u : Turning) (c m : Situation) → may_open t.state ≡ true → Runs opens c r m → u ≡ opened_by r → Runs (connecting stream port t) c u m
   let_in r u c m test runs end =

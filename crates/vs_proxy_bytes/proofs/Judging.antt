@@ -1,42 +1,36 @@
 -- What one packet of the guest does, step by step.
 use Rattle.std.proofs.Common.{◌≡◌, ℕ, ◌-◌, ◌==◌, ◌&&◌, Bool, true, false, cond, List, [], ◌∷◌, ◌++◌, length, nat_le, nat_lt, Option, Some}
 use Rattle.std.proofs.Common.{None, refl, sym, ap, subst, ◌∙◌, arith}
-use Rattle.std.specs.Option.{option_map}
 use Rattle.std.proofs.lemmas.Bool.Decides.{nat_tests}
-use Rattle.vs_conn.specs.End.{after_op, is_reset, is_stream, owes_of, verdict_of}
-use Rattle.vs_conn.specs.declared.end.Owed.TheVariants as owed
-use Rattle.vs_conn.specs.declared.end.Verdict.{Verdict}
-use Rattle.vs_conn.specs.declared.end.Verdict.TheVariants as verdict
+use Rattle.std.specs.Option.{option_map}
+use Rattle.vs_conn.specs.{End.after_op, End.is_reset, End.is_of, End.owes_of, End.verdict_of, declared.end.Verdict.Verdict}
 use Rattle.vs_conn.specs.declared.end.Why.{Why}
-use Rattle.vs_conn.specs.declared.end.Why.TheVariants as why
 use Rattle.vs_contents.specs.CallTree.{Done, Ask, bind}
 use Rattle.vs_flow.specs.{Flow.is_assigned, Table.entry_of, Table.has_place, Table.with_value}
-use Rattle.vs_header.specs.{Op.op_named, Op.op_number, Packet.header_of}
-use Rattle.vs_header.specs.declared.{Header.Header, TheConstants.HEADER_LEN}
-use Rattle.vs_header.specs.declared.Op.TheVariants.{Request}
+use Rattle.vs_header.specs.{Op.op_named, Op.op_number, Packet.header_of, declared.Header.Header, declared.TheConstants.HEADER_LEN}
+use Rattle.vs_header.specs.{declared.Op.TheVariants.Request, declared.Kind.TheVariants.Stream}
 use Rattle.vs_outside.specs.declared.host_net.Dialed.{Dialed}
-use Rattle.vs_outside.specs.declared.host_net.Dialed.TheVariants as dialed
 use Rattle.vs_page.specs.{Log.Device, Log.flow_to_host, Open.is_dropped}
 use Rattle.vs_replies.specs.Owed.{reply_to}
-use Rattle.vs_ring_port.specs.Contents.{Read, Return, Take}
-use Rattle.vs_ring_port.specs.declared.device_ring.{Chain.Chain, Next.Next}
-use Rattle.vs_ring_port.specs.declared.device_ring.Next.TheVariants as next
-use Rattle.vs_ring_port.specs.declared.failure.Failure.{Failure}
-use Rattle.vs_ring_port.specs.declared.failure.Failure.TheVariants as failure
-use Rattle.vs_ring_port.specs.declared.queue.Queue.TheVariants.{Tx}
+use Rattle.vs_ring_port.specs.{Contents.Read, Contents.Return, Contents.Take, declared.device_ring.Chain.Chain}
+use Rattle.vs_ring_port.specs.{declared.device_ring.Next.Next, declared.failure.Failure.Failure, declared.queue.Queue.TheVariants.Tx}
 use Rattle.vs_uds.specs.Path.{path_of}
 use Rattle.vs_wrap.specs.Wrap.{counted}
-use Rattle.vs_device_parts.specs.Calls.{CloseStream, Dial, DeviceTree, Ring}
+use Rattle.vs_device_parts.specs.{Calls.CloseStream, Calls.Dial, Calls.DeviceTree, Calls.Ring, State.DeviceEntry, State.DeviceState}
+use Rattle.vs_device_parts.specs.{Streams.closing, Streams.leaving, declared.answers.Taken.Taken, declared.limits.TheConstants.REPLIES}
 use Rattle.vs_device_parts.specs.Connections.{after_leaving, stream_closed, with_connection, with_reply}
-use Rattle.vs_device_parts.specs.{State.DeviceEntry, State.DeviceState, Streams.closing, Streams.leaving}
 use Rattle.vs_device_parts.specs.Transmitting.{dial_answered, failing, heard, on_header, on_known, on_next, on_packet, on_unknown, refused}
 use Rattle.vs_device_parts.specs.Transmitting.{take_tx_of, try_request, unknown_why}
-use Rattle.vs_device_parts.specs.declared.answers.Taken.{Taken}
-use Rattle.vs_device_parts.specs.declared.answers.Taken.TheVariants as taken
-use Rattle.vs_device_parts.specs.declared.limits.TheConstants.{REPLIES}
 use Rattle.vs_proxy_bytes.specs.Judged.{AreUnmoved, IsAnswered, IsJudged, OwesReset, delivered_in}
 use Rattle.vs_proxy_bytes.specs.Made.{Account, Made, MayGet, account_of, header_in, new_account, shut}
 use Rattle.vs_proxy_bytes.proofs.Keeping.{Keeps, keeps_then, made}
+use Rattle.vs_conn.specs.declared.end.Owed.TheVariants as owed
+use Rattle.vs_conn.specs.declared.end.Verdict.TheVariants as verdict
+use Rattle.vs_conn.specs.declared.end.Why.TheVariants as why
+use Rattle.vs_outside.specs.declared.host_net.Dialed.TheVariants as dialed
+use Rattle.vs_ring_port.specs.declared.device_ring.Next.TheVariants as next
+use Rattle.vs_ring_port.specs.declared.failure.Failure.TheVariants as failure
+use Rattle.vs_device_parts.specs.declared.answers.Taken.TheVariants as taken
 
 -- An end that refuses a packet owes RST.
 refusing : (e : DeviceEntry) (h : Header) (w : Why) → verdict_of e.value.end h ≡ verdict.Rst w → owes_of (heard h e.value).end
@@ -140,7 +134,7 @@ module _ (h : Header) (s : DeviceState) (calls : List Made) (kept : is_dropped D
     not_known v still d at = let both : None ≡ Some d = sym none ∙ at in absurd cc
 
     reply_answer : (w : Why) (t : DeviceState) (later : List Made) → header_in later ≡ Some h → t.table ≡ s.table → t.replies
-        ≡ s.replies ++ reply_to h ∷ []
+        ≡ s.replies ++ reply_to (flow_to_host h) h ∷ []
         → ((id : ℕ) → account_of later id ≡ account_of calls id) → IsAnswered h (verdict.Rst w) s t calls later
     reply_answer w t later got table replies same = record {
       header = got;
@@ -184,10 +178,10 @@ module _ (h : Header) (s : DeviceState) (calls : List Made) (kept : is_dropped D
         by false true = λ answer fit. dial_answer_is (path_of s.base h.dst_port) answer fit
 
     unknown_answers : Keeps Unknown (on_unknown h s) calls
-    unknown_answers = by (is_reset h) (is_stream h && (h.op == op_number Request))
+    unknown_answers = by (is_reset h) (is_of Stream h && (h.op == op_number Request))
       where
         by : (b d : Bool) → Keeps Unknown (cond b (Done (s, verdict.Ignore))
-            (cond d (try_request h s) (Done (with_reply (reply_to h) s, verdict.Rst (unknown_why h))))) calls
+            (cond d (try_request h s) (Done (with_reply (reply_to (flow_to_host h) h) s, verdict.Rst (unknown_why h))))) calls
         by true d = record {
           header = header;
           dropped = λ on. absurd (no_bool (is_dropped Device s.cid h) on kept);

@@ -1,34 +1,32 @@
 -- A client's connection, and a transport reset.
 use Rattle.std.proofs.Common.{◌≡◌, ◌≢◌, ℕ, ◌≤◌, ◌==◌, Bool, true, false, cond, List, [], ◌∷◌, Option, Some, None, Result, Ok, Err, refl}
 use Rattle.std.proofs.Common.{sym, ap, subst, ◌∙◌, arith}
-use Rattle.std.specs.{List.All, List.AllPairs, Option.option_map}
 use Rattle.std.proofs.lemmas.List.Elements.{All-push}
+use Rattle.std.specs.{List.All, List.AllPairs, Option.option_map}
 use Rattle.vs_conn.specs.End.{asked}
 use Rattle.vs_contents.specs.CallTree.{Done, Ask, bind, for_each}
+use Rattle.vs_flow.specs.{declared.flow.Flow.Flow, declared.flow.TheConstants.ASSIGNED_LAST, declared.table.TableFault.TableFault}
 use Rattle.vs_flow.specs.Table.{IsTable, Table, emptied, entry_under, next_entry, refusal, slots}
-use Rattle.vs_flow.specs.declared.flow.{Flow.Flow, TheConstants.ASSIGNED_LAST}
-use Rattle.vs_flow.specs.declared.table.TableFault.{TableFault}
 use Rattle.vs_flow.proofs.Tables.{accepted, with_value_sound}
 use Rattle.vs_history.specs.declared.TheConstants.{BUF_ALLOC}
-use Rattle.vs_ring_port.specs.Contents.{PublishCid}
-use Rattle.vs_ring_port.specs.declared.failure.Failure.{Failure}
-use Rattle.vs_device_parts.specs.Calls.{CloseStream, DeviceTree, Label, Ring}
-use Rattle.vs_device_parts.specs.Connections.{new_connection, stream_closed, with_client, with_connection}
+use Rattle.vs_ring_port.specs.{Contents.PublishCid, declared.failure.Failure.Failure}
 use Rattle.vs_device_parts.specs.{State.DeviceConnection, State.DeviceEntry, State.DeviceState, Streams.closing}
+use Rattle.vs_device_parts.specs.Connections.{new_connection, stream_closed, with_client, with_connection}
+use Rattle.vs_device_parts.specs.Calls.{CloseStream, DeviceTree, Label, Ring}
 use Rattle.vs_device_parts.specs.Turns.{after_reset, close_slot, open_of, reset_of}
 use Rattle.vs_proxy_parts.specs.State.{Handshake}
 use Rattle.vs_proxy_bytes.specs.Made.{Account, Made, account_of, labelled, payload_put, payload_taken, shut}
 use Rattle.vs_proxy_bytes.specs.Tied.{Agree, IsLawful, IsOver, IsTied, IsTiedTo, IsWhole, reading_account}
-use Rattle.vs_uds.specs.Reading.{is_decided}
-use Rattle.vs_uds.specs.declared.connect.TheConstants.{CONNECT_MAX}
+use Rattle.vs_uds.specs.{Reading.is_decided, declared.connect.TheConstants.CONNECT_MAX}
 use Rattle.vs_proxy_bytes.proofs.{Accounts.Changes, Accounts.changes, Accounts.changing, Accounts.stays, Closing.Has}
 use Rattle.vs_proxy_bytes.proofs.Entries.{added, given_shut, hands_changed, one_account}
 use Rattle.vs_proxy_bytes.proofs.Keeping.{Keeps, keeps_each, keeps_then, keeps_weaker, made}
 use Rattle.vs_device_laws.proofs.Opening.{empty_sound}
+use Rattle.vs_header.specs.declared.Kind.TheVariants.{Stream}
 
 -- The connection of a client's stream.
 client_tie : (t : Table DeviceConnection) (flow : Flow) (stream : ℕ) (line : List ℕ) → IsWhole line
-    → IsTiedTo (labelled flow (reading_account line)) (next_entry t flow (new_connection (asked BUF_ALLOC) stream true))
+    → IsTiedTo (labelled flow (reading_account line)) (next_entry t flow (new_connection (asked Stream BUF_ALLOC) stream true))
 client_tie t flow stream line whole = record {
   label = refl;
   client = refl;
@@ -72,7 +70,7 @@ keeps_open hands after flow stream line s calls last whole waits undecided waiti
     opens : refusal s.table flow ≡ None → (answer : Unit {0}) → Has after (with_client flow stream s)
         (made (Label stream flow) answer ∷ calls)
     opens none answer =
-        let c : DeviceConnection = new_connection (asked BUF_ALLOC) stream true in
+        let c : DeviceConnection = new_connection (asked Stream BUF_ALLOC) stream true in
         let now : ℕ → Option Account = account_of (made (Label stream flow) answer ∷ calls) in
         let ch : Changes (account_of calls) now stream (labelled flow (reading_account line)) =
         changes (labelled flow) stream (account_of calls) (reading_account line) waits in record {

@@ -3,37 +3,30 @@ use Rattle.std.proofs.Common.{◌≡◌, ℕ, ◌+◌, ◌-◌, ◌≤◌, ◌==
 use Rattle.std.proofs.Common.{nat_le, Option, Some, None, Result, Ok, Err, refl, sym, ap, subst, ◌∙◌, arith}
 use Rattle.vs_contents.specs.CallTree.{Done, Ask, bind, for_each, while_up_to, Leads}
 use Rattle.vs_contents.proofs.Leads.{leads_split}
-use Rattle.vs_conn.specs.End.{is_reset, is_stream, verdict_of}
-use Rattle.vs_conn.specs.declared.end.Verdict.{Verdict}
-use Rattle.vs_conn.specs.declared.end.Verdict.TheVariants as verdict
-use Rattle.vs_conn.specs.declared.end.Why.TheVariants as why
+use Rattle.vs_conn.specs.{End.is_reset, End.is_of, End.verdict_of, declared.end.Verdict.Verdict}
 use Rattle.vs_flow.specs.{Flow.is_assigned, Table.entry_of, Table.has_place}
-use Rattle.vs_header.specs.{Op.op_number, Packet.header_of}
-use Rattle.vs_header.specs.declared.{Header.Header, TheConstants.HEADER_LEN}
-use Rattle.vs_header.specs.declared.Op.TheVariants.{Request}
+use Rattle.vs_header.specs.{Op.op_number, Packet.header_of, declared.Header.Header, declared.TheConstants.HEADER_LEN}
+use Rattle.vs_header.specs.{declared.Op.TheVariants.Request, declared.Kind.TheVariants.Stream}
 use Rattle.vs_page.specs.{Log.Device, Log.flow_to_host, Open.is_dropped}
-use Rattle.vs_ring_port.specs.Contents.{Take}
-use Rattle.vs_ring_port.specs.declared.device_ring.{Chain.Chain, Next.Next}
-use Rattle.vs_ring_port.specs.declared.device_ring.Next.TheVariants as next
-use Rattle.vs_ring_port.specs.declared.failure.Failure.{Failure}
-use Rattle.vs_ring_port.specs.declared.queue.Queue.TheVariants.{Tx}
+use Rattle.vs_ring_port.specs.{Contents.Take, declared.device_ring.Chain.Chain, declared.device_ring.Next.Next}
+use Rattle.vs_ring_port.specs.{declared.failure.Failure.Failure, declared.queue.Queue.TheVariants.Tx}
 use Rattle.vs_device_parts.specs.{Calls.Answer, Calls.DeviceTree, Calls.Ring, State.DeviceEntry, State.DeviceState}
-use Rattle.vs_device_parts.specs.{Receiving.fill_rx_of, Receiving.pay_event_of, Streams.pump_of, Streams.tick_of}
+use Rattle.vs_device_parts.specs.{Receiving.fill_rx_of, Receiving.pay_event_of, Streams.pump_of, Streams.tick_of, Turns.reset_of}
+use Rattle.vs_device_parts.specs.{declared.answers.Taken.Taken, declared.limits.TheConstants.REPLIES}
 use Rattle.vs_device_parts.specs.Transmitting.{heard, on_header, on_known, on_next, on_packet, on_unknown, take_tx_of, try_request}
-use Rattle.vs_device_parts.specs.Turns.{reset_of}
-use Rattle.vs_device_parts.specs.declared.answers.Taken.{Taken}
-use Rattle.vs_device_parts.specs.declared.answers.Taken.TheVariants as taken
-use Rattle.vs_device_parts.specs.declared.limits.TheConstants.{REPLIES}
-use Rattle.vs_proxy_parts.specs.Handshakes.{shake_hands, streams_of, tick_handshakes}
-use Rattle.vs_proxy_parts.specs.State.{ProxyState, Turning, start}
+use Rattle.vs_proxy_parts.specs.{State.ProxyState, State.Turning, State.start, declared.answers.Turn.Turn}
 use Rattle.vs_proxy_parts.specs.Turns.{close_handshake, device_after, event_stage, fill_stage, proxy_reset_of, pump_stage, reset_with}
 use Rattle.vs_proxy_parts.specs.Turns.{take_one, take_stage, tick_stage, took_packet, turn_of, turned, unless_failed}
-use Rattle.vs_proxy_parts.specs.declared.answers.Turn.{Turn}
+use Rattle.vs_proxy_parts.specs.Handshakes.{shake_hands, streams_of, tick_handshakes}
 use Rattle.vs_proxy_bytes.specs.{Judged.IsJudged, Made.Made, Made.Makes}
 use Rattle.vs_proxy_bytes.specs.Packets.{AreJudged, AreJudgedBy, Judged, Moment, Others, Takes, headers_read, reads_header}
 use Rattle.vs_proxy_bytes.proofs.{Judging.take_tx_judged, Keeping.keeps_end}
 use Rattle.vs_proxy_bytes.proofs.Quiet.{IsQuiet, quiet_bind, quiet_counts, quiet_each, quiet_fill, quiet_if, quiet_leaving, quiet_pay_event}
 use Rattle.vs_proxy_bytes.proofs.Quiet.{quiet_pump, quiet_reset, quiet_shake_hands, quiet_tick, quiet_tick_handshakes}
+use Rattle.vs_conn.specs.declared.end.Verdict.TheVariants as verdict
+use Rattle.vs_conn.specs.declared.end.Why.TheVariants as why
+use Rattle.vs_ring_port.specs.declared.device_ring.Next.TheVariants as next
+use Rattle.vs_device_parts.specs.declared.answers.Taken.TheVariants as taken
 
 -- One header at most.
 abbrev IsOnce : {A : Type 0} → DeviceTree A → Type 0
@@ -76,7 +69,7 @@ quiet_try : (h : Header) (s : DeviceState) → IsQuiet (try_request h s)
 quiet_try h s = quiet_if (is_assigned h.dst_port) _ _ tt (quiet_if (has_place s.table) _ _ (refl, λ answer. tt) tt)
 
 quiet_unknown : (h : Header) (s : DeviceState) → IsQuiet (on_unknown h s)
-quiet_unknown h s = quiet_if (is_reset h) _ _ tt (quiet_if (is_stream h && (h.op == op_number Request)) _ _ (quiet_try h s) tt)
+quiet_unknown h s = quiet_if (is_reset h) _ _ tt (quiet_if (is_of Stream h && (h.op == op_number Request)) _ _ (quiet_try h s) tt)
 
 quiet_packet : (chain : Chain) (h : Header) (s : DeviceState) → IsQuiet (on_packet chain h s)
 quiet_packet chain h s = quiet_if (is_dropped Device s.cid h) _ _ tt (by (entry_of s.table (flow_to_host h)))

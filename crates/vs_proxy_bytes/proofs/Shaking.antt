@@ -1,25 +1,18 @@
 -- Handshakes: their clients' streams are given nothing before they have a connection.
+use Rattle.std.proofs.{lemmas.List.Elements.All-push, lemmas.List.Quantifiers.all_pairs_push, lemmas.Bool.Decides.nat_tests}
 use Rattle.std.proofs.Common.{◌≡◌, ◌≢◌, ℕ, ◌+◌, subst, get_or, ◌≤◌, ◌&&◌, nat_le, ◌==◌, Bool, true, false, cond, List, [], ◌∷◌, ◌++◌}
 use Rattle.std.proofs.Common.{length, nat_lt, Option, Some, None, refl, sym, ap, ◌∙◌, arith}
-use Rattle.std.specs.List.{All}
-use Rattle.std.proofs.lemmas.List.{Elements.All-push, Quantifiers.all_pairs_push}
-use Rattle.std.proofs.lemmas.Bool.Decides.{nat_tests}
-use Rattle.vs_contents.specs.CallTree.{Done, Ask, for_each}
-use Rattle.vs_flow.specs.Table.{has_place}
-use Rattle.vs_flow.specs.declared.flow.{Flow.Flow, TheConstants.ASSIGNED_LAST}
-use Rattle.vs_outside.specs.declared.host_net.Accepted.{Accepted}
-use Rattle.vs_outside.specs.declared.host_net.Accepted.TheVariants as accepted
-use Rattle.vs_outside.specs.declared.host_net.StreamRead.{StreamRead}
-use Rattle.vs_outside.specs.declared.host_net.StreamRead.TheVariants as read
 use Rattle.std.proofs.lemmas.List.{append-nil}
+use Rattle.std.specs.List.{All}
+use Rattle.vs_contents.specs.CallTree.{Done, Ask, for_each}
+use Rattle.vs_flow.specs.{Flow.host_flow, Table.has_place, declared.flow.Flow.Flow, declared.flow.TheConstants.ASSIGNED_LAST}
+use Rattle.vs_outside.specs.{declared.host_net.Accepted.Accepted, declared.host_net.StreamRead.StreamRead}
+use Rattle.vs_pipes.proofs.Hands.{ends_by, no_line, with_all, with_apart, without_after, without_all, without_none, without_pairs}
 use Rattle.vs_pipes.proofs.Lines.{line_ends, line_whole}
-use Rattle.vs_uds.specs.ConnectLine.{connect_port, connect_step}
-use Rattle.vs_uds.specs.declared.connect.TheConstants.{CONNECT_MAX}
-use Rattle.vs_uds.specs.declared.scan.Step.{Step}
-use Rattle.vs_uds.specs.declared.scan.Step.TheVariants as step
+use Rattle.vs_uds.specs.{ConnectLine.connect_port, ConnectLine.connect_step, declared.connect.TheConstants.CONNECT_MAX}
+use Rattle.vs_uds.specs.{declared.scan.Step.Step, Reading.is_decided, Reading.port_or_bad}
 use Rattle.vs_device_parts.specs.{Calls.Accept, Calls.CloseStream, Calls.DeviceTree, Calls.ReadStream, Connections.is_late, Turns.open_of}
 use Rattle.vs_flow.proofs.{Entries.All_at, Entries.found_passes, Lookups.find_place}
-use Rattle.vs_pipes.proofs.Hands.{ends_by, no_line, with_all, with_apart, without_after, without_all, without_none, without_pairs}
 use Rattle.vs_proxy_parts.specs.Handshakes.{accept_answered, accept_one, byte_read, dropping, handshake_on, host_fault, line_decided}
 use Rattle.vs_proxy_parts.specs.Handshakes.{may_open, opening, read_byte, read_line, shake_hands, streams_of, tick_handshake}
 use Rattle.vs_proxy_parts.specs.Handshakes.{tick_handshakes, with_line, without_handshake, without_stream}
@@ -27,11 +20,13 @@ use Rattle.vs_proxy_parts.specs.State.{Handshake, ProxyState, Turning, with_devi
 use Rattle.vs_proxy_parts.specs.declared.limits.TheConstants.{HANDSHAKES}
 use Rattle.vs_proxy_bytes.specs.Made.{Account, Made, MayGet, account_of, is_of, new_account, payload_put, payload_taken, shut, with_taken}
 use Rattle.vs_proxy_bytes.specs.Tied.{AccountsFor, AgreesWith, IsWhole, reading_account}
-use Rattle.vs_uds.specs.Reading.{is_decided, port_or_bad}
 use Rattle.vs_proxy_bytes.proofs.{Accounts.Changes, Accounts.changes, Accounts.comes, Closing.Has}
 use Rattle.vs_proxy_bytes.proofs.Entries.{hands_changed, taken_tied, waiting_kept}
 use Rattle.vs_proxy_bytes.proofs.Keeping.{Keeps, keeps_each, keeps_then, keeps_while, made}
 use Rattle.vs_proxy_bytes.proofs.Opening.{keeps_open, waits_unlabelled}
+use Rattle.vs_outside.specs.declared.host_net.Accepted.TheVariants as accepted
+use Rattle.vs_outside.specs.declared.host_net.StreamRead.TheVariants as read
+use Rattle.vs_uds.specs.declared.scan.Step.TheVariants as step
 
 abbrev pub Turns : Turning → List Made → Type 0
 Turns t calls = AccountsFor t.state calls
@@ -125,7 +120,7 @@ module _ (stream : ℕ) (rest : List Handshake) (t : Turning) (calls : List Made
   -- Its client gets a connection.
   keeps_opening : (port : ℕ) → t.state.next_port ≤ ASSIGNED_LAST → IsWhole line → Keeps Turns (opening stream port t) calls
   keeps_opening port last whole =
-      let flow : Flow = record { guest = port; host = t.state.next_port } in
+      let flow : Flow = host_flow port t.state.next_port in
       keeps_then Turns (λ r later. Has rest r.0 later) (open_of flow stream t.state.device)
       (λ r. Done (record t {
         state = record (with_device r.0 (without_handshake stream t.state)) { next_port = t.state.next_port + 1 };

@@ -1,55 +1,51 @@
 -- Packets of the guest: payload goes to the stream of its own flow.
 use Rattle.std.proofs.Common.{◌≡◌, ℕ, ◌-◌, ◌==◌, ◌&&◌, Bool, true, false, cond, List, [], ◌∷◌, ◌++◌, length, nat_le, nat_lt, Contains}
 use Rattle.std.proofs.Common.{Option, Some, None, refl, sym, ap, subst, ◌∙◌}
-use Rattle.std.specs.Option.{option_map}
 use Rattle.std.proofs.lemmas.List.Elements.{All-push}
-use Rattle.vs_conn.specs.End.{answering, is_reset, is_stream, verdict_of}
-use Rattle.vs_conn.specs.declared.end.{State.State, Verdict.Verdict}
+use Rattle.std.specs.Option.{option_map}
+use Rattle.vs_conn.specs.{End.answering, End.is_reset, End.is_of, End.verdict_of, declared.end.State.State, declared.end.Verdict.Verdict}
 use Rattle.vs_conn.specs.declared.end.State.TheVariants.{Ended}
-use Rattle.vs_conn.specs.declared.end.Verdict.TheVariants as verdict
-use Rattle.vs_conn.specs.declared.end.Why.TheVariants as why
 use Rattle.vs_contents.specs.CallTree.{Done, Ask, bind}
 use Rattle.vs_flow.specs.{Flow.is_assigned, Table.Table, Table.entry_of, Table.has_place, Table.next_entry, Table.with_value}
 use Rattle.vs_flow.specs.declared.flow.Flow.{Flow}
 use Rattle.vs_flow.proofs.{Entries.same_flow_true, Lookups.entry_of_found, Tables.accepted}
-use Rattle.vs_header.specs.{Op.op_number, Packet.header_of}
-use Rattle.vs_header.specs.declared.{Header.Header, TheConstants.HEADER_LEN}
-use Rattle.vs_header.specs.declared.Op.TheVariants.{Request}
+use Rattle.vs_header.specs.{Op.op_number, Packet.header_of, declared.Header.Header, declared.TheConstants.HEADER_LEN}
+use Rattle.vs_header.specs.{declared.Op.TheVariants.Request, declared.Kind.TheVariants.Stream}
 use Rattle.vs_history.specs.declared.TheConstants.{BUF_ALLOC}
 use Rattle.vs_outside.specs.declared.host_net.Dialed.{Dialed}
-use Rattle.vs_outside.specs.declared.host_net.Dialed.TheVariants as dialed
 use Rattle.vs_page.specs.{Log.Device, Log.flow_to_host, Open.is_dropped}
 use Rattle.vs_pipes.specs.Streamed.{gives_in}
 use Rattle.vs_pipes.proofs.Gives.{delivers_gives, hears_asked, hears_gives}
 use Rattle.vs_replies.specs.Owed.{reply_to}
-use Rattle.vs_ring_port.specs.Contents.{Read, Return, Take}
-use Rattle.vs_ring_port.specs.declared.device_ring.{Chain.Chain, Next.Next}
-use Rattle.vs_ring_port.specs.declared.device_ring.Next.TheVariants as next
-use Rattle.vs_ring_port.specs.declared.failure.Failure.{Failure}
-use Rattle.vs_ring_port.specs.declared.failure.Failure.TheVariants as failure
-use Rattle.vs_ring_port.specs.declared.queue.Queue.TheVariants.{Tx}
+use Rattle.vs_ring_port.specs.{Contents.Read, Contents.Return, Contents.Take, declared.device_ring.Chain.Chain}
+use Rattle.vs_ring_port.specs.{declared.device_ring.Next.Next, declared.failure.Failure.Failure, declared.queue.Queue.TheVariants.Tx}
 use Rattle.vs_uds.specs.Path.{path_of}
 use Rattle.vs_wrap.specs.Wrap.{counted}
-use Rattle.vs_device_parts.specs.declared.answers.Taken.{Taken}
-use Rattle.vs_device_parts.specs.declared.answers.Taken.TheVariants as taken
-use Rattle.vs_device_parts.specs.declared.limits.TheConstants.{REPLIES}
-use Rattle.vs_device_parts.specs.Calls.{Dial, DeviceTree, Ring}
-use Rattle.vs_device_parts.specs.Connections.{new_connection, with_connection, with_reply}
+use Rattle.vs_device_parts.specs.{declared.answers.Taken.Taken, declared.limits.TheConstants.REPLIES}
 use Rattle.vs_device_parts.specs.{State.DeviceConnection, State.DeviceEntry, State.DeviceState, Streams.leaving}
 use Rattle.vs_device_parts.specs.Transmitting.{dial_answered, failing, heard, on_header, on_known, on_next, on_packet, on_unknown, refused}
 use Rattle.vs_device_parts.specs.Transmitting.{take_tx_of, try_request, unknown_why}
+use Rattle.vs_device_parts.specs.Calls.{Dial, DeviceTree, Ring}
+use Rattle.vs_device_parts.specs.Connections.{new_connection, with_connection, with_reply}
 use Rattle.vs_device_laws.proofs.Ends.{heard_over}
 use Rattle.vs_proxy_parts.specs.State.{Handshake}
 use Rattle.vs_proxy_bytes.specs.Made.{Account, Made, MayGet, account_of, delivering, header_in, new_account, payload_put, payload_taken}
-use Rattle.vs_proxy_bytes.specs.{Made.with_delivery, Tied.Agree, Tied.IsOver, Tied.IsTied, Tied.IsTiedTo, Tied.ok_line_of, Tied.stream_of}
+use Rattle.vs_proxy_bytes.specs.Made.{with_delivery}
+use Rattle.vs_proxy_bytes.specs.Tied.{Agree, IsOver, IsTied, IsTiedTo, ok_line_of, stream_of}
+use Rattle.vs_proxy_bytes.proofs.{Entries.added, Entries.waiting_kept, Keeping.Keeps, Keeping.keeps_then, Keeping.made}
 use Rattle.vs_proxy_bytes.proofs.Accounts.{Changes, comes, is_delivered, not_delivered, self_is}
 use Rattle.vs_proxy_bytes.proofs.Closing.{Has, agree_moved, agree_same, join, keeps_leaving, over_there, there_of}
-use Rattle.vs_proxy_bytes.proofs.{Entries.added, Entries.waiting_kept, Keeping.Keeps, Keeping.keeps_then, Keeping.made}
 use Rattle.vs_proxy_bytes.proofs.Ties.{answers, delivers, end_changes}
+use Rattle.vs_conn.specs.declared.end.Verdict.TheVariants as verdict
+use Rattle.vs_conn.specs.declared.end.Why.TheVariants as why
+use Rattle.vs_outside.specs.declared.host_net.Dialed.TheVariants as dialed
+use Rattle.vs_ring_port.specs.declared.device_ring.Next.TheVariants as next
+use Rattle.vs_ring_port.specs.declared.failure.Failure.TheVariants as failure
+use Rattle.vs_device_parts.specs.declared.answers.Taken.TheVariants as taken
 
 -- The connection of a stream that was dialed.
 dialed_tie : (t : Table DeviceConnection) (flow : Flow) (h : Header) (stream : ℕ)
-    → IsTiedTo (new_account (Some flow) false) (next_entry t flow (new_connection (answering BUF_ALLOC h) stream false))
+    → IsTiedTo (new_account (Some flow) false) (next_entry t flow (new_connection (answering Stream BUF_ALLOC h) stream false))
 dialed_tie t flow h stream = record {
   label = refl;
   client = refl;
@@ -81,7 +77,7 @@ module _ (hands : List Handshake) where
       → HasFirst (dial_answered h answer s) (made (Dial path (flow_to_host h)) answer ∷ calls)
   keeps_dialed h (dialed.Stream id) s calls path place none x fit =
       let flow : Flow = flow_to_host h in
-      let c : DeviceConnection = new_connection (answering BUF_ALLOC h) id false in
+      let c : DeviceConnection = new_connection (answering Stream BUF_ALLOC h) id false in
       let now : ℕ → Option Account = account_of (made (Dial path flow) (dialed.Stream id) ∷ calls) in
       let ch : Changes (account_of calls) now id (new_account (Some flow) false) = comes (new_account (Some flow) false) id
       (account_of calls) in record {
@@ -109,10 +105,10 @@ module _ (hands : List Handshake) where
 
   keeps_on_unknown : (h : Header) (s : DeviceState) (calls : List Made) → entry_of s.table (flow_to_host h) ≡ None → Has hands s calls
       → Keeps HasFirst (on_unknown h s) calls
-  keeps_on_unknown h s calls none x = by (is_reset h) (is_stream h && (h.op == op_number Request))
+  keeps_on_unknown h s calls none x = by (is_reset h) (is_of Stream h && (h.op == op_number Request))
     where
       by : (b d : Bool) → Keeps HasFirst (cond b (Done (s, verdict.Ignore))
-          (cond d (try_request h s) (Done (with_reply (reply_to h) s, verdict.Rst (unknown_why h))))) calls
+          (cond d (try_request h s) (Done (with_reply (reply_to (flow_to_host h) h) s, verdict.Rst (unknown_why h))))) calls
       by true d = x
       by false true = keeps_try_request h s calls none x
       by false false = x

@@ -4,7 +4,7 @@ use Rattle.std.proofs.Common.{take, drop, Contains, Option, Some, None, refl, sy
 use Rattle.std.proofs.lemmas.Bool.Decides.{nat_tests}
 use Rattle.std.proofs.lemmas.{Grind.common_steps, List.length-take}
 use Rattle.vs_contents.specs.CallTree.{Done, Ask, bind, played}
-use Rattle.vs_conn.specs.End.{end_after, is_reset, is_stream, verdict_of}
+use Rattle.vs_conn.specs.End.{end_after, is_of, is_reset, verdict_of}
 use Rattle.vs_conn.specs.declared.end.Verdict.{Verdict}
 use Rattle.vs_conn.specs.declared.end.Verdict.TheVariants as verdict
 use Rattle.vs_conn.specs.declared.end.Why.{Why}
@@ -43,7 +43,7 @@ use Rattle.vs_world.proofs.DeviceSide.{DeviceHolds, IsFresh, Kept, end_in, entry
 use Rattle.vs_world.proofs.DeviceTakes as takes
 use Rattle.vs_world.proofs.{DeviceTakes.heard_fresh, Wire.PutsFit}
 use Rattle.vs_world.proofs.Streams.{StreamedIf, accepts_streams, called_host, delivered_rw, delivers_streams, dialed_id, empty_streams}
-use Rattle.vs_world.proofs.Streams.{failed_host, first_request, got_nothing, hears_streams, leaves_streams, passes_streams, request_empty}
+use Rattle.vs_world.proofs.Streams.{failed_host, got_nothing, hears_streams, leaves_streams, passes_streams, request_empty}
 use Rattle.vs_world.proofs.Streams.{reset_empty, unknown_streams}
 use Rattle.vs_device_log.specs.Honest.{HoldsBytes}
 use Rattle.vs_device_log.proofs.{Fits.delivered, Fits.fits_after, Hearing.peer_resets, Hearing.rst_leaves}
@@ -59,6 +59,10 @@ use Rattle.vs_uds.specs.OkLine.{ok_text}
 use Rattle.vs_pipes.specs.{Drains.has_passed, Streamed.gives, Streamed.look}
 use Rattle.vs_pipes.proofs.{HostCalls.closed_host, Logs.got_passes, Logs.none_passed, Logs.passed_after_got, Logs.put_after_got}
 use Rattle.vs_pipes.proofs.{Opens.dial_host, Streamed.join_of}
+use Rattle.vs_header.specs.declared.Kind.TheVariants.{Stream}
+use Rattle.vs_page.specs.Log.{whole_of}
+use Rattle.vs_world.proofs.Firsts.{once_history}
+use Rattle.vs_world.proofs.Once.{AreOnce, asked_once, number_once}
 
 abbrev with_verdict : Verdict → DeviceTree DeviceState → DeviceTree DeviceState
 with_verdict v tree = bind {A = DeviceState × Verdict} (bind tree (λ t. Done (t, v))) (λ r. Done r.0)
@@ -81,7 +85,7 @@ module _ (driver : Seat) (first port : ℕ) (s : DeviceState) (log : Log) (sound
       (x : StreamedIf fresh a.host log port s.table lines)
       (payload_is : is_rw p ≡ true → take p.header.len (drop 44 (bytes_in chain a.log.held)) ≡ p.payload)
       (idle : is_dropped Device s.cid p.header ≡ true → All (λ e. e.flow ≡ flow_got Device p → gives e.value.end ≡ true → p.payload ≡ []) s.table.entries)
-    where
+      (once : AreOnce (seated driver port s log)) where
       abbrev h : Header
       h = p.header
 
@@ -102,6 +106,10 @@ module _ (driver : Seat) (first port : ℕ) (s : DeviceState) (log : Log) (sound
       fair : IsFairLog Device (GotPacket p ∷ log)
       fair = next_is_fair Device first p (seated driver port s log) sound next
 
+      -- All that passed on a flow is its one connection.
+      first_use : (f : Flow) → history_of Device f log ≡ whole_of Device f log
+      first_use f = once_history Device f log (sound.fair Device f) (number_once Device first (seated driver port s log) sound once f)
+
       module _ (kept : is_dropped Device s.cid p.header ≡ false) where
         module _ (e : DeviceEntry) (there : Contains s.table.entries e) (flow : flow_to_host p.header ≡ e.flow) where
           still_fresh : (c : DeviceConnection) → c.end ≡ end_after e.value.end h → c.ok_line ≡ e.value.ok_line → c.asked_at ≡ e.value.asked_at
@@ -117,7 +125,7 @@ module _ (driver : Seat) (first port : ℕ) (s : DeviceState) (log : Log) (sound
           none_new = let fits = after (verdict_of e.value.end h) refl in
               record { alloc = fits.alloc; fwd = fits.fwd; rx = fits.rx; unread = omega (arith, fits.unread); within = fits.within }
 
-          goes_on : (v : Verdict) → verdict_of e.value.end h ≡ v → peer_resets v h ≡ false → (is_reset h && is_stream h) ≡ false
+          goes_on : (v : Verdict) → verdict_of e.value.end h ≡ v → peer_resets v h ≡ false → (is_reset h && is_of e.value.end.kind h) ≡ false
           goes_on v is other = sym (rst_leaves e.value.end h) ∙ ap (λ (w : Verdict). peer_resets w h) is ∙ other
 
           hears : (v : Verdict) → verdict_of e.value.end h ≡ v → peer_resets v h ≡ false → Kept driver port s log port (with_connection e.slot (heard h e.value) s) (GotPacket p ∷ log)
@@ -159,12 +167,12 @@ module _ (driver : Seat) (first port : ℕ) (s : DeviceState) (log : Log) (sound
               gone : Kept driver port s log port (after_leaving e.slot (with_connection e.slot (stream_closed (heard h e.value)) s)) (GotPacket p ∷ log)
               gone = record { runs = leaves.runs; holds = leaves.holds; puts = leaves.puts; overrun = leaves.overrun }
 
-              over_reset : (is_reset h && is_stream h) ≡ true
+              over_reset : (is_reset h && is_of e.value.end.kind h) ≡ true
               over_reset = sym (rst_leaves e.value.end h) ∙ ap (λ (w : Verdict). peer_resets w h) is ∙ reset
 
               left_on : StreamedIf fresh a.host (GotPacket p ∷ log) port (without (with_value s.table e.slot (stream_closed (heard h e.value))) e.slot) lines
               left_on = λ ok. leaves_streams a.host (GotPacket p ∷ log) port s.table lines
-                  (empty_streams a.host log port s.table lines (x ok) holds.sound p whole (reset_empty p over_reset)) holds.sound e (stream_closed (heard h e.value)) there
+                  (empty_streams a.host log port s.table lines (x ok) holds.sound p whole (reset_empty e.value.end.kind p over_reset)) holds.sound e (stream_closed (heard h e.value)) there
 
               closed_by : (b : Bool) → KeptBy (with_verdict verdict.Peer (bind (cond b (Done (with_connection e.slot (stream_closed (heard h e.value)) s))
                   (Ask (CloseStream e.value.stream) (λ _. Done (with_connection e.slot (stream_closed (heard h e.value)) s))))
@@ -194,7 +202,7 @@ module _ (driver : Seat) (first port : ℕ) (s : DeviceState) (log : Log) (sound
 
           by_verdict : (v : Verdict) → verdict_of e.value.end h ≡ v → KeptBy (with_verdict v (on_known v chain h e s)) a
           by_verdict verdict.Accept is = over _ refl (accepts (cond e.value.by_client (ok_text e.flow.host) []) is)
-              (λ ok. accepts_streams a.host log port s.table lines (x ok) holds.sound p whole e there flow fair
+              (λ ok. accepts_streams a.host log port s.table lines (x ok) holds.sound p whole e there flow fair (first_use e.flow)
               (join_of (look a.host) a.host.labelled log port s.table lines (x ok) e there).client (cond e.value.by_client (ok_text e.flow.host) []) refl is)
           by_verdict verdict.Deliver is =
               over _ refl (delivers_some (take h.len (drop 44 (bytes_in chain a.log.held))) (omega (arith, length-take h.len (drop 44 (bytes_in chain a.log.held)))) is)
@@ -210,56 +218,57 @@ module _ (driver : Seat) (first port : ℕ) (s : DeviceState) (log : Log) (sound
         -- A packet of another flow.
         module _ (none : entry_of s.table (flow_to_host p.header) ≡ None) where
           replies_to : (t : DeviceState) → t.chain ≡ s.chain → is_rst p ≡ false
-              → Kept driver port s log port (with_reply (reply_to h) s) (GotPacket p ∷ log)
+              → Kept driver port s log port (with_reply (reply_to (flow_to_host h) h) s) (GotPacket p ∷ log)
           replies_to t same other = takes.replies_to driver first port s log sound holds puts p next fits kept none other
 
           passes : StreamedIf fresh a.host (GotPacket p ∷ log) port s.table lines
           passes = λ ok. unknown_streams a.host log port s.table lines (x ok) holds.sound p whole none
 
           quiet : is_request p ≡ true → has_passed Device (flow_to_host h) log ≡ false
-          quiet request = none_passed Device (flow_to_host h) log (first_request (side_of Device (flow_to_host h)) (history_of Device (flow_to_host h) log) p request
-              (subst (λ (b : Bool). IsFair (side_of Device (flow_to_host h)) (cond b (Got p ∷ history_of Device (flow_to_host h) log) (history_of Device (flow_to_host h) log)))
-              (same_self (flow_to_host h)) (fair (flow_to_host h))))
+          quiet request = none_passed Device (flow_to_host h) log (asked_once Device first (seated driver port s log) sound once p next request)
 
-          dial_by : (path : List ℕ) (d : Dialed) → dial_answer path a.host ≡ d → is_assigned h.dst_port ≡ false → is_request p ≡ true → has_place s.table ≡ true
+          dial_by : (path : List ℕ) (d : Dialed) → dial_answer path a.host ≡ d → is_assigned h.dst_port ≡ false → is_request p ≡ true → h.kind ≡ 1 → has_place s.table ≡ true
               → is_rst p ≡ false → Over (dial_answered h d s).0 a.lists a.log (after_dial (flow_to_host h) d a.host)
-          dial_by path (dialed.Stream stream) is outside request place other =
+          dial_by path (dialed.Stream stream) is outside request kind place other =
               let id : stream ≡ length a.host.streams + 1 = dialed_id path stream a.host is in
               over_in (after_dial (flow_to_host h) (dialed.Stream stream) a.host) (with_dialed (flow_to_host h) h stream s) refl
-              (takes.opens driver first port s log sound holds puts p next fits kept none stream request place)
+              (takes.opens driver first port s log sound holds puts p next fits kept none stream request kind place)
               (subst (λ (n : ℕ). StreamedIf fresh (after_dial (flow_to_host h) (dialed.Stream n) a.host) (GotPacket p ∷ log) port
               (with_dialed (flow_to_host h) h n s).table lines) (sym id)
               (λ ok. dial_host a.host log (GotPacket p ∷ log) port s.table lines (x ok) (flow_to_host h) h outside (quiet request) (got_passes Device p log (flow_to_host h) refl)
               (λ g. sym (put_after_got Device p log g)) (got_nothing p log (whole.none (request_empty p request))) (passed_after_got Device p log)))
-          dial_by path dialed.Refused is outside request place other = over_in (called a.host) (with_reply (reply_to h) s) refl (replies_to s refl other)
+          dial_by path dialed.Refused is outside request kind place other = over_in (called a.host) (with_reply (reply_to (flow_to_host h) h) s) refl (replies_to s refl other)
               (λ ok. called_host a.host (GotPacket p ∷ log) port s.table lines (passes ok))
-          dial_by path dialed.Failed is outside request place other =
+          dial_by path dialed.Failed is outside request kind place other =
               let k = replies_to s refl other in
-              over_in (after_dial (flow_to_host h) dialed.Failed a.host) (with_reply (reply_to h) (with_fault s)) refl
+              over_in (after_dial (flow_to_host h) dialed.Failed a.host) (with_reply (reply_to (flow_to_host h) h) (with_fault s)) refl
               (record { runs = k.runs; holds = k.holds; puts = k.puts; overrun = k.overrun })
               (λ ok. failed_host a.host (GotPacket p ∷ log) port s.table lines (passes ok))
 
-          tried : (b c : Bool) → is_assigned h.dst_port ≡ b → has_place s.table ≡ c → is_request p ≡ true → is_rst p ≡ false
+          tried : (b c : Bool) → is_assigned h.dst_port ≡ b → has_place s.table ≡ c → is_request p ≡ true → h.kind ≡ 1 → is_rst p ≡ false
               → KeptBy (bind (cond b (Done (refused h s)) (cond c (Ask (Dial (path_of s.base h.dst_port) (flow_to_host h)) (λ answer. Done (dial_answered h answer s)))
               (Done (refused h s)))) (λ r. Done r.0)) a
-          tried true c outside place request other = over _ refl (replies_to s refl other) passes
-          tried false true outside place request other =
-              dial_by (path_of s.base h.dst_port) (dial_answer (path_of s.base h.dst_port) a.host) refl outside request place other
-          tried false false outside place request other = over _ refl (replies_to s refl other) passes
+          tried true c outside place request kind other = over _ refl (replies_to s refl other) passes
+          tried false true outside place request kind other =
+              dial_by (path_of s.base h.dst_port) (dial_answer (path_of s.base h.dst_port) a.host) refl outside request kind place other
+          tried false false outside place request kind other = over _ refl (replies_to s refl other) passes
 
-          asked_by : (is_stream h && (h.op == 1)) ≡ true → is_request p ≡ true
+          asked_by : (is_of Stream h && (h.op == 1)) ≡ true → is_request p ≡ true
           asked_by is = grind (arith, nat_tests, common_steps, is)
 
-          requested : (b : Bool) → (is_stream h && (h.op == 1)) ≡ b → is_rst p ≡ false
-              → KeptBy (bind (cond b (try_request h s) (Done (with_reply (reply_to h) s, verdict.Rst (unknown_why h)))) (λ r. Done r.0)) a
-          requested true is other = tried (is_assigned h.dst_port) (has_place s.table) refl refl (asked_by is) other
+          of_stream : (is_of Stream h && (h.op == 1)) ≡ true → h.kind ≡ 1
+          of_stream is = grind (arith, nat_tests, common_steps, is)
+
+          requested : (b : Bool) → (is_of Stream h && (h.op == 1)) ≡ b → is_rst p ≡ false
+              → KeptBy (bind (cond b (try_request h s) (Done (with_reply (reply_to (flow_to_host h) h) s, verdict.Rst (unknown_why h)))) (λ r. Done r.0)) a
+          requested true is other = tried (is_assigned h.dst_port) (has_place s.table) refl refl (asked_by is) (of_stream is) other
           requested false is other = over _ refl (replies_to s refl other) passes
 
           unknown : (b : Bool) → is_reset h ≡ b
-              → KeptBy (bind (cond b (Done (s, verdict.Ignore)) (cond (is_stream h && (h.op == 1)) (try_request h s)
-              (Done (with_reply (reply_to h) s, verdict.Rst (unknown_why h))))) (λ r. Done r.0)) a
+              → KeptBy (bind (cond b (Done (s, verdict.Ignore)) (cond (is_of Stream h && (h.op == 1)) (try_request h s)
+              (Done (with_reply (reply_to (flow_to_host h) h) s, verdict.Rst (unknown_why h))))) (λ r. Done r.0)) a
           unknown true is = over _ refl (takes.ignores driver first port s log sound holds puts p next fits kept none is) passes
-          unknown false is = requested (is_stream h && (h.op == 1)) refl is
+          unknown false is = requested (is_of Stream h && (h.op == 1)) refl is
 
         -- By the entry of its flow.
         by_entry : (o : Option DeviceEntry) → entry_of s.table (flow_to_host h) ≡ o → KeptBy (bind

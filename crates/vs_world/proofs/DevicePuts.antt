@@ -25,7 +25,7 @@ use Rattle.vs_device_parts.specs.Connections.{after_leaving, route_to_guest, str
 use Rattle.vs_device_parts.specs.Receiving.{Filling, after_paying, put_packet, put_reply_of, reply_header}
 use Rattle.vs_device_parts.specs.State.{DeviceConnection, DeviceEntry, DeviceState}
 use Rattle.vs_device_parts.specs.Steps.{filling, puts_owed, puts_reply}
-use Rattle.vs_world.specs.{Answers.Around, Pages.is_held, Sides.flow_to_guest}
+use Rattle.vs_world.specs.{Answers.Around, Pages.is_held}
 use Rattle.vs_world.proofs.Chains.{HoldsRx, both_written, bytes_written, first_written, held_written}
 use Rattle.vs_world.proofs.DeviceEvents.{KeptBy, Over}
 use Rattle.vs_world.proofs.DeviceSide as side
@@ -108,9 +108,9 @@ module _ (driver : Seat) (first port : ℕ) (s : DeviceState) (a : Around) (soun
           let has = subst (λ (o : Option Chain). HoldsRx o a.log.held) is rx in
           let k = side.replies driver first port s a.log.entries sound holds puts reply rest replies in
           let h = reply_header reply s in
-          put_over c has.0 (header_bytes h) _ (reply_on Device s.cid (flow_to_guest reply)) (holds_header h k.puts.0 refl) (header_written c h has.1)
+          put_over c has.0 (header_bytes h) _ (reply_on Device s.cid reply) (holds_header h k.puts.0 refl) (header_written c h has.1)
           (record s { chain = None; replies = rest }) refl (record { runs = k.runs; holds = k.holds; puts = k.puts; overrun = k.overrun })
-          a.host (λ ok. put_empty a.host a.log.entries port s.table lines (reply_on Device s.cid (flow_to_guest reply)) refl (x ok)) _ refl
+          a.host (λ ok. put_empty a.host a.log.entries port s.table lines (reply_on Device s.cid reply) refl (x ok)) _ refl
 
       by : (o : Option Chain) → s.chain ≡ o → KeptNow (puts_reply (record s { chain = o }))
       by None is = record { kept = record { runs = unmoved.kept.runs; holds = holds; puts = puts; overrun = refl }; chain = tt; known = known; streams = x }

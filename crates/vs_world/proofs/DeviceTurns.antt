@@ -36,6 +36,7 @@ use Rattle.vs_proxy_parts.specs.State.{Handshake}
 use Rattle.vs_pipes.specs.Streamed.{gives, look}
 use Rattle.vs_pipes.proofs.Streamed.{same_streamed}
 use Rattle.vs_device_log.proofs.{Transmitting.header_is, Ringing.same_self}
+use Rattle.vs_world.proofs.Once.{AreOnce}
 
 pub same_cid : (q : Queue) (page : List ℕ) (lists : Rings) → (after_return q page lists).cid ≡ lists.cid
 same_cid Rx page lists = refl
@@ -118,7 +119,8 @@ module _ (driver : Seat) (first port : ℕ) (s : DeviceState) (a : Around) (soun
   module _ (more : List Packet) (tx : packets_put driver.log ≡ (more ++ held_in packet_held a.lists.tx.given) ++ packets_got a.log.entries)
       (driver_puts : PutsFit driver.log) (hold : AllHold a.lists.tx.given)
       (idle : (p : Packet) → IsNextPacket a.log.entries driver.log p → is_dropped Device s.cid p.header ≡ true
-      → All (λ e. e.flow ≡ flow_got Device p → gives e.value.end ≡ true → p.payload ≡ []) s.table.entries) where
+      → All (λ e. e.flow ≡ flow_got Device p → gives e.value.end ≡ true → p.payload ≡ []) s.table.entries)
+      (once : AreOnce (seated driver port s a.log.entries)) where
     came : (given : List (List ℕ)) → a.lists.tx.given ≡ given → AllHold given
         → (let answer = next_at Tx a.lists.tx.place (oldest given) in
         let r = played answer_around (chain_came answer s) (record a {
@@ -146,7 +148,7 @@ module _ (driver : Seat) (first port : ℕ) (s : DeviceState) (a : Around) (soun
         let main = header_came_keeps driver first port s a.log.entries sound holds puts fresh lines p next (next_fits a.log.entries driver.log p next driver_puts)
         (packet_whole page p one.held).0 c b
         (ap (λ (o : Option Packet). with_packet (λ q. GotPacket q) o a.log.entries) one.held) (rx_more s.chain new a.log.held rx) known x
-        (λ carries. ap (λ (bytes : List ℕ). take p.header.len (drop 44 bytes)) held_page ∙ payload_in page p one.held carries) (idle p next) enough in
+        (λ carries. ap (λ (bytes : List ℕ). take p.header.len (drop 44 bytes)) held_page ∙ payload_in page p one.held carries) (idle p next) once enough in
         subst (λ (h : Header). KeptBy driver first port s a.log.entries sound holds puts fresh lines (header_came c h s) b)
         (header_is page p one.held ∙ ap (λ (x : Bool). header_of (take 44 (cond x page (bytes_in c a.log.held)))) (sym (same_self c))) main
       where

@@ -9,7 +9,7 @@ use Rattle.vs_conn.specs.{End.CanSend, End.may_send_of, End.owes_of, End.wanting
 use Rattle.vs_conn.specs.declared.end.{Owed.Owed, Stop.Stop}
 use Rattle.vs_flow.specs.Table.{entry_under}
 use Rattle.vs_header.specs.Packet.{header_bytes}
-use Rattle.vs_history.specs.declared.TheConstants.{BUF_ALLOC}
+use Rattle.vs_header.specs.declared.Kind.TheVariants.{Stream}
 use Rattle.vs_history.specs.declared.packet.Packet.{Packet}
 use Rattle.vs_page.specs.Held.{packet_held, event_held, held_in, listed}
 use Rattle.vs_page.specs.Log.{Log, Driver, IsNextPacket, IsNextEvent, packets_put, packets_got, events_put, events_got}
@@ -32,7 +32,7 @@ use Rattle.vs_driver_parts.specs.Conversations.{reaped, reply_header, request_by
 use Rattle.vs_driver_parts.specs.Steps.{connects, sends, sends_on, sends_with_credit, stages_owed, stages_reply, takes_page}
 use Rattle.vs_driver_parts.specs.declared.answers.{ConnectError.ConnectError, Sent.Sent}
 use Rattle.vs_driver_parts.specs.declared.limits.TheConstants.{REPLIES_FULL}
-use Rattle.vs_world.specs.{Pages.AllHold, Pages.TxHolds, Sides.driver_ends, Sides.flow_to_host, Sides.log_with_staged}
+use Rattle.vs_world.specs.{Pages.AllHold, Pages.TxHolds, Sides.driver_ends, Sides.log_with_staged}
 use Rattle.vs_header.specs.declared.Header.{Header}
 use Rattle.vs_world.proofs.DriverSide as side
 use Rattle.vs_world.proofs.DriverSide.{DriverHolds, Kept, KeptWith, seated}
@@ -46,6 +46,7 @@ use Rattle.vs_flow.specs.Flow.{same_flow}
 use Rattle.vs_flow.specs.declared.flow.Flow.{Flow}
 use Rattle.vs_conn.specs.declared.end.Stop.TheVariants as stopped
 use Rattle.vs_world.proofs.DriverTakes as takes
+use Rattle.vs_world.proofs.Once.{AreOnce}
 use Rattle.vs_world.proofs.DriverResets as resets
 use Rattle.vs_world.proofs.{Fits.holds_header, Fits.holds_payload, Runs.keeps_sound, Wire.PutsFit, Wire.next_fits, Wire.not_payload}
 use Rattle.vs_driver_parts.specs.declared.answers.ConnectError.TheVariants as connect_refused
@@ -133,7 +134,7 @@ module _ (device : Seat) (first : ℕ) (s : DriverState) (lists : Rings) (log : 
       paid reply rest is false = still
       paid reply rest is true =
           let kept = side.replies device first s now sound holds puts reply rest is in
-          stages (header_bytes (reply_header s.cid reply)) (reply_on Driver s.cid (flow_to_host reply)) (record s { replies = rest })
+          stages (header_bytes (reply_header s.cid reply)) (reply_on Driver s.cid reply) (record s { replies = rest })
           (holds_header (reply_header s.cid reply) kept.puts.0 refl) (header_long (reply_header s.cid reply) refl) kept
 
       by : (rs : List Reply) → s.replies ≡ rs → KeptBy (bind (put_reply_of rs (start s)) (λ r. Done r.0.state))
@@ -192,7 +193,7 @@ module _ (device : Seat) (first : ℕ) (s : DriverState) (lists : Rings) (log : 
   module _ (quiet : log.staged.tx ≡ []) (device_puts : PutsFit device.log)
       (rx : packets_put device.log ≡ held_in packet_held lists.rx.back ++ packets_got log.entries)
       (event : events_put device.log ≡ held_in event_held lists.event.back ++ events_got log.entries)
-      (known : lists.cid < 2 ^ 64) where
+      (known : lists.cid < 2 ^ 64) (once : AreOnce (seated device s now)) where
     moved : (entry : LogEntry) → entry ∷ now ≡ all_put log.staged.tx (entry ∷ log.entries)
     moved entry = subst (λ (pages : List (List ℕ)). entry ∷ all_put pages log.entries ≡ all_put pages (entry ∷ log.entries)) (sym quiet) refl
 
@@ -226,7 +227,7 @@ module _ (device : Seat) (first : ℕ) (s : DriverState) (lists : Rings) (log : 
     packet_taken page pages back (Some p) held =
         let next = next_packet page pages p back held in
         subst (λ (l : Log). Kept device s now (on_packet p s) l) (moved (GotPacket p))
-        (takes.takes device first s now sound holds puts p next (next_fits now device.log p next device_puts) (packet_whole page p held).0)
+        (takes.takes device first s now sound holds puts p next (next_fits now device.log p next device_puts) (packet_whole page p held).0 once)
 
     -- The rings after a page was taken of a queue, with what the log says then.
     abbrev rx_reaped : Log → Rings × EndLog
@@ -337,7 +338,7 @@ module _ (device : Seat) (first : ℕ) (s : DriverState) (lists : Rings) (log : 
       with_page none false = still
       with_page none true =
           let kept = takes.connects device first s now sound holds puts port none fits in
-          let p = request_on Driver s.cid (next_flow port s) BUF_ALLOC in (
+          let p = request_on Driver s.cid (next_flow port s) Stream in (
             recounted (connected port s) (s.in_flight + 1) s.staged (PutPacket p ∷ now) _
                 (log_put (request_bytes port s) p (holds_header p.header kept.puts.0 refl)) kept,
             (

@@ -4,25 +4,31 @@ use Rattle.std.specs.List.{All}
 use Rattle.std.proofs.lemmas.List.Elements.{All-filter, All-push, All-map}
 use Rattle.vs_conn.specs.End.{ConnectionEnd}
 use Rattle.vs_flow.specs.Table.{Table, revalued, with_value, without, with_entry, next_entry}
-use Rattle.vs_flow.specs.declared.flow.Flow.{Flow}
+use Rattle.vs_flow.specs.declared.flow.{Flow.Flow, TheConstants.HOST_CID}
 use Rattle.vs_flow.specs.declared.table.Entry.{Entry}
 use Rattle.vs_flow.proofs.Tables.{revalued-slot}
+use Rattle.vs_replies.specs.declared.Reply.{Reply}
 use Rattle.vs_device_log.specs.Honest.{HoldsBytes}
 
 pub record FlowFits (f : Flow) : Type 0 where
   pub guest : f.guest < 2 ^ 32
   pub host : f.host < 2 ^ 32
+  pub peer : f.peer < 2 ^ 64
+
+abbrev pub ReplyFits : Reply → Type 0
+ReplyFits r = FlowFits r.flow
 
 module _ {T : Type 0} (end_of : T → ConnectionEnd) (held_of : T → ℕ) where
   pub record EntryFits (x : Entry T) : Type 0 where
     pub flow : FlowFits x.flow
+    pub peer : x.flow.peer ≡ HOST_CID
     pub credit : HoldsBytes (end_of x.value).credit (held_of x.value)
 
   revalued_fits : (slot : ℕ) (v : T) (x : Entry T) → HoldsBytes (end_of v).credit (held_of v) → EntryFits x → EntryFits (revalued slot v x)
   revalued_fits slot v x new old = by (x.slot == slot)
     where
       by : (b : Bool) → EntryFits (cond b (record x { value = v }) x)
-      by true = record { flow = old.flow; credit = new }
+      by true = record { flow = old.flow; peer = old.peer; credit = new }
       by false = old
 
   pub fits_with_value : (t : Table T) (slot : ℕ) (v : T) → HoldsBytes (end_of v).credit (held_of v) → All EntryFits t.entries
@@ -33,9 +39,9 @@ module _ {T : Type 0} (end_of : T → ConnectionEnd) (held_of : T → ℕ) where
   pub fits_without : (t : Table T) (slot : ℕ) → All EntryFits t.entries → All EntryFits (without t slot).entries
   fits_without t slot old = All-filter (λ (e : Entry T). not (e.slot == slot)) EntryFits t.entries old
 
-  pub fits_with_entry : (t : Table T) (f : Flow) (v : T) → FlowFits f → HoldsBytes (end_of v).credit (held_of v) → All EntryFits t.entries
-      → All EntryFits (with_entry t f v).entries
-  fits_with_entry t f v flow new old = All-push EntryFits t.entries (next_entry t f v) old (record { flow = flow; credit = new })
+  pub fits_with_entry : (t : Table T) (f : Flow) (v : T) → FlowFits f → f.peer ≡ HOST_CID → HoldsBytes (end_of v).credit (held_of v)
+      → All EntryFits t.entries → All EntryFits (with_entry t f v).entries
+  fits_with_entry t f v flow peer new old = All-push EntryFits t.entries (next_entry t f v) old (record { flow = flow; peer = peer; credit = new })
 
   pub fits_at : (xs : List (Entry T)) (x : Entry T) → Contains xs x → All EntryFits xs → EntryFits x
   fits_at xs x (i, less, is) all = subst EntryFits is (all i x less)

@@ -108,7 +108,7 @@ module _ (driver : Seat) (first : ℕ) (w : ProxyState) (a : Around) (sound : Is
         kept = subst (λ (l : EndLog). Kept driver w.next_port w.device a.log.entries w.next_port (after_reset cid t) (Mark cid ∷ l.entries)) (sym closed.log) (record {
           overrun = closed.overrun;
           runs = one_step Device (MakesReset cid) (seated driver w.next_port w.device a.log.entries)
-              (seated driver w.next_port (after_reset cid t) (Mark cid ∷ a.log.entries)) refl refl;
+              (seated driver w.next_port (after_reset cid t) (Mark cid ∷ a.log.entries)) refl tt refl;
           holds = record {
             sound = record {
               within = omega arith;

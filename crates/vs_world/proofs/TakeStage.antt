@@ -2,7 +2,7 @@
 use Rattle.std.proofs.Common.{◌≡◌, ℕ, zero, suc, ◌+◌, ◌-◌, ◌==◌, ◌&&◌, nat_le, nat_lt, Bool, true, false, cond, List, [], ◌∷◌, length, take}
 use Rattle.std.proofs.Common.{Option, Some, None, refl, sym, ap, subst, ◌∙◌}
 use Rattle.vs_contents.specs.CallTree.{Done, Ask, bind, played, while_up_to}
-use Rattle.vs_conn.specs.End.{is_reset, is_stream, verdict_of}
+use Rattle.vs_conn.specs.End.{is_of, is_reset, verdict_of}
 use Rattle.vs_conn.specs.declared.end.Verdict.{Verdict}
 use Rattle.vs_conn.specs.declared.end.Verdict.TheVariants as verdict
 use Rattle.vs_conn.specs.declared.end.Why.TheVariants as why
@@ -42,6 +42,7 @@ use Rattle.vs_world.proofs.DeviceLeads.{Does, device_bind, device_event, does_no
 use Rattle.vs_world.proofs.GuestLines.{leads_none, leads_one, leads_then, possible_is}
 use Rattle.vs_world.proofs.TickStage.{TurnDoes, turning_at}
 use Rattle.vs_device_log.proofs.Ringing.{same_self}
+use Rattle.vs_header.specs.declared.Kind.TheVariants.{Stream}
 
 -- A conversation that moves no page: it reads what it holds, and calls the host.
 abbrev MovesNone : Call → Type 0
@@ -124,7 +125,7 @@ module _ (chain : Chain) (h : Header) (s : DeviceState) (fine : s.failed ≡ Non
 
   unknown_off : (a b : Bool) → Fine (cond a (Done (s, verdict.Ignore)) (cond b (try_request h s) (Done (
     with_reply
-        (reply_to h) s,
+        (reply_to (flow_to_host h) h) s,
     verdict.Rst (unknown_why h),
   ))))
   unknown_off true b = fine
@@ -140,7 +141,7 @@ module _ (chain : Chain) (h : Header) (s : DeviceState) (fine : s.failed ≡ Non
             | Some e ↦ bind (on_known (verdict_of e.value.end h) chain h e s) (λ t. Done (t, verdict_of e.value.end h))
           ]))
       by true o = fine
-      by false None = unknown_off (is_reset h) (is_stream h && (h.op == op_number Request))
+      by false None = unknown_off (is_reset h) (is_of Stream h && (h.op == op_number Request))
       by false (Some e) = known_off e (verdict_of e.value.end h)
 
 -- One packet. The stage goes on where the ring didn't fail.

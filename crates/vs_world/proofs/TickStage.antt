@@ -2,6 +2,7 @@
 use Rattle.std.proofs.Common.{◌≡◌, ℕ, ◌+◌, nat_lt, Bool, true, false, cond, List, ◌++◌, length, Option, Some, None, Result, Ok, Err, refl}
 use Rattle.std.proofs.Common.{ap, ◌∙◌}
 use Rattle.vs_contents.specs.CallTree.{Done, Ask, bind, for_each, played, while_up_to}
+use Rattle.vs_flow.specs.Flow.{host_flow}
 use Rattle.vs_flow.specs.Table.{entry_under, refusal, slots}
 use Rattle.vs_flow.specs.declared.table.TableFault.{TableFault}
 use Rattle.vs_outside.specs.Host.{accept_answer, read_answer}
@@ -157,13 +158,13 @@ module _ (w : World) (t : Turning) (fine : w.proxy.device.failed ≡ None) where
     with_read u = record u { state = record u.state { handshakes = hs }; read = u.read + n }
 
     opens_alike : (port : ℕ) → ByteAlike a (λ u. bind (opening stream port (with_read u)) (λ v. Done (v, false)))
-    opens_alike port = by (refusal w.proxy.device.table (record { guest = port; host = w.proxy.next_port }))
+    opens_alike port = by (refusal w.proxy.device.table (host_flow port w.proxy.next_port))
       where
         by : (o : Option TableFault) → ByteAlike a (λ u. bind (bind (elim o as (λ _. DeviceTree (DeviceState × Result ℕ TableFault)) [
           | Some fault ↦ Done (w.proxy.device, Err fault)
-          | None ↦ Ask (Label stream (record { guest = port; host = w.proxy.next_port }))
+          | None ↦ Ask (Label stream (host_flow port w.proxy.next_port))
               (λ _. Done (
-                with_client (record { guest = port; host = w.proxy.next_port }) stream w.proxy.device,
+                with_client (host_flow port w.proxy.next_port) stream w.proxy.device,
                 Ok
                     w.proxy.device.table.given,
               ))

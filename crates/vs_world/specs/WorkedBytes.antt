@@ -1,6 +1,6 @@
 -- What the worked scripts leave: the bytes of their connections, at both ends.
 use Rattle.std.specs.Prelude.{ℕ, List, [], ◌∷◌}
-use Rattle.vs_flow.specs.declared.flow.Flow.{Flow}
+use Rattle.vs_flow.specs.{Flow.host_flow, declared.flow.Flow.Flow}
 use Rattle.vs_outside.specs.HostBytes.{host_read, host_wrote}
 use Rattle.vs_page.specs.{Fair.payload_got, Fair.payload_put, Log.Device}
 use Rattle.vs_world.specs.{Calls.received_on, Calls.sent_on, World.World}
@@ -27,7 +27,7 @@ carried_on f w = record {
 -- `hello` and `hi`, and nothing more; a client's `hi` and the guest's `yo`, without the lines CONNECT and OK; of two connections, before and
 -- after a transport reset, what was sent on the first is not read.
 abbrev pub hello_flow : Flow
-hello_flow = record { guest = 1024; host = 52 }
+hello_flow = host_flow 1024 52
 
 abbrev pub hello_bytes : Carried
 hello_bytes = record {
@@ -40,7 +40,7 @@ hello_bytes = record {
 }
 
 abbrev pub client_flow : Flow
-client_flow = record { guest = 70; host = 1073741824 }
+client_flow = host_flow 70 1073741824
 
 abbrev pub client_bytes : Carried
 client_bytes = record {
