@@ -1,5 +1,5 @@
 -- What the device takes and opens is among the steps of the two ends.
-use Rattle.std.proofs.Common.{◌≡◌, ℕ, ◌+◌, ◌^◌, ◌<◌, ◌≤◌, ◌&&◌, Bool, true, false, cond, List, [], ◌∷◌, length, Contains, Option, Some}
+use Rattle.std.proofs.Common.{◌≡◌, ℕ, ◌+◌, ◌^◌, ◌<◌, ◌≤◌, ◌&&◌, Bool, true, false, cond, List, [], ◌∷◌, length, Contains}
 use Rattle.std.proofs.Common.{None, refl, sym, ap, inl, ◌∙◌, arith}
 use Rattle.std.proofs.lemmas.Bool.Decides.{nat_tests}
 use Rattle.std.proofs.lemmas.Grind.{common_steps}
@@ -9,7 +9,6 @@ use Rattle.vs_flow.specs.{Flow.host_flow, Flow.is_assigned, Table.entry_of, Tabl
 use Rattle.vs_flow.specs.declared.flow.{Flow.Flow, TheConstants.ASSIGNED_FIRST, TheConstants.ASSIGNED_LAST, TheConstants.HOST_CID}
 use Rattle.vs_flow.proofs.Tables.{with_entry_sound, IsAccepted, accepted as free_flow}
 use Rattle.vs_header.specs.declared.Header.{Header}
-use Rattle.vs_header.specs.declared.Kind.{Kind}
 use Rattle.vs_header.specs.declared.Kind.TheVariants.{Stream}
 use Rattle.vs_history.specs.Packets.{is_request, is_rst}
 use Rattle.vs_history.specs.declared.TheConstants.{BUF_ALLOC}

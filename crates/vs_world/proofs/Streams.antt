@@ -13,12 +13,11 @@ use Rattle.vs_device_parts.specs.{State.DeviceConnection, State.DeviceEntry, Tra
 use Rattle.vs_flow.specs.{Flow.is_assigned, Flow.same_flow, Table.IsTable, Table.Table, Table.entry_of, Table.with_value, Table.without}
 use Rattle.vs_flow.specs.declared.flow.Flow.{Flow}
 use Rattle.vs_flow.proofs.Entries.{none_found}
-use Rattle.vs_history.specs.History.{Answerer, Asker, Got, History, IsFair, Side, gots, is_begun, puts}
+use Rattle.vs_history.specs.History.{Answerer, Asker, Got, History, IsFair, Side, gots, puts}
 use Rattle.vs_driver_parts.proofs.Delivers.{delivers, named_rw}
 use Rattle.std.proofs.Math.Seq.{drop-nil, take-nil}
 use Rattle.vs_conn.specs.End.{with_payload_sent}
 use Rattle.vs_matching.specs.Steps.{payload_on}
-use Rattle.vs_matching.proofs.Fair.{fair_begun}
 use Rattle.vs_outside.specs.declared.host_net.StreamRead.TheVariants as read
 use Rattle.vs_outside.specs.declared.host_net.StreamWrite.TheVariants as write
 use Rattle.vs_pipes.specs.Drains.{Drains}
