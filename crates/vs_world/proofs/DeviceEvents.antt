@@ -1,67 +1,50 @@
 -- Each of the device's conversations is some of the steps of the two ends.
+use Rattle.std.proofs.{lemmas.Bool.Decides.nat_tests, lemmas.Grind.common_steps, lemmas.List.length-take}
 use Rattle.std.proofs.Common.{◌≡◌, ℕ, ◌+◌, ◌-◌, ◌^◌, ◌<◌, ◌≤◌, ◌==◌, ◌&&◌, nat_lt, Bool, true, false, cond, List, [], ◌∷◌, ◌++◌, length}
 use Rattle.std.proofs.Common.{take, drop, Contains, Option, Some, None, refl, sym, ap, subst, ◌∙◌, arith, length-append}
-use Rattle.std.proofs.lemmas.Bool.Decides.{nat_tests}
-use Rattle.std.proofs.lemmas.{Grind.common_steps, List.length-take}
 use Rattle.vs_contents.specs.CallTree.{Done, Ask, bind, played}
-use Rattle.vs_conn.specs.End.{end_after, is_of, is_reset, verdict_of}
-use Rattle.vs_conn.specs.declared.end.Verdict.{Verdict}
-use Rattle.vs_conn.specs.declared.end.Verdict.TheVariants as verdict
+use Rattle.vs_conn.specs.{End.end_after, End.is_of, End.is_reset, End.verdict_of, End.after_op, declared.end.Verdict.Verdict}
 use Rattle.vs_conn.specs.declared.end.Why.{Why}
-use Rattle.vs_conn.specs.declared.end.Why.TheVariants as why
-use Rattle.vs_flow.specs.{Flow.is_assigned, Flow.same_flow, Table.entry_of, Table.has_place}
-use Rattle.vs_flow.proofs.Entries.{same_flow_true}
-use Rattle.vs_header.specs.declared.Header.{Header}
-use Rattle.vs_history.specs.Packets.{is_request, is_rst}
-use Rattle.vs_history.specs.declared.packet.Packet.{Packet}
-use Rattle.vs_outside.specs.Host.{HostContents, dial_answer}
-use Rattle.vs_outside.specs.declared.host_net.Dialed.{Dialed}
-use Rattle.vs_outside.specs.declared.host_net.Dialed.TheVariants as dialed
-use Rattle.vs_page.specs.{Held.FitsWire, Log.Log, Log.Device, Log.IsNextPacket, Log.flow_to_host, Open.is_dropped}
-use Rattle.vs_page.specs.declared.log.LogEntry.TheVariants.{GotPacket}
-use Rattle.vs_replies.specs.Owed.{reply_to}
-use Rattle.vs_ring_port.specs.{Chains.bytes_in, EndLog.EndLog, Lists.Rings}
-use Rattle.vs_ring_port.specs.declared.device_ring.Chain.{Chain}
-use Rattle.vs_ring_port.specs.declared.failure.Failure.TheVariants as failure
-use Rattle.vs_matching.specs.{Both.IsSound, Both.Seat, Ends.ends_of, Ends.entries_of, Ends.is_new, Steps.is_overrun}
+use Rattle.vs_flow.specs.{Flow.is_assigned, Flow.same_flow, Table.entry_of, Table.has_place, Table.with_value, Table.without}
 use Rattle.vs_flow.specs.declared.flow.Flow.{Flow}
-use Rattle.vs_matching.proofs.{Both.device_has_room, Slots.found_by, Slots.one_end}
-use Rattle.vs_uds.specs.Path.{path_of}
-use Rattle.vs_device_parts.specs.Calls.{CloseStream, DeviceTree, Dial}
-use Rattle.vs_device_parts.specs.Connections.{with_connection, with_fault, with_reply, after_leaving, stream_closed}
-use Rattle.vs_device_parts.specs.{State.DeviceConnection, State.DeviceEntry, State.DeviceState, Streams.leaving}
+use Rattle.vs_flow.proofs.Entries.{same_flow_true}
+use Rattle.vs_header.specs.{declared.Header.Header, Op.op_named, declared.Kind.TheVariants.Stream}
+use Rattle.vs_history.specs.{Packets.is_request, Packets.is_rst, Packets.is_rw, declared.packet.Packet.Packet}
+use Rattle.vs_outside.specs.Host.{HostContents, dial_answer, after_close, after_dial, called}
+use Rattle.vs_outside.specs.declared.host_net.Dialed.{Dialed}
+use Rattle.vs_page.specs.{Held.FitsWire, Held.IsWhole, Open.is_dropped, declared.log.LogEntry.TheVariants.GotPacket, Fair.IsFairLog}
+use Rattle.vs_page.specs.Log.{Log, Device, IsNextPacket, flow_to_host, flow_got, history_of, whole_of}
+use Rattle.vs_replies.specs.Owed.{reply_to}
+use Rattle.vs_ring_port.specs.{Chains.bytes_in, EndLog.EndLog, Lists.Rings, declared.device_ring.Chain.Chain}
+use Rattle.vs_matching.specs.{Both.IsSound, Both.Seat, Ends.ends_of, Ends.entries_of, Ends.is_new, Steps.is_overrun}
+use Rattle.vs_matching.proofs.{Both.device_has_room, Both.next_is_fair, Slots.found_by, Slots.one_end}
+use Rattle.vs_uds.specs.{Path.path_of, OkLine.ok_text}
+use Rattle.vs_device_parts.specs.{State.DeviceConnection, State.DeviceEntry, State.DeviceState, Streams.leaving, Steps.header_came}
+use Rattle.vs_device_parts.specs.Connections.{with_connection, with_fault, with_reply, after_leaving, stream_closed, with_dialed}
 use Rattle.vs_device_parts.specs.Transmitting.{dial_answered, failing, heard, on_known, on_packet, on_unknown, refused, try_request}
-use Rattle.vs_device_parts.specs.{Transmitting.unknown_why, Steps.header_came}
-use Rattle.vs_flow.specs.Table.{with_value, without}
-use Rattle.vs_conn.specs.End.{after_op}
-use Rattle.vs_header.specs.Op.{op_named}
+use Rattle.vs_device_parts.specs.Transmitting.{unknown_why}
+use Rattle.vs_device_parts.specs.Calls.{CloseStream, DeviceTree, Dial}
 use Rattle.vs_wrap.specs.Wrap.{counted}
 use Rattle.vs_world.specs.Answers.{Around, answer_around}
-use Rattle.vs_world.proofs.Chains.{HoldsRx}
-use Rattle.vs_world.proofs.DeviceSide as side
+use Rattle.vs_world.proofs.{Chains.HoldsRx, DeviceTakes.heard_fresh, Wire.PutsFit, Firsts.once_history}
 use Rattle.vs_world.proofs.DeviceSide.{DeviceHolds, IsFresh, Kept, end_in, entry_fits, entry_fresh, seated}
-use Rattle.vs_world.proofs.DeviceTakes as takes
-use Rattle.vs_world.proofs.{DeviceTakes.heard_fresh, Wire.PutsFit}
 use Rattle.vs_world.proofs.Streams.{StreamedIf, accepts_streams, called_host, delivered_rw, delivers_streams, dialed_id, empty_streams}
-use Rattle.vs_world.proofs.Streams.{failed_host, got_nothing, hears_streams, leaves_streams, passes_streams, request_empty}
-use Rattle.vs_world.proofs.Streams.{reset_empty, unknown_streams}
+use Rattle.vs_world.proofs.Streams.{failed_host, got_nothing, hears_streams, leaves_streams, passes_streams, request_empty, reset_empty}
+use Rattle.vs_world.proofs.Streams.{unknown_streams}
+use Rattle.vs_world.proofs.Once.{AreOnce, asked_once, number_once}
 use Rattle.vs_device_log.specs.Honest.{HoldsBytes}
 use Rattle.vs_device_log.proofs.{Fits.delivered, Fits.fits_after, Hearing.peer_resets, Hearing.rst_leaves}
 use Rattle.std.specs.List.{All}
-use Rattle.vs_device_parts.specs.Connections.{with_dialed}
-use Rattle.vs_history.specs.{Packets.is_rw}
-use Rattle.vs_matching.proofs.Both.{next_is_fair}
-use Rattle.vs_outside.specs.Host.{after_close, after_dial, called}
-use Rattle.vs_page.specs.{Fair.IsFairLog, Held.IsWhole, Log.flow_got, Log.history_of}
 use Rattle.vs_proxy_parts.specs.State.{Handshake}
-use Rattle.vs_uds.specs.OkLine.{ok_text}
 use Rattle.vs_pipes.specs.{Drains.has_passed, Streamed.gives, Streamed.look}
 use Rattle.vs_pipes.proofs.{HostCalls.closed_host, Logs.got_passes, Logs.none_passed, Logs.passed_after_got, Logs.put_after_got}
 use Rattle.vs_pipes.proofs.{Opens.dial_host, Streamed.join_of}
-use Rattle.vs_header.specs.declared.Kind.TheVariants.{Stream}
-use Rattle.vs_page.specs.Log.{whole_of}
-use Rattle.vs_world.proofs.Firsts.{once_history}
-use Rattle.vs_world.proofs.Once.{AreOnce, asked_once, number_once}
+use Rattle.vs_conn.specs.declared.end.Verdict.TheVariants as verdict
+use Rattle.vs_conn.specs.declared.end.Why.TheVariants as why
+use Rattle.vs_outside.specs.declared.host_net.Dialed.TheVariants as dialed
+use Rattle.vs_ring_port.specs.declared.failure.Failure.TheVariants as failure
+use Rattle.vs_world.proofs.DeviceSide as side
+use Rattle.vs_world.proofs.DeviceTakes as takes
 
 abbrev with_verdict : Verdict → DeviceTree DeviceState → DeviceTree DeviceState
 with_verdict v tree = bind {A = DeviceState × Verdict} (bind tree (λ t. Done (t, v))) (λ r. Done r.0)
