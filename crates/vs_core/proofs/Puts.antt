@@ -31,7 +31,7 @@ use Rattle.vs_device_parts.specs.State.{DeviceEntry, DeviceState}
 use Rattle.vs_device_parts.specs.Steps.{filling, puts_event, puts_owed, puts_payload, puts_reply, reads}
 use Rattle.vs_device_laws.specs.Split.{MayPut}
 use Rattle.vs_device_log.proofs.Filling.{can_send, under_there}
-use Rattle.vs_world.specs.{Pages.is_held, Sides.flow_to_guest}
+use Rattle.vs_world.specs.Pages.{is_held}
 use Rattle.vs_world.proofs.Chains.{HoldsRx}
 use Rattle.vs_world.proofs.DeviceSide as side
 use Rattle.vs_world.proofs.{DeviceSide.DeviceHolds, DeviceSide.entry_fits, DeviceSide.seated, Fits.holds_header, Fits.holds_payload}
@@ -71,10 +71,10 @@ module _ (driver : Seat) (first port : ℕ) (s : DeviceState) (l : EndLog) (soun
 
     -- The oldest reply.
     reply_fits : (reply : Reply) (rest : List Reply) → s.replies ≡ reply ∷ rest
-        → MayHold chain (reply_header reply s) [] (reply_on Device s.cid (flow_to_guest reply)) l
+        → MayHold chain (reply_header reply s) [] (reply_on Device s.cid reply) l
     reply_fits reply rest replies =
         let k = side.replies driver first port s l.entries sound holds puts reply rest replies in
-        alone (reply_header reply s) (reply_on Device s.cid (flow_to_guest reply)) refl k.puts.0 refl
+        alone (reply_header reply s) (reply_on Device s.cid reply) refl k.puts.0 refl
         ((keeps_sound first _ _ k.runs sound).fair Device)
 
     module _ (e : DeviceEntry) (there : Contains s.table.entries e) where
@@ -82,7 +82,7 @@ module _ (driver : Seat) (first port : ℕ) (s : DeviceState) (l : EndLog) (soun
       route : RouteFits (route_of Device s.cid e.flow)
       route =
           let flow = (entry_fits driver first port s l.entries sound holds puts e there).flow in
-          record { src_cid = omega arith; dst_cid = holds.known; src_port = flow.host; dst_port = flow.guest }
+          record { src_cid = flow.peer; dst_cid = holds.known; src_port = flow.host; dst_port = flow.guest }
 
       -- What a connection owes.
       owed_holds : (what : Owed) → owes_of e.value.end ≡ Some what

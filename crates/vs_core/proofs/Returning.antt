@@ -2,7 +2,7 @@
 use Rattle.std.proofs.Common.{ℕ, ◌-◌, ◌==◌, ◌&&◌, not, nat_lt, nat_le, Bool, true, false, cond, List, [], ◌∷◌, ◌++◌, length, Some, Result}
 use Rattle.std.proofs.Common.{Ok, Err, arith}
 use Rattle.vs_contents.specs.CallTree.{Done, bind, for_each}
-use Rattle.vs_conn.specs.End.{owes_of, is_reset, is_stream, verdict_of, wanting_credit}
+use Rattle.vs_conn.specs.End.{owes_of, is_reset, is_of, verdict_of, wanting_credit}
 use Rattle.vs_conn.specs.Headers.{owed_header, payload_header}
 use Rattle.vs_conn.specs.declared.end.Owed.{Owed}
 use Rattle.vs_conn.specs.declared.end.Owed.TheVariants as owed
@@ -13,6 +13,7 @@ use Rattle.vs_flow.specs.{Flow.host_flow, Flow.is_assigned, Table.entry_of, Tabl
 use Rattle.vs_header.specs.{Op.op_number, Packet.header_of}
 use Rattle.vs_header.specs.declared.{Header.Header, TheConstants.HEADER_LEN}
 use Rattle.vs_header.specs.declared.Op.TheVariants.{Request}
+use Rattle.vs_header.specs.declared.Kind.TheVariants.{Stream}
 use Rattle.vs_outside.specs.declared.host_net.StreamRead.{StreamRead}
 use Rattle.vs_outside.specs.declared.host_net.StreamRead.TheVariants as read
 use Rattle.vs_outside.specs.declared.host_net.StreamWrite.{StreamWrite}
@@ -70,7 +71,7 @@ known_some verdict.Ignore chain h e s = tt
 unknown_some : (h : Header) (s : DeviceState) → AllReturnSome (on_unknown h s)
 unknown_some h s =
     cond_some (is_reset h) _ _ tt
-    (cond_some (is_stream h && (h.op == op_number Request)) _ _
+    (cond_some (is_of Stream h && (h.op == op_number Request)) _ _
     (cond_some (is_assigned h.dst_port) _ _ tt (cond_some (has_place s.table) _ _ (tt, λ answer. tt) tt)) tt)
 
 packet_some : (chain : Chain) (h : Header) (s : DeviceState) → AllReturnSome (on_packet chain h s)

@@ -1,5 +1,5 @@
 -- What a world that is well says of the bytes of its connections. Packets that the driver staged count as put.
-use Rattle.std.proofs.Common.{◌≡◌, ℕ, ◌++◌, true, List, Contains, Some, sym, ap, subst, ◌∙◌}
+use Rattle.std.proofs.Common.{◌≡◌, ℕ, ◌≤◌, ◌++◌, true, List, Contains, Some, sym, ap, subst, ◌∙◌}
 use Rattle.std.specs.Option.{option_map}
 use Rattle.std.proofs.lemmas.List.Elements.{All-contains}
 use Rattle.vs_driver_parts.specs.State.{DriverEntry, GoneConnection}
@@ -7,14 +7,15 @@ use Rattle.vs_device_parts.specs.State.{DeviceEntry}
 use Rattle.vs_flow.specs.declared.flow.Flow.{Flow}
 use Rattle.vs_history.specs.{History.puts, Packets.has, Packets.shuts_send}
 use Rattle.vs_outside.specs.{Host.Stream, Host.stream_at, HostBytes.host_read, HostBytes.host_wrote}
-use Rattle.vs_page.specs.Fair.{IsFairLog, IsPrefixOf, payload_got, payload_put}
+use Rattle.vs_page.specs.Fair.{IsFairLog, IsPrefixOf, number_on, payload_got, payload_put}
 use Rattle.vs_page.specs.Log.{Device, Driver, Log, Role, history_of}
-use Rattle.vs_page.proofs.PayloadLogs.{all_got, all_put, prefix, shut_put}
+use Rattle.vs_page.proofs.{PayloadLogs.prefix, Shut.shut_put}
 use Rattle.vs_matching.specs.Both.{at}
 use Rattle.vs_pipes.specs.Drains.{Drains, got_on, receives}
 use Rattle.vs_pipes.specs.Streamed.{IsJoined, Seen, gives, line_for, look, seen}
 use Rattle.vs_pipes.proofs.{Hosts.there as is_there, Logs.prefix_then}
-use Rattle.vs_world.specs.{Calls.received_on, Calls.sent_on, Received.ReceivedOn, Received.ReceivesOn, Sides.both_of, World.World}
+use Rattle.vs_world.specs.{Calls.received_on, Calls.sent_on, Received.ReceivedOn, Received.ReceivesOn, Sides.both_of, World.World, World.first_cid}
+use Rattle.vs_world.proofs.{Firsts.once_got, Firsts.once_put, Firsts.put_begun, Once.number_once}
 use Rattle.vs_world.proofs.{Bytes.read_is_got, Bytes.wrote_is_put, Growing.Grows, Growing.runs_grow, Sound.Goes, Sound.IsWell}
 
 abbrev pub ToGuest : Flow → World → Type 0
@@ -30,15 +31,19 @@ module _ {fresh : Type 0} (w : World) (well : IsWell fresh w) where
   abbrev device : Log
   device = (both_of w).device.log
 
+  -- No flow was used twice.
+  once : (role : Role) (f : Flow) → number_on role f (at role (both_of w)).log ≤ 1
+  once role f = number_once role first_cid (both_of w) well.sound well.once f
+
   guest_got : (f : Flow) → got_on Driver f guest ≡ payload_got Driver f 1 guest
-  guest_got f = sym (all_got Driver guest f (well.sound.fair Driver f))
+  guest_got f = sym (once_got Driver f guest (well.sound.fair Driver f) (once Driver f))
 
   device_got : (f : Flow) → got_on Device f device ≡ payload_got Device f 1 device
-  device_got f = sym (all_got Device device f (well.sound.fair Device f))
+  device_got f = sym (once_got Device f device (well.sound.fair Device f) (once Device f))
 
   -- What the sends took is what the driver put. What was received is a prefix of what it got.
   pub sent_is : (f : Flow) → payload_put Driver f 1 guest ≡ sent_on f w.journal
-  sent_is f = all_put Driver guest f (well.sound.fair Driver f) ∙ sym (well.sent f)
+  sent_is f = once_put Driver f guest (well.sound.fair Driver f) (once Driver f) ∙ sym (well.sent f)
 
   pub received_is : (f : Flow) → IsPrefixOf (received_on f w.journal) (payload_got Driver f 1 guest)
   received_is f = subst (λ (bytes : List ℕ). IsPrefixOf (received_on f w.journal) bytes) (guest_got f) (well.received.front f)
@@ -62,7 +67,7 @@ module _ {fresh : Type 0} (w : World) (well : IsWell fresh w) where
   -- The streams of a host that had none at first.
   module _ (new : fresh) where
     pub wrote_is : (f : Flow) → payload_put Device f 1 device ≡ host_wrote f 1 w.host
-    wrote_is f = all_put Device device f (well.sound.fair Device f) ∙ wrote_is_put w.host _ _ _ _ (well.streams new) f
+    wrote_is f = once_put Device f device (well.sound.fair Device f) (once Device f) ∙ wrote_is_put w.host _ _ _ _ (well.streams new) f
 
     pub given_is : (f : Flow) → IsPrefixOf (host_read f 1 w.host) (payload_got Device f 1 device)
     given_is f = subst (λ (bytes : List ℕ). IsPrefixOf (host_read f 1 w.host) bytes) (device_got f) (read_is_got w.host _ _ _ _ (well.streams new) f)
@@ -94,16 +99,18 @@ module _ {fresh : Type 0} (w : World) (well : IsWell fresh w) where
         )
 
 -- What an end put stays once it told that it sends no more.
-stays_put : (role : Role) (older log : Log) (f : Flow) → Grows older log → IsFairLog role log → has shuts_send (puts (history_of role f older)) ≡ true
+stays_put : (role : Role) (older log : Log) (f : Flow) → Grows older log → IsFairLog role older → IsFairLog role log
+    → has shuts_send (puts (history_of role f older)) ≡ true
     → payload_put role f 1 log ≡ payload_put role f 1 older
-stays_put role older log f (newer, is) fair shut =
-    ap (payload_put role f 1) is ∙ shut_put role newer older f 1 (subst (IsFairLog role) is fair f) shut
+stays_put role older log f (newer, is) was fair shut =
+    ap (payload_put role f 1) is ∙ shut_put role newer older f 1 (subst (IsFairLog role) is fair f) shut (put_begun role f older shuts_send (was f) shut)
 
 module _ {fresh : Type 0} (w v : World) (well : IsWell fresh w) (goes : Goes fresh w v) (f : Flow) where
   kept : (role : Role) → has shuts_send (puts (history_of role f (at role (both_of w)).log)) ≡ true
       → payload_put role f 1 (at role (both_of v)).log ≡ payload_put role f 1 (at role (both_of w)).log
   kept role shut =
-      stays_put role (at role (both_of w)).log (at role (both_of v)).log f (runs_grow role (both_of w) (both_of v) goes.runs) (goes.well.sound.fair role) shut
+      stays_put role (at role (both_of w)).log (at role (both_of v)).log f (runs_grow role (both_of w) (both_of v) goes.runs) (well.sound.fair role)
+      (goes.well.sound.fair role) shut
 
   pub sent_stays : has shuts_send (puts (history_of Driver f (both_of w).driver.log)) ≡ true → sent_on f v.journal ≡ sent_on f w.journal
   sent_stays shut = sym (sent_is v goes.well f) ∙ kept Driver shut ∙ sent_is w well f

@@ -1,29 +1,26 @@
 -- What the device's small changes are among the steps of the two ends.
-use Rattle.std.proofs.Common.{◌≡◌, ℕ, suc, ◌^◌, ◌<◌, ◌≤◌, ◌==◌, not, Bool, true, false, cond, List, [], ◌∷◌, length, map, Contains, Some}
-use Rattle.std.proofs.Common.{None, refl, sym, ap, subst, ◌∙◌, arith}
-use Rattle.std.specs.List.{All}
+use Rattle.std.proofs.Common.{◌≡◌, ℕ, suc, ◌^◌, ◌<◌, ◌≤◌, ◌==◌, not, Bool, true, false, cond, List, [], ◌∷◌, length, Contains, Some, None}
+use Rattle.std.proofs.Common.{refl, sym, ap, subst, ◌∙◌, arith}
 use Rattle.std.proofs.lemmas.List.Elements.{All-filter, All-map}
-use Rattle.vs_conn.specs.End.{ConnectionEnd, CanSend, owes_of, paid_of, with_payload_sent}
-use Rattle.vs_conn.specs.declared.end.Owed.{Owed}
-use Rattle.vs_conn.specs.declared.end.Owed.TheVariants as owed
+use Rattle.std.specs.List.{All}
+use Rattle.vs_conn.specs.{End.ConnectionEnd, End.CanSend, End.owes_of, End.paid_of, End.with_payload_sent, declared.end.Owed.Owed}
 use Rattle.vs_credit.specs.Credit.{unread_of}
 use Rattle.vs_flow.specs.Table.{Table, IsTable, revalued, with_value, without}
 use Rattle.vs_flow.specs.declared.flow.TheConstants.{ASSIGNED_FIRST}
 use Rattle.vs_flow.proofs.Tables.{with_value_sound, without_sound}
-use Rattle.vs_page.specs.Log.{Log, Device}
-use Rattle.vs_page.specs.declared.log.LogEntry.TheVariants.{PutEvent, PutPacket}
+use Rattle.vs_page.specs.{Log.Log, Log.Device, declared.log.LogEntry.TheVariants.PutEvent, declared.log.LogEntry.TheVariants.PutPacket}
 use Rattle.vs_replies.specs.declared.Reply.{Reply}
-use Rattle.vs_matching.specs.Both.{Both, Decides, Decision, IsSound, MayDecide, Pays, PutsEvent, Replies, Seat, Sends, decided}
 use Rattle.vs_matching.specs.{Ends.Ends, Ends.FlowEnd, Ends.entries_of, Ends.is_new, Ends.replaced, Heard.route_of}
+use Rattle.vs_matching.specs.Both.{Both, Decides, Decision, IsSound, MayDecide, Pays, PutsEvent, Replies, Seat, Sends, decided}
 use Rattle.vs_matching.specs.Steps.{HasEnd, left, paid, with_end, owed_on, payload_on, reply_on}
 use Rattle.vs_matching.proofs.{Slots.changed_slot, Slots.one_end, Slots.removed_slot, Tables.end_new}
 use Rattle.vs_device_parts.specs.{State.DeviceConnection, State.DeviceEntry, State.DeviceState, Connections.with_connection}
 use Rattle.vs_world.specs.Sides.{Runs}
+use Rattle.vs_world.proofs.{Runs.one_step, Runs.stays, Wire.PutsFit, Wire.RouteFits, Wire.owed_fits, Wire.payload_fits, Wire.reset_fits}
 use Rattle.vs_world.proofs.Entries.{EntryFits, ReplyFits, fits_at, fits_with_value, fits_without, without_changed}
-use Rattle.vs_world.proofs.Runs.{one_step, stays}
-use Rattle.vs_world.proofs.Wire.{PutsFit, RouteFits, owed_fits, payload_fits, reset_fits}
 use Rattle.vs_device_log.specs.Honest.{HoldsBytes}
 use Rattle.vs_device_log.proofs.{Fits.fits_paid, Fits.fits_sent, Changing.same_replaced}
+use Rattle.vs_conn.specs.declared.end.Owed.TheVariants as owed
 
 abbrev pub end_in : DeviceConnection → ConnectionEnd
 end_in c = c.end

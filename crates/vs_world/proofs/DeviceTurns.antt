@@ -1,42 +1,36 @@
 -- The device's conversations over its ring and its host.
 use Rattle.std.proofs.Common.{◌≡◌, ℕ, ◌-◌, ◌^◌, ◌<◌, nat_le, nat_lt, Bool, true, false, cond, List, [], ◌∷◌, ◌++◌, length, take, Option}
-use Rattle.std.proofs.Common.{Some, None, refl, sym, ap, subst, ◌∙◌, arith, append_assoc}
+use Rattle.std.proofs.Common.{Some, None, refl, sym, ap, subst, ◌∙◌, arith, append_assoc, drop}
 use Rattle.std.proofs.lemmas.Bool.Decides.{nat_tests}
 use Rattle.byteorder.specs.Endian.{little_bytes}
 use Rattle.vs_contents.specs.CallTree.{Done, Ask, played}
-use Rattle.vs_header.specs.Packet.{header_of}
-use Rattle.vs_header.specs.declared.Header.{Header}
+use Rattle.vs_header.specs.{Packet.header_of, declared.Header.Header}
 use Rattle.vs_history.specs.declared.packet.Packet.{Packet}
+use Rattle.vs_page.specs.{Log.Log, Log.IsNextPacket, Log.packets_put, Log.packets_got, Log.Device, Log.flow_got, Overwriting.overwritten}
+use Rattle.vs_page.specs.{declared.log.LogEntry.TheVariants.GotPacket, declared.log.LogEntry.TheVariants.PutEvent, Open.is_dropped}
 use Rattle.vs_page.specs.Held.{event_held, held_in, listed, packet_held}
-use Rattle.vs_page.specs.{Log.Log, Log.IsNextPacket, Log.packets_put, Log.packets_got, Overwriting.overwritten}
-use Rattle.vs_page.specs.declared.log.LogEntry.TheVariants.{GotPacket, PutEvent}
-use Rattle.vs_ring_port.specs.Chains.{Held, bytes_in, same_queue, with_bytes, without_held}
-use Rattle.vs_ring_port.specs.Contents.{Return, Take, Write}
+use Rattle.vs_ring_port.specs.{Contents.Return, Contents.Take, Contents.Write, declared.device_ring.Chain.Chain, declared.queue.Queue.Queue}
 use Rattle.vs_ring_port.specs.EndLog.{EndLog, entries_returned, log_taken, with_event, with_packet}
 use Rattle.vs_ring_port.specs.Lists.{Rings, after_return, all_but_oldest, chain_with, next_at, oldest, place_after}
-use Rattle.vs_ring_port.specs.declared.device_ring.Chain.{Chain}
-use Rattle.vs_ring_port.specs.declared.queue.Queue.{Queue}
+use Rattle.vs_ring_port.specs.Chains.{Held, bytes_in, same_queue, with_bytes, without_held}
 use Rattle.vs_ring_port.specs.declared.queue.Queue.TheVariants.{Rx, Tx, Event}
 use Rattle.vs_matching.specs.Both.{IsSound, Seat}
 use Rattle.vs_device_parts.specs.{Calls.DeviceTree, Calls.Ring, Receiving.hold, Receiving.holding, State.DeviceState}
 use Rattle.vs_device_parts.specs.Steps.{chain_came, filling, header_came, puts_event, returns, takes_chain}
 use Rattle.vs_device_parts.specs.declared.limits.TheConstants.{REPLIES}
 use Rattle.vs_world.specs.{Answers.Around, Answers.answer_around, Pages.AllHold, Pages.PageHolds, Pages.is_held}
+use Rattle.vs_world.proofs.{DeviceSide.DeviceHolds, DeviceSide.Kept, DeviceSide.seated, Wire.PutsFit, Wire.next_fits}
+use Rattle.vs_world.proofs.{Streams.StreamedIf, Streams.payload_in, Once.AreOnce}
 use Rattle.vs_world.proofs.Chains.{HoldsRx, bytes_written, first_written, held_more, held_without, held_written}
 use Rattle.vs_world.proofs.DeviceEvents.{KeptBy, Over, header_came_keeps}
-use Rattle.vs_world.proofs.DeviceSide as side
-use Rattle.vs_world.proofs.{DeviceSide.DeviceHolds, DeviceSide.Kept, DeviceSide.seated, Wire.PutsFit, Wire.next_fits}
-use Rattle.vs_world.proofs.Streams.{StreamedIf, payload_in}
-use Rattle.std.proofs.Common.{drop}
 use Rattle.std.specs.List.{All}
 use Rattle.vs_outside.specs.Host.{HostContents}
 use Rattle.vs_page.proofs.Holding.{packet_whole}
-use Rattle.vs_page.specs.{Log.Device, Log.flow_got, Open.is_dropped}
 use Rattle.vs_proxy_parts.specs.State.{Handshake}
 use Rattle.vs_pipes.specs.Streamed.{gives, look}
 use Rattle.vs_pipes.proofs.Streamed.{same_streamed}
 use Rattle.vs_device_log.proofs.{Transmitting.header_is, Ringing.same_self}
-use Rattle.vs_world.proofs.Once.{AreOnce}
+use Rattle.vs_world.proofs.DeviceSide as side
 
 pub same_cid : (q : Queue) (page : List ℕ) (lists : Rings) → (after_return q page lists).cid ≡ lists.cid
 same_cid Rx page lists = refl

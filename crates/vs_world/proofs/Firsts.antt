@@ -1,5 +1,5 @@
 -- Flows that are used once: all that passed on them is their present connection.
-use Rattle.std.proofs.Common.{◌≡◌, ℕ, zero, suc, ◌+◌, ◌≤◌, Bool, true, false, cond, ◌||◌, List, [], ◌∷◌, ◌++◌, refl, sym, ap, subst, ◌∙◌, arith}
+use Rattle.std.proofs.Common.{◌≡◌, ℕ, zero, suc, ◌+◌, ◌≤◌, Bool, true, false, cond, ◌||◌, List, [], ◌∷◌, refl, sym, ap, subst, ◌∙◌, arith}
 use Rattle.std.proofs.lemmas.Grind.{common_steps}
 use Rattle.vs_flow.specs.declared.flow.{Flow.Flow, TheConstants.HOST_CID}
 use Rattle.vs_history.specs.Again.{IsFairAll, count, present}
@@ -143,6 +143,18 @@ once_got role f log fair few = by (number_on role f log) refl few
     by (suc zero) is less = ap (λ (k : ℕ). payload_got role f k log) (sym is) ∙ present_got role f log fair (omega (arith, is))
         ∙ ap (λ (h : History). payload_of (gots h)) (once_history role f log fair few)
     by (suc (suc n)) is less = absurd (omega (arith, less))
+
+-- A flow on which something was put was used.
+pub put_begun : (role : Role) (f : Flow) (log : Log) (test : Packet → Bool) → IsFairOn role f log → has test (puts (history_of role f log)) ≡ true
+    → 1 ≤ number_on role f log
+put_begun role f log test fair is = by (number_on role f log) refl
+  where
+    by : (n : ℕ) → number_on role f log ≡ n → 1 ≤ n
+    by zero none =
+        let empty = none_begun (side_of role f) (whole_of role f log) fair none in
+        let nothing : history_of role f log ≡ [] = sym (present_is role f log) ∙ ap present empty in
+        let both : true ≡ false = sym is ∙ ap (λ (h : History). has test (puts h)) nothing in absurd cc
+    by (suc n) some = omega arith
 
 -- Where nothing was heard nothing passed: at the driver on the host's flows, and at an end that asks.
 no_present : (role : Role) (f : Flow) (log : Log) → history_of role f log ≡ [] → whole_of role f log ≡ []

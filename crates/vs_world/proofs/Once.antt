@@ -1,5 +1,5 @@
 -- No flow is used twice: its asker puts one REQUEST at most.
-use Rattle.std.proofs.Common.{◌≡◌, ℕ, ◌+◌, ◌≤◌, Bool, true, false, cond, ◌&&◌, ◌++◌, List, [], ◌∷◌, length, Some, refl, sym, ap, subst, ◌∙◌, arith, rules}
+use Rattle.std.proofs.Common.{◌≡◌, ℕ, ◌+◌, ◌≤◌, Bool, true, false, cond, ◌&&◌, ◌++◌, List, [], ◌∷◌, length, Some, refl, sym, ap, subst, ◌∙◌, arith}
 use Rattle.std.proofs.lemmas.Grind.{common_steps}
 use Rattle.std.proofs.lemmas.Bool.Decides.{nat_tests}
 use Rattle.vs_conn.specs.End.{ConnectionEnd, answering, asked, end_after, is_of, owes_of, paid_of, with_payload_sent}
@@ -7,8 +7,8 @@ use Rattle.vs_conn.specs.declared.end.Owed.{Owed}
 use Rattle.vs_conn.specs.declared.end.Owed.TheVariants as owed
 use Rattle.vs_flow.specs.Flow.{is_assigned, same_flow}
 use Rattle.vs_flow.specs.declared.flow.Flow.{Flow}
-use Rattle.vs_header.specs.declared.{Header.Header, Kind.Kind}
-use Rattle.vs_history.specs.Again.{IsFairAll, count}
+use Rattle.vs_header.specs.declared.{Header.Header}
+use Rattle.vs_history.specs.Again.{count}
 use Rattle.vs_history.specs.History.{Answerer, Asker, Got, History, Put, Side, gots, peer, puts}
 use Rattle.vs_history.specs.Packets.{is_request, is_rst}
 use Rattle.vs_history.specs.declared.{packet.Packet.Packet, TheConstants.BUF_ALLOC}
@@ -18,15 +18,15 @@ use Rattle.vs_page.specs.Log.{Device, Driver, IsNextPacket, Log, Role, flow_got,
 use Rattle.vs_page.specs.Open.{is_dropped}
 use Rattle.vs_page.specs.declared.log.LogEntry.TheVariants.{GotPacket, PutPacket}
 use Rattle.vs_page.proofs.Entries.{got_on, on_flow}
-use Rattle.vs_page.proofs.Flows.{opposite_by, other_twice, same_is, same_self}
+use Rattle.vs_page.proofs.Flows.{opposite_by, same_is, same_self}
 use Rattle.vs_matching.specs.Both.{Aborts, Asks, Both, Decides, Decision, Forgets, Forwards, Grows, Happening, IsSound, MakesReset, MayHappen, MayRun, Opens}
 use Rattle.vs_matching.specs.Both.{Pays, PutsEvent, Replies, Seat, Sends, Shuts, Step, Takes, TakesEvent, TakesReset, WantsCredit, after, after_packet}
-use Rattle.vs_matching.specs.Both.{answered, at, decided, happens, run}
+use Rattle.vs_matching.specs.Both.{answered, at, decided, happens, run, start}
 use Rattle.vs_matching.specs.Ends.{Ends, FlowEnd, answer_kind, ends_of, is_new, replaced, without_flow}
 use Rattle.vs_matching.specs.{Heard.own_port, Matches.MatchesFlows}
 use Rattle.vs_matching.specs.Steps.{asking, is_kept, left, opened, owed_on, payload_on, port_after, reply_on, request_on, with_clean, with_connection}
 use Rattle.vs_matching.specs.Steps.{with_end}
-use Rattle.vs_matching.proofs.{Both.next_is_fair, Both.step_keeps, Both.tie_back, Fair.own_got_fair}
+use Rattle.vs_matching.proofs.{Both.next_is_fair, Both.step_keeps, Fair.own_got_fair}
 use Rattle.vs_matching.proofs.Entries.{added_other, added_same, replaced_other, replaced_same, without_other, without_same}
 use Rattle.vs_matching.proofs.{Steps.owed_flow, Steps.request_flow, Tables.only_end}
 use Rattle.vs_world.specs.Sides.{AsksAnew, Runs, RunsAnew}
@@ -330,6 +330,10 @@ run_once first (x ∷ xs) b s may anew once =
 
 pub keeps_once : (first : ℕ) (b c : Both) → Runs b c → IsSound first b → AreOnce b → AreOnce c
 keeps_once first b c r s once = subst AreOnce r.ends (run_once first r.steps b s r.may r.anew once)
+
+pub start_once : (first guest_port host_port : ℕ) → AreOnce (start first guest_port host_port)
+start_once first guest_port host_port Driver f asker = record { few = omega arith; unused = λ later. refl; new = λ e has is. refl }
+start_once first guest_port host_port Device f asker = record { few = omega arith; unused = λ later. refl; new = λ e has is. refl }
 
 -- A REQUEST comes before all else on its flow.
 pub asked_once : (role : Role) (first : ℕ) (b : Both) → IsSound first b → AreOnce b → (p : Packet)

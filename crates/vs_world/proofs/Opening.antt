@@ -25,7 +25,7 @@ use Rattle.vs_world.specs.{Pipes.IsFresh, Pipes.put_on, Pages.AllHold}
 use Rattle.vs_world.specs.Events as events
 use Rattle.vs_world.specs.{Events.happens, Events.run, Sides.both_of, Sides.driver_ends, Sides.log_with_staged}
 use Rattle.vs_world.specs.World.{World, opening, first_cid}
-use Rattle.vs_world.proofs.{DriverSide.DriverHolds, Played.opening_queued, Runs.and_then}
+use Rattle.vs_world.proofs.{DriverSide.DriverHolds, Once.AreOnce, Once.start_once, Played.opening_queued, Runs.and_then}
 use Rattle.vs_world.proofs.{Sound.Goes, Sound.IsWell, Sound.goes_still, Sound.happens_goes, Wire.PutsFit}
 
 -- Receive and event pages are on their way, and nothing else.
@@ -211,6 +211,7 @@ module _ (n : ℕ) (host : HostContents) where
     broken = ap (λ (s : DriverState). s.broken) new.state;
     overrun = refl;
     cids = subst (AreVoiced first_cid) opening_is (voices_start first_cid FIRST_PORT ASSIGNED_FIRST);
+    once = subst AreOnce opening_is (start_once first_cid FIRST_PORT ASSIGNED_FIRST);
     streams = none_streamed host (opening n host).proxy.next_port;
     received = none_received n (opening n host).driver (log_with_staged (opening n host).rings.driver) new.state;
     sent = λ f. ap (put_on f) (sym log_empty);

@@ -5,10 +5,8 @@ use Rattle.vs_contents.specs.CallTree.{Done, Ask, bind, for_each, played}
 use Rattle.vs_flow.specs.Table.{IsTable, entry_under, slots, emptied}
 use Rattle.vs_flow.proofs.Tables.{with_value_sound}
 use Rattle.vs_outside.specs.Host.{HostContents, after_close}
-use Rattle.vs_page.specs.Log.{Device}
-use Rattle.vs_page.specs.declared.log.LogEntry.TheVariants.{Mark}
-use Rattle.vs_ring_port.specs.{Contents.PublishCid, EndLog.EndLog}
-use Rattle.vs_ring_port.specs.declared.failure.Failure.{Failure}
+use Rattle.vs_page.specs.{Log.Device, declared.log.LogEntry.TheVariants.Mark}
+use Rattle.vs_ring_port.specs.{Contents.PublishCid, EndLog.EndLog, declared.failure.Failure.Failure}
 use Rattle.vs_matching.specs.Both.{IsSound, MakesReset, Seat}
 use Rattle.vs_device_parts.specs.{Calls.CloseStream, Calls.DeviceTree, Calls.Ring, Connections.stream_closed, Connections.with_connection}
 use Rattle.vs_device_parts.specs.{State.DeviceEntry, State.DeviceState, Turns.after_reset, Turns.close_slot}

@@ -1,48 +1,39 @@
 -- What the proxy does with handshakes is among the steps of the two ends.
 use Rattle.std.proofs.Common.{◌≡◌, ℕ, ◌+◌, ◌^◌, ◌<◌, ◌≤◌, ◌==◌, ◌&&◌, nat_le, nat_lt, Bool, true, false, cond, List, [], ◌∷◌, ◌++◌, length}
-use Rattle.std.proofs.Common.{Option, Some, None, refl, sym, ap, subst, ◌∙◌, arith}
+use Rattle.std.proofs.Common.{Option, Some, None, refl, sym, ap, subst, ◌∙◌, arith, Result, Ok, Err, ◌≢◌}
 use Rattle.std.proofs.lemmas.Bool.Decides.{nat_tests}
 use Rattle.vs_contents.specs.CallTree.{Done, Ask, bind, played}
 use Rattle.vs_flow.specs.{Flow.host_flow, Flow.is_assigned, Flow.same_flow, Table.entry_of, Table.has_place, Table.refusal}
-use Rattle.vs_flow.specs.declared.flow.{Flow.Flow, TheConstants.ASSIGNED_LAST}
-use Rattle.vs_flow.specs.declared.table.TableFault.{TableFault}
-use Rattle.vs_flow.proofs.{Entries.same_flow_true, Tables.accepted}
-use Rattle.vs_outside.specs.Host.{HostContents, accept_answer, after_read, read_answer}
-use Rattle.vs_outside.specs.declared.host_net.Accepted.{Accepted}
-use Rattle.vs_outside.specs.declared.host_net.Accepted.TheVariants as accepted_as
-use Rattle.vs_outside.specs.declared.host_net.StreamRead.{StreamRead}
-use Rattle.vs_outside.specs.declared.host_net.StreamRead.TheVariants as read
+use Rattle.vs_flow.specs.{declared.flow.Flow.Flow, declared.flow.TheConstants.ASSIGNED_LAST, declared.table.TableFault.TableFault}
+use Rattle.vs_flow.proofs.{Entries.same_flow_true, Entries.found_passes, Tables.accepted}
+use Rattle.vs_outside.specs.{declared.host_net.Accepted.Accepted, declared.host_net.StreamRead.StreamRead, HostBytes.after_line}
+use Rattle.vs_outside.specs.Host.{HostContents, accept_answer, after_read, read_answer, after_accept, after_close, called, next_bytes}
 use Rattle.vs_page.specs.Log.{Device, side_by}
 use Rattle.vs_ring_port.specs.{EndLog.EndLog, Lists.Rings}
 use Rattle.vs_matching.specs.{Both.IsSound, Both.Seat, Ends.ends_of, Ends.entries_of}
 use Rattle.vs_matching.proofs.Slots.{found_by, one_end}
-use Rattle.vs_uds.specs.ConnectLine.{connect_step}
+use Rattle.vs_uds.specs.{ConnectLine.connect_step, declared.scan.Step.Step}
 use Rattle.vs_uds.proofs.Decided.{port_fits}
-use Rattle.std.proofs.Common.{Result, Ok, Err}
-use Rattle.vs_uds.specs.declared.scan.Step.{Step}
-use Rattle.vs_uds.specs.declared.scan.Step.TheVariants as step
 use Rattle.vs_device_parts.specs.Calls.{Accept, DeviceTree, Label, ReadStream}
 use Rattle.vs_device_parts.specs.Connections.{is_late, with_client, with_fault}
 use Rattle.vs_device_parts.specs.State.{DeviceEntry, DeviceState}
 use Rattle.vs_proxy_parts.specs.Handshakes.{accept_answered, accept_one, byte_read, dropping, handshake_on, line_decided, may_open, opening}
-use Rattle.vs_proxy_parts.specs.Handshakes.{tick_handshake, with_line, without_handshake}
+use Rattle.vs_proxy_parts.specs.Handshakes.{tick_handshake, with_line, without_handshake, without_stream}
 use Rattle.vs_proxy_parts.specs.State.{Handshake, ProxyState, Turning, start, with_device}
 use Rattle.vs_proxy_parts.specs.declared.limits.TheConstants.{HANDSHAKES}
 use Rattle.vs_world.specs.{Answers.Around, Answers.answer_around, Answers.bytes_with, Events.line_read}
-use Rattle.vs_world.proofs.Chains.{HoldsRx}
-use Rattle.vs_world.proofs.DeviceSide as side
-use Rattle.vs_world.proofs.DeviceSide.{DeviceHolds, Kept, end_in, seated}
-use Rattle.vs_world.proofs.DeviceTakes as takes
-use Rattle.vs_world.proofs.{Wire.PutsFit, Streams.StreamedIf, Streams.called_host, Streams.goes_on}
-use Rattle.std.proofs.Common.{◌≢◌, ◌==◌}
+use Rattle.vs_world.proofs.{Chains.HoldsRx, DeviceSide.DeviceHolds, DeviceSide.Kept, DeviceSide.end_in, DeviceSide.seated, Wire.PutsFit}
+use Rattle.vs_world.proofs.Streams.{StreamedIf, called_host, goes_on}
 use Rattle.std.specs.List.{All}
-use Rattle.vs_outside.specs.{Host.after_accept, Host.after_close, Host.called, Host.next_bytes, HostBytes.after_line}
-use Rattle.vs_proxy_parts.specs.Handshakes.{without_stream}
 use Rattle.vs_pipes.specs.Streamed.{has_line, look, reading}
-use Rattle.vs_pipes.proofs.Hands.{ends_by, no_line, without_after, without_none}
 use Rattle.vs_pipes.proofs.{HostCalls.accepted_host, HostCalls.closed_host, Lines.line_ends, Lines.line_whole}
 use Rattle.vs_pipes.proofs.Opens.{IsHand, hand_of, label_host, line_more, line_now, line_over, one_byte, without_host}
-use Rattle.vs_flow.proofs.Entries.{found_passes}
+use Rattle.vs_pipes.proofs.Hands.{ends_by, no_line, without_after, without_none}
+use Rattle.vs_outside.specs.declared.host_net.Accepted.TheVariants as accepted_as
+use Rattle.vs_outside.specs.declared.host_net.StreamRead.TheVariants as read
+use Rattle.vs_uds.specs.declared.scan.Step.TheVariants as step
+use Rattle.vs_world.proofs.DeviceSide as side
+use Rattle.vs_world.proofs.DeviceTakes as takes
 
 module _ (driver : Seat) (first : ℕ) (w : ProxyState) (a : Around) (sound : IsSound first (seated driver w.next_port w.device a.log.entries))
     (holds : DeviceHolds w.next_port w.device) (puts : PutsFit a.log.entries) (rx : HoldsRx w.device.chain a.log.held) (known : a.lists.cid < 2 ^ 64) (fresh : Type 0) where

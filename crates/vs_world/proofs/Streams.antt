@@ -1,62 +1,51 @@
 -- What the host's streams took and gave, through the small changes of the device.
+use Rattle.std.proofs.{lemmas.Bool.Decides.nat_tests, lemmas.Grind.common_steps, lemmas.List.append-nil}
 use Rattle.std.proofs.Common.{◌≡◌, ℕ, ◌+◌, ◌-◌, ◌≤◌, ◌==◌, ◌&&◌, nat_le, Bool, true, false, cond, List, [], ◌∷◌, ◌++◌, length, take, drop}
 use Rattle.std.proofs.Common.{Contains, Option, Some, None, refl, sym, ap, subst, ◌∙◌, arith}
-use Rattle.std.proofs.lemmas.Bool.Decides.{nat_tests}
-use Rattle.std.proofs.lemmas.{Grind.common_steps, List.append-nil}
+use Rattle.std.proofs.Math.Seq.{drop-nil, take-nil}
 use Rattle.std.specs.{List.All, Option.option_map}
-use Rattle.vs_conn.specs.End.{ConnectionEnd, end_after, is_of, is_reset, verdict_of, with_shut}
-use Rattle.vs_conn.specs.declared.end.State.TheVariants as state
+use Rattle.vs_conn.specs.End.{ConnectionEnd, end_after, is_of, is_reset, verdict_of, with_shut, with_payload_sent}
 use Rattle.vs_conn.specs.declared.end.Verdict.{Verdict}
-use Rattle.vs_conn.specs.declared.end.Verdict.TheVariants as verdict
-use Rattle.vs_device_parts.specs.Connections.{after_shut, after_written, cut_off}
 use Rattle.vs_device_parts.specs.{State.DeviceConnection, State.DeviceEntry, Transmitting.heard, Streams.to_write}
+use Rattle.vs_device_parts.specs.Connections.{after_shut, after_written, cut_off}
 use Rattle.vs_flow.specs.{Flow.is_assigned, Flow.same_flow, Table.IsTable, Table.Table, Table.entry_of, Table.with_value, Table.without}
 use Rattle.vs_flow.specs.declared.flow.Flow.{Flow}
 use Rattle.vs_flow.proofs.Entries.{none_found}
-use Rattle.vs_history.specs.History.{Answerer, Asker, Got, History, IsFair, Side, gots, is_begun, puts}
+use Rattle.vs_history.specs.{Packets.has, Packets.is_request, Packets.is_response, Packets.is_rw, declared.packet.Packet.Packet}
+use Rattle.vs_history.specs.History.{Answerer, Asker, Got, History, IsFair, Side, gots, puts, MayPut, peer}
+use Rattle.vs_history.specs.Again.{AllowsNow}
 use Rattle.vs_driver_parts.proofs.Delivers.{delivers, named_rw}
-use Rattle.std.proofs.Math.Seq.{drop-nil, take-nil}
-use Rattle.vs_conn.specs.End.{with_payload_sent}
 use Rattle.vs_matching.specs.Steps.{payload_on}
-use Rattle.vs_matching.proofs.Fair.{fair_begun}
-use Rattle.vs_outside.specs.declared.host_net.StreamRead.TheVariants as read
-use Rattle.vs_outside.specs.declared.host_net.StreamWrite.TheVariants as write
-use Rattle.vs_pipes.specs.Drains.{Drains}
-use Rattle.vs_pipes.proofs.Gives.{drop_both, first_of, forwards_asked, forwards_gives}
-use Rattle.vs_pipes.proofs.{HostCalls.read_host, HostCalls.write_host, Hosts.unseen, Steps.comes_out, Streamed.join_of}
+use Rattle.vs_pipes.specs.Drains.{Drains, got_on, put_on}
+use Rattle.vs_pipes.specs.Streamed.{IsJoined, IsStreamed, gives, line_for, look, seen}
+use Rattle.vs_pipes.proofs.{HostCalls.read_host, HostCalls.write_host, HostCalls.same_host, Hosts.unseen}
+use Rattle.vs_pipes.proofs.Gives.{drop_both, first_of, forwards_asked, forwards_gives, accepted_other, accepts_asked, accepts_response}
+use Rattle.vs_pipes.proofs.Gives.{answered_host, comes_behind, delivered_other, delivers_gives, gives_delivered, goes_host, hears_asked}
+use Rattle.vs_pipes.proofs.Gives.{hears_gives, kept_empty, response_empty, shut_gives, shuts_asked, unanswered_got}
+use Rattle.vs_pipes.proofs.Logs.{got_after_got, got_after_put, none_on_any, only_on, passed_after_got, passed_after_put, put_after_got}
+use Rattle.vs_pipes.proofs.Logs.{put_after_put}
+use Rattle.vs_pipes.proofs.Steps.{comes_out, Goes, drops, stays_still}
+use Rattle.vs_pipes.proofs.Streamed.{join_of, left_streamed, passed_streamed, same_streamed}
 use Rattle.vs_outside.specs.Host.{after_failed, after_read, after_shut_write, after_write, called, dial_answer, fails_now, is_listened}
-use Rattle.vs_outside.specs.Host.{next_bytes}
-use Rattle.vs_outside.specs.declared.host_net.Dialed.TheVariants as dialed
+use Rattle.vs_outside.specs.Host.{next_bytes, HostContents}
 use Rattle.vs_outside.proofs.Frames.{stream_at-after_failed}
-use Rattle.vs_pipes.proofs.HostCalls.{same_host}
-use Rattle.vs_history.specs.Packets.{has, is_request, is_response, is_rw}
-use Rattle.vs_history.specs.declared.packet.Packet.{Packet}
-use Rattle.vs_outside.specs.Host.{HostContents}
-use Rattle.vs_page.specs.{Fair.IsFairLog, Fair.payload_of, Held.IsWhole, Held.packet_held, Held.packet_with, Held.payload_held}
-use Rattle.vs_page.specs.Log.{Device, Log, flow_got, flow_put, history_of, side_of}
-use Rattle.vs_header.specs.Packet.{header_of}
-use Rattle.vs_header.specs.declared.Header.{Header}
+use Rattle.vs_page.specs.Fair.{IsFairLog, payload_of, IsFairOn}
+use Rattle.vs_page.specs.Held.{IsWhole, packet_held, packet_with, payload_held}
+use Rattle.vs_page.specs.Log.{Device, Log, flow_got, flow_put, history_of, side_of, whole_of}
 use Rattle.vs_page.specs.declared.log.LogEntry.TheVariants.{GotPacket, PutPacket}
+use Rattle.vs_header.specs.{Packet.header_of, declared.Header.Header, declared.Kind.Kind}
 use Rattle.vs_page.proofs.Flows.{same_self}
 use Rattle.vs_proxy_parts.specs.State.{Handshake}
 use Rattle.vs_uds.specs.{ConnectLine.connect_port, ConnectLine.connect_step, Reading.is_decided, Reading.port_or_bad}
-use Rattle.vs_uds.specs.declared.connect.TheConstants.{CONNECT_MAX}
-use Rattle.vs_uds.specs.declared.scan.Step.TheVariants as step
-use Rattle.vs_uds.specs.OkLine.{ok_text}
-use Rattle.vs_pipes.specs.Drains.{got_on, put_on}
-use Rattle.vs_pipes.specs.Streamed.{IsJoined, IsStreamed, gives, line_for, look, seen}
-use Rattle.vs_pipes.proofs.Gives.{accepted_other, accepts_asked, accepts_response, answered_host, comes_behind, delivered_other}
-use Rattle.vs_pipes.proofs.Gives.{delivers_gives, gives_delivered, goes_host, hears_asked, hears_gives, kept_empty, response_empty}
-use Rattle.vs_pipes.proofs.Gives.{shut_gives, shuts_asked, unanswered_got}
-use Rattle.vs_pipes.proofs.Logs.{got_after_got, got_after_put, none_on_any, only_on, passed_after_got, passed_after_put, put_after_got}
-use Rattle.vs_pipes.proofs.{Logs.put_after_put, Steps.Goes, Steps.drops, Steps.stays_still}
-use Rattle.vs_pipes.proofs.Streamed.{left_streamed, passed_streamed, same_streamed}
+use Rattle.vs_uds.specs.{declared.connect.TheConstants.CONNECT_MAX, OkLine.ok_text}
 use Rattle.vs_world.proofs.{DeviceSide.end_in, DeviceSide.held_in, Entries.without_changed}
-use Rattle.vs_header.specs.declared.Kind.{Kind}
 use Rattle.vs_matching.proofs.Fair.{fair_now, own_got_fair}
-use Rattle.vs_page.specs.{Fair.IsFairOn, Log.whole_of}
-use Rattle.vs_history.specs.History.{MayPut, peer}
-use Rattle.vs_history.specs.Again.{AllowsNow}
+use Rattle.vs_conn.specs.declared.end.State.TheVariants as state
+use Rattle.vs_conn.specs.declared.end.Verdict.TheVariants as verdict
+use Rattle.vs_outside.specs.declared.host_net.StreamRead.TheVariants as read
+use Rattle.vs_outside.specs.declared.host_net.StreamWrite.TheVariants as write
+use Rattle.vs_outside.specs.declared.host_net.Dialed.TheVariants as dialed
+use Rattle.vs_uds.specs.declared.scan.Step.TheVariants as step
 
 -- Where the host was fresh at first.
 abbrev pub StreamedIf : Type 0 → HostContents → Log → ℕ → Table DeviceConnection → List Handshake → Type 0
