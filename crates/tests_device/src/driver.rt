@@ -6,12 +6,10 @@ ghost use Rattle.vs_driver_log.specs.Honest.{IsHonest};
 use std::alloc::Global;
 use std::test::Fail;
 use vs_driver::{ConnId, ConnectError, Driver};
-use vs_flow::{ASSIGNED_FIRST, Flow};
+use vs_flow::Flow;
+use vs_limits::{ASSIGNED_FIRST, LAST_PORT};
 use vs_ring_list::ListRings;
 use vs_ring_port::DriverRing;
-
-// The last guest port that the driver gives.
-const LAST_PORT: u32 = 1_073_741_823;
 
 // Whether a connect answers this.
 fn answers<R: DriverRing>(

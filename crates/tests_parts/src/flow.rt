@@ -1,7 +1,8 @@
 //! The table of flows.
 
 use std::alloc::{AllocError, Global};
-use vs_flow::{Flow, FlowTable, HOST_CID};
+use vs_flow::{Flow, FlowTable};
+use vs_limits::HOST_CID;
 
 const FIRST: Flow = Flow {
     guest: 1024,

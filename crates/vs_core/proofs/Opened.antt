@@ -4,7 +4,7 @@ use Rattle.vs_outside.specs.{Host.HostContents, HostProgram.HostMemory, HostProg
 use Rattle.vs_ring_list.specs.Ends.{Ends, empty_ends}
 use Rattle.vs_matching.specs.Both.{Both}
 use Rattle.vs_driver_parts.specs.{Conversations.new_of, State.DriverState}
-use Rattle.vs_driver_parts.specs.declared.limits.TheConstants.{FIRST_PORT}
+use Rattle.vs_limits.specs.declared.TheConstants.{FIRST_PORT}
 use Rattle.vs_device_laws.proofs.Opening.{new_has}
 use Rattle.vs_proxy_parts.specs.{State.ProxyState, Turns.new_proxy}
 use Rattle.vs_proxy_laws.proofs.Lists.{none_open}

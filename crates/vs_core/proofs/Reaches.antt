@@ -2,24 +2,21 @@
 use Rattle.std.proofs.Common.{◌≡◌, ℕ, ◌-◌, nat_lt, nat_le, Bool, true, false, cond, List, length, Option, Some, None, refl}
 use Rattle.vs_contents.specs.CallTree.{Done, Ask, bind}
 use Rattle.vs_flow.specs.Table.{entry_under}
-use Rattle.vs_header.specs.Packet.{header_of}
-use Rattle.vs_header.specs.declared.{Header.Header, TheConstants.HEADER_LEN}
-use Rattle.vs_ring_port.specs.Contents.{Take}
-use Rattle.vs_ring_port.specs.declared.device_ring.{Chain.Chain, Next.Next}
-use Rattle.vs_ring_port.specs.declared.device_ring.Next.TheVariants as next
-use Rattle.vs_ring_port.specs.declared.failure.Failure.TheVariants as failure
-use Rattle.vs_ring_port.specs.declared.queue.Queue.{Queue}
+use Rattle.vs_header.specs.{Packet.header_of, declared.Header.Header, declared.TheConstants.HEADER_LEN}
+use Rattle.vs_ring_port.specs.{Contents.Take, declared.device_ring.Chain.Chain, declared.device_ring.Next.Next, declared.queue.Queue.Queue}
 use Rattle.vs_ring_port.specs.declared.queue.Queue.TheVariants.{Rx, Tx, Event}
 use Rattle.vs_device_parts.specs.{Calls.Ring, Calls.Situation, Calls.DeviceTree, Calls.Allows, Playing.CanMake, Playing.MayRun}
 use Rattle.vs_device_parts.specs.{Receiving.Filling, Receiving.holding, State.DeviceEntry, State.DeviceState}
 use Rattle.vs_device_parts.specs.Steps.{chain_came, filling, shuts_write, takes_chain, writes, writes_on, writing}
 use Rattle.vs_device_parts.specs.Streams.{shut_write, tick_slot, write_pending}
 use Rattle.vs_device_parts.specs.Transmitting.{failing, on_packet}
-use Rattle.vs_device_parts.specs.declared.limits.TheConstants.{REPLIES}
+use Rattle.vs_limits.specs.declared.TheConstants.{DEVICE_REPLIES}
 use Rattle.vs_device_laws.specs.Streams.{FindsStreams}
 use Rattle.vs_device_laws.proofs.{Closing.found_by_slot, Closing.keeps_tick_slot, Closing.stays, Conditions.quiet_can}
 use Rattle.vs_device_laws.proofs.{Keeping.Keeps, Keeping.keeps_may, Keeping.keeps_then, Transmitting.keeps_on_packet}
 use Rattle.vs_device_laws.proofs.Writing.{keeps_shut_write, keeps_write_pending}
+use Rattle.vs_ring_port.specs.declared.device_ring.Next.TheVariants as next
+use Rattle.vs_ring_port.specs.declared.failure.Failure.TheVariants as failure
 
 -- A conversation, and then an end.
 abbrev Any : {A : Type 0} → A → Situation → Type 0
@@ -66,7 +63,7 @@ module _ (others : List ℕ) where
   event_may false s c = tt
 
   pub takes_may : (queue : Queue) (s : DeviceState) (c : Situation) → FindsStreams others s c → MayRun (takes_chain queue s) c
-  takes_may Tx s c has = tx_may (nat_le REPLIES (length s.replies)) s c has
+  takes_may Tx s c has = tx_may (nat_le DEVICE_REPLIES (length s.replies)) s c has
   takes_may Rx s c has = rx_may s.chain (filling s) c
   takes_may Event s c has = event_may s.event_owed s c
 

@@ -12,6 +12,7 @@ ghost use Rattle.vs_core.specs.Ready.{Happens, IsReady};
 use crate::world::World;
 use std::alloc::AllocError;
 use vs_flow::Slot;
+use vs_limits::{GUEST_CID_MAX, GUEST_CID_MIN};
 use vs_outside::MemHost;
 use vs_proxy::steps;
 use vs_ring_list::ListRings;
@@ -199,7 +200,7 @@ impl World {
 fn is_guest_cid(cid: u64) -> bool
     ensures { result ≡ is_guest_cid cid }
 {
-    3 <= cid && cid <= 4294967294
+    GUEST_CID_MIN as u64 <= cid && cid <= GUEST_CID_MAX as u64
 }
 
 // It is a chain of the transmit queue.

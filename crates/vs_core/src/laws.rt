@@ -1,10 +1,9 @@
 //! Laws of the world, over every list of events.
 
 ghost use Rattle.std.specs.Prelude.{◌≡◌, ℕ, ◌≤◌, ◌||◌, false, true, List, [], ◌∷◌, length, All};
-ghost use Rattle.vs_history.specs.declared.TheConstants.{BUF_ALLOC};
+ghost use Rattle.vs_limits.specs.declared.TheConstants.{BUF_ALLOC, FIRST_PORT, ASSIGNED_FIRST};
 ghost use Rattle.vs_conn.specs.End.{ConnectionEnd, is_refused, verdict_of};
-ghost use Rattle.vs_driver_parts.specs.declared.limits.TheConstants.{FIRST_PORT};
-ghost use Rattle.vs_flow.specs.declared.flow.{Flow.Flow, TheConstants.ASSIGNED_FIRST};
+ghost use Rattle.vs_flow.specs.declared.flow.Flow.{Flow};
 ghost use Rattle.vs_history.specs.declared.packet.Packet.{Packet};
 ghost use Rattle.vs_matching.specs.{Both.start, Ends.begun_flows, Ends.flows_of, Ends.is_among, Ends.new_flows, Matches.Matches};
 ghost use Rattle.vs_matching.specs.Steps.{HasEnd, is_overrun};

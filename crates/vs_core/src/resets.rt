@@ -2,7 +2,7 @@
 
 ghost use Rattle.std.specs.Prelude.{◌≡◌, ℕ, nat_lt, false, true, List, [], length, Some, None};
 ghost use Rattle.vs_driver_parts.specs.Receiving.{is_reset_event};
-ghost use Rattle.vs_driver_parts.specs.declared.limits.TheConstants.{REPLIES_FULL};
+ghost use Rattle.vs_limits.specs.declared.TheConstants.{DRIVER_REPLIES_FULL};
 ghost use Rattle.vs_outside.specs.Host.{HostContents};
 ghost use Rattle.vs_ring_port.specs.Lists.{oldest};
 ghost use Rattle.vs_ring_port.specs.declared.queue.Queue.TheVariants as queue;
@@ -15,7 +15,7 @@ pub fn law_of_emptied_tables()
     ensures device { (cid : ℕ) (w : World) → is_guest_cid cid ≡ true → w.proxy.device.failed ≡ None →
         IsEmptied (happens (Reset cid) w).proxy }
     ensures driver { (n : ℕ) (host : HostContents) (es : List Event) (page : List ℕ) → let w = run es (opening n host) in
-        works_on queue.Event w.rings.driver.staged ≡ true → nat_lt REPLIES_FULL (length w.driver.replies) ≡ false
+        works_on queue.Event w.rings.driver.staged ≡ true → nat_lt DRIVER_REPLIES_FULL (length w.driver.replies) ≡ false
         → oldest w.rings.lists.event.back ≡ Some page → is_reset_event page ≡ true
         → (happens (GuestTakes queue.Event) w).driver.table.entries ≡ [] }
 {}

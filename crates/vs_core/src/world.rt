@@ -4,7 +4,7 @@ ghost use Rattle.std.specs.Prelude.{◌≡◌, ◌≤◌, IfOk, [], length};
 ghost use Rattle.vs_outside.specs.HostProgram.{new_host, plain};
 ghost use Rattle.vs_ring_list.specs.Ends.{IsQueueSize, empty_ends};
 ghost use Rattle.vs_driver_parts.specs.Conversations.{new_of};
-ghost use Rattle.vs_driver_parts.specs.declared.limits.TheConstants.{FIRST_PORT};
+ghost use Rattle.vs_limits.specs.declared.TheConstants.{FIRST_PORT};
 ghost use Rattle.vs_proxy_parts.specs.Turns.{new_proxy};
 ghost use Rattle.vs_uds.specs.declared.path.TheConstants.{BASE_MAX};
 ghost use Rattle.vs_world.specs.{Over.over_lists, World.first_cid, World.opened_host, World.opening};
@@ -13,8 +13,8 @@ ghost use Rattle.vs_core.specs.Ready.{IsDrivenAtWork, IsReady, shown};
 use std::alloc::{AllocError, Global};
 use std::marker::Model;
 use vs_driver::Driver;
+use vs_limits::FIRST_CID;
 use vs_outside::{MemHost, MemStream};
-use vs_page::FIRST_CID;
 use vs_proxy::Proxy;
 use vs_ring_list::ListRings;
 

@@ -6,27 +6,23 @@ use Rattle.std.specs.Option.{IfSome, option_map_or}
 use Rattle.byteorder.specs.Endian.{little_bytes}
 use Rattle.vs_contents.specs.CallTree.{Done, Ask, bind}
 use Rattle.vs_contents.proofs.{Leads.leads_of, Leads.leads_bind, Conditions.may_first, Conditions.may_of}
-use Rattle.vs_device.proofs.Trees.{bind_assoc}
+use Rattle.vs_device.proofs.{Trees.bind_assoc, Takings.Heard}
 use Rattle.vs_flow.specs.Table.{entry_under}
-use Rattle.vs_header.specs.Packet.{header_of}
-use Rattle.vs_header.specs.declared.TheConstants.{HEADER_LEN}
+use Rattle.vs_header.specs.{Packet.header_of, declared.TheConstants.HEADER_LEN, declared.Header.Header}
+use Rattle.vs_ring_port.specs.{Contents.Read, Contents.Return, Contents.Take, Contents.Write, declared.device_ring.Chain.Chain}
+use Rattle.vs_ring_port.specs.{declared.device_ring.Next.Next, declared.queue.Queue.Queue}
 use Rattle.vs_ring_port.specs.Chains.{held_after, same_chain, same_queue, without}
-use Rattle.vs_ring_port.specs.Contents.{Read, Return, Take, Write}
-use Rattle.vs_ring_port.specs.declared.device_ring.{Chain.Chain, Next.Next}
-use Rattle.vs_ring_port.specs.declared.device_ring.Next.TheVariants as next
-use Rattle.vs_ring_port.specs.declared.queue.Queue.{Queue}
 use Rattle.vs_ring_port.specs.declared.queue.Queue.TheVariants.{Rx, Tx, Event}
+use Rattle.vs_ring_port.specs.declared.failure.Failure.{Failure}
+use Rattle.vs_device_parts.specs.{State.DeviceEntry, State.DeviceState, Streams.Writing, Streams.shut_write, Streams.write_pending}
+use Rattle.vs_device_parts.specs.Steps.{chain_came, filling, heard_chain, puts_event, puts_owed, puts_reply, shuts_write, takes_chain}
+use Rattle.vs_device_parts.specs.Steps.{writes, writes_on, writing}
 use Rattle.vs_device_parts.specs.Calls.{Allows, DeviceTree, Ring, Situation}
 use Rattle.vs_device_parts.specs.Playing.{CanMake, IsAmong, IsRxChain, MayRun, Runs}
 use Rattle.vs_device_parts.specs.Receiving.{Filling, event_on, hold, put_owed, put_reply}
-use Rattle.vs_device_parts.specs.State.{DeviceEntry, DeviceState}
-use Rattle.vs_device_parts.specs.Steps.{chain_came, filling, heard_chain, puts_event, puts_owed, puts_reply, shuts_write, takes_chain}
-use Rattle.vs_device_parts.specs.{Steps.writes, Steps.writes_on, Steps.writing, Streams.Writing, Streams.shut_write, Streams.write_pending}
 use Rattle.vs_device_parts.specs.Transmitting.{failing, on_packet}
-use Rattle.vs_device_parts.specs.declared.limits.TheConstants.{REPLIES}
-use Rattle.vs_device.proofs.Takings.{Heard}
-use Rattle.vs_header.specs.declared.Header.{Header}
-use Rattle.vs_ring_port.specs.declared.failure.Failure.{Failure}
+use Rattle.vs_limits.specs.declared.TheConstants.{DEVICE_REPLIES}
+use Rattle.vs_ring_port.specs.declared.device_ring.Next.TheVariants as next
 use Rattle.vs_ring_port.specs.declared.failure.Failure.TheVariants as failure
 
 of_heard : Heard → DeviceTree DeviceState
@@ -105,15 +101,15 @@ module _ (s : DeviceState) where
   room_by true is = absurd (cc)
   room_by false is = refl
 
-  pub takes_none : (x : Situation) → nat_le REPLIES (length s.replies) ≡ true → Runs (takes_chain Tx s) x s x
-  takes_none x full = leads_of Allows _ _ x x s (full_by (nat_le REPLIES (length s.replies)) full) (refl, refl)
+  pub takes_none : (x : Situation) → nat_le DEVICE_REPLIES (length s.replies) ≡ true → Runs (takes_chain Tx s) x s x
+  takes_none x full = leads_of Allows _ _ x x s (full_by (nat_le DEVICE_REPLIES (length s.replies)) full) (refl, refl)
 
-  module _ (room : nat_le REPLIES (length s.replies) ≡ false) (answer : Next) (x y : Situation) (allowed : Allows (Ring (Take Tx)) answer x y) where
+  module _ (room : nat_le DEVICE_REPLIES (length s.replies) ≡ false) (answer : Next) (x y : Situation) (allowed : Allows (Ring (Take Tx)) answer x y) where
     pub may_come : MayRun (takes_chain Tx s) x → MayRun (chain_came answer s) y
-    may_come may = (may_of CanMake Allows _ _ x (room_by (nat_le REPLIES (length s.replies)) room) may).1 answer y allowed
+    may_come may = (may_of CanMake Allows _ _ x (room_by (nat_le DEVICE_REPLIES (length s.replies)) room) may).1 answer y allowed
 
     pub came : (t : DeviceState) (z : Situation) → Runs (chain_came answer s) y t z → Runs (takes_chain Tx s) x t z
-    came t z rest = leads_of Allows _ _ x z t (room_by (nat_le REPLIES (length s.replies)) room) (answer, y, allowed, rest)
+    came t z rest = leads_of Allows _ _ x z t (room_by (nat_le DEVICE_REPLIES (length s.replies)) room) (answer, y, allowed, rest)
 
 heard_by : (chain : Chain) (s : DeviceState) (h : Header) (b : Bool) → (let f = failure.PayloadShort h.len (chain.readable - HEADER_LEN) in
     let tree : DeviceTree DeviceState = cond b (Done (failing f s)) (bind (on_packet chain h s) (λ r. Done r.0)) in tree)

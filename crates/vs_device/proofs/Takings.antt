@@ -1,32 +1,29 @@
 -- What taking a packet comes to.
 use Rattle.std.proofs.Common.{◌≡◌, ℕ, ◌-◌, Bool, true, false, cond, List, ◌∷◌, length, nat_lt, nat_le, Option, Some, None, Result, Ok, Err}
 use Rattle.std.proofs.Common.{refl, sym, ap, subst, ◌∙◌, arith}
-use Rattle.std.specs.List.{Contains}
 use Rattle.std.proofs.Math.Path.{fun_ext}
+use Rattle.std.specs.List.{Contains}
 use Rattle.vs_contents.specs.CallTree.{Done, Ask, bind}
 use Rattle.vs_device.proofs.Trees.{bind_assoc}
 use Rattle.vs_contents.proofs.{Leads.leads_of, Leads.leads_bind, Conditions.may_first, Conditions.may_of}
 use Rattle.vs_conn.specs.declared.end.Verdict.{Verdict}
 use Rattle.vs_flow.specs.{Flow.is_assigned, Table.entry_of, Table.has_place}
-use Rattle.vs_header.specs.Packet.{header_of}
-use Rattle.vs_header.specs.declared.{Header.Header, TheConstants.HEADER_LEN}
+use Rattle.vs_header.specs.{Packet.header_of, declared.Header.Header, declared.TheConstants.HEADER_LEN}
 use Rattle.vs_outside.specs.declared.host_net.Dialed.{Dialed}
 use Rattle.vs_page.specs.Log.{flow_to_host}
-use Rattle.vs_ring_port.specs.declared.device_ring.{Chain.Chain, Next.Next}
-use Rattle.vs_ring_port.specs.declared.device_ring.Next.TheVariants as next
-use Rattle.vs_ring_port.specs.declared.failure.Failure.{Failure}
-use Rattle.vs_ring_port.specs.declared.failure.Failure.TheVariants as failure
+use Rattle.vs_ring_port.specs.{declared.device_ring.Chain.Chain, declared.device_ring.Next.Next, declared.failure.Failure.Failure}
+use Rattle.vs_ring_port.specs.{Chains.same_queue, Chains.same_chain, Chains.without, Contents.Take, Contents.Read, Contents.Return}
 use Rattle.vs_ring_port.specs.declared.queue.Queue.{Queue}
 use Rattle.vs_ring_port.specs.declared.queue.Queue.TheVariants.{Rx, Tx, Event}
-use Rattle.vs_ring_port.specs.{Chains.same_queue, Chains.same_chain, Chains.without, Contents.Take, Contents.Read, Contents.Return}
 use Rattle.vs_uds.specs.Path.{path_of}
-use Rattle.vs_device_parts.specs.declared.answers.Taken.{Taken}
-use Rattle.vs_device_parts.specs.declared.answers.Taken.TheVariants as taken
-use Rattle.vs_device_parts.specs.declared.limits.TheConstants.{REPLIES}
-use Rattle.vs_device_parts.specs.Calls.{Situation, DeviceTree, Allows, Ring, Dial}
+use Rattle.vs_device_parts.specs.{declared.answers.Taken.Taken, Calls.Situation, Calls.DeviceTree, Calls.Allows, Calls.Ring, Calls.Dial}
 use Rattle.vs_device_parts.specs.{State.DeviceEntry, State.DeviceState, Playing.CanMake, Playing.MayRun, Playing.Runs}
 use Rattle.vs_device_parts.specs.{Steps.heard_chain, Steps.heard_header, Taking.is_not_for_host, Taking.known_packet}
 use Rattle.vs_device_parts.specs.Transmitting.{dial_answered, failing, on_next, on_packet, take_tx_of, try_request}
+use Rattle.vs_limits.specs.declared.TheConstants.{DEVICE_REPLIES}
+use Rattle.vs_ring_port.specs.declared.device_ring.Next.TheVariants as next
+use Rattle.vs_ring_port.specs.declared.failure.Failure.TheVariants as failure
+use Rattle.vs_device_parts.specs.declared.answers.Taken.TheVariants as taken
 
 -- the newest of the chains that are held
 same_queue_refl : (q : Queue) → same_queue q q ≡ true
@@ -140,15 +137,15 @@ module _ (chain : Chain) (s : DeviceState) where
       (leads_bind Allows (heard_chain chain s) after_heard x y y (t, Err f) (t, taken.Failed f) first (refl, refl))
 
 -- the next chain of tx
-module _ (s : DeviceState) (sound : s.failed ≡ None) (room : nat_le REPLIES (length s.replies) ≡ false) where
+module _ (s : DeviceState) (sound : s.failed ≡ None) (room : nat_le DEVICE_REPLIES (length s.replies) ≡ false) where
   with_room : Bool → DeviceTree (DeviceState × Taken)
-  with_room b = cond b (Done (s, taken.RepliesFull REPLIES)) (Ask (Ring (Take Tx)) (λ answer. on_next answer s))
+  with_room b = cond b (Done (s, taken.RepliesFull DEVICE_REPLIES)) (Ask (Ring (Take Tx)) (λ answer. on_next answer s))
 
   unless_failed : Option Failure → DeviceTree (DeviceState × Taken)
   unless_failed (Some f) = Done (s, taken.Failed f)
-  unless_failed None = with_room (nat_le REPLIES (length s.replies))
+  unless_failed None = with_room (nat_le DEVICE_REPLIES (length s.replies))
 
-  as_cases : (o : Option Failure) → elim o [ Some f ↦ Done (s, taken.Failed f) | None ↦ cond (nat_le REPLIES (length s.replies)) (Done (s, taken.RepliesFull REPLIES)) (Ask (Ring (Take Tx)) (λ answer. on_next answer s)) ] ≡ unless_failed o
+  as_cases : (o : Option Failure) → elim o [ Some f ↦ Done (s, taken.Failed f) | None ↦ cond (nat_le DEVICE_REPLIES (length s.replies)) (Done (s, taken.RepliesFull DEVICE_REPLIES)) (Ask (Ring (Take Tx)) (λ answer. on_next answer s)) ] ≡ unless_failed o
   unfolding with_room unless_failed
   as_cases (Some f) = refl
   as_cases None = refl

@@ -1,6 +1,7 @@
 //! The device: its connections, what it owes to unknown flows, the event that it owes, the chain that it holds, and what it counted.
 
 ghost use Rattle.std.specs.Prelude.{◌≡◌, ◌≤◌, ℕ, List, [], Some, IfOk, length};
+ghost use Rattle.vs_limits.specs.declared.TheConstants.{GUEST_CID_MIN, GUEST_CID_MAX};
 ghost use Rattle.vs_outside.specs.Host.{HostContents};
 ghost use Rattle.vs_ring_port.specs.{Contents.RingContents, EndLog.EndLog};
 ghost use Rattle.vs_device_laws.specs.Streams.{AreOpen, HasStreams};
@@ -12,10 +13,10 @@ ghost use Rattle.vs_device_parts.specs.{Connections.with_fault, Transmitting.fai
 use std::alloc::{AllocError, Global};
 use std::marker::Model;
 use vs_device_parts::answers::Counters;
-use vs_device_parts::limits::REPLIES;
 use vs_device_parts::slots::{BUFFER_LEN, Slots};
 use vs_event::OwedEvent;
 use vs_flow::Slot;
+use vs_limits::DEVICE_REPLIES;
 use vs_replies::Replies;
 use vs_ring_port::{Chain, Failure};
 
@@ -73,7 +74,7 @@ impl Device {
     /// A device without connections, for the guest with a CID from 3 to 4,294,967,294. The base path is that of the host's sockets, and has 1
     /// to 90 bytes. All its memory is taken here. The only error is want of memory.
     pub fn new(alloc: Global, cid: u64, base: &str) -> Result<Device, AllocError>
-        requires cid { (3 ≤ cid) × (cid ≤ 4294967294) }
+        requires cid { (GUEST_CID_MIN ≤ cid) × (cid ≤ GUEST_CID_MAX) }
         requires base { (1 ≤ length base.now) × (length base.now ≤ BASE_MAX) }
         ensures state { IfOk result (λ device. device ≡ new_device cid base.now) }
         ensures streams { IfOk result (λ device. (others : List ℕ) (host : HostContents) → AreOpen others host
@@ -88,7 +89,7 @@ impl Device {
             base: String::from_str(alloc, base)?,
             moment: 0,
             slots: Slots::new(alloc)?,
-            replies: Replies::new(alloc, REPLIES)?,
+            replies: Replies::new(alloc, DEVICE_REPLIES)?,
             event: OwedEvent::new(),
             chain: None,
             last_put: None,

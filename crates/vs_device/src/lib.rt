@@ -16,4 +16,3 @@ pub use device::Device;
 pub use turns::Entries;
 pub use vs_device_parts::answers::{Counters, Filled, Taken};
 pub use vs_device_parts::limits;
-pub use vs_device_parts::limits::{CONNECTIONS, TIMEOUT};

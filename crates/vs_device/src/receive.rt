@@ -24,7 +24,7 @@ ghost use Rattle.vs_device_parts.specs.Playing.{RunsOnRing, beside, situation};
 ghost use Rattle.vs_device_parts.specs.Receiving.{after_paying, fill_rx_of, filled_of, hold, may_read, put_owed, put_payload, put_reply};
 ghost use Rattle.vs_device_parts.specs.{Receiving.read_room, Receiving.read_with_chain, Receiving.serve_slot, State.DeviceEntry};
 ghost use Rattle.vs_device_parts.specs.Steps.{to_read};
-ghost use Rattle.vs_device_parts.specs.declared.limits.TheConstants.{CONNECTIONS, REPLIES};
+ghost use Rattle.vs_limits.specs.declared.TheConstants.{DEVICE_CONNECTIONS, DEVICE_REPLIES};
 
 use crate::device::Device;
 use vs_conn::{OWED_MAX, Owed};
@@ -58,8 +58,8 @@ impl Device {
         ensures kept { (f : Failure) → self.old.failed ≡ Some f → (self.new ≡ self.old) × (result ≡ Err f) }
         ensures failed { IfErr result (λ f. self.new.failed ≡ Some f) }
         ensures ok { OnOk result (self.new.failed ≡ None) }
-        ensures few { IfOk result (λ f. f.put ≤ REPLIES + (OWED_MAX + 1) * CONNECTIONS) }
-        ensures few_read { IfOk result (λ f. f.read ≤ PAYLOAD_MAX * CONNECTIONS) }
+        ensures few { IfOk result (λ f. f.put ≤ DEVICE_REPLIES + (OWED_MAX + 1) * DEVICE_CONNECTIONS) }
+        ensures few_read { IfOk result (λ f. f.read ≤ PAYLOAD_MAX * DEVICE_CONNECTIONS) }
         // Where each connection has an open stream of its own, it has one after the call.
         ensures streams { (others : List ℕ) → ForSome (H.contents host.old) (HasStreams others self.old.table)
             → ForSome (H.contents host.new) (HasStreams others self.new.table) }
@@ -102,12 +102,12 @@ impl Device {
     // Serves all connections, where chains are still there.
     fn serve<R: DeviceRing, H: HostNet>(&mut self, ring: &mut R, host: &mut H, fill: &mut Fill)
         requires ring { IsRingOf (R.held ring.old) self.old }
-        requires few { fill.old.put ≤ REPLIES }
+        requires few { fill.old.put ≤ DEVICE_REPLIES }
         requires none { fill.old.read ≡ 0 }
         requires may { MayRun (serve_rest (filling_of self.old fill.old)) (situation (R.contents ring.old) (H.contents host.old) (H.faults host.old)) }
         ensures ring { IsRingOf (R.held ring.new) self.new }
-        ensures count { fill.new.put ≤ REPLIES + (OWED_MAX + 1) * CONNECTIONS }
-        ensures read { fill.new.read ≤ PAYLOAD_MAX * CONNECTIONS }
+        ensures count { fill.new.put ≤ DEVICE_REPLIES + (OWED_MAX + 1) * DEVICE_CONNECTIONS }
+        ensures read { fill.new.read ≤ PAYLOAD_MAX * DEVICE_CONNECTIONS }
         ensures calls { Runs (serve_rest (filling_of self.old fill.old)) (situation (R.contents ring.old) (H.contents host.old) (H.faults host.old)) (filling_of self.new fill.new) (situation (R.contents ring.new) (H.contents host.new) (H.faults host.new)) }
     {
         if !fill.over {
@@ -118,12 +118,12 @@ impl Device {
     // Serves all connections, those after the slot that last put a packet first.
     fn serve_all<R: DeviceRing, H: HostNet>(&mut self, ring: &mut R, host: &mut H, fill: &mut Fill)
         requires ring { IsRingOf (R.held ring.old) self.old }
-        requires few { fill.old.put ≤ REPLIES }
+        requires few { fill.old.put ≤ DEVICE_REPLIES }
         requires none { fill.old.read ≡ 0 }
         requires may { MayRun (serve_all (filling_of self.old fill.old)) (situation (R.contents ring.old) (H.contents host.old) (H.faults host.old)) }
         ensures ring { IsRingOf (R.held ring.new) self.new }
-        ensures count { fill.new.put ≤ REPLIES + (OWED_MAX + 1) * CONNECTIONS }
-        ensures read { fill.new.read ≤ PAYLOAD_MAX * CONNECTIONS }
+        ensures count { fill.new.put ≤ DEVICE_REPLIES + (OWED_MAX + 1) * DEVICE_CONNECTIONS }
+        ensures read { fill.new.read ≤ PAYLOAD_MAX * DEVICE_CONNECTIONS }
         ensures calls { Runs (serve_all (filling_of self.old fill.old)) (situation (R.contents ring.old) (H.contents host.old) (H.faults host.old)) (filling_of self.new fill.new) (situation (R.contents ring.new) (H.contents host.new) (H.faults host.new)) }
     {
         let slots = self.slots.all();
@@ -284,7 +284,7 @@ impl Device {
         requires start { fill.old ≡ record { put = 0; read = 0; over = false } }
         requires may { MayRunOnRing (while_up_to (length self.old.replies) put_reply (filling_of self.old fill.old)) (R.contents ring.old) }
         ensures ring { IsRingOf (R.held ring.new) self.new }
-        ensures count { fill.new.put ≤ REPLIES }
+        ensures count { fill.new.put ≤ DEVICE_REPLIES }
         ensures read { fill.new.read ≡ 0 }
         ensures calls { RunsOnRing (while_up_to (length self.old.replies) put_reply (filling_of self.old fill.old)) (R.contents ring.old) (filling_of self.new fill.new) (R.contents ring.new) }
     {

@@ -11,9 +11,9 @@ ghost use Rattle.vs_device_parts.specs.Streams.{tick_slot};
 
 use crate::device::Device;
 use vs_device_parts::fill::Fill;
-use vs_device_parts::limits::{REPLIES, WRITE_MAX};
 use vs_device_parts::ring_calls::{return_read, take};
 use vs_flow::Slot;
+use vs_limits::{DEVICE_REPLIES, WRITE_MAX};
 use vs_outside::HostNet;
 use vs_page::PAYLOAD_MAX;
 use vs_ring_port::{Chain, DeviceRing, Next, Queue};
@@ -27,7 +27,7 @@ pub fn take_packet<R: DeviceRing, H: HostNet>(device: &mut Device, ring: &mut R,
     ensures streams { (others : List ℕ) → ForSome (H.contents host.old) (HasStreams others device.old.table)
         → ForSome (H.contents host.new) (HasStreams others device.new.table) }
 {
-    if device.replies.len() >= REPLIES {
+    if device.replies.len() >= DEVICE_REPLIES {
         return;
     }
     match take(ring, Queue::Tx) {

@@ -11,15 +11,15 @@ ghost use Rattle.vs_device_laws.specs.Streams.{HasStreams};
 ghost use Rattle.vs_device_log.specs.Honest.{IsWith};
 ghost use Rattle.vs_proxy_bytes.specs.{Made.Made, Told.AreAccounted, Told.StayAccounted};
 ghost use Rattle.vs_proxy_parts.specs.State.{Handshake};
-ghost use Rattle.vs_device_parts.specs.declared.limits.TheConstants.{WRITE_MAX};
+ghost use Rattle.vs_limits.specs.declared.TheConstants.{WRITE_MAX};
 ghost use Rattle.vs_device_parts.specs.{Connections.is_timed_out, Playing.MayRunOnHost, Playing.RunsOnHost, State.DeviceEntry};
 ghost use Rattle.vs_device_parts.specs.Streams.{tick_of, tick_slot, pump_of, pump_slot, write_pending, write_answered, to_write};
 ghost use Rattle.vs_device_parts.specs.{Streams.shut_write, Streams.is_written_out, Written.writing};
 
 use crate::device::Device;
 use vs_device_parts::host_calls::{shut_write, write};
-use vs_device_parts::limits::{CONNECTIONS, WRITE_MAX};
 use vs_flow::Slot;
+use vs_limits::{DEVICE_CONNECTIONS, WRITE_MAX};
 use vs_outside::{HostNet, StreamWrite};
 
 impl Device {

@@ -8,7 +8,7 @@ ghost use Rattle.vs_contents.specs.CallTree.{Leads};
 ghost use Rattle.vs_credit.specs.Credit.{unread_of};
 ghost use Rattle.vs_flow.specs.Table.{entry_of, entry_under, has_place, value_under, with_value};
 ghost use Rattle.vs_header.specs.declared.TheConstants.{HEADER_LEN};
-ghost use Rattle.vs_history.specs.declared.TheConstants.{BUF_ALLOC};
+ghost use Rattle.vs_limits.specs.declared.TheConstants.{BUF_ALLOC, DEVICE_REPLIES};
 ghost use Rattle.vs_page.specs.Log.{flow_to_host};
 ghost use Rattle.vs_ring_port.specs.{Chains.IsLongEnough, Contents.Read};
 ghost use Rattle.vs_ring_port.specs.declared.device_ring.Chain.{Chain};
@@ -16,7 +16,6 @@ ghost use Rattle.vs_ring_port.specs.declared.device_ring.Next.TheVariants as nex
 ghost use Rattle.vs_ring_port.specs.declared.failure.Failure.{Failure};
 ghost use Rattle.vs_ring_port.specs.declared.queue.Queue.TheVariants.{Tx};
 ghost use Rattle.vs_device_parts.specs.declared.answers.Taken.TheVariants as taken;
-ghost use Rattle.vs_device_parts.specs.declared.limits.TheConstants.{REPLIES};
 ghost use Rattle.vs_device_parts.specs.Connections.{with_connection, with_reply};
 ghost use Rattle.vs_device_parts.specs.Playing.{AllowsOnRing, IsItsRing, IsRxChain, MayClose, MayRun, Runs, RunsOnHost, held_by, situation};
 ghost use Rattle.vs_device_parts.specs.{State.DeviceConnection, State.DeviceEntry, State.DeviceState, Steps.heard_chain};
@@ -32,11 +31,11 @@ use crate::device::Device;
 use vs_conn::{Verdict, Why};
 use vs_device_parts::answers::Taken;
 use vs_device_parts::host_calls::dial;
-use vs_device_parts::limits::REPLIES;
 use vs_device_parts::ring_calls::{read_header, read_payload, return_read, take};
 use vs_device_parts::slots::Slots;
-use vs_flow::{Flow, HOST_CID, Slot, is_assigned};
+use vs_flow::{Flow, Slot, is_assigned};
 use vs_header::{HEADER_LEN, Header, Kind, Op};
+use vs_limits::{DEVICE_REPLIES, HOST_CID};
 use vs_outside::{Dialed, HostNet};
 use vs_replies::Reply;
 use vs_ring_port::{Chain, DeviceRing, Failure, Next, Queue};
@@ -57,7 +56,7 @@ impl Device {
         ensures calls { Runs (take_tx_of self.old) (situation (R.contents ring.old) (H.contents host.old) (H.faults host.old)) (self.new, result) (situation (R.contents ring.new) (H.contents host.new) (H.faults host.new)) }
         ensures kept { (f : Failure) → self.old.failed ≡ Some f → (self.new ≡ self.old) × (result ≡ taken.Failed f) }
         ensures failed { (f : Failure) → result ≡ taken.Failed f → self.new.failed ≡ Some f }
-        ensures full { (n : ℕ) → result ≡ taken.RepliesFull n → (n ≡ REPLIES) × (self.new ≡ self.old) }
+        ensures full { (n : ℕ) → result ≡ taken.RepliesFull n → (n ≡ DEVICE_REPLIES) × (self.new ≡ self.old) }
         // Where each connection has an open stream of its own, it has one after the call.
         ensures streams { (others : List ℕ) → ForSome (H.contents host.old) (HasStreams others self.old.table)
             → ForSome (H.contents host.new) (HasStreams others self.new.table) }
@@ -74,9 +73,9 @@ impl Device {
         if let Some(failure) = self.failed {
             return Taken::Failed(failure);
         }
-        if self.replies.len() >= REPLIES {
+        if self.replies.len() >= DEVICE_REPLIES {
             return Taken::RepliesFull {
-                replies: REPLIES as u32,
+                replies: DEVICE_REPLIES as u32,
             };
         }
         match take(ring, Queue::Tx) {
@@ -100,7 +99,7 @@ impl Device {
         requires rx { IfSome self.old.chain IsRxChain }
         requires queue { chain.queue ≡ Tx }
         requires long_enough { IsLongEnough Tx chain }
-        requires room { length self.old.replies < REPLIES }
+        requires room { length self.old.replies < DEVICE_REPLIES }
         requires may { MayRun (on_next (next.Chain chain) self.old) (situation (R.contents ring.old) (H.contents host.old) (H.faults host.old)) }
         ensures ring { IsItsRing (R.held ring.new) self.new }
         ensures calls { Runs (on_next (next.Chain chain) self.old) (situation (R.contents ring.old) (H.contents host.old) (H.faults host.old)) (self.new, result) (situation (R.contents ring.new) (H.contents host.new) (H.faults host.new)) }
@@ -125,7 +124,7 @@ impl Device {
     ) -> Result<Verdict, Failure>
         requires is_held { Contains (R.held ring.old) chain.now }
         requires long_enough { IsLongEnough Tx chain.now }
-        requires room { length self.old.replies < REPLIES }
+        requires room { length self.old.replies < DEVICE_REPLIES }
         requires may { MayRun (heard_chain chain.now self.old) (situation (R.contents ring.old) (H.contents host.old) (H.faults host.old)) }
         ensures held { R.held ring.new ≡ R.held ring.old }
         ensures chain { self.new.chain ≡ self.old.chain }
@@ -154,7 +153,7 @@ impl Device {
     ) -> Verdict
         requires is_held { Contains (R.held ring.old) chain.now }
         requires whole { HEADER_LEN + header.now.len ≤ chain.now.readable }
-        requires room { length self.old.replies < REPLIES }
+        requires room { length self.old.replies < DEVICE_REPLIES }
         requires may { MayRun (on_packet chain.now header.now self.old) (situation (R.contents ring.old) (H.contents host.old) (H.faults host.old)) }
         ensures held { R.held ring.new ≡ R.held ring.old }
         ensures calls { Runs (on_packet chain.now header.now self.old) (situation (R.contents ring.old) (H.contents host.old) (H.faults host.old)) (self.new, result) (situation (R.contents ring.new) (H.contents host.new) (H.faults host.new)) }
@@ -274,7 +273,7 @@ impl Device {
 
     // Takes a packet of an unknown flow.
     fn on_unknown<H: HostNet>(&mut self, host: &mut H, flow: Flow, header: &Header) -> Verdict
-        requires room { length self.old.replies < REPLIES }
+        requires room { length self.old.replies < DEVICE_REPLIES }
         requires flow { flow ≡ flow_to_host header.now }
         requires unknown { entry_of self.old.table flow ≡ None }
         ensures calls { RunsOnHost (on_unknown header.now self.old) (H.contents host.old) (H.faults host.old) (self.new, result) (H.contents host.new) (H.faults host.new) }
@@ -292,7 +291,7 @@ impl Device {
 
     // Tries a REQUEST of an unknown flow: it opens a connection, or gets RST.
     fn try_request<H: HostNet>(&mut self, host: &mut H, flow: Flow, header: &Header) -> Verdict
-        requires room { length self.old.replies < REPLIES }
+        requires room { length self.old.replies < DEVICE_REPLIES }
         requires flow { flow ≡ flow_to_host header.now }
         requires unknown { entry_of self.old.table flow ≡ None }
         ensures calls { RunsOnHost (try_request header.now self.old) (H.contents host.old) (H.faults host.old) (self.new, result) (H.contents host.new) (H.faults host.new) }
@@ -311,7 +310,7 @@ impl Device {
 
     // The dial for a REQUEST was answered.
     fn dial_answered(&mut self, flow: Flow, header: &Header, answer: Dialed) -> Verdict
-        requires room { length self.old.replies < REPLIES }
+        requires room { length self.old.replies < DEVICE_REPLIES }
         requires flow { flow ≡ flow_to_host header.now }
         requires place { has_place self.old.table ≡ true }
         requires unknown { entry_of self.old.table flow ≡ None }
@@ -334,7 +333,7 @@ impl Device {
 
     // Refuses a REQUEST of an unknown flow: it gets RST.
     fn refuse(&mut self, header: &Header) -> Verdict
-        requires room { length self.old.replies < REPLIES }
+        requires room { length self.old.replies < DEVICE_REPLIES }
         ensures refused { (self.new, result) ≡ refused header.now self.old }
         ensures chain { self.new.chain ≡ self.old.chain }
     {
@@ -344,7 +343,7 @@ impl Device {
 
     // Owes one more reply, for which there is room.
     fn owe(&mut self, reply: Reply)
-        requires room { length self.old.replies < REPLIES }
+        requires room { length self.old.replies < DEVICE_REPLIES }
         ensures { self.new ≡ with_reply reply self.old }
     {
         match self.replies.owe(reply) {

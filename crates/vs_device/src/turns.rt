@@ -5,7 +5,7 @@ ghost use Rattle.std.specs.{Iterator.YieldsFirst, Iterator.item_count, Option.Fo
 ghost use Rattle.vs_contents.specs.CallTree.{for_each};
 ghost use Rattle.vs_flow.specs.Table.{refusal, slots};
 ghost use Rattle.vs_ring_port.specs.declared.failure.Failure.{Failure};
-ghost use Rattle.vs_history.specs.declared.TheConstants.{BUF_ALLOC};
+ghost use Rattle.vs_limits.specs.declared.TheConstants.{BUF_ALLOC, GUEST_CID_MIN, GUEST_CID_MAX};
 ghost use Rattle.vs_matching.specs.Steps.{IsNextFlow};
 ghost use Rattle.vs_page.specs.Log as log;
 ghost use Rattle.vs_ring_port.specs.{Contents.RingContents, EndLog.EndLog};
@@ -21,10 +21,10 @@ use crate::device::Device;
 use std::marker::Model;
 use vs_conn::State;
 use vs_device_parts::host_calls::label;
-use vs_device_parts::limits::CONNECTIONS;
 use vs_device_parts::ring_calls::publish_cid;
 use vs_device_parts::slots::Slots;
 use vs_flow::{Flow, Slot, TableFault};
+use vs_limits::DEVICE_CONNECTIONS;
 use vs_outside::HostNet;
 use vs_ring_port::{DeviceRing, Failure};
 
@@ -75,7 +75,7 @@ impl Device {
         host: &mut H,
         cid: u64,
     ) -> Result<(), Failure>
-        requires cid { (3 ≤ cid) × (cid ≤ 4294967294) }
+        requires cid { (GUEST_CID_MIN ≤ cid) × (cid ≤ GUEST_CID_MAX) }
         requires may { MayRun (reset_of cid self.old) (situation (R.contents ring.old) (H.contents host.old) (H.faults host.old)) }
         ensures ring { IsItsRing (R.held ring.old) self.old → IsItsRing (R.held ring.new) self.new }
         ensures held { R.held ring.new ≡ R.held ring.old }
@@ -150,7 +150,7 @@ impl Device {
     {
         let slots = &self.slots;
         let connections = slots.open();
-        prove!(connections <= CONNECTIONS);
+        prove!(connections <= DEVICE_CONNECTIONS);
         Entries { slots, place: 0 }
     }
 }

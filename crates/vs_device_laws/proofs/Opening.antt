@@ -3,25 +3,23 @@ use Rattle.std.proofs.Common.{◌≡◌, ℕ, ◌^◌, ◌≤◌, true, List, []
 use Rattle.std.specs.Option.{ForSome}
 use Rattle.vs_conn.specs.End.{asked}
 use Rattle.vs_contents.specs.CallTree.{Done, Ask, bind, for_each}
+use Rattle.vs_flow.specs.{declared.flow.Flow.Flow, declared.table.TableFault.TableFault}
 use Rattle.vs_flow.specs.Table.{Table, IsTable, emptied, entry_under, refusal, slots, with_entry, with_value}
-use Rattle.vs_flow.specs.declared.flow.Flow.{Flow}
-use Rattle.vs_flow.specs.declared.table.TableFault.{TableFault}
 use Rattle.vs_flow.proofs.Tables.{accepted, with_entry_sound, with_value_sound}
 use Rattle.vs_header.specs.declared.Kind.TheVariants.{Stream}
-use Rattle.vs_history.specs.declared.TheConstants.{BUF_ALLOC}
+use Rattle.vs_limits.specs.declared.TheConstants.{BUF_ALLOC}
 use Rattle.vs_outside.specs.Host.{HostContents, IsOpen, after_close, after_label}
 use Rattle.vs_outside.proofs.Frames.{open-after_label, others-after_label}
-use Rattle.vs_ring_port.specs.Contents.{PublishCid}
-use Rattle.vs_ring_port.specs.declared.failure.Failure.{Failure}
+use Rattle.vs_ring_port.specs.{Contents.PublishCid, declared.failure.Failure.Failure}
+use Rattle.vs_device_parts.specs.{State.DeviceConnection, State.DeviceEntry, State.DeviceState, Streams.closing}
 use Rattle.vs_device_parts.specs.Calls.{Call, Label, Ring, Situation, DeviceTree, Allows}
 use Rattle.vs_device_parts.specs.Connections.{new_connection, stream_closed, with_client}
-use Rattle.vs_device_parts.specs.{State.DeviceConnection, State.DeviceEntry, State.DeviceState, Streams.closing}
 use Rattle.vs_device_parts.specs.Turns.{after_reset, close_slot, new_device, open_of, reset_of}
-use Rattle.vs_device_laws.specs.Split.{CanReach, is_quiet}
 use Rattle.vs_device_laws.specs.Streams.{AreOpen, FindsFree, FindsStreams, HasStreams, IsFree, JoinsStreams}
-use Rattle.vs_device_laws.proofs.{Closing.keeps_closing, Keeping.Keeps, Keeping.keeps_each, Keeping.keeps_then}
+use Rattle.vs_device_laws.specs.Split.{CanReach, is_quiet}
+use Rattle.vs_device_laws.proofs.{Closing.keeps_closing, Keeping.Keeps, Keeping.keeps_each, Keeping.keeps_then, Writing.all_stay}
 use Rattle.vs_device_laws.proofs.Tables.{IsEntry, closed_at, entry_by_slot, fewer, has_added, some_after, some_from, stream_by_entry}
-use Rattle.vs_device_laws.proofs.{Tables.stream_changed, Tables.stream_closed_under, Tables.value_by_entry, Writing.all_stay}
+use Rattle.vs_device_laws.proofs.Tables.{stream_changed, stream_closed_under, value_by_entry}
 
 -- No connection, no stream.
 pub empty_sound : (room given : ℕ) → given ≤ 2 ^ 64 → IsTable {T = DeviceConnection} (record { room = room; entries = []; given = given })

@@ -4,27 +4,25 @@ use Rattle.vs_contents.specs.CallTree.{Done, Ask, bind}
 use Rattle.vs_conn.specs.End.{wanting_credit}
 use Rattle.vs_credit.specs.Credit.{free_of}
 use Rattle.vs_flow.specs.Table.{entry_under}
-use Rattle.vs_header.specs.Packet.{header_of}
-use Rattle.vs_header.specs.declared.{Header.Header, TheConstants.HEADER_LEN}
-use Rattle.vs_ring_port.specs.Contents.{Take, Write, Return}
-use Rattle.vs_ring_port.specs.declared.device_ring.{Chain.Chain, Next.Next}
-use Rattle.vs_ring_port.specs.declared.device_ring.Next.TheVariants as next
-use Rattle.vs_ring_port.specs.declared.failure.Failure.TheVariants as failure
-use Rattle.vs_ring_port.specs.declared.queue.Queue.{Queue}
+use Rattle.vs_header.specs.{Packet.header_of, declared.Header.Header, declared.TheConstants.HEADER_LEN}
+use Rattle.vs_ring_port.specs.{Contents.Take, Contents.Write, Contents.Return, declared.device_ring.Chain.Chain}
+use Rattle.vs_ring_port.specs.{declared.device_ring.Next.Next, declared.queue.Queue.Queue}
 use Rattle.vs_ring_port.specs.declared.queue.Queue.TheVariants.{Rx, Tx, Event}
 use Rattle.vs_device_parts.specs.{Calls.Call, Calls.Ring, Calls.Situation, Calls.Allows, Connections.with_connection}
+use Rattle.vs_device_parts.specs.{State.DeviceEntry, State.DeviceState, Streams.shut_write, Streams.tick_slot, Streams.write_pending}
 use Rattle.vs_device_parts.specs.Receiving.{hold, may_read, put_owed, put_reply, read_with_chain}
-use Rattle.vs_device_parts.specs.State.{DeviceEntry, DeviceState}
 use Rattle.vs_device_parts.specs.Steps.{chain_came, filling, puts_event, puts_owed, puts_payload, puts_reply, reads, shuts_write}
 use Rattle.vs_device_parts.specs.Steps.{takes_chain, writes, writes_on, writing}
-use Rattle.vs_device_parts.specs.Streams.{shut_write, tick_slot, write_pending}
 use Rattle.vs_device_parts.specs.Transmitting.{failing, on_packet}
-use Rattle.vs_device_parts.specs.declared.limits.TheConstants.{REPLIES}
+use Rattle.vs_limits.specs.declared.TheConstants.{DEVICE_REPLIES}
 use Rattle.vs_device_laws.specs.{Split.CanReach, Split.is_quiet, Streams.FindsStreams}
 use Rattle.vs_device_laws.proofs.{Closing.found_by_slot, Closing.keeps_tick_slot, Closing.stays, Keeping.Keeps, Keeping.keeps_then}
 use Rattle.vs_device_laws.proofs.Receiving.{Fills, FillsFirst, from_table, keeps_hold, keeps_put_owed, keeps_put_reply_of}
-use Rattle.vs_device_laws.proofs.{Receiving.keeps_read_with_chain, Transmitting.keeps_on_packet}
+use Rattle.vs_device_laws.proofs.Receiving.{keeps_read_with_chain}
+use Rattle.vs_device_laws.proofs.Transmitting.{keeps_on_packet}
 use Rattle.vs_device_laws.proofs.Writing.{finds_changed, keeps_shut_write, keeps_write_pending}
+use Rattle.vs_ring_port.specs.declared.device_ring.Next.TheVariants as next
+use Rattle.vs_ring_port.specs.declared.failure.Failure.TheVariants as failure
 
 pub reach : (call : Call) (s : Situation) → is_quiet call ≡ true → CanReach call s → CanReach call s
 reach call s quiet can = can
@@ -61,7 +59,7 @@ module _ (others : List ℕ) where
 
   pub takes_keeps : (queue : Queue) (s : DeviceState) (c : Situation) → FindsStreams others s c
       → Keeps CanReach Allows (FindsStreams others) (takes_chain queue s) c
-  takes_keeps Tx s c has = tx_by (nat_le REPLIES (length s.replies)) s c has
+  takes_keeps Tx s c has = tx_by (nat_le DEVICE_REPLIES (length s.replies)) s c has
   takes_keeps Rx s c has =
       keeps_then CanReach Allows (FindsStreams others) (λ q d. (d.host ≡ c.host) × (q.state.table ≡ s.table)) (hold (filling s))
       (λ r. Done r.state) c (keeps_hold (filling s) c) (λ q d held. from_table others s q.state c d held.0 held.1 has)

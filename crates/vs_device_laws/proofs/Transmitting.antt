@@ -1,46 +1,40 @@
 -- Packets of the guest.
 use Rattle.std.proofs.Common.{◌≡◌, ℕ, ◌+◌, ◌-◌, ◌==◌, ◌&&◌, Bool, true, false, cond, List, [], ◌++◌, length, nat_le, nat_lt, if◌then◌else◌}
 use Rattle.std.proofs.Common.{Option, Some, None, IsSomeAnd, refl, sym, ap, ◌∙◌}
-use Rattle.vs_conn.specs.End.{answering, end_after, is_reset, is_of, verdict_of}
-use Rattle.vs_conn.specs.declared.end.Verdict.{Verdict}
-use Rattle.vs_conn.specs.declared.end.Verdict.TheVariants as verdict
-use Rattle.vs_conn.specs.declared.end.Why.TheVariants as why
+use Rattle.vs_conn.specs.{End.answering, End.end_after, End.is_reset, End.is_of, End.verdict_of, declared.end.Verdict.Verdict}
 use Rattle.vs_contents.specs.CallTree.{Done, Ask, bind}
-use Rattle.vs_flow.specs.{Flow.is_assigned, Table.Table, Table.entry_of, Table.has_place, Table.with_entry}
-use Rattle.vs_flow.specs.declared.flow.Flow.{Flow}
-use Rattle.vs_header.specs.{Op.op_number, Packet.header_of}
-use Rattle.vs_header.specs.declared.{Header.Header, TheConstants.HEADER_LEN}
+use Rattle.vs_flow.specs.{Flow.is_assigned, Table.Table, Table.entry_of, Table.has_place, Table.with_entry, declared.flow.Flow.Flow}
+use Rattle.vs_header.specs.{Op.op_number, Packet.header_of, declared.Header.Header, declared.TheConstants.HEADER_LEN}
 use Rattle.vs_header.specs.declared.Op.TheVariants.{Request}
-use Rattle.vs_header.specs.declared.Kind.TheVariants as kind
-use Rattle.vs_history.specs.declared.TheConstants.{BUF_ALLOC}
+use Rattle.vs_limits.specs.declared.TheConstants.{BUF_ALLOC, DEVICE_REPLIES}
 use Rattle.vs_outside.specs.Host.{HostContents, IsDialed, IsOpen, Stream, after_dial, dial_answer, dialed_stream, fails_now, is_listened}
 use Rattle.vs_outside.specs.Host.{stream_at}
 use Rattle.vs_outside.specs.declared.host_net.Dialed.{Dialed}
-use Rattle.vs_outside.specs.declared.host_net.Dialed.TheVariants as dialed
-use Rattle.vs_outside.specs.declared.host_net.StreamState.TheVariants as stream
 use Rattle.vs_outside.proofs.Frames.{open-dialed, open_of, stream_at-after_dial}
 use Rattle.vs_page.specs.{Log.Device, Log.flow_to_host, Open.is_dropped}
-use Rattle.vs_ring_port.specs.Contents.{Read, Return, Take}
-use Rattle.vs_ring_port.specs.declared.device_ring.{Chain.Chain, Next.Next}
-use Rattle.vs_ring_port.specs.declared.device_ring.Next.TheVariants as next
-use Rattle.vs_ring_port.specs.declared.failure.Failure.{Failure}
-use Rattle.vs_ring_port.specs.declared.failure.Failure.TheVariants as failure
-use Rattle.vs_ring_port.specs.declared.queue.Queue.TheVariants.{Tx}
+use Rattle.vs_ring_port.specs.{Contents.Read, Contents.Return, Contents.Take, declared.device_ring.Chain.Chain}
+use Rattle.vs_ring_port.specs.{declared.device_ring.Next.Next, declared.failure.Failure.Failure, declared.queue.Queue.TheVariants.Tx}
 use Rattle.vs_replies.specs.Owed.{reply_to}
 use Rattle.vs_uds.specs.{OkLine.ok_text, Path.path_of}
 use Rattle.vs_wrap.specs.Wrap.{counted}
-use Rattle.vs_device_parts.specs.declared.answers.Taken.{Taken}
-use Rattle.vs_device_parts.specs.declared.answers.Taken.TheVariants as taken
-use Rattle.vs_device_parts.specs.declared.limits.TheConstants.{REPLIES}
-use Rattle.vs_device_parts.specs.Calls.{Call, Dial, Ring, Situation, DeviceTree, Allows}
-use Rattle.vs_device_parts.specs.Connections.{new_connection, with_connection, with_reply}
 use Rattle.vs_device_parts.specs.{State.DeviceConnection, State.DeviceEntry, State.DeviceState, Streams.leaving}
 use Rattle.vs_device_parts.specs.Transmitting.{dial_answered, failing, heard, on_header, on_known, on_next, on_packet, on_unknown, refused}
 use Rattle.vs_device_parts.specs.Transmitting.{take_tx_of, try_request, unknown_why}
+use Rattle.vs_device_parts.specs.declared.answers.Taken.{Taken}
+use Rattle.vs_device_parts.specs.Calls.{Call, Dial, Ring, Situation, DeviceTree, Allows}
+use Rattle.vs_device_parts.specs.Connections.{new_connection, with_connection, with_reply}
 use Rattle.vs_device_laws.specs.{Split.CanReach, Split.is_quiet, Streams.FindsStreams, Streams.HasStreams, Streams.joined_stream}
 use Rattle.vs_device_laws.proofs.{Closing.IsFound, Closing.keeps_leaving, Closing.stays, Ends.heard_over, Keeping.Keeps, Keeping.keeps_then}
 use Rattle.vs_device_laws.proofs.{Tables.entry_by_flow, Tables.has_added, Tables.has_moved, Tables.some_after, Writing.finds_changed}
 use Rattle.vs_flow.proofs.Tables.{accepted, with_entry_sound}
+use Rattle.vs_conn.specs.declared.end.Verdict.TheVariants as verdict
+use Rattle.vs_conn.specs.declared.end.Why.TheVariants as why
+use Rattle.vs_header.specs.declared.Kind.TheVariants as kind
+use Rattle.vs_outside.specs.declared.host_net.Dialed.TheVariants as dialed
+use Rattle.vs_outside.specs.declared.host_net.StreamState.TheVariants as stream
+use Rattle.vs_ring_port.specs.declared.device_ring.Next.TheVariants as next
+use Rattle.vs_ring_port.specs.declared.failure.Failure.TheVariants as failure
+use Rattle.vs_device_parts.specs.declared.answers.Taken.TheVariants as taken
 
 -- A DIAL
 open_stream : (id : ℕ) (h : HostContents) → IsOpen id h → (s : Stream) × (stream_at id h ≡ Some s) × (s.state ≡ stream.Open)
@@ -207,7 +201,7 @@ module _ (Can : Call → Situation → Type 0) (reaches : (call : Call) (s : Sit
   keeps_on_next (next.Failed f) s c has = has
 
   pub keeps_take_tx : (s : DeviceState) (c : Situation) → FindsStreams others s c → Keeps Can Allows FindsFirst (take_tx_of s) c
-  keeps_take_tx s c has = by s.failed (nat_le REPLIES (length s.replies))
+  keeps_take_tx s c has = by s.failed (nat_le DEVICE_REPLIES (length s.replies))
     where
       takes : DeviceTree (DeviceState × Taken)
       takes = Ask (Ring (Take Tx)) (λ answer. on_next answer s)
@@ -216,7 +210,7 @@ module _ (Can : Call → Situation → Type 0) (reaches : (call : Call) (s : Sit
           → Keeps Can Allows FindsFirst (elim o [
             | Some f ↦ Done (s, taken.Failed f)
             | None ↦ cond b
-                (Done (s, taken.RepliesFull REPLIES)) takes
+                (Done (s, taken.RepliesFull DEVICE_REPLIES)) takes
           ]) c
       by (Some f) b = has
       by None true = has

@@ -1,19 +1,15 @@
 -- A connection's pending bytes are unread ones of its end, whatever the end does.
+use Rattle.std.proofs.{lemmas.Bool.Decides.nat_tests, lemmas.Grind.common_steps}
 use Rattle.std.proofs.Common.{◌≡◌, ℕ, ◌+◌, ◌-◌, ◌%◌, ◌^◌, ◌<◌, ◌≤◌, Bool, true, false, cond, Option, Some, None, refl, arith}
-use Rattle.std.proofs.lemmas.Bool.Decides.{nat_tests}
-use Rattle.std.proofs.lemmas.Grind.{common_steps}
+use Rattle.vs_conn.specs.{declared.end.Owed.Owed, declared.end.Verdict.Verdict}
 use Rattle.vs_conn.specs.End.{ConnectionEnd, after_message, after_op, end_after, paid_of, verdict_of, with_heard_packet, with_shut}
-use Rattle.vs_conn.specs.declared.end.Owed.{Owed}
-use Rattle.vs_conn.specs.declared.end.Owed.TheVariants as owed
-use Rattle.vs_conn.specs.declared.end.Verdict.{Verdict}
-use Rattle.vs_conn.specs.declared.end.Verdict.TheVariants as verdict
-use Rattle.vs_credit.specs.Credit.{room_of, with_forwarded, with_sent, with_taken}
-use Rattle.vs_credit.specs.declared.Credit.{Credit}
-use Rattle.vs_header.specs.Op.{op_named}
-use Rattle.vs_header.specs.declared.{Header.Header, Op.Op}
-use Rattle.vs_header.specs.declared.Op.TheVariants as op
-use Rattle.vs_history.specs.declared.TheConstants.{BUF_ALLOC}
+use Rattle.vs_credit.specs.{Credit.room_of, Credit.with_forwarded, Credit.with_sent, Credit.with_taken, declared.Credit.Credit}
+use Rattle.vs_header.specs.{Op.op_named, declared.Header.Header, declared.Op.Op}
+use Rattle.vs_limits.specs.declared.TheConstants.{BUF_ALLOC}
 use Rattle.vs_device_log.specs.Honest.{HoldsBytes}
+use Rattle.vs_conn.specs.declared.end.Owed.TheVariants as owed
+use Rattle.vs_conn.specs.declared.end.Verdict.TheVariants as verdict
+use Rattle.vs_header.specs.declared.Op.TheVariants as op
 
 plus_zero : (n : ℕ) → n + 0 ≡ n
 plus_zero n = omega arith

@@ -4,10 +4,11 @@ use Rattle.std.proofs.Common.{true, false, ◌≡◌, ℕ, ◌≤◌, Bool, not,
 use Rattle.std.proofs.Common.{arith}
 use Rattle.std.proofs.lemmas.List.Elements.{All-nil, All-cons}
 use Rattle.vs_flow.specs.declared.flow.Flow.{Flow}
-use Rattle.vs_history.specs.{declared.TheConstants.BUF_ALLOC, Again.AllowsNow}
+use Rattle.vs_history.specs.Again.{AllowsNow}
 use Rattle.vs_history.specs.History.{Got, History, IsFair, IsHonest, Put, Side, gots, puts}
 use Rattle.vs_history.specs.Packets.{has, is_request, is_rst, tells, told_alloc}
 use Rattle.vs_history.specs.declared.packet.Packet.{Packet}
+use Rattle.vs_limits.specs.declared.TheConstants.{BUF_ALLOC}
 use Rattle.vs_history.proofs.Present.{fair_once}
 use Rattle.vs_page.specs.Log.{Device, Log, flow_put, history_of, packets_put, side_of, whole_of}
 use Rattle.vs_page.specs.declared.log.LogEntry.TheVariants.{GotEvent, GotPacket, Mark, PutEvent, PutPacket}

@@ -2,7 +2,8 @@
 use Rattle.std.proofs.Common.{◌≡◌, ℕ, ◌&&◌, Bool, true, false, cond, List, [], ◌∷◌, Contains, None, refl, sym, ap, subst, ◌∙◌, arith}
 use Rattle.std.proofs.lemmas.List.Elements.{All-push}
 use Rattle.vs_conn.specs.{End.ConnectionEnd, End.answering, End.end_after, End.is_reset, End.is_of, End.verdict_of, Follows.IsTaken}
-use Rattle.vs_history.specs.{Packets.is_request, Packets.is_rst, declared.TheConstants.BUF_ALLOC, declared.packet.Packet.Packet}
+use Rattle.vs_history.specs.{Packets.is_request, Packets.is_rst, declared.packet.Packet.Packet}
+use Rattle.vs_limits.specs.declared.TheConstants.{BUF_ALLOC}
 use Rattle.vs_flow.specs.{Table.entry_of, Table.has_place, Table.refusal, Table.with_value, Table.without, declared.flow.Flow.Flow}
 use Rattle.vs_flow.proofs.Tables.{accepted}
 use Rattle.vs_page.specs.{Fair.IsFairLog, Held.FitsWire, Log.Device, Log.Log, Log.flow_to_host, Log.side_of, Open.is_dropped}

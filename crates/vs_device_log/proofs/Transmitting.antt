@@ -16,9 +16,9 @@ use Rattle.vs_ring_port.specs.{EndLog.EndLog, EndLog.log_returned, EndLog.log_ta
 use Rattle.vs_ring_port.specs.{declared.device_ring.Next.Next, declared.failure.Failure.Failure, declared.queue.Queue.TheVariants.Tx}
 use Rattle.vs_ring_port.specs.DeviceCalls.{DeviceAllows, IsTakenAs}
 use Rattle.vs_matching.proofs.Fair.{got_formed}
-use Rattle.vs_device_parts.specs.{declared.answers.Taken.Taken, declared.limits.TheConstants.REPLIES, Calls.IsFitAnswer, Calls.Ring}
-use Rattle.vs_device_parts.specs.{Playing.IsRxChain, State.DeviceState}
+use Rattle.vs_device_parts.specs.{declared.answers.Taken.Taken, Calls.IsFitAnswer, Calls.Ring, Playing.IsRxChain, State.DeviceState}
 use Rattle.vs_device_parts.specs.Transmitting.{failing, on_header, on_next, on_packet, take_tx_of}
+use Rattle.vs_limits.specs.declared.TheConstants.{DEVICE_REPLIES}
 use Rattle.vs_device_log.specs.Honest.{IsLeft, IsToldOf, IsWith, unwritten}
 use Rattle.vs_device_log.proofs.Ringing.{HoldsFirst, Tells, bytes_held, first_there, moves, returned_entries, returned_held, tells_weaker}
 use Rattle.vs_device_log.proofs.Hearing.{After, Came, Heard, IsCome, packet_keeps}
@@ -217,15 +217,15 @@ module _ (first port : ℕ) (s : DeviceState) where
   take_keeps c holds = by s.failed refl
     where
       full : (b : Bool) → s.failed ≡ None
-          → Keeps TakeEnds (cond b (Done (s, taken.RepliesFull REPLIES)) (Ask (Ring (Take Tx)) (λ answer. on_next answer s))) c
+          → Keeps TakeEnds (cond b (Done (s, taken.RepliesFull DEVICE_REPLIES)) (Ask (Ring (Take Tx)) (λ answer. on_next answer s))) c
       full true going = holds
       full false going = (tt, λ answer d fit made. next_keeps answer c d going fit made holds)
 
       by : (o : Option Failure) → s.failed ≡ o → Keeps TakeEnds (elim o [
         | Some f ↦ Done (s, taken.Failed f)
         | None ↦
-            if nat_le REPLIES (length s.replies) then Done (s, taken.RepliesFull REPLIES)
+            if nat_le DEVICE_REPLIES (length s.replies) then Done (s, taken.RepliesFull DEVICE_REPLIES)
             else Ask (Ring (Take Tx)) (λ answer. on_next answer s)
       ]) c
       by (Some f) failed = holds
-      by None going = full (nat_le REPLIES (length s.replies)) going
+      by None going = full (nat_le DEVICE_REPLIES (length s.replies)) going

@@ -5,7 +5,8 @@ use Rattle.std.specs.Prelude.{Err, IfSome}
 use Rattle.vs_conn.specs.{End.ConnectionEnd, declared.end.State.State}
 use Rattle.vs_credit.specs.{Credit.unread_of, declared.Credit.Credit}
 use Rattle.vs_flow.specs.{Table.IsTable, Table.Table, declared.flow.Flow.Flow, declared.table.TableFault.TableFault}
-use Rattle.vs_history.specs.{History.Asker, Packets.is_rst, declared.TheConstants.BUF_ALLOC, declared.packet.Packet.Packet}
+use Rattle.vs_history.specs.{History.Asker, Packets.is_rst, declared.packet.Packet.Packet}
+use Rattle.vs_limits.specs.declared.TheConstants.{BUF_ALLOC}
 use Rattle.vs_page.specs.{Fair.IsFairLog, Log.Device, Log.Log, Log.side_of, Open.is_open}
 use Rattle.vs_replies.specs.declared.Reply.{Reply}
 use Rattle.vs_ring_port.specs.{Chains.Held, Contents.RingContents, EndLog.EndLog, declared.device_ring.Chain.Chain}

@@ -8,7 +8,7 @@ ghost use Rattle.vs_flow.specs.declared.table.TableFault.{TableFault};
 ghost use Rattle.vs_header.specs.Packet.{header_of};
 ghost use Rattle.vs_header.specs.declared.{Header.Header, TheConstants.HEADER_LEN};
 ghost use Rattle.vs_history.specs.Packets.{is_rw};
-ghost use Rattle.vs_history.specs.declared.TheConstants.{BUF_ALLOC};
+ghost use Rattle.vs_limits.specs.declared.TheConstants.{BUF_ALLOC};
 ghost use Rattle.vs_history.specs.declared.packet.Packet.{Packet};
 ghost use Rattle.vs_matching.specs.{Ends.is_new, Steps.IsNextFlow};
 ghost use Rattle.vs_page.specs.{Held.packet_held, Log.Device, Log.packets_put};

@@ -1,19 +1,15 @@
 -- Small steps on a device's connections, apart from ring and host.
 use Rattle.std.specs.Prelude.{ℕ, ◌+◌, ◌-◌, ◌&&◌, ◌||◌, nat_le, Bool, true, false, if◌then◌else◌, List, [], ◌∷◌, ◌++◌, length, drop, Option}
 use Rattle.std.specs.Prelude.{Some, None}
-use Rattle.vs_conn.specs.{End.ConnectionEnd, End.asked, End.answering, End.aborted, End.with_shut, End.with_payload_forwarded, Shut.is_both}
-use Rattle.vs_conn.specs.declared.end.State.{State}
-use Rattle.vs_conn.specs.declared.end.State.TheVariants as state
-use Rattle.vs_conn.specs.declared.route.Route.{Route}
-use Rattle.vs_flow.specs.Table.{with_entry, with_value, without}
-use Rattle.vs_flow.specs.declared.flow.Flow.{Flow}
-use Rattle.vs_header.specs.declared.Header.{Header}
-use Rattle.vs_header.specs.declared.Kind.TheVariants.{Stream}
-use Rattle.vs_history.specs.declared.TheConstants.{BUF_ALLOC}
+use Rattle.vs_conn.specs.{Shut.is_both, declared.end.State.State, declared.route.Route.Route}
+use Rattle.vs_conn.specs.End.{ConnectionEnd, asked, answering, aborted, with_shut, with_payload_forwarded}
+use Rattle.vs_flow.specs.{Table.with_entry, Table.with_value, Table.without, declared.flow.Flow.Flow}
+use Rattle.vs_header.specs.{declared.Header.Header, declared.Kind.TheVariants.Stream}
+use Rattle.vs_limits.specs.declared.TheConstants.{BUF_ALLOC, TIMEOUT}
 use Rattle.vs_replies.specs.declared.Reply.{Reply}
-use Rattle.vs_device_parts.specs.declared.limits.TheConstants.{TIMEOUT}
 use Rattle.vs_wrap.specs.Wrap.{counted}
 use Rattle.vs_device_parts.specs.State.{DeviceConnection, DeviceState}
+use Rattle.vs_conn.specs.declared.end.State.TheVariants as state
 
 abbrev pub with_fault : DeviceState → DeviceState
 with_fault s = record s { faults = counted s.faults }

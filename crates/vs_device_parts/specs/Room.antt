@@ -2,7 +2,7 @@
 use Rattle.std.specs.Prelude.{◌≡◌, ◌+◌, ◌^◌, ◌<◌, ◌≤◌, true, [], length}
 use Rattle.vs_conn.specs.End.{ConnectionEnd, may_shut}
 use Rattle.vs_credit.specs.Credit.{unread_of}
-use Rattle.vs_history.specs.declared.TheConstants.{BUF_ALLOC}
+use Rattle.vs_limits.specs.declared.TheConstants.{BUF_ALLOC}
 use Rattle.vs_uds.specs.declared.ok.TheConstants.{OK_MAX}
 use Rattle.vs_device_parts.specs.declared.connection.Buffers.{Buffers}
 

@@ -3,23 +3,18 @@ use Rattle.std.specs.Prelude.{ℕ, ◌-◌, ◌==◌, nat_lt, nat_le, Bool, true
 use Rattle.byteorder.specs.Endian.{little_bytes}
 use Rattle.vs_contents.specs.CallTree.{Done, Ask, bind}
 use Rattle.vs_credit.specs.Credit.{free_of}
-use Rattle.vs_conn.specs.End.{wanting_credit}
+use Rattle.vs_conn.specs.{End.wanting_credit, declared.end.Verdict.Verdict}
 use Rattle.vs_flow.specs.Table.{entry_under}
-use Rattle.vs_header.specs.Packet.{header_of}
-use Rattle.vs_header.specs.declared.{Header.Header, TheConstants.HEADER_LEN}
-use Rattle.vs_ring_port.specs.Contents.{Take, Read, Write, Return}
-use Rattle.vs_ring_port.specs.declared.device_ring.{Chain.Chain, Next.Next}
-use Rattle.vs_ring_port.specs.declared.device_ring.Next.TheVariants as next
-use Rattle.vs_conn.specs.declared.end.Verdict.{Verdict}
-use Rattle.vs_ring_port.specs.declared.failure.Failure.{Failure}
-use Rattle.vs_ring_port.specs.declared.failure.Failure.TheVariants as failure
-use Rattle.vs_ring_port.specs.declared.queue.Queue.{Queue}
+use Rattle.vs_header.specs.{Packet.header_of, declared.Header.Header, declared.TheConstants.HEADER_LEN}
+use Rattle.vs_ring_port.specs.{Contents.Take, Contents.Read, Contents.Write, Contents.Return, declared.device_ring.Chain.Chain}
+use Rattle.vs_ring_port.specs.{declared.device_ring.Next.Next, declared.failure.Failure.Failure, declared.queue.Queue.Queue}
 use Rattle.vs_ring_port.specs.declared.queue.Queue.TheVariants.{Rx, Tx, Event}
-use Rattle.vs_device_parts.specs.{Calls.DeviceTree, Calls.Ring, Connections.with_connection}
+use Rattle.vs_device_parts.specs.{Calls.DeviceTree, Calls.Ring, Connections.with_connection, State.DeviceState, State.DeviceEntry}
+use Rattle.vs_device_parts.specs.{Streams.Writing, Streams.write_pending, Streams.shut_write, Transmitting.failing, Transmitting.on_packet}
 use Rattle.vs_device_parts.specs.Receiving.{Filling, hold, put_reply, put_owed, may_read, read_with_chain}
-use Rattle.vs_device_parts.specs.{State.DeviceState, State.DeviceEntry, Streams.Writing, Streams.write_pending, Streams.shut_write}
-use Rattle.vs_device_parts.specs.Transmitting.{failing, on_packet}
-use Rattle.vs_device_parts.specs.declared.limits.TheConstants.{REPLIES}
+use Rattle.vs_limits.specs.declared.TheConstants.{DEVICE_REPLIES}
+use Rattle.vs_ring_port.specs.declared.device_ring.Next.TheVariants as next
+use Rattle.vs_ring_port.specs.declared.failure.Failure.TheVariants as failure
 
 -- It takes a transmit packet: the chain is held until it is returned.
 abbrev pub header_came : Chain → Header → DeviceState → DeviceTree DeviceState
@@ -48,7 +43,7 @@ heard_chain chain s = Ask (Ring (Read chain 0 HEADER_LEN)) (λ bytes. heard_head
 -- It takes one page of a queue. A transmit packet it takes while fewer than 64 replies are owed, a receive page where it holds none, an
 -- event page where an event is owed.
 abbrev pub takes_chain : Queue → DeviceState → DeviceTree DeviceState
-takes_chain Tx s = if nat_le REPLIES (length s.replies) then Done s else Ask (Ring (Take Tx)) (λ answer. chain_came answer s)
+takes_chain Tx s = if nat_le DEVICE_REPLIES (length s.replies) then Done s else Ask (Ring (Take Tx)) (λ answer. chain_came answer s)
 takes_chain Rx s = bind (hold (filling s)) (λ r. Done r.state)
 takes_chain Event s = if s.event_owed then Ask (Ring (Take Event)) (λ answer. Done s) else Done s
 

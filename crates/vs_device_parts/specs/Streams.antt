@@ -1,13 +1,14 @@
 -- What the device does with the host's streams: closing them, and writing what is pending.
-use Rattle.std.specs.Prelude.{ℕ, ◌+◌, ◌==◌, ◌&&◌, not, Bool, true, if◌then◌else◌, List, [], ◌++◌, length, take, Some, None}
+use Rattle.std.specs.Prelude.{ℕ, ◌+◌, ◌==◌, ◌&&◌, not, Bool, true, if◌then◌else◌, List, ◌++◌, length, take, Some, None}
 use Rattle.vs_contents.specs.CallTree.{Done, Ask, bind, for_each}
 use Rattle.vs_flow.specs.Table.{entry_under, slots}
 use Rattle.vs_outside.specs.declared.host_net.StreamWrite.{StreamWrite}
-use Rattle.vs_outside.specs.declared.host_net.StreamWrite.TheVariants as write
-use Rattle.vs_device_parts.specs.Calls.{DeviceTree, WriteStream, ShutWrite, CloseStream}
 use Rattle.vs_device_parts.specs.Connections.{with_connection, with_fault, stream_closed, cut_off, after_shut, after_written, is_timed_out}
-use Rattle.vs_device_parts.specs.{Connections.after_leaving, State.DeviceConnection, State.DeviceState, State.DeviceEntry}
-use Rattle.vs_device_parts.specs.declared.limits.TheConstants.{WRITE_MAX}
+use Rattle.vs_device_parts.specs.Connections.{after_leaving}
+use Rattle.vs_device_parts.specs.Calls.{DeviceTree, WriteStream, ShutWrite, CloseStream}
+use Rattle.vs_device_parts.specs.State.{DeviceConnection, DeviceState, DeviceEntry}
+use Rattle.vs_limits.specs.declared.TheConstants.{WRITE_MAX}
+use Rattle.vs_outside.specs.declared.host_net.StreamWrite.TheVariants as write
 
 -- A connection's stream is closed, where it isn't yet; the connection is as f says then.
 abbrev pub closing : DeviceEntry → (DeviceConnection → DeviceConnection) → DeviceState → DeviceTree DeviceState

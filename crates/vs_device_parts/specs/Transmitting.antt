@@ -1,34 +1,27 @@
 -- Packets that the device takes from the guest.
 use Rattle.std.specs.Prelude.{◌+◌, ◌-◌, ◌==◌, ◌&&◌, ◌||◌, not, nat_lt, nat_le, if◌then◌else◌, [], ◌++◌, length, Some, None}
 use Rattle.vs_contents.specs.CallTree.{Done, Ask, bind}
-use Rattle.vs_header.specs.{Op.op_number, Packet.header_of}
-use Rattle.vs_header.specs.declared.{Header.Header, TheConstants.HEADER_LEN}
-use Rattle.vs_header.specs.declared.Kind.TheVariants.{Stream}
-use Rattle.vs_header.specs.declared.Op.TheVariants.{Request, Rst}
-use Rattle.vs_conn.specs.End.{verdict_of, end_after, is_of, is_reset}
-use Rattle.vs_conn.specs.declared.end.Verdict.{Verdict}
-use Rattle.vs_conn.specs.declared.end.Verdict.TheVariants as verdict
-use Rattle.vs_conn.specs.declared.end.Why.{Why}
-use Rattle.vs_conn.specs.declared.end.Why.TheVariants as why
+use Rattle.vs_header.specs.{Op.op_number, Packet.header_of, declared.Header.Header, declared.TheConstants.HEADER_LEN}
+use Rattle.vs_header.specs.{declared.Kind.TheVariants.Stream, declared.Op.TheVariants.Request}
+use Rattle.vs_conn.specs.{End.verdict_of, End.end_after, End.is_of, End.is_reset, declared.end.Verdict.Verdict, declared.end.Why.Why}
 use Rattle.vs_flow.specs.{Flow.is_assigned, Table.entry_of, Table.has_place}
 use Rattle.vs_outside.specs.declared.host_net.Dialed.{Dialed}
-use Rattle.vs_outside.specs.declared.host_net.Dialed.TheVariants as dialed
 use Rattle.vs_page.specs.{Log.flow_to_host, Log.Device, Open.is_dropped}
 use Rattle.vs_replies.specs.Owed.{reply_to}
 use Rattle.vs_uds.specs.{OkLine.ok_text, Path.path_of}
-use Rattle.vs_ring_port.specs.declared.device_ring.{Chain.Chain, Next.Next}
-use Rattle.vs_ring_port.specs.declared.device_ring.Next.TheVariants as next
-use Rattle.vs_ring_port.specs.declared.failure.Failure.{Failure}
-use Rattle.vs_ring_port.specs.declared.failure.Failure.TheVariants as failure
-use Rattle.vs_ring_port.specs.declared.queue.Queue.TheVariants.{Tx}
-use Rattle.vs_ring_port.specs.Contents.{Take, Read, Return}
-use Rattle.vs_device_parts.specs.declared.answers.Taken.{Taken}
-use Rattle.vs_device_parts.specs.declared.answers.Taken.TheVariants as taken
-use Rattle.vs_device_parts.specs.declared.limits.TheConstants.{REPLIES}
-use Rattle.vs_device_parts.specs.Calls.{DeviceTree, Ring, Dial}
-use Rattle.vs_device_parts.specs.Connections.{with_connection, with_reply, with_fault, with_dialed}
+use Rattle.vs_ring_port.specs.{declared.device_ring.Chain.Chain, declared.device_ring.Next.Next, declared.failure.Failure.Failure}
+use Rattle.vs_ring_port.specs.{declared.queue.Queue.TheVariants.Tx, Contents.Take, Contents.Read, Contents.Return}
+use Rattle.vs_device_parts.specs.{declared.answers.Taken.Taken, Calls.DeviceTree, Calls.Ring, Calls.Dial}
 use Rattle.vs_device_parts.specs.{State.DeviceConnection, State.DeviceState, State.DeviceEntry, Streams.leaving}
+use Rattle.vs_device_parts.specs.Connections.{with_connection, with_reply, with_fault, with_dialed}
+use Rattle.vs_limits.specs.declared.TheConstants.{DEVICE_REPLIES}
 use Rattle.vs_wrap.specs.Wrap.{counted}
+use Rattle.vs_conn.specs.declared.end.Verdict.TheVariants as verdict
+use Rattle.vs_conn.specs.declared.end.Why.TheVariants as why
+use Rattle.vs_outside.specs.declared.host_net.Dialed.TheVariants as dialed
+use Rattle.vs_ring_port.specs.declared.device_ring.Next.TheVariants as next
+use Rattle.vs_ring_port.specs.declared.failure.Failure.TheVariants as failure
+use Rattle.vs_device_parts.specs.declared.answers.Taken.TheVariants as taken
 
 -- The ring failed: the failure is kept.
 abbrev pub failing : Failure → DeviceState → DeviceState
@@ -100,6 +93,6 @@ abbrev pub take_tx_of : DeviceState → DeviceTree (DeviceState × Taken)
 take_tx_of s = elim s.failed [
   | Some f ↦ Done (s, taken.Failed f)
   | None ↦
-      if nat_le REPLIES (length s.replies) then Done (s, taken.RepliesFull REPLIES)
+      if nat_le DEVICE_REPLIES (length s.replies) then Done (s, taken.RepliesFull DEVICE_REPLIES)
       else Ask (Ring (Take Tx)) (λ answer. on_next answer s)
 ]

@@ -1,16 +1,13 @@
 -- Reset and opening.
 use Rattle.std.specs.Prelude.{ℕ, true, false, List, [], Some, None, Result, Ok, Err, map}
 use Rattle.vs_contents.specs.CallTree.{Done, Ask, bind, for_each}
-use Rattle.vs_flow.specs.Table.{entry_under, slots, emptied, refusal}
-use Rattle.vs_flow.specs.declared.flow.Flow.{Flow}
+use Rattle.vs_flow.specs.{Table.entry_under, Table.slots, Table.emptied, Table.refusal, declared.flow.Flow.Flow}
 use Rattle.vs_flow.specs.declared.table.TableFault.{TableFault}
 use Rattle.vs_conn.specs.declared.end.State.{State}
-use Rattle.vs_ring_port.specs.declared.failure.Failure.{Failure}
-use Rattle.vs_ring_port.specs.Contents.{PublishCid}
-use Rattle.vs_device_parts.specs.declared.answers.Counters.{Counters}
-use Rattle.vs_device_parts.specs.{Calls.DeviceTree, Calls.Ring, Calls.Label, Connections.with_client, Connections.stream_closed}
-use Rattle.vs_device_parts.specs.{State.DeviceState, Streams.closing}
-use Rattle.vs_device_parts.specs.declared.limits.TheConstants.{CONNECTIONS}
+use Rattle.vs_ring_port.specs.{declared.failure.Failure.Failure, Contents.PublishCid}
+use Rattle.vs_device_parts.specs.{declared.answers.Counters.Counters, Calls.DeviceTree, Calls.Ring, Calls.Label}
+use Rattle.vs_device_parts.specs.{Connections.with_client, Connections.stream_closed, State.DeviceState, Streams.closing}
+use Rattle.vs_limits.specs.declared.TheConstants.{DEVICE_CONNECTIONS}
 
 -- A device before its first call.
 abbrev pub new_device : ℕ → List ℕ → DeviceState
@@ -18,7 +15,7 @@ new_device cid base = record {
   cid = cid;
   base = base;
   now = 0;
-  table = record { room = CONNECTIONS; entries = []; given = 0 };
+  table = record { room = DEVICE_CONNECTIONS; entries = []; given = 0 };
   replies = [];
   event_owed = false;
   chain = None;

@@ -7,19 +7,17 @@ ghost use Rattle.vs_conn.specs.declared.end.State.TheVariants.{Live};
 ghost use Rattle.vs_conn.specs.declared.end.Verdict.TheVariants.{Deliver, Accept};
 ghost use Rattle.vs_credit.specs.Credit.{free_of, unread_of};
 ghost use Rattle.vs_header.specs.declared.Kind.TheVariants.{Stream};
-ghost use Rattle.vs_history.specs.declared.TheConstants.{BUF_ALLOC};
+ghost use Rattle.vs_limits.specs.declared.TheConstants.{BUF_ALLOC, WRITE_MAX};
 ghost use Rattle.vs_uds.specs.OkLine.{ok_text};
-ghost use Rattle.vs_device_parts.specs.declared.limits.TheConstants.{WRITE_MAX};
 ghost use Rattle.vs_device_parts.specs.Connections.{after_shut, after_written, cut_off, is_late, is_timed_out, new_connection};
 ghost use Rattle.vs_device_parts.specs.{Connections.stream_closed, Paid.paid_connection, Receiving.may_read, Room.IsSpare};
 ghost use Rattle.vs_device_parts.specs.{Streams.to_write, Streams.is_written_out, Transmitting.heard};
 
-use crate::limits::{TIMEOUT, WRITE_MAX};
 use std::marker::Model;
 use vs_buffer::ByteFifo;
 use vs_conn::{End, EndView, Owed, Route, Shut, State, Verdict};
 use vs_header::{Header, Kind};
-use vs_history::BUF_ALLOC;
+use vs_limits::{BUF_ALLOC, TIMEOUT, WRITE_MAX};
 use vs_uds::ok_line;
 
 /// The buffers of a connection.

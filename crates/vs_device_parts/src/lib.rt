@@ -6,7 +6,6 @@ pub mod answers;
 pub mod connection;
 pub mod fill;
 pub mod host_calls;
-pub mod limits;
 pub mod packets;
 pub mod ring_calls;
 pub mod round;

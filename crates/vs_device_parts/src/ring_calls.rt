@@ -1,6 +1,7 @@
 //! The device's calls on the ring, each as it stands in a conversation.
 
 ghost use Rattle.std.specs.Prelude.{◌≡◌, ◌<◌, ◌≤◌, ◌+◌, List, ℕ, IfSome, Contains, length, slice_index, take};
+ghost use Rattle.vs_limits.specs.declared.TheConstants.{GUEST_CID_MIN, GUEST_CID_MAX};
 ghost use Rattle.vs_header.specs.Packet.{header_of};
 ghost use Rattle.vs_header.specs.declared.TheConstants.{HEADER_LEN};
 ghost use Rattle.vs_ring_port.specs.Chains.{chain_of, held_after, IsLongEnough, without};
@@ -62,7 +63,7 @@ pub fn return_read<R: DeviceRing>(ring: &mut R, chain: Chain)
 
 /// Publishes the guest's CID.
 pub fn publish_cid<R: DeviceRing>(ring: &mut R, cid: u64)
-    requires cid { (3 ≤ cid) × (cid ≤ 4294967294) }
+    requires cid { (GUEST_CID_MIN ≤ cid) × (cid ≤ GUEST_CID_MAX) }
     ensures calls { AllowsOnRing (PublishCid cid) tt (R.contents ring.old) (R.contents ring.new) }
     ensures held { R.held ring.new ≡ R.held ring.old }
 {

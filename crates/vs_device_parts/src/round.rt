@@ -2,15 +2,15 @@
 
 ghost use Rattle.std.specs.Prelude.{◌≡◌, ◌≤◌, ◌+◌, ◌++◌, length, filter, nat_lt, nat_le};
 ghost use Rattle.vs_device_parts.specs.Receiving.{round_from};
-ghost use Rattle.vs_device_parts.specs.declared.limits.TheConstants.{CONNECTIONS};
+ghost use Rattle.vs_limits.specs.declared.TheConstants.{DEVICE_CONNECTIONS};
 
-use crate::limits::CONNECTIONS;
 use arrayvec::ArrayVec;
 use vs_flow::Slot;
+use vs_limits::DEVICE_CONNECTIONS;
 
 /// The slots in the order of a round: those above the slot `last`, then all others.
-pub fn round_from(last: Option<Slot>, slots: &[Slot]) -> ArrayVec<Slot, CONNECTIONS>
-    requires room { length slots.now ≤ CONNECTIONS }
+pub fn round_from(last: Option<Slot>, slots: &[Slot]) -> ArrayVec<Slot, DEVICE_CONNECTIONS>
+    requires room { length slots.now ≤ DEVICE_CONNECTIONS }
     ensures round { result.items ≡ round_from last slots.now }
 {
     let mut round = ArrayVec::new();
@@ -25,8 +25,8 @@ pub fn round_from(last: Option<Slot>, slots: &[Slot]) -> ArrayVec<Slot, CONNECTI
 }
 
 // Adds the slots above `last`.
-fn push_above(round: &mut ArrayVec<Slot, CONNECTIONS>, slots: &[Slot], last: Slot)
-    requires room { length round.old.items + length (filter (nat_lt last) slots.now) ≤ CONNECTIONS }
+fn push_above(round: &mut ArrayVec<Slot, DEVICE_CONNECTIONS>, slots: &[Slot], last: Slot)
+    requires room { length round.old.items + length (filter (nat_lt last) slots.now) ≤ DEVICE_CONNECTIONS }
     ensures items { round.new.items ≡ round.old.items ++ filter (λ slot. nat_lt last slot) slots.now }
 {
     for slot in slots {
@@ -37,8 +37,8 @@ fn push_above(round: &mut ArrayVec<Slot, CONNECTIONS>, slots: &[Slot], last: Slo
 }
 
 // Adds the slots up to `last`.
-fn push_up_to(round: &mut ArrayVec<Slot, CONNECTIONS>, slots: &[Slot], last: Slot)
-    requires room { length round.old.items + length (filter (λ slot. nat_le slot last) slots.now) ≤ CONNECTIONS }
+fn push_up_to(round: &mut ArrayVec<Slot, DEVICE_CONNECTIONS>, slots: &[Slot], last: Slot)
+    requires room { length round.old.items + length (filter (λ slot. nat_le slot last) slots.now) ≤ DEVICE_CONNECTIONS }
     ensures items { round.new.items ≡ round.old.items ++ filter (λ slot. nat_le slot last) slots.now }
 {
     for slot in slots {
@@ -49,8 +49,8 @@ fn push_up_to(round: &mut ArrayVec<Slot, CONNECTIONS>, slots: &[Slot], last: Slo
 }
 
 // Adds all slots.
-fn push_all(round: &mut ArrayVec<Slot, CONNECTIONS>, slots: &[Slot])
-    requires room { length round.old.items + length slots.now ≤ CONNECTIONS }
+fn push_all(round: &mut ArrayVec<Slot, DEVICE_CONNECTIONS>, slots: &[Slot])
+    requires room { length round.old.items + length slots.now ≤ DEVICE_CONNECTIONS }
     ensures items { round.new.items ≡ round.old.items ++ slots.now }
 {
     for slot in slots {

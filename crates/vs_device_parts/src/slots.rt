@@ -10,14 +10,12 @@ ghost use Rattle.vs_credit.specs.Credit.{free_of, unread_of};
 ghost use Rattle.vs_flow.specs.Table.{IsTable, emptied, entry_of, entry_under, has_place, refusal, slots, value_under, with_entry};
 ghost use Rattle.vs_flow.specs.Table.{with_value, without};
 ghost use Rattle.vs_header.specs.declared.Kind.TheVariants.{Stream};
-ghost use Rattle.vs_history.specs.declared.TheConstants.{BUF_ALLOC};
+ghost use Rattle.vs_limits.specs.declared.TheConstants.{BUF_ALLOC, DEVICE_CONNECTIONS};
 ghost use Rattle.vs_uds.specs.OkLine.{ok_text};
-ghost use Rattle.vs_device_parts.specs.declared.limits.TheConstants.{CONNECTIONS};
 ghost use Rattle.vs_device_parts.specs.Connections.{after_shut, after_written, cut_off, new_connection, route_to_guest, stream_closed};
 ghost use Rattle.vs_device_parts.specs.{Paid.paid_connection, Room.IsSpare, State.DeviceConnection, State.DeviceEntry, Transmitting.heard};
 
 use crate::connection::{Buffers, Connection};
-use crate::limits::CONNECTIONS;
 use arrayvec::ArrayVec;
 use std::alloc::{AllocError, Global};
 use std::marker::Model;
@@ -25,7 +23,7 @@ use vs_buffer::ByteFifo;
 use vs_conn::{Owed, Route, Verdict};
 use vs_flow::{Entry, Flow, FlowTable, Slot, TableFault};
 use vs_header::Header;
-use vs_history::BUF_ALLOC;
+use vs_limits::{BUF_ALLOC, DEVICE_CONNECTIONS};
 use vs_uds::OK_MAX;
 
 /// Bytes of a connection's receive buffer.
@@ -55,10 +53,10 @@ impl Model for Slots {
 impl Slots {
     /// The slots of a device that has no connection yet. All memory is taken here.
     pub fn new(alloc: Global) -> Result<Slots, AllocError>
-        ensures { IfOk result (λ s. s ≡ record { room = CONNECTIONS; entries = []; given = 0 }) }
+        ensures { IfOk result (λ s. s ≡ record { room = DEVICE_CONNECTIONS; entries = []; given = 0 }) }
     {
         Ok(Slots {
-            table: FlowTable::new(alloc, CONNECTIONS)?,
+            table: FlowTable::new(alloc, DEVICE_CONNECTIONS)?,
             spare: all_buffers(alloc)?,
         })
     }
@@ -66,7 +64,7 @@ impl Slots {
     /// How many connections there are.
     pub fn open(&self) -> usize
         ensures count { result ≡ length self.now.entries }
-        ensures most { result ≤ CONNECTIONS }
+        ensures most { result ≤ DEVICE_CONNECTIONS }
     {
         self.table.len()
     }
@@ -88,7 +86,9 @@ impl Slots {
         if self.table.has_place() {
             return None;
         }
-        Some(TableFault::Full { n: CONNECTIONS })
+        Some(TableFault::Full {
+            n: DEVICE_CONNECTIONS,
+        })
     }
 
     /// The slot of the connection of a flow.
@@ -114,9 +114,9 @@ impl Slots {
     }
 
     /// All slots of the table, by rising slot.
-    pub fn all(&self) -> ArrayVec<Slot, CONNECTIONS>
+    pub fn all(&self) -> ArrayVec<Slot, DEVICE_CONNECTIONS>
         ensures all { result.items ≡ slots self.now }
-        ensures most { length (slots self.now) ≤ CONNECTIONS }
+        ensures most { length (slots self.now) ≤ DEVICE_CONNECTIONS }
     {
         let mut all = ArrayVec::new();
         let mut place = 0;
@@ -364,12 +364,12 @@ fn insert(table: &mut FlowTable<Connection>, flow: Flow, connection: Connection)
 
 // The buffers of all slots.
 fn all_buffers(alloc: Global) -> Result<Vec<Buffers>, AllocError>
-    ensures all { IfOk result (λ v. length v.items ≡ CONNECTIONS) }
+    ensures all { IfOk result (λ v. length v.items ≡ DEVICE_CONNECTIONS) }
     ensures spare { IfOk result (λ v. All IsSpare v.items) }
-    ensures room { IfOk result (λ v. CONNECTIONS ≤ vec_capacity v) }
+    ensures room { IfOk result (λ v. DEVICE_CONNECTIONS ≤ vec_capacity v) }
 {
-    let mut all = Vec::with_capacity(alloc, CONNECTIONS)?;
-    for _ in 0..CONNECTIONS {
+    let mut all = Vec::with_capacity(alloc, DEVICE_CONNECTIONS)?;
+    for _ in 0..DEVICE_CONNECTIONS {
         all.push_reserved(spare_buffers(alloc)?);
     }
     Ok(all)

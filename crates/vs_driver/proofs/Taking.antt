@@ -2,21 +2,20 @@
 use Rattle.std.proofs.Common.{◌≡◌, ℕ, Bool, true, false, List, [], length, nat_le, nat_lt, ◌+◌, Some, None, refl, subst}
 use Rattle.vs_contents.specs.CallTree.{Ask}
 use Rattle.vs_contents.proofs.{Leads.leads_of, Leads.leads_bind, Conditions.may_first}
-use Rattle.vs_ring_port.specs.declared.queue.Queue.{Queue}
-use Rattle.vs_ring_port.specs.declared.queue.Queue.TheVariants.{Event, Rx}
+use Rattle.vs_ring_port.specs.{declared.queue.Queue.Queue, declared.queue.Queue.TheVariants.Event, declared.queue.Queue.TheVariants.Rx}
 use Rattle.vs_ring_port.specs.{Contents.RingContents, DriverCalls.Reap, DriverCalls.DriverAllows}
-use Rattle.vs_driver_parts.specs.declared.limits.TheConstants.{REPLIES_FULL}
-use Rattle.vs_driver_parts.specs.State.{DriverState}
+use Rattle.vs_limits.specs.declared.TheConstants.{DRIVER_REPLIES_FULL}
 use Rattle.vs_driver_parts.specs.Conversations.{Round, take_event, take_packet, packet_reaped, event_reaped, event_taken, staged_again}
 use Rattle.vs_driver_parts.specs.Conversations.{goes_on_with, stage_of, publish_of, published, with_state}
+use Rattle.vs_driver_parts.specs.State.{DriverState}
 use Rattle.vs_driver_parts.specs.Playing.{BringsFit, CanMake, MayPublishAll, Plays, RingAllows}
 use Rattle.vs_driver_parts.specs.Receiving.{on_page}
 
-reaps_event : (r : Round) → nat_lt REPLIES_FULL (length r.state.replies) ≡ false → take_event r ≡ Ask (Reap Event) (event_reaped r)
+reaps_event : (r : Round) → nat_lt DRIVER_REPLIES_FULL (length r.state.replies) ≡ false → take_event r ≡ Ask (Reap Event) (event_reaped r)
 reaps_event r few = rw (few, take_event) refl
 
 pub took_event : (r after : Round) (s : DriverState) (bytes : List ℕ) (c m n e : RingContents)
-    → nat_lt REPLIES_FULL (length r.state.replies) ≡ false → DriverAllows (Reap Event) (Some bytes) c m → Plays (event_taken bytes r) m after n → Plays (stage_of Event [] after.state) n s e
+    → nat_lt DRIVER_REPLIES_FULL (length r.state.replies) ≡ false → DriverAllows (Reap Event) (Some bytes) c m → Plays (event_taken bytes r) m after n → Plays (stage_of Event [] after.state) n s e
     → Plays (take_event r) c (record after { state = s }, true) e
 took_event r after s bytes c m n e few reaped taken staged =
     let x : Round × Bool = (record after { state = s }, true) in
@@ -34,10 +33,10 @@ pub round_published : (queue : Queue) (r : Round) (s : DriverState) (c m : RingC
 round_published queue r s c m plays = leads_bind RingAllows (publish_of queue r.state) (with_state r) c m m s (record r { state = s }) plays (refl, refl)
 
 -- a packet
-reaps_packet : (r : Round) → nat_le REPLIES_FULL (length r.state.replies) ≡ false → take_packet r ≡ Ask (Reap Rx) (packet_reaped r)
+reaps_packet : (r : Round) → nat_le DRIVER_REPLIES_FULL (length r.state.replies) ≡ false → take_packet r ≡ Ask (Reap Rx) (packet_reaped r)
 reaps_packet r few = rw (few, take_packet) refl
 
-pub took_packet : (r : Round) (t s : DriverState) (bytes : List ℕ) (c m e : RingContents) → nat_le REPLIES_FULL (length r.state.replies) ≡ false
+pub took_packet : (r : Round) (t s : DriverState) (bytes : List ℕ) (c m e : RingContents) → nat_le DRIVER_REPLIES_FULL (length r.state.replies) ≡ false
     → DriverAllows (Reap Rx) (Some bytes) c m → BringsFit bytes → t ≡ on_page bytes r.state → Plays (stage_of Rx [] t) m s e
     → Plays (take_packet r) c (record r { state = s; count = r.count + 1 }, true) e
 took_packet r t s bytes c m e few reaped fits is staged =
@@ -48,10 +47,10 @@ took_packet r t s bytes c m e few reaped fits is staged =
     leads_of RingAllows _ _ c e x (reaps_packet r few)
     (Some bytes, m, (fits, reaped), subst (λ (u : DriverState). Plays (staged_again Rx (now u)) m x e) is again)
 
-pub took_no_packet : (r : Round) (c m : RingContents) → nat_le REPLIES_FULL (length r.state.replies) ≡ false → DriverAllows (Reap Rx) None c m
+pub took_no_packet : (r : Round) (c m : RingContents) → nat_le DRIVER_REPLIES_FULL (length r.state.replies) ≡ false → DriverAllows (Reap Rx) None c m
     → Plays (take_packet r) c (r, false) m
 took_no_packet r c m few reaped = leads_of RingAllows _ _ c m (r, false) (reaps_packet r few) (None, m, (tt, reaped), (refl, refl))
 
-pub took_no_event : (r : Round) (c m : RingContents) → nat_lt REPLIES_FULL (length r.state.replies) ≡ false → DriverAllows (Reap Event) None c m
+pub took_no_event : (r : Round) (c m : RingContents) → nat_lt DRIVER_REPLIES_FULL (length r.state.replies) ≡ false → DriverAllows (Reap Event) None c m
     → Plays (take_event r) c (r, false) m
 took_no_event r c m few reaped = leads_of RingAllows _ _ c m (r, false) (reaps_event r few) (None, m, (tt, reaped), (refl, refl))

@@ -4,7 +4,7 @@ ghost use Rattle.std.specs.Prelude.{◌≡◌, ℕ, ◌||◌, ◌<◌, Some, Non
 ghost use Rattle.vs_conn.specs.{End.asked, Headers.owed_header};
 ghost use Rattle.vs_conn.specs.declared.end.Owed.TheVariants as owed;
 ghost use Rattle.vs_header.specs.declared.Kind.TheVariants.{Stream};
-ghost use Rattle.vs_history.specs.declared.TheConstants.{BUF_ALLOC};
+ghost use Rattle.vs_limits.specs.declared.TheConstants.{BUF_ALLOC};
 ghost use Rattle.vs_driver_parts.specs.declared.answers.ConnectError.{ConnectError};
 ghost use Rattle.vs_driver_parts.specs.Connections.{connect_refusal, connected, next_flow, route_to_host};
 ghost use Rattle.vs_driver_parts.specs.Conversations.{connect_of, connect_with_page};
@@ -15,11 +15,10 @@ ghost use Rattle.vs_driver_log.specs.Honest.{IsHonest, IsHonestWith};
 use crate::driver::Driver;
 use vs_conn::{End, Owed};
 use vs_driver_parts::answers::{ConnId, ConnectError};
-use vs_driver_parts::limits::{LAST_ID, LAST_PORT, SLOTS};
 use vs_driver_parts::route::route_to_host;
 use vs_flow::{Flow, is_assigned};
 use vs_header::{Header, Kind};
-use vs_history::BUF_ALLOC;
+use vs_limits::{BUF_ALLOC, DRIVER_CONNECTIONS, LAST_ID, LAST_PORT};
 use vs_ring_port::DriverRing;
 
 impl Driver {
@@ -56,9 +55,9 @@ impl Driver {
         if is_assigned(host_port) {
             return Some(ConnectError::BadPort { port: host_port });
         }
-        if self.slots.held() >= SLOTS {
+        if self.slots.held() >= DRIVER_CONNECTIONS {
             return Some(ConnectError::Full {
-                slots: SLOTS as u32,
+                slots: DRIVER_CONNECTIONS as u32,
             });
         }
         if self.slots.next_port() > LAST_PORT || self.slots.next_id() > LAST_ID as u64 {

@@ -20,7 +20,7 @@ pub struct Driver {
 
 impl Model for Driver {
     ghost use Rattle.std.specs.Prelude.{◌≡◌, ◌≤◌};
-    ghost use Rattle.vs_driver_parts.specs.declared.limits.TheConstants.{REPLIES};
+    ghost use Rattle.vs_limits.specs.declared.TheConstants.{DRIVER_REPLIES};
     ghost use Rattle.vs_driver_parts.specs.State.{DriverState};
 
     ghost Value = { DriverState };
@@ -41,5 +41,5 @@ impl Model for Driver {
       staged = d.pages.staged;
     } };
 
-    ghost invariant = { λ d. (d.replies.capacity ≡ REPLIES) × (d.pages.in_flight ≤ d.pages.size) };
+    ghost invariant = { λ d. (d.replies.capacity ≡ DRIVER_REPLIES) × (d.pages.in_flight ≤ d.pages.size) };
 }

@@ -22,4 +22,3 @@ pub use vs_driver_parts::answers::{
     Accepted, Closed, ConnId, ConnectError, ConnectionState, ListenError, NotListening, Polled,
     Received, Sent, Shut,
 };
-pub use vs_driver_parts::limits;

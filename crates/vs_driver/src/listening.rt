@@ -7,7 +7,7 @@ ghost use Rattle.vs_driver_log.specs.Honest.{IsHonestWith};
 
 use crate::driver::Driver;
 use vs_driver_parts::answers::{Accepted, ConnId, ListenError};
-use vs_driver_parts::limits::LISTENERS;
+use vs_limits::LISTENERS;
 
 impl Driver {
     /// Listens on a guest port: a REQUEST of the host for it opens a connection, which waits to be accepted.

@@ -4,7 +4,7 @@ ghost use Rattle.std.specs.Prelude.{◌≡◌, ◌≢◌, ◌<◌, ◌≤◌, []
 ghost use Rattle.std.specs.List.{All};
 ghost use Rattle.vs_ring_port.specs.declared.queue.Queue.TheVariants.{Rx, Tx, Event};
 ghost use Rattle.vs_ring_port.specs.Counts.{at, no_counts, with_count};
-ghost use Rattle.vs_driver_parts.specs.declared.limits.TheConstants.{FIRST_PORT, LAST_PORT};
+ghost use Rattle.vs_limits.specs.declared.TheConstants.{FIRST_PORT, LAST_PORT};
 ghost use Rattle.vs_driver_parts.specs.Conversations.{new_of, new_state, post_all, posts};
 ghost use Rattle.vs_driver_parts.specs.Playing.{IsRingOf, MayPublishAll, Plays};
 ghost use Rattle.vs_driver_log.specs.Honest.{IsFresh, IsHonestWith};
@@ -12,10 +12,10 @@ ghost use Rattle.vs_driver_log.specs.Honest.{IsFresh, IsHonestWith};
 use crate::driver::Driver;
 use std::alloc::{AllocError, Global};
 use vs_driver_parts::answers::ConnId;
-use vs_driver_parts::limits::{FIRST_PORT, REPLIES};
 use vs_driver_parts::listeners::Listeners;
 use vs_driver_parts::pages::{Pages, free_pages};
 use vs_driver_parts::slots::Slots;
+use vs_limits::{DRIVER_REPLIES, FIRST_PORT};
 use vs_page::Page;
 use vs_replies::Replies;
 use vs_ring_port::{DriverRing, Queue};
@@ -80,7 +80,7 @@ impl Driver {
             cid: 0,
             slots: Slots::new(alloc, port, id)?,
             listeners: Listeners::new(alloc)?,
-            replies: Replies::new(alloc, REPLIES)?,
+            replies: Replies::new(alloc, DRIVER_REPLIES)?,
             broken: 0,
             pages: Pages::new(alloc, size)?,
         })

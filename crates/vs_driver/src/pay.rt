@@ -5,7 +5,7 @@ ghost use Rattle.vs_conn.specs.End.{owes_of};
 ghost use Rattle.vs_conn.specs.declared.end.Owed.TheVariants as owed;
 ghost use Rattle.vs_flow.specs.Table.{entry_under};
 ghost use Rattle.vs_ring_port.specs.declared.queue.Queue.TheVariants.{Tx};
-ghost use Rattle.vs_driver_parts.specs.declared.limits.TheConstants.{REPLIES};
+ghost use Rattle.vs_limits.specs.declared.TheConstants.{DRIVER_REPLIES};
 ghost use Rattle.vs_conn.specs.declared.end.TheConstants.{OWED_MAX};
 ghost use Rattle.vs_driver_parts.specs.State.{DriverEntry};
 ghost use Rattle.vs_driver_parts.specs.Conversations.{put_all, put_replies, put_reply, pay_all, pay_slot, put_owed, after_paying, is_rst};
@@ -42,7 +42,7 @@ impl Driver {
         requires may { MayPublishAll (put_replies self.old) (R.contents ring.old) }
         ensures ring { IsAtWork Tx (R.size ring.new) (R.flight ring.new) (R.staged ring.new) self.new }
         ensures calls { Plays (put_replies self.old) (R.contents ring.old) (round_of self.new result) (R.contents ring.new) }
-        ensures count { result.count ≤ REPLIES }
+        ensures count { result.count ≤ DRIVER_REPLIES }
     {
         let most = self.replies.len();
         let mut tally = Tally::none();
@@ -80,7 +80,7 @@ impl Driver {
     // Stages what each connection owes, by rising slot.
     fn pay_all<R: DriverRing>(&mut self, ring: &mut R, tally: &mut Tally)
         requires ring { IsRingOf (R.size ring.old) (R.flight ring.old) (R.staged ring.old) self.old }
-        requires few { tally.old.count ≤ REPLIES }
+        requires few { tally.old.count ≤ DRIVER_REPLIES }
         requires may { MayPublishAll (pay_all (round_of self.old tally.old)) (R.contents ring.old) }
         ensures ring { IsAtWork Tx (R.size ring.new) (R.flight ring.new) (R.staged ring.new) self.new }
         ensures calls { Plays (pay_all (round_of self.old tally.old)) (R.contents ring.old) (round_of self.new tally.new) (R.contents ring.new) }

@@ -7,7 +7,7 @@ ghost use Rattle.vs_flow.specs.declared.flow.Flow.{Flow};
 ghost use Rattle.vs_history.specs.declared.packet.Packet.{Packet};
 ghost use Rattle.vs_page.specs.{Held.IsWhole, Log.flow_to_guest, Open.is_dropped};
 ghost use Rattle.vs_page.specs.Log as log;
-ghost use Rattle.vs_driver_parts.specs.declared.limits.TheConstants.{REPLIES, REPLIES_FULL};
+ghost use Rattle.vs_limits.specs.declared.TheConstants.{DRIVER_REPLIES, DRIVER_REPLIES_FULL};
 ghost use Rattle.vs_driver_parts.specs.{State.DriverEntry, Connections.after_leaving, Connections.leaves_list, Connections.with_request};
 ghost use Rattle.vs_driver_parts.specs.Playing.{BringsFit, FitsPorts, SamePages};
 ghost use Rattle.vs_driver_parts.specs.Receiving.{ends_connection, on_page, on_packet, on_heard, on_known, on_unknown, is_request, may_open};
@@ -16,16 +16,16 @@ ghost use Rattle.vs_wrap.specs.Wrap.{counted};
 
 use crate::driver::Driver;
 use vs_conn::Verdict;
-use vs_driver_parts::limits::{LAST_ID, SLOTS};
-use vs_flow::{Flow, HOST_CID, Slot, is_assigned};
+use vs_flow::{Flow, Slot, is_assigned};
 use vs_header::{Header, Kind, Op};
+use vs_limits::{DRIVER_CONNECTIONS, HOST_CID, LAST_ID};
 use vs_page::{Page, packet_in, packet_payload};
 use vs_replies::Reply;
 
 impl Driver {
     /// Takes a page of the receive queue. One that holds no packet does nothing.
     pub(crate) fn on_page(&mut self, page: &Page)
-        requires room { length self.old.replies < REPLIES }
+        requires room { length self.old.replies < DRIVER_REPLIES }
         ensures state { self.new ≡ on_page page.now self.old }
         ensures pages { SamePages self.old self.new }
         ensures fits { BringsFit page.now }
@@ -41,7 +41,7 @@ impl Driver {
 
     // Takes a packet.
     fn on_packet(&mut self, header: &Header, payload: &[u8])
-        requires room { length self.old.replies < REPLIES }
+        requires room { length self.old.replies < DRIVER_REPLIES }
         requires whole { let p : Packet = record { header = header.now; payload = payload.now } in IsWhole p }
         ensures state { let p : Packet = record { header = header.now; payload = payload.now } in self.new ≡ on_packet p self.old }
         ensures pages { SamePages self.old self.new }
@@ -56,7 +56,7 @@ impl Driver {
 
     // Takes a packet that isn't dropped.
     fn on_heard(&mut self, flow: Flow, header: &Header, payload: &[u8])
-        requires room { length self.old.replies < REPLIES }
+        requires room { length self.old.replies < DRIVER_REPLIES }
         requires whole { let p : Packet = record { header = header.now; payload = payload.now } in IsWhole p }
         requires flow { flow ≡ flow_to_guest header.now }
         ensures state { let p : Packet = record { header = header.now; payload = payload.now } in self.new ≡ on_heard p self.old }
@@ -117,7 +117,7 @@ impl Driver {
 
     // Takes a packet of an unknown flow.
     fn on_unknown(&mut self, flow: Flow, header: &Header)
-        requires room { length self.old.replies < REPLIES }
+        requires room { length self.old.replies < DRIVER_REPLIES }
         requires flow { flow ≡ flow_to_guest header.now }
         requires unknown { entry_of self.old.table flow ≡ None }
         ensures state { (payload : List ℕ) → let p : Packet = record { header = header.now; payload = payload } in self.new ≡ on_unknown p self.old }
@@ -140,7 +140,7 @@ impl Driver {
         flow.is_host()
             && is_assigned(flow.host)
             && self.listeners.has_place(flow.guest)
-            && self.slots.held() < SLOTS
+            && self.slots.held() < DRIVER_CONNECTIONS
             && self.slots.next_id() <= LAST_ID as u64
     }
 
@@ -157,7 +157,7 @@ impl Driver {
 
     // Owes one more reply, for which there is room.
     fn owe(&mut self, reply: Reply)
-        requires room { length self.old.replies < REPLIES }
+        requires room { length self.old.replies < DRIVER_REPLIES }
         ensures state { self.new ≡ with_reply reply self.old }
         ensures pages { SamePages self.old self.new }
     {
@@ -169,12 +169,12 @@ impl Driver {
 
     /// A transport reset: each connection leaves the table, by rising slot, and RST is owed for its flow. The guest has a CID from now on.
     pub(crate) fn reset(&mut self, cid: u64)
-        requires room { length self.old.replies ≤ REPLIES_FULL }
+        requires room { length self.old.replies ≤ DRIVER_REPLIES_FULL }
         ensures state { self.new ≡ after_reset cid self.old }
         ensures pages { SamePages self.old self.new }
     {
         let connections = self.slots.open();
-        prove!(connections <= SLOTS);
+        prove!(connections <= DRIVER_CONNECTIONS);
         self.cid = cid;
         while let Some((slot, reply)) = self.slots.first() {
             self.leave(slot);

@@ -9,9 +9,9 @@ use crate::driver::Driver;
 use std::marker::Model;
 use vs_conn::State;
 use vs_driver_parts::answers::{ConnId, ConnectionState};
-use vs_driver_parts::limits::SLOTS;
 use vs_driver_parts::slots::Slots;
 use vs_flow::Flow;
+use vs_limits::DRIVER_CONNECTIONS;
 
 impl Driver {
     /// How the connection with an id stands.
@@ -53,7 +53,7 @@ impl Driver {
     {
         let slots = &self.slots;
         let connections = slots.open();
-        prove!(connections <= SLOTS);
+        prove!(connections <= DRIVER_CONNECTIONS);
         Entries { slots, place: 0 }
     }
 }

@@ -7,12 +7,12 @@ ghost use Rattle.vs_driver_parts.specs.Receiving.{is_reset_event};
 ghost use Rattle.vs_driver_parts.specs.Playing.{IsRingOf, IsAtWork, MayPublishAll, Plays, SamePages};
 ghost use Rattle.vs_ring_port.specs.Counts.{at, no_counts, one_more, with_count};
 ghost use Rattle.vs_ring_port.specs.declared.queue.TheConstants.{STAGED_MAX};
-ghost use Rattle.vs_driver_parts.specs.declared.limits.TheConstants.{REPLIES_FULL};
+ghost use Rattle.vs_limits.specs.declared.TheConstants.{DRIVER_REPLIES_FULL};
 
 use crate::driver::Driver;
 use byteorder::{ByteOrder, LittleEndian};
-use vs_driver_parts::limits::REPLIES_FULL;
 use vs_driver_parts::tally::Tally;
+use vs_limits::DRIVER_REPLIES_FULL;
 use vs_page::Page;
 use vs_ring_port::{DriverRing, Queue, Reaped};
 
@@ -56,7 +56,7 @@ impl Driver {
         ensures calls { Plays (take_event (round_of self.old tally.old)) (R.contents ring.old) (round_of self.new tally.new, result) (R.contents ring.new) }
         ensures count { tally.new.count ≤ tally.old.count + 1 }
     {
-        if self.replies.len() > REPLIES_FULL {
+        if self.replies.len() > DRIVER_REPLIES_FULL {
             return false;
         }
         match ring.reap(Queue::Event) {
@@ -72,7 +72,7 @@ impl Driver {
     // Takes a page of the event queue. At a transport reset the guest's CID is loaded.
     fn on_event<R: DriverRing>(&mut self, ring: &mut R, page: &Page, tally: &mut Tally)
         requires few { tally.old.count < 2 ^ 16 }
-        requires replies { length self.old.replies ≤ REPLIES_FULL }
+        requires replies { length self.old.replies ≤ DRIVER_REPLIES_FULL }
         ensures same_flight { R.flight ring.new ≡ R.flight ring.old }
         ensures same_staged { R.staged ring.new ≡ R.staged ring.old }
         ensures same_size { R.size ring.new ≡ R.size ring.old }
@@ -129,7 +129,7 @@ impl Driver {
         ensures calls { Plays (take_packet (round_of self.old tally.old)) (R.contents ring.old) (round_of self.new tally.new, result) (R.contents ring.new) }
         ensures count { tally.new.count ≤ tally.old.count + 1 }
     {
-        if self.replies.len() >= REPLIES_FULL {
+        if self.replies.len() >= DRIVER_REPLIES_FULL {
             return false;
         }
         match ring.reap(Queue::Rx) {

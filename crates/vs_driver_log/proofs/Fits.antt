@@ -2,26 +2,20 @@
 use Rattle.std.proofs.Common.{◌≡◌, ℕ, ◌+◌, ◌-◌, ◌<◌, ◌≤◌, ◌^◌, Bool, true, false, cond, min, List, [], ◌++◌, length, drop, Option, Some}
 use Rattle.std.proofs.Common.{None, refl, sym, ap, subst, ◌∙◌, arith, length-append, length-drop, eq-eqb}
 use Rattle.vs_wrap.specs.Wrap.{difference32, sum32}
-use Rattle.vs_credit.specs.Credit.{room_of, with_taken, with_forwarded, with_heard}
-use Rattle.vs_credit.specs.declared.Credit.{Credit}
-use Rattle.vs_history.specs.declared.TheConstants.{BUF_ALLOC}
+use Rattle.vs_credit.specs.{Credit.room_of, Credit.with_taken, Credit.with_forwarded, Credit.with_heard, declared.Credit.Credit}
+use Rattle.vs_limits.specs.declared.TheConstants.{BUF_ALLOC}
 use Rattle.vs_history.specs.declared.packet.Packet.{Packet}
-use Rattle.vs_header.specs.declared.{Header.Header, Op.Op}
-use Rattle.vs_header.specs.declared.Op.TheVariants as op
-use Rattle.vs_header.specs.Op.{op_named}
+use Rattle.vs_header.specs.{declared.Header.Header, declared.Op.Op, Op.op_named}
 use Rattle.vs_page.specs.Held.{IsWhole}
+use Rattle.vs_conn.specs.{Shut.joined, Shut.shut_of, declared.end.Owed.Owed, declared.end.State.State, declared.end.Verdict.Verdict}
 use Rattle.vs_conn.specs.End.{ConnectionEnd, after_op, after_message, end_after, verdict_of, all_forwarded, with_payload_sent}
-use Rattle.vs_conn.specs.Shut.{joined, shut_of}
-use Rattle.vs_conn.specs.declared.end.Owed.{Owed}
-use Rattle.vs_conn.specs.declared.end.Owed.TheVariants as owed
-use Rattle.vs_conn.specs.declared.end.State.{State}
-use Rattle.vs_conn.specs.declared.end.State.TheVariants as state
-use Rattle.vs_conn.specs.declared.end.Verdict.{Verdict}
-use Rattle.vs_conn.specs.declared.end.Verdict.TheVariants as verdict
-use Rattle.vs_driver_parts.specs.{Room.HasRoom, State.DriverConnection}
+use Rattle.vs_driver_parts.specs.{Room.HasRoom, State.DriverConnection, Receiving.after_packet}
 use Rattle.vs_driver_parts.specs.Connections.{after_read, after_shut, after_closing, paid_connection}
-use Rattle.vs_driver_parts.specs.Receiving.{after_packet}
 use Rattle.vs_driver_parts.proofs.Delivers.{delivers, named_rw}
+use Rattle.vs_header.specs.declared.Op.TheVariants as op
+use Rattle.vs_conn.specs.declared.end.Owed.TheVariants as owed
+use Rattle.vs_conn.specs.declared.end.State.TheVariants as state
+use Rattle.vs_conn.specs.declared.end.Verdict.TheVariants as verdict
 
 -- A buffer of BUF_ALLOC bytes with these.
 abbrev pub Holds : Credit → List ℕ → Type 0
@@ -42,7 +36,7 @@ holds_same c d bytes room alloc rx fwd = record {
   fwd_cnt = omega (arith, room.fwd_cnt, fwd);
 }
 
-took_more : (rx fwd n : ℕ) → rx < 2 ^ 32 → fwd < 2 ^ 32 → difference32 rx fwd + n ≤ 65536 → difference32 (sum32 rx n) fwd ≡ difference32 rx fwd + n
+took_more : (rx fwd n : ℕ) → rx < 2 ^ 32 → fwd < 2 ^ 32 → difference32 rx fwd + n ≤ BUF_ALLOC → difference32 (sum32 rx n) fwd ≡ difference32 rx fwd + n
 took_more rx fwd n a b c = omega (arith, a, b, c)
 
 took_both : (rx fwd n : ℕ) → rx < 2 ^ 32 → fwd < 2 ^ 32 → difference32 (sum32 rx n) (sum32 fwd n) ≡ difference32 rx fwd

@@ -2,38 +2,35 @@
 use Rattle.std.proofs.Common.{◌≡◌, ℕ, ◌+◌, ◌<◌, ◌^◌, ◌==◌, nat_le, nat_lt, Bool, true, false, cond, List, [], ◌∷◌, length, Option, Some}
 use Rattle.std.proofs.Common.{None, refl, sym, ap, subst, ◌∙◌}
 use Rattle.vs_contents.specs.CallTree.{Done, Ask, bind}
-use Rattle.vs_conn.specs.End.{owes_of}
-use Rattle.vs_conn.specs.declared.end.{Owed.Owed, TheConstants.OWED_MAX}
+use Rattle.vs_conn.specs.{End.owes_of, declared.end.Owed.Owed, declared.end.TheConstants.OWED_MAX}
 use Rattle.vs_flow.specs.Table.{entry_under, slots}
 use Rattle.vs_header.specs.Packet.{header_bytes}
 use Rattle.vs_history.specs.declared.packet.Packet.{Packet}
-use Rattle.vs_page.specs.{Fair.IsFairLog, Held.event_held, Held.packet_held, Log.Driver, Log.Log}
-use Rattle.vs_page.specs.declared.log.LogEntry.{LogEntry}
+use Rattle.vs_page.specs.{Fair.IsFairLog, Held.event_held, Held.packet_held, Log.Driver, Log.Log, declared.log.LogEntry.LogEntry}
 use Rattle.vs_page.specs.declared.log.LogEntry.TheVariants.{GotEvent, GotPacket, Mark}
 use Rattle.vs_page.proofs.Holding.{packet_whole}
 use Rattle.vs_replies.specs.declared.Reply.{Reply}
-use Rattle.vs_ring_port.specs.declared.queue.Queue.{Queue}
-use Rattle.vs_ring_port.specs.declared.queue.Queue.TheVariants.{Rx, Tx, Event}
 use Rattle.vs_ring_port.specs.{Contents.RingContents, DriverCalls.Reap, DriverCalls.LoadCid}
 use Rattle.vs_ring_port.specs.EndLog.{EndLog, entries_marked, log_loaded, log_reaped, with_event, with_packet}
+use Rattle.vs_ring_port.specs.declared.queue.Queue.{Queue}
+use Rattle.vs_ring_port.specs.declared.queue.Queue.TheVariants.{Rx, Tx, Event}
 use Rattle.vs_matching.proofs.{Keeps.takes_event, Slots.found_by}
-use Rattle.vs_driver_parts.specs.declared.answers.Polled.{Polled}
-use Rattle.vs_driver_parts.specs.declared.limits.TheConstants.{REPLIES_FULL}
-use Rattle.vs_driver_parts.specs.State.{DriverEntry, DriverState}
-use Rattle.vs_driver_parts.specs.Receiving.{after_reset, is_reset_event, on_packet, on_page}
+use Rattle.vs_driver_parts.specs.{declared.answers.Polled.Polled, State.DriverEntry, State.DriverState}
 use Rattle.vs_driver_parts.specs.Conversations.{DriverTree, Round, after_paying, all_taken, event_reaped, event_taken, goes_on_with}
 use Rattle.vs_driver_parts.specs.Conversations.{has_page, one_put, owed_bytes, packet_reaped, pay_all, pay_and_publish, pay_slot, poll_of}
 use Rattle.vs_driver_parts.specs.Conversations.{poll_packets, poll_puts, poll_reaps, polled, publish_and_pay, publish_of, published}
 use Rattle.vs_driver_parts.specs.Conversations.{put_all, put_owed, put_owed_of, put_replies, put_reply, put_reply_of, reap_all}
 use Rattle.vs_driver_parts.specs.Conversations.{reply_header, stage_of, stage_packet, staged_again, start, take_all, take_event}
-use Rattle.vs_driver_parts.specs.{Conversations.take_packet, Conversations.with_state, Playing.BringsFit, Playing.RingAllows}
+use Rattle.vs_driver_parts.specs.Conversations.{take_packet, with_state}
+use Rattle.vs_driver_parts.specs.Receiving.{after_reset, is_reset_event, on_packet, on_page}
+use Rattle.vs_driver_parts.specs.Playing.{BringsFit, RingAllows}
+use Rattle.vs_limits.specs.declared.TheConstants.{DRIVER_REPLIES_FULL}
 use Rattle.vs_driver_parts.proofs.Ids.{has_slot}
 use Rattle.vs_driver_log.specs.{Honest.IsFitState, Honest.ends_of_state, Staged.IsLeft}
+use Rattle.vs_driver_log.proofs.{Putting.owed_puts, Putting.reply_puts, Resetting.resets, Tabling.Stands, Taking.gets_packet}
 use Rattle.vs_driver_log.proofs.Keeping.{Keeps, keeps_bind, keeps_each, keeps_weaker, keeps_while}
-use Rattle.vs_driver_log.proofs.Ringing.{IsAtRest, Tells, moves, tells_weaker}
-use Rattle.vs_driver_log.proofs.{Putting.owed_puts, Putting.reply_puts, Resetting.resets}
 use Rattle.vs_driver_log.proofs.Staging.{Rests, SameBut, Ties, publish_other, publish_tx, reap_keeps, rests_tied, stage_other, stage_tx}
-use Rattle.vs_driver_log.proofs.{Tabling.Stands, Taking.gets_packet}
+use Rattle.vs_driver_log.proofs.Ringing.{IsAtRest, Tells, moves, tells_weaker}
 
 pub not_tx_rx : Rx ≡ Tx → ⊥
 not_tx_rx is = absurd cc
@@ -139,7 +136,7 @@ module _ (first : ℕ) where
   event_step false r c rests = (tt, λ page d made. event_reaped_keeps page r c d made rests)
 
   pub take_event_keeps : (r : Round) (c : RingContents) → RoundRests r c → Keeps PairRests (take_event r) c
-  take_event_keeps r c rests = event_step (nat_lt REPLIES_FULL (length r.state.replies)) r c rests
+  take_event_keeps r c rests = event_step (nat_lt DRIVER_REPLIES_FULL (length r.state.replies)) r c rests
 
   -- Packets.
   packet_reaped_keeps : (page : Option (List ℕ)) (r : Round) (c d : RingContents) → RingAllows (Reap Rx) page c d → RoundRests r c
@@ -156,7 +153,7 @@ module _ (first : ℕ) where
   packet_step false r c rests = (tt, λ page d made. packet_reaped_keeps page r c d made rests)
 
   pub take_packet_keeps : (r : Round) (c : RingContents) → RoundRests r c → Keeps PairRests (take_packet r) c
-  take_packet_keeps r c rests = packet_step (nat_le REPLIES_FULL (length r.state.replies)) r c rests
+  take_packet_keeps r c rests = packet_step (nat_le DRIVER_REPLIES_FULL (length r.state.replies)) r c rests
 
   -- Each of these parts ends by publishing what it staged.
   take_all_keeps : (queue : Queue) → (queue ≡ Tx → ⊥) → (take_one : Round → DriverTree (Round × Bool))

@@ -1,43 +1,34 @@
 -- The steps at which the driver puts a packet: a connection of its own is asked for, payload is sent, what is owed is paid.
+use Rattle.std.proofs.{lemmas.Bool.Decides.nat_tests, lemmas.List.append-nil, lemmas.List.Elements.All-head, lemmas.List.Elements.All-tail}
 use Rattle.std.proofs.Common.{◌≡◌, ℕ, ◌+◌, ◌<◌, ◌≤◌, ◌^◌, nat_lt, nat_le, Bool, true, false, cond, List, [], ◌∷◌, length, Some, None, refl}
 use Rattle.std.proofs.Common.{inl, sym, ap, subst, ◌∙◌, arith, ◌||◌}
 use Rattle.std.specs.List.{All}
-use Rattle.std.proofs.lemmas.Bool.Decides.{nat_tests}
-use Rattle.std.proofs.lemmas.List.{append-nil}
-use Rattle.std.proofs.lemmas.List.Elements.{All-head, All-tail}
-use Rattle.vs_conn.specs.{End.CanSend, End.ConnectionEnd, End.asked, End.owes_of, End.paid_of, End.with_payload_sent}
-use Rattle.vs_conn.specs.Headers.{owed_flags, owed_header, owed_op, payload_header}
-use Rattle.vs_conn.specs.declared.end.Owed.{Owed}
-use Rattle.vs_conn.specs.declared.end.Owed.TheVariants as owed
-use Rattle.vs_header.specs.Packet.{header_bytes}
-use Rattle.vs_header.specs.declared.Header.{Header}
-use Rattle.vs_header.specs.declared.Kind.TheVariants.{Stream}
-use Rattle.vs_header.specs.declared.Op.TheVariants as op
-use Rattle.vs_history.specs.declared.TheConstants.{BUF_ALLOC}
-use Rattle.vs_flow.specs.{Flow.is_assigned, Table.entry_of}
-use Rattle.vs_flow.specs.declared.flow.Flow.{Flow}
+use Rattle.vs_conn.specs.{Headers.owed_flags, Headers.owed_header, Headers.owed_op, Headers.payload_header, declared.end.Owed.Owed}
+use Rattle.vs_conn.specs.End.{CanSend, ConnectionEnd, asked, owes_of, paid_of, with_payload_sent}
+use Rattle.vs_header.specs.{Packet.header_bytes, declared.Header.Header, declared.Kind.TheVariants.Stream}
+use Rattle.vs_limits.specs.declared.TheConstants.{BUF_ALLOC, LAST_ID, LAST_PORT, DRIVER_CONNECTIONS}
+use Rattle.vs_flow.specs.{Flow.is_assigned, Table.entry_of, declared.flow.Flow.Flow}
 use Rattle.vs_flow.proofs.{Tables.IsAccepted, Entries.find_none}
-use Rattle.vs_page.specs.{Held.FitsWire, Log.Driver, Log.side_by}
-use Rattle.vs_page.specs.declared.log.LogEntry.TheVariants.{PutPacket}
+use Rattle.vs_page.specs.{Held.FitsWire, Log.Driver, Log.side_by, declared.log.LogEntry.TheVariants.PutPacket}
 use Rattle.vs_page.specs.declared.page.TheConstants.{PAYLOAD_MAX}
 use Rattle.vs_replies.specs.declared.Reply.{Reply}
 use Rattle.vs_matching.specs.{Ends.Ends, Ends.FlowEnd, Matches.Matches}
 use Rattle.vs_matching.specs.Steps.{IsNextFlow, opened, owed_on, paid, payload_on, reply_on, request_on, with_end}
+use Rattle.vs_matching.proofs.{Slots.added_slot, Steps.port_next, OwedFlags.owed_flags_fit}
 use Rattle.vs_matching.proofs.Keeps.{opens, opens_fair, pays, pays_fair, replies, replies_fair, sends, sends_fair}
-use Rattle.vs_matching.proofs.{Slots.added_slot, Steps.port_next}
-use Rattle.vs_driver_parts.specs.declared.limits.TheConstants.{LAST_ID, LAST_PORT, SLOTS}
-use Rattle.vs_driver_parts.specs.declared.answers.ConnectError.{ConnectError}
-use Rattle.vs_driver_parts.specs.declared.answers.ConnectError.TheVariants as refused
-use Rattle.vs_driver_parts.specs.State.{DriverConnection, DriverEntry, DriverState, slots_held}
 use Rattle.vs_driver_parts.specs.Connections.{connect_refusal, connected, is_full, next_flow, paid_connection, route_to_host}
 use Rattle.vs_driver_parts.specs.Connections.{with_connection}
-use Rattle.vs_driver_parts.specs.Connections as connections
 use Rattle.vs_driver_parts.specs.Conversations.{after_paying, owed_bytes, payload_bytes, reply_header, request_bytes}
+use Rattle.vs_driver_parts.specs.declared.answers.ConnectError.{ConnectError}
+use Rattle.vs_driver_parts.specs.State.{DriverConnection, DriverEntry, DriverState, slots_held}
 use Rattle.vs_driver_log.specs.Honest.{IsFitFlow, IsFitReply, IsFitState, end_in, ends_of_state}
 use Rattle.vs_page.proofs.Packets.{held_alone, held_payload}
-use Rattle.vs_matching.proofs.OwedFlags.{owed_flags_fit}
 use Rattle.vs_driver_log.proofs.{Bytes.header_fits, Bytes.reset_fits, Fits.IsHeldBy, Fits.paid_fits, Fits.sent_fits, Ringing.Puts}
 use Rattle.vs_driver_log.proofs.Tabling.{Stands, connection_ends, connection_fits, entry_fits, has_end, leaves, opening_fits}
+use Rattle.vs_conn.specs.declared.end.Owed.TheVariants as owed
+use Rattle.vs_header.specs.declared.Op.TheVariants as op
+use Rattle.vs_driver_parts.specs.declared.answers.ConnectError.TheVariants as refused
+use Rattle.vs_driver_parts.specs.Connections as connections
 
 -- The packet that a connection owes is put.
 pub record Pays (what : Owed) (e : DriverEntry) (s t : DriverState) : Type 0 where
@@ -141,11 +132,11 @@ send_puts e payload s fits stands can few =
 -- A connection is asked for.
 pub record MayConnect (host : ℕ) (s : DriverState) : Type 0 where
   pub own : is_assigned host ≡ false
-  pub place : slots_held s < SLOTS
+  pub place : slots_held s < DRIVER_CONNECTIONS
   pub port : s.next_port ≤ LAST_PORT
   pub id : s.next_id ≤ LAST_ID
 
-may_by : (host : ℕ) (s : DriverState) (a b c d : Bool) (x y z : ConnectError) → is_assigned host ≡ a → nat_le SLOTS (slots_held s) ≡ b → nat_lt LAST_PORT s.next_port ≡ c
+may_by : (host : ℕ) (s : DriverState) (a b c d : Bool) (x y z : ConnectError) → is_assigned host ≡ a → nat_le DRIVER_CONNECTIONS (slots_held s) ≡ b → nat_lt LAST_PORT s.next_port ≡ c
     → nat_lt LAST_ID s.next_id ≡ d → cond a (Some x) (cond b (Some y) (cond (c || d) (Some z) None)) ≡ None → MayConnect host s
 may_by host s true b c d x y z av bv cv dv is = absurd cc
 may_by host s false true c d x y z av bv cv dv is = absurd cc
@@ -160,7 +151,7 @@ may_by host s false false false false x y z av bv cv dv is = record {
 
 pub may_connect : (host : ℕ) (s : DriverState) → connect_refusal host s ≡ None → MayConnect host s
 may_connect host s is =
-    may_by host s (is_assigned host) (is_full s) (nat_lt LAST_PORT s.next_port) (nat_lt LAST_ID s.next_id) (refused.BadPort host) (refused.Full SLOTS)
+    may_by host s (is_assigned host) (is_full s) (nat_lt LAST_PORT s.next_port) (nat_lt LAST_ID s.next_id) (refused.BadPort host) (refused.Full DRIVER_CONNECTIONS)
     (refused.PortsSpent s.last_port s.last_id) refl refl refl refl is
 
 new_flow : (host : ℕ) (s : DriverState) → IsFitState s → is_assigned host ≡ false → entry_of s.table (next_flow host s) ≡ None

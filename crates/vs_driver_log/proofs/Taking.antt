@@ -1,40 +1,34 @@
 -- A packet that is got: the driver's connections are those that the log with it leaves, and a fair one is never refused.
-use Rattle.std.proofs.Common.{◌≡◌, ℕ, ◌<◌, ◌≤◌, ◌&&◌, nat_le, Bool, true, false, cond, not, List, [], ◌∷◌, Option, Some, None, refl}
-use Rattle.std.proofs.Common.{sym, ap, subst, ◌∙◌, arith, rules}
-use Rattle.std.proofs.lemmas.Bool.Decides.{nat_tests}
-use Rattle.std.proofs.lemmas.List.Elements.{All-push}
-use Rattle.std.proofs.lemmas.Bool.{and_parts, eqb-true}
+use Rattle.std.proofs.{lemmas.Bool.Decides.nat_tests, lemmas.List.Elements.All-push, lemmas.Bool.and_parts, lemmas.Bool.eqb-true}
+use Rattle.std.proofs.Common.{◌≡◌, ℕ, ◌<◌, ◌≤◌, ◌&&◌, nat_le, Bool, true, false, cond, not, List, [], ◌∷◌, Option, Some, None, refl, sym}
+use Rattle.std.proofs.Common.{ap, subst, ◌∙◌, arith, rules}
 use Rattle.vs_conn.specs.End.{ConnectionEnd, answering, end_after, is_of, is_refused, is_reset, verdict_of}
 use Rattle.vs_conn.specs.declared.end.Verdict.{Verdict}
-use Rattle.vs_conn.specs.declared.end.Verdict.TheVariants as verdict
-use Rattle.vs_header.specs.declared.Header.{Header}
-use Rattle.vs_header.specs.declared.Kind.TheVariants.{Stream}
-use Rattle.vs_history.specs.Packets.{is_rst}
-use Rattle.vs_history.specs.Packets as packets
-use Rattle.vs_history.specs.declared.TheConstants.{BUF_ALLOC}
-use Rattle.vs_history.specs.declared.packet.Packet.{Packet}
-use Rattle.vs_flow.specs.{Flow.is_assigned, Flow.is_host, Flow.same_flow, Table.entry_of}
-use Rattle.vs_flow.specs.declared.flow.{Flow.Flow, TheConstants.HOST_CID}
+use Rattle.vs_header.specs.{declared.Header.Header, declared.Kind.TheVariants.Stream}
+use Rattle.vs_history.specs.{Packets.is_rst, declared.packet.Packet.Packet}
+use Rattle.vs_limits.specs.declared.TheConstants.{BUF_ALLOC, HOST_CID, LAST_ID, DRIVER_CONNECTIONS}
+use Rattle.vs_flow.specs.{Flow.is_assigned, Flow.is_host, Flow.same_flow, Table.entry_of, declared.flow.Flow.Flow}
 use Rattle.vs_flow.proofs.Tables.{IsAccepted}
 use Rattle.vs_page.specs.{Fair.IsFairLog, Held.IsWhole, Log.Driver, Log.Log, Log.flow_got, Log.flow_to_guest, Log.side_of, Open.is_dropped}
 use Rattle.vs_page.specs.declared.log.LogEntry.TheVariants.{GotPacket}
 use Rattle.vs_page.proofs.Flows.{same_is}
-use Rattle.vs_replies.specs.Owed.{reply_to}
-use Rattle.vs_replies.specs.declared.Reply.{Reply}
+use Rattle.vs_replies.specs.{Owed.reply_to, declared.Reply.Reply}
 use Rattle.vs_matching.specs.{Ends.Ends, Ends.FlowEnd, Heard.IsInOrder, Heard.heard_of, Matches.Matches}
 use Rattle.vs_matching.specs.Steps.{HasEnd, HasNone, accepted, forgotten, is_kept, is_message, left, taken, with_clean, with_end}
 use Rattle.vs_matching.proofs.Keeps.{accepts, drops, forgets, ignores, refuses, takes}
 use Rattle.vs_matching.proofs.Fair.{got_in_order, got_is_taken, got_not_refused, heard_all}
 use Rattle.vs_matching.proofs.Slots.{added_slot, found_by, no_entry}
-use Rattle.vs_driver_parts.specs.declared.limits.TheConstants.{LAST_ID, SLOTS}
 use Rattle.vs_driver_parts.specs.{Playing.FitsPorts, State.DriverConnection, State.DriverEntry, State.DriverState, State.slots_held}
-use Rattle.vs_driver_parts.specs.Listening.{has_place}
 use Rattle.vs_driver_parts.specs.Connections.{after_leaving, is_full, with_connection, with_request}
-use Rattle.vs_driver_parts.specs.Receiving.{after_packet, after_verdict, is_request, may_open, on_heard, on_known, on_packet, on_unknown, with_reply}
+use Rattle.vs_driver_parts.specs.Receiving.{after_packet, after_verdict, is_request, may_open, on_heard, on_known, on_packet, on_unknown}
+use Rattle.vs_driver_parts.specs.Receiving.{with_reply}
+use Rattle.vs_driver_parts.specs.Listening.{has_place}
 use Rattle.vs_driver_parts.proofs.{Ids.found_under, Packets.packet_known, Packets.packet_unknown}
 use Rattle.vs_driver_log.specs.Honest.{IsFitFlow, IsFitReply, IsFitState, end_in, ends_of_state}
-use Rattle.vs_driver_log.proofs.Fits.{IsHeldBy, packet_fits}
 use Rattle.vs_driver_log.proofs.Tabling.{Stands, connection_ends, connection_fits, entry_fits, has_end, leaves, opening_fits}
+use Rattle.vs_driver_log.proofs.Fits.{IsHeldBy, packet_fits}
+use Rattle.vs_conn.specs.declared.end.Verdict.TheVariants as verdict
+use Rattle.vs_history.specs.Packets as packets
 
 -- The driver t after it got a packet, whose log was this.
 pub record Gets (first : ℕ) (p : Packet) (s : DriverState) (log : Log) (t : DriverState) : Type 0 where
@@ -129,10 +123,10 @@ with_reply_fits s r fits ports = record {
 record MayOpen (f : Flow) (s : DriverState) : Type 0 where
   peer : f.peer ≡ HOST_CID
   assigned : is_assigned f.host ≡ true
-  place : slots_held s < SLOTS
+  place : slots_held s < DRIVER_CONNECTIONS
   id : s.next_id ≤ LAST_ID
 
-open_by : (f : Flow) (s : DriverState) (h a b c d : Bool) → is_host f ≡ h → is_assigned f.host ≡ a → nat_le SLOTS (slots_held s) ≡ c
+open_by : (f : Flow) (s : DriverState) (h a b c d : Bool) → is_host f ≡ h → is_assigned f.host ≡ a → nat_le DRIVER_CONNECTIONS (slots_held s) ≡ c
     → nat_le s.next_id LAST_ID ≡ d → ((((h && a) && b) && not c) && d) ≡ true → MayOpen f s
 open_by f s true true true false true hv av cv dv is =
     record { peer = eqb-true f.peer HOST_CID hv; assigned = av; place = grind (arith, nat_tests, cv); id = grind (arith, nat_tests, dv) }

@@ -1,16 +1,13 @@
 -- Where an honest ring tells the driver's log: the driver's connections are those that the log left open, and the log is fair.
-use Rattle.std.specs.Prelude.{◌≡◌, ℕ, ◌+◌, ◌<◌, ◌≤◌, ◌^◌, false, true, List, [], ◌∷◌}
 use Rattle.std.specs.{List.All, Option.ForSome}
-use Rattle.vs_conn.specs.End.{ConnectionEnd}
-use Rattle.vs_conn.specs.declared.end.State.{State}
-use Rattle.vs_flow.specs.{Flow.is_assigned, Table.IsTable, Table.Table}
-use Rattle.vs_flow.specs.declared.flow.{Flow.Flow, TheConstants.HOST_CID}
-use Rattle.vs_history.specs.declared.TheConstants.{BUF_ALLOC}
+use Rattle.std.specs.Prelude.{◌≡◌, ℕ, ◌+◌, ◌<◌, ◌≤◌, ◌^◌, false, true, List, [], ◌∷◌}
+use Rattle.vs_conn.specs.{End.ConnectionEnd, declared.end.State.State}
+use Rattle.vs_flow.specs.{Flow.is_assigned, Table.IsTable, Table.Table, declared.flow.Flow.Flow}
+use Rattle.vs_limits.specs.declared.TheConstants.{HOST_CID, BUF_ALLOC, LAST_PORT, DRIVER_CONNECTIONS}
 use Rattle.vs_page.specs.{Fair.IsFairLog, Log.Driver, Open.is_open}
 use Rattle.vs_replies.specs.declared.Reply.{Reply}
 use Rattle.vs_ring_port.specs.{Contents.RingContents, EndLog.EndLog}
 use Rattle.vs_matching.specs.{Ends.Ends, Ends.entries_of, Ends.is_among, Ends.replied, Matches.Matches}
-use Rattle.vs_driver_parts.specs.declared.limits.TheConstants.{LAST_PORT, SLOTS}
 use Rattle.vs_driver_parts.specs.{Room.HasRoom, State.DriverConnection, State.DriverEntry, State.DriverState}
 
 -- The driver's connections, the replies that it owes, its next port, and the guest's CID. It keeps no flow to be used again.
@@ -40,7 +37,7 @@ pub record IsFit (cid next_port next_id : ℕ) (table : Table DriverConnection) 
   pub cid_fits : cid < 2 ^ 64
   pub port_left : next_port ≤ LAST_PORT + 1
   pub sound : IsTable table
-  pub places : table.room ≡ SLOTS
+  pub places : table.room ≡ DRIVER_CONNECTIONS
   pub given : table.given ≤ next_id
   pub entries : All IsFitEntry table.entries
   pub ports : All (λ e. is_assigned e.flow.host ≡ false → e.flow.guest < next_port) table.entries

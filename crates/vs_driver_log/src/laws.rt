@@ -4,7 +4,7 @@ ghost use Rattle.std.specs.Prelude.{◌≡◌, ◌<◌, ◌≤◌, ◌^◌, ℕ,
 ghost use Rattle.vs_contents.specs.CallTree.{Leads};
 ghost use Rattle.vs_ring_port.specs.{Contents.RingContents, DriverCalls.DriverAllows, EndLog.EndLog};
 ghost use Rattle.vs_driver_parts.specs.declared.answers.{ConnectError.ConnectError, Polled.Polled, Sent.Sent};
-ghost use Rattle.vs_driver_parts.specs.declared.limits.TheConstants.{LAST_PORT};
+ghost use Rattle.vs_limits.specs.declared.TheConstants.{LAST_PORT};
 ghost use Rattle.vs_driver_parts.specs.State.{DriverState};
 ghost use Rattle.vs_driver_parts.specs.Connections.{after_close, after_recv, after_shutdown, after_unlisten, table_shown};
 ghost use Rattle.vs_driver_parts.specs.Conversations.{DriverTree, connect_of, new_of, poll_of, send_of};

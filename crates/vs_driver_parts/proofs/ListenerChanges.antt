@@ -1,10 +1,9 @@
 -- How the lists of those that wait change at the place of a port.
+use Rattle.std.proofs.{lemmas.Bool.Decides.nat_tests, lemmas.List.Quantifiers.all_pairs_push}
 use Rattle.std.proofs.Common.{◌≡◌, ◌≢◌, ℕ, ◌==◌, true, false, not, cond, List, [], ◌∷◌, map, get_or, set, length, nat_le, nat_lt, ◌<◌}
 use Rattle.std.proofs.Common.{Option, Some, None, is_some, refl, sym, ap, ◌∙◌, arith}
 use Rattle.std.specs.{List.AllPairs, List.remove, List.position, Option.option_map_or}
-use Rattle.std.proofs.lemmas.Bool.Decides.{nat_tests}
-use Rattle.std.proofs.lemmas.List.Quantifiers.{all_pairs_push}
-use Rattle.vs_driver_parts.specs.declared.limits.TheConstants.{WAITING}
+use Rattle.vs_limits.specs.declared.TheConstants.{WAITING}
 use Rattle.vs_driver_parts.specs.{State.Listener, Listening.listener_on, Listening.with_waiting, Listening.with_port, Listening.has_place}
 use Rattle.vs_driver_parts.specs.Connections.{without_listener}
 use Rattle.vs_driver_parts.proofs.Lists.{IsFirst, NonePasses, fails_at, first_at, found_at, not_some, found_nowhere, passes_nowhere}

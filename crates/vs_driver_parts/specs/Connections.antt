@@ -2,30 +2,23 @@
 use Rattle.std.specs.Prelude.{ℕ, ◌+◌, ◌==◌, ◌||◌, not, min, nat_lt, nat_le, Bool, true, false, if◌then◌else◌, List, [], ◌∷◌, ◌++◌, length}
 use Rattle.std.specs.Prelude.{map, filter, take, drop, Option, Some, None, is_some}
 use Rattle.std.specs.Option.{option_map, option_map_or}
-use Rattle.vs_flow.specs.{Flow.host_flow, Flow.is_assigned, Table.with_entry, Table.with_value, Table.without}
-use Rattle.vs_flow.specs.declared.flow.Flow.{Flow}
-use Rattle.vs_header.specs.declared.Header.{Header}
-use Rattle.vs_header.specs.declared.Kind.TheVariants.{Stream}
-use Rattle.vs_history.specs.declared.TheConstants.{BUF_ALLOC}
+use Rattle.vs_flow.specs.{Flow.host_flow, Flow.is_assigned, Table.with_entry, Table.with_value, Table.without, declared.flow.Flow.Flow}
+use Rattle.vs_header.specs.{declared.Header.Header, declared.Kind.TheVariants.Stream}
+use Rattle.vs_limits.specs.declared.TheConstants.{BUF_ALLOC, LAST_PORT, LAST_ID, DRIVER_CONNECTIONS}
+use Rattle.vs_conn.specs.{declared.end.Owed.Owed, declared.end.State.State, declared.route.Route.Route}
 use Rattle.vs_conn.specs.End.{ConnectionEnd, asked, answering, paid_of, with_payload_forwarded, with_shut, aborted}
-use Rattle.vs_conn.specs.declared.end.Owed.{Owed}
-use Rattle.vs_conn.specs.declared.end.Owed.TheVariants as owed
-use Rattle.vs_conn.specs.declared.end.State.{State}
-use Rattle.vs_conn.specs.declared.end.State.TheVariants as state
-use Rattle.vs_conn.specs.declared.route.Route.{Route}
-use Rattle.vs_driver_parts.specs.declared.answers.ConnectionState.{ConnectionState}
-use Rattle.vs_driver_parts.specs.declared.answers.ConnectionState.TheVariants as seen
-use Rattle.vs_driver_parts.specs.declared.answers.ConnectError.{ConnectError}
-use Rattle.vs_driver_parts.specs.declared.answers.ConnectError.TheVariants as refused
-use Rattle.vs_driver_parts.specs.declared.answers.Closed.{Closed}
-use Rattle.vs_driver_parts.specs.declared.answers.Closed.TheVariants as closed
-use Rattle.vs_driver_parts.specs.declared.answers.Received.{Received}
-use Rattle.vs_driver_parts.specs.declared.answers.Received.TheVariants as got
-use Rattle.vs_driver_parts.specs.declared.answers.Shut.{Shut}
-use Rattle.vs_driver_parts.specs.declared.answers.Shut.TheVariants as shut
-use Rattle.vs_driver_parts.specs.declared.limits.TheConstants.{LAST_PORT, LAST_ID, SLOTS}
+use Rattle.vs_driver_parts.specs.{declared.answers.ConnectionState.ConnectionState, declared.answers.ConnectError.ConnectError}
+use Rattle.vs_driver_parts.specs.{declared.answers.Closed.Closed, declared.answers.Received.Received, declared.answers.Shut.Shut}
 use Rattle.vs_driver_parts.specs.State.{DriverConnection, GoneConnection, Listener, DriverState, DriverEntry, slots_held, entry_known_as}
-use Rattle.vs_driver_parts.specs.{State.gone_known_as, Listening.with_waiting, Listening.without_id, Listening.listener_on}
+use Rattle.vs_driver_parts.specs.State.{gone_known_as}
+use Rattle.vs_driver_parts.specs.Listening.{with_waiting, without_id, listener_on}
+use Rattle.vs_conn.specs.declared.end.Owed.TheVariants as owed
+use Rattle.vs_conn.specs.declared.end.State.TheVariants as state
+use Rattle.vs_driver_parts.specs.declared.answers.ConnectionState.TheVariants as seen
+use Rattle.vs_driver_parts.specs.declared.answers.ConnectError.TheVariants as refused
+use Rattle.vs_driver_parts.specs.declared.answers.Closed.TheVariants as closed
+use Rattle.vs_driver_parts.specs.declared.answers.Received.TheVariants as got
+use Rattle.vs_driver_parts.specs.declared.answers.Shut.TheVariants as shut
 
 -- The driver with another connection in the place of an entry's.
 abbrev pub with_connection : ℕ → DriverConnection → DriverState → DriverState
@@ -51,7 +44,7 @@ abbrev pub next_flow : ℕ → DriverState → Flow
 next_flow host s = host_flow s.next_port host
 
 abbrev pub is_full : DriverState → Bool
-is_full s = nat_le SLOTS (slots_held s)
+is_full s = nat_le DRIVER_CONNECTIONS (slots_held s)
 
 abbrev pub is_spent : DriverState → Bool
 is_spent s = nat_lt LAST_PORT s.next_port || nat_lt LAST_ID s.next_id
@@ -59,7 +52,7 @@ is_spent s = nat_lt LAST_PORT s.next_port || nat_lt LAST_ID s.next_id
 abbrev pub connect_refusal : ℕ → DriverState → Option ConnectError
 connect_refusal host s =
     if is_assigned host then Some (refused.BadPort host)
-    else if is_full s then Some (refused.Full SLOTS)
+    else if is_full s then Some (refused.Full DRIVER_CONNECTIONS)
     else if is_spent s then Some (refused.PortsSpent s.last_port s.last_id)
     else None
 

@@ -2,33 +2,26 @@
 use Rattle.std.specs.Prelude.{ℕ, ◌+◌, ◌-◌, ◌==◌, min, nat_lt, nat_le, Bool, true, false, if◌then◌else◌, List, [], ◌∷◌, ◌++◌, length, take}
 use Rattle.std.specs.Prelude.{Option, Some, None, is_some, Result, Ok, Err}
 use Rattle.vs_contents.specs.CallTree.{CallTree, Done, Ask, bind, for_each, while_up_to}
-use Rattle.vs_header.specs.Packet.{header_bytes}
-use Rattle.vs_header.specs.declared.Header.{Header}
-use Rattle.vs_header.specs.declared.Kind.TheVariants.{Stream}
+use Rattle.vs_header.specs.{Packet.header_bytes, declared.Header.Header, declared.Kind.TheVariants.Stream}
+use Rattle.vs_conn.specs.{Headers.owed_header, Headers.payload_header, Headers.reset_header, declared.end.Owed.Owed, declared.end.Stop.Stop}
 use Rattle.vs_conn.specs.End.{ConnectionEnd, may_send_of, owes_of, with_payload_sent, wanting_credit, asked}
-use Rattle.vs_conn.specs.Headers.{owed_header, payload_header, reset_header}
-use Rattle.vs_conn.specs.declared.end.Owed.{Owed}
-use Rattle.vs_conn.specs.declared.end.Owed.TheVariants as owed
-use Rattle.vs_conn.specs.declared.end.Stop.{Stop}
-use Rattle.vs_conn.specs.declared.end.Stop.TheVariants as stop
+use Rattle.vs_conn.specs.declared.end.TheConstants.{OWED_MAX}
 use Rattle.vs_flow.specs.Table.{entry_under, slots}
-use Rattle.vs_history.specs.declared.TheConstants.{BUF_ALLOC}
+use Rattle.vs_limits.specs.declared.TheConstants.{BUF_ALLOC, DRIVER_REPLIES_FULL, DRIVER_CONNECTIONS}
 use Rattle.vs_page.specs.declared.page.TheConstants.{PAYLOAD_MAX}
 use Rattle.vs_replies.specs.declared.Reply.{Reply}
-use Rattle.vs_ring_port.specs.declared.queue.{Queue.Queue, TheConstants.STAGED_MAX}
-use Rattle.vs_ring_port.specs.declared.queue.Queue.TheVariants.{Rx, Tx, Event}
+use Rattle.vs_ring_port.specs.{declared.queue.Queue.Queue, declared.queue.TheConstants.STAGED_MAX}
 use Rattle.vs_ring_port.specs.DriverCalls.{DriverCall, DriverAnswer, Stage, Publish, Reap, LoadCid}
-use Rattle.vs_driver_parts.specs.declared.answers.ConnectError.{ConnectError}
-use Rattle.vs_driver_parts.specs.declared.answers.ConnectError.TheVariants as refused
-use Rattle.vs_driver_parts.specs.declared.answers.{Polled.Polled, Sent.Sent}
-use Rattle.vs_driver_parts.specs.declared.answers.Sent.TheVariants as sent
-use Rattle.vs_driver_parts.specs.declared.tally.Tally.{Tally}
-use Rattle.vs_driver_parts.specs.declared.limits.TheConstants.{REPLIES_FULL, SLOTS}
-use Rattle.vs_conn.specs.declared.end.TheConstants.{OWED_MAX}
+use Rattle.vs_ring_port.specs.declared.queue.Queue.TheVariants.{Rx, Tx, Event}
+use Rattle.vs_driver_parts.specs.{declared.answers.ConnectError.ConnectError, declared.answers.Polled.Polled, declared.answers.Sent.Sent}
+use Rattle.vs_driver_parts.specs.{declared.tally.Tally.Tally, Receiving.on_page, Receiving.is_reset_event, Receiving.after_reset}
 use Rattle.vs_driver_parts.specs.State.{DriverState, DriverEntry, entry_known_as, gone_known_as}
 use Rattle.vs_driver_parts.specs.Connections.{with_end, with_connection, route_to_host, next_flow, connect_refusal, connected}
 use Rattle.vs_driver_parts.specs.Connections.{after_leaving, paid_connection}
-use Rattle.vs_driver_parts.specs.Receiving.{on_page, is_reset_event, after_reset}
+use Rattle.vs_conn.specs.declared.end.Owed.TheVariants as owed
+use Rattle.vs_conn.specs.declared.end.Stop.TheVariants as stop
+use Rattle.vs_driver_parts.specs.declared.answers.ConnectError.TheVariants as refused
+use Rattle.vs_driver_parts.specs.declared.answers.Sent.TheVariants as sent
 
 abbrev pub DriverTree : Type 0 → Type 0
 DriverTree A = CallTree DriverCall DriverAnswer A
@@ -79,7 +72,7 @@ new_state size port id cid = record {
   next_id = id;
   last_port = 0;
   last_id = 0;
-  table = record { room = SLOTS; entries = []; given = 0 };
+  table = record { room = DRIVER_CONNECTIONS; entries = []; given = 0 };
   gone = [];
   listeners = [];
   replies = [];
@@ -189,7 +182,7 @@ event_reaped r (Some bytes) = bind (event_taken bytes r) (staged_again Event)
 
 abbrev pub take_event : Round → DriverTree (Round × Bool)
 take_event r =
-    if nat_lt REPLIES_FULL (length r.state.replies) then Done (r, false)
+    if nat_lt DRIVER_REPLIES_FULL (length r.state.replies) then Done (r, false)
     else Ask (Reap Event) (event_reaped r)
 
 -- Second part: packets, while fewer than 64 replies are owed.
@@ -199,7 +192,7 @@ packet_reaped r (Some bytes) = staged_again Rx (record r { state = on_page bytes
 
 abbrev pub take_packet : Round → DriverTree (Round × Bool)
 take_packet r =
-    if nat_le REPLIES_FULL (length r.state.replies) then Done (r, false)
+    if nat_le DRIVER_REPLIES_FULL (length r.state.replies) then Done (r, false)
     else Ask (Reap Rx) (packet_reaped r)
 
 -- Each part ends by publishing what it staged.

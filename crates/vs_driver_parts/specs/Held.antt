@@ -1,15 +1,12 @@
 -- The slots of the driver, apart from the rest of it.
 use Rattle.std.specs.Prelude.{◌≡◌, ℕ, ◌+◌, ◌==◌, Bool, false, true, List, [], ◌∷◌, ◌++◌, length, find, None, if◌then◌else◌}
 use Rattle.vs_conn.specs.End.{ConnectionEnd, asked, answering, paid_of}
-use Rattle.vs_conn.specs.declared.end.Owed.TheVariants as owed
-use Rattle.vs_header.specs.declared.Header.{Header}
-use Rattle.vs_header.specs.declared.Kind.TheVariants.{Stream}
-use Rattle.vs_history.specs.declared.TheConstants.{BUF_ALLOC}
-use Rattle.vs_flow.specs.{Flow.host_flow, Table.Table, Table.with_value, Table.with_entry, Table.without}
-use Rattle.vs_flow.specs.declared.flow.Flow.{Flow}
-use Rattle.vs_driver_parts.specs.declared.limits.TheConstants.{SLOTS}
+use Rattle.vs_header.specs.{declared.Header.Header, declared.Kind.TheVariants.Stream}
+use Rattle.vs_limits.specs.declared.TheConstants.{BUF_ALLOC, DRIVER_CONNECTIONS}
+use Rattle.vs_flow.specs.{Flow.host_flow, Table.Table, Table.with_value, Table.with_entry, Table.without, declared.flow.Flow.Flow}
 use Rattle.vs_driver_parts.specs.State.{DriverConnection, DriverEntry, GoneConnection, is_known_as}
 use Rattle.vs_driver_parts.specs.Connections.{gone_as, is_let_go}
+use Rattle.vs_conn.specs.declared.end.Owed.TheVariants as owed
 
 -- The numbers that the next connections get, and those given last; the table, and the connections that are gone.
 pub record HeldSlots : Type 0 where
@@ -26,7 +23,7 @@ no_slots port id = record {
   next_id = id;
   last_port = 0;
   last_id = 0;
-  table = record { room = SLOTS; entries = []; given = 0 };
+  table = record { room = DRIVER_CONNECTIONS; entries = []; given = 0 };
   gone = [];
 }
 

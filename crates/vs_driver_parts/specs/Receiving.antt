@@ -1,22 +1,16 @@
 -- What the driver does with the packets and events that it takes.
 use Rattle.std.specs.Prelude.{ℕ, ◌==◌, ◌&&◌, not, nat_le, Bool, false, if◌then◌else◌, List, [], ◌∷◌, ◌++◌, Some, None}
-use Rattle.vs_header.specs.Op.{op_number}
-use Rattle.vs_header.specs.declared.Header.{Header}
-use Rattle.vs_header.specs.declared.Kind.TheVariants.{Stream}
-use Rattle.vs_header.specs.declared.Op.TheVariants.{Request}
+use Rattle.vs_header.specs.{Op.op_number, declared.Header.Header, declared.Kind.TheVariants.Stream, declared.Op.TheVariants.Request}
 use Rattle.vs_history.specs.declared.packet.Packet.{Packet}
-use Rattle.vs_conn.specs.End.{verdict_of, end_after, is_of, is_reset}
-use Rattle.vs_conn.specs.declared.end.Verdict.{Verdict}
-use Rattle.vs_conn.specs.declared.end.Verdict.TheVariants as verdict
-use Rattle.vs_flow.specs.{Flow.is_assigned, Flow.is_host, Table.entry_of}
-use Rattle.vs_flow.specs.declared.flow.Flow.{Flow}
+use Rattle.vs_conn.specs.{End.verdict_of, End.end_after, End.is_of, End.is_reset, declared.end.Verdict.Verdict}
+use Rattle.vs_flow.specs.{Flow.is_assigned, Flow.is_host, Table.entry_of, declared.flow.Flow.Flow}
 use Rattle.vs_page.specs.{Held.packet_held, Held.event_held, Log.Driver, Log.flow_to_guest, Open.is_dropped}
-use Rattle.vs_replies.specs.Owed.{reply_to}
-use Rattle.vs_replies.specs.declared.Reply.{Reply}
-use Rattle.vs_driver_parts.specs.declared.limits.TheConstants.{LAST_ID}
+use Rattle.vs_replies.specs.{Owed.reply_to, declared.Reply.Reply}
+use Rattle.vs_limits.specs.declared.TheConstants.{LAST_ID}
 use Rattle.vs_driver_parts.specs.{State.DriverConnection, State.DriverState, State.DriverEntry, Listening.has_place}
 use Rattle.vs_driver_parts.specs.Connections.{with_connection, with_request, is_full, leaves_list, after_leaving}
 use Rattle.vs_wrap.specs.Wrap.{counted}
+use Rattle.vs_conn.specs.declared.end.Verdict.TheVariants as verdict
 
 abbrev pub with_reply : Reply → DriverState → DriverState
 with_reply reply s = record s { replies = s.replies ++ reply ∷ [] }

@@ -1,9 +1,8 @@
 -- Buffers for what comes in on connections.
 use Rattle.std.specs.Prelude.{◌≡◌, ◌^◌, ◌<◌, ◌≤◌, [], length}
 use Rattle.vs_buffer.specs.Fifo.{Fifo}
-use Rattle.vs_credit.specs.Credit.{unread_of}
-use Rattle.vs_credit.specs.declared.Credit.{Credit}
-use Rattle.vs_history.specs.declared.TheConstants.{BUF_ALLOC}
+use Rattle.vs_credit.specs.{Credit.unread_of, declared.Credit.Credit}
+use Rattle.vs_limits.specs.declared.TheConstants.{BUF_ALLOC}
 
 -- A buffer that no connection has.
 abbrev pub IsSpare : Fifo → Type 0

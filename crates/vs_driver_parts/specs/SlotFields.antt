@@ -2,9 +2,8 @@
 use Rattle.std.specs.Prelude.{◌≡◌, ◌≢◌, ℕ, false, ◌+◌, ◌<◌, ◌≤◌, AllPairs, List, length, vec_capacity}
 use Rattle.std.specs.List.{All}
 use Rattle.vs_flow.specs.{Flow.is_assigned, Table.Table, Table.IsTable}
-use Rattle.vs_driver_parts.specs.declared.limits.TheConstants.{SLOTS, LAST_ID, LAST_PORT}
-use Rattle.vs_driver_parts.specs.declared.slots.Slots.TheInside.{Inside}
-use Rattle.vs_driver_parts.specs.{Room.IsSpare, State.DriverConnection, State.GoneConnection}
+use Rattle.vs_limits.specs.declared.TheConstants.{DRIVER_CONNECTIONS, LAST_ID, LAST_PORT}
+use Rattle.vs_driver_parts.specs.{declared.slots.Slots.TheInside.Inside, Room.IsSpare, State.DriverConnection, State.GoneConnection}
 
 -- A slot and an id are given together, from the first id on; an id that is gone is none of the table's, and is there once. The flow of a
 -- connection that this side opened has a guest port below the next.
@@ -22,8 +21,8 @@ pub record AreKept (s : Inside) : Type 0 where
   pub last_port : s.next_port ≤ LAST_PORT + 1
   pub last_id : s.next_id ≤ LAST_ID + 1
   pub table : IsTable s.table
-  pub table_room : s.table.room ≡ SLOTS
-  pub gone_room : SLOTS ≤ vec_capacity s.gone
-  pub buffers : length s.spare.items + (length s.table.entries + length s.gone.items) ≡ SLOTS
-  pub buffer_room : SLOTS ≤ vec_capacity s.spare
+  pub table_room : s.table.room ≡ DRIVER_CONNECTIONS
+  pub gone_room : DRIVER_CONNECTIONS ≤ vec_capacity s.gone
+  pub buffers : length s.spare.items + (length s.table.entries + length s.gone.items) ≡ DRIVER_CONNECTIONS
+  pub buffer_room : DRIVER_CONNECTIONS ≤ vec_capacity s.spare
   pub spare : All IsSpare s.spare.items

@@ -2,7 +2,7 @@
 
 ghost use Rattle.std.specs.Prelude.{◌≡◌, ◌≤◌, ◌==◌, ◌++◌, length, min, take, drop};
 ghost use Rattle.vs_conn.specs.End.{view_of};
-ghost use Rattle.vs_history.specs.declared.TheConstants.{BUF_ALLOC};
+ghost use Rattle.vs_limits.specs.declared.TheConstants.{BUF_ALLOC};
 ghost use Rattle.vs_driver_parts.specs.Room.{IsSpare};
 
 use crate::answers::ConnId;
@@ -22,7 +22,7 @@ pub struct Gone {
 
 impl Model for Gone {
     ghost use Rattle.std.specs.Prelude.{◌≤◌};
-    ghost use Rattle.vs_history.specs.declared.TheConstants.{BUF_ALLOC};
+    ghost use Rattle.vs_limits.specs.declared.TheConstants.{BUF_ALLOC};
     ghost use Rattle.vs_driver_parts.specs.State.{GoneConnection};
 
     ghost Value = { GoneConnection };

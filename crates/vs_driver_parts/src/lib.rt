@@ -5,7 +5,6 @@
 pub mod answers;
 pub mod connection;
 pub mod gone;
-pub mod limits;
 pub mod listeners;
 pub mod pages;
 pub mod route;

@@ -2,15 +2,15 @@
 
 ghost use Rattle.std.specs.Prelude.{◌≡◌, ◌<◌, ◌==◌, [], true, false, length, nat_le, is_some, position, IfOk, Some};
 ghost use Rattle.std.specs.Option.{option_map_or};
-ghost use Rattle.vs_driver_parts.specs.declared.limits.TheConstants.{LISTENERS, WAITING};
+ghost use Rattle.vs_limits.specs.declared.TheConstants.{LISTENERS, WAITING};
 ghost use Rattle.vs_driver_parts.specs.Listening.{listener_on, with_waiting, waiting_too, without_id, has_place, with_port};
 ghost use Rattle.vs_driver_parts.specs.Connections.{without_listener};
 
 use crate::answers::ConnId;
-use crate::limits::{LISTENERS, WAITING};
 use arrayvec::ArrayVec;
 use std::alloc::{AllocError, Global};
 use std::marker::Model;
+use vs_limits::{LISTENERS, WAITING};
 
 /// A port that is listened on.
 #[derive(Drop)]

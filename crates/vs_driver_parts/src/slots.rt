@@ -11,7 +11,7 @@ ghost use Rattle.vs_flow.specs.Flow.{is_assigned};
 ghost use Rattle.vs_flow.specs.Table.{IsTable, entry_of, entry_under, slots, value_under, with_entry};
 ghost use Rattle.vs_history.specs.declared.packet.Packet.{Packet};
 ghost use Rattle.vs_page.specs.Held.{IsWhole};
-ghost use Rattle.vs_driver_parts.specs.declared.limits.TheConstants.{LAST_PORT, LAST_ID, SLOTS};
+ghost use Rattle.vs_limits.specs.declared.TheConstants.{LAST_PORT, LAST_ID, DRIVER_CONNECTIONS};
 ghost use Rattle.vs_driver_parts.specs.State.{DriverEntry, DriverConnection, GoneConnection, is_known_as};
 ghost use Rattle.vs_driver_parts.specs.Connections.{route_to_host, after_read, after_shut, after_closing, paid_connection, without_gone};
 ghost use Rattle.vs_driver_parts.specs.{Connections.all_gone_after_read, Receiving.after_packet, Receiving.reset_reply, Room.IsSpare};
@@ -20,7 +20,6 @@ ghost use Rattle.vs_driver_parts.specs.Held.{KnowsNone, no_slots, held_in, with_
 use crate::answers::ConnId;
 use crate::connection::Connection;
 use crate::gone::Gone;
-use crate::limits::SLOTS;
 use crate::route::route_to_host;
 use arrayvec::ArrayVec;
 use std::alloc::{AllocError, Global};
@@ -29,7 +28,7 @@ use vs_buffer::ByteFifo;
 use vs_conn::{Owed, Stop, Verdict};
 use vs_flow::{Entry, Flow, FlowTable, Slot};
 use vs_header::Header;
-use vs_history::BUF_ALLOC;
+use vs_limits::{BUF_ALLOC, DRIVER_CONNECTIONS};
 use vs_replies::Reply;
 
 /// Bytes of a connection's receive buffer.
@@ -83,8 +82,8 @@ impl Slots {
             next_id: u64::from(id),
             last_port: 0,
             last_id: 0,
-            table: FlowTable::new(alloc, SLOTS)?,
-            gone: Vec::with_capacity(alloc, SLOTS)?,
+            table: FlowTable::new(alloc, DRIVER_CONNECTIONS)?,
+            gone: Vec::with_capacity(alloc, DRIVER_CONNECTIONS)?,
             spare: buffers(alloc)?,
         })
     }
@@ -92,7 +91,7 @@ impl Slots {
     /// How many slots are held.
     pub fn held(&self) -> usize
         ensures held { result ≡ held_in self.now }
-        ensures most { result ≤ SLOTS }
+        ensures most { result ≤ DRIVER_CONNECTIONS }
     {
         self.table.len() + self.gone.len()
     }
@@ -100,7 +99,7 @@ impl Slots {
     /// How many connections the table has.
     pub fn open(&self) -> usize
         ensures count { result ≡ length self.now.table.entries }
-        ensures most { result ≤ SLOTS }
+        ensures most { result ≤ DRIVER_CONNECTIONS }
     {
         self.table.len()
     }
@@ -197,9 +196,9 @@ impl Slots {
     }
 
     /// All slots of the table, by rising slot.
-    pub fn all(&self) -> ArrayVec<Slot, SLOTS>
+    pub fn all(&self) -> ArrayVec<Slot, DRIVER_CONNECTIONS>
         ensures all { result.items ≡ slots self.now.table }
-        ensures most { length (slots self.now.table) ≤ SLOTS }
+        ensures most { length (slots self.now.table) ≤ DRIVER_CONNECTIONS }
     {
         let mut all = ArrayVec::new();
         let mut place = 0;
@@ -240,7 +239,7 @@ impl Slots {
 
     /// A connection to a host port opens, whose REQUEST is put. It gets the next guest port, and its id is returned.
     pub fn open_asked(&mut self, host: u32) -> ConnId
-        requires free { held_in self.old < SLOTS }
+        requires free { held_in self.old < DRIVER_CONNECTIONS }
         requires port { self.old.next_port ≤ LAST_PORT }
         requires id { self.old.next_id ≤ LAST_ID }
         requires host { is_assigned host ≡ false }
@@ -260,7 +259,7 @@ impl Slots {
 
     /// A connection opens that the host's REQUEST asks for. Its id is returned.
     pub fn open_answering(&mut self, flow: Flow, request: &Header) -> ConnId
-        requires free { held_in self.old < SLOTS }
+        requires free { held_in self.old < DRIVER_CONNECTIONS }
         requires id { self.old.next_id ≤ LAST_ID }
         requires host { is_assigned flow.host ≡ true }
         requires unknown { entry_of self.old.table flow ≡ None }
@@ -441,12 +440,12 @@ fn insert(table: &mut FlowTable<Connection>, flow: Flow, connection: Connection)
 
 // The buffers of all slots.
 fn buffers(alloc: Global) -> Result<Vec<ByteFifo>, AllocError>
-    ensures all { IfOk result (λ v. length v.items ≡ SLOTS) }
+    ensures all { IfOk result (λ v. length v.items ≡ DRIVER_CONNECTIONS) }
     ensures spare { IfOk result (λ v. All IsSpare v.items) }
-    ensures room { IfOk result (λ v. SLOTS ≤ vec_capacity v) }
+    ensures room { IfOk result (λ v. DRIVER_CONNECTIONS ≤ vec_capacity v) }
 {
-    let mut buffers = Vec::with_capacity(alloc, SLOTS)?;
-    for _ in 0..SLOTS {
+    let mut buffers = Vec::with_capacity(alloc, DRIVER_CONNECTIONS)?;
+    for _ in 0..DRIVER_CONNECTIONS {
         buffers.push_reserved(ByteFifo::new(alloc, BUFFER_LEN)?);
     }
     Ok(buffers)

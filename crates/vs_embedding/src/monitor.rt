@@ -1,6 +1,7 @@
 //! The device's thread: when it turns, and what it does after a failure.
 
 ghost use Rattle.std.specs.Prelude.{◌<◌, ◌≤◌, length};
+ghost use Rattle.vs_limits.specs.declared.TheConstants.{GUEST_CID_MIN, GUEST_CID_MAX};
 ghost use Rattle.vs_ring_port.specs.declared.queue.TheConstants.{QUEUE_SIZE_MAX};
 ghost use Rattle.vs_uds.specs.declared.path.TheConstants.{BASE_MAX};
 
@@ -53,7 +54,7 @@ impl<V: Virtqueues> Monitor<V> {
     ) -> Result<Monitor<V>, AllocError>
         requires nonzero { 0 < size }
         requires limit { size ≤ QUEUE_SIZE_MAX }
-        requires cid { (3 ≤ cid) × (cid ≤ 4294967294) }
+        requires cid { (GUEST_CID_MIN ≤ cid) × (cid ≤ GUEST_CID_MAX) }
         requires base { (1 ≤ length base.now) × (length base.now ≤ BASE_MAX) }
     {
         law_of_order();
@@ -73,7 +74,7 @@ impl<V: Virtqueues> Monitor<V> {
     /// Ends all connections of a guest that goes on under another CID, 3 to 4,294,967,294, as after a snapshot was restored: the driver
     /// gets the event of a transport reset (Virtio 1.2, section 5.10.6.7). False where the ring had failed.
     pub fn transport_reset(&mut self, cid: u64) -> bool
-        requires cid { (3 ≤ cid) × (cid ≤ 4294967294) }
+        requires cid { (GUEST_CID_MIN ≤ cid) × (cid ≤ GUEST_CID_MAX) }
     {
         self.proxy
             .reset(&mut self.ring, &mut self.host, cid)

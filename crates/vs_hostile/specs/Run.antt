@@ -1,17 +1,20 @@
 -- A hostile guest's run: each line of its script, and what it answers.
 use Rattle.std.specs.Prelude.{ℕ, ◌+◌, ◌&&◌, nat_le, min, if◌then◌else◌, List, [], length, Option, None, Some, Result, codes}
+use Rattle.vs_limits.specs.declared.TheConstants.{GUEST_CID_MIN, GUEST_CID_MAX}
 use Rattle.vs_contents.specs.CallTree.{played}
 use Rattle.vs_layout.specs.declared.span.Span.{Span}
 use Rattle.vs_outside.specs.{Host.HostContents, HostProgram.after_client, HostProgram.new_host, HostProgram.plain}
 use Rattle.vs_ring_port.specs.declared.failure.Failure.{Failure}
 use Rattle.vs_ring_plain.specs.Device.{DeviceState}
 use Rattle.vs_device_parts.specs.Calls.{DeviceTree}
-use Rattle.vs_proxy_parts.specs.{State.ProxyState, Turns.new_proxy, Turns.turn_of, Turns.proxy_reset_of}
-use Rattle.vs_proxy_parts.specs.declared.answers.Turn.{Turn}
+use Rattle.vs_proxy_parts.specs.{State.ProxyState, Turns.new_proxy, Turns.turn_of, Turns.proxy_reset_of, declared.answers.Turn.Turn}
 use Rattle.vs_report.specs.HostLines.{host_played}
-use Rattle.vs_script.specs.Hostile.{Hostile, Memory as SetMemory, Rings as SetRings, Look, Around as OfOutside}
-use Rattle.vs_script.specs.Outside.{Outside, Turn as TakeTurn, Reset, Tick, Client, OfHost}
+use Rattle.vs_script.specs.{Hostile.Hostile, Hostile.Look, Outside.Outside, Outside.Reset, Outside.Tick, Outside.Client, Outside.OfHost}
 use Rattle.vs_hostile.specs.{Answers.answer_around, Guest.guest_writes, Guest.looked, Rings.rings_of}
+use Rattle.vs_script.specs.Hostile.Memory as SetMemory
+use Rattle.vs_script.specs.Hostile.Rings as SetRings
+use Rattle.vs_script.specs.Hostile.Around as OfOutside
+use Rattle.vs_script.specs.Outside.Turn as TakeTurn
 
 -- The guest's memory as far as the script has set it up: nothing, where it lies, or the rings in it.
 pub data GuestState : Type 0 where
@@ -47,7 +50,7 @@ over tree said ring s =
 -- A line on what surrounds the guest. The moment stands still at the last of its type. A CID is 3 to 4,294,967,294 in all scripts.
 abbrev pub outside_does : Outside → DeviceState → HostileState → HostileState × Said
 outside_does TakeTurn ring s = over (turn_of ring.size s.now s.proxy) (λ t. HasTurned t) ring s
-outside_does (Reset cid) ring s = if nat_le 3 cid && nat_le cid 4294967294 then over (proxy_reset_of cid s.proxy) (λ r. WasReset r) ring s else (s, Done)
+outside_does (Reset cid) ring s = if nat_le GUEST_CID_MIN cid && nat_le cid GUEST_CID_MAX then over (proxy_reset_of cid s.proxy) (λ r. WasReset r) ring s else (s, Done)
 outside_does (Tick ms) ring s = (record s { now = min 18446744073709551615 (s.now + ms) }, Done)
 outside_does Client ring s = (record s { host = after_client s.host }, StreamIs (length s.host.streams + 1))
 outside_does (OfHost line) ring s = let r = host_played line s.host in (record s { host = r.0 }, HostPrints r.1)

@@ -15,18 +15,13 @@ use crate::turns::{reset_all, take_turn};
 use crate::whole::WholeSide;
 use std::alloc::{AllocError, Global};
 use std::fmt::Write;
+use vs_limits::{GUEST_CID_MAX, GUEST_CID_MIN};
 use vs_outside::{Clock, MemHost, StepClock};
 use vs_proxy::{Proxy, Turn};
 use vs_report::bytes::push_data;
 use vs_report::device_lines::{push_reset, push_turn};
 use vs_report::host_lines::{client, host_line, push_ok};
 use vs_script::{HostileLine, OutsideLine};
-
-/// The lowest CID of a guest.
-const CID_MIN: u32 = 3;
-
-/// The highest CID of a guest.
-const CID_MAX: u32 = 4_294_967_294;
 
 // `turn`
 fn turn_line(
@@ -75,10 +70,10 @@ fn reset_line(
 
 // Whether it is the CID of a guest.
 fn is_cid(cid: u32) -> bool
-    ensures test { result ≡ (nat_le 3 cid && nat_le cid 4294967294) }
-    ensures range { IsTrue result → (3 ≤ cid) × (cid ≤ 4294967294) }
+    ensures test { result ≡ (nat_le GUEST_CID_MIN cid && nat_le cid GUEST_CID_MAX) }
+    ensures range { IsTrue result → (GUEST_CID_MIN ≤ cid) × (cid ≤ GUEST_CID_MAX) }
 {
-    cid >= CID_MIN && cid <= CID_MAX
+    cid >= GUEST_CID_MIN && cid <= GUEST_CID_MAX
 }
 
 // A line on the guest's memory.

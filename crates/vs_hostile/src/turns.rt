@@ -1,6 +1,7 @@
 //! Turns and resets of the device over rings in a guest's memory and a host in memory, each with the one end that it leads to.
 
 ghost use Rattle.std.specs.Prelude.{◌≡◌, ◌≤◌, IfOk};
+ghost use Rattle.vs_limits.specs.declared.TheConstants.{GUEST_CID_MIN, GUEST_CID_MAX};
 ghost use Rattle.vs_contents.specs.CallTree.{played};
 ghost use Rattle.vs_device_parts.specs.Playing.{IsItsRing};
 ghost use Rattle.vs_proxy_parts.specs.Turns.{proxy_reset_of, turn_of};
@@ -45,7 +46,7 @@ pub fn reset_all(
     host: &mut MemHost,
     cid: u64,
 ) -> Result<Result<(), Failure>, AllocError>
-    requires cid { (3 ≤ cid) × (cid ≤ 4294967294) }
+    requires cid { (GUEST_CID_MIN ≤ cid) × (cid ≤ GUEST_CID_MAX) }
     requires ring { IsItsRing (chains_held ring.old) proxy.old.device }
     requires serving { IsServing proxy.old host.old.contents }
     ensures played { IfOk result (λ r. played answer_around (proxy_reset_of cid proxy.old) record {

@@ -1,15 +1,18 @@
 -- After the ring's failure a turn and a reset make no call.
 use Rattle.std.proofs.Common.{◌≡◌, ℕ, ◌≤◌, ◌&&◌, nat_le, Bool, true, cond, Option, Some, Result, Err, refl, sym, ap, subst, ◌∙◌, arith}
 use Rattle.std.proofs.lemmas.Bool.Decides.{nat_tests}
+use Rattle.vs_limits.specs.declared.TheConstants.{GUEST_CID_MIN, GUEST_CID_MAX}
 use Rattle.vs_contents.specs.CallTree.{Done}
-use Rattle.vs_ring_plain.specs.Device.{DeviceState as RingState}
 use Rattle.vs_ring_port.specs.declared.failure.Failure.{Failure}
 use Rattle.vs_device_parts.specs.Calls.{DeviceTree}
-use Rattle.vs_hostile.specs.Run.{GuestState, HasRings, HasTurned, HostileState, Said, WasReset, hostile_does, line_in, over, Done as IsDone}
-use Rattle.vs_proxy_parts.specs.{State.ProxyState, Turns.proxy_reset_of, Turns.turn_of}
-use Rattle.vs_proxy_parts.specs.declared.answers.Turn.{Turn}
+use Rattle.vs_hostile.specs.Run.{GuestState, HasRings, HasTurned, HostileState, Said, WasReset, hostile_does, line_in, over}
+use Rattle.vs_proxy_parts.specs.{State.ProxyState, Turns.proxy_reset_of, Turns.turn_of, declared.answers.Turn.Turn}
+use Rattle.vs_script.specs.Outside.{Reset}
+use Rattle.vs_ring_plain.specs.Device.DeviceState as RingState
+use Rattle.vs_hostile.specs.Run.Done as IsDone
 use Rattle.vs_proxy_parts.specs.declared.answers.Turn.TheVariants as turn
-use Rattle.vs_script.specs.{Hostile.Around as OfOutside, Outside.Reset, Outside.Turn as TakeTurn}
+use Rattle.vs_script.specs.Hostile.Around as OfOutside
+use Rattle.vs_script.specs.Outside.Turn as TakeTurn
 
 abbrev failing : Option Failure → ProxyState → ProxyState
 failing o s = record s { device = record s.device { failed = o } }
@@ -41,9 +44,9 @@ turn_stays ring s f rings is =
     ∙ over_done (turn_of ring.size s.now s.proxy) (λ t. HasTurned t) ring s (turn.Failed f) (turn_fails ring.size s.now s.proxy f is) rings
 
 pub reset_stays : (ring : RingState) (s : HostileState) (cid : ℕ) (f : Failure) → s.guest ≡ HasRings ring → s.proxy.device.failed ≡ Some f
-    → 3 ≤ cid → cid ≤ 4294967294 → hostile_does (OfOutside (Reset cid)) s ≡ (s, WasReset (Err f))
+    → GUEST_CID_MIN ≤ cid → cid ≤ GUEST_CID_MAX → hostile_does (OfOutside (Reset cid)) s ≡ (s, WasReset (Err f))
 reset_stays ring s cid f rings is low high =
-    let inside : (nat_le 3 cid && nat_le cid 4294967294) ≡ true = grind (arith, nat_tests, low, high) in
+    let inside : (nat_le GUEST_CID_MIN cid && nat_le cid GUEST_CID_MAX) ≡ true = grind (arith, nat_tests, low, high) in
     ap (λ (g : GuestState). line_in g (OfOutside (Reset cid)) s) rings
     ∙ ap (λ (b : Bool). cond b (over (proxy_reset_of cid s.proxy) (λ r. WasReset r) ring s) (s, IsDone)) inside
     ∙ over_done (proxy_reset_of cid s.proxy) (λ r. WasReset r) ring s (Err f) (reset_fails cid s.proxy f is) rings

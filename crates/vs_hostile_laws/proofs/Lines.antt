@@ -2,12 +2,12 @@
 use Rattle.std.proofs.Common.{◌≡◌, ℕ, ◌<◌, ◌≤◌, ◌^◌, arith, codes, decimal, zero, suc, ◌+◌, ◌-◌, ◌==◌, ◌&&◌, nat_le, Bool, true, false}
 use Rattle.std.proofs.Common.{cond, List, [], ◌∷◌, ◌++◌, length, slice_get, Option, Some, None, refl, sym, ap, subst, ◌∙◌}
 use Rattle.std.specs.Option.{option_and_then, option_map_or}
-use Rattle.vs_flow.specs.declared.flow.{Flow.Flow, TheConstants.ASSIGNED_LAST}
-use Rattle.vs_outside.specs.Host.{HostContents, Stream, stream_at, waits, with_stream}
+use Rattle.vs_flow.specs.declared.flow.Flow.{Flow}
+use Rattle.vs_limits.specs.declared.TheConstants.{ASSIGNED_LAST, GUEST_CID_MIN, GUEST_CID_MAX}
 use Rattle.vs_outside.specs.HostProgram.{after_client, after_host_write, allowed, client_stream, closed, ended, host_write_answer}
 use Rattle.vs_outside.specs.HostProgram.{with_bytes}
+use Rattle.vs_outside.specs.Host.{HostContents, Stream, stream_at, waits, with_stream}
 use Rattle.vs_outside.specs.declared.mem_stream.HostWritten.{HostWritten}
-use Rattle.vs_outside.specs.declared.mem_stream.HostWritten.TheVariants as written
 use Rattle.vs_outside.specs.HostBytes.{after_line, read_after_ok, wrote_after_connect}
 use Rattle.vs_page.specs.Fair.{IsPrefixOf}
 use Rattle.vs_pipes.specs.Streamed.{has_line}
@@ -18,8 +18,8 @@ use Rattle.vs_device_parts.specs.Calls.{DeviceTree}
 use Rattle.vs_hostile.specs.{Answer.state_after, Answers.Around}
 use Rattle.vs_hostile.specs.Run.{Done, GuestState, HasMemory, HasRings, HasTurned, HostileState, Nothing, Said, beginning, hostile_does}
 use Rattle.vs_hostile.specs.Run.{line_in, outside_does, WasReset, over, over_rings}
-use Rattle.vs_hostile_laws.specs.Isolated.{IsGivenOwn, IsIsolated, delivered_to}
 use Rattle.vs_hostile_laws.specs.Recorded.{calls_of, made_in, made_over, outside_made, recorded}
+use Rattle.vs_hostile_laws.specs.Isolated.{IsGivenOwn, IsIsolated, delivered_to}
 use Rattle.vs_report.specs.HostLines.{host_played}
 use Rattle.vs_proxy_bytes.specs.{Told.Shows, Told.ShowsAt, Told.ShowsIn, Made.Account, Made.Made, Made.account_of}
 use Rattle.vs_proxy_bytes.specs.Tied.{AccountsFor, IsGiven, IsLine, IsRead, IsWhole, ok_line_of}
@@ -27,11 +27,15 @@ use Rattle.vs_proxy_bytes.proofs.{Shown.new_shows, Shown.none_there, Shown.unsee
 use Rattle.vs_proxy_bytes.proofs.Turning.{keeps_proxy_reset, keeps_turn}
 use Rattle.vs_hostile_laws.proofs.Steps.{played_same, played_shows}
 use Rattle.vs_proxy_parts.specs.{State.ProxyState, Turns.proxy_reset_of, Turns.turn_of}
-use Rattle.vs_script.specs.Data.{bytes_of}
-use Rattle.vs_script.specs.Hostile.{Hostile, Memory as SetMemory, Rings as SetRings, Write, WriteDesc, Give, Index, Packet, Before, Look}
-use Rattle.vs_script.specs.Hostile.{Around as OfOutside}
+use Rattle.vs_script.specs.Hostile.{Hostile, Write, WriteDesc, Give, Index, Packet, Before, Look}
 use Rattle.vs_script.specs.Outside.{Client, Host, HostAllow, HostClosed, HostEnd, HostFail, HostListen, HostUnlisten, HostWrite, OfHost}
-use Rattle.vs_script.specs.Outside.{Outside, Reset, Tick, Turn as TakeTurn}
+use Rattle.vs_script.specs.Outside.{Outside, Reset, Tick}
+use Rattle.vs_script.specs.Data.{bytes_of}
+use Rattle.vs_outside.specs.declared.mem_stream.HostWritten.TheVariants as written
+use Rattle.vs_script.specs.Hostile.Memory as SetMemory
+use Rattle.vs_script.specs.Hostile.Rings as SetRings
+use Rattle.vs_script.specs.Hostile.Around as OfOutside
+use Rattle.vs_script.specs.Outside.Turn as TakeTurn
 
 -- The calls made so far account for what the proxy holds, and show what the host holds.
 pub record Holds (s : HostileState) (calls : List Made) : Type 0 where
@@ -98,7 +102,7 @@ outside_holds : (line : Outside) (ring : DeviceState) (s : HostileState) (calls 
 outside_holds TakeTurn ring s calls holds =
     over_holds (turn_of ring.size s.now s.proxy) (λ t. HasTurned t) ring s calls
     (keeps_turn ring.size s.now s.proxy calls holds.accounts) holds.shows
-outside_holds (Reset cid) ring s calls holds = by (nat_le 3 cid && nat_le cid 4294967294)
+outside_holds (Reset cid) ring s calls holds = by (nat_le GUEST_CID_MIN cid && nat_le cid GUEST_CID_MAX)
   where
     by : (b : Bool) → Holds (cond b (over (proxy_reset_of cid s.proxy) (λ r. WasReset r) ring s) (s, Done)).0
         (cond b (recorded (proxy_reset_of cid s.proxy) ring s.host calls) calls)

@@ -1,5 +1,6 @@
 -- Each packet that the device read in a run was judged.
 use Rattle.std.proofs.Common.{◌&&◌, nat_le, Bool, true, false, cond, List, [], ◌∷◌, subst}
+use Rattle.vs_limits.specs.declared.TheConstants.{GUEST_CID_MIN, GUEST_CID_MAX}
 use Rattle.vs_contents.specs.CallTree.{Leads}
 use Rattle.vs_ring_plain.specs.Device.{DeviceState}
 use Rattle.vs_device_parts.specs.Calls.{DeviceTree}
@@ -8,13 +9,16 @@ use Rattle.vs_hostile.specs.Run.{Done, GuestState, HasMemory, HasRings, HasTurne
 use Rattle.vs_hostile.specs.Run.{line_in, outside_does, over, over_rings}
 use Rattle.vs_proxy_parts.specs.{State.ProxyState, Turns.proxy_reset_of, Turns.turn_of}
 use Rattle.vs_proxy_bytes.specs.{Made.Made, Made.Makes, Made.account_of, Packets.AreJudged, Tied.AccountsFor, Told.Shows}
-use Rattle.vs_proxy_bytes.proofs.{Keeping.Keeps, Packets.joined, Packets.nothing_judged, Packets.reset_is_judged, Packets.turn_is_judged}
-use Rattle.vs_proxy_bytes.proofs.Turning.{keeps_proxy_reset, keeps_turn}
-use Rattle.vs_script.specs.Hostile.{Hostile, Memory as SetMemory, Rings as SetRings, Write, WriteDesc, Give, Index, Packet, Before, Look}
-use Rattle.vs_script.specs.Hostile.{Around as OfOutside}
-use Rattle.vs_script.specs.Outside.{Client, OfHost, Outside, Reset, Tick, Turn as TakeTurn}
+use Rattle.vs_proxy_bytes.proofs.{Keeping.Keeps, Turning.keeps_proxy_reset, Turning.keeps_turn}
+use Rattle.vs_proxy_bytes.proofs.Packets.{joined, nothing_judged, reset_is_judged, turn_is_judged}
+use Rattle.vs_script.specs.Hostile.{Hostile, Write, WriteDesc, Give, Index, Packet, Before, Look}
+use Rattle.vs_script.specs.Outside.{Client, OfHost, Outside, Reset, Tick}
 use Rattle.vs_hostile_laws.specs.Recorded.{calls_of, made_in, made_over, outside_made, recorded}
 use Rattle.vs_hostile_laws.proofs.{Lines.Holds, Lines.line_holds, Steps.played_makes, Steps.played_same}
+use Rattle.vs_script.specs.Hostile.Memory as SetMemory
+use Rattle.vs_script.specs.Hostile.Rings as SetRings
+use Rattle.vs_script.specs.Hostile.Around as OfOutside
+use Rattle.vs_script.specs.Outside.Turn as TakeTurn
 
 over_judged : {A : Type 0} (tree : DeviceTree (ProxyState × A)) (said : A → Said) (ring : DeviceState) (s : HostileState) (calls : List Made)
     → Keeps (λ x later. AccountsFor x.0 later) tree calls → Shows (account_of calls) s.host
@@ -32,7 +36,7 @@ outside_judged TakeTurn ring s calls holds =
     over_judged (turn_of ring.size s.now s.proxy) (λ t. HasTurned t) ring s calls
     (keeps_turn ring.size s.now s.proxy calls holds.accounts) holds.shows
     (λ later x leads. turn_is_judged ring.size s.now s.proxy calls later x leads)
-outside_judged (Reset cid) ring s calls holds = by (nat_le 3 cid && nat_le cid 4294967294)
+outside_judged (Reset cid) ring s calls holds = by (nat_le GUEST_CID_MIN cid && nat_le cid GUEST_CID_MAX)
   where
     by : (b : Bool) → AreJudged s.proxy.device calls
         (cond b (over (proxy_reset_of cid s.proxy) (λ r. WasReset r) ring s) (s, Done)).0.proxy.device

@@ -1,6 +1,7 @@
 -- What a hostile guest can't do: what a stream of the host may be given, what is put on a flow, and what a failed device does.
 use Rattle.std.specs.Prelude.{◌≡◌, ℕ, ◌≤◌, ◌++◌, List, [], Option, Some, None, Err}
 use Rattle.std.specs.Option.{option_map_or, option_and_then}
+use Rattle.vs_limits.specs.declared.TheConstants.{GUEST_CID_MIN, GUEST_CID_MAX}
 use Rattle.vs_flow.specs.declared.flow.Flow.{Flow}
 use Rattle.vs_outside.specs.{Host.Stream, Host.stream_at, HostBytes.read_after_ok, HostBytes.wrote_after_connect}
 use Rattle.vs_page.specs.Fair.{IsPrefixOf}
@@ -9,8 +10,8 @@ use Rattle.vs_ring_port.specs.declared.failure.Failure.{Failure}
 use Rattle.vs_proxy_parts.specs.declared.answers.Turn.TheVariants.{Failed}
 use Rattle.vs_proxy_bytes.specs.{Carried.Carries, Made.Made, Made.account_of, Packets.AreJudged, Tied.ok_line_of}
 use Rattle.vs_script.specs.{Hostile.Around, Hostile.Hostile, Outside.Reset, Outside.Turn}
-use Rattle.vs_hostile.specs.Answer.{state_after}
 use Rattle.vs_hostile.specs.Run.{HasRings, HasTurned, HostileState, WasReset, beginning, hostile_does}
+use Rattle.vs_hostile.specs.Answer.{state_after}
 use Rattle.vs_hostile_laws.specs.Recorded.{calls_of}
 
 -- The payloads delivered on the connection of a stream, joined: those of packets of its flow, read while it had its label and wasn't
@@ -44,7 +45,7 @@ pub record IsIsolated (id : ℕ) (s : Stream) (calls : List Made) : Type 0 where
 -- A device that failed: each turn and each reset tells the failure again, and all stays, the proxy, the memory, the host and its streams.
 pub record StaysFailed (s : HostileState) (f : Failure) : Type 0 where
   pub turn : hostile_does (Around Turn) s ≡ (s, HasTurned (Failed f))
-  pub reset : (cid : ℕ) → 3 ≤ cid → cid ≤ 4294967294 → hostile_does (Around (Reset cid)) s ≡ (s, WasReset (Err f))
+  pub reset : (cid : ℕ) → GUEST_CID_MIN ≤ cid → cid ≤ GUEST_CID_MAX → hostile_does (Around (Reset cid)) s ≡ (s, WasReset (Err f))
 
 -- What lines of a hostile guest's script lead to, with the calls that the proxy made by then.
 pub record IsSafe (lines : List Hostile) : Type 0 where

@@ -1,5 +1,6 @@
 -- A hostile guest's run, with the calls that the proxy makes on the rings in its memory and on the host, newest first.
 use Rattle.std.specs.Prelude.{◌&&◌, nat_le, if◌then◌else◌, List, [], ◌∷◌}
+use Rattle.vs_limits.specs.declared.TheConstants.{GUEST_CID_MIN, GUEST_CID_MAX}
 use Rattle.vs_contents.specs.CallTree.{played}
 use Rattle.vs_outside.specs.Host.{HostContents}
 use Rattle.vs_ring_plain.specs.Device.{DeviceState}
@@ -7,7 +8,9 @@ use Rattle.vs_device_parts.specs.Calls.{Answer, Call, DeviceTree}
 use Rattle.vs_hostile.specs.{Answers.Around, Answers.answer_around, Run.GuestState, Run.HasRings, Run.HostileState, Run.hostile_does}
 use Rattle.vs_proxy_parts.specs.Turns.{proxy_reset_of, turn_of}
 use Rattle.vs_proxy_bytes.specs.Made.{Made}
-use Rattle.vs_script.specs.{Hostile.Hostile, Hostile.Around as OfOutside, Outside.Outside, Outside.Reset, Outside.Turn as TakeTurn}
+use Rattle.vs_script.specs.{Hostile.Hostile, Outside.Outside, Outside.Reset}
+use Rattle.vs_script.specs.Hostile.Around as OfOutside
+use Rattle.vs_script.specs.Outside.Turn as TakeTurn
 
 -- What surrounds the device, and the calls that it made so far. A call is answered as before, and recorded.
 pub record Recorded : Type 0 where
@@ -27,7 +30,7 @@ recorded tree ring host calls = (played recording tree (record { around = record
 abbrev pub outside_made : Outside → DeviceState → HostileState → List Made → List Made
 outside_made TakeTurn ring s calls = recorded (turn_of ring.size s.now s.proxy) ring s.host calls
 outside_made (Reset cid) ring s calls =
-    if nat_le 3 cid && nat_le cid 4294967294 then recorded (proxy_reset_of cid s.proxy) ring s.host calls else calls
+    if nat_le GUEST_CID_MIN cid && nat_le cid GUEST_CID_MAX then recorded (proxy_reset_of cid s.proxy) ring s.host calls else calls
 outside_made line ring s calls = calls
 
 abbrev pub made_over : Hostile → DeviceState → HostileState → List Made → List Made

@@ -1,10 +1,10 @@
 -- Worked runs: a length that is changed once it was read, and a hostile guest with two connections.
 use Rattle.std.specs.Prelude.{ℕ, List, [], ◌∷◌, ◌++◌}
+use Rattle.vs_limits.specs.declared.TheConstants.{BUF_ALLOC}
 use Rattle.vs_header.specs.declared.Header.{Header}
 use Rattle.vs_ring_port.specs.declared.queue.Queue.TheVariants.{Rx, Tx}
-use Rattle.vs_script.specs.Data.{Given}
+use Rattle.vs_script.specs.{Data.Given, Outside.HostListen, Outside.OfHost, Outside.Turn}
 use Rattle.vs_script.specs.Hostile.{Hostile, Memory, Rings, WriteDesc, Give, Index, Packet, Before, Around}
-use Rattle.vs_script.specs.Outside.{HostListen, OfHost, Turn}
 
 -- The length in the header of an RW is 1, and 2 once the device has read it. What it read decides: one byte is delivered.
 abbrev pub changed_lines : List Hostile
@@ -12,7 +12,7 @@ changed_lines =
     Memory (record { at = 4096; len = 4096 })
     ∷ Rings 8
     ∷ Around (OfHost (HostListen 52))
-    ∷ Packet 5120 (record { src_cid = 3; dst_cid = 2; src_port = 1024; dst_port = 52; len = 0; kind = 1; op = 1; flags = 0; buf_alloc = 65536; fwd_cnt = 0 }) (Given [])
+    ∷ Packet 5120 (record { src_cid = 3; dst_cid = 2; src_port = 1024; dst_port = 52; len = 0; kind = 1; op = 1; flags = 0; buf_alloc = BUF_ALLOC; fwd_cnt = 0 }) (Given [])
     ∷ WriteDesc Tx 0 (record { addr = 5120; len = 44; flags = 0; next = 0 })
     ∷ Give Tx 0 0
     ∷ Index Tx 1
@@ -20,7 +20,7 @@ changed_lines =
     ∷ Give Rx 0 0
     ∷ Index Rx 1
     ∷ Around Turn
-    ∷ Packet 6144 (record { src_cid = 3; dst_cid = 2; src_port = 1024; dst_port = 52; len = 1; kind = 1; op = 5; flags = 0; buf_alloc = 65536; fwd_cnt = 0 }) (Given (120 ∷ 121 ∷ []))
+    ∷ Packet 6144 (record { src_cid = 3; dst_cid = 2; src_port = 1024; dst_port = 52; len = 1; kind = 1; op = 5; flags = 0; buf_alloc = BUF_ALLOC; fwd_cnt = 0 }) (Given (120 ∷ 121 ∷ []))
     ∷ WriteDesc Tx 1 (record { addr = 6144; len = 46; flags = 0; next = 0 })
     ∷ Give Tx 1 1
     ∷ Index Tx 2
@@ -39,7 +39,7 @@ packet_of cid guest host op = record {
   kind = 1;
   op = op;
   flags = 0;
-  buf_alloc = 65536;
+  buf_alloc = BUF_ALLOC;
   fwd_cnt = 0;
 }
 

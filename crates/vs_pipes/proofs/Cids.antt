@@ -3,7 +3,8 @@ use Rattle.std.proofs.{lemmas.Bool.Decides.nat_tests, lemmas.Grind.common_steps}
 use Rattle.std.proofs.Common.{◌≡◌, ◌≢◌, ℕ, ◌==◌, ◌&&◌, Bool, true, false, not, is_some, List, [], ◌∷◌, ◌++◌, refl, sym, ap, ◌∙◌, subst}
 use Rattle.std.proofs.Common.{arith}
 use Rattle.vs_conn.specs.{End.ConnectionEnd, Follows.Follows, declared.end.State.TheVariants.Ended}
-use Rattle.vs_flow.specs.{declared.flow.Flow.Flow, declared.flow.TheConstants.HOST_CID}
+use Rattle.vs_flow.specs.declared.flow.Flow.{Flow}
+use Rattle.vs_limits.specs.declared.TheConstants.{HOST_CID}
 use Rattle.vs_history.specs.Again.{present}
 use Rattle.vs_history.specs.History.{Answerer, Asker, Got, History, Side, gots, puts}
 use Rattle.vs_history.specs.Packets.{has, is_clean_rst, is_request, is_rst, is_rw}

@@ -9,7 +9,7 @@ use Rattle.vs_device_parts.specs.{Connections.new_connection, State.DeviceConnec
 use Rattle.vs_flow.specs.{Flow.host_flow, Flow.is_assigned, Table.Table, Table.with_entry, declared.flow.Flow.Flow}
 use Rattle.vs_flow.proofs.{Entries.found_passes, Lookups.find_place}
 use Rattle.vs_header.specs.declared.Header.{Header}
-use Rattle.vs_history.specs.declared.TheConstants.{BUF_ALLOC}
+use Rattle.vs_limits.specs.declared.TheConstants.{BUF_ALLOC}
 use Rattle.vs_outside.specs.Host.{HostContents, Stream, after_dial, after_label, after_read, called, dialed_stream, fails_now, has_label}
 use Rattle.vs_outside.specs.Host.{next_bytes, read_answer, read_of, stream_at, take_bytes}
 use Rattle.vs_outside.specs.HostBytes.{after_line}

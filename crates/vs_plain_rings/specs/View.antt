@@ -1,5 +1,6 @@
 -- How both ends of standard rings are seen, and what is true of them.
 use Rattle.std.specs.Prelude.{◌≡◌, ◌≤◌}
+use Rattle.vs_limits.specs.declared.TheConstants.{GUEST_CID_MIN, GUEST_CID_MAX}
 use Rattle.vs_plain_driver.specs.View.{ArePagesIn}
 use Rattle.vs_plain_rings.specs.declared.parts.Parts.TheInside.{Inside}
 use Rattle.vs_plain_ties.specs.Parts.{PartsState}
@@ -15,8 +16,8 @@ pub record AreInOrder (p : PartsState) : Type 0 where
   pub rx_pages : ArePagesIn p.rx p.device.memory
   pub tx_pages : ArePagesIn p.tx p.device.memory
   pub event_pages : ArePagesIn p.event p.device.memory
-  pub low : 3 ≤ p.cid
-  pub high : p.cid ≤ 4294967294
+  pub low : GUEST_CID_MIN ≤ p.cid
+  pub high : p.cid ≤ GUEST_CID_MAX
 
 abbrev pub IsInOrder : Inside → Type 0
 IsInOrder p = AreInOrder (parts_in p)

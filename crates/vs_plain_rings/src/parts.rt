@@ -1,6 +1,7 @@
 //! Both ends of standard rings: the device's with the memory, and the driver's of each queue.
 ghost use Rattle.std.specs.Prelude.{◌≡◌, ◌<◌, ◌≤◌, ◌+◌, ◌-◌, ◌*◌, ◌%◌, ◌^◌, [], length, Contains, IfOk, IfErr, IfNone, OnOk, OnErr, OnSome};
 ghost use Rattle.std.specs.Prelude.{IfSome, None, Some, nat_le, if◌then◌else◌, IsTrue, is_ok};
+ghost use Rattle.vs_limits.specs.declared.TheConstants.{GUEST_CID_MIN, GUEST_CID_MAX};
 ghost use Rattle.vs_guest_mem.specs.Memory.{after_write, is_inside};
 ghost use Rattle.vs_layout.specs.Layout.{AreInside, queue_areas_of};
 ghost use Rattle.vs_page.specs.declared.page.TheConstants.{PAGE_LEN};
@@ -27,7 +28,8 @@ use std::alloc::{AllocError, Global};
 use std::marker::Model;
 use vs_guest_mem::{AddrRange, PlainMem};
 use vs_layout::{Areas, QueueAreas, queue_areas};
-use vs_page::{FIRST_CID, PAGE_LEN, Page};
+use vs_limits::FIRST_CID;
+use vs_page::{PAGE_LEN, Page};
 use vs_plain_driver::DriverQueue;
 use vs_ring_plain::device::DeviceSide;
 use vs_ring_port::{Chain, Next, Queue};
@@ -103,7 +105,7 @@ impl Parts {
     pub fn cid(&self) -> u64
         ensures value { result ≡ self.now.cid }
         ensures low { 3 ≤ result }
-        ensures high { result ≤ 4294967294 }
+        ensures high { result ≤ GUEST_CID_MAX }
     {
         self.cid
     }
@@ -212,8 +214,8 @@ impl Parts {
 
     /// Sets the guest's CID.
     pub fn publish_cid(&mut self, cid: u64)
-        requires low { 3 ≤ cid }
-        requires high { cid ≤ 4294967294 }
+        requires low { GUEST_CID_MIN ≤ cid }
+        requires high { cid ≤ GUEST_CID_MAX }
         ensures { self.new ≡ record self.old { cid = cid } }
     {
         self.cid = cid;

@@ -1,24 +1,24 @@
 -- A turn and a reset over list rings with a host in memory.
 use Rattle.std.proofs.Common.{◌≡◌, ℕ, ◌<◌, ◌≤◌, ◌^◌, false, List, [], ◌++◌, Option, Result, Some, unwrap_or, arith, refl, sym, ap, subst}
 use Rattle.std.proofs.Common.{◌∙◌}
-use Rattle.vs_ring_port.specs.{Counts.Counts, EndLog.EndLog, Chains.chains_of}
-use Rattle.vs_ring_port.specs.declared.failure.Failure.{Failure}
+use Rattle.vs_limits.specs.declared.TheConstants.{GUEST_CID_MAX}
+use Rattle.vs_ring_port.specs.{Counts.Counts, EndLog.EndLog, Chains.chains_of, declared.failure.Failure.Failure}
 use Rattle.vs_ring_list.specs.Ends.{Ends, device_contents, driver_contents, empty_ends, staged_of}
 use Rattle.vs_outside.specs.Host.{HostContents}
 use Rattle.vs_driver_parts.specs.State.{DriverState}
 use Rattle.vs_driver_log.specs.Honest.{IsHonestWith}
 use Rattle.vs_device_parts.specs.{Calls.Allows, Calls.Situation, Playing.CanMake, Playing.IsItsRing, Playing.Runs, Playing.situation}
 use Rattle.vs_device_laws.specs.Split.{CanReach}
-use Rattle.vs_device_laws.proofs.{Conditions.quiet_can, Keeping.keeps_end as streams_end, Opening.new_has}
+use Rattle.vs_device_laws.proofs.{Conditions.quiet_can, Opening.new_has}
 use Rattle.vs_device_log.proofs.Keeping.{keeps_end}
-use Rattle.vs_proxy_parts.specs.{State.ProxyState, Turns.new_proxy, Turns.proxy_reset_of, Turns.turn_of}
-use Rattle.vs_proxy_parts.specs.declared.answers.Turn.{Turn}
+use Rattle.vs_proxy_parts.specs.{State.ProxyState, Turns.new_proxy, Turns.proxy_reset_of, Turns.turn_of, declared.answers.Turn.Turn}
 use Rattle.vs_proxy_laws.proofs.{Lists.none_open, Turning.keeps_proxy_reset, Turning.keeps_turn}
 use Rattle.vs_proxy_log.proofs.Turning.{new_proxy_with, proxy_reset_keeps, turn_keeps}
 use Rattle.vs_world.specs.World.{first_cid}
 use Rattle.vs_play.specs.{Answer.base_path, Ready.IsDriven, Ready.IsServed, Told.Serves}
 use Rattle.vs_report.specs.DeviceLines.{reset_text, turn_text}
 use Rattle.vs_world.proofs.{Flown.LeavesDriver, OverBoth.IsPlayed, OverBoth.over}
+use Rattle.vs_device_laws.proofs.Keeping.keeps_end as streams_end
 
 -- The rings stay the driver's.
 pub driven_still : (v w : Ends) → LeavesDriver v w → (s : DriverState) → IsDriven s v → IsDriven s w
@@ -92,7 +92,7 @@ module _ (s : ProxyState) (v w : Ends) (h g : HostContents) (n m : ℕ) (served 
         driven = driven_still v w played.same;
       }
 
-  pub reset_served : (cid : ℕ) (x : ProxyState) (r : Result (Unit {0}) Failure) (text text' : List ℕ) → cid ≤ 4294967294
+  pub reset_served : (cid : ℕ) (x : ProxyState) (r : Result (Unit {0}) Failure) (text text' : List ℕ) → cid ≤ GUEST_CID_MAX
       → Runs (proxy_reset_of cid s) (situation (device_contents v) (Some h) n) (x, r) (situation (device_contents w) (Some g) m)
       → IsItsRing (chains_of w.device.held) x.device → g.starved ≡ false → text' ≡ text ++ reset_text r
       → Serves (proxy_reset_of cid s) reset_text x v w h g text text'

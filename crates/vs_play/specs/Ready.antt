@@ -1,11 +1,10 @@
 -- What a play holds between two lines, and what it is for a line to be played.
 use Rattle.std.specs.Prelude.{◌≡◌, ◌≤◌, ℕ, List, [], ◌++◌, Some}
+use Rattle.vs_limits.specs.declared.TheConstants.{GUEST_CID_MIN, GUEST_CID_MAX}
 use Rattle.vs_ring_port.specs.Chains.{chains_of}
 use Rattle.vs_ring_list.specs.Ends.{Ends, device_contents, driver_contents, flight_of, staged_of}
 use Rattle.vs_driver_parts.specs.{Playing.IsRingOf, State.DriverState}
 use Rattle.vs_driver_log.specs.Honest.{IsHonest}
-use Rattle.vs_script.specs.Outside as outside
-use Rattle.vs_script.specs.Play as script
 use Rattle.vs_script.specs.Play.{Event}
 use Rattle.vs_outside.specs.Host.{HostContents}
 use Rattle.vs_device_parts.specs.Playing.{IsItsRing, situation}
@@ -13,6 +12,8 @@ use Rattle.vs_proxy_parts.specs.State.{ProxyState}
 use Rattle.vs_proxy_log.specs.Order.{IsInOrder}
 use Rattle.vs_world.specs.World.{first_cid}
 use Rattle.vs_play.specs.{Answer.opened_play, Lines.PlayWorld, Lines.event_played}
+use Rattle.vs_script.specs.Outside as outside
+use Rattle.vs_script.specs.Play as script
 
 -- The rings and the host are the proxy's: the device holds its chains, and the proxy is in order with its log and its streams.
 pub record IsServed (s : ProxyState) (e : Ends) (h : HostContents) : Type 0 where
@@ -31,7 +32,7 @@ IsBits bits = (1 ≤ bits) × (bits ≤ 3)
 -- A line that may be played: the bits of a shutdown are 1 to 3, and a CID is one that a guest may have.
 abbrev pub IsPlayable : Event → Type 0
 IsPlayable (script.Shutdown id bits) = IsBits bits
-IsPlayable (script.Around (outside.Reset cid)) = (3 ≤ cid) × (cid ≤ 4294967294)
+IsPlayable (script.Around (outside.Reset cid)) = (GUEST_CID_MIN ≤ cid) × (cid ≤ GUEST_CID_MAX)
 IsPlayable _ = Unit {0}
 
 -- What a play holds: its world without the journal of the calls that the guest made.

@@ -1,6 +1,7 @@
 //! The lines on the device with its proxy: what each does over the rings and the host, with the one end that it leads to, and what it prints.
 
 ghost use Rattle.std.specs.Prelude.{◌≡◌, ◌≤◌, IfOk, OnOk, false, length, string_bytes};
+ghost use Rattle.vs_limits.specs.declared.TheConstants.{GUEST_CID_MIN, GUEST_CID_MAX};
 ghost use Rattle.vs_device_parts.specs.Turns.{table_shown};
 ghost use Rattle.vs_proxy_parts.specs.Turns.{new_proxy, proxy_reset_of, turn_of};
 ghost use Rattle.vs_report.specs.DeviceLines.{reset_text, turn_text};
@@ -9,8 +10,8 @@ ghost use Rattle.vs_play.specs.{Answer.base_path, Ready.IsServed, Told.Serves};
 
 use std::alloc::{AllocError, Global};
 use vs_both_ends::BothEnds;
+use vs_limits::FIRST_CID;
 use vs_outside::MemHost;
-use vs_page::FIRST_CID;
 use vs_proxy::Proxy;
 use vs_report::device_lines::{push_reset, push_turn};
 
@@ -57,7 +58,7 @@ pub fn reset<R: BothEnds>(
     cid: u32,
     text: &mut String,
 ) -> Result<(), AllocError>
-    requires cid { (3 ≤ cid) × (cid ≤ 4294967294) }
+    requires cid { (GUEST_CID_MIN ≤ cid) × (cid ≤ GUEST_CID_MAX) }
     requires served { IsServed proxy.old (R.ends rings.old) host.old.contents }
     ensures { OnOk result (Serves (proxy_reset_of cid proxy.old) reset_text proxy.new (R.ends rings.old) (R.ends rings.new)
         host.old.contents host.new.contents (string_bytes text.old) (string_bytes text.new)) }

@@ -4,7 +4,7 @@ ghost use Rattle.std.specs.Prelude.{◌≡◌, ℕ, IfOk, OnOk, length, string_b
 ghost use Rattle.vs_contents.specs.CallTree.{Done};
 ghost use Rattle.vs_ring_list.specs.Ends.{Ends, empty_ends};
 ghost use Rattle.vs_driver_parts.specs.{Conversations.new_of, Conversations.poll_of, Connections.table_shown};
-ghost use Rattle.vs_driver_parts.specs.declared.limits.TheConstants.{FIRST_PORT};
+ghost use Rattle.vs_limits.specs.declared.TheConstants.{FIRST_PORT};
 ghost use Rattle.vs_report.specs.GuestLines.{poll_text};
 ghost use Rattle.vs_script.specs.{Data.bytes_of, Data.content_of, Play.play_view};
 ghost use Rattle.vs_world.specs.Calls as call;

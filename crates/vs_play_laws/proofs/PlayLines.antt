@@ -1,22 +1,20 @@
 -- The lines of a script as lines of the world.
 use Rattle.std.proofs.Common.{◌≡◌, ◌≤◌, ◌^◌, ℕ, nat_lt, Bool, true, cond, List, [], ◌∷◌, ◌++◌, refl, sym, ap, ◌∙◌, arith, append_assoc}
 use Rattle.std.proofs.lemmas.Bool.Decides.{nat_tests}
+use Rattle.vs_limits.specs.declared.TheConstants.{GUEST_CID_MIN, GUEST_CID_MAX}
 use Rattle.vs_driver_parts.specs.Connections.{flow_of}
 use Rattle.vs_flow.specs.declared.flow.Flow.{Flow}
-use Rattle.vs_script.specs.{Data.bytes_of, Outside.Host, Outside.Outside}
-use Rattle.vs_script.specs.Outside as outside
-use Rattle.vs_script.specs.Play.{Event}
-use Rattle.vs_script.specs.Play as script
-use Rattle.vs_world.specs.Calls as call
+use Rattle.vs_script.specs.{Data.bytes_of, Outside.Host, Outside.Outside, Play.Event, Bounds.AreBounded, Bounds.IsBounded}
 use Rattle.vs_world.specs.{Calls.is_on, Calls.received_on, Calls.sent_on, Events.is_guest_cid, GuestSteps.flow_named}
-use Rattle.vs_world.specs.Plays.{AreRight, Line, after, is_given_right}
-use Rattle.vs_world.specs.Plays as world
-use Rattle.vs_world.specs.World.{World}
+use Rattle.vs_world.specs.{Plays.AreRight, Plays.Line, Plays.after, Plays.is_given_right, World.World}
 use Rattle.vs_world.proofs.Payloads.{either_none}
 use Rattle.vs_play.specs.{Answer.world_after, Lines.PlayWorld, Lines.event_played, Lines.host_line}
-use Rattle.vs_script.specs.Bounds.{AreBounded, IsBounded}
 use Rattle.vs_play_laws.specs.Said.{received_by, received_in, sent_by, sent_in}
 use Rattle.vs_pipes.proofs.Logs.{nothing_more}
+use Rattle.vs_script.specs.Outside as outside
+use Rattle.vs_script.specs.Play as script
+use Rattle.vs_world.specs.Calls as call
+use Rattle.vs_world.specs.Plays as world
 
 -- The line of the world that an event line is, at a moment. That time passes is none.
 abbrev lines_around : Outside → ℕ → List Line
@@ -79,7 +77,7 @@ world_is (e ∷ es) p =
 port_right : (port : ℕ) → port ≤ 4294967295 → nat_lt port (2 ^ 32) ≡ true
 port_right port fits = grind (arith, nat_tests)
 
-pub cid_right : (cid : ℕ) → 3 ≤ cid → cid ≤ 4294967294 → is_guest_cid cid ≡ true
+pub cid_right : (cid : ℕ) → GUEST_CID_MIN ≤ cid → cid ≤ GUEST_CID_MAX → is_guest_cid cid ≡ true
 cid_right cid low high = grind (arith, nat_tests)
 
 host_right : (host : Host) → is_given_right (host_line host) ≡ true

@@ -6,34 +6,30 @@ use Rattle.vs_contents.specs.CallTree.{Done, Ask, bind, for_each, played, while_
 use Rattle.vs_contents.proofs.Leads.{AllEnds, ends_bind, ends_weaker}
 use Rattle.vs_conn.specs.declared.end.Verdict.{Verdict}
 use Rattle.vs_flow.specs.Table.{entry_under, slots}
-use Rattle.vs_header.specs.Packet.{header_of}
-use Rattle.vs_header.specs.declared.Header.{Header}
+use Rattle.vs_header.specs.{Packet.header_of, declared.Header.Header}
 use Rattle.vs_ring_port.specs.{Chains.bytes_in, Contents.PublishCid, Contents.Return, Contents.Take, Lists.chain_with}
-use Rattle.vs_ring_port.specs.declared.device_ring.Chain.{Chain}
-use Rattle.vs_ring_port.specs.declared.failure.Failure.{Failure}
-use Rattle.vs_ring_port.specs.declared.failure.Failure.TheVariants as failure
-use Rattle.vs_ring_port.specs.declared.queue.Queue.TheVariants as q
+use Rattle.vs_ring_port.specs.{declared.device_ring.Chain.Chain, declared.failure.Failure.Failure}
 use Rattle.vs_device_parts.specs.{Calls.CloseStream, Calls.DeviceTree, Calls.Ring, Connections.stream_closed, Connections.with_connection}
 use Rattle.vs_device_parts.specs.{State.DeviceEntry, State.DeviceState, Transmitting.failing, Transmitting.on_next, Transmitting.on_packet}
-use Rattle.vs_device_parts.specs.Turns.{after_reset, close_slot}
-use Rattle.vs_device_parts.specs.declared.answers.Taken.{Taken}
-use Rattle.vs_device_parts.specs.declared.answers.Taken.TheVariants as taken
-use Rattle.vs_device_parts.specs.declared.limits.TheConstants.{REPLIES}
-use Rattle.vs_proxy_parts.specs.Handshakes.{shake_hands, streams_of}
-use Rattle.vs_proxy_parts.specs.State.{ProxyState, Turning, start, with_device}
+use Rattle.vs_device_parts.specs.{Turns.after_reset, Turns.close_slot, declared.answers.Taken.Taken}
+use Rattle.vs_limits.specs.declared.TheConstants.{DEVICE_REPLIES}
+use Rattle.vs_proxy_parts.specs.{State.ProxyState, State.Turning, State.start, State.with_device, declared.answers.Turn.Turn}
 use Rattle.vs_proxy_parts.specs.Turns.{close_handshake, event_stage, fill_stage, proxy_reset_of, pump_stage, reset_with, take_one}
 use Rattle.vs_proxy_parts.specs.Turns.{take_stage, tick_stage, turned, unless_failed}
-use Rattle.vs_proxy_parts.specs.declared.answers.Turn.{Turn}
-use Rattle.vs_world.specs.{Answers.Around, Answers.answer_around, Events.is_at_rest, Pages.AllHold, Pages.PageHolds}
+use Rattle.vs_proxy_parts.specs.Handshakes.{shake_hands, streams_of}
+use Rattle.vs_world.specs.{Answers.Around, Answers.answer_around, Events.is_at_rest, Pages.AllHold, Pages.PageHolds, Steps.Leads}
 use Rattle.vs_world.specs.Plays.{Line, Guest, Poll, TurnAt, ResetTo, Client, HostListen, HostUnlisten, HostWrite, HostAllow, HostEnd}
 use Rattle.vs_world.specs.Plays.{HostClosed, HostFail, AreRight, after, line, reset_line, turn_line}
-use Rattle.vs_world.specs.{Steps.Leads, World.World, World.around}
-use Rattle.vs_world.proofs.DeviceLeads.{Does, EndsFine, device_bind, ends_played, plays, with_proxy}
+use Rattle.vs_world.specs.World.{World, around}
 use Rattle.vs_world.proofs.{FillStage.fill_stage_does, Opening.run_goes, PumpStage.pump_stage_does}
 use Rattle.vs_world.proofs.{ScriptLines.line_leads, ScriptLines.line_rests, Sound.IsWell}
-use Rattle.vs_world.proofs.TakeStage.{counts, event_stage_does, take_goes, take_stage_leads}
 use Rattle.vs_world.proofs.{TickStage.shake_does, TickStage.tick_stage_does, TickStage.turning_at, ResetTables.all_ends}
+use Rattle.vs_world.proofs.DeviceLeads.{Does, EndsFine, device_bind, ends_played, plays, with_proxy}
+use Rattle.vs_world.proofs.TakeStage.{counts, event_stage_does, take_goes, take_stage_leads}
 use Rattle.vs_device_log.proofs.{Transmitting.header_is, Ringing.same_self}
+use Rattle.vs_ring_port.specs.declared.failure.Failure.TheVariants as failure
+use Rattle.vs_ring_port.specs.declared.queue.Queue.TheVariants as q
+use Rattle.vs_device_parts.specs.declared.answers.Taken.TheVariants as taken
 
 abbrev IsFine : ProxyState → Type 0
 IsFine p = p.device.failed ≡ None
@@ -96,7 +92,7 @@ module _ (w : World) (t : Turning) where
         enough = let long = one.long in grind (arith, nat_tests, long)
 
   one_ends : (given : List (List ℕ)) (b : Bool) → AllHold given
-      → (let v = taking given in EndsOne (plays (bind (cond b (Done (v.proxy.device, taken.RepliesFull REPLIES)) (Ask (Ring (Take q.Tx))
+      → (let v = taking given in EndsOne (plays (bind (cond b (Done (v.proxy.device, taken.RepliesFull DEVICE_REPLIES)) (Ask (Ring (Take q.Tx))
       (λ answer. on_next answer v.proxy.device))) (counts (turning_at v t))) v).0)
   one_ends given true hold = λ fine. refl
   one_ends [] false hold = λ fine. refl
@@ -111,7 +107,7 @@ one_fine w t fine hold = by w.proxy.device.failed fine
     by : (o : Option Failure) → o ≡ None → let v = record w { proxy = with_device (record w.proxy.device { failed = o }) w.proxy } in
         IsFine (plays (take_one (turning_at v t)) v).0.0.state
     by None is = let v = record w { proxy = with_device (record w.proxy.device { failed = None }) w.proxy } in
-        one_ends w t w.rings.lists.tx.given (nat_le REPLIES (length w.proxy.device.replies)) hold (take_goes v t refl).fine
+        one_ends w t w.rings.lists.tx.given (nat_le DEVICE_REPLIES (length w.proxy.device.replies)) hold (take_goes v t refl).fine
     by (Some f) is = absurd cc
 
 module _ (fresh : Type 0) where

@@ -6,12 +6,13 @@ ghost use Rattle.vs_outside.specs.Host.{IsOpen};
 ghost use Rattle.vs_outside.specs.declared.host_net.StreamRead.TheVariants as read;
 ghost use Rattle.vs_uds.specs.declared.connect.TheConstants.{CONNECT_MAX};
 ghost use Rattle.vs_device_parts.specs.{Calls.CloseStream, Playing.AllowsOnHost, Playing.MayRunOnHost, Playing.RunsOnHost};
-ghost use Rattle.vs_proxy_parts.specs.declared.limits.TheConstants.{HANDSHAKES};
+ghost use Rattle.vs_limits.specs.declared.TheConstants.{HANDSHAKES};
 ghost use Rattle.vs_proxy_parts.specs.Handshakes.{byte_read, handshake_on, may_open, read_byte, read_line, shake_hands};
 ghost use Rattle.vs_proxy_parts.specs.{State.Handshake, Turning.CountsFew, Turning.connecting, Turning.read_lines, Turning.turning_of};
 
 use crate::proxy::Proxy;
-use vs_flow::{ASSIGNED_LAST, Flow};
+use vs_flow::Flow;
+use vs_limits::ASSIGNED_LAST;
 use vs_outside::{HostNet, StreamRead};
 use vs_proxy_parts::host_calls::{close, read_byte};
 use vs_proxy_parts::tally::Tally;

@@ -1,6 +1,7 @@
 //! The proxy: the device, the handshakes of the host's clients, and the host ports that it gives.
 
 ghost use Rattle.std.specs.Prelude.{◌≡◌, ◌≤◌, ℕ, [], Some, IfOk, length};
+ghost use Rattle.vs_limits.specs.declared.TheConstants.{GUEST_CID_MIN, GUEST_CID_MAX};
 ghost use Rattle.vs_outside.specs.Host.{HostContents};
 ghost use Rattle.vs_ring_port.specs.EndLog.{EndLog};
 ghost use Rattle.vs_uds.specs.declared.path.TheConstants.{BASE_MAX};
@@ -13,7 +14,7 @@ ghost use Rattle.vs_proxy_parts.specs.Turns.{new_proxy};
 use std::alloc::{AllocError, Global};
 use std::marker::Model;
 use vs_device::{Counters, Device};
-use vs_flow::ASSIGNED_FIRST;
+use vs_limits::ASSIGNED_FIRST;
 use vs_proxy_parts::handshakes::Handshakes;
 
 /// A proxy between the guest's socket device and the host's sockets (Firecracker's vsock documentation). The ring and the host are lent to
@@ -27,7 +28,7 @@ pub struct Proxy {
 
 impl Model for Proxy {
     ghost use Rattle.std.specs.Prelude.{◌≤◌, ◌+◌};
-    ghost use Rattle.vs_flow.specs.declared.flow.TheConstants.{ASSIGNED_LAST};
+    ghost use Rattle.vs_limits.specs.declared.TheConstants.{ASSIGNED_LAST};
     ghost use Rattle.vs_proxy_parts.specs.State.{ProxyState};
 
     ghost Value = { ProxyState };
@@ -41,7 +42,7 @@ impl Proxy {
     /// A proxy without connections and handshakes, for the guest with a CID from 3 to 4,294,967,294. The base path is that of the host's
     /// sockets, and has 1 to 90 bytes. All its memory is taken here. The only error is want of memory.
     pub fn new(alloc: Global, cid: u64, base: &str) -> Result<Proxy, AllocError>
-        requires cid { (3 ≤ cid) × (cid ≤ 4294967294) }
+        requires cid { (GUEST_CID_MIN ≤ cid) × (cid ≤ GUEST_CID_MAX) }
         requires base { (1 ≤ length base.now) × (length base.now ≤ BASE_MAX) }
         ensures state { IfOk result (λ proxy. proxy ≡ new_proxy cid base.now) }
         // With a host, and with a ring on which nothing passed, it is in order.

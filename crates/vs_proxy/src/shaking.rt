@@ -3,15 +3,15 @@
 ghost use Rattle.std.specs.Prelude.{◌≡◌, ◌≤◌, ◌<◌, ◌+◌, ◌^◌, Some, false};
 ghost use Rattle.std.specs.Option.{option_map_or};
 ghost use Rattle.vs_device_parts.specs.{Playing.MayRunOnHost, Playing.RunsOnHost, Connections.is_late};
-ghost use Rattle.vs_proxy_parts.specs.declared.limits.TheConstants.{HANDSHAKES};
+ghost use Rattle.vs_limits.specs.declared.TheConstants.{HANDSHAKES};
 ghost use Rattle.vs_proxy_parts.specs.Handshakes.{accept_one, dropping, handshake_on, tick_handshake, tick_handshakes};
 ghost use Rattle.vs_proxy_parts.specs.Turning.{CountsFew, turning_of};
 
 use crate::proxy::Proxy;
 use vs_device::TIMEOUT;
+use vs_limits::HANDSHAKES;
 use vs_outside::{Accepted, HostNet};
 use vs_proxy_parts::host_calls::{accept, close};
-use vs_proxy_parts::limits::HANDSHAKES;
 use vs_proxy_parts::tally::Tally;
 
 impl Proxy {

@@ -4,9 +4,8 @@ ghost use Rattle.std.specs.Prelude.{◌≡◌, ◌≤◌, ◌<◌, ◌+◌, ◌*
 ghost use Rattle.vs_conn.specs.declared.end.TheConstants.{OWED_MAX};
 ghost use Rattle.vs_ring_port.specs.declared.device_ring.Chain.{Chain};
 ghost use Rattle.vs_uds.specs.declared.connect.TheConstants.{CONNECT_MAX};
-ghost use Rattle.vs_device_parts.specs.declared.limits.TheConstants.{CONNECTIONS, REPLIES};
+ghost use Rattle.vs_limits.specs.declared.TheConstants.{DEVICE_CONNECTIONS, DEVICE_REPLIES, HANDSHAKES};
 ghost use Rattle.vs_device_parts.specs.Playing.{IsItsRing, MayRun, MayRunOnHost, MayRunOnRing, Runs, RunsOnHost, RunsOnRing, situation};
-ghost use Rattle.vs_proxy_parts.specs.declared.limits.TheConstants.{HANDSHAKES};
 ghost use Rattle.vs_proxy_parts.specs.{Handshakes.shake_hands, Turning.CountsFew, Turning.turning_of};
 ghost use Rattle.vs_proxy_parts.specs.Turns.{event_stage, fill_stage, pump_stage, take_one, take_stage, tick_stage, took_packet};
 ghost use Rattle.vs_proxy_parts.specs.Turns.{unless_failed};
@@ -162,7 +161,7 @@ impl Proxy {
         requires none { tally.old.put ≡ 0 }
         requires few { tally.old.read ≤ CONNECT_MAX * HANDSHAKES }
         requires may { MayRun (unless_failed fill_stage (turning_of self.old tally.old)) (situation (R.contents ring.old) (H.contents host.old) (H.faults host.old)) }
-        ensures opened { self.new.device.failed ≡ None → CountsFew 0 (REPLIES + (OWED_MAX + 1) * CONNECTIONS) self.old.device self.new.device }
+        ensures opened { self.new.device.failed ≡ None → CountsFew 0 (DEVICE_REPLIES + (OWED_MAX + 1) * DEVICE_CONNECTIONS) self.old.device self.new.device }
         ensures ring { IsItsRing (R.held ring.new) self.new.device }
         ensures calls { Runs (unless_failed fill_stage (turning_of self.old tally.old)) (situation (R.contents ring.old) (H.contents host.old) (H.faults host.old)) (turning_of self.new tally.new) (situation (R.contents ring.new) (H.contents host.new) (H.faults host.new)) }
     {

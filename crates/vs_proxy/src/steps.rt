@@ -3,6 +3,7 @@
 
 ghost use Rattle.std.specs.Prelude.{◌≡◌, ◌≤◌, ℕ, Bool, List, Contains, is_some};
 ghost use Rattle.std.specs.Option.{ForSome};
+ghost use Rattle.vs_limits.specs.declared.TheConstants.{GUEST_CID_MIN, GUEST_CID_MAX};
 ghost use Rattle.vs_outside.specs.Host.{HostContents};
 ghost use Rattle.vs_ring_port.specs.declared.queue.Queue.TheVariants.{Event, Rx, Tx};
 ghost use Rattle.vs_device_laws.specs.Streams.{HasStreams};
@@ -219,7 +220,7 @@ pub fn reset<R: DeviceRing, H: HostNet>(
     host: &mut H,
     cid: u64,
 ) -> Result<(), Failure>
-    requires cid { (3 ≤ cid) × (cid ≤ 4294967294) }
+    requires cid { (GUEST_CID_MIN ≤ cid) × (cid ≤ GUEST_CID_MAX) }
     requires ring { IsAmong (R.held ring.old) proxy.old.device }
     requires may { MayRun (proxy_reset_of cid proxy.old) (situation (R.contents ring.old) (H.contents host.old) (H.faults host.old)) }
     ensures ring { IsAmong (R.held ring.new) proxy.new.device }

@@ -3,7 +3,7 @@
 ghost use Rattle.std.specs.Prelude.{◌≡◌, ◌≤◌, ◌<◌, ◌+◌, ◌^◌, ℕ, List, Contains, length, [], true, Some, None, IfErr, OnErr, OnOk, Err};
 ghost use Rattle.std.specs.Option.{ForSome};
 ghost use Rattle.vs_contents.specs.CallTree.{Leads, for_each};
-ghost use Rattle.vs_history.specs.declared.TheConstants.{BUF_ALLOC};
+ghost use Rattle.vs_limits.specs.declared.TheConstants.{BUF_ALLOC, GUEST_CID_MIN, GUEST_CID_MAX};
 ghost use Rattle.vs_ring_port.specs.EndLog.{EndLog};
 ghost use Rattle.vs_ring_port.specs.declared.failure.Failure.{Failure};
 ghost use Rattle.vs_device_parts.specs.Playing.{IsItsRing, MayRun, MayRunOnHost, Runs, RunsOnHost, situation};
@@ -98,7 +98,7 @@ impl Proxy {
         host: &mut H,
         cid: u64,
     ) -> Result<(), Failure>
-        requires cid { (3 ≤ cid) × (cid ≤ 4294967294) }
+        requires cid { (GUEST_CID_MIN ≤ cid) × (cid ≤ GUEST_CID_MAX) }
         requires ring { IsItsRing (R.held ring.old) self.old.device }
         requires order { (first : ℕ) × IsInOrder first self.old (situation (R.contents ring.old) (H.contents host.old) (H.faults host.old)) }
         ensures ring { IsItsRing (R.held ring.new) self.new.device }
@@ -130,7 +130,7 @@ impl Proxy {
         host: &mut H,
         cid: u64,
     ) -> Result<(), Failure>
-        requires cid { (3 ≤ cid) × (cid ≤ 4294967294) }
+        requires cid { (GUEST_CID_MIN ≤ cid) × (cid ≤ GUEST_CID_MAX) }
         requires may { MayRun (proxy_reset_of cid self.old) (situation (R.contents ring.old) (H.contents host.old) (H.faults host.old)) }
         ensures ring { IsItsRing (R.held ring.old) self.old.device → IsItsRing (R.held ring.new) self.new.device }
         ensures held { R.held ring.new ≡ R.held ring.old }

@@ -17,10 +17,11 @@ use Rattle.vs_ring_port.specs.{declared.device_ring.Next.Next, declared.failure.
 use Rattle.vs_uds.specs.Path.{path_of}
 use Rattle.vs_wrap.specs.Wrap.{counted}
 use Rattle.vs_device_parts.specs.{Calls.CloseStream, Calls.Dial, Calls.DeviceTree, Calls.Ring, State.DeviceEntry, State.DeviceState}
-use Rattle.vs_device_parts.specs.{Streams.closing, Streams.leaving, declared.answers.Taken.Taken, declared.limits.TheConstants.REPLIES}
+use Rattle.vs_device_parts.specs.{Streams.closing, Streams.leaving, declared.answers.Taken.Taken}
 use Rattle.vs_device_parts.specs.Connections.{after_leaving, stream_closed, with_connection, with_reply}
 use Rattle.vs_device_parts.specs.Transmitting.{dial_answered, failing, heard, on_header, on_known, on_next, on_packet, on_unknown, refused}
 use Rattle.vs_device_parts.specs.Transmitting.{take_tx_of, try_request, unknown_why}
+use Rattle.vs_limits.specs.declared.TheConstants.{DEVICE_REPLIES}
 use Rattle.vs_proxy_bytes.specs.Judged.{AreUnmoved, IsAnswered, IsJudged, OwesReset, delivered_in}
 use Rattle.vs_proxy_bytes.specs.Made.{Account, Made, MayGet, account_of, header_in, new_account, shut}
 use Rattle.vs_proxy_bytes.proofs.Keeping.{Keeps, keeps_then, made}
@@ -271,7 +272,7 @@ next_judged next.None s calls = (refl, λ id. refl)
 next_judged (next.Failed f) s calls = (refl, refl, λ id. refl)
 
 pub take_tx_judged : (s : DeviceState) (calls : List Made) → Keeps (Judges s calls) (take_tx_of s) calls
-take_tx_judged s calls = by s.failed refl (nat_le REPLIES (length s.replies))
+take_tx_judged s calls = by s.failed refl (nat_le DEVICE_REPLIES (length s.replies))
   where
     takes : DeviceTree (DeviceState × Taken)
     takes = Ask (Ring (Take Tx)) (λ answer. on_next answer s)
@@ -280,7 +281,7 @@ take_tx_judged s calls = by s.failed refl (nat_le REPLIES (length s.replies))
         → Keeps (Judges s calls) (elim o [
           | Some f ↦ Done (s, taken.Failed f)
           | None ↦ cond b
-              (Done (s, taken.RepliesFull REPLIES)) takes
+              (Done (s, taken.RepliesFull DEVICE_REPLIES)) takes
         ]) calls
     by (Some f) is b = (is, refl, λ id. refl)
     by None is true = (refl, refl)

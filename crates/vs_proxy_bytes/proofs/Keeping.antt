@@ -1,7 +1,7 @@
 -- What a conversation keeps: what holds at each of its ends, of what it leaves and of the calls made.
 use Rattle.std.proofs.Common.{◌≡◌, ℕ, ◌≤◌, zero, suc, Bool, true, false, List, [], ◌∷◌, Some, subst, sym}
 use Rattle.vs_contents.specs.CallTree.{Done, Ask, bind, for_each, while_up_to, Leads}
-use Rattle.vs_flow.specs.declared.flow.TheConstants.{ASSIGNED_LAST}
+use Rattle.vs_limits.specs.declared.TheConstants.{ASSIGNED_LAST}
 use Rattle.vs_device_parts.specs.Calls.{Call, Answer, DeviceTree, Ring, Accept, Dial, Label, ReadStream, WriteStream, ShutWrite}
 use Rattle.vs_device_parts.specs.Calls.{CloseStream}
 use Rattle.vs_proxy_bytes.specs.{Made.Account, Made.Made, Made.MayGet, Made.Makes, Made.account_of, Tied.IsWhole, Tied.reading_account}

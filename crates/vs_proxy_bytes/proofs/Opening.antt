@@ -5,10 +5,10 @@ use Rattle.std.proofs.lemmas.List.Elements.{All-push}
 use Rattle.std.specs.{List.All, List.AllPairs, Option.option_map}
 use Rattle.vs_conn.specs.End.{asked}
 use Rattle.vs_contents.specs.CallTree.{Done, Ask, bind, for_each}
-use Rattle.vs_flow.specs.{declared.flow.Flow.Flow, declared.flow.TheConstants.ASSIGNED_LAST, declared.table.TableFault.TableFault}
+use Rattle.vs_flow.specs.{declared.flow.Flow.Flow, declared.table.TableFault.TableFault}
 use Rattle.vs_flow.specs.Table.{IsTable, Table, emptied, entry_under, next_entry, refusal, slots}
+use Rattle.vs_limits.specs.declared.TheConstants.{ASSIGNED_LAST, BUF_ALLOC}
 use Rattle.vs_flow.proofs.Tables.{accepted, with_value_sound}
-use Rattle.vs_history.specs.declared.TheConstants.{BUF_ALLOC}
 use Rattle.vs_ring_port.specs.{Contents.PublishCid, declared.failure.Failure.Failure}
 use Rattle.vs_device_parts.specs.{State.DeviceConnection, State.DeviceEntry, State.DeviceState, Streams.closing}
 use Rattle.vs_device_parts.specs.Connections.{new_connection, stream_closed, with_client, with_connection}

@@ -12,8 +12,9 @@ use Rattle.vs_ring_port.specs.{Contents.Take, declared.device_ring.Chain.Chain, 
 use Rattle.vs_ring_port.specs.{declared.failure.Failure.Failure, declared.queue.Queue.TheVariants.Tx}
 use Rattle.vs_device_parts.specs.{Calls.Answer, Calls.DeviceTree, Calls.Ring, State.DeviceEntry, State.DeviceState}
 use Rattle.vs_device_parts.specs.{Receiving.fill_rx_of, Receiving.pay_event_of, Streams.pump_of, Streams.tick_of, Turns.reset_of}
-use Rattle.vs_device_parts.specs.{declared.answers.Taken.Taken, declared.limits.TheConstants.REPLIES}
 use Rattle.vs_device_parts.specs.Transmitting.{heard, on_header, on_known, on_next, on_packet, on_unknown, take_tx_of, try_request}
+use Rattle.vs_device_parts.specs.declared.answers.Taken.{Taken}
+use Rattle.vs_limits.specs.declared.TheConstants.{DEVICE_REPLIES}
 use Rattle.vs_proxy_parts.specs.{State.ProxyState, State.Turning, State.start, declared.answers.Turn.Turn}
 use Rattle.vs_proxy_parts.specs.Turns.{close_handshake, device_after, event_stage, fill_stage, proxy_reset_of, pump_stage, reset_with}
 use Rattle.vs_proxy_parts.specs.Turns.{take_one, take_stage, tick_stage, took_packet, turn_of, turned, unless_failed}
@@ -92,14 +93,14 @@ once_next next.None s = tt
 once_next (next.Failed f) s = tt
 
 once_take : (s : DeviceState) → IsOnce (take_tx_of s)
-once_take s = by s.failed (nat_le REPLIES (length s.replies))
+once_take s = by s.failed (nat_le DEVICE_REPLIES (length s.replies))
   where
     takes : DeviceTree (DeviceState × Taken)
     takes = Ask (Ring (Take Tx)) (λ answer. on_next answer s)
 
     by : (o : Option Failure) (b : Bool) → IsOnce (elim o [
       | Some f ↦ Done (s, taken.Failed f)
-      | None ↦ cond b (Done (s, taken.RepliesFull REPLIES)) takes
+      | None ↦ cond b (Done (s, taken.RepliesFull DEVICE_REPLIES)) takes
     ])
     by (Some f) b = tt
     by None true = tt

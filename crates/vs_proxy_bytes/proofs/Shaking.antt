@@ -5,7 +5,8 @@ use Rattle.std.proofs.Common.{length, nat_lt, Option, Some, None, refl, sym, ap,
 use Rattle.std.proofs.lemmas.List.{append-nil}
 use Rattle.std.specs.List.{All}
 use Rattle.vs_contents.specs.CallTree.{Done, Ask, for_each}
-use Rattle.vs_flow.specs.{Flow.host_flow, Table.has_place, declared.flow.Flow.Flow, declared.flow.TheConstants.ASSIGNED_LAST}
+use Rattle.vs_flow.specs.{Flow.host_flow, Table.has_place, declared.flow.Flow.Flow}
+use Rattle.vs_limits.specs.declared.TheConstants.{ASSIGNED_LAST, HANDSHAKES}
 use Rattle.vs_outside.specs.{declared.host_net.Accepted.Accepted, declared.host_net.StreamRead.StreamRead}
 use Rattle.vs_pipes.proofs.Hands.{ends_by, no_line, with_all, with_apart, without_after, without_all, without_none, without_pairs}
 use Rattle.vs_pipes.proofs.Lines.{line_ends, line_whole}
@@ -17,7 +18,6 @@ use Rattle.vs_proxy_parts.specs.Handshakes.{accept_answered, accept_one, byte_re
 use Rattle.vs_proxy_parts.specs.Handshakes.{may_open, opening, read_byte, read_line, shake_hands, streams_of, tick_handshake}
 use Rattle.vs_proxy_parts.specs.Handshakes.{tick_handshakes, with_line, without_handshake, without_stream}
 use Rattle.vs_proxy_parts.specs.State.{Handshake, ProxyState, Turning, with_device}
-use Rattle.vs_proxy_parts.specs.declared.limits.TheConstants.{HANDSHAKES}
 use Rattle.vs_proxy_bytes.specs.Made.{Account, Made, MayGet, account_of, is_of, new_account, payload_put, payload_taken, shut, with_taken}
 use Rattle.vs_proxy_bytes.specs.Tied.{AccountsFor, AgreesWith, IsWhole, reading_account}
 use Rattle.vs_proxy_bytes.proofs.{Accounts.Changes, Accounts.changes, Accounts.comes, Closing.Has}

@@ -11,7 +11,7 @@ use Rattle.vs_flow.specs.declared.flow.Flow.{Flow}
 use Rattle.vs_flow.proofs.{Entries.same_flow_true, Lookups.entry_of_found, Tables.accepted}
 use Rattle.vs_header.specs.{Op.op_number, Packet.header_of, declared.Header.Header, declared.TheConstants.HEADER_LEN}
 use Rattle.vs_header.specs.{declared.Op.TheVariants.Request, declared.Kind.TheVariants.Stream}
-use Rattle.vs_history.specs.declared.TheConstants.{BUF_ALLOC}
+use Rattle.vs_limits.specs.declared.TheConstants.{BUF_ALLOC, DEVICE_REPLIES}
 use Rattle.vs_outside.specs.declared.host_net.Dialed.{Dialed}
 use Rattle.vs_page.specs.{Log.Device, Log.flow_to_host, Open.is_dropped}
 use Rattle.vs_pipes.specs.Streamed.{gives_in}
@@ -21,11 +21,10 @@ use Rattle.vs_ring_port.specs.{Contents.Read, Contents.Return, Contents.Take, de
 use Rattle.vs_ring_port.specs.{declared.device_ring.Next.Next, declared.failure.Failure.Failure, declared.queue.Queue.TheVariants.Tx}
 use Rattle.vs_uds.specs.Path.{path_of}
 use Rattle.vs_wrap.specs.Wrap.{counted}
-use Rattle.vs_device_parts.specs.{declared.answers.Taken.Taken, declared.limits.TheConstants.REPLIES}
-use Rattle.vs_device_parts.specs.{State.DeviceConnection, State.DeviceEntry, State.DeviceState, Streams.leaving}
+use Rattle.vs_device_parts.specs.{declared.answers.Taken.Taken, State.DeviceConnection, State.DeviceEntry, State.DeviceState}
+use Rattle.vs_device_parts.specs.{Streams.leaving, Calls.Dial, Calls.DeviceTree, Calls.Ring}
 use Rattle.vs_device_parts.specs.Transmitting.{dial_answered, failing, heard, on_header, on_known, on_next, on_packet, on_unknown, refused}
 use Rattle.vs_device_parts.specs.Transmitting.{take_tx_of, try_request, unknown_why}
-use Rattle.vs_device_parts.specs.Calls.{Dial, DeviceTree, Ring}
 use Rattle.vs_device_parts.specs.Connections.{new_connection, with_connection, with_reply}
 use Rattle.vs_device_laws.proofs.Ends.{heard_over}
 use Rattle.vs_proxy_parts.specs.State.{Handshake}
@@ -244,13 +243,13 @@ module _ (hands : List Handshake) where
   keeps_on_next (next.Failed f) s calls x = x
 
   pub keeps_take_tx : (s : DeviceState) (calls : List Made) → Has hands s calls → Keeps HasFirst (take_tx_of s) calls
-  keeps_take_tx s calls x = by s.failed (nat_le REPLIES (length s.replies))
+  keeps_take_tx s calls x = by s.failed (nat_le DEVICE_REPLIES (length s.replies))
     where
       takes : DeviceTree (DeviceState × Taken)
       takes = Ask (Ring (Take Tx)) (λ answer. on_next answer s)
 
       by : (o : Option Failure) (b : Bool)
-          → Keeps HasFirst (elim o [ Some f ↦ Done (s, taken.Failed f) | None ↦ cond b (Done (s, taken.RepliesFull REPLIES)) takes ]) calls
+          → Keeps HasFirst (elim o [ Some f ↦ Done (s, taken.Failed f) | None ↦ cond b (Done (s, taken.RepliesFull DEVICE_REPLIES)) takes ]) calls
       by (Some f) b = x
       by None true = x
       by None false = λ answer fit. keeps_on_next answer s (made (Ring (Take Tx)) answer ∷ calls) x

@@ -3,20 +3,13 @@ use Rattle.std.proofs.Common.{◌≡◌, ℕ, ◌+◌, Bool, true, false, cond, 
 use Rattle.std.proofs.Common.{sym, subst}
 use Rattle.std.specs.Option.{ForSome}
 use Rattle.vs_contents.specs.CallTree.{Done, Ask, for_each}
-use Rattle.vs_flow.specs.Flow.{host_flow}
-use Rattle.vs_flow.specs.declared.flow.Flow.{Flow}
+use Rattle.vs_flow.specs.{Flow.host_flow, declared.flow.Flow.Flow}
+use Rattle.vs_outside.specs.{declared.host_net.Accepted.Accepted, declared.host_net.StreamRead.StreamRead}
 use Rattle.vs_outside.specs.Host.{IsOpen, accept_answer, after_accept, after_close, after_read}
-use Rattle.vs_outside.specs.declared.host_net.Accepted.{Accepted}
-use Rattle.vs_outside.specs.declared.host_net.Accepted.TheVariants as accepted
-use Rattle.vs_outside.specs.declared.host_net.StreamRead.{StreamRead}
-use Rattle.vs_outside.specs.declared.host_net.StreamRead.TheVariants as read
 use Rattle.vs_outside.proofs.Frames.{open-after_read, others-after_read}
-use Rattle.vs_uds.specs.ConnectLine.{connect_step}
-use Rattle.vs_uds.specs.declared.connect.TheConstants.{CONNECT_MAX}
-use Rattle.vs_uds.specs.declared.scan.Step.{Step}
-use Rattle.vs_uds.specs.declared.scan.Step.TheVariants as step
-use Rattle.vs_device_parts.specs.Calls.{Accept, Call, CloseStream, ReadStream, Situation, DeviceTree, Allows}
+use Rattle.vs_uds.specs.{ConnectLine.connect_step, declared.connect.TheConstants.CONNECT_MAX, declared.scan.Step.Step}
 use Rattle.vs_device_parts.specs.{Connections.is_late, Turns.open_of}
+use Rattle.vs_device_parts.specs.Calls.{Accept, Call, CloseStream, ReadStream, Situation, DeviceTree, Allows}
 use Rattle.vs_device_laws.specs.{Split.CanReach, Split.is_quiet, Streams.FindsStreams, Streams.HasStreams, Streams.IsFree}
 use Rattle.vs_device_laws.proofs.{Keeping.Keeps, Keeping.keeps_each, Keeping.keeps_then, Keeping.keeps_while, Opening.keeps_open}
 use Rattle.vs_device_laws.proofs.{Tables.has_moved, Tables.some_after, Tables.some_from, Writing.all_stay}
@@ -24,9 +17,12 @@ use Rattle.vs_proxy_parts.specs.Handshakes.{accept_answered, accept_one, byte_re
 use Rattle.vs_proxy_parts.specs.Handshakes.{may_open, opening, read_byte, read_line, shake_hands, streams_of, tick_handshake}
 use Rattle.vs_proxy_parts.specs.Handshakes.{tick_handshakes, with_line, without_handshake, without_stream}
 use Rattle.vs_proxy_parts.specs.State.{Handshake, ProxyState, Turning, with_device}
-use Rattle.vs_proxy_parts.specs.declared.limits.TheConstants.{HANDSHAKES}
-use Rattle.vs_proxy_laws.proofs.Hosts.{has_accepted, has_dropped, has_of, is_free}
+use Rattle.vs_limits.specs.declared.TheConstants.{HANDSHAKES}
 use Rattle.vs_proxy_laws.proofs.Lists.{ids, ids-push, ids-with_line, left_among, left_apart, not_left, on_stream}
+use Rattle.vs_proxy_laws.proofs.Hosts.{has_accepted, has_dropped, has_of, is_free}
+use Rattle.vs_outside.specs.declared.host_net.Accepted.TheVariants as accepted
+use Rattle.vs_outside.specs.declared.host_net.StreamRead.TheVariants as read
+use Rattle.vs_uds.specs.declared.scan.Step.TheVariants as step
 
 -- The device has its streams, beside those of the handshakes.
 abbrev pub FindsAll : ProxyState → Situation → Type 0

@@ -1,22 +1,19 @@
 -- A turn, stage by stage, and a reset.
 use Rattle.std.proofs.Common.{ℕ, ◌+◌, ◌<◌, ◌^◌, Bool, true, false, List, [], Option, Some, None, Result, Ok, Err, sym, subst, arith}
 use Rattle.vs_contents.specs.CallTree.{Done, for_each}
-use Rattle.vs_flow.specs.declared.flow.TheConstants.{ASSIGNED_FIRST}
-use Rattle.vs_ring_port.specs.Contents.{RingContents}
-use Rattle.vs_ring_port.specs.declared.failure.Failure.{Failure}
-use Rattle.vs_device_parts.specs.declared.answers.Filled.{Filled}
-use Rattle.vs_device_parts.specs.{Calls.DeviceTree, Receiving.fill_rx_of, Receiving.pay_event_of, State.DeviceState}
-use Rattle.vs_device_parts.specs.{Streams.pump_of, Streams.tick_of, Transmitting.take_tx_of, Turns.reset_of}
+use Rattle.vs_limits.specs.declared.TheConstants.{ASSIGNED_FIRST}
+use Rattle.vs_ring_port.specs.{Contents.RingContents, declared.failure.Failure.Failure}
+use Rattle.vs_device_parts.specs.{declared.answers.Filled.Filled, Calls.DeviceTree, Receiving.fill_rx_of, Receiving.pay_event_of}
+use Rattle.vs_device_parts.specs.{State.DeviceState, Streams.pump_of, Streams.tick_of, Transmitting.take_tx_of, Turns.reset_of}
 use Rattle.vs_device_log.specs.Honest.{IsFresh, IsWith}
+use Rattle.vs_device_log.proofs.Turning.{new_with, pay_keeps, pump_keeps, reset_keeps, tick_keeps}
 use Rattle.vs_device_log.proofs.Filling.{fill_keeps}
 use Rattle.vs_device_log.proofs.Keeping.{Goes, Keeps, keeps_each, keeps_then, keeps_while}
 use Rattle.vs_device_log.proofs.Transmitting.{take_keeps}
-use Rattle.vs_device_log.proofs.Turning.{new_with, pay_keeps, pump_keeps, reset_keeps, tick_keeps}
-use Rattle.vs_proxy_parts.specs.Handshakes.{shake_hands, streams_of, tick_handshakes}
-use Rattle.vs_proxy_parts.specs.State.{ProxyState, Turning, start, with_device}
+use Rattle.vs_proxy_parts.specs.{State.ProxyState, State.Turning, State.start, State.with_device, declared.answers.Turn.Turn}
 use Rattle.vs_proxy_parts.specs.Turns.{close_handshake, device_after, event_stage, fill_stage, filled, new_proxy, proxy_reset_of}
 use Rattle.vs_proxy_parts.specs.Turns.{pump_stage, reset_with, take_one, take_stage, tick_stage, took_packet, turn_of, unless_failed}
-use Rattle.vs_proxy_parts.specs.declared.answers.Turn.{Turn}
+use Rattle.vs_proxy_parts.specs.Handshakes.{shake_hands, streams_of, tick_handshakes}
 use Rattle.vs_proxy_log.specs.Honest.{IsProxyWith}
 use Rattle.vs_proxy_log.proofs.Shaking.{Turns, shakes, tick_all}
 

@@ -1,6 +1,6 @@
 -- Where a ring tells the device's log: the proxy and its ring.
 use Rattle.std.specs.Prelude.{ℕ, ◌≤◌}
-use Rattle.vs_flow.specs.declared.flow.TheConstants.{ASSIGNED_FIRST}
+use Rattle.vs_limits.specs.declared.TheConstants.{ASSIGNED_FIRST}
 use Rattle.vs_ring_port.specs.Contents.{RingContents}
 use Rattle.vs_device_log.specs.Honest.{IsWith}
 use Rattle.vs_proxy_parts.specs.State.{ProxyState}

@@ -5,13 +5,13 @@ ghost use Rattle.vs_uds.specs.ConnectLine.{connect_step};
 ghost use Rattle.vs_uds.specs.declared.scan.Step.TheVariants as step;
 ghost use Rattle.vs_proxy_parts.specs.Handshakes.{with_line, without_stream};
 ghost use Rattle.vs_proxy_parts.specs.State as spec;
-ghost use Rattle.vs_proxy_parts.specs.declared.limits.TheConstants.{HANDSHAKES};
+ghost use Rattle.vs_limits.specs.declared.TheConstants.{HANDSHAKES};
 
 use crate::handshake::Handshake;
-use crate::limits::HANDSHAKES;
 use arrayvec::ArrayVec;
 use std::alloc::{AllocError, Global};
 use std::marker::Model;
+use vs_limits::HANDSHAKES;
 use vs_uds::Step;
 
 /// The handshakes, at most 16.

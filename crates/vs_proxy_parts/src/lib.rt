@@ -6,5 +6,4 @@ pub mod answers;
 pub mod handshake;
 pub mod handshakes;
 pub mod host_calls;
-pub mod limits;
 pub mod tally;

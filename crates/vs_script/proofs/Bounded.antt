@@ -2,20 +2,18 @@
 use Rattle.std.proofs.Common.{◌≡◌, ◌≤◌, ◌&&◌, if◌then◌else◌, ℕ, nat_le, nat_lt, Bool, true, false, List, [], ◌∷◌, ◌++◌, map, length, Option}
 use Rattle.std.proofs.Common.{Some, None, Result, Ok, Err, codes, bytes_eq, refl, subst, arith}
 use Rattle.std.proofs.lemmas.Bool.Decides.{nat_tests}
+use Rattle.vs_limits.specs.declared.TheConstants.{GUEST_CID_MIN, GUEST_CID_MAX}
 use Rattle.vs_script.specs.{Bounds.AreBounded, Bounds.IsBounded, Text.is_empty, Text.words_of}
+use Rattle.vs_script.specs.{Outside.Outside, Outside.host_line, Outside.outside_line, Play.Event, Play.named_line, Play.play_line}
+use Rattle.vs_script.specs.{declared.fault.Refused.Refused, declared.fault.Why.Why, declared.fault.Why.TheVariants.BadNumber}
+use Rattle.vs_script.specs.{declared.outside.TheConstants.MAX_FILL, declared.words.TheConstants.MAX_BITS}
 use Rattle.vs_script.specs.Field.{Read, after, held, ending, word, is_numeral, number_in, number, port, id, content, only, named}
-use Rattle.vs_script.specs.Outside.{Outside, host_line, outside_line}
-use Rattle.vs_script.specs.Outside as outside
-use Rattle.vs_script.specs.Play.{Event, named_line, play_line}
-use Rattle.vs_script.specs.Play as script
 use Rattle.vs_script.specs.Script.{Saying, Plays, Runs, Attacks, chained, pushed, add_event, add_run, add_hostile, add_words, add_lines}
 use Rattle.vs_script.specs.Script.{lines_from, add_line, unless_refused, parse_of}
-use Rattle.vs_script.specs.declared.fault.{Refused.Refused, Why.Why}
-use Rattle.vs_script.specs.declared.fault.Why.TheVariants.{BadNumber}
-use Rattle.vs_script.specs.declared.outside.TheConstants.{MAX_FILL}
-use Rattle.vs_script.specs.declared.words.TheConstants.{MAX_BITS}
-use Rattle.vs_script.specs.declared.script.Command.TheVariants as command
 use Rattle.vs_script.specs.declared.script.TheConstants.{MAX_SCRIPT, MAX_LINE, MAX_EVENTS}
+use Rattle.vs_script.specs.Outside as outside
+use Rattle.vs_script.specs.Play as script
+use Rattle.vs_script.specs.declared.script.Command.TheVariants as command
 
 -- What is read has a property, where nothing is at fault.
 abbrev Holds : {X E : Type 0} → (X → Type 0) → Result X E → Type 0
@@ -89,7 +87,7 @@ IsBoundedAround line = IsBounded (script.Around line)
 outside_bounded : (name : List ℕ) (words : List (List ℕ)) → Holds IsBoundedAround (outside_line name words)
 outside_bounded name words =
     holds_if IsBoundedAround (bytes_eq name (codes "turn")) _ _ (holds_ending IsBoundedAround outside.Turn words tt)
-    (holds_if IsBoundedAround (bytes_eq name (codes "reset")) _ _ (number_alone 3 4294967294 IsBoundedAround outside.Reset words (λ cid is. is))
+    (holds_if IsBoundedAround (bytes_eq name (codes "reset")) _ _ (number_alone GUEST_CID_MIN GUEST_CID_MAX IsBoundedAround outside.Reset words (λ cid is. is))
     (holds_if IsBoundedAround (bytes_eq name (codes "tick")) _ _ (holds_always IsBoundedAround outside.Tick _ (λ ms. tt))
     (holds_if IsBoundedAround (bytes_eq name (codes "client")) _ _ (holds_ending IsBoundedAround outside.Client words tt)
     (holds_if IsBoundedAround (bytes_eq name (codes "host")) _ _

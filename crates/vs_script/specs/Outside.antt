@@ -1,14 +1,13 @@
 -- Lines on what surrounds the guest's driver: the device, the moment, and the programs of the host.
 use Rattle.std.specs.Prelude.{ℕ, if◌then◌else◌, List, codes, bytes_eq, Result, Err}
+use Rattle.vs_script.specs.{declared.fault.Why.Why, declared.fault.Why.TheVariants.BadWord, declared.outside.HostLine.HostLine}
+use Rattle.vs_script.specs.declared.outside.TheConstants.{MAX_FILL, MAX_TICK, MAX_ALLOW, MAX_FAIL}
 use Rattle.vs_script.specs.Data.{Content, content_of}
 use Rattle.vs_script.specs.Field.{after, ending, word, number, port, id, content, only, named}
-use Rattle.vs_script.specs.declared.fault.Why.{Why}
-use Rattle.vs_script.specs.declared.fault.Why.TheVariants.{BadWord}
-use Rattle.vs_script.specs.declared.outside.HostLine.{HostLine}
-use Rattle.vs_script.specs.declared.outside.HostLine.TheVariants as host
 use Rattle.vs_script.specs.declared.outside.OutsideLine.{OutsideLine}
+use Rattle.vs_limits.specs.declared.TheConstants.{GUEST_CID_MIN, GUEST_CID_MAX}
+use Rattle.vs_script.specs.declared.outside.HostLine.TheVariants as host
 use Rattle.vs_script.specs.declared.outside.OutsideLine.TheVariants as outside
-use Rattle.vs_script.specs.declared.outside.TheConstants.{MAX_FILL, CID_MIN, CID_MAX, MAX_TICK, MAX_ALLOW, MAX_FAIL}
 
 -- What programs of the host do.
 pub data Host : Type 0 where
@@ -74,7 +73,7 @@ host_line act words =
 abbrev pub outside_line : List ℕ → List (List ℕ) → Result Outside Why
 outside_line name words =
     if bytes_eq name (codes "turn") then ending Turn words
-    else if bytes_eq name (codes "reset") then named Reset (only (number CID_MIN CID_MAX) words)
+    else if bytes_eq name (codes "reset") then named Reset (only (number GUEST_CID_MIN GUEST_CID_MAX) words)
     else if bytes_eq name (codes "tick") then named Tick (only (number 0 MAX_TICK) words)
     else if bytes_eq name (codes "client") then ending Client words
     else if bytes_eq name (codes "host") then after (word words) (λ act rest. named OfHost (host_line act rest))

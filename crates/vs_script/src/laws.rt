@@ -8,7 +8,8 @@ ghost use Rattle.vs_script.specs.declared.script.TheConstants.{MAX_SCRIPT, MAX_L
 ghost use Rattle.vs_script.specs.declared.number.TheConstants.{MAX_DIGITS};
 ghost use Rattle.vs_script.specs.declared.words.TheConstants.{MAX_BITS};
 ghost use Rattle.vs_script.specs.declared.hex_word.TheConstants.{MAX_HEX};
-ghost use Rattle.vs_script.specs.declared.outside.TheConstants.{MAX_FILL, CID_MIN, CID_MAX, MAX_TICK, MAX_ALLOW, MAX_FAIL};
+ghost use Rattle.vs_script.specs.declared.outside.TheConstants.{MAX_FILL, MAX_TICK, MAX_ALLOW, MAX_FAIL};
+ghost use Rattle.vs_limits.specs.declared.TheConstants.{GUEST_CID_MIN, GUEST_CID_MAX};
 ghost use Rattle.vs_script.specs.declared.play.TheConstants.{MAX_RECV};
 ghost use Rattle.vs_script.specs.declared.app.TheConstants.{MAX_APP_FILL, MAX_APP_RECV};
 ghost use Rattle.vs_script.specs.declared.hostile.TheConstants.{BASE_ALIGN, MAX_BASE, MIN_MEMORY, MAX_MEMORY, MAX_BEFORE, MAX_LOOK};
@@ -17,7 +18,7 @@ ghost use Rattle.vs_script.specs.declared.hostile.TheConstants.{BASE_ALIGN, MAX_
 pub fn limits()
     ensures script { (MAX_SCRIPT ≡ 1048576) × (MAX_LINE ≡ 4200) × (MAX_EVENTS ≡ 20000) × (MAX_APPS ≡ 64) × (MAX_INSTRUCTIONS ≡ 1000) }
     ensures fields { (MAX_DIGITS ≡ 20) × (MAX_HEX ≡ 4096) × (MAX_BITS ≡ 3) × (MAX_FILL ≡ 65536) × (MAX_RECV ≡ 65536) }
-    ensures outside { (CID_MIN ≡ 3) × (CID_MAX ≡ 2 ^ 32 - 2) × (MAX_TICK ≡ 1000000) × (MAX_ALLOW ≡ 1000000) × (MAX_FAIL ≡ 1000) }
+    ensures outside { (GUEST_CID_MIN ≡ 3) × (GUEST_CID_MAX ≡ 2 ^ 32 - 2) × (MAX_TICK ≡ 1000000) × (MAX_ALLOW ≡ 1000000) × (MAX_FAIL ≡ 1000) }
     ensures apps { (MAX_APP_FILL ≡ 1000000) × (MAX_APP_RECV ≡ 1000000) }
     ensures hostile { (BASE_ALIGN ≡ 16) × (MAX_BASE ≡ 2 ^ 62) × (MIN_MEMORY ≡ 4096) × (MAX_MEMORY ≡ 1048576) × (MAX_BEFORE ≡ 10000)
         × (MAX_LOOK ≡ 64) }

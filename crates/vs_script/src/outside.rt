@@ -8,15 +8,10 @@ use crate::data::Data;
 use crate::fault::{LineFault, Why};
 use crate::words::{Words, is};
 use std::alloc::Global;
+use vs_limits::{GUEST_CID_MAX, GUEST_CID_MIN};
 
 /// The most bytes that a line of a play or of a hostile guest fills.
 pub const MAX_FILL: u32 = 65_536;
-
-/// The lowest CID of a guest.
-const CID_MIN: u32 = 3;
-
-/// The highest CID of a guest.
-const CID_MAX: u32 = 4_294_967_294;
 
 /// The most milliseconds that a `tick` lets pass.
 const MAX_TICK: u32 = 1_000_000;
@@ -70,7 +65,7 @@ pub fn outside_line(alloc: Global, name: &[u8], words: &mut Words) -> Result<Out
         words.end()?;
         Ok(OutsideLine::Turn)
     } else if is(name, b"reset") {
-        let cid = words.only_number32(CID_MIN, CID_MAX)?;
+        let cid = words.only_number32(GUEST_CID_MIN, GUEST_CID_MAX)?;
         Ok(OutsideLine::Reset { cid })
     } else if is(name, b"tick") {
         let ms = words.only_number32(0, MAX_TICK)?;

@@ -6,7 +6,7 @@ use Rattle.std.specs.List.{All}
 use Rattle.vs_conn.specs.{End.ConnectionEnd, End.CanSend, End.owes_of, End.paid_of, End.with_payload_sent, declared.end.Owed.Owed}
 use Rattle.vs_credit.specs.Credit.{unread_of}
 use Rattle.vs_flow.specs.Table.{Table, IsTable, revalued, with_value, without}
-use Rattle.vs_flow.specs.declared.flow.TheConstants.{ASSIGNED_FIRST}
+use Rattle.vs_limits.specs.declared.TheConstants.{ASSIGNED_FIRST}
 use Rattle.vs_flow.proofs.Tables.{with_value_sound, without_sound}
 use Rattle.vs_page.specs.{Log.Log, Log.Device, declared.log.LogEntry.TheVariants.PutEvent, declared.log.LogEntry.TheVariants.PutPacket}
 use Rattle.vs_replies.specs.declared.Reply.{Reply}

@@ -5,10 +5,10 @@ use Rattle.std.proofs.Common.{ap, inl, ◌∙◌, arith}
 use Rattle.vs_conn.specs.End.{ConnectionEnd, answering, asked, end_after, is_of, is_reset}
 use Rattle.vs_flow.specs.{Flow.host_flow, Flow.is_assigned, Table.entry_of, Table.has_place, Table.with_value, Table.without, Table.refusal}
 use Rattle.vs_flow.specs.declared.flow.Flow.{Flow}
-use Rattle.vs_flow.specs.declared.flow.TheConstants.{ASSIGNED_FIRST, ASSIGNED_LAST, HOST_CID}
+use Rattle.vs_limits.specs.declared.TheConstants.{ASSIGNED_FIRST, ASSIGNED_LAST, HOST_CID, BUF_ALLOC}
 use Rattle.vs_flow.proofs.Tables.{with_entry_sound, IsAccepted}
 use Rattle.vs_header.specs.{declared.Header.Header, declared.Kind.TheVariants.Stream}
-use Rattle.vs_history.specs.{Packets.is_request, Packets.is_rst, declared.TheConstants.BUF_ALLOC, declared.packet.Packet.Packet}
+use Rattle.vs_history.specs.{Packets.is_request, Packets.is_rst, declared.packet.Packet.Packet}
 use Rattle.vs_page.specs.{Held.FitsWire, Log.Log, Log.Device, Log.IsNextPacket, Log.flow_to_host, Log.side_by, Open.is_dropped}
 use Rattle.vs_page.specs.declared.log.LogEntry.TheVariants.{GotPacket}
 use Rattle.vs_replies.specs.Owed.{reply_to}
@@ -23,7 +23,7 @@ use Rattle.vs_world.proofs.DeviceSide.{DeviceHolds, FreshEntry, IsFresh, Kept, a
 use Rattle.vs_world.proofs.DeviceSide.{left_part, not_fresh, part_of, seated}
 use Rattle.vs_device_log.specs.Honest.{HoldsBytes}
 use Rattle.vs_device_log.proofs.Hearing.{still_new}
-use Rattle.vs_flow.proofs.Tables.{accepted as free_flow}
+use Rattle.vs_flow.proofs.Tables.accepted as free_flow
 
 -- What a packet leaves of a connection whose REQUEST isn't put.
 pub heard_fresh : (old c : DeviceConnection) (h : Header) → c.end ≡ end_after old.end h → c.ok_line ≡ old.ok_line → c.asked_at ≡ old.asked_at

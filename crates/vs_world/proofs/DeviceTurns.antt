@@ -17,7 +17,7 @@ use Rattle.vs_ring_port.specs.declared.queue.Queue.TheVariants.{Rx, Tx, Event}
 use Rattle.vs_matching.specs.Both.{IsSound, Seat}
 use Rattle.vs_device_parts.specs.{Calls.DeviceTree, Calls.Ring, Receiving.hold, Receiving.holding, State.DeviceState}
 use Rattle.vs_device_parts.specs.Steps.{chain_came, filling, header_came, puts_event, returns, takes_chain}
-use Rattle.vs_device_parts.specs.declared.limits.TheConstants.{REPLIES}
+use Rattle.vs_limits.specs.declared.TheConstants.{DEVICE_REPLIES}
 use Rattle.vs_world.specs.{Answers.Around, Answers.answer_around, Pages.AllHold, Pages.PageHolds, Pages.is_held}
 use Rattle.vs_world.proofs.{DeviceSide.DeviceHolds, DeviceSide.Kept, DeviceSide.seated, Wire.PutsFit, Wire.next_fits}
 use Rattle.vs_world.proofs.{Streams.StreamedIf, Streams.payload_in, Once.AreOnce}
@@ -150,7 +150,7 @@ module _ (driver : Seat) (first port : ℕ) (s : DeviceState) (a : Around) (soun
         enough_by one = let long = one.long in grind (arith, nat_tests, long)
 
     pub takes_tx : KeptNow (takes_chain Tx s)
-    takes_tx = by (nat_le REPLIES (length s.replies))
+    takes_tx = by (nat_le DEVICE_REPLIES (length s.replies))
       where
         by : (b : Bool) → KeptNow (cond b (Done s) (Ask (Ring (Take Tx)) (λ answer. chain_came answer s)))
         by true = still

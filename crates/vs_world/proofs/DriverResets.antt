@@ -1,14 +1,12 @@
 -- The driver takes a transport reset, and closes the connections that wait on a port.
+use Rattle.std.proofs.{lemmas.Bool.Decides.nat_tests, lemmas.List.append-nil, lemmas.List.Elements.All-push}
 use Rattle.std.proofs.Common.{◌≡◌, ℕ, suc, ◌+◌, ◌^◌, ◌<◌, ◌≤◌, ◌==◌, not, Bool, true, false, cond, List, [], ◌∷◌, ◌++◌, map, filter, refl}
 use Rattle.std.proofs.Common.{sym, ap, subst, ◌∙◌, arith, append_assoc, Contains}
 use Rattle.std.specs.List.{All}
-use Rattle.std.proofs.lemmas.Bool.Decides.{nat_tests}
-use Rattle.std.proofs.lemmas.List.{append-nil}
-use Rattle.std.proofs.lemmas.List.Elements.{All-push}
+use Rattle.vs_limits.specs.declared.TheConstants.{ASSIGNED_FIRST}
 use Rattle.vs_flow.specs.Table.{IsRising, IsTable, Table, without}
 use Rattle.vs_flow.proofs.{Entries.above_head, Entries.all_others, Entries.find_none, Entries.rising_tail, Tables.without_sound}
-use Rattle.vs_page.specs.Log.{Log, Driver}
-use Rattle.vs_page.specs.declared.log.LogEntry.TheVariants.{Mark}
+use Rattle.vs_page.specs.{Log.Log, Log.Driver, declared.log.LogEntry.TheVariants.Mark}
 use Rattle.vs_replies.specs.declared.Reply.{Reply}
 use Rattle.vs_matching.specs.{Both.Both, Both.IsSound, Both.Seat, Both.TakesReset, Ends.Ends, Ends.entries_of, Ends.replies_of}
 use Rattle.vs_driver_parts.specs.State.{DriverConnection, DriverEntry, DriverState, GoneConnection}
@@ -16,8 +14,8 @@ use Rattle.vs_driver_parts.specs.Connections.{after_close, after_leaving, after_
 use Rattle.vs_driver_parts.specs.Connections.{waits_no_more}
 use Rattle.vs_driver_parts.specs.Receiving.{after_reset, all_left, reset_reply, with_reply}
 use Rattle.vs_world.proofs.{Received.same_received, Receives.StillReceives, Receives.leaves, Receives.none_read}
-use Rattle.vs_world.proofs.DriverSide.{DriverHolds, Kept, close, end_in, held_in, kept_still, kept_then, seated}
 use Rattle.vs_world.proofs.{Entries.EntryFits, Entries.ReplyFits, Runs.keeps_sound, Runs.one_step, Wire.PutsFit}
+use Rattle.vs_world.proofs.DriverSide.{DriverHolds, Kept, close, end_in, held_in, kept_still, kept_then, seated}
 use Rattle.vs_world.specs.Pipes.{none_on, put_on}
 use Rattle.vs_pipes.proofs.Logs.{nothing_more}
 
@@ -179,7 +177,7 @@ module _ (device : Seat) (first : ℕ) where
             ends = subst (λ (t : Table DriverConnection). All (EntryFits end_in held_in) t.entries) (sym all.table)
                 (λ i d within. absurd (omega (arith, within)));
             owed = subst (λ (rs : List Reply). All ReplyFits rs) (sym all.replies) (replies_fit s.table.entries s.replies holds.owed holds.ends);
-            port = subst (λ (n : ℕ). n ≤ 1073741824) (sym all.next_port) holds.port;
+            port = subst (λ (n : ℕ). n ≤ ASSIGNED_FIRST) (sym all.next_port) holds.port;
             known = subst (λ (n : ℕ). n < 2 ^ 64) (sym all.cid) fits;
           };
           puts = puts;

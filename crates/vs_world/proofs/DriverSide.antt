@@ -1,50 +1,42 @@
 -- What the driver's small changes are among the steps of the two ends.
 use Rattle.std.proofs.Common.{◌≡◌, ℕ, suc, ◌+◌, ◌-◌, ◌^◌, ◌<◌, ◌≤◌, ◌==◌, min, Bool, true, false, cond, List, [], ◌∷◌, ◌++◌, length, drop}
-use Rattle.std.proofs.Common.{Contains, Option, Some, None, refl, sym, ap, subst, ◌∙◌, arith}
+use Rattle.std.proofs.Common.{Contains, Option, Some, None, refl, sym, ap, subst, ◌∙◌, arith, take}
+use Rattle.std.proofs.lemmas.List.{length-drop, append-nil}
 use Rattle.std.specs.List.{All}
-use Rattle.std.proofs.lemmas.List.{length-drop}
+use Rattle.vs_conn.specs.{declared.end.Owed.Owed, declared.end.State.State}
 use Rattle.vs_conn.specs.End.{ConnectionEnd, CanSend, owes_of, paid_of, wanting_credit, with_payload_sent, with_shut}
-use Rattle.vs_conn.specs.declared.end.Owed.{Owed}
-use Rattle.vs_conn.specs.declared.end.Owed.TheVariants as owed
-use Rattle.vs_conn.specs.declared.end.State.{State}
-use Rattle.vs_conn.specs.declared.end.State.TheVariants as state
-use Rattle.vs_flow.specs.Table.{Table, IsTable, without}
+use Rattle.vs_flow.specs.{Table.Table, Table.IsTable, Table.without, Flow.same_flow, declared.flow.Flow.Flow}
 use Rattle.vs_flow.proofs.Tables.{with_value_sound, without_sound}
-use Rattle.vs_page.specs.Log.{Log, Driver}
-use Rattle.vs_page.specs.declared.log.LogEntry.TheVariants.{PutPacket}
+use Rattle.vs_page.specs.{Log.Log, Log.Driver, declared.log.LogEntry.TheVariants.PutPacket}
 use Rattle.vs_replies.specs.declared.Reply.{Reply}
+use Rattle.vs_matching.specs.{Ends.Ends, Ends.FlowEnd, Ends.entries_of, Ends.replaced, Heard.route_of}
 use Rattle.vs_matching.specs.Both.{Both, Decides, Decision, Forwards, Shuts, Aborts, WantsCredit, IsSound, MayDecide, Pays, Replies, Seat}
-use Rattle.vs_matching.specs.{Both.Sends, Both.decided, Ends.Ends, Ends.FlowEnd, Ends.entries_of, Ends.replaced}
+use Rattle.vs_matching.specs.Both.{Sends, decided}
 use Rattle.vs_matching.specs.Steps.{HasEnd, left, paid, with_end, owed_on, payload_on, reply_on}
-use Rattle.vs_matching.specs.Heard.{route_of}
 use Rattle.vs_matching.proofs.{Slots.changed_slot, Slots.found_by, Slots.one_end, Slots.removed_slot, Tables.driver_begun}
+use Rattle.vs_driver_parts.specs.{Conversations.after_paying, Listening.with_waiting, Listening.without_id}
 use Rattle.vs_driver_parts.specs.State.{DriverConnection, DriverEntry, DriverState, GoneConnection, entry_known_as, gone_known_as}
 use Rattle.vs_driver_parts.specs.State.{is_known_as}
 use Rattle.vs_driver_parts.specs.Connections.{after_close, after_closing, after_leaving, after_read, after_recv, after_shut, after_shutdown}
 use Rattle.vs_driver_parts.specs.Connections.{entry_closed, entry_read, gone_closed, is_let_go, gone_as, paid_connection, shut_in}
 use Rattle.vs_driver_parts.specs.Connections.{waits_no_more, with_connection, all_gone_after_read, without_gone}
-use Rattle.vs_driver_parts.specs.{Conversations.after_paying, Listening.with_waiting, Listening.without_id}
-use Rattle.vs_driver_parts.specs.declared.limits.TheConstants.{LAST_PORT, SLOTS}
+use Rattle.vs_limits.specs.declared.TheConstants.{LAST_PORT, DRIVER_CONNECTIONS}
 use Rattle.vs_credit.specs.Credit.{unread_of}
 use Rattle.vs_history.specs.declared.packet.Packet.{Packet}
 use Rattle.vs_pipes.specs.Drains.{receives}
-use Rattle.vs_world.proofs.Gone.{closed_received}
-use Rattle.vs_pipes.proofs.Logs.{only_on, nothing_more}
-use Rattle.vs_pipes.proofs.Steps as steps
-use Rattle.vs_pipes.proofs.Steps.{comes_out, ended_goes, forwards_less, pays_less, shut_goes, stays_still}
-use Rattle.std.proofs.Common.{take}
+use Rattle.vs_world.proofs.{Gone.closed_received, Payloads.sent_empty, Payloads.sent_put, Runs.and_then, Runs.one_step, Runs.stays}
 use Rattle.vs_world.proofs.Receives.{Receives, StillReceives, after_put, changes, entry_reads, gone_reads, leaves, none_read, nothing_there}
 use Rattle.vs_world.proofs.Receives.{read_out, reads_of, said_as, then_reads}
-use Rattle.vs_world.proofs.Payloads.{sent_empty, sent_put}
 use Rattle.vs_world.proofs.Entries.{EntryFits, ReplyFits, fits_at, fits_with_value, fits_without}
-use Rattle.vs_world.proofs.Runs.{and_then, one_step, stays}
 use Rattle.vs_world.proofs.Wire.{PutsFit, RouteFits, owed_fits, payload_fits, reset_fits}
+use Rattle.vs_pipes.proofs.Steps.{comes_out, ended_goes, forwards_less, pays_less, shut_goes, stays_still}
+use Rattle.vs_pipes.proofs.Logs.{only_on, nothing_more}
 use Rattle.vs_world.specs.{Pipes.none_on, Pipes.put_on, Sides.Runs, Sides.driver_ends}
-use Rattle.std.proofs.lemmas.List.{append-nil}
-use Rattle.vs_flow.specs.Flow.{same_flow}
-use Rattle.vs_flow.specs.declared.flow.Flow.{Flow}
 use Rattle.vs_device_log.specs.Honest.{HoldsBytes}
 use Rattle.vs_device_log.proofs.Fits.{fits_forwarded, fits_paid, fits_sent, fits_shut}
+use Rattle.vs_conn.specs.declared.end.Owed.TheVariants as owed
+use Rattle.vs_conn.specs.declared.end.State.TheVariants as state
+use Rattle.vs_pipes.proofs.Steps as steps
 
 abbrev pub end_in : DriverConnection → ConnectionEnd
 end_in c = c.end
@@ -55,7 +47,7 @@ held_in c = length c.unread
 -- What is true of the driver between any two events.
 pub record Holds (table : Table DriverConnection) (replies : List Reply) (next_id next_port cid : ℕ) : Type 0 where
   pub sound : IsTable table
-  pub room : table.room ≡ SLOTS
+  pub room : table.room ≡ DRIVER_CONNECTIONS
   pub given : next_id ≡ table.given + 1
   pub ends : All (EntryFits end_in held_in) table.entries
   pub owed : All ReplyFits replies

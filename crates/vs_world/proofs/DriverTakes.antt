@@ -1,57 +1,46 @@
 -- What the driver opens and takes is among the steps of the two ends.
-use Rattle.std.proofs.Common.{◌≡◌, ℕ, ◌+◌, ◌^◌, ◌<◌, ◌≤◌, ◌&&◌, Bool, true, false, cond, List, [], ◌∷◌, ◌++◌, length, Contains, Option}
-use Rattle.std.proofs.Common.{inl, Some, None, refl, sym, ap, subst, ◌∙◌, arith}
-use Rattle.std.proofs.lemmas.Bool.Decides.{nat_tests}
-use Rattle.std.proofs.lemmas.Grind.{common_steps}
-use Rattle.std.proofs.lemmas.List.Elements.{All-push}
+use Rattle.std.proofs.{lemmas.Bool.Decides.nat_tests, lemmas.Grind.common_steps, lemmas.List.Elements.All-push}
+use Rattle.std.proofs.Common.{◌≡◌, ℕ, ◌+◌, ◌^◌, ◌<◌, ◌≤◌, ◌&&◌, Bool, true, false, cond, List, [], ◌∷◌, ◌++◌, length, Contains, Option, inl}
+use Rattle.std.proofs.Common.{Some, None, refl, sym, ap, subst, ◌∙◌, arith, length-append}
 use Rattle.vs_conn.specs.End.{ConnectionEnd, answering, asked, end_after, is_of, is_refused, is_reset, paid_of, verdict_of}
-use Rattle.vs_conn.specs.declared.end.Owed.TheVariants as owed
 use Rattle.vs_conn.specs.declared.end.Verdict.{Verdict}
-use Rattle.vs_conn.specs.declared.end.Verdict.TheVariants as verdict
-use Rattle.vs_flow.specs.{Flow.is_assigned, Flow.same_flow, Table.entry_of, Table.without}
-use Rattle.vs_flow.specs.declared.flow.{Flow.Flow, TheConstants.HOST_CID}
+use Rattle.vs_flow.specs.{Flow.is_assigned, Flow.same_flow, Table.entry_of, Table.without, declared.flow.Flow.Flow}
+use Rattle.vs_limits.specs.declared.TheConstants.{HOST_CID, BUF_ALLOC, LAST_ID, LAST_PORT, DRIVER_CONNECTIONS}
 use Rattle.vs_flow.proofs.{Entries.same_flow_true, Tables.with_entry_sound, Tables.IsAccepted}
-use Rattle.vs_header.specs.declared.{Header.Header, Kind.Kind}
-use Rattle.vs_header.specs.declared.Kind.TheVariants.{Stream}
-use Rattle.vs_history.specs.Packets.{is_request, is_rst}
-use Rattle.vs_history.specs.declared.TheConstants.{BUF_ALLOC}
-use Rattle.vs_history.specs.declared.packet.Packet.{Packet}
+use Rattle.vs_header.specs.{declared.Header.Header, declared.Kind.Kind, declared.Kind.TheVariants.Stream, Op.op_named}
+use Rattle.vs_history.specs.{Packets.is_request, Packets.is_rst, Packets.is_rw, declared.packet.Packet.Packet}
+use Rattle.vs_page.specs.{Log.Log, Log.Driver, Log.IsNextPacket, Log.IsNextEvent, Log.flow_to_guest, Log.side_by, Open.is_dropped}
 use Rattle.vs_page.specs.Held.{FitsWire, IsWhole}
-use Rattle.vs_page.specs.Log.{Log, Driver, IsNextPacket, IsNextEvent, flow_to_guest, side_by}
-use Rattle.vs_page.specs.Open.{is_dropped}
 use Rattle.vs_page.specs.declared.log.LogEntry.TheVariants.{GotEvent, GotPacket, PutPacket}
 use Rattle.vs_replies.specs.Owed.{reply_to}
 use Rattle.vs_matching.specs.Both.{Both, IsSound, Opens, Seat, TakesEvent, after_packet, after_taking, answered}
-use Rattle.vs_matching.specs.Ends.{Ends, FlowEnd, answer_kind, ends_of, entries_of, replaced}
 use Rattle.vs_matching.specs.Steps.{accepted, forgotten, is_kept, left, opened, with_clean, with_end, request_on, refused}
+use Rattle.vs_matching.specs.Ends.{Ends, FlowEnd, answer_kind, ends_of, entries_of, replaced}
 use Rattle.vs_matching.proofs.{Both.driver_accepts, Slots.added_slot, Slots.changed_slot, Slots.found_by, Slots.no_entry, Slots.one_end}
+use Rattle.vs_matching.proofs.Steps.{port_next}
 use Rattle.vs_driver_parts.specs.State.{DriverConnection, DriverEntry, DriverState, GoneConnection}
 use Rattle.vs_driver_parts.specs.Connections.{connect_refusal, connected, is_full, is_spent, next_flow, waits_no_more, with_connection}
-use Rattle.vs_driver_parts.specs.Connections.{with_opened, with_request}
-use Rattle.vs_driver_parts.specs.Receiving.{after_verdict, ends_connection, is_request as asks, may_open, on_heard, on_known, on_packet, on_unknown}
-use Rattle.vs_driver_parts.specs.Receiving.{with_reply}
-use Rattle.vs_driver_parts.specs.declared.limits.TheConstants.{LAST_ID, LAST_PORT, SLOTS}
-use Rattle.vs_driver_parts.proofs.Delivers.{delivers, named_rw}
-use Rattle.vs_header.specs.Op.{op_named}
-use Rattle.vs_header.specs.declared.Op.TheVariants as op
-use Rattle.vs_history.specs.Packets.{is_rw}
-use Rattle.std.proofs.Common.{length-append}
-use Rattle.vs_driver_parts.proofs.Packets.{packet_known, packet_unknown}
-use Rattle.vs_driver_parts.specs.{Connections.gone_as, Connections.is_let_go, Receiving.after_packet as as_heard}
-use Rattle.vs_matching.proofs.Steps.{port_next}
+use Rattle.vs_driver_parts.specs.Connections.{with_opened, with_request, gone_as, is_let_go}
+use Rattle.vs_driver_parts.specs.Receiving.{after_verdict, ends_connection, may_open, on_heard, on_known, on_packet, on_unknown, with_reply}
+use Rattle.vs_driver_parts.proofs.{Delivers.delivers, Delivers.named_rw, Packets.packet_known, Packets.packet_unknown}
 use Rattle.vs_pipes.specs.Drains.{receives}
 use Rattle.vs_pipes.proofs.Logs.{got_after_put, got_passes, none_passed, passed_after_got, passed_after_put, put_passes, nothing_more}
-use Rattle.vs_world.proofs.Received.{opened_received, same_received}
-use Rattle.vs_pipes.proofs.Steps as steps
 use Rattle.vs_pipes.proofs.Steps.{comes_in, delivers_to, hears_less, only_delivered, stays_still}
+use Rattle.vs_world.proofs.{Received.opened_received, Received.same_received, Payloads.sent_empty, Payloads.sent_got}
+use Rattle.vs_world.proofs.{Entries.FlowFits, Entries.ReplyFits, Entries.fits_with_entry, Firsts.unheard, Once.AreOnce, Once.asked_once}
+use Rattle.vs_world.proofs.{Runs.one_step, Runs.takes_step, Wire.PutsFit, Wire.owed_fits}
 use Rattle.vs_world.proofs.Receives.{after_got_empty, got_empty, hears, leaves, none_read, passes_by}
-use Rattle.vs_world.proofs.Payloads.{sent_empty, sent_got}
-use Rattle.vs_world.proofs.DriverSide.{DriverHolds, Holds, Kept, end_in, entry_fits, held_in, holds_changed, left_broken}
-use Rattle.vs_world.proofs.{DriverSide.left_ends, DriverSide.left_holds, DriverSide.seated, Entries.FlowFits, Entries.ReplyFits, Entries.fits_with_entry}
-use Rattle.vs_world.proofs.{Firsts.unheard, Once.AreOnce, Once.asked_once, Runs.one_step, Runs.takes_step, Wire.PutsFit, Wire.owed_fits}
+use Rattle.vs_world.proofs.DriverSide.{DriverHolds, Holds, Kept, end_in, entry_fits, held_in, holds_changed, left_broken, left_ends}
+use Rattle.vs_world.proofs.DriverSide.{left_holds, seated}
 use Rattle.vs_world.specs.{Pipes.put_on, Sides.driver_ends}
 use Rattle.vs_device_log.specs.Honest.{HoldsBytes}
 use Rattle.vs_device_log.proofs.Fits.{delivered, fits_after}
+use Rattle.vs_conn.specs.declared.end.Owed.TheVariants as owed
+use Rattle.vs_conn.specs.declared.end.Verdict.TheVariants as verdict
+use Rattle.vs_driver_parts.specs.Receiving.is_request as asks
+use Rattle.vs_header.specs.declared.Op.TheVariants as op
+use Rattle.vs_driver_parts.specs.Receiving.after_packet as as_heard
+use Rattle.vs_pipes.proofs.Steps as steps
 
 module _ (device : Seat) where
   abbrev at_part : Ends → Log → Both
@@ -102,7 +91,7 @@ module _ (device : Seat) where
 
     accepted_by : (f : Flow) → entry_of s.table f ≡ None → is_full s ≡ false → s.next_id ≤ LAST_ID → IsAccepted s.table f
     accepted_by f none full ids =
-        let below : length s.table.entries + length s.gone < SLOTS = grind (arith, nat_tests, full) in
+        let below : length s.table.entries + length s.gone < DRIVER_CONNECTIONS = grind (arith, nat_tests, full) in
         record { absent = none; place = omega (arith, below, holds.room); slot = omega (arith, ids, holds.given) }
 
     pub connects : (port : ℕ) → connect_refusal port s ≡ None → port < 2 ^ 32

@@ -1,11 +1,11 @@
 -- Entries of a table whose ends fit, through changes of the table.
 use Rattle.std.proofs.Common.{◌≡◌, ℕ, ◌^◌, ◌<◌, ◌==◌, Bool, true, false, not, cond, List, [], ◌∷◌, map, filter, Contains, refl, ap, subst}
-use Rattle.std.specs.List.{All}
 use Rattle.std.proofs.lemmas.List.Elements.{All-filter, All-push, All-map}
+use Rattle.std.specs.List.{All}
 use Rattle.vs_conn.specs.End.{ConnectionEnd}
+use Rattle.vs_flow.specs.{declared.flow.Flow.Flow, declared.table.Entry.Entry}
 use Rattle.vs_flow.specs.Table.{Table, revalued, with_value, without, with_entry, next_entry}
-use Rattle.vs_flow.specs.declared.flow.{Flow.Flow, TheConstants.HOST_CID}
-use Rattle.vs_flow.specs.declared.table.Entry.{Entry}
+use Rattle.vs_limits.specs.declared.TheConstants.{HOST_CID}
 use Rattle.vs_flow.proofs.Tables.{revalued-slot}
 use Rattle.vs_replies.specs.declared.Reply.{Reply}
 use Rattle.vs_device_log.specs.Honest.{HoldsBytes}

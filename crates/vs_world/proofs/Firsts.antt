@@ -1,11 +1,10 @@
 -- Flows that are used once: all that passed on them is their present connection.
 use Rattle.std.proofs.Common.{◌≡◌, ℕ, zero, suc, ◌+◌, ◌≤◌, Bool, true, false, cond, ◌||◌, List, [], ◌∷◌, refl, sym, ap, subst, ◌∙◌, arith}
 use Rattle.std.proofs.lemmas.Grind.{common_steps}
-use Rattle.vs_flow.specs.declared.flow.{Flow.Flow, TheConstants.HOST_CID}
-use Rattle.vs_history.specs.Again.{IsFairAll, count, present}
+use Rattle.vs_flow.specs.declared.flow.Flow.{Flow}
+use Rattle.vs_limits.specs.declared.TheConstants.{HOST_CID}
+use Rattle.vs_history.specs.{Again.IsFairAll, Again.count, Again.present, Packets.has, Packets.is_request, declared.packet.Packet.Packet}
 use Rattle.vs_history.specs.History.{Answerer, Asker, Got, History, IsFair, MayPut, Put, Side, gots, is_begun, peer, puts}
-use Rattle.vs_history.specs.Packets.{has, is_request}
-use Rattle.vs_history.specs.declared.packet.Packet.{Packet}
 use Rattle.vs_history.proofs.Present.{fair_once}
 use Rattle.vs_page.specs.Fair.{IsFairOn, instance_from, number_of, number_on, payload_got, payload_of, payload_put}
 use Rattle.vs_page.specs.Log.{Driver, Log, Role, history_of, side_of, whole_of}

@@ -1,36 +1,31 @@
 -- No flow is used twice: its asker puts one REQUEST at most.
-use Rattle.std.proofs.Common.{◌≡◌, ℕ, ◌+◌, ◌≤◌, Bool, true, false, cond, ◌&&◌, ◌++◌, List, [], ◌∷◌, length, Some, refl, sym, ap, subst, ◌∙◌, arith}
-use Rattle.std.proofs.lemmas.Grind.{common_steps}
-use Rattle.std.proofs.lemmas.Bool.Decides.{nat_tests}
+use Rattle.std.proofs.{lemmas.Grind.common_steps, lemmas.Bool.Decides.nat_tests}
+use Rattle.std.proofs.Common.{◌≡◌, ℕ, ◌+◌, ◌≤◌, Bool, true, false, cond, ◌&&◌, ◌++◌, List, [], ◌∷◌, length, Some, refl, sym, ap, subst, ◌∙◌}
+use Rattle.std.proofs.Common.{arith}
 use Rattle.vs_conn.specs.End.{ConnectionEnd, answering, asked, end_after, is_of, owes_of, paid_of, with_payload_sent}
 use Rattle.vs_conn.specs.declared.end.Owed.{Owed}
-use Rattle.vs_conn.specs.declared.end.Owed.TheVariants as owed
-use Rattle.vs_flow.specs.Flow.{is_assigned, same_flow}
-use Rattle.vs_flow.specs.declared.flow.Flow.{Flow}
-use Rattle.vs_header.specs.declared.{Header.Header}
-use Rattle.vs_history.specs.Again.{count}
+use Rattle.vs_flow.specs.{Flow.is_assigned, Flow.same_flow, declared.flow.Flow.Flow}
+use Rattle.vs_header.specs.declared.Header.{Header}
+use Rattle.vs_history.specs.{Again.count, Packets.is_request, Packets.is_rst, declared.packet.Packet.Packet}
 use Rattle.vs_history.specs.History.{Answerer, Asker, Got, History, Put, Side, gots, peer, puts}
-use Rattle.vs_history.specs.Packets.{is_request, is_rst}
-use Rattle.vs_history.specs.declared.{packet.Packet.Packet, TheConstants.BUF_ALLOC}
+use Rattle.vs_limits.specs.declared.TheConstants.{BUF_ALLOC}
 use Rattle.vs_history.proofs.Lists.{count_append}
-use Rattle.vs_page.specs.Fair.{number_of, number_on}
+use Rattle.vs_page.specs.{Fair.number_of, Fair.number_on, Open.is_dropped}
 use Rattle.vs_page.specs.Log.{Device, Driver, IsNextPacket, Log, Role, flow_got, flow_put, other_role, side_of, whole_of}
-use Rattle.vs_page.specs.Open.{is_dropped}
 use Rattle.vs_page.specs.declared.log.LogEntry.TheVariants.{GotPacket, PutPacket}
-use Rattle.vs_page.proofs.Entries.{got_on, on_flow}
-use Rattle.vs_page.proofs.Flows.{opposite_by, same_is, same_self}
-use Rattle.vs_matching.specs.Both.{Aborts, Asks, Both, Decides, Decision, Forgets, Forwards, Grows, Happening, IsSound, MakesReset, MayHappen, MayRun, Opens}
-use Rattle.vs_matching.specs.Both.{Pays, PutsEvent, Replies, Seat, Sends, Shuts, Step, Takes, TakesEvent, TakesReset, WantsCredit, after, after_packet}
-use Rattle.vs_matching.specs.Both.{answered, at, decided, happens, run, start}
-use Rattle.vs_matching.specs.Ends.{Ends, FlowEnd, answer_kind, ends_of, is_new, replaced, without_flow}
+use Rattle.vs_page.proofs.{Entries.got_on, Entries.on_flow, Flows.opposite_by, Flows.same_is, Flows.same_self}
 use Rattle.vs_matching.specs.{Heard.own_port, Matches.MatchesFlows}
-use Rattle.vs_matching.specs.Steps.{asking, is_kept, left, opened, owed_on, payload_on, port_after, reply_on, request_on, with_clean, with_connection}
-use Rattle.vs_matching.specs.Steps.{with_end}
-use Rattle.vs_matching.proofs.{Both.next_is_fair, Both.step_keeps, Fair.own_got_fair}
+use Rattle.vs_matching.specs.Both.{Aborts, Asks, Both, Decides, Decision, Forgets, Forwards, Grows, Happening, IsSound, MakesReset}
+use Rattle.vs_matching.specs.Both.{MayHappen, MayRun, Opens, Pays, PutsEvent, Replies, Seat, Sends, Shuts, Step, Takes, TakesEvent}
+use Rattle.vs_matching.specs.Both.{TakesReset, WantsCredit, after, after_packet, answered, at, decided, happens, run, start}
+use Rattle.vs_matching.specs.Ends.{Ends, FlowEnd, answer_kind, ends_of, is_new, replaced, without_flow}
+use Rattle.vs_matching.specs.Steps.{asking, is_kept, left, opened, owed_on, payload_on, port_after, reply_on, request_on, with_clean}
+use Rattle.vs_matching.specs.Steps.{with_connection, with_end}
+use Rattle.vs_matching.proofs.{Both.next_is_fair, Both.step_keeps, Fair.own_got_fair, Steps.owed_flow, Steps.request_flow, Tables.only_end}
 use Rattle.vs_matching.proofs.Entries.{added_other, added_same, replaced_other, replaced_same, without_other, without_same}
-use Rattle.vs_matching.proofs.{Steps.owed_flow, Steps.request_flow, Tables.only_end}
 use Rattle.vs_world.specs.Sides.{AsksAnew, Runs, RunsAnew}
 use Rattle.vs_world.proofs.Firsts.{asked_by, none_begun}
+use Rattle.vs_conn.specs.declared.end.Owed.TheVariants as owed
 
 -- How many REQUESTs an end put on a flow.
 abbrev asked_on : Role → Flow → Log → ℕ

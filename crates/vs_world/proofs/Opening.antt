@@ -3,30 +3,26 @@ use Rattle.std.proofs.Common.{◌≡◌, ℕ, zero, suc, ◌+◌, ◌^◌, ◌<�
 use Rattle.std.proofs.Common.{arith, ◌-◌, slice_get, Some, None}
 use Rattle.vs_contents.specs.CallTree.{Done, Ask, bind, while_up_to, played}
 use Rattle.vs_flow.specs.Table.{IsTable}
-use Rattle.vs_flow.specs.declared.flow.TheConstants.{ASSIGNED_FIRST}
+use Rattle.vs_limits.specs.declared.TheConstants.{ASSIGNED_FIRST, FIRST_PORT}
 use Rattle.vs_outside.specs.Host.{HostContents, Stream}
 use Rattle.vs_page.specs.Log.{Driver, Log}
 use Rattle.vs_pipes.specs.{Drains.got_on, Streamed.IsStreamed, Streamed.Seen, Streamed.look, Streamed.seen}
 use Rattle.std.specs.Option.{option_map}
-use Rattle.vs_matching.proofs.Voices.{AreVoiced, voices_start}
+use Rattle.vs_matching.proofs.{Voices.AreVoiced, Voices.voices_start, Both.start_sound}
 use Rattle.vs_proxy_parts.specs.Turns.{new_proxy}
-use Rattle.vs_world.specs.Received.{IsReceived}
-use Rattle.vs_ring_port.specs.DriverCalls.{driver_answer, Stage, Publish}
+use Rattle.vs_world.specs.{Received.IsReceived, Pipes.IsFresh, Pipes.put_on, Pages.AllHold, Events.happens, Events.run}
+use Rattle.vs_world.specs.{Sides.both_of, Sides.driver_ends, Sides.log_with_staged, World.World, World.opening, World.first_cid}
 use Rattle.vs_ring_port.specs.{EndLog.EndLog, EndLog.all_put, EndLog.entries_marked, Lists.Rings}
+use Rattle.vs_ring_port.specs.DriverCalls.{driver_answer, Stage, Publish}
 use Rattle.vs_ring_port.specs.declared.queue.Queue.TheVariants.{Rx, Event}
 use Rattle.vs_ring_list.specs.Ends.{empty_ends}
 use Rattle.vs_matching.specs.Both.{Both}
-use Rattle.vs_matching.specs.Both as both
-use Rattle.vs_matching.proofs.Both.{start_sound}
 use Rattle.vs_driver_parts.specs.Conversations.{DriverTree, load_cid, new_of, new_state, post_events, post_one, posts, publish_of}
 use Rattle.vs_driver_parts.specs.State.{DriverState}
-use Rattle.vs_driver_parts.specs.declared.limits.TheConstants.{FIRST_PORT}
-use Rattle.vs_world.specs.{Pipes.IsFresh, Pipes.put_on, Pages.AllHold}
-use Rattle.vs_world.specs.Events as events
-use Rattle.vs_world.specs.{Events.happens, Events.run, Sides.both_of, Sides.driver_ends, Sides.log_with_staged}
-use Rattle.vs_world.specs.World.{World, opening, first_cid}
 use Rattle.vs_world.proofs.{DriverSide.DriverHolds, Once.AreOnce, Once.start_once, Played.opening_queued, Runs.and_then}
 use Rattle.vs_world.proofs.{Sound.Goes, Sound.IsWell, Sound.goes_still, Sound.happens_goes, Wire.PutsFit}
+use Rattle.vs_matching.specs.Both as both
+use Rattle.vs_world.specs.Events as events
 
 -- Receive and event pages are on their way, and nothing else.
 record IsQuiet (lists : Rings) (log : EndLog) : Type 0 where

@@ -1,29 +1,28 @@
 -- Each conversation over the world's rings, and so each event, keeps what is under way between the two logs.
 use Rattle.std.proofs.Common.{◌≡◌, ℕ, ◌&&◌, Bool, true, false, List, [], ◌∷◌, ◌++◌, refl, sym, ap, ◌∙◌}
+use Rattle.std.proofs.lemmas.List.{append-nil}
 use Rattle.vs_contents.specs.CallTree.{Done, Ask, played}
 use Rattle.vs_outside.specs.Host.{HostContents}
-use Rattle.vs_page.specs.Log.{Log, HasGotAll, events_put}
+use Rattle.vs_page.specs.{Log.Log, Log.HasGotAll, Log.events_put, Held.packet_held, Held.event_held, Held.held_in}
 use Rattle.vs_ring_port.specs.{DriverCalls.driver_answer, EndLog.EndLog, Lists.Rings}
 use Rattle.vs_driver_parts.specs.Conversations.{DriverTree, publish_of, new_of}
-use Rattle.vs_driver_parts.specs.declared.limits.TheConstants.{FIRST_PORT}
-use Rattle.vs_device_parts.specs.Streams.{tick_slot}
-use Rattle.vs_proxy_parts.specs.{Handshakes.accept_one, Handshakes.tick_handshake, State.start, Turns.proxy_reset_of}
-use Rattle.vs_ring_port.specs.declared.queue.Queue.TheVariants as queue
-use Rattle.vs_ring_list.specs.Ends.{Ends, empty_ends}
-use Rattle.vs_page.specs.Held.{packet_held, event_held, held_in}
-use Rattle.std.proofs.lemmas.List.{append-nil}
+use Rattle.vs_driver_parts.specs.Steps.{takes_page, stages_reply, stages_owed}
+use Rattle.vs_limits.specs.declared.TheConstants.{FIRST_PORT}
 use Rattle.vs_device_parts.specs.Calls.{DeviceTree, Call, Ring, Accept, Dial, Label, ReadStream, WriteStream, ShutWrite, CloseStream}
 use Rattle.vs_device_parts.specs.Steps.{takes_chain, returns, puts_event, puts_reply, puts_owed, puts_payload, writes, shuts_write}
-use Rattle.vs_world.specs.Answers.{Around, answer_around}
+use Rattle.vs_device_parts.specs.Streams.{tick_slot}
+use Rattle.vs_proxy_parts.specs.{Handshakes.accept_one, Handshakes.tick_handshake, State.start, Turns.proxy_reset_of}
+use Rattle.vs_ring_list.specs.Ends.{Ends, empty_ends}
+use Rattle.vs_world.specs.{Answers.Around, Answers.answer_around, GuestSteps.makes_call, Calls.is_right, Laws.AreQueued, Laws.IsQueued}
 use Rattle.vs_world.specs.Events.{Event, GuestCalls, GuestTakes, GuestReplies, GuestPays, GuestPublishes, DeviceTakes, DeviceReturns}
 use Rattle.vs_world.specs.Events.{DevicePutsEvent, DeviceReplies, DeviceReads, DevicePays, DeviceWrites, DeviceShutsWrite, ProxyAccepts}
 use Rattle.vs_world.specs.Events.{ProxyReads, Moment, TimesOut, HandshakeTimesOut, Reset, HostListens, HostUnlistens, ClientConnects}
 use Rattle.vs_world.specs.Events.{HostWrites, HostTakes, HostEnds, HostCloses, HostFails, happens, run, where_possible, unless_failed}
 use Rattle.vs_world.specs.Events.{has_failed, is_guest_cid, reset_made, is_at_rest, works_on, holds, holds_event, driver_step, device_step}
-use Rattle.vs_world.specs.{Events.proxy_step, Events.call_made, Events.line_read, GuestSteps.makes_call, Calls.is_right}
-use Rattle.vs_world.specs.{Laws.AreQueued, Laws.IsQueued, World.World, World.driver_plays, World.device_plays, World.opening}
-use Rattle.vs_driver_parts.specs.Steps.{takes_page, stages_reply, stages_owed}
+use Rattle.vs_world.specs.Events.{proxy_step, call_made, line_read}
+use Rattle.vs_world.specs.World.{World, driver_plays, device_plays, opening}
 use Rattle.vs_world.proofs.Queues.{driver_keeps, device_keeps}
+use Rattle.vs_ring_port.specs.declared.queue.Queue.TheVariants as queue
 
 driver_played : {A : Type 0} (tree : DriverTree A) (lists : Rings) (log : EndLog) (device : Log) → AreQueued lists log.entries device
     → let r = (played driver_answer tree (lists, log)).1 in AreQueued r.0 r.1.entries device

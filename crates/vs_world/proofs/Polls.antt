@@ -3,29 +3,26 @@ use Rattle.std.proofs.Common.{◌≡◌, ℕ, zero, suc, ◌+◌, ◌==◌, ◌&
 use Rattle.std.proofs.Common.{Some, None, refl, sym, ap, subst, ◌∙◌}
 use Rattle.std.proofs.lemmas.Bool.{and_parts}
 use Rattle.vs_contents.specs.CallTree.{Done, Ask, bind, for_each, played, while_up_to}
-use Rattle.vs_conn.specs.End.{owes_of}
-use Rattle.vs_conn.specs.declared.end.Owed.{Owed}
+use Rattle.vs_conn.specs.{End.owes_of, declared.end.Owed.Owed, declared.end.TheConstants.OWED_MAX}
 use Rattle.vs_flow.specs.Table.{entry_under, slots}
 use Rattle.vs_replies.specs.declared.Reply.{Reply}
+use Rattle.vs_ring_port.specs.{Lists.Rings, Lists.after_reap, Lists.oldest, declared.queue.Queue.Queue}
 use Rattle.vs_ring_port.specs.DriverCalls.{driver_answer, LoadCid, Publish, Reap, Stage}
-use Rattle.vs_ring_port.specs.EndLog.{EndLog, Pages, log_loaded, log_reaped}
-use Rattle.vs_ring_port.specs.Lists.{Rings, after_reap, oldest}
-use Rattle.vs_ring_port.specs.declared.queue.Queue.{Queue}
-use Rattle.vs_ring_port.specs.declared.queue.Queue.TheVariants as q
+use Rattle.vs_ring_port.specs.EndLog.{EndLog, Pages, log_loaded, log_reaped, with_pages}
 use Rattle.vs_header.specs.Packet.{header_bytes}
-use Rattle.vs_conn.specs.declared.end.TheConstants.{OWED_MAX}
+use Rattle.vs_driver_parts.specs.{Receiving.after_reset, Receiving.is_reset_event, Receiving.on_page, State.DriverEntry, State.DriverState}
 use Rattle.vs_driver_parts.specs.Conversations.{all_taken, pay_all, pay_and_publish, pay_slot, poll_of, poll_packets, poll_puts, poll_reaps}
 use Rattle.vs_driver_parts.specs.Conversations.{polled, publish_and_pay, put_all, put_replies, reap_all, take_all, after_paying, has_page}
 use Rattle.vs_driver_parts.specs.Conversations.{one_more_in_flight, one_put, owed_bytes, put_owed_of, put_reply_of, reply_header}
 use Rattle.vs_driver_parts.specs.Conversations.{stage_packet, DriverTree, Round, event_reaped, goes_on_with, packet_reaped, publish_of}
 use Rattle.vs_driver_parts.specs.Conversations.{published, put_owed, put_reply, staged_again, start, take_event, take_packet}
-use Rattle.vs_driver_parts.specs.{Receiving.after_reset, Receiving.is_reset_event, Receiving.on_page, State.DriverEntry, State.DriverState}
 use Rattle.vs_driver_parts.specs.Steps.{stages_owed, stages_reply, takes_page}
-use Rattle.vs_ring_port.specs.EndLog.{with_pages}
-use Rattle.vs_driver_parts.specs.declared.limits.TheConstants.{REPLIES_FULL}
+use Rattle.vs_limits.specs.declared.TheConstants.{DRIVER_REPLIES_FULL}
+use Rattle.vs_world.specs.{Steps.Leads, World.World}
 use Rattle.vs_world.specs.Events.{Event, GuestPays, GuestPublishes, GuestReplies, GuestTakes, driver_step, happens, is_at_rest, none_staged}
-use Rattle.vs_world.specs.{Events.works_on, Steps.Leads, World.World}
+use Rattle.vs_world.specs.Events.{works_on}
 use Rattle.vs_world.proofs.GuestLines.{leads_none, leads_one, leads_then, played_bind, possible_is, reaps_all, with_driver}
+use Rattle.vs_ring_port.specs.declared.queue.Queue.TheVariants as q
 
 -- Events lead to this driver and these rings, and only that queue is worked on.
 pub record Does (queue : Queue) (w : World) (s : DriverState) (r : Rings × EndLog) : Type 0 where
@@ -180,7 +177,7 @@ again_alike queue w count reset x works f t = by (t.staged + 1 == 16)
 
 -- A packet is taken.
 packet_alike : (w : World) (count : ℕ) (reset : Bool) → works_on q.Rx w.rings.driver.staged ≡ true → Alike q.Rx w count reset take_packet
-packet_alike w count reset works = by (nat_le REPLIES_FULL (length w.driver.replies))
+packet_alike w count reset works = by (nat_le DRIVER_REPLIES_FULL (length w.driver.replies))
   where
     came : (o : Option (List ℕ))
         → AlikeFrom q.Rx w count reset (after_reap q.Rx w.rings.lists, log_reaped q.Rx o w.rings.driver) (λ r. packet_reaped r o)
@@ -195,7 +192,7 @@ packet_alike w count reset works = by (nat_le REPLIES_FULL (length w.driver.repl
 
 -- An event is.
 event_alike : (w : World) (count : ℕ) (reset : Bool) → works_on q.Event w.rings.driver.staged ≡ true → Alike q.Event w count reset take_event
-event_alike w count reset works = by (nat_lt REPLIES_FULL (length w.driver.replies))
+event_alike w count reset works = by (nat_lt DRIVER_REPLIES_FULL (length w.driver.replies))
   where
     taken : (x : Rings × EndLog) → works_on q.Event x.1.staged ≡ true → (b : Bool) → AlikeFrom q.Event w count reset x (λ r. bind (cond b
         (Ask LoadCid (λ cid. Done (record r { state = after_reset cid r.state; count = r.count + 1; reset = true })))

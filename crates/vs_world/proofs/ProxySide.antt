@@ -4,7 +4,8 @@ use Rattle.std.proofs.Common.{Option, Some, None, refl, sym, ap, subst, ◌∙�
 use Rattle.std.proofs.lemmas.Bool.Decides.{nat_tests}
 use Rattle.vs_contents.specs.CallTree.{Done, Ask, bind, played}
 use Rattle.vs_flow.specs.{Flow.host_flow, Flow.is_assigned, Flow.same_flow, Table.entry_of, Table.has_place, Table.refusal}
-use Rattle.vs_flow.specs.{declared.flow.Flow.Flow, declared.flow.TheConstants.ASSIGNED_LAST, declared.table.TableFault.TableFault}
+use Rattle.vs_flow.specs.{declared.flow.Flow.Flow, declared.table.TableFault.TableFault}
+use Rattle.vs_limits.specs.declared.TheConstants.{ASSIGNED_LAST, HANDSHAKES}
 use Rattle.vs_flow.proofs.{Entries.same_flow_true, Entries.found_passes, Tables.accepted}
 use Rattle.vs_outside.specs.{declared.host_net.Accepted.Accepted, declared.host_net.StreamRead.StreamRead, HostBytes.after_line}
 use Rattle.vs_outside.specs.Host.{HostContents, accept_answer, after_read, read_answer, after_accept, after_close, called, next_bytes}
@@ -20,7 +21,6 @@ use Rattle.vs_device_parts.specs.State.{DeviceEntry, DeviceState}
 use Rattle.vs_proxy_parts.specs.Handshakes.{accept_answered, accept_one, byte_read, dropping, handshake_on, line_decided, may_open, opening}
 use Rattle.vs_proxy_parts.specs.Handshakes.{tick_handshake, with_line, without_handshake, without_stream}
 use Rattle.vs_proxy_parts.specs.State.{Handshake, ProxyState, Turning, start, with_device}
-use Rattle.vs_proxy_parts.specs.declared.limits.TheConstants.{HANDSHAKES}
 use Rattle.vs_world.specs.{Answers.Around, Answers.answer_around, Answers.bytes_with, Events.line_read}
 use Rattle.vs_world.proofs.{Chains.HoldsRx, DeviceSide.DeviceHolds, DeviceSide.Kept, DeviceSide.end_in, DeviceSide.seated, Wire.PutsFit}
 use Rattle.vs_world.proofs.Streams.{StreamedIf, called_host, goes_on}

@@ -4,21 +4,20 @@ use Rattle.std.proofs.Common.{refl, sym, ap, subst, ◌∙◌}
 use Rattle.vs_contents.specs.CallTree.{Done, Ask, bind, for_each, played}
 use Rattle.vs_contents.proofs.Leads.{AllEnds, ends_bind}
 use Rattle.vs_flow.specs.Table.{slots}
+use Rattle.vs_ring_port.specs.{EndLog.EndLog, EndLog.log_loaded, EndLog.log_reaped, Lists.Rings, Lists.after_reap, Lists.oldest}
 use Rattle.vs_ring_port.specs.Contents.{PublishCid}
 use Rattle.vs_ring_port.specs.DriverCalls.{LoadCid, Publish, Reap, Stage, driver_answer}
-use Rattle.vs_ring_port.specs.{EndLog.EndLog, EndLog.log_loaded, EndLog.log_reaped, Lists.Rings, Lists.after_reap, Lists.oldest}
 use Rattle.vs_ring_port.specs.declared.failure.Failure.{Failure}
-use Rattle.vs_ring_port.specs.declared.queue.Queue.TheVariants as q
 use Rattle.vs_device_parts.specs.{Calls.DeviceTree, Calls.Ring, State.DeviceState, Turns.after_reset, Turns.close_slot}
+use Rattle.vs_driver_parts.specs.{Receiving.is_reset_event, Steps.takes_page}
 use Rattle.vs_driver_parts.specs.Conversations.{Round, event_reaped, goes_on_with, staged_again, start}
-use Rattle.vs_driver_parts.specs.Receiving.{is_reset_event}
-use Rattle.vs_driver_parts.specs.Receiving as driver_parts
-use Rattle.vs_driver_parts.specs.declared.limits.TheConstants.{REPLIES_FULL}
+use Rattle.vs_limits.specs.declared.TheConstants.{DRIVER_REPLIES_FULL}
 use Rattle.vs_proxy_parts.specs.{Handshakes.streams_of, State.ProxyState, State.with_device, Turns.close_handshake, Turns.reset_with}
-use Rattle.vs_world.specs.Events.{GuestTakes, Reset, driver_step, happens, is_guest_cid, reset_made, works_on}
 use Rattle.vs_world.specs.{Laws.IsEmptied, World.World, World.around}
-use Rattle.vs_driver_parts.specs.Steps.{takes_page}
+use Rattle.vs_world.specs.Events.{GuestTakes, Reset, driver_step, happens, is_guest_cid, reset_made, works_on}
 use Rattle.vs_world.proofs.{DeviceLeads.ends_played, DriverResets.left_all, GuestLines.possible_is, Sound.IsWell}
+use Rattle.vs_ring_port.specs.declared.queue.Queue.TheVariants as q
+use Rattle.vs_driver_parts.specs.Receiving as driver_parts
 
 -- The device's, and its proxy's.
 pub all_ends : {A : Type 0} (P : A → Type 0) → ((x : A) → P x) → (tree : DeviceTree A) → AllEnds P tree
@@ -101,10 +100,10 @@ module _ {fresh : Type 0} (w : World) (well : IsWell fresh w) (page : List ℕ) 
   takes true is page_is reset = absurd cc
   takes false is page_is reset = came (oldest w.rings.lists.event.back) page_is reset
 
-  pub driver_emptied : works_on q.Event w.rings.driver.staged ≡ true → nat_lt REPLIES_FULL (length w.driver.replies) ≡ false
+  pub driver_emptied : works_on q.Event w.rings.driver.staged ≡ true → nat_lt DRIVER_REPLIES_FULL (length w.driver.replies) ≡ false
       → oldest w.rings.lists.event.back ≡ Some page → is_reset_event page ≡ true
       → (happens (GuestTakes q.Event) w).driver.table.entries ≡ []
   driver_emptied works few page_is reset =
       ap (λ (v : World). v.driver.table.entries) (possible_is (works_on q.Event w.rings.driver.staged) (driver_step
       (takes_page q.Event)) w works)
-      ∙ takes (nat_lt REPLIES_FULL (length w.driver.replies)) few page_is reset
+      ∙ takes (nat_lt DRIVER_REPLIES_FULL (length w.driver.replies)) few page_is reset

@@ -1,66 +1,55 @@
 -- Each event is some of the steps of the two ends.
+use Rattle.std.proofs.{lemmas.Bool.Decides.nat_tests, lemmas.List.Elements.Contains-get_or, lemmas.Bool.and_parts}
 use Rattle.std.proofs.Common.{◌≡◌, ℕ, ◌^◌, ◌<◌, ◌≤◌, ◌&&◌, nat_le, Bool, true, false, List, [], ◌∷◌, ◌++◌, refl, sym, ap, subst, ◌∙◌, arith}
-use Rattle.std.proofs.Common.{append_assoc}
-use Rattle.std.proofs.lemmas.Bool.Decides.{nat_tests}
+use Rattle.std.proofs.Common.{append_assoc, get_or}
 use Rattle.vs_contents.specs.CallTree.{played}
 use Rattle.vs_history.specs.declared.packet.Packet.{Packet}
-use Rattle.vs_outside.specs.Host.{HostContents}
-use Rattle.vs_page.specs.{Held.held_in, Held.packet_held, Log.packets_put, Log.packets_got}
-use Rattle.vs_ring_port.specs.DriverCalls.{driver_answer}
-use Rattle.vs_ring_port.specs.declared.queue.Queue.{Queue}
-use Rattle.vs_ring_port.specs.declared.queue.Queue.TheVariants as q
-use Rattle.vs_matching.specs.Both.{IsSound}
+use Rattle.vs_outside.specs.{Host.HostContents, Host.with_stream, declared.mem_stream.HostWritten.HostWritten}
+use Rattle.vs_outside.specs.HostProgram.{after_fail, after_host_write, after_listen, after_unlisten, allowed, closed, ended}
+use Rattle.vs_outside.specs.HostProgram.{host_write_answer, with_bytes}
+use Rattle.vs_page.specs.{Log.packets_put, Log.packets_got, Log.Device, Log.IsNextPacket, Log.Log, Log.flow_got, Open.is_dropped}
+use Rattle.vs_page.specs.Held.{held_in, packet_held}
+use Rattle.vs_ring_port.specs.{DriverCalls.driver_answer, declared.queue.Queue.Queue}
+use Rattle.vs_matching.specs.{Both.IsSound, Both.Both, Ends.ends_of, Ends.entries_of}
 use Rattle.vs_driver_parts.specs.{Conversations.DriverTree, Conversations.publish_of, State.DriverState}
 use Rattle.vs_driver_parts.specs.Steps.{takes_page, stages_reply, stages_owed}
-use Rattle.vs_device_parts.specs.{Calls.DeviceTree, State.DeviceState, Streams.tick_slot}
+use Rattle.vs_device_parts.specs.{Calls.DeviceTree, State.DeviceState, State.DeviceConnection, Streams.tick_slot}
 use Rattle.vs_device_parts.specs.Steps.{takes_chain, returns, puts_event, puts_reply, puts_owed, puts_payload, writes, shuts_write}
+use Rattle.vs_proxy_parts.specs.{State.ProxyState, State.Turning, State.start, State.with_device, State.Handshake, Turns.proxy_reset_of}
 use Rattle.vs_proxy_parts.specs.Handshakes.{accept_one, tick_handshake}
-use Rattle.vs_proxy_parts.specs.{State.ProxyState, State.Turning, State.start, State.with_device, Turns.proxy_reset_of}
-use Rattle.vs_world.specs.{Answers.answer_around, Calls.Journal, Calls.is_right, Calls.received_on, Calls.sent_on}
+use Rattle.vs_world.specs.{Answers.answer_around, Calls.Journal, Calls.is_right, Calls.received_on, Calls.sent_on, GuestSteps.makes_call}
+use Rattle.vs_world.specs.{Received.IsReceived, Pipes.none_on, Pipes.put_on, Laws.IsQueued, Pages.TxHolds}
 use Rattle.vs_world.specs.Events.{Event, GuestCalls, GuestTakes, GuestReplies, GuestPays, GuestPublishes, DeviceTakes, DeviceReturns}
 use Rattle.vs_world.specs.Events.{DevicePutsEvent, DeviceReplies, DeviceReads, DevicePays, DeviceWrites, DeviceShutsWrite, ProxyAccepts}
 use Rattle.vs_world.specs.Events.{ProxyReads, Moment, TimesOut, HandshakeTimesOut, Reset, HostListens, HostUnlistens, ClientConnects}
 use Rattle.vs_world.specs.Events.{HostWrites, HostTakes, HostEnds, HostCloses, HostFails, at_moment, call_made, device_step, driver_step}
 use Rattle.vs_world.specs.Events.{happens, has_failed, holds, holds_event, is_at_rest, is_guest_cid, line_read, none_staged, proxy_step}
-use Rattle.vs_world.specs.{Events.reset_made, Events.unless_failed, Events.where_possible, Events.works_on, GuestSteps.makes_call}
-use Rattle.vs_world.specs.{Received.IsReceived, Pipes.none_on, Pipes.put_on, Laws.IsQueued, Pages.TxHolds}
+use Rattle.vs_world.specs.Events.{reset_made, unless_failed, where_possible, works_on}
 use Rattle.vs_world.specs.Sides.{Runs, both_of, log_with_staged}
 use Rattle.vs_world.specs.World.{World, around, device_plays, driver_plays, first_cid}
-use Rattle.vs_world.proofs.{Received.same_received, Chains.HoldsRx}
-use Rattle.vs_flow.specs.declared.flow.Flow.{Flow}
+use Rattle.vs_world.proofs.{Received.same_received, Chains.HoldsRx, DeviceSide.DeviceHolds, DriverSide.DriverHolds}
+use Rattle.vs_world.proofs.{Played.device_plays_keeps, Played.driver_plays_keeps, Queues.pages_put}
+use Rattle.vs_world.proofs.{Rings.device_leaves_given, Rings.driver_leaves_cid, Runs.keeps_sound, Runs.stays, Once.AreOnce, Once.keeps_once}
+use Rattle.vs_world.proofs.{Wire.PutsFit, Streams.StreamedIf}
+use Rattle.vs_flow.specs.{declared.flow.Flow.Flow, Table.Table}
+use Rattle.std.specs.List.{All}
+use Rattle.vs_limits.specs.declared.TheConstants.{GUEST_CID_MIN, GUEST_CID_MAX}
+use Rattle.vs_matching.proofs.{Both.next_is_fair, Fair.got_formed, Slots.one_end, Voices.AreVoiced, Voices.voices_run}
+use Rattle.vs_pipes.specs.Streamed.{IsStreamed, gives}
+use Rattle.vs_pipes.proofs.{Cids.dropped_empty, HostCalls.client_host, HostCalls.same_host, Hosts.unseen, Logs.nothing_more}
+use Rattle.vs_ring_list.proofs.Held.{same_queue_is}
+use Rattle.vs_ring_port.specs.declared.queue.Queue.TheVariants as q
 use Rattle.vs_world.proofs.DevicePuts as device_puts
 use Rattle.vs_world.proofs.DeviceReads as device_reads
 use Rattle.vs_world.proofs.DeviceSide as device_side
-use Rattle.vs_world.proofs.DeviceSide.{DeviceHolds}
 use Rattle.vs_world.proofs.DeviceStreams as device_streams
 use Rattle.vs_world.proofs.DeviceTurns as device_turns
 use Rattle.vs_world.proofs.DeviceEvents as device_events
 use Rattle.vs_world.proofs.DriverEvents as driver_events
 use Rattle.vs_world.proofs.DriverSide as driver_side
-use Rattle.vs_world.proofs.{DriverSide.DriverHolds, Played.device_plays_keeps, Played.driver_plays_keeps}
 use Rattle.vs_world.proofs.ProxyResets as proxy_resets
 use Rattle.vs_world.proofs.ProxySide as proxy_side
-use Rattle.vs_world.proofs.{Queues.pages_put, Rings.device_leaves_given, Rings.driver_leaves_cid, Runs.keeps_sound, Runs.stays}
-use Rattle.vs_world.proofs.{Once.AreOnce, Once.keeps_once, Wire.PutsFit}
-use Rattle.std.proofs.Common.{get_or}
-use Rattle.std.specs.List.{All}
-use Rattle.std.proofs.lemmas.List.Elements.{Contains-get_or}
-use Rattle.std.proofs.lemmas.Bool.{and_parts}
-use Rattle.vs_device_parts.specs.State.{DeviceConnection}
-use Rattle.vs_flow.specs.Table.{Table}
-use Rattle.vs_matching.specs.{Both.Both, Ends.ends_of, Ends.entries_of}
-use Rattle.vs_matching.proofs.{Both.next_is_fair, Fair.got_formed, Slots.one_end, Voices.AreVoiced, Voices.voices_run}
-use Rattle.vs_outside.specs.Host.{with_stream}
-use Rattle.vs_outside.specs.HostProgram.{after_fail, after_host_write, after_listen, after_unlisten, allowed, closed, ended}
-use Rattle.vs_outside.specs.HostProgram.{host_write_answer, with_bytes}
-use Rattle.vs_outside.specs.declared.mem_stream.HostWritten.{HostWritten}
 use Rattle.vs_outside.specs.declared.mem_stream.HostWritten.TheVariants as written
-use Rattle.vs_page.specs.{Log.Device, Log.IsNextPacket, Log.Log, Log.flow_got, Open.is_dropped}
-use Rattle.vs_proxy_parts.specs.State.{Handshake}
-use Rattle.vs_pipes.specs.Streamed.{IsStreamed, gives}
-use Rattle.vs_pipes.proofs.{Cids.dropped_empty, HostCalls.client_host, HostCalls.same_host, Hosts.unseen, Logs.nothing_more}
-use Rattle.vs_world.proofs.Streams.{StreamedIf}
-use Rattle.vs_ring_list.proofs.Held.{same_queue_is}
 
 -- The CIDs of packets stay as the two ends go on.
 cids_kept : (first : ℕ) (b c : Both) → Runs b c → IsSound first b → AreVoiced first b → AreVoiced first c
@@ -263,8 +252,8 @@ module _ (fresh : Type 0) (w : World) (well : IsWell fresh w) where
 
   guest_cid_fits : (cid : ℕ) → is_guest_cid cid ≡ true → cid < 2 ^ 64
   guest_cid_fits cid is =
-      let below : nat_le cid 4294967294 ≡ true = (and_parts (nat_le 3 cid) (nat_le cid 4294967294) is).1 in
-      let less : cid ≤ 4294967294 = grind (arith, nat_tests, below) in omega (arith, less)
+      let below : nat_le cid GUEST_CID_MAX ≡ true = (and_parts (nat_le GUEST_CID_MIN cid) (nat_le cid GUEST_CID_MAX) is).1 in
+      let less : cid ≤ GUEST_CID_MAX = grind (arith, nat_tests, below) in omega (arith, less)
 
   pub happens_goes : (e : Event) → Goes fresh w (happens e w)
   happens_goes (GuestCalls call) =

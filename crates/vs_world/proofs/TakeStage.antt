@@ -15,13 +15,13 @@ use Rattle.vs_ring_port.specs.Contents.{Given, PublishCid, Read, Return, Take, W
 use Rattle.vs_uds.specs.Path.{path_of}
 use Rattle.vs_wrap.specs.Wrap.{counted}
 use Rattle.vs_device_parts.specs.{Receiving.pay_event_of, State.DeviceEntry, State.DeviceState, Streams.leaving}
-use Rattle.vs_device_parts.specs.{declared.answers.Taken.Taken, declared.limits.TheConstants.REPLIES}
+use Rattle.vs_device_parts.specs.{declared.answers.Taken.Taken, Steps.chain_came, Steps.puts_event, Steps.returns, Steps.takes_chain}
 use Rattle.vs_device_parts.specs.Calls.{Accept, Answer, Call, CloseStream, DeviceTree, Dial, Label, ReadStream, Ring, ShutWrite}
 use Rattle.vs_device_parts.specs.Calls.{WriteStream}
 use Rattle.vs_device_parts.specs.Connections.{after_leaving, stream_closed, with_connection, with_reply}
 use Rattle.vs_device_parts.specs.Transmitting.{dial_answered, failing, heard, on_known, on_next, on_packet, on_unknown, refused}
 use Rattle.vs_device_parts.specs.Transmitting.{try_request, unknown_why}
-use Rattle.vs_device_parts.specs.Steps.{chain_came, puts_event, returns, takes_chain}
+use Rattle.vs_limits.specs.declared.TheConstants.{DEVICE_REPLIES}
 use Rattle.vs_proxy_parts.specs.Turns.{device_after, event_stage, take_one, take_stage, took_packet}
 use Rattle.vs_proxy_parts.specs.State.{Turning, with_device}
 use Rattle.vs_world.specs.{Answers.Around, Answers.answer_around, Pages.is_held, Steps.Leads, World.World, World.around}
@@ -166,12 +166,12 @@ module _ (w : World) (t : Turning) where
   }
 
   -- The event that takes a page, where fewer than 64 replies are owed.
-  tx_taken : (given : List (List ℕ)) → nat_le REPLIES (length w.proxy.device.replies) ≡ false
+  tx_taken : (given : List (List ℕ)) → nat_le DEVICE_REPLIES (length w.proxy.device.replies) ≡ false
       → (let v = taking given in let x = plays (Ask (Ring (Take q.Tx)) (λ answer. chain_came answer v.proxy.device)) v in
       Leads v (with_proxy (with_device x.0 v.proxy) x.1 v))
   tx_taken given few =
       let v = taking given in
-      by (nat_le REPLIES (length w.proxy.device.replies)) few (device_event (DeviceTakes q.Tx) (takes_chain q.Tx) v refl refl)
+      by (nat_le DEVICE_REPLIES (length w.proxy.device.replies)) few (device_event (DeviceTakes q.Tx) (takes_chain q.Tx) v refl refl)
     where
       by : (b : Bool) → b ≡ false
           → (let v = taking given in let x = plays (cond b (Done v.proxy.device) (Ask (Ring (Take q.Tx))
@@ -240,9 +240,9 @@ module _ (w : World) (t : Turning) where
       let h = header_of (take 44 (bytes_in chain (a page pages).log.held)) in
       header_goes page pages h (nat_lt (chain.readable - 44) h.len) leads
 
-  one_goes : (given : List (List ℕ)) (b : Bool) → nat_le REPLIES (length w.proxy.device.replies) ≡ b
+  one_goes : (given : List (List ℕ)) (b : Bool) → nat_le DEVICE_REPLIES (length w.proxy.device.replies) ≡ b
       → (let v = taking given in
-      let r = plays (bind (cond b (Done (v.proxy.device, taken.RepliesFull REPLIES)) (Ask (Ring (Take q.Tx))
+      let r = plays (bind (cond b (Done (v.proxy.device, taken.RepliesFull DEVICE_REPLIES)) (Ask (Ring (Take q.Tx))
       (λ answer. on_next answer v.proxy.device)))
       (counts (turning_at v t))) v in Goes v r.0 r.1)
   one_goes given true is = let v = taking given in stops v _ _ (leads_none v v refl)
@@ -253,7 +253,7 @@ take_goes w t fine = by w.proxy.device.failed fine
   where
     by : (o : Option Failure) → o ≡ None → let v = record w { proxy = with_device (record w.proxy.device { failed = o }) w.proxy } in
         let r = plays (take_one (turning_at v t)) v in Goes v r.0 r.1
-    by None is = one_goes w t w.rings.lists.tx.given (nat_le REPLIES (length w.proxy.device.replies)) refl
+    by None is = one_goes w t w.rings.lists.tx.given (nat_le DEVICE_REPLIES (length w.proxy.device.replies)) refl
     by (Some f) is = absurd cc
 
 -- All of them.

@@ -1,21 +1,20 @@
 -- What may happen in the world, one page move or one call at a time, and what each leads to.
 use Rattle.std.specs.Prelude.{ℕ, ◌&&◌, nat_le, Bool, true, false, if◌then◌else◌, List, [], ◌∷◌, is_some}
+use Rattle.vs_limits.specs.declared.TheConstants.{GUEST_CID_MIN, GUEST_CID_MAX}
 use Rattle.vs_contents.specs.CallTree.{Done, bind}
-use Rattle.vs_outside.specs.Host.{HostContents, with_stream}
 use Rattle.vs_outside.specs.HostProgram.{after_listen, after_unlisten, after_client, after_host_write, host_write_answer, allowed, ended}
 use Rattle.vs_outside.specs.HostProgram.{closed, after_fail}
-use Rattle.vs_ring_port.specs.{Chains.same_queue, EndLog.Pages}
-use Rattle.vs_ring_port.specs.declared.device_ring.Chain.{Chain}
-use Rattle.vs_ring_port.specs.declared.queue.Queue.{Queue}
-use Rattle.vs_ring_port.specs.declared.queue.Queue.TheVariants as q
+use Rattle.vs_outside.specs.Host.{HostContents, with_stream}
+use Rattle.vs_ring_port.specs.{Chains.same_queue, EndLog.Pages, declared.device_ring.Chain.Chain, declared.queue.Queue.Queue}
 use Rattle.vs_driver_parts.specs.{Conversations.DriverTree, Conversations.publish_of, State.DriverState}
 use Rattle.vs_driver_parts.specs.Steps.{takes_page, stages_reply, stages_owed}
 use Rattle.vs_device_parts.specs.{Calls.DeviceTree, State.DeviceState, Streams.tick_slot}
 use Rattle.vs_device_parts.specs.Steps.{takes_chain, returns, puts_event, puts_reply, puts_owed, puts_payload, writes, shuts_write}
-use Rattle.vs_proxy_parts.specs.Handshakes.{tick_handshake, accept_one, read_byte}
 use Rattle.vs_proxy_parts.specs.{State.Turning, State.start, State.with_device, Turns.proxy_reset_of}
+use Rattle.vs_proxy_parts.specs.Handshakes.{tick_handshake, accept_one, read_byte}
 use Rattle.vs_world.specs.{Calls.GuestCall, Calls.ReplyTo, Calls.is_right, GuestSteps.makes_call, GuestSteps.flow_named, Pages.is_held}
 use Rattle.vs_world.specs.World.{World, driver_plays, device_plays}
+use Rattle.vs_ring_port.specs.declared.queue.Queue.TheVariants as q
 
 -- A connection is named by its slot, a stream by its id.
 pub data Event : Type 0 where
@@ -108,7 +107,7 @@ at_moment now w = record w { proxy = with_device (record w.proxy.device { now = 
 
 -- The CIDs that a guest may have (Virtio 1.2, section 5.10.4).
 abbrev pub is_guest_cid : ℕ → Bool
-is_guest_cid cid = nat_le 3 cid && nat_le cid 4294967294
+is_guest_cid cid = nat_le GUEST_CID_MIN cid && nat_le cid GUEST_CID_MAX
 
 -- What isn't possible leaves the world as it is.
 abbrev pub where_possible : Bool → (World → World) → World → World

@@ -5,7 +5,7 @@ use Rattle.vs_ring_port.specs.DriverCalls.{driver_answer}
 use Rattle.vs_ring_list.specs.Ends.{Ends, empty_ends}
 use Rattle.vs_outside.specs.{Host.HostContents, HostProgram.new_host, HostProgram.plain}
 use Rattle.vs_driver_parts.specs.{State.DriverState, Conversations.DriverTree, Conversations.new_of}
-use Rattle.vs_driver_parts.specs.declared.limits.TheConstants.{FIRST_PORT}
+use Rattle.vs_limits.specs.declared.TheConstants.{FIRST_PORT}
 use Rattle.vs_device_parts.specs.Calls.{DeviceTree}
 use Rattle.vs_proxy_parts.specs.{State.ProxyState, Turns.new_proxy}
 use Rattle.vs_world.specs.{Calls.Journal, Answers.Around, Answers.answer_around}

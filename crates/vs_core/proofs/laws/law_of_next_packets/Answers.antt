@@ -1,7 +1,6 @@
 use Rattle.std.proofs.Common.{◌≡◌, false, subst}
 use Rattle.vs_conn.specs.End.{is_refused, verdict_of}
-use Rattle.vs_driver_parts.specs.declared.limits.TheConstants.{FIRST_PORT}
-use Rattle.vs_flow.specs.declared.flow.TheConstants.{ASSIGNED_FIRST}
+use Rattle.vs_limits.specs.declared.TheConstants.{FIRST_PORT, ASSIGNED_FIRST}
 use Rattle.vs_matching.specs.{Both.Both, Steps.HasEnd}
 use Rattle.vs_matching.proofs.{Both.device_has_room, Both.driver_accepts, Voices.device_takes}
 use Rattle.vs_page.specs.{Log.Device, Log.IsNextPacket, Log.flow_got, Open.is_dropped}

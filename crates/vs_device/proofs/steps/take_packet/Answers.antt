@@ -1,26 +1,24 @@
 use Rattle.std.proofs.Common.{◌≡◌, true, false, nat_le, length, sym, subst, refl, ◌∙◌, rules}
-use Rattle.vs_ring_port.specs.Contents.{Take}
-use Rattle.vs_ring_port.specs.declared.device_ring.Next.{Next}
-use Rattle.vs_ring_port.specs.declared.device_ring.Next.TheVariants as next
-use Rattle.vs_ring_port.specs.declared.queue.Queue.TheVariants.{Tx}
+use Rattle.vs_ring_port.specs.{Contents.Take, declared.device_ring.Next.Next, declared.queue.Queue.TheVariants.Tx}
 use Rattle.vs_device_parts.specs.{Calls.Allows, Calls.Ring, Playing.MayRun, Playing.situation, State.DeviceState}
 use Rattle.vs_device_parts.specs.Steps.{chain_came, takes_chain}
-use Rattle.vs_device_parts.specs.declared.limits.TheConstants.{REPLIES}
+use Rattle.vs_limits.specs.declared.TheConstants.{DEVICE_REPLIES}
 use Rattle.vs_device.proofs.Stepping.{by_came, came, may_be_heard, may_come, taken_among, takes_none, was_heard}
 use Rattle.vs_device.proofs.Ordered.{step_streams}
 use Rattle.vs_device_laws.proofs.Stepping.{takes_keeps}
+use Rattle.vs_ring_port.specs.declared.device_ring.Next.TheVariants as next
 use Rattle.vs_device.proofs.steps.take_packet.Goals as goal
 
-pub returns-then-len-ge-REPLIES-clause-calls : goal.returns-then-len-ge-REPLIES-clause-calls
-returns-then-len-ge-REPLIES-clause-calls g c =
+pub returns-then-len-ge-DEVICE_REPLIES-clause-calls : goal.returns-then-len-ge-DEVICE_REPLIES-clause-calls
+returns-then-len-ge-DEVICE_REPLIES-clause-calls g c =
     let s : DeviceState = c.args.device.now in
-    let full : nat_le REPLIES (length s.replies) ≡ true = rw (← c.device.view_is) (search rules) in
+    let full : nat_le DEVICE_REPLIES (length s.replies) ≡ true = rw (← c.device.view_is) (search rules) in
     takes_none s (situation (g.R.DeviceRing.contents c.args.ring.now) (g.H.HostNet.contents c.args.host.now) (g.H.HostNet.faults c.args.host.now)) full
 
 pub hear-heard-requires-clause-may : goal.hear-heard-requires-clause-may
 hear-heard-requires-clause-may g c =
     let s : DeviceState = c.args.device.now in
-    let room : nat_le REPLIES (length s.replies) ≡ false = rw (← c.device.view_is) (search rules) in
+    let room : nat_le DEVICE_REPLIES (length s.replies) ≡ false = rw (← c.device.view_is) (search rules) in
     let host = g.H.HostNet.contents c.args.host.now in
     let faults = g.H.HostNet.faults c.args.host.now in
     let x = situation (g.R.DeviceRing.contents c.args.ring.now) host faults in
@@ -32,7 +30,7 @@ hear-heard-requires-clause-may g c =
 pub returns-in-Chain-clause-calls : goal.returns-in-Chain-clause-calls
 returns-in-Chain-clause-calls g c =
     let s : DeviceState = c.args.device.now in
-    let room : nat_le REPLIES (length s.replies) ≡ false = rw (← c.device.view_is) (search rules) in
+    let room : nat_le DEVICE_REPLIES (length s.replies) ≡ false = rw (← c.device.view_is) (search rules) in
     let host = g.H.HostNet.contents c.args.host.now in
     let faults = g.H.HostNet.faults c.args.host.now in
     let x = situation (g.R.DeviceRing.contents c.args.ring.now) host faults in
@@ -50,7 +48,7 @@ returns-in-Chain-clause-ring g c =
 pub returns-in-None-clause-calls : goal.returns-in-None-clause-calls
 returns-in-None-clause-calls g c =
     let s : DeviceState = c.args.device.now in
-    let room : nat_le REPLIES (length s.replies) ≡ false = rw (← c.device.view_is) (search rules) in
+    let room : nat_le DEVICE_REPLIES (length s.replies) ≡ false = rw (← c.device.view_is) (search rules) in
     let host = g.H.HostNet.contents c.args.host.now in
     let faults = g.H.HostNet.faults c.args.host.now in
     let x = situation (g.R.DeviceRing.contents c.args.ring.now) host faults in
@@ -61,7 +59,7 @@ returns-in-None-clause-calls g c =
 pub returns-in-Failed-clause-calls : goal.returns-in-Failed-clause-calls
 returns-in-Failed-clause-calls g c =
     let s : DeviceState = c.args.device.now in
-    let room : nat_le REPLIES (length s.replies) ≡ false = rw (← c.device.view_is) (search rules) in
+    let room : nat_le DEVICE_REPLIES (length s.replies) ≡ false = rw (← c.device.view_is) (search rules) in
     let host = g.H.HostNet.contents c.args.host.now in
     let faults = g.H.HostNet.faults c.args.host.now in
     let x = situation (g.R.DeviceRing.contents c.args.ring.now) host faults in
@@ -70,11 +68,11 @@ returns-in-Failed-clause-calls g c =
     came s room c.take.result x y took c.fail.new.self y
     (by_came s c.fail.new.self c.take.result (next.Failed c.in-Failed.failure) y y c.in-Failed.is (sym c.fail.ensures, refl))
 
-pub returns-then-len-ge-REPLIES-clause-streams : goal.returns-then-len-ge-REPLIES-clause-streams
-returns-then-len-ge-REPLIES-clause-streams g c = λ others.
+pub returns-then-len-ge-DEVICE_REPLIES-clause-streams : goal.returns-then-len-ge-DEVICE_REPLIES-clause-streams
+returns-then-len-ge-DEVICE_REPLIES-clause-streams g c = λ others.
     step_streams (takes_chain Tx c.args.device.now) others c.args.device.now c.args.device.now (situation (g.R.DeviceRing.contents c.args.ring.now) (g.H.HostNet.contents c.args.host.now) (g.H.HostNet.faults c.args.host.now))
     (situation (g.R.DeviceRing.contents c.args.ring.now) (g.H.HostNet.contents c.args.host.now) (g.H.HostNet.faults c.args.host.now))
-    (takes_keeps others Tx c.args.device.now (situation (g.R.DeviceRing.contents c.args.ring.now) (g.H.HostNet.contents c.args.host.now) (g.H.HostNet.faults c.args.host.now))) (returns-then-len-ge-REPLIES-clause-calls g c)
+    (takes_keeps others Tx c.args.device.now (situation (g.R.DeviceRing.contents c.args.ring.now) (g.H.HostNet.contents c.args.host.now) (g.H.HostNet.faults c.args.host.now))) (returns-then-len-ge-DEVICE_REPLIES-clause-calls g c)
 
 pub returns-in-Chain-clause-streams : goal.returns-in-Chain-clause-streams
 returns-in-Chain-clause-streams g c = λ others.

@@ -1,8 +1,9 @@
 use Rattle.std.proofs.Common.{ℕ, ◌≤◌, ◌<◌, ◌^◌, sym, ◌∙◌, arith}
+use Rattle.vs_limits.specs.declared.TheConstants.{GUEST_CID_MAX}
 use Rattle.vs_hostile.proofs.Determined.{reset_over, served, serving}
 use Rattle.vs_hostile.proofs.turns.reset_all.Goals as goal
 
-fits : (cid : ℕ) → cid ≤ 4294967294 → cid < 2 ^ 64
+fits : (cid : ℕ) → cid ≤ GUEST_CID_MAX → cid < 2 ^ 64
 fits cid h = omega (arith, h)
 
 pub reset-answer-requires-clause-order : goal.reset-answer-requires-clause-order

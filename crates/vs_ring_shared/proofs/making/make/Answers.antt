@@ -1,6 +1,6 @@
 use Rattle.std.proofs.Common.{rules, ◌≡◌, ℕ, ◌+◌, ◌*◌, ◌∷◌, replicate, length, refl, ap, ◌∙◌, arith}
 use Rattle.std.proofs.lemmas.List.{length-replicate}
-use Rattle.vs_page.specs.declared.log.TheConstants.{FIRST_CID}
+use Rattle.vs_limits.specs.declared.TheConstants.{FIRST_CID}
 use Rattle.vs_ring_rule.proofs.Ends.{opens, splits}
 use Rattle.vs_ring_shared.proofs.Makes.{first_device, first_driver}
 use Rattle.vs_ring_shared.proofs.making.make.Goals as goal

@@ -1,11 +1,11 @@
 use Rattle.std.proofs.Common.{ℕ, ◌<◌, ◌^◌, List, [], Some, sym, ap, subst, arith}
 use Rattle.vs_flow.specs.Table.{Table}
-use Rattle.vs_replies.specs.declared.{Replies.Replies, Reply.Reply}
+use Rattle.vs_replies.specs.{declared.Replies.Replies, declared.Reply.Reply}
 use Rattle.vs_ring_port.specs.Contents.{RingContents}
 use Rattle.vs_device_parts.specs.{State.DeviceConnection, Turns.new_device}
 use Rattle.vs_device_log.specs.Honest.{IsWith}
 use Rattle.vs_device_log.proofs.Turning.{new_with}
-use Rattle.vs_device_parts.specs.declared.limits.TheConstants.{CONNECTIONS}
+use Rattle.vs_limits.specs.declared.TheConstants.{DEVICE_CONNECTIONS}
 use Rattle.vs_proxy_bytes.specs.Told.{AreAccounted}
 use Rattle.vs_proxy_bytes.proofs.Turning.{new_accounted}
 use Rattle.vs_device.proofs.device.Device.new.Goals as goal
@@ -27,4 +27,4 @@ returns-clause-honest c = λ port ring fresh.
 
 pub returns-clause-bytes : goal.returns-clause-bytes
 returns-clause-bytes c = λ host shows.
-    subst (λ (t : Table DeviceConnection). AreAccounted [] t [] (Some host)) (sym c.in_ok-new.ensures) (new_accounted CONNECTIONS host shows)
+    subst (λ (t : Table DeviceConnection). AreAccounted [] t [] (Some host)) (sym c.in_ok-new.ensures) (new_accounted DEVICE_CONNECTIONS host shows)

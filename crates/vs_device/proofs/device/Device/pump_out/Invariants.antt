@@ -1,7 +1,7 @@
 use Rattle.std.proofs.Common.{◌≡◌, ℕ, ◌*◌, ◌≤◌, length, drop, Option}
 use Rattle.vs_contents.specs.CallTree.{for_each}
 use Rattle.vs_outside.specs.Host.{HostContents}
-use Rattle.vs_device_parts.specs.declared.limits.TheConstants.{CONNECTIONS, WRITE_MAX}
+use Rattle.vs_limits.specs.declared.TheConstants.{DEVICE_CONNECTIONS, WRITE_MAX}
 use Rattle.vs_device_parts.specs.{Playing.MayRunOnHost, Playing.RunsOnHost, Streams.Writing, Streams.pump_of, Streams.pump_slot}
 use Rattle.vs_device_parts.specs.Written.{writing}
 use Rattle.vs_device.proofs.device.Device.pump_out.Given as goal
@@ -14,5 +14,5 @@ invariant-loop-slot g l = record {
   may : MayRunOnHost (for_each pump_slot (drop l.slot-index l.slot-items) (writing l.self l.wrote)) (g.H.HostNet.contents l.host) (g.H.HostNet.faults l.host);
   chain : l.self.chain ≡ l.fn.self.chain;
   small : l.wrote ≤ WRITE_MAX * l.slot-index;
-  few : length l.slot-items ≤ CONNECTIONS;
+  few : length l.slot-items ≤ DEVICE_CONNECTIONS;
 }

@@ -4,7 +4,7 @@ use Rattle.vs_outside.specs.Host.{HostContents}
 use Rattle.vs_device_parts.specs.{Calls.Situation, Filling.filling_of}
 use Rattle.vs_device_parts.specs.Playing.{IsRingOf, MayRunOnRing, Runs, situation}
 use Rattle.vs_device_parts.specs.Receiving.{Filling, put_reply}
-use Rattle.vs_device_parts.specs.declared.limits.TheConstants.{REPLIES}
+use Rattle.vs_limits.specs.declared.TheConstants.{DEVICE_REPLIES}
 use Rattle.vs_device.proofs.device.Device.put_replies.Given as goal
 
 -- whatever completes the rest completes the whole
@@ -18,5 +18,5 @@ invariant-loop g l = record {
   going : l.fill.over ≡ false;
   small : l.fill.put ≤ l.counter;
   read : l.fill.read ≡ 0;
-  most : l.most ≤ REPLIES;
+  most : l.most ≤ DEVICE_REPLIES;
 }

@@ -4,7 +4,7 @@ use Rattle.vs_page.specs.declared.page.TheConstants.{PAYLOAD_MAX}
 use Rattle.vs_device_parts.specs.{Calls.Situation, Filling.filling_of, Filling.serve_all}
 use Rattle.vs_device_parts.specs.Playing.{IsRingOf, MayRun, Runs, situation}
 use Rattle.vs_device_parts.specs.Receiving.{Filling, serve_slot}
-use Rattle.vs_device_parts.specs.declared.limits.TheConstants.{CONNECTIONS}
+use Rattle.vs_limits.specs.declared.TheConstants.{DEVICE_CONNECTIONS}
 use Rattle.vs_device.proofs.device.Device.serve_all.Given as goal
 
 -- whatever completes the rest completes the whole
@@ -17,5 +17,5 @@ invariant-loop-slot g l = record {
   ring : IsRingOf (g.R.DeviceRing.held l.ring) l.self;
   small : l.fill.put ≤ l.fn.fill.put + 5 * l.slot-index;
   read : l.fill.read ≤ PAYLOAD_MAX * l.slot-index;
-  few : length l.slot-items ≤ CONNECTIONS;
+  few : length l.slot-items ≤ DEVICE_CONNECTIONS;
 }

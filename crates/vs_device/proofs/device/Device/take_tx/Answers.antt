@@ -1,22 +1,19 @@
-use Rattle.std.proofs.Common.{◌≡◌, false, length, None, refl, sym, ap, subst, rules}
-use Rattle.vs_ring_port.specs.Contents.{Take}
-use Rattle.vs_ring_port.specs.declared.device_ring.Next.{Next}
-use Rattle.vs_ring_port.specs.declared.device_ring.Next.TheVariants as next
-use Rattle.vs_ring_port.specs.declared.failure.Failure.{Failure}
+use Rattle.std.proofs.Common.{◌≡◌, false, length, None, refl, sym, ap, subst, rules, nat_le}
+use Rattle.vs_ring_port.specs.{Contents.Take, declared.device_ring.Next.Next, declared.failure.Failure.Failure}
 use Rattle.vs_ring_port.specs.declared.queue.Queue.TheVariants.{Tx}
-use Rattle.vs_device_parts.specs.declared.answers.Taken.TheVariants as taken
 use Rattle.vs_device_parts.specs.{Calls.Allows, Calls.Ring, State.DeviceState, Playing.MayRun, Playing.situation, Transmitting.on_next}
-use Rattle.std.proofs.Common.{nat_le}
-use Rattle.vs_device_parts.specs.declared.limits.TheConstants.{REPLIES}
+use Rattle.vs_limits.specs.declared.TheConstants.{DEVICE_REPLIES}
 use Rattle.vs_device.proofs.{Takings.may_next, Takings.took_next, Takings.by_next, Ordered.take_honest, Ordered.take_streams}
 use Rattle.vs_device.proofs.Accounted.{take_accounted, take_judged}
+use Rattle.vs_ring_port.specs.declared.device_ring.Next.TheVariants as next
+use Rattle.vs_device_parts.specs.declared.answers.Taken.TheVariants as taken
 use Rattle.vs_device.proofs.device.Device.take_tx.Goals as goal
 
 pub take_chain-requires-clause-may : goal.take_chain-requires-clause-may
 take_chain-requires-clause-may g c =
     let s : DeviceState = c.args.self.now in
     let sound : s.failed ≡ None = rw (← c.self.view_is) (search rules) in
-    let room : nat_le REPLIES (length s.replies) ≡ false = rw (← c.self.view_is) (search rules) in
+    let room : nat_le DEVICE_REPLIES (length s.replies) ≡ false = rw (← c.self.view_is) (search rules) in
     let host = g.H.HostNet.contents c.args.host.now in
     let faults = g.H.HostNet.faults c.args.host.now in
     let x = situation (g.R.DeviceRing.contents c.args.ring.now) host faults in
@@ -29,7 +26,7 @@ pub returns-in-Chain-clause-calls : goal.returns-in-Chain-clause-calls
 returns-in-Chain-clause-calls g c =
     let s : DeviceState = c.args.self.now in
     let sound : s.failed ≡ None = rw (← c.self.view_is) (search rules) in
-    let room : nat_le REPLIES (length s.replies) ≡ false = rw (← c.self.view_is) (search rules) in
+    let room : nat_le DEVICE_REPLIES (length s.replies) ≡ false = rw (← c.self.view_is) (search rules) in
     let host = g.H.HostNet.contents c.args.host.now in
     let faults = g.H.HostNet.faults c.args.host.now in
     let x = situation (g.R.DeviceRing.contents c.args.ring.now) host faults in
@@ -43,7 +40,7 @@ pub returns-in-None-clause-calls : goal.returns-in-None-clause-calls
 returns-in-None-clause-calls g c =
     let s : DeviceState = c.args.self.now in
     let sound : s.failed ≡ None = rw (← c.self.view_is) (search rules) in
-    let room : nat_le REPLIES (length s.replies) ≡ false = rw (← c.self.view_is) (search rules) in
+    let room : nat_le DEVICE_REPLIES (length s.replies) ≡ false = rw (← c.self.view_is) (search rules) in
     let host = g.H.HostNet.contents c.args.host.now in
     let faults = g.H.HostNet.faults c.args.host.now in
     let x = situation (g.R.DeviceRing.contents c.args.ring.now) host faults in
@@ -55,7 +52,7 @@ pub returns-in-Failed-clause-calls : goal.returns-in-Failed-clause-calls
 returns-in-Failed-clause-calls g c =
     let s : DeviceState = c.args.self.now in
     let sound : s.failed ≡ None = rw (← c.self.view_is) (search rules) in
-    let room : nat_le REPLIES (length s.replies) ≡ false = rw (← c.self.view_is) (search rules) in
+    let room : nat_le DEVICE_REPLIES (length s.replies) ≡ false = rw (← c.self.view_is) (search rules) in
     let host = g.H.HostNet.contents c.args.host.now in
     let faults = g.H.HostNet.faults c.args.host.now in
     let x = situation (g.R.DeviceRing.contents c.args.ring.now) host faults in

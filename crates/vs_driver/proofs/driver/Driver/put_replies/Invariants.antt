@@ -1,8 +1,7 @@
 use Rattle.std.proofs.Common.{◌-◌, ◌≤◌}
 use Rattle.vs_contents.specs.CallTree.{while_up_to}
-use Rattle.vs_ring_port.specs.declared.queue.Queue.TheVariants.{Tx}
-use Rattle.vs_ring_port.specs.Contents.{RingContents}
-use Rattle.vs_driver_parts.specs.declared.limits.TheConstants.{REPLIES}
+use Rattle.vs_ring_port.specs.{declared.queue.Queue.TheVariants.Tx, Contents.RingContents}
+use Rattle.vs_limits.specs.declared.TheConstants.{DRIVER_REPLIES}
 use Rattle.vs_driver_parts.specs.Conversations.{Round, round_of, put_replies, put_reply}
 use Rattle.vs_driver_parts.specs.Playing.{IsAtWork, MayPublishAll, Plays}
 use Rattle.vs_driver.proofs.driver.Driver.put_replies.Given as goal
@@ -14,5 +13,5 @@ invariant-loop g l = record {
   may : MayPublishAll (while_up_to (l.most - l.counter) put_reply (round_of l.self l.tally)) (g.R.DriverRing.contents l.ring);
   ring : IsAtWork Tx (g.R.DriverRing.size l.ring) (g.R.DriverRing.flight l.ring) (g.R.DriverRing.staged l.ring) l.self;
   small : l.tally.count ≤ l.counter;
-  most : l.most ≤ REPLIES;
+  most : l.most ≤ DRIVER_REPLIES;
 }

@@ -3,7 +3,7 @@ use Rattle.vs_flow.specs.Table.{Table, with_entry, next_entry}
 use Rattle.vs_flow.proofs.Tables.{with_entry_sound}
 use Rattle.vs_driver_parts.specs.{Room.IsSpare, State.DriverConnection}
 use Rattle.vs_driver_parts.proofs.{Numbers.numbers_with_entry, SlotChanges.all_front}
-use Rattle.vs_driver_parts.specs.declared.limits.TheConstants.{LAST_ID}
+use Rattle.vs_limits.specs.declared.TheConstants.{LAST_ID}
 use Rattle.vs_driver_parts.proofs.slots.Slots.open_answering.Goals as goal
 
 pub invariant_of-self : goal.invariant_of-self

@@ -4,7 +4,7 @@ use Rattle.vs_ring_port.specs.Contents.{RingContents}
 use Rattle.vs_uds.specs.declared.connect.TheConstants.{CONNECT_MAX}
 use Rattle.vs_device_parts.specs.{Calls.Situation, Playing.MayRunOnHost, Playing.Runs, Playing.situation}
 use Rattle.vs_proxy_parts.specs.{Handshakes.read_line, State.Turning, Turning.CountsFew, Turning.read_lines, Turning.turning_of}
-use Rattle.vs_proxy_parts.specs.declared.limits.TheConstants.{HANDSHAKES}
+use Rattle.vs_limits.specs.declared.TheConstants.{HANDSHAKES}
 use Rattle.vs_proxy.proofs.proxy.Proxy.read_lines.Given as goal
 
 -- whatever completes the rest completes the whole
