@@ -1,7 +1,10 @@
-//! Tests of shared rings: two threads pass a million pages, indices wrap, and ends meet.
+//! Tests of shared rings whose ends have a name: threads pass a million pages, and some under a lock, indices wrap, ends meet, and the
+//! stores of an index are counted.
 #![tactic(auto)]
 
 #[cfg(test)]
 mod events;
 #[cfg(test)]
 mod packets;
+#[cfg(test)]
+mod stores;

@@ -7,17 +7,17 @@ ghost use Rattle.vs_header.specs.Op.{op_number};
 ghost use Rattle.vs_ring_shared.specs.Ports.{IsRingSize};
 ghost use Rattle.tests_rings.specs.Senders.{bare, numbered};
 
-use std::alloc::AllocError;
+use std::alloc::{AllocError, Global};
 use std::hint;
-use std::marker::Model;
+use std::marker::{Brand, Model};
 use std::sync::Wait;
 use std::test::Fail;
 use std::thread::{Threads, join};
 use vs_header::{HEADER_LEN, Header, Kind, Op};
 use vs_page::{Page, put_packet};
-use vs_ring_port::Queue;
+use vs_ring_port::{DeviceRing, DriverRing, Next, Queue, Reaped};
 use vs_ring_shared::{
-    DeviceEnd, DriverEnd, Met, laws_of_device_end, laws_of_driver_end, make, meet,
+    DeviceEnd, DriverEnd, Met, NewRings, RingName, laws_of_driver_end, make, meet, named,
 };
 
 /// A header of the one connection, of this operation and with a number in its flags.
@@ -39,30 +39,29 @@ fn numbered(op: Op, number: u32) -> Header
 }
 
 /// Puts a packet without payload, and answers whether a descriptor was free for it.
-fn put(driver: &mut DriverEnd, mut page: Page, header: &Header) -> bool
+fn put<N: RingName>(driver: &mut DriverEnd<N>, mut page: Page, header: &Header) -> bool
     requires none_staged { driver.old.tx.staged ≡ [] }
     requires whole { IsWhole (bare header.now) }
     requires fair { IsFairLog Driver (PutPacket (bare header.now) ∷ driver.old.log) }
     ensures none_staged { driver.new.tx.staged ≡ [] }
     ensures put { result ≡ true → driver.new.log ≡ PutPacket (bare header.now) ∷ driver.old.log }
     ensures full { result ≡ false → driver.new.log ≡ driver.old.log }
-    ensures table { driver.new.table ≡ driver.old.table }
 {
     put_packet(&mut page, header, &[]);
-    if driver.stage_page(Queue::Tx, page).is_err() {
+    if driver.stage(Queue::Tx, page).is_err() {
         return false;
     }
-    driver.publish_staged(Queue::Tx);
+    driver.publish(Queue::Tx);
     true
 }
 
 /// The driver's end, once it put the REQUEST. No page is staged on tx.
 #[derive(Drop)]
-struct Sender {
-    end: DriverEnd,
+struct Sender<N: RingName> {
+    end: DriverEnd<N>,
 }
 
-impl Model for Sender {
+impl<N: RingName> Model for Sender<N> {
     ghost use Rattle.tests_rings.specs.Senders.{IsSending};
     ghost use Rattle.vs_ring_shared.specs.Sights.{Sight};
 
@@ -73,9 +72,9 @@ impl Model for Sender {
     ghost invariant = { λ s. IsSending s.end };
 }
 
-impl Sender {
+impl<N: RingName> Sender<N> {
     /// Puts the REQUEST.
-    fn ask(mut driver: DriverEnd, page: Page) -> Option<Sender>
+    fn ask(mut driver: DriverEnd<N>, page: Page) -> Option<Sender<N>>
         requires nothing { driver.log ≡ [] }
         requires none_staged { driver.tx.staged ≡ [] }
     {
@@ -93,12 +92,15 @@ impl Sender {
 
     /// Gets back a page that the device read.
     fn take_back(&mut self) -> Option<Page> {
-        self.end.reap_page(Queue::Tx)
+        match self.end.reap(Queue::Tx) {
+            Reaped::Back(page) => Some(page),
+            Reaped::None => None,
+        }
     }
 }
 
 /// Sends the numbers from `next` on that are below `count`, each in a page that came back.
-fn send_all<R: Wait>(rt: &R, sender: &mut Sender, mut next: u32, count: u32) {
+fn send_all<N: RingName, R: Wait>(rt: &R, sender: &mut Sender<N>, mut next: u32, count: u32) {
     for _ in rt.forever() {
         if next >= count {
             break;
@@ -122,23 +124,18 @@ fn is_numbered(header: &Header, number: u32) -> bool {
 }
 
 /// Takes the next packet, if there is one, and answers whether it is the one of this number.
-fn receive_one(device: &mut DeviceEnd, number: u32) -> Option<bool>
-    ensures { device.new.sight.table ≡ device.old.sight.table }
-{
-    match device.take_next(Queue::Tx) {
-        Some(chain) => {
-            let mut bytes = [0; HEADER_LEN];
-            device.read_from(&chain, 0, &mut bytes);
-            laws_of_device_end(device);
-            device.give_back(chain, 0);
-            Some(is_numbered(&Header::decode(&bytes), number))
-        }
-        None => None,
-    }
+fn receive_one<N: RingName>(device: &mut DeviceEnd<N>, number: u32) -> Option<bool> {
+    let Next::Chain(chain) = device.next(Queue::Tx) else {
+        return None;
+    };
+    let mut bytes = [0; HEADER_LEN];
+    device.read(&chain, 0, &mut bytes);
+    device.done(chain, 0);
+    Some(is_numbered(&Header::decode(&bytes), number))
 }
 
 /// Takes `count` packets. Answers how many came as they were sent, in order.
-fn receive_all<R: Wait>(rt: &R, device: &mut DeviceEnd, count: u32) -> u32 {
+fn receive_all<N: RingName, R: Wait>(rt: &R, device: &mut DeviceEnd<N>, count: u32) -> u32 {
     let mut next: u32 = 0;
     let mut right: u32 = 0;
     for _ in rt.forever() {
@@ -159,10 +156,10 @@ fn receive_all<R: Wait>(rt: &R, device: &mut DeviceEnd, count: u32) -> u32 {
 }
 
 /// Two threads pass `count` packets over queues of `size` descriptors. Answers how many came as they were sent, in order.
-fn relay<R: Threads + Wait + Sync>(
+fn relay<N: RingName + Send, R: Threads + Wait + Sync>(
     rt: &R,
-    mut sender: Sender,
-    mut device: DeviceEnd,
+    mut sender: Sender<N>,
+    mut device: DeviceEnd<N>,
     first: u32,
     count: u32,
 ) -> u32 {
@@ -174,65 +171,80 @@ fn relay<R: Threads + Wait + Sync>(
     right
 }
 
-/// The rings, with the REQUEST and then as many RSTs under way as there is room for.
-fn opened(rt: &HostRuntime, size: u16) -> Result<Option<(Sender, DeviceEnd)>, AllocError>
-    requires { IsRingSize size }
+/// New rings of which each queue has `size` descriptors, with the REQUEST and then as many RSTs under way as there is room for.
+fn opened<N: RingName>(
+    alloc: Global,
+    rings: NewRings,
+    size: u16,
+) -> Result<Option<(Sender<N>, DeviceEnd<N>)>, AllocError>
+    requires { rings.table ≡ N.ring }
 {
-    let (driver, device) = make(rt.alloc(), size)?;
-    let Some(mut sender) = Sender::ask(driver, Page::new(rt.alloc())?) else {
+    let (driver, device) = named::<N>(rings);
+    let Some(mut sender) = Sender::ask(driver, Page::new(alloc)?) else {
         return Ok(None);
     };
     for number in 1..size {
-        sender.send(Page::new(rt.alloc())?, u32::from(number));
+        sender.send(Page::new(alloc)?, u32::from(number));
     }
     Ok(Some((sender, device)))
 }
 
-/// Two threads pass `count` packets over queues of `size` descriptors. Answers whether all came as they were sent, in order.
+/// Two threads pass `count` packets over new rings. Answers whether all came as they were sent, in order.
+fn passed<N: RingName + Send, R: Threads + Wait + Sync>(
+    rt: &R,
+    alloc: Global,
+    rings: NewRings,
+    size: u16,
+    count: u32,
+) -> Result<bool, AllocError>
+    requires { rings.table ≡ N.ring }
+{
+    match opened::<N>(alloc, rings, size)? {
+        Some((sender, device)) => Ok(relay(rt, sender, device, u32::from(size), count) == count),
+        None => Ok(false),
+    }
+}
+
+/// The same over rings of which each queue has `size` descriptors.
 fn all_pass<R: Threads + Wait + Sync>(
-    rt: &HostRuntime,
-    threads: &R,
+    rt: &R,
+    alloc: Global,
     size: u16,
     count: u32,
 ) -> Result<bool, AllocError>
     requires { IsRingSize size }
 {
-    match opened(rt, size)? {
-        Some((sender, device)) => {
-            Ok(relay(threads, sender, device, u32::from(size), count) == count)
-        }
-        None => Ok(false),
-    }
+    let rings = make(alloc, size)?;
+    passed::<Brand, R>(rt, alloc, rings, size, count)
 }
 
 #[test]
 fn two_threads_pass_packets_over_eight_pages(rt: HostRuntime) -> Result<(), Fail> {
-    assert!(rt; all_pass(&rt, &rt, 8, 1_000_000)?);
+    assert!(rt; all_pass(&rt, rt.alloc(), 8, 1_000_000)?);
     Ok(())
 }
 
 #[test]
 fn two_threads_pass_packets_over_256_pages(rt: HostRuntime) -> Result<(), Fail> {
-    assert!(rt; all_pass(&rt, &rt, 256, 1_000_000)?);
+    assert!(rt; all_pass(&rt, rt.alloc(), 256, 1_000_000)?);
     Ok(())
 }
 
 /// One packet passes, and the ends meet.
-fn pass_and_meet(mut driver: DriverEnd, mut device: DeviceEnd, page: Page) -> Option<Met>
-    requires same { driver.table ≡ device.sight.table }
-    requires nothing { driver.log ≡ [] }
-    requires none_staged { driver.tx.staged ≡ [] }
+fn pass_and_meet<N: RingName>(rings: NewRings, page: Page) -> Option<Met>
+    requires { rings.table ≡ N.ring }
 {
+    let (mut driver, mut device) = named::<N>(rings);
     if !put(&mut driver, page, &numbered(Op::Request, 0)) {
         return None;
     }
     receive_one(&mut device, 0)?;
-    Some(meet(&mut driver, device))
+    Some(meet(&mut driver, &mut device))
 }
 
 #[test]
 fn ends_meet_after_a_packet(rt: HostRuntime) -> Result<(), Fail> {
-    let (driver, device) = make(rt.alloc(), 8)?;
+    let rings = make(rt.alloc(), 8)?;
     let met = Met {
         tx_put: 1,
         tx_got: 1,
@@ -241,6 +253,6 @@ fn ends_meet_after_a_packet(rt: HostRuntime) -> Result<(), Fail> {
         ev_put: 0,
         ev_got: 0,
     };
-    assert!(rt; pass_and_meet(driver, device, Page::new(rt.alloc())?) == Some(met));
+    assert!(rt; pass_and_meet::<Brand>(rings, Page::new(rt.alloc())?) == Some(met));
     Ok(())
 }

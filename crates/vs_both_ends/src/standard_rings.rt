@@ -65,6 +65,7 @@ fn memory_size(n: u16) -> u64
 }
 
 impl DriverRing for StandardRings {
+    ghost use Rattle.std.specs.Prelude.{true};
     ghost use Rattle.vs_ring_list.specs.Ends.{driver_contents, flight_of, staged_of};
 
     ghost size = { λ r. r.lists.size };
@@ -74,6 +75,8 @@ impl DriverRing for StandardRings {
     ghost staged = { staged_of };
 
     ghost contents = { driver_contents };
+
+    ghost kicks = { λ r queue. true };
 
     fn size(&self) -> u16 {
         laws_of_standard_rings(&self.rings);
@@ -111,9 +114,14 @@ impl DriverRing for StandardRings {
         laws_of_standard_rings(&self.rings);
         self.rings.in_flight(queue)
     }
+
+    fn kick(&self, _queue: Queue) -> bool {
+        true
+    }
 }
 
 impl DeviceRing for StandardRings {
+    ghost use Rattle.std.specs.Prelude.{true};
     ghost use Rattle.vs_ring_port.specs.Chains.{chains_of};
     ghost use Rattle.vs_ring_list.specs.Ends.{device_contents};
 
@@ -122,6 +130,8 @@ impl DeviceRing for StandardRings {
     ghost held = { λ r. chains_of r.device.held };
 
     ghost contents = { device_contents };
+
+    ghost kicks = { λ r queue. true };
 
     fn size(&self) -> u16 {
         laws_of_standard_rings(&self.rings);
@@ -172,6 +182,10 @@ impl DeviceRing for StandardRings {
         laws_of_standard_rings(&self.rings);
         self.rings.publish_cid(cid);
         laws_of_standard_rings(&self.rings);
+    }
+
+    fn kick(&self, _queue: Queue) -> bool {
+        true
     }
 }
 

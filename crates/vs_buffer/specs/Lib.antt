@@ -1,1 +1,3 @@
 pub mod Fifo
+pub mod MessageFields
+pub mod Messages

@@ -1,10 +1,13 @@
 //! A bounded queue of bytes: what came in on a connection and was not read yet, or was not written to the host's stream
-//! yet (the receive buffer of Virtio 1.2, section 5.10.6.3, whose size is `buf_alloc`).
+//! yet (the receive buffer of Virtio 1.2, section 5.10.6.3, whose size is `buf_alloc`); and such a queue that knows where messages end.
 #![tactic(auto)]
 
 ghost use Rattle.std.specs.Prelude.{◌≡◌, ◌+◌, ◌-◌, ◌≤◌, ◌==◌, [], ◌++◌, IfOk, drop, length, min, take};
 
+pub mod messages;
+
 use circular_buffer::HeapCircularBuffer;
+pub use messages::{Mark, MessageFifo};
 use std::alloc::{AllocError, Global};
 use std::marker::Model;
 

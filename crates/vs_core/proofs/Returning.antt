@@ -3,7 +3,7 @@ use Rattle.std.proofs.Common.{ℕ, ◌-◌, ◌==◌, ◌&&◌, not, nat_lt, nat
 use Rattle.std.proofs.Common.{Ok, Err, arith}
 use Rattle.vs_contents.specs.CallTree.{Done, bind, for_each}
 use Rattle.vs_conn.specs.{Headers.owed_header, Headers.payload_header, declared.end.Owed.Owed, declared.end.Verdict.Verdict}
-use Rattle.vs_conn.specs.End.{owes_of, is_reset, is_of, verdict_of, wanting_credit}
+use Rattle.vs_conn.specs.End.{owes_of, is_reset, is_of, verdict_of, wanting_credit, is_stream}
 use Rattle.vs_flow.specs.{Flow.host_flow, Flow.is_assigned, Table.entry_of, Table.entry_under, Table.has_place, Table.refusal, Table.slots}
 use Rattle.vs_header.specs.{Op.op_number, Packet.header_of, declared.Header.Header, declared.TheConstants.HEADER_LEN}
 use Rattle.vs_header.specs.{declared.Op.TheVariants.Request, declared.Kind.TheVariants.Stream}

@@ -6,6 +6,7 @@ ghost use Rattle.vs_core.specs.Ready.{Happens, IsReady};
 
 use crate::world::World;
 use std::alloc::AllocError;
+use vs_header::Kind;
 
 impl World {
     /// A program listens on a port.
@@ -13,7 +14,7 @@ impl World {
         requires ready { IsReady self.old }
         ensures { OnOk result (Happens (HostListens port) self.old self.new) }
     {
-        self.host.listen(port)
+        self.host.listen(port, Kind::Stream)
     }
 
     /// It listens there no more.
@@ -21,7 +22,7 @@ impl World {
         requires ready { IsReady self.old }
         ensures { OnOk result (Happens (HostUnlistens port) self.old self.new) }
     {
-        self.host.unlisten(port)
+        self.host.unlisten(port, Kind::Stream)
     }
 
     /// A client connects to the base path.

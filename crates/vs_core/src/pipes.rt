@@ -3,7 +3,7 @@
 ghost use Rattle.std.specs.Prelude.{◌≡◌, ℕ, ◌++◌, true, List, Contains, None, Some};
 ghost use Rattle.vs_device_parts.specs.State.{DeviceEntry};
 ghost use Rattle.vs_driver_parts.specs.State.{DriverEntry, GoneConnection};
-ghost use Rattle.vs_flow.specs.declared.flow.Flow.{Flow};
+ghost use Rattle.vs_flow.specs.{Connection.first_of, declared.flow.Flow.Flow};
 ghost use Rattle.vs_history.specs.{History.puts, Packets.has, Packets.shuts_send};
 ghost use Rattle.vs_outside.specs.{Host.HostContents, Host.Stream, Host.stream_at, HostBytes.host_read, HostBytes.host_wrote};
 ghost use Rattle.vs_page.specs.{Fair.IsPrefixOf, Fair.payload_got, Fair.payload_put, Log.Device, Log.Driver, Log.history_of};
@@ -35,9 +35,9 @@ pub fn law_of_receiving()
 /// taken of its stream (Firecracker's vsock documentation).
 pub fn law_of_streams()
     ensures put { (n : ℕ) (host : HostContents) (es : List Event) (f : Flow) → IsFresh host → let w = run es (opening n host) in
-        payload_put Device f 1 (both_of w).device.log ≡ host_wrote f 1 w.host }
+        payload_put Device f 1 (both_of w).device.log ≡ host_wrote (first_of f) w.host }
     ensures given { (n : ℕ) (host : HostContents) (es : List Event) (f : Flow) → IsFresh host → let w = run es (opening n host) in
-        IsPrefixOf (host_read f 1 w.host) (payload_got Device f 1 (both_of w).device.log) }
+        IsPrefixOf (host_read (first_of f) w.host) (payload_got Device f 1 (both_of w).device.log) }
     ensures one { (n : ℕ) (host : HostContents) (es : List Event) (f : Flow) (i j : ℕ) (s t : Stream) → IsFresh host
         → let w = run es (opening n host) in
         stream_at i w.host ≡ Some s → stream_at j w.host ≡ Some t → s.label ≡ Some f → t.label ≡ Some f → i ≡ j }
@@ -56,9 +56,9 @@ pub fn law_of_streams()
 /// stream's bytes are of its own connection alone.
 pub fn law_of_prefixes()
     ensures to_guest { (n : ℕ) (host : HostContents) (es : List Event) (f : Flow) → IsFresh host → let w = run es (opening n host) in
-        IsPrefixOf (received_on f w.journal) (host_wrote f 1 w.host) }
+        IsPrefixOf (received_on f w.journal) (host_wrote (first_of f) w.host) }
     ensures to_host { (n : ℕ) (host : HostContents) (es : List Event) (f : Flow) → IsFresh host → let w = run es (opening n host) in
-        IsPrefixOf (host_read f 1 w.host) (sent_on f w.journal) }
+        IsPrefixOf (host_read (first_of f) w.host) (sent_on f w.journal) }
 {}
 
 /// Shutting is for good. Once the driver told that a connection sends no more, what the guest sent there stays, whatever happens; once the
@@ -68,13 +68,13 @@ pub fn law_of_shutting()
         has shuts_send (puts (history_of Driver f (both_of w).driver.log)) ≡ true → sent_on f (run more w).journal ≡ sent_on f w.journal }
     ensures wrote { (n : ℕ) (host : HostContents) (es more : List Event) (f : Flow) → IsFresh host → let w = run es (opening n host) in
         has shuts_send (puts (history_of Device f (both_of w).device.log)) ≡ true
-        → host_wrote f 1 (run more w).host ≡ host_wrote f 1 w.host }
+        → host_wrote (first_of f) (run more w).host ≡ host_wrote (first_of f) w.host }
 {}
 
 /// The same after any script: bytes both ways, in order.
 pub fn law_of_script_bytes()
     ensures to_guest { (n : ℕ) (host : HostContents) (ls : List Line) (f : Flow) → AreRight ls → IsFresh host
-        → let w = after ls (opening n host) in IsPrefixOf (received_on f w.journal) (host_wrote f 1 w.host) }
+        → let w = after ls (opening n host) in IsPrefixOf (received_on f w.journal) (host_wrote (first_of f) w.host) }
     ensures to_host { (n : ℕ) (host : HostContents) (ls : List Line) (f : Flow) → AreRight ls → IsFresh host
-        → let w = after ls (opening n host) in IsPrefixOf (host_read f 1 w.host) (sent_on f w.journal) }
+        → let w = after ls (opening n host) in IsPrefixOf (host_read (first_of f) w.host) (sent_on f w.journal) }
 {}

@@ -82,7 +82,7 @@ module _ (s : DeviceState) (a b : Situation) where
 
 -- A ring that exposes nothing.
 abbrev untold : RingContents
-untold = record { lists = None; log = None; other = None; plain = None; honest = false }
+untold = record { lists = None; log = None; other = None; plain = None; known = None; honest = false }
 
 -- What a single step keeps of the streams, by what its conversation keeps.
 module _ (tree : DeviceTree DeviceState) (others : List ℕ) (s t : DeviceState) where

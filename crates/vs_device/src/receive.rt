@@ -34,6 +34,8 @@ use vs_device_parts::packets::{read_into, write_packet};
 use vs_device_parts::round::round_from;
 use vs_flow::Slot;
 use vs_header::{HEADER_LEN, Header, Op};
+use vs_header::{HEADER_LEN, Header, Kind, Op};
+use vs_limits::HOST_CID;
 use vs_outside::{HostNet, StreamRead};
 use vs_page::PAYLOAD_MAX;
 use vs_replies::Reply;

@@ -5,25 +5,21 @@ use Rattle.std.proofs.lemmas.List.{append-nil}
 use Rattle.std.specs.Option.{ForSome, option_map}
 use Rattle.byteorder.specs.Endian.{little_bytes}
 use Rattle.vs_contents.specs.Contents.{Exposes, Relates}
-use Rattle.vs_header.specs.Packet.{header_bytes, header_of}
-use Rattle.vs_header.specs.declared.{Header.Header, TheConstants.HEADER_LEN}
-use Rattle.vs_history.specs.Packets.{is_rw}
-use Rattle.vs_history.specs.declared.packet.Packet.{Packet}
+use Rattle.vs_header.specs.{Packet.header_bytes, Packet.header_of, declared.Header.Header, declared.TheConstants.HEADER_LEN}
+use Rattle.vs_history.specs.{Packets.is_rw, declared.packet.Packet.Packet}
 use Rattle.vs_page.specs.{Held.packet_held, Held.payload_held, Log.Log, Overwriting.overwritten}
 use Rattle.vs_page.specs.declared.log.LogEntry.TheVariants.{PutEvent, PutPacket}
-use Rattle.vs_ring_port.specs.Chains.{Held, bytes_in}
+use Rattle.vs_ring_port.specs.{Chains.Held, Chains.bytes_in, DeviceCalls.DeviceMoves, DeviceCalls.IsTakenAs, Lists.Rings}
+use Rattle.vs_ring_port.specs.{declared.device_ring.Chain.Chain, declared.failure.Failure.Failure}
 use Rattle.vs_ring_port.specs.Contents.{DeviceAnswer, DeviceCall, Read, Return, RingContents, Take, Write}
-use Rattle.vs_ring_port.specs.DeviceCalls.{DeviceMoves, IsTakenAs}
-use Rattle.vs_ring_port.specs.{EndLog.EndLog, EndLog.log_returned, EndLog.log_taken, EndLog.log_written, EndLog.with_packet, Lists.Rings}
-use Rattle.vs_ring_port.specs.declared.device_ring.Chain.{Chain}
-use Rattle.vs_ring_port.specs.declared.device_ring.Next.TheVariants as next
-use Rattle.vs_ring_port.specs.declared.failure.Failure.{Failure}
+use Rattle.vs_ring_port.specs.EndLog.{EndLog, log_returned, log_taken, log_written, with_packet}
 use Rattle.vs_ring_port.specs.declared.queue.Queue.TheVariants.{Event, Rx, Tx}
 use Rattle.vs_device_parts.specs.{Calls.Allows, Calls.Ring, Calls.Situation, Playing.Runs, Receiving.event_on, Receiving.written}
 use Rattle.vs_device_parts.specs.State.{DeviceState}
 use Rattle.vs_device_log.specs.Packets.{HasAdded, HasTaken, HoldsLast, IsWholeAs, packet_with}
 use Rattle.vs_device_log.proofs.Ringing.{both_written, bytes_held, one_written, returned_entries, returned_held, written_held}
 use Rattle.vs_device_log.proofs.Transmitting.{some_test}
+use Rattle.vs_ring_port.specs.declared.device_ring.Next.TheVariants as next
 
 -- What a call does to the log, between the logs before and after it.
 related : (call : DeviceCall) (a : DeviceAnswer call) (L : Rings → Type 0) (f : Rings → Rings) (R : EndLog → Type 0) (g : EndLog → EndLog)
@@ -119,7 +115,7 @@ pub takes_one : (chain : Chain) (a b : Situation) → Allows (Ring (Take Tx)) (n
     (HasTaken chain)
 takes_one chain a b allowed =
     related _ _ _ _ _ (log_taken Tx (next.Chain chain) allowed.0.0) a.ring b.ring allowed.0.1 (HasTaken chain)
-    (λ l is asked. by allowed.0.0 l asked)
+    (λ l is asked. by allowed.0.0 l asked.0)
   where
     by : (page : Option (List ℕ)) (l : EndLog) → IsTakenAs Tx (next.Chain chain) page → HasTaken chain l
         (log_taken Tx (next.Chain chain) page l)

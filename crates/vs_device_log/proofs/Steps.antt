@@ -2,15 +2,14 @@
 use Rattle.std.proofs.Common.{◌≡◌, ℕ, Bool, true, false, not, cond, List, [], ◌∷◌, Option, Some, None, refl, sym, ap, subst, ◌∙◌, IfSome}
 use Rattle.vs_contents.specs.CallTree.{Done, Ask, bind}
 use Rattle.vs_ring_port.specs.{Chains.Held, Contents.RingContents, Contents.Take, DeviceCalls.DeviceAllows, DeviceCalls.IsTakenAs}
-use Rattle.vs_ring_port.specs.EndLog.{EndLog, log_taken}
-use Rattle.vs_ring_port.specs.declared.device_ring.{Chain.Chain, Next.Next}
-use Rattle.vs_ring_port.specs.declared.device_ring.Next.TheVariants as next
+use Rattle.vs_ring_port.specs.{EndLog.EndLog, EndLog.log_taken, declared.device_ring.Chain.Chain, declared.device_ring.Next.Next}
 use Rattle.vs_ring_port.specs.declared.queue.Queue.TheVariants.{Rx}
 use Rattle.vs_device_parts.specs.{Calls.CloseStream, Calls.DeviceTree, Calls.IsFitAnswer, Connections.with_connection, Playing.IsRxChain}
-use Rattle.vs_device_parts.specs.Receiving.{Filling, hold, holding}
 use Rattle.vs_device_parts.specs.{State.DeviceConnection, State.DeviceEntry, State.DeviceState, Streams.closing, Transmitting.failing}
+use Rattle.vs_device_parts.specs.Receiving.{Filling, hold, holding}
 use Rattle.vs_device_log.specs.Honest.{IsFitState, IsToldOf, IsWith, unwritten}
 use Rattle.vs_device_log.proofs.{Changing.Changes, Keeping.Goes, Keeping.Keeps, Ringing.moves}
+use Rattle.vs_ring_port.specs.declared.device_ring.Next.TheVariants as next
 
 module _ (first port : ℕ) where
   -- A step that puts and gets nothing.
@@ -76,7 +75,7 @@ module _ (first port : ℕ) where
         (fit.queue_is, fit.long),
         moves _ _ _ _ _ (log_taken Rx (next.Chain chain) made.0) c d made.1 (IsToldOf first port s)
             (IsToldOf first port (record s { chain = Some chain }))
-            (λ h l asked was fair. taken_by made.0 h l asked was) holds.1,
+            (λ h l asked was fair. taken_by made.0 h l asked.0 was) holds.1,
       )
     where
       taken_by : (page : Option (List ℕ)) (h : Bool) (l : EndLog) → IsTakenAs Rx (next.Chain chain) page → IsToldOf first port s h l

@@ -15,7 +15,7 @@ use Rattle.vs_ring_port.specs.{Chains.Held, Contents.RingContents, Contents.Read
 use Rattle.vs_ring_port.specs.{EndLog.EndLog, EndLog.log_returned, EndLog.log_taken, EndLog.with_packet, declared.device_ring.Chain.Chain}
 use Rattle.vs_ring_port.specs.{declared.device_ring.Next.Next, declared.failure.Failure.Failure, declared.queue.Queue.TheVariants.Tx}
 use Rattle.vs_ring_port.specs.DeviceCalls.{DeviceAllows, IsTakenAs}
-use Rattle.vs_matching.proofs.Fair.{got_formed}
+use Rattle.vs_matching.proofs.Fair.{got_formed, own_got_fair}
 use Rattle.vs_device_parts.specs.{declared.answers.Taken.Taken, Calls.IsFitAnswer, Calls.Ring, Playing.IsRxChain, State.DeviceState}
 use Rattle.vs_device_parts.specs.Transmitting.{failing, on_header, on_next, on_packet, take_tx_of}
 use Rattle.vs_limits.specs.declared.TheConstants.{DEVICE_REPLIES}
@@ -190,7 +190,7 @@ module _ (first port : ℕ) (s : DeviceState) where
   next_keeps (next.Chain chain) c d going fit made holds =
       read_keeps chain fit.long fit.queue_is holds.0 going d
       (moves _ _ _ _ _ (log_taken Tx (next.Chain chain) made.0) c d made.1 (IsToldOf first port s) (Took chain fit.long fit.queue_is)
-      (λ hon l asked was fair. by made.0 hon l asked was fair) holds.1)
+      (λ hon l asked was fair. by made.0 hon l asked.0 was fair) holds.1)
     where
       by : (page : Option (List ℕ)) (hon : Bool) (l : EndLog) → IsTakenAs Tx (next.Chain chain) page → IsToldOf first port s hon l
           → (hon ≡ true → IsFairLog Device (log_taken Tx (next.Chain chain) page l).entries)

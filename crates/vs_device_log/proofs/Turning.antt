@@ -5,7 +5,7 @@ use Rattle.std.proofs.Common.{◌⊎◌, inl, inr, length-append, length-take}
 use Rattle.std.proofs.lemmas.Bool.Decides.{nat_tests}
 use Rattle.byteorder.specs.Endian.{little_bytes}
 use Rattle.vs_contents.specs.CallTree.{Done, Ask, bind, for_each}
-use Rattle.vs_conn.specs.End.{asked}
+use Rattle.vs_conn.specs.{End.asked, Follows.IsSpace}
 use Rattle.vs_flow.specs.{Table.IsTable, Table.Table, Table.emptied, Table.entry_under, Table.refusal, Table.slots, declared.flow.Flow.Flow}
 use Rattle.vs_flow.specs.declared.table.TableFault.{TableFault}
 use Rattle.vs_flow.proofs.Tables.{accepted}
@@ -178,7 +178,7 @@ module _ (first port : ℕ) where
         (unwritten s.chain) d (omega arith)
         (moves _ _ _ _ _ (log_taken Event (next.Chain chain) made.0) c d made.1 (IsToldOf first port s)
         (Writes first port s chain [] (unwritten s.chain))
-        (λ hon l asked was fair. by made.0 hon l asked was) holds.1)
+        (λ hon l asked was fair. by made.0 hon l asked.0 was) holds.1)
         (λ e now. event_returned chain fit.queue_is fit.long holds.0 e now)
       where
         by : (page : Option (List ℕ)) (hon : Bool) (l : EndLog) → IsTakenAs Event (next.Chain chain) page → IsToldOf first port s hon l

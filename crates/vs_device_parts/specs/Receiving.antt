@@ -3,30 +3,26 @@ use Rattle.std.specs.Prelude.{ℕ, ◌+◌, ◌-◌, ◌==◌, ◌&&◌, not, mi
 use Rattle.std.specs.Prelude.{length, filter, Option, Some, None, Result, Ok, Err}
 use Rattle.byteorder.specs.Endian.{little_bytes}
 use Rattle.vs_contents.specs.CallTree.{Done, Ask, bind, for_each, while_up_to}
-use Rattle.vs_header.specs.Packet.{header_bytes}
-use Rattle.vs_header.specs.declared.{Header.Header, TheConstants.HEADER_LEN}
+use Rattle.vs_header.specs.{Packet.header_bytes, declared.Header.Header, declared.TheConstants.HEADER_LEN}
 use Rattle.vs_credit.specs.Credit.{free_of}
+use Rattle.vs_conn.specs.{Headers.owed_header, Headers.payload_header, Headers.reset_header, declared.end.Owed.Owed}
+use Rattle.vs_conn.specs.{declared.end.State.State, declared.end.TheConstants.OWED_MAX}
 use Rattle.vs_conn.specs.End.{ConnectionEnd, owes_of, paid_of, with_payload_sent, wanting_credit}
-use Rattle.vs_conn.specs.Headers.{owed_header, payload_header, reset_header}
-use Rattle.vs_conn.specs.declared.end.Owed.{Owed}
-use Rattle.vs_conn.specs.declared.end.Owed.TheVariants as owed
-use Rattle.vs_conn.specs.declared.end.State.{State}
-use Rattle.vs_conn.specs.declared.end.State.TheVariants as state
 use Rattle.vs_flow.specs.Table.{entry_under, slots}
 use Rattle.vs_outside.specs.declared.host_net.StreamRead.{StreamRead}
-use Rattle.vs_outside.specs.declared.host_net.StreamRead.TheVariants as read
 use Rattle.vs_page.specs.declared.page.TheConstants.{PAYLOAD_MAX}
+use Rattle.vs_limits.specs.declared.TheConstants.{HOST_CID}
 use Rattle.vs_replies.specs.declared.Reply.{Reply}
-use Rattle.vs_ring_port.specs.declared.device_ring.{Chain.Chain, Next.Next}
-use Rattle.vs_ring_port.specs.declared.device_ring.Next.TheVariants as next
-use Rattle.vs_ring_port.specs.declared.failure.Failure.{Failure}
+use Rattle.vs_ring_port.specs.{declared.device_ring.Chain.Chain, declared.device_ring.Next.Next, declared.failure.Failure.Failure}
 use Rattle.vs_ring_port.specs.declared.queue.Queue.TheVariants.{Rx, Event}
 use Rattle.vs_ring_port.specs.Contents.{Take, Write, Return}
-use Rattle.vs_device_parts.specs.declared.answers.Filled.{Filled}
-use Rattle.vs_conn.specs.declared.end.TheConstants.{OWED_MAX}
-use Rattle.vs_device_parts.specs.Calls.{DeviceTree, Ring, ReadStream}
-use Rattle.vs_device_parts.specs.Connections.{with_connection, with_fault, route_to_guest, cut_off, after_shut}
+use Rattle.vs_device_parts.specs.{declared.answers.Filled.Filled, Calls.DeviceTree, Calls.Ring, Calls.ReadStream}
 use Rattle.vs_device_parts.specs.{State.DeviceState, State.DeviceEntry, Streams.closing, Streams.leaving, Transmitting.failing}
+use Rattle.vs_device_parts.specs.Connections.{with_connection, with_fault, route_to_guest, cut_off, after_shut}
+use Rattle.vs_conn.specs.declared.end.Owed.TheVariants as owed
+use Rattle.vs_conn.specs.declared.end.State.TheVariants as state
+use Rattle.vs_outside.specs.declared.host_net.StreamRead.TheVariants as read
+use Rattle.vs_ring_port.specs.declared.device_ring.Next.TheVariants as next
 
 -- The owed event: the id 0 of a transport reset, where an event chain is there.
 abbrev pub event_on : Next → DeviceState → DeviceTree (DeviceState × Result Bool Failure)

@@ -17,6 +17,7 @@ use std::marker::Model;
 use vs_buffer::ByteFifo;
 use vs_conn::{End, EndView, Owed, Route, Shut, State, Verdict};
 use vs_header::{Header, Kind};
+use vs_header::Header;
 use vs_limits::{BUF_ALLOC, TIMEOUT, WRITE_MAX};
 use vs_uds::ok_line;
 

@@ -4,6 +4,7 @@ ghost use Rattle.std.specs.Prelude.{◌≡◌, ℕ, ◌||◌, ◌<◌, Some, Non
 ghost use Rattle.vs_conn.specs.{End.asked, Headers.owed_header};
 ghost use Rattle.vs_conn.specs.declared.end.Owed.TheVariants as owed;
 ghost use Rattle.vs_header.specs.declared.Kind.TheVariants.{Stream};
+ghost use Rattle.vs_flow.specs.declared.flow.Flow.{Flow};
 ghost use Rattle.vs_limits.specs.declared.TheConstants.{BUF_ALLOC};
 ghost use Rattle.vs_driver_parts.specs.declared.answers.ConnectError.{ConnectError};
 ghost use Rattle.vs_driver_parts.specs.Connections.{connect_refusal, connected, next_flow, route_to_host};
@@ -18,6 +19,7 @@ use vs_driver_parts::answers::{ConnId, ConnectError};
 use vs_driver_parts::route::route_to_host;
 use vs_flow::{Flow, is_assigned};
 use vs_header::{Header, Kind};
+use vs_header::Header;
 use vs_limits::{BUF_ALLOC, DRIVER_CONNECTIONS, LAST_ID, LAST_PORT};
 use vs_ring_port::DriverRing;
 

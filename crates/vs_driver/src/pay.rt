@@ -5,7 +5,7 @@ ghost use Rattle.vs_conn.specs.End.{owes_of};
 ghost use Rattle.vs_conn.specs.declared.end.Owed.TheVariants as owed;
 ghost use Rattle.vs_flow.specs.Table.{entry_under};
 ghost use Rattle.vs_ring_port.specs.declared.queue.Queue.TheVariants.{Tx};
-ghost use Rattle.vs_limits.specs.declared.TheConstants.{DRIVER_REPLIES};
+ghost use Rattle.vs_limits.specs.declared.TheConstants.{DRIVER_REPLIES, HOST_CID};
 ghost use Rattle.vs_conn.specs.declared.end.TheConstants.{OWED_MAX};
 ghost use Rattle.vs_driver_parts.specs.State.{DriverEntry};
 ghost use Rattle.vs_driver_parts.specs.Conversations.{put_all, put_replies, put_reply, pay_all, pay_slot, put_owed, after_paying, is_rst};
@@ -18,6 +18,8 @@ use vs_driver_parts::route::route_to_host;
 use vs_driver_parts::tally::Tally;
 use vs_flow::Slot;
 use vs_header::{Header, Op};
+use vs_header::{Header, Kind, Op};
+use vs_limits::HOST_CID;
 use vs_replies::Reply;
 use vs_ring_port::{DriverRing, Queue};
 

@@ -6,9 +6,9 @@ use Rattle.vs_contents.specs.CallTree.{Done, Ask, bind}
 use Rattle.vs_conn.specs.{End.CanSend, End.may_send_of, End.wanting_credit, End.with_payload_sent, declared.end.Stop.Stop}
 use Rattle.vs_flow.specs.Table.{IsTable}
 use Rattle.vs_page.specs.{Log.Driver, Log.Log, declared.page.TheConstants.PAYLOAD_MAX}
-use Rattle.vs_ring_port.specs.{declared.queue.Queue.Queue, declared.queue.TheConstants.STAGED_MAX}
-use Rattle.vs_ring_port.specs.{Contents.RingContents, DriverCalls.Publish}
+use Rattle.vs_ring_port.specs.{declared.queue.Queue.Queue, declared.queue.TheConstants.STAGED_MAX, Contents.RingContents}
 use Rattle.vs_ring_port.specs.EndLog.{EndLog, entries_marked, log_loaded, log_published, log_staged}
+use Rattle.vs_ring_port.specs.DriverCalls.{Publish}
 use Rattle.vs_ring_port.specs.declared.queue.Queue.TheVariants.{Rx, Tx, Event}
 use Rattle.vs_matching.proofs.Keeps.{start_matches}
 use Rattle.vs_driver_parts.specs.{declared.answers.ConnectError.ConnectError, declared.answers.Polled.Polled, declared.answers.Sent.Sent}
@@ -24,7 +24,7 @@ use Rattle.vs_driver_log.specs.Staged.{IsLeft}
 use Rattle.vs_driver_log.proofs.{Putting.connect_puts, Putting.send_puts, Polling.not_tx_event, Polling.not_tx_rx, Polling.poll_keeps}
 use Rattle.vs_driver_log.proofs.{Tabling.Stands, Changing.Changes, Changing.stands_known, Changing.wanting_changes}
 use Rattle.vs_driver_log.proofs.Keeping.{Keeps, keeps_bind, keeps_end, keeps_may, keeps_weaker, keeps_while}
-use Rattle.vs_driver_log.proofs.Ringing.{IsAtRest, Tells, agrees, at_rest, can_publish_other, moves, tells_weaker}
+use Rattle.vs_driver_log.proofs.Ringing.{IsAtRest, Tells, agrees, at_rest, can_publish_other, moves, tells_weaker, can_stage_other}
 use Rattle.vs_driver_log.proofs.Staging.{Rests, SameBut, post_tx, reap_keeps}
 use Rattle.vs_driver_parts.specs.declared.answers.ConnectError.TheVariants as refused
 use Rattle.vs_driver_parts.specs.declared.answers.Sent.TheVariants as sent
@@ -42,7 +42,6 @@ changed first s t l step rest = (
   step.fits,
   record {
     none_refused = step.broken ∙ rest.1.none_refused;
-    packets = rest.1.packets;
     matches = step.matches first l.entries rest.1.matches;
     fair = rest.1.fair;
   },
@@ -169,7 +168,7 @@ module _ (size port id : ℕ) (port_fits : port ≤ LAST_PORT) where
       can_publish_other queue c other,
       λ a d call. (
         ap (λ (x : DriverState). let y : DriverState = record x { staged = 0 } in y) is.0,
-        moves _ _ _ (log_published queue) c d call.1 Fresh Fresh (λ l fresh fair. fresh_published queue other l fresh) is.1,
+        moves _ _ _ _ _ (log_published queue) c d call.1 Fresh Fresh (λ l fresh fair. fresh_published queue other l fresh) is.1,
       ),
     )
 
@@ -180,9 +179,9 @@ module _ (size port id : ℕ) (port_fits : port ≤ LAST_PORT) where
 
     stage_made : (s : DriverState) (c : RingContents) → IsMade s c → Keeps IsMade (stage_of queue [] s) c
     stage_made s c is = (
-      tt,
+      can_stage_other queue [] c other,
       λ a d call. staged_by (s.staged + 1 == STAGED_MAX) s d
-          (is.0, moves _ _ _ (log_staged queue []) c d call Fresh Fresh (λ l fresh fair. fresh_staged queue other l fresh) is.1),
+          (is.0, moves _ _ _ _ _ (log_staged queue []) c d call Fresh Fresh (λ l fresh fair. fresh_staged queue other l fresh) is.1),
     )
 
     post_one_made : (s : DriverState) (c : RingContents) → IsMade s c → Keeps (λ r d. IsMade r.0 d) (post_one queue s) c
@@ -220,7 +219,6 @@ module _ (size port id : ℕ) (port_fits : port ≤ LAST_PORT) where
       let P : Log → Type 0 = λ entries. IsLeft cid 0 (ends_of_state (record made { cid = cid })) [] (entries_marked cid entries) in
       let left : P [] = record {
         none_refused = refl;
-        packets = λ i d within. absurd (omega (arith, within));
         matches = start_matches Driver cid port;
         fair = λ f. tt;
       } in
@@ -231,7 +229,7 @@ module _ (size port id : ℕ) (port_fits : port ≤ LAST_PORT) where
     tt,
     λ cid d call.
         let same : record s { cid = cid } ≡ (let t : DriverState = record made { cid = cid; staged = s.staged } in t) = ap (λ (x : DriverState). let t : DriverState = record x { cid = cid } in t) is.0 in
-        let rests : Rests cid (record made { cid = cid; staged = s.staged }) d = moves _ _ _ (log_loaded cid) c d call.1 Fresh (IsAtRest cid (record made { cid = cid })) (λ l fresh fair. loaded cid l call.0 fresh) is.1 in
+        let rests : Rests cid (record made { cid = cid; staged = s.staged }) d = moves _ _ _ _ _ (log_loaded cid) c d call.1 Fresh (IsAtRest cid (record made { cid = cid })) (λ l fresh fair. loaded cid l call.0 fresh) is.1 in
         subst (λ (t : DriverState). Rests cid t d) (sym same) rests,
   )
 

@@ -10,9 +10,8 @@ use Rattle.vs_page.specs.{Fair.IsFairLog, Held.event_held, Held.packet_held, Log
 use Rattle.vs_page.specs.declared.log.LogEntry.TheVariants.{GotEvent, GotPacket, Mark}
 use Rattle.vs_page.proofs.Holding.{packet_whole}
 use Rattle.vs_replies.specs.declared.Reply.{Reply}
-use Rattle.vs_ring_port.specs.{Contents.RingContents, DriverCalls.Reap, DriverCalls.LoadCid}
+use Rattle.vs_ring_port.specs.{Contents.RingContents, DriverCalls.Reap, DriverCalls.LoadCid, declared.queue.Queue.Queue}
 use Rattle.vs_ring_port.specs.EndLog.{EndLog, entries_marked, log_loaded, log_reaped, with_event, with_packet}
-use Rattle.vs_ring_port.specs.declared.queue.Queue.{Queue}
 use Rattle.vs_ring_port.specs.declared.queue.Queue.TheVariants.{Rx, Tx, Event}
 use Rattle.vs_matching.proofs.{Keeps.takes_event, Slots.found_by}
 use Rattle.vs_driver_parts.specs.{declared.answers.Polled.Polled, State.DriverEntry, State.DriverState}
@@ -46,7 +45,7 @@ gets_by : (first : ℕ) (s : DriverState) (page : List ℕ) (o : Option Packet) 
 gets_by first s page None entries is fits ports left fair = (fits, left)
 gets_by first s page (Some p) entries is fits ports left fair =
     let g = gets_packet first p s entries fits (ports p is) (packet_whole page p is).0 left.matches fair in
-    (g.fits, record { none_refused = g.broken ∙ left.none_refused; packets = left.packets; matches = g.matches; fair = fair })
+    (g.fits, record { none_refused = g.broken ∙ left.none_refused; matches = g.matches; fair = fair })
 
 gets_page : (first : ℕ) (s : DriverState) (page : List ℕ) (l : EndLog) → BringsFit page → IsAtRest first s l → IsFairLog Driver (log_reaped Rx (Some page) l).entries
     → IsAtRest first (on_page page s) (log_reaped Rx (Some page) l)
@@ -72,7 +71,7 @@ event_by : (first : ℕ) (s : DriverState) (o : Option ℕ) (entries : Log) → 
     × HasPassed (elim o [ None ↦ false | Some id ↦ id == 0 ]) (with_event (λ id. GotEvent id) o entries)
 event_by first s None entries left fair = (left, tt)
 event_by first s (Some id) entries left fair = (
-  record { none_refused = left.none_refused; packets = left.packets; matches = takes_event Driver first id (ends_of_state s) entries left.matches; fair = fair },
+  record { none_refused = left.none_refused; matches = takes_event Driver first id (ends_of_state s) entries left.matches; fair = fair },
   passed (id == 0) (GotEvent id) entries,
 )
 
@@ -87,7 +86,6 @@ loads first cid s l less rest has =
     let marked : entries_marked cid l.entries ≡ Mark cid ∷ l.entries = ap (entries_marked cid) has.2 ∙ ap (λ (log : Log). Mark cid ∷ log) (sym has.2) in
     let left : IsLeft first (after_reset cid s).broken (ends_of_state (after_reset cid s)) [] (Mark cid ∷ l.entries) = record {
       none_refused = r.broken ∙ rest.1.none_refused;
-      packets = rest.1.packets;
       matches = r.matches first l.entries rest.1.matches;
       fair = rest.1.fair;
     } in
@@ -112,7 +110,7 @@ module _ (first : ℕ) where
       (Done (record r { count = r.count + 1 }))) c
   taken_by true r c tells = (
     tt,
-    λ cid d made. moves _ _ _ (log_loaded cid) c d made.1 (λ l. IsAtRest first r.state l × HasPassed true l.entries) (IsAtRest first (after_reset cid r.state))
+    λ cid d made. moves _ _ _ _ _ (log_loaded cid) c d made.1 (λ l. IsAtRest first r.state l × HasPassed true l.entries) (IsAtRest first (after_reset cid r.state))
         (λ l both fair. loads first cid r.state l made.0 both.0 both.1) tells,
   )
   taken_by false r c tells = tells_weaker (λ l. IsAtRest first r.state l × HasPassed false l.entries) (IsAtRest first r.state) (λ l both. both.0) c tells
@@ -123,12 +121,12 @@ module _ (first : ℕ) where
   event_reaped_keeps : (page : Option (List ℕ)) (r : Round) (c d : RingContents) → RingAllows (Reap Event) page c d → RoundRests r c
       → Keeps PairRests (event_reaped r page) d
   event_reaped_keeps None r c d made rests =
-      moves _ _ _ (log_reaped Event None) c d made.1 (IsAtRest first r.state) (IsAtRest first r.state) (λ l rest fair. rest) rests
+      moves _ _ _ _ _ (log_reaped Event None) c d made.1 (IsAtRest first r.state) (IsAtRest first r.state) (λ l rest fair. rest) rests
   event_reaped_keeps (Some page) r c d made rests =
       keeps_bind PairRests (event_taken page r) (staged_again Event) d
       (keeps_weaker RoundRests (λ x e. Keeps PairRests (staged_again Event x) e) (λ x e kept. again Event not_tx_event x e kept) (event_taken page r) d
       (taken_by (is_reset_event page) r d
-      (moves _ _ _ (log_reaped Event (Some page)) c d made.1 (IsAtRest first r.state) (AfterEvent first page r.state)
+      (moves _ _ _ _ _ (log_reaped Event (Some page)) c d made.1 (IsAtRest first r.state) (AfterEvent first page r.state)
       (λ l rest fair. gets_event first r.state page l rest fair) rests)))
 
   event_step : (b : Bool) (r : Round) (c : RingContents) → RoundRests r c → Keeps PairRests (cond b (Done (r, false)) (Ask (Reap Event) (event_reaped r))) c
@@ -142,10 +140,10 @@ module _ (first : ℕ) where
   packet_reaped_keeps : (page : Option (List ℕ)) (r : Round) (c d : RingContents) → RingAllows (Reap Rx) page c d → RoundRests r c
       → Keeps PairRests (packet_reaped r page) d
   packet_reaped_keeps None r c d made rests =
-      moves _ _ _ (log_reaped Rx None) c d made.1 (IsAtRest first r.state) (IsAtRest first r.state) (λ l rest fair. rest) rests
+      moves _ _ _ _ _ (log_reaped Rx None) c d made.1 (IsAtRest first r.state) (IsAtRest first r.state) (λ l rest fair. rest) rests
   packet_reaped_keeps (Some page) r c d made rests =
       again Rx not_tx_rx (record r { state = on_page page r.state; count = r.count + 1 }) d
-      (moves _ _ _ (log_reaped Rx (Some page)) c d made.1 (IsAtRest first r.state) (IsAtRest first (on_page page r.state))
+      (moves _ _ _ _ _ (log_reaped Rx (Some page)) c d made.1 (IsAtRest first r.state) (IsAtRest first (on_page page r.state))
       (λ l rest fair. gets_page first r.state page l made.0 rest fair) rests)
 
   packet_step : (b : Bool) (r : Round) (c : RingContents) → RoundRests r c → Keeps PairRests (cond b (Done (r, false)) (Ask (Reap Rx) (packet_reaped r))) c

@@ -1,16 +1,14 @@
 -- What one call on an honest ring that tells its log keeps.
-use Rattle.std.proofs.Common.{◌≡◌, ℕ, true, List, [], ◌∷◌, ◌++◌, Option, Some, None, refl, sym, ap, subst, ◌∙◌, arith}
-use Rattle.std.specs.{List.All, Prelude.IsSomeAnd, Option.ForSome}
-use Rattle.std.proofs.lemmas.List.Elements.{All-nil, All-cons, All-append}
+use Rattle.std.proofs.Common.{◌≡◌, ℕ, true, List, [], ◌∷◌, ◌++◌, Option, Some, None, refl, sym, ap, subst, ◌∙◌}
+use Rattle.std.specs.{Prelude.IsSomeAnd, Option.ForSome}
 use Rattle.vs_contents.specs.Contents.{Exposes}
-use Rattle.vs_history.specs.declared.packet.Packet.{Packet}
-use Rattle.vs_history.specs.Packets.{packet_bytes}
-use Rattle.vs_page.specs.{Fair.IsFairLog, Held.packet_held, Log.Driver, Log.Log}
-use Rattle.vs_page.specs.declared.log.LogEntry.TheVariants.{PutPacket}
+use Rattle.vs_history.specs.{declared.packet.Packet.Packet, Packets.packet_bytes}
+use Rattle.vs_page.specs.{Fair.IsFairLog, Held.packet_held, Log.Driver, Log.Log, declared.log.LogEntry.TheVariants.PutPacket}
+use Rattle.vs_ring_port.specs.{EndLog.EndLog, EndLog.all_put, EndLog.log_published, EndLog.log_staged, EndLog.with_packet, Lists.Rings}
+use Rattle.vs_ring_port.specs.DriverCalls.{CanPublish, CanStage, DriverAnswer, DriverCall, DriverMoves, HoldsPacket}
 use Rattle.vs_ring_port.specs.declared.queue.Queue.{Queue}
 use Rattle.vs_ring_port.specs.declared.queue.Queue.TheVariants.{Rx, Tx, Event}
-use Rattle.vs_ring_port.specs.{Contents.RingContents, DriverCalls.DriverMoves, DriverCalls.HoldsPacket, DriverCalls.CanPublish}
-use Rattle.vs_ring_port.specs.{EndLog.EndLog, EndLog.all_put, EndLog.log_published, EndLog.log_staged, EndLog.with_packet, Lists.Rings}
+use Rattle.vs_ring_port.specs.Contents.{RingContents}
 use Rattle.vs_matching.specs.Matches.{Matches}
 use Rattle.vs_driver_parts.specs.State.{DriverState}
 use Rattle.vs_driver_log.specs.{Honest.AgreesWith, Honest.IsFitState, Honest.ends_of_state, Staged.IsLeft, Staged.IsTied}
@@ -26,7 +24,7 @@ IsAtRest first s l = IsFitState s × IsLeft first s.broken (ends_of_state s) [] 
 pub at_rest : (first : ℕ) (s : DriverState) (l : EndLog) → AgreesWith first s l → IsAtRest first s l
 at_rest first s l agrees = (
   agrees.fits,
-  record { none_refused = agrees.none_refused; packets = λ i d less. absurd (omega (arith, less)); matches = agrees.matches; fair = agrees.fair },
+  record { none_refused = agrees.none_refused; matches = agrees.matches; fair = agrees.fair },
   agrees.published,
 )
 
@@ -48,9 +46,9 @@ pub tells_weaker : (P Q : EndLog → Type 0) → ((l : EndLog) → P l → Q l) 
 tells_weaker P Q then c tells = λ honest l is. then l (tells honest l is)
 
 -- A call changes the log by g: what follows of each log that is fair after it, it tells.
-pub moves : (L : Rings → Type 0) (f : Rings → Rings) (R : EndLog → Type 0) (g : EndLog → EndLog) (c d : RingContents) → DriverMoves L f R g c d
+pub moves : (call : DriverCall) (a : DriverAnswer call) (L : Rings → Type 0) (f : Rings → Rings) (R : EndLog → Type 0) (g : EndLog → EndLog) (c d : RingContents) → DriverMoves call a L f R g c d
     → (P Q : EndLog → Type 0) → ((l : EndLog) → P l → IsFairLog Driver (g l).entries → Q (g l)) → Tells P c → Tells Q d
-moves L f R g c d made P Q then tells = λ honest l is. by c.log refl made.log honest l is
+moves call a L f R g c d made P Q then tells = λ honest l is. by c.log refl made.log honest l is
   where
     by : (o : Option EndLog) → c.log ≡ o → Exposes o d.log R g → d.honest ≡ true → (l : EndLog) → d.log ≡ Some l → Q l
     by None log exposes honest l is = let e : None ≡ Some l = sym exposes ∙ is in absurd cc
@@ -82,12 +80,12 @@ can_publish_other Tx c other = absurd (other refl)
 pub publishes : (first : ℕ) (s : DriverState) (l : EndLog) → IsTied first s l → IsAtRest first s (log_published Tx l)
 publishes first s l tie = (
   tie.0,
-  record { none_refused = tie.1.none_refused; packets = λ i d less. absurd (omega (arith, less)); matches = tie.1.matches; fair = tie.1.fair },
+  record { none_refused = tie.1.none_refused; matches = tie.1.matches; fair = tie.1.fair },
   refl,
 )
 
 pub can_publish : (first : ℕ) (s : DriverState) (c : RingContents) → Tells (IsTied first s) c → CanPublish Tx c
-can_publish first s c tells = λ honest l is. let tie = tells honest l is in (tie.1.packets, tie.1.fair)
+can_publish first s c tells = λ honest l is. let tie = tells honest l is in tie.1.fair
 
 -- What a step on the driver does whose packet a page holds: it puts that packet.
 pub record Puts (s : DriverState) (page : List ℕ) (t : DriverState) : Type 0 where
@@ -109,8 +107,13 @@ put_last (x ∷ pages) page p log held = put_last pages page p (with_packet (λ 
 holds_packet : (page : List ℕ) (p : Packet) → packet_held page ≡ Some p → page ≡ packet_bytes p → HoldsPacket page
 holds_packet page p held bytes = let P : Option Packet → Type 0 = λ o. IsSomeAnd o (λ q. page ≡ packet_bytes q) in subst P (sym held) bytes
 
-all_last : (pages : List (List ℕ)) (page : List ℕ) → All HoldsPacket pages → HoldsPacket page → All HoldsPacket (pages ++ page ∷ [])
-all_last pages page all holds = All-append HoldsPacket pages (page ∷ []) all (All-cons HoldsPacket page [] holds (All-nil HoldsPacket))
+-- A page that a step puts its packet in may be staged; so may any page of another queue.
+pub can_stage : (P : EndLog → Type 0) (s t : DriverState) (page : List ℕ) (c : RingContents) → ((l : EndLog) → P l → Puts s page t) → Tells P c
+    → CanStage Tx page c
+can_stage P s t page c puts tells = λ honest l is tx. let put = puts l (tells honest l is) in holds_packet page put.packet put.held put.bytes
+
+pub can_stage_other : (queue : Queue) (page : List ℕ) (c : RingContents) → (queue ≡ Tx → ⊥) → CanStage queue page c
+can_stage_other queue page c other = λ honest l is tx. absurd (other tx)
 
 pub stages : (first : ℕ) (s t : DriverState) (page : List ℕ) (l : EndLog) → IsFitState s → Puts s page t → IsTied first s l
     → IsTied first t (log_staged Tx page l)
@@ -121,7 +124,6 @@ stages first s t page l fits puts tie =
       puts.fits,
       record {
         none_refused = puts.broken ∙ tie.1.none_refused;
-        packets = all_last l.staged.tx page tie.1.packets (holds_packet page puts.packet puts.held puts.bytes);
         matches = subst (λ (log : Log). Matches Driver first (ends_of_state t) log) (sym last) matches;
         fair = subst (λ (log : Log). IsFairLog Driver log) (sym last) fair;
       },

@@ -1,16 +1,15 @@
 -- What staging, publishing and getting back pages keeps.
 use Rattle.std.proofs.Common.{◌≡◌, ℕ, ◌+◌, ◌-◌, ◌==◌, Bool, true, false, cond, List, Option, Some, None, refl, ap}
 use Rattle.vs_contents.specs.CallTree.{Done, Ask}
-use Rattle.vs_ring_port.specs.declared.queue.{Queue.Queue, TheConstants.STAGED_MAX}
-use Rattle.vs_ring_port.specs.declared.queue.Queue.TheVariants.{Tx}
+use Rattle.vs_ring_port.specs.{declared.queue.Queue.Queue, declared.queue.TheConstants.STAGED_MAX, declared.queue.Queue.TheVariants.Tx}
 use Rattle.vs_ring_port.specs.{Contents.RingContents, DriverCalls.Publish, DriverCalls.Reap}
 use Rattle.vs_ring_port.specs.EndLog.{EndLog, log_published, log_reaped, log_staged}
-use Rattle.vs_driver_parts.specs.State.{DriverState}
+use Rattle.vs_driver_parts.specs.{State.DriverState, Playing.RingAllows}
 use Rattle.vs_driver_parts.specs.Conversations.{one_more_in_flight, post_packet, publish_of, reap_all, reap_one, reaped, stage_of}
-use Rattle.vs_driver_parts.specs.{Conversations.stage_packet, Playing.RingAllows}
-use Rattle.vs_driver_log.proofs.Keeping.{Keeps, keeps_while}
+use Rattle.vs_driver_parts.specs.Conversations.{stage_packet}
 use Rattle.vs_driver_log.proofs.Ringing.{IsAtRest, Puts, Tells, can_publish, can_publish_other, moves, publishes, publishes_other, stages}
-use Rattle.vs_driver_log.proofs.Ringing.{stages_other, tells_weaker, tied}
+use Rattle.vs_driver_log.proofs.Ringing.{stages_other, tells_weaker, tied, can_stage, can_stage_other}
+use Rattle.vs_driver_log.proofs.Keeping.{Keeps, keeps_while}
 use Rattle.vs_driver_log.specs.Staged.{IsTied}
 
 -- What holds of the driver that a conversation ends with.
@@ -26,7 +25,7 @@ rests_tied first s c rests = tells_weaker (IsAtRest first s) (IsTied first s) (t
 module _ (first : ℕ) where
   -- What is staged on tx is published.
   pub after_publish : (s : DriverState) (c d : RingContents) → RingAllows (Publish Tx) tt c d → Ties first s c → Rests first s d
-  after_publish s c d made ties = moves _ _ _ (log_published Tx) c d made.1 (IsTied first s) (IsAtRest first s) (λ l tie fair. publishes first s l tie) ties
+  after_publish s c d made ties = moves _ _ _ _ _ (log_published Tx) c d made.1 (IsTied first s) (IsAtRest first s) (λ l tie fair. publishes first s l tie) ties
 
   pub publish_tx : (s : DriverState) (c : RingContents) → Ties first s c → Keeps (Rests first) (publish_of Tx s) c
   publish_tx s c ties = (can_publish first s c ties, λ a d made. after_publish s c d made ties)
@@ -40,19 +39,19 @@ module _ (first : ℕ) where
   pub stage_tx : (s t : DriverState) (page : List ℕ) (c : RingContents) → ((l : EndLog) → IsTied first s l → Puts s page t) → Ties first s c
       → Keeps (Ties first) (stage_packet page t) c
   stage_tx s t page c puts ties = (
-    tt,
+    can_stage (IsTied first s) s t page c puts ties,
     λ a d made. tx_by (t.staged + 1 == STAGED_MAX) (one_more_in_flight t) d
-        (moves _ _ _ (log_staged Tx page) c d made (IsTied first s) (IsTied first t) (λ l tie fair. stages first s t page l tie.0 (puts l tie) tie) ties),
+        (moves _ _ _ _ _ (log_staged Tx page) c d made (IsTied first s) (IsTied first t) (λ l tie fair. stages first s t page l tie.0 (puts l tie) tie) ties),
   )
 
   -- One is posted.
   pub post_tx : (s t : DriverState) (page : List ℕ) (c : RingContents) → ((l : EndLog) → IsAtRest first s l → Puts s page t) → Rests first s c
       → Keeps (λ u d. (u ≡ one_more_in_flight s) × Rests first t d) (post_packet page s) c
   post_tx s t page c puts rests = (
-    tt,
+    can_stage (IsAtRest first s) s t page c puts rests,
     λ a d made.
         let staged : Ties first t d =
-        moves _ _ _ (log_staged Tx page) c d made (IsAtRest first s) (IsTied first t) (λ l rest fair. stages first s t page l rest.0 (puts l rest) (tied first s l rest)) rests in
+        moves _ _ _ _ _ (log_staged Tx page) c d made (IsAtRest first s) (IsTied first t) (λ l rest fair. stages first s t page l rest.0 (puts l rest) (tied first s l rest)) rests in
         (can_publish first t d staged, λ b e published. (refl, after_publish t d e published staged)),
   )
 
@@ -60,7 +59,7 @@ module _ (first : ℕ) where
     pub publish_other : (s : DriverState) (c : RingContents) → Rests first s c → Keeps (Rests first) (publish_of queue s) c
     publish_other s c rests = (
       can_publish_other queue c other,
-      λ a d made. moves _ _ _ (log_published queue) c d made.1 (IsAtRest first s) (IsAtRest first s) (λ l rest fair. publishes_other queue other first s l rest) rests,
+      λ a d made. moves _ _ _ _ _ (log_published queue) c d made.1 (IsAtRest first s) (IsAtRest first s) (λ l rest fair. publishes_other queue other first s l rest) rests,
     )
 
     other_by : (b : Bool) (s : DriverState) (c : RingContents) → Rests first s c
@@ -71,9 +70,9 @@ module _ (first : ℕ) where
     -- A page is staged for the device to write into.
     pub stage_other : (s : DriverState) (page : List ℕ) (c : RingContents) → Rests first s c → Keeps (Rests first) (stage_of queue page s) c
     stage_other s page c rests = (
-      tt,
+      can_stage_other queue page c other,
       λ a d made. other_by (s.staged + 1 == STAGED_MAX) s d
-          (moves _ _ _ (log_staged queue page) c d made (IsAtRest first s) (IsAtRest first s) (λ l rest fair. stages_other queue page other first s l rest) rests),
+          (moves _ _ _ _ _ (log_staged queue page) c d made (IsAtRest first s) (IsAtRest first s) (λ l rest fair. stages_other queue page other first s l rest) rests),
     )
 
   -- Transmit pages come back: nothing else changes.
@@ -96,7 +95,7 @@ module _ (first : ℕ) where
     tt,
     λ page d made. (
       got_back s t page same.0,
-      moves _ _ _ (log_reaped Tx page) c d made.1 (IsAtRest first s) (IsAtRest first s) (λ l rest fair. reaped_same s page l rest) same.1,
+      moves _ _ _ _ _ (log_reaped Tx page) c d made.1 (IsAtRest first s) (IsAtRest first s) (λ l rest fair. reaped_same s page l rest) same.1,
     ),
   )
 

@@ -1,24 +1,24 @@
 -- What each single step of the driver keeps over an honest ring.
 use Rattle.std.proofs.Common.{◌≡◌, ℕ, ◌<◌, ◌^◌, ◌==◌, Bool, true, false, cond, List, length, Option, Some, None, Result, Ok, Err, refl}
 use Rattle.vs_contents.specs.CallTree.{Done, Ask}
-use Rattle.vs_conn.specs.End.{may_send_of, wanting_credit}
-use Rattle.vs_conn.specs.declared.end.Stop.{Stop}
+use Rattle.vs_conn.specs.{End.may_send_of, End.wanting_credit, declared.end.Stop.Stop}
+use Rattle.vs_ring_port.specs.{Contents.RingContents, DriverCalls.Reap, EndLog.EndLog, EndLog.log_reaped}
 use Rattle.vs_ring_port.specs.declared.queue.Queue.{Queue}
 use Rattle.vs_ring_port.specs.declared.queue.Queue.TheVariants.{Rx, Tx, Event}
-use Rattle.vs_ring_port.specs.{Contents.RingContents, DriverCalls.Reap, EndLog.EndLog, EndLog.log_reaped}
-use Rattle.vs_driver_parts.specs.declared.answers.{ConnectError.ConnectError, Sent.Sent}
-use Rattle.vs_driver_parts.specs.declared.answers.Sent.TheVariants as sent
+use Rattle.vs_driver_parts.specs.{declared.answers.ConnectError.ConnectError, declared.answers.Sent.Sent}
 use Rattle.vs_driver_parts.specs.{State.DriverEntry, State.DriverState, State.entry_known_as, Connections.connect_refusal}
-use Rattle.vs_driver_parts.specs.Connections as connections
 use Rattle.vs_driver_parts.specs.Conversations.{connect_with_page, has_page, no_credit, not_sent, payload_of, publish_of, put_owed}
 use Rattle.vs_driver_parts.specs.Conversations.{put_reply, reap_one, reaped, send_stopped, send_with_page, start, take_event, take_packet}
 use Rattle.vs_driver_parts.specs.Steps.{connects, sends, sends_on, sends_with_credit, stages_owed, stages_reply, takes_page}
 use Rattle.vs_driver_log.specs.{Honest.IsFitState, Honest.IsHonestWith, Staged.IsTied, Staged.IsTiedWith, Staged.IsWorkingWith}
-use Rattle.vs_driver_log.proofs.Calls.{can_send, changed, connect_page_keeps, honest_of, paged_by, rests_of}
 use Rattle.vs_driver_log.proofs.{Changing.stands_known, Changing.wanting_changes, Keeping.Keeps, Keeping.keeps_bind, Keeping.keeps_weaker}
-use Rattle.vs_driver_log.proofs.Polling.{PairRests, not_tx_event, not_tx_rx, put_owed_keeps, put_reply_keeps, take_event_keeps}
-use Rattle.vs_driver_log.proofs.{Polling.take_packet_keeps, Ringing.IsAtRest, Ringing.moves, Ringing.tells_weaker}
 use Rattle.vs_driver_log.proofs.{Staging.Rests, Staging.publish_other, Staging.publish_tx, Tabling.Stands}
+use Rattle.vs_driver_log.proofs.Calls.{can_send, changed, connect_page_keeps, honest_of, paged_by, rests_of}
+use Rattle.vs_driver_log.proofs.Polling.{PairRests, not_tx_event, not_tx_rx, put_owed_keeps, put_reply_keeps, take_event_keeps}
+use Rattle.vs_driver_log.proofs.Polling.{take_packet_keeps}
+use Rattle.vs_driver_log.proofs.Ringing.{IsAtRest, moves, tells_weaker}
+use Rattle.vs_driver_parts.specs.declared.answers.Sent.TheVariants as sent
+use Rattle.vs_driver_parts.specs.Connections as connections
 
 module _ (first : ℕ) where
   abbrev Honest : DriverState → RingContents → Type 0
@@ -34,7 +34,7 @@ module _ (first : ℕ) where
   back_by true s c ties = ties
   back_by false s c ties = (
     tt,
-    λ page d made. moves _ _ _ (log_reaped Tx page) c d made.1 (IsTied first s) (IsTied first (reaped s page).0) (λ l tie fair. back_same s page l tie) ties,
+    λ page d made. moves _ _ _ _ _ (log_reaped Tx page) c d made.1 (IsTied first s) (IsTied first (reaped s page).0) (λ l tie fair. back_same s page l tie) ties,
   )
 
   -- A page is taken, and a receive or event page staged again.

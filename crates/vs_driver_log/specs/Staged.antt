@@ -1,8 +1,7 @@
 -- The driver and its log between two steps of a call, where packets may be staged and not published.
-use Rattle.std.specs.{Prelude.◌≡◌, Prelude.ℕ, Prelude.true, Prelude.List, List.All, Option.ForSome}
+use Rattle.std.specs.{Prelude.◌≡◌, Prelude.ℕ, Prelude.true, Prelude.List, Option.ForSome}
 use Rattle.vs_page.specs.{Fair.IsFairLog, Log.Driver, Log.Log}
-use Rattle.vs_ring_port.specs.{Contents.RingContents, DriverCalls.HoldsPacket, EndLog.EndLog, EndLog.all_put}
-use Rattle.vs_ring_port.specs.declared.queue.Queue.{Queue}
+use Rattle.vs_ring_port.specs.{Contents.RingContents, EndLog.EndLog, EndLog.all_put, declared.queue.Queue.Queue}
 use Rattle.vs_ring_port.specs.declared.queue.Queue.TheVariants.{Tx}
 use Rattle.vs_matching.specs.{Ends.Ends, Matches.Matches}
 use Rattle.vs_driver_parts.specs.State.{DriverState}
@@ -11,7 +10,6 @@ use Rattle.vs_driver_log.specs.Honest.{IsFitState, IsHonestWith, ends_of_state}
 -- The driver's connections are those that the log leaves with the packets that are staged, and it is fair with them.
 pub record IsLeft (first broken : ℕ) (part : Ends) (staged : List (List ℕ)) (entries : Log) : Type 0 where
   pub none_refused : broken ≡ 0
-  pub packets : All HoldsPacket staged
   pub matches : Matches Driver first part (all_put staged entries)
   pub fair : IsFairLog Driver (all_put staged entries)
 

@@ -3,10 +3,9 @@ use Rattle.std.specs.{Prelude.◌≡◌, Prelude.ℕ, Prelude.◌<◌, Prelude.�
 use Rattle.vs_contents.specs.CallTree.{Leads, MayPlay}
 use Rattle.vs_header.specs.declared.Header.{Header}
 use Rattle.vs_page.specs.Held.{packet_held}
-use Rattle.vs_ring_port.specs.declared.queue.{Queue.Queue, TheConstants.STAGED_MAX}
-use Rattle.vs_ring_port.specs.declared.queue.Queue.TheVariants.{Rx}
+use Rattle.vs_ring_port.specs.{declared.queue.Queue.Queue, declared.queue.TheConstants.STAGED_MAX, declared.queue.Queue.TheVariants.Rx}
 use Rattle.vs_ring_port.specs.{Contents.RingContents, Counts.Counts, Counts.no_counts, Counts.with_count}
-use Rattle.vs_ring_port.specs.DriverCalls.{DriverCall, DriverAnswer, Stage, Publish, Reap, LoadCid, DriverAllows, CanPublish}
+use Rattle.vs_ring_port.specs.DriverCalls.{DriverCall, DriverAnswer, Stage, Publish, Reap, LoadCid, DriverAllows, CanPublish, CanStage}
 use Rattle.vs_driver_parts.specs.{State.DriverState, Conversations.DriverTree}
 
 -- The counts of pages stay.
@@ -33,7 +32,7 @@ pub record IsRingOf (n : ℕ) (flown waiting : Counts) (s : DriverState) : Type 
 
 -- What a ring asks of a call that the driver makes.
 abbrev pub CanMake : DriverCall → RingContents → Type 0
-CanMake (Stage queue page) c = Unit {0}
+CanMake (Stage queue page) c = CanStage queue page c
 CanMake (Publish queue) c = CanPublish queue c
 CanMake (Reap queue) c = Unit {0}
 CanMake LoadCid c = Unit {0}

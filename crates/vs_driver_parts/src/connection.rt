@@ -18,6 +18,7 @@ use std::marker::Model;
 use vs_buffer::ByteFifo;
 use vs_conn::{End, EndView, Owed, Route, State, Stop, Verdict};
 use vs_header::{Header, Kind};
+use vs_header::Header;
 use vs_limits::BUF_ALLOC;
 
 /// A connection of the table.

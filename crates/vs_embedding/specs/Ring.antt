@@ -13,7 +13,7 @@ pub record RingState : Type 0 where
 
 -- A ring that exposes nothing.
 abbrev pub silent : RingContents
-silent = record { lists = None; log = None; other = None; plain = None; honest = false }
+silent = record { lists = None; log = None; other = None; plain = None; known = None; honest = false }
 
 -- A monitor's device: its proxy, and the ring.
 pub record MonitorState : Type 0 where

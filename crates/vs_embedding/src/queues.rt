@@ -83,6 +83,7 @@ impl<V: Virtqueues> MonitorRing<V> {
 }
 
 impl<V: Virtqueues> DeviceRing for MonitorRing<V> {
+    ghost use Rattle.std.specs.Prelude.{true};
     ghost use Rattle.vs_embedding.specs.Ring.{silent};
 
     ghost size = { λ r. r.size };
@@ -90,6 +91,8 @@ impl<V: Virtqueues> DeviceRing for MonitorRing<V> {
     ghost held = { λ r. r.held };
 
     ghost contents = { λ _. silent };
+
+    ghost kicks = { λ r queue. true };
 
     fn size(&self) -> u16 {
         self.size
@@ -137,6 +140,10 @@ impl<V: Virtqueues> DeviceRing for MonitorRing<V> {
 
     fn publish_cid(&mut self, cid: u64) {
         self.queues.set_cid(cid);
+    }
+
+    fn kick(&self, _queue: Queue) -> bool {
+        true
     }
 }
 

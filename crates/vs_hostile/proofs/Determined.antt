@@ -17,7 +17,7 @@ use Rattle.vs_outside.specs.declared.host_net.StreamRead.TheVariants as read
 use Rattle.vs_outside.specs.declared.host_net.StreamWrite.{StreamWrite}
 use Rattle.vs_outside.specs.declared.host_net.StreamWrite.TheVariants as write
 use Rattle.vs_ring_port.specs.Contents.{RingContents, DeviceCall, DeviceAnswer, PlainState, Take, Read, Write, Return, Given, PublishCid}
-use Rattle.vs_ring_port.specs.{DeviceCalls.DeviceAllows, DeviceCalls.DeviceMoves, EndLog.EndLog, Lists.Rings}
+use Rattle.vs_ring_port.specs.{DeviceCalls.DeviceAllows, DeviceCalls.DeviceMoves, EndLog.EndLog, Known.Known, Lists.Rings}
 use Rattle.vs_ring_plain.specs.Device.{DeviceState, answer_to}
 use Rattle.vs_device_parts.specs.Calls.{Call, Answer, DeviceTree, HostMoves, IsReadOf, Situation, Allows, Ring, Accept, Dial, Label}
 use Rattle.vs_device_parts.specs.Calls.{ReadStream, WriteStream, ShutWrite, CloseStream}
@@ -43,14 +43,15 @@ record IsStep (call : Call) (a : Answer call) (v : Around) (m : Situation) : Typ
   answer : after.host.starved ≡ false → answer_around call v ≡ (a, after)
 
 -- RINGS
-alone : (c : RingContents) (s : PlainState) → c.lists ≡ None → c.log ≡ None → c.other ≡ None → c.plain ≡ Some s → c.honest ≡ false
-    → c ≡ record { lists = None; log = None; other = None; plain = Some s; honest = false }
-alone c s lists log other plain honest =
-    ap (λ (x : Option Rings). record { lists = x; log = c.log; other = c.other; plain = c.plain; honest = c.honest }) lists
-    ∙ (ap (λ (x : Option EndLog). record { lists = None; log = x; other = c.other; plain = c.plain; honest = c.honest }) log
-    ∙ (ap (λ (x : Option EndLog). record { lists = None; log = None; other = x; plain = c.plain; honest = c.honest }) other
-    ∙ (ap (λ (x : Option PlainState). record { lists = None; log = None; other = None; plain = x; honest = c.honest }) plain
-    ∙ ap (λ (x : Bool). record { lists = None; log = None; other = None; plain = Some s; honest = x }) honest)))
+alone : (c : RingContents) (s : PlainState) → c.lists ≡ None → c.log ≡ None → c.other ≡ None → c.plain ≡ Some s → c.known ≡ None
+    → c.honest ≡ false → c ≡ record { lists = None; log = None; other = None; plain = Some s; known = None; honest = false }
+alone c s lists log other plain known honest =
+    ap (λ (x : Option Rings). record { lists = x; log = c.log; other = c.other; plain = c.plain; known = c.known; honest = c.honest }) lists
+    ∙ (ap (λ (x : Option EndLog). record { lists = None; log = x; other = c.other; plain = c.plain; known = c.known; honest = c.honest }) log
+    ∙ (ap (λ (x : Option EndLog). record { lists = None; log = None; other = x; plain = c.plain; known = c.known; honest = c.honest }) other
+    ∙ (ap (λ (x : Option PlainState). record { lists = None; log = None; other = None; plain = x; known = c.known; honest = c.honest }) plain
+    ∙ (ap (λ (x : Option Known). record { lists = None; log = None; other = None; plain = Some s; known = x; honest = c.honest }) known
+    ∙ ap (λ (x : Bool). record { lists = None; log = None; other = None; plain = Some s; known = None; honest = x }) honest))))
 
 -- What a ring and its call came to.
 record IsRingStep (call : DeviceCall) (a : DeviceAnswer call) (d : DeviceState) (c : RingContents) : Type 0 where
@@ -62,7 +63,7 @@ moved : (call : DeviceCall) (a : DeviceAnswer call) (P : Rings → Type 0) (f : 
 moved call a P f Q g d c made h = record {
   is =
       alone c (whole_state (answer_to call d).1) h.lists h.log h.other
-      (h.plain.1 ∙ ap (λ (s : PlainState). Some s) (after_made call d made)) h.honest;
+      (h.plain.1 ∙ ap (λ (s : PlainState). Some s) (after_made call d made)) h.known h.honest;
   answer = h.plain.0;
 }
 

@@ -37,6 +37,7 @@ moves call answer P f Q g old new made is = record {
     sym (ap (λ (r : DeviceAnswer call × DeviceState). r.0) is),
     ap (λ (r : DeviceAnswer call × DeviceState). Some (whole_state r.1)) (sym is) ∙ ap (λ (s : PlainState). Some s) (sym (after_made call old made)),
   );
+  known = refl;
   honest = refl;
   fair = λ honest. absurd (false≢true honest);
 }

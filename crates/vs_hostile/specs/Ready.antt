@@ -17,7 +17,7 @@ held_in (HasRings ring) = chains_held ring
 
 -- A ring that tells nothing.
 abbrev pub silent : RingContents
-silent = record { lists = None; log = None; other = None; plain = None; honest = false }
+silent = record { lists = None; log = None; other = None; plain = None; known = None; honest = false }
 
 -- The proxy has its streams on that host.
 abbrev pub IsServing : ProxyState → HostContents → Type 0

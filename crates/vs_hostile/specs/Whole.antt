@@ -73,4 +73,4 @@ whole_state d (made ∷ calls) call =
 
 -- It exposes that, and nothing else.
 abbrev pub whole_contents : DeviceState → RingContents
-whole_contents d = record { lists = None; log = None; other = None; plain = Some (whole_state d); honest = false }
+whole_contents d = record { lists = None; log = None; other = None; plain = Some (whole_state d); known = None; honest = false }

@@ -31,6 +31,7 @@ impl WholeSide {
 }
 
 impl DeviceRing for WholeSide {
+    ghost use Rattle.std.specs.Prelude.{true};
     ghost use Rattle.vs_ring_plain.specs.Device.{chains_held};
     ghost use Rattle.vs_hostile.specs.Whole.{whole_contents};
 
@@ -39,6 +40,8 @@ impl DeviceRing for WholeSide {
     ghost held = { chains_held };
 
     ghost contents = { whole_contents };
+
+    ghost kicks = { λ r queue. true };
 
     fn size(&self) -> u16 {
         DeviceRing::size(&self.side)
@@ -80,4 +83,8 @@ impl DeviceRing for WholeSide {
     // The CID doesn't lie in the guest's memory.
     #[tactic(auto, using(crate::proofs::Seen::allowed))]
     fn publish_cid(&mut self, _cid: u64) {}
+
+    fn kick(&self, _queue: Queue) -> bool {
+        true
+    }
 }

@@ -7,8 +7,9 @@ use Rattle.std.proofs.lemmas.Option.{slice_get_past}
 use Rattle.std.proofs.lemmas.List.Quantifiers.{position-Some}
 use Rattle.vs_flow.specs.declared.flow.Flow.{Flow}
 use Rattle.vs_outside.specs.Host.{Stream, HostContents, stream_at, with_stream, IsOpen, KeepsOthers, called, fails_now, after_failed}
-use Rattle.vs_outside.specs.Host.{is_waiting, waits, has_label, take_bytes, give_bytes, accept_answer, after_accept, dialed_stream}
-use Rattle.vs_outside.specs.Host.{after_dial, after_label, after_read, after_write, after_shut_write, after_close}
+use Rattle.vs_outside.specs.Host.{is_waiting, waits, take_bytes, give_bytes, accept_answer, after_accept, dialed_stream}
+use Rattle.vs_outside.specs.Host.{after_dial, with_label_call, after_label, after_read, after_write, with_shut_write_call, after_shut_write}
+use Rattle.vs_outside.specs.Host.{after_close}
 use Rattle.vs_outside.specs.HostProgram.{client_stream}
 use Rattle.vs_outside.proofs.Streams.{stream_there}
 use Rattle.vs_outside.specs.declared.host_net.StreamState.{StreamState}
@@ -87,7 +88,7 @@ pub others-after_accept : (id : ℕ) (c : HostContents) → KeepsOthers id c (af
 others-after_accept id c other h = keeps_others id (λ s. record s { state = state.Open }) (called c) other h
 
 pub others-after_label : (id : ℕ) (flow : Flow) (c : HostContents) → KeepsOthers id c (after_label id flow c)
-others-after_label id flow c other h = keeps_others id (λ s. record s { label = Some flow }) c other h
+others-after_label id flow c other h = keeps_others id (λ s. record s { label = Some flow }) (with_label_call id c) other h
 
 pub others-after_read : (id : ℕ) (answer : StreamRead) (c : HostContents) → KeepsOthers id c (after_read id answer c)
 others-after_read id (read.Got n) c other h = keeps_others id (take_bytes n) (called c) other h
@@ -103,7 +104,7 @@ others-after_write id bytes write.Closed c other h = refl
 others-after_write id bytes write.Failed c other h = stream_at-after_failed other c
 
 pub others-after_shut_write : (id : ℕ) (c : HostContents) → KeepsOthers id c (after_shut_write id c)
-others-after_shut_write id c other h = keeps_others id (λ s. record s { write_shut = true }) c other h
+others-after_shut_write id c other h = keeps_others id (λ s. record s { write_shut = true }) (with_shut_write_call c) other h
 
 pub others-after_close : (id : ℕ) (c : HostContents) → KeepsOthers id c (after_close id c)
 others-after_close id c other h = keeps_others id (λ s. record s { state = state.Closed }) c other h
@@ -138,9 +139,7 @@ keeps_open id f c same o =
     open_of id (with_stream id f c) (f s.0) (stream_at-with_stream id f c s.0 s.1) (same s.0 ∙ s.2)
 
 pub open-after_label : (id : ℕ) (flow : Flow) (c : HostContents) → IsOpen id c → IsOpen id (after_label id flow c)
-open-after_label id flow c o =
-    keeps_open id (λ s. record s { label = Some flow })
-    (record c { labelled = cond (has_label id c) c.labelled (c.labelled ++ id ∷ []) }) (λ s. refl) o
+open-after_label id flow c o = keeps_open id (λ s. record s { label = Some flow }) (with_label_call id c) (λ s. refl) o
 
 pub open-after_read : (id : ℕ) (answer : StreamRead) (c : HostContents) → IsOpen id c → IsOpen id (after_read id answer c)
 open-after_read id (read.Got n) c o = keeps_open id (take_bytes n) (called c) (λ s. refl) o
@@ -156,7 +155,7 @@ open-after_write id bytes write.Closed c o = o
 open-after_write id bytes write.Failed c o = rw (stream_at-after_failed id c) o
 
 pub open-after_shut_write : (id : ℕ) (c : HostContents) → IsOpen id c → IsOpen id (after_shut_write id c)
-open-after_shut_write id c o = keeps_open id (λ s. record s { write_shut = true }) c (λ s. refl) o
+open-after_shut_write id c o = keeps_open id (λ s. record s { write_shut = true }) (with_shut_write_call c) (λ s. refl) o
 
 -- A dial's stream is open, and of an id that no stream had.
 pub open-dialed : (flow : Flow) (id : ℕ) (c : HostContents) → id ≡ length c.streams + 1 →

@@ -7,7 +7,7 @@ use Rattle.std.proofs.lemmas.Option.{slice_get-get_or, slice_get_within, get_or_
 use Rattle.std.proofs.lemmas.Bool.Decides.{nat_tests}
 use Rattle.vs_outside.specs.Host.{Stream, HostContents, stream_at, IsOpen, called, fails_now, ReadsFrom, IsRead, read_of, read_failed}
 use Rattle.vs_outside.specs.Host.{after_read, taken_of, write_of, write_answer, write_failed, IsWritten, after_write, after_label}
-use Rattle.vs_outside.specs.Faults.{CountsFault}
+use Rattle.vs_outside.specs.Faults.{CountsFault, one_more}
 use Rattle.vs_outside.specs.HostProgram.{changed, unlabelled, ReadsStream, stream_after_write}
 use Rattle.vs_flow.specs.declared.flow.Flow.{Flow}
 use Rattle.vs_outside.specs.declared.host_net.StreamState.TheVariants as state
@@ -168,6 +168,10 @@ none_or_some (Some f) h = cc
 -- the host after a stream got its first label
 pub after_labels : (id : ℕ) (flow : Flow) (c : HostContents) (old : Stream) → IsOpen id c → old ≡ get_or c.streams (id - 1) old →
     is_none old.label ≡ true →
-    record c { streams = set c.streams (id - 1) (record old { label = Some flow }); labelled = c.labelled ++ id ∷ [] } ≡
+    record c {
+      streams = set c.streams (id - 1) (record old { label = Some flow });
+      labelled = c.labelled ++ id ∷ [];
+      label_calls = one_more c.label_calls;
+    } ≡
     after_label id flow c
 after_labels id flow c old opened at none = rw (open_at id c old opened at, none_or_some old.label none) refl

@@ -4,7 +4,7 @@ use Rattle.std.specs.Prelude.{◌≡◌, ◌≢◌, ℕ, ◌+◌, ◌-◌, min, 
 use Rattle.std.specs.Prelude.{position, slice_get, slice_set, Option, None, Some, IsSomeAnd}
 use Rattle.std.specs.{List.list_any, Option.is_some, Option.option_map, Option.option_map_or, Str.bytes_eq}
 use Rattle.vs_flow.specs.declared.flow.Flow.{Flow}
-use Rattle.vs_outside.specs.{Faults.fails_next, Faults.counted_down, InOut.MovesSome}
+use Rattle.vs_outside.specs.{Faults.fails_next, Faults.counted_down, Faults.one_more, InOut.MovesSome}
 use Rattle.vs_outside.specs.declared.host_net.StreamState.{StreamState}
 use Rattle.vs_outside.specs.declared.host_net.StreamState.TheVariants as state
 use Rattle.vs_outside.specs.declared.host_net.Started.{Started}
@@ -69,6 +69,9 @@ pub record HostContents : Type 0 where
   pub starts_to_fail : List ℕ
   -- whether a dial or a write found no memory, and failed
   pub starved : Bool
+  -- how many calls of `label` were made, and how many of `shut_write`; each count stands still at the last number of 64 bits
+  pub label_calls : ℕ
+  pub shut_write_calls : ℕ
 
 -- The stream of that id. None has id 0.
 abbrev pub stream_at : ℕ → HostContents → Option Stream
@@ -150,14 +153,19 @@ after_dial flow (dialed.Stream id) c =
 after_dial flow dialed.Refused c = called c
 after_dial flow dialed.Failed c = after_failed c
 
--- LABEL: the stream has that label from now on.
+-- LABEL: the stream has that label from now on, and the call is counted.
 abbrev pub has_label : ℕ → HostContents → Bool
 has_label id c = option_map_or (λ s. is_some s.label) (stream_at id c) false
 
+-- The host with the stream of that id among those with a label, and one more call of `label`.
+abbrev pub with_label_call : ℕ → HostContents → HostContents
+with_label_call id c = record c {
+  labelled = if has_label id c then c.labelled else c.labelled ++ id ∷ [];
+  label_calls = one_more c.label_calls;
+}
+
 abbrev pub after_label : ℕ → Flow → HostContents → HostContents
-after_label id flow c =
-    with_stream id (λ s. record s { label = Some flow })
-    (record c { labelled = if has_label id c then c.labelled else c.labelled ++ id ∷ [] })
+after_label id flow c = with_stream id (λ s. record s { label = Some flow }) (with_label_call id c)
 
 -- READ: the next bytes, as many as there is room for and as there are. At the end there are none, and no more come.
 abbrev pub read_of : ℕ → Stream → StreamRead
@@ -216,9 +224,12 @@ after_write id bytes (write.Took n) c = with_stream id (give_bytes n bytes) (cal
 after_write id bytes write.Failed c = after_failed c
 after_write id bytes _ c = called c
 
--- SHUT WRITE and CLOSE
+-- SHUT WRITE, which is counted, and CLOSE
+abbrev pub with_shut_write_call : HostContents → HostContents
+with_shut_write_call c = record c { shut_write_calls = one_more c.shut_write_calls }
+
 abbrev pub after_shut_write : ℕ → HostContents → HostContents
-after_shut_write id c = with_stream id (λ s. record s { write_shut = true }) c
+after_shut_write id c = with_stream id (λ s. record s { write_shut = true }) (with_shut_write_call c)
 
 abbrev pub after_close : ℕ → HostContents → HostContents
 after_close id c = with_stream id (λ s. record s { state = state.Closed }) c

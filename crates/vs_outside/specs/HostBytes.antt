@@ -1,8 +1,8 @@
 -- What the programs of a host wrote and read on a flow, without the two handshake lines of a client (Firecracker's vsock documentation).
 use Rattle.std.specs.Prelude.{ℕ, ◌+◌, ◌-◌, ◌==◌, Bool, false, if◌then◌else◌, List, [], filter, drop, position, slice_get, Option}
-use Rattle.std.specs.{Prelude.option_and_then, Option.option_map_or}
+use Rattle.std.specs.{Prelude.option_and_then, Option.option_map, Option.option_map_or}
 use Rattle.vs_flow.specs.declared.flow.Flow.{Flow}
-use Rattle.vs_flow.specs.Flow.{same_flow}
+use Rattle.vs_flow.specs.{Connection.Connection, Flow.same_flow}
 use Rattle.vs_outside.specs.declared.mem_stream.TheConstants.{LINE_END}
 use Rattle.vs_outside.specs.Host.{Stream, HostContents, stream_at}
 
@@ -22,13 +22,25 @@ read_after_ok s = if s.by_client then after_line s.given else s.given
 abbrev pub is_labelled : Flow → HostContents → ℕ → Bool
 is_labelled f c id = option_map_or (λ s. option_map_or (same_flow f) s.label false) (stream_at id c) false
 
--- The kth stream of a flow, counted from 1 in the order in which streams were labelled.
-abbrev pub stream_of : Flow → ℕ → HostContents → Option Stream
-stream_of f k c = option_and_then (λ id. stream_at id c) (slice_get (filter (is_labelled f c) c.labelled) (k - 1))
+-- The ids of the streams with that label, in the order in which streams were labelled.
+abbrev pub labelled_with : Flow → HostContents → List ℕ
+labelled_with f c = filter (is_labelled f c) c.labelled
 
--- What the host wrote on the kth stream of a flow, and what it read there. Nothing, where there is no such stream.
-abbrev pub host_wrote : Flow → ℕ → HostContents → List ℕ
-host_wrote f k c = option_map_or wrote_after_connect (stream_of f k c) []
+-- A connection's stream: its flow's streams are counted from 1, in that order.
+abbrev pub stream_of : Connection → HostContents → Option Stream
+stream_of k c = option_and_then (λ id. stream_at id c) (slice_get (labelled_with k.flow c) (k.number - 1))
 
-abbrev pub host_read : Flow → ℕ → HostContents → List ℕ
-host_read f k c = option_map_or read_after_ok (stream_of f k c) []
+-- The connection that a stream is: its label, and its place among the streams of that label. None, where it has no label.
+abbrev pub numbered_in : List ℕ → ℕ → Flow → Option Connection
+numbered_in ids id f = option_map (λ place. record { flow = f; number = place + 1 }) (position (λ other. other == id) ids)
+
+abbrev pub connection_at : ℕ → HostContents → Option Connection
+connection_at id c =
+    option_and_then (λ s. option_and_then (λ f. numbered_in (labelled_with f c) id f) s.label) (stream_at id c)
+
+-- What the host wrote on a connection's stream, and what it read there. Nothing, where there is no such stream.
+abbrev pub host_wrote : Connection → HostContents → List ℕ
+host_wrote k c = option_map_or wrote_after_connect (stream_of k c) []
+
+abbrev pub host_read : Connection → HostContents → List ℕ
+host_read k c = option_map_or read_after_ok (stream_of k c) []

@@ -5,6 +5,8 @@ use Rattle.std.specs.Option.{option_map_or}
 use Rattle.vs_outside.specs.Faults.{one_more}
 use Rattle.vs_outside.specs.Host.{Stream, Prepared, HostContents, called, stream_at, with_stream, take_bytes, give_bytes, dialed_stream}
 use Rattle.vs_flow.specs.declared.flow.Flow.{Flow}
+use Rattle.vs_header.specs.declared.Kind.{Kind}
+use Rattle.vs_header.specs.declared.Kind.TheVariants as kind
 use Rattle.vs_outside.specs.declared.host_net.StreamRead.{StreamRead}
 use Rattle.vs_outside.specs.declared.host_net.StreamRead.TheVariants as read
 use Rattle.vs_outside.specs.declared.host_net.StreamWrite.{StreamWrite}
@@ -37,19 +39,23 @@ new_host base listening prepared = record {
     to_fail = [];
     starts_to_fail = [];
     starved = false;
+    label_calls = 0;
+    shut_write_calls = 0;
   };
   faults = 0;
 }
 
--- The path at which a port of the host is listened on: the base path, `_`, and the port in decimal.
-abbrev pub port_path : List ℕ → ℕ → List ℕ
-port_path base port = base ++ codes "_" ++ decimal port
+-- The path at which a port of the host is listened on: the base path, `_`, and the port in decimal; for messages with `.seq` behind it.
+abbrev pub port_path : List ℕ → ℕ → Kind → List ℕ
+port_path base port kind.Stream = base ++ codes "_" ++ decimal port
+port_path base port kind.Seqpacket = base ++ codes "_" ++ decimal port ++ codes ".seq"
 
-abbrev pub after_listen : ℕ → HostContents → HostContents
-after_listen port c = record c { listening = c.listening ++ port_path c.base port ∷ [] }
+-- A program listens on a port for sockets of that kind, and does so no more.
+abbrev pub after_listen : ℕ → Kind → HostContents → HostContents
+after_listen port kind c = record c { listening = c.listening ++ port_path c.base port kind ∷ [] }
 
-abbrev pub after_unlisten : ℕ → HostContents → HostContents
-after_unlisten port c = record c { listening = filter (λ p. not (bytes_eq p (port_path c.base port))) c.listening }
+abbrev pub after_unlisten : ℕ → Kind → HostContents → HostContents
+after_unlisten port kind c = record c { listening = filter (λ p. not (bytes_eq p (port_path c.base port kind))) c.listening }
 
 -- A client connects to the base path: its stream, of the next id, waits to be accepted.
 abbrev pub client_stream : Stream

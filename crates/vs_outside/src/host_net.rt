@@ -102,7 +102,7 @@ pub trait HostNet {
         ensures counts { CountsFault (dial_failed result) (faults self.old) (faults self.new) }
         ensures exact { Exposes (contents self.old) (contents self.new) (IsDialed path.now result) (after_dial flow result) };
 
-    /// Labels a stream that the proxy was given and hasn't closed.
+    /// Labels a stream that the proxy was given and hasn't closed. The call is counted.
     fn label(&mut self, id: u64, flow: Flow)
         requires { ForSome (contents self.old) (IsOpen id) }
         ensures counts { faults self.new ≡ faults self.old }
@@ -123,7 +123,7 @@ pub trait HostNet {
         ensures exact { Exposes (contents self.old) (contents self.new)
             (IsWritten id (length bytes.now) result) (after_write id bytes.now result) };
 
-    /// Shuts the side that the proxy writes to, of a stream that it was given and hasn't closed.
+    /// Shuts the side that the proxy writes to, of a stream that it was given and hasn't closed. The call is counted.
     fn shut_write(&mut self, id: u64)
         requires { ForSome (contents self.old) (IsOpen id) }
         ensures counts { faults self.new ≡ faults self.old }

@@ -5,6 +5,7 @@
 mod fail_list;
 mod host_net;
 mod in_out;
+pub mod laws;
 mod mem_host;
 mod mem_io;
 mod mem_stream;

@@ -1,7 +1,7 @@
 //! A host in memory, whose programs are played by calls of its own.
 ghost use Rattle.std.specs.Prelude.{◌≡◌, ◌<◌, ◌+◌, ◌∷◌, [], not, length, filter, bytes_eq, string_bytes, MatchOption, None, Some, IsTrue};
 ghost use Rattle.std.specs.{Prelude.◌↔◌, Prelude.position, Prelude.IfSome, Prelude.IfOk, Prelude.OnOk, Prelude.OnErr, List.list_any};
-ghost use Rattle.vs_outside.specs.Faults.{CountsFault};
+ghost use Rattle.vs_outside.specs.Faults.{CountsFault, one_more};
 ghost use Rattle.vs_outside.specs.Host.{IsOpen, fails_now, is_waiting, stream_at, with_stream, after_label, read_failed, ReadsSome, IsRead};
 ghost use Rattle.vs_outside.specs.Host.{after_read, write_failed, TakesSome, IsWritten, after_write, after_shut_write, after_close};
 ghost use Rattle.vs_outside.specs.HostProgram.{plain, new_host, port_path, after_listen, after_unlisten, after_client, has_stream};
@@ -15,6 +15,7 @@ use itoa::Buffer;
 use std::alloc::{AllocError, Global};
 use std::marker::Model;
 use vs_flow::Flow;
+use vs_header::Kind;
 
 /// A path that is listened on.
 #[derive(Drop)]
@@ -52,6 +53,8 @@ pub struct MemHost {
     to_fail: FailList,
     starts_to_fail: FailList,
     starved: bool,
+    label_calls: u64,
+    shut_write_calls: u64,
     faults: u64,
 }
 
@@ -71,6 +74,8 @@ impl Model for MemHost {
         to_fail = m.to_fail;
         starts_to_fail = m.starts_to_fail;
         starved = m.starved;
+        label_calls = m.label_calls;
+        shut_write_calls = m.shut_write_calls;
       };
       faults = m.faults;
     } };
@@ -104,6 +109,8 @@ impl MemHost {
             to_fail: FailList::new(alloc),
             starts_to_fail: FailList::new(alloc),
             starved: false,
+            label_calls: 0,
+            shut_write_calls: 0,
             faults: 0,
         })
     }
@@ -139,22 +146,22 @@ impl MemHost {
         self.faults
     }
 
-    /// Listens on a port, at its path. Where there is no memory for it, all is as before.
-    pub fn listen(&mut self, port: u32) -> Result<(), AllocError>
-        ensures ok { OnOk result (self.new ≡ record self.old { contents = after_listen port self.old.contents }) }
+    /// Listens on a port for sockets of that kind, at their path. Where there is no memory for it, all is as before.
+    pub fn listen(&mut self, port: u32, kind: Kind) -> Result<(), AllocError>
+        ensures ok { OnOk result (self.new ≡ record self.old { contents = after_listen port kind self.old.contents }) }
         ensures err { OnErr result (self.new ≡ self.old) }
     {
-        let text = port_path(*self.streams.allocator(), &self.base, port)?;
+        let text = port_path(*self.streams.allocator(), &self.base, port, kind)?;
         self.listening.push(ListenedPath { text })?;
         Ok(())
     }
 
-    /// Listens on a port no more. Where there is no memory for the path's text, all is as before.
-    pub fn unlisten(&mut self, port: u32) -> Result<(), AllocError>
-        ensures ok { OnOk result (self.new ≡ record self.old { contents = after_unlisten port self.old.contents }) }
+    /// Listens on a port for sockets of that kind no more. Where there is no memory for the path's text, all is as before.
+    pub fn unlisten(&mut self, port: u32, kind: Kind) -> Result<(), AllocError>
+        ensures ok { OnOk result (self.new ≡ record self.old { contents = after_unlisten port kind self.old.contents }) }
         ensures err { OnErr result (self.new ≡ self.old) }
     {
-        let text = port_path(*self.streams.allocator(), &self.base, port)?;
+        let text = port_path(*self.streams.allocator(), &self.base, port, kind)?;
         remove_path(&mut self.listening, &text);
         Ok(())
     }
@@ -349,6 +356,7 @@ impl HostNet for MemHost {
         requires { IsOpen id self.old.contents }
         ensures { self.new ≡ record self.old { contents = after_label id flow self.old.contents } }
     {
+        self.label_calls = one_more(self.label_calls);
         if !self.streams[id as usize - 1].set_label(flow) {
             return;
         }
@@ -392,6 +400,7 @@ impl HostNet for MemHost {
         requires { IsOpen id self.old.contents }
         ensures { self.new ≡ record self.old { contents = after_shut_write id self.old.contents } }
     {
+        self.shut_write_calls = one_more(self.shut_write_calls);
         self.change(id, StreamChange::ShutWrite);
     }
 
@@ -403,13 +412,24 @@ impl HostNet for MemHost {
     }
 }
 
-/// The text of a port's path: the base path, `_`, and the port in decimal.
-fn port_path(alloc: Global, base: &str, port: u32) -> Result<String, AllocError>
-    ensures { IfOk result (λ text. string_bytes text ≡ port_path base.now port) }
+/// A count after one more. It stands still at its last value.
+fn one_more(count: u64) -> u64
+    ensures { result ≡ one_more count }
+{
+    count.saturating_add(1)
+}
+
+/// The text of a port's path: the base path, `_`, and the port in decimal; for messages with `.seq` behind it.
+fn port_path(alloc: Global, base: &str, port: u32, kind: Kind) -> Result<String, AllocError>
+    ensures { IfOk result (λ text. string_bytes text ≡ port_path base.now port kind) }
 {
     let mut text = String::from_str(alloc, base)?;
     text.push('_')?;
     text.push_str(Buffer::new().format(port))?;
+    match kind {
+        Kind::Stream => (),
+        Kind::Seqpacket => text.push_str(".seq")?,
+    }
     Ok(text)
 }
 

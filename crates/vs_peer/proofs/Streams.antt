@@ -6,7 +6,7 @@ use Rattle.std.proofs.lemmas.Bool.Decides.{nat_tests}
 use Rattle.vs_contents.specs.Contents.{Exposes, Relates}
 use Rattle.vs_outside.specs.Host.{Stream, HostContents, stream_at, KeepsOthers, IsOpen, called, fails_now, read_of, write_of, read_answer}
 use Rattle.vs_outside.specs.Host.{write_answer, after_read, after_write, after_shut_write, take_bytes, give_bytes, ReadsFrom, next_bytes}
-use Rattle.vs_outside.specs.Host.{IsRead, IsWritten}
+use Rattle.vs_outside.specs.Host.{IsRead, IsWritten, with_shut_write_call}
 use Rattle.vs_outside.specs.declared.host_net.StreamState.TheVariants as state
 use Rattle.vs_outside.specs.declared.host_net.StreamRead.{StreamRead}
 use Rattle.vs_outside.specs.declared.host_net.StreamRead.TheVariants as read
@@ -165,8 +165,8 @@ reads id n out c from =
 pub shut_writes : (id : ℕ) (c : HostContents) → Moves id [] [] true c (after_shut_write id c)
 shut_writes id c =
     changed id [] [] true (λ s. record s { write_shut = true }) c (after_shut_write id c)
-    (λ s there. stream_at-with_stream id (λ t. record t { write_shut = true }) c s there) (keeps_others id
-    (λ s. record s { write_shut = true }) c)
+    (λ s there. stream_at-with_stream id (λ t. record t { write_shut = true }) (with_shut_write_call c) s there) (keeps_others id
+    (λ s. record s { write_shut = true }) (with_shut_write_call c))
     (λ s there. record {
       label = refl;
       state = refl;

@@ -11,7 +11,7 @@ use Rattle.vs_flow.proofs.{Entries.found_passes, Lookups.find_place}
 use Rattle.vs_header.specs.declared.Header.{Header}
 use Rattle.vs_limits.specs.declared.TheConstants.{BUF_ALLOC}
 use Rattle.vs_outside.specs.Host.{HostContents, Stream, after_dial, after_label, after_read, called, dialed_stream, fails_now, has_label}
-use Rattle.vs_outside.specs.Host.{next_bytes, read_answer, read_of, stream_at, take_bytes}
+use Rattle.vs_outside.specs.Host.{next_bytes, read_answer, read_of, stream_at, take_bytes, with_label_call}
 use Rattle.vs_outside.specs.HostBytes.{after_line}
 use Rattle.vs_page.specs.Log.{Device, Log}
 use Rattle.vs_proxy_parts.specs.{Handshakes.with_line, Handshakes.without_stream, State.Handshake}
@@ -183,11 +183,11 @@ module _ (c : HostContents) (log : Log) (port : ℕ) (t : Table DeviceConnection
   label_seen : look labelled_now id ≡ Some (record (reading line) { label = Some f })
   label_seen =
       let s = there id c (reading line) here in
-      changed_seen id (λ y. record y { label = Some f }) (record c { labelled = cond (has_label id c) c.labelled (c.labelled ++ id ∷ []) }) s.stream s.at
+      changed_seen id (λ y. record y { label = Some f }) (with_label_call id c) s.stream s.at
       ∙ ap (λ (y : Seen). let r : Seen = record y { label = Some f } in Some r) s.is
 
   others_labelled : (j : ℕ) → j ≢ id → look c j ≡ look labelled_now j
-  others_labelled j other = others_seen id (λ y. record y { label = Some f }) (record c { labelled = cond (has_label id c) c.labelled (c.labelled ++ id ∷ []) }) j other
+  others_labelled j other = others_seen id (λ y. record y { label = Some f }) (with_label_call id c) j other
 
   no_label : has_label id c ≡ false
   no_label =

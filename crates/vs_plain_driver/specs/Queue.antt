@@ -1,6 +1,6 @@
 -- The driver's end of a queue as a plain value, and what each of its calls makes of it and of the memory (Virtio 1.2, section 2.7). A
 -- page lies in the memory at the place of its descriptor, which names it.
-use Rattle.std.specs.Prelude.{ℕ, ◌+◌, ◌-◌, ◌*◌, ◌%◌, ◌^◌, ◌==◌, ◌||◌, nat_le, List, [], ◌∷◌, ◌++◌, length, drop, take, min, set}
+use Rattle.std.specs.Prelude.{ℕ, ◌+◌, ◌-◌, ◌*◌, ◌%◌, ◌^◌, ◌==◌, ◌||◌, nat_le, nat_lt, List, [], ◌∷◌, ◌++◌, length, drop, take, min, set}
 use Rattle.std.specs.Prelude.{slice_index_or, Option, None, Some, if◌then◌else◌}
 use Rattle.byteorder.specs.Endian.{little_bytes, little_number}
 use Rattle.vs_guest_mem.specs.Memory.{Memory, after_write, bytes_at}
@@ -9,6 +9,7 @@ use Rattle.vs_layout.specs.Layout.{avail_entry, avail_idx, desc_entry, used_elem
 use Rattle.vs_layout.specs.declared.entry.{Desc.Desc, TheConstants.WRITE, UsedElem.UsedElem}
 use Rattle.vs_layout.specs.declared.place.Areas.{Areas}
 use Rattle.vs_page.specs.declared.page.TheConstants.{PAGE_LEN}
+use Rattle.vs_ring_plain.specs.Chain.{ahead}
 use Rattle.vs_ring_port.specs.declared.queue.Queue.{Queue}
 use Rattle.vs_ring_port.specs.declared.queue.Queue.TheVariants.{Tx}
 
@@ -76,15 +77,19 @@ abbrev pub numbered : ℕ → Option (List ℕ) → Option (ℕ × List ℕ)
 numbered id None = None
 numbered id (Some page) = Some (id, page)
 
--- The descriptor that the next element of the used ring names, the page that it has, and the bytes that the device wrote: none where no
--- published page is in flight, where the used ring has no further element, or where that names no descriptor of a page in flight.
+-- The descriptor that the next element of the used ring names, and the page that it has: none where the used ring has no further element,
+-- where its index lies further ahead than published pages are in flight, or where the element names no descriptor of a page in flight.
 abbrev pub next_elem : Areas → DriverQueueState → Memory → UsedElem
 next_elem areas q m = used_elem_of (bytes_at m (used_elem areas (q.reaped % q.n)).at 8)
 
+abbrev pub used_ahead : Areas → DriverQueueState → Memory → ℕ
+used_ahead areas q m = ahead (little_number 2 (bytes_at m (used_idx areas).at 2)) q.reaped
+
 abbrev pub next_used : Areas → DriverQueueState → Memory → Option (ℕ × List ℕ)
 next_used areas q m =
+    let more = used_ahead areas q m in
     let e = next_elem areas q m in
-    if (q.staged == flight_in q) || (little_number 2 (bytes_at m (used_idx areas).at 2) == q.reaped) || nat_le q.n e.id then None
+    if (more == 0) || nat_lt (flight_in q - q.staged) more || nat_le q.n e.id then None
     else numbered e.id (slice_index_or q.pages e.id None)
 
 -- That page comes back with the bytes that lie in the memory, as many as the element tells, and its descriptor has none from then on.

@@ -150,8 +150,8 @@ impl DriverQueue {
         }
     }
 
-    /// Gets back the page of the used ring's next element, with as many bytes as that tells, 4,096 at most. Where the element names no
-    /// descriptor of a page in flight there is none.
+    /// Gets back the page of the used ring's next element, with as many bytes as that tells, 4,096 at most. Where the used index lies
+    /// further ahead than published pages are in flight, or the element names no descriptor of one in flight, there is none.
     pub fn reap(&mut self, device: &DeviceSide, queue: Queue) -> Option<Page>
         requires same_size { self.old.n ≡ device.now.size }
         requires pages { ArePagesIn self.old device.now.memory }
@@ -167,9 +167,8 @@ impl DriverQueue {
         ensures same_place { self.new.pages_at ≡ self.old.pages_at }
     {
         let areas = areas_of(device, queue);
-        if self.staged == self.in_flight()
-            || load_number(device, areas.used_idx_at()) == self.reaped
-        {
+        let more = load_number(device, areas.used_idx_at()).wrapping_sub(self.reaped);
+        if more == 0 || more > self.in_flight() - self.staged {
             return None;
         }
         let element = load_element(device, &areas, self.reaped % self.n);

@@ -20,7 +20,7 @@ use Rattle.vs_plain_rings.specs.Posting.{CanPost, idle_queue, posted, ring_of}
 use Rattle.vs_plain_ties.proofs.{Frames.inner, Frames.kept, Frames.length_written, Frames.written, Encoded.desc_back}
 
 -- one more than it was, modulo 2^16
-one_ahead : (p : ℕ) → p < 2 ^ 16 → ahead ((p + 1) % 2 ^ 16) p ≡ 1
+pub one_ahead : (p : ℕ) → p < 2 ^ 16 → ahead ((p + 1) % 2 ^ 16) p ≡ 1
 one_ahead p small = omega (arith, small)
 
 within_is : (base size addr len : ℕ) → base ≤ addr → addr + len ≤ base + size → is_within base size addr len ≡ true

@@ -1,7 +1,7 @@
 -- A chain that the device returns is the page that the driver gets back.
 use Rattle.std.proofs.Common.{inr, ◌≡◌, ◌⊎◌, ℕ, ◌+◌, ◌*◌, ◌%◌, ◌^◌, ◌<◌, ◌≤◌, Bool, false, cond, List, length, Option, None, Some, refl}
 use Rattle.std.proofs.Common.{sym, ap, ◌∙◌, subst, arith}
-use Rattle.std.specs.Prelude.{◌==◌, ◌||◌, nat_le, min, slice_index_or}
+use Rattle.std.specs.Prelude.{◌-◌, ◌==◌, ◌||◌, nat_le, nat_lt, min, slice_index_or}
 use Rattle.std.proofs.lemmas.Bool.Decides.{nat_tests}
 use Rattle.std.proofs.lemmas.Nat.{mod_below}
 use Rattle.byteorder.specs.Endian.{little_bytes, little_number}
@@ -10,16 +10,13 @@ use Rattle.vs_header.proofs.RoundTrip.{little_number-little_bytes}
 use Rattle.vs_layout.specs.{Entry.used_elem_bytes, Entry.used_elem_of, Layout.used_elem, Layout.used_idx}
 use Rattle.vs_layout.specs.declared.entry.UsedElem.{UsedElem}
 use Rattle.vs_layout.specs.declared.place.Areas.{Areas}
-use Rattle.vs_ring_plain.specs.Still.{IsStill}
+use Rattle.vs_ring_plain.specs.{Chain.ahead, Still.IsStill}
 use Rattle.vs_ring_plain.proofs.Still.{is_quiet, quiet}
 use Rattle.vs_ring_port.specs.declared.queue.Queue.{Queue}
-use Rattle.vs_plain_driver.specs.Queue.{DriverQueueState, flight_in, next_elem, next_used, numbered, page_back, reaped_page}
+use Rattle.vs_plain_driver.specs.Queue.{DriverQueueState, flight_in, next_elem, next_used, numbered, page_back, reaped_page, used_ahead}
 use Rattle.vs_plain_rings.specs.Posting.{CanReap, returned, ring_of}
+use Rattle.vs_plain_rings.proofs.Posting.{one_ahead}
 use Rattle.vs_plain_ties.proofs.{Frames.inner, Frames.kept, Frames.length_written, Frames.written, Encoded.elem_back, Reaping.or_false}
-
--- the next index is another one
-index_moves : (used : ℕ) → used < 2 ^ 16 → ((used + 1) % 2 ^ 16 == used) ≡ false
-index_moves used small = grind (arith, nat_tests, small)
 
 module _ (q : DriverQueueState) (at head len base accesses : ℕ) (bytes : List ℕ) (areas : Areas) (page : List ℕ)
     (can : CanReap q at head len areas page (quiet base bytes accesses)) where
@@ -106,11 +103,17 @@ module _ (q : DriverQueueState) (at head len base accesses : ℕ) (bytes : List 
   choice : (b : Bool) (x y : Option (ℕ × List ℕ)) → b ≡ false → cond b x y ≡ y
   choice b x y off = rw off refl
 
-  no : ((q.staged == flight_in q) || (little_number 2 (bytes_at m3 I 2) == q.reaped) || nat_le q.n (next_elem areas q m3).id) ≡ false
-  no = or_false _ _ _ can.published
-      (ap (λ x. x == q.reaped) index_is ∙ index_moves q.reaped can.index)
+  no : let more = used_ahead areas q m3 in
+      ((more == 0) || nat_lt (flight_in q - q.staged) more || nat_le q.n (next_elem areas q m3).id) ≡ false
+  no = or_false _ _ _ (ap (λ x. x == 0) one) (ap (λ x. nat_lt (flight_in q - q.staged) x) one ∙ published)
       (ap (λ (x : UsedElem). nat_le q.n x.id) elem_is ∙ below)
     where
+      one : used_ahead areas q m3 ≡ 1
+      one = ap (λ x. ahead x q.reaped) index_is ∙ one_ahead q.reaped can.index
+
+      published : nat_lt (flight_in q - q.staged) 1 ≡ false
+      published = grind (arith, nat_tests, can.published)
+
       below : nat_le q.n head ≡ false
       below = grind (arith, nat_tests, can.within)
 

@@ -4,7 +4,7 @@ use Rattle.std.proofs.Common.{ap₂, ◌∙◌, subst}
 use Rattle.std.specs.Option.{ForSome}
 use Rattle.vs_ring_port.specs.Contents.{Given, PublishCid, Read, Return, Take, Write}
 use Rattle.vs_ring_port.specs.DeviceCalls.{CanReturn, DeviceAllows, LeavesNoGap}
-use Rattle.vs_ring_port.specs.DriverCalls.{CanPublish, DriverAllows, LoadCid, Publish, Reap, Stage}
+use Rattle.vs_ring_port.specs.DriverCalls.{CanPublish, CanStage, DriverAllows, LoadCid, Publish, Reap, Stage}
 use Rattle.vs_ring_port.specs.declared.device_ring.{Chain.Chain, Next.Next}
 use Rattle.vs_ring_port.specs.declared.queue.Queue.{Queue}
 use Rattle.vs_ring_port.specs.declared.queue.Queue.TheVariants.{Rx, Tx, Event}
@@ -54,10 +54,11 @@ module _ (p : PartsState) (h : History) (now : BothEnds) (is : (let x : BothEnds
   -- a page is staged
   pub tied_staged : (queue : Queue) (page : List ℕ) (q : PartsState) (new : History) → q ≡ staged_parts queue page p
       → new ≡ then h (ByDriver (Stage queue page)) → length page ≤ 4096 → (queue ≡ Tx → 44 ≤ length page)
-      → flight_in (driver_at queue p) < p.device.size → IsTiedTo q (ends_by q.device.size new)
-  tied_staged queue page q new parts calls fits header less =
+      → CanStage queue page (driver_contents now) → flight_in (driver_at queue p) < p.device.size → IsTiedTo q (ends_by q.device.size new)
+  tied_staged queue page q new parts calls fits header can less =
       tied_as (ByDriver (Stage queue page)) (staged_parts queue page p) q new parts (same_device queue _ _) calls
-      (told.told_staged p queue page ends tied fits header less)
+      (told.told_staged p queue page ends tied fits header (subst (λ (x : Option Ends). CanStage queue page (driver_told x)) (sym ends_is)
+      can) less)
 
   -- those staged are published
   pub tied_published : (queue : Queue) (q : PartsState) (new : History) → q ≡ published_parts queue p

@@ -1,5 +1,5 @@
 -- One page on its way to the device and back.
-use Rattle.std.specs.Prelude.{◌≡◌, ℕ, ◌+◌, ◌*◌, ◌^◌, ◌<◌, ◌≤◌, ◌==◌, Bool, false, List, ◌∷◌, length, slice_index_or, Option, None, Some}
+use Rattle.std.specs.Prelude.{◌≡◌, ℕ, ◌+◌, ◌*◌, ◌^◌, ◌<◌, ◌≤◌, Bool, List, ◌∷◌, length, slice_index_or, Option, None, Some}
 use Rattle.vs_guest_mem.specs.Memory.{Memory}
 use Rattle.vs_header.specs.declared.TheConstants.{HEADER_LEN}
 use Rattle.vs_layout.specs.{Layout.AreInside, Layout.IsPlaced, Layout.avail_area, Layout.desc_area, Layout.used_area, Span.IsApart}
@@ -64,4 +64,4 @@ pub record CanReap (q : DriverQueueState) (at head len : ℕ) (areas : Areas) (p
   pub to : at + PAGE_LEN * q.n ≤ m.base + length m.bytes
   pub beside_used : IsApart record { at = at; len = PAGE_LEN * q.n } (used_area areas q.n)
   pub in_flight : slice_index_or q.pages head None ≡ Some page
-  pub published : (q.staged == flight_in q) ≡ false
+  pub published : q.staged < flight_in q

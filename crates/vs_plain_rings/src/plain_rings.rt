@@ -168,6 +168,7 @@ fn reaped(page: Option<Page>) -> Reaped
 }
 
 impl DriverRing for PlainRings {
+    ghost use Rattle.std.specs.Prelude.{true};
     ghost use Rattle.vs_plain_ties.specs.Exposed.{driver_contents};
     ghost use Rattle.vs_plain_ties.specs.Parts.{parts_flight, parts_staged};
 
@@ -178,6 +179,8 @@ impl DriverRing for PlainRings {
     ghost staged = { λ r. parts_staged r.parts };
 
     ghost contents = { driver_contents };
+
+    ghost kicks = { λ r queue. true };
 
     fn size(&self) -> u16 {
         self.parts.device().size()
@@ -216,9 +219,14 @@ impl DriverRing for PlainRings {
     fn in_flight(&self, queue: Queue) -> u16 {
         self.parts.in_flight(queue)
     }
+
+    fn kick(&self, _queue: Queue) -> bool {
+        true
+    }
 }
 
 impl DeviceRing for PlainRings {
+    ghost use Rattle.std.specs.Prelude.{true};
     ghost use Rattle.vs_ring_plain.specs.Device.{chains_held};
     ghost use Rattle.vs_plain_ties.specs.Exposed.{device_contents};
 
@@ -227,6 +235,8 @@ impl DeviceRing for PlainRings {
     ghost held = { λ r. chains_held r.parts.device };
 
     ghost contents = { device_contents };
+
+    ghost kicks = { λ r queue. true };
 
     fn size(&self) -> u16 {
         self.parts.device().size()
@@ -268,5 +278,9 @@ impl DeviceRing for PlainRings {
     fn publish_cid(&mut self, cid: u64) {
         self.parts.publish_cid(cid);
         self.journal = self.journal.then(&Call::PublishCid(cid));
+    }
+
+    fn kick(&self, _queue: Queue) -> bool {
+        true
     }
 }

@@ -28,10 +28,10 @@ moved : {T : Type 0} (old new : Option T) (P : T → Type 0) (f : T → T) (v : 
     → P v × (new ≡ Some (f v))
 moved {T} old new P f v is holds = subst (λ (o : Option T). Exposes o new P f) is holds
 
-driver_moved : (P : Rings → Type 0) (f : Rings → Rings) (Q : EndLog → Type 0) (g : EndLog → EndLog) (w : Ends) (c d : RingContents)
-    → ShowsDriver w c → DriverMoves P f Q g c d
+driver_moved : (call : DriverCall) (a : DriverAnswer call) (P : Rings → Type 0) (f : Rings → Rings) (Q : EndLog → Type 0)
+    (g : EndLog → EndLog) (w : Ends) (c d : RingContents) → ShowsDriver w c → DriverMoves call a P f Q g c d
     → P w.lists × Q w.driver × ShowsDriver (record w { lists = f w.lists; driver = g w.driver }) d
-driver_moved P f Q g w c d shows m =
+driver_moved call a P f Q g w c d shows m =
     let lists = moved c.lists d.lists P f w.lists shows.lists m.lists in
     let log = moved c.log d.log Q g w.driver shows.log m.log in
     (lists.0, log.0, record { lists = lists.1; log = log.1; other = m.other ∙ shows.other })
@@ -54,15 +54,15 @@ SeenByDevice other s c = ShowsDevice (record { lists = s.0; driver = other; devi
 pub driver_call : (other : EndLog) (call : DriverCall) (a : DriverAnswer call) (s : Rings × EndLog) (c d : RingContents)
     → SeenByDriver other s c → DriverAllows call a c d → ((driver_answer call s).0 ≡ a) × SeenByDriver other (driver_answer call s).1 d
 driver_call other (Stage queue page) a s c d seen m =
-    let r = driver_moved _ _ _ _ (record { lists = s.0; driver = s.1; device = other }) c d seen m in (refl, r.2)
+    let r = driver_moved (Stage queue page) a _ _ _ _ (record { lists = s.0; driver = s.1; device = other }) c d seen m in (refl, r.2)
 driver_call other (Publish queue) a s c d seen (pages, m) =
-    let r = driver_moved _ _ _ _ (record { lists = s.0; driver = s.1; device = other }) c d seen m in
+    let r = driver_moved (Publish queue) a _ _ _ _ (record { lists = s.0; driver = s.1; device = other }) c d seen m in
     (refl, subst (λ (ps : List (List ℕ)). SeenByDriver other (after_publish queue ps s.0, (driver_answer (Publish queue) s).1.1) d) r.1 r.2)
 driver_call other (Reap queue) page s c d seen m =
-    let r = driver_moved _ _ _ _ (record { lists = s.0; driver = s.1; device = other }) c d seen m in
+    let r = driver_moved (Reap queue) page _ _ _ _ (record { lists = s.0; driver = s.1; device = other }) c d seen m in
     (sym r.0, subst (λ (o : Option (List ℕ)). SeenByDriver other ((driver_answer (Reap queue) s).1.0, log_reaped queue o s.1) d) r.0 r.2)
 driver_call other LoadCid cid s c d seen m =
-    let r = driver_moved _ _ _ _ (record { lists = s.0; driver = s.1; device = other }) c d seen m in
+    let r = driver_moved LoadCid cid _ _ _ _ (record { lists = s.0; driver = s.1; device = other }) c d seen m in
     (sym r.0, subst (λ (n : ℕ). SeenByDriver other (s.0, log_loaded n s.1) d) r.0 r.2)
 
 pub device_call : (other : EndLog) (call : DeviceCall) (a : DeviceAnswer call) (s : Rings × EndLog) (c d : RingContents)

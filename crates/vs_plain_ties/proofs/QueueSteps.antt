@@ -4,7 +4,7 @@ use Rattle.std.proofs.Common.{refl, sym, ap, ◌∙◌, subst, arith, length-app
 use Rattle.std.specs.Prelude.{◌==◌, set, slice_index_or}
 use Rattle.std.proofs.lemmas.Bool.Decides.{eqb_tells}
 use Rattle.std.proofs.lemmas.{List.get_or-set_same, List.get_or-set_other, List.length-set, Nat.mod_below}
-use Rattle.vs_ring_port.specs.Lists.{Lists}
+use Rattle.vs_ring_port.specs.{DriverCalls.HoldsPacket, Lists.Lists}
 use Rattle.vs_ring_port.specs.declared.queue.Queue.{Queue}
 use Rattle.vs_ring_port.specs.declared.queue.Queue.TheVariants.{Tx}
 use Rattle.vs_ring_plain.specs.declared.turns.Turns.{Turns}
@@ -128,9 +128,9 @@ module _ (queue : Queue) (n at : ℕ) (nonzero : 0 < n) (limit : n ≤ 32768) (d
 
     pub tie_staged : (new : Shown) → Untouched n (PageOf id ∷ Describing id ∷ Entry enter_at ∷ []) s new → new.entry enter_at ≡ id
         → new.desc id ≡ desc_for queue (at + 4096 * id) (length page) → new.page id (length page) ≡ page → length page ≤ 4096
-        → (queue ≡ Tx → 44 ≤ length page)
+        → (queue ≡ Tx → 44 ≤ length page) → (queue ≡ Tx → HoldsPacket page)
         → IsQueueTied queue n at new staged_then t heads (staged ++ page ∷ []) l (out ++ id ∷ []) back
-    tie_staged new u entry desc bytes fits header = record {
+    tie_staged new u entry desc bytes fits header packet = record {
       once = λ j. omega (arith, tie.once j, free_times j, times-push j id out);
       all = omega (arith, tie.all, free_count, push_length out id);
       sized = length-set q.pages id (Some page) ∙ tie.sized;
@@ -154,6 +154,7 @@ module _ (queue : Queue) (n at : ℕ) (nonzero : 0 < n) (limit : n ≤ 32768) (d
             bytes = bytes;
             fits = fits;
             header = header;
+            packet = packet;
           }));
       back_is = back_kept n s new q.reaped l.back back tie.back_is (λ i less. u.elem _ (mod_below _ n nonzero) (tt, (tt, (tt, tt))))
           (λ j some. same_at j (omega (arith, some)));

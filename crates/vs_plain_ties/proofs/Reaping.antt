@@ -1,8 +1,8 @@
 -- A page is reaped, or none.
-use Rattle.std.proofs.Common.{◌≡◌, ◌⊎◌, inl, inr, ℕ, ◌+◌, ◌*◌, ◌%◌, ◌^◌, ◌<◌, Bool, true, false, cond, List, [], ◌∷◌, ◌++◌, length, Option}
+use Rattle.std.proofs.Common.{◌≡◌, ℕ, ◌+◌, ◌*◌, ◌%◌, ◌^◌, ◌<◌, Bool, true, false, cond, List, [], ◌∷◌, ◌++◌, length, Option}
 use Rattle.std.proofs.Common.{None, Some, refl, sym, ap, ◌∙◌, subst, arith}
-use Rattle.std.specs.Prelude.{◌==◌, ◌||◌, min, nat_le, set, slice_index_or}
-use Rattle.std.proofs.lemmas.Bool.Decides.{eqb_tells, nat_tests}
+use Rattle.std.specs.Prelude.{◌-◌, ◌≤◌, ◌==◌, ◌||◌, min, nat_le, nat_lt, set, slice_index_or}
+use Rattle.std.proofs.lemmas.Bool.Decides.{nat_tests}
 use Rattle.vs_guest_mem.specs.Memory.{Memory, bytes_at}
 use Rattle.vs_layout.specs.{Entry.used_elem_of, Layout.used_elem}
 use Rattle.vs_layout.specs.declared.entry.UsedElem.{UsedElem}
@@ -12,8 +12,9 @@ use Rattle.vs_ring_port.specs.declared.queue.Queue.{Queue}
 use Rattle.vs_ring_port.specs.declared.queue.Queue.TheVariants.{Rx, Tx, Event}
 use Rattle.vs_ring_list.specs.Ends.{Ends}
 use Rattle.vs_ring_list.proofs.Ties.{tied-reap}
-use Rattle.vs_ring_plain.specs.Device.{turns_at}
+use Rattle.vs_ring_plain.specs.{Chain.ahead, Device.turns_at}
 use Rattle.vs_plain_driver.specs.Queue.{DriverQueueState, flight_in, next_elem, numbered, page_back, reaped_page, reaped_queue}
+use Rattle.vs_plain_driver.specs.Queue.{used_ahead}
 use Rattle.vs_plain_ties.specs.{Calls.after_driver, Parts.PartsState, Parts.driver_at, Parts.reaped_parts, Parts.used_in, Parts.with_driver}
 use Rattle.vs_plain_ties.specs.{Queue.HasPage, Queue.IsBack, Queue.IsQueueTied, Shown.Shown}
 use Rattle.vs_plain_ties.specs.Tie.{AreTied, areas_of, heads_of, shown_of, start_of}
@@ -27,16 +28,8 @@ first_of b x y on = rw on refl
 pub or_false : (a b c : Bool) → a ≡ false → b ≡ false → c ≡ false → (a || b || c) ≡ false
 or_false a b c fa fb fc = rw (fa, fb, fc) refl
 
-or_second : (a b c : Bool) → b ≡ true → (a || b || c) ≡ true
-or_second true b c on = refl
-or_second false b c on = rw on refl
-
-not_same : (a b : ℕ) → (a ≡ b → ⊥) → (a == b) ≡ false
-not_same a b other = by (eqb_tells a b)
-  where
-    by : (((a == b) ≡ true) × (a ≡ b)) ⊎ (((a == b) ≡ false) × (a ≡ b → ⊥)) → (a == b) ≡ false
-    by (inl (test, same)) = absurd (other same)
-    by (inr (test, differs)) = test
+or_first : (a b c : Bool) → a ≡ true → (a || b || c) ≡ true
+or_first a b c on = rw on refl
 
 module _ (p : PartsState) (w : Ends) (tied : AreTied p w) (queue : Queue) where
   abbrev q : DriverQueueState
@@ -56,15 +49,13 @@ module _ (p : PartsState) (w : Ends) (tied : AreTied p w) (queue : Queue) where
 
   -- none was returned
   module _ (none : l.back ≡ []) where
-    used_is : (s.used == q.reaped) ≡ true
+    used_is : (used_ahead (areas_of p queue) q m == 0) ≡ true
     used_is =
         let t = (tied.queues queue).2 in
-        let same : s.used ≡ q.reaped = omega (arith, t.used, t.returned, t.small, ap length none) in
-        rw same (grind (arith, nat_tests))
+        let same : ahead s.used q.reaped ≡ 0 = omega (arith, t.used, t.returned, t.small, ap length none) in ap (λ (k : ℕ). k == 0) same
 
     none_used : used_in queue p ≡ None
-    none_used = first_of _ None _ (or_second (q.staged == flight_in q) (s.used == q.reaped) (nat_le q.n (next_elem (areas_of p queue) q
-        m).id) used_is)
+    none_used = first_of _ None _ (or_first _ _ _ used_is)
 
     none_parts : reaped_parts queue p ≡ p
     none_parts = ap (λ (o : Option (ℕ × List ℕ)). with_driver queue (reaped_queue q o) p) none_used ∙ same queue
@@ -120,21 +111,33 @@ module _ (p : PartsState) (w : Ends) (tied : AreTied p w) (queue : Queue) where
     next_is : next_elem (areas_of p queue) q m ≡ record { id = id; len = length page }
     next_is = ap (λ (k : ℕ). used_elem_of (bytes_at m (used_elem (areas_of p queue) (q.reaped % k)).at 8)) (tied.sizes queue) ∙ first.elem
 
-    no_staged : (q.staged == flight_in q) ≡ false
-    no_staged = not_same q.staged (flight_in q) (λ same. omega (arith, same, tied.sizes queue, tie.all, tie.staged_count, counts))
-
-    index_moved : (s.used == q.reaped) ≡ false
-    index_moved = not_same s.used q.reaped (λ same. omega (
+    more : ahead s.used q.reaped ≡ length l.back
+    more = omega (
       arith,
-      same,
       tie.used,
       tie.returned,
       tie.small,
       tie.all,
       tied.laid.limit,
-      ap length back_is,
       back_length n s q.reaped l.back (id ∷ ids) tie.back_is,
-    ))
+    )
+
+    index_moved : (used_ahead (areas_of p queue) q m == 0) ≡ false
+    index_moved = grind (arith, nat_tests, more, ap length back_is)
+
+    not_too_far : nat_lt (flight_in q - q.staged) (used_ahead (areas_of p queue) q m) ≡ false
+    not_too_far = grind (arith, nat_tests, less)
+      where
+        less : ahead s.used q.reaped ≤ flight_in q - q.staged
+        less = omega (
+          arith,
+          more,
+          tied.sizes queue,
+          tie.all,
+          tie.staged_count,
+          counts,
+          back_length n s q.reaped l.back (id ∷ ids) tie.back_is,
+        )
 
     within : nat_le q.n id ≡ false
     within = grind (arith, nat_tests, has.0, tied.sizes queue)
@@ -142,7 +145,7 @@ module _ (p : PartsState) (w : Ends) (tied : AreTied p w) (queue : Queue) where
     used_some : used_in queue p ≡ Some (id, has.1.0)
     used_some =
         chosen _ None (numbered (next_elem (areas_of p queue) q m).id (slice_index_or q.pages (next_elem (areas_of p queue) q m).id None))
-        (or_false _ _ _ no_staged index_moved (ap (λ (e : UsedElem). nat_le q.n e.id) next_is ∙ within))
+        (or_false _ _ _ index_moved not_too_far (ap (λ (e : UsedElem). nat_le q.n e.id) next_is ∙ within))
         ∙ ap (λ (e : UsedElem). numbered e.id (slice_index_or q.pages e.id None)) next_is ∙ ap (numbered id) has.1.1
 
     short : min (length page) 4096 ≡ length page

@@ -32,6 +32,7 @@ module _ (queue : Queue) (n at : ℕ) where
           bytes = at_id.page (length page) one.fits ∙ one.bytes;
           fits = one.fits;
           header = one.header;
+          packet = one.packet;
         },
         out_kept s new (index + 1) pages ids all
             (λ i less. subst (λ (x : ℕ). new.entry (x % n) ≡ s.entry (x % n)) (omega arith) (entries (i + 1) (omega (arith, less))))

@@ -9,7 +9,8 @@ use Rattle.vs_header.proofs.RoundTrip.{little_number-little_bytes}
 use Rattle.vs_layout.specs.{Entry.desc_bytes, Entry.desc_of, Layout.avail_entry, Layout.desc_entry}
 use Rattle.vs_layout.specs.declared.entry.Desc.{Desc}
 use Rattle.vs_layout.specs.declared.place.Areas.{Areas}
-use Rattle.vs_ring_port.specs.{Chains.same_queue, DriverCalls.Stage, EndLog.pages_at, Lists.Rings, Lists.queue_of, Lists.with_queue}
+use Rattle.vs_ring_port.specs.{Chains.same_queue, DriverCalls.HoldsPacket, DriverCalls.Stage, EndLog.pages_at, Lists.Rings, Lists.queue_of}
+use Rattle.vs_ring_port.specs.Lists.{with_queue}
 use Rattle.vs_ring_port.specs.declared.queue.Queue.{Queue}
 use Rattle.vs_ring_port.specs.declared.queue.Queue.TheVariants.{Rx, Tx, Event}
 use Rattle.vs_ring_list.specs.{Ends.Ends, Sound.IsTied}
@@ -125,7 +126,8 @@ module _ (n : ℕ) (areas : Queue → Areas) (at : Queue → ℕ) (m : Memory) (
 
 -- the call, where a descriptor is free
 module _ (p : PartsState) (w : Ends) (tied : AreTied p w) (queue : Queue) (page : List ℕ) (fits : length page ≤ 4096)
-    (header : queue ≡ Tx → 44 ≤ length page) (id : ℕ) (rest : List ℕ) (free : (driver_at queue p).free ≡ id ∷ rest) where
+    (header : queue ≡ Tx → 44 ≤ length page) (packet : queue ≡ Tx → HoldsPacket page) (id : ℕ) (rest : List ℕ)
+    (free : (driver_at queue p).free ≡ id ∷ rest) where
   abbrev q : DriverQueueState
   q = driver_at queue p
 
@@ -200,7 +202,7 @@ module _ (p : PartsState) (w : Ends) (tied : AreTied p w) (queue : Queue) (page 
             (shown (areas_of p queue) (start_of p queue) after) own
             (entry_is n (areas_of p) (start_of p) p.device.memory tied.laid queue id place below near page fits)
             (desc_is n (areas_of p) (start_of p) p.device.memory tied.laid queue id place below near page fits)
-            (page_is n (areas_of p) (start_of p) p.device.memory tied.laid queue id place below near page fits) fits header,
+            (page_is n (areas_of p) (start_of p) p.device.memory tied.laid queue id place below near page fits) fits header packet,
       )
       (λ r other. staged_other n (areas_of p) (start_of p) p.device.memory tied.laid queue id place below near page fits r other)
       (λ j some c few. own.page j c (x.2.pages j (omega (arith, some))).0 few (

@@ -1,11 +1,12 @@
 -- The next chain is taken, or none.
 use Rattle.std.proofs.Common.{◌≡◌, ℕ, ◌+◌, ◌*◌, ◌%◌, ◌^◌, ◌<◌, ◌≤◌, Bool, true, false, cond, ◌||◌, List, [], ◌∷◌, length, refl, sym, ap}
-use Rattle.std.proofs.Common.{ap₂, ◌∙◌, subst, arith}
+use Rattle.std.proofs.Common.{Some, ap₂, ◌∙◌, subst, arith}
 use Rattle.std.specs.Prelude.{nat_le, nat_lt}
 use Rattle.std.proofs.lemmas.Bool.Decides.{nat_tests}
 use Rattle.vs_guest_mem.specs.Memory.{Memory, after_access, is_within}
 use Rattle.vs_layout.specs.declared.entry.Desc.{Desc}
-use Rattle.vs_ring_port.specs.{Chains.Held, Chains.same_queue, Contents.Take, EndLog.entries_taken, EndLog.pages_at}
+use Rattle.vs_ring_port.specs.{Chains.Held, Chains.same_queue, Contents.Take, DeviceCalls.IsTakenWhole, DriverCalls.HoldsPacket}
+use Rattle.vs_ring_port.specs.EndLog.{entries_taken, pages_at}
 use Rattle.vs_ring_port.specs.Lists.{Lists, chain_with, next_at, next_given, queue_of, to_read}
 use Rattle.vs_ring_port.specs.declared.device_ring.{Chain.Chain, Next.Next}
 use Rattle.vs_ring_port.specs.declared.device_ring.Next.TheVariants as next
@@ -85,6 +86,12 @@ readable Rx place at page = omega arith
 readable Tx place at page = omega arith
 readable Event place at page = omega arith
 
+taken_whole : (q : Queue) (place : ℕ) (page : List ℕ) → (q ≡ Tx → HoldsPacket page)
+    → IsTakenWhole q (next_at q place (Some page)) (Some page)
+taken_whole Rx place page holds = tt
+taken_whole Tx place page holds = holds refl
+taken_whole Event place page holds = tt
+
 read_fits : (q : Queue) (page : List ℕ) → length page ≤ 4096 → length (to_read q page) ≤ 4096
 read_fits Rx page fits = omega arith
 read_fits Tx page fits = fits
@@ -115,6 +122,7 @@ module _ (p : PartsState) (w : Ends) (tied : AreTied p w) (queue : Queue) where
   -- the answer, and both ends after it
   pub record Takes : Type 0 where
     pub answer : (answer_to (Take queue) d).0 ≡ next_at queue l.place (next_given queue w.lists)
+    pub whole : IsTakenWhole queue (next_at queue l.place (next_given queue w.lists)) (next_given queue w.lists)
     pub tied_then : AreTied (record p { device = (answer_to (Take queue) d).1 }) (after_device (Take queue) w)
 
   busy_by : (b : Bool) → nat_le n (length (heads_of queue d.held)) ≡ b → is_busy queue n d.held ≡ b
@@ -173,6 +181,7 @@ module _ (p : PartsState) (w : Ends) (tied : AreTied p w) (queue : Queue) where
         let x = (tied.queues queue).2 in
         let r = takes_none (is_busy queue n d.held) (λ _. omega (arith, x.avail, x.published, x.taken, ap length none)) in record {
           answer = r.0 ∙ sym none_next;
+          whole = rw none tt;
           tied_then = subst (λ (v : Ends). AreTied (record p { device = (answer_to (Take queue) d).1 }) v) (sym none_ends) r.1;
         }
 
@@ -306,6 +315,7 @@ module _ (p : PartsState) (w : Ends) (tied : AreTied p w) (queue : Queue) where
       some_taken : Takes
       some_taken = record {
         answer = ap (λ (x : Next × DeviceState). x.0) answer_is ∙ ap (λ (c : Chain). next.Chain c) hold_chain ∙ sym (rw given_is refl);
+        whole = rw given_is (taken_whole queue l.place page first.packet);
         tied_then = some_tied;
       }
 

@@ -6,7 +6,8 @@ use Rattle.vs_page.specs.{Fair.IsFairLog, Log.Device, Log.Driver, Log.Role}
 use Rattle.vs_ring_port.specs.Chains.{bytes_in, held_of}
 use Rattle.vs_ring_port.specs.Contents.{DeviceAnswer, DeviceCall, Given, PublishCid, Read, Return, Take, Write}
 use Rattle.vs_ring_port.specs.DeviceCalls.{CanReturn, DeviceAllows, DeviceMoves, IsTakenAs, IsWholePacket, LeavesNoGap}
-use Rattle.vs_ring_port.specs.DriverCalls.{CanPublish, DriverAllows, DriverMoves, LoadCid, Publish, Reap, Stage}
+use Rattle.vs_ring_port.specs.DriverCalls.{CanPublish, CanStage, DriverAllows, DriverAnswer, DriverCall, DriverMoves, LoadCid, Publish}
+use Rattle.vs_ring_port.specs.DriverCalls.{Reap, Stage}
 use Rattle.vs_ring_port.specs.EndLog.{EndLog, entries_published, entries_returned, pages_at}
 use Rattle.vs_ring_port.specs.Lists.{Rings, next_at, next_back, next_given, queue_of}
 use Rattle.vs_ring_port.specs.declared.device_ring.{Chain.Chain, Next.Next}
@@ -29,26 +30,28 @@ for_log : (role : Role) (log : EndLog) → IsFairLog role log.entries → ForSom
 for_log role log fair l e = let same : log ≡ l = cc in subst (λ (k : EndLog). IsFairLog role k.entries) same fair
 
 -- where nothing is known, a call of the driver is allowed
-quiet : (P : Rings → Type 0) (f : Rings → Rings) (Q : EndLog → Type 0) (g : EndLog → EndLog)
-    → DriverMoves P f Q g (driver_told None) (driver_told None)
-quiet P f Q g = record {
+quiet : (call : DriverCall) (answer : DriverAnswer call) (P : Rings → Type 0) (f : Rings → Rings) (Q : EndLog → Type 0)
+    (g : EndLog → EndLog) → DriverMoves call answer P f Q g (driver_told None) (driver_told None)
+quiet call answer P f Q g = record {
   lists = refl;
   log = refl;
   other = refl;
   plain = refl;
+  known = refl;
   honest = refl;
   fair = λ honest. absurd (false≢true honest);
 }
 
 -- a call of the driver whose answer the lists give
-driver_moves : (P : Rings → Type 0) (f : Rings → Rings) (Q : EndLog → Type 0) (g : EndLog → EndLog) (w : Ends) → P w.lists → Q w.driver
-    → IsFairLog Driver (g w.driver).entries
-    → DriverMoves P f Q g (driver_told (Some w)) (driver_told (Some (record w { lists = f w.lists; driver = g w.driver })))
-driver_moves P f Q g w p q fair = record {
+driver_moves : (call : DriverCall) (answer : DriverAnswer call) (P : Rings → Type 0) (f : Rings → Rings) (Q : EndLog → Type 0)
+    (g : EndLog → EndLog) (w : Ends) → P w.lists → Q w.driver → IsFairLog Driver (g w.driver).entries
+    → DriverMoves call answer P f Q g (driver_told (Some w)) (driver_told (Some (record w { lists = f w.lists; driver = g w.driver })))
+driver_moves call answer P f Q g w p q fair = record {
   lists = (p, refl);
   log = (q, refl);
   other = refl;
   plain = refl;
+  known = refl;
   honest = refl;
   fair = λ _. for_log Driver (g w.driver) fair;
 }
@@ -65,6 +68,7 @@ device_quiet call answer P f Q g d new is = record {
     sym (ap (λ (r : DeviceAnswer call × DeviceState). r.0) is),
     ap (λ (r : DeviceAnswer call × DeviceState). Some (plain_state r.1)) (sym is),
   );
+  known = refl;
   honest = refl;
   fair = λ honest. absurd (false≢true honest);
 }
@@ -85,6 +89,7 @@ device_moves call answer P f Q g d new w is p q fair = record {
     sym (ap (λ (r : DeviceAnswer call × DeviceState). r.0) is),
     ap (λ (r : DeviceAnswer call × DeviceState). Some (plain_state r.1)) (sym is),
   );
+  known = refl;
   honest = refl;
   fair = λ _. for_log Device (g w.device) fair;
 }
@@ -97,20 +102,20 @@ module _ (p : PartsState) where
   -- a page is staged
   pub told_staged : (queue : Queue) (page : List ℕ) (ends : Option Ends) → IsTiedTo p ends → length page ≤ 4096 → (queue ≡ Tx
       → 44 ≤ length page)
-      → flight_in (driver_at queue p) < p.device.size
+      → CanStage queue page (driver_told ends) → flight_in (driver_at queue p) < p.device.size
       → IsTiedTo (staged_parts queue page p) (drives ends (after_driver (Stage queue page)))
-  told_staged queue page None tied fits header less = tt
-  told_staged queue page (Some w) tied fits header less = by (driver_at queue p).free refl
+  told_staged queue page None tied fits header can less = tt
+  told_staged queue page (Some w) tied fits header can less = by (driver_at queue p).free refl
     where
       by : (free : List ℕ) → (driver_at queue p).free ≡ free → AreTied (staged_parts queue page p) (after_driver (Stage queue page) w)
       by [] none = absurd (omega (arith, less, tied.sizes queue, ap length none))
-      by (id ∷ rest) free = tied_staged p w tied queue page fits header id rest free
+      by (id ∷ rest) free = tied_staged p w tied queue page fits header (can refl w.driver refl) id rest free
 
   -- those staged are published
   fair_then : (queue : Queue) (w : Ends) → AreTied p w → CanPublish queue (driver_told (Some w))
       → IsFairLog Driver (entries_published queue (pages_at queue w.driver.staged) w.driver.entries)
   fair_then Rx w tied can = tied.logs.driver_fair
-  fair_then Tx w tied can = (can refl w.driver refl).1
+  fair_then Tx w tied can = can refl w.driver refl
   fair_then Event w tied can = tied.logs.driver_fair
 
   pub told_published : (queue : Queue) (ends : Option Ends) → IsTiedTo p ends → CanPublish queue (driver_told ends)
@@ -120,9 +125,9 @@ module _ (p : PartsState) where
 
   pub allows_published : (queue : Queue) (ends : Option Ends) → IsTiedTo p ends → CanPublish queue (driver_told ends)
       → DriverAllows (Publish queue) tt (driver_told ends) (driver_told (drives ends (after_driver (Publish queue))))
-  allows_published queue None tied can = ([], quiet _ _ _ _)
+  allows_published queue None tied can = ([], quiet (Publish queue) tt _ _ _ _)
   allows_published queue (Some w) tied can =
-      (pages_at queue w.driver.staged, driver_moves _ _ _ _ w tt refl (fair_then queue w tied can))
+      (pages_at queue w.driver.staged, driver_moves (Publish queue) tt _ _ _ _ w tt refl (fair_then queue w tied can))
 
   -- a page is reaped, or none
   pub told_reaped : (queue : Queue) (ends : Option Ends) → IsTiedTo p ends
@@ -133,12 +138,12 @@ module _ (p : PartsState) where
   pub allows_reaped : (queue : Queue) (page : Option (List ℕ)) (ends : Option Ends) → IsTiedTo p ends
       → page ≡ reaped_page (areas_of p queue) (driver_at queue p) p.device.memory (used_in queue p)
       → DriverAllows (Reap queue) page (driver_told ends) (driver_told (drives ends (after_driver (Reap queue))))
-  allows_reaped queue page None tied is = quiet _ _ _ _
+  allows_reaped queue page None tied is = quiet (Reap queue) page _ _ _ _
   allows_reaped queue page (Some w) tied is =
       let page_is : page ≡ next_back queue w.lists = is ∙ (reaps p w tied queue).page in
       subst (λ (x : Option (List ℕ)). DriverAllows (Reap queue) x (driver_told (Some w)) (driver_told (Some (after_driver (Reap queue)
       w)))) (sym page_is)
-      (driver_moves _ _ _ _ w refl tt (reaps p w tied queue).tied_then.logs.driver_fair)
+      (driver_moves (Reap queue) (next_back queue w.lists) _ _ _ _ w refl tt (reaps p w tied queue).tied_then.logs.driver_fair)
 
   -- the guest's CID is loaded
   pub told_loaded : (ends : Option Ends) → IsTiedTo p ends → IsTiedTo p (drives ends (after_driver LoadCid))
@@ -147,10 +152,10 @@ module _ (p : PartsState) where
 
   pub allows_loaded : (ends : Option Ends) → IsTiedTo p ends
       → DriverAllows LoadCid p.cid (driver_told ends) (driver_told (drives ends (after_driver LoadCid)))
-  allows_loaded None tied = quiet _ _ _ _
+  allows_loaded None tied = quiet LoadCid p.cid _ _ _ _
   allows_loaded (Some w) tied =
       subst (λ (x : ℕ). DriverAllows LoadCid x (driver_told (Some w)) (driver_told (Some (after_driver LoadCid w)))) tied.cid
-      (driver_moves _ _ _ _ w refl tt (tied_loaded p w tied).logs.driver_fair)
+      (driver_moves LoadCid w.lists.cid _ _ _ _ w refl tt (tied_loaded p w tied).logs.driver_fair)
 
   -- a chain is taken, or none
   pub told_taken : (queue : Queue) (answer : Next) (new : DeviceState) (ends : Option Ends) → IsTiedTo p ends
@@ -174,8 +179,8 @@ module _ (p : PartsState) where
       (device_told new (Some (after_device (Take queue) w)))) (sym answer_is)
       (λ is. (
         page,
-        device_moves (Take queue) (next_at queue place page) _ _ _ _ p.device new w is (refl, refl) (taken_as queue place page)
-            t.tied_then.logs.device_fair,
+        device_moves (Take queue) (next_at queue place page) _ _ _ _ p.device new w is (refl, refl)
+            (taken_as queue place page, λ _. t.whole) t.tied_then.logs.device_fair,
       )) is
 
   -- bytes are read

@@ -16,12 +16,12 @@ pub record BothEnds : Type 0 where
 -- Where the ends are known the driver's end exposes the lists of pages in flight and both logs, and is honest: as list rings. Otherwise it
 -- exposes nothing.
 abbrev pub driver_told : Option Ends → RingContents
-driver_told None = record { lists = None; log = None; other = None; plain = None; honest = false }
+driver_told None = record { lists = None; log = None; other = None; plain = None; known = None; honest = false }
 driver_told (Some w) = list.driver_contents w
 
 -- The device's end exposes its plain state besides, over any memory.
 abbrev pub device_told : DeviceState → Option Ends → RingContents
-device_told d None = record { lists = None; log = None; other = None; plain = Some (plain_state d); honest = false }
+device_told d None = record { lists = None; log = None; other = None; plain = Some (plain_state d); known = None; honest = false }
 device_told d (Some w) = record (list.device_contents w) { plain = Some (plain_state d) }
 
 abbrev pub driver_contents : BothEnds → RingContents

@@ -3,7 +3,7 @@ use Rattle.std.specs.Prelude.{◌≡◌, ℕ, ◌+◌, ◌*◌, ◌%◌, ◌^◌
 use Rattle.std.specs.Prelude.{if◌then◌else◌, ⊤}
 use Rattle.vs_header.specs.declared.TheConstants.{HEADER_LEN}
 use Rattle.vs_page.specs.declared.page.TheConstants.{PAGE_LEN}
-use Rattle.vs_ring_port.specs.Lists.{Lists}
+use Rattle.vs_ring_port.specs.{DriverCalls.HoldsPacket, Lists.Lists}
 use Rattle.vs_ring_port.specs.declared.queue.Queue.{Queue}
 use Rattle.vs_ring_port.specs.declared.queue.Queue.TheVariants.{Tx}
 use Rattle.vs_ring_plain.specs.declared.turns.Turns.{Turns}
@@ -16,12 +16,14 @@ times id [] = 0
 times id (x ∷ xs) = (if id == x then 1 else 0) + times id xs
 
 -- A page that was staged or given stands in the available ring at a place, by its descriptor, and its bytes lie in the descriptor's page.
+-- On tx it holds a packet and nothing more.
 pub record IsOut (queue : Queue) (at : ℕ) (s : Shown) (place : ℕ) (page : List ℕ) (id : ℕ) : Type 0 where
   pub entry : s.entry place ≡ id
   pub desc : s.desc id ≡ desc_for queue (at + PAGE_LEN * id) (length page)
   pub bytes : s.page id (length page) ≡ page
   pub fits : length page ≤ PAGE_LEN
   pub header : queue ≡ Tx → HEADER_LEN ≤ length page
+  pub packet : queue ≡ Tx → HoldsPacket page
 
 -- Pages stand one after another from an index on, by these descriptors.
 abbrev pub AreOut : Queue → ℕ → ℕ → Shown → ℕ → List (List ℕ) → List ℕ → Type 0

@@ -1,6 +1,6 @@
 -- What holds of each play.
 use Rattle.std.proofs.Common.{◌≡◌, ℕ, true, List, [], ◌∷◌, ◌++◌, None, refl, sym, ap, subst, ◌∙◌, map, Ok}
-use Rattle.vs_flow.specs.declared.flow.Flow.{Flow}
+use Rattle.vs_flow.specs.{Connection.first_of, declared.flow.Flow.Flow}
 use Rattle.vs_history.specs.{History.puts, Packets.has, Packets.shuts_send}
 use Rattle.vs_driver_parts.specs.State.{DriverEntry}
 use Rattle.vs_device_parts.specs.State.{DeviceEntry}
@@ -78,7 +78,7 @@ module _ (w v : World) (f : Flow) (well : IsWell Fresh w) (goes : Goes Fresh w v
       ∙ sym (well.sent f)
 
   device_decided : (e : DeviceEntry) → Contains w.proxy.device.table.entries e → e.flow ≡ f → e.value.end.own.send ≡ true
-      → host_wrote f 1 v.host ≡ host_wrote f 1 w.host
+      → host_wrote (first_of f) v.host ≡ host_wrote (first_of f) w.host
   device_decided e there own shut =
       sym (wrote_is_put v.host _ _ _ _ (goes.well.streams fresh) f)
       ∙ decided_put Device (is_shut Device first_cid f (device_ends w.proxy) (both_of w).device.log e.value.end

@@ -2,7 +2,7 @@
 -- nobody exceeds the credit that the peer gave (Virtio 1.2, section 5.10.6).
 use Rattle.std.specs.Prelude.{◌≡◌, ◌≢◌, ℕ, ◌+◌, ◌≤◌, ◌||◌, Bool, true, false, List, [], ◌∷◌, ◌++◌, length, Some, None, All, AllPairs}
 use Rattle.std.specs.Prelude.{Contains}
-use Rattle.vs_flow.specs.declared.flow.Flow.{Flow}
+use Rattle.vs_flow.specs.{declared.flow.Flow.Flow, Connection.first_of}
 use Rattle.vs_limits.specs.declared.TheConstants.{BUF_ALLOC}
 use Rattle.vs_history.specs.History.{History, Put, gots, puts}
 use Rattle.vs_history.specs.Packets.{allowance, bytes, has, is_rst, shuts_send, size}
@@ -51,19 +51,19 @@ device_replies w = (device_ends w.proxy).replies
 -- Bytes of a connection, in order, both ways. The host's program wrote behind a CONNECT line, and reads behind an OK line.
 pub record Carries (w : World) (f : Flow) : Type 0 where
   -- What the guest received is a prefix of what the host's program wrote.
-  pub to_guest : IsPrefixOf (received_on f w.journal) (host_wrote f 1 w.host)
+  pub to_guest : IsPrefixOf (received_on f w.journal) (host_wrote (first_of f) w.host)
   -- What the host's program read is a prefix of what the guest sent.
-  pub to_host : IsPrefixOf (host_read f 1 w.host) (sent_on f w.journal)
+  pub to_host : IsPrefixOf (host_read (first_of f) w.host) (sent_on f w.journal)
   -- On the way to the guest: what was taken of the stream is the payload that the device put, the driver got a prefix of that, and the
   -- guest received a prefix of what its driver got.
-  pub device_put : payload_put Device f 1 (device_log w) ≡ host_wrote f 1 w.host
+  pub device_put : payload_put Device f 1 (device_log w) ≡ host_wrote (first_of f) w.host
   pub driver_got : IsPrefixOf (payload_got Driver f 1 (driver_log w)) (payload_put Device f 1 (device_log w))
   pub received : IsPrefixOf (received_on f w.journal) (payload_got Driver f 1 (driver_log w))
   -- On the way to the host: what the sends took is the payload that the driver put, the device got a prefix of that, and the stream was
   -- given a prefix of what the device got.
   pub driver_put : payload_put Driver f 1 (driver_log w) ≡ sent_on f w.journal
   pub device_got : IsPrefixOf (payload_got Device f 1 (device_log w)) (payload_put Driver f 1 (driver_log w))
-  pub given : IsPrefixOf (host_read f 1 w.host) (payload_got Device f 1 (device_log w))
+  pub given : IsPrefixOf (host_read (first_of f) w.host) (payload_got Device f 1 (device_log w))
 
 -- What is still unread of a connection comes next: at the guest of the payload that its driver got, at the device of what it owes the
 -- stream; and it is all that is left, while the connection takes payload.
@@ -81,8 +81,9 @@ pub record HasOwnStreams (w : World) : Type 0 where
   pub one : (f : Flow) (i j : ℕ) (s t : Stream) → stream_at i w.host ≡ Some s → stream_at j w.host ≡ Some t → s.label ≡ Some f
       → t.label ≡ Some f → i ≡ j
   pub wrote : (f : Flow) (i : ℕ) (s : Stream) → stream_at i w.host ≡ Some s → s.label ≡ Some f
-      → wrote_after_connect s ≡ host_wrote f 1 w.host
-  pub read : (f : Flow) (i : ℕ) (s : Stream) → stream_at i w.host ≡ Some s → s.label ≡ Some f → read_after_ok s ≡ host_read f 1 w.host
+      → wrote_after_connect s ≡ host_wrote (first_of f) w.host
+  pub read : (f : Flow) (i : ℕ) (s : Stream) → stream_at i w.host ≡ Some s → s.label ≡ Some f
+      → read_after_ok s ≡ host_read (first_of f) w.host
 
 -- The bytes of the journal are those that the lines' answers say.
 pub record IsAsPrinted (n : ℕ) (lines : List Event) : Type 0 where
@@ -99,11 +100,12 @@ pub record IsAsPrinted (n : ℕ) (lines : List Event) : Type 0 where
 -- decides so by a shutdown, and the device once its stream ended.
 pub record StaysShut (f : Flow) (before w : World) : Type 0 where
   pub sent : has shuts_send (puts (history_of Driver f (driver_log before))) ≡ true → sent_on f w.journal ≡ sent_on f before.journal
-  pub wrote : has shuts_send (puts (history_of Device f (device_log before))) ≡ true → host_wrote f 1 w.host ≡ host_wrote f 1 before.host
+  pub wrote : has shuts_send (puts (history_of Device f (device_log before))) ≡ true
+      → host_wrote (first_of f) w.host ≡ host_wrote (first_of f) before.host
   pub guest_shut : (e : DriverEntry) → Contains before.driver.table.entries e → e.flow ≡ f → e.value.end.own.send ≡ true
       → sent_on f w.journal ≡ sent_on f before.journal
   pub stream_ended : (e : DeviceEntry) → Contains before.proxy.device.table.entries e → e.flow ≡ f → e.value.end.own.send ≡ true
-      → host_wrote f 1 w.host ≡ host_wrote f 1 before.host
+      → host_wrote (first_of f) w.host ≡ host_wrote (first_of f) before.host
 
 -- These flows are just those that pass a test, each once.
 pub record AreJust (test : Flow → Bool) (flows : List Flow) : Type 0 where

@@ -1,7 +1,7 @@
 -- Worked examples: what the laws say of two scripts, computed.
 use Rattle.std.specs.Prelude.{ℕ, Bool, true, false, List, [], map, codes, Result, Ok}
 use Rattle.vs_limits.specs.declared.TheConstants.{ASSIGNED_FIRST}
-use Rattle.vs_flow.specs.declared.flow.Flow.{Flow}
+use Rattle.vs_flow.specs.{declared.flow.Flow.Flow, Connection.first_of}
 use Rattle.vs_outside.specs.HostBytes.{host_read, host_wrote}
 use Rattle.vs_page.specs.{Fair.payload_got, Fair.payload_put, Log.Device, Log.Driver, Open.is_open}
 use Rattle.vs_matching.specs.Ends.{is_among}
@@ -37,8 +37,8 @@ told_of lines f w = record {
   sent = sent_in f lines (opened_play 64);
   driver_put = payload_put Driver f 1 (driver_log w);
   device_got = payload_got Device f 1 (device_log w);
-  read = host_read f 1 w.host;
-  wrote = host_wrote f 1 w.host;
+  read = host_read (first_of f) w.host;
+  wrote = host_wrote (first_of f) w.host;
   device_put = payload_put Device f 1 (device_log w);
   driver_got = payload_got Driver f 1 (driver_log w);
   received = received_in f lines (opened_play 64);

@@ -12,7 +12,7 @@ use Rattle.vs_proxy_laws.proofs.Shaking.{FindsAll, Turns, TurnsFirst, keeps_acce
 
 -- A ring that exposes nothing.
 abbrev untold : RingContents
-untold = record { lists = None; log = None; other = None; plain = None; honest = false }
+untold = record { lists = None; log = None; other = None; plain = None; known = None; honest = false }
 
 as_is : (call : Call) (s : Situation) → is_quiet call ≡ true → CanReach call s → CanReach call s
 as_is call s quiet can = can

@@ -3,7 +3,7 @@ use Rattle.std.specs.Prelude.{if◌then◌else◌, nat_lt, nat_le}
 use Rattle.std.proofs.Common.{◌≡◌, ◌-◌, ◌==◌, ◌&&◌, Bool, true, false, cond, length, Option, Some, None, refl, arith}
 use Rattle.vs_contents.specs.CallTree.{Done, Ask, bind}
 use Rattle.vs_contents.proofs.Leads.{ends_bind, ends_weaker}
-use Rattle.vs_conn.specs.{End.verdict_of, End.is_of, End.is_reset, declared.end.Verdict.Verdict}
+use Rattle.vs_conn.specs.{End.verdict_of, End.is_of, End.is_reset, End.is_stream, declared.end.Verdict.Verdict}
 use Rattle.vs_flow.specs.{Flow.is_assigned, Table.entry_of, Table.has_place}
 use Rattle.vs_header.specs.{Op.op_number, Packet.header_of, declared.Header.Header, declared.TheConstants.HEADER_LEN}
 use Rattle.vs_header.specs.{declared.Op.TheVariants.Request, declared.Kind.TheVariants.Stream}

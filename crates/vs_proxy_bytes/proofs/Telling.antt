@@ -10,7 +10,7 @@ use Rattle.vs_header.specs.declared.TheConstants.{HEADER_LEN}
 use Rattle.vs_outside.specs.{declared.host_net.Accepted.Accepted, declared.host_net.Dialed.Dialed, declared.host_net.StreamRead.StreamRead}
 use Rattle.vs_outside.specs.Host.{HostContents, Stream, accept_answer, after_accept, after_close, after_dial, after_failed, after_label}
 use Rattle.vs_outside.specs.Host.{after_read, after_shut_write, after_write, called, dial_answer, dialed_stream, fails_now, give_bytes}
-use Rattle.vs_outside.specs.Host.{is_listened, stream_at, take_bytes, waits, IsDialed, IsWritten}
+use Rattle.vs_outside.specs.Host.{is_listened, stream_at, take_bytes, waits, IsDialed, IsWritten, with_label_call, with_shut_write_call}
 use Rattle.vs_outside.specs.declared.host_net.StreamWrite.{StreamWrite}
 use Rattle.vs_outside.proofs.Frames.{accepts_waiting}
 use Rattle.vs_ring_port.specs.Contents.{DeviceAnswer, DeviceCall, Take, Read, Write, Return, Given, PublishCid}
@@ -130,7 +130,7 @@ module _ (c : HostContents) (calls : List Made) (shows : Shows (account_of calls
       let now : ℕ → Option Account = account_of (made (Label stream flow) answer ∷ calls) in
       let ch : Changes (account_of calls) now stream (labelled flow a) = changes (labelled flow) stream (account_of calls) a is in (
         tt,
-        change_shows stream (λ s. record s { label = Some flow }) c (account_of calls) now shows ch.others
+        change_shows stream (λ s. record s { label = Some flow }) (with_label_call stream c) (account_of calls) now shows ch.others
             (λ gone was. let both : Some a ≡ None = sym is ∙ was in absurd cc)
             (λ st at in_it.
             let s : ShowsIn st (Some a) = subst (ShowsIn st) is in_it in
@@ -190,7 +190,8 @@ module _ (c : HostContents) (calls : List Made) (shows : Shows (account_of calls
   write_shows stream bytes write.Failed is known = (tt, failed_shows c (account_of calls) shows)
 
   pub shut_shows : (stream : ℕ) → Shows (account_of calls) (after_shut_write stream c)
-  shut_shows stream = unseen_shows stream (λ s. record s { write_shut = true }) c (account_of calls) shows (λ st o in_it. by st o in_it)
+  shut_shows stream =
+      unseen_shows stream (λ s. record s { write_shut = true }) (with_shut_write_call c) (account_of calls) shows (λ st o in_it. by st o in_it)
     where
       by : (st : Stream) (o : Option Account) → ShowsIn st o → ShowsIn (record st { write_shut = true }) o
       by st None in_it = in_it

@@ -1,5 +1,6 @@
 -- What the host's programs do on a line, and what that prints, each with its LF; and what a line on the moment prints.
 use Rattle.std.specs.Prelude.{ℕ, Bool, true, false, List, ◌++◌, codes, decimal}
+use Rattle.vs_header.specs.declared.Kind.TheVariants as kind
 use Rattle.vs_outside.specs.Host.{HostContents, with_stream}
 use Rattle.vs_outside.specs.HostProgram.{after_fail, after_host_write, after_listen, after_unlisten, allowed, closed, ended, has_stream}
 use Rattle.vs_outside.specs.HostProgram.{host_write_answer}
@@ -29,8 +30,8 @@ stream_there_text false = codes "no stream\n"
 
 -- A line on the host's programs: the host after it, and what it prints.
 abbrev pub host_played : Host → HostContents → HostContents × List ℕ
-host_played (HostListen port) h = (after_listen port h, ok_text)
-host_played (HostUnlisten port) h = (after_unlisten port h, ok_text)
+host_played (HostListen port) h = (after_listen port kind.Stream h, ok_text)
+host_played (HostUnlisten port) h = (after_unlisten port kind.Stream h, ok_text)
 host_played (HostWrite stream content) h =
     let a = host_write_answer stream h in (after_host_write stream (bytes_of content) a h, write_text a)
 host_played (HostAllow stream n) h = (with_stream stream (allowed 18446744073709551615 n) h, stream_there_text (has_stream stream h))

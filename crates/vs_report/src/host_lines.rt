@@ -9,6 +9,7 @@ ghost use Rattle.vs_report.specs.HostLines.{client_text, host_played, ok_text, s
 use itoa::Buffer;
 use std::alloc::AllocError;
 use std::fmt::Write;
+use vs_header::Kind;
 use vs_outside::{HostWritten, MemHost};
 use vs_script::{Data, HostLine};
 
@@ -42,7 +43,7 @@ fn listen(host: &mut MemHost, port: u32, text: &mut String) -> Result<(), AllocE
     ensures host { OnOk result (host.new.contents ≡ (host_played (HostListen port) host.old.contents).0) }
     ensures printed { OnOk result (string_bytes text.new ≡ string_bytes text.old ++ (host_played (HostListen port) host.old.contents).1) }
 {
-    host.listen(port)?;
+    host.listen(port, Kind::Stream)?;
     push_ok(text)
 }
 
@@ -51,7 +52,7 @@ fn unlisten(host: &mut MemHost, port: u32, text: &mut String) -> Result<(), Allo
     ensures host { OnOk result (host.new.contents ≡ (host_played (HostUnlisten port) host.old.contents).0) }
     ensures printed { OnOk result (string_bytes text.new ≡ string_bytes text.old ++ (host_played (HostUnlisten port) host.old.contents).1) }
 {
-    host.unlisten(port)?;
+    host.unlisten(port, Kind::Stream)?;
     push_ok(text)
 }
 

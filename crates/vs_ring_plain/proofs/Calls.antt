@@ -29,6 +29,7 @@ moves call answer P f Q g old new is = record {
     sym (ap (λ (r : DeviceAnswer call × DeviceState). r.0) is),
     ap (λ (r : DeviceAnswer call × DeviceState). Some (plain_state r.1)) (sym is),
   );
+  known = refl;
   honest = refl;
   fair = λ honest. absurd (false≢true honest);
 }

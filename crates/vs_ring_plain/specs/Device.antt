@@ -169,7 +169,7 @@ plain_state d = λ calls call. (answer_to call (after_calls calls d)).0
 
 -- It exposes its plain state, and nothing else: whatever lies in the memory, nobody vouches for it.
 abbrev pub contents_of : DeviceState → RingContents
-contents_of d = record { lists = None; log = None; other = None; plain = Some (plain_state d); honest = false }
+contents_of d = record { lists = None; log = None; other = None; plain = Some (plain_state d); known = None; honest = false }
 
 -- A device that took nothing yet.
 abbrev pub new_device : Memory → ℕ → QueueAreas → Bool → DeviceState

@@ -233,6 +233,7 @@ fn queue_in(queue: Queue, n: u16, areas: &QueueAreas, indirect: bool) -> PlainQu
 }
 
 impl DeviceRing for DeviceSide {
+    ghost use Rattle.std.specs.Prelude.{true};
     ghost use Rattle.vs_ring_plain.specs.Device.{chains_held, contents_of};
 
     ghost size = { λ d. d.size };
@@ -240,6 +241,8 @@ impl DeviceRing for DeviceSide {
     ghost held = { chains_held };
 
     ghost contents = { contents_of };
+
+    ghost kicks = { λ r queue. true };
 
     fn size(&self) -> u16 {
         self.size
@@ -281,4 +284,8 @@ impl DeviceRing for DeviceSide {
     // The CID doesn't lie in the guest's memory.
     #[tactic(auto, using(crate::proofs::Calls::allowed))]
     fn publish_cid(&mut self, _cid: u64) {}
+
+    fn kick(&self, _queue: Queue) -> bool {
+        true
+    }
 }

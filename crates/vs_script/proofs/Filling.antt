@@ -10,9 +10,10 @@ filled_more start a (suc n) =
     ap (λ k. filled start a ∷ (map (λ i. filled start i) (range_with_len (a + 1) n) ++ filled start k ∷ [])) (omega arith)
     ∙ ap (λ xs. filled start a ∷ xs) (filled_more start (a + 1) n)
 
-pub one_more_byte : (start n : ℕ) (xs : List ℕ) → xs ≡ filled_bytes n start → xs ++ filled start n ∷ [] ≡ filled_bytes (n + 1) start
-one_more_byte start n xs is =
-    let here : n ≡ 0 + n = omega arith in
+pub one_more_byte : (start n byte : ℕ) (xs : List ℕ) → xs ≡ filled_bytes n start → byte ≡ filled start n
+    → xs ++ byte ∷ [] ≡ filled_bytes (n + 1) start
+one_more_byte start n byte xs is here =
+    let same : byte ≡ filled start (0 + n) = here ∙ ap (λ k. filled start k) (omega arith) in
     let more : suc n ≡ n + 1 = omega arith in
-    ap (λ ys. ys ++ filled start n ∷ []) is ∙ ap (λ k. filled_bytes n start ++ filled start k ∷ []) here ∙ filled_more start 0 n
+    ap (λ ys. ys ++ byte ∷ []) is ∙ ap (λ b. filled_bytes n start ++ b ∷ []) same ∙ filled_more start 0 n
     ∙ ap (λ k. filled_bytes k start) more

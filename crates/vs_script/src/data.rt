@@ -1,6 +1,6 @@
 //! The bytes that a line of a script carries.
 
-ghost use Rattle.std.specs.Prelude.{◌≡◌, ◌<◌, ◌^◌, IfOk};
+ghost use Rattle.std.specs.Prelude.{◌≡◌, ◌≤◌, ◌<◌, ◌+◌, ◌-◌, ◌%◌, ◌^◌, ◌==◌, IfOk, if◌then◌else◌};
 ghost use Rattle.vs_script.specs.Data.{content_of, size_of, byte_at, bytes_of, filled, filled_bytes};
 
 use std::alloc::{AllocError, Global};
@@ -23,6 +23,9 @@ pub struct Fill {
     pub start: u8,
 }
 
+/// After so many bytes the rule adds one more.
+const RUN: u8 = 251;
+
 impl Fill {
     /// The byte at a place, counted from 0.
     pub fn byte(self, place: usize) -> u8
@@ -32,18 +35,41 @@ impl Fill {
         ((usize::from(self.start) + 7 * place + place / 251) % 256) as u8
     }
 
-    /// All of the bytes. The only error is want of memory.
+    /// All of the bytes, with no division for each. The only error is want of memory.
     #[tactic(auto, using(crate::proofs::Filling::one_more_byte))]
     fn to_vec(self, alloc: Global) -> Result<Vec<u8>, AllocError>
         ensures { IfOk result (λ bytes. bytes.items ≡ filled_bytes self.n self.start) }
     {
         let n = self.n as usize;
         let mut bytes = Vec::with_capacity(alloc, n)?;
+        let mut next = self.start;
+        let mut left = RUN;
         for place in 0..n {
-            bytes.push_reserved(self.byte(place));
+            bytes.push_reserved(next);
+            next = byte_after(next, left);
+            left = left_after(left);
         }
         Ok(bytes)
     }
+}
+
+// The byte after this one, where so many bytes of its run are left, this one among them.
+fn byte_after(byte: u8, left: u8) -> u8
+    ensures { result ≡ (byte + (if left == 1 then 8 else 7)) % 256 }
+{
+    if left == 1 {
+        byte.wrapping_add(8)
+    } else {
+        byte.wrapping_add(7)
+    }
+}
+
+// How many bytes of the next byte's run are left.
+fn left_after(left: u8) -> u8
+    requires { 1 ≤ left }
+    ensures { result ≡ (if left == 1 then 251 else left - 1) }
+{
+    if left == 1 { RUN } else { left - 1 }
 }
 
 impl Data {

@@ -4,7 +4,7 @@ use Rattle.std.proofs.Common.{decimal, slice_get, Contains, Option, Some, None, 
 use Rattle.std.specs.{List.filter, Option.option_and_then, Option.option_map, Option.option_map_or}
 use Rattle.std.proofs.lemmas.Bool.Decides.{nat_tests}
 use Rattle.std.proofs.lemmas.List.Elements.{filter_passes}
-use Rattle.vs_flow.specs.{Flow.is_assigned, Flow.same_flow, Table.Table}
+use Rattle.vs_flow.specs.{Connection.first_of, Flow.is_assigned, Flow.same_flow, Table.Table}
 use Rattle.vs_flow.specs.declared.flow.Flow.{Flow}
 use Rattle.vs_flow.proofs.Entries.{same_flow_true}
 use Rattle.vs_device_parts.specs.State.{DeviceConnection}
@@ -105,10 +105,10 @@ module _ (c : HostContents) (log : Log) (port : ℕ) (t : Table DeviceConnection
           let line : line_for f ≡ [] = ap (λ (b : Bool). cond b (ok_text f.host) []) outside in
           rw is (subst (λ (bytes : List ℕ). IsPrefixOf st.given (bytes ++ got_on Device f log)) line gave)
 
-  pub wrote_is_put : put_on Device f log ≡ host_wrote f 1 c
+  pub wrote_is_put : put_on Device f log ≡ host_wrote (first_of f) c
   wrote_is_put = (first_one (filter (is_labelled f c) c.labelled) refl).0
 
-  pub read_is_got : IsPrefixOf (host_read f 1 c) (got_on Device f log)
+  pub read_is_got : IsPrefixOf (host_read (first_of f) c) (got_on Device f log)
   read_is_got = (first_one (filter (is_labelled f c) c.labelled) refl).1
 
   -- The one stream with the label.
@@ -120,8 +120,8 @@ module _ (c : HostContents) (log : Log) (port : ℕ) (t : Table DeviceConnection
         let same : other ≡ id = x.unique other id (seen st.0) (seen s) f (ap (option_map seen) st.1) (ap (option_map seen) at) st.2 label in
         ap (λ (i : ℕ). stream_at i c) same ∙ at
 
-    pub wrote_own : wrote_after_connect s ≡ host_wrote f 1 c
+    pub wrote_own : wrote_after_connect s ≡ host_wrote (first_of f) c
     wrote_own = ap (λ (o : Option Stream). option_map_or wrote_after_connect o []) (sym (first_at (filter (is_labelled f c) c.labelled) refl))
 
-    pub read_own : read_after_ok s ≡ host_read f 1 c
+    pub read_own : read_after_ok s ≡ host_read (first_of f) c
     read_own = ap (λ (o : Option Stream). option_map_or read_after_ok o []) (sym (first_at (filter (is_labelled f c) c.labelled) refl))

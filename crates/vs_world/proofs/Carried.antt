@@ -4,7 +4,7 @@ use Rattle.std.specs.Option.{option_map}
 use Rattle.std.proofs.lemmas.List.Elements.{All-contains}
 use Rattle.vs_driver_parts.specs.State.{DriverEntry, GoneConnection}
 use Rattle.vs_device_parts.specs.State.{DeviceEntry}
-use Rattle.vs_flow.specs.declared.flow.Flow.{Flow}
+use Rattle.vs_flow.specs.{Connection.first_of, declared.flow.Flow.Flow}
 use Rattle.vs_history.specs.{History.puts, Packets.has, Packets.shuts_send}
 use Rattle.vs_outside.specs.{Host.Stream, Host.stream_at, HostBytes.host_read, HostBytes.host_wrote}
 use Rattle.vs_page.specs.Fair.{IsFairLog, IsPrefixOf, number_on, payload_got, payload_put}
@@ -19,10 +19,10 @@ use Rattle.vs_world.proofs.{Firsts.once_got, Firsts.once_put, Firsts.put_begun, 
 use Rattle.vs_world.proofs.{Bytes.read_is_got, Bytes.wrote_is_put, Growing.Grows, Growing.runs_grow, Sound.Goes, Sound.IsWell}
 
 abbrev pub ToGuest : Flow → World → Type 0
-ToGuest f w = IsPrefixOf (received_on f w.journal) (host_wrote f 1 w.host)
+ToGuest f w = IsPrefixOf (received_on f w.journal) (host_wrote (first_of f) w.host)
 
 abbrev pub ToHost : Flow → World → Type 0
-ToHost f w = IsPrefixOf (host_read f 1 w.host) (sent_on f w.journal)
+ToHost f w = IsPrefixOf (host_read (first_of f) w.host) (sent_on f w.journal)
 
 module _ {fresh : Type 0} (w : World) (well : IsWell fresh w) where
   abbrev guest : Log
@@ -66,17 +66,17 @@ module _ {fresh : Type 0} (w : World) (well : IsWell fresh w) where
 
   -- The streams of a host that had none at first.
   module _ (new : fresh) where
-    pub wrote_is : (f : Flow) → payload_put Device f 1 device ≡ host_wrote f 1 w.host
+    pub wrote_is : (f : Flow) → payload_put Device f 1 device ≡ host_wrote (first_of f) w.host
     wrote_is f = once_put Device f device (well.sound.fair Device f) (once Device f) ∙ wrote_is_put w.host _ _ _ _ (well.streams new) f
 
-    pub given_is : (f : Flow) → IsPrefixOf (host_read f 1 w.host) (payload_got Device f 1 device)
-    given_is f = subst (λ (bytes : List ℕ). IsPrefixOf (host_read f 1 w.host) bytes) (device_got f) (read_is_got w.host _ _ _ _ (well.streams new) f)
+    pub given_is : (f : Flow) → IsPrefixOf (host_read (first_of f) w.host) (payload_got Device f 1 device)
+    given_is f = subst (λ (bytes : List ℕ). IsPrefixOf (host_read (first_of f) w.host) bytes) (device_got f) (read_is_got w.host _ _ _ _ (well.streams new) f)
 
     pub to_guest : (f : Flow) → ToGuest f w
     to_guest f = subst (λ (bytes : List ℕ). IsPrefixOf (received_on f w.journal) bytes) (wrote_is f) (prefix_then _ _ _ (received_is f) (to_driver f))
 
     pub to_host : (f : Flow) → ToHost f w
-    to_host f = subst (λ (bytes : List ℕ). IsPrefixOf (host_read f 1 w.host) bytes) (sent_is f) (prefix_then _ _ _ (given_is f) (to_device f))
+    to_host f = subst (λ (bytes : List ℕ). IsPrefixOf (host_read (first_of f) w.host) bytes) (sent_is f) (prefix_then _ _ _ (given_is f) (to_device f))
 
     pub one_stream : (f : Flow) (i j : ℕ) (s t : Stream) → stream_at i w.host ≡ Some s → stream_at j w.host ≡ Some t → s.label ≡ Some f → t.label ≡ Some f
         → i ≡ j
@@ -115,5 +115,6 @@ module _ {fresh : Type 0} (w v : World) (well : IsWell fresh w) (goes : Goes fre
   pub sent_stays : has shuts_send (puts (history_of Driver f (both_of w).driver.log)) ≡ true → sent_on f v.journal ≡ sent_on f w.journal
   sent_stays shut = sym (sent_is v goes.well f) ∙ kept Driver shut ∙ sent_is w well f
 
-  pub wrote_stays : fresh → has shuts_send (puts (history_of Device f (both_of w).device.log)) ≡ true → host_wrote f 1 v.host ≡ host_wrote f 1 w.host
+  pub wrote_stays : fresh → has shuts_send (puts (history_of Device f (both_of w).device.log)) ≡ true
+      → host_wrote (first_of f) v.host ≡ host_wrote (first_of f) w.host
   wrote_stays new shut = sym (wrote_is v goes.well new f) ∙ kept Device shut ∙ wrote_is w well new f

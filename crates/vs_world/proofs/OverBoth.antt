@@ -38,11 +38,12 @@ goes call a P f Q g v m d =
     record {
       ends = record { lists = f v.lists; driver = v.driver; device = g v.device };
       is =
-          ap (λ x. record { lists = x; log = m.log; other = m.other; plain = m.plain; honest = m.honest }) lists
-          ∙ (ap (λ x. record { lists = Some (f v.lists); log = x; other = m.other; plain = m.plain; honest = m.honest }) log
-          ∙ (ap (λ x. record { lists = Some (f v.lists); log = Some (g v.device); other = x; plain = m.plain; honest = m.honest }) d.other
-          ∙ (ap (λ x. record { lists = Some (f v.lists); log = Some (g v.device); other = Some v.driver; plain = x; honest = m.honest }) d.plain
-          ∙ ap (λ x. record { lists = Some (f v.lists); log = Some (g v.device); other = Some v.driver; plain = None; honest = x }) d.honest)));
+          ap (λ x. record { lists = x; log = m.log; other = m.other; plain = m.plain; known = m.known; honest = m.honest }) lists
+          ∙ (ap (λ x. record { lists = Some (f v.lists); log = x; other = m.other; plain = m.plain; known = m.known; honest = m.honest }) log
+          ∙ (ap (λ x. record { lists = Some (f v.lists); log = Some (g v.device); other = x; plain = m.plain; known = m.known; honest = m.honest }) d.other
+          ∙ (ap (λ x. record { lists = Some (f v.lists); log = Some (g v.device); other = Some v.driver; plain = x; known = m.known; honest = m.honest }) d.plain
+          ∙ (ap (λ x. record { lists = Some (f v.lists); log = Some (g v.device); other = Some v.driver; plain = None; known = x; honest = m.honest }) d.known
+          ∙ ap (λ x. record { lists = Some (f v.lists); log = Some (g v.device); other = Some v.driver; plain = None; known = None; honest = x }) d.honest))));
     }
 
 middle : (call : DeviceCall) (a : DeviceAnswer call) (v : Ends) (m : RingContents) → DeviceAllows call a (device_contents v) m → IsMiddle v m

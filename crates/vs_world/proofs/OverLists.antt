@@ -15,20 +15,21 @@ record IsMiddle (v : Ends) (m : RingContents) : Type 0 where
   is : m ≡ driver_contents ends
   device : ends.device ≡ v.device
 
-moved : (P : Rings → Type 0) (f : Rings → Rings) (Q : EndLog → Type 0) (g : EndLog → EndLog) (v : Ends) (m : RingContents)
-    → DriverMoves P f Q g (driver_contents v) m → IsMiddle v m
-moved P f Q g v m d =
+moved : (call : DriverCall) (a : DriverAnswer call) (P : Rings → Type 0) (f : Rings → Rings) (Q : EndLog → Type 0) (g : EndLog → EndLog) (v : Ends)
+    (m : RingContents) → DriverMoves call a P f Q g (driver_contents v) m → IsMiddle v m
+moved call a P f Q g v m d =
     let lists : m.lists ≡ Some (f v.lists) = d.lists.1 in
     let log : m.log ≡ Some (g v.driver) = d.log.1 in
     let after : Ends = record { lists = f v.lists; driver = g v.driver; device = v.device } in
     record {
       ends = after;
       is =
-          ap (λ x. record { lists = x; log = m.log; other = m.other; plain = m.plain; honest = m.honest }) lists
-          ∙ (ap (λ x. record { lists = Some (f v.lists); log = x; other = m.other; plain = m.plain; honest = m.honest }) log
-          ∙ (ap (λ x. record { lists = Some (f v.lists); log = Some (g v.driver); other = x; plain = m.plain; honest = m.honest }) d.other
-          ∙ (ap (λ x. record { lists = Some (f v.lists); log = Some (g v.driver); other = Some v.device; plain = x; honest = m.honest }) d.plain
-          ∙ ap (λ x. record { lists = Some (f v.lists); log = Some (g v.driver); other = Some v.device; plain = None; honest = x }) d.honest)));
+          ap (λ x. record { lists = x; log = m.log; other = m.other; plain = m.plain; known = m.known; honest = m.honest }) lists
+          ∙ (ap (λ x. record { lists = Some (f v.lists); log = x; other = m.other; plain = m.plain; known = m.known; honest = m.honest }) log
+          ∙ (ap (λ x. record { lists = Some (f v.lists); log = Some (g v.driver); other = x; plain = m.plain; known = m.known; honest = m.honest }) d.other
+          ∙ (ap (λ x. record { lists = Some (f v.lists); log = Some (g v.driver); other = Some v.device; plain = x; known = m.known; honest = m.honest }) d.plain
+          ∙ (ap (λ x. record { lists = Some (f v.lists); log = Some (g v.driver); other = Some v.device; plain = None; known = x; honest = m.honest }) d.known
+          ∙ ap (λ x. record { lists = Some (f v.lists); log = Some (g v.driver); other = Some v.device; plain = None; known = None; honest = x }) d.honest))));
       device = refl;
     }
 
@@ -39,10 +40,10 @@ allowed (Reap queue) a old new h = h.1
 allowed LoadCid a old new h = h.1
 
 middle : (call : DriverCall) (a : DriverAnswer call) (v : Ends) (m : RingContents) → DriverAllows call a (driver_contents v) m → IsMiddle v m
-middle (Stage queue page) a v m h = moved _ _ _ _ v m h
-middle (Publish queue) a v m h = moved _ _ _ _ v m h.1
-middle (Reap queue) a v m h = moved _ _ _ _ v m h
-middle LoadCid a v m h = moved _ _ _ _ v m h
+middle (Stage queue page) a v m h = moved _ _ _ _ _ _ v m h
+middle (Publish queue) a v m h = moved _ _ _ _ _ _ v m h.1
+middle (Reap queue) a v m h = moved _ _ _ _ _ _ v m h
+middle LoadCid a v m h = moved _ _ _ _ _ _ v m h
 
 -- The end of a conversation from there, and what list rings expose then.
 record IsEnd {A : Type 0} (v : Ends) (r : A × (Rings × EndLog)) (x : A) (t : RingContents) : Type 0 where

@@ -3,12 +3,12 @@ use Rattle.std.proofs.{lemmas.Bool.Decides.nat_tests, lemmas.List.Elements.Conta
 use Rattle.std.proofs.Common.{◌≡◌, ℕ, ◌^◌, ◌<◌, ◌≤◌, ◌&&◌, nat_le, Bool, true, false, List, [], ◌∷◌, ◌++◌, refl, sym, ap, subst, ◌∙◌, arith}
 use Rattle.std.proofs.Common.{append_assoc, get_or}
 use Rattle.vs_contents.specs.CallTree.{played}
-use Rattle.vs_history.specs.declared.packet.Packet.{Packet}
+use Rattle.vs_history.specs.{declared.packet.Packet.Packet, History.Got, History.IsFair, Packets.is_rw}
 use Rattle.vs_outside.specs.{Host.HostContents, Host.with_stream, declared.mem_stream.HostWritten.HostWritten}
 use Rattle.vs_outside.specs.HostProgram.{after_fail, after_host_write, after_listen, after_unlisten, allowed, closed, ended}
 use Rattle.vs_outside.specs.HostProgram.{host_write_answer, with_bytes}
-use Rattle.vs_page.specs.{Log.packets_put, Log.packets_got, Log.Device, Log.IsNextPacket, Log.Log, Log.flow_got, Open.is_dropped}
-use Rattle.vs_page.specs.Held.{held_in, packet_held}
+use Rattle.vs_page.specs.{Open.is_dropped, Held.held_in, Held.packet_held, declared.log.LogEntry.TheVariants.GotPacket}
+use Rattle.vs_page.specs.Log.{packets_put, packets_got, Device, IsNextPacket, Log, flow_got, history_of, side_of}
 use Rattle.vs_ring_port.specs.{DriverCalls.driver_answer, declared.queue.Queue.Queue}
 use Rattle.vs_matching.specs.{Both.IsSound, Both.Both, Ends.ends_of, Ends.entries_of}
 use Rattle.vs_driver_parts.specs.{Conversations.DriverTree, Conversations.publish_of, State.DriverState}
@@ -35,6 +35,7 @@ use Rattle.vs_flow.specs.{declared.flow.Flow.Flow, Table.Table}
 use Rattle.std.specs.List.{All}
 use Rattle.vs_limits.specs.declared.TheConstants.{GUEST_CID_MIN, GUEST_CID_MAX}
 use Rattle.vs_matching.proofs.{Both.next_is_fair, Fair.got_formed, Slots.one_end, Voices.AreVoiced, Voices.voices_run}
+use Rattle.vs_page.proofs.Flows.{same_self}
 use Rattle.vs_pipes.specs.Streamed.{IsStreamed, gives}
 use Rattle.vs_pipes.proofs.{Cids.dropped_empty, HostCalls.client_host, HostCalls.same_host, Hosts.unseen, Logs.nothing_more}
 use Rattle.vs_ring_list.proofs.Held.{same_queue_is}
@@ -49,6 +50,7 @@ use Rattle.vs_world.proofs.DriverEvents as driver_events
 use Rattle.vs_world.proofs.DriverSide as driver_side
 use Rattle.vs_world.proofs.ProxyResets as proxy_resets
 use Rattle.vs_world.proofs.ProxySide as proxy_side
+use Rattle.vs_header.specs.declared.Kind.TheVariants as kind
 use Rattle.vs_outside.specs.declared.mem_stream.HostWritten.TheVariants as written
 
 -- The CIDs of packets stay as the two ends go on.
@@ -305,8 +307,8 @@ module _ (fresh : Type 0) (w : World) (well : IsWell fresh w) where
       let k = proxy_resets.reset_keeps (both_of w).driver first_cid w.proxy (around w) well.sound well.device well.device_puts well.chain well.known fresh well.streams cid
       (guest_cid_fits cid may) in
       device_goes fresh (proxy_reset_of cid w.proxy) (λ r. r.0) w well (k.kept, k.chain, k.cid, k.streams))
-  happens_goes (HostListens port) = host_goes _ (λ ok. same_host w.host (after_listen port w.host) _ _ _ _ (λ j. refl) refl (well.streams ok))
-  happens_goes (HostUnlistens port) = host_goes _ (λ ok. same_host w.host (after_unlisten port w.host) _ _ _ _ (λ j. refl) refl (well.streams ok))
+  happens_goes (HostListens port) = host_goes _ (λ ok. same_host w.host (after_listen port kind.Stream w.host) _ _ _ _ (λ j. refl) refl (well.streams ok))
+  happens_goes (HostUnlistens port) = host_goes _ (λ ok. same_host w.host (after_unlisten port kind.Stream w.host) _ _ _ _ (λ j. refl) refl (well.streams ok))
   happens_goes ClientConnects = host_goes _ (λ ok. client_host w.host _ _ _ _ (well.streams ok))
   happens_goes (HostWrites stream bytes) = host_goes _ (λ ok. host_written stream bytes (host_write_answer stream w.host) w.host _ _ _ _ (well.streams ok))
   happens_goes (HostTakes stream n) = host_goes _ (λ ok. same_host w.host (with_stream stream (allowed 18446744073709551615 n) w.host) _ _ _ _ (unseen stream (allowed 18446744073709551615 n) w.host (λ st. refl)) refl (well.streams ok))

@@ -27,7 +27,8 @@ use Rattle.vs_pipes.proofs.Logs.{put_after_put}
 use Rattle.vs_pipes.proofs.Steps.{comes_out, Goes, drops, stays_still}
 use Rattle.vs_pipes.proofs.Streamed.{join_of, left_streamed, passed_streamed, same_streamed}
 use Rattle.vs_outside.specs.Host.{after_failed, after_read, after_shut_write, after_write, called, dial_answer, fails_now, is_listened}
-use Rattle.vs_outside.specs.Host.{next_bytes, HostContents}
+use Rattle.vs_outside.specs.Host.{next_bytes, HostContents, with_shut_write_call}
+use Rattle.vs_outside.specs.declared.host_net.Dialed.TheVariants as dialed
 use Rattle.vs_outside.proofs.Frames.{stream_at-after_failed}
 use Rattle.vs_page.specs.Fair.{IsFairLog, payload_of, IsFairOn}
 use Rattle.vs_page.specs.Held.{IsWhole, packet_held, packet_with, payload_held}
@@ -270,7 +271,8 @@ called_host c log port t hands x = same_host c (called c) log port t hands (λ j
 
 pub shut_write_host : (id : ℕ) (c : HostContents) (log : Log) (port : ℕ) (t : Table DeviceConnection) (hands : List Handshake) → IsStreamed c log port t hands
     → IsStreamed (after_shut_write id c) log port t hands
-shut_write_host id c log port t hands x = same_host c (after_shut_write id c) log port t hands (unseen id (λ s. record s { write_shut = true }) c (λ st. refl)) refl x
+shut_write_host id c log port t hands x = same_host c (after_shut_write id c) log port t hands
+    (unseen id (λ s. record s { write_shut = true }) (with_shut_write_call c) (λ st. refl)) refl x
 
 -- No connection is left.
 pub emptied_streams : (c : HostContents) (log : Log) (port : ℕ) (t u : Table DeviceConnection) (hands : List Handshake) → u.entries ≡ []

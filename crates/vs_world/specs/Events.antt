@@ -14,6 +14,7 @@ use Rattle.vs_proxy_parts.specs.{State.Turning, State.start, State.with_device, 
 use Rattle.vs_proxy_parts.specs.Handshakes.{tick_handshake, accept_one, read_byte}
 use Rattle.vs_world.specs.{Calls.GuestCall, Calls.ReplyTo, Calls.is_right, GuestSteps.makes_call, GuestSteps.flow_named, Pages.is_held}
 use Rattle.vs_world.specs.World.{World, driver_plays, device_plays}
+use Rattle.vs_header.specs.declared.Kind.TheVariants as kind
 use Rattle.vs_ring_port.specs.declared.queue.Queue.TheVariants as q
 
 -- A connection is named by its slot, a stream by its id.
@@ -140,8 +141,8 @@ happens (Moment now) w = at_moment now w
 happens (TimesOut slot) w = unless_failed (device_step (tick_slot slot)) w
 happens (HandshakeTimesOut stream) w = unless_failed (proxy_step (tick_handshake stream)) w
 happens (Reset cid) w = where_possible (is_guest_cid cid) (reset_made cid) w
-happens (HostListens port) w = host_step (after_listen port) w
-happens (HostUnlistens port) w = host_step (after_unlisten port) w
+happens (HostListens port) w = host_step (after_listen port kind.Stream) w
+happens (HostUnlistens port) w = host_step (after_unlisten port kind.Stream) w
 happens ClientConnects w = host_step after_client w
 happens (HostWrites stream bytes) w = host_step (λ c. after_host_write stream bytes (host_write_answer stream c) c) w
 happens (HostTakes stream n) w = host_step (with_stream stream (allowed (18446744073709551615) n)) w

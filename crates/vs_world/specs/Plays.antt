@@ -1,6 +1,7 @@
 -- Whole calls, one line of a script each, and what each answers.
 use Rattle.std.specs.Prelude.{◌≡◌, ℕ, ◌+◌, Bool, true, if◌then◌else◌, List, [], ◌∷◌, length, map, Option, Result}
 use Rattle.vs_flow.specs.declared.flow.Flow.{Flow}
+use Rattle.vs_header.specs.declared.Kind.TheVariants as kind
 use Rattle.vs_outside.specs.Host.{HostContents, with_stream}
 use Rattle.vs_outside.specs.HostProgram.{after_listen, after_unlisten, after_client, after_host_write, host_write_answer, has_stream}
 use Rattle.vs_outside.specs.HostProgram.{allowed, ended, closed, after_fail}
@@ -68,8 +69,8 @@ line Poll w = poll_line w
 line (TurnAt now) w = turn_line now w
 line (ResetTo cid) w = reset_line cid w
 line Client w = host_line after_client (StreamIs (length w.host.streams + 1)) w
-line (HostListen port) w = host_line (after_listen port) (IsThere true) w
-line (HostUnlisten port) w = host_line (after_unlisten port) (IsThere true) w
+line (HostListen port) w = host_line (after_listen port kind.Stream) (IsThere true) w
+line (HostUnlisten port) w = host_line (after_unlisten port kind.Stream) (IsThere true) w
 line (HostWrite stream bytes) w = let a = host_write_answer stream w.host in host_line (after_host_write stream bytes a) (Wrote a) w
 line (HostAllow stream n) w = host_line (with_stream stream (allowed 18446744073709551615 n)) (IsThere (has_stream stream w.host)) w
 line (HostEnd stream) w = host_line (with_stream stream ended) (IsThere (has_stream stream w.host)) w

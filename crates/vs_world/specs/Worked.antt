@@ -1,7 +1,12 @@
 -- Worked plays: scripts, and what each of their lines answers.
 use Rattle.std.specs.Prelude.{true, false, List, [], ◌∷◌, Some, Ok, Err, codes}
 use Rattle.vs_flow.specs.Flow.{host_flow}
+use Rattle.vs_limits.specs.declared.TheConstants.{ASSIGNED_FIRST}
 use Rattle.vs_outside.specs.HostProgram.{new_host, plain}
+use Rattle.vs_world.specs.Plays.{Line, Guest, Poll, TurnAt, ResetTo, Client, HostListen, HostWrite, HostFail, Said, Replied, HasPolled}
+use Rattle.vs_world.specs.Plays.{HasTurned, WasReset, StreamIs, Wrote, IsThere, Report}
+use Rattle.vs_world.specs.Calls.{Connect, Listen, Accept, Send, Recv, Shutdown, Close, LookAt}
+use Rattle.vs_world.specs.World.{World, opening}
 use Rattle.vs_outside.specs.declared.mem_stream.HostWritten.TheVariants as written
 use Rattle.vs_driver_parts.specs.declared.answers.ListenError.TheVariants as listen_error
 use Rattle.vs_driver_parts.specs.declared.answers.Accepted.TheVariants as accepted
@@ -11,10 +16,6 @@ use Rattle.vs_driver_parts.specs.declared.answers.Shut.TheVariants as shut
 use Rattle.vs_driver_parts.specs.declared.answers.Closed.TheVariants as closed
 use Rattle.vs_driver_parts.specs.declared.answers.ConnectionState.TheVariants as seen
 use Rattle.vs_proxy_parts.specs.declared.answers.Turn.TheVariants as turn
-use Rattle.vs_world.specs.Calls.{Connect, Listen, Accept, Send, Recv, Shutdown, Close, LookAt}
-use Rattle.vs_world.specs.Plays.{Line, Guest, Poll, TurnAt, ResetTo, Client, HostListen, HostWrite, HostFail, Said, Replied, HasPolled}
-use Rattle.vs_world.specs.Plays.{HasTurned, WasReset, StreamIs, Wrote, IsThere, Report}
-use Rattle.vs_world.specs.World.{World, opening}
 
 -- A world with queues of eight, at whose host nobody listens.
 abbrev pub fresh : World
@@ -117,7 +118,7 @@ abbrev pub client_report : Report
 client_report = record {
   guest_open = 0;
   device_open = 0;
-  streams = record { label = Some (host_flow 70 1073741824); wrote = (104 ∷ 105 ∷ []); read = (121 ∷ 111 ∷ []) } ∷ [];
+  streams = record { label = Some (host_flow 70 ASSIGNED_FIRST); wrote = (104 ∷ 105 ∷ []); read = (121 ∷ 111 ∷ []) } ∷ [];
   dropped = 0;
   overrun = 0;
   broken = 0;

@@ -1,6 +1,7 @@
 -- What the worked scripts leave: the bytes of their connections, at both ends.
 use Rattle.std.specs.Prelude.{ℕ, List, [], ◌∷◌}
-use Rattle.vs_flow.specs.{Flow.host_flow, declared.flow.Flow.Flow}
+use Rattle.vs_flow.specs.{Flow.host_flow, declared.flow.Flow.Flow, Connection.first_of}
+use Rattle.vs_limits.specs.declared.TheConstants.{ASSIGNED_FIRST}
 use Rattle.vs_outside.specs.HostBytes.{host_read, host_wrote}
 use Rattle.vs_page.specs.{Fair.payload_got, Fair.payload_put, Log.Device}
 use Rattle.vs_world.specs.{Calls.received_on, Calls.sent_on, World.World}
@@ -18,8 +19,8 @@ abbrev pub carried_on : Flow → World → Carried
 carried_on f w = record {
   sent = sent_on f w.journal;
   to_host = payload_got Device f 1 w.rings.device.entries;
-  read = host_read f 1 w.host;
-  wrote = host_wrote f 1 w.host;
+  read = host_read (first_of f) w.host;
+  wrote = host_wrote (first_of f) w.host;
   to_guest = payload_put Device f 1 w.rings.device.entries;
   received = received_on f w.journal;
 }
@@ -40,7 +41,7 @@ hello_bytes = record {
 }
 
 abbrev pub client_flow : Flow
-client_flow = host_flow 70 1073741824
+client_flow = host_flow 70 ASSIGNED_FIRST
 
 abbrev pub client_bytes : Carried
 client_bytes = record {

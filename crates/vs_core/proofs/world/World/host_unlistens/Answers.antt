@@ -1,5 +1,6 @@
 use Rattle.std.proofs.Common.{ap, refl, sym, subst}
 use Rattle.std.proofs.lemmas.Result.{on_ok_weaker}
+use Rattle.vs_header.specs.declared.Kind.TheVariants as kind
 use Rattle.vs_outside.specs.HostProgram.{after_unlisten}
 use Rattle.vs_world.specs.Events.{HostUnlistens}
 use Rattle.vs_core.specs.Ready.{IsReady}
@@ -10,5 +11,5 @@ pub returns : goal.returns
 returns c =
     let ready = subst IsReady (sym c.self.view_is) c.requires.ready in
     rw (← c.self.view_is) (on_ok_weaker c.unlisten.result
-    (λ is. host_did (HostUnlistens c.args.port) (after_unlisten c.args.port) _ c.unlisten.new.self.contents refl (ap (λ m. m.contents) is)
+    (λ is. host_did (HostUnlistens c.args.port) (after_unlisten c.args.port kind.Stream) _ c.unlisten.new.self.contents refl (ap (λ m. m.contents) is)
     (λ id still. still) ready) c.unlisten.ensures.ok)

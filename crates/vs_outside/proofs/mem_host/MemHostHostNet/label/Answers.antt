@@ -1,6 +1,7 @@
 use Rattle.std.proofs.Common.{◌≡◌, true, sym, refl, ap, subst, ◌∙◌, arith}
 use Rattle.std.specs.Prelude.{is_none}
 use Rattle.vs_outside.specs.{Host.HostContents, Host.IsOpen, HostProgram.HostMemory}
+use Rattle.vs_outside.specs.contracts.mem_host.MemHost.{the_view}
 use Rattle.vs_outside.proofs.Streams.{labels_one, after_labels}
 use Rattle.vs_outside.proofs.mem_host.MemHostHostNet.label.Goals as goal
 
@@ -26,6 +27,6 @@ pub returns : goal.returns
 returns c =
     let opened = subst (λ (m : HostMemory). IsOpen c.args.id m.contents) (sym c.self.view_is) c.requires in
     let none : is_none c.index_mut.result.now.label ≡ true = sym c.set_label.ensures.first ∙ c.if-not-set_label.false in
-    rw (c.push_reserved.ensures.items, ← c.self.view_is, c.set_label.ensures.after)
+    rw (c.push_reserved.ensures.items, ← c.self.view_is, c.set_label.ensures.after, c.one_more-self-inside.ensures)
     (ap (λ (contents : HostContents). record { contents = contents; faults = c.self.inside.faults })
-    (after_labels c.args.id c.args.flow _ c.index_mut.result.now opened c.index_mut.ensures.value none))
+    (after_labels c.args.id c.args.flow (the_view c.self.inside).contents c.index_mut.result.now opened c.index_mut.ensures.value none))

@@ -8,4 +8,4 @@ invariant_of-self c =
     c.args.page c.stage.new.self
     c.then-journal.result.calls c.in-Ok.ensures.ok c.then-journal.ensures
     (subst (λ (bytes : List ℕ). length bytes ≤ 4096) c.bytes-within.ensures.value c.bytes-within.ensures.within) c.requires.header
-    c.in-Ok.ensures.room
+    c.requires.packet c.in-Ok.ensures.room
