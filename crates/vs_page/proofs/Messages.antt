@@ -1,7 +1,7 @@
 -- The messages of longer lists of packets begin by those of shorter ones.
 use Rattle.std.proofs.Common.{◌≡◌, ◌&&◌, ℕ, Bool, true, false, if◌then◌else◌, not, List, [], ◌∷◌, ◌++◌, refl, sym, ap, ◌∙◌, subst, append_assoc}
 use Rattle.std.proofs.lemmas.List.{append-nil}
-use Rattle.vs_flow.specs.Flow.{Connection, is_assigned}
+use Rattle.vs_flow.specs.{Flow.is_assigned, Connection.Connection}
 use Rattle.vs_header.specs.declared.Kind.{Kind}
 use Rattle.vs_header.specs.declared.Kind.TheVariants.{Seqpacket, Stream}
 use Rattle.vs_history.specs.Packets.{bytes}

@@ -1,7 +1,7 @@
 -- The messages of seqpacket sockets, by the packets of one connection in one direction, which run newest first.
 use Rattle.std.specs.Prelude.{◌≡◌, ℕ, ◌+◌, ◌/◌, ◌%◌, ◌^◌, ◌==◌, Bool, true, false, ◌&&◌, not, if◌then◌else◌, List, [], ◌∷◌, ◌++◌, length}
 use Rattle.byteorder.specs.Endian.{little_bytes}
-use Rattle.vs_flow.specs.Flow.{Connection}
+use Rattle.vs_flow.specs.Connection.{Connection}
 use Rattle.vs_header.specs.Kind.{kind_number}
 use Rattle.vs_header.specs.declared.Kind.{Kind}
 use Rattle.vs_header.specs.declared.Kind.TheVariants.{Seqpacket, Stream}
