@@ -15,4 +15,3 @@ mod turns;
 pub use device::Device;
 pub use turns::Entries;
 pub use vs_device_parts::answers::{Counters, Filled, Taken};
-pub use vs_device_parts::limits;

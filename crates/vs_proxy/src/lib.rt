@@ -10,4 +10,3 @@ mod turns;
 
 pub use proxy::Proxy;
 pub use vs_proxy_parts::answers::{Turn, Turned};
-pub use vs_proxy_parts::limits;
