@@ -8,8 +8,7 @@ ghost use Rattle.vs_proxy_parts.specs.Handshakes.{accept_one, dropping, handshak
 ghost use Rattle.vs_proxy_parts.specs.Turning.{CountsFew, turning_of};
 
 use crate::proxy::Proxy;
-use vs_device::TIMEOUT;
-use vs_limits::HANDSHAKES;
+use vs_limits::{HANDSHAKES, TIMEOUT};
 use vs_outside::{Accepted, HostNet};
 use vs_proxy_parts::host_calls::{accept, close};
 use vs_proxy_parts::tally::Tally;
