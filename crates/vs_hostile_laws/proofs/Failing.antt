@@ -8,11 +8,11 @@ use Rattle.vs_device_parts.specs.Calls.{DeviceTree}
 use Rattle.vs_hostile.specs.Run.{GuestState, HasRings, HasTurned, HostileState, Said, WasReset, hostile_does, line_in, over}
 use Rattle.vs_proxy_parts.specs.{State.ProxyState, Turns.proxy_reset_of, Turns.turn_of, declared.answers.Turn.Turn}
 use Rattle.vs_script.specs.Outside.{Reset}
-use Rattle.vs_ring_plain.specs.Device.DeviceState as RingState
-use Rattle.vs_hostile.specs.Run.Done as IsDone
+use Rattle.vs_ring_plain.specs.Device.{DeviceState as RingState}
+use Rattle.vs_hostile.specs.Run.{Done as IsDone}
 use Rattle.vs_proxy_parts.specs.declared.answers.Turn.TheVariants as turn
-use Rattle.vs_script.specs.Hostile.Around as OfOutside
-use Rattle.vs_script.specs.Outside.Turn as TakeTurn
+use Rattle.vs_script.specs.Hostile.{Around as OfOutside}
+use Rattle.vs_script.specs.Outside.{Turn as TakeTurn}
 
 abbrev failing : Option Failure → ProxyState → ProxyState
 failing o s = record s { device = record s.device { failed = o } }

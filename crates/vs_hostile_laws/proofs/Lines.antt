@@ -32,10 +32,10 @@ use Rattle.vs_script.specs.Outside.{Client, Host, HostAllow, HostClosed, HostEnd
 use Rattle.vs_script.specs.Outside.{Outside, Reset, Tick}
 use Rattle.vs_script.specs.Data.{bytes_of}
 use Rattle.vs_outside.specs.declared.mem_stream.HostWritten.TheVariants as written
-use Rattle.vs_script.specs.Hostile.Memory as SetMemory
-use Rattle.vs_script.specs.Hostile.Rings as SetRings
-use Rattle.vs_script.specs.Hostile.Around as OfOutside
-use Rattle.vs_script.specs.Outside.Turn as TakeTurn
+use Rattle.vs_script.specs.Hostile.{Memory as SetMemory}
+use Rattle.vs_script.specs.Hostile.{Rings as SetRings}
+use Rattle.vs_script.specs.Hostile.{Around as OfOutside}
+use Rattle.vs_script.specs.Outside.{Turn as TakeTurn}
 
 -- The calls made so far account for what the proxy holds, and show what the host holds.
 pub record Holds (s : HostileState) (calls : List Made) : Type 0 where

@@ -15,10 +15,10 @@ use Rattle.vs_script.specs.Hostile.{Hostile, Write, WriteDesc, Give, Index, Pack
 use Rattle.vs_script.specs.Outside.{Client, OfHost, Outside, Reset, Tick}
 use Rattle.vs_hostile_laws.specs.Recorded.{calls_of, made_in, made_over, outside_made, recorded}
 use Rattle.vs_hostile_laws.proofs.{Lines.Holds, Lines.line_holds, Steps.played_makes, Steps.played_same}
-use Rattle.vs_script.specs.Hostile.Memory as SetMemory
-use Rattle.vs_script.specs.Hostile.Rings as SetRings
-use Rattle.vs_script.specs.Hostile.Around as OfOutside
-use Rattle.vs_script.specs.Outside.Turn as TakeTurn
+use Rattle.vs_script.specs.Hostile.{Memory as SetMemory}
+use Rattle.vs_script.specs.Hostile.{Rings as SetRings}
+use Rattle.vs_script.specs.Hostile.{Around as OfOutside}
+use Rattle.vs_script.specs.Outside.{Turn as TakeTurn}
 
 over_judged : {A : Type 0} (tree : DeviceTree (ProxyState × A)) (said : A → Said) (ring : DeviceState) (s : HostileState) (calls : List Made)
     → Keeps (λ x later. AccountsFor x.0 later) tree calls → Shows (account_of calls) s.host

@@ -9,8 +9,8 @@ use Rattle.vs_hostile.specs.{Answers.Around, Answers.answer_around, Run.GuestSta
 use Rattle.vs_proxy_parts.specs.Turns.{proxy_reset_of, turn_of}
 use Rattle.vs_proxy_bytes.specs.Made.{Made}
 use Rattle.vs_script.specs.{Hostile.Hostile, Outside.Outside, Outside.Reset}
-use Rattle.vs_script.specs.Hostile.Around as OfOutside
-use Rattle.vs_script.specs.Outside.Turn as TakeTurn
+use Rattle.vs_script.specs.Hostile.{Around as OfOutside}
+use Rattle.vs_script.specs.Outside.{Turn as TakeTurn}
 
 -- What surrounds the device, and the calls that it made so far. A call is answered as before, and recorded.
 pub record Recorded : Type 0 where

@@ -18,7 +18,7 @@ use Rattle.vs_world.specs.World.{first_cid}
 use Rattle.vs_play.specs.{Answer.base_path, Ready.IsDriven, Ready.IsServed, Told.Serves}
 use Rattle.vs_report.specs.DeviceLines.{reset_text, turn_text}
 use Rattle.vs_world.proofs.{Flown.LeavesDriver, OverBoth.IsPlayed, OverBoth.over}
-use Rattle.vs_device_laws.proofs.Keeping.keeps_end as streams_end
+use Rattle.vs_device_laws.proofs.Keeping.{keeps_end as streams_end}
 
 -- The rings stay the driver's.
 pub driven_still : (v w : Ends) → LeavesDriver v w → (s : DriverState) → IsDriven s v → IsDriven s w

@@ -25,7 +25,7 @@ use Rattle.vs_world.proofs.DeviceSide.{DeviceHolds, FreshEntry, IsFresh, Kept, a
 use Rattle.vs_world.proofs.DeviceSide.{left_part, not_fresh, part_of, seated}
 use Rattle.vs_device_log.specs.Honest.{HoldsBytes}
 use Rattle.vs_device_log.proofs.Hearing.{still_new}
-use Rattle.vs_flow.proofs.Tables.accepted as free_flow
+use Rattle.vs_flow.proofs.Tables.{accepted as free_flow}
 
 -- What a packet leaves of a connection whose REQUEST isn't put.
 pub heard_fresh : (old c : DeviceConnection) (h : Header) → c.end ≡ end_after old.end h → c.ok_line ≡ old.ok_line → c.asked_at ≡ old.asked_at

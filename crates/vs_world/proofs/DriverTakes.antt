@@ -38,9 +38,9 @@ use Rattle.vs_device_log.specs.Honest.{HoldsBytes}
 use Rattle.vs_device_log.proofs.Fits.{delivered, fits_after}
 use Rattle.vs_conn.specs.declared.end.Owed.TheVariants as owed
 use Rattle.vs_conn.specs.declared.end.Verdict.TheVariants as verdict
-use Rattle.vs_driver_parts.specs.Receiving.is_request as asks
+use Rattle.vs_driver_parts.specs.Receiving.{is_request as asks}
 use Rattle.vs_header.specs.declared.Op.TheVariants as op
-use Rattle.vs_driver_parts.specs.Receiving.after_packet as as_heard
+use Rattle.vs_driver_parts.specs.Receiving.{after_packet as as_heard}
 use Rattle.vs_pipes.proofs.Steps as steps
 
 module _ (device : Seat) where
