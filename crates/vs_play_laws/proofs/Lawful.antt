@@ -65,7 +65,7 @@ module _ (w v : World) (f : Flow) (well : IsWell Fresh w) (goes : Goes Fresh w v
   decided_put : (role : Role) → IsShut role first_cid f (at role (both_of w)).part (at role (both_of w)).log
       → put_on role f (at role (both_of v)).log ≡ put_on role f (at role (both_of w)).log
   decided_put role x = subst (λ (b : Both). put_on role f (at role b).log ≡ put_on role f (at role (both_of w)).log) goes.runs.ends
-      (run_shut role first_cid f goes.runs.steps (both_of w) well.sound goes.runs.may x)
+      (run_shut role first_cid f goes.runs.steps (both_of w) well.sound well.once goes.runs.may goes.runs.anew x)
 
   guest_decided : (e : DriverEntry) → Contains w.driver.table.entries e → e.flow ≡ f → e.value.end.own.send ≡ true
       → sent_on f v.journal ≡ sent_on f w.journal

@@ -7,7 +7,8 @@ use Rattle.std.proofs.lemmas.List.{Elements.All-map, Elements.Contains-get_or, K
 use Rattle.vs_flow.specs.declared.flow.Flow.{Flow}
 use Rattle.vs_history.specs.History.{History, IsFair, MayPut, Put, Side, gots, puts}
 use Rattle.vs_history.specs.declared.packet.Packet.{Packet}
-use Rattle.vs_matching.specs.{Ends.FlowEnd, Ends.begun_flows, Ends.flows_of, Ends.is_among, Matches.Matches, Matches.MatchesFlows}
+use Rattle.vs_matching.specs.{Ends.FlowEnd, Ends.begun_flows, Ends.flows_of, Ends.is_among, Ends.replied, Matches.Matches, Matches.MatchesFlows}
+use Rattle.vs_matching.proofs.Fair.{fair_now}
 use Rattle.vs_matching.proofs.Tables.{all_open, driver_open, table_distinct, table_open}
 use Rattle.vs_page.specs.Fair.{IsFairLog, IsPrefixOf, payload_got, payload_put}
 use Rattle.vs_page.specs.Log.{Device, Driver, HasGotAll, Log, Role, side_of}
@@ -42,7 +43,7 @@ allowed_at side (x ∷ newer) older p fair = allowed_at side newer older p fair.
 
 within : (role : Role) (log : Log) → IsFairLog role log → PutsWithinCredit role log
 within role log fair f newer older p is other =
-    ((allowed_at (side_of role f) newer older p (subst (IsFair (side_of role f)) is (fair f))).honest other).fits
+    ((allowed_at (side_of role f) newer older p (subst (IsFair (side_of role f)) is (fair_now role f log (fair f)))).honest other).fits
 
 -- The flows of entries are distinct where the entries' are.
 flows_apart : (xs : List FlowEnd) → AllPairs (λ d e. d.flow ≢ e.flow) xs → AllPairs (λ f g. f ≢ g) (flows_of xs)
@@ -112,11 +113,11 @@ module _ {fresh : Type 0} (w : World) (well : IsWell fresh w) (yes : fresh) (res
 
   -- The tables.
   open_at_guest : (f : Flow) → is_among f (guest_flows w) ≡ is_open Driver first_cid f (driver_log w) (is_among f
-      (driver_ends w.driver).replies)
+      (replied (driver_ends w.driver).replies))
   open_at_guest f = driver_open first_cid (driver_ends w.driver) (driver_log w) f driver_matches
 
   begun_at_device : (f : Flow) → is_among f (begun_flows (device_ends w.proxy).entries)
-      ≡ is_open Device first_cid f (device_log w) (is_among f (device_ends w.proxy).replies)
+      ≡ is_open Device first_cid f (device_log w) (is_among f (replied (device_ends w.proxy).replies))
   begun_at_device f = table_open Device first_cid (device_ends w.proxy) (device_log w) f device_matches
 
   pub holds_open : HoldsOpen w
