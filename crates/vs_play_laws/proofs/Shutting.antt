@@ -1,43 +1,37 @@
 -- An end that decided to send no more on a connection puts no payload there.
-use Rattle.std.proofs.Common.{◌≡◌, ℕ, ◌≤◌, ◌&&◌, ◌||◌, not, Bool, true, false, cond, List, [], ◌∷◌, ◌++◌, length, Option, Some, None}
-use Rattle.std.proofs.Common.{IsOkAnd, Ok, Err, refl, sym, ap, subst, ◌∙◌}
+use Rattle.std.proofs.Common.{◌≡◌, ℕ, ◌≤◌, ◌&&◌, ◌||◌, Bool, true, false, cond, List, [], ◌∷◌, ◌++◌, length, Option, Some, None, IsOkAnd}
+use Rattle.std.proofs.Common.{Ok, Err, refl, sym, ap, subst, ◌∙◌}
 use Rattle.std.proofs.lemmas.List.{append-nil}
+use Rattle.vs_conn.specs.{declared.end.Owed.Owed, declared.end.State.State, declared.end.Verdict.Verdict}
 use Rattle.vs_conn.specs.End.{ConnectionEnd, answering, after_message, after_op, asked, end_after, is_of, paid_of, state_may_send}
 use Rattle.vs_conn.specs.End.{verdict_of, with_payload_sent}
-use Rattle.vs_conn.specs.declared.end.Owed.{Owed}
-use Rattle.vs_conn.specs.declared.end.Owed.TheVariants as owed
-use Rattle.vs_conn.specs.declared.end.State.{State}
-use Rattle.vs_conn.specs.declared.end.State.TheVariants as state
-use Rattle.vs_conn.specs.declared.end.Stop.TheVariants as stop
-use Rattle.vs_conn.specs.declared.end.Verdict.{Verdict}
-use Rattle.vs_conn.specs.declared.end.Verdict.TheVariants as verdict
-use Rattle.vs_flow.specs.Flow.{same_flow}
-use Rattle.vs_flow.specs.declared.flow.Flow.{Flow}
+use Rattle.vs_flow.specs.{Flow.same_flow, declared.flow.Flow.Flow}
 use Rattle.vs_flow.proofs.Entries.{same_flow_true}
-use Rattle.vs_header.specs.Op.{op_named}
-use Rattle.vs_header.specs.declared.{Header.Header, Op.Op}
-use Rattle.vs_header.specs.declared.Op.TheVariants as op
-use Rattle.vs_history.specs.{History.Got, History.History, History.Put, History.Side, History.Asker, History.Answerer, History.gots, History.is_begun, History.puts, Again.present, Packets.is_request, Packets.is_rst}
-use Rattle.vs_history.specs.declared.packet.Packet.{Packet}
+use Rattle.vs_header.specs.{Op.op_named, declared.Header.Header, declared.Op.Op}
+use Rattle.vs_history.specs.{Again.present, Packets.is_request, Packets.is_rst, declared.packet.Packet.Packet}
+use Rattle.vs_history.specs.History.{Got, History, Put, Side, Asker, Answerer, gots, is_begun, puts}
 use Rattle.vs_history.specs.declared.TheConstants.{BUF_ALLOC}
-use Rattle.vs_matching.specs.Both.{Both, Decides, Decision, Forwards, Shuts, Aborts, WantsCredit, Grows, Happening, IsSound, MayHappen}
-use Rattle.vs_matching.specs.Both.{MayRun, Step, Opens, Asks, Forgets, Sends, Pays, Replies, Takes, PutsEvent, TakesEvent, MakesReset, TakesReset}
-use Rattle.vs_matching.specs.Both.{after, after_packet, answered, at, decided, happens, run}
 use Rattle.vs_matching.specs.{Ends.Ends, Ends.answer_kind, Ends.ends_of, Ends.is_new, Ends.replaced, Ends.without_flow, Heard.is_empty}
+use Rattle.vs_matching.specs.Both.{Both, Decides, Decision, Forwards, Shuts, Aborts, WantsCredit, Grows, Happening, IsSound, MayHappen}
+use Rattle.vs_matching.specs.Both.{MayRun, Step, Opens, Asks, Forgets, Sends, Pays, Replies, Takes, PutsEvent, TakesEvent, MakesReset}
+use Rattle.vs_matching.specs.Both.{TakesReset, after, after_packet, answered, at, decided, happens, run}
+use Rattle.vs_matching.specs.Steps.{HasEnd, accepted, asking, is_kept, left, opened, with_clean, with_end, owed_on, paid, payload_on}
+use Rattle.vs_matching.specs.Steps.{reply_on, request_on}
 use Rattle.vs_matching.specs.Matches.{MatchesFlows}
-use Rattle.vs_matching.specs.Steps.{HasEnd, accepted, asking, is_kept, left, opened, with_clean, with_end, owed_on, paid, payload_on, reply_on, request_on}
-use Rattle.vs_matching.proofs.Both.{step_keeps}
+use Rattle.vs_matching.proofs.{Both.step_keeps, Fair.heard_none, Tables.end_begun, Tables.end_new, Tables.only_end}
 use Rattle.vs_matching.proofs.Entries.{added_other, replaced_other, replaced_same, without_other, without_same}
-use Rattle.vs_matching.proofs.{Fair.heard_none, Tables.end_begun, Tables.end_new, Tables.only_end}
 use Rattle.vs_page.proofs.Entries.{present_is}
 use Rattle.vs_world.specs.Sides.{AsksAnew, RunsAnew}
 use Rattle.vs_world.proofs.{Firsts.silent_whole, Once.AreOnce, Once.asked_once, Once.keeps_once, Runs.one_step}
-use Rattle.vs_page.specs.Fair.{payload_of}
-use Rattle.vs_page.specs.Log.{Device, Driver, Log, Role, flow_got, flow_put, side_of, whole_of}
-use Rattle.vs_page.specs.Open.{is_dropped}
-use Rattle.vs_page.specs.declared.log.LogEntry.{LogEntry}
+use Rattle.vs_page.specs.{Fair.payload_of, Log.Device, Log.Driver, Log.Log, Log.Role, Log.flow_got, Log.flow_put, Log.side_of, Log.whole_of}
+use Rattle.vs_page.specs.{Open.is_dropped, declared.log.LogEntry.LogEntry}
 use Rattle.vs_page.specs.declared.log.LogEntry.TheVariants.{GotEvent, GotPacket, Mark, PutEvent, PutPacket}
 use Rattle.vs_pipes.specs.Drains.{put_on}
+use Rattle.vs_conn.specs.declared.end.Owed.TheVariants as owed
+use Rattle.vs_conn.specs.declared.end.State.TheVariants as state
+use Rattle.vs_conn.specs.declared.end.Stop.TheVariants as stop
+use Rattle.vs_conn.specs.declared.end.Verdict.TheVariants as verdict
+use Rattle.vs_header.specs.declared.Op.TheVariants as op
 
 -- Something passed on a flow, and its end, where it has one, decided to send no more.
 pub record IsShut (role : Role) (first : ℕ) (f : Flow) (part : Ends) (log : Log) : Type 0 where

@@ -1,17 +1,15 @@
 -- Worked examples: what the laws say of two scripts, computed.
 use Rattle.std.specs.Prelude.{ℕ, Bool, true, false, List, [], map, codes, Result, Ok}
-use Rattle.vs_flow.specs.Flow.{host_flow}
-use Rattle.vs_flow.specs.declared.flow.Flow.{Flow}
+use Rattle.vs_flow.specs.{Flow.host_flow, declared.flow.Flow.Flow}
 use Rattle.vs_outside.specs.HostBytes.{host_read, host_wrote}
 use Rattle.vs_page.specs.{Fair.payload_got, Fair.payload_put, Log.Device, Log.Driver, Open.is_open}
 use Rattle.vs_matching.specs.Ends.{is_among}
-use Rattle.vs_script.specs.{Play.Event, Script.Saying, Script.Plays, Script.parse_of}
-use Rattle.vs_script.specs.declared.fault.Refused.{Refused}
-use Rattle.vs_script.specs.declared.script.Command.TheVariants as command
+use Rattle.vs_script.specs.{Play.Event, Script.Saying, Script.Plays, Script.parse_of, declared.fault.Refused.Refused}
 use Rattle.vs_world.specs.World.{World, first_cid}
 use Rattle.vs_play.specs.Answer.{opened_play}
 use Rattle.vs_play_laws.specs.Headline.{device_flows, device_log, driver_log, guest_flows, guest_replies, world_of}
 use Rattle.vs_play_laws.specs.Said.{received_in, sent_in}
+use Rattle.vs_script.specs.declared.script.Command.TheVariants as command
 
 -- The lines that a text spells, where it is a script of a play.
 abbrev pub lines_said : Result Saying Refused → List Event

@@ -1,9 +1,7 @@
 use Rattle.std.specs.Prelude.{Result}
 use Rattle.std.proofs.Common.{◌≡◌, ℕ, ◌+◌, false, true, sym, ap, subst, ◌∙◌}
 use Rattle.vs_contents.proofs.Leads.{end_of}
-use Rattle.vs_flow.specs.Flow.{host_flow}
-use Rattle.vs_flow.specs.declared.flow.Flow.{Flow}
-use Rattle.vs_flow.specs.declared.table.TableFault.{TableFault}
+use Rattle.vs_flow.specs.{Flow.host_flow, declared.flow.Flow.Flow, declared.table.TableFault.TableFault}
 use Rattle.vs_device_parts.specs.{Calls.Allows, Playing.Runs, Playing.situation, State.DeviceState, Turns.open_of}
 use Rattle.vs_proxy_parts.specs.{Handshakes.may_open, State.ProxyState, State.Turning, State.with_device}
 use Rattle.vs_proxy_parts.specs.Turning.{CountsFew, turning_of}
