@@ -22,7 +22,7 @@ use Rattle.vs_world.proofs.Carried.{given_is, gone_of, one_stream, pending_of, r
 use Rattle.vs_world.proofs.Carried.{to_host, unread_of, wrote_is}
 use Rattle.vs_play_laws.specs.Headline.{Carries, HasOwnStreams, HoldsOpen, HoldsTheRest, IsQueued, KeepsCredit, PutsWithinCredit}
 use Rattle.vs_play_laws.specs.Headline.{device_flows, device_log, driver_log, guest_flows}
-use Rattle.vs_ring_port.specs.EndLog.all_put as with_pages
+use Rattle.vs_ring_port.specs.EndLog.{all_put as with_pages}
 
 -- No transmit page is staged.
 empty_by : (a : Bool) (pages : List (List ℕ)) (b : Bool) → (a && none_staged pages && b) ≡ true → pages ≡ []
