@@ -1,16 +1,15 @@
 -- Worked examples: what the laws say of two scripts, computed.
 use Rattle.std.specs.Prelude.{ℕ, Bool, true, false, List, [], map, codes, Result, Ok}
-use Rattle.vs_flow.specs.declared.flow.Flow.{Flow}
+use Rattle.vs_flow.specs.{Flow.host_flow, declared.flow.Flow.Flow}
 use Rattle.vs_outside.specs.HostBytes.{host_read, host_wrote}
 use Rattle.vs_page.specs.{Fair.payload_got, Fair.payload_put, Log.Device, Log.Driver, Open.is_open}
 use Rattle.vs_matching.specs.Ends.{is_among}
-use Rattle.vs_script.specs.{Play.Event, Script.Saying, Script.Plays, Script.parse_of}
-use Rattle.vs_script.specs.declared.fault.Refused.{Refused}
-use Rattle.vs_script.specs.declared.script.Command.TheVariants as command
+use Rattle.vs_script.specs.{Play.Event, Script.Saying, Script.Plays, Script.parse_of, declared.fault.Refused.Refused}
 use Rattle.vs_world.specs.World.{World, first_cid}
 use Rattle.vs_play.specs.Answer.{opened_play}
 use Rattle.vs_play_laws.specs.Headline.{device_flows, device_log, driver_log, guest_flows, guest_replies, world_of}
 use Rattle.vs_play_laws.specs.Said.{received_in, sent_in}
+use Rattle.vs_script.specs.declared.script.Command.TheVariants as command
 
 -- The lines that a text spells, where it is a script of a play.
 abbrev pub lines_said : Result Saying Refused → List Event
@@ -50,7 +49,7 @@ told_on text f = told_of (lines_in text) f (world_of 64 (lines_in text))
 
 -- A client of the host writes `abc`, and the guest answers `x`.
 abbrev pub client_flow : Flow
-client_flow = record { guest = 1234; host = 1073741824 }
+client_flow = host_flow 1234 1073741824
 
 abbrev pub client_told : Told
 client_told = record {
@@ -68,10 +67,10 @@ client_told = record {
 -- The host writes `x` on the first of two connections. The device reads it and puts it, and then a transport reset ends both: the guest
 -- received nothing, and of three connections the one that was opened after the reset is open.
 abbrev pub first_flow : Flow
-first_flow = record { guest = 1024; host = 52 }
+first_flow = host_flow 1024 52
 
 abbrev pub last_flow : Flow
-last_flow = record { guest = 1026; host = 52 }
+last_flow = host_flow 1026 52
 
 abbrev pub first_told : Told
 first_told = record {

@@ -1,33 +1,28 @@
 -- Handshakes make no call on the ring. A whole line opens a connection under the next host port.
-use Rattle.std.proofs.Common.{inl, ◌≡◌, ℕ, ◌+◌, ◌<◌, ◌≤◌, ◌^◌, ◌&&◌, nat_le, nat_lt, Bool, true, false, cond, if◌then◌else◌, List, ◌++◌, length}
-use Rattle.std.proofs.Common.{Option, Some, None, Result, Ok, Err, refl, sym, ap, subst, arith}
+use Rattle.std.proofs.Common.{inl, ◌≡◌, ℕ, ◌+◌, ◌<◌, ◌≤◌, ◌^◌, ◌&&◌, nat_le, nat_lt, Bool, true, false, cond, if◌then◌else◌, List, ◌++◌}
+use Rattle.std.proofs.Common.{length, Option, Some, None, Result, Ok, Err, refl, sym, ap, subst, arith}
 use Rattle.std.proofs.lemmas.Bool.Decides.{nat_tests}
 use Rattle.vs_contents.specs.CallTree.{Done, Ask, bind, for_each}
-use Rattle.vs_flow.specs.{Flow.host_flow, Flow.is_assigned, Table.has_place}
-use Rattle.vs_flow.specs.declared.flow.{Flow.Flow, TheConstants.ASSIGNED_LAST}
-use Rattle.vs_flow.specs.declared.table.TableFault.{TableFault}
-use Rattle.vs_outside.specs.declared.host_net.Accepted.{Accepted}
-use Rattle.vs_outside.specs.declared.host_net.Accepted.TheVariants as accepted
-use Rattle.vs_outside.specs.declared.host_net.StreamRead.{StreamRead}
-use Rattle.vs_outside.specs.declared.host_net.StreamRead.TheVariants as read
+use Rattle.vs_flow.specs.{Flow.host_flow, Flow.is_assigned, Table.has_place, declared.flow.Flow.Flow}
+use Rattle.vs_flow.specs.{declared.flow.TheConstants.ASSIGNED_LAST, declared.table.TableFault.TableFault}
+use Rattle.vs_outside.specs.{declared.host_net.Accepted.Accepted, declared.host_net.StreamRead.StreamRead}
 use Rattle.vs_page.specs.Log.{Device, side_by}
 use Rattle.vs_ring_port.specs.Contents.{RingContents}
-use Rattle.vs_uds.specs.ConnectLine.{connect_step}
-use Rattle.vs_uds.specs.declared.connect.TheConstants.{CONNECT_MAX}
-use Rattle.vs_uds.specs.declared.scan.Step.{Step}
-use Rattle.vs_uds.specs.declared.scan.Step.TheVariants as step
+use Rattle.vs_uds.specs.{ConnectLine.connect_step, declared.connect.TheConstants.CONNECT_MAX, declared.scan.Step.Step}
 use Rattle.vs_device_parts.specs.{Calls.Accept, Calls.DeviceTree, Calls.ReadStream, Connections.is_late, State.DeviceState, Turns.open_of}
 use Rattle.vs_device_log.specs.Honest.{IsWith, port_after}
 use Rattle.vs_device_log.proofs.Keeping.{Goes, Keeps, keeps_each, keeps_then, keeps_while}
 use Rattle.vs_device_log.proofs.Turning.{open_keeps}
+use Rattle.vs_proxy_parts.specs.{State.Handshake, State.Turning, State.with_device, declared.limits.TheConstants.HANDSHAKES}
 use Rattle.vs_proxy_parts.specs.Handshakes.{accept_answered, accept_one, byte_read, dropping, handshake_on, host_fault, line_decided}
 use Rattle.vs_proxy_parts.specs.Handshakes.{may_open, opening, read_byte, read_line, shake_hands, streams_of, tick_handshake}
 use Rattle.vs_proxy_parts.specs.Handshakes.{tick_handshakes, with_line, without_handshake}
-use Rattle.vs_proxy_parts.specs.State.{Handshake, Turning, with_device}
-use Rattle.vs_proxy_parts.specs.declared.limits.TheConstants.{HANDSHAKES}
 use Rattle.vs_proxy_log.specs.Honest.{IsProxyWith}
 use Rattle.vs_uds.proofs.Decided.{port_fits}
 use Rattle.vs_proxy_log.proofs.Ports.{later}
+use Rattle.vs_outside.specs.declared.host_net.Accepted.TheVariants as accepted
+use Rattle.vs_outside.specs.declared.host_net.StreamRead.TheVariants as read
+use Rattle.vs_uds.specs.declared.scan.Step.TheVariants as step
 
 module _ (first : ℕ) where
   abbrev pub Turns : Turning → RingContents → Type 0
