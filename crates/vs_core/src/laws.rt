@@ -5,7 +5,7 @@ ghost use Rattle.vs_limits.specs.declared.TheConstants.{BUF_ALLOC, FIRST_PORT, A
 ghost use Rattle.vs_conn.specs.End.{ConnectionEnd, is_refused, verdict_of};
 ghost use Rattle.vs_flow.specs.declared.flow.Flow.{Flow};
 ghost use Rattle.vs_history.specs.declared.packet.Packet.{Packet};
-ghost use Rattle.vs_matching.specs.{Both.start, Ends.begun_flows, Ends.flows_of, Ends.is_among, Ends.new_flows, Matches.Matches};
+ghost use Rattle.vs_matching.specs.{Both.start, Ends.begun_flows, Ends.flows_of, Ends.is_among, Ends.new_flows, Ends.replied, Matches.Matches};
 ghost use Rattle.vs_matching.specs.Steps.{HasEnd, is_overrun};
 ghost use Rattle.vs_outside.specs.Host.{HostContents};
 ghost use Rattle.vs_page.specs.Fair.{IsFairLog, IsPrefixOf, payload_got, payload_put};
@@ -58,10 +58,10 @@ pub fn law_of_logs()
 /// log is one, none has begun (Virtio 1.2, section 5.10.6.7).
 pub fn law_of_tables()
     ensures driver { (n : ℕ) (host : HostContents) (es : List Event) (f : Flow) → let b = both_of (run es (opening n host)) in
-        is_among f (flows_of b.driver.part.entries) ≡ is_open Driver first_cid f b.driver.log (is_among f b.driver.part.replies) }
+        is_among f (flows_of b.driver.part.entries) ≡ is_open Driver first_cid f b.driver.log (is_among f (replied b.driver.part.replies)) }
     ensures device { (n : ℕ) (host : HostContents) (es : List Event) (f : Flow) → let b = both_of (run es (opening n host)) in
         is_among f (flows_of b.device.part.entries)
-        ≡ (is_open Device first_cid f b.device.log (is_among f b.device.part.replies) || is_among f (new_flows b.device.part.entries)) }
+        ≡ (is_open Device first_cid f b.device.log (is_among f (replied b.device.part.replies)) || is_among f (new_flows b.device.part.entries)) }
     ensures driver_reset { (n : ℕ) (host : HostContents) (es : List Event) (cid : ℕ) (older : Log) → let b = both_of (run es (opening n host)) in
         b.driver.log ≡ Mark cid ∷ older → begun_flows b.driver.part.entries ≡ [] }
     ensures device_reset { (n : ℕ) (host : HostContents) (es : List Event) (cid : ℕ) (older : Log) → let b = both_of (run es (opening n host)) in

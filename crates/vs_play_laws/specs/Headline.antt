@@ -4,14 +4,14 @@ use Rattle.std.specs.Prelude.{◌≡◌, ◌≢◌, ℕ, ◌+◌, ◌≤◌, ◌
 use Rattle.std.specs.Prelude.{Contains}
 use Rattle.vs_flow.specs.{declared.flow.Flow.Flow, Connection.first_of}
 use Rattle.vs_limits.specs.declared.TheConstants.{BUF_ALLOC}
-use Rattle.vs_history.specs.History.{History, Put, gots, puts}
+use Rattle.vs_history.specs.{History.History, History.Put, History.gots, History.puts, declared.TheConstants.BUF_ALLOC}
 use Rattle.vs_history.specs.Packets.{allowance, bytes, has, is_rst, shuts_send, size}
 use Rattle.vs_history.specs.declared.packet.Packet.{Packet}
 use Rattle.vs_page.specs.{Log.Device, Log.Driver, Log.HasGotAll, Log.Log, Log.Role, Log.history_of, Open.WasOpened, Open.is_open}
 use Rattle.vs_page.specs.Fair.{IsFairLog, IsPrefixOf, payload_got, payload_put}
 use Rattle.vs_driver_parts.specs.State.{DriverEntry}
 use Rattle.vs_device_parts.specs.State.{DeviceEntry}
-use Rattle.vs_matching.specs.Ends.{begun_flows, flows_of, is_among, new_flows}
+use Rattle.vs_matching.specs.Ends.{begun_flows, flows_of, is_among, new_flows, replied}
 use Rattle.vs_outside.specs.HostBytes.{host_read, host_wrote, read_after_ok, wrote_after_connect}
 use Rattle.vs_outside.specs.Host.{Stream, stream_at}
 use Rattle.vs_pipes.specs.{Drains.Drains, Drains.receives, Streamed.gives, Streamed.line_for}
@@ -43,10 +43,10 @@ abbrev pub device_flows : World → List Flow
 device_flows w = flows_of (device_ends w.proxy).entries
 
 abbrev pub guest_replies : World → List Flow
-guest_replies w = (driver_ends w.driver).replies
+guest_replies w = replied (driver_ends w.driver).replies
 
 abbrev pub device_replies : World → List Flow
-device_replies w = (device_ends w.proxy).replies
+device_replies w = replied (device_ends w.proxy).replies
 
 -- Bytes of a connection, in order, both ways. The host's program wrote behind a CONNECT line, and reads behind an OK line.
 pub record Carries (w : World) (f : Flow) : Type 0 where

@@ -1,12 +1,16 @@
 -- Entries of a table whose ends fit, through changes of the table.
 use Rattle.std.proofs.Common.{◌≡◌, ℕ, ◌^◌, ◌<◌, ◌==◌, Bool, true, false, not, cond, List, [], ◌∷◌, map, filter, Contains, refl, ap, subst}
+use Rattle.std.proofs.Common.{suc, ◌∙◌, arith}
+use Rattle.std.specs.List.{All}
 use Rattle.std.proofs.lemmas.List.Elements.{All-filter, All-push, All-map}
 use Rattle.std.specs.List.{All}
 use Rattle.vs_conn.specs.End.{ConnectionEnd}
 use Rattle.vs_flow.specs.{declared.flow.Flow.Flow, declared.table.Entry.Entry}
 use Rattle.vs_flow.specs.Table.{Table, revalued, with_value, without, with_entry, next_entry}
 use Rattle.vs_limits.specs.declared.TheConstants.{HOST_CID}
-use Rattle.vs_flow.proofs.Tables.{revalued-slot}
+use Rattle.vs_flow.proofs.{Tables.revalued-slot, Entries.same_flow_true}
+use Rattle.vs_flow.specs.{declared.flow.Flow.Flow, declared.flow.TheConstants.HOST_CID, declared.table.Entry.Entry, Flow.same_flow}
+use Rattle.vs_matching.specs.Ends.{ends_of, entries_of}
 use Rattle.vs_replies.specs.declared.Reply.{Reply}
 use Rattle.vs_device_log.specs.Honest.{HoldsBytes}
 
@@ -45,6 +49,21 @@ module _ {T : Type 0} (end_of : T → ConnectionEnd) (held_of : T → ℕ) where
 
   pub fits_at : (xs : List (Entry T)) (x : Entry T) → Contains xs x → All EntryFits xs → EntryFits x
   fits_at xs x (i, less, is) all = subst EntryFits is (all i x less)
+
+  -- A flow that has an end is one with the host.
+  host_among : (f : Flow) (e : ConnectionEnd) (xs : List (Entry T)) → All EntryFits xs
+      → ends_of f (map (λ x. record { flow = x.flow; end = end_of x.value }) xs) ≡ e ∷ [] → f.peer ≡ HOST_CID
+  host_among f e [] all has = absurd cc
+  host_among f e (x ∷ xs) all has = by (same_flow f x.flow) refl has (host_among f e xs (λ i d less. all (suc i) d (omega (arith, less))))
+    where
+      by : (b : Bool) → same_flow f x.flow ≡ b
+          → (let rest = ends_of f (map (λ x. record { flow = x.flow; end = end_of x.value }) xs) in cond b (end_of x.value ∷ rest) rest) ≡ e ∷ []
+          → (ends_of f (map (λ x. record { flow = x.flow; end = end_of x.value }) xs) ≡ e ∷ [] → f.peer ≡ HOST_CID) → f.peer ≡ HOST_CID
+      by true same has later = ap (λ (g : Flow). g.peer) (same_flow_true f x.flow same) ∙ (all 0 x (omega arith)).peer
+      by false other has later = later has
+
+  pub host_of : (t : Table T) (f : Flow) (e : ConnectionEnd) → All EntryFits t.entries → ends_of f (entries_of end_of t) ≡ e ∷ [] → f.peer ≡ HOST_CID
+  host_of t f e all has = host_among f e t.entries all has
 
   -- A change of an entry that then leaves.
   same_kept : (slot : ℕ) (v : T) (es : List (Entry T))
