@@ -32,9 +32,9 @@ pub fn law_of_queues()
         IsPrefixOf (payload_got Device f k r.device.entries) (payload_put Driver f k r.driver.entries) }
 {}
 
-/// Each event is some of the small steps of two ends of many connections, each where it may happen: one that puts or takes a packet is
-/// among them just where the event does. So what holds over every order of these steps holds after any list of events. Packets that the
-/// driver staged count as put.
+/// Each event is some of the small steps of two ends of many connections, each where it may happen, and none that asks for a flow whose port
+/// was given: one that puts or takes a packet is among them just where the event does. So what holds over every order of these steps holds
+/// after any list of events. Packets that the driver staged count as put.
 pub fn law_of_events()
     ensures each { (n : ℕ) (host : HostContents) (es : List Event) (e : Event) → let w = run es (opening n host) in
         Runs (both_of w) (both_of (happens e w)) }
