@@ -3,7 +3,7 @@ use Rattle.std.proofs.Common.{ℕ, ◌-◌, ◌==◌, ◌&&◌, not, nat_lt, nat
 use Rattle.std.proofs.Common.{Ok, Err, arith}
 use Rattle.vs_contents.specs.CallTree.{Done, bind, for_each}
 use Rattle.vs_conn.specs.{Headers.owed_header, Headers.payload_header, declared.end.Owed.Owed, declared.end.Verdict.Verdict}
-use Rattle.vs_conn.specs.End.{owes_of, is_reset, is_of, verdict_of, wanting_credit, is_stream}
+use Rattle.vs_conn.specs.End.{owes_of, is_reset, is_of, verdict_of, wanting_credit}
 use Rattle.vs_flow.specs.{Flow.host_flow, Flow.is_assigned, Table.entry_of, Table.entry_under, Table.has_place, Table.refusal, Table.slots}
 use Rattle.vs_header.specs.{Op.op_number, Packet.header_of, declared.Header.Header, declared.TheConstants.HEADER_LEN}
 use Rattle.vs_header.specs.{declared.Op.TheVariants.Request, declared.Kind.TheVariants.Stream}
@@ -15,7 +15,6 @@ use Rattle.vs_ring_port.specs.declared.queue.Queue.{Queue}
 use Rattle.vs_ring_port.specs.declared.queue.Queue.TheVariants.{Rx, Tx, Event}
 use Rattle.vs_uds.specs.{ConnectLine.connect_step, declared.scan.Step.Step}
 use Rattle.vs_device_parts.specs.{Calls.DeviceTree, State.DeviceConnection, State.DeviceEntry, State.DeviceState}
-use Rattle.vs_device_parts.specs.{Turns.close_slot, Turns.open_of, Turns.reset_of, declared.limits.TheConstants.REPLIES}
 use Rattle.vs_device_parts.specs.Connections.{cut_off, is_late, is_timed_out, route_to_guest, stream_closed, with_connection, with_fault}
 use Rattle.vs_device_parts.specs.Receiving.{Filling, after_paying, hold, may_read, put_owed, put_packet, put_reply_of, read_answered}
 use Rattle.vs_device_parts.specs.Receiving.{read_with_chain, written, put_on, reply_header}
@@ -23,12 +22,12 @@ use Rattle.vs_device_parts.specs.Steps.{chain_came, filling, puts_event, puts_ow
 use Rattle.vs_device_parts.specs.Steps.{takes_chain, writes, writes_on, writing}
 use Rattle.vs_device_parts.specs.Streams.{Writing, closing, is_written_out, leaving, shut_write, tick_slot, to_write, write_answered}
 use Rattle.vs_device_parts.specs.Streams.{write_pending}
-use Rattle.vs_device_parts.specs.Transmitting.{heard, on_known, on_packet, on_unknown}
 use Rattle.vs_device_parts.specs.Turns.{close_slot, open_of, reset_of}
+use Rattle.vs_device_parts.specs.Transmitting.{heard, on_known, on_packet, on_unknown}
 use Rattle.vs_limits.specs.declared.TheConstants.{DEVICE_REPLIES, HANDSHAKES}
-use Rattle.vs_proxy_parts.specs.{Turns.close_handshake, Turns.proxy_reset_of, Turns.reset_with, declared.limits.TheConstants.HANDSHAKES}
 use Rattle.vs_proxy_parts.specs.Handshakes.{accept_one, byte_read, handshake_on, line_decided, may_open, opening, read_byte, streams_of}
 use Rattle.vs_proxy_parts.specs.Handshakes.{tick_handshake}
+use Rattle.vs_proxy_parts.specs.Turns.{close_handshake, proxy_reset_of, reset_with}
 use Rattle.vs_proxy_parts.specs.State.{Handshake, ProxyState, Turning}
 use Rattle.vs_world.proofs.Holding.{AllReturnSome, bind_some, cond_some, option_some}
 use Rattle.vs_conn.specs.declared.end.Owed.TheVariants as owed

@@ -1,8 +1,7 @@
 -- Packets of the guest.
 use Rattle.std.proofs.Common.{◌≡◌, ℕ, ◌+◌, ◌-◌, ◌==◌, ◌&&◌, Bool, true, false, cond, List, [], ◌++◌, length, nat_le, nat_lt, if◌then◌else◌}
 use Rattle.std.proofs.Common.{Option, Some, None, IsSomeAnd, refl, sym, ap, ◌∙◌}
-use Rattle.vs_conn.specs.End.{answering, end_after, is_reset, is_of, verdict_of, is_stream}
-use Rattle.vs_conn.specs.declared.end.Verdict.{Verdict}
+use Rattle.vs_conn.specs.{End.answering, End.end_after, End.is_reset, End.is_of, End.verdict_of, declared.end.Verdict.Verdict}
 use Rattle.vs_contents.specs.CallTree.{Done, Ask, bind}
 use Rattle.vs_flow.specs.{Flow.is_assigned, Table.Table, Table.entry_of, Table.has_place, Table.with_entry, declared.flow.Flow.Flow}
 use Rattle.vs_header.specs.{Op.op_number, Packet.header_of, declared.Header.Header, declared.TheConstants.HEADER_LEN}

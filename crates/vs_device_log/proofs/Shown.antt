@@ -11,7 +11,6 @@ use Rattle.vs_history.specs.declared.packet.Packet.{Packet}
 use Rattle.vs_limits.specs.declared.TheConstants.{BUF_ALLOC}
 use Rattle.vs_history.proofs.Present.{fair_once}
 use Rattle.vs_page.specs.Log.{Device, Log, flow_put, history_of, packets_put, side_of, whole_of}
-use Rattle.vs_page.specs.Fair.{IsFairLog}
 use Rattle.vs_page.specs.declared.log.LogEntry.TheVariants.{GotEvent, GotPacket, Mark, PutEvent, PutPacket}
 use Rattle.vs_page.specs.Fair.{IsFairLog}
 use Rattle.vs_page.proofs.Entries.{one_got, one_put, present_is}

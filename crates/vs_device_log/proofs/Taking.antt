@@ -1,9 +1,7 @@
 -- A packet that is got: the device's connections are those that the log with it leaves.
-use Rattle.std.proofs.{lemmas.List.map-append, lemmas.List.Elements.All-push}
 use Rattle.std.proofs.Common.{◌≡◌, ℕ, ◌&&◌, Bool, true, false, cond, List, [], ◌∷◌, Contains, None, refl, sym, ap, subst, ◌∙◌, arith}
 use Rattle.std.proofs.lemmas.List.Elements.{All-push}
-use Rattle.vs_conn.specs.End.{ConnectionEnd, answering, end_after, is_reset, is_of, verdict_of, is_stream}
-use Rattle.vs_conn.specs.Follows.{IsTaken, IsSpace}
+use Rattle.vs_conn.specs.{End.ConnectionEnd, End.answering, End.end_after, End.is_reset, End.is_of, End.verdict_of, Follows.IsTaken}
 use Rattle.vs_history.specs.{Packets.is_request, Packets.is_rst, declared.packet.Packet.Packet}
 use Rattle.vs_limits.specs.declared.TheConstants.{BUF_ALLOC}
 use Rattle.vs_flow.specs.{Table.entry_of, Table.has_place, Table.refusal, Table.with_value, Table.without, declared.flow.Flow.Flow}
@@ -17,7 +15,7 @@ use Rattle.vs_matching.proofs.{Fair.got_in_order, Fair.got_is_taken, Slots.added
 use Rattle.vs_matching.proofs.Keeps.{accepts, drops, forgets, has_room, ignores, refuses, takes}
 use Rattle.vs_device_parts.specs.Connections.{new_connection, with_connection, with_dialed, with_reply}
 use Rattle.vs_device_parts.specs.State.{DeviceConnection, DeviceEntry, DeviceState}
-use Rattle.vs_device_log.specs.Honest.{IsFitFlow, IsFitReply, IsLeft, ends_of_state, end_in, reply_flow}
+use Rattle.vs_device_log.specs.Honest.{IsFitFlow, IsFitReply, IsLeft, ends_of_state, end_in}
 use Rattle.vs_device_log.proofs.Tabling.{IsFitConnection, begun_fits, connection_ends, connection_fits, has_end, left_ends, left_fits}
 use Rattle.vs_device_log.proofs.Tabling.{opening_fits}
 use Rattle.vs_header.specs.declared.Kind.TheVariants.{Stream}

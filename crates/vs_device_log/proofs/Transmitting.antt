@@ -15,7 +15,7 @@ use Rattle.vs_ring_port.specs.{Chains.Held, Contents.RingContents, Contents.Read
 use Rattle.vs_ring_port.specs.{EndLog.EndLog, EndLog.log_returned, EndLog.log_taken, EndLog.with_packet, declared.device_ring.Chain.Chain}
 use Rattle.vs_ring_port.specs.{declared.device_ring.Next.Next, declared.failure.Failure.Failure, declared.queue.Queue.TheVariants.Tx}
 use Rattle.vs_ring_port.specs.DeviceCalls.{DeviceAllows, IsTakenAs}
-use Rattle.vs_matching.proofs.Fair.{got_formed, own_got_fair}
+use Rattle.vs_matching.proofs.Fair.{got_formed}
 use Rattle.vs_device_parts.specs.{declared.answers.Taken.Taken, Calls.IsFitAnswer, Calls.Ring, Playing.IsRxChain, State.DeviceState}
 use Rattle.vs_device_parts.specs.Transmitting.{failing, on_header, on_next, on_packet, take_tx_of}
 use Rattle.vs_limits.specs.declared.TheConstants.{DEVICE_REPLIES}

@@ -5,7 +5,7 @@ use Rattle.std.proofs.Common.{◌⊎◌, inl, inr, length-append, length-take}
 use Rattle.std.proofs.lemmas.Bool.Decides.{nat_tests}
 use Rattle.byteorder.specs.Endian.{little_bytes}
 use Rattle.vs_contents.specs.CallTree.{Done, Ask, bind, for_each}
-use Rattle.vs_conn.specs.{End.asked, Follows.IsSpace}
+use Rattle.vs_conn.specs.End.{asked}
 use Rattle.vs_flow.specs.{Table.IsTable, Table.Table, Table.emptied, Table.entry_under, Table.refusal, Table.slots, declared.flow.Flow.Flow}
 use Rattle.vs_flow.specs.declared.table.TableFault.{TableFault}
 use Rattle.vs_flow.proofs.Tables.{accepted}

@@ -1,7 +1,7 @@
 -- Where a ring tells the device's log: the chains that the device holds, and over an honest ring its connections and the log.
 use Rattle.std.specs.{List.All, Option.ForSome}
 use Rattle.std.specs.Prelude.{◌≡◌, ℕ, ◌+◌, ◌<◌, ◌≤◌, ◌^◌, ◌||◌, Bool, false, true, List, [], ◌∷◌, length, Option, Some, None, Result, Ok}
-use Rattle.std.specs.Prelude.{Err, IfSome, map}
+use Rattle.std.specs.Prelude.{Err, IfSome}
 use Rattle.vs_conn.specs.{End.ConnectionEnd, declared.end.State.State}
 use Rattle.vs_credit.specs.{Credit.unread_of, declared.Credit.Credit}
 use Rattle.vs_flow.specs.{Table.IsTable, Table.Table, declared.flow.Flow.Flow, declared.table.TableFault.TableFault}

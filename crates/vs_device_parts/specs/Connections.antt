@@ -5,7 +5,7 @@ use Rattle.vs_conn.specs.{Shut.is_both, declared.end.State.State, declared.route
 use Rattle.vs_conn.specs.End.{ConnectionEnd, asked, answering, aborted, with_shut, with_payload_forwarded}
 use Rattle.vs_flow.specs.{Table.with_entry, Table.with_value, Table.without, declared.flow.Flow.Flow}
 use Rattle.vs_header.specs.{declared.Header.Header, declared.Kind.TheVariants.Stream}
-use Rattle.vs_limits.specs.declared.TheConstants.{BUF_ALLOC, TIMEOUT, HOST_CID}
+use Rattle.vs_limits.specs.declared.TheConstants.{BUF_ALLOC, TIMEOUT}
 use Rattle.vs_replies.specs.declared.Reply.{Reply}
 use Rattle.vs_wrap.specs.Wrap.{counted}
 use Rattle.vs_device_parts.specs.State.{DeviceConnection, DeviceState}

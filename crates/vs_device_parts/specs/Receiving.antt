@@ -11,7 +11,6 @@ use Rattle.vs_conn.specs.End.{ConnectionEnd, owes_of, paid_of, with_payload_sent
 use Rattle.vs_flow.specs.Table.{entry_under, slots}
 use Rattle.vs_outside.specs.declared.host_net.StreamRead.{StreamRead}
 use Rattle.vs_page.specs.declared.page.TheConstants.{PAYLOAD_MAX}
-use Rattle.vs_limits.specs.declared.TheConstants.{HOST_CID}
 use Rattle.vs_replies.specs.declared.Reply.{Reply}
 use Rattle.vs_ring_port.specs.{declared.device_ring.Chain.Chain, declared.device_ring.Next.Next, declared.failure.Failure.Failure}
 use Rattle.vs_ring_port.specs.declared.queue.Queue.TheVariants.{Rx, Event}

@@ -1,17 +1,13 @@
 -- Parts of what the device does with a packet, as the code has them.
 use Rattle.std.specs.Prelude.{ℕ, ◌==◌, ◌&&◌, Bool}
 use Rattle.vs_contents.specs.CallTree.{Done, bind}
-use Rattle.vs_conn.specs.End.{is_of, verdict_of}
-use Rattle.vs_conn.specs.declared.end.{Verdict.Verdict, Why.Why}
-use Rattle.vs_header.specs.Op.{op_number}
-use Rattle.vs_header.specs.declared.Header.{Header}
-use Rattle.vs_header.specs.declared.Kind.TheVariants.{Stream}
-use Rattle.vs_header.specs.declared.Op.TheVariants.{Request}
+use Rattle.vs_conn.specs.{End.is_of, End.verdict_of, declared.end.Verdict.Verdict, declared.end.Why.Why}
+use Rattle.vs_header.specs.{Op.op_number, declared.Header.Header, declared.Kind.TheVariants.Stream, declared.Op.TheVariants.Request}
 use Rattle.vs_ring_port.specs.declared.device_ring.Chain.{Chain}
-use Rattle.vs_conn.specs.declared.end.Why.TheVariants as why
 use Rattle.vs_page.specs.{Log.Device, Open.is_dropped}
 use Rattle.vs_wrap.specs.Wrap.{counted}
 use Rattle.vs_device_parts.specs.{Calls.DeviceTree, State.DeviceEntry, State.DeviceState, Transmitting.on_known}
+use Rattle.vs_conn.specs.declared.end.Why.TheVariants as why
 
 -- A packet of the connection of an entry, with its verdict.
 abbrev pub known_packet : Chain → Header → DeviceEntry → DeviceState → DeviceTree (DeviceState × Verdict)

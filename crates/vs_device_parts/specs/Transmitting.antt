@@ -3,8 +3,7 @@ use Rattle.std.specs.Prelude.{◌+◌, ◌-◌, ◌==◌, ◌&&◌, ◌||◌, no
 use Rattle.vs_contents.specs.CallTree.{Done, Ask, bind}
 use Rattle.vs_header.specs.{Op.op_number, Packet.header_of, declared.Header.Header, declared.TheConstants.HEADER_LEN}
 use Rattle.vs_header.specs.{declared.Kind.TheVariants.Stream, declared.Op.TheVariants.Request}
-use Rattle.vs_conn.specs.{End.verdict_of, End.end_after, End.is_of, End.is_reset, End.is_stream, declared.end.Verdict.Verdict}
-use Rattle.vs_conn.specs.declared.end.Why.{Why}
+use Rattle.vs_conn.specs.{End.verdict_of, End.end_after, End.is_of, End.is_reset, declared.end.Verdict.Verdict, declared.end.Why.Why}
 use Rattle.vs_flow.specs.{Flow.is_assigned, Table.entry_of, Table.has_place}
 use Rattle.vs_outside.specs.declared.host_net.Dialed.{Dialed}
 use Rattle.vs_page.specs.{Log.flow_to_host, Log.Device, Open.is_dropped}

@@ -1,7 +1,6 @@
 -- The headers of an end's packets fit their fields.
 use Rattle.std.proofs.Common.{ℕ, ◌<◌, ◌^◌, arith}
-use Rattle.vs_header.specs.Kind.{kind_number}
-use Rattle.vs_header.specs.declared.{Kind.Kind, Op.Op}
+use Rattle.vs_header.specs.{Kind.kind_number, declared.Kind.Kind, declared.Op.Op}
 use Rattle.vs_header.specs.declared.Kind.TheVariants.{Seqpacket, Stream}
 use Rattle.vs_flow.specs.declared.flow.Flow.{Flow}
 use Rattle.vs_page.specs.Held.{FitsWire}

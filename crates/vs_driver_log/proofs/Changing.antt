@@ -1,9 +1,7 @@
 -- Calls that make no use of the ring: the driver still matches its log.
 use Rattle.std.proofs.Common.{◌≡◌, ℕ, ◌≤◌, ◌==◌, Bool, true, false, cond, min, List, [], ◌∷◌, length, Option, Some, None, refl, sym, subst}
 use Rattle.std.proofs.Common.{◌∙◌, arith}
-use Rattle.vs_conn.specs.{End.ConnectionEnd, End.wanting_credit, Follows.Follows}
-use Rattle.vs_conn.specs.declared.end.State.{State}
-use Rattle.vs_conn.specs.declared.end.State.TheVariants as state
+use Rattle.vs_conn.specs.{End.ConnectionEnd, End.wanting_credit, Follows.Follows, declared.end.State.State}
 use Rattle.vs_conn.proofs.Steps.{abort_follows, ask_follows, forward_follows, shut_follows}
 use Rattle.vs_credit.specs.Credit.{unread_of}
 use Rattle.vs_history.specs.History.{Side, gots, puts, History}
@@ -16,11 +14,12 @@ use Rattle.vs_driver_parts.specs.Listening.{after_accept, listening, next_accept
 use Rattle.vs_driver_parts.specs.Connections.{after_close, after_closing, after_read, after_recv, after_shut, after_shutdown}
 use Rattle.vs_driver_parts.specs.Connections.{after_unlisten, all_closed, all_gone_after_read, entry_closed, entry_read, gone_closed}
 use Rattle.vs_driver_parts.specs.Connections.{shut_in, waiting_on, with_connection, without_gone}
-use Rattle.vs_driver_parts.specs.Connections as connections
 use Rattle.vs_driver_parts.proofs.Ids.{found_under}
 use Rattle.vs_driver_log.specs.Honest.{IsFitState, ends_of_state}
-use Rattle.vs_driver_log.proofs.Fits.{IsHeldBy, closing_fits, holds_same, read_fits, shut_fits}
 use Rattle.vs_driver_log.proofs.Tabling.{Stands, connection_ends, connection_fits, entry_fits, has_end}
+use Rattle.vs_driver_log.proofs.Fits.{IsHeldBy, closing_fits, holds_same, read_fits, shut_fits}
+use Rattle.vs_conn.specs.declared.end.State.TheVariants as state
+use Rattle.vs_driver_parts.specs.Connections as connections
 
 -- What a step does that puts and gets nothing.
 pub record Changes (s t : DriverState) : Type 0 where

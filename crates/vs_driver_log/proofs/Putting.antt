@@ -5,7 +5,6 @@ use Rattle.std.proofs.Common.{inl, sym, ap, subst, ◌∙◌, arith, ◌||◌}
 use Rattle.std.specs.List.{All}
 use Rattle.vs_conn.specs.{Headers.owed_flags, Headers.owed_header, Headers.owed_op, Headers.payload_header, declared.end.Owed.Owed}
 use Rattle.vs_conn.specs.End.{CanSend, ConnectionEnd, asked, owes_of, paid_of, with_payload_sent}
-use Rattle.vs_conn.specs.Follows.{IsSpace}
 use Rattle.vs_header.specs.{Packet.header_bytes, declared.Header.Header, declared.Kind.TheVariants.Stream}
 use Rattle.vs_limits.specs.declared.TheConstants.{BUF_ALLOC, LAST_ID, LAST_PORT, DRIVER_CONNECTIONS}
 use Rattle.vs_flow.specs.{Flow.is_assigned, Table.entry_of, declared.flow.Flow.Flow}
@@ -22,7 +21,7 @@ use Rattle.vs_driver_parts.specs.Connections.{with_connection}
 use Rattle.vs_driver_parts.specs.Conversations.{after_paying, owed_bytes, payload_bytes, reply_header, request_bytes}
 use Rattle.vs_driver_parts.specs.declared.answers.ConnectError.{ConnectError}
 use Rattle.vs_driver_parts.specs.State.{DriverConnection, DriverEntry, DriverState, slots_held}
-use Rattle.vs_driver_log.specs.Honest.{IsFitFlow, IsFitReply, IsFitState, end_in, ends_of_state, reply_flow, reply_flows}
+use Rattle.vs_driver_log.specs.Honest.{IsFitFlow, IsFitReply, IsFitState, end_in, ends_of_state}
 use Rattle.vs_page.proofs.Packets.{held_alone, held_payload}
 use Rattle.vs_driver_log.proofs.{Bytes.header_fits, Bytes.reset_fits, Fits.IsHeldBy, Fits.paid_fits, Fits.sent_fits, Ringing.Puts}
 use Rattle.vs_driver_log.proofs.Tabling.{Stands, connection_ends, connection_fits, entry_fits, has_end, leaves, opening_fits}

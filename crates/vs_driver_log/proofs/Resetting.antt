@@ -1,10 +1,9 @@
 -- A transport reset: all connections leave, and a reply is owed to each flow.
 use Rattle.std.proofs.Common.{◌≡◌, ℕ, ◌<◌, ◌^◌, ◌==◌, not, List, [], ◌∷◌, ◌++◌, map, Some, refl, sym, ap, subst, ◌∙◌, arith}
-use Rattle.std.specs.{List.filter, List.slice_get, Prelude.Contains}
 use Rattle.std.proofs.lemmas.List.{append-nil, append_assoc}
+use Rattle.std.specs.{List.filter, List.slice_get, Prelude.Contains}
 use Rattle.vs_flow.specs.Table.{IsRising}
-use Rattle.vs_page.specs.Log.{Driver, Log}
-use Rattle.vs_page.specs.declared.log.LogEntry.TheVariants.{Mark}
+use Rattle.vs_page.specs.{Log.Driver, Log.Log, declared.log.LogEntry.TheVariants.Mark}
 use Rattle.vs_replies.specs.declared.Reply.{Reply}
 use Rattle.vs_matching.specs.{Ends.Ends, Ends.FlowEnd, Ends.replies_of, Matches.Matches}
 use Rattle.vs_matching.proofs.Keeps.{takes_reset}

@@ -10,7 +10,6 @@ use Rattle.vs_limits.specs.declared.TheConstants.{HOST_CID, LAST_PORT}
 use Rattle.vs_flow.proofs.Tables.{revalued-flow, with_value_sound, without_sound, with_entry_sound, IsAccepted}
 use Rattle.vs_matching.specs.{Ends.Ends, Ends.FlowEnd, Ends.entries_of, Steps.HasEnd, Steps.with_end, Steps.left}
 use Rattle.vs_matching.proofs.Slots.{changed_slot, one_end, removed_slot}
-use Rattle.vs_limits.specs.declared.TheConstants.{LAST_PORT}
 use Rattle.vs_driver_parts.specs.State.{DriverConnection, DriverEntry, DriverState, GoneConnection}
 use Rattle.vs_driver_parts.specs.Connections.{with_connection, after_leaving, waits_no_more, is_let_go, gone_as}
 use Rattle.vs_driver_parts.proofs.Ids.{entry_has}

@@ -1,9 +1,9 @@
 -- A packet that is got: the driver's connections are those that the log with it leaves, and a fair one is never refused.
 use Rattle.std.proofs.{lemmas.Bool.Decides.nat_tests, lemmas.List.Elements.All-push, lemmas.Bool.and_parts, lemmas.Bool.eqb-true}
 use Rattle.std.proofs.Common.{◌≡◌, ℕ, ◌<◌, ◌≤◌, ◌&&◌, nat_le, Bool, true, false, cond, not, List, [], ◌∷◌, Option, Some, None, refl, sym}
-use Rattle.std.proofs.Common.{ap, subst, ◌∙◌, arith, rules, ◌++◌}
-use Rattle.vs_conn.specs.{declared.end.Verdict.Verdict, Follows.IsSpace}
-use Rattle.vs_conn.specs.End.{ConnectionEnd, answering, end_after, is_of, is_refused, is_reset, verdict_of, is_stream}
+use Rattle.std.proofs.Common.{ap, subst, ◌∙◌, arith, rules}
+use Rattle.vs_conn.specs.End.{ConnectionEnd, answering, end_after, is_of, is_refused, is_reset, verdict_of}
+use Rattle.vs_conn.specs.declared.end.Verdict.{Verdict}
 use Rattle.vs_header.specs.{declared.Header.Header, declared.Kind.TheVariants.Stream}
 use Rattle.vs_history.specs.{Packets.is_rst, declared.packet.Packet.Packet}
 use Rattle.vs_limits.specs.declared.TheConstants.{BUF_ALLOC, HOST_CID, LAST_ID, DRIVER_CONNECTIONS}
@@ -24,12 +24,11 @@ use Rattle.vs_driver_parts.specs.Receiving.{after_packet, after_verdict, is_requ
 use Rattle.vs_driver_parts.specs.Receiving.{with_reply}
 use Rattle.vs_driver_parts.specs.Listening.{has_place}
 use Rattle.vs_driver_parts.proofs.{Ids.found_under, Packets.packet_known, Packets.packet_unknown}
-use Rattle.vs_driver_log.specs.Honest.{IsFitFlow, IsFitReply, IsFitState, end_in, ends_of_state, reply_flow, reply_flows}
+use Rattle.vs_driver_log.specs.Honest.{IsFitFlow, IsFitReply, IsFitState, end_in, ends_of_state}
 use Rattle.vs_driver_log.proofs.Tabling.{Stands, connection_ends, connection_fits, entry_fits, has_end, leaves, opening_fits}
 use Rattle.vs_driver_log.proofs.Fits.{IsHeldBy, packet_fits}
 use Rattle.vs_conn.specs.declared.end.Verdict.TheVariants as verdict
 use Rattle.vs_history.specs.Packets as packets
-use Rattle.vs_matching.specs.Steps as steps
 
 -- The driver t after it got a packet, whose log was this.
 pub record Gets (first : ℕ) (p : Packet) (s : DriverState) (log : Log) (t : DriverState) : Type 0 where

@@ -4,7 +4,7 @@ use Rattle.std.specs.Prelude.{map, filter, take, drop, Option, Some, None, is_so
 use Rattle.std.specs.Option.{option_map, option_map_or}
 use Rattle.vs_flow.specs.{Flow.host_flow, Flow.is_assigned, Table.with_entry, Table.with_value, Table.without, declared.flow.Flow.Flow}
 use Rattle.vs_header.specs.{declared.Header.Header, declared.Kind.TheVariants.Stream}
-use Rattle.vs_limits.specs.declared.TheConstants.{BUF_ALLOC, LAST_PORT, LAST_ID, DRIVER_CONNECTIONS, HOST_CID}
+use Rattle.vs_limits.specs.declared.TheConstants.{BUF_ALLOC, LAST_PORT, LAST_ID, DRIVER_CONNECTIONS}
 use Rattle.vs_conn.specs.{declared.end.Owed.Owed, declared.end.State.State, declared.route.Route.Route}
 use Rattle.vs_conn.specs.End.{ConnectionEnd, asked, answering, paid_of, with_payload_forwarded, with_shut, aborted}
 use Rattle.vs_driver_parts.specs.{declared.answers.ConnectionState.ConnectionState, declared.answers.ConnectError.ConnectError}

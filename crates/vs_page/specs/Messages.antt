@@ -2,14 +2,10 @@
 use Rattle.std.specs.Prelude.{◌≡◌, ℕ, ◌+◌, ◌/◌, ◌%◌, ◌^◌, ◌==◌, Bool, true, false, ◌&&◌, not, if◌then◌else◌, List, [], ◌∷◌, ◌++◌, length}
 use Rattle.byteorder.specs.Endian.{little_bytes}
 use Rattle.vs_flow.specs.Connection.{Connection}
-use Rattle.vs_header.specs.Kind.{kind_number}
-use Rattle.vs_header.specs.declared.Kind.{Kind}
-use Rattle.vs_header.specs.declared.Kind.TheVariants.{Seqpacket, Stream}
+use Rattle.vs_header.specs.{Kind.kind_number, declared.Kind.Kind, declared.Kind.TheVariants.Seqpacket, declared.Kind.TheVariants.Stream}
 use Rattle.vs_header.specs.declared.TheConstants.{END_OF_MESSAGE, END_OF_RECORD}
-use Rattle.vs_history.specs.Packets.{bytes, is_rw}
-use Rattle.vs_history.specs.declared.packet.Packet.{Packet}
-use Rattle.vs_page.specs.Fair.{got_of, payload_of, put_of}
-use Rattle.vs_page.specs.Log.{Log, Role}
+use Rattle.vs_history.specs.{Packets.bytes, Packets.is_rw, declared.packet.Packet.Packet}
+use Rattle.vs_page.specs.{Fair.got_of, Fair.payload_of, Fair.put_of, Log.Log, Log.Role}
 
 -- An RW of a seqpacket socket ends a message by one flag, and a record by another beside it.
 abbrev pub ends_message : Packet → Bool

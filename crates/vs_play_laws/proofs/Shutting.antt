@@ -10,7 +10,7 @@ use Rattle.vs_flow.proofs.Entries.{same_flow_true}
 use Rattle.vs_header.specs.{Op.op_named, declared.Header.Header, declared.Op.Op}
 use Rattle.vs_history.specs.{Again.present, Packets.is_request, Packets.is_rst, declared.packet.Packet.Packet}
 use Rattle.vs_history.specs.History.{Got, History, Put, Side, Asker, Answerer, gots, is_begun, puts}
-use Rattle.vs_history.specs.declared.TheConstants.{BUF_ALLOC}
+use Rattle.vs_limits.specs.declared.TheConstants.{BUF_ALLOC}
 use Rattle.vs_matching.specs.{Ends.Ends, Ends.answer_kind, Ends.ends_of, Ends.is_new, Ends.replaced, Ends.without_flow, Heard.is_empty}
 use Rattle.vs_matching.specs.Both.{Both, Decides, Decision, Forwards, Shuts, Aborts, WantsCredit, Grows, Happening, IsSound, MayHappen}
 use Rattle.vs_matching.specs.Both.{MayRun, Step, Opens, Asks, Forgets, Sends, Pays, Replies, Takes, PutsEvent, TakesEvent, MakesReset}

@@ -9,10 +9,10 @@ use Rattle.vs_uds.specs.{ConnectLine.connect_step, declared.scan.Step.Step}
 use Rattle.vs_flow.specs.{Flow.host_flow, declared.table.TableFault.TableFault}
 use Rattle.vs_device_parts.specs.{Playing.CanMake, Playing.MayRun, Playing.Runs, State.DeviceState, Turns.open_of}
 use Rattle.vs_device_parts.specs.Calls.{DeviceTree, Situation, Allows, Accept, ReadStream, CloseStream}
-use Rattle.vs_proxy_parts.specs.{State.Handshake, State.Turning, State.with_device, declared.limits.TheConstants.HANDSHAKES}
 use Rattle.vs_proxy_parts.specs.Handshakes.{accept_answered, accept_one, byte_read, dropping, handshake_on, line_decided, may_open}
 use Rattle.vs_proxy_parts.specs.Handshakes.{read_byte, read_line, shake_hands, streams_of, with_line, without_handshake, without_stream}
 use Rattle.vs_proxy_parts.specs.Turning.{closing_client, connecting, opening_client, read_lines, without_it}
+use Rattle.vs_proxy_parts.specs.State.{Handshake, Turning, with_device}
 use Rattle.vs_limits.specs.declared.TheConstants.{HANDSHAKES}
 use Rattle.vs_outside.specs.declared.host_net.StreamRead.TheVariants as read
 use Rattle.vs_uds.specs.declared.scan.Step.TheVariants as step

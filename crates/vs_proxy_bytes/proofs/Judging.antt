@@ -3,7 +3,7 @@ use Rattle.std.proofs.Common.{◌≡◌, ℕ, ◌-◌, ◌==◌, ◌&&◌, Bool,
 use Rattle.std.proofs.Common.{None, refl, sym, ap, subst, ◌∙◌, arith}
 use Rattle.std.proofs.lemmas.Bool.Decides.{nat_tests}
 use Rattle.std.specs.Option.{option_map}
-use Rattle.vs_conn.specs.{End.after_op, End.is_reset, End.is_of, End.owes_of, End.verdict_of, End.is_stream, declared.end.Verdict.Verdict}
+use Rattle.vs_conn.specs.{End.after_op, End.is_reset, End.is_of, End.owes_of, End.verdict_of, declared.end.Verdict.Verdict}
 use Rattle.vs_conn.specs.declared.end.Why.{Why}
 use Rattle.vs_contents.specs.CallTree.{Done, Ask, bind}
 use Rattle.vs_flow.specs.{Flow.is_assigned, Table.entry_of, Table.has_place, Table.with_value}

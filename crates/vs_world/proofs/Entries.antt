@@ -9,7 +9,8 @@ use Rattle.vs_flow.specs.{declared.flow.Flow.Flow, declared.table.Entry.Entry}
 use Rattle.vs_flow.specs.Table.{Table, revalued, with_value, without, with_entry, next_entry}
 use Rattle.vs_limits.specs.declared.TheConstants.{HOST_CID}
 use Rattle.vs_flow.proofs.{Tables.revalued-slot, Entries.same_flow_true}
-use Rattle.vs_flow.specs.{declared.flow.Flow.Flow, declared.flow.TheConstants.HOST_CID, declared.table.Entry.Entry, Flow.same_flow}
+use Rattle.vs_flow.specs.{declared.flow.Flow.Flow, declared.table.Entry.Entry, Flow.same_flow}
+use Rattle.vs_limits.specs.declared.TheConstants.{HOST_CID}
 use Rattle.vs_matching.specs.Ends.{ends_of, entries_of}
 use Rattle.vs_replies.specs.declared.Reply.{Reply}
 use Rattle.vs_device_log.specs.Honest.{HoldsBytes}
