@@ -1,7 +1,6 @@
 -- Packets come in order where no flow is used again.
 use Rattle.std.proofs.Common.{◌≡◌, Bool, true, false, ◌||◌, if◌then◌else◌, [], ◌∷◌, refl, sym, ◌∙◌}
-use Rattle.vs_history.specs.{Packets.has, Packets.is_clean_rst, Packets.is_request, declared.packet.Packet.Packet}
-use Rattle.vs_history.specs.Again.{present}
+use Rattle.vs_history.specs.{Packets.has, Packets.is_clean_rst, Packets.is_request, declared.packet.Packet.Packet, Again.present}
 use Rattle.vs_history.specs.History.{Answerer, Asker, Entry, Got, History, Put, Side, gots}
 use Rattle.vs_matching.specs.Heard.{AsksOnce, IsOrdered, StopsAtMark, is_awaiting, is_empty}
 

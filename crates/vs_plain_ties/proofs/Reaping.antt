@@ -16,8 +16,7 @@ use Rattle.vs_plain_ties.specs.{Calls.after_driver, Queue.HasPage, Queue.IsBack,
 use Rattle.vs_plain_ties.specs.Parts.{PartsState, driver_at, reaped_parts, used_in, with_driver}
 use Rattle.vs_plain_ties.specs.Tie.{AreTied, areas_of, heads_of, shown_of, start_of}
 use Rattle.vs_plain_ties.proofs.{QueueReturns.id_has, QueueReturns.row, QueueReturns.tie_reaped, QueueSteps.out_count, Rows.back_length}
-use Rattle.vs_plain_ties.proofs.{Spots.untouched_none, Taking.chosen}
-use Rattle.vs_plain_ties.proofs.Assemble.{driver_form, driver_step, ends_form}
+use Rattle.vs_plain_ties.proofs.{Spots.untouched_none, Taking.chosen, Assemble.driver_form, Assemble.driver_step, Assemble.ends_form}
 
 first_of : {A : Type 0} (b : Bool) (x y : A) → b ≡ true → cond b x y ≡ x
 first_of b x y on = rw on refl

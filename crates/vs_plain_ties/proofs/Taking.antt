@@ -21,10 +21,9 @@ use Rattle.vs_plain_driver.specs.Queue.{desc_for}
 use Rattle.vs_plain_ties.specs.{Calls.after_device, Parts.PartsState, Parts.driver_at, Queue.IsOut, Queue.IsQueueTied}
 use Rattle.vs_plain_ties.specs.{Shown.Shown, Shown.shown, Tie.AreTied, Tie.IsHeldAs, Tie.areas_of, Tie.heads_of, Tie.shown_of, Tie.start_of}
 use Rattle.vs_plain_ties.proofs.{QueueReturns.given_row, QueueReturns.id_held, QueueReturns.tie_taken, QueueSteps.out_count, Queues.turned}
+use Rattle.vs_plain_ties.proofs.{Held.all_whole, Held.count_heads, Held.heads_here, Spots.untouched_same}
 use Rattle.vs_plain_ties.proofs.Quiet.{IsQuietly, held_seen, quiet_step, quietly_after, quietly_now, seen}
 use Rattle.vs_plain_ties.proofs.Assemble.{device_ends, device_form, device_step}
-use Rattle.vs_plain_ties.proofs.Held.{all_whole, count_heads, heads_here}
-use Rattle.vs_plain_ties.proofs.Spots.{untouched_same}
 use Rattle.vs_ring_port.specs.declared.device_ring.Next.TheVariants as next
 
 pub chosen : {A : Type 0} (b : Bool) (x y : A) → b ≡ false → cond b x y ≡ y

@@ -3,8 +3,8 @@ use Rattle.std.proofs.Common.{◌≡◌, ℕ, ◌-◌, ◌==◌, ◌&&◌, Bool,
 use Rattle.std.proofs.Common.{Option, Some, None, refl, sym, ap, subst, ◌∙◌}
 use Rattle.std.proofs.lemmas.List.Elements.{All-push}
 use Rattle.std.specs.Option.{option_map}
-use Rattle.vs_conn.specs.{End.answering, End.is_reset, End.is_of, End.verdict_of, End.is_stream, declared.end.State.State}
-use Rattle.vs_conn.specs.{declared.end.Verdict.Verdict, declared.end.State.TheVariants.Ended}
+use Rattle.vs_conn.specs.{End.answering, End.is_reset, End.is_of, End.verdict_of, declared.end.State.State, declared.end.Verdict.Verdict}
+use Rattle.vs_conn.specs.declared.end.State.TheVariants.{Ended}
 use Rattle.vs_contents.specs.CallTree.{Done, Ask, bind}
 use Rattle.vs_flow.specs.{Flow.is_assigned, Table.Table, Table.entry_of, Table.has_place, Table.next_entry, Table.with_value}
 use Rattle.vs_flow.specs.declared.flow.Flow.{Flow}

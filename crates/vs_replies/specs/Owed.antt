@@ -1,9 +1,7 @@
 -- What a contract sees of `Replies`.
 use Rattle.std.specs.Prelude.{ℕ, ◌==◌, if◌then◌else◌, List}
 use Rattle.vs_flow.specs.declared.flow.Flow.{Flow}
-use Rattle.vs_header.specs.declared.Header.{Header}
-use Rattle.vs_header.specs.declared.Kind.{Kind}
-use Rattle.vs_header.specs.declared.Kind.TheVariants.{Stream, Seqpacket}
+use Rattle.vs_header.specs.{declared.Header.Header, declared.Kind.TheVariants.Stream, declared.Kind.TheVariants.Seqpacket}
 use Rattle.vs_replies.specs.declared.Reply.{Reply}
 
 -- the replies that are owed, the oldest first, and how many there may be

@@ -1,7 +1,7 @@
 -- What a world that is well says of the bytes of its connections. Packets that the driver staged count as put.
 use Rattle.std.proofs.Common.{◌≡◌, ℕ, ◌≤◌, ◌++◌, true, List, Contains, Some, sym, ap, subst, ◌∙◌}
-use Rattle.std.specs.Option.{option_map}
 use Rattle.std.proofs.lemmas.List.Elements.{All-contains}
+use Rattle.std.specs.Option.{option_map}
 use Rattle.vs_driver_parts.specs.State.{DriverEntry, GoneConnection}
 use Rattle.vs_device_parts.specs.State.{DeviceEntry}
 use Rattle.vs_flow.specs.{Connection.first_of, declared.flow.Flow.Flow}
@@ -13,10 +13,12 @@ use Rattle.vs_page.proofs.{PayloadLogs.prefix, Shut.shut_put}
 use Rattle.vs_matching.specs.Both.{at}
 use Rattle.vs_pipes.specs.Drains.{Drains, got_on, receives}
 use Rattle.vs_pipes.specs.Streamed.{IsJoined, Seen, gives, line_for, look, seen}
-use Rattle.vs_pipes.proofs.{Hosts.there as is_there, Logs.prefix_then}
-use Rattle.vs_world.specs.{Calls.received_on, Calls.sent_on, Received.ReceivedOn, Received.ReceivesOn, Sides.both_of, World.World, World.first_cid}
-use Rattle.vs_world.proofs.{Firsts.once_got, Firsts.once_put, Firsts.put_begun, Once.number_once}
-use Rattle.vs_world.proofs.{Bytes.read_is_got, Bytes.wrote_is_put, Growing.Grows, Growing.runs_grow, Sound.Goes, Sound.IsWell}
+use Rattle.vs_pipes.proofs.Logs.{prefix_then}
+use Rattle.vs_world.specs.{Calls.received_on, Calls.sent_on, Received.ReceivedOn, Received.ReceivesOn, Sides.both_of}
+use Rattle.vs_world.specs.World.{World, first_cid}
+use Rattle.vs_world.proofs.{Firsts.once_got, Firsts.once_put, Firsts.put_begun, Once.number_once, Bytes.read_is_got, Bytes.wrote_is_put}
+use Rattle.vs_world.proofs.{Growing.Grows, Growing.runs_grow, Sound.Goes, Sound.IsWell}
+use Rattle.vs_pipes.proofs.Hosts.{there as is_there}
 
 abbrev pub ToGuest : Flow → World → Type 0
 ToGuest f w = IsPrefixOf (received_on f w.journal) (host_wrote (first_of f) w.host)

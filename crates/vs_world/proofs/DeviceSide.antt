@@ -1,6 +1,6 @@
 -- What the device's small changes are among the steps of the two ends.
 use Rattle.std.proofs.Common.{◌≡◌, ℕ, suc, ◌^◌, ◌<◌, ◌≤◌, ◌==◌, not, Bool, true, false, cond, List, [], ◌∷◌, length, Contains, Some, None}
-use Rattle.std.proofs.Common.{refl, sym, ap, subst, ◌∙◌, arith, map}
+use Rattle.std.proofs.Common.{refl, sym, ap, subst, ◌∙◌, arith}
 use Rattle.std.proofs.lemmas.List.Elements.{All-filter, All-map}
 use Rattle.std.specs.List.{All}
 use Rattle.vs_conn.specs.{End.ConnectionEnd, End.CanSend, End.owes_of, End.paid_of, End.with_payload_sent, declared.end.Owed.Owed}
@@ -15,7 +15,7 @@ use Rattle.vs_matching.specs.Both.{Both, Decides, Decision, IsSound, MayDecide, 
 use Rattle.vs_matching.specs.Steps.{HasEnd, left, paid, with_end, owed_on, payload_on, reply_on}
 use Rattle.vs_matching.proofs.{Slots.changed_slot, Slots.one_end, Slots.removed_slot, Tables.end_new}
 use Rattle.vs_device_parts.specs.{State.DeviceConnection, State.DeviceEntry, State.DeviceState, Connections.with_connection}
-use Rattle.vs_world.specs.Sides.{Runs, flow_to_guest}
+use Rattle.vs_world.specs.Sides.{Runs}
 use Rattle.vs_world.proofs.{Runs.one_step, Runs.stays, Wire.PutsFit, Wire.RouteFits, Wire.owed_fits, Wire.payload_fits, Wire.reset_fits}
 use Rattle.vs_world.proofs.Entries.{EntryFits, ReplyFits, fits_at, fits_with_value, fits_without, without_changed}
 use Rattle.vs_world.proofs.DriverSide.{ReplyFits}

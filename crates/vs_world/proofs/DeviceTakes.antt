@@ -1,8 +1,8 @@
 -- What the device takes and opens is among the steps of the two ends.
-use Rattle.std.proofs.{lemmas.Bool.Decides.nat_tests, lemmas.Grind.common_steps, lemmas.List.Elements.All-push, lemmas.List.map-append}
+use Rattle.std.proofs.{lemmas.Bool.Decides.nat_tests, lemmas.Grind.common_steps, lemmas.List.Elements.All-push}
 use Rattle.std.proofs.Common.{◌≡◌, ℕ, ◌+◌, ◌^◌, ◌<◌, ◌≤◌, ◌&&◌, Bool, true, false, cond, List, [], ◌∷◌, length, Contains, None, refl, sym}
-use Rattle.std.proofs.Common.{ap, inl, ◌∙◌, arith, Option, Some}
-use Rattle.vs_conn.specs.End.{ConnectionEnd, answering, asked, end_after, is_of, is_reset, is_stream}
+use Rattle.std.proofs.Common.{ap, inl, ◌∙◌, arith}
+use Rattle.vs_conn.specs.End.{ConnectionEnd, answering, asked, end_after, is_of, is_reset}
 use Rattle.vs_flow.specs.{Flow.host_flow, Flow.is_assigned, Table.entry_of, Table.has_place, Table.with_value, Table.without, Table.refusal}
 use Rattle.vs_flow.specs.declared.flow.Flow.{Flow}
 use Rattle.vs_limits.specs.declared.TheConstants.{ASSIGNED_FIRST, ASSIGNED_LAST, HOST_CID, BUF_ALLOC}
@@ -14,15 +14,14 @@ use Rattle.vs_page.specs.declared.log.LogEntry.TheVariants.{GotPacket}
 use Rattle.vs_replies.specs.Owed.{reply_to}
 use Rattle.vs_matching.specs.Ends.{Ends, FlowEnd, answer_kind, ends_of, entries_of, is_new, replaced}
 use Rattle.vs_matching.specs.Steps.{accepted, asking, forgotten, is_kept, left, refused, with_clean, with_end}
-use Rattle.vs_matching.specs.Both.{Asks, IsSound, Seat, after_packet, answered, Takes}
+use Rattle.vs_matching.specs.Both.{Asks, IsSound, Seat, after_packet, answered}
 use Rattle.vs_matching.proofs.{Slots.added_slot, Slots.changed_slot, Slots.no_entry, Slots.one_end, Steps.port_next}
 use Rattle.vs_device_parts.specs.Connections.{new_connection, with_client, with_connection, with_dialed, with_opened, with_reply}
 use Rattle.vs_device_parts.specs.State.{DeviceConnection, DeviceEntry, DeviceState}
 use Rattle.vs_world.proofs.{Entries.ReplyFits, Entries.FlowFits, Entries.fits_with_entry, Runs.one_step, Runs.takes_step, Wire.PutsFit}
-use Rattle.vs_world.proofs.DriverSide.{ReplyFits}
-use Rattle.vs_world.specs.Sides.{flow_to_guest}
 use Rattle.vs_world.proofs.DeviceSide.{DeviceHolds, FreshEntry, IsFresh, Kept, at_part, end_in, held_in, holds_changed, left_holds}
 use Rattle.vs_world.proofs.DeviceSide.{left_part, not_fresh, part_of, seated}
+use Rattle.vs_world.proofs.DriverSide.{ReplyFits}
 use Rattle.vs_device_log.specs.Honest.{HoldsBytes}
 use Rattle.vs_device_log.proofs.Hearing.{still_new}
 use Rattle.vs_flow.proofs.Tables.{accepted as free_flow}

@@ -8,7 +8,7 @@ use Rattle.vs_conn.specs.{End.CanSend, End.may_send_of, End.owes_of, End.wanting
 use Rattle.vs_conn.specs.{declared.end.Owed.Owed, declared.end.Stop.Stop}
 use Rattle.vs_flow.specs.{Table.entry_under, Flow.same_flow, declared.flow.Flow.Flow}
 use Rattle.vs_header.specs.{Packet.header_bytes, declared.Kind.TheVariants.Stream, declared.Header.Header}
-use Rattle.vs_limits.specs.declared.TheConstants.{BUF_ALLOC, DRIVER_REPLIES_FULL}
+use Rattle.vs_limits.specs.declared.TheConstants.{DRIVER_REPLIES_FULL}
 use Rattle.vs_history.specs.declared.packet.Packet.{Packet}
 use Rattle.vs_page.specs.{Held.packet_held, Held.event_held, Held.held_in, Held.listed, declared.log.LogEntry.LogEntry}
 use Rattle.vs_page.specs.Log.{Log, Driver, IsNextPacket, IsNextEvent, packets_put, packets_got, events_put, events_got}
@@ -32,11 +32,10 @@ use Rattle.vs_driver_parts.specs.Conversations.{not_sent, post_packet, send_stop
 use Rattle.vs_driver_parts.specs.Conversations.{staged_again}
 use Rattle.vs_driver_parts.specs.Steps.{connects, sends, sends_on, sends_with_credit, stages_owed, stages_reply, takes_page}
 use Rattle.vs_driver_parts.specs.Listening.{listen_of, listener_on, listening, next_accepted, with_waiting, without_id}
-use Rattle.vs_limits.specs.declared.TheConstants.{DRIVER_REPLIES_FULL}
-use Rattle.vs_world.specs.{Pages.AllHold, Pages.TxHolds, Sides.driver_ends, Sides.log_with_staged, Sides.flow_to_host}
-use Rattle.vs_world.specs.{Pipes.none_on, Pipes.put_on, GuestSteps.flow_named, GuestSteps.makes_call}
+use Rattle.vs_world.specs.{Pages.AllHold, Pages.TxHolds, Sides.driver_ends, Sides.log_with_staged, Pipes.none_on, Pipes.put_on}
 use Rattle.vs_world.specs.Calls.{bytes_received, bytes_sent, is_on, took, GuestCall, Connect, Listen, Unlisten, Accept, Send, Recv}
 use Rattle.vs_world.specs.Calls.{Shutdown, Close, LookAt, is_right}
+use Rattle.vs_world.specs.GuestSteps.{flow_named, makes_call}
 use Rattle.vs_world.proofs.{Receives.StillReceives, Receives.none_read, Receives.reads_of, Receives.said_as, Once.AreOnce}
 use Rattle.vs_world.proofs.{Fits.holds_header, Fits.holds_payload, Runs.keeps_sound, Wire.PutsFit, Wire.next_fits, Wire.not_payload}
 use Rattle.vs_world.proofs.DriverSide.{DriverHolds, Kept, KeptWith, seated}

@@ -1,10 +1,10 @@
 -- The driver takes a transport reset, and closes the connections that wait on a port.
-use Rattle.std.proofs.{lemmas.Bool.Decides.nat_tests, lemmas.List.append-nil, lemmas.List.map-append, lemmas.List.Elements.All-push}
+use Rattle.std.proofs.{lemmas.Bool.Decides.nat_tests, lemmas.List.append-nil, lemmas.List.Elements.All-push}
 use Rattle.std.proofs.Common.{◌≡◌, ℕ, suc, ◌+◌, ◌^◌, ◌<◌, ◌≤◌, ◌==◌, not, Bool, true, false, cond, List, [], ◌∷◌, ◌++◌, map, filter, refl}
 use Rattle.std.proofs.Common.{sym, ap, subst, ◌∙◌, arith, append_assoc, Contains}
 use Rattle.std.specs.List.{All}
 use Rattle.vs_limits.specs.declared.TheConstants.{ASSIGNED_FIRST}
-use Rattle.vs_flow.specs.{Table.IsRising, Table.IsTable, Table.Table, Table.without, declared.flow.Flow.Flow}
+use Rattle.vs_flow.specs.Table.{IsRising, IsTable, Table, without}
 use Rattle.vs_flow.proofs.{Entries.above_head, Entries.all_others, Entries.find_none, Entries.rising_tail, Tables.without_sound}
 use Rattle.vs_page.specs.{Log.Log, Log.Driver, declared.log.LogEntry.TheVariants.Mark}
 use Rattle.vs_replies.specs.declared.Reply.{Reply}
@@ -16,7 +16,7 @@ use Rattle.vs_driver_parts.specs.Receiving.{after_reset, all_left, reset_reply, 
 use Rattle.vs_world.proofs.{Received.same_received, Receives.StillReceives, Receives.leaves, Receives.none_read}
 use Rattle.vs_world.proofs.{Entries.EntryFits, Entries.ReplyFits, Runs.keeps_sound, Runs.one_step, Wire.PutsFit}
 use Rattle.vs_world.proofs.DriverSide.{DriverHolds, Kept, close, end_in, held_in, kept_still, kept_then, seated, ReplyFits}
-use Rattle.vs_world.specs.{Pipes.none_on, Pipes.put_on, Sides.flow_to_host}
+use Rattle.vs_world.specs.Pipes.{none_on, put_on}
 use Rattle.vs_pipes.proofs.Logs.{nothing_more}
 
 pub record IsAllLeft (s t : DriverState) (es : List DriverEntry) : Type 0 where

@@ -1,6 +1,6 @@
 -- What the driver's small changes are among the steps of the two ends.
 use Rattle.std.proofs.Common.{◌≡◌, ℕ, suc, ◌+◌, ◌-◌, ◌^◌, ◌<◌, ◌≤◌, ◌==◌, min, Bool, true, false, cond, List, [], ◌∷◌, ◌++◌, length, drop}
-use Rattle.std.proofs.Common.{Contains, Option, Some, None, refl, sym, ap, subst, ◌∙◌, arith, take, map}
+use Rattle.std.proofs.Common.{Contains, Option, Some, None, refl, sym, ap, subst, ◌∙◌, arith, take}
 use Rattle.std.proofs.lemmas.List.{length-drop, append-nil}
 use Rattle.std.specs.List.{All}
 use Rattle.vs_conn.specs.{declared.end.Owed.Owed, declared.end.State.State}
@@ -31,7 +31,7 @@ use Rattle.vs_world.proofs.Entries.{EntryFits, ReplyFits, fits_at, fits_with_val
 use Rattle.vs_world.proofs.Wire.{PutsFit, RouteFits, owed_fits, payload_fits, reset_fits}
 use Rattle.vs_pipes.proofs.Steps.{comes_out, ended_goes, forwards_less, pays_less, shut_goes, stays_still}
 use Rattle.vs_pipes.proofs.Logs.{only_on, nothing_more}
-use Rattle.vs_world.specs.{Pipes.none_on, Pipes.put_on, Sides.Runs, Sides.driver_ends, Sides.flow_to_host}
+use Rattle.vs_world.specs.{Pipes.none_on, Pipes.put_on, Sides.Runs, Sides.driver_ends}
 use Rattle.vs_device_log.specs.Honest.{HoldsBytes}
 use Rattle.vs_device_log.proofs.Fits.{fits_forwarded, fits_paid, fits_sent, fits_shut}
 use Rattle.vs_conn.specs.declared.end.Owed.TheVariants as owed

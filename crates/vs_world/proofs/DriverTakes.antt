@@ -1,8 +1,8 @@
 -- What the driver opens and takes is among the steps of the two ends.
-use Rattle.std.proofs.{lemmas.Bool.Decides.nat_tests, lemmas.Grind.common_steps, lemmas.List.Elements.All-push, lemmas.List.map-append}
+use Rattle.std.proofs.{lemmas.Bool.Decides.nat_tests, lemmas.Grind.common_steps, lemmas.List.Elements.All-push}
 use Rattle.std.proofs.Common.{◌≡◌, ℕ, ◌+◌, ◌^◌, ◌<◌, ◌≤◌, ◌&&◌, Bool, true, false, cond, List, [], ◌∷◌, ◌++◌, length, Contains, Option, inl}
 use Rattle.std.proofs.Common.{Some, None, refl, sym, ap, subst, ◌∙◌, arith, length-append}
-use Rattle.vs_conn.specs.End.{ConnectionEnd, answering, asked, end_after, is_of, is_refused, is_reset, paid_of, verdict_of, is_stream}
+use Rattle.vs_conn.specs.End.{ConnectionEnd, answering, asked, end_after, is_of, is_refused, is_reset, paid_of, verdict_of}
 use Rattle.vs_conn.specs.declared.end.Verdict.{Verdict}
 use Rattle.vs_flow.specs.{Flow.is_assigned, Flow.same_flow, Table.entry_of, Table.without, declared.flow.Flow.Flow}
 use Rattle.vs_limits.specs.declared.TheConstants.{HOST_CID, BUF_ALLOC, LAST_ID, LAST_PORT, DRIVER_CONNECTIONS}
@@ -13,12 +13,11 @@ use Rattle.vs_page.specs.{Log.Log, Log.Driver, Log.IsNextPacket, Log.IsNextEvent
 use Rattle.vs_page.specs.Held.{FitsWire, IsWhole}
 use Rattle.vs_page.specs.declared.log.LogEntry.TheVariants.{GotEvent, GotPacket, PutPacket}
 use Rattle.vs_replies.specs.Owed.{reply_to}
-use Rattle.vs_matching.specs.Both.{Both, IsSound, Opens, Seat, TakesEvent, after_packet, after_taking, answered, Takes}
+use Rattle.vs_matching.specs.Both.{Both, IsSound, Opens, Seat, TakesEvent, after_packet, after_taking, answered}
 use Rattle.vs_matching.specs.Steps.{accepted, forgotten, is_kept, left, opened, with_clean, with_end, request_on, refused, taken}
 use Rattle.vs_matching.specs.Ends.{Ends, FlowEnd, answer_kind, ends_of, entries_of, replaced}
 use Rattle.vs_matching.proofs.{Slots.added_slot, Slots.changed_slot, Slots.found_by, Slots.no_entry, Slots.one_end, Steps.port_next}
-use Rattle.vs_matching.proofs.Both.{driver_accepts, next_is_fair}
-use Rattle.vs_matching.proofs.Fair.{got_in_order, heard_all}
+use Rattle.vs_matching.proofs.Both.{driver_accepts}
 use Rattle.vs_driver_parts.specs.State.{DriverConnection, DriverEntry, DriverState, GoneConnection}
 use Rattle.vs_driver_parts.specs.Connections.{connect_refusal, connected, is_full, is_spent, next_flow, waits_no_more, with_connection}
 use Rattle.vs_driver_parts.specs.Connections.{with_opened, with_request, gone_as, is_let_go}
@@ -33,7 +32,7 @@ use Rattle.vs_world.proofs.{Runs.one_step, Runs.takes_step, Wire.PutsFit, Wire.o
 use Rattle.vs_world.proofs.Receives.{after_got_empty, got_empty, hears, leaves, none_read, passes_by}
 use Rattle.vs_world.proofs.DriverSide.{DriverHolds, Holds, Kept, end_in, entry_fits, held_in, holds_changed, left_broken, left_ends}
 use Rattle.vs_world.proofs.DriverSide.{left_holds, seated, ReplyFits}
-use Rattle.vs_world.specs.{Pipes.put_on, Sides.driver_ends, Sides.flow_to_host}
+use Rattle.vs_world.specs.{Pipes.put_on, Sides.driver_ends}
 use Rattle.vs_device_log.specs.Honest.{HoldsBytes}
 use Rattle.vs_device_log.proofs.Fits.{delivered, fits_after}
 use Rattle.vs_conn.specs.declared.end.Owed.TheVariants as owed

@@ -1,16 +1,13 @@
 -- Entries of a table whose ends fit, through changes of the table.
 use Rattle.std.proofs.Common.{◌≡◌, ℕ, ◌^◌, ◌<◌, ◌==◌, Bool, true, false, not, cond, List, [], ◌∷◌, map, filter, Contains, refl, ap, subst}
 use Rattle.std.proofs.Common.{suc, ◌∙◌, arith}
-use Rattle.std.specs.List.{All}
 use Rattle.std.proofs.lemmas.List.Elements.{All-filter, All-push, All-map}
 use Rattle.std.specs.List.{All}
 use Rattle.vs_conn.specs.End.{ConnectionEnd}
 use Rattle.vs_flow.specs.{declared.flow.Flow.Flow, declared.table.Entry.Entry}
-use Rattle.vs_flow.specs.Table.{Table, revalued, with_value, without, with_entry, next_entry}
+use Rattle.vs_flow.specs.{Table.Table, Table.revalued, Table.with_value, Table.without, Table.with_entry, Table.next_entry, Flow.same_flow}
 use Rattle.vs_limits.specs.declared.TheConstants.{HOST_CID}
 use Rattle.vs_flow.proofs.{Tables.revalued-slot, Entries.same_flow_true}
-use Rattle.vs_flow.specs.{declared.flow.Flow.Flow, declared.table.Entry.Entry, Flow.same_flow}
-use Rattle.vs_limits.specs.declared.TheConstants.{HOST_CID}
 use Rattle.vs_matching.specs.Ends.{ends_of, entries_of}
 use Rattle.vs_replies.specs.declared.Reply.{Reply}
 use Rattle.vs_device_log.specs.Honest.{HoldsBytes}

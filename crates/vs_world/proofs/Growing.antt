@@ -1,7 +1,7 @@
 -- Logs grow.
 use Rattle.std.proofs.Common.{◌≡◌, List, [], ◌∷◌, ◌++◌, refl, ap, subst, ◌∙◌, ℕ}
-use Rattle.vs_page.specs.Log.{Device, Driver, Log, Role}
 use Rattle.vs_page.specs.declared.log.LogEntry.TheVariants.{GotEvent, GotPacket, Mark, PutEvent, PutPacket}
+use Rattle.vs_page.specs.Log.{Device, Driver, Log, Role}
 use Rattle.vs_matching.specs.Both.{Asks, Both, Decides, Forgets, Happening, MakesReset, Opens, Pays, PutsEvent, Replies, Sends, Step, Takes}
 use Rattle.vs_matching.specs.Both.{TakesEvent, TakesReset, at, happens, log_after, run}
 use Rattle.vs_matching.specs.Steps.{owed_on, payload_on, reply_on, request_on}

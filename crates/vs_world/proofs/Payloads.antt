@@ -1,9 +1,7 @@
 -- What an entry of the driver's log adds to the payload that it put.
 use Rattle.std.proofs.Common.{◌≡◌, ℕ, zero, suc, length, take, Bool, true, false, cond, List, [], ◌∷◌, ◌++◌, refl, ap, ◌∙◌}
-use Rattle.vs_flow.specs.Flow.{same_flow}
-use Rattle.vs_flow.specs.declared.flow.Flow.{Flow}
-use Rattle.vs_history.specs.History.{History, Got, puts}
-use Rattle.vs_history.specs.declared.packet.Packet.{Packet}
+use Rattle.vs_flow.specs.{Flow.same_flow, declared.flow.Flow.Flow}
+use Rattle.vs_history.specs.{History.History, History.Got, History.puts, declared.packet.Packet.Packet}
 use Rattle.vs_page.specs.{Fair.payload_of, Log.Driver, Log.Log, Log.flow_got, Log.flow_put, Log.whole_of}
 use Rattle.vs_page.specs.declared.log.LogEntry.TheVariants.{GotPacket, PutPacket}
 use Rattle.vs_world.specs.Pipes.{put_on}

@@ -3,12 +3,12 @@ use Rattle.std.proofs.{lemmas.Bool.Decides.nat_tests, lemmas.List.Elements.Conta
 use Rattle.std.proofs.Common.{◌≡◌, ℕ, ◌^◌, ◌<◌, ◌≤◌, ◌&&◌, nat_le, Bool, true, false, List, [], ◌∷◌, ◌++◌, refl, sym, ap, subst, ◌∙◌, arith}
 use Rattle.std.proofs.Common.{append_assoc, get_or}
 use Rattle.vs_contents.specs.CallTree.{played}
-use Rattle.vs_history.specs.{declared.packet.Packet.Packet, History.Got, History.IsFair, Packets.is_rw}
+use Rattle.vs_history.specs.declared.packet.Packet.{Packet}
 use Rattle.vs_outside.specs.{Host.HostContents, Host.with_stream, declared.mem_stream.HostWritten.HostWritten}
 use Rattle.vs_outside.specs.HostProgram.{after_fail, after_host_write, after_listen, after_unlisten, allowed, closed, ended}
 use Rattle.vs_outside.specs.HostProgram.{host_write_answer, with_bytes}
-use Rattle.vs_page.specs.{Open.is_dropped, Held.held_in, Held.packet_held, declared.log.LogEntry.TheVariants.GotPacket}
-use Rattle.vs_page.specs.Log.{packets_put, packets_got, Device, IsNextPacket, Log, flow_got, history_of, side_of}
+use Rattle.vs_page.specs.{Open.is_dropped, Held.held_in, Held.packet_held}
+use Rattle.vs_page.specs.Log.{packets_put, packets_got, Device, IsNextPacket, Log, flow_got}
 use Rattle.vs_ring_port.specs.{DriverCalls.driver_answer, declared.queue.Queue.Queue}
 use Rattle.vs_matching.specs.{Both.IsSound, Both.Both, Ends.ends_of, Ends.entries_of}
 use Rattle.vs_driver_parts.specs.{Conversations.DriverTree, Conversations.publish_of, State.DriverState}
@@ -35,7 +35,6 @@ use Rattle.vs_flow.specs.{declared.flow.Flow.Flow, Table.Table}
 use Rattle.std.specs.List.{All}
 use Rattle.vs_limits.specs.declared.TheConstants.{GUEST_CID_MIN, GUEST_CID_MAX}
 use Rattle.vs_matching.proofs.{Both.next_is_fair, Fair.got_formed, Slots.one_end, Voices.AreVoiced, Voices.voices_run}
-use Rattle.vs_page.proofs.Flows.{same_self}
 use Rattle.vs_pipes.specs.Streamed.{IsStreamed, gives}
 use Rattle.vs_pipes.proofs.{Cids.dropped_empty, HostCalls.client_host, HostCalls.same_host, Hosts.unseen, Logs.nothing_more}
 use Rattle.vs_ring_list.proofs.Held.{same_queue_is}

@@ -28,7 +28,6 @@ use Rattle.vs_pipes.proofs.Steps.{comes_out, Goes, drops, stays_still}
 use Rattle.vs_pipes.proofs.Streamed.{join_of, left_streamed, passed_streamed, same_streamed}
 use Rattle.vs_outside.specs.Host.{after_failed, after_read, after_shut_write, after_write, called, dial_answer, fails_now, is_listened}
 use Rattle.vs_outside.specs.Host.{next_bytes, HostContents, with_shut_write_call}
-use Rattle.vs_outside.specs.declared.host_net.Dialed.TheVariants as dialed
 use Rattle.vs_outside.proofs.Frames.{stream_at-after_failed}
 use Rattle.vs_page.specs.Fair.{IsFairLog, payload_of, IsFairOn}
 use Rattle.vs_page.specs.Held.{IsWhole, packet_held, packet_with, payload_held}
@@ -41,11 +40,11 @@ use Rattle.vs_uds.specs.{ConnectLine.connect_port, ConnectLine.connect_step, Rea
 use Rattle.vs_uds.specs.{declared.connect.TheConstants.CONNECT_MAX, OkLine.ok_text}
 use Rattle.vs_world.proofs.{DeviceSide.end_in, DeviceSide.held_in, Entries.without_changed}
 use Rattle.vs_matching.proofs.Fair.{fair_now, own_got_fair}
+use Rattle.vs_outside.specs.declared.host_net.Dialed.TheVariants as dialed
 use Rattle.vs_conn.specs.declared.end.State.TheVariants as state
 use Rattle.vs_conn.specs.declared.end.Verdict.TheVariants as verdict
 use Rattle.vs_outside.specs.declared.host_net.StreamRead.TheVariants as read
 use Rattle.vs_outside.specs.declared.host_net.StreamWrite.TheVariants as write
-use Rattle.vs_outside.specs.declared.host_net.Dialed.TheVariants as dialed
 use Rattle.vs_uds.specs.declared.scan.Step.TheVariants as step
 
 -- Where the host was fresh at first.

@@ -2,7 +2,7 @@
 use Rattle.std.proofs.Common.{◌≡◌, ℕ, zero, suc, ◌+◌, ◌-◌, ◌==◌, ◌&&◌, nat_le, nat_lt, Bool, true, false, cond, List, [], ◌∷◌, length, take}
 use Rattle.std.proofs.Common.{Option, Some, None, refl, sym, ap, subst, ◌∙◌}
 use Rattle.vs_contents.specs.CallTree.{Done, Ask, bind, played, while_up_to}
-use Rattle.vs_conn.specs.{End.is_of, End.is_reset, End.verdict_of, End.is_stream, declared.end.Verdict.Verdict}
+use Rattle.vs_conn.specs.{End.is_of, End.is_reset, End.verdict_of, declared.end.Verdict.Verdict}
 use Rattle.vs_flow.specs.{Flow.is_assigned, Table.entry_of, Table.has_place}
 use Rattle.vs_header.specs.{Op.op_number, Packet.header_of, declared.Header.Header, declared.Op.TheVariants.Request}
 use Rattle.vs_header.specs.declared.Kind.TheVariants.{Stream}

@@ -1,17 +1,14 @@
 -- Headers fit the wire, of all packets that were put.
 use Rattle.std.proofs.Common.{◌≡◌, ℕ, ◌^◌, ◌<◌, ◌==◌, Bool, true, false, cond, List, [], ◌∷◌, ◌++◌, Some, refl, subst, arith}
 use Rattle.std.proofs.lemmas.Grind.{common_steps}
+use Rattle.vs_conn.specs.{Headers.owed_header, Headers.payload_header, Headers.reset_header, Headers.owed_flags, declared.end.Owed.Owed}
 use Rattle.vs_conn.specs.End.{ConnectionEnd, owes_of}
-use Rattle.vs_conn.specs.Headers.{owed_header, payload_header, reset_header, owed_flags}
-use Rattle.vs_conn.specs.declared.end.Owed.{Owed}
-use Rattle.vs_conn.specs.declared.end.Owed.TheVariants as owed
 use Rattle.vs_conn.specs.declared.route.Route.{Route}
-use Rattle.vs_header.specs.Kind.{kind_number}
-use Rattle.vs_header.specs.declared.Kind.{Kind}
-use Rattle.vs_header.specs.declared.Kind.TheVariants.{Seqpacket, Stream}
+use Rattle.vs_header.specs.{Kind.kind_number, declared.Kind.Kind, declared.Kind.TheVariants.Seqpacket, declared.Kind.TheVariants.Stream}
 use Rattle.vs_history.specs.declared.packet.Packet.{Packet}
 use Rattle.vs_page.specs.{Held.FitsWire, Log.Log, Log.IsNextPacket, Log.packets_put, Log.packets_got}
 use Rattle.vs_device_log.specs.Honest.{HoldsBytes}
+use Rattle.vs_conn.specs.declared.end.Owed.TheVariants as owed
 
 pub record RouteFits (r : Route) : Type 0 where
   pub src_cid : r.src_cid < 2 ^ 64
