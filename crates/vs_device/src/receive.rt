@@ -33,7 +33,7 @@ use vs_device_parts::fill::Fill;
 use vs_device_parts::packets::{read_into, write_packet};
 use vs_device_parts::round::round_from;
 use vs_flow::Slot;
-use vs_header::{HEADER_LEN, HEADER_LEN, Header, Header, Kind, Op, Op};
+use vs_header::{HEADER_LEN, Header, Kind, Op};
 use vs_limits::HOST_CID;
 use vs_outside::{HostNet, StreamRead};
 use vs_page::PAYLOAD_MAX;

@@ -16,7 +16,7 @@ ghost use Rattle.vs_device_parts.specs.{Streams.to_write, Streams.is_written_out
 use std::marker::Model;
 use vs_buffer::ByteFifo;
 use vs_conn::{End, EndView, Owed, Route, Shut, State, Verdict};
-use vs_header::{Header, Header, Kind};
+use vs_header::{Header, Kind};
 use vs_limits::{BUF_ALLOC, TIMEOUT, WRITE_MAX};
 use vs_uds::ok_line;
 

@@ -23,7 +23,7 @@ use vs_buffer::ByteFifo;
 use vs_conn::{Owed, Route, Verdict};
 use vs_flow::{Entry, Flow, FlowTable, Slot, TableFault};
 use vs_header::Header;
-use vs_limits::{BUF_ALLOC, BUF_ALLOC, DEVICE_CONNECTIONS, DEVICE_CONNECTIONS, HOST_CID};
+use vs_limits::{BUF_ALLOC, DEVICE_CONNECTIONS, HOST_CID};
 use vs_uds::OK_MAX;
 
 /// Bytes of a connection's receive buffer.

@@ -18,7 +18,7 @@ use vs_conn::{End, Owed};
 use vs_driver_parts::answers::{ConnId, ConnectError};
 use vs_driver_parts::route::route_to_host;
 use vs_flow::{Flow, is_assigned};
-use vs_header::{Header, Header, Kind};
+use vs_header::{Header, Kind};
 use vs_limits::{BUF_ALLOC, DRIVER_CONNECTIONS, LAST_ID, LAST_PORT};
 use vs_ring_port::DriverRing;
 

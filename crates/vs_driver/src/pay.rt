@@ -17,7 +17,7 @@ use vs_conn::{OWED_MAX, Owed, Route};
 use vs_driver_parts::route::route_to_host;
 use vs_driver_parts::tally::Tally;
 use vs_flow::Slot;
-use vs_header::{Header, Header, Kind, Op, Op};
+use vs_header::{Header, Kind, Op};
 use vs_limits::HOST_CID;
 use vs_replies::Reply;
 use vs_ring_port::{DriverRing, Queue};

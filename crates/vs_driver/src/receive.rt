@@ -18,7 +18,7 @@ use crate::driver::Driver;
 use vs_conn::Verdict;
 use vs_flow::{Flow, Slot, is_assigned};
 use vs_header::{Header, Kind, Op};
-use vs_limits::{DRIVER_CONNECTIONS, DRIVER_CONNECTIONS, HOST_CID, LAST_ID, LAST_ID};
+use vs_limits::{DRIVER_CONNECTIONS, HOST_CID, LAST_ID};
 use vs_page::{Page, packet_in, packet_payload};
 use vs_replies::Reply;
 

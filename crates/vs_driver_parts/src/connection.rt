@@ -17,7 +17,7 @@ use crate::answers::ConnId;
 use std::marker::Model;
 use vs_buffer::ByteFifo;
 use vs_conn::{End, EndView, Owed, Route, State, Stop, Verdict};
-use vs_header::{Header, Header, Kind};
+use vs_header::{Header, Kind};
 use vs_limits::BUF_ALLOC;
 
 /// A connection of the table.
