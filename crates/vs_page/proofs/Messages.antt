@@ -2,7 +2,7 @@
 use Rattle.std.proofs.Common.{◌≡◌, ◌&&◌, ℕ, Bool, true, false, if◌then◌else◌, not, List, [], ◌∷◌, ◌++◌, refl, sym, ap, ◌∙◌, subst}
 use Rattle.std.proofs.Common.{append_assoc}
 use Rattle.std.proofs.lemmas.List.{append-nil}
-use Rattle.vs_flow.specs.{Flow.is_assigned, Connection.Connection}
+use Rattle.vs_flow.specs.{Flow.is_assigned, Flow.Connection, Connection.Connection}
 use Rattle.vs_header.specs.{declared.Kind.Kind, declared.Kind.TheVariants.Seqpacket, declared.Kind.TheVariants.Stream}
 use Rattle.vs_history.specs.{Packets.bytes, History.Side, History.gots, History.peer, History.puts, declared.packet.Packet.Packet}
 use Rattle.vs_page.specs.Messages.{AreFirstOf, MessageEnd, ends_got, ends_message, ends_of, ends_put, ends_record, form, is_nothing}
@@ -35,7 +35,8 @@ pub ends_prefix : (role : Role) (mine other : Log) (c : Connection) → HasGotAl
     → AreFirstOf (ends_got role c mine) (ends_put (other_role role) c other)
 ends_prefix role mine other c got =
     let front = on_flow (flow_got role) c.flow got.packets.0 in
-    subst (λ side. AreFirstOf (ends_got role c mine) (ends_of (instance_from side c.number (puts (whole_of (other_role role) c.flow other)))))
+    subst (λ side. AreFirstOf (ends_got role c mine)
+    (ends_of (instance_from side c.number (puts (whole_of (other_role role) c.flow other)))))
     (sym (opposite_by role (is_assigned c.flow.host)))
     (ends_from (peer (side_of role c.flow)) c.number _ front _ (got_on role c.flow mine other got.packets.0 got.packets.1))
 

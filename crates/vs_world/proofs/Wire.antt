@@ -2,8 +2,7 @@
 use Rattle.std.proofs.Common.{◌≡◌, ℕ, ◌^◌, ◌<◌, ◌==◌, Bool, true, false, cond, List, [], ◌∷◌, ◌++◌, Some, refl, subst, arith}
 use Rattle.std.proofs.lemmas.Grind.{common_steps}
 use Rattle.vs_conn.specs.{Headers.owed_header, Headers.payload_header, Headers.reset_header, Headers.owed_flags, declared.end.Owed.Owed}
-use Rattle.vs_conn.specs.End.{ConnectionEnd, owes_of}
-use Rattle.vs_conn.specs.declared.route.Route.{Route}
+use Rattle.vs_conn.specs.{End.ConnectionEnd, End.owes_of, declared.route.Route.Route}
 use Rattle.vs_header.specs.{Kind.kind_number, declared.Kind.Kind, declared.Kind.TheVariants.Seqpacket, declared.Kind.TheVariants.Stream}
 use Rattle.vs_history.specs.declared.packet.Packet.{Packet}
 use Rattle.vs_page.specs.{Held.FitsWire, Log.Log, Log.IsNextPacket, Log.packets_put, Log.packets_got}
