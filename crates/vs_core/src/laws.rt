@@ -1,5 +1,7 @@
 //! Laws of the world, over every list of events.
 
+ghost use Rattle.vs_flow.specs.Connection.{Connection};
+ghost use Rattle.vs_flow.specs.Connection.{first_of};
 ghost use Rattle.std.specs.Prelude.{◌≡◌, ℕ, ◌≤◌, ◌||◌, false, true, List, [], ◌∷◌, length, All};
 ghost use Rattle.vs_limits.specs.declared.TheConstants.{BUF_ALLOC, FIRST_PORT, ASSIGNED_FIRST};
 ghost use Rattle.vs_conn.specs.End.{ConnectionEnd, is_refused, verdict_of};
@@ -26,10 +28,10 @@ pub fn law_of_queues()
         HasGotAll r.driver.entries r.device.entries }
     ensures device_got { (n : ℕ) (host : HostContents) (es : List Event) → let r = (run es (opening n host)).rings in
         HasGotAll r.device.entries r.driver.entries }
-    ensures payload_to_guest { (n : ℕ) (host : HostContents) (es : List Event) (f : Flow) (k : ℕ) → let r = (run es (opening n host)).rings in
-        IsPrefixOf (payload_got Driver f k r.driver.entries) (payload_put Device f k r.device.entries) }
-    ensures payload_to_host { (n : ℕ) (host : HostContents) (es : List Event) (f : Flow) (k : ℕ) → let r = (run es (opening n host)).rings in
-        IsPrefixOf (payload_got Device f k r.device.entries) (payload_put Driver f k r.driver.entries) }
+    ensures payload_to_guest { (n : ℕ) (host : HostContents) (es : List Event) (k : Connection) → let r = (run es (opening n host)).rings in
+        IsPrefixOf (payload_got Driver k r.driver.entries) (payload_put Device k r.device.entries) }
+    ensures payload_to_host { (n : ℕ) (host : HostContents) (es : List Event) (k : Connection) → let r = (run es (opening n host)).rings in
+        IsPrefixOf (payload_got Device k r.device.entries) (payload_put Driver k r.driver.entries) }
 {}
 
 /// Each event is some of the small steps of two ends of many connections, each where it may happen, and none that asks for a flow whose port
@@ -96,9 +98,9 @@ pub fn law_of_credit()
 /// the device got there is a prefix of that.
 pub fn law_of_sending()
     ensures put { (n : ℕ) (host : HostContents) (es : List Event) (f : Flow) → let w = run es (opening n host) in
-        payload_put Driver f 1 (both_of w).driver.log ≡ sent_on f w.journal }
+        payload_put Driver (first_of f) (both_of w).driver.log ≡ sent_on f w.journal }
     ensures got { (n : ℕ) (host : HostContents) (es : List Event) (f : Flow) → let w = run es (opening n host) in
-        IsPrefixOf (payload_got Device f 1 w.rings.device.entries) (sent_on f w.journal) }
+        IsPrefixOf (payload_got Device (first_of f) w.rings.device.entries) (sent_on f w.journal) }
 {}
 
 /// Each call of the guest's, whole, is a list of events, with that reply in the journal: a connect and a send take back the pages that the

@@ -1,10 +1,10 @@
 -- What holds of a world in which nothing is staged, where it is well.
+use Rattle.vs_flow.specs.{Connection.first_of, declared.flow.Flow.Flow}
 use Rattle.std.proofs.{lemmas.List.length-map, lemmas.Bool.and_parts, lemmas.List.Elements.All-map, lemmas.List.Elements.Contains-get_or}
 use Rattle.std.proofs.Common.{[], ap, Bool, false, get_or, length, List, not, refl, subst, suc, sym, true, ℕ, ◌&&◌, ◌++◌, ◌∷◌, ◌≡◌, ◌≢◌}
 use Rattle.std.proofs.Common.{◌∙◌, arith}
 use Rattle.std.proofs.lemmas.List.Kept.{AllPairs-cons}
 use Rattle.std.specs.List.{AllPairs}
-use Rattle.vs_flow.specs.declared.flow.Flow.{Flow}
 use Rattle.vs_history.specs.History.{History, IsFair, MayPut, Put, Side, gots, puts}
 use Rattle.vs_history.specs.declared.packet.Packet.{Packet}
 use Rattle.vs_matching.specs.Ends.{FlowEnd, begun_flows, flows_of, is_among, replied}
@@ -86,20 +86,20 @@ module _ {fresh : Type 0} (w : World) (well : IsWell fresh w) (yes : fresh) (res
     to_guest = to_guest w well yes f;
     to_host = to_host w well yes f;
     device_put = wrote_is w well yes f;
-    driver_got = at_rest (λ log. IsPrefixOf (payload_got Driver f 1 log) (payload_put Device f 1 (device_log w))) (to_driver w well f);
-    received = at_rest (λ log. IsPrefixOf (received_on f w.journal) (payload_got Driver f 1 log)) (received_is w well f);
-    driver_put = at_rest (λ log. payload_put Driver f 1 log ≡ sent_on f w.journal) (sent_is w well f);
-    device_got = at_rest (λ log. IsPrefixOf (payload_got Device f 1 (device_log w)) (payload_put Driver f 1 log)) (to_device w well f);
+    driver_got = at_rest (λ log. IsPrefixOf (payload_got Driver (first_of f) log) (payload_put Device (first_of f) (device_log w))) (to_driver w well f);
+    received = at_rest (λ log. IsPrefixOf (received_on f w.journal) (payload_got Driver (first_of f) log)) (received_is w well f);
+    driver_put = at_rest (λ log. payload_put Driver (first_of f) log ≡ sent_on f w.journal) (sent_is w well f);
+    device_got = at_rest (λ log. IsPrefixOf (payload_got Device (first_of f) (device_log w)) (payload_put Driver (first_of f) log)) (to_device w well f);
     given = given_is w well yes f;
   }
 
   pub holds_rest : HoldsTheRest w
   holds_rest = record {
     unread = λ i d less. let e = get_or w.driver.table.entries i d in
-        at_rest (λ log. Drains (receives e.value.end) (received_on e.flow w.journal) e.value.unread (payload_got Driver e.flow 1 log))
+        at_rest (λ log. Drains (receives e.value.end) (received_on e.flow w.journal) e.value.unread (payload_got Driver (first_of e.flow) log))
         (unread_of w well e (Contains-get_or w.driver.table.entries i d less));
     gone = λ i d less. let g = get_or w.driver.gone i d in
-        at_rest (λ log. IsPrefixOf (received_on g.flow w.journal ++ g.unread) (payload_got Driver g.flow 1 log))
+        at_rest (λ log. IsPrefixOf (received_on g.flow w.journal ++ g.unread) (payload_got Driver (first_of g.flow) log))
         (gone_of w well g (Contains-get_or w.driver.gone i d less));
     pending = λ i d less. pending_of w well yes _ (Contains-get_or w.proxy.device.table.entries i d less);
   }

@@ -56,25 +56,25 @@ pub record Carries (w : World) (f : Flow) : Type 0 where
   pub to_host : IsPrefixOf (host_read (first_of f) w.host) (sent_on f w.journal)
   -- On the way to the guest: what was taken of the stream is the payload that the device put, the driver got a prefix of that, and the
   -- guest received a prefix of what its driver got.
-  pub device_put : payload_put Device f 1 (device_log w) ≡ host_wrote (first_of f) w.host
-  pub driver_got : IsPrefixOf (payload_got Driver f 1 (driver_log w)) (payload_put Device f 1 (device_log w))
-  pub received : IsPrefixOf (received_on f w.journal) (payload_got Driver f 1 (driver_log w))
+  pub device_put : payload_put Device (first_of f) (device_log w) ≡ host_wrote (first_of f) w.host
+  pub driver_got : IsPrefixOf (payload_got Driver (first_of f) (driver_log w)) (payload_put Device (first_of f) (device_log w))
+  pub received : IsPrefixOf (received_on f w.journal) (payload_got Driver (first_of f) (driver_log w))
   -- On the way to the host: what the sends took is the payload that the driver put, the device got a prefix of that, and the stream was
   -- given a prefix of what the device got.
-  pub driver_put : payload_put Driver f 1 (driver_log w) ≡ sent_on f w.journal
-  pub device_got : IsPrefixOf (payload_got Device f 1 (device_log w)) (payload_put Driver f 1 (driver_log w))
-  pub given : IsPrefixOf (host_read (first_of f) w.host) (payload_got Device f 1 (device_log w))
+  pub driver_put : payload_put Driver (first_of f) (driver_log w) ≡ sent_on f w.journal
+  pub device_got : IsPrefixOf (payload_got Device (first_of f) (device_log w)) (payload_put Driver (first_of f) (driver_log w))
+  pub given : IsPrefixOf (host_read (first_of f) w.host) (payload_got Device (first_of f) (device_log w))
 
 -- What is still unread of a connection comes next: at the guest of the payload that its driver got, at the device of what it owes the
 -- stream; and it is all that is left, while the connection takes payload.
 pub record HoldsTheRest (w : World) : Type 0 where
   pub unread : All (λ e. Drains (receives e.value.end) (received_on e.flow w.journal) e.value.unread
-      (payload_got Driver e.flow 1 (driver_log w))) w.driver.table.entries
+      (payload_got Driver (first_of e.flow) (driver_log w))) w.driver.table.entries
   -- Of a connection that is gone.
-  pub gone : All (λ g. IsPrefixOf (received_on g.flow w.journal ++ g.unread) (payload_got Driver g.flow 1 (driver_log w))) w.driver.gone
+  pub gone : All (λ g. IsPrefixOf (received_on g.flow w.journal ++ g.unread) (payload_got Driver (first_of g.flow) (driver_log w))) w.driver.gone
   pub pending : All (λ e. (s : Stream) × (stream_at e.value.stream w.host ≡ Some s) × (s.label ≡ Some e.flow)
       × Drains (gives e.value.end) s.given (e.value.ok_line ++ e.value.pending)
-      (line_for e.flow ++ payload_got Device e.flow 1 (device_log w))) w.proxy.device.table.entries
+      (line_for e.flow ++ payload_got Device (first_of e.flow) (device_log w))) w.proxy.device.table.entries
 
 -- A stream is of one connection, no other stream is of that one, and what the report shows of it is what the host wrote and read there.
 pub record HasOwnStreams (w : World) : Type 0 where

@@ -35,12 +35,12 @@ pub record Told : Type 0 where
 abbrev pub told_of : List Event → Flow → World → Told
 told_of lines f w = record {
   sent = sent_in f lines (opened_play 64);
-  driver_put = payload_put Driver f 1 (driver_log w);
-  device_got = payload_got Device f 1 (device_log w);
+  driver_put = payload_put Driver (first_of f) (driver_log w);
+  device_got = payload_got Device (first_of f) (device_log w);
   read = host_read (first_of f) w.host;
   wrote = host_wrote (first_of f) w.host;
-  device_put = payload_put Device f 1 (device_log w);
-  driver_got = payload_got Driver f 1 (driver_log w);
+  device_put = payload_put Device (first_of f) (device_log w);
+  driver_got = payload_got Driver (first_of f) (driver_log w);
   received = received_in f lines (opened_play 64);
   left_open = is_open Driver first_cid f (driver_log w) (is_among f (guest_replies w));
 }

@@ -31,7 +31,7 @@ use Rattle.vs_world.proofs.DeviceSide.{DeviceHolds, IsFresh, Kept, end_in, entry
 use Rattle.vs_world.proofs.Streams.{StreamedIf, accepts_streams, called_host, delivered_rw, delivers_streams, dialed_id, empty_streams}
 use Rattle.vs_world.proofs.Streams.{failed_host, got_nothing, hears_streams, leaves_streams, passes_streams, request_empty, reset_empty}
 use Rattle.vs_world.proofs.Streams.{unknown_streams}
-use Rattle.vs_world.proofs.Once.{AreOnce, asked_once, number_once}
+use Rattle.vs_world.proofs.Once.{AreOnce, asked_once, number_ofce}
 use Rattle.vs_device_log.specs.Honest.{HoldsBytes}
 use Rattle.vs_device_log.proofs.{Fits.delivered, Fits.fits_after, Hearing.peer_resets, Hearing.rst_leaves}
 use Rattle.std.specs.List.{All}
@@ -90,7 +90,7 @@ module _ (driver : Seat) (first port : ℕ) (s : DeviceState) (log : Log) (sound
 
     -- All that passed on a flow is its one connection.
     first_use : (f : Flow) → history_of Device f log ≡ whole_of Device f log
-    first_use f = once_history Device f log (sound.fair Device f) (number_once Device first (seated driver port s log) sound once f)
+    first_use f = once_history Device f log (sound.fair Device f) (number_ofce Device first (seated driver port s log) sound once f)
 
     module _ (kept : is_dropped Device s.cid p.header ≡ false) where
       module _ (e : DeviceEntry) (there : Contains s.table.entries e) (flow : flow_to_host p.header ≡ e.flow) where

@@ -1,14 +1,14 @@
 -- Flows that are used once: all that passed on them is their present connection.
+use Rattle.vs_page.proofs.{Present.first_got, Present.first_put, Entries.present_is}
+use Rattle.vs_flow.specs.{Connection.first_of, declared.flow.Flow.Flow}
 use Rattle.std.proofs.Common.{◌≡◌, ℕ, zero, suc, ◌+◌, ◌≤◌, Bool, true, false, cond, ◌||◌, List, [], ◌∷◌, refl, sym, ap, subst, ◌∙◌, arith}
 use Rattle.std.proofs.lemmas.Grind.{common_steps}
-use Rattle.vs_flow.specs.declared.flow.Flow.{Flow}
 use Rattle.vs_limits.specs.declared.TheConstants.{HOST_CID}
 use Rattle.vs_history.specs.{Again.IsFairAll, Again.count, Again.present, Packets.has, Packets.is_request, declared.packet.Packet.Packet}
-use Rattle.vs_history.specs.History.{Answerer, Asker, Got, History, IsFair, MayPut, Put, Side, gots, is_begun, peer, puts}
+use Rattle.vs_history.specs.History.{Answerer, Asker, Got, History, IsFair, MayPut, Put, Side, gots, is_begun, puts}
 use Rattle.vs_history.proofs.Present.{fair_once}
-use Rattle.vs_page.specs.Fair.{IsFairOn, instance_from, number_of, number_on, payload_got, payload_of, payload_put}
+use Rattle.vs_page.specs.Fair.{IsFairOn, number_of, payload_got, payload_of, payload_put}
 use Rattle.vs_page.specs.Log.{Driver, Log, Role, history_of, side_of, whole_of}
-use Rattle.vs_page.proofs.{Entries.present_is, Present.present_got, Present.present_put}
 use Rattle.vs_matching.specs.Heard.{heard_of}
 use Rattle.vs_matching.proofs.Fair.{fair_begun, fair_now, heard_all, heard_puts}
 
@@ -106,49 +106,25 @@ once_present Answerer (Put p ∷ w) fair few = by (is_request p) refl (once_pres
     by false other rest = ap (λ (h : History). Put p ∷ h) rest
 
 -- In a log.
-pub once_history : (role : Role) (f : Flow) (log : Log) → IsFairOn role f log → number_on role f log ≤ 1 → history_of role f log ≡ whole_of role f log
+pub once_history : (role : Role) (f : Flow) (log : Log) → IsFairOn role f log → number_of role f log ≤ 1 → history_of role f log ≡ whole_of role f log
 once_history role f log fair few = sym (present_is role f log) ∙ once_present (side_of role f) (whole_of role f log) fair few
 
-pub once_put : (role : Role) (f : Flow) (log : Log) → IsFairOn role f log → number_on role f log ≤ 1
-    → payload_put role f 1 log ≡ payload_of (puts (whole_of role f log))
-once_put role f log fair few = by (number_on role f log) refl few
-  where
-    by : (n : ℕ) → number_on role f log ≡ n → n ≤ 1 → payload_put role f 1 log ≡ payload_of (puts (whole_of role f log))
-    by zero is less =
-        let none = none_begun (side_of role f) (whole_of role f log) fair is in
-        ap (λ (w : History). payload_of (instance_from (side_of role f) 1 (puts w))) none ∙ empty (side_of role f)
-        ∙ ap (λ (w : History). payload_of (puts w)) (sym none)
-      where
-        empty : (side : Side) → payload_of (instance_from side 1 []) ≡ []
-        empty Asker = refl
-        empty Answerer = refl
-    by (suc zero) is less = ap (λ (k : ℕ). payload_put role f k log) (sym is) ∙ present_put role f log fair (omega (arith, is))
-        ∙ ap (λ (h : History). payload_of (puts h)) (once_history role f log fair few)
-    by (suc (suc n)) is less = absurd (omega (arith, less))
+pub once_put : (role : Role) (f : Flow) (log : Log) → IsFairOn role f log → number_of role f log ≤ 1
+    → payload_put role (first_of f) log ≡ payload_of (puts (whole_of role f log))
+once_put role f log fair few =
+    first_put role f log fair few ∙ ap (λ (h : History). payload_of (puts h)) (once_history role f log fair few)
 
-pub once_got : (role : Role) (f : Flow) (log : Log) → IsFairOn role f log → number_on role f log ≤ 1
-    → payload_got role f 1 log ≡ payload_of (gots (whole_of role f log))
-once_got role f log fair few = by (number_on role f log) refl few
-  where
-    by : (n : ℕ) → number_on role f log ≡ n → n ≤ 1 → payload_got role f 1 log ≡ payload_of (gots (whole_of role f log))
-    by zero is less =
-        let none = none_begun (side_of role f) (whole_of role f log) fair is in
-        ap (λ (w : History). payload_of (instance_from (peer (side_of role f)) 1 (gots w))) none ∙ empty (peer (side_of role f))
-        ∙ ap (λ (w : History). payload_of (gots w)) (sym none)
-      where
-        empty : (side : Side) → payload_of (instance_from side 1 []) ≡ []
-        empty Asker = refl
-        empty Answerer = refl
-    by (suc zero) is less = ap (λ (k : ℕ). payload_got role f k log) (sym is) ∙ present_got role f log fair (omega (arith, is))
-        ∙ ap (λ (h : History). payload_of (gots h)) (once_history role f log fair few)
-    by (suc (suc n)) is less = absurd (omega (arith, less))
+pub once_got : (role : Role) (f : Flow) (log : Log) → IsFairOn role f log → number_of role f log ≤ 1
+    → payload_got role (first_of f) log ≡ payload_of (gots (whole_of role f log))
+once_got role f log fair few =
+    first_got role f log fair few ∙ ap (λ (h : History). payload_of (gots h)) (once_history role f log fair few)
 
 -- A flow on which something was put was used.
 pub put_begun : (role : Role) (f : Flow) (log : Log) (test : Packet → Bool) → IsFairOn role f log → has test (puts (history_of role f log)) ≡ true
-    → 1 ≤ number_on role f log
-put_begun role f log test fair is = by (number_on role f log) refl
+    → 1 ≤ number_of role f log
+put_begun role f log test fair is = by (number_of role f log) refl
   where
-    by : (n : ℕ) → number_on role f log ≡ n → 1 ≤ n
+    by : (n : ℕ) → number_of role f log ≡ n → 1 ≤ n
     by zero none =
         let empty = none_begun (side_of role f) (whole_of role f log) fair none in
         let nothing : history_of role f log ≡ [] = sym (present_is role f log) ∙ ap present empty in

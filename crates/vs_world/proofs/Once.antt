@@ -10,7 +10,7 @@ use Rattle.vs_history.specs.{Again.count, Packets.is_request, Packets.is_rst, de
 use Rattle.vs_history.specs.History.{Answerer, Asker, Got, History, Put, Side, gots, peer, puts}
 use Rattle.vs_limits.specs.declared.TheConstants.{BUF_ALLOC}
 use Rattle.vs_history.proofs.Lists.{count_append}
-use Rattle.vs_page.specs.{Fair.number_of, Fair.number_on, Open.is_dropped}
+use Rattle.vs_page.specs.{Fair.number_of, Open.is_dropped}
 use Rattle.vs_page.specs.Log.{Device, Driver, IsNextPacket, Log, Role, flow_got, flow_put, other_role, side_of, whole_of}
 use Rattle.vs_page.specs.declared.log.LogEntry.TheVariants.{GotPacket, PutPacket}
 use Rattle.vs_page.proofs.{Entries.got_on, Entries.on_flow, Flows.opposite_by, Flows.same_is, Flows.same_self}
@@ -353,8 +353,8 @@ asked_once role first b s once p next asks =
     answerer Asker w is none = absurd cc
 
 -- Each end counts one connection at most.
-pub number_once : (role : Role) (first : ℕ) (b : Both) → IsSound first b → AreOnce b → (f : Flow) → number_on role f (at role b).log ≤ 1
-number_once role first b s once f = by (side_of role f) refl
+pub number_ofce : (role : Role) (first : ℕ) (b : Both) → IsSound first b → AreOnce b → (f : Flow) → number_of role f (at role b).log ≤ 1
+number_ofce role first b s once f = by (side_of role f) refl
   where
     by : (side : Side) → side_of role f ≡ side → (let w = whole_of role f (at role b).log in number_of (side_of role f) (puts w) (gots w)) ≤ 1
     by Asker is = let few = (once role f is).few in

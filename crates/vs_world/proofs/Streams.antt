@@ -1,4 +1,6 @@
 -- What the host's streams took and gave, through the small changes of the device.
+use Rattle.vs_flow.specs.{Connection.first_of, Flow.is_assigned, Flow.same_flow}
+use Rattle.vs_flow.specs.{Table.IsTable, Table.Table, Table.entry_of, Table.with_value, Table.without, declared.flow.Flow.Flow}
 use Rattle.std.proofs.{lemmas.Bool.Decides.nat_tests, lemmas.Grind.common_steps, lemmas.List.append-nil}
 use Rattle.std.proofs.Common.{◌≡◌, ℕ, ◌+◌, ◌-◌, ◌≤◌, ◌==◌, ◌&&◌, nat_le, Bool, true, false, cond, List, [], ◌∷◌, ◌++◌, length, take, drop}
 use Rattle.std.proofs.Common.{Contains, Option, Some, None, refl, sym, ap, subst, ◌∙◌, arith}
@@ -8,8 +10,6 @@ use Rattle.vs_conn.specs.End.{ConnectionEnd, end_after, is_of, is_reset, verdict
 use Rattle.vs_conn.specs.declared.end.Verdict.{Verdict}
 use Rattle.vs_device_parts.specs.{State.DeviceConnection, State.DeviceEntry, Transmitting.heard, Streams.to_write}
 use Rattle.vs_device_parts.specs.Connections.{after_shut, after_written, cut_off}
-use Rattle.vs_flow.specs.{Flow.is_assigned, Flow.same_flow, Table.IsTable, Table.Table, Table.entry_of, Table.with_value, Table.without}
-use Rattle.vs_flow.specs.declared.flow.Flow.{Flow}
 use Rattle.vs_flow.proofs.Entries.{none_found}
 use Rattle.vs_history.specs.{Packets.has, Packets.is_request, Packets.is_response, Packets.is_rw, declared.packet.Packet.Packet}
 use Rattle.vs_history.specs.History.{Answerer, Asker, Got, History, IsFair, Side, gots, puts, MayPut, peer}

@@ -18,10 +18,10 @@ pub record Carried : Type 0 where
 abbrev pub carried_on : Flow → World → Carried
 carried_on f w = record {
   sent = sent_on f w.journal;
-  to_host = payload_got Device f 1 w.rings.device.entries;
+  to_host = payload_got Device (first_of f) w.rings.device.entries;
   read = host_read (first_of f) w.host;
   wrote = host_wrote (first_of f) w.host;
-  to_guest = payload_put Device f 1 w.rings.device.entries;
+  to_guest = payload_put Device (first_of f) w.rings.device.entries;
   received = received_on f w.journal;
 }
 
