@@ -18,7 +18,6 @@ use Rattle.vs_device_parts.specs.{State.DeviceConnection, State.DeviceEntry, Sta
 use Rattle.vs_world.specs.Sides.{Runs}
 use Rattle.vs_world.proofs.{Runs.one_step, Runs.stays, Wire.PutsFit, Wire.RouteFits, Wire.owed_fits, Wire.payload_fits, Wire.reset_fits}
 use Rattle.vs_world.proofs.Entries.{EntryFits, ReplyFits, fits_at, fits_with_value, fits_without, without_changed}
-use Rattle.vs_world.proofs.DriverSide.{ReplyFits}
 use Rattle.vs_device_log.specs.Honest.{HoldsBytes}
 use Rattle.vs_device_log.proofs.{Fits.fits_paid, Fits.fits_sent, Changing.same_replaced}
 use Rattle.vs_conn.specs.declared.end.Owed.TheVariants as owed

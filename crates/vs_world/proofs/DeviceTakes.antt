@@ -6,7 +6,7 @@ use Rattle.vs_conn.specs.End.{ConnectionEnd, answering, asked, end_after, is_of,
 use Rattle.vs_flow.specs.{Flow.host_flow, Flow.is_assigned, Table.entry_of, Table.has_place, Table.with_value, Table.without, Table.refusal}
 use Rattle.vs_flow.specs.declared.flow.Flow.{Flow}
 use Rattle.vs_limits.specs.declared.TheConstants.{ASSIGNED_FIRST, ASSIGNED_LAST, HOST_CID, BUF_ALLOC}
-use Rattle.vs_flow.proofs.Tables.{with_entry_sound, IsAccepted, accepted}
+use Rattle.vs_flow.proofs.Tables.{with_entry_sound, IsAccepted}
 use Rattle.vs_header.specs.{declared.Header.Header, declared.Kind.TheVariants.Stream}
 use Rattle.vs_history.specs.{Packets.is_request, Packets.is_rst, declared.packet.Packet.Packet}
 use Rattle.vs_page.specs.{Held.FitsWire, Log.Log, Log.Device, Log.IsNextPacket, Log.flow_to_host, Log.side_by, Open.is_dropped}
@@ -21,7 +21,6 @@ use Rattle.vs_device_parts.specs.State.{DeviceConnection, DeviceEntry, DeviceSta
 use Rattle.vs_world.proofs.{Entries.ReplyFits, Entries.FlowFits, Entries.fits_with_entry, Runs.one_step, Runs.takes_step, Wire.PutsFit}
 use Rattle.vs_world.proofs.DeviceSide.{DeviceHolds, FreshEntry, IsFresh, Kept, at_part, end_in, held_in, holds_changed, left_holds}
 use Rattle.vs_world.proofs.DeviceSide.{left_part, not_fresh, part_of, seated}
-use Rattle.vs_world.proofs.DriverSide.{ReplyFits}
 use Rattle.vs_device_log.specs.Honest.{HoldsBytes}
 use Rattle.vs_device_log.proofs.Hearing.{still_new}
 use Rattle.vs_flow.proofs.Tables.{accepted as free_flow}

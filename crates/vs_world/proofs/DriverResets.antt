@@ -15,7 +15,7 @@ use Rattle.vs_driver_parts.specs.Connections.{waits_no_more}
 use Rattle.vs_driver_parts.specs.Receiving.{after_reset, all_left, reset_reply, with_reply}
 use Rattle.vs_world.proofs.{Received.same_received, Receives.StillReceives, Receives.leaves, Receives.none_read}
 use Rattle.vs_world.proofs.{Entries.EntryFits, Entries.ReplyFits, Runs.keeps_sound, Runs.one_step, Wire.PutsFit}
-use Rattle.vs_world.proofs.DriverSide.{DriverHolds, Kept, close, end_in, held_in, kept_still, kept_then, seated, ReplyFits}
+use Rattle.vs_world.proofs.DriverSide.{DriverHolds, Kept, close, end_in, held_in, kept_still, kept_then, seated}
 use Rattle.vs_world.specs.Pipes.{none_on, put_on}
 use Rattle.vs_pipes.proofs.Logs.{nothing_more}
 

@@ -31,7 +31,7 @@ use Rattle.vs_world.proofs.{Entries.FlowFits, Entries.ReplyFits, Entries.fits_wi
 use Rattle.vs_world.proofs.{Runs.one_step, Runs.takes_step, Wire.PutsFit, Wire.owed_fits}
 use Rattle.vs_world.proofs.Receives.{after_got_empty, got_empty, hears, leaves, none_read, passes_by}
 use Rattle.vs_world.proofs.DriverSide.{DriverHolds, Holds, Kept, end_in, entry_fits, held_in, holds_changed, left_broken, left_ends}
-use Rattle.vs_world.proofs.DriverSide.{left_holds, seated, ReplyFits}
+use Rattle.vs_world.proofs.DriverSide.{left_holds, seated}
 use Rattle.vs_world.specs.{Pipes.put_on, Sides.driver_ends}
 use Rattle.vs_device_log.specs.Honest.{HoldsBytes}
 use Rattle.vs_device_log.proofs.Fits.{delivered, fits_after}

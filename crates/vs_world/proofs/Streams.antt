@@ -1,5 +1,5 @@
 -- What the host's streams took and gave, through the small changes of the device.
-use Rattle.vs_flow.specs.{Connection.first_of, Flow.is_assigned, Flow.same_flow}
+use Rattle.vs_flow.specs.Flow.{is_assigned, same_flow}
 use Rattle.vs_flow.specs.{Table.IsTable, Table.Table, Table.entry_of, Table.with_value, Table.without, declared.flow.Flow.Flow}
 use Rattle.std.proofs.{lemmas.Bool.Decides.nat_tests, lemmas.Grind.common_steps, lemmas.List.append-nil}
 use Rattle.std.proofs.Common.{◌≡◌, ℕ, ◌+◌, ◌-◌, ◌≤◌, ◌==◌, ◌&&◌, nat_le, Bool, true, false, cond, List, [], ◌∷◌, ◌++◌, length, take, drop}
