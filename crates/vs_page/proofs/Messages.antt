@@ -4,12 +4,12 @@ use Rattle.std.proofs.lemmas.List.{append-nil}
 use Rattle.vs_flow.specs.Flow.{Connection, is_assigned}
 use Rattle.vs_header.specs.declared.Kind.{Kind}
 use Rattle.vs_header.specs.declared.Kind.TheVariants.{Seqpacket, Stream}
-use Rattle.vs_history.specs.Packets.{bytes}
+use Rattle.vs_history.specs.Packets.{bytes, ends_message}
 use Rattle.vs_history.specs.History.{Side, gots, peer, puts}
 use Rattle.vs_history.specs.declared.packet.Packet.{Packet}
 use Rattle.vs_page.specs.Fair.{IsPrefixOf, instance_from}
 use Rattle.vs_page.specs.Log.{HasGotAll, Log, Role, flow_got, other_role, side_of, whole_of}
-use Rattle.vs_page.specs.Messages.{AreFirstOf, MessageEnd, ends_got, ends_message, ends_of, ends_put, ends_record, form, is_nothing, unfinished, whole_by}
+use Rattle.vs_page.specs.Messages.{AreFirstOf, MessageEnd, ends_got, ends_of, ends_put, ends_record, form, is_nothing, unfinished, whole_by}
 use Rattle.vs_page.proofs.Entries.{got_on, on_flow}
 use Rattle.vs_page.proofs.Flows.{opposite_by}
 use Rattle.vs_page.proofs.Payload.{gots-append, instance-append, puts-append}

@@ -2,19 +2,15 @@
 use Rattle.std.specs.Prelude.{◌≡◌, ℕ, ◌+◌, ◌/◌, ◌%◌, ◌^◌, ◌==◌, Bool, true, false, ◌&&◌, not, if◌then◌else◌, List, [], ◌∷◌, ◌++◌, length}
 use Rattle.byteorder.specs.Endian.{little_bytes}
 use Rattle.vs_flow.specs.Flow.{Connection}
-use Rattle.vs_header.specs.Kind.{kind_number}
 use Rattle.vs_header.specs.declared.Kind.{Kind}
 use Rattle.vs_header.specs.declared.Kind.TheVariants.{Seqpacket, Stream}
-use Rattle.vs_header.specs.declared.TheConstants.{END_OF_MESSAGE, END_OF_RECORD}
-use Rattle.vs_history.specs.Packets.{bytes, is_rw}
+use Rattle.vs_header.specs.declared.TheConstants.{END_OF_RECORD}
+use Rattle.vs_history.specs.Packets.{bytes, ends_message}
 use Rattle.vs_history.specs.declared.packet.Packet.{Packet}
 use Rattle.vs_page.specs.Fair.{got_of, payload_of, put_of}
 use Rattle.vs_page.specs.Log.{Log, Role}
 
--- An RW of a seqpacket socket ends a message by one flag, and a record by another beside it.
-abbrev pub ends_message : Packet → Bool
-ends_message p = is_rw p && (p.header.kind == kind_number Seqpacket) && (p.header.flags / END_OF_MESSAGE % 2 == 1)
-
+-- A packet that ends a message ends a record by another flag.
 abbrev pub ends_record : Packet → Bool
 ends_record p = ends_message p && (p.header.flags / END_OF_RECORD % 2 == 1)
 
