@@ -170,7 +170,7 @@ fn nobody_listens(rt: HostRuntime) -> Result<(), Fail> {
 
 /// Listens at a path, and connects to it.
 fn connected<H: HostNet>(host: &mut H, path: &str) -> bool {
-    let flow = Flow { guest: 70, host: 0 };
+    let flow = Flow::to_host(70, 0);
     host.start(path) == Started::Ready
         && host.accept() == Accepted::None
         && host.dial(path, flow) == Dialed::Stream(1)

@@ -38,10 +38,7 @@ fn gives_one<R: DriverRing>(driver: &mut Driver, ring: &mut R) -> bool
         port: LAST_PORT,
         id: 1,
     };
-    let flow = Flow {
-        guest: LAST_PORT,
-        host: 52,
-    };
+    let flow = Flow::to_host(LAST_PORT, 52);
     let refused = answers(driver, ring, ASSIGNED_FIRST, Err(assigned));
     let given = answers(driver, ring, 52, Ok(1));
     let none_left = answers(driver, ring, 52, Err(spent));

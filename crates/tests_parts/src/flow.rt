@@ -2,15 +2,18 @@
 
 use std::alloc::{AllocError, Global};
 use vs_flow::{Flow, FlowTable};
+use vs_limits::HOST_CID;
 
 const FIRST: Flow = Flow {
     guest: 1024,
     host: 52,
+    peer: HOST_CID,
 };
 
 const SECOND: Flow = Flow {
     guest: 1025,
     host: 52,
+    peer: HOST_CID,
 };
 
 // Whether a table of two places is full with two entries, and finds the one that is left.

@@ -1,13 +1,19 @@
 //! Replies that are owed.
 
 use std::alloc::{AllocError, Global};
+use vs_flow::Flow;
+use vs_header::Kind;
 use vs_replies::{Full, Replies, Reply};
 
 // The reply on a flow of the host's port 52.
-fn reply(dst_port: u32) -> Reply {
+fn reply(guest: u32) -> Reply {
     Reply {
-        src_port: 52,
-        dst_port,
+        flow: Flow {
+            guest,
+            host: 52,
+            peer: 2,
+        },
+        kind: Kind::Stream,
     }
 }
 

@@ -3,40 +3,35 @@ use Rattle.std.proofs.Common.{◌≡◌, ℕ, ◌+◌, ◌≤◌, ◌==◌, not,
 use Rattle.std.proofs.Common.{None, IfSome, refl, sym, ap, subst, ◌∙◌, arith}
 use Rattle.std.proofs.lemmas.List.{append-nil}
 use Rattle.vs_contents.specs.CallTree.{Done, Ask, bind}
-use Rattle.vs_conn.specs.{End.owes_of, End.wanting_credit, Headers.owed_header, Headers.payload_header}
-use Rattle.vs_conn.specs.declared.end.Owed.{Owed}
-use Rattle.vs_conn.specs.declared.end.Owed.TheVariants as owed
+use Rattle.vs_conn.specs.{End.owes_of, End.wanting_credit, Headers.owed_header, Headers.payload_header, declared.end.Owed.Owed}
 use Rattle.vs_credit.specs.Credit.{free_of}
 use Rattle.vs_flow.specs.Table.{entry_under}
-use Rattle.vs_header.specs.Packet.{header_bytes}
-use Rattle.vs_header.specs.declared.{Header.Header, TheConstants.HEADER_LEN}
+use Rattle.vs_header.specs.{Packet.header_bytes, declared.Header.Header, declared.TheConstants.HEADER_LEN}
 use Rattle.vs_history.specs.declared.packet.Packet.{Packet}
 use Rattle.vs_outside.specs.declared.host_net.StreamRead.{StreamRead}
-use Rattle.vs_outside.specs.declared.host_net.StreamRead.TheVariants as read
-use Rattle.vs_page.specs.{Fair.IsFairLog, Held.FitsWire, Held.packet_held, Log.Device}
-use Rattle.vs_page.specs.declared.log.LogEntry.TheVariants.{PutPacket}
+use Rattle.vs_page.specs.{Fair.IsFairLog, Held.FitsWire, Held.packet_held, Log.Device, declared.log.LogEntry.TheVariants.PutPacket}
 use Rattle.vs_replies.specs.declared.Reply.{Reply}
-use Rattle.vs_ring_port.specs.{Chains.chains_of, Contents.RingContents, EndLog.EndLog}
-use Rattle.vs_ring_port.specs.declared.device_ring.Chain.{Chain}
+use Rattle.vs_ring_port.specs.{Chains.chains_of, Contents.RingContents, EndLog.EndLog, declared.device_ring.Chain.Chain}
 use Rattle.vs_ring_port.specs.declared.queue.Queue.TheVariants.{Event}
 use Rattle.vs_matching.specs.{Both.IsSound, Both.Pays, Both.Seat, Both.Sends, Heard.route_of}
 use Rattle.vs_matching.specs.Steps.{owed_on, payload_on, reply_on}
 use Rattle.vs_matching.proofs.Both.{step_keeps}
-use Rattle.vs_device_parts.specs.Calls.{CloseStream, Situation, DeviceTree}
+use Rattle.vs_device_parts.specs.{Calls.CloseStream, Calls.Situation, Calls.DeviceTree, Playing.IsAmong, Playing.IsRxChain}
 use Rattle.vs_device_parts.specs.Connections.{after_leaving, cut_off, route_to_guest, stream_closed, with_connection, with_fault}
-use Rattle.vs_device_parts.specs.Playing.{IsAmong, IsRxChain}
 use Rattle.vs_device_parts.specs.Receiving.{Filling, after_paying, may_read, put_packet, put_payload, put_reply_of, reply_header}
 use Rattle.vs_device_parts.specs.Receiving.{read_answered, read_room, read_with_chain, written}
-use Rattle.vs_device_parts.specs.State.{DeviceEntry, DeviceState}
 use Rattle.vs_device_parts.specs.Steps.{filling, puts_event, puts_owed, puts_payload, puts_reply, reads}
+use Rattle.vs_device_parts.specs.State.{DeviceEntry, DeviceState}
 use Rattle.vs_device_laws.specs.Split.{MayPut}
 use Rattle.vs_device_log.proofs.Filling.{can_send, under_there}
-use Rattle.vs_world.specs.{Pages.is_held, Sides.flow_to_guest}
-use Rattle.vs_world.proofs.Chains.{HoldsRx}
-use Rattle.vs_world.proofs.DeviceSide as side
-use Rattle.vs_world.proofs.{DeviceSide.DeviceHolds, DeviceSide.entry_fits, DeviceSide.seated, Fits.holds_header, Fits.holds_payload}
-use Rattle.vs_world.proofs.{Runs.keeps_sound, Wire.PutsFit, Wire.RouteFits, Wire.not_payload, Wire.owed_fits, Wire.payload_fits}
+use Rattle.vs_world.specs.Pages.{is_held}
+use Rattle.vs_world.proofs.{Chains.HoldsRx, DeviceSide.DeviceHolds, DeviceSide.entry_fits, DeviceSide.seated}
+use Rattle.vs_world.proofs.{Fits.holds_header, Fits.holds_payload, Runs.keeps_sound}
+use Rattle.vs_world.proofs.Wire.{PutsFit, RouteFits, not_payload, owed_fits, payload_fits}
 use Rattle.vs_core.proofs.Written.{MayHold, event_may, written_may}
+use Rattle.vs_conn.specs.declared.end.Owed.TheVariants as owed
+use Rattle.vs_outside.specs.declared.host_net.StreamRead.TheVariants as read
+use Rattle.vs_world.proofs.DeviceSide as side
 
 -- The owed event may be put into an event chain that is held.
 pub puts_event_may : (s : DeviceState) (l : EndLog) (c : Situation) → c.ring.log ≡ Some l → (chain : Chain) → chain.queue ≡ Event
@@ -71,10 +66,10 @@ module _ (driver : Seat) (first port : ℕ) (s : DeviceState) (l : EndLog) (soun
 
     -- The oldest reply.
     reply_fits : (reply : Reply) (rest : List Reply) → s.replies ≡ reply ∷ rest
-        → MayHold chain (reply_header reply s) [] (reply_on Device s.cid (flow_to_guest reply)) l
+        → MayHold chain (reply_header reply s) [] (reply_on Device s.cid reply) l
     reply_fits reply rest replies =
         let k = side.replies driver first port s l.entries sound holds puts reply rest replies in
-        alone (reply_header reply s) (reply_on Device s.cid (flow_to_guest reply)) refl k.puts.0 refl
+        alone (reply_header reply s) (reply_on Device s.cid reply) refl k.puts.0 refl
         ((keeps_sound first _ _ k.runs sound).fair Device)
 
     module _ (e : DeviceEntry) (there : Contains s.table.entries e) where
@@ -82,7 +77,7 @@ module _ (driver : Seat) (first port : ℕ) (s : DeviceState) (l : EndLog) (soun
       route : RouteFits (route_of Device s.cid e.flow)
       route =
           let flow = (entry_fits driver first port s l.entries sound holds puts e there).flow in
-          record { src_cid = omega arith; dst_cid = holds.known; src_port = flow.host; dst_port = flow.guest }
+          record { src_cid = flow.peer; dst_cid = holds.known; src_port = flow.host; dst_port = flow.guest }
 
       -- What a connection owes.
       owed_holds : (what : Owed) → owes_of e.value.end ≡ Some what

@@ -3,10 +3,10 @@ use Rattle.std.proofs.Common.{ℕ, ◌-◌, ◌==◌, ◌&&◌, not, nat_lt, nat
 use Rattle.std.proofs.Common.{Ok, Err, arith}
 use Rattle.vs_contents.specs.CallTree.{Done, bind, for_each}
 use Rattle.vs_conn.specs.{Headers.owed_header, Headers.payload_header, declared.end.Owed.Owed, declared.end.Verdict.Verdict}
-use Rattle.vs_conn.specs.End.{owes_of, is_reset, is_stream, verdict_of, wanting_credit}
-use Rattle.vs_flow.specs.{Flow.is_assigned, Table.entry_of, Table.entry_under, Table.has_place, Table.refusal, Table.slots}
+use Rattle.vs_conn.specs.End.{owes_of, is_reset, is_of, verdict_of, wanting_credit}
+use Rattle.vs_flow.specs.{Flow.host_flow, Flow.is_assigned, Table.entry_of, Table.entry_under, Table.has_place, Table.refusal, Table.slots}
 use Rattle.vs_header.specs.{Op.op_number, Packet.header_of, declared.Header.Header, declared.TheConstants.HEADER_LEN}
-use Rattle.vs_header.specs.declared.Op.TheVariants.{Request}
+use Rattle.vs_header.specs.{declared.Op.TheVariants.Request, declared.Kind.TheVariants.Stream}
 use Rattle.vs_outside.specs.{declared.host_net.StreamRead.StreamRead, declared.host_net.StreamWrite.StreamWrite}
 use Rattle.vs_page.specs.{Log.flow_to_host, Log.Device, Open.is_dropped}
 use Rattle.vs_replies.specs.declared.Reply.{Reply}
@@ -22,13 +22,13 @@ use Rattle.vs_device_parts.specs.Steps.{chain_came, filling, puts_event, puts_ow
 use Rattle.vs_device_parts.specs.Steps.{takes_chain, writes, writes_on, writing}
 use Rattle.vs_device_parts.specs.Streams.{Writing, closing, is_written_out, leaving, shut_write, tick_slot, to_write, write_answered}
 use Rattle.vs_device_parts.specs.Streams.{write_pending}
-use Rattle.vs_device_parts.specs.Transmitting.{heard, on_known, on_packet, on_unknown}
 use Rattle.vs_device_parts.specs.Turns.{close_slot, open_of, reset_of}
+use Rattle.vs_device_parts.specs.Transmitting.{heard, on_known, on_packet, on_unknown}
 use Rattle.vs_limits.specs.declared.TheConstants.{DEVICE_REPLIES, HANDSHAKES}
 use Rattle.vs_proxy_parts.specs.Handshakes.{accept_one, byte_read, handshake_on, line_decided, may_open, opening, read_byte, streams_of}
 use Rattle.vs_proxy_parts.specs.Handshakes.{tick_handshake}
-use Rattle.vs_proxy_parts.specs.State.{Handshake, ProxyState, Turning}
 use Rattle.vs_proxy_parts.specs.Turns.{close_handshake, proxy_reset_of, reset_with}
+use Rattle.vs_proxy_parts.specs.State.{Handshake, ProxyState, Turning}
 use Rattle.vs_world.proofs.Holding.{AllReturnSome, bind_some, cond_some, option_some}
 use Rattle.vs_conn.specs.declared.end.Owed.TheVariants as owed
 use Rattle.vs_conn.specs.declared.end.Verdict.TheVariants as verdict
@@ -63,7 +63,7 @@ known_some verdict.Ignore chain h e s = tt
 unknown_some : (h : Header) (s : DeviceState) → AllReturnSome (on_unknown h s)
 unknown_some h s =
     cond_some (is_reset h) _ _ tt
-    (cond_some (is_stream h && (h.op == op_number Request)) _ _
+    (cond_some (is_of Stream h && (h.op == op_number Request)) _ _
     (cond_some (is_assigned h.dst_port) _ _ tt (cond_some (has_place s.table) _ _ (tt, λ answer. tt) tt)) tt)
 
 packet_some : (chain : Chain) (h : Header) (s : DeviceState) → AllReturnSome (on_packet chain h s)
@@ -206,8 +206,8 @@ late_some stream t =
 
 opens_some : (stream port : ℕ) (t : Turning) → AllReturnSome (opening stream port t)
 opens_some stream port t =
-    bind_some (open_of (record { guest = port; host = t.state.next_port }) stream t.state.device) _
-    (option_some (refusal t.state.device.table (record { guest = port; host = t.state.next_port })) _ _ (tt, λ a. tt) (λ fault. tt))
+    bind_some (open_of (host_flow port t.state.next_port) stream t.state.device) _
+    (option_some (refusal t.state.device.table (host_flow port t.state.next_port)) _ _ (tt, λ a. tt) (λ fault. tt))
     (λ r. tt)
 
 decided_some : (stream : ℕ) (a : Step) (t : Turning) → AllReturnSome (line_decided stream a t)

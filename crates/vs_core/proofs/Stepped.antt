@@ -10,8 +10,7 @@ use Rattle.vs_driver_log.specs.Staged.{IsTied}
 use Rattle.vs_driver_parts.specs.{Playing.all_flown, State.DriverState}
 use Rattle.vs_device_laws.specs.Streams.{HasStreams}
 use Rattle.vs_device_parts.specs.{Playing.IsAmong, Playing.IsRxChain, Playing.MayRun, Playing.Runs, Playing.situation, State.DeviceState}
-use Rattle.vs_device_parts.specs.Calls.{Accept, DeviceTree, Situation}
-use Rattle.vs_device_parts.specs.Steps.{returns}
+use Rattle.vs_device_parts.specs.{Calls.Accept, Calls.DeviceTree, Calls.Situation, Steps.returns}
 use Rattle.vs_device_log.proofs.Keeping.{HoldsChain}
 use Rattle.vs_proxy_parts.specs.{State.ProxyState, State.Turning, State.start, State.with_device, Turns.proxy_reset_of}
 use Rattle.vs_proxy_parts.specs.Handshakes.{accept_answered, accept_one, read_byte, streams_of}

@@ -1,11 +1,13 @@
 //! Laws of the world, over every list of events.
 
+ghost use Rattle.vs_flow.specs.Connection.{Connection};
+ghost use Rattle.vs_flow.specs.Connection.{first_of};
 ghost use Rattle.std.specs.Prelude.{◌≡◌, ℕ, ◌≤◌, ◌||◌, false, true, List, [], ◌∷◌, length, All};
 ghost use Rattle.vs_limits.specs.declared.TheConstants.{BUF_ALLOC, FIRST_PORT, ASSIGNED_FIRST};
 ghost use Rattle.vs_conn.specs.End.{ConnectionEnd, is_refused, verdict_of};
 ghost use Rattle.vs_flow.specs.declared.flow.Flow.{Flow};
 ghost use Rattle.vs_history.specs.declared.packet.Packet.{Packet};
-ghost use Rattle.vs_matching.specs.{Both.start, Ends.begun_flows, Ends.flows_of, Ends.is_among, Ends.new_flows, Matches.Matches};
+ghost use Rattle.vs_matching.specs.{Both.start, Ends.begun_flows, Ends.flows_of, Ends.is_among, Ends.new_flows, Ends.replied, Matches.Matches};
 ghost use Rattle.vs_matching.specs.Steps.{HasEnd, is_overrun};
 ghost use Rattle.vs_outside.specs.Host.{HostContents};
 ghost use Rattle.vs_page.specs.Fair.{IsFairLog, IsPrefixOf, payload_got, payload_put};
@@ -26,15 +28,15 @@ pub fn law_of_queues()
         HasGotAll r.driver.entries r.device.entries }
     ensures device_got { (n : ℕ) (host : HostContents) (es : List Event) → let r = (run es (opening n host)).rings in
         HasGotAll r.device.entries r.driver.entries }
-    ensures payload_to_guest { (n : ℕ) (host : HostContents) (es : List Event) (f : Flow) (k : ℕ) → let r = (run es (opening n host)).rings in
-        IsPrefixOf (payload_got Driver f k r.driver.entries) (payload_put Device f k r.device.entries) }
-    ensures payload_to_host { (n : ℕ) (host : HostContents) (es : List Event) (f : Flow) (k : ℕ) → let r = (run es (opening n host)).rings in
-        IsPrefixOf (payload_got Device f k r.device.entries) (payload_put Driver f k r.driver.entries) }
+    ensures payload_to_guest { (n : ℕ) (host : HostContents) (es : List Event) (k : Connection) → let r = (run es (opening n host)).rings in
+        IsPrefixOf (payload_got Driver k r.driver.entries) (payload_put Device k r.device.entries) }
+    ensures payload_to_host { (n : ℕ) (host : HostContents) (es : List Event) (k : Connection) → let r = (run es (opening n host)).rings in
+        IsPrefixOf (payload_got Device k r.device.entries) (payload_put Driver k r.driver.entries) }
 {}
 
-/// Each event is some of the small steps of two ends of many connections, each where it may happen: one that puts or takes a packet is
-/// among them just where the event does. So what holds over every order of these steps holds after any list of events. Packets that the
-/// driver staged count as put.
+/// Each event is some of the small steps of two ends of many connections, each where it may happen, and none that asks for a flow whose port
+/// was given: one that puts or takes a packet is among them just where the event does. So what holds over every order of these steps holds
+/// after any list of events. Packets that the driver staged count as put.
 pub fn law_of_events()
     ensures each { (n : ℕ) (host : HostContents) (es : List Event) (e : Event) → let w = run es (opening n host) in
         Runs (both_of w) (both_of (happens e w)) }
@@ -58,10 +60,10 @@ pub fn law_of_logs()
 /// log is one, none has begun (Virtio 1.2, section 5.10.6.7).
 pub fn law_of_tables()
     ensures driver { (n : ℕ) (host : HostContents) (es : List Event) (f : Flow) → let b = both_of (run es (opening n host)) in
-        is_among f (flows_of b.driver.part.entries) ≡ is_open Driver first_cid f b.driver.log (is_among f b.driver.part.replies) }
+        is_among f (flows_of b.driver.part.entries) ≡ is_open Driver first_cid f b.driver.log (is_among f (replied b.driver.part.replies)) }
     ensures device { (n : ℕ) (host : HostContents) (es : List Event) (f : Flow) → let b = both_of (run es (opening n host)) in
         is_among f (flows_of b.device.part.entries)
-        ≡ (is_open Device first_cid f b.device.log (is_among f b.device.part.replies) || is_among f (new_flows b.device.part.entries)) }
+        ≡ (is_open Device first_cid f b.device.log (is_among f (replied b.device.part.replies)) || is_among f (new_flows b.device.part.entries)) }
     ensures driver_reset { (n : ℕ) (host : HostContents) (es : List Event) (cid : ℕ) (older : Log) → let b = both_of (run es (opening n host)) in
         b.driver.log ≡ Mark cid ∷ older → begun_flows b.driver.part.entries ≡ [] }
     ensures device_reset { (n : ℕ) (host : HostContents) (es : List Event) (cid : ℕ) (older : Log) → let b = both_of (run es (opening n host)) in
@@ -96,9 +98,9 @@ pub fn law_of_credit()
 /// the device got there is a prefix of that.
 pub fn law_of_sending()
     ensures put { (n : ℕ) (host : HostContents) (es : List Event) (f : Flow) → let w = run es (opening n host) in
-        payload_put Driver f 1 (both_of w).driver.log ≡ sent_on f w.journal }
+        payload_put Driver (first_of f) (both_of w).driver.log ≡ sent_on f w.journal }
     ensures got { (n : ℕ) (host : HostContents) (es : List Event) (f : Flow) → let w = run es (opening n host) in
-        IsPrefixOf (payload_got Device f 1 w.rings.device.entries) (sent_on f w.journal) }
+        IsPrefixOf (payload_got Device (first_of f) w.rings.device.entries) (sent_on f w.journal) }
 {}
 
 /// Each call of the guest's, whole, is a list of events, with that reply in the journal: a connect and a send take back the pages that the

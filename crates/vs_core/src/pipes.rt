@@ -17,15 +17,15 @@ ghost use Rattle.vs_world.specs.{Plays.AreRight, Plays.Line, Plays.after, Sides.
 /// there. The unread bytes of a connection that is gone are the next ones.
 pub fn law_of_receiving()
     ensures received { (n : ℕ) (host : HostContents) (es : List Event) (f : Flow) → let w = run es (opening n host) in
-        IsPrefixOf (received_on f w.journal) (payload_got Driver f 1 (both_of w).driver.log) }
+        IsPrefixOf (received_on f w.journal) (payload_got Driver (first_of f) (both_of w).driver.log) }
     ensures unread { (n : ℕ) (host : HostContents) (es : List Event) (e : DriverEntry) → let w = run es (opening n host) in
         Contains w.driver.table.entries e
-        → Drains (receives e.value.end) (received_on e.flow w.journal) e.value.unread (payload_got Driver e.flow 1 (both_of w).driver.log) }
+        → Drains (receives e.value.end) (received_on e.flow w.journal) e.value.unread (payload_got Driver (first_of e.flow) (both_of w).driver.log) }
     ensures gone { (n : ℕ) (host : HostContents) (es : List Event) (g : GoneConnection) → let w = run es (opening n host) in
         Contains w.driver.gone g
-        → IsPrefixOf (received_on g.flow w.journal ++ g.unread) (payload_got Driver g.flow 1 (both_of w).driver.log) }
+        → IsPrefixOf (received_on g.flow w.journal ++ g.unread) (payload_got Driver (first_of g.flow) (both_of w).driver.log) }
     ensures put { (n : ℕ) (host : HostContents) (es : List Event) (f : Flow) → let w = run es (opening n host) in
-        IsPrefixOf (received_on f w.journal) (payload_put Device f 1 (both_of w).device.log) }
+        IsPrefixOf (received_on f w.journal) (payload_put Device (first_of f) (both_of w).device.log) }
 {}
 
 /// The streams of a host that had none at first. After any list of events the payload that the device put on a connection is what it took
@@ -35,9 +35,9 @@ pub fn law_of_receiving()
 /// taken of its stream (Firecracker's vsock documentation).
 pub fn law_of_streams()
     ensures put { (n : ℕ) (host : HostContents) (es : List Event) (f : Flow) → IsFresh host → let w = run es (opening n host) in
-        payload_put Device f 1 (both_of w).device.log ≡ host_wrote (first_of f) w.host }
+        payload_put Device (first_of f) (both_of w).device.log ≡ host_wrote (first_of f) w.host }
     ensures given { (n : ℕ) (host : HostContents) (es : List Event) (f : Flow) → IsFresh host → let w = run es (opening n host) in
-        IsPrefixOf (host_read (first_of f) w.host) (payload_got Device f 1 (both_of w).device.log) }
+        IsPrefixOf (host_read (first_of f) w.host) (payload_got Device (first_of f) (both_of w).device.log) }
     ensures one { (n : ℕ) (host : HostContents) (es : List Event) (f : Flow) (i j : ℕ) (s t : Stream) → IsFresh host
         → let w = run es (opening n host) in
         stream_at i w.host ≡ Some s → stream_at j w.host ≡ Some t → s.label ≡ Some f → t.label ≡ Some f → i ≡ j }
@@ -45,7 +45,7 @@ pub fn law_of_streams()
         Contains w.proxy.device.table.entries e
         → (s : Stream) × (stream_at e.value.stream w.host ≡ Some s) × (s.label ≡ Some e.flow)
         × Drains (gives e.value.end) s.given (e.value.ok_line ++ e.value.pending)
-        (line_for e.flow ++ payload_got Device e.flow 1 (both_of w).device.log) }
+        (line_for e.flow ++ payload_got Device (first_of e.flow) (both_of w).device.log) }
     ensures lines { (n : ℕ) (host : HostContents) (es : List Event) (h : Handshake) → IsFresh host → let w = run es (opening n host) in
         Contains w.proxy.handshakes h
         → (s : Stream) × (stream_at h.stream w.host ≡ Some s) × (s.label ≡ None) × (s.taken ≡ h.line) }

@@ -456,15 +456,15 @@ fn is_rst(what: Owed) -> bool
 
 // The header of an RST that is owed to an unknown flow.
 fn reply_header(cid: u64, reply: Reply) -> Header
-    ensures { result ≡ reset_header (route_to_guest cid (record { guest = reply.dst_port; host = reply.src_port })) }
+    ensures { result ≡ reset_header reply.kind (route_to_guest cid reply.flow) }
 {
     Header {
-        src_cid: HOST_CID,
+        src_cid: reply.flow.peer,
         dst_cid: cid,
-        src_port: reply.src_port,
-        dst_port: reply.dst_port,
+        src_port: reply.flow.host,
+        dst_port: reply.flow.guest,
         len: 0,
-        kind: Kind::Stream.number(),
+        kind: reply.kind.number(),
         op: Op::Rst.number(),
         flags: 0,
         buf_alloc: 0,

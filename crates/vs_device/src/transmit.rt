@@ -285,7 +285,7 @@ impl Device {
         if is_request(header) {
             return self.try_request(host, flow, header);
         }
-        self.owe(Reply::to(header));
+        self.owe(Reply::to(flow, header));
         Verdict::Rst(unknown_why(header))
     }
 
@@ -337,7 +337,7 @@ impl Device {
         ensures refused { (self.new, result) ≡ refused header.now self.old }
         ensures chain { self.new.chain ≡ self.old.chain }
     {
-        self.owe(Reply::to(header));
+        self.owe(Reply::to(flow_to_host(header), header));
         Verdict::Rst(Why::NotLive)
     }
 
@@ -390,6 +390,7 @@ fn flow_to_host(header: &Header) -> Flow
     Flow {
         guest: header.src_port,
         host: header.dst_port,
+        peer: header.dst_cid,
     }
 }
 

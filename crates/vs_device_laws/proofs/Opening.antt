@@ -6,6 +6,7 @@ use Rattle.vs_contents.specs.CallTree.{Done, Ask, bind, for_each}
 use Rattle.vs_flow.specs.{declared.flow.Flow.Flow, declared.table.TableFault.TableFault}
 use Rattle.vs_flow.specs.Table.{Table, IsTable, emptied, entry_under, refusal, slots, with_entry, with_value}
 use Rattle.vs_flow.proofs.Tables.{accepted, with_entry_sound, with_value_sound}
+use Rattle.vs_header.specs.declared.Kind.TheVariants.{Stream}
 use Rattle.vs_limits.specs.declared.TheConstants.{BUF_ALLOC}
 use Rattle.vs_outside.specs.Host.{HostContents, IsOpen, after_close, after_label}
 use Rattle.vs_outside.proofs.Frames.{open-after_label, others-after_label}
@@ -57,12 +58,12 @@ module _ (Can : Call → Situation → Type 0) (reaches : (call : Call) (s : Sit
   -- A CLIENT'S CONNECTION
   label_opens : (flow : Flow) (stream : ℕ) (t : Table DeviceConnection) (h : HostContents) → refusal t flow ≡ None
       → IsFree stream others t h → HasStreams others t h
-      → HasStreams others (with_entry t flow (new_connection (asked BUF_ALLOC) stream true)) (after_label stream flow h)
+      → HasStreams others (with_entry t flow (new_connection (asked Stream BUF_ALLOC) stream true)) (after_label stream flow h)
   label_opens flow stream t h none free has =
-      has_added others t h (after_label stream flow h) flow (new_connection (asked BUF_ALLOC) stream true)
+      has_added others t h (after_label stream flow h) flow (new_connection (asked Stream BUF_ALLOC) stream true)
       (all_stay stream h (after_label stream flow h) (others-after_label stream flow h) (open-after_label stream flow h)) refl
       (open-after_label stream flow h free.is_open) free.unjoined free.no_other
-      (with_entry_sound t flow (new_connection (asked BUF_ALLOC) stream true) has.joins.table (accepted t flow none)) has
+      (with_entry_sound t flow (new_connection (asked Stream BUF_ALLOC) stream true) has.joins.table (accepted t flow none)) has
 
   abbrev pub FindsBoth : ℕ → DeviceState → Situation → Type 0
   FindsBoth stream s c = ForSome c.host (λ h. HasStreams others s.table h × IsFree stream others s.table h)
@@ -83,7 +84,7 @@ module _ (Can : Call → Situation → Type 0) (reaches : (call : Call) (s : Sit
             (IsOpen stream) (λ h both. both.1.is_open) has),
         λ a d allowed. some_after c.host d.host _ (after_label stream flow)
             (λ h. HasStreams others s.table h × IsFree stream others s.table h)
-            (HasStreams others (with_entry s.table flow (new_connection (asked BUF_ALLOC) stream true))) allowed.host
+            (HasStreams others (with_entry s.table flow (new_connection (asked Stream BUF_ALLOC) stream true))) allowed.host
             (λ h any both. label_opens flow stream s.table h is both.1 both.0) has,
       )
 

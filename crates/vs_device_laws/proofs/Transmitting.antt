@@ -1,7 +1,7 @@
 -- Packets of the guest.
 use Rattle.std.proofs.Common.{◌≡◌, ℕ, ◌+◌, ◌-◌, ◌==◌, ◌&&◌, Bool, true, false, cond, List, [], ◌++◌, length, nat_le, nat_lt, if◌then◌else◌}
 use Rattle.std.proofs.Common.{Option, Some, None, IsSomeAnd, refl, sym, ap, ◌∙◌}
-use Rattle.vs_conn.specs.{End.answering, End.end_after, End.is_reset, End.is_stream, End.verdict_of, declared.end.Verdict.Verdict}
+use Rattle.vs_conn.specs.{End.answering, End.end_after, End.is_reset, End.is_of, End.verdict_of, declared.end.Verdict.Verdict}
 use Rattle.vs_contents.specs.CallTree.{Done, Ask, bind}
 use Rattle.vs_flow.specs.{Flow.is_assigned, Table.Table, Table.entry_of, Table.has_place, Table.with_entry, declared.flow.Flow.Flow}
 use Rattle.vs_header.specs.{Op.op_number, Packet.header_of, declared.Header.Header, declared.TheConstants.HEADER_LEN}
@@ -29,6 +29,7 @@ use Rattle.vs_device_laws.proofs.{Tables.entry_by_flow, Tables.has_added, Tables
 use Rattle.vs_flow.proofs.Tables.{accepted, with_entry_sound}
 use Rattle.vs_conn.specs.declared.end.Verdict.TheVariants as verdict
 use Rattle.vs_conn.specs.declared.end.Why.TheVariants as why
+use Rattle.vs_header.specs.declared.Kind.TheVariants as kind
 use Rattle.vs_outside.specs.declared.host_net.Dialed.TheVariants as dialed
 use Rattle.vs_outside.specs.declared.host_net.StreamState.TheVariants as stream
 use Rattle.vs_ring_port.specs.declared.device_ring.Next.TheVariants as next
@@ -60,16 +61,16 @@ dialed_id path id h is = by (fails_now h) (is_listened path h) is
 
 dial_opens : (others : List ℕ) (t : Table DeviceConnection) (flow : Flow) (header : Header) (path : List ℕ) (id : ℕ) (h : HostContents)
     → has_place t ≡ true → entry_of t flow ≡ None → dialed.Stream id ≡ dial_answer path h → HasStreams others t h
-    → HasStreams others (with_entry t flow (new_connection (answering BUF_ALLOC header) id false)) (after_dial flow (dialed.Stream id) h)
+    → HasStreams others (with_entry t flow (new_connection (answering kind.Stream BUF_ALLOC header) id false)) (after_dial flow (dialed.Stream id) h)
 dial_opens others t flow header path id h place none is has =
     let new = open-dialed flow id h (dialed_id path id h is) in
     let k : HostContents = after_dial flow (dialed.Stream id) h in
     let was_none : IsOpen id h → ⊥ = λ still. let s = open_stream id h still in let gone : None ≡ Some s.0 = sym new.0
     ∙ s.1 in absurd (cc) in
-    has_added others t h k flow (new_connection (answering BUF_ALLOC header) id false) (dial_keeps flow (dialed.Stream id) h) refl
+    has_added others t h k flow (new_connection (answering kind.Stream BUF_ALLOC header) id false) (dial_keeps flow (dialed.Stream id) h) refl
     (open_of id k (dialed_stream flow h.prepared) new.1 refl)
     (λ slot at. was_none (has.joins.all_open slot id at)) (λ among. was_none (has.joins.others_open id among))
-    (with_entry_sound t flow (new_connection (answering BUF_ALLOC header) id false) has.joins.table
+    (with_entry_sound t flow (new_connection (answering kind.Stream BUF_ALLOC header) id false) has.joins.table
     (accepted t flow (rw (none, place) refl))) has
 
 module _ (Can : Call → Situation → Type 0) (reaches : (call : Call) (s : Situation) → is_quiet call ≡ true → CanReach call s → Can call s)
@@ -82,7 +83,7 @@ module _ (Can : Call → Situation → Type 0) (reaches : (call : Call) (s : Sit
       → FindsStreams others s c → Allows (Dial (path_of s.base h.dst_port) (flow_to_host h)) answer c d
       → FindsFirst (dial_answered h answer s) d
   keeps_dialed h (dialed.Stream id) s c d place none has allowed =
-      let u : Table DeviceConnection = with_entry s.table (flow_to_host h) (new_connection (answering BUF_ALLOC h) id false) in
+      let u : Table DeviceConnection = with_entry s.table (flow_to_host h) (new_connection (answering kind.Stream BUF_ALLOC h) id false) in
       some_after c.host d.host (IsDialed (path_of s.base h.dst_port) (dialed.Stream id)) (after_dial (flow_to_host h) (dialed.Stream id))
       (HasStreams others s.table) (HasStreams others u)
       allowed.host (λ k is has. dial_opens others s.table (flow_to_host h) h (path_of s.base h.dst_port) id k place none is has) has
@@ -114,10 +115,10 @@ module _ (Can : Call → Situation → Type 0) (reaches : (call : Call) (s : Sit
 
   pub keeps_on_unknown : (h : Header) (s : DeviceState) (c : Situation) → entry_of s.table (flow_to_host h) ≡ None → FindsStreams others s c
       → Keeps Can Allows FindsFirst (on_unknown h s) c
-  keeps_on_unknown h s c none has = by (is_reset h) (is_stream h && (h.op == op_number Request))
+  keeps_on_unknown h s c none has = by (is_reset h) (is_of kind.Stream h && (h.op == op_number Request))
     where
       by : (b d : Bool) → Keeps Can Allows FindsFirst (cond b (Done (s, verdict.Ignore))
-          (cond d (try_request h s) (Done (with_reply (reply_to h) s, verdict.Rst (unknown_why h))))) c
+          (cond d (try_request h s) (Done (with_reply (reply_to (flow_to_host h) h) s, verdict.Rst (unknown_why h))))) c
       by true d = has
       by false true = keeps_try_request h s c none has
       by false false = has

@@ -5,19 +5,17 @@ use Rattle.std.proofs.lemmas.Grind.{common_steps}
 use Rattle.vs_conn.specs.{End.ConnectionEnd, End.wanting_credit, End.with_payload_forwarded, End.with_shut, Follows.Follows}
 use Rattle.vs_conn.proofs.Steps.{abort_follows, ask_follows, forward_follows, shut_follows}
 use Rattle.vs_history.specs.History.{Side, gots, puts, History}
-use Rattle.vs_flow.specs.{Flow.same_flow, Table.Table}
-use Rattle.vs_flow.specs.declared.flow.Flow.{Flow}
+use Rattle.vs_flow.specs.{Flow.same_flow, Table.Table, declared.flow.Flow.Flow}
 use Rattle.vs_page.specs.Log.{Device, Log, side_of}
 use Rattle.vs_matching.specs.{Ends.Ends, Ends.FlowEnd, Ends.ends_of, Ends.is_new, Ends.replaced, Heard.heard_of, Matches.Matches}
 use Rattle.vs_matching.specs.Steps.{with_end}
 use Rattle.vs_matching.proofs.Keeps.{changes}
 use Rattle.vs_replies.specs.declared.Reply.{Reply}
-use Rattle.vs_device_parts.specs.State.{DeviceConnection, DeviceEntry, DeviceState}
+use Rattle.vs_device_parts.specs.{State.DeviceConnection, State.DeviceEntry, State.DeviceState, Streams.to_write}
 use Rattle.vs_device_parts.specs.Connections.{after_shut, after_written, cut_off, with_connection}
-use Rattle.vs_device_parts.specs.Streams.{to_write}
 use Rattle.vs_device_log.specs.Honest.{HoldsBytes, IsFit, IsFitState, ends_of_state, ends_with}
-use Rattle.vs_device_log.proofs.Fits.{fits_forwarded, fits_shut}
 use Rattle.vs_device_log.proofs.Tabling.{IsFitConnection, begun_fits, connection_ends, connection_fits, entry_fits, has_end}
+use Rattle.vs_device_log.proofs.Fits.{fits_forwarded, fits_shut}
 
 -- What a step does that puts and gets nothing.
 pub record ChangesTo (port cid overrun : ℕ) (table : Table DeviceConnection) (replies : List Reply) (cid' overrun' : ℕ)
@@ -74,12 +72,12 @@ module _ (port : ℕ) (s : DeviceState) (fits : IsFitState s) where
     bytes : HoldsBytes e.value.end.credit (length e.value.pending)
     bytes = (entry_fits s fits e there).bytes
 
-    decides : (c : DeviceConnection) → is_new e.value.end ≡ false → IsFitConnection c → FollowsAs e.value.end c.end
+    decides : (c : DeviceConnection) → is_new e.value.end ≡ false → c.end.kind ≡ e.value.end.kind → IsFitConnection c → FollowsAs e.value.end c.end
         → Changes port s (with_connection e.slot c s)
-    decides c begun held follows = record {
+    decides c begun kind held follows = record {
       matches = λ first log m.
           subst (λ (x : Ends). Matches Device first x log) (sym (connection_ends s fits e there port c))
-          (changes Device first e.flow e.value.end c.end (ends_of_state port s) log m (has_end s fits e there port) begun
+          (changes Device first e.flow e.value.end c.end (ends_of_state port s) log m (has_end s fits e there port) begun kind
           (follows (side_of Device e.flow) (heard_of Device first e.flow log)));
       fits = connection_fits s fits e.slot c held;
       overrun_is = refl;
@@ -102,7 +100,7 @@ module _ (port : ℕ) (s : DeviceState) (fits : IsFitState s) where
     pub wants : is_new e.value.end ≡ false → Changes port s (with_connection e.slot (record e.value { end = wanting_credit e.value.end }) s)
     wants begun =
         let c : DeviceConnection = record e.value { end = wanting_credit e.value.end } in
-        decides c begun (begun_fits c (record {
+        decides c begun refl (begun_fits c (record {
           unread = bytes.unread;
           within = bytes.within;
           alloc = bytes.alloc;
@@ -112,7 +110,7 @@ module _ (port : ℕ) (s : DeviceState) (fits : IsFitState s) where
         (λ side h follows. ask_follows _ _ _ e.value.end follows)
 
     pub cuts : is_new e.value.end ≡ false → Changes port s (with_connection e.slot (cut_off e.value) s)
-    cuts begun = decides (cut_off e.value) begun
+    cuts begun = decides (cut_off e.value) begun refl
         (begun_fits (cut_off e.value) (record {
           unread = omega arith;
           within = bytes.within;
@@ -125,7 +123,7 @@ module _ (port : ℕ) (s : DeviceState) (fits : IsFitState s) where
     pub shuts : (bits now : ℕ) → is_new e.value.end ≡ false → Changes port s (with_connection e.slot (after_shut bits now e.value) s)
     shuts bits now begun =
         let c : DeviceConnection = after_shut bits now e.value in
-        decides c begun (begun_fits c (subst (λ (u : ℕ). HoldsBytes c.end.credit u) (kept_by (with_shut e.value.end bits).own.receive)
+        decides c begun refl (begun_fits c (subst (λ (u : ℕ). HoldsBytes c.end.credit u) (kept_by (with_shut e.value.end bits).own.receive)
         (fits_shut e.value.end bits (length e.value.pending) bytes)) (shut_old e.value.end bits begun))
         (λ side h follows. shut_follows _ _ _ e.value.end bits follows)
       where
@@ -144,7 +142,7 @@ module _ (port : ℕ) (s : DeviceState) (fits : IsFitState s) where
         let few : payload ≤ length e.value.pending = omega (arith, less, len, both) in
         let left : length e.value.pending - payload ≡ length (drop payload e.value.pending) = omega
         (arith, length-drop payload e.value.pending) in
-        decides c begun
+        decides c begun refl
         (begun_fits c (subst (λ (u : ℕ). HoldsBytes c.end.credit u) left
         (fits_forwarded e.value.end.credit payload (length e.value.pending) bytes few))
         (forward_old e.value.end payload begun))

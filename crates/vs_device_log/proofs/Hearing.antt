@@ -1,46 +1,41 @@
 -- What the device keeps as it takes a packet, whose page stands in the log: each verdict, and each end of a REQUEST.
+use Rattle.std.proofs.{lemmas.Bool.Decides.nat_tests, lemmas.Grind.common_steps}
 use Rattle.std.proofs.Common.{◌≡◌, ℕ, ◌+◌, ◌≤◌, ◌==◌, ◌&&◌, Bool, true, false, cond, List, [], ◌∷◌, ◌++◌, length, take, drop, Contains}
 use Rattle.std.proofs.Common.{Option, Some, None, refl, sym, ap, subst, ◌∙◌, arith, length-append, length-take}
-use Rattle.std.proofs.lemmas.Bool.Decides.{nat_tests}
-use Rattle.std.proofs.lemmas.Grind.{common_steps}
 use Rattle.vs_contents.specs.CallTree.{Done, Ask, bind}
-use Rattle.vs_conn.specs.End.{ConnectionEnd, after_op, end_after, is_reset, is_stream, verdict_of}
-use Rattle.vs_conn.specs.declared.end.Verdict.{Verdict}
-use Rattle.vs_conn.specs.declared.end.Verdict.TheVariants as verdict
-use Rattle.vs_conn.specs.declared.end.Why.{Why}
-use Rattle.vs_conn.specs.declared.end.Why.TheVariants as why
+use Rattle.vs_conn.specs.{declared.end.Verdict.Verdict, declared.end.Why.Why}
+use Rattle.vs_conn.specs.End.{ConnectionEnd, after_op, end_after, is_reset, is_of, verdict_of}
 use Rattle.vs_flow.specs.{Flow.is_assigned, Flow.same_flow, Table.entry_of, Table.has_place}
 use Rattle.vs_flow.proofs.Entries.{same_flow_true}
-use Rattle.vs_header.specs.Op.{op_named}
-use Rattle.vs_header.specs.declared.{Header.Header, TheConstants.HEADER_LEN}
-use Rattle.vs_history.specs.Packets.{is_request}
-use Rattle.vs_history.specs.declared.packet.Packet.{Packet}
+use Rattle.vs_header.specs.{Op.op_named, declared.Header.Header, declared.TheConstants.HEADER_LEN, declared.Kind.TheVariants.Stream}
+use Rattle.vs_history.specs.{Packets.is_request, declared.packet.Packet.Packet}
 use Rattle.vs_outside.specs.declared.host_net.Dialed.{Dialed}
-use Rattle.vs_outside.specs.declared.host_net.Dialed.TheVariants as dialed
 use Rattle.vs_page.specs.{Fair.IsFairLog, Held.FitsWire, Log.Device, Log.Log, Log.flow_to_host, Open.is_dropped}
 use Rattle.vs_page.specs.declared.log.LogEntry.TheVariants.{GotPacket}
 use Rattle.vs_replies.specs.Owed.{reply_to}
-use Rattle.vs_ring_port.specs.{Chains.Held, Chains.bytes_in, Contents.RingContents, EndLog.EndLog}
-use Rattle.vs_ring_port.specs.declared.device_ring.Chain.{Chain}
+use Rattle.vs_ring_port.specs.{Chains.Held, Chains.bytes_in, Contents.RingContents, EndLog.EndLog, declared.device_ring.Chain.Chain}
 use Rattle.vs_matching.specs.{Ends.is_new, Steps.is_overrun}
 use Rattle.vs_matching.proofs.Slots.{found_by}
-use Rattle.vs_device_parts.specs.Calls.{DeviceTree, Dial}
+use Rattle.vs_device_parts.specs.{Calls.DeviceTree, Calls.Dial, State.DeviceConnection, State.DeviceEntry, State.DeviceState}
 use Rattle.vs_device_parts.specs.Connections.{after_leaving, stream_closed, with_connection, with_dialed, with_fault, with_reply}
-use Rattle.vs_device_parts.specs.{State.DeviceConnection, State.DeviceEntry, State.DeviceState, Streams.leaving}
 use Rattle.vs_device_parts.specs.Transmitting.{dial_answered, heard, on_known, on_packet, on_unknown, refused, try_request, unknown_why}
+use Rattle.vs_device_parts.specs.Streams.{leaving}
 use Rattle.vs_wrap.specs.Wrap.{counted}
 use Rattle.vs_device_log.specs.Honest.{AgreesWith, HoldsBytes, IsLeft, unwritten}
 use Rattle.vs_device_log.proofs.{Fits.delivered, Fits.fewer, Fits.fits_after, Keeping.Keeps, Keeping.keeps_bind}
 use Rattle.vs_device_log.proofs.{Ringing.HoldsFirst, Ringing.Tells, Ringing.moves, Ringing.tells_weaker, Steps.closing_keeps}
-use Rattle.vs_device_log.proofs.Tabling.{IsFitConnection, begun_fits, entry_fits}
 use Rattle.vs_device_log.proofs.Taking.{drops_it, has_its_room, ignores_it, leaves_with, opens, replies_to, stays_with}
+use Rattle.vs_device_log.proofs.Tabling.{IsFitConnection, begun_fits, entry_fits}
+use Rattle.vs_conn.specs.declared.end.Verdict.TheVariants as verdict
+use Rattle.vs_conn.specs.declared.end.Why.TheVariants as why
+use Rattle.vs_outside.specs.declared.host_net.Dialed.TheVariants as dialed
 
--- A packet ends a connection where it is an RST of a stream.
+-- A packet ends a connection where it is an RST of its type.
 abbrev pub peer_resets : Verdict → Header → Bool
 peer_resets verdict.Peer h = is_reset h
 peer_resets _ h = false
 
-pub rst_leaves : (e : ConnectionEnd) (h : Header) → peer_resets (verdict_of e h) h ≡ (is_reset h && is_stream h)
+pub rst_leaves : (e : ConnectionEnd) (h : Header) → peer_resets (verdict_of e h) h ≡ (is_reset h && is_of e.kind h)
 rst_leaves e h = grind (arith, common_steps)
 
 pub still_new : (e : ConnectionEnd) (h : Header) → is_new (end_after e h) ≡ true → is_new e ≡ true
@@ -102,7 +97,7 @@ module _ (first port : ℕ) (s : DeviceState) (chain : Chain) (h : Header) (wire
   module _ (kept : is_dropped Device s.cid h ≡ false) where
     -- A packet of a connection of the table.
     module _ (e : DeviceEntry) (there : Contains s.table.entries e) (flow : flow_to_host h ≡ e.flow) where
-      goes_on : (v : Verdict) → verdict_of e.value.end h ≡ v → peer_resets v h ≡ false → (is_reset h && is_stream h) ≡ false
+      goes_on : (v : Verdict) → verdict_of e.value.end h ≡ v → peer_resets v h ≡ false → (is_reset h && is_of e.value.end.kind h) ≡ false
       goes_on v is other = sym (rst_leaves e.value.end h) ∙ ap (λ (w : Verdict). peer_resets w h) is ∙ other
 
       module _ (payload : List ℕ) (log : Log) (was : IsLeft first port s.cid s.overrun s.table s.replies log)
@@ -229,47 +224,50 @@ module _ (first port : ℕ) (s : DeviceState) (chain : Chain) (h : Header) (wire
     module _ (none : entry_of s.table (flow_to_host h) ≡ None) (c : RingContents) (tells : Tells Came c) where
       replied : (t : DeviceState) (v : Verdict) → (t.failed ≡ s.failed) × (t.chain ≡ s.chain) × (t.cid ≡ s.cid) × (t.overrun ≡ s.overrun)
           × (t.table ≡ s.table)
-          × (t.replies ≡ s.replies ++ reply_to h ∷ []) → Heard (t, v) c
-      replied t v (failed, chain_is, cid, overrun, table, replies) = quiet t v c failed chain_is (λ payload log was fair.
-          rw (cid, overrun, table, replies) (replies_to first port s (packet payload) log was fair wire kept none)) tells
+          × (t.replies ≡ s.replies ++ reply_to (flow_to_host h) h ∷ []) → is_reset h ≡ false → Heard (t, v) c
+      replied t v (failed, chain_is, cid, overrun, table, replies) plain = quiet t v c failed chain_is (λ payload log was fair.
+          rw (cid, overrun, table, replies) (replies_to first port s (packet payload) log was fair wire kept none plain)) tells
 
-      dial_by : (d : Dialed) → is_request (packet []) ≡ true → has_place s.table ≡ true → Heard (dial_answered h d s) c
-      dial_by (dialed.Stream stream) request place =
+      dial_by : (d : Dialed) → is_reset h ≡ false → is_request (packet []) ≡ true → h.kind ≡ 1 → has_place s.table ≡ true → Heard (dial_answered h d s) c
+      dial_by (dialed.Stream stream) plain request kind place =
           quiet (with_dialed (flow_to_host h) h stream s) verdict.Accept c refl refl
-          (λ payload log was fair. opens first port s (packet payload) log was fair wire kept none stream request place) tells
-      dial_by dialed.Refused request place = replied (with_reply (reply_to h) s) (verdict.Rst why.NotLive)
-          (refl, refl, refl, refl, refl, refl)
-      dial_by dialed.Failed request place = replied (with_reply (reply_to h) (with_fault s)) (verdict.Rst why.NotLive)
-          (refl, refl, refl, refl, refl, refl)
+          (λ payload log was fair. opens first port s (packet payload) log was fair wire kept none stream request kind place) tells
+      dial_by dialed.Refused plain request kind place = replied (with_reply (reply_to (flow_to_host h) h) s) (verdict.Rst why.NotLive)
+          (refl, refl, refl, refl, refl, refl) plain
+      dial_by dialed.Failed plain request kind place = replied (with_reply (reply_to (flow_to_host h) h) (with_fault s)) (verdict.Rst why.NotLive)
+          (refl, refl, refl, refl, refl, refl) plain
 
-      refused_keeps : Heard (refused h s) c
-      refused_keeps = replied (with_reply (reply_to h) s) (verdict.Rst why.NotLive) (refl, refl, refl, refl, refl, refl)
+      refused_keeps : is_reset h ≡ false → Heard (refused h s) c
+      refused_keeps plain = replied (with_reply (reply_to (flow_to_host h) h) s) (verdict.Rst why.NotLive) (refl, refl, refl, refl, refl, refl) plain
 
-      tried : (path : List ℕ) (b x : Bool) → has_place s.table ≡ x → is_request (packet []) ≡ true
+      tried : (path : List ℕ) (b x : Bool) → has_place s.table ≡ x → is_reset h ≡ false → is_request (packet []) ≡ true → h.kind ≡ 1
           → Keeps Heard (cond b (Done (refused h s)) (cond x (Ask (Dial path (flow_to_host h)) (λ answer. Done (dial_answered h answer s)))
           (Done (refused h s)))) c
-      tried path true x place request = refused_keeps
-      tried path false true place request = (
+      tried path true x place plain request kind = refused_keeps plain
+      tried path false true place plain request kind = (
         tt,
         λ a d fit same. subst (λ (r : RingContents). Heard (dial_answered h a s) r) (sym same)
-            (dial_by a request place),
+            (dial_by a plain request kind place),
       )
-      tried path false false place request = refused_keeps
+      tried path false false place plain request kind = refused_keeps plain
 
-      asked_by : (is_stream h && (h.op == 1)) ≡ true → is_request (packet []) ≡ true
+      asked_by : (is_of Stream h && (h.op == 1)) ≡ true → is_request (packet []) ≡ true
       asked_by is = grind (arith, nat_tests, common_steps, is)
 
-      requested : (b : Bool) → (is_stream h && (h.op == 1)) ≡ b
-          → Keeps Heard (cond b (try_request h s) (Done (with_reply (reply_to h) s, verdict.Rst (unknown_why h)))) c
-      requested true is = tried _ (is_assigned h.dst_port) (has_place s.table) refl (asked_by is)
-      requested false is = replied (with_reply (reply_to h) s) (verdict.Rst (unknown_why h)) (refl, refl, refl, refl, refl, refl)
+      of_stream : (is_of Stream h && (h.op == 1)) ≡ true → h.kind ≡ 1
+      of_stream is = grind (arith, nat_tests, common_steps, is)
+
+      requested : (b : Bool) → (is_of Stream h && (h.op == 1)) ≡ b → is_reset h ≡ false
+          → Keeps Heard (cond b (try_request h s) (Done (with_reply (reply_to (flow_to_host h) h) s, verdict.Rst (unknown_why h)))) c
+      requested true is plain = tried _ (is_assigned h.dst_port) (has_place s.table) refl plain (asked_by is) (of_stream is)
+      requested false is plain = replied (with_reply (reply_to (flow_to_host h) h) s) (verdict.Rst (unknown_why h)) (refl, refl, refl, refl, refl, refl) plain
 
       unknown : (b : Bool) → is_reset h ≡ b → Keeps Heard (cond b (Done (s, verdict.Ignore))
-          (cond (is_stream h && (h.op == 1)) (try_request h s)
-          (Done (with_reply (reply_to h) s, verdict.Rst (unknown_why h))))) c
+          (cond (is_of Stream h && (h.op == 1)) (try_request h s)
+          (Done (with_reply (reply_to (flow_to_host h) h) s, verdict.Rst (unknown_why h))))) c
       unknown true is = quiet s verdict.Ignore c refl refl (λ payload log was fair. ignores_it first port s
           (packet payload) log was fair wire kept none is) tells
-      unknown false is = requested (is_stream h && (h.op == 1)) refl
+      unknown false is = requested (is_of Stream h && (h.op == 1)) refl is
 
     -- By the entry of its flow.
     by_entry : (o : Option DeviceEntry) → entry_of s.table (flow_to_host h) ≡ o → (c : RingContents) → Tells Came c → Keeps Heard (elim o [

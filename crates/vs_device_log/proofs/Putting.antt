@@ -1,30 +1,25 @@
 -- The steps at which the device puts a packet: payload is sent, what is owed is paid, a reply is given.
-use Rattle.std.proofs.Common.{◌≡◌, ℕ, suc, ◌<◌, ◌^◌, false, List, [], ◌∷◌, ◌++◌, length, map, Contains, Some, refl, sym, ap, subst, ◌∙◌}
-use Rattle.std.proofs.Common.{arith}
+use Rattle.std.proofs.{lemmas.Grind.common_steps, lemmas.List.append-nil}
+use Rattle.std.proofs.Common.{◌≡◌, ℕ, suc, ◌<◌, ◌^◌, false, List, [], ◌∷◌, ◌++◌, length, Contains, Some, refl, sym, ap, subst, ◌∙◌, arith}
 use Rattle.std.specs.List.{All}
-use Rattle.std.proofs.lemmas.{Grind.common_steps, List.append-nil}
+use Rattle.vs_conn.specs.{Headers.owed_flags, Headers.owed_header, Headers.owed_op, Headers.payload_header, declared.end.Owed.Owed}
 use Rattle.vs_conn.specs.End.{CanSend, ConnectionEnd, owes_of, paid_of, with_payload_sent}
-use Rattle.vs_conn.specs.Headers.{owed_flags, owed_header, owed_op, payload_header}
-use Rattle.vs_conn.specs.declared.end.Owed.{Owed}
-use Rattle.vs_conn.specs.declared.end.Owed.TheVariants as owed
-use Rattle.vs_header.specs.Packet.{header_bytes}
-use Rattle.vs_header.specs.declared.Header.{Header}
-use Rattle.vs_header.specs.declared.Op.TheVariants as op
+use Rattle.vs_header.specs.{Packet.header_bytes, declared.Header.Header}
 use Rattle.vs_history.specs.declared.packet.Packet.{Packet}
-use Rattle.vs_flow.specs.declared.flow.Flow.{Flow}
 use Rattle.vs_flow.specs.Table.{Table, with_value, without}
-use Rattle.vs_page.specs.{Fair.IsFairLog, Held.FitsWire, Held.packet_held, Log.Device, Log.Log}
-use Rattle.vs_page.specs.declared.log.LogEntry.TheVariants.{PutPacket}
+use Rattle.vs_page.specs.{Fair.IsFairLog, Held.FitsWire, Held.packet_held, Log.Device, Log.Log, declared.log.LogEntry.TheVariants.PutPacket}
 use Rattle.vs_replies.specs.declared.Reply.{Reply}
 use Rattle.vs_matching.specs.{Ends.Ends, Ends.is_new, Matches.Matches, Steps.owed_on, Steps.paid, Steps.payload_on, Steps.with_end}
 use Rattle.vs_matching.proofs.Keeps.{pays, pays_fair, replies, replies_fair, sends, sends_fair}
 use Rattle.vs_matching.proofs.OwedFlags.{owed_flags_fit}
 use Rattle.vs_device_parts.specs.{Connections.route_to_guest, Connections.with_connection, Receiving.reply_header}
 use Rattle.vs_device_parts.specs.State.{DeviceConnection, DeviceEntry, DeviceState}
-use Rattle.vs_device_log.specs.Honest.{HoldsBytes, IsFit, IsFitEntry, IsFitReply, IsFitState, ends_of_state, ends_with, reply_flow}
+use Rattle.vs_device_log.specs.Honest.{HoldsBytes, IsFit, IsFitEntry, IsFitReply, IsFitState, ends_of_state, ends_with}
 use Rattle.vs_page.proofs.Packets.{held_alone, held_payload}
 use Rattle.vs_device_log.proofs.{Bytes.header_fits, Bytes.reset_fits, Fits.fits_paid, Fits.fits_sent}
 use Rattle.vs_device_log.proofs.Tabling.{begun_fits, connection_ends, connection_fits, entry_fits, has_end, left_ends, left_fits}
+use Rattle.vs_conn.specs.declared.end.Owed.TheVariants as owed
+use Rattle.vs_header.specs.declared.Op.TheVariants as op
 
 -- What a step does that puts the packet with this header and payload.
 pub record PutsTo (port : ℕ) (h : Header) (payload : List ℕ) (cid overrun : ℕ) (table : Table DeviceConnection) (replies : List Reply)
@@ -58,9 +53,7 @@ module _ (port : ℕ) (s : DeviceState) (fits : IsFitState s) where
       → Puts port s (reply_header reply s) [] (record s { replies = rest })
   reply_puts reply rest is =
       let owed : All IsFitReply (reply ∷ rest) = subst (λ (rs : List Reply). All IsFitReply rs) is fits.owed in
-      let f : Flow = reply_flow reply in
-      let wire = reset_fits s.cid f fits.cid_fits (owed 0 reply (omega arith)) in
-      let next : map reply_flow s.replies ≡ f ∷ map reply_flow rest = ap (map reply_flow) is in
+      let wire = reset_fits s.cid reply.flow reply.kind fits.cid_fits (owed 0 reply (omega arith)) in
       record {
         held = held_empty (reply_header reply s) wire refl;
         fits = record {
@@ -71,8 +64,8 @@ module _ (port : ℕ) (s : DeviceState) (fits : IsFitState s) where
               (omega (arith, less));
         };
         overrun_is = refl;
-        matches = λ first log m. replies Device first s.cid f (map reply_flow rest) (ends_of_state port s) log m next;
-        fair = λ first log m fair. replies_fair Device first s.cid f (map reply_flow rest) (ends_of_state port s) log m fair next;
+        matches = λ first log m. replies Device first s.cid reply rest (ends_of_state port s) log m is;
+        fair = λ first log m fair. replies_fair Device first s.cid reply rest (ends_of_state port s) log m fair is;
       }
 
   module _ (e : DeviceEntry) (there : Contains s.table.entries e) where
@@ -109,7 +102,7 @@ module _ (port : ℕ) (s : DeviceState) (fits : IsFitState s) where
       header = owed_header e.value.end (route_to_guest s.cid e.flow) what
 
       wire : FitsWire (owed_header e.value.end (route_to_guest s.cid e.flow) what)
-      wire = header_fits s.cid e.flow e.value.end (owed_op what) (owed_flags what) 0 fits.cid_fits entry.ports
+      wire = header_fits s.cid e.flow e.value.end (owed_op what) (owed_flags e.value.end what) 0 fits.cid_fits entry.ports
           (omega (arith, entry.bytes.alloc))
           entry.bytes.fwd (owed_flags_fit e.value.end what owes) (omega arith)
 

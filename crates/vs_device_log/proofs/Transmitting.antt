@@ -15,7 +15,7 @@ use Rattle.vs_ring_port.specs.{Chains.Held, Contents.RingContents, Contents.Read
 use Rattle.vs_ring_port.specs.{EndLog.EndLog, EndLog.log_returned, EndLog.log_taken, EndLog.with_packet, declared.device_ring.Chain.Chain}
 use Rattle.vs_ring_port.specs.{declared.device_ring.Next.Next, declared.failure.Failure.Failure, declared.queue.Queue.TheVariants.Tx}
 use Rattle.vs_ring_port.specs.DeviceCalls.{DeviceAllows, IsTakenAs}
-use Rattle.vs_matching.proofs.Fair.{own_got_fair}
+use Rattle.vs_matching.proofs.Fair.{got_formed}
 use Rattle.vs_device_parts.specs.{declared.answers.Taken.Taken, Calls.IsFitAnswer, Calls.Ring, Playing.IsRxChain, State.DeviceState}
 use Rattle.vs_device_parts.specs.Transmitting.{failing, on_header, on_next, on_packet, take_tx_of}
 use Rattle.vs_limits.specs.declared.TheConstants.{DEVICE_REPLIES}
@@ -91,7 +91,7 @@ module _ (first port : ℕ) (s : DeviceState) where
         → IsLeft first port s.cid s.overrun s.table s.replies (with_packet (λ p. GotPacket p) o log)
     short_by h page log None held readable head short was fair = was
     short_by h page log (Some p) held readable head short was fair =
-        let formed = (own_got_fair Device p log (fair (flow_got Device p))).0.formed in
+        let formed = got_formed Device p log (fair (flow_got Device p)) in
         let whole = (packet_whole page p held).1 in
         let len : h.len ≡ size p = ap (λ (x : Header). x.len) (head ∙ sym (header_is page p held)) ∙ formed.len in
         absurd (grind (arith, nat_tests, short, whole, len, readable))

@@ -1,11 +1,11 @@
 -- What the owed event, a reset, a tick, a round of writing and an opening keep.
 use Rattle.std.proofs.Common.{◌≡◌, ℕ, ◌+◌, ◌<◌, ◌≤◌, ◌^◌, ◌==◌, ◌&&◌, ◌||◌, Bool, true, false, cond, if◌then◌else◌, List, [], ◌∷◌, ◌++◌}
-use Rattle.std.proofs.Common.{length, take, Contains, Option, Some, None, Result, Ok, Err, refl, sym, ap, subst, arith, IfSome}
-use Rattle.std.proofs.Common.{length-append, length-take}
+use Rattle.std.proofs.Common.{length, take, Contains, Option, Some, None, Result, Ok, Err, refl, sym, ap, subst, ◌∙◌, arith, IfSome, nat_le}
+use Rattle.std.proofs.Common.{◌⊎◌, inl, inr, length-append, length-take}
 use Rattle.std.proofs.lemmas.Bool.Decides.{nat_tests}
 use Rattle.byteorder.specs.Endian.{little_bytes}
 use Rattle.vs_contents.specs.CallTree.{Done, Ask, bind, for_each}
-use Rattle.vs_conn.specs.{End.asked, Follows.IsSpace}
+use Rattle.vs_conn.specs.End.{asked}
 use Rattle.vs_flow.specs.{Table.IsTable, Table.Table, Table.emptied, Table.entry_under, Table.refusal, Table.slots, declared.flow.Flow.Flow}
 use Rattle.vs_flow.specs.declared.table.TableFault.{TableFault}
 use Rattle.vs_flow.proofs.Tables.{accepted}
@@ -17,7 +17,7 @@ use Rattle.vs_ring_port.specs.{EndLog.EndLog, EndLog.log_reset, EndLog.log_retur
 use Rattle.vs_ring_port.specs.{declared.device_ring.Next.Next, declared.failure.Failure.Failure, declared.queue.Queue.Queue}
 use Rattle.vs_ring_port.specs.DeviceCalls.{DeviceAllows, IsTakenAs, IsWholePacket}
 use Rattle.vs_ring_port.specs.declared.queue.Queue.TheVariants.{Event}
-use Rattle.vs_matching.specs.{Ends.Ends, Ends.FlowEnd, Ends.is_new, Matches.Matches, Steps.IsNextFlow}
+use Rattle.vs_matching.specs.{Ends.Ends, Ends.FlowEnd, Ends.is_new, Matches.Matches, Steps.IsNextFlow, Steps.asking}
 use Rattle.vs_matching.proofs.{Keeps.asks, Keeps.makes_reset, Keeps.puts_event, Keeps.start_matches, Slots.added_slot, Slots.found_by}
 use Rattle.vs_device_parts.specs.{Playing.IsRxChain, Receiving.event_on, Receiving.pay_event_of}
 use Rattle.vs_device_parts.specs.{State.DeviceConnection, State.DeviceEntry, State.DeviceState, Transmitting.failing}
@@ -33,6 +33,7 @@ use Rattle.vs_device_log.proofs.{Changing.cuts, Changing.shuts, Changing.unseen,
 use Rattle.vs_device_log.proofs.{Keeping.Keeps, Keeping.keeps_each, Keeping.keeps_then, Steps.changed, Steps.closing_keeps}
 use Rattle.vs_device_log.proofs.{Tabling.IsFitConnection, Tabling.entry_fits, Tabling.opening_fits, Writing.Writes, Writing.write_keeps}
 use Rattle.vs_device_log.proofs.Ringing.{Tells, bytes_held, first_there, moves, returned_entries, returned_held, tells_weaker}
+use Rattle.vs_header.specs.declared.Kind.TheVariants.{Stream}
 use Rattle.vs_outside.specs.declared.host_net.StreamWrite.TheVariants as write
 use Rattle.vs_ring_port.specs.declared.device_ring.Next.TheVariants as next
 
@@ -381,14 +382,17 @@ module _ (first port : ℕ) where
   -- A client's connection.
   module _ (flow : Flow) (stream : ℕ) (s : DeviceState) (next : IsNextFlow Device flow (ends_of_state port s))
       (ports : IsFitFlow flow) where
+    given : (port ≤ flow.host) ⊎ (false ≡ true) → cond (nat_le port flow.host) (flow.host + 1) port ≡ flow.host + 1
+    given (inl later) = grind (arith, nat_tests, later)
+    given (inr kept) = absurd cc
+
     opened_with : refusal s.table flow ≡ None → (hon : Bool) (l : EndLog) → IsToldOf first port s hon l
         → IsToldOf first (flow.host + 1) (with_client flow stream s) hon l
     opened_with free hon l was = (
       was.0,
       λ honest.
           let p = was.1 honest in
-          let c : DeviceConnection = new_connection (asked BUF_ALLOC) stream true in
-          let space : IsSpace BUF_ALLOC = (omega arith, omega arith) in
+          let c : DeviceConnection = new_connection (asked Stream BUF_ALLOC) stream true in
           record {
             fits = opening_fits s p.fits flow c (accepted s.table flow free) ports (record {
               bytes = record { unread = omega arith; within = omega arith; alloc = omega arith; rx = omega arith; fwd = omega arith };
@@ -396,9 +400,10 @@ module _ (first port : ℕ) where
             });
             none_overrun = p.none_overrun;
             matches = subst (λ (part : Ends). Matches Device first part l.entries)
-                (ap (λ (es : List FlowEnd). let part : Ends = record (ends_of_state (flow.host + 1) s) { entries = es } in part)
+                (ap (λ (n : ℕ). let part : Ends = record (asking Device flow Stream (ends_of_state port s)) { next_port = n } in part) (given next.port)
+                ∙ ap (λ (es : List FlowEnd). let part : Ends = record (ends_of_state (flow.host + 1) s) { entries = es } in part)
                 (sym (added_slot end_in s.table flow c)))
-                (asks first flow BUF_ALLOC (ends_of_state port s) l.entries p.matches next space);
+                (asks first flow Stream (ends_of_state port s) l.entries p.matches next);
             fair = p.fair;
           },
     )

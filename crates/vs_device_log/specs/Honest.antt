@@ -1,7 +1,7 @@
 -- Where a ring tells the device's log: the chains that the device holds, and over an honest ring its connections and the log.
 use Rattle.std.specs.{List.All, Option.ForSome}
-use Rattle.std.specs.Prelude.{◌≡◌, ℕ, ◌+◌, ◌<◌, ◌≤◌, ◌^◌, ◌||◌, Bool, false, true, List, [], ◌∷◌, map, length, Option, Some, None, Result}
-use Rattle.std.specs.Prelude.{Ok, Err, IfSome}
+use Rattle.std.specs.Prelude.{◌≡◌, ℕ, ◌+◌, ◌<◌, ◌≤◌, ◌^◌, ◌||◌, Bool, false, true, List, [], ◌∷◌, length, Option, Some, None, Result, Ok}
+use Rattle.std.specs.Prelude.{Err, IfSome}
 use Rattle.vs_conn.specs.{End.ConnectionEnd, declared.end.State.State}
 use Rattle.vs_credit.specs.{Credit.unread_of, declared.Credit.Credit}
 use Rattle.vs_flow.specs.{Table.IsTable, Table.Table, declared.flow.Flow.Flow, declared.table.TableFault.TableFault}
@@ -10,21 +10,19 @@ use Rattle.vs_limits.specs.declared.TheConstants.{BUF_ALLOC}
 use Rattle.vs_page.specs.{Fair.IsFairLog, Log.Device, Log.Log, Log.side_of, Open.is_open}
 use Rattle.vs_replies.specs.declared.Reply.{Reply}
 use Rattle.vs_ring_port.specs.{Chains.Held, Contents.RingContents, EndLog.EndLog, declared.device_ring.Chain.Chain}
-use Rattle.vs_matching.specs.{Ends.Ends, Ends.entries_of, Ends.is_among, Ends.is_new, Ends.new_flows, Matches.Matches}
+use Rattle.vs_matching.specs.{Ends.Ends, Ends.entries_of, Ends.is_among, Ends.is_new, Ends.new_flows, Ends.replied, Matches.Matches}
 use Rattle.vs_device_parts.specs.{Playing.IsRxChain, State.DeviceConnection, State.DeviceEntry, State.DeviceState}
 
--- The flow to which a reply is owed.
-abbrev pub reply_flow : Reply → Flow
-reply_flow r = record { guest = r.dst_port; host = r.src_port }
-
--- The device's connections, the flows to which it owes a reply, the next host port that is assigned, and the guest's CID.
+-- The device's connections, the replies that it owes, the next host port that is assigned, and the guest's CID. It keeps no flow to be used
+-- again.
 abbrev pub end_in : DeviceConnection → ConnectionEnd
 end_in c = c.end
 
 abbrev pub ends_with : ℕ → ℕ → Table DeviceConnection → List Reply → Ends
 ends_with port cid table replies = record {
   entries = entries_of end_in table;
-  replies = map reply_flow replies;
+  replies = replies;
+  clean = [];
   next_port = port;
   cid = cid;
 }
@@ -32,10 +30,11 @@ ends_with port cid table replies = record {
 abbrev pub ends_of_state : ℕ → DeviceState → Ends
 ends_of_state port s = ends_with port s.cid s.table s.replies
 
--- Ports have 32 bits.
+-- Ports have 32 bits, CIDs have 64.
 pub record IsFitFlow (f : Flow) : Type 0 where
   pub guest : f.guest < 2 ^ 32
   pub host : f.host < 2 ^ 32
+  pub peer : f.peer < 2 ^ 64
 
 -- So many bytes are pending at an end with this credit: they were got and aren't forwarded, and no more are unread than there is buffer
 -- space, which is the usual one.
@@ -60,7 +59,7 @@ pub record IsFitEntry (e : DeviceEntry) : Type 0 where
   pub new : is_new e.value.end ≡ true → HasNothing e.value
 
 abbrev pub IsFitReply : Reply → Type 0
-IsFitReply r = IsFitFlow (reply_flow r)
+IsFitReply r = IsFitFlow r.flow
 
 -- The device's numbers fit their widths, and its table is one.
 pub record IsFit (cid : ℕ) (table : Table DeviceConnection) (replies : List Reply) : Type 0 where
@@ -106,7 +105,7 @@ flows_shown (x ∷ xs) = x.0 ∷ flows_shown xs
 abbrev pub IsLeftOpen : ℕ → DeviceState → List (Flow × State) → EndLog → Type 0
 IsLeftOpen first s shown l =
     (f : Flow) → is_among f (flows_shown shown)
-    ≡ (is_open Device first f l.entries (is_among f (map reply_flow s.replies)) || is_among f (new_flows (entries_of end_in s.table)))
+    ≡ (is_open Device first f l.entries (is_among f (replied s.replies)) || is_among f (new_flows (entries_of end_in s.table)))
 
 -- Before the first call nothing was put or got, and no chain is held.
 abbrev pub IsFresh : RingContents → Type 0

@@ -4,8 +4,8 @@ use Rattle.std.specs.Prelude.{Some, None}
 use Rattle.vs_conn.specs.{Shut.is_both, declared.end.State.State, declared.route.Route.Route}
 use Rattle.vs_conn.specs.End.{ConnectionEnd, asked, answering, aborted, with_shut, with_payload_forwarded}
 use Rattle.vs_flow.specs.{Table.with_entry, Table.with_value, Table.without, declared.flow.Flow.Flow}
-use Rattle.vs_header.specs.declared.Header.{Header}
-use Rattle.vs_limits.specs.declared.TheConstants.{BUF_ALLOC, HOST_CID, TIMEOUT}
+use Rattle.vs_header.specs.{declared.Header.Header, declared.Kind.TheVariants.Stream}
+use Rattle.vs_limits.specs.declared.TheConstants.{BUF_ALLOC, TIMEOUT}
 use Rattle.vs_replies.specs.declared.Reply.{Reply}
 use Rattle.vs_wrap.specs.Wrap.{counted}
 use Rattle.vs_device_parts.specs.State.{DeviceConnection, DeviceState}
@@ -23,7 +23,7 @@ with_connection slot c s = record s { table = with_value s.table slot c }
 
 -- The route of packets on a flow to the guest.
 abbrev pub route_to_guest : ℕ → Flow → Route
-route_to_guest cid f = record { src_cid = HOST_CID; dst_cid = cid; src_port = f.host; dst_port = f.guest }
+route_to_guest cid f = record { src_cid = f.peer; dst_cid = cid; src_port = f.host; dst_port = f.guest }
 
 -- A connection comes into the table: one that a client of the host asks for, or one that answers a REQUEST.
 abbrev pub new_connection : ConnectionEnd → ℕ → Bool → DeviceConnection
@@ -43,10 +43,10 @@ abbrev pub with_opened : Flow → DeviceConnection → DeviceState → DeviceSta
 with_opened flow c s = record s { table = with_entry s.table flow c; opened = counted s.opened }
 
 abbrev pub with_client : Flow → ℕ → DeviceState → DeviceState
-with_client flow stream s = with_opened flow (new_connection (asked BUF_ALLOC) stream true) s
+with_client flow stream s = with_opened flow (new_connection (asked Stream BUF_ALLOC) stream true) s
 
 abbrev pub with_dialed : Flow → Header → ℕ → DeviceState → DeviceState
-with_dialed flow h stream s = with_opened flow (new_connection (answering BUF_ALLOC h) stream false) s
+with_dialed flow h stream s = with_opened flow (new_connection (answering Stream BUF_ALLOC h) stream false) s
 
 -- The stream is closed: nothing is left to write.
 abbrev pub stream_closed : DeviceConnection → DeviceConnection

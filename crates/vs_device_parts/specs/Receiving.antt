@@ -11,7 +11,6 @@ use Rattle.vs_conn.specs.End.{ConnectionEnd, owes_of, paid_of, with_payload_sent
 use Rattle.vs_flow.specs.Table.{entry_under, slots}
 use Rattle.vs_outside.specs.declared.host_net.StreamRead.{StreamRead}
 use Rattle.vs_page.specs.declared.page.TheConstants.{PAYLOAD_MAX}
-use Rattle.vs_limits.specs.declared.TheConstants.{HOST_CID}
 use Rattle.vs_replies.specs.declared.Reply.{Reply}
 use Rattle.vs_ring_port.specs.{declared.device_ring.Chain.Chain, declared.device_ring.Next.Next, declared.failure.Failure.Failure}
 use Rattle.vs_ring_port.specs.declared.queue.Queue.TheVariants.{Rx, Event}
@@ -77,7 +76,7 @@ put_packet h f r =
 
 -- The oldest owed reply.
 abbrev pub reply_header : Reply → DeviceState → Header
-reply_header reply s = reset_header (record { src_cid = HOST_CID; dst_cid = s.cid; src_port = reply.src_port; dst_port = reply.dst_port })
+reply_header reply s = reset_header reply.kind (route_to_guest s.cid reply.flow)
 
 abbrev pub put_reply_of : List Reply → Filling → DeviceTree (Filling × Bool)
 put_reply_of [] r = Done (r, false)

@@ -2,8 +2,8 @@
 use Rattle.std.specs.Prelude.{◌+◌, ◌-◌, ◌==◌, ◌&&◌, ◌||◌, not, nat_lt, nat_le, if◌then◌else◌, [], ◌++◌, length, Some, None}
 use Rattle.vs_contents.specs.CallTree.{Done, Ask, bind}
 use Rattle.vs_header.specs.{Op.op_number, Packet.header_of, declared.Header.Header, declared.TheConstants.HEADER_LEN}
-use Rattle.vs_header.specs.declared.Op.TheVariants.{Request}
-use Rattle.vs_conn.specs.{End.verdict_of, End.end_after, End.is_stream, End.is_reset, declared.end.Verdict.Verdict, declared.end.Why.Why}
+use Rattle.vs_header.specs.{declared.Kind.TheVariants.Stream, declared.Op.TheVariants.Request}
+use Rattle.vs_conn.specs.{End.verdict_of, End.end_after, End.is_of, End.is_reset, declared.end.Verdict.Verdict, declared.end.Why.Why}
 use Rattle.vs_flow.specs.{Flow.is_assigned, Table.entry_of, Table.has_place}
 use Rattle.vs_outside.specs.declared.host_net.Dialed.{Dialed}
 use Rattle.vs_page.specs.{Log.flow_to_host, Log.Device, Open.is_dropped}
@@ -45,7 +45,7 @@ on_known _ chain h e s = Done (with_connection e.slot (heard h e.value) s)
 -- A REQUEST of an unknown flow is tried: it gets RST where the device assigns its host port, where the table is full, and where the dial is
 -- refused or fails. Else it opens a connection.
 abbrev pub refused : Header → DeviceState → DeviceState × Verdict
-refused h s = (with_reply (reply_to h) s, verdict.Rst why.NotLive)
+refused h s = (with_reply (reply_to (flow_to_host h) h) s, verdict.Rst why.NotLive)
 
 abbrev pub dial_answered : Header → Dialed → DeviceState → DeviceState × Verdict
 dial_answered h (dialed.Stream stream) s = (with_dialed (flow_to_host h) h stream s, verdict.Accept)
@@ -60,13 +60,13 @@ try_request h s =
 
 -- The verdict on another packet of an unknown flow: RST is ignored, all else gets RST.
 abbrev pub unknown_why : Header → Why
-unknown_why h = if not (is_stream h) then why.BadKind else if (h.op == 0) || nat_lt 7 h.op then why.BadOp else why.NotLive
+unknown_why h = if not (is_of Stream h) then why.BadKind else if (h.op == 0) || nat_lt 7 h.op then why.BadOp else why.NotLive
 
 abbrev pub on_unknown : Header → DeviceState → DeviceTree (DeviceState × Verdict)
 on_unknown h s =
     if is_reset h then Done (s, verdict.Ignore)
-    else if is_stream h && (h.op == op_number Request) then try_request h s
-    else Done (with_reply (reply_to h) s, verdict.Rst (unknown_why h))
+    else if is_of Stream h && (h.op == op_number Request) then try_request h s
+    else Done (with_reply (reply_to (flow_to_host h) h) s, verdict.Rst (unknown_why h))
 
 -- A packet whose source isn't the guest, or whose destination isn't the host, is dropped and counted.
 abbrev pub on_packet : Chain → Header → DeviceState → DeviceTree (DeviceState × Verdict)

@@ -6,6 +6,7 @@ ghost use Rattle.vs_conn.specs.Headers.{owed_header, payload_header};
 ghost use Rattle.vs_conn.specs.declared.end.State.TheVariants.{Live};
 ghost use Rattle.vs_conn.specs.declared.end.Verdict.TheVariants.{Deliver, Accept};
 ghost use Rattle.vs_credit.specs.Credit.{free_of, unread_of};
+ghost use Rattle.vs_header.specs.declared.Kind.TheVariants.{Stream};
 ghost use Rattle.vs_limits.specs.declared.TheConstants.{BUF_ALLOC, WRITE_MAX};
 ghost use Rattle.vs_uds.specs.OkLine.{ok_text};
 ghost use Rattle.vs_device_parts.specs.Connections.{after_shut, after_written, cut_off, is_late, is_timed_out, new_connection};
@@ -15,7 +16,7 @@ ghost use Rattle.vs_device_parts.specs.{Streams.to_write, Streams.is_written_out
 use std::marker::Model;
 use vs_buffer::ByteFifo;
 use vs_conn::{End, EndView, Owed, Route, Shut, State, Verdict};
-use vs_header::Header;
+use vs_header::{Header, Kind};
 use vs_limits::{BUF_ALLOC, TIMEOUT, WRITE_MAX};
 use vs_uds::ok_line;
 
@@ -86,17 +87,22 @@ impl Connection {
     /// A connection that a client of the host asks for, on the client's stream. Its REQUEST is owed.
     pub fn client(stream: u64, buffers: Buffers) -> Connection
         requires spare { IsSpare buffers }
-        ensures { result ≡ new_connection (asked BUF_ALLOC) stream true }
+        ensures { result ≡ new_connection (asked Stream BUF_ALLOC) stream true }
     {
-        Connection::new(End::ask(BUF_ALLOC), stream, true, buffers)
+        Connection::new(End::ask(Kind::Stream, BUF_ALLOC), stream, true, buffers)
     }
 
     /// A connection that the guest's REQUEST opens, on the stream that a dial gave. Its RESPONSE is owed.
     pub fn dialed(stream: u64, request: &Header, buffers: Buffers) -> Connection
         requires spare { IsSpare buffers }
-        ensures { result ≡ new_connection (answering BUF_ALLOC request.now) stream false }
+        ensures { result ≡ new_connection (answering Stream BUF_ALLOC request.now) stream false }
     {
-        Connection::new(End::answer(BUF_ALLOC, request), stream, false, buffers)
+        Connection::new(
+            End::answer(Kind::Stream, BUF_ALLOC, request),
+            stream,
+            false,
+            buffers,
+        )
     }
 
     /// The host's stream that it is joined to.

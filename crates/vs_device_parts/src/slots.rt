@@ -9,6 +9,7 @@ ghost use Rattle.vs_conn.specs.declared.end.Verdict.TheVariants.{Deliver, Accept
 ghost use Rattle.vs_credit.specs.Credit.{free_of, unread_of};
 ghost use Rattle.vs_flow.specs.Table.{IsTable, emptied, entry_of, entry_under, has_place, refusal, slots, value_under, with_entry};
 ghost use Rattle.vs_flow.specs.Table.{with_value, without};
+ghost use Rattle.vs_header.specs.declared.Kind.TheVariants.{Stream};
 ghost use Rattle.vs_limits.specs.declared.TheConstants.{BUF_ALLOC, DEVICE_CONNECTIONS};
 ghost use Rattle.vs_uds.specs.OkLine.{ok_text};
 ghost use Rattle.vs_device_parts.specs.Connections.{after_shut, after_written, cut_off, new_connection, route_to_guest, stream_closed};
@@ -160,7 +161,7 @@ impl Slots {
     pub fn open_client(&mut self, flow: Flow, stream: u64) -> Slot
         requires place { has_place self.old ≡ true }
         requires unknown { entry_of self.old flow ≡ None }
-        ensures opened { self.new ≡ with_entry self.old flow (new_connection (asked BUF_ALLOC) stream true) }
+        ensures opened { self.new ≡ with_entry self.old flow (new_connection (asked Stream BUF_ALLOC) stream true) }
         ensures slot { result ≡ self.old.given }
     {
         let connection = Connection::client(stream, self.spare.take_last());
@@ -171,7 +172,7 @@ impl Slots {
     pub fn open_dialed(&mut self, flow: Flow, request: &Header, stream: u64)
         requires place { has_place self.old ≡ true }
         requires unknown { entry_of self.old flow ≡ None }
-        ensures { self.new ≡ with_entry self.old flow (new_connection (answering BUF_ALLOC request.now) stream false) }
+        ensures { self.new ≡ with_entry self.old flow (new_connection (answering Stream BUF_ALLOC request.now) stream false) }
     {
         let connection = Connection::dialed(stream, request, self.spare.take_last());
         insert(&mut self.table, flow, connection);
@@ -341,7 +342,7 @@ pub fn route_to_guest(cid: u64, flow: Flow) -> Route
     ensures { result ≡ route_to_guest cid flow }
 {
     Route {
-        src_cid: HOST_CID,
+        src_cid: flow.peer,
         dst_cid: cid,
         src_port: flow.host,
         dst_port: flow.guest,

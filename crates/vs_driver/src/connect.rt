@@ -3,6 +3,7 @@
 ghost use Rattle.std.specs.Prelude.{◌≡◌, ℕ, ◌||◌, ◌<◌, Some, None, Err, IfOk, IfErr};
 ghost use Rattle.vs_conn.specs.{End.asked, Headers.owed_header};
 ghost use Rattle.vs_conn.specs.declared.end.Owed.TheVariants as owed;
+ghost use Rattle.vs_header.specs.declared.Kind.TheVariants.{Stream};
 ghost use Rattle.vs_flow.specs.declared.flow.Flow.{Flow};
 ghost use Rattle.vs_limits.specs.declared.TheConstants.{BUF_ALLOC};
 ghost use Rattle.vs_driver_parts.specs.declared.answers.ConnectError.{ConnectError};
@@ -17,7 +18,7 @@ use vs_conn::{End, Owed};
 use vs_driver_parts::answers::{ConnId, ConnectError};
 use vs_driver_parts::route::route_to_host;
 use vs_flow::{Flow, is_assigned};
-use vs_header::Header;
+use vs_header::{Header, Kind};
 use vs_limits::{BUF_ALLOC, DRIVER_CONNECTIONS, LAST_ID, LAST_PORT};
 use vs_ring_port::DriverRing;
 
@@ -103,12 +104,9 @@ impl Driver {
 
     // The header of the REQUEST of the next connection.
     fn request_header(&self, host_port: u32) -> Header
-        ensures { result ≡ owed_header (asked BUF_ALLOC) (route_to_host self.now.cid (next_flow host_port self.now)) owed.Request }
+        ensures { result ≡ owed_header (asked Stream BUF_ALLOC) (route_to_host self.now.cid (next_flow host_port self.now)) owed.Request }
     {
-        let flow = Flow {
-            guest: self.slots.next_port(),
-            host: host_port,
-        };
-        End::ask(BUF_ALLOC).owed_header(route_to_host(self.cid, flow), Owed::Request)
+        let flow = Flow::to_host(self.slots.next_port(), host_port);
+        End::ask(Kind::Stream, BUF_ALLOC).owed_header(route_to_host(self.cid, flow), Owed::Request)
     }
 }

@@ -4,8 +4,8 @@ ghost use Rattle.std.specs.Prelude.{◌≡◌, ◌+◌, ◌-◌, ◌<◌, ◌≤
 ghost use Rattle.vs_conn.specs.End.{owes_of};
 ghost use Rattle.vs_conn.specs.declared.end.Owed.TheVariants as owed;
 ghost use Rattle.vs_flow.specs.Table.{entry_under};
-ghost use Rattle.vs_limits.specs.declared.TheConstants.{HOST_CID, DRIVER_REPLIES};
 ghost use Rattle.vs_ring_port.specs.declared.queue.Queue.TheVariants.{Tx};
+ghost use Rattle.vs_limits.specs.declared.TheConstants.{DRIVER_REPLIES, HOST_CID};
 ghost use Rattle.vs_conn.specs.declared.end.TheConstants.{OWED_MAX};
 ghost use Rattle.vs_driver_parts.specs.State.{DriverEntry};
 ghost use Rattle.vs_driver_parts.specs.Conversations.{put_all, put_replies, put_reply, pay_all, pay_slot, put_owed, after_paying, is_rst};
@@ -14,6 +14,7 @@ ghost use Rattle.vs_driver_parts.specs.Playing.{IsRingOf, IsAtWork, MayPublishAl
 
 use crate::driver::Driver;
 use vs_conn::{OWED_MAX, Owed, Route};
+use vs_driver_parts::route::route_to_host;
 use vs_driver_parts::tally::Tally;
 use vs_flow::Slot;
 use vs_header::{Header, Kind, Op};
@@ -159,13 +160,14 @@ fn is_rst(what: Owed) -> bool
 fn reply_header(cid: u64, reply: Reply) -> Header
     ensures { result ≡ reply_header cid reply }
 {
+    let route = route_to_host(cid, reply.flow);
     Header {
-        src_cid: cid,
-        dst_cid: HOST_CID,
-        src_port: reply.src_port,
-        dst_port: reply.dst_port,
+        src_cid: route.src_cid,
+        dst_cid: route.dst_cid,
+        src_port: route.src_port,
+        dst_port: route.dst_port,
         len: 0,
-        kind: Kind::Stream.number(),
+        kind: reply.kind.number(),
         op: Op::Rst.number(),
         flags: 0,
         buf_alloc: 0,

@@ -5,11 +5,12 @@ ghost use Rattle.vs_conn.specs.End.{is_refused};
 ghost use Rattle.vs_flow.specs.Table.{entry_of, entry_under};
 ghost use Rattle.vs_flow.specs.declared.flow.Flow.{Flow};
 ghost use Rattle.vs_history.specs.declared.packet.Packet.{Packet};
-ghost use Rattle.vs_page.specs.{Held.IsWhole, Log.flow_to_guest};
+ghost use Rattle.vs_page.specs.{Held.IsWhole, Log.flow_to_guest, Open.is_dropped};
+ghost use Rattle.vs_page.specs.Log as log;
 ghost use Rattle.vs_limits.specs.declared.TheConstants.{DRIVER_REPLIES, DRIVER_REPLIES_FULL};
 ghost use Rattle.vs_driver_parts.specs.{State.DriverEntry, Connections.after_leaving, Connections.leaves_list, Connections.with_request};
 ghost use Rattle.vs_driver_parts.specs.Playing.{BringsFit, FitsPorts, SamePages};
-ghost use Rattle.vs_driver_parts.specs.Receiving.{ends_connection, on_page, on_packet, on_known, on_unknown, is_request, may_open};
+ghost use Rattle.vs_driver_parts.specs.Receiving.{ends_connection, on_page, on_packet, on_heard, on_known, on_unknown, is_request, may_open};
 ghost use Rattle.vs_driver_parts.specs.Receiving.{with_reply, after_reset};
 ghost use Rattle.vs_wrap.specs.Wrap.{counted};
 
@@ -17,7 +18,7 @@ use crate::driver::Driver;
 use vs_conn::Verdict;
 use vs_flow::{Flow, Slot, is_assigned};
 use vs_header::{Header, Kind, Op};
-use vs_limits::{DRIVER_CONNECTIONS, LAST_ID};
+use vs_limits::{DRIVER_CONNECTIONS, HOST_CID, LAST_ID};
 use vs_page::{Page, packet_in, packet_payload};
 use vs_replies::Reply;
 
@@ -47,6 +48,20 @@ impl Driver {
         ensures fits { FitsPorts header.now }
     {
         let flow = flow_to_guest(header);
+        if is_dropped(self.cid, header) {
+            return;
+        }
+        self.on_heard(flow, header, payload);
+    }
+
+    // Takes a packet that isn't dropped.
+    fn on_heard(&mut self, flow: Flow, header: &Header, payload: &[u8])
+        requires room { length self.old.replies < DRIVER_REPLIES }
+        requires whole { let p : Packet = record { header = header.now; payload = payload.now } in IsWhole p }
+        requires flow { flow ≡ flow_to_guest header.now }
+        ensures state { let p : Packet = record { header = header.now; payload = payload.now } in self.new ≡ on_heard p self.old }
+        ensures pages { SamePages self.old self.new }
+    {
         match self.slots.by_flow(flow) {
             Some(slot) => self.on_known(slot, header, payload),
             None => self.on_unknown(flow, header),
@@ -114,7 +129,7 @@ impl Driver {
         if is_request(header) && self.may_open(flow) {
             self.open_for_request(flow, header);
         } else {
-            self.owe(Reply::to(header));
+            self.owe(Reply::to(flow, header));
         }
     }
 
@@ -122,7 +137,8 @@ impl Driver {
     fn may_open(&self, flow: Flow) -> bool
         ensures { result ≡ may_open flow self.now }
     {
-        is_assigned(flow.host)
+        flow.is_host()
+            && is_assigned(flow.host)
             && self.listeners.has_place(flow.guest)
             && self.slots.held() < DRIVER_CONNECTIONS
             && self.slots.next_id() <= LAST_ID as u64
@@ -160,12 +176,9 @@ impl Driver {
         let connections = self.slots.open();
         prove!(connections <= DRIVER_CONNECTIONS);
         self.cid = cid;
-        while let Some((slot, flow)) = self.slots.first() {
+        while let Some((slot, reply)) = self.slots.first() {
             self.leave(slot);
-            self.owe(Reply {
-                src_port: flow.guest,
-                dst_port: flow.host,
-            });
+            self.owe(reply);
         }
     }
 }
@@ -175,15 +188,22 @@ fn flow_to_guest(header: &Header) -> Flow
     ensures flow { result ≡ flow_to_guest header.now }
     ensures fits { FitsPorts header.now }
 {
-    flow_between(header.dst_port, header.src_port)
+    flow_between(header.dst_port, header.src_port, header.src_cid)
 }
 
-// The flow between a guest port and a host port.
-fn flow_between(guest: u32, host: u32) -> Flow
-    ensures flow { result ≡ record { guest = guest; host = host } }
-    ensures fits { (guest < 2 ^ 32) × (host < 2 ^ 32) }
+// The flow between a port of the guest and a port of a peer.
+fn flow_between(guest: u32, host: u32, peer: u64) -> Flow
+    ensures flow { result ≡ record { guest = guest; host = host; peer = peer } }
+    ensures fits { (guest < 2 ^ 32) × (host < 2 ^ 32) × (peer < 2 ^ 64) }
 {
-    Flow { guest, host }
+    Flow { guest, host, peer }
+}
+
+// Whether a packet is dropped, where this is the guest's CID: it is another guest's, and for another CID.
+fn is_dropped(cid: u64, header: &Header) -> bool
+    ensures { result ≡ is_dropped log.Driver cid header.now }
+{
+    !(header.src_cid == HOST_CID) && !(header.dst_cid == cid)
 }
 
 // Whether a packet asks for a stream connection.

@@ -23,8 +23,8 @@ use Rattle.vs_driver_log.specs.Honest.{AgreesWith, IsFitState, IsFresh, IsHonest
 use Rattle.vs_driver_log.specs.Staged.{IsLeft}
 use Rattle.vs_driver_log.proofs.{Putting.connect_puts, Putting.send_puts, Polling.not_tx_event, Polling.not_tx_rx, Polling.poll_keeps}
 use Rattle.vs_driver_log.proofs.{Tabling.Stands, Changing.Changes, Changing.stands_known, Changing.wanting_changes}
-use Rattle.vs_driver_log.proofs.Ringing.{IsAtRest, Tells, agrees, at_rest, can_publish_other, can_stage_other, moves, tells_weaker}
 use Rattle.vs_driver_log.proofs.Keeping.{Keeps, keeps_bind, keeps_end, keeps_may, keeps_weaker, keeps_while}
+use Rattle.vs_driver_log.proofs.Ringing.{IsAtRest, Tells, agrees, at_rest, can_publish_other, moves, tells_weaker, can_stage_other}
 use Rattle.vs_driver_log.proofs.Staging.{Rests, SameBut, post_tx, reap_keeps}
 use Rattle.vs_driver_parts.specs.declared.answers.ConnectError.TheVariants as refused
 use Rattle.vs_driver_parts.specs.declared.answers.Sent.TheVariants as sent

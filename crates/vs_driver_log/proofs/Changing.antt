@@ -1,9 +1,7 @@
 -- Calls that make no use of the ring: the driver still matches its log.
 use Rattle.std.proofs.Common.{◌≡◌, ℕ, ◌≤◌, ◌==◌, Bool, true, false, cond, min, List, [], ◌∷◌, length, Option, Some, None, refl, sym, subst}
 use Rattle.std.proofs.Common.{◌∙◌, arith}
-use Rattle.vs_conn.specs.{End.ConnectionEnd, End.wanting_credit, Follows.Follows}
-use Rattle.vs_conn.specs.declared.end.State.{State}
-use Rattle.vs_conn.specs.declared.end.State.TheVariants as state
+use Rattle.vs_conn.specs.{End.ConnectionEnd, End.wanting_credit, Follows.Follows, declared.end.State.State}
 use Rattle.vs_conn.proofs.Steps.{abort_follows, ask_follows, forward_follows, shut_follows}
 use Rattle.vs_credit.specs.Credit.{unread_of}
 use Rattle.vs_history.specs.History.{Side, gots, puts, History}
@@ -16,11 +14,12 @@ use Rattle.vs_driver_parts.specs.Listening.{after_accept, listening, next_accept
 use Rattle.vs_driver_parts.specs.Connections.{after_close, after_closing, after_read, after_recv, after_shut, after_shutdown}
 use Rattle.vs_driver_parts.specs.Connections.{after_unlisten, all_closed, all_gone_after_read, entry_closed, entry_read, gone_closed}
 use Rattle.vs_driver_parts.specs.Connections.{shut_in, waiting_on, with_connection, without_gone}
-use Rattle.vs_driver_parts.specs.Connections as connections
 use Rattle.vs_driver_parts.proofs.Ids.{found_under}
 use Rattle.vs_driver_log.specs.Honest.{IsFitState, ends_of_state}
-use Rattle.vs_driver_log.proofs.Fits.{IsHeldBy, closing_fits, holds_same, read_fits, shut_fits}
 use Rattle.vs_driver_log.proofs.Tabling.{Stands, connection_ends, connection_fits, entry_fits, has_end}
+use Rattle.vs_driver_log.proofs.Fits.{IsHeldBy, closing_fits, holds_same, read_fits, shut_fits}
+use Rattle.vs_conn.specs.declared.end.State.TheVariants as state
+use Rattle.vs_driver_parts.specs.Connections as connections
 
 -- What a step does that puts and gets nothing.
 pub record Changes (s t : DriverState) : Type 0 where
@@ -40,14 +39,14 @@ stands_known id s e fits found =
 abbrev pub FollowsAs : ConnectionEnd → ConnectionEnd → Type 0
 FollowsAs old new = (side : Side) (h : History) → Follows side (puts h) (gots h) old → Follows side (puts h) (gots h) new
 
-connection_changes : (s : DriverState) (e : DriverEntry) (c : DriverConnection) → IsFitState s → Stands s e → IsHeldBy c → FollowsAs e.value.end c.end
-    → Changes s (with_connection e.slot c s)
-connection_changes s e c fits stands held follows = record {
+connection_changes : (s : DriverState) (e : DriverEntry) (c : DriverConnection) → IsFitState s → Stands s e → IsHeldBy c
+    → c.end.kind ≡ e.value.end.kind → FollowsAs e.value.end c.end → Changes s (with_connection e.slot c s)
+connection_changes s e c fits stands held kind follows = record {
   matches = λ first log m.
       let has = has_end s e fits stands in
       let begun = driver_begun first (ends_of_state s) log e.flow e.value.end m.flows has in
       subst (λ (x : Ends). Matches Driver first x log) (sym (connection_ends s e c fits stands))
-      (changes Driver first e.flow e.value.end c.end (ends_of_state s) log m has begun
+      (changes Driver first e.flow e.value.end c.end (ends_of_state s) log m has begun kind
       (follows (side_of Driver e.flow) (heard_of Driver first e.flow log)));
   fits = connection_fits s e.slot c fits held;
   broken = refl;
@@ -57,7 +56,7 @@ connection_changes s e c fits stands held follows = record {
 pub wanting_changes : (s : DriverState) (e : DriverEntry) → IsFitState s → Stands s e → Changes s (connections.with_end (wanting_credit e.value.end) e s)
 wanting_changes s e fits stands =
     let held = (entry_fits s e fits stands).buffer in
-    connection_changes s e (record e.value { end = wanting_credit e.value.end }) fits stands (holds_same e.value.end.credit _ e.value.unread held refl refl refl)
+    connection_changes s e (record e.value { end = wanting_credit e.value.end }) fits stands (holds_same e.value.end.credit _ e.value.unread held refl refl refl) refl
     (λ side h follows. ask_follows _ _ _ e.value.end follows)
 
 -- recv.
@@ -67,7 +66,7 @@ read_changes n s e fits stands =
     let k : ℕ = min n (length e.value.unread) in
     let within : k ≤ length e.value.unread = omega arith in
     let least : k ≤ unread_of e.value.end.credit = omega (arith, within, held.unread) in
-    connection_changes s e (after_read n e.value) fits stands (read_fits n e.value held)
+    connection_changes s e (after_read n e.value) fits stands (read_fits n e.value held) refl
     (λ side h follows. forward_follows _ _ _ e.value.end k follows least)
 
 entry_read_changes : (n : ℕ) (b : Bool) (s : DriverState) (e : DriverEntry) → IsFitState s → Stands s e
@@ -87,7 +86,7 @@ recv_changes id n s fits = by (entry_known_as id s) refl
 shut_changes : (bits : ℕ) (s : DriverState) (e : DriverEntry) → IsFitState s → Stands s e → Changes s (with_connection e.slot (after_shut bits e.value) s)
 shut_changes bits s e fits stands =
     let held = (entry_fits s e fits stands).buffer in
-    connection_changes s e (after_shut bits e.value) fits stands (shut_fits bits e.value held)
+    connection_changes s e (after_shut bits e.value) fits stands (shut_fits bits e.value held) refl
     (λ side h follows. shut_follows _ _ _ e.value.end bits follows)
 
 shut_by : (st : State) (bits : ℕ) (s : DriverState) (e : DriverEntry) → IsFitState s → Stands s e → Changes s (shut_in st bits e s)
@@ -110,10 +109,17 @@ closing_follows state.Asked c = λ side h follows. abort_follows _ _ _ c.end fol
 closing_follows state.Answering c = λ side h follows. abort_follows _ _ _ c.end follows
 closing_follows state.Ended c = λ side h follows. abort_follows _ _ _ c.end follows
 
+closing_kind : (st : State) (c : DriverConnection) → (after_closing st c).end.kind ≡ c.end.kind
+closing_kind state.Live c = refl
+closing_kind state.Asked c = refl
+closing_kind state.Answering c = refl
+closing_kind state.Ended c = refl
+
 entry_closed_changes : (s : DriverState) (e : DriverEntry) → IsFitState s → Stands s e → Changes s (entry_closed e s)
 entry_closed_changes s e fits stands =
     let held = (entry_fits s e fits stands).buffer in
-    let c = connection_changes s e (after_closing e.value.end.state e.value) fits stands (closing_fits e.value.end.state e.value held) (closing_follows e.value.end.state e.value) in
+    let c = connection_changes s e (after_closing e.value.end.state e.value) fits stands (closing_fits e.value.end.state e.value held)
+    (closing_kind e.value.end.state e.value) (closing_follows e.value.end.state e.value) in
     record { matches = c.matches; fits = c.fits; broken = c.broken }
 
 gone_closed_by : (o : Option GoneConnection) (id : ℕ) (s : DriverState) → IsFitState s → Changes s (elim o [

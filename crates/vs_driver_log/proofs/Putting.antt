@@ -1,12 +1,11 @@
 -- The steps at which the driver puts a packet: a connection of its own is asked for, payload is sent, what is owed is paid.
 use Rattle.std.proofs.{lemmas.Bool.Decides.nat_tests, lemmas.List.append-nil, lemmas.List.Elements.All-head, lemmas.List.Elements.All-tail}
 use Rattle.std.proofs.Common.{◌≡◌, ℕ, ◌+◌, ◌<◌, ◌≤◌, ◌^◌, nat_lt, nat_le, Bool, true, false, cond, List, [], ◌∷◌, length, Some, None, refl}
-use Rattle.std.proofs.Common.{sym, ap, subst, ◌∙◌, arith, ◌||◌}
+use Rattle.std.proofs.Common.{inl, sym, ap, subst, ◌∙◌, arith, ◌||◌}
 use Rattle.std.specs.List.{All}
-use Rattle.vs_conn.specs.{Follows.IsSpace, Headers.owed_flags, Headers.owed_header, Headers.owed_op, Headers.payload_header}
+use Rattle.vs_conn.specs.{Headers.owed_flags, Headers.owed_header, Headers.owed_op, Headers.payload_header, declared.end.Owed.Owed}
 use Rattle.vs_conn.specs.End.{CanSend, ConnectionEnd, asked, owes_of, paid_of, with_payload_sent}
-use Rattle.vs_conn.specs.declared.end.Owed.{Owed}
-use Rattle.vs_header.specs.{Packet.header_bytes, declared.Header.Header}
+use Rattle.vs_header.specs.{Packet.header_bytes, declared.Header.Header, declared.Kind.TheVariants.Stream}
 use Rattle.vs_limits.specs.declared.TheConstants.{BUF_ALLOC, LAST_ID, LAST_PORT, DRIVER_CONNECTIONS}
 use Rattle.vs_flow.specs.{Flow.is_assigned, Table.entry_of, declared.flow.Flow.Flow}
 use Rattle.vs_flow.proofs.{Tables.IsAccepted, Entries.find_none}
@@ -15,14 +14,14 @@ use Rattle.vs_page.specs.declared.page.TheConstants.{PAYLOAD_MAX}
 use Rattle.vs_replies.specs.declared.Reply.{Reply}
 use Rattle.vs_matching.specs.{Ends.Ends, Ends.FlowEnd, Matches.Matches}
 use Rattle.vs_matching.specs.Steps.{IsNextFlow, opened, owed_on, paid, payload_on, reply_on, request_on, with_end}
-use Rattle.vs_matching.proofs.{Slots.added_slot, OwedFlags.owed_flags_fit}
+use Rattle.vs_matching.proofs.{Slots.added_slot, Steps.port_next, OwedFlags.owed_flags_fit}
 use Rattle.vs_matching.proofs.Keeps.{opens, opens_fair, pays, pays_fair, replies, replies_fair, sends, sends_fair}
 use Rattle.vs_driver_parts.specs.Connections.{connect_refusal, connected, is_full, next_flow, paid_connection, route_to_host}
 use Rattle.vs_driver_parts.specs.Connections.{with_connection}
 use Rattle.vs_driver_parts.specs.Conversations.{after_paying, owed_bytes, payload_bytes, reply_header, request_bytes}
 use Rattle.vs_driver_parts.specs.declared.answers.ConnectError.{ConnectError}
 use Rattle.vs_driver_parts.specs.State.{DriverConnection, DriverEntry, DriverState, slots_held}
-use Rattle.vs_driver_log.specs.Honest.{IsFitFlow, IsFitReply, IsFitState, end_in, ends_of_state, reply_flow, reply_flows}
+use Rattle.vs_driver_log.specs.Honest.{IsFitFlow, IsFitReply, IsFitState, end_in, ends_of_state}
 use Rattle.vs_page.proofs.Packets.{held_alone, held_payload}
 use Rattle.vs_driver_log.proofs.{Bytes.header_fits, Bytes.reset_fits, Fits.IsHeldBy, Fits.paid_fits, Fits.sent_fits, Ringing.Puts}
 use Rattle.vs_driver_log.proofs.Tabling.{Stands, connection_ends, connection_fits, entry_fits, has_end, leaves, opening_fits}
@@ -67,7 +66,7 @@ owed_puts what e s fits stands owes =
     let end : ConnectionEnd = e.value.end in
     let h : Header = owed_header end (route_to_host s.cid e.flow) what in
     let wire : FitsWire h =
-    header_fits s.cid e.flow end (owed_op what) (owed_flags what) 0 fits.cid_fits entry.ports entry.buffer.alloc entry.buffer.fwd_cnt (owed_flags_fit end what owes) (omega arith) in
+    header_fits s.cid e.flow end (owed_op what) (owed_flags end what) 0 fits.cid_fits entry.ports entry.buffer.alloc entry.buffer.fwd_cnt (owed_flags_fit end what owes) (omega arith) in
     let step = pays_state what e s fits stands entry.buffer in
     let has = has_end s e fits stands in
     record {
@@ -87,11 +86,9 @@ pub reply_puts : (reply : Reply) (rest : List Reply) (s : DriverState) → IsFit
     → Puts s (header_bytes (reply_header s.cid reply)) (record s { replies = rest })
 reply_puts reply rest s fits is =
     let owed : All IsFitReply (reply ∷ rest) = subst (λ (rs : List Reply). All IsFitReply rs) is fits.owed in
-    let f : Flow = reply_flow reply in
-    let wire = reset_fits s.cid f fits.cid_fits (All-head IsFitReply reply rest owed) in
-    let next : reply_flows s.replies ≡ f ∷ reply_flows rest = ap reply_flows is in
+    let wire = reset_fits s.cid reply.kind reply.flow fits.cid_fits (All-head IsFitReply reply rest owed) in
     record {
-      packet = reply_on Driver s.cid f;
+      packet = reply_on Driver s.cid reply;
       held = held_alone (reply_header s.cid reply) wire refl;
       bytes = sym (append-nil (header_bytes (reply_header s.cid reply)));
       fits = record {
@@ -105,8 +102,8 @@ reply_puts reply rest s fits is =
         owed = All-tail IsFitReply reply rest owed;
       };
       broken = refl;
-      matches = λ first log m. replies Driver first s.cid f (reply_flows rest) (ends_of_state s) log m next;
-      fair = λ first log m fair. replies_fair Driver first s.cid f (reply_flows rest) (ends_of_state s) log m fair next;
+      matches = λ first log m. replies Driver first s.cid reply rest (ends_of_state s) log m is;
+      fair = λ first log m fair. replies_fair Driver first s.cid reply rest (ends_of_state s) log m fair is;
     }
 
 -- Payload is sent.
@@ -160,34 +157,34 @@ may_connect host s is =
 new_flow : (host : ℕ) (s : DriverState) → IsFitState s → is_assigned host ≡ false → entry_of s.table (next_flow host s) ≡ None
 new_flow host s fits own = find_none _ s.table.entries (λ i d lt. let below = fits.ports i d lt in grind (arith, nat_tests, below, own))
 
-asked_held : IsHeldBy (record { id = 0; end = paid_of (asked BUF_ALLOC) owed.Request; unread = []; unanswered = false; closed = false })
+asked_held : IsHeldBy (record { id = 0; end = paid_of (asked Stream BUF_ALLOC) owed.Request; unread = []; unanswered = false; closed = false })
 asked_held = record { unread = refl; fits = omega arith; space = omega arith; least = omega arith; alloc = omega arith; rx_cnt = omega arith; fwd_cnt = omega arith }
 
 pub connect_puts : (host : ℕ) (s : DriverState) → host < 2 ^ 32 → IsFitState s → connect_refusal host s ≡ None → Puts s (request_bytes host s) (connected host s)
 connect_puts host s host_fits fits free =
     let may = may_connect host s free in
     let f : Flow = next_flow host s in
-    let ports : IsFitFlow f = record { guest = omega (arith, may.port); host = host_fits } in
-    let h : Header = owed_header (asked BUF_ALLOC) (route_to_host s.cid f) owed.Request in
-    let wire : FitsWire h = header_fits s.cid f (asked BUF_ALLOC) op.Request 0 0 fits.cid_fits ports (omega arith) (omega arith) (omega arith) (omega arith) in
-    let next : IsNextFlow Driver f (ends_of_state s) = record { asker = ap (λ (b : Bool). side_by Driver b) may.own; port = omega arith } in
-    let space : IsSpace BUF_ALLOC = (omega arith, omega arith) in
-    let c : DriverConnection = record { id = s.next_id; end = paid_of (asked BUF_ALLOC) owed.Request; unread = []; unanswered = false; closed = false } in
+    let ports : IsFitFlow f = record { guest = omega (arith, may.port); host = host_fits; peer = omega arith } in
+    let h : Header = owed_header (asked Stream BUF_ALLOC) (route_to_host s.cid f) owed.Request in
+    let wire : FitsWire h = header_fits s.cid f (asked Stream BUF_ALLOC) op.Request 0 0 fits.cid_fits ports (omega arith) (omega arith) (omega arith) (omega arith) in
+    let next : IsNextFlow Driver f (ends_of_state s) = record { asker = ap (λ (b : Bool). side_by Driver b) may.own; port = inl (omega arith) } in
+    let c : DriverConnection = record { id = s.next_id; end = paid_of (asked Stream BUF_ALLOC) owed.Request; unread = []; unanswered = false; closed = false } in
     let accepted : IsAccepted s.table f = record {
       absent = new_flow host s fits may.own;
       place = omega (arith, may.place, fits.places);
       slot = omega (arith, fits.given, may.id);
     } in
-    let ends : ends_of_state (connected host s) ≡ opened Driver f BUF_ALLOC (ends_of_state s) =
-    ap (λ (es : List FlowEnd). let part : Ends = record (ends_of_state s) { entries = es; next_port = s.next_port + 1 } in part) (added_slot end_in s.table f c) in
+    let ends : ends_of_state (connected host s) ≡ opened Driver f Stream (ends_of_state s) =
+    ap (λ (es : List FlowEnd). let part : Ends = record (ends_of_state s) { entries = es; next_port = s.next_port + 1 } in part) (added_slot end_in s.table f c)
+    ∙ ap (λ (n : ℕ). let part : Ends = record (opened Driver f Stream (ends_of_state s)) { next_port = n } in part) (sym (port_next s.next_port)) in
     record {
-      packet = request_on Driver s.cid f BUF_ALLOC;
+      packet = request_on Driver s.cid f Stream;
       held = held_alone h wire refl;
       bytes = sym (append-nil (header_bytes h));
-      fits = opening_fits s f c (s.next_port + 1) fits accepted ports asked_held (omega (arith, may.port)) (omega arith) (λ own. omega arith);
+      fits = opening_fits s f c (s.next_port + 1) fits accepted ports refl asked_held (omega (arith, may.port)) (omega arith) (λ own. omega arith);
       broken = refl;
       matches = λ first log m.
-          subst (λ (part : Ends). Matches Driver first part (PutPacket (request_on Driver s.cid f BUF_ALLOC) ∷ log)) (sym ends)
-          (opens Driver first s.cid f BUF_ALLOC (ends_of_state s) log m next space);
-      fair = λ first log m fair. opens_fair Driver first s.cid f BUF_ALLOC (ends_of_state s) log m fair next space;
+          subst (λ (part : Ends). Matches Driver first part (PutPacket (request_on Driver s.cid f Stream) ∷ log)) (sym ends)
+          (opens Driver first s.cid f Stream (ends_of_state s) log m next);
+      fair = λ first log m fair. opens_fair Driver first s.cid f Stream (ends_of_state s) log m fair next;
     }

@@ -1,19 +1,17 @@
 -- A transport reset: all connections leave, and a reply is owed to each flow.
 use Rattle.std.proofs.Common.{◌≡◌, ℕ, ◌<◌, ◌^◌, ◌==◌, not, List, [], ◌∷◌, ◌++◌, map, Some, refl, sym, ap, subst, ◌∙◌, arith}
-use Rattle.std.specs.{List.filter, List.slice_get, Prelude.Contains}
 use Rattle.std.proofs.lemmas.List.{append-nil, append_assoc}
+use Rattle.std.specs.{List.filter, List.slice_get, Prelude.Contains}
 use Rattle.vs_flow.specs.Table.{IsRising}
-use Rattle.vs_flow.specs.declared.flow.Flow.{Flow}
-use Rattle.vs_page.specs.Log.{Driver, Log}
-use Rattle.vs_page.specs.declared.log.LogEntry.TheVariants.{Mark}
+use Rattle.vs_page.specs.{Log.Driver, Log.Log, declared.log.LogEntry.TheVariants.Mark}
 use Rattle.vs_replies.specs.declared.Reply.{Reply}
-use Rattle.vs_matching.specs.{Ends.Ends, Ends.FlowEnd, Ends.flows_of, Matches.Matches}
+use Rattle.vs_matching.specs.{Ends.Ends, Ends.FlowEnd, Ends.replies_of, Matches.Matches}
 use Rattle.vs_matching.proofs.Keeps.{takes_reset}
 use Rattle.vs_driver_parts.specs.{State.DriverEntry, State.DriverState, Connections.after_leaving}
 use Rattle.vs_driver_parts.specs.Receiving.{after_reset, all_left, reset_reply, with_reply}
 use Rattle.vs_driver_parts.proofs.Packets.{first_under, others_left}
-use Rattle.vs_driver_log.specs.Honest.{IsFitState, ends_of_state, reply_flows}
-use Rattle.vs_driver_log.proofs.{Tabling.Stands, Tabling.entry_fits, Tabling.leaves, Taking.reply_added, Taking.with_reply_fits}
+use Rattle.vs_driver_log.specs.Honest.{IsFitState, ends_of_state}
+use Rattle.vs_driver_log.proofs.{Tabling.Stands, Tabling.entry_fits, Tabling.leaves, Taking.with_reply_fits}
 
 -- An entry as it counts among the ends.
 abbrev out : DriverEntry → FlowEnd
@@ -21,7 +19,7 @@ out e = record { flow = e.flow; end = e.value.end }
 
 -- The driver after these connections left, which were all.
 record AllLeft (es : List DriverEntry) (s t : DriverState) : Type 0 where
-  ends : ends_of_state t ≡ record (ends_of_state s) { entries = []; replies = reply_flows s.replies ++ flows_of (map out es) }
+  ends : ends_of_state t ≡ record (ends_of_state s) { entries = []; replies = s.replies ++ replies_of (map out es) }
   fits : IsFitState t
   broken : t.broken ≡ s.broken
 
@@ -31,7 +29,7 @@ first_contained e es xs is = subst (λ (ys : List DriverEntry). Contains ys e) (
 all_leave : (es : List DriverEntry) (s : DriverState) → s.table.entries ≡ es → IsFitState s → AllLeft es s (all_left es s)
 all_leave [] s is fits = record {
   ends = ap (λ (xs : List DriverEntry). let part : Ends = record (ends_of_state s) { entries = map out xs } in part) is
-      ∙ ap (λ (fs : List Flow). let part : Ends = record (ends_of_state s) { entries = []; replies = fs } in part) (sym (append-nil (reply_flows s.replies)));
+      ∙ ap (λ (rs : List Reply). let part : Ends = record (ends_of_state s) { entries = []; replies = rs } in part) (sym (append-nil s.replies));
   fits = fits;
   broken = refl;
 }
@@ -42,19 +40,18 @@ all_leave (e ∷ es) s is fits =
     let stands : Stands s e = record { under = first_under s.table e fits.sound first; contains = first_contained e es s.table.entries is } in
     let l = leaves s e e.value fits stands in
     let m : DriverState = after_leaving e s in
-    let next : DriverState = with_reply (reset_reply e.flow) m in
-    let next_fits : IsFitState next = with_reply_fits m (reset_reply e.flow) l.fits (entry_fits s e fits stands).ports in
+    let next : DriverState = with_reply (reset_reply e) m in
+    let next_fits : IsFitState next = with_reply_fits m (reset_reply e) l.fits (entry_fits s e fits stands).ports in
     let table_is : m.table.entries ≡ es = ap (λ (xs : List DriverEntry). filter (λ x. not (x.slot == e.slot)) xs) is ∙ others_left e es rising in
     let rest = all_leave es next table_is next_fits in
-    let fs : List Flow = flows_of (map out es) in
-    let replies : reply_flows next.replies ++ fs ≡ reply_flows s.replies ++ (e.flow ∷ fs) =
-    ap (λ (xs : List Flow). xs ++ fs) (reply_added m.replies (reset_reply e.flow) ∙ ap (λ (rs : List Reply). reply_flows rs ++ e.flow ∷ []) l.replies)
-    ∙ append_assoc (reply_flows s.replies) (e.flow ∷ []) fs in
-    let same : record (ends_of_state next) { entries = []; replies = reply_flows next.replies ++ fs }
-    ≡ (let part : Ends = record (ends_of_state s) { entries = []; replies = reply_flows next.replies ++ fs } in part) =
-    ap (λ (x : Ends). let part : Ends = record x { entries = []; replies = reply_flows next.replies ++ fs } in part) l.ends in
+    let rs : List Reply = replies_of (map out es) in
+    let replies : next.replies ++ rs ≡ s.replies ++ (reset_reply e ∷ rs) =
+    ap (λ (xs : List Reply). (xs ++ reset_reply e ∷ []) ++ rs) l.replies ∙ append_assoc s.replies (reset_reply e ∷ []) rs in
+    let same : record (ends_of_state next) { entries = []; replies = next.replies ++ rs }
+    ≡ (let part : Ends = record (ends_of_state s) { entries = []; replies = next.replies ++ rs } in part) =
+    ap (λ (x : Ends). let part : Ends = record x { entries = []; replies = next.replies ++ rs } in part) l.ends in
     record {
-      ends = rest.ends ∙ (same ∙ ap (λ (xs : List Flow). let part : Ends = record (ends_of_state s) { entries = []; replies = xs } in part) replies);
+      ends = rest.ends ∙ (same ∙ ap (λ (xs : List Reply). let part : Ends = record (ends_of_state s) { entries = []; replies = xs } in part) replies);
       fits = rest.fits;
       broken = rest.broken ∙ l.broken;
     }

@@ -2,8 +2,7 @@
 use Rattle.std.proofs.Common.{◌≡◌, ℕ, ◌<◌, ◌^◌, ◌==◌, Bool, true, false, cond, List, length, Option, Some, None, Result, Ok, Err, refl}
 use Rattle.vs_contents.specs.CallTree.{Done, Ask}
 use Rattle.vs_conn.specs.{End.may_send_of, End.wanting_credit, declared.end.Stop.Stop}
-use Rattle.vs_ring_port.specs.{Contents.RingContents, DriverCalls.Reap, EndLog.EndLog, EndLog.log_reaped}
-use Rattle.vs_ring_port.specs.declared.queue.Queue.{Queue}
+use Rattle.vs_ring_port.specs.{Contents.RingContents, DriverCalls.Reap, EndLog.EndLog, EndLog.log_reaped, declared.queue.Queue.Queue}
 use Rattle.vs_ring_port.specs.declared.queue.Queue.TheVariants.{Rx, Tx, Event}
 use Rattle.vs_driver_parts.specs.{declared.answers.ConnectError.ConnectError, declared.answers.Sent.Sent}
 use Rattle.vs_driver_parts.specs.{State.DriverEntry, State.DriverState, State.entry_known_as, Connections.connect_refusal}

@@ -6,10 +6,10 @@ use Rattle.std.specs.Prelude.{Contains}
 use Rattle.vs_flow.specs.Flow.{is_assigned}
 use Rattle.vs_flow.specs.Table.{Table, entry_under, with_entry, without, next_entry, revalued}
 use Rattle.vs_flow.specs.declared.flow.Flow.{Flow}
+use Rattle.vs_limits.specs.declared.TheConstants.{HOST_CID, LAST_PORT}
 use Rattle.vs_flow.proofs.Tables.{revalued-flow, with_value_sound, without_sound, with_entry_sound, IsAccepted}
 use Rattle.vs_matching.specs.{Ends.Ends, Ends.FlowEnd, Ends.entries_of, Steps.HasEnd, Steps.with_end, Steps.left}
 use Rattle.vs_matching.proofs.Slots.{changed_slot, one_end, removed_slot}
-use Rattle.vs_limits.specs.declared.TheConstants.{LAST_PORT}
 use Rattle.vs_driver_parts.specs.State.{DriverConnection, DriverEntry, DriverState, GoneConnection}
 use Rattle.vs_driver_parts.specs.Connections.{with_connection, after_leaving, waits_no_more, is_let_go, gone_as}
 use Rattle.vs_driver_parts.proofs.Ids.{entry_has}
@@ -32,7 +32,7 @@ revalued_fits : (slot : ℕ) (c : DriverConnection) (e : DriverEntry) → IsHeld
 revalued_fits slot c e held fits = by (e.slot == slot)
   where
     by : (b : Bool) → IsFitEntry (cond b (record e { value = c }) e)
-    by true = record { ports = fits.ports; buffer = held }
+    by true = record { ports = fits.ports; peer = fits.peer; buffer = held }
     by false = fits
 
 pub connection_fits : (s : DriverState) (slot : ℕ) (c : DriverConnection) → IsFitState s → IsHeldBy c → IsFitState (with_connection slot c s)
@@ -88,16 +88,16 @@ leaves s e c fits stands =
     }
 
 -- A connection more.
-pub opening_fits : (s : DriverState) (f : Flow) (c : DriverConnection) (port : ℕ) → IsFitState s → IsAccepted s.table f → IsFitFlow f → IsHeldBy c
+pub opening_fits : (s : DriverState) (f : Flow) (c : DriverConnection) (port : ℕ) → IsFitState s → IsAccepted s.table f → IsFitFlow f → f.peer ≡ HOST_CID → IsHeldBy c
     → port ≤ LAST_PORT + 1 → s.next_port ≤ port → (is_assigned f.host ≡ false → f.guest < port)
     → IsFit s.cid port (s.next_id + 1) (with_entry s.table f c) s.replies
-opening_fits s f c port fits free ports held left more below = record {
+opening_fits s f c port fits free ports peer held left more below = record {
   cid_fits = fits.cid_fits;
   port_left = left;
   sound = with_entry_sound s.table f c fits.sound free;
   places = fits.places;
   given = omega (arith, fits.given);
-  entries = All-push IsFitEntry s.table.entries (next_entry s.table f c) fits.entries (record { ports = ports; buffer = held });
+  entries = All-push IsFitEntry s.table.entries (next_entry s.table f c) fits.entries (record { ports = ports; peer = peer; buffer = held });
   ports = All-push (λ e. is_assigned e.flow.host ≡ false → e.flow.guest < port) s.table.entries (next_entry s.table f c)
       (λ k d lt mine. let less = fits.ports k d lt mine in omega (arith, less, more)) below;
   owed = fits.owed;

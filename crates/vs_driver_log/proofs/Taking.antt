@@ -1,34 +1,34 @@
 -- A packet that is got: the driver's connections are those that the log with it leaves, and a fair one is never refused.
-use Rattle.std.proofs.{lemmas.Bool.Decides.nat_tests, lemmas.List.Elements.All-push, lemmas.Bool.and_parts}
-use Rattle.std.proofs.Common.{◌≡◌, ℕ, ◌<◌, ◌≤◌, ◌&&◌, nat_le, Bool, true, false, cond, not, List, [], ◌∷◌, ◌++◌, Option, Some, None, refl}
-use Rattle.std.proofs.Common.{sym, ap, subst, ◌∙◌, arith, rules}
-use Rattle.vs_conn.specs.{Follows.IsSpace, declared.end.Verdict.Verdict}
-use Rattle.vs_conn.specs.End.{ConnectionEnd, answering, end_after, is_refused, is_reset, is_stream, verdict_of}
-use Rattle.vs_header.specs.declared.Header.{Header}
+use Rattle.std.proofs.{lemmas.Bool.Decides.nat_tests, lemmas.List.Elements.All-push, lemmas.Bool.and_parts, lemmas.Bool.eqb-true}
+use Rattle.std.proofs.Common.{◌≡◌, ℕ, ◌<◌, ◌≤◌, ◌&&◌, nat_le, Bool, true, false, cond, not, List, [], ◌∷◌, Option, Some, None, refl, sym}
+use Rattle.std.proofs.Common.{ap, subst, ◌∙◌, arith, rules}
+use Rattle.vs_conn.specs.End.{ConnectionEnd, answering, end_after, is_of, is_refused, is_reset, verdict_of}
+use Rattle.vs_conn.specs.declared.end.Verdict.{Verdict}
+use Rattle.vs_header.specs.{declared.Header.Header, declared.Kind.TheVariants.Stream}
 use Rattle.vs_history.specs.{Packets.is_rst, declared.packet.Packet.Packet}
-use Rattle.vs_limits.specs.declared.TheConstants.{BUF_ALLOC, LAST_ID, DRIVER_CONNECTIONS}
-use Rattle.vs_flow.specs.{Flow.is_assigned, Flow.same_flow, Table.entry_of, declared.flow.Flow.Flow}
+use Rattle.vs_limits.specs.declared.TheConstants.{BUF_ALLOC, HOST_CID, LAST_ID, DRIVER_CONNECTIONS}
+use Rattle.vs_flow.specs.{Flow.is_assigned, Flow.is_host, Flow.same_flow, Table.entry_of, declared.flow.Flow.Flow}
 use Rattle.vs_flow.proofs.Tables.{IsAccepted}
-use Rattle.vs_page.specs.{Fair.IsFairLog, Held.IsWhole, Log.Driver, Log.Log, Log.flow_got, Log.flow_to_guest, Log.side_of}
+use Rattle.vs_page.specs.{Fair.IsFairLog, Held.IsWhole, Log.Driver, Log.Log, Log.flow_got, Log.flow_to_guest, Log.side_of, Open.is_dropped}
 use Rattle.vs_page.specs.declared.log.LogEntry.TheVariants.{GotPacket}
 use Rattle.vs_page.proofs.Flows.{same_is}
 use Rattle.vs_replies.specs.{Owed.reply_to, declared.Reply.Reply}
 use Rattle.vs_matching.specs.{Ends.Ends, Ends.FlowEnd, Heard.IsInOrder, Heard.heard_of, Matches.Matches}
-use Rattle.vs_matching.specs.Steps.{HasEnd, HasNone, accepted, is_message, left, taken, with_end}
-use Rattle.vs_matching.proofs.Keeps.{accepts, ignores, refuses, takes}
+use Rattle.vs_matching.specs.Steps.{HasEnd, HasNone, accepted, forgotten, is_kept, is_message, left, taken, with_clean, with_end}
+use Rattle.vs_matching.proofs.Keeps.{accepts, drops, forgets, ignores, refuses, takes}
 use Rattle.vs_matching.proofs.Fair.{got_in_order, got_is_taken, got_not_refused, heard_all}
 use Rattle.vs_matching.proofs.Slots.{added_slot, found_by, no_entry}
 use Rattle.vs_driver_parts.specs.{Playing.FitsPorts, State.DriverConnection, State.DriverEntry, State.DriverState, State.slots_held}
 use Rattle.vs_driver_parts.specs.Connections.{after_leaving, is_full, with_connection, with_request}
-use Rattle.vs_driver_parts.specs.Receiving.{after_packet, after_verdict, is_request, may_open, on_known, on_packet, on_unknown, with_reply}
+use Rattle.vs_driver_parts.specs.Receiving.{after_packet, after_verdict, is_request, may_open, on_heard, on_known, on_packet, on_unknown}
+use Rattle.vs_driver_parts.specs.Receiving.{with_reply}
 use Rattle.vs_driver_parts.specs.Listening.{has_place}
 use Rattle.vs_driver_parts.proofs.{Ids.found_under, Packets.packet_known, Packets.packet_unknown}
-use Rattle.vs_driver_log.specs.Honest.{IsFitFlow, IsFitReply, IsFitState, end_in, ends_of_state, reply_flow, reply_flows}
+use Rattle.vs_driver_log.specs.Honest.{IsFitFlow, IsFitReply, IsFitState, end_in, ends_of_state}
 use Rattle.vs_driver_log.proofs.Tabling.{Stands, connection_ends, connection_fits, entry_fits, has_end, leaves, opening_fits}
 use Rattle.vs_driver_log.proofs.Fits.{IsHeldBy, packet_fits}
 use Rattle.vs_conn.specs.declared.end.Verdict.TheVariants as verdict
 use Rattle.vs_history.specs.Packets as packets
-use Rattle.vs_matching.specs.Steps as steps
 
 -- The driver t after it got a packet, whose log was this.
 pub record Gets (first : ℕ) (p : Packet) (s : DriverState) (log : Log) (t : DriverState) : Type 0 where
@@ -71,38 +71,44 @@ module _ (p : Packet) (e : DriverEntry) (s : DriverState) (fits : IsFitState s) 
       let held_after : IsHeldBy (after_packet verdict.Ignore p e.value) = subst (λ (w : Verdict). IsHeldBy (after_packet w p e.value)) is (packet_fits p e.value whole held) in
       let l = stays (after_packet verdict.Ignore p e.value) refl held_after in (l.0, l.1, refl)
 
-  -- A connection leaves at an RST of a stream, exactly.
-  leaves_by : (v : Verdict) → (is_message v && is_reset p.header) ≡ (is_rst p && is_stream p.header)
+  -- A connection leaves at an RST of its type, exactly; and the driver keeps no flow.
+  leaves_by : (v : Verdict) → (is_message v && is_reset p.header) ≡ (is_rst p && is_of e.value.end.kind p.header)
       → cond (is_message v && is_reset p.header) (left e.flow (ends_of_state s)) (with_end e.flow (end_after e.value.end p.header) (ends_of_state s))
-      ≡ taken e.flow e.value.end p (ends_of_state s)
-  leaves_by v same = ap (λ (b : Bool). cond b (left e.flow (ends_of_state s)) (with_end e.flow (end_after e.value.end p.header) (ends_of_state s))) same
+      ≡ forgotten (taken Driver e.flow e.value.end p (ends_of_state s))
+  leaves_by v same =
+      ap (λ (b : Bool). cond b (left e.flow (ends_of_state s)) (with_end e.flow (end_after e.value.end p.header) (ends_of_state s))) same
+      ∙ kept_none (is_rst p && is_of e.value.end.kind p.header) (is_kept Driver e.flow e.value.end p)
+    where
+      kept_none : (b k : Bool) → cond b (left e.flow (ends_of_state s)) (with_end e.flow (end_after e.value.end p.header) (ends_of_state s))
+          ≡ forgotten (cond b (with_clean k e.flow (left e.flow (ends_of_state s))) (with_end e.flow (end_after e.value.end p.header) (ends_of_state s)))
+      kept_none true true = refl
+      kept_none true false = refl
+      kept_none false k = refl
 
-leaving : (e : ConnectionEnd) (h : Header) → (is_message (verdict_of e h) && is_reset h) ≡ (is_reset h && is_stream h)
+leaving : (e : ConnectionEnd) (h : Header) → (is_message (verdict_of e h) && is_reset h) ≡ (is_reset h && is_of e.kind h)
 leaving = search rules
 
 -- A packet of a connection.
 known : (first : ℕ) (p : Packet) (e : DriverEntry) (s : DriverState) (log : Log) → IsFitState s → Stands s e → flow_got Driver p ≡ e.flow → IsWhole p
-    → Matches Driver first (ends_of_state s) log → IsFairLog Driver (GotPacket p ∷ log) → Gets first p s log (on_known p e s)
-known first p e s log fits stands same whole m fair =
+    → is_dropped Driver s.cid p.header ≡ false → Matches Driver first (ends_of_state s) log → IsFairLog Driver (GotPacket p ∷ log) → Gets first p s log (on_known p e s)
+known first p e s log fits stands same whole kept_in m fair =
     let f : Flow = flow_got Driver p in
     let end : ConnectionEnd = e.value.end in
     let part : Ends = ends_of_state s in
     let has : HasEnd f end part = subst (λ (g : Flow). HasEnd g end part) (sym same) (has_end s e fits stands) in
-    let kept : is_refused (verdict_of end p.header) ≡ false = got_not_refused Driver first p end part log m.flows has (fair f) (heard_all first f log) in
+    let host : f.peer ≡ HOST_CID = ap (λ (g : Flow). g.peer) same ∙ (entry_fits s e fits stands).peer in
+    let kept : is_refused (verdict_of end p.header) ≡ false = got_not_refused Driver first p end part log m.flows has (fair f) (heard_all first f log host) in
     let held = (entry_fits s e fits stands).buffer in
     let by = takes_by p e s fits stands (verdict_of end p.header) refl kept whole held in
-    let ends : ends_of_state (on_known p e s) ≡ taken e.flow end p part = by.0 ∙ leaves_by p e s fits stands (verdict_of end p.header) (leaving end p.header) in
-    let now : Matches Driver first (taken f end p part) (GotPacket p ∷ log) =
-    takes Driver first p end part log m refl has (got_in_order Driver first p log (fair f)) (got_is_taken Driver p log (fair f)) in
-    let at : taken f end p part ≡ ends_of_state (on_known p e s) = ap (λ (g : Flow). taken g end p part) same ∙ sym ends in
+    let ends : ends_of_state (on_known p e s) ≡ forgotten (taken Driver e.flow end p part) = by.0 ∙ leaves_by p e s fits stands (verdict_of end p.header) (leaving end p.header) in
+    let now : Matches Driver first (forgotten (taken Driver f end p part)) (GotPacket p ∷ log) =
+    forgets Driver first (taken Driver f end p part) (GotPacket p ∷ log)
+    (takes Driver first p end part log m kept_in has (got_in_order Driver first p log (fair f)) (got_is_taken Driver p log (fair f))) in
+    let at : forgotten (taken Driver f end p part) ≡ ends_of_state (on_known p e s) = ap (λ (g : Flow). forgotten (taken Driver g end p part)) same ∙ sym ends in
     record { matches = subst (λ (x : Ends). Matches Driver first x (GotPacket p ∷ log)) at now; fits = by.1; broken = by.2 }
 
 -- A packet of an unknown flow.
-pub reply_added : (rs : List Reply) (r : Reply) → reply_flows (rs ++ r ∷ []) ≡ reply_flows rs ++ reply_flow r ∷ []
-reply_added [] r = refl
-reply_added (x ∷ rs) r = ap (λ (fs : List Flow). reply_flow x ∷ fs) (reply_added rs r)
-
-pub with_reply_fits : (s : DriverState) (r : Reply) → IsFitState s → IsFitFlow (reply_flow r) → IsFitState (with_reply r s)
+pub with_reply_fits : (s : DriverState) (r : Reply) → IsFitState s → IsFitFlow r.flow → IsFitState (with_reply r s)
 with_reply_fits s r fits ports = record {
   cid_fits = fits.cid_fits;
   port_left = fits.port_left;
@@ -114,27 +120,28 @@ with_reply_fits s r fits ports = record {
   owed = All-push IsFitReply s.replies r fits.owed ports;
 }
 
-pub with_reply_ends : (s : DriverState) (r : Reply) → ends_of_state (with_reply r s) ≡ steps.refused (reply_flow r) (ends_of_state s)
-with_reply_ends s r = ap (λ (fs : List Flow). let part : Ends = record (ends_of_state s) { replies = fs } in part) (reply_added s.replies r)
-
 record MayOpen (f : Flow) (s : DriverState) : Type 0 where
+  peer : f.peer ≡ HOST_CID
   assigned : is_assigned f.host ≡ true
   place : slots_held s < DRIVER_CONNECTIONS
   id : s.next_id ≤ LAST_ID
 
-open_by : (f : Flow) (s : DriverState) (a b c d : Bool) → is_assigned f.host ≡ a → nat_le DRIVER_CONNECTIONS (slots_held s) ≡ c → nat_le s.next_id LAST_ID ≡ d
-    → (((a && b) && not c) && d) ≡ true → MayOpen f s
-open_by f s true true false true av cv dv is = record { assigned = av; place = grind (arith, nat_tests, cv); id = grind (arith, nat_tests, dv) }
-open_by f s false b c d av cv dv is = absurd cc
-open_by f s true false c d av cv dv is = absurd cc
-open_by f s true true true d av cv dv is = absurd cc
-open_by f s true true false false av cv dv is = absurd cc
+open_by : (f : Flow) (s : DriverState) (h a b c d : Bool) → is_host f ≡ h → is_assigned f.host ≡ a → nat_le DRIVER_CONNECTIONS (slots_held s) ≡ c
+    → nat_le s.next_id LAST_ID ≡ d → ((((h && a) && b) && not c) && d) ≡ true → MayOpen f s
+open_by f s true true true false true hv av cv dv is =
+    record { peer = eqb-true f.peer HOST_CID hv; assigned = av; place = grind (arith, nat_tests, cv); id = grind (arith, nat_tests, dv) }
+open_by f s false a b c d hv av cv dv is = absurd cc
+open_by f s true false b c d hv av cv dv is = absurd cc
+open_by f s true true false c d hv av cv dv is = absurd cc
+open_by f s true true true true d hv av cv dv is = absurd cc
+open_by f s true true true false false hv av cv dv is = absurd cc
 
-answering_held : (h : Header) (id : ℕ) → IsHeldBy (record { id = id; end = answering BUF_ALLOC h; unread = []; unanswered = true; closed = false })
+answering_held : (h : Header) (id : ℕ) → IsHeldBy (record { id = id; end = answering Stream BUF_ALLOC h; unread = []; unanswered = true; closed = false })
 answering_held h id = record { unread = refl; fits = omega arith; space = omega arith; least = omega arith; alloc = omega arith; rx_cnt = omega arith; fwd_cnt = omega arith }
 
 module _ (first : ℕ) (p : Packet) (s : DriverState) (log : Log) (fits : IsFitState s) (none : entry_of s.table (flow_to_guest p.header) ≡ None)
-    (ports : FitsPorts p.header) (m : Matches Driver first (ends_of_state s) log) (fair : IsFairLog Driver (GotPacket p ∷ log)) where
+    (ports : FitsPorts p.header) (kept_in : is_dropped Driver s.cid p.header ≡ false) (m : Matches Driver first (ends_of_state s) log)
+    (fair : IsFairLog Driver (GotPacket p ∷ log)) where
   no_end : HasNone (flow_got Driver p) (ends_of_state s)
   no_end = no_entry end_in s.table (flow_to_guest p.header) none
 
@@ -142,33 +149,33 @@ module _ (first : ℕ) (p : Packet) (s : DriverState) (log : Log) (fits : IsFitS
   order = got_in_order Driver first p log (fair (flow_got Driver p))
 
   flow_fits : IsFitFlow (flow_to_guest p.header)
-  flow_fits = record { guest = ports.dst_port; host = ports.src_port }
+  flow_fits = record { guest = ports.dst_port; host = ports.src_port; peer = ports.src_cid }
 
-  replied : Gets first p s log (with_reply (reply_to p.header) s)
-  replied = record {
-    matches = subst (λ (x : Ends). Matches Driver first x (GotPacket p ∷ log)) (sym (with_reply_ends s (reply_to p.header)))
-        (refuses Driver first p (ends_of_state s) log m refl no_end order);
-    fits = with_reply_fits s (reply_to p.header) fits flow_fits;
+  replied : is_rst p ≡ false → Gets first p s log (with_reply (reply_to (flow_to_guest p.header) p.header) s)
+  replied other = record {
+    matches = refuses Driver first p (ends_of_state s) log m kept_in no_end other order;
+    fits = with_reply_fits s (reply_to (flow_to_guest p.header) p.header) fits flow_fits;
     broken = refl;
   }
 
   was_ignored : is_rst p ≡ true → Gets first p s log s
-  was_ignored rst = record { matches = ignores Driver first p (ends_of_state s) log m refl no_end rst order; fits = fits; broken = refl }
+  was_ignored rst = record { matches = ignores Driver first p (ends_of_state s) log m kept_in no_end rst order; fits = fits; broken = refl }
 
   was_accepted : is_request p.header ≡ true → may_open (flow_to_guest p.header) s ≡ true → Gets first p s log (with_request (flow_to_guest p.header) p.header s)
   was_accepted asks may =
       let f : Flow = flow_to_guest p.header in
-      let room = open_by f s (is_assigned f.host) (has_place f.guest s.listeners) (is_full s) (nat_le s.next_id LAST_ID) refl refl refl may in
-      let c : DriverConnection = record { id = s.next_id; end = answering BUF_ALLOC p.header; unread = []; unanswered = true; closed = false } in
+      let room = open_by f s (is_host f) (is_assigned f.host) (has_place f.guest s.listeners) (is_full s) (nat_le s.next_id LAST_ID) refl refl refl refl may in
+      let c : DriverConnection = record { id = s.next_id; end = answering Stream BUF_ALLOC p.header; unread = []; unanswered = true; closed = false } in
       let free : IsAccepted s.table f = record { absent = none; place = omega (arith, room.place, fits.places); slot = omega (arith, fits.given, room.id) } in
-      let space : IsSpace BUF_ALLOC = (omega arith, omega arith) in
-      let request : packets.is_request p ≡ true = (and_parts (is_stream p.header) (packets.is_request p) asks).1 in
-      let ends : ends_of_state (with_request f p.header s) ≡ accepted f BUF_ALLOC p.header (ends_of_state s) =
+      let asks_for = and_parts (is_of Stream p.header) (packets.is_request p) asks in
+      let request : packets.is_request p ≡ true = asks_for.1 in
+      let ends : ends_of_state (with_request f p.header s) ≡ accepted f Stream p.header (ends_of_state s) =
       ap (λ (es : List FlowEnd). let part : Ends = record (ends_of_state s) { entries = es } in part) (added_slot end_in s.table f c) in
       record {
         matches = subst (λ (x : Ends). Matches Driver first x (GotPacket p ∷ log)) (sym ends)
-            (accepts Driver first BUF_ALLOC p (ends_of_state s) log m refl no_end order (got_is_taken Driver p log (fair (flow_got Driver p))) request space);
-        fits = opening_fits s f c s.next_port fits free flow_fits (answering_held p.header s.next_id) fits.port_left (omega arith)
+            (accepts Driver first Stream p (ends_of_state s) log m kept_in no_end order (got_is_taken Driver p log (fair (flow_got Driver p))) request
+            (eqb-true p.header.kind 1 asks_for.0));
+        fits = opening_fits s f c s.next_port fits free flow_fits room.peer (answering_held p.header s.next_id) fits.port_left (omega arith)
             (λ own. let both : true ≡ false = sym room.assigned ∙ own in absurd cc);
         broken = refl;
       }
@@ -177,21 +184,31 @@ module _ (first : ℕ) (p : Packet) (s : DriverState) (log : Log) (fits : IsFitS
   unknown = by (is_reset p.header) (is_request p.header) (may_open (flow_to_guest p.header) s) refl refl refl
     where
       by : (a b c : Bool) → is_reset p.header ≡ a → is_request p.header ≡ b → may_open (flow_to_guest p.header) s ≡ c
-          → Gets first p s log (cond a s (cond (b && c) (with_request (flow_to_guest p.header) p.header s) (with_reply (reply_to p.header) s)))
+          → Gets first p s log (cond a s (cond (b && c) (with_request (flow_to_guest p.header) p.header s) (with_reply (reply_to (flow_to_guest p.header) p.header) s)))
       by true b c av bv cv = was_ignored av
       by false true true av bv cv = was_accepted bv cv
-      by false true false av bv cv = replied
-      by false false c av bv cv = replied
+      by false true false av bv cv = replied av
+      by false false c av bv cv = replied av
 
 -- A packet that is got.
 pub gets_packet : (first : ℕ) (p : Packet) (s : DriverState) (log : Log) → IsFitState s → FitsPorts p.header → IsWhole p
     → Matches Driver first (ends_of_state s) log → IsFairLog Driver (GotPacket p ∷ log) → Gets first p s log (on_packet p s)
-gets_packet first p s log fits ports whole m fair = by (entry_of s.table (flow_to_guest p.header)) refl
+gets_packet first p s log fits ports whole m fair = drop_by (is_dropped Driver s.cid p.header) refl
   where
-    by : (o : Option DriverEntry) → entry_of s.table (flow_to_guest p.header) ≡ o → Gets first p s log (on_packet p s)
-    by None none = subst (λ (t : DriverState). Gets first p s log t) (sym (packet_unknown p s none)) (unknown first p s log fits none ports m fair)
-    by (Some e) found =
+    by : (o : Option DriverEntry) → entry_of s.table (flow_to_guest p.header) ≡ o → is_dropped Driver s.cid p.header ≡ false
+        → Gets first p s log (on_heard p s)
+    by None none kept_in =
+        subst (λ (t : DriverState). Gets first p s log t) (sym (packet_unknown p s none)) (unknown first p s log fits none ports kept_in m fair)
+    by (Some e) found kept_in =
         let passes = found_by (λ (x : DriverEntry). same_flow (flow_to_guest p.header) x.flow) s.table.entries e found in
         let stands : Stands s e = record { under = found_under _ s.table e fits.sound found; contains = passes.0 } in
         let same = same_is (flow_to_guest p.header) e.flow passes.1 in
-        subst (λ (t : DriverState). Gets first p s log t) (sym (packet_known p s e found)) (known first p e s log fits stands same whole m fair)
+        subst (λ (t : DriverState). Gets first p s log t) (sym (packet_known p s e found)) (known first p e s log fits stands same whole kept_in m fair)
+
+    drop_by : (b : Bool) → is_dropped Driver s.cid p.header ≡ b → Gets first p s log (cond b s (on_heard p s))
+    drop_by true dropped = record {
+      matches = drops Driver first p (ends_of_state s) log m dropped (λ asks. got_in_order Driver first p log (fair (flow_got Driver p)));
+      fits = fits;
+      broken = refl;
+    }
+    drop_by false kept_in = by (entry_of s.table (flow_to_guest p.header)) refl kept_in

@@ -3,41 +3,34 @@ use Rattle.std.specs.{List.All, Option.ForSome}
 use Rattle.std.specs.Prelude.{◌≡◌, ℕ, ◌+◌, ◌<◌, ◌≤◌, ◌^◌, false, true, List, [], ◌∷◌}
 use Rattle.vs_conn.specs.{End.ConnectionEnd, declared.end.State.State}
 use Rattle.vs_flow.specs.{Flow.is_assigned, Table.IsTable, Table.Table, declared.flow.Flow.Flow}
-use Rattle.vs_limits.specs.declared.TheConstants.{BUF_ALLOC, LAST_PORT, DRIVER_CONNECTIONS}
+use Rattle.vs_limits.specs.declared.TheConstants.{HOST_CID, BUF_ALLOC, LAST_PORT, DRIVER_CONNECTIONS}
 use Rattle.vs_page.specs.{Fair.IsFairLog, Log.Driver, Open.is_open}
 use Rattle.vs_replies.specs.declared.Reply.{Reply}
 use Rattle.vs_ring_port.specs.{Contents.RingContents, EndLog.EndLog}
-use Rattle.vs_matching.specs.{Ends.Ends, Ends.entries_of, Ends.is_among, Matches.Matches}
+use Rattle.vs_matching.specs.{Ends.Ends, Ends.entries_of, Ends.is_among, Ends.replied, Matches.Matches}
 use Rattle.vs_driver_parts.specs.{Room.HasRoom, State.DriverConnection, State.DriverEntry, State.DriverState}
 
--- The flow to which a reply is owed.
-abbrev pub reply_flow : Reply → Flow
-reply_flow r = record { guest = r.src_port; host = r.dst_port }
-
-abbrev pub reply_flows : List Reply → List Flow
-reply_flows [] = []
-reply_flows (r ∷ rs) = reply_flow r ∷ reply_flows rs
-
--- The driver's connections, the flows to which it owes a reply, its next port, and the guest's CID.
+-- The driver's connections, the replies that it owes, its next port, and the guest's CID. It keeps no flow to be used again.
 abbrev pub end_in : DriverConnection → ConnectionEnd
 end_in c = c.end
 
 abbrev pub ends_of_state : DriverState → Ends
-ends_of_state s = record { entries = entries_of end_in s.table; replies = reply_flows s.replies; next_port = s.next_port; cid = s.cid }
+ends_of_state s = record { entries = entries_of end_in s.table; replies = s.replies; clean = []; next_port = s.next_port; cid = s.cid }
 
--- Ports have 32 bits.
+-- Ports have 32 bits, and the peer's CID has 64.
 pub record IsFitFlow (f : Flow) : Type 0 where
   pub guest : f.guest < 2 ^ 32
   pub host : f.host < 2 ^ 32
+  pub peer : f.peer < 2 ^ 64
 
--- A connection holds the bytes that its end counts as unread, of which there are at most BUF_ALLOC.
+-- A connection is one with the host. It holds the bytes that its end counts as unread, of which there are at most BUF_ALLOC.
 pub record IsFitEntry (e : DriverEntry) : Type 0 where
   pub ports : IsFitFlow e.flow
+  pub peer : e.flow.peer ≡ HOST_CID
   pub buffer : HasRoom e.value.end.credit (record { bytes = e.value.unread; capacity = BUF_ALLOC })
 
--- The ports of a reply have 32 bits.
 abbrev pub IsFitReply : Reply → Type 0
-IsFitReply r = IsFitFlow (reply_flow r)
+IsFitReply r = IsFitFlow r.flow
 
 -- The driver's numbers fit their widths, its table has its places, and the ports of its own connections are below the next.
 pub record IsFit (cid next_port next_id : ℕ) (table : Table DriverConnection) (replies : List Reply) : Type 0 where
@@ -78,7 +71,7 @@ flows_shown (x ∷ xs) = x.0 ∷ flows_shown xs
 -- its flow.
 abbrev pub IsLeftOpen : ℕ → List (Flow × State) → List Reply → EndLog → Type 0
 IsLeftOpen first shown replies l =
-    (f : Flow) → is_among f (flows_shown shown) ≡ is_open Driver first f l.entries (is_among f (reply_flows replies))
+    (f : Flow) → is_among f (flows_shown shown) ≡ is_open Driver first f l.entries (is_among f (replied replies))
 
 -- Before the first call: nothing was put or got, and nothing is staged.
 abbrev pub IsFresh : RingContents → Type 0

@@ -1,17 +1,14 @@
 -- What it takes that an end delivers a packet: an RW that fits its room.
 use Rattle.std.proofs.Common.{◌≡◌, ℕ, ◌≤◌, Bool, true, false, cond, Option, Some, None, refl, arith}
 use Rattle.std.proofs.lemmas.Bool.Decides.{nat_tests}
-use Rattle.vs_conn.specs.End.{ConnectionEnd, verdict_of, state_verdict, op_verdict, payload_verdict, response_verdict, live_verdict}
-use Rattle.vs_conn.specs.End.{is_stream, is_reset}
-use Rattle.vs_conn.specs.declared.end.State.{State}
-use Rattle.vs_conn.specs.declared.end.State.TheVariants as state
-use Rattle.vs_conn.specs.declared.end.Verdict.{Verdict}
-use Rattle.vs_conn.specs.declared.end.Verdict.TheVariants as verdict
-use Rattle.vs_conn.specs.declared.end.Why.{Why}
+use Rattle.vs_conn.specs.{declared.end.State.State, declared.end.Verdict.Verdict, declared.end.Why.Why}
+use Rattle.vs_conn.specs.End.{ConnectionEnd, verdict_of, state_verdict, op_verdict, payload_verdict, response_verdict, live_verdict, is_of}
+use Rattle.vs_conn.specs.End.{is_reset}
 use Rattle.vs_conn.specs.declared.end.Why.TheVariants.{BadKind}
 use Rattle.vs_credit.specs.Credit.{room_of}
-use Rattle.vs_header.specs.Op.{op_named}
-use Rattle.vs_header.specs.declared.{Header.Header, Op.Op}
+use Rattle.vs_header.specs.{Op.op_named, declared.Header.Header, declared.Op.Op}
+use Rattle.vs_conn.specs.declared.end.State.TheVariants as state
+use Rattle.vs_conn.specs.declared.end.Verdict.TheVariants as verdict
 use Rattle.vs_header.specs.declared.Op.TheVariants as op
 
 -- an RW whose payload fits
@@ -60,9 +57,9 @@ by_ended false is = cc
 
 by_state : (s : State) (e : ConnectionEnd) (h : Header) → state_verdict s e h ≡ verdict.Deliver → IsDelivered e h
 by_state state.Ended e h is = absurd (by_ended _ is)
-by_state state.Asked e h is = by_open (is_stream h) (is_reset h) BadKind e h is
-by_state state.Answering e h is = by_open (is_stream h) (is_reset h) BadKind e h is
-by_state state.Live e h is = by_open (is_stream h) (is_reset h) BadKind e h is
+by_state state.Asked e h is = by_open (is_of e.kind h) (is_reset h) BadKind e h is
+by_state state.Answering e h is = by_open (is_of e.kind h) (is_reset h) BadKind e h is
+by_state state.Live e h is = by_open (is_of e.kind h) (is_reset h) BadKind e h is
 
 pub delivers : (e : ConnectionEnd) (h : Header) → verdict_of e h ≡ verdict.Deliver → IsDelivered e h
 delivers e h is = by_state e.state e h is

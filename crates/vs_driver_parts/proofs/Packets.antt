@@ -2,19 +2,18 @@
 use Rattle.std.proofs.Common.{◌≡◌, ◌≢◌, ℕ, ◌+◌, ◌<◌, ◌==◌, Bool, true, false, not, cond, List, [], ◌∷◌, ◌++◌, length, map, Some, None, refl}
 use Rattle.std.proofs.Common.{sym, ap, subst, ◌∙◌, arith, eq-eqb, length-append}
 use Rattle.std.specs.{List.AllPairs, List.filter, List.slice_get, Option.option_map}
-use Rattle.vs_conn.specs.End.{is_refused}
-use Rattle.vs_conn.specs.declared.end.Verdict.{Verdict}
-use Rattle.vs_conn.specs.declared.end.Verdict.TheVariants as verdict
+use Rattle.vs_conn.specs.{End.is_refused, declared.end.Verdict.Verdict}
 use Rattle.vs_flow.specs.Table.{Table, IsTable, entry_of, entry_under, with_value, without, revalued}
 use Rattle.vs_flow.proofs.{Entries.found_at, Tables.revalued-slot, Lookups.entry_under-with_value}
 use Rattle.vs_history.specs.declared.packet.Packet.{Packet}
 use Rattle.vs_page.specs.Log.{flow_to_guest}
-use Rattle.vs_driver_parts.specs.State.{DriverConnection, DriverEntry, DriverState}
 use Rattle.vs_driver_parts.specs.Connections.{with_connection, leaves_list, after_leaving, waits_no_more, is_let_go, gone_as}
-use Rattle.vs_driver_parts.specs.Receiving.{on_packet, on_known, on_unknown, after_verdict, after_packet, ends_connection, with_reply}
+use Rattle.vs_driver_parts.specs.Receiving.{on_heard, on_known, on_unknown, after_verdict, after_packet, ends_connection, with_reply}
 use Rattle.vs_driver_parts.specs.Receiving.{reset_reply, all_left}
+use Rattle.vs_driver_parts.specs.State.{DriverConnection, DriverEntry, DriverState}
 use Rattle.vs_wrap.specs.Wrap.{counted}
 use Rattle.vs_driver_parts.proofs.Lists.{AtMostOnePasses, one_passes, kept_none}
+use Rattle.vs_conn.specs.declared.end.Verdict.TheVariants as verdict
 
 -- an entry with another value
 abbrev pub with_its : DriverEntry → DriverConnection → DriverEntry
@@ -93,11 +92,11 @@ module _ (p : Packet) (e : DriverEntry) (s : DriverState) (slot : ℕ) (at : e.s
   stays verdict.Discard m false_is goes_on mid = mid ∙ ap (λ (n : ℕ). with_connection n (after_packet verdict.Discard p e.value) s) (sym at)
   stays verdict.Ignore m false_is goes_on mid = mid ∙ ap (λ (n : ℕ). with_connection n (after_packet verdict.Ignore p e.value) s) (sym at)
 
-pub packet_known : (p : Packet) (s : DriverState) (e : DriverEntry) → entry_of s.table (flow_to_guest p.header) ≡ Some e → on_packet p s ≡ on_known p e s
-packet_known p s e found = rw (found, on_packet) refl
+pub packet_known : (p : Packet) (s : DriverState) (e : DriverEntry) → entry_of s.table (flow_to_guest p.header) ≡ Some e → on_heard p s ≡ on_known p e s
+packet_known p s e found = rw (found, on_heard) refl
 
-pub packet_unknown : (p : Packet) (s : DriverState) → entry_of s.table (flow_to_guest p.header) ≡ None → on_packet p s ≡ on_unknown p s
-packet_unknown p s none = rw (none, on_packet) refl
+pub packet_unknown : (p : Packet) (s : DriverState) → entry_of s.table (flow_to_guest p.header) ≡ None → on_heard p s ≡ on_unknown p s
+packet_unknown p s none = rw (none, on_heard) refl
 
 -- a transport reset: the first entry leaves, and the others are left
 kept_replies : (b : Bool) (e : DriverEntry) (s : DriverState) → (cond b (waits_no_more e s) s).replies ≡ s.replies
@@ -122,7 +121,7 @@ pub record LeavesFirst (s new : DriverState) : Type 0 where
   pub replies : length new.replies ≡ length s.replies + 1
 
 pub first_left : (s new : DriverState) (e : DriverEntry) → IsTable s.table → slice_get s.table.entries 0 ≡ Some e
-    → new ≡ with_reply (reset_reply e.flow) (after_leaving e s) → LeavesFirst s new
+    → new ≡ with_reply (reset_reply e) (after_leaving e s) → LeavesFirst s new
 first_left s new e sound first is = by s.table.entries refl
   where
     by : (es : List DriverEntry) → s.table.entries ≡ es → LeavesFirst s new
@@ -136,11 +135,11 @@ first_left s new e sound first is = by s.table.entries refl
         ap (λ (n : DriverState). n.table.entries) is
         ∙ (ap (λ (n : ℕ). filter (λ y. not (y.slot == n)) s.table.entries) (ap (λ (y : DriverEntry). y.slot) (sym head))
         ∙ (ap (λ (xs : List DriverEntry). filter (λ y. not (y.slot == x.slot)) xs) all ∙ others_left x es rising)) in
-        let left : new ≡ with_reply (reset_reply x.flow) (after_leaving x s) = is ∙ ap (λ (y : DriverEntry). with_reply (reset_reply y.flow) (after_leaving y s)) (sym head) in
+        let left : new ≡ with_reply (reset_reply x) (after_leaving x s) = is ∙ ap (λ (y : DriverEntry). with_reply (reset_reply y) (after_leaving y s)) (sym head) in
         record {
           same = ap (λ (xs : List DriverEntry). all_left xs new) entries ∙ (ap (λ (n : DriverState). all_left es n) left ∙ ap (λ (xs : List DriverEntry). all_left xs s) (sym all));
           fewer = omega (arith, ap (λ (xs : List DriverEntry). length xs) entries, ap (λ (xs : List DriverEntry). length xs) all);
-          replies = ap (λ (n : DriverState). length n.replies) is ∙ (length-append (after_leaving e s).replies (reset_reply e.flow ∷ []) ∙ ap (λ (n : ℕ). n + 1) (ap length (leaving-replies e s)));
+          replies = ap (λ (n : DriverState). length n.replies) is ∙ (length-append (after_leaving e s).replies (reset_reply e ∷ []) ∙ ap (λ (n : ℕ). n + 1) (ap length (leaving-replies e s)));
         }
 
 pub first_under : (t : Table DriverConnection) (e : DriverEntry) → IsTable t → slice_get t.entries 0 ≡ Some e → entry_under t e.slot ≡ Some e

@@ -1,22 +1,19 @@
 -- What always holds of the slots after a change of the table.
+use Rattle.std.proofs.{lemmas.Option.slice_get_within, lemmas.Option.get_or_from_slice_get, Math.Seq.get_or-append_seam}
+use Rattle.std.proofs.{lemmas.Bool.Decides.nat_tests, lemmas.List.Edits.length-remove}
 use Rattle.std.proofs.Common.{◌≡◌, ◌≢◌, ℕ, ◌+◌, ◌<◌, ◌==◌, Bool, true, false, cond, List, [], ◌∷◌, ◌++◌, length, get_or, Some, None, sym}
 use Rattle.std.proofs.Common.{ap, subst, ◌∙◌, arith, length-append}
+use Rattle.std.proofs.lemmas.List.{length-map, get_or_append_left}
 use Rattle.std.specs.{List.All, List.AllPairs, List.find, Option.option_and_then, Option.option_map}
-use Rattle.std.proofs.lemmas.{List.length-map, List.get_or_append_left, Option.slice_get_within, Option.get_or_from_slice_get}
-use Rattle.std.proofs.Math.Seq.{get_or-append_seam}
-use Rattle.std.proofs.lemmas.Bool.Decides.{nat_tests}
-use Rattle.std.proofs.lemmas.List.Edits.{length-remove}
-use Rattle.vs_flow.specs.Flow.{is_assigned, same_flow}
+use Rattle.vs_flow.specs.{Flow.host_flow, Flow.is_assigned, Flow.same_flow, declared.flow.Flow.Flow}
 use Rattle.vs_flow.specs.Table.{Table, IsTable, entry_of, entry_under, value_under, with_value, without, revalued}
-use Rattle.vs_flow.specs.declared.flow.Flow.{Flow}
-use Rattle.vs_flow.proofs.Entries.{find_none, found_passes, same_flow_false}
 use Rattle.vs_flow.proofs.{Lookups.find_place, Lookups.entry_under-with_value, Tables.with_value_sound}
-use Rattle.vs_driver_parts.specs.State.{DriverConnection, DriverEntry, GoneConnection, is_known_as}
+use Rattle.vs_flow.proofs.Entries.{find_none, found_passes, same_flow_false}
 use Rattle.vs_driver_parts.specs.{Connections.gone_as, Connections.is_let_go, Held.HeldSlots, Held.left_in}
-use Rattle.vs_driver_parts.specs.SlotFields.{AreKept, AreNumbered}
-use Rattle.vs_driver_parts.specs.declared.slots.Slots.TheInside.{Inside}
-use Rattle.vs_driver_parts.proofs.Ids.{value_of, has_slot, under, known_by_slot, unless_closed, entry_has}
+use Rattle.vs_driver_parts.specs.{SlotFields.AreKept, SlotFields.AreNumbered, declared.slots.Slots.TheInside.Inside}
+use Rattle.vs_driver_parts.specs.State.{DriverConnection, DriverEntry, GoneConnection, is_known_as}
 use Rattle.vs_driver_parts.proofs.{Lists.one_passes, Lists.removed_one, Numbers.id_under, Numbers.numbers_with_value}
+use Rattle.vs_driver_parts.proofs.Ids.{value_of, has_slot, under, known_by_slot, unless_closed, entry_has}
 
 pub kept_with_connection : (s : Inside) (slot : ℕ) (c d : DriverConnection) → AreKept s → value_under s.table slot ≡ Some c → d.id ≡ c.id
     → AreKept (record s { table = with_value s.table slot d })
@@ -102,9 +99,9 @@ one_fewer t slot e sound found =
     rw removed fewer
 
 pub new_flow : (first port next : ℕ) (t : Table DriverConnection) (gone : List GoneConnection) (host : ℕ) → AreNumbered first port next t gone
-    → is_assigned host ≡ false → entry_of t (record { guest = port; host = host }) ≡ None
+    → is_assigned host ≡ false → entry_of t (host_flow port host) ≡ None
 new_flow first port next t gone host kept mine =
-    let flow : Flow = record { guest = port; host = host } in
+    let flow : Flow = host_flow port host in
     find_none (λ (e : DriverEntry). same_flow flow e.flow) t.entries (λ k d lt. same_flow_false flow (get_or t.entries k d).flow (λ same.
     let host_is : host ≡ (get_or t.entries k d).flow.host = ap (λ (f : Flow). f.host) same in
     let guest_is : port ≡ (get_or t.entries k d).flow.guest = ap (λ (f : Flow). f.guest) same in

@@ -2,9 +2,9 @@
 use Rattle.std.specs.Prelude.{ℕ, ◌+◌, ◌==◌, ◌||◌, not, min, nat_lt, nat_le, Bool, true, false, if◌then◌else◌, List, [], ◌∷◌, ◌++◌, length}
 use Rattle.std.specs.Prelude.{map, filter, take, drop, Option, Some, None, is_some}
 use Rattle.std.specs.Option.{option_map, option_map_or}
-use Rattle.vs_flow.specs.{Flow.is_assigned, Table.with_entry, Table.with_value, Table.without, declared.flow.Flow.Flow}
-use Rattle.vs_header.specs.declared.Header.{Header}
-use Rattle.vs_limits.specs.declared.TheConstants.{BUF_ALLOC, HOST_CID, LAST_PORT, LAST_ID, DRIVER_CONNECTIONS}
+use Rattle.vs_flow.specs.{Flow.host_flow, Flow.is_assigned, Table.with_entry, Table.with_value, Table.without, declared.flow.Flow.Flow}
+use Rattle.vs_header.specs.{declared.Header.Header, declared.Kind.TheVariants.Stream}
+use Rattle.vs_limits.specs.declared.TheConstants.{BUF_ALLOC, LAST_PORT, LAST_ID, DRIVER_CONNECTIONS}
 use Rattle.vs_conn.specs.{declared.end.Owed.Owed, declared.end.State.State, declared.route.Route.Route}
 use Rattle.vs_conn.specs.End.{ConnectionEnd, asked, answering, paid_of, with_payload_forwarded, with_shut, aborted}
 use Rattle.vs_driver_parts.specs.{declared.answers.ConnectionState.ConnectionState, declared.answers.ConnectError.ConnectError}
@@ -27,9 +27,9 @@ with_connection slot c s = record s { table = with_value s.table slot c }
 abbrev pub with_end : ConnectionEnd → DriverEntry → DriverState → DriverState
 with_end end e s = with_connection e.slot (record e.value { end = end }) s
 
--- The route of packets on a flow to the host.
+-- The route of the guest's packets on a flow.
 abbrev pub route_to_host : ℕ → Flow → Route
-route_to_host cid f = record { src_cid = cid; dst_cid = HOST_CID; src_port = f.guest; dst_port = f.host }
+route_to_host cid f = record { src_cid = cid; dst_cid = f.peer; src_port = f.guest; dst_port = f.host }
 
 -- A connection opens under the next id.
 abbrev pub with_opened : Flow → ConnectionEnd → Bool → DriverState → DriverState
@@ -41,7 +41,7 @@ with_opened flow end unanswered s = record s {
 
 -- connect: the flow that it opens, and why it is refused before a page is looked for.
 abbrev pub next_flow : ℕ → DriverState → Flow
-next_flow host s = record { guest = s.next_port; host = host }
+next_flow host s = host_flow s.next_port host
 
 abbrev pub is_full : DriverState → Bool
 is_full s = nat_le DRIVER_CONNECTIONS (slots_held s)
@@ -59,12 +59,12 @@ connect_refusal host s =
 -- The driver after the REQUEST of a connect was put.
 abbrev pub connected : ℕ → DriverState → DriverState
 connected host s =
-    record (with_opened (next_flow host s) (paid_of (asked BUF_ALLOC) owed.Request) false s) { next_port = s.next_port + 1; last_port = s.next_port }
+    record (with_opened (next_flow host s) (paid_of (asked Stream BUF_ALLOC) owed.Request) false s) { next_port = s.next_port + 1; last_port = s.next_port }
 
 -- A REQUEST of the host's opens a connection, which waits on its port.
 abbrev pub with_request : Flow → Header → DriverState → DriverState
 with_request flow h s =
-    record (with_opened flow (answering BUF_ALLOC h) true s) { listeners = with_waiting flow.guest (λ waiting. waiting ++ s.next_id ∷ []) s.listeners }
+    record (with_opened flow (answering Stream BUF_ALLOC h) true s) { listeners = with_waiting flow.guest (λ waiting. waiting ++ s.next_id ∷ []) s.listeners }
 
 -- A connection waits on its port no more.
 abbrev pub waits_no_more : DriverEntry → DriverState → DriverState

@@ -2,12 +2,12 @@
 use Rattle.std.specs.Prelude.{ℕ, ◌+◌, ◌-◌, ◌==◌, min, nat_lt, nat_le, Bool, true, false, if◌then◌else◌, List, [], ◌∷◌, ◌++◌, length, take}
 use Rattle.std.specs.Prelude.{Option, Some, None, is_some, Result, Ok, Err}
 use Rattle.vs_contents.specs.CallTree.{CallTree, Done, Ask, bind, for_each, while_up_to}
-use Rattle.vs_header.specs.{Packet.header_bytes, declared.Header.Header}
+use Rattle.vs_header.specs.{Packet.header_bytes, declared.Header.Header, declared.Kind.TheVariants.Stream}
 use Rattle.vs_conn.specs.{Headers.owed_header, Headers.payload_header, Headers.reset_header, declared.end.Owed.Owed, declared.end.Stop.Stop}
 use Rattle.vs_conn.specs.End.{ConnectionEnd, may_send_of, owes_of, with_payload_sent, wanting_credit, asked}
 use Rattle.vs_conn.specs.declared.end.TheConstants.{OWED_MAX}
 use Rattle.vs_flow.specs.Table.{entry_under, slots}
-use Rattle.vs_limits.specs.declared.TheConstants.{BUF_ALLOC, HOST_CID, DRIVER_REPLIES_FULL, DRIVER_CONNECTIONS}
+use Rattle.vs_limits.specs.declared.TheConstants.{BUF_ALLOC, DRIVER_REPLIES_FULL, DRIVER_CONNECTIONS}
 use Rattle.vs_page.specs.declared.page.TheConstants.{PAYLOAD_MAX}
 use Rattle.vs_replies.specs.declared.Reply.{Reply}
 use Rattle.vs_ring_port.specs.{declared.queue.Queue.Queue, declared.queue.TheConstants.STAGED_MAX}
@@ -101,7 +101,7 @@ new_of size port id = bind (post_all Rx (new_state size port id 0)) post_events
 
 -- connect.
 abbrev pub request_bytes : ℕ → DriverState → List ℕ
-request_bytes host s = header_bytes (owed_header (asked BUF_ALLOC) (route_to_host s.cid (next_flow host s)) owed.Request)
+request_bytes host s = header_bytes (owed_header (asked Stream BUF_ALLOC) (route_to_host s.cid (next_flow host s)) owed.Request)
 
 abbrev pub connect_with_page : ℕ → DriverState → DriverTree (DriverState × Result ℕ ConnectError)
 connect_with_page host s =
@@ -210,7 +210,7 @@ take_all queue take_one s = bind (all_taken take_one s) (published queue)
 
 -- Fourth part: the oldest owed reply is put, while pages are free.
 abbrev pub reply_header : ℕ → Reply → Header
-reply_header cid reply = reset_header (record { src_cid = cid; dst_cid = HOST_CID; src_port = reply.src_port; dst_port = reply.dst_port })
+reply_header cid reply = reset_header reply.kind (route_to_host cid reply.flow)
 
 abbrev pub one_put : Round → DriverState → DriverTree (Round × Bool)
 one_put r s = Done (record r { state = s; count = r.count + 1 }, true)

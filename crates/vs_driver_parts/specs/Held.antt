@@ -1,9 +1,9 @@
 -- The slots of the driver, apart from the rest of it.
 use Rattle.std.specs.Prelude.{◌≡◌, ℕ, ◌+◌, ◌==◌, Bool, false, true, List, [], ◌∷◌, ◌++◌, length, find, None, if◌then◌else◌}
 use Rattle.vs_conn.specs.End.{ConnectionEnd, asked, answering, paid_of}
-use Rattle.vs_header.specs.declared.Header.{Header}
+use Rattle.vs_header.specs.{declared.Header.Header, declared.Kind.TheVariants.Stream}
 use Rattle.vs_limits.specs.declared.TheConstants.{BUF_ALLOC, DRIVER_CONNECTIONS}
-use Rattle.vs_flow.specs.{Table.Table, Table.with_value, Table.with_entry, Table.without, declared.flow.Flow.Flow}
+use Rattle.vs_flow.specs.{Flow.host_flow, Table.Table, Table.with_value, Table.with_entry, Table.without, declared.flow.Flow.Flow}
 use Rattle.vs_driver_parts.specs.State.{DriverConnection, DriverEntry, GoneConnection, is_known_as}
 use Rattle.vs_driver_parts.specs.Connections.{gone_as, is_let_go}
 use Rattle.vs_conn.specs.declared.end.Owed.TheVariants as owed
@@ -50,13 +50,13 @@ with_opening flow end unanswered s = record s {
 -- It is one whose REQUEST is put, with the next guest port, or one that answers a REQUEST.
 abbrev pub with_asked_in : ℕ → HeldSlots → HeldSlots
 with_asked_in host s =
-    record (with_opening (record { guest = s.next_port; host = host }) (paid_of (asked BUF_ALLOC) owed.Request) false s) {
+    record (with_opening (host_flow s.next_port host) (paid_of (asked Stream BUF_ALLOC) owed.Request) false s) {
       next_port = s.next_port + 1;
       last_port = s.next_port;
     }
 
 abbrev pub with_answering_in : Flow → Header → HeldSlots → HeldSlots
-with_answering_in flow request s = with_opening flow (answering BUF_ALLOC request) true s
+with_answering_in flow request s = with_opening flow (answering Stream BUF_ALLOC request) true s
 
 -- A connection leaves the table.
 abbrev pub left_in : DriverEntry → HeldSlots → HeldSlots

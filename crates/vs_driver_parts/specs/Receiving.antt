@@ -1,10 +1,10 @@
 -- What the driver does with the packets and events that it takes.
 use Rattle.std.specs.Prelude.{ℕ, ◌==◌, ◌&&◌, not, nat_le, Bool, false, if◌then◌else◌, List, [], ◌∷◌, ◌++◌, Some, None}
-use Rattle.vs_header.specs.{Op.op_number, declared.Header.Header, declared.Op.TheVariants.Request}
+use Rattle.vs_header.specs.{Op.op_number, declared.Header.Header, declared.Kind.TheVariants.Stream, declared.Op.TheVariants.Request}
 use Rattle.vs_history.specs.declared.packet.Packet.{Packet}
-use Rattle.vs_conn.specs.{End.verdict_of, End.end_after, End.is_stream, End.is_reset, declared.end.Verdict.Verdict}
-use Rattle.vs_flow.specs.{Flow.is_assigned, Table.entry_of, declared.flow.Flow.Flow}
-use Rattle.vs_page.specs.{Held.packet_held, Held.event_held, Log.flow_to_guest}
+use Rattle.vs_conn.specs.{End.verdict_of, End.end_after, End.is_of, End.is_reset, declared.end.Verdict.Verdict}
+use Rattle.vs_flow.specs.{Flow.is_assigned, Flow.is_host, Table.entry_of, declared.flow.Flow.Flow}
+use Rattle.vs_page.specs.{Held.packet_held, Held.event_held, Log.Driver, Log.flow_to_guest, Open.is_dropped}
 use Rattle.vs_replies.specs.{Owed.reply_to, declared.Reply.Reply}
 use Rattle.vs_limits.specs.declared.TheConstants.{LAST_ID}
 use Rattle.vs_driver_parts.specs.{State.DriverConnection, State.DriverState, State.DriverEntry, Listening.has_place}
@@ -35,24 +35,28 @@ after_verdict v p e s =
 abbrev pub on_known : Packet → DriverEntry → DriverState → DriverState
 on_known p e s = after_verdict (verdict_of e.value.end p.header) p e s
 
--- A REQUEST of an unknown flow opens a connection where its host port is one that the device assigns, the guest port is listened on with a
--- place on its list, and a slot and an id are left.
+-- A REQUEST of an unknown flow opens a connection where it comes from the host, its host port is one that the device assigns, the guest
+-- port is listened on with a place on its list, and a slot and an id are left.
 abbrev pub is_request : Header → Bool
-is_request h = is_stream h && (h.op == op_number Request)
+is_request h = is_of Stream h && (h.op == op_number Request)
 
 abbrev pub may_open : Flow → DriverState → Bool
 may_open flow s =
-    is_assigned flow.host && has_place flow.guest s.listeners && not (is_full s) && nat_le s.next_id LAST_ID
+    is_host flow && is_assigned flow.host && has_place flow.guest s.listeners && not (is_full s) && nat_le s.next_id LAST_ID
 
 -- Any other packet of an unknown flow gets RST, but RST itself.
 abbrev pub on_unknown : Packet → DriverState → DriverState
 on_unknown p s =
     if is_reset p.header then s
     else if is_request p.header && may_open (flow_to_guest p.header) s then with_request (flow_to_guest p.header) p.header s
-    else with_reply (reply_to p.header) s
+    else with_reply (reply_to (flow_to_guest p.header) p.header) s
 
+abbrev pub on_heard : Packet → DriverState → DriverState
+on_heard p s = elim (entry_of s.table (flow_to_guest p.header)) [ None ↦ on_unknown p s | Some e ↦ on_known p e s ]
+
+-- A packet of another guest's that is for a CID that isn't this one's is dropped.
 abbrev pub on_packet : Packet → DriverState → DriverState
-on_packet p s = elim (entry_of s.table (flow_to_guest p.header)) [ None ↦ on_unknown p s | Some e ↦ on_known p e s ]
+on_packet p s = if is_dropped Driver s.cid p.header then s else on_heard p s
 
 -- A page of the receive queue. One that holds no packet does nothing.
 abbrev pub on_page : List ℕ → DriverState → DriverState
@@ -63,12 +67,12 @@ abbrev pub is_reset_event : List ℕ → Bool
 is_reset_event page = elim (event_held page) [ None ↦ false | Some id ↦ id == 0 ]
 
 -- A transport reset: each connection leaves the table, by rising slot, and RST is owed for its flow. The guest has a CID from now on.
-abbrev pub reset_reply : Flow → Reply
-reset_reply f = record { src_port = f.guest; dst_port = f.host }
+abbrev pub reset_reply : DriverEntry → Reply
+reset_reply e = record { flow = e.flow; kind = e.value.end.kind }
 
 abbrev pub all_left : List DriverEntry → DriverState → DriverState
 all_left [] s = s
-all_left (e ∷ es) s = all_left es (with_reply (reset_reply e.flow) (after_leaving e s))
+all_left (e ∷ es) s = all_left es (with_reply (reset_reply e) (after_leaving e s))
 
 abbrev pub after_reset : ℕ → DriverState → DriverState
 after_reset cid s = all_left s.table.entries (record s { cid = cid })

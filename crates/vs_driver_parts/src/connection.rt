@@ -6,6 +6,7 @@ ghost use Rattle.vs_conn.specs.{End.wanting_credit, End.with_payload_sent, Heade
 ghost use Rattle.vs_conn.specs.declared.end.Owed.TheVariants as owed;
 ghost use Rattle.vs_conn.specs.declared.end.State.TheVariants.{Live};
 ghost use Rattle.vs_credit.specs.Credit.{free_of};
+ghost use Rattle.vs_header.specs.declared.Kind.TheVariants.{Stream};
 ghost use Rattle.vs_limits.specs.declared.TheConstants.{BUF_ALLOC};
 ghost use Rattle.vs_history.specs.declared.packet.Packet.{Packet};
 ghost use Rattle.vs_page.specs.Held.{IsWhole};
@@ -16,7 +17,7 @@ use crate::answers::ConnId;
 use std::marker::Model;
 use vs_buffer::ByteFifo;
 use vs_conn::{End, EndView, Owed, Route, State, Stop, Verdict};
-use vs_header::Header;
+use vs_header::{Header, Kind};
 use vs_limits::BUF_ALLOC;
 
 /// A connection of the table.
@@ -50,9 +51,9 @@ impl Connection {
     /// A connection whose REQUEST is put. Its buffer is empty, and has room for all that the end may take.
     pub fn asked(id: ConnId, unread: ByteFifo) -> Connection
         requires spare { IsSpare unread }
-        ensures { result ≡ record { id = id; end = paid_of (asked BUF_ALLOC) owed.Request; unread = []; unanswered = false; closed = false } }
+        ensures { result ≡ record { id = id; end = paid_of (asked Stream BUF_ALLOC) owed.Request; unread = []; unanswered = false; closed = false } }
     {
-        let mut end = End::ask(BUF_ALLOC);
+        let mut end = End::ask(Kind::Stream, BUF_ALLOC);
         end.paid(Owed::Request);
         Connection {
             id,
@@ -66,11 +67,11 @@ impl Connection {
     /// A connection that the host's REQUEST opens. Its RESPONSE is owed.
     pub fn answering(id: ConnId, request: &Header, unread: ByteFifo) -> Connection
         requires spare { IsSpare unread }
-        ensures { result ≡ record { id = id; end = answering BUF_ALLOC request.now; unread = []; unanswered = true; closed = false } }
+        ensures { result ≡ record { id = id; end = answering Stream BUF_ALLOC request.now; unread = []; unanswered = true; closed = false } }
     {
         Connection {
             id,
-            end: End::answer(BUF_ALLOC, request),
+            end: End::answer(Kind::Stream, BUF_ALLOC, request),
             unread,
             unanswered: true,
             closed: false,
@@ -110,6 +111,13 @@ impl Connection {
         ensures { result ≡ view_of self.now.end }
     {
         self.end.view()
+    }
+
+    /// The type of its sockets.
+    pub fn kind(&self) -> Kind
+        ensures { result ≡ self.now.end.kind }
+    {
+        self.end.kind()
     }
 
     /// The state of its end.

@@ -7,13 +7,13 @@ use vs_conn::Route;
 use vs_flow::Flow;
 use vs_limits::HOST_CID;
 
-/// The route of packets on a flow to the host.
+/// The route of the guest's packets on a flow.
 pub fn route_to_host(cid: u64, flow: Flow) -> Route
     ensures { result ≡ route_to_host cid flow }
 {
     Route {
         src_cid: cid,
-        dst_cid: HOST_CID,
+        dst_cid: flow.peer,
         src_port: flow.guest,
         dst_port: flow.host,
     }

@@ -14,7 +14,7 @@ ghost use Rattle.vs_page.specs.Held.{IsWhole};
 ghost use Rattle.vs_limits.specs.declared.TheConstants.{LAST_PORT, LAST_ID, DRIVER_CONNECTIONS};
 ghost use Rattle.vs_driver_parts.specs.State.{DriverEntry, DriverConnection, GoneConnection, is_known_as};
 ghost use Rattle.vs_driver_parts.specs.Connections.{route_to_host, after_read, after_shut, after_closing, paid_connection, without_gone};
-ghost use Rattle.vs_driver_parts.specs.{Connections.all_gone_after_read, Receiving.after_packet, Room.IsSpare};
+ghost use Rattle.vs_driver_parts.specs.{Connections.all_gone_after_read, Receiving.after_packet, Receiving.reset_reply, Room.IsSpare};
 ghost use Rattle.vs_driver_parts.specs.Held.{KnowsNone, no_slots, held_in, with_asked_in, with_answering_in, with_connection_in, left_in};
 
 use crate::answers::ConnId;
@@ -29,6 +29,7 @@ use vs_conn::{Owed, Stop, Verdict};
 use vs_flow::{Entry, Flow, FlowTable, Slot};
 use vs_header::Header;
 use vs_limits::{BUF_ALLOC, DRIVER_CONNECTIONS};
+use vs_replies::Reply;
 
 /// Bytes of a connection's receive buffer.
 pub const BUFFER_LEN: usize = BUF_ALLOC as usize;
@@ -215,13 +216,18 @@ impl Slots {
         self.table.at(place)
     }
 
-    /// The slot and the flow of the connection that was opened first of those in the table.
-    pub fn first(&self) -> Option<(Slot, Flow)>
-        ensures first { result ≡ option_map (λ e. (e.slot, e.flow)) (slice_get self.now.table.entries 0) }
+    /// The slot of the connection that was opened first of those in the table, and the RST that is owed once it has left at a transport
+    /// reset.
+    pub fn first(&self) -> Option<(Slot, Reply)>
+        ensures first { result ≡ option_map (λ e. (e.slot, reset_reply e)) (slice_get self.now.table.entries 0) }
         ensures sound { IsTable self.now.table }
     {
         let entry = self.table.at(0)?;
-        Some((entry.slot, entry.flow))
+        let reply = Reply {
+            flow: entry.flow,
+            kind: entry.value.kind(),
+        };
+        Some((entry.slot, reply))
     }
 
     /// The connection that is gone, and that the application knows by an id.
@@ -241,10 +247,7 @@ impl Slots {
         ensures id { result ≡ self.old.next_id }
     {
         let id = self.next_id as u32;
-        let flow = Flow {
-            guest: self.next_port,
-            host,
-        };
+        let flow = Flow::to_host(self.next_port, host);
         let connection = Connection::asked(id, self.spare.take_last());
         insert(&mut self.table, flow, connection);
         self.last_port = self.next_port;

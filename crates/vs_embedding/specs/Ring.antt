@@ -2,8 +2,7 @@
 use Rattle.std.specs.Prelude.{ℕ, List, None, false}
 use Rattle.vs_device_parts.specs.{Calls.Situation, Playing.IsItsRing, Playing.situation}
 use Rattle.vs_proxy_log.specs.Order.{IsInOrder}
-use Rattle.vs_ring_port.specs.Contents.{RingContents}
-use Rattle.vs_ring_port.specs.declared.device_ring.Chain.{Chain}
+use Rattle.vs_ring_port.specs.{Contents.RingContents, declared.device_ring.Chain.Chain}
 use Rattle.vs_proxy_parts.specs.State.{ProxyState}
 
 pub record RingState : Type 0 where

@@ -10,6 +10,15 @@ use byteorder::{ByteOrder, LittleEndian};
 /// Bytes of a header.
 pub const HEADER_LEN: usize = 44;
 
+/// Flag of an RW: its payload ends a message (a seqpacket socket).
+pub const END_OF_MESSAGE: u32 = 1;
+
+/// Flag of such an RW: the message ends a record.
+pub const END_OF_RECORD: u32 = 2;
+
+/// Flags of an RST that marks a connection over cleanly: both of SHUTDOWN's.
+pub const CLEAN: u32 = 3;
+
 /// The header of a packet, each field as wide as on the wire.
 #[derive(Clone, Copy, Debug, PartialEq, Eq)]
 pub struct Header {

@@ -1,14 +1,14 @@
 -- What a run holds between two lines, and what it is for a line to be run.
 use Rattle.std.specs.Prelude.{◌≡◌, ℕ, false, List, [], ◌∷◌, ◌++◌, Option, Some, None}
 use Rattle.vs_outside.specs.Host.{HostContents}
-use Rattle.vs_ring_port.specs.Contents.{RingContents}
-use Rattle.vs_ring_port.specs.declared.device_ring.Chain.{Chain}
+use Rattle.vs_ring_port.specs.{Contents.RingContents, declared.device_ring.Chain.Chain}
 use Rattle.vs_ring_plain.specs.Device.{DeviceState, chains_held}
 use Rattle.vs_device_parts.specs.Playing.{IsItsRing, situation}
 use Rattle.vs_proxy_parts.specs.State.{ProxyState}
 use Rattle.vs_proxy_log.specs.Order.{IsInOrder}
 use Rattle.vs_script.specs.Hostile.{Hostile}
-use Rattle.vs_hostile.specs.{Answer.said_text, Run.GuestState, Run.Nothing, Run.HasMemory, Run.HasRings, Run.HostileState, Run.hostile_does}
+use Rattle.vs_hostile.specs.Run.{GuestState, Nothing, HasMemory, HasRings, HostileState, hostile_does}
+use Rattle.vs_hostile.specs.Answer.{said_text}
 
 abbrev pub held_in : GuestState → List Chain
 held_in Nothing = []

@@ -7,8 +7,7 @@ use Rattle.vs_layout.specs.declared.place.Areas.{Areas}
 use Rattle.vs_ring_port.specs.Contents.{RingContents, DeviceCall, DeviceAnswer, Read, Return}
 use Rattle.vs_ring_port.specs.declared.queue.Queue.{Queue}
 use Rattle.vs_ring_port.specs.declared.queue.Queue.TheVariants.{Rx, Tx, Event}
-use Rattle.vs_ring_plain.specs.declared.piece.Piece.{Piece}
-use Rattle.vs_ring_plain.specs.declared.turns.Turns.{Turns}
+use Rattle.vs_ring_plain.specs.{declared.piece.Piece.Piece, declared.turns.Turns.Turns}
 use Rattle.vs_ring_plain.specs.Device.{DeviceState, HeldChain, answer_to}
 
 -- The parts as numbers.

@@ -1,25 +1,20 @@
 -- What a call of the proxy does to the streams: its own stream is changed as the call says, and the others stay.
+use Rattle.std.proofs.{lemmas.Bool.Decides.nat_tests, lemmas.Option.slice_get_past, lemmas.List.Quantifiers.position-Some}
 use Rattle.std.proofs.Common.{◌≡◌, ◌≢◌, ℕ, zero, suc, ◌+◌, ◌-◌, ◌≤◌, Bool, true, false, cond, eqb, List, [], ◌∷◌, ◌++◌, length, get_or, set}
 use Rattle.std.proofs.Common.{Option, None, Some, refl, ap, ◌∙◌, arith}
 use Rattle.std.specs.{Prelude.slice_get, Prelude.IsSomeAnd, Prelude.position, Option.option_map, Option.option_map_or}
-use Rattle.std.proofs.lemmas.Bool.Decides.{nat_tests}
-use Rattle.std.proofs.lemmas.Option.{slice_get_past}
-use Rattle.std.proofs.lemmas.List.Quantifiers.{position-Some}
 use Rattle.vs_flow.specs.declared.flow.Flow.{Flow}
+use Rattle.vs_outside.specs.{HostProgram.client_stream, declared.host_net.StreamState.StreamState, declared.host_net.Dialed.Dialed}
+use Rattle.vs_outside.specs.{declared.host_net.StreamRead.StreamRead, declared.host_net.StreamWrite.StreamWrite}
 use Rattle.vs_outside.specs.Host.{Stream, HostContents, stream_at, with_stream, IsOpen, KeepsOthers, called, fails_now, after_failed}
-use Rattle.vs_outside.specs.Host.{is_waiting, waits, take_bytes, give_bytes, accept_answer, after_accept, dialed_stream}
-use Rattle.vs_outside.specs.Host.{after_dial, with_label_call, after_label, after_read, after_write, with_shut_write_call, after_shut_write}
+use Rattle.vs_outside.specs.Host.{is_waiting, waits, take_bytes, give_bytes, accept_answer, after_accept, dialed_stream, after_dial}
+use Rattle.vs_outside.specs.Host.{with_label_call, after_label, after_read, after_write, with_shut_write_call, after_shut_write}
 use Rattle.vs_outside.specs.Host.{after_close}
-use Rattle.vs_outside.specs.HostProgram.{client_stream}
 use Rattle.vs_outside.proofs.Streams.{stream_there}
-use Rattle.vs_outside.specs.declared.host_net.StreamState.{StreamState}
 use Rattle.vs_outside.specs.declared.host_net.StreamState.TheVariants as state
 use Rattle.vs_outside.specs.declared.host_net.Accepted.TheVariants as accepted
-use Rattle.vs_outside.specs.declared.host_net.Dialed.{Dialed}
 use Rattle.vs_outside.specs.declared.host_net.Dialed.TheVariants as dialed
-use Rattle.vs_outside.specs.declared.host_net.StreamRead.{StreamRead}
 use Rattle.vs_outside.specs.declared.host_net.StreamRead.TheVariants as read
-use Rattle.vs_outside.specs.declared.host_net.StreamWrite.{StreamWrite}
 use Rattle.vs_outside.specs.declared.host_net.StreamWrite.TheVariants as write
 
 slice_get-set_same : {X : Type 0} (xs : List X) (k : ℕ) (x y : X) → slice_get xs k ≡ Some x → slice_get (set xs k y) k ≡ Some y

@@ -2,20 +2,17 @@
 use Rattle.std.specs.Prelude.{◌≡◌, ℕ, ◌+◌, min, Bool, true, false, not, ◌||◌, if◌then◌else◌, List, [], ◌∷◌, ◌++◌, filter, None, Some}
 use Rattle.std.specs.Prelude.{is_some, is_none, unwrap_or, count_by, take, codes, decimal, bytes_eq}
 use Rattle.std.specs.Option.{option_map_or}
-use Rattle.vs_outside.specs.Faults.{one_more}
+use Rattle.vs_outside.specs.{Faults.one_more, declared.host_net.StreamRead.StreamRead, declared.host_net.StreamWrite.StreamWrite}
+use Rattle.vs_outside.specs.{declared.host_net.StreamState.StreamState, declared.mem_stream.HostWritten.HostWritten}
 use Rattle.vs_outside.specs.Host.{Stream, Prepared, HostContents, called, stream_at, with_stream, take_bytes, give_bytes, dialed_stream}
+use Rattle.vs_outside.specs.declared.mem_stream.StreamChange.{StreamChange}
 use Rattle.vs_flow.specs.declared.flow.Flow.{Flow}
 use Rattle.vs_header.specs.declared.Kind.{Kind}
 use Rattle.vs_header.specs.declared.Kind.TheVariants as kind
-use Rattle.vs_outside.specs.declared.host_net.StreamRead.{StreamRead}
 use Rattle.vs_outside.specs.declared.host_net.StreamRead.TheVariants as read
-use Rattle.vs_outside.specs.declared.host_net.StreamWrite.{StreamWrite}
 use Rattle.vs_outside.specs.declared.host_net.StreamWrite.TheVariants as write
-use Rattle.vs_outside.specs.declared.host_net.StreamState.{StreamState}
 use Rattle.vs_outside.specs.declared.host_net.StreamState.TheVariants as state
-use Rattle.vs_outside.specs.declared.mem_stream.HostWritten.{HostWritten}
 use Rattle.vs_outside.specs.declared.mem_stream.HostWritten.TheVariants as written
-use Rattle.vs_outside.specs.declared.mem_stream.StreamChange.{StreamChange}
 use Rattle.vs_outside.specs.declared.mem_stream.StreamChange.TheVariants as change
 
 -- What a host in memory exposes, and how many of its calls failed.

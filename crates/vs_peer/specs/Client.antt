@@ -1,18 +1,17 @@
 -- A client's stream, from its dial on.
 use Rattle.std.specs.Prelude.{◌≡◌, ◌<◌, ℕ, ◌+◌, Bool, false, List, [], length, take, Option, Some, Result, Ok, Err}
 use Rattle.vs_contents.specs.Contents.{Relates}
-use Rattle.vs_flow.specs.declared.flow.Flow.{Flow}
+use Rattle.vs_flow.specs.{Flow.host_flow, declared.flow.Flow.Flow}
 use Rattle.vs_outside.specs.Host.{Stream, HostContents, stream_at, is_listened, KeepsOthers}
 use Rattle.vs_uds.specs.{ConnectLine.connect_text, OkLine.IsOkLine, OkLine.ok_step}
 use Rattle.vs_uds.specs.declared.scan.Step.TheVariants.{More, Bad}
+use Rattle.vs_peer.specs.{declared.converse.Opened.Opened, declared.stop.Stop.Stop}
 use Rattle.vs_peer.specs.Passing.{IsClosed, ReadsAgain, ReadsEnd, WritesAgain, SameStreams}
-use Rattle.vs_peer.specs.declared.converse.Opened.{Opened}
-use Rattle.vs_peer.specs.declared.stop.Stop.{Stop}
 use Rattle.vs_peer.specs.declared.stop.Stop.TheVariants as stop
 
 -- The flow of a client that asks for that port: no host port is known before the answer.
 abbrev pub client_flow : ℕ → Flow
-client_flow port = record { guest = port; host = 0 }
+client_flow port = host_flow port 0
 
 -- The client's dial made one stream. These bytes were given to it and those taken of it. All other streams are as before.
 pub record IsClient (port : ℕ) (given' taken' : List ℕ) (before after : HostContents) (s : Stream) : Type 0 where

@@ -69,10 +69,7 @@ fn dial<H: HostNet>(host: &mut H, base: &str, port: u32) -> Result<u64, Stop>
     ensures dials { Dials base.now port (H.contents host.old) (H.contents host.new) result }
     ensures faults { CountsFault (host_failed result) (H.faults host.old) (H.faults host.new) }
 {
-    let flow = Flow {
-        guest: port,
-        host: 0,
-    };
+    let flow = Flow::to_host(port, 0);
     match host.dial(base, flow) {
         Dialed::Stream(id) => Ok(id),
         Dialed::Refused => Err(Stop::Refused),

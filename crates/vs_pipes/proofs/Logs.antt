@@ -1,14 +1,12 @@
 -- Prefixes, and what an entry of a log adds to the payload of a flow.
 use Rattle.std.proofs.Common.{◌≡◌, ◌≢◌, ℕ, Bool, true, false, cond, not, List, [], ◌∷◌, ◌++◌, refl, sym, ap, ◌∙◌, append_assoc}
 use Rattle.std.proofs.lemmas.List.{append-nil}
-use Rattle.vs_flow.specs.Flow.{same_flow}
-use Rattle.vs_flow.specs.declared.flow.Flow.{Flow}
+use Rattle.vs_flow.specs.{Flow.same_flow, declared.flow.Flow.Flow}
 use Rattle.vs_flow.proofs.Entries.{same_flow_false}
-use Rattle.vs_history.specs.History.{Got, History, Put, gots, puts}
-use Rattle.vs_history.specs.declared.packet.Packet.{Packet}
+use Rattle.vs_history.specs.{History.Got, History.History, History.Put, History.gots, History.puts, declared.packet.Packet.Packet}
 use Rattle.vs_matching.specs.Heard.{is_empty}
 use Rattle.vs_page.proofs.Flows.{same_self}
-use Rattle.vs_page.specs.{Fair.IsPrefixOf, Fair.payload_of, Log.Log, Log.Role, Log.flow_got, Log.flow_put, Log.history_of}
+use Rattle.vs_page.specs.{Fair.IsPrefixOf, Fair.payload_of, Log.Log, Log.Role, Log.flow_got, Log.flow_put, Log.whole_of}
 use Rattle.vs_page.specs.declared.log.LogEntry.TheVariants.{GotPacket, PutPacket}
 use Rattle.vs_pipes.specs.Drains.{got_on, has_passed, put_on}
 
@@ -55,7 +53,7 @@ put_by true p h = refl
 put_by false p h = refl
 
 pub got_after_put : (role : Role) (p : Packet) (log : Log) (f : Flow) → got_on role f (PutPacket p ∷ log) ≡ got_on role f log
-got_after_put role p log f = put_by (same_flow f (flow_put role p)) p (history_of role f log)
+got_after_put role p log f = put_by (same_flow f (flow_put role p)) p (whole_of role f log)
 
 pub put_more_by : (b : Bool) (p : Packet) (h : History) → payload_of (puts (cond b (Put p ∷ h) h)) ≡ payload_of (puts h) ++ cond b p.payload []
 put_more_by true p h = refl
@@ -63,14 +61,14 @@ put_more_by false p h = nothing_more (payload_of (puts h))
 
 pub put_after_put : (role : Role) (p : Packet) (log : Log) (f : Flow)
     → put_on role f (PutPacket p ∷ log) ≡ put_on role f log ++ only_on (flow_put role p) p.payload f
-put_after_put role p log f = put_more_by (same_flow f (flow_put role p)) p (history_of role f log)
+put_after_put role p log f = put_more_by (same_flow f (flow_put role p)) p (whole_of role f log)
 
 got_by : (b : Bool) (p : Packet) (h : History) → payload_of (puts (cond b (Got p ∷ h) h)) ≡ payload_of (puts h)
 got_by true p h = refl
 got_by false p h = refl
 
 pub put_after_got : (role : Role) (p : Packet) (log : Log) (f : Flow) → put_on role f (GotPacket p ∷ log) ≡ put_on role f log
-put_after_got role p log f = got_by (same_flow f (flow_got role p)) p (history_of role f log)
+put_after_got role p log f = got_by (same_flow f (flow_got role p)) p (whole_of role f log)
 
 got_more_by : (b : Bool) (p : Packet) (h : History) → payload_of (gots (cond b (Got p ∷ h) h)) ≡ payload_of (gots h) ++ cond b p.payload []
 got_more_by true p h = refl
@@ -78,34 +76,34 @@ got_more_by false p h = nothing_more (payload_of (gots h))
 
 pub got_after_got : (role : Role) (p : Packet) (log : Log) (f : Flow)
     → got_on role f (GotPacket p ∷ log) ≡ got_on role f log ++ only_on (flow_got role p) p.payload f
-got_after_got role p log f = got_more_by (same_flow f (flow_got role p)) p (history_of role f log)
+got_after_got role p log f = got_more_by (same_flow f (flow_got role p)) p (whole_of role f log)
 
 passed_put_by : (b : Bool) (p : Packet) (h : History) → not (is_empty h) ≡ true → not (is_empty (cond b (Put p ∷ h) h)) ≡ true
 passed_put_by true p h is = refl
 passed_put_by false p h is = is
 
 pub passed_after_put : (role : Role) (p : Packet) (log : Log) (f : Flow) → has_passed role f log ≡ true → has_passed role f (PutPacket p ∷ log) ≡ true
-passed_after_put role p log f is = passed_put_by (same_flow f (flow_put role p)) p (history_of role f log) is
+passed_after_put role p log f is = passed_put_by (same_flow f (flow_put role p)) p (whole_of role f log) is
 
 passed_got_by : (b : Bool) (p : Packet) (h : History) → not (is_empty h) ≡ true → not (is_empty (cond b (Got p ∷ h) h)) ≡ true
 passed_got_by true p h is = refl
 passed_got_by false p h is = is
 
 pub passed_after_got : (role : Role) (p : Packet) (log : Log) (f : Flow) → has_passed role f log ≡ true → has_passed role f (GotPacket p ∷ log) ≡ true
-passed_after_got role p log f is = passed_got_by (same_flow f (flow_got role p)) p (history_of role f log) is
+passed_after_got role p log f is = passed_got_by (same_flow f (flow_got role p)) p (whole_of role f log) is
 
 pub put_passes : (role : Role) (p : Packet) (log : Log) (f : Flow) → flow_put role p ≡ f → has_passed role f (PutPacket p ∷ log) ≡ true
 put_passes role p log f is =
-    ap (λ (b : Bool). not (is_empty (cond b (Put p ∷ history_of role f log) (history_of role f log))))
+    ap (λ (b : Bool). not (is_empty (cond b (Put p ∷ whole_of role f log) (whole_of role f log))))
     (ap (λ (g : Flow). same_flow f g) is ∙ same_self f)
 
 pub got_passes : (role : Role) (p : Packet) (log : Log) (f : Flow) → flow_got role p ≡ f → has_passed role f (GotPacket p ∷ log) ≡ true
 got_passes role p log f is =
-    ap (λ (b : Bool). not (is_empty (cond b (Got p ∷ history_of role f log) (history_of role f log))))
+    ap (λ (b : Bool). not (is_empty (cond b (Got p ∷ whole_of role f log) (whole_of role f log))))
     (ap (λ (g : Flow). same_flow f g) is ∙ same_self f)
 
 -- Nothing passed.
-pub none_passed : (role : Role) (f : Flow) (log : Log) → history_of role f log ≡ [] → has_passed role f log ≡ false
+pub none_passed : (role : Role) (f : Flow) (log : Log) → whole_of role f log ≡ [] → has_passed role f log ≡ false
 none_passed role f log is = ap (λ (h : History). not (is_empty h)) is
 
 none_by : (h : History) → not (is_empty h) ≡ false → (payload_of (gots h) ≡ []) × (payload_of (puts h) ≡ [])
@@ -113,7 +111,7 @@ none_by [] is = (refl, refl)
 none_by (x ∷ h) is = absurd cc
 
 pub none_got : (role : Role) (f : Flow) (log : Log) → has_passed role f log ≡ false → got_on role f log ≡ []
-none_got role f log is = (none_by (history_of role f log) is).0
+none_got role f log is = (none_by (whole_of role f log) is).0
 
 pub none_put : (role : Role) (f : Flow) (log : Log) → has_passed role f log ≡ false → put_on role f log ≡ []
-none_put role f log is = (none_by (history_of role f log) is).1
+none_put role f log is = (none_by (whole_of role f log) is).1

@@ -6,7 +6,7 @@ use Rattle.std.proofs.lemmas.Option.{get_or_from_slice_get, slice_get_within}
 use Rattle.std.specs.{List.All, List.find, Option.option_map, Option.option_map_or}
 use Rattle.vs_conn.specs.End.{answering, asked}
 use Rattle.vs_device_parts.specs.{Connections.new_connection, State.DeviceConnection}
-use Rattle.vs_flow.specs.{Flow.is_assigned, Table.Table, Table.with_entry, declared.flow.Flow.Flow}
+use Rattle.vs_flow.specs.{Flow.host_flow, Flow.is_assigned, Table.Table, Table.with_entry, declared.flow.Flow.Flow}
 use Rattle.vs_flow.proofs.{Entries.found_passes, Lookups.find_place}
 use Rattle.vs_header.specs.declared.Header.{Header}
 use Rattle.vs_limits.specs.declared.TheConstants.{BUF_ALLOC}
@@ -21,6 +21,7 @@ use Rattle.vs_pipes.specs.Drains.{got_on, has_passed, put_on}
 use Rattle.vs_pipes.proofs.{Hosts.changed_seen, Hosts.others_seen, Hosts.there, HostCalls.more_kept, HostCalls.some_seen}
 use Rattle.vs_pipes.proofs.{Logs.none_got, Logs.none_put, Streamed.opened_streamed, Streamed.unlabelled_streamed}
 use Rattle.vs_pipes.proofs.Hands.{with_all, with_apart, without_all, without_none, without_pairs}
+use Rattle.vs_header.specs.declared.Kind.TheVariants as kind
 use Rattle.vs_outside.specs.declared.host_net.Dialed.TheVariants as dialed
 use Rattle.vs_outside.specs.declared.host_net.StreamRead.TheVariants as read
 
@@ -174,7 +175,7 @@ module _ (c : HostContents) (log : Log) (port : ℕ) (t : Table DeviceConnection
     (id guest : ℕ) (line : List ℕ) (here : look c id ≡ Some (reading line)) (away : All (λ h. h.stream ≢ id) lines)
     (whole : has_line line ≡ true) (none_behind : after_line line ≡ []) (inside : is_assigned port ≡ true) where
   abbrev f : Flow
-  f = record { guest = guest; host = port }
+  f = host_flow guest port
 
   abbrev labelled_now : HostContents
   labelled_now = after_label id f c
@@ -197,13 +198,13 @@ module _ (c : HostContents) (log : Log) (port : ℕ) (t : Table DeviceConnection
   fresh_label : (j : ℕ) (u : Seen) → look c j ≡ Some u → u.label ≢ Some f
   fresh_label j u is on = let old = x.labels j u f is on in absurd (omega (arith, old.ported inside))
 
-  pub label_host : IsStreamed labelled_now log (port + 1) (with_entry t f (new_connection (asked BUF_ALLOC) id true)) lines
+  pub label_host : IsStreamed labelled_now log (port + 1) (with_entry t f (new_connection (asked kind.Stream BUF_ALLOC) id true)) lines
   label_host =
       let none : put_on Device f log ≡ [] = x.none f fresh_label in
-      subst (λ (ids : List ℕ). AreStreamed (look labelled_now) ids log (port + 1) (with_entry t f (new_connection (asked BUF_ALLOC) id true)) lines)
+      subst (λ (ids : List ℕ). AreStreamed (look labelled_now) ids log (port + 1) (with_entry t f (new_connection (asked kind.Stream BUF_ALLOC) id true)) lines)
       (sym (ap (λ (b : Bool). cond b c.labelled (c.labelled ++ id ∷ [])) no_label))
       (opened_streamed (look c) (look labelled_now) c.labelled log log port (port + 1) t lines lines x id (record (reading line) { label = Some f }) f
-      (new_connection (asked BUF_ALLOC) id true) label_seen refl refl others_labelled
+      (new_connection (asked kind.Stream BUF_ALLOC) id true) label_seen refl refl others_labelled
       (λ b is. ap (λ (s : Seen). s.label) (sym (some_seen (reading line) b (sym here ∙ is)))) (omega arith) (λ g. refl) (λ g. refl) (λ g is. is) fresh_label refl
       (record {
         listed = Contains-push c.labelled id;
@@ -289,13 +290,13 @@ module _ (c : HostContents) (log new : Log) (port : ℕ) (t : Table DeviceConnec
   no_first_line : line_for f ≡ []
   no_first_line = ap (λ (b : Bool). cond b (ok_text f.host) []) outside
 
-  pub dial_host : IsStreamed dialed_now new port (with_entry t f (new_connection (answering BUF_ALLOC h) (length c.streams + 1) false)) hands
+  pub dial_host : IsStreamed dialed_now new port (with_entry t f (new_connection (answering kind.Stream BUF_ALLOC h) (length c.streams + 1) false)) hands
   dial_host =
       let none_put_on : put_on Device f new ≡ [] = sym (put f) ∙ none_put Device f log quiet in
       let none_got_on : got_on Device f new ≡ [] = sym (got f) ∙ none_got Device f log quiet in
       let all : line_for f ++ got_on Device f new ≡ [] = ap (λ (bytes : List ℕ). bytes ++ got_on Device f new) no_first_line ∙ none_got_on in
       opened_streamed (look c) (look dialed_now) c.labelled log new port port t hands hands x (length c.streams + 1) (seen (dialed_stream f c.prepared)) f
-      (new_connection (answering BUF_ALLOC h) (length c.streams + 1) false) dialed_seen refl refl others_dialed nothing_before (omega arith) put got passed fresh_dial refl
+      (new_connection (answering kind.Stream BUF_ALLOC h) (length c.streams + 1) false) dialed_seen refl refl others_dialed nothing_before (omega arith) put got passed fresh_dial refl
       (record {
         listed = Contains-push c.labelled (length c.streams + 1);
         client = sym outside;

@@ -1,14 +1,12 @@
 -- A chain that the device returns is the page that the driver gets back.
+use Rattle.std.proofs.{lemmas.Bool.Decides.nat_tests, lemmas.Nat.mod_below}
 use Rattle.std.proofs.Common.{inr, ◌≡◌, ◌⊎◌, ℕ, ◌+◌, ◌*◌, ◌%◌, ◌^◌, ◌<◌, ◌≤◌, Bool, false, cond, List, length, Option, None, Some, refl}
 use Rattle.std.proofs.Common.{sym, ap, ◌∙◌, subst, arith}
 use Rattle.std.specs.Prelude.{◌-◌, ◌==◌, ◌||◌, nat_le, nat_lt, min, slice_index_or}
-use Rattle.std.proofs.lemmas.Bool.Decides.{nat_tests}
-use Rattle.std.proofs.lemmas.Nat.{mod_below}
 use Rattle.byteorder.specs.Endian.{little_bytes, little_number}
 use Rattle.vs_guest_mem.specs.Memory.{Memory, after_access, after_write, bytes_at}
 use Rattle.vs_header.proofs.RoundTrip.{little_number-little_bytes}
-use Rattle.vs_layout.specs.{Entry.used_elem_bytes, Entry.used_elem_of, Layout.used_elem, Layout.used_idx}
-use Rattle.vs_layout.specs.declared.entry.UsedElem.{UsedElem}
+use Rattle.vs_layout.specs.{Entry.used_elem_bytes, Entry.used_elem_of, Layout.used_elem, Layout.used_idx, declared.entry.UsedElem.UsedElem}
 use Rattle.vs_layout.specs.declared.place.Areas.{Areas}
 use Rattle.vs_ring_plain.specs.{Chain.ahead, Still.IsStill}
 use Rattle.vs_ring_plain.proofs.Still.{is_quiet, quiet}

@@ -5,8 +5,7 @@ use Rattle.vs_header.specs.declared.TheConstants.{HEADER_LEN}
 use Rattle.vs_layout.specs.{Layout.AreInside, Layout.IsPlaced, Layout.avail_area, Layout.desc_area, Layout.used_area, Span.IsApart}
 use Rattle.vs_layout.specs.declared.place.Areas.{Areas}
 use Rattle.vs_page.specs.declared.page.TheConstants.{PAGE_LEN}
-use Rattle.vs_ring_port.specs.declared.queue.{Queue.Queue, TheConstants.QUEUE_SIZE_MAX}
-use Rattle.vs_ring_port.specs.declared.queue.Queue.TheVariants.{Tx}
+use Rattle.vs_ring_port.specs.{declared.queue.Queue.Queue, declared.queue.TheConstants.QUEUE_SIZE_MAX, declared.queue.Queue.TheVariants.Tx}
 use Rattle.vs_ring_plain.specs.{Accesses.over, Chain.Ring, Pieces.returning}
 use Rattle.vs_plain_driver.specs.Queue.{DriverQueueState, flight_in, published_memory, staged_memory, staged_queue}
 

@@ -1,12 +1,12 @@
 -- Where each call's answer is determined, so is a conversation's.
 use Rattle.std.proofs.Common.{◌≡◌, ℕ, ◌+◌, List, length, take, Option, Some, refl, sym, ap, ◌∙◌, subst}
 use Rattle.vs_contents.specs.{CallTree.Ask, CallTree.CallTree, CallTree.Done, CallTree.Leads, CallTree.played, Contents.Exposes}
+use Rattle.vs_ring_port.specs.{EndLog.EndLog, EndLog.log_loaded, EndLog.log_reaped, EndLog.log_taken, declared.device_ring.Next.Next}
 use Rattle.vs_ring_port.specs.Contents.{DeviceAnswer, DeviceCall, Given, PublishCid, Read, Return, RingContents, Take, Write}
-use Rattle.vs_ring_port.specs.DeviceCalls.{DeviceAllows, DeviceMoves, device_answer}
 use Rattle.vs_ring_port.specs.DriverCalls.{DriverAllows, DriverAnswer, DriverCall, DriverMoves, LoadCid, Publish, Reap, Stage}
-use Rattle.vs_ring_port.specs.{DriverCalls.driver_answer, EndLog.EndLog, EndLog.log_loaded, EndLog.log_reaped, EndLog.log_taken}
+use Rattle.vs_ring_port.specs.DriverCalls.{driver_answer}
 use Rattle.vs_ring_port.specs.Lists.{Rings, after_publish, after_return, next_at, oldest, queue_of}
-use Rattle.vs_ring_port.specs.declared.device_ring.Next.{Next}
+use Rattle.vs_ring_port.specs.DeviceCalls.{DeviceAllows, DeviceMoves, device_answer}
 use Rattle.vs_ring_list.specs.Ends.{Ends}
 use Rattle.vs_plain_ties.specs.Seen.{ShowsDevice, ShowsDriver}
 

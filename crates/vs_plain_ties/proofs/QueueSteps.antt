@@ -1,18 +1,16 @@
 -- What each call makes of one queue whose lists lie in its memory.
+use Rattle.std.proofs.{lemmas.Bool.Decides.eqb_tells, lemmas.List.get_or-set_same, lemmas.List.get_or-set_other, lemmas.List.length-set}
 use Rattle.std.proofs.Common.{◌≡◌, ◌⊎◌, inl, inr, ℕ, ◌+◌, ◌*◌, ◌%◌, ◌^◌, ◌<◌, ◌≤◌, true, false, List, [], ◌∷◌, ◌++◌, length, Some, None}
 use Rattle.std.proofs.Common.{refl, sym, ap, ◌∙◌, subst, arith, length-append, append_assoc, append-nil}
+use Rattle.std.proofs.lemmas.Nat.{mod_below}
 use Rattle.std.specs.Prelude.{◌==◌, set, slice_index_or}
-use Rattle.std.proofs.lemmas.Bool.Decides.{eqb_tells}
-use Rattle.std.proofs.lemmas.{List.get_or-set_same, List.get_or-set_other, List.length-set, Nat.mod_below}
-use Rattle.vs_ring_port.specs.{DriverCalls.HoldsPacket, Lists.Lists}
-use Rattle.vs_ring_port.specs.declared.queue.Queue.{Queue}
-use Rattle.vs_ring_port.specs.declared.queue.Queue.TheVariants.{Tx}
+use Rattle.vs_ring_port.specs.{DriverCalls.HoldsPacket, Lists.Lists, declared.queue.Queue.Queue, declared.queue.Queue.TheVariants.Tx}
 use Rattle.vs_ring_plain.specs.declared.turns.Turns.{Turns}
 use Rattle.vs_plain_driver.specs.Queue.{DriverQueueState, desc_for, published_queue}
 use Rattle.vs_plain_ties.specs.{Queue.AreOut, Queue.HasPage, Queue.IsQueueTied, Queue.times, Shown.Shown}
+use Rattle.vs_plain_ties.proofs.Rows.{IsSameAt, back_kept, back_length, out_kept, out_length, out_push}
 use Rattle.vs_plain_ties.proofs.Counting.{times-cons, times-other, times-push, times-self}
 use Rattle.vs_plain_ties.proofs.Modulo.{apart, wraps_further}
-use Rattle.vs_plain_ties.proofs.Rows.{IsSameAt, back_kept, back_length, out_kept, out_length, out_push}
 use Rattle.vs_plain_ties.proofs.Spots.{AvailIdx, Describing, Entry, PageOf, Untouched}
 
 pub push_length : {A : Type 0} (xs : List A) (x : A) → length (xs ++ x ∷ []) ≡ length xs + 1

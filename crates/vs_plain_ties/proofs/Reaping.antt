@@ -1,26 +1,22 @@
 -- A page is reaped, or none.
-use Rattle.std.proofs.Common.{◌≡◌, ℕ, ◌+◌, ◌*◌, ◌%◌, ◌^◌, ◌<◌, Bool, true, false, cond, List, [], ◌∷◌, ◌++◌, length, Option}
-use Rattle.std.proofs.Common.{None, Some, refl, sym, ap, ◌∙◌, subst, arith}
-use Rattle.std.specs.Prelude.{◌-◌, ◌≤◌, ◌==◌, ◌||◌, min, nat_le, nat_lt, set, slice_index_or}
+use Rattle.std.proofs.Common.{◌≡◌, ℕ, ◌+◌, ◌*◌, ◌%◌, ◌^◌, ◌<◌, Bool, true, false, cond, List, [], ◌∷◌, ◌++◌, length, Option, None, Some}
+use Rattle.std.proofs.Common.{refl, sym, ap, ◌∙◌, subst, arith}
 use Rattle.std.proofs.lemmas.Bool.Decides.{nat_tests}
+use Rattle.std.specs.Prelude.{◌-◌, ◌≤◌, ◌==◌, ◌||◌, min, nat_le, nat_lt, set, slice_index_or}
 use Rattle.vs_guest_mem.specs.Memory.{Memory, bytes_at}
-use Rattle.vs_layout.specs.{Entry.used_elem_of, Layout.used_elem}
-use Rattle.vs_layout.specs.declared.entry.UsedElem.{UsedElem}
+use Rattle.vs_layout.specs.{Entry.used_elem_of, Layout.used_elem, declared.entry.UsedElem.UsedElem}
 use Rattle.vs_ring_port.specs.{DriverCalls.Reap, EndLog.entries_reaped, EndLog.pages_at}
-use Rattle.vs_ring_port.specs.Lists.{Lists, all_but_oldest, next_back, oldest, queue_of}
-use Rattle.vs_ring_port.specs.declared.queue.Queue.{Queue}
+use Rattle.vs_ring_port.specs.{Lists.Lists, Lists.all_but_oldest, Lists.next_back, Lists.oldest, Lists.queue_of, declared.queue.Queue.Queue}
 use Rattle.vs_ring_port.specs.declared.queue.Queue.TheVariants.{Rx, Tx, Event}
 use Rattle.vs_ring_list.specs.Ends.{Ends}
 use Rattle.vs_ring_list.proofs.Ties.{tied-reap}
 use Rattle.vs_ring_plain.specs.{Chain.ahead, Device.turns_at}
-use Rattle.vs_plain_driver.specs.Queue.{DriverQueueState, flight_in, next_elem, numbered, page_back, reaped_page, reaped_queue}
-use Rattle.vs_plain_driver.specs.Queue.{used_ahead}
-use Rattle.vs_plain_ties.specs.{Calls.after_driver, Parts.PartsState, Parts.driver_at, Parts.reaped_parts, Parts.used_in, Parts.with_driver}
-use Rattle.vs_plain_ties.specs.{Queue.HasPage, Queue.IsBack, Queue.IsQueueTied, Shown.Shown}
+use Rattle.vs_plain_driver.specs.Queue.{DriverQueueState, flight_in, next_elem, numbered, page_back, reaped_page, reaped_queue, used_ahead}
+use Rattle.vs_plain_ties.specs.{Calls.after_driver, Queue.HasPage, Queue.IsBack, Queue.IsQueueTied, Shown.Shown}
+use Rattle.vs_plain_ties.specs.Parts.{PartsState, driver_at, reaped_parts, used_in, with_driver}
 use Rattle.vs_plain_ties.specs.Tie.{AreTied, areas_of, heads_of, shown_of, start_of}
-use Rattle.vs_plain_ties.proofs.Assemble.{driver_form, driver_step, ends_form}
 use Rattle.vs_plain_ties.proofs.{QueueReturns.id_has, QueueReturns.row, QueueReturns.tie_reaped, QueueSteps.out_count, Rows.back_length}
-use Rattle.vs_plain_ties.proofs.{Spots.untouched_none, Taking.chosen}
+use Rattle.vs_plain_ties.proofs.{Spots.untouched_none, Taking.chosen, Assemble.driver_form, Assemble.driver_step, Assemble.ends_form}
 
 first_of : {A : Type 0} (b : Bool) (x y : A) → b ≡ true → cond b x y ≡ x
 first_of b x y on = rw on refl

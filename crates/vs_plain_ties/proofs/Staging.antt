@@ -1,24 +1,22 @@
 -- A page is staged: what is written, and both ends after it.
 use Rattle.std.proofs.Common.{◌≡◌, ℕ, ◌+◌, ◌*◌, ◌%◌, ◌<◌, ◌≤◌, false, List, [], ◌∷◌, ◌++◌, length, Option, Some, refl, sym, ap, ap₂, ◌∙◌}
 use Rattle.std.proofs.Common.{subst, arith}
-use Rattle.std.specs.Prelude.{drop, set, slice_index_or}
 use Rattle.std.proofs.lemmas.Nat.{mod_below}
+use Rattle.std.specs.Prelude.{drop, set, slice_index_or}
 use Rattle.byteorder.specs.Endian.{little_bytes, little_number}
 use Rattle.vs_guest_mem.specs.Memory.{Memory, after_write}
 use Rattle.vs_header.proofs.RoundTrip.{little_number-little_bytes}
-use Rattle.vs_layout.specs.{Entry.desc_bytes, Entry.desc_of, Layout.avail_entry, Layout.desc_entry}
-use Rattle.vs_layout.specs.declared.entry.Desc.{Desc}
+use Rattle.vs_layout.specs.{Entry.desc_bytes, Entry.desc_of, Layout.avail_entry, Layout.desc_entry, declared.entry.Desc.Desc}
 use Rattle.vs_layout.specs.declared.place.Areas.{Areas}
-use Rattle.vs_ring_port.specs.{Chains.same_queue, DriverCalls.HoldsPacket, DriverCalls.Stage, EndLog.pages_at, Lists.Rings, Lists.queue_of}
-use Rattle.vs_ring_port.specs.Lists.{with_queue}
-use Rattle.vs_ring_port.specs.declared.queue.Queue.{Queue}
+use Rattle.vs_ring_port.specs.{Chains.same_queue, DriverCalls.HoldsPacket, DriverCalls.Stage, EndLog.pages_at}
+use Rattle.vs_ring_port.specs.{Lists.Rings, Lists.queue_of, Lists.with_queue, declared.queue.Queue.Queue}
 use Rattle.vs_ring_port.specs.declared.queue.Queue.TheVariants.{Rx, Tx, Event}
 use Rattle.vs_ring_list.specs.{Ends.Ends, Sound.IsTied}
 use Rattle.vs_ring_plain.specs.Device.{turns_at}
 use Rattle.vs_plain_driver.specs.Queue.{DriverQueueState, desc_for, page_at, staged_memory, staged_queue, with_page}
-use Rattle.vs_plain_ties.specs.Calls.{after_driver}
+use Rattle.vs_plain_ties.specs.{Calls.after_driver, Shown.shown}
 use Rattle.vs_plain_ties.specs.Parts.{PartsState, driver_at, staged_parts, with_driver, with_parts_memory}
-use Rattle.vs_plain_ties.specs.{Shown.shown, Tie.AreTied, Tie.IsLaid, Tie.areas_of, Tie.heads_of, Tie.shown_of, Tie.start_of}
+use Rattle.vs_plain_ties.specs.Tie.{AreTied, IsLaid, areas_of, heads_of, shown_of, start_of}
 use Rattle.vs_plain_ties.proofs.{Assemble.driver_form, Assemble.driver_form_is, Assemble.driver_step, Assemble.ends_form, Encoded.desc_back}
 use Rattle.vs_plain_ties.proofs.{Frames.length_written, Frames.written, QueueSteps.id_below, QueueSteps.not_id, QueueSteps.tie_staged}
 use Rattle.vs_plain_ties.proofs.Spots.{Describing, Entry, PageOf, Untouched, high, laid_same, low, untouched_both, untouched_other}

@@ -1,33 +1,30 @@
 -- The next chain is taken, or none.
 use Rattle.std.proofs.Common.{◌≡◌, ℕ, ◌+◌, ◌*◌, ◌%◌, ◌^◌, ◌<◌, ◌≤◌, Bool, true, false, cond, ◌||◌, List, [], ◌∷◌, length, refl, sym, ap}
 use Rattle.std.proofs.Common.{Some, ap₂, ◌∙◌, subst, arith}
-use Rattle.std.specs.Prelude.{nat_le, nat_lt}
 use Rattle.std.proofs.lemmas.Bool.Decides.{nat_tests}
+use Rattle.std.specs.Prelude.{nat_le, nat_lt}
 use Rattle.vs_guest_mem.specs.Memory.{Memory, after_access, is_within}
 use Rattle.vs_layout.specs.declared.entry.Desc.{Desc}
 use Rattle.vs_ring_port.specs.{Chains.Held, Chains.same_queue, Contents.Take, DeviceCalls.IsTakenWhole, DriverCalls.HoldsPacket}
+use Rattle.vs_ring_port.specs.{declared.device_ring.Chain.Chain, declared.device_ring.Next.Next, declared.queue.Queue.Queue}
 use Rattle.vs_ring_port.specs.EndLog.{entries_taken, pages_at}
 use Rattle.vs_ring_port.specs.Lists.{Lists, chain_with, next_at, next_given, queue_of, to_read}
-use Rattle.vs_ring_port.specs.declared.device_ring.{Chain.Chain, Next.Next}
-use Rattle.vs_ring_port.specs.declared.device_ring.Next.TheVariants as next
-use Rattle.vs_ring_port.specs.declared.queue.Queue.{Queue}
 use Rattle.vs_ring_port.specs.declared.queue.Queue.TheVariants.{Rx, Tx, Event}
 use Rattle.vs_ring_list.specs.Ends.{Ends}
 use Rattle.vs_ring_list.proofs.Ties.{tied-take}
+use Rattle.vs_ring_plain.specs.{Still.IsGiven, declared.piece.Piece.Piece, declared.turns.Turns.Turns}
 use Rattle.vs_ring_plain.specs.Chain.{Taken, ahead, has, piece_of, too_small, total_len, wrong_way}
 use Rattle.vs_ring_plain.specs.Device.{DeviceState, HeldChain, answer_found, answer_taken, answer_to, chain_at, is_busy, ring_at, turns_at}
-use Rattle.vs_ring_plain.specs.{Device.with_memory, Still.IsGiven}
-use Rattle.vs_ring_plain.specs.declared.piece.Piece.{Piece}
-use Rattle.vs_ring_plain.specs.declared.turns.Turns.{Turns}
+use Rattle.vs_ring_plain.specs.Device.{with_memory}
 use Rattle.vs_ring_plain.proofs.Still.{none_still, taken_still}
 use Rattle.vs_plain_driver.specs.Queue.{desc_for}
 use Rattle.vs_plain_ties.specs.{Calls.after_device, Parts.PartsState, Parts.driver_at, Queue.IsOut, Queue.IsQueueTied}
 use Rattle.vs_plain_ties.specs.{Shown.Shown, Shown.shown, Tie.AreTied, Tie.IsHeldAs, Tie.areas_of, Tie.heads_of, Tie.shown_of, Tie.start_of}
-use Rattle.vs_plain_ties.proofs.Assemble.{device_ends, device_form, device_step}
-use Rattle.vs_plain_ties.proofs.Held.{all_whole, count_heads, heads_here}
 use Rattle.vs_plain_ties.proofs.{QueueReturns.given_row, QueueReturns.id_held, QueueReturns.tie_taken, QueueSteps.out_count, Queues.turned}
+use Rattle.vs_plain_ties.proofs.{Held.all_whole, Held.count_heads, Held.heads_here, Spots.untouched_same}
 use Rattle.vs_plain_ties.proofs.Quiet.{IsQuietly, held_seen, quiet_step, quietly_after, quietly_now, seen}
-use Rattle.vs_plain_ties.proofs.Spots.{untouched_same}
+use Rattle.vs_plain_ties.proofs.Assemble.{device_ends, device_form, device_step}
+use Rattle.vs_ring_port.specs.declared.device_ring.Next.TheVariants as next
 
 pub chosen : {A : Type 0} (b : Bool) (x y : A) → b ≡ false → cond b x y ≡ y
 chosen b x y off = rw off refl

@@ -4,9 +4,9 @@ use Rattle.vs_guest_mem.specs.Memory.{Memory}
 use Rattle.vs_layout.specs.Layout.{queue_areas_of}
 use Rattle.vs_ring_port.specs.Contents.{RingContents}
 use Rattle.vs_ring_list.specs.Ends.{Ends, empty_ends}
-use Rattle.vs_ring_list.specs.Ends as list
 use Rattle.vs_ring_plain.specs.Device.{DeviceState, plain_state}
 use Rattle.vs_plain_ties.specs.Parts.{PartsState, pages_start}
+use Rattle.vs_ring_list.specs.Ends as list
 
 -- Both ends in their memory; and what is in flight between them with what each of them did, where they alone change the memory.
 pub record BothEnds : Type 0 where

@@ -3,9 +3,7 @@ use Rattle.std.specs.Prelude.{◌≡◌, ℕ, ◌+◌, ◌*◌, ◌%◌, ◌^◌
 use Rattle.std.specs.Prelude.{if◌then◌else◌, ⊤}
 use Rattle.vs_header.specs.declared.TheConstants.{HEADER_LEN}
 use Rattle.vs_page.specs.declared.page.TheConstants.{PAGE_LEN}
-use Rattle.vs_ring_port.specs.{DriverCalls.HoldsPacket, Lists.Lists}
-use Rattle.vs_ring_port.specs.declared.queue.Queue.{Queue}
-use Rattle.vs_ring_port.specs.declared.queue.Queue.TheVariants.{Tx}
+use Rattle.vs_ring_port.specs.{DriverCalls.HoldsPacket, Lists.Lists, declared.queue.Queue.Queue, declared.queue.Queue.TheVariants.Tx}
 use Rattle.vs_ring_plain.specs.declared.turns.Turns.{Turns}
 use Rattle.vs_plain_driver.specs.Queue.{DriverQueueState, desc_for}
 use Rattle.vs_plain_ties.specs.Shown.{Shown}

@@ -10,10 +10,7 @@ use Rattle.vs_outside.specs.{HostBytes.host_wrote, Host.HostContents, HostProgra
 use Rattle.vs_pipes.specs.Drains.{put_on}
 use Rattle.std.specs.List.{Contains}
 use Rattle.vs_page.specs.Log.{Device, Driver, Log, Role, history_of}
-use Rattle.vs_script.specs.Outside as outside
-use Rattle.vs_script.specs.Play as script
-use Rattle.vs_script.specs.{Play.Event, Script.Plays, Script.parse_of}
-use Rattle.vs_script.specs.declared.script.Command.TheVariants as command
+use Rattle.vs_script.specs.{Play.Event, Script.Plays, Script.parse_of, Bounds.AreBounded}
 use Rattle.vs_report.specs.Report.{counts_text, device_open_text, guest_open_text, stream_texts}
 use Rattle.vs_world.specs.{Calls.sent_on, Events.is_at_rest, Events.is_guest_cid, Events.reset_made, Laws.IsEmptied, Pipes.IsFresh}
 use Rattle.vs_world.specs.{Sides.both_of, Sides.device_ends, Sides.driver_ends, Steps.Leads, World.World, World.first_cid}
@@ -21,13 +18,15 @@ use Rattle.vs_world.proofs.{Bytes.wrote_is_put, CallRests.opening_rests, GuestLi
 use Rattle.vs_world.proofs.{ResetTables.device_emptied, ScriptLines.script_leads, ScriptLines.script_rests, Sound.Goes, Sound.IsWell}
 use Rattle.vs_world.proofs.Carried.{sent_stays, wrote_stays}
 use Rattle.vs_play.specs.{Answer.base_path, Answer.opened_play, Answer.texts_of, Answer.world_after, Lines.PlayWorld}
-use Rattle.vs_script.specs.Bounds.{AreBounded}
 use Rattle.vs_play_laws.specs.Headline.{IsLawful, StaysShut, world_of}
+use Rattle.vs_play_laws.proofs.{Shutting.IsShut, Shutting.is_shut, Shutting.run_shut, Unfailed.script_fine}
 use Rattle.vs_play_laws.proofs.PlayLines.{after_both, cid_right, front_bounded, lines_of, lines_receive, lines_right, lines_send}
-use Rattle.vs_play_laws.proofs.{PlayLines.rest_bounded, PlayLines.world_is, Shutting.IsShut, Shutting.is_shut, Shutting.run_shut}
-use Rattle.vs_play_laws.proofs.Unfailed.{script_fine}
+use Rattle.vs_play_laws.proofs.PlayLines.{rest_bounded, world_is}
 use Rattle.vs_play_laws.proofs.Reached.{carries, holds_open, holds_rest, keeps_credit, log_is, many_device, many_guest, own_streams, queued}
 use Rattle.vs_script.proofs.Bounded.{all_bounded}
+use Rattle.vs_script.specs.Outside as outside
+use Rattle.vs_script.specs.Play as script
+use Rattle.vs_script.specs.declared.script.Command.TheVariants as command
 
 -- A play's host has no streams at first.
 abbrev play_host : HostContents
@@ -65,7 +64,7 @@ module _ (w v : World) (f : Flow) (well : IsWell Fresh w) (goes : Goes Fresh w v
   decided_put : (role : Role) → IsShut role first_cid f (at role (both_of w)).part (at role (both_of w)).log
       → put_on role f (at role (both_of v)).log ≡ put_on role f (at role (both_of w)).log
   decided_put role x = subst (λ (b : Both). put_on role f (at role b).log ≡ put_on role f (at role (both_of w)).log) goes.runs.ends
-      (run_shut role first_cid f goes.runs.steps (both_of w) well.sound goes.runs.may x)
+      (run_shut role first_cid f goes.runs.steps (both_of w) well.sound well.once goes.runs.may goes.runs.anew x)
 
   guest_decided : (e : DriverEntry) → Contains w.driver.table.entries e → e.flow ≡ f → e.value.end.own.send ≡ true
       → sent_on f v.journal ≡ sent_on f w.journal

@@ -1,20 +1,20 @@
 -- What holds of a world in which nothing is staged, where it is well.
+use Rattle.vs_flow.specs.{Connection.first_of, declared.flow.Flow.Flow}
+use Rattle.std.proofs.{lemmas.List.length-map, lemmas.Bool.and_parts, lemmas.List.Elements.All-map, lemmas.List.Elements.Contains-get_or}
 use Rattle.std.proofs.Common.{[], ap, Bool, false, get_or, length, List, not, refl, subst, suc, sym, true, ℕ, ◌&&◌, ◌++◌, ◌∷◌, ◌≡◌, ◌≢◌}
 use Rattle.std.proofs.Common.{◌∙◌, arith}
-use Rattle.std.proofs.lemmas.{List.length-map, Bool.and_parts}
+use Rattle.std.proofs.lemmas.List.Kept.{AllPairs-cons}
 use Rattle.std.specs.List.{AllPairs}
-use Rattle.std.proofs.lemmas.List.{Elements.All-map, Elements.Contains-get_or, Kept.AllPairs-cons}
-use Rattle.vs_flow.specs.declared.flow.Flow.{Flow}
 use Rattle.vs_history.specs.History.{History, IsFair, MayPut, Put, Side, gots, puts}
 use Rattle.vs_history.specs.declared.packet.Packet.{Packet}
-use Rattle.vs_matching.specs.{Ends.FlowEnd, Ends.begun_flows, Ends.flows_of, Ends.is_among, Matches.Matches, Matches.MatchesFlows}
-use Rattle.vs_matching.proofs.Tables.{all_open, driver_open, table_distinct, table_open}
+use Rattle.vs_matching.specs.Ends.{FlowEnd, begun_flows, flows_of, is_among, replied}
+use Rattle.vs_matching.specs.Matches.{Matches, MatchesFlows}
+use Rattle.vs_matching.proofs.{Fair.fair_now, Tables.all_open, Tables.driver_open, Tables.table_distinct, Tables.table_open}
 use Rattle.vs_page.specs.Fair.{IsFairLog, IsPrefixOf, payload_got, payload_put}
 use Rattle.vs_page.specs.Log.{Device, Driver, HasGotAll, Log, Role, side_of}
 use Rattle.vs_page.specs.Open.{WasOpened, is_left_open, is_open}
 use Rattle.vs_page.proofs.Opened.{was_opened}
 use Rattle.vs_pipes.specs.Drains.{Drains, receives}
-use Rattle.vs_ring_port.specs.EndLog.{all_put as with_pages}
 use Rattle.vs_world.specs.{Calls.received_on, Calls.sent_on, Events.is_at_rest, Events.none_staged}
 use Rattle.vs_world.specs.{Sides.device_ends, Sides.driver_ends, Sides.log_with_staged, World.World, World.first_cid}
 use Rattle.vs_world.proofs.{Bytes.read_own, Bytes.wrote_own, Sound.IsWell}
@@ -22,6 +22,7 @@ use Rattle.vs_world.proofs.Carried.{given_is, gone_of, one_stream, pending_of, r
 use Rattle.vs_world.proofs.Carried.{to_host, unread_of, wrote_is}
 use Rattle.vs_play_laws.specs.Headline.{Carries, HasOwnStreams, HoldsOpen, HoldsTheRest, IsQueued, KeepsCredit, PutsWithinCredit}
 use Rattle.vs_play_laws.specs.Headline.{device_flows, device_log, driver_log, guest_flows}
+use Rattle.vs_ring_port.specs.EndLog.{all_put as with_pages}
 
 -- No transmit page is staged.
 empty_by : (a : Bool) (pages : List (List ℕ)) (b : Bool) → (a && none_staged pages && b) ≡ true → pages ≡ []
@@ -42,7 +43,7 @@ allowed_at side (x ∷ newer) older p fair = allowed_at side newer older p fair.
 
 within : (role : Role) (log : Log) → IsFairLog role log → PutsWithinCredit role log
 within role log fair f newer older p is other =
-    ((allowed_at (side_of role f) newer older p (subst (IsFair (side_of role f)) is (fair f))).honest other).fits
+    ((allowed_at (side_of role f) newer older p (subst (IsFair (side_of role f)) is (fair_now role f log (fair f)))).honest other).fits
 
 -- The flows of entries are distinct where the entries' are.
 flows_apart : (xs : List FlowEnd) → AllPairs (λ d e. d.flow ≢ e.flow) xs → AllPairs (λ f g. f ≢ g) (flows_of xs)
@@ -85,20 +86,20 @@ module _ {fresh : Type 0} (w : World) (well : IsWell fresh w) (yes : fresh) (res
     to_guest = to_guest w well yes f;
     to_host = to_host w well yes f;
     device_put = wrote_is w well yes f;
-    driver_got = at_rest (λ log. IsPrefixOf (payload_got Driver f 1 log) (payload_put Device f 1 (device_log w))) (to_driver w well f);
-    received = at_rest (λ log. IsPrefixOf (received_on f w.journal) (payload_got Driver f 1 log)) (received_is w well f);
-    driver_put = at_rest (λ log. payload_put Driver f 1 log ≡ sent_on f w.journal) (sent_is w well f);
-    device_got = at_rest (λ log. IsPrefixOf (payload_got Device f 1 (device_log w)) (payload_put Driver f 1 log)) (to_device w well f);
+    driver_got = at_rest (λ log. IsPrefixOf (payload_got Driver (first_of f) log) (payload_put Device (first_of f) (device_log w))) (to_driver w well f);
+    received = at_rest (λ log. IsPrefixOf (received_on f w.journal) (payload_got Driver (first_of f) log)) (received_is w well f);
+    driver_put = at_rest (λ log. payload_put Driver (first_of f) log ≡ sent_on f w.journal) (sent_is w well f);
+    device_got = at_rest (λ log. IsPrefixOf (payload_got Device (first_of f) (device_log w)) (payload_put Driver (first_of f) log)) (to_device w well f);
     given = given_is w well yes f;
   }
 
   pub holds_rest : HoldsTheRest w
   holds_rest = record {
     unread = λ i d less. let e = get_or w.driver.table.entries i d in
-        at_rest (λ log. Drains (receives e.value.end) (received_on e.flow w.journal) e.value.unread (payload_got Driver e.flow 1 log))
+        at_rest (λ log. Drains (receives e.value.end) (received_on e.flow w.journal) e.value.unread (payload_got Driver (first_of e.flow) log))
         (unread_of w well e (Contains-get_or w.driver.table.entries i d less));
     gone = λ i d less. let g = get_or w.driver.gone i d in
-        at_rest (λ log. IsPrefixOf (received_on g.flow w.journal ++ g.unread) (payload_got Driver g.flow 1 log))
+        at_rest (λ log. IsPrefixOf (received_on g.flow w.journal ++ g.unread) (payload_got Driver (first_of g.flow) log))
         (gone_of w well g (Contains-get_or w.driver.gone i d less));
     pending = λ i d less. pending_of w well yes _ (Contains-get_or w.proxy.device.table.entries i d less);
   }
@@ -112,11 +113,11 @@ module _ {fresh : Type 0} (w : World) (well : IsWell fresh w) (yes : fresh) (res
 
   -- The tables.
   open_at_guest : (f : Flow) → is_among f (guest_flows w) ≡ is_open Driver first_cid f (driver_log w) (is_among f
-      (driver_ends w.driver).replies)
+      (replied (driver_ends w.driver).replies))
   open_at_guest f = driver_open first_cid (driver_ends w.driver) (driver_log w) f driver_matches
 
   begun_at_device : (f : Flow) → is_among f (begun_flows (device_ends w.proxy).entries)
-      ≡ is_open Device first_cid f (device_log w) (is_among f (device_ends w.proxy).replies)
+      ≡ is_open Device first_cid f (device_log w) (is_among f (replied (device_ends w.proxy).replies))
   begun_at_device f = table_open Device first_cid (device_ends w.proxy) (device_log w) f device_matches
 
   pub holds_open : HoldsOpen w

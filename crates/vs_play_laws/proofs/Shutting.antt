@@ -1,43 +1,41 @@
 -- An end that decided to send no more on a connection puts no payload there.
-use Rattle.std.proofs.Common.{◌≡◌, ℕ, ◌≤◌, ◌&&◌, ◌||◌, not, Bool, true, false, cond, List, [], ◌∷◌, ◌++◌, length, Option, Some, None}
-use Rattle.std.proofs.Common.{IsOkAnd, Ok, Err, refl, sym, ap, subst, ◌∙◌}
+use Rattle.std.proofs.Common.{◌≡◌, ℕ, ◌≤◌, ◌&&◌, ◌||◌, Bool, true, false, cond, List, [], ◌∷◌, ◌++◌, length, Option, Some, None, IsOkAnd}
+use Rattle.std.proofs.Common.{Ok, Err, refl, sym, ap, subst, ◌∙◌}
 use Rattle.std.proofs.lemmas.List.{append-nil}
-use Rattle.vs_conn.specs.End.{ConnectionEnd, answering, after_message, after_op, asked, end_after, is_stream, paid_of, state_may_send}
+use Rattle.vs_conn.specs.{declared.end.Owed.Owed, declared.end.State.State, declared.end.Verdict.Verdict}
+use Rattle.vs_conn.specs.End.{ConnectionEnd, answering, after_message, after_op, asked, end_after, is_of, paid_of, state_may_send}
 use Rattle.vs_conn.specs.End.{verdict_of, with_payload_sent}
-use Rattle.vs_conn.specs.declared.end.Owed.{Owed}
-use Rattle.vs_conn.specs.declared.end.Owed.TheVariants as owed
-use Rattle.vs_conn.specs.declared.end.State.{State}
-use Rattle.vs_conn.specs.declared.end.State.TheVariants as state
-use Rattle.vs_conn.specs.declared.end.Stop.TheVariants as stop
-use Rattle.vs_conn.specs.declared.end.Verdict.{Verdict}
-use Rattle.vs_conn.specs.declared.end.Verdict.TheVariants as verdict
-use Rattle.vs_flow.specs.Flow.{same_flow}
-use Rattle.vs_flow.specs.declared.flow.Flow.{Flow}
+use Rattle.vs_flow.specs.{Flow.same_flow, declared.flow.Flow.Flow}
 use Rattle.vs_flow.proofs.Entries.{same_flow_true}
-use Rattle.vs_header.specs.Op.{op_named}
-use Rattle.vs_header.specs.declared.{Header.Header, Op.Op}
-use Rattle.vs_header.specs.declared.Op.TheVariants as op
-use Rattle.vs_history.specs.{History.Got, History.History, History.Put, History.Side, History.puts, Packets.is_request, Packets.is_rst}
-use Rattle.vs_history.specs.declared.packet.Packet.{Packet}
+use Rattle.vs_header.specs.{Op.op_named, declared.Header.Header, declared.Op.Op}
+use Rattle.vs_history.specs.{Again.present, Packets.is_request, Packets.is_rst, declared.packet.Packet.Packet}
+use Rattle.vs_history.specs.History.{Got, History, Put, Side, Asker, Answerer, gots, is_begun, puts}
+use Rattle.vs_limits.specs.declared.TheConstants.{BUF_ALLOC}
+use Rattle.vs_matching.specs.{Ends.Ends, Ends.answer_kind, Ends.ends_of, Ends.is_new, Ends.replaced, Ends.without_flow, Heard.is_empty}
 use Rattle.vs_matching.specs.Both.{Both, Decides, Decision, Forwards, Shuts, Aborts, WantsCredit, Grows, Happening, IsSound, MayHappen}
-use Rattle.vs_matching.specs.Both.{MayRun, Step, Opens, Asks, Sends, Pays, Replies, Takes, PutsEvent, TakesEvent, MakesReset, TakesReset}
-use Rattle.vs_matching.specs.Both.{after, after_packet, answered, at, decided, happens, run}
-use Rattle.vs_matching.specs.{Ends.Ends, Ends.ends_of, Ends.replaced, Ends.without_flow, Heard.heard_of, Heard.is_empty}
-use Rattle.vs_matching.specs.Matches.{IsLeftOn, MatchesFlows}
-use Rattle.vs_matching.specs.Steps.{HasEnd, accepted, asking, opened, owed_on, paid, payload_on, reply_on, request_on}
-use Rattle.vs_matching.proofs.Both.{next_is_fair, step_keeps}
+use Rattle.vs_matching.specs.Both.{MayRun, Step, Opens, Asks, Forgets, Sends, Pays, Replies, Takes, PutsEvent, TakesEvent, MakesReset}
+use Rattle.vs_matching.specs.Both.{TakesReset, after, after_packet, answered, at, decided, happens, run}
+use Rattle.vs_matching.specs.Steps.{HasEnd, accepted, asking, is_kept, left, opened, with_clean, with_end, owed_on, paid, payload_on}
+use Rattle.vs_matching.specs.Steps.{reply_on, request_on}
+use Rattle.vs_matching.specs.Matches.{MatchesFlows}
+use Rattle.vs_matching.proofs.{Both.step_keeps, Fair.heard_none, Tables.end_begun, Tables.end_new, Tables.only_end}
 use Rattle.vs_matching.proofs.Entries.{added_other, replaced_other, replaced_same, without_other, without_same}
-use Rattle.vs_matching.proofs.{Fair.empty_is, Fair.got_asks, Fair.heard_none, Tables.only_end}
-use Rattle.vs_page.specs.Fair.{IsFairLog, payload_of}
-use Rattle.vs_page.specs.Log.{Device, Driver, Log, Role, flow_got, flow_put, history_of, side_of}
-use Rattle.vs_page.specs.Open.{is_dropped}
-use Rattle.vs_page.specs.declared.log.LogEntry.{LogEntry}
+use Rattle.vs_page.proofs.Entries.{present_is}
+use Rattle.vs_world.specs.Sides.{AsksAnew, RunsAnew}
+use Rattle.vs_world.proofs.{Firsts.silent_whole, Once.AreOnce, Once.asked_once, Once.keeps_once, Runs.one_step}
+use Rattle.vs_page.specs.{Fair.payload_of, Log.Device, Log.Driver, Log.Log, Log.Role, Log.flow_got, Log.flow_put, Log.side_of, Log.whole_of}
+use Rattle.vs_page.specs.{Open.is_dropped, declared.log.LogEntry.LogEntry}
 use Rattle.vs_page.specs.declared.log.LogEntry.TheVariants.{GotEvent, GotPacket, Mark, PutEvent, PutPacket}
 use Rattle.vs_pipes.specs.Drains.{put_on}
+use Rattle.vs_conn.specs.declared.end.Owed.TheVariants as owed
+use Rattle.vs_conn.specs.declared.end.State.TheVariants as state
+use Rattle.vs_conn.specs.declared.end.Stop.TheVariants as stop
+use Rattle.vs_conn.specs.declared.end.Verdict.TheVariants as verdict
+use Rattle.vs_header.specs.declared.Op.TheVariants as op
 
 -- Something passed on a flow, and its end, where it has one, decided to send no more.
 pub record IsShut (role : Role) (first : ℕ) (f : Flow) (part : Ends) (log : Log) : Type 0 where
-  pub passed : is_empty (heard_of role first f log) ≡ false
+  pub passed : is_empty (whole_of role f log) ≡ false
   pub shut : (e : ConnectionEnd) → HasEnd f e part → e.own.send ≡ true
 
 -- It stays so, and no payload was put there.
@@ -91,37 +89,37 @@ after_own : (e : ConnectionEnd) (h : Header) → (end_after e h).own ≡ e.own
 after_own e h = op_own (op_named h.op) e h (verdict_of e h)
 
 -- What an entry of the log adds.
-more_heard : (role : Role) (first : ℕ) (f : Flow) (entry : LogEntry) (log : Log) → is_empty (heard_of role first f log) ≡ false
-    → is_empty (heard_of role first f (entry ∷ log)) ≡ false
-more_heard role first f (PutPacket p) log some = by (same_flow f (flow_put role p))
+more_passed : (role : Role) (f : Flow) (entry : LogEntry) (log : Log) → is_empty (whole_of role f log) ≡ false
+    → is_empty (whole_of role f (entry ∷ log)) ≡ false
+more_passed role f (PutPacket p) log some = by (same_flow f (flow_put role p))
   where
-    by : (b : Bool) → is_empty (cond b (Put p ∷ heard_of role first f log) (heard_of role first f log)) ≡ false
+    by : (b : Bool) → is_empty (cond b (Put p ∷ whole_of role f log) (whole_of role f log)) ≡ false
     by true = refl
     by false = some
-more_heard role first f (GotPacket p) log some = by (same_flow f (flow_got role p) && not (is_dropped role _ p.header))
+more_passed role f (GotPacket p) log some = by (same_flow f (flow_got role p))
   where
-    by : (b : Bool) → is_empty (cond b (Got p ∷ heard_of role first f log) (heard_of role first f log)) ≡ false
+    by : (b : Bool) → is_empty (cond b (Got p ∷ whole_of role f log) (whole_of role f log)) ≡ false
     by true = refl
     by false = some
-more_heard role first f (PutEvent id) log some = some
-more_heard role first f (GotEvent id) log some = some
-more_heard role first f (Mark cid) log some = some
+more_passed role f (PutEvent id) log some = some
+more_passed role f (GotEvent id) log some = some
+more_passed role f (Mark cid) log some = some
 
 put_none : (role : Role) (f : Flow) (p : Packet) (log : Log) → p.payload ≡ [] → put_on role f (PutPacket p ∷ log) ≡ put_on role f log
 put_none role f p log none = by (same_flow f (flow_put role p))
   where
-    by : (b : Bool) → payload_of (puts (cond b (Put p ∷ history_of role f log) (history_of role f log))) ≡ put_on role f log
+    by : (b : Bool) → payload_of (puts (cond b (Put p ∷ whole_of role f log) (whole_of role f log))) ≡ put_on role f log
     by true = ap (λ (bytes : List ℕ). put_on role f log ++ bytes) none ∙ append-nil (put_on role f log)
     by false = refl
 
 put_other : (role : Role) (f : Flow) (p : Packet) (log : Log) → same_flow f (flow_put role p) ≡ false
     → put_on role f (PutPacket p ∷ log) ≡ put_on role f log
-put_other role f p log other = ap (λ (b : Bool). payload_of (puts (cond b (Put p ∷ history_of role f log) (history_of role f log)))) other
+put_other role f p log other = ap (λ (b : Bool). payload_of (puts (cond b (Put p ∷ whole_of role f log) (whole_of role f log)))) other
 
 put_got : (role : Role) (f : Flow) (p : Packet) (log : Log) → put_on role f (GotPacket p ∷ log) ≡ put_on role f log
 put_got role f p log = by (same_flow f (flow_got role p))
   where
-    by : (b : Bool) → payload_of (puts (cond b (Got p ∷ history_of role f log) (history_of role f log))) ≡ put_on role f log
+    by : (b : Bool) → payload_of (puts (cond b (Got p ∷ whole_of role f log) (whole_of role f log))) ≡ put_on role f log
     by true = refl
     by false = refl
 
@@ -181,91 +179,89 @@ module _ (role : Role) (first : ℕ) (f : Flow) (part : Ends) (log : Log) (x : I
       → same_flow f g ≡ false → Shut new
   added_shut g e new is other = same_shut f part new (ap (ends_of f) is ∙ added_other g f e part.entries other) x.shut
 
-  not_next : (g : Flow) → heard_of role first g log ≡ [] → (b : Bool) → same_flow f g ≡ b → b ≡ false
+  not_next : (g : Flow) → whole_of role g log ≡ [] → (b : Bool) → same_flow f g ≡ b → b ≡ false
   not_next g silent true is = absurd (cc (
     x.passed,
-    ap (λ (h : Flow). is_empty (heard_of role first h log))
+    ap (λ (h : Flow). is_empty (whole_of role h log))
         (same_flow_true f g is),
     ap is_empty silent,
   ))
   not_next g silent false is = refl
 
-  -- A packet is taken.
-  module _ (p : Packet) (fair : IsFairLog role (GotPacket p ∷ log)) (matches : MatchesFlows role first part log) where
+  -- A packet is taken. A REQUEST comes before all else on its flow.
+  module _ (p : Packet) (first_one : is_request p ≡ true → whole_of role (flow_got role p) log ≡ []) (matches : MatchesFlows role first part log) where
     abbrev own_flow : Flow
     own_flow = flow_got role p
 
     no_request : same_flow f own_flow ≡ true → is_request p ≡ false
-    no_request is =
-        let one : f ≡ own_flow = same_flow_true f own_flow is in
-        got_asks role p log (fair own_flow) ∙ by (is_empty (history_of role own_flow log)) refl (subst (λ (h : Flow). is_empty
-        (heard_of role first h log) ≡ false) one x.passed)
+    no_request is = by (is_request p) refl
       where
-        by : (b : Bool) → is_empty (history_of role own_flow log) ≡ b → is_empty (heard_of role first own_flow log) ≡ false → b ≡ false
-        by true is some = let none = heard_none role first own_flow log (empty_is (history_of role own_flow log) is) in absurd (cc
-            (some, ap is_empty none))
-        by false is some = refl
+        by : (b : Bool) → is_request p ≡ b → b ≡ false
+        by true asks = absurd (cc (
+          x.passed,
+          ap (λ (h : Flow). is_empty (whole_of role h log)) (same_flow_true f own_flow is),
+          ap is_empty (first_one asks),
+        ))
+        by false asks = refl
 
-    taken_shut : (e : ConnectionEnd) (b : Bool) → HasEnd own_flow e part
-        → Shut (cond b (record part { entries = without_flow own_flow part.entries }) (record part {
-          entries = replaced own_flow
-              (end_after e p.header) part.entries;
-        }))
-    taken_shut e true has = left_shut own_flow (same_flow f own_flow) refl
-    taken_shut e false has = changed_shut own_flow e (end_after e p.header) (same_flow f own_flow) refl has (λ is. ap (λ o. o.send)
+    taken_shut : (e : ConnectionEnd) (b kept : Bool) → HasEnd own_flow e part
+        → Shut (cond b (with_clean kept own_flow (left own_flow part)) (with_end own_flow (end_after e p.header) part))
+    taken_shut e true true has = left_shut own_flow (same_flow f own_flow) refl
+    taken_shut e true false has = left_shut own_flow (same_flow f own_flow) refl
+    taken_shut e false kept has = changed_shut own_flow e (end_after e p.header) (same_flow f own_flow) refl has (λ is. ap (λ o. o.send)
         (after_own e p.header) ∙ is)
 
-    answered_shut : (b : Bool) (answer : Option ℕ) → is_request p ≡ b → Shut (answered b answer p own_flow part)
-    answered_shut true (Some alloc) is = added_shut own_flow (answering alloc p.header) (accepted own_flow alloc p.header part) refl (by
-        (same_flow f own_flow) refl)
+    answered_shut : (b answer : Bool) → is_request p ≡ b → Shut (answered b answer p own_flow part)
+    answered_shut true true is = added_shut own_flow (answering (let h = p.header in answer_kind h.kind) BUF_ALLOC p.header)
+        (let h = p.header in accepted own_flow (answer_kind h.kind) h part) refl (by (same_flow f own_flow) refl)
       where
         by : (c : Bool) → same_flow f own_flow ≡ c → c ≡ false
         by true own = absurd (cc (no_request own, is))
         by false own = refl
-    answered_shut true None is = x.shut
-    answered_shut false (Some alloc) is = x.shut
-    answered_shut false None is = x.shut
+    answered_shut true false is = x.shut
+    answered_shut false true is = x.shut
+    answered_shut false false is = x.shut
 
-    unknown_shut : (b : Bool) (answer : Option ℕ) → Shut (cond b part (answered (is_request p) answer p own_flow part))
+    unknown_shut : (b answer : Bool) → Shut (cond b part (answered (is_request p) answer p own_flow part))
     unknown_shut true answer = x.shut
     unknown_shut false answer = answered_shut (is_request p) answer refl
 
-    packet_shut : (ends : List ConnectionEnd) (answer : Option ℕ) → ends_of own_flow part.entries ≡ ends
-        → Shut (after_packet ends p own_flow answer part)
+    packet_shut : (ends : List ConnectionEnd) (answer : Bool) → ends_of own_flow part.entries ≡ ends
+        → Shut (after_packet role ends p own_flow answer part)
     packet_shut [] answer is = unknown_shut (is_rst p) answer
     packet_shut (e ∷ more) answer is =
         let none = only_end role first part log own_flow e more matches is in
-        taken_shut e (is_rst p && is_stream p.header) (is ∙ ap (λ (es : List ConnectionEnd). e ∷ es) none)
+        taken_shut e (is_rst p && is_of e.kind p.header) (is_kept role own_flow e p) (is ∙ ap (λ (es : List ConnectionEnd). e ∷ es) none)
 
-    taking_shut : (b : Bool) (answer : Option ℕ) → Shut (cond b part (after_packet (ends_of own_flow part.entries) p own_flow answer part))
+    taking_shut : (b answer : Bool) → Shut (cond b part (after_packet role (ends_of own_flow part.entries) p own_flow answer part))
     taking_shut true answer = x.shut
     taking_shut false answer = packet_shut (ends_of own_flow part.entries) answer refl
 
 -- A step at the seat.
-step_shut : (role : Role) (first : ℕ) (f : Flow) (step : Step) (b : Both) → IsSound first b → MayHappen role step b
+step_shut : (role : Role) (first : ℕ) (f : Flow) (step : Step) (b : Both) → IsSound first b → AreOnce b → MayHappen role step b → AsksAnew role step b
     → IsShut role first f (at role b).part (at role b).log
     → let s = after role step (at role b) in StillShut role first f (at role b).log s.part s.log
-step_shut role first f (Opens g alloc) b s may x =
+step_shut role first f (Opens g kind) b s once may anew x =
     let w = at role b in
-    let silent = ((s.matches role).flows.unused g may.0.asker may.0.port).silent in record {
+    let silent = silent_whole role first g w.log (s.fair role g) may.asker ((s.matches role).flows.unused g may.asker anew).silent in record {
       is = record {
-        passed = more_heard role first f (PutPacket (request_on role w.part.cid g alloc)) w.log x.passed;
-        shut = added_shut role first f w.part w.log x g (paid_of (asked alloc) owed.Request) (opened role g alloc w.part) refl
+        passed = more_passed role f (PutPacket (request_on role w.part.cid g kind)) w.log x.passed;
+        shut = added_shut role first f w.part w.log x g (paid_of (asked kind BUF_ALLOC) owed.Request) (opened role g kind w.part) refl
             (not_next role first f w.part w.log x g silent (same_flow f g) refl);
       };
-      put = put_none role f (request_on role w.part.cid g alloc) w.log refl;
+      put = put_none role f (request_on role w.part.cid g kind) w.log refl;
     }
-step_shut role first f (Asks g alloc) b s may x =
+step_shut role first f (Asks g kind) b s once may anew x =
     let w = at role b in
-    let silent = ((s.matches role).flows.unused g may.1.asker may.1.port).silent in record {
+    let silent = silent_whole role first g w.log (s.fair role g) may.1.asker ((s.matches role).flows.unused g may.1.asker anew).silent in record {
       is = record {
         passed = x.passed;
-        shut = added_shut role first f w.part w.log x g (asked alloc) (asking role g alloc w.part) refl
+        shut = added_shut role first f w.part w.log x g (asked kind BUF_ALLOC) (asking role g kind w.part) refl
             (not_next role first f w.part w.log x g silent (same_flow f g) refl);
       };
       put = refl;
     }
-step_shut role first f (Sends g e payload) b s may x = by (same_flow f g) refl
+step_shut role first f (Sends g e payload) b s once may anew x = by (same_flow f g) refl
   where
     by : (c : Bool) → same_flow f g ≡ c → let v = after role (Sends g e payload) (at role b) in StillShut role first f
         (at role b).log v.part v.log
@@ -274,78 +270,92 @@ step_shut role first f (Sends g e payload) b s may x = by (same_flow f g) refl
         absurd (cannot e.state e (length payload) (x.shut e (subst (λ (h : Flow). HasEnd h e (at role b).part) (sym one) may.0)) may.1)
     by false is = record {
       is = record {
-        passed = more_heard role first f (PutPacket (payload_on role (at role b).part.cid g e payload)) (at role b).log x.passed;
+        passed = more_passed role f (PutPacket (payload_on role (at role b).part.cid g e payload)) (at role b).log x.passed;
         shut = changed_shut role first f (at role b).part (at role b).log x g e (with_payload_sent e (length payload))
             (same_flow f g) refl may.0 (λ shut. shut);
       };
       put = put_other role f (payload_on role (at role b).part.cid g e payload) (at role b).log
           (ap (same_flow f) (flow_sent role (at role b).part.cid g e payload) ∙ is);
     }
-step_shut role first f (Pays g e what) b s may x = let w = at role b in record {
+step_shut role first f (Pays g e what) b s once may anew x = let w = at role b in record {
   is = record {
-    passed = more_heard role first f (PutPacket
+    passed = more_passed role f (PutPacket
         (owed_on role w.part.cid g e what)) w.log x.passed;
     shut = paid_shut role first f w.part w.log x g e what may.0;
   };
   put = put_none role f (owed_on role w.part.cid g e what) w.log refl;
 }
-step_shut role first f (Replies g rest) b s may x = let w = at role b in record {
-  is = record { passed = more_heard role first f (PutPacket (reply_on role w.part.cid g)) w.log x.passed; shut = x.shut };
-  put = put_none role f (reply_on role w.part.cid g) w.log refl;
+step_shut role first f (Replies r rest) b s once may anew x = let w = at role b in record {
+  is = record { passed = more_passed role f (PutPacket (reply_on role w.part.cid r)) w.log x.passed; shut = x.shut };
+  put = put_none role f (reply_on role w.part.cid r) w.log refl;
 }
-step_shut role first f (Decides g e what) b s may x = let w = at role b in record {
+step_shut role first f (Decides g e what) b s once may anew x = let w = at role b in record {
   is = record {
     passed = x.passed;
     shut = changed_shut role first f w.part w.log x g e (decided e what) (same_flow f g) refl may.0 (decided_shut e what);
   };
   put = refl;
 }
-step_shut role first f (Takes p answer) b s may x = let w = at role b in record {
+step_shut role first f (Takes p answer) b s once may anew x = let w = at role b in record {
   is = record {
-    passed = more_heard role first f (GotPacket p) w.log x.passed;
-    shut = taking_shut role first f w.part w.log x p (next_is_fair role first p b s may.0) (s.matches role).flows
+    passed = more_passed role f (GotPacket p) w.log x.passed;
+    shut = taking_shut role first f w.part w.log x p (asked_once role first b s once p may) (s.matches role).flows
         (is_dropped role w.part.cid p.header) answer;
   };
   put = put_got role f p w.log;
 }
-step_shut role first f (PutsEvent id) b s may x = record { is = record { passed = x.passed; shut = x.shut }; put = refl }
-step_shut role first f (TakesEvent id) b s may x = record { is = record { passed = x.passed; shut = x.shut }; put = refl }
-step_shut role first f (MakesReset cid) b s may x = record { is = record { passed = x.passed; shut = λ e has. absurd cc }; put = refl }
-step_shut role first f (TakesReset cid) b s may x = record { is = record { passed = x.passed; shut = λ e has. absurd cc }; put = refl }
+step_shut role first f Forgets b s once may anew x = record { is = record { passed = x.passed; shut = x.shut }; put = refl }
+step_shut role first f (PutsEvent id) b s once may anew x = record { is = record { passed = x.passed; shut = x.shut }; put = refl }
+step_shut role first f (TakesEvent id) b s once may anew x = record { is = record { passed = x.passed; shut = x.shut }; put = refl }
+step_shut role first f (MakesReset cid) b s once may anew x = record { is = record { passed = x.passed; shut = λ e has. absurd cc }; put = refl }
+step_shut role first f (TakesReset cid) b s once may anew x = record { is = record { passed = x.passed; shut = λ e has. absurd cc }; put = refl }
 
 -- A step at either seat.
-happening_shut : (role other : Role) (first : ℕ) (f : Flow) (step : Step) (b : Both) → IsSound first b → MayHappen other step b
+happening_shut : (role other : Role) (first : ℕ) (f : Flow) (step : Step) (b : Both) → IsSound first b → AreOnce b → MayHappen other step b
+    → AsksAnew other step b
     → IsShut role first f (at role b).part (at role b).log
     → let s = at role (happens other step b) in StillShut role first f (at role b).log s.part s.log
-happening_shut Driver Driver first f step b s may x = step_shut Driver first f step b s may x
-happening_shut Device Device first f step b s may x = step_shut Device first f step b s may x
-happening_shut Driver Device first f step b s may x = record { is = x; put = refl }
-happening_shut Device Driver first f step b s may x = record { is = x; put = refl }
+happening_shut Driver Driver first f step b s once may anew x = step_shut Driver first f step b s once may anew x
+happening_shut Device Device first f step b s once may anew x = step_shut Device first f step b s once may anew x
+happening_shut Driver Device first f step b s once may anew x = record { is = x; put = refl }
+happening_shut Device Driver first f step b s once may anew x = record { is = x; put = refl }
 
-pub run_shut : (role : Role) (first : ℕ) (f : Flow) (xs : List Happening) (b : Both) → IsSound first b → MayRun xs b
+pub run_shut : (role : Role) (first : ℕ) (f : Flow) (xs : List Happening) (b : Both) → IsSound first b → AreOnce b → MayRun xs b → RunsAnew xs b
     → IsShut role first f (at role b).part (at role b).log → let s = at role (run xs b) in put_on role f s.log
     ≡ put_on role f (at role b).log
-run_shut role first f [] b s may x = refl
-run_shut role first f (h ∷ xs) b s may x =
-    let one = happening_shut role h.role first f h.step b s may.0 x in
-    run_shut role first f xs (happens h.role h.step b) (step_keeps h.role first h.step b s may.0) may.1 one.is ∙ one.put
+run_shut role first f [] b s once may anew x = refl
+run_shut role first f (h ∷ xs) b s once may anew x =
+    let one = happening_shut role h.role first f h.step b s once may.0 anew.0 x in
+    run_shut role first f xs (happens h.role h.step b) (step_keeps h.role first h.step b s may.0)
+    (keeps_once first b (happens h.role h.step b) (one_step h.role h.step b (happens h.role h.step b) may.0 anew.0 refl) s once) may.1 anew.1 one.is ∙ one.put
 
 -- A flow whose end decided to send no more is shut: something passed on it.
-passed_by : (role : Role) (side : Side) (h : History) (left_open owed : Bool) (ends : List ConnectionEnd) (e : ConnectionEnd)
-    → IsLeftOn role side h left_open owed ends → ends ≡ e ∷ [] → e.own.send ≡ true → is_empty h ≡ false
-passed_by role side (x ∷ h) left_open owed ends e left is shut = refl
-passed_by Driver side [] left_open owed ends e left is shut = let none : ends ≡ [] = left.1 in absurd (cc (none, is))
-passed_by Device side [] left_open owed [] e left is shut = absurd cc
-passed_by Device side [] left_open owed (d ∷ more) e left is shut =
-    let asks = left.1.1.asks in
-    let same : d ≡ e = cc in
-    let open_ : d.own.send ≡ false = ap (λ (y : ConnectionEnd). y.own.send) asks in
-    let closed : d.own.send ≡ true = ap (λ (y : ConnectionEnd). y.own.send) same ∙ shut in
-    absurd (cc (open_, closed))
+not_begun : (side : Side) → is_begun side [] [] ≡ true → ⊥
+not_begun Asker is = absurd cc
+not_begun Answerer is = absurd cc
+
+none_shut_at : (role : Role) (first : ℕ) (f : Flow) (part : Ends) (log : Log) (e : ConnectionEnd) (new : Bool) → is_new e ≡ new
+    → MatchesFlows role first part log → HasEnd f e part → e.own.send ≡ true → whole_of role f log ≡ [] → ⊥
+none_shut_at role first f part log e true is matches has shut none =
+    let asks = (end_new role first part log f e matches has is).asking.asks in
+    let open_ : e.own.send ≡ false = ap (λ (y : ConnectionEnd). y.own.send) asks in
+    absurd (cc (open_, shut))
+none_shut_at role first f part log e false is matches has shut none =
+    let follows = end_begun role first part log f e matches has is in
+    let silent = heard_none role first f log (sym (present_is role f log) ∙ ap present none) in
+    not_begun (side_of role f) (subst (λ (h : History). is_begun (side_of role f) (puts h) (gots h) ≡ true) silent follows.begun)
+
+passed_by : (role : Role) (first : ℕ) (f : Flow) (part : Ends) (log : Log) (e : ConnectionEnd) → MatchesFlows role first part log
+    → HasEnd f e part → e.own.send ≡ true → is_empty (whole_of role f log) ≡ false
+passed_by role first f part log e matches has shut = by (whole_of role f log) refl
+  where
+    by : (h : History) → whole_of role f log ≡ h → is_empty h ≡ false
+    by [] none = absurd (none_shut_at role first f part log e (is_new e) refl matches has shut none)
+    by (entry ∷ h) some = refl
 
 pub is_shut : (role : Role) (first : ℕ) (f : Flow) (part : Ends) (log : Log) (e : ConnectionEnd) → MatchesFlows role first part log
     → HasEnd f e part → e.own.send ≡ true → IsShut role first f part log
 is_shut role first f part log e matches has shut = record {
-  passed = passed_by role (side_of role f) (heard_of role first f log) _ _ (ends_of f part.entries) e (matches.on f) has shut;
+  passed = passed_by role first f part log e matches has shut;
   shut = one_shut f part e has shut;
 }

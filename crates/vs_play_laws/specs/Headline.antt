@@ -2,7 +2,7 @@
 -- nobody exceeds the credit that the peer gave (Virtio 1.2, section 5.10.6).
 use Rattle.std.specs.Prelude.{◌≡◌, ◌≢◌, ℕ, ◌+◌, ◌≤◌, ◌||◌, Bool, true, false, List, [], ◌∷◌, ◌++◌, length, Some, None, All, AllPairs}
 use Rattle.std.specs.Prelude.{Contains}
-use Rattle.vs_flow.specs.{Connection.first_of, declared.flow.Flow.Flow}
+use Rattle.vs_flow.specs.{declared.flow.Flow.Flow, Connection.first_of}
 use Rattle.vs_limits.specs.declared.TheConstants.{BUF_ALLOC}
 use Rattle.vs_history.specs.History.{History, Put, gots, puts}
 use Rattle.vs_history.specs.Packets.{allowance, bytes, has, is_rst, shuts_send, size}
@@ -11,7 +11,7 @@ use Rattle.vs_page.specs.{Log.Device, Log.Driver, Log.HasGotAll, Log.Log, Log.Ro
 use Rattle.vs_page.specs.Fair.{IsFairLog, IsPrefixOf, payload_got, payload_put}
 use Rattle.vs_driver_parts.specs.State.{DriverEntry}
 use Rattle.vs_device_parts.specs.State.{DeviceEntry}
-use Rattle.vs_matching.specs.Ends.{begun_flows, flows_of, is_among, new_flows}
+use Rattle.vs_matching.specs.Ends.{begun_flows, flows_of, is_among, new_flows, replied}
 use Rattle.vs_outside.specs.HostBytes.{host_read, host_wrote, read_after_ok, wrote_after_connect}
 use Rattle.vs_outside.specs.Host.{Stream, stream_at}
 use Rattle.vs_pipes.specs.{Drains.Drains, Drains.receives, Streamed.gives, Streamed.line_for}
@@ -43,10 +43,10 @@ abbrev pub device_flows : World → List Flow
 device_flows w = flows_of (device_ends w.proxy).entries
 
 abbrev pub guest_replies : World → List Flow
-guest_replies w = (driver_ends w.driver).replies
+guest_replies w = replied (driver_ends w.driver).replies
 
 abbrev pub device_replies : World → List Flow
-device_replies w = (device_ends w.proxy).replies
+device_replies w = replied (device_ends w.proxy).replies
 
 -- Bytes of a connection, in order, both ways. The host's program wrote behind a CONNECT line, and reads behind an OK line.
 pub record Carries (w : World) (f : Flow) : Type 0 where
@@ -56,25 +56,25 @@ pub record Carries (w : World) (f : Flow) : Type 0 where
   pub to_host : IsPrefixOf (host_read (first_of f) w.host) (sent_on f w.journal)
   -- On the way to the guest: what was taken of the stream is the payload that the device put, the driver got a prefix of that, and the
   -- guest received a prefix of what its driver got.
-  pub device_put : payload_put Device f 1 (device_log w) ≡ host_wrote (first_of f) w.host
-  pub driver_got : IsPrefixOf (payload_got Driver f 1 (driver_log w)) (payload_put Device f 1 (device_log w))
-  pub received : IsPrefixOf (received_on f w.journal) (payload_got Driver f 1 (driver_log w))
+  pub device_put : payload_put Device (first_of f) (device_log w) ≡ host_wrote (first_of f) w.host
+  pub driver_got : IsPrefixOf (payload_got Driver (first_of f) (driver_log w)) (payload_put Device (first_of f) (device_log w))
+  pub received : IsPrefixOf (received_on f w.journal) (payload_got Driver (first_of f) (driver_log w))
   -- On the way to the host: what the sends took is the payload that the driver put, the device got a prefix of that, and the stream was
   -- given a prefix of what the device got.
-  pub driver_put : payload_put Driver f 1 (driver_log w) ≡ sent_on f w.journal
-  pub device_got : IsPrefixOf (payload_got Device f 1 (device_log w)) (payload_put Driver f 1 (driver_log w))
-  pub given : IsPrefixOf (host_read (first_of f) w.host) (payload_got Device f 1 (device_log w))
+  pub driver_put : payload_put Driver (first_of f) (driver_log w) ≡ sent_on f w.journal
+  pub device_got : IsPrefixOf (payload_got Device (first_of f) (device_log w)) (payload_put Driver (first_of f) (driver_log w))
+  pub given : IsPrefixOf (host_read (first_of f) w.host) (payload_got Device (first_of f) (device_log w))
 
 -- What is still unread of a connection comes next: at the guest of the payload that its driver got, at the device of what it owes the
 -- stream; and it is all that is left, while the connection takes payload.
 pub record HoldsTheRest (w : World) : Type 0 where
   pub unread : All (λ e. Drains (receives e.value.end) (received_on e.flow w.journal) e.value.unread
-      (payload_got Driver e.flow 1 (driver_log w))) w.driver.table.entries
+      (payload_got Driver (first_of e.flow) (driver_log w))) w.driver.table.entries
   -- Of a connection that is gone.
-  pub gone : All (λ g. IsPrefixOf (received_on g.flow w.journal ++ g.unread) (payload_got Driver g.flow 1 (driver_log w))) w.driver.gone
+  pub gone : All (λ g. IsPrefixOf (received_on g.flow w.journal ++ g.unread) (payload_got Driver (first_of g.flow) (driver_log w))) w.driver.gone
   pub pending : All (λ e. (s : Stream) × (stream_at e.value.stream w.host ≡ Some s) × (s.label ≡ Some e.flow)
       × Drains (gives e.value.end) s.given (e.value.ok_line ++ e.value.pending)
-      (line_for e.flow ++ payload_got Device e.flow 1 (device_log w))) w.proxy.device.table.entries
+      (line_for e.flow ++ payload_got Device (first_of e.flow) (device_log w))) w.proxy.device.table.entries
 
 -- A stream is of one connection, no other stream is of that one, and what the report shows of it is what the host wrote and read there.
 pub record HasOwnStreams (w : World) : Type 0 where

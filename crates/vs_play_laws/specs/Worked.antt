@@ -1,7 +1,7 @@
 -- Worked examples: what the laws say of two scripts, computed.
 use Rattle.std.specs.Prelude.{ℕ, Bool, true, false, List, [], map, codes, Result, Ok}
 use Rattle.vs_limits.specs.declared.TheConstants.{ASSIGNED_FIRST}
-use Rattle.vs_flow.specs.{Connection.first_of, declared.flow.Flow.Flow}
+use Rattle.vs_flow.specs.{declared.flow.Flow.Flow, Connection.first_of, Flow.host_flow}
 use Rattle.vs_outside.specs.HostBytes.{host_read, host_wrote}
 use Rattle.vs_page.specs.{Fair.payload_got, Fair.payload_put, Log.Device, Log.Driver, Open.is_open}
 use Rattle.vs_matching.specs.Ends.{is_among}
@@ -35,12 +35,12 @@ pub record Told : Type 0 where
 abbrev pub told_of : List Event → Flow → World → Told
 told_of lines f w = record {
   sent = sent_in f lines (opened_play 64);
-  driver_put = payload_put Driver f 1 (driver_log w);
-  device_got = payload_got Device f 1 (device_log w);
+  driver_put = payload_put Driver (first_of f) (driver_log w);
+  device_got = payload_got Device (first_of f) (device_log w);
   read = host_read (first_of f) w.host;
   wrote = host_wrote (first_of f) w.host;
-  device_put = payload_put Device f 1 (device_log w);
-  driver_got = payload_got Driver f 1 (driver_log w);
+  device_put = payload_put Device (first_of f) (device_log w);
+  driver_got = payload_got Driver (first_of f) (driver_log w);
   received = received_in f lines (opened_play 64);
   left_open = is_open Driver first_cid f (driver_log w) (is_among f (guest_replies w));
 }
@@ -50,7 +50,7 @@ told_on text f = told_of (lines_in text) f (world_of 64 (lines_in text))
 
 -- A client of the host writes `abc`, and the guest answers `x`.
 abbrev pub client_flow : Flow
-client_flow = record { guest = 1234; host = ASSIGNED_FIRST }
+client_flow = host_flow 1234 ASSIGNED_FIRST
 
 abbrev pub client_told : Told
 client_told = record {
@@ -68,10 +68,10 @@ client_told = record {
 -- The host writes `x` on the first of two connections. The device reads it and puts it, and then a transport reset ends both: the guest
 -- received nothing, and of three connections the one that was opened after the reset is open.
 abbrev pub first_flow : Flow
-first_flow = record { guest = 1024; host = 52 }
+first_flow = host_flow 1024 52
 
 abbrev pub last_flow : Flow
-last_flow = record { guest = 1026; host = 52 }
+last_flow = host_flow 1026 52
 
 abbrev pub first_told : Told
 first_told = record {

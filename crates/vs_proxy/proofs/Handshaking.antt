@@ -6,7 +6,7 @@ use Rattle.vs_contents.specs.CallTree.{Done, Ask, bind, for_each}
 use Rattle.vs_contents.proofs.{Leads.leads_of, Leads.leads_bind, Conditions.may_first, Conditions.may_rest, Conditions.may_of}
 use Rattle.vs_outside.specs.{declared.host_net.Accepted.Accepted, declared.host_net.StreamRead.StreamRead}
 use Rattle.vs_uds.specs.{ConnectLine.connect_step, declared.scan.Step.Step}
-use Rattle.vs_flow.specs.declared.table.TableFault.{TableFault}
+use Rattle.vs_flow.specs.{Flow.host_flow, declared.table.TableFault.TableFault}
 use Rattle.vs_device_parts.specs.{Playing.CanMake, Playing.MayRun, Playing.Runs, State.DeviceState, Turns.open_of}
 use Rattle.vs_device_parts.specs.Calls.{DeviceTree, Situation, Allows, Accept, ReadStream, CloseStream}
 use Rattle.vs_proxy_parts.specs.Handshakes.{accept_answered, accept_one, byte_read, dropping, handshake_on, line_decided, may_open}
@@ -121,7 +121,7 @@ module _ (stream port : ℕ) (t : Turning) where
   opened_by r = record t { state = record (with_device r.0 t.state) { next_port = t.state.next_port + 1 } }
 
   abbrev opens : DeviceTree (DeviceState × Result ℕ TableFault)
-  opens = open_of (record { guest = port; host = t.state.next_port }) stream t.state.device
+  opens = open_of (host_flow port t.state.next_port) stream t.state.device
 
   pub let_in : (r : DeviceState × Result ℕ TableFault) (u : Turning) (c m : Situation) → may_open t.state ≡ true → Runs opens c r m → u ≡ opened_by r → Runs (connecting stream port t) c u m
   let_in r u c m test runs end =

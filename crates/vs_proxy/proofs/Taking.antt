@@ -3,10 +3,10 @@ use Rattle.std.specs.Prelude.{if◌then◌else◌, nat_lt, nat_le}
 use Rattle.std.proofs.Common.{◌≡◌, ◌-◌, ◌==◌, ◌&&◌, Bool, true, false, cond, length, Option, Some, None, refl, arith}
 use Rattle.vs_contents.specs.CallTree.{Done, Ask, bind}
 use Rattle.vs_contents.proofs.Leads.{ends_bind, ends_weaker}
-use Rattle.vs_conn.specs.{End.verdict_of, End.is_stream, End.is_reset, declared.end.Verdict.Verdict}
+use Rattle.vs_conn.specs.{End.verdict_of, End.is_of, End.is_reset, declared.end.Verdict.Verdict}
 use Rattle.vs_flow.specs.{Flow.is_assigned, Table.entry_of, Table.has_place}
 use Rattle.vs_header.specs.{Op.op_number, Packet.header_of, declared.Header.Header, declared.TheConstants.HEADER_LEN}
-use Rattle.vs_header.specs.declared.Op.TheVariants.{Request}
+use Rattle.vs_header.specs.{declared.Op.TheVariants.Request, declared.Kind.TheVariants.Stream}
 use Rattle.vs_outside.specs.declared.host_net.Dialed.{Dialed}
 use Rattle.vs_page.specs.{Log.flow_to_host, Log.Device, Open.is_dropped}
 use Rattle.vs_replies.specs.Owed.{reply_to}
@@ -71,9 +71,9 @@ module _ (s : DeviceState) where
       by false false = as_before _ refl refl
 
   unknown_few : (h : Header) → Ends FewWith (on_unknown h s)
-  unknown_few h = by (is_reset h) (is_stream h && (h.op == op_number Request))
+  unknown_few h = by (is_reset h) (is_of Stream h && (h.op == op_number Request))
     where
-      by : (a b : Bool) → Ends FewWith (cond a (Done (s, verdict.Ignore)) (cond b (try_request h s) (Done (with_reply (reply_to h) s, verdict.Rst (unknown_why h)))))
+      by : (a b : Bool) → Ends FewWith (cond a (Done (s, verdict.Ignore)) (cond b (try_request h s) (Done (with_reply (reply_to (flow_to_host h) h) s, verdict.Rst (unknown_why h)))))
       by true b = stays
       by false true = request_few h
       by false false = as_before _ refl refl

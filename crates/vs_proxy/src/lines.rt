@@ -160,10 +160,7 @@ impl Proxy {
             close_client(host, stream, tally);
             return;
         }
-        let flow = Flow {
-            guest: port,
-            host: self.next_port,
-        };
+        let flow = Flow::to_host(port, self.next_port);
         let _slot = self.device.open(host, flow, stream);
         self.next_port += 1;
     }

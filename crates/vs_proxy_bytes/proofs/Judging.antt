@@ -3,12 +3,12 @@ use Rattle.std.proofs.Common.{◌≡◌, ℕ, ◌-◌, ◌==◌, ◌&&◌, Bool,
 use Rattle.std.proofs.Common.{None, refl, sym, ap, subst, ◌∙◌, arith}
 use Rattle.std.proofs.lemmas.Bool.Decides.{nat_tests}
 use Rattle.std.specs.Option.{option_map}
-use Rattle.vs_conn.specs.{End.after_op, End.is_reset, End.is_stream, End.owes_of, End.verdict_of, declared.end.Verdict.Verdict}
+use Rattle.vs_conn.specs.{End.after_op, End.is_reset, End.is_of, End.owes_of, End.verdict_of, declared.end.Verdict.Verdict}
 use Rattle.vs_conn.specs.declared.end.Why.{Why}
 use Rattle.vs_contents.specs.CallTree.{Done, Ask, bind}
 use Rattle.vs_flow.specs.{Flow.is_assigned, Table.entry_of, Table.has_place, Table.with_value}
 use Rattle.vs_header.specs.{Op.op_named, Op.op_number, Packet.header_of, declared.Header.Header, declared.TheConstants.HEADER_LEN}
-use Rattle.vs_header.specs.declared.Op.TheVariants.{Request}
+use Rattle.vs_header.specs.{declared.Op.TheVariants.Request, declared.Kind.TheVariants.Stream}
 use Rattle.vs_outside.specs.declared.host_net.Dialed.{Dialed}
 use Rattle.vs_page.specs.{Log.Device, Log.flow_to_host, Open.is_dropped}
 use Rattle.vs_replies.specs.Owed.{reply_to}
@@ -135,7 +135,7 @@ module _ (h : Header) (s : DeviceState) (calls : List Made) (kept : is_dropped D
     not_known v still d at = let both : None ≡ Some d = sym none ∙ at in absurd cc
 
     reply_answer : (w : Why) (t : DeviceState) (later : List Made) → header_in later ≡ Some h → t.table ≡ s.table → t.replies
-        ≡ s.replies ++ reply_to h ∷ []
+        ≡ s.replies ++ reply_to (flow_to_host h) h ∷ []
         → ((id : ℕ) → account_of later id ≡ account_of calls id) → IsAnswered h (verdict.Rst w) s t calls later
     reply_answer w t later got table replies same = record {
       header = got;
@@ -179,10 +179,10 @@ module _ (h : Header) (s : DeviceState) (calls : List Made) (kept : is_dropped D
         by false true = λ answer fit. dial_answer_is (path_of s.base h.dst_port) answer fit
 
     unknown_answers : Keeps Unknown (on_unknown h s) calls
-    unknown_answers = by (is_reset h) (is_stream h && (h.op == op_number Request))
+    unknown_answers = by (is_reset h) (is_of Stream h && (h.op == op_number Request))
       where
         by : (b d : Bool) → Keeps Unknown (cond b (Done (s, verdict.Ignore))
-            (cond d (try_request h s) (Done (with_reply (reply_to h) s, verdict.Rst (unknown_why h))))) calls
+            (cond d (try_request h s) (Done (with_reply (reply_to (flow_to_host h) h) s, verdict.Rst (unknown_why h))))) calls
         by true d = record {
           header = header;
           dropped = λ on. absurd (no_bool (is_dropped Device s.cid h) on kept);

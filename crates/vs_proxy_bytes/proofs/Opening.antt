@@ -22,10 +22,11 @@ use Rattle.vs_proxy_bytes.proofs.{Accounts.Changes, Accounts.changes, Accounts.c
 use Rattle.vs_proxy_bytes.proofs.Entries.{added, given_shut, hands_changed, one_account}
 use Rattle.vs_proxy_bytes.proofs.Keeping.{Keeps, keeps_each, keeps_then, keeps_weaker, made}
 use Rattle.vs_device_laws.proofs.Opening.{empty_sound}
+use Rattle.vs_header.specs.declared.Kind.TheVariants.{Stream}
 
 -- The connection of a client's stream.
 client_tie : (t : Table DeviceConnection) (flow : Flow) (stream : ℕ) (line : List ℕ) → IsWhole line
-    → IsTiedTo (labelled flow (reading_account line)) (next_entry t flow (new_connection (asked BUF_ALLOC) stream true))
+    → IsTiedTo (labelled flow (reading_account line)) (next_entry t flow (new_connection (asked Stream BUF_ALLOC) stream true))
 client_tie t flow stream line whole = record {
   label = refl;
   client = refl;
@@ -69,7 +70,7 @@ keeps_open hands after flow stream line s calls last whole waits undecided waiti
     opens : refusal s.table flow ≡ None → (answer : Unit {0}) → Has after (with_client flow stream s)
         (made (Label stream flow) answer ∷ calls)
     opens none answer =
-        let c : DeviceConnection = new_connection (asked BUF_ALLOC) stream true in
+        let c : DeviceConnection = new_connection (asked Stream BUF_ALLOC) stream true in
         let now : ℕ → Option Account = account_of (made (Label stream flow) answer ∷ calls) in
         let ch : Changes (account_of calls) now stream (labelled flow (reading_account line)) =
         changes (labelled flow) stream (account_of calls) (reading_account line) waits in record {

@@ -3,10 +3,10 @@ use Rattle.std.proofs.Common.{◌≡◌, ℕ, ◌+◌, ◌-◌, ◌≤◌, ◌==
 use Rattle.std.proofs.Common.{nat_le, Option, Some, None, Result, Ok, Err, refl, sym, ap, subst, ◌∙◌, arith}
 use Rattle.vs_contents.specs.CallTree.{Done, Ask, bind, for_each, while_up_to, Leads}
 use Rattle.vs_contents.proofs.Leads.{leads_split}
-use Rattle.vs_conn.specs.{End.is_reset, End.is_stream, End.verdict_of, declared.end.Verdict.Verdict}
+use Rattle.vs_conn.specs.{End.is_reset, End.is_of, End.verdict_of, declared.end.Verdict.Verdict}
 use Rattle.vs_flow.specs.{Flow.is_assigned, Table.entry_of, Table.has_place}
 use Rattle.vs_header.specs.{Op.op_number, Packet.header_of, declared.Header.Header, declared.TheConstants.HEADER_LEN}
-use Rattle.vs_header.specs.declared.Op.TheVariants.{Request}
+use Rattle.vs_header.specs.{declared.Op.TheVariants.Request, declared.Kind.TheVariants.Stream}
 use Rattle.vs_page.specs.{Log.Device, Log.flow_to_host, Open.is_dropped}
 use Rattle.vs_ring_port.specs.{Contents.Take, declared.device_ring.Chain.Chain, declared.device_ring.Next.Next}
 use Rattle.vs_ring_port.specs.{declared.failure.Failure.Failure, declared.queue.Queue.TheVariants.Tx}
@@ -70,7 +70,7 @@ quiet_try : (h : Header) (s : DeviceState) → IsQuiet (try_request h s)
 quiet_try h s = quiet_if (is_assigned h.dst_port) _ _ tt (quiet_if (has_place s.table) _ _ (refl, λ answer. tt) tt)
 
 quiet_unknown : (h : Header) (s : DeviceState) → IsQuiet (on_unknown h s)
-quiet_unknown h s = quiet_if (is_reset h) _ _ tt (quiet_if (is_stream h && (h.op == op_number Request)) _ _ (quiet_try h s) tt)
+quiet_unknown h s = quiet_if (is_reset h) _ _ tt (quiet_if (is_of Stream h && (h.op == op_number Request)) _ _ (quiet_try h s) tt)
 
 quiet_packet : (chain : Chain) (h : Header) (s : DeviceState) → IsQuiet (on_packet chain h s)
 quiet_packet chain h s = quiet_if (is_dropped Device s.cid h) _ _ tt (by (entry_of s.table (flow_to_host h)))

@@ -2,41 +2,35 @@
 use Rattle.std.proofs.Common.{◌≡◌, ℕ, ◌+◌, ◌==◌, not, zero, suc, Bool, true, false, cond, List, [], ◌∷◌, ◌++◌, length, nat_lt, Option, Some}
 use Rattle.std.proofs.Common.{None, Result, Ok, Err, refl, sym, ap, ◌∙◌}
 use Rattle.vs_contents.specs.CallTree.{Done, Ask, bind, for_each, while_up_to, Leads}
-use Rattle.vs_conn.specs.{End.owes_of, End.with_payload_sent, Headers.owed_header, Headers.payload_header}
-use Rattle.vs_conn.specs.declared.end.Owed.{Owed}
-use Rattle.vs_conn.specs.declared.end.Owed.TheVariants as owed
+use Rattle.vs_conn.specs.{End.owes_of, End.with_payload_sent, Headers.owed_header, Headers.payload_header, declared.end.Owed.Owed}
 use Rattle.vs_conn.specs.declared.end.TheConstants.{OWED_MAX}
 use Rattle.vs_credit.specs.Credit.{free_of}
-use Rattle.vs_flow.specs.Table.{entry_under, refusal, slots}
-use Rattle.vs_flow.specs.declared.flow.Flow.{Flow}
+use Rattle.vs_flow.specs.{Flow.host_flow, Table.entry_under, Table.refusal, Table.slots, declared.flow.Flow.Flow}
 use Rattle.vs_flow.specs.declared.table.TableFault.{TableFault}
 use Rattle.vs_header.specs.declared.Header.{Header}
-use Rattle.vs_outside.specs.declared.host_net.StreamRead.{StreamRead}
-use Rattle.vs_outside.specs.declared.host_net.StreamRead.TheVariants as read
-use Rattle.vs_outside.specs.declared.host_net.StreamWrite.{StreamWrite}
-use Rattle.vs_outside.specs.declared.host_net.StreamWrite.TheVariants as write
+use Rattle.vs_outside.specs.{declared.host_net.StreamRead.StreamRead, declared.host_net.StreamWrite.StreamWrite}
 use Rattle.vs_replies.specs.declared.Reply.{Reply}
-use Rattle.vs_ring_port.specs.declared.device_ring.{Chain.Chain, Next.Next}
-use Rattle.vs_ring_port.specs.declared.device_ring.Next.TheVariants as next
-use Rattle.vs_ring_port.specs.declared.failure.Failure.{Failure}
-use Rattle.vs_uds.specs.ConnectLine.{connect_step}
-use Rattle.vs_uds.specs.declared.connect.TheConstants.{CONNECT_MAX}
-use Rattle.vs_uds.specs.declared.scan.Step.{Step}
-use Rattle.vs_uds.specs.declared.scan.Step.TheVariants as step
-use Rattle.vs_device_parts.specs.Calls.{Answer, DeviceTree, Label, ReadStream, ShutWrite}
+use Rattle.vs_ring_port.specs.{declared.device_ring.Chain.Chain, declared.device_ring.Next.Next, declared.failure.Failure.Failure}
+use Rattle.vs_uds.specs.{ConnectLine.connect_step, declared.connect.TheConstants.CONNECT_MAX, declared.scan.Step.Step}
 use Rattle.vs_device_parts.specs.Connections.{after_leaving, cut_off, is_timed_out, route_to_guest, stream_closed, with_client}
 use Rattle.vs_device_parts.specs.Connections.{with_connection, with_fault, is_late}
 use Rattle.vs_device_parts.specs.Receiving.{Filling, after_paying, event_on, fill_rx_of, filled_of, hold, may_read, pay_event_of, put_on}
 use Rattle.vs_device_parts.specs.Receiving.{put_owed, put_packet, put_payload, put_reply, put_reply_of, read_answered, read_stream}
 use Rattle.vs_device_parts.specs.Receiving.{read_with_chain, reply_header, round_from, serve_slot, written}
-use Rattle.vs_device_parts.specs.State.{DeviceConnection, DeviceEntry, DeviceState}
 use Rattle.vs_device_parts.specs.Streams.{Writing, closing, is_written_out, leaving, pump_of, pump_slot, shut_write, tick_of, tick_slot}
 use Rattle.vs_device_parts.specs.Streams.{to_write, write_answered, write_pending}
+use Rattle.vs_device_parts.specs.Calls.{Answer, DeviceTree, Label, ReadStream, ShutWrite}
+use Rattle.vs_device_parts.specs.State.{DeviceConnection, DeviceEntry, DeviceState}
 use Rattle.vs_device_parts.specs.Turns.{close_slot, open_of, reset_of}
 use Rattle.vs_proxy_parts.specs.Handshakes.{accept_one, byte_read, dropping, handshake_on, host_fault, line_decided, may_open, opening}
 use Rattle.vs_proxy_parts.specs.Handshakes.{read_byte, read_line, shake_hands, streams_of, tick_handshake, tick_handshakes, with_line}
 use Rattle.vs_proxy_parts.specs.State.{Handshake, Turning}
 use Rattle.vs_proxy_bytes.specs.{Made.Made, Made.Makes, Packets.headers_read, Packets.reads_header}
+use Rattle.vs_conn.specs.declared.end.Owed.TheVariants as owed
+use Rattle.vs_outside.specs.declared.host_net.StreamRead.TheVariants as read
+use Rattle.vs_outside.specs.declared.host_net.StreamWrite.TheVariants as write
+use Rattle.vs_ring_port.specs.declared.device_ring.Next.TheVariants as next
+use Rattle.vs_uds.specs.declared.scan.Step.TheVariants as step
 
 abbrev pub IsQuiet : {A : Type 0} → DeviceTree A → Type 0
 IsQuiet (Done x) = Unit {0}
@@ -293,8 +287,8 @@ quiet_open flow stream s = by (refusal s.table flow)
 
 quiet_opening : (stream port : ℕ) (t : Turning) → IsQuiet (opening stream port t)
 quiet_opening stream port t =
-    quiet_bind (open_of (record { guest = port; host = t.state.next_port }) stream t.state.device) _
-    (quiet_open (record { guest = port; host = t.state.next_port }) stream t.state.device) (λ r. tt)
+    quiet_bind (open_of (host_flow port t.state.next_port) stream t.state.device) _
+    (quiet_open (host_flow port t.state.next_port) stream t.state.device) (λ r. tt)
 
 quiet_line_decided : (stream : ℕ) (way : Step) (t : Turning) → IsQuiet (line_decided stream way t)
 quiet_line_decided stream step.More t = tt

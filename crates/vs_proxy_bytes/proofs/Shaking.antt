@@ -5,7 +5,7 @@ use Rattle.std.proofs.Common.{length, nat_lt, Option, Some, None, refl, sym, ap,
 use Rattle.std.proofs.lemmas.List.{append-nil}
 use Rattle.std.specs.List.{All}
 use Rattle.vs_contents.specs.CallTree.{Done, Ask, for_each}
-use Rattle.vs_flow.specs.{Table.has_place, declared.flow.Flow.Flow}
+use Rattle.vs_flow.specs.{Flow.host_flow, Table.has_place, declared.flow.Flow.Flow}
 use Rattle.vs_limits.specs.declared.TheConstants.{ASSIGNED_LAST, HANDSHAKES}
 use Rattle.vs_outside.specs.{declared.host_net.Accepted.Accepted, declared.host_net.StreamRead.StreamRead}
 use Rattle.vs_pipes.proofs.Hands.{ends_by, no_line, with_all, with_apart, without_after, without_all, without_none, without_pairs}
@@ -120,7 +120,7 @@ module _ (stream : ℕ) (rest : List Handshake) (t : Turning) (calls : List Made
   -- Its client gets a connection.
   keeps_opening : (port : ℕ) → t.state.next_port ≤ ASSIGNED_LAST → IsWhole line → Keeps Turns (opening stream port t) calls
   keeps_opening port last whole =
-      let flow : Flow = record { guest = port; host = t.state.next_port } in
+      let flow : Flow = host_flow port t.state.next_port in
       keeps_then Turns (λ r later. Has rest r.0 later) (open_of flow stream t.state.device)
       (λ r. Done (record t {
         state = record (with_device r.0 (without_handshake stream t.state)) { next_port = t.state.next_port + 1 };

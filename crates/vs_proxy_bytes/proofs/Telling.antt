@@ -10,7 +10,7 @@ use Rattle.vs_header.specs.declared.TheConstants.{HEADER_LEN}
 use Rattle.vs_outside.specs.{declared.host_net.Accepted.Accepted, declared.host_net.Dialed.Dialed, declared.host_net.StreamRead.StreamRead}
 use Rattle.vs_outside.specs.Host.{HostContents, Stream, accept_answer, after_accept, after_close, after_dial, after_failed, after_label}
 use Rattle.vs_outside.specs.Host.{after_read, after_shut_write, after_write, called, dial_answer, dialed_stream, fails_now, give_bytes}
-use Rattle.vs_outside.specs.Host.{is_listened, stream_at, take_bytes, waits, with_label_call, with_shut_write_call, IsDialed, IsWritten}
+use Rattle.vs_outside.specs.Host.{is_listened, stream_at, take_bytes, waits, IsDialed, IsWritten, with_label_call, with_shut_write_call}
 use Rattle.vs_outside.specs.declared.host_net.StreamWrite.{StreamWrite}
 use Rattle.vs_outside.proofs.Frames.{accepts_waiting}
 use Rattle.vs_ring_port.specs.Contents.{DeviceAnswer, DeviceCall, Take, Read, Write, Return, Given, PublishCid}

@@ -3,14 +3,14 @@ use Rattle.std.proofs.Common.{◌≡◌, ℕ, ◌-◌, ◌==◌, ◌&&◌, Bool,
 use Rattle.std.proofs.Common.{Option, Some, None, refl, sym, ap, subst, ◌∙◌}
 use Rattle.std.proofs.lemmas.List.Elements.{All-push}
 use Rattle.std.specs.Option.{option_map}
-use Rattle.vs_conn.specs.{End.answering, End.is_reset, End.is_stream, End.verdict_of, declared.end.State.State}
-use Rattle.vs_conn.specs.{declared.end.Verdict.Verdict, declared.end.State.TheVariants.Ended}
+use Rattle.vs_conn.specs.{End.answering, End.is_reset, End.is_of, End.verdict_of, declared.end.State.State, declared.end.Verdict.Verdict}
+use Rattle.vs_conn.specs.declared.end.State.TheVariants.{Ended}
 use Rattle.vs_contents.specs.CallTree.{Done, Ask, bind}
 use Rattle.vs_flow.specs.{Flow.is_assigned, Table.Table, Table.entry_of, Table.has_place, Table.next_entry, Table.with_value}
 use Rattle.vs_flow.specs.declared.flow.Flow.{Flow}
 use Rattle.vs_flow.proofs.{Entries.same_flow_true, Lookups.entry_of_found, Tables.accepted}
 use Rattle.vs_header.specs.{Op.op_number, Packet.header_of, declared.Header.Header, declared.TheConstants.HEADER_LEN}
-use Rattle.vs_header.specs.declared.Op.TheVariants.{Request}
+use Rattle.vs_header.specs.{declared.Op.TheVariants.Request, declared.Kind.TheVariants.Stream}
 use Rattle.vs_limits.specs.declared.TheConstants.{BUF_ALLOC, DEVICE_REPLIES}
 use Rattle.vs_outside.specs.declared.host_net.Dialed.{Dialed}
 use Rattle.vs_page.specs.{Log.Device, Log.flow_to_host, Open.is_dropped}
@@ -21,8 +21,8 @@ use Rattle.vs_ring_port.specs.{Contents.Read, Contents.Return, Contents.Take, de
 use Rattle.vs_ring_port.specs.{declared.device_ring.Next.Next, declared.failure.Failure.Failure, declared.queue.Queue.TheVariants.Tx}
 use Rattle.vs_uds.specs.Path.{path_of}
 use Rattle.vs_wrap.specs.Wrap.{counted}
-use Rattle.vs_device_parts.specs.{declared.answers.Taken.Taken, Calls.Dial, Calls.DeviceTree, Calls.Ring}
-use Rattle.vs_device_parts.specs.{State.DeviceConnection, State.DeviceEntry, State.DeviceState, Streams.leaving}
+use Rattle.vs_device_parts.specs.{declared.answers.Taken.Taken, State.DeviceConnection, State.DeviceEntry, State.DeviceState}
+use Rattle.vs_device_parts.specs.{Streams.leaving, Calls.Dial, Calls.DeviceTree, Calls.Ring}
 use Rattle.vs_device_parts.specs.Transmitting.{dial_answered, failing, heard, on_header, on_known, on_next, on_packet, on_unknown, refused}
 use Rattle.vs_device_parts.specs.Transmitting.{take_tx_of, try_request, unknown_why}
 use Rattle.vs_device_parts.specs.Connections.{new_connection, with_connection, with_reply}
@@ -44,7 +44,7 @@ use Rattle.vs_device_parts.specs.declared.answers.Taken.TheVariants as taken
 
 -- The connection of a stream that was dialed.
 dialed_tie : (t : Table DeviceConnection) (flow : Flow) (h : Header) (stream : ℕ)
-    → IsTiedTo (new_account (Some flow) false) (next_entry t flow (new_connection (answering BUF_ALLOC h) stream false))
+    → IsTiedTo (new_account (Some flow) false) (next_entry t flow (new_connection (answering Stream BUF_ALLOC h) stream false))
 dialed_tie t flow h stream = record {
   label = refl;
   client = refl;
@@ -76,7 +76,7 @@ module _ (hands : List Handshake) where
       → HasFirst (dial_answered h answer s) (made (Dial path (flow_to_host h)) answer ∷ calls)
   keeps_dialed h (dialed.Stream id) s calls path place none x fit =
       let flow : Flow = flow_to_host h in
-      let c : DeviceConnection = new_connection (answering BUF_ALLOC h) id false in
+      let c : DeviceConnection = new_connection (answering Stream BUF_ALLOC h) id false in
       let now : ℕ → Option Account = account_of (made (Dial path flow) (dialed.Stream id) ∷ calls) in
       let ch : Changes (account_of calls) now id (new_account (Some flow) false) = comes (new_account (Some flow) false) id
       (account_of calls) in record {
@@ -104,10 +104,10 @@ module _ (hands : List Handshake) where
 
   keeps_on_unknown : (h : Header) (s : DeviceState) (calls : List Made) → entry_of s.table (flow_to_host h) ≡ None → Has hands s calls
       → Keeps HasFirst (on_unknown h s) calls
-  keeps_on_unknown h s calls none x = by (is_reset h) (is_stream h && (h.op == op_number Request))
+  keeps_on_unknown h s calls none x = by (is_reset h) (is_of Stream h && (h.op == op_number Request))
     where
       by : (b d : Bool) → Keeps HasFirst (cond b (Done (s, verdict.Ignore))
-          (cond d (try_request h s) (Done (with_reply (reply_to h) s, verdict.Rst (unknown_why h))))) calls
+          (cond d (try_request h s) (Done (with_reply (reply_to (flow_to_host h) h) s, verdict.Rst (unknown_why h))))) calls
       by true d = x
       by false true = keeps_try_request h s calls none x
       by false false = x

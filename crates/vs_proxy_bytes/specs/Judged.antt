@@ -1,20 +1,17 @@
 -- What one packet of the guest does: a packet that is invalid is answered by RST, or dropped and counted, or it is the ring's failure.
 use Rattle.std.specs.Prelude.{◌≡◌, ℕ, ◌++◌, true, false, List, [], ◌∷◌, Option, Some, None}
 use Rattle.std.specs.Option.{option_map_or}
-use Rattle.vs_conn.specs.End.{owes_of, verdict_of}
-use Rattle.vs_conn.specs.declared.end.Owed.TheVariants.{Rst}
-use Rattle.vs_conn.specs.declared.end.Verdict.{Verdict}
-use Rattle.vs_conn.specs.declared.end.Verdict.TheVariants as verdict
+use Rattle.vs_conn.specs.{End.owes_of, End.verdict_of, declared.end.Owed.TheVariants.Rst, declared.end.Verdict.Verdict}
 use Rattle.vs_conn.specs.declared.end.Why.{Why}
 use Rattle.vs_flow.specs.Table.{entry_of, with_value}
 use Rattle.vs_header.specs.declared.Header.{Header}
 use Rattle.vs_page.specs.{Log.Device, Log.flow_to_host, Open.is_dropped}
 use Rattle.vs_replies.specs.Owed.{reply_to}
 use Rattle.vs_wrap.specs.Wrap.{counted}
-use Rattle.vs_device_parts.specs.{State.DeviceEntry, State.DeviceState, Transmitting.heard}
-use Rattle.vs_device_parts.specs.declared.answers.Taken.{Taken}
-use Rattle.vs_device_parts.specs.declared.answers.Taken.TheVariants as taken
+use Rattle.vs_device_parts.specs.{State.DeviceEntry, State.DeviceState, Transmitting.heard, declared.answers.Taken.Taken}
 use Rattle.vs_proxy_bytes.specs.Made.{Account, Made, account_of, header_in}
+use Rattle.vs_conn.specs.declared.end.Verdict.TheVariants as verdict
+use Rattle.vs_device_parts.specs.declared.answers.Taken.TheVariants as taken
 
 -- No stream was given or delivered anything, labelled or closed since.
 abbrev pub AreUnmoved : List Made → List Made → Type 0
@@ -25,7 +22,7 @@ delivered_in a = option_map_or (λ a. a.delivered) a []
 
 -- RST is owed: as a reply, where the flow has no connection; else by its connection, which is over. No other connection changes.
 abbrev pub OwesReset : Option DeviceEntry → Header → DeviceState → DeviceState → Type 0
-OwesReset None h s t = (t.table ≡ s.table) × (t.replies ≡ s.replies ++ reply_to h ∷ [])
+OwesReset None h s t = (t.table ≡ s.table) × (t.replies ≡ s.replies ++ reply_to (flow_to_host h) h ∷ [])
 OwesReset (Some e) h s t =
     (t.table ≡ with_value s.table e.slot (heard h e.value)) × (owes_of (heard h e.value).end ≡ Some Rst) × (t.replies ≡ s.replies)
 

@@ -3,7 +3,7 @@ use Rattle.std.proofs.Common.{◌≡◌, ℕ, ◌+◌, Bool, true, false, cond, 
 use Rattle.std.proofs.Common.{sym, subst}
 use Rattle.std.specs.Option.{ForSome}
 use Rattle.vs_contents.specs.CallTree.{Done, Ask, for_each}
-use Rattle.vs_flow.specs.declared.flow.Flow.{Flow}
+use Rattle.vs_flow.specs.{Flow.host_flow, declared.flow.Flow.Flow}
 use Rattle.vs_outside.specs.{declared.host_net.Accepted.Accepted, declared.host_net.StreamRead.StreamRead}
 use Rattle.vs_outside.specs.Host.{IsOpen, accept_answer, after_accept, after_close, after_read}
 use Rattle.vs_outside.proofs.Frames.{open-after_read, others-after_read}
@@ -57,7 +57,7 @@ module _ (Can : Call → Situation → Type 0) (reaches : (call : Call) (s : Sit
     unfolding hs
     keeps_opening port =
         let rest : List ℕ = ids (without_stream stream hs) in
-        let flow : Flow = record { guest = port; host = t.state.next_port } in
+        let flow : Flow = host_flow port t.state.next_port in
         keeps_then Can Allows Turns (λ r d. FindsStreams rest r.0 d) (open_of flow stream t.state.device)
         (λ r. Done (record t {
           state = record (with_device r.0

@@ -1,5 +1,5 @@
 -- The host ports that are assigned, and the guest ports of CONNECT lines.
-use Rattle.std.proofs.Common.{ℕ, ◌≤◌, arith}
+use Rattle.std.proofs.Common.{ℕ, ◌≤◌, refl, arith}
 use Rattle.vs_ring_port.specs.Contents.{RingContents}
 use Rattle.vs_device_parts.specs.State.{DeviceState}
 use Rattle.vs_device_log.specs.Honest.{IsToldOf, IsWith}
@@ -18,10 +18,17 @@ later first port next s c less holds = (
         flows = record {
           on = p.matches.flows.on;
           unused = λ f asker above.
-              let u = p.matches.flows.unused f asker (omega (arith, less, above)) in record { silent = u.silent; no_end = u.no_end };
+              let u = p.matches.flows.unused f asker (omega (arith, less, above)) in record { silent = u.silent; no_end = u.no_end; not_kept = refl };
+          kept = λ f among. absurd cc;
+          once = tt;
           cid = p.matches.flows.cid;
         };
-        credit = p.matches.credit;
+        fairly = λ fair. let left = p.matches.fairly fair in record {
+          within = left.within;
+          kept = λ f among. absurd cc;
+          ready = left.ready;
+          replies = left.replies;
+        };
       };
       fair = p.fair;
     },

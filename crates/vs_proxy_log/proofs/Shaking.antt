@@ -1,9 +1,9 @@
 -- Handshakes make no call on the ring. A whole line opens a connection under the next host port.
-use Rattle.std.proofs.Common.{◌≡◌, ℕ, ◌+◌, ◌<◌, ◌≤◌, ◌^◌, ◌&&◌, nat_le, nat_lt, Bool, true, false, cond, if◌then◌else◌, List, ◌++◌, length}
-use Rattle.std.proofs.Common.{Option, Some, None, Result, Ok, Err, refl, sym, ap, subst, arith}
+use Rattle.std.proofs.Common.{inl, ◌≡◌, ℕ, ◌+◌, ◌<◌, ◌≤◌, ◌^◌, ◌&&◌, nat_le, nat_lt, Bool, true, false, cond, if◌then◌else◌, List, ◌++◌}
+use Rattle.std.proofs.Common.{length, Option, Some, None, Result, Ok, Err, refl, sym, ap, subst, arith}
 use Rattle.std.proofs.lemmas.Bool.Decides.{nat_tests}
 use Rattle.vs_contents.specs.CallTree.{Done, Ask, bind, for_each}
-use Rattle.vs_flow.specs.{Flow.is_assigned, Table.has_place, declared.flow.Flow.Flow, declared.table.TableFault.TableFault}
+use Rattle.vs_flow.specs.{Flow.host_flow, Flow.is_assigned, Table.has_place, declared.flow.Flow.Flow, declared.table.TableFault.TableFault}
 use Rattle.vs_limits.specs.declared.TheConstants.{ASSIGNED_LAST, HANDSHAKES}
 use Rattle.vs_outside.specs.{declared.host_net.Accepted.Accepted, declared.host_net.StreamRead.StreamRead}
 use Rattle.vs_page.specs.Log.{Device, side_by}
@@ -80,13 +80,13 @@ module _ (first : ℕ) where
       → Keeps Turns (opening stream guest t) c
   opens stream guest t c fits may holds =
       let port : ℕ = t.state.next_port in
-      let flow : Flow = record { guest = guest; host = port } in
+      let flow : Flow = host_flow guest port in
       let last : port ≤ ASSIGNED_LAST = last_port (has_place t.state.device.table) (nat_le port ASSIGNED_LAST) port refl may in
       let inside : is_assigned port ≡ true = grind (arith, nat_tests, holds.0, last) in
       keeps_then (λ x d. IsWith first (port_after flow port x.1) x.0 d) Turns (open_of flow stream t.state.device)
       (λ r. Done (record t { state = record (with_device r.0 (without_handshake stream t.state)) { next_port = t.state.next_port + 1 } })) c
-      (open_keeps first port flow stream t.state.device (record { asker = ap (side_by Device) inside; port = omega arith })
-      (record { guest = fits; host = omega (arith, last) }) c holds.1)
+      (open_keeps first port flow stream t.state.device (record { asker = ap (side_by Device) inside; port = inl (omega arith) })
+      (record { guest = fits; host = omega (arith, last); peer = omega arith }) c holds.1)
       (λ r d kept. (omega (arith, holds.0), opened flow port r.0 r.1 d refl kept))
 
   -- A byte of a line.

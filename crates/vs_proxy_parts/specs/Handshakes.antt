@@ -2,7 +2,7 @@
 use Rattle.std.specs.Prelude.{ℕ, ◌+◌, ◌==◌, ◌&&◌, nat_lt, nat_le, Bool, true, false, if◌then◌else◌, List, [], ◌∷◌, ◌++◌, length, map, find}
 use Rattle.std.specs.Prelude.{Option, Some, None}
 use Rattle.vs_contents.specs.CallTree.{Done, Ask, bind, for_each, while_up_to}
-use Rattle.vs_flow.specs.Table.{has_place}
+use Rattle.vs_flow.specs.{Flow.host_flow, Table.has_place}
 use Rattle.vs_limits.specs.declared.TheConstants.{ASSIGNED_LAST, HANDSHAKES}
 use Rattle.vs_outside.specs.{declared.host_net.Accepted.Accepted, declared.host_net.StreamRead.StreamRead}
 use Rattle.vs_uds.specs.{ConnectLine.connect_step, declared.connect.TheConstants.CONNECT_MAX, declared.scan.Step.Step}
@@ -65,7 +65,7 @@ accept_one t =
 -- A whole line opens a connection under the next host port, where the table has a place and a port is left.
 abbrev pub opening : ℕ → ℕ → Turning → DeviceTree Turning
 opening stream port t =
-    bind (open_of (record { guest = port; host = t.state.next_port }) stream t.state.device) (λ r.
+    bind (open_of (host_flow port t.state.next_port) stream t.state.device) (λ r.
     Done (record t { state = record (with_device r.0 (without_handshake stream t.state)) { next_port = t.state.next_port + 1 } }))
 
 abbrev pub may_open : ProxyState → Bool

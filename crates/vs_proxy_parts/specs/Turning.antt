@@ -2,9 +2,9 @@
 use Rattle.std.specs.Prelude.{ℕ, ◌+◌, ◌≤◌, if◌then◌else◌}
 use Rattle.vs_contents.specs.CallTree.{Done, Ask, bind, for_each}
 use Rattle.vs_device_parts.specs.{Calls.DeviceTree, Calls.CloseStream, State.DeviceState, Turns.open_of}
-use Rattle.vs_proxy_parts.specs.declared.tally.Tally.{Tally}
-use Rattle.vs_proxy_parts.specs.State.{ProxyState, Turning, with_device}
+use Rattle.vs_proxy_parts.specs.{declared.tally.Tally.Tally, State.ProxyState, State.Turning, State.with_device}
 use Rattle.vs_proxy_parts.specs.Handshakes.{may_open, read_line, streams_of, without_handshake}
+use Rattle.vs_flow.specs.Flow.{host_flow}
 
 abbrev pub turning_of : ProxyState → Tally → Turning
 turning_of s t = record { state = s; took = t.took; put = t.put; read = t.read; wrote = t.wrote; hands = t.hands }
@@ -19,7 +19,7 @@ closing_client stream t = Ask (CloseStream stream) (λ _. Done (record t { hands
 
 abbrev pub opening_client : ℕ → ℕ → Turning → DeviceTree Turning
 opening_client stream port t =
-    bind (open_of (record { guest = port; host = t.state.next_port }) stream t.state.device) (λ r.
+    bind (open_of (host_flow port t.state.next_port) stream t.state.device) (λ r.
     Done (record t { state = record (with_device r.0 t.state) { next_port = t.state.next_port + 1 } }))
 
 abbrev pub connecting : ℕ → ℕ → Turning → DeviceTree Turning

@@ -10,28 +10,28 @@ ghost use Rattle.vs_replies.specs.Owed.{reply_to};
 use circular_buffer::HeapCircularBuffer;
 use std::alloc::{AllocError, Global};
 use std::marker::Model;
-use vs_header::Header;
+use vs_flow::Flow;
+use vs_header::{Header, Kind};
 
-/// An RST that is owed to a packet of no known connection.
+/// An RST that is owed as a reply.
 #[derive(Clone, Copy, Debug, PartialEq, Eq)]
 pub struct Reply {
-    /// Port of the side that replies.
-    pub src_port: u32,
-    /// Port of the side that gets the reply.
-    pub dst_port: u32,
+    /// The flow that it is put on.
+    pub flow: Flow,
+    /// The type of sockets that it answers.
+    pub kind: Kind,
 }
 
 impl Reply {
-    /// The reply to a packet: the ports change places.
-    pub fn to(packet: &Header) -> Reply
-        ensures exact { result ≡ reply_to packet.now }
-        ensures from { result.src_port ≡ packet.now.dst_port }
-        ensures to { result.dst_port ≡ packet.now.src_port }
+    /// The reply to a packet of a flow, of the type that the packet has where that is known.
+    pub fn to(flow: Flow, packet: &Header) -> Reply
+        ensures { result ≡ reply_to flow packet.now }
     {
-        Reply {
-            src_port: packet.dst_port,
-            dst_port: packet.src_port,
-        }
+        let kind = match packet.kind {
+            2 => Kind::Seqpacket,
+            _ => Kind::Stream,
+        };
+        Reply { flow, kind }
     }
 }
 

@@ -3,19 +3,17 @@
 use Rattle.std.specs.Prelude.{◌≡◌, ℕ, ◌+◌, ◌%◌, ◌^◌, Bool, false, List, [], ◌∷◌, ◌++◌, length, map, Option, None, Some, if◌then◌else◌, ◌&&◌}
 use Rattle.std.specs.Prelude.{◌||◌, ◌==◌, not, nat_le, nat_lt, count_by}
 use Rattle.vs_guest_mem.specs.Memory.{Change, Memory}
-use Rattle.vs_layout.specs.declared.place.Areas.{Areas}
-use Rattle.vs_layout.specs.declared.placement.QueueAreas.{QueueAreas}
-use Rattle.vs_ring_port.specs.Chains.{same_chain, same_queue}
+use Rattle.vs_layout.specs.{declared.place.Areas.Areas, declared.placement.QueueAreas.QueueAreas}
+use Rattle.vs_ring_port.specs.{Chains.same_chain, Chains.same_queue, declared.device_ring.Chain.Chain, declared.device_ring.Next.Next}
 use Rattle.vs_ring_port.specs.Contents.{RingContents, PlainState, DeviceCall, DeviceAnswer, Take, Read, Write, Return, Given, PublishCid}
-use Rattle.vs_ring_port.specs.declared.device_ring.{Chain.Chain, Next.Next}
-use Rattle.vs_ring_port.specs.declared.device_ring.Next.TheVariants as next
 use Rattle.vs_ring_port.specs.declared.queue.Queue.{Queue}
 use Rattle.vs_ring_port.specs.declared.queue.Queue.TheVariants.{Rx, Tx, Event}
-use Rattle.vs_ring_plain.specs.declared.piece.Piece.{Piece}
-use Rattle.vs_ring_plain.specs.Accesses.{Accesses, over}
-use Rattle.vs_ring_plain.specs.Chain.{Ring, Taken, NoChain, Chain as Found, Failed, taking, total_len}
-use Rattle.vs_ring_plain.specs.Pieces.{given, reading, returning, spans, writing}
-use Rattle.vs_ring_plain.specs.declared.turns.{Turns.Turns, QueueTurns.QueueTurns}
+use Rattle.vs_ring_plain.specs.{declared.piece.Piece.Piece, Accesses.Accesses, Accesses.over}
+use Rattle.vs_ring_plain.specs.{Pieces.given, Pieces.reading, Pieces.returning, Pieces.spans, Pieces.writing, declared.turns.Turns.Turns}
+use Rattle.vs_ring_plain.specs.Chain.{Ring, Taken, NoChain, Failed, taking, total_len}
+use Rattle.vs_ring_plain.specs.declared.turns.QueueTurns.{QueueTurns}
+use Rattle.vs_ring_port.specs.declared.device_ring.Next.TheVariants as next
+use Rattle.vs_ring_plain.specs.Chain.{Chain as Found}
 
 -- A chain that the device holds, the number of its first descriptor, and its pieces.
 pub record HeldChain : Type 0 where

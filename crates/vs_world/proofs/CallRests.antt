@@ -8,11 +8,10 @@ use Rattle.vs_ring_list.specs.Ends.{empty_ends}
 use Rattle.vs_ring_port.specs.{DriverCalls.Publish, DriverCalls.Stage, DriverCalls.driver_answer, EndLog.EndLog, EndLog.with_pages}
 use Rattle.vs_ring_port.specs.{Lists.Rings, declared.queue.Queue.Queue}
 use Rattle.vs_driver_parts.specs.{State.DriverEntry, State.DriverState, State.entry_known_as, declared.answers.ConnectError.ConnectError}
+use Rattle.vs_driver_parts.specs.{Connections.connect_refusal, Connections.connected, Connections.with_end, declared.answers.Sent.Sent}
 use Rattle.vs_driver_parts.specs.Conversations.{DriverTree, connect_with_page, has_page, load_cid, new_state, no_credit, not_sent}
 use Rattle.vs_driver_parts.specs.Conversations.{payload_bytes, payload_of, post_all, post_events, post_one, post_packet, posts, publish_of}
 use Rattle.vs_driver_parts.specs.Conversations.{reap_all, request_bytes, send_on, send_stopped, send_with_credit, send_with_page}
-use Rattle.vs_driver_parts.specs.Connections.{connect_refusal, connected, with_end}
-use Rattle.vs_driver_parts.specs.declared.answers.Sent.{Sent}
 use Rattle.vs_limits.specs.declared.TheConstants.{FIRST_PORT}
 use Rattle.vs_world.specs.{Events.is_at_rest, Events.works_on, Plays.guest_line, World.World, World.opening}
 use Rattle.vs_world.specs.Calls.{GuestCall, Connect, Listen, Unlisten, Accept, Send, Recv, Shutdown, Close, LookAt}

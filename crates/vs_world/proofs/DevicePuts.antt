@@ -3,41 +3,33 @@ use Rattle.std.proofs.Common.{◌≡◌, ℕ, ◌+◌, ◌^◌, ◌<◌, ◌==�
 use Rattle.std.proofs.Common.{Option, Some, None, refl, sym, ap, subst, ◌∙◌, arith}
 use Rattle.std.proofs.lemmas.Grind.{common_steps}
 use Rattle.vs_contents.specs.CallTree.{Done, Ask, bind}
-use Rattle.vs_conn.specs.{End.owes_of, End.paid_of, Headers.owed_header}
-use Rattle.vs_conn.specs.declared.end.Owed.{Owed}
-use Rattle.vs_conn.specs.declared.end.Owed.TheVariants as owed
-use Rattle.vs_flow.specs.Table.{entry_under}
-use Rattle.vs_header.specs.Packet.{header_bytes}
-use Rattle.vs_header.specs.declared.Header.{Header}
+use Rattle.vs_conn.specs.{End.owes_of, End.paid_of, End.ConnectionEnd, Headers.owed_header, declared.end.Owed.Owed}
+use Rattle.vs_flow.specs.Table.{entry_under, with_value, without}
+use Rattle.vs_header.specs.{Packet.header_bytes, declared.Header.Header}
 use Rattle.vs_history.specs.declared.packet.Packet.{Packet}
-use Rattle.vs_page.specs.{Held.packet_held, Log.Log, Log.Device, Overwriting.overwritten}
-use Rattle.vs_page.specs.declared.log.LogEntry.TheVariants.{PutPacket}
+use Rattle.vs_page.specs.{Held.packet_held, Log.Log, Log.Device, Overwriting.overwritten, declared.log.LogEntry.TheVariants.PutPacket}
 use Rattle.vs_replies.specs.declared.Reply.{Reply}
 use Rattle.vs_ring_port.specs.{Chains.bytes_in, Chains.with_bytes, EndLog.EndLog, EndLog.entries_returned, EndLog.with_packet}
-use Rattle.vs_ring_port.specs.Lists.{Rings, after_return}
-use Rattle.vs_ring_port.specs.declared.device_ring.Chain.{Chain}
-use Rattle.vs_ring_port.specs.declared.queue.Queue.{Queue}
+use Rattle.vs_ring_port.specs.{Lists.Rings, Lists.after_return, declared.device_ring.Chain.Chain, declared.queue.Queue.Queue}
 use Rattle.vs_ring_port.specs.declared.queue.Queue.TheVariants.{Rx}
 use Rattle.vs_matching.specs.{Both.IsSound, Both.Seat, Ends.is_new, Steps.owed_on, Steps.paid, Steps.reply_on, Steps.with_end}
 use Rattle.vs_matching.proofs.Slots.{found_by}
-use Rattle.vs_device_parts.specs.Calls.{CloseStream, DeviceTree}
+use Rattle.vs_device_parts.specs.{Calls.CloseStream, Calls.DeviceTree, State.DeviceConnection, State.DeviceEntry, State.DeviceState}
 use Rattle.vs_device_parts.specs.Connections.{after_leaving, route_to_guest, stream_closed, with_connection}
 use Rattle.vs_device_parts.specs.Receiving.{Filling, after_paying, put_packet, put_reply_of, reply_header}
-use Rattle.vs_device_parts.specs.State.{DeviceConnection, DeviceEntry, DeviceState}
 use Rattle.vs_device_parts.specs.Steps.{filling, puts_owed, puts_reply}
-use Rattle.vs_world.specs.{Answers.Around, Pages.is_held, Sides.flow_to_guest}
+use Rattle.vs_world.specs.{Answers.Around, Pages.is_held}
+use Rattle.vs_world.proofs.{DeviceTurns.same_cid, DeviceTurns.still, Fits.holds_header, Wire.PutsFit, Wire.not_payload}
 use Rattle.vs_world.proofs.Chains.{HoldsRx, both_written, bytes_written, first_written, held_written}
 use Rattle.vs_world.proofs.DeviceEvents.{KeptBy, Over}
-use Rattle.vs_world.proofs.DeviceSide as side
 use Rattle.vs_world.proofs.DeviceSide.{DeviceHolds, IsFresh, Kept, not_fresh, seated}
-use Rattle.vs_world.proofs.{DeviceTurns.same_cid, DeviceTurns.still, Fits.holds_header, Wire.PutsFit, Wire.not_payload}
 use Rattle.vs_world.proofs.Streams.{StreamedIf, ends_streams, leaves_streams, put_empty}
-use Rattle.vs_conn.specs.End.{ConnectionEnd}
-use Rattle.vs_flow.specs.Table.{with_value, without}
 use Rattle.vs_outside.specs.Host.{HostContents, after_close}
 use Rattle.vs_proxy_parts.specs.State.{Handshake}
 use Rattle.vs_pipes.specs.Streamed.{gives}
 use Rattle.vs_pipes.proofs.{Gives.pays_asked, Gives.pays_gives, HostCalls.closed_host}
+use Rattle.vs_conn.specs.declared.end.Owed.TheVariants as owed
+use Rattle.vs_world.proofs.DeviceSide as side
 
 module _ (driver : Seat) (first port : ℕ) (s : DeviceState) (a : Around) (sound : IsSound first (seated driver port s a.log.entries))
     (holds : DeviceHolds port s) (puts : PutsFit a.log.entries) (rx : HoldsRx s.chain a.log.held) (known : a.lists.cid < 2 ^ 64) (fresh : Type 0) (lines : List Handshake)
@@ -108,9 +100,9 @@ module _ (driver : Seat) (first port : ℕ) (s : DeviceState) (a : Around) (soun
           let has = subst (λ (o : Option Chain). HoldsRx o a.log.held) is rx in
           let k = side.replies driver first port s a.log.entries sound holds puts reply rest replies in
           let h = reply_header reply s in
-          put_over c has.0 (header_bytes h) _ (reply_on Device s.cid (flow_to_guest reply)) (holds_header h k.puts.0 refl) (header_written c h has.1)
+          put_over c has.0 (header_bytes h) _ (reply_on Device s.cid reply) (holds_header h k.puts.0 refl) (header_written c h has.1)
           (record s { chain = None; replies = rest }) refl (record { runs = k.runs; holds = k.holds; puts = k.puts; overrun = k.overrun })
-          a.host (λ ok. put_empty a.host a.log.entries port s.table lines (reply_on Device s.cid (flow_to_guest reply)) refl (x ok)) _ refl
+          a.host (λ ok. put_empty a.host a.log.entries port s.table lines (reply_on Device s.cid reply) refl (x ok)) _ refl
 
       by : (o : Option Chain) → s.chain ≡ o → KeptNow (puts_reply (record s { chain = o }))
       by None is = record { kept = record { runs = unmoved.kept.runs; holds = holds; puts = puts; overrun = refl }; chain = tt; known = known; streams = x }

@@ -1,6 +1,6 @@
 -- What the device's small changes are among the steps of the two ends.
-use Rattle.std.proofs.Common.{◌≡◌, ℕ, suc, ◌^◌, ◌<◌, ◌≤◌, ◌==◌, not, Bool, true, false, cond, List, [], ◌∷◌, length, map, Contains, Some}
-use Rattle.std.proofs.Common.{None, refl, sym, ap, subst, ◌∙◌, arith}
+use Rattle.std.proofs.Common.{◌≡◌, ℕ, suc, ◌^◌, ◌<◌, ◌≤◌, ◌==◌, not, Bool, true, false, cond, List, [], ◌∷◌, length, Contains, Some, None}
+use Rattle.std.proofs.Common.{refl, sym, ap, subst, ◌∙◌, arith}
 use Rattle.std.proofs.lemmas.List.Elements.{All-filter, All-map}
 use Rattle.std.specs.List.{All}
 use Rattle.vs_conn.specs.{End.ConnectionEnd, End.CanSend, End.owes_of, End.paid_of, End.with_payload_sent, declared.end.Owed.Owed}
@@ -15,10 +15,9 @@ use Rattle.vs_matching.specs.Both.{Both, Decides, Decision, IsSound, MayDecide, 
 use Rattle.vs_matching.specs.Steps.{HasEnd, left, paid, with_end, owed_on, payload_on, reply_on}
 use Rattle.vs_matching.proofs.{Slots.changed_slot, Slots.one_end, Slots.removed_slot, Tables.end_new}
 use Rattle.vs_device_parts.specs.{State.DeviceConnection, State.DeviceEntry, State.DeviceState, Connections.with_connection}
-use Rattle.vs_world.specs.Sides.{Runs, flow_to_guest}
-use Rattle.vs_world.proofs.{DriverSide.ReplyFits, Runs.one_step, Runs.stays}
-use Rattle.vs_world.proofs.Entries.{EntryFits, fits_at, fits_with_value, fits_without, without_changed}
-use Rattle.vs_world.proofs.Wire.{PutsFit, RouteFits, owed_fits, payload_fits, reset_fits}
+use Rattle.vs_world.specs.Sides.{Runs}
+use Rattle.vs_world.proofs.{Runs.one_step, Runs.stays, Wire.PutsFit, Wire.RouteFits, Wire.owed_fits, Wire.payload_fits, Wire.reset_fits}
+use Rattle.vs_world.proofs.Entries.{EntryFits, ReplyFits, fits_at, fits_with_value, fits_without, without_changed}
 use Rattle.vs_device_log.specs.Honest.{HoldsBytes}
 use Rattle.vs_device_log.proofs.{Fits.fits_paid, Fits.fits_sent, Changing.same_replaced}
 use Rattle.vs_conn.specs.declared.end.Owed.TheVariants as owed
@@ -68,7 +67,8 @@ module _ (driver : Seat) where
   abbrev pub part_of : ℕ → DeviceState → Ends
   part_of port s = record {
     entries = entries_of (λ c. c.end) s.table;
-    replies = map flow_to_guest s.replies;
+    replies = s.replies;
+    clean = [];
     next_port = port;
     cid = s.cid;
   }
@@ -102,7 +102,7 @@ module _ (driver : Seat) where
     -- The end of a new connection has nothing unread.
     pub new_unread : (e : DeviceEntry) → Contains s.table.entries e → is_new e.value.end ≡ true → length e.value.pending ≤ 0
     new_unread e there new =
-        let asking = (end_new Device first (part_of port s) log e.flow e.value.end (sound.matches Device).flows (has_end e there) new).1 in
+        let asking = (end_new Device first (part_of port s) log e.flow e.value.end (sound.matches Device).flows (has_end e there) new).asking in
         let none : unread_of e.value.end.credit ≡ 0 = ap (λ (x : ConnectionEnd). unread_of x.credit) asking.asks in
         omega (arith, (entry_fits e there).credit.unread, none)
 
@@ -127,7 +127,7 @@ module _ (driver : Seat) where
     decides e c what there old is may fits fresh = record {
       overrun = refl;
       runs = one_step Device (Decides e.flow e.value.end what) (seated port s log) (seated port (with_connection e.slot c s) log)
-          (has_end e there, old, may)
+          (has_end e there, old, may) tt
           (ap (λ (entries : List FlowEnd). with_entries entries log)
           (sym (changed_slot end_in s.table e c holds.sound there ∙ ap (λ (x : ConnectionEnd). replaced e.flow x (entries_of end_in s.table)) is)));
       holds = holds_changed e.slot c fits fresh;
@@ -155,7 +155,7 @@ module _ (driver : Seat) where
     route : (e : DeviceEntry) → Contains s.table.entries e → RouteFits (route_of Device s.cid e.flow)
     route e there =
         let flow = (entry_fits e there).flow in
-        record { src_cid = omega arith; dst_cid = holds.known; src_port = flow.host; dst_port = flow.guest }
+        record { src_cid = flow.peer; dst_cid = holds.known; src_port = flow.host; dst_port = flow.guest }
 
     -- It puts payload.
     pub sends : (e : DeviceEntry) (payload : List ℕ) → Contains s.table.entries e → CanSend e.value.end (length payload)
@@ -168,7 +168,7 @@ module _ (driver : Seat) where
         record {
           overrun = refl;
           runs = one_step Device (Sends e.flow e.value.end payload) (seated port s log) (seated port (with_connection e.slot c s) (PutPacket p ∷ log))
-              (has_end e there, can)
+              (has_end e there, can) tt
               (ap (λ (entries : List FlowEnd). with_entries entries (PutPacket p ∷ log)) (sym (changed_slot end_in s.table e c holds.sound there)));
           holds = holds_changed e.slot c (fits_sent e.value.end.credit (length payload) (length e.value.pending) (entry_fits e there).credit)
               (not_fresh c old);
@@ -186,7 +186,7 @@ module _ (driver : Seat) where
         record {
           overrun = refl;
           runs = one_step Device (Pays e.flow e.value.end what) (seated port s log) (seated port (with_connection e.slot c s) (PutPacket p ∷ log))
-              (has_end e there, owes)
+              (has_end e there, owes) tt
               (ap (λ (part : Ends). at_part part (PutPacket p ∷ log)) stays_in
               ∙ ap (λ (entries : List FlowEnd). with_entries entries (PutPacket p ∷ log))
               (ap (λ (x : ConnectionEnd). replaced e.flow x (entries_of end_in s.table)) (sym is) ∙ sym (changed_slot end_in s.table e c holds.sound there)));
@@ -219,22 +219,22 @@ module _ (driver : Seat) where
         record {
           overrun = refl;
           runs = one_step Device (Pays e.flow e.value.end owed.Rst) (seated port s log) _
-              (has_end e there, owes) (ap (λ (part : Ends). at_part part (PutPacket p ∷ log)) (left_part e c there));
+              (has_end e there, owes) tt (ap (λ (part : Ends). at_part part (PutPacket p ∷ log)) (left_part e c there));
           holds = left_holds e.slot c;
           puts = (owed_fits e.value.end _ owed.Rst (length e.value.pending) (route e there) (entry_fits e there).credit owes, puts);
         }
 
     -- It puts the oldest reply, and an event.
     pub replies : (reply : Reply) (rest : List Reply) → s.replies ≡ reply ∷ rest
-        → Goes (record s { replies = rest }) (PutPacket (reply_on Device s.cid (flow_to_guest reply)) ∷ log)
+        → Goes (record s { replies = rest }) (PutPacket (reply_on Device s.cid reply) ∷ log)
     replies reply rest is =
-        let p = reply_on Device s.cid (flow_to_guest reply) in
+        let p = reply_on Device s.cid reply in
         let all : All ReplyFits (reply ∷ rest) = subst (λ (rs : List Reply). All ReplyFits rs) is holds.owed in
         let one : ReplyFits reply = all 0 reply (omega arith) in
         record {
           overrun = refl;
-          runs = one_step Device (Replies (flow_to_guest reply) (map flow_to_guest rest)) (seated port s log)
-              (seated port (record s { replies = rest }) (PutPacket p ∷ log)) (ap (map flow_to_guest) is) refl;
+          runs = one_step Device (Replies reply rest) (seated port s log)
+              (seated port (record s { replies = rest }) (PutPacket p ∷ log)) is tt refl;
           holds = record {
             sound = holds.sound;
             ends = holds.ends;
@@ -243,13 +243,13 @@ module _ (driver : Seat) where
             port = holds.port;
             known = holds.known;
           };
-          puts = (reset_fits _ (record { src_cid = omega arith; dst_cid = holds.known; src_port = one.src_port; dst_port = one.dst_port }), puts);
+          puts = (reset_fits reply.kind _ (record { src_cid = one.peer; dst_cid = holds.known; src_port = one.host; dst_port = one.guest }), puts);
         }
 
     pub puts_event : (id : ℕ) → Goes s (PutEvent id ∷ log)
     puts_event id = record {
       overrun = refl;
-      runs = one_step Device (PutsEvent id) (seated port s log) (seated port s (PutEvent id ∷ log)) refl refl;
+      runs = one_step Device (PutsEvent id) (seated port s log) (seated port s (PutEvent id ∷ log)) refl tt refl;
       holds = holds;
       puts = puts;
     }

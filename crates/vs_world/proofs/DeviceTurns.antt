@@ -20,9 +20,9 @@ use Rattle.vs_device_parts.specs.Steps.{chain_came, filling, header_came, puts_e
 use Rattle.vs_limits.specs.declared.TheConstants.{DEVICE_REPLIES}
 use Rattle.vs_world.specs.{Answers.Around, Answers.answer_around, Pages.AllHold, Pages.PageHolds, Pages.is_held}
 use Rattle.vs_world.proofs.{DeviceSide.DeviceHolds, DeviceSide.Kept, DeviceSide.seated, Wire.PutsFit, Wire.next_fits}
+use Rattle.vs_world.proofs.{Streams.StreamedIf, Streams.payload_in, Once.AreOnce}
 use Rattle.vs_world.proofs.Chains.{HoldsRx, bytes_written, first_written, held_more, held_without, held_written}
 use Rattle.vs_world.proofs.DeviceEvents.{KeptBy, Over, header_came_keeps}
-use Rattle.vs_world.proofs.Streams.{StreamedIf, payload_in}
 use Rattle.std.specs.List.{All}
 use Rattle.vs_outside.specs.Host.{HostContents}
 use Rattle.vs_page.proofs.Holding.{packet_whole}
@@ -113,7 +113,8 @@ module _ (driver : Seat) (first port : ℕ) (s : DeviceState) (a : Around) (soun
   module _ (more : List Packet) (tx : packets_put driver.log ≡ (more ++ held_in packet_held a.lists.tx.given) ++ packets_got a.log.entries)
       (driver_puts : PutsFit driver.log) (hold : AllHold a.lists.tx.given)
       (idle : (p : Packet) → IsNextPacket a.log.entries driver.log p → is_dropped Device s.cid p.header ≡ true
-      → All (λ e. e.flow ≡ flow_got Device p → gives e.value.end ≡ true → p.payload ≡ []) s.table.entries) where
+      → All (λ e. e.flow ≡ flow_got Device p → gives e.value.end ≡ true → p.payload ≡ []) s.table.entries)
+      (once : AreOnce (seated driver port s a.log.entries)) where
     came : (given : List (List ℕ)) → a.lists.tx.given ≡ given → AllHold given
         → (let answer = next_at Tx a.lists.tx.place (oldest given) in
         let r = played answer_around (chain_came answer s) (record a {
@@ -141,7 +142,7 @@ module _ (driver : Seat) (first port : ℕ) (s : DeviceState) (a : Around) (soun
         let main = header_came_keeps driver first port s a.log.entries sound holds puts fresh lines p next (next_fits a.log.entries driver.log p next driver_puts)
         (packet_whole page p one.held).0 c b
         (ap (λ (o : Option Packet). with_packet (λ q. GotPacket q) o a.log.entries) one.held) (rx_more s.chain new a.log.held rx) known x
-        (λ carries. ap (λ (bytes : List ℕ). take p.header.len (drop 44 bytes)) held_page ∙ payload_in page p one.held carries) (idle p next) enough in
+        (λ carries. ap (λ (bytes : List ℕ). take p.header.len (drop 44 bytes)) held_page ∙ payload_in page p one.held carries) (idle p next) once enough in
         subst (λ (h : Header). KeptBy driver first port s a.log.entries sound holds puts fresh lines (header_came c h s) b)
         (header_is page p one.held ∙ ap (λ (x : Bool). header_of (take 44 (cond x page (bytes_in c a.log.held)))) (sym (same_self c))) main
       where

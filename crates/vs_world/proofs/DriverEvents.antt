@@ -7,8 +7,8 @@ use Rattle.vs_contents.specs.CallTree.{Done, Ask, bind, played}
 use Rattle.vs_conn.specs.{End.CanSend, End.may_send_of, End.owes_of, End.wanting_credit, End.with_payload_sent, Headers.owed_header}
 use Rattle.vs_conn.specs.{declared.end.Owed.Owed, declared.end.Stop.Stop}
 use Rattle.vs_flow.specs.{Table.entry_under, Flow.same_flow, declared.flow.Flow.Flow}
-use Rattle.vs_header.specs.{Packet.header_bytes, declared.Header.Header}
-use Rattle.vs_limits.specs.declared.TheConstants.{BUF_ALLOC, DRIVER_REPLIES_FULL}
+use Rattle.vs_header.specs.{Packet.header_bytes, declared.Kind.TheVariants.Stream, declared.Header.Header}
+use Rattle.vs_limits.specs.declared.TheConstants.{DRIVER_REPLIES_FULL}
 use Rattle.vs_history.specs.declared.packet.Packet.{Packet}
 use Rattle.vs_page.specs.{Held.packet_held, Held.event_held, Held.held_in, Held.listed, declared.log.LogEntry.LogEntry}
 use Rattle.vs_page.specs.Log.{Log, Driver, IsNextPacket, IsNextEvent, packets_put, packets_got, events_put, events_got}
@@ -32,14 +32,14 @@ use Rattle.vs_driver_parts.specs.Conversations.{not_sent, post_packet, send_stop
 use Rattle.vs_driver_parts.specs.Conversations.{staged_again}
 use Rattle.vs_driver_parts.specs.Steps.{connects, sends, sends_on, sends_with_credit, stages_owed, stages_reply, takes_page}
 use Rattle.vs_driver_parts.specs.Listening.{listen_of, listener_on, listening, next_accepted, with_waiting, without_id}
-use Rattle.vs_world.specs.{Pages.AllHold, Pages.TxHolds, Sides.driver_ends, Sides.flow_to_host, Sides.log_with_staged}
-use Rattle.vs_world.specs.{Pipes.none_on, Pipes.put_on, GuestSteps.flow_named, GuestSteps.makes_call}
+use Rattle.vs_world.specs.{Pages.AllHold, Pages.TxHolds, Sides.driver_ends, Sides.log_with_staged, Pipes.none_on, Pipes.put_on}
 use Rattle.vs_world.specs.Calls.{bytes_received, bytes_sent, is_on, took, GuestCall, Connect, Listen, Unlisten, Accept, Send, Recv}
 use Rattle.vs_world.specs.Calls.{Shutdown, Close, LookAt, is_right}
+use Rattle.vs_world.specs.GuestSteps.{flow_named, makes_call}
+use Rattle.vs_world.proofs.{Receives.StillReceives, Receives.none_read, Receives.reads_of, Receives.said_as, Once.AreOnce}
 use Rattle.vs_world.proofs.{Fits.holds_header, Fits.holds_payload, Runs.keeps_sound, Wire.PutsFit, Wire.next_fits, Wire.not_payload}
 use Rattle.vs_world.proofs.DriverSide.{DriverHolds, Kept, KeptWith, seated}
 use Rattle.vs_world.proofs.Payloads.{either_none, front_of}
-use Rattle.vs_world.proofs.Receives.{StillReceives, none_read, reads_of, said_as}
 use Rattle.vs_driver_parts.proofs.Known.{flow_known}
 use Rattle.vs_world.proofs.DriverSide as side
 use Rattle.vs_conn.specs.declared.end.Stop.TheVariants as stopped
@@ -121,7 +121,7 @@ module _ (device : Seat) (first : ℕ) (s : DriverState) (lists : Rings) (log : 
       paid reply rest is false = still
       paid reply rest is true =
           let kept = side.replies device first s now sound holds puts reply rest is in
-          stages (header_bytes (reply_header s.cid reply)) (reply_on Driver s.cid (flow_to_host reply)) (record s { replies = rest })
+          stages (header_bytes (reply_header s.cid reply)) (reply_on Driver s.cid reply) (record s { replies = rest })
           (holds_header (reply_header s.cid reply) kept.puts.0 refl) (header_long (reply_header s.cid reply) refl) kept
 
       by : (rs : List Reply) → s.replies ≡ rs → KeptBy (bind (put_reply_of rs (start s)) (λ r. Done r.0.state))
@@ -180,7 +180,7 @@ module _ (device : Seat) (first : ℕ) (s : DriverState) (lists : Rings) (log : 
   module _ (quiet : log.staged.tx ≡ []) (device_puts : PutsFit device.log)
       (rx : packets_put device.log ≡ held_in packet_held lists.rx.back ++ packets_got log.entries)
       (event : events_put device.log ≡ held_in event_held lists.event.back ++ events_got log.entries)
-      (known : lists.cid < 2 ^ 64) where
+      (known : lists.cid < 2 ^ 64) (once : AreOnce (seated device s now)) where
     moved : (entry : LogEntry) → entry ∷ now ≡ all_put log.staged.tx (entry ∷ log.entries)
     moved entry = subst (λ (pages : List (List ℕ)). entry ∷ all_put pages log.entries ≡ all_put pages (entry ∷ log.entries)) (sym quiet) refl
 
@@ -214,7 +214,7 @@ module _ (device : Seat) (first : ℕ) (s : DriverState) (lists : Rings) (log : 
     packet_taken page pages back (Some p) held =
         let next = next_packet page pages p back held in
         subst (λ (l : Log). Kept device s now (on_packet p s) l) (moved (GotPacket p))
-        (takes.takes device first s now sound holds puts p next (next_fits now device.log p next device_puts) (packet_whole page p held).0)
+        (takes.takes device first s now sound holds puts p next (next_fits now device.log p next device_puts) (packet_whole page p held).0 once)
 
     -- The rings after a page was taken of a queue, with what the log says then.
     abbrev rx_reaped : Log → Rings × EndLog
@@ -325,7 +325,7 @@ module _ (device : Seat) (first : ℕ) (s : DriverState) (lists : Rings) (log : 
       with_page none false = still
       with_page none true =
           let kept = takes.connects device first s now sound holds puts port none fits in
-          let p = request_on Driver s.cid (next_flow port s) BUF_ALLOC in (
+          let p = request_on Driver s.cid (next_flow port s) Stream in (
             recounted (connected port s) (s.in_flight + 1) s.staged (PutPacket p ∷ now) _
                 (log_put (request_bytes port s) p (holds_header p.header kept.puts.0 refl)) kept,
             (

@@ -1,31 +1,27 @@
 -- The driver takes a transport reset, and closes the connections that wait on a port.
-use Rattle.std.proofs.{lemmas.Bool.Decides.nat_tests, lemmas.List.map-append, lemmas.List.append-nil, lemmas.List.Elements.All-push}
+use Rattle.std.proofs.{lemmas.Bool.Decides.nat_tests, lemmas.List.append-nil, lemmas.List.Elements.All-push}
 use Rattle.std.proofs.Common.{◌≡◌, ℕ, suc, ◌+◌, ◌^◌, ◌<◌, ◌≤◌, ◌==◌, not, Bool, true, false, cond, List, [], ◌∷◌, ◌++◌, map, filter, refl}
 use Rattle.std.proofs.Common.{sym, ap, subst, ◌∙◌, arith, append_assoc, Contains}
 use Rattle.std.specs.List.{All}
 use Rattle.vs_limits.specs.declared.TheConstants.{ASSIGNED_FIRST}
-use Rattle.vs_flow.specs.{Table.IsRising, Table.IsTable, Table.Table, Table.without, declared.flow.Flow.Flow}
+use Rattle.vs_flow.specs.Table.{IsRising, IsTable, Table, without}
 use Rattle.vs_flow.proofs.{Entries.above_head, Entries.all_others, Entries.find_none, Entries.rising_tail, Tables.without_sound}
 use Rattle.vs_page.specs.{Log.Log, Log.Driver, declared.log.LogEntry.TheVariants.Mark}
 use Rattle.vs_replies.specs.declared.Reply.{Reply}
-use Rattle.vs_matching.specs.{Both.Both, Both.IsSound, Both.Seat, Both.TakesReset, Ends.Ends, Ends.entries_of, Ends.flows_of}
+use Rattle.vs_matching.specs.{Both.Both, Both.IsSound, Both.Seat, Both.TakesReset, Ends.Ends, Ends.entries_of, Ends.replies_of}
 use Rattle.vs_driver_parts.specs.State.{DriverConnection, DriverEntry, DriverState, GoneConnection}
 use Rattle.vs_driver_parts.specs.Connections.{after_close, after_leaving, after_unlisten, all_closed, gone_as, is_let_go, waiting_on}
 use Rattle.vs_driver_parts.specs.Connections.{waits_no_more}
 use Rattle.vs_driver_parts.specs.Receiving.{after_reset, all_left, reset_reply, with_reply}
-use Rattle.vs_world.proofs.{Received.same_received, Receives.StillReceives, Receives.leaves, Receives.none_read, Entries.EntryFits}
-use Rattle.vs_world.proofs.{Runs.keeps_sound, Runs.one_step, Wire.PutsFit}
-use Rattle.vs_world.proofs.DriverSide.{DriverHolds, Kept, ReplyFits, close, end_in, held_in, kept_still, kept_then, seated}
-use Rattle.vs_world.specs.{Pipes.none_on, Pipes.put_on, Sides.flow_to_host}
+use Rattle.vs_world.proofs.{Received.same_received, Receives.StillReceives, Receives.leaves, Receives.none_read}
+use Rattle.vs_world.proofs.{Entries.EntryFits, Entries.ReplyFits, Runs.keeps_sound, Runs.one_step, Wire.PutsFit}
+use Rattle.vs_world.proofs.DriverSide.{DriverHolds, Kept, close, end_in, held_in, kept_still, kept_then, seated}
+use Rattle.vs_world.specs.Pipes.{none_on, put_on}
 use Rattle.vs_pipes.proofs.Logs.{nothing_more}
-
--- The replies that a reset owes.
-abbrev reply_for : DriverEntry → Reply
-reply_for e = reset_reply e.flow
 
 pub record IsAllLeft (s t : DriverState) (es : List DriverEntry) : Type 0 where
   pub table : t.table ≡ record s.table { entries = [] }
-  pub replies : t.replies ≡ s.replies ++ map reply_for es
+  pub replies : t.replies ≡ s.replies ++ map reset_reply es
   pub next_id : t.next_id ≡ s.next_id
   pub next_port : t.next_port ≡ s.next_port
   pub cid : t.cid ≡ s.cid
@@ -46,7 +42,7 @@ record IsOneLeft (s t : DriverState) (e : DriverEntry) (es : List DriverEntry) :
   entries : t.table.entries ≡ es
   room : t.table.room ≡ s.table.room
   given : t.table.given ≡ s.table.given
-  replies : t.replies ≡ s.replies ++ reply_for e ∷ []
+  replies : t.replies ≡ s.replies ++ reset_reply e ∷ []
   next_id : t.next_id ≡ s.next_id
   next_port : t.next_port ≡ s.next_port
   cid : t.cid ≡ s.cid
@@ -54,7 +50,7 @@ record IsOneLeft (s t : DriverState) (e : DriverEntry) (es : List DriverEntry) :
 
 one_left : (b : Bool) (e : DriverEntry) (es : List DriverEntry) (gone : List GoneConnection) (s : DriverState) → s.table.entries ≡ e ∷ es
     → IsRising (e ∷ es)
-    → IsOneLeft s (with_reply (reset_reply e.flow) (record (cond b (waits_no_more e s) s) { table = without s.table e.slot; gone = gone })) e es
+    → IsOneLeft s (with_reply (reset_reply e) (record (cond b (waits_no_more e s) s) { table = without s.table e.slot; gone = gone })) e es
 one_left true e es gone s is rising = record {
   entries = ap (λ (xs : List DriverEntry). filter (λ x. not (x.slot == e.slot)) xs) is ∙ others e es rising;
   room = refl;
@@ -86,15 +82,15 @@ left_all [] s is rising = record {
   broken = refl;
 }
 left_all (e ∷ es) s is rising =
-    let t = with_reply (reset_reply e.flow) (after_leaving e s) in
+    let t = with_reply (reset_reply e) (after_leaving e s) in
     let one = one_left e.value.unanswered e es (cond (is_let_go e.value) s.gone (s.gone ++ gone_as e ∷ [])) s is rising in
     let rest = left_all es t one.entries (rising_tail e es rising) in
     record {
       table = rest.table
           ∙ ap (λ (n : ℕ). let x : Table DriverConnection = record { room = n; entries = []; given = t.table.given } in x) one.room
           ∙ ap (λ (n : ℕ). let x : Table DriverConnection = record { room = s.table.room; entries = []; given = n } in x) one.given;
-      replies = rest.replies ∙ ap (λ (rs : List Reply). rs ++ map reply_for es) one.replies
-          ∙ append_assoc s.replies (reply_for e ∷ []) (map reply_for es);
+      replies = rest.replies ∙ ap (λ (rs : List Reply). rs ++ map reset_reply es) one.replies
+          ∙ append_assoc s.replies (reset_reply e ∷ []) (map reset_reply es);
       next_id = rest.next_id ∙ one.next_id;
       next_port = rest.next_port ∙ one.next_port;
       cid = rest.cid ∙ one.cid;
@@ -105,26 +101,26 @@ left_all (e ∷ es) s is rising =
 left_receive : (es : List DriverEntry) (s : DriverState) (log : Log) → s.table.entries ≡ es → IsTable s.table → StillReceives s log (all_left es s) log
 left_receive [] s log is sound r x = x
 left_receive (e ∷ es) s log is sound r x =
-    let t = with_reply (reset_reply e.flow) (after_leaving e s) in
+    let t = with_reply (reset_reply e) (after_leaving e s) in
     let rising : IsRising (e ∷ es) = subst (λ (xs : List DriverEntry). IsRising xs) is sound.rising in
     let one = one_left e.value.unanswered e es (cond (is_let_go e.value) s.gone (s.gone ++ gone_as e ∷ [])) s is rising in
     let there : Contains s.table.entries e = subst (λ (xs : List DriverEntry). Contains xs e) (sym is) (0, omega arith, refl) in
     left_receive es t log one.entries (without_sound s.table e.slot sound) r
     (leaves s log sound e.value.unanswered (is_let_go e.value) e (gone_as e) there refl refl refl r x)
 
-same_flows : (es : List DriverEntry) (t : Table DriverConnection) → t.entries ≡ es → map flow_to_host (map reply_for es) ≡ flows_of (entries_of end_in t)
-same_flows es t is = by es ∙ ap (λ (xs : List DriverEntry). flows_of (entries_of end_in (record t { entries = xs }))) (sym is)
+same_replies : (es : List DriverEntry) (t : Table DriverConnection) → t.entries ≡ es → map reset_reply es ≡ replies_of (entries_of end_in t)
+same_replies es t is = by es ∙ ap (λ (xs : List DriverEntry). replies_of (entries_of end_in (record t { entries = xs }))) (sym is)
   where
-    by : (xs : List DriverEntry) → map flow_to_host (map reply_for xs) ≡ flows_of (entries_of end_in (record t { entries = xs }))
+    by : (xs : List DriverEntry) → map reset_reply xs ≡ replies_of (entries_of end_in (record t { entries = xs }))
     by [] = refl
-    by (x ∷ xs) = ap (λ (fs : List Flow). x.flow ∷ fs) (by xs)
+    by (x ∷ xs) = ap (λ (rs : List Reply). reset_reply x ∷ rs) (by xs)
 
-replies_fit : (es : List DriverEntry) (rs : List Reply) → All ReplyFits rs → All (EntryFits end_in held_in) es → All ReplyFits (rs ++ map reply_for es)
+replies_fit : (es : List DriverEntry) (rs : List Reply) → All ReplyFits rs → All (EntryFits end_in held_in) es → All ReplyFits (rs ++ map reset_reply es)
 replies_fit [] rs all entries = subst (λ (xs : List Reply). All ReplyFits xs) (sym (append-nil rs)) all
 replies_fit (e ∷ es) rs all entries =
     let flow = (entries 0 e (omega arith)).flow in
-    subst (λ (xs : List Reply). All ReplyFits xs) (append_assoc rs (reply_for e ∷ []) (map reply_for es))
-    (replies_fit es (rs ++ reply_for e ∷ []) (All-push ReplyFits rs (reply_for e) all (record { src_port = flow.guest; dst_port = flow.host }))
+    subst (λ (xs : List Reply). All ReplyFits xs) (append_assoc rs (reset_reply e ∷ []) (map reset_reply es))
+    (replies_fit es (rs ++ reset_reply e ∷ []) (All-push ReplyFits rs (reset_reply e) all flow)
     (λ i d less. entries (suc i) d (omega (arith, less))))
 
 no_entries : (t : Table DriverConnection) → IsTable t → IsTable (record t { entries = [] })
@@ -150,25 +146,27 @@ module _ (device : Seat) (first : ℕ) where
           received = none_read s (after_reset cid s) log (Mark cid ∷ log) (λ r x.
               same_received r r log (Mark cid ∷ log) (λ f. refl) (λ f. refl) (λ f is. is) _ _ _ _ (left_receive s.table.entries start log refl holds.sound r x));
           sent = λ f. nothing_more (put_on f log);
-          runs = one_step Driver (TakesReset cid) (seated device s log) (seated device (after_reset cid s) (Mark cid ∷ log)) refl
-              (ap (λ (fs : List Flow). marked cid log (record { entries = []; replies = fs; next_port = s.next_port; cid = cid }))
-              (ap (λ (fs : List Flow). map flow_to_host s.replies ++ fs) (sym (same_flows s.table.entries s.table refl))
-              ∙ sym (map-append flow_to_host s.replies (map reply_for s.table.entries)) ∙ ap (map flow_to_host) (sym all.replies))
+          runs = one_step Driver (TakesReset cid) (seated device s log) (seated device (after_reset cid s) (Mark cid ∷ log)) refl tt
+              (ap (λ (rs : List Reply). marked cid log (record { entries = []; replies = rs; clean = []; next_port = s.next_port; cid = cid }))
+              (ap (λ (rs : List Reply). s.replies ++ rs) (sym (same_replies s.table.entries s.table refl)) ∙ sym all.replies)
               ∙ ap (λ (t : Table DriverConnection). marked cid log (record {
                 entries = entries_of end_in t;
-                replies = map flow_to_host (after_reset cid s).replies;
+                replies = (after_reset cid s).replies;
+                clean = [];
                 next_port = s.next_port;
                 cid = cid;
               })) (sym all.table)
               ∙ ap (λ (n : ℕ). marked cid log (record {
                 entries = entries_of end_in (after_reset cid s).table;
-                replies = map flow_to_host (after_reset cid s).replies;
+                replies = (after_reset cid s).replies;
+                clean = [];
                 next_port = n;
                 cid = cid;
               })) (sym all.next_port)
               ∙ ap (λ (n : ℕ). marked cid log (record {
                 entries = entries_of end_in (after_reset cid s).table;
-                replies = map flow_to_host (after_reset cid s).replies;
+                replies = (after_reset cid s).replies;
+                clean = [];
                 next_port = (after_reset cid s).next_port;
                 cid = n;
               })) (sym all.cid));

@@ -1,6 +1,6 @@
 -- What the driver's small changes are among the steps of the two ends.
 use Rattle.std.proofs.Common.{◌≡◌, ℕ, suc, ◌+◌, ◌-◌, ◌^◌, ◌<◌, ◌≤◌, ◌==◌, min, Bool, true, false, cond, List, [], ◌∷◌, ◌++◌, length, drop}
-use Rattle.std.proofs.Common.{map, Contains, Option, Some, None, refl, sym, ap, subst, ◌∙◌, arith, take}
+use Rattle.std.proofs.Common.{Contains, Option, Some, None, refl, sym, ap, subst, ◌∙◌, arith, take}
 use Rattle.std.proofs.lemmas.List.{length-drop, append-nil}
 use Rattle.std.specs.List.{All}
 use Rattle.vs_conn.specs.{declared.end.Owed.Owed, declared.end.State.State}
@@ -24,15 +24,14 @@ use Rattle.vs_limits.specs.declared.TheConstants.{LAST_PORT, DRIVER_CONNECTIONS}
 use Rattle.vs_credit.specs.Credit.{unread_of}
 use Rattle.vs_history.specs.declared.packet.Packet.{Packet}
 use Rattle.vs_pipes.specs.Drains.{receives}
-use Rattle.vs_world.proofs.{Gone.closed_received, Payloads.sent_empty, Payloads.sent_put}
+use Rattle.vs_world.proofs.{Gone.closed_received, Payloads.sent_empty, Payloads.sent_put, Runs.and_then, Runs.one_step, Runs.stays}
 use Rattle.vs_world.proofs.Receives.{Receives, StillReceives, after_put, changes, entry_reads, gone_reads, leaves, none_read, nothing_there}
 use Rattle.vs_world.proofs.Receives.{read_out, reads_of, said_as, then_reads}
-use Rattle.vs_world.proofs.Entries.{EntryFits, fits_at, fits_with_value, fits_without}
-use Rattle.vs_world.proofs.Runs.{and_then, one_step, stays}
+use Rattle.vs_world.proofs.Entries.{EntryFits, ReplyFits, fits_at, fits_with_value, fits_without}
 use Rattle.vs_world.proofs.Wire.{PutsFit, RouteFits, owed_fits, payload_fits, reset_fits}
 use Rattle.vs_pipes.proofs.Steps.{comes_out, ended_goes, forwards_less, pays_less, shut_goes, stays_still}
 use Rattle.vs_pipes.proofs.Logs.{only_on, nothing_more}
-use Rattle.vs_world.specs.{Pipes.none_on, Pipes.put_on, Sides.Runs, Sides.driver_ends, Sides.flow_to_host}
+use Rattle.vs_world.specs.{Pipes.none_on, Pipes.put_on, Sides.Runs, Sides.driver_ends}
 use Rattle.vs_device_log.specs.Honest.{HoldsBytes}
 use Rattle.vs_device_log.proofs.Fits.{fits_forwarded, fits_paid, fits_sent, fits_shut}
 use Rattle.vs_conn.specs.declared.end.Owed.TheVariants as owed
@@ -44,10 +43,6 @@ end_in c = c.end
 
 abbrev pub held_in : DriverConnection → ℕ
 held_in c = length c.unread
-
-pub record ReplyFits (r : Reply) : Type 0 where
-  pub src_port : r.src_port < 2 ^ 32
-  pub dst_port : r.dst_port < 2 ^ 32
 
 -- What is true of the driver between any two events.
 pub record Holds (table : Table DriverConnection) (replies : List Reply) (next_id next_port cid : ℕ) : Type 0 where
@@ -130,7 +125,7 @@ module _ (device : Seat) where
           broken = refl;
           received = received;
           sent = λ f. nothing_more (put_on f log);
-          runs = one_step Driver (Decides e.flow e.value.end what) (seated s log) (seated (with_connection e.slot c s) log) (has, old, may)
+          runs = one_step Driver (Decides e.flow e.value.end what) (seated s log) (seated (with_connection e.slot c s) log) (has, old, may) tt
               (ap (λ (entries : List FlowEnd). with_entries entries s log)
               (sym (changed_slot end_in s.table e c holds.sound there ∙ ap (λ (x : ConnectionEnd). replaced e.flow x (entries_of end_in s.table)) is)));
           holds = holds_changed e.slot c fits;
@@ -264,7 +259,7 @@ module _ (device : Seat) where
     route : (e : DriverEntry) → Contains s.table.entries e → RouteFits (route_of Driver s.cid e.flow)
     route e there =
         let flow = (entry_fits e there).flow in
-        record { src_cid = holds.known; dst_cid = omega arith; src_port = flow.guest; dst_port = flow.host }
+        record { src_cid = holds.known; dst_cid = flow.peer; src_port = flow.guest; dst_port = flow.host }
 
     -- A connection changes and puts a packet.
     puts_and_changes : (e : DriverEntry) (c : DriverConnection) (p : Packet) → Contains s.table.entries e → c.id ≡ e.value.id
@@ -287,7 +282,7 @@ module _ (device : Seat) where
               (stays_still (receives e.value.end) (receives e.value.end) e.value.unread [] (λ is. is) (λ is. refl));
           sent = λ f. sent_put p log f;
           runs = one_step Driver (Sends e.flow e.value.end payload) (seated s log) (seated (with_connection e.slot c s) (PutPacket p ∷ log))
-              (has_end e there, can)
+              (has_end e there, can) tt
               (ap (λ (entries : List FlowEnd). with_entries entries s (PutPacket p ∷ log)) (sym (changed_slot end_in s.table e c holds.sound there)));
           holds = holds_changed e.slot c (fits_sent e.value.end.credit (length payload) (length e.value.unread) (entry_fits e there).credit);
           puts = (payload_fits e.value.end _ (length payload) (length e.value.unread) (route e there) (entry_fits e there).credit len, puts);
@@ -307,7 +302,7 @@ module _ (device : Seat) where
               (λ on. pays_less e.value.end what owes (sym (ap (λ (x : ConnectionEnd). receives x) is) ∙ on)) (λ on. refl)));
           sent = λ f. sent_empty p log f refl;
           runs = one_step Driver (Pays e.flow e.value.end what) (seated s log) (seated (with_connection e.slot c s) (PutPacket p ∷ log))
-              (has_end e there, owes)
+              (has_end e there, owes) tt
               (ap (λ (part : Ends). at_part part (PutPacket p ∷ log)) stays_in
               ∙ ap (λ (entries : List FlowEnd). with_entries entries s (PutPacket p ∷ log))
               (ap (λ (x : ConnectionEnd). replaced e.flow x (entries_of end_in s.table)) (sym is) ∙ sym (changed_slot end_in s.table e c holds.sound there)));
@@ -369,24 +364,23 @@ module _ (device : Seat) where
               (leaves s log holds.sound e.value.unanswered (is_let_go e.value) e (gone_as e) there refl refl refl r x));
           sent = λ f. sent_empty p log f refl;
           runs = one_step Driver (Pays e.flow e.value.end owed.Rst) (seated s log) (seated (after_leaving e s) (PutPacket p ∷ log))
-              (has_end e there, owes) (ap (λ (part : Ends). at_part part (PutPacket p ∷ log)) (left_ends e.value.unanswered e gone there));
+              (has_end e there, owes) tt (ap (λ (part : Ends). at_part part (PutPacket p ∷ log)) (left_ends e.value.unanswered e gone there));
           holds = left_holds e.value.unanswered e gone;
           puts = (owed_fits e.value.end _ owed.Rst (length e.value.unread) (route e there) (entry_fits e there).credit owes, puts);
         }
 
     -- It puts the oldest reply.
     pub replies : (reply : Reply) (rest : List Reply) → s.replies ≡ reply ∷ rest
-        → Kept s log (record s { replies = rest }) (PutPacket (reply_on Driver s.cid (flow_to_host reply)) ∷ log)
+        → Kept s log (record s { replies = rest }) (PutPacket (reply_on Driver s.cid reply) ∷ log)
     replies reply rest is =
-        let p = reply_on Driver s.cid (flow_to_host reply) in
+        let p = reply_on Driver s.cid reply in
         let all : All ReplyFits (reply ∷ rest) = subst (λ (rs : List Reply). All ReplyFits rs) is holds.owed in
         let one : ReplyFits reply = all 0 reply (omega arith) in
         record {
           broken = refl;
           received = none_read s (record s { replies = rest }) log (PutPacket p ∷ log) (after_put s log p);
           sent = λ f. sent_empty p log f refl;
-          runs = one_step Driver (Replies (flow_to_host reply) (map flow_to_host rest)) (seated s log)
-              (seated (record s { replies = rest }) (PutPacket p ∷ log)) (ap (map flow_to_host) is) refl;
+          runs = one_step Driver (Replies reply rest) (seated s log) (seated (record s { replies = rest }) (PutPacket p ∷ log)) is tt refl;
           holds = record {
             sound = holds.sound;
             room = holds.room;
@@ -396,5 +390,5 @@ module _ (device : Seat) where
             port = holds.port;
             known = holds.known;
           };
-          puts = (reset_fits _ (record { src_cid = holds.known; dst_cid = omega arith; src_port = one.src_port; dst_port = one.dst_port }), puts);
+          puts = (reset_fits reply.kind _ (record { src_cid = holds.known; dst_cid = one.peer; src_port = one.guest; dst_port = one.host }), puts);
         }

@@ -1,8 +1,8 @@
 -- Logs grow.
 use Rattle.std.proofs.Common.{◌≡◌, List, [], ◌∷◌, ◌++◌, refl, ap, subst, ◌∙◌, ℕ}
-use Rattle.vs_page.specs.Log.{Device, Driver, Log, Role}
 use Rattle.vs_page.specs.declared.log.LogEntry.TheVariants.{GotEvent, GotPacket, Mark, PutEvent, PutPacket}
-use Rattle.vs_matching.specs.Both.{Asks, Both, Decides, Happening, MakesReset, Opens, Pays, PutsEvent, Replies, Sends, Step, Takes}
+use Rattle.vs_page.specs.Log.{Device, Driver, Log, Role}
+use Rattle.vs_matching.specs.Both.{Asks, Both, Decides, Forgets, Happening, MakesReset, Opens, Pays, PutsEvent, Replies, Sends, Step, Takes}
 use Rattle.vs_matching.specs.Both.{TakesEvent, TakesReset, at, happens, log_after, run}
 use Rattle.vs_matching.specs.Steps.{owed_on, payload_on, reply_on, request_on}
 use Rattle.vs_world.specs.Sides.{Runs}
@@ -12,12 +12,13 @@ abbrev pub Grows : Log → Log → Type 0
 Grows older log = (newer : Log) × (log ≡ newer ++ older)
 
 step_grows : (role : Role) (cid : ℕ) (step : Step) (log : Log) → Grows log (log_after role cid step log)
-step_grows role cid (Opens f alloc) log = (PutPacket (request_on role cid f alloc) ∷ [], refl)
-step_grows role cid (Asks f alloc) log = ([], refl)
+step_grows role cid (Opens f kind) log = (PutPacket (request_on role cid f kind) ∷ [], refl)
+step_grows role cid (Asks f kind) log = ([], refl)
 step_grows role cid (Sends f e payload) log = (PutPacket (payload_on role cid f e payload) ∷ [], refl)
 step_grows role cid (Pays f e what) log = (PutPacket (owed_on role cid f e what) ∷ [], refl)
-step_grows role cid (Replies f rest) log = (PutPacket (reply_on role cid f) ∷ [], refl)
+step_grows role cid (Replies r rest) log = (PutPacket (reply_on role cid r) ∷ [], refl)
 step_grows role cid (Decides f e what) log = ([], refl)
+step_grows role cid Forgets log = ([], refl)
 step_grows role cid (Takes p answer) log = (GotPacket p ∷ [], refl)
 step_grows role cid (PutsEvent id) log = (PutEvent id ∷ [], refl)
 step_grows role cid (TakesEvent id) log = (GotEvent id ∷ [], refl)

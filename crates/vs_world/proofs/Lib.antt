@@ -2,6 +2,8 @@ pub mod Queues
 pub mod Played
 pub mod Fits
 pub mod Runs
+pub mod Firsts
+pub mod Once
 pub mod Entries
 pub mod Wire
 pub mod Received

@@ -19,7 +19,7 @@ use Rattle.vs_ring_list.specs.Ends.{empty_ends}
 use Rattle.vs_matching.specs.Both.{Both}
 use Rattle.vs_driver_parts.specs.Conversations.{DriverTree, load_cid, new_of, new_state, post_events, post_one, posts, publish_of}
 use Rattle.vs_driver_parts.specs.State.{DriverState}
-use Rattle.vs_world.proofs.{DriverSide.DriverHolds, Played.opening_queued, Runs.and_then}
+use Rattle.vs_world.proofs.{DriverSide.DriverHolds, Once.AreOnce, Once.start_once, Played.opening_queued, Runs.and_then}
 use Rattle.vs_world.proofs.{Sound.Goes, Sound.IsWell, Sound.goes_still, Sound.happens_goes, Wire.PutsFit}
 use Rattle.vs_matching.specs.Both as both
 use Rattle.vs_world.specs.Events as events
@@ -207,6 +207,7 @@ module _ (n : ℕ) (host : HostContents) where
     broken = ap (λ (s : DriverState). s.broken) new.state;
     overrun = refl;
     cids = subst (AreVoiced first_cid) opening_is (voices_start first_cid FIRST_PORT ASSIGNED_FIRST);
+    once = subst AreOnce opening_is (start_once first_cid FIRST_PORT ASSIGNED_FIRST);
     streams = none_streamed host (opening n host).proxy.next_port;
     received = none_received n (opening n host).driver (log_with_staged (opening n host).rings.driver) new.state;
     sent = λ f. ap (put_on f) (sym log_empty);

@@ -1,16 +1,14 @@
 -- What an entry of the driver's log adds to the payload that it put.
 use Rattle.std.proofs.Common.{◌≡◌, ℕ, zero, suc, length, take, Bool, true, false, cond, List, [], ◌∷◌, ◌++◌, refl, ap, ◌∙◌}
-use Rattle.vs_flow.specs.Flow.{same_flow}
-use Rattle.vs_flow.specs.declared.flow.Flow.{Flow}
-use Rattle.vs_history.specs.History.{History, Got, puts}
-use Rattle.vs_history.specs.declared.packet.Packet.{Packet}
-use Rattle.vs_page.specs.{Fair.payload_of, Log.Driver, Log.Log, Log.flow_got, Log.flow_put, Log.history_of}
+use Rattle.vs_flow.specs.{Flow.same_flow, declared.flow.Flow.Flow}
+use Rattle.vs_history.specs.{History.History, History.Got, History.puts, declared.packet.Packet.Packet}
+use Rattle.vs_page.specs.{Fair.payload_of, Log.Driver, Log.Log, Log.flow_got, Log.flow_put, Log.whole_of}
 use Rattle.vs_page.specs.declared.log.LogEntry.TheVariants.{GotPacket, PutPacket}
 use Rattle.vs_world.specs.Pipes.{put_on}
 use Rattle.vs_pipes.proofs.Logs.{nothing_more, put_more_by}
 
 pub sent_put : (p : Packet) (log : Log) (f : Flow) → put_on f (PutPacket p ∷ log) ≡ put_on f log ++ cond (same_flow f (flow_put Driver p)) p.payload []
-sent_put p log f = put_more_by (same_flow f (flow_put Driver p)) p (history_of Driver f log)
+sent_put p log f = put_more_by (same_flow f (flow_put Driver p)) p (whole_of Driver f log)
 
 same_either : (b : Bool) (xs : List ℕ) → xs ≡ [] → cond b xs [] ≡ []
 same_either true xs is = is
@@ -25,7 +23,7 @@ got_by true p h = nothing_more (payload_of (puts h))
 got_by false p h = nothing_more (payload_of (puts h))
 
 pub sent_got : (p : Packet) (log : Log) (f : Flow) → put_on f (GotPacket p ∷ log) ≡ put_on f log ++ []
-sent_got p log f = got_by (same_flow f (flow_got Driver p)) p (history_of Driver f log)
+sent_got p log f = got_by (same_flow f (flow_got Driver p)) p (whole_of Driver f log)
 
 pub either_none : (b : Bool) → ◌≡◌ {A = List ℕ} (cond b [] []) []
 either_none true = refl

@@ -5,10 +5,8 @@ use Rattle.vs_contents.specs.CallTree.{Done, Ask, bind, for_each, played}
 use Rattle.vs_flow.specs.Table.{IsTable, entry_under, slots, emptied}
 use Rattle.vs_flow.proofs.Tables.{with_value_sound}
 use Rattle.vs_outside.specs.Host.{HostContents, after_close}
-use Rattle.vs_page.specs.Log.{Device}
-use Rattle.vs_page.specs.declared.log.LogEntry.TheVariants.{Mark}
-use Rattle.vs_ring_port.specs.{Contents.PublishCid, EndLog.EndLog}
-use Rattle.vs_ring_port.specs.declared.failure.Failure.{Failure}
+use Rattle.vs_page.specs.{Log.Device, declared.log.LogEntry.TheVariants.Mark}
+use Rattle.vs_ring_port.specs.{Contents.PublishCid, EndLog.EndLog, declared.failure.Failure.Failure}
 use Rattle.vs_matching.specs.Both.{IsSound, MakesReset, Seat}
 use Rattle.vs_device_parts.specs.{Calls.CloseStream, Calls.DeviceTree, Calls.Ring, Connections.stream_closed, Connections.with_connection}
 use Rattle.vs_device_parts.specs.{State.DeviceEntry, State.DeviceState, Turns.after_reset, Turns.close_slot}
@@ -108,7 +106,7 @@ module _ (driver : Seat) (first : ℕ) (w : ProxyState) (a : Around) (sound : Is
         kept = subst (λ (l : EndLog). Kept driver w.next_port w.device a.log.entries w.next_port (after_reset cid t) (Mark cid ∷ l.entries)) (sym closed.log) (record {
           overrun = closed.overrun;
           runs = one_step Device (MakesReset cid) (seated driver w.next_port w.device a.log.entries)
-              (seated driver w.next_port (after_reset cid t) (Mark cid ∷ a.log.entries)) refl refl;
+              (seated driver w.next_port (after_reset cid t) (Mark cid ∷ a.log.entries)) refl tt refl;
           holds = record {
             sound = record {
               within = omega arith;

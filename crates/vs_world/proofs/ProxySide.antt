@@ -3,8 +3,8 @@ use Rattle.std.proofs.Common.{◌≡◌, ℕ, ◌+◌, ◌^◌, ◌<◌, ◌≤�
 use Rattle.std.proofs.Common.{Option, Some, None, refl, sym, ap, subst, ◌∙◌, arith, Result, Ok, Err, ◌≢◌}
 use Rattle.std.proofs.lemmas.Bool.Decides.{nat_tests}
 use Rattle.vs_contents.specs.CallTree.{Done, Ask, bind, played}
-use Rattle.vs_flow.specs.{Flow.is_assigned, Flow.same_flow, Table.entry_of, Table.has_place, Table.refusal, declared.flow.Flow.Flow}
-use Rattle.vs_flow.specs.declared.table.TableFault.{TableFault}
+use Rattle.vs_flow.specs.{Flow.host_flow, Flow.is_assigned, Flow.same_flow, Table.entry_of, Table.has_place, Table.refusal}
+use Rattle.vs_flow.specs.{declared.flow.Flow.Flow, declared.table.TableFault.TableFault}
 use Rattle.vs_limits.specs.declared.TheConstants.{ASSIGNED_LAST, HANDSHAKES}
 use Rattle.vs_flow.proofs.{Entries.same_flow_true, Entries.found_passes, Tables.accepted}
 use Rattle.vs_outside.specs.{declared.host_net.Accepted.Accepted, declared.host_net.StreamRead.StreamRead, HostBytes.after_line}
@@ -118,9 +118,9 @@ module _ (driver : Seat) (first : ℕ) (w : ProxyState) (a : Around) (sound : Is
           let two : [] ≡ end_in e.value ∷ [] = sym none ∙ ap (λ (g : Flow). ends_of g (entries_of end_in w.device.table)) same ∙ one in
           absurd cc
 
-  not_refused : (guest : ℕ) → may_open w ≡ true → refusal w.device.table (record { guest = guest; host = w.next_port }) ≡ None
+  not_refused : (guest : ℕ) → may_open w ≡ true → refusal w.device.table (host_flow guest w.next_port) ≡ None
   not_refused guest may =
-      let f : Flow = record { guest = guest; host = w.next_port } in
+      let f : Flow = host_flow guest w.next_port in
       let parts : (has_place w.device.table ≡ true) × (w.next_port ≤ ASSIGNED_LAST) = parts_of (has_place w.device.table) refl may in
       let inside : is_assigned w.next_port ≡ true = inside_by parts.1 in
       let unused = (sound.matches Device).flows.unused f (ap (side_by Device) inside) (omega arith) in
@@ -152,23 +152,23 @@ module _ (driver : Seat) (first : ℕ) (w : ProxyState) (a : Around) (sound : Is
     IsEnded = fresh → (has_line line ≡ true) × (after_line line ≡ [])
 
     opens : IsEnded → (guest : ℕ) → guest < 2 ^ 32 → may_open w ≡ true → KeptBy (opening stream guest (turning hs n))
-    opens ended guest fits may = by (refusal w.device.table (record { guest = guest; host = w.next_port })) refl
+    opens ended guest fits may = by (refusal w.device.table (host_flow guest w.next_port)) refl
       where
         inside : w.next_port ≤ ASSIGNED_LAST → is_assigned w.next_port ≡ true
         inside last = grind (arith, nat_tests, holds.port, last)
 
-        by : (o : Option TableFault) → refusal w.device.table (record { guest = guest; host = w.next_port }) ≡ o
+        by : (o : Option TableFault) → refusal w.device.table (host_flow guest w.next_port) ≡ o
             → KeptBy (bind (elim o as (λ _. DeviceTree (DeviceState × Result ℕ TableFault)) [
               | Some fault ↦ Done (w.device, Err fault)
-              | None ↦ Ask (Label stream (record { guest = guest; host = w.next_port }))
-                  (λ _. Done (with_client (record { guest = guest; host = w.next_port }) stream w.device, Ok w.device.table.given))
+              | None ↦ Ask (Label stream (host_flow guest w.next_port))
+                  (λ _. Done (with_client (host_flow guest w.next_port) stream w.device, Ok w.device.table.given))
             ]) (λ r. Done (record (turning hs n) {
               state = record (with_device r.0 (without_handshake stream (record w { handshakes = hs }))) { next_port = w.next_port + 1 };
             })))
         by (Some fault) is = let none = sym is ∙ not_refused guest may in absurd cc
         by None is = record {
           kept = takes.asks driver first w.next_port w.device a.log.entries sound holds puts guest stream
-              (accepted w.device.table (record { guest = guest; host = w.next_port }) is) fits (last_port may);
+              (accepted w.device.table (host_flow guest w.next_port) is) fits (last_port may);
           chain = rx;
           cid = known;
           streams = λ ok. label_host a.host a.log.entries w.next_port w.device.table (without_stream stream hs) (over ok) stream guest line (here ok) (away ok)
@@ -183,20 +183,20 @@ module _ (driver : Seat) (first : ℕ) (w : ProxyState) (a : Around) (sound : Is
     decides (step.Port guest) is still ended = by (may_open w) refl
       where
         opened : KeptBy (opening stream guest (turning hs n)) → KeptBy (bind {A = Turning × Bool} (bind (opening stream guest (turning hs n)) (λ u. Done (u, false))) (λ r. Done r.0))
-        opened kept = taken (refusal w.device.table (record { guest = guest; host = w.next_port })) kept
+        opened kept = taken (refusal w.device.table (host_flow guest w.next_port)) kept
           where
             taken : (o : Option TableFault)
                 → KeptBy (bind (elim o as (λ _. DeviceTree (DeviceState × Result ℕ TableFault)) [
                   | Some fault ↦ Done (w.device, Err fault)
-                  | None ↦ Ask (Label stream (record { guest = guest; host = w.next_port }))
-                      (λ _. Done (with_client (record { guest = guest; host = w.next_port }) stream w.device, Ok w.device.table.given))
+                  | None ↦ Ask (Label stream (host_flow guest w.next_port))
+                      (λ _. Done (with_client (host_flow guest w.next_port) stream w.device, Ok w.device.table.given))
                 ]) (λ r. Done (record (turning hs n) {
                   state = record (with_device r.0 (without_handshake stream (record w { handshakes = hs }))) { next_port = w.next_port + 1 };
                 })))
                 → KeptBy (bind {A = Turning × Bool} (bind (bind (elim o as (λ _. DeviceTree (DeviceState × Result ℕ TableFault)) [
                   | Some fault ↦ Done (w.device, Err fault)
-                  | None ↦ Ask (Label stream (record { guest = guest; host = w.next_port }))
-                      (λ _. Done (with_client (record { guest = guest; host = w.next_port }) stream w.device, Ok w.device.table.given))
+                  | None ↦ Ask (Label stream (host_flow guest w.next_port))
+                      (λ _. Done (with_client (host_flow guest w.next_port) stream w.device, Ok w.device.table.given))
                 ]) (λ r. Done (record (turning hs n) {
                   state = record (with_device r.0 (without_handshake stream (record w { handshakes = hs }))) { next_port = w.next_port + 1 };
                 }))) (λ u. Done (u, false))) (λ r. Done r.0))

@@ -3,12 +3,12 @@ use Rattle.std.proofs.{lemmas.Bool.Decides.nat_tests, lemmas.List.Elements.Conta
 use Rattle.std.proofs.Common.{◌≡◌, ℕ, ◌^◌, ◌<◌, ◌≤◌, ◌&&◌, nat_le, Bool, true, false, List, [], ◌∷◌, ◌++◌, refl, sym, ap, subst, ◌∙◌, arith}
 use Rattle.std.proofs.Common.{append_assoc, get_or}
 use Rattle.vs_contents.specs.CallTree.{played}
-use Rattle.vs_history.specs.{declared.packet.Packet.Packet, History.Got, History.IsFair, Packets.is_rw}
+use Rattle.vs_history.specs.declared.packet.Packet.{Packet}
 use Rattle.vs_outside.specs.{Host.HostContents, Host.with_stream, declared.mem_stream.HostWritten.HostWritten}
 use Rattle.vs_outside.specs.HostProgram.{after_fail, after_host_write, after_listen, after_unlisten, allowed, closed, ended}
 use Rattle.vs_outside.specs.HostProgram.{host_write_answer, with_bytes}
-use Rattle.vs_page.specs.{Held.held_in, Held.packet_held, Open.is_dropped, declared.log.LogEntry.TheVariants.GotPacket}
-use Rattle.vs_page.specs.Log.{packets_put, packets_got, Device, IsNextPacket, Log, flow_got, history_of, side_of}
+use Rattle.vs_page.specs.{Open.is_dropped, Held.held_in, Held.packet_held}
+use Rattle.vs_page.specs.Log.{packets_put, packets_got, Device, IsNextPacket, Log, flow_got}
 use Rattle.vs_ring_port.specs.{DriverCalls.driver_answer, declared.queue.Queue.Queue}
 use Rattle.vs_matching.specs.{Both.IsSound, Both.Both, Ends.ends_of, Ends.entries_of}
 use Rattle.vs_driver_parts.specs.{Conversations.DriverTree, Conversations.publish_of, State.DriverState}
@@ -29,13 +29,12 @@ use Rattle.vs_world.specs.Sides.{Runs, both_of, log_with_staged}
 use Rattle.vs_world.specs.World.{World, around, device_plays, driver_plays, first_cid}
 use Rattle.vs_world.proofs.{Received.same_received, Chains.HoldsRx, DeviceSide.DeviceHolds, DriverSide.DriverHolds}
 use Rattle.vs_world.proofs.{Played.device_plays_keeps, Played.driver_plays_keeps, Queues.pages_put}
-use Rattle.vs_world.proofs.{Rings.device_leaves_given, Rings.driver_leaves_cid, Runs.keeps_sound, Runs.stays, Wire.PutsFit}
-use Rattle.vs_world.proofs.Streams.{StreamedIf}
+use Rattle.vs_world.proofs.{Rings.device_leaves_given, Rings.driver_leaves_cid, Runs.keeps_sound, Runs.stays, Once.AreOnce, Once.keeps_once}
+use Rattle.vs_world.proofs.{Wire.PutsFit, Streams.StreamedIf}
 use Rattle.vs_flow.specs.{declared.flow.Flow.Flow, Table.Table}
 use Rattle.std.specs.List.{All}
 use Rattle.vs_limits.specs.declared.TheConstants.{GUEST_CID_MIN, GUEST_CID_MAX}
-use Rattle.vs_matching.proofs.{Both.next_is_fair, Slots.one_end, Voices.AreVoiced, Voices.voices_run}
-use Rattle.vs_page.proofs.Flows.{same_self}
+use Rattle.vs_matching.proofs.{Both.next_is_fair, Fair.got_formed, Slots.one_end, Voices.AreVoiced, Voices.voices_run}
 use Rattle.vs_pipes.specs.Streamed.{IsStreamed, gives}
 use Rattle.vs_pipes.proofs.{Cids.dropped_empty, HostCalls.client_host, HostCalls.same_host, Hosts.unseen, Logs.nothing_more}
 use Rattle.vs_ring_list.proofs.Held.{same_queue_is}
@@ -81,6 +80,8 @@ pub record IsWell (fresh : Type 0) (w : World) : Type 0 where
   pub received : IsReceived (λ f. received_on f w.journal) (log_with_staged w.rings.driver) w.driver
   pub overrun : w.proxy.device.overrun ≡ 0
   pub cids : AreVoiced first_cid (both_of w)
+  -- No flow is used twice.
+  pub once : AreOnce (both_of w)
   -- Of a host that had no streams at first.
   pub streams : StreamedIf fresh w.host w.rings.device.entries w.proxy.next_port w.proxy.device.table w.proxy.handshakes
 
@@ -114,6 +115,7 @@ driver_goes fresh tree state_of extra read journal w well made reads (kept, page
         _ _ _ _ (kept.received (λ f. received_on f w.journal) well.received);
     overrun = well.overrun;
     cids = cids_kept first_cid _ _ kept.runs well.sound well.cids;
+    once = keeps_once first_cid _ _ kept.runs well.sound well.once;
     streams = well.streams;
   };
   runs = kept.runs;
@@ -145,6 +147,7 @@ device_goes fresh tree state_of w well (kept, chain, known, streams) = record {
     received = well.received;
     overrun = kept.overrun ∙ well.overrun;
     cids = cids_kept first_cid _ _ kept.runs well.sound well.cids;
+    once = keeps_once first_cid _ _ kept.runs well.sound well.once;
     streams = streams;
   };
   runs = kept.runs;
@@ -195,25 +198,19 @@ module _ (fresh : Type 0) (w : World) (well : IsWell fresh w) where
       let e = get_or w.proxy.device.table.entries i d in
       let there = Contains-get_or w.proxy.device.table.entries i d within in
       let fair = next_is_fair Device first_cid p (both_of w) well.sound next in
-      dropped_empty first_cid (both_of w) well.sound well.cids p next dropped (not_payload_of p (fair (flow_got Device p))) e.value.end
+      dropped_empty first_cid (both_of w) well.sound well.cids p next dropped (λ other. (got_formed Device p w.rings.device.entries (fair (flow_got Device p))).payload other) e.value.end
       (subst (λ (f : Flow). ends_of f (entries_of (λ (c : DeviceConnection). c.end) w.proxy.device.table) ≡ e.value.end ∷ []) on
       (one_end (λ (c : DeviceConnection). c.end) w.proxy.device.table e well.device.sound there)) given
-    where
-      not_payload_of : (p : Packet) → IsFair (side_of Device (flow_got Device p)) (history_of Device (flow_got Device p) (GotPacket p ∷ w.rings.device.entries))
-          → is_rw p ≡ false → p.payload ≡ []
-      not_payload_of p fair other =
-          let own : IsFair (side_of Device (flow_got Device p)) (Got p ∷ history_of Device (flow_got Device p) w.rings.device.entries) = rw (same_self (flow_got Device p)) at fair in
-          own.0.formed.payload other
 
   takes_goes : (queue : Queue) → works_on queue w.rings.driver.staged ≡ true → Goes fresh w (driver_step (takes_page queue) w)
   takes_goes q.Tx may = driver_step_goes (takes_page q.Tx)
       (driver_events.reaps_tx (both_of w).device first_cid w.driver w.rings.lists w.rings.driver well.sound well.driver well.driver_puts well.pages)
   takes_goes q.Rx may = driver_step_goes (takes_page q.Rx)
       (driver_events.takes_page_keeps (both_of w).device first_cid w.driver w.rings.lists w.rings.driver well.sound well.driver well.driver_puts well.pages
-      (nothing_staged w.rings.driver.staged.tx (and_parts _ _ may).0) well.device_puts well.queued.rx well.queued.event well.known q.Rx)
+      (nothing_staged w.rings.driver.staged.tx (and_parts _ _ may).0) well.device_puts well.queued.rx well.queued.event well.known well.once q.Rx)
   takes_goes q.Event may = driver_step_goes (takes_page q.Event)
       (driver_events.takes_page_keeps (both_of w).device first_cid w.driver w.rings.lists w.rings.driver well.sound well.driver well.driver_puts well.pages
-      (nothing_staged w.rings.driver.staged.tx (and_parts _ _ may).1) well.device_puts well.queued.rx well.queued.event well.known q.Event)
+      (nothing_staged w.rings.driver.staged.tx (and_parts _ _ may).1) well.device_puts well.queued.rx well.queued.event well.known well.once q.Event)
 
   device_takes_goes : (queue : Queue) → Goes fresh w (device_step (takes_chain queue) w)
   device_takes_goes q.Rx = device_step_goes (takes_chain q.Rx)
@@ -222,7 +219,7 @@ module _ (fresh : Type 0) (w : World) (well : IsWell fresh w) where
       (device_turns.takes_event (both_of w).driver first_cid w.proxy.next_port w.proxy.device (around w) well.sound well.device well.device_puts well.chain well.known fresh w.proxy.handshakes well.streams)
   device_takes_goes q.Tx = device_step_goes (takes_chain q.Tx)
       (device_turns.takes_tx (both_of w).driver first_cid w.proxy.next_port w.proxy.device (around w) well.sound well.device well.device_puts well.chain well.known fresh w.proxy.handshakes well.streams
-      (held_in packet_held w.rings.driver.staged.tx) tx_tied well.driver_puts well.pages.0 undropped)
+      (held_in packet_held w.rings.driver.staged.tx) tx_tied well.driver_puts well.pages.0 undropped well.once)
 
   -- The moment and the host change.
   outside_goes : (now : ℕ) (host : HostContents)
@@ -244,6 +241,7 @@ module _ (fresh : Type 0) (w : World) (well : IsWell fresh w) where
       received = well.received;
       overrun = well.overrun;
       cids = well.cids;
+      once = well.once;
       streams = streams;
     };
     runs = stays _ _ refl;

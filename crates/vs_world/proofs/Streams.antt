@@ -1,57 +1,51 @@
 -- What the host's streams took and gave, through the small changes of the device.
+use Rattle.vs_flow.specs.Flow.{is_assigned, same_flow}
+use Rattle.vs_flow.specs.{Table.IsTable, Table.Table, Table.entry_of, Table.with_value, Table.without, declared.flow.Flow.Flow}
+use Rattle.std.proofs.{lemmas.Bool.Decides.nat_tests, lemmas.Grind.common_steps, lemmas.List.append-nil}
 use Rattle.std.proofs.Common.{◌≡◌, ℕ, ◌+◌, ◌-◌, ◌≤◌, ◌==◌, ◌&&◌, nat_le, Bool, true, false, cond, List, [], ◌∷◌, ◌++◌, length, take, drop}
 use Rattle.std.proofs.Common.{Contains, Option, Some, None, refl, sym, ap, subst, ◌∙◌, arith}
-use Rattle.std.proofs.lemmas.Bool.Decides.{nat_tests}
-use Rattle.std.proofs.lemmas.{Grind.common_steps, List.append-nil}
-use Rattle.std.specs.{List.All, Option.option_map}
-use Rattle.vs_conn.specs.End.{ConnectionEnd, end_after, is_reset, is_stream, verdict_of, with_shut}
-use Rattle.vs_conn.specs.declared.end.State.TheVariants as state
-use Rattle.vs_conn.specs.declared.end.Verdict.{Verdict}
-use Rattle.vs_conn.specs.declared.end.Verdict.TheVariants as verdict
-use Rattle.vs_device_parts.specs.Connections.{after_shut, after_written, cut_off}
-use Rattle.vs_device_parts.specs.{State.DeviceConnection, State.DeviceEntry, Transmitting.heard, Streams.to_write}
-use Rattle.vs_flow.specs.{Flow.is_assigned, Flow.same_flow, Table.IsTable, Table.Table, Table.entry_of, Table.with_value, Table.without}
-use Rattle.vs_flow.specs.declared.flow.Flow.{Flow}
-use Rattle.vs_flow.proofs.Entries.{none_found}
-use Rattle.vs_history.specs.History.{Answerer, Asker, Got, History, IsFair, Side, gots, is_begun, puts}
-use Rattle.vs_driver_parts.proofs.Delivers.{delivers, named_rw}
 use Rattle.std.proofs.Math.Seq.{drop-nil, take-nil}
-use Rattle.vs_conn.specs.End.{with_payload_sent}
+use Rattle.std.specs.{List.All, Option.option_map}
+use Rattle.vs_conn.specs.End.{ConnectionEnd, end_after, is_of, is_reset, verdict_of, with_shut, with_payload_sent}
+use Rattle.vs_conn.specs.declared.end.Verdict.{Verdict}
+use Rattle.vs_device_parts.specs.{State.DeviceConnection, State.DeviceEntry, Transmitting.heard, Streams.to_write}
+use Rattle.vs_device_parts.specs.Connections.{after_shut, after_written, cut_off}
+use Rattle.vs_flow.proofs.Entries.{none_found}
+use Rattle.vs_history.specs.{Packets.has, Packets.is_request, Packets.is_response, Packets.is_rw, declared.packet.Packet.Packet}
+use Rattle.vs_history.specs.History.{Answerer, Asker, Got, History, IsFair, Side, gots, puts, MayPut, peer}
+use Rattle.vs_history.specs.Again.{AllowsNow}
+use Rattle.vs_driver_parts.proofs.Delivers.{delivers, named_rw}
 use Rattle.vs_matching.specs.Steps.{payload_on}
-use Rattle.vs_matching.proofs.Fair.{fair_begun}
-use Rattle.vs_outside.specs.declared.host_net.StreamRead.TheVariants as read
-use Rattle.vs_outside.specs.declared.host_net.StreamWrite.TheVariants as write
-use Rattle.vs_pipes.specs.Drains.{Drains}
-use Rattle.vs_pipes.proofs.Gives.{drop_both, first_of, forwards_asked, forwards_gives}
-use Rattle.vs_pipes.proofs.{HostCalls.read_host, HostCalls.write_host, Hosts.unseen, Steps.comes_out, Streamed.join_of}
+use Rattle.vs_pipes.specs.Drains.{Drains, got_on, put_on}
+use Rattle.vs_pipes.specs.Streamed.{IsJoined, IsStreamed, gives, line_for, look, seen}
+use Rattle.vs_pipes.proofs.{HostCalls.read_host, HostCalls.write_host, HostCalls.same_host, Hosts.unseen}
+use Rattle.vs_pipes.proofs.Gives.{drop_both, first_of, forwards_asked, forwards_gives, accepted_other, accepts_asked, accepts_response}
+use Rattle.vs_pipes.proofs.Gives.{answered_host, comes_behind, delivered_other, delivers_gives, gives_delivered, goes_host, hears_asked}
+use Rattle.vs_pipes.proofs.Gives.{hears_gives, kept_empty, response_empty, shut_gives, shuts_asked, unanswered_got}
+use Rattle.vs_pipes.proofs.Logs.{got_after_got, got_after_put, none_on_any, only_on, passed_after_got, passed_after_put, put_after_got}
+use Rattle.vs_pipes.proofs.Logs.{put_after_put}
+use Rattle.vs_pipes.proofs.Steps.{comes_out, Goes, drops, stays_still}
+use Rattle.vs_pipes.proofs.Streamed.{join_of, left_streamed, passed_streamed, same_streamed}
 use Rattle.vs_outside.specs.Host.{after_failed, after_read, after_shut_write, after_write, called, dial_answer, fails_now, is_listened}
-use Rattle.vs_outside.specs.Host.{next_bytes, with_shut_write_call}
-use Rattle.vs_outside.specs.declared.host_net.Dialed.TheVariants as dialed
+use Rattle.vs_outside.specs.Host.{next_bytes, HostContents, with_shut_write_call}
 use Rattle.vs_outside.proofs.Frames.{stream_at-after_failed}
-use Rattle.vs_pipes.proofs.HostCalls.{same_host}
-use Rattle.vs_history.specs.Packets.{has, is_request, is_response, is_rw}
-use Rattle.vs_history.specs.declared.packet.Packet.{Packet}
-use Rattle.vs_outside.specs.Host.{HostContents}
-use Rattle.vs_page.specs.{Fair.IsFairLog, Fair.payload_of, Held.IsWhole, Held.packet_held, Held.packet_with, Held.payload_held}
-use Rattle.vs_page.specs.Log.{Device, Log, flow_got, flow_put, history_of, side_of}
-use Rattle.vs_header.specs.Packet.{header_of}
-use Rattle.vs_header.specs.declared.Header.{Header}
+use Rattle.vs_page.specs.Fair.{IsFairLog, payload_of, IsFairOn}
+use Rattle.vs_page.specs.Held.{IsWhole, packet_held, packet_with, payload_held}
+use Rattle.vs_page.specs.Log.{Device, Log, flow_got, flow_put, history_of, side_of, whole_of}
 use Rattle.vs_page.specs.declared.log.LogEntry.TheVariants.{GotPacket, PutPacket}
+use Rattle.vs_header.specs.{Packet.header_of, declared.Header.Header, declared.Kind.Kind}
 use Rattle.vs_page.proofs.Flows.{same_self}
 use Rattle.vs_proxy_parts.specs.State.{Handshake}
 use Rattle.vs_uds.specs.{ConnectLine.connect_port, ConnectLine.connect_step, Reading.is_decided, Reading.port_or_bad}
-use Rattle.vs_uds.specs.declared.connect.TheConstants.{CONNECT_MAX}
-use Rattle.vs_uds.specs.declared.scan.Step.TheVariants as step
-use Rattle.vs_uds.specs.OkLine.{ok_text}
-use Rattle.vs_pipes.specs.Drains.{got_on, put_on}
-use Rattle.vs_pipes.specs.Streamed.{IsJoined, IsStreamed, gives, line_for, look, seen}
-use Rattle.vs_pipes.proofs.Gives.{accepted_other, accepts_asked, accepts_response, answered_host, comes_behind, delivered_other}
-use Rattle.vs_pipes.proofs.Gives.{delivers_gives, gives_delivered, goes_host, hears_asked, hears_gives, kept_empty, response_empty}
-use Rattle.vs_pipes.proofs.Gives.{shut_gives, shuts_asked, unanswered_got}
-use Rattle.vs_pipes.proofs.Logs.{got_after_got, got_after_put, none_on_any, only_on, passed_after_got, passed_after_put, put_after_got}
-use Rattle.vs_pipes.proofs.{Logs.put_after_put, Steps.Goes, Steps.drops, Steps.stays_still}
-use Rattle.vs_pipes.proofs.Streamed.{left_streamed, passed_streamed, same_streamed}
+use Rattle.vs_uds.specs.{declared.connect.TheConstants.CONNECT_MAX, OkLine.ok_text}
 use Rattle.vs_world.proofs.{DeviceSide.end_in, DeviceSide.held_in, Entries.without_changed}
+use Rattle.vs_matching.proofs.Fair.{fair_now, own_got_fair}
+use Rattle.vs_outside.specs.declared.host_net.Dialed.TheVariants as dialed
+use Rattle.vs_conn.specs.declared.end.State.TheVariants as state
+use Rattle.vs_conn.specs.declared.end.Verdict.TheVariants as verdict
+use Rattle.vs_outside.specs.declared.host_net.StreamRead.TheVariants as read
+use Rattle.vs_outside.specs.declared.host_net.StreamWrite.TheVariants as write
+use Rattle.vs_uds.specs.declared.scan.Step.TheVariants as step
 
 -- Where the host was fresh at first.
 abbrev pub StreamedIf : Type 0 → HostContents → Log → ℕ → Table DeviceConnection → List Handshake → Type 0
@@ -64,8 +58,8 @@ delivered_rw e p is = let five = named_rw p.header.op (delivers e p.header is).r
 pub request_empty : (p : Packet) → is_request p ≡ true → is_rw p ≡ false
 request_empty p is = grind (arith, nat_tests, common_steps, is)
 
-pub reset_empty : (p : Packet) → (is_reset p.header && is_stream p.header) ≡ true → is_rw p ≡ false
-reset_empty p is = grind (arith, nat_tests, common_steps, is)
+pub reset_empty : (kind : Kind) (p : Packet) → (is_reset p.header && is_of kind p.header) ≡ true → is_rw p ≡ false
+reset_empty kind p is = grind (arith, nat_tests, common_steps, is)
 
 pub got_nothing : (p : Packet) (log : Log) → p.payload ≡ [] → (f : Flow) → got_on Device f log ≡ got_on Device f (GotPacket p ∷ log)
 got_nothing p log none f = sym (got_after_got Device p log f
@@ -94,16 +88,8 @@ payload_in page p held carries =
     some_of (nat_le h.len (length (drop 44 page))) (Some (take h.len (drop 44 page))) p.payload given in
     ap (λ (g : Header). take g.len (drop 44 page)) parts.0 ∙ cc
 
--- A REQUEST that comes is a connection's first packet.
-not_begun : (side : Side) (h : History) (p : Packet) → is_request p ≡ true → IsFair side (Got p ∷ h) → is_begun side (puts h) (gots h) ≡ false
-not_begun Asker h p is fair = let timely = fair.0.timely in absurd (grind (arith, nat_tests, common_steps, is, timely))
-not_begun Answerer h p is fair = let timely = fair.0.timely in grind (arith, nat_tests, common_steps, is, timely)
-
-pub first_request : (side : Side) (h : History) (p : Packet) → is_request p ≡ true → IsFair side (Got p ∷ h) → h ≡ []
-first_request side [] p is fair = refl
-first_request side (x ∷ h) p is fair =
-    let both : true ≡ false = sym (fair_begun side h x fair.1) ∙ not_begun side (x ∷ h) p is fair in
-    absurd cc
+no_request : (p : Packet) → is_response p ≡ true → is_request p ≡ false
+no_request p is = grind (arith, nat_tests, common_steps, is)
 
 -- Calls on the host that fail, and the id of a stream that is dialed.
 pub failed_host : (c : HostContents) (log : Log) (port : ℕ) (t : Table DeviceConnection) (hands : List Handshake) → IsStreamed c log port t hands
@@ -187,29 +173,36 @@ module _ (c : HostContents) (log : Log) (port : ℕ) (t : Table DeviceConnection
           (λ on. absurd (delivered_other e.value.end p.header now on))
 
       -- RESPONSE, before which no payload came.
-      pub accepts_streams : IsFairLog Device (GotPacket p ∷ log) → e.value.by_client ≡ is_assigned e.flow.host → (line : List ℕ)
+      pub accepts_streams : IsFairLog Device (GotPacket p ∷ log) → history_of Device e.flow log ≡ whole_of Device e.flow log
+          → e.value.by_client ≡ is_assigned e.flow.host → (line : List ℕ)
           → line ≡ cond e.value.by_client (ok_text e.flow.host) [] → verdict_of e.value.end p.header ≡ verdict.Accept
           → IsStreamed c (GotPacket p ∷ log) port (with_value t e.slot (record (heard p.header e.value) { ok_line = line })) hands
-      accepts_streams fair client line written now =
+      accepts_streams fair first client line written now =
           answered_host c log (GotPacket p ∷ log) port t hands x sound e is (record (heard p.header e.value) { ok_line = line }) refl refl p.payload put_same got_here
           (passed_after_got Device p log) (accepts_asked e.value.end p.header now)
-          (nothing (side_of Device e.flow) (history_of Device e.flow log) (accepts_response e.value.end p now) fair_here)
+          (ap (λ (h : History). payload_of (gots h)) (sym first) ∙ nothing (side_of Device e.flow) (history_of Device e.flow log) (accepts_response e.value.end p now) older fair_here)
           (whole.none (response_empty p (accepts_response e.value.end p now))) (written ∙ ap (λ (b : Bool). cond b (ok_text e.flow.host) []) client) refl
           (accepted_other e.value.end p.header now)
         where
-          fair_here : IsFair (side_of Device e.flow) (Got p ∷ history_of Device e.flow log)
-          fair_here = subst (λ (b : Bool). IsFair (side_of Device e.flow) (cond b (Got p ∷ history_of Device e.flow log) (history_of Device e.flow log)))
-              (ap (λ (g : Flow). same_flow e.flow g) flow ∙ same_self e.flow) (fair e.flow)
+          two : IsFairOn Device e.flow log × AllowsNow (side_of Device e.flow) (history_of Device e.flow log) (Got p)
+          two = subst (λ (g : Flow). IsFairOn Device g log × AllowsNow (side_of Device g) (history_of Device g log) (Got p)) flow
+              (own_got_fair Device p log (fair (flow_got Device p)))
 
-          nothing : (side : Side) (h : History) → is_response p ≡ true → IsFair side (Got p ∷ h) → payload_of (gots h) ≡ []
-          nothing Asker h response fair = unanswered_got h fair.1 (first_response h response fair)
+          older : IsFair (side_of Device e.flow) (history_of Device e.flow log)
+          older = fair_now Device e.flow log two.0
+
+          fair_here : MayPut (peer (side_of Device e.flow)) (gots (history_of Device e.flow log)) (puts (history_of Device e.flow log)) p
+          fair_here = two.1.goes_on (no_request p (accepts_response e.value.end p now))
+
+          nothing : (side : Side) (h : History) → is_response p ≡ true → IsFair side h → MayPut (peer side) (gots h) (puts h) p → payload_of (gots h) ≡ []
+          nothing Asker h response fair may = unanswered_got h fair (first_response h response may)
             where
-              first_response : (h : History) → is_response p ≡ true → IsFair Asker (Got p ∷ h) → has is_response (gots h) ≡ false
-              first_response h response fair = let timely = fair.0.timely in grind (arith, nat_tests, common_steps, response, timely)
-          nothing Answerer h response fair = absurd (never h response fair)
+              first_response : (h : History) → is_response p ≡ true → MayPut Answerer (gots h) (puts h) p → has is_response (gots h) ≡ false
+              first_response h response may = let timely = may.timely in grind (arith, nat_tests, common_steps, response, timely)
+          nothing Answerer h response fair may = absurd (never h response may)
             where
-              never : (h : History) → is_response p ≡ true → IsFair Answerer (Got p ∷ h) → ⊥
-              never h response fair = let timely = fair.0.timely in absurd (grind (arith, nat_tests, common_steps, response, timely))
+              never : (h : History) → is_response p ≡ true → MayPut Asker (gots h) (puts h) p → ⊥
+              never h response may = let timely = may.timely in absurd (grind (arith, nat_tests, common_steps, response, timely))
 
     -- On a flow none of whose connections is given it.
     pub passes_streams : All (λ e. e.flow ≡ flow_got Device p → gives e.value.end ≡ true → p.payload ≡ []) t.entries → IsStreamed c (GotPacket p ∷ log) port t hands

@@ -2,9 +2,10 @@
 use Rattle.std.proofs.Common.{◌≡◌, ℕ, zero, suc, ◌+◌, ◌-◌, ◌==◌, ◌&&◌, nat_le, nat_lt, Bool, true, false, cond, List, [], ◌∷◌, length, take}
 use Rattle.std.proofs.Common.{Option, Some, None, refl, sym, ap, subst, ◌∙◌}
 use Rattle.vs_contents.specs.CallTree.{Done, Ask, bind, played, while_up_to}
-use Rattle.vs_conn.specs.{End.is_reset, End.is_stream, End.verdict_of, declared.end.Verdict.Verdict}
+use Rattle.vs_conn.specs.{End.is_of, End.is_reset, End.verdict_of, declared.end.Verdict.Verdict}
 use Rattle.vs_flow.specs.{Flow.is_assigned, Table.entry_of, Table.has_place}
 use Rattle.vs_header.specs.{Op.op_number, Packet.header_of, declared.Header.Header, declared.Op.TheVariants.Request}
+use Rattle.vs_header.specs.declared.Kind.TheVariants.{Stream}
 use Rattle.vs_outside.specs.declared.host_net.Dialed.{Dialed}
 use Rattle.vs_page.specs.{Log.Device, Log.flow_to_host, Open.is_dropped}
 use Rattle.vs_replies.specs.Owed.{reply_to}
@@ -117,7 +118,7 @@ module _ (chain : Chain) (h : Header) (s : DeviceState) (fine : s.failed ≡ Non
 
   unknown_off : (a b : Bool) → Fine (cond a (Done (s, verdict.Ignore)) (cond b (try_request h s) (Done (
     with_reply
-        (reply_to h) s,
+        (reply_to (flow_to_host h) h) s,
     verdict.Rst (unknown_why h),
   ))))
   unknown_off true b = fine
@@ -133,7 +134,7 @@ module _ (chain : Chain) (h : Header) (s : DeviceState) (fine : s.failed ≡ Non
             | Some e ↦ bind (on_known (verdict_of e.value.end h) chain h e s) (λ t. Done (t, verdict_of e.value.end h))
           ]))
       by true o = fine
-      by false None = unknown_off (is_reset h) (is_stream h && (h.op == op_number Request))
+      by false None = unknown_off (is_reset h) (is_of Stream h && (h.op == op_number Request))
       by false (Some e) = known_off e (verdict_of e.value.end h)
 
 -- One packet. The stage goes on where the ring didn't fail.

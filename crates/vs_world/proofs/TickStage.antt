@@ -2,7 +2,7 @@
 use Rattle.std.proofs.Common.{◌≡◌, ℕ, ◌+◌, nat_lt, Bool, true, false, cond, List, ◌++◌, length, Option, Some, None, Result, Ok, Err, refl}
 use Rattle.std.proofs.Common.{ap, ◌∙◌}
 use Rattle.vs_contents.specs.CallTree.{Done, Ask, bind, for_each, played, while_up_to}
-use Rattle.vs_flow.specs.{Table.entry_under, Table.refusal, Table.slots, declared.table.TableFault.TableFault}
+use Rattle.vs_flow.specs.{Flow.host_flow, Table.entry_under, Table.refusal, Table.slots, declared.table.TableFault.TableFault}
 use Rattle.vs_outside.specs.{Host.accept_answer, Host.read_answer, declared.host_net.Accepted.Accepted}
 use Rattle.vs_outside.specs.declared.host_net.StreamRead.{StreamRead}
 use Rattle.vs_uds.specs.{ConnectLine.connect_step, declared.connect.TheConstants.CONNECT_MAX, declared.scan.Step.Step}
@@ -12,8 +12,8 @@ use Rattle.vs_device_parts.specs.Calls.{Accept, CloseStream, DeviceTree, Label, 
 use Rattle.vs_proxy_parts.specs.Handshakes.{accept_answered, accept_one, byte_read, dropping, handshake_on, line_decided, may_open, opening}
 use Rattle.vs_proxy_parts.specs.Handshakes.{read_byte, read_line, shake_hands, streams_of, tick_handshake, tick_handshakes, with_line}
 use Rattle.vs_proxy_parts.specs.Handshakes.{without_handshake}
-use Rattle.vs_proxy_parts.specs.State.{Handshake, ProxyState, Turning, start, with_device}
 use Rattle.vs_proxy_parts.specs.Turns.{device_after, tick_stage}
+use Rattle.vs_proxy_parts.specs.State.{Handshake, ProxyState, Turning, start, with_device}
 use Rattle.vs_limits.specs.declared.TheConstants.{HANDSHAKES}
 use Rattle.vs_world.specs.{Answers.Around, Answers.answer_around, Answers.bytes_with, Steps.Leads, World.World, World.around}
 use Rattle.vs_world.specs.Events.{HandshakeTimesOut, Moment, ProxyAccepts, ProxyReads, TimesOut, at_moment, line_read}
@@ -152,13 +152,13 @@ module _ (w : World) (t : Turning) (fine : w.proxy.device.failed ≡ None) where
     with_read u = record u { state = record u.state { handshakes = hs }; read = u.read + n }
 
     opens_alike : (port : ℕ) → ByteAlike a (λ u. bind (opening stream port (with_read u)) (λ v. Done (v, false)))
-    opens_alike port = by (refusal w.proxy.device.table (record { guest = port; host = w.proxy.next_port }))
+    opens_alike port = by (refusal w.proxy.device.table (host_flow port w.proxy.next_port))
       where
         by : (o : Option TableFault) → ByteAlike a (λ u. bind (bind (elim o as (λ _. DeviceTree (DeviceState × Result ℕ TableFault)) [
           | Some fault ↦ Done (w.proxy.device, Err fault)
-          | None ↦ Ask (Label stream (record { guest = port; host = w.proxy.next_port }))
+          | None ↦ Ask (Label stream (host_flow port w.proxy.next_port))
               (λ _. Done (
-                with_client (record { guest = port; host = w.proxy.next_port }) stream w.proxy.device,
+                with_client (host_flow port w.proxy.next_port) stream w.proxy.device,
                 Ok
                     w.proxy.device.table.given,
               ))

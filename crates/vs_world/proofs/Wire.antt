@@ -1,14 +1,13 @@
 -- Headers fit the wire, of all packets that were put.
-use Rattle.std.proofs.Common.{◌≡◌, ℕ, ◌^◌, ◌<◌, ◌==◌, false, List, [], ◌∷◌, ◌++◌, Some, refl, subst, arith}
+use Rattle.std.proofs.Common.{◌≡◌, ℕ, ◌^◌, ◌<◌, ◌==◌, Bool, true, false, cond, List, [], ◌∷◌, ◌++◌, Some, refl, subst, arith}
 use Rattle.std.proofs.lemmas.Grind.{common_steps}
-use Rattle.vs_conn.specs.End.{ConnectionEnd, owes_of}
-use Rattle.vs_conn.specs.Headers.{owed_header, payload_header, reset_header, owed_flags}
-use Rattle.vs_conn.specs.declared.end.Owed.{Owed}
-use Rattle.vs_conn.specs.declared.end.Owed.TheVariants as owed
-use Rattle.vs_conn.specs.declared.route.Route.{Route}
+use Rattle.vs_conn.specs.{Headers.owed_header, Headers.payload_header, Headers.reset_header, Headers.owed_flags, declared.end.Owed.Owed}
+use Rattle.vs_conn.specs.{End.ConnectionEnd, End.owes_of, declared.route.Route.Route}
+use Rattle.vs_header.specs.{Kind.kind_number, declared.Kind.Kind, declared.Kind.TheVariants.Seqpacket, declared.Kind.TheVariants.Stream}
 use Rattle.vs_history.specs.declared.packet.Packet.{Packet}
 use Rattle.vs_page.specs.{Held.FitsWire, Log.Log, Log.IsNextPacket, Log.packets_put, Log.packets_got}
 use Rattle.vs_device_log.specs.Honest.{HoldsBytes}
+use Rattle.vs_conn.specs.declared.end.Owed.TheVariants as owed
 
 pub record RouteFits (r : Route) : Type 0 where
   pub src_cid : r.src_cid < 2 ^ 64
@@ -16,13 +15,21 @@ pub record RouteFits (r : Route) : Type 0 where
   pub src_port : r.src_port < 2 ^ 32
   pub dst_port : r.dst_port < 2 ^ 32
 
-flags_fit : (e : ConnectionEnd) (what : Owed) → owes_of e ≡ Some what → owed_flags what < 4
-flags_fit e owed.Rst owes = omega arith
+flags_fit : (e : ConnectionEnd) (what : Owed) → owes_of e ≡ Some what → owed_flags e what < 4
+flags_fit e owed.Rst owes = by e.clean
+  where
+    by : (b : Bool) → cond b 3 0 < 4
+    by true = omega arith
+    by false = omega arith
 flags_fit e owed.Request owes = omega arith
 flags_fit e owed.Response owes = omega arith
 flags_fit e owed.CreditUpdate owes = omega arith
 flags_fit e owed.CreditRequest owes = omega arith
 flags_fit e (owed.Shutdown bits) owes = grind (arith, common_steps)
+
+kind_fits : (k : Kind) → kind_number k < 2 ^ 16
+kind_fits Stream = omega arith
+kind_fits Seqpacket = omega arith
 
 pub owed_fits : (e : ConnectionEnd) (r : Route) (what : Owed) (u : ℕ) → RouteFits r → HoldsBytes e.credit u → owes_of e ≡ Some what
     → FitsWire (owed_header e r what)
@@ -32,7 +39,7 @@ owed_fits e r what u route credit owes = let flags = flags_fit e what owes in re
   src_port = route.src_port;
   dst_port = route.dst_port;
   len = omega arith;
-  kind = omega arith;
+  kind = kind_fits e.kind;
   op = op_fits what;
   flags = omega (arith, flags);
   buf_alloc = omega (arith, credit.alloc);
@@ -62,21 +69,21 @@ payload_fits e r n u route credit len = record {
   src_port = route.src_port;
   dst_port = route.dst_port;
   len = len;
-  kind = omega arith;
+  kind = kind_fits e.kind;
   op = omega arith;
   flags = omega arith;
   buf_alloc = omega (arith, credit.alloc);
   fwd_cnt = credit.fwd;
 }
 
-pub reset_fits : (r : Route) → RouteFits r → FitsWire (reset_header r)
-reset_fits r route = record {
+pub reset_fits : (k : Kind) (r : Route) → RouteFits r → FitsWire (reset_header k r)
+reset_fits k r route = record {
   src_cid = route.src_cid;
   dst_cid = route.dst_cid;
   src_port = route.src_port;
   dst_port = route.dst_port;
   len = omega arith;
-  kind = omega arith;
+  kind = kind_fits k;
   op = omega arith;
   flags = omega arith;
   buf_alloc = omega arith;

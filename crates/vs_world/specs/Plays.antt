@@ -1,21 +1,18 @@
 -- Whole calls, one line of a script each, and what each answers.
 use Rattle.std.specs.Prelude.{◌≡◌, ℕ, ◌+◌, Bool, true, if◌then◌else◌, List, [], ◌∷◌, length, map, Option, Result}
 use Rattle.vs_flow.specs.declared.flow.Flow.{Flow}
-use Rattle.vs_header.specs.declared.Kind.TheVariants as kind
-use Rattle.vs_outside.specs.Host.{HostContents, with_stream}
+use Rattle.vs_outside.specs.{Host.HostContents, Host.with_stream, HostBytes.wrote_after_connect, HostBytes.read_after_ok}
 use Rattle.vs_outside.specs.HostProgram.{after_listen, after_unlisten, after_client, after_host_write, host_write_answer, has_stream}
 use Rattle.vs_outside.specs.HostProgram.{allowed, ended, closed, after_fail}
-use Rattle.vs_outside.specs.HostBytes.{wrote_after_connect, read_after_ok}
 use Rattle.vs_outside.specs.declared.mem_stream.HostWritten.{HostWritten}
 use Rattle.vs_ring_port.specs.declared.failure.Failure.{Failure}
+use Rattle.vs_driver_parts.specs.{State.DriverState, declared.answers.Polled.Polled}
 use Rattle.vs_driver_parts.specs.Conversations.{connect_of, send_of, poll_of, DriverTree}
-use Rattle.vs_driver_parts.specs.State.{DriverState}
-use Rattle.vs_driver_parts.specs.declared.answers.Polled.{Polled}
-use Rattle.vs_proxy_parts.specs.Turns.{turn_of, proxy_reset_of}
-use Rattle.vs_proxy_parts.specs.declared.answers.Turn.{Turn}
-use Rattle.vs_world.specs.Calls.{GuestCall, ReplyTo, Connect, Send, bytes_sent, is_on, is_right}
+use Rattle.vs_proxy_parts.specs.{Turns.turn_of, Turns.proxy_reset_of, declared.answers.Turn.Turn}
 use Rattle.vs_world.specs.{Events.is_guest_cid, GuestSteps.makes_call, GuestSteps.flow_named}
+use Rattle.vs_world.specs.Calls.{GuestCall, ReplyTo, Connect, Send, bytes_sent, is_on, is_right}
 use Rattle.vs_world.specs.World.{World, driver_plays, device_plays}
+use Rattle.vs_header.specs.declared.Kind.TheVariants as kind
 
 pub data Line : Type 0 where
   Guest : GuestCall → Line

@@ -1,25 +1,19 @@
 -- The two ends of the world as their connections and their logs, and what it is for one to come of another by their small steps.
-use Rattle.std.specs.Prelude.{◌≡◌, List, map}
-use Rattle.vs_flow.specs.declared.flow.Flow.{Flow}
-use Rattle.vs_matching.specs.{Both.Both, Both.Happening, Both.MayRun, Both.run, Ends.Ends, Ends.entries_of}
-use Rattle.vs_page.specs.Log.{Log}
-use Rattle.vs_replies.specs.declared.Reply.{Reply}
+use Rattle.std.specs.Prelude.{◌≡◌, ◌≤◌, List, [], ◌∷◌}
+use Rattle.vs_matching.specs.{Ends.Ends, Ends.entries_of, Heard.own_port}
+use Rattle.vs_matching.specs.Both.{Asks, Both, Happening, MayRun, Opens, Step, at, happens, run}
+use Rattle.vs_page.specs.Log.{Log, Role}
 use Rattle.vs_ring_port.specs.EndLog.{EndLog, all_put}
 use Rattle.vs_driver_parts.specs.State.{DriverState}
 use Rattle.vs_proxy_parts.specs.State.{ProxyState}
 use Rattle.vs_world.specs.World.{World}
 
--- The flow of a reply of the driver's, and of one of the device's.
-abbrev pub flow_to_host : Reply → Flow
-flow_to_host r = record { guest = r.src_port; host = r.dst_port }
-
-abbrev pub flow_to_guest : Reply → Flow
-flow_to_guest r = record { guest = r.dst_port; host = r.src_port }
-
+-- Neither end keeps a flow to be used again.
 abbrev pub driver_ends : DriverState → Ends
 driver_ends s = record {
   entries = entries_of (λ c. c.end) s.table;
-  replies = map flow_to_host s.replies;
+  replies = s.replies;
+  clean = [];
   next_port = s.next_port;
   cid = s.cid;
 }
@@ -27,7 +21,8 @@ driver_ends s = record {
 abbrev pub device_ends : ProxyState → Ends
 device_ends s = record {
   entries = entries_of (λ c. c.end) s.device.table;
-  replies = map flow_to_guest s.device.replies;
+  replies = s.device.replies;
+  clean = [];
   next_port = s.next_port;
   cid = s.device.cid;
 }
@@ -42,8 +37,19 @@ both_of w = record {
   device = record { part = device_ends w.proxy; log = w.rings.device.entries };
 }
 
--- Small steps, each where it may happen, lead from one to the other.
+-- A step asks for no flow whose port was given before.
+abbrev pub AsksAnew : Role → Step → Both → Type 0
+AsksAnew role (Opens f kind) b = let part = (at role b).part in part.next_port ≤ own_port role f
+AsksAnew role (Asks f kind) b = let part = (at role b).part in part.next_port ≤ own_port role f
+AsksAnew role _ b = Unit {0}
+
+abbrev pub RunsAnew : List Happening → Both → Type 0
+RunsAnew [] b = Unit {0}
+RunsAnew (x ∷ xs) b = AsksAnew x.role x.step b × RunsAnew xs (happens x.role x.step b)
+
+-- Small steps, each where it may happen, lead from one to the other. No flow is used twice.
 pub record Runs (b c : Both) : Type 0 where
   pub steps : List Happening
   pub may : MayRun steps b
+  pub anew : RunsAnew steps b
   pub ends : run steps b ≡ c

@@ -1,5 +1,6 @@
 -- Worked plays: scripts, and what each of their lines answers.
 use Rattle.std.specs.Prelude.{true, false, List, [], ◌∷◌, Some, Ok, Err, codes}
+use Rattle.vs_flow.specs.Flow.{host_flow}
 use Rattle.vs_limits.specs.declared.TheConstants.{ASSIGNED_FIRST}
 use Rattle.vs_outside.specs.HostProgram.{new_host, plain}
 use Rattle.vs_world.specs.Plays.{Line, Guest, Poll, TurnAt, ResetTo, Client, HostListen, HostWrite, HostFail, Said, Replied, HasPolled}
@@ -57,7 +58,7 @@ abbrev pub hello_report : Report
 hello_report = record {
   guest_open = 1;
   device_open = 1;
-  streams = record { label = Some (record { guest = 1024; host = 52 }); wrote = (104 ∷ 105 ∷ []); read = (104 ∷ 101 ∷ 108 ∷ 108 ∷ 111 ∷ []) } ∷ [];
+  streams = record { label = Some (host_flow 1024 52); wrote = (104 ∷ 105 ∷ []); read = (104 ∷ 101 ∷ 108 ∷ 108 ∷ 111 ∷ []) } ∷ [];
   dropped = 0;
   overrun = 0;
   broken = 0;
@@ -117,7 +118,7 @@ abbrev pub client_report : Report
 client_report = record {
   guest_open = 0;
   device_open = 0;
-  streams = record { label = Some (record { guest = 70; host = ASSIGNED_FIRST }); wrote = (104 ∷ 105 ∷ []); read = (121 ∷ 111 ∷ []) } ∷ [];
+  streams = record { label = Some (host_flow 70 ASSIGNED_FIRST); wrote = (104 ∷ 105 ∷ []); read = (121 ∷ 111 ∷ []) } ∷ [];
   dropped = 0;
   overrun = 0;
   broken = 0;
@@ -211,7 +212,7 @@ abbrev pub resetting_report : Report
 resetting_report = record {
   guest_open = 1;
   device_open = 1;
-  streams = record { label = Some (record { guest = 1024; host = 52 }); wrote = []; read = [] } ∷ record { label = Some (record { guest = 1025; host = 52 }); wrote = []; read = (99 ∷ 100 ∷ []) } ∷ [];
+  streams = record { label = Some (host_flow 1024 52); wrote = []; read = [] } ∷ record { label = Some (host_flow 1025 52); wrote = []; read = (99 ∷ 100 ∷ []) } ∷ [];
   dropped = 1;
   overrun = 0;
   broken = 0;

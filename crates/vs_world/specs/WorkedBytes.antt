@@ -1,7 +1,7 @@
 -- What the worked scripts leave: the bytes of their connections, at both ends.
 use Rattle.std.specs.Prelude.{ℕ, List, [], ◌∷◌}
+use Rattle.vs_flow.specs.{Flow.host_flow, declared.flow.Flow.Flow, Connection.first_of}
 use Rattle.vs_limits.specs.declared.TheConstants.{ASSIGNED_FIRST}
-use Rattle.vs_flow.specs.{Connection.first_of, declared.flow.Flow.Flow}
 use Rattle.vs_outside.specs.HostBytes.{host_read, host_wrote}
 use Rattle.vs_page.specs.{Fair.payload_got, Fair.payload_put, Log.Device}
 use Rattle.vs_world.specs.{Calls.received_on, Calls.sent_on, World.World}
@@ -18,17 +18,17 @@ pub record Carried : Type 0 where
 abbrev pub carried_on : Flow → World → Carried
 carried_on f w = record {
   sent = sent_on f w.journal;
-  to_host = payload_got Device f 1 w.rings.device.entries;
+  to_host = payload_got Device (first_of f) w.rings.device.entries;
   read = host_read (first_of f) w.host;
   wrote = host_wrote (first_of f) w.host;
-  to_guest = payload_put Device f 1 w.rings.device.entries;
+  to_guest = payload_put Device (first_of f) w.rings.device.entries;
   received = received_on f w.journal;
 }
 
 -- `hello` and `hi`, and nothing more; a client's `hi` and the guest's `yo`, without the lines CONNECT and OK; of two connections, before and
 -- after a transport reset, what was sent on the first is not read.
 abbrev pub hello_flow : Flow
-hello_flow = record { guest = 1024; host = 52 }
+hello_flow = host_flow 1024 52
 
 abbrev pub hello_bytes : Carried
 hello_bytes = record {
@@ -41,7 +41,7 @@ hello_bytes = record {
 }
 
 abbrev pub client_flow : Flow
-client_flow = record { guest = 70; host = ASSIGNED_FIRST }
+client_flow = host_flow 70 ASSIGNED_FIRST
 
 abbrev pub client_bytes : Carried
 client_bytes = record {

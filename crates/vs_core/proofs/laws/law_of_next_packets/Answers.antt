@@ -3,13 +3,17 @@ use Rattle.vs_conn.specs.End.{is_refused, verdict_of}
 use Rattle.vs_limits.specs.declared.TheConstants.{FIRST_PORT, ASSIGNED_FIRST}
 use Rattle.vs_matching.specs.{Both.Both, Steps.HasEnd}
 use Rattle.vs_matching.proofs.{Both.device_has_room, Both.driver_accepts, Voices.device_takes}
-use Rattle.vs_page.specs.{Log.Device, Log.IsNextPacket, Log.flow_got, Open.is_dropped}
+use Rattle.vs_page.specs.{Log.Device, Log.Driver, Log.IsNextPacket, Log.flow_got, Open.is_dropped}
 use Rattle.vs_world.specs.{Events.run, Sides.both_of, World.first_cid, World.opening}
-use Rattle.vs_world.proofs.{Opening.opening_is, Opening.reached, Opening.run_well, Runs.and_then, Runs.stays}
+use Rattle.vs_world.proofs.{DriverSide.end_in, DriverSide.held_in, Entries.host_of, Opening.opening_is, Opening.reached, Opening.run_well}
+use Rattle.vs_world.proofs.Runs.{and_then, stays}
 use Rattle.vs_core.proofs.laws.law_of_next_packets.Goals as goal
 
 pub returns-clause-driver : goal.returns-clause-driver
-returns-clause-driver c = λ n host es p e. driver_accepts first_cid p e (both_of (run es (opening n host))) (run_well n host es).sound
+returns-clause-driver c = λ n host es p e next has.
+    let w = run es (opening n host) in
+    let well = run_well n host es in
+    driver_accepts first_cid p e (both_of w) well.sound next has (host_of end_in held_in w.driver.table (flow_got Driver p) e well.driver.ends has)
 
 pub returns-clause-device : goal.returns-clause-device
 returns-clause-device c = λ n host es p e. let r = and_then _ _ _ (stays _ _ (opening_is n host)) (reached n host es).runs in

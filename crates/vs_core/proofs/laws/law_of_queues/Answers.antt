@@ -19,9 +19,9 @@ pub returns-clause-device_got : goal.returns-clause-device_got
 returns-clause-device_got c = λ n host es. device_got (run es (opening n host)).rings (queued n host es)
 
 pub returns-clause-payload_to_guest : goal.returns-clause-payload_to_guest
-returns-clause-payload_to_guest c = λ n host es f k. let r = (run es (opening n host)).rings in
-    prefix Driver r.driver.entries r.device.entries f k (driver_got r (queued n host es))
+returns-clause-payload_to_guest c = λ n host es k. let r = (run es (opening n host)).rings in
+    prefix Driver r.driver.entries r.device.entries k (driver_got r (queued n host es))
 
 pub returns-clause-payload_to_host : goal.returns-clause-payload_to_host
-returns-clause-payload_to_host c = λ n host es f k. let r = (run es (opening n host)).rings in
-    prefix Device r.device.entries r.driver.entries f k (device_got r (queued n host es))
+returns-clause-payload_to_host c = λ n host es k. let r = (run es (opening n host)).rings in
+    prefix Device r.device.entries r.driver.entries k (device_got r (queued n host es))

@@ -1,3 +1,4 @@
+use Rattle.vs_flow.specs.Connection.{first_of}
 use Rattle.std.proofs.Common.{ℕ, List, subst}
 use Rattle.vs_page.specs.{Fair.IsPrefixOf, Fair.payload_got, Log.Device}
 use Rattle.vs_world.specs.{Events.run, World.opening}
@@ -9,4 +10,4 @@ returns-clause-put c = λ n host es f. sent_is (run es (opening n host)) (run_we
 
 pub returns-clause-got : goal.returns-clause-got
 returns-clause-got c = λ n host es f. let w = run es (opening n host) in let well = run_well n host es in
-    subst (λ (bytes : List ℕ). IsPrefixOf (payload_got Device f 1 w.rings.device.entries) bytes) (sent_is w well f) (to_device w well f)
+    subst (λ (bytes : List ℕ). IsPrefixOf (payload_got Device (first_of f) w.rings.device.entries) bytes) (sent_is w well f) (to_device w well f)

@@ -30,7 +30,7 @@ returns-clause-honest g c = λ first port ring.
     let t : DeviceState = the_view (record d { slots = c.open_client-slot.new.self; opened = c.saturating_add-self-inside.result }) in
     open_honest c.args.self.now (situation ring (g.H.HostNet.contents c.args.host.now) (g.H.HostNet.faults c.args.host.now))
     (situation ring (g.H.HostNet.contents c.label.new.host) (g.H.HostNet.faults c.label.new.host)) c.args.flow c.args.stream
-    (t, Ok c.open_client-slot.result) (record { guest = search rules; host = search rules }) (returns-clause-calls g c ring) first port
+    (t, Ok c.open_client-slot.result) (record { guest = search rules; host = search rules; peer = search rules }) (returns-clause-calls g c ring) first port
 
 pub returns-clause-bytes : goal.returns-clause-bytes
 returns-clause-bytes g c =

@@ -1,7 +1,5 @@
+use Rattle.std.proofs.{lemmas.Bool.Decides.nat_tests, lemmas.List.length-set, lemmas.List.Elements.All-push}
 use Rattle.std.proofs.Common.{rules, ◌∙◌, ap, ℕ, ◌<◌, length, arith}
-use Rattle.std.proofs.lemmas.Bool.Decides.{nat_tests}
-use Rattle.std.proofs.lemmas.List.{length-set}
-use Rattle.std.proofs.lemmas.List.Elements.{All-push}
 use Rattle.vs_plain_driver.proofs.driver_queue.DriverQueue.reap.Goals as goal
 
 pub invariant_of-self-2 : goal.invariant_of-self-2

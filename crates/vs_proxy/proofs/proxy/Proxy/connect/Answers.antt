@@ -1,7 +1,7 @@
 use Rattle.std.specs.Prelude.{Result}
 use Rattle.std.proofs.Common.{◌≡◌, ℕ, ◌+◌, false, true, sym, ap, subst, ◌∙◌}
 use Rattle.vs_contents.proofs.Leads.{end_of}
-use Rattle.vs_flow.specs.declared.table.TableFault.{TableFault}
+use Rattle.vs_flow.specs.{Flow.host_flow, declared.flow.Flow.Flow, declared.table.TableFault.TableFault}
 use Rattle.vs_device_parts.specs.{Calls.Allows, Playing.Runs, Playing.situation, State.DeviceState, Turns.open_of}
 use Rattle.vs_proxy_parts.specs.{Handshakes.may_open, State.ProxyState, State.Turning, State.with_device}
 use Rattle.vs_proxy_parts.specs.Turning.{CountsFew, turning_of}
@@ -23,9 +23,10 @@ returns-clause-opened g c =
     let r : DeviceState × Result ℕ TableFault = (c.open-slot.new.self, c.open-slot.result) in
     let ring = c.requires.may.0 in
     let P : ProxyState → Type 0 = λ t. CountsFew 1 0 t.device c.open-slot.new.self in
-    let tree = open_of (record { guest = c.args.port; host = c.self.inside.next_port }) c.args.stream c.self.inside.device in
+    let flow : Flow = c.to_host-flow.result in
+    let tree = open_of flow c.args.stream c.self.inside.device in
     subst P c.self.view_is (end_of (λ (x : DeviceState × Result ℕ TableFault). CountsFew 1 0 c.self.inside.device x.0) Allows tree _ _ r
-    (open_few (record { guest = c.args.port; host = c.self.inside.next_port }) c.args.stream c.self.inside.device) (c.open-slot.ensures.calls ring))
+    (open_few flow c.args.stream c.self.inside.device) (c.open-slot.ensures.calls ring))
 
 pub returns-clause-calls : goal.returns-clause-calls
 returns-clause-calls g c = λ ring.
@@ -38,7 +39,8 @@ returns-clause-calls g c = λ ring.
     let x = situation ring host faults in
     let y = situation ring (g.H.HostNet.contents c.open-slot.new.host) (g.H.HostNet.faults c.open-slot.new.host) in
     let r : DeviceState × Result ℕ TableFault = (c.open-slot.new.self, c.open-slot.result) in
-    let P : ProxyState → Type 0 = λ z. Runs (open_of (record { guest = c.args.port; host = z.next_port }) c.args.stream z.device) x r y in
+    let P : ProxyState → Type 0 = λ z. Runs (open_of (host_flow c.args.port z.next_port) c.args.stream z.device) x r y in
+    let Q : Flow → Type 0 = λ f. Runs (open_of f c.args.stream c.self.inside.device) x r y in
     let end = ap (λ (z : ProxyState). turning_of (record (with_device r.0 z) { next_port = z.next_port + 1 }) c.args.tally.now) c.self.view_is in
     let_in c.args.stream c.args.port t r (turning_of (the_view (record d { device = c.open-slot.new.self; next_port = d.next_port + 1 })) c.args.tally.now) x y test
-    (subst P c.self.view_is (c.open-slot.ensures.calls ring)) end
+    (subst P c.self.view_is (subst Q c.to_host-flow.ensures (c.open-slot.ensures.calls ring))) end
