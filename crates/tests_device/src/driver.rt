@@ -1,7 +1,7 @@
 //! The last guest port.
 
 ghost use Rattle.vs_driver_parts.specs.Playing.{IsRingOf};
-ghost use Rattle.vs_driver_log.specs.Honest.{IsHonest};
+ghost use Rattle.laws_driver.specs.Honest.{IsHonest};
 
 use std::alloc::Global;
 use std::test::Fail;

@@ -4,7 +4,7 @@ use Rattle.std.proofs.lemmas.List.{length-replicate}
 use Rattle.std.specs.Option.{ForSome}
 use Rattle.vs_guest_mem.specs.Memory.{Memory, zeroed}
 use Rattle.vs_ring_list.specs.Ends.{Ends, IsQueueSize, empty_ends}
-use Rattle.vs_plain_ties.specs.Exposed.{BothEnds, first_ends}
+use Rattle.laws_plain_rings.specs.Exposed.{BothEnds, first_ends}
 use Rattle.vs_plain_rings.specs.Counted.{AreCounted}
 use Rattle.vs_both_ends.specs.{Standard.memory_size, View.known}
 use Rattle.vs_both_ends.proofs.Memory.{known_at}

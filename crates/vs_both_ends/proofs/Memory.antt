@@ -3,7 +3,7 @@ use Rattle.std.proofs.Common.{◌≡◌, inl, inr, ℕ, ◌+◌, ◌<◌, ◌≤
 use Rattle.vs_guest_mem.specs.Memory.{Memory}
 use Rattle.vs_layout.specs.Layout.{queue_areas_of}
 use Rattle.vs_ring_list.specs.Ends.{IsQueueSize, empty_ends}
-use Rattle.vs_plain_ties.specs.Exposed.{first_ends}
+use Rattle.laws_plain_rings.specs.Exposed.{first_ends}
 use Rattle.vs_both_ends.specs.Standard.{memory_size}
 
 of_sizes : (P : ℕ → Type 0) → P 8 → P 16 → P 32 → P 64 → P 128 → P 256 → (n : ℕ) → IsQueueSize n → P n

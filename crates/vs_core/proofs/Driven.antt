@@ -7,11 +7,11 @@ use Rattle.vs_ring_port.specs.declared.queue.{Queue.Queue, TheConstants.STAGED_M
 use Rattle.vs_ring_port.specs.declared.queue.Queue.TheVariants.{Rx, Tx, Event}
 use Rattle.vs_ring_list.specs.Ends.{Ends, driver_contents, flight_of, staged_of}
 use Rattle.vs_driver_parts.specs.{Playing.IsAtWork, Playing.IsRingOf, Playing.SamePages, State.DriverState}
-use Rattle.vs_driver_log.specs.Honest.{AgreesWith, IsHonest, IsHonestWith, ends_of_state}
-use Rattle.vs_driver_log.specs.Staged.{IsAtWorkWith, IsLeft, IsTied, IsWorkingWith}
-use Rattle.vs_driver_log.proofs.Ringing.{agrees, at_rest, tied}
-use Rattle.vs_world.specs.{Events.is_at_rest, Events.none_staged, Events.works_on, World.first_cid}
-use Rattle.vs_world.proofs.{Polls.rest_works, Sound.nothing_staged}
+use Rattle.laws_driver.specs.Honest.{AgreesWith, IsHonest, IsHonestWith, ends_of_state}
+use Rattle.laws_driver.specs.Staged.{IsAtWorkWith, IsLeft, IsTied, IsWorkingWith}
+use Rattle.laws_driver.proofs.Ringing.{agrees, at_rest, tied}
+use Rattle.laws_world.specs.{Events.is_at_rest, Events.none_staged, Events.works_on, World.first_cid}
+use Rattle.laws_world.proofs.{Polls.rest_works, Sound.nothing_staged}
 use Rattle.vs_core.specs.Ready.{IsDrivenAtWork}
 
 -- On any other queue than the one in work nothing is staged.

@@ -13,18 +13,18 @@ use Rattle.vs_driver_parts.specs.Listening.{listen_of, listener_on, listening}
 use Rattle.vs_driver_parts.specs.{Playing.IsAtWork, Playing.IsRingOf, Playing.Plays, Playing.SamePages, State.DriverState}
 use Rattle.vs_driver_parts.specs.Steps.{stages_owed, stages_reply, takes_page}
 use Rattle.vs_driver_parts.specs.declared.answers.{ListenError.ListenError, NotListening.NotListening}
-use Rattle.vs_driver_log.specs.{Honest.IsHonestWith, Staged.IsWorkingWith}
+use Rattle.laws_driver.specs.{Honest.IsHonestWith, Staged.IsWorkingWith}
 use Rattle.vs_device_parts.specs.{Calls.DeviceTree, Playing.IsAmong, State.DeviceState}
 use Rattle.vs_device_parts.specs.Steps.{takes_chain, returns, puts_event, puts_reply, puts_owed, puts_payload, writes, shuts_write}
 use Rattle.vs_device_parts.specs.Streams.{tick_slot}
 use Rattle.vs_proxy_parts.specs.{Handshakes.accept_one, Handshakes.tick_handshake, State.ProxyState}
-use Rattle.vs_world.specs.Calls.{GuestCall, ReplyTo, is_right}
-use Rattle.vs_world.specs.Calls as call
-use Rattle.vs_world.specs.Events.{Event, call_made, device_step, driver_step, happens, has_failed, holds, is_at_rest, is_guest_cid}
-use Rattle.vs_world.specs.Events.{line_read, proxy_step, reset_made, run, unless_failed, where_possible, works_on}
-use Rattle.vs_world.specs.Events as event
-use Rattle.vs_world.specs.{GuestSteps.makes_call, World.World, World.first_cid, World.opening, Over.over_lists}
-use Rattle.vs_world.proofs.OverLists.{over}
+use Rattle.laws_world.specs.Calls.{GuestCall, ReplyTo, is_right}
+use Rattle.laws_world.specs.Calls as call
+use Rattle.laws_world.specs.Events.{Event, call_made, device_step, driver_step, happens, has_failed, holds, is_at_rest, is_guest_cid}
+use Rattle.laws_world.specs.Events.{line_read, proxy_step, reset_made, run, unless_failed, where_possible, works_on}
+use Rattle.laws_world.specs.Events as event
+use Rattle.laws_world.specs.{GuestSteps.makes_call, World.World, World.first_cid, World.opening, Over.over_lists}
+use Rattle.laws_world.proofs.OverLists.{over}
 use Rattle.vs_core.proofs.Driven.{driven_stays, honest_rest, rested, stepped, works_with}
 use Rattle.vs_core.specs.Ready.{Happens, IsDrivenAtWork, IsReached, IsReady, IsServedAtWork, WorldState, shown, with_journal}
 use Rattle.vs_core.specs.Views.{Steps, Tells, TellsWhere}

@@ -12,13 +12,13 @@ use Rattle.vs_ring_list.proofs.Held.{same_queue_is}
 use Rattle.vs_device_parts.specs.{Calls.Situation, Calls.Allows, Playing.CanMake, Playing.IsAmong, Playing.MayRun, Playing.situation}
 use Rattle.vs_device_parts.specs.Steps.{puts_event, puts_owed, puts_payload, puts_reply, shuts_write, takes_chain, writes}
 use Rattle.vs_device_parts.specs.Streams.{tick_slot}
-use Rattle.vs_device_laws.specs.{Split.CanReach, Streams.HasStreams}
-use Rattle.vs_device_laws.proofs.{Conditions.may_where, Conditions.quiet_can, Keeping.keeps_may}
-use Rattle.vs_device_laws.proofs.Stepping.{puts_event_keeps, puts_owed_keeps, puts_payload_keeps, puts_reply_keeps}
+use Rattle.laws_device_streams.specs.{Split.CanReach, Streams.HasStreams}
+use Rattle.laws_device_streams.proofs.{Conditions.may_where, Conditions.quiet_can, Keeping.keeps_may}
+use Rattle.laws_device_streams.proofs.Stepping.{puts_event_keeps, puts_owed_keeps, puts_payload_keeps, puts_reply_keeps}
 use Rattle.vs_proxy_parts.specs.{Handshakes.read_byte, Handshakes.streams_of, Handshakes.tick_handshake, State.start, Turns.proxy_reset_of}
-use Rattle.vs_proxy_laws.proofs.{Shaking.FindsAll, Shaking.keeps_read_byte, Shaking.keeps_tick_handshake, Turning.keeps_proxy_reset}
-use Rattle.vs_world.specs.{Events.holds, Pages.is_held, Sides.both_of, World.World, World.first_cid}
-use Rattle.vs_world.proofs.Sound.{IsWell}
+use Rattle.laws_proxy_streams.proofs.{Shaking.FindsAll, Shaking.keeps_read_byte, Shaking.keeps_tick_handshake, Turning.keeps_proxy_reset}
+use Rattle.laws_world.specs.{Events.holds, Pages.is_held, Sides.both_of, World.World, World.first_cid}
+use Rattle.laws_world.proofs.Sound.{IsWell}
 use Rattle.vs_core.proofs.Puts.{puts_event_may, puts_owed_may, puts_payload_may, puts_reply_may}
 use Rattle.vs_core.proofs.Reaches.{shuts_may, takes_may, times_out_may, writes_may}
 

@@ -9,8 +9,8 @@ use Rattle.vs_device_parts.specs.{Calls.DeviceTree, Playing.MayRun, Playing.situ
 use Rattle.vs_device_parts.specs.Steps.{puts_event, puts_owed, puts_payload, puts_reply, shuts_write, takes_chain, writes}
 use Rattle.vs_device_parts.specs.Streams.{tick_slot}
 use Rattle.vs_proxy_parts.specs.{Handshakes.read_byte, Handshakes.tick_handshake, State.ProxyState, State.start, Turns.proxy_reset_of}
-use Rattle.vs_world.specs.{Pages.is_held, World.World}
-use Rattle.vs_world.proofs.Sound.{IsWell}
+use Rattle.laws_world.specs.{Pages.is_held, World.World}
+use Rattle.laws_world.proofs.Sound.{IsWell}
 use Rattle.vs_core.specs.Ready.{IsReady, IsServedAtWork, WorldState}
 use Rattle.vs_core.proofs.DeviceHappening.{of_reached}
 use Rattle.vs_core.proofs.May.{here, may_event, may_line, may_pay, may_read, may_reply, may_reset, may_shut, may_take, may_tick}

@@ -2,14 +2,14 @@
 use Rattle.std.proofs.Common.{◌≡◌, ℕ, List, [], sym, ap, subst, ◌∙◌}
 use Rattle.vs_outside.specs.{Host.HostContents, HostProgram.HostMemory, HostProgram.new_host, HostProgram.plain}
 use Rattle.vs_ring_list.specs.Ends.{Ends, empty_ends}
-use Rattle.vs_matching.specs.Both.{Both}
+use Rattle.laws_tables.specs.Both.{Both}
 use Rattle.vs_driver_parts.specs.{Conversations.new_of, State.DriverState}
 use Rattle.vs_limits.specs.declared.TheConstants.{FIRST_PORT}
-use Rattle.vs_device_laws.proofs.Opening.{new_has}
+use Rattle.laws_device_streams.proofs.Opening.{new_has}
 use Rattle.vs_proxy_parts.specs.{State.ProxyState, Turns.new_proxy}
-use Rattle.vs_proxy_laws.proofs.Lists.{none_open}
-use Rattle.vs_world.specs.{World.first_cid, World.opened_host, World.opening, Over.over_lists}
-use Rattle.vs_world.proofs.Opening.{opening_is}
+use Rattle.laws_proxy_streams.proofs.Lists.{none_open}
+use Rattle.laws_world.specs.{World.first_cid, World.opened_host, World.opening, Over.over_lists}
+use Rattle.laws_world.proofs.Opening.{opening_is}
 use Rattle.vs_core.specs.Ready.{IsDrivenAtWork, IsReady, IsServedAtWork, WorldState, shown}
 use Rattle.vs_core.proofs.Happening.{device_stays, served_rings}
 

@@ -7,31 +7,31 @@ use Rattle.vs_conn.specs.{End.owes_of, End.wanting_credit, Headers.owed_header, 
 use Rattle.vs_credit.specs.Credit.{free_of}
 use Rattle.vs_flow.specs.Table.{entry_under}
 use Rattle.vs_header.specs.{Packet.header_bytes, declared.Header.Header, declared.TheConstants.HEADER_LEN}
-use Rattle.vs_history.specs.declared.packet.Packet.{Packet}
+use Rattle.laws_history.specs.declared.packet.Packet.{Packet}
 use Rattle.vs_outside.specs.declared.host_net.StreamRead.{StreamRead}
 use Rattle.vs_page.specs.{Fair.IsFairLog, Held.FitsWire, Held.packet_held, Log.Device, declared.log.LogEntry.TheVariants.PutPacket}
 use Rattle.vs_replies.specs.declared.Reply.{Reply}
 use Rattle.vs_ring_port.specs.{Chains.chains_of, Contents.RingContents, EndLog.EndLog, declared.device_ring.Chain.Chain}
 use Rattle.vs_ring_port.specs.declared.queue.Queue.TheVariants.{Event}
-use Rattle.vs_matching.specs.{Both.IsSound, Both.Pays, Both.Seat, Both.Sends, Heard.route_of}
-use Rattle.vs_matching.specs.Steps.{owed_on, payload_on, reply_on}
-use Rattle.vs_matching.proofs.Both.{step_keeps}
+use Rattle.laws_tables.specs.{Both.IsSound, Both.Pays, Both.Seat, Both.Sends, Heard.route_of}
+use Rattle.laws_tables.specs.Steps.{owed_on, payload_on, reply_on}
+use Rattle.laws_tables.proofs.Both.{step_keeps}
 use Rattle.vs_device_parts.specs.{Calls.CloseStream, Calls.Situation, Calls.DeviceTree, Playing.IsAmong, Playing.IsRxChain}
 use Rattle.vs_device_parts.specs.Connections.{after_leaving, cut_off, route_to_guest, stream_closed, with_connection, with_fault}
 use Rattle.vs_device_parts.specs.Receiving.{Filling, after_paying, may_read, put_packet, put_payload, put_reply_of, reply_header}
 use Rattle.vs_device_parts.specs.Receiving.{read_answered, read_room, read_with_chain, written}
 use Rattle.vs_device_parts.specs.Steps.{filling, puts_event, puts_owed, puts_payload, puts_reply, reads}
 use Rattle.vs_device_parts.specs.State.{DeviceEntry, DeviceState}
-use Rattle.vs_device_laws.specs.Split.{MayPut}
-use Rattle.vs_device_log.proofs.Filling.{can_send, under_there}
-use Rattle.vs_world.specs.Pages.{is_held}
-use Rattle.vs_world.proofs.{Chains.HoldsRx, DeviceSide.DeviceHolds, DeviceSide.entry_fits, DeviceSide.seated}
-use Rattle.vs_world.proofs.{Fits.holds_header, Fits.holds_payload, Runs.keeps_sound}
-use Rattle.vs_world.proofs.Wire.{PutsFit, RouteFits, not_payload, owed_fits, payload_fits}
+use Rattle.laws_device_streams.specs.Split.{MayPut}
+use Rattle.laws_device.proofs.Filling.{can_send, under_there}
+use Rattle.laws_world.specs.Pages.{is_held}
+use Rattle.laws_world.proofs.{Chains.HoldsRx, DeviceSide.DeviceHolds, DeviceSide.entry_fits, DeviceSide.seated}
+use Rattle.laws_world.proofs.{Fits.holds_header, Fits.holds_payload, Runs.keeps_sound}
+use Rattle.laws_world.proofs.Wire.{PutsFit, RouteFits, not_payload, owed_fits, payload_fits}
 use Rattle.vs_core.proofs.Written.{MayHold, event_may, written_may}
 use Rattle.vs_conn.specs.declared.end.Owed.TheVariants as owed
 use Rattle.vs_outside.specs.declared.host_net.StreamRead.TheVariants as read
-use Rattle.vs_world.proofs.DeviceSide as side
+use Rattle.laws_world.proofs.DeviceSide as side
 
 -- The owed event may be put into an event chain that is held.
 pub puts_event_may : (s : DeviceState) (l : EndLog) (c : Situation) → c.ring.log ≡ Some l → (chain : Chain) → chain.queue ≡ Event

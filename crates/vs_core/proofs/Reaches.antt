@@ -11,10 +11,10 @@ use Rattle.vs_device_parts.specs.Steps.{chain_came, filling, shuts_write, takes_
 use Rattle.vs_device_parts.specs.Streams.{shut_write, tick_slot, write_pending}
 use Rattle.vs_device_parts.specs.Transmitting.{failing, on_packet}
 use Rattle.vs_limits.specs.declared.TheConstants.{DEVICE_REPLIES}
-use Rattle.vs_device_laws.specs.Streams.{FindsStreams}
-use Rattle.vs_device_laws.proofs.{Closing.found_by_slot, Closing.keeps_tick_slot, Closing.stays, Conditions.quiet_can}
-use Rattle.vs_device_laws.proofs.{Keeping.Keeps, Keeping.keeps_may, Keeping.keeps_then, Transmitting.keeps_on_packet}
-use Rattle.vs_device_laws.proofs.Writing.{keeps_shut_write, keeps_write_pending}
+use Rattle.laws_device_streams.specs.Streams.{FindsStreams}
+use Rattle.laws_device_streams.proofs.{Closing.found_by_slot, Closing.keeps_tick_slot, Closing.stays, Conditions.quiet_can}
+use Rattle.laws_device_streams.proofs.{Keeping.Keeps, Keeping.keeps_may, Keeping.keeps_then, Transmitting.keeps_on_packet}
+use Rattle.laws_device_streams.proofs.Writing.{keeps_shut_write, keeps_write_pending}
 use Rattle.vs_ring_port.specs.declared.device_ring.Next.TheVariants as next
 use Rattle.vs_ring_port.specs.declared.failure.Failure.TheVariants as failure
 

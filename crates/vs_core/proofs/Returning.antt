@@ -29,7 +29,7 @@ use Rattle.vs_proxy_parts.specs.Handshakes.{accept_one, byte_read, handshake_on,
 use Rattle.vs_proxy_parts.specs.Handshakes.{tick_handshake}
 use Rattle.vs_proxy_parts.specs.Turns.{close_handshake, proxy_reset_of, reset_with}
 use Rattle.vs_proxy_parts.specs.State.{Handshake, ProxyState, Turning}
-use Rattle.vs_world.proofs.Holding.{AllReturnSome, bind_some, cond_some, option_some}
+use Rattle.laws_world.proofs.Holding.{AllReturnSome, bind_some, cond_some, option_some}
 use Rattle.vs_conn.specs.declared.end.Owed.TheVariants as owed
 use Rattle.vs_conn.specs.declared.end.Verdict.TheVariants as verdict
 use Rattle.vs_conn.specs.declared.end.Why.TheVariants as why

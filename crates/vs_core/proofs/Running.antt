@@ -2,7 +2,7 @@
 use Rattle.std.proofs.Common.{◌≡◌, ℕ, ◌+◌, ◌<◌, ◌≤◌, List, [], ◌∷◌, length, map, drop, get_or, sym, ap, ◌∙◌}
 use Rattle.std.proofs.Math.ListN.{drop_of_length-le}
 use Rattle.std.proofs.lemmas.List.{drop_more, drop-map, length-map}
-use Rattle.vs_world.specs.{Events.Event, Events.happens, Events.run, World.World}
+use Rattle.laws_world.specs.{Events.Event, Events.happens, Events.run, World.World}
 use Rattle.vs_core.specs.{Ready.WorldState, Ready.shown, Ready.with_journal, Views.event_view}
 use Rattle.vs_core.specs.declared.event.Event as program
 use Rattle.vs_core.proofs.Happening.{run_blind}

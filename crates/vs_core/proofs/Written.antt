@@ -6,8 +6,8 @@ use Rattle.std.proofs.lemmas.List.{append-nil, length-take}
 use Rattle.vs_contents.specs.{CallTree.Ask, CallTree.bind, Contents.Exposes}
 use Rattle.vs_header.specs.Packet.{header_bytes}
 use Rattle.vs_header.specs.declared.{Header.Header, TheConstants.HEADER_LEN}
-use Rattle.vs_history.specs.Packets.{packet_bytes}
-use Rattle.vs_history.specs.declared.packet.Packet.{Packet}
+use Rattle.laws_history.specs.Packets.{packet_bytes}
+use Rattle.laws_history.specs.declared.packet.Packet.{Packet}
 use Rattle.vs_page.specs.{Fair.IsFairLog, Held.packet_held, Log.Device, Log.Log, Overwriting.overwritten}
 use Rattle.vs_page.specs.declared.log.LogEntry.TheVariants.{PutPacket}
 use Rattle.vs_ring_port.specs.{Chains.bytes_in, Contents.RingContents, Contents.Write, Contents.Return}
@@ -17,9 +17,9 @@ use Rattle.vs_ring_port.specs.declared.device_ring.Chain.{Chain}
 use Rattle.vs_ring_port.specs.declared.queue.Queue.{Queue}
 use Rattle.vs_ring_port.specs.declared.queue.Queue.TheVariants.{Rx, Event}
 use Rattle.vs_device_parts.specs.{Calls.Ring, Calls.Situation, Calls.DeviceTree, Receiving.written}
-use Rattle.vs_device_laws.specs.Split.{MayPut}
-use Rattle.vs_world.specs.Pages.{is_held}
-use Rattle.vs_world.proofs.Chains.{both_written, bytes_written, first_written, held_written}
+use Rattle.laws_device_streams.specs.Split.{MayPut}
+use Rattle.laws_world.specs.Pages.{is_held}
+use Rattle.laws_world.proofs.Chains.{both_written, bytes_written, first_written, held_written}
 
 -- The log that a ring exposes.
 some_is : {T : Type 0} (o : Option T) (x : T) (P : T → Type 0) → o ≡ Some x → P x → ForSome o P

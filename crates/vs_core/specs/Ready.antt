@@ -5,11 +5,11 @@ use Rattle.vs_ring_port.specs.declared.queue.{Queue.Queue, TheConstants.STAGED_M
 use Rattle.vs_ring_list.specs.Ends.{Ends, flight_of, staged_of}
 use Rattle.vs_outside.specs.Host.{HostContents}
 use Rattle.vs_driver_parts.specs.{Playing.all_flown, State.DriverState}
-use Rattle.vs_driver_log.specs.Staged.{IsTied}
+use Rattle.laws_driver.specs.Staged.{IsTied}
 use Rattle.vs_device_parts.specs.Playing.{IsAmong}
-use Rattle.vs_device_laws.specs.Streams.{HasStreams}
+use Rattle.laws_device_streams.specs.Streams.{HasStreams}
 use Rattle.vs_proxy_parts.specs.{Handshakes.streams_of, State.ProxyState}
-use Rattle.vs_world.specs.{Calls.Journal, Events.Event, Events.happens, Events.run, World.World, World.first_cid, World.opening}
+use Rattle.laws_world.specs.{Calls.Journal, Events.Event, Events.happens, Events.run, World.World, World.first_cid, World.opening}
 
 -- A world without the journal of the calls that the guest made.
 pub record WorldState : Type 0 where

@@ -1,9 +1,9 @@
 -- Events as the program holds them, and what it answers to one.
 use Rattle.std.specs.Prelude.{◌≡◌, ◌&&◌, ◌≤◌, Bool, true, false, []}
-use Rattle.vs_world.specs.Calls.{GuestCall, ReplyTo, is_right}
-use Rattle.vs_world.specs.Calls as call
-use Rattle.vs_world.specs.Events.{Event, call_made, is_at_rest}
-use Rattle.vs_world.specs.Events as event
+use Rattle.laws_world.specs.Calls.{GuestCall, ReplyTo, is_right}
+use Rattle.laws_world.specs.Calls as call
+use Rattle.laws_world.specs.Events.{Event, call_made, is_at_rest}
+use Rattle.laws_world.specs.Events as event
 use Rattle.vs_core.specs.Ready.{Happens, WorldState, with_journal}
 use Rattle.vs_core.specs.declared.event.Event as program
 use Rattle.vs_core.specs.declared.event.Event.TheVariants as code

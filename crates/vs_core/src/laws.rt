@@ -6,18 +6,19 @@ ghost use Rattle.std.specs.Prelude.{◌≡◌, ℕ, ◌≤◌, ◌||◌, false, 
 ghost use Rattle.vs_limits.specs.declared.TheConstants.{BUF_ALLOC, FIRST_PORT, ASSIGNED_FIRST};
 ghost use Rattle.vs_conn.specs.End.{ConnectionEnd, is_refused, verdict_of};
 ghost use Rattle.vs_flow.specs.declared.flow.Flow.{Flow};
-ghost use Rattle.vs_history.specs.declared.packet.Packet.{Packet};
-ghost use Rattle.vs_matching.specs.{Both.start, Ends.begun_flows, Ends.flows_of, Ends.is_among, Ends.new_flows, Ends.replied, Matches.Matches};
-ghost use Rattle.vs_matching.specs.Steps.{HasEnd, is_overrun};
+ghost use Rattle.laws_history.specs.declared.packet.Packet.{Packet};
+ghost use Rattle.laws_tables.specs.{Both.start, Ends.begun_flows, Ends.flows_of, Ends.is_among, Ends.new_flows, Ends.replied};
+ghost use Rattle.laws_tables.specs.Matches.{Matches};
+ghost use Rattle.laws_tables.specs.Steps.{HasEnd, is_overrun};
 ghost use Rattle.vs_outside.specs.Host.{HostContents};
 ghost use Rattle.vs_page.specs.Fair.{IsFairLog, IsPrefixOf, payload_got, payload_put};
 ghost use Rattle.vs_page.specs.Log.{Device, Driver, HasGotAll, IsNextPacket, Log, flow_got};
 ghost use Rattle.vs_page.specs.Open.{is_dropped, is_open};
 ghost use Rattle.vs_page.specs.declared.log.LogEntry.TheVariants.{Mark};
-ghost use Rattle.vs_world.specs.Calls.{GuestCall, is_right, sent_on};
-ghost use Rattle.vs_world.specs.{Events.Event, Events.happens, Events.is_at_rest, Events.is_guest_cid, Events.run, Laws.IsQueued};
-ghost use Rattle.vs_world.specs.{Plays.guest_line, Plays.poll_line, Plays.reset_line, Steps.Leads, Sides.Runs, Sides.both_of};
-ghost use Rattle.vs_world.specs.World.{World, first_cid, opening};
+ghost use Rattle.laws_world.specs.Calls.{GuestCall, is_right, sent_on};
+ghost use Rattle.laws_world.specs.{Events.Event, Events.happens, Events.is_at_rest, Events.is_guest_cid, Events.run, Laws.IsQueued};
+ghost use Rattle.laws_world.specs.{Plays.guest_line, Plays.poll_line, Plays.reset_line, Steps.Leads, Sides.Runs, Sides.both_of};
+ghost use Rattle.laws_world.specs.World.{World, first_cid, opening};
 
 /// After any list of events what each end got is what the other put first, packets on tx and on rx and ids of events; and what was put and
 /// not got is just what the pages between them hold. So the payload that an end got on a connection is a prefix of the payload that the

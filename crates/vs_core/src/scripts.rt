@@ -5,9 +5,9 @@ ghost use Rattle.vs_device_parts.specs.{Receiving.fill_rx_of, Receiving.pay_even
 ghost use Rattle.vs_device_parts.specs.Transmitting.{take_tx_of};
 ghost use Rattle.vs_flow.specs.declared.flow.Flow.{Flow};
 ghost use Rattle.vs_outside.specs.Host.{HostContents};
-ghost use Rattle.vs_world.specs.{Calls.sent_on, Events.is_at_rest};
-ghost use Rattle.vs_world.specs.Plays.{AreRight, Line, after, is_given_right, line, play, report, sent_by, turn_line};
-ghost use Rattle.vs_world.specs.{Steps.Leads, Steps.device_calls, World.World, World.opening};
+ghost use Rattle.laws_world.specs.{Calls.sent_on, Events.is_at_rest};
+ghost use Rattle.laws_world.specs.Plays.{AreRight, Line, after, is_given_right, line, play, report, sent_by, turn_line};
+ghost use Rattle.laws_world.specs.{Steps.Leads, Steps.device_calls, World.World, World.opening};
 
 /// Each call of the device's that a turn is made of, whole, is a list of events: a tick, taking a transmit packet, the owed event, the
 /// writes to the streams, and the receive packets. A tick and the writes are so while the ring didn't fail; the others do nothing after a

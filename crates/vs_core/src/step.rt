@@ -3,7 +3,7 @@
 ghost use Rattle.std.specs.{Prelude.◌≡◌, Prelude.◌≤◌, Prelude.IfOk, Prelude.Ok, Prelude.length, Prelude.map, List.All};
 ghost use Rattle.vs_ring_list.specs.Ends.{IsQueueSize};
 ghost use Rattle.vs_uds.specs.declared.path.TheConstants.{BASE_MAX};
-ghost use Rattle.vs_world.specs.{Events.run, World.opened_host, World.opening};
+ghost use Rattle.laws_world.specs.{Events.run, World.opened_host, World.opening};
 ghost use Rattle.vs_core.specs.{Ready.IsReady, Ready.shown, Views.HasBits, Views.Steps, Views.event_view};
 ghost use Rattle.vs_core.specs.declared.event.Reply.TheVariants as reply;
 

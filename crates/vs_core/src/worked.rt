@@ -1,10 +1,10 @@
 //! Worked plays: what the definitions compute for some scripts.
 
 ghost use Rattle.std.specs.Prelude.{◌≡◌};
-ghost use Rattle.vs_world.specs.Plays.{after, play};
-ghost use Rattle.vs_world.specs.WorkedBytes.{carried_on, client_bytes, client_flow, hello_bytes, hello_flow, reset_bytes};
-ghost use Rattle.vs_world.specs.Worked.{fresh, hello_lines, hello_said, hello_report, client_lines, client_said, client_report};
-ghost use Rattle.vs_world.specs.Worked.{failing_lines, failing_said, failing_report, resetting_lines, resetting_said, resetting_report};
+ghost use Rattle.laws_world.specs.Plays.{after, play};
+ghost use Rattle.laws_world.specs.WorkedBytes.{carried_on, client_bytes, client_flow, hello_bytes, hello_flow, reset_bytes};
+ghost use Rattle.laws_world.specs.Worked.{fresh, hello_lines, hello_said, hello_report, client_lines, client_said, client_report};
+ghost use Rattle.laws_world.specs.Worked.{failing_lines, failing_said, failing_report, resetting_lines, resetting_said, resetting_report};
 
 /// A guest that connects and talks, a client of the host that does, a dial that fails, and a transport reset.
 pub fn worked_plays()

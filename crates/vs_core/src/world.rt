@@ -7,7 +7,7 @@ ghost use Rattle.vs_driver_parts.specs.Conversations.{new_of};
 ghost use Rattle.vs_limits.specs.declared.TheConstants.{FIRST_PORT};
 ghost use Rattle.vs_proxy_parts.specs.Turns.{new_proxy};
 ghost use Rattle.vs_uds.specs.declared.path.TheConstants.{BASE_MAX};
-ghost use Rattle.vs_world.specs.{Over.over_lists, World.first_cid, World.opened_host, World.opening};
+ghost use Rattle.laws_world.specs.{Over.over_lists, World.first_cid, World.opened_host, World.opening};
 ghost use Rattle.vs_core.specs.Ready.{IsDrivenAtWork, IsReady, shown};
 
 use std::alloc::{AllocError, Global};

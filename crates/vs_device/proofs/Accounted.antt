@@ -9,10 +9,10 @@ use Rattle.vs_device_parts.specs.{Calls.Situation, Playing.Runs, Receiving.fill_
 use Rattle.vs_device_parts.specs.{Streams.Writing, Streams.pump_of, Streams.tick_of, Transmitting.take_tx_of, Turns.open_of, Turns.reset_of}
 use Rattle.vs_device_parts.specs.declared.answers.{Filled.Filled, Taken.Taken}
 use Rattle.vs_proxy_parts.specs.State.{Handshake}
-use Rattle.vs_proxy_bytes.specs.{Judged.IsJudged, Made.Made, Made.Makes, Told.AreAccounted, Told.IsAsking, Told.StayAccounted}
-use Rattle.vs_proxy_bytes.proofs.{Closing.keeps_tick, Judging.take_tx_judged, Keeping.keeps_end}
-use Rattle.vs_proxy_bytes.proofs.{Opening.keeps_open, Opening.keeps_reset_alone, Receiving.keeps_fill_rx, Receiving.keeps_pay_event}
-use Rattle.vs_proxy_bytes.proofs.{Telling.stay_accounted, Transmitting.keeps_take_tx, Writing.keeps_pump}
+use Rattle.laws_proxy_bytes.specs.{Judged.IsJudged, Made.Made, Made.Makes, Told.AreAccounted, Told.IsAsking, Told.StayAccounted}
+use Rattle.laws_proxy_bytes.proofs.{Closing.keeps_tick, Judging.take_tx_judged, Keeping.keeps_end}
+use Rattle.laws_proxy_bytes.proofs.{Opening.keeps_open, Opening.keeps_reset_alone, Receiving.keeps_fill_rx, Receiving.keeps_pay_event}
+use Rattle.laws_proxy_bytes.proofs.{Telling.stay_accounted, Transmitting.keeps_take_tx, Writing.keeps_pump}
 
 module _ (s : DeviceState) (a b : Situation) where
   pub take_accounted : (x : DeviceState × Taken) → Runs (take_tx_of s) a x b → (calls : List Made) (hands : List Handshake)

@@ -4,21 +4,21 @@ use Rattle.std.specs.Option.{ForSome}
 use Rattle.vs_outside.specs.Host.{HostContents}
 use Rattle.vs_ring_port.specs.{Contents.RingContents, declared.failure.Failure.Failure}
 use Rattle.vs_flow.specs.{declared.flow.Flow.Flow, declared.table.TableFault.TableFault}
-use Rattle.vs_matching.specs.Steps.{IsNextFlow}
+use Rattle.laws_tables.specs.Steps.{IsNextFlow}
 use Rattle.vs_page.specs.Log.{Device}
 use Rattle.vs_device_parts.specs.{Receiving.fill_rx_of, Receiving.pay_event_of, State.DeviceState}
 use Rattle.vs_device_parts.specs.{Streams.Writing, Streams.pump_of, Streams.tick_of, Transmitting.take_tx_of, Turns.open_of, Turns.reset_of}
 use Rattle.vs_device_parts.specs.{declared.answers.Filled.Filled, declared.answers.Taken.Taken}
 use Rattle.vs_device_parts.specs.Calls.{Allows, DeviceTree, Situation}
 use Rattle.vs_device_parts.specs.Playing.{CanMake, Runs, RunsOnHost, RunsOnRing, situation}
-use Rattle.vs_device_laws.specs.{Split.CanReach, Streams.FindsFree, Streams.FindsStreams, Streams.HasStreams}
-use Rattle.vs_device_laws.proofs.{Closing.keeps_tick, Conditions.quiet_can, Keeping.Keeps}
-use Rattle.vs_device_laws.proofs.{Opening.both_found, Opening.keeps_open, Opening.keeps_reset, Receiving.keeps_fill_rx}
-use Rattle.vs_device_laws.proofs.{Transmitting.keeps_take_tx, Writing.keeps_pump}
-use Rattle.vs_device_log.specs.Honest.{IsFitFlow, IsWith, ends_of_state, port_after}
-use Rattle.vs_device_log.proofs.{Filling.fill_keeps, Keeping.keeps_end, Transmitting.take_keeps}
-use Rattle.vs_device_log.proofs.Turning.{open_keeps, pay_keeps, pump_keeps, reset_keeps, tick_keeps}
-use Rattle.vs_device_laws.proofs.Keeping.{keeps_end as streams_end}
+use Rattle.laws_device_streams.specs.{Split.CanReach, Streams.FindsFree, Streams.FindsStreams, Streams.HasStreams}
+use Rattle.laws_device_streams.proofs.{Closing.keeps_tick, Conditions.quiet_can, Keeping.Keeps}
+use Rattle.laws_device_streams.proofs.{Opening.both_found, Opening.keeps_open, Opening.keeps_reset, Receiving.keeps_fill_rx}
+use Rattle.laws_device_streams.proofs.{Transmitting.keeps_take_tx, Writing.keeps_pump}
+use Rattle.laws_device.specs.Honest.{IsFitFlow, IsWith, ends_of_state, port_after}
+use Rattle.laws_device.proofs.{Filling.fill_keeps, Keeping.keeps_end, Transmitting.take_keeps}
+use Rattle.laws_device.proofs.Turning.{open_keeps, pay_keeps, pump_keeps, reset_keeps, tick_keeps}
+use Rattle.laws_device_streams.proofs.Keeping.{keeps_end as streams_end}
 
 module _ (s : DeviceState) (a b : Situation) where
   pub take_streams : (x : DeviceState × Taken) → Runs (take_tx_of s) a x b → (others : List ℕ) → FindsStreams others s a

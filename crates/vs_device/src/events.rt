@@ -8,9 +8,9 @@ ghost use Rattle.vs_ring_port.specs.declared.device_ring.Next.TheVariants as nex
 ghost use Rattle.vs_ring_port.specs.declared.failure.Failure.{Failure};
 ghost use Rattle.vs_device_parts.specs.Playing.{AllowsOnRing, IsItsRing, MayRunOnRing, RunsOnRing};
 ghost use Rattle.vs_device_parts.specs.Receiving.{event_on, pay_event_of};
-ghost use Rattle.vs_device_log.specs.Honest.{IsWith};
+ghost use Rattle.laws_device.specs.Honest.{IsWith};
 ghost use Rattle.vs_outside.specs.Host.{HostContents};
-ghost use Rattle.vs_proxy_bytes.specs.{Judged.AreUnmoved, Made.Made, Made.Makes, Told.AreAccounted, Told.StayAccounted};
+ghost use Rattle.laws_proxy_bytes.specs.{Judged.AreUnmoved, Made.Made, Made.Makes, Told.AreAccounted, Told.StayAccounted};
 ghost use Rattle.vs_proxy_parts.specs.State.{Handshake};
 
 use crate::device::Device;

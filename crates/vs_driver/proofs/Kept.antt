@@ -4,9 +4,9 @@ use Rattle.vs_ring_port.specs.Contents.{RingContents}
 use Rattle.vs_driver_parts.specs.State.{DriverState}
 use Rattle.vs_driver_parts.specs.Connections.{after_close, after_recv, after_shutdown, after_unlisten}
 use Rattle.vs_driver_parts.specs.Listening.{after_accept, listening}
-use Rattle.vs_driver_log.specs.Honest.{IsHonestWith}
-use Rattle.vs_driver_log.proofs.Calls.{still_honest}
-use Rattle.vs_driver_log.proofs.Changing.{accept_changes, close_changes, listen_changes, recv_changes, shutdown_changes, unlisten_changes}
+use Rattle.laws_driver.specs.Honest.{IsHonestWith}
+use Rattle.laws_driver.proofs.Calls.{still_honest}
+use Rattle.laws_driver.proofs.Changing.{accept_changes, close_changes, listen_changes, recv_changes, shutdown_changes, unlisten_changes}
 
 module _ (first : ℕ) (s t : DriverState) (c : RingContents) (honest : IsHonestWith first s c) where
   left_as : (u : DriverState) → t ≡ u → IsHonestWith first u c → IsHonestWith first t c

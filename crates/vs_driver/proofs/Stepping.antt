@@ -10,8 +10,8 @@ use Rattle.vs_driver_parts.specs.{State.DriverState, Connections.connect_refusal
 use Rattle.vs_driver_parts.specs.Conversations.{DriverTree, Round, connect_with_page, put_owed, put_reply, reap_one, start, take_event}
 use Rattle.vs_driver_parts.specs.{Conversations.take_packet, Playing.CanMake, Playing.MayPublishAll, Playing.Plays, Playing.RingAllows}
 use Rattle.vs_driver_parts.specs.Steps.{connects, stages_owed, stages_reply, takes_page}
-use Rattle.vs_driver_log.specs.Staged.{IsAtWorkWith, IsWorkingWith}
-use Rattle.vs_driver_log.proofs.{Keeping.keeps_end, Keeping.keeps_may, Stepping.takes_keeps}
+use Rattle.laws_driver.specs.Staged.{IsAtWorkWith, IsWorkingWith}
+use Rattle.laws_driver.proofs.{Keeping.keeps_end, Keeping.keeps_may, Stepping.takes_keeps}
 
 -- the state that a step leaves
 of_put : Round × Bool → DriverTree DriverState

@@ -10,7 +10,7 @@ ghost use Rattle.vs_driver_parts.specs.Connections.{state_of, unread_of_id, shut
 ghost use Rattle.vs_driver_parts.specs.Connections.{after_unlisten, shut_answer, shut_in, entry_closed, gone_closed};
 ghost use Rattle.vs_driver.specs.Pipes.{IfShut, KeepsOthers, UnlessShut, receives};
 ghost use Rattle.vs_ring_port.specs.Contents.{RingContents};
-ghost use Rattle.vs_driver_log.specs.Honest.{IsHonestWith};
+ghost use Rattle.laws_driver.specs.Honest.{IsHonestWith};
 
 use crate::driver::Driver;
 use vs_conn::State;

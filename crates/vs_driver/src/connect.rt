@@ -11,7 +11,7 @@ ghost use Rattle.vs_driver_parts.specs.Connections.{connect_refusal, connected, 
 ghost use Rattle.vs_driver_parts.specs.Conversations.{connect_of, connect_with_page};
 ghost use Rattle.vs_driver_parts.specs.Playing.{IsRingOf, MayPublishAll, Plays};
 ghost use Rattle.vs_driver.specs.Outcomes.{Opens, Refuses, FindsNoPage};
-ghost use Rattle.vs_driver_log.specs.Honest.{IsHonest, IsHonestWith};
+ghost use Rattle.laws_driver.specs.Honest.{IsHonest, IsHonestWith};
 
 use crate::driver::Driver;
 use vs_conn::{End, Owed};

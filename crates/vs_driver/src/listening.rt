@@ -3,7 +3,7 @@
 ghost use Rattle.std.specs.Prelude.{◌≡◌, ℕ, OnOk, OnErr, Some, is_some};
 ghost use Rattle.vs_driver_parts.specs.Listening.{listen_of, listening, accept_of, after_accept, is_answered, next_accepted};
 ghost use Rattle.vs_ring_port.specs.Contents.{RingContents};
-ghost use Rattle.vs_driver_log.specs.Honest.{IsHonestWith};
+ghost use Rattle.laws_driver.specs.Honest.{IsHonestWith};
 
 use crate::driver::Driver;
 use vs_driver_parts::answers::{Accepted, ConnId, ListenError};

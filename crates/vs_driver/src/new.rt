@@ -7,7 +7,7 @@ ghost use Rattle.vs_ring_port.specs.Counts.{at, no_counts, with_count};
 ghost use Rattle.vs_limits.specs.declared.TheConstants.{FIRST_PORT, LAST_PORT};
 ghost use Rattle.vs_driver_parts.specs.Conversations.{new_of, new_state, post_all, posts};
 ghost use Rattle.vs_driver_parts.specs.Playing.{IsRingOf, MayPublishAll, Plays};
-ghost use Rattle.vs_driver_log.specs.Honest.{IsFresh, IsHonestWith};
+ghost use Rattle.laws_driver.specs.Honest.{IsFresh, IsHonestWith};
 
 use crate::driver::Driver;
 use std::alloc::{AllocError, Global};

@@ -2,7 +2,7 @@
 
 ghost use Rattle.std.specs.Prelude.{ℕ};
 ghost use Rattle.vs_driver_parts.specs.{Conversations.poll_of, Playing.IsRingOf, Playing.Plays};
-ghost use Rattle.vs_driver_log.specs.Honest.{IsHonest, IsHonestWith};
+ghost use Rattle.laws_driver.specs.Honest.{IsHonest, IsHonestWith};
 
 use crate::driver::Driver;
 use vs_driver_parts::answers::Polled;

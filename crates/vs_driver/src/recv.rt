@@ -9,7 +9,7 @@ ghost use Rattle.vs_driver_parts.specs.Connections.{recv_of, unread_of_id, after
 ghost use Rattle.vs_driver_parts.specs.Connections.{gone_answer, entry_answer, entry_read, bytes_read};
 ghost use Rattle.vs_driver.specs.Pipes.{KeepsOthers, UnlessGot, bytes_given};
 ghost use Rattle.vs_ring_port.specs.Contents.{RingContents};
-ghost use Rattle.vs_driver_log.specs.Honest.{IsHonestWith};
+ghost use Rattle.laws_driver.specs.Honest.{IsHonestWith};
 
 use crate::driver::Driver;
 use vs_conn::{EndView, Shut, State};

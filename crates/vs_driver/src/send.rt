@@ -9,7 +9,7 @@ ghost use Rattle.vs_driver_parts.specs.Conversations.{send_of, send_with_page, s
 ghost use Rattle.vs_driver_parts.specs.Steps.{ready_on, ready_to_send, ready_with};
 ghost use Rattle.vs_driver_parts.specs.Playing.{IsRingOf, MayPublishAll, Plays, SamePages};
 ghost use Rattle.vs_driver.specs.{Outcomes.Sends, Pipes.KeepsOthers};
-ghost use Rattle.vs_driver_log.specs.Honest.{IsHonest, IsHonestWith};
+ghost use Rattle.laws_driver.specs.Honest.{IsHonest, IsHonestWith};
 
 use crate::driver::Driver;
 use vs_conn::Stop;

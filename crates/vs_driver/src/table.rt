@@ -3,7 +3,7 @@
 ghost use Rattle.std.specs.{Prelude.◌≡◌, Prelude.ℕ, Prelude.◌<◌, Prelude.◌^◌, Prelude.length, Iterator.YieldsFirst, Iterator.item_count};
 ghost use Rattle.vs_ring_port.specs.EndLog.{EndLog};
 ghost use Rattle.vs_driver_parts.specs.Connections.{state_of, state_shown, flow_of, table_shown};
-ghost use Rattle.vs_driver_log.specs.Honest.{AgreesWith, IsLeftOpen};
+ghost use Rattle.laws_driver.specs.Honest.{AgreesWith, IsLeftOpen};
 
 use crate::driver::Driver;
 use std::marker::Model;

@@ -5,7 +5,7 @@ use Rattle.std.specs.{List.AllPairs, List.filter, List.slice_get, Option.option_
 use Rattle.vs_conn.specs.{End.is_refused, declared.end.Verdict.Verdict}
 use Rattle.vs_flow.specs.Table.{Table, IsTable, entry_of, entry_under, with_value, without, revalued}
 use Rattle.vs_flow.proofs.{Entries.found_at, Tables.revalued-slot, Lookups.entry_under-with_value}
-use Rattle.vs_history.specs.declared.packet.Packet.{Packet}
+use Rattle.laws_history.specs.declared.packet.Packet.{Packet}
 use Rattle.vs_page.specs.Log.{flow_to_guest}
 use Rattle.vs_driver_parts.specs.Connections.{with_connection, leaves_list, after_leaving, waits_no_more, is_let_go, gone_as}
 use Rattle.vs_driver_parts.specs.Receiving.{on_heard, on_known, on_unknown, after_verdict, after_packet, ends_connection, with_reply}

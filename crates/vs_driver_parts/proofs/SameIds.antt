@@ -6,7 +6,7 @@ use Rattle.vs_conn.specs.declared.end.State.{State}
 use Rattle.vs_conn.specs.declared.end.State.TheVariants as state
 use Rattle.vs_conn.specs.declared.end.Verdict.{Verdict}
 use Rattle.vs_conn.specs.declared.end.Verdict.TheVariants as verdict
-use Rattle.vs_history.specs.declared.packet.Packet.{Packet}
+use Rattle.laws_history.specs.declared.packet.Packet.{Packet}
 use Rattle.vs_driver_parts.specs.{State.DriverConnection, Connections.paid_connection, Connections.after_closing, Receiving.after_packet}
 
 pub paid_id : (what : Owed) (c : DriverConnection) → (paid_connection what c).id ≡ c.id

@@ -1,7 +1,7 @@
 -- What the driver does with the packets and events that it takes.
 use Rattle.std.specs.Prelude.{ℕ, ◌==◌, ◌&&◌, not, nat_le, Bool, false, if◌then◌else◌, List, [], ◌∷◌, ◌++◌, Some, None}
 use Rattle.vs_header.specs.{Op.op_number, declared.Header.Header, declared.Kind.TheVariants.Stream, declared.Op.TheVariants.Request}
-use Rattle.vs_history.specs.declared.packet.Packet.{Packet}
+use Rattle.laws_history.specs.declared.packet.Packet.{Packet}
 use Rattle.vs_conn.specs.{End.verdict_of, End.end_after, End.is_of, End.is_reset, declared.end.Verdict.Verdict}
 use Rattle.vs_flow.specs.{Flow.is_assigned, Flow.is_host, Table.entry_of, declared.flow.Flow.Flow}
 use Rattle.vs_page.specs.{Held.packet_held, Held.event_held, Log.Driver, Log.flow_to_guest, Open.is_dropped}

@@ -8,7 +8,7 @@ ghost use Rattle.vs_conn.specs.declared.end.State.TheVariants.{Live};
 ghost use Rattle.vs_credit.specs.Credit.{free_of};
 ghost use Rattle.vs_header.specs.declared.Kind.TheVariants.{Stream};
 ghost use Rattle.vs_limits.specs.declared.TheConstants.{BUF_ALLOC};
-ghost use Rattle.vs_history.specs.declared.packet.Packet.{Packet};
+ghost use Rattle.laws_history.specs.declared.packet.Packet.{Packet};
 ghost use Rattle.vs_page.specs.Held.{IsWhole};
 ghost use Rattle.vs_driver_parts.specs.Connections.{after_read, after_shut, after_closing, paid_connection, is_let_go};
 ghost use Rattle.vs_driver_parts.specs.{Receiving.after_packet, Room.IsSpare};

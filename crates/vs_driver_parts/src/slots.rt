@@ -9,7 +9,7 @@ ghost use Rattle.vs_conn.specs.declared.end.State.TheVariants.{Live};
 ghost use Rattle.vs_credit.specs.Credit.{free_of};
 ghost use Rattle.vs_flow.specs.Flow.{is_assigned};
 ghost use Rattle.vs_flow.specs.Table.{IsTable, entry_of, entry_under, slots, value_under, with_entry};
-ghost use Rattle.vs_history.specs.declared.packet.Packet.{Packet};
+ghost use Rattle.laws_history.specs.declared.packet.Packet.{Packet};
 ghost use Rattle.vs_page.specs.Held.{IsWhole};
 ghost use Rattle.vs_limits.specs.declared.TheConstants.{LAST_PORT, LAST_ID, DRIVER_CONNECTIONS};
 ghost use Rattle.vs_driver_parts.specs.State.{DriverEntry, DriverConnection, GoneConnection, is_known_as};

@@ -1,7 +1,7 @@
 -- What a monitor's ring keeps: the size of its queues, the chains that the device holds, newest first, and for how many it has room.
 use Rattle.std.specs.Prelude.{ℕ, List, None, false}
 use Rattle.vs_device_parts.specs.{Calls.Situation, Playing.IsItsRing, Playing.situation}
-use Rattle.vs_proxy_log.specs.Order.{IsInOrder}
+use Rattle.laws_proxy.specs.Order.{IsInOrder}
 use Rattle.vs_ring_port.specs.{Contents.RingContents, declared.device_ring.Chain.Chain}
 use Rattle.vs_proxy_parts.specs.State.{ProxyState}
 

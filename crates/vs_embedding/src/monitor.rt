@@ -10,7 +10,7 @@ use crate::queues::{MonitorRing, Virtqueues};
 use std::alloc::{AllocError, Global};
 use std::marker::Model;
 use vs_proxy::{Proxy, Turn, Turned};
-use vs_proxy_log::laws::law_of_order;
+use laws_proxy::laws::law_of_order;
 
 /// What a round of the device's thread came to.
 #[derive(Clone, Copy, Debug, PartialEq, Eq)]

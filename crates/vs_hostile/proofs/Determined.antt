@@ -17,7 +17,7 @@ use Rattle.vs_device_parts.specs.Calls.{Call, Answer, DeviceTree, HostMoves, IsR
 use Rattle.vs_device_parts.specs.Calls.{ReadStream, WriteStream, ShutWrite, CloseStream}
 use Rattle.vs_device_parts.specs.Playing.{CanMake, MayRun, Runs, situation}
 use Rattle.vs_proxy_parts.specs.{State.ProxyState, Turns.proxy_reset_of, Turns.turn_of, declared.answers.Turn.Turn}
-use Rattle.vs_proxy_log.specs.Order.{IsInOrder}
+use Rattle.laws_proxy.specs.Order.{IsInOrder}
 use Rattle.vs_hostile.specs.{Ready.IsServing, Answers.Around, Answers.answer_around, Answers.bytes_with, Answers.with_host}
 use Rattle.vs_hostile.specs.Whole.{is_made, whole_contents, whole_state}
 use Rattle.vs_hostile.proofs.Seen.{after_made, exposed}

@@ -5,7 +5,7 @@ use Rattle.vs_ring_port.specs.{Contents.RingContents, declared.device_ring.Chain
 use Rattle.vs_ring_plain.specs.Device.{DeviceState, chains_held}
 use Rattle.vs_device_parts.specs.Playing.{IsItsRing, situation}
 use Rattle.vs_proxy_parts.specs.State.{ProxyState}
-use Rattle.vs_proxy_log.specs.Order.{IsInOrder}
+use Rattle.laws_proxy.specs.Order.{IsInOrder}
 use Rattle.vs_script.specs.Hostile.{Hostile}
 use Rattle.vs_hostile.specs.Run.{GuestState, Nothing, HasMemory, HasRings, HostileState, hostile_does}
 use Rattle.vs_hostile.specs.Answer.{said_text}

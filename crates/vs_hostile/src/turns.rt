@@ -12,7 +12,7 @@ use crate::whole::WholeSide;
 use std::alloc::AllocError;
 use vs_outside::MemHost;
 use vs_proxy::{Proxy, Turn};
-use vs_proxy_log::laws::law_of_order;
+use laws_proxy::laws::law_of_order;
 use vs_ring_port::Failure;
 
 /// A turn of the device. The error is want of memory, which the host found in this turn or before.

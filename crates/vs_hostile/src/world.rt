@@ -15,7 +15,7 @@ use vs_device::Counters;
 use vs_layout::Span;
 use vs_outside::{MemHost, MemStream, StepClock};
 use vs_proxy::Proxy;
-use vs_proxy_log::laws::law_of_order;
+use laws_proxy::laws::law_of_order;
 use vs_report::host_lines::push_ok;
 use vs_ring_port::Failure;
 use vs_script::HostileLine;

@@ -4,7 +4,7 @@ use Rattle.byteorder.specs.Endian.{little_bytes}
 use Rattle.vs_flow.specs.Connection.{Connection}
 use Rattle.vs_header.specs.{Kind.kind_number, declared.Kind.Kind, declared.Kind.TheVariants.Seqpacket, declared.Kind.TheVariants.Stream}
 use Rattle.vs_header.specs.declared.TheConstants.{END_OF_MESSAGE, END_OF_RECORD}
-use Rattle.vs_history.specs.{Packets.bytes, Packets.is_rw, declared.packet.Packet.Packet}
+use Rattle.laws_history.specs.{Packets.bytes, Packets.is_rw, declared.packet.Packet.Packet}
 use Rattle.vs_page.specs.{Fair.got_of, Fair.payload_of, Fair.put_of, Log.Log, Log.Role}
 
 -- An RW of a seqpacket socket ends a message by one flag, and a record by another beside it.

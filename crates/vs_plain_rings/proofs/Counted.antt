@@ -9,9 +9,9 @@ use Rattle.vs_ring_list.specs.Ends.{Ends, in_flight}
 use Rattle.vs_ring_list.proofs.Flights.{held_of-cons}
 use Rattle.vs_ring_plain.specs.Device.{HeldChain}
 use Rattle.vs_plain_driver.specs.Queue.{flight_in}
-use Rattle.vs_plain_ties.specs.{Parts.PartsState, Parts.driver_at, Shown.Shown}
-use Rattle.vs_plain_ties.specs.Tie.{AreHeldAs, AreTied, heads_of, shown_of, start_of}
-use Rattle.vs_plain_ties.proofs.{Rows.back_length, Rows.out_length, Held.heads_length}
+use Rattle.laws_plain_rings.specs.{Parts.PartsState, Parts.driver_at, Shown.Shown}
+use Rattle.laws_plain_rings.specs.Tie.{AreHeldAs, AreTied, heads_of, shown_of, start_of}
+use Rattle.laws_plain_rings.proofs.{Rows.back_length, Rows.out_length, Held.heads_length}
 use Rattle.vs_plain_rings.specs.Counted.{AreCounted}
 
 -- the chains that the device holds

@@ -8,7 +8,7 @@ use Rattle.vs_plain_driver.specs.{Queue.DriverQueueState, View.ArePagesIn}
 use Rattle.vs_layout.specs.Layout.{queue_areas_of}
 use Rattle.vs_layout.specs.declared.placement.QueueAreas.{QueueAreas}
 use Rattle.vs_ring_plain.specs.Device.{DeviceState, new_device, with_memory}
-use Rattle.vs_plain_ties.specs.Parts.{PartsState, cleared, cleared_queue, new_parts, new_queue, pages_behind, pages_start}
+use Rattle.laws_plain_rings.specs.Parts.{PartsState, cleared, cleared_queue, new_parts, new_queue, pages_behind, pages_start}
 use Rattle.vs_plain_rings.specs.View.{AreInOrder}
 
 -- n pages, k bytes behind the first of 3n, lie in the memory

@@ -2,7 +2,7 @@
 use Rattle.std.proofs.Common.{◌≡◌, sym, ◌∙◌}
 use Rattle.vs_ring_plain.specs.Device.{DeviceState, SamePlace}
 use Rattle.vs_plain_driver.specs.Queue.{DriverQueueState}
-use Rattle.vs_plain_ties.specs.Parts.{PartsState}
+use Rattle.laws_plain_rings.specs.Parts.{PartsState}
 use Rattle.vs_plain_rings.specs.View.{AreInOrder}
 
 -- with another device, whose queues and memory lie where they did

@@ -14,7 +14,7 @@ use Rattle.vs_ring_port.specs.declared.queue.Queue.{Queue}
 use Rattle.vs_ring_port.specs.declared.queue.Queue.TheVariants.{Rx, Tx, Event}
 use Rattle.vs_plain_driver.specs.Queue.{desc_for}
 use Rattle.vs_plain_rings.specs.Posting.{CanPost, idle_queue, posted, ring_of}
-use Rattle.vs_plain_ties.proofs.{Frames.inner, Frames.kept, Frames.length_written, Frames.written, Encoded.desc_back}
+use Rattle.laws_plain_rings.proofs.{Frames.inner, Frames.kept, Frames.length_written, Frames.written, Encoded.desc_back}
 
 -- one more than it was, modulo 2^16
 pub one_ahead : (p : ℕ) → p < 2 ^ 16 → ahead ((p + 1) % 2 ^ 16) p ≡ 1

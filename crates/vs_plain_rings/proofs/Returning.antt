@@ -14,7 +14,7 @@ use Rattle.vs_ring_port.specs.declared.queue.Queue.{Queue}
 use Rattle.vs_plain_driver.specs.Queue.{DriverQueueState, flight_in, next_elem, next_used, numbered, page_back, reaped_page, used_ahead}
 use Rattle.vs_plain_rings.specs.Posting.{CanReap, returned, ring_of}
 use Rattle.vs_plain_rings.proofs.Posting.{one_ahead}
-use Rattle.vs_plain_ties.proofs.{Frames.inner, Frames.kept, Frames.length_written, Frames.written, Encoded.elem_back, Reaping.or_false}
+use Rattle.laws_plain_rings.proofs.{Frames.inner, Frames.kept, Frames.length_written, Frames.written, Encoded.elem_back, Reaping.or_false}
 
 module _ (q : DriverQueueState) (at head len base accesses : ℕ) (bytes : List ℕ) (areas : Areas) (page : List ℕ)
     (can : CanReap q at head len areas page (quiet base bytes accesses)) where

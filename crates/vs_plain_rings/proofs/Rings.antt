@@ -7,15 +7,15 @@ use Rattle.vs_ring_port.specs.{declared.device_ring.Next.Next, declared.queue.Qu
 use Rattle.vs_ring_port.specs.DriverCalls.{CanPublish, CanStage, DriverAllows, LoadCid, Publish, Reap, Stage}
 use Rattle.vs_ring_port.specs.Contents.{Given, PublishCid, Read, Return, Take, Write}
 use Rattle.vs_ring_port.specs.declared.queue.Queue.TheVariants.{Rx, Tx, Event}
-use Rattle.vs_ring_journal.specs.History.{ByDevice, ByDriver, History, RingCall, then}
+use Rattle.laws_ring_journal.specs.History.{ByDevice, ByDriver, History, RingCall, then}
 use Rattle.vs_ring_list.specs.Ends.{Ends, empty_ends}
 use Rattle.vs_ring_plain.specs.Device.{DeviceState, answer_to, chains_held}
 use Rattle.vs_plain_driver.specs.Queue.{DriverQueueState, flight_in, reaped_page}
-use Rattle.vs_plain_ties.specs.{Calls.after_call, Calls.ends_by, Tie.AreTied, Tie.IsTiedTo, Tie.areas_of}
-use Rattle.vs_plain_ties.specs.Exposed.{BothEnds, device_contents, device_told, driver_contents, driver_told}
-use Rattle.vs_plain_ties.specs.Parts.{PartsState, driver_at, published_parts, reaped_parts, staged_parts, used_in, with_driver}
+use Rattle.laws_plain_rings.specs.{Calls.after_call, Calls.ends_by, Tie.AreTied, Tie.IsTiedTo, Tie.areas_of}
+use Rattle.laws_plain_rings.specs.Exposed.{BothEnds, device_contents, device_told, driver_contents, driver_told}
+use Rattle.laws_plain_rings.specs.Parts.{PartsState, driver_at, published_parts, reaped_parts, staged_parts, used_in, with_driver}
 use Rattle.vs_ring_plain.proofs.Calls as plain
-use Rattle.vs_plain_ties.proofs.Told as told
+use Rattle.laws_plain_rings.proofs.Told as told
 
 -- one call more
 one_more : (n m : ℕ) (h new : History) (call : RingCall) → m ≡ n → new ≡ then h call → ends_by m new

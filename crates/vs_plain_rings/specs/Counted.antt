@@ -3,7 +3,7 @@ use Rattle.std.specs.Prelude.{◌≡◌}
 use Rattle.vs_ring_port.specs.Chains.{chains_of}
 use Rattle.vs_ring_list.specs.Ends.{Ends, flight_of, staged_of}
 use Rattle.vs_ring_plain.specs.Device.{chains_held}
-use Rattle.vs_plain_ties.specs.Parts.{PartsState, parts_flight, parts_staged}
+use Rattle.laws_plain_rings.specs.Parts.{PartsState, parts_flight, parts_staged}
 
 -- The places of a queue, the pages in flight, those staged and the chains held are those of the lists.
 pub record AreCounted (p : PartsState) (w : Ends) : Type 0 where

@@ -1,5 +1,5 @@
 -- How standard rings are seen, and what is true of them.
-use Rattle.vs_plain_ties.specs.{Calls.ends_by, Exposed.BothEnds, Tie.IsTiedTo}
+use Rattle.laws_plain_rings.specs.{Calls.ends_by, Exposed.BothEnds, Tie.IsTiedTo}
 use Rattle.vs_plain_rings.specs.declared.plain_rings.PlainRings.TheInside.{Inside}
 
 -- Both ends in their memory; and, while all calls so far are known, what these leave in flight and in both logs.

@@ -3,7 +3,7 @@ use Rattle.std.specs.Prelude.{◌≡◌, ◌≤◌}
 use Rattle.vs_limits.specs.declared.TheConstants.{GUEST_CID_MIN, GUEST_CID_MAX}
 use Rattle.vs_plain_driver.specs.View.{ArePagesIn}
 use Rattle.vs_plain_rings.specs.declared.parts.Parts.TheInside.{Inside}
-use Rattle.vs_plain_ties.specs.Parts.{PartsState}
+use Rattle.laws_plain_rings.specs.Parts.{PartsState}
 
 abbrev pub parts_in : Inside → PartsState
 parts_in p = record { device = p.device; rx = p.rx; tx = p.tx; event = p.event; cid = p.cid }

@@ -10,7 +10,7 @@ ghost use Rattle.vs_ring_port.specs.Contents.{Take, Read, Write, Return, Given};
 ghost use Rattle.vs_ring_plain.specs.Device.{SamePlace, with_memory, answer_to, areas_at, chains_held, with_change};
 ghost use Rattle.vs_ring_plain.specs.Take.{whole};
 ghost use Rattle.vs_plain_driver.specs.Queue.{flight_in, reaped_page};
-ghost use Rattle.vs_plain_ties.specs.Parts.{
+ghost use Rattle.laws_plain_rings.specs.Parts.{
   cleared,
   cleared_queue,
   driver_at,
@@ -45,7 +45,7 @@ pub struct Parts {
 }
 
 impl Model for Parts {
-    ghost use Rattle.vs_plain_ties.specs.Parts.{PartsState};
+    ghost use Rattle.laws_plain_rings.specs.Parts.{PartsState};
 
     ghost Value = { PartsState };
 

@@ -6,8 +6,8 @@ ghost use Rattle.vs_layout.specs.Layout.{queue_areas_of};
 ghost use Rattle.vs_ring_port.specs.declared.queue.TheConstants.{QUEUE_SIZE_MAX};
 ghost use Rattle.vs_ring_port.specs.DriverCalls.{page_of};
 ghost use Rattle.vs_ring_plain.specs.Device.{with_change};
-ghost use Rattle.vs_plain_ties.specs.{Exposed.are_alone, Exposed.first_ends, Parts.new_parts, Parts.with_parts_memory};
-ghost use Rattle.vs_plain_ties.specs.Tie.{IsLaid, areas_of, start_of};
+ghost use Rattle.laws_plain_rings.specs.{Exposed.are_alone, Exposed.first_ends, Parts.new_parts, Parts.with_parts_memory};
+ghost use Rattle.laws_plain_rings.specs.Tie.{IsLaid, areas_of, start_of};
 ghost use Rattle.vs_page.specs.{Fair.IsFairLog, Log.Device, Log.Driver, Log.HasGotAll};
 ghost use Rattle.vs_plain_rings.specs.Counted.{AreCounted};
 
@@ -17,7 +17,7 @@ use std::marker::Model;
 use vs_guest_mem::{AddrRange, PlainMem};
 use vs_layout::queue_areas;
 use vs_page::Page;
-use vs_ring_journal::{Call, Journal};
+use laws_ring_journal::{Call, Journal};
 use vs_ring_port::{Chain, DeviceRing, DriverRing, Next, NoDescriptor, Queue, Reaped};
 
 /// Both ends of the three virtqueues in a guest's memory, which one thread lends to each end in turn. Seen as both ends with their memory,
@@ -31,7 +31,7 @@ pub struct PlainRings {
 }
 
 impl Model for PlainRings {
-    ghost use Rattle.vs_plain_ties.specs.Exposed.{BothEnds};
+    ghost use Rattle.laws_plain_rings.specs.Exposed.{BothEnds};
 
     ghost Value = { BothEnds };
 
@@ -169,8 +169,8 @@ fn reaped(page: Option<Page>) -> Reaped
 
 impl DriverRing for PlainRings {
     ghost use Rattle.std.specs.Prelude.{true};
-    ghost use Rattle.vs_plain_ties.specs.Exposed.{driver_contents};
-    ghost use Rattle.vs_plain_ties.specs.Parts.{parts_flight, parts_staged};
+    ghost use Rattle.laws_plain_rings.specs.Exposed.{driver_contents};
+    ghost use Rattle.laws_plain_rings.specs.Parts.{parts_flight, parts_staged};
 
     ghost size = { λ r. r.parts.device.size };
 
@@ -228,7 +228,7 @@ impl DriverRing for PlainRings {
 impl DeviceRing for PlainRings {
     ghost use Rattle.std.specs.Prelude.{true};
     ghost use Rattle.vs_ring_plain.specs.Device.{chains_held};
-    ghost use Rattle.vs_plain_ties.specs.Exposed.{device_contents};
+    ghost use Rattle.laws_plain_rings.specs.Exposed.{device_contents};
 
     ghost size = { λ r. r.parts.device.size };
 

@@ -6,19 +6,19 @@ use Rattle.vs_ring_port.specs.{Counts.Counts, EndLog.EndLog, Chains.chains_of, d
 use Rattle.vs_ring_list.specs.Ends.{Ends, device_contents, driver_contents, empty_ends, staged_of}
 use Rattle.vs_outside.specs.Host.{HostContents}
 use Rattle.vs_driver_parts.specs.State.{DriverState}
-use Rattle.vs_driver_log.specs.Honest.{IsHonestWith}
+use Rattle.laws_driver.specs.Honest.{IsHonestWith}
 use Rattle.vs_device_parts.specs.{Calls.Allows, Calls.Situation, Playing.CanMake, Playing.IsItsRing, Playing.Runs, Playing.situation}
-use Rattle.vs_device_laws.specs.Split.{CanReach}
-use Rattle.vs_device_laws.proofs.{Conditions.quiet_can, Opening.new_has}
-use Rattle.vs_device_log.proofs.Keeping.{keeps_end}
+use Rattle.laws_device_streams.specs.Split.{CanReach}
+use Rattle.laws_device_streams.proofs.{Conditions.quiet_can, Opening.new_has}
+use Rattle.laws_device.proofs.Keeping.{keeps_end}
 use Rattle.vs_proxy_parts.specs.{State.ProxyState, Turns.new_proxy, Turns.proxy_reset_of, Turns.turn_of, declared.answers.Turn.Turn}
-use Rattle.vs_proxy_laws.proofs.{Lists.none_open, Turning.keeps_proxy_reset, Turning.keeps_turn}
-use Rattle.vs_proxy_log.proofs.Turning.{new_proxy_with, proxy_reset_keeps, turn_keeps}
-use Rattle.vs_world.specs.World.{first_cid}
+use Rattle.laws_proxy_streams.proofs.{Lists.none_open, Turning.keeps_proxy_reset, Turning.keeps_turn}
+use Rattle.laws_proxy.proofs.Turning.{new_proxy_with, proxy_reset_keeps, turn_keeps}
+use Rattle.laws_world.specs.World.{first_cid}
 use Rattle.vs_play.specs.{Answer.base_path, Ready.IsDriven, Ready.IsServed, Told.Serves}
 use Rattle.vs_report.specs.DeviceLines.{reset_text, turn_text}
-use Rattle.vs_world.proofs.{Flown.LeavesDriver, OverBoth.IsPlayed, OverBoth.over}
-use Rattle.vs_device_laws.proofs.Keeping.{keeps_end as streams_end}
+use Rattle.laws_world.proofs.{Flown.LeavesDriver, OverBoth.IsPlayed, OverBoth.over}
+use Rattle.laws_device_streams.proofs.Keeping.{keeps_end as streams_end}
 
 -- The rings stay the driver's.
 pub driven_still : (v w : Ends) → LeavesDriver v w → (s : DriverState) → IsDriven s v → IsDriven s w

@@ -4,9 +4,9 @@ use Rattle.vs_script.specs.{Data.bytes_of, Outside.Outside, Outside.OfHost}
 use Rattle.vs_script.specs.Outside as outside
 use Rattle.vs_script.specs.Play.{Event}
 use Rattle.vs_script.specs.Play as script
-use Rattle.vs_world.specs.Calls as call
-use Rattle.vs_world.specs.Plays.{Line}
-use Rattle.vs_world.specs.Plays as world
+use Rattle.laws_world.specs.Calls as call
+use Rattle.laws_world.specs.Plays.{Line}
+use Rattle.laws_world.specs.Plays as world
 use Rattle.vs_play.specs.Answer.{report_of, texts_of, world_after}
 use Rattle.vs_play.specs.Lines.{PlayWorld, event_played, host_line, outside_played, played_line}
 use Rattle.vs_play.specs.Ready.{PlayState, shown, world_in}

@@ -5,14 +5,14 @@ use Rattle.vs_ring_port.specs.{Chains.chains_of, Contents.RingContents, Counts.C
 use Rattle.vs_ring_port.specs.declared.device_ring.Chain.{Chain}
 use Rattle.vs_ring_list.specs.Ends.{Ends, device_contents, driver_contents}
 use Rattle.vs_driver_parts.specs.{Conversations.DriverTree, Playing.IsRingOf, Playing.Plays, Playing.all_flown, State.DriverState}
-use Rattle.vs_driver_log.specs.Honest.{IsHonest, IsHonestWith}
+use Rattle.laws_driver.specs.Honest.{IsHonest, IsHonestWith}
 use Rattle.vs_device_parts.specs.{Calls.DeviceTree, Playing.IsItsRing, Playing.Runs, Playing.situation, State.DeviceState}
 use Rattle.vs_proxy_parts.specs.State.{ProxyState}
-use Rattle.vs_proxy_log.specs.Order.{IsInOrder}
+use Rattle.laws_proxy.specs.Order.{IsInOrder}
 use Rattle.vs_both_ends.specs.Seen.{IsDeviceOf, IsDriverOf}
 use Rattle.vs_play.specs.{Ready.IsDriven, Told.Answers}
-use Rattle.vs_world.specs.Over.{over_lists}
-use Rattle.vs_world.proofs.OverLists.{over}
+use Rattle.laws_world.specs.Over.{over_lists}
+use Rattle.laws_world.proofs.OverLists.{over}
 
 module _ (e : Ends) (n : ℕ) (flown waiting : Counts) (c : RingContents) (shows : IsDriverOf e n flown waiting c) where
   pub ring_of : (s : DriverState) → IsDriven s e → IsRingOf n flown waiting s

@@ -11,8 +11,8 @@ use Rattle.vs_report.proofs.HostPrograms.{client_opens, host_opens}
 use Rattle.vs_script.specs.{Play.Event, Play.Around, Play.play_view, declared.outside.OutsideLine.OutsideLine}
 use Rattle.vs_script.specs.Outside.{Client, Host, OfHost, Outside, Reset, Tick, Turn}
 use Rattle.vs_script.specs.declared.play.PlayLine.{PlayLine}
-use Rattle.vs_world.specs.{Over.over_both, Over.over_lists, World.first_cid, World.opened_host}
-use Rattle.vs_world.proofs.StayOpen.{StayOpen}
+use Rattle.laws_world.specs.{Over.over_both, Over.over_lists, World.first_cid, World.opened_host}
+use Rattle.laws_world.proofs.StayOpen.{StayOpen}
 use Rattle.vs_play.specs.{Answer.base_path, Answer.opened_play, Lines.event_played, Told.Answers, Told.Drives, Told.Serves}
 use Rattle.vs_play.specs.Ready.{IsDriven, IsOpened, IsReady, IsServed, PlayState, Plays, shown, world_in}
 use Rattle.vs_play.proofs.{Devices.served_new, Served.served_host, Served.served_rings}

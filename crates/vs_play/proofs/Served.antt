@@ -4,12 +4,12 @@ use Rattle.vs_outside.specs.Host.{HostContents}
 use Rattle.vs_ring_port.specs.{Chains.chains_of, EndLog.EndLog}
 use Rattle.vs_ring_list.specs.Ends.{Ends, device_contents}
 use Rattle.vs_device_parts.specs.Playing.{IsItsRing}
-use Rattle.vs_device_laws.specs.Streams.{HasStreams}
+use Rattle.laws_device_streams.specs.Streams.{HasStreams}
 use Rattle.vs_proxy_parts.specs.{Handshakes.streams_of, State.ProxyState}
-use Rattle.vs_proxy_log.specs.Honest.{IsProxyWith}
-use Rattle.vs_world.specs.World.{first_cid}
+use Rattle.laws_proxy.specs.Honest.{IsProxyWith}
+use Rattle.laws_world.specs.World.{first_cid}
 use Rattle.vs_play.specs.Ready.{IsServed}
-use Rattle.vs_world.proofs.StayOpen.{StayOpen, still_has}
+use Rattle.laws_world.proofs.StayOpen.{StayOpen, still_has}
 
 -- What the driver does leaves the device's log.
 pub served_rings : (s : ProxyState) (e w : Ends) (h : HostContents) → w.device ≡ e.device → IsServed s e h → IsServed s w h

@@ -3,7 +3,7 @@ use Rattle.std.specs.Prelude.{ℕ, List, [], ◌∷◌, ◌++◌, length, map, c
 use Rattle.vs_script.specs.{Play.Event, Script.Saying, Script.Plays, Script.parse_of}
 use Rattle.vs_script.specs.declared.fault.Refused.{Refused}
 use Rattle.vs_script.specs.declared.script.Command.TheVariants as command
-use Rattle.vs_world.specs.World.{World, opened_host, opening}
+use Rattle.laws_world.specs.World.{World, opened_host, opening}
 use Rattle.vs_report.specs.{Answers.Answer, Answers.refusal, Report.report}
 use Rattle.vs_report.specs.declared.giving.Totals.{Totals}
 use Rattle.vs_play.specs.Lines.{PlayWorld, event_played}

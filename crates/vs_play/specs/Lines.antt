@@ -9,11 +9,11 @@ use Rattle.vs_script.specs.{Data.bytes_of, Outside.Outside, Outside.Host}
 use Rattle.vs_script.specs.Outside as outside
 use Rattle.vs_script.specs.Play.{Event}
 use Rattle.vs_script.specs.Play as script
-use Rattle.vs_world.specs.Calls.{GuestCall, ReplyTo}
-use Rattle.vs_world.specs.Calls as call
-use Rattle.vs_world.specs.Plays.{Line, Said, line}
-use Rattle.vs_world.specs.Plays as world
-use Rattle.vs_world.specs.World.{World}
+use Rattle.laws_world.specs.Calls.{GuestCall, ReplyTo}
+use Rattle.laws_world.specs.Calls as call
+use Rattle.laws_world.specs.Plays.{Line, Said, line}
+use Rattle.laws_world.specs.Plays as world
+use Rattle.laws_world.specs.World.{World}
 use Rattle.vs_report.specs.GuestLines.{connect_text, listen_text, unlisten_text, accept_text, send_text, recv_text, shutdown_text}
 use Rattle.vs_report.specs.GuestLines.{close_text, state_text, poll_text}
 use Rattle.vs_report.specs.DeviceLines.{turn_text, reset_text}

@@ -4,13 +4,13 @@ use Rattle.vs_limits.specs.declared.TheConstants.{GUEST_CID_MIN, GUEST_CID_MAX}
 use Rattle.vs_ring_port.specs.Chains.{chains_of}
 use Rattle.vs_ring_list.specs.Ends.{Ends, device_contents, driver_contents, flight_of, staged_of}
 use Rattle.vs_driver_parts.specs.{Playing.IsRingOf, State.DriverState}
-use Rattle.vs_driver_log.specs.Honest.{IsHonest}
+use Rattle.laws_driver.specs.Honest.{IsHonest}
 use Rattle.vs_script.specs.Play.{Event}
 use Rattle.vs_outside.specs.Host.{HostContents}
 use Rattle.vs_device_parts.specs.Playing.{IsItsRing, situation}
 use Rattle.vs_proxy_parts.specs.State.{ProxyState}
-use Rattle.vs_proxy_log.specs.Order.{IsInOrder}
-use Rattle.vs_world.specs.World.{first_cid}
+use Rattle.laws_proxy.specs.Order.{IsInOrder}
+use Rattle.laws_world.specs.World.{first_cid}
 use Rattle.vs_play.specs.{Answer.opened_play, Lines.PlayWorld, Lines.event_played}
 use Rattle.vs_script.specs.Outside as outside
 use Rattle.vs_script.specs.Play as script

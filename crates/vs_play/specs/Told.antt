@@ -9,8 +9,8 @@ use Rattle.vs_ring_list.specs.Ends.{Ends}
 use Rattle.vs_script.specs.Data.{bytes_of}
 use Rattle.vs_script.specs.Play as script
 use Rattle.vs_script.specs.Play.{Event}
-use Rattle.vs_world.specs.Calls as call
-use Rattle.vs_world.specs.{Calls.GuestCall, Calls.ReplyTo, Over.over_both, Over.over_lists, Plays.whole_call}
+use Rattle.laws_world.specs.Calls as call
+use Rattle.laws_world.specs.{Calls.GuestCall, Calls.ReplyTo, Over.over_both, Over.over_lists, Plays.whole_call}
 use Rattle.vs_play.specs.{Lines.reply_text, Ready.IsDriven, Ready.IsServed}
 
 -- A conversation of the driver's over the rings: its answer is printed behind what stood there, and the rings stay the driver's.

@@ -5,7 +5,7 @@ ghost use Rattle.vs_limits.specs.declared.TheConstants.{GUEST_CID_MIN, GUEST_CID
 ghost use Rattle.vs_device_parts.specs.Turns.{table_shown};
 ghost use Rattle.vs_proxy_parts.specs.Turns.{new_proxy, proxy_reset_of, turn_of};
 ghost use Rattle.vs_report.specs.DeviceLines.{reset_text, turn_text};
-ghost use Rattle.vs_world.specs.World.{first_cid, opened_host};
+ghost use Rattle.laws_world.specs.World.{first_cid, opened_host};
 ghost use Rattle.vs_play.specs.{Answer.base_path, Ready.IsServed, Told.Serves};
 
 use std::alloc::{AllocError, Global};

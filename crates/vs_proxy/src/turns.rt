@@ -8,12 +8,12 @@ ghost use Rattle.vs_ring_port.specs.EndLog.{EndLog};
 ghost use Rattle.vs_ring_port.specs.declared.failure.Failure.{Failure};
 ghost use Rattle.vs_device_parts.specs.Playing.{IsItsRing, MayRun, MayRunOnHost, Runs, RunsOnHost, situation};
 ghost use Rattle.vs_device_parts.specs.{Turns.counters_of, Turns.table_shown, State.DeviceEntry};
-ghost use Rattle.vs_device_laws.specs.Streams.{HasStreams};
-ghost use Rattle.vs_device_log.specs.Honest.{AgreesWith, IsLeftOpen};
-ghost use Rattle.vs_proxy_log.specs.{Honest.IsProxyWith, Order.IsInOrder};
+ghost use Rattle.laws_device_streams.specs.Streams.{HasStreams};
+ghost use Rattle.laws_device.specs.Honest.{AgreesWith, IsLeftOpen};
+ghost use Rattle.laws_proxy.specs.{Honest.IsProxyWith, Order.IsInOrder};
 ghost use Rattle.vs_proxy_parts.specs.{Handshakes.streams_of, State.ProxyState, Turning.turning_of};
 ghost use Rattle.vs_proxy_parts.specs.Turns.{close_handshake, proxy_reset_of, turn_of, turned};
-ghost use Rattle.vs_proxy_bytes.specs.{Made.Made, Made.Makes, Packets.AreJudged, Told.AreAccounted, Told.StayAccounted};
+ghost use Rattle.laws_proxy_bytes.specs.{Made.Made, Made.Makes, Packets.AreJudged, Told.AreAccounted, Told.StayAccounted};
 ghost use Rattle.vs_proxy_parts.specs.declared.answers.Turn.TheVariants as turn;
 
 use crate::proxy::Proxy;

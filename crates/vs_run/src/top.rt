@@ -4,9 +4,9 @@ ghost use Rattle.std.specs.Prelude.{◌≡◌, ◌≢◌, ◌<◌, ◌-◌, ◌^
 ghost use Rattle.vs_outside.specs.Faults.{CountsFault};
 ghost use Rattle.vs_peer.specs.{Pieces.Emits, Statuses.NoFault, Statuses.Says, Statuses.is_faultless, Text.read_fault_text};
 ghost use Rattle.vs_play.specs.Answer.{play_of};
-ghost use Rattle.vs_play_laws.specs.Headline.{IsLawful};
+ghost use Rattle.laws_play.specs.Headline.{IsLawful};
 ghost use Rattle.vs_hostile.specs.Answer.{hostile_of};
-ghost use Rattle.vs_hostile_laws.specs.Isolated.{IsSafe};
+ghost use Rattle.laws_hostile.specs.Isolated.{IsSafe};
 ghost use Rattle.vs_report.specs.Gives.{joined};
 ghost use Rattle.vs_script.specs.{Play.Event, Hostile.Hostile as Attack, Script.Attacks, Script.Plays, Script.parse_of};
 ghost use Rattle.vs_script.specs.declared.script.Command.TheVariants as script_of;

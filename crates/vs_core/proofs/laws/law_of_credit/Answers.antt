@@ -1,5 +1,5 @@
 use Rattle.std.proofs.Common.{arith}
-use Rattle.vs_world.proofs.Opening.{run_well}
+use Rattle.laws_world.proofs.Opening.{run_well}
 use Rattle.vs_core.proofs.laws.law_of_credit.Goals as goal
 
 pub returns-clause-broken : goal.returns-clause-broken

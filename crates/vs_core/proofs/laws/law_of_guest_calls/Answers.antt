@@ -1,4 +1,4 @@
-use Rattle.vs_world.proofs.{GuestLines.call_leads, Polls.poll_does}
+use Rattle.laws_world.proofs.{GuestLines.call_leads, Polls.poll_does}
 use Rattle.vs_core.proofs.laws.law_of_guest_calls.Goals as goal
 
 pub returns-clause-call : goal.returns-clause-call

@@ -1,5 +1,5 @@
 use Rattle.vs_page.specs.Log.{Device, Driver}
-use Rattle.vs_world.proofs.Opening.{run_well}
+use Rattle.laws_world.proofs.Opening.{run_well}
 use Rattle.vs_core.proofs.laws.law_of_logs.Goals as goal
 
 pub returns-clause-driver : goal.returns-clause-driver

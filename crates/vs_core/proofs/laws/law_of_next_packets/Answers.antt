@@ -1,12 +1,12 @@
 use Rattle.std.proofs.Common.{◌≡◌, false, subst}
 use Rattle.vs_conn.specs.End.{is_refused, verdict_of}
 use Rattle.vs_limits.specs.declared.TheConstants.{FIRST_PORT, ASSIGNED_FIRST}
-use Rattle.vs_matching.specs.{Both.Both, Steps.HasEnd}
-use Rattle.vs_matching.proofs.{Both.device_has_room, Both.driver_accepts, Voices.device_takes}
+use Rattle.laws_tables.specs.{Both.Both, Steps.HasEnd}
+use Rattle.laws_tables.proofs.{Both.device_has_room, Both.driver_accepts, Voices.device_takes}
 use Rattle.vs_page.specs.{Log.Device, Log.Driver, Log.IsNextPacket, Log.flow_got, Open.is_dropped}
-use Rattle.vs_world.specs.{Events.run, Sides.both_of, World.first_cid, World.opening}
-use Rattle.vs_world.proofs.{DriverSide.end_in, DriverSide.held_in, Entries.host_of, Opening.opening_is, Opening.reached, Opening.run_well}
-use Rattle.vs_world.proofs.Runs.{and_then, stays}
+use Rattle.laws_world.specs.{Events.run, Sides.both_of, World.first_cid, World.opening}
+use Rattle.laws_world.proofs.{DriverSide.end_in, DriverSide.held_in, Entries.host_of, Opening.opening_is, Opening.reached, Opening.run_well}
+use Rattle.laws_world.proofs.Runs.{and_then, stays}
 use Rattle.vs_core.proofs.laws.law_of_next_packets.Goals as goal
 
 pub returns-clause-driver : goal.returns-clause-driver

@@ -2,8 +2,8 @@ use Rattle.std.specs.Prelude.{ℕ, List}
 use Rattle.vs_outside.specs.Host.{HostContents}
 use Rattle.vs_page.specs.Log.{Device, Driver}
 use Rattle.vs_page.proofs.PayloadLogs.{prefix}
-use Rattle.vs_world.specs.{Events.Event, Events.run, Laws.IsQueued, World.opening}
-use Rattle.vs_world.proofs.Played.{run_keeps, opening_queued, device_got, driver_got}
+use Rattle.laws_world.specs.{Events.Event, Events.run, Laws.IsQueued, World.opening}
+use Rattle.laws_world.proofs.Played.{run_keeps, opening_queued, device_got, driver_got}
 use Rattle.vs_core.proofs.laws.law_of_queues.Goals as goal
 
 queued : (n : ℕ) (host : HostContents) (es : List Event) → IsQueued (run es (opening n host)).rings

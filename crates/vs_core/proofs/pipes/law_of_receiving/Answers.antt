@@ -1,6 +1,6 @@
-use Rattle.vs_pipes.proofs.Logs.{prefix_then}
-use Rattle.vs_world.specs.{Events.run, World.opening}
-use Rattle.vs_world.proofs.{Carried.gone_of, Carried.received_is, Carried.to_driver, Carried.unread_of, Opening.run_well}
+use Rattle.laws_bytes.proofs.Logs.{prefix_then}
+use Rattle.laws_world.specs.{Events.run, World.opening}
+use Rattle.laws_world.proofs.{Carried.gone_of, Carried.received_is, Carried.to_driver, Carried.unread_of, Opening.run_well}
 use Rattle.vs_core.proofs.pipes.law_of_receiving.Goals as goal
 
 pub returns-clause-received : goal.returns-clause-received

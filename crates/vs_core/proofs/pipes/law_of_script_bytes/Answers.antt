@@ -1,6 +1,7 @@
 use Rattle.std.proofs.Common.{subst}
-use Rattle.vs_world.specs.{Events.run, World.World, World.opening}
-use Rattle.vs_world.proofs.{Carried.ToGuest, Carried.ToHost, Carried.to_guest, Carried.to_host, Opening.run_well, ScriptLines.opened_leads}
+use Rattle.laws_world.specs.{Events.run, World.World, World.opening}
+use Rattle.laws_world.proofs.{Carried.ToGuest, Carried.ToHost, Carried.to_guest, Carried.to_host, Opening.run_well}
+use Rattle.laws_world.proofs.ScriptLines.{opened_leads}
 use Rattle.vs_core.proofs.pipes.law_of_script_bytes.Goals as goal
 
 pub returns-clause-to_guest : goal.returns-clause-to_guest

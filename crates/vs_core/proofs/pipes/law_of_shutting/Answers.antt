@@ -1,5 +1,5 @@
-use Rattle.vs_world.specs.{Events.run, Pipes.IsFresh, World.opening}
-use Rattle.vs_world.proofs.{Carried.sent_stays, Carried.wrote_stays, Opening.run_goes, Opening.run_well}
+use Rattle.laws_world.specs.{Events.run, Pipes.IsFresh, World.opening}
+use Rattle.laws_world.proofs.{Carried.sent_stays, Carried.wrote_stays, Opening.run_goes, Opening.run_well}
 use Rattle.vs_core.proofs.pipes.law_of_shutting.Goals as goal
 
 pub returns-clause-sent : goal.returns-clause-sent

@@ -1,5 +1,5 @@
-use Rattle.vs_world.specs.{Events.run, World.opening}
-use Rattle.vs_world.proofs.{Opening.run_well, ResetTables.device_emptied, ResetTables.driver_emptied}
+use Rattle.laws_world.specs.{Events.run, World.opening}
+use Rattle.laws_world.proofs.{Opening.run_well, ResetTables.device_emptied, ResetTables.driver_emptied}
 use Rattle.vs_core.proofs.resets.law_of_emptied_tables.Goals as goal
 
 pub returns-clause-device : goal.returns-clause-device

@@ -1,4 +1,4 @@
-use Rattle.vs_world.proofs.DeviceCalls.{events_lead, fills_lead, pumps_lead, takes_lead, ticks_lead}
+use Rattle.laws_world.proofs.DeviceCalls.{events_lead, fills_lead, pumps_lead, takes_lead, ticks_lead}
 use Rattle.vs_core.proofs.scripts.law_of_device_calls.Goals as goal
 
 pub returns-clause-tick : goal.returns-clause-tick

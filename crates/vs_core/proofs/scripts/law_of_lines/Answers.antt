@@ -1,4 +1,4 @@
-use Rattle.vs_world.proofs.ScriptLines.{line_leads, line_rests, line_sends}
+use Rattle.laws_world.proofs.ScriptLines.{line_leads, line_rests, line_sends}
 use Rattle.vs_core.proofs.scripts.law_of_lines.Goals as goal
 
 pub returns-clause-events : goal.returns-clause-events

@@ -1,4 +1,4 @@
-use Rattle.vs_world.proofs.TurnLines.{turn_leads}
+use Rattle.laws_world.proofs.TurnLines.{turn_leads}
 use Rattle.vs_core.proofs.scripts.law_of_turns.Goals as goal
 
 pub returns : goal.returns

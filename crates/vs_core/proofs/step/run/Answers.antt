@@ -1,5 +1,5 @@
 use Rattle.std.proofs.Common.{rules}
-use Rattle.vs_world.specs.World.{opened_host, opening}
+use Rattle.laws_world.specs.World.{opened_host, opening}
 use Rattle.vs_core.proofs.Running.{led_last, led_next}
 use Rattle.vs_core.proofs.step.run.Goals as goal
 

@@ -1,4 +1,4 @@
-use Rattle.vs_world.specs.World.{opened_host, opening}
+use Rattle.laws_world.specs.World.{opened_host, opening}
 use Rattle.vs_core.specs.Ready.{IsReady}
 use Rattle.vs_core.proofs.Running.{IsLed}
 use Rattle.vs_core.proofs.step.run.Given as goal

@@ -3,9 +3,9 @@ use Rattle.vs_ring_port.specs.{Counts.no_counts, EndLog.EndLog, EndLog.empty_log
 use Rattle.vs_ring_list.specs.Ends.{Ends, driver_contents, empty_ends, flight_of, staged_of}
 use Rattle.vs_driver_parts.specs.{Conversations.new_of, Playing.Plays, State.DriverState}
 use Rattle.vs_limits.specs.declared.TheConstants.{FIRST_PORT}
-use Rattle.vs_driver_log.specs.Honest.{IsFresh, IsHonestWith}
-use Rattle.vs_world.proofs.OverLists.{over}
-use Rattle.vs_world.specs.Over.{over_lists}
+use Rattle.laws_driver.specs.Honest.{IsFresh, IsHonestWith}
+use Rattle.laws_world.proofs.OverLists.{over}
+use Rattle.laws_world.specs.Over.{over_lists}
 use Rattle.vs_core.proofs.{Driven.rested, Opened.cid_of}
 use Rattle.vs_core.proofs.world.guest_end.Goals as goal
 

@@ -3,7 +3,7 @@ use Rattle.vs_ring_port.specs.declared.queue.Queue.TheVariants.{Event, Rx}
 use Rattle.vs_device_parts.specs.{Playing.situation, State.DeviceState, Steps.puts_event}
 use Rattle.vs_device.proofs.Stepping.{event_put, may_put_event, no_event_put, returned_among}
 use Rattle.vs_device.proofs.Ordered.{ring_step_streams}
-use Rattle.vs_device_laws.proofs.Stepping.{puts_event_keeps}
+use Rattle.laws_device_streams.proofs.Stepping.{puts_event_keeps}
 use Rattle.vs_device.proofs.steps.put_event.Goals as goal
 
 pub put_event-requires-clause-may : goal.put_event-requires-clause-may

@@ -3,7 +3,7 @@ use Rattle.vs_device_parts.specs.{Filling.filling_of, Playing.MayRun, Playing.Ru
 use Rattle.vs_device_parts.specs.{Receiving.Filling, Receiving.put_owed, State.DeviceState, Steps.puts_owed}
 use Rattle.vs_device_parts.specs.declared.fill.Fill.{Fill}
 use Rattle.vs_device.proofs.{Stepping.may_put_owed, Stepping.no_owed_stepped, Stepping.owed_stepped, Ordered.step_streams}
-use Rattle.vs_device_laws.proofs.Stepping.{puts_owed_keeps}
+use Rattle.laws_device_streams.proofs.Stepping.{puts_owed_keeps}
 use Rattle.vs_device.proofs.steps.put_owed.Goals as goal
 
 pub put_owed-requires-clause-may : goal.put_owed-requires-clause-may

@@ -11,7 +11,7 @@ use Rattle.vs_device_parts.proofs.Under.{value_of}
 use Rattle.vs_device.proofs.Among.{same_among}
 use Rattle.vs_device.proofs.Reading.{IsToRead, if_some, may_step_read, read_stepped, reads_stream, same_entry, step_not_read}
 use Rattle.vs_device.proofs.Ordered.{step_streams}
-use Rattle.vs_device_laws.proofs.Stepping.{puts_payload_keeps}
+use Rattle.laws_device_streams.proofs.Stepping.{puts_payload_keeps}
 use Rattle.vs_device.proofs.steps.put_payload.Goals as goal
 
 pub read_with_chain-requires-clause-ring : goal.read_with_chain-requires-clause-ring

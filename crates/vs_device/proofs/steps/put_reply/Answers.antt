@@ -3,7 +3,7 @@ use Rattle.vs_device_parts.specs.{Filling.filling_of, Playing.MayRun, Playing.Ru
 use Rattle.vs_device_parts.specs.{Receiving.Filling, Receiving.put_reply, State.DeviceState, Steps.puts_reply}
 use Rattle.vs_device_parts.specs.declared.fill.Fill.{Fill}
 use Rattle.vs_device.proofs.{Stepping.may_put_reply, Stepping.no_reply_stepped, Stepping.reply_stepped, Ordered.ring_step_streams}
-use Rattle.vs_device_laws.proofs.Stepping.{puts_reply_keeps}
+use Rattle.laws_device_streams.proofs.Stepping.{puts_reply_keeps}
 use Rattle.vs_device.proofs.steps.put_reply.Goals as goal
 
 pub put_reply-requires-clause-may : goal.put_reply-requires-clause-may

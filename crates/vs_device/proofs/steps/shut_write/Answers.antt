@@ -1,6 +1,6 @@
 use Rattle.vs_device_parts.specs.{Playing.situation, Written.writing, Steps.shuts_write}
 use Rattle.vs_device.proofs.{Stepping.shut_stepped, Ordered.host_step_streams}
-use Rattle.vs_device_laws.proofs.Stepping.{shuts_keeps}
+use Rattle.laws_device_streams.proofs.Stepping.{shuts_keeps}
 use Rattle.vs_device.proofs.steps.shut_write.Goals as goal
 
 pub returns-clause-calls : goal.returns-clause-calls

@@ -5,7 +5,7 @@ use Rattle.vs_device_parts.specs.Steps.{chain_came, takes_chain}
 use Rattle.vs_limits.specs.declared.TheConstants.{DEVICE_REPLIES}
 use Rattle.vs_device.proofs.Stepping.{by_came, came, may_be_heard, may_come, taken_among, takes_none, was_heard}
 use Rattle.vs_device.proofs.Ordered.{step_streams}
-use Rattle.vs_device_laws.proofs.Stepping.{takes_keeps}
+use Rattle.laws_device_streams.proofs.Stepping.{takes_keeps}
 use Rattle.vs_ring_port.specs.declared.device_ring.Next.TheVariants as next
 use Rattle.vs_device.proofs.steps.take_packet.Goals as goal
 

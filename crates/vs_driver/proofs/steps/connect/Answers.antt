@@ -1,6 +1,6 @@
 use Rattle.std.proofs.Common.{◌≡◌, ◌<◌, ◌^◌, None, rules}
 use Rattle.vs_driver_parts.specs.{Connections.connect_refusal, Steps.connects}
-use Rattle.vs_driver_log.proofs.{Keeping.keeps_end, Keeping.keeps_may, Stepping.connects_keeps}
+use Rattle.laws_driver.proofs.{Keeping.keeps_end, Keeping.keeps_may, Stepping.connects_keeps}
 use Rattle.vs_driver.proofs.Stepping.{connect_stepped, may_step_connect}
 use Rattle.vs_driver.proofs.steps.connect.Goals as goal
 

@@ -5,7 +5,7 @@ use Rattle.vs_conn.specs.End.{CanSend}
 use Rattle.vs_driver_parts.specs.{State.DriverEntry, State.DriverState, Playing.CanMake, Playing.MayPublishAll, Playing.RingAllows}
 use Rattle.vs_driver_parts.specs.{Conversations.send_with_page, Steps.sends}
 use Rattle.vs_driver_parts.proofs.Known.{some_inj}
-use Rattle.vs_driver_log.proofs.{Keeping.keeps_end, Keeping.keeps_may, Stepping.sends_keeps}
+use Rattle.laws_driver.proofs.{Keeping.keeps_end, Keeping.keeps_may, Stepping.sends_keeps}
 use Rattle.vs_driver.proofs.RingPages.{ring_same}
 use Rattle.vs_driver.proofs.Sending.{IsReady, can_send, found_ready, ready_goes, step_sends, step_stops}
 use Rattle.vs_driver.proofs.steps.send.Goals as goal

@@ -1,7 +1,7 @@
 use Rattle.std.proofs.Common.{sym, subst}
 use Rattle.vs_driver_parts.specs.{Conversations.put_owed, Conversations.round_of, Playing.MayPublishAll, Playing.Plays, Steps.stages_owed}
 use Rattle.vs_driver_parts.specs.declared.tally.Tally.{Tally}
-use Rattle.vs_driver_log.proofs.{Keeping.keeps_end, Keeping.keeps_may, Stepping.owed_keeps}
+use Rattle.laws_driver.proofs.{Keeping.keeps_end, Keeping.keeps_may, Stepping.owed_keeps}
 use Rattle.vs_driver.proofs.Stepping.{may_step_owed, owed_stepped}
 use Rattle.vs_driver.proofs.steps.stage_owed.Goals as goal
 

@@ -1,7 +1,7 @@
 use Rattle.std.proofs.Common.{sym, subst}
 use Rattle.vs_driver_parts.specs.{Conversations.put_reply, Conversations.round_of, Playing.MayPublishAll, Playing.Plays, Steps.stages_reply}
 use Rattle.vs_driver_parts.specs.declared.tally.Tally.{Tally}
-use Rattle.vs_driver_log.proofs.{Keeping.keeps_end, Keeping.keeps_may, Stepping.reply_keeps}
+use Rattle.laws_driver.proofs.{Keeping.keeps_end, Keeping.keeps_may, Stepping.reply_keeps}
 use Rattle.vs_driver.proofs.Stepping.{may_step_reply, reply_stepped}
 use Rattle.vs_driver.proofs.steps.stage_reply.Goals as goal
 

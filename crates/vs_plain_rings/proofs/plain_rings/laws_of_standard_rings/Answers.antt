@@ -1,6 +1,6 @@
 use Rattle.std.proofs.Common.{subst}
 use Rattle.vs_ring_list.proofs.Ties.{device_got, driver_got}
-use Rattle.vs_plain_ties.specs.{Exposed.BothEnds, Tie.IsTiedTo}
+use Rattle.laws_plain_rings.specs.{Exposed.BothEnds, Tie.IsTiedTo}
 use Rattle.vs_plain_rings.proofs.{Counted.are_counted, Rings.of_ends}
 use Rattle.vs_plain_rings.proofs.plain_rings.laws_of_standard_rings.Goals as goal
 

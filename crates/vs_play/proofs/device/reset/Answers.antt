@@ -1,6 +1,6 @@
 use Rattle.std.proofs.lemmas.Result.{on_ok_weaker}
 use Rattle.vs_proxy_parts.specs.Turns.{proxy_reset_of}
-use Rattle.vs_world.specs.World.{first_cid}
+use Rattle.laws_world.specs.World.{first_cid}
 use Rattle.vs_play.proofs.{Devices.reset_served, OverRings.its_ring, OverRings.order_as, OverRings.ring_is, OverRings.runs_as}
 use Rattle.vs_play.proofs.device.reset.Goals as goal
 

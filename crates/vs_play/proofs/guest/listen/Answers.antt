@@ -1,6 +1,6 @@
 use Rattle.std.proofs.lemmas.Result.{on_ok_weaker}
-use Rattle.vs_world.specs.Calls as call
-use Rattle.vs_world.proofs.SamePages.{listen_stays}
+use Rattle.laws_world.specs.Calls as call
+use Rattle.laws_world.proofs.SamePages.{listen_stays}
 use Rattle.vs_play.proofs.Driven.{driven_stays, listen_made, replies}
 use Rattle.vs_play.proofs.guest.listen.Goals as goal
 

@@ -3,8 +3,8 @@ use Rattle.vs_ring_port.specs.{Counts.no_counts, EndLog.EndLog, EndLog.empty_log
 use Rattle.vs_ring_list.specs.Ends.{driver_contents, empty_ends, flight_of, staged_of}
 use Rattle.vs_driver_parts.specs.Conversations.{new_of}
 use Rattle.vs_limits.specs.declared.TheConstants.{FIRST_PORT}
-use Rattle.vs_driver_log.specs.Honest.{IsFresh}
-use Rattle.vs_world.specs.Over.{over_lists}
+use Rattle.laws_driver.specs.Honest.{IsFresh}
+use Rattle.laws_world.specs.Over.{over_lists}
 use Rattle.vs_play.proofs.OverRings.{driven_as, played_as}
 use Rattle.vs_play.proofs.guest.new.Goals as goal
 

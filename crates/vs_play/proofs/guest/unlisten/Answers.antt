@@ -1,5 +1,5 @@
 use Rattle.std.proofs.lemmas.Result.{on_ok_weaker}
-use Rattle.vs_world.specs.Calls as call
+use Rattle.laws_world.specs.Calls as call
 use Rattle.vs_play.proofs.Driven.{replies}
 use Rattle.vs_play.proofs.guest.unlisten.Goals as goal
 

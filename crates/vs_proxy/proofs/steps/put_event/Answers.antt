@@ -1,5 +1,5 @@
 use Rattle.std.proofs.Common.{sym, subst}
-use Rattle.vs_device_laws.specs.Streams.{HasStreams}
+use Rattle.laws_device_streams.specs.Streams.{HasStreams}
 use Rattle.vs_proxy_parts.specs.State.{ProxyState}
 use Rattle.vs_proxy.proofs.steps.put_event.Goals as goal
 

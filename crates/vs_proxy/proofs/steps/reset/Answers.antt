@@ -1,5 +1,5 @@
 use Rattle.vs_device_parts.specs.Playing.{situation}
-use Rattle.vs_proxy_log.proofs.Ordered.{reset_streams}
+use Rattle.laws_proxy.proofs.Ordered.{reset_streams}
 use Rattle.vs_proxy.proofs.steps.reset.Goals as goal
 
 pub returns-clause-streams : goal.returns-clause-streams

@@ -1,6 +1,6 @@
 use Rattle.std.proofs.Common.{sym, subst}
 use Rattle.std.specs.Option.{ForSome}
-use Rattle.vs_device_laws.specs.Streams.{HasStreams}
+use Rattle.laws_device_streams.specs.Streams.{HasStreams}
 use Rattle.vs_proxy_parts.specs.State.{ProxyState}
 use Rattle.vs_proxy.proofs.steps.take_packet.Goals as goal
 

@@ -2,8 +2,8 @@ use Rattle.std.proofs.Common.{map, string_bytes}
 use Rattle.vs_words.specs.Command.{command_of}
 use Rattle.vs_run.specs.Does.{lent}
 use Rattle.vs_run.proofs.{Causes.attack_written, Causes.no_script_at_2, Causes.play_written, Statuses.cause_at, Statuses.is_known}
-use Rattle.vs_hostile_laws.proofs.Safe.{each_safe}
-use Rattle.vs_play_laws.proofs.Lawful.{each_script}
+use Rattle.laws_hostile.proofs.Safe.{each_safe}
+use Rattle.laws_play.proofs.Lawful.{each_script}
 use Rattle.vs_run.proofs.top.vsock_main.Goals as goal
 
 pub returns-clause-plays : goal.returns-clause-plays

@@ -5,8 +5,8 @@ use Rattle.vs_ring_port.specs.Chains.{Held, same_queue}
 use Rattle.vs_ring_port.specs.declared.device_ring.Chain.{Chain}
 use Rattle.vs_ring_port.specs.declared.queue.Queue.TheVariants.{Event}
 use Rattle.vs_device_parts.specs.Steps.{puts_event}
-use Rattle.vs_world.specs.{Events.DevicePutsEvent, Pages.is_held}
-use Rattle.vs_world.proofs.OverBoth.{IsPlayed}
+use Rattle.laws_world.specs.{Events.DevicePutsEvent, Pages.is_held}
+use Rattle.laws_world.proofs.OverBoth.{IsPlayed}
 use Rattle.vs_core.specs.Ready.{IsReady}
 use Rattle.vs_core.proofs.DeviceHappening.{chain_did, held_of_queue, of_queue, same_held}
 use Rattle.vs_core.proofs.{MayNow.event_now, Returning.event_some, Stepped.run_played}

@@ -2,8 +2,8 @@ use Rattle.std.proofs.Common.{Some, refl, sym, subst}
 use Rattle.std.proofs.lemmas.Result.{on_ok_weaker}
 use Rattle.vs_ring_port.specs.declared.queue.Queue.TheVariants.{Tx}
 use Rattle.vs_device_parts.specs.Steps as steps
-use Rattle.vs_world.specs.Events.{DeviceReturns}
-use Rattle.vs_world.proofs.OverBoth.{IsPlayed}
+use Rattle.laws_world.specs.Events.{DeviceReturns}
+use Rattle.laws_world.proofs.OverBoth.{IsPlayed}
 use Rattle.vs_core.specs.Ready.{IsReady}
 use Rattle.vs_core.proofs.DeviceHappening.{chain_did, held_of_queue, of_queue, same_held}
 use Rattle.vs_core.proofs.Stepped.{returned_played}

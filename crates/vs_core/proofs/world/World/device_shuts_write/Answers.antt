@@ -2,7 +2,7 @@ use Rattle.std.proofs.Common.{refl, sym, subst}
 use Rattle.std.proofs.lemmas.Result.{on_ok_weaker}
 use Rattle.vs_ring_list.specs.Ends.{device_contents}
 use Rattle.vs_device_parts.specs.Steps.{shuts_write}
-use Rattle.vs_world.specs.Events.{DeviceShutsWrite}
+use Rattle.laws_world.specs.Events.{DeviceShutsWrite}
 use Rattle.vs_core.specs.Ready.{IsReady}
 use Rattle.vs_core.proofs.{DeviceHappening.device_did, MayNow.shut_now, Returning.shuts_some, Stepped.run_played, Stepped.still_among}
 use Rattle.vs_core.proofs.world.World.device_shuts_write.Goals as goal

@@ -1,6 +1,6 @@
 use Rattle.std.proofs.Common.{◌≡◌, ap, refl, subst, sym, true}
-use Rattle.vs_world.specs.Calls as call
-use Rattle.vs_world.specs.Events.{is_at_rest}
+use Rattle.laws_world.specs.Calls as call
+use Rattle.laws_world.specs.Events.{is_at_rest}
 use Rattle.vs_core.specs.Ready.{IsReady, WorldState}
 use Rattle.vs_core.specs.declared.event.Reply.TheVariants as reply
 use Rattle.vs_core.proofs.Happening.{calls}

@@ -19,7 +19,7 @@ use Rattle.vs_device.proofs.Leaving.{changed, may_close}
 use Rattle.vs_device.proofs.Reading.{answered, may_ask, may_answered, if_some, at_some, same_read, fits}
 use Rattle.vs_device.proofs.Among.{held_one}
 use Rattle.vs_device_parts.proofs.Under.{has_slot, value_of, under}
-use Rattle.vs_device_log.proofs.Filling.{can_send}
+use Rattle.laws_device.proofs.Filling.{can_send}
 use Rattle.vs_device.proofs.device.Device.read_with_chain.Goals as goal
 
 pub read_into-requires-clause-open : goal.read_into-requires-clause-open

@@ -1,6 +1,6 @@
 use Rattle.std.proofs.Common.{◌≡◌, None, ◌<◌, ◌^◌, rules}
 use Rattle.vs_driver_parts.specs.Connections.{connect_refusal}
-use Rattle.vs_driver_log.proofs.Calls.{connect_honest, connect_may}
+use Rattle.laws_driver.proofs.Calls.{connect_honest, connect_may}
 use Rattle.vs_driver.proofs.Connecting.{may_connect_page, connect_reaped}
 use Rattle.vs_driver.proofs.driver.Driver.connect.Goals as goal
 

@@ -4,7 +4,7 @@ use Rattle.vs_contents.proofs.{Leads.leads_bind, Conditions.may_first, Condition
 use Rattle.vs_driver_parts.specs.{State.DriverState, Playing.CanMake, Playing.MayPublishAll, Playing.Plays, Playing.RingAllows}
 use Rattle.vs_driver_parts.specs.Conversations.{new_state, post_all, post_events, load_cid}
 use Rattle.vs_driver.specs.contracts.driver.Driver.{the_view}
-use Rattle.vs_driver_log.proofs.Calls.{new_honest, new_may}
+use Rattle.laws_driver.proofs.Calls.{new_honest, new_may}
 use Rattle.vs_driver.proofs.driver.Driver.new_at.Goals as goal
 
 pub post_all-requires-clause-may : goal.post_all-requires-clause-may

@@ -7,7 +7,7 @@ use Rattle.vs_driver_parts.proofs.Ids.{value_of, has_slot}
 use Rattle.vs_driver_parts.proofs.Packets.{with_its, under_changed, refused, over, stays}
 use Rattle.vs_conn.specs.End.{verdict_of, is_refused}
 use Rattle.vs_conn.specs.declared.end.Verdict.{Verdict}
-use Rattle.vs_history.specs.declared.packet.Packet.{Packet}
+use Rattle.laws_history.specs.declared.packet.Packet.{Packet}
 use Rattle.vs_driver.proofs.driver.Driver.on_known.Goals as goal
 
 pub returns-then-is_refused-clause-state : goal.returns-then-is_refused-clause-state

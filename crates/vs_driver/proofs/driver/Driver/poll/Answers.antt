@@ -5,7 +5,7 @@ use Rattle.vs_driver_parts.specs.{State.DriverState, Playing.CanMake, Playing.Ri
 use Rattle.vs_driver_parts.specs.Conversations.{reap_all, Round, round_of, take_all, take_event, take_packet, poll_packets, poll_reaps}
 use Rattle.vs_driver_parts.specs.Conversations.{poll_puts, polled, put_all}
 use Rattle.vs_driver_parts.specs.declared.answers.Polled.{Polled}
-use Rattle.vs_driver_log.proofs.Calls.{poll_honest, poll_may}
+use Rattle.laws_driver.proofs.Calls.{poll_honest, poll_may}
 use Rattle.vs_driver.proofs.driver.Driver.poll.Goals as goal
 
 pub take_events-events-requires-clause-may : goal.take_events-events-requires-clause-may

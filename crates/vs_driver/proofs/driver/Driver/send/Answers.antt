@@ -5,7 +5,7 @@ use Rattle.vs_conn.specs.End.{CanSend}
 use Rattle.vs_driver_parts.specs.{State.DriverEntry, State.DriverState, Playing.MayPublishAll, Playing.Plays, Playing.RingAllows}
 use Rattle.vs_driver_parts.specs.Conversations.{send_of, send_with_page, reap_all}
 use Rattle.vs_driver_parts.proofs.Known.{some_inj}
-use Rattle.vs_driver_log.proofs.Calls.{send_honest, send_may}
+use Rattle.laws_driver.proofs.Calls.{send_honest, send_may}
 use Rattle.vs_driver.specs.Outcomes.{Sends}
 use Rattle.vs_driver.proofs.{Ending.send_ends, Pipes.send_leaves, RingPages.ring_same}
 use Rattle.vs_driver.proofs.Sending.{IsReady, can_send, found_ready, may_after_reaping, ready_goes, send_stops, sent_whole}

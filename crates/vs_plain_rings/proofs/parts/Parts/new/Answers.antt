@@ -1,7 +1,7 @@
 use Rattle.std.proofs.Common.{◌≡◌, ◌*◌, ◌∙◌, ◌≤◌, refl, ap, length, arith}
 use Rattle.vs_layout.specs.Layout.{queue_areas_of}
 use Rattle.vs_ring_plain.specs.Device.{DeviceState}
-use Rattle.vs_plain_ties.specs.Parts.{new_queue, pages_behind, pages_start}
+use Rattle.laws_plain_rings.specs.Parts.{new_queue, pages_behind, pages_start}
 use Rattle.vs_plain_rings.proofs.Making.{made, order_new}
 use Rattle.vs_plain_rings.proofs.parts.Parts.new.Goals as goal
 

@@ -1,7 +1,7 @@
 use Rattle.std.proofs.Common.{arith}
 use Rattle.vs_device_parts.specs.Playing.{situation}
-use Rattle.vs_proxy_log.proofs.Ordered.{reset_honest, reset_may, reset_streams}
-use Rattle.vs_proxy_bytes.proofs.Turning.{reset_accounted}
+use Rattle.laws_proxy.proofs.Ordered.{reset_honest, reset_may, reset_streams}
+use Rattle.laws_proxy_bytes.proofs.Turning.{reset_accounted}
 use Rattle.vs_proxy.proofs.proxy.Proxy.reset.Goals as goal
 
 pub reset_all-requires-clause-may : goal.reset_all-requires-clause-may

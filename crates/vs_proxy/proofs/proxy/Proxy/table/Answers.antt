@@ -1,6 +1,6 @@
 use Rattle.std.proofs.Common.{subst}
 use Rattle.vs_proxy_parts.specs.State.{ProxyState}
-use Rattle.vs_device_log.specs.Honest.{AgreesWith, IsLeftOpen}
+use Rattle.laws_device.specs.Honest.{AgreesWith, IsLeftOpen}
 use Rattle.vs_proxy.proofs.proxy.Proxy.table.Goals as goal
 
 pub returns-clause-open : goal.returns-clause-open

@@ -1,0 +1,277 @@
+-- What the host's streams took and gave, through the calls of the proxy and of the host's programs.
+use Rattle.std.proofs.Common.{◌≡◌, ◌≢◌, ℕ, zero, suc, ◌-◌, ◌==◌, Bool, true, false, cond, List, [], ◌∷◌, ◌++◌, take, get_or, slice_get}
+use Rattle.std.proofs.Common.{Contains, Option, Some, None, refl, sym, ap, subst, ◌∙◌, arith}
+use Rattle.std.specs.Option.{option_map, option_map_or}
+use Rattle.vs_outside.specs.HostBytes.{after_line}
+use Rattle.vs_outside.specs.Host.{HostContents, Stream, accept_answer, after_accept, after_close, after_read, after_write, called}
+use Rattle.vs_outside.specs.Host.{give_bytes, next_bytes, stream_at, take_bytes, waits}
+use Rattle.vs_outside.specs.HostProgram.{after_client, client_stream}
+use Rattle.std.proofs.lemmas.Bool.Decides.{nat_tests}
+use Rattle.std.proofs.lemmas.List.{append-nil}
+use Rattle.std.proofs.lemmas.List.{Elements.All-push, Quantifiers.all_pairs_push}
+use Rattle.vs_conn.specs.declared.end.State.TheVariants.{Asked}
+use Rattle.vs_device_parts.specs.State.{DeviceConnection, DeviceEntry}
+use Rattle.vs_flow.specs.Table.{IsTable, Table, with_value}
+use Rattle.vs_flow.specs.declared.flow.Flow.{Flow}
+use Rattle.vs_outside.specs.declared.host_net.Accepted.TheVariants as accepted
+use Rattle.vs_outside.specs.declared.host_net.StreamRead.TheVariants as read
+use Rattle.vs_outside.specs.declared.host_net.StreamState.TheVariants as state
+use Rattle.vs_outside.specs.declared.host_net.StreamWrite.TheVariants as write
+use Rattle.vs_outside.proofs.Frames.{accepts_waiting}
+use Rattle.vs_page.specs.Log.{Device, Log}
+use Rattle.vs_proxy_parts.specs.State.{Handshake}
+use Rattle.vs_uds.specs.Reading.{is_decided}
+use Rattle.vs_uds.specs.declared.connect.TheConstants.{CONNECT_MAX}
+use Rattle.laws_bytes.specs.Drains.{Drains, got_on, has_passed, put_on}
+use Rattle.laws_bytes.specs.Streamed.{AreStreamed, IsJoined, IsStreamed, Seen, client_waits, gives, has_line, line_for, look, reading, seen}
+use Rattle.laws_bytes.specs.Streamed.{taken_of}
+use Rattle.laws_bytes.proofs.{Hosts.changed_seen, Hosts.others_seen, Hosts.there, Hosts.unseen_none, Lines.after_longer}
+use Rattle.laws_bytes.proofs.Logs.{none_on_any, only_on}
+use Rattle.laws_bytes.proofs.Streamed.{join_of, moved_streamed, same_streamed, unlabelled_streamed}
+
+-- Another host, whose streams look the same.
+pub same_host : (c d : HostContents) (log : Log) (port : ℕ) (t : Table DeviceConnection) (hands : List Handshake) → ((j : ℕ) → look c j ≡ look d j)
+    → d.labelled ≡ c.labelled → IsStreamed c log port t hands → IsStreamed d log port t hands
+same_host c d log port t hands same labelled x =
+    subst (λ (ids : List ℕ). AreStreamed (look d) ids log port t hands) (sym labelled)
+    (same_streamed (look c) (look d) c.labelled log log port same (λ f. refl) (λ f. refl) (λ f is. is) t hands x)
+
+pub some_seen : (s t : Seen) → ◌≡◌ {A = Option Seen} (Some s) (Some t) → s ≡ t
+some_seen s t is = cc
+
+-- CLOSE: a client that waits does so no more.
+closed_by : (st : Stream) → waits st.state ≡ false → seen (record st { state = state.Closed }) ≡ seen st
+closed_by st is = ap (λ (w : Bool). let s : Seen = record { label = st.label; by_client = st.by_client; waiting = w; taken = st.taken; given = st.given } in s) (sym is)
+
+module _ (id : ℕ) (c : HostContents) (log : Log) (port : ℕ) (t : Table DeviceConnection) (hands : List Handshake) (x : IsStreamed c log port t hands) where
+  abbrev shut : HostContents
+  shut = after_close id c
+
+  there_or_not : (o : Option Stream) → stream_at id c ≡ o → IsStreamed shut log port t hands
+  there_or_not None none = same_host c shut log port t hands (unseen_none id (λ s. record s { state = state.Closed }) c none) refl x
+  there_or_not (Some st) at = by (waits st.state) refl
+    where
+      by : (b : Bool) → waits st.state ≡ b → IsStreamed shut log port t hands
+      by false stays = same_host c shut log port t hands (λ j. one j (j == id) refl) refl x
+        where
+          one : (j : ℕ) (b : Bool) → (j == id) ≡ b → look c j ≡ look shut j
+          one j true is =
+              let place : j ≡ id = grind (arith, nat_tests, is) in
+              ap (look c) place ∙ ap (option_map seen) at ∙ ap (λ (s : Seen). Some s) (sym (closed_by st stays))
+              ∙ sym (changed_seen id (λ s. record s { state = state.Closed }) c st at) ∙ ap (look shut) (sym place)
+          one j false other = others_seen id (λ s. record s { state = state.Closed }) c j (grind (arith, nat_tests, other))
+      by true waited =
+          let was : seen st ≡ client_waits = x.waiting id (seen st) (ap (option_map seen) at) waited in
+          unlabelled_streamed (look c) (look shut) c.labelled log port t hands hands x (λ j u seen_now. back j u was seen_now (j == id) refl)
+          (λ j u f seen_then on. sym (others_seen id (λ s. record s { state = state.Closed }) c j (λ same. labelled_apart u f was on (ap (look c) (sym same) ∙ seen_then))) ∙ seen_then)
+          (record {
+            read = λ i h within. sym (others_seen id (λ s. record s { state = state.Closed }) c (get_or hands i h).stream
+                (λ same. read_apart (get_or hands i h) was (ap (look c) (sym same) ∙ x.lines.read i h within))) ∙ x.lines.read i h within;
+            undecided = x.lines.undecided;
+            apart = x.lines.apart;
+          })
+        where
+          now_closed : look shut id ≡ Some (seen (record st { state = state.Closed }))
+          now_closed = changed_seen id (λ s. record s { state = state.Closed }) c st at
+
+          labelled_apart : (u : Seen) (f : Flow) → seen st ≡ client_waits → u.label ≡ Some f → look c id ≡ Some u → ⊥
+          labelled_apart u f was on seen_then =
+              let one : seen st ≡ u = some_seen (seen st) u (sym (ap (option_map seen) at) ∙ seen_then) in
+              let label : None ≡ Some f = sym (ap (λ (s : Seen). s.label) was) ∙ ap (λ (s : Seen). s.label) one ∙ on in
+              absurd cc
+
+          read_apart : (h : Handshake) → seen st ≡ client_waits → look c id ≡ Some (reading h.line) → ⊥
+          read_apart h was seen_then =
+              let one : seen st ≡ reading h.line = some_seen (seen st) (reading h.line) (sym (ap (option_map seen) at) ∙ seen_then) in
+              let both : true ≡ false = sym (ap (λ (s : Seen). s.waiting) was) ∙ ap (λ (s : Seen). s.waiting) one in
+              absurd cc
+
+          back : (j : ℕ) (u : Seen) → seen st ≡ client_waits → look shut j ≡ Some u → (b : Bool) → (j == id) ≡ b
+              → (b : Bool) × (b ≡ true → look c j ≡ Some u) × (b ≡ false → (u.label ≡ None) × (u.waiting ≡ true → u ≡ client_waits))
+          back j u was seen_now true is =
+              let place : j ≡ id = grind (arith, nat_tests, is) in
+              let one : seen (record st { state = state.Closed }) ≡ u =
+              some_seen (seen (record st { state = state.Closed })) u (sym now_closed ∙ ap (look shut) (sym place) ∙ seen_now) in (
+                false,
+                (λ no. absurd cc),
+                λ ok. (
+                  sym (ap (λ (s : Seen). s.label) one) ∙ ap (λ (s : Seen). s.label) was,
+                  λ waits. let both : false ≡ true = ap (λ (s : Seen). s.waiting) one ∙ waits in absurd cc,
+                ),
+              )
+          back j u was seen_now false other = (true, (λ ok. others_seen id (λ s. record s { state = state.Closed }) c j (grind (arith, nat_tests, other)) ∙ seen_now), λ no. absurd cc)
+
+  pub closed_host : IsStreamed shut log port t hands
+  closed_host = there_or_not (stream_at id c) refl
+
+-- A client connects.
+get_push : (xs : List Stream) (y : Stream) (k : ℕ) (u : Stream) → slice_get (xs ++ y ∷ []) k ≡ Some u
+    → (b : Bool) × (b ≡ true → slice_get xs k ≡ Some u) × (b ≡ false → (u ≡ y) × (slice_get xs k ≡ None))
+get_push [] y zero u is = (false, (λ no. absurd cc), λ ok. (cc, refl))
+get_push [] y (suc k) u is = absurd cc
+get_push (x ∷ xs) y zero u is = (true, (λ ok. is), λ no. absurd cc)
+get_push (x ∷ xs) y (suc k) u is = get_push xs y k u is
+
+kept_push : (xs : List Stream) (y : Stream) (k : ℕ) (u : Stream) → slice_get xs k ≡ Some u → slice_get (xs ++ y ∷ []) k ≡ Some u
+kept_push [] y k u is = absurd cc
+kept_push (x ∷ xs) y zero u is = is
+kept_push (x ∷ xs) y (suc k) u is = kept_push xs y k u is
+
+-- One stream more: which it is, and that the others stay.
+pub more_back : (y : Stream) (c : HostContents) (j : ℕ) (u : Seen) → look (record c { streams = c.streams ++ y ∷ [] }) j ≡ Some u
+    → (b : Bool) × (b ≡ true → look c j ≡ Some u) × (b ≡ false → (u ≡ seen y) × (look c j ≡ None))
+more_back y c j u is = by (j == 0) refl (there j (record c { streams = c.streams ++ y ∷ [] }) u is).stream
+    (there j (record c { streams = c.streams ++ y ∷ [] }) u is).at (there j (record c { streams = c.streams ++ y ∷ [] }) u is).is
+  where
+    by : (b : Bool) → (j == 0) ≡ b → (st : Stream) → cond (j == 0) None (slice_get (c.streams ++ y ∷ []) (j - 1)) ≡ Some st → seen st ≡ u
+        → (b : Bool) × (b ≡ true → look c j ≡ Some u) × (b ≡ false → (u ≡ seen y) × (look c j ≡ None))
+    by true zero_id st at one = let gone : None ≡ Some st = ap (λ (d : Bool). cond d None (slice_get (c.streams ++ y ∷ []) (j - 1))) (sym zero_id) ∙ at in absurd cc
+    by false other st at one =
+        let placed : slice_get (c.streams ++ y ∷ []) (j - 1) ≡ Some st = ap (λ (d : Bool). cond d None (slice_get (c.streams ++ y ∷ []) (j - 1))) (sym other) ∙ at in
+        let g = get_push c.streams y (j - 1) st placed in (
+          g.0,
+          (λ old. ap (λ (d : Bool). option_map seen (cond d None (slice_get c.streams (j - 1)))) other ∙ ap (option_map seen) (g.1 old) ∙ ap (λ (s : Seen). Some s) one),
+          λ new. (
+            sym one ∙ ap seen (g.2 new).0,
+            ap (λ (d : Bool). option_map seen (cond d None (slice_get c.streams (j - 1)))) other ∙ ap (option_map seen) (g.2 new).1,
+          ),
+        )
+
+pub more_kept : (y : Stream) (c : HostContents) (j : ℕ) (u : Seen) → look c j ≡ Some u → look (record c { streams = c.streams ++ y ∷ [] }) j ≡ Some u
+more_kept y c j u is = by (j == 0) refl (there j c u is).stream (there j c u is).at (there j c u is).is
+  where
+    by : (b : Bool) → (j == 0) ≡ b → (st : Stream) → cond (j == 0) None (slice_get c.streams (j - 1)) ≡ Some st → seen st ≡ u
+        → look (record c { streams = c.streams ++ y ∷ [] }) j ≡ Some u
+    by true zero_id st at one = let gone : None ≡ Some st = ap (λ (d : Bool). cond d None (slice_get c.streams (j - 1))) (sym zero_id) ∙ at in absurd cc
+    by false other st at one =
+        let placed : slice_get c.streams (j - 1) ≡ Some st = ap (λ (d : Bool). cond d None (slice_get c.streams (j - 1))) (sym other) ∙ at in
+        ap (λ (d : Bool). option_map seen (cond d None (slice_get (c.streams ++ y ∷ []) (j - 1)))) other
+        ∙ ap (option_map seen) (kept_push c.streams y (j - 1) st placed) ∙ ap (λ (s : Seen). Some s) one
+
+pub client_host : (c : HostContents) (log : Log) (port : ℕ) (t : Table DeviceConnection) (hands : List Handshake) → IsStreamed c log port t hands
+    → IsStreamed (after_client c) log port t hands
+client_host c log port t hands x =
+    unlabelled_streamed (look c) (look (after_client c)) c.labelled log port t hands hands x
+    (λ j u is. let b = more_back client_stream c j u is in (b.0, b.1, λ new. (ap (λ (s : Seen). s.label) (b.2 new).0, λ waits. (b.2 new).0)))
+    (λ j u f is on. more_kept client_stream c j u is)
+    (record {
+      read = λ i h within. more_kept client_stream c (get_or hands i h).stream (reading (get_or hands i h).line) (x.lines.read i h within);
+      undecided = x.lines.undecided;
+      apart = x.lines.apart;
+    })
+
+-- ACCEPT: the client's line begins.
+pub accepted_host : (id now : ℕ) (c : HostContents) (log : Log) (port : ℕ) (t : Table DeviceConnection) (hands : List Handshake)
+    → accept_answer c ≡ accepted.Stream id → IsStreamed c log port t hands
+    → IsStreamed (after_accept (accepted.Stream id) c) log port t (hands ++ record { stream = id; accepted_at = now; line = [] } ∷ [])
+accepted_host id now c log port t hands answer x =
+    let a = accepts_waiting id c answer in
+    let st = a.0 in
+    let d = after_accept (accepted.Stream id) c in
+    let waited : waits st.state ≡ true = ap waits a.2 in
+    let was : seen st ≡ client_waits = x.waiting id (seen st) (ap (option_map seen) a.1) waited in
+    let is_now : look d id ≡ Some (reading []) = ap (option_map seen) a.3 ∙ ap (λ (s : Seen). let r : Seen = record s { waiting = false } in Some r) was in
+    let others : (j : ℕ) → j ≢ id → look c j ≡ look d j = λ j other. others_seen id (λ s. record s { state = state.Open }) (called c) j other in
+    unlabelled_streamed (look c) (look d) c.labelled log port t hands (hands ++ record { stream = id; accepted_at = now; line = [] } ∷ []) x
+    (λ j u is. back st was is_now others j u is (j == id) refl)
+    (λ j u f is on. sym (others j (λ same. labelled_apart st was a.1 u f on (ap (look c) (sym same) ∙ is))) ∙ is)
+    (record {
+      read = All-push (λ (h : Handshake). look d h.stream ≡ Some (reading h.line)) hands (record { stream = id; accepted_at = now; line = [] })
+          (λ i h within. sym (others (get_or hands i h).stream (λ same. read_apart st was a.1 (get_or hands i h) (ap (look c) (sym same) ∙ x.lines.read i h within)))
+          ∙ x.lines.read i h within) is_now;
+      undecided = All-push (λ (h : Handshake). is_decided CONNECT_MAX h.line ≡ false) hands (record { stream = id; accepted_at = now; line = [] }) x.lines.undecided refl;
+      apart = all_pairs_push (λ (g : Handshake) (h : Handshake). g.stream ≢ h.stream) hands (record { stream = id; accepted_at = now; line = [] }) x.lines.apart
+          (λ k h within same. read_apart st was a.1 (get_or hands k h) (ap (look c) (sym same) ∙ x.lines.read k h within));
+    })
+  where
+    labelled_apart : (st : Stream) → seen st ≡ client_waits → stream_at id c ≡ Some st → (u : Seen) (f : Flow) → u.label ≡ Some f → look c id ≡ Some u → ⊥
+    labelled_apart st was at u f on is =
+        let one : seen st ≡ u = some_seen (seen st) u (sym (ap (option_map seen) at) ∙ is) in
+        let label : None ≡ Some f = sym (ap (λ (s : Seen). s.label) was) ∙ ap (λ (s : Seen). s.label) one ∙ on in
+        absurd cc
+
+    read_apart : (st : Stream) → seen st ≡ client_waits → stream_at id c ≡ Some st → (h : Handshake) → look c id ≡ Some (reading h.line) → ⊥
+    read_apart st was at h is =
+        let one : seen st ≡ reading h.line = some_seen (seen st) (reading h.line) (sym (ap (option_map seen) at) ∙ is) in
+        let both : true ≡ false = sym (ap (λ (s : Seen). s.waiting) was) ∙ ap (λ (s : Seen). s.waiting) one in
+        absurd cc
+
+    back : (st : Stream) → seen st ≡ client_waits → look (after_accept (accepted.Stream id) c) id ≡ Some (reading [])
+        → ((j : ℕ) → j ≢ id → look c j ≡ look (after_accept (accepted.Stream id) c) j)
+        → (j : ℕ) (u : Seen) → look (after_accept (accepted.Stream id) c) j ≡ Some u → (b : Bool) → (j == id) ≡ b
+        → (b : Bool) × (b ≡ true → look c j ≡ Some u) × (b ≡ false → (u.label ≡ None) × (u.waiting ≡ true → u ≡ client_waits))
+    back st was is_now others j u is true same =
+        let place : j ≡ id = grind (arith, nat_tests, same) in
+        let one : reading [] ≡ u = some_seen (reading []) u (sym is_now ∙ ap (look (after_accept (accepted.Stream id) c)) (sym place) ∙ is) in (
+          false,
+          (λ no. absurd cc),
+          λ ok. (
+            sym (ap (λ (s : Seen). s.label) one),
+            λ waits. let both : false ≡ true = ap (λ (s : Seen). s.waiting) one ∙ waits in absurd cc,
+          ),
+        )
+    back st was is_now others j u is false other = (true, (λ ok. others j (grind (arith, nat_tests, other)) ∙ is), λ no. absurd cc)
+
+-- Bytes behind a whole line.
+taken_more : (s : Seen) (more given : List ℕ) → (s.by_client ≡ true → has_line s.taken ≡ true)
+    → taken_of (record s { taken = s.taken ++ more; given = given }) ≡ taken_of s ++ more
+taken_more s more given whole = by s.by_client whole
+  where
+    by : (b : Bool) → (b ≡ true → has_line s.taken ≡ true)
+        → cond b (after_line (s.taken ++ more)) (s.taken ++ more) ≡ cond b (after_line s.taken) s.taken ++ more
+    by true is = after_longer s.taken more (is refl)
+    by false is = refl
+
+-- READ and WRITE of a connection's stream.
+module _ (c : HostContents) (log new : Log) (port : ℕ) (t : Table DeviceConnection) (hands : List Handshake) (x : IsStreamed c log port t hands)
+    (sound : IsTable t) (e : DeviceEntry) (is : Contains t.entries e) (k : DeviceConnection) (stream : k.stream ≡ e.value.stream)
+    (client : k.by_client ≡ e.value.by_client) where
+  abbrev pub joined : IsJoined (look c) log e
+  joined = join_of (look c) c.labelled log port t hands x e is
+
+  whole_line : joined.stream.by_client ≡ true → has_line joined.stream.taken ≡ true
+  whole_line client = (x.labels e.value.stream joined.stream e.flow joined.there joined.label).whole client
+
+  abbrev with_bytes : List ℕ → List ℕ → Seen
+  with_bytes more gave = record joined.stream { taken = joined.stream.taken ++ more; given = joined.stream.given ++ gave }
+
+  pub read_host : (n : ℕ) (bytes : List ℕ) → bytes ≡ next_bytes e.value.stream n c
+      → ((f : Flow) → put_on Device f new ≡ put_on Device f log ++ only_on e.flow bytes f)
+      → ((f : Flow) → got_on Device f log ≡ got_on Device f new)
+      → ((f : Flow) → has_passed Device f log ≡ true → has_passed Device f new ≡ true)
+      → Drains (gives k.end) joined.stream.given (k.ok_line ++ k.pending) (line_for e.flow ++ got_on Device e.flow log)
+      → (k.end.state ≡ Asked → (joined.stream.given ≡ []) × (k.ok_line ≡ []) × (k.pending ≡ []))
+      → IsStreamed (after_read e.value.stream (read.Got n) c) new port (with_value t e.slot k) hands
+  read_host n bytes next put got passed drains asked =
+      let s = joined.stream in
+      let st = there e.value.stream c s joined.there in
+      let d = after_read e.value.stream (read.Got n) c in
+      let took : bytes ≡ take n st.stream.untaken = next ∙ ap (λ (o : Option Stream). option_map_or (λ (y : Stream). take n y.untaken) o []) st.at in
+      let is_now : look d e.value.stream ≡ Some (with_bytes bytes []) =
+      changed_seen e.value.stream (take_bytes n) (called c) st.stream st.at
+      ∙ ap (λ (y : Seen). let r : Seen = record y { taken = y.taken ++ take n st.stream.untaken } in Some r) st.is
+      ∙ ap (λ (b : List ℕ). let r : Seen = record s { taken = s.taken ++ b } in Some r) (sym took)
+      ∙ ap (λ (b : List ℕ). let r : Seen = record s { taken = s.taken ++ bytes; given = b } in Some r) (sym (append-nil s.given)) in
+      moved_streamed (look c) (look d) c.labelled log new port t hands x sound e is bytes [] [] k stream client is_now
+      (λ j other. others_seen e.value.stream (take_bytes n) (called c) j other) put (λ f. sym (got f) ∙ sym (none_on_any e.flow f (got_on Device f log))) passed
+      (subst (λ (b : List ℕ). Drains (gives k.end) b (k.ok_line ++ k.pending) (line_for e.flow ++ got_on Device e.flow new)) (sym (append-nil s.given))
+      (subst (λ (b : List ℕ). Drains (gives k.end) s.given (k.ok_line ++ k.pending) (line_for e.flow ++ b)) (got e.flow) drains))
+      (λ on. subst (λ (b : List ℕ). (b ≡ []) × (k.ok_line ≡ []) × (k.pending ≡ [])) (sym (append-nil s.given)) (asked on))
+      (taken_more s bytes (s.given ++ []) whole_line)
+
+  pub write_host : (n : ℕ) (bytes : List ℕ)
+      → Drains (gives k.end) (joined.stream.given ++ take n bytes) (k.ok_line ++ k.pending) (line_for e.flow ++ got_on Device e.flow log)
+      → (k.end.state ≡ Asked → (joined.stream.given ++ take n bytes ≡ []) × (k.ok_line ≡ []) × (k.pending ≡ []))
+      → IsStreamed (after_write e.value.stream bytes (write.Took n) c) log port (with_value t e.slot k) hands
+  write_host n bytes drains asked =
+      let s = joined.stream in
+      let st = there e.value.stream c s joined.there in
+      let d = after_write e.value.stream bytes (write.Took n) c in
+      let is_now : look d e.value.stream ≡ Some (with_bytes [] (take n bytes)) =
+      changed_seen e.value.stream (give_bytes n bytes) (called c) st.stream st.at
+      ∙ ap (λ (y : Seen). let r : Seen = record y { given = y.given ++ take n bytes } in Some r) st.is
+      ∙ ap (λ (b : List ℕ). let r : Seen = record s { taken = b; given = s.given ++ take n bytes } in Some r) (sym (append-nil s.taken)) in
+      moved_streamed (look c) (look d) c.labelled log log port t hands x sound e is [] (take n bytes) [] k stream client is_now
+      (λ j other. others_seen e.value.stream (give_bytes n bytes) (called c) j other) (λ f. sym (none_on_any e.flow f (put_on Device f log)))
+      (λ f. sym (none_on_any e.flow f (got_on Device f log))) (λ f on. on) drains asked
+      (taken_more s [] (s.given ++ take n bytes) whole_line)

@@ -1,0 +1,321 @@
+-- What the host's streams took and gave, as a line is read and a connection opens.
+use Rattle.std.proofs.{lemmas.Bool.Decides.nat_tests, lemmas.List.Elements.Contains-push}
+use Rattle.std.proofs.Common.{◌≡◌, ◌≢◌, ℕ, zero, suc, ◌+◌, ◌-◌, ◌==◌, min, Bool, true, false, cond, List, [], ◌∷◌, ◌++◌, length, take}
+use Rattle.std.proofs.Common.{get_or, slice_get, Option, Some, None, is_some, refl, sym, ap, subst, ◌∙◌, arith}
+use Rattle.std.proofs.lemmas.Option.{get_or_from_slice_get, slice_get_within}
+use Rattle.std.specs.{List.All, List.find, Option.option_map, Option.option_map_or}
+use Rattle.vs_conn.specs.End.{answering, asked}
+use Rattle.vs_device_parts.specs.{Connections.new_connection, State.DeviceConnection}
+use Rattle.vs_flow.specs.{Flow.host_flow, Flow.is_assigned, Table.Table, Table.with_entry, declared.flow.Flow.Flow}
+use Rattle.vs_flow.proofs.{Entries.found_passes, Lookups.find_place}
+use Rattle.vs_header.specs.declared.Header.{Header}
+use Rattle.vs_limits.specs.declared.TheConstants.{BUF_ALLOC}
+use Rattle.vs_outside.specs.Host.{HostContents, Stream, after_dial, after_label, after_read, called, dialed_stream, fails_now, has_label}
+use Rattle.vs_outside.specs.Host.{next_bytes, read_answer, read_of, stream_at, take_bytes, with_label_call}
+use Rattle.vs_outside.specs.HostBytes.{after_line}
+use Rattle.vs_page.specs.Log.{Device, Log}
+use Rattle.vs_proxy_parts.specs.{Handshakes.with_line, Handshakes.without_stream, State.Handshake}
+use Rattle.vs_uds.specs.{OkLine.ok_text, Reading.is_decided, declared.connect.TheConstants.CONNECT_MAX}
+use Rattle.laws_bytes.specs.Streamed.{AreLines, AreStreamed, IsStreamed, Seen, client_waits, has_line, line_for, look, reading, seen}
+use Rattle.laws_bytes.specs.Drains.{got_on, has_passed, put_on}
+use Rattle.laws_bytes.proofs.{Hosts.changed_seen, Hosts.others_seen, Hosts.there, HostCalls.more_kept, HostCalls.some_seen}
+use Rattle.laws_bytes.proofs.{Logs.none_got, Logs.none_put, Streamed.opened_streamed, Streamed.unlabelled_streamed}
+use Rattle.laws_bytes.proofs.Hands.{with_all, with_apart, without_all, without_none, without_pairs}
+use Rattle.vs_header.specs.declared.Kind.TheVariants as kind
+use Rattle.vs_outside.specs.declared.host_net.Dialed.TheVariants as dialed
+use Rattle.vs_outside.specs.declared.host_net.StreamRead.TheVariants as read
+
+-- A byte is read where there is one.
+pub one_byte : (id n : ℕ) (c : HostContents) → read_answer id 1 c ≡ read.Got n → (byte : ℕ) × (next_bytes id n c ≡ byte ∷ [])
+one_byte id n c is = by (fails_now c) (stream_at id c) refl is
+  where
+    of : (st : Stream) (bytes : List ℕ) → st.untaken ≡ bytes
+        → cond (length bytes == 0) (cond st.ended read.End read.Again) (read.Got (min 1 (length bytes))) ≡ read.Got n → (byte : ℕ) × (take n bytes ≡ byte ∷ [])
+    of st [] is answer = ended st.ended answer
+      where
+        ended : (b : Bool) → cond b read.End read.Again ≡ read.Got n → (byte : ℕ) × (take n [] ≡ byte ∷ [])
+        ended true answer = absurd cc
+        ended false answer = absurd cc
+    of st (u ∷ us) is answer = some (suc (length us) == 0) (grind (arith, nat_tests)) answer
+      where
+        some : (b : Bool) → b ≡ false → cond b (cond st.ended read.End read.Again) (read.Got (min 1 (suc (length us)))) ≡ read.Got n
+            → (byte : ℕ) × (take n (u ∷ us) ≡ byte ∷ [])
+        some true never answer = absurd cc
+        some false ok answer =
+            let count : min 1 (suc (length us)) ≡ n = cc in
+            let one : n ≡ 1 = sym count ∙ omega arith in
+            (u, ap (λ (k : ℕ). take k (u ∷ us)) one)
+
+    by : (b : Bool) (o : Option Stream) → stream_at id c ≡ o → cond b read.Failed (option_map_or (read_of 1) o read.Again) ≡ read.Got n
+        → (byte : ℕ) × (option_map_or (λ (st : Stream). take n st.untaken) o [] ≡ byte ∷ [])
+    by true o at answer = absurd cc
+    by false None at answer = absurd cc
+    by false (Some st) at answer = of st st.untaken refl answer
+
+-- The handshake of a stream.
+pub record IsHand (at : ℕ → Option Seen) (id : ℕ) (h : Handshake) : Type 0 where
+  pub stream : h.stream ≡ id
+  pub there : at id ≡ Some (reading h.line)
+  pub undecided : is_decided CONNECT_MAX h.line ≡ false
+
+pub hand_of : (at : ℕ → Option Seen) (id : ℕ) (hands : List Handshake) (h : Handshake) → AreLines at hands → find (λ (g : Handshake). g.stream == id) hands ≡ Some h
+    → IsHand at id h
+hand_of at id hands h lines is =
+    let place = find_place (λ (g : Handshake). g.stream == id) hands h is in
+    let within = slice_get_within hands place.0 h place.1 in
+    let get : get_or hands place.0 h ≡ h = get_or_from_slice_get hands place.0 h h place.1 in
+    let passes = found_passes (λ (g : Handshake). g.stream == id) hands h is in
+    let same : h.stream ≡ id = grind (arith, nat_tests, passes) in
+    record {
+      stream = same;
+      there = ap at (sym same) ∙ subst (λ (g : Handshake). at g.stream ≡ Some (reading g.line)) get (lines.read place.0 h within);
+      undecided = subst (λ (g : Handshake). is_decided CONNECT_MAX g.line ≡ false) get (lines.undecided place.0 h within);
+    }
+
+-- A handshake ends.
+pub without_lines : (at : ℕ → Option Seen) (id : ℕ) (hands : List Handshake) → AreLines at hands → AreLines at (without_stream id hands)
+without_lines at id hands x = record {
+  read = without_all (λ (h : Handshake). at h.stream ≡ Some (reading h.line)) id hands x.read;
+  undecided = without_all (λ (h : Handshake). is_decided CONNECT_MAX h.line ≡ false) id hands x.undecided;
+  apart = without_pairs (λ (g : Handshake) (h : Handshake). g.stream ≢ h.stream) id hands x.apart;
+}
+
+pub without_host : (c : HostContents) (log : Log) (port : ℕ) (t : Table DeviceConnection) (hands : List Handshake) (id : ℕ)
+    → IsStreamed c log port t hands → IsStreamed c log port t (without_stream id hands)
+without_host c log port t hands id x = record {
+  joined = x.joined;
+  labels = x.labels;
+  unique = x.unique;
+  none = x.none;
+  waiting = x.waiting;
+  lines = without_lines (look c) id hands x.lines;
+}
+
+pub no_lines : (c : HostContents) (log : Log) (port : ℕ) (t : Table DeviceConnection) (hands : List Handshake)
+    → IsStreamed c log port t hands → IsStreamed c log port t []
+no_lines c log port t hands x = record {
+  joined = x.joined;
+  labels = x.labels;
+  unique = x.unique;
+  none = x.none;
+  waiting = x.waiting;
+  lines = record {
+    read = λ i h within. absurd (omega (arith, within));
+    undecided = λ i h within. absurd (omega (arith, within));
+    apart = λ i j h less within. absurd (omega (arith, within));
+  };
+}
+
+-- A byte more of a line.
+module _ (c : HostContents) (log : Log) (port : ℕ) (t : Table DeviceConnection) (hands : List Handshake) (x : IsStreamed c log port t hands)
+    (id n : ℕ) (h : Handshake) (hand : IsHand (look c) id h) (bytes : List ℕ) (next : bytes ≡ next_bytes id n c) where
+  abbrev pub read_on : HostContents
+  read_on = after_read id (read.Got n) c
+
+  pub line_now : look read_on id ≡ Some (reading (h.line ++ bytes))
+  line_now =
+      let s = there id c (reading h.line) hand.there in
+      let took : bytes ≡ take n s.stream.untaken = next ∙ ap (λ (o : Option Stream). option_map_or (λ (y : Stream). take n y.untaken) o []) s.at in
+      changed_seen id (take_bytes n) (called c) s.stream s.at
+      ∙ ap (λ (y : Seen). let r : Seen = record y { taken = y.taken ++ take n s.stream.untaken } in Some r) s.is
+      ∙ ap (λ (b : List ℕ). Some (reading (h.line ++ b))) (sym took)
+
+  others_now : (j : ℕ) → j ≢ id → look c j ≡ look read_on j
+  others_now j other = others_seen id (take_bytes n) (called c) j other
+
+  abbrev Back : (j : ℕ) (u : Seen) → Type 0
+  Back j u = (b : Bool) × (b ≡ true → look c j ≡ Some u) × (b ≡ false → (u.label ≡ None) × (u.waiting ≡ true → u ≡ client_waits))
+
+  back : (j : ℕ) (u : Seen) → look read_on j ≡ Some u → (b : Bool) → (j == id) ≡ b → Back j u
+  back j u is true same =
+      let place : j ≡ id = grind (arith, nat_tests, same) in
+      let one : reading (h.line ++ bytes) ≡ u = some_seen (reading (h.line ++ bytes)) u (sym line_now ∙ ap (look read_on) (sym place) ∙ is) in (
+        false,
+        (λ no. absurd cc),
+        λ ok. (
+          sym (ap (λ (s : Seen). s.label) one),
+          λ waits. let both : false ≡ true = ap (λ (s : Seen). s.waiting) one ∙ waits in absurd cc,
+        ),
+      )
+  back j u is false other = (true, (λ ok. others_now j (grind (arith, nat_tests, other)) ∙ is), λ no. absurd cc)
+
+  kept : (j : ℕ) (u : Seen) (f : Flow) → look c j ≡ Some u → u.label ≡ Some f → look read_on j ≡ Some u
+  kept j u f is on = sym (others_now j (λ same. labelled_apart u f on (ap (look c) (sym same) ∙ is))) ∙ is
+    where
+      labelled_apart : (u : Seen) (f : Flow) → u.label ≡ Some f → look c id ≡ Some u → ⊥
+      labelled_apart u f on is =
+          let one : reading h.line ≡ u = some_seen (reading h.line) u (sym hand.there ∙ is) in
+          let label : None ≡ Some f = ap (λ (s : Seen). s.label) one ∙ on in
+          absurd cc
+
+  pub line_more : is_decided CONNECT_MAX (h.line ++ bytes) ≡ false → IsStreamed read_on log port t (with_line id (h.line ++ bytes) hands)
+  line_more open_line = unlabelled_streamed (look c) (look read_on) c.labelled log port t hands (with_line id (h.line ++ bytes) hands) x
+      (λ j u is. back j u is (j == id) refl) kept (record {
+        read = with_all (λ (g : Handshake). look c g.stream ≡ Some (reading g.line)) (λ (g : Handshake). look read_on g.stream ≡ Some (reading g.line))
+            id (h.line ++ bytes) hands x.lines.apart x.lines.read (λ g same old. ap (look read_on) same ∙ line_now)
+            (λ g other old. sym (others_now g.stream other) ∙ old);
+        undecided = with_all (λ (g : Handshake). is_decided CONNECT_MAX g.line ≡ false) (λ (g : Handshake). is_decided CONNECT_MAX g.line ≡ false)
+            id (h.line ++ bytes) hands x.lines.apart x.lines.undecided (λ g same old. open_line) (λ g other old. old);
+        apart = with_apart id (h.line ++ bytes) hands x.lines.apart;
+      })
+
+  pub line_over : IsStreamed read_on log port t (without_stream id hands)
+  line_over = unlabelled_streamed (look c) (look read_on) c.labelled log port t hands (without_stream id hands) x
+      (λ j u is. back j u is (j == id) refl) kept (record {
+        read = λ i g within.
+            let away = without_none id hands x.lines.apart i g within in
+            let old = without_all (λ (k : Handshake). look c k.stream ≡ Some (reading k.line)) id hands x.lines.read i g within in
+            sym (others_now (get_or (without_stream id hands) i g).stream away) ∙ old;
+        undecided = without_all (λ (k : Handshake). is_decided CONNECT_MAX k.line ≡ false) id hands x.lines.undecided;
+        apart = without_pairs (λ (g : Handshake) (k : Handshake). g.stream ≢ k.stream) id hands x.lines.apart;
+      })
+
+-- LABEL: a whole line opens a connection.
+module _ (c : HostContents) (log : Log) (port : ℕ) (t : Table DeviceConnection) (lines : List Handshake) (x : IsStreamed c log port t lines)
+    (id guest : ℕ) (line : List ℕ) (here : look c id ≡ Some (reading line)) (away : All (λ h. h.stream ≢ id) lines)
+    (whole : has_line line ≡ true) (none_behind : after_line line ≡ []) (inside : is_assigned port ≡ true) where
+  abbrev f : Flow
+  f = host_flow guest port
+
+  abbrev labelled_now : HostContents
+  labelled_now = after_label id f c
+
+  label_seen : look labelled_now id ≡ Some (record (reading line) { label = Some f })
+  label_seen =
+      let s = there id c (reading line) here in
+      changed_seen id (λ y. record y { label = Some f }) (with_label_call id c) s.stream s.at
+      ∙ ap (λ (y : Seen). let r : Seen = record y { label = Some f } in Some r) s.is
+
+  others_labelled : (j : ℕ) → j ≢ id → look c j ≡ look labelled_now j
+  others_labelled j other = others_seen id (λ y. record y { label = Some f }) (with_label_call id c) j other
+
+  no_label : has_label id c ≡ false
+  no_label =
+      let s = there id c (reading line) here in
+      let label : s.stream.label ≡ None = ap (λ (y : Seen). y.label) s.is in
+      ap (λ (o : Option Stream). option_map_or (λ (y : Stream). is_some y.label) o false) s.at ∙ ap (λ (o : Option Flow). is_some o) label
+
+  fresh_label : (j : ℕ) (u : Seen) → look c j ≡ Some u → u.label ≢ Some f
+  fresh_label j u is on = let old = x.labels j u f is on in absurd (omega (arith, old.ported inside))
+
+  pub label_host : IsStreamed labelled_now log (port + 1) (with_entry t f (new_connection (asked kind.Stream BUF_ALLOC) id true)) lines
+  label_host =
+      let none : put_on Device f log ≡ [] = x.none f fresh_label in
+      subst (λ (ids : List ℕ). AreStreamed (look labelled_now) ids log (port + 1) (with_entry t f (new_connection (asked kind.Stream BUF_ALLOC) id true)) lines)
+      (sym (ap (λ (b : Bool). cond b c.labelled (c.labelled ++ id ∷ [])) no_label))
+      (opened_streamed (look c) (look labelled_now) c.labelled log log port (port + 1) t lines lines x id (record (reading line) { label = Some f }) f
+      (new_connection (asked kind.Stream BUF_ALLOC) id true) label_seen refl refl others_labelled
+      (λ b is. ap (λ (s : Seen). s.label) (sym (some_seen (reading line) b (sym here ∙ is)))) (omega arith) (λ g. refl) (λ g. refl) (λ g is. is) fresh_label refl
+      (record {
+        listed = Contains-push c.labelled id;
+        client = sym inside;
+        whole = λ is. whole;
+        took = none ∙ sym none_behind;
+        gave = (line_for f ++ got_on Device f log, refl);
+        ported = λ is. omega arith;
+        passed = λ is. let both : true ≡ false = sym inside ∙ is in absurd cc;
+      })
+      (record {
+        stream = record (reading line) { label = Some f };
+        there = label_seen;
+        label = refl;
+        client = sym inside;
+        drains = record { front = (line_for f ++ got_on Device f log, refl); whole = λ is. absurd cc };
+        asked = λ is. (refl, refl, refl);
+      })
+      (record {
+        read = λ i h within. sym (others_labelled (get_or lines i h).stream (away i h within)) ∙ x.lines.read i h within;
+        undecided = x.lines.undecided;
+        apart = x.lines.apart;
+      }))
+
+-- DIAL: a connection opens with a new stream.
+pub get_end : (xs : List Stream) (y : Stream) → slice_get (xs ++ y ∷ []) (length xs) ≡ Some y
+get_end [] y = refl
+get_end (x ∷ xs) y = get_end xs y
+
+pub get_past : (xs : List Stream) → slice_get xs (length xs) ≡ None
+get_past [] = refl
+get_past (x ∷ xs) = get_past xs
+
+pub get_other : (xs : List Stream) (y : Stream) (k : ℕ) → k ≢ length xs → slice_get (xs ++ y ∷ []) k ≡ slice_get xs k
+get_other [] y zero other = absurd (other refl)
+get_other [] y (suc k) other = refl
+get_other (x ∷ xs) y zero other = refl
+get_other (x ∷ xs) y (suc k) other = get_other xs y k (λ same. other (ap suc same))
+
+module _ (c : HostContents) (log new : Log) (port : ℕ) (t : Table DeviceConnection) (hands : List Handshake) (x : IsStreamed c log port t hands)
+    (f : Flow) (h : Header) (outside : is_assigned f.host ≡ false) (quiet : has_passed Device f log ≡ false) (passes : has_passed Device f new ≡ true)
+    (put : (g : Flow) → put_on Device g log ≡ put_on Device g new) (got : (g : Flow) → got_on Device g log ≡ got_on Device g new)
+    (passed : (g : Flow) → has_passed Device g log ≡ true → has_passed Device g new ≡ true) where
+  abbrev new_stream : Stream
+  new_stream = dialed_stream f c.prepared
+
+  abbrev dialed_now : HostContents
+  dialed_now = after_dial f (dialed.Stream (length c.streams + 1)) c
+
+  at_end : (k : ℕ) → (k + 1 == 0) ≡ false
+  at_end k = grind (arith, nat_tests)
+
+  dialed_seen : look dialed_now (length c.streams + 1) ≡ Some (seen (dialed_stream f c.prepared))
+  dialed_seen =
+      let back : length c.streams + 1 - 1 ≡ length c.streams = omega arith in
+      ap (λ (b : Bool). option_map seen (cond b None (slice_get (c.streams ++ new_stream ∷ []) (length c.streams + 1 - 1)))) (at_end (length c.streams))
+      ∙ ap (λ (k : ℕ). option_map seen (slice_get (c.streams ++ new_stream ∷ []) k)) back ∙ ap (option_map seen) (get_end c.streams new_stream)
+
+  others_dialed : (j : ℕ) → j ≢ length c.streams + 1 → look c j ≡ look dialed_now j
+  others_dialed j other = by (j == 0) refl
+    where
+      by : (b : Bool) → (j == 0) ≡ b → option_map seen (cond (j == 0) None (slice_get c.streams (j - 1)))
+          ≡ option_map seen (cond (j == 0) None (slice_get (c.streams ++ new_stream ∷ []) (j - 1)))
+      by true is = rw is refl
+      by false is =
+          let apart : j - 1 ≢ length c.streams = λ same. other (grind (arith, nat_tests, same, is)) in
+          rw is (ap (option_map seen) (sym (get_other c.streams new_stream (j - 1) apart)))
+
+  nothing_before : (b : Seen) → look c (length c.streams + 1) ≡ Some b → b.label ≡ None
+  nothing_before b is =
+      let back : length c.streams + 1 - 1 ≡ length c.streams = omega arith in
+      let none : look c (length c.streams + 1) ≡ None =
+      ap (λ (d : Bool). option_map seen (cond d None (slice_get c.streams (length c.streams + 1 - 1)))) (at_end (length c.streams))
+      ∙ ap (λ (k : ℕ). option_map seen (slice_get c.streams k)) back ∙ ap (option_map seen) (get_past c.streams) in
+      let both : None ≡ Some b = sym none ∙ is in absurd cc
+
+  fresh_dial : (j : ℕ) (u : Seen) → look c j ≡ Some u → u.label ≢ Some f
+  fresh_dial j u is on =
+      let old = x.labels j u f is on in
+      let both : true ≡ false = sym (old.passed outside) ∙ quiet in
+      absurd cc
+
+  no_first_line : line_for f ≡ []
+  no_first_line = ap (λ (b : Bool). cond b (ok_text f.host) []) outside
+
+  pub dial_host : IsStreamed dialed_now new port (with_entry t f (new_connection (answering kind.Stream BUF_ALLOC h) (length c.streams + 1) false)) hands
+  dial_host =
+      let none_put_on : put_on Device f new ≡ [] = sym (put f) ∙ none_put Device f log quiet in
+      let none_got_on : got_on Device f new ≡ [] = sym (got f) ∙ none_got Device f log quiet in
+      let all : line_for f ++ got_on Device f new ≡ [] = ap (λ (bytes : List ℕ). bytes ++ got_on Device f new) no_first_line ∙ none_got_on in
+      opened_streamed (look c) (look dialed_now) c.labelled log new port port t hands hands x (length c.streams + 1) (seen (dialed_stream f c.prepared)) f
+      (new_connection (answering kind.Stream BUF_ALLOC h) (length c.streams + 1) false) dialed_seen refl refl others_dialed nothing_before (omega arith) put got passed fresh_dial refl
+      (record {
+        listed = Contains-push c.labelled (length c.streams + 1);
+        client = sym outside;
+        whole = λ is. absurd cc;
+        took = none_put_on;
+        gave = (line_for f ++ got_on Device f new, refl);
+        ported = λ is. let both : true ≡ false = sym is ∙ outside in absurd cc;
+        passed = λ is. passes;
+      })
+      (record {
+        stream = seen (dialed_stream f c.prepared);
+        there = dialed_seen;
+        label = refl;
+        client = sym outside;
+        drains = record { front = (line_for f ++ got_on Device f new, refl); whole = λ is. sym all };
+        asked = λ is. absurd cc;
+      })
+      (record {
+        read = λ i g within. more_kept (dialed_stream f c.prepared) c (get_or hands i g).stream (reading (get_or hands i g).line) (x.lines.read i g within);
+        undecided = x.lines.undecided;
+        apart = x.lines.apart;
+      })

@@ -1,0 +1,149 @@
+-- Decisions of a connection: no packet passes, and the device still matches its log.
+use Rattle.std.proofs.Common.{◌≡◌, ℕ, ◌-◌, ◌≤◌, Bool, true, false, cond, List, [], ◌∷◌, ◌++◌, length, drop, Contains, refl, sym, ap, subst}
+use Rattle.std.proofs.Common.{◌∙◌, arith, length-append, length-drop, length-take}
+use Rattle.std.proofs.lemmas.Grind.{common_steps}
+use Rattle.vs_conn.specs.{End.ConnectionEnd, End.wanting_credit, End.with_payload_forwarded, End.with_shut, Follows.Follows}
+use Rattle.vs_conn.proofs.Steps.{abort_follows, ask_follows, forward_follows, shut_follows}
+use Rattle.laws_history.specs.History.{Side, gots, puts, History}
+use Rattle.vs_flow.specs.{Flow.same_flow, Table.Table, declared.flow.Flow.Flow}
+use Rattle.vs_page.specs.Log.{Device, Log, side_of}
+use Rattle.laws_tables.specs.{Ends.Ends, Ends.FlowEnd, Ends.ends_of, Ends.is_new, Ends.replaced, Heard.heard_of, Matches.Matches}
+use Rattle.laws_tables.specs.Steps.{with_end}
+use Rattle.laws_tables.proofs.Keeps.{changes}
+use Rattle.vs_replies.specs.declared.Reply.{Reply}
+use Rattle.vs_device_parts.specs.{State.DeviceConnection, State.DeviceEntry, State.DeviceState, Streams.to_write}
+use Rattle.vs_device_parts.specs.Connections.{after_shut, after_written, cut_off, with_connection}
+use Rattle.laws_device.specs.Honest.{HoldsBytes, IsFit, IsFitState, ends_of_state, ends_with}
+use Rattle.laws_device.proofs.Tabling.{IsFitConnection, begun_fits, connection_ends, connection_fits, entry_fits, has_end}
+use Rattle.laws_device.proofs.Fits.{fits_forwarded, fits_shut}
+
+-- What a step does that puts and gets nothing.
+pub record ChangesTo (port cid overrun : ℕ) (table : Table DeviceConnection) (replies : List Reply) (cid' overrun' : ℕ)
+    (table' : Table DeviceConnection)
+    (replies' : List Reply) : Type 0 where
+  pub matches : (first : ℕ) (log : Log) → Matches Device first (ends_with port cid table replies) log
+      → Matches Device first (ends_with port cid' table' replies') log
+  pub fits : IsFit cid' table' replies'
+  pub overrun_is : overrun' ≡ overrun
+
+abbrev pub Changes : ℕ → DeviceState → DeviceState → Type 0
+Changes port s t = ChangesTo port s.cid s.overrun s.table s.replies t.cid t.overrun t.table t.replies
+
+-- Whatever follows what the end before it followed.
+abbrev pub FollowsAs : ConnectionEnd → ConnectionEnd → Type 0
+FollowsAs old new = (side : Side) (h : History) → Follows side (puts h) (gots h) old → Follows side (puts h) (gots h) new
+
+pub shut_old : (e : ConnectionEnd) (bits : ℕ) → is_new e ≡ false → is_new (with_shut e bits) ≡ false
+shut_old e bits is = grind (arith, common_steps, is)
+
+pub forward_old : (e : ConnectionEnd) (n : ℕ) → is_new e ≡ false → is_new (with_payload_forwarded e n) ≡ false
+forward_old e n is = grind (arith, common_steps, is)
+
+-- A flow's end in place of itself.
+none_replaced : (f : Flow) (e : ConnectionEnd) (ys : List FlowEnd) → ends_of f ys ≡ [] → replaced f e ys ≡ ys
+none_replaced f e [] none = refl
+none_replaced f e (y ∷ ys) none = at (same_flow f y.flow) refl none (none_replaced f e ys)
+  where
+    at : (b : Bool) → same_flow f y.flow ≡ b → cond b (y.end ∷ ends_of f ys) (ends_of f ys) ≡ [] →
+        (ends_of f ys ≡ [] → replaced f e ys ≡ ys)
+        → replaced f e (y ∷ ys) ≡ y ∷ ys
+    at true same empty rest = absurd cc
+    at false same empty rest = rw same (ap (λ (zs : List FlowEnd). y ∷ zs) (rest empty))
+
+pub same_replaced : (f : Flow) (e : ConnectionEnd) (xs : List FlowEnd) → ends_of f xs ≡ e ∷ [] → replaced f e xs ≡ xs
+same_replaced f e [] is = refl
+same_replaced f e (x ∷ xs) is = by (same_flow f x.flow) refl is (same_replaced f e xs)
+  where
+    by : (b : Bool) → same_flow f x.flow ≡ b → cond b (x.end ∷ ends_of f xs) (ends_of f xs) ≡ e ∷ [] →
+        (ends_of f xs ≡ e ∷ [] → replaced f e xs ≡ xs)
+        → replaced f e (x ∷ xs) ≡ x ∷ xs
+    by true same one rest =
+        let head : x.end ≡ e = cc in
+        let tail : ends_of f xs ≡ [] = cc in
+        rw same (ap (λ (z : ConnectionEnd). let y : FlowEnd = record x { end = z } in y ∷ replaced f e xs) (sym head)
+        ∙ ap (λ (zs : List FlowEnd). x ∷ zs) (none_replaced f e xs tail))
+    by false same one rest = rw same (ap (λ (zs : List FlowEnd). x ∷ zs) (rest one))
+
+module _ (port : ℕ) (s : DeviceState) (fits : IsFitState s) where
+  pub same : Changes port s s
+  same = record { matches = λ first log m. m; fits = fits; overrun_is = refl }
+
+  module _ (e : DeviceEntry) (there : Contains s.table.entries e) where
+    bytes : HoldsBytes e.value.end.credit (length e.value.pending)
+    bytes = (entry_fits s fits e there).bytes
+
+    decides : (c : DeviceConnection) → is_new e.value.end ≡ false → c.end.kind ≡ e.value.end.kind → IsFitConnection c → FollowsAs e.value.end c.end
+        → Changes port s (with_connection e.slot c s)
+    decides c begun kind held follows = record {
+      matches = λ first log m.
+          subst (λ (x : Ends). Matches Device first x log) (sym (connection_ends s fits e there port c))
+          (changes Device first e.flow e.value.end c.end (ends_of_state port s) log m (has_end s fits e there port) begun kind
+          (follows (side_of Device e.flow) (heard_of Device first e.flow log)));
+      fits = connection_fits s fits e.slot c held;
+      overrun_is = refl;
+    }
+
+    -- The same end.
+    pub unseen : (c : DeviceConnection) → c.end ≡ e.value.end → IsFitConnection c → Changes port s (with_connection e.slot c s)
+    unseen c is held =
+        let part : Ends = ends_of_state port s in
+        let still : with_end e.flow c.end part ≡ part =
+        ap (λ (x : ConnectionEnd). with_end e.flow x part) is
+        ∙ ap (λ (xs : List FlowEnd). let x : Ends = record part { entries = xs } in x)
+        (same_replaced e.flow e.value.end part.entries (has_end s fits e there port)) in
+        record {
+          matches = λ first log m. subst (λ (x : Ends). Matches Device first x log) (sym (connection_ends s fits e there port c ∙ still)) m;
+          fits = connection_fits s fits e.slot c held;
+          overrun_is = refl;
+        }
+
+    pub wants : is_new e.value.end ≡ false → Changes port s (with_connection e.slot (record e.value { end = wanting_credit e.value.end }) s)
+    wants begun =
+        let c : DeviceConnection = record e.value { end = wanting_credit e.value.end } in
+        decides c begun refl (begun_fits c (record {
+          unread = bytes.unread;
+          within = bytes.within;
+          alloc = bytes.alloc;
+          rx = bytes.rx;
+          fwd = bytes.fwd;
+        }) begun)
+        (λ side h follows. ask_follows _ _ _ e.value.end follows)
+
+    pub cuts : is_new e.value.end ≡ false → Changes port s (with_connection e.slot (cut_off e.value) s)
+    cuts begun = decides (cut_off e.value) begun refl
+        (begun_fits (cut_off e.value) (record {
+          unread = omega arith;
+          within = bytes.within;
+          alloc = bytes.alloc;
+          rx = bytes.rx;
+          fwd = bytes.fwd;
+        }) refl)
+        (λ side h follows. abort_follows _ _ _ e.value.end follows)
+
+    pub shuts : (bits now : ℕ) → is_new e.value.end ≡ false → Changes port s (with_connection e.slot (after_shut bits now e.value) s)
+    shuts bits now begun =
+        let c : DeviceConnection = after_shut bits now e.value in
+        decides c begun refl (begun_fits c (subst (λ (u : ℕ). HoldsBytes c.end.credit u) (kept_by (with_shut e.value.end bits).own.receive)
+        (fits_shut e.value.end bits (length e.value.pending) bytes)) (shut_old e.value.end bits begun))
+        (λ side h follows. shut_follows _ _ _ e.value.end bits follows)
+      where
+        kept_by : (b : Bool) → cond b 0 (length e.value.pending) ≡ length (cond b [] e.value.pending)
+        kept_by true = refl
+        kept_by false = refl
+
+    -- The stream took n of the bytes that were to be written.
+    pub writes : (n : ℕ) → n ≤ length (to_write e.value) → is_new e.value.end ≡ false → Changes port s
+        (with_connection e.slot (after_written n e.value) s)
+    writes n less begun =
+        let c : DeviceConnection = after_written n e.value in
+        let payload = n - length e.value.ok_line in
+        let len = length-take 4096 (e.value.ok_line ++ e.value.pending) in
+        let both = length-append e.value.ok_line e.value.pending in
+        let few : payload ≤ length e.value.pending = omega (arith, less, len, both) in
+        let left : length e.value.pending - payload ≡ length (drop payload e.value.pending) = omega
+        (arith, length-drop payload e.value.pending) in
+        decides c begun refl
+        (begun_fits c (subst (λ (u : ℕ). HoldsBytes c.end.credit u) left
+        (fits_forwarded e.value.end.credit payload (length e.value.pending) bytes few))
+        (forward_old e.value.end payload begun))
+        (λ side h follows. forward_follows _ _ _ e.value.end payload follows (omega (arith, few, bytes.unread)))

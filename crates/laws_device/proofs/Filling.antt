@@ -1,0 +1,364 @@
+-- What filling the receive queue keeps, part by part.
+use Rattle.std.proofs.Common.{◌≡◌, ℕ, ◌+◌, ◌≤◌, ◌==◌, ◌&&◌, ◌||◌, not, Bool, true, false, cond, if◌then◌else◌, List, [], ◌∷◌, length}
+use Rattle.std.proofs.Common.{Contains, Option, Some, None, Result, Ok, Err, refl, sym, subst, ◌∙◌, arith, IfSome, IsOkAnd}
+use Rattle.std.proofs.lemmas.Grind.{common_steps}
+use Rattle.vs_contents.specs.CallTree.{Done, bind, for_each, while_up_to}
+use Rattle.vs_conn.specs.End.{CanSend, ConnectionEnd, owes_of, paid_of, state_may_send, wanting_credit, with_payload_sent}
+use Rattle.vs_conn.specs.Headers.{owed_header, payload_header}
+use Rattle.vs_conn.specs.declared.end.Owed.{Owed}
+use Rattle.vs_conn.specs.declared.end.Owed.TheVariants as owed
+use Rattle.vs_conn.specs.declared.end.State.{State}
+use Rattle.vs_conn.specs.declared.end.State.TheVariants as state
+use Rattle.vs_conn.specs.declared.end.Stop.TheVariants.{ShutDown}
+use Rattle.vs_conn.specs.declared.end.TheConstants.{OWED_MAX}
+use Rattle.vs_credit.specs.Credit.{free_of}
+use Rattle.vs_flow.specs.Table.{entry_under, slots}
+use Rattle.vs_header.specs.declared.Header.{Header}
+use Rattle.vs_outside.specs.declared.host_net.StreamRead.{StreamRead}
+use Rattle.vs_outside.specs.declared.host_net.StreamRead.TheVariants as read
+use Rattle.vs_replies.specs.declared.Reply.{Reply}
+use Rattle.vs_ring_port.specs.Contents.{RingContents}
+use Rattle.vs_ring_port.specs.declared.device_ring.Chain.{Chain}
+use Rattle.vs_ring_port.specs.declared.failure.Failure.{Failure}
+use Rattle.laws_tables.specs.Ends.{is_new}
+use Rattle.laws_tables.proofs.Slots.{found_by}
+use Rattle.vs_device_parts.specs.declared.answers.Filled.{Filled as FilledAnswer}
+use Rattle.vs_device_parts.specs.Calls.{DeviceTree}
+use Rattle.vs_device_parts.specs.Connections.{after_leaving, after_shut, cut_off, route_to_guest, stream_closed, with_connection}
+use Rattle.vs_device_parts.specs.{Connections.with_fault, Playing.IsRxChain}
+use Rattle.vs_device_parts.specs.Receiving.{Filling, after_paying, fill_rx_of, filled_of, hold, may_read, put_on, put_owed, put_packet}
+use Rattle.vs_device_parts.specs.Receiving.{put_payload, put_reply, put_reply_of, read_answered, read_room, read_stream, read_with_chain}
+use Rattle.vs_device_parts.specs.Receiving.{reply_header, round_from, serve_slot}
+use Rattle.vs_device_parts.specs.State.{DeviceConnection, DeviceEntry, DeviceState}
+use Rattle.laws_device.specs.Honest.{IsFitState, IsWith}
+use Rattle.laws_device.proofs.Changing.{cuts, shuts, wants}
+use Rattle.laws_device.proofs.Keeping.{Goes, Keeps, keeps_bind, keeps_each, keeps_then, keeps_while}
+use Rattle.laws_device.proofs.Putting.{Puts, owed_puts, reply_puts, rst_puts, send_puts}
+use Rattle.laws_device.proofs.Steps.{Filled, Open, changed, closing_keeps, goes_on, hold_keeps, open_filled}
+use Rattle.laws_device.proofs.Writing.{writes_first, written_keeps}
+
+pub live_old : (e : ConnectionEnd) → may_read e e.state ≡ true → is_new e ≡ false
+live_old e is = grind (arith, common_steps, is)
+
+-- where both ends let it send, so much may be sent as there is credit for
+may_send_on : (e : ConnectionEnd) (s : State) (n : ℕ) → may_read e s ≡ true → n ≤ free_of e.credit → IsOkAnd (state_may_send s e) (λ free. n ≤ free)
+may_send_on e state.Live n may fits = live e.own.send e.peer.receive may
+  where
+    live : (a b : Bool) → (not b && not a) ≡ true → IsOkAnd (cond (a || b) (Err ShutDown) (Ok (free_of e.credit))) (λ free. n ≤ free)
+    live false false is = fits
+    live true false is = absurd cc
+    live true true is = absurd cc
+    live false true is = absurd cc
+may_send_on e state.Asked n may fits = absurd cc
+may_send_on e state.Answering n may fits = absurd cc
+may_send_on e state.Ended n may fits = absurd cc
+
+pub can_send : (e : ConnectionEnd) (n : ℕ) → may_read e e.state ≡ true → n ≤ free_of e.credit → CanSend e n
+can_send e n may fits = may_send_on e e.state n may fits
+
+pub under_there : (s : DeviceState) (slot : ℕ) (e : DeviceEntry) → entry_under s.table slot ≡ Some e → Contains s.table.entries e
+under_there s slot e under = (found_by (λ (x : DeviceEntry). x.slot == slot) s.table.entries e under).0
+
+module _ (first port : ℕ) where
+  abbrev pub Ready : Filling → RingContents → Type 0
+  Ready = Open first port
+
+  abbrev pub Over : Filling → RingContents → Type 0
+  Over = Filled first port
+
+  -- A packet without payload, put where a chain is or becomes held. The rest is with the host.
+  put_packet_keeps : (h : Header) (f : DeviceState → DeviceTree DeviceState) (r : Filling) (t : DeviceState) →
+      (IsFitState r.state → Puts port r.state h [] t)
+      → t.chain ≡ None → t.failed ≡ None
+      → ((R : DeviceState → RingContents → Type 0) (d : RingContents) → R t d → Keeps R (f (record r.state { chain = None })) d)
+      → (c : RingContents) → Ready r c → Keeps Over (put_packet h f r) c
+  put_packet_keeps h f r t puts none still goes c ready =
+      let rest : Filling → DeviceTree Filling = λ q. elim q.state.chain [
+        | None ↦ Done q
+        | Some chain ↦ bind (put_on chain h [] q) (λ p. bind (f p.state) (λ s. Done (record p { state = s })))
+      ] in
+      hold_keeps first port Over rest r
+      (λ chain d holds.
+      let q : Filling = record r { state = record r.state { chain = Some chain } } in
+      let p : Filling = record q { state = record r.state { chain = None }; put = q.put + 1 } in
+      let finish : DeviceState → DeviceTree Filling = λ s. Done (record p { state = s }) in
+      keeps_bind Over (put_on chain h [] q) (λ x. bind (f x.state) (λ s. Done (record x { state = s }))) d
+      (written_keeps first port r.state (λ x e. Keeps Over (bind (f x.state) (λ s. Done (record x { state = s }))) e)
+      (Done p) t h [] puts chain holds.0.0
+      (omega (arith, holds.0.1)) none d (writes_first first port (record r.state { chain = Some chain }) chain d refl ready.1 holds)
+      (λ e told. keeps_bind Over (f (record r.state { chain = None })) finish e
+      (goes (λ s x. Keeps Over (finish s) x) e
+      ((subst (λ (o : Option Chain). IfSome o IsRxChain) (sym none) tt, told), λ going. still)))))
+      (λ q d none over holds. ended q d none over holds)
+      c ready
+    where
+      ended : (q : Filling) (d : RingContents) → q.state.chain ≡ None → q.over ≡ true → IsWith first port q.state d
+          → Keeps Over (elim q.state.chain [
+            | None ↦ Done q
+            | Some chain ↦ bind (put_on chain h [] q) (λ p. bind (f p.state) (λ s. Done (record p { state = s })))
+          ]) d
+      ended q d none over holds = by q.state.chain none
+        where
+          by : (o : Option Chain) → o ≡ None → Keeps Over (elim o [
+            | None ↦ Done q
+            | Some chain ↦ bind (put_on chain h [] q) (λ p. bind (f p.state) (λ s. Done (record p { state = s })))
+          ]) d
+          by None is = (holds, λ going. let both : true ≡ false = sym over ∙ going in absurd cc)
+          by (Some chain) is = absurd cc
+
+  one_put : (q : Filling) (c : RingContents) → Over q c → Goes Ready Over (q, not q.over) c
+  one_put q c filled = goes_on first port q c filled
+
+  -- The oldest reply.
+  reply_keeps : (rs : List Reply) (r : Filling) (c : RingContents) → r.state.replies ≡ rs → Ready r c → Keeps (Goes Ready Over)
+      (put_reply_of rs r) c
+  reply_keeps [] r c is ready = open_filled first port r c ready
+  reply_keeps (reply ∷ rest) r c is ready =
+      let h : Header = reply_header reply r.state in
+      let f : DeviceState → DeviceTree DeviceState = λ s. Done (record s { replies = rest }) in
+      let again : Filling → DeviceTree (Filling × Bool) = λ q. Done (q, not q.over) in
+      keeps_then Over (Goes Ready Over) (put_packet h f r) again c
+      (put_packet_keeps h f r (record r.state { chain = None; replies = rest })
+      (λ fits. reply_puts port r.state fits reply rest is) refl ready.1
+      (λ R d holds. holds) c ready)
+      one_put
+
+  put_reply_keeps : (r : Filling) (c : RingContents) → Ready r c → Keeps (Goes Ready Over) (put_reply r) c
+  put_reply_keeps r c ready = reply_keeps r.state.replies r c refl ready
+
+  -- What a connection owes.
+  module _ (e : DeviceEntry) (r : Filling) (there : Contains r.state.table.entries e) where
+    -- The state with the chain spent.
+    abbrev spent : DeviceState
+    spent = record r.state { chain = None }
+
+    owed_by : (what : Owed) → owes_of e.value.end ≡ Some what → (c : RingContents) → Ready r c
+        → Keeps Over (put_packet (owed_header e.value.end (route_to_guest r.state.cid e.flow) what) (after_paying what e) r) c
+    owed_by owed.Request owes c ready =
+        put_packet_keeps _ (after_paying owed.Request e) r
+        (record (with_connection e.slot (record e.value {
+          end = paid_of e.value.end owed.Request;
+          asked_at =
+              Some r.state.now;
+        }) spent) { last_put = Some e.slot })
+        (λ fits. owed_puts port r.state fits e there owed.Request owes
+        (record e.value { end = paid_of e.value.end owed.Request; asked_at = Some r.state.now }) refl refl refl)
+        refl ready.1 (λ R d holds. holds) c ready
+    owed_by owed.Response owes c ready =
+        put_packet_keeps _ (after_paying owed.Response e) r
+        (record (with_connection e.slot (record e.value { end = paid_of e.value.end owed.Response }) spent) { last_put = Some e.slot })
+        (λ fits. owed_puts port r.state fits e there owed.Response owes
+        (record e.value { end = paid_of e.value.end owed.Response }) refl refl refl)
+        refl ready.1 (λ R d holds. holds) c ready
+    owed_by owed.CreditUpdate owes c ready =
+        put_packet_keeps _ (after_paying owed.CreditUpdate e) r
+        (record (with_connection e.slot (record e.value { end = paid_of e.value.end owed.CreditUpdate }) spent) { last_put = Some e.slot })
+        (λ fits. owed_puts port r.state fits e there owed.CreditUpdate owes
+        (record e.value { end = paid_of e.value.end owed.CreditUpdate }) refl refl refl)
+        refl ready.1 (λ R d holds. holds) c ready
+    owed_by owed.CreditRequest owes c ready =
+        put_packet_keeps _ (after_paying owed.CreditRequest e) r
+        (record (with_connection e.slot (record e.value { end = paid_of e.value.end owed.CreditRequest }) spent) { last_put = Some e.slot })
+        (λ fits. owed_puts port r.state fits e there owed.CreditRequest owes
+        (record e.value { end = paid_of e.value.end owed.CreditRequest }) refl refl refl)
+        refl ready.1 (λ R d holds. holds) c ready
+    owed_by (owed.Shutdown bits) owes c ready =
+        put_packet_keeps _ (after_paying (owed.Shutdown bits) e) r
+        (record (with_connection e.slot (record e.value { end = paid_of e.value.end (owed.Shutdown bits) }) spent) {
+          last_put =
+              Some e.slot;
+        })
+        (λ fits. owed_puts port r.state fits e there (owed.Shutdown bits) owes
+        (record e.value { end = paid_of e.value.end (owed.Shutdown bits) }) refl refl refl)
+        refl ready.1 (λ R d holds. holds) c ready
+    owed_by owed.Rst owes c ready =
+        let gone : DeviceState = record spent { last_put = Some e.slot } in
+        put_packet_keeps _ (after_paying owed.Rst e) r
+        (after_leaving e.slot (with_connection e.slot (stream_closed e.value) gone))
+        (λ fits. rst_puts port r.state fits e there owed.Rst owes refl (stream_closed e.value))
+        refl ready.1
+        (λ R d holds. closing_keeps first port R (λ t. Done (after_leaving e.slot t)) e stream_closed gone d holds) c ready
+
+  put_owed_keeps : (slot : ℕ) (r : Filling) (c : RingContents) → Ready r c → Keeps (Goes Ready Over) (put_owed slot r) c
+  put_owed_keeps slot r c ready = by (entry_under r.state.table slot) refl
+    where
+      owing : (e : DeviceEntry) → Contains r.state.table.entries e → (o : Option Owed) → owes_of e.value.end ≡ o → Keeps (Goes Ready Over)
+          (elim o [
+            | None ↦ Done (r, false)
+            | Some what ↦
+                bind (put_packet (owed_header e.value.end (route_to_guest r.state.cid e.flow) what) (after_paying what e) r)
+                (λ q. Done (q, not q.over))
+          ]) c
+      owing e there None owes = open_filled first port r c ready
+      owing e there (Some what) owes =
+          keeps_then Over (Goes Ready Over) (put_packet (owed_header e.value.end (route_to_guest r.state.cid e.flow) what)
+          (after_paying what e) r)
+          (λ q. Done (q, not q.over)) c (owed_by e r there what owes c ready) one_put
+
+      by : (o : Option DeviceEntry) → entry_under r.state.table slot ≡ o → Keeps (Goes Ready Over) (elim o [
+        | None ↦ Done (r, false)
+        | Some e ↦ elim (owes_of e.value.end) [
+          | None ↦ Done (r, false)
+          | Some what ↦
+              bind (put_packet (owed_header e.value.end (route_to_guest r.state.cid e.flow) what) (after_paying what e) r)
+              (λ q. Done (q, not q.over))
+        ]
+      ]) c
+      by None under = open_filled first port r c ready
+      by (Some e) under = owing e (under_there r.state slot e under) (owes_of e.value.end) refl
+
+  -- What a connection reads of its stream.
+  module _ (e : DeviceEntry) (r : Filling) (there : Contains r.state.table.entries e)
+      (may : may_read e.value.end e.value.end.state ≡ true) where
+    old : is_new e.value.end ≡ false
+    old = live_old e.value.end may
+
+    module _ (chain : Chain) (going : r.state.failed ≡ None) (over : r.over ≡ false) where
+      abbrev chained : Filling
+      chained = record r { state = record r.state { chain = Some chain } }
+
+      payload_keeps : (payload : List ℕ) → length payload ≤ read_room (free_of e.value.end.credit) chain → (c : RingContents)
+          → IsWith first port (record r.state { chain = Some chain }) c → Keeps Over (put_payload chain e payload chained) c
+      payload_keeps payload short c holds =
+          let h : Header = payload_header e.value.end (route_to_guest r.state.cid e.flow) (length payload) in
+          let v : DeviceConnection = record e.value { end = with_payload_sent e.value.end (length payload) } in
+          let t : DeviceState = record (with_connection e.slot v (record r.state { chain = None })) { last_put = Some e.slot } in
+          let p : Filling = record chained { state = record r.state { chain = None }; put = r.put + 1 } in
+          let after : Filling → DeviceTree Filling = λ p. Done (record p {
+            state = record (with_connection e.slot (record e.value {
+              end = with_payload_sent e.value.end
+                  (length payload);
+            }) p.state) { last_put = Some e.slot };
+            read = p.read + length payload;
+          }) in
+          let long : IsRxChain chain = holds.0 in
+          keeps_bind Over (put_on chain h payload chained) after c
+          (written_keeps first port r.state (λ x d. Keeps Over (after x) d) (Done p) t h payload
+          (λ fits. send_puts port r.state fits e there payload
+          (can_send e.value.end (length payload) may (omega (arith, short))) (omega (arith, short)) old)
+          chain holds.0.0 (omega (arith, short, holds.0.1)) refl c
+          (writes_first first port (record r.state { chain = Some chain }) chain c refl going holds)
+          (λ d told. ((tt, told), λ still. going)))
+
+      answered_keeps : (answer : StreamRead) (payload : List ℕ) → length payload ≤ read_room (free_of e.value.end.credit) chain →
+          (c : RingContents)
+          → IsWith first port (record r.state { chain = Some chain }) c → Keeps Over (read_answered chain e answer payload chained) c
+      answered_keeps (read.Got n) payload short c holds = payload_keeps payload short c holds
+      answered_keeps read.Again payload short c holds = (holds, λ still. going)
+      answered_keeps read.End payload short c holds =
+          let s : DeviceState = record r.state { chain = Some chain } in (
+            changed first port s (with_connection e.slot (after_shut 2 s.now e.value) s) refl refl
+                (λ fits. shuts port s fits e there 2 s.now old) c holds,
+            λ still. going,
+          )
+      answered_keeps read.Failed payload short c holds =
+          let s : DeviceState = record r.state { chain = Some chain } in
+          closing_keeps first port Over (λ t. Done (record chained { state = t })) e cut_off (with_fault s) c (
+            changed first port s (with_connection e.slot (cut_off e.value) (with_fault s)) refl refl
+                (λ fits. cuts port s fits e there old) c holds,
+            λ still. going,
+          )
+
+      chain_keeps : (c : RingContents) → IsWith first port (record r.state { chain = Some chain }) c → Keeps Over
+          (read_with_chain e chained) c
+      chain_keeps c holds = (
+        tt,
+        λ a d fit same. answered_keeps a.0 a.1 fit d
+            (subst (λ (x : RingContents). IsWith first port (record r.state { chain = Some chain }) x) (sym same) holds),
+      )
+
+    none_keeps : (q : Filling) (d : RingContents) → q.state.chain ≡ None → q.over ≡ true → IsWith first port q.state d → Keeps Over
+        (read_with_chain e q) d
+    none_keeps q d none over holds = by q.state.chain none
+      where
+        by : (o : Option Chain) → o ≡ None → Keeps Over (read_with_chain e (record q { state = record q.state { chain = o } })) d
+        by None is = (
+          subst (λ (o : Option Chain). IsWith first port (record q.state { chain = o }) d) none holds,
+          λ going. let both : true ≡ false = sym over ∙ going in absurd cc,
+        )
+        by (Some chain) is = absurd cc
+
+    read_by : (b : Bool) (c : RingContents) → Ready r c → Keeps Over (cond b
+        (Done (record r { state = with_connection e.slot (record e.value { end = wanting_credit e.value.end }) r.state }))
+        (bind (hold r) (read_with_chain e))) c
+    read_by true c ready = (
+      changed first port r.state (with_connection e.slot (record e.value { end = wanting_credit e.value.end }) r.state) refl refl
+          (λ fits. wants port r.state fits e there old) c ready.0,
+      λ going. ready.1,
+    )
+    read_by false c ready =
+        hold_keeps first port Over (read_with_chain e) r (λ chain d holds. chain_keeps chain ready.1 ready.2 d holds) none_keeps c ready
+
+  read_keeps : (e : DeviceEntry) (r : Filling) → Contains r.state.table.entries e → (c : RingContents) → Ready r c → Keeps Over
+      (read_stream e r) c
+  read_keeps e r there c ready = by (may_read e.value.end e.value.end.state) refl
+    where
+      by : (b : Bool) → may_read e.value.end e.value.end.state ≡ b → Keeps Over (cond b (cond (free_of e.value.end.credit == 0)
+          (Done (record r { state = with_connection e.slot (record e.value { end = wanting_credit e.value.end }) r.state }))
+          (bind (hold r) (read_with_chain e))) (Done r)) c
+      by false may = open_filled first port r c ready
+      by true may = read_by e r there may (free_of e.value.end.credit == 0) c ready
+
+  -- A slot of the round.
+  owes_keeps : (slot : ℕ) (q : Filling) (c : RingContents) → Over q c
+      → Keeps Over (if q.over then Done q else while_up_to OWED_MAX (put_owed slot) q) c
+  owes_keeps slot q c filled = by q.over refl
+    where
+      by : (b : Bool) → q.over ≡ b → Keeps Over (cond b (Done q) (while_up_to OWED_MAX (put_owed slot) q)) c
+      by true is = filled
+      by false is = keeps_while Ready Over (open_filled first port) (put_owed slot) (put_owed_keeps slot) OWED_MAX q c
+          (filled.0, filled.1 is, is)
+
+  abbrev reading : Option DeviceEntry → Filling → DeviceTree Filling
+  reading o r = elim o [ None ↦ Done r | Some e ↦ read_stream e r ]
+
+  serve_keeps : (slot : ℕ) (r : Filling) (c : RingContents) → Over r c → Keeps Over (serve_slot slot r) c
+  serve_keeps slot r c filled = by r.over refl
+    where
+      reads : r.over ≡ false → (o : Option DeviceEntry) → entry_under r.state.table slot ≡ o → Keeps Over (reading o r) c
+      reads is None under = filled
+      reads is (Some e) under = read_keeps e r (under_there r.state slot e under) c (filled.0, filled.1 is, is)
+
+      by : (b : Bool) → r.over ≡ b → Keeps Over (cond b (Done r) (bind (reading (entry_under r.state.table slot) r) (λ q.
+          if q.over then Done q else while_up_to OWED_MAX (put_owed slot) q))) c
+      by true is = filled
+      by false is =
+          keeps_then Over Over (reading (entry_under r.state.table slot) r)
+          (λ q. if q.over then Done q else while_up_to OWED_MAX (put_owed slot) q) c
+          (reads is (entry_under r.state.table slot) refl) (owes_keeps slot)
+
+  -- The whole call.
+  abbrev FillEnds : DeviceState × Result FilledAnswer Failure → RingContents → Type 0
+  FillEnds x c = IsWith first port x.0 c
+
+  rest_keeps : (r : Filling) (c : RingContents) → Over r c
+      → Keeps Over (if r.over then Done r else for_each serve_slot (round_from r.state.last_put (slots r.state.table)) r) c
+  rest_keeps r c filled = by r.over
+    where
+      by : (b : Bool) → Keeps Over (cond b (Done r) (for_each serve_slot (round_from r.state.last_put (slots r.state.table)) r)) c
+      by true = filled
+      by false = keeps_each Over serve_slot serve_keeps (round_from r.state.last_put (slots r.state.table)) r c filled
+
+  pub fill_keeps : (s : DeviceState) (c : RingContents) → IsWith first port s c → Keeps FillEnds (fill_rx_of s) c
+  fill_keeps s c holds = by s.failed refl
+    where
+      start : Filling
+      start = record { state = s; put = 0; read = 0; over = false }
+
+      by : (o : Option Failure) → s.failed ≡ o → Keeps FillEnds (elim o [
+        | Some f ↦ Done (s, Err f)
+        | None ↦
+            bind (while_up_to (length s.replies) put_reply (record { state = s; put = 0; read = 0; over = false })) (λ r.
+            bind (if r.over then Done r else for_each serve_slot (round_from r.state.last_put (slots r.state.table)) r)
+            (λ q. Done (filled_of q)))
+      ]) c
+      by (Some f) failed = holds
+      by None going =
+          keeps_then Over FillEnds (while_up_to (length s.replies) put_reply (record { state = s; put = 0; read = 0; over = false })) (λ r.
+          bind (if r.over then Done r else for_each serve_slot (round_from r.state.last_put (slots r.state.table)) r)
+          (λ q. Done (filled_of q))) c
+          (keeps_while Ready Over (open_filled first port) put_reply put_reply_keeps (length s.replies)
+          (record { state = s; put = 0; read = 0; over = false }) c (holds, going, refl))
+          (λ r d filled. keeps_then Over FillEnds (if r.over then Done r else for_each serve_slot
+          (round_from r.state.last_put (slots r.state.table)) r)
+          (λ q. Done (filled_of q)) d (rest_keeps r d filled) (λ q e over. over.0))

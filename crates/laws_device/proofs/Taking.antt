@@ -1,0 +1,138 @@
+-- A packet that is got: the device's connections are those that the log with it leaves.
+use Rattle.std.proofs.Common.{◌≡◌, ℕ, ◌&&◌, Bool, true, false, cond, List, [], ◌∷◌, Contains, None, refl, sym, ap, subst, ◌∙◌, arith}
+use Rattle.std.proofs.lemmas.List.Elements.{All-push}
+use Rattle.vs_conn.specs.{End.ConnectionEnd, End.answering, End.end_after, End.is_reset, End.is_of, End.verdict_of, Follows.IsTaken}
+use Rattle.laws_history.specs.{Packets.is_request, Packets.is_rst, declared.packet.Packet.Packet}
+use Rattle.vs_limits.specs.declared.TheConstants.{BUF_ALLOC}
+use Rattle.vs_flow.specs.{Table.entry_of, Table.has_place, Table.refusal, Table.with_value, Table.without, declared.flow.Flow.Flow}
+use Rattle.vs_flow.proofs.Tables.{accepted}
+use Rattle.vs_page.specs.{Fair.IsFairLog, Held.FitsWire, Log.Device, Log.Log, Log.flow_to_host, Log.side_of, Open.is_dropped}
+use Rattle.vs_page.specs.declared.log.LogEntry.TheVariants.{GotPacket}
+use Rattle.vs_replies.specs.Owed.{reply_to}
+use Rattle.laws_tables.specs.{Ends.Ends, Ends.FlowEnd, Heard.IsInOrder, Heard.heard_of, Matches.Matches}
+use Rattle.laws_tables.specs.Steps.{HasEnd, HasNone, forgotten, is_kept, is_overrun, left, taken, with_clean, with_end}
+use Rattle.laws_tables.proofs.{Fair.got_in_order, Fair.got_is_taken, Slots.added_slot, Slots.no_entry}
+use Rattle.laws_tables.proofs.Keeps.{accepts, drops, forgets, has_room, ignores, refuses, takes}
+use Rattle.vs_device_parts.specs.Connections.{new_connection, with_connection, with_dialed, with_reply}
+use Rattle.vs_device_parts.specs.State.{DeviceConnection, DeviceEntry, DeviceState}
+use Rattle.laws_device.specs.Honest.{IsFitFlow, IsFitReply, IsLeft, ends_of_state, end_in}
+use Rattle.laws_device.proofs.Tabling.{IsFitConnection, begun_fits, connection_ends, connection_fits, has_end, left_ends, left_fits}
+use Rattle.laws_device.proofs.Tabling.{opening_fits}
+use Rattle.vs_header.specs.declared.Kind.TheVariants.{Stream}
+
+-- What an RST leaves of an end that keeps no flow.
+pub forgotten_taken : (f : Flow) (after : ConnectionEnd) (part : Ends) → part.clean ≡ [] → (b kept : Bool)
+    → forgotten (cond b (with_clean kept f (left f part)) (with_end f after part)) ≡ cond b (left f part) (with_end f after part)
+forgotten_taken f after part none true true = ap (λ (fs : List Flow). let x : Ends = record (left f part) { clean = fs } in x) (sym none)
+forgotten_taken f after part none true false = ap (λ (fs : List Flow). let x : Ends = record (left f part) { clean = fs } in x) (sym none)
+forgotten_taken f after part none false kept = ap (λ (fs : List Flow). let x : Ends = record (with_end f after part) { clean = fs } in x) (sym none)
+
+module _ (first port : ℕ) (s : DeviceState) (p : Packet) (log : Log) (was : IsLeft first port s.cid s.overrun s.table s.replies log)
+    (fair : IsFairLog Device (GotPacket p ∷ log)) (wire : FitsWire p.header) where
+  abbrev pub Goes : DeviceState → Type 0
+  Goes t = IsLeft first port t.cid t.overrun t.table t.replies (GotPacket p ∷ log)
+
+  order : IsInOrder (side_of Device (flow_to_host p.header)) (heard_of Device first (flow_to_host p.header) log) p
+  order = got_in_order Device first p log (fair (flow_to_host p.header))
+
+  comes : IsTaken p
+  comes = got_is_taken Device p log (fair (flow_to_host p.header))
+
+  -- A packet whose source isn't the guest, or whose destination isn't the host.
+  pub drops_it : is_dropped Device s.cid p.header ≡ true → Goes s
+  drops_it dropped = record {
+    fits = was.fits;
+    none_overrun = was.none_overrun;
+    matches = drops Device first p (ends_of_state port s) log was.matches dropped (λ request. order);
+    fair = fair;
+  }
+
+  module _ (kept : is_dropped Device s.cid p.header ≡ false) where
+    -- A packet of a connection of the table.
+    module _ (e : DeviceEntry) (there : Contains s.table.entries e) (flow : flow_to_host p.header ≡ e.flow) where
+      has : HasEnd (flow_to_host p.header) e.value.end (ends_of_state port s)
+      has = subst (λ (f : Flow). HasEnd f e.value.end (ends_of_state port s)) (sym flow) (has_end s was.fits e there port)
+
+      pub has_its_room : is_overrun (verdict_of e.value.end p.header) ≡ false
+      has_its_room = has_room Device first p e.value.end (ends_of_state port s) log was.matches has fair
+
+      -- The device keeps no flow to be used again.
+      now : Matches Device first (cond (is_rst p && is_of e.value.end.kind p.header) (left e.flow (ends_of_state port s))
+          (with_end e.flow (end_after e.value.end p.header) (ends_of_state port s))) (GotPacket p ∷ log)
+      now = subst (λ (part : Ends). Matches Device first part (GotPacket p ∷ log))
+          (forgotten_taken e.flow (end_after e.value.end p.header) (ends_of_state port s) refl (is_rst p && is_of e.value.end.kind p.header)
+          (is_kept Device e.flow e.value.end p))
+          (forgets Device first (taken Device e.flow e.value.end p (ends_of_state port s)) (GotPacket p ∷ log)
+          (subst (λ (f : Flow). Matches Device first (taken Device f e.value.end p (ends_of_state port s)) (GotPacket p ∷ log)) flow
+          (takes Device first p e.value.end (ends_of_state port s) log was.matches kept has order comes)))
+
+      pub stays_with : (c : DeviceConnection) → c.end ≡ end_after e.value.end p.header → IsFitConnection c
+          → (is_reset p.header && is_of e.value.end.kind p.header) ≡ false → Goes (with_connection e.slot c s)
+      stays_with c is held goes_on = record {
+        fits = connection_fits s was.fits e.slot c held;
+        none_overrun = was.none_overrun;
+        matches = subst (λ (part : Ends). Matches Device first part (GotPacket p ∷ log))
+            (ap (λ (b : Bool). cond b (left e.flow (ends_of_state port s))
+            (with_end e.flow (end_after e.value.end p.header) (ends_of_state port s))) goes_on
+            ∙ ap (λ (x : ConnectionEnd). with_end e.flow x (ends_of_state port s)) (sym is) ∙ sym
+            (connection_ends s was.fits e there port c)) now;
+        fair = fair;
+      }
+
+      pub leaves_with : (c : DeviceConnection) → (is_reset p.header && is_of e.value.end.kind p.header) ≡ true
+          → Goes (record s { table = without (with_value s.table e.slot c) e.slot })
+      leaves_with c over = record {
+        fits = left_fits s was.fits e there c;
+        none_overrun = was.none_overrun;
+        matches = subst (λ (part : Ends). Matches Device first part (GotPacket p ∷ log))
+            (ap (λ (b : Bool). cond b (left e.flow (ends_of_state port s))
+            (with_end e.flow (end_after e.value.end p.header) (ends_of_state port s))) over
+            ∙ sym (left_ends s was.fits e there port c)) now;
+        fair = fair;
+      }
+
+    -- A packet of another flow.
+    module _ (none : entry_of s.table (flow_to_host p.header) ≡ None) where
+      no_end : HasNone (flow_to_host p.header) (ends_of_state port s)
+      no_end = no_entry end_in s.table (flow_to_host p.header) none
+
+      flow_fits : IsFitFlow (flow_to_host p.header)
+      flow_fits = record { guest = wire.src_port; host = wire.dst_port; peer = wire.dst_cid }
+
+      pub opens : (stream : ℕ) → is_request p ≡ true → p.header.kind ≡ 1 → has_place s.table ≡ true → Goes
+          (with_dialed (flow_to_host p.header) p.header stream s)
+      opens stream request kind place =
+          let f : Flow = flow_to_host p.header in
+          let c : DeviceConnection = new_connection (answering Stream BUF_ALLOC p.header) stream false in
+          let free : refusal s.table f ≡ None = rw (none, place) refl in
+          record {
+            fits = opening_fits s was.fits f c (accepted s.table f free) flow_fits (begun_fits c
+                (record { alloc = omega arith; fwd = omega arith; rx = omega arith; unread = omega arith; within = omega arith }) refl);
+            none_overrun = was.none_overrun;
+            matches = subst (λ (part : Ends). Matches Device first part (GotPacket p ∷ log))
+                (ap (λ (es : List FlowEnd). let part : Ends = record (ends_of_state port s) { entries = es } in part)
+                (sym (added_slot end_in s.table f c)))
+                (accepts Device first Stream p (ends_of_state port s) log was.matches kept no_end order comes request kind);
+            fair = fair;
+          }
+
+      pub replies_to : is_rst p ≡ false → Goes (with_reply (reply_to (flow_to_host p.header) p.header) s)
+      replies_to plain = record {
+        fits = record {
+          cid_fits = was.fits.cid_fits;
+          sound = was.fits.sound;
+          entries = was.fits.entries;
+          owed = All-push IsFitReply s.replies (reply_to (flow_to_host p.header) p.header) was.fits.owed flow_fits;
+        };
+        none_overrun = was.none_overrun;
+        matches = refuses Device first p (ends_of_state port s) log was.matches kept no_end plain order;
+        fair = fair;
+      }
+
+      pub ignores_it : is_rst p ≡ true → Goes s
+      ignores_it rst = record {
+        fits = was.fits;
+        none_overrun = was.none_overrun;
+        matches = ignores Device first p (ends_of_state port s) log was.matches kept no_end rst order;
+        fair = fair;
+      }

@@ -1,0 +1,231 @@
+-- What taking a packet of the guest keeps.
+use Rattle.std.proofs.Common.{◌≡◌, ℕ, ◌-◌, ◌≤◌, ◌==◌, nat_le, nat_lt, Bool, true, false, cond, if◌then◌else◌, List, [], ◌∷◌, length, take}
+use Rattle.std.proofs.Common.{drop, Option, Some, None, refl, sym, ap, subst, ◌∙◌, arith, IfSome, length-drop}
+use Rattle.std.proofs.lemmas.Bool.Decides.{nat_tests}
+use Rattle.std.specs.Option.{option_map}
+use Rattle.vs_contents.specs.CallTree.{Done, Ask, bind}
+use Rattle.vs_conn.specs.declared.end.Verdict.{Verdict}
+use Rattle.vs_header.specs.{Op.op_number, Packet.header_of, declared.Header.Header, declared.TheConstants.HEADER_LEN}
+use Rattle.vs_header.specs.declared.Op.TheVariants.{Rw}
+use Rattle.laws_history.specs.{Packets.size, declared.packet.Packet.Packet}
+use Rattle.vs_page.specs.{Fair.IsFairLog, Held.FitsWire, Held.packet_held, Held.packet_with, Held.payload_held}
+use Rattle.vs_page.specs.{Log.Device, Log.Log, Log.flow_got, declared.log.LogEntry.TheVariants.GotPacket}
+use Rattle.vs_page.proofs.Holding.{header_fits, packet_whole}
+use Rattle.vs_ring_port.specs.{Chains.Held, Contents.RingContents, Contents.Read, Contents.Return, Contents.Take}
+use Rattle.vs_ring_port.specs.{EndLog.EndLog, EndLog.log_returned, EndLog.log_taken, EndLog.with_packet, declared.device_ring.Chain.Chain}
+use Rattle.vs_ring_port.specs.{declared.device_ring.Next.Next, declared.failure.Failure.Failure, declared.queue.Queue.TheVariants.Tx}
+use Rattle.vs_ring_port.specs.DeviceCalls.{DeviceAllows, IsTakenAs}
+use Rattle.laws_tables.proofs.Fair.{got_formed}
+use Rattle.vs_device_parts.specs.{declared.answers.Taken.Taken, Calls.IsFitAnswer, Calls.Ring, Playing.IsRxChain, State.DeviceState}
+use Rattle.vs_device_parts.specs.Transmitting.{failing, on_header, on_next, on_packet, take_tx_of}
+use Rattle.vs_limits.specs.declared.TheConstants.{DEVICE_REPLIES}
+use Rattle.laws_device.specs.Honest.{IsLeft, IsToldOf, IsWith, unwritten}
+use Rattle.laws_device.proofs.Ringing.{HoldsFirst, Tells, bytes_held, first_there, moves, returned_entries, returned_held, tells_weaker}
+use Rattle.laws_device.proofs.Hearing.{After, Came, Heard, IsCome, packet_keeps}
+use Rattle.laws_device.proofs.Keeping.{Keeps, keeps_then}
+use Rattle.vs_ring_port.specs.declared.device_ring.Next.TheVariants as next
+use Rattle.vs_ring_port.specs.declared.failure.Failure.TheVariants as failure
+use Rattle.vs_device_parts.specs.declared.answers.Taken.TheVariants as taken
+
+-- The packet that a page holds has the page's header, and a page with a header holds a packet unless its len is above what follows.
+pub some_test : {A : Type 0} (b : Bool) (o : Option A) (x : A) → cond b o None ≡ Some x → o ≡ Some x
+some_test true o x is = is
+some_test false o x is = absurd cc
+
+header_by : (h : Header) (p : Packet) (o : Option (List ℕ)) → option_map (λ payload. record { header = h; payload = payload }) o ≡ Some p
+    → p.header ≡ h
+header_by h p None is = absurd cc
+header_by h p (Some payload) is = let same : ◌≡◌ {A = Packet} record { header = h; payload = payload } p = cc in sym
+    (ap (λ (q : Packet). q.header) same)
+
+pub header_is : (page : List ℕ) (p : Packet) → packet_held page ≡ Some p → p.header ≡ header_of (take HEADER_LEN page)
+header_is page p held =
+    header_by (header_of (take HEADER_LEN page)) p (payload_held (header_of (take HEADER_LEN page)) (drop HEADER_LEN page))
+    (some_test (nat_le HEADER_LEN (length page)) (packet_with (header_of (take HEADER_LEN page)) (drop HEADER_LEN page)) p held)
+
+none_by : (h : Header) (rest : List ℕ) (a b c : Bool) → a ≡ true → c ≡ true
+    → cond a (option_map (λ payload. let p : Packet = record { header = h; payload = payload } in p)
+    (cond b (cond c (Some (take h.len rest)) None) (Some []))) None ≡ None → ⊥
+none_by h rest true true true av cv is = cc
+none_by h rest true false c av cv is = cc
+none_by h rest false b c av cv is = cc
+none_by h rest true true false av cv is = cc
+
+held_there : (page : List ℕ) → HEADER_LEN ≤ length page → (header_of (take HEADER_LEN page)).len ≤ length page - HEADER_LEN
+    → packet_held page ≡ None → ⊥
+held_there page long fits none =
+    let h : Header = header_of (take HEADER_LEN page) in
+    let rest : List ℕ = drop HEADER_LEN page in
+    let left = length-drop HEADER_LEN page in
+    let within : h.len ≤ length rest = omega (arith, fits, left) in
+    none_by h rest (nat_le HEADER_LEN (length page)) (h.op == op_number Rw) (nat_le h.len (length rest))
+    (grind (arith, nat_tests, long)) (grind (arith, nat_tests, within)) none
+
+module _ (first port : ℕ) (s : DeviceState) where
+  abbrev TakeEnds : DeviceState × Taken → RingContents → Type 0
+  TakeEnds x c = IsWith first port x.0 c
+
+  module _ (chain : Chain) (long : HEADER_LEN ≤ chain.readable) (queue : chain.queue ≡ Tx) where
+    -- The page that was taken stands in the log, where it holds a packet.
+    record IsTaken (page : List ℕ) (l : EndLog) : Type 0 where
+      log : Log
+      entries_are : l.entries ≡ with_packet (λ p. GotPacket p) (packet_held page) log
+      was : IsLeft first port s.cid s.overrun s.table s.replies log
+      fair : IsFairLog Device (with_packet (λ p. GotPacket p) (packet_held page) log)
+
+    abbrev Took : Bool → EndLog → Type 0
+    Took honest l = (page : List ℕ) × HoldsFirst chain page (unwritten s.chain) l × (chain.readable ≡ length page) ×
+        (honest ≡ true → IsTaken page l)
+
+    -- Its header was read.
+    abbrev HasRead : Header → Bool → EndLog → Type 0
+    HasRead h honest l =
+        (page : List ℕ) × HoldsFirst chain page (unwritten s.chain) l × (chain.readable ≡ length page) ×
+        (h ≡ header_of (take HEADER_LEN page))
+        × (honest ≡ true → IsTaken page l)
+
+    -- Its len is above what follows the header: then it is no packet.
+    short_by : (h : Header) (page : List ℕ) (log : Log) (o : Option Packet) → packet_held page ≡ o → chain.readable ≡ length page
+        → h ≡ header_of (take HEADER_LEN page) → nat_lt (chain.readable - HEADER_LEN) h.len ≡ true
+        → IsLeft first port s.cid s.overrun s.table s.replies log → IsFairLog Device (with_packet (λ p. GotPacket p) o log)
+        → IsLeft first port s.cid s.overrun s.table s.replies (with_packet (λ p. GotPacket p) o log)
+    short_by h page log None held readable head short was fair = was
+    short_by h page log (Some p) held readable head short was fair =
+        let formed = got_formed Device p log (fair (flow_got Device p)) in
+        let whole = (packet_whole page p held).1 in
+        let len : h.len ≡ size p = ap (λ (x : Header). x.len) (head ∙ sym (header_is page p held)) ∙ formed.len in
+        absurd (grind (arith, nat_tests, short, whole, len, readable))
+
+    short_ends : (h : Header) (f : Failure) (c : RingContents) → nat_lt (chain.readable - HEADER_LEN) h.len ≡ true
+        → IfSome s.chain IsRxChain
+        → Tells (HasRead h) c → IsWith first port (failing f s) c
+    short_ends h f c short rx tells = (
+      rx,
+      tells_weaker (HasRead h) (IsToldOf first port (failing f s)) (λ hon l read. (
+        λ still. absurd cc,
+        λ honest.
+            let k = read.4 honest in
+            subst (λ (log : Log). IsLeft first port s.cid s.overrun s.table s.replies log) (sym k.entries_are)
+            (short_by h read.0 k.log (packet_held read.0) refl read.2 read.3 short k.was k.fair),
+      )) c tells,
+    )
+
+    -- Else it is one.
+    come_by : (h : Header) (page : List ℕ) (l : EndLog) (wire : FitsWire h) (log : Log) (o : Option Packet) → packet_held page ≡ o
+        → chain.readable ≡ length page
+        → h ≡ header_of (take HEADER_LEN page) → nat_lt (chain.readable - HEADER_LEN) h.len ≡ false
+        → l.entries ≡ with_packet (λ p. GotPacket p) o log
+        → IsLeft first port s.cid s.overrun s.table s.replies log → IsFairLog Device (with_packet (λ p. GotPacket p) o log)
+        → IsCome first port s chain h wire l
+    come_by h page l wire log None held readable head fits entries was fair =
+        let len : (header_of (take HEADER_LEN page)).len ≡ h.len = ap (λ (x : Header). x.len) (sym head) in
+        let within : h.len ≤ chain.readable - HEADER_LEN = grind (arith, nat_tests, fits) in
+        absurd (held_there page (omega (arith, long, readable)) (omega (arith, within, readable, len)) held)
+    come_by h page l wire log (Some p) held readable head fits entries was fair =
+        let same : p ≡ record { header = h; payload = p.payload } =
+        ap (λ (x : Header). let q : Packet = record { header = x; payload = p.payload } in q) (header_is page p held ∙ sym head) in
+        record {
+          payload = p.payload;
+          log = log;
+          entries_are = entries ∙ ap (λ (q : Packet). GotPacket q ∷ log) same;
+          was = was;
+          fair = subst (λ (q : Packet). IsFairLog Device (GotPacket q ∷ log)) same fair;
+        }
+
+    come_tells : (h : Header) (wire : FitsWire h) (c : RingContents) → nat_lt (chain.readable - HEADER_LEN) h.len ≡ false → Tells
+        (HasRead h) c
+        → Tells (Came first port s chain h wire) c
+    come_tells h wire c fits tells = tells_weaker (HasRead h) (Came first port s chain h wire) (λ hon l read. (
+      read.0,
+      read.1,
+      λ honest. let k = read.4 honest in
+          come_by h read.0 l wire k.log (packet_held read.0) refl read.2 read.3 fits k.entries_are k.was k.fair,
+    )) c tells
+
+    -- The chain is returned.
+    returns : (h : Header) (wire : FitsWire h) → IfSome s.chain IsRxChain → s.failed ≡ None → (x : DeviceState × Verdict) (c : RingContents)
+        → Heard first port s chain h wire x c → Keeps TakeEnds (Ask (Ring (Return chain 0)) (λ _. Done (x.0, taken.Packet x.1))) c
+    returns h wire rx going x c (failed, chain_is, tells) = (
+      (λ less. absurd (omega (arith, less)), λ l is. let was = tells l is in first_there chain was.0 (unwritten x.0.chain) l was.1),
+      λ a d fit made. (
+        subst (λ (o : Option Chain). IfSome o IsRxChain) (sym chain_is) rx,
+        moves _ _ _ _ _ (log_returned chain 0) c d made.1 (After first port s chain h wire x.0) (IsToldOf first port x.0)
+            (λ hon l asked was fair. (
+              λ still. returned_held chain was.0 0 (unwritten x.0.chain) l was.1,
+              λ honest. subst (λ (log : Log). IsLeft first port x.0.cid x.0.overrun x.0.table x.0.replies log)
+                  (sym (returned_entries chain Tx was.0 0 (unwritten x.0.chain) l queue was.1)) (was.2 honest),
+            )) tells,
+      ),
+    )
+
+    header_keeps : (h : Header) (wire : FitsWire h) → IfSome s.chain IsRxChain → s.failed ≡ None → (c : RingContents) → Tells (HasRead h) c
+        → Keeps TakeEnds (on_header chain h s) c
+    header_keeps h wire rx going c tells = by (nat_lt (chain.readable - HEADER_LEN) h.len) refl
+      where
+        by : (b : Bool) → nat_lt (chain.readable - HEADER_LEN) h.len ≡ b → Keeps TakeEnds (cond b
+            (let f = failure.PayloadShort h.len (chain.readable - HEADER_LEN) in Done (failing f s, taken.Failed f))
+            (bind (on_packet chain h s) (λ r. Ask (Ring (Return chain 0)) (λ _. Done (r.0, taken.Packet r.1))))) c
+        by true short = short_ends h (failure.PayloadShort h.len (chain.readable - HEADER_LEN)) c short rx tells
+        by false fits =
+            keeps_then (Heard first port s chain h wire) TakeEnds (on_packet chain h s)
+            (λ r. Ask (Ring (Return chain 0)) (λ _. Done (r.0, taken.Packet r.1))) c
+            (packet_keeps first port s chain h wire c (come_tells h wire c fits tells)) (returns h wire rx going)
+
+    read_keeps : IfSome s.chain IsRxChain → s.failed ≡ None → (c : RingContents) → Tells Took c
+        → Keeps TakeEnds (Ask (Ring (Read chain 0 HEADER_LEN)) (λ bytes. on_header chain (header_of bytes) s)) c
+    read_keeps rx going c tells = (
+      tt,
+      λ bytes d fit made. header_keeps (header_of bytes) (header_fits bytes fit) rx going d
+          (moves _ _ _ _ _ (λ l. l) c d made Took (HasRead (header_of bytes)) (λ hon l asked took fair. (
+            took.0,
+            took.1,
+            took.2,
+            ap header_of (asked ∙ ap (take HEADER_LEN) (bytes_held chain took.0 (unwritten s.chain) l took.1)),
+            took.3,
+          )) tells),
+    )
+
+  next_keeps : (answer : Next) (c d : RingContents) → s.failed ≡ None → IsFitAnswer (Take Tx) answer → DeviceAllows (Take Tx) answer c d
+      → IsWith first port s c → Keeps TakeEnds (on_next answer s) d
+  next_keeps (next.Chain chain) c d going fit made holds =
+      read_keeps chain fit.long fit.queue_is holds.0 going d
+      (moves _ _ _ _ _ (log_taken Tx (next.Chain chain) made.0) c d made.1 (IsToldOf first port s) (Took chain fit.long fit.queue_is)
+      (λ hon l asked was fair. by made.0 hon l asked.0 was fair) holds.1)
+    where
+      by : (page : Option (List ℕ)) (hon : Bool) (l : EndLog) → IsTakenAs Tx (next.Chain chain) page → IsToldOf first port s hon l
+          → (hon ≡ true → IsFairLog Device (log_taken Tx (next.Chain chain) page l).entries)
+          → Took chain fit.long fit.queue_is hon (log_taken Tx (next.Chain chain) page l)
+      by None hon l asked was fair = absurd asked
+      by (Some page) hon l asked was fair = (
+        page,
+        ap (λ (held : List Held). let x : Held = record { chain = chain; bytes = page } in x ∷ held) (was.0 going),
+        asked.1,
+        λ honest. record { log = l.entries; entries_are = refl; was = was.1 honest; fair = fair honest },
+      )
+  next_keeps next.None c d going fit made holds = (
+    holds.0,
+    moves _ _ _ _ _ (log_taken Tx next.None made.0) c d made.1 (IsToldOf first port s) (IsToldOf first port s)
+        (λ hon l asked was fair. was) holds.1,
+  )
+  next_keeps (next.Failed f) c d going fit made holds = (
+    holds.0,
+    moves _ _ _ _ _ (log_taken Tx (next.Failed f) made.0) c d made.1 (IsToldOf first port s) (IsToldOf first port (failing f s))
+        (λ hon l asked was fair. (λ still. was.0 going, was.1)) holds.1,
+  )
+
+  pub take_keeps : (c : RingContents) → IsWith first port s c → Keeps TakeEnds (take_tx_of s) c
+  take_keeps c holds = by s.failed refl
+    where
+      full : (b : Bool) → s.failed ≡ None
+          → Keeps TakeEnds (cond b (Done (s, taken.RepliesFull DEVICE_REPLIES)) (Ask (Ring (Take Tx)) (λ answer. on_next answer s))) c
+      full true going = holds
+      full false going = (tt, λ answer d fit made. next_keeps answer c d going fit made holds)
+
+      by : (o : Option Failure) → s.failed ≡ o → Keeps TakeEnds (elim o [
+        | Some f ↦ Done (s, taken.Failed f)
+        | None ↦
+            if nat_le DEVICE_REPLIES (length s.replies) then Done (s, taken.RepliesFull DEVICE_REPLIES)
+            else Ask (Ring (Take Tx)) (λ answer. on_next answer s)
+      ]) c
+      by (Some f) failed = holds
+      by None going = full (nat_le DEVICE_REPLIES (length s.replies)) going

@@ -1,0 +1,455 @@
+-- What the owed event, a reset, a tick, a round of writing and an opening keep.
+use Rattle.std.proofs.Common.{◌≡◌, ℕ, ◌+◌, ◌<◌, ◌≤◌, ◌^◌, ◌==◌, ◌&&◌, ◌||◌, Bool, true, false, cond, if◌then◌else◌, List, [], ◌∷◌, ◌++◌}
+use Rattle.std.proofs.Common.{length, take, Contains, Option, Some, None, Result, Ok, Err, refl, sym, ap, subst, ◌∙◌, arith, IfSome, nat_le}
+use Rattle.std.proofs.Common.{◌⊎◌, inl, inr, length-append, length-take}
+use Rattle.std.proofs.lemmas.Bool.Decides.{nat_tests}
+use Rattle.byteorder.specs.Endian.{little_bytes}
+use Rattle.vs_contents.specs.CallTree.{Done, Ask, bind, for_each}
+use Rattle.vs_conn.specs.End.{asked}
+use Rattle.vs_flow.specs.{Table.IsTable, Table.Table, Table.emptied, Table.entry_under, Table.refusal, Table.slots, declared.flow.Flow.Flow}
+use Rattle.vs_flow.specs.declared.table.TableFault.{TableFault}
+use Rattle.vs_flow.proofs.Tables.{accepted}
+use Rattle.vs_limits.specs.declared.TheConstants.{BUF_ALLOC}
+use Rattle.vs_outside.specs.declared.host_net.StreamWrite.{StreamWrite}
+use Rattle.vs_page.specs.{Log.Device, Log.Log, Overwriting.overwritten}
+use Rattle.vs_ring_port.specs.{Chains.Held, Chains.bytes_in, Contents.RingContents, Contents.PublishCid, Contents.Return, Contents.Take}
+use Rattle.vs_ring_port.specs.{EndLog.EndLog, EndLog.log_reset, EndLog.log_returned, EndLog.log_taken, declared.device_ring.Chain.Chain}
+use Rattle.vs_ring_port.specs.{declared.device_ring.Next.Next, declared.failure.Failure.Failure, declared.queue.Queue.Queue}
+use Rattle.vs_ring_port.specs.DeviceCalls.{DeviceAllows, IsTakenAs, IsWholePacket}
+use Rattle.vs_ring_port.specs.declared.queue.Queue.TheVariants.{Event}
+use Rattle.laws_tables.specs.{Ends.Ends, Ends.FlowEnd, Ends.is_new, Matches.Matches, Steps.IsNextFlow, Steps.asking}
+use Rattle.laws_tables.proofs.{Keeps.asks, Keeps.makes_reset, Keeps.puts_event, Keeps.start_matches, Slots.added_slot, Slots.found_by}
+use Rattle.vs_device_parts.specs.{Playing.IsRxChain, Receiving.event_on, Receiving.pay_event_of}
+use Rattle.vs_device_parts.specs.{State.DeviceConnection, State.DeviceEntry, State.DeviceState, Transmitting.failing}
+use Rattle.vs_device_parts.specs.Calls.{CloseStream, DeviceTree, IsFitAnswer, Label, Ring, TakesWithin, ShutWrite, WriteStream}
+use Rattle.vs_device_parts.specs.Connections.{after_shut, after_written, cut_off, is_timed_out, new_connection, stream_closed, with_client}
+use Rattle.vs_device_parts.specs.Connections.{with_connection, with_fault}
+use Rattle.vs_device_parts.specs.Streams.{Writing, closing, is_written_out, pump_of, pump_slot, shut_write, tick_of, tick_slot, to_write}
+use Rattle.vs_device_parts.specs.Streams.{write_answered, write_pending}
+use Rattle.vs_device_parts.specs.Turns.{after_reset, close_slot, new_device, open_of, reset_of}
+use Rattle.laws_device.specs.Honest.{IsFitFlow, IsFitState, IsFresh, IsLeft, IsToldOf, IsWith, end_in, ends_of_state, port_after}
+use Rattle.laws_device.specs.Honest.{unwritten}
+use Rattle.laws_device.proofs.{Changing.cuts, Changing.shuts, Changing.unseen, Changing.writes, Filling.under_there}
+use Rattle.laws_device.proofs.{Keeping.Keeps, Keeping.keeps_each, Keeping.keeps_then, Steps.changed, Steps.closing_keeps}
+use Rattle.laws_device.proofs.{Tabling.IsFitConnection, Tabling.entry_fits, Tabling.opening_fits, Writing.Writes, Writing.write_keeps}
+use Rattle.laws_device.proofs.Ringing.{Tells, bytes_held, first_there, moves, returned_entries, returned_held, tells_weaker}
+use Rattle.vs_header.specs.declared.Kind.TheVariants.{Stream}
+use Rattle.vs_outside.specs.declared.host_net.StreamWrite.TheVariants as write
+use Rattle.vs_ring_port.specs.declared.device_ring.Next.TheVariants as next
+
+-- A connection that waits since a moment has begun, and so has one that has something to write.
+late_old : (e : DeviceEntry) (s : DeviceState) → IsFitState s → Contains s.table.entries e → is_timed_out s.now e.value ≡ true
+    → is_new e.value.end ≡ false
+late_old e s fits there late = by (is_new e.value.end) refl
+  where
+    by : (b : Bool) → is_new e.value.end ≡ b → b ≡ false
+    by false is = refl
+    by true is =
+        let n = (entry_fits s fits e there).new is in
+        let no : is_timed_out s.now (record e.value { asked_at = None; shut_at = None }) ≡ true =
+        subst (λ (o : Option ℕ). is_timed_out s.now (record e.value { asked_at = None; shut_at = o }) ≡ true) n.shut_at
+        (subst (λ (o : Option ℕ). is_timed_out s.now (record e.value { asked_at = o }) ≡ true) n.asked_at late) in
+        absurd (none_late _ no)
+      where
+        none_late : (a : Bool) → ((a && false) || false) ≡ true → ⊥
+        none_late true is = cc
+        none_late false is = cc
+
+writes_old : (e : DeviceEntry) (s : DeviceState) → IsFitState s → Contains s.table.entries e → (length (to_write e.value) == 0) ≡ false
+    → is_new e.value.end ≡ false
+writes_old e s fits there some = by (is_new e.value.end) refl
+  where
+    by : (b : Bool) → is_new e.value.end ≡ b → b ≡ false
+    by false is = refl
+    by true is =
+        let n = (entry_fits s fits e there).new is in
+        let len = length-take 4096 (e.value.ok_line ++ e.value.pending) in
+        let both = length-append e.value.ok_line e.value.pending in
+        let line : length e.value.ok_line ≡ 0 = ap length n.ok_line in
+        let bytes : length e.value.pending ≡ 0 = ap length n.pending in
+        let nothing : length (to_write e.value) ≡ 0 = omega (arith, len, both, line, bytes) in
+        absurd (grind (arith, nat_tests, some, nothing))
+
+closed_fits : (e : DeviceEntry) (s : DeviceState) → IsFitState s → Contains s.table.entries e → IsFitConnection (stream_closed e.value)
+closed_fits e s fits there =
+    let entry = entry_fits s fits e there in
+    record {
+      bytes = record {
+        unread = omega arith;
+        within = entry.bytes.within;
+        alloc = entry.bytes.alloc;
+        rx = entry.bytes.rx;
+        fwd = entry.bytes.fwd;
+      };
+      new = λ new. let n = entry.new new in record {
+        by_client = n.by_client;
+        ok_line = refl;
+        pending = refl;
+        asked_at = n.asked_at;
+        shut_at = n.shut_at;
+      };
+    }
+
+shut_fits : (e : DeviceEntry) (s : DeviceState) → IsFitState s → Contains s.table.entries e → IsFitConnection
+    (record e.value { write_shut = true })
+shut_fits e s fits there =
+    let entry = entry_fits s fits e there in
+    record {
+      bytes = entry.bytes;
+      new = λ new. let n = entry.new new in record {
+        by_client = n.by_client;
+        ok_line = n.ok_line;
+        pending = n.pending;
+        asked_at = n.asked_at;
+        shut_at = n.shut_at;
+      };
+    }
+
+empty_table : (t : Table DeviceConnection) → IsTable t → IsTable (emptied t)
+empty_table t sound = record {
+  within = omega arith;
+  rising = λ i j d less within. absurd (omega (arith, within));
+  distinct = λ i j d less within. absurd (omega (arith, within));
+  were_given = λ i d within. absurd (omega (arith, within));
+  slots_left = sound.slots_left;
+}
+
+closing_by : (b : Bool) (stream : ℕ) (t : DeviceState) → bind (cond b (Done t) (Ask (CloseStream stream) (λ _. Done t)))
+    (λ (x : DeviceState). Done x)
+    ≡ (let tree : DeviceTree DeviceState = cond b (Done t) (Ask (CloseStream stream) (λ _. Done t)) in tree)
+closing_by true stream t = refl
+closing_by false stream t = refl
+
+closing_done : (e : DeviceEntry) (f : DeviceConnection → DeviceConnection) (s : DeviceState) → bind (closing e f s)
+    (λ t. Done t) ≡ closing e f s
+closing_done e f s = closing_by e.value.closed e.value.stream (with_connection e.slot (f e.value) s)
+
+module _ (first port : ℕ) where
+  abbrev With : DeviceState → RingContents → Type 0
+  With s c = IsWith first port s c
+
+  -- The event that is owed.
+  module _ (s : DeviceState) where
+    abbrev PayEnds : DeviceState × Result Bool Failure → RingContents → Type 0
+    PayEnds x c = IsWith first port x.0 c
+
+    abbrev event : List ℕ
+    event = overwritten [] 0 (little_bytes 4 0)
+
+    event_returned : (chain : Chain) → chain.queue ≡ Event → 4 ≤ chain.writable → IfSome s.chain IsRxChain → (c : RingContents)
+        → Tells (Writes first port s chain event (unwritten s.chain)) c
+        → Keeps PayEnds (Ask (Ring (Return chain 4)) (λ _. Done (record s { event_owed = false }, Ok true))) c
+    event_returned chain queue room rx c tells = (
+      (
+        λ some. record {
+          room = room;
+          written = λ l is. subst (λ (b : List ℕ). 4 ≤ length b) (sym (bytes_held chain event (unwritten s.chain) l (tells l is).0))
+              (omega arith);
+          whole = λ honest l is.
+              subst (λ (q : Queue). IsWholePacket q (take 4 (bytes_in chain l.held)) l) (sym queue)
+              (subst (λ (b : List ℕ). length (take 4 b) ≡ 4) (sym (bytes_held chain event (unwritten s.chain) l (tells l is).0)) refl);
+        },
+        λ l is. first_there chain event (unwritten s.chain) l (tells l is).0,
+      ),
+      λ a d fit made. (
+        rx,
+        moves _ _ _ _ _ (log_returned chain 4) c d made.1 (Writes first port s chain event (unwritten s.chain)) (IsToldOf first port s)
+            (λ hon l asked was fair. (
+              λ still. returned_held chain event 4 (unwritten s.chain) l was.0,
+              λ honest.
+                  let p = was.1 honest in
+                  subst (λ (log : Log). IsLeft first port s.cid s.overrun s.table s.replies log)
+                  (sym (returned_entries chain Event event 4 (unwritten s.chain) l queue was.0)) (record {
+                    fits = p.fits;
+                    none_overrun = p.none_overrun;
+                    matches = puts_event Device first 0 (ends_of_state port s) l.entries p.matches;
+                    fair = p.fair;
+                  }),
+            )) tells,
+      ),
+    )
+
+    event_keeps : (answer : Next) (c d : RingContents) → s.failed ≡ None → IsFitAnswer (Take Event) answer → DeviceAllows
+        (Take Event) answer c d
+        → IsWith first port s c → Keeps PayEnds (event_on answer s) d
+    event_keeps (next.Chain chain) c d going fit made holds =
+        write_keeps first port s PayEnds (Ask (Ring (Return chain 4)) (λ _. Done (record s { event_owed = false }, Ok true))) chain []
+        (little_bytes 4 0) 0
+        (unwritten s.chain) d (omega arith)
+        (moves _ _ _ _ _ (log_taken Event (next.Chain chain) made.0) c d made.1 (IsToldOf first port s)
+        (Writes first port s chain [] (unwritten s.chain))
+        (λ hon l asked was fair. by made.0 hon l asked.0 was) holds.1)
+        (λ e now. event_returned chain fit.queue_is fit.long holds.0 e now)
+      where
+        by : (page : Option (List ℕ)) (hon : Bool) (l : EndLog) → IsTakenAs Event (next.Chain chain) page → IsToldOf first port s hon l
+            → Writes first port s chain [] (unwritten s.chain) hon (log_taken Event (next.Chain chain) page l)
+        by None hon l asked was = absurd asked
+        by (Some page) hon l asked was = (
+          ap (λ (held : List Held). let x : Held = record { chain = chain; bytes = [] } in x ∷ held) (was.0 going),
+          was.1,
+        )
+    event_keeps next.None c d going fit made holds = (
+      holds.0,
+      moves _ _ _ _ _ (log_taken Event next.None made.0) c d made.1 (IsToldOf first port s) (IsToldOf first port s)
+          (λ hon l asked was fair. was) holds.1,
+    )
+    event_keeps (next.Failed f) c d going fit made holds = (
+      holds.0,
+      moves _ _ _ _ _ (log_taken Event (next.Failed f) made.0) c d made.1 (IsToldOf first port s) (IsToldOf first port (failing f s))
+          (λ hon l asked was fair. (λ still. was.0 going, was.1)) holds.1,
+    )
+
+    pub pay_keeps : (c : RingContents) → IsWith first port s c → Keeps PayEnds (pay_event_of s) c
+    pay_keeps c holds = by s.failed refl
+      where
+        owed : (b : Bool) → s.failed ≡ None → Keeps PayEnds (cond b (Ask (Ring (Take Event)) (λ answer. event_on answer s))
+            (Done (s, Ok false))) c
+        owed true going = (tt, λ answer d fit made. event_keeps answer c d going fit made holds)
+        owed false going = holds
+
+        by : (o : Option Failure) → s.failed ≡ o → Keeps PayEnds (elim o [
+          | Some f ↦ Done (s, Err f)
+          | None ↦ if s.event_owed then Ask (Ring (Take Event)) (λ answer. event_on answer s) else Done (s, Ok false)
+        ]) c
+        by (Some f) failed = holds
+        by None going = owed s.event_owed going
+
+  -- Timeouts.
+  tick_slot_keeps : (slot : ℕ) (s : DeviceState) (c : RingContents) → With s c → Keeps With (tick_slot slot s) c
+  tick_slot_keeps slot s c holds = by (entry_under s.table slot) refl
+    where
+      late : (e : DeviceEntry) → Contains s.table.entries e → (b : Bool) → is_timed_out s.now e.value ≡ b
+          → Keeps With (cond b (closing e cut_off s) (Done s)) c
+      late e there false is = holds
+      late e there true is = subst (λ (t : DeviceTree DeviceState). Keeps With t c) (closing_done e cut_off s)
+          (closing_keeps first port With (λ t. Done t) e cut_off s c
+          (changed first port s (with_connection e.slot (cut_off e.value) s) refl refl
+          (λ fits. cuts port s fits e there (late_old e s fits there is)) c holds))
+
+      by : (o : Option DeviceEntry) → entry_under s.table slot ≡ o
+          → Keeps With (elim o [ None ↦ Done s | Some e ↦ if is_timed_out s.now e.value then closing e cut_off s else Done s ]) c
+      by None under = holds
+      by (Some e) under = late e (under_there s slot e under) (is_timed_out s.now e.value) refl
+
+  pub tick_keeps : (now : ℕ) (s : DeviceState) (c : RingContents) → With s c → Keeps With (tick_of now s) c
+  tick_keeps now s c holds = keeps_each With tick_slot tick_slot_keeps (slots s.table) (record s { now = now }) c holds
+
+  -- Streams are written.
+  abbrev WritingWith : Writing → RingContents → Type 0
+  WritingWith w c = IsWith first port w.state c
+
+  module _ (e : DeviceEntry) (w : Writing) (there : Contains w.state.table.entries e)
+      (some : (length (to_write e.value) == 0) ≡ false) where
+    answered_keeps : (answer : StreamWrite) → TakesWithin (length (to_write e.value)) answer → (c : RingContents) → WritingWith w c
+        → Keeps WritingWith (write_answered e answer w) c
+    answered_keeps (write.Took n) within c holds =
+        changed first port w.state (with_connection e.slot (after_written n e.value) w.state) refl refl
+        (λ fits. writes port w.state fits e there n within (writes_old e w.state fits there some)) c holds
+    answered_keeps write.Again within c holds = holds
+    answered_keeps write.Closed within c holds =
+        changed first port w.state (with_connection e.slot (after_shut 1 w.state.now e.value) w.state) refl refl
+        (λ fits. shuts port w.state fits e there 1 w.state.now (writes_old e w.state fits there some)) c holds
+    answered_keeps write.Failed within c holds =
+        closing_keeps first port WritingWith (λ s. Done (record w { state = s })) e cut_off (with_fault w.state) c
+        (changed first port w.state (with_connection e.slot (cut_off e.value) (with_fault w.state)) refl refl
+        (λ fits. cuts port w.state fits e there (writes_old e w.state fits there some)) c holds)
+
+  write_keeps_all : (e : DeviceEntry) (w : Writing) → Contains w.state.table.entries e → (c : RingContents) → WritingWith w c
+      → Keeps WritingWith (write_pending e w) c
+  write_keeps_all e w there c holds = by (length (to_write e.value) == 0) refl
+    where
+      by : (b : Bool) → (length (to_write e.value) == 0) ≡ b → Keeps WritingWith (cond b (Done w)
+          (Ask (WriteStream e.value.stream (to_write e.value)) (λ answer. write_answered e answer w))) c
+      by true is = holds
+      by false is = (
+        tt,
+        λ answer d fit same. answered_keeps e w there is answer fit d
+            (subst (λ (x : RingContents). WritingWith w x) (sym same) holds),
+      )
+
+  shut_keeps : (slot : ℕ) (w : Writing) (c : RingContents) → WritingWith w c → Keeps WritingWith (shut_write slot w) c
+  shut_keeps slot w c holds = by (entry_under w.state.table slot) refl
+    where
+      shut : (e : DeviceEntry) → Contains w.state.table.entries e → (e.slot == slot) ≡ true → WritingWith
+          (record w { state = with_connection slot (record e.value { write_shut = true }) w.state }) c
+      shut e there at =
+          let v : DeviceConnection = record e.value { write_shut = true } in
+          let same : e.slot ≡ slot = grind (arith, nat_tests, at) in
+          subst (λ (n : ℕ). IsWith first port (with_connection n v w.state) c) same
+          (changed first port w.state (with_connection e.slot v w.state) refl refl
+          (λ fits. unseen port w.state fits e there v refl (shut_fits e w.state fits there)) c holds)
+
+      done : (e : DeviceEntry) → Contains w.state.table.entries e → (e.slot == slot) ≡ true → (b : Bool)
+          → Keeps WritingWith (cond b (Ask (ShutWrite e.value.stream) (λ _.
+          Done (record w { state = with_connection slot (record e.value { write_shut = true }) w.state }))) (Done w)) c
+      done e there at false = holds
+      done e there at true = (
+        tt,
+        λ a d fit stays. subst (λ (x : RingContents). WritingWith
+            (record w { state = with_connection slot (record e.value { write_shut = true }) w.state }) x) (sym stays) (shut e there at),
+      )
+
+      by : (o : Option DeviceEntry) → entry_under w.state.table slot ≡ o → Keeps WritingWith (elim o [
+        | None ↦ Done w
+        | Some e ↦
+            if is_written_out e.value then Ask (ShutWrite e.value.stream) (λ _.
+            Done (record w { state = with_connection slot (record e.value { write_shut = true }) w.state }))
+            else Done w
+      ]) c
+      by None under = holds
+      by (Some e) under =
+          let found = found_by (λ (x : DeviceEntry). x.slot == slot) w.state.table.entries e under in
+          done e found.0 found.1 (is_written_out e.value)
+
+  pump_slot_keeps : (slot : ℕ) (w : Writing) (c : RingContents) → WritingWith w c → Keeps WritingWith (pump_slot slot w) c
+  pump_slot_keeps slot w c holds = by (entry_under w.state.table slot) refl
+    where
+      standing : (e : DeviceEntry) → Contains w.state.table.entries e → (b : Bool)
+          → Keeps WritingWith (cond b (Done w) (bind (write_pending e w) (shut_write slot))) c
+      standing e there true = holds
+      standing e there false =
+          keeps_then WritingWith WritingWith (write_pending e w) (shut_write slot) c (write_keeps_all e w there c holds) (shut_keeps slot)
+
+      by : (o : Option DeviceEntry) → entry_under w.state.table slot ≡ o → Keeps WritingWith (elim o [
+        | None ↦ Done w
+        | Some e ↦ if e.value.closed then Done w else bind (write_pending e w) (shut_write slot)
+      ]) c
+      by None under = holds
+      by (Some e) under = standing e (under_there w.state slot e under) e.value.closed
+
+  pub pump_keeps : (s : DeviceState) (c : RingContents) → With s c → Keeps WritingWith (pump_of s) c
+  pump_keeps s c holds = keeps_each WritingWith pump_slot pump_slot_keeps (slots s.table) (record { state = s; wrote = 0 }) c holds
+
+  -- A reset.
+  close_keeps : (slot : ℕ) (s : DeviceState) (c : RingContents) → With s c → Keeps With (close_slot slot s) c
+  close_keeps slot s c holds = by (entry_under s.table slot) refl
+    where
+      by : (o : Option DeviceEntry) → entry_under s.table slot ≡ o → Keeps With
+          (elim o [ None ↦ Done s | Some e ↦ closing e stream_closed s ]) c
+      by None under = holds
+      by (Some e) under =
+          let there = under_there s slot e under in
+          subst (λ (t : DeviceTree DeviceState). Keeps With t c) (closing_done e stream_closed s)
+          (closing_keeps first port With (λ t. Done t) e stream_closed s c
+          (changed first port s (with_connection e.slot (stream_closed e.value) s) refl refl
+          (λ fits. unseen port s fits e there (stream_closed e.value) refl (closed_fits e s fits there)) c holds))
+
+  module _ (cid : ℕ) (cid_fits : cid < 2 ^ 64) where
+    emptied_with : (t : DeviceState) (hon : Bool) (l : EndLog) → IsToldOf first port t hon l → IsToldOf first port (after_reset cid t) hon
+        (log_reset cid l)
+    emptied_with t hon l was = (
+      was.0,
+      λ honest. let p = was.1 honest in record {
+        fits = record {
+          cid_fits = cid_fits;
+          sound = empty_table t.table p.fits.sound;
+          entries = λ i d within. absurd (omega (arith, within));
+          owed = λ i d within. absurd (omega (arith, within));
+        };
+        none_overrun = p.none_overrun;
+        matches = makes_reset Device first cid (ends_of_state port t) l.entries p.matches;
+        fair = p.fair;
+      },
+    )
+
+    abbrev ResetEnds : DeviceState × Result (Unit {0}) Failure → RingContents → Type 0
+    ResetEnds x c = IsWith first port x.0 c
+
+    publishes : (t : DeviceState) (c : RingContents) → With t c → Keeps ResetEnds
+        (Ask (Ring (PublishCid cid)) (λ _. Done (after_reset cid t, Ok tt))) c
+    publishes t c holds = (
+      tt,
+      λ a d fit made. (
+        holds.0,
+        moves _ _ _ _ _ (log_reset cid) c d made (IsToldOf first port t) (IsToldOf first port (after_reset cid t))
+            (λ hon l asked was fair. emptied_with t hon l was) holds.1,
+      ),
+    )
+
+    pub reset_keeps : (s : DeviceState) (c : RingContents) → With s c → Keeps ResetEnds (reset_of cid s) c
+    reset_keeps s c holds = by s.failed
+      where
+        by : (o : Option Failure) → Keeps ResetEnds (elim o [
+          | Some f ↦ Done (s, Err f)
+          | None ↦ bind (for_each close_slot (slots s.table) s) (λ t. Ask (Ring (PublishCid cid)) (λ _. Done (after_reset cid t, Ok tt)))
+        ]) c
+        by (Some f) = holds
+        by None =
+            keeps_then With ResetEnds (for_each close_slot (slots s.table) s)
+            (λ t. Ask (Ring (PublishCid cid)) (λ _. Done (after_reset cid t, Ok tt))) c
+            (keeps_each With close_slot close_keeps (slots s.table) s c holds) publishes
+
+  -- A client's connection.
+  module _ (flow : Flow) (stream : ℕ) (s : DeviceState) (next : IsNextFlow Device flow (ends_of_state port s))
+      (ports : IsFitFlow flow) where
+    given : (port ≤ flow.host) ⊎ (false ≡ true) → cond (nat_le port flow.host) (flow.host + 1) port ≡ flow.host + 1
+    given (inl later) = grind (arith, nat_tests, later)
+    given (inr kept) = absurd cc
+
+    opened_with : refusal s.table flow ≡ None → (hon : Bool) (l : EndLog) → IsToldOf first port s hon l
+        → IsToldOf first (flow.host + 1) (with_client flow stream s) hon l
+    opened_with free hon l was = (
+      was.0,
+      λ honest.
+          let p = was.1 honest in
+          let c : DeviceConnection = new_connection (asked Stream BUF_ALLOC) stream true in
+          record {
+            fits = opening_fits s p.fits flow c (accepted s.table flow free) ports (record {
+              bytes = record { unread = omega arith; within = omega arith; alloc = omega arith; rx = omega arith; fwd = omega arith };
+              new = λ new. record { by_client = refl; ok_line = refl; pending = refl; asked_at = refl; shut_at = refl };
+            });
+            none_overrun = p.none_overrun;
+            matches = subst (λ (part : Ends). Matches Device first part l.entries)
+                (ap (λ (n : ℕ). let part : Ends = record (asking Device flow Stream (ends_of_state port s)) { next_port = n } in part) (given next.port)
+                ∙ ap (λ (es : List FlowEnd). let part : Ends = record (ends_of_state (flow.host + 1) s) { entries = es } in part)
+                (sym (added_slot end_in s.table flow c)))
+                (asks first flow Stream (ends_of_state port s) l.entries p.matches next);
+            fair = p.fair;
+          },
+    )
+
+    abbrev OpenEnds : DeviceState × Result ℕ TableFault → RingContents → Type 0
+    OpenEnds x c = IsWith first (port_after flow port x.1) x.0 c
+
+    pub open_keeps : (c : RingContents) → With s c → Keeps OpenEnds (open_of flow stream s) c
+    open_keeps c holds = by (refusal s.table flow) refl
+      where
+        by : (o : Option TableFault) → refusal s.table flow ≡ o → Keeps OpenEnds (elim o [
+          | Some fault ↦ Done (s, Err fault)
+          | None ↦ Ask (Label stream flow) (λ _. Done (with_client flow stream s, Ok s.table.given))
+        ]) c
+        by (Some fault) refused = holds
+        by None free = (
+          tt,
+          λ a d fit same. subst (λ (x : RingContents). IsWith first (flow.host + 1) (with_client flow stream s) x) (sym same) (
+            holds.0,
+            tells_weaker (IsToldOf first port s) (IsToldOf first (flow.host + 1) (with_client flow stream s))
+                (opened_with free) c holds.1,
+          ),
+        )
+
+-- A new device.
+pub new_with : (port cid : ℕ) (base : List ℕ) (c : RingContents) → cid < 2 ^ 64 → IsFresh c → IsWith cid port (new_device cid base) c
+new_with port cid base c less fresh = (
+  tt,
+  tells_weaker (λ hon l. (l.entries ≡ []) × (l.held ≡ [])) (IsToldOf cid port (new_device cid base)) (λ hon l was. (
+    λ still. was.1,
+    λ honest. subst (λ (log : Log). IsLeft cid port cid 0 (new_device cid base).table [] log) (sym was.0) (record {
+      fits = record {
+        cid_fits = less;
+        sound = record {
+          within = omega arith;
+          rising = λ i j d less within. absurd (omega (arith, within));
+          distinct = λ i j d less within. absurd (omega (arith, within));
+          were_given = λ i d within. absurd (omega (arith, within));
+          slots_left = omega arith;
+        };
+        entries = λ i d within. absurd (omega (arith, within));
+        owed = λ i d within. absurd (omega (arith, within));
+      };
+      none_overrun = refl;
+      matches = start_matches Device cid port;
+      fair = λ f. tt;
+    }),
+  )) c fresh,
+)

@@ -1,0 +1,103 @@
+//! Laws of the device over a ring that tells its log.
+
+ghost use Rattle.std.specs.Prelude.{◌≡◌, ◌<◌, ◌≤◌, ◌^◌, ℕ, Bool, true, List, [], Some, Result, Contains, length, take, drop};
+ghost use Rattle.std.specs.{List.All, Option.ForSome};
+ghost use Rattle.vs_contents.specs.Contents.{Relates};
+ghost use Rattle.vs_flow.specs.declared.flow.Flow.{Flow};
+ghost use Rattle.vs_flow.specs.declared.table.TableFault.{TableFault};
+ghost use Rattle.vs_header.specs.Packet.{header_of};
+ghost use Rattle.vs_header.specs.declared.{Header.Header, TheConstants.HEADER_LEN};
+ghost use Rattle.laws_history.specs.Packets.{is_rw};
+ghost use Rattle.vs_limits.specs.declared.TheConstants.{BUF_ALLOC};
+ghost use Rattle.laws_history.specs.declared.packet.Packet.{Packet};
+ghost use Rattle.laws_tables.specs.{Ends.is_new, Steps.IsNextFlow};
+ghost use Rattle.vs_page.specs.{Held.packet_held, Log.Device, Log.packets_put};
+ghost use Rattle.vs_page.specs.declared.log.LogEntry.TheVariants.{PutEvent, PutPacket};
+ghost use Rattle.vs_ring_port.specs.{Chains.Held, Contents.Read, Contents.RingContents, Contents.Take, EndLog.EndLog};
+ghost use Rattle.vs_ring_port.specs.declared.device_ring.Chain.{Chain};
+ghost use Rattle.vs_ring_port.specs.declared.device_ring.Next.TheVariants as next;
+ghost use Rattle.vs_ring_port.specs.declared.failure.Failure.{Failure};
+ghost use Rattle.vs_ring_port.specs.declared.queue.Queue.TheVariants.{Event, Rx, Tx};
+ghost use Rattle.vs_device_parts.specs.{Calls.Allows, Calls.Ring, Calls.Situation, Playing.MayRun, Playing.Runs};
+ghost use Rattle.vs_device_parts.specs.Receiving.{event_on, fill_rx_of, pay_event_of, written};
+ghost use Rattle.vs_device_parts.specs.{State.DeviceEntry, State.DeviceState, Streams.Writing, Streams.pump_of, Streams.tick_of};
+ghost use Rattle.vs_device_parts.specs.{Transmitting.take_tx_of, Turns.new_device, Turns.open_of, Turns.reset_of, Turns.table_shown};
+ghost use Rattle.vs_device_parts.specs.declared.answers.{Filled.Filled, Taken.Taken};
+ghost use Rattle.laws_device_streams.specs.Streams.{FindsStreams};
+ghost use Rattle.laws_device.specs.Honest.{Advertises, AgreesWith, IsClients, IsFitFlow, IsFresh, IsLeftOpen, IsWith, ends_of_state};
+ghost use Rattle.laws_device.specs.Honest.{port_after};
+ghost use Rattle.laws_device.specs.Packets.{HasAdded, HasTaken, HoldsLast, IsWholeAs, packet_with};
+
+/// Over a ring that tells its log the device holds the one chain that it keeps for the next packet, and after each call it does again.
+/// Over an honest ring each packet that it puts keeps the log fair, so it never exceeds the credit that was advertised, and a call that
+/// puts packets may be made where the streams are open; after the call the connections are again those that the log left, and no packet
+/// held more payload than there was room for (Virtio 1.2, section 5.10.6.3).
+pub fn law_of_ring_calls()
+    ensures new { (port cid : ℕ) (base : List ℕ) (c : RingContents) → cid < 2 ^ 64 → IsFresh c → IsWith cid port (new_device cid base) c }
+    ensures take_tx { (first port : ℕ) (s : DeviceState) (a b : Situation) (x : DeviceState × Taken) → IsWith first port s a.ring
+        → Runs (take_tx_of s) a x b → IsWith first port x.0 b.ring }
+    ensures pay_event_may { (others : List ℕ) (first port : ℕ) (s : DeviceState) (a : Situation) → FindsStreams others s a
+        → IsWith first port s a.ring
+        → MayRun (pay_event_of s) a }
+    ensures pay_event { (first port : ℕ) (s : DeviceState) (a b : Situation) (x : DeviceState × Result Bool Failure)
+        → IsWith first port s a.ring
+        → Runs (pay_event_of s) a x b → IsWith first port x.0 b.ring }
+    ensures fill_rx_may { (others : List ℕ) (first port : ℕ) (s : DeviceState) (a : Situation) → FindsStreams others s a
+        → IsWith first port s a.ring
+        → MayRun (fill_rx_of s) a }
+    ensures fill_rx { (first port : ℕ) (s : DeviceState) (a b : Situation) (x : DeviceState × Result Filled Failure)
+        → IsWith first port s a.ring
+        → Runs (fill_rx_of s) a x b → IsWith first port x.0 b.ring }
+    ensures reset { (first port cid : ℕ) (s : DeviceState) (a b : Situation) (x : DeviceState × Result (Unit {0}) Failure) → cid < 2 ^ 64
+        → IsWith first port s a.ring → Runs (reset_of cid s) a x b → IsWith first port x.0 b.ring }
+{}
+
+/// The other calls make none on the ring, and the device stays with it. A client's connection is asked for on a host port that was not
+/// assigned before.
+pub fn law_of_other_calls()
+    ensures tick { (first port now : ℕ) (s t : DeviceState) (a b : Situation) → IsWith first port s a.ring → Runs (tick_of now s) a t b
+        → IsWith first port t b.ring }
+    ensures pump_out { (first port : ℕ) (s : DeviceState) (a b : Situation) (w : Writing) → IsWith first port s a.ring → Runs
+        (pump_of s) a w b
+        → IsWith first port w.state b.ring }
+    ensures opened { (first port stream : ℕ) (flow : Flow) (s : DeviceState) (a b : Situation) (x : DeviceState × Result ℕ TableFault)
+        → IsNextFlow Device flow (ends_of_state port s) → IsFitFlow flow → IsWith first port s a.ring → Runs (open_of flow stream s) a x b
+        → IsWith first (port_after flow port x.1) x.0 b.ring }
+{}
+
+/// The device's table has exactly the flows that the log left open, and those whose REQUEST isn't put, which come from clients of the
+/// host. What is pending of a connection is at most the buffer space that each packet put advertises, and no packet held more payload
+/// than there was room for.
+pub fn law_of_the_table()
+    ensures open { (first port : ℕ) (s : DeviceState) (l : EndLog) → AgreesWith first port s l → IsLeftOpen first s (table_shown s) l }
+    ensures clients { (first port : ℕ) (s : DeviceState) (l : EndLog) (e : DeviceEntry) → AgreesWith first port s l
+        → Contains s.table.entries e
+        → is_new e.value.end ≡ true → IsClients e }
+    ensures pending { (first port : ℕ) (s : DeviceState) (l : EndLog) (e : DeviceEntry) → AgreesWith first port s l
+        → Contains s.table.entries e
+        → length e.value.pending ≤ BUF_ALLOC }
+    ensures advertised { (first port : ℕ) (s : DeviceState) (l : EndLog) → AgreesWith first port s l → All Advertises
+        (packets_put l.entries) }
+    ensures no_overrun { (first port : ℕ) (s : DeviceState) (l : EndLog) → AgreesWith first port s l → s.overrun ≡ 0 }
+{}
+
+/// Over any ring that tells its log a packet is one entry. The packet that the device writes into a chain and returns is put, with its
+/// header and its payload; an event likewise. A chain of tx that is taken is a page, whose packet is got where it holds one; what is read
+/// of the chain is read of that page, and so the header and the payload that the device hears are the packet's (Virtio 1.2, sections
+/// 5.10.6 and 5.10.6.7).
+pub fn law_of_packets()
+    ensures put { (chain : Chain) (others : List Held) (h : Header) (payload : List ℕ) (a b : Situation) → chain.queue ≡ Rx
+        → IsWholeAs h payload
+        → ForSome a.ring.log (HoldsLast chain [] others) → Runs (written chain h payload) a tt b
+        → Relates a.ring.log b.ring.log (HasAdded (PutPacket (packet_with h payload)) others) }
+    ensures event { (chain : Chain) (others : List Held) (s : DeviceState) (x : DeviceState × Result Bool Failure) (a b : Situation)
+        → chain.queue ≡ Event → ForSome a.ring.log (HoldsLast chain [] others) → Runs (event_on (next.Chain chain) s) a x b
+        → Relates a.ring.log b.ring.log (HasAdded (PutEvent 0) others) }
+    ensures taken { (chain : Chain) (a b : Situation) → Allows (Ring (Take Tx)) (next.Chain chain) a b
+        → Relates a.ring.log b.ring.log (HasTaken chain) }
+    ensures read { (chain : Chain) (page bytes : List ℕ) (others : List Held) (place count : ℕ) (a b : Situation)
+        → Allows (Ring (Read chain place count)) bytes a b → (l : EndLog) → a.ring.log ≡ Some l → HoldsLast chain page others l
+        → bytes ≡ take count (drop place page) }
+    ensures heard { (page : List ℕ) (p : Packet) → packet_held page ≡ Some p
+        → (p.header ≡ header_of (take HEADER_LEN page)) × (is_rw p ≡ true → p.payload ≡ take p.header.len (drop HEADER_LEN page)) }
+{}

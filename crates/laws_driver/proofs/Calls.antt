@@ -1,0 +1,277 @@
+-- What each call of the driver keeps over an honest ring.
+use Rattle.std.proofs.Common.{◌≡◌, ℕ, ◌+◌, ◌<◌, ◌≤◌, ◌^◌, ◌==◌, Bool, true, false, cond, min, List, [], length, Option, Some, None, Result}
+use Rattle.std.proofs.Common.{Ok, Err, refl, sym, ap, subst, ◌∙◌, arith, length-take}
+use Rattle.std.specs.Prelude.{IsOkAnd}
+use Rattle.vs_contents.specs.CallTree.{Done, Ask, bind}
+use Rattle.vs_conn.specs.{End.CanSend, End.may_send_of, End.wanting_credit, End.with_payload_sent, declared.end.Stop.Stop}
+use Rattle.vs_flow.specs.Table.{IsTable}
+use Rattle.vs_page.specs.{Log.Driver, Log.Log, declared.page.TheConstants.PAYLOAD_MAX}
+use Rattle.vs_ring_port.specs.{declared.queue.Queue.Queue, declared.queue.TheConstants.STAGED_MAX, Contents.RingContents}
+use Rattle.vs_ring_port.specs.EndLog.{EndLog, entries_marked, log_loaded, log_published, log_staged}
+use Rattle.vs_ring_port.specs.DriverCalls.{Publish}
+use Rattle.vs_ring_port.specs.declared.queue.Queue.TheVariants.{Rx, Tx, Event}
+use Rattle.laws_tables.proofs.Keeps.{start_matches}
+use Rattle.vs_driver_parts.specs.{declared.answers.ConnectError.ConnectError, declared.answers.Polled.Polled, declared.answers.Sent.Sent}
+use Rattle.vs_driver_parts.specs.{Connections.connect_refusal, Connections.connected, Playing.MayPublishAll, Playing.Plays}
+use Rattle.vs_driver_parts.specs.Conversations.{connect_of, connect_with_page, has_page, load_cid, new_of, new_state, no_credit, not_sent}
+use Rattle.vs_driver_parts.specs.Conversations.{one_more_in_flight, payload_bytes, payload_of, poll_of, post_all, post_events, post_one}
+use Rattle.vs_driver_parts.specs.Conversations.{post_packet, posts, publish_of, reap_all, request_bytes, send_of, send_on, send_stopped}
+use Rattle.vs_driver_parts.specs.Conversations.{send_with_credit, send_with_page, stage_of}
+use Rattle.vs_driver_parts.specs.State.{DriverEntry, DriverState, entry_known_as}
+use Rattle.vs_limits.specs.declared.TheConstants.{LAST_PORT}
+use Rattle.laws_driver.specs.Honest.{AgreesWith, IsFitState, IsFresh, IsHonestWith, ends_of_state}
+use Rattle.laws_driver.specs.Staged.{IsLeft}
+use Rattle.laws_driver.proofs.{Putting.connect_puts, Putting.send_puts, Polling.not_tx_event, Polling.not_tx_rx, Polling.poll_keeps}
+use Rattle.laws_driver.proofs.{Tabling.Stands, Changing.Changes, Changing.stands_known, Changing.wanting_changes}
+use Rattle.laws_driver.proofs.Keeping.{Keeps, keeps_bind, keeps_end, keeps_may, keeps_weaker, keeps_while}
+use Rattle.laws_driver.proofs.Ringing.{IsAtRest, Tells, agrees, at_rest, can_publish_other, moves, tells_weaker, can_stage_other}
+use Rattle.laws_driver.proofs.Staging.{Rests, SameBut, post_tx, reap_keeps}
+use Rattle.vs_driver_parts.specs.declared.answers.ConnectError.TheVariants as refused
+use Rattle.vs_driver_parts.specs.declared.answers.Sent.TheVariants as sent
+use Rattle.vs_driver_parts.specs.Connections as connections
+
+pub rests_of : (first : ℕ) (s : DriverState) (c : RingContents) → IsHonestWith first s c → Rests first s c
+rests_of first s c honest = tells_weaker (AgreesWith first s) (IsAtRest first s) (at_rest first s) c honest
+
+pub honest_of : (first : ℕ) (s : DriverState) (c : RingContents) → Rests first s c → IsHonestWith first s c
+honest_of first s c rests = tells_weaker (IsAtRest first s) (AgreesWith first s) (agrees first s) c rests
+
+-- A step that puts and gets nothing.
+pub changed : (first : ℕ) (s t : DriverState) (l : EndLog) → Changes s t → IsAtRest first s l → IsAtRest first t l
+changed first s t l step rest = (
+  step.fits,
+  record {
+    none_refused = step.broken ∙ rest.1.none_refused;
+    matches = step.matches first l.entries rest.1.matches;
+    fair = rest.1.fair;
+  },
+  rest.2,
+)
+
+pub still_honest : (first : ℕ) (s t : DriverState) (c : RingContents) → (IsFitState s → Changes s t) → IsHonestWith first s c → IsHonestWith first t c
+still_honest first s t c step honest =
+    honest_of first t c (tells_weaker (IsAtRest first s) (IsAtRest first t) (λ l rest. changed first s t l (step rest.0) rest) c (rests_of first s c honest))
+
+module _ (first : ℕ) where
+  -- connect.
+  abbrev pub ConnectRests : DriverState × Result ℕ ConnectError → RingContents → Type 0
+  ConnectRests x c = Rests first x.0 c
+
+  opened_by : (b : Bool) (host : ℕ) (s : DriverState) (c : RingContents) → host < 2 ^ 32 → connect_refusal host s ≡ None → Rests first s c
+      → Keeps ConnectRests (cond b (bind (post_packet (request_bytes host s) s) (λ t. Done (connected host t, Ok t.next_id)))
+      (Done (s, Err (refused.NoDescriptor s.in_flight)))) c
+  opened_by true host s c port free rests =
+      keeps_bind ConnectRests (post_packet (request_bytes host s) s) (λ t. Done (connected host t, Ok t.next_id)) c
+      (keeps_weaker (λ u d. (u ≡ one_more_in_flight s) × Rests first (connected host s) d) (λ u d. Rests first (connected host u) d)
+      (λ u d kept. subst (λ (x : DriverState). Rests first (connected host x) d) (sym kept.0) kept.1) (post_packet (request_bytes host s) s) c
+      (post_tx first s (connected host s) (request_bytes host s) c (λ l rest. connect_puts host s port rest.0 free) rests))
+  opened_by false host s c port free rests = rests
+
+  pub connect_page_keeps : (host : ℕ) (s : DriverState) (c : RingContents) → host < 2 ^ 32 → connect_refusal host s ≡ None → Rests first s c
+      → Keeps ConnectRests (connect_with_page host s) c
+  connect_page_keeps host s c port free rests = opened_by (has_page s) host s c port free rests
+
+  connect_by : (o : Option ConnectError) (host : ℕ) (s : DriverState) (c : RingContents) → connect_refusal host s ≡ o → host < 2 ^ 32 → Rests first s c
+      → Keeps ConnectRests (elim o [ Some refusal ↦ Done (s, Err refusal) | None ↦ bind (reap_all s) (connect_with_page host) ]) c
+  connect_by (Some refusal) host s c is port rests = rests
+  connect_by None host s c is port rests =
+      keeps_bind ConnectRests (reap_all s) (connect_with_page host) c
+      (keeps_weaker (SameBut first s) (λ t d. Keeps ConnectRests (connect_with_page host t) d)
+      (λ t d same. subst (λ (x : DriverState). Keeps ConnectRests (connect_with_page host x) d) (sym same.0)
+      (connect_page_keeps host (record s { in_flight = t.in_flight }) d port is same.1)) (reap_all s) c (reap_keeps first s c rests))
+
+  pub connect_keeps : (host : ℕ) (s : DriverState) (c : RingContents) → host < 2 ^ 32 → Rests first s c → Keeps ConnectRests (connect_of host s) c
+  connect_keeps host s c port rests = connect_by (connect_refusal host s) host s c refl port rests
+
+  -- send.
+  abbrev pub SendRests : DriverState × Sent → RingContents → Type 0
+  SendRests x c = Rests first x.0 c
+
+  pub paged_by : (b : Bool) (e : DriverEntry) (payload : List ℕ) (s : DriverState) (c : RingContents) → (IsFitState s → Stands s e)
+      → CanSend e.value.end (length payload) → length payload ≤ PAYLOAD_MAX → Rests first s c
+      → Keeps SendRests (cond b (bind (post_packet (payload_bytes e payload s) s)
+      (λ t. Done (connections.with_end (with_payload_sent e.value.end (length payload)) e t, sent.Took (length payload))))
+      (Done (s, sent.NoDescriptor s.in_flight))) c
+  paged_by true e payload s c stands can few rests =
+      let after : DriverState → DriverState = λ t. connections.with_end (with_payload_sent e.value.end (length payload)) e t in
+      keeps_bind SendRests (post_packet (payload_bytes e payload s) s)
+      (λ t. Done (connections.with_end (with_payload_sent e.value.end (length payload)) e t, sent.Took (length payload))) c
+      (keeps_weaker (λ u d. (u ≡ one_more_in_flight s) × Rests first (after s) d) (λ u d. Rests first (after u) d)
+      (λ u d kept. subst (λ (x : DriverState). Rests first (after x) d) (sym kept.0) kept.1) (post_packet (payload_bytes e payload s) s) c
+      (post_tx first s (after s) (payload_bytes e payload s) c (λ l rest. send_puts e payload s rest.0 (stands rest.0) can few) rests))
+  paged_by false e payload s c stands can few rests = rests
+
+  pub can_send : (e : DriverEntry) (credit : ℕ) (bytes : List ℕ) → may_send_of e.value.end ≡ Ok credit
+      → CanSend e.value.end (length (payload_of credit bytes)) × (length (payload_of credit bytes) ≤ PAYLOAD_MAX)
+  can_send e credit bytes is =
+      let short = length-take (min credit PAYLOAD_MAX) bytes in
+      let n : ℕ = length (payload_of credit bytes) in
+      let least : n ≤ credit = omega (arith, short) in
+      (subst (λ (r : Result ℕ Stop). IsOkAnd r (λ free. n ≤ free)) (sym is) least, omega (arith, short))
+
+  credit_by : (a b : Bool) (e : DriverEntry) (credit : ℕ) (bytes : List ℕ) (s : DriverState) (c : RingContents) → (IsFitState s → Stands s e)
+      → may_send_of e.value.end ≡ Ok credit → Rests first s c
+      → Keeps SendRests (cond a (Done (s, sent.Took 0)) (cond b (Done (connections.with_end (wanting_credit e.value.end) e s, no_credit e.value.end))
+      (bind (reap_all s) (send_with_page e (payload_of credit bytes))))) c
+  credit_by true b e credit bytes s c stands is rests = rests
+  credit_by false true e credit bytes s c stands is rests =
+      let t : DriverState = connections.with_end (wanting_credit e.value.end) e s in
+      tells_weaker (IsAtRest first s) (IsAtRest first t) (λ l rest. changed first s t l (wanting_changes s e rest.0 (stands rest.0)) rest) c rests
+  credit_by false false e credit bytes s c stands is rests =
+      let payload : List ℕ = payload_of credit bytes in
+      let can = can_send e credit bytes is in
+      keeps_bind SendRests (reap_all s) (send_with_page e payload) c
+      (keeps_weaker (SameBut first s) (λ t d. Keeps SendRests (send_with_page e payload t) d)
+      (λ t d same. subst (λ (x : DriverState). Keeps SendRests (send_with_page e payload x) d) (sym same.0)
+      (let r : DriverState = record s { in_flight = t.in_flight } in
+      paged_by (has_page r) e payload r d (λ fits. let st = stands fits in record { under = st.under; contains = st.contains }) can.0 can.1 same.1))
+      (reap_all s) c (reap_keeps first s c rests))
+
+  stop_by : (r : Result ℕ Stop) (e : DriverEntry) (bytes : List ℕ) (s : DriverState) (c : RingContents) → (IsFitState s → Stands s e)
+      → may_send_of e.value.end ≡ r → Rests first s c
+      → Keeps SendRests (elim r [ Err why ↦ Done (s, send_stopped why) | Ok credit ↦ send_with_credit e credit bytes s ]) c
+  stop_by (Err why) e bytes s c stands is rests = rests
+  stop_by (Ok credit) e bytes s c stands is rests = credit_by (length bytes == 0) (credit == 0) e credit bytes s c stands is rests
+
+  send_by : (o : Option DriverEntry) (id : ℕ) (bytes : List ℕ) (s : DriverState) (c : RingContents) → entry_known_as id s ≡ o → Rests first s c
+      → Keeps SendRests (elim o [ None ↦ Done (s, not_sent id s) | Some e ↦ send_on e bytes s ]) c
+  send_by None id bytes s c is rests = rests
+  send_by (Some e) id bytes s c is rests = stop_by (may_send_of e.value.end) e bytes s c (λ fits. stands_known id s e fits is) refl rests
+
+  pub send_keeps : (id : ℕ) (bytes : List ℕ) (s : DriverState) (c : RingContents) → Rests first s c → Keeps SendRests (send_of id bytes s) c
+  send_keeps id bytes s c rests = send_by (entry_known_as id s) id bytes s c refl rests
+
+-- Making a driver.
+abbrev Fresh : EndLog → Type 0
+Fresh l = (l.entries ≡ []) × (l.staged.tx ≡ [])
+
+module _ (size port id : ℕ) (port_fits : port ≤ LAST_PORT) where
+  abbrev made : DriverState
+  made = new_state size port id 0
+
+  abbrev IsMade : DriverState → RingContents → Type 0
+  IsMade s c = (s ≡ record made { staged = s.staged }) × Tells Fresh c
+
+  fresh_staged : (queue : Queue) → (queue ≡ Tx → ⊥) → (l : EndLog) → Fresh l → Fresh (log_staged queue [] l)
+  fresh_staged Rx other l fresh = fresh
+  fresh_staged Event other l fresh = fresh
+  fresh_staged Tx other l fresh = absurd (other refl)
+
+  fresh_published : (queue : Queue) → (queue ≡ Tx → ⊥) → (l : EndLog) → Fresh l → Fresh (log_published queue l)
+  fresh_published Rx other l fresh = fresh
+  fresh_published Event other l fresh = fresh
+  fresh_published Tx other l fresh = absurd (other refl)
+
+  module _ (queue : Queue) (other : queue ≡ Tx → ⊥) where
+    publish_made : (s : DriverState) (c : RingContents) → IsMade s c → Keeps IsMade (publish_of queue s) c
+    publish_made s c is = (
+      can_publish_other queue c other,
+      λ a d call. (
+        ap (λ (x : DriverState). let y : DriverState = record x { staged = 0 } in y) is.0,
+        moves _ _ _ _ _ (log_published queue) c d call.1 Fresh Fresh (λ l fresh fair. fresh_published queue other l fresh) is.1,
+      ),
+    )
+
+    staged_by : (b : Bool) (s : DriverState) (c : RingContents) → IsMade s c
+        → Keeps IsMade (cond b (Ask (Publish queue) (λ _. Done (record s { staged = 0 }))) (Done (record s { staged = s.staged + 1 }))) c
+    staged_by true s c is = publish_made s c is
+    staged_by false s c is = (ap (λ (x : DriverState). let y : DriverState = record x { staged = s.staged + 1 } in y) is.0, is.1)
+
+    stage_made : (s : DriverState) (c : RingContents) → IsMade s c → Keeps IsMade (stage_of queue [] s) c
+    stage_made s c is = (
+      can_stage_other queue [] c other,
+      λ a d call. staged_by (s.staged + 1 == STAGED_MAX) s d
+          (is.0, moves _ _ _ _ _ (log_staged queue []) c d call Fresh Fresh (λ l fresh fair. fresh_staged queue other l fresh) is.1),
+    )
+
+    post_one_made : (s : DriverState) (c : RingContents) → IsMade s c → Keeps (λ r d. IsMade r.0 d) (post_one queue s) c
+    post_one_made s c is = keeps_bind (λ (r : DriverState × Bool) d. IsMade r.0 d) (stage_of queue [] s) (λ t. Done (t, true)) c (stage_made s c is)
+
+    post_all_made : (s : DriverState) (c : RingContents) → IsMade s c → Keeps IsMade (post_all queue s) c
+    post_all_made s c is =
+        keeps_bind IsMade (posts queue s) (publish_of queue) c
+        (keeps_weaker IsMade (λ t d. Keeps IsMade (publish_of queue t) d) publish_made (posts queue s) c
+        (keeps_while IsMade (post_one queue) post_one_made s.size s c is))
+
+  empty_table : IsTable made.table
+  empty_table = record {
+    within = omega arith;
+    rising = λ i j d less within. absurd (omega (arith, within));
+    distinct = λ i j d less within. absurd (omega (arith, within));
+    were_given = λ i d within. absurd (omega (arith, within));
+    slots_left = omega arith;
+  }
+
+  made_fits : (cid : ℕ) → cid < 2 ^ 64 → IsFitState (record made { cid = cid })
+  made_fits cid less = record {
+    cid_fits = less;
+    port_left = omega (arith, port_fits);
+    sound = empty_table;
+    places = refl;
+    given = omega arith;
+    entries = λ i d within. absurd (omega (arith, within));
+    ports = λ i d within. absurd (omega (arith, within));
+    owed = λ i d within. absurd (omega (arith, within));
+  }
+
+  loaded : (cid : ℕ) (l : EndLog) → cid < 2 ^ 64 → Fresh l → IsAtRest cid (record made { cid = cid }) (log_loaded cid l)
+  loaded cid l less fresh =
+      let P : Log → Type 0 = λ entries. IsLeft cid 0 (ends_of_state (record made { cid = cid })) [] (entries_marked cid entries) in
+      let left : P [] = record {
+        none_refused = refl;
+        matches = start_matches Driver cid port;
+        fair = λ f. tt;
+      } in
+      (made_fits cid less, subst P (sym fresh.0) left, fresh.1)
+
+  load_made : (s : DriverState) (c : RingContents) → IsMade s c → Keeps (λ t d. Rests t.cid t d) (load_cid s) c
+  load_made s c is = (
+    tt,
+    λ cid d call.
+        let same : record s { cid = cid } ≡ (let t : DriverState = record made { cid = cid; staged = s.staged } in t) = ap (λ (x : DriverState). let t : DriverState = record x { cid = cid } in t) is.0 in
+        let rests : Rests cid (record made { cid = cid; staged = s.staged }) d = moves _ _ _ _ _ (log_loaded cid) c d call.1 Fresh (IsAtRest cid (record made { cid = cid })) (λ l fresh fair. loaded cid l call.0 fresh) is.1 in
+        subst (λ (t : DriverState). Rests cid t d) (sym same) rests,
+  )
+
+  pub new_keeps : (c : RingContents) → Tells Fresh c → Keeps (λ t d. Rests t.cid t d) (new_of size port id) c
+  new_keeps c fresh =
+      let Q : DriverState → RingContents → Type 0 = λ t d. Rests t.cid t d in
+      keeps_bind Q (post_all Rx made) post_events c
+      (keeps_weaker IsMade (λ t d. Keeps Q (post_events t) d)
+      (λ t d is. keeps_bind Q (post_all Event t) load_cid d
+      (keeps_weaker IsMade (λ u e. Keeps Q (load_cid u) e) load_made (post_all Event t) d (post_all_made Event not_tx_event t d is)))
+      (post_all Rx made) c (post_all_made Rx not_tx_rx made c (refl, fresh)))
+
+-- What each call may do, and what holds after it.
+module _ (first : ℕ) where
+  pub connect_may : (host : ℕ) (s : DriverState) (c : RingContents) → host < 2 ^ 32 → IsHonestWith first s c → MayPublishAll (connect_of host s) c
+  connect_may host s c port honest = keeps_may _ (connect_of host s) c (connect_keeps first host s c port (rests_of first s c honest))
+
+  pub connect_honest : (host : ℕ) (s : DriverState) (c d : RingContents) (x : DriverState × Result ℕ ConnectError) → host < 2 ^ 32
+      → IsHonestWith first s c → Plays (connect_of host s) c x d → IsHonestWith first x.0 d
+  connect_honest host s c d x port honest plays =
+      honest_of first x.0 d (keeps_end _ (connect_of host s) c d x (connect_keeps first host s c port (rests_of first s c honest)) plays)
+
+  pub send_may : (id : ℕ) (bytes : List ℕ) (s : DriverState) (c : RingContents) → IsHonestWith first s c → MayPublishAll (send_of id bytes s) c
+  send_may id bytes s c honest = keeps_may _ (send_of id bytes s) c (send_keeps first id bytes s c (rests_of first s c honest))
+
+  pub send_honest : (id : ℕ) (bytes : List ℕ) (s : DriverState) (c d : RingContents) (x : DriverState × Sent) → IsHonestWith first s c
+      → Plays (send_of id bytes s) c x d → IsHonestWith first x.0 d
+  send_honest id bytes s c d x honest plays =
+      honest_of first x.0 d (keeps_end _ (send_of id bytes s) c d x (send_keeps first id bytes s c (rests_of first s c honest)) plays)
+
+  pub poll_may : (s : DriverState) (c : RingContents) → IsHonestWith first s c → MayPublishAll (poll_of s) c
+  poll_may s c honest = keeps_may _ (poll_of s) c (poll_keeps first s c (rests_of first s c honest))
+
+  pub poll_honest : (s : DriverState) (c d : RingContents) (x : DriverState × Polled) → IsHonestWith first s c → Plays (poll_of s) c x d
+      → IsHonestWith first x.0 d
+  poll_honest s c d x honest plays =
+      honest_of first x.0 d (keeps_end _ (poll_of s) c d x (poll_keeps first s c (rests_of first s c honest)) plays)
+
+pub new_may : (size port id : ℕ) (c : RingContents) → port ≤ LAST_PORT → IsFresh c → MayPublishAll (new_of size port id) c
+new_may size port id c fits fresh = keeps_may _ (new_of size port id) c (new_keeps size port id fits c fresh)
+
+pub new_honest : (size port id : ℕ) (c d : RingContents) (s : DriverState) → port ≤ LAST_PORT → IsFresh c → Plays (new_of size port id) c s d
+    → IsHonestWith s.cid s d
+new_honest size port id c d s fits fresh plays =
+    honest_of s.cid s d (keeps_end _ (new_of size port id) c d s (new_keeps size port id fits c fresh) plays)

@@ -1,0 +1,267 @@
+-- What a poll keeps, part by part.
+use Rattle.std.proofs.Common.{◌≡◌, ℕ, ◌+◌, ◌<◌, ◌^◌, ◌==◌, nat_le, nat_lt, Bool, true, false, cond, List, [], ◌∷◌, length, Option, Some}
+use Rattle.std.proofs.Common.{None, refl, sym, ap, subst, ◌∙◌}
+use Rattle.vs_contents.specs.CallTree.{Done, Ask, bind}
+use Rattle.vs_conn.specs.{End.owes_of, declared.end.Owed.Owed, declared.end.TheConstants.OWED_MAX}
+use Rattle.vs_flow.specs.Table.{entry_under, slots}
+use Rattle.vs_header.specs.Packet.{header_bytes}
+use Rattle.laws_history.specs.declared.packet.Packet.{Packet}
+use Rattle.vs_page.specs.{Fair.IsFairLog, Held.event_held, Held.packet_held, Log.Driver, Log.Log, declared.log.LogEntry.LogEntry}
+use Rattle.vs_page.specs.declared.log.LogEntry.TheVariants.{GotEvent, GotPacket, Mark}
+use Rattle.vs_page.proofs.Holding.{packet_whole}
+use Rattle.vs_replies.specs.declared.Reply.{Reply}
+use Rattle.vs_ring_port.specs.{Contents.RingContents, DriverCalls.Reap, DriverCalls.LoadCid, declared.queue.Queue.Queue}
+use Rattle.vs_ring_port.specs.EndLog.{EndLog, entries_marked, log_loaded, log_reaped, with_event, with_packet}
+use Rattle.vs_ring_port.specs.declared.queue.Queue.TheVariants.{Rx, Tx, Event}
+use Rattle.laws_tables.proofs.{Keeps.takes_event, Slots.found_by}
+use Rattle.vs_driver_parts.specs.{declared.answers.Polled.Polled, State.DriverEntry, State.DriverState}
+use Rattle.vs_driver_parts.specs.Conversations.{DriverTree, Round, after_paying, all_taken, event_reaped, event_taken, goes_on_with}
+use Rattle.vs_driver_parts.specs.Conversations.{has_page, one_put, owed_bytes, packet_reaped, pay_all, pay_and_publish, pay_slot, poll_of}
+use Rattle.vs_driver_parts.specs.Conversations.{poll_packets, poll_puts, poll_reaps, polled, publish_and_pay, publish_of, published}
+use Rattle.vs_driver_parts.specs.Conversations.{put_all, put_owed, put_owed_of, put_replies, put_reply, put_reply_of, reap_all}
+use Rattle.vs_driver_parts.specs.Conversations.{reply_header, stage_of, stage_packet, staged_again, start, take_all, take_event}
+use Rattle.vs_driver_parts.specs.Conversations.{take_packet, with_state}
+use Rattle.vs_driver_parts.specs.Receiving.{after_reset, is_reset_event, on_packet, on_page}
+use Rattle.vs_driver_parts.specs.Playing.{BringsFit, RingAllows}
+use Rattle.vs_limits.specs.declared.TheConstants.{DRIVER_REPLIES_FULL}
+use Rattle.vs_driver_parts.proofs.Ids.{has_slot}
+use Rattle.laws_driver.specs.{Honest.IsFitState, Honest.ends_of_state, Staged.IsLeft}
+use Rattle.laws_driver.proofs.{Putting.owed_puts, Putting.reply_puts, Resetting.resets, Tabling.Stands, Taking.gets_packet}
+use Rattle.laws_driver.proofs.Keeping.{Keeps, keeps_bind, keeps_each, keeps_weaker, keeps_while}
+use Rattle.laws_driver.proofs.Staging.{Rests, SameBut, Ties, publish_other, publish_tx, reap_keeps, rests_tied, stage_other, stage_tx}
+use Rattle.laws_driver.proofs.Ringing.{IsAtRest, Tells, moves, tells_weaker}
+
+pub not_tx_rx : Rx ≡ Tx → ⊥
+not_tx_rx is = absurd cc
+
+pub not_tx_event : Event ≡ Tx → ⊥
+not_tx_event is = absurd cc
+
+-- A page with a packet comes back.
+gets_by : (first : ℕ) (s : DriverState) (page : List ℕ) (o : Option Packet) (entries : Log) → packet_held page ≡ o → IsFitState s
+    → BringsFit page → IsLeft first s.broken (ends_of_state s) [] entries → IsFairLog Driver (with_packet (λ p. GotPacket p) o entries)
+    → let t : DriverState = elim o [ None ↦ s | Some p ↦ on_packet p s ] in
+    IsFitState t × IsLeft first t.broken (ends_of_state t) [] (with_packet (λ p. GotPacket p) o entries)
+gets_by first s page None entries is fits ports left fair = (fits, left)
+gets_by first s page (Some p) entries is fits ports left fair =
+    let g = gets_packet first p s entries fits (ports p is) (packet_whole page p is).0 left.matches fair in
+    (g.fits, record { none_refused = g.broken ∙ left.none_refused; matches = g.matches; fair = fair })
+
+gets_page : (first : ℕ) (s : DriverState) (page : List ℕ) (l : EndLog) → BringsFit page → IsAtRest first s l → IsFairLog Driver (log_reaped Rx (Some page) l).entries
+    → IsAtRest first (on_page page s) (log_reaped Rx (Some page) l)
+gets_page first s page l ports rest fair =
+    let g = gets_by first s page (packet_held page) l.entries refl rest.0 ports rest.1 fair in
+    (g.0, g.1, rest.2)
+
+-- An event comes back. Where it tells a reset, something passed.
+abbrev HasPassed : Bool → Log → Type 0
+HasPassed true entries = (entry : LogEntry) × (older : Log) × (entries ≡ entry ∷ older)
+HasPassed false entries = Unit {0}
+
+abbrev AfterEvent : ℕ → List ℕ → DriverState → EndLog → Type 0
+AfterEvent first page s l = IsAtRest first s l × HasPassed (is_reset_event page) l.entries
+
+passed : (b : Bool) (entry : LogEntry) (older : Log) → HasPassed b (entry ∷ older)
+passed true entry older = (entry, older, refl)
+passed false entry older = tt
+
+event_by : (first : ℕ) (s : DriverState) (o : Option ℕ) (entries : Log) → IsLeft first s.broken (ends_of_state s) [] entries
+    → IsFairLog Driver (with_event (λ id. GotEvent id) o entries)
+    → IsLeft first s.broken (ends_of_state s) [] (with_event (λ id. GotEvent id) o entries)
+    × HasPassed (elim o [ None ↦ false | Some id ↦ id == 0 ]) (with_event (λ id. GotEvent id) o entries)
+event_by first s None entries left fair = (left, tt)
+event_by first s (Some id) entries left fair = (
+  record { none_refused = left.none_refused; matches = takes_event Driver first id (ends_of_state s) entries left.matches; fair = fair },
+  passed (id == 0) (GotEvent id) entries,
+)
+
+gets_event : (first : ℕ) (s : DriverState) (page : List ℕ) (l : EndLog) → IsAtRest first s l → IsFairLog Driver (log_reaped Event (Some page) l).entries
+    → AfterEvent first page s (log_reaped Event (Some page) l)
+gets_event first s page l rest fair =
+    let e = event_by first s (event_held page) l.entries rest.1 fair in ((rest.0, e.0, rest.2), e.1)
+
+loads : (first cid : ℕ) (s : DriverState) (l : EndLog) → cid < 2 ^ 64 → IsAtRest first s l → HasPassed true l.entries → IsAtRest first (after_reset cid s) (log_loaded cid l)
+loads first cid s l less rest has =
+    let r = resets cid s less rest.0 in
+    let marked : entries_marked cid l.entries ≡ Mark cid ∷ l.entries = ap (entries_marked cid) has.2 ∙ ap (λ (log : Log). Mark cid ∷ log) (sym has.2) in
+    let left : IsLeft first (after_reset cid s).broken (ends_of_state (after_reset cid s)) [] (Mark cid ∷ l.entries) = record {
+      none_refused = r.broken ∙ rest.1.none_refused;
+      matches = r.matches first l.entries rest.1.matches;
+      fair = rest.1.fair;
+    } in
+    (r.fits, subst (λ (log : Log). IsLeft first (after_reset cid s).broken (ends_of_state (after_reset cid s)) [] log) (sym marked) left, rest.2)
+
+module _ (first : ℕ) where
+  abbrev pub RoundRests : Round → RingContents → Type 0
+  RoundRests r c = Rests first r.state c
+
+  abbrev pub RoundTies : Round → RingContents → Type 0
+  RoundTies r c = Ties first r.state c
+
+  abbrev pub PairRests : Round × Bool → RingContents → Type 0
+  PairRests x c = RoundRests x.0 c
+
+  abbrev pub PairTies : Round × Bool → RingContents → Type 0
+  PairTies x c = RoundTies x.0 c
+
+  -- Events.
+  taken_by : (b : Bool) (r : Round) (c : RingContents) → Tells (λ l. IsAtRest first r.state l × HasPassed b l.entries) c
+      → Keeps RoundRests (cond b (Ask LoadCid (λ cid. Done (record r { state = after_reset cid r.state; count = r.count + 1; reset = true })))
+      (Done (record r { count = r.count + 1 }))) c
+  taken_by true r c tells = (
+    tt,
+    λ cid d made. moves _ _ _ _ _ (log_loaded cid) c d made.1 (λ l. IsAtRest first r.state l × HasPassed true l.entries) (IsAtRest first (after_reset cid r.state))
+        (λ l both fair. loads first cid r.state l made.0 both.0 both.1) tells,
+  )
+  taken_by false r c tells = tells_weaker (λ l. IsAtRest first r.state l × HasPassed false l.entries) (IsAtRest first r.state) (λ l both. both.0) c tells
+
+  again : (queue : Queue) → (queue ≡ Tx → ⊥) → (r : Round) (c : RingContents) → RoundRests r c → Keeps PairRests (staged_again queue r) c
+  again queue other r c rests = keeps_bind PairRests (stage_of queue [] r.state) (goes_on_with r) c (stage_other first queue other r.state [] c rests)
+
+  event_reaped_keeps : (page : Option (List ℕ)) (r : Round) (c d : RingContents) → RingAllows (Reap Event) page c d → RoundRests r c
+      → Keeps PairRests (event_reaped r page) d
+  event_reaped_keeps None r c d made rests =
+      moves _ _ _ _ _ (log_reaped Event None) c d made.1 (IsAtRest first r.state) (IsAtRest first r.state) (λ l rest fair. rest) rests
+  event_reaped_keeps (Some page) r c d made rests =
+      keeps_bind PairRests (event_taken page r) (staged_again Event) d
+      (keeps_weaker RoundRests (λ x e. Keeps PairRests (staged_again Event x) e) (λ x e kept. again Event not_tx_event x e kept) (event_taken page r) d
+      (taken_by (is_reset_event page) r d
+      (moves _ _ _ _ _ (log_reaped Event (Some page)) c d made.1 (IsAtRest first r.state) (AfterEvent first page r.state)
+      (λ l rest fair. gets_event first r.state page l rest fair) rests)))
+
+  event_step : (b : Bool) (r : Round) (c : RingContents) → RoundRests r c → Keeps PairRests (cond b (Done (r, false)) (Ask (Reap Event) (event_reaped r))) c
+  event_step true r c rests = rests
+  event_step false r c rests = (tt, λ page d made. event_reaped_keeps page r c d made rests)
+
+  pub take_event_keeps : (r : Round) (c : RingContents) → RoundRests r c → Keeps PairRests (take_event r) c
+  take_event_keeps r c rests = event_step (nat_lt DRIVER_REPLIES_FULL (length r.state.replies)) r c rests
+
+  -- Packets.
+  packet_reaped_keeps : (page : Option (List ℕ)) (r : Round) (c d : RingContents) → RingAllows (Reap Rx) page c d → RoundRests r c
+      → Keeps PairRests (packet_reaped r page) d
+  packet_reaped_keeps None r c d made rests =
+      moves _ _ _ _ _ (log_reaped Rx None) c d made.1 (IsAtRest first r.state) (IsAtRest first r.state) (λ l rest fair. rest) rests
+  packet_reaped_keeps (Some page) r c d made rests =
+      again Rx not_tx_rx (record r { state = on_page page r.state; count = r.count + 1 }) d
+      (moves _ _ _ _ _ (log_reaped Rx (Some page)) c d made.1 (IsAtRest first r.state) (IsAtRest first (on_page page r.state))
+      (λ l rest fair. gets_page first r.state page l made.0 rest fair) rests)
+
+  packet_step : (b : Bool) (r : Round) (c : RingContents) → RoundRests r c → Keeps PairRests (cond b (Done (r, false)) (Ask (Reap Rx) (packet_reaped r))) c
+  packet_step true r c rests = rests
+  packet_step false r c rests = (tt, λ page d made. packet_reaped_keeps page r c d made rests)
+
+  pub take_packet_keeps : (r : Round) (c : RingContents) → RoundRests r c → Keeps PairRests (take_packet r) c
+  take_packet_keeps r c rests = packet_step (nat_le DRIVER_REPLIES_FULL (length r.state.replies)) r c rests
+
+  -- Each of these parts ends by publishing what it staged.
+  take_all_keeps : (queue : Queue) → (queue ≡ Tx → ⊥) → (take_one : Round → DriverTree (Round × Bool))
+      → ((r : Round) (c : RingContents) → RoundRests r c → Keeps PairRests (take_one r) c) → (s : DriverState) (c : RingContents) → Rests first s c
+      → Keeps RoundRests (take_all queue take_one s) c
+  take_all_keeps queue other take_one each s c rests =
+      keeps_bind RoundRests (all_taken take_one s) (published queue) c
+      (keeps_weaker RoundRests (λ r d. Keeps RoundRests (published queue r) d)
+      (λ r d kept. keeps_bind RoundRests (publish_of queue r.state) (with_state r) d (publish_other first queue other r.state d kept))
+      (all_taken take_one s) c (keeps_while RoundRests take_one each s.size (start s) c rests))
+
+  -- Owed replies.
+  reply_by : (replies : List Reply) (r : Round) (c : RingContents) → r.state.replies ≡ replies → RoundTies r c → Keeps PairTies (put_reply_of replies r) c
+  reply_by [] r c is ties = ties
+  reply_by (reply ∷ rest) r c is ties = by (has_page r.state)
+    where
+      t : DriverState
+      t = record r.state { replies = rest }
+
+      by : (b : Bool) → Keeps PairTies (cond b (bind (stage_packet (header_bytes (reply_header r.state.cid reply)) (record r.state { replies = rest })) (one_put r)) (Done (r, false))) c
+      by true =
+          keeps_bind PairTies (stage_packet (header_bytes (reply_header r.state.cid reply)) (record r.state { replies = rest })) (one_put r) c
+          (stage_tx first r.state (record r.state { replies = rest }) (header_bytes (reply_header r.state.cid reply)) c (λ l tie. reply_puts reply rest r.state tie.0 is) ties)
+      by false = ties
+
+  pub put_reply_keeps : (r : Round) (c : RingContents) → RoundTies r c → Keeps PairTies (put_reply r) c
+  put_reply_keeps r c ties = reply_by r.state.replies r c refl ties
+
+  -- What a connection owes.
+  stands_under : (s : DriverState) (slot : ℕ) (e : DriverEntry) → entry_under s.table slot ≡ Some e → Stands s e
+  stands_under s slot e found =
+      let by = found_by (λ (x : DriverEntry). x.slot == slot) s.table.entries e found in
+      let at = has_slot s.table slot e found in
+      record { under = ap (entry_under s.table) at ∙ found; contains = by.0 }
+
+  owed_by : (slot : ℕ) (e : DriverEntry) (what : Owed) (r : Round) (c : RingContents) → entry_under r.state.table slot ≡ Some e → owes_of e.value.end ≡ Some what
+      → RoundTies r c → Keeps PairTies (put_owed_of what e r) c
+  owed_by slot e what r c found owes ties = by (has_page r.state)
+    where
+      by : (b : Bool) → Keeps PairTies (cond b (bind (stage_packet (owed_bytes what e r.state) (after_paying what e r.state)) (one_put r)) (Done (r, false))) c
+      by true =
+          keeps_bind PairTies (stage_packet (owed_bytes what e r.state) (after_paying what e r.state)) (one_put r) c
+          (stage_tx first r.state (after_paying what e r.state) (owed_bytes what e r.state) c
+          (λ l tie. owed_puts what e r.state tie.0 (stands_under r.state slot e found) owes) ties)
+      by false = ties
+
+  owes_by : (o : Option Owed) (slot : ℕ) (e : DriverEntry) (r : Round) (c : RingContents) → entry_under r.state.table slot ≡ Some e → owes_of e.value.end ≡ o
+      → RoundTies r c → Keeps PairTies (elim o [ None ↦ Done (r, false) | Some what ↦ put_owed_of what e r ]) c
+  owes_by None slot e r c found owes ties = ties
+  owes_by (Some what) slot e r c found owes ties = owed_by slot e what r c found owes ties
+
+  entry_by : (o : Option DriverEntry) (slot : ℕ) (r : Round) (c : RingContents) → entry_under r.state.table slot ≡ o → RoundTies r c
+      → Keeps PairTies (elim o [
+        | None ↦ Done (r, false)
+        | Some e ↦ elim (owes_of e.value.end) [ None ↦ Done (r, false) | Some what ↦ put_owed_of what e r ]
+      ]) c
+  entry_by None slot r c found ties = ties
+  entry_by (Some e) slot r c found ties = owes_by (owes_of e.value.end) slot e r c found refl ties
+
+  pub put_owed_keeps : (slot : ℕ) (r : Round) (c : RingContents) → RoundTies r c → Keeps PairTies (put_owed slot r) c
+  put_owed_keeps slot r c ties = entry_by (entry_under r.state.table slot) slot r c refl ties
+
+  pay_slot_keeps : (slot : ℕ) (r : Round) (c : RingContents) → RoundTies r c → Keeps RoundTies (pay_slot slot r) c
+  pay_slot_keeps slot r c ties = keeps_while RoundTies (put_owed slot) (put_owed_keeps slot) OWED_MAX r c ties
+
+  pay_all_keeps : (r : Round) (c : RingContents) → RoundTies r c → Keeps RoundTies (pay_all r) c
+  pay_all_keeps r c ties = keeps_each RoundTies pay_slot pay_slot_keeps (slots r.state.table) r c ties
+
+  published_keeps : (r : Round) (c : RingContents) → RoundTies r c → Keeps RoundRests (published Tx r) c
+  published_keeps r c ties = keeps_bind RoundRests (publish_of Tx r.state) (with_state r) c (publish_tx first r.state c ties)
+
+  pay_and_publish_keeps : (r : Round) (c : RingContents) → RoundTies r c → Keeps RoundRests (pay_and_publish r) c
+  pay_and_publish_keeps r c ties =
+      keeps_bind RoundRests (pay_all r) (published Tx) c
+      (keeps_weaker RoundTies (λ x d. Keeps RoundRests (published Tx x) d) published_keeps (pay_all r) c (pay_all_keeps r c ties))
+
+  publish_and_pay_keeps : (r : Round) (c : RingContents) → RoundTies r c → Keeps RoundRests (publish_and_pay r) c
+  publish_and_pay_keeps r c ties =
+      keeps_bind RoundRests (published Tx r) pay_and_publish c
+      (keeps_weaker RoundRests (λ x d. Keeps RoundRests (pay_and_publish x) d)
+      (λ x d kept. pay_and_publish_keeps x d (rests_tied first x.state d kept)) (published Tx r) c (published_keeps r c ties))
+
+  put_all_keeps : (s : DriverState) (c : RingContents) → Rests first s c → Keeps RoundRests (put_all s) c
+  put_all_keeps s c rests =
+      keeps_bind RoundRests (put_replies s) publish_and_pay c
+      (keeps_weaker RoundTies (λ x d. Keeps RoundRests (publish_and_pay x) d) publish_and_pay_keeps (put_replies s) c
+      (keeps_while RoundTies put_reply put_reply_keeps (length s.replies) (start s) c (rests_tied first s c rests)))
+
+  -- The whole poll.
+  abbrev EndRests : DriverState × Polled → RingContents → Type 0
+  EndRests x c = Rests first x.0 c
+
+  puts_keeps : (took : ℕ) (reset : Bool) (s : DriverState) (c : RingContents) → Rests first s c → Keeps EndRests (poll_puts took reset s) c
+  puts_keeps took reset s c rests = keeps_bind EndRests (put_all s) (polled took reset) c (put_all_keeps s c rests)
+
+  reaps_keeps : (reset : Bool) (r : Round) (c : RingContents) → RoundRests r c → Keeps EndRests (poll_reaps reset r) c
+  reaps_keeps reset r c rests =
+      keeps_bind EndRests (reap_all r.state) (poll_puts r.count reset) c
+      (keeps_weaker (SameBut first r.state) (λ s d. Keeps EndRests (poll_puts r.count reset s) d)
+      (λ s d same. puts_keeps r.count reset s d (subst (λ (x : DriverState). Rests first x d) (sym same.0) same.1)) (reap_all r.state) c
+      (reap_keeps first r.state c rests))
+
+  packets_keeps : (r : Round) (c : RingContents) → RoundRests r c → Keeps EndRests (poll_packets r) c
+  packets_keeps r c rests =
+      keeps_bind EndRests (take_all Rx take_packet r.state) (poll_reaps r.reset) c
+      (keeps_weaker RoundRests (λ x d. Keeps EndRests (poll_reaps r.reset x) d) (reaps_keeps r.reset) (take_all Rx take_packet r.state) c
+      (take_all_keeps Rx not_tx_rx take_packet take_packet_keeps r.state c rests))
+
+  pub poll_keeps : (s : DriverState) (c : RingContents) → Rests first s c → Keeps EndRests (poll_of s) c
+  poll_keeps s c rests =
+      keeps_bind EndRests (take_all Event take_event s) poll_packets c
+      (keeps_weaker RoundRests (λ x d. Keeps EndRests (poll_packets x) d) packets_keeps (take_all Event take_event s) c
+      (take_all_keeps Event not_tx_event take_event take_event_keeps s c rests))

@@ -1,0 +1,190 @@
+-- The steps at which the driver puts a packet: a connection of its own is asked for, payload is sent, what is owed is paid.
+use Rattle.std.proofs.{lemmas.Bool.Decides.nat_tests, lemmas.List.append-nil, lemmas.List.Elements.All-head, lemmas.List.Elements.All-tail}
+use Rattle.std.proofs.Common.{◌≡◌, ℕ, ◌+◌, ◌<◌, ◌≤◌, ◌^◌, nat_lt, nat_le, Bool, true, false, cond, List, [], ◌∷◌, length, Some, None, refl}
+use Rattle.std.proofs.Common.{inl, sym, ap, subst, ◌∙◌, arith, ◌||◌}
+use Rattle.std.specs.List.{All}
+use Rattle.vs_conn.specs.{Headers.owed_flags, Headers.owed_header, Headers.owed_op, Headers.payload_header, declared.end.Owed.Owed}
+use Rattle.vs_conn.specs.End.{CanSend, ConnectionEnd, asked, owes_of, paid_of, with_payload_sent}
+use Rattle.vs_header.specs.{Packet.header_bytes, declared.Header.Header, declared.Kind.TheVariants.Stream}
+use Rattle.vs_limits.specs.declared.TheConstants.{BUF_ALLOC, LAST_ID, LAST_PORT, DRIVER_CONNECTIONS}
+use Rattle.vs_flow.specs.{Flow.is_assigned, Table.entry_of, declared.flow.Flow.Flow}
+use Rattle.vs_flow.proofs.{Tables.IsAccepted, Entries.find_none}
+use Rattle.vs_page.specs.{Held.FitsWire, Log.Driver, Log.side_by, declared.log.LogEntry.TheVariants.PutPacket}
+use Rattle.vs_page.specs.declared.page.TheConstants.{PAYLOAD_MAX}
+use Rattle.vs_replies.specs.declared.Reply.{Reply}
+use Rattle.laws_tables.specs.{Ends.Ends, Ends.FlowEnd, Matches.Matches}
+use Rattle.laws_tables.specs.Steps.{IsNextFlow, opened, owed_on, paid, payload_on, reply_on, request_on, with_end}
+use Rattle.laws_tables.proofs.{Slots.added_slot, Steps.port_next, OwedFlags.owed_flags_fit}
+use Rattle.laws_tables.proofs.Keeps.{opens, opens_fair, pays, pays_fair, replies, replies_fair, sends, sends_fair}
+use Rattle.vs_driver_parts.specs.Connections.{connect_refusal, connected, is_full, next_flow, paid_connection, route_to_host}
+use Rattle.vs_driver_parts.specs.Connections.{with_connection}
+use Rattle.vs_driver_parts.specs.Conversations.{after_paying, owed_bytes, payload_bytes, reply_header, request_bytes}
+use Rattle.vs_driver_parts.specs.declared.answers.ConnectError.{ConnectError}
+use Rattle.vs_driver_parts.specs.State.{DriverConnection, DriverEntry, DriverState, slots_held}
+use Rattle.laws_driver.specs.Honest.{IsFitFlow, IsFitReply, IsFitState, end_in, ends_of_state}
+use Rattle.vs_page.proofs.Packets.{held_alone, held_payload}
+use Rattle.laws_driver.proofs.{Bytes.header_fits, Bytes.reset_fits, Fits.IsHeldBy, Fits.paid_fits, Fits.sent_fits, Ringing.Puts}
+use Rattle.laws_driver.proofs.Tabling.{Stands, connection_ends, connection_fits, entry_fits, has_end, leaves, opening_fits}
+use Rattle.vs_conn.specs.declared.end.Owed.TheVariants as owed
+use Rattle.vs_header.specs.declared.Op.TheVariants as op
+use Rattle.vs_driver_parts.specs.declared.answers.ConnectError.TheVariants as refused
+use Rattle.vs_driver_parts.specs.Connections as connections
+
+-- The packet that a connection owes is put.
+pub record Pays (what : Owed) (e : DriverEntry) (s t : DriverState) : Type 0 where
+  pub ends : ends_of_state t ≡ paid e.flow e.value.end what (ends_of_state s)
+  pub fits : IsFitState t
+  pub broken : t.broken ≡ s.broken
+
+pays_by : (what : Owed) (e : DriverEntry) (s : DriverState) (c : DriverConnection) → c.end ≡ paid_of e.value.end what → IsHeldBy c → IsFitState s
+    → Stands s e → (ends_of_state (with_connection e.slot c s) ≡ with_end e.flow (paid_of e.value.end what) (ends_of_state s)) × IsFitState (with_connection e.slot c s)
+pays_by what e s c is held fits stands =
+    (connection_ends s e c fits stands ∙ ap (λ (x : ConnectionEnd). with_end e.flow x (ends_of_state s)) is, connection_fits s e.slot c fits held)
+
+pays_state : (what : Owed) (e : DriverEntry) (s : DriverState) → IsFitState s → Stands s e → IsHeldBy e.value → Pays what e s (after_paying what e s)
+pays_state owed.Rst e s fits stands held = let l = leaves s e e.value fits stands in record { ends = l.ends; fits = l.fits; broken = l.broken }
+pays_state owed.Request e s fits stands held =
+    let l = pays_by owed.Request e s (paid_connection owed.Request e.value) refl (paid_fits owed.Request e.value held) fits stands in
+    record { ends = l.0; fits = l.1; broken = refl }
+pays_state owed.Response e s fits stands held =
+    let l = pays_by owed.Response e s (paid_connection owed.Response e.value) refl (paid_fits owed.Response e.value held) fits stands in
+    record { ends = l.0; fits = l.1; broken = refl }
+pays_state owed.CreditUpdate e s fits stands held =
+    let l = pays_by owed.CreditUpdate e s (paid_connection owed.CreditUpdate e.value) refl (paid_fits owed.CreditUpdate e.value held) fits stands in
+    record { ends = l.0; fits = l.1; broken = refl }
+pays_state owed.CreditRequest e s fits stands held =
+    let l = pays_by owed.CreditRequest e s (paid_connection owed.CreditRequest e.value) refl (paid_fits owed.CreditRequest e.value held) fits stands in
+    record { ends = l.0; fits = l.1; broken = refl }
+pays_state (owed.Shutdown bits) e s fits stands held =
+    let l = pays_by (owed.Shutdown bits) e s (paid_connection (owed.Shutdown bits) e.value) refl (paid_fits (owed.Shutdown bits) e.value held) fits stands in
+    record { ends = l.0; fits = l.1; broken = refl }
+
+pub owed_puts : (what : Owed) (e : DriverEntry) (s : DriverState) → IsFitState s → Stands s e → owes_of e.value.end ≡ Some what
+    → Puts s (owed_bytes what e s) (after_paying what e s)
+owed_puts what e s fits stands owes =
+    let entry = entry_fits s e fits stands in
+    let end : ConnectionEnd = e.value.end in
+    let h : Header = owed_header end (route_to_host s.cid e.flow) what in
+    let wire : FitsWire h =
+    header_fits s.cid e.flow end (owed_op what) (owed_flags end what) 0 fits.cid_fits entry.ports entry.buffer.alloc entry.buffer.fwd_cnt (owed_flags_fit end what owes) (omega arith) in
+    let step = pays_state what e s fits stands entry.buffer in
+    let has = has_end s e fits stands in
+    record {
+      packet = owed_on Driver s.cid e.flow end what;
+      held = held_alone h wire refl;
+      bytes = sym (append-nil (header_bytes h));
+      fits = step.fits;
+      broken = step.broken;
+      matches = λ first log m.
+          subst (λ (part : Ends). Matches Driver first part (PutPacket (owed_on Driver s.cid e.flow end what) ∷ log)) (sym step.ends)
+          (pays Driver first s.cid e.flow end what (ends_of_state s) log m has owes);
+      fair = λ first log m fair. pays_fair Driver first s.cid e.flow end what (ends_of_state s) log m fair has owes;
+    }
+
+-- The oldest reply is put.
+pub reply_puts : (reply : Reply) (rest : List Reply) (s : DriverState) → IsFitState s → s.replies ≡ reply ∷ rest
+    → Puts s (header_bytes (reply_header s.cid reply)) (record s { replies = rest })
+reply_puts reply rest s fits is =
+    let owed : All IsFitReply (reply ∷ rest) = subst (λ (rs : List Reply). All IsFitReply rs) is fits.owed in
+    let wire = reset_fits s.cid reply.kind reply.flow fits.cid_fits (All-head IsFitReply reply rest owed) in
+    record {
+      packet = reply_on Driver s.cid reply;
+      held = held_alone (reply_header s.cid reply) wire refl;
+      bytes = sym (append-nil (header_bytes (reply_header s.cid reply)));
+      fits = record {
+        cid_fits = fits.cid_fits;
+        port_left = fits.port_left;
+        sound = fits.sound;
+        places = fits.places;
+        given = fits.given;
+        entries = fits.entries;
+        ports = fits.ports;
+        owed = All-tail IsFitReply reply rest owed;
+      };
+      broken = refl;
+      matches = λ first log m. replies Driver first s.cid reply rest (ends_of_state s) log m is;
+      fair = λ first log m fair. replies_fair Driver first s.cid reply rest (ends_of_state s) log m fair is;
+    }
+
+-- Payload is sent.
+pub send_puts : (e : DriverEntry) (payload : List ℕ) (s : DriverState) → IsFitState s → Stands s e → CanSend e.value.end (length payload)
+    → length payload ≤ PAYLOAD_MAX → Puts s (payload_bytes e payload s) (connections.with_end (with_payload_sent e.value.end (length payload)) e s)
+send_puts e payload s fits stands can few =
+    let entry = entry_fits s e fits stands in
+    let end : ConnectionEnd = e.value.end in
+    let now : DriverConnection = record e.value { end = with_payload_sent end (length payload) } in
+    let h : Header = payload_header end (route_to_host s.cid e.flow) (length payload) in
+    let small : length payload < 2 ^ 32 = omega (arith, few) in
+    let wire : FitsWire h = header_fits s.cid e.flow end op.Rw 0 (length payload) fits.cid_fits entry.ports entry.buffer.alloc entry.buffer.fwd_cnt (omega arith) small in
+    let has = has_end s e fits stands in
+    record {
+      packet = payload_on Driver s.cid e.flow end payload;
+      held = held_payload h payload wire refl refl;
+      bytes = refl;
+      fits = connection_fits s e.slot now fits (sent_fits (length payload) e.value entry.buffer);
+      broken = refl;
+      matches = λ first log m.
+          subst (λ (part : Ends). Matches Driver first part (PutPacket (payload_on Driver s.cid e.flow end payload) ∷ log)) (sym (connection_ends s e now fits stands))
+          (sends Driver first s.cid e.flow end payload (ends_of_state s) log m has can);
+      fair = λ first log m fair. sends_fair Driver first s.cid e.flow end payload (ends_of_state s) log m fair has can;
+    }
+
+-- A connection is asked for.
+pub record MayConnect (host : ℕ) (s : DriverState) : Type 0 where
+  pub own : is_assigned host ≡ false
+  pub place : slots_held s < DRIVER_CONNECTIONS
+  pub port : s.next_port ≤ LAST_PORT
+  pub id : s.next_id ≤ LAST_ID
+
+may_by : (host : ℕ) (s : DriverState) (a b c d : Bool) (x y z : ConnectError) → is_assigned host ≡ a → nat_le DRIVER_CONNECTIONS (slots_held s) ≡ b → nat_lt LAST_PORT s.next_port ≡ c
+    → nat_lt LAST_ID s.next_id ≡ d → cond a (Some x) (cond b (Some y) (cond (c || d) (Some z) None)) ≡ None → MayConnect host s
+may_by host s true b c d x y z av bv cv dv is = absurd cc
+may_by host s false true c d x y z av bv cv dv is = absurd cc
+may_by host s false false true d x y z av bv cv dv is = absurd cc
+may_by host s false false false true x y z av bv cv dv is = absurd cc
+may_by host s false false false false x y z av bv cv dv is = record {
+  own = av;
+  place = grind (arith, nat_tests, bv);
+  port = grind (arith, nat_tests, cv);
+  id = grind (arith, nat_tests, dv);
+}
+
+pub may_connect : (host : ℕ) (s : DriverState) → connect_refusal host s ≡ None → MayConnect host s
+may_connect host s is =
+    may_by host s (is_assigned host) (is_full s) (nat_lt LAST_PORT s.next_port) (nat_lt LAST_ID s.next_id) (refused.BadPort host) (refused.Full DRIVER_CONNECTIONS)
+    (refused.PortsSpent s.last_port s.last_id) refl refl refl refl is
+
+new_flow : (host : ℕ) (s : DriverState) → IsFitState s → is_assigned host ≡ false → entry_of s.table (next_flow host s) ≡ None
+new_flow host s fits own = find_none _ s.table.entries (λ i d lt. let below = fits.ports i d lt in grind (arith, nat_tests, below, own))
+
+asked_held : IsHeldBy (record { id = 0; end = paid_of (asked Stream BUF_ALLOC) owed.Request; unread = []; unanswered = false; closed = false })
+asked_held = record { unread = refl; fits = omega arith; space = omega arith; least = omega arith; alloc = omega arith; rx_cnt = omega arith; fwd_cnt = omega arith }
+
+pub connect_puts : (host : ℕ) (s : DriverState) → host < 2 ^ 32 → IsFitState s → connect_refusal host s ≡ None → Puts s (request_bytes host s) (connected host s)
+connect_puts host s host_fits fits free =
+    let may = may_connect host s free in
+    let f : Flow = next_flow host s in
+    let ports : IsFitFlow f = record { guest = omega (arith, may.port); host = host_fits; peer = omega arith } in
+    let h : Header = owed_header (asked Stream BUF_ALLOC) (route_to_host s.cid f) owed.Request in
+    let wire : FitsWire h = header_fits s.cid f (asked Stream BUF_ALLOC) op.Request 0 0 fits.cid_fits ports (omega arith) (omega arith) (omega arith) (omega arith) in
+    let next : IsNextFlow Driver f (ends_of_state s) = record { asker = ap (λ (b : Bool). side_by Driver b) may.own; port = inl (omega arith) } in
+    let c : DriverConnection = record { id = s.next_id; end = paid_of (asked Stream BUF_ALLOC) owed.Request; unread = []; unanswered = false; closed = false } in
+    let accepted : IsAccepted s.table f = record {
+      absent = new_flow host s fits may.own;
+      place = omega (arith, may.place, fits.places);
+      slot = omega (arith, fits.given, may.id);
+    } in
+    let ends : ends_of_state (connected host s) ≡ opened Driver f Stream (ends_of_state s) =
+    ap (λ (es : List FlowEnd). let part : Ends = record (ends_of_state s) { entries = es; next_port = s.next_port + 1 } in part) (added_slot end_in s.table f c)
+    ∙ ap (λ (n : ℕ). let part : Ends = record (opened Driver f Stream (ends_of_state s)) { next_port = n } in part) (sym (port_next s.next_port)) in
+    record {
+      packet = request_on Driver s.cid f Stream;
+      held = held_alone h wire refl;
+      bytes = sym (append-nil (header_bytes h));
+      fits = opening_fits s f c (s.next_port + 1) fits accepted ports refl asked_held (omega (arith, may.port)) (omega arith) (λ own. omega arith);
+      broken = refl;
+      matches = λ first log m.
+          subst (λ (part : Ends). Matches Driver first part (PutPacket (request_on Driver s.cid f Stream) ∷ log)) (sym ends)
+          (opens Driver first s.cid f Stream (ends_of_state s) log m next);
+      fair = λ first log m fair. opens_fair Driver first s.cid f Stream (ends_of_state s) log m fair next;
+    }

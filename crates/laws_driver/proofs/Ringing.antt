@@ -1,0 +1,130 @@
+-- What one call on an honest ring that tells its log keeps.
+use Rattle.std.proofs.Common.{◌≡◌, ℕ, true, List, [], ◌∷◌, ◌++◌, Option, Some, None, refl, sym, ap, subst, ◌∙◌}
+use Rattle.std.specs.{Prelude.IsSomeAnd, Option.ForSome}
+use Rattle.vs_contents.specs.Contents.{Exposes}
+use Rattle.laws_history.specs.{declared.packet.Packet.Packet, Packets.packet_bytes}
+use Rattle.vs_page.specs.{Fair.IsFairLog, Held.packet_held, Log.Driver, Log.Log, declared.log.LogEntry.TheVariants.PutPacket}
+use Rattle.vs_ring_port.specs.{EndLog.EndLog, EndLog.all_put, EndLog.log_published, EndLog.log_staged, EndLog.with_packet, Lists.Rings}
+use Rattle.vs_ring_port.specs.DriverCalls.{CanPublish, CanStage, DriverAnswer, DriverCall, DriverMoves, HoldsPacket}
+use Rattle.vs_ring_port.specs.declared.queue.Queue.{Queue}
+use Rattle.vs_ring_port.specs.declared.queue.Queue.TheVariants.{Rx, Tx, Event}
+use Rattle.vs_ring_port.specs.Contents.{RingContents}
+use Rattle.laws_tables.specs.Matches.{Matches}
+use Rattle.vs_driver_parts.specs.State.{DriverState}
+use Rattle.laws_driver.specs.{Honest.AgreesWith, Honest.IsFitState, Honest.ends_of_state, Staged.IsLeft, Staged.IsTied}
+
+-- P holds of the log of an honest ring, where it tells it.
+abbrev pub Tells : (EndLog → Type 0) → RingContents → Type 0
+Tells P c = c.honest ≡ true → ForSome c.log P
+
+-- The same where no packet is staged.
+abbrev pub IsAtRest : ℕ → DriverState → EndLog → Type 0
+IsAtRest first s l = IsFitState s × IsLeft first s.broken (ends_of_state s) [] l.entries × (l.staged.tx ≡ [])
+
+pub at_rest : (first : ℕ) (s : DriverState) (l : EndLog) → AgreesWith first s l → IsAtRest first s l
+at_rest first s l agrees = (
+  agrees.fits,
+  record { none_refused = agrees.none_refused; matches = agrees.matches; fair = agrees.fair },
+  agrees.published,
+)
+
+pub agrees : (first : ℕ) (s : DriverState) (l : EndLog) → IsAtRest first s l → AgreesWith first s l
+agrees first s l rest = record {
+  fits = rest.0;
+  published = rest.2;
+  none_refused = rest.1.none_refused;
+  matches = rest.1.matches;
+  fair = rest.1.fair;
+}
+
+pub tied : (first : ℕ) (s : DriverState) (l : EndLog) → IsAtRest first s l → IsTied first s l
+tied first s l rest =
+    let P : List (List ℕ) → Type 0 = λ pages. IsLeft first s.broken (ends_of_state s) pages l.entries in
+    (rest.0, subst P (sym rest.2) rest.1)
+
+pub tells_weaker : (P Q : EndLog → Type 0) → ((l : EndLog) → P l → Q l) → (c : RingContents) → Tells P c → Tells Q c
+tells_weaker P Q then c tells = λ honest l is. then l (tells honest l is)
+
+-- A call changes the log by g: what follows of each log that is fair after it, it tells.
+pub moves : (call : DriverCall) (a : DriverAnswer call) (L : Rings → Type 0) (f : Rings → Rings) (R : EndLog → Type 0) (g : EndLog → EndLog) (c d : RingContents) → DriverMoves call a L f R g c d
+    → (P Q : EndLog → Type 0) → ((l : EndLog) → P l → IsFairLog Driver (g l).entries → Q (g l)) → Tells P c → Tells Q d
+moves call a L f R g c d made P Q then tells = λ honest l is. by c.log refl made.log honest l is
+  where
+    by : (o : Option EndLog) → c.log ≡ o → Exposes o d.log R g → d.honest ≡ true → (l : EndLog) → d.log ≡ Some l → Q l
+    by None log exposes honest l is = let e : None ≡ Some l = sym exposes ∙ is in absurd cc
+    by (Some before) log exposes honest l is =
+        let e : Some (g before) ≡ Some l = sym exposes.1 ∙ is in
+        let same : g before ≡ l = cc in
+        let fair : IsFairLog Driver (g before).entries = made.fair honest (g before) exposes.1 in
+        subst Q same (then before (tells (sym made.honest ∙ honest) before log) fair)
+
+-- A page that isn't staged on tx changes nothing of that.
+pub stages_other : (queue : Queue) (page : List ℕ) → (queue ≡ Tx → ⊥) → (first : ℕ) (s : DriverState) (l : EndLog) → IsAtRest first s l
+    → IsAtRest first s (log_staged queue page l)
+stages_other Rx page other first s l rest = rest
+stages_other Event page other first s l rest = rest
+stages_other Tx page other first s l rest = absurd (other refl)
+
+pub publishes_other : (queue : Queue) → (queue ≡ Tx → ⊥) → (first : ℕ) (s : DriverState) (l : EndLog) → IsAtRest first s l
+    → IsAtRest first s (log_published queue l)
+publishes_other Rx other first s l rest = rest
+publishes_other Event other first s l rest = rest
+publishes_other Tx other first s l rest = absurd (other refl)
+
+pub can_publish_other : (queue : Queue) (c : RingContents) → (queue ≡ Tx → ⊥) → CanPublish queue c
+can_publish_other Rx c other = λ honest l is. tt
+can_publish_other Event c other = λ honest l is. tt
+can_publish_other Tx c other = absurd (other refl)
+
+-- Staged packets may be published, and nothing is staged then.
+pub publishes : (first : ℕ) (s : DriverState) (l : EndLog) → IsTied first s l → IsAtRest first s (log_published Tx l)
+publishes first s l tie = (
+  tie.0,
+  record { none_refused = tie.1.none_refused; matches = tie.1.matches; fair = tie.1.fair },
+  refl,
+)
+
+pub can_publish : (first : ℕ) (s : DriverState) (c : RingContents) → Tells (IsTied first s) c → CanPublish Tx c
+can_publish first s c tells = λ honest l is. let tie = tells honest l is in tie.1.fair
+
+-- What a step on the driver does whose packet a page holds: it puts that packet.
+pub record Puts (s : DriverState) (page : List ℕ) (t : DriverState) : Type 0 where
+  pub packet : Packet
+  pub held : packet_held page ≡ Some packet
+  pub bytes : page ≡ packet_bytes packet
+  pub fits : IsFitState t
+  pub broken : t.broken ≡ s.broken
+  pub matches : (first : ℕ) (log : Log) → Matches Driver first (ends_of_state s) log
+      → Matches Driver first (ends_of_state t) (PutPacket packet ∷ log)
+  pub fair : (first : ℕ) (log : Log) → Matches Driver first (ends_of_state s) log → IsFairLog Driver log
+      → IsFairLog Driver (PutPacket packet ∷ log)
+
+put_last : (pages : List (List ℕ)) (page : List ℕ) (p : Packet) (log : Log) → packet_held page ≡ Some p
+    → all_put (pages ++ page ∷ []) log ≡ PutPacket p ∷ all_put pages log
+put_last [] page p log held = ap (λ (o : Option Packet). with_packet (λ q. PutPacket q) o log) held
+put_last (x ∷ pages) page p log held = put_last pages page p (with_packet (λ q. PutPacket q) (packet_held x) log) held
+
+holds_packet : (page : List ℕ) (p : Packet) → packet_held page ≡ Some p → page ≡ packet_bytes p → HoldsPacket page
+holds_packet page p held bytes = let P : Option Packet → Type 0 = λ o. IsSomeAnd o (λ q. page ≡ packet_bytes q) in subst P (sym held) bytes
+
+-- A page that a step puts its packet in may be staged; so may any page of another queue.
+pub can_stage : (P : EndLog → Type 0) (s t : DriverState) (page : List ℕ) (c : RingContents) → ((l : EndLog) → P l → Puts s page t) → Tells P c
+    → CanStage Tx page c
+can_stage P s t page c puts tells = λ honest l is tx. let put = puts l (tells honest l is) in holds_packet page put.packet put.held put.bytes
+
+pub can_stage_other : (queue : Queue) (page : List ℕ) (c : RingContents) → (queue ≡ Tx → ⊥) → CanStage queue page c
+can_stage_other queue page c other = λ honest l is tx. absurd (other tx)
+
+pub stages : (first : ℕ) (s t : DriverState) (page : List ℕ) (l : EndLog) → IsFitState s → Puts s page t → IsTied first s l
+    → IsTied first t (log_staged Tx page l)
+stages first s t page l fits puts tie =
+    let last = put_last l.staged.tx page puts.packet l.entries puts.held in
+    let matches = puts.matches first (all_put l.staged.tx l.entries) tie.1.matches in
+    let fair = puts.fair first (all_put l.staged.tx l.entries) tie.1.matches tie.1.fair in (
+      puts.fits,
+      record {
+        none_refused = puts.broken ∙ tie.1.none_refused;
+        matches = subst (λ (log : Log). Matches Driver first (ends_of_state t) log) (sym last) matches;
+        fair = subst (λ (log : Log). IsFairLog Driver log) (sym last) fair;
+      },
+    )

@@ -1,0 +1,40 @@
+-- The table that is shown, and the log; the answers of the driver's ring, and of any.
+use Rattle.std.proofs.Common.{◌≡◌, ℕ, List, [], ◌∷◌, map, refl, sym, ap, ◌∙◌}
+use Rattle.vs_contents.specs.CallTree.{Done, Ask, Leads}
+use Rattle.vs_flow.specs.declared.flow.Flow.{Flow}
+use Rattle.vs_ring_port.specs.Contents.{RingContents}
+use Rattle.vs_ring_port.specs.DriverCalls.{DriverCall, DriverAnswer, Stage, Publish, Reap, LoadCid, DriverAllows}
+use Rattle.vs_ring_port.specs.EndLog.{EndLog}
+use Rattle.laws_tables.specs.Ends.{FlowEnd, flows_of, is_among}
+use Rattle.laws_tables.proofs.Tables.{driver_open}
+use Rattle.vs_driver_parts.specs.{State.DriverEntry, State.DriverState, Connections.table_shown, Conversations.DriverTree}
+use Rattle.vs_driver_parts.specs.Playing.{Plays, RingAllows}
+use Rattle.laws_driver.specs.Honest.{AgreesWith, IsLeftOpen, ends_of_state, flows_shown}
+
+same_flows : (es : List DriverEntry)
+    → flows_shown (map (λ e. (e.flow, e.value.end.state)) es) ≡ flows_of (map (λ e. let x : FlowEnd = record { flow = e.flow; end = e.value.end } in x) es)
+same_flows [] = refl
+same_flows (e ∷ es) = ap (λ (fs : List Flow). e.flow ∷ fs) (same_flows es)
+
+pub left_open : (first : ℕ) (s : DriverState) (l : EndLog) → AgreesWith first s l → IsLeftOpen first (table_shown s) s.replies l
+left_open first s l agrees f = ap (is_among f) (same_flows s.table.entries) ∙ driver_open first (ends_of_state s) l.entries f agrees.matches.flows
+
+ring_allows : (call : DriverCall) (a : DriverAnswer call) (c d : RingContents) → RingAllows call a c d → DriverAllows call a c d
+ring_allows (Stage queue page) a c d allowed = allowed
+ring_allows (Publish queue) a c d allowed = allowed
+ring_allows (Reap queue) a c d allowed = allowed.1
+ring_allows LoadCid a c d allowed = allowed.1
+
+pub any_ring : {A : Type 0} (tree : DriverTree A) (c d : RingContents) (x : A) → Plays tree c x d → Leads DriverAllows tree c x d
+any_ring (Done y) c d x plays = plays
+any_ring (Ask call next) c d x plays = (plays.0, plays.1, ring_allows call plays.0 c plays.1 plays.2, any_ring (next plays.0) plays.1 d x plays.3)
+
+one_other : (call : DriverCall) (a : DriverAnswer call) (c d : RingContents) → RingAllows call a c d → d.other ≡ c.other
+one_other (Stage queue page) a c d allowed = allowed.other
+one_other (Publish queue) a c d allowed = allowed.1.other
+one_other (Reap queue) a c d allowed = allowed.1.other
+one_other LoadCid a c d allowed = allowed.1.other
+
+pub other_stays : {A : Type 0} (tree : DriverTree A) (c d : RingContents) (x : A) → Plays tree c x d → d.other ≡ c.other
+other_stays (Done y) c d x plays = ap (λ (r : RingContents). r.other) (sym plays.1)
+other_stays (Ask call next) c d x plays = other_stays (next plays.0) plays.1 d x plays.3 ∙ one_other call plays.0 c plays.1 plays.2

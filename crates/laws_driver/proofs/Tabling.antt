@@ -1,0 +1,104 @@
+-- What steps on the table do to the driver's numbers, and to its connections as ends.
+use Rattle.std.proofs.Common.{◌≡◌, ℕ, ◌+◌, ◌<◌, ◌≤◌, ◌==◌, Bool, true, false, cond, not, List, [], ◌∷◌, ◌++◌, get_or, Some, refl, ap, ◌∙◌}
+use Rattle.std.proofs.Common.{arith}
+use Rattle.std.proofs.lemmas.List.Elements.{All-map, All-push, All-filter}
+use Rattle.std.specs.Prelude.{Contains}
+use Rattle.vs_flow.specs.Flow.{is_assigned}
+use Rattle.vs_flow.specs.Table.{Table, entry_under, with_entry, without, next_entry, revalued}
+use Rattle.vs_flow.specs.declared.flow.Flow.{Flow}
+use Rattle.vs_limits.specs.declared.TheConstants.{HOST_CID, LAST_PORT}
+use Rattle.vs_flow.proofs.Tables.{revalued-flow, with_value_sound, without_sound, with_entry_sound, IsAccepted}
+use Rattle.laws_tables.specs.{Ends.Ends, Ends.FlowEnd, Ends.entries_of, Steps.HasEnd, Steps.with_end, Steps.left}
+use Rattle.laws_tables.proofs.Slots.{changed_slot, one_end, removed_slot}
+use Rattle.vs_driver_parts.specs.State.{DriverConnection, DriverEntry, DriverState, GoneConnection}
+use Rattle.vs_driver_parts.specs.Connections.{with_connection, after_leaving, waits_no_more, is_let_go, gone_as}
+use Rattle.vs_driver_parts.proofs.Ids.{entry_has}
+use Rattle.laws_driver.specs.Honest.{IsFit, IsFitEntry, IsFitFlow, IsFitState, end_in, ends_of_state}
+use Rattle.laws_driver.proofs.Fits.{IsHeldBy}
+
+-- An entry that stands in the table.
+pub record Stands (s : DriverState) (e : DriverEntry) : Type 0 where
+  pub under : entry_under s.table e.slot ≡ Some e
+  pub contains : Contains s.table.entries e
+
+pub has_end : (s : DriverState) (e : DriverEntry) → IsFitState s → Stands s e → HasEnd e.flow e.value.end (ends_of_state s)
+has_end s e fits stands = one_end end_in s.table e fits.sound stands.contains
+
+pub entry_fits : (s : DriverState) (e : DriverEntry) → IsFitState s → Stands s e → IsFitEntry e
+entry_fits s e fits stands = entry_has IsFitEntry (λ x. x.slot == e.slot) s.table.entries e fits.entries stands.under
+
+-- Another connection in its place.
+revalued_fits : (slot : ℕ) (c : DriverConnection) (e : DriverEntry) → IsHeldBy c → IsFitEntry e → IsFitEntry (revalued slot c e)
+revalued_fits slot c e held fits = by (e.slot == slot)
+  where
+    by : (b : Bool) → IsFitEntry (cond b (record e { value = c }) e)
+    by true = record { ports = fits.ports; peer = fits.peer; buffer = held }
+    by false = fits
+
+pub connection_fits : (s : DriverState) (slot : ℕ) (c : DriverConnection) → IsFitState s → IsHeldBy c → IsFitState (with_connection slot c s)
+connection_fits s slot c fits held = record {
+  cid_fits = fits.cid_fits;
+  port_left = fits.port_left;
+  sound = with_value_sound s.table slot c fits.sound;
+  places = fits.places;
+  given = fits.given;
+  entries = All-map IsFitEntry (revalued slot c) s.table.entries (λ k d lt. revalued_fits slot c (get_or s.table.entries k d) held (fits.entries k d lt));
+  ports = All-map (λ x. is_assigned x.flow.host ≡ false → x.flow.guest < s.next_port) (revalued slot c) s.table.entries (λ k d lt. rw (revalued-flow slot c (get_or s.table.entries k d)) (fits.ports k d lt));
+  owed = fits.owed;
+}
+
+pub connection_ends : (s : DriverState) (e : DriverEntry) (c : DriverConnection) → IsFitState s → Stands s e
+    → ends_of_state (with_connection e.slot c s) ≡ with_end e.flow c.end (ends_of_state s)
+connection_ends s e c fits stands =
+    ap (λ (es : List FlowEnd). let part : Ends = record (ends_of_state s) { entries = es } in part) (changed_slot end_in s.table e c fits.sound stands.contains)
+
+-- It leaves the table.
+left_by : (b : Bool) (s : DriverState) (e : DriverEntry) (t : Table DriverConnection) (gone : List GoneConnection)
+    → let s' : DriverState = record (cond b (waits_no_more e s) s) { table = t; gone = gone } in
+    (ends_of_state s' ≡ record (ends_of_state s) { entries = entries_of end_in t }) × (s'.replies ≡ s.replies) × (s'.broken ≡ s.broken)
+    × (IsFit s.cid s.next_port s.next_id t s.replies → IsFitState s')
+left_by true s e t gone = (refl, refl, refl, λ fits. fits)
+left_by false s e t gone = (refl, refl, refl, λ fits. fits)
+
+pub record Leaves (s : DriverState) (e : DriverEntry) (t : DriverState) : Type 0 where
+  pub ends : ends_of_state t ≡ left e.flow (ends_of_state s)
+  pub fits : IsFitState t
+  pub broken : t.broken ≡ s.broken
+  pub replies : t.replies ≡ s.replies
+
+pub leaves : (s : DriverState) (e : DriverEntry) (c : DriverConnection) → IsFitState s → Stands s e → Leaves s e (after_leaving (record e { value = c }) s)
+leaves s e c fits stands =
+    let t = without s.table e.slot in
+    let now : DriverEntry = record e { value = c } in
+    let by = left_by c.unanswered s now t (cond (is_let_go c) s.gone (s.gone ++ gone_as now ∷ [])) in
+    record {
+      ends = by.0 ∙ ap (λ (es : List FlowEnd). let part : Ends = record (ends_of_state s) { entries = es } in part) (removed_slot end_in s.table e fits.sound stands.contains);
+      fits = by.3 (record {
+        cid_fits = fits.cid_fits;
+        port_left = fits.port_left;
+        sound = without_sound s.table e.slot fits.sound;
+        places = fits.places;
+        given = fits.given;
+        entries = All-filter (λ x. not (x.slot == e.slot)) IsFitEntry s.table.entries fits.entries;
+        ports = All-filter (λ x. not (x.slot == e.slot)) (λ x. is_assigned x.flow.host ≡ false → x.flow.guest < s.next_port) s.table.entries fits.ports;
+        owed = fits.owed;
+      });
+      broken = by.2;
+      replies = by.1;
+    }
+
+-- A connection more.
+pub opening_fits : (s : DriverState) (f : Flow) (c : DriverConnection) (port : ℕ) → IsFitState s → IsAccepted s.table f → IsFitFlow f → f.peer ≡ HOST_CID → IsHeldBy c
+    → port ≤ LAST_PORT + 1 → s.next_port ≤ port → (is_assigned f.host ≡ false → f.guest < port)
+    → IsFit s.cid port (s.next_id + 1) (with_entry s.table f c) s.replies
+opening_fits s f c port fits free ports peer held left more below = record {
+  cid_fits = fits.cid_fits;
+  port_left = left;
+  sound = with_entry_sound s.table f c fits.sound free;
+  places = fits.places;
+  given = omega (arith, fits.given);
+  entries = All-push IsFitEntry s.table.entries (next_entry s.table f c) fits.entries (record { ports = ports; peer = peer; buffer = held });
+  ports = All-push (λ e. is_assigned e.flow.host ≡ false → e.flow.guest < port) s.table.entries (next_entry s.table f c)
+      (λ k d lt mine. let less = fits.ports k d lt mine in omega (arith, less, more)) below;
+  owed = fits.owed;
+}

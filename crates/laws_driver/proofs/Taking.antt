@@ -1,0 +1,214 @@
+-- A packet that is got: the driver's connections are those that the log with it leaves, and a fair one is never refused.
+use Rattle.std.proofs.{lemmas.Bool.Decides.nat_tests, lemmas.List.Elements.All-push, lemmas.Bool.and_parts, lemmas.Bool.eqb-true}
+use Rattle.std.proofs.Common.{◌≡◌, ℕ, ◌<◌, ◌≤◌, ◌&&◌, nat_le, Bool, true, false, cond, not, List, [], ◌∷◌, Option, Some, None, refl, sym}
+use Rattle.std.proofs.Common.{ap, subst, ◌∙◌, arith, rules}
+use Rattle.vs_conn.specs.End.{ConnectionEnd, answering, end_after, is_of, is_refused, is_reset, verdict_of}
+use Rattle.vs_conn.specs.declared.end.Verdict.{Verdict}
+use Rattle.vs_header.specs.{declared.Header.Header, declared.Kind.TheVariants.Stream}
+use Rattle.laws_history.specs.{Packets.is_rst, declared.packet.Packet.Packet}
+use Rattle.vs_limits.specs.declared.TheConstants.{BUF_ALLOC, HOST_CID, LAST_ID, DRIVER_CONNECTIONS}
+use Rattle.vs_flow.specs.{Flow.is_assigned, Flow.is_host, Flow.same_flow, Table.entry_of, declared.flow.Flow.Flow}
+use Rattle.vs_flow.proofs.Tables.{IsAccepted}
+use Rattle.vs_page.specs.{Fair.IsFairLog, Held.IsWhole, Log.Driver, Log.Log, Log.flow_got, Log.flow_to_guest, Log.side_of, Open.is_dropped}
+use Rattle.vs_page.specs.declared.log.LogEntry.TheVariants.{GotPacket}
+use Rattle.vs_page.proofs.Flows.{same_is}
+use Rattle.vs_replies.specs.{Owed.reply_to, declared.Reply.Reply}
+use Rattle.laws_tables.specs.{Ends.Ends, Ends.FlowEnd, Heard.IsInOrder, Heard.heard_of, Matches.Matches}
+use Rattle.laws_tables.specs.Steps.{HasEnd, HasNone, accepted, forgotten, is_kept, is_message, left, taken, with_clean, with_end}
+use Rattle.laws_tables.proofs.Keeps.{accepts, drops, forgets, ignores, refuses, takes}
+use Rattle.laws_tables.proofs.Fair.{got_in_order, got_is_taken, got_not_refused, heard_all}
+use Rattle.laws_tables.proofs.Slots.{added_slot, found_by, no_entry}
+use Rattle.vs_driver_parts.specs.{Playing.FitsPorts, State.DriverConnection, State.DriverEntry, State.DriverState, State.slots_held}
+use Rattle.vs_driver_parts.specs.Connections.{after_leaving, is_full, with_connection, with_request}
+use Rattle.vs_driver_parts.specs.Receiving.{after_packet, after_verdict, is_request, may_open, on_heard, on_known, on_packet, on_unknown}
+use Rattle.vs_driver_parts.specs.Receiving.{with_reply}
+use Rattle.vs_driver_parts.specs.Listening.{has_place}
+use Rattle.vs_driver_parts.proofs.{Ids.found_under, Packets.packet_known, Packets.packet_unknown}
+use Rattle.laws_driver.specs.Honest.{IsFitFlow, IsFitReply, IsFitState, end_in, ends_of_state}
+use Rattle.laws_driver.proofs.Tabling.{Stands, connection_ends, connection_fits, entry_fits, has_end, leaves, opening_fits}
+use Rattle.laws_driver.proofs.Fits.{IsHeldBy, packet_fits}
+use Rattle.vs_conn.specs.declared.end.Verdict.TheVariants as verdict
+use Rattle.laws_history.specs.Packets as packets
+
+-- The driver t after it got a packet, whose log was this.
+pub record Gets (first : ℕ) (p : Packet) (s : DriverState) (log : Log) (t : DriverState) : Type 0 where
+  pub matches : Matches Driver first (ends_of_state t) (GotPacket p ∷ log)
+  pub fits : IsFitState t
+  pub broken : t.broken ≡ s.broken
+
+module _ (p : Packet) (e : DriverEntry) (s : DriverState) (fits : IsFitState s) (stands : Stands s e) where
+  stays : (c : DriverConnection) → c.end ≡ end_after e.value.end p.header → IsHeldBy c
+      → (ends_of_state (with_connection e.slot c s) ≡ with_end e.flow (end_after e.value.end p.header) (ends_of_state s)) × IsFitState (with_connection e.slot c s)
+  stays c is held =
+      (connection_ends s e c fits stands ∙ ap (λ (x : ConnectionEnd). with_end e.flow x (ends_of_state s)) is, connection_fits s e.slot c fits held)
+
+  -- A state that a connection leaves or in which it stays.
+  peer_by : (b : Bool) (c : DriverConnection) → c.end ≡ end_after e.value.end p.header → IsHeldBy c
+      → let t : DriverState = cond b (after_leaving (record e { value = c }) s) (with_connection e.slot c s) in
+      (ends_of_state t ≡ cond b (left e.flow (ends_of_state s)) (with_end e.flow (end_after e.value.end p.header) (ends_of_state s)))
+      × IsFitState t × (t.broken ≡ s.broken)
+  peer_by true c is held = let l = leaves s e c fits stands in (l.ends, l.fits, l.broken)
+  peer_by false c is held = let l = stays c is held in (l.0, l.1, refl)
+
+  pub takes_by : (v : Verdict) → verdict_of e.value.end p.header ≡ v → is_refused v ≡ false → IsWhole p → IsHeldBy e.value
+      → (ends_of_state (after_verdict v p e s) ≡ cond (is_message v && is_reset p.header) (left e.flow (ends_of_state s))
+      (with_end e.flow (end_after e.value.end p.header) (ends_of_state s))) × IsFitState (after_verdict v p e s) × ((after_verdict v p e s).broken ≡ s.broken)
+  takes_by (verdict.Rst why) is kept whole held = absurd cc
+  takes_by verdict.Peer is kept whole held = peer_by (is_reset p.header) (after_packet verdict.Peer p e.value) refl (fitted verdict.Peer is whole held)
+    where
+      fitted : (v : Verdict) → verdict_of e.value.end p.header ≡ v → IsWhole p → IsHeldBy e.value → IsHeldBy (after_packet v p e.value)
+      fitted v is whole held = subst (λ (w : Verdict). IsHeldBy (after_packet w p e.value)) is (packet_fits p e.value whole held)
+  takes_by verdict.Accept is kept whole held =
+      let held_after : IsHeldBy (after_packet verdict.Accept p e.value) = subst (λ (w : Verdict). IsHeldBy (after_packet w p e.value)) is (packet_fits p e.value whole held) in
+      let l = stays (after_packet verdict.Accept p e.value) refl held_after in (l.0, l.1, refl)
+  takes_by verdict.Deliver is kept whole held =
+      let held_after : IsHeldBy (after_packet verdict.Deliver p e.value) = subst (λ (w : Verdict). IsHeldBy (after_packet w p e.value)) is (packet_fits p e.value whole held) in
+      let l = stays (after_packet verdict.Deliver p e.value) refl held_after in (l.0, l.1, refl)
+  takes_by verdict.Discard is kept whole held =
+      let held_after : IsHeldBy (after_packet verdict.Discard p e.value) = subst (λ (w : Verdict). IsHeldBy (after_packet w p e.value)) is (packet_fits p e.value whole held) in
+      let l = stays (after_packet verdict.Discard p e.value) refl held_after in (l.0, l.1, refl)
+  takes_by verdict.Ignore is kept whole held =
+      let held_after : IsHeldBy (after_packet verdict.Ignore p e.value) = subst (λ (w : Verdict). IsHeldBy (after_packet w p e.value)) is (packet_fits p e.value whole held) in
+      let l = stays (after_packet verdict.Ignore p e.value) refl held_after in (l.0, l.1, refl)
+
+  -- A connection leaves at an RST of its type, exactly; and the driver keeps no flow.
+  leaves_by : (v : Verdict) → (is_message v && is_reset p.header) ≡ (is_rst p && is_of e.value.end.kind p.header)
+      → cond (is_message v && is_reset p.header) (left e.flow (ends_of_state s)) (with_end e.flow (end_after e.value.end p.header) (ends_of_state s))
+      ≡ forgotten (taken Driver e.flow e.value.end p (ends_of_state s))
+  leaves_by v same =
+      ap (λ (b : Bool). cond b (left e.flow (ends_of_state s)) (with_end e.flow (end_after e.value.end p.header) (ends_of_state s))) same
+      ∙ kept_none (is_rst p && is_of e.value.end.kind p.header) (is_kept Driver e.flow e.value.end p)
+    where
+      kept_none : (b k : Bool) → cond b (left e.flow (ends_of_state s)) (with_end e.flow (end_after e.value.end p.header) (ends_of_state s))
+          ≡ forgotten (cond b (with_clean k e.flow (left e.flow (ends_of_state s))) (with_end e.flow (end_after e.value.end p.header) (ends_of_state s)))
+      kept_none true true = refl
+      kept_none true false = refl
+      kept_none false k = refl
+
+leaving : (e : ConnectionEnd) (h : Header) → (is_message (verdict_of e h) && is_reset h) ≡ (is_reset h && is_of e.kind h)
+leaving = search rules
+
+-- A packet of a connection.
+known : (first : ℕ) (p : Packet) (e : DriverEntry) (s : DriverState) (log : Log) → IsFitState s → Stands s e → flow_got Driver p ≡ e.flow → IsWhole p
+    → is_dropped Driver s.cid p.header ≡ false → Matches Driver first (ends_of_state s) log → IsFairLog Driver (GotPacket p ∷ log) → Gets first p s log (on_known p e s)
+known first p e s log fits stands same whole kept_in m fair =
+    let f : Flow = flow_got Driver p in
+    let end : ConnectionEnd = e.value.end in
+    let part : Ends = ends_of_state s in
+    let has : HasEnd f end part = subst (λ (g : Flow). HasEnd g end part) (sym same) (has_end s e fits stands) in
+    let host : f.peer ≡ HOST_CID = ap (λ (g : Flow). g.peer) same ∙ (entry_fits s e fits stands).peer in
+    let kept : is_refused (verdict_of end p.header) ≡ false = got_not_refused Driver first p end part log m.flows has (fair f) (heard_all first f log host) in
+    let held = (entry_fits s e fits stands).buffer in
+    let by = takes_by p e s fits stands (verdict_of end p.header) refl kept whole held in
+    let ends : ends_of_state (on_known p e s) ≡ forgotten (taken Driver e.flow end p part) = by.0 ∙ leaves_by p e s fits stands (verdict_of end p.header) (leaving end p.header) in
+    let now : Matches Driver first (forgotten (taken Driver f end p part)) (GotPacket p ∷ log) =
+    forgets Driver first (taken Driver f end p part) (GotPacket p ∷ log)
+    (takes Driver first p end part log m kept_in has (got_in_order Driver first p log (fair f)) (got_is_taken Driver p log (fair f))) in
+    let at : forgotten (taken Driver f end p part) ≡ ends_of_state (on_known p e s) = ap (λ (g : Flow). forgotten (taken Driver g end p part)) same ∙ sym ends in
+    record { matches = subst (λ (x : Ends). Matches Driver first x (GotPacket p ∷ log)) at now; fits = by.1; broken = by.2 }
+
+-- A packet of an unknown flow.
+pub with_reply_fits : (s : DriverState) (r : Reply) → IsFitState s → IsFitFlow r.flow → IsFitState (with_reply r s)
+with_reply_fits s r fits ports = record {
+  cid_fits = fits.cid_fits;
+  port_left = fits.port_left;
+  sound = fits.sound;
+  places = fits.places;
+  given = fits.given;
+  entries = fits.entries;
+  ports = fits.ports;
+  owed = All-push IsFitReply s.replies r fits.owed ports;
+}
+
+record MayOpen (f : Flow) (s : DriverState) : Type 0 where
+  peer : f.peer ≡ HOST_CID
+  assigned : is_assigned f.host ≡ true
+  place : slots_held s < DRIVER_CONNECTIONS
+  id : s.next_id ≤ LAST_ID
+
+open_by : (f : Flow) (s : DriverState) (h a b c d : Bool) → is_host f ≡ h → is_assigned f.host ≡ a → nat_le DRIVER_CONNECTIONS (slots_held s) ≡ c
+    → nat_le s.next_id LAST_ID ≡ d → ((((h && a) && b) && not c) && d) ≡ true → MayOpen f s
+open_by f s true true true false true hv av cv dv is =
+    record { peer = eqb-true f.peer HOST_CID hv; assigned = av; place = grind (arith, nat_tests, cv); id = grind (arith, nat_tests, dv) }
+open_by f s false a b c d hv av cv dv is = absurd cc
+open_by f s true false b c d hv av cv dv is = absurd cc
+open_by f s true true false c d hv av cv dv is = absurd cc
+open_by f s true true true true d hv av cv dv is = absurd cc
+open_by f s true true true false false hv av cv dv is = absurd cc
+
+answering_held : (h : Header) (id : ℕ) → IsHeldBy (record { id = id; end = answering Stream BUF_ALLOC h; unread = []; unanswered = true; closed = false })
+answering_held h id = record { unread = refl; fits = omega arith; space = omega arith; least = omega arith; alloc = omega arith; rx_cnt = omega arith; fwd_cnt = omega arith }
+
+module _ (first : ℕ) (p : Packet) (s : DriverState) (log : Log) (fits : IsFitState s) (none : entry_of s.table (flow_to_guest p.header) ≡ None)
+    (ports : FitsPorts p.header) (kept_in : is_dropped Driver s.cid p.header ≡ false) (m : Matches Driver first (ends_of_state s) log)
+    (fair : IsFairLog Driver (GotPacket p ∷ log)) where
+  no_end : HasNone (flow_got Driver p) (ends_of_state s)
+  no_end = no_entry end_in s.table (flow_to_guest p.header) none
+
+  order : IsInOrder (side_of Driver (flow_got Driver p)) (heard_of Driver first (flow_got Driver p) log) p
+  order = got_in_order Driver first p log (fair (flow_got Driver p))
+
+  flow_fits : IsFitFlow (flow_to_guest p.header)
+  flow_fits = record { guest = ports.dst_port; host = ports.src_port; peer = ports.src_cid }
+
+  replied : is_rst p ≡ false → Gets first p s log (with_reply (reply_to (flow_to_guest p.header) p.header) s)
+  replied other = record {
+    matches = refuses Driver first p (ends_of_state s) log m kept_in no_end other order;
+    fits = with_reply_fits s (reply_to (flow_to_guest p.header) p.header) fits flow_fits;
+    broken = refl;
+  }
+
+  was_ignored : is_rst p ≡ true → Gets first p s log s
+  was_ignored rst = record { matches = ignores Driver first p (ends_of_state s) log m kept_in no_end rst order; fits = fits; broken = refl }
+
+  was_accepted : is_request p.header ≡ true → may_open (flow_to_guest p.header) s ≡ true → Gets first p s log (with_request (flow_to_guest p.header) p.header s)
+  was_accepted asks may =
+      let f : Flow = flow_to_guest p.header in
+      let room = open_by f s (is_host f) (is_assigned f.host) (has_place f.guest s.listeners) (is_full s) (nat_le s.next_id LAST_ID) refl refl refl refl may in
+      let c : DriverConnection = record { id = s.next_id; end = answering Stream BUF_ALLOC p.header; unread = []; unanswered = true; closed = false } in
+      let free : IsAccepted s.table f = record { absent = none; place = omega (arith, room.place, fits.places); slot = omega (arith, fits.given, room.id) } in
+      let asks_for = and_parts (is_of Stream p.header) (packets.is_request p) asks in
+      let request : packets.is_request p ≡ true = asks_for.1 in
+      let ends : ends_of_state (with_request f p.header s) ≡ accepted f Stream p.header (ends_of_state s) =
+      ap (λ (es : List FlowEnd). let part : Ends = record (ends_of_state s) { entries = es } in part) (added_slot end_in s.table f c) in
+      record {
+        matches = subst (λ (x : Ends). Matches Driver first x (GotPacket p ∷ log)) (sym ends)
+            (accepts Driver first Stream p (ends_of_state s) log m kept_in no_end order (got_is_taken Driver p log (fair (flow_got Driver p))) request
+            (eqb-true p.header.kind 1 asks_for.0));
+        fits = opening_fits s f c s.next_port fits free flow_fits room.peer (answering_held p.header s.next_id) fits.port_left (omega arith)
+            (λ own. let both : true ≡ false = sym room.assigned ∙ own in absurd cc);
+        broken = refl;
+      }
+
+  unknown : Gets first p s log (on_unknown p s)
+  unknown = by (is_reset p.header) (is_request p.header) (may_open (flow_to_guest p.header) s) refl refl refl
+    where
+      by : (a b c : Bool) → is_reset p.header ≡ a → is_request p.header ≡ b → may_open (flow_to_guest p.header) s ≡ c
+          → Gets first p s log (cond a s (cond (b && c) (with_request (flow_to_guest p.header) p.header s) (with_reply (reply_to (flow_to_guest p.header) p.header) s)))
+      by true b c av bv cv = was_ignored av
+      by false true true av bv cv = was_accepted bv cv
+      by false true false av bv cv = replied av
+      by false false c av bv cv = replied av
+
+-- A packet that is got.
+pub gets_packet : (first : ℕ) (p : Packet) (s : DriverState) (log : Log) → IsFitState s → FitsPorts p.header → IsWhole p
+    → Matches Driver first (ends_of_state s) log → IsFairLog Driver (GotPacket p ∷ log) → Gets first p s log (on_packet p s)
+gets_packet first p s log fits ports whole m fair = drop_by (is_dropped Driver s.cid p.header) refl
+  where
+    by : (o : Option DriverEntry) → entry_of s.table (flow_to_guest p.header) ≡ o → is_dropped Driver s.cid p.header ≡ false
+        → Gets first p s log (on_heard p s)
+    by None none kept_in =
+        subst (λ (t : DriverState). Gets first p s log t) (sym (packet_unknown p s none)) (unknown first p s log fits none ports kept_in m fair)
+    by (Some e) found kept_in =
+        let passes = found_by (λ (x : DriverEntry). same_flow (flow_to_guest p.header) x.flow) s.table.entries e found in
+        let stands : Stands s e = record { under = found_under _ s.table e fits.sound found; contains = passes.0 } in
+        let same = same_is (flow_to_guest p.header) e.flow passes.1 in
+        subst (λ (t : DriverState). Gets first p s log t) (sym (packet_known p s e found)) (known first p e s log fits stands same whole kept_in m fair)
+
+    drop_by : (b : Bool) → is_dropped Driver s.cid p.header ≡ b → Gets first p s log (cond b s (on_heard p s))
+    drop_by true dropped = record {
+      matches = drops Driver first p (ends_of_state s) log m dropped (λ asks. got_in_order Driver first p log (fair (flow_got Driver p)));
+      fits = fits;
+      broken = refl;
+    }
+    drop_by false kept_in = by (entry_of s.table (flow_to_guest p.header)) refl kept_in

@@ -1,0 +1,78 @@
+-- Where an honest ring tells the driver's log: the driver's connections are those that the log left open, and the log is fair.
+use Rattle.std.specs.{List.All, Option.ForSome}
+use Rattle.std.specs.Prelude.{◌≡◌, ℕ, ◌+◌, ◌<◌, ◌≤◌, ◌^◌, false, true, List, [], ◌∷◌}
+use Rattle.vs_conn.specs.{End.ConnectionEnd, declared.end.State.State}
+use Rattle.vs_flow.specs.{Flow.is_assigned, Table.IsTable, Table.Table, declared.flow.Flow.Flow}
+use Rattle.vs_limits.specs.declared.TheConstants.{HOST_CID, BUF_ALLOC, LAST_PORT, DRIVER_CONNECTIONS}
+use Rattle.vs_page.specs.{Fair.IsFairLog, Log.Driver, Open.is_open}
+use Rattle.vs_replies.specs.declared.Reply.{Reply}
+use Rattle.vs_ring_port.specs.{Contents.RingContents, EndLog.EndLog}
+use Rattle.laws_tables.specs.{Ends.Ends, Ends.entries_of, Ends.is_among, Ends.replied, Matches.Matches}
+use Rattle.vs_driver_parts.specs.{Room.HasRoom, State.DriverConnection, State.DriverEntry, State.DriverState}
+
+-- The driver's connections, the replies that it owes, its next port, and the guest's CID. It keeps no flow to be used again.
+abbrev pub end_in : DriverConnection → ConnectionEnd
+end_in c = c.end
+
+abbrev pub ends_of_state : DriverState → Ends
+ends_of_state s = record { entries = entries_of end_in s.table; replies = s.replies; clean = []; next_port = s.next_port; cid = s.cid }
+
+-- Ports have 32 bits, and the peer's CID has 64.
+pub record IsFitFlow (f : Flow) : Type 0 where
+  pub guest : f.guest < 2 ^ 32
+  pub host : f.host < 2 ^ 32
+  pub peer : f.peer < 2 ^ 64
+
+-- A connection is one with the host. It holds the bytes that its end counts as unread, of which there are at most BUF_ALLOC.
+pub record IsFitEntry (e : DriverEntry) : Type 0 where
+  pub ports : IsFitFlow e.flow
+  pub peer : e.flow.peer ≡ HOST_CID
+  pub buffer : HasRoom e.value.end.credit (record { bytes = e.value.unread; capacity = BUF_ALLOC })
+
+abbrev pub IsFitReply : Reply → Type 0
+IsFitReply r = IsFitFlow r.flow
+
+-- The driver's numbers fit their widths, its table has its places, and the ports of its own connections are below the next.
+pub record IsFit (cid next_port next_id : ℕ) (table : Table DriverConnection) (replies : List Reply) : Type 0 where
+  pub cid_fits : cid < 2 ^ 64
+  pub port_left : next_port ≤ LAST_PORT + 1
+  pub sound : IsTable table
+  pub places : table.room ≡ DRIVER_CONNECTIONS
+  pub given : table.given ≤ next_id
+  pub entries : All IsFitEntry table.entries
+  pub ports : All (λ e. is_assigned e.flow.host ≡ false → e.flow.guest < next_port) table.entries
+  pub owed : All IsFitReply replies
+
+abbrev pub IsFitState : DriverState → Type 0
+IsFitState s = IsFit s.cid s.next_port s.next_id s.table s.replies
+
+-- The driver and its log, where this was the guest's CID at first: no page is left unpublished, no packet was refused, each connection is
+-- the one that the log left, and the log is fair.
+pub record AgreesWith (first : ℕ) (s : DriverState) (l : EndLog) : Type 0 where
+  pub fits : IsFitState s
+  pub published : l.staged.tx ≡ []
+  pub none_refused : s.broken ≡ 0
+  pub matches : Matches Driver first (ends_of_state s) l.entries
+  pub fair : IsFairLog Driver l.entries
+
+-- The same where the ring is honest and tells the log. Of any other ring nothing is said.
+abbrev pub IsHonestWith : ℕ → DriverState → RingContents → Type 0
+IsHonestWith first s c = c.honest ≡ true → ForSome c.log (AgreesWith first s)
+
+abbrev pub IsHonest : DriverState → RingContents → Type 0
+IsHonest s c = (first : ℕ) × IsHonestWith first s c
+
+-- The flows of a table that is shown.
+abbrev pub flows_shown : List (Flow × State) → List Flow
+flows_shown [] = []
+flows_shown (x ∷ xs) = x.0 ∷ flows_shown xs
+
+-- The table has exactly the flows that the log left open, where this was the guest's CID at first; an RST that is owed as a reply ends
+-- its flow.
+abbrev pub IsLeftOpen : ℕ → List (Flow × State) → List Reply → EndLog → Type 0
+IsLeftOpen first shown replies l =
+    (f : Flow) → is_among f (flows_shown shown) ≡ is_open Driver first f l.entries (is_among f (replied replies))
+
+-- Before the first call: nothing was put or got, and nothing is staged.
+abbrev pub IsFresh : RingContents → Type 0
+IsFresh c = c.honest ≡ true → ForSome c.log (λ l. (l.entries ≡ []) × (l.staged.tx ≡ []))

@@ -1,0 +1,55 @@
+//! Laws of the driver over a ring that tells its log.
+
+ghost use Rattle.std.specs.Prelude.{◌≡◌, ◌<◌, ◌≤◌, ◌^◌, ℕ, List, Result};
+ghost use Rattle.vs_contents.specs.CallTree.{Leads};
+ghost use Rattle.vs_ring_port.specs.{Contents.RingContents, DriverCalls.DriverAllows, EndLog.EndLog};
+ghost use Rattle.vs_driver_parts.specs.declared.answers.{ConnectError.ConnectError, Polled.Polled, Sent.Sent};
+ghost use Rattle.vs_limits.specs.declared.TheConstants.{LAST_PORT};
+ghost use Rattle.vs_driver_parts.specs.State.{DriverState};
+ghost use Rattle.vs_driver_parts.specs.Connections.{after_close, after_recv, after_shutdown, after_unlisten, table_shown};
+ghost use Rattle.vs_driver_parts.specs.Conversations.{DriverTree, connect_of, new_of, poll_of, send_of};
+ghost use Rattle.vs_driver_parts.specs.{Listening.after_accept, Listening.listening, Playing.MayPublishAll, Playing.Plays};
+ghost use Rattle.laws_driver.specs.Honest.{AgreesWith, IsFresh, IsHonestWith, IsLeftOpen};
+
+/// Over an honest ring all that a call puts may be put: it keeps the log fair, so the driver never exceeds the credit that was advertised.
+/// After the call the driver's connections are again those that the log left (Virtio 1.2, section 5.10.6.3).
+pub fn law_of_ring_calls()
+    ensures new_may { (size port id : ℕ) (c : RingContents) → port ≤ LAST_PORT → IsFresh c → MayPublishAll (new_of size port id) c }
+    ensures new { (size port id : ℕ) (c d : RingContents) (s : DriverState) → port ≤ LAST_PORT → IsFresh c → Plays (new_of size port id) c s d
+        → IsHonestWith s.cid s d }
+    ensures connect_may { (first host : ℕ) (s : DriverState) (c : RingContents) → host < 2 ^ 32 → IsHonestWith first s c
+        → MayPublishAll (connect_of host s) c }
+    ensures connect { (first host : ℕ) (s : DriverState) (c d : RingContents) (x : DriverState × Result ℕ ConnectError) → host < 2 ^ 32
+        → IsHonestWith first s c → Plays (connect_of host s) c x d → IsHonestWith first x.0 d }
+    ensures send_may { (first id : ℕ) (bytes : List ℕ) (s : DriverState) (c : RingContents) → IsHonestWith first s c
+        → MayPublishAll (send_of id bytes s) c }
+    ensures send { (first id : ℕ) (bytes : List ℕ) (s : DriverState) (c d : RingContents) (x : DriverState × Sent)
+        → IsHonestWith first s c → Plays (send_of id bytes s) c x d → IsHonestWith first x.0 d }
+    ensures poll_may { (first : ℕ) (s : DriverState) (c : RingContents) → IsHonestWith first s c → MayPublishAll (poll_of s) c }
+    ensures poll { (first : ℕ) (s : DriverState) (c d : RingContents) (x : DriverState × Polled) → IsHonestWith first s c
+        → Plays (poll_of s) c x d → IsHonestWith first x.0 d }
+{}
+
+/// The other calls put and get nothing, and the driver's connections stay those that the log left.
+pub fn law_of_other_calls()
+    ensures recv { (first id n : ℕ) (s : DriverState) (c : RingContents) → IsHonestWith first s c → IsHonestWith first (after_recv id n s) c }
+    ensures shutdown { (first id bits : ℕ) (s : DriverState) (c : RingContents) → IsHonestWith first s c
+        → IsHonestWith first (after_shutdown id bits s) c }
+    ensures close { (first id : ℕ) (s : DriverState) (c : RingContents) → IsHonestWith first s c → IsHonestWith first (after_close id s) c }
+    ensures listen { (first port : ℕ) (s : DriverState) (c : RingContents) → IsHonestWith first s c → IsHonestWith first (listening port s) c }
+    ensures unlisten { (first port : ℕ) (s : DriverState) (c : RingContents) → IsHonestWith first s c
+        → IsHonestWith first (after_unlisten port s) c }
+    ensures accept { (first port : ℕ) (s : DriverState) (c : RingContents) → IsHonestWith first s c
+        → IsHonestWith first (after_accept port s) c }
+{}
+
+/// The driver's table has exactly the flows that the log left open.
+pub fn law_of_the_table()
+    ensures { (first : ℕ) (s : DriverState) (l : EndLog) → AgreesWith first s l → IsLeftOpen first (table_shown s) s.replies l }
+{}
+
+/// A conversation with the driver's ring is one with any ring: each answer is one that a ring may give. What the other end did stays.
+pub fn law_of_answers<T>()
+    ensures answers { (tree : DriverTree T) (c d : RingContents) (x : T) → Plays tree c x d → Leads DriverAllows tree c x d }
+    ensures other { (tree : DriverTree T) (c d : RingContents) (x : T) → Plays tree c x d → d.other ≡ c.other }
+{}

@@ -1,0 +1,116 @@
+-- The staged pages of a queue are published, and the guest's CID is loaded.
+use Rattle.std.proofs.Common.{◌≡◌, ℕ, ◌+◌, ◌%◌, ◌^◌, ◌≤◌, Bool, true, false, cond, [], ◌∷◌, ◌++◌, length, refl, sym, ap, ◌∙◌, subst, arith}
+use Rattle.std.specs.Prelude.{◌==◌}
+use Rattle.std.proofs.lemmas.Bool.Decides.{nat_tests}
+use Rattle.byteorder.specs.Endian.{little_bytes, little_number}
+use Rattle.vs_guest_mem.specs.Memory.{Memory, after_write}
+use Rattle.vs_header.proofs.RoundTrip.{little_number-little_bytes}
+use Rattle.vs_page.specs.{Fair.IsFairLog, Log.Driver}
+use Rattle.vs_ring_port.specs.{Chains.same_queue, DriverCalls.LoadCid, DriverCalls.Publish, EndLog.entries_published, EndLog.pages_at}
+use Rattle.vs_ring_port.specs.Lists.{Lists, queue_of}
+use Rattle.vs_ring_port.specs.declared.queue.Queue.{Queue}
+use Rattle.vs_ring_list.specs.Ends.{Ends}
+use Rattle.vs_ring_list.proofs.Ties.{tied-load, tied-publish}
+use Rattle.vs_ring_plain.specs.Device.{turns_at}
+use Rattle.vs_plain_driver.specs.Queue.{DriverQueueState, published_memory, published_queue}
+use Rattle.laws_plain_rings.specs.{Calls.after_driver, Parts.PartsState, Parts.driver_at, Parts.published_parts, Shown.shown}
+use Rattle.laws_plain_rings.specs.Tie.{AreTied, areas_of, heads_of, shown_of, start_of}
+use Rattle.laws_plain_rings.proofs.{Assemble.driver_form, Assemble.driver_form_is, Assemble.driver_step, Frames.length_written}
+use Rattle.laws_plain_rings.proofs.Frames.{written}
+use Rattle.laws_plain_rings.proofs.QueueSteps.{tie_published}
+use Rattle.laws_plain_rings.proofs.Spots.{AvailIdx, Untouched, high, low, untouched_none, untouched_other, untouched_own}
+
+module _ (p : PartsState) (w : Ends) (tied : AreTied p w) where
+  module _ (queue : Queue) (fair : IsFairLog Driver (entries_published queue (pages_at queue w.driver.staged) w.driver.entries)) where
+    abbrev q : DriverQueueState
+    q = driver_at queue p
+
+    abbrev n : ℕ
+    n = p.device.size
+
+    abbrev m : Memory
+    m = p.device.memory
+
+    abbrev I : ℕ
+    I = (areas_of p queue).avail + 2
+
+    abbrev index : ℕ
+    index = (q.published + q.staged) % 2 ^ 16
+
+    abbrev stored : Memory
+    stored = after_write m I (little_bytes 2 index)
+
+    low_I : m.base ≤ I
+    low_I = low n (areas_of p) (start_of p) m tied.laid queue AvailIdx tt I (little_bytes 2 index) (omega arith) (omega arith)
+
+    high_I : I + 2 ≤ m.base + length m.bytes
+    high_I = high n (areas_of p) (start_of p) m tied.laid queue AvailIdx tt I (little_bytes 2 index) (omega arith) (omega arith)
+
+    -- what the memory is then
+    record IsPublished (new : Memory) : Type 0 where
+      still : new.changes ≡ []
+      base : new.base ≡ m.base
+      size : length new.bytes ≡ length m.bytes
+      own : Untouched n (AvailIdx ∷ []) (shown_of p queue) (shown (areas_of p queue) (start_of p queue) new)
+      other : (r : Queue) → same_queue queue r ≡ false → Untouched n [] (shown_of p r) (shown (areas_of p r) (start_of p r) new)
+      avail : (shown (areas_of p queue) (start_of p queue) new).avail ≡ index
+
+    is_published : (b : Bool) → (q.staged == 0) ≡ b → IsPublished (cond b m stored)
+    is_published true none = record {
+      still = tied.still;
+      base = refl;
+      size = refl;
+      own = untouched_none n (AvailIdx ∷ []) (shown_of p queue);
+      other = λ r other. untouched_none n [] (shown_of p r);
+      avail = same_index;
+    }
+      where
+        same_index : (shown_of p queue).avail ≡ index
+        same_index =
+            let t = (tied.queues queue).2 in
+            let zero_staged : q.staged ≡ 0 = grind (arith, nat_tests, none) in
+            omega (arith, t.avail, t.published, zero_staged)
+    is_published false some = record {
+      still = tied.still;
+      base = refl;
+      size = length_written m I (little_bytes 2 index) low_I high_I;
+      own = untouched_own n (areas_of p) (start_of p) m tied.laid queue AvailIdx tt I (little_bytes 2 index) (omega arith) (omega arith);
+      other = λ r other. untouched_other n (areas_of p) (start_of p) m tied.laid queue AvailIdx tt I (little_bytes 2 index) (omega
+          arith) (omega arith) r other;
+      avail = ap (little_number 2) (written m I (little_bytes 2 index) low_I high_I) ∙ little_number-little_bytes 2 index (omega arith);
+    }
+
+    step : (new : Memory) → IsPublished new → AreTied (driver_form queue (published_queue q) new p) (after_driver (Publish queue) w)
+    step new is =
+        let x = tied.queues queue in
+        let staged = pages_at queue w.driver.staged in
+        let l : Lists = record (queue_of queue w.lists) { given = (queue_of queue w.lists).given ++ staged } in
+        driver_step p w tied queue (published_queue q) new [] l (entries_published queue staged w.driver.entries) refl refl is.still
+        is.base is.size (
+          x.0,
+          x.1,
+          tie_published queue n (start_of p queue) tied.laid.nonzero tied.laid.limit tied.laid.divides (shown_of p queue) q
+              (turns_at queue p.device.turns) (heads_of queue p.device.held) staged (queue_of queue w.lists) x.0 x.1 x.2
+              (shown (areas_of p queue) (start_of p queue) new) is.own is.avail,
+        )
+        is.other
+        (λ j some c few. is.own.page j c (x.2.pages j (omega (arith, some))).0 few (tt, tt))
+        (tied-publish queue staged w.lists w.driver.entries w.device.entries tied.logs fair)
+
+    pub tied_published : AreTied (published_parts queue p) (after_driver (Publish queue) w)
+    tied_published =
+        subst (λ (x : PartsState). AreTied x (after_driver (Publish queue) w)) (sym (driver_form_is queue (published_queue q) _ p))
+        (step (published_memory (areas_of p queue) q m) (is_published (q.staged == 0) refl))
+
+  pub tied_loaded : AreTied p (after_driver LoadCid w)
+  tied_loaded = record {
+    still = tied.still;
+    laid = tied.laid;
+    there = tied.there;
+    sizes = tied.sizes;
+    size = tied.size;
+    cid = tied.cid;
+    queues = tied.queues;
+    held = tied.held;
+    logs = tied-load w.lists.cid w.lists w.driver.entries w.device.entries tied.logs;
+  }

@@ -1,0 +1,260 @@
+-- Bytes of a chain that is held are read, and written.
+use Rattle.std.proofs.Common.{◌≡◌, ℕ, ◌+◌, ◌-◌, ◌*◌, ◌<◌, ◌≤◌, Bool, true, false, cond, List, [], ◌∷◌, ◌++◌, length, take, drop, Contains}
+use Rattle.std.proofs.Common.{refl, sym, ap, ap₂, ◌∙◌, subst, arith, length-append, length-drop, length-take-le}
+use Rattle.std.specs.Prelude.{◌==◌}
+use Rattle.std.proofs.Math.Seq.{take-length}
+use Rattle.vs_guest_mem.specs.Memory.{Memory, accessed, after_write, bytes_at}
+use Rattle.vs_page.specs.Overwriting.{overwritten}
+use Rattle.vs_ring_port.specs.{Chains.bytes_in, Chains.same_queue, Chains.with_bytes, Contents.Read, Contents.Write, EndLog.pages_at}
+use Rattle.vs_ring_port.specs.Lists.{queue_of, with_queue}
+use Rattle.vs_ring_port.specs.declared.device_ring.Chain.{Chain}
+use Rattle.vs_ring_port.specs.declared.queue.Queue.{Queue}
+use Rattle.vs_ring_port.specs.declared.queue.Queue.TheVariants.{Rx, Tx, Event}
+use Rattle.vs_ring_list.specs.{Ends.Ends, Sound.IsTied}
+use Rattle.vs_ring_list.proofs.Held.{same_queue_refl}
+use Rattle.vs_ring_plain.specs.Accesses.{over}
+use Rattle.vs_ring_plain.specs.Device.{DeviceState, answer_to, chains_held, hold_of, pieces_of, turns_at, with_memory}
+use Rattle.vs_ring_plain.specs.Pieces.{reading, spans, writing}
+use Rattle.vs_ring_plain.specs.declared.piece.Piece.{Piece}
+use Rattle.vs_ring_plain.proofs.Moving.{is_zero, read_step, skipped, unwritten, used}
+use Rattle.laws_plain_rings.specs.{Calls.after_device, Parts.PartsState, Parts.driver_at, Queue.times, Shown.Shown, Shown.shown}
+use Rattle.laws_plain_rings.specs.Tie.{AreHeldAs, AreTied, IsLaid, areas_of, heads_of, shown_of, start_of}
+use Rattle.laws_plain_rings.proofs.{Assemble.device_ends, Assemble.device_form, Assemble.device_step, Frames.length_written}
+use Rattle.laws_plain_rings.proofs.{Held.Found, Held.found, Held.held_written, Parts.read_part, Parts.written_part, QueueSteps.tie_written}
+use Rattle.laws_plain_rings.proofs.{Queues.of_each, Quiet.IsQuietly, Quiet.quiet_step, Quiet.quietly_accessed, Quiet.seen}
+use Rattle.laws_plain_rings.proofs.Spots.{PageOf, Untouched, high, laid_same, low, untouched_other, untouched_own}
+
+empty_list : (xs : List ℕ) → length xs ≡ 0 → xs ≡ []
+empty_list [] none = refl
+empty_list (x ∷ xs) none = absurd (omega (arith, none))
+
+-- a part of one piece
+read_one : (p : Piece) (place count : ℕ) (m : Memory) → place + count ≤ p.len
+    → over (reading (spans (p ∷ []) place count) []) m ≡ (bytes_at (accessed m count) (p.addr + place) count, accessed m count)
+read_one p place count m within =
+    let from : skipped p place ≡ place = omega (arith, within) in
+    let much : used p place count ≡ count = omega (arith, within) in
+    read_step p [] place count [] m
+    ∙ ap₂ (λ (f u : ℕ). (bytes_at (accessed m u) (p.addr + f) u, accessed m u)) from much
+
+write_one : (p : Piece) (place : ℕ) (bytes : List ℕ) (m : Memory) → place + length bytes ≤ p.len
+    → over (writing (spans (p ∷ []) place (length bytes)) bytes) m ≡ (tt, after_write (accessed m (length bytes)) (p.addr + place) bytes)
+write_one p place bytes m within = by (used p place (length bytes) == 0) refl
+  where
+    from : skipped p place ≡ place
+    from = omega (arith, within)
+
+    much : used p place (length bytes) ≡ length bytes
+    much = omega (arith, within)
+
+    by : (b : Bool) → (used p place (length bytes) == 0) ≡ b
+        → over (writing (cond b [] (record { addr = p.addr + skipped p place; len = used p place (length bytes) } ∷ [])) bytes) m
+        ≡ (tt, after_write (accessed m (length bytes)) (p.addr + place) bytes)
+    by true none =
+        let empty : bytes ≡ [] = empty_list bytes (sym much ∙ is_zero (used p place (length bytes)) none) in
+        rw empty (ap (λ (x : Memory). (tt, x)) (sym (unwritten m (p.addr + place))))
+    by false some =
+        ap₂ (λ (f u : ℕ). (tt, after_write (accessed m (length (take u bytes))) (p.addr + f) (take u bytes))) from much
+        ∙ ap (λ (xs : List ℕ). (tt, after_write (accessed m (length xs)) (p.addr + place) xs)) (take-length bytes)
+
+module _ (p : PartsState) (w : Ends) (tied : AreTied p w) (c : Chain) (has : Contains (chains_held p.device) c) where
+  abbrev d : DeviceState
+  d = p.device
+
+  abbrev m : Memory
+  m = d.memory
+
+  abbrev n : ℕ
+  n = d.size
+
+  pub f : Found (start_of p) (shown_of p) c d.held w.device.held
+  f = found (start_of p) (shown_of p) c d.held w.device.held tied.held has
+
+  abbrev P : ℕ
+  P = start_of p c.queue + 4096 * f.hold.head
+
+  abbrev piece : Piece
+  piece = record { addr = P; len = c.readable + c.writable }
+
+  pub pieces_is : pieces_of (hold_of c d.held) ≡ piece ∷ []
+  pieces_is =
+      ap pieces_of f.hold_is
+      ∙ subst (λ (k : Chain). f.hold.pieces ≡ record { addr = start_of p k.queue + 4096 * f.hold.head; len = k.readable + k.writable }
+      ∷ []) f.chain_is
+      f.lies.pieces
+
+  pub bytes_there : bytes_at m P (length f.entry.bytes) ≡ f.entry.bytes
+  bytes_there =
+      subst (λ (k : Chain). (shown_of p k.queue).page f.hold.head (length f.entry.bytes) ≡ f.entry.bytes) f.chain_is f.lies.bytes
+
+  pub fits_room : c.readable + c.writable ≤ 4096
+  fits_room = subst (λ (k : Chain). k.readable + k.writable ≤ 4096) f.chain_is f.lies.room
+
+  pub fits_read : c.readable ≤ length f.entry.bytes
+  fits_read = subst (λ (k : Chain). k.readable ≤ length f.entry.bytes) f.chain_is f.lies.readable
+
+  pub below : f.hold.head < n
+  below = ((tied.queues c.queue).2.pages f.hold.head (omega (arith, f.counted))).0
+
+  low_P : m.base ≤ P
+  low_P = low n (areas_of p) (start_of p) m tied.laid c.queue (PageOf f.hold.head) below P [] (omega arith) (omega arith)
+
+  -- bytes are read
+  module _ (place count : ℕ) (within : place + count ≤ c.readable) where
+    abbrev accesses : Memory
+    accesses = accessed m count
+
+    quietly : IsQuietly m accesses
+    quietly = quietly_accessed m count tied.still
+
+    over_is : over (reading (spans (pieces_of (hold_of c d.held)) place count) []) m ≡ (bytes_at accesses (P + place) count, accesses)
+    over_is =
+        ap (λ (ps : List Piece). over (reading (spans ps place count) []) m) pieces_is ∙ read_one piece place count m (omega (
+          arith,
+          within,
+        ))
+
+    value_is : bytes_at accesses (P + place) count ≡ take count (drop place (bytes_in c w.device.held))
+    value_is =
+        ap₂ (λ (b : ℕ) (xs : List ℕ). take count (drop (P + place - b) xs)) quietly.base quietly.bytes
+        ∙ read_part m P place count (length f.entry.bytes) low_P (omega (arith, within, fits_read))
+        ∙ ap (λ (xs : List ℕ). take count (drop place xs)) (bytes_there ∙ sym f.bytes_is)
+
+    -- the answer, and both ends after it
+    pub record Reads : Type 0 where
+      pub answer : (answer_to (Read c place count) d).0 ≡ take count (drop place (bytes_in c w.device.held))
+      pub tied_then : AreTied (record p { device = (answer_to (Read c place count) d).1 }) w
+
+    pub reads : Reads
+    reads = record {
+      answer = ap (λ (x : List ℕ × Memory). x.0) over_is ∙ value_is;
+      tied_then = subst (λ (x : Memory). AreTied (record p { device = with_memory d x }) w) (sym (ap (λ (x : List ℕ
+          × Memory). x.1) over_is))
+          (quiet_step p w tied accesses quietly);
+    }
+
+  -- bytes are written
+  module _ (place : ℕ) (bytes : List ℕ) (within : place + length bytes ≤ c.writable) (no_gap : place ≤ length (bytes_in c
+      w.device.held)) where
+    abbrev before : Memory
+    before = accessed m (length bytes)
+
+    abbrev after : Memory
+    after = after_write before (P + place) bytes
+
+    quiet_before : IsQuietly m before
+    quiet_before = quietly_accessed m (length bytes) tied.still
+
+    laid_before : IsLaid n (areas_of p) (start_of p) before
+    laid_before = laid_same n (areas_of p) (start_of p) m before quiet_before.base (ap length quiet_before.bytes) tied.laid
+
+    write_over : over (writing (spans (pieces_of (hold_of c d.held)) place (length bytes)) bytes) m ≡ (tt, after)
+    write_over =
+        ap (λ (ps : List Piece). over (writing (spans ps place (length bytes)) bytes) m) pieces_is
+        ∙ write_one piece place bytes m (omega (arith, within))
+
+    abbrev written_bytes : List ℕ
+    written_bytes = overwritten f.entry.bytes place bytes
+
+    gap : place ≤ length f.entry.bytes
+    gap = omega (arith, no_gap, ap length f.bytes_is)
+
+    to : P + place + length bytes ≤ P + 4096
+    to = omega (arith, within, fits_room)
+
+    own : Untouched n (PageOf f.hold.head ∷ []) (shown_of p c.queue) (shown (areas_of p c.queue) (start_of p c.queue) after)
+    own =
+        subst (λ (x : Shown). Untouched n (PageOf f.hold.head ∷ []) x (shown (areas_of p c.queue) (start_of p c.queue) after))
+        (seen p w tied before quiet_before c.queue)
+        (untouched_own n (areas_of p) (start_of p) before laid_before c.queue (PageOf f.hold.head) below (P + place) bytes (omega arith) to)
+
+    other : (r : Queue) → same_queue c.queue r ≡ false → Untouched n [] (shown_of p r) (shown (areas_of p r) (start_of p r) after)
+    other r apart =
+        subst (λ (x : Shown). Untouched n [] x (shown (areas_of p r) (start_of p r) after)) (seen p w tied before quiet_before r)
+        (untouched_other n (areas_of p) (start_of p) before laid_before c.queue (PageOf f.hold.head) below (P + place) bytes (omega
+        arith) to r apart)
+
+    low_w : before.base ≤ P + place
+    low_w = low n (areas_of p) (start_of p) before laid_before c.queue (PageOf f.hold.head) below (P + place) bytes (omega arith) to
+
+    high_w : P + place + length bytes ≤ before.base + length before.bytes
+    high_w = high n (areas_of p) (start_of p) before laid_before c.queue (PageOf f.hold.head) below (P + place) bytes (omega arith) to
+
+    size_w : length after.bytes ≡ length m.bytes
+    size_w = length_written before (P + place) bytes low_w high_w ∙ ap length quiet_before.bytes
+
+    old_there : f.entry.bytes ≡ bytes_at before P (length f.entry.bytes)
+    old_there =
+        sym (ap₂ (λ (b : ℕ) (xs : List ℕ). take (length f.entry.bytes) (drop (P - b) xs)) quiet_before.base quiet_before.bytes
+        ∙ bytes_there)
+
+    page_is : (shown (areas_of p c.queue) (start_of p c.queue) after).page f.hold.head (length written_bytes) ≡ written_bytes
+    page_is =
+        written_part before P place bytes f.entry.bytes (omega (arith, low_P, quiet_before.base)) gap old_there
+        (omega (arith, tied.laid.high c.queue, below, f.lies.fits, quiet_before.base, ap length quiet_before.bytes)) high_w
+
+    long : length written_bytes ≡ place + length bytes + (length f.entry.bytes - (place + length bytes))
+    long =
+        length-append (take place f.entry.bytes ++ bytes) (drop (place + length bytes) f.entry.bytes)
+        ∙ omega (
+          arith,
+          length-append (take place f.entry.bytes) bytes,
+          length-take-le place f.entry.bytes gap,
+          length-drop (place +
+              length bytes) f.entry.bytes,
+        )
+
+    held_then : AreHeldAs (start_of p) (λ r. shown (areas_of p r) (start_of p r) after) d.held (with_bytes c written_bytes w.device.held)
+    held_then =
+        held_written (start_of p) (shown_of p) (λ r. shown (areas_of p r) (start_of p r) after) c written_bytes d.held w.device.held
+        f.hold tied.held
+        f.hold_is (λ id. omega (arith, (tied.queues c.queue).2.once id)) (of_each (λ q. (id : ℕ) → (same_queue q c.queue ≡ true
+        → id ≡ f.hold.head → ⊥)
+        → 0 < times id (heads_of q d.held) → (k : ℕ) → k ≤ 4096
+        → (shown (areas_of p q) (start_of p q) after).page id k ≡ (shown_of p q).page id k) c.queue
+        (λ id not_it some k few. own.page id k ((tied.queues c.queue).2.pages id (omega (arith, some))).0 few
+        ((λ same. not_it (same_queue_refl c.queue) (sym same)), tt))
+        (λ q apart id not_it some k few. (other q apart).page id k ((tied.queues q).2.pages id (omega (arith, some))).0 few tt))
+        page_is (omega (arith, long, f.lies.fits, within, fits_room)) (omega (arith, long, fits_read))
+
+    same_parts : (q : Queue) → device_form q after (turns_at q d.turns) d.held p ≡ record p { device = with_memory d after }
+    same_parts Rx = refl
+    same_parts Tx = refl
+    same_parts Event = refl
+
+    same_ends : (q : Queue) → device_ends q (queue_of q w.lists) w.device.entries (with_bytes c (overwritten (bytes_in c w.device.held)
+        place bytes) w.device.held) w
+        ≡ after_device (Write c place bytes) w
+    same_ends Rx = refl
+    same_ends Tx = refl
+    same_ends Event = refl
+
+    step : AreTied (device_form c.queue after (turns_at c.queue d.turns) d.held p)
+        (device_ends c.queue (queue_of c.queue w.lists) w.device.entries (with_bytes c written_bytes w.device.held) w)
+    step =
+        let x = tied.queues c.queue in
+        device_step p w tied c.queue after (turns_at c.queue d.turns) d.held (queue_of c.queue w.lists) w.device.entries
+        (with_bytes c written_bytes w.device.held) quiet_before.still quiet_before.base size_w (
+          x.0,
+          x.1,
+          tie_written c.queue n (start_of p c.queue) tied.laid.nonzero tied.laid.limit tied.laid.divides (shown_of p c.queue)
+              (driver_at c.queue p)
+              (turns_at c.queue d.turns) (heads_of c.queue d.held) (pages_at c.queue w.driver.staged) (queue_of c.queue w.lists) x.0 x.1 x.2
+              (shown (areas_of p c.queue) (start_of p c.queue) after) f.hold.head f.counted own,
+        )
+        other (λ r apart. refl) held_then (same_logs c.queue)
+      where
+        same_logs : (q : Queue) → IsTied (with_queue q (queue_of q w.lists) w.lists) w.driver.entries w.device.entries
+        same_logs Rx = tied.logs
+        same_logs Tx = tied.logs
+        same_logs Event = tied.logs
+
+    pub tied_written : AreTied (record p { device = (answer_to (Write c place bytes) d).1 }) (after_device (Write c place bytes) w)
+    tied_written =
+        subst (λ (x : Memory). AreTied (record p { device = with_memory d x }) (after_device (Write c place bytes) w))
+        (sym (ap (λ (x : Unit {0} × Memory). x.1) write_over))
+        (subst (λ (x : PartsState). AreTied x (after_device (Write c place bytes) w)) (same_parts c.queue)
+        (subst (λ (x : Ends). AreTied (device_form c.queue after (turns_at c.queue d.turns) d.held p) x) (same_ends c.queue)
+        (subst (λ (xs : List ℕ). AreTied (device_form c.queue after (turns_at c.queue d.turns) d.held p)
+        (device_ends c.queue (queue_of c.queue w.lists) w.device.entries (with_bytes c (overwritten xs place bytes) w.device.held) w))
+        (sym f.bytes_is) step)))

@@ -1,0 +1,311 @@
+-- The pieces of a queue's memory that are written as a whole, and what a write into one of them leaves alone.
+use Rattle.std.proofs.Common.{inl, inr, ◌≡◌, ◌⊎◌, ℕ, ◌+◌, ◌*◌, ◌<◌, ◌≤◌, true, false, List, [], ◌∷◌, length, refl, sym, ap, ap₂, ◌∙◌, arith}
+use Rattle.std.specs.Prelude.{nat_le as leb, ⊤}
+use Rattle.std.proofs.Math.Nat.{mul-add, mul-le-mul_left}
+use Rattle.std.proofs.lemmas.Bool.Decides.{leb_tells}
+use Rattle.byteorder.specs.Endian.{little_number}
+use Rattle.vs_guest_mem.specs.Memory.{Memory, after_write, bytes_at}
+use Rattle.vs_layout.specs.Entry.{desc_of, used_elem_of}
+use Rattle.vs_layout.specs.declared.place.Areas.{Areas}
+use Rattle.vs_ring_plain.proofs.Still.{quiet}
+use Rattle.vs_ring_port.specs.Chains.{same_queue}
+use Rattle.vs_ring_port.specs.declared.queue.Queue.{Queue}
+use Rattle.laws_plain_rings.specs.{Shown.Shown, Shown.shown, Tie.IsAreaLaid, Tie.IsLaid}
+use Rattle.laws_plain_rings.proofs.Frames.{inner, kept}
+
+pub data Spot : Type 0 where
+  Describing : ℕ → Spot
+  AvailIdx : Spot
+  Entry : ℕ → Spot
+  UsedIdx : Spot
+  Elem : ℕ → Spot
+  PageOf : ℕ → Spot
+
+-- where it begins, and its length
+abbrev pub spot_at : Areas → ℕ → Spot → ℕ
+spot_at a at (Describing k) = a.desc + 16 * k
+spot_at a at AvailIdx = a.avail + 2
+spot_at a at (Entry k) = a.avail + 4 + 2 * k
+spot_at a at UsedIdx = a.used + 2
+spot_at a at (Elem k) = a.used + 4 + 8 * k
+spot_at a at (PageOf k) = at + 4096 * k
+
+abbrev pub spot_len : Spot → ℕ
+spot_len (Describing k) = 16
+spot_len AvailIdx = 2
+spot_len (Entry k) = 2
+spot_len UsedIdx = 2
+spot_len (Elem k) = 8
+spot_len (PageOf k) = 4096
+
+-- it is one of a queue of n places
+abbrev pub IsSpot : ℕ → Spot → Type 0
+IsSpot n (Describing k) = k < n
+IsSpot n AvailIdx = ⊤
+IsSpot n (Entry k) = k < n
+IsSpot n UsedIdx = ⊤
+IsSpot n (Elem k) = k < n
+IsSpot n (PageOf k) = k < n
+
+abbrev pub Differs : Spot → Spot → Type 0
+Differs (Describing j) (Describing k) = j ≡ k → ⊥
+Differs AvailIdx AvailIdx = ⊥
+Differs (Entry j) (Entry k) = j ≡ k → ⊥
+Differs UsedIdx UsedIdx = ⊥
+Differs (Elem j) (Elem k) = j ≡ k → ⊥
+Differs (PageOf j) (PageOf k) = j ≡ k → ⊥
+Differs _ _ = ⊤
+
+abbrev pub DiffersAll : List Spot → Spot → Type 0
+DiffersAll [] y = ⊤
+DiffersAll (x ∷ xs) y = Differs x y × DiffersAll xs y
+
+less_from : {j k : ℕ} → k ≤ j → (k ≡ j → ⊥) → k < j
+less_from {j} {k} under other = by (leb_tells j k)
+  where
+    by : ((leb j k ≡ true) × (j ≤ k)) ⊎ ((leb j k ≡ false) × (k < j)) → k < j
+    by (inl (test, back)) = absurd (other (omega (arith, under, back)))
+    by (inr (test, less)) = less
+
+-- two of one queue are apart
+ordered : (j k size from : ℕ) → (j ≡ k → ⊥) → (from + size * j + size ≤ from + size * k) ⊎ (from + size * k + size ≤ from + size * j)
+ordered j k size from other = by (leb_tells k j)
+  where
+    step : (x y : ℕ) → x < y → size * x + size ≤ size * y
+    step x y less =
+        let le : size * (x + 1) ≤ size * y = mul-le-mul_left size (omega (arith, less)) in
+        let one : size * (x + 1) ≡ size * x + size * 1 = mul-add size x 1 in
+        omega (arith, le, one)
+
+    by : ((leb k j ≡ true) × (k ≤ j)) ⊎ ((leb k j ≡ false) × (j < k))
+        → (from + size * j + size ≤ from + size * k) ⊎ (from + size * k + size ≤ from + size * j)
+    by (inl (test, under)) = inr (omega (arith, step k j (less_from under (λ same. other (sym same)))))
+    by (inr (test, over)) = inl (omega (arith, step j k over))
+
+module _ (n : ℕ) (a : Areas) (at : ℕ) (laid : IsAreaLaid n a) (behind : a.end ≤ at) where
+  pub apart : (x y : Spot) → IsSpot n x → IsSpot n y → Differs x y
+      → (spot_at a at x + spot_len x ≤ spot_at a at y) ⊎ (spot_at a at y + spot_len y ≤ spot_at a at x)
+  apart (Describing j) (Describing k) is_x is_y other = ordered j k 16 (a.desc) other
+  apart (Describing j) AvailIdx is_x is_y other = inl (omega (arith, laid.avail, laid.used, laid.end, behind, is_x))
+  apart (Describing j) (Entry k) is_x is_y other = inl (omega (arith, laid.avail, laid.used, laid.end, behind, is_x))
+  apart (Describing j) UsedIdx is_x is_y other = inl (omega (arith, laid.avail, laid.used, laid.end, behind, is_x))
+  apart (Describing j) (Elem k) is_x is_y other = inl (omega (arith, laid.avail, laid.used, laid.end, behind, is_x))
+  apart (Describing j) (PageOf k) is_x is_y other = inl (omega (arith, laid.avail, laid.used, laid.end, behind, is_x))
+  apart AvailIdx (Describing k) is_x is_y other = inr (omega (arith, laid.avail, laid.used, laid.end, behind, is_y))
+  apart AvailIdx AvailIdx is_x is_y other = absurd other
+  apart AvailIdx (Entry k) is_x is_y other = inl (omega (arith, laid.avail, laid.used, laid.end, behind))
+  apart AvailIdx UsedIdx is_x is_y other = inl (omega (arith, laid.avail, laid.used, laid.end, behind))
+  apart AvailIdx (Elem k) is_x is_y other = inl (omega (arith, laid.avail, laid.used, laid.end, behind))
+  apart AvailIdx (PageOf k) is_x is_y other = inl (omega (arith, laid.avail, laid.used, laid.end, behind))
+  apart (Entry j) (Describing k) is_x is_y other = inr (omega (arith, laid.avail, laid.used, laid.end, behind, is_y))
+  apart (Entry j) AvailIdx is_x is_y other = inr (omega (arith, laid.avail, laid.used, laid.end, behind))
+  apart (Entry j) (Entry k) is_x is_y other = ordered j k 2 (a.avail + 4) other
+  apart (Entry j) UsedIdx is_x is_y other = inl (omega (arith, laid.avail, laid.used, laid.end, behind, is_x))
+  apart (Entry j) (Elem k) is_x is_y other = inl (omega (arith, laid.avail, laid.used, laid.end, behind, is_x))
+  apart (Entry j) (PageOf k) is_x is_y other = inl (omega (arith, laid.avail, laid.used, laid.end, behind, is_x))
+  apart UsedIdx (Describing k) is_x is_y other = inr (omega (arith, laid.avail, laid.used, laid.end, behind, is_y))
+  apart UsedIdx AvailIdx is_x is_y other = inr (omega (arith, laid.avail, laid.used, laid.end, behind))
+  apart UsedIdx (Entry k) is_x is_y other = inr (omega (arith, laid.avail, laid.used, laid.end, behind, is_y))
+  apart UsedIdx UsedIdx is_x is_y other = absurd other
+  apart UsedIdx (Elem k) is_x is_y other = inl (omega (arith, laid.avail, laid.used, laid.end, behind))
+  apart UsedIdx (PageOf k) is_x is_y other = inl (omega (arith, laid.avail, laid.used, laid.end, behind))
+  apart (Elem j) (Describing k) is_x is_y other = inr (omega (arith, laid.avail, laid.used, laid.end, behind, is_y))
+  apart (Elem j) AvailIdx is_x is_y other = inr (omega (arith, laid.avail, laid.used, laid.end, behind))
+  apart (Elem j) (Entry k) is_x is_y other = inr (omega (arith, laid.avail, laid.used, laid.end, behind, is_y))
+  apart (Elem j) UsedIdx is_x is_y other = inr (omega (arith, laid.avail, laid.used, laid.end, behind))
+  apart (Elem j) (Elem k) is_x is_y other = ordered j k 8 (a.used + 4) other
+  apart (Elem j) (PageOf k) is_x is_y other = inl (omega (arith, laid.avail, laid.used, laid.end, behind, is_x))
+  apart (PageOf j) (Describing k) is_x is_y other = inr (omega (arith, laid.avail, laid.used, laid.end, behind, is_y))
+  apart (PageOf j) AvailIdx is_x is_y other = inr (omega (arith, laid.avail, laid.used, laid.end, behind))
+  apart (PageOf j) (Entry k) is_x is_y other = inr (omega (arith, laid.avail, laid.used, laid.end, behind, is_y))
+  apart (PageOf j) UsedIdx is_x is_y other = inr (omega (arith, laid.avail, laid.used, laid.end, behind))
+  apart (PageOf j) (Elem k) is_x is_y other = inr (omega (arith, laid.avail, laid.used, laid.end, behind, is_y))
+  apart (PageOf j) (PageOf k) is_x is_y other = ordered j k 4096 (at) other
+
+  -- it lies in the areas or among the pages
+  pub within : (x : Spot) → IsSpot n x
+      → ((a.desc ≤ spot_at a at x) × (spot_at a at x + spot_len x ≤ a.end)) ⊎ ((at ≤ spot_at a at x)
+      × (spot_at a at x + spot_len x ≤ at + 4096 * n))
+  within (Describing k) is_x = inl (omega (arith, laid.avail, laid.used, laid.end), omega (arith, laid.avail, laid.used, laid.end, is_x))
+  within AvailIdx is_x = inl (omega (arith, laid.avail, laid.used, laid.end), omega (arith, laid.avail, laid.used, laid.end))
+  within (Entry k) is_x = inl (omega (arith, laid.avail, laid.used, laid.end), omega (arith, laid.avail, laid.used, laid.end, is_x))
+  within UsedIdx is_x = inl (omega (arith, laid.avail, laid.used, laid.end), omega (arith, laid.avail, laid.used, laid.end))
+  within (Elem k) is_x = inl (omega (arith, laid.avail, laid.used, laid.end), omega (arith, laid.avail, laid.used, laid.end, is_x))
+  within (PageOf k) is_x = inr (omega arith, omega (arith, is_x))
+
+-- What stands in every other spot of a queue of n places is what stood there.
+pub record Untouched (n : ℕ) (xs : List Spot) (s new : Shown) : Type 0 where
+  pub desc : (k : ℕ) → k < n → DiffersAll xs (Describing k) → new.desc k ≡ s.desc k
+  pub avail : DiffersAll xs AvailIdx → new.avail ≡ s.avail
+  pub entry : (k : ℕ) → k < n → DiffersAll xs (Entry k) → new.entry k ≡ s.entry k
+  pub used : DiffersAll xs UsedIdx → new.used ≡ s.used
+  pub elem : (k : ℕ) → k < n → DiffersAll xs (Elem k) → new.elem k ≡ s.elem k
+  pub page : (k c : ℕ) → k < n → c ≤ 4096 → DiffersAll xs (PageOf k) → new.page k c ≡ s.page k c
+
+pub untouched_then : (n : ℕ) (x : Spot) (xs : List Spot) (s middle new : Shown) → Untouched n (x ∷ []) s middle → Untouched n xs middle new
+    → Untouched n (x ∷ xs) s new
+untouched_then n x xs s middle new one more = record {
+  desc = λ k is other. more.desc k is other.1 ∙ one.desc k is (other.0, tt);
+  avail = λ other. more.avail other.1 ∙ one.avail (other.0, tt);
+  entry = λ k is other. more.entry k is other.1 ∙ one.entry k is (other.0, tt);
+  used = λ other. more.used other.1 ∙ one.used (other.0, tt);
+  elem = λ k is other. more.elem k is other.1 ∙ one.elem k is (other.0, tt);
+  page = λ k c is few other. more.page k c is few other.1 ∙ one.page k c is few (other.0, tt);
+}
+
+pub untouched_both : (n : ℕ) (s middle new : Shown) → Untouched n [] s middle → Untouched n [] middle new → Untouched n [] s new
+untouched_both n s middle new one more = record {
+  desc = λ k is other. more.desc k is tt ∙ one.desc k is tt;
+  avail = λ other. more.avail tt ∙ one.avail tt;
+  entry = λ k is other. more.entry k is tt ∙ one.entry k is tt;
+  used = λ other. more.used tt ∙ one.used tt;
+  elem = λ k is other. more.elem k is tt ∙ one.elem k is tt;
+  page = λ k c is few other. more.page k c is few tt ∙ one.page k c is few tt;
+}
+
+pub untouched_same : (n : ℕ) (s new : Shown) → new ≡ s → Untouched n [] s new
+untouched_same n s new same = record {
+  desc = λ k is other. ap (λ (x : Shown). x.desc k) same;
+  avail = λ other. ap (λ (x : Shown). x.avail) same;
+  entry = λ k is other. ap (λ (x : Shown). x.entry k) same;
+  used = λ other. ap (λ (x : Shown). x.used) same;
+  elem = λ k is other. ap (λ (x : Shown). x.elem k) same;
+  page = λ k c is few other. ap (λ (x : Shown). x.page k c) same;
+}
+
+-- the same bytes are seen in the same way
+pub seen_same : (a : Areas) (at : ℕ) (m new : Memory) → new.base ≡ m.base → new.bytes ≡ m.bytes → shown a at new ≡ shown a at m
+seen_same a at m new base bytes =
+    ap₂ (λ (b : ℕ) (xs : List ℕ). shown a at (quiet b xs 0)) base bytes
+
+-- a write of bytes into a spot of one queue
+module _ (n : ℕ) (areas : Queue → Areas) (at : Queue → ℕ) (m : Memory) (laid : IsLaid n areas at m) where
+  from_spot : (q : Queue) (x : Spot) → IsSpot n x → m.base ≤ spot_at (areas q) (at q) x
+  from_spot q x is_x = by (within n (areas q) (at q) (laid.each q) (laid.behind q q) x is_x)
+    where
+      by : (((areas q).desc ≤ spot_at (areas q) (at q) x) × (spot_at (areas q) (at q) x + spot_len x ≤ (areas q).end))
+          ⊎ ((at q ≤ spot_at (areas q) (at q) x) × (spot_at (areas q) (at q) x + spot_len x ≤ at q + 4096 * n))
+          → m.base ≤ spot_at (areas q) (at q) x
+      by (inl (from, to)) = omega (arith, laid.low q, from)
+      by (inr (from, to)) = let e = laid.each q in omega (arith, laid.low q, laid.behind q q, e.avail, e.used, e.end, from)
+
+  to_spot : (q : Queue) (x : Spot) → IsSpot n x → spot_at (areas q) (at q) x + spot_len x ≤ m.base + length m.bytes
+  to_spot q x is_x = by (within n (areas q) (at q) (laid.each q) (laid.behind q q) x is_x)
+    where
+      by : (((areas q).desc ≤ spot_at (areas q) (at q) x) × (spot_at (areas q) (at q) x + spot_len x ≤ (areas q).end))
+          ⊎ ((at q ≤ spot_at (areas q) (at q) x) × (spot_at (areas q) (at q) x + spot_len x ≤ at q + 4096 * n))
+          → spot_at (areas q) (at q) x + spot_len x ≤ m.base + length m.bytes
+      by (inl (from, to)) = omega (arith, laid.high q, laid.behind q q, to)
+      by (inr (from, to)) = omega (arith, laid.high q, to)
+
+  -- spots of two queues are apart
+  across : (q r : Queue) → same_queue q r ≡ false → (x y : Spot) → IsSpot n x → IsSpot n y
+      → (spot_at (areas q) (at q) x + spot_len x ≤ spot_at (areas r) (at r) y) ⊎ (spot_at (areas r) (at r) y + spot_len y ≤ spot_at
+      (areas q) (at q) x)
+  across q r other x y is_x is_y =
+      by (within n (areas q) (at q) (laid.each q) (laid.behind q q) x is_x) (within n (areas r) (at r) (laid.each r) (laid.behind r r)
+      y is_y)
+    where
+      X : ℕ
+      X = spot_at (areas q) (at q) x
+
+      Y : ℕ
+      Y = spot_at (areas r) (at r) y
+
+      Goal : Type 0
+      Goal = (X + spot_len x ≤ Y) ⊎ (Y + spot_len y ≤ X)
+
+      by_areas : (X + spot_len x ≤ (areas q).end) → ((areas q).desc ≤ X) → (Y + spot_len y ≤ (areas r).end) → ((areas r).desc ≤ Y)
+          → ((areas q).end ≤ (areas r).desc) ⊎ ((areas r).end ≤ (areas q).desc) → Goal
+      by_areas to_x from_x to_y from_y (inl before) = inl (omega (arith, to_x, before, from_y))
+      by_areas to_x from_x to_y from_y (inr after) = inr (omega (arith, to_y, after, from_x))
+
+      by_pages : (X + spot_len x ≤ at q + 4096 * n) → (at q ≤ X) → (Y + spot_len y ≤ at r + 4096 * n) → (at r ≤ Y)
+          → (at q + 4096 * n ≤ at r) ⊎ (at r + 4096 * n ≤ at q) → Goal
+      by_pages to_x from_x to_y from_y (inl before) = inl (omega (arith, to_x, before, from_y))
+      by_pages to_x from_x to_y from_y (inr after) = inr (omega (arith, to_y, after, from_x))
+
+      by : (((areas q).desc ≤ X) × (X + spot_len x ≤ (areas q).end)) ⊎ ((at q ≤ X) × (X + spot_len x ≤ at q + 4096 * n))
+          → (((areas r).desc ≤ Y) × (Y + spot_len y ≤ (areas r).end)) ⊎ ((at r ≤ Y) × (Y + spot_len y ≤ at r + 4096 * n)) → Goal
+      by (inl (from_x, to_x)) (inl (from_y, to_y)) = by_areas to_x from_x to_y from_y (laid.areas_apart q r other)
+      by (inl (from_x, to_x)) (inr (from_y, to_y)) = inl (omega (arith, to_x, laid.behind q r, from_y))
+      by (inr (from_x, to_x)) (inl (from_y, to_y)) = inr (omega (arith, to_y, laid.behind r q, from_x))
+      by (inr (from_x, to_x)) (inr (from_y, to_y)) = by_pages to_x from_x to_y from_y (laid.pages_apart q r other)
+
+  module _ (q : Queue) (x : Spot) (is_x : IsSpot n x) (addr : ℕ) (bytes : List ℕ) (from : spot_at (areas q) (at q) x ≤ addr)
+      (to : addr + length bytes ≤ spot_at (areas q) (at q) x + spot_len x) where
+    abbrev new : Memory
+    new = after_write m addr bytes
+
+    pub low : m.base ≤ addr
+    low = omega (arith, from_spot q x is_x, from)
+
+    pub high : addr + length bytes ≤ m.base + length m.bytes
+    high = omega (arith, to_spot q x is_x, to)
+
+    -- what is read in a spot that is apart
+    unread : (r : Queue) (y : Spot) → IsSpot n y → (b k : ℕ) → spot_at (areas r) (at r) y ≤ b
+        → b + k ≤ spot_at (areas r) (at r) y + spot_len y
+        → (spot_at (areas q) (at q) x + spot_len x ≤ spot_at (areas r) (at r) y) ⊎ (spot_at (areas r) (at r) y + spot_len y ≤ spot_at
+        (areas q) (at q) x)
+        → bytes_at new b k ≡ bytes_at m b k
+    unread r y is_y b k from_b to_b beside =
+        kept m addr bytes b k low high (omega (arith, from_spot r y is_y, from_b))
+        (turned (inner (spot_at (areas q) (at q) x) (spot_len x) (spot_at (areas r) (at r) y) (spot_len y) addr (length bytes) b k
+        beside from to from_b to_b))
+      where
+        turned : (addr + length bytes ≤ b) ⊎ (b + k ≤ addr) → (b + k ≤ addr) ⊎ (addr + length bytes ≤ b)
+        turned (inl before) = inr before
+        turned (inr after) = inl after
+
+    own : (y : Spot) → IsSpot n y → Differs x y → (b k : ℕ) → spot_at (areas q) (at q) y ≤ b
+        → b + k ≤ spot_at (areas q) (at q) y + spot_len y
+        → bytes_at new b k ≡ bytes_at m b k
+    own y is_y other b k from_b to_b =
+        unread q y is_y b k from_b to_b (apart n (areas q) (at q) (laid.each q) (laid.behind q q) x y is_x is_y other)
+
+    pub untouched_own : Untouched n (x ∷ []) (shown (areas q) (at q) m) (shown (areas q) (at q) new)
+    untouched_own = record {
+      desc = λ k is other. ap desc_of (own (Describing k) is other.0 _ 16 (omega arith) (omega arith));
+      avail = λ other. ap (little_number 2) (own AvailIdx tt other.0 _ 2 (omega arith) (omega arith));
+      entry = λ k is other. ap (little_number 2) (own (Entry k) is other.0 _ 2 (omega arith) (omega arith));
+      used = λ other. ap (little_number 2) (own UsedIdx tt other.0 _ 2 (omega arith) (omega arith));
+      elem = λ k is other. ap used_elem_of (own (Elem k) is other.0 _ 8 (omega arith) (omega arith));
+      page = λ k c is few other. own (PageOf k) is other.0 _ c (omega arith) (omega (arith, few));
+    }
+
+    pub untouched_other : (r : Queue) → same_queue q r ≡ false → Untouched n [] (shown (areas r) (at r) m) (shown (areas r) (at r) new)
+    untouched_other r other = record {
+      desc = λ k is _. ap desc_of (unread r (Describing k) is _ 16 (omega arith) (omega arith) (across q r other x (Describing k) is_x is));
+      avail = λ _. ap (little_number 2) (unread r AvailIdx tt _ 2 (omega arith) (omega arith) (across q r other x AvailIdx is_x tt));
+      entry = λ k is _. ap (little_number 2) (unread r (Entry k) is _ 2 (omega arith) (omega arith) (across q r other x (Entry k) is_x is));
+      used = λ _. ap (little_number 2) (unread r UsedIdx tt _ 2 (omega arith) (omega arith) (across q r other x UsedIdx is_x tt));
+      elem = λ k is _. ap used_elem_of (unread r (Elem k) is _ 8 (omega arith) (omega arith) (across q r other x (Elem k) is_x is));
+      page = λ k c is few _. unread r (PageOf k) is _ c (omega arith) (omega (arith, few)) (across q r other x (PageOf k) is_x is);
+    }
+
+-- the pieces lie where they lay
+pub laid_same : (n : ℕ) (areas : Queue → Areas) (at : Queue → ℕ) (m new : Memory) → new.base ≡ m.base → length new.bytes ≡ length m.bytes
+    → IsLaid n areas at m → IsLaid n areas at new
+laid_same n areas at m new base size laid = record {
+  nonzero = laid.nonzero;
+  limit = laid.limit;
+  divides = laid.divides;
+  fits = omega (arith, base, size, laid.fits);
+  each = laid.each;
+  low = λ q. omega (arith, base, laid.low q);
+  behind = laid.behind;
+  high = λ q. omega (arith, base, size, laid.high q);
+  areas_apart = laid.areas_apart;
+  pages_apart = laid.pages_apart;
+}
+
+pub untouched_none : (n : ℕ) (xs : List Spot) (s : Shown) → Untouched n xs s s
+untouched_none n xs s = record {
+  desc = λ k is other. refl;
+  avail = λ other. refl;
+  entry = λ k is other. refl;
+  used = λ other. refl;
+  elem = λ k is other. refl;
+  page = λ k c is few other. refl;
+}

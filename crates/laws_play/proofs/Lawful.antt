@@ -1,0 +1,169 @@
+-- What holds of each play.
+use Rattle.std.proofs.Common.{◌≡◌, ℕ, true, List, [], ◌∷◌, ◌++◌, None, refl, sym, ap, subst, ◌∙◌, map, Ok}
+use Rattle.vs_flow.specs.{Connection.first_of, declared.flow.Flow.Flow}
+use Rattle.laws_history.specs.{History.puts, Packets.has, Packets.shuts_send}
+use Rattle.vs_driver_parts.specs.State.{DriverEntry}
+use Rattle.vs_device_parts.specs.State.{DeviceEntry}
+use Rattle.laws_tables.specs.{Both.Both, Both.at, Steps.HasEnd}
+use Rattle.laws_tables.proofs.Slots.{one_end}
+use Rattle.vs_outside.specs.{HostBytes.host_wrote, Host.HostContents, HostProgram.new_host, HostProgram.plain}
+use Rattle.laws_bytes.specs.Drains.{put_on}
+use Rattle.std.specs.List.{Contains}
+use Rattle.vs_page.specs.Log.{Device, Driver, Log, Role, history_of}
+use Rattle.vs_script.specs.{Play.Event, Script.Plays, Script.parse_of, Bounds.AreBounded}
+use Rattle.vs_report.specs.Report.{counts_text, device_open_text, guest_open_text, stream_texts}
+use Rattle.laws_world.specs.{Calls.sent_on, Events.is_at_rest, Events.is_guest_cid, Events.reset_made, Laws.IsEmptied, Pipes.IsFresh}
+use Rattle.laws_world.specs.{Sides.both_of, Sides.device_ends, Sides.driver_ends, Steps.Leads, World.World, World.first_cid}
+use Rattle.laws_world.proofs.{Bytes.wrote_is_put, CallRests.opening_rests, GuestLines.possible_is, Opening.opening_well, Opening.run_goes}
+use Rattle.laws_world.proofs.{ResetTables.device_emptied, ScriptLines.script_leads, ScriptLines.script_rests, Sound.Goes, Sound.IsWell}
+use Rattle.laws_world.proofs.Carried.{sent_stays, wrote_stays}
+use Rattle.vs_play.specs.{Answer.base_path, Answer.opened_play, Answer.texts_of, Answer.world_after, Lines.PlayWorld}
+use Rattle.laws_play.specs.Headline.{IsLawful, StaysShut, world_of}
+use Rattle.laws_play.proofs.{Shutting.IsShut, Shutting.is_shut, Shutting.run_shut, Unfailed.script_fine}
+use Rattle.laws_play.proofs.PlayLines.{after_both, cid_right, front_bounded, lines_of, lines_receive, lines_right, lines_send}
+use Rattle.laws_play.proofs.PlayLines.{rest_bounded, world_is}
+use Rattle.laws_play.proofs.Reached.{carries, holds_open, holds_rest, keeps_credit, log_is, many_device, many_guest, own_streams, queued}
+use Rattle.vs_script.proofs.Bounded.{all_bounded}
+use Rattle.vs_script.specs.Outside as outside
+use Rattle.vs_script.specs.Play as script
+use Rattle.vs_script.specs.declared.script.Command.TheVariants as command
+
+-- A play's host has no streams at first.
+abbrev play_host : HostContents
+play_host = (new_host base_path [] plain).contents
+
+abbrev Fresh : Type 0
+Fresh = IsFresh play_host
+
+fresh : Fresh
+fresh = record { streams = refl; labelled = refl }
+
+-- Lines lead from a world in which nothing is staged to another.
+lines_rest : (es : List Event) (p : PlayWorld) → is_at_rest p.world.rings.driver.staged ≡ true
+    → is_at_rest (world_after es p).world.rings.driver.staged ≡ true
+lines_rest es p rest = subst (λ (w : World). is_at_rest w.rings.driver.staged
+    ≡ true) (sym (world_is es p)) (script_rests (lines_of es p) p.world rest)
+
+lines_lead : (es : List Event) (p : PlayWorld) → is_at_rest p.world.rings.driver.staged ≡ true → AreBounded es
+    → Leads p.world (world_after es p).world
+lines_lead es p rest bounded = subst (Leads p.world) (sym (world_is es p)) (script_leads (lines_of es p) p.world rest
+    (lines_right es p bounded))
+
+lines_go : (es : List Event) (p : PlayWorld) → is_at_rest p.world.rings.driver.staged ≡ true → AreBounded es → IsWell Fresh p.world
+    → Goes Fresh p.world (world_after es p).world
+lines_go es p rest bounded well =
+    let leads = lines_lead es p rest bounded in subst (Goes Fresh p.world) leads.1 (run_goes Fresh leads.0 p.world well)
+
+lines_fine : (es : List Event) (p : PlayWorld) → is_at_rest p.world.rings.driver.staged ≡ true → AreBounded es → IsWell Fresh p.world
+    → p.world.proxy.device.failed ≡ None → (world_after es p).world.proxy.device.failed ≡ None
+lines_fine es p rest bounded well fine = subst (λ (w : World). w.proxy.device.failed ≡ None) (sym (world_is es p))
+    (script_fine Fresh (lines_of es p) p.world rest well (lines_right es p bounded) fine)
+
+module _ (w v : World) (f : Flow) (well : IsWell Fresh w) (goes : Goes Fresh w v) where
+  -- What an end put stays from its decision on that it sends no more.
+  decided_put : (role : Role) → IsShut role first_cid f (at role (both_of w)).part (at role (both_of w)).log
+      → put_on role f (at role (both_of v)).log ≡ put_on role f (at role (both_of w)).log
+  decided_put role x = subst (λ (b : Both). put_on role f (at role b).log ≡ put_on role f (at role (both_of w)).log) goes.runs.ends
+      (run_shut role first_cid f goes.runs.steps (both_of w) well.sound well.once goes.runs.may goes.runs.anew x)
+
+  guest_decided : (e : DriverEntry) → Contains w.driver.table.entries e → e.flow ≡ f → e.value.end.own.send ≡ true
+      → sent_on f v.journal ≡ sent_on f w.journal
+  guest_decided e there own shut =
+      goes.well.sent f
+      ∙ decided_put Driver (is_shut Driver first_cid f (driver_ends w.driver) (both_of w).driver.log e.value.end
+      (well.sound.matches Driver).flows
+      (subst (λ (g : Flow). HasEnd g e.value.end (driver_ends w.driver)) own (one_end
+      (λ c. c.end) w.driver.table e well.driver.sound there)) shut)
+      ∙ sym (well.sent f)
+
+  device_decided : (e : DeviceEntry) → Contains w.proxy.device.table.entries e → e.flow ≡ f → e.value.end.own.send ≡ true
+      → host_wrote (first_of f) v.host ≡ host_wrote (first_of f) w.host
+  device_decided e there own shut =
+      sym (wrote_is_put v.host _ _ _ _ (goes.well.streams fresh) f)
+      ∙ decided_put Device (is_shut Device first_cid f (device_ends w.proxy) (both_of w).device.log e.value.end
+      (well.sound.matches Device).flows
+      (subst (λ (g : Flow). HasEnd g e.value.end (device_ends w.proxy)) own (one_end
+      (λ c. c.end) w.proxy.device.table e well.device.sound there)) shut)
+      ∙ wrote_is_put w.host _ _ _ _ (well.streams fresh) f
+
+  stays_shut : is_at_rest w.rings.driver.staged ≡ true → StaysShut f w v
+  stays_shut rest = record {
+    sent = λ shut. sent_stays w v well goes f
+        (ap (λ (log : Log). has shuts_send (puts (history_of Driver f log))) (log_is w well fresh rest) ∙ shut);
+    wrote = wrote_stays w v well goes f fresh;
+    guest_shut = guest_decided;
+    stream_ended = device_decided;
+  }
+
+-- The report, with other names for its numbers.
+says_so : (texts streams : List (List ℕ)) (g g' d d' dropped o b faults : ℕ) → g ≡ g' → d ≡ d' → o ≡ 0 → b ≡ 0
+    → texts ++ (guest_open_text g ∷ device_open_text d ∷ (streams ++ counts_text dropped o b faults ∷ []))
+    ≡ texts ++ (guest_open_text g' ∷ device_open_text d' ∷ (streams ++ counts_text dropped 0 0 faults ∷ []))
+says_so texts streams g g' d d' dropped o b faults gs ds none nor = rw gs (rw ds (rw none (rw nor refl)))
+
+module _ (n : ℕ) where
+  at_rest : is_at_rest (opened_play n).world.rings.driver.staged ≡ true
+  at_rest = opening_rests n play_host
+
+  world_rests : (es : List Event) → is_at_rest (world_of n es).rings.driver.staged ≡ true
+  world_rests es = lines_rest es (opened_play n) at_rest
+
+  world_well : (es : List Event) → AreBounded es → IsWell Fresh (world_of n es)
+  world_well es bounded = (lines_go es (opened_play n) at_rest bounded (opening_well n play_host)).well
+
+  world_fine : (es : List Event) → AreBounded es → (world_of n es).proxy.device.failed ≡ None
+  world_fine es bounded = lines_fine es (opened_play n) at_rest bounded (opening_well n play_host) refl
+
+  shut_both : (es more : List Event) (f : Flow) → AreBounded (es ++ more) → StaysShut f (world_of n es) (world_of n (es ++ more))
+  shut_both es more f bounded =
+      let p = world_after es (opened_play n) in
+      let well = world_well es (front_bounded es more bounded) in
+      subst (λ (q : PlayWorld). StaysShut f p.world q.world) (sym (after_both es more (opened_play n)))
+      (stays_shut p.world (world_after more p).world f well (lines_go more p (world_rests es) (rest_bounded es more bounded) well)
+      (world_rests es))
+
+  emptied_after : (es more : List Event) (cid : ℕ) → AreBounded (es ++ script.Around (outside.Reset cid) ∷ more)
+      → IsEmptied (world_of n (es ++ script.Around (outside.Reset cid) ∷ [])).proxy
+  emptied_after es more cid bounded =
+      let p = world_after es (opened_play n) in
+      let b = (rest_bounded es (script.Around (outside.Reset cid) ∷ more) bounded).0 in
+      let right = cid_right cid b.0 b.1 in
+      let fine = world_fine es (front_bounded es (script.Around (outside.Reset cid) ∷ more) bounded) in
+      subst (λ (q : PlayWorld). IsEmptied q.world.proxy) (sym (after_both es (script.Around (outside.Reset cid) ∷ []) (opened_play n)))
+      (subst (λ (v : World). IsEmptied v.proxy) (possible_is (is_guest_cid cid) (reset_made cid) p.world right)
+      (device_emptied cid p.world right fine))
+
+  pub each_play : (lines : List Event) → AreBounded lines → IsLawful n lines
+  each_play lines bounded =
+      let w = world_of n lines in
+      let well = world_well lines bounded in
+      let rest = world_rests lines in
+      record {
+        events = lines_lead lines (opened_play n) at_rest bounded;
+        bytes = λ f. carries w well fresh rest f;
+        rest = holds_rest w well fresh rest;
+        streams = own_streams w well fresh rest;
+        answers = record {
+          sent = λ f. lines_send lines (opened_play n) f;
+          received = λ f. lines_receive lines (opened_play n) f;
+          send_printed = λ before after id content is. refl;
+          recv_printed = λ before after id len is. refl;
+        };
+        shut = λ before more f is.
+            subst (λ (es : List Event). StaysShut f (world_of n before) (world_of n es)) (sym is)
+            (shut_both before more f (subst AreBounded is bounded));
+        tables = holds_open w well fresh rest;
+        reset = λ before more cid is. emptied_after before more cid (subst AreBounded is bounded);
+        unfailed = world_fine lines bounded;
+        credit = keeps_credit w well fresh rest;
+        queues = queued w well fresh rest;
+        report =
+            says_so (texts_of lines (opened_play n))
+            (stream_texts 1 w.host.streams) _ _ _ _ w.proxy.device.dropped _ _ w.proxy.device.faults
+            (many_guest w well fresh rest) (many_device w well fresh rest) well.overrun well.broken;
+      }
+
+-- And of each script.
+pub each_script : (n : ℕ) (text : List ℕ) (lines : List (ℕ × Event)) → parse_of command.Play text ≡ Ok (Plays lines)
+    → IsLawful n (map (λ l. l.1) lines)
+each_script n text lines is = each_play n (map (λ l. l.1) lines) (all_bounded text lines is)

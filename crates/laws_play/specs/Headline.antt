@@ -1,0 +1,176 @@
+-- What holds of each play: bytes arrive in order and on their own connection alone, the tables hold just the connections left open, and
+-- nobody exceeds the credit that the peer gave (Virtio 1.2, section 5.10.6).
+use Rattle.std.specs.Prelude.{◌≡◌, ◌≢◌, ℕ, ◌+◌, ◌≤◌, ◌||◌, Bool, true, false, List, [], ◌∷◌, ◌++◌, length, Some, None, All, AllPairs}
+use Rattle.std.specs.Prelude.{Contains}
+use Rattle.vs_flow.specs.{declared.flow.Flow.Flow, Connection.first_of}
+use Rattle.vs_limits.specs.declared.TheConstants.{BUF_ALLOC}
+use Rattle.laws_history.specs.History.{History, Put, gots, puts}
+use Rattle.laws_history.specs.Packets.{allowance, bytes, has, is_rst, shuts_send, size}
+use Rattle.laws_history.specs.declared.packet.Packet.{Packet}
+use Rattle.vs_page.specs.{Log.Device, Log.Driver, Log.HasGotAll, Log.Log, Log.Role, Log.history_of, Open.WasOpened, Open.is_open}
+use Rattle.vs_page.specs.Fair.{IsFairLog, IsPrefixOf, payload_got, payload_put}
+use Rattle.vs_driver_parts.specs.State.{DriverEntry}
+use Rattle.vs_device_parts.specs.State.{DeviceEntry}
+use Rattle.laws_tables.specs.Ends.{begun_flows, flows_of, is_among, new_flows, replied}
+use Rattle.vs_outside.specs.HostBytes.{host_read, host_wrote, read_after_ok, wrote_after_connect}
+use Rattle.vs_outside.specs.Host.{Stream, stream_at}
+use Rattle.laws_bytes.specs.{Drains.Drains, Drains.receives, Streamed.gives, Streamed.line_for}
+use Rattle.vs_script.specs.{Data.Content, Play.Event}
+use Rattle.vs_report.specs.Report.{counts_text, device_open_text, guest_open_text, stream_texts}
+use Rattle.vs_report.specs.GuestLines.{recv_text, send_text}
+use Rattle.laws_world.specs.{Calls.received_on, Calls.sent_on, Laws.IsEmptied, Sides.device_ends, Sides.driver_ends, Steps.Leads}
+use Rattle.laws_world.specs.World.{World, first_cid}
+use Rattle.vs_play.specs.{Answer.opened_play, Answer.printed, Answer.texts_of, Answer.world_after, Lines.event_played}
+use Rattle.laws_play.specs.Said.{received_in, recv_answer, recv_bytes, send_answer, sent_in}
+use Rattle.vs_script.specs.Outside as outside
+use Rattle.vs_script.specs.Play as script
+
+-- The world that lines lead to, over queues of n pages; and in it the log of each end, the flows of each table, and the flows to which
+-- an RST is owed as a reply.
+abbrev pub world_of : ℕ → List Event → World
+world_of n lines = (world_after lines (opened_play n)).world
+
+abbrev pub driver_log : World → Log
+driver_log w = w.rings.driver.entries
+
+abbrev pub device_log : World → Log
+device_log w = w.rings.device.entries
+
+abbrev pub guest_flows : World → List Flow
+guest_flows w = flows_of (driver_ends w.driver).entries
+
+abbrev pub device_flows : World → List Flow
+device_flows w = flows_of (device_ends w.proxy).entries
+
+abbrev pub guest_replies : World → List Flow
+guest_replies w = replied (driver_ends w.driver).replies
+
+abbrev pub device_replies : World → List Flow
+device_replies w = replied (device_ends w.proxy).replies
+
+-- Bytes of a connection, in order, both ways. The host's program wrote behind a CONNECT line, and reads behind an OK line.
+pub record Carries (w : World) (f : Flow) : Type 0 where
+  -- What the guest received is a prefix of what the host's program wrote.
+  pub to_guest : IsPrefixOf (received_on f w.journal) (host_wrote (first_of f) w.host)
+  -- What the host's program read is a prefix of what the guest sent.
+  pub to_host : IsPrefixOf (host_read (first_of f) w.host) (sent_on f w.journal)
+  -- On the way to the guest: what was taken of the stream is the payload that the device put, the driver got a prefix of that, and the
+  -- guest received a prefix of what its driver got.
+  pub device_put : payload_put Device (first_of f) (device_log w) ≡ host_wrote (first_of f) w.host
+  pub driver_got : IsPrefixOf (payload_got Driver (first_of f) (driver_log w)) (payload_put Device (first_of f) (device_log w))
+  pub received : IsPrefixOf (received_on f w.journal) (payload_got Driver (first_of f) (driver_log w))
+  -- On the way to the host: what the sends took is the payload that the driver put, the device got a prefix of that, and the stream was
+  -- given a prefix of what the device got.
+  pub driver_put : payload_put Driver (first_of f) (driver_log w) ≡ sent_on f w.journal
+  pub device_got : IsPrefixOf (payload_got Device (first_of f) (device_log w)) (payload_put Driver (first_of f) (driver_log w))
+  pub given : IsPrefixOf (host_read (first_of f) w.host) (payload_got Device (first_of f) (device_log w))
+
+-- What is still unread of a connection comes next: at the guest of the payload that its driver got, at the device of what it owes the
+-- stream; and it is all that is left, while the connection takes payload.
+pub record HoldsTheRest (w : World) : Type 0 where
+  pub unread : All (λ e. Drains (receives e.value.end) (received_on e.flow w.journal) e.value.unread
+      (payload_got Driver (first_of e.flow) (driver_log w))) w.driver.table.entries
+  -- Of a connection that is gone.
+  pub gone : All (λ g. IsPrefixOf (received_on g.flow w.journal ++ g.unread) (payload_got Driver (first_of g.flow) (driver_log w))) w.driver.gone
+  pub pending : All (λ e. (s : Stream) × (stream_at e.value.stream w.host ≡ Some s) × (s.label ≡ Some e.flow)
+      × Drains (gives e.value.end) s.given (e.value.ok_line ++ e.value.pending)
+      (line_for e.flow ++ payload_got Device (first_of e.flow) (device_log w))) w.proxy.device.table.entries
+
+-- A stream is of one connection, no other stream is of that one, and what the report shows of it is what the host wrote and read there.
+pub record HasOwnStreams (w : World) : Type 0 where
+  pub one : (f : Flow) (i j : ℕ) (s t : Stream) → stream_at i w.host ≡ Some s → stream_at j w.host ≡ Some t → s.label ≡ Some f
+      → t.label ≡ Some f → i ≡ j
+  pub wrote : (f : Flow) (i : ℕ) (s : Stream) → stream_at i w.host ≡ Some s → s.label ≡ Some f
+      → wrote_after_connect s ≡ host_wrote (first_of f) w.host
+  pub read : (f : Flow) (i : ℕ) (s : Stream) → stream_at i w.host ≡ Some s → s.label ≡ Some f
+      → read_after_ok s ≡ host_read (first_of f) w.host
+
+-- The bytes of the journal are those that the lines' answers say.
+pub record IsAsPrinted (n : ℕ) (lines : List Event) : Type 0 where
+  pub sent : (f : Flow) → sent_on f (world_of n lines).journal ≡ sent_in f lines (opened_play n)
+  pub received : (f : Flow) → received_on f (world_of n lines).journal ≡ received_in f lines (opened_play n)
+  -- These answers are printed.
+  pub send_printed : (before after : List Event) (id : ℕ) (content : Content) → lines ≡ before ++ script.Send id content ∷ after
+      → let p = world_after before (opened_play n) in (event_played (script.Send id content) p).1 ≡ send_text (send_answer id content p)
+  pub recv_printed : (before after : List Event) (id len : ℕ) → lines ≡ before ++ script.Recv id len ∷ after
+      → let p = world_after before (opened_play n) in
+      (event_played (script.Recv id len) p).1 ≡ recv_text (recv_answer id len p) (recv_bytes id len p)
+
+-- Shutting is for good: where an end decided before that it sends no more, or told so, what its writer wrote is what it was then. The guest
+-- decides so by a shutdown, and the device once its stream ended.
+pub record StaysShut (f : Flow) (before w : World) : Type 0 where
+  pub sent : has shuts_send (puts (history_of Driver f (driver_log before))) ≡ true → sent_on f w.journal ≡ sent_on f before.journal
+  pub wrote : has shuts_send (puts (history_of Device f (device_log before))) ≡ true
+      → host_wrote (first_of f) w.host ≡ host_wrote (first_of f) before.host
+  pub guest_shut : (e : DriverEntry) → Contains before.driver.table.entries e → e.flow ≡ f → e.value.end.own.send ≡ true
+      → sent_on f w.journal ≡ sent_on f before.journal
+  pub stream_ended : (e : DeviceEntry) → Contains before.proxy.device.table.entries e → e.flow ≡ f → e.value.end.own.send ≡ true
+      → host_wrote (first_of f) w.host ≡ host_wrote (first_of f) before.host
+
+-- These flows are just those that pass a test, each once.
+pub record AreJust (test : Flow → Bool) (flows : List Flow) : Type 0 where
+  pub distinct : AllPairs (λ f g. f ≢ g) flows
+  pub these : (f : Flow) → is_among f flows ≡ test f
+
+-- Each table holds just the connections that its end's log left open. The device's has those of the host's clients too whose REQUEST isn't
+-- put yet.
+pub record HoldsOpen (w : World) : Type 0 where
+  pub guest : AreJust (λ f. is_open Driver first_cid f (driver_log w) (is_among f (guest_replies w))) (guest_flows w)
+  pub device : AreJust (λ f. is_open Device first_cid f (device_log w) (is_among f (device_replies w))
+      || is_among f (new_flows (device_ends w.proxy).entries)) (device_flows w)
+  -- None is from before a transport reset: each was opened by an entry of the log after which stands no reset, and no RST of its flow.
+  pub guest_since : (f : Flow) → is_among f (guest_flows w) ≡ true → WasOpened Driver first_cid f (driver_log w)
+  pub device_since : (f : Flow) → is_among f (begun_flows (device_ends w.proxy).entries) ≡ true
+      → WasOpened Device first_cid f (device_log w)
+
+-- A transport reset leaves the device's table, its owed replies and its handshakes empty.
+abbrev pub EmptiesDevice : ℕ → List Event → Type 0
+EmptiesDevice n lines = (before after : List Event) (cid : ℕ) → lines ≡ before ++ script.Around (outside.Reset cid) ∷ after
+    → IsEmptied (world_of n (before ++ script.Around (outside.Reset cid) ∷ [])).proxy
+
+-- At each packet that an end put on a connection, RST aside, the payload put so far is within the credit that the newest packet got gives:
+-- what its sender forwarded, and its buffer space.
+abbrev pub PutsWithinCredit : Role → Log → Type 0
+PutsWithinCredit role log = (f : Flow) (newer older : History) (p : Packet) → history_of role f log ≡ newer ++ Put p ∷ older
+    → is_rst p ≡ false → bytes (puts older) + size p ≤ allowance (gots older)
+
+-- No end exceeds the credit that its peer gave, and both logs are fair in all else. So no end holds more than its buffer space of a
+-- connection, no payload came beyond the room for it, and no packet of a connection was refused by the guest.
+pub record KeepsCredit (w : World) : Type 0 where
+  pub guest : PutsWithinCredit Driver (driver_log w)
+  pub device : PutsWithinCredit Device (device_log w)
+  pub driver_fair : IsFairLog Driver (driver_log w)
+  pub device_fair : IsFairLog Device (device_log w)
+  pub unread : All (λ e. length e.value.unread ≤ BUF_ALLOC) w.driver.table.entries
+  pub pending : All (λ e. length e.value.pending ≤ BUF_ALLOC) w.proxy.device.table.entries
+  pub broken : w.driver.broken ≡ 0
+  pub overrun : w.proxy.device.overrun ≡ 0
+
+-- What each end got, packets and events, is what the other put first.
+pub record IsQueued (w : World) : Type 0 where
+  pub to_guest : HasGotAll (driver_log w) (device_log w)
+  pub to_host : HasGotAll (device_log w) (driver_log w)
+
+-- The report counts just the connections of the tables. It tells of no payload beyond the room for it, and of no packet that broke a
+-- connection of the guest.
+abbrev pub Reports : ℕ → List Event → Type 0
+Reports n lines = let w = world_of n lines in printed n lines ≡ texts_of lines (opened_play n)
+    ++ guest_open_text (length (guest_flows w)) ∷ device_open_text (length (device_flows w))
+    ∷ (stream_texts 1 w.host.streams ++ counts_text w.proxy.device.dropped 0 0 w.proxy.device.faults ∷ [])
+
+-- A play of these lines, over queues of n pages.
+pub record IsLawful (n : ℕ) (lines : List Event) : Type 0 where
+  -- It is one of the world's runs: calls of the guest's, steps of driver and device, the host's programs, in some order.
+  pub events : Leads (opened_play n).world (world_of n lines)
+  pub bytes : (f : Flow) → Carries (world_of n lines) f
+  pub rest : HoldsTheRest (world_of n lines)
+  pub streams : HasOwnStreams (world_of n lines)
+  pub answers : IsAsPrinted n lines
+  pub shut : (before after : List Event) (f : Flow) → lines ≡ before ++ after → StaysShut f (world_of n before) (world_of n lines)
+  pub tables : HoldsOpen (world_of n lines)
+  pub reset : EmptiesDevice n lines
+  -- The device's ring never failed.
+  pub unfailed : (world_of n lines).proxy.device.failed ≡ None
+  pub credit : KeepsCredit (world_of n lines)
+  pub queues : IsQueued (world_of n lines)
+  pub report : Reports n lines

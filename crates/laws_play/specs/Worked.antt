@@ -1,0 +1,90 @@
+-- Worked examples: what the laws say of two scripts, computed.
+use Rattle.std.specs.Prelude.{ℕ, Bool, true, false, List, [], map, codes, Result, Ok}
+use Rattle.vs_limits.specs.declared.TheConstants.{ASSIGNED_FIRST}
+use Rattle.vs_flow.specs.{declared.flow.Flow.Flow, Connection.first_of, Flow.host_flow}
+use Rattle.vs_outside.specs.HostBytes.{host_read, host_wrote}
+use Rattle.vs_page.specs.{Fair.payload_got, Fair.payload_put, Log.Device, Log.Driver, Open.is_open}
+use Rattle.laws_tables.specs.Ends.{is_among}
+use Rattle.vs_script.specs.{Play.Event, Script.Saying, Script.Plays, Script.parse_of, declared.fault.Refused.Refused}
+use Rattle.laws_world.specs.World.{World, first_cid}
+use Rattle.vs_play.specs.Answer.{opened_play}
+use Rattle.laws_play.specs.Headline.{device_flows, device_log, driver_log, guest_flows, guest_replies, world_of}
+use Rattle.laws_play.specs.Said.{received_in, sent_in}
+use Rattle.vs_script.specs.declared.script.Command.TheVariants as command
+
+-- The lines that a text spells, where it is a script of a play.
+abbrev pub lines_said : Result Saying Refused → List Event
+lines_said (Ok (Plays lines)) = map (λ l. l.1) lines
+lines_said _ = []
+
+abbrev pub lines_in : List ℕ → List Event
+lines_in text = lines_said (parse_of command.Play text)
+
+-- The bytes of a connection from where they are sent to where they are read, both ways, and whether the driver's log left it open.
+pub record Told : Type 0 where
+  pub sent : List ℕ
+  pub driver_put : List ℕ
+  pub device_got : List ℕ
+  pub read : List ℕ
+  pub wrote : List ℕ
+  pub device_put : List ℕ
+  pub driver_got : List ℕ
+  pub received : List ℕ
+  pub left_open : Bool
+
+abbrev pub told_of : List Event → Flow → World → Told
+told_of lines f w = record {
+  sent = sent_in f lines (opened_play 64);
+  driver_put = payload_put Driver (first_of f) (driver_log w);
+  device_got = payload_got Device (first_of f) (device_log w);
+  read = host_read (first_of f) w.host;
+  wrote = host_wrote (first_of f) w.host;
+  device_put = payload_put Device (first_of f) (device_log w);
+  driver_got = payload_got Driver (first_of f) (driver_log w);
+  received = received_in f lines (opened_play 64);
+  left_open = is_open Driver first_cid f (driver_log w) (is_among f (guest_replies w));
+}
+
+abbrev pub told_on : List ℕ → Flow → Told
+told_on text f = told_of (lines_in text) f (world_of 64 (lines_in text))
+
+-- A client of the host writes `abc`, and the guest answers `x`.
+abbrev pub client_flow : Flow
+client_flow = host_flow 1234 ASSIGNED_FIRST
+
+abbrev pub client_told : Told
+client_told = record {
+  sent = codes "x";
+  driver_put = codes "x";
+  device_got = codes "x";
+  read = codes "x";
+  wrote = codes "abc";
+  device_put = codes "abc";
+  driver_got = codes "abc";
+  received = codes "abc";
+  left_open = true;
+}
+
+-- The host writes `x` on the first of two connections. The device reads it and puts it, and then a transport reset ends both: the guest
+-- received nothing, and of three connections the one that was opened after the reset is open.
+abbrev pub first_flow : Flow
+first_flow = host_flow 1024 52
+
+abbrev pub last_flow : Flow
+last_flow = host_flow 1026 52
+
+abbrev pub first_told : Told
+first_told = record {
+  sent = [];
+  driver_put = [];
+  device_got = [];
+  read = [];
+  wrote = codes "x";
+  device_put = codes "x";
+  driver_got = codes "x";
+  received = [];
+  left_open = false;
+}
+
+abbrev pub flows_after : List ℕ → List Flow × List Flow
+flows_after text = let w = world_of 64 (lines_in text) in (guest_flows w, device_flows w)

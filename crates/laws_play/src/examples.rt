@@ -1,0 +1,13 @@
+//! Worked examples: what the laws of plays say of scripts, as their definitions compute it.
+
+ghost use Rattle.std.specs.Prelude.{◌≡◌, [], ◌∷◌};
+ghost use Rattle.vs_play.specs.Examples.{client, resets};
+ghost use Rattle.laws_play.specs.Worked.{client_flow, client_told, first_flow, first_told, flows_after, last_flow, told_on};
+
+/// A client of the host that talks with the guest, and a transport reset: the bytes of connections both ways, and the flows of both tables.
+pub fn worked_examples()
+    ensures client { told_on client client_flow ≡ client_told }
+    ensures client_tables { flows_after client ≡ (client_flow ∷ [], client_flow ∷ []) }
+    ensures resets { told_on resets first_flow ≡ first_told }
+    ensures reset_tables { flows_after resets ≡ (last_flow ∷ [], last_flow ∷ []) }
+{}

@@ -1,0 +1,10 @@
+-- Where a ring tells the device's log: the proxy and its ring.
+use Rattle.std.specs.Prelude.{ℕ, ◌≤◌}
+use Rattle.vs_limits.specs.declared.TheConstants.{ASSIGNED_FIRST}
+use Rattle.vs_ring_port.specs.Contents.{RingContents}
+use Rattle.laws_device.specs.Honest.{IsWith}
+use Rattle.vs_proxy_parts.specs.State.{ProxyState}
+
+-- The proxy's device is with the ring, and its next host port is the next one that the device assigns.
+abbrev pub IsProxyWith : ℕ → ProxyState → RingContents → Type 0
+IsProxyWith first s c = (ASSIGNED_FIRST ≤ s.next_port) × IsWith first s.next_port s.device c

@@ -1,0 +1,36 @@
+//! Laws of the proxy over a ring that tells the device's log.
+
+ghost use Rattle.std.specs.Prelude.{◌<◌, ◌^◌, ℕ, List, Result};
+ghost use Rattle.vs_ring_port.specs.Contents.{RingContents};
+ghost use Rattle.vs_ring_port.specs.declared.failure.Failure.{Failure};
+ghost use Rattle.vs_device_parts.specs.{Calls.Situation, Playing.MayRun, Playing.Runs};
+ghost use Rattle.laws_device_streams.specs.Streams.{FindsStreams};
+ghost use Rattle.laws_device.specs.Honest.{IsFresh};
+ghost use Rattle.vs_proxy_parts.specs.{Handshakes.streams_of, State.ProxyState, Turns.new_proxy, Turns.proxy_reset_of, Turns.turn_of};
+ghost use Rattle.vs_proxy_parts.specs.declared.answers.Turn.{Turn};
+ghost use Rattle.laws_proxy.specs.{Honest.IsProxyWith, Order.IsInOrder};
+
+/// Over a ring that tells its log a turn and a reset leave the proxy with its ring: the device holds the one chain that it keeps for the
+/// next packet, and over an honest ring its connections are those that the log left. Each packet of a turn keeps the log fair, so a turn
+/// may be made where the streams are open (Virtio 1.2, section 5.10.6.3).
+pub fn law_of_turns()
+    ensures new { (cid : ℕ) (base : List ℕ) (c : RingContents) → cid < 2 ^ 64 → IsFresh c → IsProxyWith cid (new_proxy cid base) c }
+    ensures turn_may { (first size now : ℕ) (s : ProxyState) (a : Situation) → FindsStreams (streams_of s) s.device a
+        → IsProxyWith first s a.ring → MayRun (turn_of size now s) a }
+    ensures turn { (first size now : ℕ) (s : ProxyState) (a b : Situation) (x : ProxyState × Turn) → IsProxyWith first s a.ring
+        → Runs (turn_of size now s) a x b → IsProxyWith first x.0 b.ring }
+    ensures reset { (first cid : ℕ) (s : ProxyState) (a b : Situation) (x : ProxyState × Result (Unit {0}) Failure) → cid < 2 ^ 64
+        → IsProxyWith first s a.ring → Runs (proxy_reset_of cid s) a x b → IsProxyWith first x.0 b.ring }
+{}
+
+/// A new proxy is in order, with rings on which nothing passed. One that is in order may make a turn and a reset, over any ring that tells its
+/// log or tells nothing and any host that exposes its streams or nothing, and is in order after it.
+pub fn law_of_order()
+    ensures new { (cid : ℕ) (base : List ℕ) (a : Situation) → cid < 2 ^ 64 → IsFresh a.ring → IsInOrder cid (new_proxy cid base) a }
+    ensures turn_may { (first size now : ℕ) (s : ProxyState) (a : Situation) → IsInOrder first s a → MayRun (turn_of size now s) a }
+    ensures turn { (first size now : ℕ) (s : ProxyState) (a b : Situation) (x : ProxyState × Turn) → IsInOrder first s a
+        → Runs (turn_of size now s) a x b → IsInOrder first x.0 b }
+    ensures reset_may { (first cid : ℕ) (s : ProxyState) (a : Situation) → IsInOrder first s a → MayRun (proxy_reset_of cid s) a }
+    ensures reset { (first cid : ℕ) (s : ProxyState) (a b : Situation) (x : ProxyState × Result (Unit {0}) Failure) → cid < 2 ^ 64
+        → IsInOrder first s a → Runs (proxy_reset_of cid s) a x b → IsInOrder first x.0 b }
+{}

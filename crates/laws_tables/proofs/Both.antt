@@ -1,0 +1,243 @@
+-- Each step at either seat keeps both sound.
+use Rattle.std.proofs.Common.{◌≡◌, ℕ, Bool, true, false, if◌then◌else◌, List, [], ◌∷◌, refl, sym, ap, ◌∙◌}
+use Rattle.vs_conn.specs.{End.ConnectionEnd, End.is_refused, End.verdict_of, Follows.Follows, Follows.IsTaken}
+use Rattle.vs_conn.proofs.Steps.{abort_follows, ask_follows, forward_follows, grow_follows, shut_follows}
+use Rattle.laws_history.specs.{History.Side, History.gots, History.puts, Packets.IsFormed, Packets.is_request, Packets.is_rst}
+use Rattle.laws_history.specs.declared.packet.Packet.{Packet}
+use Rattle.vs_page.specs.{Fair.IsFairLog, Open.is_dropped}
+use Rattle.vs_page.specs.Log.{Driver, Device, HasGotAll, IsNextPacket, Log, Role, flow_got, other_role, side_of}
+use Rattle.vs_page.specs.declared.log.LogEntry.TheVariants.{GotEvent, GotPacket, Mark, PutEvent, PutPacket}
+use Rattle.vs_limits.specs.declared.TheConstants.{HOST_CID}
+use Rattle.vs_page.proofs.Entries.{next_fair}
+use Rattle.laws_tables.specs.{Ends.Ends, Ends.answer_kind, Ends.ends_of, Heard.IsInOrder, Heard.heard_of, Matches.Matches}
+use Rattle.laws_tables.specs.Both.{Aborts, Asks, Both, Decides, Decision, Forwards, Grows, Happening, IsSound, MakesReset, MayDecide}
+use Rattle.laws_tables.specs.Both.{MayHappen, MayRun, Opens, Pays, PutsEvent, Replies, Seat, Sends, Shuts, Step, Takes, Forgets, TakesEvent}
+use Rattle.laws_tables.specs.Both.{TakesReset, WantsCredit, after, after_packet, answered, at, decided, happens, run, start, with_seat}
+use Rattle.laws_tables.specs.Steps.{HasEnd, is_overrun, owed_on, payload_on, reply_on, request_on}
+use Rattle.vs_limits.specs.declared.TheConstants.{HOST_CID}
+use Rattle.laws_tables.proofs.Fair.{got_formed, got_in_order, got_is_taken, got_not_refused, heard_all}
+use Rattle.laws_tables.proofs.Keeps.{accepts, asks, changes, drops, has_room, ignores, makes_reset, named_kind, opens, opens_fair, pays}
+use Rattle.laws_tables.proofs.Keeps.{pays_fair, puts_event, refuses, replies, replies_fair, sends, sends_fair, start_matches, takes}
+use Rattle.laws_tables.proofs.Keeps.{takes_event, forgets, takes_reset}
+use Rattle.laws_tables.proofs.Tables.{only_end}
+
+by_role : (P : Role → Type 0) → P Driver → P Device → (role : Role) → P role
+by_role P a b Driver = a
+by_role P a b Device = b
+
+-- One seat by itself.
+record IsKept (role : Role) (first : ℕ) (w : Seat) : Type 0 where
+  matches : Matches role first w.part w.log
+  fair : IsFairLog role w.log
+
+-- What the other seat got of this one.
+pub tie_back : (role : Role) (first : ℕ) (b : Both) → IsSound first b → HasGotAll (at (other_role role) b).log (at role b).log
+tie_back Driver first b s = s.ties Device
+tie_back Device first b s = s.ties Driver
+
+sound_with : (role : Role) (first : ℕ) (w : Seat) (b : Both) → IsKept role first w → HasGotAll w.log (at (other_role role) b).log
+    → HasGotAll (at (other_role role) b).log w.log → IsSound first b → IsSound first (with_seat role w b)
+sound_with Driver first w b k here there s = record {
+  matches = by_role _ k.matches (s.matches Device);
+  fair = by_role _ k.fair (s.fair Device);
+  ties = by_role _ here there;
+}
+sound_with Device first w b k here there s = record {
+  matches = by_role _ (s.matches Driver) k.matches;
+  fair = by_role _ (s.fair Driver) k.fair;
+  ties = by_role _ there here;
+}
+
+-- A step that puts a packet.
+put_keeps : (role : Role) (first : ℕ) (p : Packet) (part : Ends) (b : Both)
+    → IsKept role first (record { part = part; log = PutPacket p ∷ (at role b).log })
+    → IsSound first b → IsSound first (with_seat role (record { part = part; log = PutPacket p ∷ (at role b).log }) b)
+put_keeps role first p part b k s =
+    let here = s.ties role in
+    let there = tie_back role first b s in
+    sound_with role first (record { part = part; log = PutPacket p ∷ (at role b).log }) b k
+    (record { packets = here.packets; events = here.events })
+    (record { packets = (p ∷ there.packets.0, ap (λ ps. p ∷ ps) there.packets.1); events = there.events }) s
+
+-- One that adds nothing to the log.
+still_keeps : (role : Role) (first : ℕ) (part : Ends) (b : Both) → Matches role first part (at role b).log → IsSound first b
+    → IsSound first (with_seat role (record { part = part; log = (at role b).log }) b)
+still_keeps role first part b m s =
+    sound_with role first (record { part = part; log = (at role b).log }) b
+    (record { matches = m; fair = s.fair role })
+    (s.ties role) (tie_back role first b s) s
+
+-- A decision.
+decided_follows : (side : Side) (put got : List Packet) (e : ConnectionEnd) (what : Decision) → MayDecide e what → Follows side put got e
+    → Follows side put got (decided e what)
+decided_follows side put got e (Forwards n) may follows = forward_follows side put got e n follows may
+decided_follows side put got e (Shuts bits) may follows = shut_follows side put got e bits follows
+decided_follows side put got e Aborts may follows = abort_follows side put got e follows
+decided_follows side put got e WantsCredit may follows = ask_follows side put got e follows
+decided_follows side put got e (Grows alloc) may follows = grow_follows side put got e alloc follows may.0 may.1 may.2
+
+decided_kind : (e : ConnectionEnd) (what : Decision) → (decided e what).kind ≡ e.kind
+decided_kind e (Forwards n) = refl
+decided_kind e (Shuts bits) = refl
+decided_kind e Aborts = refl
+decided_kind e WantsCredit = refl
+decided_kind e (Grows alloc) = refl
+
+-- A packet that is taken, where the log is fair with it.
+answer_keeps : (role : Role) (first : ℕ) (p : Packet) (answer : Bool) (part : Ends) (log : Log) (asks : Bool)
+    → let f = flow_got role p in
+    is_request p ≡ asks → Matches role first part log → is_dropped role part.cid p.header ≡ false → ends_of f part.entries ≡ []
+    → is_rst p ≡ false → IsFormed p
+    → IsInOrder (side_of role f) (heard_of role first f log) p → IsTaken p
+    → Matches role first (answered asks answer p f part) (GotPacket p ∷ log)
+answer_keeps role first p true part log true is m kept none plain formed order fits =
+    accepts role first (answer_kind p.header.kind) p part log m kept none order fits is (sym (named_kind p.header.kind formed.kind))
+answer_keeps role first p false part log true is m kept none plain formed order fits = refuses role first p part log m kept none plain order
+answer_keeps role first p answer part log false is m kept none plain formed order fits =
+    refuses role first p part log m kept none plain order
+
+unknown_keeps : (role : Role) (first : ℕ) (p : Packet) (answer : Bool) (part : Ends) (log : Log) (rst : Bool)
+    → let f = flow_got role p in
+    is_rst p ≡ rst → Matches role first part log → is_dropped role part.cid p.header ≡ false → ends_of f part.entries ≡ [] → IsFormed p
+    → IsInOrder (side_of role f) (heard_of role first f log) p → IsTaken p
+    → Matches role first (if rst then part else answered (is_request p) answer p f part) (GotPacket p ∷ log)
+unknown_keeps role first p answer part log true is m kept none formed order fits = ignores role first p part log m kept none is order
+unknown_keeps role first p answer part log false is m kept none formed order fits =
+    answer_keeps role first p answer part log (is_request p) refl m kept none is formed order fits
+
+heard_keeps : (role : Role) (first : ℕ) (p : Packet) (answer : Bool) (part : Ends) (log : Log) (ends : List ConnectionEnd)
+    → let f = flow_got role p in
+    ends_of f part.entries ≡ ends → Matches role first part log → is_dropped role part.cid p.header ≡ false → IsFormed p
+    → IsInOrder (side_of role f) (heard_of role first f log) p → IsTaken p
+    → Matches role first (after_packet role ends p f answer part) (GotPacket p ∷ log)
+heard_keeps role first p answer part log [] are m kept formed order fits =
+    unknown_keeps role first p answer part log (is_rst p) refl m kept are formed order fits
+heard_keeps role first p answer part log (e ∷ more) are m kept formed order fits =
+    let none = only_end role first part log (flow_got role p) e more m.flows are in
+    takes role first p e part log m kept (are ∙ ap (λ es. e ∷ es) none) order fits
+
+taking_keeps : (role : Role) (first : ℕ) (p : Packet) (answer : Bool) (part : Ends) (log : Log) (dropped : Bool)
+    → let f = flow_got role p in
+    is_dropped role part.cid p.header ≡ dropped → Matches role first part log → IsFormed p
+    → IsInOrder (side_of role f) (heard_of role first f log) p → IsTaken p
+    → Matches role first (if dropped then part else after_packet role (ends_of f part.entries) p f answer part) (GotPacket p ∷ log)
+taking_keeps role first p answer part log true is m formed order fits = drops role first p part log m is (λ asks. order)
+taking_keeps role first p answer part log false is m formed order fits =
+    heard_keeps role first p answer part log (ends_of (flow_got role p) part.entries) refl m is formed order fits
+
+-- The next packet that the other seat put keeps the log fair.
+pub next_is_fair : (role : Role) (first : ℕ) (p : Packet) (b : Both) → IsSound first b
+    → IsNextPacket (at role b).log (at (other_role role) b).log p
+    → IsFairLog role (GotPacket p ∷ (at role b).log)
+next_is_fair role first p b s next =
+    next_fair role (at role b).log (at (other_role role) b).log p (s.fair role) (s.fair (other_role role)) (tie_back role first b s) next
+
+take_sound : (role : Role) (first : ℕ) (p : Packet) (answer : Bool) (b : Both) → IsSound first b
+    → IsNextPacket (at role b).log (at (other_role role) b).log p → IsSound first (happens role (Takes p answer) b)
+take_sound role first p answer b s next =
+    let w = at role b in
+    let f = flow_got role p in
+    let fair = next_is_fair role first p b s next in
+    let there = tie_back role first b s in
+    sound_with role first (after role (Takes p answer) w) b (record {
+      matches =
+          taking_keeps role first p answer w.part w.log (is_dropped role w.part.cid p.header) refl (s.matches role)
+          (got_formed role p w.log (fair f))
+          (got_in_order role first p w.log (fair f)) (got_is_taken role p w.log (fair f));
+      fair = fair;
+    }) (record { packets = next; events = (s.ties role).events }) (record { packets = there.packets; events = there.events }) s
+
+-- A step on events and resets.
+mark_keeps : (role : Role) (first cid : ℕ) (part : Ends) (b : Both) → Matches role first part (Mark cid ∷ (at role b).log) → IsSound first b
+    → IsSound first (with_seat role (record { part = part; log = Mark cid ∷ (at role b).log }) b)
+mark_keeps role first cid part b m s =
+    let here = s.ties role in
+    let there = tie_back role first b s in
+    sound_with role first (record { part = part; log = Mark cid ∷ (at role b).log }) b
+    (record { matches = m; fair = s.fair role })
+    (record { packets = here.packets; events = here.events }) (record { packets = there.packets; events = there.events }) s
+
+pub step_keeps : (role : Role) (first : ℕ) (step : Step) (b : Both) → IsSound first b → MayHappen role step b
+    → IsSound first (happens role step b)
+step_keeps role first (Opens f kind) b s may =
+    let w = at role b in
+    let m = s.matches role in
+    put_keeps role first (request_on role w.part.cid f kind) _ b (record {
+      matches = opens role first w.part.cid f kind w.part w.log m may;
+      fair = opens_fair role first w.part.cid f kind w.part w.log m (s.fair role) may;
+    }) s
+step_keeps Device first (Asks f kind) b s may =
+    let w = at Device b in still_keeps Device first _ b (asks first f kind w.part w.log (s.matches Device) may.1) s
+step_keeps Driver first (Asks f kind) b s may = let no = may.0 in absurd cc
+step_keeps role first (Sends f e payload) b s may =
+    let w = at role b in
+    let m = s.matches role in
+    put_keeps role first (payload_on role w.part.cid f e payload) _ b (record {
+      matches = sends role first w.part.cid f e payload w.part w.log m may.0 may.1;
+      fair = sends_fair role first w.part.cid f e payload w.part w.log m (s.fair role) may.0 may.1;
+    }) s
+step_keeps role first (Pays f e what) b s may =
+    let w = at role b in
+    let m = s.matches role in
+    put_keeps role first (owed_on role w.part.cid f e what) _ b (record {
+      matches = pays role first w.part.cid f e what w.part w.log m may.0 may.1;
+      fair = pays_fair role first w.part.cid f e what w.part w.log m (s.fair role) may.0 may.1;
+    }) s
+step_keeps role first (Replies r rest) b s may =
+    let w = at role b in
+    let m = s.matches role in
+    put_keeps role first (reply_on role w.part.cid r) _ b (record {
+      matches = replies role first w.part.cid r rest w.part w.log m may;
+      fair = replies_fair role first w.part.cid r rest w.part w.log m (s.fair role) may;
+    }) s
+step_keeps role first (Decides f e what) b s may =
+    let w = at role b in
+    let h = heard_of role first f w.log in
+    still_keeps role first _ b (changes role first f e (decided e what) w.part w.log (s.matches role) may.0 may.1 (decided_kind e what)
+    (λ follows. decided_follows (side_of role f) (puts h) (gots h) e what may.2 follows)) s
+step_keeps role first Forgets b s may = let w = at role b in still_keeps role first _ b (forgets role first w.part w.log (s.matches role)) s
+step_keeps role first (Takes p answer) b s may = take_sound role first p answer b s may
+step_keeps role first (PutsEvent id) b s may =
+    let w = at role b in
+    let here = s.ties role in
+    let there = tie_back role first b s in
+    sound_with role first (record { part = w.part; log = PutEvent id ∷ w.log }) b
+    (record { matches = puts_event role first id w.part w.log (s.matches role); fair = s.fair role })
+    (record { packets = here.packets; events = here.events })
+    (record { packets = there.packets; events = (id ∷ there.events.0, ap (λ ids. id ∷ ids) there.events.1) }) s
+step_keeps role first (TakesEvent id) b s may =
+    let w = at role b in
+    let here = s.ties role in
+    let there = tie_back role first b s in
+    sound_with role first (record { part = w.part; log = GotEvent id ∷ w.log }) b
+    (record { matches = takes_event role first id w.part w.log (s.matches role); fair = s.fair role })
+    (record { packets = here.packets; events = may.1 }) (record { packets = there.packets; events = there.events }) s
+step_keeps role first (MakesReset cid) b s may =
+    let w = at role b in mark_keeps role first cid _ b (makes_reset role first cid w.part w.log (s.matches role)) s
+step_keeps Driver first (TakesReset cid) b s may =
+    let w = at Driver b in mark_keeps Driver first cid _ b (takes_reset first cid w.part w.log (s.matches Driver)) s
+step_keeps Device first (TakesReset cid) b s may = absurd cc
+
+pub run_keeps : (first : ℕ) (xs : List Happening) (b : Both) → IsSound first b → MayRun xs b → IsSound first (run xs b)
+run_keeps first [] b s may = s
+run_keeps first (x ∷ xs) b s may = run_keeps first xs (happens x.role x.step b) (step_keeps x.role first x.step b s may.0) may.1
+
+pub start_sound : (first guest_port host_port : ℕ) → IsSound first (start first guest_port host_port)
+start_sound first guest_port host_port = record {
+  matches = by_role _ (start_matches Driver first guest_port) (start_matches Device first host_port);
+  fair = by_role _ (λ f. tt) (λ f. tt);
+  ties = by_role _ (record { packets = ([], refl); events = ([], refl) }) (record { packets = ([], refl); events = ([], refl) });
+}
+
+-- What a sound pair says of the next packet.
+pub driver_accepts : (first : ℕ) (p : Packet) (e : ConnectionEnd) (b : Both) → IsSound first b → IsNextPacket b.driver.log b.device.log p
+    → HasEnd (flow_got Driver p) e b.driver.part → p.header.src_cid ≡ HOST_CID → is_refused (verdict_of e p.header) ≡ false
+driver_accepts first p e b s next has host =
+    let f = flow_got Driver p in
+    got_not_refused Driver first p e b.driver.part b.driver.log (s.matches Driver).flows has (next_is_fair Driver first p b s next f)
+    (heard_all first f b.driver.log host)
+
+pub device_has_room : (first : ℕ) (p : Packet) (e : ConnectionEnd) (b : Both) → IsSound first b → IsNextPacket b.device.log b.driver.log p
+    → HasEnd (flow_got Device p) e b.device.part → is_overrun (verdict_of e p.header) ≡ false
+device_has_room first p e b s next has =
+    has_room Device first p e b.device.part b.device.log (s.matches Device) has (next_is_fair Device first p b s next)

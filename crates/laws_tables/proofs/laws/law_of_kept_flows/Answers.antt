@@ -1,0 +1,13 @@
+use Rattle.laws_tables.specs.Both.{run, start}
+use Rattle.laws_tables.proofs.{Both.run_keeps, Both.start_sound, Quiet.quiet_on}
+use Rattle.laws_tables.proofs.laws.law_of_kept_flows.Goals as goal
+
+pub returns-clause-quiet : goal.returns-clause-quiet
+returns-clause-quiet c = λ first guest host xs role f may among.
+    quiet_on first role f (run xs (start first guest host)) (run_keeps first xs (start first guest host) (start_sound first guest host) may)
+    among
+
+pub returns-clause-clean : goal.returns-clause-clean
+returns-clause-clean c = λ first guest host xs role f may among.
+    let s = run_keeps first xs (start first guest host) (start_sound first guest host) may in
+    ((s.matches role).fairly (s.fair role)).kept f among

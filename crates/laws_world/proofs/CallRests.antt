@@ -1,0 +1,145 @@
+-- Whole calls leave no page staged; nor does the opening of the world.
+use Rattle.std.proofs.Common.{◌≡◌, ℕ, zero, suc, ◌+◌, ◌==◌, Bool, true, false, cond, List, [], length, Option, Some, None, Result, Ok, Err}
+use Rattle.std.proofs.Common.{refl, ap, ◌∙◌}
+use Rattle.vs_contents.specs.CallTree.{Done, Ask, bind, played, while_up_to}
+use Rattle.vs_conn.specs.{End.may_send_of, End.wanting_credit, End.with_payload_sent, declared.end.Stop.Stop}
+use Rattle.vs_outside.specs.Host.{HostContents}
+use Rattle.vs_ring_list.specs.Ends.{empty_ends}
+use Rattle.vs_ring_port.specs.{DriverCalls.Publish, DriverCalls.Stage, DriverCalls.driver_answer, EndLog.EndLog, EndLog.with_pages}
+use Rattle.vs_ring_port.specs.{Lists.Rings, declared.queue.Queue.Queue}
+use Rattle.vs_driver_parts.specs.{State.DriverEntry, State.DriverState, State.entry_known_as, declared.answers.ConnectError.ConnectError}
+use Rattle.vs_driver_parts.specs.{Connections.connect_refusal, Connections.connected, Connections.with_end, declared.answers.Sent.Sent}
+use Rattle.vs_driver_parts.specs.Conversations.{DriverTree, connect_with_page, has_page, load_cid, new_state, no_credit, not_sent}
+use Rattle.vs_driver_parts.specs.Conversations.{payload_bytes, payload_of, post_all, post_events, post_one, post_packet, posts, publish_of}
+use Rattle.vs_driver_parts.specs.Conversations.{reap_all, request_bytes, send_on, send_stopped, send_with_credit, send_with_page}
+use Rattle.vs_limits.specs.declared.TheConstants.{FIRST_PORT}
+use Rattle.laws_world.specs.{Events.is_at_rest, Events.works_on, Plays.guest_line, World.World, World.opening}
+use Rattle.laws_world.specs.Calls.{GuestCall, Connect, Listen, Unlisten, Accept, Send, Recv, Shutdown, Close, LookAt}
+use Rattle.laws_world.proofs.{GuestLines.played_bind, GuestLines.reaps_all, Polls.published_rests, Polls.rest_works}
+use Rattle.vs_ring_port.specs.declared.queue.Queue.TheVariants as q
+use Rattle.vs_driver_parts.specs.declared.answers.ConnectError.TheVariants as connect_refused
+use Rattle.vs_driver_parts.specs.declared.answers.Sent.TheVariants as sent
+
+abbrev AtRest : Rings × EndLog → Type 0
+AtRest r = is_at_rest r.1.staged ≡ true
+
+-- A packet that is posted is published at once.
+abbrev LeavesRest : {A : Type 0} → DriverTree A → Type 0
+LeavesRest tree = (r : Rings × EndLog) → AtRest r → AtRest (played driver_answer tree r).1
+
+posted : (r : Rings × EndLog) → AtRest r → is_at_rest (with_pages q.Tx [] r.1.staged) ≡ true
+posted r rest = published_rests q.Tx r.1.staged (rest_works q.Tx r.1.staged rest)
+
+connect_rests : (port : ℕ) (s : DriverState) → LeavesRest (connect_with_page port s)
+connect_rests port s = by (has_page s)
+  where
+    by : (b : Bool) → LeavesRest {A = DriverState × Result ℕ ConnectError} (cond b
+        (bind (post_packet (request_bytes port s) s)
+        (λ t. Done (connected port t, Ok t.next_id))) (Done (s, Err (connect_refused.NoDescriptor s.in_flight))))
+    by true = posted
+    by false = λ r rest. rest
+
+send_rests : (e : DriverEntry) (payload : List ℕ) (s : DriverState) → LeavesRest (send_with_page e payload s)
+send_rests e payload s = by (has_page s)
+  where
+    by : (b : Bool) → LeavesRest {A = DriverState × Sent} (cond b (bind (post_packet (payload_bytes e payload s) s)
+        (λ t. Done (with_end (with_payload_sent e.value.end (length payload)) e t, sent.Took (length payload)))) (Done
+        (s, sent.NoDescriptor s.in_flight)))
+    by true = posted
+    by false = λ r rest. rest
+
+module _ (w : World) (rest : is_at_rest w.rings.driver.staged ≡ true) where
+  reaped_rests : {A : Type 0} (k : DriverState → DriverTree A) → ((s : DriverState) → LeavesRest (k s))
+      → AtRest (played driver_answer (bind (reap_all w.driver) k) (w.rings.lists, w.rings.driver)).1
+  reaped_rests k leaves =
+      let r = played driver_answer (reap_all w.driver) (w.rings.lists, w.rings.driver) in
+      let reaps = reaps_all w.driver.in_flight w rest in
+      ap (λ x. is_at_rest x.1.1.staged) (played_bind (reap_all w.driver) k (w.rings.lists, w.rings.driver))
+      ∙ leaves r.0 r.1 (ap is_at_rest reaps.staged ∙ rest)
+
+  connecting : (port : ℕ) (o : Option ConnectError)
+      → AtRest (played driver_answer (elim o as (λ _. DriverTree (DriverState × Result ℕ ConnectError)) [
+        | Some refusal ↦ Done (w.driver, Err refusal)
+        | None ↦ bind (reap_all w.driver) (connect_with_page port)
+      ]) (w.rings.lists, w.rings.driver)).1
+  connecting port (Some refusal) = rest
+  connecting port None = reaped_rests (connect_with_page port) (connect_rests port)
+
+  sending : (id : ℕ) (bytes : List ℕ) (o : Option DriverEntry)
+      → AtRest (played driver_answer (elim o as (λ _. DriverTree (DriverState × Sent)) [
+        | None ↦ Done (w.driver, not_sent id w.driver)
+        | Some e ↦ send_on e bytes w.driver
+      ]) (w.rings.lists, w.rings.driver)).1
+  sending id bytes None = rest
+  sending id bytes (Some e) = on (may_send_of e.value.end)
+    where
+      with_credit : (credit : ℕ) (a b : Bool) → AtRest (played driver_answer (cond a (Done (w.driver, sent.Took 0)) (cond b
+          (Done (with_end (wanting_credit e.value.end) e w.driver, no_credit e.value.end))
+          (bind (reap_all w.driver) (send_with_page e (payload_of credit bytes))))) (w.rings.lists, w.rings.driver)).1
+      with_credit credit true b = rest
+      with_credit credit false true = rest
+      with_credit credit false false = reaped_rests (send_with_page e (payload_of credit bytes)) (send_rests e (payload_of credit bytes))
+
+      on : (r : Result ℕ Stop) → AtRest (played driver_answer (elim r as (λ _. DriverTree (DriverState × Sent)) [
+        | Err why ↦ Done (w.driver, send_stopped why)
+        | Ok credit ↦ send_with_credit e credit bytes w.driver
+      ]) (w.rings.lists, w.rings.driver)).1
+      on (Err why) = rest
+      on (Ok credit) = with_credit credit (length bytes == 0) (credit == 0)
+
+  -- Each call of the guest's.
+  pub call_rests : (call : GuestCall) → is_at_rest (guest_line call w).0.rings.driver.staged ≡ true
+  call_rests (Connect port) = connecting port (connect_refusal port w.driver)
+  call_rests (Send id bytes) = sending id bytes (entry_known_as id w.driver)
+  call_rests (Listen port) = rest
+  call_rests (Unlisten port) = rest
+  call_rests (Accept port) = rest
+  call_rests (Recv id n) = rest
+  call_rests (Shutdown id bits) = rest
+  call_rests (Close id) = rest
+  call_rests (LookAt id) = rest
+
+-- A driver just made published all that it staged.
+stages : (queue : Queue) (page : List ℕ) (r : Rings × EndLog) → works_on queue r.1.staged ≡ true
+    → works_on queue (driver_answer (Stage queue page) r).1.1.staged ≡ true
+stages q.Rx page r works = works
+stages q.Tx page r works = works
+stages q.Event page r works = works
+
+publishes : (queue : Queue) (r : Rings × EndLog) → works_on queue r.1.staged ≡ true
+    → works_on queue (driver_answer (Publish queue) r).1.1.staged ≡ true
+publishes q.Rx r works = works
+publishes q.Tx r works = works
+publishes q.Event r works = works
+
+posts_work : (queue : Queue) (n : ℕ) (s : DriverState) (r : Rings × EndLog) → works_on queue r.1.staged ≡ true
+    → works_on queue (played driver_answer (while_up_to n (post_one queue) s) r).1.1.staged ≡ true
+posts_work queue zero s r works = works
+posts_work queue (suc n) s r works = by (s.staged + 1 == 16) (posts_work queue n)
+  where
+    by : (b : Bool) → ((s : DriverState) (r : Rings × EndLog) → works_on queue r.1.staged ≡ true
+        → works_on queue (played driver_answer (while_up_to n (post_one queue) s) r).1.1.staged ≡ true)
+        → works_on queue (played driver_answer (bind {A = DriverState × Bool} (bind (Ask (Stage queue []) (λ _. cond b
+        (Ask (Publish queue) (λ _. Done (record s { staged = 0 }))) (Done (record s { staged = s.staged + 1 })))) (λ t. Done (t, true)))
+        (λ x. elim x.1 as (λ _. DriverTree DriverState) [
+          | true ↦ while_up_to n
+              (post_one queue) x.0
+          | false ↦ Done x.0
+        ])) r).1.1.staged ≡ true
+    by true rest = rest _ _ (publishes queue (driver_answer (Stage queue []) r).1 (stages queue [] r works))
+    by false rest = rest _ _ (stages queue [] r works)
+
+post_all_rests : (queue : Queue) (s : DriverState) → LeavesRest (post_all queue s)
+post_all_rests queue s r rest =
+    let x = played driver_answer (posts queue s) r in
+    ap (λ y. is_at_rest y.1.1.staged) (played_bind (posts queue s) (publish_of queue) r)
+    ∙ published_rests queue x.1.1.staged (posts_work queue s.size s r (rest_works queue r.1.staged rest))
+
+pub opening_rests : (n : ℕ) (host : HostContents) → is_at_rest (opening n host).rings.driver.staged ≡ true
+opening_rests n host =
+    let s = new_state n FIRST_PORT 1 0 in
+    let r : Rings × EndLog = ((empty_ends n).lists, (empty_ends n).driver) in
+    let x = played driver_answer (post_all q.Rx s) r in
+    ap (λ y. is_at_rest y.1.1.staged) (played_bind (post_all q.Rx s) post_events r)
+    ∙ ap (λ y. is_at_rest y.1.1.staged) (played_bind (post_all q.Event x.0) load_cid x.1)
+    ∙ post_all_rests q.Event x.0 x.1 (post_all_rests q.Rx s r refl)

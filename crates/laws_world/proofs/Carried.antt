@@ -1,0 +1,122 @@
+-- What a world that is well says of the bytes of its connections. Packets that the driver staged count as put.
+use Rattle.std.proofs.Common.{◌≡◌, ℕ, ◌≤◌, ◌++◌, true, List, Contains, Some, sym, ap, subst, ◌∙◌}
+use Rattle.std.proofs.lemmas.List.Elements.{All-contains}
+use Rattle.std.specs.Option.{option_map}
+use Rattle.vs_driver_parts.specs.State.{DriverEntry, GoneConnection}
+use Rattle.vs_device_parts.specs.State.{DeviceEntry}
+use Rattle.vs_flow.specs.{Connection.first_of, declared.flow.Flow.Flow}
+use Rattle.laws_history.specs.{History.puts, Packets.has, Packets.shuts_send}
+use Rattle.vs_outside.specs.{Host.Stream, Host.stream_at, HostBytes.host_read, HostBytes.host_wrote}
+use Rattle.vs_page.specs.Fair.{IsFairLog, IsPrefixOf, number_of, payload_got, payload_put}
+use Rattle.vs_page.specs.Log.{Device, Driver, Log, Role, history_of}
+use Rattle.vs_page.proofs.{PayloadLogs.prefix, Shut.shut_put}
+use Rattle.laws_tables.specs.Both.{at}
+use Rattle.laws_bytes.specs.Drains.{Drains, got_on, receives}
+use Rattle.laws_bytes.specs.Streamed.{IsJoined, Seen, gives, line_for, look, seen}
+use Rattle.laws_bytes.proofs.Logs.{prefix_then}
+use Rattle.laws_world.specs.{Calls.received_on, Calls.sent_on, Received.ReceivedOn, Received.ReceivesOn, Sides.both_of}
+use Rattle.laws_world.specs.World.{World, first_cid}
+use Rattle.laws_world.proofs.{Firsts.once_got, Firsts.once_put, Firsts.put_begun, Once.number_ofce, Bytes.read_is_got, Bytes.wrote_is_put}
+use Rattle.laws_world.proofs.{Growing.Grows, Growing.runs_grow, Sound.Goes, Sound.IsWell}
+use Rattle.laws_bytes.proofs.Hosts.{there as is_there}
+
+abbrev pub ToGuest : Flow → World → Type 0
+ToGuest f w = IsPrefixOf (received_on f w.journal) (host_wrote (first_of f) w.host)
+
+abbrev pub ToHost : Flow → World → Type 0
+ToHost f w = IsPrefixOf (host_read (first_of f) w.host) (sent_on f w.journal)
+
+module _ {fresh : Type 0} (w : World) (well : IsWell fresh w) where
+  abbrev guest : Log
+  guest = (both_of w).driver.log
+
+  abbrev device : Log
+  device = (both_of w).device.log
+
+  -- No flow was used twice.
+  once : (role : Role) (f : Flow) → number_of role f (at role (both_of w)).log ≤ 1
+  once role f = number_ofce role first_cid (both_of w) well.sound well.once f
+
+  guest_got : (f : Flow) → got_on Driver f guest ≡ payload_got Driver (first_of f) guest
+  guest_got f = sym (once_got Driver f guest (well.sound.fair Driver f) (once Driver f))
+
+  device_got : (f : Flow) → got_on Device f device ≡ payload_got Device (first_of f) device
+  device_got f = sym (once_got Device f device (well.sound.fair Device f) (once Device f))
+
+  -- What the sends took is what the driver put. What was received is a prefix of what it got.
+  pub sent_is : (f : Flow) → payload_put Driver (first_of f) guest ≡ sent_on f w.journal
+  sent_is f = once_put Driver f guest (well.sound.fair Driver f) (once Driver f) ∙ sym (well.sent f)
+
+  pub received_is : (f : Flow) → IsPrefixOf (received_on f w.journal) (payload_got Driver (first_of f) guest)
+  received_is f = subst (λ (bytes : List ℕ). IsPrefixOf (received_on f w.journal) bytes) (guest_got f) (well.received.front f)
+
+  pub unread_of : (e : DriverEntry) → Contains w.driver.table.entries e
+      → Drains (receives e.value.end) (received_on e.flow w.journal) e.value.unread (payload_got Driver (first_of e.flow) guest)
+  unread_of e there = subst (λ (bytes : List ℕ). Drains (receives e.value.end) (received_on e.flow w.journal) e.value.unread bytes) (guest_got e.flow)
+      (All-contains (ReceivesOn (λ f. received_on f w.journal) guest) w.driver.table.entries e well.received.held there).drains
+
+  pub gone_of : (g : GoneConnection) → Contains w.driver.gone g
+      → IsPrefixOf (received_on g.flow w.journal ++ g.unread) (payload_got Driver (first_of g.flow) guest)
+  gone_of g there = subst (λ (bytes : List ℕ). IsPrefixOf (received_on g.flow w.journal ++ g.unread) bytes) (guest_got g.flow)
+      (All-contains (ReceivedOn (λ f. received_on f w.journal) guest) w.driver.gone g well.received.left there).front
+
+  pub to_driver : (f : Flow) → IsPrefixOf (payload_got Driver (first_of f) guest) (payload_put Device (first_of f) device)
+  to_driver f = prefix Driver guest device (first_of f) (well.sound.ties Driver)
+
+  pub to_device : (f : Flow) → IsPrefixOf (payload_got Device (first_of f) device) (payload_put Driver (first_of f) guest)
+  to_device f = prefix Device device guest (first_of f) (well.sound.ties Device)
+
+  -- The streams of a host that had none at first.
+  module _ (new : fresh) where
+    pub wrote_is : (f : Flow) → payload_put Device (first_of f) device ≡ host_wrote (first_of f) w.host
+    wrote_is f = once_put Device f device (well.sound.fair Device f) (once Device f) ∙ wrote_is_put w.host _ _ _ _ (well.streams new) f
+
+    pub given_is : (f : Flow) → IsPrefixOf (host_read (first_of f) w.host) (payload_got Device (first_of f) device)
+    given_is f = subst (λ (bytes : List ℕ). IsPrefixOf (host_read (first_of f) w.host) bytes) (device_got f) (read_is_got w.host _ _ _ _ (well.streams new) f)
+
+    pub to_guest : (f : Flow) → ToGuest f w
+    to_guest f = subst (λ (bytes : List ℕ). IsPrefixOf (received_on f w.journal) bytes) (wrote_is f) (prefix_then _ _ _ (received_is f) (to_driver f))
+
+    pub to_host : (f : Flow) → ToHost f w
+    to_host f = subst (λ (bytes : List ℕ). IsPrefixOf (host_read (first_of f) w.host) bytes) (sent_is f) (prefix_then _ _ _ (given_is f) (to_device f))
+
+    pub one_stream : (f : Flow) (i j : ℕ) (s t : Stream) → stream_at i w.host ≡ Some s → stream_at j w.host ≡ Some t → s.label ≡ Some f → t.label ≡ Some f
+        → i ≡ j
+    one_stream f i j s t here there label other =
+        (well.streams new).unique i j (seen s) (seen t) f (ap (option_map seen) here) (ap (option_map seen) there) label other
+
+    pub pending_of : (e : DeviceEntry) → Contains w.proxy.device.table.entries e
+        → (s : Stream) × (stream_at e.value.stream w.host ≡ Some s) × (s.label ≡ Some e.flow)
+        × Drains (gives e.value.end) s.given (e.value.ok_line ++ e.value.pending) (line_for e.flow ++ payload_got Device (first_of e.flow) device)
+    pending_of e there =
+        let j = All-contains (IsJoined (look w.host) device) w.proxy.device.table.entries e (well.streams new).joined there in
+        let st = is_there e.value.stream w.host j.stream j.there in (
+          st.stream,
+          st.at,
+          ap (λ (s : Seen). s.label) st.is ∙ j.label,
+          subst (λ (given : List ℕ). Drains (gives e.value.end) given (e.value.ok_line ++ e.value.pending)
+              (line_for e.flow ++ payload_got Device (first_of e.flow) device)) (ap (λ (s : Seen). s.given) (sym st.is))
+              (subst (λ (bytes : List ℕ). Drains (gives e.value.end) j.stream.given (e.value.ok_line ++ e.value.pending) (line_for e.flow ++ bytes))
+              (device_got e.flow) j.drains),
+        )
+
+-- What an end put stays once it told that it sends no more.
+stays_put : (role : Role) (older log : Log) (f : Flow) → Grows older log → IsFairLog role older → IsFairLog role log
+    → has shuts_send (puts (history_of role f older)) ≡ true
+    → payload_put role (first_of f) log ≡ payload_put role (first_of f) older
+stays_put role older log f (newer, is) was fair shut =
+    ap (payload_put role (first_of f)) is ∙ shut_put role newer older (first_of f) (subst (IsFairLog role) is fair f) shut (put_begun role f older shuts_send (was f) shut)
+
+module _ {fresh : Type 0} (w v : World) (well : IsWell fresh w) (goes : Goes fresh w v) (f : Flow) where
+  kept : (role : Role) → has shuts_send (puts (history_of role f (at role (both_of w)).log)) ≡ true
+      → payload_put role (first_of f) (at role (both_of v)).log ≡ payload_put role (first_of f) (at role (both_of w)).log
+  kept role shut =
+      stays_put role (at role (both_of w)).log (at role (both_of v)).log f (runs_grow role (both_of w) (both_of v) goes.runs) (well.sound.fair role)
+      (goes.well.sound.fair role) shut
+
+  pub sent_stays : has shuts_send (puts (history_of Driver f (both_of w).driver.log)) ≡ true → sent_on f v.journal ≡ sent_on f w.journal
+  sent_stays shut = sym (sent_is v goes.well f) ∙ kept Driver shut ∙ sent_is w well f
+
+  pub wrote_stays : fresh → has shuts_send (puts (history_of Device f (both_of w).device.log)) ≡ true
+      → host_wrote (first_of f) v.host ≡ host_wrote (first_of f) w.host
+  wrote_stays new shut = sym (wrote_is v goes.well new f) ∙ kept Device shut ∙ wrote_is w well new f

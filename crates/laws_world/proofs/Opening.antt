@@ -1,0 +1,228 @@
+-- The world in which nothing has happened yet.
+use Rattle.std.proofs.Common.{◌≡◌, ℕ, zero, suc, ◌+◌, ◌^◌, ◌<◌, ◌==◌, Bool, true, false, cond, List, [], ◌∷◌, refl, sym, ap, subst, ◌∙◌}
+use Rattle.std.proofs.Common.{arith, ◌-◌, slice_get, Some, None}
+use Rattle.vs_contents.specs.CallTree.{Done, Ask, bind, while_up_to, played}
+use Rattle.vs_flow.specs.Table.{IsTable}
+use Rattle.vs_limits.specs.declared.TheConstants.{ASSIGNED_FIRST, FIRST_PORT}
+use Rattle.vs_outside.specs.Host.{HostContents, Stream}
+use Rattle.vs_page.specs.Log.{Driver, Log}
+use Rattle.laws_bytes.specs.{Drains.got_on, Streamed.IsStreamed, Streamed.Seen, Streamed.look, Streamed.seen}
+use Rattle.std.specs.Option.{option_map}
+use Rattle.laws_tables.proofs.{Voices.AreVoiced, Voices.voices_start, Both.start_sound}
+use Rattle.vs_proxy_parts.specs.Turns.{new_proxy}
+use Rattle.laws_world.specs.{Received.IsReceived, Pipes.IsFresh, Pipes.put_on, Pages.AllHold, Events.happens, Events.run}
+use Rattle.laws_world.specs.{Sides.both_of, Sides.driver_ends, Sides.log_with_staged, World.World, World.opening, World.first_cid}
+use Rattle.vs_ring_port.specs.{EndLog.EndLog, EndLog.all_put, EndLog.entries_marked, Lists.Rings}
+use Rattle.vs_ring_port.specs.DriverCalls.{driver_answer, Stage, Publish}
+use Rattle.vs_ring_port.specs.declared.queue.Queue.TheVariants.{Rx, Event}
+use Rattle.vs_ring_list.specs.Ends.{empty_ends}
+use Rattle.laws_tables.specs.Both.{Both}
+use Rattle.vs_driver_parts.specs.Conversations.{DriverTree, load_cid, new_of, new_state, post_events, post_one, posts, publish_of}
+use Rattle.vs_driver_parts.specs.State.{DriverState}
+use Rattle.laws_world.proofs.{DriverSide.DriverHolds, Once.AreOnce, Once.start_once, Played.opening_queued, Runs.and_then}
+use Rattle.laws_world.proofs.{Sound.Goes, Sound.IsWell, Sound.goes_still, Sound.happens_goes, Wire.PutsFit}
+use Rattle.laws_tables.specs.Both as both
+use Rattle.laws_world.specs.Events as events
+
+-- Receive and event pages are on their way, and nothing else.
+record IsQuiet (lists : Rings) (log : EndLog) : Type 0 where
+  entries : log.entries ≡ []
+  staged : log.staged.tx ≡ []
+  given : lists.tx.given ≡ []
+  cid : lists.cid ≡ 3
+
+-- A driver that has done nothing else.
+abbrev made : ℕ → ℕ → ℕ → DriverState
+made n cid staged = record (new_state n FIRST_PORT 1 cid) { staged = staged }
+
+module _ {X : Type 0} (P : X × (Rings × EndLog) → Type 0) (n : ℕ) (k : DriverState → DriverTree X)
+    (then_ : (m : ℕ) (lists : Rings) (log : EndLog) → IsQuiet lists log → P (played driver_answer (k (made n 0 m)) (lists, log))) where
+  posts_rx : (times m : ℕ) (lists : Rings) (log : EndLog) → IsQuiet lists log
+      → P (played driver_answer (bind (while_up_to times (post_one Rx) (made n 0 m)) k) (lists, log))
+  posts_rx zero m lists log quiet = then_ m lists log quiet
+  posts_rx (suc times) m lists log quiet = by (m + 1 == 16) (λ m lists log quiet. posts_rx times m lists log quiet)
+    where
+      by : (b : Bool) → ((m : ℕ) (lists : Rings) (log : EndLog) → IsQuiet lists log
+          → P (played driver_answer (bind (while_up_to times (post_one Rx) (made n 0 m)) k) (lists, log)))
+          → P (played driver_answer (bind (bind {A = DriverState × Bool} (bind (Ask (Stage Rx []) (λ _. cond b (Ask (Publish Rx) (λ _. Done (record (made n 0 m) { staged = 0 })))
+          (Done (record (made n 0 m) { staged = m + 1 })))) (λ t. Done (t, true)))
+          (λ r. elim r.1 as (λ _. DriverTree DriverState) [ true ↦ while_up_to times (post_one Rx) r.0 | false ↦ Done r.0 ])) k) (lists, log))
+      by true rest = rest 0 _ _ (record { entries = quiet.entries; staged = quiet.staged; given = quiet.given; cid = quiet.cid })
+      by false rest = rest (m + 1) _ _ (record { entries = quiet.entries; staged = quiet.staged; given = quiet.given; cid = quiet.cid })
+
+  posts_event : (times m : ℕ) (lists : Rings) (log : EndLog) → IsQuiet lists log
+      → P (played driver_answer (bind (while_up_to times (post_one Event) (made n 0 m)) k) (lists, log))
+  posts_event zero m lists log quiet = then_ m lists log quiet
+  posts_event (suc times) m lists log quiet = by (m + 1 == 16) (λ m lists log quiet. posts_event times m lists log quiet)
+    where
+      by : (b : Bool) → ((m : ℕ) (lists : Rings) (log : EndLog) → IsQuiet lists log
+          → P (played driver_answer (bind (while_up_to times (post_one Event) (made n 0 m)) k) (lists, log)))
+          → P (played driver_answer (bind (bind {A = DriverState × Bool} (bind (Ask (Stage Event []) (λ _. cond b (Ask (Publish Event) (λ _. Done (record (made n 0 m) { staged = 0 })))
+          (Done (record (made n 0 m) { staged = m + 1 })))) (λ t. Done (t, true)))
+          (λ r. elim r.1 as (λ _. DriverTree DriverState) [ true ↦ while_up_to times (post_one Event) r.0 | false ↦ Done r.0 ])) k) (lists, log))
+      by true rest = rest 0 _ _ (record { entries = quiet.entries; staged = quiet.staged; given = quiet.given; cid = quiet.cid })
+      by false rest = rest (m + 1) _ _ (record { entries = quiet.entries; staged = quiet.staged; given = quiet.given; cid = quiet.cid })
+
+-- One conversation after two others.
+twice : {A B C : Type 0} (P : C × (Rings × EndLog) → Type 0) (p : DriverTree A) (f : A → DriverTree B) (g : B → DriverTree C) (s : Rings × EndLog)
+    → P (played driver_answer (bind p (λ x. bind (f x) g)) s) → P (played driver_answer (bind (bind p f) g) s)
+twice P (Done x) f g s h = h
+twice P (Ask call k) f g s h = let r = driver_answer call s in twice P (k r.0) f g r.1 h
+
+-- What a new driver leaves.
+record IsMade (n : ℕ) (s : DriverState) (lists : Rings) (log : EndLog) : Type 0 where
+  state : s ≡ made n 3 0
+  entries : log.entries ≡ []
+  staged : log.staged.tx ≡ []
+  given : lists.tx.given ≡ []
+  cid : lists.cid ≡ 3
+
+abbrev MadeBy : ℕ → DriverState × (Rings × EndLog) → Type 0
+MadeBy n r = IsMade n r.0 r.1.0 r.1.1
+
+marked_none : (cid : ℕ) (log : Log) → log ≡ [] → entries_marked cid log ≡ []
+marked_none cid log is = ap (entries_marked cid) is
+
+new_made : (n : ℕ) → MadeBy n (played driver_answer (new_of n FIRST_PORT 1) ((empty_ends n).lists, (empty_ends n).driver))
+new_made n = twice (MadeBy n) (posts Rx (made n 0 0)) (publish_of Rx) post_events _ (posts_rx (MadeBy n) n (λ s. bind (publish_of Rx s) post_events) after_rx n 0 (empty_ends n).lists (empty_ends n).driver
+    (record { entries = refl; staged = refl; given = refl; cid = refl }))
+  where
+    loaded : (m : ℕ) (lists : Rings) (log : EndLog) → IsQuiet lists log
+        → MadeBy n (played driver_answer (bind (publish_of Event (made n 0 m)) load_cid) (lists, log))
+    loaded m lists log quiet = record {
+      state = ap (λ (cid : ℕ). made n cid 0) quiet.cid;
+      entries = marked_none lists.cid log.entries quiet.entries;
+      staged = quiet.staged;
+      given = quiet.given;
+      cid = quiet.cid;
+    }
+
+    after_rx : (m : ℕ) (lists : Rings) (log : EndLog) → IsQuiet lists log
+        → MadeBy n (played driver_answer (bind (publish_of Rx (made n 0 m)) post_events) (lists, log))
+    after_rx m lists log quiet = twice (MadeBy n) (posts Event (made n 0 0)) (publish_of Event) load_cid _ (posts_event (MadeBy n) n (λ s. bind (publish_of Event s) load_cid) loaded n 0 _ _
+        (record { entries = quiet.entries; staged = quiet.staged; given = quiet.given; cid = quiet.cid }))
+
+no_table : IsTable (made 0 3 0).table
+no_table = record {
+  within = omega arith;
+  rising = λ i j d less within. absurd (omega (arith, within));
+  distinct = λ i j d less within. absurd (omega (arith, within));
+  were_given = λ i d within. absurd (omega (arith, within));
+  slots_left = omega arith;
+}
+
+driver_holds : (n : ℕ) (s : DriverState) → s ≡ made n 3 0 → DriverHolds s
+driver_holds n s is = subst DriverHolds (sym is) (record {
+  sound = no_table;
+  room = refl;
+  given = refl;
+  ends = λ i d within. absurd (omega (arith, within));
+  owed = λ i d within. absurd (omega (arith, within));
+  port = omega arith;
+  known = omega arith;
+})
+
+none_received : (n : ℕ) (s : DriverState) (log : Log) → s ≡ made n 3 0 → IsReceived (λ f. []) log s
+none_received n s log is = subst (IsReceived (λ f. []) log) (sym is) (record {
+  numbers = record {
+    given = refl;
+    slots = λ i d within. absurd (omega (arith, within));
+    below = λ i d within. absurd (omega (arith, within));
+    apart = λ i d within. absurd (omega (arith, within));
+    distinct = λ i j d less within. absurd (omega (arith, within));
+    ports = λ i d within. absurd (omega (arith, within));
+  };
+  front = λ f. (got_on Driver f log, refl);
+  held = λ i d within. absurd (omega (arith, within));
+  left = λ i d within. absurd (omega (arith, within));
+  apart = λ i d within. absurd (omega (arith, within));
+  distinct = λ i j d less within. absurd (omega (arith, within));
+})
+
+-- A host without streams.
+none_streamed : (host : HostContents) (port : ℕ) → IsFresh host → IsStreamed host [] port (new_proxy first_cid host.base).device.table []
+none_streamed host port fresh = record {
+  joined = λ i e within. absurd (omega (arith, within));
+  labels = λ id s f there label. absurd (none id s there);
+  unique = λ i j s t f a b p q. absurd (none i s a);
+  none = λ f without. refl;
+  waiting = λ id s there waits. absurd (none id s there);
+  lines = record {
+    read = λ i h within. absurd (omega (arith, within));
+    undecided = λ i h within. absurd (omega (arith, within));
+    apart = λ i j h less within. absurd (omega (arith, within));
+  };
+}
+  where
+    by : (b : Bool) (id : ℕ) (s : Seen) → option_map seen (cond b None (slice_get {X = Stream} [] (id - 1))) ≡ Some s → ⊥
+    by true id s there = cc
+    by false id s there = cc
+
+    none : (id : ℕ) (s : Seen) → look host id ≡ Some s → ⊥
+    none id s there = by (id == 0) id s (ap (λ (xs : List Stream). option_map seen (cond (id == 0) None (slice_get xs (id - 1)))) (sym fresh.streams) ∙ there)
+
+module _ (n : ℕ) (host : HostContents) where
+  new : IsMade n (opening n host).driver (opening n host).rings.lists (opening n host).rings.driver
+  new = new_made n
+
+  log_empty : log_with_staged (opening n host).rings.driver ≡ []
+  log_empty = ap (λ (pages : List (List ℕ)). all_put pages (opening n host).rings.driver.entries) new.staged ∙ new.entries
+
+  -- It is the start of the two ends.
+  pub opening_is : both.start first_cid FIRST_PORT ASSIGNED_FIRST ≡ both_of (opening n host)
+  opening_is =
+      ap (λ (s : DriverState). let b : Both = record {
+        driver = record { part = driver_ends s; log = [] };
+        device = (both_of (opening n host)).device;
+      } in b) (sym new.state)
+      ∙ ap (λ (l : Log). let b : Both = record {
+        driver = record { part = driver_ends (opening n host).driver; log = l };
+        device = (both_of (opening n host)).device;
+      } in b) (sym log_empty)
+
+  pub opening_well : IsWell (IsFresh host) (opening n host)
+  opening_well = record {
+    queued = opening_queued n host;
+    sound = subst (λ (b : Both). both.IsSound first_cid b) opening_is (start_sound first_cid FIRST_PORT ASSIGNED_FIRST);
+    driver = driver_holds n (opening n host).driver new.state;
+    device = record {
+      sound = record {
+        within = omega arith;
+        rising = λ i j d less within. absurd (omega (arith, within));
+        distinct = λ i j d less within. absurd (omega (arith, within));
+        were_given = λ i d within. absurd (omega (arith, within));
+        slots_left = omega arith;
+      };
+      ends = λ i d within. absurd (omega (arith, within));
+      fresh = λ i d within. absurd (omega (arith, within));
+      owed = λ i d within. absurd (omega (arith, within));
+      port = omega arith;
+      known = omega arith;
+    };
+    driver_puts = subst PutsFit (sym log_empty) tt;
+    device_puts = tt;
+    pages = (subst AllHold (sym new.given) tt, subst AllHold (sym new.staged) tt);
+    chain = tt;
+    known = subst (λ (c : ℕ). c < 2 ^ 64) (sym new.cid) (omega arith);
+    broken = ap (λ (s : DriverState). s.broken) new.state;
+    overrun = refl;
+    cids = subst (AreVoiced first_cid) opening_is (voices_start first_cid FIRST_PORT ASSIGNED_FIRST);
+    once = subst AreOnce opening_is (start_once first_cid FIRST_PORT ASSIGNED_FIRST);
+    streams = none_streamed host (opening n host).proxy.next_port;
+    received = none_received n (opening n host).driver (log_with_staged (opening n host).rings.driver) new.state;
+    sent = λ f. ap (put_on f) (sym log_empty);
+  }
+
+-- After any list of events.
+pub run_goes : (fresh : Type 0) (es : List events.Event) (w : World) → IsWell fresh w → Goes fresh w (run es w)
+run_goes fresh [] w well = goes_still fresh w well
+run_goes fresh (e ∷ es) w well =
+    let one = happens_goes fresh w well e in
+    let rest = run_goes fresh es (happens e w) one.well in
+    record { well = rest.well; runs = and_then _ _ _ one.runs rest.runs }
+
+pub reached : (n : ℕ) (host : HostContents) (es : List events.Event) → Goes (IsFresh host) (opening n host) (run es (opening n host))
+reached n host es = run_goes (IsFresh host) es (opening n host) (opening_well n host)
+
+pub run_well : (n : ℕ) (host : HostContents) (es : List events.Event) → IsWell (IsFresh host) (run es (opening n host))
+run_well n host es = (reached n host es).well

@@ -1,0 +1,340 @@
+-- A poll of the driver's is a list of events.
+use Rattle.std.proofs.Common.{◌≡◌, ℕ, zero, suc, ◌+◌, ◌==◌, ◌&&◌, nat_le, nat_lt, Bool, true, false, cond, List, [], ◌∷◌, length, Option}
+use Rattle.std.proofs.Common.{Some, None, refl, sym, ap, subst, ◌∙◌}
+use Rattle.std.proofs.lemmas.Bool.{and_parts}
+use Rattle.vs_contents.specs.CallTree.{Done, Ask, bind, for_each, played, while_up_to}
+use Rattle.vs_conn.specs.{End.owes_of, declared.end.Owed.Owed, declared.end.TheConstants.OWED_MAX}
+use Rattle.vs_flow.specs.Table.{entry_under, slots}
+use Rattle.vs_replies.specs.declared.Reply.{Reply}
+use Rattle.vs_ring_port.specs.{Lists.Rings, Lists.after_reap, Lists.oldest, declared.queue.Queue.Queue}
+use Rattle.vs_ring_port.specs.DriverCalls.{driver_answer, LoadCid, Publish, Reap, Stage}
+use Rattle.vs_ring_port.specs.EndLog.{EndLog, Pages, log_loaded, log_reaped, with_pages}
+use Rattle.vs_header.specs.Packet.{header_bytes}
+use Rattle.vs_driver_parts.specs.{Receiving.after_reset, Receiving.is_reset_event, Receiving.on_page, State.DriverEntry, State.DriverState}
+use Rattle.vs_driver_parts.specs.Conversations.{all_taken, pay_all, pay_and_publish, pay_slot, poll_of, poll_packets, poll_puts, poll_reaps}
+use Rattle.vs_driver_parts.specs.Conversations.{polled, publish_and_pay, put_all, put_replies, reap_all, take_all, after_paying, has_page}
+use Rattle.vs_driver_parts.specs.Conversations.{one_more_in_flight, one_put, owed_bytes, put_owed_of, put_reply_of, reply_header}
+use Rattle.vs_driver_parts.specs.Conversations.{stage_packet, DriverTree, Round, event_reaped, goes_on_with, packet_reaped, publish_of}
+use Rattle.vs_driver_parts.specs.Conversations.{published, put_owed, put_reply, staged_again, start, take_event, take_packet}
+use Rattle.vs_driver_parts.specs.Steps.{stages_owed, stages_reply, takes_page}
+use Rattle.vs_limits.specs.declared.TheConstants.{DRIVER_REPLIES_FULL}
+use Rattle.laws_world.specs.{Steps.Leads, World.World}
+use Rattle.laws_world.specs.Events.{Event, GuestPays, GuestPublishes, GuestReplies, GuestTakes, driver_step, happens, is_at_rest}
+use Rattle.laws_world.specs.Events.{none_staged}
+use Rattle.laws_world.specs.Events.{works_on}
+use Rattle.laws_world.proofs.GuestLines.{leads_none, leads_one, leads_then, played_bind, possible_is, reaps_all, with_driver}
+use Rattle.vs_ring_port.specs.declared.queue.Queue.TheVariants as q
+
+-- Events lead to this driver and these rings, and only that queue is worked on.
+pub record Does (queue : Queue) (w : World) (s : DriverState) (r : Rings × EndLog) : Type 0 where
+  pub leads : Leads w (with_driver s r w)
+  pub works : works_on queue r.1.staged ≡ true
+
+abbrev plays : {A : Type 0} → DriverTree A → World → A × (Rings × EndLog)
+plays tree w = played driver_answer tree (w.rings.lists, w.rings.driver)
+
+does_nothing : (queue : Queue) (w : World) → works_on queue w.rings.driver.staged ≡ true
+    → Does queue w w.driver (w.rings.lists, w.rings.driver)
+does_nothing queue w works = record { leads = leads_none w w refl; works = works }
+
+-- One conversation after another.
+does_then : {A B : Type 0} (queue : Queue) (w : World) (p : DriverTree A) (f : A → DriverTree B) (state_of : B → DriverState) (middle : A → DriverState)
+    → (let r = plays p w in Does queue w (middle r.0) r.1)
+    → (let r = plays p w in let v = with_driver (middle r.0) r.1 w in let x = plays (f r.0) v in Does queue v (state_of x.0) x.1)
+    → (let r = plays (bind p f) w in Does queue w (state_of r.0) r.1)
+does_then queue w p f state_of middle first then_ =
+    subst (λ x. Does queue w (state_of x.0) x.1) (sym (played_bind p f (w.rings.lists, w.rings.driver))) (record {
+      leads = leads_then w _ _ first.leads then_.leads;
+      works = then_.works;
+    })
+
+-- A step of a round, over any count.
+abbrev round : DriverState → ℕ → Bool → Round
+round s count reset = record { state = s; count = count; reset = reset }
+
+abbrev StepDoes : Queue → (Round → DriverTree (Round × Bool)) → Type 0
+StepDoes queue step = (w : World) (count : ℕ) (reset : Bool) → works_on queue w.rings.driver.staged ≡ true
+    → let r = plays (step (round w.driver count reset)) w in Does queue w r.0.0.state r.1
+
+does_while : (queue : Queue) (step : Round → DriverTree (Round × Bool)) → StepDoes queue step → (n : ℕ) (w : World) (count : ℕ) (reset : Bool)
+    → works_on queue w.rings.driver.staged ≡ true
+    → let r = plays (while_up_to n step (round w.driver count reset)) w in Does queue w r.0.state r.1
+does_while queue step does zero w count reset works = does_nothing queue w works
+does_while queue step does (suc n) w count reset works =
+    let one = does w count reset works in
+    let r = plays (step (round w.driver count reset)) w in
+    does_then queue w (step (round w.driver count reset))
+    (λ r. elim r.1 as (λ _. DriverTree Round) [ true ↦ while_up_to n step r.0 | false ↦ Done r.0 ]) (λ r. r.state) (λ r. r.0.state) one
+    (more r.0.1 (does_while queue step does n (with_driver r.0.0.state r.1 w) r.0.0.count r.0.0.reset one.works) (does_nothing queue _ one.works))
+  where
+    more : (b : Bool) → (let r = plays (step (round w.driver count reset)) w in let v = with_driver r.0.0.state r.1 w in
+        let x = plays (while_up_to n step r.0.0) v in Does queue v x.0.state x.1)
+        → (let r = plays (step (round w.driver count reset)) w in let v = with_driver r.0.0.state r.1 w in Does queue v r.0.0.state r.1)
+        → (let r = plays (step (round w.driver count reset)) w in let v = with_driver r.0.0.state r.1 w in
+        let x = plays (elim b as (λ _. DriverTree Round) [ true ↦ while_up_to n step r.0.0 | false ↦ Done r.0.0 ]) v in Does queue v x.0.state x.1)
+    more true rest none = rest
+    more false rest none = none
+
+-- A step that is one event.
+one_event : (queue : Queue) (e : Event) (step : DriverState → DriverTree DriverState) (w : World) (s : DriverState) (r : Rings × EndLog)
+    → works_on queue w.rings.driver.staged ≡ true → happens e w ≡ driver_step step w
+    → (let x = plays (step w.driver) w in with_driver x.0 x.1 w ≡ with_driver s r w) → works_on queue r.1.staged ≡ true → Does queue w s r
+one_event queue e step w s r works is same after = record { leads = leads_one e w _ (is ∙ same); works = after }
+
+-- The same step in any round does the same.
+record IsSame (queue : Queue) (w : World) (x : DriverState × (Rings × EndLog)) (s : DriverState) (r : Rings × EndLog) : Type 0 where
+  same : with_driver x.0 x.1 w ≡ with_driver s r w
+  works : works_on queue r.1.staged ≡ true
+
+abbrev AlikeFrom : Queue → World → ℕ → Bool → Rings × EndLog → (Round → DriverTree (Round × Bool)) → Type 0
+AlikeFrom queue w count reset x step =
+    let r = played driver_answer (step (round w.driver count reset)) x in
+    IsSame queue w (played driver_answer (bind (step (start w.driver)) (λ r. Done r.0.state)) x) r.0.0.state r.1
+
+abbrev Alike : Queue → World → ℕ → Bool → (Round → DriverTree (Round × Bool)) → Type 0
+Alike queue w count reset step = AlikeFrom queue w count reset (w.rings.lists, w.rings.driver) step
+
+still_works : (queue : Queue) (pages : List (List ℕ)) (staged : Pages) → works_on queue staged ≡ true
+    → works_on queue (with_pages queue pages staged) ≡ true
+still_works q.Rx pages staged works = works
+still_works q.Tx pages staged works = works
+still_works q.Event pages staged works = works
+
+staged_alike : (w : World) (count : ℕ) (reset : Bool) → works_on q.Tx w.rings.driver.staged ≡ true → (bytes : List ℕ) (t : DriverState)
+    → Alike q.Tx w count reset (λ r. bind (stage_packet bytes t) (one_put r))
+staged_alike w count reset works bytes t = by (t.staged + 1 == 16)
+  where
+    by : (b : Bool) → Alike q.Tx w count reset (λ r. bind (Ask (Stage q.Tx bytes) (λ _. cond b
+        (Ask (Publish q.Tx) (λ _. Done (record (one_more_in_flight t) { staged = 0 })))
+        (Done (record (one_more_in_flight t) { staged = t.staged + 1 })))) (one_put r))
+    by true = record { same = refl; works = works }
+    by false = record { same = refl; works = works }
+
+reply_alike : (w : World) (count : ℕ) (reset : Bool) → works_on q.Tx w.rings.driver.staged ≡ true → Alike q.Tx w count reset put_reply
+reply_alike w count reset works = by w.driver.replies
+  where
+    with_page : (reply : Reply) (rest : List Reply) (b : Bool) → Alike q.Tx w count reset (λ r. cond b
+        (bind (stage_packet (header_bytes (reply_header w.driver.cid reply)) (record w.driver { replies = rest })) (one_put r)) (Done (r, false)))
+    with_page reply rest true = staged_alike w count reset works (header_bytes (reply_header w.driver.cid reply)) (record w.driver { replies = rest })
+    with_page reply rest false = record { same = refl; works = works }
+
+    by : (rs : List Reply) → Alike q.Tx w count reset (put_reply_of rs)
+    by [] = record { same = refl; works = works }
+    by (reply ∷ rest) = with_page reply rest (has_page w.driver)
+
+owed_alike : (slot : ℕ) (w : World) (count : ℕ) (reset : Bool) → works_on q.Tx w.rings.driver.staged ≡ true
+    → Alike q.Tx w count reset (put_owed slot)
+owed_alike slot w count reset works = by (entry_under w.driver.table slot)
+  where
+    with_page : (e : DriverEntry) (what : Owed) (b : Bool) → Alike q.Tx w count reset (λ r. cond b
+        (bind (stage_packet (owed_bytes what e w.driver) (after_paying what e w.driver)) (one_put r)) (Done (r, false)))
+    with_page e what true = staged_alike w count reset works (owed_bytes what e w.driver) (after_paying what e w.driver)
+    with_page e what false = record { same = refl; works = works }
+
+    owing : (e : DriverEntry) (o : Option Owed) → Alike q.Tx w count reset (λ r. elim o as (λ _. DriverTree (Round × Bool)) [
+      | None ↦ Done (r, false)
+      | Some what ↦ put_owed_of what e r
+    ])
+    owing e None = record { same = refl; works = works }
+    owing e (Some what) = with_page e what (has_page w.driver)
+
+    by : (o : Option DriverEntry) → Alike q.Tx w count reset (λ r. elim o as (λ _. DriverTree (Round × Bool)) [
+      | None ↦ Done (r, false)
+      | Some e ↦ elim (owes_of e.value.end) as (λ _. DriverTree (Round × Bool)) [ None ↦ Done (r, false) | Some what ↦ put_owed_of what e r ]
+    ])
+    by None = record { same = refl; works = works }
+    by (Some e) = owing e (owes_of e.value.end)
+
+reply_does : StepDoes q.Tx put_reply
+reply_does w count reset works =
+    let alike = reply_alike w count reset works in
+    one_event q.Tx GuestReplies stages_reply w _ _ works (possible_is (works_on q.Tx w.rings.driver.staged) (driver_step stages_reply) w works)
+    alike.same alike.works
+
+owed_does : (slot : ℕ) → StepDoes q.Tx (put_owed slot)
+owed_does slot w count reset works =
+    let alike = owed_alike slot w count reset works in
+    one_event q.Tx (GuestPays slot) (stages_owed slot) w _ _ works
+    (possible_is (works_on q.Tx w.rings.driver.staged) (driver_step (stages_owed slot)) w works) alike.same alike.works
+
+-- Pages are published.
+publishes_does : (queue : Queue) (w : World) → works_on queue w.rings.driver.staged ≡ true
+    → let r = plays (publish_of queue w.driver) w in Does queue w r.0 r.1
+publishes_does queue w works =
+    one_event queue (GuestPublishes queue) (publish_of queue) w _ _ works
+    (possible_is (works_on queue w.rings.driver.staged) (driver_step (publish_of queue)) w works) refl
+    (still_works queue [] w.rings.driver.staged works)
+
+-- A page that was taken is staged again.
+again_alike : (queue : Queue) (w : World) (count : ℕ) (reset : Bool) (x : Rings × EndLog) → works_on queue x.1.staged ≡ true
+    → (f : Round → Round) (t : DriverState) → AlikeFrom queue w count reset x (λ r. staged_again queue (record (f r) { state = t }))
+again_alike queue w count reset x works f t = by (t.staged + 1 == 16)
+  where
+    by : (b : Bool) → AlikeFrom queue w count reset x (λ r. bind (Ask (Stage queue []) (λ _. cond b
+        (Ask (Publish queue) (λ _. Done (record t { staged = 0 })))
+        (Done (record t { staged = t.staged + 1 })))) (goes_on_with (record (f r) { state = t })))
+    by true = record { same = refl; works = still_works queue [] _ (still_works queue _ x.1.staged works) }
+    by false = record { same = refl; works = still_works queue _ x.1.staged works }
+
+-- A packet is taken.
+packet_alike : (w : World) (count : ℕ) (reset : Bool) → works_on q.Rx w.rings.driver.staged ≡ true → Alike q.Rx w count reset take_packet
+packet_alike w count reset works = by (nat_le DRIVER_REPLIES_FULL (length w.driver.replies))
+  where
+    came : (o : Option (List ℕ))
+        → AlikeFrom q.Rx w count reset (after_reap q.Rx w.rings.lists, log_reaped q.Rx o w.rings.driver) (λ r. packet_reaped r o)
+    came None = record { same = refl; works = works }
+    came (Some page) =
+        again_alike q.Rx w count reset (after_reap q.Rx w.rings.lists, log_reaped q.Rx (Some page) w.rings.driver) works
+        (λ r. record r { count = r.count + 1 }) (on_page page w.driver)
+
+    by : (b : Bool) → Alike q.Rx w count reset (λ r. cond b (Done (r, false)) (Ask (Reap q.Rx) (packet_reaped r)))
+    by true = record { same = refl; works = works }
+    by false = came (oldest w.rings.lists.rx.back)
+
+-- An event is.
+event_alike : (w : World) (count : ℕ) (reset : Bool) → works_on q.Event w.rings.driver.staged ≡ true → Alike q.Event w count reset take_event
+event_alike w count reset works = by (nat_lt DRIVER_REPLIES_FULL (length w.driver.replies))
+  where
+    taken : (x : Rings × EndLog) → works_on q.Event x.1.staged ≡ true → (b : Bool) → AlikeFrom q.Event w count reset x (λ r. bind (cond b
+        (Ask LoadCid (λ cid. Done (record r { state = after_reset cid r.state; count = r.count + 1; reset = true })))
+        (Done (record r { count = r.count + 1 }))) (staged_again q.Event))
+    taken x works true =
+        again_alike q.Event w count reset (x.0, log_loaded x.0.cid x.1) works (λ r. record r { count = r.count + 1; reset = true })
+        (after_reset x.0.cid w.driver)
+    taken x works false = again_alike q.Event w count reset x works (λ r. record r { count = r.count + 1 }) w.driver
+
+    came : (o : Option (List ℕ))
+        → AlikeFrom q.Event w count reset (after_reap q.Event w.rings.lists, log_reaped q.Event o w.rings.driver) (λ r. event_reaped r o)
+    came None = record { same = refl; works = works }
+    came (Some page) = taken (after_reap q.Event w.rings.lists, log_reaped q.Event (Some page) w.rings.driver) works (is_reset_event page)
+
+    by : (b : Bool) → Alike q.Event w count reset (λ r. cond b (Done (r, false)) (Ask (Reap q.Event) (event_reaped r)))
+    by true = record { same = refl; works = works }
+    by false = came (oldest w.rings.lists.event.back)
+
+packet_does : StepDoes q.Rx take_packet
+packet_does w count reset works =
+    let alike = packet_alike w count reset works in
+    one_event q.Rx (GuestTakes q.Rx) (takes_page q.Rx) w _ _ works
+    (possible_is (works_on q.Rx w.rings.driver.staged) (driver_step (takes_page q.Rx)) w works) alike.same alike.works
+
+event_does : StepDoes q.Event take_event
+event_does w count reset works =
+    let alike = event_alike w count reset works in
+    one_event q.Event (GuestTakes q.Event) (takes_page q.Event) w _ _ works
+    (possible_is (works_on q.Event w.rings.driver.staged) (driver_step (takes_page q.Event)) w works) alike.same alike.works
+
+-- Nothing is left staged.
+pub record Rests (w : World) (s : DriverState) (r : Rings × EndLog) : Type 0 where
+  pub leads : Leads w (with_driver s r w)
+  pub rest : is_at_rest r.1.staged ≡ true
+
+all_three : (a b c : Bool) → a ≡ true → b ≡ true → c ≡ true → (a && b && c) ≡ true
+all_three true true true x y z = refl
+all_three false b c x y z = absurd cc
+all_three true false c x y z = absurd cc
+all_three true true false x y z = absurd cc
+
+pub published_rests : (queue : Queue) (staged : Pages) → works_on queue staged ≡ true → is_at_rest (with_pages queue [] staged) ≡ true
+published_rests q.Rx staged works = let w = and_parts (none_staged staged.tx) (none_staged staged.event) works in all_three _ _ _ refl w.0 w.1
+published_rests q.Tx staged works = let w = and_parts (none_staged staged.rx) (none_staged staged.event) works in all_three _ _ _ w.0 refl w.1
+published_rests q.Event staged works = let w = and_parts (none_staged staged.rx) (none_staged staged.tx) works in all_three _ _ _ w.0 w.1 refl
+
+pub rest_works : (queue : Queue) (staged : Pages) → is_at_rest staged ≡ true → works_on queue staged ≡ true
+rest_works queue staged rest = by queue (none_staged staged.rx) (none_staged staged.tx) (none_staged staged.event) refl refl refl rest
+  where
+    by : (queue : Queue) (a b c : Bool) → none_staged staged.rx ≡ a → none_staged staged.tx ≡ b → none_staged staged.event ≡ c → (a && b && c) ≡ true
+        → works_on queue staged ≡ true
+    by q.Rx true true true x y z is = rw (y, z) refl
+    by q.Tx true true true x y z is = rw (x, z) refl
+    by q.Event true true true x y z is = rw (x, y) refl
+    by queue false b c x y z is = absurd cc
+    by queue true false c x y z is = absurd cc
+    by queue true true false x y z is = absurd cc
+
+rests_then : {A B : Type 0} (w : World) (p : DriverTree A) (f : A → DriverTree B) (state_of : B → DriverState) (middle : A → DriverState)
+    → (let r = plays p w in Leads w (with_driver (middle r.0) r.1 w))
+    → (let r = plays p w in let v = with_driver (middle r.0) r.1 w in let x = plays (f r.0) v in Rests v (state_of x.0) x.1)
+    → (let r = plays (bind p f) w in Rests w (state_of r.0) r.1)
+rests_then w p f state_of middle first then_ =
+    subst (λ x. Rests w (state_of x.0) x.1) (sym (played_bind p f (w.rings.lists, w.rings.driver))) (record {
+      leads = leads_then w _ _ first then_.leads;
+      rest = then_.rest;
+    })
+
+-- A part of a poll ends by publishing.
+published_does : (queue : Queue) (w : World) (count : ℕ) (reset : Bool) → works_on queue w.rings.driver.staged ≡ true
+    → let r = plays (published queue (round w.driver count reset)) w in Rests w r.0.state r.1
+published_does queue w count reset works =
+    let one = publishes_does queue w works in
+    record { leads = one.leads; rest = published_rests queue w.rings.driver.staged works }
+
+take_all_does : (queue : Queue) (step : Round → DriverTree (Round × Bool)) → StepDoes queue step → (w : World)
+    → is_at_rest w.rings.driver.staged ≡ true → let r = plays (take_all queue step w.driver) w in Rests w r.0.state r.1
+take_all_does queue step does w rest =
+    let all = does_while queue step does w.driver.size w 0 false (rest_works queue w.rings.driver.staged rest) in
+    let r = plays (all_taken step w.driver) w in
+    rests_then w (all_taken step w.driver) (published queue) (λ r. r.state) (λ r. r.state) all.leads
+    (published_does queue (with_driver r.0.state r.1 w) r.0.count r.0.reset all.works)
+
+pay_does : (xs : List ℕ) (w : World) (count : ℕ) (reset : Bool) → works_on q.Tx w.rings.driver.staged ≡ true
+    → let r = plays (for_each pay_slot xs (round w.driver count reset)) w in Does q.Tx w r.0.state r.1
+pay_does [] w count reset works = does_nothing q.Tx w works
+pay_does (slot ∷ xs) w count reset works =
+    let one = does_while q.Tx (put_owed slot) (owed_does slot) OWED_MAX w count reset works in
+    let r = plays (pay_slot slot (round w.driver count reset)) w in
+    does_then q.Tx w (pay_slot slot (round w.driver count reset)) (for_each pay_slot xs) (λ r. r.state) (λ r. r.state) one
+    (pay_does xs (with_driver r.0.state r.1 w) r.0.count r.0.reset one.works)
+
+pay_and_publish_does : (w : World) (count : ℕ) (reset : Bool) → is_at_rest w.rings.driver.staged ≡ true
+    → let r = plays (pay_and_publish (round w.driver count reset)) w in Rests w r.0.state r.1
+pay_and_publish_does w count reset rest =
+    let all = pay_does (slots w.driver.table) w count reset (rest_works q.Tx w.rings.driver.staged rest) in
+    let r = plays (pay_all (round w.driver count reset)) w in
+    rests_then w (pay_all (round w.driver count reset)) (published q.Tx) (λ r. r.state) (λ r. r.state) all.leads
+    (published_does q.Tx (with_driver r.0.state r.1 w) r.0.count r.0.reset all.works)
+
+publish_and_pay_does : (w : World) (count : ℕ) (reset : Bool) → works_on q.Tx w.rings.driver.staged ≡ true
+    → let r = plays (publish_and_pay (round w.driver count reset)) w in Rests w r.0.state r.1
+publish_and_pay_does w count reset works =
+    let one = published_does q.Tx w count reset works in
+    let r = plays (published q.Tx (round w.driver count reset)) w in
+    rests_then w (published q.Tx (round w.driver count reset)) pay_and_publish (λ r. r.state) (λ r. r.state) one.leads
+    (pay_and_publish_does (with_driver r.0.state r.1 w) r.0.count r.0.reset one.rest)
+
+put_all_does : (w : World) → is_at_rest w.rings.driver.staged ≡ true → let r = plays (put_all w.driver) w in Rests w r.0.state r.1
+put_all_does w rest =
+    let all = does_while q.Tx put_reply reply_does (length w.driver.replies) w 0 false (rest_works q.Tx w.rings.driver.staged rest) in
+    let r = plays (put_replies w.driver) w in
+    rests_then w (put_replies w.driver) publish_and_pay (λ r. r.state) (λ r. r.state) all.leads
+    (publish_and_pay_does (with_driver r.0.state r.1 w) r.0.count r.0.reset all.works)
+
+puts_does : (took : ℕ) (reset : Bool) (w : World) → is_at_rest w.rings.driver.staged ≡ true
+    → let r = plays (poll_puts took reset w.driver) w in Rests w r.0.0 r.1
+puts_does took reset w rest =
+    let all = put_all_does w rest in
+    rests_then w (put_all w.driver) (polled took reset) (λ r. r.0) (λ r. r.state) all.leads
+    (record { leads = leads_none _ _ refl; rest = all.rest })
+
+reaps_does : (took : ℕ) (reset : Bool) (w : World) → is_at_rest w.rings.driver.staged ≡ true
+    → let r = plays (bind (reap_all w.driver) (poll_puts took reset)) w in Rests w r.0.0 r.1
+reaps_does took reset w rest =
+    let all = reaps_all w.driver.in_flight w rest in
+    let r = plays (reap_all w.driver) w in
+    rests_then w (reap_all w.driver) (poll_puts took reset) (λ r. r.0) (λ s. s) all.leads
+    (puts_does took reset (with_driver r.0 r.1 w) (ap is_at_rest all.staged ∙ rest))
+
+packets_does : (reset : Bool) (w : World) → is_at_rest w.rings.driver.staged ≡ true
+    → let r = plays (bind (take_all q.Rx take_packet w.driver) (poll_reaps reset)) w in Rests w r.0.0 r.1
+packets_does reset w rest =
+    let all = take_all_does q.Rx take_packet packet_does w rest in
+    let r = plays (take_all q.Rx take_packet w.driver) w in
+    rests_then w (take_all q.Rx take_packet w.driver) (poll_reaps reset) (λ r. r.0) (λ r. r.state) all.leads
+    (reaps_does r.0.count reset (with_driver r.0.state r.1 w) all.rest)
+
+pub poll_does : (w : World) → is_at_rest w.rings.driver.staged ≡ true → let r = plays (poll_of w.driver) w in Rests w r.0.0 r.1
+poll_does w rest =
+    let all = take_all_does q.Event take_event event_does w rest in
+    let r = plays (take_all q.Event take_event w.driver) w in
+    rests_then w (take_all q.Event take_event w.driver) poll_packets (λ r. r.0) (λ r. r.state) all.leads
+    (packets_does r.0.reset (with_driver r.0.state r.1 w) all.rest)

@@ -1,0 +1,75 @@
+-- Each line of a script, and so each script, is a list of events.
+use Rattle.std.proofs.Common.{◌≡◌, ℕ, true, List, [], ◌∷◌, ◌++◌, refl, sym}
+use Rattle.std.proofs.lemmas.List.{append-nil}
+use Rattle.vs_flow.specs.declared.flow.Flow.{Flow}
+use Rattle.vs_outside.specs.Host.{HostContents}
+use Rattle.laws_world.specs.Calls.{sent_on}
+use Rattle.laws_world.specs.Events.{ClientConnects, HostCloses, HostEnds, HostFails, HostListens, HostTakes, HostUnlistens, HostWrites}
+use Rattle.laws_world.specs.Events.{Reset}
+use Rattle.laws_world.specs.Events.{is_at_rest, is_guest_cid, reset_made}
+use Rattle.laws_world.specs.Plays.{Line, Guest, Poll, TurnAt, ResetTo, Client, HostListen, HostUnlisten, HostWrite, HostAllow, HostEnd}
+use Rattle.laws_world.specs.Plays.{HostClosed, HostFail, AreRight, after, line, is_given_right, play, report, sent_by}
+use Rattle.laws_world.specs.{Steps.Leads, World.World, World.opening}
+use Rattle.laws_world.proofs.CallRests.{call_rests, opening_rests}
+use Rattle.laws_world.proofs.GuestLines.{call_leads, leads_none, leads_one, leads_then, possible_is}
+use Rattle.laws_world.proofs.{Polls.poll_does, TurnLines.turn_leads}
+
+pub line_leads : (l : Line) (w : World) → is_at_rest w.rings.driver.staged ≡ true → is_given_right l ≡ true → Leads w (line l w).0
+line_leads (Guest call) w rest may = call_leads w rest call may
+line_leads Poll w rest may = (poll_does w rest).leads
+line_leads (TurnAt now) w rest may = turn_leads now w
+line_leads (ResetTo cid) w rest may = leads_one (Reset cid) w _ (possible_is (is_guest_cid cid) (reset_made cid) w may)
+line_leads Client w rest may = leads_one ClientConnects w _ refl
+line_leads (HostListen port) w rest may = leads_one (HostListens port) w _ refl
+line_leads (HostUnlisten port) w rest may = leads_one (HostUnlistens port) w _ refl
+line_leads (HostWrite stream bytes) w rest may = leads_one (HostWrites stream bytes) w _ refl
+line_leads (HostAllow stream n) w rest may = leads_one (HostTakes stream n) w _ refl
+line_leads (HostEnd stream) w rest may = leads_one (HostEnds stream) w _ refl
+line_leads (HostClosed stream) w rest may = leads_one (HostCloses stream) w _ refl
+line_leads (HostFail n) w rest may = leads_one (HostFails n) w _ refl
+
+pub line_rests : (l : Line) (w : World) → is_at_rest w.rings.driver.staged ≡ true → is_at_rest (line l w).0.rings.driver.staged ≡ true
+line_rests (Guest call) w rest = call_rests w rest call
+line_rests Poll w rest = (poll_does w rest).rest
+line_rests (TurnAt now) w rest = rest
+line_rests (ResetTo cid) w rest = rest
+line_rests Client w rest = rest
+line_rests (HostListen port) w rest = rest
+line_rests (HostUnlisten port) w rest = rest
+line_rests (HostWrite stream bytes) w rest = rest
+line_rests (HostAllow stream n) w rest = rest
+line_rests (HostEnd stream) w rest = rest
+line_rests (HostClosed stream) w rest = rest
+line_rests (HostFail n) w rest = rest
+
+pub line_sends : (l : Line) (w : World) (f : Flow) → sent_on f (line l w).0.journal ≡ sent_on f w.journal ++ sent_by f l w
+line_sends (Guest call) w f = refl
+line_sends Poll w f = sym (append-nil (sent_on f w.journal))
+line_sends (TurnAt now) w f = sym (append-nil (sent_on f w.journal))
+line_sends (ResetTo cid) w f = sym (append-nil (sent_on f w.journal))
+line_sends Client w f = sym (append-nil (sent_on f w.journal))
+line_sends (HostListen port) w f = sym (append-nil (sent_on f w.journal))
+line_sends (HostUnlisten port) w f = sym (append-nil (sent_on f w.journal))
+line_sends (HostWrite stream bytes) w f = sym (append-nil (sent_on f w.journal))
+line_sends (HostAllow stream n) w f = sym (append-nil (sent_on f w.journal))
+line_sends (HostEnd stream) w f = sym (append-nil (sent_on f w.journal))
+line_sends (HostClosed stream) w f = sym (append-nil (sent_on f w.journal))
+line_sends (HostFail n) w f = sym (append-nil (sent_on f w.journal))
+
+pub script_leads : (ls : List Line) (w : World) → is_at_rest w.rings.driver.staged ≡ true → AreRight ls → Leads w (after ls w)
+script_leads [] w rest may = leads_none w w refl
+script_leads (l ∷ ls) w rest may =
+    leads_then w (line l w).0 _ (line_leads l w rest may.0) (script_leads ls (line l w).0 (line_rests l w rest) may.1)
+
+pub script_rests : (ls : List Line) (w : World) → is_at_rest w.rings.driver.staged ≡ true
+    → is_at_rest (after ls w).rings.driver.staged ≡ true
+script_rests [] w rest = rest
+script_rests (l ∷ ls) w rest = script_rests ls (line l w).0 (line_rests l w rest)
+
+pub reported : (ls : List Line) (w : World) → (play ls w).1 ≡ report (after ls w)
+reported [] w = refl
+reported (l ∷ ls) w = reported ls (line l w).0
+
+pub opened_leads : (n : ℕ) (host : HostContents) (ls : List Line) → AreRight ls
+    → Leads (opening n host) (after ls (opening n host))
+opened_leads n host ls may = script_leads ls (opening n host) (opening_rests n host) may

@@ -1,0 +1,317 @@
+-- Each event is some of the steps of the two ends.
+use Rattle.std.proofs.{lemmas.Bool.Decides.nat_tests, lemmas.List.Elements.Contains-get_or, lemmas.Bool.and_parts}
+use Rattle.std.proofs.Common.{◌≡◌, ℕ, ◌^◌, ◌<◌, ◌≤◌, ◌&&◌, nat_le, Bool, true, false, List, [], ◌∷◌, ◌++◌, refl, sym, ap, subst, ◌∙◌, arith}
+use Rattle.std.proofs.Common.{append_assoc, get_or}
+use Rattle.vs_contents.specs.CallTree.{played}
+use Rattle.laws_history.specs.declared.packet.Packet.{Packet}
+use Rattle.vs_outside.specs.{Host.HostContents, Host.with_stream, declared.mem_stream.HostWritten.HostWritten}
+use Rattle.vs_outside.specs.HostProgram.{after_fail, after_host_write, after_listen, after_unlisten, allowed, closed, ended}
+use Rattle.vs_outside.specs.HostProgram.{host_write_answer, with_bytes}
+use Rattle.vs_page.specs.{Open.is_dropped, Held.held_in, Held.packet_held}
+use Rattle.vs_page.specs.Log.{packets_put, packets_got, Device, IsNextPacket, Log, flow_got}
+use Rattle.vs_ring_port.specs.{DriverCalls.driver_answer, declared.queue.Queue.Queue}
+use Rattle.laws_tables.specs.{Both.IsSound, Both.Both, Ends.ends_of, Ends.entries_of}
+use Rattle.vs_driver_parts.specs.{Conversations.DriverTree, Conversations.publish_of, State.DriverState}
+use Rattle.vs_driver_parts.specs.Steps.{takes_page, stages_reply, stages_owed}
+use Rattle.vs_device_parts.specs.{Calls.DeviceTree, State.DeviceState, State.DeviceConnection, Streams.tick_slot}
+use Rattle.vs_device_parts.specs.Steps.{takes_chain, returns, puts_event, puts_reply, puts_owed, puts_payload, writes, shuts_write}
+use Rattle.vs_proxy_parts.specs.{State.ProxyState, State.Turning, State.start, State.with_device, State.Handshake, Turns.proxy_reset_of}
+use Rattle.vs_proxy_parts.specs.Handshakes.{accept_one, tick_handshake}
+use Rattle.laws_world.specs.{Answers.answer_around, Calls.Journal, Calls.is_right, Calls.received_on, Calls.sent_on, GuestSteps.makes_call}
+use Rattle.laws_world.specs.{Received.IsReceived, Pipes.none_on, Pipes.put_on, Laws.IsQueued, Pages.TxHolds}
+use Rattle.laws_world.specs.Events.{Event, GuestCalls, GuestTakes, GuestReplies, GuestPays, GuestPublishes, DeviceTakes, DeviceReturns}
+use Rattle.laws_world.specs.Events.{DevicePutsEvent, DeviceReplies, DeviceReads, DevicePays, DeviceWrites, DeviceShutsWrite, ProxyAccepts}
+use Rattle.laws_world.specs.Events.{ProxyReads, Moment, TimesOut, HandshakeTimesOut, Reset, HostListens, HostUnlistens, ClientConnects}
+use Rattle.laws_world.specs.Events.{HostWrites, HostTakes, HostEnds, HostCloses, HostFails, at_moment, call_made, device_step, driver_step}
+use Rattle.laws_world.specs.Events.{happens, has_failed, holds, holds_event, is_at_rest, is_guest_cid, line_read, none_staged, proxy_step}
+use Rattle.laws_world.specs.Events.{reset_made, unless_failed, where_possible, works_on}
+use Rattle.laws_world.specs.Sides.{Runs, both_of, log_with_staged}
+use Rattle.laws_world.specs.World.{World, around, device_plays, driver_plays, first_cid}
+use Rattle.laws_world.proofs.{Received.same_received, Chains.HoldsRx, DeviceSide.DeviceHolds, DriverSide.DriverHolds}
+use Rattle.laws_world.proofs.{Played.device_plays_keeps, Played.driver_plays_keeps, Queues.pages_put}
+use Rattle.laws_world.proofs.{Rings.device_leaves_given, Rings.driver_leaves_cid, Runs.keeps_sound, Runs.stays, Once.AreOnce}
+use Rattle.laws_world.proofs.Once.{keeps_once}
+use Rattle.laws_world.proofs.{Wire.PutsFit, Streams.StreamedIf}
+use Rattle.vs_flow.specs.{declared.flow.Flow.Flow, Table.Table}
+use Rattle.std.specs.List.{All}
+use Rattle.vs_limits.specs.declared.TheConstants.{GUEST_CID_MIN, GUEST_CID_MAX}
+use Rattle.laws_tables.proofs.{Both.next_is_fair, Fair.got_formed, Slots.one_end, Voices.AreVoiced, Voices.voices_run}
+use Rattle.laws_bytes.specs.Streamed.{IsStreamed, gives}
+use Rattle.laws_bytes.proofs.{Cids.dropped_empty, HostCalls.client_host, HostCalls.same_host, Hosts.unseen, Logs.nothing_more}
+use Rattle.vs_ring_list.proofs.Held.{same_queue_is}
+use Rattle.vs_ring_port.specs.declared.queue.Queue.TheVariants as q
+use Rattle.laws_world.proofs.DevicePuts as device_puts
+use Rattle.laws_world.proofs.DeviceReads as device_reads
+use Rattle.laws_world.proofs.DeviceSide as device_side
+use Rattle.laws_world.proofs.DeviceStreams as device_streams
+use Rattle.laws_world.proofs.DeviceTurns as device_turns
+use Rattle.laws_world.proofs.DeviceEvents as device_events
+use Rattle.laws_world.proofs.DriverEvents as driver_events
+use Rattle.laws_world.proofs.DriverSide as driver_side
+use Rattle.laws_world.proofs.ProxyResets as proxy_resets
+use Rattle.laws_world.proofs.ProxySide as proxy_side
+use Rattle.vs_header.specs.declared.Kind.TheVariants as kind
+use Rattle.vs_outside.specs.declared.mem_stream.HostWritten.TheVariants as written
+
+-- The CIDs of packets stay as the two ends go on.
+cids_kept : (first : ℕ) (b c : Both) → Runs b c → IsSound first b → AreVoiced first b → AreVoiced first c
+cids_kept first b c r s cids = subst (AreVoiced first) r.ends (voices_run first r.steps b s r.may cids)
+
+-- The host's program writes.
+host_written : (id : ℕ) (bytes : List ℕ) (answer : HostWritten) (c : HostContents) (log : Log) (port : ℕ) (t : Table DeviceConnection) (hands : List Handshake)
+    → IsStreamed c log port t hands → IsStreamed (after_host_write id bytes answer c) log port t hands
+host_written id bytes written.Ok c log port t hands x = same_host c (with_stream id (with_bytes bytes) c) log port t hands
+    (unseen id (with_bytes bytes) c (λ st. refl)) refl x
+host_written id bytes written.Ended c log port t hands x = x
+host_written id bytes written.NoStream c log port t hands x = x
+
+-- What is true of the world after any list of events.
+pub record IsWell (fresh : Type 0) (w : World) : Type 0 where
+  pub queued : IsQueued w.rings
+  pub sound : IsSound first_cid (both_of w)
+  pub driver : DriverHolds w.driver
+  pub device : DeviceHolds w.proxy.next_port w.proxy.device
+  pub driver_puts : PutsFit (log_with_staged w.rings.driver)
+  pub device_puts : PutsFit w.rings.device.entries
+  pub pages : TxHolds w.rings.lists w.rings.driver
+  pub chain : HoldsRx w.proxy.device.chain w.rings.device.held
+  pub known : w.rings.lists.cid < 2 ^ 64
+  pub broken : w.driver.broken ≡ 0
+  pub sent : (f : Flow) → sent_on f w.journal ≡ put_on f (log_with_staged w.rings.driver)
+  pub received : IsReceived (λ f. received_on f w.journal) (log_with_staged w.rings.driver) w.driver
+  pub overrun : w.proxy.device.overrun ≡ 0
+  pub cids : AreVoiced first_cid (both_of w)
+  -- No flow is used twice.
+  pub once : AreOnce (both_of w)
+  -- Of a host that had no streams at first.
+  pub streams : StreamedIf fresh w.host w.rings.device.entries w.proxy.next_port w.proxy.device.table w.proxy.handshakes
+
+pub record Goes (fresh : Type 0) (w v : World) : Type 0 where
+  pub well : IsWell fresh v
+  pub runs : Runs (both_of w) (both_of v)
+
+pub goes_still : (fresh : Type 0) (w : World) → IsWell fresh w → Goes fresh w w
+goes_still fresh w well = record { well = well; runs = stays _ _ refl }
+
+-- The driver plays a conversation.
+driver_goes : {A : Type 0} (fresh : Type 0) (tree : DriverTree A) (state_of : A → DriverState) (extra read : Flow → List ℕ) (journal : Journal) (w : World) → IsWell fresh w
+    → ((f : Flow) → sent_on f journal ≡ sent_on f w.journal ++ extra f) → ((f : Flow) → received_on f journal ≡ received_on f w.journal ++ read f)
+    → (let r = played driver_answer tree (w.rings.lists, w.rings.driver) in
+    driver_side.KeptWith (both_of w).device extra read w.driver (log_with_staged w.rings.driver) (state_of r.0) (log_with_staged r.1.1) × TxHolds r.1.0 r.1.1)
+    → Goes fresh w (record (driver_plays tree w).1 { driver = state_of (driver_plays tree w).0; journal = journal })
+driver_goes fresh tree state_of extra read journal w well made reads (kept, pages) = record {
+  well = record {
+    queued = driver_plays_keeps tree w well.queued;
+    sound = keeps_sound first_cid _ _ kept.runs well.sound;
+    driver = kept.holds;
+    device = well.device;
+    driver_puts = kept.puts;
+    device_puts = well.device_puts;
+    pages = pages;
+    chain = well.chain;
+    known = subst (λ (n : ℕ). n < 2 ^ 64) (sym (driver_leaves_cid tree w.rings.lists w.rings.driver)) well.known;
+    broken = kept.broken ∙ well.broken;
+    sent = λ f. made f ∙ ap (λ (xs : List ℕ). xs ++ extra f) (well.sent f) ∙ sym (kept.sent f);
+    received = same_received (λ f. received_on f w.journal ++ read f) (λ f. received_on f journal) _ _ (λ f. sym (reads f)) (λ f. refl) (λ f is. is)
+        _ _ _ _ (kept.received (λ f. received_on f w.journal) well.received);
+    overrun = well.overrun;
+    cids = cids_kept first_cid _ _ kept.runs well.sound well.cids;
+    once = keeps_once first_cid _ _ kept.runs well.sound well.once;
+    streams = well.streams;
+  };
+  runs = kept.runs;
+}
+
+-- The device plays one, and so does the proxy.
+abbrev DeviceLeft : {A : Type 0} → Type 0 → (tree : DeviceTree A) (state_of : A → ProxyState) → World → Type 0
+DeviceLeft fresh tree state_of w =
+    let r = played answer_around tree (around w) in
+    device_side.Kept (both_of w).driver w.proxy.next_port w.proxy.device w.rings.device.entries (state_of r.0).next_port (state_of r.0).device r.1.log.entries
+    × HoldsRx (state_of r.0).device.chain r.1.log.held × (r.1.lists.cid < 2 ^ 64)
+    × StreamedIf fresh r.1.host r.1.log.entries (state_of r.0).next_port (state_of r.0).device.table (state_of r.0).handshakes
+
+device_goes : {A : Type 0} (fresh : Type 0) (tree : DeviceTree A) (state_of : A → ProxyState) (w : World) → IsWell fresh w → DeviceLeft fresh tree state_of w
+    → Goes fresh w (record (device_plays tree w).1 { proxy = state_of (device_plays tree w).0 })
+device_goes fresh tree state_of w well (kept, chain, known, streams) = record {
+  well = record {
+    queued = device_plays_keeps tree w well.queued;
+    sound = keeps_sound first_cid _ _ kept.runs well.sound;
+    driver = well.driver;
+    device = kept.holds;
+    driver_puts = well.driver_puts;
+    device_puts = kept.puts;
+    pages = (device_leaves_given tree (around w) well.pages.0, well.pages.1);
+    chain = chain;
+    known = known;
+    broken = well.broken;
+    sent = well.sent;
+    received = well.received;
+    overrun = kept.overrun ∙ well.overrun;
+    cids = cids_kept first_cid _ _ kept.runs well.sound well.cids;
+    once = keeps_once first_cid _ _ kept.runs well.sound well.once;
+    streams = streams;
+  };
+  runs = kept.runs;
+}
+
+possible : (fresh : Type 0) (b : Bool) (step : World → World) (w : World) → IsWell fresh w → (b ≡ true → Goes fresh w (step w)) → Goes fresh w (where_possible b step w)
+possible fresh true step w well goes = goes refl
+possible fresh false step w well goes = goes_still fresh w well
+
+unfailed : (fresh : Type 0) (b : Bool) (step : World → World) (w : World) → has_failed w ≡ b → IsWell fresh w → Goes fresh w (step w) → Goes fresh w (unless_failed step w)
+unfailed fresh true step w is well goes = rw is (goes_still fresh w well)
+unfailed fresh false step w is well goes = rw is goes
+
+-- Nothing is staged.
+pub nothing_staged : (pages : List (List ℕ)) → none_staged pages ≡ true → pages ≡ []
+nothing_staged [] is = refl
+nothing_staged (page ∷ pages) is = absurd cc
+
+module _ (fresh : Type 0) (w : World) (well : IsWell fresh w) where
+  driver_step_goes : (step : DriverState → DriverTree DriverState) → (let r = played driver_answer (step w.driver) (w.rings.lists, w.rings.driver) in
+      driver_side.Kept (both_of w).device w.driver (log_with_staged w.rings.driver) r.0 (log_with_staged r.1.1) × TxHolds r.1.0 r.1.1)
+      → Goes fresh w (driver_step step w)
+  driver_step_goes step kept = driver_goes fresh (step w.driver) (λ s. s) none_on none_on w.journal w well (λ f. nothing_more (sent_on f w.journal))
+      (λ f. nothing_more (received_on f w.journal)) kept
+
+  device_step_goes : (step : DeviceState → DeviceTree DeviceState)
+      → device_events.KeptBy (both_of w).driver first_cid w.proxy.next_port w.proxy.device w.rings.device.entries well.sound well.device well.device_puts fresh w.proxy.handshakes
+      (step w.proxy.device) (around w) → Goes fresh w (device_step step w)
+  device_step_goes step k = device_goes fresh (step w.proxy.device) (λ s. with_device s w.proxy) w well (k.kept, k.chain, k.known, k.streams)
+
+  proxy_step_goes : (step : Turning → DeviceTree Turning)
+      → proxy_side.KeptBy (both_of w).driver first_cid w.proxy (around w) well.sound well.device well.device_puts well.chain well.known fresh (step (start w.proxy))
+      → Goes fresh w (proxy_step step w)
+  proxy_step_goes step k = device_goes fresh (step (start w.proxy)) (λ t. t.state) w well (k.kept, k.chain, k.cid, k.streams)
+
+  -- What the device may take of the transmit queue.
+  tx_tied : packets_put (log_with_staged w.rings.driver)
+      ≡ (held_in packet_held w.rings.driver.staged.tx ++ held_in packet_held w.rings.lists.tx.given) ++ packets_got w.rings.device.entries
+  tx_tied =
+      (pages_put w.rings.driver.staged.tx w.rings.driver.entries).put
+      ∙ ap (λ (ps : List Packet). held_in packet_held w.rings.driver.staged.tx ++ ps) well.queued.tx
+      ∙ sym (append_assoc (held_in packet_held w.rings.driver.staged.tx) (held_in packet_held w.rings.lists.tx.given) (packets_got w.rings.device.entries))
+
+  -- A packet with payload isn't dropped where its connection takes payload.
+  undropped : (p : Packet) → IsNextPacket w.rings.device.entries (both_of w).driver.log p → is_dropped Device w.proxy.device.cid p.header ≡ true
+      → All (λ e. e.flow ≡ flow_got Device p → gives e.value.end ≡ true → p.payload ≡ []) w.proxy.device.table.entries
+  undropped p next dropped = λ i d within on given.
+      let e = get_or w.proxy.device.table.entries i d in
+      let there = Contains-get_or w.proxy.device.table.entries i d within in
+      let fair = next_is_fair Device first_cid p (both_of w) well.sound next in
+      dropped_empty first_cid (both_of w) well.sound well.cids p next dropped (λ other. (got_formed Device p w.rings.device.entries (fair (flow_got Device p))).payload other) e.value.end
+      (subst (λ (f : Flow). ends_of f (entries_of (λ (c : DeviceConnection). c.end) w.proxy.device.table) ≡ e.value.end ∷ []) on
+      (one_end (λ (c : DeviceConnection). c.end) w.proxy.device.table e well.device.sound there)) given
+
+  takes_goes : (queue : Queue) → works_on queue w.rings.driver.staged ≡ true → Goes fresh w (driver_step (takes_page queue) w)
+  takes_goes q.Tx may = driver_step_goes (takes_page q.Tx)
+      (driver_events.reaps_tx (both_of w).device first_cid w.driver w.rings.lists w.rings.driver well.sound well.driver well.driver_puts well.pages)
+  takes_goes q.Rx may = driver_step_goes (takes_page q.Rx)
+      (driver_events.takes_page_keeps (both_of w).device first_cid w.driver w.rings.lists w.rings.driver well.sound well.driver well.driver_puts well.pages
+      (nothing_staged w.rings.driver.staged.tx (and_parts _ _ may).0) well.device_puts well.queued.rx well.queued.event well.known well.once q.Rx)
+  takes_goes q.Event may = driver_step_goes (takes_page q.Event)
+      (driver_events.takes_page_keeps (both_of w).device first_cid w.driver w.rings.lists w.rings.driver well.sound well.driver well.driver_puts well.pages
+      (nothing_staged w.rings.driver.staged.tx (and_parts _ _ may).1) well.device_puts well.queued.rx well.queued.event well.known well.once q.Event)
+
+  device_takes_goes : (queue : Queue) → Goes fresh w (device_step (takes_chain queue) w)
+  device_takes_goes q.Rx = device_step_goes (takes_chain q.Rx)
+      (device_turns.takes_rx (both_of w).driver first_cid w.proxy.next_port w.proxy.device (around w) well.sound well.device well.device_puts well.chain well.known fresh w.proxy.handshakes well.streams)
+  device_takes_goes q.Event = device_step_goes (takes_chain q.Event)
+      (device_turns.takes_event (both_of w).driver first_cid w.proxy.next_port w.proxy.device (around w) well.sound well.device well.device_puts well.chain well.known fresh w.proxy.handshakes well.streams)
+  device_takes_goes q.Tx = device_step_goes (takes_chain q.Tx)
+      (device_turns.takes_tx (both_of w).driver first_cid w.proxy.next_port w.proxy.device (around w) well.sound well.device well.device_puts well.chain well.known fresh w.proxy.handshakes well.streams
+      (held_in packet_held w.rings.driver.staged.tx) tx_tied well.driver_puts well.pages.0 undropped well.once)
+
+  -- The moment and the host change.
+  outside_goes : (now : ℕ) (host : HostContents)
+      → StreamedIf fresh host w.rings.device.entries w.proxy.next_port w.proxy.device.table w.proxy.handshakes
+      → Goes fresh w (at_moment now (record w { host = host }))
+  outside_goes now host streams = record {
+    well = record {
+      queued = well.queued;
+      sound = well.sound;
+      driver = well.driver;
+      device = well.device;
+      driver_puts = well.driver_puts;
+      device_puts = well.device_puts;
+      pages = well.pages;
+      chain = well.chain;
+      known = well.known;
+      broken = well.broken;
+      sent = well.sent;
+      received = well.received;
+      overrun = well.overrun;
+      cids = well.cids;
+      once = well.once;
+      streams = streams;
+    };
+    runs = stays _ _ refl;
+  }
+
+  host_goes : (host : HostContents)
+      → StreamedIf fresh host w.rings.device.entries w.proxy.next_port w.proxy.device.table w.proxy.handshakes → Goes fresh w (record w { host = host })
+  host_goes host streams = outside_goes w.proxy.device.now host streams
+
+  guest_cid_fits : (cid : ℕ) → is_guest_cid cid ≡ true → cid < 2 ^ 64
+  guest_cid_fits cid is =
+      let below : nat_le cid GUEST_CID_MAX ≡ true = (and_parts (nat_le GUEST_CID_MIN cid) (nat_le cid GUEST_CID_MAX) is).1 in
+      let less : cid ≤ GUEST_CID_MAX = grind (arith, nat_tests, below) in omega (arith, less)
+
+  pub happens_goes : (e : Event) → Goes fresh w (happens e w)
+  happens_goes (GuestCalls call) =
+      possible fresh (is_at_rest w.rings.driver.staged && is_right call) (λ v. (call_made call v).0) w well
+      (λ may. driver_goes fresh (makes_call call w.driver) (λ r. r.0) _ _ _ w well (λ f. refl) (λ f. refl)
+      (driver_events.makes_call_keeps (both_of w).device first_cid w.driver w.rings.lists w.rings.driver well.sound well.driver well.driver_puts well.pages call
+      (and_parts _ _ may).1))
+  happens_goes (GuestTakes queue) = possible fresh (works_on queue w.rings.driver.staged) (driver_step (takes_page queue)) w well (takes_goes queue)
+  happens_goes GuestReplies =
+      possible fresh (works_on q.Tx w.rings.driver.staged) (driver_step stages_reply) w well (λ may. driver_step_goes stages_reply
+      (driver_events.stages_reply_keeps (both_of w).device first_cid w.driver w.rings.lists w.rings.driver well.sound well.driver well.driver_puts well.pages))
+  happens_goes (GuestPays slot) =
+      possible fresh (works_on q.Tx w.rings.driver.staged) (driver_step (stages_owed slot)) w well (λ may. driver_step_goes (stages_owed slot)
+      (driver_events.stages_owed_keeps (both_of w).device first_cid w.driver w.rings.lists w.rings.driver well.sound well.driver well.driver_puts well.pages slot))
+  happens_goes (GuestPublishes queue) =
+      possible fresh (works_on queue w.rings.driver.staged) (driver_step (publish_of queue)) w well (λ may. driver_step_goes (publish_of queue)
+      (driver_events.publishes_keeps (both_of w).device first_cid w.driver w.rings.lists w.rings.driver well.sound well.driver well.driver_puts well.pages queue))
+  happens_goes (DeviceTakes queue) = unfailed fresh (has_failed w) (device_step (takes_chain queue)) w refl well (device_takes_goes queue)
+  happens_goes (DeviceReturns chain) =
+      possible fresh (holds q.Tx chain w) (device_step (returns chain)) w well (λ may. device_step_goes (returns chain)
+      (device_turns.returns_tx (both_of w).driver first_cid w.proxy.next_port w.proxy.device (around w) well.sound well.device well.device_puts well.chain well.known fresh w.proxy.handshakes well.streams
+      chain (sym (same_queue_is q.Tx chain.queue (and_parts _ _ may).0))))
+  happens_goes (DevicePutsEvent chain) =
+      possible fresh (holds_event chain w) (device_step (puts_event chain)) w well (λ may. device_step_goes (puts_event chain)
+      (device_turns.puts_event_keeps (both_of w).driver first_cid w.proxy.next_port w.proxy.device (around w) well.sound well.device well.device_puts well.chain
+      well.known fresh w.proxy.handshakes well.streams chain
+      (sym (same_queue_is q.Event chain.queue (and_parts _ _ (and_parts (holds q.Event chain w) _ may).0).0))
+      (and_parts _ _ (and_parts (holds q.Event chain w) _ may).0).1))
+  happens_goes DeviceReplies = unfailed fresh (has_failed w) (device_step puts_reply) w refl well (device_step_goes puts_reply
+      (device_puts.puts_reply_keeps (both_of w).driver first_cid w.proxy.next_port w.proxy.device (around w) well.sound well.device well.device_puts well.chain well.known fresh w.proxy.handshakes well.streams))
+  happens_goes (DeviceReads slot) = unfailed fresh (has_failed w) (device_step (puts_payload slot)) w refl well (device_step_goes (puts_payload slot)
+      (device_reads.puts_payload_keeps (both_of w).driver first_cid w.proxy.next_port w.proxy.device (around w) well.sound well.device well.device_puts well.chain well.known fresh w.proxy.handshakes well.streams slot))
+  happens_goes (DevicePays slot) = unfailed fresh (has_failed w) (device_step (puts_owed slot)) w refl well (device_step_goes (puts_owed slot)
+      (device_puts.puts_owed_keeps (both_of w).driver first_cid w.proxy.next_port w.proxy.device (around w) well.sound well.device well.device_puts well.chain well.known fresh w.proxy.handshakes well.streams slot))
+  happens_goes (DeviceWrites slot) = unfailed fresh (has_failed w) (device_step (writes slot)) w refl well (device_step_goes (writes slot)
+      (device_streams.writes_keeps (both_of w).driver first_cid w.proxy.next_port w.proxy.device (around w) well.sound well.device well.device_puts well.chain well.known fresh w.proxy.handshakes well.streams slot))
+  happens_goes (DeviceShutsWrite slot) = unfailed fresh (has_failed w) (device_step (shuts_write slot)) w refl well (device_step_goes (shuts_write slot)
+      (device_streams.shuts_write_keeps (both_of w).driver first_cid w.proxy.next_port w.proxy.device (around w) well.sound well.device well.device_puts well.chain well.known fresh w.proxy.handshakes well.streams slot))
+  happens_goes ProxyAccepts = unfailed fresh (has_failed w) (proxy_step accept_one) w refl well (proxy_step_goes accept_one
+      (proxy_side.accept_keeps (both_of w).driver first_cid w.proxy (around w) well.sound well.device well.device_puts well.chain well.known fresh well.streams))
+  happens_goes (ProxyReads stream) = unfailed fresh (has_failed w) (proxy_step (line_read stream)) w refl well (proxy_step_goes (line_read stream)
+      (proxy_side.line_read_keeps (both_of w).driver first_cid w.proxy (around w) well.sound well.device well.device_puts well.chain well.known fresh well.streams stream))
+  happens_goes (Moment now) = outside_goes now w.host well.streams
+  happens_goes (TimesOut slot) = unfailed fresh (has_failed w) (device_step (tick_slot slot)) w refl well (device_step_goes (tick_slot slot)
+      (device_streams.tick_keeps (both_of w).driver first_cid w.proxy.next_port w.proxy.device (around w) well.sound well.device well.device_puts well.chain well.known fresh w.proxy.handshakes well.streams slot))
+  happens_goes (HandshakeTimesOut stream) = unfailed fresh (has_failed w) (proxy_step (tick_handshake stream)) w refl well (proxy_step_goes (tick_handshake stream)
+      (proxy_side.handshake_keeps (both_of w).driver first_cid w.proxy (around w) well.sound well.device well.device_puts well.chain well.known fresh well.streams stream))
+  happens_goes (Reset cid) = possible fresh (is_guest_cid cid) (reset_made cid) w well (λ may.
+      let k = proxy_resets.reset_keeps (both_of w).driver first_cid w.proxy (around w) well.sound well.device well.device_puts well.chain well.known fresh well.streams cid
+      (guest_cid_fits cid may) in
+      device_goes fresh (proxy_reset_of cid w.proxy) (λ r. r.0) w well (k.kept, k.chain, k.cid, k.streams))
+  happens_goes (HostListens port) = host_goes _ (λ ok. same_host w.host (after_listen port kind.Stream w.host) _ _ _ _ (λ j. refl) refl (well.streams ok))
+  happens_goes (HostUnlistens port) = host_goes _ (λ ok. same_host w.host (after_unlisten port kind.Stream w.host) _ _ _ _ (λ j. refl) refl (well.streams ok))
+  happens_goes ClientConnects = host_goes _ (λ ok. client_host w.host _ _ _ _ (well.streams ok))
+  happens_goes (HostWrites stream bytes) = host_goes _ (λ ok. host_written stream bytes (host_write_answer stream w.host) w.host _ _ _ _ (well.streams ok))
+  happens_goes (HostTakes stream n) = host_goes _ (λ ok. same_host w.host (with_stream stream (allowed 18446744073709551615 n) w.host) _ _ _ _ (unseen stream (allowed 18446744073709551615 n) w.host (λ st. refl)) refl (well.streams ok))
+  happens_goes (HostEnds stream) = host_goes _ (λ ok. same_host w.host (with_stream stream ended w.host) _ _ _ _ (unseen stream ended w.host (λ st. refl)) refl (well.streams ok))
+  happens_goes (HostCloses stream) = host_goes _ (λ ok. same_host w.host (with_stream stream closed w.host) _ _ _ _ (unseen stream closed w.host (λ st. refl)) refl (well.streams ok))
+  happens_goes (HostFails n) = host_goes _ (λ ok. same_host w.host (after_fail n w.host) _ _ _ _ (λ j. refl) refl (well.streams ok))

@@ -1,0 +1,26 @@
+-- What the pages of the transmit queue hold, and which chains the device holds.
+use Rattle.std.specs.Prelude.{◌≡◌, ◌≤◌, ◌+◌, ℕ, Bool, true, false, if◌then◌else◌, List, [], ◌∷◌, length, Some}
+use Rattle.vs_header.specs.declared.TheConstants.{HEADER_LEN}
+use Rattle.laws_history.specs.declared.packet.Packet.{Packet}
+use Rattle.vs_page.specs.Held.{packet_held}
+use Rattle.vs_ring_port.specs.{Chains.Held, Chains.same_chain, EndLog.EndLog, Lists.Rings}
+use Rattle.vs_ring_port.specs.declared.device_ring.Chain.{Chain}
+
+-- A page holds a packet, with as many bytes as its header tells.
+pub record PageHolds (page : List ℕ) : Type 0 where
+  pub packet : Packet
+  pub held : packet_held page ≡ Some packet
+  pub long : HEADER_LEN + packet.header.len ≤ length page
+
+abbrev pub AllHold : List (List ℕ) → Type 0
+AllHold [] = Unit {0}
+AllHold (page ∷ pages) = PageHolds page × AllHold pages
+
+-- Of those staged and of those given each does.
+abbrev pub TxHolds : Rings → EndLog → Type 0
+TxHolds lists log = AllHold lists.tx.given × AllHold log.staged.tx
+
+-- A chain is held.
+abbrev pub is_held : Chain → List Held → Bool
+is_held chain [] = false
+is_held chain (h ∷ held) = if same_chain chain h.chain then true else is_held chain held

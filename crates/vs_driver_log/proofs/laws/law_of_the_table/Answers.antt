@@ -1,5 +1,0 @@
-use Rattle.vs_driver_log.proofs.Shown.{left_open}
-use Rattle.vs_driver_log.proofs.laws.law_of_the_table.Goals as goal
-
-pub returns : goal.returns
-returns c = left_open
