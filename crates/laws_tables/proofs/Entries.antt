@@ -4,6 +4,7 @@ use Rattle.std.proofs.Common.{◌⊎◌, inl, inr}
 use Rattle.std.proofs.lemmas.Grind.{common_steps}
 use Rattle.vs_conn.specs.End.{ConnectionEnd}
 use Rattle.vs_flow.specs.{Flow.is_host, Flow.same_flow, declared.flow.Flow.Flow}
+use Rattle.vs_limits.specs.declared.TheConstants.{CLEAN_PAIRS}
 use Rattle.vs_replies.specs.declared.Reply.{Reply}
 use Rattle.laws_tables.specs.Ends.{AreDistinct, FlowEnd, ends_of, flows_of, is_among, keeping, of_host, replaced, replied, replies_of}
 use Rattle.laws_tables.specs.Ends.{rest_of, without, without_flow}
@@ -99,7 +100,7 @@ keeping_by f g fs true is other = rest_among g fs (sym (among_other f g (rest_of
 keeping_by f g fs false is other = sym (among_other f g fs other) ∙ is
 
 pub keeping_among : (f g : Flow) (fs : List Flow) → is_among g (keeping f fs) ≡ true → same_flow g f ≡ false → is_among g fs ≡ true
-keeping_among f g fs is other = keeping_by f g fs (nat_le 64 (length fs)) is other
+keeping_among f g fs is other = keeping_by f g fs (nat_le CLEAN_PAIRS (length fs)) is other
 
 pub without_among : (f g : Flow) (fs : List Flow) → is_among g (without f fs) ≡ true → is_among g fs ≡ true
 without_among f g [] is = is
@@ -152,7 +153,7 @@ keeping_from f fs true none d =
 keeping_from f fs false none d = last_distinct f fs none d
 
 pub keeping_distinct : (f : Flow) (fs : List Flow) → is_among f fs ≡ false → AreDistinct fs → AreDistinct (keeping f fs)
-keeping_distinct f fs none d = keeping_from f fs (nat_le 64 (length fs)) none d
+keeping_distinct f fs none d = keeping_from f fs (nat_le CLEAN_PAIRS (length fs)) none d
 
 -- Flows between the guest and the host.
 pub host_among : (f : Flow) (fs : List Flow) → is_among f (of_host fs) ≡ true → is_among f fs ≡ true
