@@ -1,9 +1,9 @@
 -- What holds of each play.
-use Rattle.std.proofs.Common.{◌≡◌, ℕ, true, List, [], ◌∷◌, ◌++◌, None, refl, sym, ap, subst, ◌∙◌, map, Ok}
+use Rattle.std.proofs.Common.{◌≡◌, ℕ, true, List, [], ◌∷◌, ◌++◌, None, Some, refl, sym, ap, subst, ◌∙◌, map, Ok}
 use Rattle.vs_flow.specs.{Connection.first_of, declared.flow.Flow.Flow}
 use Rattle.laws_history.specs.{History.puts, Packets.has, Packets.shuts_send}
 use Rattle.vs_driver_parts.specs.State.{DriverEntry}
-use Rattle.vs_device_parts.specs.State.{DeviceEntry}
+use Rattle.vs_device_parts.specs.{State.DeviceEntry, Turns.counters_of, declared.answers.Counters.Counters}
 use Rattle.laws_tables.specs.{Both.Both, Both.at, Steps.HasEnd}
 use Rattle.laws_tables.proofs.Slots.{one_end}
 use Rattle.vs_outside.specs.{HostBytes.host_wrote, Host.HostContents, HostProgram.new_host, HostProgram.plain}
@@ -96,10 +96,10 @@ module _ (w v : World) (f : Flow) (well : IsWell Fresh w) (goes : Goes Fresh w v
   }
 
 -- The report, with other names for its numbers.
-says_so : (texts streams : List (List ℕ)) (g g' d d' dropped o b faults : ℕ) → g ≡ g' → d ≡ d' → o ≡ 0 → b ≡ 0
-    → texts ++ (guest_open_text g ∷ device_open_text d ∷ (streams ++ counts_text dropped o b faults ∷ []))
-    ≡ texts ++ (guest_open_text g' ∷ device_open_text d' ∷ (streams ++ counts_text dropped 0 0 faults ∷ []))
-says_so texts streams g g' d d' dropped o b faults gs ds none nor = rw gs (rw ds (rw none (rw nor refl)))
+says_so : (texts streams : List (List ℕ)) (g g' d d' b : ℕ) (c : Counters) → g ≡ g' → d ≡ d' → c.overrun ≡ 0 → b ≡ 0
+    → texts ++ (guest_open_text g ∷ device_open_text d ∷ (streams ++ counts_text c (Some b) ∷ []))
+    ≡ texts ++ (guest_open_text g' ∷ device_open_text d' ∷ (streams ++ counts_text (record c { overrun = 0 }) (Some 0) ∷ []))
+says_so texts streams g g' d d' b c gs ds none nor = rw gs (rw ds (rw none (rw nor refl)))
 
 module _ (n : ℕ) where
   at_rest : is_at_rest (opened_play n).world.rings.driver.staged ≡ true
@@ -159,7 +159,7 @@ module _ (n : ℕ) where
         queues = queued w well fresh rest;
         report =
             says_so (texts_of lines (opened_play n))
-            (stream_texts 1 w.host.streams) _ _ _ _ w.proxy.device.dropped _ _ w.proxy.device.faults
+            (stream_texts 1 w.host.streams) _ _ _ _ _ (counters_of w.proxy.device)
             (many_guest w well fresh rest) (many_device w well fresh rest) well.overrun well.broken;
       }
 

@@ -10,7 +10,7 @@ use Rattle.laws_history.specs.declared.packet.Packet.{Packet}
 use Rattle.vs_page.specs.{Log.Device, Log.Driver, Log.HasGotAll, Log.Log, Log.Role, Log.history_of, Open.WasOpened, Open.is_open}
 use Rattle.vs_page.specs.Fair.{IsFairLog, IsPrefixOf, payload_got, payload_put}
 use Rattle.vs_driver_parts.specs.State.{DriverEntry}
-use Rattle.vs_device_parts.specs.State.{DeviceEntry}
+use Rattle.vs_device_parts.specs.{State.DeviceEntry, Turns.counters_of}
 use Rattle.laws_tables.specs.Ends.{begun_flows, flows_of, is_among, new_flows, replied}
 use Rattle.vs_outside.specs.HostBytes.{host_read, host_wrote, read_after_ok, wrote_after_connect}
 use Rattle.vs_outside.specs.Host.{Stream, stream_at}
@@ -156,7 +156,7 @@ pub record IsQueued (w : World) : Type 0 where
 abbrev pub Reports : ℕ → List Event → Type 0
 Reports n lines = let w = world_of n lines in printed n lines ≡ texts_of lines (opened_play n)
     ++ guest_open_text (length (guest_flows w)) ∷ device_open_text (length (device_flows w))
-    ∷ (stream_texts 1 w.host.streams ++ counts_text w.proxy.device.dropped 0 0 w.proxy.device.faults ∷ [])
+    ∷ (stream_texts 1 w.host.streams ++ counts_text (record (counters_of w.proxy.device) { overrun = 0 }) (Some 0) ∷ [])
 
 -- A play of these lines, over queues of n pages.
 pub record IsLawful (n : ℕ) (lines : List Event) : Type 0 where

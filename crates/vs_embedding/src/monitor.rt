@@ -7,10 +7,10 @@ ghost use Rattle.vs_uds.specs.declared.path.TheConstants.{BASE_MAX};
 
 use crate::collector::Collector;
 use crate::queues::{MonitorRing, Virtqueues};
+use laws_proxy::laws::law_of_order;
 use std::alloc::{AllocError, Global};
 use std::marker::Model;
 use vs_proxy::{Proxy, Turn, Turned};
-use laws_proxy::laws::law_of_order;
 
 /// What a round of the device's thread came to.
 #[derive(Clone, Copy, Debug, PartialEq, Eq)]

@@ -1,16 +1,16 @@
 -- How the lines of a run add up.
-use Rattle.std.proofs.Common.{◌≡◌, ◌<◌, ℕ, ◌+◌, List, [], ◌∷◌, ◌++◌, length, map, drop, get_or, Option, Result, Ok, Err, sym, ap, ◌∙◌}
+use Rattle.std.proofs.Common.{◌≡◌, ◌<◌, ℕ, ◌+◌, List, [], ◌∷◌, ◌++◌, length, map, drop, get_or, Option, None, Result, Ok, Err, sym, ap, ◌∙◌}
 use Rattle.std.proofs.Common.{subst, append_assoc}
 use Rattle.std.proofs.lemmas.List.{drop_more, drop-map, length-map}
-use Rattle.vs_device_parts.specs.Turns.{table_shown}
+use Rattle.vs_device_parts.specs.Turns.{counters_of, table_shown}
 use Rattle.vs_outside.specs.Host.{Stream}
-use Rattle.vs_report.specs.{Gives.GivesLines, Report.device_open_text, Report.stream_texts}
+use Rattle.vs_report.specs.{Gives.GivesLines, Report.counts_text, Report.device_open_text, Report.stream_texts}
 use Rattle.vs_report.specs.declared.giving.GiveError.{GiveError}
 use Rattle.vs_report.proofs.LinesGiven.{gives_next, gives_less}
 use Rattle.vs_script.specs.{Hostile.Hostile, Hostile.hostile_view, Script.numbered_hostile}
 use Rattle.vs_script.specs.declared.hostile.HostileLine.{HostileLine}
 use Rattle.vs_script.specs.declared.script.Numbered.{Numbered}
-use Rattle.vs_hostile.specs.Answer.{attack_of, counted_text, given, lines_of, report_texts, said_text, state_after, texts_of}
+use Rattle.vs_hostile.specs.Answer.{attack_of, given, lines_of, report_texts, said_text, state_after, texts_of}
 use Rattle.vs_hostile.specs.Run.{HostileState, beginning, hostile_does}
 
 -- The lines of a script, as the program holds them.
@@ -95,7 +95,7 @@ module _ (s : HostileState) (old new : Option (List ℕ)) (f g : ℕ) where
   report_until_device e r failed one =
       ends_as (Err e) r failed
       (gives_less old new f g (device_open_text (length s.proxy.device.table.entries) ∷ [])
-      (stream_texts 1 s.host.streams ++ counted_text s.proxy.device.dropped s.proxy.device.overrun s.proxy.device.faults ∷ []) e one)
+      (stream_texts 1 s.host.streams ++ counts_text (counters_of s.proxy.device) None ∷ []) e one)
 
   pub report_until_streams : (mid : Option (List ℕ)) (m : ℕ) (e : GiveError) (r : Result (Unit {0}) GiveError) → r ≡ Err e
       → GivesLines old mid f m (device_open_text (length s.proxy.device.table.entries) ∷ []) (Ok tt)
@@ -103,20 +103,20 @@ module _ (s : HostileState) (old new : Option (List ℕ)) (f g : ℕ) where
   report_until_streams mid m e r failed one two =
       ends_as (Err e) r failed
       (gives_next old mid new f m g (device_open_text (length s.proxy.device.table.entries) ∷ [])
-      (stream_texts 1 s.host.streams ++ counted_text s.proxy.device.dropped s.proxy.device.overrun s.proxy.device.faults ∷ []) (Err e) one
+      (stream_texts 1 s.host.streams ++ counts_text (counters_of s.proxy.device) None ∷ []) (Err e) one
       (gives_less mid new m g (stream_texts 1 s.host.streams)
-      (counted_text s.proxy.device.dropped s.proxy.device.overrun s.proxy.device.faults ∷ []) e two))
+      (counts_text (counters_of s.proxy.device) None ∷ []) e two))
 
   pub report_given : (mid low : Option (List ℕ)) (m n : ℕ) (r : Result (Unit {0}) GiveError)
       → GivesLines old mid f m (device_open_text (length s.proxy.device.table.entries) ∷ []) (Ok tt)
       → GivesLines mid low m n (stream_texts 1 s.host.streams) (Ok tt)
-      → GivesLines low new n g (counted_text s.proxy.device.dropped s.proxy.device.overrun s.proxy.device.faults ∷ []) r
+      → GivesLines low new n g (counts_text (counters_of s.proxy.device) None ∷ []) r
       → GivesLines old new f g (report_texts s) r
   report_given mid low m n r one two three =
       gives_next old mid new f m g (device_open_text (length s.proxy.device.table.entries) ∷ [])
-      (stream_texts 1 s.host.streams ++ counted_text s.proxy.device.dropped s.proxy.device.overrun s.proxy.device.faults ∷ []) r one
+      (stream_texts 1 s.host.streams ++ counts_text (counters_of s.proxy.device) None ∷ []) r one
       (gives_next mid low new m n g (stream_texts 1 s.host.streams)
-      (counted_text s.proxy.device.dropped s.proxy.device.overrun s.proxy.device.faults ∷ []) r two three)
+      (counts_text (counters_of s.proxy.device) None ∷ []) r two three)
 
 -- The whole: without memory at first nothing is given; lines that end with an error end it; with all lines run it ends with its report.
 module _ (xs : List (Numbered HostileLine)) (w : HostileState) (begins : w ≡ beginning) (old new : Option (List ℕ)) (f g : ℕ) where

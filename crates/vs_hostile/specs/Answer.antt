@@ -1,7 +1,9 @@
 -- What a hostile guest's script prints, and the status that it ends with, as a function of its bytes.
-use Rattle.std.specs.Prelude.{ℕ, List, [], ◌∷◌, ◌++◌, length, map, codes, decimal, Option, Some, None, Result, Ok, Err}
+use Rattle.std.specs.Prelude.{ℕ, List, [], ◌∷◌, ◌++◌, length, map, codes, Option, Some, None, Result, Ok, Err}
+use Rattle.vs_device_parts.specs.Turns.{counters_of}
 use Rattle.vs_report.specs.{Answers.Answer, Answers.refusal, Bytes.data_text, DeviceLines.turn_text, DeviceLines.reset_text}
-use Rattle.vs_report.specs.{HostLines.ok_text, HostLines.client_text, Report.device_open_text, Report.stream_texts}
+use Rattle.vs_report.specs.{HostLines.ok_text, HostLines.client_text, Report.counts_text, Report.device_open_text}
+use Rattle.vs_report.specs.Report.{stream_texts}
 use Rattle.vs_report.specs.declared.giving.GiveError.{GiveError}
 use Rattle.vs_ring_port.specs.declared.failure.Failure.{Failure}
 use Rattle.vs_script.specs.{Hostile.Hostile, Script.Saying, Script.Attacks, Script.parse_of}
@@ -31,14 +33,10 @@ texts_of [] s = []
 texts_of (line ∷ lines) s = let r = hostile_does line s in said_text r.1 ∷ texts_of lines r.0
 
 -- The report: how many entries the device's table has, what each stream's program wrote and read, and what was counted.
-abbrev pub counted_text : ℕ → ℕ → ℕ → List ℕ
-counted_text dropped overrun faults =
-    codes "dropped " ++ decimal dropped ++ codes " overrun " ++ decimal overrun ++ codes " faults " ++ decimal faults ++ codes "\n"
-
 abbrev pub report_texts : HostileState → List (List ℕ)
 report_texts s =
     device_open_text (length s.proxy.device.table.entries)
-    ∷ (stream_texts 1 s.host.streams ++ counted_text s.proxy.device.dropped s.proxy.device.overrun s.proxy.device.faults ∷ [])
+    ∷ (stream_texts 1 s.host.streams ++ counts_text (counters_of s.proxy.device) None ∷ [])
 
 -- The status is 7 where the device failed.
 abbrev pub status_of : Option Failure → ℕ

@@ -4,9 +4,9 @@
 
 pub mod guest;
 pub mod lines;
-pub mod report;
 pub mod rings;
 pub mod run;
+pub mod status;
 pub mod turns;
 pub mod whole;
 pub mod worked;

@@ -3,15 +3,15 @@
 ghost use Rattle.std.specs.Prelude.{◌≡◌, ◌∷◌, [], IfOk, OnOk, map, option_map, string_bytes};
 ghost use Rattle.vs_script.specs.{Hostile.hostile_view, Script.numbered_hostile, Script.script_view};
 ghost use Rattle.vs_report.specs.Gives.{GivesLines};
-ghost use Rattle.vs_hostile.specs.Answer.{attack_of, counted_text, given, lines_in, lines_of, report_texts, said_text, state_after};
+ghost use Rattle.vs_hostile.specs.Answer.{attack_of, given, lines_in, lines_of, report_texts, said_text, state_after};
 ghost use Rattle.vs_hostile.specs.{Answer.texts_of, Ready.IsReady, Ready.StepsNext, Run.beginning, Run.hostile_does};
 
-use crate::report::{push_counted, status};
+use crate::status::status;
 use crate::world::HostileWorld;
 use std::alloc::{AllocError, Global};
 use std::marker::Model;
 use vs_outside::Sink;
-use vs_report::giving::{GiveError, give_device_open, give_streams, give_text};
+use vs_report::giving::{GiveError, give_counts, give_device_open, give_streams, give_text};
 use vs_script::{HostileLine, Numbered, Script};
 
 /// A hostile guest's script in the course of its run.
@@ -137,20 +137,5 @@ fn give_report<K: Sink>(
 {
     give_device_open(world.entries(), text, out)?;
     give_streams(world.streams(), text, out)?;
-    give_counted(world, text, out)
-}
-
-// Gives what was counted.
-fn give_counted<K: Sink>(
-    world: &HostileWorld,
-    text: &mut String,
-    out: &mut K,
-) -> Result<(), GiveError>
-    ensures { let d = world.now.proxy.device in GivesLines (K.contents out.old) (K.contents out.new) (K.faults out.old) (K.faults out.new)
-        (counted_text d.dropped d.overrun d.faults ∷ []) result }
-{
-    let counters = world.counters();
-    text.clear();
-    push_counted(text, counters.dropped, counters.overrun, counters.faults)?;
-    give_text(text, out)
+    give_counts(world.counters(), None, text, out)
 }

@@ -9,10 +9,10 @@ ghost use Rattle.vs_ring_plain.specs.Device.{chains_held};
 ghost use Rattle.vs_hostile.specs.{Answers.answer_around, Ready.IsServing};
 
 use crate::whole::WholeSide;
+use laws_proxy::laws::law_of_order;
 use std::alloc::AllocError;
 use vs_outside::MemHost;
 use vs_proxy::{Proxy, Turn};
-use laws_proxy::laws::law_of_order;
 use vs_ring_port::Failure;
 
 /// A turn of the device. The error is want of memory, which the host found in this turn or before.

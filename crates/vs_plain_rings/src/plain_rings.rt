@@ -12,12 +12,12 @@ ghost use Rattle.vs_page.specs.{Fair.IsFairLog, Log.Device, Log.Driver, Log.HasG
 ghost use Rattle.vs_plain_rings.specs.Counted.{AreCounted};
 
 use crate::parts::{Parts, pages_from};
+use laws_ring_journal::{Call, Journal};
 use std::alloc::{AllocError, Global};
 use std::marker::Model;
 use vs_guest_mem::{AddrRange, PlainMem};
 use vs_layout::queue_areas;
 use vs_page::Page;
-use laws_ring_journal::{Call, Journal};
 use vs_ring_port::{Chain, DeviceRing, DriverRing, Next, NoDescriptor, Queue, Reaped};
 
 /// Both ends of the three virtqueues in a guest's memory, which one thread lends to each end in turn. Seen as both ends with their memory,

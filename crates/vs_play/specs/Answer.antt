@@ -1,5 +1,6 @@
 -- The answer of a play: the lines that a script prints, and the status that it ends with, as a function of its bytes.
 use Rattle.std.specs.Prelude.{ℕ, List, [], ◌∷◌, ◌++◌, length, map, codes, Result, Ok, Err}
+use Rattle.vs_device_parts.specs.Turns.{counters_of}
 use Rattle.vs_script.specs.{Play.Event, Script.Saying, Script.Plays, Script.parse_of}
 use Rattle.vs_script.specs.declared.fault.Refused.{Refused}
 use Rattle.vs_script.specs.declared.script.Command.TheVariants as command
@@ -29,10 +30,8 @@ abbrev pub totals_of : World → Totals
 totals_of w = record {
   guest_open = length w.driver.table.entries;
   device_open = length w.proxy.device.table.entries;
-  dropped = w.proxy.device.dropped;
-  overrun = w.proxy.device.overrun;
+  counters = counters_of w.proxy.device;
   broken = w.driver.broken;
-  faults = w.proxy.device.faults;
 }
 
 abbrev pub report_of : World → List (List ℕ)

@@ -69,14 +69,11 @@ impl<R: BothEnds> Play<R> {
     pub fn totals(&self) -> Totals
         ensures { result ≡ totals_of (world_in self.now).world }
     {
-        let counters = self.proxy.counters();
         Totals {
             guest_open: guest::guest_entries(&self.driver),
             device_open: device::device_entries(&self.proxy),
-            dropped: counters.dropped,
-            overrun: counters.overrun,
+            counters: self.proxy.counters(),
             broken: self.driver.broken(),
-            faults: counters.faults,
         }
     }
 

@@ -44,27 +44,27 @@ module _ (t : Totals) (ss : List Stream) (old new : Option (List ℕ)) (f g : �
 
   -- it ends at its first line, at its second, or in its streams
   pub report_until_guest : (e : GiveError) (r : Result (Unit {0}) GiveError) → r ≡ Err e → GivesLines old new f g (guest_open_text t.guest_open ∷ []) (Err e) → GivesLines old new f g (report t ss) r
-  report_until_guest e r failed one = ends_as (Err e) r failed (gives_less old new f g (guest_open_text t.guest_open ∷ []) (device_open_text t.device_open ∷ (stream_texts 1 ss ++ counts_text t.dropped t.overrun t.broken t.faults ∷ [])) e one)
+  report_until_guest e r failed one = ends_as (Err e) r failed (gives_less old new f g (guest_open_text t.guest_open ∷ []) (device_open_text t.device_open ∷ (stream_texts 1 ss ++ counts_text t.counters (Some t.broken) ∷ [])) e one)
 
   pub report_until_device : (mid : Option (List ℕ)) (m : ℕ) (e : GiveError) (r : Result (Unit {0}) GiveError) → r ≡ Err e
       → GivesLines old mid f m (guest_open_text t.guest_open ∷ []) (Ok tt) → GivesLines mid new m g (device_open_text t.device_open ∷ []) (Err e) → GivesLines old new f g (report t ss) r
   report_until_device mid m e r failed one two = ends_as (Err e) r failed
-      (gives_next old mid new f m g (guest_open_text t.guest_open ∷ []) (device_open_text t.device_open ∷ (stream_texts 1 ss ++ counts_text t.dropped t.overrun t.broken t.faults ∷ [])) (Err e) one
-      (gives_less mid new m g (device_open_text t.device_open ∷ []) (stream_texts 1 ss ++ counts_text t.dropped t.overrun t.broken t.faults ∷ []) e two))
+      (gives_next old mid new f m g (guest_open_text t.guest_open ∷ []) (device_open_text t.device_open ∷ (stream_texts 1 ss ++ counts_text t.counters (Some t.broken) ∷ [])) (Err e) one
+      (gives_less mid new m g (device_open_text t.device_open ∷ []) (stream_texts 1 ss ++ counts_text t.counters (Some t.broken) ∷ []) e two))
 
   pub report_until_streams : (mid low : Option (List ℕ)) (m n : ℕ) (e : GiveError) (r : Result (Unit {0}) GiveError) → r ≡ Err e
       → GivesLines old mid f m (guest_open_text t.guest_open ∷ []) (Ok tt) → GivesLines mid low m n (device_open_text t.device_open ∷ []) (Ok tt)
       → GivesLines low new n g (stream_texts 1 ss) (Err e) → GivesLines old new f g (report t ss) r
   report_until_streams mid low m n e r failed one two three = ends_as (Err e) r failed
-      (gives_next old mid new f m g (guest_open_text t.guest_open ∷ []) (device_open_text t.device_open ∷ (stream_texts 1 ss ++ counts_text t.dropped t.overrun t.broken t.faults ∷ [])) (Err e) one
-      (gives_next mid low new m n g (device_open_text t.device_open ∷ []) (stream_texts 1 ss ++ counts_text t.dropped t.overrun t.broken t.faults ∷ []) (Err e) two
-      (gives_less low new n g (stream_texts 1 ss) (counts_text t.dropped t.overrun t.broken t.faults ∷ []) e three)))
+      (gives_next old mid new f m g (guest_open_text t.guest_open ∷ []) (device_open_text t.device_open ∷ (stream_texts 1 ss ++ counts_text t.counters (Some t.broken) ∷ [])) (Err e) one
+      (gives_next mid low new m n g (device_open_text t.device_open ∷ []) (stream_texts 1 ss ++ counts_text t.counters (Some t.broken) ∷ []) (Err e) two
+      (gives_less low new n g (stream_texts 1 ss) (counts_text t.counters (Some t.broken) ∷ []) e three)))
 
   -- it ends with its last line
   pub report_given : (mid low end : Option (List ℕ)) (m n k : ℕ) (r : Result (Unit {0}) GiveError)
       → GivesLines old mid f m (guest_open_text t.guest_open ∷ []) (Ok tt) → GivesLines mid low m n (device_open_text t.device_open ∷ []) (Ok tt)
-      → GivesLines low end n k (stream_texts 1 ss) (Ok tt) → GivesLines end new k g (counts_text t.dropped t.overrun t.broken t.faults ∷ []) r → GivesLines old new f g (report t ss) r
+      → GivesLines low end n k (stream_texts 1 ss) (Ok tt) → GivesLines end new k g (counts_text t.counters (Some t.broken) ∷ []) r → GivesLines old new f g (report t ss) r
   report_given mid low end m n k r one two three four =
-      (gives_next old mid new f m g (guest_open_text t.guest_open ∷ []) (device_open_text t.device_open ∷ (stream_texts 1 ss ++ counts_text t.dropped t.overrun t.broken t.faults ∷ [])) r one
-      (gives_next mid low new m n g (device_open_text t.device_open ∷ []) (stream_texts 1 ss ++ counts_text t.dropped t.overrun t.broken t.faults ∷ []) r two
-      (gives_next low end new n k g (stream_texts 1 ss) (counts_text t.dropped t.overrun t.broken t.faults ∷ []) r three four)))
+      (gives_next old mid new f m g (guest_open_text t.guest_open ∷ []) (device_open_text t.device_open ∷ (stream_texts 1 ss ++ counts_text t.counters (Some t.broken) ∷ [])) r one
+      (gives_next mid low new m n g (device_open_text t.device_open ∷ []) (stream_texts 1 ss ++ counts_text t.counters (Some t.broken) ∷ []) r two
+      (gives_next low end new n k g (stream_texts 1 ss) (counts_text t.counters (Some t.broken) ∷ []) r three four)))

@@ -1,5 +1,6 @@
 -- The report behind the last line of a play, each line with its LF.
 use Rattle.std.specs.Prelude.{ℕ, ◌+◌, List, [], ◌∷◌, ◌++◌, codes, decimal, Option, Some, None}
+use Rattle.vs_device_parts.specs.declared.answers.Counters.{Counters}
 use Rattle.vs_flow.specs.declared.flow.Flow.{Flow}
 use Rattle.vs_outside.specs.{Host.Stream, HostBytes.wrote_after_connect, HostBytes.read_after_ok}
 use Rattle.vs_report.specs.Bytes.{counted_text}
@@ -31,10 +32,15 @@ abbrev pub stream_texts : ℕ → List Stream → List (List ℕ)
 stream_texts number [] = []
 stream_texts number (s ∷ ss) = stream_text number s ∷ stream_texts (number + 1) ss
 
--- What was counted: packets dropped, payload beyond the room, packets that broke a connection of the guest, calls of the host that failed.
-abbrev pub counts_text : ℕ → ℕ → ℕ → ℕ → List ℕ
-counts_text dropped overrun broken faults =
-    codes "dropped " ++ decimal dropped ++ codes " overrun " ++ decimal overrun ++ codes " broken " ++ decimal broken ++ codes " faults " ++ decimal faults
+-- What was counted: packets dropped, payload beyond the room, calls of the host that failed; where there is a driver, between them the
+-- packets that broke a connection of the guest.
+abbrev pub broken_text : Option ℕ → List ℕ
+broken_text (Some broken) = codes " broken " ++ decimal broken
+broken_text None = []
+
+abbrev pub counts_text : Counters → Option ℕ → List ℕ
+counts_text c broken =
+    codes "dropped " ++ decimal c.dropped ++ codes " overrun " ++ decimal c.overrun ++ broken_text broken ++ codes " faults " ++ decimal c.faults
     ++ codes "\n"
 
 -- The report of a play, by how many entries the tables have, what was counted, and the host's streams.
@@ -42,4 +48,4 @@ abbrev pub report : Totals → List Stream → List (List ℕ)
 report t streams =
     guest_open_text t.guest_open
     ∷ device_open_text t.device_open
-    ∷ (stream_texts 1 streams ++ counts_text t.dropped t.overrun t.broken t.faults ∷ [])
+    ∷ (stream_texts 1 streams ++ counts_text t.counters (Some t.broken) ∷ [])

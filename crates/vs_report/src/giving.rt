@@ -6,6 +6,7 @@ ghost use Rattle.vs_report.specs.Report.{guest_open_text, device_open_text, stre
 
 use crate::report::{push_counts, push_device_open, push_guest_open, push_stream};
 use std::alloc::AllocError;
+use vs_device_parts::answers::Counters;
 use vs_outside::{MemStream, Sink};
 use vs_peer::{SinkFault, emit};
 
@@ -47,14 +48,10 @@ pub struct Totals {
     pub guest_open: usize,
     /// Entries of the device's table.
     pub device_open: usize,
-    /// Packets that the device dropped.
-    pub dropped: u64,
-    /// Payload that was sent to the device beyond its room.
-    pub overrun: u64,
+    /// What the device counted.
+    pub counters: Counters,
     /// Packets that broke a connection of the guest.
     pub broken: u64,
-    /// Calls of the host that failed.
-    pub faults: u64,
 }
 
 /// Gives the report of a play to the sink, line by line: the tables' entries, each stream, and what was counted.
@@ -69,7 +66,7 @@ pub fn give_report<K: Sink>(
     give_guest_open(totals.guest_open, text, out)?;
     give_device_open(totals.device_open, text, out)?;
     give_streams(streams, text, out)?;
-    give_counts(totals, text, out)
+    give_counts(totals.counters, Some(totals.broken), text, out)
 }
 
 /// Gives a line of this text.
@@ -135,19 +132,17 @@ fn give_stream<K: Sink>(
     Ok(())
 }
 
-// Gives what was counted.
-fn give_counts<K: Sink>(totals: &Totals, text: &mut String, out: &mut K) -> Result<(), GiveError>
-    ensures { let t = totals.now in GivesLines (K.contents out.old) (K.contents out.new) (K.faults out.old) (K.faults out.new)
-        (counts_text t.dropped t.overrun t.broken t.faults ∷ []) result }
+/// Gives what was counted.
+pub fn give_counts<K: Sink>(
+    counters: Counters,
+    broken: Option<u64>,
+    text: &mut String,
+    out: &mut K,
+) -> Result<(), GiveError>
+    ensures { GivesLines (K.contents out.old) (K.contents out.new) (K.faults out.old) (K.faults out.new) (counts_text counters broken ∷ []) result }
 {
     text.clear();
-    push_counts(
-        text,
-        totals.dropped,
-        totals.overrun,
-        totals.broken,
-        totals.faults,
-    )?;
+    push_counts(text, counters, broken)?;
     emit(out, text.as_bytes())?;
     Ok(())
 }

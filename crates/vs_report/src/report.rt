@@ -9,6 +9,7 @@ use crate::number::push_named;
 use itoa::Buffer;
 use std::alloc::AllocError;
 use std::fmt::Write;
+use vs_device_parts::answers::Counters;
 use vs_flow::Flow;
 use vs_outside::MemStream;
 
@@ -83,26 +84,23 @@ fn push_read(out: &mut String, read: &[u8]) -> Result<(), AllocError>
     out.push_str("\n")
 }
 
-/// What was counted: packets dropped, payload beyond the room, packets that broke a connection of the guest, calls of the host that failed.
+/// What was counted: packets dropped, payload beyond the room, calls of the host that failed; where there is a driver, between them the
+/// packets that broke a connection of the guest.
 pub fn push_counts(
     out: &mut String,
-    dropped: u64,
-    overrun: u64,
-    broken: u64,
-    faults: u64,
+    counters: Counters,
+    broken: Option<u64>,
 ) -> Result<(), AllocError>
-    ensures { OnOk result (string_bytes out.new ≡ string_bytes out.old ++ counts_text dropped overrun broken faults) }
+    ensures { OnOk result (string_bytes out.new ≡ string_bytes out.old ++ counts_text counters broken) }
 {
     write!(
         out,
         "dropped {} overrun {}",
-        Buffer::new().format(dropped),
-        Buffer::new().format(overrun)
+        Buffer::new().format(counters.dropped),
+        Buffer::new().format(counters.overrun)
     )?;
-    write!(
-        out,
-        " broken {} faults {}\n",
-        Buffer::new().format(broken),
-        Buffer::new().format(faults)
-    )
+    if let Some(broken) = broken {
+        write!(out, " broken {}", Buffer::new().format(broken))?;
+    }
+    write!(out, " faults {}\n", Buffer::new().format(counters.faults))
 }

@@ -1,4 +1,6 @@
-use Rattle.std.proofs.Common.{Err, Ok, arith}
+use Rattle.std.proofs.Common.{[], ◌∷◌, Err, None, Ok, arith, subst}
+use Rattle.vs_device_parts.specs.declared.answers.Counters.{Counters}
+use Rattle.vs_report.specs.{Gives.GivesLines, Report.counts_text}
 use Rattle.vs_hostile.proofs.Attacks.{open_given, report_given, report_until_device, report_until_streams, streams_given}
 use Rattle.vs_hostile.proofs.run.give_report.Goals as goal
 
@@ -23,14 +25,16 @@ returns-in_err-give_streams g c =
 
 pub returns : goal.returns
 returns g c =
-    report_given c.args.world.now (g.K.Sink.contents c.args.out.now) (g.K.Sink.contents c.give_counted.new.out)
-    (g.K.Sink.faults c.args.out.now) (g.K.Sink.faults c.give_counted.new.out)
+    report_given c.args.world.now (g.K.Sink.contents c.args.out.now) (g.K.Sink.contents c.give_counts.new.out)
+    (g.K.Sink.faults c.args.out.now) (g.K.Sink.faults c.give_counts.new.out)
     (g.K.Sink.contents c.give_device_open.new.out) (g.K.Sink.contents c.give_streams.new.out)
     (g.K.Sink.faults c.give_device_open.new.out) (g.K.Sink.faults c.give_streams.new.out)
-    c.give_counted.result
+    c.give_counts.result
     (open_given c.args.world.now c.entries.result (g.K.Sink.contents c.args.out.now) (g.K.Sink.contents c.give_device_open.new.out)
     (g.K.Sink.faults c.args.out.now) (g.K.Sink.faults c.give_device_open.new.out) (Ok tt) c.entries.ensures c.in_ok-give_device_open.ensures)
     (streams_given c.args.world.now c.streams.result.now (g.K.Sink.contents c.give_device_open.new.out)
     (g.K.Sink.contents c.give_streams.new.out) (g.K.Sink.faults c.give_device_open.new.out) (g.K.Sink.faults c.give_streams.new.out)
     (Ok tt) c.streams.ensures c.in_ok-give_streams.ensures)
-    c.give_counted.ensures
+    (subst (λ (k : Counters). GivesLines (g.K.Sink.contents c.give_streams.new.out) (g.K.Sink.contents c.give_counts.new.out)
+    (g.K.Sink.faults c.give_streams.new.out) (g.K.Sink.faults c.give_counts.new.out) (counts_text k None ∷ []) c.give_counts.result)
+    c.counters.ensures c.give_counts.ensures)
