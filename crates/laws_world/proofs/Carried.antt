@@ -16,7 +16,7 @@ use Rattle.laws_bytes.specs.Streamed.{IsJoined, Seen, gives, line_for, look, see
 use Rattle.laws_bytes.proofs.Logs.{prefix_then}
 use Rattle.laws_world.specs.{Calls.received_on, Calls.sent_on, Received.ReceivedOn, Received.ReceivesOn, Sides.both_of}
 use Rattle.laws_world.specs.World.{World, first_cid}
-use Rattle.laws_world.proofs.{Firsts.once_got, Firsts.once_put, Firsts.put_begun, Once.number_ofce, Bytes.read_is_got, Bytes.wrote_is_put}
+use Rattle.laws_world.proofs.{Firsts.once_got, Firsts.once_put, Firsts.put_begun, Once.number_of_once, Bytes.read_is_got, Bytes.wrote_is_put}
 use Rattle.laws_world.proofs.{Growing.Grows, Growing.runs_grow, Sound.Goes, Sound.IsWell}
 use Rattle.laws_bytes.proofs.Hosts.{there as is_there}
 
@@ -35,7 +35,7 @@ module _ {fresh : Type 0} (w : World) (well : IsWell fresh w) where
 
   -- No flow was used twice.
   once : (role : Role) (f : Flow) → number_of role f (at role (both_of w)).log ≤ 1
-  once role f = number_ofce role first_cid (both_of w) well.sound well.once f
+  once role f = number_of_once role first_cid (both_of w) well.sound well.once f
 
   guest_got : (f : Flow) → got_on Driver f guest ≡ payload_got Driver (first_of f) guest
   guest_got f = sym (once_got Driver f guest (well.sound.fair Driver f) (once Driver f))

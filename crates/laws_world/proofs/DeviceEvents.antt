@@ -31,7 +31,7 @@ use Rattle.laws_world.proofs.DeviceSide.{DeviceHolds, IsFresh, Kept, end_in, ent
 use Rattle.laws_world.proofs.Streams.{StreamedIf, accepts_streams, called_host, delivered_rw, delivers_streams, dialed_id, empty_streams}
 use Rattle.laws_world.proofs.Streams.{failed_host, got_nothing, hears_streams, leaves_streams, passes_streams, request_empty, reset_empty}
 use Rattle.laws_world.proofs.Streams.{unknown_streams}
-use Rattle.laws_world.proofs.Once.{AreOnce, asked_once, number_ofce}
+use Rattle.laws_world.proofs.Once.{AreOnce, asked_once, number_of_once}
 use Rattle.laws_device.specs.Honest.{HoldsBytes}
 use Rattle.laws_device.proofs.{Fits.delivered, Fits.fits_after, Hearing.peer_resets, Hearing.rst_leaves}
 use Rattle.std.specs.List.{All}
@@ -90,7 +90,7 @@ module _ (driver : Seat) (first port : ℕ) (s : DeviceState) (log : Log) (sound
 
     -- All that passed on a flow is its one connection.
     first_use : (f : Flow) → history_of Device f log ≡ whole_of Device f log
-    first_use f = once_history Device f log (sound.fair Device f) (number_ofce Device first (seated driver port s log) sound once f)
+    first_use f = once_history Device f log (sound.fair Device f) (number_of_once Device first (seated driver port s log) sound once f)
 
     module _ (kept : is_dropped Device s.cid p.header ≡ false) where
       module _ (e : DeviceEntry) (there : Contains s.table.entries e) (flow : flow_to_host p.header ≡ e.flow) where

@@ -7,7 +7,7 @@ use Rattle.vs_limits.specs.declared.TheConstants.{HOST_CID}
 use Rattle.laws_history.specs.{Again.IsFairAll, Again.count, Again.present, Packets.has, Packets.is_request, declared.packet.Packet.Packet}
 use Rattle.laws_history.specs.History.{Answerer, Asker, Got, History, IsFair, MayPut, Put, Side, gots, is_begun, puts}
 use Rattle.laws_history.proofs.Present.{fair_once}
-use Rattle.vs_page.specs.Fair.{IsFairOn, number_of, payload_got, payload_of, payload_put}
+use Rattle.vs_page.specs.Fair.{IsFairOn, asked_by, number_of, payload_got, payload_of, payload_put}
 use Rattle.vs_page.specs.Log.{Driver, Log, Role, history_of, side_of, whole_of}
 use Rattle.laws_tables.specs.Heard.{heard_of}
 use Rattle.laws_tables.proofs.Fair.{fair_begun, fair_now, heard_all, heard_puts}
@@ -61,12 +61,12 @@ got_asked (Put p ∷ w) is = by (is_request p) (got_asked w) is
     by true rest is = absurd cc
     by false rest is = rest is
 
-begun_some : (side : Side) (w : History) → is_begun side (puts (present w)) (gots (present w)) ≡ true → 1 ≤ number_of side (puts w) (gots w)
+begun_some : (side : Side) (w : History) → is_begun side (puts (present w)) (gots (present w)) ≡ true → 1 ≤ asked_by side (puts w) (gots w)
 begun_some Asker w is = put_asked w is
 begun_some Answerer w is = got_asked w is
 
 -- Where no connection began nothing passed, and where something passed one did.
-pub none_begun : (side : Side) (w : History) → IsFairAll side w → number_of side (puts w) (gots w) ≡ 0 → w ≡ []
+pub none_begun : (side : Side) (w : History) → IsFairAll side w → asked_by side (puts w) (gots w) ≡ 0 → w ≡ []
 none_begun side w fair none = by (present w) refl (fair_once side w fair)
   where
     by : (h : History) → present w ≡ h → IsFair side h → w ≡ []
@@ -76,11 +76,11 @@ none_begun side w fair none = by (present w) refl (fair_once side w fair)
         absurd (omega (arith, some, none))
 
 -- A REQUEST is the asker's.
-pub asked_by : (side : Side) (put got : List Packet) (p : Packet) → MayPut side put got p → is_request p ≡ true → side ≡ Asker
-asked_by side put got p may asks = let t = may.timely in grind (arith, common_steps, asks, t)
+pub asker_asks : (side : Side) (put got : List Packet) (p : Packet) → MayPut side put got p → is_request p ≡ true → side ≡ Asker
+asker_asks side put got p may asks = let t = may.timely in grind (arith, common_steps, asks, t)
 
 -- The present connection is all where there is one at most.
-pub once_present : (side : Side) (w : History) → IsFairAll side w → number_of side (puts w) (gots w) ≤ 1 → present w ≡ w
+pub once_present : (side : Side) (w : History) → IsFairAll side w → asked_by side (puts w) (gots w) ≤ 1 → present w ≡ w
 once_present side [] fair few = refl
 once_present Asker (Put p ∷ w) fair few = by (is_request p) (once_present Asker w fair.1) few
   where
@@ -91,7 +91,7 @@ once_present Asker (Put p ∷ w) fair few = by (is_request p) (once_present Aske
 once_present Asker (Got p ∷ w) fair few = by (is_request p) refl (once_present Asker w fair.1 few)
   where
     by : (b : Bool) → is_request p ≡ b → present w ≡ w → cond b (Got p ∷ []) (Got p ∷ present w) ≡ Got p ∷ w
-    by true asks rest = let no : Answerer ≡ Asker = asked_by Answerer [] [] p (fair.0.opens asks).first asks in absurd cc
+    by true asks rest = let no : Answerer ≡ Asker = asker_asks Answerer [] [] p (fair.0.opens asks).first asks in absurd cc
     by false other rest = ap (λ (h : History). Got p ∷ h) rest
 once_present Answerer (Got p ∷ w) fair few = by (is_request p) (once_present Answerer w fair.1) few
   where
@@ -102,7 +102,7 @@ once_present Answerer (Got p ∷ w) fair few = by (is_request p) (once_present A
 once_present Answerer (Put p ∷ w) fair few = by (is_request p) refl (once_present Answerer w fair.1 few)
   where
     by : (b : Bool) → is_request p ≡ b → present w ≡ w → cond b (Put p ∷ []) (Put p ∷ present w) ≡ Put p ∷ w
-    by true asks rest = let no : Answerer ≡ Asker = asked_by Answerer [] [] p (fair.0.opens asks).first asks in absurd cc
+    by true asks rest = let no : Answerer ≡ Asker = asker_asks Answerer [] [] p (fair.0.opens asks).first asks in absurd cc
     by false other rest = ap (λ (h : History). Put p ∷ h) rest
 
 -- In a log.

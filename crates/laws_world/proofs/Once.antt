@@ -10,7 +10,7 @@ use Rattle.laws_history.specs.{Again.count, Packets.is_request, Packets.is_rst, 
 use Rattle.laws_history.specs.History.{Answerer, Asker, Got, History, Put, Side, gots, peer, puts}
 use Rattle.vs_limits.specs.declared.TheConstants.{BUF_ALLOC}
 use Rattle.laws_history.proofs.Lists.{count_append}
-use Rattle.vs_page.specs.{Fair.number_of, Open.is_dropped}
+use Rattle.vs_page.specs.{Fair.asked_by, Fair.number_of, Open.is_dropped}
 use Rattle.vs_page.specs.Log.{Device, Driver, IsNextPacket, Log, Role, flow_got, flow_put, other_role, side_of, whole_of}
 use Rattle.vs_page.specs.declared.log.LogEntry.TheVariants.{GotPacket, PutPacket}
 use Rattle.vs_page.proofs.{Entries.got_on, Entries.on_flow, Flows.opposite_by, Flows.same_is, Flows.same_self}
@@ -24,7 +24,7 @@ use Rattle.laws_tables.specs.Steps.{with_connection, with_end}
 use Rattle.laws_tables.proofs.{Both.next_is_fair, Both.step_keeps, Fair.own_got_fair, Steps.owed_flow, Steps.request_flow, Tables.only_end}
 use Rattle.laws_tables.proofs.Entries.{added_other, added_same, replaced_other, replaced_same, without_other, without_same}
 use Rattle.laws_world.specs.Sides.{AsksAnew, Runs, RunsAnew}
-use Rattle.laws_world.proofs.Firsts.{asked_by, none_begun}
+use Rattle.laws_world.proofs.Firsts.{asker_asks, none_begun}
 use Rattle.vs_conn.specs.declared.end.Owed.TheVariants as owed
 
 -- How many REQUESTs an end put on a flow.
@@ -338,7 +338,7 @@ asked_once role first b s once p next asks =
     let other = (at (other_role role) b).log in
     let f = flow_got role p in
     let fair = own_got_fair role p mine (next_is_fair role first p b s next f) in
-    let theirs : peer (side_of role f) ≡ Asker = asked_by (peer (side_of role f)) [] [] p (fair.1.opens asks).1 asks in
+    let theirs : peer (side_of role f) ≡ Asker = asker_asks (peer (side_of role f)) [] [] p (fair.1.opens asks).1 asks in
     let few = (once (other_role role) f (opposite_by role (is_assigned f.host) ∙ theirs)).few in
     let tie = got_on role f (GotPacket p ∷ mine) other next.0 next.1 in
     let own : gots (whole_of role f (GotPacket p ∷ mine)) ≡ p ∷ gots (whole_of role f mine) = rw (same_self f) refl in
@@ -348,21 +348,21 @@ asked_once role first b s once p next asks =
     none_begun (side_of role f) (whole_of role f mine) fair.0
     (answerer (side_of role f) (whole_of role f mine) theirs (omega (arith, few, ap (count is_request) tie, all, here)))
   where
-    answerer : (side : Side) (w : History) → peer side ≡ Asker → count is_request (gots w) ≡ 0 → number_of side (puts w) (gots w) ≡ 0
+    answerer : (side : Side) (w : History) → peer side ≡ Asker → count is_request (gots w) ≡ 0 → asked_by side (puts w) (gots w) ≡ 0
     answerer Answerer w is none = none
     answerer Asker w is none = absurd cc
 
 -- Each end counts one connection at most.
-pub number_ofce : (role : Role) (first : ℕ) (b : Both) → IsSound first b → AreOnce b → (f : Flow) → number_of role f (at role b).log ≤ 1
-number_ofce role first b s once f = by (side_of role f) refl
+pub number_of_once : (role : Role) (first : ℕ) (b : Both) → IsSound first b → AreOnce b → (f : Flow) → number_of role f (at role b).log ≤ 1
+number_of_once role first b s once f = by (side_of role f) refl
   where
-    by : (side : Side) → side_of role f ≡ side → (let w = whole_of role f (at role b).log in number_of (side_of role f) (puts w) (gots w)) ≤ 1
+    by : (side : Side) → side_of role f ≡ side → (let w = whole_of role f (at role b).log in asked_by (side_of role f) (puts w) (gots w)) ≤ 1
     by Asker is = let few = (once role f is).few in
-        subst (λ (side : Side). (let w = whole_of role f (at role b).log in number_of side (puts w) (gots w)) ≤ 1) (sym is) few
+        subst (λ (side : Side). (let w = whole_of role f (at role b).log in asked_by side (puts w) (gots w)) ≤ 1) (sym is) few
     by Answerer is =
         let few = (once (other_role role) f (opposite_by role (is_assigned f.host) ∙ ap peer is)).few in
         let rest = (s.ties role).packets in
         let tie = got_on role f (at role b).log (at (other_role role) b).log rest.0 rest.1 in
         let all = count_append is_request (on_flow (flow_got role) f rest.0) (gots (whole_of role f (at role b).log)) in
-        subst (λ (side : Side). (let w = whole_of role f (at role b).log in number_of side (puts w) (gots w)) ≤ 1) (sym is)
+        subst (λ (side : Side). (let w = whole_of role f (at role b).log in asked_by side (puts w) (gots w)) ≤ 1) (sym is)
         (omega (arith, few, ap (count is_request) tie, all))

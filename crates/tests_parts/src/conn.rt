@@ -3,6 +3,7 @@
 use vs_conn::{End, Owed, Verdict, Why};
 use vs_credit::Overrun;
 use vs_header::{Header, Kind, Op};
+use vs_limits::BUF_ALLOC;
 
 // A stream packet of a peer that has 40,000 bytes of space and forwarded none.
 fn packet(op: Op, len: u32) -> Header {
@@ -22,7 +23,7 @@ fn packet(op: Op, len: u32) -> Header {
 
 // What the packet is whose payload is one byte longer than the space.
 fn too_long() -> Verdict {
-    let mut end = End::answer(65_536, &packet(Op::Request, 0));
+    let mut end = End::answer(Kind::Stream, BUF_ALLOC, &packet(Op::Request, 0));
     if end.owes() == Some(Owed::Response) {
         end.paid(Owed::Response);
     }

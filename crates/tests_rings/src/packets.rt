@@ -14,13 +14,14 @@ use std::sync::Wait;
 use std::test::Fail;
 use std::thread::{Threads, join};
 use vs_header::{HEADER_LEN, Header, Kind, Op};
+use vs_limits::BUF_ALLOC;
 use vs_page::{Page, put_packet};
 use vs_ring_port::{DeviceRing, DriverRing, Next, Queue, Reaped};
 use vs_ring_shared::{
     DeviceEnd, DriverEnd, Met, NewRings, RingName, laws_of_driver_end, make, meet, named,
 };
 
-/// A header of the one connection, of this operation and with a number in its flags.
+/// A header of the one connection, of this operation and with a number in its buf_alloc.
 fn numbered(op: Op, number: u32) -> Header
     ensures { result ≡ numbered (op_number op) number }
 {
@@ -32,8 +33,8 @@ fn numbered(op: Op, number: u32) -> Header
         len: 0,
         kind: Kind::Stream.number(),
         op: op.number(),
-        flags: number,
-        buf_alloc: 65_536,
+        flags: 0,
+        buf_alloc: number,
         fwd_cnt: 0,
     }
 }
@@ -78,7 +79,7 @@ impl<N: RingName> Sender<N> {
         requires nothing { driver.log ≡ [] }
         requires none_staged { driver.tx.staged ≡ [] }
     {
-        if !put(&mut driver, page, &numbered(Op::Request, 0)) {
+        if !put(&mut driver, page, &numbered(Op::Request, BUF_ALLOC)) {
             return None;
         }
         Some(Sender { end: driver })
@@ -119,8 +120,11 @@ fn send_all<N: RingName, R: Wait>(rt: &R, sender: &mut Sender<N>, mut next: u32,
 
 /// Whether it is the header of the packet of this number: 0 is the REQUEST's.
 fn is_numbered(header: &Header, number: u32) -> bool {
-    let op = if number == 0 { Op::Request } else { Op::Rst };
-    *header == numbered(op, number)
+    if number == 0 {
+        *header == numbered(Op::Request, BUF_ALLOC)
+    } else {
+        *header == numbered(Op::Rst, number)
+    }
 }
 
 /// Takes the next packet, if there is one, and answers whether it is the one of this number.
@@ -235,7 +239,7 @@ fn pass_and_meet<N: RingName>(rings: NewRings, page: Page) -> Option<Met>
     requires { rings.table ≡ N.ring }
 {
     let (mut driver, mut device) = named::<N>(rings);
-    if !put(&mut driver, page, &numbered(Op::Request, 0)) {
+    if !put(&mut driver, page, &numbered(Op::Request, BUF_ALLOC)) {
         return None;
     }
     receive_one(&mut device, 0)?;
