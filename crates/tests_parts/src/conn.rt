@@ -27,14 +27,14 @@ fn too_long() -> Verdict {
     if end.owes() == Some(Owed::Response) {
         end.paid(Owed::Response);
     }
-    end.on_packet(&packet(Op::Rw, 65_537))
+    end.on_packet(&packet(Op::Rw, BUF_ALLOC + 1))
 }
 
 #[test]
 fn too_much_payload_is_refused(rt: HostRuntime) {
     let overrun = Overrun {
-        len: 65_537,
-        room: 65_536,
+        len: BUF_ALLOC + 1,
+        room: BUF_ALLOC,
     };
     assert!(rt; too_long() == Verdict::Rst(Why::Overrun(overrun)));
 }
