@@ -1,6 +1,6 @@
 -- How the lines of a report add up.
 use Rattle.std.proofs.Common.{◌≡◌, ◌<◌, arith, ℕ, ◌+◌, List, [], ◌∷◌, ◌++◌, length, take, drop, get_or, Option, Result, Ok, Err, sym, ap}
-use Rattle.std.proofs.Common.{◌∙◌, subst}
+use Rattle.std.proofs.Common.{◌∙◌, Some, subst}
 use Rattle.std.proofs.lemmas.List.{take_more, length-take-le, take-append-drop}
 use Rattle.vs_outside.specs.Host.{Stream}
 use Rattle.vs_report.specs.Gives.{GivesLines}
