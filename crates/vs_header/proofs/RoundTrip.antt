@@ -4,10 +4,9 @@ use Rattle.std.proofs.Common.{sym, ap, ◌∙◌, arith, length-drop, get_or-dro
 use Rattle.std.proofs.Math.Nat.{div-div-eq-div-mul, div-one, pow-succ'}
 use Rattle.std.proofs.lemmas.List.{append-nil, drop-drop, take-append-drop, take_all}
 use Rattle.std.specs.Int.{byte_at, bytes_low_first}
-use Rattle.byteorder.specs.Endian.{little_bytes, little_from, little_number}
-use Rattle.byteorder.specs.Numbers.{little_from-cons, little_number-reads_back}
-use Rattle.vs_header.specs.declared.Header.{Header}
-use Rattle.vs_header.specs.Packet.{field_at, header_bytes, header_of}
+use Rattle.byteorder.specs.{Endian.little_bytes, Endian.little_from, Endian.little_number, Numbers.little_from-cons}
+use Rattle.byteorder.specs.Numbers.{little_number-reads_back}
+use Rattle.vs_header.specs.{declared.Header.Header, Packet.field_at, Packet.header_bytes, Packet.header_of}
 
 -- a byte of a number, by its place
 byte_at-pow : (i x : ℕ) → byte_at i x ≡ x / 256 ^ i % 256

@@ -1,7 +1,6 @@
 -- The types of sockets and their numbers (Virtio 1.2, section 5.10.6).
 use Rattle.std.specs.Prelude.{ℕ, ◌==◌, Option, Some, None, if◌then◌else◌}
-use Rattle.vs_header.specs.declared.Kind.{Kind}
-use Rattle.vs_header.specs.declared.Kind.TheVariants.{Stream, Seqpacket}
+use Rattle.vs_header.specs.declared.Kind.{Kind, TheVariants.Stream, TheVariants.Seqpacket}
 
 -- The type of a number.
 abbrev pub kind_named : ℕ → Option Kind

@@ -3,9 +3,8 @@
 -- but in one order for both: they are sequentially consistent.
 use Rattle.std.specs.Prelude.{◌≡◌, ℕ, ◌+◌, ◌%◌, ◌^◌, ◌<◌, ◌==◌, ◌⊎◌, nat_lt, nat_le, Bool, true, false, not, ◌&&◌, ◌||◌, if◌then◌else◌}
 use Rattle.std.specs.Prelude.{List, [], ◌∷◌}
-use Rattle.vs_notify.specs.declared.{Consumer.Consumer, Suppression.Suppression}
-use Rattle.vs_notify.specs.declared.Consumer.TheVariants.{Working, Asked, Resting}
-use Rattle.vs_notify.specs.Words.{needs_kick, asks_for_next, may_rest}
+use Rattle.vs_notify.specs.declared.{Consumer.Consumer, Suppression.Suppression, Consumer.TheVariants.Working, Consumer.TheVariants.Asked}
+use Rattle.vs_notify.specs.{declared.Consumer.TheVariants.Resting, Words.needs_kick, Words.asks_for_next, Words.may_rest}
 
 -- Where the publisher stands: it owes nothing, or is between its store of the index and its load of the consumer's word.
 pub data Publisher : Type 0 where

@@ -8,12 +8,11 @@ use Rattle.std.proofs.lemmas.Slice.Eq.{bytes_eq-Decides}
 use Rattle.std.specs.{Char.is_ascii_digit, Char.to_ascii_lowercase, List.list_all, List.prefix_len, Str.bytes_eq}
 use Rattle.vs_uds.specs.ConnectLine.{IsConnectLine, IsWordLine, connect_answers, connect_port, connect_step, connect_text, connect_word}
 use Rattle.vs_uds.specs.{ConnectLine.is_line_end, ConnectLine.is_word, ConnectLine.word_port, Port.port_in, Reading.port_at_end}
-use Rattle.vs_uds.specs.Scan.{after_digits, leading_digits, without_leading_spaces}
+use Rattle.vs_uds.specs.{Scan.after_digits, Scan.leading_digits, Scan.without_leading_spaces, declared.scan.Step.TheVariants.Port}
 use Rattle.vs_uds.proofs.Leading.{after_digits-append, chosen, digit_no_space, leading_digits-append, has_lf-digits, spaces_and_rest}
-use Rattle.vs_uds.proofs.Leading.{without_leading_spaces-append}
-use Rattle.vs_uds.proofs.Ports.{WritesPort-decimal, WritesPort-port_in, port_in-WritesPort}
-use Rattle.vs_uds.proofs.Readings.{answers_to-line, has_lf, none_append, none_replicate, port-step_of, step_of-port}
-use Rattle.vs_uds.specs.declared.scan.Step.TheVariants.{Port}
+use Rattle.vs_uds.proofs.{Leading.without_leading_spaces-append, Ports.WritesPort-decimal, Ports.WritesPort-port_in}
+use Rattle.vs_uds.proofs.{Ports.port_in-WritesPort, Readings.answers_to-line, Readings.has_lf, Readings.none_append}
+use Rattle.vs_uds.proofs.Readings.{none_replicate, port-step_of, step_of-port}
 
 -- what stands after the digits begins with none
 stops : (after returns : ℕ) → prefix_len is_ascii_digit (replicate after 32 ++ (replicate returns 13 ++ 10 ∷ [])) ≡ 0

@@ -5,8 +5,7 @@ use Rattle.std.proofs.lemmas.Bool.{lt-leb}
 use Rattle.std.proofs.lemmas.List.Folds.{list_any-append}
 use Rattle.std.specs.List.{list_any}
 use Rattle.vs_uds.specs.Reading.{answers_to, fed, is_decided, port_at_end, port_or_bad, step_of}
-use Rattle.vs_uds.specs.declared.scan.Step.{Step}
-use Rattle.vs_uds.specs.declared.scan.Step.TheVariants.{More, Port}
+use Rattle.vs_uds.specs.declared.scan.Step.{Step, TheVariants.More, TheVariants.Port}
 
 -- whether an LF stands in a text
 abbrev pub has_lf : List ℕ → Bool

@@ -2,10 +2,9 @@
 use Rattle.std.specs.Prelude.{ℕ, ◌≡◌, ◌≤◌, ◌==◌, ◌&&◌, ◌||◌, Bool, if◌then◌else◌, List, [], ◌∷◌, ◌++◌, length, take, drop, map, replicate}
 use Rattle.std.specs.{Prelude.slice_index, Prelude.codes, Prelude.decimal, Prelude.Option, Prelude.None, Char.to_ascii_lowercase}
 use Rattle.std.specs.Str.{bytes_eq}
-use Rattle.vs_uds.specs.{Port.WritesPort, Port.port_in, Reading.answers_to, Reading.step_of}
-use Rattle.vs_uds.specs.Scan.{after_digits, leading_digits, without_leading_spaces}
-use Rattle.vs_uds.specs.declared.connect.TheConstants.{CONNECT_MAX}
-use Rattle.vs_uds.specs.declared.scan.{TheConstants.CR, TheConstants.LF, TheConstants.SPACE, Step.Step}
+use Rattle.vs_uds.specs.{Port.WritesPort, Port.port_in, Reading.answers_to, Reading.step_of, Scan.after_digits, Scan.leading_digits}
+use Rattle.vs_uds.specs.{Scan.without_leading_spaces, declared.connect.TheConstants.CONNECT_MAX, declared.scan.TheConstants.CR}
+use Rattle.vs_uds.specs.declared.scan.{TheConstants.LF, TheConstants.SPACE, Step.Step}
 
 -- A line with this word and this port: the word's letters in any case, one or more spaces, digits, any number of spaces,
 -- at most one CR, LF.

@@ -4,13 +4,10 @@ use Rattle.std.proofs.Common.{Result, Ok, Err}
 use Rattle.std.specs.{Prelude.String, Prelude.string_bytes, Str.bytes_eq}
 use Rattle.std.proofs.lemmas.Str.{IsUtf8-string_bytes}
 use Rattle.clap.specs.Words.{App, FailsBy, HasKind, HasMatchesOf, Text, fault_of, first_of, found_of, is_simple, is_simple_and_free}
-use Rattle.clap.specs.Words.{kind_of, matches_of}
-use Rattle.clap.specs.declared.error.Error.{Error}
-use Rattle.clap.specs.declared.parser.matches.ArgMatches.{ArgMatches}
+use Rattle.clap.specs.{Words.kind_of, Words.matches_of, declared.error.Error.Error, declared.parser.matches.ArgMatches.ArgMatches}
 use Rattle.clap.proofs.WalkLemmas.{first_value-rows}
 use Rattle.vs_words.specs.{Errors.error_of, Options.Given, Options.is_empty, Options.options_of, Options.value_of, Reading.Reads}
-use Rattle.vs_words.specs.declared.error.WordsError.{WordsError}
-use Rattle.vs_words.specs.declared.error.WordsError.TheVariants.{Usage, OutOfMemory}
+use Rattle.vs_words.specs.declared.error.WordsError.{WordsError, TheVariants.Usage, TheVariants.OutOfMemory}
 use Rattle.vs_words.proofs.{Rules.app_with, Rules.given_row, Walks.AreTexts, Walks.Parses, Walks.parsed}
 
 -- the words of the program are texts

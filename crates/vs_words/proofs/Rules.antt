@@ -2,11 +2,9 @@
 use Rattle.std.proofs.Common.{◌≡◌, ◌∙◌, ◌||◌, ℕ, Bool, true, false, cond, refl, ap, List, [], ◌∷◌, ◌++◌, map, Some, None}
 use Rattle.std.specs.{List.list_any, Str.bytes_eq}
 use Rattle.clap.specs.Walk.{Row, Rule, Text, arg_by_id, arg_by_index, arg_by_long, arg_by_short, has_row, reading_by, used, with_values}
-use Rattle.clap.specs.Walk.{without}
-use Rattle.clap.specs.Simple.{App, Shape, built, filled, filled_from, new_rule, new_shape}
-use Rattle.clap.specs.Faults.{use_fault}
+use Rattle.clap.specs.{Walk.without, Simple.App, Simple.Shape, Simple.built, Simple.filled, Simple.filled_from, Simple.new_rule}
+use Rattle.clap.specs.{Simple.new_shape, Faults.use_fault, declared.parser.matches.ValueSource.TheVariants.CommandLine}
 use Rattle.clap.specs.declared.error.kind.ErrorKind.TheVariants as kind
-use Rattle.clap.specs.declared.parser.matches.ValueSource.TheVariants.{CommandLine}
 use Rattle.std.proofs.lemmas.Slice.Eq.{bytes_eq-Decides}
 use Rattle.vs_words.specs.Options.{Given, is_given}
 

@@ -5,10 +5,9 @@ use Rattle.std.specs.{Prelude.slice_get, Str.IsUtf8, Str.bytes_eq, Str.chars}
 use Rattle.std.proofs.lemmas.Str.{chars_past_char, encodes-chars}
 use Rattle.std.proofs.Math.Utf8.{encode, encodes}
 use Rattle.std.proofs.lemmas.Bool.Decides.{Decides-eqb}
-use Rattle.clap.specs.Lexer.{long_of, name_and_value, short_of}
-use Rattle.clap.specs.Walk.{Held, Text, Waiting, Walk, idle, option, settled_rows, used, walked}
-use Rattle.clap.specs.{Simple.Shape, Kinds.Kinds, Kinds.or_else}
-use Rattle.clap.specs.Faults.{flags_fault, settle_fault, turn_fault, use_fault, word_fault}
+use Rattle.clap.specs.{Lexer.long_of, Lexer.name_and_value, Lexer.short_of, Walk.Held, Walk.Text, Walk.Waiting, Walk.Walk, Walk.idle}
+use Rattle.clap.specs.{Walk.option, Walk.settled_rows, Walk.used, Walk.walked, Simple.Shape, Kinds.Kinds, Kinds.or_else, Faults.flags_fault}
+use Rattle.clap.specs.Faults.{settle_fault, turn_fault, use_fault, word_fault}
 use Rattle.vs_words.specs.Options.{Given, is_empty, is_value}
 use Rattle.vs_words.proofs.Rules.{built_rule, by_id, by_long, given_row, is_known, no_index, no_short, rules, shape_with}
 

@@ -4,12 +4,11 @@ use Rattle.std.proofs.Common.{fold, drop, Option, Some, None, append-nil, append
 use Rattle.std.specs.{Prelude.if◌then◌else◌, Prelude.option_map, Prelude.option_and_then, Prelude.is_some, List.list_any}
 use Rattle.std.specs.Str.{IsUtf8, bytes_eq}
 use Rattle.std.proofs.lemmas.Slice.Eq.{bytes_eq-Decides}
-use Rattle.clap.specs.Lexer.{long_of}
-use Rattle.clap.specs.Walk.{Held, Row, Rule, Text, Waiting, Walk, finished, has_row, idle, nothing_held, option, settled, rows_after}
-use Rattle.clap.specs.Walk.{settled_rows, used, walk, walk_from, walked, with_default}
-use Rattle.clap.specs.{Simple.App, Simple.entered, Simple.matches_of, Simple.names_of, Kinds.Kinds, Kinds.or_else}
-use Rattle.clap.specs.Faults.{built_fault, check_fault, defaults_fault, entered_fault, fault_of, level_fault, settle_fault, turn_fault}
-use Rattle.clap.specs.Faults.{use_fault, walk_fault}
+use Rattle.clap.specs.{Lexer.long_of, Walk.Held, Walk.Row, Walk.Rule, Walk.Text, Walk.Waiting, Walk.Walk, Walk.finished, Walk.has_row}
+use Rattle.clap.specs.Walk.{idle, nothing_held, option, settled, rows_after, settled_rows, used, walk, walk_from, walked, with_default}
+use Rattle.clap.specs.{Simple.App, Simple.entered, Simple.matches_of, Simple.names_of, Kinds.Kinds, Kinds.or_else, Faults.built_fault}
+use Rattle.clap.specs.Faults.{check_fault, defaults_fault, entered_fault, fault_of, level_fault, settle_fault, turn_fault, use_fault}
+use Rattle.clap.specs.Faults.{walk_fault}
 use Rattle.vs_words.specs.Options.{Given, given_by, have_names, is_empty, is_given, is_value, options_of}
 use Rattle.vs_words.proofs.Rules.{app_with, built_is, built_rule, given_row, is_known, rules, shape_with, use_again, use_new, used_new}
 use Rattle.vs_words.proofs.Steps.{Look, Plain, Dashes, Long, Short, dashes, look, chars_some, or_left, or_right, or_nil, or_assoc, held_at}

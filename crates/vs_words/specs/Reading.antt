@@ -1,9 +1,7 @@
 -- What a parse of a command's words gives.
 use Rattle.std.specs.Prelude.{◌≡◌, ℕ, List, drop, Some, None, Result, Ok, Err}
-use Rattle.clap.specs.Words.{first_value, found_of}
-use Rattle.clap.specs.declared.parser.matches.ArgMatches.{ArgMatches}
-use Rattle.vs_words.specs.Options.{Given, options_of, value_of}
-use Rattle.vs_words.specs.declared.error.WordsError.{WordsError}
+use Rattle.clap.specs.{Words.first_value, Words.found_of, declared.parser.matches.ArgMatches.ArgMatches}
+use Rattle.vs_words.specs.{Options.Given, Options.options_of, Options.value_of, declared.error.WordsError.WordsError}
 use Rattle.vs_words.specs.declared.error.WordsError.TheVariants.{Usage, OutOfMemory}
 
 -- Matches have the values of these options.
