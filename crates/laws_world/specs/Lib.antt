@@ -7,9 +7,7 @@ pub mod Plays
 pub mod Laws
 pub mod Sides
 pub mod Pages
-pub mod Worked
 pub mod Received
 pub mod Pipes
 pub mod Steps
-pub mod WorkedBytes
 pub mod Over

@@ -11,7 +11,6 @@ pub mod pipes;
 pub mod resets;
 pub mod scripts;
 mod step;
-pub mod worked;
 mod world;
 
 pub use event::{Event, GuestCall, Reply};
