@@ -173,8 +173,8 @@ step_keeps role first (Sends f e payload) b s may =
     let w = at role b in
     let m = s.matches role in
     put_keeps role first (payload_on role w.part.cid f e payload) _ b (record {
-      matches = sends role first w.part.cid f e payload w.part w.log m may.0 may.1;
-      fair = sends_fair role first w.part.cid f e payload w.part w.log m (s.fair role) may.0 may.1;
+      matches = sends role first w.part.cid f e payload w.part w.log m may.0 may.1 may.2;
+      fair = sends_fair role first w.part.cid f e payload w.part w.log m (s.fair role) may.0 may.1 may.2;
     }) s
 step_keeps role first (Pays f e what) b s may =
     let w = at role b in

@@ -3,6 +3,7 @@ use Rattle.std.proofs.Common.{◌≡◌, ◌≢◌, ◌≤◌, ℕ, Bool, true, 
 use Rattle.std.proofs.Common.{refl, sym, ap, ◌∙◌, subst, arith}
 use Rattle.std.proofs.lemmas.Grind.{common_steps}
 use Rattle.vs_conn.specs.{Follows.Follows, Follows.IsTaken, declared.end.Owed.Owed}
+use Rattle.vs_conn.specs.Follows.{FitsMessage}
 use Rattle.vs_conn.specs.End.{CanSend, ConnectionEnd, answering, asked, end_after, is_of, owes_of, paid_of, verdict_of, with_payload_sent}
 use Rattle.vs_flow.specs.{Flow.same_flow, declared.flow.Flow.Flow}
 use Rattle.vs_header.specs.{Kind.kind_named, Kind.kind_number, declared.Header.Header, declared.Kind.Kind}
@@ -251,16 +252,16 @@ accepts role first kind p part log m kept none order fits asks of =
 
 pub sends : (role : Role) (first cid : ℕ) (f : Flow) (e : ConnectionEnd) (payload : List ℕ) (part : Ends) (log : Log)
     → Matches role first part log
-    → HasEnd f e part → CanSend e (length payload)
+    → HasEnd f e part → CanSend e (length payload) → FitsMessage e (puts (history_of role f log)) (length payload)
     → Matches role first (with_end f (with_payload_sent e (length payload)) part) (PutPacket (payload_on role cid f e payload) ∷ log)
-sends role first cid f e payload part log m has can =
+sends role first cid f e payload part log m has can fits =
     let p = payload_on role cid f e payload in
     let is = payload_flow role cid f e payload in
     let after = with_payload_sent e (length payload) in
     put_with role first f p part (with_end f after part) log is m (steps.send_step role first cid f e payload part log m.flows has can)
     (λ fair left. record {
       within = put_keeps_within role first f p log is refl
-          (send_may_on role first cid f e payload part log m.flows has can (fair f) (left.within f)) (left.within f);
+          (send_may_on role first cid f e payload part log m.flows has can fits (fair f) (left.within f)) (left.within f);
       kept = λ among. unkept_by_end role first part log f e _ m.flows has among;
       ready =
           λ x now new. not_new f x after (with_end f after part) _ (replaced_same f e after part.entries has)
@@ -726,11 +727,12 @@ opens_fair role first cid f kind part log m fair next =
 
 pub sends_fair : (role : Role) (first cid : ℕ) (f : Flow) (e : ConnectionEnd) (payload : List ℕ) (part : Ends) (log : Log)
     → Matches role first part log
-    → IsFairLog role log → HasEnd f e part → CanSend e (length payload) → IsFairLog role (PutPacket (payload_on role cid f e payload) ∷ log)
-sends_fair role first cid f e payload part log m fair has can =
+    → IsFairLog role log → HasEnd f e part → CanSend e (length payload) → FitsMessage e (puts (history_of role f log)) (length payload)
+    → IsFairLog role (PutPacket (payload_on role cid f e payload) ∷ log)
+sends_fair role first cid f e payload part log m fair has can fits =
     put_fair role f (payload_on role cid f e payload) log (payload_flow role cid f e payload) fair
     (put_allowed role first f (payload_on role cid f e payload) log refl (fair f)
-    (send_may_on role first cid f e payload part log m.flows has can (fair f) ((m.fairly fair).within f)))
+    (send_may_on role first cid f e payload part log m.flows has can fits (fair f) ((m.fairly fair).within f)))
 
 pub pays_fair : (role : Role) (first cid : ℕ) (f : Flow) (e : ConnectionEnd) (what : Owed) (part : Ends) (log : Log)
     → Matches role first part log
