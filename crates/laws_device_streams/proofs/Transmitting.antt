@@ -148,12 +148,7 @@ module _ (Can : Call → Situation → Type 0) (reaches : (call : Call) (s : Sit
     )
     keeps_on_known verdict.Peer = keeps_message (is_reset h)
     keeps_on_known (verdict.Rst (why.Overrun o)) = finds_heard (heard h e.value) c has refl refl refl
-    keeps_on_known (verdict.Rst why.BadKind) = finds_heard (heard h e.value) c has refl refl refl
-    keeps_on_known (verdict.Rst why.BadOp) = finds_heard (heard h e.value) c has refl refl refl
-    keeps_on_known (verdict.Rst why.Twice) = finds_heard (heard h e.value) c has refl refl refl
-    keeps_on_known (verdict.Rst why.NotAsked) = finds_heard (heard h e.value) c has refl refl refl
-    keeps_on_known (verdict.Rst why.NotLive) = finds_heard (heard h e.value) c has refl refl refl
-    keeps_on_known (verdict.Rst why.AfterShutdown) = finds_heard (heard h e.value) c has refl refl refl
+    keeps_on_known (verdict.Rst _) = finds_heard (heard h e.value) c has refl refl refl
     keeps_on_known verdict.Discard = finds_heard (heard h e.value) c has refl refl refl
     keeps_on_known verdict.Ignore = finds_heard (heard h e.value) c has refl refl refl
 

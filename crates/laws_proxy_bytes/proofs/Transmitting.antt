@@ -195,12 +195,7 @@ module _ (hands : List Handshake) where
         message true = keeps_leaving hands s calls x e is (heard h e.value) refl refl
         message false = heard_keeps verdict.Peer says (λ other. absurd cc)
     keeps_on_known (verdict.Rst (why.Overrun o)) says = heard_keeps (verdict.Rst (why.Overrun o)) says (λ other. absurd cc)
-    keeps_on_known (verdict.Rst why.BadKind) says = heard_keeps (verdict.Rst why.BadKind) says (λ other. absurd cc)
-    keeps_on_known (verdict.Rst why.BadOp) says = heard_keeps (verdict.Rst why.BadOp) says (λ other. absurd cc)
-    keeps_on_known (verdict.Rst why.Twice) says = heard_keeps (verdict.Rst why.Twice) says (λ other. absurd cc)
-    keeps_on_known (verdict.Rst why.NotAsked) says = heard_keeps (verdict.Rst why.NotAsked) says (λ other. absurd cc)
-    keeps_on_known (verdict.Rst why.NotLive) says = heard_keeps (verdict.Rst why.NotLive) says (λ other. absurd cc)
-    keeps_on_known (verdict.Rst why.AfterShutdown) says = heard_keeps (verdict.Rst why.AfterShutdown) says (λ other. absurd cc)
+    keeps_on_known (verdict.Rst w) says = heard_keeps (verdict.Rst w) says (λ other. absurd cc)
     keeps_on_known verdict.Discard says = heard_keeps verdict.Discard says (λ other. absurd cc)
     keeps_on_known verdict.Ignore says = heard_keeps verdict.Ignore says (λ other. absurd cc)
 

@@ -76,7 +76,7 @@ decided_follows side put got e Aborts may follows = abort_follows side put got e
 decided_follows side put got e WantsCredit may follows = ask_follows side put got e follows
 decided_follows side put got e (Grows alloc) may follows = grow_follows side put got e alloc follows may.0 may.1 may.2
 
-decided_kind : (e : ConnectionEnd) (what : Decision) → (decided e what).kind ≡ e.kind
+pub decided_kind : (e : ConnectionEnd) (what : Decision) → (decided e what).kind ≡ e.kind
 decided_kind e (Forwards n) = refl
 decided_kind e (Shuts bits) = refl
 decided_kind e Aborts = refl
