@@ -4,6 +4,7 @@ use Rattle.std.proofs.Common.{◌≡◌, ℕ, suc, ◌<◌, ◌^◌, false, List
 use Rattle.std.specs.List.{All}
 use Rattle.vs_conn.specs.{Headers.owed_flags, Headers.owed_header, Headers.owed_op, Headers.payload_header, declared.end.Owed.Owed}
 use Rattle.vs_conn.specs.End.{CanSend, ConnectionEnd, owes_of, paid_of, with_payload_sent}
+use Rattle.vs_conn.specs.Follows.{FitsMessage}
 use Rattle.vs_conn.proofs.{Frames.paid_kind, Steps.stream_fits}
 use Rattle.vs_header.specs.{Packet.header_bytes, declared.Header.Header}
 use Rattle.laws_history.specs.{History.puts, declared.packet.Packet.Packet}
@@ -85,7 +86,8 @@ module _ (port : ℕ) (s : DeviceState) (fits : IsFitState s) where
         let wire : FitsWire h = header_fits s.cid e.flow end op.Rw 0 (length payload) fits.cid_fits entry.ports
         (omega (arith, entry.bytes.alloc))
         entry.bytes.fwd (omega arith) small in
-        let fits_message (log : Log) = stream_fits end (puts (history_of Device e.flow log)) (length payload) entry.kind in
+        let fits_message : (log : Log) → FitsMessage end (puts (history_of Device e.flow log)) (length payload) =
+        λ log. stream_fits end (puts (history_of Device e.flow log)) (length payload) entry.kind in
         record {
           held = held_payload h payload wire refl refl;
           fits = connection_fits s fits e.slot now (begun_fits now

@@ -5,6 +5,7 @@ use Rattle.std.proofs.Common.{inl, sym, ap, subst, ◌∙◌, arith, ◌||◌}
 use Rattle.std.specs.List.{All}
 use Rattle.vs_conn.specs.{Headers.owed_flags, Headers.owed_header, Headers.owed_op, Headers.payload_header, declared.end.Owed.Owed}
 use Rattle.vs_conn.specs.End.{CanSend, ConnectionEnd, asked, owes_of, paid_of, with_payload_sent}
+use Rattle.vs_conn.specs.Follows.{FitsMessage}
 use Rattle.vs_conn.proofs.{Frames.paid_kind, Steps.stream_fits}
 use Rattle.vs_header.specs.{Packet.header_bytes, declared.Header.Header, declared.Kind.TheVariants.Stream}
 use Rattle.laws_history.specs.History.{puts}
@@ -120,7 +121,8 @@ send_puts e payload s fits stands can few =
     let small : length payload < 2 ^ 32 = omega (arith, few) in
     let wire : FitsWire h = header_fits s.cid e.flow end op.Rw 0 (length payload) fits.cid_fits entry.ports entry.buffer.alloc entry.buffer.fwd_cnt (omega arith) small in
     let has = has_end s e fits stands in
-    let fits_message (log : Log) = stream_fits end (puts (history_of Driver e.flow log)) (length payload) entry.kind in
+    let fits_message : (log : Log) → FitsMessage end (puts (history_of Driver e.flow log)) (length payload) =
+    λ log. stream_fits end (puts (history_of Driver e.flow log)) (length payload) entry.kind in
     record {
       packet = payload_on Driver s.cid e.flow end payload;
       held = held_payload h payload wire refl refl;
