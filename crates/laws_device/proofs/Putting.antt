@@ -1,5 +1,5 @@
 -- The steps at which the device puts a packet: payload is sent, what is owed is paid, a reply is given.
-use Rattle.std.proofs.{lemmas.Grind.common_steps, lemmas.List.append-nil}
+use Rattle.std.proofs.{lemmas.List.append-nil}
 use Rattle.std.proofs.Common.{◌≡◌, ℕ, suc, ◌<◌, ◌^◌, false, List, [], ◌∷◌, ◌++◌, length, Contains, Some, refl, sym, ap, subst, ◌∙◌, arith}
 use Rattle.std.specs.List.{All}
 use Rattle.vs_conn.specs.{Headers.owed_flags, Headers.owed_header, Headers.owed_op, Headers.payload_header, declared.end.Owed.Owed}
@@ -13,7 +13,7 @@ use Rattle.vs_page.specs.{Fair.IsFairLog, Held.FitsWire, Held.packet_held, Log.D
 use Rattle.vs_page.specs.declared.log.LogEntry.TheVariants.{PutPacket}
 use Rattle.vs_replies.specs.declared.Reply.{Reply}
 use Rattle.laws_tables.specs.{Ends.Ends, Ends.is_new, Matches.Matches, Steps.owed_on, Steps.paid, Steps.payload_on, Steps.with_end}
-use Rattle.laws_tables.proofs.Keeps.{pays, pays_fair, replies, replies_fair, sends, sends_fair}
+use Rattle.laws_tables.proofs.Keeps.{owed_old, pays, pays_fair, replies, replies_fair, sends, sends_fair}
 use Rattle.laws_tables.proofs.OwedFlags.{owed_flags_fit}
 use Rattle.vs_device_parts.specs.{Connections.route_to_guest, Connections.with_connection, Receiving.reply_header}
 use Rattle.vs_device_parts.specs.State.{DeviceConnection, DeviceEntry, DeviceState}
@@ -37,14 +37,6 @@ pub record PutsTo (port : ℕ) (h : Header) (payload : List ℕ) (cid overrun : 
 
 abbrev pub Puts : ℕ → DeviceState → Header → List ℕ → DeviceState → Type 0
 Puts port s h payload t = PutsTo port h payload s.cid s.overrun s.table s.replies t.cid t.overrun t.table t.replies
-
-paid_begun : (e : ConnectionEnd) (what : Owed) → owes_of e ≡ Some what → is_new (paid_of e what) ≡ false
-paid_begun e owed.Rst owes = grind (arith, common_steps, owes)
-paid_begun e owed.Request owes = grind (arith, common_steps, owes)
-paid_begun e owed.Response owes = grind (arith, common_steps, owes)
-paid_begun e owed.CreditUpdate owes = grind (arith, common_steps, owes)
-paid_begun e owed.CreditRequest owes = grind (arith, common_steps, owes)
-paid_begun e (owed.Shutdown bits) owes = grind (arith, common_steps, owes)
 
 held_empty : (h : Header) → FitsWire h → h.len ≡ 0 → packet_held (header_bytes h ++ []) ≡
     (let p : Packet = record { header = h; payload = [] } in Some p)
@@ -136,7 +128,7 @@ module _ (port : ℕ) (s : DeviceState) (fits : IsFitState s) where
           (subst (λ (x : ConnectionEnd). HoldsBytes x.credit (length c.pending)) (sym is)
           (subst (λ (bytes : List ℕ). HoldsBytes (paid_of e.value.end what).credit (length bytes)) (sym pending)
           (fits_paid e.value.end what (length e.value.pending) entry.bytes)))
-          (ap is_new is ∙ paid_begun e.value.end what owes))
+          (ap is_new is ∙ owed_old e.value.end what owes))
           (ap (λ (x : ConnectionEnd). x.kind) is ∙ paid_kind e.value.end what ∙ entry.kind))
           refl
           (stays ∙ (ap (λ (x : ConnectionEnd). with_end e.flow x (ends_of_state port s)) (sym is) ∙ sym

@@ -47,20 +47,8 @@ pays_by what e s c is held fits stands =
 
 pays_state : (what : Owed) (e : DriverEntry) (s : DriverState) → IsFitState s → Stands s e → IsHeldBy e.value → Pays what e s (after_paying what e s)
 pays_state owed.Rst e s fits stands held = let l = leaves s e e.value fits stands in record { ends = l.ends; fits = l.fits; broken = l.broken }
-pays_state owed.Request e s fits stands held =
-    let l = pays_by owed.Request e s (paid_connection owed.Request e.value) refl (paid_fits owed.Request e.value held) fits stands in
-    record { ends = l.0; fits = l.1; broken = refl }
-pays_state owed.Response e s fits stands held =
-    let l = pays_by owed.Response e s (paid_connection owed.Response e.value) refl (paid_fits owed.Response e.value held) fits stands in
-    record { ends = l.0; fits = l.1; broken = refl }
-pays_state owed.CreditUpdate e s fits stands held =
-    let l = pays_by owed.CreditUpdate e s (paid_connection owed.CreditUpdate e.value) refl (paid_fits owed.CreditUpdate e.value held) fits stands in
-    record { ends = l.0; fits = l.1; broken = refl }
-pays_state owed.CreditRequest e s fits stands held =
-    let l = pays_by owed.CreditRequest e s (paid_connection owed.CreditRequest e.value) refl (paid_fits owed.CreditRequest e.value held) fits stands in
-    record { ends = l.0; fits = l.1; broken = refl }
-pays_state (owed.Shutdown bits) e s fits stands held =
-    let l = pays_by (owed.Shutdown bits) e s (paid_connection (owed.Shutdown bits) e.value) refl (paid_fits (owed.Shutdown bits) e.value held) fits stands in
+pays_state what e s fits stands held =
+    let l = pays_by what e s (paid_connection what e.value) refl (paid_fits what e.value held) fits stands in
     record { ends = l.0; fits = l.1; broken = refl }
 
 pub owed_puts : (what : Owed) (e : DriverEntry) (s : DriverState) → IsFitState s → Stands s e → owes_of e.value.end ≡ Some what

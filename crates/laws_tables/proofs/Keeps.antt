@@ -271,7 +271,7 @@ sends role first cid f e payload part log m has can fits =
     })
 
 -- What an end owes: a new one its REQUEST.
-paid_old : (e : ConnectionEnd) (what : Owed) → is_new e ≡ false → is_new (paid_of e what) ≡ false
+pub paid_old : (e : ConnectionEnd) (what : Owed) → is_new e ≡ false → is_new (paid_of e what) ≡ false
 paid_old = grind (arith, common_steps)
 
 not_request : (e : ConnectionEnd) (what : Owed) → is_new e ≡ false → owes_of e ≡ Some what → what ≢ owed.Request
@@ -316,7 +316,7 @@ pay_within role first cid f e what part log false old m fair has owes =
     (owed_no_request role cid f e what (not_request e what old owes))
     (pay_may_on role first cid f e what part log m.flows has old owes (fair f) ((m.fairly fair).within f)) ((m.fairly fair).within f)
 
-owed_old : (e : ConnectionEnd) (what : Owed) → owes_of e ≡ Some what → is_new (paid_of e what) ≡ false
+pub owed_old : (e : ConnectionEnd) (what : Owed) → owes_of e ≡ Some what → is_new (paid_of e what) ≡ false
 owed_old e what owes = grind (arith, common_steps, owes)
 
 paid_ready : (role : Role) (cid : ℕ) (f : Flow) (e : ConnectionEnd) (what : Owed) (part : Ends) (P : Type 0) → HasEnd f e part

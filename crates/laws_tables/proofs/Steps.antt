@@ -8,7 +8,7 @@ use Rattle.vs_conn.specs.declared.route.Route.{Route}
 use Rattle.vs_conn.proofs.Frames.{got_kind, paid_kind}
 use Rattle.vs_conn.proofs.{Getting.get_follows, Steps.answer_follows, Steps.asked_follows, Steps.pay_follows, Steps.send_follows}
 use Rattle.vs_flow.specs.{Flow.same_flow, declared.flow.Flow.Flow}
-use Rattle.vs_header.specs.{Kind.kind_number, declared.Header.Header, declared.Kind.Kind}
+use Rattle.vs_header.specs.{Kind.kind_number, declared.Kind.Kind}
 use Rattle.laws_history.specs.{Packets.has, Packets.is_clean_rst, Packets.is_request, Packets.is_rst, declared.packet.Packet.Packet}
 use Rattle.laws_history.specs.History.{History, Put, Got, Side, Asker, Answerer, puts, gots}
 use Rattle.vs_limits.specs.declared.TheConstants.{BUF_ALLOC}

@@ -356,12 +356,6 @@ module _ (device : Seat) where
 
     pub pays : (what : Owed) (e : DriverEntry) → Contains s.table.entries e → owes_of e.value.end ≡ Some what
         → Kept s log (after_paying what e s) (PutPacket (owed_on Driver s.cid e.flow e.value.end what) ∷ log)
-    pays owed.Request e there owes = pays_as owed.Request e (paid_connection owed.Request e.value) there owes refl refl refl refl
-    pays owed.Response e there owes = pays_as owed.Response e (paid_connection owed.Response e.value) there owes refl refl refl refl
-    pays owed.CreditUpdate e there owes = pays_as owed.CreditUpdate e (paid_connection owed.CreditUpdate e.value) there owes refl refl refl refl
-    pays owed.CreditRequest e there owes = pays_as owed.CreditRequest e (paid_connection owed.CreditRequest e.value) there owes refl refl refl refl
-    pays (owed.Shutdown bits) e there owes =
-        pays_as (owed.Shutdown bits) e (paid_connection (owed.Shutdown bits) e.value) there owes refl refl refl refl
     pays owed.Rst e there owes =
         let p = owed_on Driver s.cid e.flow e.value.end owed.Rst in
         let gone = cond (is_let_go e.value) s.gone (s.gone ++ gone_as e ∷ []) in
@@ -375,6 +369,7 @@ module _ (device : Seat) where
           holds = left_holds e.value.unanswered e gone;
           puts = (owed_fits e.value.end _ owed.Rst (length e.value.unread) (route e there) (entry_fits e there).credit owes, puts);
         }
+    pays what e there owes = pays_as what e (paid_connection what e.value) there owes refl refl refl refl
 
     -- It puts the oldest reply.
     pub replies : (reply : Reply) (rest : List Reply) → s.replies ≡ reply ∷ rest

@@ -157,11 +157,7 @@ module _ (driver : Seat) (first port : ℕ) (s : DeviceState) (l : EndLog) (soun
 
       paying : (what : Owed) → owes_of e.value.end ≡ Some what → Paying what
       paying owed.Rst owes = leaves e.value.closed owes
-      paying owed.Request owes = stays owed.Request owes
-      paying owed.Response owes = stays owed.Response owes
-      paying owed.CreditUpdate owes = stays owed.CreditUpdate owes
-      paying owed.CreditRequest owes = stays owed.CreditRequest owes
-      paying (owed.Shutdown bits) owes = stays (owed.Shutdown bits) owes
+      paying what owes = stays what owes
 
     pub puts_owed_may : (slot : ℕ) → MayPut (puts_owed slot s) c
     puts_owed_may slot = by s.chain refl
