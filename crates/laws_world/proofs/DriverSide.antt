@@ -16,7 +16,8 @@ use Rattle.laws_tables.specs.{Ends.Ends, Ends.FlowEnd, Ends.entries_of, Ends.rep
 use Rattle.laws_tables.specs.Both.{Both, Decides, Decision, Forwards, Shuts, Aborts, WantsCredit, IsSound, MayDecide, Pays, Replies, Seat}
 use Rattle.laws_tables.specs.Both.{Sends, decided}
 use Rattle.laws_tables.specs.Steps.{HasEnd, left, paid, with_end, owed_on, payload_on, reply_on}
-use Rattle.laws_tables.proofs.{Both.decided_kind, Slots.changed_slot, Slots.found_by, Slots.one_end, Slots.removed_slot, Tables.driver_begun}
+use Rattle.laws_tables.proofs.{Both.decided_kind, Tables.driver_begun}
+use Rattle.laws_tables.proofs.Slots.{changed_slot, found_by, one_end, removed_slot}
 use Rattle.vs_driver_parts.specs.{Conversations.after_paying, Listening.with_waiting, Listening.without_id}
 use Rattle.vs_driver_parts.specs.State.{DriverConnection, DriverEntry, DriverState, GoneConnection, entry_known_as, gone_known_as}
 use Rattle.vs_driver_parts.specs.State.{is_known_as}
