@@ -35,12 +35,8 @@ shut_gives_none : (e : ConnectionEnd) (bits : ℕ) → (with_shut e bits).own.re
 shut_gives_none e bits is = grind (arith, common_steps, is)
 
 pub pays_gives : (e : ConnectionEnd) (what : Owed) → owes_of e ≡ Some what → gives (paid_of e what) ≡ true → gives e ≡ true
-pays_gives e owed.Rst owes is = is
-pays_gives e owed.Request owes is = is
 pays_gives e owed.Response owes is = grind (arith, common_steps, is, owes)
-pays_gives e owed.CreditUpdate owes is = is
-pays_gives e owed.CreditRequest owes is = is
-pays_gives e (owed.Shutdown bits) owes is = is
+pays_gives e _ owes is = is
 
 pub hears_gives : (e : ConnectionEnd) (h : Header) (v : Verdict) → verdict_of e h ≡ v → (v ≡ verdict.Accept → ⊥) → gives (end_after e h) ≡ true → gives e ≡ true
 hears_gives e h v is other on = grind (arith, common_steps, is, on)
@@ -73,17 +69,6 @@ shuts_asked e bits is = grind (arith, common_steps, is)
 
 pub forwards_asked : (e : ConnectionEnd) (n : ℕ) → (with_payload_forwarded e n).state ≡ state.Asked → e.state ≡ state.Asked
 forwards_asked e n is = grind (arith, common_steps, is)
-
-pub hears_asked : (e : ConnectionEnd) (h : Header) → (end_after e h).state ≡ state.Asked → e.state ≡ state.Asked
-hears_asked e h is = grind (arith, common_steps, is)
-
-pub pays_asked : (e : ConnectionEnd) (what : Owed) → (paid_of e what).state ≡ state.Asked → e.state ≡ state.Asked
-pays_asked e owed.Rst is = is
-pays_asked e owed.Request is = is
-pays_asked e owed.Response is = absurd cc
-pays_asked e owed.CreditUpdate is = is
-pays_asked e owed.CreditRequest is = is
-pays_asked e (owed.Shutdown bits) is = is
 
 -- Before a RESPONSE no payload comes.
 older_none : (p : Packet) (ps : List Packet) → has is_response (p ∷ ps) ≡ false → has is_response ps ≡ false

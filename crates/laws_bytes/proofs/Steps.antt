@@ -61,12 +61,8 @@ pub shut_off : (e : ConnectionEnd) (bits : ℕ) → (with_shut e bits).own.recei
 shut_off e bits is = grind (arith, common_steps, is)
 
 pub pays_less : (e : ConnectionEnd) (what : Owed) → owes_of e ≡ Some what → receives (paid_of e what) ≡ true → receives e ≡ true
-pays_less e owed.Rst owes is = is
-pays_less e owed.Request owes is = is
 pays_less e owed.Response owes is = grind (arith, common_steps, is, owes)
-pays_less e owed.CreditUpdate owes is = is
-pays_less e owed.CreditRequest owes is = is
-pays_less e (owed.Shutdown bits) owes is = is
+pays_less e _ owes is = is
 
 pub shut_goes : (e : ConnectionEnd) (bits : ℕ) (held : List ℕ)
     → Goes (receives e) (receives (with_shut e bits)) held (cond (with_shut e bits).own.receive [] held) [] []

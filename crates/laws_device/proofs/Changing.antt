@@ -79,7 +79,7 @@ module _ (port : ℕ) (s : DeviceState) (fits : IsFitState s) where
           subst (λ (x : Ends). Matches Device first x log) (sym (connection_ends s fits e there port c))
           (changes Device first e.flow e.value.end c.end (ends_of_state port s) log m (has_end s fits e there port) begun kind
           (follows (side_of Device e.flow) (heard_of Device first e.flow log)));
-      fits = connection_fits s fits e.slot c held;
+      fits = connection_fits s fits e.slot c held (kind ∙ (entry_fits s fits e there).kind);
       overrun_is = refl;
     }
 
@@ -93,7 +93,8 @@ module _ (port : ℕ) (s : DeviceState) (fits : IsFitState s) where
         (same_replaced e.flow e.value.end part.entries (has_end s fits e there port)) in
         record {
           matches = λ first log m. subst (λ (x : Ends). Matches Device first x log) (sym (connection_ends s fits e there port c ∙ still)) m;
-          fits = connection_fits s fits e.slot c held;
+          fits = connection_fits s fits e.slot c held
+              (ap (λ (x : ConnectionEnd). x.kind) is ∙ (entry_fits s fits e there).kind);
           overrun_is = refl;
         }
 

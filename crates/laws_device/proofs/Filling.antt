@@ -144,33 +144,6 @@ module _ (first port : ℕ) where
         (λ fits. owed_puts port r.state fits e there owed.Request owes
         (record e.value { end = paid_of e.value.end owed.Request; asked_at = Some r.state.now }) refl refl refl)
         refl ready.1 (λ R d holds. holds) c ready
-    owed_by owed.Response owes c ready =
-        put_packet_keeps _ (after_paying owed.Response e) r
-        (record (with_connection e.slot (record e.value { end = paid_of e.value.end owed.Response }) spent) { last_put = Some e.slot })
-        (λ fits. owed_puts port r.state fits e there owed.Response owes
-        (record e.value { end = paid_of e.value.end owed.Response }) refl refl refl)
-        refl ready.1 (λ R d holds. holds) c ready
-    owed_by owed.CreditUpdate owes c ready =
-        put_packet_keeps _ (after_paying owed.CreditUpdate e) r
-        (record (with_connection e.slot (record e.value { end = paid_of e.value.end owed.CreditUpdate }) spent) { last_put = Some e.slot })
-        (λ fits. owed_puts port r.state fits e there owed.CreditUpdate owes
-        (record e.value { end = paid_of e.value.end owed.CreditUpdate }) refl refl refl)
-        refl ready.1 (λ R d holds. holds) c ready
-    owed_by owed.CreditRequest owes c ready =
-        put_packet_keeps _ (after_paying owed.CreditRequest e) r
-        (record (with_connection e.slot (record e.value { end = paid_of e.value.end owed.CreditRequest }) spent) { last_put = Some e.slot })
-        (λ fits. owed_puts port r.state fits e there owed.CreditRequest owes
-        (record e.value { end = paid_of e.value.end owed.CreditRequest }) refl refl refl)
-        refl ready.1 (λ R d holds. holds) c ready
-    owed_by (owed.Shutdown bits) owes c ready =
-        put_packet_keeps _ (after_paying (owed.Shutdown bits) e) r
-        (record (with_connection e.slot (record e.value { end = paid_of e.value.end (owed.Shutdown bits) }) spent) {
-          last_put =
-              Some e.slot;
-        })
-        (λ fits. owed_puts port r.state fits e there (owed.Shutdown bits) owes
-        (record e.value { end = paid_of e.value.end (owed.Shutdown bits) }) refl refl refl)
-        refl ready.1 (λ R d holds. holds) c ready
     owed_by owed.Rst owes c ready =
         let gone : DeviceState = record spent { last_put = Some e.slot } in
         put_packet_keeps _ (after_paying owed.Rst e) r
@@ -178,6 +151,12 @@ module _ (first port : ℕ) where
         (λ fits. rst_puts port r.state fits e there owed.Rst owes refl (stream_closed e.value))
         refl ready.1
         (λ R d holds. closing_keeps first port R (λ t. Done (after_leaving e.slot t)) e stream_closed gone d holds) c ready
+    owed_by what owes c ready =
+        put_packet_keeps _ (after_paying what e) r
+        (record (with_connection e.slot (record e.value { end = paid_of e.value.end what }) spent) { last_put = Some e.slot })
+        (λ fits. owed_puts port r.state fits e there what owes
+        (record e.value { end = paid_of e.value.end what }) refl refl refl)
+        refl ready.1 (λ R d holds. holds) c ready
 
   put_owed_keeps : (slot : ℕ) (r : Filling) (c : RingContents) → Ready r c → Keeps (Goes Ready Over) (put_owed slot r) c
   put_owed_keeps slot r c ready = by (entry_under r.state.table slot) refl

@@ -1,13 +1,13 @@
 -- A connection's pending bytes are unread ones of its end, whatever the end does.
 use Rattle.std.proofs.{lemmas.Bool.Decides.nat_tests, lemmas.Grind.common_steps}
-use Rattle.std.proofs.Common.{◌≡◌, ℕ, ◌+◌, ◌-◌, ◌%◌, ◌^◌, ◌<◌, ◌≤◌, Bool, true, false, cond, Option, Some, None, refl, arith}
+use Rattle.std.proofs.Common.{◌≡◌, ℕ, ◌+◌, ◌-◌, ◌%◌, ◌^◌, ◌<◌, ◌≤◌, Bool, true, false, cond, Option, Some, refl, sym, subst, arith}
 use Rattle.vs_conn.specs.{declared.end.Owed.Owed, declared.end.Verdict.Verdict}
+use Rattle.vs_conn.proofs.Frames.{paid_credit}
 use Rattle.vs_conn.specs.End.{ConnectionEnd, after_message, after_op, end_after, paid_of, verdict_of, with_heard_packet, with_shut}
 use Rattle.vs_credit.specs.{Credit.room_of, Credit.with_forwarded, Credit.with_sent, Credit.with_taken, declared.Credit.Credit}
 use Rattle.vs_header.specs.{Op.op_named, declared.Header.Header, declared.Op.Op}
 use Rattle.vs_limits.specs.declared.TheConstants.{BUF_ALLOC}
 use Rattle.laws_device.specs.Honest.{HoldsBytes}
-use Rattle.vs_conn.specs.declared.end.Owed.TheVariants as owed
 use Rattle.vs_conn.specs.declared.end.Verdict.TheVariants as verdict
 use Rattle.vs_header.specs.declared.Op.TheVariants as op
 
@@ -83,12 +83,7 @@ fits_shut e bits u fits = by (with_shut e bits).own.receive
     by false = fits
 
 pub fits_paid : (e : ConnectionEnd) (what : Owed) (u : ℕ) → HoldsBytes e.credit u → HoldsBytes (paid_of e what).credit u
-fits_paid e owed.Rst u fits = fits
-fits_paid e owed.Request u fits = fits
-fits_paid e owed.Response u fits = fits
-fits_paid e owed.CreditUpdate u fits = fits
-fits_paid e owed.CreditRequest u fits = fits
-fits_paid e (owed.Shutdown bits) u fits = fits
+fits_paid e what u fits = subst (λ (c : Credit). HoldsBytes c u) (sym (paid_credit e what)) fits
 
 -- What is delivered is unread.
 abbrev pub delivered : Verdict → ℕ → ℕ
@@ -106,12 +101,7 @@ fits_message : (o : Option Op) (e : ConnectionEnd) (h : Header) (u : ℕ) → Ho
 fits_message (Some op.Shutdown) e h u fits = heard_same e h u fits
 fits_message (Some op.CreditUpdate) e h u fits = heard_same e h u fits
 fits_message (Some op.CreditRequest) e h u fits = heard_same e h u fits
-fits_message (Some op.Invalid) e h u fits = fits
-fits_message (Some op.Request) e h u fits = fits
-fits_message (Some op.Response) e h u fits = fits
-fits_message (Some op.Rst) e h u fits = fits
-fits_message (Some op.Rw) e h u fits = fits
-fits_message None e h u fits = fits
+fits_message _ e h u fits = fits
 
 -- A payload that is delivered fits its room.
 delivers_room : (e : ConnectionEnd) (h : Header) → verdict_of e h ≡ verdict.Deliver → h.len ≤ room_of e.credit

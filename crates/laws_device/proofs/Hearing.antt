@@ -175,17 +175,7 @@ module _ (first port : ℕ) (s : DeviceState) (chain : Chain) (h : Header) (wire
         refuses (why.Overrun o) is = quiet (with_connection e.slot (heard h e.value) (record s { overrun = counted s.overrun }))
             (verdict.Rst (why.Overrun o)) c refl refl
             (λ payload log was fair. absurd (overruns payload log was fair (why.Overrun o) is refl)) tells
-        refuses why.BadKind is = quiet (with_connection e.slot (heard h e.value) s) (verdict.Rst why.BadKind) c refl refl
-            (λ payload log was fair. hears payload log was fair _ is refl) tells
-        refuses why.BadOp is = quiet (with_connection e.slot (heard h e.value) s) (verdict.Rst why.BadOp) c refl refl
-            (λ payload log was fair. hears payload log was fair _ is refl) tells
-        refuses why.Twice is = quiet (with_connection e.slot (heard h e.value) s) (verdict.Rst why.Twice) c refl refl
-            (λ payload log was fair. hears payload log was fair _ is refl) tells
-        refuses why.NotAsked is = quiet (with_connection e.slot (heard h e.value) s) (verdict.Rst why.NotAsked) c refl refl
-            (λ payload log was fair. hears payload log was fair _ is refl) tells
-        refuses why.NotLive is = quiet (with_connection e.slot (heard h e.value) s) (verdict.Rst why.NotLive) c refl refl
-            (λ payload log was fair. hears payload log was fair _ is refl) tells
-        refuses why.AfterShutdown is = quiet (with_connection e.slot (heard h e.value) s) (verdict.Rst why.AfterShutdown) c refl refl
+        refuses w is = quiet (with_connection e.slot (heard h e.value) s) (verdict.Rst w) c refl refl
             (λ payload log was fair. hears payload log was fair _ is refl) tells
 
         accepted : (line : List ℕ) → verdict_of e.value.end h ≡ verdict.Accept

@@ -1,16 +1,19 @@
 -- The steps at which the device puts a packet: payload is sent, what is owed is paid, a reply is given.
-use Rattle.std.proofs.{lemmas.Grind.common_steps, lemmas.List.append-nil}
+use Rattle.std.proofs.{lemmas.List.append-nil}
 use Rattle.std.proofs.Common.{◌≡◌, ℕ, suc, ◌<◌, ◌^◌, false, List, [], ◌∷◌, ◌++◌, length, Contains, Some, refl, sym, ap, subst, ◌∙◌, arith}
 use Rattle.std.specs.List.{All}
 use Rattle.vs_conn.specs.{Headers.owed_flags, Headers.owed_header, Headers.owed_op, Headers.payload_header, declared.end.Owed.Owed}
 use Rattle.vs_conn.specs.End.{CanSend, ConnectionEnd, owes_of, paid_of, with_payload_sent}
+use Rattle.vs_conn.specs.Follows.{FitsMessage}
+use Rattle.vs_conn.proofs.{Frames.paid_kind, Steps.stream_fits}
 use Rattle.vs_header.specs.{Packet.header_bytes, declared.Header.Header}
-use Rattle.laws_history.specs.declared.packet.Packet.{Packet}
+use Rattle.laws_history.specs.{History.puts, declared.packet.Packet.Packet}
 use Rattle.vs_flow.specs.Table.{Table, with_value, without}
-use Rattle.vs_page.specs.{Fair.IsFairLog, Held.FitsWire, Held.packet_held, Log.Device, Log.Log, declared.log.LogEntry.TheVariants.PutPacket}
+use Rattle.vs_page.specs.{Fair.IsFairLog, Held.FitsWire, Held.packet_held, Log.Device, Log.Log, Log.history_of}
+use Rattle.vs_page.specs.declared.log.LogEntry.TheVariants.{PutPacket}
 use Rattle.vs_replies.specs.declared.Reply.{Reply}
 use Rattle.laws_tables.specs.{Ends.Ends, Ends.is_new, Matches.Matches, Steps.owed_on, Steps.paid, Steps.payload_on, Steps.with_end}
-use Rattle.laws_tables.proofs.Keeps.{pays, pays_fair, replies, replies_fair, sends, sends_fair}
+use Rattle.laws_tables.proofs.Keeps.{owed_old, pays, pays_fair, replies, replies_fair, sends, sends_fair}
 use Rattle.laws_tables.proofs.OwedFlags.{owed_flags_fit}
 use Rattle.vs_device_parts.specs.{Connections.route_to_guest, Connections.with_connection, Receiving.reply_header}
 use Rattle.vs_device_parts.specs.State.{DeviceConnection, DeviceEntry, DeviceState}
@@ -34,14 +37,6 @@ pub record PutsTo (port : ℕ) (h : Header) (payload : List ℕ) (cid overrun : 
 
 abbrev pub Puts : ℕ → DeviceState → Header → List ℕ → DeviceState → Type 0
 Puts port s h payload t = PutsTo port h payload s.cid s.overrun s.table s.replies t.cid t.overrun t.table t.replies
-
-paid_begun : (e : ConnectionEnd) (what : Owed) → owes_of e ≡ Some what → is_new (paid_of e what) ≡ false
-paid_begun e owed.Rst owes = grind (arith, common_steps, owes)
-paid_begun e owed.Request owes = grind (arith, common_steps, owes)
-paid_begun e owed.Response owes = grind (arith, common_steps, owes)
-paid_begun e owed.CreditUpdate owes = grind (arith, common_steps, owes)
-paid_begun e owed.CreditRequest owes = grind (arith, common_steps, owes)
-paid_begun e (owed.Shutdown bits) owes = grind (arith, common_steps, owes)
 
 held_empty : (h : Header) → FitsWire h → h.len ≡ 0 → packet_held (header_bytes h ++ []) ≡
     (let p : Packet = record { header = h; payload = [] } in Some p)
@@ -83,17 +78,20 @@ module _ (port : ℕ) (s : DeviceState) (fits : IsFitState s) where
         let wire : FitsWire h = header_fits s.cid e.flow end op.Rw 0 (length payload) fits.cid_fits entry.ports
         (omega (arith, entry.bytes.alloc))
         entry.bytes.fwd (omega arith) small in
+        let fits_message : (log : Log) → FitsMessage end (puts (history_of Device e.flow log)) (length payload) =
+        λ log. stream_fits end (puts (history_of Device e.flow log)) (length payload) entry.kind in
         record {
           held = held_payload h payload wire refl refl;
           fits = connection_fits s fits e.slot now (begun_fits now
-              (fits_sent end.credit (length payload) (length e.value.pending) entry.bytes) begun);
+              (fits_sent end.credit (length payload) (length e.value.pending) entry.bytes) begun) entry.kind;
           overrun_is = refl;
           matches = λ first log m.
               subst (λ (part : Ends). Matches Device first part (PutPacket (payload_on Device s.cid e.flow end payload) ∷ log))
               (sym (connection_ends s fits e there port now))
-              (sends Device first s.cid e.flow end payload (ends_of_state port s) log m (has_end s fits e there port) can);
+              (sends Device first s.cid e.flow end payload (ends_of_state port s) log m (has_end s fits e there port) can
+              (fits_message log));
           fair = λ first log m fair. sends_fair Device first s.cid e.flow end payload (ends_of_state port s) log m fair
-              (has_end s fits e there port) can;
+              (has_end s fits e there port) can (fits_message log);
         }
 
     -- What is owed.
@@ -130,7 +128,8 @@ module _ (port : ℕ) (s : DeviceState) (fits : IsFitState s) where
           (subst (λ (x : ConnectionEnd). HoldsBytes x.credit (length c.pending)) (sym is)
           (subst (λ (bytes : List ℕ). HoldsBytes (paid_of e.value.end what).credit (length bytes)) (sym pending)
           (fits_paid e.value.end what (length e.value.pending) entry.bytes)))
-          (ap is_new is ∙ paid_begun e.value.end what owes)))
+          (ap is_new is ∙ owed_old e.value.end what owes))
+          (ap (λ (x : ConnectionEnd). x.kind) is ∙ paid_kind e.value.end what ∙ entry.kind))
           refl
           (stays ∙ (ap (λ (x : ConnectionEnd). with_end e.flow x (ends_of_state port s)) (sym is) ∙ sym
           (connection_ends s fits e there port c)))

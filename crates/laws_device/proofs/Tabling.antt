@@ -2,6 +2,7 @@
 use Rattle.std.proofs.Common.{◌≡◌, ℕ, ◌==◌, Bool, true, false, cond, not, List, [], ◌∷◌, get_or, map, filter, length, Contains, refl, sym}
 use Rattle.std.proofs.Common.{ap, subst, ◌∙◌}
 use Rattle.std.proofs.lemmas.List.Elements.{All-map, All-push, All-filter}
+use Rattle.vs_header.specs.declared.Kind.TheVariants.{Stream}
 use Rattle.vs_flow.specs.Table.{Table, with_value, without, with_entry, next_entry, revalued}
 use Rattle.vs_flow.specs.declared.flow.Flow.{Flow}
 use Rattle.vs_flow.proofs.Tables.{revalued-slot, with_value_sound, without_sound, with_entry_sound, IsAccepted}
@@ -19,11 +20,12 @@ pub record IsFitConnection (c : DeviceConnection) : Type 0 where
 pub begun_fits : (c : DeviceConnection) → HoldsBytes c.end.credit (length c.pending) → is_new c.end ≡ false → IsFitConnection c
 begun_fits c bytes begun = record { bytes = bytes; new = λ new. absurd cc }
 
-revalued_fits : (slot : ℕ) (c : DeviceConnection) (e : DeviceEntry) → IsFitConnection c → IsFitEntry e → IsFitEntry (revalued slot c e)
-revalued_fits slot c e held fits = by (e.slot == slot)
+revalued_fits : (slot : ℕ) (c : DeviceConnection) (e : DeviceEntry) → IsFitConnection c → c.end.kind ≡ Stream → IsFitEntry e
+    → IsFitEntry (revalued slot c e)
+revalued_fits slot c e held kind fits = by (e.slot == slot)
   where
     by : (b : Bool) → IsFitEntry (cond b (record e { value = c }) e)
-    by true = record { ports = fits.ports; bytes = held.bytes; new = held.new }
+    by true = record { ports = fits.ports; kind = kind; bytes = held.bytes; new = held.new }
     by false = fits
 
 -- A change of an entry that then leaves.
@@ -44,23 +46,23 @@ without_changed t slot v = ap (λ (es : List DeviceEntry). let x : Table DeviceC
 
 module _ (s : DeviceState) (fits : IsFitState s) where
   -- Another connection under a slot.
-  pub connection_fits : (slot : ℕ) (c : DeviceConnection) → IsFitConnection c → IsFitState (with_connection slot c s)
-  connection_fits slot c held = record {
+  pub connection_fits : (slot : ℕ) (c : DeviceConnection) → IsFitConnection c → c.end.kind ≡ Stream → IsFitState (with_connection slot c s)
+  connection_fits slot c held kind = record {
     cid_fits = fits.cid_fits;
     sound = with_value_sound s.table slot c fits.sound;
     entries = All-map IsFitEntry (revalued slot c) s.table.entries
-        (λ k d lt. revalued_fits slot c (get_or s.table.entries k d) held (fits.entries k d lt));
+        (λ k d lt. revalued_fits slot c (get_or s.table.entries k d) held kind (fits.entries k d lt));
     owed = fits.owed;
   }
 
   -- A connection more.
-  pub opening_fits : (f : Flow) (c : DeviceConnection) → IsAccepted s.table f → IsFitFlow f → IsFitConnection c
+  pub opening_fits : (f : Flow) (c : DeviceConnection) → IsAccepted s.table f → IsFitFlow f → IsFitConnection c → c.end.kind ≡ Stream
       → IsFit s.cid (with_entry s.table f c) s.replies
-  opening_fits f c free ports held = record {
+  opening_fits f c free ports held kind = record {
     cid_fits = fits.cid_fits;
     sound = with_entry_sound s.table f c fits.sound free;
     entries = All-push IsFitEntry s.table.entries (next_entry s.table f c) fits.entries
-        (record { ports = ports; bytes = held.bytes; new = held.new });
+        (record { ports = ports; kind = kind; bytes = held.bytes; new = held.new });
     owed = fits.owed;
   }
 

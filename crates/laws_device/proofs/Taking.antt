@@ -2,6 +2,7 @@
 use Rattle.std.proofs.Common.{◌≡◌, ℕ, ◌&&◌, Bool, true, false, cond, List, [], ◌∷◌, Contains, None, refl, sym, ap, subst, ◌∙◌, arith}
 use Rattle.std.proofs.lemmas.List.Elements.{All-push}
 use Rattle.vs_conn.specs.{End.ConnectionEnd, End.answering, End.end_after, End.is_reset, End.is_of, End.verdict_of, Follows.IsTaken}
+use Rattle.vs_conn.proofs.Frames.{got_kind}
 use Rattle.laws_history.specs.{Packets.is_request, Packets.is_rst, declared.packet.Packet.Packet}
 use Rattle.vs_limits.specs.declared.TheConstants.{BUF_ALLOC}
 use Rattle.vs_flow.specs.{Table.entry_of, Table.has_place, Table.refusal, Table.with_value, Table.without, declared.flow.Flow.Flow}
@@ -17,7 +18,7 @@ use Rattle.vs_device_parts.specs.Connections.{new_connection, with_connection, w
 use Rattle.vs_device_parts.specs.State.{DeviceConnection, DeviceEntry, DeviceState}
 use Rattle.laws_device.specs.Honest.{IsFitFlow, IsFitReply, IsLeft, ends_of_state, end_in}
 use Rattle.laws_device.proofs.Tabling.{IsFitConnection, begun_fits, connection_ends, connection_fits, has_end, left_ends, left_fits}
-use Rattle.laws_device.proofs.Tabling.{opening_fits}
+use Rattle.laws_device.proofs.Tabling.{entry_fits, opening_fits}
 use Rattle.vs_header.specs.declared.Kind.TheVariants.{Stream}
 
 -- What an RST leaves of an end that keeps no flow.
@@ -69,7 +70,8 @@ module _ (first port : ℕ) (s : DeviceState) (p : Packet) (log : Log) (was : Is
       pub stays_with : (c : DeviceConnection) → c.end ≡ end_after e.value.end p.header → IsFitConnection c
           → (is_reset p.header && is_of e.value.end.kind p.header) ≡ false → Goes (with_connection e.slot c s)
       stays_with c is held goes_on = record {
-        fits = connection_fits s was.fits e.slot c held;
+        fits = connection_fits s was.fits e.slot c held
+            (ap (λ (x : ConnectionEnd). x.kind) is ∙ got_kind e.value.end p.header ∙ (entry_fits s was.fits e there).kind);
         none_overrun = was.none_overrun;
         matches = subst (λ (part : Ends). Matches Device first part (GotPacket p ∷ log))
             (ap (λ (b : Bool). cond b (left e.flow (ends_of_state port s))
@@ -107,7 +109,7 @@ module _ (first port : ℕ) (s : DeviceState) (p : Packet) (log : Log) (was : Is
           let free : refusal s.table f ≡ None = rw (none, place) refl in
           record {
             fits = opening_fits s was.fits f c (accepted s.table f free) flow_fits (begun_fits c
-                (record { alloc = omega arith; fwd = omega arith; rx = omega arith; unread = omega arith; within = omega arith }) refl);
+                (record { alloc = omega arith; fwd = omega arith; rx = omega arith; unread = omega arith; within = omega arith }) refl) refl;
             none_overrun = was.none_overrun;
             matches = subst (λ (part : Ends). Matches Device first part (GotPacket p ∷ log))
                 (ap (λ (es : List FlowEnd). let part : Ends = record (ends_of_state port s) { entries = es } in part)

@@ -397,7 +397,7 @@ module _ (first port : ℕ) where
             fits = opening_fits s p.fits flow c (accepted s.table flow free) ports (record {
               bytes = record { unread = omega arith; within = omega arith; alloc = omega arith; rx = omega arith; fwd = omega arith };
               new = λ new. record { by_client = refl; ok_line = refl; pending = refl; asked_at = refl; shut_at = refl };
-            });
+            }) refl;
             none_overrun = p.none_overrun;
             matches = subst (λ (part : Ends). Matches Device first part l.entries)
                 (ap (λ (n : ℕ). let part : Ends = record (asking Device flow Stream (ends_of_state port s)) { next_port = n } in part) (given next.port)

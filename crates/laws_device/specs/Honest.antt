@@ -3,6 +3,7 @@ use Rattle.std.specs.{List.All, Option.ForSome}
 use Rattle.std.specs.Prelude.{◌≡◌, ℕ, ◌+◌, ◌<◌, ◌≤◌, ◌^◌, ◌||◌, Bool, false, true, List, [], ◌∷◌, length, Option, Some, None, Result, Ok}
 use Rattle.std.specs.Prelude.{Err, IfSome}
 use Rattle.vs_conn.specs.{End.ConnectionEnd, declared.end.State.State}
+use Rattle.vs_header.specs.declared.Kind.TheVariants.{Stream}
 use Rattle.vs_credit.specs.{Credit.unread_of, declared.Credit.Credit}
 use Rattle.vs_flow.specs.{Table.IsTable, Table.Table, declared.flow.Flow.Flow, declared.table.TableFault.TableFault}
 use Rattle.laws_history.specs.{History.Asker, Packets.is_rst, declared.packet.Packet.Packet}
@@ -53,8 +54,10 @@ pub record HasNothing (c : DeviceConnection) : Type 0 where
   pub asked_at : c.asked_at ≡ None
   pub shut_at : c.shut_at ≡ None
 
+-- A connection is a stream.
 pub record IsFitEntry (e : DeviceEntry) : Type 0 where
   pub ports : IsFitFlow e.flow
+  pub kind : e.value.end.kind ≡ Stream
   pub bytes : HoldsBytes e.value.end.credit (length e.value.pending)
   pub new : is_new e.value.end ≡ true → HasNothing e.value
 

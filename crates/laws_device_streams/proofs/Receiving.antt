@@ -3,6 +3,7 @@ use Rattle.std.proofs.Common.{◌≡◌, ℕ, ◌+◌, ◌==◌, Bool, true, fal
 use Rattle.std.proofs.Common.{refl, sym, ap, subst, ◌∙◌}
 use Rattle.std.specs.Option.{ForSome}
 use Rattle.vs_conn.specs.{End.owes_of, End.paid_of, End.wanting_credit, End.with_payload_sent, Headers.owed_header, Headers.payload_header}
+use Rattle.vs_conn.proofs.Frames.{paid_over}
 use Rattle.vs_conn.specs.declared.end.Owed.{Owed}
 use Rattle.vs_conn.specs.declared.end.Owed.TheVariants as owed
 use Rattle.vs_conn.specs.declared.end.TheConstants.{OWED_MAX}
@@ -29,7 +30,7 @@ use Rattle.vs_device_parts.specs.Receiving.{read_stream, read_with_chain, reply_
 use Rattle.vs_device_parts.specs.{State.DeviceConnection, State.DeviceEntry, State.DeviceState, Streams.closing}
 use Rattle.laws_device_streams.specs.{Split.CanReach, Streams.FindsStreams, Streams.HasStreams}
 use Rattle.laws_device_streams.proofs.Closing.{found_by_slot, keeps_cut_off, keeps_leaving, stays}
-use Rattle.laws_device_streams.proofs.Ends.{owes_reset, reads_not, shut_over}
+use Rattle.laws_device_streams.proofs.Ends.{reads_not, shut_over}
 use Rattle.laws_device_streams.proofs.Keeping.{Keeps, keeps_each, keeps_then, keeps_while}
 use Rattle.laws_device_streams.proofs.Tables.{has_moved, some_after, some_from, stream_by_entry, value_by_entry}
 use Rattle.laws_device_streams.proofs.Writing.{all_stay, finds_changed}
@@ -147,19 +148,10 @@ module _ (others : List ℕ) where
   keeps_after_paying slot e owed.Request s c found owes has =
       finds_changed others s c e (record e.value { end = paid_of e.value.end owed.Request; asked_at = Some s.now })
       (found_by_slot s.table slot e found) refl refl
-      (λ over. absurd (let rst = owes_reset e.value.end owed.Request owes over in cc)) has
-  keeps_after_paying slot e owed.Response s c found owes has =
-      finds_changed others s c e (record e.value { end = paid_of e.value.end owed.Response }) (found_by_slot s.table slot e found) refl refl
-      (λ over. absurd (let rst = owes_reset e.value.end owed.Response owes over in cc)) has
-  keeps_after_paying slot e owed.CreditUpdate s c found owes has =
-      finds_changed others s c e (record e.value { end = paid_of e.value.end owed.CreditUpdate })
-      (found_by_slot s.table slot e found) refl refl (λ over. over) has
-  keeps_after_paying slot e owed.CreditRequest s c found owes has =
-      finds_changed others s c e (record e.value { end = paid_of e.value.end owed.CreditRequest })
-      (found_by_slot s.table slot e found) refl refl (λ over. over) has
-  keeps_after_paying slot e (owed.Shutdown bits) s c found owes has =
-      finds_changed others s c e (record e.value { end = paid_of e.value.end (owed.Shutdown bits) })
-      (found_by_slot s.table slot e found) refl refl (λ over. over) has
+      (paid_over e.value.end owed.Request owes) has
+  keeps_after_paying slot e what s c found owes has =
+      finds_changed others s c e (record e.value { end = paid_of e.value.end what })
+      (found_by_slot s.table slot e found) refl refl (paid_over e.value.end what owes) has
 
   pub keeps_put_owed : (slot : ℕ) (r : Filling) (c : Situation) → FindsStreams others r.state c
       → Keeps CanReach Allows FillsFirst (put_owed slot r) c

@@ -2,6 +2,7 @@
 use Rattle.std.proofs.Common.{◌≡◌, ℕ, ◌+◌, ◌-◌, ◌==◌, ◌&&◌, Bool, true, false, cond, List, [], ◌++◌, length, nat_le, nat_lt, if◌then◌else◌}
 use Rattle.std.proofs.Common.{Option, Some, None, IsSomeAnd, refl, sym, ap, ◌∙◌}
 use Rattle.vs_conn.specs.{End.answering, End.end_after, End.is_reset, End.is_of, End.verdict_of, declared.end.Verdict.Verdict}
+use Rattle.vs_conn.proofs.Frames.{got_over}
 use Rattle.vs_contents.specs.CallTree.{Done, Ask, bind}
 use Rattle.vs_flow.specs.{Flow.is_assigned, Table.Table, Table.entry_of, Table.has_place, Table.with_entry, declared.flow.Flow.Flow}
 use Rattle.vs_header.specs.{Op.op_number, Packet.header_of, declared.Header.Header, declared.TheConstants.HEADER_LEN}
@@ -24,7 +25,7 @@ use Rattle.vs_device_parts.specs.declared.answers.Taken.{Taken}
 use Rattle.vs_device_parts.specs.Calls.{Call, Dial, Ring, Situation, DeviceTree, Allows}
 use Rattle.vs_device_parts.specs.Connections.{new_connection, with_connection, with_reply}
 use Rattle.laws_device_streams.specs.{Split.CanReach, Split.is_quiet, Streams.FindsStreams, Streams.HasStreams, Streams.joined_stream}
-use Rattle.laws_device_streams.proofs.{Closing.IsFound, Closing.keeps_leaving, Closing.stays, Ends.heard_over, Keeping.Keeps}
+use Rattle.laws_device_streams.proofs.{Closing.IsFound, Closing.keeps_leaving, Closing.stays, Keeping.Keeps}
 use Rattle.laws_device_streams.proofs.Keeping.{keeps_then}
 use Rattle.laws_device_streams.proofs.{Tables.entry_by_flow, Tables.has_added, Tables.has_moved, Tables.some_after, Writing.finds_changed}
 use Rattle.vs_flow.proofs.Tables.{accepted, with_entry_sound}
@@ -131,7 +132,7 @@ module _ (Can : Call → Situation → Type 0) (reaches : (call : Call) (s : Sit
         → joined_stream v ≡ joined_stream e.value
         → v.end ≡ end_after e.value.end h → FindsStreams others (with_connection e.slot v s) d
     finds_heard v d has closed joined heard =
-        finds_changed others s d e v found closed joined (λ over. ap (λ x. x.state) heard ∙ heard_over e.value.end h over) has
+        finds_changed others s d e v found closed joined (λ over. ap (λ x. x.state) heard ∙ got_over e.value.end h over) has
 
     keeps_message : (b : Bool) → Keeps Can Allows (FindsStreams others)
         (cond b (leaving (record e { value = heard h e.value }) s) (Done (with_connection e.slot (heard h e.value) s))) c
@@ -148,12 +149,7 @@ module _ (Can : Call → Situation → Type 0) (reaches : (call : Call) (s : Sit
     )
     keeps_on_known verdict.Peer = keeps_message (is_reset h)
     keeps_on_known (verdict.Rst (why.Overrun o)) = finds_heard (heard h e.value) c has refl refl refl
-    keeps_on_known (verdict.Rst why.BadKind) = finds_heard (heard h e.value) c has refl refl refl
-    keeps_on_known (verdict.Rst why.BadOp) = finds_heard (heard h e.value) c has refl refl refl
-    keeps_on_known (verdict.Rst why.Twice) = finds_heard (heard h e.value) c has refl refl refl
-    keeps_on_known (verdict.Rst why.NotAsked) = finds_heard (heard h e.value) c has refl refl refl
-    keeps_on_known (verdict.Rst why.NotLive) = finds_heard (heard h e.value) c has refl refl refl
-    keeps_on_known (verdict.Rst why.AfterShutdown) = finds_heard (heard h e.value) c has refl refl refl
+    keeps_on_known (verdict.Rst _) = finds_heard (heard h e.value) c has refl refl refl
     keeps_on_known verdict.Discard = finds_heard (heard h e.value) c has refl refl refl
     keeps_on_known verdict.Ignore = finds_heard (heard h e.value) c has refl refl refl
 

@@ -48,7 +48,7 @@ connection_changes s e c fits stands held kind follows = record {
       subst (λ (x : Ends). Matches Driver first x log) (sym (connection_ends s e c fits stands))
       (changes Driver first e.flow e.value.end c.end (ends_of_state s) log m has begun kind
       (follows (side_of Driver e.flow) (heard_of Driver first e.flow log)));
-  fits = connection_fits s e.slot c fits held;
+  fits = connection_fits s e.slot c fits held (kind ∙ (entry_fits s e fits stands).kind);
   broken = refl;
 }
 

@@ -1,6 +1,6 @@
 -- The buffer of a connection holds what its end counts as unread, whatever the end does.
 use Rattle.std.proofs.Common.{◌≡◌, ℕ, ◌+◌, ◌-◌, ◌<◌, ◌≤◌, ◌^◌, Bool, true, false, cond, min, List, [], ◌++◌, length, drop, Option, Some}
-use Rattle.std.proofs.Common.{None, refl, sym, ap, subst, ◌∙◌, arith, length-append, length-drop, eq-eqb}
+use Rattle.std.proofs.Common.{refl, sym, ap, subst, ◌∙◌, arith, length-append, length-drop, eq-eqb}
 use Rattle.vs_wrap.specs.Wrap.{difference32, sum32}
 use Rattle.vs_credit.specs.{Credit.room_of, Credit.with_taken, Credit.with_forwarded, Credit.with_heard, declared.Credit.Credit}
 use Rattle.vs_limits.specs.declared.TheConstants.{BUF_ALLOC}
@@ -105,12 +105,7 @@ message_fits : (o : Option Op) (e : ConnectionEnd) (h : Header) (bytes : List �
 message_fits (Some op.Shutdown) e h bytes room = holds_same e.credit _ bytes room refl refl refl
 message_fits (Some op.CreditUpdate) e h bytes room = holds_same e.credit _ bytes room refl refl refl
 message_fits (Some op.CreditRequest) e h bytes room = holds_same e.credit _ bytes room refl refl refl
-message_fits (Some op.Request) e h bytes room = room
-message_fits (Some op.Response) e h bytes room = room
-message_fits (Some op.Rst) e h bytes room = room
-message_fits (Some op.Rw) e h bytes room = room
-message_fits (Some op.Invalid) e h bytes room = room
-message_fits None e h bytes room = room
+message_fits _ e h bytes room = room
 
 packet_fits_by : (v : Verdict) (p : Packet) (c : DriverConnection) → verdict_of c.end p.header ≡ v → IsWhole p → IsHeldBy c
     → Holds (after_op (op_named p.header.op) c.end p.header v).credit (after_packet v p c).unread
@@ -145,11 +140,7 @@ packet_fits p c whole room = by (verdict_of c.end p.header) refl
 -- What the driver's own steps do.
 pub paid_fits : (what : Owed) (c : DriverConnection) → IsHeldBy c → IsHeldBy (paid_connection what c)
 paid_fits owed.Rst c room = room
-paid_fits owed.Request c room = holds_same c.end.credit _ c.unread room refl refl refl
-paid_fits owed.Response c room = holds_same c.end.credit _ c.unread room refl refl refl
-paid_fits owed.CreditUpdate c room = holds_same c.end.credit _ c.unread room refl refl refl
-paid_fits owed.CreditRequest c room = holds_same c.end.credit _ c.unread room refl refl refl
-paid_fits (owed.Shutdown bits) c room = holds_same c.end.credit _ c.unread room refl refl refl
+paid_fits _ c room = holds_same c.end.credit _ c.unread room refl refl refl
 
 pub sent_fits : (n : ℕ) (c : DriverConnection) → IsHeldBy c → Holds (with_payload_sent c.end n).credit c.unread
 sent_fits n c room = holds_same c.end.credit _ c.unread room refl refl refl

@@ -5,11 +5,14 @@ use Rattle.std.proofs.Common.{inl, sym, ap, subst, ◌∙◌, arith, ◌||◌}
 use Rattle.std.specs.List.{All}
 use Rattle.vs_conn.specs.{Headers.owed_flags, Headers.owed_header, Headers.owed_op, Headers.payload_header, declared.end.Owed.Owed}
 use Rattle.vs_conn.specs.End.{CanSend, ConnectionEnd, asked, owes_of, paid_of, with_payload_sent}
+use Rattle.vs_conn.specs.Follows.{FitsMessage}
+use Rattle.vs_conn.proofs.{Frames.paid_kind, Steps.stream_fits}
 use Rattle.vs_header.specs.{Packet.header_bytes, declared.Header.Header, declared.Kind.TheVariants.Stream}
+use Rattle.laws_history.specs.History.{puts}
 use Rattle.vs_limits.specs.declared.TheConstants.{BUF_ALLOC, LAST_ID, LAST_PORT, DRIVER_CONNECTIONS}
 use Rattle.vs_flow.specs.{Flow.is_assigned, Table.entry_of, declared.flow.Flow.Flow}
 use Rattle.vs_flow.proofs.{Tables.IsAccepted, Entries.find_none}
-use Rattle.vs_page.specs.{Held.FitsWire, Log.Driver, Log.side_by, declared.log.LogEntry.TheVariants.PutPacket}
+use Rattle.vs_page.specs.{Held.FitsWire, Log.Driver, Log.Log, Log.history_of, Log.side_by, declared.log.LogEntry.TheVariants.PutPacket}
 use Rattle.vs_page.specs.declared.page.TheConstants.{PAYLOAD_MAX}
 use Rattle.vs_replies.specs.declared.Reply.{Reply}
 use Rattle.laws_tables.specs.{Ends.Ends, Ends.FlowEnd, Matches.Matches}
@@ -39,24 +42,13 @@ pub record Pays (what : Owed) (e : DriverEntry) (s t : DriverState) : Type 0 whe
 pays_by : (what : Owed) (e : DriverEntry) (s : DriverState) (c : DriverConnection) → c.end ≡ paid_of e.value.end what → IsHeldBy c → IsFitState s
     → Stands s e → (ends_of_state (with_connection e.slot c s) ≡ with_end e.flow (paid_of e.value.end what) (ends_of_state s)) × IsFitState (with_connection e.slot c s)
 pays_by what e s c is held fits stands =
-    (connection_ends s e c fits stands ∙ ap (λ (x : ConnectionEnd). with_end e.flow x (ends_of_state s)) is, connection_fits s e.slot c fits held)
+    (connection_ends s e c fits stands ∙ ap (λ (x : ConnectionEnd). with_end e.flow x (ends_of_state s)) is, connection_fits s e.slot c fits held
+    (ap (λ (x : ConnectionEnd). x.kind) is ∙ paid_kind e.value.end what ∙ (entry_fits s e fits stands).kind))
 
 pays_state : (what : Owed) (e : DriverEntry) (s : DriverState) → IsFitState s → Stands s e → IsHeldBy e.value → Pays what e s (after_paying what e s)
 pays_state owed.Rst e s fits stands held = let l = leaves s e e.value fits stands in record { ends = l.ends; fits = l.fits; broken = l.broken }
-pays_state owed.Request e s fits stands held =
-    let l = pays_by owed.Request e s (paid_connection owed.Request e.value) refl (paid_fits owed.Request e.value held) fits stands in
-    record { ends = l.0; fits = l.1; broken = refl }
-pays_state owed.Response e s fits stands held =
-    let l = pays_by owed.Response e s (paid_connection owed.Response e.value) refl (paid_fits owed.Response e.value held) fits stands in
-    record { ends = l.0; fits = l.1; broken = refl }
-pays_state owed.CreditUpdate e s fits stands held =
-    let l = pays_by owed.CreditUpdate e s (paid_connection owed.CreditUpdate e.value) refl (paid_fits owed.CreditUpdate e.value held) fits stands in
-    record { ends = l.0; fits = l.1; broken = refl }
-pays_state owed.CreditRequest e s fits stands held =
-    let l = pays_by owed.CreditRequest e s (paid_connection owed.CreditRequest e.value) refl (paid_fits owed.CreditRequest e.value held) fits stands in
-    record { ends = l.0; fits = l.1; broken = refl }
-pays_state (owed.Shutdown bits) e s fits stands held =
-    let l = pays_by (owed.Shutdown bits) e s (paid_connection (owed.Shutdown bits) e.value) refl (paid_fits (owed.Shutdown bits) e.value held) fits stands in
+pays_state what e s fits stands held =
+    let l = pays_by what e s (paid_connection what e.value) refl (paid_fits what e.value held) fits stands in
     record { ends = l.0; fits = l.1; broken = refl }
 
 pub owed_puts : (what : Owed) (e : DriverEntry) (s : DriverState) → IsFitState s → Stands s e → owes_of e.value.end ≡ Some what
@@ -117,16 +109,18 @@ send_puts e payload s fits stands can few =
     let small : length payload < 2 ^ 32 = omega (arith, few) in
     let wire : FitsWire h = header_fits s.cid e.flow end op.Rw 0 (length payload) fits.cid_fits entry.ports entry.buffer.alloc entry.buffer.fwd_cnt (omega arith) small in
     let has = has_end s e fits stands in
+    let fits_message : (log : Log) → FitsMessage end (puts (history_of Driver e.flow log)) (length payload) =
+    λ log. stream_fits end (puts (history_of Driver e.flow log)) (length payload) entry.kind in
     record {
       packet = payload_on Driver s.cid e.flow end payload;
       held = held_payload h payload wire refl refl;
       bytes = refl;
-      fits = connection_fits s e.slot now fits (sent_fits (length payload) e.value entry.buffer);
+      fits = connection_fits s e.slot now fits (sent_fits (length payload) e.value entry.buffer) entry.kind;
       broken = refl;
       matches = λ first log m.
           subst (λ (part : Ends). Matches Driver first part (PutPacket (payload_on Driver s.cid e.flow end payload) ∷ log)) (sym (connection_ends s e now fits stands))
-          (sends Driver first s.cid e.flow end payload (ends_of_state s) log m has can);
-      fair = λ first log m fair. sends_fair Driver first s.cid e.flow end payload (ends_of_state s) log m fair has can;
+          (sends Driver first s.cid e.flow end payload (ends_of_state s) log m has can (fits_message log));
+      fair = λ first log m fair. sends_fair Driver first s.cid e.flow end payload (ends_of_state s) log m fair has can (fits_message log);
     }
 
 -- A connection is asked for.
@@ -181,7 +175,7 @@ connect_puts host s host_fits fits free =
       packet = request_on Driver s.cid f Stream;
       held = held_alone h wire refl;
       bytes = sym (append-nil (header_bytes h));
-      fits = opening_fits s f c (s.next_port + 1) fits accepted ports refl asked_held (omega (arith, may.port)) (omega arith) (λ own. omega arith);
+      fits = opening_fits s f c (s.next_port + 1) fits accepted ports refl asked_held refl (omega (arith, may.port)) (omega arith) (λ own. omega arith);
       broken = refl;
       matches = λ first log m.
           subst (λ (part : Ends). Matches Driver first part (PutPacket (request_on Driver s.cid f Stream) ∷ log)) (sym ends)

@@ -3,6 +3,7 @@ use Rattle.std.proofs.Common.{◌≡◌, ℕ, ◌+◌, ◌<◌, ◌≤◌, ◌==
 use Rattle.std.proofs.Common.{arith}
 use Rattle.std.proofs.lemmas.List.Elements.{All-map, All-push, All-filter}
 use Rattle.std.specs.Prelude.{Contains}
+use Rattle.vs_header.specs.declared.Kind.TheVariants.{Stream}
 use Rattle.vs_flow.specs.Flow.{is_assigned}
 use Rattle.vs_flow.specs.Table.{Table, entry_under, with_entry, without, next_entry, revalued}
 use Rattle.vs_flow.specs.declared.flow.Flow.{Flow}
@@ -28,21 +29,22 @@ pub entry_fits : (s : DriverState) (e : DriverEntry) → IsFitState s → Stands
 entry_fits s e fits stands = entry_has IsFitEntry (λ x. x.slot == e.slot) s.table.entries e fits.entries stands.under
 
 -- Another connection in its place.
-revalued_fits : (slot : ℕ) (c : DriverConnection) (e : DriverEntry) → IsHeldBy c → IsFitEntry e → IsFitEntry (revalued slot c e)
-revalued_fits slot c e held fits = by (e.slot == slot)
+revalued_fits : (slot : ℕ) (c : DriverConnection) (e : DriverEntry) → IsHeldBy c → c.end.kind ≡ Stream → IsFitEntry e → IsFitEntry (revalued slot c e)
+revalued_fits slot c e held kind fits = by (e.slot == slot)
   where
     by : (b : Bool) → IsFitEntry (cond b (record e { value = c }) e)
-    by true = record { ports = fits.ports; peer = fits.peer; buffer = held }
+    by true = record { ports = fits.ports; peer = fits.peer; kind = kind; buffer = held }
     by false = fits
 
-pub connection_fits : (s : DriverState) (slot : ℕ) (c : DriverConnection) → IsFitState s → IsHeldBy c → IsFitState (with_connection slot c s)
-connection_fits s slot c fits held = record {
+pub connection_fits : (s : DriverState) (slot : ℕ) (c : DriverConnection) → IsFitState s → IsHeldBy c → c.end.kind ≡ Stream
+    → IsFitState (with_connection slot c s)
+connection_fits s slot c fits held kind = record {
   cid_fits = fits.cid_fits;
   port_left = fits.port_left;
   sound = with_value_sound s.table slot c fits.sound;
   places = fits.places;
   given = fits.given;
-  entries = All-map IsFitEntry (revalued slot c) s.table.entries (λ k d lt. revalued_fits slot c (get_or s.table.entries k d) held (fits.entries k d lt));
+  entries = All-map IsFitEntry (revalued slot c) s.table.entries (λ k d lt. revalued_fits slot c (get_or s.table.entries k d) held kind (fits.entries k d lt));
   ports = All-map (λ x. is_assigned x.flow.host ≡ false → x.flow.guest < s.next_port) (revalued slot c) s.table.entries (λ k d lt. rw (revalued-flow slot c (get_or s.table.entries k d)) (fits.ports k d lt));
   owed = fits.owed;
 }
@@ -89,15 +91,16 @@ leaves s e c fits stands =
 
 -- A connection more.
 pub opening_fits : (s : DriverState) (f : Flow) (c : DriverConnection) (port : ℕ) → IsFitState s → IsAccepted s.table f → IsFitFlow f → f.peer ≡ HOST_CID → IsHeldBy c
+    → c.end.kind ≡ Stream
     → port ≤ LAST_PORT + 1 → s.next_port ≤ port → (is_assigned f.host ≡ false → f.guest < port)
     → IsFit s.cid port (s.next_id + 1) (with_entry s.table f c) s.replies
-opening_fits s f c port fits free ports peer held left more below = record {
+opening_fits s f c port fits free ports peer held kind left more below = record {
   cid_fits = fits.cid_fits;
   port_left = left;
   sound = with_entry_sound s.table f c fits.sound free;
   places = fits.places;
   given = omega (arith, fits.given);
-  entries = All-push IsFitEntry s.table.entries (next_entry s.table f c) fits.entries (record { ports = ports; peer = peer; buffer = held });
+  entries = All-push IsFitEntry s.table.entries (next_entry s.table f c) fits.entries (record { ports = ports; peer = peer; kind = kind; buffer = held });
   ports = All-push (λ e. is_assigned e.flow.host ≡ false → e.flow.guest < port) s.table.entries (next_entry s.table f c)
       (λ k d lt mine. let less = fits.ports k d lt mine in omega (arith, less, more)) below;
   owed = fits.owed;

@@ -4,6 +4,7 @@ use Rattle.std.proofs.Common.{◌≡◌, ℕ, ◌<◌, ◌≤◌, ◌&&◌, nat_
 use Rattle.std.proofs.Common.{ap, subst, ◌∙◌, arith, rules}
 use Rattle.vs_conn.specs.End.{ConnectionEnd, answering, end_after, is_of, is_refused, is_reset, verdict_of}
 use Rattle.vs_conn.specs.declared.end.Verdict.{Verdict}
+use Rattle.vs_conn.proofs.Frames.{got_kind}
 use Rattle.vs_header.specs.{declared.Header.Header, declared.Kind.TheVariants.Stream}
 use Rattle.laws_history.specs.{Packets.is_rst, declared.packet.Packet.Packet}
 use Rattle.vs_limits.specs.declared.TheConstants.{BUF_ALLOC, HOST_CID, LAST_ID, DRIVER_CONNECTIONS}
@@ -40,7 +41,8 @@ module _ (p : Packet) (e : DriverEntry) (s : DriverState) (fits : IsFitState s) 
   stays : (c : DriverConnection) → c.end ≡ end_after e.value.end p.header → IsHeldBy c
       → (ends_of_state (with_connection e.slot c s) ≡ with_end e.flow (end_after e.value.end p.header) (ends_of_state s)) × IsFitState (with_connection e.slot c s)
   stays c is held =
-      (connection_ends s e c fits stands ∙ ap (λ (x : ConnectionEnd). with_end e.flow x (ends_of_state s)) is, connection_fits s e.slot c fits held)
+      (connection_ends s e c fits stands ∙ ap (λ (x : ConnectionEnd). with_end e.flow x (ends_of_state s)) is, connection_fits s e.slot c fits held
+      (ap (λ (x : ConnectionEnd). x.kind) is ∙ got_kind e.value.end p.header ∙ (entry_fits s e fits stands).kind))
 
   -- A state that a connection leaves or in which it stays.
   peer_by : (b : Bool) (c : DriverConnection) → c.end ≡ end_after e.value.end p.header → IsHeldBy c
@@ -175,7 +177,7 @@ module _ (first : ℕ) (p : Packet) (s : DriverState) (log : Log) (fits : IsFitS
         matches = subst (λ (x : Ends). Matches Driver first x (GotPacket p ∷ log)) (sym ends)
             (accepts Driver first Stream p (ends_of_state s) log m kept_in no_end order (got_is_taken Driver p log (fair (flow_got Driver p))) request
             (eqb-true p.header.kind 1 asks_for.0));
-        fits = opening_fits s f c s.next_port fits free flow_fits room.peer (answering_held p.header s.next_id) fits.port_left (omega arith)
+        fits = opening_fits s f c s.next_port fits free flow_fits room.peer (answering_held p.header s.next_id) refl fits.port_left (omega arith)
             (λ own. let both : true ≡ false = sym room.assigned ∙ own in absurd cc);
         broken = refl;
       }

@@ -3,10 +3,9 @@ use Rattle.std.specs.Prelude.{◌≡◌, ◌+◌, ◌≤◌, Bool, true, false, 
 use Rattle.vs_header.specs.{Op.op_named, declared.Op.Op}
 use Rattle.vs_header.specs.declared.Op.TheVariants.{Invalid, Request, Response, Rst}
 use Rattle.laws_history.specs.declared.packet.Packet.{Packet}
-use Rattle.vs_limits.specs.declared.TheConstants.{BUF_ALLOC, BUF_ALLOC_MAX}
-use Rattle.laws_history.specs.Packets.{asked_kind, has_both, tells, is_clean_rst, is_request, is_response, is_rst, is_rw, shuts_receive}
-use Rattle.laws_history.specs.Packets.{shuts_send, has, size, bytes, forwarded_by, told_alloc, allowance, IsFormed}
-use Rattle.vs_limits.specs.declared.TheConstants.{BUF_ALLOC, BUF_ALLOC_MAX}
+use Rattle.vs_limits.specs.declared.TheConstants.{BUF_ALLOC, BUF_ALLOC_MAX, MESSAGE_MAX}
+use Rattle.laws_history.specs.Packets.{asked_kind, has_both, tells, is_clean_rst, is_piece, is_request, is_response, is_rst, is_rw}
+use Rattle.laws_history.specs.Packets.{message_of, shuts_receive, shuts_send, has, size, bytes, forwarded_by, told_alloc, allowance, IsFormed}
 
 -- An end put a packet, or got one.
 pub data Entry : Type 0 where
@@ -58,6 +57,8 @@ IsTimely side put got (Some _) = is_answered side put got ≡ true
 pub record IsHonest (put got : List Packet) (p : Packet) : Type 0 where
   -- The payload put, this packet's included, is within the credit that the newest packet got gives.
   pub fits : bytes put + size p ≤ allowance got
+  -- A message has at most MESSAGE_MAX bytes.
+  pub message : is_piece p ≡ true → message_of put + size p ≤ MESSAGE_MAX
   -- What it says was forwarded is at most the payload got.
   pub forwarded_got : forwarded_by put p ≤ bytes got
   -- The buffer space begins at BUF_ALLOC, never falls, and is at most BUF_ALLOC_MAX.

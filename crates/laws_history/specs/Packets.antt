@@ -1,7 +1,8 @@
 -- What the packets of one connection in one direction say. Lists of packets run newest first.
 use Rattle.std.specs.Prelude.{◌≡◌, ℕ, ◌+◌, ◌<◌, ◌/◌, ◌%◌, ◌^◌, ◌==◌, Bool, true, false, ◌&&◌, ◌||◌, if◌then◌else◌, not, is_some, List, []}
 use Rattle.std.specs.Prelude.{◌∷◌, ◌++◌, length}
-use Rattle.vs_header.specs.{Kind.kind_named, Packet.header_bytes, Op.op_number, declared.TheConstants.CLEAN, declared.Op.Op}
+use Rattle.vs_header.specs.{Kind.kind_named, Kind.kind_number, Packet.header_bytes, Op.op_number, declared.Op.Op}
+use Rattle.vs_header.specs.{declared.TheConstants.CLEAN, declared.TheConstants.END_OF_MESSAGE, declared.Kind.TheVariants.Seqpacket}
 use Rattle.vs_header.specs.declared.Op.TheVariants.{Request, Response, Rst, Shutdown, Rw}
 use Rattle.laws_history.specs.declared.packet.Packet.{Packet}
 use Rattle.vs_wrap.specs.Wrap.{unwrap32}
@@ -39,6 +40,16 @@ shuts_send p = has_op Shutdown p && flags_send p.header.flags
 abbrev pub is_clean_rst : Packet → Bool
 is_clean_rst p = is_rst p && (p.header.flags == CLEAN)
 
+-- An RW of a seqpacket socket is a piece of a message. One flag ends the message.
+abbrev pub is_piece : Packet → Bool
+is_piece p = is_rw p && (p.header.kind == kind_number Seqpacket)
+
+abbrev pub flags_end : ℕ → Bool
+flags_end flags = flags / END_OF_MESSAGE % 2 == 1
+
+abbrev pub ends_message : Packet → Bool
+ends_message p = is_piece p && flags_end p.header.flags
+
 -- A packet of this kind is among them.
 abbrev pub has : (Packet → Bool) → List Packet → Bool
 has test [] = false
@@ -51,6 +62,11 @@ size p = length p.payload
 abbrev pub bytes : List Packet → ℕ
 bytes [] = 0
 bytes (p ∷ ps) = size p + bytes ps
+
+-- Bytes of the message that isn't whole yet.
+abbrev pub message_of : List Packet → ℕ
+message_of [] = 0
+message_of (p ∷ ps) = if is_piece p then (if flags_end p.header.flags then 0 else message_of ps + size p) else message_of ps
 
 -- The plain number of bytes that the newest packet says its sender forwarded, RST aside: the least number, from the one before on, that
 -- its fwd_cnt shows. It is 0 where there is none.

@@ -1,13 +1,13 @@
 -- An end that decided to send no more on a connection puts no payload there.
-use Rattle.std.proofs.Common.{◌≡◌, ℕ, ◌≤◌, ◌&&◌, ◌||◌, Bool, true, false, cond, List, [], ◌∷◌, ◌++◌, length, Option, Some, None, IsOkAnd}
+use Rattle.std.proofs.Common.{◌≡◌, ℕ, ◌≤◌, ◌&&◌, ◌||◌, Bool, true, false, cond, List, [], ◌∷◌, ◌++◌, length, IsOkAnd}
 use Rattle.std.proofs.Common.{Ok, Err, refl, sym, ap, subst, ◌∙◌}
 use Rattle.std.proofs.lemmas.List.{append-nil}
-use Rattle.vs_conn.specs.{declared.end.Owed.Owed, declared.end.State.State, declared.end.Verdict.Verdict}
-use Rattle.vs_conn.specs.End.{ConnectionEnd, answering, after_message, after_op, asked, end_after, is_of, paid_of, state_may_send}
-use Rattle.vs_conn.specs.End.{verdict_of, with_payload_sent}
+use Rattle.vs_conn.specs.{declared.end.Owed.Owed, declared.end.State.State}
+use Rattle.vs_conn.proofs.Frames.{got_own}
+use Rattle.vs_conn.specs.End.{ConnectionEnd, answering, asked, end_after, is_of, paid_of, state_may_send}
+use Rattle.vs_conn.specs.End.{with_payload_sent}
 use Rattle.vs_flow.specs.{Flow.same_flow, declared.flow.Flow.Flow}
 use Rattle.vs_flow.proofs.Entries.{same_flow_true}
-use Rattle.vs_header.specs.{Op.op_named, declared.Header.Header, declared.Op.Op}
 use Rattle.laws_history.specs.{Again.present, Packets.is_request, Packets.is_rst, declared.packet.Packet.Packet}
 use Rattle.laws_history.specs.History.{Got, History, Put, Side, Asker, Answerer, gots, is_begun, puts}
 use Rattle.vs_limits.specs.declared.TheConstants.{BUF_ALLOC}
@@ -30,8 +30,6 @@ use Rattle.laws_bytes.specs.Drains.{put_on}
 use Rattle.vs_conn.specs.declared.end.Owed.TheVariants as owed
 use Rattle.vs_conn.specs.declared.end.State.TheVariants as state
 use Rattle.vs_conn.specs.declared.end.Stop.TheVariants as stop
-use Rattle.vs_conn.specs.declared.end.Verdict.TheVariants as verdict
-use Rattle.vs_header.specs.declared.Op.TheVariants as op
 
 -- Something passed on a flow, and its end, where it has one, decided to send no more.
 pub record IsShut (role : Role) (first : ℕ) (f : Flow) (part : Ends) (log : Log) : Type 0 where
@@ -65,28 +63,6 @@ decided_shut e (Shuts bits) is = or_first e.own.send _ is
 decided_shut e Aborts is = is
 decided_shut e WantsCredit is = is
 decided_shut e (Grows alloc) is = is
-
-message_own : (o : Option Op) (e : ConnectionEnd) (h : Header) → (after_message o e h).own ≡ e.own
-message_own None e h = refl
-message_own (Some op.Invalid) e h = refl
-message_own (Some op.Request) e h = refl
-message_own (Some op.Response) e h = refl
-message_own (Some op.Rst) e h = refl
-message_own (Some op.Shutdown) e h = refl
-message_own (Some op.Rw) e h = refl
-message_own (Some op.CreditUpdate) e h = refl
-message_own (Some op.CreditRequest) e h = refl
-
-op_own : (o : Option Op) (e : ConnectionEnd) (h : Header) (v : Verdict) → (after_op o e h v).own ≡ e.own
-op_own o e h verdict.Accept = refl
-op_own o e h verdict.Deliver = refl
-op_own o e h verdict.Discard = refl
-op_own o e h verdict.Peer = message_own o e h
-op_own o e h (verdict.Rst why) = refl
-op_own o e h verdict.Ignore = refl
-
-after_own : (e : ConnectionEnd) (h : Header) → (end_after e h).own ≡ e.own
-after_own e h = op_own (op_named h.op) e h (verdict_of e h)
 
 -- What an entry of the log adds.
 more_passed : (role : Role) (f : Flow) (entry : LogEntry) (log : Log) → is_empty (whole_of role f log) ≡ false
@@ -168,11 +144,7 @@ module _ (role : Role) (first : ℕ) (f : Flow) (part : Ends) (log : Log) (x : I
 
   paid_shut : (g : Flow) (e : ConnectionEnd) (what : Owed) → HasEnd g e part → Shut (paid g e what part)
   paid_shut g e owed.Rst has = left_shut g (same_flow f g) refl
-  paid_shut g e owed.Request has = changed_shut g e (paid_of e owed.Request) (same_flow f g) refl has (λ is. is)
-  paid_shut g e owed.Response has = changed_shut g e (paid_of e owed.Response) (same_flow f g) refl has (λ is. is)
-  paid_shut g e owed.CreditUpdate has = changed_shut g e (paid_of e owed.CreditUpdate) (same_flow f g) refl has (λ is. is)
-  paid_shut g e owed.CreditRequest has = changed_shut g e (paid_of e owed.CreditRequest) (same_flow f g) refl has (λ is. is)
-  paid_shut g e (owed.Shutdown bits) has = changed_shut g e (paid_of e (owed.Shutdown bits)) (same_flow f g) refl has (λ is. is)
+  paid_shut g e what has = changed_shut g e (paid_of e what) (same_flow f g) refl has (λ is. is)
 
   -- A connection comes in, which isn't of this flow.
   added_shut : (g : Flow) (e : ConnectionEnd) (new : Ends) → new.entries ≡ part.entries ++ record { flow = g; end = e } ∷ []
@@ -209,7 +181,7 @@ module _ (role : Role) (first : ℕ) (f : Flow) (part : Ends) (log : Log) (x : I
     taken_shut e true true has = left_shut own_flow (same_flow f own_flow) refl
     taken_shut e true false has = left_shut own_flow (same_flow f own_flow) refl
     taken_shut e false kept has = changed_shut own_flow e (end_after e p.header) (same_flow f own_flow) refl has (λ is. ap (λ o. o.send)
-        (after_own e p.header) ∙ is)
+        (got_own e p.header) ∙ is)
 
     answered_shut : (b answer : Bool) → is_request p ≡ b → Shut (answered b answer p own_flow part)
     answered_shut true true is = added_shut own_flow (answering (let h = p.header in answer_kind h.kind) BUF_ALLOC p.header)

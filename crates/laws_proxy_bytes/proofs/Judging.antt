@@ -116,12 +116,7 @@ module _ (h : Header) (s : DeviceState) (calls : List Made) (kept : is_dropped D
             (closed_by e.value.closed) (λ t later is. is)
         message false = other_answer verdict.Peer _ calls header says (λ w is. absurd cc) (λ no id. refl)
     known_answers (verdict.Rst (why.Overrun o)) says = refused_answer (why.Overrun o) _ says refl refl
-    known_answers (verdict.Rst why.BadKind) says = refused_answer why.BadKind _ says refl refl
-    known_answers (verdict.Rst why.BadOp) says = refused_answer why.BadOp _ says refl refl
-    known_answers (verdict.Rst why.Twice) says = refused_answer why.Twice _ says refl refl
-    known_answers (verdict.Rst why.NotAsked) says = refused_answer why.NotAsked _ says refl refl
-    known_answers (verdict.Rst why.NotLive) says = refused_answer why.NotLive _ says refl refl
-    known_answers (verdict.Rst why.AfterShutdown) says = refused_answer why.AfterShutdown _ says refl refl
+    known_answers (verdict.Rst w) says = refused_answer w _ says refl refl
     known_answers verdict.Discard says = other_answer verdict.Discard _ calls header says (λ w is. absurd cc) (λ no id. refl)
     known_answers verdict.Ignore says = other_answer verdict.Ignore _ calls header says (λ w is. absurd cc) (λ no id. refl)
 

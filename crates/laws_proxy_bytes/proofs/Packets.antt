@@ -58,12 +58,7 @@ quiet_known verdict.Accept chain h e s = tt
 quiet_known verdict.Deliver chain h e s = (refl, λ payload. tt)
 quiet_known verdict.Peer chain h e s = quiet_if (is_reset h) _ _ (quiet_leaving (record e { value = heard h e.value }) s) tt
 quiet_known (verdict.Rst (why.Overrun o)) chain h e s = tt
-quiet_known (verdict.Rst why.BadKind) chain h e s = tt
-quiet_known (verdict.Rst why.BadOp) chain h e s = tt
-quiet_known (verdict.Rst why.Twice) chain h e s = tt
-quiet_known (verdict.Rst why.NotAsked) chain h e s = tt
-quiet_known (verdict.Rst why.NotLive) chain h e s = tt
-quiet_known (verdict.Rst why.AfterShutdown) chain h e s = tt
+quiet_known (verdict.Rst _) chain h e s = tt
 quiet_known verdict.Discard chain h e s = tt
 quiet_known verdict.Ignore chain h e s = tt
 

@@ -206,11 +206,7 @@ quiet_read_stream e r =
 
 quiet_after_paying : (what : Owed) (e : DeviceEntry) (s : DeviceState) → IsQuiet (after_paying what e s)
 quiet_after_paying owed.Rst e s = quiet_leaving e (record s { last_put = Some e.slot })
-quiet_after_paying owed.Request e s = tt
-quiet_after_paying owed.Response e s = tt
-quiet_after_paying (owed.Shutdown flags) e s = tt
-quiet_after_paying owed.CreditUpdate e s = tt
-quiet_after_paying owed.CreditRequest e s = tt
+quiet_after_paying _ e s = tt
 
 quiet_put_owed : (slot : ℕ) (r : Filling) → IsQuiet (put_owed slot r)
 quiet_put_owed slot r = by (entry_under r.state.table slot)

@@ -6,6 +6,7 @@ use Rattle.std.proofs.lemmas.List.{append-nil}
 use Rattle.std.proofs.lemmas.List.Elements.{All-weaker}
 use Rattle.vs_flow.specs.declared.flow.Flow.{Flow}
 use Rattle.vs_conn.specs.{End.owes_of, End.paid_of, End.wanting_credit, End.with_payload_sent, Headers.owed_header, Headers.payload_header}
+use Rattle.vs_conn.proofs.Frames.{paid_asked, paid_over}
 use Rattle.vs_conn.specs.declared.end.Owed.{Owed}
 use Rattle.vs_conn.specs.declared.end.Owed.TheVariants as owed
 use Rattle.vs_conn.specs.declared.end.State.TheVariants.{Asked, Ended}
@@ -18,7 +19,7 @@ use Rattle.vs_header.specs.declared.Header.{Header}
 use Rattle.vs_outside.specs.declared.host_net.StreamRead.{StreamRead}
 use Rattle.vs_outside.specs.declared.host_net.StreamRead.TheVariants as read
 use Rattle.laws_bytes.specs.Streamed.{gives}
-use Rattle.laws_bytes.proofs.Gives.{pays_asked, pays_gives}
+use Rattle.laws_bytes.proofs.Gives.{pays_gives}
 use Rattle.vs_replies.specs.declared.Reply.{Reply}
 use Rattle.vs_ring_port.specs.Contents.{Take}
 use Rattle.vs_ring_port.specs.declared.device_ring.{Chain.Chain, Next.Next}
@@ -32,7 +33,7 @@ use Rattle.vs_device_parts.specs.Receiving.{Filling, after_paying, event_on, fil
 use Rattle.vs_device_parts.specs.Receiving.{put_on, put_owed, put_packet, put_payload, put_reply, put_reply_of, read_answered, read_room}
 use Rattle.vs_device_parts.specs.Receiving.{read_stream, read_with_chain, reply_header, round_from, serve_slot, written}
 use Rattle.vs_device_parts.specs.{State.DeviceConnection, State.DeviceEntry, State.DeviceState, Streams.closing}
-use Rattle.laws_device_streams.proofs.{Ends.owes_reset, Ends.shut_over, Receiving.holding_table}
+use Rattle.laws_device_streams.proofs.{Ends.shut_over, Receiving.holding_table}
 use Rattle.vs_proxy_parts.specs.State.{Handshake}
 use Rattle.laws_proxy_bytes.specs.Made.{Account, Made, account_of, is_for, is_of, payload_put, payload_taken, ports_of, with_taken}
 use Rattle.laws_proxy_bytes.specs.Tied.{Agree, AgreesWith, IsTied, reading_account}
@@ -184,21 +185,11 @@ module _ (hands : List Handshake) where
       keeps_leaving hands (record s { last_put = Some e.slot }) calls x e (there_under s.table slot e found) e.value refl refl
   keeps_after_paying slot e owed.Request s calls found owes x =
       has_end slot e s calls (record e.value { end = paid_of e.value.end owed.Request; asked_at = Some s.now }) found refl refl refl refl refl
-      (pays_gives e.value.end owed.Request owes) (pays_asked e.value.end owed.Request)
-      (λ over. absurd (let rst = owes_reset e.value.end owed.Request owes over in cc)) x
-  keeps_after_paying slot e owed.Response s calls found owes x =
-      has_end slot e s calls (record e.value { end = paid_of e.value.end owed.Response }) found refl refl refl refl refl
-      (pays_gives e.value.end owed.Response owes) (pays_asked e.value.end owed.Response)
-      (λ over. absurd (let rst = owes_reset e.value.end owed.Response owes over in cc)) x
-  keeps_after_paying slot e owed.CreditUpdate s calls found owes x =
-      has_end slot e s calls (record e.value { end = paid_of e.value.end owed.CreditUpdate }) found refl refl refl refl refl (λ on. on)
-      (λ on. on) (λ on. on) x
-  keeps_after_paying slot e owed.CreditRequest s calls found owes x =
-      has_end slot e s calls (record e.value { end = paid_of e.value.end owed.CreditRequest }) found refl refl refl refl refl (λ on. on)
-      (λ on. on) (λ on. on) x
-  keeps_after_paying slot e (owed.Shutdown bits) s calls found owes x =
-      has_end slot e s calls (record e.value { end = paid_of e.value.end (owed.Shutdown bits) }) found refl refl refl refl refl (λ on. on)
-      (λ on. on) (λ on. on) x
+      (pays_gives e.value.end owed.Request owes) (paid_asked e.value.end owed.Request)
+      (paid_over e.value.end owed.Request owes) x
+  keeps_after_paying slot e what s calls found owes x =
+      has_end slot e s calls (record e.value { end = paid_of e.value.end what }) found refl refl refl refl refl
+      (pays_gives e.value.end what owes) (paid_asked e.value.end what) (paid_over e.value.end what owes) x
 
   keeps_put_owed : (slot : ℕ) (r : Filling) (calls : List Made) → Has hands r.state calls → Keeps FillsFirst (put_owed slot r) calls
   keeps_put_owed slot r calls x = by (entry_under r.state.table slot) refl

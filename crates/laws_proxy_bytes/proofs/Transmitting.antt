@@ -4,6 +4,7 @@ use Rattle.std.proofs.Common.{Option, Some, None, refl, sym, ap, subst, ◌∙�
 use Rattle.std.proofs.lemmas.List.Elements.{All-push}
 use Rattle.std.specs.Option.{option_map}
 use Rattle.vs_conn.specs.{End.answering, End.is_reset, End.is_of, End.verdict_of, declared.end.State.State, declared.end.Verdict.Verdict}
+use Rattle.vs_conn.proofs.Frames.{got_asked, got_over}
 use Rattle.vs_conn.specs.declared.end.State.TheVariants.{Ended}
 use Rattle.vs_contents.specs.CallTree.{Done, Ask, bind}
 use Rattle.vs_flow.specs.{Flow.is_assigned, Table.Table, Table.entry_of, Table.has_place, Table.next_entry, Table.with_value}
@@ -15,7 +16,7 @@ use Rattle.vs_limits.specs.declared.TheConstants.{BUF_ALLOC, DEVICE_REPLIES}
 use Rattle.vs_outside.specs.declared.host_net.Dialed.{Dialed}
 use Rattle.vs_page.specs.{Log.Device, Log.flow_to_host, Open.is_dropped}
 use Rattle.laws_bytes.specs.Streamed.{gives_in}
-use Rattle.laws_bytes.proofs.Gives.{delivers_gives, hears_asked, hears_gives}
+use Rattle.laws_bytes.proofs.Gives.{delivers_gives, hears_gives}
 use Rattle.vs_replies.specs.Owed.{reply_to}
 use Rattle.vs_ring_port.specs.{Contents.Read, Contents.Return, Contents.Take, declared.device_ring.Chain.Chain}
 use Rattle.vs_ring_port.specs.{declared.device_ring.Next.Next, declared.failure.Failure.Failure, declared.queue.Queue.TheVariants.Tx}
@@ -26,7 +27,6 @@ use Rattle.vs_device_parts.specs.{Streams.leaving, Calls.Dial, Calls.DeviceTree,
 use Rattle.vs_device_parts.specs.Transmitting.{dial_answered, failing, heard, on_header, on_known, on_next, on_packet, on_unknown, refused}
 use Rattle.vs_device_parts.specs.Transmitting.{take_tx_of, try_request, unknown_why}
 use Rattle.vs_device_parts.specs.Connections.{new_connection, with_connection, with_reply}
-use Rattle.laws_device_streams.proofs.Ends.{heard_over}
 use Rattle.vs_proxy_parts.specs.State.{Handshake}
 use Rattle.laws_proxy_bytes.specs.Made.{Account, Made, MayGet, account_of, delivering, header_in, new_account, payload_put, payload_taken}
 use Rattle.laws_proxy_bytes.specs.Made.{with_delivery}
@@ -129,8 +129,8 @@ module _ (hands : List Handshake) where
     heard_keeps v says other =
         agree_same (account_of calls) (payload_put calls) (payload_taken calls) s.table hands x e is (heard h e.value) refl
         (end_changes tie.0 e (heard h e.value) tie.2 refl refl refl refl (hears_gives e.value.end h v says other)
-        (hears_asked e.value.end h))
-        (λ on. heard_over e.value.end h (was_over on))
+        (got_asked e.value.end h))
+        (λ on. got_over e.value.end h (was_over on))
 
     same : flow_to_host h ≡ e.flow
     same = same_flow_true (flow_to_host h) e.flow (entry_of_found s.table (flow_to_host h) e x.tied.table found).flow_is
@@ -180,13 +180,13 @@ module _ (hands : List Handshake) where
           (agree_moved (account_of calls) now (payload_put calls) (payload_taken calls) s.table hands x e is
           (record tie.0 { delivered = tie.0.delivered ++ payload }) delivery
           (record (heard h e.value) { pending = e.value.pending ++ payload }) refl (delivers tie.0 e h payload tie.2 still is_delivery)
-          (λ on. heard_over e.value.end h (was_over on))))
+          (λ on. got_over e.value.end h (was_over on))))
 
     keeps_on_known : (v : Verdict) → verdict_of e.value.end h ≡ v → Keeps (Has hands) (on_known v chain h e s) calls
     keeps_on_known verdict.Accept says =
         agree_same (account_of calls) (payload_put calls) (payload_taken calls) s.table hands x e is
         (record (heard h e.value) { ok_line = ok_line_of e.value.by_client e.flow }) refl
-        (answers tie.0 e h tie.2 says) (λ on. heard_over e.value.end h (was_over on))
+        (answers tie.0 e h tie.2 says) (λ on. got_over e.value.end h (was_over on))
     keeps_on_known verdict.Deliver says = λ payload fit. delivered_keeps payload says
     keeps_on_known verdict.Peer says = message (is_reset h)
       where
@@ -195,12 +195,7 @@ module _ (hands : List Handshake) where
         message true = keeps_leaving hands s calls x e is (heard h e.value) refl refl
         message false = heard_keeps verdict.Peer says (λ other. absurd cc)
     keeps_on_known (verdict.Rst (why.Overrun o)) says = heard_keeps (verdict.Rst (why.Overrun o)) says (λ other. absurd cc)
-    keeps_on_known (verdict.Rst why.BadKind) says = heard_keeps (verdict.Rst why.BadKind) says (λ other. absurd cc)
-    keeps_on_known (verdict.Rst why.BadOp) says = heard_keeps (verdict.Rst why.BadOp) says (λ other. absurd cc)
-    keeps_on_known (verdict.Rst why.Twice) says = heard_keeps (verdict.Rst why.Twice) says (λ other. absurd cc)
-    keeps_on_known (verdict.Rst why.NotAsked) says = heard_keeps (verdict.Rst why.NotAsked) says (λ other. absurd cc)
-    keeps_on_known (verdict.Rst why.NotLive) says = heard_keeps (verdict.Rst why.NotLive) says (λ other. absurd cc)
-    keeps_on_known (verdict.Rst why.AfterShutdown) says = heard_keeps (verdict.Rst why.AfterShutdown) says (λ other. absurd cc)
+    keeps_on_known (verdict.Rst w) says = heard_keeps (verdict.Rst w) says (λ other. absurd cc)
     keeps_on_known verdict.Discard says = heard_keeps verdict.Discard says (λ other. absurd cc)
     keeps_on_known verdict.Ignore says = heard_keeps verdict.Ignore says (λ other. absurd cc)
 

@@ -76,7 +76,7 @@ decided_follows side put got e Aborts may follows = abort_follows side put got e
 decided_follows side put got e WantsCredit may follows = ask_follows side put got e follows
 decided_follows side put got e (Grows alloc) may follows = grow_follows side put got e alloc follows may.0 may.1 may.2
 
-decided_kind : (e : ConnectionEnd) (what : Decision) → (decided e what).kind ≡ e.kind
+pub decided_kind : (e : ConnectionEnd) (what : Decision) → (decided e what).kind ≡ e.kind
 decided_kind e (Forwards n) = refl
 decided_kind e (Shuts bits) = refl
 decided_kind e Aborts = refl
@@ -173,8 +173,8 @@ step_keeps role first (Sends f e payload) b s may =
     let w = at role b in
     let m = s.matches role in
     put_keeps role first (payload_on role w.part.cid f e payload) _ b (record {
-      matches = sends role first w.part.cid f e payload w.part w.log m may.0 may.1;
-      fair = sends_fair role first w.part.cid f e payload w.part w.log m (s.fair role) may.0 may.1;
+      matches = sends role first w.part.cid f e payload w.part w.log m may.0 may.1 may.2;
+      fair = sends_fair role first w.part.cid f e payload w.part w.log m (s.fair role) may.0 may.1 may.2;
     }) s
 step_keeps role first (Pays f e what) b s may =
     let w = at role b in

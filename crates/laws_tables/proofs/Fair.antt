@@ -3,12 +3,11 @@ use Rattle.std.proofs.{lemmas.Grind.common_steps, lemmas.Bool.Decides.nat_tests}
 use Rattle.std.proofs.Common.{rules, ◌≡◌, ◌≢◌, ℕ, ◌+◌, ◌≤◌, Bool, true, false, ◌||◌, not, if◌then◌else◌, is_some, ◌⊎◌, inl, inr, List, []}
 use Rattle.std.proofs.Common.{◌∷◌, length, Some, refl, sym, ap, ◌∙◌, subst, arith}
 use Rattle.vs_wrap.specs.Wrap.{unwrap32}
-use Rattle.vs_conn.specs.{End.CanSend, End.ConnectionEnd, End.is_refused, End.owes_of, End.verdict_of, Follows.Follows, Follows.IsTaken}
-use Rattle.vs_conn.specs.{declared.end.Owed.Owed, declared.end.State.TheVariants.Ended}
+use Rattle.vs_conn.specs.{End.CanSend, End.ConnectionEnd, End.is_refused, End.owes_of, End.verdict_of, Follows.FitsMessage, Follows.Follows}
+use Rattle.vs_conn.specs.{Follows.IsTaken, declared.end.Owed.Owed, declared.end.State.TheVariants.Ended}
 use Rattle.vs_credit.specs.Credit.{room_of}
 use Rattle.vs_conn.proofs.{Getting.get_taken, Steps.opening_may, Steps.pay_may, Steps.room_plain, Steps.send_may, Steps.taken_of}
 use Rattle.vs_flow.specs.{Flow.same_flow, declared.flow.Flow.Flow}
-use Rattle.vs_limits.specs.declared.TheConstants.{HOST_CID, BUF_ALLOC}
 use Rattle.vs_header.specs.{Kind.kind_named, Kind.kind_number, declared.Header.Header, declared.Kind.Kind}
 use Rattle.vs_header.specs.declared.Kind.TheVariants.{Stream, Seqpacket}
 use Rattle.laws_history.specs.{Again.AllowsNow, Again.IsClean, Again.IsFairAll, Again.present, declared.packet.Packet.Packet}
@@ -326,12 +325,14 @@ allowance_rises got p rises = grind (arith, common_steps)
 -- The packets that may be put, by what was heard.
 pub send_may_on : (role : Role) (first cid : ℕ) (f : Flow) (e : ConnectionEnd) (payload : List ℕ) (part : Ends) (log : Log)
     → MatchesFlows role first part log
-    → HasEnd f e part → CanSend e (length payload) → IsFairOn role f log → IsWithinCredit role first f log
+    → HasEnd f e part → CanSend e (length payload) → FitsMessage e (puts (history_of role f log)) (length payload)
+    → IsFairOn role f log → IsWithinCredit role first f log
     → (let h = heard_of role first f log in MayPut (side_of role f) (puts h) (gots h) (payload_on role cid f e payload))
-send_may_on role first cid f e payload part log m has can fair within =
+send_may_on role first cid f e payload part log m has can fits fair within =
     let h = heard_of role first f log in
+    let fits' = subst (λ put. FitsMessage e put (length payload)) (sym (heard_puts role first f log)) fits in
     let o = end_follows role (side_of role f) h _ _ _ e (m.on f) has (can_old e (length payload) can) in
-    send_may (side_of role f) (puts h) (gots h) e (route_of role cid f) payload (sound_heard role first f log fair within) o.follows can
+    send_may (side_of role f) (puts h) (gots h) e (route_of role cid f) payload (sound_heard role first f log fair within) o.follows can fits'
 
 pub pay_may_on : (role : Role) (first cid : ℕ) (f : Flow) (e : ConnectionEnd) (what : Owed) (part : Ends) (log : Log)
     → MatchesFlows role first part log

@@ -3,6 +3,7 @@ use Rattle.std.proofs.Common.{◌≡◌, ◌≢◌, ◌≤◌, ℕ, Bool, true, 
 use Rattle.std.proofs.Common.{refl, sym, ap, ◌∙◌, subst, arith}
 use Rattle.std.proofs.lemmas.Grind.{common_steps}
 use Rattle.vs_conn.specs.{Follows.Follows, Follows.IsTaken, declared.end.Owed.Owed}
+use Rattle.vs_conn.specs.Follows.{FitsMessage}
 use Rattle.vs_conn.specs.End.{CanSend, ConnectionEnd, answering, asked, end_after, is_of, owes_of, paid_of, verdict_of, with_payload_sent}
 use Rattle.vs_flow.specs.{Flow.same_flow, declared.flow.Flow.Flow}
 use Rattle.vs_header.specs.{Kind.kind_named, Kind.kind_number, declared.Header.Header, declared.Kind.Kind}
@@ -251,16 +252,16 @@ accepts role first kind p part log m kept none order fits asks of =
 
 pub sends : (role : Role) (first cid : ℕ) (f : Flow) (e : ConnectionEnd) (payload : List ℕ) (part : Ends) (log : Log)
     → Matches role first part log
-    → HasEnd f e part → CanSend e (length payload)
+    → HasEnd f e part → CanSend e (length payload) → FitsMessage e (puts (history_of role f log)) (length payload)
     → Matches role first (with_end f (with_payload_sent e (length payload)) part) (PutPacket (payload_on role cid f e payload) ∷ log)
-sends role first cid f e payload part log m has can =
+sends role first cid f e payload part log m has can fits =
     let p = payload_on role cid f e payload in
     let is = payload_flow role cid f e payload in
     let after = with_payload_sent e (length payload) in
     put_with role first f p part (with_end f after part) log is m (steps.send_step role first cid f e payload part log m.flows has can)
     (λ fair left. record {
       within = put_keeps_within role first f p log is refl
-          (send_may_on role first cid f e payload part log m.flows has can (fair f) (left.within f)) (left.within f);
+          (send_may_on role first cid f e payload part log m.flows has can fits (fair f) (left.within f)) (left.within f);
       kept = λ among. unkept_by_end role first part log f e _ m.flows has among;
       ready =
           λ x now new. not_new f x after (with_end f after part) _ (replaced_same f e after part.entries has)
@@ -270,7 +271,7 @@ sends role first cid f e payload part log m has can =
     })
 
 -- What an end owes: a new one its REQUEST.
-paid_old : (e : ConnectionEnd) (what : Owed) → is_new e ≡ false → is_new (paid_of e what) ≡ false
+pub paid_old : (e : ConnectionEnd) (what : Owed) → is_new e ≡ false → is_new (paid_of e what) ≡ false
 paid_old = grind (arith, common_steps)
 
 not_request : (e : ConnectionEnd) (what : Owed) → is_new e ≡ false → owes_of e ≡ Some what → what ≢ owed.Request
@@ -278,12 +279,8 @@ not_request e what old owes is = steps.old_request e old (subst (λ x. owes_of e
 
 owed_no_request : (role : Role) (cid : ℕ) (f : Flow) (e : ConnectionEnd) (what : Owed) → what ≢ owed.Request
     → is_request (owed_on role cid f e what) ≡ false
-owed_no_request role cid f e owed.Rst other = refl
 owed_no_request role cid f e owed.Request other = absurd (other refl)
-owed_no_request role cid f e owed.Response other = refl
-owed_no_request role cid f e owed.CreditUpdate other = refl
-owed_no_request role cid f e owed.CreditRequest other = refl
-owed_no_request role cid f e (owed.Shutdown bits) other = refl
+owed_no_request role cid f e _ other = refl
 
 -- The REQUEST that a new end pays.
 first_is : (role : Role) (cid : ℕ) (f : Flow) (e : ConnectionEnd) → e ≡ asked e.kind BUF_ALLOC
@@ -319,55 +316,23 @@ pay_within role first cid f e what part log false old m fair has owes =
     (owed_no_request role cid f e what (not_request e what old owes))
     (pay_may_on role first cid f e what part log m.flows has old owes (fair f) ((m.fairly fair).within f)) ((m.fairly fair).within f)
 
+pub owed_old : (e : ConnectionEnd) (what : Owed) → owes_of e ≡ Some what → is_new (paid_of e what) ≡ false
+owed_old e what owes = grind (arith, common_steps, owes)
+
 paid_ready : (role : Role) (cid : ℕ) (f : Flow) (e : ConnectionEnd) (what : Owed) (part : Ends) (P : Type 0) → HasEnd f e part
     → owes_of e ≡ Some what → (x : ConnectionEnd) → HasEnd f x (paid f e what part) → is_new x ≡ true → P
 paid_ready role cid f e owed.Rst part P has owes x now new = no_end f x (left f part) P (without_same f part.entries) now
-paid_ready role cid f e owed.Request part P has owes x now new =
-    not_new f x (paid_of e owed.Request) (with_end f (paid_of e owed.Request) part) P
-    (replaced_same f e (paid_of e owed.Request) part.entries has) (request_old e) now new
-  where
-    request_old : (e : ConnectionEnd) → is_new (paid_of e owed.Request) ≡ false
-    request_old = grind (arith, common_steps)
-paid_ready role cid f e owed.Response part P has owes x now new =
-    not_new f x (paid_of e owed.Response) (with_end f (paid_of e owed.Response) part) P
-    (replaced_same f e (paid_of e owed.Response) part.entries has) refl now new
-paid_ready role cid f e owed.CreditUpdate part P has owes x now new =
-    not_new f x (paid_of e owed.CreditUpdate) (with_end f (paid_of e owed.CreditUpdate) part) P
-    (replaced_same f e (paid_of e owed.CreditUpdate) part.entries has)
-    (update_old e owes) now new
-  where
-    update_old : (e : ConnectionEnd) → owes_of e ≡ Some owed.CreditUpdate → is_new (paid_of e owed.CreditUpdate) ≡ false
-    update_old = grind (arith, common_steps)
-paid_ready role cid f e owed.CreditRequest part P has owes x now new =
-    not_new f x (paid_of e owed.CreditRequest) (with_end f (paid_of e owed.CreditRequest) part) P
-    (replaced_same f e (paid_of e owed.CreditRequest) part.entries has)
-    (credit_old e owes) now new
-  where
-    credit_old : (e : ConnectionEnd) → owes_of e ≡ Some owed.CreditRequest → is_new (paid_of e owed.CreditRequest) ≡ false
-    credit_old = grind (arith, common_steps)
-paid_ready role cid f e (owed.Shutdown bits) part P has owes x now new =
-    not_new f x (paid_of e (owed.Shutdown bits)) (with_end f (paid_of e (owed.Shutdown bits)) part) P
-    (replaced_same f e (paid_of e (owed.Shutdown bits)) part.entries has)
-    (shut_old e bits owes) now new
-  where
-    shut_old : (e : ConnectionEnd) (bits : ℕ) → owes_of e ≡ Some (owed.Shutdown bits) → is_new (paid_of e (owed.Shutdown bits)) ≡ false
-    shut_old = grind (arith, common_steps)
+paid_ready role cid f e what part P has owes x now new =
+    not_new f x (paid_of e what) (with_end f (paid_of e what) part) P (replaced_same f e (paid_of e what) part.entries has)
+    (owed_old e what owes) now new
 
 paid_clean : (f : Flow) (e : ConnectionEnd) (what : Owed) (part : Ends) → (paid f e what part).clean ≡ part.clean
 paid_clean f e owed.Rst part = refl
-paid_clean f e owed.Request part = refl
-paid_clean f e owed.Response part = refl
-paid_clean f e owed.CreditUpdate part = refl
-paid_clean f e owed.CreditRequest part = refl
-paid_clean f e (owed.Shutdown bits) part = refl
+paid_clean f e _ part = refl
 
 paid_replies : (f : Flow) (e : ConnectionEnd) (what : Owed) (part : Ends) → (paid f e what part).replies ≡ part.replies
 paid_replies f e owed.Rst part = refl
-paid_replies f e owed.Request part = refl
-paid_replies f e owed.Response part = refl
-paid_replies f e owed.CreditUpdate part = refl
-paid_replies f e owed.CreditRequest part = refl
-paid_replies f e (owed.Shutdown bits) part = refl
+paid_replies f e _ part = refl
 
 pub pays : (role : Role) (first cid : ℕ) (f : Flow) (e : ConnectionEnd) (what : Owed) (part : Ends) (log : Log)
     → Matches role first part log
@@ -726,11 +691,12 @@ opens_fair role first cid f kind part log m fair next =
 
 pub sends_fair : (role : Role) (first cid : ℕ) (f : Flow) (e : ConnectionEnd) (payload : List ℕ) (part : Ends) (log : Log)
     → Matches role first part log
-    → IsFairLog role log → HasEnd f e part → CanSend e (length payload) → IsFairLog role (PutPacket (payload_on role cid f e payload) ∷ log)
-sends_fair role first cid f e payload part log m fair has can =
+    → IsFairLog role log → HasEnd f e part → CanSend e (length payload) → FitsMessage e (puts (history_of role f log)) (length payload)
+    → IsFairLog role (PutPacket (payload_on role cid f e payload) ∷ log)
+sends_fair role first cid f e payload part log m fair has can fits =
     put_fair role f (payload_on role cid f e payload) log (payload_flow role cid f e payload) fair
     (put_allowed role first f (payload_on role cid f e payload) log refl (fair f)
-    (send_may_on role first cid f e payload part log m.flows has can (fair f) ((m.fairly fair).within f)))
+    (send_may_on role first cid f e payload part log m.flows has can fits (fair f) ((m.fairly fair).within f)))
 
 pub pays_fair : (role : Role) (first cid : ℕ) (f : Flow) (e : ConnectionEnd) (what : Owed) (part : Ends) (log : Log)
     → Matches role first part log

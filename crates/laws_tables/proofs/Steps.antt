@@ -5,9 +5,10 @@ use Rattle.std.proofs.Common.{List, [], ◌∷◌, ◌++◌, length, refl, sym, 
 use Rattle.vs_conn.specs.{Follows.Follows, Follows.IsTaken, Follows.owed_packet, Shut.is_both, declared.end.Owed.Owed}
 use Rattle.vs_conn.specs.End.{CanSend, ConnectionEnd, answering, asked, end_after, is_of, owes_of, paid_of, with_payload_sent}
 use Rattle.vs_conn.specs.declared.route.Route.{Route}
+use Rattle.vs_conn.proofs.Frames.{got_kind, paid_kind}
 use Rattle.vs_conn.proofs.{Getting.get_follows, Steps.answer_follows, Steps.asked_follows, Steps.pay_follows, Steps.send_follows}
 use Rattle.vs_flow.specs.{Flow.same_flow, declared.flow.Flow.Flow}
-use Rattle.vs_header.specs.{Kind.kind_number, declared.Header.Header, declared.Kind.Kind}
+use Rattle.vs_header.specs.{Kind.kind_number, declared.Kind.Kind}
 use Rattle.laws_history.specs.{Packets.has, Packets.is_clean_rst, Packets.is_request, Packets.is_rst, declared.packet.Packet.Packet}
 use Rattle.laws_history.specs.History.{History, Put, Got, Side, Asker, Answerer, puts, gots}
 use Rattle.vs_limits.specs.declared.TheConstants.{BUF_ALLOC}
@@ -285,22 +286,11 @@ pays_first side e route a =
 pub old_request : (e : ConnectionEnd) → is_new e ≡ false → owes_of e ≡ Some owed.Request → ⊥
 old_request = grind (arith, common_steps)
 
-paid_kind : (e : ConnectionEnd) (what : Owed) → (paid_of e what).kind ≡ e.kind
-paid_kind e owed.Rst = refl
-paid_kind e owed.Request = refl
-paid_kind e owed.Response = refl
-paid_kind e owed.CreditUpdate = refl
-paid_kind e owed.CreditRequest = refl
-paid_kind e (owed.Shutdown bits) = refl
-
 plain_owed : (e : ConnectionEnd) (route : Route) (what : Owed) → what ≢ owed.Rst → what ≢ owed.Request
     → (is_request (owed_packet e route what) ≡ false) × (is_rst (owed_packet e route what) ≡ false)
 plain_owed e route owed.Rst no_rst no_request = absurd (no_rst refl)
 plain_owed e route owed.Request no_rst no_request = absurd (no_request refl)
-plain_owed e route owed.Response no_rst no_request = (refl, refl)
-plain_owed e route owed.CreditUpdate no_rst no_request = (refl, refl)
-plain_owed e route owed.CreditRequest no_rst no_request = (refl, refl)
-plain_owed e route (owed.Shutdown bits) no_rst no_request = (refl, refl)
+plain_owed e route _ no_rst no_request = (refl, refl)
 
 pays_end : (role : Role) (side : Side) (h : History) (kind : Option ℕ) (reply_owed : Bool) (ends now : List ConnectionEnd)
     (e : ConnectionEnd)
@@ -377,16 +367,7 @@ pub pay_step : (role : Role) (first cid : ℕ) (f : Flow) (e : ConnectionEnd) (w
     → HasEnd f e part → owes_of e ≡ Some what
     → IsStepOn role first part log (paid f e what part) (PutPacket (owed_on role cid f e what) ∷ log) f
 pay_step role first cid f e owed.Rst part log m has owes = pay_rst_step role first cid f e part log m has owes
-pay_step role first cid f e owed.Request part log m has owes =
-    pay_other_step role first cid f e owed.Request part log m has owes (λ is. absurd cc)
-pay_step role first cid f e owed.Response part log m has owes =
-    pay_other_step role first cid f e owed.Response part log m has owes (λ is. absurd cc)
-pay_step role first cid f e owed.CreditUpdate part log m has owes =
-    pay_other_step role first cid f e owed.CreditUpdate part log m has owes (λ is. absurd cc)
-pay_step role first cid f e owed.CreditRequest part log m has owes =
-    pay_other_step role first cid f e owed.CreditRequest part log m has owes (λ is. absurd cc)
-pay_step role first cid f e (owed.Shutdown bits) part log m has owes =
-    pay_other_step role first cid f e (owed.Shutdown bits) part log m has owes (λ is. absurd cc)
+pay_step role first cid f e what part log m has owes = pay_other_step role first cid f e what part log m has owes (λ is. absurd cc)
 
 -- A reply.
 pub next_owed : (r : Reply) (rest replies : List Reply) → replies ≡ r ∷ rest → is_among r.flow (replied replies) ≡ true
@@ -452,9 +433,6 @@ known_goes_on side h p e order follows = by (is_request p) refl
     by : (b : Bool) → is_request p ≡ b → is_request p ≡ false
     by false is = is
     by true is = let both : true ≡ false = sym (order.request is).1 ∙ follows_not_fresh side h e follows in absurd cc
-
-kind_after : (e : ConnectionEnd) (h : Header) → (end_after e h).kind ≡ e.kind
-kind_after = grind (arith, common_steps)
 
 clean_kept : (b : Bool) (f : Flow) (part : Ends)
     → ((with_clean b f part).entries ≡ part.entries) × ((with_clean b f part).replies ≡ part.replies)
@@ -560,7 +538,7 @@ take_by role first p e part log false is m kept has order is_taken =
           (passes_on role (side_of role f) h (Got p) (left_kind role first f log) _ _ _ _ e after (m.on f) has
           (order_old role first p e part log m has order (is_new e) refl) (replaced_same f e after part.entries has)
           (λ open_is. ap (kind_got p) open_is ∙ got_stays e.kind p other is
-          ∙ ap (λ (k : Kind). Some (kind_number k)) (sym (kind_after e p.header)))
+          ∙ ap (λ (k : Kind). Some (kind_number k)) (sym (got_kind e p.header)))
           (λ follows. get_follows (side_of role f) (puts h) (gots h) e p is_taken follows)));
       given = given_by_end role first part log f e m has;
       kept = λ among. unkept_by_end role first part log f e (IsKept role first (with_end f after part) (GotPacket p ∷ log) f) m has among;

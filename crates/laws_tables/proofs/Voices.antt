@@ -193,11 +193,7 @@ fresh_speak peer cid (Got p ∷ w) fresh = by (is_request p) fresh
 paid_other : (f g : Flow) (e : ConnectionEnd) (what : Owed) (part : Ends) → same_flow g f ≡ false
     → ends_of g (paid f e what part).entries ≡ ends_of g part.entries
 paid_other f g e owed.Rst part other = without_other f g part.entries other
-paid_other f g e owed.Request part other = replaced_other f g (paid_of e owed.Request) part.entries other
-paid_other f g e owed.Response part other = replaced_other f g (paid_of e owed.Response) part.entries other
-paid_other f g e owed.CreditUpdate part other = replaced_other f g (paid_of e owed.CreditUpdate) part.entries other
-paid_other f g e owed.CreditRequest part other = replaced_other f g (paid_of e owed.CreditRequest) part.entries other
-paid_other f g e (owed.Shutdown bits) part other = replaced_other f g (paid_of e (owed.Shutdown bits)) part.entries other
+paid_other f g e what part other = replaced_other f g (paid_of e what) part.entries other
 
 paid_cid : (f : Flow) (e : ConnectionEnd) (what : Owed) (part : Ends) → (paid f e what part).cid ≡ part.cid
 paid_cid = grind (arith, common_steps)

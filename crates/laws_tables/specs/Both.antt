@@ -1,15 +1,15 @@
 -- The driver and the device, each with its connections and its log, over any order of their steps.
 use Rattle.std.specs.Prelude.{◌≡◌, ℕ, ◌≤◌, Bool, true, false, if◌then◌else◌, List, [], ◌∷◌, length, Some}
-use Rattle.vs_conn.specs.{declared.end.Owed.Owed, declared.end.State.TheVariants.Live}
+use Rattle.vs_conn.specs.{Follows.FitsMessage, declared.end.Owed.Owed, declared.end.State.TheVariants.Live}
 use Rattle.vs_conn.specs.End.{CanSend, ConnectionEnd, aborted, grown, owes_of, wanting_credit, with_payload_forwarded, with_payload_sent}
 use Rattle.vs_conn.specs.End.{with_shut}
 use Rattle.vs_credit.specs.Credit.{unread_of}
 use Rattle.vs_flow.specs.declared.flow.Flow.{Flow}
 use Rattle.vs_header.specs.declared.Kind.{Kind}
-use Rattle.laws_history.specs.{Packets.is_request, Packets.is_rst, declared.packet.Packet.Packet}
+use Rattle.laws_history.specs.{History.puts, Packets.is_request, Packets.is_rst, declared.packet.Packet.Packet}
 use Rattle.vs_limits.specs.declared.TheConstants.{BUF_ALLOC_MAX}
 use Rattle.vs_page.specs.{Fair.IsFairLog, Open.is_dropped}
-use Rattle.vs_page.specs.Log.{Driver, Device, HasGotAll, IsNextEvent, IsNextPacket, Log, Role, flow_got, other_role}
+use Rattle.vs_page.specs.Log.{Driver, Device, HasGotAll, IsNextEvent, IsNextPacket, Log, Role, flow_got, history_of, other_role}
 use Rattle.vs_page.specs.declared.log.LogEntry.TheVariants.{GotEvent, GotPacket, Mark, PutEvent, PutPacket}
 use Rattle.vs_replies.specs.declared.Reply.{Reply}
 use Rattle.laws_tables.specs.{Ends.Ends, Ends.answer_kind, Ends.ends_of, Ends.is_new, Matches.Matches}
@@ -120,7 +120,9 @@ with_seat Device w b = record b { device = w }
 abbrev pub MayHappen : Role → Step → Both → Type 0
 MayHappen role (Opens f kind) b = IsNextFlow role f (at role b).part
 MayHappen role (Asks f kind) b = (role ≡ Device) × IsNextFlow role f (at role b).part
-MayHappen role (Sends f e payload) b = HasEnd f e (at role b).part × CanSend e (length payload)
+MayHappen role (Sends f e payload) b =
+    HasEnd f e (at role b).part × CanSend e (length payload)
+    × FitsMessage e (puts (history_of role f (at role b).log)) (length payload)
 MayHappen role (Pays f e what) b = HasEnd f e (at role b).part × (owes_of e ≡ Some what)
 MayHappen role (Replies r rest) b = (at role b).part.replies ≡ r ∷ rest
 MayHappen role (Decides f e what) b = HasEnd f e (at role b).part × (is_new e ≡ false) × MayDecide e what

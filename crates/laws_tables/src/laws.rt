@@ -2,7 +2,8 @@
 
 ghost use Rattle.std.specs.Prelude.{◌≡◌, ◌≢◌, ℕ, ◌≤◌, ◌&&◌, ◌||◌, Bool, false, true, List, [], ◌∷◌, ◌++◌, length, find, AllPairs, Contains};
 ghost use Rattle.std.specs.Prelude.{Some, None};
-ghost use Rattle.vs_conn.specs.{Follows.Follows, Follows.IsTaken, declared.end.Owed.Owed, declared.end.Owed.TheVariants.Response};
+ghost use Rattle.vs_conn.specs.Follows.{FitsMessage, Follows, IsTaken};
+ghost use Rattle.vs_conn.specs.{declared.end.Owed.Owed, declared.end.Owed.TheVariants.Response};
 ghost use Rattle.vs_conn.specs.End.{CanSend, ConnectionEnd, aborted, asked, end_after, grown, is_of, is_refused, is_reset, owes_of};
 ghost use Rattle.vs_conn.specs.End.{paid_of, verdict_of, wanting_credit, with_payload_forwarded, with_payload_sent, with_shut};
 ghost use Rattle.vs_conn.specs.declared.end.State.TheVariants.{Live};
@@ -65,6 +66,7 @@ pub fn law_of_opening()
 pub fn law_of_putting()
     ensures sends { (role : Role) (first cid : ℕ) (f : Flow) (e : ConnectionEnd) (payload : List ℕ) (part : Ends) (log : Log)
         → Matches role first part log → HasEnd f e part → CanSend e (length payload)
+        → FitsMessage e (puts (history_of role f log)) (length payload)
         → Matches role first (with_end f (with_payload_sent e (length payload)) part) (PutPacket (payload_on role cid f e payload) ∷ log) }
     ensures pays { (role : Role) (first cid : ℕ) (f : Flow) (e : ConnectionEnd) (what : Owed) (part : Ends) (log : Log)
         → Matches role first part log → HasEnd f e part → owes_of e ≡ Some what
@@ -189,6 +191,7 @@ pub fn law_of_fairness()
         → IsFairLog role (PutPacket (request_on role cid f kind) ∷ log) }
     ensures sends { (role : Role) (first cid : ℕ) (f : Flow) (e : ConnectionEnd) (payload : List ℕ) (part : Ends) (log : Log)
         → Matches role first part log → IsFairLog role log → HasEnd f e part → CanSend e (length payload)
+        → FitsMessage e (puts (history_of role f log)) (length payload)
         → IsFairLog role (PutPacket (payload_on role cid f e payload) ∷ log) }
     ensures pays { (role : Role) (first cid : ℕ) (f : Flow) (e : ConnectionEnd) (what : Owed) (part : Ends) (log : Log)
         → Matches role first part log → IsFairLog role log → HasEnd f e part → owes_of e ≡ Some what

@@ -169,18 +169,8 @@ module _ (driver : Seat) (first port : ℕ) (s : DeviceState) (log : Log) (sound
             (ap (λ (g : Flow). ends_of g (entries_of end_in s.table)) flow ∙ one_end end_in s.table e holds.sound there) in
             let no : true ≡ false = sym (ap is_overrun is) ∙ room in
             absurd cc
-        refuses why.BadKind is = over _ refl (hears (verdict.Rst why.BadKind) is refl) (heard_on (verdict.Rst why.BadKind) is
-            (λ (q : verdict.Rst why.BadKind ≡ verdict.Accept). cc) (λ (q : verdict.Rst why.BadKind ≡ verdict.Deliver). cc))
-        refuses why.BadOp is = over _ refl (hears (verdict.Rst why.BadOp) is refl) (heard_on (verdict.Rst why.BadOp) is
-            (λ (q : verdict.Rst why.BadOp ≡ verdict.Accept). cc) (λ (q : verdict.Rst why.BadOp ≡ verdict.Deliver). cc))
-        refuses why.Twice is = over _ refl (hears (verdict.Rst why.Twice) is refl) (heard_on (verdict.Rst why.Twice) is
-            (λ (q : verdict.Rst why.Twice ≡ verdict.Accept). cc) (λ (q : verdict.Rst why.Twice ≡ verdict.Deliver). cc))
-        refuses why.NotAsked is = over _ refl (hears (verdict.Rst why.NotAsked) is refl) (heard_on (verdict.Rst why.NotAsked) is
-            (λ (q : verdict.Rst why.NotAsked ≡ verdict.Accept). cc) (λ (q : verdict.Rst why.NotAsked ≡ verdict.Deliver). cc))
-        refuses why.NotLive is = over _ refl (hears (verdict.Rst why.NotLive) is refl) (heard_on (verdict.Rst why.NotLive) is
-            (λ (q : verdict.Rst why.NotLive ≡ verdict.Accept). cc) (λ (q : verdict.Rst why.NotLive ≡ verdict.Deliver). cc))
-        refuses why.AfterShutdown is = over _ refl (hears (verdict.Rst why.AfterShutdown) is refl) (heard_on (verdict.Rst why.AfterShutdown) is
-            (λ (q : verdict.Rst why.AfterShutdown ≡ verdict.Accept). cc) (λ (q : verdict.Rst why.AfterShutdown ≡ verdict.Deliver). cc))
+        refuses w is = over _ refl (hears (verdict.Rst w) is refl) (heard_on (verdict.Rst w) is
+            (λ (q : verdict.Rst w ≡ verdict.Accept). cc) (λ (q : verdict.Rst w ≡ verdict.Deliver). cc))
 
         by_verdict : (v : Verdict) → verdict_of e.value.end h ≡ v → KeptBy (with_verdict v (on_known v chain h e s)) a
         by_verdict verdict.Accept is = over _ refl (accepts (cond e.value.by_client (ok_text e.flow.host) []) is)

@@ -1,9 +1,9 @@
 -- What the device puts into the receive chain that it holds.
 use Rattle.std.proofs.Common.{◌≡◌, ℕ, ◌+◌, ◌^◌, ◌<◌, ◌==◌, not, Bool, true, false, cond, List, [], ◌∷◌, ◌++◌, length, take, Contains}
 use Rattle.std.proofs.Common.{Option, Some, None, refl, sym, ap, subst, ◌∙◌, arith}
-use Rattle.std.proofs.lemmas.Grind.{common_steps}
 use Rattle.vs_contents.specs.CallTree.{Done, Ask, bind}
 use Rattle.vs_conn.specs.{End.owes_of, End.paid_of, End.ConnectionEnd, Headers.owed_header, declared.end.Owed.Owed}
+use Rattle.vs_conn.proofs.Frames.{paid_asked}
 use Rattle.vs_flow.specs.Table.{entry_under, with_value, without}
 use Rattle.vs_header.specs.{Packet.header_bytes, declared.Header.Header}
 use Rattle.laws_history.specs.declared.packet.Packet.{Packet}
@@ -12,8 +12,9 @@ use Rattle.vs_replies.specs.declared.Reply.{Reply}
 use Rattle.vs_ring_port.specs.{Chains.bytes_in, Chains.with_bytes, EndLog.EndLog, EndLog.entries_returned, EndLog.with_packet}
 use Rattle.vs_ring_port.specs.{Lists.Rings, Lists.after_return, declared.device_ring.Chain.Chain, declared.queue.Queue.Queue}
 use Rattle.vs_ring_port.specs.declared.queue.Queue.TheVariants.{Rx}
-use Rattle.laws_tables.specs.{Both.IsSound, Both.Seat, Ends.is_new, Steps.owed_on, Steps.paid, Steps.reply_on, Steps.with_end}
+use Rattle.laws_tables.specs.{Both.IsSound, Both.Seat, Steps.owed_on, Steps.paid, Steps.reply_on, Steps.with_end}
 use Rattle.laws_tables.proofs.Slots.{found_by}
+use Rattle.laws_tables.proofs.Keeps.{owed_old}
 use Rattle.vs_device_parts.specs.{Calls.CloseStream, Calls.DeviceTree, State.DeviceConnection, State.DeviceEntry, State.DeviceState}
 use Rattle.vs_device_parts.specs.Connections.{after_leaving, route_to_guest, stream_closed, with_connection}
 use Rattle.vs_device_parts.specs.Receiving.{Filling, after_paying, put_packet, put_reply_of, reply_header}
@@ -27,7 +28,7 @@ use Rattle.laws_world.proofs.Streams.{StreamedIf, ends_streams, leaves_streams, 
 use Rattle.vs_outside.specs.Host.{HostContents, after_close}
 use Rattle.vs_proxy_parts.specs.State.{Handshake}
 use Rattle.laws_bytes.specs.Streamed.{gives}
-use Rattle.laws_bytes.proofs.{Gives.pays_asked, Gives.pays_gives, HostCalls.closed_host}
+use Rattle.laws_bytes.proofs.{Gives.pays_gives, HostCalls.closed_host}
 use Rattle.vs_conn.specs.declared.end.Owed.TheVariants as owed
 use Rattle.laws_world.proofs.DeviceSide as side
 
@@ -134,14 +135,6 @@ module _ (driver : Seat) (first port : ℕ) (s : DeviceState) (a : Around) (soun
         let k = side.pays_as driver first port s a.log.entries sound holds puts what e v there owes end pending fresh stays_in in
         record { runs = k.runs; holds = k.holds; puts = k.puts; overrun = k.overrun }
 
-    paid_fresh : (what : Owed) → owes_of e.value.end ≡ Some what → is_new (paid_of e.value.end what) ≡ false
-    paid_fresh owed.Rst owes = grind (arith, common_steps, owes)
-    paid_fresh owed.Request owes = grind (arith, common_steps, owes)
-    paid_fresh owed.Response owes = grind (arith, common_steps, owes)
-    paid_fresh owed.CreditUpdate owes = grind (arith, common_steps, owes)
-    paid_fresh owed.CreditRequest owes = grind (arith, common_steps, owes)
-    paid_fresh (owed.Shutdown bits) owes = grind (arith, common_steps, owes)
-
     -- Its stream stays.
     pays_streams : (what : Owed) → owes_of e.value.end ≡ Some what → (v : DeviceConnection) → v.stream ≡ e.value.stream → v.by_client ≡ e.value.by_client
         → v.ok_line ≡ e.value.ok_line → v.pending ≡ e.value.pending → v.end ≡ paid_of e.value.end what
@@ -150,7 +143,7 @@ module _ (driver : Seat) (first port : ℕ) (s : DeviceState) (a : Around) (soun
         λ at_first. put_empty a.host a.log.entries port (with_value s.table e.slot v) lines (owed_on Device s.cid e.flow e.value.end what) refl
         (ends_streams a.host a.log.entries port s.table lines (x at_first) holds.sound e there v stream client ok pending
         (λ on. pays_gives e.value.end what owes (ap (λ (y : ConnectionEnd). gives y) (sym end) ∙ on))
-        (λ on. pays_asked e.value.end what (ap (λ (y : ConnectionEnd). y.state) (sym end) ∙ on)))
+        (λ on. paid_asked e.value.end what (ap (λ (y : ConnectionEnd). y.state) (sym end) ∙ on)))
 
     abbrev Paying : Owed → Type 0
     Paying what = KeptNow (bind {A = Filling × Bool} (bind (put_packet (owed_header e.value.end (route_to_guest s.cid e.flow) what) (after_paying what e)
@@ -159,30 +152,18 @@ module _ (driver : Seat) (first port : ℕ) (s : DeviceState) (a : Around) (soun
     paying : (what : Owed) → owes_of e.value.end ≡ Some what → Paying what
     paying owed.Request owes = paid_over owed.Request owes _ refl
         (pays_other owed.Request (record e.value { end = paid_of e.value.end owed.Request; asked_at = Some s.now }) owes refl refl
-        (not_fresh _ (paid_fresh owed.Request owes)) refl (Some e.slot)) a.host
+        (not_fresh _ (owed_old e.value.end owed.Request owes)) refl (Some e.slot)) a.host
         (pays_streams owed.Request owes (record e.value { end = paid_of e.value.end owed.Request; asked_at = Some s.now }) refl refl refl refl refl) _ refl
-    paying owed.Response owes = paid_over owed.Response owes _ refl
-        (pays_other owed.Response (record e.value { end = paid_of e.value.end owed.Response }) owes refl refl
-        (not_fresh _ (paid_fresh owed.Response owes)) refl (Some e.slot)) a.host
-        (pays_streams owed.Response owes (record e.value { end = paid_of e.value.end owed.Response }) refl refl refl refl refl) _ refl
-    paying owed.CreditUpdate owes = paid_over owed.CreditUpdate owes _ refl
-        (pays_other owed.CreditUpdate (record e.value { end = paid_of e.value.end owed.CreditUpdate }) owes refl refl
-        (not_fresh _ (paid_fresh owed.CreditUpdate owes)) refl (Some e.slot)) a.host
-        (pays_streams owed.CreditUpdate owes (record e.value { end = paid_of e.value.end owed.CreditUpdate }) refl refl refl refl refl) _ refl
-    paying owed.CreditRequest owes = paid_over owed.CreditRequest owes _ refl
-        (pays_other owed.CreditRequest (record e.value { end = paid_of e.value.end owed.CreditRequest }) owes refl refl
-        (not_fresh _ (paid_fresh owed.CreditRequest owes)) refl (Some e.slot)) a.host
-        (pays_streams owed.CreditRequest owes (record e.value { end = paid_of e.value.end owed.CreditRequest }) refl refl refl refl refl) _ refl
-    paying (owed.Shutdown bits) owes = paid_over (owed.Shutdown bits) owes _ refl
-        (pays_other (owed.Shutdown bits) (record e.value { end = paid_of e.value.end (owed.Shutdown bits) }) owes refl refl
-        (not_fresh _ (paid_fresh (owed.Shutdown bits) owes)) refl (Some e.slot)) a.host
-        (pays_streams (owed.Shutdown bits) owes (record e.value { end = paid_of e.value.end (owed.Shutdown bits) }) refl refl refl refl refl) _ refl
     paying owed.Rst owes = by e.value.closed
       where
         gone : Goes (after_leaving e.slot (with_connection e.slot (stream_closed e.value) (record s { chain = None; last_put = Some e.slot })))
             (PutPacket (owed_on Device s.cid e.flow e.value.end owed.Rst) ∷ a.log.entries)
         gone = let k = side.pays_rst driver first port s a.log.entries sound holds puts e (stream_closed e.value) there owes in
             record { runs = k.runs; holds = k.holds; puts = k.puts; overrun = k.overrun }
+    paying what owes = paid_over what owes _ refl
+        (pays_other what (record e.value { end = paid_of e.value.end what }) owes refl refl
+        (not_fresh _ (owed_old e.value.end what owes)) refl (Some e.slot)) a.host
+        (pays_streams what owes (record e.value { end = paid_of e.value.end what }) refl refl refl refl refl) _ refl
 
         left_on : StreamedIf fresh a.host (PutPacket (owed_on Device s.cid e.flow e.value.end owed.Rst) ∷ a.log.entries) port
             (without (with_value s.table e.slot (stream_closed e.value)) e.slot) lines

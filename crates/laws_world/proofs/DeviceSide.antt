@@ -4,16 +4,20 @@ use Rattle.std.proofs.Common.{refl, sym, ap, subst, ◌∙◌, arith}
 use Rattle.std.proofs.lemmas.List.Elements.{All-filter, All-map}
 use Rattle.std.specs.List.{All}
 use Rattle.vs_conn.specs.{End.ConnectionEnd, End.CanSend, End.owes_of, End.paid_of, End.with_payload_sent, declared.end.Owed.Owed}
+use Rattle.vs_conn.proofs.{Frames.paid_kind, Steps.stream_fits}
+use Rattle.vs_header.specs.declared.Kind.TheVariants.{Stream}
+use Rattle.laws_history.specs.History.{puts as puts_of}
 use Rattle.vs_credit.specs.Credit.{unread_of}
 use Rattle.vs_flow.specs.Table.{Table, IsTable, revalued, with_value, without}
 use Rattle.vs_limits.specs.declared.TheConstants.{ASSIGNED_FIRST}
 use Rattle.vs_flow.proofs.Tables.{with_value_sound, without_sound}
-use Rattle.vs_page.specs.{Log.Log, Log.Device, declared.log.LogEntry.TheVariants.PutEvent, declared.log.LogEntry.TheVariants.PutPacket}
+use Rattle.vs_page.specs.Log.{Log, Device, history_of}
+use Rattle.vs_page.specs.declared.log.LogEntry.TheVariants.{PutEvent, PutPacket}
 use Rattle.vs_replies.specs.declared.Reply.{Reply}
 use Rattle.laws_tables.specs.{Ends.Ends, Ends.FlowEnd, Ends.entries_of, Ends.is_new, Ends.replaced, Heard.route_of}
 use Rattle.laws_tables.specs.Both.{Both, Decides, Decision, IsSound, MayDecide, Pays, PutsEvent, Replies, Seat, Sends, decided}
 use Rattle.laws_tables.specs.Steps.{HasEnd, left, paid, with_end, owed_on, payload_on, reply_on}
-use Rattle.laws_tables.proofs.{Slots.changed_slot, Slots.one_end, Slots.removed_slot, Tables.end_new}
+use Rattle.laws_tables.proofs.{Both.decided_kind, Slots.changed_slot, Slots.one_end, Slots.removed_slot, Tables.end_new}
 use Rattle.vs_device_parts.specs.{State.DeviceConnection, State.DeviceEntry, State.DeviceState, Connections.with_connection}
 use Rattle.laws_world.specs.Sides.{Runs}
 use Rattle.laws_world.proofs.{Runs.one_step, Runs.stays, Wire.PutsFit, Wire.RouteFits, Wire.owed_fits, Wire.payload_fits, Wire.reset_fits}
@@ -106,11 +110,11 @@ module _ (driver : Seat) where
         let none : unread_of e.value.end.credit ≡ 0 = ap (λ (x : ConnectionEnd). unread_of x.credit) asking.asks in
         omega (arith, (entry_fits e there).credit.unread, none)
 
-    pub holds_changed : (slot : ℕ) (c : DeviceConnection) → HoldsBytes c.end.credit (length c.pending) → IsFresh c
+    pub holds_changed : (slot : ℕ) (c : DeviceConnection) → HoldsBytes c.end.credit (length c.pending) → c.end.kind ≡ Stream → IsFresh c
         → DeviceHolds port (with_connection slot c s)
-    holds_changed slot c fits fresh = record {
+    holds_changed slot c fits kind fresh = record {
       sound = with_value_sound s.table slot c holds.sound;
-      ends = fits_with_value end_in held_in s.table slot c fits holds.ends;
+      ends = fits_with_value end_in held_in s.table slot c fits kind holds.ends;
       fresh = All-map FreshEntry (revalued slot c) s.table.entries (λ i d less. revalued_fresh slot c _ fresh (holds.fresh i d less));
       owed = holds.owed;
       port = holds.port;
@@ -130,7 +134,7 @@ module _ (driver : Seat) where
           (has_end e there, old, may) tt
           (ap (λ (entries : List FlowEnd). with_entries entries log)
           (sym (changed_slot end_in s.table e c holds.sound there ∙ ap (λ (x : ConnectionEnd). replaced e.flow x (entries_of end_in s.table)) is)));
-      holds = holds_changed e.slot c fits fresh;
+      holds = holds_changed e.slot c fits (ap (λ (x : ConnectionEnd). x.kind) is ∙ decided_kind e.value.end what ∙ (entry_fits e there).kind) fresh;
       puts = puts;
     }
 
@@ -145,7 +149,8 @@ module _ (driver : Seat) where
               (sym (changed_slot end_in s.table e c holds.sound there
               ∙ ap (λ (x : ConnectionEnd). replaced e.flow x (entries_of end_in s.table)) is ∙ unchanged e there)));
           holds = holds_changed e.slot c (subst (λ (x : ConnectionEnd). HoldsBytes x.credit (length c.pending)) (sym is)
-              (record { alloc = fits.alloc; fwd = fits.fwd; rx = fits.rx; unread = omega (arith, fits.unread, fewer); within = fits.within })) fresh;
+              (record { alloc = fits.alloc; fwd = fits.fwd; rx = fits.rx; unread = omega (arith, fits.unread, fewer); within = fits.within }))
+              (ap (λ (x : ConnectionEnd). x.kind) is ∙ (entry_fits e there).kind) fresh;
           puts = puts;
         }
       where
@@ -168,10 +173,10 @@ module _ (driver : Seat) where
         record {
           overrun = refl;
           runs = one_step Device (Sends e.flow e.value.end payload) (seated port s log) (seated port (with_connection e.slot c s) (PutPacket p ∷ log))
-              (has_end e there, can) tt
+              (has_end e there, can, stream_fits e.value.end (puts_of (history_of Device e.flow log)) (length payload) (entry_fits e there).kind) tt
               (ap (λ (entries : List FlowEnd). with_entries entries (PutPacket p ∷ log)) (sym (changed_slot end_in s.table e c holds.sound there)));
           holds = holds_changed e.slot c (fits_sent e.value.end.credit (length payload) (length e.value.pending) (entry_fits e there).credit)
-              (not_fresh c old);
+              (entry_fits e there).kind (not_fresh c old);
           puts = (payload_fits e.value.end _ (length payload) (length e.value.pending) (route e there) (entry_fits e there).credit len, puts);
         }
 
@@ -192,7 +197,8 @@ module _ (driver : Seat) where
               (ap (λ (x : ConnectionEnd). replaced e.flow x (entries_of end_in s.table)) (sym is) ∙ sym (changed_slot end_in s.table e c holds.sound there)));
           holds = holds_changed e.slot c (subst (λ (x : ConnectionEnd). HoldsBytes x.credit (length c.pending)) (sym is)
               (subst (λ (bytes : List ℕ). HoldsBytes (paid_of e.value.end what).credit (length bytes)) (sym pending)
-              (fits_paid e.value.end what (length e.value.pending) fits))) fresh;
+              (fits_paid e.value.end what (length e.value.pending) fits)))
+              (ap (λ (x : ConnectionEnd). x.kind) is ∙ paid_kind e.value.end what ∙ (entry_fits e there).kind) fresh;
           puts = (owed_fits e.value.end _ what (length e.value.pending) (route e there) fits owes, puts);
         }
 

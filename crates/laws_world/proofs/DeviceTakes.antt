@@ -3,6 +3,7 @@ use Rattle.std.proofs.{lemmas.Bool.Decides.nat_tests, lemmas.Grind.common_steps,
 use Rattle.std.proofs.Common.{◌≡◌, ℕ, ◌+◌, ◌^◌, ◌<◌, ◌≤◌, ◌&&◌, Bool, true, false, cond, List, [], ◌∷◌, length, Contains, None, refl, sym}
 use Rattle.std.proofs.Common.{ap, inl, ◌∙◌, arith}
 use Rattle.vs_conn.specs.End.{ConnectionEnd, answering, asked, end_after, is_of, is_reset}
+use Rattle.vs_conn.proofs.Frames.{got_kind}
 use Rattle.vs_flow.specs.{Flow.host_flow, Flow.is_assigned, Table.entry_of, Table.has_place, Table.with_value, Table.without, Table.refusal}
 use Rattle.vs_flow.specs.declared.flow.Flow.{Flow}
 use Rattle.vs_limits.specs.declared.TheConstants.{ASSIGNED_FIRST, ASSIGNED_LAST, HOST_CID, BUF_ALLOC}
@@ -19,8 +20,8 @@ use Rattle.laws_tables.proofs.{Slots.added_slot, Slots.changed_slot, Slots.no_en
 use Rattle.vs_device_parts.specs.Connections.{new_connection, with_client, with_connection, with_dialed, with_opened, with_reply}
 use Rattle.vs_device_parts.specs.State.{DeviceConnection, DeviceEntry, DeviceState}
 use Rattle.laws_world.proofs.{Entries.ReplyFits, Entries.FlowFits, Entries.fits_with_entry, Runs.one_step, Runs.takes_step, Wire.PutsFit}
-use Rattle.laws_world.proofs.DeviceSide.{DeviceHolds, FreshEntry, IsFresh, Kept, at_part, end_in, held_in, holds_changed, left_holds}
-use Rattle.laws_world.proofs.DeviceSide.{left_part, not_fresh, part_of, seated}
+use Rattle.laws_world.proofs.DeviceSide.{DeviceHolds, FreshEntry, IsFresh, Kept, at_part, end_in, entry_fits, held_in, holds_changed}
+use Rattle.laws_world.proofs.DeviceSide.{left_holds, left_part, not_fresh, part_of, seated}
 use Rattle.laws_device.specs.Honest.{HoldsBytes}
 use Rattle.laws_device.proofs.Hearing.{still_new}
 use Rattle.vs_flow.proofs.Tables.{accepted as free_flow}
@@ -39,11 +40,11 @@ heard_fresh old c h is ok asked shut fresh = record {
 
 module _ (driver : Seat) (first port : ℕ) (s : DeviceState) (log : Log) (sound : IsSound first (seated driver port s log))
     (holds : DeviceHolds port s) (puts : PutsFit log) where
-  open_holds : (f : Flow) (c : DeviceConnection) (next : ℕ) → IsAccepted s.table f → FlowFits f → f.peer ≡ HOST_CID → HoldsBytes c.end.credit (length c.pending) → IsFresh c
-      → ASSIGNED_FIRST ≤ next → DeviceHolds next (with_opened f c s)
-  open_holds f c next free flow peer fits fresh above = record {
+  open_holds : (f : Flow) (c : DeviceConnection) (next : ℕ) → IsAccepted s.table f → FlowFits f → f.peer ≡ HOST_CID → HoldsBytes c.end.credit (length c.pending) → c.end.kind ≡ Stream
+      → IsFresh c → ASSIGNED_FIRST ≤ next → DeviceHolds next (with_opened f c s)
+  open_holds f c next free flow peer fits kind fresh above = record {
     sound = with_entry_sound s.table f c holds.sound free;
-    ends = fits_with_entry end_in held_in s.table f c flow peer fits holds.ends;
+    ends = fits_with_entry end_in held_in s.table f c flow peer fits kind holds.ends;
     fresh = All-push FreshEntry s.table.entries (record { slot = s.table.given; flow = f; value = c }) holds.fresh fresh;
     owed = holds.owed;
     port = above;
@@ -65,7 +66,7 @@ module _ (driver : Seat) (first port : ℕ) (s : DeviceState) (log : Log) (sound
             ∙ ap (λ (entries : List FlowEnd). at_part driver (record (part_of driver port s) { entries = entries; next_port = port + 1 }) log)
             (sym (added_slot end_in s.table f c)));
         holds = open_holds f c (port + 1) free (record { guest = fits; host = omega (arith, last); peer = omega arith }) refl
-            (record { alloc = omega arith; fwd = omega arith; rx = omega arith; unread = omega arith; within = omega arith })
+            (record { alloc = omega arith; fwd = omega arith; rx = omega arith; unread = omega arith; within = omega arith }) refl
             (record { ok_line = λ new. refl; asked_at = λ new. refl; shut_at = λ new. refl }) (omega (arith, holds.port));
         puts = puts;
       }
@@ -125,7 +126,8 @@ module _ (driver : Seat) (first port : ℕ) (s : DeviceState) (log : Log) (sound
               ∙ ap (λ (g : Flow). at_part driver (with_end g (end_after e.value.end p.header) (part_of driver port s)) got) flow
               ∙ ap (λ (entries : List FlowEnd). at_part driver (record (part_of driver port s) { entries = entries }) got)
               (ap (λ (x : ConnectionEnd). replaced e.flow x (entries_of end_in s.table)) (sym is) ∙ sym (changed_slot end_in s.table e c holds.sound there)));
-          holds = holds_changed driver first port s log sound holds puts e.slot c credit fresh;
+          holds = holds_changed driver first port s log sound holds puts e.slot c credit
+              (ap (λ (x : ConnectionEnd). x.kind) is ∙ got_kind e.value.end p.header ∙ (entry_fits driver first port s log sound holds puts e there).kind) fresh;
           puts = puts;
         }
 
@@ -164,7 +166,7 @@ module _ (driver : Seat) (first port : ℕ) (s : DeviceState) (log : Log) (sound
                   ∙ ap (λ (entries : List FlowEnd). at_part driver (record (part_of driver port s) { entries = entries }) got)
                   (sym (added_slot end_in s.table f c)));
               holds = open_holds f c port (free_flow s.table f free) (record { guest = fits.src_port; host = fits.dst_port; peer = fits.dst_cid }) peer_is
-                  (record { alloc = omega arith; fwd = omega arith; rx = omega arith; unread = omega arith; within = omega arith })
+                  (record { alloc = omega arith; fwd = omega arith; rx = omega arith; unread = omega arith; within = omega arith }) refl
                   (not_fresh c refl) holds.port;
               puts = puts;
             }

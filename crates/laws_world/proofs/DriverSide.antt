@@ -5,15 +5,19 @@ use Rattle.std.proofs.lemmas.List.{length-drop, append-nil}
 use Rattle.std.specs.List.{All}
 use Rattle.vs_conn.specs.{declared.end.Owed.Owed, declared.end.State.State}
 use Rattle.vs_conn.specs.End.{ConnectionEnd, CanSend, owes_of, paid_of, wanting_credit, with_payload_sent, with_shut}
+use Rattle.vs_conn.proofs.{Frames.paid_kind, Steps.stream_fits}
+use Rattle.vs_header.specs.declared.Kind.TheVariants.{Stream}
+use Rattle.laws_history.specs.History.{puts as puts_of}
 use Rattle.vs_flow.specs.{Table.Table, Table.IsTable, Table.without, Flow.same_flow, declared.flow.Flow.Flow}
 use Rattle.vs_flow.proofs.Tables.{with_value_sound, without_sound}
-use Rattle.vs_page.specs.{Log.Log, Log.Driver, declared.log.LogEntry.TheVariants.PutPacket}
+use Rattle.vs_page.specs.{Log.Log, Log.Driver, Log.history_of, declared.log.LogEntry.TheVariants.PutPacket}
 use Rattle.vs_replies.specs.declared.Reply.{Reply}
 use Rattle.laws_tables.specs.{Ends.Ends, Ends.FlowEnd, Ends.entries_of, Ends.replaced, Heard.route_of}
 use Rattle.laws_tables.specs.Both.{Both, Decides, Decision, Forwards, Shuts, Aborts, WantsCredit, IsSound, MayDecide, Pays, Replies, Seat}
 use Rattle.laws_tables.specs.Both.{Sends, decided}
 use Rattle.laws_tables.specs.Steps.{HasEnd, left, paid, with_end, owed_on, payload_on, reply_on}
-use Rattle.laws_tables.proofs.{Slots.changed_slot, Slots.found_by, Slots.one_end, Slots.removed_slot, Tables.driver_begun}
+use Rattle.laws_tables.proofs.{Both.decided_kind, Tables.driver_begun}
+use Rattle.laws_tables.proofs.Slots.{changed_slot, found_by, one_end, removed_slot}
 use Rattle.vs_driver_parts.specs.{Conversations.after_paying, Listening.with_waiting, Listening.without_id}
 use Rattle.vs_driver_parts.specs.State.{DriverConnection, DriverEntry, DriverState, GoneConnection, entry_known_as, gone_known_as}
 use Rattle.vs_driver_parts.specs.State.{is_known_as}
@@ -104,12 +108,13 @@ module _ (device : Seat) where
     pub entry_fits : (e : DriverEntry) → Contains s.table.entries e → EntryFits end_in held_in e
     entry_fits e there = fits_at end_in held_in s.table.entries e there holds.ends
 
-    pub holds_changed : (slot : ℕ) (c : DriverConnection) → HoldsBytes c.end.credit (length c.unread) → DriverHolds (with_connection slot c s)
-    holds_changed slot c fits = record {
+    pub holds_changed : (slot : ℕ) (c : DriverConnection) → HoldsBytes c.end.credit (length c.unread) → c.end.kind ≡ Stream
+        → DriverHolds (with_connection slot c s)
+    holds_changed slot c fits kind = record {
       sound = with_value_sound s.table slot c holds.sound;
       room = holds.room;
       given = holds.given;
-      ends = fits_with_value end_in held_in s.table slot c fits holds.ends;
+      ends = fits_with_value end_in held_in s.table slot c fits kind holds.ends;
       owed = holds.owed;
       port = holds.port;
       known = holds.known;
@@ -129,7 +134,7 @@ module _ (device : Seat) where
           runs = one_step Driver (Decides e.flow e.value.end what) (seated s log) (seated (with_connection e.slot c s) log) (has, old, may) tt
               (ap (λ (entries : List FlowEnd). with_entries entries s log)
               (sym (changed_slot end_in s.table e c holds.sound there ∙ ap (λ (x : ConnectionEnd). replaced e.flow x (entries_of end_in s.table)) is)));
-          holds = holds_changed e.slot c fits;
+          holds = holds_changed e.slot c fits (ap (λ (x : ConnectionEnd). x.kind) is ∙ decided_kind e.value.end what ∙ (entry_fits e there).kind);
           puts = puts;
         }
 
@@ -283,9 +288,10 @@ module _ (device : Seat) where
               (stays_still (receives e.value.end) (receives e.value.end) e.value.unread [] (λ is. is) (λ is. refl));
           sent = λ f. sent_put p log f;
           runs = one_step Driver (Sends e.flow e.value.end payload) (seated s log) (seated (with_connection e.slot c s) (PutPacket p ∷ log))
-              (has_end e there, can) tt
+              (has_end e there, can, stream_fits e.value.end (puts_of (history_of Driver e.flow log)) (length payload) (entry_fits e there).kind) tt
               (ap (λ (entries : List FlowEnd). with_entries entries s (PutPacket p ∷ log)) (sym (changed_slot end_in s.table e c holds.sound there)));
-          holds = holds_changed e.slot c (fits_sent e.value.end.credit (length payload) (length e.value.unread) (entry_fits e there).credit);
+          holds = holds_changed e.slot c (fits_sent e.value.end.credit (length payload) (length e.value.unread) (entry_fits e there).credit)
+              (entry_fits e there).kind;
           puts = (payload_fits e.value.end _ (length payload) (length e.value.unread) (route e there) (entry_fits e there).credit len, puts);
         }
 
@@ -309,7 +315,8 @@ module _ (device : Seat) where
               (ap (λ (x : ConnectionEnd). replaced e.flow x (entries_of end_in s.table)) (sym is) ∙ sym (changed_slot end_in s.table e c holds.sound there)));
           holds = holds_changed e.slot c (subst (λ (x : ConnectionEnd). HoldsBytes x.credit (length c.unread)) (sym is)
               (subst (λ (bytes : List ℕ). HoldsBytes (paid_of e.value.end what).credit (length bytes)) (sym unread)
-              (fits_paid e.value.end what (length e.value.unread) fits)));
+              (fits_paid e.value.end what (length e.value.unread) fits)))
+              (ap (λ (x : ConnectionEnd). x.kind) is ∙ paid_kind e.value.end what ∙ (entry_fits e there).kind);
           puts = (owed_fits e.value.end _ what (length e.value.unread) (route e there) fits owes, puts);
         }
 
@@ -350,12 +357,6 @@ module _ (device : Seat) where
 
     pub pays : (what : Owed) (e : DriverEntry) → Contains s.table.entries e → owes_of e.value.end ≡ Some what
         → Kept s log (after_paying what e s) (PutPacket (owed_on Driver s.cid e.flow e.value.end what) ∷ log)
-    pays owed.Request e there owes = pays_as owed.Request e (paid_connection owed.Request e.value) there owes refl refl refl refl
-    pays owed.Response e there owes = pays_as owed.Response e (paid_connection owed.Response e.value) there owes refl refl refl refl
-    pays owed.CreditUpdate e there owes = pays_as owed.CreditUpdate e (paid_connection owed.CreditUpdate e.value) there owes refl refl refl refl
-    pays owed.CreditRequest e there owes = pays_as owed.CreditRequest e (paid_connection owed.CreditRequest e.value) there owes refl refl refl refl
-    pays (owed.Shutdown bits) e there owes =
-        pays_as (owed.Shutdown bits) e (paid_connection (owed.Shutdown bits) e.value) there owes refl refl refl refl
     pays owed.Rst e there owes =
         let p = owed_on Driver s.cid e.flow e.value.end owed.Rst in
         let gone = cond (is_let_go e.value) s.gone (s.gone ++ gone_as e ∷ []) in
@@ -369,6 +370,7 @@ module _ (device : Seat) where
           holds = left_holds e.value.unanswered e gone;
           puts = (owed_fits e.value.end _ owed.Rst (length e.value.unread) (route e there) (entry_fits e there).credit owes, puts);
         }
+    pays what e there owes = pays_as what e (paid_connection what e.value) there owes refl refl refl refl
 
     -- It puts the oldest reply.
     pub replies : (reply : Reply) (rest : List Reply) → s.replies ≡ reply ∷ rest

@@ -4,6 +4,7 @@ use Rattle.std.proofs.Common.{◌≡◌, ℕ, ◌+◌, ◌^◌, ◌<◌, ◌≤�
 use Rattle.std.proofs.Common.{Some, None, refl, sym, ap, subst, ◌∙◌, arith, length-append}
 use Rattle.vs_conn.specs.End.{ConnectionEnd, answering, asked, end_after, is_of, is_refused, is_reset, paid_of, verdict_of}
 use Rattle.vs_conn.specs.declared.end.Verdict.{Verdict}
+use Rattle.vs_conn.proofs.Frames.{got_kind}
 use Rattle.vs_flow.specs.{Flow.is_assigned, Flow.same_flow, Table.entry_of, Table.without, declared.flow.Flow.Flow}
 use Rattle.vs_limits.specs.declared.TheConstants.{HOST_CID, BUF_ALLOC, LAST_ID, LAST_PORT, DRIVER_CONNECTIONS}
 use Rattle.vs_flow.proofs.{Entries.same_flow_true, Tables.with_entry_sound, Tables.IsAccepted}
@@ -61,14 +62,14 @@ module _ (device : Seat) where
             absurd cc
 
     open_holds : (f : Flow) (end : ConnectionEnd) (unanswered : Bool) → IsAccepted s.table f → FlowFits f → f.peer ≡ HOST_CID
-        → HoldsBytes end.credit 0
+        → HoldsBytes end.credit 0 → end.kind ≡ Stream
         → (next : ℕ) → next ≤ LAST_PORT + 1
         → Holds (with_opened f end unanswered s).table s.replies (s.next_id + 1) next s.cid
-    open_holds f end unanswered free flow peer fits next port = record {
+    open_holds f end unanswered free flow peer fits kind next port = record {
       sound = with_entry_sound s.table f _ holds.sound free;
       room = holds.room;
       given = omega (arith, holds.given);
-      ends = fits_with_entry end_in held_in s.table f _ flow peer fits holds.ends;
+      ends = fits_with_entry end_in held_in s.table f _ flow peer fits kind holds.ends;
       owed = holds.owed;
       port = port;
       known = holds.known;
@@ -116,7 +117,7 @@ module _ (device : Seat) where
               ∙ ap (λ (entries : List FlowEnd). at_part (record (driver_ends s) { entries = entries; next_port = s.next_port + 1 }) (PutPacket p ∷ log))
               (sym (added_slot end_in s.table f _)));
           holds = open_holds f (paid_of (asked Stream BUF_ALLOC) owed.Request) false (accepted_by f (absent f unused.no_end) may.full spent.1) flow refl
-              (record { alloc = omega arith; fwd = omega arith; rx = omega arith; unread = omega arith; within = omega arith }) (s.next_port + 1) (omega (arith, spent.0));
+              (record { alloc = omega arith; fwd = omega arith; rx = omega arith; unread = omega arith; within = omega arith }) refl (s.next_port + 1) (omega (arith, spent.0));
           puts = (
             owed_fits (asked Stream BUF_ALLOC) _ owed.Request 0 (record {
               src_cid = holds.known;
@@ -174,7 +175,8 @@ module _ (device : Seat) where
             ∙ ap (λ (g : Flow). at_part (with_end g (end_after e.value.end p.header) (driver_ends s)) got) flow
             ∙ ap (λ (entries : List FlowEnd). at_part (record (driver_ends s) { entries = entries }) got)
             (ap (λ (x : ConnectionEnd). replaced e.flow x (entries_of end_in s.table)) (sym is) ∙ sym (changed_slot end_in s.table e c holds.sound there)));
-        holds = holds_changed device first s log sound holds puts e.slot c credit;
+        holds = holds_changed device first s log sound holds puts e.slot c credit
+            (ap (λ (x : ConnectionEnd). x.kind) is ∙ got_kind e.value.end p.header ∙ (entry_fits device first s log sound holds puts e there).kind);
         puts = puts;
       }
         where
@@ -285,7 +287,7 @@ module _ (device : Seat) where
                   ∙ ap (λ (entries : List FlowEnd). at_part (record (driver_ends s) { entries = entries }) got) (sym (added_slot end_in s.table f _)));
               holds = open_holds f (answering Stream BUF_ALLOC p.header) true (accepted_by f none room.0 room.1)
                   (record { guest = fits.dst_port; host = fits.src_port; peer = fits.src_cid }) (host_by may)
-                  (record { alloc = omega arith; fwd = omega arith; rx = omega arith; unread = omega arith; within = omega arith }) s.next_port holds.port;
+                  (record { alloc = omega arith; fwd = omega arith; rx = omega arith; unread = omega arith; within = omega arith }) refl s.next_port holds.port;
               puts = puts;
             }
           where

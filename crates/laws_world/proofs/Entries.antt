@@ -4,6 +4,7 @@ use Rattle.std.proofs.Common.{suc, ◌∙◌, arith}
 use Rattle.std.proofs.lemmas.List.Elements.{All-filter, All-push, All-map}
 use Rattle.std.specs.List.{All}
 use Rattle.vs_conn.specs.End.{ConnectionEnd}
+use Rattle.vs_header.specs.declared.Kind.TheVariants.{Stream}
 use Rattle.vs_flow.specs.{declared.flow.Flow.Flow, declared.table.Entry.Entry}
 use Rattle.vs_flow.specs.{Table.Table, Table.revalued, Table.with_value, Table.without, Table.with_entry, Table.next_entry, Flow.same_flow}
 use Rattle.vs_limits.specs.declared.TheConstants.{HOST_CID}
@@ -24,26 +25,29 @@ module _ {T : Type 0} (end_of : T → ConnectionEnd) (held_of : T → ℕ) where
   pub record EntryFits (x : Entry T) : Type 0 where
     pub flow : FlowFits x.flow
     pub peer : x.flow.peer ≡ HOST_CID
+    pub kind : (end_of x.value).kind ≡ Stream
     pub credit : HoldsBytes (end_of x.value).credit (held_of x.value)
 
-  revalued_fits : (slot : ℕ) (v : T) (x : Entry T) → HoldsBytes (end_of v).credit (held_of v) → EntryFits x → EntryFits (revalued slot v x)
-  revalued_fits slot v x new old = by (x.slot == slot)
+  revalued_fits : (slot : ℕ) (v : T) (x : Entry T) → HoldsBytes (end_of v).credit (held_of v) → (end_of v).kind ≡ Stream → EntryFits x
+      → EntryFits (revalued slot v x)
+  revalued_fits slot v x new kind old = by (x.slot == slot)
     where
       by : (b : Bool) → EntryFits (cond b (record x { value = v }) x)
-      by true = record { flow = old.flow; peer = old.peer; credit = new }
+      by true = record { flow = old.flow; peer = old.peer; kind = kind; credit = new }
       by false = old
 
-  pub fits_with_value : (t : Table T) (slot : ℕ) (v : T) → HoldsBytes (end_of v).credit (held_of v) → All EntryFits t.entries
+  pub fits_with_value : (t : Table T) (slot : ℕ) (v : T) → HoldsBytes (end_of v).credit (held_of v) → (end_of v).kind ≡ Stream → All EntryFits t.entries
       → All EntryFits (with_value t slot v).entries
-  fits_with_value t slot v new old =
-      All-map EntryFits (revalued slot v) t.entries (λ i d less. revalued_fits slot v _ new (old i d less))
+  fits_with_value t slot v new kind old =
+      All-map EntryFits (revalued slot v) t.entries (λ i d less. revalued_fits slot v _ new kind (old i d less))
 
   pub fits_without : (t : Table T) (slot : ℕ) → All EntryFits t.entries → All EntryFits (without t slot).entries
   fits_without t slot old = All-filter (λ (e : Entry T). not (e.slot == slot)) EntryFits t.entries old
 
   pub fits_with_entry : (t : Table T) (f : Flow) (v : T) → FlowFits f → f.peer ≡ HOST_CID → HoldsBytes (end_of v).credit (held_of v)
-      → All EntryFits t.entries → All EntryFits (with_entry t f v).entries
-  fits_with_entry t f v flow peer new old = All-push EntryFits t.entries (next_entry t f v) old (record { flow = flow; peer = peer; credit = new })
+      → (end_of v).kind ≡ Stream → All EntryFits t.entries → All EntryFits (with_entry t f v).entries
+  fits_with_entry t f v flow peer new kind old =
+      All-push EntryFits t.entries (next_entry t f v) old (record { flow = flow; peer = peer; kind = kind; credit = new })
 
   pub fits_at : (xs : List (Entry T)) (x : Entry T) → Contains xs x → All EntryFits xs → EntryFits x
   fits_at xs x (i, less, is) all = subst EntryFits is (all i x less)

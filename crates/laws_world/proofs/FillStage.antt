@@ -159,11 +159,7 @@ paying_fine e owed.Rst s fine = by e.value.closed
         (λ t. Done (after_leaving e.slot t)))
     by true = fine
     by false = λ _. fine
-paying_fine e owed.Request s fine = fine
-paying_fine e owed.Response s fine = fine
-paying_fine e (owed.Shutdown bits) s fine = fine
-paying_fine e owed.CreditRequest s fine = fine
-paying_fine e owed.CreditUpdate s fine = fine
+paying_fine e _ s fine = fine
 
 owed_does : (slot : ℕ) → PutDoes (put_owed slot)
 owed_does slot w x fine =

@@ -3,7 +3,6 @@ use Rattle.std.proofs.{lemmas.Grind.common_steps, lemmas.Bool.Decides.nat_tests}
 use Rattle.std.proofs.Common.{◌≡◌, ℕ, ◌+◌, ◌≤◌, Bool, true, false, cond, ◌&&◌, ◌++◌, List, [], ◌∷◌, length, Some, refl, sym, ap, subst, ◌∙◌}
 use Rattle.std.proofs.Common.{arith}
 use Rattle.vs_conn.specs.End.{ConnectionEnd, answering, asked, end_after, is_of, owes_of, paid_of, with_payload_sent}
-use Rattle.vs_conn.specs.declared.end.Owed.{Owed}
 use Rattle.vs_flow.specs.{Flow.is_assigned, Flow.same_flow, declared.flow.Flow.Flow}
 use Rattle.vs_header.specs.declared.Header.{Header}
 use Rattle.laws_history.specs.{Again.count, Packets.is_request, Packets.is_rst, declared.packet.Packet.Packet}
@@ -22,6 +21,7 @@ use Rattle.laws_tables.specs.Ends.{Ends, FlowEnd, answer_kind, ends_of, is_new, 
 use Rattle.laws_tables.specs.Steps.{asking, is_kept, left, opened, owed_on, payload_on, port_after, reply_on, request_on, with_clean}
 use Rattle.laws_tables.specs.Steps.{with_connection, with_end}
 use Rattle.laws_tables.proofs.{Both.next_is_fair, Both.step_keeps, Fair.own_got_fair, Steps.owed_flow, Steps.request_flow, Tables.only_end}
+use Rattle.laws_tables.proofs.Keeps.{paid_old}
 use Rattle.laws_tables.proofs.Entries.{added_other, added_same, replaced_other, replaced_same, without_other, without_same}
 use Rattle.laws_world.specs.Sides.{AsksAnew, Runs, RunsAnew}
 use Rattle.laws_world.proofs.Firsts.{asker_asks, none_begun}
@@ -101,9 +101,6 @@ not_new P d e es one has old new =
     let both : false ≡ true = sym old ∙ ap (λ (x : ConnectionEnd). is_new x) (one_is d e es one has) ∙ new in absurd cc
 
 -- Ends are not made new.
-paid_old : (e : ConnectionEnd) (what : Owed) → is_new e ≡ false → is_new (paid_of e what) ≡ false
-paid_old = grind (arith, common_steps)
-
 after_old : (e : ConnectionEnd) (h : Header) → is_new e ≡ false → is_new (end_after e h) ≡ false
 after_old = grind (arith, common_steps)
 
@@ -273,22 +270,10 @@ seat_once role first (Pays g e owed.Rst) b s may anew once f asker =
     let w = at role b in
     stays role f w _ _ (once f asker) (put_other role f (owed_on role w.part.cid g e owed.Rst) w.log refl)
     (left_from role f g w (once f asker) (left g w.part) refl refl)
-seat_once role first (Pays g e owed.Response) b s may anew once f asker =
+seat_once role first (Pays g e what) b s may anew once f asker =
     let w = at role b in
-    stays role f w _ _ (once f asker) (put_other role f (owed_on role w.part.cid g e owed.Response) w.log refl)
-    (changed_from role f g w (once f asker) e (paid_of e owed.Response) may.0 (paid_old e owed.Response))
-seat_once role first (Pays g e owed.CreditUpdate) b s may anew once f asker =
-    let w = at role b in
-    stays role f w _ _ (once f asker) (put_other role f (owed_on role w.part.cid g e owed.CreditUpdate) w.log refl)
-    (changed_from role f g w (once f asker) e (paid_of e owed.CreditUpdate) may.0 (paid_old e owed.CreditUpdate))
-seat_once role first (Pays g e owed.CreditRequest) b s may anew once f asker =
-    let w = at role b in
-    stays role f w _ _ (once f asker) (put_other role f (owed_on role w.part.cid g e owed.CreditRequest) w.log refl)
-    (changed_from role f g w (once f asker) e (paid_of e owed.CreditRequest) may.0 (paid_old e owed.CreditRequest))
-seat_once role first (Pays g e (owed.Shutdown bits)) b s may anew once f asker =
-    let w = at role b in
-    stays role f w _ _ (once f asker) (put_other role f (owed_on role w.part.cid g e (owed.Shutdown bits)) w.log refl)
-    (changed_from role f g w (once f asker) e (paid_of e (owed.Shutdown bits)) may.0 (paid_old e (owed.Shutdown bits)))
+    stays role f w _ _ (once f asker) (put_other role f (owed_on role w.part.cid g e what) w.log refl)
+    (changed_from role f g w (once f asker) e (paid_of e what) may.0 (paid_old e what))
 seat_once role first (Replies r rest) b s may anew once f asker =
     let w = at role b in
     stays role f w _ _ (once f asker) (put_other role f (reply_on role w.part.cid r) w.log refl)

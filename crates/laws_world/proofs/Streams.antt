@@ -7,6 +7,7 @@ use Rattle.std.proofs.Common.{Contains, Option, Some, None, refl, sym, ap, subst
 use Rattle.std.proofs.Math.Seq.{drop-nil, take-nil}
 use Rattle.std.specs.{List.All, Option.option_map}
 use Rattle.vs_conn.specs.End.{ConnectionEnd, end_after, is_of, is_reset, verdict_of, with_shut, with_payload_sent}
+use Rattle.vs_conn.proofs.Frames.{got_asked}
 use Rattle.vs_conn.specs.declared.end.Verdict.{Verdict}
 use Rattle.vs_device_parts.specs.{State.DeviceConnection, State.DeviceEntry, Transmitting.heard, Streams.to_write}
 use Rattle.vs_device_parts.specs.Connections.{after_shut, after_written, cut_off}
@@ -20,7 +21,7 @@ use Rattle.laws_bytes.specs.Drains.{Drains, got_on, put_on}
 use Rattle.laws_bytes.specs.Streamed.{IsJoined, IsStreamed, gives, line_for, look, seen}
 use Rattle.laws_bytes.proofs.{HostCalls.read_host, HostCalls.write_host, HostCalls.same_host, Hosts.unseen}
 use Rattle.laws_bytes.proofs.Gives.{drop_both, first_of, forwards_asked, forwards_gives, accepted_other, accepts_asked, accepts_response}
-use Rattle.laws_bytes.proofs.Gives.{answered_host, comes_behind, delivered_other, delivers_gives, gives_delivered, goes_host, hears_asked}
+use Rattle.laws_bytes.proofs.Gives.{answered_host, comes_behind, delivered_other, delivers_gives, gives_delivered, goes_host, got_asked}
 use Rattle.laws_bytes.proofs.Gives.{hears_gives, kept_empty, response_empty, shut_gives, shuts_asked, unanswered_got}
 use Rattle.laws_bytes.proofs.Logs.{got_after_got, got_after_put, none_on_any, only_on, passed_after_got, passed_after_put, put_after_got}
 use Rattle.laws_bytes.proofs.Logs.{put_after_put}
@@ -160,7 +161,7 @@ module _ (c : HostContents) (log : Log) (port : ℕ) (t : Table DeviceConnection
           got_here (passed_after_got Device p log)
           (stays_still (gives e.value.end) (gives (end_after e.value.end p.header)) (e.value.ok_line ++ e.value.pending) p.payload
           (hears_gives e.value.end p.header v now other) (λ on. whole.none (gives_delivered e.value.end p v now undelivered on)))
-          (λ on. (hears_asked e.value.end p.header on, (λ none. none), λ none. none))
+          (λ on. (got_asked e.value.end p.header on, (λ none. none), λ none. none))
 
       pub delivers_streams : (payload : List ℕ) → payload ≡ p.payload → verdict_of e.value.end p.header ≡ verdict.Deliver
           → IsStreamed c (GotPacket p ∷ log) port (with_value t e.slot (record (heard p.header e.value) { pending = e.value.pending ++ payload })) hands

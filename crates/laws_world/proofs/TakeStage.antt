@@ -98,12 +98,7 @@ module _ (chain : Chain) (h : Header) (s : DeviceState) (fine : s.failed ≡ Non
   known_off e verdict.Ignore = fine
   known_off e verdict.Peer = peer_off e (is_reset h)
   known_off e (verdict.Rst (why.Overrun o)) = fine
-  known_off e (verdict.Rst why.BadKind) = fine
-  known_off e (verdict.Rst why.BadOp) = fine
-  known_off e (verdict.Rst why.Twice) = fine
-  known_off e (verdict.Rst why.NotAsked) = fine
-  known_off e (verdict.Rst why.NotLive) = fine
-  known_off e (verdict.Rst why.AfterShutdown) = fine
+  known_off e (verdict.Rst _) = fine
 
   dial_off : (d : Dialed) → (dial_answered h d s).0.failed ≡ None
   dial_off (dialed.Stream stream) = fine

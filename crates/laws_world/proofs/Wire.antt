@@ -21,11 +21,8 @@ flags_fit e owed.Rst owes = by e.clean
     by : (b : Bool) → cond b 3 0 < 4
     by true = omega arith
     by false = omega arith
-flags_fit e owed.Request owes = omega arith
-flags_fit e owed.Response owes = omega arith
-flags_fit e owed.CreditUpdate owes = omega arith
-flags_fit e owed.CreditRequest owes = omega arith
 flags_fit e (owed.Shutdown bits) owes = grind (arith, common_steps)
+flags_fit e _ owes = omega arith
 
 kind_fits : (k : Kind) → kind_number k < 2 ^ 16
 kind_fits Stream = omega arith
@@ -56,11 +53,7 @@ owed_fits e r what u route credit owes = let flags = flags_fit e what owes in re
 
 pub not_payload : (e : ConnectionEnd) (r : Route) (what : Owed) → ((owed_header e r what).op == 5) ≡ false
 not_payload e r owed.Rst = refl
-not_payload e r owed.Request = refl
-not_payload e r owed.Response = refl
-not_payload e r owed.CreditUpdate = refl
-not_payload e r owed.CreditRequest = refl
-not_payload e r (owed.Shutdown bits) = refl
+not_payload e r _ = refl
 
 pub payload_fits : (e : ConnectionEnd) (r : Route) (n u : ℕ) → RouteFits r → HoldsBytes e.credit u → n < 2 ^ 32 → FitsWire (payload_header e r n)
 payload_fits e r n u route credit len = record {

@@ -4,12 +4,15 @@ use Rattle.std.proofs.Common.{None, IfSome, refl, sym, ap, subst, ◌∙◌, ari
 use Rattle.std.proofs.lemmas.List.{append-nil}
 use Rattle.vs_contents.specs.CallTree.{Done, Ask, bind}
 use Rattle.vs_conn.specs.{End.owes_of, End.wanting_credit, Headers.owed_header, Headers.payload_header, declared.end.Owed.Owed}
+use Rattle.vs_conn.proofs.Steps.{stream_fits}
+use Rattle.laws_history.specs.History.{puts as puts_of}
 use Rattle.vs_credit.specs.Credit.{free_of}
 use Rattle.vs_flow.specs.Table.{entry_under}
 use Rattle.vs_header.specs.{Packet.header_bytes, declared.Header.Header, declared.TheConstants.HEADER_LEN}
 use Rattle.laws_history.specs.declared.packet.Packet.{Packet}
 use Rattle.vs_outside.specs.declared.host_net.StreamRead.{StreamRead}
-use Rattle.vs_page.specs.{Fair.IsFairLog, Held.FitsWire, Held.packet_held, Log.Device, declared.log.LogEntry.TheVariants.PutPacket}
+use Rattle.vs_page.specs.{Fair.IsFairLog, Held.FitsWire, Held.packet_held, Log.Device, Log.history_of}
+use Rattle.vs_page.specs.declared.log.LogEntry.TheVariants.{PutPacket}
 use Rattle.vs_replies.specs.declared.Reply.{Reply}
 use Rattle.vs_ring_port.specs.{Chains.chains_of, Contents.RingContents, EndLog.EndLog, declared.device_ring.Chain.Chain}
 use Rattle.vs_ring_port.specs.declared.queue.Queue.TheVariants.{Event}
@@ -109,6 +112,8 @@ module _ (driver : Seat) (first port : ℕ) (s : DeviceState) (l : EndLog) (soun
             fair = (step_keeps Device first (Sends e.flow e.value.end payload) (seated driver port s l.entries) sound (
               side.has_end driver first port s l.entries sound holds puts e there,
               can_send e.value.end (length payload) may (omega (arith, less)),
+              stream_fits e.value.end (puts_of (history_of Device e.flow l.entries)) (length payload)
+              (entry_fits driver first port s l.entries sound holds puts e there).kind,
             )).fair Device;
           }
 
@@ -152,11 +157,7 @@ module _ (driver : Seat) (first port : ℕ) (s : DeviceState) (l : EndLog) (soun
 
       paying : (what : Owed) → owes_of e.value.end ≡ Some what → Paying what
       paying owed.Rst owes = leaves e.value.closed owes
-      paying owed.Request owes = stays owed.Request owes
-      paying owed.Response owes = stays owed.Response owes
-      paying owed.CreditUpdate owes = stays owed.CreditUpdate owes
-      paying owed.CreditRequest owes = stays owed.CreditRequest owes
-      paying (owed.Shutdown bits) owes = stays (owed.Shutdown bits) owes
+      paying what owes = stays what owes
 
     pub puts_owed_may : (slot : ℕ) → MayPut (puts_owed slot s) c
     puts_owed_may slot = by s.chain refl

@@ -120,11 +120,7 @@ reply_some s = option_some s.chain _ _ tt
 
 paying_some : (what : Owed) (e : DeviceEntry) (s : DeviceState) → AllReturnSome (after_paying what e s)
 paying_some owed.Rst e s = leaving_some e _
-paying_some owed.Request e s = tt
-paying_some owed.Response e s = tt
-paying_some (owed.Shutdown bits) e s = tt
-paying_some owed.CreditUpdate e s = tt
-paying_some owed.CreditRequest e s = tt
+paying_some _ e s = tt
 
 what_some : (what : Owed) (e : DeviceEntry) (r : Filling)
     → AllReturnSome {A = Filling × Bool} (bind

@@ -11,11 +11,7 @@ pub paid_leaves : (what : Owed) (e : DeviceEntry) (slot : ℕ) (s m t : DeviceSt
 paid_leaves owed.Rst e slot s m t x y rst at is leaves =
     let P : DeviceState → Type 0 = λ u. Runs (leaving e u) x t y in
     subst P (is ∙ ap (λ (n : ℕ). record s { last_put = Some n }) (sym at)) leaves
-paid_leaves owed.Request e slot s m t x y rst at is leaves = absurd (cc)
-paid_leaves owed.Response e slot s m t x y rst at is leaves = absurd (cc)
-paid_leaves owed.CreditUpdate e slot s m t x y rst at is leaves = absurd (cc)
-paid_leaves owed.CreditRequest e slot s m t x y rst at is leaves = absurd (cc)
-paid_leaves (owed.Shutdown bits) e slot s m t x y rst at is leaves = absurd (cc)
+paid_leaves _ e slot s m t x y rst at is leaves = absurd (cc)
 
 abbrev pub after_other : Owed → ℕ → DeviceEntry → DeviceState → DeviceState
 after_other what slot e s = record (with_connection slot (paid_connection what s.now e.value) s) { last_put = Some slot }
@@ -23,11 +19,7 @@ after_other what slot e s = record (with_connection slot (paid_connection what s
 pub paid_stays : (what : Owed) (e : DeviceEntry) (slot : ℕ) (s t : DeviceState) (x : Situation) → is_rst what ≡ false → e.slot ≡ slot → t ≡ after_other what slot e s
     → Runs (after_paying what e s) x t x
 paid_stays owed.Rst e slot s t x rst at is = absurd (cc)
-paid_stays owed.Request e slot s t x rst at is = (ap (λ (n : ℕ). after_other owed.Request n e s) at ∙ sym is, refl)
-paid_stays owed.Response e slot s t x rst at is = (ap (λ (n : ℕ). after_other owed.Response n e s) at ∙ sym is, refl)
-paid_stays owed.CreditUpdate e slot s t x rst at is = (ap (λ (n : ℕ). after_other owed.CreditUpdate n e s) at ∙ sym is, refl)
-paid_stays owed.CreditRequest e slot s t x rst at is = (ap (λ (n : ℕ). after_other owed.CreditRequest n e s) at ∙ sym is, refl)
-paid_stays (owed.Shutdown bits) e slot s t x rst at is = (ap (λ (n : ℕ). after_other (owed.Shutdown bits) n e s) at ∙ sym is, refl)
+paid_stays what e slot s t x rst at is = (ap (λ (n : ℕ). after_other what n e s) at ∙ sym is, refl)
 
 pub record HoldsOf {X : Type 0} (o : Option X) (P : X → Type 0) : Type 0 where
   pub one : X

@@ -41,21 +41,11 @@ module _ (chain : Chain) (h : Header) (e : DeviceEntry) (s t : DeviceState) wher
 
   pub refuses : (w : Why) (x : Situation) → t ≡ with_connection e.slot (heard h e.value) (after_refusal w s) → Runs (on_known (verdict.Rst w) chain h e s) x t x
   refuses (why.Overrun o) x end = (sym end, refl)
-  refuses why.BadKind x end = (sym end, refl)
-  refuses why.BadOp x end = (sym end, refl)
-  refuses why.Twice x end = (sym end, refl)
-  refuses why.NotAsked x end = (sym end, refl)
-  refuses why.NotLive x end = (sym end, refl)
-  refuses why.AfterShutdown x end = (sym end, refl)
+  refuses w x end = (sym end, refl)
 
   pub counted_refusal : (w : Why) (u : DeviceState) → u ≡ same_end → after_refusal w u ≡ with_connection e.slot (heard h e.value) (after_refusal w s)
   counted_refusal (why.Overrun o) u is = ap (after_refusal (why.Overrun o)) is
-  counted_refusal why.BadKind u is = is
-  counted_refusal why.BadOp u is = is
-  counted_refusal why.Twice u is = is
-  counted_refusal why.NotAsked u is = is
-  counted_refusal why.NotLive u is = is
-  counted_refusal why.AfterShutdown u is = is
+  counted_refusal w u is = is
 
   pub by_verdict : (v w : Verdict) (x y : Situation) → v ≡ w → Runs (on_known w chain h e s) x t y → Runs (on_known v chain h e s) x t y
   by_verdict v w x y is runs = let P : Verdict → Type 0 = λ u. Runs (on_known u chain h e s) x t y in subst P (sym is) runs

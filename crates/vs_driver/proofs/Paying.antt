@@ -20,11 +20,7 @@ use Rattle.vs_driver_parts.specs.Playing.{CanMake, MayPublishAll, Plays, RingAll
 pub paid_other : (what : Owed) (slot : ℕ) (e : DriverEntry) (s : DriverState) → is_rst what ≡ false → e.slot ≡ slot
     → with_connection slot (paid_connection what e.value) s ≡ after_paying what e s
 paid_other owed.Rst slot e s other at = absurd (cc)
-paid_other owed.Request slot e s other at = ap (λ (n : ℕ). with_connection n (paid_connection owed.Request e.value) s) (sym at)
-paid_other owed.Response slot e s other at = ap (λ (n : ℕ). with_connection n (paid_connection owed.Response e.value) s) (sym at)
-paid_other owed.CreditUpdate slot e s other at = ap (λ (n : ℕ). with_connection n (paid_connection owed.CreditUpdate e.value) s) (sym at)
-paid_other owed.CreditRequest slot e s other at = ap (λ (n : ℕ). with_connection n (paid_connection owed.CreditRequest e.value) s) (sym at)
-paid_other (owed.Shutdown bits) slot e s other at = ap (λ (n : ℕ). with_connection n (paid_connection (owed.Shutdown bits) e.value) s) (sym at)
+paid_other what slot e s other at = ap (λ (n : ℕ). with_connection n (paid_connection what e.value) s) (sym at)
 
 pub record HoldsOf {X : Type 0} (o : Option X) (P : X → Type 0) : Type 0 where
   pub one : X

@@ -1,5 +1,5 @@
 -- What it takes that an end delivers a packet: an RW that fits its room.
-use Rattle.std.proofs.Common.{◌≡◌, ℕ, ◌≤◌, Bool, true, false, cond, Option, Some, None, refl, arith}
+use Rattle.std.proofs.Common.{◌≡◌, ℕ, ◌≤◌, Bool, true, false, cond, Option, Some, refl, arith}
 use Rattle.std.proofs.lemmas.Bool.Decides.{nat_tests}
 use Rattle.vs_conn.specs.{declared.end.State.State, declared.end.Verdict.Verdict, declared.end.Why.Why}
 use Rattle.vs_conn.specs.End.{ConnectionEnd, verdict_of, state_verdict, op_verdict, payload_verdict, response_verdict, live_verdict, is_of}
@@ -40,10 +40,7 @@ by_op (Some op.Response) e h named is = absurd (by_response e.state is)
 by_op (Some op.Shutdown) e h named is = absurd (by_peer e.state is)
 by_op (Some op.CreditUpdate) e h named is = absurd (by_peer e.state is)
 by_op (Some op.CreditRequest) e h named is = absurd (by_peer e.state is)
-by_op (Some op.Request) e h named is = absurd (cc)
-by_op (Some op.Rst) e h named is = absurd (cc)
-by_op (Some op.Invalid) e h named is = absurd (cc)
-by_op None e h named is = absurd (cc)
+by_op _ e h named is = absurd (cc)
 
 by_open : (stream reset : Bool) (why : Why) (e : ConnectionEnd) (h : Header)
     → cond stream (op_verdict (op_named h.op) e h.len) (cond reset verdict.Ignore (verdict.Rst why)) ≡ verdict.Deliver → IsDelivered e h

@@ -11,28 +11,16 @@ use Rattle.vs_driver_parts.specs.{State.DriverConnection, Connections.paid_conne
 
 pub paid_id : (what : Owed) (c : DriverConnection) → (paid_connection what c).id ≡ c.id
 paid_id owed.Response c = refl
-paid_id owed.Rst c = refl
-paid_id owed.Request c = refl
-paid_id owed.CreditUpdate c = refl
-paid_id owed.CreditRequest c = refl
-paid_id (owed.Shutdown bits) c = refl
+paid_id _ c = refl
 
 pub closing_id : (s : State) (c : DriverConnection) → (after_closing s c).id ≡ c.id
 closing_id state.Live c = refl
-closing_id state.Asked c = refl
-closing_id state.Answering c = refl
-closing_id state.Ended c = refl
+closing_id _ c = refl
 
 pub packet_id : (v : Verdict) (p : Packet) (c : DriverConnection) → (after_packet v p c).id ≡ c.id
 packet_id verdict.Deliver p c = refl
-packet_id verdict.Accept p c = refl
-packet_id verdict.Discard p c = refl
-packet_id verdict.Peer p c = refl
-packet_id (verdict.Rst why) p c = refl
-packet_id verdict.Ignore p c = refl
+packet_id _ p c = refl
 
 pub closing_closed : (s : State) (c : DriverConnection) → (after_closing s c).closed ≡ true
 closing_closed state.Live c = refl
-closing_closed state.Asked c = refl
-closing_closed state.Answering c = refl
-closing_closed state.Ended c = refl
+closing_closed _ c = refl

@@ -7,6 +7,9 @@ pub const BUF_ALLOC: u32 = 65_536;
 /// The most bytes of buffer space that an end may advertise.
 pub const BUF_ALLOC_MAX: u32 = 262_144;
 
+/// The most bytes that a message of a seqpacket socket has.
+pub const MESSAGE_MAX: u32 = 16_208;
+
 /// The host's CID (Virtio 1.2, section 5.10.4).
 pub const HOST_CID: u64 = 2;
 

@@ -4,8 +4,9 @@ use Rattle.std.proofs.Common.{append_assoc}
 use Rattle.std.proofs.lemmas.List.{append-nil}
 use Rattle.vs_flow.specs.{Flow.is_assigned, Connection.Connection}
 use Rattle.vs_header.specs.{declared.Kind.Kind, declared.Kind.TheVariants.Seqpacket, declared.Kind.TheVariants.Stream}
-use Rattle.laws_history.specs.{Packets.bytes, History.Side, History.gots, History.peer, History.puts, declared.packet.Packet.Packet}
-use Rattle.vs_page.specs.Messages.{AreFirstOf, MessageEnd, ends_got, ends_message, ends_of, ends_put, ends_record, form, is_nothing}
+use Rattle.laws_history.specs.{Packets.bytes, Packets.ends_message, History.Side, History.gots, History.peer, History.puts}
+use Rattle.laws_history.specs.declared.packet.Packet.{Packet}
+use Rattle.vs_page.specs.Messages.{AreFirstOf, MessageEnd, ends_got, ends_of, ends_put, ends_record, form, is_nothing}
 use Rattle.vs_page.specs.Messages.{unfinished, whole_by}
 use Rattle.vs_page.specs.Fair.{IsPrefixOf, instance_from}
 use Rattle.vs_page.specs.Log.{HasGotAll, Log, Role, flow_got, other_role, side_of, whole_of}

@@ -2,15 +2,12 @@
 use Rattle.std.specs.Prelude.{◌≡◌, ℕ, ◌+◌, ◌/◌, ◌%◌, ◌^◌, ◌==◌, Bool, true, false, ◌&&◌, not, if◌then◌else◌, List, [], ◌∷◌, ◌++◌, length}
 use Rattle.byteorder.specs.Endian.{little_bytes}
 use Rattle.vs_flow.specs.Connection.{Connection}
-use Rattle.vs_header.specs.{Kind.kind_number, declared.Kind.Kind, declared.Kind.TheVariants.Seqpacket, declared.Kind.TheVariants.Stream}
-use Rattle.vs_header.specs.declared.TheConstants.{END_OF_MESSAGE, END_OF_RECORD}
-use Rattle.laws_history.specs.{Packets.bytes, Packets.is_rw, declared.packet.Packet.Packet}
+use Rattle.vs_header.specs.{declared.Kind.Kind, declared.Kind.TheVariants.Seqpacket, declared.Kind.TheVariants.Stream}
+use Rattle.vs_header.specs.declared.TheConstants.{END_OF_RECORD}
+use Rattle.laws_history.specs.{Packets.bytes, Packets.ends_message, declared.packet.Packet.Packet}
 use Rattle.vs_page.specs.{Fair.got_of, Fair.payload_of, Fair.put_of, Log.Log, Log.Role}
 
--- An RW of a seqpacket socket ends a message by one flag, and a record by another beside it.
-abbrev pub ends_message : Packet → Bool
-ends_message p = is_rw p && (p.header.kind == kind_number Seqpacket) && (p.header.flags / END_OF_MESSAGE % 2 == 1)
-
+-- A packet that ends a message ends a record by another flag.
 abbrev pub ends_record : Packet → Bool
 ends_record p = ends_message p && (p.header.flags / END_OF_RECORD % 2 == 1)
 
