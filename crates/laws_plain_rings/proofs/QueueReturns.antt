@@ -64,6 +64,7 @@ module _ (queue : Queue) (n at : ℕ) (nonzero : 0 < n) (limit : n ≤ 32768) (d
       place = tie.place;
       given_out = tie.given_out;
       back_is = back_index n s (q.reaped + 1) ((q.reaped + 1) % 2 ^ 16) pages ids (sym (wraps n (q.reaped + 1) divides)) row.1;
+      words = tie.words;
     }
       where
         free : (j : ℕ) → 0 < times j (q.free ++ id ∷ []) → j < n
@@ -101,6 +102,7 @@ module _ (queue : Queue) (n at : ℕ) (nonzero : 0 < n) (limit : n ≤ 32768) (d
       given_out = out_index queue n at s (t.taken + 1) ((t.taken + 1) % 2 ^ 16) (pages ++ staged) ids (sym (wraps n (t.taken + 1)
           divides)) given_row.1;
       back_is = tie.back_is;
+      words = tie.words;
     }
       where
         twice : (t.taken % n) % n ≡ t.taken % n
@@ -154,6 +156,7 @@ module _ (queue : Queue) (n at : ℕ) (nonzero : 0 < n) (limit : n ≤ 32768) (d
             bytes = bytes;
             fits = fits;
           });
+      words = λ w. u.word w (tt, (tt, tt)) ∙ tie.words w;
     }
       where
         same_at : (j : ℕ) → 0 < times j out + times j back → IsSameAt s new j

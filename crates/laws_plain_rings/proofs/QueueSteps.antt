@@ -7,7 +7,7 @@ use Rattle.std.specs.Prelude.{◌==◌, set, slice_index_or}
 use Rattle.vs_ring_port.specs.{DriverCalls.HoldsPacket, Lists.Lists, declared.queue.Queue.Queue, declared.queue.Queue.TheVariants.Tx}
 use Rattle.vs_ring_plain.specs.declared.turns.Turns.{Turns}
 use Rattle.vs_plain_driver.specs.Queue.{DriverQueueState, desc_for, published_queue}
-use Rattle.laws_plain_rings.specs.{Queue.AreOut, Queue.HasPage, Queue.IsQueueTied, Queue.times, Shown.Shown}
+use Rattle.laws_plain_rings.specs.{Queue.AreOut, Queue.HasPage, Queue.IsQueueTied, Queue.times, Shown.Shown, Shown.Word}
 use Rattle.laws_plain_rings.proofs.Rows.{IsSameAt, back_kept, back_length, out_kept, out_length, out_push}
 use Rattle.laws_plain_rings.proofs.Counting.{times-cons, times-other, times-push, times-self}
 use Rattle.laws_plain_rings.proofs.Modulo.{apart, wraps_further}
@@ -28,9 +28,10 @@ module _ (queue : Queue) (n at : ℕ) (nonzero : 0 < n) (limit : n ≤ 32768) (d
 
   -- other bytes where none of the lists lies
   pub tie_seen : (new : Shown) → new.avail ≡ s.avail → new.used ≡ s.used → ((k : ℕ) → k < n → new.entry k ≡ s.entry k)
-      → ((k : ℕ) → k < n → new.elem k ≡ s.elem k) → ((id : ℕ) → 0 < times id out + times id back → IsSameAt s new id)
+      → ((k : ℕ) → k < n → new.elem k ≡ s.elem k) → ((w : Word) → new.word n w ≡ s.word n w)
+      → ((id : ℕ) → 0 < times id out + times id back → IsSameAt s new id)
       → IsQueueTied queue n at new q t heads staged l out back
-  tie_seen new avail used entry elem same = record {
+  tie_seen new avail used entry elem word same = record {
     once = tie.once;
     all = tie.all;
     sized = tie.sized;
@@ -48,11 +49,12 @@ module _ (queue : Queue) (n at : ℕ) (nonzero : 0 < n) (limit : n ≤ 32768) (d
         (λ j some. same j (omega (arith, some)));
     back_is = back_kept n s new q.reaped l.back back tie.back_is (λ i less. elem _ (mod_below _ n nonzero)) (λ j some. same j (omega
         (arith, some)));
+    words = λ w. word w ∙ tie.words w;
   }
 
   -- nothing of the queue is written
   pub tie_same : (new : Shown) → Untouched n [] s new → IsQueueTied queue n at new q t heads staged l out back
-  tie_same new u = tie_seen new (u.avail tt) (u.used tt) (λ k is. u.entry k is tt) (λ k is. u.elem k is tt) (λ id some.
+  tie_same new u = tie_seen new (u.avail tt) (u.used tt) (λ k is. u.entry k is tt) (λ k is. u.elem k is tt) (λ w. u.word w tt) (λ id some.
       let below = (tie.pages id (omega (arith, some))).0 in record {
         desc = u.desc id below tt;
         page = λ c few. u.page id c below few tt;
@@ -62,7 +64,7 @@ module _ (queue : Queue) (n at : ℕ) (nonzero : 0 < n) (limit : n ≤ 32768) (d
   pub tie_written : (new : Shown) (id : ℕ) → 0 < times id heads → Untouched n (PageOf id ∷ []) s new
       → IsQueueTied queue n at new q t heads staged l out back
   tie_written new id held u =
-      tie_seen new (u.avail (tt, tt)) (u.used (tt, tt)) (λ k is. u.entry k is (tt, tt)) (λ k is. u.elem k is (tt, tt)) (λ j some.
+      tie_seen new (u.avail (tt, tt)) (u.used (tt, tt)) (λ k is. u.entry k is (tt, tt)) (λ k is. u.elem k is (tt, tt)) (λ w. u.word w (tt, tt)) (λ j some.
       let below = (tie.pages j (omega (arith, some))).0 in record {
         desc = u.desc j below (tt, tt);
         page = λ c few. u.page j c below few (other j some, tt);
@@ -156,6 +158,7 @@ module _ (queue : Queue) (n at : ℕ) (nonzero : 0 < n) (limit : n ≤ 32768) (d
           }));
       back_is = back_kept n s new q.reaped l.back back tie.back_is (λ i less. u.elem _ (mod_below _ n nonzero) (tt, (tt, (tt, tt))))
           (λ j some. same_at j (omega (arith, some)));
+      words = λ w. u.word w (tt, (tt, (tt, tt))) ∙ tie.words w;
     }
       where
         entries : (i : ℕ) → i < length (l.given ++ staged) → new.entry ((t.taken + i) % n) ≡ s.entry ((t.taken + i) % n)
@@ -202,6 +205,7 @@ module _ (queue : Queue) (n at : ℕ) (nonzero : 0 < n) (limit : n ≤ 32768) (d
         (λ j some. same_at j (omega (arith, some))));
     back_is = back_kept n s new q.reaped l.back back tie.back_is (λ i less. u.elem _ (mod_below _ n nonzero) (tt, tt))
         (λ j some. same_at j (omega (arith, some)));
+    words = λ w. u.word w (tt, tt) ∙ tie.words w;
   }
     where
       same_at : (j : ℕ) → 0 < times j out + times j heads + times j back → IsSameAt s new j

@@ -10,7 +10,8 @@ use Rattle.vs_layout.specs.declared.place.Areas.{Areas}
 use Rattle.vs_ring_plain.proofs.Still.{quiet}
 use Rattle.vs_ring_port.specs.Chains.{same_queue}
 use Rattle.vs_ring_port.specs.declared.queue.Queue.{Queue}
-use Rattle.laws_plain_rings.specs.{Shown.Shown, Shown.shown, Tie.IsAreaLaid, Tie.IsLaid}
+use Rattle.laws_plain_rings.specs.{Tie.IsAreaLaid, Tie.IsLaid}
+use Rattle.laws_plain_rings.specs.Shown.{AvailEvent, AvailFlags, Shown, UsedEvent, UsedFlags, Word, shown, word_in}
 use Rattle.laws_plain_rings.proofs.Frames.{inner, kept}
 
 pub data Spot : Type 0 where
@@ -20,6 +21,7 @@ pub data Spot : Type 0 where
   UsedIdx : Spot
   Elem : ℕ → Spot
   PageOf : ℕ → Spot
+  WordOf : ℕ → Word → Spot
 
 -- where it begins, and its length
 abbrev pub spot_at : Areas → ℕ → Spot → ℕ
@@ -29,6 +31,7 @@ spot_at a at (Entry k) = a.avail + 4 + 2 * k
 spot_at a at UsedIdx = a.used + 2
 spot_at a at (Elem k) = a.used + 4 + 8 * k
 spot_at a at (PageOf k) = at + 4096 * k
+spot_at a at (WordOf k w) = (word_in a k w).at
 
 abbrev pub spot_len : Spot → ℕ
 spot_len (Describing k) = 16
@@ -37,6 +40,7 @@ spot_len (Entry k) = 2
 spot_len UsedIdx = 2
 spot_len (Elem k) = 8
 spot_len (PageOf k) = 4096
+spot_len (WordOf k w) = 2
 
 -- it is one of a queue of n places
 abbrev pub IsSpot : ℕ → Spot → Type 0
@@ -46,6 +50,14 @@ IsSpot n (Entry k) = k < n
 IsSpot n UsedIdx = ⊤
 IsSpot n (Elem k) = k < n
 IsSpot n (PageOf k) = k < n
+IsSpot n (WordOf k w) = k ≡ n
+
+abbrev pub IsOther : Word → Word → Type 0
+IsOther AvailFlags AvailFlags = ⊥
+IsOther UsedEvent UsedEvent = ⊥
+IsOther UsedFlags UsedFlags = ⊥
+IsOther AvailEvent AvailEvent = ⊥
+IsOther _ _ = ⊤
 
 abbrev pub Differs : Spot → Spot → Type 0
 Differs (Describing j) (Describing k) = j ≡ k → ⊥
@@ -54,6 +66,7 @@ Differs (Entry j) (Entry k) = j ≡ k → ⊥
 Differs UsedIdx UsedIdx = ⊥
 Differs (Elem j) (Elem k) = j ≡ k → ⊥
 Differs (PageOf j) (PageOf k) = j ≡ k → ⊥
+Differs (WordOf j v) (WordOf k w) = IsOther v w
 Differs _ _ = ⊤
 
 abbrev pub DiffersAll : List Spot → Spot → Type 0
@@ -83,6 +96,54 @@ ordered j k size from other = by (leb_tells k j)
     by (inr (test, over)) = inl (omega (arith, step j k over))
 
 module _ (n : ℕ) (a : Areas) (at : ℕ) (laid : IsAreaLaid n a) (behind : a.end ≤ at) where
+  -- a flag or an event word and a spot of another kind
+  word_apart : (j : ℕ) (w : Word) (y : Spot) → j ≡ n → IsSpot n y → Differs (WordOf j w) y
+      → (spot_at a at (WordOf j w) + 2 ≤ spot_at a at y) ⊎ (spot_at a at y + spot_len y ≤ spot_at a at (WordOf j w))
+  word_apart j AvailFlags (Describing k) is is_y other = inr (omega (arith, laid.avail, laid.used, laid.end, behind, is, is_y))
+  word_apart j AvailFlags AvailIdx is is_y other = inl (omega (arith, laid.avail, laid.used, laid.end, behind, is))
+  word_apart j AvailFlags (Entry k) is is_y other = inl (omega (arith, laid.avail, laid.used, laid.end, behind, is, is_y))
+  word_apart j AvailFlags UsedIdx is is_y other = inl (omega (arith, laid.avail, laid.used, laid.end, behind, is))
+  word_apart j AvailFlags (Elem k) is is_y other = inl (omega (arith, laid.avail, laid.used, laid.end, behind, is, is_y))
+  word_apart j AvailFlags (PageOf k) is is_y other = inl (omega (arith, laid.avail, laid.used, laid.end, behind, is, is_y))
+  word_apart j AvailFlags (WordOf k AvailFlags) is is_y other = absurd other
+  word_apart j AvailFlags (WordOf k UsedEvent) is is_y other = inl (omega (arith, laid.avail, laid.used, laid.end, behind, is, is_y))
+  word_apart j AvailFlags (WordOf k UsedFlags) is is_y other = inl (omega (arith, laid.avail, laid.used, laid.end, behind, is, is_y))
+  word_apart j AvailFlags (WordOf k AvailEvent) is is_y other = inl (omega (arith, laid.avail, laid.used, laid.end, behind, is, is_y))
+  word_apart j UsedEvent (Describing k) is is_y other = inr (omega (arith, laid.avail, laid.used, laid.end, behind, is, is_y))
+  word_apart j UsedEvent AvailIdx is is_y other = inr (omega (arith, laid.avail, laid.used, laid.end, behind, is))
+  word_apart j UsedEvent (Entry k) is is_y other = inr (omega (arith, laid.avail, laid.used, laid.end, behind, is, is_y))
+  word_apart j UsedEvent UsedIdx is is_y other = inl (omega (arith, laid.avail, laid.used, laid.end, behind, is))
+  word_apart j UsedEvent (Elem k) is is_y other = inl (omega (arith, laid.avail, laid.used, laid.end, behind, is, is_y))
+  word_apart j UsedEvent (PageOf k) is is_y other = inl (omega (arith, laid.avail, laid.used, laid.end, behind, is, is_y))
+  word_apart j UsedEvent (WordOf k AvailFlags) is is_y other = inr (omega (arith, laid.avail, laid.used, laid.end, behind, is, is_y))
+  word_apart j UsedEvent (WordOf k UsedEvent) is is_y other = absurd other
+  word_apart j UsedEvent (WordOf k UsedFlags) is is_y other = inl (omega (arith, laid.avail, laid.used, laid.end, behind, is, is_y))
+  word_apart j UsedEvent (WordOf k AvailEvent) is is_y other = inl (omega (arith, laid.avail, laid.used, laid.end, behind, is, is_y))
+  word_apart j UsedFlags (Describing k) is is_y other = inr (omega (arith, laid.avail, laid.used, laid.end, behind, is, is_y))
+  word_apart j UsedFlags AvailIdx is is_y other = inr (omega (arith, laid.avail, laid.used, laid.end, behind, is))
+  word_apart j UsedFlags (Entry k) is is_y other = inr (omega (arith, laid.avail, laid.used, laid.end, behind, is, is_y))
+  word_apart j UsedFlags UsedIdx is is_y other = inl (omega (arith, laid.avail, laid.used, laid.end, behind, is))
+  word_apart j UsedFlags (Elem k) is is_y other = inl (omega (arith, laid.avail, laid.used, laid.end, behind, is, is_y))
+  word_apart j UsedFlags (PageOf k) is is_y other = inl (omega (arith, laid.avail, laid.used, laid.end, behind, is, is_y))
+  word_apart j UsedFlags (WordOf k AvailFlags) is is_y other = inr (omega (arith, laid.avail, laid.used, laid.end, behind, is, is_y))
+  word_apart j UsedFlags (WordOf k UsedEvent) is is_y other = inr (omega (arith, laid.avail, laid.used, laid.end, behind, is, is_y))
+  word_apart j UsedFlags (WordOf k UsedFlags) is is_y other = absurd other
+  word_apart j UsedFlags (WordOf k AvailEvent) is is_y other = inl (omega (arith, laid.avail, laid.used, laid.end, behind, is, is_y))
+  word_apart j AvailEvent (Describing k) is is_y other = inr (omega (arith, laid.avail, laid.used, laid.end, behind, is, is_y))
+  word_apart j AvailEvent AvailIdx is is_y other = inr (omega (arith, laid.avail, laid.used, laid.end, behind, is))
+  word_apart j AvailEvent (Entry k) is is_y other = inr (omega (arith, laid.avail, laid.used, laid.end, behind, is, is_y))
+  word_apart j AvailEvent UsedIdx is is_y other = inr (omega (arith, laid.avail, laid.used, laid.end, behind, is))
+  word_apart j AvailEvent (Elem k) is is_y other = inr (omega (arith, laid.avail, laid.used, laid.end, behind, is, is_y))
+  word_apart j AvailEvent (PageOf k) is is_y other = inl (omega (arith, laid.avail, laid.used, laid.end, behind, is, is_y))
+  word_apart j AvailEvent (WordOf k AvailFlags) is is_y other = inr (omega (arith, laid.avail, laid.used, laid.end, behind, is, is_y))
+  word_apart j AvailEvent (WordOf k UsedEvent) is is_y other = inr (omega (arith, laid.avail, laid.used, laid.end, behind, is, is_y))
+  word_apart j AvailEvent (WordOf k UsedFlags) is is_y other = inr (omega (arith, laid.avail, laid.used, laid.end, behind, is, is_y))
+  word_apart j AvailEvent (WordOf k AvailEvent) is is_y other = absurd other
+
+  turned : {A B : Type 0} → A ⊎ B → B ⊎ A
+  turned (inl x) = inr x
+  turned (inr x) = inl x
+
   pub apart : (x y : Spot) → IsSpot n x → IsSpot n y → Differs x y
       → (spot_at a at x + spot_len x ≤ spot_at a at y) ⊎ (spot_at a at y + spot_len y ≤ spot_at a at x)
   apart (Describing j) (Describing k) is_x is_y other = ordered j k 16 (a.desc) other
@@ -121,6 +182,13 @@ module _ (n : ℕ) (a : Areas) (at : ℕ) (laid : IsAreaLaid n a) (behind : a.en
   apart (PageOf j) UsedIdx is_x is_y other = inr (omega (arith, laid.avail, laid.used, laid.end, behind))
   apart (PageOf j) (Elem k) is_x is_y other = inr (omega (arith, laid.avail, laid.used, laid.end, behind, is_y))
   apart (PageOf j) (PageOf k) is_x is_y other = ordered j k 4096 (at) other
+  apart (WordOf j w) y is_x is_y other = word_apart j w y is_x is_y other
+  apart (Describing j) (WordOf k w) is_x is_y other = turned (word_apart k w (Describing j) is_y is_x tt)
+  apart AvailIdx (WordOf k w) is_x is_y other = turned (word_apart k w AvailIdx is_y is_x tt)
+  apart (Entry j) (WordOf k w) is_x is_y other = turned (word_apart k w (Entry j) is_y is_x tt)
+  apart UsedIdx (WordOf k w) is_x is_y other = turned (word_apart k w UsedIdx is_y is_x tt)
+  apart (Elem j) (WordOf k w) is_x is_y other = turned (word_apart k w (Elem j) is_y is_x tt)
+  apart (PageOf j) (WordOf k w) is_x is_y other = turned (word_apart k w (PageOf j) is_y is_x tt)
 
   -- it lies in the areas or among the pages
   pub within : (x : Spot) → IsSpot n x
@@ -132,6 +200,10 @@ module _ (n : ℕ) (a : Areas) (at : ℕ) (laid : IsAreaLaid n a) (behind : a.en
   within UsedIdx is_x = inl (omega (arith, laid.avail, laid.used, laid.end), omega (arith, laid.avail, laid.used, laid.end))
   within (Elem k) is_x = inl (omega (arith, laid.avail, laid.used, laid.end), omega (arith, laid.avail, laid.used, laid.end, is_x))
   within (PageOf k) is_x = inr (omega arith, omega (arith, is_x))
+  within (WordOf k AvailFlags) is_x = inl (omega (arith, laid.avail, laid.used, laid.end), omega (arith, laid.avail, laid.used, laid.end, is_x))
+  within (WordOf k UsedEvent) is_x = inl (omega (arith, laid.avail, laid.used, laid.end), omega (arith, laid.avail, laid.used, laid.end, is_x))
+  within (WordOf k UsedFlags) is_x = inl (omega (arith, laid.avail, laid.used, laid.end), omega (arith, laid.avail, laid.used, laid.end, is_x))
+  within (WordOf k AvailEvent) is_x = inl (omega (arith, laid.avail, laid.used, laid.end), omega (arith, laid.avail, laid.used, laid.end, is_x))
 
 -- What stands in every other spot of a queue of n places is what stood there.
 pub record Untouched (n : ℕ) (xs : List Spot) (s new : Shown) : Type 0 where
@@ -141,6 +213,7 @@ pub record Untouched (n : ℕ) (xs : List Spot) (s new : Shown) : Type 0 where
   pub used : DiffersAll xs UsedIdx → new.used ≡ s.used
   pub elem : (k : ℕ) → k < n → DiffersAll xs (Elem k) → new.elem k ≡ s.elem k
   pub page : (k c : ℕ) → k < n → c ≤ 4096 → DiffersAll xs (PageOf k) → new.page k c ≡ s.page k c
+  pub word : (w : Word) → DiffersAll xs (WordOf n w) → new.word n w ≡ s.word n w
 
 pub untouched_then : (n : ℕ) (x : Spot) (xs : List Spot) (s middle new : Shown) → Untouched n (x ∷ []) s middle → Untouched n xs middle new
     → Untouched n (x ∷ xs) s new
@@ -151,6 +224,7 @@ untouched_then n x xs s middle new one more = record {
   used = λ other. more.used other.1 ∙ one.used (other.0, tt);
   elem = λ k is other. more.elem k is other.1 ∙ one.elem k is (other.0, tt);
   page = λ k c is few other. more.page k c is few other.1 ∙ one.page k c is few (other.0, tt);
+  word = λ w other. more.word w other.1 ∙ one.word w (other.0, tt);
 }
 
 pub untouched_both : (n : ℕ) (s middle new : Shown) → Untouched n [] s middle → Untouched n [] middle new → Untouched n [] s new
@@ -161,6 +235,7 @@ untouched_both n s middle new one more = record {
   used = λ other. more.used tt ∙ one.used tt;
   elem = λ k is other. more.elem k is tt ∙ one.elem k is tt;
   page = λ k c is few other. more.page k c is few tt ∙ one.page k c is few tt;
+  word = λ w other. more.word w tt ∙ one.word w tt;
 }
 
 pub untouched_same : (n : ℕ) (s new : Shown) → new ≡ s → Untouched n [] s new
@@ -171,6 +246,7 @@ untouched_same n s new same = record {
   used = λ other. ap (λ (x : Shown). x.used) same;
   elem = λ k is other. ap (λ (x : Shown). x.elem k) same;
   page = λ k c is few other. ap (λ (x : Shown). x.page k c) same;
+  word = λ w other. ap (λ (x : Shown). x.word n w) same;
 }
 
 -- the same bytes are seen in the same way
@@ -258,7 +334,7 @@ module _ (n : ℕ) (areas : Queue → Areas) (at : Queue → ℕ) (m : Memory) (
         turned (inl before) = inr before
         turned (inr after) = inl after
 
-    own : (y : Spot) → IsSpot n y → Differs x y → (b k : ℕ) → spot_at (areas q) (at q) y ≤ b
+    pub own : (y : Spot) → IsSpot n y → Differs x y → (b k : ℕ) → spot_at (areas q) (at q) y ≤ b
         → b + k ≤ spot_at (areas q) (at q) y + spot_len y
         → bytes_at new b k ≡ bytes_at m b k
     own y is_y other b k from_b to_b =
@@ -272,6 +348,7 @@ module _ (n : ℕ) (areas : Queue → Areas) (at : Queue → ℕ) (m : Memory) (
       used = λ other. ap (little_number 2) (own UsedIdx tt other.0 _ 2 (omega arith) (omega arith));
       elem = λ k is other. ap used_elem_of (own (Elem k) is other.0 _ 8 (omega arith) (omega arith));
       page = λ k c is few other. own (PageOf k) is other.0 _ c (omega arith) (omega (arith, few));
+      word = λ w other. ap (little_number 2) (own (WordOf n w) refl other.0 _ 2 (omega arith) (omega arith));
     }
 
     pub untouched_other : (r : Queue) → same_queue q r ≡ false → Untouched n [] (shown (areas r) (at r) m) (shown (areas r) (at r) new)
@@ -282,6 +359,7 @@ module _ (n : ℕ) (areas : Queue → Areas) (at : Queue → ℕ) (m : Memory) (
       used = λ _. ap (little_number 2) (unread r UsedIdx tt _ 2 (omega arith) (omega arith) (across q r other x UsedIdx is_x tt));
       elem = λ k is _. ap used_elem_of (unread r (Elem k) is _ 8 (omega arith) (omega arith) (across q r other x (Elem k) is_x is));
       page = λ k c is few _. unread r (PageOf k) is _ c (omega arith) (omega (arith, few)) (across q r other x (PageOf k) is_x is);
+      word = λ w _. ap (little_number 2) (unread r (WordOf n w) refl _ 2 (omega arith) (omega arith) (across q r other x (WordOf n w) is_x refl));
     }
 
 -- the pieces lie where they lay
@@ -308,4 +386,5 @@ untouched_none n xs s = record {
   used = λ other. refl;
   elem = λ k is other. refl;
   page = λ k c is few other. refl;
+  word = λ w other. refl;
 }

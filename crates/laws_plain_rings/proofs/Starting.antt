@@ -6,7 +6,7 @@ use Rattle.std.proofs.lemmas.Bool.Decides.{eqb_tells, nat_tests}
 use Rattle.std.proofs.lemmas.List.{length-replicate}
 use Rattle.std.proofs.lemmas.List.FromFn.{length-range_with_len}
 use Rattle.byteorder.specs.Endian.{little_number}
-use Rattle.vs_guest_mem.specs.Memory.{Change, Memory, after_write}
+use Rattle.vs_guest_mem.specs.Memory.{Change, Memory, after_write, bytes_at}
 use Rattle.vs_layout.specs.Layout.{queue_areas_of}
 use Rattle.vs_layout.specs.declared.place.Areas.{Areas}
 use Rattle.vs_layout.specs.declared.placement.QueueAreas.{QueueAreas}
@@ -14,14 +14,16 @@ use Rattle.vs_ring_port.specs.Chains.{same_queue}
 use Rattle.vs_ring_port.specs.declared.queue.Queue.{Queue}
 use Rattle.vs_ring_port.specs.declared.queue.Queue.TheVariants.{Rx, Tx, Event}
 use Rattle.vs_ring_list.specs.Ends.{empty_ends}
-use Rattle.vs_ring_plain.specs.Device.{areas_at, new_device}
-use Rattle.laws_plain_rings.specs.Parts.{PartsState, cleared_queue, driver_at, new_parts, new_queue, pages_behind, pages_start}
-use Rattle.laws_plain_rings.specs.{Queue.IsQueueTied, Queue.times, Shown.Shown, Shown.shown}
+use Rattle.vs_ring_plain.specs.Device.{areas_at, cleared_used, new_device}
+use Rattle.vs_plain_driver.specs.Queue.{cleared_avail}
+use Rattle.laws_plain_rings.specs.Parts.{PartsState, driver_at, new_parts, new_queue, pages_behind, pages_start}
+use Rattle.laws_plain_rings.specs.{Queue.IsQueueTied, Queue.times}
+use Rattle.laws_plain_rings.specs.Shown.{AvailEvent, AvailFlags, Shown, UsedEvent, UsedFlags, Word, shown}
 use Rattle.laws_plain_rings.specs.{Tie.AreTied, Tie.IsAreaLaid, Tie.IsLaid, Tie.IsTiedAt, Tie.IsTiedTo, Tie.start_of, Exposed.first_ends}
 use Rattle.laws_plain_rings.proofs.{Assemble.laid_from, Counting.times-cons, Counting.times-other, Counting.times-self}
 use Rattle.laws_plain_rings.proofs.{Frames.length_written, Frames.written, Modulo.mod_small}
-use Rattle.laws_plain_rings.proofs.Spots.{AvailIdx, UsedIdx, Untouched, high, laid_same, low, untouched_other, untouched_own}
-use Rattle.laws_plain_rings.proofs.Spots.{untouched_both}
+use Rattle.laws_plain_rings.proofs.Spots.{AvailIdx, Differs, DiffersAll, IsSpot, Spot, Untouched, UsedIdx, WordOf, high, laid_same, low, own}
+use Rattle.laws_plain_rings.proofs.Spots.{spot_at, spot_len, untouched_both, untouched_other, untouched_own, untouched_then}
 
 -- the numbers below n, each once
 no_less : (j a k : ℕ) → j < a → times j (range_with_len a k) ≡ 0
@@ -55,63 +57,186 @@ under_all j a (suc k) some = by (λ more. under_all j (a + 1) k more) (eqb_tells
         let none : times j (a ∷ []) ≡ 0 = times-other j a (λ same. differs (sym same)) in
         omega (arith, rest (omega (arith, some, none, times-cons j a (range_with_len (a + 1) k))))
 
--- both indices of a queue are set to 0
-module _ (n : ℕ) (areas : Queue → Areas) (at : Queue → ℕ) (m : Memory) (laid : IsLaid n areas at m) (q : Queue) where
+-- three words of a queue are set to 0
+module _ (n : ℕ) (areas : Queue → Areas) (at : Queue → ℕ) (m : Memory) (laid : IsLaid n areas at m) (q : Queue) (x y z : Spot)
+    (is_x : IsSpot n x) (is_y : IsSpot n y) (is_z : IsSpot n z) (two_x : spot_len x ≡ 2) (two_y : spot_len y ≡ 2) (two_z : spot_len z ≡ 2) where
   abbrev zeros : List ℕ
   zeros = 0 ∷ 0 ∷ []
 
-  abbrev A : ℕ
-  A = (areas q).avail + 2
+  abbrev X : ℕ
+  X = spot_at (areas q) (at q) x
 
-  abbrev U : ℕ
-  U = (areas q).used + 2
+  abbrev Y : ℕ
+  Y = spot_at (areas q) (at q) y
+
+  abbrev Z : ℕ
+  Z = spot_at (areas q) (at q) z
 
   abbrev m1 : Memory
-  m1 = after_write m A zeros
+  m1 = after_write m X zeros
 
   abbrev m2 : Memory
-  m2 = after_write m1 U zeros
+  m2 = after_write m1 Y zeros
 
-  low_A : m.base ≤ A
-  low_A = low n areas at m laid q AvailIdx tt A zeros (omega arith) (omega arith)
+  abbrev m3 : Memory
+  m3 = after_write m2 Z zeros
 
-  high_A : A + 2 ≤ m.base + length m.bytes
-  high_A = high n areas at m laid q AvailIdx tt A zeros (omega arith) (omega arith)
+  low_X : m.base ≤ X
+  low_X = low n areas at m laid q x is_x X zeros (omega arith) (omega (arith, two_x))
+
+  high_X : X + 2 ≤ m.base + length m.bytes
+  high_X = high n areas at m laid q x is_x X zeros (omega arith) (omega (arith, two_x))
 
   size1 : length m1.bytes ≡ length m.bytes
-  size1 = length_written m A zeros low_A high_A
+  size1 = length_written m X zeros low_X high_X
 
   laid1 : IsLaid n areas at m1
   laid1 = laid_same n areas at m m1 refl size1 laid
 
-  low_U : m1.base ≤ U
-  low_U = low n areas at m1 laid1 q UsedIdx tt U zeros (omega arith) (omega arith)
+  low_Y : m1.base ≤ Y
+  low_Y = low n areas at m1 laid1 q y is_y Y zeros (omega arith) (omega (arith, two_y))
 
-  high_U : U + 2 ≤ m1.base + length m1.bytes
-  high_U = high n areas at m1 laid1 q UsedIdx tt U zeros (omega arith) (omega arith)
+  high_Y : Y + 2 ≤ m1.base + length m1.bytes
+  high_Y = high n areas at m1 laid1 q y is_y Y zeros (omega arith) (omega (arith, two_y))
 
-  pub clear_size : length (cleared_queue (areas q) m).bytes ≡ length m.bytes
-  clear_size = length_written m1 U zeros low_U high_U ∙ size1
+  size2 : length m2.bytes ≡ length m1.bytes
+  size2 = length_written m1 Y zeros low_Y high_Y
 
-  pub clear_laid : IsLaid n areas at (cleared_queue (areas q) m)
-  clear_laid = laid_same n areas at m m2 refl clear_size laid
+  laid2 : IsLaid n areas at m2
+  laid2 = laid_same n areas at m1 m2 refl size2 laid1
 
-  pub clear_avail : (shown (areas q) (at q) (cleared_queue (areas q) m)).avail ≡ 0
-  clear_avail =
-      (untouched_own n areas at m1 laid1 q UsedIdx tt U zeros (omega arith) (omega arith)).avail (tt, tt)
-      ∙ ap (little_number 2) (written m A zeros low_A high_A)
+  low_Z : m2.base ≤ Z
+  low_Z = low n areas at m2 laid2 q z is_z Z zeros (omega arith) (omega (arith, two_z))
 
-  pub clear_used : (shown (areas q) (at q) (cleared_queue (areas q) m)).used ≡ 0
-  clear_used = ap (little_number 2) (written m1 U zeros low_U high_U)
+  high_Z : Z + 2 ≤ m2.base + length m2.bytes
+  high_Z = high n areas at m2 laid2 q z is_z Z zeros (omega arith) (omega (arith, two_z))
 
-  pub clear_other : (r : Queue) → same_queue q r ≡ false
-      → Untouched n [] (shown (areas r) (at r) m) (shown (areas r) (at r) (cleared_queue (areas q) m))
-  clear_other r other =
-      untouched_both n _ _ _ (untouched_other n areas at m laid q AvailIdx tt A zeros (omega arith) (omega arith) r other)
-      (untouched_other n areas at m1 laid1 q UsedIdx tt U zeros (omega arith) (omega arith) r other)
+  three_laid : IsLaid n areas at m3
+  three_laid = laid_same n areas at m2 m3 refl (length_written m2 Z zeros low_Z high_Z) laid2
+
+  three_own : Untouched n (x ∷ y ∷ z ∷ []) (shown (areas q) (at q) m) (shown (areas q) (at q) m3)
+  three_own =
+      untouched_then n x (y ∷ z ∷ []) _ _ _ (untouched_own n areas at m laid q x is_x X zeros (omega arith) (omega (arith, two_x)))
+      (untouched_then n y (z ∷ []) _ _ _ (untouched_own n areas at m1 laid1 q y is_y Y zeros (omega arith) (omega (arith, two_y)))
+      (untouched_own n areas at m2 laid2 q z is_z Z zeros (omega arith) (omega (arith, two_z))))
+
+  three_other : (r : Queue) → same_queue q r ≡ false → Untouched n [] (shown (areas r) (at r) m) (shown (areas r) (at r) m3)
+  three_other r other =
+      untouched_both n _ _ _ (untouched_other n areas at m laid q x is_x X zeros (omega arith) (omega (arith, two_x)) r other)
+      (untouched_both n _ _ _ (untouched_other n areas at m1 laid1 q y is_y Y zeros (omega arith) (omega (arith, two_y)) r other)
+      (untouched_other n areas at m2 laid2 q z is_z Z zeros (omega arith) (omega (arith, two_z)) r other))
+
+  zero_Z : bytes_at m3 Z 2 ≡ zeros
+  zero_Z = written m2 Z zeros low_Z high_Z
+
+  zero_Y : Differs z y → bytes_at m3 Y 2 ≡ zeros
+  zero_Y other =
+      own n areas at m2 laid2 q z is_z Z zeros (omega arith) (omega (arith, two_z)) y is_y other Y 2 (omega arith) (omega (arith, two_y))
+      ∙ written m1 Y zeros low_Y high_Y
+
+  zero_X : Differs z x → Differs y x → bytes_at m3 X 2 ≡ zeros
+  zero_X other before =
+      own n areas at m2 laid2 q z is_z Z zeros (omega arith) (omega (arith, two_z)) x is_x other X 2 (omega arith) (omega (arith, two_x))
+      ∙ own n areas at m1 laid1 q y is_y Y zeros (omega arith) (omega (arith, two_y)) x is_x before X 2 (omega arith) (omega (arith, two_x))
+      ∙ written m X zeros low_X high_X
+
+-- what the driver wrote, and what the device wrote
+record IsAvailClear (n : ℕ) (s : Shown) : Type 0 where
+  pub flags : s.word n AvailFlags ≡ 0
+  pub index : s.avail ≡ 0
+  pub event : s.word n UsedEvent ≡ 0
+
+record IsUsedClear (n : ℕ) (s : Shown) : Type 0 where
+  pub flags : s.word n UsedFlags ≡ 0
+  pub index : s.used ≡ 0
+  pub event : s.word n AvailEvent ≡ 0
+
+avail_kept : (n : ℕ) (xs : List Spot) (s new : Shown) → Untouched n xs s new → DiffersAll xs (WordOf n AvailFlags) → DiffersAll xs AvailIdx
+    → DiffersAll xs (WordOf n UsedEvent) → IsAvailClear n s → IsAvailClear n new
+avail_kept n xs s new u flags index event clear = record {
+  flags = u.word AvailFlags flags ∙ clear.flags;
+  index = u.avail index ∙ clear.index;
+  event = u.word UsedEvent event ∙ clear.event;
+}
+
+used_kept : (n : ℕ) (s new : Shown) → Untouched n [] s new → IsUsedClear n s → IsUsedClear n new
+used_kept n s new u clear = record {
+  flags = u.word UsedFlags tt ∙ clear.flags;
+  index = u.used tt ∙ clear.index;
+  event = u.word AvailEvent tt ∙ clear.event;
+}
+
+all_words : (n : ℕ) (s : Shown) → IsAvailClear n s → IsUsedClear n s → (w : Word) → s.word n w ≡ 0
+all_words n s avail used AvailFlags = avail.flags
+all_words n s avail used UsedEvent = avail.event
+all_words n s avail used UsedFlags = used.flags
+all_words n s avail used AvailEvent = used.event
+
+module _ (n : ℕ) (areas : Queue → Areas) (at : Queue → ℕ) (m : Memory) (laid : IsLaid n areas at m) (q : Queue) where
+  abbrev flags_a : Spot
+  flags_a = WordOf n AvailFlags
+
+  abbrev event_a : Spot
+  event_a = WordOf n UsedEvent
+
+  abbrev flags_u : Spot
+  flags_u = WordOf n UsedFlags
+
+  abbrev event_u : Spot
+  event_u = WordOf n AvailEvent
+
+  abbrev avail_after : Memory
+  avail_after = cleared_avail (areas q) n m
+
+  abbrev used_after : Memory
+  used_after = cleared_used (areas q) n m
+
+  avail_laid : IsLaid n areas at avail_after
+  avail_laid = three_laid n areas at m laid q flags_a AvailIdx event_a refl tt refl refl refl refl
+
+  avail_other : (r : Queue) → same_queue q r ≡ false → Untouched n [] (shown (areas r) (at r) m) (shown (areas r) (at r) avail_after)
+  avail_other = three_other n areas at m laid q flags_a AvailIdx event_a refl tt refl refl refl refl
+
+  avail_clear : IsAvailClear n (shown (areas q) (at q) avail_after)
+  avail_clear = record {
+    flags = ap (little_number 2) (zero_X n areas at m laid q flags_a AvailIdx event_a refl tt refl refl refl refl tt tt);
+    index = ap (little_number 2) (zero_Y n areas at m laid q flags_a AvailIdx event_a refl tt refl refl refl refl tt);
+    event = ap (little_number 2) (zero_Z n areas at m laid q flags_a AvailIdx event_a refl tt refl refl refl refl);
+  }
+
+  used_laid : IsLaid n areas at used_after
+  used_laid = three_laid n areas at m laid q flags_u UsedIdx event_u refl tt refl refl refl refl
+
+  used_other : (r : Queue) → same_queue q r ≡ false → Untouched n [] (shown (areas r) (at r) m) (shown (areas r) (at r) used_after)
+  used_other = three_other n areas at m laid q flags_u UsedIdx event_u refl tt refl refl refl refl
+
+  used_clear : IsUsedClear n (shown (areas q) (at q) used_after)
+  used_clear = record {
+    flags = ap (little_number 2) (zero_X n areas at m laid q flags_u UsedIdx event_u refl tt refl refl refl refl tt tt);
+    index = ap (little_number 2) (zero_Y n areas at m laid q flags_u UsedIdx event_u refl tt refl refl refl refl tt);
+    event = ap (little_number 2) (zero_Z n areas at m laid q flags_u UsedIdx event_u refl tt refl refl refl refl);
+  }
+
+  -- each leaves the other ring, and other queues, alone
+  avail_beside : (r : Queue) → same_queue q r ≡ false → IsAvailClear n (shown (areas r) (at r) m)
+      → IsAvailClear n (shown (areas r) (at r) avail_after)
+  avail_beside r other clear = avail_kept n [] _ _ (avail_other r other) tt tt tt clear
+
+  used_across : IsAvailClear n (shown (areas q) (at q) m) → IsAvailClear n (shown (areas q) (at q) used_after)
+  used_across clear =
+      avail_kept n (flags_u ∷ UsedIdx ∷ event_u ∷ []) _ _ (three_own n areas at m laid q flags_u UsedIdx event_u refl tt refl refl refl refl)
+      (tt, (tt, (tt, tt))) (tt, (tt, (tt, tt))) (tt, (tt, (tt, tt))) clear
+
+  avail_past : (r : Queue) → same_queue q r ≡ false → IsAvailClear n (shown (areas r) (at r) m)
+      → IsAvailClear n (shown (areas r) (at r) used_after)
+  avail_past r other clear = avail_kept n [] _ _ (used_other r other) tt tt tt clear
+
+  used_past : (r : Queue) → same_queue q r ≡ false → IsUsedClear n (shown (areas r) (at r) m)
+      → IsUsedClear n (shown (areas r) (at r) used_after)
+  used_past r other clear = used_kept n _ _ (used_other r other) clear
 
 -- one queue with no page in flight
-empty_tie : (queue : Queue) (n at : ℕ) (s : Shown) → 0 < n → s.avail ≡ 0 → s.used ≡ 0
+empty_tie : (queue : Queue) (n at : ℕ) (s : Shown) → 0 < n → IsAvailClear n s → IsUsedClear n s
     → IsQueueTied queue n at s (new_queue n (Some at)) (record { taken = 0; used = 0 }) [] [] (record {
       given = [];
       back = [];
@@ -125,15 +250,16 @@ empty_tie queue n at s nonzero avail used = record {
   free = λ id some. omega (arith, under_all id 0 n some);
   pages = λ id some. absurd (omega (arith, some));
   staged_count = refl;
-  avail = avail;
+  avail = avail.index;
   published = refl;
   taken = refl;
-  used = used;
+  used = used.index;
   returned = refl;
   small = omega arith;
   place = sym (mod_small 0 n nonzero);
   given_out = tt;
   back_is = tt;
+  words = all_words n s avail used;
 }
 
 -- where the pages begin
@@ -237,37 +363,65 @@ module _ (m : Memory) (base n at : ℕ) (indirect : Bool) (nonzero : 0 < n) (lim
       apart_pages Event Tx other = inr (omega arith)
       apart_pages Event Event other = absurd (true≢false other)
 
+  abbrev given_rx : Memory
+  given_rx = cleared_avail all.rx n m
+
+  abbrev given_tx : Memory
+  given_tx = cleared_avail all.tx n given_rx
+
+  abbrev given_all : Memory
+  given_all = cleared_avail all.event n given_tx
+
   abbrev after_rx : Memory
-  after_rx = cleared_queue all.rx m
+  after_rx = cleared_used all.rx n given_all
 
   abbrev after_tx : Memory
-  after_tx = cleared_queue all.tx after_rx
+  after_tx = cleared_used all.tx n after_rx
 
   abbrev after_all : Memory
-  after_all = cleared_queue all.event after_tx
+  after_all = cleared_used all.event n after_tx
+
+  laid_given_rx : IsLaid n areas start given_rx
+  laid_given_rx = avail_laid n areas start m laid Rx
+
+  laid_given_tx : IsLaid n areas start given_tx
+  laid_given_tx = avail_laid n areas start given_rx laid_given_rx Tx
+
+  laid_given : IsLaid n areas start given_all
+  laid_given = avail_laid n areas start given_tx laid_given_tx Event
 
   laid_rx : IsLaid n areas start after_rx
-  laid_rx = clear_laid n areas start m laid Rx
+  laid_rx = used_laid n areas start given_all laid_given Rx
 
   laid_tx : IsLaid n areas start after_tx
-  laid_tx = clear_laid n areas start after_rx laid_rx Tx
+  laid_tx = used_laid n areas start after_rx laid_rx Tx
 
   laid_all : IsLaid n areas start after_all
-  laid_all = clear_laid n areas start after_tx laid_tx Event
+  laid_all = used_laid n areas start after_tx laid_tx Event
 
-  avail : (q : Queue) → (shown (areas q) (start q) after_all).avail ≡ 0
+  avail : (q : Queue) → IsAvailClear n (shown (areas q) (start q) after_all)
   avail Rx =
-      (clear_other n areas start after_tx laid_tx Event Rx refl).avail tt ∙ (clear_other n areas start after_rx laid_rx Tx Rx refl).avail tt
-      ∙ clear_avail n areas start m laid Rx
-  avail Tx = (clear_other n areas start after_tx laid_tx Event Tx refl).avail tt ∙ clear_avail n areas start after_rx laid_rx Tx
-  avail Event = clear_avail n areas start after_tx laid_tx Event
+      avail_past n areas start after_tx laid_tx Event Rx refl
+      (avail_past n areas start after_rx laid_rx Tx Rx refl
+      (used_across n areas start given_all laid_given Rx
+      (avail_beside n areas start given_tx laid_given_tx Event Rx refl
+      (avail_beside n areas start given_rx laid_given_rx Tx Rx refl (avail_clear n areas start m laid Rx)))))
+  avail Tx =
+      avail_past n areas start after_tx laid_tx Event Tx refl
+      (used_across n areas start after_rx laid_rx Tx
+      (avail_past n areas start given_all laid_given Rx Tx refl
+      (avail_beside n areas start given_tx laid_given_tx Event Tx refl (avail_clear n areas start given_rx laid_given_rx Tx))))
+  avail Event =
+      used_across n areas start after_tx laid_tx Event
+      (avail_past n areas start after_rx laid_rx Tx Event refl
+      (avail_past n areas start given_all laid_given Rx Event refl (avail_clear n areas start given_tx laid_given_tx Event)))
 
-  used : (q : Queue) → (shown (areas q) (start q) after_all).used ≡ 0
+  used : (q : Queue) → IsUsedClear n (shown (areas q) (start q) after_all)
   used Rx =
-      (clear_other n areas start after_tx laid_tx Event Rx refl).used tt ∙ (clear_other n areas start after_rx laid_rx Tx Rx refl).used tt
-      ∙ clear_used n areas start m laid Rx
-  used Tx = (clear_other n areas start after_tx laid_tx Event Tx refl).used tt ∙ clear_used n areas start after_rx laid_rx Tx
-  used Event = clear_used n areas start after_tx laid_tx Event
+      used_past n areas start after_tx laid_tx Event Rx refl
+      (used_past n areas start after_rx laid_rx Tx Rx refl (used_clear n areas start given_all laid_given Rx))
+  used Tx = used_past n areas start after_tx laid_tx Event Tx refl (used_clear n areas start after_rx laid_rx Tx)
+  used Event = used_clear n areas start after_tx laid_tx Event
 
   abbrev made : PartsState
   made = record {

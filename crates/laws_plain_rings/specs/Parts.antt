@@ -1,17 +1,16 @@
 -- Both ends of standard rings as a plain value, and what each call makes of it.
-use Rattle.std.specs.Prelude.{ℕ, ◌+◌, ◌-◌, ◌*◌, ◌%◌, Bool, nat_le, List, [], ◌∷◌, length, replicate, Option, None, Some, if◌then◌else◌}
+use Rattle.std.specs.Prelude.{ℕ, ◌+◌, ◌-◌, ◌*◌, ◌%◌, Bool, nat_le, List, length, replicate, Option, None, Some, if◌then◌else◌}
 use Rattle.std.specs.List.{range_with_len}
-use Rattle.vs_guest_mem.specs.Memory.{Memory, after_write}
-use Rattle.vs_layout.specs.Layout.{avail_idx, queue_areas_of, used_idx}
-use Rattle.vs_layout.specs.declared.place.Areas.{Areas}
+use Rattle.vs_guest_mem.specs.Memory.{Memory}
+use Rattle.vs_layout.specs.Layout.{queue_areas_of}
 use Rattle.vs_layout.specs.declared.placement.QueueAreas.{QueueAreas}
 use Rattle.vs_page.specs.declared.page.TheConstants.{PAGE_LEN}
 use Rattle.vs_ring_port.specs.Counts.{Counts}
 use Rattle.vs_ring_port.specs.declared.queue.Queue.{Queue}
 use Rattle.vs_ring_port.specs.declared.queue.Queue.TheVariants.{Rx, Tx, Event}
-use Rattle.vs_ring_plain.specs.Device.{DeviceState, areas_at, new_device, with_memory}
-use Rattle.vs_plain_driver.specs.Queue.{DriverQueueState, flight_in, next_used, published_memory, published_queue, reaped_queue}
-use Rattle.vs_plain_driver.specs.Queue.{staged_memory, staged_queue}
+use Rattle.vs_ring_plain.specs.Device.{DeviceState, areas_at, cleared_used, new_device, with_memory}
+use Rattle.vs_plain_driver.specs.Queue.{DriverQueueState, cleared_avail, flight_in, next_used, published_memory, published_queue}
+use Rattle.vs_plain_driver.specs.Queue.{reaped_queue, staged_memory, staged_queue}
 
 -- The device's end with the memory, the driver's end of each queue, and the guest's CID.
 pub record PartsState : Type 0 where
@@ -69,12 +68,12 @@ abbrev pub pages_behind : Option ℕ → ℕ → Option ℕ
 pages_behind None more = None
 pages_behind (Some at) more = Some (at + more)
 
--- The memory in which no page was given or returned: both indices of a queue are 0.
-abbrev pub cleared_queue : Areas → Memory → Memory
-cleared_queue a m = after_write (after_write m (avail_idx a).at (0 ∷ 0 ∷ [])) (used_idx a).at (0 ∷ 0 ∷ [])
-
-abbrev pub cleared : QueueAreas → Memory → Memory
-cleared a m = cleared_queue a.event (cleared_queue a.tx (cleared_queue a.rx m))
+-- The memory in which no page was given or returned, and each end wants to be told of every one: of each queue the driver wrote its three
+-- words, then the device.
+abbrev pub cleared : QueueAreas → ℕ → Memory → Memory
+cleared a n m =
+    let driver = cleared_avail a.event n (cleared_avail a.tx n (cleared_avail a.rx n m)) in
+    cleared_used a.event n (cleared_used a.tx n (cleared_used a.rx n driver))
 
 abbrev pub new_queue : ℕ → Option ℕ → DriverQueueState
 new_queue n at =
@@ -86,7 +85,7 @@ new_parts m base n indirect cid =
     let areas = queue_areas_of base n in
     let pages = pages_start m areas.event.end n in
     record {
-      device = new_device (cleared areas m) n areas indirect;
+      device = new_device (cleared areas n m) n areas indirect;
       rx = new_queue n pages;
       tx = new_queue n (pages_behind pages (PAGE_LEN * n));
       event = new_queue n (pages_behind pages (2 * (PAGE_LEN * n)));

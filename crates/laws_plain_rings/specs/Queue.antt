@@ -6,7 +6,7 @@ use Rattle.vs_page.specs.declared.page.TheConstants.{PAGE_LEN}
 use Rattle.vs_ring_port.specs.{DriverCalls.HoldsPacket, Lists.Lists, declared.queue.Queue.Queue, declared.queue.Queue.TheVariants.Tx}
 use Rattle.vs_ring_plain.specs.declared.turns.Turns.{Turns}
 use Rattle.vs_plain_driver.specs.Queue.{DriverQueueState, desc_for}
-use Rattle.laws_plain_rings.specs.Shown.{Shown}
+use Rattle.laws_plain_rings.specs.Shown.{Shown, Word}
 
 -- How often a number stands in a list.
 abbrev pub times : ℕ → List ℕ → ℕ
@@ -47,7 +47,8 @@ abbrev pub HasPage : List (Option (List ℕ)) → ℕ → Type 0
 HasPage pages id = (page : List ℕ) × (slice_index_or pages id None ≡ Some page)
 
 -- A queue of n places whose pages lie from an address on. Each descriptor is free; or staged or given, `out`; or held by the device,
--- `heads`; or returned, `back`. The indices in the memory are those of both ends, and they count the pages in each list.
+-- `heads`; or returned, `back`. The indices in the memory are those of both ends, and they count the pages in each list. Flags and event
+-- words are 0: each end is told of every page.
 pub record IsQueueTied (queue : Queue) (n at : ℕ) (s : Shown) (q : DriverQueueState) (t : Turns) (heads : List ℕ) (staged : List (List ℕ))
     (l : Lists) (out back : List ℕ) : Type 0 where
   pub once : (id : ℕ) → times id q.free + times id out + times id heads + times id back ≤ 1
@@ -65,3 +66,4 @@ pub record IsQueueTied (queue : Queue) (n at : ℕ) (s : Shown) (q : DriverQueue
   pub place : l.place ≡ t.taken % n
   pub given_out : AreOut queue n at s t.taken (l.given ++ staged) out
   pub back_is : AreBack n s q.reaped l.back back
+  pub words : (w : Word) → s.word n w ≡ 0

@@ -8,7 +8,7 @@ use Rattle.vs_ring_port.specs.{Chains.Held, Chains.same_queue, EndLog.pages_at, 
 use Rattle.vs_ring_port.specs.declared.queue.{Queue.Queue, TheConstants.QUEUE_SIZE_MAX}
 use Rattle.vs_ring_list.specs.{Ends.Ends, Sound.IsTied}
 use Rattle.vs_ring_plain.specs.{Device.HeldChain, Device.areas_at, Device.turns_at, Still.IsStill}
-use Rattle.laws_plain_rings.specs.{Parts.PartsState, Parts.driver_at, Queue.IsQueueTied, Shown.Shown, Shown.shown}
+use Rattle.laws_plain_rings.specs.{Parts.PartsState, Parts.driver_at, Queue.IsQueueTied, Shown.Shown, Shown.Word, Shown.shown}
 
 -- The three areas of a queue of n places, one after another.
 pub record IsAreaLaid (n : ℕ) (a : Areas) : Type 0 where
@@ -61,6 +61,10 @@ areas_of p queue = areas_at queue p.device.areas
 
 abbrev pub shown_of : PartsState → Queue → Shown
 shown_of p queue = shown (areas_of p queue) (start_of p queue) p.device.memory
+
+-- Flags and event words of every queue are 0: each end wants to be told of every page.
+abbrev pub AreWordsZero : PartsState → Type 0
+AreWordsZero p = (queue : Queue) (w : Word) → (shown_of p queue).word p.device.size w ≡ 0
 
 -- One queue of both ends.
 abbrev pub IsTiedAt : PartsState → Ends → Queue → Type 0

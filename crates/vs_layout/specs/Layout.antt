@@ -18,6 +18,9 @@ used_area a n = record { at = a.used; len = 6 + 8 * n }
 abbrev pub desc_entry : Areas → ℕ → Span
 desc_entry a number = record { at = a.desc + 16 * number; len = 16 }
 
+abbrev pub avail_flags : Areas → Span
+avail_flags a = record { at = a.avail; len = 2 }
+
 abbrev pub avail_idx : Areas → Span
 avail_idx a = record { at = a.avail + 2; len = 2 }
 
@@ -26,6 +29,9 @@ avail_entry a place = record { at = a.avail + 4 + 2 * place; len = 2 }
 
 abbrev pub used_event : Areas → ℕ → Span
 used_event a n = record { at = a.avail + 4 + 2 * n; len = 2 }
+
+abbrev pub used_flags : Areas → Span
+used_flags a = record { at = a.used; len = 2 }
 
 abbrev pub used_idx : Areas → Span
 used_idx a = record { at = a.used + 2; len = 2 }

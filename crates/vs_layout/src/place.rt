@@ -23,9 +23,9 @@ use crate::span::Span;
 pub struct Areas {
     /// The descriptors.
     pub desc: u64,
-    /// The available ring.
+    /// The available ring, which its flags begin.
     pub avail: u64,
-    /// The used ring.
+    /// The used ring, which its flags begin.
     pub used: u64,
     /// The address behind the used ring.
     pub end: u64,

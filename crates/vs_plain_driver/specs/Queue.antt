@@ -6,7 +6,7 @@ use Rattle.byteorder.specs.Endian.{little_bytes, little_number}
 use Rattle.vs_guest_mem.specs.Memory.{Memory, after_write, bytes_at}
 use Rattle.vs_layout.specs.{declared.entry.Desc.Desc, declared.entry.TheConstants.WRITE, declared.entry.UsedElem.UsedElem}
 use Rattle.vs_layout.specs.Entry.{desc_bytes, used_elem_of}
-use Rattle.vs_layout.specs.Layout.{avail_entry, avail_idx, desc_entry, used_elem, used_idx}
+use Rattle.vs_layout.specs.Layout.{avail_entry, avail_flags, avail_idx, desc_entry, used_elem, used_event, used_idx}
 use Rattle.vs_layout.specs.declared.place.Areas.{Areas}
 use Rattle.vs_page.specs.declared.page.TheConstants.{PAGE_LEN}
 use Rattle.vs_ring_plain.specs.Chain.{ahead}
@@ -46,6 +46,14 @@ with_page (Some at) id page m = after_write m (at + PAGE_LEN * id) page
 abbrev pub page_back : Option ℕ → ℕ → ℕ → List ℕ → Memory → List ℕ
 page_back None id len page m = take len page
 page_back (Some at) id len page m = bytes_at m (at + PAGE_LEN * id) len
+
+-- The memory in which the driver gave no page of a queue of n places and wants to be told of each that is returned: flags, index and
+-- used_event of the available ring are 0.
+abbrev pub cleared_avail : Areas → ℕ → Memory → Memory
+cleared_avail a n m =
+    let flags = after_write m (avail_flags a).at (0 ∷ 0 ∷ []) in
+    let index = after_write flags (avail_idx a).at (0 ∷ 0 ∷ []) in
+    after_write index (used_event a n).at (0 ∷ 0 ∷ [])
 
 -- The descriptor that the next page gets.
 abbrev pub next_free : DriverQueueState → ℕ

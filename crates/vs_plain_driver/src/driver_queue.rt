@@ -9,6 +9,7 @@ ghost use Rattle.vs_layout.specs.{Entry.used_elem_of, Layout.used_elem, Layout.A
 ghost use Rattle.vs_ring_plain.specs.{Device.SamePlace, Device.areas_at, Device.with_memory, Take.whole};
 ghost use Rattle.vs_ring_port.specs.declared.queue.TheConstants.{QUEUE_SIZE_MAX};
 ghost use Rattle.vs_plain_driver.specs.Queue.{
+  cleared_avail,
   desc_for,
   flight_in,
   next_elem,
@@ -33,7 +34,7 @@ use std::marker::Model;
 use vs_layout::{Areas, Desc, UsedElem, WRITE};
 use vs_page::{PAGE_LEN, Page};
 use vs_ring_plain::device::DeviceSide;
-use vs_ring_port::Queue;
+use vs_ring_port::{DeviceRing, Queue};
 
 /// The driver's end of a queue of n descriptors (Virtio 1.2, section 2.7). Each descriptor has a page in the memory. A page gets the
 /// descriptor that has been free longest, so that descriptors come in order where the device returns pages in order.
@@ -64,27 +65,41 @@ impl Model for DriverQueue {
 }
 
 impl DriverQueue {
-    /// A queue of `n` descriptors with no page in flight, whose pages lie from `pages_at` on.
+    /// A queue with no page in flight, whose pages lie from `pages_at` on. What the driver owns of the available ring beside the entries is
+    /// written as it stands before the first call: flags, index and `used_event` are 0 (Virtio 1.2, sections 2.7.6 and 2.7.7).
     ///
     /// The only error is want of memory.
-    pub fn new(alloc: Global, n: u16, pages_at: Option<u64>) -> Result<DriverQueue, AllocError>
-        requires nonzero { 0 < n }
-        requires limit { n ≤ QUEUE_SIZE_MAX }
-        ensures { IfOk result (λ q. q ≡ record {
-          n = n;
+    pub fn new(
+        alloc: Global,
+        device: &mut DeviceSide,
+        queue: Queue,
+        pages_at: Option<u64>,
+    ) -> Result<DriverQueue, AllocError>
+        ensures queue { IfOk result (λ q. q ≡ record {
+          n = device.old.size;
           pages_at = pages_at;
-          pages = replicate n None;
-          free = range_with_len 0 n;
+          pages = replicate device.old.size None;
+          free = range_with_len 0 device.old.size;
           published = 0;
           staged = 0;
           reaped = 0;
         }) }
+        ensures memory { let d = device.old in
+            OnOk result (device.new ≡ with_memory d (cleared_avail (areas_at queue d.areas) d.size d.memory)) }
+        ensures place { SamePlace device.old device.new }
     {
+        let areas = areas_of(device, queue);
+        let n = device.size();
+        let pages = no_pages(alloc, n)?;
+        let free = all_numbers(alloc, n)?;
+        device.set(areas.avail, &[0, 0]);
+        device.set(areas.avail_idx_at(), &[0, 0]);
+        device.set(areas.used_event_at(n), &[0, 0]);
         Ok(DriverQueue {
             n,
             pages_at,
-            pages: no_pages(alloc, n)?,
-            free: all_numbers(alloc, n)?,
+            pages,
+            free,
             published: 0,
             staged: 0,
             reaped: 0,

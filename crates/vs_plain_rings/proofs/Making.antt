@@ -7,8 +7,11 @@ use Rattle.vs_guest_mem.specs.Memory.{Memory}
 use Rattle.vs_plain_driver.specs.{Queue.DriverQueueState, View.ArePagesIn}
 use Rattle.vs_layout.specs.Layout.{queue_areas_of}
 use Rattle.vs_layout.specs.declared.placement.QueueAreas.{QueueAreas}
-use Rattle.vs_ring_plain.specs.Device.{DeviceState, new_device, with_memory}
-use Rattle.laws_plain_rings.specs.Parts.{PartsState, cleared, cleared_queue, new_parts, new_queue, pages_behind, pages_start}
+use Rattle.vs_ring_plain.specs.Device.{DeviceState, areas_at, cleared_used, new_device, with_memory}
+use Rattle.vs_plain_driver.specs.Queue.{cleared_avail}
+use Rattle.vs_ring_port.specs.declared.queue.Queue.{Queue}
+use Rattle.vs_ring_port.specs.declared.queue.Queue.TheVariants.{Rx, Tx, Event}
+use Rattle.laws_plain_rings.specs.Parts.{PartsState, cleared, new_parts, new_queue, pages_behind, pages_start}
 use Rattle.vs_plain_rings.specs.View.{AreInOrder}
 
 -- n pages, k bytes behind the first of 3n, lie in the memory
@@ -47,19 +50,31 @@ order_new m end n p from size base bytes rx tx event cid = record {
   high = omega (arith, cid);
 }
 
+-- a queue's size is that of the device
+pub sized : (q : DriverQueueState) (k n : ℕ) (o : Option ℕ) → q ≡ new_queue k o → k ≡ n → q ≡ new_queue n o
+sized q k n o is same = is ∙ ap (λ j. new_queue j o) same
+
+-- each end wrote its words of a queue
+abbrev given_to : Queue → DeviceState → DeviceState
+given_to queue d = with_memory d (cleared_avail (areas_at queue d.areas) d.size d.memory)
+
+abbrev used_by : Queue → DeviceState → DeviceState
+used_by queue d = with_memory d (cleared_used (areas_at queue d.areas) d.size d.memory)
+
 -- what is made of the parts
-pub made : (m : Memory) (base n : ℕ) (indirect : Bool) (areas : QueueAreas) (d0 d1 d2 d3 : DeviceState) (rx tx event : DriverQueueState)
-    → areas ≡ queue_areas_of base n → d0 ≡ new_device m n areas indirect → d1 ≡ with_memory d0 (cleared_queue areas.rx d0.memory)
-    → d2 ≡ with_memory d1 (cleared_queue areas.tx d1.memory) → d3 ≡ with_memory d2 (cleared_queue areas.event d2.memory)
-    → let pages = pages_start m (queue_areas_of base n).event.end n in
+pub made : (m : Memory) (base n : ℕ) (indirect : Bool) (areas : QueueAreas) (d0 d1 d2 d3 d4 d5 d6 : DeviceState)
+    (rx tx event : DriverQueueState)
+    → areas ≡ queue_areas_of base n → d0 ≡ new_device m n areas indirect → d1 ≡ given_to Rx d0 → d2 ≡ given_to Tx d1
+    → d3 ≡ given_to Event d2
+    → d4 ≡ used_by Rx d3 → d5 ≡ used_by Tx d4 → d6 ≡ used_by Event d5 → let pages = pages_start m (queue_areas_of base n).event.end n in
     rx ≡ new_queue n pages → tx ≡ new_queue n (pages_behind pages (4096 * n)) → event ≡ new_queue n (pages_behind pages (2 * (4096 * n)))
-    → let p : PartsState = record { device = d3; rx = rx; tx = tx; event = event; cid = 3 } in p ≡ new_parts m base n indirect 3
-made m base n indirect areas d0 d1 d2 d3 rx tx event is is0 is1 is2 is3 is_rx is_tx is_event =
+    → let p : PartsState = record { device = d6; rx = rx; tx = tx; event = event; cid = 3 } in p ≡ new_parts m base n indirect 3
+made m base n indirect areas d0 d1 d2 d3 d4 d5 d6 rx tx event is is0 is1 is2 is3 is4 is5 is6 is_rx is_tx is_event =
     let of : DeviceState → DriverQueueState → DriverQueueState → DriverQueueState → PartsState =
     λ d a b c. record { device = d; rx = a; tx = b; event = c; cid = 3 } in
-    let device : d3 ≡ new_device (cleared areas m) n areas indirect =
-    is3 ∙ ap (λ (d : DeviceState). with_memory d (cleared_queue areas.event d.memory))
-    (is2 ∙ ap (λ (d : DeviceState). with_memory d (cleared_queue areas.tx d.memory))
-    (is1 ∙ ap (λ (d : DeviceState). with_memory d (cleared_queue areas.rx d.memory)) is0)) in
-    ap₂ (λ d a. of d a tx event) (device ∙ ap (λ (a : QueueAreas). new_device (cleared a m) n a indirect) is) is_rx
+    let device : d6 ≡ new_device (cleared areas n m) n areas indirect =
+    is6
+    ∙ ap (used_by Event) (is5 ∙ ap (used_by Tx) (is4 ∙ ap (used_by Rx) (is3 ∙ ap (given_to Event) (is2 ∙ ap (given_to Tx)
+    (is1 ∙ ap (given_to Rx) is0))))) in
+    ap₂ (λ d a. of d a tx event) (device ∙ ap (λ (a : QueueAreas). new_device (cleared a n m) n a indirect) is) is_rx
     ∙ ap₂ (of _ _) is_tx is_event

@@ -3,16 +3,13 @@ ghost use Rattle.std.specs.Prelude.{◌≡◌, ◌<◌, ◌≤◌, ◌+◌, ◌-
 ghost use Rattle.std.specs.Prelude.{IfSome, None, Some, nat_le, if◌then◌else◌, IsTrue, is_ok};
 ghost use Rattle.vs_limits.specs.declared.TheConstants.{GUEST_CID_MIN, GUEST_CID_MAX};
 ghost use Rattle.vs_guest_mem.specs.Memory.{after_write, is_inside};
-ghost use Rattle.vs_layout.specs.Layout.{AreInside, queue_areas_of};
+ghost use Rattle.vs_layout.specs.Layout.{queue_areas_of};
 ghost use Rattle.vs_page.specs.declared.page.TheConstants.{PAGE_LEN};
 ghost use Rattle.vs_ring_port.specs.declared.queue.TheConstants.{QUEUE_SIZE_MAX};
 ghost use Rattle.vs_ring_port.specs.Contents.{Take, Read, Write, Return, Given};
-ghost use Rattle.vs_ring_plain.specs.Device.{SamePlace, with_memory, answer_to, areas_at, chains_held, with_change};
-ghost use Rattle.vs_ring_plain.specs.Take.{whole};
+ghost use Rattle.vs_ring_plain.specs.Device.{answer_to, areas_at, chains_held, with_change};
 ghost use Rattle.vs_plain_driver.specs.Queue.{flight_in, reaped_page};
 ghost use Rattle.laws_plain_rings.specs.Parts.{
-  cleared,
-  cleared_queue,
   driver_at,
   new_parts,
   pages_behind,
@@ -27,7 +24,7 @@ ghost use Rattle.laws_plain_rings.specs.Parts.{
 use std::alloc::{AllocError, Global};
 use std::marker::Model;
 use vs_guest_mem::{AddrRange, PlainMem};
-use vs_layout::{Areas, QueueAreas, queue_areas};
+use vs_layout::queue_areas;
 use vs_limits::FIRST_CID;
 use vs_page::{PAGE_LEN, Page};
 use vs_plain_driver::DriverQueue;
@@ -58,7 +55,7 @@ impl Model for Parts {
 
 impl Parts {
     /// Both ends of queues of `n` descriptors each, whose areas lie in a memory one after another from `base` on, and behind them the
-    /// pages, as far as these lie in the memory too. The indices of both rings of each queue are set to 0.
+    /// pages, as far as these lie in the memory too. Flags, index and event word of both rings of each queue are set to 0.
     ///
     /// The only error is want of memory.
     pub fn new(
@@ -78,13 +75,15 @@ impl Parts {
         let areas = queue_areas(base, n);
         let pages = pages_from(top, areas.event.end, n);
         let step = PAGE_LEN as u64 * n as u64;
-        let rx = DriverQueue::new(alloc, n, pages)?;
-        let tx = DriverQueue::new(alloc, n, behind(pages, step))?;
-        let event = DriverQueue::new(alloc, n, behind(pages, 2 * step))?;
+        let tx_pages = behind(pages, step);
+        let event_pages = behind(pages, 2 * step);
         let mut device = DeviceSide::new(alloc, mem, areas, n, indirect)?;
-        clear(&mut device, &areas.rx);
-        clear(&mut device, &areas.tx);
-        clear(&mut device, &areas.event);
+        let rx = DriverQueue::new(alloc, &mut device, Queue::Rx, pages)?;
+        let tx = DriverQueue::new(alloc, &mut device, Queue::Tx, tx_pages)?;
+        let event = DriverQueue::new(alloc, &mut device, Queue::Event, event_pages)?;
+        device.clear(Queue::Rx);
+        device.clear(Queue::Tx);
+        device.clear(Queue::Event);
         Ok(Parts {
             device,
             rx,
@@ -275,15 +274,4 @@ fn behind(pages: Option<u64>, more: u64) -> Option<u64>
 {
     let at = pages?;
     Some(at + more)
-}
-
-// Sets both indices of a queue to 0.
-fn clear(device: &mut DeviceSide, areas: &Areas)
-    requires inside { AreInside areas.now device.old.size (whole device.old.memory) }
-    ensures memory { device.new ≡ with_memory device.old (cleared_queue areas.now device.old.memory) }
-    ensures place { SamePlace device.old device.new }
-{
-    let _fits = device.areas();
-    device.set(areas.avail_idx_at(), &[0, 0]);
-    device.set(areas.used_idx_at(), &[0, 0]);
 }

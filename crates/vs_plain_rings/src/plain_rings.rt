@@ -7,7 +7,7 @@ ghost use Rattle.vs_ring_port.specs.declared.queue.TheConstants.{QUEUE_SIZE_MAX}
 ghost use Rattle.vs_ring_port.specs.DriverCalls.{page_of};
 ghost use Rattle.vs_ring_plain.specs.Device.{with_change};
 ghost use Rattle.laws_plain_rings.specs.{Exposed.are_alone, Exposed.first_ends, Parts.new_parts, Parts.with_parts_memory};
-ghost use Rattle.laws_plain_rings.specs.Tie.{IsLaid, areas_of, start_of};
+ghost use Rattle.laws_plain_rings.specs.Tie.{AreWordsZero, IsLaid, areas_of, start_of};
 ghost use Rattle.vs_page.specs.{Fair.IsFairLog, Log.Device, Log.Driver, Log.HasGotAll};
 ghost use Rattle.vs_plain_rings.specs.Counted.{AreCounted};
 
@@ -119,7 +119,8 @@ impl PlainRings {
 
 /// What is true of standard rings between any two calls, while they alone change their memory. Both logs are fair, and what each end got
 /// is what the other put first: packets on tx and rx, ids on event. What the ends count is what the lists say. The three areas of each queue
-/// and the pages of all three lie in the memory, and no two of them have a byte in common (Virtio 1.2, section 2.7).
+/// and the pages of all three lie in the memory, and no two of them have a byte in common (Virtio 1.2, section 2.7). Flags and event words
+/// of both rings of each queue are 0 (sections 2.7.6 to 2.7.10).
 pub fn laws_of_standard_rings(rings: &PlainRings)
     ensures driver_fair { ForSome rings.now.ends (λ w. IsFairLog Driver w.driver.entries) }
     ensures device_fair { ForSome rings.now.ends (λ w. IsFairLog Device w.device.entries) }
@@ -128,6 +129,7 @@ pub fn laws_of_standard_rings(rings: &PlainRings)
     ensures counted { ForSome rings.now.ends (AreCounted rings.now.parts) }
     ensures apart { let p = rings.now.parts in
         ForSome rings.now.ends (λ _. IsLaid p.device.size (areas_of p) (start_of p) p.device.memory) }
+    ensures words { ForSome rings.now.ends (λ _. AreWordsZero rings.now.parts) }
 {
     let _cid = rings.parts.cid();
 }

@@ -2,8 +2,9 @@
 -- (Virtio 1.2, section 2.7).
 use Rattle.std.specs.Prelude.{◌≡◌, ℕ, ◌+◌, ◌%◌, ◌^◌, Bool, false, List, [], ◌∷◌, ◌++◌, length, map, Option, None, Some, if◌then◌else◌, ◌&&◌}
 use Rattle.std.specs.Prelude.{◌||◌, ◌==◌, not, nat_le, nat_lt, count_by}
-use Rattle.vs_guest_mem.specs.Memory.{Change, Memory}
+use Rattle.vs_guest_mem.specs.Memory.{Change, Memory, after_write}
 use Rattle.vs_layout.specs.{declared.place.Areas.Areas, declared.placement.QueueAreas.QueueAreas}
+use Rattle.vs_layout.specs.Layout.{avail_event, used_flags, used_idx}
 use Rattle.vs_ring_port.specs.{Chains.same_chain, Chains.same_queue, declared.device_ring.Chain.Chain, declared.device_ring.Next.Next}
 use Rattle.vs_ring_port.specs.Contents.{RingContents, PlainState, DeviceCall, DeviceAnswer, Take, Read, Write, Return, Given, PublishCid}
 use Rattle.vs_ring_port.specs.declared.queue.Queue.{Queue}
@@ -74,6 +75,14 @@ pub record SamePlace (old new : DeviceState) : Type 0 where
   pub bytes : length new.memory.bytes ≡ length old.memory.bytes
   pub same_size : new.size ≡ old.size
   pub same_areas : new.areas ≡ old.areas
+
+-- The memory in which the device returned nothing to a queue of n places and wants to be told of each page: flags, index and avail_event
+-- of the used ring are 0.
+abbrev pub cleared_used : Areas → ℕ → Memory → Memory
+cleared_used a n m =
+    let flags = after_write m (used_flags a).at (0 ∷ 0 ∷ []) in
+    let index = after_write flags (used_idx a).at (0 ∷ 0 ∷ []) in
+    after_write index (avail_event a n).at (0 ∷ 0 ∷ [])
 
 -- The memory with one more change to come.
 abbrev pub with_change : Memory → Change → Memory

@@ -3,7 +3,8 @@ ghost use Rattle.std.specs.Prelude.{◌≡◌, ◌<◌, ◌≤◌, IfOk, Contain
 ghost use Rattle.vs_guest_mem.specs.Memory.{after_write, bytes_at, is_inside};
 ghost use Rattle.vs_ring_port.specs.declared.queue.{Queue.Queue, TheConstants.QUEUE_SIZE_MAX};
 ghost use Rattle.vs_layout.specs.Layout.{AreInside};
-ghost use Rattle.vs_ring_plain.specs.Device.{SamePlace, answer_to, areas_at, chains_held, new_device, with_change, with_memory};
+ghost use Rattle.vs_ring_plain.specs.Device.{SamePlace, answer_to, areas_at, chains_held, cleared_used, new_device};
+ghost use Rattle.vs_ring_plain.specs.Device.{with_change, with_memory};
 ghost use Rattle.vs_ring_plain.specs.Take.{whole};
 ghost use Rattle.vs_ring_port.specs.Contents.{Take, Read, Write, Return, Given};
 
@@ -113,6 +114,19 @@ impl DeviceSide {
         ensures { out.new ≡ bytes_at self.now.memory addr (length out.old) }
     {
         let _read = self.mem.look(addr, out);
+    }
+
+    /// Writes what the device owns of a queue's used ring beside the elements, as it stands before the first call: flags, index and
+    /// `avail_event` are 0 (Virtio 1.2, sections 2.7.8 and 2.7.10). No access is counted.
+    pub fn clear(&mut self, queue: Queue)
+        ensures memory { let d = self.old in self.new ≡ with_memory d (cleared_used (areas_at queue d.areas) d.size d.memory) }
+        ensures place { SamePlace self.old self.new }
+    {
+        let _fits = self.areas();
+        let areas = queue_in(queue, self.size, &self.areas, self.indirect).areas;
+        self.set(areas.used, &[0, 0]);
+        self.set(areas.used_idx_at(), &[0, 0]);
+        self.set(areas.avail_event_at(self.size), &[0, 0]);
     }
 
     /// Writes bytes as somebody else does, without an access of the device. `AddrRange` where a byte lies outside the memory; all is as

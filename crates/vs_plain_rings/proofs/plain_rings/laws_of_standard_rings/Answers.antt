@@ -26,3 +26,6 @@ returns-clause-counted c = of_ends c.args.rings.now _ (tied c) (λ w t. are_coun
 
 pub returns-clause-apart : goal.returns-clause-apart
 returns-clause-apart c = of_ends c.args.rings.now _ (tied c) (λ w t. t.laid)
+
+pub returns-clause-words : goal.returns-clause-words
+returns-clause-words c = of_ends c.args.rings.now _ (tied c) (λ w t queue word. (t.queues queue).2.words word)
