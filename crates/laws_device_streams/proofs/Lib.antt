@@ -8,3 +8,4 @@ pub mod Receiving
 pub mod Opening
 pub mod Conditions
 pub mod Stepping
+pub mod Stopping

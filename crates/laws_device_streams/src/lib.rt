@@ -2,3 +2,4 @@
 #![tactic(auto)]
 
 pub mod streams;
+pub mod waiting;
