@@ -4,23 +4,20 @@ use Rattle.std.proofs.Common.{refl, sym, ap, subst, ◌∙◌, append_assoc, ari
 use Rattle.std.proofs.lemmas.Bool.Decides.{nat_tests}
 use Rattle.std.proofs.lemmas.{Grind.common_steps, List.append-nil, List.length-take, List.take-take}
 use Rattle.vs_conn.specs.End.{ConnectionEnd, end_after, owes_of, paid_of, verdict_of, with_payload_forwarded, with_shut}
-use Rattle.vs_conn.specs.declared.end.Owed.{Owed}
+use Rattle.vs_conn.specs.declared.end.{Owed.Owed, Verdict.Verdict}
 use Rattle.vs_conn.specs.declared.end.Owed.TheVariants as owed
 use Rattle.vs_conn.specs.declared.end.State.TheVariants as state
-use Rattle.vs_conn.specs.declared.end.Verdict.{Verdict}
 use Rattle.vs_conn.specs.declared.end.Verdict.TheVariants as verdict
 use Rattle.vs_device_parts.specs.State.{DeviceConnection, DeviceEntry}
-use Rattle.vs_flow.specs.Table.{IsTable, Table, with_value}
-use Rattle.vs_flow.specs.declared.flow.Flow.{Flow}
+use Rattle.vs_flow.specs.{Table.IsTable, Table.Table, Table.with_value, declared.flow.Flow.Flow}
 use Rattle.vs_header.specs.declared.Header.{Header}
-use Rattle.laws_history.specs.Packets.{has, is_response, is_rw}
-use Rattle.laws_history.specs.History.{Asker, Got, History, IsFair, Put, gots}
-use Rattle.laws_history.specs.declared.packet.Packet.{Packet}
+use Rattle.laws_history.specs.{Packets.has, Packets.is_response, Packets.is_rw, History.Asker, History.Got, History.History, History.IsFair}
+use Rattle.laws_history.specs.{History.Put, History.gots, declared.packet.Packet.Packet}
 use Rattle.vs_outside.specs.Host.{HostContents}
 use Rattle.vs_page.specs.{Fair.payload_of, Log.Device, Log.Log}
 use Rattle.vs_proxy_parts.specs.State.{Handshake}
-use Rattle.laws_bytes.specs.Drains.{Drains, got_on, has_passed, put_on}
-use Rattle.laws_bytes.specs.Streamed.{IsJoined, IsStreamed, gives, line_for, look}
+use Rattle.laws_bytes.specs.{Drains.Drains, Drains.got_on, Drains.has_passed, Drains.put_on, Streamed.IsJoined, Streamed.IsStreamed}
+use Rattle.laws_bytes.specs.Streamed.{gives, line_for, look}
 use Rattle.laws_bytes.proofs.{Logs.all_of, Logs.only_on, Logs.there_on, Steps.Goes, Steps.comes_in, Steps.drops, Steps.stays_still}
 use Rattle.laws_bytes.proofs.Streamed.{changed_streamed, join_of}
 

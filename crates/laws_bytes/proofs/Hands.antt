@@ -1,6 +1,6 @@
 -- Lines that are read: a byte more, and a line that ends.
 use Rattle.std.proofs.Common.{◌≡◌, ◌≢◌, ℕ, zero, suc, ◌<◌, ◌==◌, nat_le, ◌||◌, Bool, true, false, cond, List, [], ◌∷◌, ◌++◌, length, get_or}
-use Rattle.std.proofs.Common.{Some, refl, sym, ap, ◌∙◌, arith, length-append}
+use Rattle.std.proofs.Common.{Some, refl, sym, ap, ◌∙◌, arith, length-append, append_assoc, replicate}
 use Rattle.std.specs.List.{All, AllPairs, list_any}
 use Rattle.std.proofs.lemmas.Bool.Decides.{nat_tests}
 use Rattle.std.proofs.lemmas.List.{same_from_push}
@@ -10,7 +10,6 @@ use Rattle.vs_uds.specs.declared.connect.TheConstants.{CONNECT_MAX}
 use Rattle.vs_uds.specs.declared.scan.Step.TheVariants as step
 use Rattle.vs_uds.proofs.{ConnectLines.IsWordLine-word_port, Decided.decided}
 use Rattle.laws_bytes.specs.Streamed.{has_line}
-use Rattle.std.proofs.Common.{append_assoc, replicate}
 
 -- The lines without that of a stream.
 all_tail : (P : Handshake → Type 0) (h : Handshake) (hs : List Handshake) → All P (h ∷ hs) → All P hs

@@ -2,17 +2,14 @@
 use Rattle.std.proofs.Common.{◌≡◌, ◌≢◌, ℕ, zero, suc, ◌-◌, ◌==◌, Bool, true, false, cond, List, [], ◌∷◌, ◌++◌, take, get_or, slice_get}
 use Rattle.std.proofs.Common.{Contains, Option, Some, None, refl, sym, ap, subst, ◌∙◌, arith}
 use Rattle.std.specs.Option.{option_map, option_map_or}
-use Rattle.vs_outside.specs.HostBytes.{after_line}
-use Rattle.vs_outside.specs.Host.{HostContents, Stream, accept_answer, after_accept, after_close, after_read, after_write, called}
-use Rattle.vs_outside.specs.Host.{give_bytes, next_bytes, stream_at, take_bytes, waits}
+use Rattle.vs_outside.specs.{HostBytes.after_line, Host.HostContents, Host.Stream, Host.accept_answer, Host.after_accept, Host.after_close}
+use Rattle.vs_outside.specs.Host.{after_read, after_write, called, give_bytes, next_bytes, stream_at, take_bytes, waits}
 use Rattle.vs_outside.specs.HostProgram.{after_client, client_stream}
 use Rattle.std.proofs.lemmas.Bool.Decides.{nat_tests}
-use Rattle.std.proofs.lemmas.List.{append-nil}
-use Rattle.std.proofs.lemmas.List.{Elements.All-push, Quantifiers.all_pairs_push}
+use Rattle.std.proofs.lemmas.List.{append-nil, Elements.All-push, Quantifiers.all_pairs_push}
 use Rattle.vs_conn.specs.declared.end.State.TheVariants.{Asked}
 use Rattle.vs_device_parts.specs.State.{DeviceConnection, DeviceEntry}
-use Rattle.vs_flow.specs.Table.{IsTable, Table, with_value}
-use Rattle.vs_flow.specs.declared.flow.Flow.{Flow}
+use Rattle.vs_flow.specs.{Table.IsTable, Table.Table, Table.with_value, declared.flow.Flow.Flow}
 use Rattle.vs_outside.specs.declared.host_net.Accepted.TheVariants as accepted
 use Rattle.vs_outside.specs.declared.host_net.StreamRead.TheVariants as read
 use Rattle.vs_outside.specs.declared.host_net.StreamState.TheVariants as state
@@ -20,14 +17,11 @@ use Rattle.vs_outside.specs.declared.host_net.StreamWrite.TheVariants as write
 use Rattle.vs_outside.proofs.Frames.{accepts_waiting}
 use Rattle.vs_page.specs.Log.{Device, Log}
 use Rattle.vs_proxy_parts.specs.State.{Handshake}
-use Rattle.vs_uds.specs.Reading.{is_decided}
-use Rattle.vs_uds.specs.declared.connect.TheConstants.{CONNECT_MAX}
-use Rattle.laws_bytes.specs.Drains.{Drains, got_on, has_passed, put_on}
-use Rattle.laws_bytes.specs.Streamed.{AreStreamed, IsJoined, IsStreamed, Seen, client_waits, gives, has_line, line_for, look, reading, seen}
-use Rattle.laws_bytes.specs.Streamed.{taken_of}
-use Rattle.laws_bytes.proofs.{Hosts.changed_seen, Hosts.others_seen, Hosts.there, Hosts.unseen_none, Lines.after_longer}
-use Rattle.laws_bytes.proofs.Logs.{none_on_any, only_on}
-use Rattle.laws_bytes.proofs.Streamed.{join_of, moved_streamed, same_streamed, unlabelled_streamed}
+use Rattle.vs_uds.specs.{Reading.is_decided, declared.connect.TheConstants.CONNECT_MAX}
+use Rattle.laws_bytes.specs.{Drains.Drains, Drains.got_on, Drains.has_passed, Drains.put_on, Streamed.AreStreamed, Streamed.IsJoined}
+use Rattle.laws_bytes.specs.Streamed.{IsStreamed, Seen, client_waits, gives, has_line, line_for, look, reading, seen, taken_of}
+use Rattle.laws_bytes.proofs.{Hosts.changed_seen, Hosts.others_seen, Hosts.there, Hosts.unseen_none, Lines.after_longer, Logs.none_on_any}
+use Rattle.laws_bytes.proofs.{Logs.only_on, Streamed.join_of, Streamed.moved_streamed, Streamed.same_streamed, Streamed.unlabelled_streamed}
 
 -- Another host, whose streams look the same.
 pub same_host : (c d : HostContents) (log : Log) (port : ℕ) (t : Table DeviceConnection) (hands : List Handshake) → ((j : ℕ) → look c j ≡ look d j)

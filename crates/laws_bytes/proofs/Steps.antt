@@ -4,13 +4,11 @@ use Rattle.std.proofs.Common.{arith, take-append-drop}
 use Rattle.std.proofs.lemmas.Bool.Decides.{nat_tests}
 use Rattle.std.proofs.lemmas.{Grind.common_steps, List.append-nil}
 use Rattle.vs_conn.specs.End.{ConnectionEnd, end_after, is_refused, owes_of, paid_of, verdict_of, with_payload_forwarded, with_shut}
-use Rattle.vs_conn.specs.declared.end.Owed.{Owed}
+use Rattle.vs_conn.specs.declared.end.{Owed.Owed, Verdict.Verdict}
 use Rattle.vs_conn.specs.declared.end.Owed.TheVariants as owed
-use Rattle.vs_conn.specs.declared.end.Verdict.{Verdict}
 use Rattle.vs_conn.specs.declared.end.Verdict.TheVariants as verdict
 use Rattle.vs_header.specs.declared.Header.{Header}
-use Rattle.laws_history.specs.Packets.{is_rw}
-use Rattle.laws_history.specs.declared.packet.Packet.{Packet}
+use Rattle.laws_history.specs.{Packets.is_rw, declared.packet.Packet.Packet}
 use Rattle.vs_page.specs.Fair.{IsPrefixOf}
 use Rattle.laws_bytes.specs.Drains.{Drains, receives}
 use Rattle.laws_bytes.proofs.Logs.{all_of, longer, nothing_more, shorter}

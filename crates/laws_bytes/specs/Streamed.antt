@@ -1,18 +1,14 @@
 -- What the host's streams took and gave, against the packets of their flows.
 use Rattle.std.specs.Prelude.{◌≡◌, ◌≢◌, ℕ, ◌<◌, ◌++◌, ◌==◌, not, Bool, true, false, if◌then◌else◌, List, [], Option, Some, None, AllPairs}
 use Rattle.std.specs.{Prelude.Contains, List.All, List.list_any, Option.option_map}
-use Rattle.vs_conn.specs.End.{ConnectionEnd}
-use Rattle.vs_conn.specs.declared.end.State.{State}
-use Rattle.vs_conn.specs.declared.end.State.TheVariants.{Answering, Asked, Live}
+use Rattle.vs_conn.specs.{End.ConnectionEnd, declared.end.State.State, declared.end.State.TheVariants.Answering}
+use Rattle.vs_conn.specs.declared.end.State.TheVariants.{Asked, Live}
 use Rattle.vs_device_parts.specs.State.{DeviceConnection, DeviceEntry}
-use Rattle.vs_flow.specs.{Flow.is_assigned, Table.Table}
-use Rattle.vs_flow.specs.declared.flow.Flow.{Flow}
+use Rattle.vs_flow.specs.{Flow.is_assigned, Table.Table, declared.flow.Flow.Flow}
 use Rattle.vs_outside.specs.{Host.HostContents, Host.Stream, Host.stream_at, Host.waits, HostBytes.after_line}
-use Rattle.vs_uds.specs.declared.scan.TheConstants.{LF}
+use Rattle.vs_uds.specs.{declared.scan.TheConstants.LF, OkLine.ok_text, Reading.is_decided, declared.connect.TheConstants.CONNECT_MAX}
 use Rattle.vs_page.specs.{Fair.IsPrefixOf, Log.Device, Log.Log}
 use Rattle.vs_proxy_parts.specs.State.{Handshake}
-use Rattle.vs_uds.specs.{OkLine.ok_text, Reading.is_decided}
-use Rattle.vs_uds.specs.declared.connect.TheConstants.{CONNECT_MAX}
 use Rattle.laws_bytes.specs.Drains.{Drains, got_on, has_passed, put_on}
 
 -- What counts of a stream: its label, who made it, whether it waits to be accepted, and the bytes that the proxy took of it and gave it.

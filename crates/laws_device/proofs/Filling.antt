@@ -4,38 +4,32 @@ use Rattle.std.proofs.Common.{Contains, Option, Some, None, Result, Ok, Err, ref
 use Rattle.std.proofs.lemmas.Grind.{common_steps}
 use Rattle.vs_contents.specs.CallTree.{Done, bind, for_each, while_up_to}
 use Rattle.vs_conn.specs.End.{CanSend, ConnectionEnd, owes_of, paid_of, state_may_send, wanting_credit, with_payload_sent}
-use Rattle.vs_conn.specs.Headers.{owed_header, payload_header}
-use Rattle.vs_conn.specs.declared.end.Owed.{Owed}
+use Rattle.vs_conn.specs.{Headers.owed_header, Headers.payload_header, declared.end.Owed.Owed, declared.end.State.State}
+use Rattle.vs_conn.specs.declared.end.{Stop.TheVariants.ShutDown, TheConstants.OWED_MAX}
 use Rattle.vs_conn.specs.declared.end.Owed.TheVariants as owed
-use Rattle.vs_conn.specs.declared.end.State.{State}
 use Rattle.vs_conn.specs.declared.end.State.TheVariants as state
-use Rattle.vs_conn.specs.declared.end.Stop.TheVariants.{ShutDown}
-use Rattle.vs_conn.specs.declared.end.TheConstants.{OWED_MAX}
 use Rattle.vs_credit.specs.Credit.{free_of}
 use Rattle.vs_flow.specs.Table.{entry_under, slots}
 use Rattle.vs_header.specs.declared.Header.{Header}
 use Rattle.vs_outside.specs.declared.host_net.StreamRead.{StreamRead}
 use Rattle.vs_outside.specs.declared.host_net.StreamRead.TheVariants as read
 use Rattle.vs_replies.specs.declared.Reply.{Reply}
-use Rattle.vs_ring_port.specs.Contents.{RingContents}
-use Rattle.vs_ring_port.specs.declared.device_ring.Chain.{Chain}
-use Rattle.vs_ring_port.specs.declared.failure.Failure.{Failure}
+use Rattle.vs_ring_port.specs.{Contents.RingContents, declared.device_ring.Chain.Chain, declared.failure.Failure.Failure}
 use Rattle.laws_tables.specs.Ends.{is_new}
 use Rattle.laws_tables.proofs.Slots.{found_by}
 use Rattle.vs_device_parts.specs.declared.answers.Filled.{Filled as FilledAnswer}
-use Rattle.vs_device_parts.specs.Calls.{DeviceTree}
-use Rattle.vs_device_parts.specs.Connections.{after_leaving, after_shut, cut_off, route_to_guest, stream_closed, with_connection}
-use Rattle.vs_device_parts.specs.{Connections.with_fault, Playing.IsRxChain}
-use Rattle.vs_device_parts.specs.Receiving.{Filling, after_paying, fill_rx_of, filled_of, hold, may_read, put_on, put_owed, put_packet}
-use Rattle.vs_device_parts.specs.Receiving.{put_payload, put_reply, put_reply_of, read_answered, read_room, read_stream, read_with_chain}
-use Rattle.vs_device_parts.specs.Receiving.{reply_header, round_from, serve_slot}
+use Rattle.vs_device_parts.specs.{Calls.DeviceTree, Connections.after_leaving, Connections.after_shut, Connections.cut_off}
+use Rattle.vs_device_parts.specs.Connections.{route_to_guest, stream_closed, with_connection, with_fault}
+use Rattle.vs_device_parts.specs.{Playing.IsRxChain, Receiving.Filling, Receiving.after_paying, Receiving.fill_rx_of, Receiving.filled_of}
+use Rattle.vs_device_parts.specs.Receiving.{hold, may_read, put_on, put_owed, put_packet, put_payload, put_reply, put_reply_of}
+use Rattle.vs_device_parts.specs.Receiving.{read_answered, read_room, read_stream, read_with_chain, reply_header, round_from, serve_slot}
 use Rattle.vs_device_parts.specs.State.{DeviceConnection, DeviceEntry, DeviceState}
 use Rattle.laws_device.specs.Honest.{IsFitState, IsWith}
-use Rattle.laws_device.proofs.Changing.{cuts, shuts, wants}
-use Rattle.laws_device.proofs.Keeping.{Goes, Keeps, keeps_bind, keeps_each, keeps_then, keeps_while}
-use Rattle.laws_device.proofs.Putting.{Puts, owed_puts, reply_puts, rst_puts, send_puts}
-use Rattle.laws_device.proofs.Steps.{Filled, Open, changed, closing_keeps, goes_on, hold_keeps, open_filled}
-use Rattle.laws_device.proofs.Writing.{writes_first, written_keeps}
+use Rattle.laws_device.proofs.{Changing.cuts, Changing.shuts, Changing.wants, Keeping.Goes, Keeping.Keeps, Keeping.keeps_bind}
+use Rattle.laws_device.proofs.{Keeping.keeps_each, Keeping.keeps_then, Keeping.keeps_while, Putting.Puts, Putting.owed_puts}
+use Rattle.laws_device.proofs.{Putting.reply_puts, Putting.rst_puts, Putting.send_puts, Steps.Filled, Steps.Open, Steps.changed}
+use Rattle.laws_device.proofs.{Steps.closing_keeps, Steps.goes_on, Steps.hold_keeps, Steps.open_filled, Writing.writes_first}
+use Rattle.laws_device.proofs.Writing.{written_keeps}
 
 pub live_old : (e : ConnectionEnd) → may_read e e.state ≡ true → is_new e ≡ false
 live_old e is = grind (arith, common_steps, is)

@@ -2,10 +2,9 @@
 use Rattle.std.proofs.Common.{◌≡◌, ℕ, zero, suc, ◌<◌, ◌≤◌, length, Bool, true, false, List, [], ◌∷◌, Contains, subst}
 use Rattle.std.specs.Option.{ForSome}
 use Rattle.vs_contents.specs.CallTree.{Done, Ask, bind, for_each, while_up_to}
-use Rattle.vs_ring_port.specs.Chains.{chains_of}
-use Rattle.vs_ring_port.specs.Contents.{RingContents, DeviceCall, Take, Read, Write, Return, Given, PublishCid}
-use Rattle.vs_ring_port.specs.DeviceCalls.{CanReturn, DeviceAllows, LeavesNoGap}
-use Rattle.vs_ring_port.specs.declared.device_ring.Chain.{Chain}
+use Rattle.vs_ring_port.specs.{Chains.chains_of, Contents.RingContents, Contents.DeviceCall, Contents.Take, Contents.Read, Contents.Write}
+use Rattle.vs_ring_port.specs.{Contents.Return, Contents.Given, Contents.PublishCid, DeviceCalls.CanReturn, DeviceCalls.DeviceAllows}
+use Rattle.vs_ring_port.specs.{DeviceCalls.LeavesNoGap, declared.device_ring.Chain.Chain}
 use Rattle.vs_device_parts.specs.Calls.{Call, Answer, Ring, Accept, Dial, Label, ReadStream, WriteStream, ShutWrite, CloseStream}
 use Rattle.vs_device_parts.specs.{Calls.DeviceTree, Calls.Situation, Calls.Allows, Calls.IsFitAnswer, Calls.TakesWithin, Playing.Runs}
 use Rattle.laws_device_streams.specs.Split.{CanPut, MayPut}

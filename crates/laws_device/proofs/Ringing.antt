@@ -7,11 +7,10 @@ use Rattle.std.specs.Option.{ForSome}
 use Rattle.vs_contents.specs.Contents.{Exposes}
 use Rattle.vs_page.specs.{Fair.IsFairLog, Log.Device, Overwriting.overwritten}
 use Rattle.vs_ring_port.specs.Chains.{Held, bytes_in, chains_of, same_chain, same_queue, with_bytes, without_held}
-use Rattle.vs_ring_port.specs.{Contents.RingContents, Contents.DeviceCall, Contents.DeviceAnswer, DeviceCalls.DeviceMoves}
-use Rattle.vs_ring_port.specs.{EndLog.EndLog, EndLog.entries_returned, EndLog.log_returned, EndLog.log_written, Lists.Rings}
-use Rattle.vs_ring_port.specs.declared.device_ring.Chain.{Chain}
-use Rattle.vs_ring_port.specs.declared.queue.Queue.{Queue}
-use Rattle.vs_ring_port.specs.declared.queue.Queue.TheVariants.{Rx, Tx, Event}
+use Rattle.vs_ring_port.specs.{Contents.RingContents, Contents.DeviceCall, Contents.DeviceAnswer, DeviceCalls.DeviceMoves, EndLog.EndLog}
+use Rattle.vs_ring_port.specs.{EndLog.entries_returned, EndLog.log_returned, EndLog.log_written, Lists.Rings}
+use Rattle.vs_ring_port.specs.declared.{device_ring.Chain.Chain, queue.Queue.Queue, queue.Queue.TheVariants.Rx, queue.Queue.TheVariants.Tx}
+use Rattle.vs_ring_port.specs.declared.queue.Queue.TheVariants.{Event}
 
 -- P holds of the log that a ring tells; it depends on whether the ring is honest.
 abbrev pub Tells : (Bool → EndLog → Type 0) → RingContents → Type 0

@@ -4,10 +4,9 @@ use Rattle.std.proofs.Common.{true, false, ◌≡◌, ℕ, ◌≤◌, Bool, not,
 use Rattle.std.proofs.Common.{arith}
 use Rattle.std.proofs.lemmas.List.Elements.{All-nil, All-cons}
 use Rattle.vs_flow.specs.declared.flow.Flow.{Flow}
-use Rattle.laws_history.specs.Again.{AllowsNow}
-use Rattle.laws_history.specs.History.{Got, History, IsFair, IsHonest, Put, Side, gots, puts}
-use Rattle.laws_history.specs.Packets.{has, is_request, is_rst, tells, told_alloc}
-use Rattle.laws_history.specs.declared.packet.Packet.{Packet}
+use Rattle.laws_history.specs.{Again.AllowsNow, History.Got, History.History, History.IsFair, History.IsHonest, History.Put, History.Side}
+use Rattle.laws_history.specs.{History.gots, History.puts, Packets.has, Packets.is_request, Packets.is_rst, Packets.tells}
+use Rattle.laws_history.specs.{Packets.told_alloc, declared.packet.Packet.Packet}
 use Rattle.vs_limits.specs.declared.TheConstants.{BUF_ALLOC}
 use Rattle.laws_history.proofs.Present.{fair_once}
 use Rattle.vs_page.specs.Log.{Device, Log, flow_put, history_of, packets_put, side_of, whole_of}

@@ -14,25 +14,24 @@ use Rattle.vs_outside.specs.declared.host_net.StreamWrite.{StreamWrite}
 use Rattle.vs_page.specs.{Log.Device, Log.Log, Overwriting.overwritten}
 use Rattle.vs_ring_port.specs.{Chains.Held, Chains.bytes_in, Contents.RingContents, Contents.PublishCid, Contents.Return, Contents.Take}
 use Rattle.vs_ring_port.specs.{EndLog.EndLog, EndLog.log_reset, EndLog.log_returned, EndLog.log_taken, declared.device_ring.Chain.Chain}
-use Rattle.vs_ring_port.specs.{declared.device_ring.Next.Next, declared.failure.Failure.Failure, declared.queue.Queue.Queue}
+use Rattle.vs_ring_port.specs.declared.{device_ring.Next.Next, failure.Failure.Failure, queue.Queue.Queue}
 use Rattle.vs_ring_port.specs.DeviceCalls.{DeviceAllows, IsTakenAs, IsWholePacket}
 use Rattle.vs_ring_port.specs.declared.queue.Queue.TheVariants.{Event}
 use Rattle.laws_tables.specs.{Ends.Ends, Ends.FlowEnd, Ends.is_new, Matches.Matches, Steps.IsNextFlow, Steps.asking}
 use Rattle.laws_tables.proofs.{Keeps.asks, Keeps.makes_reset, Keeps.puts_event, Keeps.start_matches, Slots.added_slot, Slots.found_by}
-use Rattle.vs_device_parts.specs.{Playing.IsRxChain, Receiving.event_on, Receiving.pay_event_of}
-use Rattle.vs_device_parts.specs.{State.DeviceConnection, State.DeviceEntry, State.DeviceState, Transmitting.failing}
-use Rattle.vs_device_parts.specs.Calls.{CloseStream, DeviceTree, IsFitAnswer, Label, Ring, TakesWithin, ShutWrite, WriteStream}
-use Rattle.vs_device_parts.specs.Connections.{after_shut, after_written, cut_off, is_timed_out, new_connection, stream_closed, with_client}
-use Rattle.vs_device_parts.specs.Connections.{with_connection, with_fault}
-use Rattle.vs_device_parts.specs.Streams.{Writing, closing, is_written_out, pump_of, pump_slot, shut_write, tick_of, tick_slot, to_write}
-use Rattle.vs_device_parts.specs.Streams.{write_answered, write_pending}
-use Rattle.vs_device_parts.specs.Turns.{after_reset, close_slot, new_device, open_of, reset_of}
-use Rattle.laws_device.specs.Honest.{IsFitFlow, IsFitState, IsFresh, IsLeft, IsToldOf, IsWith, end_in, ends_of_state, port_after}
-use Rattle.laws_device.specs.Honest.{unwritten}
-use Rattle.laws_device.proofs.{Changing.cuts, Changing.shuts, Changing.unseen, Changing.writes, Filling.under_there}
-use Rattle.laws_device.proofs.{Keeping.Keeps, Keeping.keeps_each, Keeping.keeps_then, Steps.changed, Steps.closing_keeps}
-use Rattle.laws_device.proofs.{Tabling.IsFitConnection, Tabling.entry_fits, Tabling.opening_fits, Writing.Writes, Writing.write_keeps}
-use Rattle.laws_device.proofs.Ringing.{Tells, bytes_held, first_there, moves, returned_entries, returned_held, tells_weaker}
+use Rattle.vs_device_parts.specs.{Playing.IsRxChain, Receiving.event_on, Receiving.pay_event_of, State.DeviceConnection, State.DeviceEntry}
+use Rattle.vs_device_parts.specs.{State.DeviceState, Transmitting.failing, Calls.CloseStream, Calls.DeviceTree, Calls.IsFitAnswer}
+use Rattle.vs_device_parts.specs.{Calls.Label, Calls.Ring, Calls.TakesWithin, Calls.ShutWrite, Calls.WriteStream, Connections.after_shut}
+use Rattle.vs_device_parts.specs.Connections.{after_written, cut_off, is_timed_out, new_connection, stream_closed, with_client}
+use Rattle.vs_device_parts.specs.{Connections.with_connection, Connections.with_fault, Streams.Writing, Streams.closing}
+use Rattle.vs_device_parts.specs.Streams.{is_written_out, pump_of, pump_slot, shut_write, tick_of, tick_slot, to_write, write_answered}
+use Rattle.vs_device_parts.specs.{Streams.write_pending, Turns.after_reset, Turns.close_slot, Turns.new_device, Turns.open_of}
+use Rattle.vs_device_parts.specs.Turns.{reset_of}
+use Rattle.laws_device.specs.Honest.{IsFitFlow, IsFitState, IsFresh, IsLeft, IsToldOf, IsWith, end_in, ends_of_state, port_after, unwritten}
+use Rattle.laws_device.proofs.{Changing.cuts, Changing.shuts, Changing.unseen, Changing.writes, Filling.under_there, Keeping.Keeps}
+use Rattle.laws_device.proofs.{Keeping.keeps_each, Keeping.keeps_then, Steps.changed, Steps.closing_keeps, Tabling.IsFitConnection}
+use Rattle.laws_device.proofs.{Tabling.entry_fits, Tabling.opening_fits, Writing.Writes, Writing.write_keeps, Ringing.Tells}
+use Rattle.laws_device.proofs.Ringing.{bytes_held, first_there, moves, returned_entries, returned_held, tells_weaker}
 use Rattle.vs_header.specs.declared.Kind.TheVariants.{Stream}
 use Rattle.vs_outside.specs.declared.host_net.StreamWrite.TheVariants as write
 use Rattle.vs_ring_port.specs.declared.device_ring.Next.TheVariants as next

@@ -3,24 +3,19 @@ use Rattle.std.proofs.Common.{◌≡◌, ℕ, ◌+◌, ◌≤◌, Bool, true, Li
 use Rattle.std.proofs.Common.{◌∙◌, arith, IsSomeAnd}
 use Rattle.std.proofs.lemmas.List.{append-nil}
 use Rattle.vs_contents.specs.CallTree.{Ask, bind}
-use Rattle.vs_header.specs.Packet.{header_bytes}
-use Rattle.vs_header.specs.declared.{Header.Header, TheConstants.HEADER_LEN}
-use Rattle.laws_history.specs.Packets.{packet_bytes}
-use Rattle.laws_history.specs.declared.packet.Packet.{Packet}
+use Rattle.vs_header.specs.{Packet.header_bytes, declared.Header.Header, declared.TheConstants.HEADER_LEN}
+use Rattle.laws_history.specs.{Packets.packet_bytes, declared.packet.Packet.Packet}
 use Rattle.vs_page.specs.{Fair.IsFairLog, Held.packet_held, Log.Device, Log.Log, Overwriting.overwritten}
 use Rattle.vs_page.specs.declared.log.LogEntry.TheVariants.{PutPacket}
-use Rattle.vs_ring_port.specs.{Chains.Held, Chains.bytes_in, Contents.RingContents, Contents.Return, Contents.Write}
-use Rattle.vs_ring_port.specs.{DeviceCalls.CanReturn, DeviceCalls.IsWholePacket, DriverCalls.HoldsPacket}
-use Rattle.vs_ring_port.specs.EndLog.{EndLog, entries_returned, log_returned, log_written, with_packet}
-use Rattle.vs_ring_port.specs.declared.device_ring.Chain.{Chain}
-use Rattle.vs_ring_port.specs.declared.queue.Queue.{Queue}
-use Rattle.vs_ring_port.specs.declared.queue.Queue.TheVariants.{Rx}
+use Rattle.vs_ring_port.specs.{Chains.Held, Chains.bytes_in, Contents.RingContents, Contents.Return, Contents.Write, DeviceCalls.CanReturn}
+use Rattle.vs_ring_port.specs.{DeviceCalls.IsWholePacket, DriverCalls.HoldsPacket, EndLog.EndLog, EndLog.entries_returned}
+use Rattle.vs_ring_port.specs.{EndLog.log_returned, EndLog.log_written, EndLog.with_packet, declared.device_ring.Chain.Chain}
+use Rattle.vs_ring_port.specs.declared.queue.Queue.{Queue, TheVariants.Rx}
 use Rattle.laws_tables.specs.Matches.{Matches}
 use Rattle.vs_device_parts.specs.{Calls.DeviceTree, Calls.Ring, Receiving.written, State.DeviceState}
 use Rattle.laws_device.specs.Honest.{AgreesWith, IsFitState, IsToldOf, IsWith, ends_of_state, unwritten}
-use Rattle.laws_device.proofs.{Keeping.Keeps, Putting.Puts}
-use Rattle.laws_device.proofs.Ringing.{HoldsFirst, Tells, both_written, bytes_held, first_there, moves, one_written, overwritten_long}
-use Rattle.laws_device.proofs.Ringing.{returned_entries, returned_held, written_held}
+use Rattle.laws_device.proofs.{Keeping.Keeps, Putting.Puts, Ringing.HoldsFirst, Ringing.Tells, Ringing.both_written, Ringing.bytes_held}
+use Rattle.laws_device.proofs.Ringing.{first_there, moves, one_written, overwritten_long, returned_entries, returned_held, written_held}
 
 module _ (first port : ℕ) (s : DeviceState) where
   -- These bytes are written into the chain that was taken last.

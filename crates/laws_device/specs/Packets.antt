@@ -1,13 +1,9 @@
 -- What one packet, or one event, does to the log of a ring that tells it.
 use Rattle.std.specs.Prelude.{◌≡◌, ℕ, List, ◌∷◌, ◌++◌, length, Some}
-use Rattle.vs_header.specs.Packet.{header_bytes}
-use Rattle.vs_header.specs.declared.Header.{Header}
+use Rattle.vs_header.specs.{Packet.header_bytes, declared.Header.Header}
 use Rattle.laws_history.specs.declared.packet.Packet.{Packet}
-use Rattle.vs_page.specs.Held.{packet_held}
-use Rattle.vs_page.specs.declared.log.LogEntry.{LogEntry}
-use Rattle.vs_page.specs.declared.log.LogEntry.TheVariants.{GotPacket}
-use Rattle.vs_ring_port.specs.{Chains.Held, EndLog.EndLog, EndLog.with_packet}
-use Rattle.vs_ring_port.specs.declared.device_ring.Chain.{Chain}
+use Rattle.vs_page.specs.{Held.packet_held, declared.log.LogEntry.LogEntry, declared.log.LogEntry.TheVariants.GotPacket}
+use Rattle.vs_ring_port.specs.{Chains.Held, EndLog.EndLog, EndLog.with_packet, declared.device_ring.Chain.Chain}
 
 -- The chain was taken last, of those that are held, and these are its bytes.
 abbrev pub HoldsLast : Chain → List ℕ → List Held → EndLog → Type 0

@@ -3,30 +3,26 @@
 ghost use Rattle.std.specs.Prelude.{◌≡◌, ◌<◌, ◌≤◌, ◌^◌, ℕ, Bool, true, List, [], Some, Result, Contains, length, take, drop};
 ghost use Rattle.std.specs.{List.All, Option.ForSome};
 ghost use Rattle.vs_contents.specs.Contents.{Relates};
-ghost use Rattle.vs_flow.specs.declared.flow.Flow.{Flow};
-ghost use Rattle.vs_flow.specs.declared.table.TableFault.{TableFault};
-ghost use Rattle.vs_header.specs.Packet.{header_of};
-ghost use Rattle.vs_header.specs.declared.{Header.Header, TheConstants.HEADER_LEN};
-ghost use Rattle.laws_history.specs.Packets.{is_rw};
+ghost use Rattle.vs_flow.specs.declared.{flow.Flow.Flow, table.TableFault.TableFault};
+ghost use Rattle.vs_header.specs.{Packet.header_of, declared.Header.Header, declared.TheConstants.HEADER_LEN};
+ghost use Rattle.laws_history.specs.{Packets.is_rw, declared.packet.Packet.Packet};
 ghost use Rattle.vs_limits.specs.declared.TheConstants.{BUF_ALLOC};
-ghost use Rattle.laws_history.specs.declared.packet.Packet.{Packet};
 ghost use Rattle.laws_tables.specs.{Ends.is_new, Steps.IsNextFlow};
-ghost use Rattle.vs_page.specs.{Held.packet_held, Log.Device, Log.packets_put};
-ghost use Rattle.vs_page.specs.declared.log.LogEntry.TheVariants.{PutEvent, PutPacket};
+ghost use Rattle.vs_page.specs.{Held.packet_held, Log.Device, Log.packets_put, declared.log.LogEntry.TheVariants.PutEvent};
+ghost use Rattle.vs_page.specs.declared.log.LogEntry.TheVariants.{PutPacket};
 ghost use Rattle.vs_ring_port.specs.{Chains.Held, Contents.Read, Contents.RingContents, Contents.Take, EndLog.EndLog};
-ghost use Rattle.vs_ring_port.specs.declared.device_ring.Chain.{Chain};
+ghost use Rattle.vs_ring_port.specs.declared.{device_ring.Chain.Chain, failure.Failure.Failure, queue.Queue.TheVariants.Event};
+ghost use Rattle.vs_ring_port.specs.declared.queue.Queue.TheVariants.{Rx, Tx};
 ghost use Rattle.vs_ring_port.specs.declared.device_ring.Next.TheVariants as next;
-ghost use Rattle.vs_ring_port.specs.declared.failure.Failure.{Failure};
-ghost use Rattle.vs_ring_port.specs.declared.queue.Queue.TheVariants.{Event, Rx, Tx};
-ghost use Rattle.vs_device_parts.specs.{Calls.Allows, Calls.Ring, Calls.Situation, Playing.MayRun, Playing.Runs};
-ghost use Rattle.vs_device_parts.specs.Receiving.{event_on, fill_rx_of, pay_event_of, written};
-ghost use Rattle.vs_device_parts.specs.{State.DeviceEntry, State.DeviceState, Streams.Writing, Streams.pump_of, Streams.tick_of};
-ghost use Rattle.vs_device_parts.specs.{Transmitting.take_tx_of, Turns.new_device, Turns.open_of, Turns.reset_of, Turns.table_shown};
-ghost use Rattle.vs_device_parts.specs.declared.answers.{Filled.Filled, Taken.Taken};
+ghost use Rattle.vs_device_parts.specs.{Calls.Allows, Calls.Ring, Calls.Situation, Playing.MayRun, Playing.Runs, Receiving.event_on};
+ghost use Rattle.vs_device_parts.specs.{Receiving.fill_rx_of, Receiving.pay_event_of, Receiving.written, State.DeviceEntry};
+ghost use Rattle.vs_device_parts.specs.{State.DeviceState, Streams.Writing, Streams.pump_of, Streams.tick_of, Transmitting.take_tx_of};
+ghost use Rattle.vs_device_parts.specs.{Turns.new_device, Turns.open_of, Turns.reset_of, Turns.table_shown, declared.answers.Filled.Filled};
+ghost use Rattle.vs_device_parts.specs.declared.answers.Taken.{Taken};
 ghost use Rattle.laws_device_streams.specs.Streams.{FindsStreams};
 ghost use Rattle.laws_device.specs.Honest.{Advertises, AgreesWith, IsClients, IsFitFlow, IsFresh, IsLeftOpen, IsWith, ends_of_state};
-ghost use Rattle.laws_device.specs.Honest.{port_after};
-ghost use Rattle.laws_device.specs.Packets.{HasAdded, HasTaken, HoldsLast, IsWholeAs, packet_with};
+ghost use Rattle.laws_device.specs.{Honest.port_after, Packets.HasAdded, Packets.HasTaken, Packets.HoldsLast, Packets.IsWholeAs};
+ghost use Rattle.laws_device.specs.Packets.{packet_with};
 
 /// Over a ring that tells its log the device holds the one chain that it keeps for the next packet, and after each call it does again.
 /// Over an honest ring each packet that it puts keeps the log fair, so it never exceeds the credit that was advertised, and a call that

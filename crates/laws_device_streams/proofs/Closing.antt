@@ -4,15 +4,13 @@ use Rattle.std.specs.Option.{ForSome}
 use Rattle.vs_contents.specs.CallTree.{Done, Ask}
 use Rattle.vs_flow.specs.Table.{Table, IsTable, entry_under, slots, with_value, without}
 use Rattle.vs_outside.specs.Host.{HostContents, IsOpen, after_close}
-use Rattle.vs_device_parts.specs.Calls.{Call, CloseStream, Situation, Allows}
-use Rattle.vs_device_parts.specs.Connections.{after_leaving, cut_off, is_timed_out, stream_closed, with_connection}
-use Rattle.vs_device_parts.specs.State.{DeviceConnection, DeviceEntry, DeviceState}
-use Rattle.vs_device_parts.specs.Streams.{closing, leaving, tick_of, tick_slot}
+use Rattle.vs_device_parts.specs.{Calls.Call, Calls.CloseStream, Calls.Situation, Calls.Allows, Connections.after_leaving}
+use Rattle.vs_device_parts.specs.Connections.{cut_off, is_timed_out, stream_closed, with_connection}
+use Rattle.vs_device_parts.specs.{State.DeviceConnection, State.DeviceEntry, State.DeviceState, Streams.closing, Streams.leaving}
+use Rattle.vs_device_parts.specs.Streams.{tick_of, tick_slot}
 use Rattle.laws_device_streams.specs.{Split.CanReach, Split.is_quiet, Streams.FindsStreams, Streams.HasStreams, Streams.joined_stream}
-use Rattle.laws_device_streams.proofs.Keeping.{Keeps, keeps_each, keeps_then}
-use Rattle.laws_device_streams.proofs.Tables.{IsEntry, entry_by_slot, has_changed, has_closed, has_left, has_left_closing, some_after}
-use Rattle.laws_device_streams.proofs.Tables.{some_from}
-use Rattle.laws_device_streams.proofs.Tables.{stream_by_entry}
+use Rattle.laws_device_streams.proofs.{Keeping.Keeps, Keeping.keeps_each, Keeping.keeps_then, Tables.IsEntry, Tables.entry_by_slot}
+use Rattle.laws_device_streams.proofs.Tables.{has_changed, has_closed, has_left, has_left_closing, some_after, some_from, stream_by_entry}
 
 -- no call on the ring, and none on the host that fails, changes what is open
 pub stays : (others : List ℕ) (t : Table DeviceConnection) (c d : Situation) → d.host ≡ c.host → ForSome c.host (HasStreams others t)

@@ -1,8 +1,7 @@
 -- An end that is over stays so.
 use Rattle.std.proofs.Common.{◌≡◌, ℕ, Bool, true, false, cond, ◌&&◌, Some, refl, sym, subst}
-use Rattle.vs_conn.specs.{Shut.joined, Shut.shut_of, declared.end.Owed.Owed, declared.end.State.State}
-use Rattle.vs_conn.specs.End.{ConnectionEnd, is_drained, owes_of, settled_state}
-use Rattle.vs_conn.specs.End.{state_owes, shut_credit, with_payload_forwarded, with_shut}
+use Rattle.vs_conn.specs.{Shut.joined, Shut.shut_of, declared.end.Owed.Owed, declared.end.State.State, End.ConnectionEnd, End.is_drained}
+use Rattle.vs_conn.specs.End.{owes_of, settled_state, state_owes, shut_credit, with_payload_forwarded, with_shut}
 use Rattle.vs_conn.specs.declared.end.State.TheVariants.{Asked, Answering, Live, Ended}
 use Rattle.vs_conn.specs.declared.shut.Shut.{Shut}
 use Rattle.vs_credit.specs.{Credit.with_forwarded, declared.Credit.Credit}

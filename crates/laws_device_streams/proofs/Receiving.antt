@@ -3,35 +3,30 @@ use Rattle.std.proofs.Common.{◌≡◌, ℕ, ◌+◌, ◌==◌, Bool, true, fal
 use Rattle.std.proofs.Common.{refl, sym, ap, subst, ◌∙◌}
 use Rattle.std.specs.Option.{ForSome}
 use Rattle.vs_conn.specs.{End.owes_of, End.paid_of, End.wanting_credit, End.with_payload_sent, Headers.owed_header, Headers.payload_header}
+use Rattle.vs_conn.specs.declared.end.{Owed.Owed, TheConstants.OWED_MAX}
 use Rattle.vs_conn.proofs.Frames.{paid_over}
-use Rattle.vs_conn.specs.declared.end.Owed.{Owed}
 use Rattle.vs_conn.specs.declared.end.Owed.TheVariants as owed
-use Rattle.vs_conn.specs.declared.end.TheConstants.{OWED_MAX}
 use Rattle.vs_contents.specs.CallTree.{Done, Ask, bind, for_each, while_up_to}
 use Rattle.vs_credit.specs.Credit.{free_of}
 use Rattle.vs_flow.specs.Table.{Table, entry_under, slots}
 use Rattle.vs_header.specs.declared.Header.{Header}
-use Rattle.vs_outside.specs.Host.{HostContents, IsOpen, after_read}
-use Rattle.vs_outside.specs.declared.host_net.StreamRead.{StreamRead}
+use Rattle.vs_outside.specs.{Host.HostContents, Host.IsOpen, Host.after_read, declared.host_net.StreamRead.StreamRead}
 use Rattle.vs_outside.specs.declared.host_net.StreamRead.TheVariants as read
 use Rattle.vs_outside.proofs.Frames.{open-after_read, others-after_read}
 use Rattle.vs_replies.specs.declared.Reply.{Reply}
-use Rattle.vs_ring_port.specs.Contents.{Take}
-use Rattle.vs_ring_port.specs.declared.device_ring.{Chain.Chain, Next.Next}
+use Rattle.vs_ring_port.specs.{Contents.Take, declared.device_ring.Chain.Chain, declared.device_ring.Next.Next}
+use Rattle.vs_ring_port.specs.declared.{failure.Failure.Failure, queue.Queue.TheVariants.Event, queue.Queue.TheVariants.Rx}
 use Rattle.vs_ring_port.specs.declared.device_ring.Next.TheVariants as next
-use Rattle.vs_ring_port.specs.declared.failure.Failure.{Failure}
-use Rattle.vs_ring_port.specs.declared.queue.Queue.TheVariants.{Event, Rx}
-use Rattle.vs_device_parts.specs.declared.answers.Filled.{Filled}
-use Rattle.vs_device_parts.specs.Calls.{ReadStream, Ring, Situation, DeviceTree, Allows}
-use Rattle.vs_device_parts.specs.Connections.{after_shut, cut_off, route_to_guest, with_connection, with_fault}
-use Rattle.vs_device_parts.specs.Receiving.{Filling, after_paying, event_on, fill_rx_of, filled_of, hold, holding, may_read, pay_event_of}
-use Rattle.vs_device_parts.specs.Receiving.{put_on, put_owed, put_packet, put_payload, put_reply, put_reply_of, read_answered, read_room}
-use Rattle.vs_device_parts.specs.Receiving.{read_stream, read_with_chain, reply_header, round_from, serve_slot, written}
+use Rattle.vs_device_parts.specs.{declared.answers.Filled.Filled, Calls.ReadStream, Calls.Ring, Calls.Situation, Calls.DeviceTree}
+use Rattle.vs_device_parts.specs.{Calls.Allows, Connections.after_shut, Connections.cut_off, Connections.route_to_guest}
+use Rattle.vs_device_parts.specs.{Connections.with_connection, Connections.with_fault, Receiving.Filling, Receiving.after_paying}
+use Rattle.vs_device_parts.specs.Receiving.{event_on, fill_rx_of, filled_of, hold, holding, may_read, pay_event_of, put_on, put_owed}
+use Rattle.vs_device_parts.specs.Receiving.{put_packet, put_payload, put_reply, put_reply_of, read_answered, read_room, read_stream}
+use Rattle.vs_device_parts.specs.Receiving.{read_with_chain, reply_header, round_from, serve_slot, written}
 use Rattle.vs_device_parts.specs.{State.DeviceConnection, State.DeviceEntry, State.DeviceState, Streams.closing}
 use Rattle.laws_device_streams.specs.{Split.CanReach, Streams.FindsStreams, Streams.HasStreams}
-use Rattle.laws_device_streams.proofs.Closing.{found_by_slot, keeps_cut_off, keeps_leaving, stays}
-use Rattle.laws_device_streams.proofs.Ends.{reads_not, shut_over}
-use Rattle.laws_device_streams.proofs.Keeping.{Keeps, keeps_each, keeps_then, keeps_while}
+use Rattle.laws_device_streams.proofs.{Closing.found_by_slot, Closing.keeps_cut_off, Closing.keeps_leaving, Closing.stays, Ends.reads_not}
+use Rattle.laws_device_streams.proofs.{Ends.shut_over, Keeping.Keeps, Keeping.keeps_each, Keeping.keeps_then, Keeping.keeps_while}
 use Rattle.laws_device_streams.proofs.Tables.{has_moved, some_after, some_from, stream_by_entry, value_by_entry}
 use Rattle.laws_device_streams.proofs.Writing.{all_stay, finds_changed}
 

@@ -6,21 +6,19 @@ use Rattle.vs_credit.specs.Credit.{free_of}
 use Rattle.vs_flow.specs.Table.{entry_under}
 use Rattle.vs_header.specs.{Packet.header_of, declared.Header.Header, declared.TheConstants.HEADER_LEN}
 use Rattle.vs_ring_port.specs.{Contents.Take, Contents.Write, Contents.Return, declared.device_ring.Chain.Chain}
-use Rattle.vs_ring_port.specs.{declared.device_ring.Next.Next, declared.queue.Queue.Queue}
-use Rattle.vs_ring_port.specs.declared.queue.Queue.TheVariants.{Rx, Tx, Event}
-use Rattle.vs_device_parts.specs.{Calls.Call, Calls.Ring, Calls.Situation, Calls.Allows, Connections.with_connection}
-use Rattle.vs_device_parts.specs.{State.DeviceEntry, State.DeviceState, Streams.shut_write, Streams.tick_slot, Streams.write_pending}
-use Rattle.vs_device_parts.specs.Receiving.{hold, may_read, put_owed, put_reply, read_with_chain}
-use Rattle.vs_device_parts.specs.Steps.{chain_came, filling, puts_event, puts_owed, puts_payload, puts_reply, reads, shuts_write}
-use Rattle.vs_device_parts.specs.Steps.{takes_chain, writes, writes_on, writing}
-use Rattle.vs_device_parts.specs.Transmitting.{failing, on_packet}
+use Rattle.vs_ring_port.specs.declared.{device_ring.Next.Next, queue.Queue.Queue, queue.Queue.TheVariants.Rx, queue.Queue.TheVariants.Tx}
+use Rattle.vs_ring_port.specs.declared.queue.Queue.TheVariants.{Event}
+use Rattle.vs_device_parts.specs.{Calls.Call, Calls.Ring, Calls.Situation, Calls.Allows, Connections.with_connection, State.DeviceEntry}
+use Rattle.vs_device_parts.specs.{State.DeviceState, Streams.shut_write, Streams.tick_slot, Streams.write_pending, Receiving.hold}
+use Rattle.vs_device_parts.specs.{Receiving.may_read, Receiving.put_owed, Receiving.put_reply, Receiving.read_with_chain, Steps.chain_came}
+use Rattle.vs_device_parts.specs.Steps.{filling, puts_event, puts_owed, puts_payload, puts_reply, reads, shuts_write, takes_chain, writes}
+use Rattle.vs_device_parts.specs.{Steps.writes_on, Steps.writing, Transmitting.failing, Transmitting.on_packet}
 use Rattle.vs_limits.specs.declared.TheConstants.{DEVICE_REPLIES}
 use Rattle.laws_device_streams.specs.{Split.CanReach, Split.is_quiet, Streams.FindsStreams}
 use Rattle.laws_device_streams.proofs.{Closing.found_by_slot, Closing.keeps_tick_slot, Closing.stays, Keeping.Keeps, Keeping.keeps_then}
 use Rattle.laws_device_streams.proofs.Receiving.{Fills, FillsFirst, from_table, keeps_hold, keeps_put_owed, keeps_put_reply_of}
-use Rattle.laws_device_streams.proofs.Receiving.{keeps_read_with_chain}
-use Rattle.laws_device_streams.proofs.Transmitting.{keeps_on_packet}
-use Rattle.laws_device_streams.proofs.Writing.{finds_changed, keeps_shut_write, keeps_write_pending}
+use Rattle.laws_device_streams.proofs.{Receiving.keeps_read_with_chain, Transmitting.keeps_on_packet, Writing.finds_changed}
+use Rattle.laws_device_streams.proofs.Writing.{keeps_shut_write, keeps_write_pending}
 use Rattle.vs_ring_port.specs.declared.device_ring.Next.TheVariants as next
 use Rattle.vs_ring_port.specs.declared.failure.Failure.TheVariants as failure
 

@@ -9,24 +9,21 @@ use Rattle.vs_header.specs.{Op.op_number, Packet.header_of, declared.Header.Head
 use Rattle.vs_header.specs.declared.Op.TheVariants.{Request}
 use Rattle.vs_limits.specs.declared.TheConstants.{BUF_ALLOC, DEVICE_REPLIES}
 use Rattle.vs_outside.specs.Host.{HostContents, IsDialed, IsOpen, Stream, after_dial, dial_answer, dialed_stream, fails_now, is_listened}
-use Rattle.vs_outside.specs.Host.{stream_at}
-use Rattle.vs_outside.specs.declared.host_net.Dialed.{Dialed}
+use Rattle.vs_outside.specs.{Host.stream_at, declared.host_net.Dialed.Dialed}
 use Rattle.vs_outside.proofs.Frames.{open-dialed, open_of, stream_at-after_dial}
 use Rattle.vs_page.specs.{Log.Device, Log.flow_to_host, Open.is_dropped}
 use Rattle.vs_ring_port.specs.{Contents.Read, Contents.Return, Contents.Take, declared.device_ring.Chain.Chain}
-use Rattle.vs_ring_port.specs.{declared.device_ring.Next.Next, declared.failure.Failure.Failure, declared.queue.Queue.TheVariants.Tx}
+use Rattle.vs_ring_port.specs.declared.{device_ring.Next.Next, failure.Failure.Failure, queue.Queue.TheVariants.Tx}
 use Rattle.vs_replies.specs.Owed.{reply_to}
 use Rattle.vs_uds.specs.{OkLine.ok_text, Path.path_of}
 use Rattle.vs_wrap.specs.Wrap.{counted}
-use Rattle.vs_device_parts.specs.{State.DeviceConnection, State.DeviceEntry, State.DeviceState, Streams.leaving}
-use Rattle.vs_device_parts.specs.Transmitting.{dial_answered, failing, heard, on_header, on_known, on_next, on_packet, on_unknown, refused}
-use Rattle.vs_device_parts.specs.Transmitting.{take_tx_of, try_request, unknown_why}
-use Rattle.vs_device_parts.specs.declared.answers.Taken.{Taken}
-use Rattle.vs_device_parts.specs.Calls.{Call, Dial, Ring, Situation, DeviceTree, Allows}
-use Rattle.vs_device_parts.specs.Connections.{new_connection, with_connection, with_reply}
+use Rattle.vs_device_parts.specs.{State.DeviceConnection, State.DeviceEntry, State.DeviceState, Streams.leaving, Transmitting.dial_answered}
+use Rattle.vs_device_parts.specs.Transmitting.{failing, heard, on_header, on_known, on_next, on_packet, on_unknown, refused, take_tx_of}
+use Rattle.vs_device_parts.specs.{Transmitting.try_request, Transmitting.unknown_why, declared.answers.Taken.Taken, Calls.Call, Calls.Dial}
+use Rattle.vs_device_parts.specs.{Calls.Ring, Calls.Situation, Calls.DeviceTree, Calls.Allows, Connections.new_connection}
+use Rattle.vs_device_parts.specs.Connections.{with_connection, with_reply}
 use Rattle.laws_device_streams.specs.{Split.CanReach, Split.is_quiet, Streams.FindsStreams, Streams.HasStreams, Streams.joined_stream}
-use Rattle.laws_device_streams.proofs.{Closing.IsFound, Closing.keeps_leaving, Closing.stays, Keeping.Keeps}
-use Rattle.laws_device_streams.proofs.Keeping.{keeps_then}
+use Rattle.laws_device_streams.proofs.{Closing.IsFound, Closing.keeps_leaving, Closing.stays, Keeping.Keeps, Keeping.keeps_then}
 use Rattle.laws_device_streams.proofs.{Tables.entry_by_flow, Tables.has_added, Tables.has_moved, Tables.some_after, Writing.finds_changed}
 use Rattle.vs_flow.proofs.Tables.{accepted, with_entry_sound}
 use Rattle.vs_conn.specs.declared.end.Verdict.TheVariants as verdict

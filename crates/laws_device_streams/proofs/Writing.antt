@@ -10,9 +10,8 @@ use Rattle.vs_outside.specs.declared.host_net.StreamWrite.TheVariants as write
 use Rattle.vs_outside.proofs.Frames.{open-after_shut_write, open-after_write, others-after_shut_write, others-after_write, stays_open}
 use Rattle.vs_device_parts.specs.Calls.{Call, ShutWrite, Situation, DeviceTree, WriteStream, Allows}
 use Rattle.vs_device_parts.specs.Connections.{after_shut, after_written, cut_off, with_connection, with_fault}
-use Rattle.vs_device_parts.specs.State.{DeviceConnection, DeviceEntry, DeviceState}
-use Rattle.vs_device_parts.specs.Streams.{Writing, closing, is_written_out, pump_of, pump_slot, shut_write, to_write, write_answered}
-use Rattle.vs_device_parts.specs.Streams.{write_pending}
+use Rattle.vs_device_parts.specs.{State.DeviceConnection, State.DeviceEntry, State.DeviceState, Streams.Writing, Streams.closing}
+use Rattle.vs_device_parts.specs.Streams.{is_written_out, pump_of, pump_slot, shut_write, to_write, write_answered, write_pending}
 use Rattle.vs_device_parts.proofs.Under.{has_slot}
 use Rattle.laws_device_streams.specs.{Split.CanReach, Split.is_quiet, Streams.FindsStreams, Streams.HasStreams, Streams.joined_stream}
 use Rattle.laws_device_streams.proofs.Closing.{IsFound, found_by_slot, keeps_cut_off, stream_open}

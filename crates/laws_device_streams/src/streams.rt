@@ -1,17 +1,15 @@
 //! The host's streams that the device's calls name are open.
 
 ghost use Rattle.std.specs.Prelude.{ℕ, Bool, List, Result};
-ghost use Rattle.vs_flow.specs.declared.flow.Flow.{Flow};
-ghost use Rattle.vs_flow.specs.declared.table.TableFault.{TableFault};
+ghost use Rattle.vs_flow.specs.declared.{flow.Flow.Flow, table.TableFault.TableFault};
 ghost use Rattle.vs_outside.specs.Host.{HostContents};
 ghost use Rattle.vs_ring_port.specs.declared.failure.Failure.{Failure};
-ghost use Rattle.vs_device_parts.specs.{Calls.DeviceTree, Calls.Situation, Playing.MayRun, Playing.Runs};
-ghost use Rattle.vs_device_parts.specs.{Receiving.fill_rx_of, Receiving.pay_event_of, State.DeviceState};
-ghost use Rattle.vs_device_parts.specs.{Streams.Writing, Streams.pump_of, Streams.tick_of, Transmitting.take_tx_of};
-ghost use Rattle.vs_device_parts.specs.Turns.{new_device, open_of, reset_of};
+ghost use Rattle.vs_device_parts.specs.{Calls.DeviceTree, Calls.Situation, Playing.MayRun, Playing.Runs, Receiving.fill_rx_of};
+ghost use Rattle.vs_device_parts.specs.{Receiving.pay_event_of, State.DeviceState, Streams.Writing, Streams.pump_of, Streams.tick_of};
+ghost use Rattle.vs_device_parts.specs.{Transmitting.take_tx_of, Turns.new_device, Turns.open_of, Turns.reset_of};
 ghost use Rattle.vs_device_parts.specs.declared.answers.{Filled.Filled, Taken.Taken};
-ghost use Rattle.laws_device_streams.specs.Split.{MayPut, MayReach};
-ghost use Rattle.laws_device_streams.specs.Streams.{AreOpen, FindsFree, FindsStreams, HasStreams};
+ghost use Rattle.laws_device_streams.specs.{Split.MayPut, Split.MayReach, Streams.AreOpen, Streams.FindsFree, Streams.FindsStreams};
+ghost use Rattle.laws_device_streams.specs.Streams.{HasStreams};
 
 /// Where the device has its streams, each of its calls may be made that puts no packet: all streams that it names are open. An opening needs a
 /// stream that is free. Of a call that puts packets the ring has to say what may be put.

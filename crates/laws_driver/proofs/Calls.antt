@@ -6,24 +6,23 @@ use Rattle.vs_contents.specs.CallTree.{Done, Ask, bind}
 use Rattle.vs_conn.specs.{End.CanSend, End.may_send_of, End.wanting_credit, End.with_payload_sent, declared.end.Stop.Stop}
 use Rattle.vs_flow.specs.Table.{IsTable}
 use Rattle.vs_page.specs.{Log.Driver, Log.Log, declared.page.TheConstants.PAYLOAD_MAX}
-use Rattle.vs_ring_port.specs.{declared.queue.Queue.Queue, declared.queue.TheConstants.STAGED_MAX, Contents.RingContents}
-use Rattle.vs_ring_port.specs.EndLog.{EndLog, entries_marked, log_loaded, log_published, log_staged}
-use Rattle.vs_ring_port.specs.DriverCalls.{Publish}
+use Rattle.vs_ring_port.specs.{declared.queue.Queue.Queue, declared.queue.TheConstants.STAGED_MAX, Contents.RingContents, EndLog.EndLog}
+use Rattle.vs_ring_port.specs.{EndLog.entries_marked, EndLog.log_loaded, EndLog.log_published, EndLog.log_staged, DriverCalls.Publish}
 use Rattle.vs_ring_port.specs.declared.queue.Queue.TheVariants.{Rx, Tx, Event}
 use Rattle.laws_tables.proofs.Keeps.{start_matches}
-use Rattle.vs_driver_parts.specs.{declared.answers.ConnectError.ConnectError, declared.answers.Polled.Polled, declared.answers.Sent.Sent}
+use Rattle.vs_driver_parts.specs.declared.answers.{ConnectError.ConnectError, Polled.Polled, Sent.Sent}
 use Rattle.vs_driver_parts.specs.{Connections.connect_refusal, Connections.connected, Playing.MayPublishAll, Playing.Plays}
 use Rattle.vs_driver_parts.specs.Conversations.{connect_of, connect_with_page, has_page, load_cid, new_of, new_state, no_credit, not_sent}
 use Rattle.vs_driver_parts.specs.Conversations.{one_more_in_flight, payload_bytes, payload_of, poll_of, post_all, post_events, post_one}
 use Rattle.vs_driver_parts.specs.Conversations.{post_packet, posts, publish_of, reap_all, request_bytes, send_of, send_on, send_stopped}
-use Rattle.vs_driver_parts.specs.Conversations.{send_with_credit, send_with_page, stage_of}
-use Rattle.vs_driver_parts.specs.State.{DriverEntry, DriverState, entry_known_as}
+use Rattle.vs_driver_parts.specs.{Conversations.send_with_credit, Conversations.send_with_page, Conversations.stage_of, State.DriverEntry}
+use Rattle.vs_driver_parts.specs.State.{DriverState, entry_known_as}
 use Rattle.vs_limits.specs.declared.TheConstants.{LAST_PORT}
 use Rattle.laws_driver.specs.Honest.{AgreesWith, IsFitState, IsFresh, IsHonestWith, ends_of_state}
 use Rattle.laws_driver.specs.Staged.{IsLeft}
 use Rattle.laws_driver.proofs.{Putting.connect_puts, Putting.send_puts, Polling.not_tx_event, Polling.not_tx_rx, Polling.poll_keeps}
-use Rattle.laws_driver.proofs.{Tabling.Stands, Changing.Changes, Changing.stands_known, Changing.wanting_changes}
-use Rattle.laws_driver.proofs.Keeping.{Keeps, keeps_bind, keeps_end, keeps_may, keeps_weaker, keeps_while}
+use Rattle.laws_driver.proofs.{Tabling.Stands, Changing.Changes, Changing.stands_known, Changing.wanting_changes, Keeping.Keeps}
+use Rattle.laws_driver.proofs.Keeping.{keeps_bind, keeps_end, keeps_may, keeps_weaker, keeps_while}
 use Rattle.laws_driver.proofs.Ringing.{IsAtRest, Tells, agrees, at_rest, can_publish_other, moves, tells_weaker, can_stage_other}
 use Rattle.laws_driver.proofs.Staging.{Rests, SameBut, post_tx, reap_keeps}
 use Rattle.vs_driver_parts.specs.declared.answers.ConnectError.TheVariants as refused

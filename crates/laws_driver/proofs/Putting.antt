@@ -1,11 +1,10 @@
 -- The steps at which the driver puts a packet: a connection of its own is asked for, payload is sent, what is owed is paid.
-use Rattle.std.proofs.{lemmas.Bool.Decides.nat_tests, lemmas.List.append-nil, lemmas.List.Elements.All-head, lemmas.List.Elements.All-tail}
+use Rattle.std.proofs.lemmas.{Bool.Decides.nat_tests, List.append-nil, List.Elements.All-head, List.Elements.All-tail}
 use Rattle.std.proofs.Common.{◌≡◌, ℕ, ◌+◌, ◌<◌, ◌≤◌, ◌^◌, nat_lt, nat_le, Bool, true, false, cond, List, [], ◌∷◌, length, Some, None, refl}
 use Rattle.std.proofs.Common.{inl, sym, ap, subst, ◌∙◌, arith, ◌||◌}
 use Rattle.std.specs.List.{All}
 use Rattle.vs_conn.specs.{Headers.owed_flags, Headers.owed_header, Headers.owed_op, Headers.payload_header, declared.end.Owed.Owed}
-use Rattle.vs_conn.specs.End.{CanSend, ConnectionEnd, asked, owes_of, paid_of, with_payload_sent}
-use Rattle.vs_conn.specs.Follows.{FitsMessage}
+use Rattle.vs_conn.specs.{End.CanSend, End.ConnectionEnd, End.asked, End.owes_of, End.paid_of, End.with_payload_sent, Follows.FitsMessage}
 use Rattle.vs_conn.proofs.{Frames.paid_kind, Steps.stream_fits}
 use Rattle.vs_header.specs.{Packet.header_bytes, declared.Header.Header, declared.Kind.TheVariants.Stream}
 use Rattle.laws_history.specs.History.{puts}
@@ -15,15 +14,15 @@ use Rattle.vs_flow.proofs.{Tables.IsAccepted, Entries.find_none}
 use Rattle.vs_page.specs.{Held.FitsWire, Log.Driver, Log.Log, Log.history_of, Log.side_by, declared.log.LogEntry.TheVariants.PutPacket}
 use Rattle.vs_page.specs.declared.page.TheConstants.{PAYLOAD_MAX}
 use Rattle.vs_replies.specs.declared.Reply.{Reply}
-use Rattle.laws_tables.specs.{Ends.Ends, Ends.FlowEnd, Matches.Matches}
-use Rattle.laws_tables.specs.Steps.{IsNextFlow, opened, owed_on, paid, payload_on, reply_on, request_on, with_end}
-use Rattle.laws_tables.proofs.{Slots.added_slot, Steps.port_next, OwedFlags.owed_flags_fit}
-use Rattle.laws_tables.proofs.Keeps.{opens, opens_fair, pays, pays_fair, replies, replies_fair, sends, sends_fair}
+use Rattle.laws_tables.specs.{Ends.Ends, Ends.FlowEnd, Matches.Matches, Steps.IsNextFlow, Steps.opened, Steps.owed_on, Steps.paid}
+use Rattle.laws_tables.specs.Steps.{payload_on, reply_on, request_on, with_end}
+use Rattle.laws_tables.proofs.{Slots.added_slot, Steps.port_next, OwedFlags.owed_flags_fit, Keeps.opens, Keeps.opens_fair, Keeps.pays}
+use Rattle.laws_tables.proofs.Keeps.{pays_fair, replies, replies_fair, sends, sends_fair}
 use Rattle.vs_driver_parts.specs.Connections.{connect_refusal, connected, is_full, next_flow, paid_connection, route_to_host}
-use Rattle.vs_driver_parts.specs.Connections.{with_connection}
-use Rattle.vs_driver_parts.specs.Conversations.{after_paying, owed_bytes, payload_bytes, reply_header, request_bytes}
-use Rattle.vs_driver_parts.specs.declared.answers.ConnectError.{ConnectError}
-use Rattle.vs_driver_parts.specs.State.{DriverConnection, DriverEntry, DriverState, slots_held}
+use Rattle.vs_driver_parts.specs.{Connections.with_connection, Conversations.after_paying, Conversations.owed_bytes}
+use Rattle.vs_driver_parts.specs.Conversations.{payload_bytes, reply_header, request_bytes}
+use Rattle.vs_driver_parts.specs.{declared.answers.ConnectError.ConnectError, State.DriverConnection, State.DriverEntry, State.DriverState}
+use Rattle.vs_driver_parts.specs.State.{slots_held}
 use Rattle.laws_driver.specs.Honest.{IsFitFlow, IsFitReply, IsFitState, end_in, ends_of_state}
 use Rattle.vs_page.proofs.Packets.{held_alone, held_payload}
 use Rattle.laws_driver.proofs.{Bytes.header_fits, Bytes.reset_fits, Fits.IsHeldBy, Fits.paid_fits, Fits.sent_fits, Ringing.Puts}
@@ -41,9 +40,11 @@ pub record Pays (what : Owed) (e : DriverEntry) (s t : DriverState) : Type 0 whe
 
 pays_by : (what : Owed) (e : DriverEntry) (s : DriverState) (c : DriverConnection) → c.end ≡ paid_of e.value.end what → IsHeldBy c → IsFitState s
     → Stands s e → (ends_of_state (with_connection e.slot c s) ≡ with_end e.flow (paid_of e.value.end what) (ends_of_state s)) × IsFitState (with_connection e.slot c s)
-pays_by what e s c is held fits stands =
-    (connection_ends s e c fits stands ∙ ap (λ (x : ConnectionEnd). with_end e.flow x (ends_of_state s)) is, connection_fits s e.slot c fits held
-    (ap (λ (x : ConnectionEnd). x.kind) is ∙ paid_kind e.value.end what ∙ (entry_fits s e fits stands).kind))
+pays_by what e s c is held fits stands = (
+  connection_ends s e c fits stands ∙ ap (λ (x : ConnectionEnd). with_end e.flow x (ends_of_state s)) is,
+  connection_fits s e.slot c fits held
+      (ap (λ (x : ConnectionEnd). x.kind) is ∙ paid_kind e.value.end what ∙ (entry_fits s e fits stands).kind),
+)
 
 pays_state : (what : Owed) (e : DriverEntry) (s : DriverState) → IsFitState s → Stands s e → IsHeldBy e.value → Pays what e s (after_paying what e s)
 pays_state owed.Rst e s fits stands held = let l = leaves s e e.value fits stands in record { ends = l.ends; fits = l.fits; broken = l.broken }

@@ -6,8 +6,7 @@ use Rattle.laws_history.specs.{declared.packet.Packet.Packet, Packets.packet_byt
 use Rattle.vs_page.specs.{Fair.IsFairLog, Held.packet_held, Log.Driver, Log.Log, declared.log.LogEntry.TheVariants.PutPacket}
 use Rattle.vs_ring_port.specs.{EndLog.EndLog, EndLog.all_put, EndLog.log_published, EndLog.log_staged, EndLog.with_packet, Lists.Rings}
 use Rattle.vs_ring_port.specs.DriverCalls.{CanPublish, CanStage, DriverAnswer, DriverCall, DriverMoves, HoldsPacket}
-use Rattle.vs_ring_port.specs.declared.queue.Queue.{Queue}
-use Rattle.vs_ring_port.specs.declared.queue.Queue.TheVariants.{Rx, Tx, Event}
+use Rattle.vs_ring_port.specs.declared.queue.Queue.{Queue, TheVariants.Rx, TheVariants.Tx, TheVariants.Event}
 use Rattle.vs_ring_port.specs.Contents.{RingContents}
 use Rattle.laws_tables.specs.Matches.{Matches}
 use Rattle.vs_driver_parts.specs.State.{DriverState}

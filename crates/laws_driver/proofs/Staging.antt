@@ -1,12 +1,11 @@
 -- What staging, publishing and getting back pages keeps.
 use Rattle.std.proofs.Common.{◌≡◌, ℕ, ◌+◌, ◌-◌, ◌==◌, Bool, true, false, cond, List, Option, Some, None, refl, ap}
 use Rattle.vs_contents.specs.CallTree.{Done, Ask}
-use Rattle.vs_ring_port.specs.{declared.queue.Queue.Queue, declared.queue.TheConstants.STAGED_MAX, declared.queue.Queue.TheVariants.Tx}
-use Rattle.vs_ring_port.specs.{Contents.RingContents, DriverCalls.Publish, DriverCalls.Reap}
-use Rattle.vs_ring_port.specs.EndLog.{EndLog, log_published, log_reaped, log_staged}
-use Rattle.vs_driver_parts.specs.{State.DriverState, Playing.RingAllows}
-use Rattle.vs_driver_parts.specs.Conversations.{one_more_in_flight, post_packet, publish_of, reap_all, reap_one, reaped, stage_of}
-use Rattle.vs_driver_parts.specs.Conversations.{stage_packet}
+use Rattle.vs_ring_port.specs.declared.queue.{Queue.Queue, TheConstants.STAGED_MAX, Queue.TheVariants.Tx}
+use Rattle.vs_ring_port.specs.{Contents.RingContents, DriverCalls.Publish, DriverCalls.Reap, EndLog.EndLog, EndLog.log_published}
+use Rattle.vs_ring_port.specs.EndLog.{log_reaped, log_staged}
+use Rattle.vs_driver_parts.specs.{State.DriverState, Playing.RingAllows, Conversations.one_more_in_flight, Conversations.post_packet}
+use Rattle.vs_driver_parts.specs.Conversations.{publish_of, reap_all, reap_one, reaped, stage_of, stage_packet}
 use Rattle.laws_driver.proofs.Ringing.{IsAtRest, Puts, Tells, can_publish, can_publish_other, moves, publishes, publishes_other, stages}
 use Rattle.laws_driver.proofs.Ringing.{stages_other, tells_weaker, tied, can_stage, can_stage_other}
 use Rattle.laws_driver.proofs.Keeping.{Keeps, keeps_while}

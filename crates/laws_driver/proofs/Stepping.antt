@@ -4,17 +4,16 @@ use Rattle.vs_contents.specs.CallTree.{Done, Ask}
 use Rattle.vs_conn.specs.{End.may_send_of, End.wanting_credit, declared.end.Stop.Stop}
 use Rattle.vs_ring_port.specs.{Contents.RingContents, DriverCalls.Reap, EndLog.EndLog, EndLog.log_reaped, declared.queue.Queue.Queue}
 use Rattle.vs_ring_port.specs.declared.queue.Queue.TheVariants.{Rx, Tx, Event}
-use Rattle.vs_driver_parts.specs.{declared.answers.ConnectError.ConnectError, declared.answers.Sent.Sent}
-use Rattle.vs_driver_parts.specs.{State.DriverEntry, State.DriverState, State.entry_known_as, Connections.connect_refusal}
-use Rattle.vs_driver_parts.specs.Conversations.{connect_with_page, has_page, no_credit, not_sent, payload_of, publish_of, put_owed}
-use Rattle.vs_driver_parts.specs.Conversations.{put_reply, reap_one, reaped, send_stopped, send_with_page, start, take_event, take_packet}
+use Rattle.vs_driver_parts.specs.{declared.answers.ConnectError.ConnectError, declared.answers.Sent.Sent, State.DriverEntry}
+use Rattle.vs_driver_parts.specs.{State.DriverState, State.entry_known_as, Connections.connect_refusal, Conversations.connect_with_page}
+use Rattle.vs_driver_parts.specs.Conversations.{has_page, no_credit, not_sent, payload_of, publish_of, put_owed, put_reply, reap_one}
+use Rattle.vs_driver_parts.specs.Conversations.{reaped, send_stopped, send_with_page, start, take_event, take_packet}
 use Rattle.vs_driver_parts.specs.Steps.{connects, sends, sends_on, sends_with_credit, stages_owed, stages_reply, takes_page}
 use Rattle.laws_driver.specs.{Honest.IsFitState, Honest.IsHonestWith, Staged.IsTied, Staged.IsTiedWith, Staged.IsWorkingWith}
 use Rattle.laws_driver.proofs.{Changing.stands_known, Changing.wanting_changes, Keeping.Keeps, Keeping.keeps_bind, Keeping.keeps_weaker}
-use Rattle.laws_driver.proofs.{Staging.Rests, Staging.publish_other, Staging.publish_tx, Tabling.Stands}
-use Rattle.laws_driver.proofs.Calls.{can_send, changed, connect_page_keeps, honest_of, paged_by, rests_of}
-use Rattle.laws_driver.proofs.Polling.{PairRests, not_tx_event, not_tx_rx, put_owed_keeps, put_reply_keeps, take_event_keeps}
-use Rattle.laws_driver.proofs.Polling.{take_packet_keeps}
+use Rattle.laws_driver.proofs.{Staging.Rests, Staging.publish_other, Staging.publish_tx, Tabling.Stands, Calls.can_send, Calls.changed}
+use Rattle.laws_driver.proofs.{Calls.connect_page_keeps, Calls.honest_of, Calls.paged_by, Calls.rests_of, Polling.PairRests}
+use Rattle.laws_driver.proofs.Polling.{not_tx_event, not_tx_rx, put_owed_keeps, put_reply_keeps, take_event_keeps, take_packet_keeps}
 use Rattle.laws_driver.proofs.Ringing.{IsAtRest, moves, tells_weaker}
 use Rattle.vs_driver_parts.specs.declared.answers.Sent.TheVariants as sent
 use Rattle.vs_driver_parts.specs.Connections as connections

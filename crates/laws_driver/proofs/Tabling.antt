@@ -4,9 +4,8 @@ use Rattle.std.proofs.Common.{arith}
 use Rattle.std.proofs.lemmas.List.Elements.{All-map, All-push, All-filter}
 use Rattle.std.specs.Prelude.{Contains}
 use Rattle.vs_header.specs.declared.Kind.TheVariants.{Stream}
-use Rattle.vs_flow.specs.Flow.{is_assigned}
-use Rattle.vs_flow.specs.Table.{Table, entry_under, with_entry, without, next_entry, revalued}
-use Rattle.vs_flow.specs.declared.flow.Flow.{Flow}
+use Rattle.vs_flow.specs.{Flow.is_assigned, Table.Table, Table.entry_under, Table.with_entry, Table.without, Table.next_entry}
+use Rattle.vs_flow.specs.{Table.revalued, declared.flow.Flow.Flow}
 use Rattle.vs_limits.specs.declared.TheConstants.{HOST_CID, LAST_PORT}
 use Rattle.vs_flow.proofs.Tables.{revalued-flow, with_value_sound, without_sound, with_entry_sound, IsAccepted}
 use Rattle.laws_tables.specs.{Ends.Ends, Ends.FlowEnd, Ends.entries_of, Steps.HasEnd, Steps.with_end, Steps.left}

@@ -1,11 +1,11 @@
 -- A packet that is got: the driver's connections are those that the log with it leaves, and a fair one is never refused.
-use Rattle.std.proofs.{lemmas.Bool.Decides.nat_tests, lemmas.List.Elements.All-push, lemmas.Bool.and_parts, lemmas.Bool.eqb-true}
+use Rattle.std.proofs.lemmas.{Bool.Decides.nat_tests, List.Elements.All-push, Bool.and_parts, Bool.eqb-true}
 use Rattle.std.proofs.Common.{◌≡◌, ℕ, ◌<◌, ◌≤◌, ◌&&◌, nat_le, Bool, true, false, cond, not, List, [], ◌∷◌, Option, Some, None, refl, sym}
 use Rattle.std.proofs.Common.{ap, subst, ◌∙◌, arith, rules}
 use Rattle.vs_conn.specs.End.{ConnectionEnd, answering, end_after, is_of, is_refused, is_reset, verdict_of}
 use Rattle.vs_conn.specs.declared.end.Verdict.{Verdict}
 use Rattle.vs_conn.proofs.Frames.{got_kind}
-use Rattle.vs_header.specs.{declared.Header.Header, declared.Kind.TheVariants.Stream}
+use Rattle.vs_header.specs.declared.{Header.Header, Kind.TheVariants.Stream}
 use Rattle.laws_history.specs.{Packets.is_rst, declared.packet.Packet.Packet}
 use Rattle.vs_limits.specs.declared.TheConstants.{BUF_ALLOC, HOST_CID, LAST_ID, DRIVER_CONNECTIONS}
 use Rattle.vs_flow.specs.{Flow.is_assigned, Flow.is_host, Flow.same_flow, Table.entry_of, declared.flow.Flow.Flow}
@@ -14,16 +14,14 @@ use Rattle.vs_page.specs.{Fair.IsFairLog, Held.IsWhole, Log.Driver, Log.Log, Log
 use Rattle.vs_page.specs.declared.log.LogEntry.TheVariants.{GotPacket}
 use Rattle.vs_page.proofs.Flows.{same_is}
 use Rattle.vs_replies.specs.{Owed.reply_to, declared.Reply.Reply}
-use Rattle.laws_tables.specs.{Ends.Ends, Ends.FlowEnd, Heard.IsInOrder, Heard.heard_of, Matches.Matches}
-use Rattle.laws_tables.specs.Steps.{HasEnd, HasNone, accepted, forgotten, is_kept, is_message, left, taken, with_clean, with_end}
-use Rattle.laws_tables.proofs.Keeps.{accepts, drops, forgets, ignores, refuses, takes}
-use Rattle.laws_tables.proofs.Fair.{got_in_order, got_is_taken, got_not_refused, heard_all}
-use Rattle.laws_tables.proofs.Slots.{added_slot, found_by, no_entry}
+use Rattle.laws_tables.specs.{Ends.Ends, Ends.FlowEnd, Heard.IsInOrder, Heard.heard_of, Matches.Matches, Steps.HasEnd, Steps.HasNone}
+use Rattle.laws_tables.specs.Steps.{accepted, forgotten, is_kept, is_message, left, taken, with_clean, with_end}
+use Rattle.laws_tables.proofs.{Keeps.accepts, Keeps.drops, Keeps.forgets, Keeps.ignores, Keeps.refuses, Keeps.takes, Fair.got_in_order}
+use Rattle.laws_tables.proofs.{Fair.got_is_taken, Fair.got_not_refused, Fair.heard_all, Slots.added_slot, Slots.found_by, Slots.no_entry}
 use Rattle.vs_driver_parts.specs.{Playing.FitsPorts, State.DriverConnection, State.DriverEntry, State.DriverState, State.slots_held}
 use Rattle.vs_driver_parts.specs.Connections.{after_leaving, is_full, with_connection, with_request}
 use Rattle.vs_driver_parts.specs.Receiving.{after_packet, after_verdict, is_request, may_open, on_heard, on_known, on_packet, on_unknown}
-use Rattle.vs_driver_parts.specs.Receiving.{with_reply}
-use Rattle.vs_driver_parts.specs.Listening.{has_place}
+use Rattle.vs_driver_parts.specs.{Receiving.with_reply, Listening.has_place}
 use Rattle.vs_driver_parts.proofs.{Ids.found_under, Packets.packet_known, Packets.packet_unknown}
 use Rattle.laws_driver.specs.Honest.{IsFitFlow, IsFitReply, IsFitState, end_in, ends_of_state}
 use Rattle.laws_driver.proofs.Tabling.{Stands, connection_ends, connection_fits, entry_fits, has_end, leaves, opening_fits}
@@ -40,9 +38,11 @@ pub record Gets (first : ℕ) (p : Packet) (s : DriverState) (log : Log) (t : Dr
 module _ (p : Packet) (e : DriverEntry) (s : DriverState) (fits : IsFitState s) (stands : Stands s e) where
   stays : (c : DriverConnection) → c.end ≡ end_after e.value.end p.header → IsHeldBy c
       → (ends_of_state (with_connection e.slot c s) ≡ with_end e.flow (end_after e.value.end p.header) (ends_of_state s)) × IsFitState (with_connection e.slot c s)
-  stays c is held =
-      (connection_ends s e c fits stands ∙ ap (λ (x : ConnectionEnd). with_end e.flow x (ends_of_state s)) is, connection_fits s e.slot c fits held
-      (ap (λ (x : ConnectionEnd). x.kind) is ∙ got_kind e.value.end p.header ∙ (entry_fits s e fits stands).kind))
+  stays c is held = (
+    connection_ends s e c fits stands ∙ ap (λ (x : ConnectionEnd). with_end e.flow x (ends_of_state s)) is,
+    connection_fits s e.slot c fits held
+        (ap (λ (x : ConnectionEnd). x.kind) is ∙ got_kind e.value.end p.header ∙ (entry_fits s e fits stands).kind),
+  )
 
   -- A state that a connection leaves or in which it stays.
   peer_by : (b : Bool) (c : DriverConnection) → c.end ≡ end_after e.value.end p.header → IsHeldBy c

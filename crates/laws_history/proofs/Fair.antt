@@ -3,7 +3,6 @@ use Rattle.std.proofs.{Common.◌≤◌, Common.List, Common.[], Common.◌∷�
 use Rattle.laws_history.specs.{declared.packet.Packet.Packet, Packets.bytes, Packets.told_forwarded, Packets.told_alloc, Packets.allowance}
 use Rattle.laws_history.specs.History.{History, Entry, Put, Got, Side, puts, gots, MayPut, Allows, IsFair, IsOpening}
 use Rattle.vs_limits.specs.declared.TheConstants.{BUF_ALLOC_MAX}
-use Rattle.vs_limits.specs.declared.TheConstants.{BUF_ALLOC_MAX}
 
 -- What an end tells never falls.
 pub record Rises (p : Packet) (ps : List Packet) : Type 0 where

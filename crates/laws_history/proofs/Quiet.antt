@@ -2,9 +2,8 @@
 use Rattle.std.proofs.Common.{◌≡◌, ℕ, ◌-◌, ◌≤◌, Bool, true, false, ◌||◌, List, [], ◌∷◌, ◌++◌, refl, sym, ap, ◌∙◌, subst, subst₂, arith}
 use Rattle.std.proofs.lemmas.Grind.{common_steps}
 use Rattle.laws_history.specs.History.{Answerer, Asker, Got, HasGot, History, IsFair, MayPut, Put, Side, gots, puts}
-use Rattle.laws_history.specs.declared.packet.Packet.{Packet}
-use Rattle.laws_history.specs.Packets.{has, has_both, is_clean_rst, is_request, is_rst}
-use Rattle.laws_history.specs.Again.{IsClean, IsFairAll, after, count, present, since_request}
+use Rattle.laws_history.specs.{declared.packet.Packet.Packet, Packets.has, Packets.has_both, Packets.is_clean_rst, Packets.is_request}
+use Rattle.laws_history.specs.{Packets.is_rst, Again.IsClean, Again.IsFairAll, Again.after, Again.count, Again.present, Again.since_request}
 use Rattle.laws_history.proofs.{Lists.after_more, Lists.count_append, Lists.since_more, FairPairs.closed, FairPairs.counts_answerer}
 use Rattle.laws_history.proofs.{Now.clean_after, Now.clean_most, Present.fair_once, Present.is_present}
 

@@ -1,12 +1,11 @@
 //! Laws of histories: what fairness gives, and the lemma of two ends.
 
 ghost use Rattle.std.specs.Prelude.{◌≡◌, ◌+◌, ◌<◌, ◌≤◌, true, false, List, [], ◌∷◌, ◌++◌};
-ghost use Rattle.laws_history.specs.declared.packet.Packet.{Packet};
-ghost use Rattle.vs_limits.specs.declared.TheConstants.{BUF_ALLOC, BUF_ALLOC_MAX};
-ghost use Rattle.vs_limits.specs.declared.TheConstants.{BUF_ALLOC, BUF_ALLOC_MAX};
-ghost use Rattle.laws_history.specs.History.{Allows, Entry, Got, HasGot, History, IsFair, IsNext, IsOpening, Put, Side, gots, peer, puts};
-ghost use Rattle.laws_history.specs.Packets.{allowance, bytes, forwarded_by, is_request, is_rst, is_rw, has, tells, shuts_send, size};
+ghost use Rattle.laws_history.specs.{declared.packet.Packet.Packet, History.Allows, History.Entry, History.Got, History.HasGot};
+ghost use Rattle.laws_history.specs.History.{History, IsFair, IsNext, IsOpening, Put, Side, gots, peer, puts};
+ghost use Rattle.laws_history.specs.Packets.{allowance, bytes, forwarded_by, is_rst, is_rw, has, tells, shuts_send, size};
 ghost use Rattle.laws_history.specs.Packets.{told_alloc, told_forwarded};
+ghost use Rattle.vs_limits.specs.declared.TheConstants.{BUF_ALLOC, BUF_ALLOC_MAX};
 
 /// What fairness says of a connection's credit and order. Its first entry is its REQUEST, and no other packet is. The payload put, at each
 /// packet put, is within the credit advertised by the newest packet got; what is said to be forwarded never falls and is at most the

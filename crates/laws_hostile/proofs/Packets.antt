@@ -4,13 +4,12 @@ use Rattle.vs_limits.specs.declared.TheConstants.{GUEST_CID_MIN, GUEST_CID_MAX}
 use Rattle.vs_contents.specs.CallTree.{Leads}
 use Rattle.vs_ring_plain.specs.Device.{DeviceState}
 use Rattle.vs_device_parts.specs.Calls.{DeviceTree}
-use Rattle.vs_hostile.specs.{Answer.state_after, Answers.Around}
-use Rattle.vs_hostile.specs.Run.{Done, GuestState, HasMemory, HasRings, HasTurned, HostileState, Nothing, Said, WasReset, hostile_does}
-use Rattle.vs_hostile.specs.Run.{line_in, outside_does, over, over_rings}
+use Rattle.vs_hostile.specs.{Answer.state_after, Answers.Around, Run.Done, Run.GuestState, Run.HasMemory, Run.HasRings, Run.HasTurned}
+use Rattle.vs_hostile.specs.Run.{HostileState, Nothing, Said, WasReset, hostile_does, line_in, outside_does, over, over_rings}
 use Rattle.vs_proxy_parts.specs.{State.ProxyState, Turns.proxy_reset_of, Turns.turn_of}
 use Rattle.laws_proxy_bytes.specs.{Made.Made, Made.Makes, Made.account_of, Packets.AreJudged, Tied.AccountsFor, Told.Shows}
-use Rattle.laws_proxy_bytes.proofs.{Keeping.Keeps, Turning.keeps_proxy_reset, Turning.keeps_turn}
-use Rattle.laws_proxy_bytes.proofs.Packets.{joined, nothing_judged, reset_is_judged, turn_is_judged}
+use Rattle.laws_proxy_bytes.proofs.{Keeping.Keeps, Turning.keeps_proxy_reset, Turning.keeps_turn, Packets.joined, Packets.nothing_judged}
+use Rattle.laws_proxy_bytes.proofs.Packets.{reset_is_judged, turn_is_judged}
 use Rattle.vs_script.specs.Hostile.{Hostile, Write, WriteDesc, Give, Index, Packet, Before, Look}
 use Rattle.vs_script.specs.Outside.{Client, OfHost, Outside, Reset, Tick}
 use Rattle.laws_hostile.specs.Recorded.{calls_of, made_in, made_over, outside_made, recorded}

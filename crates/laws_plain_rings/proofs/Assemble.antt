@@ -3,17 +3,16 @@ use Rattle.std.proofs.Common.{◌≡◌, ℕ, ◌+◌, ◌*◌, ◌<◌, ◌≤�
 use Rattle.vs_guest_mem.specs.Memory.{Memory, bytes_at}
 use Rattle.vs_layout.specs.declared.place.Areas.{Areas}
 use Rattle.vs_page.specs.Log.{Log}
-use Rattle.vs_ring_port.specs.{Chains.Held, Chains.same_queue, EndLog.pages_at, EndLog.with_pages}
-use Rattle.vs_ring_port.specs.Lists.{Lists, queue_of, with_queue}
-use Rattle.vs_ring_port.specs.declared.queue.Queue.{Queue}
-use Rattle.vs_ring_port.specs.declared.queue.Queue.TheVariants.{Rx, Tx, Event}
+use Rattle.vs_ring_port.specs.{Chains.Held, Chains.same_queue, EndLog.pages_at, EndLog.with_pages, Lists.Lists, Lists.queue_of}
+use Rattle.vs_ring_port.specs.{Lists.with_queue, declared.queue.Queue.Queue, declared.queue.Queue.TheVariants.Rx}
+use Rattle.vs_ring_port.specs.declared.queue.Queue.TheVariants.{Tx, Event}
 use Rattle.vs_ring_list.specs.{Ends.Ends, Sound.IsTied}
 use Rattle.vs_ring_plain.specs.Device.{DeviceState, HeldChain, turns_at, with_memory, with_turns}
 use Rattle.vs_ring_plain.specs.declared.turns.Turns.{Turns}
 use Rattle.vs_plain_driver.specs.Queue.{DriverQueueState}
-use Rattle.laws_plain_rings.specs.Parts.{PartsState, driver_at, with_driver, with_parts_memory}
-use Rattle.laws_plain_rings.specs.{Queue.IsQueueTied, Queue.times, Shown.Shown, Shown.shown}
-use Rattle.laws_plain_rings.specs.Tie.{AreHeldAs, AreTied, IsLaid, IsTiedAt, areas_of, heads_of, shown_of, start_in, start_of}
+use Rattle.laws_plain_rings.specs.{Parts.PartsState, Parts.driver_at, Parts.with_driver, Parts.with_parts_memory, Queue.IsQueueTied}
+use Rattle.laws_plain_rings.specs.{Queue.times, Shown.Shown, Shown.shown, Tie.AreHeldAs, Tie.AreTied, Tie.IsLaid, Tie.IsTiedAt}
+use Rattle.laws_plain_rings.specs.Tie.{areas_of, heads_of, shown_of, start_in, start_of}
 use Rattle.laws_plain_rings.proofs.{Held.held_from, Held.held_kept, QueueSteps.tie_same, Queues.of_each, Spots.Untouched, Spots.laid_same}
 
 -- one queue of both ends, as its tie sees it

@@ -6,10 +6,8 @@ use Rattle.std.proofs.lemmas.Bool.{false≢true}
 use Rattle.std.proofs.lemmas.List.Sums.{sum_by-cons}
 use Rattle.vs_ring_list.proofs.Held.{same_chain_is, same_chain_refl, same_queue_is, same_queue_refl}
 use Rattle.vs_ring_port.specs.Chains.{Held, bytes_in, held_of, same_chain, same_queue, with_bytes, without_held}
-use Rattle.vs_ring_port.specs.declared.device_ring.Chain.{Chain}
-use Rattle.vs_ring_port.specs.declared.queue.Queue.{Queue}
-use Rattle.vs_ring_plain.specs.Device.{HeldChain, hold_of, without_hold}
-use Rattle.vs_ring_plain.specs.declared.piece.Piece.{Piece}
+use Rattle.vs_ring_port.specs.declared.{device_ring.Chain.Chain, queue.Queue.Queue}
+use Rattle.vs_ring_plain.specs.{Device.HeldChain, Device.hold_of, Device.without_hold, declared.piece.Piece.Piece}
 use Rattle.laws_plain_rings.specs.{Queue.times, Shown.Shown, Tie.AreHeldAs, Tie.IsHeldAs, Tie.heads_of}
 use Rattle.laws_plain_rings.proofs.{Counting.here, Counting.times-cons, Counting.times-self, Queues.turned}
 

@@ -4,9 +4,8 @@ use Rattle.vs_contents.specs.{CallTree.Ask, CallTree.CallTree, CallTree.Done, Ca
 use Rattle.vs_ring_port.specs.{EndLog.EndLog, EndLog.log_loaded, EndLog.log_reaped, EndLog.log_taken, declared.device_ring.Next.Next}
 use Rattle.vs_ring_port.specs.Contents.{DeviceAnswer, DeviceCall, Given, PublishCid, Read, Return, RingContents, Take, Write}
 use Rattle.vs_ring_port.specs.DriverCalls.{DriverAllows, DriverAnswer, DriverCall, DriverMoves, LoadCid, Publish, Reap, Stage}
-use Rattle.vs_ring_port.specs.DriverCalls.{driver_answer}
-use Rattle.vs_ring_port.specs.Lists.{Rings, after_publish, after_return, next_at, oldest, queue_of}
-use Rattle.vs_ring_port.specs.DeviceCalls.{DeviceAllows, DeviceMoves, device_answer}
+use Rattle.vs_ring_port.specs.{DriverCalls.driver_answer, Lists.Rings, Lists.after_publish, Lists.after_return, Lists.next_at, Lists.oldest}
+use Rattle.vs_ring_port.specs.{Lists.queue_of, DeviceCalls.DeviceAllows, DeviceCalls.DeviceMoves, DeviceCalls.device_answer}
 use Rattle.vs_ring_list.specs.Ends.{Ends}
 use Rattle.laws_plain_rings.specs.Seen.{ShowsDevice, ShowsDriver}
 

@@ -7,18 +7,16 @@ use Rattle.vs_guest_mem.specs.Memory.{Memory, after_write}
 use Rattle.vs_header.proofs.RoundTrip.{little_number-little_bytes}
 use Rattle.vs_page.specs.{Fair.IsFairLog, Log.Driver}
 use Rattle.vs_ring_port.specs.{Chains.same_queue, DriverCalls.LoadCid, DriverCalls.Publish, EndLog.entries_published, EndLog.pages_at}
-use Rattle.vs_ring_port.specs.Lists.{Lists, queue_of}
-use Rattle.vs_ring_port.specs.declared.queue.Queue.{Queue}
+use Rattle.vs_ring_port.specs.{Lists.Lists, Lists.queue_of, declared.queue.Queue.Queue}
 use Rattle.vs_ring_list.specs.Ends.{Ends}
 use Rattle.vs_ring_list.proofs.Ties.{tied-load, tied-publish}
 use Rattle.vs_ring_plain.specs.Device.{turns_at}
 use Rattle.vs_plain_driver.specs.Queue.{DriverQueueState, published_memory, published_queue}
-use Rattle.laws_plain_rings.specs.{Calls.after_driver, Parts.PartsState, Parts.driver_at, Parts.published_parts, Shown.shown}
-use Rattle.laws_plain_rings.specs.Tie.{AreTied, areas_of, heads_of, shown_of, start_of}
+use Rattle.laws_plain_rings.specs.{Calls.after_driver, Parts.PartsState, Parts.driver_at, Parts.published_parts, Shown.shown, Tie.AreTied}
+use Rattle.laws_plain_rings.specs.Tie.{areas_of, heads_of, shown_of, start_of}
 use Rattle.laws_plain_rings.proofs.{Assemble.driver_form, Assemble.driver_form_is, Assemble.driver_step, Frames.length_written}
-use Rattle.laws_plain_rings.proofs.Frames.{written}
-use Rattle.laws_plain_rings.proofs.QueueSteps.{tie_published}
-use Rattle.laws_plain_rings.proofs.Spots.{AvailIdx, Untouched, high, low, untouched_none, untouched_other, untouched_own}
+use Rattle.laws_plain_rings.proofs.{Frames.written, QueueSteps.tie_published, Spots.AvailIdx, Spots.Untouched, Spots.high, Spots.low}
+use Rattle.laws_plain_rings.proofs.Spots.{untouched_none, untouched_other, untouched_own}
 
 module _ (p : PartsState) (w : Ends) (tied : AreTied p w) where
   module _ (queue : Queue) (fair : IsFairLog Driver (entries_published queue (pages_at queue w.driver.staged) w.driver.entries)) where

@@ -1,5 +1,5 @@
 -- What each call makes of one queue whose lists lie in its memory.
-use Rattle.std.proofs.{lemmas.Bool.Decides.eqb_tells, lemmas.List.get_or-set_same, lemmas.List.get_or-set_other, lemmas.List.length-set}
+use Rattle.std.proofs.lemmas.{Bool.Decides.eqb_tells, List.get_or-set_same, List.get_or-set_other, List.length-set}
 use Rattle.std.proofs.Common.{◌≡◌, ◌⊎◌, inl, inr, ℕ, ◌+◌, ◌*◌, ◌%◌, ◌^◌, ◌<◌, ◌≤◌, true, false, List, [], ◌∷◌, ◌++◌, length, Some, None}
 use Rattle.std.proofs.Common.{refl, sym, ap, ◌∙◌, subst, arith, length-append, append_assoc, append-nil}
 use Rattle.std.proofs.lemmas.Nat.{mod_below}
@@ -9,9 +9,8 @@ use Rattle.vs_ring_plain.specs.declared.turns.Turns.{Turns}
 use Rattle.vs_plain_driver.specs.Queue.{DriverQueueState, desc_for, published_queue}
 use Rattle.laws_plain_rings.specs.{Queue.AreOut, Queue.HasPage, Queue.IsQueueTied, Queue.times, Shown.Shown, Shown.Word}
 use Rattle.laws_plain_rings.proofs.Rows.{IsSameAt, back_kept, back_length, out_kept, out_length, out_push}
-use Rattle.laws_plain_rings.proofs.Counting.{times-cons, times-other, times-push, times-self}
-use Rattle.laws_plain_rings.proofs.Modulo.{apart, wraps_further}
-use Rattle.laws_plain_rings.proofs.Spots.{AvailIdx, Describing, Entry, PageOf, Untouched}
+use Rattle.laws_plain_rings.proofs.{Counting.times-cons, Counting.times-other, Counting.times-push, Counting.times-self, Modulo.apart}
+use Rattle.laws_plain_rings.proofs.{Modulo.wraps_further, Spots.AvailIdx, Spots.Describing, Spots.Entry, Spots.PageOf, Spots.Untouched}
 
 pub push_length : {A : Type 0} (xs : List A) (x : A) → length (xs ++ x ∷ []) ≡ length xs + 1
 push_length xs x = length-append xs (x ∷ [])

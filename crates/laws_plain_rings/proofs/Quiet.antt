@@ -1,14 +1,12 @@
 -- Accesses that change nothing.
 use Rattle.std.proofs.Common.{◌≡◌, ℕ, ◌==◌, Bool, true, false, cond, List, [], length, refl, sym, ap, ◌∙◌, subst}
 use Rattle.vs_guest_mem.specs.Memory.{Memory, accessed, after_access}
-use Rattle.vs_ring_port.specs.{EndLog.pages_at, Lists.queue_of}
-use Rattle.vs_ring_port.specs.declared.queue.Queue.{Queue}
-use Rattle.vs_ring_port.specs.declared.queue.Queue.TheVariants.{Rx}
+use Rattle.vs_ring_port.specs.{EndLog.pages_at, Lists.queue_of, declared.queue.Queue.Queue, declared.queue.Queue.TheVariants.Rx}
 use Rattle.vs_ring_list.specs.Ends.{Ends}
 use Rattle.vs_ring_plain.specs.Device.{turns_at, with_memory}
 use Rattle.vs_ring_plain.proofs.Still.{still_after, still_bytes}
-use Rattle.laws_plain_rings.specs.{Parts.PartsState, Parts.driver_at, Queue.IsQueueTied, Shown.Shown, Shown.shown}
-use Rattle.laws_plain_rings.specs.Tie.{AreHeldAs, AreTied, areas_of, heads_of, shown_of, start_of}
+use Rattle.laws_plain_rings.specs.{Parts.PartsState, Parts.driver_at, Queue.IsQueueTied, Shown.Shown, Shown.shown, Tie.AreHeldAs}
+use Rattle.laws_plain_rings.specs.Tie.{AreTied, areas_of, heads_of, shown_of, start_of}
 use Rattle.laws_plain_rings.proofs.{Assemble.device_step, Held.held_kept, Spots.seen_same, Spots.untouched_same}
 
 -- a memory with the same bytes to which no change is to come

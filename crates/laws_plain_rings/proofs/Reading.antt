@@ -6,23 +6,20 @@ use Rattle.std.proofs.Math.Seq.{take-length}
 use Rattle.vs_guest_mem.specs.Memory.{Memory, accessed, after_write, bytes_at}
 use Rattle.vs_page.specs.Overwriting.{overwritten}
 use Rattle.vs_ring_port.specs.{Chains.bytes_in, Chains.same_queue, Chains.with_bytes, Contents.Read, Contents.Write, EndLog.pages_at}
-use Rattle.vs_ring_port.specs.Lists.{queue_of, with_queue}
-use Rattle.vs_ring_port.specs.declared.device_ring.Chain.{Chain}
-use Rattle.vs_ring_port.specs.declared.queue.Queue.{Queue}
+use Rattle.vs_ring_port.specs.{Lists.queue_of, Lists.with_queue, declared.device_ring.Chain.Chain, declared.queue.Queue.Queue}
 use Rattle.vs_ring_port.specs.declared.queue.Queue.TheVariants.{Rx, Tx, Event}
 use Rattle.vs_ring_list.specs.{Ends.Ends, Sound.IsTied}
 use Rattle.vs_ring_list.proofs.Held.{same_queue_refl}
-use Rattle.vs_ring_plain.specs.Accesses.{over}
-use Rattle.vs_ring_plain.specs.Device.{DeviceState, answer_to, chains_held, hold_of, pieces_of, turns_at, with_memory}
-use Rattle.vs_ring_plain.specs.Pieces.{reading, spans, writing}
+use Rattle.vs_ring_plain.specs.{Accesses.over, Device.DeviceState, Device.answer_to, Device.chains_held, Device.hold_of, Device.pieces_of}
+use Rattle.vs_ring_plain.specs.{Device.turns_at, Device.with_memory, Pieces.reading, Pieces.spans, Pieces.writing}
 use Rattle.vs_ring_plain.specs.declared.piece.Piece.{Piece}
 use Rattle.vs_ring_plain.proofs.Moving.{is_zero, read_step, skipped, unwritten, used}
 use Rattle.laws_plain_rings.specs.{Calls.after_device, Parts.PartsState, Parts.driver_at, Queue.times, Shown.Shown, Shown.shown}
 use Rattle.laws_plain_rings.specs.Tie.{AreHeldAs, AreTied, IsLaid, areas_of, heads_of, shown_of, start_of}
-use Rattle.laws_plain_rings.proofs.{Assemble.device_ends, Assemble.device_form, Assemble.device_step, Frames.length_written}
-use Rattle.laws_plain_rings.proofs.{Held.Found, Held.found, Held.held_written, Parts.read_part, Parts.written_part, QueueSteps.tie_written}
-use Rattle.laws_plain_rings.proofs.{Queues.of_each, Quiet.IsQuietly, Quiet.quiet_step, Quiet.quietly_accessed, Quiet.seen}
-use Rattle.laws_plain_rings.proofs.Spots.{PageOf, Untouched, high, laid_same, low, untouched_other, untouched_own}
+use Rattle.laws_plain_rings.proofs.{Assemble.device_ends, Assemble.device_form, Assemble.device_step, Frames.length_written, Held.Found}
+use Rattle.laws_plain_rings.proofs.{Held.found, Held.held_written, Parts.read_part, Parts.written_part, QueueSteps.tie_written}
+use Rattle.laws_plain_rings.proofs.{Queues.of_each, Quiet.IsQuietly, Quiet.quiet_step, Quiet.quietly_accessed, Quiet.seen, Spots.PageOf}
+use Rattle.laws_plain_rings.proofs.Spots.{Untouched, high, laid_same, low, untouched_other, untouched_own}
 
 empty_list : (xs : List ℕ) → length xs ≡ 0 → xs ≡ []
 empty_list [] none = refl

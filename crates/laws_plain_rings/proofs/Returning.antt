@@ -6,28 +6,23 @@ use Rattle.std.proofs.lemmas.{List.take-take, Nat.mod_below}
 use Rattle.byteorder.specs.Endian.{little_bytes, little_number}
 use Rattle.vs_guest_mem.specs.Memory.{Memory, after_access, after_write, bytes_at}
 use Rattle.vs_header.proofs.RoundTrip.{little_number-little_bytes}
-use Rattle.vs_layout.specs.Entry.{used_elem_bytes, used_elem_of}
-use Rattle.vs_layout.specs.declared.entry.UsedElem.{UsedElem}
+use Rattle.vs_layout.specs.{Entry.used_elem_bytes, Entry.used_elem_of, declared.entry.UsedElem.UsedElem}
 use Rattle.vs_page.specs.{Fair.IsFairLog, Log.Device}
 use Rattle.vs_ring_port.specs.{Chains.bytes_in, Chains.held_of, Chains.same_queue, Chains.without_held, Contents.Given, Contents.Return}
-use Rattle.vs_ring_port.specs.{EndLog.entries_returned, EndLog.pages_at, Lists.Lists, Lists.queue_of}
-use Rattle.vs_ring_port.specs.declared.device_ring.Chain.{Chain}
+use Rattle.vs_ring_port.specs.{EndLog.entries_returned, EndLog.pages_at, Lists.Lists, Lists.queue_of, declared.device_ring.Chain.Chain}
 use Rattle.vs_ring_port.specs.declared.queue.Queue.{Queue}
 use Rattle.vs_ring_list.specs.Ends.{Ends}
 use Rattle.vs_ring_list.proofs.Ties.{tied-return}
-use Rattle.vs_ring_plain.specs.Chain.{ahead}
-use Rattle.vs_ring_plain.specs.Device.{DeviceState, HeldChain, answer_to, chains_held, head_of, hold_of, turns_at, without_hold}
-use Rattle.vs_ring_plain.specs.declared.turns.Turns.{Turns}
-use Rattle.laws_plain_rings.specs.{Calls.after_device, Parts.PartsState, Parts.driver_at, Shown.Shown, Shown.shown}
-use Rattle.laws_plain_rings.specs.Tie.{AreHeldAs, AreTied, IsLaid, areas_of, heads_of, shown_of, start_of}
-use Rattle.laws_plain_rings.proofs.{Assemble.TieOf, Assemble.device_form, Assemble.device_step, Encoded.elem_back}
-use Rattle.laws_plain_rings.proofs.Frames.{length_written, written}
-use Rattle.laws_plain_rings.proofs.Held.{fewer_heads, heads_beside, heads_without, held_count, held_kept, held_without}
-use Rattle.laws_plain_rings.proofs.{QueueReturns.tie_returned, QueueSteps.out_count, Queues.of_each}
-use Rattle.laws_plain_rings.proofs.Quiet.{IsQuietly, quiet_step, quietly_after, quietly_now, seen}
-use Rattle.laws_plain_rings.proofs.Reading.{below, bytes_there, f}
-use Rattle.laws_plain_rings.proofs.Spots.{Elem, UsedIdx, Untouched, high, laid_same, low, seen_same, untouched_both, untouched_other}
-use Rattle.laws_plain_rings.proofs.Spots.{untouched_own, untouched_then}
+use Rattle.vs_ring_plain.specs.{Chain.ahead, Device.DeviceState, Device.HeldChain, Device.answer_to, Device.chains_held, Device.head_of}
+use Rattle.vs_ring_plain.specs.{Device.hold_of, Device.turns_at, Device.without_hold, declared.turns.Turns.Turns}
+use Rattle.laws_plain_rings.specs.{Calls.after_device, Parts.PartsState, Parts.driver_at, Shown.Shown, Shown.shown, Tie.AreHeldAs}
+use Rattle.laws_plain_rings.specs.Tie.{AreTied, IsLaid, areas_of, heads_of, shown_of, start_of}
+use Rattle.laws_plain_rings.proofs.{Assemble.TieOf, Assemble.device_form, Assemble.device_step, Encoded.elem_back, Frames.length_written}
+use Rattle.laws_plain_rings.proofs.{Frames.written, Held.fewer_heads, Held.heads_beside, Held.heads_without, Held.held_count}
+use Rattle.laws_plain_rings.proofs.{Held.held_kept, Held.held_without, QueueReturns.tie_returned, QueueSteps.out_count, Queues.of_each}
+use Rattle.laws_plain_rings.proofs.{Quiet.IsQuietly, Quiet.quiet_step, Quiet.quietly_after, Quiet.quietly_now, Quiet.seen, Reading.below}
+use Rattle.laws_plain_rings.proofs.{Reading.bytes_there, Reading.f, Spots.Elem, Spots.UsedIdx, Spots.Untouched, Spots.high, Spots.laid_same}
+use Rattle.laws_plain_rings.proofs.Spots.{low, seen_same, untouched_both, untouched_other, untouched_own, untouched_then}
 
 module _ (p : PartsState) (w : Ends) (tied : AreTied p w) where
   abbrev d : DeviceState

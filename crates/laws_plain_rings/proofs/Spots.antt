@@ -5,13 +5,11 @@ use Rattle.std.proofs.Math.Nat.{mul-add, mul-le-mul_left}
 use Rattle.std.proofs.lemmas.Bool.Decides.{leb_tells}
 use Rattle.byteorder.specs.Endian.{little_number}
 use Rattle.vs_guest_mem.specs.Memory.{Memory, after_write, bytes_at}
-use Rattle.vs_layout.specs.Entry.{desc_of, used_elem_of}
-use Rattle.vs_layout.specs.declared.place.Areas.{Areas}
+use Rattle.vs_layout.specs.{Entry.desc_of, Entry.used_elem_of, declared.place.Areas.Areas}
 use Rattle.vs_ring_plain.proofs.Still.{quiet}
-use Rattle.vs_ring_port.specs.Chains.{same_queue}
-use Rattle.vs_ring_port.specs.declared.queue.Queue.{Queue}
-use Rattle.laws_plain_rings.specs.{Tie.IsAreaLaid, Tie.IsLaid}
-use Rattle.laws_plain_rings.specs.Shown.{AvailEvent, AvailFlags, Shown, UsedEvent, UsedFlags, Word, shown, word_in}
+use Rattle.vs_ring_port.specs.{Chains.same_queue, declared.queue.Queue.Queue}
+use Rattle.laws_plain_rings.specs.{Tie.IsAreaLaid, Tie.IsLaid, Shown.AvailEvent, Shown.AvailFlags, Shown.Shown, Shown.UsedEvent}
+use Rattle.laws_plain_rings.specs.Shown.{UsedFlags, Word, shown, word_in}
 use Rattle.laws_plain_rings.proofs.Frames.{inner, kept}
 
 pub data Spot : Type 0 where

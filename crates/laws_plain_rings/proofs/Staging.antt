@@ -8,20 +8,19 @@ use Rattle.vs_guest_mem.specs.Memory.{Memory, after_write}
 use Rattle.vs_header.proofs.RoundTrip.{little_number-little_bytes}
 use Rattle.vs_layout.specs.{Entry.desc_bytes, Entry.desc_of, Layout.avail_entry, Layout.desc_entry, declared.entry.Desc.Desc}
 use Rattle.vs_layout.specs.declared.place.Areas.{Areas}
-use Rattle.vs_ring_port.specs.{Chains.same_queue, DriverCalls.HoldsPacket, DriverCalls.Stage, EndLog.pages_at}
-use Rattle.vs_ring_port.specs.{Lists.Rings, Lists.queue_of, Lists.with_queue, declared.queue.Queue.Queue}
-use Rattle.vs_ring_port.specs.declared.queue.Queue.TheVariants.{Rx, Tx, Event}
+use Rattle.vs_ring_port.specs.{Chains.same_queue, DriverCalls.HoldsPacket, DriverCalls.Stage, EndLog.pages_at, Lists.Rings, Lists.queue_of}
+use Rattle.vs_ring_port.specs.{Lists.with_queue, declared.queue.Queue.Queue, declared.queue.Queue.TheVariants.Rx}
+use Rattle.vs_ring_port.specs.declared.queue.Queue.TheVariants.{Tx, Event}
 use Rattle.vs_ring_list.specs.{Ends.Ends, Sound.IsTied}
 use Rattle.vs_ring_plain.specs.Device.{turns_at}
 use Rattle.vs_plain_driver.specs.Queue.{DriverQueueState, desc_for, page_at, staged_memory, staged_queue, with_page}
-use Rattle.laws_plain_rings.specs.{Calls.after_driver, Shown.shown}
-use Rattle.laws_plain_rings.specs.Parts.{PartsState, driver_at, staged_parts, with_driver, with_parts_memory}
-use Rattle.laws_plain_rings.specs.Tie.{AreTied, IsLaid, areas_of, heads_of, shown_of, start_of}
-use Rattle.laws_plain_rings.proofs.{Assemble.driver_form, Assemble.driver_form_is, Assemble.driver_step, Assemble.ends_form}
-use Rattle.laws_plain_rings.proofs.Encoded.{desc_back}
-use Rattle.laws_plain_rings.proofs.{Frames.length_written, Frames.written, QueueSteps.id_below, QueueSteps.not_id, QueueSteps.tie_staged}
-use Rattle.laws_plain_rings.proofs.Spots.{Describing, Entry, PageOf, Untouched, high, laid_same, low, untouched_both, untouched_other}
-use Rattle.laws_plain_rings.proofs.Spots.{untouched_own, untouched_then}
+use Rattle.laws_plain_rings.specs.{Calls.after_driver, Shown.shown, Parts.PartsState, Parts.driver_at, Parts.staged_parts}
+use Rattle.laws_plain_rings.specs.{Parts.with_driver, Parts.with_parts_memory, Tie.AreTied, Tie.IsLaid, Tie.areas_of, Tie.heads_of}
+use Rattle.laws_plain_rings.specs.Tie.{shown_of, start_of}
+use Rattle.laws_plain_rings.proofs.Assemble.{driver_form, driver_form_is, driver_step, ends_form}
+use Rattle.laws_plain_rings.proofs.{Encoded.desc_back, Frames.length_written, Frames.written, QueueSteps.id_below, QueueSteps.not_id}
+use Rattle.laws_plain_rings.proofs.{QueueSteps.tie_staged, Spots.Describing, Spots.Entry, Spots.PageOf, Spots.Untouched, Spots.high}
+use Rattle.laws_plain_rings.proofs.Spots.{laid_same, low, untouched_both, untouched_other, untouched_own, untouched_then}
 
 -- the bytes, the descriptor and the entry are written
 module _ (n : ℕ) (areas : Queue → Areas) (at : Queue → ℕ) (m : Memory) (laid : IsLaid n areas at m) (queue : Queue) (id place : ℕ)

@@ -7,23 +7,20 @@ use Rattle.std.proofs.lemmas.List.{length-replicate}
 use Rattle.std.proofs.lemmas.List.FromFn.{length-range_with_len}
 use Rattle.byteorder.specs.Endian.{little_number}
 use Rattle.vs_guest_mem.specs.Memory.{Change, Memory, after_write, bytes_at}
-use Rattle.vs_layout.specs.Layout.{queue_areas_of}
-use Rattle.vs_layout.specs.declared.place.Areas.{Areas}
-use Rattle.vs_layout.specs.declared.placement.QueueAreas.{QueueAreas}
-use Rattle.vs_ring_port.specs.Chains.{same_queue}
-use Rattle.vs_ring_port.specs.declared.queue.Queue.{Queue}
-use Rattle.vs_ring_port.specs.declared.queue.Queue.TheVariants.{Rx, Tx, Event}
+use Rattle.vs_layout.specs.{Layout.queue_areas_of, declared.place.Areas.Areas, declared.placement.QueueAreas.QueueAreas}
+use Rattle.vs_ring_port.specs.{Chains.same_queue, declared.queue.Queue.Queue, declared.queue.Queue.TheVariants.Rx}
+use Rattle.vs_ring_port.specs.declared.queue.Queue.TheVariants.{Tx, Event}
 use Rattle.vs_ring_list.specs.Ends.{empty_ends}
 use Rattle.vs_ring_plain.specs.Device.{areas_at, cleared_used, new_device}
 use Rattle.vs_plain_driver.specs.Queue.{cleared_avail}
 use Rattle.laws_plain_rings.specs.Parts.{PartsState, driver_at, new_parts, new_queue, pages_behind, pages_start}
-use Rattle.laws_plain_rings.specs.{Queue.IsQueueTied, Queue.times}
-use Rattle.laws_plain_rings.specs.Shown.{AvailEvent, AvailFlags, Shown, UsedEvent, UsedFlags, Word, shown}
-use Rattle.laws_plain_rings.specs.{Tie.AreTied, Tie.IsAreaLaid, Tie.IsLaid, Tie.IsTiedAt, Tie.IsTiedTo, Tie.start_of, Exposed.first_ends}
+use Rattle.laws_plain_rings.specs.{Queue.IsQueueTied, Queue.times, Shown.AvailEvent, Shown.AvailFlags, Shown.Shown, Shown.UsedEvent}
+use Rattle.laws_plain_rings.specs.{Shown.UsedFlags, Shown.Word, Shown.shown, Tie.AreTied, Tie.IsAreaLaid, Tie.IsLaid, Tie.IsTiedAt}
+use Rattle.laws_plain_rings.specs.{Tie.IsTiedTo, Tie.start_of, Exposed.first_ends}
 use Rattle.laws_plain_rings.proofs.{Assemble.laid_from, Counting.times-cons, Counting.times-other, Counting.times-self}
-use Rattle.laws_plain_rings.proofs.{Frames.length_written, Frames.written, Modulo.mod_small}
-use Rattle.laws_plain_rings.proofs.Spots.{AvailIdx, Differs, DiffersAll, IsSpot, Spot, Untouched, UsedIdx, WordOf, high, laid_same, low, own}
-use Rattle.laws_plain_rings.proofs.Spots.{spot_at, spot_len, untouched_both, untouched_other, untouched_own, untouched_then}
+use Rattle.laws_plain_rings.proofs.{Frames.length_written, Frames.written, Modulo.mod_small, Spots.AvailIdx, Spots.Differs}
+use Rattle.laws_plain_rings.proofs.Spots.{DiffersAll, IsSpot, Spot, Untouched, UsedIdx, WordOf, high, laid_same, low, own, spot_at}
+use Rattle.laws_plain_rings.proofs.Spots.{spot_len, untouched_both, untouched_other, untouched_own, untouched_then}
 
 -- the numbers below n, each once
 no_less : (j a k : ℕ) → j < a → times j (range_with_len a k) ≡ 0

@@ -6,25 +6,22 @@ use Rattle.std.specs.Prelude.{nat_le, nat_lt}
 use Rattle.vs_guest_mem.specs.Memory.{Memory, after_access, is_within}
 use Rattle.vs_layout.specs.declared.entry.Desc.{Desc}
 use Rattle.vs_ring_port.specs.{Chains.Held, Chains.same_queue, Contents.Take, DeviceCalls.IsTakenWhole, DriverCalls.HoldsPacket}
-use Rattle.vs_ring_port.specs.{declared.device_ring.Chain.Chain, declared.device_ring.Next.Next, declared.queue.Queue.Queue}
-use Rattle.vs_ring_port.specs.EndLog.{entries_taken, pages_at}
-use Rattle.vs_ring_port.specs.Lists.{Lists, chain_with, next_at, next_given, queue_of, to_read}
-use Rattle.vs_ring_port.specs.declared.queue.Queue.TheVariants.{Rx, Tx, Event}
+use Rattle.vs_ring_port.specs.declared.{device_ring.Chain.Chain, device_ring.Next.Next, queue.Queue.Queue}
+use Rattle.vs_ring_port.specs.{EndLog.entries_taken, EndLog.pages_at, Lists.Lists, Lists.chain_with, Lists.next_at, Lists.next_given}
+use Rattle.vs_ring_port.specs.{Lists.queue_of, Lists.to_read, declared.queue.Queue.TheVariants.Rx, declared.queue.Queue.TheVariants.Tx}
+use Rattle.vs_ring_port.specs.declared.queue.Queue.TheVariants.{Event}
 use Rattle.vs_ring_list.specs.Ends.{Ends}
 use Rattle.vs_ring_list.proofs.Ties.{tied-take}
-use Rattle.vs_ring_plain.specs.{Still.IsGiven, declared.piece.Piece.Piece, declared.turns.Turns.Turns}
-use Rattle.vs_ring_plain.specs.Chain.{Taken, ahead, has, piece_of, too_small, total_len, wrong_way}
-use Rattle.vs_ring_plain.specs.Device.{DeviceState, HeldChain, answer_found, answer_taken, answer_to, chain_at, is_busy, ring_at, turns_at}
-use Rattle.vs_ring_plain.specs.Device.{with_memory}
+use Rattle.vs_ring_plain.specs.{Still.IsGiven, declared.piece.Piece.Piece, declared.turns.Turns.Turns, Chain.Taken, Chain.ahead, Chain.has}
+use Rattle.vs_ring_plain.specs.{Chain.piece_of, Chain.too_small, Chain.total_len, Chain.wrong_way, Device.DeviceState, Device.HeldChain}
+use Rattle.vs_ring_plain.specs.Device.{answer_found, answer_taken, answer_to, chain_at, is_busy, ring_at, turns_at, with_memory}
 use Rattle.vs_ring_plain.proofs.Still.{none_still, taken_still}
 use Rattle.vs_plain_driver.specs.Queue.{desc_for}
-use Rattle.laws_plain_rings.specs.{Calls.after_device, Parts.PartsState, Parts.driver_at, Queue.IsOut, Queue.IsQueueTied}
-use Rattle.laws_plain_rings.specs.{Shown.Shown, Shown.shown, Tie.AreTied, Tie.IsHeldAs, Tie.areas_of, Tie.heads_of, Tie.shown_of}
-use Rattle.laws_plain_rings.specs.Tie.{start_of}
+use Rattle.laws_plain_rings.specs.{Calls.after_device, Parts.PartsState, Parts.driver_at, Queue.IsOut, Queue.IsQueueTied, Shown.Shown}
+use Rattle.laws_plain_rings.specs.{Shown.shown, Tie.AreTied, Tie.IsHeldAs, Tie.areas_of, Tie.heads_of, Tie.shown_of, Tie.start_of}
 use Rattle.laws_plain_rings.proofs.{QueueReturns.given_row, QueueReturns.id_held, QueueReturns.tie_taken, QueueSteps.out_count}
-use Rattle.laws_plain_rings.proofs.Queues.{turned}
-use Rattle.laws_plain_rings.proofs.{Held.all_whole, Held.count_heads, Held.heads_here, Spots.untouched_same}
-use Rattle.laws_plain_rings.proofs.Quiet.{IsQuietly, held_seen, quiet_step, quietly_after, quietly_now, seen}
+use Rattle.laws_plain_rings.proofs.{Queues.turned, Held.all_whole, Held.count_heads, Held.heads_here, Spots.untouched_same, Quiet.IsQuietly}
+use Rattle.laws_plain_rings.proofs.Quiet.{held_seen, quiet_step, quietly_after, quietly_now, seen}
 use Rattle.laws_plain_rings.proofs.Assemble.{device_ends, device_form, device_step}
 use Rattle.vs_ring_port.specs.declared.device_ring.Next.TheVariants as next
 

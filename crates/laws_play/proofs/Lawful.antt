@@ -19,9 +19,8 @@ use Rattle.laws_world.proofs.{ResetTables.device_emptied, ScriptLines.script_lea
 use Rattle.laws_world.proofs.Carried.{sent_stays, wrote_stays}
 use Rattle.vs_play.specs.{Answer.base_path, Answer.opened_play, Answer.texts_of, Answer.world_after, Lines.PlayWorld}
 use Rattle.laws_play.specs.Headline.{IsLawful, StaysShut, world_of}
-use Rattle.laws_play.proofs.{Shutting.IsShut, Shutting.is_shut, Shutting.run_shut, Unfailed.script_fine}
-use Rattle.laws_play.proofs.PlayLines.{after_both, cid_right, front_bounded, lines_of, lines_receive, lines_right, lines_send}
-use Rattle.laws_play.proofs.PlayLines.{rest_bounded, world_is}
+use Rattle.laws_play.proofs.{Shutting.IsShut, Shutting.is_shut, Shutting.run_shut, Unfailed.script_fine, PlayLines.after_both}
+use Rattle.laws_play.proofs.PlayLines.{cid_right, front_bounded, lines_of, lines_receive, lines_right, lines_send, rest_bounded, world_is}
 use Rattle.laws_play.proofs.Reached.{carries, holds_open, holds_rest, keeps_credit, log_is, many_device, many_guest, own_streams, queued}
 use Rattle.vs_script.proofs.Bounded.{all_bounded}
 use Rattle.vs_script.specs.Outside as outside

@@ -4,20 +4,19 @@ use Rattle.std.specs.Prelude.{◌≡◌, ◌≢◌, ℕ, ◌+◌, ◌≤◌, ◌
 use Rattle.std.specs.Prelude.{Contains}
 use Rattle.vs_flow.specs.{declared.flow.Flow.Flow, Connection.first_of}
 use Rattle.vs_limits.specs.declared.TheConstants.{BUF_ALLOC}
-use Rattle.laws_history.specs.History.{History, Put, gots, puts}
-use Rattle.laws_history.specs.Packets.{allowance, bytes, has, is_rst, shuts_send, size}
-use Rattle.laws_history.specs.declared.packet.Packet.{Packet}
+use Rattle.laws_history.specs.{History.History, History.Put, History.gots, History.puts, Packets.allowance, Packets.bytes, Packets.has}
+use Rattle.laws_history.specs.{Packets.is_rst, Packets.shuts_send, Packets.size, declared.packet.Packet.Packet}
 use Rattle.vs_page.specs.{Log.Device, Log.Driver, Log.HasGotAll, Log.Log, Log.Role, Log.history_of, Open.WasOpened, Open.is_open}
 use Rattle.vs_page.specs.Fair.{IsFairLog, IsPrefixOf, payload_got, payload_put}
 use Rattle.vs_driver_parts.specs.State.{DriverEntry}
 use Rattle.vs_device_parts.specs.{State.DeviceEntry, Turns.counters_of}
 use Rattle.laws_tables.specs.Ends.{begun_flows, flows_of, is_among, new_flows, replied}
-use Rattle.vs_outside.specs.HostBytes.{host_read, host_wrote, read_after_ok, wrote_after_connect}
-use Rattle.vs_outside.specs.Host.{Stream, stream_at}
+use Rattle.vs_outside.specs.{HostBytes.host_read, HostBytes.host_wrote, HostBytes.read_after_ok, HostBytes.wrote_after_connect, Host.Stream}
+use Rattle.vs_outside.specs.Host.{stream_at}
 use Rattle.laws_bytes.specs.{Drains.Drains, Drains.receives, Streamed.gives, Streamed.line_for}
 use Rattle.vs_script.specs.{Data.Content, Play.Event}
-use Rattle.vs_report.specs.Report.{counts_text, device_open_text, guest_open_text, stream_texts}
-use Rattle.vs_report.specs.GuestLines.{recv_text, send_text}
+use Rattle.vs_report.specs.{Report.counts_text, Report.device_open_text, Report.guest_open_text, Report.stream_texts, GuestLines.recv_text}
+use Rattle.vs_report.specs.GuestLines.{send_text}
 use Rattle.laws_world.specs.{Calls.received_on, Calls.sent_on, Laws.IsEmptied, Sides.device_ends, Sides.driver_ends, Steps.Leads}
 use Rattle.laws_world.specs.World.{World, first_cid}
 use Rattle.vs_play.specs.{Answer.opened_play, Answer.printed, Answer.texts_of, Answer.world_after, Lines.event_played}

@@ -3,9 +3,8 @@ use Rattle.std.specs.Prelude.{ℕ, if◌then◌else◌, List, [], ◌∷◌, ◌
 use Rattle.vs_flow.specs.declared.flow.Flow.{Flow}
 use Rattle.vs_driver_parts.specs.{Connections.flow_of, Connections.recv_of, Connections.unread_of_id, Conversations.send_of}
 use Rattle.vs_driver_parts.specs.declared.answers.{Received.Received, Sent.Sent}
-use Rattle.vs_script.specs.Data.{Content, bytes_of}
+use Rattle.vs_script.specs.{Data.Content, Data.bytes_of, Play.Event}
 use Rattle.vs_script.specs.Play as script
-use Rattle.vs_script.specs.Play.{Event}
 use Rattle.laws_world.specs.{Calls.is_on, Calls.took, GuestSteps.bytes_got, World.driver_plays}
 use Rattle.vs_play.specs.Lines.{PlayWorld, event_played}
 

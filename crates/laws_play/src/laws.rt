@@ -1,9 +1,8 @@
 //! Laws of plays: what holds of the world that a script's lines reach.
 
 ghost use Rattle.std.specs.Prelude.{◌≡◌, ℕ, List, map, Ok};
-ghost use Rattle.vs_script.specs.{Play.Event, Script.Plays, Script.parse_of};
+ghost use Rattle.vs_script.specs.{Play.Event, Script.Plays, Script.parse_of, Bounds.AreBounded};
 ghost use Rattle.vs_script.specs.declared.script.Command.TheVariants as command;
-ghost use Rattle.vs_script.specs.Bounds.{AreBounded};
 ghost use Rattle.laws_play.specs.Headline.{IsLawful};
 
 /// Each line of a script that `parse` reads is within the bounds of its fields.

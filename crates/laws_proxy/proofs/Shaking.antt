@@ -5,18 +5,17 @@ use Rattle.std.proofs.lemmas.Bool.Decides.{nat_tests}
 use Rattle.vs_contents.specs.CallTree.{Done, Ask, bind, for_each}
 use Rattle.vs_flow.specs.{Flow.host_flow, Flow.is_assigned, Table.has_place, declared.flow.Flow.Flow, declared.table.TableFault.TableFault}
 use Rattle.vs_limits.specs.declared.TheConstants.{ASSIGNED_LAST, HANDSHAKES}
-use Rattle.vs_outside.specs.{declared.host_net.Accepted.Accepted, declared.host_net.StreamRead.StreamRead}
+use Rattle.vs_outside.specs.declared.host_net.{Accepted.Accepted, StreamRead.StreamRead}
 use Rattle.vs_page.specs.Log.{Device, side_by}
 use Rattle.vs_ring_port.specs.Contents.{RingContents}
 use Rattle.vs_uds.specs.{ConnectLine.connect_step, declared.connect.TheConstants.CONNECT_MAX, declared.scan.Step.Step}
 use Rattle.vs_device_parts.specs.{Calls.Accept, Calls.DeviceTree, Calls.ReadStream, Connections.is_late, State.DeviceState, Turns.open_of}
 use Rattle.laws_device.specs.Honest.{IsWith, port_after}
-use Rattle.laws_device.proofs.Keeping.{Goes, Keeps, keeps_each, keeps_then, keeps_while}
-use Rattle.laws_device.proofs.Turning.{open_keeps}
+use Rattle.laws_device.proofs.{Keeping.Goes, Keeping.Keeps, Keeping.keeps_each, Keeping.keeps_then, Keeping.keeps_while, Turning.open_keeps}
 use Rattle.vs_proxy_parts.specs.Handshakes.{accept_answered, accept_one, byte_read, dropping, handshake_on, host_fault, line_decided}
 use Rattle.vs_proxy_parts.specs.Handshakes.{may_open, opening, read_byte, read_line, shake_hands, streams_of, tick_handshake}
-use Rattle.vs_proxy_parts.specs.Handshakes.{tick_handshakes, with_line, without_handshake}
-use Rattle.vs_proxy_parts.specs.State.{Handshake, Turning, with_device}
+use Rattle.vs_proxy_parts.specs.{Handshakes.tick_handshakes, Handshakes.with_line, Handshakes.without_handshake, State.Handshake}
+use Rattle.vs_proxy_parts.specs.State.{Turning, with_device}
 use Rattle.laws_proxy.specs.Honest.{IsProxyWith}
 use Rattle.vs_uds.proofs.Decided.{port_fits}
 use Rattle.laws_proxy.proofs.Ports.{later}

@@ -7,8 +7,7 @@ use Rattle.vs_device_parts.specs.{declared.answers.Filled.Filled, Calls.DeviceTr
 use Rattle.vs_device_parts.specs.{State.DeviceState, Streams.pump_of, Streams.tick_of, Transmitting.take_tx_of, Turns.reset_of}
 use Rattle.laws_device.specs.Honest.{IsFresh, IsWith}
 use Rattle.laws_device.proofs.Turning.{new_with, pay_keeps, pump_keeps, reset_keeps, tick_keeps}
-use Rattle.laws_device.proofs.Filling.{fill_keeps}
-use Rattle.laws_device.proofs.Keeping.{Goes, Keeps, keeps_each, keeps_then, keeps_while}
+use Rattle.laws_device.proofs.{Filling.fill_keeps, Keeping.Goes, Keeping.Keeps, Keeping.keeps_each, Keeping.keeps_then, Keeping.keeps_while}
 use Rattle.laws_device.proofs.Transmitting.{take_keeps}
 use Rattle.vs_proxy_parts.specs.{State.ProxyState, State.Turning, State.start, State.with_device, declared.answers.Turn.Turn}
 use Rattle.vs_proxy_parts.specs.Turns.{close_handshake, device_after, event_stage, fill_stage, filled, new_proxy, proxy_reset_of}

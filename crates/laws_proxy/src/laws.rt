@@ -1,8 +1,7 @@
 //! Laws of the proxy over a ring that tells the device's log.
 
 ghost use Rattle.std.specs.Prelude.{◌<◌, ◌^◌, ℕ, List, Result};
-ghost use Rattle.vs_ring_port.specs.Contents.{RingContents};
-ghost use Rattle.vs_ring_port.specs.declared.failure.Failure.{Failure};
+ghost use Rattle.vs_ring_port.specs.{Contents.RingContents, declared.failure.Failure.Failure};
 ghost use Rattle.vs_device_parts.specs.{Calls.Situation, Playing.MayRun, Playing.Runs};
 ghost use Rattle.laws_device_streams.specs.Streams.{FindsStreams};
 ghost use Rattle.laws_device.specs.Honest.{IsFresh};

@@ -5,21 +5,19 @@ use Rattle.std.proofs.lemmas.List.Elements.{All-contains}
 use Rattle.vs_conn.specs.declared.end.State.TheVariants as state
 use Rattle.vs_contents.specs.CallTree.{Done, Ask}
 use Rattle.vs_flow.specs.Table.{Table, entry_of, entry_under, revalued, slots, with_value, without}
-use Rattle.vs_flow.specs.Flow.{same_flow}
-use Rattle.vs_flow.specs.declared.flow.Flow.{Flow}
+use Rattle.vs_flow.specs.{Flow.same_flow, declared.flow.Flow.Flow}
 use Rattle.laws_tables.proofs.Slots.{found_by}
-use Rattle.vs_device_parts.specs.Calls.{CloseStream}
-use Rattle.vs_device_parts.specs.Connections.{after_leaving, cut_off, is_timed_out, stream_closed, with_connection}
-use Rattle.vs_device_parts.specs.State.{DeviceConnection, DeviceEntry, DeviceState}
-use Rattle.vs_device_parts.specs.Streams.{closing, leaving, tick_of, tick_slot}
+use Rattle.vs_device_parts.specs.{Calls.CloseStream, Connections.after_leaving, Connections.cut_off, Connections.is_timed_out}
+use Rattle.vs_device_parts.specs.{Connections.stream_closed, Connections.with_connection, State.DeviceConnection, State.DeviceEntry}
+use Rattle.vs_device_parts.specs.{State.DeviceState, Streams.closing, Streams.leaving, Streams.tick_of, Streams.tick_slot}
 use Rattle.vs_conn.specs.End.{aborted}
 use Rattle.vs_proxy_parts.specs.State.{Handshake}
 use Rattle.laws_bytes.proofs.Changes.{changed, others_left}
-use Rattle.laws_proxy_bytes.specs.Made.{Account, Made, account_of, payload_put, payload_taken, shut}
-use Rattle.laws_proxy_bytes.specs.Tied.{Agree, AgreesWith, IsLawful, IsOver, IsTied, IsTiedTo}
-use Rattle.laws_proxy_bytes.proofs.Accounts.{Changes, changes, changing, stays}
-use Rattle.laws_proxy_bytes.proofs.Entries.{given_of, given_shut, join_of, left, moved}
-use Rattle.laws_proxy_bytes.proofs.{Keeping.Keeps, Keeping.keeps_each, Keeping.keeps_then, Keeping.made, Ties.closed_before, Ties.closes}
+use Rattle.laws_proxy_bytes.specs.{Made.Account, Made.Made, Made.account_of, Made.payload_put, Made.payload_taken, Made.shut, Tied.Agree}
+use Rattle.laws_proxy_bytes.specs.Tied.{AgreesWith, IsLawful, IsOver, IsTied, IsTiedTo}
+use Rattle.laws_proxy_bytes.proofs.{Accounts.Changes, Accounts.changes, Accounts.changing, Accounts.stays, Entries.given_of}
+use Rattle.laws_proxy_bytes.proofs.{Entries.given_shut, Entries.join_of, Entries.left, Entries.moved, Keeping.Keeps, Keeping.keeps_each}
+use Rattle.laws_proxy_bytes.proofs.{Keeping.keeps_then, Keeping.made, Ties.closed_before, Ties.closes}
 
 pub there_under : (t : Table DeviceConnection) (slot : ℕ) (e : DeviceEntry) → entry_under t slot ≡ Some e → Contains t.entries e
 there_under t slot e found = (found_by (λ (x : DeviceEntry). x.slot == slot) t.entries e found).0

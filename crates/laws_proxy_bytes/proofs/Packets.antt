@@ -6,25 +6,24 @@ use Rattle.vs_contents.proofs.Leads.{leads_split}
 use Rattle.vs_conn.specs.{End.is_reset, End.is_of, End.verdict_of, declared.end.Verdict.Verdict}
 use Rattle.vs_flow.specs.{Flow.is_assigned, Table.entry_of, Table.has_place}
 use Rattle.vs_header.specs.{Op.op_number, Packet.header_of, declared.Header.Header, declared.TheConstants.HEADER_LEN}
-use Rattle.vs_header.specs.{declared.Op.TheVariants.Request, declared.Kind.TheVariants.Stream}
+use Rattle.vs_header.specs.declared.{Op.TheVariants.Request, Kind.TheVariants.Stream}
 use Rattle.vs_page.specs.{Log.Device, Log.flow_to_host, Open.is_dropped}
 use Rattle.vs_ring_port.specs.{Contents.Take, declared.device_ring.Chain.Chain, declared.device_ring.Next.Next}
-use Rattle.vs_ring_port.specs.{declared.failure.Failure.Failure, declared.queue.Queue.TheVariants.Tx}
-use Rattle.vs_device_parts.specs.{Calls.Answer, Calls.DeviceTree, Calls.Ring, State.DeviceEntry, State.DeviceState}
-use Rattle.vs_device_parts.specs.{Receiving.fill_rx_of, Receiving.pay_event_of, Streams.pump_of, Streams.tick_of, Turns.reset_of}
-use Rattle.vs_device_parts.specs.Transmitting.{heard, on_header, on_known, on_next, on_packet, on_unknown, take_tx_of, try_request}
+use Rattle.vs_ring_port.specs.declared.{failure.Failure.Failure, queue.Queue.TheVariants.Tx}
+use Rattle.vs_device_parts.specs.{Calls.Answer, Calls.DeviceTree, Calls.Ring, State.DeviceEntry, State.DeviceState, Receiving.fill_rx_of}
+use Rattle.vs_device_parts.specs.{Receiving.pay_event_of, Streams.pump_of, Streams.tick_of, Turns.reset_of, Transmitting.heard}
+use Rattle.vs_device_parts.specs.Transmitting.{on_header, on_known, on_next, on_packet, on_unknown, take_tx_of, try_request}
 use Rattle.vs_device_parts.specs.declared.answers.Taken.{Taken}
 use Rattle.vs_limits.specs.declared.TheConstants.{DEVICE_REPLIES}
-use Rattle.vs_proxy_parts.specs.{State.ProxyState, State.Turning, State.start, declared.answers.Turn.Turn}
-use Rattle.vs_proxy_parts.specs.Turns.{close_handshake, device_after, event_stage, fill_stage, proxy_reset_of, pump_stage, reset_with}
-use Rattle.vs_proxy_parts.specs.Turns.{take_one, take_stage, tick_stage, took_packet, turn_of, turned, unless_failed}
+use Rattle.vs_proxy_parts.specs.{State.ProxyState, State.Turning, State.start, declared.answers.Turn.Turn, Turns.close_handshake}
+use Rattle.vs_proxy_parts.specs.Turns.{device_after, event_stage, fill_stage, proxy_reset_of, pump_stage, reset_with, take_one, take_stage}
+use Rattle.vs_proxy_parts.specs.Turns.{tick_stage, took_packet, turn_of, turned, unless_failed}
 use Rattle.vs_proxy_parts.specs.Handshakes.{shake_hands, streams_of, tick_handshakes}
-use Rattle.laws_proxy_bytes.specs.{Judged.IsJudged, Made.Made, Made.Makes}
-use Rattle.laws_proxy_bytes.specs.Packets.{AreJudged, AreJudgedBy, Judged, Moment, Others, Takes, headers_read, reads_header}
-use Rattle.laws_proxy_bytes.proofs.{Judging.take_tx_judged, Keeping.keeps_end}
-use Rattle.laws_proxy_bytes.proofs.Quiet.{IsQuiet, quiet_bind, quiet_counts, quiet_each, quiet_fill, quiet_if, quiet_leaving}
-use Rattle.laws_proxy_bytes.proofs.Quiet.{quiet_pay_event}
-use Rattle.laws_proxy_bytes.proofs.Quiet.{quiet_pump, quiet_reset, quiet_shake_hands, quiet_tick, quiet_tick_handshakes}
+use Rattle.laws_proxy_bytes.specs.{Judged.IsJudged, Made.Made, Made.Makes, Packets.AreJudged, Packets.AreJudgedBy, Packets.Judged}
+use Rattle.laws_proxy_bytes.specs.Packets.{Moment, Others, Takes, headers_read, reads_header}
+use Rattle.laws_proxy_bytes.proofs.{Judging.take_tx_judged, Keeping.keeps_end, Quiet.IsQuiet, Quiet.quiet_bind, Quiet.quiet_counts}
+use Rattle.laws_proxy_bytes.proofs.Quiet.{quiet_each, quiet_fill, quiet_if, quiet_leaving, quiet_pay_event, quiet_pump, quiet_reset}
+use Rattle.laws_proxy_bytes.proofs.Quiet.{quiet_shake_hands, quiet_tick, quiet_tick_handshakes}
 use Rattle.vs_conn.specs.declared.end.Verdict.TheVariants as verdict
 use Rattle.vs_conn.specs.declared.end.Why.TheVariants as why
 use Rattle.vs_ring_port.specs.declared.device_ring.Next.TheVariants as next

@@ -8,19 +8,18 @@ use Rattle.vs_credit.specs.Credit.{free_of}
 use Rattle.vs_flow.specs.{Flow.host_flow, Table.entry_under, Table.refusal, Table.slots, declared.flow.Flow.Flow}
 use Rattle.vs_flow.specs.declared.table.TableFault.{TableFault}
 use Rattle.vs_header.specs.declared.Header.{Header}
-use Rattle.vs_outside.specs.{declared.host_net.StreamRead.StreamRead, declared.host_net.StreamWrite.StreamWrite}
+use Rattle.vs_outside.specs.declared.host_net.{StreamRead.StreamRead, StreamWrite.StreamWrite}
 use Rattle.vs_replies.specs.declared.Reply.{Reply}
-use Rattle.vs_ring_port.specs.{declared.device_ring.Chain.Chain, declared.device_ring.Next.Next, declared.failure.Failure.Failure}
+use Rattle.vs_ring_port.specs.declared.{device_ring.Chain.Chain, device_ring.Next.Next, failure.Failure.Failure}
 use Rattle.vs_uds.specs.{ConnectLine.connect_step, declared.connect.TheConstants.CONNECT_MAX, declared.scan.Step.Step}
 use Rattle.vs_device_parts.specs.Connections.{after_leaving, cut_off, is_timed_out, route_to_guest, stream_closed, with_client}
-use Rattle.vs_device_parts.specs.Connections.{with_connection, with_fault, is_late}
-use Rattle.vs_device_parts.specs.Receiving.{Filling, after_paying, event_on, fill_rx_of, filled_of, hold, may_read, pay_event_of, put_on}
-use Rattle.vs_device_parts.specs.Receiving.{put_owed, put_packet, put_payload, put_reply, put_reply_of, read_answered, read_stream}
-use Rattle.vs_device_parts.specs.Receiving.{read_with_chain, reply_header, round_from, serve_slot, written}
-use Rattle.vs_device_parts.specs.Streams.{Writing, closing, is_written_out, leaving, pump_of, pump_slot, shut_write, tick_of, tick_slot}
-use Rattle.vs_device_parts.specs.Streams.{to_write, write_answered, write_pending}
-use Rattle.vs_device_parts.specs.Calls.{Answer, DeviceTree, Label, ReadStream, ShutWrite}
-use Rattle.vs_device_parts.specs.State.{DeviceConnection, DeviceEntry, DeviceState}
+use Rattle.vs_device_parts.specs.{Connections.with_connection, Connections.with_fault, Connections.is_late, Receiving.Filling}
+use Rattle.vs_device_parts.specs.Receiving.{after_paying, event_on, fill_rx_of, filled_of, hold, may_read, pay_event_of, put_on, put_owed}
+use Rattle.vs_device_parts.specs.Receiving.{put_packet, put_payload, put_reply, put_reply_of, read_answered, read_stream, read_with_chain}
+use Rattle.vs_device_parts.specs.{Receiving.reply_header, Receiving.round_from, Receiving.serve_slot, Receiving.written, Streams.Writing}
+use Rattle.vs_device_parts.specs.Streams.{closing, is_written_out, leaving, pump_of, pump_slot, shut_write, tick_of, tick_slot, to_write}
+use Rattle.vs_device_parts.specs.{Streams.write_answered, Streams.write_pending, Calls.Answer, Calls.DeviceTree, Calls.Label}
+use Rattle.vs_device_parts.specs.{Calls.ReadStream, Calls.ShutWrite, State.DeviceConnection, State.DeviceEntry, State.DeviceState}
 use Rattle.vs_device_parts.specs.Turns.{close_slot, open_of, reset_of}
 use Rattle.vs_proxy_parts.specs.Handshakes.{accept_one, byte_read, dropping, handshake_on, host_fault, line_decided, may_open, opening}
 use Rattle.vs_proxy_parts.specs.Handshakes.{read_byte, read_line, shake_hands, streams_of, tick_handshake, tick_handshakes, with_line}

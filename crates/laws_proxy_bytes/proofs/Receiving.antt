@@ -4,31 +4,24 @@ use Rattle.std.proofs.Common.{Result, Ok, Err, refl, sym, ap, subst, ◌∙◌}
 use Rattle.std.specs.Option.{option_map_or}
 use Rattle.std.proofs.lemmas.List.{append-nil}
 use Rattle.std.proofs.lemmas.List.Elements.{All-weaker}
-use Rattle.vs_flow.specs.declared.flow.Flow.{Flow}
+use Rattle.vs_flow.specs.{declared.flow.Flow.Flow, Table.Table, Table.entry_under, Table.slots}
 use Rattle.vs_conn.specs.{End.owes_of, End.paid_of, End.wanting_credit, End.with_payload_sent, Headers.owed_header, Headers.payload_header}
+use Rattle.vs_conn.specs.declared.end.{Owed.Owed, State.TheVariants.Asked, State.TheVariants.Ended, TheConstants.OWED_MAX}
 use Rattle.vs_conn.proofs.Frames.{paid_asked, paid_over}
-use Rattle.vs_conn.specs.declared.end.Owed.{Owed}
 use Rattle.vs_conn.specs.declared.end.Owed.TheVariants as owed
-use Rattle.vs_conn.specs.declared.end.State.TheVariants.{Asked, Ended}
-use Rattle.vs_conn.specs.declared.end.TheConstants.{OWED_MAX}
 use Rattle.vs_contents.specs.CallTree.{Done, Ask, bind, for_each, while_up_to}
 use Rattle.vs_credit.specs.Credit.{free_of}
-use Rattle.vs_flow.specs.Table.{Table, entry_under, slots}
-use Rattle.vs_header.specs.Packet.{header_bytes}
-use Rattle.vs_header.specs.declared.Header.{Header}
+use Rattle.vs_header.specs.{Packet.header_bytes, declared.Header.Header}
 use Rattle.vs_outside.specs.declared.host_net.StreamRead.{StreamRead}
 use Rattle.vs_outside.specs.declared.host_net.StreamRead.TheVariants as read
 use Rattle.laws_bytes.specs.Streamed.{gives}
 use Rattle.laws_bytes.proofs.Gives.{pays_gives}
 use Rattle.vs_replies.specs.declared.Reply.{Reply}
-use Rattle.vs_ring_port.specs.Contents.{Take}
-use Rattle.vs_ring_port.specs.declared.device_ring.{Chain.Chain, Next.Next}
+use Rattle.vs_ring_port.specs.{Contents.Take, declared.device_ring.Chain.Chain, declared.device_ring.Next.Next}
+use Rattle.vs_ring_port.specs.declared.{failure.Failure.Failure, queue.Queue.TheVariants.Event, queue.Queue.TheVariants.Rx}
 use Rattle.vs_ring_port.specs.declared.device_ring.Next.TheVariants as next
-use Rattle.vs_ring_port.specs.declared.failure.Failure.{Failure}
-use Rattle.vs_ring_port.specs.declared.queue.Queue.TheVariants.{Event, Rx}
-use Rattle.vs_device_parts.specs.declared.answers.Filled.{Filled}
-use Rattle.vs_device_parts.specs.Calls.{DeviceTree, ReadStream, Ring}
-use Rattle.vs_device_parts.specs.Connections.{after_shut, cut_off, route_to_guest, with_connection, with_fault}
+use Rattle.vs_device_parts.specs.{declared.answers.Filled.Filled, Calls.DeviceTree, Calls.ReadStream, Calls.Ring, Connections.after_shut}
+use Rattle.vs_device_parts.specs.Connections.{cut_off, route_to_guest, with_connection, with_fault}
 use Rattle.vs_device_parts.specs.Receiving.{Filling, after_paying, event_on, fill_rx_of, filled_of, hold, holding, may_read, pay_event_of}
 use Rattle.vs_device_parts.specs.Receiving.{put_on, put_owed, put_packet, put_payload, put_reply, put_reply_of, read_answered, read_room}
 use Rattle.vs_device_parts.specs.Receiving.{read_stream, read_with_chain, reply_header, round_from, serve_slot, written}
@@ -38,10 +31,9 @@ use Rattle.vs_proxy_parts.specs.State.{Handshake}
 use Rattle.laws_proxy_bytes.specs.Made.{Account, Made, account_of, is_for, is_of, payload_put, payload_taken, ports_of, with_taken}
 use Rattle.laws_proxy_bytes.specs.Tied.{Agree, AgreesWith, IsTied, reading_account}
 use Rattle.laws_proxy_bytes.proofs.Closing.{Has, agree_same, join, keeps_cut_off, keeps_leaving, over_there, there_under}
-use Rattle.laws_proxy_bytes.proofs.Accounts.{Changes, changes, changing, stays}
-use Rattle.laws_proxy_bytes.proofs.Entries.{hand_other, taken_tied}
-use Rattle.laws_proxy_bytes.proofs.Keeping.{Keeps, keeps_each, keeps_then, keeps_while, made}
-use Rattle.laws_proxy_bytes.proofs.Ties.{end_changes, shuts}
+use Rattle.laws_proxy_bytes.proofs.{Accounts.Changes, Accounts.changes, Accounts.changing, Accounts.stays, Entries.hand_other}
+use Rattle.laws_proxy_bytes.proofs.{Entries.taken_tied, Keeping.Keeps, Keeping.keeps_each, Keeping.keeps_then, Keeping.keeps_while}
+use Rattle.laws_proxy_bytes.proofs.{Keeping.made, Ties.end_changes, Ties.shuts}
 
 module _ (hands : List Handshake) where
   -- A connection has another end, and nothing else of it changes.

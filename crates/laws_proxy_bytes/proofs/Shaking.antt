@@ -1,5 +1,5 @@
 -- Handshakes: their clients' streams are given nothing before they have a connection.
-use Rattle.std.proofs.{lemmas.List.Elements.All-push, lemmas.List.Quantifiers.all_pairs_push, lemmas.Bool.Decides.nat_tests}
+use Rattle.std.proofs.lemmas.{List.Elements.All-push, List.Quantifiers.all_pairs_push, Bool.Decides.nat_tests}
 use Rattle.std.proofs.Common.{◌≡◌, ◌≢◌, ℕ, ◌+◌, subst, get_or, ◌≤◌, ◌&&◌, nat_le, ◌==◌, Bool, true, false, cond, List, [], ◌∷◌, ◌++◌}
 use Rattle.std.proofs.Common.{length, nat_lt, Option, Some, None, refl, sym, ap, ◌∙◌, arith}
 use Rattle.std.proofs.lemmas.List.{append-nil}
@@ -7,7 +7,7 @@ use Rattle.std.specs.List.{All}
 use Rattle.vs_contents.specs.CallTree.{Done, Ask, for_each}
 use Rattle.vs_flow.specs.{Flow.host_flow, Table.has_place, declared.flow.Flow.Flow}
 use Rattle.vs_limits.specs.declared.TheConstants.{ASSIGNED_LAST, HANDSHAKES}
-use Rattle.vs_outside.specs.{declared.host_net.Accepted.Accepted, declared.host_net.StreamRead.StreamRead}
+use Rattle.vs_outside.specs.declared.host_net.{Accepted.Accepted, StreamRead.StreamRead}
 use Rattle.laws_bytes.proofs.Hands.{ends_by, no_line, with_all, with_apart, without_after, without_all, without_none, without_pairs}
 use Rattle.laws_bytes.proofs.Lines.{line_ends, line_whole}
 use Rattle.vs_uds.specs.{ConnectLine.connect_port, ConnectLine.connect_step, declared.connect.TheConstants.CONNECT_MAX}
@@ -20,10 +20,9 @@ use Rattle.vs_proxy_parts.specs.Handshakes.{tick_handshakes, with_line, without_
 use Rattle.vs_proxy_parts.specs.State.{Handshake, ProxyState, Turning, with_device}
 use Rattle.laws_proxy_bytes.specs.Made.{Account, Made, MayGet, account_of, is_of, new_account, payload_put, payload_taken, shut, with_taken}
 use Rattle.laws_proxy_bytes.specs.Tied.{AccountsFor, AgreesWith, IsWhole, reading_account}
-use Rattle.laws_proxy_bytes.proofs.{Accounts.Changes, Accounts.changes, Accounts.comes, Closing.Has}
-use Rattle.laws_proxy_bytes.proofs.Entries.{hands_changed, taken_tied, waiting_kept}
-use Rattle.laws_proxy_bytes.proofs.Keeping.{Keeps, keeps_each, keeps_then, keeps_while, made}
-use Rattle.laws_proxy_bytes.proofs.Opening.{keeps_open, waits_unlabelled}
+use Rattle.laws_proxy_bytes.proofs.{Accounts.Changes, Accounts.changes, Accounts.comes, Closing.Has, Entries.hands_changed}
+use Rattle.laws_proxy_bytes.proofs.{Entries.taken_tied, Entries.waiting_kept, Keeping.Keeps, Keeping.keeps_each, Keeping.keeps_then}
+use Rattle.laws_proxy_bytes.proofs.{Keeping.keeps_while, Keeping.made, Opening.keeps_open, Opening.waits_unlabelled}
 use Rattle.vs_outside.specs.declared.host_net.Accepted.TheVariants as accepted
 use Rattle.vs_outside.specs.declared.host_net.StreamRead.TheVariants as read
 use Rattle.vs_uds.specs.declared.scan.Step.TheVariants as step

@@ -4,14 +4,14 @@ use Rattle.std.proofs.Common.{Option, Some, None, refl, sym, ap, subst, ◌∙�
 use Rattle.std.proofs.lemmas.List.Elements.{All-push}
 use Rattle.std.specs.Option.{option_map}
 use Rattle.vs_conn.specs.{End.answering, End.is_reset, End.is_of, End.verdict_of, declared.end.State.State, declared.end.Verdict.Verdict}
-use Rattle.vs_conn.proofs.Frames.{got_asked, got_over}
 use Rattle.vs_conn.specs.declared.end.State.TheVariants.{Ended}
+use Rattle.vs_conn.proofs.Frames.{got_asked, got_over}
 use Rattle.vs_contents.specs.CallTree.{Done, Ask, bind}
 use Rattle.vs_flow.specs.{Flow.is_assigned, Table.Table, Table.entry_of, Table.has_place, Table.next_entry, Table.with_value}
 use Rattle.vs_flow.specs.declared.flow.Flow.{Flow}
 use Rattle.vs_flow.proofs.{Entries.same_flow_true, Lookups.entry_of_found, Tables.accepted}
 use Rattle.vs_header.specs.{Op.op_number, Packet.header_of, declared.Header.Header, declared.TheConstants.HEADER_LEN}
-use Rattle.vs_header.specs.{declared.Op.TheVariants.Request, declared.Kind.TheVariants.Stream}
+use Rattle.vs_header.specs.declared.{Op.TheVariants.Request, Kind.TheVariants.Stream}
 use Rattle.vs_limits.specs.declared.TheConstants.{BUF_ALLOC, DEVICE_REPLIES}
 use Rattle.vs_outside.specs.declared.host_net.Dialed.{Dialed}
 use Rattle.vs_page.specs.{Log.Device, Log.flow_to_host, Open.is_dropped}
@@ -19,21 +19,20 @@ use Rattle.laws_bytes.specs.Streamed.{gives_in}
 use Rattle.laws_bytes.proofs.Gives.{delivers_gives, hears_gives}
 use Rattle.vs_replies.specs.Owed.{reply_to}
 use Rattle.vs_ring_port.specs.{Contents.Read, Contents.Return, Contents.Take, declared.device_ring.Chain.Chain}
-use Rattle.vs_ring_port.specs.{declared.device_ring.Next.Next, declared.failure.Failure.Failure, declared.queue.Queue.TheVariants.Tx}
+use Rattle.vs_ring_port.specs.declared.{device_ring.Next.Next, failure.Failure.Failure, queue.Queue.TheVariants.Tx}
 use Rattle.vs_uds.specs.Path.{path_of}
 use Rattle.vs_wrap.specs.Wrap.{counted}
 use Rattle.vs_device_parts.specs.{declared.answers.Taken.Taken, State.DeviceConnection, State.DeviceEntry, State.DeviceState}
-use Rattle.vs_device_parts.specs.{Streams.leaving, Calls.Dial, Calls.DeviceTree, Calls.Ring}
-use Rattle.vs_device_parts.specs.Transmitting.{dial_answered, failing, heard, on_header, on_known, on_next, on_packet, on_unknown, refused}
-use Rattle.vs_device_parts.specs.Transmitting.{take_tx_of, try_request, unknown_why}
-use Rattle.vs_device_parts.specs.Connections.{new_connection, with_connection, with_reply}
+use Rattle.vs_device_parts.specs.{Streams.leaving, Calls.Dial, Calls.DeviceTree, Calls.Ring, Transmitting.dial_answered}
+use Rattle.vs_device_parts.specs.Transmitting.{failing, heard, on_header, on_known, on_next, on_packet, on_unknown, refused, take_tx_of}
+use Rattle.vs_device_parts.specs.{Transmitting.try_request, Transmitting.unknown_why, Connections.new_connection}
+use Rattle.vs_device_parts.specs.Connections.{with_connection, with_reply}
 use Rattle.vs_proxy_parts.specs.State.{Handshake}
 use Rattle.laws_proxy_bytes.specs.Made.{Account, Made, MayGet, account_of, delivering, header_in, new_account, payload_put, payload_taken}
-use Rattle.laws_proxy_bytes.specs.Made.{with_delivery}
-use Rattle.laws_proxy_bytes.specs.Tied.{Agree, IsOver, IsTied, IsTiedTo, ok_line_of, stream_of}
-use Rattle.laws_proxy_bytes.proofs.{Entries.added, Entries.waiting_kept, Keeping.Keeps, Keeping.keeps_then, Keeping.made}
-use Rattle.laws_proxy_bytes.proofs.Accounts.{Changes, comes, is_delivered, not_delivered, self_is}
-use Rattle.laws_proxy_bytes.proofs.Closing.{Has, agree_moved, agree_same, join, keeps_leaving, over_there, there_of}
+use Rattle.laws_proxy_bytes.specs.{Made.with_delivery, Tied.Agree, Tied.IsOver, Tied.IsTied, Tied.IsTiedTo, Tied.ok_line_of, Tied.stream_of}
+use Rattle.laws_proxy_bytes.proofs.{Entries.added, Entries.waiting_kept, Keeping.Keeps, Keeping.keeps_then, Keeping.made, Accounts.Changes}
+use Rattle.laws_proxy_bytes.proofs.{Accounts.comes, Accounts.is_delivered, Accounts.not_delivered, Accounts.self_is, Closing.Has}
+use Rattle.laws_proxy_bytes.proofs.Closing.{agree_moved, agree_same, join, keeps_leaving, over_there, there_of}
 use Rattle.laws_proxy_bytes.proofs.Ties.{answers, delivers, end_changes}
 use Rattle.vs_conn.specs.declared.end.Verdict.TheVariants as verdict
 use Rattle.vs_conn.specs.declared.end.Why.TheVariants as why

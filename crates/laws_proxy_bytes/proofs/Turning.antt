@@ -2,23 +2,22 @@
 use Rattle.std.proofs.Common.{ℕ, ◌+◌, Bool, true, false, List, [], Option, Some, None, Result, Ok, Err, refl}
 use Rattle.vs_contents.specs.CallTree.{Done, for_each}
 use Rattle.vs_ring_port.specs.declared.failure.Failure.{Failure}
-use Rattle.vs_device_parts.specs.declared.answers.{Filled.Filled, Taken.Taken}
-use Rattle.vs_device_parts.specs.{Calls.DeviceTree, Calls.Situation, Playing.Runs, Receiving.fill_rx_of, Receiving.pay_event_of}
-use Rattle.vs_device_parts.specs.{State.DeviceState, Streams.pump_of, Streams.tick_of, Transmitting.take_tx_of, Turns.reset_of}
+use Rattle.vs_device_parts.specs.{declared.answers.Filled.Filled, declared.answers.Taken.Taken, Calls.DeviceTree, Calls.Situation}
+use Rattle.vs_device_parts.specs.{Playing.Runs, Receiving.fill_rx_of, Receiving.pay_event_of, State.DeviceState, Streams.pump_of}
+use Rattle.vs_device_parts.specs.{Streams.tick_of, Transmitting.take_tx_of, Turns.reset_of}
 use Rattle.vs_outside.specs.Host.{HostContents}
-use Rattle.vs_proxy_parts.specs.Handshakes.{shake_hands, streams_of, tick_handshakes}
-use Rattle.vs_proxy_parts.specs.State.{ProxyState, Turning, start, with_device}
-use Rattle.vs_proxy_parts.specs.Turns.{close_handshake, device_after, event_stage, fill_stage, filled, proxy_reset_of, pump_stage}
-use Rattle.vs_proxy_parts.specs.Turns.{reset_with, take_one, take_stage, tick_stage, took_packet, turn_of, unless_failed}
-use Rattle.vs_proxy_parts.specs.declared.answers.Turn.{Turn}
-use Rattle.laws_proxy_bytes.specs.{Made.Made, Made.account_of, Made.payload_put, Made.payload_taken, Tied.AccountsFor}
-use Rattle.laws_proxy_bytes.specs.Told.{AreAccounted, Shows, StayAccounted}
-use Rattle.laws_proxy_bytes.proofs.{Carrying.carries, Telling.stay_accounted, Closing.Has, Closing.keeps_tick}
-use Rattle.laws_proxy_bytes.proofs.Keeping.{Keeps, keeps_each, keeps_then, keeps_while}
-use Rattle.laws_proxy_bytes.proofs.Opening.{AreReset, ResetEnds, keeps_reset, new_agrees, reset_agrees, reset_closes}
-use Rattle.laws_proxy_bytes.proofs.Receiving.{keeps_fill_rx, keeps_pay_event}
-use Rattle.laws_proxy_bytes.proofs.Shaking.{Turns, TurnsFirst, keeps_shake_hands, keeps_tick_handshakes}
-use Rattle.laws_proxy_bytes.proofs.{Transmitting.keeps_take_tx, Writing.keeps_pump}
+use Rattle.vs_proxy_parts.specs.{Handshakes.shake_hands, Handshakes.streams_of, Handshakes.tick_handshakes, State.ProxyState, State.Turning}
+use Rattle.vs_proxy_parts.specs.{State.start, State.with_device, Turns.close_handshake, Turns.device_after, Turns.event_stage}
+use Rattle.vs_proxy_parts.specs.Turns.{fill_stage, filled, proxy_reset_of, pump_stage, reset_with, take_one, take_stage, tick_stage}
+use Rattle.vs_proxy_parts.specs.{Turns.took_packet, Turns.turn_of, Turns.unless_failed, declared.answers.Turn.Turn}
+use Rattle.laws_proxy_bytes.specs.{Made.Made, Made.account_of, Made.payload_put, Made.payload_taken, Tied.AccountsFor, Told.AreAccounted}
+use Rattle.laws_proxy_bytes.specs.Told.{Shows, StayAccounted}
+use Rattle.laws_proxy_bytes.proofs.{Carrying.carries, Telling.stay_accounted, Closing.Has, Closing.keeps_tick, Keeping.Keeps}
+use Rattle.laws_proxy_bytes.proofs.{Keeping.keeps_each, Keeping.keeps_then, Keeping.keeps_while, Opening.AreReset, Opening.ResetEnds}
+use Rattle.laws_proxy_bytes.proofs.Opening.{keeps_reset, new_agrees, reset_agrees, reset_closes}
+use Rattle.laws_proxy_bytes.proofs.{Receiving.keeps_fill_rx, Receiving.keeps_pay_event, Shaking.Turns, Shaking.TurnsFirst}
+use Rattle.laws_proxy_bytes.proofs.{Shaking.keeps_shake_hands, Shaking.keeps_tick_handshakes, Transmitting.keeps_take_tx}
+use Rattle.laws_proxy_bytes.proofs.Writing.{keeps_pump}
 
 keeps_unless : (stage : Turning → DeviceTree Turning) → ((t : Turning) (calls : List Made) → Turns t calls → Keeps Turns (stage t) calls)
     → (t : Turning) (calls : List Made) → Turns t calls → Keeps Turns (unless_failed stage t) calls

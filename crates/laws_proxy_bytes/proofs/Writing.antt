@@ -6,20 +6,18 @@ use Rattle.vs_contents.specs.CallTree.{Done, Ask, bind}
 use Rattle.vs_flow.specs.Table.{entry_under, slots}
 use Rattle.vs_outside.specs.declared.host_net.StreamWrite.{StreamWrite}
 use Rattle.vs_outside.specs.declared.host_net.StreamWrite.TheVariants as write
-use Rattle.vs_device_parts.specs.Calls.{DeviceTree, ShutWrite, WriteStream}
-use Rattle.vs_device_parts.specs.Connections.{after_shut, after_written, cut_off, with_connection, with_fault}
-use Rattle.vs_device_parts.specs.State.{DeviceEntry, DeviceState}
-use Rattle.vs_device_parts.specs.Streams.{Writing, closing, is_written_out, pump_of, pump_slot, shut_write, to_write, write_answered}
-use Rattle.vs_device_parts.specs.Streams.{write_pending}
+use Rattle.vs_device_parts.specs.{Calls.DeviceTree, Calls.ShutWrite, Calls.WriteStream, Connections.after_shut, Connections.after_written}
+use Rattle.vs_device_parts.specs.{Connections.cut_off, Connections.with_connection, Connections.with_fault, State.DeviceEntry}
+use Rattle.vs_device_parts.specs.{State.DeviceState, Streams.Writing, Streams.closing, Streams.is_written_out, Streams.pump_of}
+use Rattle.vs_device_parts.specs.Streams.{pump_slot, shut_write, to_write, write_answered, write_pending}
 use Rattle.vs_device_parts.proofs.Under.{has_slot}
 use Rattle.laws_device_streams.proofs.Ends.{forwarded_over, shut_over}
 use Rattle.vs_proxy_parts.specs.State.{Handshake}
 use Rattle.laws_proxy_bytes.specs.Made.{Made, MayGet, account_of, payload_put, payload_taken, with_given}
 use Rattle.laws_proxy_bytes.specs.Tied.{IsTied}
-use Rattle.laws_proxy_bytes.proofs.Accounts.{changes}
-use Rattle.laws_proxy_bytes.proofs.Closing.{Has, agree_moved, agree_same, join, keeps_cut_off, over_there, there_under}
-use Rattle.laws_proxy_bytes.proofs.Keeping.{Keeps, keeps_each, keeps_then, made}
-use Rattle.laws_proxy_bytes.proofs.Ties.{end_changes, shuts, writes}
+use Rattle.laws_proxy_bytes.proofs.{Accounts.changes, Closing.Has, Closing.agree_moved, Closing.agree_same, Closing.join}
+use Rattle.laws_proxy_bytes.proofs.{Closing.keeps_cut_off, Closing.over_there, Closing.there_under, Keeping.Keeps, Keeping.keeps_each}
+use Rattle.laws_proxy_bytes.proofs.{Keeping.keeps_then, Keeping.made, Ties.end_changes, Ties.shuts, Ties.writes}
 
 module _ (hands : List Handshake) where
   abbrev pub HasNow : Writing → List Made → Type 0

@@ -3,10 +3,8 @@
 use Rattle.std.specs.Prelude.{◌≡◌, ℕ, ◌≤◌, ◌==◌, ◌&&◌, not, Bool, true, false, if◌then◌else◌, List, [], ◌∷◌, ◌++◌, length, take, drop}
 use Rattle.std.specs.{Prelude.bytes_eq, Prelude.Option, Prelude.Some, Prelude.None, Option.option_map, Option.option_map_or}
 use Rattle.byteorder.specs.Endian.{little_bytes}
-use Rattle.vs_flow.specs.Flow.{same_flow}
-use Rattle.vs_flow.specs.declared.flow.Flow.{Flow}
-use Rattle.vs_header.specs.{Op.op_number, Packet.header_of}
-use Rattle.vs_header.specs.declared.{Header.Header, TheConstants.HEADER_LEN}
+use Rattle.vs_flow.specs.{Flow.same_flow, declared.flow.Flow.Flow}
+use Rattle.vs_header.specs.{Op.op_number, Packet.header_of, declared.Header.Header, declared.TheConstants.HEADER_LEN}
 use Rattle.vs_header.specs.declared.Op.TheVariants.{Rw}
 use Rattle.vs_outside.specs.declared.host_net.Accepted.TheVariants as accepted
 use Rattle.vs_outside.specs.declared.host_net.Dialed.TheVariants as dialed

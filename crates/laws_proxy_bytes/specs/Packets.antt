@@ -1,8 +1,7 @@
 -- The packets of the guest in a list of calls: each one that was read was judged.
 use Rattle.std.specs.Prelude.{◌≡◌, ℕ, ◌+◌, ◌≤◌, ◌==◌, Bool, false, if◌then◌else◌, List, [], ◌∷◌}
 use Rattle.vs_ring_port.specs.Contents.{Read}
-use Rattle.vs_device_parts.specs.{Calls.Call, Calls.Ring, State.DeviceState}
-use Rattle.vs_device_parts.specs.declared.answers.Taken.{Taken}
+use Rattle.vs_device_parts.specs.{Calls.Call, Calls.Ring, State.DeviceState, declared.answers.Taken.Taken}
 use Rattle.laws_proxy_bytes.specs.{Judged.IsJudged, Made.Made}
 
 -- A packet is read by its header, which stands at place 0 of its chain.

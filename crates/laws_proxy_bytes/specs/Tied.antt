@@ -2,12 +2,10 @@
 use Rattle.std.specs.Prelude.{◌≡◌, ◌≢◌, ℕ, ◌++◌, ◌&&◌, not, Bool, true, false, if◌then◌else◌, List, [], Option, Some, None, AllPairs}
 use Rattle.std.specs.{List.All, Option.option_map}
 use Rattle.vs_conn.specs.declared.end.State.TheVariants.{Asked, Ended}
-use Rattle.vs_flow.specs.Table.{Table, IsTable, entry_of}
-use Rattle.vs_flow.specs.declared.flow.Flow.{Flow}
+use Rattle.vs_flow.specs.{Table.Table, Table.IsTable, Table.entry_of, declared.flow.Flow.Flow}
 use Rattle.vs_page.specs.Fair.{IsPrefixOf}
 use Rattle.vs_outside.specs.HostBytes.{after_line}
-use Rattle.vs_uds.specs.{OkLine.ok_text, Reading.is_decided}
-use Rattle.vs_uds.specs.declared.connect.TheConstants.{CONNECT_MAX}
+use Rattle.vs_uds.specs.{OkLine.ok_text, Reading.is_decided, declared.connect.TheConstants.CONNECT_MAX}
 use Rattle.vs_device_parts.specs.State.{DeviceConnection, DeviceEntry}
 use Rattle.laws_bytes.specs.{Drains.Drains, Streamed.gives, Streamed.has_line}
 use Rattle.vs_proxy_parts.specs.State.{Handshake, ProxyState}

@@ -4,8 +4,7 @@ ghost use Rattle.std.specs.Prelude.{◌≡◌, ℕ, List, [], Result};
 ghost use Rattle.vs_contents.specs.CallTree.{Leads};
 ghost use Rattle.vs_outside.specs.Host.{HostContents};
 ghost use Rattle.vs_ring_port.specs.declared.failure.Failure.{Failure};
-ghost use Rattle.vs_proxy_parts.specs.{State.ProxyState, Turns.new_proxy, Turns.proxy_reset_of, Turns.turn_of};
-ghost use Rattle.vs_proxy_parts.specs.declared.answers.Turn.{Turn};
+ghost use Rattle.vs_proxy_parts.specs.{State.ProxyState, Turns.new_proxy, Turns.proxy_reset_of, Turns.turn_of, declared.answers.Turn.Turn};
 ghost use Rattle.laws_proxy_bytes.specs.{Carried.Carries, Made.Made, Made.Makes, Made.account_of, Tied.AccountsFor, Told.Shows};
 
 /// The calls that were made for a proxy account for what it holds: before its first call, and after each turn and each reset, whatever the

@@ -5,21 +5,20 @@ use Rattle.vs_contents.specs.CallTree.{Done, for_each}
 use Rattle.vs_flow.specs.Table.{Table}
 use Rattle.vs_outside.specs.Host.{IsOpen, after_close}
 use Rattle.vs_ring_port.specs.declared.failure.Failure.{Failure}
-use Rattle.vs_device_parts.specs.declared.answers.{Filled.Filled, Taken.Taken}
-use Rattle.vs_device_parts.specs.Calls.{Call, CloseStream, Situation, DeviceTree, Allows}
-use Rattle.vs_device_parts.specs.{Receiving.fill_rx_of, Receiving.pay_event_of, State.DeviceConnection, State.DeviceState}
-use Rattle.vs_device_parts.specs.{Streams.pump_of, Streams.tick_of, Transmitting.take_tx_of, Turns.reset_of}
+use Rattle.vs_device_parts.specs.{declared.answers.Filled.Filled, declared.answers.Taken.Taken, Calls.Call, Calls.CloseStream}
+use Rattle.vs_device_parts.specs.{Calls.Situation, Calls.DeviceTree, Calls.Allows, Receiving.fill_rx_of, Receiving.pay_event_of}
+use Rattle.vs_device_parts.specs.{State.DeviceConnection, State.DeviceState, Streams.pump_of, Streams.tick_of, Transmitting.take_tx_of}
+use Rattle.vs_device_parts.specs.Turns.{reset_of}
 use Rattle.laws_device_streams.specs.{Split.CanReach, Split.is_quiet, Streams.FindsStreams, Streams.HasStreams}
 use Rattle.laws_device_streams.proofs.{Closing.keeps_tick, Keeping.Keeps, Keeping.keeps_then, Keeping.keeps_while, Opening.keeps_reset}
 use Rattle.laws_device_streams.proofs.{Receiving.keeps_fill_rx, Receiving.keeps_pay_event, Tables.some_after, Tables.some_from}
 use Rattle.laws_device_streams.proofs.{Transmitting.keeps_take_tx, Writing.keeps_pump, Stepping.reach}
-use Rattle.vs_proxy_parts.specs.Handshakes.{shake_hands, streams_of, tick_handshakes}
-use Rattle.vs_proxy_parts.specs.State.{ProxyState, Turning, start, with_device}
-use Rattle.vs_proxy_parts.specs.Turns.{close_handshake, device_after, event_stage, fill_stage, filled, proxy_reset_of, pump_stage}
-use Rattle.vs_proxy_parts.specs.Turns.{reset_with, take_one, take_stage, tick_stage, took_packet, turn_of, unless_failed}
-use Rattle.vs_proxy_parts.specs.declared.answers.Turn.{Turn}
-use Rattle.laws_proxy_streams.proofs.{Hosts.has_dropped, Lists.at_first, Lists.further}
-use Rattle.laws_proxy_streams.proofs.Shaking.{FindsAll, Turns, TurnsFirst, keeps_shake_hands, keeps_tick_handshakes}
+use Rattle.vs_proxy_parts.specs.{Handshakes.shake_hands, Handshakes.streams_of, Handshakes.tick_handshakes, State.ProxyState, State.Turning}
+use Rattle.vs_proxy_parts.specs.{State.start, State.with_device, Turns.close_handshake, Turns.device_after, Turns.event_stage}
+use Rattle.vs_proxy_parts.specs.Turns.{fill_stage, filled, proxy_reset_of, pump_stage, reset_with, take_one, take_stage, tick_stage}
+use Rattle.vs_proxy_parts.specs.{Turns.took_packet, Turns.turn_of, Turns.unless_failed, declared.answers.Turn.Turn}
+use Rattle.laws_proxy_streams.proofs.{Hosts.has_dropped, Lists.at_first, Lists.further, Shaking.FindsAll, Shaking.Turns, Shaking.TurnsFirst}
+use Rattle.laws_proxy_streams.proofs.Shaking.{keeps_shake_hands, keeps_tick_handshakes}
 
 keeps_unless : (stage : Turning → DeviceTree Turning) (t : Turning) (c : Situation) → (Turns t c → Keeps CanReach Allows Turns (stage t) c)
     → Turns t c → Keeps CanReach Allows Turns (unless_failed stage t) c

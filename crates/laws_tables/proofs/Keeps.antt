@@ -2,15 +2,12 @@
 use Rattle.std.proofs.Common.{◌≡◌, ◌≢◌, ◌≤◌, ℕ, Bool, true, false, ◌&&◌, if◌then◌else◌, is_some, ◌⊎◌, inl, inr, List, [], ◌∷◌, length, Some}
 use Rattle.std.proofs.Common.{refl, sym, ap, ◌∙◌, subst, arith}
 use Rattle.std.proofs.lemmas.Grind.{common_steps}
-use Rattle.vs_conn.specs.{Follows.Follows, Follows.IsTaken, declared.end.Owed.Owed}
-use Rattle.vs_conn.specs.Follows.{FitsMessage}
-use Rattle.vs_conn.specs.End.{CanSend, ConnectionEnd, answering, asked, end_after, is_of, owes_of, paid_of, verdict_of, with_payload_sent}
+use Rattle.vs_conn.specs.{Follows.Follows, Follows.IsTaken, Follows.FitsMessage, declared.end.Owed.Owed, End.CanSend, End.ConnectionEnd}
+use Rattle.vs_conn.specs.End.{answering, asked, end_after, is_of, owes_of, paid_of, verdict_of, with_payload_sent}
 use Rattle.vs_flow.specs.{Flow.same_flow, declared.flow.Flow.Flow}
 use Rattle.vs_header.specs.{Kind.kind_named, Kind.kind_number, declared.Header.Header, declared.Kind.Kind}
-use Rattle.laws_history.specs.{declared.packet.Packet.Packet, Again.AllowsNow}
-use Rattle.vs_limits.specs.declared.TheConstants.{BUF_ALLOC}
-use Rattle.laws_history.specs.History.{Answerer, Asker, Entry, Got, History, IsFair, MayPut, Put, Side, gots, is_begun, of_asker, peer}
-use Rattle.laws_history.specs.History.{puts}
+use Rattle.laws_history.specs.{declared.packet.Packet.Packet, Again.AllowsNow, History.Answerer, History.Asker, History.Entry, History.Got}
+use Rattle.laws_history.specs.History.{History, IsFair, MayPut, Put, Side, gots, is_begun, of_asker, peer, puts}
 use Rattle.laws_history.specs.Packets.{asked_kind, has, is_clean_rst, is_request, is_rst}
 use Rattle.vs_limits.specs.declared.TheConstants.{BUF_ALLOC}
 use Rattle.laws_history.proofs.{Quiet.marked_both, Ties.Later}
@@ -24,16 +21,15 @@ use Rattle.laws_tables.specs.Ends.{Ends, FlowEnd, answer_kind, ends_of, is_among
 use Rattle.laws_tables.specs.Matches.{AllOwed, IsFairlyLeft, IsOwed, IsReady, Matches, MatchesFlows}
 use Rattle.laws_tables.specs.Steps.{HasEnd, HasNone, IsNextFlow, accepted, asking, emptied, forgotten, is_kept, is_overrun, left, opened}
 use Rattle.laws_tables.specs.Steps.{owed_on, paid, payload_on, refused, reply_on, request_on, reset, taken, with_clean, with_end}
-use Rattle.laws_tables.specs.Steps.{with_replies}
-use Rattle.laws_tables.specs.Heard.{IsInOrder, IsWithin, IsWithinCredit, heard_of, own_port}
+use Rattle.laws_tables.specs.{Steps.with_replies, Heard.IsInOrder, Heard.IsWithin, Heard.IsWithinCredit, Heard.heard_of, Heard.own_port}
 use Rattle.laws_tables.proofs.{Frame.IsStepOn, Frame.step_keeps, OnFlow.end_asks, OnFlow.end_follows, OnFlow.follows_old}
 use Rattle.laws_tables.proofs.Entries.{added_same, host_among, replaced_same, without_own, without_same}
 use Rattle.laws_tables.proofs.Fair.{heard_less, fair_now, got_formed, got_in_order, got_no_overrun, got_within, open_within, own_got_fair}
 use Rattle.laws_tables.proofs.Fair.{pay_may_on, put_allowed, put_fair, put_keeps_within, reply_may, reply_within, request_allowed}
-use Rattle.laws_tables.proofs.Fair.{send_may_on, heard_puts}
-use Rattle.laws_tables.proofs.Steps.{next_free, next_owed, owed_flow, payload_flow, reply_flow, reply_stale, request_flow, then_got}
-use Rattle.laws_tables.proofs.Tables.{IsOnce, driver_begun, end_begun, only_end, once_rest, own_none}
-use Rattle.laws_tables.proofs.Owing.{IsDue, begun_got, kind_got_stays, owed_of, all_put, all_got, all_same, all_append}
+use Rattle.laws_tables.proofs.{Fair.send_may_on, Fair.heard_puts, Steps.next_free, Steps.next_owed, Steps.owed_flow, Steps.payload_flow}
+use Rattle.laws_tables.proofs.{Steps.reply_flow, Steps.reply_stale, Steps.request_flow, Steps.then_got, Tables.IsOnce, Tables.driver_begun}
+use Rattle.laws_tables.proofs.{Tables.end_begun, Tables.only_end, Tables.once_rest, Tables.own_none, Owing.IsDue, Owing.begun_got}
+use Rattle.laws_tables.proofs.Owing.{kind_got_stays, owed_of, all_put, all_got, all_same, all_append}
 use Rattle.vs_conn.specs.declared.end.Owed.TheVariants as owed
 use Rattle.laws_tables.proofs.Steps as steps
 

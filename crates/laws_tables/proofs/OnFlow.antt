@@ -3,13 +3,12 @@ use Rattle.std.proofs.Common.{rules, ◌≡◌, ℕ, Bool, true, false, Option, 
 use Rattle.std.proofs.lemmas.Grind.{common_steps}
 use Rattle.vs_conn.specs.{End.ConnectionEnd, End.asked, Follows.Follows}
 use Rattle.vs_header.specs.{Kind.kind_number, declared.Kind.Kind}
-use Rattle.laws_history.specs.{Packets.has, Packets.is_clean_rst, Packets.is_rst, declared.packet.Packet.Packet}
-use Rattle.laws_history.specs.History.{History, Entry, Put, Got, Side, Asker, Answerer, gots, is_begun, puts}
-use Rattle.vs_limits.specs.declared.TheConstants.{BUF_ALLOC}
+use Rattle.laws_history.specs.{Packets.has, Packets.is_clean_rst, Packets.is_rst, declared.packet.Packet.Packet, History.History}
+use Rattle.laws_history.specs.History.{Entry, Put, Got, Side, Asker, Answerer, gots, is_begun, puts}
 use Rattle.vs_limits.specs.declared.TheConstants.{BUF_ALLOC}
 use Rattle.vs_page.specs.Log.{Role, Driver, Device}
-use Rattle.laws_tables.specs.{Ends.is_new, Heard.is_awaiting, Heard.is_fresh}
-use Rattle.laws_tables.specs.Matches.{IsAsking, IsBefore, IsHeld, IsLeftOn}
+use Rattle.laws_tables.specs.{Ends.is_new, Heard.is_awaiting, Heard.is_fresh, Matches.IsAsking, Matches.IsBefore, Matches.IsHeld}
+use Rattle.laws_tables.specs.Matches.{IsLeftOn}
 
 -- An end that follows what was heard has begun, so that no REQUEST may come.
 clean_is_rst : (p : Packet) (ps : List Packet) → has is_rst (p ∷ ps) ≡ false → is_clean_rst p ≡ false

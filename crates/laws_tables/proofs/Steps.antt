@@ -1,17 +1,16 @@
 -- Each small step keeps an end of many connections matching its log.
-use Rattle.std.proofs.{lemmas.Grind.common_steps, lemmas.Bool.Decides.nat_tests}
+use Rattle.std.proofs.lemmas.{Grind.common_steps, Bool.Decides.nat_tests}
 use Rattle.std.proofs.Common.{◌+◌, rules, ◌≡◌, ◌≢◌, ℕ, ◌≤◌, Bool, true, false, ◌&&◌, ◌||◌, if◌then◌else◌, ◌⊎◌, inl, inr, Option, Some, None}
 use Rattle.std.proofs.Common.{List, [], ◌∷◌, ◌++◌, length, refl, sym, ap, ◌∙◌, subst, arith}
-use Rattle.vs_conn.specs.{Follows.Follows, Follows.IsTaken, Follows.owed_packet, Shut.is_both, declared.end.Owed.Owed}
-use Rattle.vs_conn.specs.End.{CanSend, ConnectionEnd, answering, asked, end_after, is_of, owes_of, paid_of, with_payload_sent}
+use Rattle.vs_conn.specs.{Follows.Follows, Follows.IsTaken, Follows.owed_packet, Shut.is_both, declared.end.Owed.Owed, End.CanSend}
+use Rattle.vs_conn.specs.End.{ConnectionEnd, answering, asked, end_after, is_of, owes_of, paid_of, with_payload_sent}
 use Rattle.vs_conn.specs.declared.route.Route.{Route}
-use Rattle.vs_conn.proofs.Frames.{got_kind, paid_kind}
-use Rattle.vs_conn.proofs.{Getting.get_follows, Steps.answer_follows, Steps.asked_follows, Steps.pay_follows, Steps.send_follows}
+use Rattle.vs_conn.proofs.{Frames.got_kind, Frames.paid_kind, Getting.get_follows, Steps.answer_follows, Steps.asked_follows}
+use Rattle.vs_conn.proofs.Steps.{pay_follows, send_follows}
 use Rattle.vs_flow.specs.{Flow.same_flow, declared.flow.Flow.Flow}
 use Rattle.vs_header.specs.{Kind.kind_number, declared.Kind.Kind}
 use Rattle.laws_history.specs.{Packets.has, Packets.is_clean_rst, Packets.is_request, Packets.is_rst, declared.packet.Packet.Packet}
 use Rattle.laws_history.specs.History.{History, Put, Got, Side, Asker, Answerer, puts, gots}
-use Rattle.vs_limits.specs.declared.TheConstants.{BUF_ALLOC}
 use Rattle.vs_limits.specs.declared.TheConstants.{BUF_ALLOC}
 use Rattle.vs_page.specs.Open.{asks_for, cid_of, is_dropped, kind_got, kind_put, left_kind, open_kind, phase_of}
 use Rattle.vs_page.specs.declared.log.LogEntry.TheVariants.{PutPacket, GotPacket, PutEvent, GotEvent, Mark}
@@ -25,13 +24,12 @@ use Rattle.laws_tables.specs.Matches.{IsAsking, IsKept, IsLeftOn, MatchesFlows, 
 use Rattle.laws_tables.proofs.Entries.{added_other, added_same, among_append, among_flows, among_last, among_other, host_among}
 use Rattle.laws_tables.proofs.Entries.{host_distinct, host_unkept, keeping_among, keeping_distinct, replaced_other, replaced_same}
 use Rattle.laws_tables.proofs.Entries.{replied_append, replied_of, without_among, without_distinct, without_other, without_own}
-use Rattle.laws_tables.proofs.Entries.{without_same}
-use Rattle.laws_tables.proofs.Frame.{alone_got, alone_put, heard_dropped, heard_ended, heard_got, heard_put, left_alone, open_got, open_put}
-use Rattle.laws_tables.proofs.Frame.{IsAlone, IsStepOn, phase_dropped, step_keeps, still_keeps}
-use Rattle.laws_tables.proofs.OnFlow.{IsOne, asks_on, begins_on, changes_on, closed_on, drops_on, empties_on, end_asks, end_follows}
-use Rattle.laws_tables.proofs.OnFlow.{follows_not_fresh, fresh_closed, ignores_on, owed_stale, passes_on, refuses_on}
-use Rattle.laws_tables.proofs.Opening.{kind_stays, got_opens, rst_asks_none, rst_of, got_closes, got_stays, got_none}
-use Rattle.laws_tables.proofs.Tables.{reset_closed}
+use Rattle.laws_tables.proofs.{Entries.without_same, Frame.alone_got, Frame.alone_put, Frame.heard_dropped, Frame.heard_ended}
+use Rattle.laws_tables.proofs.Frame.{heard_got, heard_put, left_alone, open_got, open_put, IsAlone, IsStepOn, phase_dropped, step_keeps}
+use Rattle.laws_tables.proofs.{Frame.still_keeps, OnFlow.IsOne, OnFlow.asks_on, OnFlow.begins_on, OnFlow.changes_on, OnFlow.closed_on}
+use Rattle.laws_tables.proofs.OnFlow.{drops_on, empties_on, end_asks, end_follows, follows_not_fresh, fresh_closed, ignores_on, owed_stale}
+use Rattle.laws_tables.proofs.{OnFlow.passes_on, OnFlow.refuses_on, Opening.kind_stays, Opening.got_opens, Opening.rst_asks_none}
+use Rattle.laws_tables.proofs.{Opening.rst_of, Opening.got_closes, Opening.got_stays, Opening.got_none, Tables.reset_closed}
 use Rattle.vs_page.proofs.Flows.{same_self}
 use Rattle.vs_conn.specs.declared.end.Owed.TheVariants as owed
 

@@ -7,8 +7,8 @@ use Rattle.vs_conn.specs.declared.end.Owed.{Owed}
 use Rattle.vs_conn.proofs.Getting.{get_taken}
 use Rattle.vs_flow.specs.{Flow.same_flow, declared.flow.Flow.Flow}
 use Rattle.vs_limits.specs.declared.TheConstants.{HOST_CID}
-use Rattle.vs_header.specs.{Kind.kind_number, declared.Header.Header, declared.Kind.Kind}
-use Rattle.vs_header.specs.declared.Kind.TheVariants.{Stream, Seqpacket}
+use Rattle.vs_header.specs.{Kind.kind_number, declared.Header.Header, declared.Kind.Kind, declared.Kind.TheVariants.Stream}
+use Rattle.vs_header.specs.declared.Kind.TheVariants.{Seqpacket}
 use Rattle.laws_history.specs.{Again.present, Packets.asked_kind, Packets.has, Packets.is_clean_rst, Packets.is_request, Packets.is_rst}
 use Rattle.laws_history.specs.History.{Answerer, Asker, Got, History, Put, Side, gots, of_asker, peer, puts}
 use Rattle.laws_history.specs.declared.packet.Packet.{Packet}
@@ -17,16 +17,15 @@ use Rattle.vs_page.specs.{Fair.IsFairOn, declared.log.LogEntry.TheVariants.GotPa
 use Rattle.vs_page.specs.Log.{Driver, Device, IsNextPacket, Log, Role, and_then, flow_got, flow_put, history_of, side_of, whole_of}
 use Rattle.vs_page.specs.Open.{Clean, Open, Over, Phase, Unused, cid_of, ended_by, is_clean_end, is_dropped, is_left_open, left_kind}
 use Rattle.vs_page.specs.Open.{open_kind, phase_got, phase_heard, phase_of, phase_put, phase_reset}
-use Rattle.vs_limits.specs.declared.TheConstants.{HOST_CID}
 use Rattle.vs_page.proofs.{Entries.got_on, Entries.on_flow, Entries.present_is, Flows.same_is, Flows.same_self}
 use Rattle.laws_tables.specs.{Ends.Ends, Ends.ends_of, Heard.IsInOrder, Heard.heard_of, Heard.hears, Heard.is_fresh, Matches.MatchesFlows}
 use Rattle.laws_tables.specs.Both.{Asks, Both, Decides, Happening, IsSound, MakesReset, MayHappen, MayRun, Opens, Pays, PutsEvent, Replies}
 use Rattle.laws_tables.specs.Both.{Seat, Sends, Step, Takes, TakesEvent, TakesReset, after_packet, answered, decided, happens, Forgets, run}
-use Rattle.laws_tables.specs.Both.{start}
-use Rattle.laws_tables.specs.Steps.{HasEnd, is_kept, left, owed_on, paid, payload_on, reply_on, request_on, with_clean, with_end}
+use Rattle.laws_tables.specs.{Both.start, Steps.HasEnd, Steps.is_kept, Steps.left, Steps.owed_on, Steps.paid, Steps.payload_on}
+use Rattle.laws_tables.specs.Steps.{reply_on, request_on, with_clean, with_end}
 use Rattle.laws_tables.proofs.{Entries.added_other, Entries.replaced_other, Entries.without_other, Frame.same_of, Steps.cid_heard}
-use Rattle.laws_tables.proofs.{Both.next_is_fair, Both.run_keeps, Both.start_sound, Both.step_keeps, Tables.only_end}
-use Rattle.laws_tables.proofs.Fair.{fair_now, fair_order, got_fair, got_goes_on, got_one, heard_less, heard_puts, own_got_fair}
+use Rattle.laws_tables.proofs.{Both.next_is_fair, Both.run_keeps, Both.start_sound, Both.step_keeps, Tables.only_end, Fair.fair_now}
+use Rattle.laws_tables.proofs.Fair.{fair_order, got_fair, got_goes_on, got_one, heard_less, heard_puts, own_got_fair}
 use Rattle.vs_conn.specs.declared.end.Owed.TheVariants as owed
 
 -- The device drops a packet on a flow with this peer exactly where the guest's CID isn't this, or the peer isn't the host.

@@ -5,9 +5,8 @@ use Rattle.std.proofs.lemmas.List.{take_at}
 use Rattle.vs_page.specs.Overwriting.{overwritten}
 use Rattle.laws_world.specs.Pages.{is_held}
 use Rattle.vs_ring_port.specs.Chains.{Held, bytes_in, same_chain, same_queue, with_bytes, without_held}
-use Rattle.vs_ring_port.specs.declared.device_ring.Chain.{Chain}
-use Rattle.vs_ring_port.specs.declared.queue.Queue.{Queue}
-use Rattle.vs_ring_port.specs.declared.queue.Queue.TheVariants.{Rx, Tx, Event}
+use Rattle.vs_ring_port.specs.declared.{device_ring.Chain.Chain, queue.Queue.Queue, queue.Queue.TheVariants.Rx, queue.Queue.TheVariants.Tx}
+use Rattle.vs_ring_port.specs.declared.queue.Queue.TheVariants.{Event}
 
 -- The receive chain that the device holds is one that it took.
 abbrev pub HoldsRx : Option Chain → List Held → Type 0

@@ -1,5 +1,5 @@
 -- Each of the device's conversations is some of the steps of the two ends.
-use Rattle.std.proofs.{lemmas.Bool.Decides.nat_tests, lemmas.Grind.common_steps, lemmas.List.length-take}
+use Rattle.std.proofs.lemmas.{Bool.Decides.nat_tests, Grind.common_steps, List.length-take}
 use Rattle.std.proofs.Common.{◌≡◌, ℕ, ◌+◌, ◌-◌, ◌^◌, ◌<◌, ◌≤◌, ◌==◌, ◌&&◌, nat_lt, Bool, true, false, cond, List, [], ◌∷◌, ◌++◌, length}
 use Rattle.std.proofs.Common.{take, drop, Contains, Option, Some, None, refl, sym, ap, subst, ◌∙◌, arith, length-append}
 use Rattle.vs_contents.specs.CallTree.{Done, Ask, bind, played}
@@ -22,16 +22,14 @@ use Rattle.vs_uds.specs.{Path.path_of, OkLine.ok_text}
 use Rattle.vs_device_parts.specs.{State.DeviceConnection, State.DeviceEntry, State.DeviceState, Streams.leaving, Steps.header_came}
 use Rattle.vs_device_parts.specs.Connections.{with_connection, with_fault, with_reply, after_leaving, stream_closed, with_dialed}
 use Rattle.vs_device_parts.specs.Transmitting.{dial_answered, failing, heard, on_known, on_packet, on_unknown, refused, try_request}
-use Rattle.vs_device_parts.specs.Transmitting.{unknown_why}
-use Rattle.vs_device_parts.specs.Calls.{CloseStream, DeviceTree, Dial}
+use Rattle.vs_device_parts.specs.{Transmitting.unknown_why, Calls.CloseStream, Calls.DeviceTree, Calls.Dial}
 use Rattle.vs_wrap.specs.Wrap.{counted}
 use Rattle.laws_world.specs.Answers.{Around, answer_around}
-use Rattle.laws_world.proofs.{Chains.HoldsRx, DeviceTakes.heard_fresh, Wire.PutsFit, Firsts.once_history}
-use Rattle.laws_world.proofs.DeviceSide.{DeviceHolds, IsFresh, Kept, end_in, entry_fits, entry_fresh, seated}
+use Rattle.laws_world.proofs.{Chains.HoldsRx, DeviceTakes.heard_fresh, Wire.PutsFit, Firsts.once_history, DeviceSide.DeviceHolds}
+use Rattle.laws_world.proofs.DeviceSide.{IsFresh, Kept, end_in, entry_fits, entry_fresh, seated}
 use Rattle.laws_world.proofs.Streams.{StreamedIf, accepts_streams, called_host, delivered_rw, delivers_streams, dialed_id, empty_streams}
 use Rattle.laws_world.proofs.Streams.{failed_host, got_nothing, hears_streams, leaves_streams, passes_streams, request_empty, reset_empty}
-use Rattle.laws_world.proofs.Streams.{unknown_streams}
-use Rattle.laws_world.proofs.Once.{AreOnce, asked_once, number_of_once}
+use Rattle.laws_world.proofs.{Streams.unknown_streams, Once.AreOnce, Once.asked_once, Once.number_of_once}
 use Rattle.laws_device.specs.Honest.{HoldsBytes}
 use Rattle.laws_device.proofs.{Fits.delivered, Fits.fits_after, Hearing.peer_resets, Hearing.rst_leaves}
 use Rattle.std.specs.List.{All}

@@ -4,9 +4,8 @@ use Rattle.vs_contents.specs.CallTree.{Done, Ask, bind, for_each, played, while_
 use Rattle.vs_contents.proofs.Leads.{AllEnds}
 use Rattle.vs_device_parts.specs.{Calls.Answer, Calls.Call, Calls.DeviceTree, State.DeviceState}
 use Rattle.vs_proxy_parts.specs.State.{ProxyState, Turning, start, with_device}
-use Rattle.laws_world.specs.Answers.{Around, answer_around}
-use Rattle.laws_world.specs.Events.{Event, device_step, happens, has_failed, proxy_step, unless_failed}
-use Rattle.laws_world.specs.{Steps.Leads, World.World, World.around}
+use Rattle.laws_world.specs.{Answers.Around, Answers.answer_around, Events.Event, Events.device_step, Events.happens, Events.has_failed}
+use Rattle.laws_world.specs.{Events.proxy_step, Events.unless_failed, Steps.Leads, World.World, World.around}
 use Rattle.laws_world.proofs.GuestLines.{leads_none, leads_one, leads_then}
 
 abbrev pub plays : {A : Type 0} → DeviceTree A → World → A × Around

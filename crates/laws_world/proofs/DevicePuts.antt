@@ -9,22 +9,20 @@ use Rattle.vs_header.specs.{Packet.header_bytes, declared.Header.Header}
 use Rattle.laws_history.specs.declared.packet.Packet.{Packet}
 use Rattle.vs_page.specs.{Held.packet_held, Log.Log, Log.Device, Overwriting.overwritten, declared.log.LogEntry.TheVariants.PutPacket}
 use Rattle.vs_replies.specs.declared.Reply.{Reply}
-use Rattle.vs_ring_port.specs.{Chains.bytes_in, Chains.with_bytes, EndLog.EndLog, EndLog.entries_returned, EndLog.with_packet}
-use Rattle.vs_ring_port.specs.{Lists.Rings, Lists.after_return, declared.device_ring.Chain.Chain, declared.queue.Queue.Queue}
+use Rattle.vs_ring_port.specs.{Chains.bytes_in, Chains.with_bytes, EndLog.EndLog, EndLog.entries_returned, EndLog.with_packet, Lists.Rings}
+use Rattle.vs_ring_port.specs.{Lists.after_return, declared.device_ring.Chain.Chain, declared.queue.Queue.Queue}
 use Rattle.vs_ring_port.specs.declared.queue.Queue.TheVariants.{Rx}
 use Rattle.laws_tables.specs.{Both.IsSound, Both.Seat, Steps.owed_on, Steps.paid, Steps.reply_on, Steps.with_end}
-use Rattle.laws_tables.proofs.Slots.{found_by}
-use Rattle.laws_tables.proofs.Keeps.{owed_old}
+use Rattle.laws_tables.proofs.{Slots.found_by, Keeps.owed_old}
 use Rattle.vs_device_parts.specs.{Calls.CloseStream, Calls.DeviceTree, State.DeviceConnection, State.DeviceEntry, State.DeviceState}
 use Rattle.vs_device_parts.specs.Connections.{after_leaving, route_to_guest, stream_closed, with_connection}
 use Rattle.vs_device_parts.specs.Receiving.{Filling, after_paying, put_packet, put_reply_of, reply_header}
 use Rattle.vs_device_parts.specs.Steps.{filling, puts_owed, puts_reply}
 use Rattle.laws_world.specs.{Answers.Around, Pages.is_held}
-use Rattle.laws_world.proofs.{DeviceTurns.same_cid, DeviceTurns.still, Fits.holds_header, Wire.PutsFit, Wire.not_payload}
-use Rattle.laws_world.proofs.Chains.{HoldsRx, both_written, bytes_written, first_written, held_written}
-use Rattle.laws_world.proofs.DeviceEvents.{KeptBy, Over}
-use Rattle.laws_world.proofs.DeviceSide.{DeviceHolds, IsFresh, Kept, not_fresh, seated}
-use Rattle.laws_world.proofs.Streams.{StreamedIf, ends_streams, leaves_streams, put_empty}
+use Rattle.laws_world.proofs.{DeviceTurns.same_cid, DeviceTurns.still, Fits.holds_header, Wire.PutsFit, Wire.not_payload, Chains.HoldsRx}
+use Rattle.laws_world.proofs.{Chains.both_written, Chains.bytes_written, Chains.first_written, Chains.held_written, DeviceEvents.KeptBy}
+use Rattle.laws_world.proofs.{DeviceEvents.Over, DeviceSide.DeviceHolds, DeviceSide.IsFresh, DeviceSide.Kept, DeviceSide.not_fresh}
+use Rattle.laws_world.proofs.{DeviceSide.seated, Streams.StreamedIf, Streams.ends_streams, Streams.leaves_streams, Streams.put_empty}
 use Rattle.vs_outside.specs.Host.{HostContents, after_close}
 use Rattle.vs_proxy_parts.specs.State.{Handshake}
 use Rattle.laws_bytes.specs.Streamed.{gives}
@@ -160,10 +158,6 @@ module _ (driver : Seat) (first port : ℕ) (s : DeviceState) (a : Around) (soun
             (PutPacket (owed_on Device s.cid e.flow e.value.end owed.Rst) ∷ a.log.entries)
         gone = let k = side.pays_rst driver first port s a.log.entries sound holds puts e (stream_closed e.value) there owes in
             record { runs = k.runs; holds = k.holds; puts = k.puts; overrun = k.overrun }
-    paying what owes = paid_over what owes _ refl
-        (pays_other what (record e.value { end = paid_of e.value.end what }) owes refl refl
-        (not_fresh _ (owed_old e.value.end what owes)) refl (Some e.slot)) a.host
-        (pays_streams what owes (record e.value { end = paid_of e.value.end what }) refl refl refl refl refl) _ refl
 
         left_on : StreamedIf fresh a.host (PutPacket (owed_on Device s.cid e.flow e.value.end owed.Rst) ∷ a.log.entries) port
             (without (with_value s.table e.slot (stream_closed e.value)) e.slot) lines
@@ -180,6 +174,10 @@ module _ (driver : Seat) (first port : ℕ) (s : DeviceState) (a : Around) (soun
         by false = paid_over owed.Rst owes _ refl gone (after_close e.value.stream a.host)
             (λ ok. closed_host e.value.stream a.host (PutPacket (owed_on Device s.cid e.flow e.value.end owed.Rst) ∷ a.log.entries) port
             (without (with_value s.table e.slot (stream_closed e.value)) e.slot) lines (left_on ok)) _ refl
+    paying what owes = paid_over what owes _ refl
+        (pays_other what (record e.value { end = paid_of e.value.end what }) owes refl refl
+        (not_fresh _ (owed_old e.value.end what owes)) refl (Some e.slot)) a.host
+        (pays_streams what owes (record e.value { end = paid_of e.value.end what }) refl refl refl refl refl) _ refl
 
   held_still : (c : Chain) → s.chain ≡ Some c → Left (record s { chain = Some c }) a.lists a.log a.host
   held_still c is = record {

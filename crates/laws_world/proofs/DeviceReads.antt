@@ -4,30 +4,25 @@ use Rattle.std.proofs.Common.{arith}
 use Rattle.vs_contents.specs.CallTree.{Done, Ask, bind}
 use Rattle.vs_conn.specs.End.{wanting_credit}
 use Rattle.vs_credit.specs.Credit.{free_of}
-use Rattle.vs_flow.specs.Table.{entry_under}
-use Rattle.vs_outside.specs.Host.{HostContents, after_read, fails_now, read_answer, stream_at}
+use Rattle.vs_flow.specs.Table.{entry_under, with_value}
+use Rattle.vs_outside.specs.Host.{HostContents, after_read, fails_now, read_answer, stream_at, after_close, called, next_bytes}
 use Rattle.vs_outside.specs.declared.host_net.StreamRead.{StreamRead}
 use Rattle.vs_outside.specs.declared.host_net.StreamRead.TheVariants as read
-use Rattle.vs_ring_port.specs.{EndLog.EndLog, Lists.Rings}
-use Rattle.vs_ring_port.specs.declared.device_ring.Chain.{Chain}
+use Rattle.vs_ring_port.specs.{EndLog.EndLog, Lists.Rings, declared.device_ring.Chain.Chain}
 use Rattle.laws_tables.specs.{Both.IsSound, Both.Seat, Both.WantsCredit, Ends.is_new}
 use Rattle.laws_tables.proofs.Slots.{found_by}
-use Rattle.vs_device_parts.specs.Calls.{CloseStream, DeviceTree, ReadStream}
-use Rattle.vs_device_parts.specs.Connections.{after_shut, cut_off, with_connection, with_fault}
-use Rattle.vs_device_parts.specs.Receiving.{may_read, read_answered, read_room, read_with_chain}
-use Rattle.vs_device_parts.specs.State.{DeviceConnection, DeviceEntry, DeviceState}
-use Rattle.vs_device_parts.specs.Steps.{filling, puts_payload, reads}
+use Rattle.vs_device_parts.specs.{Calls.CloseStream, Calls.DeviceTree, Calls.ReadStream, Connections.after_shut, Connections.cut_off}
+use Rattle.vs_device_parts.specs.{Connections.with_connection, Connections.with_fault, Receiving.may_read, Receiving.read_answered}
+use Rattle.vs_device_parts.specs.{Receiving.read_room, Receiving.read_with_chain, State.DeviceConnection, State.DeviceEntry}
+use Rattle.vs_device_parts.specs.{State.DeviceState, Steps.filling, Steps.puts_payload, Steps.reads}
 use Rattle.laws_world.specs.Answers.{Around, bytes_with}
-use Rattle.laws_world.proofs.{Chains.HoldsRx, DeviceEvents.KeptBy, DeviceEvents.Over}
+use Rattle.laws_world.proofs.{Chains.HoldsRx, DeviceEvents.KeptBy, DeviceEvents.Over, DeviceSide.DeviceHolds, DeviceSide.Kept}
+use Rattle.laws_world.proofs.{DeviceSide.entry_fits, DeviceSide.not_fresh, DeviceSide.seated, DeviceTurns.still, Wire.PutsFit}
+use Rattle.laws_world.proofs.Streams.{StreamedIf, called_host, ends_streams, reads_streams, shuts_streams}
 use Rattle.laws_world.proofs.DeviceSide as side
-use Rattle.laws_world.proofs.DeviceSide.{DeviceHolds, Kept, entry_fits, not_fresh, seated}
 use Rattle.laws_world.proofs.DeviceStreams as streams
 use Rattle.laws_device.proofs.Filling.{live_old}
 use Rattle.laws_bytes.proofs.Short.{bytes_short, read_short}
-use Rattle.laws_world.proofs.{DeviceTurns.still, Wire.PutsFit}
-use Rattle.laws_world.proofs.Streams.{StreamedIf, called_host, ends_streams, reads_streams, shuts_streams}
-use Rattle.vs_flow.specs.Table.{with_value}
-use Rattle.vs_outside.specs.Host.{after_close, called, next_bytes}
 use Rattle.vs_proxy_parts.specs.State.{Handshake}
 
 module _ (driver : Seat) (first port : ℕ) (s : DeviceState) (a : Around) (sound : IsSound first (seated driver port s a.log.entries))

@@ -6,39 +6,33 @@ use Rattle.std.proofs.lemmas.List.{length-take, length-drop, append-nil}
 use Rattle.vs_contents.specs.CallTree.{Done, Ask, bind}
 use Rattle.vs_conn.specs.{End.with_payload_sent, End.with_shut, Headers.payload_header}
 use Rattle.vs_credit.specs.Credit.{free_of}
-use Rattle.vs_flow.specs.Table.{entry_under}
+use Rattle.vs_flow.specs.Table.{entry_under, with_value}
 use Rattle.vs_header.specs.Packet.{header_bytes}
-use Rattle.vs_outside.specs.Host.{after_write, fails_now, stream_at, write_answer}
-use Rattle.vs_outside.specs.declared.host_net.StreamWrite.{StreamWrite}
+use Rattle.vs_outside.specs.Host.{after_write, fails_now, stream_at, write_answer, HostContents, after_close, after_failed}
+use Rattle.vs_outside.specs.{Host.after_shut_write, Host.called, declared.host_net.StreamWrite.StreamWrite}
 use Rattle.vs_outside.specs.declared.host_net.StreamWrite.TheVariants as write
-use Rattle.vs_page.specs.{Held.packet_held, Log.Device}
-use Rattle.vs_page.specs.declared.log.LogEntry.TheVariants.{PutPacket}
-use Rattle.vs_ring_port.specs.{EndLog.EndLog, Lists.Rings}
-use Rattle.vs_ring_port.specs.declared.device_ring.Chain.{Chain}
+use Rattle.vs_page.specs.{Held.packet_held, Log.Device, declared.log.LogEntry.TheVariants.PutPacket}
+use Rattle.vs_ring_port.specs.{EndLog.EndLog, Lists.Rings, declared.device_ring.Chain.Chain}
 use Rattle.laws_tables.specs.{Both.Aborts, Both.Forwards, Both.IsSound, Both.Seat, Both.Shuts, Ends.is_new, Steps.payload_on}
 use Rattle.laws_tables.proofs.Slots.{found_by}
-use Rattle.vs_device_parts.specs.Calls.{CloseStream, DeviceTree, ShutWrite, WriteStream}
-use Rattle.vs_device_parts.specs.Connections.{after_shut, after_written, cut_off, is_asked, is_late, is_timed_out, route_to_guest}
-use Rattle.vs_device_parts.specs.{Connections.with_connection, Connections.with_fault, Receiving.may_read, Receiving.put_payload}
-use Rattle.vs_device_parts.specs.State.{DeviceConnection, DeviceEntry, DeviceState}
-use Rattle.vs_device_parts.specs.Streams.{Writing, closing, is_written_out, tick_slot, to_write, write_answered, write_pending}
-use Rattle.vs_device_parts.specs.Steps.{filling, shuts_write, writes, writes_on, writing}
-use Rattle.laws_device.proofs.Filling.{can_send, live_old}
-use Rattle.laws_bytes.proofs.Short.{write_short}
+use Rattle.vs_device_parts.specs.{Calls.CloseStream, Calls.DeviceTree, Calls.ShutWrite, Calls.WriteStream, Connections.after_shut}
+use Rattle.vs_device_parts.specs.Connections.{after_written, cut_off, is_asked, is_late, is_timed_out, route_to_guest, with_connection}
+use Rattle.vs_device_parts.specs.{Connections.with_fault, Receiving.may_read, Receiving.put_payload, State.DeviceConnection}
+use Rattle.vs_device_parts.specs.{State.DeviceEntry, State.DeviceState, Streams.Writing, Streams.closing, Streams.is_written_out}
+use Rattle.vs_device_parts.specs.{Streams.tick_slot, Streams.to_write, Streams.write_answered, Streams.write_pending, Steps.filling}
+use Rattle.vs_device_parts.specs.Steps.{shuts_write, writes, writes_on, writing}
+use Rattle.laws_device.proofs.{Filling.can_send, Filling.live_old, Fits.fits_forwarded, Fits.fits_shut, Changing.forward_old}
+use Rattle.laws_device.proofs.Changing.{shut_old}
+use Rattle.laws_bytes.proofs.{Short.write_short, HostCalls.closed_host}
 use Rattle.laws_world.specs.Answers.{Around}
-use Rattle.laws_world.proofs.{Chains.HoldsRx, DeviceEvents.KeptBy, DeviceEvents.Over}
+use Rattle.laws_world.proofs.{Chains.HoldsRx, DeviceEvents.KeptBy, DeviceEvents.Over, DeviceSide.DeviceHolds, DeviceSide.IsFresh}
+use Rattle.laws_world.proofs.DeviceSide.{Kept, entry_fits, entry_fresh, new_unread, not_fresh, seated}
+use Rattle.laws_world.proofs.{DeviceTurns.still, DeviceTurns.quiet, Fits.holds_payload, Wire.PutsFit, Streams.StreamedIf}
+use Rattle.laws_world.proofs.Streams.{called_host, cuts_streams, ends_streams, failed_host, shut_write_host, shuts_streams, writes_streams}
 use Rattle.laws_world.proofs.DevicePuts as puts_of
 use Rattle.laws_world.proofs.DeviceSide as side
-use Rattle.laws_world.proofs.DeviceSide.{DeviceHolds, IsFresh, Kept, entry_fits, entry_fresh, new_unread, not_fresh, seated}
-use Rattle.laws_world.proofs.{DeviceTurns.still, DeviceTurns.quiet, Fits.holds_payload, Wire.PutsFit}
-use Rattle.laws_world.proofs.Streams.{StreamedIf, called_host, cuts_streams, ends_streams, failed_host, shut_write_host, shuts_streams}
-use Rattle.laws_world.proofs.Streams.{writes_streams}
 use Rattle.laws_device.specs.Honest.{HoldsBytes}
-use Rattle.laws_device.proofs.{Fits.fits_forwarded, Fits.fits_shut, Changing.forward_old, Changing.shut_old}
-use Rattle.vs_flow.specs.Table.{with_value}
-use Rattle.vs_outside.specs.Host.{HostContents, after_close, after_failed, after_shut_write, called}
 use Rattle.vs_proxy_parts.specs.State.{Handshake}
-use Rattle.laws_bytes.proofs.HostCalls.{closed_host}
 
 module _ (driver : Seat) (first port : ℕ) (s : DeviceState) (a : Around) (sound : IsSound first (seated driver port s a.log.entries))
     (holds : DeviceHolds port s) (puts : PutsFit a.log.entries) (rx : HoldsRx s.chain a.log.held) (known : a.lists.cid < 2 ^ 64) (fresh : Type 0) (lines : List Handshake)

@@ -1,45 +1,44 @@
 -- Each of the driver's conversations is some of the steps of the two ends.
-use Rattle.std.proofs.{lemmas.Bool.Decides.nat_tests, lemmas.List.length-take}
+use Rattle.std.proofs.lemmas.{Bool.Decides.nat_tests, List.length-take}
 use Rattle.std.proofs.Common.{take, ◌≡◌, ℕ, ◌+◌, ◌-◌, ◌^◌, ◌<◌, ◌≤◌, ◌==◌, min, nat_le, nat_lt, Bool, true, false, cond, List, [], ◌∷◌}
 use Rattle.std.proofs.Common.{◌++◌, length, Contains, Option, Some, None, Result, Ok, Err, is_some, refl, sym, ap, subst, ◌∙◌, arith}
 use Rattle.std.proofs.Common.{length-append, IsOkAnd, append_assoc}
 use Rattle.vs_contents.specs.CallTree.{Done, Ask, bind, played}
 use Rattle.vs_conn.specs.{End.CanSend, End.may_send_of, End.owes_of, End.wanting_credit, End.with_payload_sent, Headers.owed_header}
-use Rattle.vs_conn.specs.{declared.end.Owed.Owed, declared.end.Stop.Stop}
+use Rattle.vs_conn.specs.declared.end.{Owed.Owed, Stop.Stop}
 use Rattle.vs_flow.specs.{Table.entry_under, Flow.same_flow, declared.flow.Flow.Flow}
 use Rattle.vs_header.specs.{Packet.header_bytes, declared.Kind.TheVariants.Stream, declared.Header.Header}
 use Rattle.vs_limits.specs.declared.TheConstants.{DRIVER_REPLIES_FULL}
 use Rattle.laws_history.specs.declared.packet.Packet.{Packet}
-use Rattle.vs_page.specs.{Held.packet_held, Held.event_held, Held.held_in, Held.listed, declared.log.LogEntry.LogEntry}
-use Rattle.vs_page.specs.Log.{Log, Driver, IsNextPacket, IsNextEvent, packets_put, packets_got, events_put, events_got}
+use Rattle.vs_page.specs.{Held.packet_held, Held.event_held, Held.held_in, Held.listed, declared.log.LogEntry.LogEntry, Log.Log, Log.Driver}
+use Rattle.vs_page.specs.Log.{IsNextPacket, IsNextEvent, packets_put, packets_got, events_put, events_got}
 use Rattle.vs_page.specs.declared.log.LogEntry.TheVariants.{GotEvent, GotPacket, Mark, PutPacket}
 use Rattle.vs_page.proofs.Holding.{packet_whole}
 use Rattle.vs_replies.specs.declared.Reply.{Reply}
-use Rattle.vs_ring_port.specs.{Lists.Rings, Lists.oldest, Lists.all_but_oldest, declared.queue.Queue.Queue}
-use Rattle.vs_ring_port.specs.DriverCalls.{driver_answer, Stage, Publish, Reap, LoadCid}
-use Rattle.vs_ring_port.specs.EndLog.{EndLog, all_put, entries_reaped, with_event, with_packet}
-use Rattle.vs_ring_port.specs.declared.queue.Queue.TheVariants.{Rx, Tx, Event}
+use Rattle.vs_ring_port.specs.{Lists.Rings, Lists.oldest, Lists.all_but_oldest, declared.queue.Queue.Queue, DriverCalls.driver_answer}
+use Rattle.vs_ring_port.specs.{DriverCalls.Stage, DriverCalls.Publish, DriverCalls.Reap, DriverCalls.LoadCid, EndLog.EndLog, EndLog.all_put}
+use Rattle.vs_ring_port.specs.{EndLog.entries_reaped, EndLog.with_event, EndLog.with_packet, declared.queue.Queue.TheVariants.Rx}
+use Rattle.vs_ring_port.specs.declared.queue.Queue.TheVariants.{Tx, Event}
 use Rattle.laws_tables.specs.{Both.IsSound, Both.Seat, Steps.owed_on, Steps.payload_on, Steps.reply_on, Steps.request_on}
 use Rattle.laws_tables.proofs.Slots.{found_by}
-use Rattle.vs_driver_parts.specs.{declared.answers.ConnectError.ConnectError, declared.answers.Sent.Sent}
-use Rattle.vs_driver_parts.specs.{declared.answers.ListenError.ListenError, Receiving.after_reset, Receiving.on_packet, Receiving.on_page}
-use Rattle.vs_driver_parts.specs.State.{DriverEntry, DriverState, entry_known_as, is_known_as, gone_known_as}
-use Rattle.vs_driver_parts.specs.Connections.{route_to_host, connect_refusal, connected, next_flow, with_end, flow_of, after_unlisten}
+use Rattle.vs_driver_parts.specs.declared.answers.{ConnectError.ConnectError, Sent.Sent, ListenError.ListenError}
+use Rattle.vs_driver_parts.specs.{Receiving.after_reset, Receiving.on_packet, Receiving.on_page, State.DriverEntry, State.DriverState}
+use Rattle.vs_driver_parts.specs.{State.entry_known_as, State.is_known_as, State.gone_known_as, Connections.route_to_host}
+use Rattle.vs_driver_parts.specs.Connections.{connect_refusal, connected, next_flow, with_end, flow_of, after_unlisten}
 use Rattle.vs_driver_parts.specs.Conversations.{DriverTree, Round, after_paying, connect_with_page, has_page, one_more_in_flight, one_put}
 use Rattle.vs_driver_parts.specs.Conversations.{owed_bytes, payload_bytes, payload_of, publish_of, put_owed_of, put_reply_of, reap_one}
 use Rattle.vs_driver_parts.specs.Conversations.{reaped, reply_header, request_bytes, send_with_page, stage_packet, start, no_credit}
 use Rattle.vs_driver_parts.specs.Conversations.{not_sent, post_packet, send_stopped, event_reaped, goes_on_with, packet_reaped}
-use Rattle.vs_driver_parts.specs.Conversations.{staged_again}
-use Rattle.vs_driver_parts.specs.Steps.{connects, sends, sends_on, sends_with_credit, stages_owed, stages_reply, takes_page}
-use Rattle.vs_driver_parts.specs.Listening.{listen_of, listener_on, listening, next_accepted, with_waiting, without_id}
+use Rattle.vs_driver_parts.specs.{Conversations.staged_again, Steps.connects, Steps.sends, Steps.sends_on, Steps.sends_with_credit}
+use Rattle.vs_driver_parts.specs.{Steps.stages_owed, Steps.stages_reply, Steps.takes_page, Listening.listen_of, Listening.listener_on}
+use Rattle.vs_driver_parts.specs.Listening.{listening, next_accepted, with_waiting, without_id}
 use Rattle.laws_world.specs.{Pages.AllHold, Pages.TxHolds, Sides.driver_ends, Sides.log_with_staged, Pipes.none_on, Pipes.put_on}
 use Rattle.laws_world.specs.Calls.{bytes_received, bytes_sent, is_on, took, GuestCall, Connect, Listen, Unlisten, Accept, Send, Recv}
-use Rattle.laws_world.specs.Calls.{Shutdown, Close, LookAt, is_right}
-use Rattle.laws_world.specs.GuestSteps.{flow_named, makes_call}
+use Rattle.laws_world.specs.{Calls.Shutdown, Calls.Close, Calls.LookAt, Calls.is_right, GuestSteps.flow_named, GuestSteps.makes_call}
 use Rattle.laws_world.proofs.{Receives.StillReceives, Receives.none_read, Receives.reads_of, Receives.said_as, Once.AreOnce}
 use Rattle.laws_world.proofs.{Fits.holds_header, Fits.holds_payload, Runs.keeps_sound, Wire.PutsFit, Wire.next_fits, Wire.not_payload}
-use Rattle.laws_world.proofs.DriverSide.{DriverHolds, Kept, KeptWith, seated}
-use Rattle.laws_world.proofs.Payloads.{either_none, front_of}
+use Rattle.laws_world.proofs.{DriverSide.DriverHolds, DriverSide.Kept, DriverSide.KeptWith, DriverSide.seated, Payloads.either_none}
+use Rattle.laws_world.proofs.Payloads.{front_of}
 use Rattle.vs_driver_parts.proofs.Known.{flow_known}
 use Rattle.laws_world.proofs.DriverSide as side
 use Rattle.vs_conn.specs.declared.end.Stop.TheVariants as stopped

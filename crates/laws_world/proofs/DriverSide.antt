@@ -3,8 +3,8 @@ use Rattle.std.proofs.Common.{◌≡◌, ℕ, suc, ◌+◌, ◌-◌, ◌^◌, �
 use Rattle.std.proofs.Common.{Contains, Option, Some, None, refl, sym, ap, subst, ◌∙◌, arith, take}
 use Rattle.std.proofs.lemmas.List.{length-drop, append-nil}
 use Rattle.std.specs.List.{All}
-use Rattle.vs_conn.specs.{declared.end.Owed.Owed, declared.end.State.State}
-use Rattle.vs_conn.specs.End.{ConnectionEnd, CanSend, owes_of, paid_of, wanting_credit, with_payload_sent, with_shut}
+use Rattle.vs_conn.specs.{declared.end.Owed.Owed, declared.end.State.State, End.ConnectionEnd, End.CanSend, End.owes_of, End.paid_of}
+use Rattle.vs_conn.specs.End.{wanting_credit, with_payload_sent, with_shut}
 use Rattle.vs_conn.proofs.{Frames.paid_kind, Steps.stream_fits}
 use Rattle.vs_header.specs.declared.Kind.TheVariants.{Stream}
 use Rattle.laws_history.specs.History.{puts as puts_of}
@@ -12,15 +12,13 @@ use Rattle.vs_flow.specs.{Table.Table, Table.IsTable, Table.without, Flow.same_f
 use Rattle.vs_flow.proofs.Tables.{with_value_sound, without_sound}
 use Rattle.vs_page.specs.{Log.Log, Log.Driver, Log.history_of, declared.log.LogEntry.TheVariants.PutPacket}
 use Rattle.vs_replies.specs.declared.Reply.{Reply}
-use Rattle.laws_tables.specs.{Ends.Ends, Ends.FlowEnd, Ends.entries_of, Ends.replaced, Heard.route_of}
-use Rattle.laws_tables.specs.Both.{Both, Decides, Decision, Forwards, Shuts, Aborts, WantsCredit, IsSound, MayDecide, Pays, Replies, Seat}
-use Rattle.laws_tables.specs.Both.{Sends, decided}
+use Rattle.laws_tables.specs.{Ends.Ends, Ends.FlowEnd, Ends.entries_of, Ends.replaced, Heard.route_of, Both.Both, Both.Decides}
+use Rattle.laws_tables.specs.Both.{Decision, Forwards, Shuts, Aborts, WantsCredit, IsSound, MayDecide, Pays, Replies, Seat, Sends, decided}
 use Rattle.laws_tables.specs.Steps.{HasEnd, left, paid, with_end, owed_on, payload_on, reply_on}
-use Rattle.laws_tables.proofs.{Both.decided_kind, Tables.driver_begun}
-use Rattle.laws_tables.proofs.Slots.{changed_slot, found_by, one_end, removed_slot}
-use Rattle.vs_driver_parts.specs.{Conversations.after_paying, Listening.with_waiting, Listening.without_id}
-use Rattle.vs_driver_parts.specs.State.{DriverConnection, DriverEntry, DriverState, GoneConnection, entry_known_as, gone_known_as}
-use Rattle.vs_driver_parts.specs.State.{is_known_as}
+use Rattle.laws_tables.proofs.{Both.decided_kind, Tables.driver_begun, Slots.changed_slot, Slots.found_by, Slots.one_end}
+use Rattle.laws_tables.proofs.Slots.{removed_slot}
+use Rattle.vs_driver_parts.specs.{Conversations.after_paying, Listening.with_waiting, Listening.without_id, State.DriverConnection}
+use Rattle.vs_driver_parts.specs.State.{DriverEntry, DriverState, GoneConnection, entry_known_as, gone_known_as, is_known_as}
 use Rattle.vs_driver_parts.specs.Connections.{after_close, after_closing, after_leaving, after_read, after_recv, after_shut, after_shutdown}
 use Rattle.vs_driver_parts.specs.Connections.{entry_closed, entry_read, gone_closed, is_let_go, gone_as, paid_connection, shut_in}
 use Rattle.vs_driver_parts.specs.Connections.{waits_no_more, with_connection, all_gone_after_read, without_gone}
@@ -30,8 +28,7 @@ use Rattle.laws_history.specs.declared.packet.Packet.{Packet}
 use Rattle.laws_bytes.specs.Drains.{receives}
 use Rattle.laws_world.proofs.{Gone.closed_received, Payloads.sent_empty, Payloads.sent_put, Runs.and_then, Runs.one_step, Runs.stays}
 use Rattle.laws_world.proofs.Receives.{Receives, StillReceives, after_put, changes, entry_reads, gone_reads, leaves, none_read}
-use Rattle.laws_world.proofs.Receives.{nothing_there}
-use Rattle.laws_world.proofs.Receives.{read_out, reads_of, said_as, then_reads}
+use Rattle.laws_world.proofs.Receives.{nothing_there, read_out, reads_of, said_as, then_reads}
 use Rattle.laws_world.proofs.Entries.{EntryFits, ReplyFits, fits_at, fits_with_value, fits_without}
 use Rattle.laws_world.proofs.Wire.{PutsFit, RouteFits, owed_fits, payload_fits, reset_fits}
 use Rattle.laws_bytes.proofs.Steps.{comes_out, ended_goes, forwards_less, pays_less, shut_goes, stays_still}

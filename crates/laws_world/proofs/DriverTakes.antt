@@ -1,5 +1,5 @@
 -- What the driver opens and takes is among the steps of the two ends.
-use Rattle.std.proofs.{lemmas.Bool.Decides.nat_tests, lemmas.Grind.common_steps, lemmas.List.Elements.All-push}
+use Rattle.std.proofs.lemmas.{Bool.Decides.nat_tests, Grind.common_steps, List.Elements.All-push}
 use Rattle.std.proofs.Common.{◌≡◌, ℕ, ◌+◌, ◌^◌, ◌<◌, ◌≤◌, ◌&&◌, Bool, true, false, cond, List, [], ◌∷◌, ◌++◌, length, Contains, Option, inl}
 use Rattle.std.proofs.Common.{Some, None, refl, sym, ap, subst, ◌∙◌, arith, length-append}
 use Rattle.vs_conn.specs.End.{ConnectionEnd, answering, asked, end_after, is_of, is_refused, is_reset, paid_of, verdict_of}
@@ -11,8 +11,8 @@ use Rattle.vs_flow.proofs.{Entries.same_flow_true, Tables.with_entry_sound, Tabl
 use Rattle.vs_header.specs.{declared.Header.Header, declared.Kind.Kind, declared.Kind.TheVariants.Stream, Op.op_named}
 use Rattle.laws_history.specs.{Packets.is_request, Packets.is_rst, Packets.is_rw, declared.packet.Packet.Packet}
 use Rattle.vs_page.specs.{Log.Log, Log.Driver, Log.IsNextPacket, Log.IsNextEvent, Log.flow_to_guest, Log.side_by, Open.is_dropped}
-use Rattle.vs_page.specs.Held.{FitsWire, IsWhole}
-use Rattle.vs_page.specs.declared.log.LogEntry.TheVariants.{GotEvent, GotPacket, PutPacket}
+use Rattle.vs_page.specs.{Held.FitsWire, Held.IsWhole, declared.log.LogEntry.TheVariants.GotEvent}
+use Rattle.vs_page.specs.declared.log.LogEntry.TheVariants.{GotPacket, PutPacket}
 use Rattle.vs_replies.specs.Owed.{reply_to}
 use Rattle.laws_tables.specs.Both.{Both, IsSound, Opens, Seat, TakesEvent, after_packet, after_taking, answered}
 use Rattle.laws_tables.specs.Steps.{accepted, forgotten, is_kept, left, opened, with_clean, with_end, request_on, refused, taken}
@@ -27,12 +27,11 @@ use Rattle.vs_driver_parts.proofs.{Delivers.delivers, Delivers.named_rw, Packets
 use Rattle.laws_bytes.specs.Drains.{receives}
 use Rattle.laws_bytes.proofs.Logs.{got_after_put, got_passes, none_passed, passed_after_got, passed_after_put, put_passes, nothing_more}
 use Rattle.laws_bytes.proofs.Steps.{comes_in, delivers_to, hears_less, only_delivered, stays_still}
-use Rattle.laws_world.proofs.{Received.opened_received, Received.same_received, Payloads.sent_empty, Payloads.sent_got}
-use Rattle.laws_world.proofs.{Entries.FlowFits, Entries.ReplyFits, Entries.fits_with_entry, Firsts.unheard, Once.AreOnce, Once.asked_once}
-use Rattle.laws_world.proofs.{Runs.one_step, Runs.takes_step, Wire.PutsFit, Wire.owed_fits}
-use Rattle.laws_world.proofs.Receives.{after_got_empty, got_empty, hears, leaves, none_read, passes_by}
-use Rattle.laws_world.proofs.DriverSide.{DriverHolds, Holds, Kept, end_in, entry_fits, held_in, holds_changed, left_broken, left_ends}
-use Rattle.laws_world.proofs.DriverSide.{left_holds, seated}
+use Rattle.laws_world.proofs.{Received.opened_received, Received.same_received, Payloads.sent_empty, Payloads.sent_got, Entries.FlowFits}
+use Rattle.laws_world.proofs.{Entries.ReplyFits, Entries.fits_with_entry, Firsts.unheard, Once.AreOnce, Once.asked_once, Runs.one_step}
+use Rattle.laws_world.proofs.{Runs.takes_step, Wire.PutsFit, Wire.owed_fits, Receives.after_got_empty, Receives.got_empty, Receives.hears}
+use Rattle.laws_world.proofs.{Receives.leaves, Receives.none_read, Receives.passes_by, DriverSide.DriverHolds, DriverSide.Holds}
+use Rattle.laws_world.proofs.DriverSide.{Kept, end_in, entry_fits, held_in, holds_changed, left_broken, left_ends, left_holds, seated}
 use Rattle.laws_world.specs.{Pipes.put_on, Sides.driver_ends}
 use Rattle.laws_device.specs.Honest.{HoldsBytes}
 use Rattle.laws_device.proofs.Fits.{delivered, fits_after}

@@ -1,8 +1,7 @@
 -- What pages with a header alone, and with a payload behind it, hold.
 use Rattle.std.proofs.Common.{◌≡◌, ℕ, ◌==◌, true, false, Some, arith, rules, List, [], ◌++◌, length}
 use Rattle.std.proofs.lemmas.Bool.Decides.{nat_tests}
-use Rattle.vs_header.specs.Packet.{header_bytes}
-use Rattle.vs_header.specs.declared.Header.{Header}
+use Rattle.vs_header.specs.{Packet.header_bytes, declared.Header.Header}
 use Rattle.vs_page.specs.Held.{FitsWire, packet_held}
 use Rattle.vs_page.proofs.Packets.{held_payload}
 

@@ -3,11 +3,9 @@ use Rattle.std.proofs.Common.{◌≡◌, ◌≢◌, ℕ, zero, suc, ◌<◌, ◌
 use Rattle.std.proofs.Common.{take, get_or, refl, sym, ap, subst, ◌∙◌, arith, append_assoc, take-append-drop}
 use Rattle.std.specs.List.{All}
 use Rattle.std.proofs.lemmas.Bool.Decides.{nat_tests}
-use Rattle.std.proofs.lemmas.List.{get_or_default}
-use Rattle.std.proofs.lemmas.List.{Elements.All-filter, Kept.AllPairs-filter}
-use Rattle.vs_flow.specs.{Flow.same_flow, Table.Table}
+use Rattle.std.proofs.lemmas.List.{get_or_default, Elements.All-filter, Kept.AllPairs-filter}
+use Rattle.vs_flow.specs.{Flow.same_flow, Table.Table, declared.flow.Flow.Flow}
 use Rattle.vs_flow.proofs.Entries.{same_flow_true}
-use Rattle.vs_flow.specs.declared.flow.Flow.{Flow}
 use Rattle.vs_page.proofs.Flows.{same_self}
 use Rattle.vs_page.specs.{Fair.IsPrefixOf, Log.Driver, Log.Log}
 use Rattle.vs_driver_parts.specs.{SlotFields.AreNumbered, State.DriverConnection, State.DriverEntry, State.GoneConnection}

@@ -1,9 +1,8 @@
 -- Over list rings each conversation of the driver's has one end.
 use Rattle.std.proofs.Common.{◌≡◌, Some, None, unwrap_or, refl, sym, ap, ap₂, subst, ◌∙◌}
 use Rattle.vs_contents.specs.CallTree.{Done, Ask, Leads, played}
-use Rattle.vs_ring_port.specs.{Contents.RingContents, EndLog.EndLog, Lists.Rings}
-use Rattle.vs_ring_port.specs.DriverCalls.{DriverCall, DriverAnswer, Stage, Publish, Reap, LoadCid, DriverAllows, DriverMoves}
-use Rattle.vs_ring_port.specs.DriverCalls.{driver_answer}
+use Rattle.vs_ring_port.specs.{Contents.RingContents, EndLog.EndLog, Lists.Rings, DriverCalls.DriverCall, DriverCalls.DriverAnswer}
+use Rattle.vs_ring_port.specs.DriverCalls.{Stage, Publish, Reap, LoadCid, DriverAllows, DriverMoves, driver_answer}
 use Rattle.vs_ring_list.specs.Ends.{Ends, driver_contents}
 use Rattle.vs_ring_list.proofs.Determined.{driver_determined}
 use Rattle.vs_driver_parts.specs.{Conversations.DriverTree, Playing.RingAllows, Playing.Plays}

@@ -5,8 +5,8 @@ use Rattle.vs_contents.specs.CallTree.{Done, Ask, played}
 use Rattle.vs_outside.specs.Host.{HostContents}
 use Rattle.vs_page.specs.{Log.Log, Log.HasGotAll, Log.events_put, Held.packet_held, Held.event_held, Held.held_in}
 use Rattle.vs_ring_port.specs.{DriverCalls.driver_answer, EndLog.EndLog, Lists.Rings}
-use Rattle.vs_driver_parts.specs.Conversations.{DriverTree, publish_of, new_of}
-use Rattle.vs_driver_parts.specs.Steps.{takes_page, stages_reply, stages_owed}
+use Rattle.vs_driver_parts.specs.{Conversations.DriverTree, Conversations.publish_of, Conversations.new_of, Steps.takes_page}
+use Rattle.vs_driver_parts.specs.Steps.{stages_reply, stages_owed}
 use Rattle.vs_limits.specs.declared.TheConstants.{FIRST_PORT}
 use Rattle.vs_device_parts.specs.Calls.{DeviceTree, Call, Ring, Accept, Dial, Label, ReadStream, WriteStream, ShutWrite, CloseStream}
 use Rattle.vs_device_parts.specs.Steps.{takes_chain, returns, puts_event, puts_reply, puts_owed, puts_payload, writes, shuts_write}
@@ -19,9 +19,8 @@ use Rattle.laws_world.specs.Events.{DevicePutsEvent, DeviceReplies, DeviceReads,
 use Rattle.laws_world.specs.Events.{ProxyReads, Moment, TimesOut, HandshakeTimesOut, Reset, HostListens, HostUnlistens, ClientConnects}
 use Rattle.laws_world.specs.Events.{HostWrites, HostTakes, HostEnds, HostCloses, HostFails, happens, run, where_possible, unless_failed}
 use Rattle.laws_world.specs.Events.{has_failed, is_guest_cid, reset_made, is_at_rest, works_on, holds, holds_event, driver_step}
-use Rattle.laws_world.specs.Events.{device_step}
-use Rattle.laws_world.specs.Events.{proxy_step, call_made, line_read}
-use Rattle.laws_world.specs.World.{World, driver_plays, device_plays, opening}
+use Rattle.laws_world.specs.{Events.device_step, Events.proxy_step, Events.call_made, Events.line_read, World.World, World.driver_plays}
+use Rattle.laws_world.specs.World.{device_plays, opening}
 use Rattle.laws_world.proofs.Queues.{driver_keeps, device_keeps}
 use Rattle.vs_ring_port.specs.declared.queue.Queue.TheVariants as queue
 

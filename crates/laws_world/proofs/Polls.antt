@@ -6,9 +6,9 @@ use Rattle.vs_contents.specs.CallTree.{Done, Ask, bind, for_each, played, while_
 use Rattle.vs_conn.specs.{End.owes_of, declared.end.Owed.Owed, declared.end.TheConstants.OWED_MAX}
 use Rattle.vs_flow.specs.Table.{entry_under, slots}
 use Rattle.vs_replies.specs.declared.Reply.{Reply}
-use Rattle.vs_ring_port.specs.{Lists.Rings, Lists.after_reap, Lists.oldest, declared.queue.Queue.Queue}
-use Rattle.vs_ring_port.specs.DriverCalls.{driver_answer, LoadCid, Publish, Reap, Stage}
-use Rattle.vs_ring_port.specs.EndLog.{EndLog, Pages, log_loaded, log_reaped, with_pages}
+use Rattle.vs_ring_port.specs.{Lists.Rings, Lists.after_reap, Lists.oldest, declared.queue.Queue.Queue, DriverCalls.driver_answer}
+use Rattle.vs_ring_port.specs.{DriverCalls.LoadCid, DriverCalls.Publish, DriverCalls.Reap, DriverCalls.Stage, EndLog.EndLog, EndLog.Pages}
+use Rattle.vs_ring_port.specs.EndLog.{log_loaded, log_reaped, with_pages}
 use Rattle.vs_header.specs.Packet.{header_bytes}
 use Rattle.vs_driver_parts.specs.{Receiving.after_reset, Receiving.is_reset_event, Receiving.on_page, State.DriverEntry, State.DriverState}
 use Rattle.vs_driver_parts.specs.Conversations.{all_taken, pay_all, pay_and_publish, pay_slot, poll_of, poll_packets, poll_puts, poll_reaps}
@@ -18,10 +18,8 @@ use Rattle.vs_driver_parts.specs.Conversations.{stage_packet, DriverTree, Round,
 use Rattle.vs_driver_parts.specs.Conversations.{published, put_owed, put_reply, staged_again, start, take_event, take_packet}
 use Rattle.vs_driver_parts.specs.Steps.{stages_owed, stages_reply, takes_page}
 use Rattle.vs_limits.specs.declared.TheConstants.{DRIVER_REPLIES_FULL}
-use Rattle.laws_world.specs.{Steps.Leads, World.World}
-use Rattle.laws_world.specs.Events.{Event, GuestPays, GuestPublishes, GuestReplies, GuestTakes, driver_step, happens, is_at_rest}
-use Rattle.laws_world.specs.Events.{none_staged}
-use Rattle.laws_world.specs.Events.{works_on}
+use Rattle.laws_world.specs.{Steps.Leads, World.World, Events.Event, Events.GuestPays, Events.GuestPublishes, Events.GuestReplies}
+use Rattle.laws_world.specs.Events.{GuestTakes, driver_step, happens, is_at_rest, none_staged, works_on}
 use Rattle.laws_world.proofs.GuestLines.{leads_none, leads_one, leads_then, played_bind, possible_is, reaps_all, with_driver}
 use Rattle.vs_ring_port.specs.declared.queue.Queue.TheVariants as q
 

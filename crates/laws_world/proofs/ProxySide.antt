@@ -4,7 +4,7 @@ use Rattle.std.proofs.Common.{Option, Some, None, refl, sym, ap, subst, ◌∙�
 use Rattle.std.proofs.lemmas.Bool.Decides.{nat_tests}
 use Rattle.vs_contents.specs.CallTree.{Done, Ask, bind, played}
 use Rattle.vs_flow.specs.{Flow.host_flow, Flow.is_assigned, Flow.same_flow, Table.entry_of, Table.has_place, Table.refusal}
-use Rattle.vs_flow.specs.{declared.flow.Flow.Flow, declared.table.TableFault.TableFault}
+use Rattle.vs_flow.specs.declared.{flow.Flow.Flow, table.TableFault.TableFault}
 use Rattle.vs_limits.specs.declared.TheConstants.{ASSIGNED_LAST, HANDSHAKES}
 use Rattle.vs_flow.proofs.{Entries.same_flow_true, Entries.found_passes, Tables.accepted}
 use Rattle.vs_outside.specs.{declared.host_net.Accepted.Accepted, declared.host_net.StreamRead.StreamRead, HostBytes.after_line}
@@ -15,9 +15,8 @@ use Rattle.laws_tables.specs.{Both.IsSound, Both.Seat, Ends.ends_of, Ends.entrie
 use Rattle.laws_tables.proofs.Slots.{found_by, one_end}
 use Rattle.vs_uds.specs.{ConnectLine.connect_step, declared.scan.Step.Step}
 use Rattle.vs_uds.proofs.Decided.{port_fits}
-use Rattle.vs_device_parts.specs.Calls.{Accept, DeviceTree, Label, ReadStream}
-use Rattle.vs_device_parts.specs.Connections.{is_late, with_client, with_fault}
-use Rattle.vs_device_parts.specs.State.{DeviceEntry, DeviceState}
+use Rattle.vs_device_parts.specs.{Calls.Accept, Calls.DeviceTree, Calls.Label, Calls.ReadStream, Connections.is_late}
+use Rattle.vs_device_parts.specs.{Connections.with_client, Connections.with_fault, State.DeviceEntry, State.DeviceState}
 use Rattle.vs_proxy_parts.specs.Handshakes.{accept_answered, accept_one, byte_read, dropping, handshake_on, line_decided, may_open, opening}
 use Rattle.vs_proxy_parts.specs.Handshakes.{tick_handshake, with_line, without_handshake, without_stream}
 use Rattle.vs_proxy_parts.specs.State.{Handshake, ProxyState, Turning, start, with_device}
@@ -26,8 +25,8 @@ use Rattle.laws_world.proofs.{Chains.HoldsRx, DeviceSide.DeviceHolds, DeviceSide
 use Rattle.laws_world.proofs.Streams.{StreamedIf, called_host, goes_on}
 use Rattle.std.specs.List.{All}
 use Rattle.laws_bytes.specs.Streamed.{has_line, look, reading}
-use Rattle.laws_bytes.proofs.{HostCalls.accepted_host, HostCalls.closed_host, Lines.line_ends, Lines.line_whole}
-use Rattle.laws_bytes.proofs.Opens.{IsHand, hand_of, label_host, line_more, line_now, line_over, one_byte, without_host}
+use Rattle.laws_bytes.proofs.{HostCalls.accepted_host, HostCalls.closed_host, Lines.line_ends, Lines.line_whole, Opens.IsHand}
+use Rattle.laws_bytes.proofs.Opens.{hand_of, label_host, line_more, line_now, line_over, one_byte, without_host}
 use Rattle.laws_bytes.proofs.Hands.{ends_by, no_line, without_after, without_none}
 use Rattle.vs_outside.specs.declared.host_net.Accepted.TheVariants as accepted_as
 use Rattle.vs_outside.specs.declared.host_net.StreamRead.TheVariants as read

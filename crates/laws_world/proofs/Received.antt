@@ -3,19 +3,18 @@ use Rattle.std.proofs.Common.{◌≡◌, ◌≢◌, ℕ, ◌+◌, ◌<◌, ◌�
 use Rattle.std.proofs.Common.{subst, ◌∙◌}
 use Rattle.std.specs.List.{All}
 use Rattle.std.proofs.lemmas.List.{Elements.All-contains, Elements.All-push, Elements.All-weaker, Quantifiers.all_pairs_push}
-use Rattle.vs_flow.specs.Flow.{is_assigned, same_flow}
-use Rattle.vs_flow.specs.Table.{IsTable, Table, next_entry, with_entry, with_value, without}
-use Rattle.vs_flow.specs.declared.flow.Flow.{Flow}
+use Rattle.vs_flow.specs.{Flow.is_assigned, Flow.same_flow, Table.IsTable, Table.Table, Table.next_entry, Table.with_entry}
+use Rattle.vs_flow.specs.{Table.with_value, Table.without, declared.flow.Flow.Flow}
 use Rattle.vs_flow.proofs.Entries.{same_flow_true}
 use Rattle.vs_page.proofs.Flows.{same_self}
 use Rattle.vs_page.specs.{Fair.IsPrefixOf, Log.Driver, Log.Log}
 use Rattle.vs_driver_parts.specs.State.{DriverConnection, DriverEntry, GoneConnection}
-use Rattle.vs_driver_parts.proofs.Ids.{value_of}
-use Rattle.vs_driver_parts.proofs.Numbers.{numbers_left, numbers_with_entry, numbers_with_value, numbers_without}
+use Rattle.vs_driver_parts.proofs.{Ids.value_of, Numbers.numbers_left, Numbers.numbers_with_entry, Numbers.numbers_with_value}
+use Rattle.vs_driver_parts.proofs.Numbers.{numbers_without}
 use Rattle.laws_bytes.specs.Drains.{Drains, got_on, has_passed, receives}
 use Rattle.laws_world.specs.Received.{AreReceived, ReceivedOn, ReceivesOn}
-use Rattle.laws_bytes.proofs.Changes.{changed, others_left, under_slot}
-use Rattle.laws_bytes.proofs.Logs.{all_of, longer, none_got, not_on, only_on, prefix_of_none, shorter, there_on}
+use Rattle.laws_bytes.proofs.{Changes.changed, Changes.others_left, Changes.under_slot, Logs.all_of, Logs.longer, Logs.none_got}
+use Rattle.laws_bytes.proofs.Logs.{not_on, only_on, prefix_of_none, shorter, there_on}
 
 -- The same bytes.
 module _ (r q : Flow → List ℕ) (log new : Log) (same : (f : Flow) → r f ≡ q f) (got : (f : Flow) → got_on Driver f log ≡ got_on Driver f new)

@@ -4,26 +4,25 @@ use Rattle.std.proofs.Common.{sym, ap, subst, ◌∙◌, arith}
 use Rattle.std.proofs.lemmas.Bool.Decides.{nat_tests}
 use Rattle.std.proofs.lemmas.{List.append-nil, List.take_min, Option.get_or_from_slice_get, Option.slice_get_within}
 use Rattle.std.proofs.Math.Seq.{take-nil}
-use Rattle.vs_flow.specs.{Flow.same_flow, Table.IsTable, Table.entry_of, Table.without}
-use Rattle.vs_flow.specs.declared.flow.Flow.{Flow}
+use Rattle.vs_flow.specs.{Flow.same_flow, Table.IsTable, Table.entry_of, Table.without, declared.flow.Flow.Flow}
 use Rattle.vs_flow.proofs.{Entries.found_passes, Entries.none_found, Lookups.find_place}
 use Rattle.vs_page.proofs.Flows.{same_self}
 use Rattle.laws_history.specs.declared.packet.Packet.{Packet}
-use Rattle.vs_page.specs.Log.{Driver, Log, flow_got}
-use Rattle.vs_page.specs.declared.log.LogEntry.TheVariants.{GotPacket, PutPacket}
+use Rattle.vs_page.specs.{Log.Driver, Log.Log, Log.flow_got, declared.log.LogEntry.TheVariants.GotPacket}
+use Rattle.vs_page.specs.declared.log.LogEntry.TheVariants.{PutPacket}
 use Rattle.vs_driver_parts.specs.State.{DriverConnection, DriverEntry, DriverState, GoneConnection, entry_known_as, gone_known_as}
 use Rattle.vs_driver_parts.specs.Connections.{all_gone_after_read, flow_of, recv_of, unread_of_id, waits_no_more, with_connection}
+use Rattle.vs_driver_parts.specs.Connections.{entry_answer, gone_answer, is_at_end, nothing_read, read_of}
+use Rattle.vs_driver_parts.specs.declared.answers.Received.{Received}
 use Rattle.vs_conn.specs.declared.end.State.{State}
 use Rattle.vs_conn.specs.declared.end.State.TheVariants as state
-use Rattle.vs_driver_parts.specs.declared.answers.Received.{Received}
 use Rattle.vs_driver_parts.specs.declared.answers.Received.TheVariants as got
-use Rattle.vs_driver_parts.specs.Connections.{entry_answer, gone_answer, is_at_end, nothing_read, read_of}
 use Rattle.vs_driver_parts.proofs.Known.{flow_gone, flow_known, recv_gone_some, recv_known, unread_gone_some, unread_known}
 use Rattle.vs_driver_parts.proofs.GoneChanges.{read_none}
 use Rattle.laws_bytes.specs.Drains.{got_on, receives}
 use Rattle.laws_world.specs.{Received.AreReceived, Received.IsReceived, Calls.is_on, GuestSteps.bytes_got, Pipes.none_on}
-use Rattle.laws_world.proofs.Gone.{read_received}
-use Rattle.laws_world.proofs.Received.{changed_received, left_received, more_received, same_received, without_received}
+use Rattle.laws_world.proofs.{Gone.read_received, Received.changed_received, Received.left_received, Received.more_received}
+use Rattle.laws_world.proofs.Received.{same_received, without_received}
 use Rattle.laws_bytes.proofs.Logs.{got_after_got, got_after_put, none_on_any, nothing_more, only_on, passed_after_got, passed_after_put}
 use Rattle.laws_bytes.proofs.Steps.{Goes}
 

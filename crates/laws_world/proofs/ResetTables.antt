@@ -5,16 +5,15 @@ use Rattle.vs_contents.specs.CallTree.{Done, Ask, bind, for_each, played}
 use Rattle.vs_contents.proofs.Leads.{AllEnds, ends_bind}
 use Rattle.vs_flow.specs.Table.{slots}
 use Rattle.vs_ring_port.specs.{EndLog.EndLog, EndLog.log_loaded, EndLog.log_reaped, Lists.Rings, Lists.after_reap, Lists.oldest}
-use Rattle.vs_ring_port.specs.Contents.{PublishCid}
-use Rattle.vs_ring_port.specs.DriverCalls.{LoadCid, Publish, Reap, Stage, driver_answer}
-use Rattle.vs_ring_port.specs.declared.failure.Failure.{Failure}
+use Rattle.vs_ring_port.specs.{Contents.PublishCid, DriverCalls.LoadCid, DriverCalls.Publish, DriverCalls.Reap, DriverCalls.Stage}
+use Rattle.vs_ring_port.specs.{DriverCalls.driver_answer, declared.failure.Failure.Failure}
 use Rattle.vs_device_parts.specs.{Calls.DeviceTree, Calls.Ring, State.DeviceState, Turns.after_reset, Turns.close_slot}
-use Rattle.vs_driver_parts.specs.{Receiving.is_reset_event, Steps.takes_page}
-use Rattle.vs_driver_parts.specs.Conversations.{Round, event_reaped, goes_on_with, staged_again, start}
+use Rattle.vs_driver_parts.specs.{Receiving.is_reset_event, Steps.takes_page, Conversations.Round, Conversations.event_reaped}
+use Rattle.vs_driver_parts.specs.Conversations.{goes_on_with, staged_again, start}
 use Rattle.vs_limits.specs.declared.TheConstants.{DRIVER_REPLIES_FULL}
 use Rattle.vs_proxy_parts.specs.{Handshakes.streams_of, State.ProxyState, State.with_device, Turns.close_handshake, Turns.reset_with}
-use Rattle.laws_world.specs.{Laws.IsEmptied, World.World, World.around}
-use Rattle.laws_world.specs.Events.{GuestTakes, Reset, driver_step, happens, is_guest_cid, reset_made, works_on}
+use Rattle.laws_world.specs.{Laws.IsEmptied, World.World, World.around, Events.GuestTakes, Events.Reset, Events.driver_step, Events.happens}
+use Rattle.laws_world.specs.Events.{is_guest_cid, reset_made, works_on}
 use Rattle.laws_world.proofs.{DeviceLeads.ends_played, DriverResets.left_all, GuestLines.possible_is, Sound.IsWell}
 use Rattle.vs_ring_port.specs.declared.queue.Queue.TheVariants as q
 use Rattle.vs_driver_parts.specs.Receiving as driver_parts

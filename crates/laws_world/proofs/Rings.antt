@@ -2,11 +2,10 @@
 use Rattle.std.proofs.Common.{◌≡◌, ℕ, List, [], ◌∷◌, refl, ◌∙◌}
 use Rattle.vs_contents.specs.CallTree.{Done, Ask, played}
 use Rattle.vs_ring_port.specs.Contents.{DeviceCall, Take, Read, Write, Return, Given, PublishCid}
-use Rattle.vs_ring_port.specs.DeviceCalls.{device_answer}
-use Rattle.vs_ring_port.specs.DriverCalls.{DriverCall, Stage, Publish, Reap, LoadCid, driver_answer}
-use Rattle.vs_ring_port.specs.{EndLog.EndLog, Lists.Rings, Lists.all_but_oldest, Lists.after_return}
-use Rattle.vs_ring_port.specs.declared.queue.Queue.{Queue}
-use Rattle.vs_ring_port.specs.declared.queue.Queue.TheVariants.{Rx, Tx, Event}
+use Rattle.vs_ring_port.specs.{DeviceCalls.device_answer, DriverCalls.DriverCall, DriverCalls.Stage, DriverCalls.Publish, DriverCalls.Reap}
+use Rattle.vs_ring_port.specs.{DriverCalls.LoadCid, DriverCalls.driver_answer, EndLog.EndLog, Lists.Rings, Lists.all_but_oldest}
+use Rattle.vs_ring_port.specs.{Lists.after_return, declared.queue.Queue.Queue, declared.queue.Queue.TheVariants.Rx}
+use Rattle.vs_ring_port.specs.declared.queue.Queue.TheVariants.{Tx, Event}
 use Rattle.vs_driver_parts.specs.Conversations.{DriverTree}
 use Rattle.vs_device_parts.specs.Calls.{DeviceTree, Call, Ring, Accept, Dial, Label, ReadStream, WriteStream, ShutWrite, CloseStream}
 use Rattle.laws_world.specs.{Answers.Around, Answers.answer_around, Pages.AllHold}

@@ -3,16 +3,13 @@ use Rattle.std.proofs.Common.{◌≡◌, ℕ, true, List, [], ◌∷◌, ◌++�
 use Rattle.std.proofs.lemmas.List.{append-nil}
 use Rattle.vs_flow.specs.declared.flow.Flow.{Flow}
 use Rattle.vs_outside.specs.Host.{HostContents}
-use Rattle.laws_world.specs.Calls.{sent_on}
-use Rattle.laws_world.specs.Events.{ClientConnects, HostCloses, HostEnds, HostFails, HostListens, HostTakes, HostUnlistens, HostWrites}
-use Rattle.laws_world.specs.Events.{Reset}
-use Rattle.laws_world.specs.Events.{is_at_rest, is_guest_cid, reset_made}
+use Rattle.laws_world.specs.{Calls.sent_on, Events.ClientConnects, Events.HostCloses, Events.HostEnds, Events.HostFails, Events.HostListens}
+use Rattle.laws_world.specs.Events.{HostTakes, HostUnlistens, HostWrites, Reset, is_at_rest, is_guest_cid, reset_made}
 use Rattle.laws_world.specs.Plays.{Line, Guest, Poll, TurnAt, ResetTo, Client, HostListen, HostUnlisten, HostWrite, HostAllow, HostEnd}
 use Rattle.laws_world.specs.Plays.{HostClosed, HostFail, AreRight, after, line, is_given_right, play, report, sent_by}
 use Rattle.laws_world.specs.{Steps.Leads, World.World, World.opening}
-use Rattle.laws_world.proofs.CallRests.{call_rests, opening_rests}
-use Rattle.laws_world.proofs.GuestLines.{call_leads, leads_none, leads_one, leads_then, possible_is}
-use Rattle.laws_world.proofs.{Polls.poll_does, TurnLines.turn_leads}
+use Rattle.laws_world.proofs.{CallRests.call_rests, CallRests.opening_rests, GuestLines.call_leads, GuestLines.leads_none}
+use Rattle.laws_world.proofs.{GuestLines.leads_one, GuestLines.leads_then, GuestLines.possible_is, Polls.poll_does, TurnLines.turn_leads}
 
 pub line_leads : (l : Line) (w : World) → is_at_rest w.rings.driver.staged ≡ true → is_given_right l ≡ true → Leads w (line l w).0
 line_leads (Guest call) w rest may = call_leads w rest call may

@@ -1,37 +1,35 @@
 -- Each event is some of the steps of the two ends.
-use Rattle.std.proofs.{lemmas.Bool.Decides.nat_tests, lemmas.List.Elements.Contains-get_or, lemmas.Bool.and_parts}
+use Rattle.std.proofs.lemmas.{Bool.Decides.nat_tests, List.Elements.Contains-get_or, Bool.and_parts}
 use Rattle.std.proofs.Common.{◌≡◌, ℕ, ◌^◌, ◌<◌, ◌≤◌, ◌&&◌, nat_le, Bool, true, false, List, [], ◌∷◌, ◌++◌, refl, sym, ap, subst, ◌∙◌, arith}
 use Rattle.std.proofs.Common.{append_assoc, get_or}
 use Rattle.vs_contents.specs.CallTree.{played}
 use Rattle.laws_history.specs.declared.packet.Packet.{Packet}
-use Rattle.vs_outside.specs.{Host.HostContents, Host.with_stream, declared.mem_stream.HostWritten.HostWritten}
-use Rattle.vs_outside.specs.HostProgram.{after_fail, after_host_write, after_listen, after_unlisten, allowed, closed, ended}
-use Rattle.vs_outside.specs.HostProgram.{host_write_answer, with_bytes}
-use Rattle.vs_page.specs.{Open.is_dropped, Held.held_in, Held.packet_held}
-use Rattle.vs_page.specs.Log.{packets_put, packets_got, Device, IsNextPacket, Log, flow_got}
+use Rattle.vs_outside.specs.{Host.HostContents, Host.with_stream, declared.mem_stream.HostWritten.HostWritten, HostProgram.after_fail}
+use Rattle.vs_outside.specs.HostProgram.{after_host_write, after_listen, after_unlisten, allowed, closed, ended, host_write_answer}
+use Rattle.vs_outside.specs.HostProgram.{with_bytes}
+use Rattle.vs_page.specs.{Open.is_dropped, Held.held_in, Held.packet_held, Log.packets_put, Log.packets_got, Log.Device, Log.IsNextPacket}
+use Rattle.vs_page.specs.Log.{Log, flow_got}
 use Rattle.vs_ring_port.specs.{DriverCalls.driver_answer, declared.queue.Queue.Queue}
 use Rattle.laws_tables.specs.{Both.IsSound, Both.Both, Ends.ends_of, Ends.entries_of}
-use Rattle.vs_driver_parts.specs.{Conversations.DriverTree, Conversations.publish_of, State.DriverState}
-use Rattle.vs_driver_parts.specs.Steps.{takes_page, stages_reply, stages_owed}
-use Rattle.vs_device_parts.specs.{Calls.DeviceTree, State.DeviceState, State.DeviceConnection, Streams.tick_slot}
-use Rattle.vs_device_parts.specs.Steps.{takes_chain, returns, puts_event, puts_reply, puts_owed, puts_payload, writes, shuts_write}
+use Rattle.vs_driver_parts.specs.{Conversations.DriverTree, Conversations.publish_of, State.DriverState, Steps.takes_page}
+use Rattle.vs_driver_parts.specs.Steps.{stages_reply, stages_owed}
+use Rattle.vs_device_parts.specs.{Calls.DeviceTree, State.DeviceState, State.DeviceConnection, Streams.tick_slot, Steps.takes_chain}
+use Rattle.vs_device_parts.specs.Steps.{returns, puts_event, puts_reply, puts_owed, puts_payload, writes, shuts_write}
 use Rattle.vs_proxy_parts.specs.{State.ProxyState, State.Turning, State.start, State.with_device, State.Handshake, Turns.proxy_reset_of}
 use Rattle.vs_proxy_parts.specs.Handshakes.{accept_one, tick_handshake}
 use Rattle.laws_world.specs.{Answers.answer_around, Calls.Journal, Calls.is_right, Calls.received_on, Calls.sent_on, GuestSteps.makes_call}
-use Rattle.laws_world.specs.{Received.IsReceived, Pipes.none_on, Pipes.put_on, Laws.IsQueued, Pages.TxHolds}
-use Rattle.laws_world.specs.Events.{Event, GuestCalls, GuestTakes, GuestReplies, GuestPays, GuestPublishes, DeviceTakes, DeviceReturns}
+use Rattle.laws_world.specs.{Received.IsReceived, Pipes.none_on, Pipes.put_on, Laws.IsQueued, Pages.TxHolds, Events.Event}
+use Rattle.laws_world.specs.Events.{GuestCalls, GuestTakes, GuestReplies, GuestPays, GuestPublishes, DeviceTakes, DeviceReturns}
 use Rattle.laws_world.specs.Events.{DevicePutsEvent, DeviceReplies, DeviceReads, DevicePays, DeviceWrites, DeviceShutsWrite, ProxyAccepts}
 use Rattle.laws_world.specs.Events.{ProxyReads, Moment, TimesOut, HandshakeTimesOut, Reset, HostListens, HostUnlistens, ClientConnects}
 use Rattle.laws_world.specs.Events.{HostWrites, HostTakes, HostEnds, HostCloses, HostFails, at_moment, call_made, device_step, driver_step}
 use Rattle.laws_world.specs.Events.{happens, has_failed, holds, holds_event, is_at_rest, is_guest_cid, line_read, none_staged, proxy_step}
-use Rattle.laws_world.specs.Events.{reset_made, unless_failed, where_possible, works_on}
-use Rattle.laws_world.specs.Sides.{Runs, both_of, log_with_staged}
-use Rattle.laws_world.specs.World.{World, around, device_plays, driver_plays, first_cid}
+use Rattle.laws_world.specs.{Events.reset_made, Events.unless_failed, Events.where_possible, Events.works_on, Sides.Runs, Sides.both_of}
+use Rattle.laws_world.specs.{Sides.log_with_staged, World.World, World.around, World.device_plays, World.driver_plays, World.first_cid}
 use Rattle.laws_world.proofs.{Received.same_received, Chains.HoldsRx, DeviceSide.DeviceHolds, DriverSide.DriverHolds}
-use Rattle.laws_world.proofs.{Played.device_plays_keeps, Played.driver_plays_keeps, Queues.pages_put}
-use Rattle.laws_world.proofs.{Rings.device_leaves_given, Rings.driver_leaves_cid, Runs.keeps_sound, Runs.stays, Once.AreOnce}
-use Rattle.laws_world.proofs.Once.{keeps_once}
-use Rattle.laws_world.proofs.{Wire.PutsFit, Streams.StreamedIf}
+use Rattle.laws_world.proofs.{Played.device_plays_keeps, Played.driver_plays_keeps, Queues.pages_put, Rings.device_leaves_given}
+use Rattle.laws_world.proofs.{Rings.driver_leaves_cid, Runs.keeps_sound, Runs.stays, Once.AreOnce, Once.keeps_once, Wire.PutsFit}
+use Rattle.laws_world.proofs.Streams.{StreamedIf}
 use Rattle.vs_flow.specs.{declared.flow.Flow.Flow, Table.Table}
 use Rattle.std.specs.List.{All}
 use Rattle.vs_limits.specs.declared.TheConstants.{GUEST_CID_MIN, GUEST_CID_MAX}

@@ -1,38 +1,36 @@
 -- What the host's streams took and gave, through the small changes of the device.
-use Rattle.vs_flow.specs.Flow.{is_assigned, same_flow}
-use Rattle.vs_flow.specs.{Table.IsTable, Table.Table, Table.entry_of, Table.with_value, Table.without, declared.flow.Flow.Flow}
-use Rattle.std.proofs.{lemmas.Bool.Decides.nat_tests, lemmas.Grind.common_steps, lemmas.List.append-nil}
+use Rattle.vs_flow.specs.{Flow.is_assigned, Flow.same_flow, Table.IsTable, Table.Table, Table.entry_of, Table.with_value, Table.without}
+use Rattle.vs_flow.specs.declared.flow.Flow.{Flow}
+use Rattle.std.proofs.lemmas.{Bool.Decides.nat_tests, Grind.common_steps, List.append-nil}
 use Rattle.std.proofs.Common.{◌≡◌, ℕ, ◌+◌, ◌-◌, ◌≤◌, ◌==◌, ◌&&◌, nat_le, Bool, true, false, cond, List, [], ◌∷◌, ◌++◌, length, take, drop}
 use Rattle.std.proofs.Common.{Contains, Option, Some, None, refl, sym, ap, subst, ◌∙◌, arith}
 use Rattle.std.proofs.Math.Seq.{drop-nil, take-nil}
 use Rattle.std.specs.{List.All, Option.option_map}
 use Rattle.vs_conn.specs.End.{ConnectionEnd, end_after, is_of, is_reset, verdict_of, with_shut, with_payload_sent}
-use Rattle.vs_conn.proofs.Frames.{got_asked}
 use Rattle.vs_conn.specs.declared.end.Verdict.{Verdict}
-use Rattle.vs_device_parts.specs.{State.DeviceConnection, State.DeviceEntry, Transmitting.heard, Streams.to_write}
-use Rattle.vs_device_parts.specs.Connections.{after_shut, after_written, cut_off}
+use Rattle.vs_conn.proofs.Frames.{got_asked}
+use Rattle.vs_device_parts.specs.{State.DeviceConnection, State.DeviceEntry, Transmitting.heard, Streams.to_write, Connections.after_shut}
+use Rattle.vs_device_parts.specs.Connections.{after_written, cut_off}
 use Rattle.vs_flow.proofs.Entries.{none_found}
 use Rattle.laws_history.specs.{Packets.has, Packets.is_request, Packets.is_response, Packets.is_rw, declared.packet.Packet.Packet}
 use Rattle.laws_history.specs.History.{Answerer, Asker, Got, History, IsFair, Side, gots, puts, MayPut, peer}
 use Rattle.laws_history.specs.Again.{AllowsNow}
 use Rattle.vs_driver_parts.proofs.Delivers.{delivers, named_rw}
 use Rattle.laws_tables.specs.Steps.{payload_on}
-use Rattle.laws_bytes.specs.Drains.{Drains, got_on, put_on}
-use Rattle.laws_bytes.specs.Streamed.{IsJoined, IsStreamed, gives, line_for, look, seen}
-use Rattle.laws_bytes.proofs.{HostCalls.read_host, HostCalls.write_host, HostCalls.same_host, Hosts.unseen}
-use Rattle.laws_bytes.proofs.Gives.{drop_both, first_of, forwards_asked, forwards_gives, accepted_other, accepts_asked, accepts_response}
-use Rattle.laws_bytes.proofs.Gives.{answered_host, comes_behind, delivered_other, delivers_gives, gives_delivered, goes_host, got_asked}
-use Rattle.laws_bytes.proofs.Gives.{hears_gives, kept_empty, response_empty, shut_gives, shuts_asked, unanswered_got}
+use Rattle.laws_bytes.specs.{Drains.Drains, Drains.got_on, Drains.put_on, Streamed.IsJoined, Streamed.IsStreamed, Streamed.gives}
+use Rattle.laws_bytes.specs.Streamed.{line_for, look, seen}
+use Rattle.laws_bytes.proofs.{HostCalls.read_host, HostCalls.write_host, HostCalls.same_host, Hosts.unseen, Gives.drop_both, Gives.first_of}
+use Rattle.laws_bytes.proofs.Gives.{forwards_asked, forwards_gives, accepted_other, accepts_asked, accepts_response, answered_host}
+use Rattle.laws_bytes.proofs.Gives.{comes_behind, delivered_other, delivers_gives, gives_delivered, goes_host, hears_gives}
+use Rattle.laws_bytes.proofs.Gives.{kept_empty, response_empty, shut_gives, shuts_asked, unanswered_got}
 use Rattle.laws_bytes.proofs.Logs.{got_after_got, got_after_put, none_on_any, only_on, passed_after_got, passed_after_put, put_after_got}
-use Rattle.laws_bytes.proofs.Logs.{put_after_put}
-use Rattle.laws_bytes.proofs.Steps.{comes_out, Goes, drops, stays_still}
-use Rattle.laws_bytes.proofs.Streamed.{join_of, left_streamed, passed_streamed, same_streamed}
+use Rattle.laws_bytes.proofs.{Logs.put_after_put, Steps.comes_out, Steps.Goes, Steps.drops, Steps.stays_still, Streamed.join_of}
+use Rattle.laws_bytes.proofs.Streamed.{left_streamed, passed_streamed, same_streamed}
 use Rattle.vs_outside.specs.Host.{after_failed, after_read, after_shut_write, after_write, called, dial_answer, fails_now, is_listened}
 use Rattle.vs_outside.specs.Host.{next_bytes, HostContents, with_shut_write_call}
 use Rattle.vs_outside.proofs.Frames.{stream_at-after_failed}
-use Rattle.vs_page.specs.Fair.{IsFairLog, payload_of, IsFairOn}
-use Rattle.vs_page.specs.Held.{IsWhole, packet_held, packet_with, payload_held}
-use Rattle.vs_page.specs.Log.{Device, Log, flow_got, flow_put, history_of, side_of, whole_of}
+use Rattle.vs_page.specs.{Fair.IsFairLog, Fair.payload_of, Fair.IsFairOn, Held.IsWhole, Held.packet_held, Held.packet_with}
+use Rattle.vs_page.specs.{Held.payload_held, Log.Device, Log.Log, Log.flow_got, Log.flow_put, Log.history_of, Log.side_of, Log.whole_of}
 use Rattle.vs_page.specs.declared.log.LogEntry.TheVariants.{GotPacket, PutPacket}
 use Rattle.vs_header.specs.{Packet.header_of, declared.Header.Header, declared.Kind.Kind}
 use Rattle.vs_page.proofs.Flows.{same_self}

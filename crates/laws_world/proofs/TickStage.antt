@@ -11,9 +11,8 @@ use Rattle.vs_device_parts.specs.Connections.{cut_off, is_late, is_timed_out, wi
 use Rattle.vs_device_parts.specs.Calls.{Accept, CloseStream, DeviceTree, Label, ReadStream}
 use Rattle.vs_proxy_parts.specs.Handshakes.{accept_answered, accept_one, byte_read, dropping, handshake_on, line_decided, may_open, opening}
 use Rattle.vs_proxy_parts.specs.Handshakes.{read_byte, read_line, shake_hands, streams_of, tick_handshake, tick_handshakes, with_line}
-use Rattle.vs_proxy_parts.specs.Handshakes.{without_handshake}
-use Rattle.vs_proxy_parts.specs.Turns.{device_after, tick_stage}
-use Rattle.vs_proxy_parts.specs.State.{Handshake, ProxyState, Turning, start, with_device}
+use Rattle.vs_proxy_parts.specs.{Handshakes.without_handshake, Turns.device_after, Turns.tick_stage, State.Handshake, State.ProxyState}
+use Rattle.vs_proxy_parts.specs.State.{Turning, start, with_device}
 use Rattle.vs_limits.specs.declared.TheConstants.{HANDSHAKES}
 use Rattle.laws_world.specs.{Answers.Around, Answers.answer_around, Answers.bytes_with, Steps.Leads, World.World, World.around}
 use Rattle.laws_world.specs.Events.{HandshakeTimesOut, Moment, ProxyAccepts, ProxyReads, TimesOut, at_moment, line_read}

@@ -1,12 +1,11 @@
 -- The guest's own calls, each with what it answers, and the journal of those that were made.
 use Rattle.std.specs.Prelude.{ℕ, ◌^◌, nat_lt, Bool, true, false, if◌then◌else◌, List, [], ◌∷◌, ◌++◌, take, Option, Result}
 use Rattle.std.specs.Option.{option_map_or}
-use Rattle.vs_flow.specs.Flow.{same_flow}
-use Rattle.vs_flow.specs.declared.flow.Flow.{Flow}
+use Rattle.vs_flow.specs.{Flow.same_flow, declared.flow.Flow.Flow}
 use Rattle.vs_driver_parts.specs.declared.answers.{Accepted.Accepted, Closed.Closed, ConnectError.ConnectError}
 use Rattle.vs_driver_parts.specs.declared.answers.{ConnectionState.ConnectionState, ListenError.ListenError, Received.Received, Sent.Sent}
-use Rattle.vs_driver_parts.specs.declared.answers.Sent.TheVariants as sent
 use Rattle.vs_driver_parts.specs.declared.answers.Shut.{Shut}
+use Rattle.vs_driver_parts.specs.declared.answers.Sent.TheVariants as sent
 
 -- A call on the driver, a poll aside. A receive is into a buffer of so many bytes.
 pub data GuestCall : Type 0 where

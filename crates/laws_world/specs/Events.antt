@@ -3,15 +3,14 @@ use Rattle.std.specs.Prelude.{ℕ, ◌&&◌, nat_le, Bool, true, false, if◌the
 use Rattle.vs_limits.specs.declared.TheConstants.{GUEST_CID_MIN, GUEST_CID_MAX}
 use Rattle.vs_contents.specs.CallTree.{Done, bind}
 use Rattle.vs_outside.specs.HostProgram.{after_listen, after_unlisten, after_client, after_host_write, host_write_answer, allowed, ended}
-use Rattle.vs_outside.specs.HostProgram.{closed, after_fail}
-use Rattle.vs_outside.specs.Host.{HostContents, with_stream}
+use Rattle.vs_outside.specs.{HostProgram.closed, HostProgram.after_fail, Host.HostContents, Host.with_stream}
 use Rattle.vs_ring_port.specs.{Chains.same_queue, EndLog.Pages, declared.device_ring.Chain.Chain, declared.queue.Queue.Queue}
-use Rattle.vs_driver_parts.specs.{Conversations.DriverTree, Conversations.publish_of, State.DriverState}
-use Rattle.vs_driver_parts.specs.Steps.{takes_page, stages_reply, stages_owed}
-use Rattle.vs_device_parts.specs.{Calls.DeviceTree, State.DeviceState, Streams.tick_slot}
-use Rattle.vs_device_parts.specs.Steps.{takes_chain, returns, puts_event, puts_reply, puts_owed, puts_payload, writes, shuts_write}
-use Rattle.vs_proxy_parts.specs.{State.Turning, State.start, State.with_device, Turns.proxy_reset_of}
-use Rattle.vs_proxy_parts.specs.Handshakes.{tick_handshake, accept_one, read_byte}
+use Rattle.vs_driver_parts.specs.{Conversations.DriverTree, Conversations.publish_of, State.DriverState, Steps.takes_page}
+use Rattle.vs_driver_parts.specs.Steps.{stages_reply, stages_owed}
+use Rattle.vs_device_parts.specs.{Calls.DeviceTree, State.DeviceState, Streams.tick_slot, Steps.takes_chain, Steps.returns}
+use Rattle.vs_device_parts.specs.Steps.{puts_event, puts_reply, puts_owed, puts_payload, writes, shuts_write}
+use Rattle.vs_proxy_parts.specs.{State.Turning, State.start, State.with_device, Turns.proxy_reset_of, Handshakes.tick_handshake}
+use Rattle.vs_proxy_parts.specs.Handshakes.{accept_one, read_byte}
 use Rattle.laws_world.specs.{Calls.GuestCall, Calls.ReplyTo, Calls.is_right, GuestSteps.makes_call, GuestSteps.flow_named, Pages.is_held}
 use Rattle.laws_world.specs.World.{World, driver_plays, device_plays}
 use Rattle.vs_header.specs.declared.Kind.TheVariants as kind

@@ -1,13 +1,12 @@
 -- The guest's calls, on the pages as they stand.
 use Rattle.std.specs.Prelude.{ℕ, true, false, List, [], take, Option, Some, None, Ok, Err, is_some}
 use Rattle.vs_contents.specs.CallTree.{Done}
-use Rattle.vs_driver_parts.specs.declared.answers.Received.{Received}
+use Rattle.vs_driver_parts.specs.{declared.answers.Received.Received, State.DriverState, Conversations.DriverTree, Connections.recv_of}
+use Rattle.vs_driver_parts.specs.Connections.{unread_of_id, after_recv, shutdown_of, after_shutdown, close_of, after_close, after_unlisten}
+use Rattle.vs_driver_parts.specs.{Connections.state_of, Connections.flow_of, Connections.next_flow, Listening.listener_on}
+use Rattle.vs_driver_parts.specs.{Listening.listen_of, Listening.listening, Listening.accept_of, Listening.after_accept, Steps.connects}
+use Rattle.vs_driver_parts.specs.Steps.{sends}
 use Rattle.vs_driver_parts.specs.declared.answers.Received.TheVariants as got
-use Rattle.vs_driver_parts.specs.{State.DriverState, Conversations.DriverTree}
-use Rattle.vs_driver_parts.specs.Connections.{recv_of, unread_of_id, after_recv, shutdown_of, after_shutdown, close_of, after_close}
-use Rattle.vs_driver_parts.specs.Connections.{after_unlisten, state_of, flow_of, next_flow}
-use Rattle.vs_driver_parts.specs.Listening.{listener_on, listen_of, listening, accept_of, after_accept}
-use Rattle.vs_driver_parts.specs.Steps.{connects, sends}
 use Rattle.vs_flow.specs.declared.flow.Flow.{Flow}
 use Rattle.laws_world.specs.Calls.{GuestCall, ReplyTo, Connect, Listen, Unlisten, Accept, Send, Recv, Shutdown, Close, LookAt}
 

@@ -3,8 +3,7 @@ use Rattle.std.specs.Prelude.{◌≡◌, ◌≤◌, ◌+◌, ℕ, Bool, true, fa
 use Rattle.vs_header.specs.declared.TheConstants.{HEADER_LEN}
 use Rattle.laws_history.specs.declared.packet.Packet.{Packet}
 use Rattle.vs_page.specs.Held.{packet_held}
-use Rattle.vs_ring_port.specs.{Chains.Held, Chains.same_chain, EndLog.EndLog, Lists.Rings}
-use Rattle.vs_ring_port.specs.declared.device_ring.Chain.{Chain}
+use Rattle.vs_ring_port.specs.{Chains.Held, Chains.same_chain, EndLog.EndLog, Lists.Rings, declared.device_ring.Chain.Chain}
 
 -- A page holds a packet, with as many bytes as its header tells.
 pub record PageHolds (page : List ℕ) : Type 0 where

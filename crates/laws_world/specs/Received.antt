@@ -1,10 +1,9 @@
 -- What the driver's connections received, against what came in on their flows.
 use Rattle.std.specs.{Prelude.◌≡◌, Prelude.◌≢◌, Prelude.ℕ, Prelude.◌++◌, Prelude.true, Prelude.List, Prelude.AllPairs, List.All}
-use Rattle.vs_flow.specs.Table.{Table}
-use Rattle.vs_flow.specs.declared.flow.Flow.{Flow}
+use Rattle.vs_flow.specs.{Table.Table, declared.flow.Flow.Flow}
 use Rattle.vs_page.specs.{Fair.IsPrefixOf, Log.Driver, Log.Log}
-use Rattle.vs_driver_parts.specs.SlotFields.{AreNumbered}
-use Rattle.vs_driver_parts.specs.State.{DriverConnection, DriverEntry, DriverState, GoneConnection}
+use Rattle.vs_driver_parts.specs.{SlotFields.AreNumbered, State.DriverConnection, State.DriverEntry, State.DriverState}
+use Rattle.vs_driver_parts.specs.State.{GoneConnection}
 use Rattle.laws_bytes.specs.Drains.{Drains, got_on, has_passed, receives}
 
 -- A connection of the table: something passed on its flow; the bytes received and then the unread ones are those that came in.

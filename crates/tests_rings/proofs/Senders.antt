@@ -1,10 +1,8 @@
 -- The packets that the tests pass may be put.
 use Rattle.std.proofs.Common.{rules, ◌≡◌, ℕ, [], ◌∷◌, inl, refl, sym, arith}
-use Rattle.vs_header.specs.Op.{op_number}
-use Rattle.vs_header.specs.declared.Op.TheVariants.{Request, Rst}
+use Rattle.vs_header.specs.{Op.op_number, declared.Op.TheVariants.Request, declared.Op.TheVariants.Rst}
 use Rattle.vs_limits.specs.declared.TheConstants.{BUF_ALLOC}
-use Rattle.vs_page.specs.{Fair.IsFairLog, Log.Driver, Log.Log}
-use Rattle.vs_page.specs.declared.log.LogEntry.TheVariants.{PutPacket}
+use Rattle.vs_page.specs.{Fair.IsFairLog, Log.Driver, Log.Log, declared.log.LogEntry.TheVariants.PutPacket}
 use Rattle.vs_page.proofs.Entries.{one_put}
 use Rattle.tests_rings.specs.Senders.{Asked, bare, numbered}
 
@@ -24,6 +22,7 @@ fair_request =
             quiet = refl;
             honest = λ e. record {
               fits = omega arith;
+              message = λ no. absurd cc;
               forwarded_got = omega arith;
               alloc_first = λ e. refl;
               alloc_rises = omega arith;

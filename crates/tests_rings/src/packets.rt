@@ -1,8 +1,7 @@
 //! Packets between two threads over shared rings, and ends that meet.
 
 ghost use Rattle.std.specs.Prelude.{◌≡◌, ◌+◌, ◌∷◌, [], true, false};
-ghost use Rattle.vs_page.specs.{Fair.IsFairLog, Held.IsWhole, Log.Driver};
-ghost use Rattle.vs_page.specs.declared.log.LogEntry.TheVariants.{PutPacket};
+ghost use Rattle.vs_page.specs.{Fair.IsFairLog, Held.IsWhole, Log.Driver, declared.log.LogEntry.TheVariants.PutPacket};
 ghost use Rattle.vs_header.specs.Op.{op_number};
 ghost use Rattle.vs_ring_shared.specs.Ports.{IsRingSize};
 ghost use Rattle.tests_rings.specs.Senders.{bare, numbered};

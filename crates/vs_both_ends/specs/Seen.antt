@@ -1,7 +1,6 @@
 -- What each end of rings shows, by their ends.
 use Rattle.std.specs.Prelude.{◌≡◌, ℕ, List}
-use Rattle.vs_ring_port.specs.{Chains.chains_of, Contents.RingContents, Counts.Counts}
-use Rattle.vs_ring_port.specs.declared.device_ring.Chain.{Chain}
+use Rattle.vs_ring_port.specs.{Chains.chains_of, Contents.RingContents, Counts.Counts, declared.device_ring.Chain.Chain}
 use Rattle.vs_ring_list.specs.Ends.{Ends, device_contents, driver_contents, flight_of, staged_of}
 
 -- The driver's end: its size, the pages in flight, those staged, and what it exposes.

@@ -3,9 +3,7 @@ use Rattle.std.proofs.Common.{◌≡◌, ℕ, nat_le, true, Option, Some, unwrap
 use Rattle.std.proofs.lemmas.Bool.Decides.{nat_tests}
 use Rattle.std.proofs.lemmas.Bool.{and_parts}
 use Rattle.vs_outside.specs.Host.{HostContents}
-use Rattle.vs_ring_port.specs.Chains.{chains_of, same_queue}
-use Rattle.vs_ring_port.specs.declared.device_ring.Chain.{Chain}
-use Rattle.vs_ring_port.specs.declared.queue.Queue.{Queue}
+use Rattle.vs_ring_port.specs.{Chains.chains_of, Chains.same_queue, declared.device_ring.Chain.Chain, declared.queue.Queue.Queue}
 use Rattle.vs_ring_port.specs.declared.queue.Queue.TheVariants.{Event}
 use Rattle.vs_ring_list.specs.Ends.{device_contents}
 use Rattle.vs_ring_list.proofs.Held.{same_queue_is}
@@ -13,14 +11,14 @@ use Rattle.vs_device_parts.specs.{Calls.Situation, Calls.Allows, Playing.CanMake
 use Rattle.vs_device_parts.specs.Steps.{puts_event, puts_owed, puts_payload, puts_reply, shuts_write, takes_chain, writes}
 use Rattle.vs_device_parts.specs.Streams.{tick_slot}
 use Rattle.laws_device_streams.specs.{Split.CanReach, Streams.HasStreams}
-use Rattle.laws_device_streams.proofs.{Conditions.may_where, Conditions.quiet_can, Keeping.keeps_may}
-use Rattle.laws_device_streams.proofs.Stepping.{puts_event_keeps, puts_owed_keeps, puts_payload_keeps, puts_reply_keeps}
+use Rattle.laws_device_streams.proofs.{Conditions.may_where, Conditions.quiet_can, Keeping.keeps_may, Stepping.puts_event_keeps}
+use Rattle.laws_device_streams.proofs.Stepping.{puts_owed_keeps, puts_payload_keeps, puts_reply_keeps}
 use Rattle.vs_proxy_parts.specs.{Handshakes.read_byte, Handshakes.streams_of, Handshakes.tick_handshake, State.start, Turns.proxy_reset_of}
 use Rattle.laws_proxy_streams.proofs.{Shaking.FindsAll, Shaking.keeps_read_byte, Shaking.keeps_tick_handshake, Turning.keeps_proxy_reset}
 use Rattle.laws_world.specs.{Events.holds, Pages.is_held, Sides.both_of, World.World, World.first_cid}
 use Rattle.laws_world.proofs.Sound.{IsWell}
-use Rattle.vs_core.proofs.Puts.{puts_event_may, puts_owed_may, puts_payload_may, puts_reply_may}
-use Rattle.vs_core.proofs.Reaches.{shuts_may, takes_may, times_out_may, writes_may}
+use Rattle.vs_core.proofs.{Puts.puts_event_may, Puts.puts_owed_may, Puts.puts_payload_may, Puts.puts_reply_may, Reaches.shuts_may}
+use Rattle.vs_core.proofs.Reaches.{takes_may, times_out_may, writes_may}
 
 -- What the device finds in the world, where n calls of the host failed so far.
 abbrev pub here : World → ℕ → Situation

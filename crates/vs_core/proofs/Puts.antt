@@ -113,7 +113,7 @@ module _ (driver : Seat) (first port : ℕ) (s : DeviceState) (l : EndLog) (soun
               side.has_end driver first port s l.entries sound holds puts e there,
               can_send e.value.end (length payload) may (omega (arith, less)),
               stream_fits e.value.end (puts_of (history_of Device e.flow l.entries)) (length payload)
-              (entry_fits driver first port s l.entries sound holds puts e there).kind,
+                  (entry_fits driver first port s l.entries sound holds puts e there).kind,
             )).fair Device;
           }
 

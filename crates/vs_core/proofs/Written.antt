@@ -4,17 +4,13 @@ use Rattle.std.proofs.Common.{◌≡◌, ℕ, ◌+◌, ◌≤◌, true, List, []
 use Rattle.std.proofs.Common.{arith, length-append}
 use Rattle.std.proofs.lemmas.List.{append-nil, length-take}
 use Rattle.vs_contents.specs.{CallTree.Ask, CallTree.bind, Contents.Exposes}
-use Rattle.vs_header.specs.Packet.{header_bytes}
-use Rattle.vs_header.specs.declared.{Header.Header, TheConstants.HEADER_LEN}
-use Rattle.laws_history.specs.Packets.{packet_bytes}
-use Rattle.laws_history.specs.declared.packet.Packet.{Packet}
+use Rattle.vs_header.specs.{Packet.header_bytes, declared.Header.Header, declared.TheConstants.HEADER_LEN}
+use Rattle.laws_history.specs.{Packets.packet_bytes, declared.packet.Packet.Packet}
 use Rattle.vs_page.specs.{Fair.IsFairLog, Held.packet_held, Log.Device, Log.Log, Overwriting.overwritten}
 use Rattle.vs_page.specs.declared.log.LogEntry.TheVariants.{PutPacket}
-use Rattle.vs_ring_port.specs.{Chains.bytes_in, Contents.RingContents, Contents.Write, Contents.Return}
-use Rattle.vs_ring_port.specs.{DeviceCalls.CanReturn, DeviceCalls.IsWholePacket, DriverCalls.HoldsPacket}
-use Rattle.vs_ring_port.specs.EndLog.{EndLog, entries_returned, log_written, with_packet}
-use Rattle.vs_ring_port.specs.declared.device_ring.Chain.{Chain}
-use Rattle.vs_ring_port.specs.declared.queue.Queue.{Queue}
+use Rattle.vs_ring_port.specs.{Chains.bytes_in, Contents.RingContents, Contents.Write, Contents.Return, DeviceCalls.CanReturn}
+use Rattle.vs_ring_port.specs.{DeviceCalls.IsWholePacket, DriverCalls.HoldsPacket, EndLog.EndLog, EndLog.entries_returned}
+use Rattle.vs_ring_port.specs.{EndLog.log_written, EndLog.with_packet, declared.device_ring.Chain.Chain, declared.queue.Queue.Queue}
 use Rattle.vs_ring_port.specs.declared.queue.Queue.TheVariants.{Rx, Event}
 use Rattle.vs_device_parts.specs.{Calls.Ring, Calls.Situation, Calls.DeviceTree, Receiving.written}
 use Rattle.laws_device_streams.specs.Split.{MayPut}

@@ -3,14 +3,12 @@ use Rattle.std.proofs.Common.{◌≡◌, Bool, true, false, cond, Option, Some, 
 use Rattle.byteorder.specs.Endian.{little_bytes}
 use Rattle.vs_contents.specs.CallTree.{Done, Ask}
 use Rattle.vs_contents.proofs.{Leads.leads_of, Conditions.may_of}
-use Rattle.vs_ring_port.specs.declared.device_ring.{Chain.Chain, Next.Next}
+use Rattle.vs_ring_port.specs.declared.{device_ring.Chain.Chain, device_ring.Next.Next, failure.Failure.Failure}
+use Rattle.vs_ring_port.specs.{declared.queue.Queue.TheVariants.Event, Contents.Take, Contents.Write, Contents.Return}
+use Rattle.vs_ring_port.specs.DeviceCalls.{CanReturn}
 use Rattle.vs_ring_port.specs.declared.device_ring.Next.TheVariants as next
-use Rattle.vs_ring_port.specs.declared.failure.Failure.{Failure}
-use Rattle.vs_ring_port.specs.declared.queue.Queue.TheVariants.{Event}
-use Rattle.vs_ring_port.specs.{Contents.Take, Contents.Write, Contents.Return, DeviceCalls.CanReturn}
-use Rattle.vs_device_parts.specs.Calls.{Situation, DeviceTree, Allows, Ring}
-use Rattle.vs_device_parts.specs.{Playing.CanMake, Playing.MayRun, Playing.Runs, Receiving.event_on, Receiving.pay_event_of}
-use Rattle.vs_device_parts.specs.State.{DeviceState}
+use Rattle.vs_device_parts.specs.{Calls.Situation, Calls.DeviceTree, Calls.Allows, Calls.Ring, Playing.CanMake, Playing.MayRun}
+use Rattle.vs_device_parts.specs.{Playing.Runs, Receiving.event_on, Receiving.pay_event_of, State.DeviceState}
 
 module _ (s : DeviceState) (sound : s.failed ≡ None) (owed : s.event_owed ≡ true) where
   with_event : Bool → DeviceTree (DeviceState × Result Bool Failure)

@@ -3,21 +3,19 @@ use Rattle.std.proofs.Common.{◌≡◌, ℕ, ◌<◌, ◌^◌, Bool, false, Lis
 use Rattle.std.specs.Option.{ForSome}
 use Rattle.vs_outside.specs.Host.{HostContents}
 use Rattle.vs_ring_port.specs.{Contents.RingContents, declared.failure.Failure.Failure}
-use Rattle.vs_flow.specs.{declared.flow.Flow.Flow, declared.table.TableFault.TableFault}
+use Rattle.vs_flow.specs.declared.{flow.Flow.Flow, table.TableFault.TableFault}
 use Rattle.laws_tables.specs.Steps.{IsNextFlow}
 use Rattle.vs_page.specs.Log.{Device}
-use Rattle.vs_device_parts.specs.{Receiving.fill_rx_of, Receiving.pay_event_of, State.DeviceState}
-use Rattle.vs_device_parts.specs.{Streams.Writing, Streams.pump_of, Streams.tick_of, Transmitting.take_tx_of, Turns.open_of, Turns.reset_of}
-use Rattle.vs_device_parts.specs.{declared.answers.Filled.Filled, declared.answers.Taken.Taken}
-use Rattle.vs_device_parts.specs.Calls.{Allows, DeviceTree, Situation}
-use Rattle.vs_device_parts.specs.Playing.{CanMake, Runs, RunsOnHost, RunsOnRing, situation}
+use Rattle.vs_device_parts.specs.{Receiving.fill_rx_of, Receiving.pay_event_of, State.DeviceState, Streams.Writing, Streams.pump_of}
+use Rattle.vs_device_parts.specs.{Streams.tick_of, Transmitting.take_tx_of, Turns.open_of, Turns.reset_of, declared.answers.Filled.Filled}
+use Rattle.vs_device_parts.specs.{declared.answers.Taken.Taken, Calls.Allows, Calls.DeviceTree, Calls.Situation, Playing.CanMake}
+use Rattle.vs_device_parts.specs.Playing.{Runs, RunsOnHost, RunsOnRing, situation}
 use Rattle.laws_device_streams.specs.{Split.CanReach, Streams.FindsFree, Streams.FindsStreams, Streams.HasStreams}
-use Rattle.laws_device_streams.proofs.{Closing.keeps_tick, Conditions.quiet_can, Keeping.Keeps}
-use Rattle.laws_device_streams.proofs.{Opening.both_found, Opening.keeps_open, Opening.keeps_reset, Receiving.keeps_fill_rx}
-use Rattle.laws_device_streams.proofs.{Transmitting.keeps_take_tx, Writing.keeps_pump}
+use Rattle.laws_device_streams.proofs.{Closing.keeps_tick, Conditions.quiet_can, Keeping.Keeps, Opening.both_found, Opening.keeps_open}
+use Rattle.laws_device_streams.proofs.{Opening.keeps_reset, Receiving.keeps_fill_rx, Transmitting.keeps_take_tx, Writing.keeps_pump}
 use Rattle.laws_device.specs.Honest.{IsFitFlow, IsWith, ends_of_state, port_after}
-use Rattle.laws_device.proofs.{Filling.fill_keeps, Keeping.keeps_end, Transmitting.take_keeps}
-use Rattle.laws_device.proofs.Turning.{open_keeps, pay_keeps, pump_keeps, reset_keeps, tick_keeps}
+use Rattle.laws_device.proofs.{Filling.fill_keeps, Keeping.keeps_end, Transmitting.take_keeps, Turning.open_keeps, Turning.pay_keeps}
+use Rattle.laws_device.proofs.Turning.{pump_keeps, reset_keeps, tick_keeps}
 use Rattle.laws_device_streams.proofs.Keeping.{keeps_end as streams_end}
 
 module _ (s : DeviceState) (a b : Situation) where

@@ -1,8 +1,6 @@
 -- A chain of tx may be returned with nothing.
 use Rattle.std.proofs.Common.{◌≡◌, take, sym, subst, arith}
-use Rattle.vs_ring_port.specs.declared.device_ring.Chain.{Chain}
-use Rattle.vs_ring_port.specs.declared.queue.Queue.{Queue}
-use Rattle.vs_ring_port.specs.declared.queue.Queue.TheVariants.{Tx}
+use Rattle.vs_ring_port.specs.declared.{device_ring.Chain.Chain, queue.Queue.Queue, queue.Queue.TheVariants.Tx}
 use Rattle.vs_ring_port.specs.{Chains.bytes_in, Contents.RingContents, DeviceCalls.CanReturn, DeviceCalls.IsWholePacket}
 
 pub returned_unread : (chain : Chain) (c : RingContents) → chain.queue ≡ Tx → CanReturn chain 0 c

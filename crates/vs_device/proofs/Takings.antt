@@ -11,15 +11,14 @@ use Rattle.vs_flow.specs.{Flow.is_assigned, Table.entry_of, Table.has_place}
 use Rattle.vs_header.specs.{Packet.header_of, declared.Header.Header, declared.TheConstants.HEADER_LEN}
 use Rattle.vs_outside.specs.declared.host_net.Dialed.{Dialed}
 use Rattle.vs_page.specs.Log.{flow_to_host}
-use Rattle.vs_ring_port.specs.{declared.device_ring.Chain.Chain, declared.device_ring.Next.Next, declared.failure.Failure.Failure}
+use Rattle.vs_ring_port.specs.declared.{device_ring.Chain.Chain, device_ring.Next.Next, failure.Failure.Failure}
 use Rattle.vs_ring_port.specs.{Chains.same_queue, Chains.same_chain, Chains.without, Contents.Take, Contents.Read, Contents.Return}
-use Rattle.vs_ring_port.specs.declared.queue.Queue.{Queue}
-use Rattle.vs_ring_port.specs.declared.queue.Queue.TheVariants.{Rx, Tx, Event}
+use Rattle.vs_ring_port.specs.declared.queue.Queue.{Queue, TheVariants.Rx, TheVariants.Tx, TheVariants.Event}
 use Rattle.vs_uds.specs.Path.{path_of}
 use Rattle.vs_device_parts.specs.{declared.answers.Taken.Taken, Calls.Situation, Calls.DeviceTree, Calls.Allows, Calls.Ring, Calls.Dial}
-use Rattle.vs_device_parts.specs.{State.DeviceEntry, State.DeviceState, Playing.CanMake, Playing.MayRun, Playing.Runs}
-use Rattle.vs_device_parts.specs.{Steps.heard_chain, Steps.heard_header, Taking.is_not_for_host, Taking.known_packet}
-use Rattle.vs_device_parts.specs.Transmitting.{dial_answered, failing, on_next, on_packet, take_tx_of, try_request}
+use Rattle.vs_device_parts.specs.{State.DeviceEntry, State.DeviceState, Playing.CanMake, Playing.MayRun, Playing.Runs, Steps.heard_chain}
+use Rattle.vs_device_parts.specs.{Steps.heard_header, Taking.is_not_for_host, Taking.known_packet, Transmitting.dial_answered}
+use Rattle.vs_device_parts.specs.Transmitting.{failing, on_next, on_packet, take_tx_of, try_request}
 use Rattle.vs_limits.specs.declared.TheConstants.{DEVICE_REPLIES}
 use Rattle.vs_ring_port.specs.declared.device_ring.Next.TheVariants as next
 use Rattle.vs_ring_port.specs.declared.failure.Failure.TheVariants as failure

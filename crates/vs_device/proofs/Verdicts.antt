@@ -3,18 +3,15 @@ use Rattle.std.proofs.Common.{◌≡◌, ℕ, true, false, cond, List, [], ◌++
 use Rattle.vs_contents.specs.CallTree.{Done, bind}
 use Rattle.vs_contents.proofs.{Leads.leads_of, Leads.leads_bind, Conditions.may_first, Conditions.may_of}
 use Rattle.vs_header.specs.declared.{Header.Header, TheConstants.HEADER_LEN}
-use Rattle.vs_conn.specs.End.{is_reset, verdict_of}
-use Rattle.vs_conn.specs.declared.end.Verdict.{Verdict}
+use Rattle.vs_conn.specs.{End.is_reset, End.verdict_of, declared.end.Verdict.Verdict, declared.end.Why.Why}
 use Rattle.vs_conn.specs.declared.end.Verdict.TheVariants as verdict
-use Rattle.vs_conn.specs.declared.end.Why.{Why}
 use Rattle.vs_conn.specs.declared.end.Why.TheVariants as why
-use Rattle.vs_ring_port.specs.declared.device_ring.Chain.{Chain}
-use Rattle.vs_ring_port.specs.Contents.{Read}
+use Rattle.vs_ring_port.specs.{declared.device_ring.Chain.Chain, Contents.Read}
 use Rattle.vs_uds.specs.OkLine.{ok_text}
 use Rattle.vs_device_parts.specs.{Calls.Situation, Calls.DeviceTree, Calls.Allows, Calls.Ring, State.DeviceEntry, State.DeviceState}
-use Rattle.vs_device_parts.specs.Connections.{with_connection, stream_closed, after_leaving}
-use Rattle.vs_device_parts.specs.{Playing.CanMake, Playing.MayRun, Playing.MayClose, Playing.Runs, Streams.leaving, Streams.closing}
-use Rattle.vs_device_parts.specs.{Taking.after_refusal, Taking.known_packet, Transmitting.heard, Transmitting.on_known}
+use Rattle.vs_device_parts.specs.{Connections.with_connection, Connections.stream_closed, Connections.after_leaving, Playing.CanMake}
+use Rattle.vs_device_parts.specs.{Playing.MayRun, Playing.MayClose, Playing.Runs, Streams.leaving, Streams.closing, Taking.after_refusal}
+use Rattle.vs_device_parts.specs.{Taking.known_packet, Transmitting.heard, Transmitting.on_known}
 use Rattle.vs_device.proofs.Leaving.{may_close}
 
 module _ (chain : Chain) (h : Header) (e : DeviceEntry) (s t : DeviceState) where

@@ -3,27 +3,24 @@
 
 ghost use Rattle.std.specs.Prelude.{◌≡◌, ◌≤◌, ◌<◌, ◌+◌, ◌*◌, ◌^◌, ℕ, List, not, length, false, true, Some, None, is_some, IfSome, Err};
 ghost use Rattle.std.specs.{Prelude.IfErr, Prelude.IfOk, Prelude.OnOk, Option.ForSome};
-ghost use Rattle.vs_conn.specs.{End.CanSend, End.owes_of, Headers.reset_header};
+ghost use Rattle.vs_conn.specs.{End.CanSend, End.owes_of, Headers.reset_header, declared.end.TheConstants.OWED_MAX};
 ghost use Rattle.vs_conn.specs.declared.end.Owed.TheVariants as owed;
-ghost use Rattle.vs_conn.specs.declared.end.TheConstants.{OWED_MAX};
 ghost use Rattle.vs_contents.specs.CallTree.{while_up_to};
 ghost use Rattle.vs_credit.specs.Credit.{free_of};
 ghost use Rattle.vs_flow.specs.Table.{entry_under, value_under};
 ghost use Rattle.vs_header.specs.declared.TheConstants.{HEADER_LEN};
 ghost use Rattle.vs_page.specs.declared.page.TheConstants.{PAYLOAD_MAX};
-ghost use Rattle.vs_ring_port.specs.declared.device_ring.Chain.{Chain};
-ghost use Rattle.vs_ring_port.specs.declared.failure.Failure.{Failure};
+ghost use Rattle.vs_ring_port.specs.declared.{device_ring.Chain.Chain, failure.Failure.Failure};
 ghost use Rattle.laws_device_streams.specs.Streams.{HasStreams};
 ghost use Rattle.laws_device.specs.Honest.{IsWith};
 ghost use Rattle.laws_proxy_bytes.specs.{Made.Made, Told.AreAccounted, Told.StayAccounted};
 ghost use Rattle.vs_proxy_parts.specs.State.{Handshake};
-ghost use Rattle.vs_device_parts.specs.Connections.{route_to_guest};
-ghost use Rattle.vs_device_parts.specs.Filling.{filling_of, is_rst, put_header, read_slot, serve_all, serve_rest};
-ghost use Rattle.vs_device_parts.specs.Playing.{IsAmong, IsItsRing, IsRingOf, MayRun, MayRunOnHost, MayRunOnRing, Runs, RunsOnHost};
-ghost use Rattle.vs_device_parts.specs.Playing.{RunsOnRing, beside, situation};
-ghost use Rattle.vs_device_parts.specs.Receiving.{after_paying, fill_rx_of, filled_of, hold, may_read, put_owed, put_payload, put_reply};
-ghost use Rattle.vs_device_parts.specs.{Receiving.read_room, Receiving.read_with_chain, Receiving.serve_slot, State.DeviceEntry};
-ghost use Rattle.vs_device_parts.specs.Steps.{to_read};
+ghost use Rattle.vs_device_parts.specs.{Connections.route_to_guest, Filling.filling_of, Filling.is_rst, Filling.put_header};
+ghost use Rattle.vs_device_parts.specs.{Filling.read_slot, Filling.serve_all, Filling.serve_rest, Playing.IsAmong, Playing.IsItsRing};
+ghost use Rattle.vs_device_parts.specs.Playing.{IsRingOf, MayRun, MayRunOnHost, MayRunOnRing, Runs, RunsOnHost, RunsOnRing, beside};
+ghost use Rattle.vs_device_parts.specs.{Playing.situation, Receiving.after_paying, Receiving.fill_rx_of, Receiving.filled_of};
+ghost use Rattle.vs_device_parts.specs.Receiving.{hold, may_read, put_owed, put_payload, put_reply, read_room, read_with_chain, serve_slot};
+ghost use Rattle.vs_device_parts.specs.{State.DeviceEntry, Steps.to_read};
 ghost use Rattle.vs_limits.specs.declared.TheConstants.{DEVICE_CONNECTIONS, DEVICE_REPLIES};
 
 use crate::device::Device;

@@ -4,8 +4,7 @@ ghost use Rattle.std.specs.Prelude.{◌≡◌, ◌≤◌, ◌<◌, ◌+◌, ◌^
 ghost use Rattle.std.specs.Option.{ForSome, option_map_or};
 ghost use Rattle.vs_conn.specs.End.{may_shut};
 ghost use Rattle.vs_flow.specs.Table.{entry_under};
-ghost use Rattle.vs_outside.specs.Host.{IsOpen, TakesSome};
-ghost use Rattle.vs_outside.specs.declared.host_net.StreamWrite.TheVariants.{Closed};
+ghost use Rattle.vs_outside.specs.{Host.IsOpen, Host.TakesSome, declared.host_net.StreamWrite.TheVariants.Closed};
 ghost use Rattle.vs_ring_port.specs.Contents.{RingContents};
 ghost use Rattle.laws_device_streams.specs.Streams.{HasStreams};
 ghost use Rattle.laws_device.specs.Honest.{IsWith};

@@ -2,22 +2,20 @@
 
 ghost use Rattle.std.specs.Prelude.{◌≡◌, ◌≤◌, ◌<◌, ◌+◌, ◌-◌, ◌∷◌, ◌++◌, [], ℕ, List, true, Some, None, Contains, IfSome, IfErr, length};
 ghost use Rattle.std.specs.{Prelude.nat_lt, Option.ForSome};
-ghost use Rattle.vs_conn.specs.End.{is_reset, may_shut};
-ghost use Rattle.vs_conn.specs.declared.end.Verdict.TheVariants.{Accept, Deliver, Peer};
+ghost use Rattle.vs_conn.specs.{End.is_reset, End.may_shut, declared.end.Verdict.TheVariants.Accept};
+ghost use Rattle.vs_conn.specs.declared.end.Verdict.TheVariants.{Deliver, Peer};
 ghost use Rattle.vs_contents.specs.CallTree.{Leads};
 ghost use Rattle.vs_credit.specs.Credit.{unread_of};
 ghost use Rattle.vs_flow.specs.Table.{entry_of, entry_under, has_place, value_under, with_value};
 ghost use Rattle.vs_header.specs.declared.TheConstants.{HEADER_LEN};
 ghost use Rattle.vs_limits.specs.declared.TheConstants.{BUF_ALLOC, DEVICE_REPLIES};
 ghost use Rattle.vs_page.specs.Log.{flow_to_host};
-ghost use Rattle.vs_ring_port.specs.{Chains.IsLongEnough, Contents.Read};
-ghost use Rattle.vs_ring_port.specs.declared.device_ring.Chain.{Chain};
+ghost use Rattle.vs_ring_port.specs.{Chains.IsLongEnough, Contents.Read, declared.device_ring.Chain.Chain};
+ghost use Rattle.vs_ring_port.specs.declared.{failure.Failure.Failure, queue.Queue.TheVariants.Tx};
 ghost use Rattle.vs_ring_port.specs.declared.device_ring.Next.TheVariants as next;
-ghost use Rattle.vs_ring_port.specs.declared.failure.Failure.{Failure};
-ghost use Rattle.vs_ring_port.specs.declared.queue.Queue.TheVariants.{Tx};
 ghost use Rattle.vs_device_parts.specs.declared.answers.Taken.TheVariants as taken;
-ghost use Rattle.vs_device_parts.specs.Connections.{with_connection, with_reply};
-ghost use Rattle.vs_device_parts.specs.Playing.{AllowsOnRing, IsItsRing, IsRxChain, MayClose, MayRun, Runs, RunsOnHost, held_by, situation};
+ghost use Rattle.vs_device_parts.specs.{Connections.with_connection, Connections.with_reply, Playing.AllowsOnRing, Playing.IsItsRing};
+ghost use Rattle.vs_device_parts.specs.Playing.{IsRxChain, MayClose, MayRun, Runs, RunsOnHost, held_by, situation};
 ghost use Rattle.vs_device_parts.specs.{State.DeviceConnection, State.DeviceEntry, State.DeviceState, Steps.heard_chain};
 ghost use Rattle.vs_device_parts.specs.Taking.{after_refusal, asks_for_stream, is_not_for_host, known_packet};
 ghost use Rattle.vs_device_parts.specs.Transmitting.{dial_answered, heard, on_known, on_next, on_packet, on_unknown, refused, take_tx_of};

@@ -4,18 +4,17 @@ ghost use Rattle.std.specs.Prelude.{◌≡◌, ◌≤◌, ◌<◌, ◌^◌, ℕ,
 ghost use Rattle.std.specs.{Iterator.YieldsFirst, Iterator.item_count, Option.ForSome};
 ghost use Rattle.vs_contents.specs.CallTree.{for_each};
 ghost use Rattle.vs_flow.specs.Table.{refusal, slots};
-ghost use Rattle.vs_ring_port.specs.declared.failure.Failure.{Failure};
+ghost use Rattle.vs_ring_port.specs.{declared.failure.Failure.Failure, Contents.RingContents, EndLog.EndLog};
 ghost use Rattle.vs_limits.specs.declared.TheConstants.{BUF_ALLOC, GUEST_CID_MIN, GUEST_CID_MAX};
 ghost use Rattle.laws_tables.specs.Steps.{IsNextFlow};
 ghost use Rattle.vs_page.specs.Log as log;
-ghost use Rattle.vs_ring_port.specs.{Contents.RingContents, EndLog.EndLog};
 ghost use Rattle.laws_device_streams.specs.Streams.{HasStreams, IsFree};
 ghost use Rattle.laws_device.specs.Honest.{AgreesWith, IsLeftOpen, IsWith, ends_of_state, port_after};
 ghost use Rattle.laws_proxy_bytes.specs.{Made.Made, Told.AreAccounted, Told.IsAsking, Told.StayAccounted};
 ghost use Rattle.vs_proxy_parts.specs.State.{Handshake};
-ghost use Rattle.vs_device_parts.specs.State.{DeviceEntry};
-ghost use Rattle.vs_device_parts.specs.Playing.{IsItsRing, MayRun, MayRunOnHost, Runs, RunsOnHost, situation};
-ghost use Rattle.vs_device_parts.specs.Turns.{after_reset, close_slot, open_of, reset_of, table_shown};
+ghost use Rattle.vs_device_parts.specs.{State.DeviceEntry, Playing.IsItsRing, Playing.MayRun, Playing.MayRunOnHost, Playing.Runs};
+ghost use Rattle.vs_device_parts.specs.{Playing.RunsOnHost, Playing.situation, Turns.after_reset, Turns.close_slot, Turns.open_of};
+ghost use Rattle.vs_device_parts.specs.Turns.{reset_of, table_shown};
 
 use crate::device::Device;
 use std::marker::Model;

@@ -2,8 +2,7 @@
 use Rattle.std.proofs.Common.{◌≡◌, ℕ, ◌+◌, ◌<◌, ◌≤◌, Bool, true, cond, List, ◌++◌, length, take, drop, get_or, sym, ap, ◌∙◌, arith}
 use Rattle.std.proofs.Common.{length-append}
 use Rattle.std.specs.{Prelude.nat_lt, Prelude.nat_le, List.filter}
-use Rattle.std.proofs.lemmas.List.{take-append-drop}
-use Rattle.std.proofs.lemmas.List.{Elements.filter-append, Filters.length-filter_both, Filters.length-filter_more}
+use Rattle.std.proofs.lemmas.List.{take-append-drop, Elements.filter-append, Filters.length-filter_both, Filters.length-filter_more}
 use Rattle.std.proofs.lemmas.Bool.Decides.{nat_tests}
 
 -- as many pass in the first places as in all, or fewer

@@ -8,9 +8,8 @@ use Rattle.std.proofs.lemmas.List.Edits.{length-remove}
 use Rattle.vs_flow.specs.Table.{Table, IsTable, entry_of, value_under, has_place, with_value, without, revalued}
 use Rattle.vs_flow.specs.declared.flow.Flow.{Flow}
 use Rattle.vs_flow.proofs.{Entries.all_others, Entries.remove_at, Lookups.find_place, Tables.IsAccepted, Tables.with_value_sound}
-use Rattle.vs_device_parts.specs.{State.DeviceConnection, State.DeviceEntry, SlotFields.AreKept}
+use Rattle.vs_device_parts.specs.{State.DeviceConnection, State.DeviceEntry, SlotFields.AreKept, declared.slots.Slots.TheInside.Inside}
 use Rattle.vs_device_parts.proofs.Under.{none_under, under}
-use Rattle.vs_device_parts.specs.declared.slots.Slots.TheInside.{Inside}
 
 pub kept_with_value : (s : Inside) (slot : ℕ) (d : DeviceConnection) → AreKept s → AreKept (record s { table = with_value s.table slot d })
 kept_with_value s slot d kept = record {

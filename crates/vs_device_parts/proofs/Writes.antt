@@ -1,9 +1,7 @@
 -- A packet is written into a chain: its header, its payload where there is some, and the chain is returned.
 use Rattle.std.proofs.Common.{◌≡◌, ℕ, ◌+◌, ◌<◌, List, [], ◌∷◌, length, refl, arith}
-use Rattle.vs_header.specs.Packet.{header_bytes}
-use Rattle.vs_header.specs.declared.{Header.Header, TheConstants.HEADER_LEN}
-use Rattle.vs_ring_port.specs.declared.device_ring.Chain.{Chain}
-use Rattle.vs_ring_port.specs.Contents.{Write, Return}
+use Rattle.vs_header.specs.{Packet.header_bytes, declared.Header.Header, declared.TheConstants.HEADER_LEN}
+use Rattle.vs_ring_port.specs.{declared.device_ring.Chain.Chain, Contents.Write, Contents.Return}
 use Rattle.vs_device_parts.specs.{Calls.Ring, Calls.Situation, Calls.Allows, Playing.CanMake, Playing.MayRun, Playing.Runs}
 use Rattle.vs_device_parts.specs.Receiving.{written}
 

@@ -1,7 +1,6 @@
 -- A connection after it put what it owed: from its REQUEST on it waits for the answer.
 use Rattle.std.specs.Prelude.{ℕ, Some}
-use Rattle.vs_conn.specs.End.{paid_of}
-use Rattle.vs_conn.specs.declared.end.Owed.{Owed}
+use Rattle.vs_conn.specs.{End.paid_of, declared.end.Owed.Owed}
 use Rattle.vs_conn.specs.declared.end.Owed.TheVariants as owed
 use Rattle.vs_device_parts.specs.State.{DeviceConnection}
 

@@ -6,18 +6,17 @@ use Rattle.vs_contents.specs.CallTree.{Done, Ask, bind, for_each, while_up_to}
 use Rattle.vs_header.specs.{Packet.header_bytes, declared.Header.Header, declared.TheConstants.HEADER_LEN}
 use Rattle.vs_credit.specs.Credit.{free_of}
 use Rattle.vs_conn.specs.{Headers.owed_header, Headers.payload_header, Headers.reset_header, declared.end.Owed.Owed}
-use Rattle.vs_conn.specs.{declared.end.State.State, declared.end.TheConstants.OWED_MAX}
-use Rattle.vs_conn.specs.End.{ConnectionEnd, owes_of, paid_of, with_payload_sent, wanting_credit}
+use Rattle.vs_conn.specs.{declared.end.State.State, declared.end.TheConstants.OWED_MAX, End.ConnectionEnd, End.owes_of, End.paid_of}
+use Rattle.vs_conn.specs.End.{with_payload_sent, wanting_credit}
 use Rattle.vs_flow.specs.Table.{entry_under, slots}
 use Rattle.vs_outside.specs.declared.host_net.StreamRead.{StreamRead}
 use Rattle.vs_page.specs.declared.page.TheConstants.{PAYLOAD_MAX}
 use Rattle.vs_replies.specs.declared.Reply.{Reply}
-use Rattle.vs_ring_port.specs.{declared.device_ring.Chain.Chain, declared.device_ring.Next.Next, declared.failure.Failure.Failure}
-use Rattle.vs_ring_port.specs.declared.queue.Queue.TheVariants.{Rx, Event}
-use Rattle.vs_ring_port.specs.Contents.{Take, Write, Return}
-use Rattle.vs_device_parts.specs.{declared.answers.Filled.Filled, Calls.DeviceTree, Calls.Ring, Calls.ReadStream}
-use Rattle.vs_device_parts.specs.{State.DeviceState, State.DeviceEntry, Streams.closing, Streams.leaving, Transmitting.failing}
-use Rattle.vs_device_parts.specs.Connections.{with_connection, with_fault, route_to_guest, cut_off, after_shut}
+use Rattle.vs_ring_port.specs.declared.{device_ring.Chain.Chain, device_ring.Next.Next, failure.Failure.Failure, queue.Queue.TheVariants.Rx}
+use Rattle.vs_ring_port.specs.{declared.queue.Queue.TheVariants.Event, Contents.Take, Contents.Write, Contents.Return}
+use Rattle.vs_device_parts.specs.{declared.answers.Filled.Filled, Calls.DeviceTree, Calls.Ring, Calls.ReadStream, State.DeviceState}
+use Rattle.vs_device_parts.specs.{State.DeviceEntry, Streams.closing, Streams.leaving, Transmitting.failing, Connections.with_connection}
+use Rattle.vs_device_parts.specs.Connections.{with_fault, route_to_guest, cut_off, after_shut}
 use Rattle.vs_conn.specs.declared.end.Owed.TheVariants as owed
 use Rattle.vs_conn.specs.declared.end.State.TheVariants as state
 use Rattle.vs_outside.specs.declared.host_net.StreamRead.TheVariants as read

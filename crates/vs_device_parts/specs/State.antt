@@ -1,11 +1,9 @@
 -- What the device holds, as plain lists.
 use Rattle.std.specs.Prelude.{ℕ, Bool, List, Option}
 use Rattle.vs_conn.specs.End.{ConnectionEnd}
-use Rattle.vs_flow.specs.Table.{Table}
-use Rattle.vs_flow.specs.declared.table.Entry.{Entry}
+use Rattle.vs_flow.specs.{Table.Table, declared.table.Entry.Entry}
 use Rattle.vs_replies.specs.declared.Reply.{Reply}
-use Rattle.vs_ring_port.specs.declared.device_ring.Chain.{Chain}
-use Rattle.vs_ring_port.specs.declared.failure.Failure.{Failure}
+use Rattle.vs_ring_port.specs.declared.{device_ring.Chain.Chain, failure.Failure.Failure}
 
 -- A connection of the table: its end, and the host's stream that it is joined to.
 pub record DeviceConnection : Type 0 where

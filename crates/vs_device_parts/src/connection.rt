@@ -2,8 +2,7 @@
 
 ghost use Rattle.std.specs.Prelude.{◌≡◌, ◌≤◌, ◌==◌, ◌+◌, ◌-◌, ◌++◌, [], true, false, Some, if◌then◌else◌, length, take};
 ghost use Rattle.vs_conn.specs.End.{CanSend, asked, answering, may_shut, owes_of, verdict_of, view_of, wanting_credit, with_payload_sent};
-ghost use Rattle.vs_conn.specs.Headers.{owed_header, payload_header};
-ghost use Rattle.vs_conn.specs.declared.end.State.TheVariants.{Live};
+ghost use Rattle.vs_conn.specs.{Headers.owed_header, Headers.payload_header, declared.end.State.TheVariants.Live};
 ghost use Rattle.vs_conn.specs.declared.end.Verdict.TheVariants.{Deliver, Accept};
 ghost use Rattle.vs_credit.specs.Credit.{free_of, unread_of};
 ghost use Rattle.vs_header.specs.declared.Kind.TheVariants.{Stream};

@@ -3,8 +3,7 @@
 ghost use Rattle.std.specs.Prelude.{◌≡◌, ◌<◌, ◌≤◌, ◌++◌, ◌+◌, [], true, false, length, Some, None, if◌then◌else◌, IfOk, IfSome, IfNone};
 ghost use Rattle.std.specs.{Prelude.IsSomeAnd, Prelude.option_copied, Prelude.slice_get, Prelude.vec_capacity, List.All, Option.option_map};
 ghost use Rattle.vs_conn.specs.End.{CanSend, asked, answering, may_shut, owes_of, verdict_of, wanting_credit, with_payload_sent};
-ghost use Rattle.vs_conn.specs.Headers.{owed_header, payload_header};
-ghost use Rattle.vs_conn.specs.declared.end.State.TheVariants.{Live};
+ghost use Rattle.vs_conn.specs.{Headers.owed_header, Headers.payload_header, declared.end.State.TheVariants.Live};
 ghost use Rattle.vs_conn.specs.declared.end.Verdict.TheVariants.{Deliver, Accept};
 ghost use Rattle.vs_credit.specs.Credit.{free_of, unread_of};
 ghost use Rattle.vs_flow.specs.Table.{IsTable, emptied, entry_of, entry_under, has_place, refusal, slots, value_under, with_entry};

@@ -4,16 +4,14 @@ use Rattle.std.proofs.Common.{Result, Ok, Err, refl, ap, ◌∙◌, arith, lengt
 use Rattle.std.proofs.lemmas.Bool.Decides.{nat_tests}
 use Rattle.vs_contents.specs.CallTree.{Done, Ask, bind, while_up_to}
 use Rattle.vs_contents.proofs.Leads.{AllEnds, ends_bind, ends_weaker}
-use Rattle.vs_conn.specs.End.{may_send_of, wanting_credit, with_payload_sent}
-use Rattle.vs_conn.specs.declared.end.Stop.{Stop}
+use Rattle.vs_conn.specs.{End.may_send_of, End.wanting_credit, End.with_payload_sent, declared.end.Stop.Stop}
 use Rattle.vs_page.specs.declared.page.TheConstants.{PAYLOAD_MAX}
-use Rattle.vs_ring_port.specs.declared.queue.Queue.TheVariants.{Tx}
-use Rattle.vs_ring_port.specs.DriverCalls.{Reap}
-use Rattle.vs_driver_parts.specs.declared.answers.Sent.{Sent}
+use Rattle.vs_ring_port.specs.{declared.queue.Queue.TheVariants.Tx, DriverCalls.Reap}
+use Rattle.vs_driver_parts.specs.{declared.answers.Sent.Sent, State.DriverEntry, State.DriverState, State.entry_known_as}
+use Rattle.vs_driver_parts.specs.{Connections.with_end, Conversations.DriverTree, Conversations.has_page, Conversations.no_credit}
+use Rattle.vs_driver_parts.specs.Conversations.{not_sent, payload_bytes, payload_of, post_packet, reap_all, reap_one, reaped, send_of}
+use Rattle.vs_driver_parts.specs.Conversations.{send_on, send_stopped, send_with_credit, send_with_page}
 use Rattle.vs_driver_parts.specs.declared.answers.Sent.TheVariants as sent
-use Rattle.vs_driver_parts.specs.{State.DriverEntry, State.DriverState, State.entry_known_as, Connections.with_end}
-use Rattle.vs_driver_parts.specs.Conversations.{DriverTree, has_page, no_credit, not_sent, payload_bytes, payload_of, post_packet, reap_all}
-use Rattle.vs_driver_parts.specs.Conversations.{reap_one, reaped, send_of, send_on, send_stopped, send_with_credit, send_with_page}
 use Rattle.vs_driver.specs.Outcomes.{KeepsAllButPages, Sends, SendsBy, SendsFront, SendsOn, SendsWith, sent_at_most}
 
 module _ {A : Type 0} (P : A → Type 0) where

@@ -1,12 +1,11 @@
 -- Calls that put and get nothing leave the driver as the log does.
 use Rattle.std.proofs.Common.{◌≡◌, ℕ, sym, subst}
 use Rattle.vs_ring_port.specs.Contents.{RingContents}
-use Rattle.vs_driver_parts.specs.State.{DriverState}
-use Rattle.vs_driver_parts.specs.Connections.{after_close, after_recv, after_shutdown, after_unlisten}
-use Rattle.vs_driver_parts.specs.Listening.{after_accept, listening}
+use Rattle.vs_driver_parts.specs.{State.DriverState, Connections.after_close, Connections.after_recv, Connections.after_shutdown}
+use Rattle.vs_driver_parts.specs.{Connections.after_unlisten, Listening.after_accept, Listening.listening}
 use Rattle.laws_driver.specs.Honest.{IsHonestWith}
-use Rattle.laws_driver.proofs.Calls.{still_honest}
-use Rattle.laws_driver.proofs.Changing.{accept_changes, close_changes, listen_changes, recv_changes, shutdown_changes, unlisten_changes}
+use Rattle.laws_driver.proofs.{Calls.still_honest, Changing.accept_changes, Changing.close_changes, Changing.listen_changes}
+use Rattle.laws_driver.proofs.Changing.{recv_changes, shutdown_changes, unlisten_changes}
 
 module _ (first : ℕ) (s t : DriverState) (c : RingContents) (honest : IsHonestWith first s c) where
   left_as : (u : DriverState) → t ≡ u → IsHonestWith first u c → IsHonestWith first t c

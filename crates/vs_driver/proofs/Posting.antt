@@ -2,8 +2,7 @@
 use Rattle.std.proofs.Common.{◌≡◌, ℕ, ◌+◌, Bool, true, List, [], refl, sym, ap, subst}
 use Rattle.vs_contents.specs.CallTree.{Done}
 use Rattle.vs_contents.proofs.{Leads.leads_bind, Conditions.may_first}
-use Rattle.vs_ring_port.specs.declared.queue.Queue.{Queue}
-use Rattle.vs_ring_port.specs.declared.queue.Queue.TheVariants.{Rx, Tx, Event}
+use Rattle.vs_ring_port.specs.declared.queue.Queue.{Queue, TheVariants.Rx, TheVariants.Tx, TheVariants.Event}
 use Rattle.vs_ring_port.specs.{Counts.Counts, Counts.at, Counts.one_more, Counts.with_count, Counts.no_counts, Contents.RingContents}
 use Rattle.vs_driver_parts.specs.{State.DriverState, Conversations.DriverTree, Conversations.stage_of, Conversations.post_one}
 use Rattle.vs_driver_parts.specs.Playing.{CanMake, MayPublishAll, Plays, RingAllows}

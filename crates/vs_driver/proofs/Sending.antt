@@ -6,20 +6,19 @@ use Rattle.std.specs.Option.{IfSome, option_map}
 use Rattle.vs_contents.specs.CallTree.{Done, bind}
 use Rattle.vs_contents.proofs.{Leads.leads_of, Leads.leads_bind, Conditions.may_first, Conditions.may_rest, Conditions.may_of}
 use Rattle.vs_conn.specs.End.{CanSend, ConnectionEnd, may_send_of, state_may_send, wanting_credit, with_payload_sent}
-use Rattle.vs_conn.specs.declared.end.State.{State}
+use Rattle.vs_conn.specs.declared.end.{State.State, Stop.Stop}
 use Rattle.vs_conn.specs.declared.end.State.TheVariants as state
-use Rattle.vs_conn.specs.declared.end.Stop.{Stop}
 use Rattle.vs_conn.specs.declared.end.Stop.TheVariants as stop
 use Rattle.vs_credit.specs.Credit.{free_of}
 use Rattle.vs_flow.specs.Table.{IsTable, Table, entry_under, value_under}
 use Rattle.vs_ring_port.specs.Contents.{RingContents}
-use Rattle.vs_driver_parts.specs.declared.answers.Sent.{Sent}
-use Rattle.vs_driver_parts.specs.declared.answers.Sent.TheVariants as sent
-use Rattle.vs_driver_parts.specs.{State.DriverConnection, State.DriverEntry, State.DriverState, State.entry_known_as, Connections.with_end}
-use Rattle.vs_driver_parts.specs.Conversations.{DriverTree, send_of, send_on, send_stopped, send_with_credit, send_with_page, no_credit}
-use Rattle.vs_driver_parts.specs.Conversations.{not_sent, payload_of, payload_bytes, post_packet, reap_all, has_page}
+use Rattle.vs_driver_parts.specs.{declared.answers.Sent.Sent, State.DriverConnection, State.DriverEntry, State.DriverState}
+use Rattle.vs_driver_parts.specs.{State.entry_known_as, Connections.with_end, Conversations.DriverTree, Conversations.send_of}
+use Rattle.vs_driver_parts.specs.Conversations.{send_on, send_stopped, send_with_credit, send_with_page, no_credit, not_sent, payload_of}
+use Rattle.vs_driver_parts.specs.Conversations.{payload_bytes, post_packet, reap_all, has_page}
 use Rattle.vs_driver_parts.specs.Steps.{ready_on, ready_to_send, ready_with, sends, sends_on, sends_with_credit}
 use Rattle.vs_driver_parts.specs.Playing.{CanMake, MayPublishAll, Plays, RingAllows}
+use Rattle.vs_driver_parts.specs.declared.answers.Sent.TheVariants as sent
 use Rattle.vs_page.specs.declared.page.TheConstants.{PAYLOAD_MAX}
 use Rattle.vs_driver_parts.proofs.{Ids.value_of, Known.known_at}
 

@@ -2,11 +2,9 @@
 use Rattle.std.proofs.Common.{◌≡◌, ℕ, Bool, None, Result, refl, sym, subst}
 use Rattle.vs_contents.specs.CallTree.{Done}
 use Rattle.vs_contents.proofs.{Leads.leads_of, Leads.leads_bind, Conditions.may_first, Conditions.may_of}
-use Rattle.vs_ring_port.specs.declared.queue.Queue.{Queue}
-use Rattle.vs_ring_port.specs.declared.queue.Queue.TheVariants.{Rx, Tx, Event}
+use Rattle.vs_ring_port.specs.declared.queue.Queue.{Queue, TheVariants.Rx, TheVariants.Tx, TheVariants.Event}
 use Rattle.vs_ring_port.specs.Contents.{RingContents}
-use Rattle.vs_driver_parts.specs.declared.answers.ConnectError.{ConnectError}
-use Rattle.vs_driver_parts.specs.{State.DriverState, Connections.connect_refusal}
+use Rattle.vs_driver_parts.specs.{declared.answers.ConnectError.ConnectError, State.DriverState, Connections.connect_refusal}
 use Rattle.vs_driver_parts.specs.Conversations.{DriverTree, Round, connect_with_page, put_owed, put_reply, reap_one, start, take_event}
 use Rattle.vs_driver_parts.specs.{Conversations.take_packet, Playing.CanMake, Playing.MayPublishAll, Playing.Plays, Playing.RingAllows}
 use Rattle.vs_driver_parts.specs.Steps.{connects, stages_owed, stages_reply, takes_page}

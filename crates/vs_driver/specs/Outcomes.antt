@@ -1,15 +1,12 @@
 -- What connect and send leave, for each answer.
 use Rattle.std.specs.Prelude.{◌≡◌, ℕ, ◌==◌, ◌≤◌, Bool, true, false, List, length, min, Option, Some, None, Result, Ok, Err}
-use Rattle.vs_conn.specs.End.{may_send_of, with_payload_sent, wanting_credit}
-use Rattle.vs_driver_parts.specs.declared.answers.ConnectError.{ConnectError}
+use Rattle.vs_conn.specs.{End.may_send_of, End.with_payload_sent, End.wanting_credit, declared.end.Stop.Stop}
+use Rattle.vs_driver_parts.specs.{declared.answers.ConnectError.ConnectError, declared.answers.Sent.Sent, State.DriverEntry}
+use Rattle.vs_driver_parts.specs.{State.DriverState, State.entry_known_as, Connections.connect_refusal, Connections.connected}
+use Rattle.vs_driver_parts.specs.{Connections.with_end, Conversations.no_credit, Conversations.not_sent, Conversations.send_stopped}
 use Rattle.vs_driver_parts.specs.declared.answers.ConnectError.TheVariants as refused
-use Rattle.vs_conn.specs.declared.end.Stop.{Stop}
 use Rattle.vs_page.specs.declared.page.TheConstants.{PAYLOAD_MAX}
-use Rattle.vs_driver_parts.specs.declared.answers.Sent.{Sent}
 use Rattle.vs_driver_parts.specs.declared.answers.Sent.TheVariants as sent
-use Rattle.vs_driver_parts.specs.State.{DriverEntry, DriverState, entry_known_as}
-use Rattle.vs_driver_parts.specs.Connections.{connect_refusal, connected, with_end}
-use Rattle.vs_driver_parts.specs.Conversations.{no_credit, not_sent, send_stopped}
 
 -- Nothing changes, but that transmit pages may have come back.
 abbrev pub KeepsAllButPages : DriverState → DriverState → Type 0

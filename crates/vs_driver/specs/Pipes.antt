@@ -1,10 +1,9 @@
 -- Each connection is a pipe: what came in on it is read in its order, and a call on one connection leaves all others alone.
 use Rattle.std.specs.Prelude.{◌≡◌, ◌≢◌, ℕ, Bool, false, not, List, [], take, Option, Some, None}
-use Rattle.vs_driver_parts.specs.declared.answers.Received.{Received}
+use Rattle.vs_driver_parts.specs.{declared.answers.Received.Received, declared.answers.Shut.Shut, State.DriverEntry, State.DriverState}
+use Rattle.vs_driver_parts.specs.State.{GoneConnection, entry_known_as, gone_known_as}
 use Rattle.vs_driver_parts.specs.declared.answers.Received.TheVariants as got
-use Rattle.vs_driver_parts.specs.declared.answers.Shut.{Shut}
 use Rattle.vs_driver_parts.specs.declared.answers.Shut.TheVariants as shut
-use Rattle.vs_driver_parts.specs.State.{DriverEntry, DriverState, GoneConnection, entry_known_as, gone_known_as}
 
 -- What the application has under an id: a connection of the table, or one that is gone.
 abbrev pub connection_of : ℕ → DriverState → Option DriverEntry × Option GoneConnection

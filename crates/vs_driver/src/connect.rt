@@ -6,10 +6,9 @@ ghost use Rattle.vs_conn.specs.declared.end.Owed.TheVariants as owed;
 ghost use Rattle.vs_header.specs.declared.Kind.TheVariants.{Stream};
 ghost use Rattle.vs_flow.specs.declared.flow.Flow.{Flow};
 ghost use Rattle.vs_limits.specs.declared.TheConstants.{BUF_ALLOC};
-ghost use Rattle.vs_driver_parts.specs.declared.answers.ConnectError.{ConnectError};
-ghost use Rattle.vs_driver_parts.specs.Connections.{connect_refusal, connected, next_flow, route_to_host};
-ghost use Rattle.vs_driver_parts.specs.Conversations.{connect_of, connect_with_page};
-ghost use Rattle.vs_driver_parts.specs.Playing.{IsRingOf, MayPublishAll, Plays};
+ghost use Rattle.vs_driver_parts.specs.{declared.answers.ConnectError.ConnectError, Connections.connect_refusal, Connections.connected};
+ghost use Rattle.vs_driver_parts.specs.{Connections.next_flow, Connections.route_to_host, Conversations.connect_of};
+ghost use Rattle.vs_driver_parts.specs.{Conversations.connect_with_page, Playing.IsRingOf, Playing.MayPublishAll, Playing.Plays};
 ghost use Rattle.vs_driver.specs.Outcomes.{Opens, Refuses, FindsNoPage};
 ghost use Rattle.laws_driver.specs.Honest.{IsHonest, IsHonestWith};
 

@@ -1,9 +1,8 @@
 -- What it takes that an end delivers a packet: an RW that fits its room.
 use Rattle.std.proofs.Common.{◌≡◌, ℕ, ◌≤◌, Bool, true, false, cond, Option, Some, refl, arith}
 use Rattle.std.proofs.lemmas.Bool.Decides.{nat_tests}
-use Rattle.vs_conn.specs.{declared.end.State.State, declared.end.Verdict.Verdict, declared.end.Why.Why}
-use Rattle.vs_conn.specs.End.{ConnectionEnd, verdict_of, state_verdict, op_verdict, payload_verdict, response_verdict, live_verdict, is_of}
-use Rattle.vs_conn.specs.End.{is_reset}
+use Rattle.vs_conn.specs.{declared.end.State.State, declared.end.Verdict.Verdict, declared.end.Why.Why, End.ConnectionEnd, End.verdict_of}
+use Rattle.vs_conn.specs.End.{state_verdict, op_verdict, payload_verdict, response_verdict, live_verdict, is_of, is_reset}
 use Rattle.vs_conn.specs.declared.end.Why.TheVariants.{BadKind}
 use Rattle.vs_credit.specs.Credit.{room_of}
 use Rattle.vs_header.specs.{Op.op_named, declared.Header.Header, declared.Op.Op}

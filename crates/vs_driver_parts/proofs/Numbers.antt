@@ -5,9 +5,8 @@ use Rattle.std.specs.List.{All, filter, remove}
 use Rattle.std.proofs.lemmas.Bool.Decides.{nat_tests}
 use Rattle.std.proofs.lemmas.List.Elements.{All-append, All-drop, All-map, All-push, All-take, All-filter, filter_passes}
 use Rattle.std.proofs.lemmas.List.{Kept.AllPairs-filter, Quantifiers.all_pairs_push, Quantifiers.all_pairs_remove}
-use Rattle.vs_flow.specs.Flow.{is_assigned}
-use Rattle.vs_flow.specs.Table.{Table, IsTable, entry_under, value_under, with_value, with_entry, without, next_entry, revalued}
-use Rattle.vs_flow.specs.declared.flow.Flow.{Flow}
+use Rattle.vs_flow.specs.{Flow.is_assigned, Table.Table, Table.IsTable, Table.entry_under, Table.value_under, Table.with_value}
+use Rattle.vs_flow.specs.{Table.with_entry, Table.without, Table.next_entry, Table.revalued, declared.flow.Flow.Flow}
 use Rattle.vs_flow.proofs.Tables.{revalued-slot, revalued-flow}
 use Rattle.vs_driver_parts.specs.{State.DriverConnection, State.DriverEntry, State.GoneConnection, SlotFields.AreNumbered}
 use Rattle.vs_driver_parts.proofs.Ids.{HasId, under, entry_has}

@@ -9,8 +9,7 @@ use Rattle.laws_history.specs.declared.packet.Packet.{Packet}
 use Rattle.vs_page.specs.Log.{flow_to_guest}
 use Rattle.vs_driver_parts.specs.Connections.{with_connection, leaves_list, after_leaving, waits_no_more, is_let_go, gone_as}
 use Rattle.vs_driver_parts.specs.Receiving.{on_heard, on_known, on_unknown, after_verdict, after_packet, ends_connection, with_reply}
-use Rattle.vs_driver_parts.specs.Receiving.{reset_reply, all_left}
-use Rattle.vs_driver_parts.specs.State.{DriverConnection, DriverEntry, DriverState}
+use Rattle.vs_driver_parts.specs.{Receiving.reset_reply, Receiving.all_left, State.DriverConnection, State.DriverEntry, State.DriverState}
 use Rattle.vs_wrap.specs.Wrap.{counted}
 use Rattle.vs_driver_parts.proofs.Lists.{AtMostOnePasses, one_passes, kept_none}
 use Rattle.vs_conn.specs.declared.end.Verdict.TheVariants as verdict

@@ -1,10 +1,8 @@
 -- What a connection does leaves its id.
 use Rattle.std.proofs.Common.{◌≡◌, true, refl}
-use Rattle.vs_conn.specs.declared.end.Owed.{Owed}
+use Rattle.vs_conn.specs.declared.end.{Owed.Owed, State.State, Verdict.Verdict}
 use Rattle.vs_conn.specs.declared.end.Owed.TheVariants as owed
-use Rattle.vs_conn.specs.declared.end.State.{State}
 use Rattle.vs_conn.specs.declared.end.State.TheVariants as state
-use Rattle.vs_conn.specs.declared.end.Verdict.{Verdict}
 use Rattle.vs_conn.specs.declared.end.Verdict.TheVariants as verdict
 use Rattle.laws_history.specs.declared.packet.Packet.{Packet}
 use Rattle.vs_driver_parts.specs.{State.DriverConnection, Connections.paid_connection, Connections.after_closing, Receiving.after_packet}

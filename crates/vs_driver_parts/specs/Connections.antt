@@ -3,14 +3,13 @@ use Rattle.std.specs.Prelude.{ℕ, ◌+◌, ◌==◌, ◌||◌, not, min, nat_lt
 use Rattle.std.specs.Prelude.{map, filter, take, drop, Option, Some, None, is_some}
 use Rattle.std.specs.Option.{option_map, option_map_or}
 use Rattle.vs_flow.specs.{Flow.host_flow, Flow.is_assigned, Table.with_entry, Table.with_value, Table.without, declared.flow.Flow.Flow}
-use Rattle.vs_header.specs.{declared.Header.Header, declared.Kind.TheVariants.Stream}
+use Rattle.vs_header.specs.declared.{Header.Header, Kind.TheVariants.Stream}
 use Rattle.vs_limits.specs.declared.TheConstants.{BUF_ALLOC, LAST_PORT, LAST_ID, DRIVER_CONNECTIONS}
-use Rattle.vs_conn.specs.{declared.end.Owed.Owed, declared.end.State.State, declared.route.Route.Route}
-use Rattle.vs_conn.specs.End.{ConnectionEnd, asked, answering, paid_of, with_payload_forwarded, with_shut, aborted}
-use Rattle.vs_driver_parts.specs.{declared.answers.ConnectionState.ConnectionState, declared.answers.ConnectError.ConnectError}
-use Rattle.vs_driver_parts.specs.{declared.answers.Closed.Closed, declared.answers.Received.Received, declared.answers.Shut.Shut}
-use Rattle.vs_driver_parts.specs.State.{DriverConnection, GoneConnection, Listener, DriverState, DriverEntry, slots_held, entry_known_as}
-use Rattle.vs_driver_parts.specs.State.{gone_known_as}
+use Rattle.vs_conn.specs.{declared.end.Owed.Owed, declared.end.State.State, declared.route.Route.Route, End.ConnectionEnd, End.asked}
+use Rattle.vs_conn.specs.End.{answering, paid_of, with_payload_forwarded, with_shut, aborted}
+use Rattle.vs_driver_parts.specs.declared.answers.{ConnectionState.ConnectionState, ConnectError.ConnectError, Closed.Closed}
+use Rattle.vs_driver_parts.specs.{declared.answers.Received.Received, declared.answers.Shut.Shut, State.DriverConnection}
+use Rattle.vs_driver_parts.specs.State.{GoneConnection, Listener, DriverState, DriverEntry, slots_held, entry_known_as, gone_known_as}
 use Rattle.vs_driver_parts.specs.Listening.{with_waiting, without_id, listener_on}
 use Rattle.vs_conn.specs.declared.end.Owed.TheVariants as owed
 use Rattle.vs_conn.specs.declared.end.State.TheVariants as state

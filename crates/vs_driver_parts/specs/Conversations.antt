@@ -10,14 +10,13 @@ use Rattle.vs_flow.specs.Table.{entry_under, slots}
 use Rattle.vs_limits.specs.declared.TheConstants.{BUF_ALLOC, DRIVER_REPLIES_FULL, DRIVER_CONNECTIONS}
 use Rattle.vs_page.specs.declared.page.TheConstants.{PAYLOAD_MAX}
 use Rattle.vs_replies.specs.declared.Reply.{Reply}
-use Rattle.vs_ring_port.specs.{declared.queue.Queue.Queue, declared.queue.TheConstants.STAGED_MAX}
-use Rattle.vs_ring_port.specs.DriverCalls.{DriverCall, DriverAnswer, Stage, Publish, Reap, LoadCid}
+use Rattle.vs_ring_port.specs.{declared.queue.Queue.Queue, declared.queue.TheConstants.STAGED_MAX, DriverCalls.DriverCall}
+use Rattle.vs_ring_port.specs.DriverCalls.{DriverAnswer, Stage, Publish, Reap, LoadCid}
 use Rattle.vs_ring_port.specs.declared.queue.Queue.TheVariants.{Rx, Tx, Event}
-use Rattle.vs_driver_parts.specs.{declared.answers.ConnectError.ConnectError, declared.answers.Polled.Polled, declared.answers.Sent.Sent}
-use Rattle.vs_driver_parts.specs.{declared.tally.Tally.Tally, Receiving.on_page, Receiving.is_reset_event, Receiving.after_reset}
-use Rattle.vs_driver_parts.specs.State.{DriverState, DriverEntry, entry_known_as, gone_known_as}
-use Rattle.vs_driver_parts.specs.Connections.{with_end, with_connection, route_to_host, next_flow, connect_refusal, connected}
-use Rattle.vs_driver_parts.specs.Connections.{after_leaving, paid_connection}
+use Rattle.vs_driver_parts.specs.declared.{answers.ConnectError.ConnectError, answers.Polled.Polled, answers.Sent.Sent, tally.Tally.Tally}
+use Rattle.vs_driver_parts.specs.{Receiving.on_page, Receiving.is_reset_event, Receiving.after_reset, State.DriverState, State.DriverEntry}
+use Rattle.vs_driver_parts.specs.{State.entry_known_as, State.gone_known_as, Connections.with_end, Connections.with_connection}
+use Rattle.vs_driver_parts.specs.Connections.{route_to_host, next_flow, connect_refusal, connected, after_leaving, paid_connection}
 use Rattle.vs_conn.specs.declared.end.Owed.TheVariants as owed
 use Rattle.vs_conn.specs.declared.end.Stop.TheVariants as stop
 use Rattle.vs_driver_parts.specs.declared.answers.ConnectError.TheVariants as refused

@@ -1,9 +1,7 @@
 -- What the driver holds, as plain lists.
 use Rattle.std.specs.Prelude.{ℕ, ◌+◌, ◌==◌, ◌&&◌, not, Bool, List, length, find, Option}
 use Rattle.vs_conn.specs.End.{ConnectionEnd}
-use Rattle.vs_flow.specs.Table.{Table}
-use Rattle.vs_flow.specs.declared.flow.Flow.{Flow}
-use Rattle.vs_flow.specs.declared.table.Entry.{Entry}
+use Rattle.vs_flow.specs.{Table.Table, declared.flow.Flow.Flow, declared.table.Entry.Entry}
 use Rattle.vs_replies.specs.declared.Reply.{Reply}
 
 -- A connection of the table: its id, its end, and the bytes that came in and aren't read.

@@ -3,14 +3,13 @@ use Rattle.std.specs.Prelude.{ℕ, ◌==◌, min, if◌then◌else◌, List, len
 use Rattle.vs_contents.specs.CallTree.{Done, bind}
 use Rattle.vs_conn.specs.End.{may_send_of, wanting_credit}
 use Rattle.vs_page.specs.declared.page.TheConstants.{PAYLOAD_MAX}
-use Rattle.vs_ring_port.specs.declared.queue.Queue.{Queue}
-use Rattle.vs_ring_port.specs.declared.queue.Queue.TheVariants.{Rx, Tx, Event}
-use Rattle.vs_driver_parts.specs.declared.answers.{ConnectError.ConnectError, Sent.Sent}
-use Rattle.vs_driver_parts.specs.declared.answers.Sent.TheVariants as sent
-use Rattle.vs_driver_parts.specs.State.{DriverState, DriverEntry, entry_known_as}
-use Rattle.vs_driver_parts.specs.Conversations.{DriverTree, start, reap_one, take_event, take_packet, put_reply, put_owed}
-use Rattle.vs_driver_parts.specs.Conversations.{connect_with_page, send_with_page, payload_of, no_credit, send_stopped, not_sent}
+use Rattle.vs_ring_port.specs.declared.queue.Queue.{Queue, TheVariants.Rx, TheVariants.Tx, TheVariants.Event}
+use Rattle.vs_driver_parts.specs.{declared.answers.ConnectError.ConnectError, declared.answers.Sent.Sent, State.DriverState}
+use Rattle.vs_driver_parts.specs.{State.DriverEntry, State.entry_known_as, Conversations.DriverTree, Conversations.start}
+use Rattle.vs_driver_parts.specs.Conversations.{reap_one, take_event, take_packet, put_reply, put_owed, connect_with_page, send_with_page}
+use Rattle.vs_driver_parts.specs.Conversations.{payload_of, no_credit, send_stopped, not_sent}
 use Rattle.vs_driver_parts.specs.Connections.{connect_refusal, with_end}
+use Rattle.vs_driver_parts.specs.declared.answers.Sent.TheVariants as sent
 
 -- It takes one page of a queue, where it still takes any, does what the page asks of it, and stages the page again. A transmit page just
 -- comes back.

@@ -4,10 +4,8 @@ use Rattle.std.proofs.Common.{◌∙◌, arith}
 use Rattle.std.specs.{List.position, List.remove, List.position_or_len, Option.IsSome}
 use Rattle.std.proofs.lemmas.List.{Sums.fails_before_first, Quantifiers.position-Some}
 use Rattle.std.proofs.lemmas.Bool.{false≢true, cases_lt, lt-ltb}
-use Rattle.vs_ring_port.specs.declared.device_ring.Chain.{Chain}
-use Rattle.vs_ring_port.specs.Chains.{same_chain, same_queue, without}
-use Rattle.vs_ring_port.specs.declared.queue.Queue.{Queue}
-use Rattle.vs_ring_port.specs.declared.queue.Queue.TheVariants.{Rx, Tx, Event}
+use Rattle.vs_ring_port.specs.{declared.device_ring.Chain.Chain, Chains.same_chain, Chains.same_queue, Chains.without}
+use Rattle.vs_ring_port.specs.declared.queue.Queue.{Queue, TheVariants.Rx, TheVariants.Tx, TheVariants.Event}
 
 same_queue_refl : (q : Queue) → same_queue q q ≡ true
 same_queue_refl Rx = refl

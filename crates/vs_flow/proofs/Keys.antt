@@ -1,7 +1,6 @@
 -- Slots whose keys lead to entries: what is found by a slot and by a place, and what insertions, removals and writes leave.
-use Rattle.std.proofs.{lemmas.Bool.Decides.nat_tests, lemmas.List.Edits.length-remove}
-use Rattle.std.proofs.{lemmas.List.Elements.All-cons, lemmas.List.Elements.All-map, lemmas.List.Folds.map_fixed, lemmas.List.append_assoc}
-use Rattle.std.proofs.{lemmas.List.Kept.AllPairs-cons, lemmas.List.Kept.AllPairs-filter, lemmas.List.Sums.sum_by-set}
+use Rattle.std.proofs.lemmas.{Bool.Decides.nat_tests, List.Edits.length-remove, List.Elements.All-cons, List.Elements.All-map}
+use Rattle.std.proofs.lemmas.List.{Folds.map_fixed, append_assoc, Kept.AllPairs-cons, Kept.AllPairs-filter, Sums.sum_by-set}
 use Rattle.std.proofs.{lemmas.List.Filters.length-filter_both, lemmas.Option.slice_get_within, Math.ListN.get_or-append}
 use Rattle.std.proofs.Common.{◌≡◌, ◌≢◌, ℕ, zero, suc, ◌+◌, ◌<◌, ◌≤◌, Bool, true, false, not, cond, ◌==◌, List, [], ◌∷◌, ◌++◌, length, map}
 use Rattle.std.proofs.Common.{get_or, Option, Some, None, is_some, refl, ap, sym, subst, ◌∙◌, arith, length-append, nat_eq}
@@ -12,10 +11,10 @@ use Rattle.indexmap.specs.IndexMap.{insert_entry}
 use Rattle.indexmap.proofs.MapLemmas.{absent_from_lookup, insert_entry-absent}
 use Rattle.slab.specs.Slab.{ContainsKey, Slab, Updates, get, slab_len, with_value}
 use Rattle.slab.proofs.SlabLemmas.{ContainsKey-within, Updates-with_value}
-use Rattle.vs_flow.specs.{declared.flow.Flow.Flow, declared.table.Entry.Entry, Flow.same_flow}
-use Rattle.vs_flow.specs.{Entries.entries_of, Entries.slots_by_flow, Entries.AreLedTo, Table.IsRising, Table.revalued}
-use Rattle.vs_flow.proofs.Entries.{above_head, remove_at, rising_tail, same_flow_false}
-use Rattle.vs_flow.proofs.Lookups.{find_place, others_differ, tail_distinct}
+use Rattle.vs_flow.specs.{declared.flow.Flow.Flow, declared.table.Entry.Entry, Flow.same_flow, Entries.entries_of, Entries.slots_by_flow}
+use Rattle.vs_flow.specs.{Entries.AreLedTo, Table.IsRising, Table.revalued}
+use Rattle.vs_flow.proofs.{Entries.above_head, Entries.remove_at, Entries.rising_tail, Entries.same_flow_false, Lookups.find_place}
+use Rattle.vs_flow.proofs.Lookups.{others_differ, tail_distinct}
 
 module _ {T : Type 0} (under : ℕ → Option (Entry T)) where
   pub led_is : (keys : List (ℕ × ℕ)) (es : List (Entry T)) → AreLedTo under keys es → entries_of under keys ≡ es

@@ -7,8 +7,7 @@ use Rattle.vs_outside.specs.Host.{Stream}
 use Rattle.vs_report.specs.{Gives.GivesLines, Report.counts_text, Report.device_open_text, Report.stream_texts}
 use Rattle.vs_report.specs.declared.giving.GiveError.{GiveError}
 use Rattle.vs_report.proofs.LinesGiven.{gives_next, gives_less}
-use Rattle.vs_script.specs.{Hostile.Hostile, Hostile.hostile_view, Script.numbered_hostile}
-use Rattle.vs_script.specs.declared.hostile.HostileLine.{HostileLine}
+use Rattle.vs_script.specs.{Hostile.Hostile, Hostile.hostile_view, Script.numbered_hostile, declared.hostile.HostileLine.HostileLine}
 use Rattle.vs_script.specs.declared.script.Numbered.{Numbered}
 use Rattle.vs_hostile.specs.Answer.{attack_of, given, lines_of, report_texts, said_text, state_after, texts_of}
 use Rattle.vs_hostile.specs.Run.{HostileState, beginning, hostile_does}

@@ -9,9 +9,8 @@ use Rattle.vs_device_parts.specs.Playing.{IsItsRing}
 use Rattle.vs_proxy_parts.specs.State.{ProxyState}
 use Rattle.vs_script.specs.Hostile.{Hostile}
 use Rattle.vs_script.specs.Hostile as hostile
-use Rattle.vs_hostile.specs.{Answer.said_text, Ready.IsReady, Ready.Steps, Ready.held_in, Rings.are_placed}
-use Rattle.vs_hostile.specs.Run.{GuestState, HasMemory, HostileState, Said, Done, hostile_does, line_in, rings_in, second_set_up}
-use Rattle.vs_hostile.specs.Run.{with_guest}
+use Rattle.vs_hostile.specs.{Answer.said_text, Ready.IsReady, Ready.Steps, Ready.held_in, Rings.are_placed, Run.GuestState, Run.HasMemory}
+use Rattle.vs_hostile.specs.Run.{HostileState, Said, Done, hostile_does, line_in, rings_in, second_set_up, with_guest}
 
 -- No chain is held in rings just made.
 made_hold_none : (b : Bool) (memory : Span) (d : DeviceState) → chains_held d ≡ [] → held_in (rings_in memory (cond b (Some d) None)) ≡ []

@@ -7,8 +7,7 @@ use Rattle.vs_device_parts.specs.Playing.{IsItsRing, situation}
 use Rattle.vs_proxy_parts.specs.State.{ProxyState}
 use Rattle.laws_proxy.specs.Order.{IsInOrder}
 use Rattle.vs_script.specs.Hostile.{Hostile}
-use Rattle.vs_hostile.specs.Run.{GuestState, Nothing, HasMemory, HasRings, HostileState, hostile_does}
-use Rattle.vs_hostile.specs.Answer.{said_text}
+use Rattle.vs_hostile.specs.{Run.GuestState, Run.Nothing, Run.HasMemory, Run.HasRings, Run.HostileState, Run.hostile_does, Answer.said_text}
 
 abbrev pub held_in : GuestState → List Chain
 held_in Nothing = []

@@ -1,8 +1,7 @@
 -- The rings that a script sets up: three queues at the front of a memory whose bytes are all 0.
 use Rattle.std.specs.Prelude.{ℕ, ◌&&◌, nat_le, nat_lt, if◌then◌else◌, Bool, false, Option, Some, None}
 use Rattle.vs_guest_mem.specs.Memory.{zeroed}
-use Rattle.vs_layout.specs.{Layout.queue_areas_of, Span.span_end}
-use Rattle.vs_layout.specs.declared.span.Span.{Span}
+use Rattle.vs_layout.specs.{Layout.queue_areas_of, Span.span_end, declared.span.Span.Span}
 use Rattle.vs_ring_plain.specs.Device.{DeviceState, new_device}
 
 -- Whether n descriptors are a queue's, and the three queues lie in the memory. They do in each script.

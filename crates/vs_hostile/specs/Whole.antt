@@ -5,10 +5,9 @@ use Rattle.std.specs.Prelude.{ℕ, zero, suc, Bool, true, false, nat_le, if◌th
 use Rattle.vs_guest_mem.specs.Memory.{Change}
 use Rattle.vs_layout.specs.declared.place.Areas.{Areas}
 use Rattle.vs_ring_port.specs.Contents.{RingContents, DeviceCall, DeviceAnswer, Read, Return}
-use Rattle.vs_ring_port.specs.declared.queue.Queue.{Queue}
-use Rattle.vs_ring_port.specs.declared.queue.Queue.TheVariants.{Rx, Tx, Event}
-use Rattle.vs_ring_plain.specs.{declared.piece.Piece.Piece, declared.turns.Turns.Turns}
-use Rattle.vs_ring_plain.specs.Device.{DeviceState, HeldChain, answer_to}
+use Rattle.vs_ring_port.specs.declared.queue.Queue.{Queue, TheVariants.Rx, TheVariants.Tx, TheVariants.Event}
+use Rattle.vs_ring_plain.specs.{declared.piece.Piece.Piece, declared.turns.Turns.Turns, Device.DeviceState, Device.HeldChain}
+use Rattle.vs_ring_plain.specs.Device.{answer_to}
 
 -- The parts as numbers.
 abbrev pub number_of_bool : Bool → ℕ

@@ -1,6 +1,5 @@
 -- The guest's memory as the program holds it.
-use Rattle.vs_hostile.specs.Run.{GuestState, Nothing, HasMemory, HasRings}
-use Rattle.vs_hostile.specs.declared.world.Guest.{Guest}
+use Rattle.vs_hostile.specs.{Run.GuestState, Run.Nothing, Run.HasMemory, Run.HasRings, declared.world.Guest.Guest}
 use Rattle.vs_hostile.specs.declared.world.Guest.TheVariants as guest
 
 abbrev pub guest_view : Guest → GuestState

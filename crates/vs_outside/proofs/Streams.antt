@@ -5,12 +5,11 @@ use Rattle.std.proofs.lemmas.List.Sums.{sum_by-set}
 use Rattle.std.proofs.lemmas.Option.{slice_get-get_or, slice_get_within, get_or_from_slice_get}
 use Rattle.std.proofs.lemmas.Bool.Decides.{nat_tests}
 use Rattle.std.specs.{Prelude.slice_get, Prelude.IsSomeAnd, Option.is_none, Option.is_some}
-use Rattle.vs_outside.specs.{declared.host_net.StreamRead.StreamRead, declared.host_net.StreamWrite.StreamWrite}
-use Rattle.vs_outside.specs.Host.{Stream, HostContents, stream_at, IsOpen, called, fails_now, ReadsFrom, IsRead, read_of, read_failed}
-use Rattle.vs_outside.specs.Host.{after_read, taken_of, write_of, write_answer, write_failed, IsWritten, after_write, after_label}
-use Rattle.vs_outside.specs.Faults.{CountsFault, one_more}
-use Rattle.vs_outside.specs.HostProgram.{changed, unlabelled, ReadsStream, stream_after_write}
-use Rattle.vs_outside.specs.declared.mem_stream.StreamChange.{StreamChange}
+use Rattle.vs_outside.specs.{declared.host_net.StreamRead.StreamRead, declared.host_net.StreamWrite.StreamWrite, Host.Stream}
+use Rattle.vs_outside.specs.Host.{HostContents, stream_at, IsOpen, called, fails_now, ReadsFrom, IsRead, read_of, read_failed, after_read}
+use Rattle.vs_outside.specs.Host.{taken_of, write_of, write_answer, write_failed, IsWritten, after_write, after_label}
+use Rattle.vs_outside.specs.{Faults.CountsFault, Faults.one_more, HostProgram.changed, HostProgram.unlabelled, HostProgram.ReadsStream}
+use Rattle.vs_outside.specs.{HostProgram.stream_after_write, declared.mem_stream.StreamChange.StreamChange}
 use Rattle.vs_flow.specs.declared.flow.Flow.{Flow}
 use Rattle.vs_outside.specs.declared.host_net.StreamState.TheVariants as state
 use Rattle.vs_outside.specs.declared.host_net.StreamRead.TheVariants as read

@@ -5,9 +5,8 @@ use Rattle.std.specs.Prelude.{◌≡◌, ◌≢◌, ℕ, ◌+◌, ◌-◌, min, 
 use Rattle.std.specs.Prelude.{position, slice_get, slice_set, Option, None, Some, IsSomeAnd}
 use Rattle.vs_flow.specs.declared.flow.Flow.{Flow}
 use Rattle.vs_outside.specs.{Faults.fails_next, Faults.counted_down, Faults.one_more, InOut.MovesSome}
-use Rattle.vs_outside.specs.{declared.host_net.StreamState.StreamState, declared.host_net.Started.Started}
-use Rattle.vs_outside.specs.{declared.host_net.Accepted.Accepted, declared.host_net.Dialed.Dialed, declared.host_net.StreamRead.StreamRead}
-use Rattle.vs_outside.specs.declared.host_net.StreamWrite.{StreamWrite}
+use Rattle.vs_outside.specs.declared.host_net.{StreamState.StreamState, Started.Started, Accepted.Accepted, Dialed.Dialed}
+use Rattle.vs_outside.specs.declared.host_net.{StreamRead.StreamRead, StreamWrite.StreamWrite}
 use Rattle.vs_outside.specs.declared.host_net.StreamState.TheVariants as state
 use Rattle.vs_outside.specs.declared.host_net.Started.TheVariants as started
 use Rattle.vs_outside.specs.declared.host_net.Accepted.TheVariants as accepted

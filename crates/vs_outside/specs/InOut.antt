@@ -1,8 +1,7 @@
 -- Sources and sinks: what a call answers, and what it changes of the bytes.
 use Rattle.std.specs.Prelude.{◌≡◌, ℕ, ◌≤◌, ◌<◌, Bool, true, false, List, [], ◌++◌, length, take, drop}
-use Rattle.vs_outside.specs.declared.in_out.SourceRead.{SourceRead}
+use Rattle.vs_outside.specs.declared.in_out.{SourceRead.SourceRead, SinkWrite.SinkWrite}
 use Rattle.vs_outside.specs.declared.in_out.SourceRead.TheVariants as source_read
-use Rattle.vs_outside.specs.declared.in_out.SinkWrite.{SinkWrite}
 use Rattle.vs_outside.specs.declared.in_out.SinkWrite.TheVariants as sink_write
 
 -- A number of bytes that a call moved: no more than there was room for, and at least one where there was room for one.

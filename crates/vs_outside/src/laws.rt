@@ -1,8 +1,7 @@
 //! Laws of the connections that a host's streams are.
 ghost use Rattle.std.specs.Prelude.{◌≡◌, ℕ, Some, IsSomeAnd};
 ghost use Rattle.vs_flow.specs.Connection.{Connection};
-ghost use Rattle.vs_outside.specs.Host.{HostContents, stream_at};
-ghost use Rattle.vs_outside.specs.HostBytes.{connection_at, stream_of};
+ghost use Rattle.vs_outside.specs.{Host.HostContents, Host.stream_at, HostBytes.connection_at, HostBytes.stream_of};
 
 /// The stream of the connection that a stream is, is that stream, and its label is the connection's flow. So no two streams are one
 /// connection.

@@ -2,8 +2,7 @@
 use Rattle.std.specs.Prelude.{◌≡◌, ℕ, ◌+◌, ◌/◌, ◌%◌, ◌^◌, ◌==◌, Bool, true, false, ◌&&◌, not, if◌then◌else◌, List, [], ◌∷◌, ◌++◌, length}
 use Rattle.byteorder.specs.Endian.{little_bytes}
 use Rattle.vs_flow.specs.Connection.{Connection}
-use Rattle.vs_header.specs.{declared.Kind.Kind, declared.Kind.TheVariants.Seqpacket, declared.Kind.TheVariants.Stream}
-use Rattle.vs_header.specs.declared.TheConstants.{END_OF_RECORD}
+use Rattle.vs_header.specs.declared.{Kind.Kind, Kind.TheVariants.Seqpacket, Kind.TheVariants.Stream, TheConstants.END_OF_RECORD}
 use Rattle.laws_history.specs.{Packets.bytes, Packets.ends_message, declared.packet.Packet.Packet}
 use Rattle.vs_page.specs.{Fair.got_of, Fair.payload_of, Fair.put_of, Log.Log, Log.Role}
 

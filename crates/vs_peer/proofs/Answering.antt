@@ -3,8 +3,7 @@ use Rattle.std.proofs.Common.{◌≡◌, ◌≤◌, ◌<◌, ℕ, zero, suc, Boo
 use Rattle.std.proofs.Common.{ap, sym, ◌∙◌, arith}
 use Rattle.vs_contents.specs.Contents.{Relates}
 use Rattle.vs_outside.specs.Host.{HostContents}
-use Rattle.vs_uds.specs.Reading.{fed, is_decided}
-use Rattle.vs_uds.specs.declared.ok.TheConstants.{OK_MAX}
+use Rattle.vs_uds.specs.{Reading.fed, Reading.is_decided, declared.ok.TheConstants.OK_MAX}
 use Rattle.vs_peer.specs.Passing.{Moves}
 use Rattle.vs_peer.proofs.Streams.{relates_as, relates_then}
 

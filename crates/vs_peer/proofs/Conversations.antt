@@ -6,17 +6,15 @@ use Rattle.std.proofs.lemmas.List.{append-nil}
 use Rattle.vs_contents.specs.Contents.{Relates}
 use Rattle.vs_outside.specs.Host.{Stream, HostContents, stream_at}
 use Rattle.vs_uds.specs.ConnectLine.{connect_text}
-use Rattle.vs_peer.specs.Client.{Any, IsAnswered, IsUnanswered, Opens}
-use Rattle.vs_peer.specs.Conversing.{Carries, Converses, Failed, HasSent, IsDone, IsFailed, IsStuckNow, IsWaiting, Stuck, Unanswered}
-use Rattle.vs_peer.specs.{Conversing.Unopened, Exchanging.Exchanges, Exchanging.IsStuck}
-use Rattle.vs_peer.specs.{Passing.IsClosed, Passing.Moves, Passing.ReadsAgain, Passing.ReadsEnd, Passing.WritesAgain, Pieces.Emits}
-use Rattle.vs_peer.specs.{Sending.IsSending, Sending.IsStill, Sending.is_shut, Text.port_text, Text.GivesPort}
-use Rattle.vs_peer.specs.declared.send.{Sending.Sending, Side.Side}
+use Rattle.vs_peer.specs.{Client.Any, Client.IsAnswered, Client.IsUnanswered, Client.Opens, Conversing.Carries, Conversing.Converses}
+use Rattle.vs_peer.specs.Conversing.{Failed, HasSent, IsDone, IsFailed, IsStuckNow, IsWaiting, Stuck, Unanswered, Unopened}
+use Rattle.vs_peer.specs.{Exchanging.Exchanges, Exchanging.IsStuck, Passing.IsClosed, Passing.Moves, Passing.ReadsAgain, Passing.ReadsEnd}
+use Rattle.vs_peer.specs.{Passing.WritesAgain, Pieces.Emits, Sending.IsSending, Sending.IsStill, Sending.is_shut, Text.port_text}
+use Rattle.vs_peer.specs.{Text.GivesPort, declared.send.Sending.Sending, declared.send.Side.Side, declared.stop.Stop.Stop}
 use Rattle.vs_peer.specs.declared.send.Side.TheVariants as side
-use Rattle.vs_peer.specs.declared.stop.Stop.{Stop}
 use Rattle.vs_peer.specs.declared.stop.Stop.TheVariants as stop
-use Rattle.vs_peer.proofs.Clients.{client_then, relates_both, relates_map, relates_now}
-use Rattle.vs_peer.proofs.Pieces.{emits_append, emits_none, emits_then_some}
+use Rattle.vs_peer.proofs.{Clients.client_then, Clients.relates_both, Clients.relates_map, Clients.relates_now, Pieces.emits_append}
+use Rattle.vs_peer.proofs.Pieces.{emits_none, emits_then_some}
 
 -- The client wasn't answered.
 pub open_fails : (base : List ℕ) (port : ℕ) (source : List ℕ) (host host' : Option HostContents) (out : Option (List ℕ)) (e : Stop) →

@@ -1,13 +1,11 @@
 -- The last line, behind what was written before.
 use Rattle.std.proofs.Common.{◌≡◌, inl, inr, ℕ, true, List, ◌++◌, Option, Result, Err, refl, subst, ◌∙◌}
 use Rattle.vs_outside.specs.{Faults.CountsFault, Host.HostContents}
-use Rattle.vs_peer.specs.Conversing.{Converses}
-use Rattle.vs_peer.specs.Ends.{EndsAs, EndsUnread, HostFails, Lent, Meets, NoMemory, PeerEnds, SourceFails, Waits}
-use Rattle.vs_peer.specs.{Failing.host_failed, Failing.sink_failed, Failing.source_failed, Pieces.Emits}
-use Rattle.vs_peer.specs.Text.{host_fault_text, waited_text}
-use Rattle.vs_peer.specs.declared.source.ReadError.{ReadError}
-use Rattle.vs_peer.specs.declared.source.ReadError.TheVariants as read_error
+use Rattle.vs_peer.specs.{Conversing.Converses, Ends.EndsAs, Ends.EndsUnread, Ends.HostFails, Ends.Lent, Ends.Meets, Ends.NoMemory}
+use Rattle.vs_peer.specs.{Ends.PeerEnds, Ends.SourceFails, Ends.Waits, Failing.host_failed, Failing.sink_failed, Failing.source_failed}
+use Rattle.vs_peer.specs.{Pieces.Emits, Text.host_fault_text, Text.waited_text, declared.source.ReadError.ReadError}
 use Rattle.vs_peer.specs.declared.stop.Stop.{Stop}
+use Rattle.vs_peer.specs.declared.source.ReadError.TheVariants as read_error
 use Rattle.vs_peer.specs.declared.stop.Stop.TheVariants as stop
 use Rattle.vs_peer.proofs.Pieces.{emits_append, emits_then_some}
 

@@ -4,21 +4,17 @@ use Rattle.std.proofs.Common.{sym, subst, ◌∙◌, append-nil, arith}
 use Rattle.std.specs.{Prelude.IsSomeAnd, Option.ForSome}
 use Rattle.vs_contents.specs.Contents.{Relates}
 use Rattle.vs_outside.specs.{Host.Stream, Host.HostContents, Host.IsOpen, Host.stream_at, Faults.CountsFault}
-use Rattle.vs_peer.specs.Failing.{sink_failed}
-use Rattle.vs_peer.specs.Passing.{Moves, Now, ReadsAgain, ReadsEnd, WritesAgain, SameStreams}
-use Rattle.vs_peer.specs.{Pieces.Emits, Receiving.Receives}
-use Rattle.vs_peer.specs.Sending.{IsSending, IsStill, GoesOn, Sends, between, is_shut, shuts}
-use Rattle.vs_peer.specs.Exchanging.{Exchanges, Exchanged, ExchangedCut, Leaves, Stepped, SteppedCut, Steps, comes_to, still}
-use Rattle.vs_peer.specs.declared.exchange.Progress.{Progress}
+use Rattle.vs_peer.specs.{Failing.sink_failed, Passing.Moves, Passing.Now, Passing.ReadsAgain, Passing.ReadsEnd, Passing.WritesAgain}
+use Rattle.vs_peer.specs.{Passing.SameStreams, Pieces.Emits, Receiving.Receives, Sending.IsSending, Sending.IsStill, Sending.GoesOn}
+use Rattle.vs_peer.specs.{Sending.Sends, Sending.between, Sending.is_shut, Sending.shuts, Exchanging.Exchanges, Exchanging.Exchanged}
+use Rattle.vs_peer.specs.Exchanging.{ExchangedCut, Leaves, Stepped, SteppedCut, Steps, comes_to, still}
+use Rattle.vs_peer.specs.declared.{exchange.Progress.Progress, receive.Came.Came, send.Sending.Sending, send.Side.Side, stop.Stop.Stop}
 use Rattle.vs_peer.specs.declared.exchange.Progress.TheVariants as progress
-use Rattle.vs_peer.specs.declared.receive.Came.{Came}
 use Rattle.vs_peer.specs.declared.receive.Came.TheVariants as came
-use Rattle.vs_peer.specs.declared.send.{Sending.Sending, Side.Side}
 use Rattle.vs_peer.specs.declared.send.Side.TheVariants as side
-use Rattle.vs_peer.specs.declared.stop.Stop.{Stop}
 use Rattle.vs_peer.specs.declared.stop.Stop.TheVariants as stop
-use Rattle.vs_peer.proofs.{Pieces.emits_none, Pieces.emits_append, Pieces.emits_then_some, Sends.joined_between}
-use Rattle.vs_peer.proofs.Streams.{moves_closed, moves_not, relates_as, relates_not, relates_then}
+use Rattle.vs_peer.proofs.{Pieces.emits_none, Pieces.emits_append, Pieces.emits_then_some, Sends.joined_between, Streams.moves_closed}
+use Rattle.vs_peer.proofs.Streams.{moves_not, relates_as, relates_not, relates_then}
 
 -- A call that changes no stream passes nothing.
 pub relates_same : (id : ℕ) (a b : Option HostContents) → Relates a b SameStreams → Relates a b (Moves id [] [] false)

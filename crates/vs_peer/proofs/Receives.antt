@@ -2,10 +2,8 @@
 use Rattle.std.proofs.Common.{ℕ, List, [], false, Option, Result, Ok, Err}
 use Rattle.vs_contents.specs.Contents.{Relates}
 use Rattle.vs_outside.specs.Host.{HostContents}
-use Rattle.vs_peer.specs.{Passing.Moves, Receiving.Gives, Receiving.Receives}
-use Rattle.vs_peer.specs.declared.receive.Came.{Came}
+use Rattle.vs_peer.specs.{Passing.Moves, Receiving.Gives, Receiving.Receives, declared.receive.Came.Came, declared.stop.Stop.Stop}
 use Rattle.vs_peer.specs.declared.receive.Came.TheVariants as came
-use Rattle.vs_peer.specs.declared.stop.Stop.{Stop}
 use Rattle.vs_peer.specs.declared.stop.Stop.TheVariants as stop
 
 pub received : (id : ℕ) (host host' : Option HostContents) (out out' : Option (List ℕ)) (bytes : List ℕ) (result : Result Came Stop) →

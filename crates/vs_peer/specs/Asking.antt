@@ -2,8 +2,7 @@
 use Rattle.std.specs.Prelude.{◌≡◌, ◌<◌, ◌⊎◌, ℕ, false, List, [], length, take, Option, Result, Ok, Err}
 use Rattle.vs_contents.specs.Contents.{Relates}
 use Rattle.vs_outside.specs.Host.{HostContents}
-use Rattle.vs_uds.specs.OkLine.{IsOkLine, ok_step}
-use Rattle.vs_uds.specs.declared.scan.Step.TheVariants.{More, Bad}
+use Rattle.vs_uds.specs.{OkLine.IsOkLine, OkLine.ok_step, declared.scan.Step.TheVariants.More, declared.scan.Step.TheVariants.Bad}
 use Rattle.vs_peer.specs.Passing.{Moves, Now, IsClosed, ReadsAgain, ReadsEnd, WritesAgain}
 use Rattle.vs_peer.specs.declared.stop.Stop.{Stop}
 use Rattle.vs_peer.specs.declared.stop.Stop.TheVariants as stop

@@ -3,10 +3,8 @@ use Rattle.std.specs.Prelude.{◌≡◌, ◌≤◌, ◌<◌, ◌⊎◌, ℕ, tru
 use Rattle.vs_contents.specs.Contents.{Relates}
 use Rattle.vs_outside.specs.Host.{Stream, HostContents}
 use Rattle.vs_uds.specs.{ConnectLine.connect_text, OkLine.IsOkLine}
-use Rattle.vs_peer.specs.Client.{IsClient, IsRefused, IsUnanswered}
-use Rattle.vs_peer.specs.{Passing.IsClosed, Passing.ReadsAgain, Passing.ReadsEnd, Passing.WritesAgain, Pieces.Emits, Pieces.EmitsSome}
-use Rattle.vs_peer.specs.Text.{port_text}
-use Rattle.vs_peer.specs.declared.stop.Stop.{Stop}
+use Rattle.vs_peer.specs.{Client.IsClient, Client.IsRefused, Client.IsUnanswered, Passing.IsClosed, Passing.ReadsAgain, Passing.ReadsEnd}
+use Rattle.vs_peer.specs.{Passing.WritesAgain, Pieces.Emits, Pieces.EmitsSome, Text.port_text, declared.stop.Stop.Stop}
 use Rattle.vs_peer.specs.declared.stop.Stop.TheVariants as stop
 
 -- What a client carried that was answered. The stream was given the CONNECT line and the first bytes of the source. What it gave after the

@@ -4,13 +4,10 @@ use Rattle.vs_contents.specs.Contents.{Relates}
 use Rattle.vs_outside.specs.Host.{HostContents}
 use Rattle.vs_peer.specs.{Passing.Moves, Passing.Now, Passing.ReadsAgain, Passing.ReadsEnd, Pieces.Emits, Pieces.EmitsSome}
 use Rattle.vs_peer.specs.Sending.{IsSending, IsStill, between, is_shut, shuts}
-use Rattle.vs_peer.specs.declared.exchange.Progress.{Progress}
+use Rattle.vs_peer.specs.declared.{exchange.Progress.Progress, receive.Came.Came, send.Sending.Sending, send.Side.Side, stop.Stop.Stop}
 use Rattle.vs_peer.specs.declared.exchange.Progress.TheVariants as progress
-use Rattle.vs_peer.specs.declared.receive.Came.{Came}
 use Rattle.vs_peer.specs.declared.receive.Came.TheVariants as came
-use Rattle.vs_peer.specs.declared.send.{Sending.Sending, Side.Side}
 use Rattle.vs_peer.specs.declared.send.Side.TheVariants as side
-use Rattle.vs_peer.specs.declared.stop.Stop.{Stop}
 use Rattle.vs_peer.specs.declared.stop.Stop.TheVariants as stop
 
 -- What a step comes to, in which bytes were sent or weren't, and this came.

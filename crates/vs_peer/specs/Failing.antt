@@ -1,8 +1,7 @@
 -- Which of a client's calls failed.
 use Rattle.std.specs.Prelude.{Bool, true, false, Result, Err}
-use Rattle.vs_peer.specs.declared.source.ReadError.{ReadError}
+use Rattle.vs_peer.specs.declared.{source.ReadError.ReadError, stop.Stop.Stop}
 use Rattle.vs_peer.specs.declared.source.ReadError.TheVariants as read_error
-use Rattle.vs_peer.specs.declared.stop.Stop.{Stop}
 use Rattle.vs_peer.specs.declared.stop.Stop.TheVariants as stop
 
 -- whether a call of the host failed

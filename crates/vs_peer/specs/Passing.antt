@@ -2,10 +2,9 @@
 use Rattle.std.specs.Prelude.{◌≡◌, ℕ, Bool, true, false, ◌||◌, List, [], ◌++◌, take, Option, Some, IsSomeAnd}
 use Rattle.std.specs.Option.{ForSome}
 use Rattle.vs_contents.specs.Contents.{Relates}
-use Rattle.vs_outside.specs.Host.{Stream, HostContents, stream_at, KeepsOthers}
-use Rattle.vs_outside.specs.declared.host_net.StreamRead.{StreamRead}
-use Rattle.vs_outside.specs.declared.host_net.StreamRead.TheVariants as read
+use Rattle.vs_outside.specs.{Host.Stream, Host.HostContents, Host.stream_at, Host.KeepsOthers, declared.host_net.StreamRead.StreamRead}
 use Rattle.vs_outside.specs.declared.host_net.StreamWrite.{StreamWrite}
+use Rattle.vs_outside.specs.declared.host_net.StreamRead.TheVariants as read
 use Rattle.vs_outside.specs.declared.host_net.StreamWrite.TheVariants as write
 
 -- A stream between two moments, between which these bytes were given to it and these taken of it, and its write side was shut or wasn't.

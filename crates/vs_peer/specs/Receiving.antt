@@ -2,11 +2,9 @@
 use Rattle.std.specs.Prelude.{◌≡◌, ℕ, false, List, [], Option, Result, Ok, Err}
 use Rattle.vs_contents.specs.Contents.{Relates}
 use Rattle.vs_outside.specs.Host.{HostContents}
-use Rattle.vs_peer.specs.Passing.{Moves, Now, ReadsAgain, ReadsEnd, SameStreams}
-use Rattle.vs_peer.specs.Pieces.{Emits, EmitsSome}
-use Rattle.vs_peer.specs.declared.receive.Came.{Came}
+use Rattle.vs_peer.specs.{Passing.Moves, Passing.Now, Passing.ReadsAgain, Passing.ReadsEnd, Passing.SameStreams, Pieces.Emits}
+use Rattle.vs_peer.specs.{Pieces.EmitsSome, declared.receive.Came.Came, declared.stop.Stop.Stop}
 use Rattle.vs_peer.specs.declared.receive.Came.TheVariants as came
-use Rattle.vs_peer.specs.declared.stop.Stop.{Stop}
 use Rattle.vs_peer.specs.declared.stop.Stop.TheVariants as stop
 
 -- These bytes went to the sink; or a call of the sink failed, and less went.

@@ -1,7 +1,6 @@
 -- The lines that a client writes, each with its LF.
 use Rattle.std.specs.Prelude.{ℕ, List, ◌++◌, codes, decimal, Option, Result, Ok, Err}
-use Rattle.vs_peer.specs.Pieces.{Emits, EmitsSome}
-use Rattle.vs_peer.specs.declared.stop.Stop.{Stop}
+use Rattle.vs_peer.specs.{Pieces.Emits, Pieces.EmitsSome, declared.stop.Stop.Stop}
 use Rattle.vs_peer.specs.declared.stop.Stop.TheVariants as stop
 
 -- the host's port of the connection

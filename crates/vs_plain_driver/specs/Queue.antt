@@ -4,13 +4,12 @@ use Rattle.std.specs.Prelude.{ℕ, ◌+◌, ◌-◌, ◌*◌, ◌%◌, ◌^◌, 
 use Rattle.std.specs.Prelude.{slice_index_or, Option, None, Some, if◌then◌else◌}
 use Rattle.byteorder.specs.Endian.{little_bytes, little_number}
 use Rattle.vs_guest_mem.specs.Memory.{Memory, after_write, bytes_at}
-use Rattle.vs_layout.specs.{declared.entry.Desc.Desc, declared.entry.TheConstants.WRITE, declared.entry.UsedElem.UsedElem}
-use Rattle.vs_layout.specs.Entry.{desc_bytes, used_elem_of}
-use Rattle.vs_layout.specs.Layout.{avail_entry, avail_flags, avail_idx, desc_entry, used_elem, used_event, used_idx}
-use Rattle.vs_layout.specs.declared.place.Areas.{Areas}
+use Rattle.vs_layout.specs.{declared.entry.Desc.Desc, declared.entry.TheConstants.WRITE, declared.entry.UsedElem.UsedElem, Entry.desc_bytes}
+use Rattle.vs_layout.specs.{Entry.used_elem_of, Layout.avail_entry, Layout.avail_flags, Layout.avail_idx, Layout.desc_entry}
+use Rattle.vs_layout.specs.{Layout.used_elem, Layout.used_event, Layout.used_idx, declared.place.Areas.Areas}
 use Rattle.vs_page.specs.declared.page.TheConstants.{PAGE_LEN}
 use Rattle.vs_ring_plain.specs.Chain.{ahead}
-use Rattle.vs_ring_port.specs.{declared.queue.Queue.Queue, declared.queue.Queue.TheVariants.Tx}
+use Rattle.vs_ring_port.specs.declared.queue.Queue.{Queue, TheVariants.Tx}
 
 -- A queue of n descriptors. Its pages lie one after another from an address on, where they lie in the memory at all. For each descriptor
 -- its page, as it was staged, while it has one; the descriptors that have none, oldest first; the index of the available ring as it was

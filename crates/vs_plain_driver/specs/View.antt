@@ -4,8 +4,7 @@ use Rattle.std.specs.VecDeque.{deque_capacity}
 use Rattle.vs_guest_mem.specs.Memory.{Memory}
 use Rattle.vs_page.specs.declared.page.TheConstants.{PAGE_LEN}
 use Rattle.vs_ring_port.specs.declared.queue.TheConstants.{QUEUE_SIZE_MAX}
-use Rattle.vs_plain_driver.specs.declared.driver_queue.DriverQueue.TheInside.{Inside}
-use Rattle.vs_plain_driver.specs.Queue.{DriverQueueState}
+use Rattle.vs_plain_driver.specs.{declared.driver_queue.DriverQueue.TheInside.Inside, Queue.DriverQueueState}
 
 abbrev pub queue_in : Inside → DriverQueueState
 queue_in q = record {

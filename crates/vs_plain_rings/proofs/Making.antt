@@ -4,13 +4,10 @@ use Rattle.std.proofs.Common.{sym, ap₂, arith}
 use Rattle.std.specs.Prelude.{nat_le}
 use Rattle.std.proofs.lemmas.Bool.Decides.{nat_tests}
 use Rattle.vs_guest_mem.specs.Memory.{Memory}
-use Rattle.vs_plain_driver.specs.{Queue.DriverQueueState, View.ArePagesIn}
-use Rattle.vs_layout.specs.Layout.{queue_areas_of}
-use Rattle.vs_layout.specs.declared.placement.QueueAreas.{QueueAreas}
+use Rattle.vs_plain_driver.specs.{Queue.DriverQueueState, Queue.cleared_avail, View.ArePagesIn}
+use Rattle.vs_layout.specs.{Layout.queue_areas_of, declared.placement.QueueAreas.QueueAreas}
 use Rattle.vs_ring_plain.specs.Device.{DeviceState, areas_at, cleared_used, new_device, with_memory}
-use Rattle.vs_plain_driver.specs.Queue.{cleared_avail}
-use Rattle.vs_ring_port.specs.declared.queue.Queue.{Queue}
-use Rattle.vs_ring_port.specs.declared.queue.Queue.TheVariants.{Rx, Tx, Event}
+use Rattle.vs_ring_port.specs.declared.queue.Queue.{Queue, TheVariants.Rx, TheVariants.Tx, TheVariants.Event}
 use Rattle.laws_plain_rings.specs.Parts.{PartsState, cleared, new_parts, new_queue, pages_behind, pages_start}
 use Rattle.vs_plain_rings.specs.View.{AreInOrder}
 

@@ -3,11 +3,10 @@ ghost use Rattle.std.specs.Prelude.{◌≡◌, ◌<◌, ◌≤◌, ◌+◌, ◌^
 ghost use Rattle.std.specs.{Prelude.is_ok, Option.ForSome};
 ghost use Rattle.vs_guest_mem.specs.Memory.{after_write, is_inside};
 ghost use Rattle.vs_layout.specs.Layout.{queue_areas_of};
-ghost use Rattle.vs_ring_port.specs.declared.queue.TheConstants.{QUEUE_SIZE_MAX};
-ghost use Rattle.vs_ring_port.specs.DriverCalls.{page_of};
+ghost use Rattle.vs_ring_port.specs.{declared.queue.TheConstants.QUEUE_SIZE_MAX, DriverCalls.page_of};
 ghost use Rattle.vs_ring_plain.specs.Device.{with_change};
-ghost use Rattle.laws_plain_rings.specs.{Exposed.are_alone, Exposed.first_ends, Parts.new_parts, Parts.with_parts_memory};
-ghost use Rattle.laws_plain_rings.specs.Tie.{AreWordsZero, IsLaid, areas_of, start_of};
+ghost use Rattle.laws_plain_rings.specs.{Exposed.are_alone, Exposed.first_ends, Parts.new_parts, Parts.with_parts_memory, Tie.AreWordsZero};
+ghost use Rattle.laws_plain_rings.specs.Tie.{IsLaid, areas_of, start_of};
 ghost use Rattle.vs_page.specs.{Fair.IsFairLog, Log.Device, Log.Driver, Log.HasGotAll};
 ghost use Rattle.vs_plain_rings.specs.Counted.{AreCounted};
 

@@ -3,11 +3,9 @@ use Rattle.std.proofs.Common.{◌≡◌, ◌<◌, ℕ, zero, suc, ◌+◌, List,
 use Rattle.std.proofs.Common.{Ok, Err, refl, sym, ap, ◌∙◌, subst, append_assoc}
 use Rattle.std.proofs.lemmas.List.{drop_more, drop-map}
 use Rattle.std.specs.List.{AllByRecursion}
-use Rattle.vs_script.specs.{Play.Event, Play.play_view, Script.numbered_event}
-use Rattle.vs_script.specs.declared.play.PlayLine.{PlayLine}
+use Rattle.vs_script.specs.{Play.Event, Play.play_view, Script.numbered_event, declared.play.PlayLine.PlayLine}
 use Rattle.vs_script.specs.declared.script.Numbered.{Numbered}
-use Rattle.vs_report.specs.Gives.{GivesLines}
-use Rattle.vs_report.specs.declared.giving.GiveError.{GiveError}
+use Rattle.vs_report.specs.{Gives.GivesLines, declared.giving.GiveError.GiveError}
 use Rattle.vs_report.proofs.LinesGiven.{gives_next, gives_less}
 use Rattle.vs_play.specs.Answer.{events_in, opened_play, printed, report_of, texts_of, world_after}
 use Rattle.vs_play.specs.{Lines.event_played, Ready.IsPlayable, Ready.PlayState, Ready.shown, Ready.world_in}

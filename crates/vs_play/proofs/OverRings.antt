@@ -1,8 +1,7 @@
 -- Over rings that are seen as their ends a call of the driver's or the device's has one end: the one that it has over lists.
 use Rattle.std.proofs.Common.{◌≡◌, ℕ, List, ◌++◌, Option, Some, sym, ap, subst, ◌∙◌}
 use Rattle.vs_outside.specs.Host.{HostContents}
-use Rattle.vs_ring_port.specs.{Chains.chains_of, Contents.RingContents, Counts.Counts}
-use Rattle.vs_ring_port.specs.declared.device_ring.Chain.{Chain}
+use Rattle.vs_ring_port.specs.{Chains.chains_of, Contents.RingContents, Counts.Counts, declared.device_ring.Chain.Chain}
 use Rattle.vs_ring_list.specs.Ends.{Ends, device_contents, driver_contents}
 use Rattle.vs_driver_parts.specs.{Conversations.DriverTree, Playing.IsRingOf, Playing.Plays, Playing.all_flown, State.DriverState}
 use Rattle.laws_driver.specs.Honest.{IsHonest, IsHonestWith}

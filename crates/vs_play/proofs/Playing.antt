@@ -8,13 +8,12 @@ use Rattle.vs_outside.specs.{Host.HostContents, HostProgram.after_client}
 use Rattle.vs_proxy_parts.specs.{State.ProxyState, Turns.new_proxy, Turns.proxy_reset_of, Turns.turn_of}
 use Rattle.vs_report.specs.{DeviceLines.reset_text, DeviceLines.turn_text, HostLines.client_text, HostLines.host_played, HostLines.ok_text}
 use Rattle.vs_report.proofs.HostPrograms.{client_opens, host_opens}
-use Rattle.vs_script.specs.{Play.Event, Play.Around, Play.play_view, declared.outside.OutsideLine.OutsideLine}
-use Rattle.vs_script.specs.Outside.{Client, Host, OfHost, Outside, Reset, Tick, Turn}
-use Rattle.vs_script.specs.declared.play.PlayLine.{PlayLine}
+use Rattle.vs_script.specs.{Play.Event, Play.Around, Play.play_view, declared.outside.OutsideLine.OutsideLine, Outside.Client, Outside.Host}
+use Rattle.vs_script.specs.{Outside.OfHost, Outside.Outside, Outside.Reset, Outside.Tick, Outside.Turn, declared.play.PlayLine.PlayLine}
 use Rattle.laws_world.specs.{Over.over_both, Over.over_lists, World.first_cid, World.opened_host}
 use Rattle.laws_world.proofs.StayOpen.{StayOpen}
-use Rattle.vs_play.specs.{Answer.base_path, Answer.opened_play, Lines.event_played, Told.Answers, Told.Drives, Told.Serves}
-use Rattle.vs_play.specs.Ready.{IsDriven, IsOpened, IsReady, IsServed, PlayState, Plays, shown, world_in}
+use Rattle.vs_play.specs.{Answer.base_path, Answer.opened_play, Lines.event_played, Told.Answers, Told.Drives, Told.Serves, Ready.IsDriven}
+use Rattle.vs_play.specs.Ready.{IsOpened, IsReady, IsServed, PlayState, Plays, shown, world_in}
 use Rattle.vs_play.proofs.{Devices.served_new, Served.served_host, Served.served_rings}
 use Rattle.vs_script.specs.Outside as outside
 use Rattle.vs_script.specs.Play as script

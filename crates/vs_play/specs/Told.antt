@@ -6,9 +6,8 @@ use Rattle.vs_outside.specs.Host.{HostContents}
 use Rattle.vs_proxy_parts.specs.State.{ProxyState}
 use Rattle.vs_report.specs.GuestLines.{poll_text}
 use Rattle.vs_ring_list.specs.Ends.{Ends}
-use Rattle.vs_script.specs.Data.{bytes_of}
+use Rattle.vs_script.specs.{Data.bytes_of, Play.Event}
 use Rattle.vs_script.specs.Play as script
-use Rattle.vs_script.specs.Play.{Event}
 use Rattle.laws_world.specs.Calls as call
 use Rattle.laws_world.specs.{Calls.GuestCall, Calls.ReplyTo, Over.over_both, Over.over_lists, Plays.whole_call}
 use Rattle.vs_play.specs.{Lines.reply_text, Ready.IsDriven, Ready.IsServed}

@@ -4,24 +4,19 @@ use Rattle.std.proofs.Common.{◌≡◌, ℕ, zero, suc, ◌+◌, ◌≤◌, Boo
 use Rattle.std.proofs.Common.{arith}
 use Rattle.vs_contents.specs.CallTree.{Done, Ask, bind, for_each, while_up_to}
 use Rattle.vs_contents.proofs.Leads.{AllEnds, ends_bind, ends_weaker}
-use Rattle.vs_flow.specs.Table.{entry_under, slots}
+use Rattle.vs_flow.specs.{Table.entry_under, Table.slots, Table.refusal, declared.flow.Flow.Flow, declared.table.TableFault.TableFault}
 use Rattle.vs_outside.specs.declared.host_net.StreamWrite.{StreamWrite}
 use Rattle.vs_outside.specs.declared.host_net.StreamWrite.TheVariants as write
-use Rattle.vs_ring_port.specs.declared.device_ring.Next.{Next}
+use Rattle.vs_ring_port.specs.declared.{device_ring.Next.Next, failure.Failure.Failure, queue.Queue.TheVariants.Event}
+use Rattle.vs_ring_port.specs.Contents.{Take}
 use Rattle.vs_ring_port.specs.declared.device_ring.Next.TheVariants as next
 use Rattle.vs_wrap.specs.Wrap.{counted}
 use Rattle.vs_device_parts.specs.Calls.{DeviceTree, Ring, Label, CloseStream, WriteStream, ShutWrite}
-use Rattle.vs_device_parts.specs.State.{DeviceConnection, DeviceState, DeviceEntry}
-use Rattle.vs_device_parts.specs.Streams.{closing, leaving, tick_slot, tick_of, Writing, pump_of, pump_slot, write_answered, write_pending}
-use Rattle.vs_device_parts.specs.Streams.{shut_write, to_write, is_written_out}
-use Rattle.vs_device_parts.specs.Connections.{is_timed_out, cut_off, stream_closed, with_connection, with_fault, after_leaving, with_client}
+use Rattle.vs_device_parts.specs.{State.DeviceConnection, State.DeviceState, State.DeviceEntry, Streams.closing, Streams.leaving}
+use Rattle.vs_device_parts.specs.Streams.{tick_slot, tick_of, Writing, pump_of, pump_slot, write_answered, write_pending, shut_write}
+use Rattle.vs_device_parts.specs.{Streams.to_write, Streams.is_written_out, Connections.is_timed_out, Connections.cut_off}
+use Rattle.vs_device_parts.specs.Connections.{stream_closed, with_connection, with_fault, after_leaving, with_client}
 use Rattle.vs_device_parts.specs.{Receiving.event_on, Receiving.pay_event_of, Turns.open_of}
-use Rattle.vs_flow.specs.declared.flow.Flow.{Flow}
-use Rattle.vs_flow.specs.declared.table.TableFault.{TableFault}
-use Rattle.vs_flow.specs.Table.{refusal}
-use Rattle.vs_ring_port.specs.declared.failure.Failure.{Failure}
-use Rattle.vs_ring_port.specs.declared.queue.Queue.TheVariants.{Event}
-use Rattle.vs_ring_port.specs.Contents.{Take}
 use Rattle.vs_proxy_parts.specs.Turning.{CountsFew}
 
 pub one_more : (n : ℕ) → counted n ≤ n + 1

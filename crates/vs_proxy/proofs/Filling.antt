@@ -4,27 +4,23 @@ use Rattle.std.proofs.Common.{◌≡◌, ℕ, ◌+◌, ◌≤◌, ◌==◌, Bool
 use Rattle.vs_contents.specs.CallTree.{Done, Ask, bind, for_each, while_up_to}
 use Rattle.vs_contents.proofs.Leads.{ends_bind, ends_weaker}
 use Rattle.vs_conn.specs.{End.owes_of, End.wanting_credit, End.with_payload_sent, Headers.owed_header, Headers.payload_header}
-use Rattle.vs_conn.specs.declared.end.Owed.{Owed}
+use Rattle.vs_conn.specs.declared.end.{Owed.Owed, TheConstants.OWED_MAX}
 use Rattle.vs_conn.specs.declared.end.Owed.TheVariants as owed
-use Rattle.vs_conn.specs.declared.end.TheConstants.{OWED_MAX}
 use Rattle.vs_credit.specs.Credit.{free_of}
 use Rattle.vs_flow.specs.Table.{entry_under, slots}
 use Rattle.vs_header.specs.declared.Header.{Header}
 use Rattle.vs_outside.specs.declared.host_net.StreamRead.{StreamRead}
 use Rattle.vs_outside.specs.declared.host_net.StreamRead.TheVariants as read
 use Rattle.vs_replies.specs.declared.Reply.{Reply}
-use Rattle.vs_ring_port.specs.Contents.{Take}
-use Rattle.vs_ring_port.specs.declared.device_ring.{Chain.Chain, Next.Next}
+use Rattle.vs_ring_port.specs.{Contents.Take, declared.device_ring.Chain.Chain, declared.device_ring.Next.Next}
+use Rattle.vs_ring_port.specs.declared.{failure.Failure.Failure, queue.Queue.TheVariants.Rx}
 use Rattle.vs_ring_port.specs.declared.device_ring.Next.TheVariants as next
-use Rattle.vs_ring_port.specs.declared.failure.Failure.{Failure}
-use Rattle.vs_ring_port.specs.declared.queue.Queue.TheVariants.{Rx}
-use Rattle.vs_device_parts.specs.declared.answers.Filled.{Filled}
-use Rattle.vs_device_parts.specs.Calls.{DeviceTree, Ring, ReadStream}
+use Rattle.vs_device_parts.specs.{declared.answers.Filled.Filled, Calls.DeviceTree, Calls.Ring, Calls.ReadStream}
 use Rattle.vs_device_parts.specs.Connections.{with_connection, with_fault, route_to_guest, cut_off}
-use Rattle.vs_device_parts.specs.{State.DeviceEntry, State.DeviceState, Streams.closing}
-use Rattle.vs_device_parts.specs.Receiving.{Filling, after_paying, fill_rx_of, filled_of, hold, holding, may_read, put_on, put_owed}
-use Rattle.vs_device_parts.specs.Receiving.{put_packet, put_payload, put_reply, put_reply_of, read_answered, read_room, read_stream}
-use Rattle.vs_device_parts.specs.Receiving.{read_with_chain, reply_header, round_from, serve_slot}
+use Rattle.vs_device_parts.specs.{State.DeviceEntry, State.DeviceState, Streams.closing, Receiving.Filling, Receiving.after_paying}
+use Rattle.vs_device_parts.specs.Receiving.{fill_rx_of, filled_of, hold, holding, may_read, put_on, put_owed, put_packet, put_payload}
+use Rattle.vs_device_parts.specs.Receiving.{put_reply, put_reply_of, read_answered, read_room, read_stream, read_with_chain, reply_header}
+use Rattle.vs_device_parts.specs.Receiving.{round_from, serve_slot}
 use Rattle.vs_proxy_parts.specs.Turning.{CountsFew}
 use Rattle.vs_proxy.proofs.Counting.{Ends, closing_few, keeps_bind, keeps_each, keeps_while, leaving_few}
 

@@ -6,18 +6,17 @@ use Rattle.vs_contents.proofs.Leads.{ends_bind, ends_weaker}
 use Rattle.vs_conn.specs.{End.verdict_of, End.is_of, End.is_reset, declared.end.Verdict.Verdict}
 use Rattle.vs_flow.specs.{Flow.is_assigned, Table.entry_of, Table.has_place}
 use Rattle.vs_header.specs.{Op.op_number, Packet.header_of, declared.Header.Header, declared.TheConstants.HEADER_LEN}
-use Rattle.vs_header.specs.{declared.Op.TheVariants.Request, declared.Kind.TheVariants.Stream}
+use Rattle.vs_header.specs.declared.{Op.TheVariants.Request, Kind.TheVariants.Stream}
 use Rattle.vs_outside.specs.declared.host_net.Dialed.{Dialed}
 use Rattle.vs_page.specs.{Log.flow_to_host, Log.Device, Open.is_dropped}
 use Rattle.vs_replies.specs.Owed.{reply_to}
 use Rattle.vs_ring_port.specs.{Contents.Take, Contents.Return, declared.device_ring.Chain.Chain, declared.device_ring.Next.Next}
-use Rattle.vs_ring_port.specs.{declared.failure.Failure.Failure, declared.queue.Queue.TheVariants.Tx}
+use Rattle.vs_ring_port.specs.declared.{failure.Failure.Failure, queue.Queue.TheVariants.Tx}
 use Rattle.vs_uds.specs.Path.{path_of}
-use Rattle.vs_device_parts.specs.{declared.answers.Taken.Taken, Calls.DeviceTree, Calls.Ring, Calls.Dial}
-use Rattle.vs_device_parts.specs.{Connections.with_connection, Connections.with_reply, State.DeviceEntry, State.DeviceState}
-use Rattle.vs_device_parts.specs.Transmitting.{dial_answered, failing, heard, on_header, on_known, on_next, on_packet, on_unknown, refused}
-use Rattle.vs_device_parts.specs.Transmitting.{take_tx_of, try_request, unknown_why}
-use Rattle.vs_device_parts.specs.Streams.{leaving}
+use Rattle.vs_device_parts.specs.{declared.answers.Taken.Taken, Calls.DeviceTree, Calls.Ring, Calls.Dial, Connections.with_connection}
+use Rattle.vs_device_parts.specs.{Connections.with_reply, State.DeviceEntry, State.DeviceState, Transmitting.dial_answered}
+use Rattle.vs_device_parts.specs.Transmitting.{failing, heard, on_header, on_known, on_next, on_packet, on_unknown, refused, take_tx_of}
+use Rattle.vs_device_parts.specs.{Transmitting.try_request, Transmitting.unknown_why, Streams.leaving}
 use Rattle.vs_limits.specs.declared.TheConstants.{DEVICE_REPLIES}
 use Rattle.vs_wrap.specs.Wrap.{counted}
 use Rattle.vs_proxy_parts.specs.Turning.{CountsFew}

@@ -4,15 +4,14 @@ ghost use Rattle.std.specs.Prelude.{◌≡◌, ◌≤◌, ◌<◌, ◌+◌, ◌^
 ghost use Rattle.std.specs.Option.{ForSome};
 ghost use Rattle.vs_contents.specs.CallTree.{Leads, for_each};
 ghost use Rattle.vs_limits.specs.declared.TheConstants.{BUF_ALLOC, GUEST_CID_MIN, GUEST_CID_MAX};
-ghost use Rattle.vs_ring_port.specs.EndLog.{EndLog};
-ghost use Rattle.vs_ring_port.specs.declared.failure.Failure.{Failure};
+ghost use Rattle.vs_ring_port.specs.{EndLog.EndLog, declared.failure.Failure.Failure};
 ghost use Rattle.vs_device_parts.specs.Playing.{IsItsRing, MayRun, MayRunOnHost, Runs, RunsOnHost, situation};
 ghost use Rattle.vs_device_parts.specs.{Turns.counters_of, Turns.table_shown, State.DeviceEntry};
 ghost use Rattle.laws_device_streams.specs.Streams.{HasStreams};
 ghost use Rattle.laws_device.specs.Honest.{AgreesWith, IsLeftOpen};
 ghost use Rattle.laws_proxy.specs.{Honest.IsProxyWith, Order.IsInOrder};
-ghost use Rattle.vs_proxy_parts.specs.{Handshakes.streams_of, State.ProxyState, Turning.turning_of};
-ghost use Rattle.vs_proxy_parts.specs.Turns.{close_handshake, proxy_reset_of, turn_of, turned};
+ghost use Rattle.vs_proxy_parts.specs.{Handshakes.streams_of, State.ProxyState, Turning.turning_of, Turns.close_handshake};
+ghost use Rattle.vs_proxy_parts.specs.Turns.{proxy_reset_of, turn_of, turned};
 ghost use Rattle.laws_proxy_bytes.specs.{Made.Made, Made.Makes, Packets.AreJudged, Told.AreAccounted, Told.StayAccounted};
 ghost use Rattle.vs_proxy_parts.specs.declared.answers.Turn.TheVariants as turn;
 

@@ -1,8 +1,7 @@
 //! A client's stream whose line `CONNECT PORT` isn't whole yet.
 
 ghost use Rattle.std.specs.Prelude.{◌≡◌, ◌==◌, []};
-ghost use Rattle.vs_uds.specs.{ConnectLine.connect_step, Reading.fed};
-ghost use Rattle.vs_uds.specs.declared.connect.TheConstants.{CONNECT_MAX};
+ghost use Rattle.vs_uds.specs.{ConnectLine.connect_step, Reading.fed, declared.connect.TheConstants.CONNECT_MAX};
 
 use std::marker::Model;
 use vs_uds::{ConnectLine, Step};

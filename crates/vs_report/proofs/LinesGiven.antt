@@ -5,8 +5,7 @@ use Rattle.std.proofs.Math.Seq.{take-append-add}
 use Rattle.std.proofs.lemmas.List.{length-append, take-append-le}
 use Rattle.vs_outside.specs.Faults.{CountsFault}
 use Rattle.vs_peer.specs.Pieces.{Emits, EmitsSome}
-use Rattle.vs_report.specs.Gives.{EmitsLines, GivesLines, joined}
-use Rattle.vs_report.specs.declared.giving.GiveError.{GiveError}
+use Rattle.vs_report.specs.{Gives.EmitsLines, Gives.GivesLines, Gives.joined, declared.giving.GiveError.GiveError}
 use Rattle.vs_report.specs.declared.giving.GiveError.TheVariants as fault
 use Rattle.vs_peer.proofs.Pieces.{emits_append}
 

@@ -1,7 +1,6 @@
 -- The answer of a script as a whole.
 use Rattle.std.specs.Prelude.{ℕ, List, [], ◌∷◌, ◌++◌, codes}
-use Rattle.vs_script.specs.Fault.{refused_text}
-use Rattle.vs_script.specs.declared.fault.Refused.{Refused}
+use Rattle.vs_script.specs.{Fault.refused_text, declared.fault.Refused.Refused}
 
 -- The lines that are printed, each with its LF, and the status.
 pub record Answer : Type 0 where

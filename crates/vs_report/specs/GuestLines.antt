@@ -1,21 +1,16 @@
 -- What the lines print that are calls of the guest's driver, each with its LF.
 use Rattle.std.specs.Prelude.{ℕ, Bool, true, false, List, ◌++◌, codes, decimal, Option, Some, None, Result, Ok, Err}
 use Rattle.vs_flow.specs.declared.flow.Flow.{Flow}
-use Rattle.vs_driver_parts.specs.declared.answers.Accepted.{Accepted}
+use Rattle.vs_driver_parts.specs.declared.answers.{Accepted.Accepted, Closed.Closed, ConnectError.ConnectError}
+use Rattle.vs_driver_parts.specs.declared.answers.{ConnectionState.ConnectionState, ListenError.ListenError, Polled.Polled}
+use Rattle.vs_driver_parts.specs.declared.answers.{Received.Received, Sent.Sent, Shut.Shut}
 use Rattle.vs_driver_parts.specs.declared.answers.Accepted.TheVariants as accepted
-use Rattle.vs_driver_parts.specs.declared.answers.Closed.{Closed}
 use Rattle.vs_driver_parts.specs.declared.answers.Closed.TheVariants as closed
-use Rattle.vs_driver_parts.specs.declared.answers.ConnectError.{ConnectError}
 use Rattle.vs_driver_parts.specs.declared.answers.ConnectError.TheVariants as refused
-use Rattle.vs_driver_parts.specs.declared.answers.ConnectionState.{ConnectionState}
 use Rattle.vs_driver_parts.specs.declared.answers.ConnectionState.TheVariants as state
-use Rattle.vs_driver_parts.specs.declared.answers.ListenError.{ListenError}
 use Rattle.vs_driver_parts.specs.declared.answers.ListenError.TheVariants as unlistened
-use Rattle.vs_driver_parts.specs.declared.answers.{Polled.Polled, Received.Received}
 use Rattle.vs_driver_parts.specs.declared.answers.Received.TheVariants as received
-use Rattle.vs_driver_parts.specs.declared.answers.Sent.{Sent}
 use Rattle.vs_driver_parts.specs.declared.answers.Sent.TheVariants as sent
-use Rattle.vs_driver_parts.specs.declared.answers.Shut.{Shut}
 use Rattle.vs_driver_parts.specs.declared.answers.Shut.TheVariants as shut
 use Rattle.vs_report.specs.Bytes.{data_text}
 

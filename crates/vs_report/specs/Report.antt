@@ -3,8 +3,7 @@ use Rattle.std.specs.Prelude.{ℕ, ◌+◌, List, [], ◌∷◌, ◌++◌, codes
 use Rattle.vs_device_parts.specs.declared.answers.Counters.{Counters}
 use Rattle.vs_flow.specs.declared.flow.Flow.{Flow}
 use Rattle.vs_outside.specs.{Host.Stream, HostBytes.wrote_after_connect, HostBytes.read_after_ok}
-use Rattle.vs_report.specs.Bytes.{counted_text}
-use Rattle.vs_report.specs.declared.giving.Totals.{Totals}
+use Rattle.vs_report.specs.{Bytes.counted_text, declared.giving.Totals.Totals}
 
 -- How many entries each table has.
 abbrev pub guest_open_text : ℕ → List ℕ

@@ -2,10 +2,8 @@
 use Rattle.std.proofs.Common.{◌≡◌, length, map, All, Contains, subst, sym}
 use Rattle.vs_guest_mem.specs.Memory.{Memory}
 use Rattle.vs_ring_port.specs.declared.device_ring.Chain.{Chain}
-use Rattle.vs_ring_plain.specs.declared.device.DeviceSide.TheInside.{Inside}
-use Rattle.vs_ring_plain.specs.declared.turns.QueueTurns.{QueueTurns}
-use Rattle.vs_ring_plain.specs.{PieceTable.HeldState, Device.DeviceState, Device.HeldChain, Device.chains_held}
-use Rattle.vs_ring_plain.specs.Side.{IsInOrder, IsSoundHold, state_in}
+use Rattle.vs_ring_plain.specs.{declared.device.DeviceSide.TheInside.Inside, declared.turns.QueueTurns.QueueTurns, PieceTable.HeldState}
+use Rattle.vs_ring_plain.specs.{Device.DeviceState, Device.HeldChain, Device.chains_held, Side.IsInOrder, Side.IsSoundHold, Side.state_in}
 
 -- a chain that is held
 pub held_of : (d : Inside) (now : DeviceState) (c : Chain) → state_in d ≡ now → Contains (chains_held now) c

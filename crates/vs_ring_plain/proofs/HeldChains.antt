@@ -9,21 +9,15 @@ use Rattle.std.proofs.lemmas.List.Sums.{fails_before_first, passes_at_first, pos
 use Rattle.std.proofs.lemmas.List.Quantifiers.{position-Some}
 use Rattle.std.proofs.lemmas.Bool.Decides.{nat_tests}
 use Rattle.vs_guest_mem.specs.Memory.{Memory, is_inside}
-use Rattle.vs_ring_port.specs.Chains.{same_chain, same_queue}
-use Rattle.vs_ring_port.specs.declared.device_ring.Chain.{Chain}
-use Rattle.vs_ring_port.specs.declared.queue.Queue.{Queue}
+use Rattle.vs_ring_port.specs.{Chains.same_chain, Chains.same_queue, declared.device_ring.Chain.Chain, declared.queue.Queue.Queue}
 use Rattle.vs_ring_port.specs.declared.queue.Queue.TheVariants.{Rx, Tx, Event}
-use Rattle.vs_ring_plain.specs.declared.holds.{Hold.Hold, HeldPieces.HeldPieces}
-use Rattle.vs_ring_plain.specs.declared.holds.HeldPieces.TheVariants.{One, Listed}
-use Rattle.vs_ring_plain.specs.declared.piece.Piece.{Piece}
-use Rattle.vs_ring_plain.specs.declared.take.PlainQueue.{PlainQueue}
-use Rattle.vs_ring_plain.specs.Accesses.{over}
-use Rattle.vs_ring_plain.specs.Chain.{Taken, taking, total_len, NoChain, Failed, Chain as Found}
-use Rattle.vs_ring_plain.specs.Device.{HeldChain, chain_at, hold_of, is_busy, pieces_of, readable_in, without_hold, writable_in}
+use Rattle.vs_ring_plain.specs.declared.holds.{Hold.Hold, HeldPieces.HeldPieces, HeldPieces.TheVariants.One, HeldPieces.TheVariants.Listed}
+use Rattle.vs_ring_plain.specs.{declared.piece.Piece.Piece, declared.take.PlainQueue.PlainQueue, Accesses.over, Device.HeldChain}
+use Rattle.vs_ring_plain.specs.Device.{chain_at, hold_of, is_busy, pieces_of, readable_in, without_hold, writable_in}
 use Rattle.vs_ring_plain.specs.Held.{IsKept, KeepsAll, all_held, held_as, held_in, is_busy_with}
 use Rattle.vs_ring_plain.specs.PieceTable.{HeldState, PieceTable, is_listed, keeping, list_at, pieces_in, with_list}
-use Rattle.vs_ring_plain.specs.{Side.IsSoundHold, Take.ring_in}
-use Rattle.vs_ring_plain.specs.declared.holds.HeldChains.TheInside.{Inside}
+use Rattle.vs_ring_plain.specs.{Side.IsSoundHold, Take.ring_in, declared.holds.HeldChains.TheInside.Inside}
+use Rattle.vs_ring_plain.specs.Chain.{Taken, taking, total_len, NoChain, Failed, Chain as Found}
 use Rattle.vs_ring_plain.proofs.Outcomes.{IsGood, IsGoodTaken, good_taken}
 
 same_queue_refl : (q : Queue) → same_queue q q ≡ true

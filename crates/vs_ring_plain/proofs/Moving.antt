@@ -6,8 +6,7 @@ use Rattle.std.proofs.lemmas.Bool.Decides.{nat_tests}
 use Rattle.std.proofs.lemmas.List.{append-nil, drop-drop, take-append-drop}
 use Rattle.std.proofs.lemmas.List.Sums.{sum_by-cons}
 use Rattle.vs_guest_mem.specs.Memory.{Memory, accessed, after_access, after_write, bytes_at}
-use Rattle.vs_ring_plain.specs.declared.piece.Piece.{Piece}
-use Rattle.vs_ring_plain.specs.{Accesses.over, Chain.total_len, Pieces.reading, Pieces.spans, Pieces.writing}
+use Rattle.vs_ring_plain.specs.{declared.piece.Piece.Piece, Accesses.over, Chain.total_len, Pieces.reading, Pieces.spans, Pieces.writing}
 
 -- how much of a piece is skipped, and how much is used
 abbrev pub skipped : Piece → ℕ → ℕ

@@ -5,17 +5,14 @@ use Rattle.std.specs.Prelude.{sum_by, Result, Ok, Err, if◌then◌else◌, bit_
 use Rattle.byteorder.specs.Endian.{little_number}
 use Rattle.vs_guest_mem.specs.Memory.{is_within}
 use Rattle.vs_header.specs.declared.TheConstants.{HEADER_LEN}
-use Rattle.vs_layout.specs.{Entry.desc_of, Layout.avail_entry, Layout.avail_idx, Layout.desc_entry}
-use Rattle.vs_layout.specs.declared.entry.{Desc.Desc, TheConstants.DESC_LEN, TheConstants.INDIRECT, TheConstants.NEXT, TheConstants.WRITE}
+use Rattle.vs_layout.specs.{Entry.desc_of, Layout.avail_entry, Layout.avail_idx, Layout.desc_entry, declared.entry.Desc.Desc}
+use Rattle.vs_layout.specs.declared.entry.TheConstants.{DESC_LEN, INDIRECT, NEXT, WRITE}
 use Rattle.vs_layout.specs.declared.place.Areas.{Areas}
-use Rattle.vs_ring_plain.specs.declared.piece.Piece.{Piece}
-use Rattle.vs_ring_plain.specs.Accesses.{Accesses, Done, Read}
-use Rattle.vs_ring_port.specs.declared.failure.Failure.{Failure}
-use Rattle.vs_ring_port.specs.declared.failure.Failure.TheVariants.{AvailJump, HeadRange, Indirect, TxWritable, RxReadable, AddrRange}
-use Rattle.vs_ring_port.specs.declared.failure.Failure.TheVariants.{ChainLong, NextRange, TxShort, RxSmall, EventSmall, IndirectNested}
-use Rattle.vs_ring_port.specs.declared.failure.Failure.TheVariants.{IndirectNext, IndirectLen}
-use Rattle.vs_ring_port.specs.declared.queue.Queue.{Queue}
-use Rattle.vs_ring_port.specs.declared.queue.Queue.TheVariants.{Rx, Tx, Event}
+use Rattle.vs_ring_plain.specs.{declared.piece.Piece.Piece, Accesses.Accesses, Accesses.Done, Accesses.Read}
+use Rattle.vs_ring_port.specs.declared.failure.Failure.{Failure, TheVariants.AvailJump, TheVariants.HeadRange, TheVariants.Indirect}
+use Rattle.vs_ring_port.specs.declared.failure.Failure.TheVariants.{TxWritable, RxReadable, AddrRange, ChainLong, NextRange, TxShort}
+use Rattle.vs_ring_port.specs.declared.failure.Failure.TheVariants.{RxSmall, EventSmall, IndirectNested, IndirectNext, IndirectLen}
+use Rattle.vs_ring_port.specs.declared.queue.Queue.{Queue, TheVariants.Rx, TheVariants.Tx, TheVariants.Event}
 
 -- A queue of n places, in size bytes of memory from base on. `indirect`: whether indirect descriptors were agreed on.
 pub record Ring : Type 0 where

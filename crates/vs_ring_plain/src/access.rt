@@ -3,9 +3,8 @@ ghost use Rattle.std.specs.Prelude.{◌≡◌, ◌+◌, ◌<◌, ◌≤◌, All,
 ghost use Rattle.byteorder.specs.Endian.{little_bytes};
 ghost use Rattle.vs_guest_mem.specs.Memory.{accessed, after_access, after_write, bytes_at, is_inside};
 ghost use Rattle.vs_layout.specs.Layout.{AreInside};
-ghost use Rattle.vs_ring_plain.specs.{Accesses.over, Chain.total_len};
-ghost use Rattle.vs_ring_plain.specs.Pieces.{given, reading, returning, spans, writing};
-ghost use Rattle.vs_ring_plain.specs.Take.{ring_in, whole};
+ghost use Rattle.vs_ring_plain.specs.{Accesses.over, Chain.total_len, Pieces.given, Pieces.reading, Pieces.returning, Pieces.spans};
+ghost use Rattle.vs_ring_plain.specs.{Pieces.writing, Take.ring_in, Take.whole};
 
 use crate::piece::Piece;
 use crate::take::{PlainQueue, load_u16};

@@ -2,10 +2,9 @@
 ghost use Rattle.std.specs.Prelude.{codes, ◌≡◌, ℕ, ◌+◌, [], ◌∷◌, false, IsTrue, Some};
 ghost use Rattle.vs_guest_mem.specs.Memory.{is_within};
 ghost use Rattle.vs_layout.specs.Layout.{AreInside};
-ghost use Rattle.vs_ring_plain.specs.Accesses.{MakesAtMost, with_values};
-ghost use Rattle.vs_ring_plain.specs.Chain.{Ring, taking, Chain, NoChain, Failed, total_len};
-ghost use Rattle.vs_ring_plain.specs.Examples.{ring, word, desc, first_chain, first_chain_indirect};
-ghost use Rattle.vs_ring_plain.specs.Pieces.{reading, spans};
+ghost use Rattle.vs_ring_plain.specs.{Accesses.MakesAtMost, Accesses.with_values, Chain.Ring, Chain.taking, Chain.Chain, Chain.NoChain};
+ghost use Rattle.vs_ring_plain.specs.{Chain.Failed, Chain.total_len, Examples.ring, Examples.word, Examples.desc, Examples.first_chain};
+ghost use Rattle.vs_ring_plain.specs.{Examples.first_chain_indirect, Pieces.reading, Pieces.spans};
 ghost use Rattle.vs_ring_port.specs.declared.failure.Failure.TheVariants.{AvailJump, HeadRange, Indirect, TxWritable, RxReadable};
 ghost use Rattle.vs_ring_port.specs.declared.failure.Failure.TheVariants.{AddrRange, ChainLong, NextRange, TxShort, RxSmall, EventSmall};
 ghost use Rattle.vs_ring_port.specs.declared.failure.Failure.TheVariants.{IndirectNested, IndirectNext, IndirectLen};

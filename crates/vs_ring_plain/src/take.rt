@@ -3,9 +3,8 @@ ghost use Rattle.std.specs.Prelude.{◌≡◌, ◌+◌, ◌-◌, ◌*◌, ◌<�
 ghost use Rattle.byteorder.specs.Endian.{little_number};
 ghost use Rattle.vs_guest_mem.specs.Memory.{Memory, after_access, bytes_at, is_inside};
 ghost use Rattle.vs_layout.specs.{Entry.desc_of, Layout.AreInside};
-ghost use Rattle.vs_ring_plain.specs.Accesses.{Accesses, Done, over};
-ghost use Rattle.vs_ring_plain.specs.Chain.{Chain, Taken, checked, in_queue, in_table, piece_faults, table_faults, too_small, taking};
-ghost use Rattle.vs_ring_plain.specs.Chain.{total_len, unless};
+ghost use Rattle.vs_ring_plain.specs.{Accesses.Accesses, Accesses.Done, Accesses.over, Chain.Chain, Chain.Taken, Chain.checked};
+ghost use Rattle.vs_ring_plain.specs.Chain.{in_queue, in_table, piece_faults, table_faults, too_small, taking, total_len, unless};
 
 use crate::piece::Piece;
 use byteorder::{ByteOrder, LittleEndian};

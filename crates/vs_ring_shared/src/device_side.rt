@@ -2,8 +2,7 @@
 ghost use Rattle.std.specs.Prelude.{◌≡◌, ◌≤◌, ◌<◌, ◌+◌, Contains, IfNone, IfSome, drop, length, take};
 ghost use Rattle.vs_page.specs.{Fair.IsFairLog, Overwriting.overwritten};
 ghost use Rattle.vs_ring_port.specs.Chains.{IsLongEnough, bytes_in, chains_of, held_of, with_bytes};
-ghost use Rattle.vs_ring_port.specs.{EndLog.entries_returned, declared.queue.Queue.Queue};
-ghost use Rattle.vs_ring_port.specs.declared.queue.TheConstants.{QUEUE_SIZE_MAX};
+ghost use Rattle.vs_ring_port.specs.{EndLog.entries_returned, declared.queue.Queue.Queue, declared.queue.TheConstants.QUEUE_SIZE_MAX};
 ghost use Rattle.vs_ring_shared.specs.Sights.{Counts, TakesNone, TakesOne, after_resetting, after_returning, sight_in};
 ghost use Rattle.vs_page.specs.Log as log;
 

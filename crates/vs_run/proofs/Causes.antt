@@ -5,20 +5,16 @@ use Rattle.std.proofs.lemmas.Bool.Decides.{nat_tests}
 use Rattle.std.proofs.lemmas.List.{length-take}
 use Rattle.vs_hostile.specs.Answer.{answer_to as hostile_answer, hostile_of, status_of}
 use Rattle.vs_outside.specs.Faults.{CountsFault}
-use Rattle.vs_peer.specs.{Ends.EndsAs, Ends.Lent, Pieces.IsReading, Pieces.ReadsAll}
-use Rattle.vs_peer.specs.Statuses as statuses
-use Rattle.vs_peer.specs.{Statuses.Says, Text.no_memory_text}
+use Rattle.vs_peer.specs.{Ends.EndsAs, Ends.Lent, Pieces.IsReading, Pieces.ReadsAll, Statuses.Says, Text.no_memory_text}
 use Rattle.vs_peer.specs.declared.source.TheConstants.{SOURCE_MAX}
+use Rattle.vs_peer.specs.Statuses as statuses
 use Rattle.vs_play.specs.Answer.{answer_to as play_answer, play_of}
 use Rattle.vs_ring_port.specs.declared.failure.Failure.{Failure}
-use Rattle.vs_script.specs.{Field.named, Hostile.Hostile, Play.Event}
-use Rattle.vs_script.specs.Script.{Attacks, Plays, Runs, Saying, add_event, add_hostile, add_lines, lines_from, parse_of, unless_refused}
-use Rattle.vs_script.specs.Text.{words_of}
-use Rattle.vs_script.specs.declared.fault.{Why.Why, Refused.Refused, ParseFault.ParseFault}
-use Rattle.vs_script.specs.declared.fault.Why.TheVariants.{TooLong}
+use Rattle.vs_script.specs.{Field.named, Hostile.Hostile, Play.Event, Script.Attacks, Script.Plays, Script.Runs, Script.Saying}
+use Rattle.vs_script.specs.Script.{add_event, add_hostile, add_lines, lines_from, parse_of, unless_refused, IsRefused}
+use Rattle.vs_script.specs.{Text.words_of, declared.fault.Why.Why, declared.fault.Refused.Refused, declared.fault.ParseFault.ParseFault}
+use Rattle.vs_script.specs.declared.{fault.Why.TheVariants.TooLong, script.Command.Command}
 use Rattle.vs_script.specs.declared.fault.ParseFault.TheVariants as fault
-use Rattle.vs_script.specs.Script.{IsRefused}
-use Rattle.vs_script.specs.declared.script.Command.{Command}
 use Rattle.vs_script.specs.declared.script.Command.TheVariants as script_of
 use Rattle.vs_words.specs.Command as words
 use Rattle.vs_words.specs.declared.command.Rings.{Rings}

@@ -3,8 +3,7 @@ use Rattle.std.proofs.Common.{◌≡◌, inl, inr, ◌∙◌, ℕ, true, List, [
 use Rattle.vs_outside.specs.Faults.{CountsFault}
 use Rattle.vs_peer.specs.{Ends.EndsAs, Pieces.Emits, Text.no_memory_text}
 use Rattle.vs_peer.proofs.Pieces.{emits_none, emits_append}
-use Rattle.vs_report.specs.Gives.{GivesLines, joined}
-use Rattle.vs_report.specs.declared.giving.GiveError.{GiveError}
+use Rattle.vs_report.specs.{Gives.GivesLines, Gives.joined, declared.giving.GiveError.GiveError}
 use Rattle.vs_report.specs.declared.giving.GiveError.TheVariants as fault
 use Rattle.vs_report.proofs.LinesGiven.{some_append}
 use Rattle.vs_run.specs.Ends.{EndsAnswer, EndsWith}

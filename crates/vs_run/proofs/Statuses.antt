@@ -2,18 +2,16 @@
 use Rattle.std.proofs.Common.{◌≡◌, inl, inr, ◌∙◌, ℕ, zero, suc, true, nat_le, List, Option, Some, None, Result, Ok, Err, refl, sym, subst}
 use Rattle.vs_hostile.specs.Answer.{answer_to as hostile_answer, status_of}
 use Rattle.vs_outside.specs.Faults.{CountsFault}
-use Rattle.vs_peer.specs.Ends.{EndsAs, Lent}
+use Rattle.vs_peer.specs.{Ends.EndsAs, Ends.Lent, Statuses.Says, Text.no_memory_text, Text.read_fault_text}
 use Rattle.vs_peer.specs.Statuses as statuses
-use Rattle.vs_peer.specs.{Statuses.Says, Text.no_memory_text, Text.read_fault_text}
 use Rattle.vs_play.specs.Answer.{answer_to as play_answer}
 use Rattle.vs_ring_port.specs.declared.failure.Failure.{Failure}
-use Rattle.vs_script.specs.Script.{Attacks, Plays, Runs, Saying}
-use Rattle.vs_script.specs.declared.fault.Refused.{Refused}
+use Rattle.vs_script.specs.{Script.Attacks, Script.Plays, Script.Runs, Script.Saying, declared.fault.Refused.Refused}
 use Rattle.vs_script.specs.declared.script.Command.{Command}
 use Rattle.vs_script.specs.declared.script.Command.TheVariants as script_of
 use Rattle.vs_words.specs.Command as words
-use Rattle.vs_run.specs.Does.{Does, is_client, is_status}
-use Rattle.vs_run.specs.Ends.{EndsAnswer, EndsParsed, EndsScript, EndsWith, NoMemory, Read, SourceFails, refusal_text, usage_text}
+use Rattle.vs_run.specs.{Does.Does, Does.is_client, Does.is_status, Ends.EndsAnswer, Ends.EndsParsed, Ends.EndsScript, Ends.EndsWith}
+use Rattle.vs_run.specs.Ends.{NoMemory, Read, SourceFails, refusal_text, usage_text}
 
 -- A status with its cause.
 data Cause (command : Option words.Command) (old new : Lent) (r : ℕ) : Type 0 where

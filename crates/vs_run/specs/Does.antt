@@ -2,11 +2,9 @@
 use Rattle.std.specs.Prelude.{◌≡◌, ◌<◌, nat_le, ℕ, Bool, true, false, List, length, Option, Some, None, Err}
 use Rattle.vs_hostile.specs.Answer.{answer_to as hostile_answer}
 use Rattle.vs_outside.specs.Host.{HostContents}
-use Rattle.vs_peer.specs.{Ends.Lent, Statuses.NoFault, Statuses.Says, Statuses.is_faultless}
-use Rattle.vs_peer.specs.declared.source.TheConstants.{SOURCE_MAX}
+use Rattle.vs_peer.specs.{Ends.Lent, Statuses.NoFault, Statuses.Says, Statuses.is_faultless, declared.source.TheConstants.SOURCE_MAX}
 use Rattle.vs_play.specs.Answer.{answer_to as play_answer}
-use Rattle.vs_script.specs.Script.{parse_of}
-use Rattle.vs_script.specs.declared.fault.Refused.{Refused}
+use Rattle.vs_script.specs.{Script.parse_of, declared.fault.Refused.Refused}
 use Rattle.vs_script.specs.declared.script.Command.TheVariants as script_of
 use Rattle.vs_words.specs.Command.{Command, Play, Hostile, Peer}
 use Rattle.vs_run.specs.Ends.{EndsScript, EndsWith, usage_text}

@@ -3,12 +3,9 @@ use Rattle.std.specs.Prelude.{◌≡◌, ◌⊎◌, ℕ, true, List, ◌∷◌, 
 use Rattle.vs_outside.specs.Faults.{CountsFault}
 use Rattle.vs_peer.specs.{Ends.EndsAs, Pieces.ReadsAll, Text.no_memory_text, Text.read_fault_text}
 use Rattle.vs_report.specs.Gives.{joined}
-use Rattle.vs_script.specs.Fault.{refused_text}
-use Rattle.vs_script.specs.declared.fault.ParseFault.{ParseFault}
+use Rattle.vs_script.specs.{Fault.refused_text, declared.fault.ParseFault.ParseFault, Script.Saying, Script.parse_of}
+use Rattle.vs_script.specs.declared.{fault.Refused.Refused, script.Command.Command}
 use Rattle.vs_script.specs.declared.fault.ParseFault.TheVariants as fault
-use Rattle.vs_script.specs.Script.{Saying, parse_of}
-use Rattle.vs_script.specs.declared.fault.Refused.{Refused}
-use Rattle.vs_script.specs.declared.script.Command.{Command}
 
 abbrev pub usage_text : List ℕ
 usage_text = codes "usage\n"

@@ -11,10 +11,9 @@ ghost use Rattle.vs_report.specs.Gives.{joined};
 ghost use Rattle.vs_script.specs.{Play.Event, Hostile.Hostile as Attack, Script.Attacks, Script.Plays, Script.parse_of};
 ghost use Rattle.vs_script.specs.declared.script.Command.TheVariants as script_of;
 ghost use Rattle.vs_script.specs.declared.fault.Refused.{Refused};
-ghost use Rattle.vs_words.specs.Command.{Play, Hostile, Peer, command_of};
-ghost use Rattle.vs_words.specs.declared.command.Rings.{Rings};
-ghost use Rattle.vs_run.specs.Ends.{EndsAnswer, EndsWith, refusal_text, usage_text};
-ghost use Rattle.vs_run.specs.Does.{Does, IsNoScript, is_client, is_status, lent};
+ghost use Rattle.vs_words.specs.{Command.Play, Command.Hostile, Command.Peer, Command.command_of, declared.command.Rings.Rings};
+ghost use Rattle.vs_run.specs.{Ends.EndsAnswer, Ends.EndsWith, Ends.refusal_text, Ends.usage_text, Does.Does, Does.IsNoScript};
+ghost use Rattle.vs_run.specs.Does.{is_client, is_status, lent};
 
 use crate::ending::{ended, no_memory};
 use crate::hostile::hostile_script;

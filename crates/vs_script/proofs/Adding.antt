@@ -3,12 +3,9 @@ use Rattle.std.proofs.Common.{◌≡◌, ℕ, suc, zero, Bool, true, false, if�
 use Rattle.std.proofs.Common.{Err, refl, sym, ap, ◌∙◌, arith, slice_index_or, slice_set}
 use Rattle.std.specs.Prelude.{IfOk, IfErr}
 use Rattle.std.proofs.lemmas.List.{length-map, map-append}
-use Rattle.vs_script.specs.{App.Act, App.app_view, Script.pushed, Script.add_act, Field.named, Field.IsFault}
-use Rattle.vs_script.specs.declared.app.App.{App}
-use Rattle.vs_script.specs.declared.fault.{LineFault.LineFault, Why.Why}
-use Rattle.vs_script.specs.declared.fault.LineFault.TheVariants.{Refused, OutOfMemory}
-use Rattle.vs_script.specs.declared.fault.Why.TheVariants.{TooMany}
-use Rattle.vs_script.specs.declared.script.TheConstants.{MAX_INSTRUCTIONS}
+use Rattle.vs_script.specs.{App.Act, App.app_view, Script.pushed, Script.add_act, Field.named, Field.IsFault, declared.app.App.App}
+use Rattle.vs_script.specs.declared.fault.{LineFault.LineFault, Why.Why, LineFault.TheVariants.Refused, LineFault.TheVariants.OutOfMemory}
+use Rattle.vs_script.specs.declared.{fault.Why.TheVariants.TooMany, script.TheConstants.MAX_INSTRUCTIONS}
 
 module _ {X Y : Type 0} (view : X → Y) (most : ℕ) (xs : List X) (x : X) where
   -- it is the same before and after a view of each

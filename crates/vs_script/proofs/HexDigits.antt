@@ -5,8 +5,7 @@ use Rattle.std.specs.Result.{result_ok}
 use Rattle.std.proofs.lemmas.Bool.{cases_Bool}
 use Rattle.hex.specs.Hex.{decode_of, decode_pairs, digit_or_error, hex_digit_value, ◌>>=◌}
 use Rattle.hex.specs.declared.error.FromHexError.{FromHexError}
-use Rattle.vs_script.specs.Field.{of_both, bytes_of_digits, hex_of}
-use Rattle.vs_script.specs.declared.hex_word.TheConstants.{MAX_HEX}
+use Rattle.vs_script.specs.{Field.of_both, Field.bytes_of_digits, Field.hex_of, declared.hex_word.TheConstants.MAX_HEX}
 
 -- one byte and those behind it
 pair_then : (a b i : ℕ) (high low : Option ℕ) (rest : Result (List ℕ) FromHexError)

@@ -5,8 +5,7 @@ use Rattle.std.proofs.lemmas.{Bool.lt-leb, Bool.and_right, Bool.and_parts, Bool.
 use Rattle.std.specs.{Prelude.MatchResult, Result.result_ok, List.list_all, Char.is_ascii_digit, Str.IsUtf8, Str.all_ascii_digits}
 use Rattle.std.specs.Str.Parse.{digits_value, ParsesUnsigned}
 use Rattle.std.proofs.lemmas.Str.Parse.{IsNumeralModel, numerals_by_value, tells_all_ascii_digits, parse_digits}
-use Rattle.vs_script.specs.Field.{is_numeral, number_in}
-use Rattle.vs_script.specs.declared.number.TheConstants.{MAX_DIGITS}
+use Rattle.vs_script.specs.{Field.is_numeral, Field.number_in, declared.number.TheConstants.MAX_DIGITS}
 
 -- the test of each byte in turn
 pub all_ascii_digits-is : (word : List ℕ) → list_all is_ascii_digit word ≡ all_ascii_digits word

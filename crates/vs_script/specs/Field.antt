@@ -3,13 +3,10 @@ use Rattle.std.specs.Prelude.{◌≡◌, ℕ, ◌+◌, ◌*◌, ◌&&◌, nat_le
 use Rattle.std.specs.{Prelude.None, Prelude.option_map, Prelude.Result, Prelude.Ok, Prelude.Err, List.list_all, Str.all_ascii_digits}
 use Rattle.std.specs.Str.Parse.{digits_value}
 use Rattle.hex.specs.Hex.{hex_digit_value}
-use Rattle.vs_script.specs.{Text.is_empty, Text.is_graphic, Data.Content, Data.Given, Data.Fill}
-use Rattle.vs_script.specs.declared.fault.{Why.Why, LineFault.LineFault}
-use Rattle.vs_script.specs.declared.fault.Why.TheVariants.{BadWord, BadNumber, BadHex}
+use Rattle.vs_script.specs.{Text.is_empty, Text.is_graphic, Data.Content, Data.Given, Data.Fill, declared.fault.Why.Why}
+use Rattle.vs_script.specs.declared.fault.{LineFault.LineFault, Why.TheVariants.BadWord, Why.TheVariants.BadNumber, Why.TheVariants.BadHex}
 use Rattle.vs_script.specs.declared.fault.LineFault.TheVariants.{Refused, OutOfMemory}
-use Rattle.vs_script.specs.declared.number.TheConstants.{MAX_DIGITS}
-use Rattle.vs_script.specs.declared.words.TheConstants.{MAX_BITS}
-use Rattle.vs_script.specs.declared.hex_word.TheConstants.{MAX_HEX}
+use Rattle.vs_script.specs.declared.{number.TheConstants.MAX_DIGITS, words.TheConstants.MAX_BITS, hex_word.TheConstants.MAX_HEX}
 
 -- What reading a field of the words left of a line gives: its value and the words behind it, or the line's fault.
 abbrev pub Read : Type 0 → Type 0

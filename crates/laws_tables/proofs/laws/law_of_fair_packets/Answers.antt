@@ -1,6 +1,5 @@
 use Rattle.vs_page.specs.Log.{Driver, flow_got}
-use Rattle.laws_tables.proofs.Fair.{got_first, got_in_order, got_is_taken, got_not_refused, heard_all}
-use Rattle.laws_tables.proofs.Keeps.{has_room}
+use Rattle.laws_tables.proofs.{Fair.got_first, Fair.got_in_order, Fair.got_is_taken, Fair.got_not_refused, Fair.heard_all, Keeps.has_room}
 use Rattle.laws_tables.proofs.laws.law_of_fair_packets.Goals as goal
 
 pub returns-clause-in_order : goal.returns-clause-in_order

@@ -3,14 +3,12 @@ use Rattle.std.proofs.lemmas.Bool.Decides.{nat_tests}
 use Rattle.vs_contents.proofs.Leads.{leads_of}
 use Rattle.vs_credit.specs.Credit.{free_of}
 use Rattle.vs_flow.specs.Table.{entry_under, value_under}
-use Rattle.vs_device_parts.specs.{Calls.Allows, Filling.filling_of, Playing.MayRun, Playing.Runs, Playing.situation}
-use Rattle.vs_device_parts.specs.Receiving.{Filling, may_read, read_with_chain}
-use Rattle.vs_device_parts.specs.{State.DeviceConnection, State.DeviceEntry, State.DeviceState, Steps.puts_payload}
-use Rattle.vs_device_parts.specs.declared.fill.Fill.{Fill}
+use Rattle.vs_device_parts.specs.{Calls.Allows, Filling.filling_of, Playing.MayRun, Playing.Runs, Playing.situation, Receiving.Filling}
+use Rattle.vs_device_parts.specs.{Receiving.may_read, Receiving.read_with_chain, State.DeviceConnection, State.DeviceEntry}
+use Rattle.vs_device_parts.specs.{State.DeviceState, Steps.puts_payload, declared.fill.Fill.Fill}
 use Rattle.vs_device_parts.proofs.Under.{value_of}
-use Rattle.vs_device.proofs.Among.{same_among}
-use Rattle.vs_device.proofs.Reading.{IsToRead, if_some, may_step_read, read_stepped, reads_stream, same_entry, step_not_read}
-use Rattle.vs_device.proofs.Ordered.{step_streams}
+use Rattle.vs_device.proofs.{Among.same_among, Reading.IsToRead, Reading.if_some, Reading.may_step_read, Reading.read_stepped}
+use Rattle.vs_device.proofs.{Reading.reads_stream, Reading.same_entry, Reading.step_not_read, Ordered.step_streams}
 use Rattle.laws_device_streams.proofs.Stepping.{puts_payload_keeps}
 use Rattle.vs_device.proofs.steps.put_payload.Goals as goal
 

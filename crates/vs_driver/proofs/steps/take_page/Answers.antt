@@ -1,8 +1,7 @@
 use Rattle.std.proofs.Common.{subst, sym}
 use Rattle.vs_ring_port.specs.declared.queue.Queue.TheVariants.{Rx, Tx, Event}
-use Rattle.vs_driver_parts.specs.Conversations.{round_of, take_event, take_packet}
-use Rattle.vs_driver_parts.specs.Playing.{MayPublishAll, Plays}
-use Rattle.vs_driver_parts.specs.declared.tally.Tally.{Tally}
+use Rattle.vs_driver_parts.specs.{Conversations.round_of, Conversations.take_event, Conversations.take_packet, Playing.MayPublishAll}
+use Rattle.vs_driver_parts.specs.{Playing.Plays, declared.tally.Tally.Tally}
 use Rattle.vs_driver.proofs.Stepping.{back_stepped, event_stepped, may_take_event, may_take_packet, packet_stepped, page_taken}
 use Rattle.vs_driver.proofs.Stepping.{stays_honest}
 use Rattle.vs_driver.proofs.steps.take_page.Goals as goal

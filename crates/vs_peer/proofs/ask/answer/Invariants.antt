@@ -2,9 +2,7 @@ use Rattle.std.proofs.Common.{◌≡◌, [], false, length}
 use Rattle.std.specs.Option.{ForSome}
 use Rattle.vs_contents.specs.Contents.{Relates}
 use Rattle.vs_outside.specs.Host.{IsOpen}
-use Rattle.vs_uds.specs.{OkLine.ok_step, Reading.is_decided}
-use Rattle.vs_uds.specs.declared.ok.TheConstants.{OK_MAX}
-use Rattle.vs_uds.specs.declared.scan.Step.TheVariants.{More}
+use Rattle.vs_uds.specs.{OkLine.ok_step, Reading.is_decided, declared.ok.TheConstants.OK_MAX, declared.scan.Step.TheVariants.More}
 use Rattle.vs_peer.specs.Passing.{Moves}
 use Rattle.vs_peer.proofs.ask.answer.Given as goal
 

@@ -1,6 +1,5 @@
 use Rattle.std.proofs.Common.{refl, ◌≤◌, ◌<◌, length, rules}
-use Rattle.vs_peer.specs.Ends.{Met, TooLong}
-use Rattle.vs_peer.specs.declared.source.TheConstants.{SOURCE_MAX}
+use Rattle.vs_peer.specs.{Ends.Met, Ends.TooLong, declared.source.TheConstants.SOURCE_MAX}
 use Rattle.vs_peer.proofs.client.run.Goals as goal
 
 pub returns-then-len-gt-SOURCE_MAX : goal.returns-then-len-gt-SOURCE_MAX

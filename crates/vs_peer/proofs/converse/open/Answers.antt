@@ -1,8 +1,6 @@
 use Rattle.std.proofs.Common.{◌≡◌, Ok, Err, Result, sym, subst, ◌∙◌, arith, ℕ, List}
 use Rattle.vs_uds.specs.ConnectLine.{connect_text}
-use Rattle.vs_peer.specs.{Client.Opens, Asking.Asks}
-use Rattle.vs_peer.specs.declared.converse.Opened.{Opened}
-use Rattle.vs_peer.specs.declared.stop.Stop.{Stop}
+use Rattle.vs_peer.specs.{Client.Opens, Asking.Asks, declared.converse.Opened.Opened, declared.stop.Stop.Stop}
 use Rattle.vs_peer.proofs.Opening.{answer_fails, answered, ask_fails, asked_whole, dial_fails}
 use Rattle.vs_peer.proofs.converse.open.Goals as goal
 

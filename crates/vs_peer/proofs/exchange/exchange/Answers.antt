@@ -1,6 +1,5 @@
 use Rattle.std.proofs.Common.{◌≡◌, Err, Result, refl, subst, sym, ◌∙◌, arith}
-use Rattle.vs_peer.specs.Exchanging.{Exchanges}
-use Rattle.vs_peer.specs.declared.stop.Stop.{Stop}
+use Rattle.vs_peer.specs.{Exchanging.Exchanges, declared.stop.Stop.Stop}
 use Rattle.vs_peer.proofs.Exchanges.{done, fails, goes_on, starts, waits}
 use Rattle.vs_peer.proofs.exchange.exchange.Goals as goal
 

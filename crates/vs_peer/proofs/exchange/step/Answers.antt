@@ -1,7 +1,6 @@
 use Rattle.std.proofs.Common.{◌≡◌, Err, Result, subst, sym, arith}
 use Rattle.vs_outside.specs.Faults.{CountsFault}
-use Rattle.vs_peer.specs.{Failing.sink_failed, Exchanging.Steps, Exchanging.Leaves, Exchanging.Stepped}
-use Rattle.vs_peer.specs.declared.exchange.Progress.{Progress}
+use Rattle.vs_peer.specs.{Failing.sink_failed, Exchanging.Steps, Exchanging.Leaves, Exchanging.Stepped, declared.exchange.Progress.Progress}
 use Rattle.vs_peer.specs.declared.stop.Stop.{Stop}
 use Rattle.vs_peer.proofs.Exchanges.{sink_kept, step_fails, step_goes, write_fails}
 use Rattle.vs_peer.proofs.exchange.step.Goals as goal

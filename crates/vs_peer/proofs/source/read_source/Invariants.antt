@@ -1,6 +1,5 @@
 use Rattle.std.proofs.Common.{◌≡◌, ◌-◌, ◌+◌, vec_len}
-use Rattle.vs_peer.specs.Pieces.{ReadsOn}
-use Rattle.vs_peer.specs.declared.source.TheConstants.{SOURCE_MAX}
+use Rattle.vs_peer.specs.{Pieces.ReadsOn, declared.source.TheConstants.SOURCE_MAX}
 use Rattle.vs_peer.proofs.source.read_source.Given as goal
 
 -- what was read and what is left are what was left at first

@@ -1,7 +1,6 @@
 use Rattle.std.proofs.Common.{refl, subst}
 use Rattle.vs_device_parts.specs.Playing.{RunsOnHost}
-use Rattle.vs_proxy_parts.specs.{Handshakes.read_byte, State.Turning, Turning.turning_of}
-use Rattle.vs_proxy_parts.specs.declared.tally.Tally.{Tally}
+use Rattle.vs_proxy_parts.specs.{Handshakes.read_byte, State.Turning, Turning.turning_of, declared.tally.Tally.Tally}
 use Rattle.vs_proxy.proofs.Stepping.{line_streams}
 use Rattle.vs_proxy.proofs.steps.read_line.Goals as goal
 

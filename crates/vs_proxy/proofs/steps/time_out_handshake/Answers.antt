@@ -1,7 +1,6 @@
 use Rattle.std.proofs.Common.{refl, subst}
 use Rattle.vs_device_parts.specs.Playing.{RunsOnHost}
-use Rattle.vs_proxy_parts.specs.{Handshakes.tick_handshake, State.Turning, Turning.turning_of}
-use Rattle.vs_proxy_parts.specs.declared.tally.Tally.{Tally}
+use Rattle.vs_proxy_parts.specs.{Handshakes.tick_handshake, State.Turning, Turning.turning_of, declared.tally.Tally.Tally}
 use Rattle.vs_proxy.proofs.Stepping.{late_streams}
 use Rattle.vs_proxy.proofs.steps.time_out_handshake.Goals as goal
 

@@ -1,8 +1,7 @@
 use Rattle.std.proofs.Common.{◌≡◌, ℕ, List, Result, Err, arith, sym, ap, ◌∙◌}
 use Rattle.vs_guest_mem.specs.Memory.{bytes_at}
 use Rattle.vs_layout.specs.Entry.{desc_of}
-use Rattle.vs_ring_plain.specs.declared.piece.Piece.{Piece}
-use Rattle.vs_ring_plain.specs.{Accesses.over, Take.comes_to}
+use Rattle.vs_ring_plain.specs.{declared.piece.Piece.Piece, Accesses.over, Take.comes_to}
 use Rattle.vs_ring_port.specs.declared.failure.Failure.{Failure}
 use Rattle.vs_ring_plain.proofs.Walk.{along_queue, exit_range, exit_table_fault, exit_to_table, exit_fault, exit_ends, goes_on}
 use Rattle.vs_ring_plain.proofs.take.walk_queue.Goals as goal

@@ -3,10 +3,9 @@ use Rattle.std.proofs.Common.{◌≡◌, length, Option, Some, None, refl, sym, 
 use Rattle.vs_contents.specs.CallTree.{Done, bind, while_up_to}
 use Rattle.vs_contents.proofs.{Leads.leads_of, Leads.leads_bind, Conditions.may_first, Conditions.may_rest, Conditions.may_of}
 use Rattle.vs_ring_port.specs.declared.failure.Failure.{Failure}
-use Rattle.vs_device_parts.specs.{Calls.DeviceTree, Calls.Allows, Filling.filling_of, Filling.serve_rest}
-use Rattle.vs_device_parts.specs.Playing.{CanMake, situation}
-use Rattle.vs_device_parts.specs.{Receiving.Filling, Receiving.filled_of, Receiving.fill_rx_of, Receiving.put_reply, State.DeviceState}
-use Rattle.vs_device_parts.specs.declared.answers.Filled.{Filled}
+use Rattle.vs_device_parts.specs.{Calls.DeviceTree, Calls.Allows, Filling.filling_of, Filling.serve_rest, Playing.CanMake}
+use Rattle.vs_device_parts.specs.{Playing.situation, Receiving.Filling, Receiving.filled_of, Receiving.fill_rx_of, Receiving.put_reply}
+use Rattle.vs_device_parts.specs.{State.DeviceState, declared.answers.Filled.Filled}
 use Rattle.vs_device.proofs.{Ordered.fill_honest, Ordered.fill_streams, Accounted.fill_accounted}
 use Rattle.vs_device.proofs.device.Device.fill_rx.Goals as goal
 

@@ -1,7 +1,6 @@
 use Rattle.std.proofs.Common.{◌≡◌, ◌-◌, true, false, List, Contains, nat_lt, sym, subst}
 use Rattle.vs_header.specs.declared.{Header.Header, TheConstants.HEADER_LEN}
-use Rattle.vs_ring_port.specs.Contents.{Read}
-use Rattle.vs_ring_port.specs.declared.device_ring.Chain.{Chain}
+use Rattle.vs_ring_port.specs.{Contents.Read, declared.device_ring.Chain.Chain}
 use Rattle.vs_device_parts.specs.{Calls.Allows, Calls.Ring, State.DeviceState, Playing.situation}
 use Rattle.vs_device.proofs.Takings.{may_header, may_packet, read_header, too_short, took_packet}
 use Rattle.vs_device.proofs.device.Device.hear.Goals as goal

@@ -1,10 +1,9 @@
 use Rattle.std.proofs.Common.{◌≡◌, ℕ, false, Some, sym, ap, subst, ◌∙◌}
-use Rattle.vs_flow.specs.Table.{entry_of, entry_under}
-use Rattle.vs_flow.specs.declared.flow.Flow.{Flow}
+use Rattle.vs_flow.specs.{Table.entry_of, Table.entry_under, declared.flow.Flow.Flow}
 use Rattle.vs_header.specs.declared.Header.{Header}
 use Rattle.vs_page.specs.Log.{flow_to_host}
-use Rattle.vs_device_parts.specs.{State.DeviceEntry, State.DeviceState, Playing.MayRun, Playing.situation}
-use Rattle.vs_device_parts.specs.Taking.{known_packet, is_not_for_host}
+use Rattle.vs_device_parts.specs.{State.DeviceEntry, State.DeviceState, Playing.MayRun, Playing.situation, Taking.known_packet}
+use Rattle.vs_device_parts.specs.Taking.{is_not_for_host}
 use Rattle.vs_flow.proofs.Lookups.{entry_of_found}
 use Rattle.vs_device_parts.proofs.Under.{mapped}
 use Rattle.vs_device.proofs.Takings.{may_be_known, was_known}

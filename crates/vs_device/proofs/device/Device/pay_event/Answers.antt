@@ -1,9 +1,7 @@
 use Rattle.std.proofs.Common.{◌≡◌, Bool, true, false, None, Result, Ok, Err, refl, sym, ap, subst, rules}
-use Rattle.vs_ring_port.specs.Contents.{Take}
-use Rattle.vs_ring_port.specs.declared.device_ring.Next.{Next}
-use Rattle.vs_ring_port.specs.declared.device_ring.Next.TheVariants as next
-use Rattle.vs_ring_port.specs.declared.failure.Failure.{Failure}
+use Rattle.vs_ring_port.specs.{Contents.Take, declared.device_ring.Next.Next, declared.failure.Failure.Failure}
 use Rattle.vs_ring_port.specs.declared.queue.Queue.TheVariants.{Event}
+use Rattle.vs_ring_port.specs.declared.device_ring.Next.TheVariants as next
 use Rattle.vs_device_parts.specs.{Calls.Allows, Calls.Ring, Playing.MayRun, Playing.situation, State.DeviceState, Receiving.event_on}
 use Rattle.vs_device.proofs.{EventPaying.may_event, EventPaying.took_event, EventPaying.by_chain, Ordered.pay_honest}
 use Rattle.vs_device.proofs.Accounted.{pay_accounted}

@@ -1,11 +1,9 @@
 use Rattle.std.proofs.Common.{◌≡◌, true, false, Some, sym, ap, subst, ◌∙◌}
-use Rattle.vs_conn.specs.{End.owes_of, Headers.owed_header}
-use Rattle.vs_conn.specs.declared.end.Owed.{Owed}
+use Rattle.vs_conn.specs.{End.owes_of, Headers.owed_header, declared.end.Owed.Owed}
 use Rattle.vs_flow.specs.Table.{entry_under}
 use Rattle.vs_header.specs.declared.Header.{Header}
-use Rattle.vs_device_parts.specs.{Connections.route_to_guest, Filling.filling_of, Filling.put_header}
-use Rattle.vs_device_parts.specs.{Playing.MayRun, Playing.Runs, Playing.situation, Receiving.Filling, Receiving.after_paying}
-use Rattle.vs_device_parts.specs.State.{DeviceEntry, DeviceState}
+use Rattle.vs_device_parts.specs.{Connections.route_to_guest, Filling.filling_of, Filling.put_header, Playing.MayRun, Playing.Runs}
+use Rattle.vs_device_parts.specs.{Playing.situation, Receiving.Filling, Receiving.after_paying, State.DeviceEntry, State.DeviceState}
 use Rattle.vs_device.proofs.{Paying.some_and, Putting.owed_put, Putting.owed_waits, Putting.may_owed, Putting.may_pay}
 use Rattle.vs_device.proofs.device.Device.put_owed.Goals as goal
 

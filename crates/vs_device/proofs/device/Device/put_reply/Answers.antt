@@ -2,8 +2,7 @@ use Rattle.std.proofs.Common.{◌≡◌, true, false, Some, List, drop, sym, ap,
 use Rattle.std.specs.List.{slice_get}
 use Rattle.vs_contents.proofs.Leads.{leads_to}
 use Rattle.vs_header.specs.declared.Header.{Header}
-use Rattle.vs_replies.specs.Owed.{OwedReplies}
-use Rattle.vs_replies.specs.declared.Reply.{Reply}
+use Rattle.vs_replies.specs.{Owed.OwedReplies, declared.Reply.Reply}
 use Rattle.vs_device_parts.specs.{Calls.Allows, Filling.filling_of, Filling.put_header, Playing.situation, Playing.MayRun, Playing.Runs}
 use Rattle.vs_device_parts.specs.{Receiving.Filling, Receiving.put_reply, Receiving.reply_header, State.DeviceState}
 use Rattle.vs_device.specs.contracts.device.Device.{the_view}

@@ -11,13 +11,12 @@ use Rattle.vs_outside.specs.declared.host_net.StreamRead.TheVariants as read
 use Rattle.vs_ring_port.specs.declared.device_ring.Chain.{Chain}
 use Rattle.vs_wrap.specs.Wrap.{counted}
 use Rattle.vs_device_parts.specs.{Calls.Allows, Connections.with_fault, Connections.after_shut, Connections.cut_off, Filling.filling_of}
-use Rattle.vs_device_parts.specs.Playing.{CanMake, MayRun, Runs, situation}
-use Rattle.vs_device_parts.specs.Receiving.{Filling, may_read, read_room, put_payload}
-use Rattle.vs_device_parts.specs.{State.DeviceConnection, State.DeviceEntry, State.DeviceState, Streams.closing}
+use Rattle.vs_device_parts.specs.{Playing.CanMake, Playing.MayRun, Playing.Runs, Playing.situation, Receiving.Filling, Receiving.may_read}
+use Rattle.vs_device_parts.specs.{Receiving.read_room, Receiving.put_payload, State.DeviceConnection, State.DeviceEntry, State.DeviceState}
+use Rattle.vs_device_parts.specs.Streams.{closing}
 use Rattle.vs_device.specs.contracts.device.Device.{the_view}
-use Rattle.vs_device.proofs.Leaving.{changed, may_close}
-use Rattle.vs_device.proofs.Reading.{answered, may_ask, may_answered, if_some, at_some, same_read, fits}
-use Rattle.vs_device.proofs.Among.{held_one}
+use Rattle.vs_device.proofs.{Leaving.changed, Leaving.may_close, Reading.answered, Reading.may_ask, Reading.may_answered, Reading.if_some}
+use Rattle.vs_device.proofs.{Reading.at_some, Reading.same_read, Reading.fits, Among.held_one}
 use Rattle.vs_device_parts.proofs.Under.{has_slot, value_of, under}
 use Rattle.laws_device.proofs.Filling.{can_send}
 use Rattle.vs_device.proofs.device.Device.read_with_chain.Goals as goal

@@ -1,6 +1,5 @@
 use Rattle.std.proofs.Common.{◌≡◌, ℕ, true, false, List, subst, rules}
-use Rattle.vs_flow.specs.{Table.has_place, Flow.is_assigned}
-use Rattle.vs_flow.specs.declared.flow.Flow.{Flow}
+use Rattle.vs_flow.specs.{Table.has_place, Flow.is_assigned, declared.flow.Flow.Flow}
 use Rattle.vs_header.specs.declared.Header.{Header}
 use Rattle.vs_uds.specs.Path.{path_of}
 use Rattle.vs_device_parts.specs.{Calls.Allows, Calls.Dial, State.DeviceState, Playing.situation}

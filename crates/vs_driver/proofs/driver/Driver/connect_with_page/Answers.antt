@@ -1,8 +1,7 @@
 use Rattle.std.proofs.Common.{◌≡◌, ℕ, true, sym, subst, rules, Ok}
-use Rattle.vs_header.specs.Packet.{header_bytes}
-use Rattle.vs_driver_parts.specs.Playing.{MayPublishAll, Plays}
-use Rattle.vs_driver_parts.specs.Conversations.{post_packet, has_page, connect_with_page}
-use Rattle.vs_header.specs.declared.Header.{Header}
+use Rattle.vs_header.specs.{Packet.header_bytes, declared.Header.Header}
+use Rattle.vs_driver_parts.specs.{Playing.MayPublishAll, Playing.Plays, Conversations.post_packet, Conversations.has_page}
+use Rattle.vs_driver_parts.specs.Conversations.{connect_with_page}
 use Rattle.vs_driver.proofs.Connecting.{may_post_request, connect_posted}
 use Rattle.vs_driver.proofs.driver.Driver.connect_with_page.Goals as goal
 

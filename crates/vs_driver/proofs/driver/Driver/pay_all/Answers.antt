@@ -1,10 +1,9 @@
 use Rattle.std.proofs.Common.{◌≡◌, ℕ, List, ◌<◌, ◌≤◌, length, sym, ap, subst, ◌∙◌, rules, arith}
-use Rattle.vs_ring_port.specs.declared.queue.Queue.TheVariants.{Tx}
-use Rattle.vs_driver_parts.specs.{State.DriverState, Playing.MayPublishAll, Playing.Plays}
-use Rattle.vs_driver_parts.specs.Conversations.{Round, round_of, pay_slot}
+use Rattle.vs_ring_port.specs.{declared.queue.Queue.TheVariants.Tx, Counts.no_counts, Counts.with_count}
+use Rattle.vs_driver_parts.specs.{State.DriverState, Playing.MayPublishAll, Playing.Plays, Conversations.Round, Conversations.round_of}
+use Rattle.vs_driver_parts.specs.Conversations.{pay_slot}
 use Rattle.vs_contents.specs.CallTree.{for_each}
 use Rattle.vs_flow.specs.Table.{slots}
-use Rattle.vs_ring_port.specs.Counts.{no_counts, with_count}
 use Rattle.vs_driver.proofs.Paying.{each_more, may_each_step, may_each_more, each_end}
 use Rattle.vs_driver.proofs.driver.Driver.pay_all.Goals as goal
 

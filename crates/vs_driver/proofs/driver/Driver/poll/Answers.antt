@@ -1,10 +1,9 @@
 use Rattle.std.proofs.Common.{refl}
 use Rattle.vs_ring_port.specs.declared.queue.Queue.TheVariants.{Rx, Event}
 use Rattle.vs_contents.proofs.{Leads.leads_bind, Conditions.may_first, Conditions.may_rest}
-use Rattle.vs_driver_parts.specs.{State.DriverState, Playing.CanMake, Playing.RingAllows}
-use Rattle.vs_driver_parts.specs.Conversations.{reap_all, Round, round_of, take_all, take_event, take_packet, poll_packets, poll_reaps}
-use Rattle.vs_driver_parts.specs.Conversations.{poll_puts, polled, put_all}
-use Rattle.vs_driver_parts.specs.declared.answers.Polled.{Polled}
+use Rattle.vs_driver_parts.specs.{State.DriverState, Playing.CanMake, Playing.RingAllows, Conversations.reap_all, Conversations.Round}
+use Rattle.vs_driver_parts.specs.Conversations.{round_of, take_all, take_event, take_packet, poll_packets, poll_reaps, poll_puts, polled}
+use Rattle.vs_driver_parts.specs.{Conversations.put_all, declared.answers.Polled.Polled}
 use Rattle.laws_driver.proofs.Calls.{poll_honest, poll_may}
 use Rattle.vs_driver.proofs.driver.Driver.poll.Goals as goal
 

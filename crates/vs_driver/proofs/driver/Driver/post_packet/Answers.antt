@@ -1,7 +1,6 @@
 use Rattle.std.proofs.Common.{◌≡◌, ℕ, List, ◌++◌, ap, subst}
 use Rattle.vs_header.specs.Packet.{header_bytes}
-use Rattle.vs_ring_port.specs.declared.queue.Queue.TheVariants.{Tx}
-use Rattle.vs_ring_port.specs.DriverCalls.{Stage}
+use Rattle.vs_ring_port.specs.{declared.queue.Queue.TheVariants.Tx, DriverCalls.Stage}
 use Rattle.vs_driver_parts.specs.{PageCounts.PageCounts, Playing.RingAllows, Conversations.one_more_in_flight}
 use Rattle.vs_driver.specs.contracts.driver.Driver.{the_view}
 use Rattle.vs_driver.proofs.RingPages.{posted}

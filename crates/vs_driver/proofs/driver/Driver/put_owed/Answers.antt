@@ -1,11 +1,8 @@
 use Rattle.std.proofs.Common.{◌≡◌, true, Some, sym, ap, ◌∙◌, rules}
-use Rattle.vs_header.specs.Packet.{header_bytes}
-use Rattle.vs_driver_parts.specs.State.{DriverEntry, DriverState}
-use Rattle.vs_driver_parts.specs.Conversations.{has_page, Round, round_of, owed_bytes}
-use Rattle.vs_driver_parts.specs.Connections.{route_to_host}
-use Rattle.vs_header.specs.declared.Header.{Header}
-use Rattle.vs_conn.specs.{End.owes_of, Headers.owed_header}
-use Rattle.vs_conn.specs.declared.end.Owed.{Owed}
+use Rattle.vs_header.specs.{Packet.header_bytes, declared.Header.Header}
+use Rattle.vs_driver_parts.specs.{State.DriverEntry, State.DriverState, Conversations.has_page, Conversations.Round, Conversations.round_of}
+use Rattle.vs_driver_parts.specs.{Conversations.owed_bytes, Connections.route_to_host}
+use Rattle.vs_conn.specs.{End.owes_of, Headers.owed_header, declared.end.Owed.Owed}
 use Rattle.vs_flow.specs.Table.{entry_under}
 use Rattle.vs_driver.proofs.Paying.{some_and, may_put_owed, owed_put}
 use Rattle.vs_driver.proofs.driver.Driver.put_owed.Goals as goal

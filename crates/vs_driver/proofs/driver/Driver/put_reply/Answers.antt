@@ -1,12 +1,10 @@
 use Rattle.std.proofs.Common.{◌≡◌, true, Some, ap, ◌∙◌, rules, drop}
-use Rattle.vs_header.specs.Packet.{header_bytes}
-use Rattle.vs_driver_parts.specs.State.{DriverState}
-use Rattle.vs_driver_parts.specs.Conversations.{has_page, Round, round_of, reply_header}
+use Rattle.vs_header.specs.{Packet.header_bytes, declared.Header.Header}
+use Rattle.vs_driver_parts.specs.{State.DriverState, Conversations.has_page, Conversations.Round, Conversations.round_of}
+use Rattle.vs_driver_parts.specs.Conversations.{reply_header}
 use Rattle.vs_driver.specs.contracts.driver.Driver.{the_view}
 use Rattle.std.specs.List.{slice_get}
-use Rattle.vs_header.specs.declared.Header.{Header}
-use Rattle.vs_replies.specs.declared.Reply.{Reply}
-use Rattle.vs_replies.specs.Owed.{OwedReplies}
+use Rattle.vs_replies.specs.{declared.Reply.Reply, Owed.OwedReplies}
 use Rattle.vs_driver.proofs.Paying.{may_put_reply, reply_put}
 use Rattle.vs_driver.proofs.driver.Driver.put_reply.Goals as goal
 

@@ -1,5 +1,5 @@
 use Rattle.std.proofs.Common.{◌≡◌, ℕ, true, Some, ◌++◌, length, sym, ap, subst, ◌∙◌, rules, Option}
-use Rattle.vs_header.specs.Packet.{header_bytes}
+use Rattle.vs_header.specs.{Packet.header_bytes, declared.Header.Header}
 use Rattle.vs_driver_parts.specs.{State.DriverConnection, State.DriverEntry, State.DriverState, Playing.MayPublishAll, Playing.Plays}
 use Rattle.vs_driver_parts.specs.{Conversations.post_packet, Conversations.one_more_in_flight, Conversations.has_page, Held.HeldSlots}
 use Rattle.vs_driver_parts.specs.Connections.{with_connection, with_end, route_to_host}
@@ -8,7 +8,6 @@ use Rattle.vs_driver.proofs.Sending.{there, may_post_payload, payload_posted}
 use Rattle.vs_driver_parts.proofs.{Ids.value_of, Ids.has_slot, Known.some_inj}
 use Rattle.vs_flow.specs.Table.{entry_under}
 use Rattle.std.specs.Option.{option_map}
-use Rattle.vs_header.specs.declared.Header.{Header}
 use Rattle.vs_conn.specs.{End.with_payload_sent, Headers.payload_header}
 use Rattle.vs_driver.proofs.driver.Driver.send_with_page.Goals as goal
 

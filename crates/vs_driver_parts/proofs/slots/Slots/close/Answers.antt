@@ -1,8 +1,7 @@
 use Rattle.std.proofs.Common.{◌≡◌, ℕ, Some, sym, ap, subst, ◌∙◌, rules}
 use Rattle.vs_flow.specs.Table.{value_under, with_value}
-use Rattle.vs_driver_parts.specs.{State.DriverConnection, Held.HeldSlots, Held.KnowsNone}
+use Rattle.vs_driver_parts.specs.{State.DriverConnection, Held.HeldSlots, Held.KnowsNone, contracts.slots.Slots.the_view}
 use Rattle.vs_driver_parts.proofs.{SameIds.closing_id, SameIds.closing_closed, SlotChanges.kept_with_connection, SlotChanges.knows_none}
-use Rattle.vs_driver_parts.specs.contracts.slots.Slots.{the_view}
 use Rattle.vs_driver_parts.proofs.slots.Slots.close.Goals as goal
 
 pub invariant_of-self-2 : goal.invariant_of-self-2

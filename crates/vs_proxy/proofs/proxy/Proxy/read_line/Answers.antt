@@ -1,8 +1,7 @@
 use Rattle.std.proofs.Common.{ap, ◌∙◌, arith}
 use Rattle.vs_contents.proofs.Loops.{while_more, while_stop, while_end, may_step, may_more}
 use Rattle.vs_device_parts.specs.{Calls.Allows, Playing.CanMake, Playing.situation}
-use Rattle.vs_proxy_parts.specs.{Handshakes.read_byte, State.Turning, Turning.turning_of}
-use Rattle.vs_proxy_parts.specs.declared.tally.Tally.{Tally}
+use Rattle.vs_proxy_parts.specs.{Handshakes.read_byte, State.Turning, Turning.turning_of, declared.tally.Tally.Tally}
 use Rattle.vs_proxy.proofs.Counting.{few_more, few_then}
 use Rattle.vs_proxy.proofs.proxy.Proxy.read_line.Goals as goal
 

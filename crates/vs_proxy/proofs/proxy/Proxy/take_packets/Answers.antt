@@ -1,8 +1,7 @@
 use Rattle.std.proofs.Common.{ap, ◌∙◌, arith}
 use Rattle.vs_contents.proofs.Loops.{while_more, while_stop, while_end, may_step, may_more}
 use Rattle.vs_device_parts.specs.{Calls.Allows, Playing.CanMake, Playing.situation}
-use Rattle.vs_proxy_parts.specs.{State.Turning, Turning.turning_of, Turns.take_one}
-use Rattle.vs_proxy_parts.specs.declared.tally.Tally.{Tally}
+use Rattle.vs_proxy_parts.specs.{State.Turning, Turning.turning_of, Turns.take_one, declared.tally.Tally.Tally}
 use Rattle.vs_proxy.proofs.Counting.{few_more, few_then}
 use Rattle.vs_proxy.proofs.proxy.Proxy.take_packets.Goals as goal
 

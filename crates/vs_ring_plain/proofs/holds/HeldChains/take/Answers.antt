@@ -1,6 +1,5 @@
 use Rattle.std.proofs.Common.{arith, ℕ, ◌%◌, refl, Option, None, Some, Result, Ok, Err, ap, ◌∙◌}
-use Rattle.vs_ring_port.specs.declared.device_ring.Chain.{Chain}
-use Rattle.vs_ring_port.specs.declared.failure.Failure.{Failure}
+use Rattle.vs_ring_port.specs.declared.{device_ring.Chain.Chain, failure.Failure.Failure}
 use Rattle.vs_ring_plain.specs.{Accesses.over, Chain.taking, PieceTable.HeldState, PieceTable.list_at, Take.ring_in, Take.taken_of}
 use Rattle.vs_ring_plain.proofs.HeldChains.{comes, free_in, keeps_more, keeps_same, kept_hold, room_to_hold}
 use Rattle.vs_ring_plain.proofs.holds.HeldChains.take.Goals as goal

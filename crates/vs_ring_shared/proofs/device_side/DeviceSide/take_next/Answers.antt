@@ -4,9 +4,8 @@ use Rattle.std.specs.Prelude.{IfSome}
 use Rattle.vs_page.specs.Held.{listed, packet_held}
 use Rattle.vs_ring_port.specs.{EndLog.entries_taken, Lists.to_read, declared.queue.Queue.Queue}
 use Rattle.vs_ring_rule.specs.Rule.{queue_in}
-use Rattle.vs_ring_shared.specs.{Countings.CountsDevice, DeviceStates.DeviceTakesChain}
-use Rattle.vs_ring_shared.specs.Holdings.{Holding, all_held, packets_in_first}
-use Rattle.vs_ring_shared.specs.Sights.{DeviceSight, TakesOne, sight_of, took_queue}
+use Rattle.vs_ring_shared.specs.{Countings.CountsDevice, DeviceStates.DeviceTakesChain, Holdings.Holding, Holdings.all_held}
+use Rattle.vs_ring_shared.specs.{Holdings.packets_in_first, Sights.DeviceSight, Sights.TakesOne, Sights.sight_of, Sights.took_queue}
 use Rattle.vs_ring_shared.specs.declared.counters.DeviceCounters.{DeviceCounters}
 use Rattle.vs_ring_shared.proofs.{DeviceCalls.room_to_hold, DeviceCalls.seen_chain, DeviceCalls.takes_tx, DriverCalls.same_table}
 use Rattle.vs_ring_shared.proofs.Countings.{count_taken, counts_turn}
