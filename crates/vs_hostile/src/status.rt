@@ -1,5 +1,6 @@
 //! The status that a hostile guest's run ends with.
 
+ghost use Rattle.std.specs.Prelude.{◌≡◌};
 ghost use Rattle.vs_hostile.specs.Answer.{status_of};
 
 use vs_ring_port::Failure;
