@@ -63,7 +63,8 @@ module _ (queue : Queue) (n at : ℕ) (nonzero : 0 < n) (limit : n ≤ 32768) (d
   pub tie_written : (new : Shown) (id : ℕ) → 0 < times id heads → Untouched n (PageOf id ∷ []) s new
       → IsQueueTied queue n at new q t heads staged l out back
   tie_written new id held u =
-      tie_seen new (u.avail (tt, tt)) (u.used (tt, tt)) (λ k is. u.entry k is (tt, tt)) (λ k is. u.elem k is (tt, tt)) (λ w. u.word w (tt, tt)) (λ j some.
+      tie_seen new (u.avail (tt, tt)) (u.used (tt, tt)) (λ k is. u.entry k is (tt, tt)) (λ k is. u.elem k is (tt, tt))
+      (λ w. u.word w (tt, tt)) (λ j some.
       let below = (tie.pages j (omega (arith, some))).0 in record {
         desc = u.desc j below (tt, tt);
         page = λ c few. u.page j c below few (other j some, tt);

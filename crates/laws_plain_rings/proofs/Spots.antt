@@ -198,10 +198,14 @@ module _ (n : ℕ) (a : Areas) (at : ℕ) (laid : IsAreaLaid n a) (behind : a.en
   within UsedIdx is_x = inl (omega (arith, laid.avail, laid.used, laid.end), omega (arith, laid.avail, laid.used, laid.end))
   within (Elem k) is_x = inl (omega (arith, laid.avail, laid.used, laid.end), omega (arith, laid.avail, laid.used, laid.end, is_x))
   within (PageOf k) is_x = inr (omega arith, omega (arith, is_x))
-  within (WordOf k AvailFlags) is_x = inl (omega (arith, laid.avail, laid.used, laid.end), omega (arith, laid.avail, laid.used, laid.end, is_x))
-  within (WordOf k UsedEvent) is_x = inl (omega (arith, laid.avail, laid.used, laid.end), omega (arith, laid.avail, laid.used, laid.end, is_x))
-  within (WordOf k UsedFlags) is_x = inl (omega (arith, laid.avail, laid.used, laid.end), omega (arith, laid.avail, laid.used, laid.end, is_x))
-  within (WordOf k AvailEvent) is_x = inl (omega (arith, laid.avail, laid.used, laid.end), omega (arith, laid.avail, laid.used, laid.end, is_x))
+  within (WordOf k AvailFlags) is_x =
+      inl (omega (arith, laid.avail, laid.used, laid.end), omega (arith, laid.avail, laid.used, laid.end, is_x))
+  within (WordOf k UsedEvent) is_x =
+      inl (omega (arith, laid.avail, laid.used, laid.end), omega (arith, laid.avail, laid.used, laid.end, is_x))
+  within (WordOf k UsedFlags) is_x =
+      inl (omega (arith, laid.avail, laid.used, laid.end), omega (arith, laid.avail, laid.used, laid.end, is_x))
+  within (WordOf k AvailEvent) is_x =
+      inl (omega (arith, laid.avail, laid.used, laid.end), omega (arith, laid.avail, laid.used, laid.end, is_x))
 
 -- What stands in every other spot of a queue of n places is what stood there.
 pub record Untouched (n : ℕ) (xs : List Spot) (s new : Shown) : Type 0 where
@@ -357,7 +361,8 @@ module _ (n : ℕ) (areas : Queue → Areas) (at : Queue → ℕ) (m : Memory) (
       used = λ _. ap (little_number 2) (unread r UsedIdx tt _ 2 (omega arith) (omega arith) (across q r other x UsedIdx is_x tt));
       elem = λ k is _. ap used_elem_of (unread r (Elem k) is _ 8 (omega arith) (omega arith) (across q r other x (Elem k) is_x is));
       page = λ k c is few _. unread r (PageOf k) is _ c (omega arith) (omega (arith, few)) (across q r other x (PageOf k) is_x is);
-      word = λ w _. ap (little_number 2) (unread r (WordOf n w) refl _ 2 (omega arith) (omega arith) (across q r other x (WordOf n w) is_x refl));
+      word = λ w _. ap (little_number 2) (unread r (WordOf n w) refl _ 2 (omega arith) (omega arith) (across q r other x (WordOf n
+          w) is_x refl));
     }
 
 -- the pieces lie where they lay

@@ -18,9 +18,9 @@ use Rattle.laws_plain_rings.specs.{Queue.IsQueueTied, Queue.times, Shown.AvailEv
 use Rattle.laws_plain_rings.specs.{Shown.UsedFlags, Shown.Word, Shown.shown, Tie.AreTied, Tie.IsAreaLaid, Tie.IsLaid, Tie.IsTiedAt}
 use Rattle.laws_plain_rings.specs.{Tie.IsTiedTo, Tie.start_of, Exposed.first_ends}
 use Rattle.laws_plain_rings.proofs.{Assemble.laid_from, Counting.times-cons, Counting.times-other, Counting.times-self}
-use Rattle.laws_plain_rings.proofs.{Frames.length_written, Frames.written, Modulo.mod_small, Spots.AvailIdx, Spots.Differs}
-use Rattle.laws_plain_rings.proofs.Spots.{DiffersAll, IsSpot, Spot, Untouched, UsedIdx, WordOf, high, laid_same, low, own, spot_at}
-use Rattle.laws_plain_rings.proofs.Spots.{spot_len, untouched_both, untouched_other, untouched_own, untouched_then}
+use Rattle.laws_plain_rings.proofs.{Frames.length_written, Frames.written, Modulo.mod_small}
+use Rattle.laws_plain_rings.proofs.Spots.{AvailIdx, Differs, DiffersAll, IsSpot, Spot, Untouched, UsedIdx, WordOf, high, laid_same, low}
+use Rattle.laws_plain_rings.proofs.Spots.{own, spot_at, spot_len, untouched_both, untouched_other, untouched_own, untouched_then}
 
 -- the numbers below n, each once
 no_less : (j a k : ℕ) → j < a → times j (range_with_len a k) ≡ 0
@@ -56,7 +56,8 @@ under_all j a (suc k) some = by (λ more. under_all j (a + 1) k more) (eqb_tells
 
 -- three words of a queue are set to 0
 module _ (n : ℕ) (areas : Queue → Areas) (at : Queue → ℕ) (m : Memory) (laid : IsLaid n areas at m) (q : Queue) (x y z : Spot)
-    (is_x : IsSpot n x) (is_y : IsSpot n y) (is_z : IsSpot n z) (two_x : spot_len x ≡ 2) (two_y : spot_len y ≡ 2) (two_z : spot_len z ≡ 2) where
+    (is_x : IsSpot n x) (is_y : IsSpot n y) (is_z : IsSpot n z) (two_x : spot_len x ≡ 2) (two_y : spot_len y ≡ 2)
+    (two_z : spot_len z ≡ 2) where
   abbrev zeros : List ℕ
   zeros = 0 ∷ 0 ∷ []
 
@@ -221,7 +222,8 @@ module _ (n : ℕ) (areas : Queue → Areas) (at : Queue → ℕ) (m : Memory) (
 
   used_across : IsAvailClear n (shown (areas q) (at q) m) → IsAvailClear n (shown (areas q) (at q) used_after)
   used_across clear =
-      avail_kept n (flags_u ∷ UsedIdx ∷ event_u ∷ []) _ _ (three_own n areas at m laid q flags_u UsedIdx event_u refl tt refl refl refl refl)
+      avail_kept n (flags_u ∷ UsedIdx ∷ event_u ∷ []) _ _
+      (three_own n areas at m laid q flags_u UsedIdx event_u refl tt refl refl refl refl)
       (tt, (tt, (tt, tt))) (tt, (tt, (tt, tt))) (tt, (tt, (tt, tt))) clear
 
   avail_past : (r : Queue) → same_queue q r ≡ false → IsAvailClear n (shown (areas r) (at r) m)

@@ -3,7 +3,8 @@ use Rattle.std.specs.Prelude.{ℕ, ◌+◌, ◌*◌, List}
 use Rattle.byteorder.specs.Endian.{little_number}
 use Rattle.vs_guest_mem.specs.Memory.{Memory, bytes_at}
 use Rattle.vs_layout.specs.Entry.{desc_of, used_elem_of}
-use Rattle.vs_layout.specs.Layout.{avail_entry, avail_event, avail_flags, avail_idx, desc_entry, used_elem, used_event, used_flags, used_idx}
+use Rattle.vs_layout.specs.Layout.{avail_entry, avail_event, avail_flags, avail_idx, desc_entry, used_elem, used_event, used_flags}
+use Rattle.vs_layout.specs.Layout.{used_idx}
 use Rattle.vs_layout.specs.declared.entry.{Desc.Desc, TheConstants.DESC_LEN, UsedElem.UsedElem}
 use Rattle.vs_layout.specs.declared.{place.Areas.Areas, span.Span.Span}
 use Rattle.vs_page.specs.declared.page.TheConstants.{PAGE_LEN}

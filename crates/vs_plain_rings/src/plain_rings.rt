@@ -20,7 +20,8 @@ use vs_page::Page;
 use vs_ring_port::{Chain, DeviceRing, DriverRing, Next, NoDescriptor, Queue, Reaped};
 
 /// Both ends of the three virtqueues in a guest's memory, which one thread lends to each end in turn. Seen as both ends with their memory,
-/// and, while they alone change it, as the lists of pages in flight and what each of them did so far.
+/// and, while they alone change it, as the lists of pages in flight and what each of them did so far. What each call makes of both ends and
+/// of the memory's bytes stands among its clauses, whoever changes these.
 ///
 /// All memory is taken when they are made.
 #[derive(Drop)]
@@ -169,9 +170,15 @@ fn reaped(page: Option<Page>) -> Reaped
 }
 
 impl DriverRing for PlainRings {
-    ghost use Rattle.std.specs.Prelude.{true};
+    ghost use Rattle.std.specs.Prelude.{IfNone, OnSome, true};
+    ghost use Rattle.vs_header.specs.declared.TheConstants.{HEADER_LEN};
+    ghost use Rattle.vs_ring_port.specs.Counts.{at, one_more, without_queue};
+    ghost use Rattle.vs_ring_port.specs.DriverCalls.{Stage, Publish, Reap, LoadCid, DriverAllows, CanPublish, CanStage};
+    ghost use Rattle.vs_ring_port.specs.declared.queue.Queue.{Queue};
+    ghost use Rattle.vs_plain_driver.specs.Queue.{reaped_page};
     ghost use Rattle.laws_plain_rings.specs.Exposed.{driver_contents};
-    ghost use Rattle.laws_plain_rings.specs.Parts.{parts_flight, parts_staged};
+    ghost use Rattle.laws_plain_rings.specs.Parts.{driver_at, parts_flight, parts_staged, published_parts, reaped_parts, staged_parts};
+    ghost use Rattle.laws_plain_rings.specs.Parts.{used_in};
 
     ghost size = { λ r. r.parts.device.size };
 
@@ -187,7 +194,20 @@ impl DriverRing for PlainRings {
         self.parts.device().size()
     }
 
-    fn stage(&mut self, queue: Queue, page: Page) -> Result<(), (NoDescriptor, Page)> {
+    fn stage(&mut self, queue: Queue, page: Page) -> Result<(), (NoDescriptor, Page)>
+        requires header { queue ≡ Queue.Tx → HEADER_LEN ≤ length page }
+        requires packet { CanStage queue page (driver_contents self.old) }
+        ensures parts { OnOk result (self.new.parts ≡ staged_parts queue page self.old.parts) }
+        ensures room { OnOk result (at queue (parts_flight self.old.parts) < self.old.parts.device.size) }
+        ensures in_flight { OnOk result (parts_flight self.new.parts ≡ one_more queue (parts_flight self.old.parts)) }
+        ensures staged { OnOk result (parts_staged self.new.parts ≡ one_more queue (parts_staged self.old.parts)) }
+        ensures contents { OnOk result (DriverAllows (Stage queue page) tt (driver_contents self.old) (driver_contents self.new)) }
+        ensures full { OnErr result (at queue (parts_flight self.old.parts) ≡ self.old.parts.device.size) }
+        ensures refused { IfErr result (λ (refusal, _). refusal.in_flight ≡ self.old.parts.device.size) }
+        ensures page_back { IfErr result (λ (_, back). back ≡ page) }
+        ensures same { OnErr result (self.new ≡ self.old) }
+        ensures same_size { self.new.parts.device.size ≡ self.old.parts.device.size }
+    {
         let in_flight = self.parts.in_flight(queue);
         let _within = page.bytes();
         let journal = self.journal.then(&Call::Stage(queue, &page));
@@ -200,19 +220,41 @@ impl DriverRing for PlainRings {
         }
     }
 
-    fn publish(&mut self, queue: Queue) {
+    fn publish(&mut self, queue: Queue)
+        requires fair { CanPublish queue (driver_contents self.old) }
+        ensures parts { self.new.parts ≡ published_parts queue self.old.parts }
+        ensures contents { DriverAllows (Publish queue) tt (driver_contents self.old) (driver_contents self.new) }
+        ensures flight { parts_flight self.new.parts ≡ parts_flight self.old.parts }
+        ensures staged { parts_staged self.new.parts ≡ without_queue queue (parts_staged self.old.parts) }
+        ensures same_size { self.new.parts.device.size ≡ self.old.parts.device.size }
+    {
         self.parts.publish(queue);
         self.journal = self.journal.then(&Call::Publish(queue));
     }
 
-    fn reap(&mut self, queue: Queue) -> Reaped {
+    fn reap(&mut self, queue: Queue) -> Reaped
+        ensures page { let p = self.old.parts in
+            page_of result ≡ reaped_page (areas_of p queue) (driver_at queue p) p.device.memory (used_in queue p) }
+        ensures parts { self.new.parts ≡ reaped_parts queue self.old.parts }
+        ensures back { OnSome (page_of result) (parts_flight self.old.parts ≡ one_more queue (parts_flight self.new.parts)) }
+        ensures none { IfNone (page_of result) (parts_flight self.new.parts ≡ parts_flight self.old.parts) }
+        ensures published { OnSome (page_of result) (at queue (parts_staged self.old.parts) < at queue (parts_flight self.old.parts)) }
+        ensures within { at queue (parts_flight self.old.parts) ≤ self.old.parts.device.size }
+        ensures staged { parts_staged self.new.parts ≡ parts_staged self.old.parts }
+        ensures contents { DriverAllows (Reap queue) (page_of result) (driver_contents self.old) (driver_contents self.new) }
+        ensures same_size { self.new.parts.device.size ≡ self.old.parts.device.size }
+    {
         let _within = self.parts.in_flight(queue);
         let page = self.parts.reap(queue);
         self.journal = self.journal.then(&Call::Reap(queue));
         reaped(page)
     }
 
-    fn cid(&mut self) -> u64 {
+    fn cid(&mut self) -> u64
+        ensures value { result ≡ self.old.parts.cid }
+        ensures parts { self.new.parts ≡ self.old.parts }
+        ensures contents { DriverAllows LoadCid result (driver_contents self.old) (driver_contents self.new) }
+    {
         self.journal = self.journal.then(&Call::LoadCid);
         self.parts.cid()
     }
@@ -227,8 +269,12 @@ impl DriverRing for PlainRings {
 }
 
 impl DeviceRing for PlainRings {
-    ghost use Rattle.std.specs.Prelude.{true};
-    ghost use Rattle.vs_ring_plain.specs.Device.{chains_held};
+    ghost use Rattle.std.specs.Prelude.{Contains, IfSome, true};
+    ghost use Rattle.vs_limits.specs.declared.TheConstants.{GUEST_CID_MIN, GUEST_CID_MAX};
+    ghost use Rattle.vs_ring_port.specs.Chains.{IsLongEnough, chain_of, held_after, without};
+    ghost use Rattle.vs_ring_port.specs.Contents.{Take, Read, Write, Return, Given, PublishCid};
+    ghost use Rattle.vs_ring_port.specs.DeviceCalls.{CanReturn, DeviceAllows, LeavesNoGap};
+    ghost use Rattle.vs_ring_plain.specs.Device.{answer_to, chains_held};
     ghost use Rattle.laws_plain_rings.specs.Exposed.{device_contents};
 
     ghost size = { λ r. r.parts.device.size };
@@ -243,7 +289,15 @@ impl DeviceRing for PlainRings {
         self.parts.device().size()
     }
 
-    fn next(&mut self, queue: Queue) -> Next {
+    fn next(&mut self, queue: Queue) -> Next
+        ensures exact { answer_to (Take queue) self.old.parts.device ≡ (result, self.new.parts.device) }
+        ensures rest { self.new.parts ≡ record self.old.parts { device = self.new.parts.device } }
+        ensures held { chains_held self.new.parts.device ≡ held_after result (chains_held self.old.parts.device) }
+        ensures queue { IfSome (chain_of result) (λ chain. chain.queue ≡ queue) }
+        ensures long_enough { IfSome (chain_of result) (IsLongEnough queue) }
+        ensures contents { DeviceAllows (Take queue) result (device_contents self.old) (device_contents self.new) }
+        ensures same_size { self.new.parts.device.size ≡ self.old.parts.device.size }
+    {
         let next = self.parts.take(queue);
         self.journal = self.journal.then(&Call::Take(queue));
         next
@@ -257,26 +311,64 @@ impl DeviceRing for PlainRings {
         chain.writable
     }
 
-    fn read(&mut self, chain: &Chain, at: u64, out: &mut [u8]) {
+    fn read(&mut self, chain: &Chain, at: u64, out: &mut [u8])
+        requires is_held { Contains (chains_held self.old.parts.device) chain.now }
+        requires in_range { at + length out.old ≤ chain.now.readable }
+        ensures exact { answer_to (Read chain.now at (length out.old)) self.old.parts.device ≡ (out.new, self.new.parts.device) }
+        ensures rest { self.new.parts ≡ record self.old.parts { device = self.new.parts.device } }
+        ensures held { chains_held self.new.parts.device ≡ chains_held self.old.parts.device }
+        ensures contents { DeviceAllows (Read chain.now at (length out.old)) out.new (device_contents self.old)
+            (device_contents self.new) }
+        ensures same_size { self.new.parts.device.size ≡ self.old.parts.device.size }
+    {
         self.parts.read(chain, at, out);
     }
 
-    fn write(&mut self, chain: &Chain, at: u64, bytes: &[u8]) {
+    fn write(&mut self, chain: &Chain, at: u64, bytes: &[u8])
+        requires is_held { Contains (chains_held self.old.parts.device) chain.now }
+        requires in_range { at + length bytes.now ≤ chain.now.writable }
+        requires no_gap { LeavesNoGap chain.now at (device_contents self.old) }
+        ensures exact { answer_to (Write chain.now at bytes.now) self.old.parts.device ≡ (tt, self.new.parts.device) }
+        ensures rest { self.new.parts ≡ record self.old.parts { device = self.new.parts.device } }
+        ensures held { chains_held self.new.parts.device ≡ chains_held self.old.parts.device }
+        ensures contents { DeviceAllows (Write chain.now at bytes.now) tt (device_contents self.old) (device_contents self.new) }
+        ensures same_size { self.new.parts.device.size ≡ self.old.parts.device.size }
+    {
         self.parts.write(chain, at, bytes);
         self.journal = self.journal.then(&Call::Write(chain, at, bytes));
     }
 
-    fn done(&mut self, chain: Chain, len: u32) {
+    fn done(&mut self, chain: Chain, len: u32)
+        requires is_held { Contains (chains_held self.old.parts.device) chain }
+        requires written { CanReturn chain len (device_contents self.old) }
+        ensures exact { answer_to (Return chain len) self.old.parts.device ≡ (tt, self.new.parts.device) }
+        ensures rest { self.new.parts ≡ record self.old.parts { device = self.new.parts.device } }
+        ensures held { chains_held self.new.parts.device ≡ without chain (chains_held self.old.parts.device) }
+        ensures contents { DeviceAllows (Return chain len) tt (device_contents self.old) (device_contents self.new) }
+        ensures same_size { self.new.parts.device.size ≡ self.old.parts.device.size }
+    {
         let journal = self.journal.then(&Call::Return(&chain, len));
         self.parts.give_back(chain, len);
         self.journal = journal;
     }
 
-    fn given(&mut self, queue: Queue) -> u16 {
+    fn given(&mut self, queue: Queue) -> u16
+        ensures exact { answer_to (Given queue) self.old.parts.device ≡ (result, self.new.parts.device) }
+        ensures rest { self.new.parts ≡ record self.old.parts { device = self.new.parts.device } }
+        ensures held { chains_held self.new.parts.device ≡ chains_held self.old.parts.device }
+        ensures contents { DeviceAllows (Given queue) result (device_contents self.old) (device_contents self.new) }
+        ensures within { result ≤ self.old.parts.device.size }
+        ensures same_size { self.new.parts.device.size ≡ self.old.parts.device.size }
+    {
         self.parts.given(queue)
     }
 
-    fn publish_cid(&mut self, cid: u64) {
+    fn publish_cid(&mut self, cid: u64)
+        requires low { GUEST_CID_MIN ≤ cid }
+        requires high { cid ≤ GUEST_CID_MAX }
+        ensures parts { self.new.parts ≡ record self.old.parts { cid = cid } }
+        ensures contents { DeviceAllows (PublishCid cid) tt (device_contents self.old) (device_contents self.new) }
+    {
         self.parts.publish_cid(cid);
         self.journal = self.journal.then(&Call::PublishCid(cid));
     }

@@ -16,7 +16,8 @@ module _ (c : goal.After-clear-3) where
   rx_is = sized _ _ c.args.n _ c.in_ok-rx.ensures.queue size ∙ ap (new_queue c.args.n) pages
 
   tx_is : c.in_ok-tx.tx
-      ≡ new_queue c.args.n (pages_behind (pages_start c.args.mem (queue_areas_of c.args.base c.args.n).event.end c.args.n) (4096 * c.args.n))
+      ≡ new_queue c.args.n (pages_behind (pages_start c.args.mem (queue_areas_of c.args.base c.args.n).event.end c.args.n)
+      (4096 * c.args.n))
   tx_is =
       sized _ _ c.args.n _ c.in_ok-tx.ensures.queue (c.new-2.ensures.place.same_size ∙ size)
       ∙ ap (new_queue c.args.n) (c.behind-tx_pages.ensures ∙ ap (λ o. pages_behind o (4096 * c.args.n)) pages)
@@ -44,7 +45,7 @@ invariant_of-result c =
 
 pub returns : goal.returns
 returns c =
-    made c.args.mem c.args.base c.args.n c.args.indirect c.queue_areas-areas.result c.in_ok-device.device c.new-2.new.device c.new-3.new.device
-    c.new-4.new.device c.clear.new.self c.clear-2.new.self c.clear-3.new.self c.in_ok-rx.rx c.in_ok-tx.tx c.in_ok-event.event
-    c.queue_areas-areas.ensures.exact c.in_ok-device.ensures c.in_ok-rx.ensures.memory c.in_ok-tx.ensures.memory c.in_ok-event.ensures.memory
-    c.clear.ensures.memory c.clear-2.ensures.memory c.clear-3.ensures.memory (rx_is c) (tx_is c) (event_is c)
+    made c.args.mem c.args.base c.args.n c.args.indirect c.queue_areas-areas.result c.in_ok-device.device c.new-2.new.device
+    c.new-3.new.device c.new-4.new.device c.clear.new.self c.clear-2.new.self c.clear-3.new.self c.in_ok-rx.rx c.in_ok-tx.tx
+    c.in_ok-event.event c.queue_areas-areas.ensures.exact c.in_ok-device.ensures c.in_ok-rx.ensures.memory c.in_ok-tx.ensures.memory
+    c.in_ok-event.ensures.memory c.clear.ensures.memory c.clear-2.ensures.memory c.clear-3.ensures.memory (rx_is c) (tx_is c) (event_is c)
