@@ -29,6 +29,16 @@ use Rattle.vs_device_parts.specs.{State.DeviceConnection, State.DeviceEntry, Sta
 use Rattle.vs_device_parts.specs.{Streams.leaving, Transmitting.failing, Transmitting.on_header, Transmitting.on_next}
 use Rattle.vs_device_parts.specs.{Transmitting.on_packet, Transmitting.take_tx_of, Playing.Runs}
 use Rattle.vs_device_parts.specs.declared.answers.Taken.TheVariants as taken
+use Rattle.vs_device_parts.specs.Calls.{Allows, Call, CloseStream, DeviceTree, ReadStream, Ring, Situation}
+use Rattle.vs_device_parts.specs.Connections.{cut_off, route_to_guest, stream_closed, with_connection, with_fault}
+use Rattle.vs_device_parts.specs.Receiving.{Filling, after_paying, fill_rx_of, filled_of, hold, holding, may_read}
+use Rattle.vs_device_parts.specs.Receiving.{put_on, put_owed, put_packet, put_reply, put_reply_of, read_answered, read_room}
+use Rattle.vs_device_parts.specs.Receiving.{read_stream, read_with_chain, reply_header, round_from, serve_slot, written}
+use Rattle.vs_device_parts.specs.{State.DeviceConnection, State.DeviceEntry, State.DeviceState}
+use Rattle.vs_device_parts.specs.{Steps.filling, Streams.closing, Streams.leaving}
+use Rattle.vs_device_parts.specs.Transmitting.{failing, on_header, on_next, on_packet, take_tx_of}
+use Rattle.vs_header.specs.Packet.{header_bytes, header_of}
+use Rattle.vs_header.specs.declared.TheConstants.{HEADER_LEN}
 use Rattle.laws_device_streams.specs.Waiting.{StopsAt, filling_of}
 use Rattle.vs_contents.proofs.Leads.{leads_bind, leads_split}
 use Rattle.laws_device_streams.proofs.Keeping.{Keeps, keeps_each, keeps_end, keeps_then}
@@ -421,7 +431,8 @@ module _ (s : DeviceState) (c d : Situation) (x : DeviceState × Result Filled F
       let all = leads_bind Allows replies_of rounds c one.middle two.middle one.end two.end one.first two.first in
       (two.end, subst (λ (e : Situation). Runs (filling_of s) c two.end e) two.rest.1 all, sym two.rest.0)
 
-  filled_by : (o : Option Failure) → o ≡ None → Runs (elim o [ Some f ↦ Done (s, Err f) | None ↦ bind replies_of ends_with ]) c x d → IsStage s c x d
+  filled_by : (o : Option Failure) → o ≡ None → Runs (elim o [ Some f ↦ Done (s, Err f) | None ↦ bind replies_of ends_with ]) c x d
+      → IsStage s c x d
   filled_by (Some f) none runs = absurd cc
   filled_by None none runs = splits runs
 
@@ -465,7 +476,8 @@ module _ (s : DeviceState) (c : Situation) where
           (bind (on_packet chain h s) (λ r. Ask (Ring (Return chain 0)) (λ _. Done (r.0, taken.Packet r.1))))) d
       by true = λ none. absurd cc
       by false =
-          keeps_then CanAny Allows Takes (λ r e. Unit {0}) (on_packet chain h s) (λ r. Ask (Ring (Return chain 0)) (λ _. Done (r.0, taken.Packet r.1))) d
+          keeps_then CanAny Allows Takes (λ r e. Unit {0}) (on_packet chain h s)
+          (λ r. Ask (Ring (Return chain 0)) (λ _. Done (r.0, taken.Packet r.1))) d
           (keeps_any (on_packet chain h s) d) (λ r e any. (tt, λ y i allowed none. absurd cc))
 
   nexts : (answer : Next) (d : Situation) → Allows (Ring (Take Tx)) answer c d → Keeps CanAny Allows Takes (on_next answer s) d

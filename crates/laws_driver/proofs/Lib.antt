@@ -12,3 +12,4 @@ pub mod Changing
 pub mod Calls
 pub mod Shown
 pub mod Stepping
+pub mod Stopping

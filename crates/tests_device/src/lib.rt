@@ -4,4 +4,6 @@
 #[cfg(test)]
 mod driver;
 #[cfg(test)]
+mod polls;
+#[cfg(test)]
 mod world;

@@ -1,0 +1,265 @@
+-- Where a stage of a poll ends for want of a page: the last load showed none that isn't taken.
+use Rattle.std.proofs.Common.{◌≡◌, ◌<◌, ◌≤◌, ◌+◌, ◌==◌, ℕ, zero, suc, nat_lt, nat_le, Bool, true, false, cond, List, [], length}
+use Rattle.std.proofs.Common.{Option, Some, None, refl, sym, ap, subst, ◌∙◌, arith}
+use Rattle.std.proofs.lemmas.Bool.{eqb-true, leb-true, ltb-true}
+use Rattle.vs_contents.specs.{CallTree.Ask, CallTree.Done, CallTree.bind, CallTree.while_up_to, Contents.Relates}
+use Rattle.vs_limits.specs.declared.TheConstants.{DRIVER_REPLIES_FULL}
+use Rattle.vs_ring_port.specs.{Contents.RingContents, declared.queue.TheConstants.STAGED_MAX}
+use Rattle.vs_ring_port.specs.DriverCalls.{DriverAllows, DriverAnswer, DriverCall, DriverLearns, LoadCid, Publish, Reap, Stage}
+use Rattle.vs_ring_port.specs.Known.{Finds, Index, IsLater, Known, after_look, after_stores, index_of, with_index}
+use Rattle.vs_ring_port.specs.declared.queue.Queue.{Queue}
+use Rattle.vs_ring_port.specs.declared.queue.Queue.TheVariants.{Event, Rx, Tx}
+use Rattle.vs_ring_port.proofs.Knowing.{driver_keeps}
+use Rattle.vs_driver_parts.specs.{Playing.Plays, Playing.RingAllows, Receiving.after_reset, Receiving.is_reset_event, Receiving.on_page}
+use Rattle.vs_driver_parts.specs.Conversations.{DriverTree, Round, event_reaped, goes_on_with, packet_reaped, published, reap_all}
+use Rattle.vs_driver_parts.specs.Conversations.{reap_one, reaped, staged_again, start, take_all, take_event, take_packet, all_taken}
+use Rattle.vs_driver_parts.specs.State.{DriverState}
+use Rattle.laws_driver.specs.Waiting.{StopsAt}
+
+-- What holds at each end of a conversation.
+abbrev Keeps : {A : Type 0} → (A → RingContents → Type 0) → DriverTree A → RingContents → Type 0
+Keeps Q (Done x) c = Q x c
+Keeps Q (Ask call go) c = (a : DriverAnswer call) (d : RingContents) → RingAllows call a c d → Keeps Q (go a) d
+
+keeps_end : {A : Type 0} (Q : A → RingContents → Type 0) (t : DriverTree A) (c d : RingContents) (x : A) → Keeps Q t c → Plays t c x d → Q x d
+keeps_end {A} Q (Done y) c d x keeps plays =
+    let P : A → Type 0 = λ z. Q z c in
+    let R : RingContents → Type 0 = λ e. Q x e in
+    subst R plays.1 (subst P plays.0 keeps)
+keeps_end Q (Ask call go) c d x keeps plays = keeps_end Q (go plays.0) plays.1 d x (keeps plays.0 plays.1 plays.2) plays.3
+
+keeps_then : {A B : Type 0} (P : B → RingContents → Type 0) (Q : A → RingContents → Type 0) (t : DriverTree B) (f : B → DriverTree A)
+    (c : RingContents) → Keeps P t c → ((x : B) (d : RingContents) → P x d → Keeps Q (f x) d) → Keeps Q (bind t f) c
+keeps_then P Q (Done x) f c keeps rest = rest x c keeps
+keeps_then P Q (Ask call go) f c keeps rest = λ a d allowed. keeps_then P Q (go a) f d (keeps a d allowed) rest
+
+-- WHAT IS KNOWN
+abbrev NotFewer : Queue → Known → Known → Type 0
+NotFewer queue k l = (index_of queue k).loads ≤ (index_of queue l).loads
+
+at_first : (queue : Queue) (o : Option Known) → Relates o o (NotFewer queue)
+at_first queue None = refl
+at_first queue (Some k) = omega arith
+
+grown_by : (queue : Queue) (a b c : Option Known) → Relates a b (NotFewer queue) → Relates b c IsLater → Relates a c (NotFewer queue)
+grown_by queue None None c first later = later
+grown_by queue None (Some l) c first later = absurd cc
+grown_by queue (Some k) None c first later = absurd first
+grown_by queue (Some k) (Some l) None first later = later
+grown_by queue (Some k) (Some l) (Some m) first later = omega (arith, first, later.loads queue)
+
+index_there : (queue : Queue) (i : Index) (k : Known) → index_of queue (with_index queue i k) ≡ i
+index_there Rx i k = refl
+index_there Tx i k = refl
+index_there Event i k = refl
+
+none_found : (queue : Queue) (k l m : Known) → NotFewer queue k l → Finds {A = List ℕ} queue None l m → StopsAt queue k m
+none_found queue k l m first look =
+    let i = index_of queue l in
+    let there = ap (λ (z : Known). index_of queue z) look.is ∙ index_there queue (after_look i.taken 0 i) l in
+    let loads = ap (λ (z : Index). z.loads) there in
+    let shown = ap (λ (z : Index). z.shown) there in
+    let all_taken = ap (λ (z : Index). z.taken) there in
+    let told = ap (λ (z : Index). z.told) there in
+    record {
+      loaded = omega (arith, first, loads);
+      none_left = omega (arith, shown, all_taken);
+      all_told = omega (arith, look.all_told, told, all_taken);
+    }
+
+stops_by : (queue : Queue) (a b c : Option Known) → Relates a b (NotFewer queue) → Relates b c (Finds {A = List ℕ} queue None)
+    → Relates a c (StopsAt queue)
+stops_by queue None None c first found = found
+stops_by queue None (Some l) c first found = absurd cc
+stops_by queue (Some k) None c first found = absurd first
+stops_by queue (Some k) (Some l) None first found = found
+stops_by queue (Some k) (Some l) (Some m) first found = none_found queue k l m first found
+
+-- a publication leaves what was seen
+after_stored : (n : ℕ) (queue : Queue) (k l : Known) → StopsAt queue k l → StopsAt queue k (after_stores n queue l)
+after_stored n Rx k l stops = record { loaded = stops.loaded; none_left = stops.none_left; all_told = stops.all_told }
+after_stored n Tx k l stops = record { loaded = stops.loaded; none_left = stops.none_left; all_told = stops.all_told }
+after_stored n Event k l stops = record { loaded = stops.loaded; none_left = stops.none_left; all_told = stops.all_told }
+
+stored_by : (queue : Queue) (a b c : Option Known) (R : Known → Known → Type 0)
+    → ((l m : Known) → R l m → (n : ℕ) × (m ≡ after_stores n queue l))
+    → Relates a b (StopsAt queue) → Relates b c R → Relates a c (StopsAt queue)
+stored_by queue None None c R is first stored = stored
+stored_by queue None (Some l) c R is first stored = absurd cc
+stored_by queue (Some k) None c R is first stored = absurd first
+stored_by queue (Some k) (Some l) None R is first stored = stored
+stored_by queue (Some k) (Some l) (Some m) R is first stored =
+    let e = is l m stored in subst (λ (z : Known). StopsAt queue k z) (sym e.1) (after_stored e.0 queue k l first)
+
+driver_allows : (call : DriverCall) (a : DriverAnswer call) (c d : RingContents) → RingAllows call a c d → DriverAllows call a c d
+driver_allows (Stage queue page) a c d allowed = allowed
+driver_allows (Publish queue) a c d allowed = allowed
+driver_allows (Reap queue) page c d allowed = allowed.1
+driver_allows LoadCid cid c d allowed = allowed.1
+
+module _ (queue : Queue) (a : Option Known) where
+  abbrev Grown : RingContents → Type 0
+  Grown d = Relates a d.known (NotFewer queue)
+
+  abbrev Stops : RingContents → Type 0
+  Stops d = Relates a d.known (StopsAt queue)
+
+  grown_call : (call : DriverCall) (answer : DriverAnswer call) (c d : RingContents) → RingAllows call answer c d → Grown c → Grown d
+  grown_call call answer c d allowed grown =
+      grown_by queue a c.known d.known grown
+      (driver_keeps (Ask call (λ z. Done z)) answer c d (answer, d, driver_allows call answer c d allowed, (refl, refl)))
+
+  stops_none : (c d : RingContents) → RingAllows (Reap queue) None c d → Grown c → Stops d
+  stops_none c d allowed grown = stops_by queue a c.known d.known grown allowed.1.known
+
+  stops_published : (c d : RingContents) → RingAllows (Publish queue) tt c d → Stops c → Stops d
+  stops_published c d allowed stops =
+      stored_by queue a c.known d.known (DriverLearns (Publish queue) tt c.log) (λ l m learns. (_, learns.2)) stops allowed.1.known
+
+  -- A round that takes at most n pages, while fewer replies than a limit are owed.
+  module _ (n limit : ℕ) where
+    abbrev Ends : Round → RingContents → Type 0
+    Ends r d = Grown d × (r.count < n → length r.state.replies < limit → Stops d)
+
+    abbrev Steps : ℕ → Round × Bool → RingContents → Type 0
+    Steps m (r, true) d = Grown d × (r.count + m ≡ n)
+    Steps m (r, false) d = Ends r d
+
+    by_last : (m : ℕ) (step : Round → DriverTree (Round × Bool))
+        → ((r : Round) (d : RingContents) → Grown d → r.count + m ≡ n → Keeps Ends (while_up_to m step r) d)
+        → (x : Round × Bool) (d : RingContents) → Steps m x d
+        → Keeps Ends (elim x.1 [ true ↦ while_up_to m step x.0 | false ↦ Done x.0 ]) d
+    by_last m step rest (r, true) d on = rest r d on.0 on.1
+    by_last m step rest (r, false) d ends = ends
+
+    loop : (step : Round → DriverTree (Round × Bool))
+        → ((m : ℕ) (r : Round) (c : RingContents) → Grown c → r.count + suc m ≡ n → Keeps (Steps m) (step r) c)
+        → (m : ℕ) (r : Round) (c : RingContents) → Grown c → r.count + m ≡ n → Keeps Ends (while_up_to m step r) c
+    loop step each zero r c grown left = (grown, λ fewer few. absurd (omega (arith, fewer, left)))
+    loop step each (suc m) r c grown left =
+        keeps_then (Steps m) Ends (step r) (λ x. elim x.1 [ true ↦ while_up_to m step x.0 | false ↦ Done x.0 ]) c (each m r c grown left)
+        (by_last m step (λ q d on more. loop step each m q d on more))
+
+    again : (m : ℕ) (r : Round) (c : RingContents) → Grown c → r.count + m ≡ n → Keeps (Steps m) (staged_again queue r) c
+    again m r c grown left = λ u d allowed. by (r.state.staged + 1 == STAGED_MAX) d (grown_call (Stage queue []) u c d allowed grown)
+      where
+        by : (b : Bool) (d : RingContents) → Grown d → Keeps (Steps m) (bind (cond b (Ask (Publish queue) (λ _. Done (record r.state { staged = 0 })))
+            (Done (record r.state { staged = r.state.staged + 1 }))) (goes_on_with r)) d
+        by true d on = λ v e also. (grown_call (Publish queue) v d e also on, left)
+        by false d on = (on, left)
+
+    ends_published : (r : Round) (c : RingContents) → Ends r c → Keeps Ends (published queue r) c
+    ends_published r c ends = λ u d allowed.
+        (grown_call (Publish queue) u c d allowed ends.0, λ fewer few. stops_published c d allowed (ends.1 fewer few))
+
+-- PACKETS
+module _ (s : DriverState) (c : RingContents) where
+  packet_step : (m : ℕ) (r : Round) (d : RingContents) → Grown Rx c.known d → r.count + suc m ≡ s.size
+      → Keeps (Steps Rx c.known s.size DRIVER_REPLIES_FULL m) (take_packet r) d
+  packet_step m r d grown left = by (nat_le DRIVER_REPLIES_FULL (length r.state.replies)) refl
+    where
+      found : (page : Option (List ℕ)) (e : RingContents) → RingAllows (Reap Rx) page d e
+          → Keeps (Steps Rx c.known s.size DRIVER_REPLIES_FULL m) (packet_reaped r page) e
+      found None e allowed = (grown_call Rx c.known (Reap Rx) None d e allowed grown, λ fewer few. stops_none Rx c.known d e allowed grown)
+      found (Some bytes) e allowed =
+          again Rx c.known s.size DRIVER_REPLIES_FULL m (record r { state = on_page bytes r.state; count = r.count + 1 }) e
+          (grown_call Rx c.known (Reap Rx) (Some bytes) d e allowed grown) (omega (arith, left))
+
+      by : (b : Bool) → nat_le DRIVER_REPLIES_FULL (length r.state.replies) ≡ b
+          → Keeps (Steps Rx c.known s.size DRIVER_REPLIES_FULL m) (cond b (Done (r, false)) (Ask (Reap Rx) (packet_reaped r))) d
+      by true full = (grown, λ fewer few. absurd (omega (arith, few, leb-true DRIVER_REPLIES_FULL (length r.state.replies) full)))
+      by false full = λ page e allowed. found page e allowed
+
+  keeps_packets : Keeps (Ends Rx c.known s.size DRIVER_REPLIES_FULL) (take_all Rx take_packet s) c
+  keeps_packets =
+      keeps_then (Ends Rx c.known s.size DRIVER_REPLIES_FULL) (Ends Rx c.known s.size DRIVER_REPLIES_FULL) (all_taken take_packet s)
+      (published Rx) c
+      (loop Rx c.known s.size DRIVER_REPLIES_FULL take_packet packet_step s.size (start s) c (at_first Rx c.known) (omega arith))
+      (ends_published Rx c.known s.size DRIVER_REPLIES_FULL)
+
+pub packets_stop : (s : DriverState) (c d : RingContents) (r : Round) → Plays (take_all Rx take_packet s) c r d → r.count < s.size
+    → length r.state.replies < DRIVER_REPLIES_FULL → Relates c.known d.known (StopsAt Rx)
+packets_stop s c d r plays =
+    (keeps_end (Ends Rx c.known s.size DRIVER_REPLIES_FULL) (take_all Rx take_packet s) c d r (keeps_packets s c) plays).1
+
+-- EVENTS
+module _ (s : DriverState) (c : RingContents) where
+  abbrev limit : ℕ
+  limit = DRIVER_REPLIES_FULL + 1
+
+  event_step : (m : ℕ) (r : Round) (d : RingContents) → Grown Event c.known d → r.count + suc m ≡ s.size
+      → Keeps (Steps Event c.known s.size limit m) (take_event r) d
+  event_step m r d grown left = by (nat_lt DRIVER_REPLIES_FULL (length r.state.replies)) refl
+    where
+      more : (r.count + 1) + m ≡ s.size
+      more = omega (arith, left)
+
+      heard : (bytes : List ℕ) (e : RingContents) → Grown Event c.known e → (b : Bool)
+          → Keeps (Steps Event c.known s.size limit m) (bind (cond b (Ask LoadCid (λ cid.
+          Done (record r { state = after_reset cid r.state; count = r.count + 1; reset = true })))
+          (Done (record r { count = r.count + 1 }))) (staged_again Event)) e
+      heard bytes e on true = λ cid f also.
+          again Event c.known s.size limit m (record r { state = after_reset cid r.state; count = r.count + 1; reset = true }) f
+          (grown_call Event c.known LoadCid cid e f also on) more
+      heard bytes e on false = again Event c.known s.size limit m (record r { count = r.count + 1 }) e on more
+
+      found : (page : Option (List ℕ)) (e : RingContents) → RingAllows (Reap Event) page d e
+          → Keeps (Steps Event c.known s.size limit m) (event_reaped r page) e
+      found None e allowed =
+          (grown_call Event c.known (Reap Event) None d e allowed grown, λ fewer few. stops_none Event c.known d e allowed grown)
+      found (Some bytes) e allowed =
+          heard bytes e (grown_call Event c.known (Reap Event) (Some bytes) d e allowed grown) (is_reset_event bytes)
+
+      by : (b : Bool) → nat_lt DRIVER_REPLIES_FULL (length r.state.replies) ≡ b
+          → Keeps (Steps Event c.known s.size limit m) (cond b (Done (r, false)) (Ask (Reap Event) (event_reaped r))) d
+      by true full = (grown, λ fewer few. absurd (omega (arith, few, ltb-true DRIVER_REPLIES_FULL (length r.state.replies) full)))
+      by false full = λ page e allowed. found page e allowed
+
+  keeps_events : Keeps (Ends Event c.known s.size limit) (take_all Event take_event s) c
+  keeps_events =
+      keeps_then (Ends Event c.known s.size limit) (Ends Event c.known s.size limit) (all_taken take_event s) (published Event) c
+      (loop Event c.known s.size limit take_event event_step s.size (start s) c (at_first Event c.known) (omega arith))
+      (ends_published Event c.known s.size limit)
+
+pub events_stop : (s : DriverState) (c d : RingContents) (r : Round) → Plays (take_all Event take_event s) c r d → r.count < s.size
+    → length r.state.replies ≤ DRIVER_REPLIES_FULL → Relates c.known d.known (StopsAt Event)
+events_stop s c d r plays fewer few =
+    (keeps_end (Ends Event c.known s.size (DRIVER_REPLIES_FULL + 1)) (take_all Event take_event s) c d r (keeps_events s c) plays).1
+    fewer (omega (arith, few))
+
+-- TRANSMIT PAGES
+module _ (a : Option Known) where
+  abbrev PagesEnd : DriverState → RingContents → Type 0
+  PagesEnd s d = 0 < s.in_flight → Stops Tx a d
+
+  abbrev PagesStep : ℕ → DriverState × Bool → RingContents → Type 0
+  PagesStep m (s, true) d = Grown Tx a d × (s.in_flight ≡ m)
+  PagesStep m (s, false) d = PagesEnd s d
+
+  page_reaped : (m : ℕ) (s : DriverState) (c d : RingContents) → Grown Tx a c → s.in_flight ≡ suc m → (page : Option (List ℕ))
+      → RingAllows (Reap Tx) page c d → PagesStep m (reaped s page) d
+  page_reaped m s c d grown left None allowed = λ some. stops_none Tx a c d allowed grown
+  page_reaped m s c d grown left (Some page) allowed = (grown_call Tx a (Reap Tx) (Some page) c d allowed grown, omega (arith, left))
+
+  one_reaped : (m : ℕ) (s : DriverState) (c : RingContents) → Grown Tx a c → s.in_flight ≡ suc m → Keeps (PagesStep m) (reap_one s) c
+  one_reaped m s c grown left = by (s.in_flight == 0) refl
+    where
+      by : (b : Bool) → (s.in_flight == 0) ≡ b → Keeps (PagesStep m) (cond b (Done (s, false)) (Ask (Reap Tx) (λ page. Done (reaped s page)))) c
+      by true none = absurd (omega (arith, left, eqb-true s.in_flight 0 none))
+      by false none = λ page d allowed. page_reaped m s c d grown left page allowed
+
+  pages_last : (m : ℕ) → ((s : DriverState) (d : RingContents) → Grown Tx a d → s.in_flight ≡ m → Keeps PagesEnd (while_up_to m reap_one s) d)
+      → (x : DriverState × Bool) (d : RingContents) → PagesStep m x d
+      → Keeps PagesEnd (elim x.1 [ true ↦ while_up_to m reap_one x.0 | false ↦ Done x.0 ]) d
+  pages_last m rest (s, true) d on = rest s d on.0 on.1
+  pages_last m rest (s, false) d ends = ends
+
+  pages_loop : (m : ℕ) (s : DriverState) (c : RingContents) → Grown Tx a c → s.in_flight ≡ m → Keeps PagesEnd (while_up_to m reap_one s) c
+  pages_loop zero s c grown left = λ some. absurd (omega (arith, some, left))
+  pages_loop (suc m) s c grown left =
+      keeps_then (PagesStep m) PagesEnd (reap_one s) (λ x. elim x.1 [ true ↦ while_up_to m reap_one x.0 | false ↦ Done x.0 ]) c
+      (one_reaped m s c grown left) (pages_last m (λ q d on more. pages_loop m q d on more))
+
+pub pages_stop : (s t : DriverState) (c d : RingContents) → Plays (reap_all s) c t d → 0 < t.in_flight → Relates c.known d.known (StopsAt Tx)
+pages_stop s t c d plays =
+    keeps_end (PagesEnd c.known) (reap_all s) c d t (pages_loop c.known s.in_flight s c (at_first Tx c.known) refl) plays
