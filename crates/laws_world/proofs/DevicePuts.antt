@@ -160,10 +160,6 @@ module _ (driver : Seat) (first port : ℕ) (s : DeviceState) (a : Around) (soun
             (PutPacket (owed_on Device s.cid e.flow e.value.end owed.Rst) ∷ a.log.entries)
         gone = let k = side.pays_rst driver first port s a.log.entries sound holds puts e (stream_closed e.value) there owes in
             record { runs = k.runs; holds = k.holds; puts = k.puts; overrun = k.overrun }
-    paying what owes = paid_over what owes _ refl
-        (pays_other what (record e.value { end = paid_of e.value.end what }) owes refl refl
-        (not_fresh _ (owed_old e.value.end what owes)) refl (Some e.slot)) a.host
-        (pays_streams what owes (record e.value { end = paid_of e.value.end what }) refl refl refl refl refl) _ refl
 
         left_on : StreamedIf fresh a.host (PutPacket (owed_on Device s.cid e.flow e.value.end owed.Rst) ∷ a.log.entries) port
             (without (with_value s.table e.slot (stream_closed e.value)) e.slot) lines
@@ -180,6 +176,10 @@ module _ (driver : Seat) (first port : ℕ) (s : DeviceState) (a : Around) (soun
         by false = paid_over owed.Rst owes _ refl gone (after_close e.value.stream a.host)
             (λ ok. closed_host e.value.stream a.host (PutPacket (owed_on Device s.cid e.flow e.value.end owed.Rst) ∷ a.log.entries) port
             (without (with_value s.table e.slot (stream_closed e.value)) e.slot) lines (left_on ok)) _ refl
+    paying what owes = paid_over what owes _ refl
+        (pays_other what (record e.value { end = paid_of e.value.end what }) owes refl refl
+        (not_fresh _ (owed_old e.value.end what owes)) refl (Some e.slot)) a.host
+        (pays_streams what owes (record e.value { end = paid_of e.value.end what }) refl refl refl refl refl) _ refl
 
   held_still : (c : Chain) → s.chain ≡ Some c → Left (record s { chain = Some c }) a.lists a.log a.host
   held_still c is = record {

@@ -16,6 +16,7 @@ fair_request =
         timely = (refl, refl);
         honest = λ e. record {
           fits = omega arith;
+          message = λ is. absurd cc;
           forwarded_got = omega arith;
           alloc_first = omega arith;
           alloc_rises = omega arith;
