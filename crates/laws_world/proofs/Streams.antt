@@ -17,12 +17,12 @@ use Rattle.laws_history.specs.History.{Answerer, Asker, Got, History, IsFair, Si
 use Rattle.laws_history.specs.Again.{AllowsNow}
 use Rattle.vs_driver_parts.proofs.Delivers.{delivers, named_rw}
 use Rattle.laws_tables.specs.Steps.{payload_on}
-use Rattle.laws_bytes.specs.{Drains.Drains, Drains.got_on, Drains.put_on, Streamed.IsJoined, Streamed.IsStreamed, Streamed.gives}
-use Rattle.laws_bytes.specs.Streamed.{line_for, look, seen}
-use Rattle.laws_bytes.proofs.{HostCalls.read_host, HostCalls.write_host, HostCalls.same_host, Hosts.unseen, Gives.drop_both, Gives.first_of}
-use Rattle.laws_bytes.proofs.Gives.{forwards_asked, forwards_gives, accepted_other, accepts_asked, accepts_response, answered_host}
-use Rattle.laws_bytes.proofs.Gives.{comes_behind, delivered_other, delivers_gives, gives_delivered, goes_host, hears_gives}
-use Rattle.laws_bytes.proofs.Gives.{kept_empty, response_empty, shut_gives, shuts_asked, unanswered_got}
+use Rattle.laws_bytes.specs.Drains.{Drains, got_on, put_on}
+use Rattle.laws_bytes.specs.Streamed.{IsJoined, IsStreamed, gives, line_for, look, seen}
+use Rattle.laws_bytes.proofs.{HostCalls.read_host, HostCalls.write_host, HostCalls.same_host, Hosts.unseen}
+use Rattle.laws_bytes.proofs.Gives.{drop_both, first_of, forwards_asked, forwards_gives, accepted_other, accepts_asked, accepts_response}
+use Rattle.laws_bytes.proofs.Gives.{answered_host, comes_behind, delivered_other, delivers_gives, gives_delivered, goes_host}
+use Rattle.laws_bytes.proofs.Gives.{hears_gives, kept_empty, response_empty, shut_gives, shuts_asked, unanswered_got}
 use Rattle.laws_bytes.proofs.Logs.{got_after_got, got_after_put, none_on_any, only_on, passed_after_got, passed_after_put, put_after_got}
 use Rattle.laws_bytes.proofs.{Logs.put_after_put, Steps.comes_out, Steps.Goes, Steps.drops, Steps.stays_still, Streamed.join_of}
 use Rattle.laws_bytes.proofs.Streamed.{left_streamed, passed_streamed, same_streamed}
