@@ -29,16 +29,6 @@ use Rattle.vs_device_parts.specs.{State.DeviceConnection, State.DeviceEntry, Sta
 use Rattle.vs_device_parts.specs.{Streams.leaving, Transmitting.failing, Transmitting.on_header, Transmitting.on_next}
 use Rattle.vs_device_parts.specs.{Transmitting.on_packet, Transmitting.take_tx_of, Playing.Runs}
 use Rattle.vs_device_parts.specs.declared.answers.Taken.TheVariants as taken
-use Rattle.vs_device_parts.specs.Calls.{Allows, Call, CloseStream, DeviceTree, ReadStream, Ring, Situation}
-use Rattle.vs_device_parts.specs.Connections.{cut_off, route_to_guest, stream_closed, with_connection, with_fault}
-use Rattle.vs_device_parts.specs.Receiving.{Filling, after_paying, fill_rx_of, filled_of, hold, holding, may_read}
-use Rattle.vs_device_parts.specs.Receiving.{put_on, put_owed, put_packet, put_reply, put_reply_of, read_answered, read_room}
-use Rattle.vs_device_parts.specs.Receiving.{read_stream, read_with_chain, reply_header, round_from, serve_slot, written}
-use Rattle.vs_device_parts.specs.{State.DeviceConnection, State.DeviceEntry, State.DeviceState}
-use Rattle.vs_device_parts.specs.{Steps.filling, Streams.closing, Streams.leaving}
-use Rattle.vs_device_parts.specs.Transmitting.{failing, on_header, on_next, on_packet, take_tx_of}
-use Rattle.vs_header.specs.Packet.{header_bytes, header_of}
-use Rattle.vs_header.specs.declared.TheConstants.{HEADER_LEN}
 use Rattle.laws_device_streams.specs.Waiting.{StopsAt, filling_of}
 use Rattle.vs_contents.proofs.Leads.{leads_bind, leads_split}
 use Rattle.laws_device_streams.proofs.Keeping.{Keeps, keeps_each, keeps_end, keeps_then}

@@ -1,18 +1,17 @@
 -- Where a stage of a poll ends for want of a page: the last load showed none that isn't taken.
-use Rattle.std.proofs.Common.{◌≡◌, ◌<◌, ◌≤◌, ◌+◌, ◌==◌, ℕ, zero, suc, nat_lt, nat_le, Bool, true, false, cond, List, [], length}
-use Rattle.std.proofs.Common.{Option, Some, None, refl, sym, ap, subst, ◌∙◌, arith}
+use Rattle.std.proofs.Common.{◌≡◌, ◌<◌, ◌≤◌, ◌+◌, ◌==◌, ℕ, zero, suc, nat_lt, nat_le, Bool, true, false, cond, List, [], length, Option}
+use Rattle.std.proofs.Common.{Some, None, refl, sym, ap, subst, ◌∙◌, arith}
 use Rattle.std.proofs.lemmas.Bool.{eqb-true, leb-true, ltb-true}
 use Rattle.vs_contents.specs.{CallTree.Ask, CallTree.Done, CallTree.bind, CallTree.while_up_to, Contents.Relates}
 use Rattle.vs_limits.specs.declared.TheConstants.{DRIVER_REPLIES_FULL}
-use Rattle.vs_ring_port.specs.{Contents.RingContents, declared.queue.TheConstants.STAGED_MAX}
-use Rattle.vs_ring_port.specs.DriverCalls.{DriverAllows, DriverAnswer, DriverCall, DriverLearns, LoadCid, Publish, Reap, Stage}
+use Rattle.vs_ring_port.specs.{Contents.RingContents, declared.queue.TheConstants.STAGED_MAX, DriverCalls.DriverAllows}
+use Rattle.vs_ring_port.specs.DriverCalls.{DriverAnswer, DriverCall, DriverLearns, LoadCid, Publish, Reap, Stage}
 use Rattle.vs_ring_port.specs.Known.{Finds, Index, IsLater, Known, after_look, after_stores, index_of, with_index}
-use Rattle.vs_ring_port.specs.declared.queue.Queue.{Queue}
-use Rattle.vs_ring_port.specs.declared.queue.Queue.TheVariants.{Event, Rx, Tx}
+use Rattle.vs_ring_port.specs.declared.queue.Queue.{Queue, TheVariants.Event, TheVariants.Rx, TheVariants.Tx}
 use Rattle.vs_ring_port.proofs.Knowing.{driver_keeps}
 use Rattle.vs_driver_parts.specs.{Playing.Plays, Playing.RingAllows, Receiving.after_reset, Receiving.is_reset_event, Receiving.on_page}
-use Rattle.vs_driver_parts.specs.Conversations.{DriverTree, Round, event_reaped, goes_on_with, packet_reaped, published, reap_all}
-use Rattle.vs_driver_parts.specs.Conversations.{reap_one, reaped, staged_again, start, take_all, take_event, take_packet, all_taken}
+use Rattle.vs_driver_parts.specs.Conversations.{DriverTree, Round, event_reaped, goes_on_with, packet_reaped, published, reap_all, reap_one}
+use Rattle.vs_driver_parts.specs.Conversations.{reaped, staged_again, start, take_all, take_event, take_packet, all_taken}
 use Rattle.vs_driver_parts.specs.State.{DriverState}
 use Rattle.laws_driver.specs.Waiting.{StopsAt}
 
