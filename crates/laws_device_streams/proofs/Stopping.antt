@@ -12,12 +12,12 @@ use Rattle.vs_outside.specs.declared.host_net.StreamRead.{StreamRead}
 use Rattle.vs_outside.specs.declared.host_net.StreamRead.TheVariants as read
 use Rattle.vs_replies.specs.declared.Reply.{Reply}
 use Rattle.vs_ring_port.specs.Contents.{DeviceAnswer, DeviceCall, Return, RingContents, Take, Write}
-use Rattle.vs_ring_port.specs.Known.{Finds, Index, IsLater, Known, after_look, index_of, with_index}
+use Rattle.vs_ring_port.specs.Known.{Known, StopsAt}
 use Rattle.vs_ring_port.specs.declared.{device_ring.Chain.Chain, device_ring.Next.Next, failure.Failure.Failure, queue.Queue.Queue}
 use Rattle.vs_ring_port.specs.declared.queue.Queue.TheVariants.{Event, Rx, Tx}
 use Rattle.vs_ring_port.specs.declared.device_ring.Next.TheVariants as next
 use Rattle.vs_ring_port.specs.declared.failure.Failure.TheVariants as failure
-use Rattle.vs_ring_port.proofs.Knowing.{device_keeps}
+use Rattle.vs_ring_port.proofs.{Knowing.device_keeps, Stopping.NotFewer, Stopping.at_first, Stopping.grown_by, Stopping.stops_by}
 use Rattle.vs_limits.specs.declared.TheConstants.{DEVICE_REPLIES}
 use Rattle.vs_device_parts.specs.{declared.answers.Filled.Filled, declared.answers.Taken.Taken, Calls.Allows, Calls.Call, Calls.CloseStream}
 use Rattle.vs_device_parts.specs.{Calls.DeviceTree, Calls.ReadStream, Calls.Ring, Calls.Situation, Connections.cut_off}
@@ -29,7 +29,7 @@ use Rattle.vs_device_parts.specs.{State.DeviceConnection, State.DeviceEntry, Sta
 use Rattle.vs_device_parts.specs.{Streams.leaving, Transmitting.failing, Transmitting.on_header, Transmitting.on_next}
 use Rattle.vs_device_parts.specs.{Transmitting.on_packet, Transmitting.take_tx_of, Playing.Runs}
 use Rattle.vs_device_parts.specs.declared.answers.Taken.TheVariants as taken
-use Rattle.laws_device_streams.specs.Waiting.{StopsAt, filling_of}
+use Rattle.laws_device_streams.specs.Waiting.{filling_of}
 use Rattle.vs_contents.proofs.Leads.{leads_bind, leads_split}
 use Rattle.laws_device_streams.proofs.Keeping.{Keeps, keeps_each, keeps_end, keeps_then}
 
@@ -40,50 +40,6 @@ CanAny call s = Unit {0}
 keeps_any : {A : Type 0} (tree : DeviceTree A) (c : Situation) → Keeps CanAny Allows (λ (x : A) (d : Situation). Unit {0}) tree c
 keeps_any (Done x) c = tt
 keeps_any (Ask call go) c = (tt, λ a d allowed. keeps_any (go a) d)
-
--- WHAT IS KNOWN
-abbrev NotFewer : Queue → Known → Known → Type 0
-NotFewer queue k l = (index_of queue k).loads ≤ (index_of queue l).loads
-
-at_first : (queue : Queue) (o : Option Known) → Relates o o (NotFewer queue)
-at_first queue None = refl
-at_first queue (Some k) = omega arith
-
--- a call on the ring
-grown_by : (queue : Queue) (a b c : Option Known) → Relates a b (NotFewer queue) → Relates b c IsLater → Relates a c (NotFewer queue)
-grown_by queue None None c first later = later
-grown_by queue None (Some l) c first later = absurd cc
-grown_by queue (Some k) None c first later = absurd first
-grown_by queue (Some k) (Some l) None first later = later
-grown_by queue (Some k) (Some l) (Some m) first later = omega (arith, first, later.loads queue)
-
-index_there : (queue : Queue) (i : Index) (k : Known) → index_of queue (with_index queue i k) ≡ i
-index_there Rx i k = refl
-index_there Tx i k = refl
-index_there Event i k = refl
-
--- it finds no page
-none_found : (queue : Queue) (k l m : Known) → NotFewer queue k l → Finds {A = Chain} queue None l m → StopsAt queue k m
-none_found queue k l m first look =
-    let i = index_of queue l in
-    let there = ap (λ (z : Known). index_of queue z) look.is ∙ index_there queue (after_look i.taken 0 i) l in
-    let loads = ap (λ (z : Index). z.loads) there in
-    let shown = ap (λ (z : Index). z.shown) there in
-    let all_taken = ap (λ (z : Index). z.taken) there in
-    let told = ap (λ (z : Index). z.told) there in
-    record {
-      loaded = omega (arith, first, loads);
-      none_left = omega (arith, shown, all_taken);
-      all_told = omega (arith, look.all_told, told, all_taken);
-    }
-
-stops_by : (queue : Queue) (a b c : Option Known) → Relates a b (NotFewer queue) → Relates b c (Finds {A = Chain} queue None)
-    → Relates a c (StopsAt queue)
-stops_by queue None None c first found = found
-stops_by queue None (Some l) c first found = absurd cc
-stops_by queue (Some k) None c first found = absurd first
-stops_by queue (Some k) (Some l) None first found = found
-stops_by queue (Some k) (Some l) (Some m) first found = none_found queue k l m first found
 
 module _ (queue : Queue) (a : Option Known) where
   abbrev Grown : Situation → Type 0
@@ -101,7 +57,7 @@ module _ (queue : Queue) (a : Option Known) where
   grown_same c d same grown = subst (λ (r : RingContents). Relates a r.known (NotFewer queue)) (sym same) grown
 
   stops_ring : (c d : Situation) → Allows (Ring (Take queue)) next.None c d → Grown c → Stops d
-  stops_ring c d allowed grown = stops_by queue a c.ring.known d.ring.known grown allowed.0.1.known
+  stops_ring c d allowed grown = stops_by {A = Chain} queue a c.ring.known d.ring.known grown allowed.0.1.known
 
 -- FILLING: where it is over for want of a chain, the last load showed none; where it isn't over, these replies are owed.
 module _ (a : Option Known) where

@@ -6,14 +6,13 @@ use Rattle.vs_contents.specs.{CallTree.Ask, CallTree.Done, CallTree.bind, CallTr
 use Rattle.vs_limits.specs.declared.TheConstants.{DRIVER_REPLIES_FULL}
 use Rattle.vs_ring_port.specs.{Contents.RingContents, declared.queue.TheConstants.STAGED_MAX, DriverCalls.DriverAllows}
 use Rattle.vs_ring_port.specs.DriverCalls.{DriverAnswer, DriverCall, DriverLearns, LoadCid, Publish, Reap, Stage}
-use Rattle.vs_ring_port.specs.Known.{Finds, Index, IsLater, Known, after_look, after_stores, index_of, with_index}
+use Rattle.vs_ring_port.specs.Known.{Known, StopsAt, after_stores}
 use Rattle.vs_ring_port.specs.declared.queue.Queue.{Queue, TheVariants.Event, TheVariants.Rx, TheVariants.Tx}
-use Rattle.vs_ring_port.proofs.Knowing.{driver_keeps}
+use Rattle.vs_ring_port.proofs.{Knowing.driver_keeps, Stopping.NotFewer, Stopping.at_first, Stopping.grown_by, Stopping.stops_by}
 use Rattle.vs_driver_parts.specs.{Playing.Plays, Playing.RingAllows, Receiving.after_reset, Receiving.is_reset_event, Receiving.on_page}
 use Rattle.vs_driver_parts.specs.Conversations.{DriverTree, Round, event_reaped, goes_on_with, packet_reaped, published, reap_all, reap_one}
 use Rattle.vs_driver_parts.specs.Conversations.{reaped, staged_again, start, take_all, take_event, take_packet, all_taken}
 use Rattle.vs_driver_parts.specs.State.{DriverState}
-use Rattle.laws_driver.specs.Waiting.{StopsAt}
 
 -- What holds at each end of a conversation.
 abbrev Keeps : {A : Type 0} → (A → RingContents → Type 0) → DriverTree A → RingContents → Type 0
@@ -31,48 +30,6 @@ keeps_then : {A B : Type 0} (P : B → RingContents → Type 0) (Q : A → RingC
     (c : RingContents) → Keeps P t c → ((x : B) (d : RingContents) → P x d → Keeps Q (f x) d) → Keeps Q (bind t f) c
 keeps_then P Q (Done x) f c keeps rest = rest x c keeps
 keeps_then P Q (Ask call go) f c keeps rest = λ a d allowed. keeps_then P Q (go a) f d (keeps a d allowed) rest
-
--- WHAT IS KNOWN
-abbrev NotFewer : Queue → Known → Known → Type 0
-NotFewer queue k l = (index_of queue k).loads ≤ (index_of queue l).loads
-
-at_first : (queue : Queue) (o : Option Known) → Relates o o (NotFewer queue)
-at_first queue None = refl
-at_first queue (Some k) = omega arith
-
-grown_by : (queue : Queue) (a b c : Option Known) → Relates a b (NotFewer queue) → Relates b c IsLater → Relates a c (NotFewer queue)
-grown_by queue None None c first later = later
-grown_by queue None (Some l) c first later = absurd cc
-grown_by queue (Some k) None c first later = absurd first
-grown_by queue (Some k) (Some l) None first later = later
-grown_by queue (Some k) (Some l) (Some m) first later = omega (arith, first, later.loads queue)
-
-index_there : (queue : Queue) (i : Index) (k : Known) → index_of queue (with_index queue i k) ≡ i
-index_there Rx i k = refl
-index_there Tx i k = refl
-index_there Event i k = refl
-
-none_found : (queue : Queue) (k l m : Known) → NotFewer queue k l → Finds {A = List ℕ} queue None l m → StopsAt queue k m
-none_found queue k l m first look =
-    let i = index_of queue l in
-    let there = ap (λ (z : Known). index_of queue z) look.is ∙ index_there queue (after_look i.taken 0 i) l in
-    let loads = ap (λ (z : Index). z.loads) there in
-    let shown = ap (λ (z : Index). z.shown) there in
-    let all_taken = ap (λ (z : Index). z.taken) there in
-    let told = ap (λ (z : Index). z.told) there in
-    record {
-      loaded = omega (arith, first, loads);
-      none_left = omega (arith, shown, all_taken);
-      all_told = omega (arith, look.all_told, told, all_taken);
-    }
-
-stops_by : (queue : Queue) (a b c : Option Known) → Relates a b (NotFewer queue) → Relates b c (Finds {A = List ℕ} queue None)
-    → Relates a c (StopsAt queue)
-stops_by queue None None c first found = found
-stops_by queue None (Some l) c first found = absurd cc
-stops_by queue (Some k) None c first found = absurd first
-stops_by queue (Some k) (Some l) None first found = found
-stops_by queue (Some k) (Some l) (Some m) first found = none_found queue k l m first found
 
 -- a publication leaves what was seen
 after_stored : (n : ℕ) (queue : Queue) (k l : Known) → StopsAt queue k l → StopsAt queue k (after_stores n queue l)
@@ -109,7 +66,7 @@ module _ (queue : Queue) (a : Option Known) where
       (driver_keeps (Ask call (λ z. Done z)) answer c d (answer, d, driver_allows call answer c d allowed, (refl, refl)))
 
   stops_none : (c d : RingContents) → RingAllows (Reap queue) None c d → Grown c → Stops d
-  stops_none c d allowed grown = stops_by queue a c.known d.known grown allowed.1.known
+  stops_none c d allowed grown = stops_by {A = List ℕ} queue a c.known d.known grown allowed.1.known
 
   stops_published : (c d : RingContents) → RingAllows (Publish queue) tt c d → Stops c → Stops d
   stops_published c d allowed stops =
