@@ -57,7 +57,7 @@ module _ (queue : Queue) (a : Option Known) where
   grown_same c d same grown = subst (λ (r : RingContents). Relates a r.known (NotFewer queue)) (sym same) grown
 
   stops_ring : (c d : Situation) → Allows (Ring (Take queue)) next.None c d → Grown c → Stops d
-  stops_ring c d allowed grown = stops_by {A = Chain} queue a c.ring.known d.ring.known grown allowed.0.1.known
+  stops_ring c d allowed grown = stops_by Chain queue a c.ring.known d.ring.known grown allowed.0.1.known
 
 -- FILLING: where it is over for want of a chain, the last load showed none; where it isn't over, these replies are owed.
 module _ (a : Option Known) where

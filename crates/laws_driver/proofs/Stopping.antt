@@ -66,7 +66,7 @@ module _ (queue : Queue) (a : Option Known) where
       (driver_keeps (Ask call (λ z. Done z)) answer c d (answer, d, driver_allows call answer c d allowed, (refl, refl)))
 
   stops_none : (c d : RingContents) → RingAllows (Reap queue) None c d → Grown c → Stops d
-  stops_none c d allowed grown = stops_by {A = List ℕ} queue a c.known d.known grown allowed.1.known
+  stops_none c d allowed grown = stops_by (List ℕ) queue a c.known d.known grown allowed.1.known
 
   stops_published : (c d : RingContents) → RingAllows (Publish queue) tt c d → Stops c → Stops d
   stops_published c d allowed stops =

@@ -20,8 +20,8 @@ grown_by queue (Some k) None c first later = absurd first
 grown_by queue (Some k) (Some l) None first later = later
 grown_by queue (Some k) (Some l) (Some m) first later = omega (arith, first, later.loads queue)
 
-none_found : {A : Type 0} (queue : Queue) (k l m : Known) → NotFewer queue k l → Finds {A = A} queue None l m → StopsAt queue k m
-none_found {A} queue k l m first look =
+none_found : (A : Type 0) (queue : Queue) (k l m : Known) → NotFewer queue k l → Finds {A = A} queue None l m → StopsAt queue k m
+none_found A queue k l m first look =
     let i = index_of queue l in
     let there = ap (λ (z : Known). index_of queue z) look.is ∙ index_there queue (after_look i.taken 0 i) l in
     let loads = ap (λ (z : Index). z.loads) there in
@@ -34,10 +34,10 @@ none_found {A} queue k l m first look =
       all_told = omega (arith, look.all_told, told, all_taken);
     }
 
-pub stops_by : {A : Type 0} (queue : Queue) (a b c : Option Known) → Relates a b (NotFewer queue) → Relates b c (Finds {A = A} queue None)
+pub stops_by : (A : Type 0) (queue : Queue) (a b c : Option Known) → Relates a b (NotFewer queue) → Relates b c (Finds {A = A} queue None)
     → Relates a c (StopsAt queue)
-stops_by {A} queue None None c first found = found
-stops_by {A} queue None (Some l) c first found = absurd cc
-stops_by {A} queue (Some k) None c first found = absurd first
-stops_by {A} queue (Some k) (Some l) None first found = found
-stops_by {A} queue (Some k) (Some l) (Some m) first found = none_found {A = A} queue k l m first found
+stops_by A queue None None c first found = found
+stops_by A queue None (Some l) c first found = absurd cc
+stops_by A queue (Some k) None c first found = absurd first
+stops_by A queue (Some k) (Some l) None first found = found
+stops_by A queue (Some k) (Some l) (Some m) first found = none_found A queue k l m first found
