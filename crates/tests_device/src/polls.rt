@@ -12,7 +12,7 @@ use vs_page::Page;
 use vs_ring_port::{DriverRing, NoDescriptor, Queue, Reaped};
 
 /// The pages of a queue of 32 places: those in flight, those of them that are staged, those that each of the first eight stores of the
-/// available index gave, and those that the device returns.
+/// available index gave, and those that the device returns, once they are in flight.
 #[derive(Drop)]
 struct Pages {
     in_flight: u16,
@@ -32,14 +32,14 @@ impl Model for Pages {
 }
 
 impl Pages {
-    fn new(alloc: Global) -> Pages
+    fn new(returned: Vec<Page>) -> Pages
         ensures { result ≡ (0, 0) }
     {
         Pages {
             in_flight: 0,
             staged: 0,
             stores: ArrayVec::new(),
-            returned: Vec::new(alloc),
+            returned,
         }
     }
 
@@ -150,19 +150,25 @@ impl DriverRing for CountingRing {
     }
 }
 
-// Making a driver gives 32 pages, by two stores. Then 20 packets wait, of another CID: a poll makes two more stores, of 16 pages and of 4.
-fn is_given_by_two_stores(alloc: Global) -> Result<bool, AllocError> {
-    let mut ring = CountingRing {
-        rx: Pages::new(alloc),
-        tx: Pages::new(alloc),
-        event: Pages::new(alloc),
-    };
-    let mut driver = Driver::new(alloc, &mut ring)?;
+// Twenty packets of another CID.
+fn packets(alloc: Global) -> Result<Vec<Page>, AllocError> {
+    let mut pages = Vec::new(alloc);
     for _ in 0..20 {
         let mut page = Page::new(alloc)?;
         page.write(0, &[0; 44]);
-        ring.rx.returned.push(page)?;
+        pages.push(page)?;
     }
+    Ok(pages)
+}
+
+// Making a driver gives 32 pages, by two stores. A poll takes the packets that wait, and makes two more stores, of 16 pages and of 4.
+fn is_given_by_two_stores(alloc: Global) -> Result<bool, AllocError> {
+    let mut ring = CountingRing {
+        rx: Pages::new(packets(alloc)?),
+        tx: Pages::new(Vec::new(alloc)),
+        event: Pages::new(Vec::new(alloc)),
+    };
+    let mut driver = Driver::new(alloc, &mut ring)?;
     let polled = driver.poll(&mut ring);
     Ok(polled.took == 20 && ring.rx.stores.as_slice() == [16, 16, 16, 4].as_slice())
 }
