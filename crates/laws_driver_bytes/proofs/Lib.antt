@@ -1,0 +1,6 @@
+pub mod Adding
+pub mod Growing
+pub mod Sending
+pub mod Shutting
+pub mod Receiving
+pub mod Reading
