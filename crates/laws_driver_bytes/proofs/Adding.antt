@@ -65,11 +65,11 @@ adds_by side p ps now bytes was is k = ap payload_of (with_one side k p ps) ∙ 
         ∙ no_more (k == now) (payload_of (instance_from side k ps)) p.payload none
 
 -- The number of the present connection stays, but at a REQUEST.
-asked_still : (side : Side) (p : Packet) (put got : List Packet) → is_request p ≡ false → asked_by side (p ∷ put) got ≡ asked_by side put got
+pub asked_still : (side : Side) (p : Packet) (put got : List Packet) → is_request p ≡ false → asked_by side (p ∷ put) got ≡ asked_by side put got
 asked_still Asker p put got plain = ap (λ (b : Bool). cond b (count is_request put + 1) (count is_request put)) plain
 asked_still Answerer p put got plain = refl
 
-asked_after : (side : Side) (p : Packet) (put got : List Packet) → is_request p ≡ false → asked_by side put (p ∷ got) ≡ asked_by side put got
+pub asked_after : (side : Side) (p : Packet) (put got : List Packet) → is_request p ≡ false → asked_by side put (p ∷ got) ≡ asked_by side put got
 asked_after Asker p put got plain = refl
 asked_after Answerer p put got plain = ap (λ (b : Bool). cond b (count is_request got + 1) (count is_request got)) plain
 

@@ -4,3 +4,5 @@ pub mod Sending
 pub mod Shutting
 pub mod Receiving
 pub mod Reading
+pub mod Changing
+pub mod Ending

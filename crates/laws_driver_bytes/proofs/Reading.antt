@@ -50,7 +50,7 @@ gone_bytes n g = bytes_of n g.unread _ (by (is_at_end g.end))
     by false xs = refl
 
 -- Nothing is given.
-given_none : (b : Bool) (xs : List ℕ) → xs ≡ xs ++ cond b [] []
+pub given_none : (b : Bool) (xs : List ℕ) → xs ≡ xs ++ cond b [] []
 given_none true xs = nothing_more xs
 given_none false xs = nothing_more xs
 

@@ -6,7 +6,8 @@ ghost use Rattle.vs_ring_port.specs.Contents.{IsSound, RingContents};
 ghost use Rattle.vs_driver_parts.specs.declared.answers.{ConnectError.ConnectError, Polled.Polled, Sent.Sent};
 ghost use Rattle.vs_driver_parts.specs.{Conversations.DriverTree, Conversations.connect_of, Conversations.poll_of, Conversations.send_of};
 ghost use Rattle.vs_driver_parts.specs.{Playing.Plays, State.DriverEntry, State.DriverState, State.entry_known_as};
-ghost use Rattle.vs_driver_parts.specs.Connections.{after_recv};
+ghost use Rattle.vs_driver_parts.specs.{Connections.after_close, Connections.after_recv, Connections.after_shutdown, Connections.after_unlisten};
+ghost use Rattle.vs_driver_parts.specs.Listening.{after_accept, listening};
 ghost use Rattle.laws_driver.specs.Honest.{IsHonestWith};
 ghost use Rattle.laws_driver_bytes.specs.Received.{Account, IsReceivedWith, after_receive};
 ghost use Rattle.laws_driver_bytes.specs.Sent.{PutsJust, StaysShut, TellsMore, none_on, sent_by, took};
@@ -33,8 +34,20 @@ pub fn law_of_logs<T>()
 {}
 
 /// What an application received on a connection, and then the bytes that are unread, is the payload delivered to it. A receive gives of the
-/// unread bytes the first (Virtio 1.2, section 5.10.6.3).
+/// unread bytes the first; a send and the calls that make no use of the ring give none (Virtio 1.2, section 5.10.6.3).
 pub fn law_of_received()
     ensures recv { (first id n : ℕ) (a : Account) (s : DriverState) (c : RingContents) → IsHonestWith first s c → IsReceivedWith a s c
         → IsReceivedWith (after_receive id n s a) (after_recv id n s) c }
+    ensures send { (first id : ℕ) (bytes : List ℕ) (a : Account) (s : DriverState) (c d : RingContents) (x : DriverState × Sent)
+        → IsHonestWith first s c → IsReceivedWith a s c → Plays (send_of id bytes s) c x d → IsReceivedWith a x.0 d }
+    ensures shutdown { (first id bits : ℕ) (a : Account) (s : DriverState) (c : RingContents) → IsHonestWith first s c → IsReceivedWith a s c
+        → IsReceivedWith a (after_shutdown id bits s) c }
+    ensures close { (first id : ℕ) (a : Account) (s : DriverState) (c : RingContents) → IsHonestWith first s c → IsReceivedWith a s c
+        → IsReceivedWith a (after_close id s) c }
+    ensures listen { (first port : ℕ) (a : Account) (s : DriverState) (c : RingContents) → IsHonestWith first s c → IsReceivedWith a s c
+        → IsReceivedWith a (listening port s) c }
+    ensures unlisten { (first port : ℕ) (a : Account) (s : DriverState) (c : RingContents) → IsHonestWith first s c → IsReceivedWith a s c
+        → IsReceivedWith a (after_unlisten port s) c }
+    ensures accept { (first port : ℕ) (a : Account) (s : DriverState) (c : RingContents) → IsHonestWith first s c → IsReceivedWith a s c
+        → IsReceivedWith a (after_accept port s) c }
 {}

@@ -1,0 +1,24 @@
+-- What calls on the ring carry to their ends.
+use Rattle.std.proofs.Common.{◌≡◌, ℕ, List, Some}
+use Rattle.vs_ring_port.specs.{Contents.RingContents, EndLog.EndLog}
+use Rattle.vs_driver_parts.specs.{declared.answers.Sent.Sent, Conversations.send_of, Playing.Plays, State.DriverState}
+use Rattle.laws_driver.specs.Honest.{AgreesWith, IsHonestWith, slots_of}
+use Rattle.laws_driver.proofs.{Calls.send_keeps, Carrying.Fact, Keeping.keeps_end, Ringing.at_rest, Staging.Rests}
+use Rattle.laws_driver_bytes.specs.Received.{Account, AreReceived, IsReceivedWith}
+use Rattle.laws_driver_bytes.proofs.Changing.{send_receives}
+
+abbrev pub received_by : Account → Fact
+received_by a slots log = AreReceived a log slots
+
+pub starts_received : (first : ℕ) (a : Account) (s : DriverState) (c : RingContents) → IsHonestWith first s c → IsReceivedWith a s c
+    → Rests first (received_by a) s c
+starts_received first a s c honest account = λ on l is. (at_rest first s l (honest on l is), account on l is)
+
+pub send_ends : (first id : ℕ) (bytes : List ℕ) (a : Account) (s : DriverState) (c d : RingContents) (x : DriverState × Sent)
+    → IsHonestWith first s c → IsReceivedWith a s c → Plays (send_of id bytes s) c x d → IsReceivedWith a x.0 d
+send_ends first id bytes a s c d x honest account plays = λ on l is. (kept on l is).1
+  where
+    kept : Rests first (received_by a) x.0 d
+    kept =
+        keeps_end _ (send_of id bytes s) c d x
+        (send_keeps first id bytes _ _ (send_receives first id bytes a) s c (starts_received first a s c honest account)) plays
