@@ -6,3 +6,4 @@ pub mod Receiving
 pub mod Reading
 pub mod Changing
 pub mod Ending
+pub mod Logging
