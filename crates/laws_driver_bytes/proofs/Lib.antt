@@ -7,3 +7,4 @@ pub mod Reading
 pub mod Changing
 pub mod Ending
 pub mod Logging
+pub mod Polling
