@@ -1,5 +1,5 @@
 -- What a walk over the driver's conversations carries besides: a fact of the driver's slots and of its log, with the packets that are staged.
-use Rattle.std.proofs.Common.{◌≡◌, ℕ, List, [], ◌∷◌, Option, Some, None, refl, sym, subst}
+use Rattle.std.proofs.Common.{◌≡◌, ℕ, ◌<◌, ◌^◌, List, [], ◌∷◌, Option, Some, None, refl, sym, subst}
 use Rattle.vs_conn.specs.{End.owes_of, declared.end.Owed.Owed}
 use Rattle.laws_history.specs.declared.packet.Packet.{Packet}
 use Rattle.vs_page.specs.{Fair.IsFairLog, Held.IsWhole, Log.Driver, Log.Log, declared.log.LogEntry.TheVariants.GotEvent}
@@ -81,7 +81,7 @@ pub record Carries (first : ℕ) (fact : Fact) : Type 0 where
       → Matches Driver first (ends_of_state s) log → IsFairLog Driver log → IsFairLog Driver (GotPacket p ∷ log) → fact (slots_of s) log
       → fact (slots_of (on_packet p s)) (GotPacket p ∷ log)
   pub event : (id : ℕ) (slots : HeldSlots) (log : Log) → fact slots log → fact slots (GotEvent id ∷ log)
-  pub reset : (cid : ℕ) (s : DriverState) (log : Log) → IsFitState s → fact (slots_of s) log → fact (slots_of (after_reset cid s)) (Mark cid ∷ log)
+  pub reset : (cid : ℕ) (s : DriverState) (log : Log) → cid < 2 ^ 64 → IsFitState s → fact (slots_of s) log → fact (slots_of (after_reset cid s)) (Mark cid ∷ log)
 
 pub carries_nothing : (first : ℕ) → Carries first nothing
 carries_nothing first = record {
@@ -89,5 +89,5 @@ carries_nothing first = record {
   reply = λ r s log was fair held. tt;
   got = λ p s log fits ports whole m was fair held. tt;
   event = λ id slots log held. tt;
-  reset = λ cid s log fits held. tt;
+  reset = λ cid s log less fits held. tt;
 }

@@ -119,7 +119,7 @@ loads_with : (first : ℕ) (fact : Fact) → Carries first fact → (cid : ℕ) 
 loads_with first fact steps cid s l less rest has =
     let marked : entries_marked cid l.entries ≡ Mark cid ∷ l.entries = ap (entries_marked cid) has.2 ∙ ap (λ (log : Log). Mark cid ∷ log) (sym has.2) in (
       loads first cid s l less rest.0 has,
-      subst (λ (log : Log). fact (slots_of (after_reset cid s)) log) (sym marked) (steps.reset cid s l.entries rest.0.0 rest.1),
+      subst (λ (log : Log). fact (slots_of (after_reset cid s)) log) (sym marked) (steps.reset cid s l.entries less rest.0.0 rest.1),
     )
 
 module _ (first : ℕ) (fact : Fact) (steps : Carries first fact) where

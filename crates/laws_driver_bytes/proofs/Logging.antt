@@ -246,9 +246,12 @@ module _ (a : Account) (log new : Log) (slots : HeldSlots) (f : Flow) (c : Drive
       once_by i j false false pi qj some same =
           x.once i j (subst (λ (k : Connection). 1 ≤ k.number) (of_old i pi) some) (sym (of_old i pi) ∙ same ∙ of_old j qj)
 
-  pub opened_goes_on : GoesOn slots.next_id a b
+  pub opened_goes_on : GoesOn a b
   opened_goes_on = record {
     first_id = refl;
-    opened = λ other less. old_is other (λ is. absurd (omega (arith, is, less)));
+    opened = λ other some. old_is other (λ is.
+        let none = (x.fresh slots.next_id (omega arith)).0 in
+        let one = subst (λ (k : ℕ). 1 ≤ (a.opened k).number) is some in
+        absurd (omega (arith, none, one)));
     received = λ other. refl;
   }

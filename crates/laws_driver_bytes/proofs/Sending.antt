@@ -55,7 +55,7 @@ poll_carries first log = record {
   reply = λ r s now was fair held c. put_none Driver now _ c refl ∙ held c;
   got = λ p s now fits ports whole m was fair held c. put_over_got Driver p now c ∙ held c;
   event = λ id slots now held. held;
-  reset = λ cid s now fits held. held;
+  reset = λ cid s now less fits held. held;
 }
 
 -- A call that puts none.

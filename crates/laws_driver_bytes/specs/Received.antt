@@ -69,8 +69,12 @@ pub record AreReceived (a : Account) (log : Log) (slots : HeldSlots) : Type 0 wh
 abbrev pub IsReceivedWith : Account → DriverState → RingContents → Type 0
 IsReceivedWith a s c = c.honest ≡ true → ForSome c.log (λ l. AreReceived a l.entries (slots_of s))
 
--- Another account has all that this one has, and ids from this one on besides.
-pub record GoesOn (next_id : ℕ) (a b : Account) : Type 0 where
+-- Another account has all that this one has, and maybe more ids.
+pub record GoesOn (a b : Account) : Type 0 where
   pub first_id : b.first_id ≡ a.first_id
-  pub opened : (id : ℕ) → id < next_id → b.opened id ≡ a.opened id
+  pub opened : (id : ℕ) → 1 ≤ (a.opened id).number → b.opened id ≡ a.opened id
   pub received : (id : ℕ) → b.received id ≡ a.received id
+
+-- The account goes on to one that is right.
+abbrev pub GoesOnWith : Account → DriverState → RingContents → Type 0
+GoesOnWith a s c = c.honest ≡ true → ForSome c.log (λ l. (b : Account) × GoesOn a b × AreReceived b l.entries (slots_of s))

@@ -9,7 +9,7 @@ ghost use Rattle.vs_driver_parts.specs.{Playing.Plays, State.DriverEntry, State.
 ghost use Rattle.vs_driver_parts.specs.{Connections.after_close, Connections.after_recv, Connections.after_shutdown, Connections.after_unlisten};
 ghost use Rattle.vs_driver_parts.specs.Listening.{after_accept, listening};
 ghost use Rattle.laws_driver.specs.Honest.{IsHonestWith};
-ghost use Rattle.laws_driver_bytes.specs.Received.{Account, IsReceivedWith, after_receive};
+ghost use Rattle.laws_driver_bytes.specs.Received.{Account, GoesOnWith, IsReceivedWith, after_receive};
 ghost use Rattle.laws_driver_bytes.specs.Sent.{PutsJust, StaysShut, TellsMore, none_on, sent_by, took};
 
 /// Over an honest ring that tells its log a send puts just the bytes that it took, on the connection of its id, and none on any other. A
@@ -40,6 +40,9 @@ pub fn law_of_received()
         → IsReceivedWith (after_receive id n s a) (after_recv id n s) c }
     ensures send { (first id : ℕ) (bytes : List ℕ) (a : Account) (s : DriverState) (c d : RingContents) (x : DriverState × Sent)
         → IsHonestWith first s c → IsReceivedWith a s c → Plays (send_of id bytes s) c x d → IsReceivedWith a x.0 d }
+    // A poll gives none. Ids of connections that it opens come to the account.
+    ensures poll { (first : ℕ) (a : Account) (s : DriverState) (c d : RingContents) (x : DriverState × Polled)
+        → IsHonestWith first s c → IsReceivedWith a s c → Plays (poll_of s) c x d → GoesOnWith a x.0 d }
     ensures shutdown { (first id bits : ℕ) (a : Account) (s : DriverState) (c : RingContents) → IsHonestWith first s c → IsReceivedWith a s c
         → IsReceivedWith a (after_shutdown id bits s) c }
     ensures close { (first id : ℕ) (a : Account) (s : DriverState) (c : RingContents) → IsHonestWith first s c → IsReceivedWith a s c
