@@ -1,13 +1,13 @@
 -- What calls on the ring carry to their ends.
-use Rattle.std.proofs.Common.{◌≡◌, ℕ, List, Some}
+use Rattle.std.proofs.Common.{◌≡◌, ℕ, ◌<◌, ◌^◌, List, Result, Some}
 use Rattle.vs_ring_port.specs.{Contents.RingContents, EndLog.EndLog}
 use Rattle.std.proofs.Common.{refl}
-use Rattle.vs_driver_parts.specs.declared.answers.{Polled.Polled, Sent.Sent}
-use Rattle.vs_driver_parts.specs.{Conversations.poll_of, Conversations.send_of, Playing.Plays, State.DriverState}
+use Rattle.vs_driver_parts.specs.declared.answers.{ConnectError.ConnectError, Polled.Polled, Sent.Sent}
+use Rattle.vs_driver_parts.specs.{Conversations.connect_of, Conversations.poll_of, Conversations.send_of, Playing.Plays, State.DriverState}
 use Rattle.laws_driver.proofs.Polling.{poll_keeps}
-use Rattle.laws_driver_bytes.proofs.Polling.{Further, poll_carries}
+use Rattle.laws_driver_bytes.proofs.{Connecting.connect_carries, Polling.Further, Polling.poll_carries}
 use Rattle.laws_driver.specs.Honest.{AgreesWith, IsHonestWith, slots_of}
-use Rattle.laws_driver.proofs.{Calls.send_keeps, Carrying.Fact, Keeping.keeps_end, Ringing.at_rest, Staging.Rests}
+use Rattle.laws_driver.proofs.{Calls.connect_keeps, Calls.send_keeps, Carrying.Fact, Keeping.keeps_end, Ringing.at_rest, Staging.Rests}
 use Rattle.laws_driver_bytes.specs.Received.{Account, AreReceived, GoesOn, GoesOnWith, IsReceivedWith}
 use Rattle.laws_driver_bytes.proofs.Changing.{send_receives}
 
@@ -40,3 +40,16 @@ poll_ends first a s c d x honest account plays = λ on l is. (kept on l is).1
 
     kept : Rests first (Further a) x.0 d
     kept = keeps_end _ (poll_of s) c d x (poll_keeps first (Further a) (poll_carries first a) s c starts) plays
+
+pub connect_ends : (first host : ℕ) (a : Account) (s : DriverState) (c d : RingContents) (x : DriverState × Result ℕ ConnectError) → host < 2 ^ 32
+    → IsHonestWith first s c → IsReceivedWith a s c → Plays (connect_of host s) c x d → GoesOnWith a x.0 d
+connect_ends first host a s c d x port honest account plays = λ on l is. (kept on l is).1
+  where
+    same : GoesOn a a
+    same = record { first_id = refl; opened = λ id some. refl; received = λ id. refl }
+
+    starts : Rests first (Further a) s c
+    starts on l is = (at_rest first s l (honest on l is), (a, same, account on l is))
+
+    kept : Rests first (Further a) x.0 d
+    kept = keeps_end _ (connect_of host s) c d x (connect_keeps first host (Further a) _ (connect_carries first host a) s c port starts) plays

@@ -8,3 +8,4 @@ pub mod Changing
 pub mod Ending
 pub mod Logging
 pub mod Polling
+pub mod Connecting

@@ -40,7 +40,9 @@ pub fn law_of_received()
         → IsReceivedWith (after_receive id n s a) (after_recv id n s) c }
     ensures send { (first id : ℕ) (bytes : List ℕ) (a : Account) (s : DriverState) (c d : RingContents) (x : DriverState × Sent)
         → IsHonestWith first s c → IsReceivedWith a s c → Plays (send_of id bytes s) c x d → IsReceivedWith a x.0 d }
-    // A poll gives none. Ids of connections that it opens come to the account.
+    // Nor do a connect and a poll. The ids of connections that they open come to the account.
+    ensures connect { (first host : ℕ) (a : Account) (s : DriverState) (c d : RingContents) (x : DriverState × Result ℕ ConnectError)
+        → host < 2 ^ 32 → IsHonestWith first s c → IsReceivedWith a s c → Plays (connect_of host s) c x d → GoesOnWith a x.0 d }
     ensures poll { (first : ℕ) (a : Account) (s : DriverState) (c d : RingContents) (x : DriverState × Polled)
         → IsHonestWith first s c → IsReceivedWith a s c → Plays (poll_of s) c x d → GoesOnWith a x.0 d }
     ensures shutdown { (first id bits : ℕ) (a : Account) (s : DriverState) (c : RingContents) → IsHonestWith first s c → IsReceivedWith a s c

@@ -4,7 +4,7 @@ use Rattle.vs_driver_parts.specs.{Listening.after_accept, Listening.next_accepte
 use Rattle.laws_driver.specs.Honest.{slots_of}
 use Rattle.laws_driver_bytes.specs.Received.{Account, AreReceived}
 use Rattle.laws_driver_bytes.proofs.Changing.{close_received, send_receives, shutdown_received, unlisten_received}
-use Rattle.laws_driver_bytes.proofs.{Ending.poll_ends, Ending.send_ends, Reading.recv_received}
+use Rattle.laws_driver_bytes.proofs.{Ending.connect_ends, Ending.poll_ends, Ending.send_ends, Reading.recv_received}
 use Rattle.laws_driver_bytes.proofs.laws.law_of_received.Goals as goal
 
 pub returns-clause-recv : goal.returns-clause-recv
@@ -12,6 +12,9 @@ returns-clause-recv c = λ first id n a s r honest account on l is. recv_receive
 
 pub returns-clause-send : goal.returns-clause-send
 returns-clause-send c = λ first id bytes a s r d x honest account plays. send_ends first id bytes a s r d x honest account plays
+
+pub returns-clause-connect : goal.returns-clause-connect
+returns-clause-connect c = connect_ends
 
 pub returns-clause-poll : goal.returns-clause-poll
 returns-clause-poll c = poll_ends
