@@ -1,7 +1,7 @@
 -- What a packet adds to the payload of connections, where the log is fair with it: only the present connection of its flow gets any.
 use Rattle.std.proofs.Common.{◌≡◌, ℕ, ◌+◌, ◌==◌, ◌&&◌, Bool, true, false, cond, List, [], ◌∷◌, ◌++◌, length, refl, sym, ap, subst, ◌∙◌, arith}
 use Rattle.std.proofs.Common.{append-nil, length-append}
-use Rattle.std.proofs.lemmas.{Bool.Decides.nat_tests, Grind.common_steps}
+use Rattle.std.proofs.lemmas.{Bool.Decides.nat_tests}
 use Rattle.vs_flow.specs.{Connection.Connection, Flow.same_flow, declared.flow.Flow.Flow}
 use Rattle.laws_history.specs.{declared.packet.Packet.Packet, Packets.is_clean_rst, Packets.is_request, Again.count}
 use Rattle.laws_history.specs.History.{Answerer, Asker, Got, History, Put, Side, gots, peer, puts}
@@ -9,7 +9,7 @@ use Rattle.vs_page.specs.Fair.{IsFairLog, asked_by, current, instance_from, numb
 use Rattle.vs_page.specs.Log.{Log, Role, and_then, flow_got, flow_put, history_of, side_of, whole_of}
 use Rattle.vs_page.specs.declared.log.LogEntry.TheVariants.{GotPacket, PutPacket}
 use Rattle.vs_page.proofs.{Flows.same_is, Flows.same_self, Present.present_got, Present.present_put}
-use Rattle.laws_driver_bytes.specs.Sent.{is_same, only_on}
+use Rattle.laws_driver_bytes.specs.Sent.{only_on}
 
 -- The number of the connection that a packet behind these is of.
 abbrev index : Side → Packet → List Packet → ℕ

@@ -1,27 +1,26 @@
 -- Calls that read nothing keep the account: those that make no use of the ring, and a send.
-use Rattle.std.proofs.Common.{◌≡◌, ℕ, ◌+◌, ◌==◌, not, Bool, true, false, cond, List, [], ◌∷◌, ◌++◌, take, length, Option, Some, None, refl, sym, ap}
-use Rattle.std.proofs.Common.{Contains, subst, ◌∙◌, append-nil}
-use Rattle.std.specs.List.{All, filter}
+use Rattle.std.proofs.Common.{◌≡◌, ℕ, ◌==◌, not, Bool, true, false, cond, List, [], ◌∷◌, take, length, Option, Some, None, refl}
+use Rattle.std.proofs.Common.{Contains, ◌∙◌}
 use Rattle.std.proofs.lemmas.List.Elements.{All-filter}
 use Rattle.vs_conn.specs.{End.with_payload_sent, End.wanting_credit, declared.end.State.State}
 use Rattle.vs_conn.specs.declared.end.State.TheVariants as state
-use Rattle.vs_flow.specs.{Connection.Connection, Flow.same_flow, Table.IsTable, declared.flow.Flow.Flow}
-use Rattle.laws_history.specs.{declared.packet.Packet.Packet, Packets.is_request, Again.count}
-use Rattle.laws_history.specs.History.{Answerer, Asker, Got, History, Put, Side, gots, puts}
-use Rattle.vs_page.specs.{Fair.asked_by, Fair.current, Fair.number_of, Fair.payload_got, Log.Driver, Log.Log, Log.Role, Log.flow_got, Log.flow_put}
+use Rattle.vs_flow.specs.{Flow.same_flow, Table.IsTable, declared.flow.Flow.Flow}
+use Rattle.laws_history.specs.{declared.packet.Packet.Packet, Packets.is_request}
+use Rattle.laws_history.specs.History.{Got, History, Put, Side, gots, puts}
+use Rattle.vs_page.specs.{Fair.asked_by, Fair.number_of, Fair.payload_got, Log.Driver, Log.Log, Log.Role, Log.flow_got, Log.flow_put}
 use Rattle.vs_page.specs.{Log.side_of, Log.whole_of, declared.log.LogEntry.TheVariants.GotPacket, declared.log.LogEntry.TheVariants.PutPacket}
 use Rattle.vs_driver_parts.specs.{Held.with_connection_in, Listening.with_waiting, Listening.without_id, State.DriverConnection, State.DriverEntry}
 use Rattle.vs_driver_parts.specs.State.{DriverState, GoneConnection, entry_known_as, gone_known_as, is_known_as}
 use Rattle.vs_driver_parts.specs.Connections.{after_close, after_closing, after_shut, after_shutdown, after_unlisten, all_closed, entry_closed}
-use Rattle.vs_driver_parts.specs.Connections.{gone_closed, shut_in, waiting_on, with_connection, without_gone}
+use Rattle.vs_driver_parts.specs.Connections.{gone_closed, shut_in, waiting_on, without_gone}
 use Rattle.vs_driver_parts.proofs.Numbers.{numbers_gone_without}
 use Rattle.laws_tables.proofs.Slots.{found_by}
 use Rattle.laws_tables.specs.Steps.{payload_on}
 use Rattle.laws_bytes.specs.Drains.{receives}
 use Rattle.laws_bytes.proofs.Steps.{Goes, ended_goes, shut_goes, stays_still}
 use Rattle.laws_driver.specs.Honest.{IsFitState, slots_of}
-use Rattle.laws_driver.proofs.{Calls.CarriesSend, Changing.close_changes, Tabling.Stands}
-use Rattle.laws_driver_bytes.specs.{Received.Account, Received.AreReceived, Received.ReceivedOn, Sent.only_on}
+use Rattle.laws_driver.proofs.{Calls.CarriesSend, Changing.close_changes}
+use Rattle.laws_driver_bytes.specs.{Received.Account, Received.AreReceived, Received.ReceivedOn}
 use Rattle.laws_driver_bytes.proofs.{Adding.asked_after, Adding.asked_still, Adding.got_over_put, Reading.given_none, Receiving.changed_received}
 use Rattle.vs_driver_parts.specs.Connections as connections
 

@@ -1,9 +1,9 @@
 -- A connect opens a connection on which nothing was delivered; and the account of a driver that was just made.
-use Rattle.std.proofs.Common.{◌≡◌, ◌≢◌, ℕ, ◌+◌, ◌<◌, ◌≤◌, Bool, true, false, cond, None, List, [], ◌∷◌, get_or, refl, sym, ap, subst, ◌∙◌, arith}
+use Rattle.std.proofs.Common.{◌≡◌, ◌≢◌, ℕ, ◌+◌, ◌<◌, Bool, true, false, cond, None, List, [], ◌∷◌, refl, ap, ◌∙◌, arith}
 use Rattle.std.specs.List.{All}
 use Rattle.vs_conn.specs.{End.asked, End.paid_of}
 use Rattle.vs_conn.specs.declared.end.Owed.TheVariants as owed
-use Rattle.vs_flow.specs.{Connection.Connection, Flow.is_assigned, Flow.same_flow, declared.flow.Flow.Flow}
+use Rattle.vs_flow.specs.{Connection.Connection, Flow.is_assigned, declared.flow.Flow.Flow}
 use Rattle.vs_flow.proofs.Entries.{same_flow_false}
 use Rattle.vs_header.specs.declared.Kind.TheVariants.{Stream}
 use Rattle.vs_limits.specs.declared.TheConstants.{BUF_ALLOC}
@@ -15,10 +15,10 @@ use Rattle.vs_page.specs.declared.log.LogEntry.TheVariants.{PutPacket}
 use Rattle.vs_page.proofs.{Flows.same_self, Present.present_got}
 use Rattle.laws_tables.specs.Steps.{request_on}
 use Rattle.vs_driver_parts.specs.{Connections.connect_refusal, Connections.connected, Connections.next_flow, Held.HeldSlots, State.DriverConnection}
-use Rattle.vs_driver_parts.specs.State.{DriverState}
+use Rattle.vs_driver_parts.specs.{Conversations.new_state, State.DriverState}
 use Rattle.laws_driver.specs.Honest.{IsFitState, slots_of}
 use Rattle.laws_driver.proofs.{Calls.CarriesConnect, Putting.may_connect}
-use Rattle.laws_driver_bytes.specs.Received.{Account, AreReceived, with_opened}
+use Rattle.laws_driver_bytes.specs.Received.{Account, AreReceived, no_account, with_opened}
 use Rattle.laws_driver_bytes.proofs.{Adding.got_over_put, Logging.opened_goes_on, Logging.opened_received, Polling.Further, Polling.goes_then}
 
 -- The numbers given last don't count.
@@ -78,4 +78,23 @@ pub connect_carries : (first host : ℕ) (a : Account) → CarriesConnect first 
 connect_carries first host a = record {
   refused = λ why slots log x. x;
   opens = λ s log fits free m was fair x. connected_received a host s log fits free fair x;
+}
+
+-- Nothing was received before the first call.
+pub none_received : (size port id : ℕ) → AreReceived (no_account id) [] (slots_of (new_state size port id 0))
+none_received size port id = record {
+  numbers = record {
+    given = omega arith;
+    slots = λ i d within. absurd (omega (arith, within));
+    below = λ i d within. absurd (omega (arith, within));
+    apart = λ i d within. absurd (omega (arith, within));
+    distinct = λ i j d less within. absurd (omega (arith, within));
+    ports = λ i d within. absurd (omega (arith, within));
+  };
+  front = λ other. ([], refl);
+  held = λ i d within. absurd (omega (arith, within));
+  left = λ i d within. absurd (omega (arith, within));
+  passed = λ other. omega arith;
+  once = λ i j some same. absurd (omega (arith, some));
+  fresh = λ other less. (refl, refl);
 }

@@ -1,14 +1,15 @@
 -- What calls on the ring carry to their ends.
-use Rattle.std.proofs.Common.{◌≡◌, ℕ, ◌<◌, ◌^◌, List, Result, Some}
-use Rattle.vs_ring_port.specs.{Contents.RingContents, EndLog.EndLog}
+use Rattle.std.proofs.Common.{ℕ, ◌<◌, ◌≤◌, ◌^◌, List, Result}
+use Rattle.vs_limits.specs.declared.TheConstants.{LAST_PORT}
+use Rattle.vs_ring_port.specs.{Contents.RingContents}
 use Rattle.std.proofs.Common.{refl}
 use Rattle.vs_driver_parts.specs.declared.answers.{ConnectError.ConnectError, Polled.Polled, Sent.Sent}
-use Rattle.vs_driver_parts.specs.{Conversations.connect_of, Conversations.poll_of, Conversations.send_of, Playing.Plays, State.DriverState}
+use Rattle.vs_driver_parts.specs.{Conversations.connect_of, Conversations.new_of, Conversations.poll_of, Conversations.send_of, Playing.Plays, State.DriverState}
 use Rattle.laws_driver.proofs.Polling.{poll_keeps}
-use Rattle.laws_driver_bytes.proofs.{Connecting.connect_carries, Polling.Further, Polling.poll_carries}
-use Rattle.laws_driver.specs.Honest.{AgreesWith, IsHonestWith, slots_of}
-use Rattle.laws_driver.proofs.{Calls.connect_keeps, Calls.send_keeps, Carrying.Fact, Keeping.keeps_end, Ringing.at_rest, Staging.Rests}
-use Rattle.laws_driver_bytes.specs.Received.{Account, AreReceived, GoesOn, GoesOnWith, IsReceivedWith}
+use Rattle.laws_driver_bytes.proofs.{Connecting.connect_carries, Connecting.none_received, Polling.Further, Polling.poll_carries}
+use Rattle.laws_driver.specs.Honest.{IsFresh, IsHonestWith}
+use Rattle.laws_driver.proofs.{Calls.connect_keeps, Calls.new_keeps, Calls.send_keeps, Carrying.Fact, Keeping.keeps_end, Ringing.at_rest, Staging.Rests}
+use Rattle.laws_driver_bytes.specs.Received.{Account, AreReceived, GoesOn, GoesOnWith, IsReceivedWith, no_account}
 use Rattle.laws_driver_bytes.proofs.Changing.{send_receives}
 
 abbrev pub received_by : Account → Fact
@@ -53,3 +54,12 @@ connect_ends first host a s c d x port honest account plays = λ on l is. (kept 
 
     kept : Rests first (Further a) x.0 d
     kept = keeps_end _ (connect_of host s) c d x (connect_keeps first host (Further a) _ (connect_carries first host a) s c port starts) plays
+
+pub new_ends : (size port id : ℕ) (c d : RingContents) (s : DriverState) → port ≤ LAST_PORT → IsFresh c → Plays (new_of size port id) c s d
+    → IsReceivedWith (no_account id) s d
+new_ends size port id c d s fits fresh plays = λ on l is. (kept on l is).1
+  where
+    kept : Rests s.cid (received_by (no_account id)) s d
+    kept =
+        keeps_end (λ t e. Rests t.cid (received_by (no_account id)) t e) (new_of size port id) c d s
+        (new_keeps size port id fits (received_by (no_account id)) (none_received size port id) c fresh) plays

@@ -12,7 +12,7 @@ use Rattle.laws_history.specs.History.{Answerer, Asker, Got, History, Side, gots
 use Rattle.vs_page.specs.{Fair.IsPrefixOf, Fair.asked_by, Fair.current, Fair.number_of, Fair.payload_got, Log.Driver, Log.Log, Log.flow_got}
 use Rattle.vs_page.specs.{Log.side_of, Log.whole_of, declared.log.LogEntry.TheVariants.GotPacket}
 use Rattle.vs_page.proofs.{Flows.same_is, Flows.same_self, Flows.still, PayloadLogs.got_stays}
-use Rattle.vs_driver_parts.specs.{Held.HeldSlots, Held.with_opening, State.DriverConnection, State.DriverEntry, State.GoneConnection}
+use Rattle.vs_driver_parts.specs.{Held.HeldSlots, State.DriverConnection, State.DriverEntry, State.GoneConnection}
 use Rattle.vs_driver_parts.proofs.Numbers.{numbers_left, numbers_with_entry, numbers_without}
 use Rattle.laws_bytes.specs.Drains.{Drains, receives}
 use Rattle.laws_bytes.proofs.{Changes.others_left, Changes.under_slot, Logs.all_of, Logs.nothing_more, Logs.prefix_then}

@@ -1,5 +1,5 @@
 -- A poll keeps the account, with the ids of the connections that it opens.
-use Rattle.std.proofs.Common.{◌≡◌, ◌≢◌, ℕ, ◌+◌, ◌<◌, ◌≤◌, ◌^◌, ◌==◌, ◌&&◌, not, Bool, true, false, cond, List, [], ◌∷◌, ◌++◌, get_or, Contains, Option}
+use Rattle.std.proofs.Common.{◌≡◌, ◌≢◌, ℕ, ◌+◌, ◌<◌, ◌≤◌, ◌==◌, ◌&&◌, not, Bool, true, false, cond, List, [], ◌∷◌, ◌++◌, Contains, Option}
 use Rattle.std.proofs.Common.{Some, None, refl, sym, ap, subst, ◌∙◌, arith}
 use Rattle.std.proofs.lemmas.{Bool.Decides.nat_tests, Grind.common_steps}
 use Rattle.std.specs.List.{All, filter, slice_get}
@@ -15,16 +15,16 @@ use Rattle.laws_history.specs.{declared.packet.Packet.Packet, Packets.is_rw, Aga
 use Rattle.laws_history.specs.History.{Answerer, Asker, Got, Side, gots, puts}
 use Rattle.laws_history.specs.Packets as packets
 use Rattle.vs_page.specs.{Fair.IsFairLog, Fair.asked_by, Fair.current, Fair.number_of, Fair.payload_got, Fair.payload_of, Held.IsWhole, Log.Driver}
-use Rattle.vs_page.specs.{Log.Log, Log.and_then, Log.flow_got, Log.flow_to_guest, Log.history_of, Log.side_by, Log.side_of, Log.whole_of, Open.is_dropped}
+use Rattle.vs_page.specs.{Log.Log, Log.and_then, Log.flow_got, Log.history_of, Log.side_by, Log.side_of, Log.whole_of, Open.is_dropped}
 use Rattle.vs_page.specs.declared.log.LogEntry.TheVariants.{GotEvent, GotPacket, Mark, PutPacket}
-use Rattle.vs_page.proofs.{Flows.same_is, Flows.same_self, Flows.still, PayloadLogs.got_none, Present.present_got}
-use Rattle.vs_replies.specs.{Owed.reply_to, declared.Reply.Reply}
-use Rattle.laws_tables.specs.{Ends.Ends, Ends.is_new, Matches.Matches, Steps.HasEnd, Steps.owed_on, Steps.reply_on}
+use Rattle.vs_page.proofs.{Flows.same_is, Flows.same_self, PayloadLogs.got_none, Present.present_got}
+use Rattle.vs_replies.specs.{Owed.reply_to}
+use Rattle.laws_tables.specs.{Ends.is_new, Matches.Matches, Steps.HasEnd, Steps.owed_on, Steps.reply_on}
 use Rattle.laws_tables.proofs.{Fair.got_goes_on, Fair.got_not_refused, Fair.heard_all, Slots.found_by, Tables.driver_begun}
-use Rattle.vs_driver_parts.specs.{Conversations.after_paying, Held.HeldSlots, Listening.has_place, Playing.FitsPorts, State.DriverConnection}
-use Rattle.vs_driver_parts.specs.State.{DriverEntry, DriverState, GoneConnection}
+use Rattle.vs_driver_parts.specs.{Conversations.after_paying, Held.HeldSlots, State.DriverConnection}
+use Rattle.vs_driver_parts.specs.State.{DriverEntry, DriverState}
 use Rattle.vs_driver_parts.specs.Connections.{after_leaving, gone_as, is_let_go, paid_connection, with_connection, with_request, waits_no_more}
-use Rattle.vs_driver_parts.specs.Receiving.{after_packet, after_reset, after_verdict, all_left, is_request, may_open, on_heard, on_known, on_packet}
+use Rattle.vs_driver_parts.specs.Receiving.{after_packet, after_verdict, all_left, is_request, may_open, on_heard, on_known, on_packet}
 use Rattle.vs_driver_parts.specs.Receiving.{on_unknown, reset_reply, with_reply}
 use Rattle.vs_driver_parts.proofs.{Ids.found_under, Packets.first_under, Packets.others_left, Packets.packet_known, Packets.packet_unknown}
 use Rattle.laws_bytes.specs.Drains.{receives}

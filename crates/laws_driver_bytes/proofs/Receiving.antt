@@ -1,15 +1,14 @@
 -- What an application received, through each change of a connection.
-use Rattle.std.proofs.Common.{◌≡◌, ◌≢◌, ℕ, ◌+◌, ◌<◌, ◌≤◌, ◌==◌, ◌&&◌, Bool, true, false, cond, List, [], ◌∷◌, ◌++◌, length, get_or, Contains, refl, sym}
+use Rattle.std.proofs.Common.{◌≡◌, ◌≢◌, ℕ, ◌+◌, ◌<◌, ◌≤◌, ◌==◌, ◌&&◌, Bool, true, false, cond, List, [], ◌++◌, length, get_or, Contains, refl, sym}
 use Rattle.std.proofs.Common.{ap, subst, ◌∙◌, arith, append-nil}
 use Rattle.std.proofs.Math.Path.{fun_ext}
-use Rattle.std.specs.List.{All}
 use Rattle.std.proofs.lemmas.{Bool.Decides.nat_tests, List.Elements.All-contains}
-use Rattle.vs_flow.specs.{Connection.Connection, Flow.same_flow, Table.IsTable, declared.flow.Flow.Flow}
+use Rattle.vs_flow.specs.{Connection.Connection, Table.IsTable, declared.flow.Flow.Flow}
 use Rattle.vs_flow.proofs.Entries.{same_flow_false}
 use Rattle.vs_page.proofs.Flows.{same_self}
 use Rattle.vs_page.specs.{Fair.IsPrefixOf, Fair.current, Fair.number_of, Fair.payload_got, Log.Driver, Log.Log}
 use Rattle.vs_driver_parts.specs.{Held.HeldSlots, Held.with_connection_in, State.DriverConnection, State.DriverEntry, State.GoneConnection}
-use Rattle.vs_driver_parts.proofs.{Ids.HasId, Ids.entry_has, Ids.value_of, Numbers.numbers_with_value}
+use Rattle.vs_driver_parts.proofs.{Ids.HasId, Ids.value_of, Numbers.numbers_with_value}
 use Rattle.laws_bytes.specs.Drains.{Drains, receives}
 use Rattle.laws_bytes.proofs.{Changes.changed, Changes.under_slot, Logs.longer, Logs.shorter, Steps.Goes}
 use Rattle.laws_driver_bytes.specs.{Received.Account, Received.AreReceived, Received.ReceivedOn, Received.ReceivesOn, Sent.only_on}

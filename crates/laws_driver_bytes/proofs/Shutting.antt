@@ -1,9 +1,7 @@
 -- Nothing more is put on a connection after the SHUTDOWN that says 'no more is sent', by no call.
-use Rattle.std.proofs.Common.{◌≡◌, ℕ, ◌≤◌, true, List, ◌++◌, Option, Some, ap, sym, subst, ◌∙◌}
+use Rattle.std.proofs.Common.{◌≡◌, Option, Some, ap, subst, ◌∙◌}
 use Rattle.vs_contents.specs.CallTree.{Ask, Done}
-use Rattle.vs_flow.specs.Connection.{Connection}
-use Rattle.laws_history.specs.{History.puts, Packets.has, Packets.shuts_send}
-use Rattle.vs_page.specs.{Fair.IsFairLog, Fair.number_of, Fair.payload_put, Log.Driver, Log.Log, Log.history_of}
+use Rattle.vs_page.specs.{Fair.IsFairLog, Fair.payload_put, Log.Driver, Log.Log}
 use Rattle.vs_page.proofs.Shut.{shut_put}
 use Rattle.vs_ring_port.specs.{Contents.IsSound, Contents.RingContents, EndLog.EndLog}
 use Rattle.vs_ring_port.specs.DriverCalls.{DriverAnswer, DriverCall, LoadCid, Publish, Reap, Stage}

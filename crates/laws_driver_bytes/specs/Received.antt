@@ -1,7 +1,7 @@
 -- What an application received on the driver's connections, against the payload that was delivered to them.
-use Rattle.std.specs.{List.All, Option.ForSome, Prelude.◌≡◌, Prelude.ℕ, Prelude.◌+◌, Prelude.◌<◌, Prelude.◌≤◌, Prelude.◌==◌, Prelude.◌++◌}
+use Rattle.std.specs.{List.All, Option.ForSome, Prelude.◌≡◌, Prelude.ℕ, Prelude.◌+◌, Prelude.◌≤◌, Prelude.◌==◌, Prelude.◌++◌}
 use Rattle.std.specs.Prelude.{true, if◌then◌else◌, List, [], take}
-use Rattle.vs_flow.specs.{Connection.Connection, Flow.host_flow, Table.Table, declared.flow.Flow.Flow}
+use Rattle.vs_flow.specs.{Connection.Connection, Flow.host_flow}
 use Rattle.vs_page.specs.Fair.{IsPrefixOf, current, number_of, payload_got}
 use Rattle.vs_page.specs.{Log.Driver, Log.Log}
 use Rattle.vs_ring_port.specs.Contents.{RingContents}

@@ -4,12 +4,14 @@ ghost use Rattle.std.specs.Prelude.{◌≡◌, ◌<◌, ◌≤◌, ◌^◌, ◌+
 ghost use Rattle.vs_page.specs.Log.{Driver};
 ghost use Rattle.vs_ring_port.specs.Contents.{IsSound, RingContents};
 ghost use Rattle.vs_driver_parts.specs.declared.answers.{ConnectError.ConnectError, Polled.Polled, Sent.Sent};
-ghost use Rattle.vs_driver_parts.specs.{Conversations.DriverTree, Conversations.connect_of, Conversations.poll_of, Conversations.send_of};
+ghost use Rattle.vs_driver_parts.specs.{Conversations.DriverTree, Conversations.connect_of, Conversations.new_of, Conversations.poll_of};
+ghost use Rattle.vs_driver_parts.specs.Conversations.{send_of};
+ghost use Rattle.vs_limits.specs.declared.TheConstants.{LAST_PORT};
 ghost use Rattle.vs_driver_parts.specs.{Playing.Plays, State.DriverEntry, State.DriverState, State.entry_known_as};
 ghost use Rattle.vs_driver_parts.specs.{Connections.after_close, Connections.after_recv, Connections.after_shutdown, Connections.after_unlisten};
 ghost use Rattle.vs_driver_parts.specs.Listening.{after_accept, listening};
-ghost use Rattle.laws_driver.specs.Honest.{IsHonestWith};
-ghost use Rattle.laws_driver_bytes.specs.Received.{Account, GoesOnWith, IsReceivedWith, after_receive};
+ghost use Rattle.laws_driver.specs.Honest.{IsFresh, IsHonestWith};
+ghost use Rattle.laws_driver_bytes.specs.Received.{Account, GoesOnWith, IsReceivedWith, after_receive, no_account};
 ghost use Rattle.laws_driver_bytes.specs.Sent.{PutsJust, StaysShut, TellsMore, none_on, sent_by, took};
 
 /// Over an honest ring that tells its log a send puts just the bytes that it took, on the connection of its id, and none on any other. A
@@ -36,6 +38,8 @@ pub fn law_of_logs<T>()
 /// What an application received on a connection, and then the bytes that are unread, is the payload delivered to it. A receive gives of the
 /// unread bytes the first; a send and the calls that make no use of the ring give none (Virtio 1.2, section 5.10.6.3).
 pub fn law_of_received()
+    ensures new { (size port id : ℕ) (c d : RingContents) (s : DriverState) → port ≤ LAST_PORT → IsFresh c → Plays (new_of size port id) c s d
+        → IsReceivedWith (no_account id) s d }
     ensures recv { (first id n : ℕ) (a : Account) (s : DriverState) (c : RingContents) → IsHonestWith first s c → IsReceivedWith a s c
         → IsReceivedWith (after_receive id n s a) (after_recv id n s) c }
     ensures send { (first id : ℕ) (bytes : List ℕ) (a : Account) (s : DriverState) (c d : RingContents) (x : DriverState × Sent)

@@ -1,11 +1,14 @@
 use Rattle.std.proofs.Common.{ℕ, Option, Some, None}
 use Rattle.vs_page.specs.Log.{Log}
-use Rattle.vs_driver_parts.specs.{Listening.after_accept, Listening.next_accepted, Listening.with_waiting, Listening.without_id, State.DriverState}
+use Rattle.vs_driver_parts.specs.{Listening.next_accepted, Listening.with_waiting, Listening.without_id, State.DriverState}
 use Rattle.laws_driver.specs.Honest.{slots_of}
 use Rattle.laws_driver_bytes.specs.Received.{Account, AreReceived}
-use Rattle.laws_driver_bytes.proofs.Changing.{close_received, send_receives, shutdown_received, unlisten_received}
-use Rattle.laws_driver_bytes.proofs.{Ending.connect_ends, Ending.poll_ends, Ending.send_ends, Reading.recv_received}
+use Rattle.laws_driver_bytes.proofs.Changing.{close_received, shutdown_received, unlisten_received}
+use Rattle.laws_driver_bytes.proofs.{Ending.connect_ends, Ending.new_ends, Ending.poll_ends, Ending.send_ends, Reading.recv_received}
 use Rattle.laws_driver_bytes.proofs.laws.law_of_received.Goals as goal
+
+pub returns-clause-new : goal.returns-clause-new
+returns-clause-new c = new_ends
 
 pub returns-clause-recv : goal.returns-clause-recv
 returns-clause-recv c = λ first id n a s r honest account on l is. recv_received a l.entries id n s (honest on l is).fits.sound (account on l is)
