@@ -9,18 +9,17 @@ use Rattle.vs_credit.specs.Credit.{free_of}
 use Rattle.vs_conn.specs.declared.end.Stop.TheVariants as stop
 use Rattle.vs_flow.specs.{Connection.Connection, Table.Table}
 use Rattle.vs_header.specs.declared.Kind.TheVariants.{Stream}
-use Rattle.vs_page.specs.{Fair.IsFairLog, Fair.current, Fair.payload_put, Log.Driver, Log.Log}
-use Rattle.vs_page.specs.declared.log.LogEntry.TheVariants.{PutPacket}
+use Rattle.vs_page.specs.{Fair.IsFairLog, Fair.current, Fair.payload_put, Log.Driver, Log.Log, declared.log.LogEntry.TheVariants.PutPacket}
 use Rattle.vs_page.proofs.PayloadLogs.{put_none}
 use Rattle.vs_ring_port.specs.{Contents.RingContents, EndLog.EndLog}
 use Rattle.laws_tables.specs.Steps.{payload_on, request_on}
 use Rattle.vs_driver_parts.specs.declared.answers.{ConnectError.ConnectError, Polled.Polled, Sent.Sent}
-use Rattle.vs_driver_parts.specs.Conversations.{DriverTree, connect_of, no_credit, not_sent, poll_of, send_of, send_on, send_stopped, send_with_credit}
-use Rattle.vs_driver_parts.specs.{Connections.next_flow, Playing.Plays, State.DriverEntry, State.DriverState, State.entry_known_as}
-use Rattle.vs_driver_parts.specs.State.{DriverConnection, gone_known_as, is_known_as}
+use Rattle.vs_driver_parts.specs.Conversations.{DriverTree, connect_of, no_credit, not_sent, poll_of, send_of, send_on, send_stopped}
+use Rattle.vs_driver_parts.specs.{Conversations.send_with_credit, Connections.next_flow, Playing.Plays, State.DriverEntry}
+use Rattle.vs_driver_parts.specs.State.{DriverState, entry_known_as, DriverConnection, gone_known_as, is_known_as}
 use Rattle.laws_driver.specs.Honest.{IsHonestWith, slots_of}
-use Rattle.laws_driver.proofs.{Calls.CarriesConnect, Calls.CarriesSend, Calls.connect_keeps, Calls.send_keeps, Carrying.Carries, Carrying.Fact}
-use Rattle.laws_driver.proofs.{Keeping.keeps_end, Polling.poll_keeps, Ringing.at_rest, Staging.Rests}
+use Rattle.laws_driver.proofs.{Calls.CarriesConnect, Calls.CarriesSend, Calls.connect_keeps, Calls.send_keeps, Carrying.Carries}
+use Rattle.laws_driver.proofs.{Carrying.Fact, Keeping.keeps_end, Polling.poll_keeps, Ringing.at_rest, Staging.Rests}
 use Rattle.laws_driver_bytes.specs.Sent.{PutsJust, none_on, only_on, sent_by, took}
 use Rattle.laws_driver_bytes.proofs.{Adding.put_adds, Adding.put_over_got, Growing.honest_stays}
 use Rattle.vs_driver_parts.specs.declared.answers.Sent.TheVariants as sent

@@ -2,8 +2,7 @@
 use Rattle.std.specs.{List.All, Option.ForSome, Prelude.◌≡◌, Prelude.ℕ, Prelude.◌+◌, Prelude.◌≤◌, Prelude.◌==◌, Prelude.◌++◌}
 use Rattle.std.specs.Prelude.{true, if◌then◌else◌, List, [], take}
 use Rattle.vs_flow.specs.{Connection.Connection, Flow.host_flow}
-use Rattle.vs_page.specs.Fair.{IsPrefixOf, current, number_of, payload_got}
-use Rattle.vs_page.specs.{Log.Driver, Log.Log}
+use Rattle.vs_page.specs.{Fair.IsPrefixOf, Fair.current, Fair.number_of, Fair.payload_got, Log.Driver, Log.Log}
 use Rattle.vs_ring_port.specs.Contents.{RingContents}
 use Rattle.vs_driver_parts.specs.{declared.answers.Received.Received, Held.HeldSlots, SlotFields.AreNumbered, State.DriverEntry}
 use Rattle.vs_driver_parts.specs.{State.DriverState, State.GoneConnection, Connections.recv_of, Connections.unread_of_id}

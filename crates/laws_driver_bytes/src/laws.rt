@@ -4,12 +4,11 @@ ghost use Rattle.std.specs.Prelude.{◌≡◌, ◌<◌, ◌≤◌, ◌^◌, ◌+
 ghost use Rattle.vs_page.specs.Log.{Driver};
 ghost use Rattle.vs_ring_port.specs.Contents.{IsSound, RingContents};
 ghost use Rattle.vs_driver_parts.specs.declared.answers.{ConnectError.ConnectError, Polled.Polled, Sent.Sent};
-ghost use Rattle.vs_driver_parts.specs.{Conversations.DriverTree, Conversations.connect_of, Conversations.new_of, Conversations.poll_of};
-ghost use Rattle.vs_driver_parts.specs.Conversations.{send_of};
-ghost use Rattle.vs_limits.specs.declared.TheConstants.{LAST_PORT};
-ghost use Rattle.vs_driver_parts.specs.{Playing.Plays, State.DriverEntry, State.DriverState, State.entry_known_as};
-ghost use Rattle.vs_driver_parts.specs.{Connections.after_close, Connections.after_recv, Connections.after_shutdown, Connections.after_unlisten};
+ghost use Rattle.vs_driver_parts.specs.Conversations.{DriverTree, connect_of, new_of, poll_of, send_of};
+ghost use Rattle.vs_driver_parts.specs.{Playing.Plays, State.DriverEntry, State.DriverState, State.entry_known_as, Connections.after_close};
+ghost use Rattle.vs_driver_parts.specs.Connections.{after_recv, after_shutdown, after_unlisten};
 ghost use Rattle.vs_driver_parts.specs.Listening.{after_accept, listening};
+ghost use Rattle.vs_limits.specs.declared.TheConstants.{LAST_PORT};
 ghost use Rattle.laws_driver.specs.Honest.{IsFresh, IsHonestWith};
 ghost use Rattle.laws_driver_bytes.specs.Received.{Account, GoesOnWith, IsReceivedWith, after_receive, no_account};
 ghost use Rattle.laws_driver_bytes.specs.Sent.{PutsJust, StaysShut, TellsMore, none_on, sent_by, took};
