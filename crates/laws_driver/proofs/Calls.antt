@@ -1,39 +1,43 @@
 -- What each call of the driver keeps over an honest ring.
-use Rattle.std.proofs.Common.{◌≡◌, ℕ, ◌+◌, ◌<◌, ◌≤◌, ◌^◌, ◌==◌, Bool, true, false, cond, min, List, [], length, Option, Some, None, Result}
-use Rattle.std.proofs.Common.{Ok, Err, refl, sym, ap, subst, ◌∙◌, arith, length-take}
+use Rattle.std.proofs.Common.{◌≡◌, ℕ, ◌+◌, ◌<◌, ◌≤◌, ◌^◌, ◌==◌, Bool, true, false, cond, min, List, [], ◌∷◌, length, take, Option, Some, None}
+use Rattle.std.proofs.Common.{Result, Ok, Err, refl, sym, ap, subst, ◌∙◌, arith, length-take}
 use Rattle.std.specs.Prelude.{IsOkAnd}
 use Rattle.vs_contents.specs.CallTree.{Done, Ask, bind}
 use Rattle.vs_conn.specs.{End.CanSend, End.may_send_of, End.wanting_credit, End.with_payload_sent, declared.end.Stop.Stop}
 use Rattle.vs_flow.specs.Table.{IsTable}
-use Rattle.vs_page.specs.{Log.Driver, Log.Log, declared.page.TheConstants.PAYLOAD_MAX}
+use Rattle.vs_header.specs.declared.Kind.TheVariants.{Stream}
+use Rattle.vs_page.specs.{Fair.IsFairLog, Log.Driver, Log.Log, declared.log.LogEntry.TheVariants.PutPacket}
+use Rattle.vs_page.specs.declared.page.TheConstants.{PAYLOAD_MAX}
 use Rattle.vs_ring_port.specs.{declared.queue.Queue.Queue, declared.queue.TheConstants.STAGED_MAX, Contents.RingContents, EndLog.EndLog}
 use Rattle.vs_ring_port.specs.{EndLog.entries_marked, EndLog.log_loaded, EndLog.log_published, EndLog.log_staged, DriverCalls.Publish}
 use Rattle.vs_ring_port.specs.declared.queue.Queue.TheVariants.{Rx, Tx, Event}
+use Rattle.laws_tables.specs.{Matches.Matches, Steps.payload_on, Steps.request_on}
 use Rattle.laws_tables.proofs.Keeps.{start_matches}
 use Rattle.vs_driver_parts.specs.declared.answers.{ConnectError.ConnectError, Polled.Polled, Sent.Sent}
-use Rattle.vs_driver_parts.specs.{Connections.connect_refusal, Connections.connected, Playing.MayPublishAll, Playing.Plays}
+use Rattle.vs_driver_parts.specs.{Connections.connect_refusal, Connections.connected, Connections.next_flow, Held.HeldSlots, Playing.MayPublishAll, Playing.Plays}
 use Rattle.vs_driver_parts.specs.Conversations.{connect_of, connect_with_page, has_page, load_cid, new_of, new_state, no_credit, not_sent}
 use Rattle.vs_driver_parts.specs.Conversations.{one_more_in_flight, payload_bytes, payload_of, poll_of, post_all, post_events, post_one}
 use Rattle.vs_driver_parts.specs.Conversations.{post_packet, posts, publish_of, reap_all, request_bytes, send_of, send_on, send_stopped}
 use Rattle.vs_driver_parts.specs.{Conversations.send_with_credit, Conversations.send_with_page, Conversations.stage_of, State.DriverEntry}
 use Rattle.vs_driver_parts.specs.State.{DriverState, entry_known_as}
 use Rattle.vs_limits.specs.declared.TheConstants.{LAST_PORT}
-use Rattle.laws_driver.specs.Honest.{AgreesWith, IsFitState, IsFresh, IsHonestWith, ends_of_state}
+use Rattle.laws_driver.specs.Honest.{AgreesWith, IsFitState, IsFresh, IsHonestWith, ends_of_state, slots_of}
 use Rattle.laws_driver.specs.Staged.{IsLeft}
 use Rattle.laws_driver.proofs.{Putting.connect_puts, Putting.send_puts, Polling.not_tx_event, Polling.not_tx_rx, Polling.poll_keeps}
 use Rattle.laws_driver.proofs.{Tabling.Stands, Changing.Changes, Changing.stands_known, Changing.wanting_changes, Keeping.Keeps}
 use Rattle.laws_driver.proofs.Keeping.{keeps_bind, keeps_end, keeps_may, keeps_weaker, keeps_while}
 use Rattle.laws_driver.proofs.Ringing.{IsAtRest, Tells, agrees, at_rest, can_publish_other, moves, tells_weaker, can_stage_other}
+use Rattle.laws_driver.proofs.Carrying.{Fact, RestsWith, carries_nothing, nothing}
 use Rattle.laws_driver.proofs.Staging.{Rests, SameBut, post_tx, reap_keeps}
 use Rattle.vs_driver_parts.specs.declared.answers.ConnectError.TheVariants as refused
 use Rattle.vs_driver_parts.specs.declared.answers.Sent.TheVariants as sent
 use Rattle.vs_driver_parts.specs.Connections as connections
 
-pub rests_of : (first : ℕ) (s : DriverState) (c : RingContents) → IsHonestWith first s c → Rests first s c
-rests_of first s c honest = tells_weaker (AgreesWith first s) (IsAtRest first s) (at_rest first s) c honest
+pub rests_of : (first : ℕ) (s : DriverState) (c : RingContents) → IsHonestWith first s c → Rests first nothing s c
+rests_of first s c honest = tells_weaker (AgreesWith first s) (RestsWith first nothing s) (λ l kept. (at_rest first s l kept, tt)) c honest
 
-pub honest_of : (first : ℕ) (s : DriverState) (c : RingContents) → Rests first s c → IsHonestWith first s c
-honest_of first s c rests = tells_weaker (IsAtRest first s) (AgreesWith first s) (agrees first s) c rests
+pub honest_of : (first : ℕ) (fact : Fact) (s : DriverState) (c : RingContents) → Rests first fact s c → IsHonestWith first s c
+honest_of first fact s c rests = tells_weaker (RestsWith first fact s) (AgreesWith first s) (λ l rest. agrees first s l rest.0) c rests
 
 -- A step that puts and gets nothing.
 pub changed : (first : ℕ) (s t : DriverState) (l : EndLog) → Changes s t → IsAtRest first s l → IsAtRest first t l
@@ -49,96 +53,179 @@ changed first s t l step rest = (
 
 pub still_honest : (first : ℕ) (s t : DriverState) (c : RingContents) → (IsFitState s → Changes s t) → IsHonestWith first s c → IsHonestWith first t c
 still_honest first s t c step honest =
-    honest_of first t c (tells_weaker (IsAtRest first s) (IsAtRest first t) (λ l rest. changed first s t l (step rest.0) rest) c (rests_of first s c honest))
+    honest_of first nothing t c
+    (tells_weaker (RestsWith first nothing s) (RestsWith first nothing t) (λ l rest. (changed first s t l (step rest.0.0) rest.0, tt)) c
+    (rests_of first s c honest))
 
-module _ (first : ℕ) where
-  -- connect.
+-- A connect carries one fact to another, by its answer: where it is refused, and where its REQUEST is put.
+pub record CarriesConnect (first host : ℕ) (before : Fact) (after : Result ℕ ConnectError → Fact) : Type 0 where
+  pub refused : (why : ConnectError) (slots : HeldSlots) (log : Log) → before slots log → after (Err why) slots log
+  pub opens : (s : DriverState) (log : Log) → let p = request_on Driver s.cid (next_flow host s) Stream in
+      IsFitState s → connect_refusal host s ≡ None → Matches Driver first (ends_of_state s) log → IsFairLog Driver log
+      → IsFairLog Driver (PutPacket p ∷ log) → before (slots_of s) log → after (Ok s.next_id) (slots_of (connected host s)) (PutPacket p ∷ log)
+
+-- The same of a send: where nothing goes, where credit is wanted, and where payload is put.
+pub record CarriesSend (first id : ℕ) (bytes : List ℕ) (before : Fact) (after : Sent → Fact) : Type 0 where
+  pub stopped : (why : Stop) (slots : HeldSlots) (log : Log) → before slots log → after (send_stopped why) slots log
+  pub unknown : (s : DriverState) (log : Log) → entry_known_as id s ≡ None → before (slots_of s) log → after (not_sent id s) (slots_of s) log
+  pub empty : (slots : HeldSlots) (log : Log) → before slots log → after (sent.Took 0) slots log
+  pub full : (n : ℕ) (slots : HeldSlots) (log : Log) → before slots log → after (sent.NoDescriptor n) slots log
+  pub wants : (e : DriverEntry) (s : DriverState) (log : Log) → IsFitState s → Stands s e → before (slots_of s) log
+      → after (no_credit e.value.end) (slots_of (connections.with_end (wanting_credit e.value.end) e s)) log
+  pub sends : (e : DriverEntry) (n : ℕ) (s : DriverState) (log : Log) → let payload = take n bytes in
+      let p = payload_on Driver s.cid e.flow e.value.end payload in
+      IsFitState s → Stands s e → entry_known_as id s ≡ Some e → Matches Driver first (ends_of_state s) log → IsFairLog Driver log
+      → IsFairLog Driver (PutPacket p ∷ log) → before (slots_of s) log
+      → after (sent.Took (length payload)) (slots_of (connections.with_end (with_payload_sent e.value.end (length payload)) e s)) (PutPacket p ∷ log)
+
+pub connect_nothing : (first host : ℕ) → CarriesConnect first host nothing (λ answer. nothing)
+connect_nothing first host = record {
+  refused = λ why slots log held. tt;
+  opens = λ s log fits free m was fair held. tt;
+}
+
+pub send_nothing : (first id : ℕ) (bytes : List ℕ) → CarriesSend first id bytes nothing (λ answer. nothing)
+send_nothing first id bytes = record {
+  stopped = λ why slots log held. tt;
+  unknown = λ s log none held. tt;
+  empty = λ slots log held. tt;
+  full = λ n slots log held. tt;
+  wants = λ e s log fits stands held. tt;
+  sends = λ e n s log fits stands known m was fair held. tt;
+}
+
+-- A fact goes over to another, and nothing else changes.
+pub goes_over : (first : ℕ) (before after : Fact) (s : DriverState) (c : RingContents)
+    → ((log : Log) → before (slots_of s) log → after (slots_of s) log) → Rests first before s c → Rests first after s c
+goes_over first before after s c go rests =
+    tells_weaker (RestsWith first before s) (RestsWith first after s) (λ l rest. (rest.0, go l.entries rest.1)) c rests
+
+pub can_send : (e : DriverEntry) (credit : ℕ) (bytes : List ℕ) → may_send_of e.value.end ≡ Ok credit
+    → CanSend e.value.end (length (payload_of credit bytes)) × (length (payload_of credit bytes) ≤ PAYLOAD_MAX)
+can_send e credit bytes is =
+    let short = length-take (min credit PAYLOAD_MAX) bytes in
+    let n : ℕ = length (payload_of credit bytes) in
+    let least : n ≤ credit = omega (arith, short) in
+    (subst (λ (r : Result ℕ Stop). IsOkAnd r (λ free. n ≤ free)) (sym is) least, omega (arith, short))
+
+-- connect.
+module _ (first host : ℕ) (before : Fact) (after : Result ℕ ConnectError → Fact) (steps : CarriesConnect first host before after) where
   abbrev pub ConnectRests : DriverState × Result ℕ ConnectError → RingContents → Type 0
-  ConnectRests x c = Rests first x.0 c
+  ConnectRests x c = Rests first (after x.1) x.0 c
 
-  opened_by : (b : Bool) (host : ℕ) (s : DriverState) (c : RingContents) → host < 2 ^ 32 → connect_refusal host s ≡ None → Rests first s c
+  opened_by : (b : Bool) (s : DriverState) (c : RingContents) → host < 2 ^ 32 → connect_refusal host s ≡ None → Rests first before s c
       → Keeps ConnectRests (cond b (bind (post_packet (request_bytes host s) s) (λ t. Done (connected host t, Ok t.next_id)))
       (Done (s, Err (refused.NoDescriptor s.in_flight)))) c
-  opened_by true host s c port free rests =
+  opened_by true s c port free rests =
       keeps_bind ConnectRests (post_packet (request_bytes host s) s) (λ t. Done (connected host t, Ok t.next_id)) c
-      (keeps_weaker (λ u d. (u ≡ one_more_in_flight s) × Rests first (connected host s) d) (λ u d. Rests first (connected host u) d)
-      (λ u d kept. subst (λ (x : DriverState). Rests first (connected host x) d) (sym kept.0) kept.1) (post_packet (request_bytes host s) s) c
-      (post_tx first s (connected host s) (request_bytes host s) c (λ l rest. connect_puts host s port rest.0 free) rests))
-  opened_by false host s c port free rests = rests
+      (keeps_weaker (λ u d. (u ≡ one_more_in_flight s) × Rests first (after (Ok s.next_id)) (connected host s) d)
+      (λ u d. Rests first (after (Ok u.next_id)) (connected host u) d)
+      (λ u d kept. subst (λ (x : DriverState). Rests first (after (Ok x.next_id)) (connected host x) d) (sym kept.0) kept.1)
+      (post_packet (request_bytes host s) s) c
+      (post_tx first before (after (Ok s.next_id)) (request_on Driver s.cid (next_flow host s) Stream) s (connected host s) (request_bytes host s) c
+      (λ l rest. record {
+        puts = connect_puts host s port rest.0 free;
+        carries = λ log m was fair held. steps.opens s log rest.0 free m was fair held;
+      }) rests))
+  opened_by false s c port free rests =
+      goes_over first before (after (Err (refused.NoDescriptor s.in_flight))) s c
+      (λ log held. steps.refused (refused.NoDescriptor s.in_flight) (slots_of s) log held) rests
 
-  pub connect_page_keeps : (host : ℕ) (s : DriverState) (c : RingContents) → host < 2 ^ 32 → connect_refusal host s ≡ None → Rests first s c
+  pub connect_page_keeps : (s : DriverState) (c : RingContents) → host < 2 ^ 32 → connect_refusal host s ≡ None → Rests first before s c
       → Keeps ConnectRests (connect_with_page host s) c
-  connect_page_keeps host s c port free rests = opened_by (has_page s) host s c port free rests
+  connect_page_keeps s c port free rests = opened_by (has_page s) s c port free rests
 
-  connect_by : (o : Option ConnectError) (host : ℕ) (s : DriverState) (c : RingContents) → connect_refusal host s ≡ o → host < 2 ^ 32 → Rests first s c
+  pub is_refused : (why : ConnectError) (s : DriverState) (c : RingContents) → Rests first before s c → Rests first (after (Err why)) s c
+  is_refused why s c rests = goes_over first before (after (Err why)) s c (λ log held. steps.refused why (slots_of s) log held) rests
+
+  connect_by : (o : Option ConnectError) (s : DriverState) (c : RingContents) → connect_refusal host s ≡ o → host < 2 ^ 32 → Rests first before s c
       → Keeps ConnectRests (elim o [ Some refusal ↦ Done (s, Err refusal) | None ↦ bind (reap_all s) (connect_with_page host) ]) c
-  connect_by (Some refusal) host s c is port rests = rests
-  connect_by None host s c is port rests =
+  connect_by (Some refusal) s c is port rests = is_refused refusal s c rests
+  connect_by None s c is port rests =
       keeps_bind ConnectRests (reap_all s) (connect_with_page host) c
-      (keeps_weaker (SameBut first s) (λ t d. Keeps ConnectRests (connect_with_page host t) d)
+      (keeps_weaker (SameBut first before s) (λ t d. Keeps ConnectRests (connect_with_page host t) d)
       (λ t d same. subst (λ (x : DriverState). Keeps ConnectRests (connect_with_page host x) d) (sym same.0)
-      (connect_page_keeps host (record s { in_flight = t.in_flight }) d port is same.1)) (reap_all s) c (reap_keeps first s c rests))
+      (connect_page_keeps (record s { in_flight = t.in_flight }) d port is same.1)) (reap_all s) c (reap_keeps first before s c rests))
 
-  pub connect_keeps : (host : ℕ) (s : DriverState) (c : RingContents) → host < 2 ^ 32 → Rests first s c → Keeps ConnectRests (connect_of host s) c
-  connect_keeps host s c port rests = connect_by (connect_refusal host s) host s c refl port rests
+  pub connect_keeps : (s : DriverState) (c : RingContents) → host < 2 ^ 32 → Rests first before s c → Keeps ConnectRests (connect_of host s) c
+  connect_keeps s c port rests = connect_by (connect_refusal host s) s c refl port rests
 
-  -- send.
+-- send.
+module _ (first id : ℕ) (bytes : List ℕ) (before : Fact) (after : Sent → Fact) (steps : CarriesSend first id bytes before after) where
   abbrev pub SendRests : DriverState × Sent → RingContents → Type 0
-  SendRests x c = Rests first x.0 c
+  SendRests x c = Rests first (after x.1) x.0 c
 
-  pub paged_by : (b : Bool) (e : DriverEntry) (payload : List ℕ) (s : DriverState) (c : RingContents) → (IsFitState s → Stands s e)
-      → CanSend e.value.end (length payload) → length payload ≤ PAYLOAD_MAX → Rests first s c
+  pub paged_by : (b : Bool) (e : DriverEntry) (n : ℕ) (s : DriverState) (c : RingContents) → let payload = take n bytes in
+      entry_known_as id s ≡ Some e → (IsFitState s → Stands s e) → CanSend e.value.end (length payload) → length payload ≤ PAYLOAD_MAX
+      → Rests first before s c
       → Keeps SendRests (cond b (bind (post_packet (payload_bytes e payload s) s)
       (λ t. Done (connections.with_end (with_payload_sent e.value.end (length payload)) e t, sent.Took (length payload))))
       (Done (s, sent.NoDescriptor s.in_flight))) c
-  paged_by true e payload s c stands can few rests =
-      let after : DriverState → DriverState = λ t. connections.with_end (with_payload_sent e.value.end (length payload)) e t in
+  paged_by true e n s c known stands can few rests =
+      let payload : List ℕ = take n bytes in
+      let now : Fact = after (sent.Took (length payload)) in
+      let then : DriverState → DriverState = λ t. connections.with_end (with_payload_sent e.value.end (length payload)) e t in
       keeps_bind SendRests (post_packet (payload_bytes e payload s) s)
       (λ t. Done (connections.with_end (with_payload_sent e.value.end (length payload)) e t, sent.Took (length payload))) c
-      (keeps_weaker (λ u d. (u ≡ one_more_in_flight s) × Rests first (after s) d) (λ u d. Rests first (after u) d)
-      (λ u d kept. subst (λ (x : DriverState). Rests first (after x) d) (sym kept.0) kept.1) (post_packet (payload_bytes e payload s) s) c
-      (post_tx first s (after s) (payload_bytes e payload s) c (λ l rest. send_puts e payload s rest.0 (stands rest.0) can few) rests))
-  paged_by false e payload s c stands can few rests = rests
+      (keeps_weaker (λ u d. (u ≡ one_more_in_flight s) × Rests first now (then s) d) (λ u d. Rests first now (then u) d)
+      (λ u d kept. subst (λ (x : DriverState). Rests first now (then x) d) (sym kept.0) kept.1) (post_packet (payload_bytes e payload s) s) c
+      (post_tx first before now (payload_on Driver s.cid e.flow e.value.end payload) s (then s) (payload_bytes e payload s) c
+      (λ l rest. record {
+        puts = send_puts e payload s rest.0 (stands rest.0) can few;
+        carries = λ log m was fair held. steps.sends e n s log rest.0 (stands rest.0) known m was fair held;
+      }) rests))
+  paged_by false e n s c known stands can few rests =
+      goes_over first before (after (sent.NoDescriptor s.in_flight)) s c (λ log held. steps.full s.in_flight (slots_of s) log held) rests
 
-  pub can_send : (e : DriverEntry) (credit : ℕ) (bytes : List ℕ) → may_send_of e.value.end ≡ Ok credit
-      → CanSend e.value.end (length (payload_of credit bytes)) × (length (payload_of credit bytes) ≤ PAYLOAD_MAX)
-  can_send e credit bytes is =
-      let short = length-take (min credit PAYLOAD_MAX) bytes in
-      let n : ℕ = length (payload_of credit bytes) in
-      let least : n ≤ credit = omega (arith, short) in
-      (subst (λ (r : Result ℕ Stop). IsOkAnd r (λ free. n ≤ free)) (sym is) least, omega (arith, short))
+  -- No credit is there.
+  pub wanting : (e : DriverEntry) (s : DriverState) (c : RingContents) → (IsFitState s → Stands s e) → Rests first before s c
+      → Rests first (after (no_credit e.value.end)) (connections.with_end (wanting_credit e.value.end) e s) c
+  wanting e s c stands rests =
+      let t : DriverState = connections.with_end (wanting_credit e.value.end) e s in
+      tells_weaker (RestsWith first before s) (RestsWith first (after (no_credit e.value.end)) t)
+      (λ l rest. (
+        changed first s t l (wanting_changes s e rest.0.0 (stands rest.0.0)) rest.0,
+        steps.wants e s l.entries rest.0.0 (stands rest.0.0) rest.1,
+      )) c rests
 
-  credit_by : (a b : Bool) (e : DriverEntry) (credit : ℕ) (bytes : List ℕ) (s : DriverState) (c : RingContents) → (IsFitState s → Stands s e)
-      → may_send_of e.value.end ≡ Ok credit → Rests first s c
+  credit_by : (a b : Bool) (e : DriverEntry) (credit : ℕ) (s : DriverState) (c : RingContents) → entry_known_as id s ≡ Some e
+      → (IsFitState s → Stands s e) → may_send_of e.value.end ≡ Ok credit → Rests first before s c
       → Keeps SendRests (cond a (Done (s, sent.Took 0)) (cond b (Done (connections.with_end (wanting_credit e.value.end) e s, no_credit e.value.end))
       (bind (reap_all s) (send_with_page e (payload_of credit bytes))))) c
-  credit_by true b e credit bytes s c stands is rests = rests
-  credit_by false true e credit bytes s c stands is rests =
-      let t : DriverState = connections.with_end (wanting_credit e.value.end) e s in
-      tells_weaker (IsAtRest first s) (IsAtRest first t) (λ l rest. changed first s t l (wanting_changes s e rest.0 (stands rest.0)) rest) c rests
-  credit_by false false e credit bytes s c stands is rests =
+  credit_by true b e credit s c known stands is rests =
+      goes_over first before (after (sent.Took 0)) s c (λ log held. steps.empty (slots_of s) log held) rests
+  credit_by false true e credit s c known stands is rests = wanting e s c stands rests
+  credit_by false false e credit s c known stands is rests =
       let payload : List ℕ = payload_of credit bytes in
       let can = can_send e credit bytes is in
       keeps_bind SendRests (reap_all s) (send_with_page e payload) c
-      (keeps_weaker (SameBut first s) (λ t d. Keeps SendRests (send_with_page e payload t) d)
+      (keeps_weaker (SameBut first before s) (λ t d. Keeps SendRests (send_with_page e payload t) d)
       (λ t d same. subst (λ (x : DriverState). Keeps SendRests (send_with_page e payload x) d) (sym same.0)
       (let r : DriverState = record s { in_flight = t.in_flight } in
-      paged_by (has_page r) e payload r d (λ fits. let st = stands fits in record { under = st.under; contains = st.contains }) can.0 can.1 same.1))
-      (reap_all s) c (reap_keeps first s c rests))
+      paged_by (has_page r) e (min credit PAYLOAD_MAX) r d known
+      (λ fits. let st = stands fits in record { under = st.under; contains = st.contains }) can.0 can.1 same.1))
+      (reap_all s) c (reap_keeps first before s c rests))
 
-  stop_by : (r : Result ℕ Stop) (e : DriverEntry) (bytes : List ℕ) (s : DriverState) (c : RingContents) → (IsFitState s → Stands s e)
-      → may_send_of e.value.end ≡ r → Rests first s c
+  -- The connection may not send.
+  pub stops : (why : Stop) (s : DriverState) (c : RingContents) → Rests first before s c → Rests first (after (send_stopped why)) s c
+  stops why s c rests = goes_over first before (after (send_stopped why)) s c (λ log held. steps.stopped why (slots_of s) log held) rests
+
+  pub knows_none : (s : DriverState) (c : RingContents) → entry_known_as id s ≡ None → Rests first before s c → Rests first (after (not_sent id s)) s c
+  knows_none s c none rests = goes_over first before (after (not_sent id s)) s c (λ log held. steps.unknown s log none held) rests
+
+  stop_by : (r : Result ℕ Stop) (e : DriverEntry) (s : DriverState) (c : RingContents) → entry_known_as id s ≡ Some e
+      → (IsFitState s → Stands s e) → may_send_of e.value.end ≡ r → Rests first before s c
       → Keeps SendRests (elim r [ Err why ↦ Done (s, send_stopped why) | Ok credit ↦ send_with_credit e credit bytes s ]) c
-  stop_by (Err why) e bytes s c stands is rests = rests
-  stop_by (Ok credit) e bytes s c stands is rests = credit_by (length bytes == 0) (credit == 0) e credit bytes s c stands is rests
+  stop_by (Err why) e s c known stands is rests = stops why s c rests
+  stop_by (Ok credit) e s c known stands is rests = credit_by (length bytes == 0) (credit == 0) e credit s c known stands is rests
 
-  send_by : (o : Option DriverEntry) (id : ℕ) (bytes : List ℕ) (s : DriverState) (c : RingContents) → entry_known_as id s ≡ o → Rests first s c
+  send_by : (o : Option DriverEntry) (s : DriverState) (c : RingContents) → entry_known_as id s ≡ o → Rests first before s c
       → Keeps SendRests (elim o [ None ↦ Done (s, not_sent id s) | Some e ↦ send_on e bytes s ]) c
-  send_by None id bytes s c is rests = rests
-  send_by (Some e) id bytes s c is rests = stop_by (may_send_of e.value.end) e bytes s c (λ fits. stands_known id s e fits is) refl rests
+  send_by None s c is rests = knows_none s c is rests
+  send_by (Some e) s c is rests = stop_by (may_send_of e.value.end) e s c is (λ fits. stands_known id s e fits is) refl rests
 
-  pub send_keeps : (id : ℕ) (bytes : List ℕ) (s : DriverState) (c : RingContents) → Rests first s c → Keeps SendRests (send_of id bytes s) c
-  send_keeps id bytes s c rests = send_by (entry_known_as id s) id bytes s c refl rests
+  pub send_keeps : (s : DriverState) (c : RingContents) → Rests first before s c → Keeps SendRests (send_of id bytes s) c
+  send_keeps s c rests = send_by (entry_known_as id s) s c refl rests
 
 -- Making a driver.
 abbrev Fresh : EndLog → Type 0
@@ -223,54 +310,74 @@ module _ (size port id : ℕ) (port_fits : port ≤ LAST_PORT) where
       } in
       (made_fits cid less, subst P (sym fresh.0) left, fresh.1)
 
-  load_made : (s : DriverState) (c : RingContents) → IsMade s c → Keeps (λ t d. Rests t.cid t d) (load_cid s) c
-  load_made s c is = (
-    tt,
-    λ cid d call.
-        let same : record s { cid = cid } ≡ (let t : DriverState = record made { cid = cid; staged = s.staged } in t) = ap (λ (x : DriverState). let t : DriverState = record x { cid = cid } in t) is.0 in
-        let rests : Rests cid (record made { cid = cid; staged = s.staged }) d = moves _ _ _ _ _ (log_loaded cid) c d call.1 Fresh (IsAtRest cid (record made { cid = cid })) (λ l fresh fair. loaded cid l call.0 fresh) is.1 in
-        subst (λ (t : DriverState). Rests cid t d) (sym same) rests,
-  )
+  -- What holds of the slots and a log in which nothing passed.
+  module _ (fact : Fact) (starts : fact (slots_of made) []) where
+    loaded_with : (cid : ℕ) (l : EndLog) → cid < 2 ^ 64 → Fresh l → RestsWith cid fact (record made { cid = cid }) (log_loaded cid l)
+    loaded_with cid l less fresh =
+        let P : Log → Type 0 = λ entries. fact (slots_of made) (entries_marked cid entries) in
+        (loaded cid l less fresh, subst P (sym fresh.0) starts)
 
-  pub new_keeps : (c : RingContents) → Tells Fresh c → Keeps (λ t d. Rests t.cid t d) (new_of size port id) c
-  new_keeps c fresh =
-      let Q : DriverState → RingContents → Type 0 = λ t d. Rests t.cid t d in
-      keeps_bind Q (post_all Rx made) post_events c
-      (keeps_weaker IsMade (λ t d. Keeps Q (post_events t) d)
-      (λ t d is. keeps_bind Q (post_all Event t) load_cid d
-      (keeps_weaker IsMade (λ u e. Keeps Q (load_cid u) e) load_made (post_all Event t) d (post_all_made Event not_tx_event t d is)))
-      (post_all Rx made) c (post_all_made Rx not_tx_rx made c (refl, fresh)))
+    load_made : (s : DriverState) (c : RingContents) → IsMade s c → Keeps (λ t d. Rests t.cid fact t d) (load_cid s) c
+    load_made s c is = (
+      tt,
+      λ cid d call.
+          let same : record s { cid = cid } ≡ (let t : DriverState = record made { cid = cid; staged = s.staged } in t) = ap (λ (x : DriverState). let t : DriverState = record x { cid = cid } in t) is.0 in
+          let rests : Rests cid fact (record made { cid = cid; staged = s.staged }) d =
+          moves _ _ _ _ _ (log_loaded cid) c d call.1 Fresh (RestsWith cid fact (record made { cid = cid })) (λ l fresh fair. loaded_with cid l call.0 fresh) is.1 in
+          subst (λ (t : DriverState). Rests cid fact t d) (sym same) rests,
+    )
+
+    pub new_keeps : (c : RingContents) → Tells Fresh c → Keeps (λ t d. Rests t.cid fact t d) (new_of size port id) c
+    new_keeps c fresh =
+        let Q : DriverState → RingContents → Type 0 = λ t d. Rests t.cid fact t d in
+        keeps_bind Q (post_all Rx made) post_events c
+        (keeps_weaker IsMade (λ t d. Keeps Q (post_events t) d)
+        (λ t d is. keeps_bind Q (post_all Event t) load_cid d
+        (keeps_weaker IsMade (λ u e. Keeps Q (load_cid u) e) load_made (post_all Event t) d (post_all_made Event not_tx_event t d is)))
+        (post_all Rx made) c (post_all_made Rx not_tx_rx made c (refl, fresh)))
 
 -- What each call may do, and what holds after it.
 module _ (first : ℕ) where
+  connect_kept : (host : ℕ) (s : DriverState) (c : RingContents) → host < 2 ^ 32 → IsHonestWith first s c
+      → Keeps (λ x d. Rests first nothing x.0 d) (connect_of host s) c
+  connect_kept host s c port honest =
+      connect_keeps first host nothing (λ answer. nothing) (connect_nothing first host) s c port (rests_of first s c honest)
+
+  send_kept : (id : ℕ) (bytes : List ℕ) (s : DriverState) (c : RingContents) → IsHonestWith first s c
+      → Keeps (λ x d. Rests first nothing x.0 d) (send_of id bytes s) c
+  send_kept id bytes s c honest =
+      send_keeps first id bytes nothing (λ answer. nothing) (send_nothing first id bytes) s c (rests_of first s c honest)
+
+  poll_kept : (s : DriverState) (c : RingContents) → IsHonestWith first s c → Keeps (λ x d. Rests first nothing x.0 d) (poll_of s) c
+  poll_kept s c honest = poll_keeps first nothing (carries_nothing first) s c (rests_of first s c honest)
+
   pub connect_may : (host : ℕ) (s : DriverState) (c : RingContents) → host < 2 ^ 32 → IsHonestWith first s c → MayPublishAll (connect_of host s) c
-  connect_may host s c port honest = keeps_may _ (connect_of host s) c (connect_keeps first host s c port (rests_of first s c honest))
+  connect_may host s c port honest = keeps_may _ (connect_of host s) c (connect_kept host s c port honest)
 
   pub connect_honest : (host : ℕ) (s : DriverState) (c d : RingContents) (x : DriverState × Result ℕ ConnectError) → host < 2 ^ 32
       → IsHonestWith first s c → Plays (connect_of host s) c x d → IsHonestWith first x.0 d
   connect_honest host s c d x port honest plays =
-      honest_of first x.0 d (keeps_end _ (connect_of host s) c d x (connect_keeps first host s c port (rests_of first s c honest)) plays)
+      honest_of first nothing x.0 d (keeps_end _ (connect_of host s) c d x (connect_kept host s c port honest) plays)
 
   pub send_may : (id : ℕ) (bytes : List ℕ) (s : DriverState) (c : RingContents) → IsHonestWith first s c → MayPublishAll (send_of id bytes s) c
-  send_may id bytes s c honest = keeps_may _ (send_of id bytes s) c (send_keeps first id bytes s c (rests_of first s c honest))
+  send_may id bytes s c honest = keeps_may _ (send_of id bytes s) c (send_kept id bytes s c honest)
 
   pub send_honest : (id : ℕ) (bytes : List ℕ) (s : DriverState) (c d : RingContents) (x : DriverState × Sent) → IsHonestWith first s c
       → Plays (send_of id bytes s) c x d → IsHonestWith first x.0 d
   send_honest id bytes s c d x honest plays =
-      honest_of first x.0 d (keeps_end _ (send_of id bytes s) c d x (send_keeps first id bytes s c (rests_of first s c honest)) plays)
+      honest_of first nothing x.0 d (keeps_end _ (send_of id bytes s) c d x (send_kept id bytes s c honest) plays)
 
   pub poll_may : (s : DriverState) (c : RingContents) → IsHonestWith first s c → MayPublishAll (poll_of s) c
-  poll_may s c honest = keeps_may _ (poll_of s) c (poll_keeps first s c (rests_of first s c honest))
+  poll_may s c honest = keeps_may _ (poll_of s) c (poll_kept s c honest)
 
   pub poll_honest : (s : DriverState) (c d : RingContents) (x : DriverState × Polled) → IsHonestWith first s c → Plays (poll_of s) c x d
       → IsHonestWith first x.0 d
-  poll_honest s c d x honest plays =
-      honest_of first x.0 d (keeps_end _ (poll_of s) c d x (poll_keeps first s c (rests_of first s c honest)) plays)
+  poll_honest s c d x honest plays = honest_of first nothing x.0 d (keeps_end _ (poll_of s) c d x (poll_kept s c honest) plays)
 
 pub new_may : (size port id : ℕ) (c : RingContents) → port ≤ LAST_PORT → IsFresh c → MayPublishAll (new_of size port id) c
-new_may size port id c fits fresh = keeps_may _ (new_of size port id) c (new_keeps size port id fits c fresh)
+new_may size port id c fits fresh = keeps_may _ (new_of size port id) c (new_keeps size port id fits nothing tt c fresh)
 
 pub new_honest : (size port id : ℕ) (c d : RingContents) (s : DriverState) → port ≤ LAST_PORT → IsFresh c → Plays (new_of size port id) c s d
     → IsHonestWith s.cid s d
 new_honest size port id c d s fits fresh plays =
-    honest_of s.cid s d (keeps_end _ (new_of size port id) c d s (new_keeps size port id fits c fresh) plays)
+    honest_of s.cid nothing s d (keeps_end _ (new_of size port id) c d s (new_keeps size port id fits nothing tt c fresh) plays)

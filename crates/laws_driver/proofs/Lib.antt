@@ -6,6 +6,7 @@ pub mod Bytes
 pub mod Putting
 pub mod Taking
 pub mod Resetting
+pub mod Carrying
 pub mod Staging
 pub mod Polling
 pub mod Changing

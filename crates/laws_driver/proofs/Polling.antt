@@ -13,6 +13,7 @@ use Rattle.vs_replies.specs.declared.Reply.{Reply}
 use Rattle.vs_ring_port.specs.{Contents.RingContents, DriverCalls.Reap, DriverCalls.LoadCid, declared.queue.Queue.Queue, EndLog.EndLog}
 use Rattle.vs_ring_port.specs.EndLog.{entries_marked, log_loaded, log_reaped, with_event, with_packet}
 use Rattle.vs_ring_port.specs.declared.queue.Queue.TheVariants.{Rx, Tx, Event}
+use Rattle.laws_tables.specs.Steps.{owed_on, reply_on}
 use Rattle.laws_tables.proofs.{Keeps.takes_event, Slots.found_by}
 use Rattle.vs_driver_parts.specs.{declared.answers.Polled.Polled, State.DriverEntry, State.DriverState, Conversations.DriverTree}
 use Rattle.vs_driver_parts.specs.Conversations.{Round, after_paying, all_taken, event_reaped, event_taken, goes_on_with, has_page, one_put}
@@ -24,11 +25,12 @@ use Rattle.vs_driver_parts.specs.Receiving.{after_reset, is_reset_event, on_pack
 use Rattle.vs_driver_parts.specs.Playing.{BringsFit, RingAllows}
 use Rattle.vs_limits.specs.declared.TheConstants.{DRIVER_REPLIES_FULL}
 use Rattle.vs_driver_parts.proofs.Ids.{has_slot}
-use Rattle.laws_driver.specs.{Honest.IsFitState, Honest.ends_of_state, Staged.IsLeft}
+use Rattle.laws_driver.specs.{Honest.IsFitState, Honest.ends_of_state, Honest.slots_of, Staged.IsLeft}
 use Rattle.laws_driver.proofs.{Putting.owed_puts, Putting.reply_puts, Resetting.resets, Tabling.Stands, Taking.gets_packet, Keeping.Keeps}
 use Rattle.laws_driver.proofs.{Keeping.keeps_bind, Keeping.keeps_each, Keeping.keeps_weaker, Keeping.keeps_while, Staging.Rests}
 use Rattle.laws_driver.proofs.Staging.{SameBut, Ties, publish_other, publish_tx, reap_keeps, rests_tied, stage_other, stage_tx}
 use Rattle.laws_driver.proofs.Ringing.{IsAtRest, Tells, moves, tells_weaker}
+use Rattle.laws_driver.proofs.Carrying.{Carries, Fact, RestsWith}
 
 pub not_tx_rx : Rx ≡ Tx → ⊥
 not_tx_rx is = absurd cc
@@ -51,6 +53,16 @@ gets_page : (first : ℕ) (s : DriverState) (page : List ℕ) (l : EndLog) → B
 gets_page first s page l ports rest fair =
     let g = gets_by first s page (packet_held page) l.entries refl rest.0 ports rest.1 fair in
     (g.0, g.1, rest.2)
+
+gets_with : (first : ℕ) (fact : Fact) → Carries first fact → (s : DriverState) (page : List ℕ) (l : EndLog) → BringsFit page
+    → RestsWith first fact s l → IsFairLog Driver (log_reaped Rx (Some page) l).entries → RestsWith first fact (on_page page s) (log_reaped Rx (Some page) l)
+gets_with first fact steps s page l ports rest fair = (gets_page first s page l ports rest.0 fair, by (packet_held page) refl fair)
+  where
+    by : (o : Option Packet) → packet_held page ≡ o → IsFairLog Driver (with_packet (λ p. GotPacket p) o l.entries)
+        → let t : DriverState = elim o [ None ↦ s | Some p ↦ on_packet p s ] in fact (slots_of t) (with_packet (λ p. GotPacket p) o l.entries)
+    by None is fair = rest.1
+    by (Some p) is fair =
+        steps.got p s l.entries rest.0.0 (ports p is) (packet_whole page p is).0 rest.0.1.matches rest.0.1.fair fair rest.1
 
 -- An event comes back. Where it tells a reset, something passed.
 abbrev HasPassed : Bool → Log → Type 0
@@ -90,12 +102,32 @@ loads first cid s l less rest has =
     } in
     (r.fits, subst (λ (log : Log). IsLeft first (after_reset cid s).broken (ends_of_state (after_reset cid s)) [] log) (sym marked) left, rest.2)
 
-module _ (first : ℕ) where
+abbrev EventWith : ℕ → Fact → List ℕ → DriverState → EndLog → Type 0
+EventWith first fact page s l = RestsWith first fact s l × HasPassed (is_reset_event page) l.entries
+
+event_with : (first : ℕ) (fact : Fact) → Carries first fact → (s : DriverState) (page : List ℕ) (l : EndLog) → RestsWith first fact s l
+    → IsFairLog Driver (log_reaped Event (Some page) l).entries → EventWith first fact page s (log_reaped Event (Some page) l)
+event_with first fact steps s page l rest fair =
+    let e = gets_event first s page l rest.0 fair in ((e.0, by (event_held page)), e.1)
+  where
+    by : (o : Option ℕ) → fact (slots_of s) (with_event (λ id. GotEvent id) o l.entries)
+    by None = rest.1
+    by (Some id) = steps.event id (slots_of s) l.entries rest.1
+
+loads_with : (first : ℕ) (fact : Fact) → Carries first fact → (cid : ℕ) (s : DriverState) (l : EndLog) → cid < 2 ^ 64 → RestsWith first fact s l
+    → HasPassed true l.entries → RestsWith first fact (after_reset cid s) (log_loaded cid l)
+loads_with first fact steps cid s l less rest has =
+    let marked : entries_marked cid l.entries ≡ Mark cid ∷ l.entries = ap (entries_marked cid) has.2 ∙ ap (λ (log : Log). Mark cid ∷ log) (sym has.2) in (
+      loads first cid s l less rest.0 has,
+      subst (λ (log : Log). fact (slots_of (after_reset cid s)) log) (sym marked) (steps.reset cid s l.entries less rest.0.0 rest.1),
+    )
+
+module _ (first : ℕ) (fact : Fact) (steps : Carries first fact) where
   abbrev pub RoundRests : Round → RingContents → Type 0
-  RoundRests r c = Rests first r.state c
+  RoundRests r c = Rests first fact r.state c
 
   abbrev pub RoundTies : Round → RingContents → Type 0
-  RoundTies r c = Ties first r.state c
+  RoundTies r c = Ties first fact r.state c
 
   abbrev pub PairRests : Round × Bool → RingContents → Type 0
   PairRests x c = RoundRests x.0 c
@@ -104,29 +136,29 @@ module _ (first : ℕ) where
   PairTies x c = RoundTies x.0 c
 
   -- Events.
-  taken_by : (b : Bool) (r : Round) (c : RingContents) → Tells (λ l. IsAtRest first r.state l × HasPassed b l.entries) c
+  taken_by : (b : Bool) (r : Round) (c : RingContents) → Tells (λ l. RestsWith first fact r.state l × HasPassed b l.entries) c
       → Keeps RoundRests (cond b (Ask LoadCid (λ cid. Done (record r { state = after_reset cid r.state; count = r.count + 1; reset = true })))
       (Done (record r { count = r.count + 1 }))) c
   taken_by true r c tells = (
     tt,
-    λ cid d made. moves _ _ _ _ _ (log_loaded cid) c d made.1 (λ l. IsAtRest first r.state l × HasPassed true l.entries) (IsAtRest first (after_reset cid r.state))
-        (λ l both fair. loads first cid r.state l made.0 both.0 both.1) tells,
+    λ cid d made. moves _ _ _ _ _ (log_loaded cid) c d made.1 (λ l. RestsWith first fact r.state l × HasPassed true l.entries) (RestsWith first fact (after_reset cid r.state))
+        (λ l both fair. loads_with first fact steps cid r.state l made.0 both.0 both.1) tells,
   )
-  taken_by false r c tells = tells_weaker (λ l. IsAtRest first r.state l × HasPassed false l.entries) (IsAtRest first r.state) (λ l both. both.0) c tells
+  taken_by false r c tells = tells_weaker (λ l. RestsWith first fact r.state l × HasPassed false l.entries) (RestsWith first fact r.state) (λ l both. both.0) c tells
 
   again : (queue : Queue) → (queue ≡ Tx → ⊥) → (r : Round) (c : RingContents) → RoundRests r c → Keeps PairRests (staged_again queue r) c
-  again queue other r c rests = keeps_bind PairRests (stage_of queue [] r.state) (goes_on_with r) c (stage_other first queue other r.state [] c rests)
+  again queue other r c rests = keeps_bind PairRests (stage_of queue [] r.state) (goes_on_with r) c (stage_other first fact queue other r.state [] c rests)
 
   event_reaped_keeps : (page : Option (List ℕ)) (r : Round) (c d : RingContents) → RingAllows (Reap Event) page c d → RoundRests r c
       → Keeps PairRests (event_reaped r page) d
   event_reaped_keeps None r c d made rests =
-      moves _ _ _ _ _ (log_reaped Event None) c d made.1 (IsAtRest first r.state) (IsAtRest first r.state) (λ l rest fair. rest) rests
+      moves _ _ _ _ _ (log_reaped Event None) c d made.1 (RestsWith first fact r.state) (RestsWith first fact r.state) (λ l rest fair. rest) rests
   event_reaped_keeps (Some page) r c d made rests =
       keeps_bind PairRests (event_taken page r) (staged_again Event) d
       (keeps_weaker RoundRests (λ x e. Keeps PairRests (staged_again Event x) e) (λ x e kept. again Event not_tx_event x e kept) (event_taken page r) d
       (taken_by (is_reset_event page) r d
-      (moves _ _ _ _ _ (log_reaped Event (Some page)) c d made.1 (IsAtRest first r.state) (AfterEvent first page r.state)
-      (λ l rest fair. gets_event first r.state page l rest fair) rests)))
+      (moves _ _ _ _ _ (log_reaped Event (Some page)) c d made.1 (RestsWith first fact r.state) (EventWith first fact page r.state)
+      (λ l rest fair. event_with first fact steps r.state page l rest fair) rests)))
 
   event_step : (b : Bool) (r : Round) (c : RingContents) → RoundRests r c → Keeps PairRests (cond b (Done (r, false)) (Ask (Reap Event) (event_reaped r))) c
   event_step true r c rests = rests
@@ -139,11 +171,11 @@ module _ (first : ℕ) where
   packet_reaped_keeps : (page : Option (List ℕ)) (r : Round) (c d : RingContents) → RingAllows (Reap Rx) page c d → RoundRests r c
       → Keeps PairRests (packet_reaped r page) d
   packet_reaped_keeps None r c d made rests =
-      moves _ _ _ _ _ (log_reaped Rx None) c d made.1 (IsAtRest first r.state) (IsAtRest first r.state) (λ l rest fair. rest) rests
+      moves _ _ _ _ _ (log_reaped Rx None) c d made.1 (RestsWith first fact r.state) (RestsWith first fact r.state) (λ l rest fair. rest) rests
   packet_reaped_keeps (Some page) r c d made rests =
       again Rx not_tx_rx (record r { state = on_page page r.state; count = r.count + 1 }) d
-      (moves _ _ _ _ _ (log_reaped Rx (Some page)) c d made.1 (IsAtRest first r.state) (IsAtRest first (on_page page r.state))
-      (λ l rest fair. gets_page first r.state page l made.0 rest fair) rests)
+      (moves _ _ _ _ _ (log_reaped Rx (Some page)) c d made.1 (RestsWith first fact r.state) (RestsWith first fact (on_page page r.state))
+      (λ l rest fair. gets_with first fact steps r.state page l made.0 rest fair) rests)
 
   packet_step : (b : Bool) (r : Round) (c : RingContents) → RoundRests r c → Keeps PairRests (cond b (Done (r, false)) (Ask (Reap Rx) (packet_reaped r))) c
   packet_step true r c rests = rests
@@ -154,12 +186,12 @@ module _ (first : ℕ) where
 
   -- Each of these parts ends by publishing what it staged.
   take_all_keeps : (queue : Queue) → (queue ≡ Tx → ⊥) → (take_one : Round → DriverTree (Round × Bool))
-      → ((r : Round) (c : RingContents) → RoundRests r c → Keeps PairRests (take_one r) c) → (s : DriverState) (c : RingContents) → Rests first s c
+      → ((r : Round) (c : RingContents) → RoundRests r c → Keeps PairRests (take_one r) c) → (s : DriverState) (c : RingContents) → Rests first fact s c
       → Keeps RoundRests (take_all queue take_one s) c
   take_all_keeps queue other take_one each s c rests =
       keeps_bind RoundRests (all_taken take_one s) (published queue) c
       (keeps_weaker RoundRests (λ r d. Keeps RoundRests (published queue r) d)
-      (λ r d kept. keeps_bind RoundRests (publish_of queue r.state) (with_state r) d (publish_other first queue other r.state d kept))
+      (λ r d kept. keeps_bind RoundRests (publish_of queue r.state) (with_state r) d (publish_other first fact queue other r.state d kept))
       (all_taken take_one s) c (keeps_while RoundRests take_one each s.size (start s) c rests))
 
   -- Owed replies.
@@ -173,7 +205,11 @@ module _ (first : ℕ) where
       by : (b : Bool) → Keeps PairTies (cond b (bind (stage_packet (header_bytes (reply_header r.state.cid reply)) (record r.state { replies = rest })) (one_put r)) (Done (r, false))) c
       by true =
           keeps_bind PairTies (stage_packet (header_bytes (reply_header r.state.cid reply)) (record r.state { replies = rest })) (one_put r) c
-          (stage_tx first r.state (record r.state { replies = rest }) (header_bytes (reply_header r.state.cid reply)) c (λ l tie. reply_puts reply rest r.state tie.0 is) ties)
+          (stage_tx first fact (reply_on Driver r.state.cid reply) r.state (record r.state { replies = rest }) (header_bytes (reply_header r.state.cid reply)) c
+          (λ l tie. record {
+            puts = reply_puts reply rest r.state tie.0 is;
+            carries = λ log m was fair held. steps.reply reply r.state log was fair held;
+          }) ties)
       by false = ties
 
   pub put_reply_keeps : (r : Round) (c : RingContents) → RoundTies r c → Keeps PairTies (put_reply r) c
@@ -193,8 +229,11 @@ module _ (first : ℕ) where
       by : (b : Bool) → Keeps PairTies (cond b (bind (stage_packet (owed_bytes what e r.state) (after_paying what e r.state)) (one_put r)) (Done (r, false))) c
       by true =
           keeps_bind PairTies (stage_packet (owed_bytes what e r.state) (after_paying what e r.state)) (one_put r) c
-          (stage_tx first r.state (after_paying what e r.state) (owed_bytes what e r.state) c
-          (λ l tie. owed_puts what e r.state tie.0 (stands_under r.state slot e found) owes) ties)
+          (stage_tx first fact (owed_on Driver r.state.cid e.flow e.value.end what) r.state (after_paying what e r.state) (owed_bytes what e r.state) c
+          (λ l tie. let stands = stands_under r.state slot e found in record {
+            puts = owed_puts what e r.state tie.0 stands owes;
+            carries = λ log m was fair held. steps.owed what e r.state log tie.0 stands owes m was fair held;
+          }) ties)
       by false = ties
 
   owes_by : (o : Option Owed) (slot : ℕ) (e : DriverEntry) (r : Round) (c : RingContents) → entry_under r.state.table slot ≡ Some e → owes_of e.value.end ≡ o
@@ -220,7 +259,7 @@ module _ (first : ℕ) where
   pay_all_keeps r c ties = keeps_each RoundTies pay_slot pay_slot_keeps (slots r.state.table) r c ties
 
   published_keeps : (r : Round) (c : RingContents) → RoundTies r c → Keeps RoundRests (published Tx r) c
-  published_keeps r c ties = keeps_bind RoundRests (publish_of Tx r.state) (with_state r) c (publish_tx first r.state c ties)
+  published_keeps r c ties = keeps_bind RoundRests (publish_of Tx r.state) (with_state r) c (publish_tx first fact r.state c ties)
 
   pay_and_publish_keeps : (r : Round) (c : RingContents) → RoundTies r c → Keeps RoundRests (pay_and_publish r) c
   pay_and_publish_keeps r c ties =
@@ -231,27 +270,27 @@ module _ (first : ℕ) where
   publish_and_pay_keeps r c ties =
       keeps_bind RoundRests (published Tx r) pay_and_publish c
       (keeps_weaker RoundRests (λ x d. Keeps RoundRests (pay_and_publish x) d)
-      (λ x d kept. pay_and_publish_keeps x d (rests_tied first x.state d kept)) (published Tx r) c (published_keeps r c ties))
+      (λ x d kept. pay_and_publish_keeps x d (rests_tied first fact x.state d kept)) (published Tx r) c (published_keeps r c ties))
 
-  put_all_keeps : (s : DriverState) (c : RingContents) → Rests first s c → Keeps RoundRests (put_all s) c
+  put_all_keeps : (s : DriverState) (c : RingContents) → Rests first fact s c → Keeps RoundRests (put_all s) c
   put_all_keeps s c rests =
       keeps_bind RoundRests (put_replies s) publish_and_pay c
       (keeps_weaker RoundTies (λ x d. Keeps RoundRests (publish_and_pay x) d) publish_and_pay_keeps (put_replies s) c
-      (keeps_while RoundTies put_reply put_reply_keeps (length s.replies) (start s) c (rests_tied first s c rests)))
+      (keeps_while RoundTies put_reply put_reply_keeps (length s.replies) (start s) c (rests_tied first fact s c rests)))
 
   -- The whole poll.
   abbrev EndRests : DriverState × Polled → RingContents → Type 0
-  EndRests x c = Rests first x.0 c
+  EndRests x c = Rests first fact x.0 c
 
-  puts_keeps : (took : ℕ) (reset : Bool) (s : DriverState) (c : RingContents) → Rests first s c → Keeps EndRests (poll_puts took reset s) c
+  puts_keeps : (took : ℕ) (reset : Bool) (s : DriverState) (c : RingContents) → Rests first fact s c → Keeps EndRests (poll_puts took reset s) c
   puts_keeps took reset s c rests = keeps_bind EndRests (put_all s) (polled took reset) c (put_all_keeps s c rests)
 
   reaps_keeps : (reset : Bool) (r : Round) (c : RingContents) → RoundRests r c → Keeps EndRests (poll_reaps reset r) c
   reaps_keeps reset r c rests =
       keeps_bind EndRests (reap_all r.state) (poll_puts r.count reset) c
-      (keeps_weaker (SameBut first r.state) (λ s d. Keeps EndRests (poll_puts r.count reset s) d)
-      (λ s d same. puts_keeps r.count reset s d (subst (λ (x : DriverState). Rests first x d) (sym same.0) same.1)) (reap_all r.state) c
-      (reap_keeps first r.state c rests))
+      (keeps_weaker (SameBut first fact r.state) (λ s d. Keeps EndRests (poll_puts r.count reset s) d)
+      (λ s d same. puts_keeps r.count reset s d (subst (λ (x : DriverState). Rests first fact x d) (sym same.0) same.1)) (reap_all r.state) c
+      (reap_keeps first fact r.state c rests))
 
   packets_keeps : (r : Round) (c : RingContents) → RoundRests r c → Keeps EndRests (poll_packets r) c
   packets_keeps r c rests =
@@ -259,7 +298,7 @@ module _ (first : ℕ) where
       (keeps_weaker RoundRests (λ x d. Keeps EndRests (poll_reaps r.reset x) d) (reaps_keeps r.reset) (take_all Rx take_packet r.state) c
       (take_all_keeps Rx not_tx_rx take_packet take_packet_keeps r.state c rests))
 
-  pub poll_keeps : (s : DriverState) (c : RingContents) → Rests first s c → Keeps EndRests (poll_of s) c
+  pub poll_keeps : (s : DriverState) (c : RingContents) → Rests first fact s c → Keeps EndRests (poll_of s) c
   poll_keeps s c rests =
       keeps_bind EndRests (take_all Event take_event s) poll_packets c
       (keeps_weaker RoundRests (λ x d. Keeps EndRests (poll_packets x) d) packets_keeps (take_all Event take_event s) c

@@ -53,7 +53,7 @@ pays_state what e s fits stands held =
     record { ends = l.0; fits = l.1; broken = refl }
 
 pub owed_puts : (what : Owed) (e : DriverEntry) (s : DriverState) → IsFitState s → Stands s e → owes_of e.value.end ≡ Some what
-    → Puts s (owed_bytes what e s) (after_paying what e s)
+    → Puts (owed_on Driver s.cid e.flow e.value.end what) s (owed_bytes what e s) (after_paying what e s)
 owed_puts what e s fits stands owes =
     let entry = entry_fits s e fits stands in
     let end : ConnectionEnd = e.value.end in
@@ -63,7 +63,6 @@ owed_puts what e s fits stands owes =
     let step = pays_state what e s fits stands entry.buffer in
     let has = has_end s e fits stands in
     record {
-      packet = owed_on Driver s.cid e.flow end what;
       held = held_alone h wire refl;
       bytes = sym (append-nil (header_bytes h));
       fits = step.fits;
@@ -76,12 +75,11 @@ owed_puts what e s fits stands owes =
 
 -- The oldest reply is put.
 pub reply_puts : (reply : Reply) (rest : List Reply) (s : DriverState) → IsFitState s → s.replies ≡ reply ∷ rest
-    → Puts s (header_bytes (reply_header s.cid reply)) (record s { replies = rest })
+    → Puts (reply_on Driver s.cid reply) s (header_bytes (reply_header s.cid reply)) (record s { replies = rest })
 reply_puts reply rest s fits is =
     let owed : All IsFitReply (reply ∷ rest) = subst (λ (rs : List Reply). All IsFitReply rs) is fits.owed in
     let wire = reset_fits s.cid reply.kind reply.flow fits.cid_fits (All-head IsFitReply reply rest owed) in
     record {
-      packet = reply_on Driver s.cid reply;
       held = held_alone (reply_header s.cid reply) wire refl;
       bytes = sym (append-nil (header_bytes (reply_header s.cid reply)));
       fits = record {
@@ -101,7 +99,8 @@ reply_puts reply rest s fits is =
 
 -- Payload is sent.
 pub send_puts : (e : DriverEntry) (payload : List ℕ) (s : DriverState) → IsFitState s → Stands s e → CanSend e.value.end (length payload)
-    → length payload ≤ PAYLOAD_MAX → Puts s (payload_bytes e payload s) (connections.with_end (with_payload_sent e.value.end (length payload)) e s)
+    → length payload ≤ PAYLOAD_MAX → Puts (payload_on Driver s.cid e.flow e.value.end payload) s (payload_bytes e payload s)
+    (connections.with_end (with_payload_sent e.value.end (length payload)) e s)
 send_puts e payload s fits stands can few =
     let entry = entry_fits s e fits stands in
     let end : ConnectionEnd = e.value.end in
@@ -113,7 +112,6 @@ send_puts e payload s fits stands can few =
     let fits_message : (log : Log) → FitsMessage end (puts (history_of Driver e.flow log)) (length payload) =
     λ log. stream_fits end (puts (history_of Driver e.flow log)) (length payload) entry.kind in
     record {
-      packet = payload_on Driver s.cid e.flow end payload;
       held = held_payload h payload wire refl refl;
       bytes = refl;
       fits = connection_fits s e.slot now fits (sent_fits (length payload) e.value entry.buffer) entry.kind;
@@ -155,7 +153,8 @@ new_flow host s fits own = find_none _ s.table.entries (λ i d lt. let below = f
 asked_held : IsHeldBy (record { id = 0; end = paid_of (asked Stream BUF_ALLOC) owed.Request; unread = []; unanswered = false; closed = false })
 asked_held = record { unread = refl; fits = omega arith; space = omega arith; least = omega arith; alloc = omega arith; rx_cnt = omega arith; fwd_cnt = omega arith }
 
-pub connect_puts : (host : ℕ) (s : DriverState) → host < 2 ^ 32 → IsFitState s → connect_refusal host s ≡ None → Puts s (request_bytes host s) (connected host s)
+pub connect_puts : (host : ℕ) (s : DriverState) → host < 2 ^ 32 → IsFitState s → connect_refusal host s ≡ None
+    → Puts (request_on Driver s.cid (next_flow host s) Stream) s (request_bytes host s) (connected host s)
 connect_puts host s host_fits fits free =
     let may = may_connect host s free in
     let f : Flow = next_flow host s in
@@ -173,7 +172,6 @@ connect_puts host s host_fits fits free =
     ap (λ (es : List FlowEnd). let part : Ends = record (ends_of_state s) { entries = es; next_port = s.next_port + 1 } in part) (added_slot end_in s.table f c)
     ∙ ap (λ (n : ℕ). let part : Ends = record (opened Driver f Stream (ends_of_state s)) { next_port = n } in part) (sym (port_next s.next_port)) in
     record {
-      packet = request_on Driver s.cid f Stream;
       held = held_alone h wire refl;
       bytes = sym (append-nil (header_bytes h));
       fits = opening_fits s f c (s.next_port + 1) fits accepted ports refl asked_held refl (omega (arith, may.port)) (omega arith) (λ own. omega arith);

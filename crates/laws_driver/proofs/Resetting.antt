@@ -61,7 +61,7 @@ pub record Resets (cid : ℕ) (s t : DriverState) : Type 0 where
   pub fits : IsFitState t
   pub broken : t.broken ≡ s.broken
 
-with_cid : (cid : ℕ) (s : DriverState) → cid < 2 ^ 64 → IsFitState s → IsFitState (record s { cid = cid })
+pub with_cid : (cid : ℕ) (s : DriverState) → cid < 2 ^ 64 → IsFitState s → IsFitState (record s { cid = cid })
 with_cid cid s less fits = record {
   cid_fits = less;
   port_left = fits.port_left;

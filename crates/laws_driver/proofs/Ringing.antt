@@ -57,19 +57,6 @@ moves call a L f R g c d made P Q then tells = λ honest l is. by c.log refl mad
         let fair : IsFairLog Driver (g before).entries = made.fair honest (g before) exposes.1 in
         subst Q same (then before (tells (sym made.honest ∙ honest) before log) fair)
 
--- A page that isn't staged on tx changes nothing of that.
-pub stages_other : (queue : Queue) (page : List ℕ) → (queue ≡ Tx → ⊥) → (first : ℕ) (s : DriverState) (l : EndLog) → IsAtRest first s l
-    → IsAtRest first s (log_staged queue page l)
-stages_other Rx page other first s l rest = rest
-stages_other Event page other first s l rest = rest
-stages_other Tx page other first s l rest = absurd (other refl)
-
-pub publishes_other : (queue : Queue) → (queue ≡ Tx → ⊥) → (first : ℕ) (s : DriverState) (l : EndLog) → IsAtRest first s l
-    → IsAtRest first s (log_published queue l)
-publishes_other Rx other first s l rest = rest
-publishes_other Event other first s l rest = rest
-publishes_other Tx other first s l rest = absurd (other refl)
-
 pub can_publish_other : (queue : Queue) (c : RingContents) → (queue ≡ Tx → ⊥) → CanPublish queue c
 can_publish_other Rx c other = λ honest l is. tt
 can_publish_other Event c other = λ honest l is. tt
@@ -86,9 +73,8 @@ publishes first s l tie = (
 pub can_publish : (first : ℕ) (s : DriverState) (c : RingContents) → Tells (IsTied first s) c → CanPublish Tx c
 can_publish first s c tells = λ honest l is. let tie = tells honest l is in tie.1.fair
 
--- What a step on the driver does whose packet a page holds: it puts that packet.
-pub record Puts (s : DriverState) (page : List ℕ) (t : DriverState) : Type 0 where
-  pub packet : Packet
+-- What a step on the driver does that puts a packet, in a page that holds it.
+pub record Puts (packet : Packet) (s : DriverState) (page : List ℕ) (t : DriverState) : Type 0 where
   pub held : packet_held page ≡ Some packet
   pub bytes : page ≡ packet_bytes packet
   pub fits : IsFitState t
@@ -98,7 +84,7 @@ pub record Puts (s : DriverState) (page : List ℕ) (t : DriverState) : Type 0 w
   pub fair : (first : ℕ) (log : Log) → Matches Driver first (ends_of_state s) log → IsFairLog Driver log
       → IsFairLog Driver (PutPacket packet ∷ log)
 
-put_last : (pages : List (List ℕ)) (page : List ℕ) (p : Packet) (log : Log) → packet_held page ≡ Some p
+pub put_last : (pages : List (List ℕ)) (page : List ℕ) (p : Packet) (log : Log) → packet_held page ≡ Some p
     → all_put (pages ++ page ∷ []) log ≡ PutPacket p ∷ all_put pages log
 put_last [] page p log held = ap (λ (o : Option Packet). with_packet (λ q. PutPacket q) o log) held
 put_last (x ∷ pages) page p log held = put_last pages page p (with_packet (λ q. PutPacket q) (packet_held x) log) held
@@ -107,17 +93,17 @@ holds_packet : (page : List ℕ) (p : Packet) → packet_held page ≡ Some p �
 holds_packet page p held bytes = let P : Option Packet → Type 0 = λ o. IsSomeAnd o (λ q. page ≡ packet_bytes q) in subst P (sym held) bytes
 
 -- A page that a step puts its packet in may be staged; so may any page of another queue.
-pub can_stage : (P : EndLog → Type 0) (s t : DriverState) (page : List ℕ) (c : RingContents) → ((l : EndLog) → P l → Puts s page t) → Tells P c
-    → CanStage Tx page c
-can_stage P s t page c puts tells = λ honest l is tx. let put = puts l (tells honest l is) in holds_packet page put.packet put.held put.bytes
+pub can_stage : (P : EndLog → Type 0) (p : Packet) (s t : DriverState) (page : List ℕ) (c : RingContents)
+    → ((l : EndLog) → P l → Puts p s page t) → Tells P c → CanStage Tx page c
+can_stage P p s t page c puts tells = λ honest l is tx. let put = puts l (tells honest l is) in holds_packet page p put.held put.bytes
 
 pub can_stage_other : (queue : Queue) (page : List ℕ) (c : RingContents) → (queue ≡ Tx → ⊥) → CanStage queue page c
 can_stage_other queue page c other = λ honest l is tx. absurd (other tx)
 
-pub stages : (first : ℕ) (s t : DriverState) (page : List ℕ) (l : EndLog) → IsFitState s → Puts s page t → IsTied first s l
+pub stages : (first : ℕ) (p : Packet) (s t : DriverState) (page : List ℕ) (l : EndLog) → Puts p s page t → IsTied first s l
     → IsTied first t (log_staged Tx page l)
-stages first s t page l fits puts tie =
-    let last = put_last l.staged.tx page puts.packet l.entries puts.held in
+stages first p s t page l puts tie =
+    let last = put_last l.staged.tx page p l.entries puts.held in
     let matches = puts.matches first (all_put l.staged.tx l.entries) tie.1.matches in
     let fair = puts.fair first (all_put l.staged.tx l.entries) tie.1.matches tie.1.fair in (
       puts.fits,

@@ -9,7 +9,7 @@ use Rattle.vs_page.specs.{Fair.IsFairLog, Log.Driver, Open.is_open}
 use Rattle.vs_replies.specs.declared.Reply.{Reply}
 use Rattle.vs_ring_port.specs.{Contents.RingContents, EndLog.EndLog}
 use Rattle.laws_tables.specs.{Ends.Ends, Ends.entries_of, Ends.is_among, Ends.replied, Matches.Matches}
-use Rattle.vs_driver_parts.specs.{Room.HasRoom, State.DriverConnection, State.DriverEntry, State.DriverState}
+use Rattle.vs_driver_parts.specs.{Held.HeldSlots, Room.HasRoom, State.DriverConnection, State.DriverEntry, State.DriverState}
 
 -- The driver's connections, the replies that it owes, its next port, and the guest's CID. It keeps no flow to be used again.
 abbrev pub end_in : DriverConnection → ConnectionEnd
@@ -17,6 +17,17 @@ end_in c = c.end
 
 abbrev pub ends_of_state : DriverState → Ends
 ends_of_state s = record { entries = entries_of end_in s.table; replies = s.replies; clean = []; next_port = s.next_port; cid = s.cid }
+
+-- Its slots: the connections of its table and those that are gone, with the numbers that the next ones get.
+abbrev pub slots_of : DriverState → HeldSlots
+slots_of s = record {
+  next_port = s.next_port;
+  next_id = s.next_id;
+  last_port = s.last_port;
+  last_id = s.last_id;
+  table = s.table;
+  gone = s.gone;
+}
 
 -- Ports have 32 bits, and the peer's CID has 64.
 pub record IsFitFlow (f : Flow) : Type 0 where

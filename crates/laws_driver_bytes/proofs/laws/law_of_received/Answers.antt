@@ -1,0 +1,47 @@
+use Rattle.std.proofs.Common.{ℕ, Option, Some, None}
+use Rattle.vs_page.specs.Log.{Log}
+use Rattle.vs_driver_parts.specs.{Listening.next_accepted, Listening.with_waiting, Listening.without_id, State.DriverState}
+use Rattle.laws_driver.specs.Honest.{slots_of}
+use Rattle.laws_driver_bytes.specs.Received.{Account, AreReceived}
+use Rattle.laws_driver_bytes.proofs.Changing.{close_received, shutdown_received, unlisten_received}
+use Rattle.laws_driver_bytes.proofs.{Ending.connect_ends, Ending.new_ends, Ending.poll_ends, Ending.send_ends, Reading.recv_received}
+use Rattle.laws_driver_bytes.proofs.laws.law_of_received.Goals as goal
+
+pub returns-clause-new : goal.returns-clause-new
+returns-clause-new c = new_ends
+
+pub returns-clause-recv : goal.returns-clause-recv
+returns-clause-recv c = λ first id n a s r honest account on l is. recv_received a l.entries id n s (honest on l is).fits.sound (account on l is)
+
+pub returns-clause-send : goal.returns-clause-send
+returns-clause-send c = λ first id bytes a s r d x honest account plays. send_ends first id bytes a s r d x honest account plays
+
+pub returns-clause-connect : goal.returns-clause-connect
+returns-clause-connect c = connect_ends
+
+pub returns-clause-poll : goal.returns-clause-poll
+returns-clause-poll c = poll_ends
+
+pub returns-clause-shutdown : goal.returns-clause-shutdown
+returns-clause-shutdown c = λ first id bits a s r honest account on l is.
+    shutdown_received a l.entries s (account on l is) id bits (honest on l is).fits.sound
+
+pub returns-clause-close : goal.returns-clause-close
+returns-clause-close c = λ first id a s r honest account on l is. close_received a l.entries s (account on l is) id (honest on l is).fits.sound
+
+pub returns-clause-listen : goal.returns-clause-listen
+returns-clause-listen c = λ first port a s r honest account. account
+
+pub returns-clause-unlisten : goal.returns-clause-unlisten
+returns-clause-unlisten c = λ first port a s r honest account on l is. unlisten_received a l.entries port s (honest on l is).fits (account on l is)
+
+pub returns-clause-accept : goal.returns-clause-accept
+returns-clause-accept c = λ first port a s r honest account on l is. by a l.entries s port (account on l is) (next_accepted port s)
+  where
+    by : (a : Account) (log : Log) (s : DriverState) (port : ℕ) → AreReceived a log (slots_of s) → (o : Option ℕ)
+        → AreReceived a log (slots_of (elim o as (λ _. DriverState) [
+          | None ↦ s
+          | Some id ↦ record s { listeners = with_waiting port (without_id id) s.listeners }
+        ]))
+    by a log s port x None = x
+    by a log s port x (Some id) = x
