@@ -1,12 +1,3 @@
 pub mod Changes
 pub mod Logs
 pub mod Steps
-pub mod Lines
-pub mod Streamed
-pub mod Hosts
-pub mod HostCalls
-pub mod Hands
-pub mod Opens
-pub mod Gives
-pub mod Cids
-pub mod Short

@@ -1,3 +1,2 @@
-//! Bytes on their way through the ends of a connection: what came out of an end's buffer, and what it still holds, against what came in
-//! (Virtio 1.2, section 5.10.6).
+//! Bytes on their way through a buffer, and the payload of a flow in a log (Virtio 1.2, section 5.10.6).
 #![tactic(auto)]

@@ -9,8 +9,8 @@ use Rattle.vs_outside.specs.{HostProgram.with_bytes, Host.HostContents, Host.Str
 use Rattle.vs_outside.specs.{declared.mem_stream.HostWritten.HostWritten, HostBytes.after_line, HostBytes.read_after_ok}
 use Rattle.vs_outside.specs.HostBytes.{wrote_after_connect}
 use Rattle.vs_page.specs.Fair.{IsPrefixOf}
-use Rattle.laws_bytes.specs.Streamed.{has_line}
-use Rattle.laws_bytes.proofs.Lines.{after_front, after_longer}
+use Rattle.laws_device_bytes.specs.Streamed.{has_line}
+use Rattle.laws_device_bytes.proofs.Lines.{after_front, after_longer}
 use Rattle.vs_uds.proofs.{Leading.has_lf-digits, Ports.WritesPort-decimal}
 use Rattle.vs_ring_plain.specs.Device.{DeviceState}
 use Rattle.vs_device_parts.specs.Calls.{DeviceTree}

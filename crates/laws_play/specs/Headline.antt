@@ -13,7 +13,8 @@ use Rattle.vs_device_parts.specs.{State.DeviceEntry, Turns.counters_of}
 use Rattle.laws_tables.specs.Ends.{begun_flows, flows_of, is_among, new_flows, replied}
 use Rattle.vs_outside.specs.{HostBytes.host_read, HostBytes.host_wrote, HostBytes.read_after_ok, HostBytes.wrote_after_connect, Host.Stream}
 use Rattle.vs_outside.specs.Host.{stream_at}
-use Rattle.laws_bytes.specs.{Drains.Drains, Drains.receives, Streamed.gives, Streamed.line_for}
+use Rattle.laws_bytes.specs.Drains.{Drains, receives}
+use Rattle.laws_device_bytes.specs.Streamed.{gives, line_for}
 use Rattle.vs_script.specs.{Data.Content, Play.Event}
 use Rattle.vs_report.specs.{Report.counts_text, Report.device_open_text, Report.guest_open_text, Report.stream_texts, GuestLines.recv_text}
 use Rattle.vs_report.specs.GuestLines.{send_text}

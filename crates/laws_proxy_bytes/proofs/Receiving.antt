@@ -14,8 +14,8 @@ use Rattle.vs_credit.specs.Credit.{free_of}
 use Rattle.vs_header.specs.{Packet.header_bytes, declared.Header.Header}
 use Rattle.vs_outside.specs.declared.host_net.StreamRead.{StreamRead}
 use Rattle.vs_outside.specs.declared.host_net.StreamRead.TheVariants as read
-use Rattle.laws_bytes.specs.Streamed.{gives}
-use Rattle.laws_bytes.proofs.Gives.{pays_gives}
+use Rattle.laws_device_bytes.specs.Streamed.{gives}
+use Rattle.laws_device_bytes.proofs.Gives.{pays_gives}
 use Rattle.vs_replies.specs.declared.Reply.{Reply}
 use Rattle.vs_ring_port.specs.{Contents.Take, declared.device_ring.Chain.Chain, declared.device_ring.Next.Next}
 use Rattle.vs_ring_port.specs.declared.{failure.Failure.Failure, queue.Queue.TheVariants.Event, queue.Queue.TheVariants.Rx}

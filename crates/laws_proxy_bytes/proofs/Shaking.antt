@@ -8,8 +8,8 @@ use Rattle.vs_contents.specs.CallTree.{Done, Ask, for_each}
 use Rattle.vs_flow.specs.{Flow.host_flow, Table.has_place, declared.flow.Flow.Flow}
 use Rattle.vs_limits.specs.declared.TheConstants.{ASSIGNED_LAST, HANDSHAKES}
 use Rattle.vs_outside.specs.declared.host_net.{Accepted.Accepted, StreamRead.StreamRead}
-use Rattle.laws_bytes.proofs.Hands.{ends_by, no_line, with_all, with_apart, without_after, without_all, without_none, without_pairs}
-use Rattle.laws_bytes.proofs.Lines.{line_ends, line_whole}
+use Rattle.laws_device_bytes.proofs.Hands.{ends_by, no_line, with_all, with_apart, without_after, without_all, without_none, without_pairs}
+use Rattle.laws_device_bytes.proofs.Lines.{line_ends, line_whole}
 use Rattle.vs_uds.specs.{ConnectLine.connect_port, ConnectLine.connect_step, declared.connect.TheConstants.CONNECT_MAX}
 use Rattle.vs_uds.specs.{declared.scan.Step.Step, Reading.is_decided, Reading.port_or_bad}
 use Rattle.vs_device_parts.specs.{Calls.Accept, Calls.CloseStream, Calls.DeviceTree, Calls.ReadStream, Connections.is_late, Turns.open_of}

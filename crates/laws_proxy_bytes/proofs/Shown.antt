@@ -10,7 +10,7 @@ use Rattle.vs_outside.proofs.Frames.{keeps_others, stream_at-with_stream}
 use Rattle.vs_page.specs.Log.{flow_to_host}
 use Rattle.laws_proxy_bytes.specs.{Tied.IsLine, Tied.IsRead, Made.Account, Made.delivering, Made.is_on, Made.with_delivery}
 use Rattle.laws_proxy_bytes.specs.Told.{Shows, ShowsAt, ShowsIn}
-use Rattle.laws_bytes.proofs.Opens.{get_end, get_other, get_past}
+use Rattle.laws_device_bytes.proofs.Opens.{get_end, get_other, get_past}
 
 -- What is read of a stream stays lawful where nothing of it changes.
 pub read_same : (o : Option Flow) (a b : Account) → b.by_client ≡ a.by_client → b.line ≡ a.line → b.taken ≡ a.taken → IsRead o a

@@ -10,9 +10,10 @@ use Rattle.vs_header.specs.declared.Header.{Header}
 use Rattle.vs_page.specs.Fair.{IsPrefixOf}
 use Rattle.vs_device_parts.specs.Connections.{after_shut, after_written, stream_closed}
 use Rattle.vs_device_parts.specs.{State.DeviceConnection, State.DeviceEntry, Streams.to_write, Transmitting.heard}
-use Rattle.laws_bytes.specs.Streamed.{gives}
-use Rattle.laws_bytes.proofs.Gives.{accepted_other, accepts_asked, delivered_other, delivers_gives, drop_both, first_of, forwards_asked}
-use Rattle.laws_bytes.proofs.{Gives.forwards_gives, Gives.shuts_asked, Gives.shuts_gives, Logs.all_of, Logs.shorter}
+use Rattle.laws_device_bytes.specs.Streamed.{gives}
+use Rattle.laws_device_bytes.proofs.Gives.{accepted_other, accepts_asked, delivered_other, delivers_gives, drop_both, first_of, forwards_asked}
+use Rattle.laws_bytes.proofs.Logs.{all_of, shorter}
+use Rattle.laws_device_bytes.proofs.Gives.{forwards_gives, shuts_asked, shuts_gives}
 use Rattle.laws_proxy_bytes.specs.{Made.Account, Tied.IsTiedTo, Tied.gives_all, Tied.ok_line_of}
 
 -- The bytes that came for a connection.

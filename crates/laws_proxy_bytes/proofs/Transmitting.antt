@@ -15,8 +15,8 @@ use Rattle.vs_header.specs.declared.{Op.TheVariants.Request, Kind.TheVariants.St
 use Rattle.vs_limits.specs.declared.TheConstants.{BUF_ALLOC, DEVICE_REPLIES}
 use Rattle.vs_outside.specs.declared.host_net.Dialed.{Dialed}
 use Rattle.vs_page.specs.{Log.Device, Log.flow_to_host, Open.is_dropped}
-use Rattle.laws_bytes.specs.Streamed.{gives_in}
-use Rattle.laws_bytes.proofs.Gives.{delivers_gives, hears_gives}
+use Rattle.laws_device_bytes.specs.Streamed.{gives_in}
+use Rattle.laws_device_bytes.proofs.Gives.{delivers_gives, hears_gives}
 use Rattle.vs_replies.specs.Owed.{reply_to}
 use Rattle.vs_ring_port.specs.{Contents.Read, Contents.Return, Contents.Take, declared.device_ring.Chain.Chain}
 use Rattle.vs_ring_port.specs.declared.{device_ring.Next.Next, failure.Failure.Failure, queue.Queue.TheVariants.Tx}

@@ -7,7 +7,8 @@ use Rattle.vs_page.specs.Fair.{IsPrefixOf}
 use Rattle.vs_outside.specs.HostBytes.{after_line}
 use Rattle.vs_uds.specs.{OkLine.ok_text, Reading.is_decided, declared.connect.TheConstants.CONNECT_MAX}
 use Rattle.vs_device_parts.specs.State.{DeviceConnection, DeviceEntry}
-use Rattle.laws_bytes.specs.{Drains.Drains, Streamed.gives, Streamed.has_line}
+use Rattle.laws_bytes.specs.Drains.{Drains}
+use Rattle.laws_device_bytes.specs.Streamed.{gives, has_line}
 use Rattle.vs_proxy_parts.specs.State.{Handshake, ProxyState}
 use Rattle.laws_proxy_bytes.specs.Made.{Account, Made, account_of, new_account, payload_put, payload_taken}
 

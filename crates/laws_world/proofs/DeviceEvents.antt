@@ -34,9 +34,11 @@ use Rattle.laws_device.specs.Honest.{HoldsBytes}
 use Rattle.laws_device.proofs.{Fits.delivered, Fits.fits_after, Hearing.peer_resets, Hearing.rst_leaves}
 use Rattle.std.specs.List.{All}
 use Rattle.vs_proxy_parts.specs.State.{Handshake}
-use Rattle.laws_bytes.specs.{Drains.has_passed, Streamed.gives, Streamed.look}
-use Rattle.laws_bytes.proofs.{HostCalls.closed_host, Logs.got_passes, Logs.none_passed, Logs.passed_after_got, Logs.put_after_got}
-use Rattle.laws_bytes.proofs.{Opens.dial_host, Streamed.join_of}
+use Rattle.laws_bytes.specs.Drains.{has_passed}
+use Rattle.laws_device_bytes.specs.Streamed.{gives, look}
+use Rattle.laws_bytes.proofs.Logs.{got_passes, none_passed, passed_after_got, put_after_got}
+use Rattle.laws_device_bytes.proofs.HostCalls.{closed_host}
+use Rattle.laws_device_bytes.proofs.{Opens.dial_host, Streamed.join_of}
 use Rattle.vs_conn.specs.declared.end.Verdict.TheVariants as verdict
 use Rattle.vs_conn.specs.declared.end.Why.TheVariants as why
 use Rattle.vs_outside.specs.declared.host_net.Dialed.TheVariants as dialed

@@ -25,8 +25,8 @@ use Rattle.laws_world.proofs.{DeviceEvents.Over, DeviceSide.DeviceHolds, DeviceS
 use Rattle.laws_world.proofs.{DeviceSide.seated, Streams.StreamedIf, Streams.ends_streams, Streams.leaves_streams, Streams.put_empty}
 use Rattle.vs_outside.specs.Host.{HostContents, after_close}
 use Rattle.vs_proxy_parts.specs.State.{Handshake}
-use Rattle.laws_bytes.specs.Streamed.{gives}
-use Rattle.laws_bytes.proofs.{Gives.pays_gives, HostCalls.closed_host}
+use Rattle.laws_device_bytes.specs.Streamed.{gives}
+use Rattle.laws_device_bytes.proofs.{Gives.pays_gives, HostCalls.closed_host}
 use Rattle.vs_conn.specs.declared.end.Owed.TheVariants as owed
 use Rattle.laws_world.proofs.DeviceSide as side
 

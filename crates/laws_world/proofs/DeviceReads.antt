@@ -22,7 +22,7 @@ use Rattle.laws_world.proofs.Streams.{StreamedIf, called_host, ends_streams, rea
 use Rattle.laws_world.proofs.DeviceSide as side
 use Rattle.laws_world.proofs.DeviceStreams as streams
 use Rattle.laws_device.proofs.Filling.{live_old}
-use Rattle.laws_bytes.proofs.Short.{bytes_short, read_short}
+use Rattle.laws_device_bytes.proofs.Short.{bytes_short, read_short}
 use Rattle.vs_proxy_parts.specs.State.{Handshake}
 
 module _ (driver : Seat) (first port : ℕ) (s : DeviceState) (a : Around) (sound : IsSound first (seated driver port s a.log.entries))

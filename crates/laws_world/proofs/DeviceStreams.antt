@@ -23,7 +23,7 @@ use Rattle.vs_device_parts.specs.{Streams.tick_slot, Streams.to_write, Streams.w
 use Rattle.vs_device_parts.specs.Steps.{shuts_write, writes, writes_on, writing}
 use Rattle.laws_device.proofs.{Filling.can_send, Filling.live_old, Fits.fits_forwarded, Fits.fits_shut, Changing.forward_old}
 use Rattle.laws_device.proofs.Changing.{shut_old}
-use Rattle.laws_bytes.proofs.{Short.write_short, HostCalls.closed_host}
+use Rattle.laws_device_bytes.proofs.{Short.write_short, HostCalls.closed_host}
 use Rattle.laws_world.specs.Answers.{Around}
 use Rattle.laws_world.proofs.{Chains.HoldsRx, DeviceEvents.KeptBy, DeviceEvents.Over, DeviceSide.DeviceHolds, DeviceSide.IsFresh}
 use Rattle.laws_world.proofs.DeviceSide.{Kept, entry_fits, entry_fresh, new_unread, not_fresh, seated}

@@ -27,8 +27,8 @@ use Rattle.std.specs.List.{All}
 use Rattle.vs_outside.specs.Host.{HostContents}
 use Rattle.vs_page.proofs.Holding.{packet_whole}
 use Rattle.vs_proxy_parts.specs.State.{Handshake}
-use Rattle.laws_bytes.specs.Streamed.{gives, look}
-use Rattle.laws_bytes.proofs.Streamed.{same_streamed}
+use Rattle.laws_device_bytes.specs.Streamed.{gives, look}
+use Rattle.laws_device_bytes.proofs.Streamed.{same_streamed}
 use Rattle.laws_device.proofs.{Transmitting.header_is, Ringing.same_self}
 use Rattle.laws_world.proofs.DeviceSide as side
 

@@ -6,7 +6,8 @@ use Rattle.vs_flow.specs.Table.{IsTable}
 use Rattle.vs_limits.specs.declared.TheConstants.{ASSIGNED_FIRST, FIRST_PORT}
 use Rattle.vs_outside.specs.Host.{HostContents, Stream}
 use Rattle.vs_page.specs.Log.{Driver, Log}
-use Rattle.laws_bytes.specs.{Drains.got_on, Streamed.IsStreamed, Streamed.Seen, Streamed.look, Streamed.seen}
+use Rattle.laws_bytes.specs.Drains.{got_on}
+use Rattle.laws_device_bytes.specs.Streamed.{IsStreamed, Seen, look, seen}
 use Rattle.std.specs.Option.{option_map}
 use Rattle.laws_tables.proofs.{Voices.AreVoiced, Voices.voices_start, Both.start_sound}
 use Rattle.vs_proxy_parts.specs.Turns.{new_proxy}

@@ -16,8 +16,8 @@ use Rattle.laws_world.specs.Answers.{Around, answer_around}
 use Rattle.laws_world.proofs.{Chains.HoldsRx, DeviceSide.DeviceHolds, DeviceSide.Kept, DeviceSide.seated}
 use Rattle.laws_world.proofs.{ProxySide.Over, ProxySide.StreamedWith, ProxySide.stays_as, Streams.StreamedIf, Streams.emptied_streams}
 use Rattle.laws_world.proofs.{Runs.one_step, Wire.PutsFit}
-use Rattle.laws_bytes.specs.Streamed.{look}
-use Rattle.laws_bytes.proofs.{HostCalls.closed_host, Opens.no_lines, Streamed.same_streamed}
+use Rattle.laws_device_bytes.specs.Streamed.{look}
+use Rattle.laws_device_bytes.proofs.{HostCalls.closed_host, Opens.no_lines, Streamed.same_streamed}
 
 -- Three conversations one after another.
 played_twice : {A B C : Type 0} (p : DeviceTree A) (f : A → DeviceTree B) (g : B → DeviceTree C) (a : Around)

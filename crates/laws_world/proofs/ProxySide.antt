@@ -24,10 +24,10 @@ use Rattle.laws_world.specs.{Answers.Around, Answers.answer_around, Answers.byte
 use Rattle.laws_world.proofs.{Chains.HoldsRx, DeviceSide.DeviceHolds, DeviceSide.Kept, DeviceSide.end_in, DeviceSide.seated, Wire.PutsFit}
 use Rattle.laws_world.proofs.Streams.{StreamedIf, called_host, goes_on}
 use Rattle.std.specs.List.{All}
-use Rattle.laws_bytes.specs.Streamed.{has_line, look, reading}
-use Rattle.laws_bytes.proofs.{HostCalls.accepted_host, HostCalls.closed_host, Lines.line_ends, Lines.line_whole, Opens.IsHand}
-use Rattle.laws_bytes.proofs.Opens.{hand_of, label_host, line_more, line_now, line_over, one_byte, without_host}
-use Rattle.laws_bytes.proofs.Hands.{ends_by, no_line, without_after, without_none}
+use Rattle.laws_device_bytes.specs.Streamed.{has_line, look, reading}
+use Rattle.laws_device_bytes.proofs.{HostCalls.accepted_host, HostCalls.closed_host, Lines.line_ends, Lines.line_whole, Opens.IsHand}
+use Rattle.laws_device_bytes.proofs.Opens.{hand_of, label_host, line_more, line_now, line_over, one_byte, without_host}
+use Rattle.laws_device_bytes.proofs.Hands.{ends_by, no_line, without_after, without_none}
 use Rattle.vs_outside.specs.declared.host_net.Accepted.TheVariants as accepted_as
 use Rattle.vs_outside.specs.declared.host_net.StreamRead.TheVariants as read
 use Rattle.vs_uds.specs.declared.scan.Step.TheVariants as step

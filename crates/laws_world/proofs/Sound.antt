@@ -34,8 +34,9 @@ use Rattle.vs_flow.specs.{declared.flow.Flow.Flow, Table.Table}
 use Rattle.std.specs.List.{All}
 use Rattle.vs_limits.specs.declared.TheConstants.{GUEST_CID_MIN, GUEST_CID_MAX}
 use Rattle.laws_tables.proofs.{Both.next_is_fair, Fair.got_formed, Slots.one_end, Voices.AreVoiced, Voices.voices_run}
-use Rattle.laws_bytes.specs.Streamed.{IsStreamed, gives}
-use Rattle.laws_bytes.proofs.{Cids.dropped_empty, HostCalls.client_host, HostCalls.same_host, Hosts.unseen, Logs.nothing_more}
+use Rattle.laws_device_bytes.specs.Streamed.{IsStreamed, gives}
+use Rattle.laws_bytes.proofs.Logs.{nothing_more}
+use Rattle.laws_device_bytes.proofs.{Cids.dropped_empty, HostCalls.client_host, HostCalls.same_host, Hosts.unseen}
 use Rattle.vs_ring_list.proofs.Held.{same_queue_is}
 use Rattle.vs_ring_port.specs.declared.queue.Queue.TheVariants as q
 use Rattle.laws_world.proofs.DevicePuts as device_puts

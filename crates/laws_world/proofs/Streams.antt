@@ -18,14 +18,15 @@ use Rattle.laws_history.specs.Again.{AllowsNow}
 use Rattle.vs_driver_parts.proofs.Delivers.{delivers, named_rw}
 use Rattle.laws_tables.specs.Steps.{payload_on}
 use Rattle.laws_bytes.specs.Drains.{Drains, got_on, put_on}
-use Rattle.laws_bytes.specs.Streamed.{IsJoined, IsStreamed, gives, line_for, look, seen}
-use Rattle.laws_bytes.proofs.{HostCalls.read_host, HostCalls.write_host, HostCalls.same_host, Hosts.unseen}
-use Rattle.laws_bytes.proofs.Gives.{drop_both, first_of, forwards_asked, forwards_gives, accepted_other, accepts_asked, accepts_response}
-use Rattle.laws_bytes.proofs.Gives.{answered_host, comes_behind, delivered_other, delivers_gives, gives_delivered, goes_host}
-use Rattle.laws_bytes.proofs.Gives.{hears_gives, kept_empty, response_empty, shut_gives, shuts_asked, unanswered_got}
+use Rattle.laws_device_bytes.specs.Streamed.{IsJoined, IsStreamed, gives, line_for, look, seen}
+use Rattle.laws_device_bytes.proofs.{HostCalls.read_host, HostCalls.write_host, HostCalls.same_host, Hosts.unseen}
+use Rattle.laws_device_bytes.proofs.Gives.{drop_both, first_of, forwards_asked, forwards_gives, accepted_other, accepts_asked, accepts_response}
+use Rattle.laws_device_bytes.proofs.Gives.{answered_host, comes_behind, delivered_other, delivers_gives, gives_delivered, goes_host}
+use Rattle.laws_device_bytes.proofs.Gives.{hears_gives, kept_empty, response_empty, shut_gives, shuts_asked, unanswered_got}
 use Rattle.laws_bytes.proofs.Logs.{got_after_got, got_after_put, none_on_any, only_on, passed_after_got, passed_after_put, put_after_got}
-use Rattle.laws_bytes.proofs.{Logs.put_after_put, Steps.comes_out, Steps.Goes, Steps.drops, Steps.stays_still, Streamed.join_of}
-use Rattle.laws_bytes.proofs.Streamed.{left_streamed, passed_streamed, same_streamed}
+use Rattle.laws_bytes.proofs.{Logs.put_after_put, Steps.comes_out, Steps.Goes, Steps.drops, Steps.stays_still}
+use Rattle.laws_device_bytes.proofs.Streamed.{join_of}
+use Rattle.laws_device_bytes.proofs.Streamed.{left_streamed, passed_streamed, same_streamed}
 use Rattle.vs_outside.specs.Host.{after_failed, after_read, after_shut_write, after_write, called, dial_answer, fails_now, is_listened}
 use Rattle.vs_outside.specs.Host.{next_bytes, HostContents, with_shut_write_call}
 use Rattle.vs_outside.proofs.Frames.{stream_at-after_failed}

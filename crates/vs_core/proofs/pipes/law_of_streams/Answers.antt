@@ -1,8 +1,8 @@
 use Rattle.std.proofs.Common.{◌≡◌, Some, ap}
 use Rattle.std.proofs.lemmas.List.Elements.{All-contains}
 use Rattle.vs_proxy_parts.specs.State.{Handshake}
-use Rattle.laws_bytes.specs.Streamed.{Seen, look, reading}
-use Rattle.laws_bytes.proofs.Hosts.{there as is_there}
+use Rattle.laws_device_bytes.specs.Streamed.{Seen, look, reading}
+use Rattle.laws_device_bytes.proofs.Hosts.there as is_there
 use Rattle.laws_world.specs.{Events.run, World.opening}
 use Rattle.laws_world.proofs.{Carried.given_is, Carried.one_stream, Carried.pending_of, Carried.wrote_is, Opening.run_well}
 use Rattle.vs_core.proofs.pipes.law_of_streams.Goals as goal

@@ -9,7 +9,7 @@ use Rattle.vs_uds.specs.{ConnectLine.connect_port, ConnectLine.connect_step, Con
 use Rattle.vs_uds.specs.declared.connect.TheConstants.{CONNECT_MAX}
 use Rattle.vs_uds.specs.declared.scan.Step.TheVariants as step
 use Rattle.vs_uds.proofs.{ConnectLines.IsWordLine-word_port, Decided.decided}
-use Rattle.laws_bytes.specs.Streamed.{has_line}
+use Rattle.laws_device_bytes.specs.Streamed.{has_line}
 
 -- The lines without that of a stream.
 all_tail : (P : Handshake → Type 0) (h : Handshake) (hs : List Handshake) → All P (h ∷ hs) → All P hs

@@ -14,7 +14,7 @@ use Rattle.vs_page.proofs.{Entries.got_on, Entries.on_flow, Entries.present_is, 
 use Rattle.laws_tables.specs.{Both.Both, Both.IsSound, Heard.heard_of, Steps.HasEnd}
 use Rattle.laws_tables.proofs.{Both.next_is_fair, Fair.got_fair, Fair.got_one, Steps.cid_heard, Voices.AllSpeak, Voices.AreVoiced}
 use Rattle.laws_tables.proofs.Voices.{IsOneVoice, keep, one_older, speak_present}
-use Rattle.laws_bytes.specs.Streamed.{gives}
+use Rattle.laws_device_bytes.specs.Streamed.{gives}
 
 -- Packets of another CID are all dropped.
 keep_none : (peer cid c : ℕ) (qs : List Packet) → not (cid == c && peer == HOST_CID) ≡ true → AllSpeak peer cid qs → keep c qs ≡ []

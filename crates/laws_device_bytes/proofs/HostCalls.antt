@@ -18,10 +18,13 @@ use Rattle.vs_outside.proofs.Frames.{accepts_waiting}
 use Rattle.vs_page.specs.Log.{Device, Log}
 use Rattle.vs_proxy_parts.specs.State.{Handshake}
 use Rattle.vs_uds.specs.{Reading.is_decided, declared.connect.TheConstants.CONNECT_MAX}
-use Rattle.laws_bytes.specs.{Drains.Drains, Drains.got_on, Drains.has_passed, Drains.put_on, Streamed.AreStreamed, Streamed.IsJoined}
-use Rattle.laws_bytes.specs.Streamed.{IsStreamed, Seen, client_waits, gives, has_line, line_for, look, reading, seen, taken_of}
-use Rattle.laws_bytes.proofs.{Hosts.changed_seen, Hosts.others_seen, Hosts.there, Hosts.unseen_none, Lines.after_longer, Logs.none_on_any}
-use Rattle.laws_bytes.proofs.{Logs.only_on, Streamed.join_of, Streamed.moved_streamed, Streamed.same_streamed, Streamed.unlabelled_streamed}
+use Rattle.laws_bytes.specs.Drains.{Drains, got_on, has_passed, put_on}
+use Rattle.laws_device_bytes.specs.Streamed.{AreStreamed, IsJoined}
+use Rattle.laws_device_bytes.specs.Streamed.{IsStreamed, Seen, client_waits, gives, has_line, line_for, look, reading, seen, taken_of}
+use Rattle.laws_bytes.proofs.Logs.{none_on_any}
+use Rattle.laws_device_bytes.proofs.{Hosts.changed_seen, Hosts.others_seen, Hosts.there, Hosts.unseen_none, Lines.after_longer}
+use Rattle.laws_bytes.proofs.Logs.{only_on}
+use Rattle.laws_device_bytes.proofs.Streamed.{join_of, moved_streamed, same_streamed, unlabelled_streamed}
 
 -- Another host, whose streams look the same.
 pub same_host : (c d : HostContents) (log : Log) (port : ℕ) (t : Table DeviceConnection) (hands : List Handshake) → ((j : ℕ) → look c j ≡ look d j)

@@ -16,11 +16,12 @@ use Rattle.vs_outside.specs.HostBytes.{after_line}
 use Rattle.vs_page.specs.Log.{Device, Log}
 use Rattle.vs_proxy_parts.specs.{Handshakes.with_line, Handshakes.without_stream, State.Handshake}
 use Rattle.vs_uds.specs.{OkLine.ok_text, Reading.is_decided, declared.connect.TheConstants.CONNECT_MAX}
-use Rattle.laws_bytes.specs.Streamed.{AreLines, AreStreamed, IsStreamed, Seen, client_waits, has_line, line_for, look, reading, seen}
+use Rattle.laws_device_bytes.specs.Streamed.{AreLines, AreStreamed, IsStreamed, Seen, client_waits, has_line, line_for, look, reading, seen}
 use Rattle.laws_bytes.specs.Drains.{got_on, has_passed, put_on}
-use Rattle.laws_bytes.proofs.{Hosts.changed_seen, Hosts.others_seen, Hosts.there, HostCalls.more_kept, HostCalls.some_seen}
-use Rattle.laws_bytes.proofs.{Logs.none_got, Logs.none_put, Streamed.opened_streamed, Streamed.unlabelled_streamed}
-use Rattle.laws_bytes.proofs.Hands.{with_all, with_apart, without_all, without_none, without_pairs}
+use Rattle.laws_device_bytes.proofs.{Hosts.changed_seen, Hosts.others_seen, Hosts.there, HostCalls.more_kept, HostCalls.some_seen}
+use Rattle.laws_bytes.proofs.Logs.{none_got, none_put}
+use Rattle.laws_device_bytes.proofs.Streamed.{opened_streamed, unlabelled_streamed}
+use Rattle.laws_device_bytes.proofs.Hands.{with_all, with_apart, without_all, without_none, without_pairs}
 use Rattle.vs_header.specs.declared.Kind.TheVariants as kind
 use Rattle.vs_outside.specs.declared.host_net.Dialed.TheVariants as dialed
 use Rattle.vs_outside.specs.declared.host_net.StreamRead.TheVariants as read

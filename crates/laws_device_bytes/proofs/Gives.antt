@@ -16,10 +16,11 @@ use Rattle.laws_history.specs.{History.Put, History.gots, declared.packet.Packet
 use Rattle.vs_outside.specs.Host.{HostContents}
 use Rattle.vs_page.specs.{Fair.payload_of, Log.Device, Log.Log}
 use Rattle.vs_proxy_parts.specs.State.{Handshake}
-use Rattle.laws_bytes.specs.{Drains.Drains, Drains.got_on, Drains.has_passed, Drains.put_on, Streamed.IsJoined, Streamed.IsStreamed}
-use Rattle.laws_bytes.specs.Streamed.{gives, line_for, look}
+use Rattle.laws_bytes.specs.Drains.{Drains, got_on, has_passed, put_on}
+use Rattle.laws_device_bytes.specs.Streamed.{IsJoined, IsStreamed}
+use Rattle.laws_device_bytes.specs.Streamed.{gives, line_for, look}
 use Rattle.laws_bytes.proofs.{Logs.all_of, Logs.only_on, Logs.there_on, Steps.Goes, Steps.comes_in, Steps.drops, Steps.stays_still}
-use Rattle.laws_bytes.proofs.Streamed.{changed_streamed, join_of}
+use Rattle.laws_device_bytes.proofs.Streamed.{changed_streamed, join_of}
 
 -- An end whose stream is given all was such an end before.
 pub forwards_gives : (e : ConnectionEnd) (n : ℕ) → gives (with_payload_forwarded e n) ≡ true → gives e ≡ true

@@ -13,8 +13,9 @@ use Rattle.vs_flow.proofs.Entries.{same_flow_true}
 use Rattle.vs_page.specs.{Fair.IsPrefixOf, Log.Device, Log.Log}
 use Rattle.vs_proxy_parts.specs.State.{Handshake}
 use Rattle.laws_bytes.specs.Drains.{Drains, got_on, has_passed, put_on}
-use Rattle.laws_bytes.specs.Streamed.{AreLines, AreStreamed, IsJoined, IsLabelled, Seen, client_waits, gives, line_for, reading, taken_of}
-use Rattle.laws_bytes.proofs.{Changes.changed, Changes.others_left, Lines.line_longer}
+use Rattle.laws_device_bytes.specs.Streamed.{AreLines, AreStreamed, IsJoined, IsLabelled, Seen, client_waits, gives, line_for, reading, taken_of}
+use Rattle.laws_bytes.proofs.Changes.{changed, others_left}
+use Rattle.laws_device_bytes.proofs.Lines.{line_longer}
 use Rattle.laws_bytes.proofs.Logs.{longer, none_on_any, not_on, only_on, shorter, there_on}
 
 some_inj : {X : Type 0} (x y : X) → ◌≡◌ {A = Option X} (Some x) (Some y) → x ≡ y

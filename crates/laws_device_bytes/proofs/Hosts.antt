@@ -4,7 +4,7 @@ use Rattle.std.specs.Option.{option_map, option_map_or}
 use Rattle.std.proofs.lemmas.Bool.Decides.{nat_tests}
 use Rattle.vs_outside.specs.Host.{HostContents, Stream, stream_at, with_stream}
 use Rattle.vs_outside.proofs.Frames.{keeps_others, stream_at-with_stream}
-use Rattle.laws_bytes.specs.Streamed.{Seen, look, seen}
+use Rattle.laws_device_bytes.specs.Streamed.{Seen, look, seen}
 
 -- The stream of an id as it is seen.
 pub record IsThere (id : ℕ) (c : HostContents) (s : Seen) : Type 0 where

@@ -5,7 +5,7 @@ use Rattle.std.specs.{List.prefix_len, Option.option_map_or}
 use Rattle.std.proofs.lemmas.Bool.Decides.{nat_tests}
 use Rattle.vs_outside.specs.HostBytes.{after_line}
 use Rattle.vs_page.specs.Fair.{IsPrefixOf}
-use Rattle.laws_bytes.specs.Streamed.{has_line}
+use Rattle.laws_device_bytes.specs.Streamed.{has_line}
 
 -- Byte by byte.
 abbrev pub rest_of : List ℕ → List ℕ

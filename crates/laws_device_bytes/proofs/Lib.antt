@@ -1,0 +1,9 @@
+pub mod Lines
+pub mod Streamed
+pub mod Hosts
+pub mod HostCalls
+pub mod Hands
+pub mod Opens
+pub mod Gives
+pub mod Cids
+pub mod Short
