@@ -11,7 +11,7 @@ use Rattle.vs_flow.specs.{Flow.is_assigned, Flow.same_flow, declared.flow.Flow.F
 use Rattle.laws_history.specs.History.{Answerer, Asker, Got, History, IsFair, MayPut, Put, Side, gots, of_asker, peer, puts}
 use Rattle.laws_history.specs.Packets.{asked_kind, bytes, has, is_response, is_rst, told_alloc, told_forwarded}
 use Rattle.laws_history.specs.declared.packet.Packet.{Packet}
-use Rattle.vs_limits.specs.declared.TheConstants.{BUF_ALLOC}
+use Rattle.vs_limits.specs.declared.TheConstants.{BUF_ALLOC, HOST_CID}
 use Rattle.vs_page.specs.Log.{Device, Driver, Role, history_of, other_role, packets_got, packets_put, side_of}
 use Rattle.vs_page.specs.Open.{left_kind}
 use Rattle.vs_page.proofs.Flows.{opposite_by, other_twice}
@@ -19,7 +19,7 @@ use Rattle.laws_tables.specs.{Both.Both, Both.at, Ends.FlowEnd, Ends.ends_of, En
 use Rattle.laws_tables.specs.{Matches.IsBefore, Matches.IsHeld, Matches.IsLeftOn, Steps.HasEnd}
 use Rattle.laws_tables.proofs.Fair.{fair_now}
 use Rattle.laws_rest.specs.Rest.{ArePaired, HasWords, IsAtRest, Mirrors}
-use Rattle.laws_rest.proofs.Standing.{AllKept, AreTiedOn, IsKept, heard_kept, is_none, open_stands, routed_kept, stands, stands_both, tied}
+use Rattle.laws_rest.proofs.Standing.{AreKept, AreTiedOn, device_kept, driver_kept, is_none, open_stands, stands, stands_both, tied}
 
 abbrev pub OweNone : List ConnectionEnd → Type 0
 OweNone ends = (e : ConnectionEnd) (more : List ConnectionEnd) → ends ≡ e ∷ more → owes_of e ≡ None
@@ -55,29 +55,26 @@ rest_by false Device side h k kind (e ∷ more) is left owes =
     let before : IsBefore Device side h (e ∷ more) = subst (λ o. IsLeftOn Device side h o false (e ∷ more)) is left in
     absurd (asking_owes e e.kind before.1.asks (owes e more refl))
 
-kept_of : (role : Role) (first : ℕ) (b : Both) → IsAtRest first b → AllKept role first (at role b).log
-kept_of role first b r =
-    let there = other_role role in
-    let kept = routed_kept there first (at there b).log (r.no_reset there) (r.routed there) in
-    subst (All (IsKept role first)) (r.got role)
-    (subst (λ x. All (IsKept x first) (packets_put (at there b).log)) (other_twice role) kept)
+kept_of : (role : Role) (first : ℕ) (b : Both) (f : Flow) → f.peer ≡ HOST_CID → IsAtRest first b → AreKept role first f (at role b).log
+kept_of Driver first b f host r = driver_kept first f b.driver.log host
+kept_of Device first b f host r =
+    device_kept first f b.driver.log b.device.log (r.no_reset Driver) (r.no_reset Device) r.routed (r.got Device)
 
-rest_at : (role : Role) (first : ℕ) (b : Both) (f : Flow) → IsAtRest first b
+rest_at : (role : Role) (first : ℕ) (b : Both) (f : Flow) → f.peer ≡ HOST_CID → IsAtRest first b
     → let h = history_of role f (at role b).log in
     IsRestingOn (stands (puts h) (gots h)) (side_of role f) (puts h) (gots h) (ends_of f (at role b).part.entries)
-rest_at role first b f r =
+rest_at role first b f host r =
     let log = (at role b).log in
     let part = (at role b).part in
     let h = history_of role f log in
     let ends = ends_of f part.entries in
-    let kept = kept_of role first b r in
+    let stood = open_stands role first f log (r.fair role f) (kept_of role first b f host r) (r.no_reset role) in
     let left : IsLeftOn role (side_of role f) h (left_kind role first f log) false ends =
-    subst (λ x. IsLeftOn role (side_of role f) x (left_kind role first f log) false ends) (heard_kept role first f log kept (r.no_reset role))
+    subst (λ x. IsLeftOn role (side_of role f) x (left_kind role first f log) false ends) stood.1
     (subst (λ rs. IsLeftOn role (side_of role f) (heard_of role first f log) (left_kind role first f log) (is_among f (replied rs)) ends)
     (r.owes role).replies ((r.matches role).flows.on f)) in
     rest_by (stands (puts h) (gots h)) role (side_of role f) h (asked_kind (of_asker (side_of role f) (puts h) (gots h)))
-    (left_kind role first f log) ends (open_stands role first f log (r.fair role f) kept (r.no_reset role)) left
-    (owes_all f part.entries (r.owes role).ends)
+    (left_kind role first f log) ends stood.0 left (owes_all f part.entries (r.owes role).ends)
 
 -- The same of the other end, by what this one put and got.
 ties : (role : Role) (first : ℕ) (b : Both) (f : Flow) → IsAtRest first b → AreTiedOn role f (at role b).log (at (other_role role) b).log
@@ -87,13 +84,13 @@ ties role first b f r =
     subst (λ x. packets_put (at x b).log ≡ packets_got (at there b).log) (other_twice role) (r.got there) in
     tied role f (at role b).log (at there b).log (r.fair role f) (r.fair there f) (r.got role) back
 
-rest_there : (role : Role) (first : ℕ) (b : Both) (f : Flow) → IsAtRest first b
+rest_there : (role : Role) (first : ℕ) (b : Both) (f : Flow) → f.peer ≡ HOST_CID → IsAtRest first b
     → let h = history_of role f (at role b).log in
     IsRestingOn (stands (puts h) (gots h)) (peer (side_of role f)) (gots h) (puts h) (ends_of f (at (other_role role) b).part.entries)
-rest_there role first b f r =
+rest_there role first b f host r =
     let h = history_of role f (at role b).log in
     let ends = ends_of f (at (other_role role) b).part.entries in
-    let there = rest_at (other_role role) first b f r in
+    let there = rest_at (other_role role) first b f host r in
     let t = ties role first b f r in
     let side = opposite_by role (is_assigned f.host) in
     subst (λ s. IsRestingOn (stands (puts h) (gots h)) s (gots h) (puts h) ends) side
@@ -116,11 +113,11 @@ resting_some : (b : Bool) (side : Side) (put got : List Packet) (ends : List Con
 resting_some true side put got ends resting = let one = resting.1 in grind (arith, common_steps)
 resting_some false side put got ends resting = rw resting refl
 
-pub same_flows : (first : ℕ) (b : Both) (f : Flow) → IsAtRest first b
+pub same_flows : (first : ℕ) (b : Both) (f : Flow) → f.peer ≡ HOST_CID → IsAtRest first b
     → is_among f (flows_of b.driver.part.entries) ≡ is_among f (flows_of b.device.part.entries)
-same_flows first b f r =
-    among_ends f b.driver.part.entries ∙ resting_some _ _ _ _ _ (rest_at Driver first b f r)
-    ∙ sym (among_ends f b.device.part.entries ∙ resting_some _ _ _ _ _ (rest_there Driver first b f r))
+same_flows first b f host r =
+    among_ends f b.driver.part.entries ∙ resting_some _ _ _ _ _ (rest_at Driver first b f host r)
+    ∙ sym (among_ends f b.device.part.entries ∙ resting_some _ _ _ _ _ (rest_there Driver first b f host r))
 
 -- The two ends of a flow.
 answerer_live : (put got : List Packet) (e : ConnectionEnd) → Follows Answerer put got e → owes_of e ≡ None
@@ -262,9 +259,9 @@ paired_by true side h ends others e fair is here there has =
           (subst (λ x. owes_of x ≡ None) same here.3) there.3,
     )
 
-pub paired : (role : Role) (first : ℕ) (b : Both) (f : Flow) (e : ConnectionEnd) → IsAtRest first b → HasEnd f e (at role b).part
+pub paired : (role : Role) (first : ℕ) (b : Both) (f : Flow) (e : ConnectionEnd) → f.peer ≡ HOST_CID → IsAtRest first b → HasEnd f e (at role b).part
     → (other : ConnectionEnd) × HasEnd f other (at (other_role role) b).part × ArePaired e other
-paired role first b f e r has =
+paired role first b f e host r has =
     let h = history_of role f (at role b).log in
-    paired_by (stands (puts h) (gots h)) (side_of role f) h _ _ e (fair_now role f (at role b).log (r.fair role f)) refl (rest_at role first b f r)
-    (rest_there role first b f r) has
+    paired_by (stands (puts h) (gots h)) (side_of role f) h _ _ e (fair_now role f (at role b).log (r.fair role f)) refl (rest_at role first b f host r)
+    (rest_there role first b f host r) has

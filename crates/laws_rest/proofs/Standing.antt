@@ -9,7 +9,8 @@ use Rattle.laws_history.specs.{Again.AllowsNow, Again.IsFairAll, Again.now_got, 
 use Rattle.laws_history.specs.History.{Side, gots, is_begun, of_asker, peer, puts}
 use Rattle.laws_history.specs.{Packets.asked_kind, Packets.has, Packets.is_request, Packets.is_rst, declared.packet.Packet.Packet}
 use Rattle.laws_history.proofs.Present.{is_present, swap, swap_back}
-use Rattle.vs_page.specs.{Fair.IsFairOn, Log.Log, Log.Role, Log.and_then, Log.flow_got, Log.flow_put, Log.history_of, Log.other_role}
+use Rattle.vs_limits.specs.declared.TheConstants.{HOST_CID}
+use Rattle.vs_page.specs.{Fair.IsFairOn, Log.Device, Log.Driver, Log.Log, Log.Role, Log.and_then, Log.flow_got, Log.flow_put, Log.history_of, Log.other_role}
 use Rattle.vs_page.specs.Log.{packets_got, packets_put, side_of, whole_of}
 use Rattle.vs_page.specs.Open.{cid_of, is_dropped, kind_ended, kind_got, kind_put, left_kind}
 use Rattle.vs_page.specs.declared.log.LogEntry.TheVariants.{GotEvent, GotPacket, Mark, PutEvent, PutPacket}
@@ -17,7 +18,7 @@ use Rattle.vs_page.proofs.{Entries.fair_got_on, Entries.fair_put_on, Entries.got
 use Rattle.vs_page.proofs.{Flows.other_twice, Phases.kind_stays}
 use Rattle.laws_tables.specs.Heard.{IsAllHeard}
 use Rattle.laws_tables.proofs.{Fair.all_got, Fair.all_put, Frame.open_got, Frame.open_put}
-use Rattle.laws_rest.specs.Rest.{IsRouted, has_no_mark}
+use Rattle.laws_rest.specs.Rest.{AreRouted, has_no_mark}
 
 -- Something passed, and no RST.
 abbrev pub is_none : List Packet → Bool
@@ -78,12 +79,25 @@ got_stands true Asker h p is may = let asker = asks_first Answerer p is (may.ope
 got_stands true Answerer h p is may = rw is (rw (request_no_rst p is) (rw is refl))
 got_stands false side h p is may = rw is (got_other (is_rst p) side h p refl is (may.goes_on is))
 
--- Nothing that an end got was dropped.
-abbrev pub IsKept : Role → ℕ → Packet → Type 0
-IsKept role first p = is_dropped role first p.header ≡ false
+-- Nothing that an end got on a flow was dropped: of the driver on each flow with the host, of the device on every flow, where the packets that
+-- it got have the guest's CID and go to the host.
+abbrev pub AreKept : Role → ℕ → Flow → Log → Type 0
+AreKept role first f [] = Unit {0}
+AreKept role first f (GotPacket p ∷ log) =
+    (same_flow f (flow_got role p) ≡ true → is_dropped role (cid_of first log) p.header ≡ false) × AreKept role first f log
+AreKept role first f (_ ∷ log) = AreKept role first f log
 
-abbrev pub AllKept : Role → ℕ → Log → Type 0
-AllKept role first log = All (IsKept role first) (packets_got log)
+host_kept : (f : Flow) (p : Packet) (cid : ℕ) → f ≡ flow_got Driver p → f.peer ≡ HOST_CID → is_dropped Driver cid p.header ≡ false
+host_kept f p cid same host = let from : p.header.src_cid ≡ HOST_CID = sym (ap (λ (g : Flow). g.peer) same) ∙ host in rw from refl
+
+pub driver_kept : (first : ℕ) (f : Flow) (log : Log) → f.peer ≡ HOST_CID → AreKept Driver first f log
+driver_kept first f [] host = tt
+driver_kept first f (PutPacket p ∷ log) host = driver_kept first f log host
+driver_kept first f (GotPacket p ∷ log) host =
+    (λ same. host_kept f p (cid_of first log) (same_is f (flow_got Driver p) same) host, driver_kept first f log host)
+driver_kept first f (PutEvent id ∷ log) host = driver_kept first f log host
+driver_kept first f (GotEvent id ∷ log) host = driver_kept first f log host
+driver_kept first f (Mark cid ∷ log) host = driver_kept first f log host
 
 cid_first : (first : ℕ) (log : Log) → has_no_mark log ≡ true → cid_of first log ≡ first
 cid_first first [] marks = refl
@@ -93,73 +107,74 @@ cid_first first (PutEvent id ∷ log) marks = cid_first first log marks
 cid_first first (GotEvent id ∷ log) marks = cid_first first log marks
 cid_first first (Mark cid ∷ log) marks = absurd cc
 
-newest_kept : (role : Role) (first : ℕ) (p : Packet) (log : Log) → AllKept role first (GotPacket p ∷ log) → has_no_mark log ≡ true
-    → is_dropped role (cid_of first log) p.header ≡ false
-newest_kept role first p log kept marks =
-    subst (λ c. is_dropped role c p.header ≡ false) (sym (cid_first first log marks)) (All-head (IsKept role first) p (packets_got log) kept)
+abbrev IsKept : ℕ → Packet → Type 0
+IsKept cid p = is_dropped Device cid p.header ≡ false
 
-older_kept : (role : Role) (first : ℕ) (p : Packet) (log : Log) → AllKept role first (GotPacket p ∷ log) → AllKept role first log
-older_kept role first p log kept = All-tail (IsKept role first) p (packets_got log) kept
+routed : (first : ℕ) (log : Log) → has_no_mark log ≡ true → AreRouted first log → All (IsKept first) (packets_put log)
+routed first [] marks are = All-nil (IsKept first)
+routed first (PutPacket p ∷ log) marks are =
+    All-cons (IsKept first) p (packets_put log) (subst (λ c. IsKept c p) (cid_first first log marks) are.0) (routed first log marks are.1)
+routed first (GotPacket p ∷ log) marks are = routed first log marks are
+routed first (PutEvent id ∷ log) marks are = routed first log marks are
+routed first (GotEvent id ∷ log) marks are = routed first log marks are
+routed first (Mark cid ∷ log) marks are = absurd cc
 
-pub routed_kept : (role : Role) (first : ℕ) (log : Log) → has_no_mark log ≡ true → IsRouted role first log
-    → All (IsKept (other_role role) first) (packets_put log)
-routed_kept role first [] marks routed = All-nil (IsKept (other_role role) first)
-routed_kept role first (PutPacket p ∷ log) marks routed =
-    All-cons (IsKept (other_role role) first) p (packets_put log)
-    (subst (λ c. IsKept (other_role role) c p) (cid_first first log marks) routed.0) (routed_kept role first log marks routed.1)
-routed_kept role first (GotPacket p ∷ log) marks routed = routed_kept role first log marks routed
-routed_kept role first (PutEvent id ∷ log) marks routed = routed_kept role first log marks routed
-routed_kept role first (GotEvent id ∷ log) marks routed = routed_kept role first log marks routed
-routed_kept role first (Mark cid ∷ log) marks routed = absurd cc
+came : (first : ℕ) (f : Flow) (log : Log) → has_no_mark log ≡ true → All (IsKept first) (packets_got log) → AreKept Device first f log
+came first f [] marks all = tt
+came first f (PutPacket p ∷ log) marks all = came first f log marks all
+came first f (GotPacket p ∷ log) marks all = (
+  λ same. subst (λ c. IsKept c p) (sym (cid_first first log marks)) (All-head (IsKept first) p (packets_got log) all),
+  came first f log marks (All-tail (IsKept first) p (packets_got log) all),
+)
+came first f (PutEvent id ∷ log) marks all = came first f log marks all
+came first f (GotEvent id ∷ log) marks all = came first f log marks all
+came first f (Mark cid ∷ log) marks all = absurd cc
 
--- A fair log without a reset of which nothing was dropped leaves a flow open exactly where its present connection stands.
+pub device_kept : (first : ℕ) (f : Flow) (driver device : Log) → has_no_mark driver ≡ true → has_no_mark device ≡ true
+    → AreRouted first driver → packets_put driver ≡ packets_got device → AreKept Device first f device
+device_kept first f driver device marks marks_there are got =
+    came first f device marks_there (subst (All (IsKept first)) got (routed first driver marks are))
+
+-- A fair log without a reset of which nothing was dropped leaves a flow open exactly where its present connection stands; and all was heard.
+abbrev Stands : Role → ℕ → Flow → Log → Type 0
+Stands role first f log =
+    (left_kind role first f log ≡ standing (side_of role f) (history_of role f log)) × IsAllHeard role first f log
+
 put_at : (role : Role) (first : ℕ) (f : Flow) (p : Packet) (log : Log) (b : Bool) → same_flow f (flow_put role p) ≡ b
-    → (b ≡ true → AllowsNow (side_of role f) (history_of role f log) (Put p))
-    → left_kind role first f log ≡ standing (side_of role f) (history_of role f log)
-    → left_kind role first f (PutPacket p ∷ log) ≡ standing (side_of role f) (history_of role f (PutPacket p ∷ log))
+    → (b ≡ true → AllowsNow (side_of role f) (history_of role f log) (Put p)) → Stands role first f log → Stands role first f (PutPacket p ∷ log)
 put_at role first f p log true same may is =
     let side = side_of role f in
-    let h = history_of role f log in
-    open_put role first f p log (sym (same_is f (flow_put role p) same)) ∙ ap (kind_put p) is
-    ∙ put_stands (is_request p) side h p refl (may refl) ∙ (rw same refl)
-put_at role first f p log false same may is = rw same is
+    let h = history_of role f log in (
+      open_put role first f p log (sym (same_is f (flow_put role p) same)) ∙ ap (kind_put p) is.0
+          ∙ put_stands (is_request p) side h p refl (may refl) ∙ (rw same refl),
+      all_put role first f p log is.1,
+    )
+put_at role first f p log false same may is = (rw same is.0, all_put role first f p log is.1)
 
 got_at : (role : Role) (first : ℕ) (f : Flow) (p : Packet) (log : Log) (b : Bool) → same_flow f (flow_got role p) ≡ b
-    → is_dropped role (cid_of first log) p.header ≡ false → (b ≡ true → AllowsNow (side_of role f) (history_of role f log) (Got p))
-    → left_kind role first f log ≡ standing (side_of role f) (history_of role f log)
-    → left_kind role first f (GotPacket p ∷ log) ≡ standing (side_of role f) (history_of role f (GotPacket p ∷ log))
+    → (b ≡ true → is_dropped role (cid_of first log) p.header ≡ false)
+    → (b ≡ true → AllowsNow (side_of role f) (history_of role f log) (Got p)) → Stands role first f log → Stands role first f (GotPacket p ∷ log)
 got_at role first f p log true same kept may is =
     let side = side_of role f in
-    let h = history_of role f log in
-    open_got role first f p log (sym (same_is f (flow_got role p) same)) kept ∙ ap (kind_got p) is
-    ∙ got_stands (is_request p) side h p refl (may refl) ∙ (rw same refl)
-got_at role first f p log false same kept may is = rw same is
+    let h = history_of role f log in (
+      open_got role first f p log (sym (same_is f (flow_got role p) same)) (kept refl) ∙ ap (kind_got p) is.0
+          ∙ got_stands (is_request p) side h p refl (may refl) ∙ (rw same refl),
+      all_got role first f p log (kept refl) is.1,
+    )
+got_at role first f p log false same kept may is = (rw same is.0, rw same is.1)
 
-pub open_stands : (role : Role) (first : ℕ) (f : Flow) (log : Log) → IsFairOn role f log → AllKept role first log
-    → has_no_mark log ≡ true → left_kind role first f log ≡ standing (side_of role f) (history_of role f log)
-open_stands role first f [] fair kept marks = refl
+pub open_stands : (role : Role) (first : ℕ) (f : Flow) (log : Log) → IsFairOn role f log → AreKept role first f log
+    → has_no_mark log ≡ true → Stands role first f log
+open_stands role first f [] fair kept marks = (refl, refl)
 open_stands role first f (PutPacket p ∷ log) fair kept marks =
     let two = fair_put_on role f p log (same_flow f (flow_put role p)) refl fair in
     put_at role first f p log (same_flow f (flow_put role p)) refl two.1 (open_stands role first f log two.0 kept marks)
 open_stands role first f (GotPacket p ∷ log) fair kept marks =
     let two = fair_got_on role f p log (same_flow f (flow_got role p)) refl fair in
-    got_at role first f p log (same_flow f (flow_got role p)) refl (newest_kept role first p log kept marks) two.1
-    (open_stands role first f log two.0 (older_kept role first p log kept) marks)
+    got_at role first f p log (same_flow f (flow_got role p)) refl kept.0 two.1 (open_stands role first f log two.0 kept.1 marks)
 open_stands role first f (PutEvent id ∷ log) fair kept marks = open_stands role first f log fair kept marks
 open_stands role first f (GotEvent id ∷ log) fair kept marks = open_stands role first f log fair kept marks
 open_stands role first f (Mark cid ∷ log) fair kept marks = absurd cc
-
--- All was heard.
-pub heard_kept : (role : Role) (first : ℕ) (f : Flow) (log : Log) → AllKept role first log → has_no_mark log ≡ true
-    → IsAllHeard role first f log
-heard_kept role first f [] kept marks = refl
-heard_kept role first f (PutPacket p ∷ log) kept marks = all_put role first f p log (heard_kept role first f log kept marks)
-heard_kept role first f (GotPacket p ∷ log) kept marks =
-    all_got role first f p log (newest_kept role first p log kept marks)
-    (heard_kept role first f log (older_kept role first p log kept) marks)
-heard_kept role first f (PutEvent id ∷ log) kept marks = heard_kept role first f log kept marks
-heard_kept role first f (GotEvent id ∷ log) kept marks = heard_kept role first f log kept marks
-heard_kept role first f (Mark cid ∷ log) kept marks = absurd cc
 
 -- What one got on a flow is what the other put; so what one got on the flow's present connection is what the other put there, and
 -- the other way round.

@@ -5,7 +5,7 @@ use Rattle.vs_wrap.specs.Wrap.{difference32}
 use Rattle.vs_conn.specs.{End.ConnectionEnd, End.owes_of, Shut.is_both, declared.end.State.TheVariants.Live}
 use Rattle.vs_conn.specs.declared.end.TheConstants.{UPDATE_AT}
 use Rattle.vs_limits.specs.declared.TheConstants.{BUF_ALLOC}
-use Rattle.vs_page.specs.{Fair.IsFairLog, Log.Log, Log.Role, Log.other_role, Log.packets_got, Log.packets_put, Open.cid_of, Open.is_dropped}
+use Rattle.vs_page.specs.{Fair.IsFairLog, Log.Device, Log.Log, Log.Role, Log.other_role, Log.packets_got, Log.packets_put, Open.cid_of, Open.is_dropped}
 use Rattle.vs_page.specs.declared.log.LogEntry.TheVariants.{Mark, PutPacket}
 use Rattle.laws_tables.specs.{Both.Both, Both.at, Ends.Ends, Matches.Matches}
 
@@ -15,25 +15,26 @@ has_no_mark [] = true
 has_no_mark (Mark cid ∷ log) = false
 has_no_mark (_ ∷ log) = has_no_mark log
 
--- The other end drops none of the packets that an end put, where it knows the guest by the same CID: the driver's go from that to the
--- host, and the device's come from the host or go to that.
-abbrev pub IsRouted : Role → ℕ → Log → Type 0
-IsRouted role first [] = Unit {0}
-IsRouted role first (PutPacket p ∷ log) = (is_dropped (other_role role) (cid_of first log) p.header ≡ false) × IsRouted role first log
-IsRouted role first (_ ∷ log) = IsRouted role first log
+-- The device drops none of the packets that the driver put, where it knows the guest by the same CID: each has the CID that the guest had at
+-- that point, and goes to the host.
+abbrev pub AreRouted : ℕ → Log → Type 0
+AreRouted first [] = Unit {0}
+AreRouted first (PutPacket p ∷ log) = (is_dropped Device (cid_of first log) p.header ≡ false) × AreRouted first log
+AreRouted first (_ ∷ log) = AreRouted first log
 
 -- An end owes nothing: no connection of its own does, and no reply is owed.
 pub record OwesNothing (part : Ends) : Type 0 where
   pub ends : All (λ x. owes_of x.end ≡ None) part.entries
   pub replies : part.replies ≡ []
 
--- Both match their logs, which are fair and have no reset; each got all that the other put, drops nothing of it, and owes nothing.
+-- Both match their logs, which are fair and have no reset; each got all that the other put, the device drops nothing of it, and neither owes
+-- anything.
 pub record IsAtRest (first : ℕ) (b : Both) : Type 0 where
   pub matches : (role : Role) → Matches role first (at role b).part (at role b).log
   pub fair : (role : Role) → IsFairLog role (at role b).log
   pub got : (role : Role) → packets_put (at (other_role role) b).log ≡ packets_got (at role b).log
   pub no_reset : (role : Role) → has_no_mark (at role b).log ≡ true
-  pub routed : (role : Role) → IsRouted role first (at role b).log
+  pub routed : AreRouted first b.driver.log
   pub owes : (role : Role) → OwesNothing (at role b).part
 
 -- Counters have 32 bits.

@@ -4,6 +4,7 @@ ghost use Rattle.std.specs.Prelude.{◌≡◌, ◌≤◌, ℕ, false, true};
 ghost use Rattle.vs_conn.specs.{End.ConnectionEnd, Shut.is_both};
 ghost use Rattle.vs_credit.specs.Credit.{free_of, unread_of};
 ghost use Rattle.vs_flow.specs.declared.flow.Flow.{Flow};
+ghost use Rattle.vs_limits.specs.declared.TheConstants.{HOST_CID};
 ghost use Rattle.vs_page.specs.Log.{Role, other_role, packets_got, packets_put};
 ghost use Rattle.laws_tables.specs.{Both.Both, Both.MayRun, Both.at, Ends.flows_of, Ends.is_among, Examples.guest_cid, Examples.guest_flow};
 ghost use Rattle.laws_tables.specs.Steps.{HasEnd};
@@ -11,13 +12,13 @@ ghost use Rattle.laws_rest.specs.Examples.{fresh, losing, lost, opened_twice, re
 ghost use Rattle.laws_rest.specs.Pages.{AllGiven, AreTied, NoneInFlight, Queued};
 ghost use Rattle.laws_rest.specs.Rest.{ArePaired, IsAtRest, OwesNothing};
 
-/// At rest both tables hold the same flows, and each connection is Live at both ends, which know of each other what each told, also where
-/// flows were used before.
+/// At rest both tables hold the same flows with the host, and each such connection is Live at both ends, which know of each other what each
+/// told, also where flows were used before.
 pub fn law_of_rest()
-    ensures same_flows { (first : ℕ) (b : Both) (f : Flow) → IsAtRest first b
+    ensures same_flows { (first : ℕ) (b : Both) (f : Flow) → f.peer ≡ HOST_CID → IsAtRest first b
         → is_among f (flows_of b.driver.part.entries) ≡ is_among f (flows_of b.device.part.entries) }
-    ensures paired { (role : Role) (first : ℕ) (b : Both) (f : Flow) (e : ConnectionEnd) → IsAtRest first b → HasEnd f e (at role b).part
-        → (other : ConnectionEnd) × HasEnd f other (at (other_role role) b).part × ArePaired e other }
+    ensures paired { (role : Role) (first : ℕ) (b : Both) (f : Flow) (e : ConnectionEnd) → f.peer ≡ HOST_CID → IsAtRest first b
+        → HasEnd f e (at role b).part → (other : ConnectionEnd) × HasEnd f other (at (other_role role) b).part × ArePaired e other }
 {}
 
 /// What the waits of an application rest on. Where nothing is unread at an end that still receives, its peer has credit, so that it looks for
