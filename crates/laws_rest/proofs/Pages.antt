@@ -1,6 +1,7 @@
 -- Where the counts of pages meet, each end took all that the other gave.
 use Rattle.std.proofs.Common.{◌≡◌, ◌≤◌, ◌+◌, ℕ, [], ◌∷◌, ◌++◌, length, refl, ap, ◌∙◌, arith, append-nil, length-append}
-use Rattle.laws_rest.specs.Pages.{AllGiven, AreTied, IsFront, NoneInFlight, Pages, Queued}
+use Rattle.vs_ring_rule.specs.Rule.{IsFront}
+use Rattle.laws_rest.specs.Pages.{AllGiven, AreTied, NoneInFlight, Pages, Queued}
 
 none_more : (more : Pages) → length more ≤ 0 → more ≡ []
 none_more [] none = refl
