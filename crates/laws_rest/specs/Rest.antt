@@ -4,10 +4,11 @@ use Rattle.std.specs.List.{All}
 use Rattle.vs_wrap.specs.Wrap.{difference32}
 use Rattle.vs_conn.specs.{End.ConnectionEnd, End.owes_of, Shut.is_both, declared.end.State.TheVariants.Live}
 use Rattle.vs_conn.specs.declared.end.TheConstants.{UPDATE_AT}
-use Rattle.vs_limits.specs.declared.TheConstants.{BUF_ALLOC}
+use Rattle.vs_flow.specs.declared.flow.Flow.{Flow}
+use Rattle.vs_limits.specs.declared.TheConstants.{BUF_ALLOC, HOST_CID}
 use Rattle.vs_page.specs.{Fair.IsFairLog, Log.Device, Log.Log, Log.Role, Log.other_role, Log.packets_got, Log.packets_put, Open.cid_of, Open.is_dropped}
 use Rattle.vs_page.specs.declared.log.LogEntry.TheVariants.{Mark, PutPacket}
-use Rattle.laws_tables.specs.{Both.Both, Both.at, Ends.Ends, Matches.Matches}
+use Rattle.laws_tables.specs.{Both.Both, Both.at, Ends.Ends, Ends.flows_of, Ends.is_among, Matches.Matches}
 
 -- No transport reset stands in a log.
 abbrev pub has_no_mark : Log → Bool
@@ -36,6 +37,10 @@ pub record IsAtRest (first : ℕ) (b : Both) : Type 0 where
   pub no_reset : (role : Role) → has_no_mark (at role b).log ≡ true
   pub routed : AreRouted first b.driver.log
   pub owes : (role : Role) → OwesNothing (at role b).part
+
+-- All connections of an end are with the host.
+abbrev pub IsWithHost : Ends → Type 0
+IsWithHost part = (f : Flow) → is_among f (flows_of part.entries) ≡ true → f.peer ≡ HOST_CID
 
 -- Counters have 32 bits.
 pub record HasWords (e : ConnectionEnd) : Type 0 where

@@ -1,6 +1,6 @@
 //! Laws of driver and device at rest.
 
-ghost use Rattle.std.specs.Prelude.{◌≡◌, ◌≤◌, ℕ, false, true};
+ghost use Rattle.std.specs.Prelude.{◌≡◌, ◌≤◌, ℕ, false, length, true};
 ghost use Rattle.vs_conn.specs.{End.ConnectionEnd, Shut.is_both};
 ghost use Rattle.vs_credit.specs.Credit.{free_of, unread_of};
 ghost use Rattle.vs_flow.specs.declared.flow.Flow.{Flow};
@@ -10,15 +10,17 @@ ghost use Rattle.laws_tables.specs.{Both.Both, Both.MayRun, Both.at, Ends.flows_
 ghost use Rattle.laws_tables.specs.Steps.{HasEnd};
 ghost use Rattle.laws_rest.specs.Examples.{fresh, losing, lost, opened_twice, resting};
 ghost use Rattle.laws_rest.specs.Pages.{AllGiven, AreTied, NoneInFlight, Queued};
-ghost use Rattle.laws_rest.specs.Rest.{ArePaired, IsAtRest, OwesNothing};
+ghost use Rattle.laws_rest.specs.Rest.{ArePaired, IsAtRest, IsWithHost, OwesNothing};
 
 /// At rest both tables hold the same flows with the host, and each such connection is Live at both ends, which know of each other what each
-/// told, also where flows were used before.
+/// told, also where flows were used before. Where all connections are with the host, the tables have as many.
 pub fn law_of_rest()
     ensures same_flows { (first : ℕ) (b : Both) (f : Flow) → f.peer ≡ HOST_CID → IsAtRest first b
         → is_among f (flows_of b.driver.part.entries) ≡ is_among f (flows_of b.device.part.entries) }
     ensures paired { (role : Role) (first : ℕ) (b : Both) (f : Flow) (e : ConnectionEnd) → f.peer ≡ HOST_CID → IsAtRest first b
         → HasEnd f e (at role b).part → (other : ConnectionEnd) × HasEnd f other (at (other_role role) b).part × ArePaired e other }
+    ensures as_many { (first : ℕ) (b : Both) → ((role : Role) → IsWithHost (at role b).part) → IsAtRest first b
+        → length b.driver.part.entries ≡ length b.device.part.entries }
 {}
 
 /// What the waits of an application rest on. Where nothing is unread at an end that still receives, its peer has credit, so that it looks for
