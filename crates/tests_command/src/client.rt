@@ -12,7 +12,7 @@ pub fn client<R: AllocGlobal + Wait, H: HostNet, G: Gate>(
     idle: u32,
     source: &mut MemSource,
     host: &mut H,
-    gate: &G,
+    gate: &mut G,
     sink: &mut MemSink,
 ) -> u8 {
     peer(rt, path, 70, idle, source, host, gate, sink)

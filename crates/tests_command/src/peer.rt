@@ -19,20 +19,21 @@ fn prepared(alloc: Global, bytes: &[u8], ended: bool) -> Result<PreparedStream, 
     })
 }
 
-/// Runs a client of port 70 with the source `yo`, whose bytes come and go one by one.
+/// Runs a client of port 70 with the source `yo`, whose bytes come and go one by one: its status, what it wrote, and the pauses of its gate.
 fn run<R: AllocGlobal + Wait>(
     rt: &R,
     host: &mut PeerHost,
     sink_fails: u64,
-) -> Result<(u8, MemSink), AllocError> {
+) -> Result<(u8, MemSink, u64), AllocError> {
     let mut source = MemSource::new(rt.alloc(), Vec::from_slice(rt.alloc(), b"yo")?, 1);
     let mut sink = MemSink::new(rt.alloc(), 1);
     sink.fail(sink_fails)?;
-    let status = client(rt, "v.sock", IDLE, &mut source, host, &FreeGate, &mut sink);
-    Ok((status, sink))
+    let mut gate = FreeGate::new();
+    let status = client(rt, "v.sock", IDLE, &mut source, host, &mut gate, &mut sink);
+    Ok((status, sink, gate.pauses()))
 }
 
-/// Whether the client ends with that status, writes that text, and gives these bytes to its stream.
+/// Whether the client ends with that status, writes that text, and gives these bytes to its stream; where it waited, with a pause a step.
 fn ends<R: AllocGlobal + Wait>(
     rt: &R,
     prepared: PreparedStream,
@@ -41,8 +42,9 @@ fn ends<R: AllocGlobal + Wait>(
     given: &[u8],
 ) -> Result<bool, AllocError> {
     let mut host = PeerHost::new(rt.alloc(), "v.sock", prepared)?;
-    let (ended, sink) = run(rt, &mut host, 0)?;
+    let (ended, sink, pauses) = run(rt, &mut host, 0)?;
     let mut right = ended == status && sink.bytes() == written;
+    right = right && (status != WAITED || pauses == u64::from(IDLE));
     for stream in host.host().streams() {
         right = right && stream.given() == given;
     }
@@ -102,7 +104,8 @@ fn failing<R: AllocGlobal + Wait>(
     let stream = prepared(rt.alloc(), b"OK 1073741824\nhi", true)?;
     let mut host = PeerHost::new(rt.alloc(), "v.sock", stream)?;
     host.fail(host_fails)?;
-    run(rt, &mut host, sink_fails)
+    let (status, sink, _) = run(rt, &mut host, sink_fails)?;
+    Ok((status, sink))
 }
 
 /// How many of the first calls of the host, each failed by itself, end the client as such.
@@ -151,13 +154,14 @@ fn ends_at<R: AllocGlobal + Wait>(
 ) -> Result<bool, AllocError> {
     let mut host = PeerHost::refusing(rt.alloc(), "v.sock")?;
     let mut sink = MemSink::new(rt.alloc(), 64);
+    let mut gate = FreeGate::new();
     let ended = client(
         rt,
         "v.sock",
         IDLE,
         &mut source,
         &mut host,
-        &FreeGate,
+        &mut gate,
         &mut sink,
     );
     Ok(ended == status && sink.bytes() == written)

@@ -92,7 +92,8 @@ fn sending<R: AllocGlobal + Wait, H: HostNet>(
     let bytes = vec![in rt.alloc(); 7; bytes]?;
     let mut source = MemSource::new(rt.alloc(), bytes, 4096);
     let mut sink = MemSink::new(rt.alloc(), 4096);
-    let status = client(rt, path, idle, &mut source, host, &YieldGate, &mut sink);
+    let mut gate = YieldGate::new();
+    let status = client(rt, path, idle, &mut source, host, &mut gate, &mut sink);
     Ok((status, sink))
 }
 

@@ -26,7 +26,8 @@ pub fn run<R: AllocGlobal + Wait>(
 ) -> Result<u8, AllocError> {
     let words = words_of(rt.alloc(), line)?;
     let mut clock = StepClock::new();
-    Ok(vsock_main(rt, &words, source, host, &mut clock, &FreeGate, sink))
+    let mut gate = FreeGate::new();
+    Ok(vsock_main(rt, &words, source, host, &mut clock, &mut gate, sink))
 }
 
 /// The status of a command line's run of a script, in pieces of that size, and what it prints. The nth call of the source fails, and of the

@@ -1,7 +1,7 @@
 //! Where bytes are read from and written to, the clock, and the gate.
 ghost use Rattle.std.specs.{Prelude.◌≡◌, Prelude.◌≤◌, Prelude.ℕ, Prelude.Option, Prelude.List, Prelude.length, Bool.⊤};
 ghost use Rattle.vs_contents.specs.Contents.{Exposes};
-ghost use Rattle.vs_outside.specs.Faults.{CountsFault};
+ghost use Rattle.vs_outside.specs.Faults.{CountsFault, one_more};
 ghost use Rattle.vs_outside.specs.InOut.{read_failed, ReadsSome, ReadsNext, left_after, write_failed, TakesSome, written_after};
 
 /// What a read of a source is answered by.
@@ -69,6 +69,9 @@ pub trait Clock {
 /// What a run on threads passes before and after its steps, so that a test can hold one up there. Nothing is answered, so no
 /// result depends on it.
 pub trait Gate {
+    /// How many pauses were made so far. The count stands still at the last number of 64 bits.
+    ghost pauses: { Self → ℕ };
+
     /// An app is about to take the lock for a step of its own, the steps of each app counted from 1.
     fn before(&self, app: usize, step: u64);
 
@@ -79,5 +82,6 @@ pub trait Gate {
     fn turned(&self, n: u64);
 
     /// A step or a turn moved nothing.
-    fn pause(&self);
+    fn pause(&mut self)
+        ensures counts { pauses self.new ≡ one_more (pauses self.old) };
 }

@@ -203,16 +203,46 @@ impl Clock for StepClock {
     }
 }
 
-/// A gate that holds nothing up.
-#[derive(Clone, Copy, Debug, PartialEq, Eq)]
-pub struct FreeGate;
+/// A gate that holds nothing up, and counts its pauses.
+#[derive(Drop)]
+pub struct FreeGate {
+    pauses: u64,
+}
+
+impl Model for FreeGate {
+    ghost use Rattle.std.specs.Prelude.{ℕ};
+
+    ghost Value = { ℕ };
+
+    ghost view = { λ g. g.pauses };
+}
+
+impl FreeGate {
+    /// A gate without pauses.
+    pub fn new() -> FreeGate
+        ensures { result ≡ 0 }
+    {
+        FreeGate { pauses: 0 }
+    }
+
+    /// How many pauses were made so far.
+    pub fn pauses(&self) -> u64
+        ensures { result ≡ self.now }
+    {
+        self.pauses
+    }
+}
 
 impl Gate for FreeGate {
+    ghost pauses = { λ g. g };
+
     fn before(&self, app: usize, step: u64) {}
 
     fn holding(&self, app: usize) {}
 
     fn turned(&self, n: u64) {}
 
-    fn pause(&self) {}
+    fn pause(&mut self) {
+        self.pauses = self.pauses.saturating_add(1);
+    }
 }

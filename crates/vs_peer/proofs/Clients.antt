@@ -33,16 +33,17 @@ relates_now R T Q (Some a) None f h q = absurd h
 relates_now R T Q (Some a) (Some b) f h q = f a b h (q b refl)
 
 -- What passes at the client's stream.
-pub client_then : (port id : ℕ) (g g' k k' : List ℕ) (w w' : Bool) (a b c : HostContents) → HasClient port id g k w a b →
+pub client_then : (base : List ℕ) (port id : ℕ) (g g' k k' : List ℕ) (w w' : Bool) (a b c : HostContents) → HasClient base port id g k w a b →
     Moves id g' k' w' b c →
-    HasClient port id (g ++ g') (k ++ k') (w' || w) a c
-client_then port id g g' k k' w w' a b c h m =
+    HasClient base port id (g ++ g') (k ++ k') (w' || w) a c
+client_then base port id g g' k k' w w' a b c h m =
     let there : stream_at id b ≡ Some h.stream = ap (λ n. stream_at n b) h.newest ∙ h.client.there in
     let t = m.stream h.stream there in
     record {
       stream = t.0;
       newest = h.newest;
       client = record {
+        listened = h.client.listened;
         there = ap (λ n. stream_at n c) (sym h.newest) ∙ t.1;
         label = t.2.label ∙ h.client.label;
         given = t.2.given ∙ ap (λ xs. xs ++ g') h.client.given;
@@ -52,17 +53,17 @@ client_then port id g g' k k' w w' a b c h m =
       shut = t.2.shut ∙ ap (λ x. w' || x) h.shut;
     }
 
-pub client_as : (port id : ℕ) (g g' k k' : List ℕ) (w : Bool) (a b : HostContents) → HasClient port id g k w a b → g ≡ g' → k ≡ k' →
-    HasClient port id g' k' w a b
-client_as port id g g' k k' w a b h p q =
-    let P : List ℕ → Type 0 = λ x. HasClient port id x k w a b in
-    let Q : List ℕ → Type 0 = λ x. HasClient port id g' x w a b in
+pub client_as : (base : List ℕ) (port id : ℕ) (g g' k k' : List ℕ) (w : Bool) (a b : HostContents) → HasClient base port id g k w a b → g ≡ g' → k ≡ k' →
+    HasClient base port id g' k' w a b
+client_as base port id g g' k k' w a b h p q =
+    let P : List ℕ → Type 0 = λ x. HasClient base port id x k w a b in
+    let Q : List ℕ → Type 0 = λ x. HasClient base port id g' x w a b in
     subst Q q (subst P p h)
 
 -- What holds of the client's stream now.
-pub client_now : (port id : ℕ) (g k : List ℕ) (w : Bool) (P : Stream → Type 0) (a b : HostContents) (h : HasClient port id g k w a b) →
+pub client_now : (base : List ℕ) (port id : ℕ) (g k : List ℕ) (w : Bool) (P : Stream → Type 0) (a b : HostContents) (h : HasClient base port id g k w a b) →
     IsSomeAnd (stream_at id b) P → P h.stream
-client_now port id g k w P a b h now =
+client_now base port id g k w P a b h now =
     let there : stream_at id b ≡ Some h.stream = ap (λ n. stream_at n b) h.newest ∙ h.client.there in
     subst (λ o. IsSomeAnd o P) there now
 
@@ -71,6 +72,11 @@ stream_id : (b l : Bool) (n id : ℕ) → dialed.Stream id ≡ cond b dialed.Fai
 stream_id true l n id h = cc
 stream_id false true n id h = cc
 stream_id false false n id h = cc
+
+heard : (b l : Bool) (n id : ℕ) → dialed.Stream id ≡ cond b dialed.Failed (cond l (dialed.Stream n) dialed.Refused) → l ≡ true
+heard true l n id h = cc
+heard false true n id h = refl
+heard false false n id h = cc
 
 unheard : (b l : Bool) (n : ℕ) → dialed.Refused ≡ cond b dialed.Failed (cond l (dialed.Stream n) dialed.Refused) → l ≡ false
 unheard true l n h = cc
@@ -90,16 +96,17 @@ dial_others flow c other false p apart =
     let away : other - 1 ≢ length c.streams = λ e. apart (grind (arith, nat_tests, p, e)) in append_other c.streams
     (dialed_stream flow c.prepared) (other - 1) away
 
-pub dialed_client : (port id : ℕ) (path : List ℕ) (c : HostContents) → IsDialed path (dialed.Stream id) c →
-    HasClient port id [] [] false c (after_dial (client_flow port) (dialed.Stream id) c)
-dialed_client port id path c h =
-    let is : id ≡ length c.streams + 1 = stream_id (fails_now c) (is_listened path c) (length c.streams + 1) id h in
+pub dialed_client : (base : List ℕ) (port id : ℕ) (c : HostContents) → IsDialed base (dialed.Stream id) c →
+    HasClient base port id [] [] false c (after_dial (client_flow port) (dialed.Stream id) c)
+dialed_client base port id c h =
+    let is : id ≡ length c.streams + 1 = stream_id (fails_now c) (is_listened base c) (length c.streams + 1) id h in
     let after = after_dial (client_flow port) (dialed.Stream id) c in
     let there : stream_at id after ≡ Some (dialed_stream (client_flow port) c.prepared) = (open-dialed (client_flow port) id c is).1 in
     record {
       stream = dialed_stream (client_flow port) c.prepared;
       newest = is;
       client = record {
+        listened = heard (fails_now c) (is_listened base c) (length c.streams + 1) id h;
         there = ap (λ n. stream_at n after) (sym is) ∙ there;
         label = refl;
         given = refl;

@@ -3,8 +3,8 @@ use Rattle.std.proofs.Common.{◌≡◌, inl, inr, ℕ, true, List, ◌++◌, Op
 use Rattle.vs_outside.specs.{Faults.CountsFault, Host.HostContents}
 use Rattle.vs_peer.specs.{Conversing.Converses, Ends.EndsAs, Ends.EndsUnread, Ends.HostFails, Ends.Lent, Ends.Meets, Ends.NoMemory}
 use Rattle.vs_peer.specs.{Ends.PeerEnds, Ends.SourceFails, Ends.Waits, Failing.host_failed, Failing.sink_failed, Failing.source_failed}
-use Rattle.vs_peer.specs.{Pieces.Emits, Text.host_fault_text, Text.waited_text, declared.source.ReadError.ReadError}
-use Rattle.vs_peer.specs.declared.stop.Stop.{Stop}
+use Rattle.vs_peer.specs.{Pieces.Emits, Text.host_fault_text, Text.waited_text, Waiting.Paused, Waiting.pauses_of, declared.stop.Stop.Stop}
+use Rattle.vs_peer.specs.declared.source.ReadError.{ReadError}
 use Rattle.vs_peer.specs.declared.source.ReadError.TheVariants as read_error
 use Rattle.vs_peer.specs.declared.stop.Stop.TheVariants as stop
 use Rattle.vs_peer.proofs.Pieces.{emits_append, emits_then_some}
@@ -17,24 +17,24 @@ ends_then out out' out'' f f' f'' written text status result e same (inl h) = in
 ends_then out out' out'' f f' f'' written text status result e same (inr h) =
     inr (h.0, emits_then_some out out' out'' written text e h.1, subst (λ (n : ℕ). CountsFault true n f'') same h.2)
 
-module _ (base : List ℕ) (port : ℕ) (source : List ℕ) (idle : ℕ) (host host' : Option HostContents) (faults faults' : ℕ)
+module _ (base : List ℕ) (port : ℕ) (source : List ℕ) (idle : ℕ) (host host' : Option HostContents) (faults faults' pauses pauses' : ℕ)
     (out out' out'' : Option (List ℕ))
     (f f' f'' result : ℕ) where
-  waits_on : Converses base port source host host' out out' (Err stop.Waited) → faults' ≡ faults → f' ≡ f → (text : List ℕ) →
-      text ≡ waited_text idle →
-      EndsAs out' out'' f' f'' text 5 result → Meets base port source idle host host' faults faults' out out'' f f'' result
-  waits_on (written, e, why) kept same text is h =
+  waits_on : Converses base port source host host' out out' (Err stop.Waited) → faults' ≡ faults → f' ≡ f →
+      Paused idle pauses pauses' → (text : List ℕ) → text ≡ waited_text idle →
+      EndsAs out' out'' f' f'' text 5 result → Meets base port source idle host host' faults faults' pauses pauses' out out'' f f'' result
+  waits_on (written, e, why) kept same paused text is h =
       let said = subst (λ (t : List ℕ). EndsAs out' out'' f' f'' t 5 result) is h in
       inl (
         written ++ waited_text idle,
         5,
-        Waits refl written refl why kept,
+        Waits refl written refl why kept paused,
         ends_then out out' out'' f f' f'' written
             (waited_text idle) 5 result e same said,
       )
 
   fails_on : Converses base port source host host' out out' (Err stop.Host) → CountsFault true faults faults' → f' ≡ f →
-      EndsAs out' out'' f' f'' host_fault_text 6 result → Meets base port source idle host host' faults faults' out out'' f f'' result
+      EndsAs out' out'' f' f'' host_fault_text 6 result → Meets base port source idle host host' faults faults' pauses pauses' out out'' f f'' result
   fails_on (written, e, why) counts same h =
       inl (
         written ++ host_fault_text,
@@ -50,18 +50,19 @@ module _ (base : List ℕ) (port : ℕ) (source : List ℕ) (idle : ℕ) (host h
 
   pub waits_to_end : (e : Stop) → e ≡ stop.Waited → Converses base port source host host' out out' (Err e) →
       CountsFault (host_failed {A = Unit {0}} (Err e)) faults faults' →
-      CountsFault (sink_failed {A = Unit {0}} (Err e)) f f' → (text : List ℕ) → text ≡ waited_text idle →
+      CountsFault (sink_failed {A = Unit {0}} (Err e)) f f' → Paused (pauses_of {A = Unit {0}} idle (Err e)) pauses pauses' →
+      (text : List ℕ) → text ≡ waited_text idle →
       EndsAs out' out'' f' f'' text 5 result →
-      Meets base port source idle host host' faults faults' out out'' f f'' result
-  waits_to_end e is known host_faults sink_faults text text_is h =
-      let P : Stop → Type 0 = λ x. Known (Err x) in
-      let k : Known (Err stop.Waited) = subst P is (known, host_faults, sink_faults) in
-      waits_on k.0 k.1 k.2 text text_is h
+      Meets base port source idle host host' faults faults' pauses pauses' out out'' f f'' result
+  waits_to_end e is known host_faults sink_faults paused text text_is h =
+      let P : Stop → Type 0 = λ x. Known (Err x) × Paused (pauses_of {A = Unit {0}} idle (Err x)) pauses pauses' in
+      let k : P stop.Waited = subst P is ((known, host_faults, sink_faults), paused) in
+      waits_on k.0.0 k.0.1 k.0.2 k.1 text text_is h
 
   pub fails_to_end : (e : Stop) → e ≡ stop.Host → Converses base port source host host' out out' (Err e) →
       CountsFault (host_failed {A = Unit {0}} (Err e)) faults faults' →
       CountsFault (sink_failed {A = Unit {0}} (Err e)) f f' → EndsAs out' out'' f' f'' host_fault_text 6 result →
-      Meets base port source idle host host' faults faults' out out'' f f'' result
+      Meets base port source idle host host' faults faults' pauses pauses' out out'' f f'' result
   fails_to_end e is known host_faults sink_faults h =
       let P : Stop → Type 0 = λ x. Known (Err x) in
       let k : Known (Err stop.Host) = subst P is (known, host_faults, sink_faults) in

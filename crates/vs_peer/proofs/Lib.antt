@@ -1,5 +1,6 @@
 pub mod Pieces
 pub mod Streams
+pub mod Waits
 pub mod Sends
 pub mod Receives
 pub mod Answering

@@ -39,24 +39,27 @@ is_long (Some left) bytes h long l is = let same : left ≡ l = cc in subst (λ 
 
 module _ (base : List ℕ) (port idle : ℕ) (old new : Lent) (result : ℕ) where
   met : (bytes : List ℕ) → IsSource old.source bytes →
-      Meets base port bytes idle old.host new.host old.host_faults new.host_faults old.out new.out old.sink_faults new.sink_faults result →
+      Meets base port bytes idle old.host new.host old.host_faults new.host_faults old.pauses new.pauses old.out new.out old.sink_faults new.sink_faults result →
       Says base port idle old new result
   met bytes is (inl (text, status, ends.Done zero why kept, inl end)) =
       Done (end.0 ∙ zero) (record { source = bytes; written = text; is_source = is; writes = end.1; is_done = why })
-  met bytes is (inl (text, status, ends.Waits five written said why kept, inl end)) =
+  met bytes is (inl (text, status, ends.Waits five written said why kept paused, inl end)) =
       Waited (end.0 ∙ five) (record {
         source = bytes;
         written = written;
         is_source = is;
         writes = subst (λ (t : List ℕ). Emits old.out new.out t) said end.1;
         waits = why;
+        paused = paused;
       })
   met bytes is (inl (text, status, ends.HostFails six written said why counts, inl end)) =
       HostFault (end.0 ∙ six) (record {
         counts = counts;
+        source = bytes;
         written = written;
-        writes = subst (λ
-            (t : List ℕ). Emits old.out new.out t) said end.1;
+        is_source = is;
+        writes = subst (λ (t : List ℕ). Emits old.out new.out t) said end.1;
+        failed = why;
       })
   met bytes is (inl (text, status, ends.Refuses eight said why kept, inl end)) =
       Refused (end.0 ∙ eight) (record { writes = subst (λ (t : List ℕ). Emits old.out new.out t) said end.1; refused = why })

@@ -3,21 +3,21 @@ use Rattle.std.specs.Prelude.{◌≡◌, ◌<◌, ◌⊎◌, ◌-◌, ◌^◌, �
 use Rattle.std.specs.Option.{ForSome}
 use Rattle.vs_contents.specs.Contents.{Relates}
 use Rattle.vs_outside.specs.Faults.{CountsFault}
-use Rattle.vs_peer.specs.{Client.IsRefused, Conversing.Carries, Conversing.IsDone, Conversing.IsWaiting, Ends.Lent, Ends.Means}
-use Rattle.vs_peer.specs.{Pieces.Emits, Pieces.EmitsSome, Text.host_fault_text, Text.no_memory_text, Text.read_fault_text}
-use Rattle.vs_peer.specs.{Text.refused_text, Text.too_long_text, Text.waited_text, declared.source.TheConstants.SOURCE_MAX}
+use Rattle.vs_peer.specs.{Client.IsRefused, Conversing.Carries, Conversing.IsDone, Conversing.IsFailed, Conversing.IsWaiting, Ends.Lent}
+use Rattle.vs_peer.specs.{Ends.Means, Pieces.Emits, Pieces.EmitsSome, Text.host_fault_text, Text.no_memory_text, Text.read_fault_text}
+use Rattle.vs_peer.specs.{Text.refused_text, Text.too_long_text, Text.waited_text, Waiting.Paused, declared.source.TheConstants.SOURCE_MAX}
 
 -- These are the bytes that the source had.
 abbrev pub IsSource : Option (List ℕ) → List ℕ → Type 0
 IsSource left bytes = ForSome left (λ l. bytes ≡ l)
 
 -- 0: the source was sent and what came was written, to the end of both.
-pub record SaysDone (port : ℕ) (old new : Lent) : Type 0 where
+pub record SaysDone (base : List ℕ) (port : ℕ) (old new : Lent) : Type 0 where
   pub source : List ℕ
   pub written : List ℕ
   pub is_source : IsSource old.source source
   pub writes : Emits old.out new.out written
-  pub is_done : Relates old.host new.host (IsDone port source written)
+  pub is_done : Relates old.host new.host (IsDone base port source written)
 
 -- 2: the source had more bytes than a client takes. The host is as before.
 pub record SaysTooLong (old new : Lent) : Type 0 where
@@ -35,8 +35,8 @@ pub record SaysSourceFault (old new : Lent) : Type 0 where
 pub data IsMeant (base : List ℕ) (port idle : ℕ) (old new : Lent) (text : List ℕ) : Type 0 where
   Line : (text ≡ too_long_text) ⊎ (text ≡ read_fault_text) ⊎ (text ≡ no_memory_text) → IsMeant base port idle old new text
   Belongs : (source : List ℕ) → IsSource old.source source → (status : ℕ) →
-      Means base port source idle old.host new.host old.host_faults new.host_faults text status → IsMeant base port idle old new text
-  Came : (source : List ℕ) → IsSource old.source source → Relates old.host new.host (Carries port source text) →
+      Means base port source idle old.host new.host old.host_faults new.host_faults old.pauses new.pauses text status → IsMeant base port idle old new text
+  Came : (source : List ℕ) → IsSource old.source source → Relates old.host new.host (Carries base port source text) →
       IsMeant base port idle old new text
 
 -- 4: a call of the sink failed, and less was written than was to be.
@@ -46,19 +46,23 @@ pub record SaysSinkFault (base : List ℕ) (port idle : ℕ) (old new : Lent) : 
   pub meant : IsMeant base port idle old new text
   pub writes : EmitsSome old.out new.out text
 
--- 5: nothing moves.
-pub record SaysWaited (port idle : ℕ) (old new : Lent) : Type 0 where
+-- 5: nothing moves, and with each of `idle` steps in which nothing moved the gate paused.
+pub record SaysWaited (base : List ℕ) (port idle : ℕ) (old new : Lent) : Type 0 where
   pub source : List ℕ
   pub written : List ℕ
   pub is_source : IsSource old.source source
   pub writes : Emits old.out new.out (written ++ waited_text idle)
-  pub waits : Relates old.host new.host (IsWaiting port source written)
+  pub waits : Relates old.host new.host (IsWaiting base port source written)
+  pub paused : Paused idle old.pauses new.pauses
 
--- 6: a call of the host failed.
-pub record SaysHostFault (old new : Lent) : Type 0 where
+-- 6: a call of the host failed. What the stream gave was written before.
+pub record SaysHostFault (base : List ℕ) (port : ℕ) (old new : Lent) : Type 0 where
   pub counts : CountsFault true old.host_faults new.host_faults
+  pub source : List ℕ
   pub written : List ℕ
+  pub is_source : IsSource old.source source
   pub writes : Emits old.out new.out (written ++ host_fault_text)
+  pub failed : Relates old.host new.host (IsFailed base port source written)
 
 -- 8: nobody listened, or no OK line came.
 pub record SaysRefused (base : List ℕ) (port : ℕ) (old new : Lent) : Type 0 where
@@ -72,12 +76,12 @@ pub record SaysNoMemory (old new : Lent) : Type 0 where
 
 -- What a status says; there is no other status.
 pub data Says (base : List ℕ) (port idle : ℕ) (old new : Lent) (status : ℕ) : Type 0 where
-  Done : status ≡ 0 → SaysDone port old new → Says base port idle old new status
+  Done : status ≡ 0 → SaysDone base port old new → Says base port idle old new status
   TooLong : status ≡ 2 → SaysTooLong old new → Says base port idle old new status
   SourceFault : status ≡ 3 → SaysSourceFault old new → Says base port idle old new status
   SinkFault : status ≡ 4 → SaysSinkFault base port idle old new → Says base port idle old new status
-  Waited : status ≡ 5 → SaysWaited port idle old new → Says base port idle old new status
-  HostFault : status ≡ 6 → SaysHostFault old new → Says base port idle old new status
+  Waited : status ≡ 5 → SaysWaited base port idle old new → Says base port idle old new status
+  HostFault : status ≡ 6 → SaysHostFault base port old new → Says base port idle old new status
   Refused : status ≡ 8 → SaysRefused base port old new → Says base port idle old new status
   NoMemory : status ≡ 9 → SaysNoMemory old new → Says base port idle old new status
 

@@ -1,7 +1,7 @@
 //! How a client asks for a port of the guest, and is answered (Firecracker's vsock documentation).
 ghost use Rattle.std.specs.Option.{ForSome};
 ghost use Rattle.vs_outside.specs.{Faults.CountsFault, Host.IsOpen};
-ghost use Rattle.vs_peer.specs.{Failing.host_failed, Asking.Asks, Asking.Answers};
+ghost use Rattle.vs_peer.specs.{Failing.host_failed, Asking.Asks, Asking.Answers, Waiting.Paused, Waiting.pauses_of};
 
 use crate::stop::Stop;
 use crate::stream::{read, write};
@@ -17,12 +17,13 @@ pub fn ask<R: Wait, H: HostNet, G: Gate>(
     id: u64,
     line: &[u8],
     idle: u32,
-    gate: &G,
+    gate: &mut G,
 ) -> Result<(), Stop>
     requires open { ForSome (H.contents host.old) (IsOpen id) }
     ensures open { ForSome (H.contents host.new) (IsOpen id) }
     ensures asks { Asks id line.now (H.contents host.old) (H.contents host.new) result }
     ensures faults { CountsFault (host_failed result) (H.faults host.old) (H.faults host.new) }
+    ensures pauses { Paused (pauses_of idle result) (G.pauses gate.old) (G.pauses gate.new) }
 {
     let mut at = 0;
     let mut waited = 0;
@@ -53,12 +54,13 @@ pub fn answer<R: Wait, H: HostNet, G: Gate>(
     host: &mut H,
     id: u64,
     idle: u32,
-    gate: &G,
+    gate: &mut G,
 ) -> Result<u32, Stop>
     requires open { ForSome (H.contents host.old) (IsOpen id) }
     ensures open { ForSome (H.contents host.new) (IsOpen id) }
     ensures answers { Answers id (H.contents host.old) (H.contents host.new) result }
     ensures faults { CountsFault (host_failed result) (H.faults host.old) (H.faults host.new) }
+    ensures pauses { Paused (pauses_of idle result) (G.pauses gate.old) (G.pauses gate.new) }
 {
     let mut line = OkLine::new();
     let mut byte = [0];

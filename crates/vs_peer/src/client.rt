@@ -45,7 +45,7 @@ pub const NO_MEMORY: u8 = 9;
 /// - 2: the source gave more than `SOURCE_MAX` bytes, and `line 0 TooLong` was written.
 /// - 3: a call of `source` failed, and `read fault` was written.
 /// - 4: a call of `out` failed, and nothing more was written.
-/// - 5: nothing moved in `idle` steps in a row, and `waited IDLE` was written behind what came before.
+/// - 5: nothing moved in `idle` steps in a row, with a pause of `gate` each, and `waited IDLE` was written behind what came before.
 /// - 6: a dial, a read or a write of `host` failed, and `host fault` was written behind what came before.
 /// - 8: nobody listens at the base path, or no OK line came, and `peer refused` was written.
 /// - 9: memory ran out, and `no memory` was written.
@@ -58,7 +58,7 @@ pub fn peer<R: AllocGlobal + Wait, S: Source, K: Sink, H: HostNet, G: Gate>(
     idle: u32,
     source: &mut S,
     host: &mut H,
-    gate: &G,
+    gate: &mut G,
     out: &mut K,
 ) -> u8
     // What the status says of source, host and sink; there is no other status.
@@ -70,6 +70,7 @@ pub fn peer<R: AllocGlobal + Wait, S: Source, K: Sink, H: HostNet, G: Gate>(
           source_faults = S.faults source.old;
           host_faults = H.faults host.old;
           sink_faults = K.faults out.old;
+          pauses = G.pauses gate.old;
         })
         (record {
           source = S.contents source.new;
@@ -78,6 +79,7 @@ pub fn peer<R: AllocGlobal + Wait, S: Source, K: Sink, H: HostNet, G: Gate>(
           source_faults = S.faults source.new;
           host_faults = H.faults host.new;
           sink_faults = K.faults out.new;
+          pauses = G.pauses gate.new;
         })
         result }
     // Where no call of source, host and sink failed.
@@ -89,6 +91,7 @@ pub fn peer<R: AllocGlobal + Wait, S: Source, K: Sink, H: HostNet, G: Gate>(
           source_faults = S.faults source.old;
           host_faults = H.faults host.old;
           sink_faults = K.faults out.old;
+          pauses = G.pauses gate.old;
         })
         (record {
           source = S.contents source.new;
@@ -97,6 +100,7 @@ pub fn peer<R: AllocGlobal + Wait, S: Source, K: Sink, H: HostNet, G: Gate>(
           source_faults = S.faults source.new;
           host_faults = H.faults host.new;
           sink_faults = K.faults out.new;
+          pauses = G.pauses gate.new;
         })
         → is_faultless result ≡ true }
 {
@@ -111,7 +115,7 @@ fn run<R: AllocGlobal + Wait, S: Source, K: Sink, H: HostNet, G: Gate>(
     idle: u32,
     source: &mut S,
     host: &mut H,
-    gate: &G,
+    gate: &mut G,
     out: &mut K,
 ) -> u8
     ensures ends { PeerEnds base.now port idle
@@ -122,6 +126,7 @@ fn run<R: AllocGlobal + Wait, S: Source, K: Sink, H: HostNet, G: Gate>(
           source_faults = S.faults source.old;
           host_faults = H.faults host.old;
           sink_faults = K.faults out.old;
+          pauses = G.pauses gate.old;
         })
         (record {
           source = S.contents source.new;
@@ -130,6 +135,7 @@ fn run<R: AllocGlobal + Wait, S: Source, K: Sink, H: HostNet, G: Gate>(
           source_faults = S.faults source.new;
           host_faults = H.faults host.new;
           sink_faults = K.faults out.new;
+          pauses = G.pauses gate.new;
         })
         result }
 {
@@ -161,12 +167,12 @@ fn converse_to_end<R: Wait, H: HostNet, K: Sink, G: Gate>(
     bytes: &[u8],
     idle: u32,
     host: &mut H,
-    gate: &G,
+    gate: &mut G,
     out: &mut K,
 ) -> u8
     ensures meets { Meets base.now port bytes.now idle
         (H.contents host.old) (H.contents host.new) (H.faults host.old) (H.faults host.new)
-        (K.contents out.old) (K.contents out.new) (K.faults out.old) (K.faults out.new) result }
+        (G.pauses gate.old) (G.pauses gate.new) (K.contents out.old) (K.contents out.new) (K.faults out.old) (K.faults out.new) result }
 {
     match converse(rt, host, base, port, bytes, idle, gate, out) {
         Ok(()) => DONE,

@@ -2,6 +2,7 @@
 ghost use Rattle.std.specs.{Option.ForSome, Prelude.IfOk};
 ghost use Rattle.vs_outside.specs.{Faults.CountsFault, Host.IsOpen};
 ghost use Rattle.vs_peer.specs.{Client.Dials, Client.Opens, Conversing.Converses, Failing.host_failed, Failing.sink_failed, Text.GivesPort};
+ghost use Rattle.vs_peer.specs.Waiting.{Paused, pauses_of};
 
 use crate::ask::{answer, ask};
 use crate::exchange::exchange;
@@ -31,13 +32,14 @@ pub fn converse<R: Wait, H: HostNet, K: Sink, G: Gate>(
     port: u32,
     bytes: &[u8],
     idle: u32,
-    gate: &G,
+    gate: &mut G,
     out: &mut K,
 ) -> Result<(), Stop>
     ensures converses { Converses base.now port bytes.now
         (H.contents host.old) (H.contents host.new) (K.contents out.old) (K.contents out.new) result }
     ensures host_faults { CountsFault (host_failed result) (H.faults host.old) (H.faults host.new) }
     ensures sink_faults { CountsFault (sink_failed result) (K.faults out.old) (K.faults out.new) }
+    ensures pauses { Paused (pauses_of idle result) (G.pauses gate.old) (G.pauses gate.new) }
 {
     let opened = open(rt, host, base, port, idle, gate)?;
     give_port(out, opened.host_port)?;
@@ -51,11 +53,12 @@ fn open<R: Wait, H: HostNet, G: Gate>(
     base: &str,
     port: u32,
     idle: u32,
-    gate: &G,
+    gate: &mut G,
 ) -> Result<Opened, Stop>
     ensures open { IfOk result (λ opened. ForSome (H.contents host.new) (IsOpen opened.id)) }
     ensures opens { Opens base.now port (H.contents host.old) (H.contents host.new) result }
     ensures faults { CountsFault (host_failed result) (H.faults host.old) (H.faults host.new) }
+    ensures pauses { Paused (pauses_of idle result) (G.pauses gate.old) (G.pauses gate.new) }
 {
     let id = dial(host, base, port)?;
     ask(rt, host, id, connect_line(port).as_bytes(), idle, gate)?;

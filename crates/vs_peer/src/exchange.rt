@@ -2,7 +2,7 @@
 ghost use Rattle.std.specs.{Prelude.◌≡◌, Option.ForSome};
 ghost use Rattle.vs_outside.specs.{Faults.CountsFault, Host.IsOpen};
 ghost use Rattle.vs_peer.specs.{Failing.host_failed, Failing.sink_failed, Exchanging.Exchanges, Exchanging.Steps, Exchanging.comes_to};
-ghost use Rattle.vs_peer.specs.Sending.{GoesOn, IsSending};
+ghost use Rattle.vs_peer.specs.{Sending.GoesOn, Sending.IsSending, Waiting.Paused, Waiting.pauses_of};
 
 use crate::receive::{Came, receive};
 use crate::send::{Sending, Side};
@@ -29,7 +29,7 @@ pub fn exchange<R: Wait, H: HostNet, K: Sink, G: Gate>(
     id: u64,
     bytes: &[u8],
     idle: u32,
-    gate: &G,
+    gate: &mut G,
     out: &mut K,
 ) -> Result<(), Stop>
     requires open { ForSome (H.contents host.old) (IsOpen id) }
@@ -37,6 +37,7 @@ pub fn exchange<R: Wait, H: HostNet, K: Sink, G: Gate>(
         (H.contents host.old) (H.contents host.new) (K.contents out.old) (K.contents out.new) result }
     ensures host_faults { CountsFault (host_failed result) (H.faults host.old) (H.faults host.new) }
     ensures sink_faults { CountsFault (sink_failed result) (K.faults out.old) (K.faults out.new) }
+    ensures pauses { Paused (pauses_of idle result) (G.pauses gate.old) (G.pauses gate.new) }
 {
     let mut sending = Sending {
         sent: 0,

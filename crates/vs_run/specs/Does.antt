@@ -9,15 +9,17 @@ use Rattle.vs_script.specs.declared.script.Command.TheVariants as script_of
 use Rattle.vs_words.specs.Command.{Command, Play, Hostile, Peer}
 use Rattle.vs_run.specs.Ends.{EndsScript, EndsWith, usage_text}
 
--- All that the command is lent, at one moment: what source, host and sink expose, and how many of their calls failed.
-abbrev pub lent : Option (List ℕ) → Option HostContents → Option (List ℕ) → ℕ → ℕ → ℕ → Lent
-lent source host out source_faults host_faults sink_faults = record {
+-- All that the command is lent, at one moment: what source, host and sink expose, how many of their calls failed, and how many pauses the
+-- gate counts.
+abbrev pub lent : Option (List ℕ) → Option HostContents → Option (List ℕ) → ℕ → ℕ → ℕ → ℕ → Lent
+lent source host out source_faults host_faults sink_faults pauses = record {
   source = source;
   host = host;
   out = out;
   source_faults = source_faults;
   host_faults = host_faults;
   sink_faults = sink_faults;
+  pauses = pauses;
 }
 
 -- Whether a command is a client.

@@ -34,7 +34,7 @@ pub const USAGE: u8 = 1;
 /// - 2: the script is refused as a whole, and `line L WHY` was written; of `peer`, the source gave too many bytes.
 /// - 3: a call of `script` failed, and `read fault` was written.
 /// - 4: a call of `out` failed, and nothing more was written.
-/// - 5: `peer` waited, and `waited N` was written behind what came before.
+/// - 5: `peer` waited, with a pause of `gate` for each step, and `waited N` was written behind what came before.
 /// - 6: a call of `host` failed in `peer`, and `host fault` was written behind what came before.
 /// - 7: the device of `hostile` failed.
 /// - 8: `peer` wasn't answered by an OK line, and `peer refused` was written.
@@ -47,7 +47,7 @@ pub fn vsock_main<R: AllocGlobal + Wait, S: Source, K: Sink, H: HostNet, C: Cloc
     script: &mut S,
     host: &mut H,
     clock: &mut C,
-    gate: &G,
+    gate: &mut G,
     out: &mut K,
 ) -> u8
     // Words that are no command: nothing is read.
@@ -83,13 +83,13 @@ pub fn vsock_main<R: AllocGlobal + Wait, S: Source, K: Sink, H: HostNet, C: Cloc
     // What each status of a client says of source, host and sink.
     ensures says { (base : List ℕ) (port idle : ℕ) → command_of (map string_bytes words.now) ≡ Some (Peer base port idle)
         → Says base port idle
-        (lent (S.contents script.old) (H.contents host.old) (K.contents out.old) (S.faults script.old) (H.faults host.old) (K.faults out.old))
-        (lent (S.contents script.new) (H.contents host.new) (K.contents out.new) (S.faults script.new) (H.faults host.new) (K.faults out.new))
+        (lent (S.contents script.old) (H.contents host.old) (K.contents out.old) (S.faults script.old) (H.faults host.old) (K.faults out.old) (G.pauses gate.old))
+        (lent (S.contents script.new) (H.contents host.new) (K.contents out.new) (S.faults script.new) (H.faults host.new) (K.faults out.new) (G.pauses gate.new))
         result }
     ensures faultless { is_client (command_of (map string_bytes words.now)) ≡ true
         → NoFault
-        (lent (S.contents script.old) (H.contents host.old) (K.contents out.old) (S.faults script.old) (H.faults host.old) (K.faults out.old))
-        (lent (S.contents script.new) (H.contents host.new) (K.contents out.new) (S.faults script.new) (H.faults host.new) (K.faults out.new))
+        (lent (S.contents script.old) (H.contents host.old) (K.contents out.old) (S.faults script.old) (H.faults host.old) (K.faults out.old) (G.pauses gate.old))
+        (lent (S.contents script.new) (H.contents host.new) (K.contents out.new) (S.faults script.new) (H.faults host.new) (K.faults out.new) (G.pauses gate.new))
         → is_faultless result ≡ true }
     // Each status has its cause.
     ensures status_0 { (kind : Rings) (queue : ℕ) (text : List ℕ) → command_of (map string_bytes words.now) ≡ Some (Play kind queue)
@@ -122,12 +122,12 @@ fn run<R: AllocGlobal + Wait, S: Source, K: Sink, H: HostNet, G: Gate>(
     words: &[String],
     script: &mut S,
     host: &mut H,
-    gate: &G,
+    gate: &mut G,
     out: &mut K,
 ) -> u8
     ensures does { Does (command_of (map string_bytes words.now))
-        (lent (S.contents script.old) (H.contents host.old) (K.contents out.old) (S.faults script.old) (H.faults host.old) (K.faults out.old))
-        (lent (S.contents script.new) (H.contents host.new) (K.contents out.new) (S.faults script.new) (H.faults host.new) (K.faults out.new))
+        (lent (S.contents script.old) (H.contents host.old) (K.contents out.old) (S.faults script.old) (H.faults host.old) (K.faults out.old) (G.pauses gate.old))
+        (lent (S.contents script.new) (H.contents host.new) (K.contents out.new) (S.faults script.new) (H.faults host.new) (K.faults out.new) (G.pauses gate.new))
         result }
 {
     match command_of(rt.alloc(), words) {

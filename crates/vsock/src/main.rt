@@ -21,14 +21,14 @@ fn main(rt: HostRuntime) -> ExitCode {
         Err(_) => return ExitCode::from(host_fault(&mut out)),
     };
     let mut script = ReadSource::new(rt.stdin());
-    let gate = YieldGate;
+    let mut gate = YieldGate::new();
     ExitCode::from(vsock_main(
         &rt,
         &words,
         &mut script,
         &mut host,
         &mut clock,
-        &gate,
+        &mut gate,
         &mut out,
     ))
 }

@@ -1,5 +1,5 @@
-use Rattle.std.proofs.Common.{◌≡◌, [], false, length, refl, sym, ◌∙◌, inl, inr}
-use Rattle.vs_peer.proofs.{Answering.byte_came, Streams.still_moves}
+use Rattle.std.proofs.Common.{◌≡◌, [], false, length, refl, sym, ◌∙◌, inl, inr, arith}
+use Rattle.vs_peer.proofs.{Answering.byte_came, Streams.still_moves, Waits.paused_before, Waits.paused_once}
 use Rattle.vs_peer.proofs.ask.answer.Goals as goal
 
 pub loop-preserved-in-More : goal.loop-preserved-in-More
@@ -14,6 +14,7 @@ loop-preserved-in-More g c =
       passes = byte_came c.args.id _ _ _ c.read.new.out c.loop.line c.feed.new.self c.in-Got.field-0 one c.in-Got.ensures.some i.undecided
           c.feed.ensures.fed i.passes c.in-Got.ensures.passes;
       faults = c.in-Got.ensures.faults ∙ i.faults;
+      pauses = paused_before c.loop.waited 0 _ _ i.pauses (omega arith);
     }
 
 pub loop-preserved : goal.loop-preserved
@@ -24,6 +25,7 @@ loop-preserved g c = record {
   was = c.in-Again.ensures.open;
   passes = still_moves c.args.id [] _ false _ _ _ c.loop.invariant.passes c.in-Again.ensures.passes.0;
   faults = c.in-Again.ensures.faults ∙ c.loop.invariant.faults;
+  pauses = paused_once c.loop.waited _ _ _ _ c.loop.invariant.pauses c.gives_up.ensures.steps c.gives_up.ensures.pauses;
 }
 
 pub returns-in-Port-clause-answers : goal.returns-in-Port-clause-answers

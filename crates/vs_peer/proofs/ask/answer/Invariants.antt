@@ -4,6 +4,7 @@ use Rattle.vs_contents.specs.Contents.{Relates}
 use Rattle.vs_outside.specs.Host.{IsOpen}
 use Rattle.vs_uds.specs.{OkLine.ok_step, Reading.is_decided, declared.ok.TheConstants.OK_MAX, declared.scan.Step.TheVariants.More}
 use Rattle.vs_peer.specs.Passing.{Moves}
+use Rattle.vs_peer.specs.Waiting.{Paused}
 use Rattle.vs_peer.proofs.ask.answer.Given as goal
 
 -- what was taken so far
@@ -15,4 +16,5 @@ invariant-loop g l = record {
   was : ForSome (g.H.HostNet.contents l.host) (IsOpen l.id);
   passes : Relates (g.H.HostNet.contents l.fn.host) (g.H.HostNet.contents l.host) (Moves l.id [] l.line false);
   faults : g.H.HostNet.faults l.host ≡ g.H.HostNet.faults l.fn.host;
+  pauses : Paused l.waited (g.G.Gate.pauses l.fn.gate) (g.G.Gate.pauses l.gate);
 }

@@ -1,7 +1,8 @@
 use Rattle.std.proofs.Common.{◌≡◌, [], false, ◌+◌, ◌-◌, ◌++◌, length, take, drop, refl, ap, sym, ◌∙◌, arith}
 use Rattle.std.proofs.Math.Seq.{take-add}
 use Rattle.std.proofs.lemmas.List.{take_all, take_rest}
-use Rattle.vs_peer.proofs.{Pieces.rest_length, Streams.relates_as, Streams.relates_then, Streams.still_moves}
+use Rattle.vs_peer.proofs.{Pieces.rest_length, Streams.relates_as, Streams.relates_then, Streams.still_moves, Waits.paused_before}
+use Rattle.vs_peer.proofs.Waits.{paused_once}
 use Rattle.vs_peer.proofs.ask.ask.Goals as goal
 
 pub write-requires-clause-some : goal.write-requires-clause-some
@@ -30,6 +31,7 @@ loop-preserved-in-Took g c =
       was = c.in-Took.ensures.open;
       passes = relates_as id _ (take (a + n) xs) [] [] false false _ _ both joined refl refl;
       faults = c.in-Took.ensures.faults ∙ c.loop.invariant.faults;
+      pauses = paused_before c.loop.waited 0 _ _ c.loop.invariant.pauses (omega arith);
     }
 
 pub loop-preserved : goal.loop-preserved
@@ -38,6 +40,7 @@ loop-preserved g c = record {
   was = c.in-Again.ensures.open;
   passes = still_moves c.args.id _ [] false _ _ _ c.loop.invariant.passes c.in-Again.ensures.passes.0;
   faults = c.in-Again.ensures.faults ∙ c.loop.invariant.faults;
+  pauses = paused_once c.loop.waited _ _ _ _ c.loop.invariant.pauses c.gives_up.ensures.steps c.gives_up.ensures.pauses;
 }
 
 pub returns-then-gives_up-clause-asks : goal.returns-then-gives_up-clause-asks

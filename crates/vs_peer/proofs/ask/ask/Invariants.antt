@@ -3,6 +3,7 @@ use Rattle.std.specs.Option.{ForSome}
 use Rattle.vs_contents.specs.Contents.{Relates}
 use Rattle.vs_outside.specs.Host.{IsOpen}
 use Rattle.vs_peer.specs.Passing.{Moves}
+use Rattle.vs_peer.specs.Waiting.{Paused}
 use Rattle.vs_peer.proofs.ask.ask.Given as goal
 
 -- what was given so far
@@ -12,4 +13,5 @@ invariant-loop g l = record {
   was : ForSome (g.H.HostNet.contents l.host) (IsOpen l.id);
   passes : Relates (g.H.HostNet.contents l.fn.host) (g.H.HostNet.contents l.host) (Moves l.id (take l.at l.line) [] false);
   faults : g.H.HostNet.faults l.host ≡ g.H.HostNet.faults l.fn.host;
+  pauses : Paused l.waited (g.G.Gate.pauses l.fn.gate) (g.G.Gate.pauses l.gate);
 }

@@ -1,6 +1,7 @@
 use Rattle.std.proofs.Common.{◌≡◌, Err, Result, refl, subst, sym, ◌∙◌, arith}
 use Rattle.vs_peer.specs.{Exchanging.Exchanges, declared.stop.Stop.Stop}
-use Rattle.vs_peer.proofs.Exchanges.{done, fails, goes_on, starts, waits}
+use Rattle.vs_peer.proofs.{Exchanges.done, Exchanges.fails, Exchanges.goes_on, Exchanges.starts, Exchanges.waits, Waits.none_paused}
+use Rattle.vs_peer.proofs.Waits.{paused_before, paused_once}
 use Rattle.vs_peer.proofs.exchange.exchange.Goals as goal
 
 pub loop-init : goal.loop-init
@@ -9,6 +10,7 @@ loop-init g c = record {
   exchanged = starts c.args.id c.args.bytes.now (g.H.HostNet.contents c.args.host.now) (g.K.Sink.contents c.args.out.now);
   host_faults = refl;
   sink_faults = refl;
+  pauses = none_paused _;
 }
 
 pub returns-in_err-step-clause-exchanges : goal.returns-in_err-step-clause-exchanges
@@ -55,6 +57,7 @@ loop-preserved-in-Moved g c =
           c.step.ensures.sending c.in_ok-step.ensures.steps.0;
       host_faults = c.in_ok-step.ensures.host_faults ∙ c.loop.invariant.host_faults;
       sink_faults = c.in_ok-step.ensures.sink_faults ∙ c.loop.invariant.sink_faults;
+      pauses = paused_before c.loop.waited 0 _ _ c.loop.invariant.pauses (omega arith);
     }
 
 pub loop-preserved : goal.loop-preserved
@@ -72,6 +75,7 @@ loop-preserved g c =
           c.step.ensures.sending c.in_ok-step.ensures.steps.0;
       host_faults = c.in_ok-step.ensures.host_faults ∙ c.loop.invariant.host_faults;
       sink_faults = c.in_ok-step.ensures.sink_faults ∙ c.loop.invariant.sink_faults;
+      pauses = paused_once c.loop.waited _ _ _ _ c.loop.invariant.pauses c.gives_up.ensures.steps c.gives_up.ensures.pauses;
     }
 
 pub returns-then-gives_up-clause-exchanges : goal.returns-then-gives_up-clause-exchanges

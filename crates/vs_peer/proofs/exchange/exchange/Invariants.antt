@@ -2,6 +2,7 @@ use Rattle.std.proofs.Common.{◌≡◌}
 use Rattle.std.specs.Option.{ForSome}
 use Rattle.vs_outside.specs.Host.{IsOpen}
 use Rattle.vs_peer.specs.Exchanging.{Exchanged}
+use Rattle.vs_peer.specs.Waiting.{Paused}
 use Rattle.vs_peer.proofs.exchange.exchange.Given as goal
 
 -- what passed so far
@@ -12,4 +13,5 @@ invariant-loop g l = record {
       (g.K.Sink.contents l.fn.out) (g.K.Sink.contents l.out);
   host_faults : g.H.HostNet.faults l.host ≡ g.H.HostNet.faults l.fn.host;
   sink_faults : g.K.Sink.faults l.out ≡ g.K.Sink.faults l.fn.out;
+  pauses : Paused l.waited (g.G.Gate.pauses l.fn.gate) (g.G.Gate.pauses l.gate);
 }

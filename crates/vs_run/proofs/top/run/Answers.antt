@@ -10,9 +10,11 @@ returns-in-Ok-Play g c =
     record {
       does = subst (λ k. Does k
           (lent (g.S.Source.contents c.args.script.now) (g.H.HostNet.contents c.args.host.now) (g.K.Sink.contents c.args.out.now)
-          (g.S.Source.faults c.args.script.now) (g.H.HostNet.faults c.args.host.now) (g.K.Sink.faults c.args.out.now))
+          (g.S.Source.faults c.args.script.now) (g.H.HostNet.faults c.args.host.now) (g.K.Sink.faults c.args.out.now)
+          (g.G.Gate.pauses c.args.gate.now))
           (lent (g.S.Source.contents c.play_script.new.script) (g.H.HostNet.contents c.args.host.now) (g.K.Sink.contents c.play_script.new.out)
-          (g.S.Source.faults c.play_script.new.script) (g.H.HostNet.faults c.args.host.now) (g.K.Sink.faults c.play_script.new.out)) c.play_script.result)
+          (g.S.Source.faults c.play_script.new.script) (g.H.HostNet.faults c.args.host.now) (g.K.Sink.faults c.play_script.new.out)
+          (g.G.Gate.pauses c.args.gate.now)) c.play_script.result)
           (sym is) (c.play_script.ensures, (refl, refl));
     }
 
@@ -23,8 +25,10 @@ returns-in-Ok-Hostile g c =
     record {
       does = subst (λ k. Does k
           (lent (g.S.Source.contents c.args.script.now) (g.H.HostNet.contents c.args.host.now) (g.K.Sink.contents c.args.out.now)
-          (g.S.Source.faults c.args.script.now) (g.H.HostNet.faults c.args.host.now) (g.K.Sink.faults c.args.out.now))
+          (g.S.Source.faults c.args.script.now) (g.H.HostNet.faults c.args.host.now) (g.K.Sink.faults c.args.out.now)
+          (g.G.Gate.pauses c.args.gate.now))
           (lent (g.S.Source.contents c.hostile_script.new.script) (g.H.HostNet.contents c.args.host.now) (g.K.Sink.contents c.hostile_script.new.out)
-          (g.S.Source.faults c.hostile_script.new.script) (g.H.HostNet.faults c.args.host.now) (g.K.Sink.faults c.hostile_script.new.out)) c.hostile_script.result)
+          (g.S.Source.faults c.hostile_script.new.script) (g.H.HostNet.faults c.args.host.now) (g.K.Sink.faults c.hostile_script.new.out)
+          (g.G.Gate.pauses c.args.gate.now)) c.hostile_script.result)
           (sym is) (c.hostile_script.ensures, (refl, refl));
     }

@@ -10,25 +10,25 @@ pub returns-clause-plays : goal.returns-clause-plays
 returns-clause-plays g c = λ kind queue text is few same told.
     play_written (command_of (map string_bytes c.args.words.now))
     (lent (g.S.Source.contents c.args.script.now) (g.H.HostNet.contents c.args.host.now) (g.K.Sink.contents c.args.out.now)
-    (g.S.Source.faults c.args.script.now) (g.H.HostNet.faults c.args.host.now) (g.K.Sink.faults c.args.out.now))
+    (g.S.Source.faults c.args.script.now) (g.H.HostNet.faults c.args.host.now) (g.K.Sink.faults c.args.out.now) (g.G.Gate.pauses c.args.gate.now))
     (lent (g.S.Source.contents c.run.new.script) (g.H.HostNet.contents c.run.new.host) (g.K.Sink.contents c.run.new.out)
-    (g.S.Source.faults c.run.new.script) (g.H.HostNet.faults c.run.new.host) (g.K.Sink.faults c.run.new.out)) c.run.result kind queue text is c.run.ensures.does few same told
+    (g.S.Source.faults c.run.new.script) (g.H.HostNet.faults c.run.new.host) (g.K.Sink.faults c.run.new.out) (g.G.Gate.pauses c.run.new.gate)) c.run.result kind queue text is c.run.ensures.does few same told
 
 pub returns-clause-attacks : goal.returns-clause-attacks
 returns-clause-attacks g c = λ text is few same told.
     attack_written (command_of (map string_bytes c.args.words.now))
     (lent (g.S.Source.contents c.args.script.now) (g.H.HostNet.contents c.args.host.now) (g.K.Sink.contents c.args.out.now)
-    (g.S.Source.faults c.args.script.now) (g.H.HostNet.faults c.args.host.now) (g.K.Sink.faults c.args.out.now))
+    (g.S.Source.faults c.args.script.now) (g.H.HostNet.faults c.args.host.now) (g.K.Sink.faults c.args.out.now) (g.G.Gate.pauses c.args.gate.now))
     (lent (g.S.Source.contents c.run.new.script) (g.H.HostNet.contents c.run.new.host) (g.K.Sink.contents c.run.new.out)
-    (g.S.Source.faults c.run.new.script) (g.H.HostNet.faults c.run.new.host) (g.K.Sink.faults c.run.new.out)) c.run.result text is c.run.ensures.does few same told
+    (g.S.Source.faults c.run.new.script) (g.H.HostNet.faults c.run.new.host) (g.K.Sink.faults c.run.new.out) (g.G.Gate.pauses c.run.new.gate)) c.run.result text is c.run.ensures.does few same told
 
 pub returns-clause-status_2 : goal.returns-clause-status_2
 returns-clause-status_2 g c = λ two text told.
     no_script_at_2 (command_of (map string_bytes c.args.words.now))
     (lent (g.S.Source.contents c.args.script.now) (g.H.HostNet.contents c.args.host.now) (g.K.Sink.contents c.args.out.now)
-    (g.S.Source.faults c.args.script.now) (g.H.HostNet.faults c.args.host.now) (g.K.Sink.faults c.args.out.now))
+    (g.S.Source.faults c.args.script.now) (g.H.HostNet.faults c.args.host.now) (g.K.Sink.faults c.args.out.now) (g.G.Gate.pauses c.args.gate.now))
     (lent (g.S.Source.contents c.run.new.script) (g.H.HostNet.contents c.run.new.host) (g.K.Sink.contents c.run.new.out)
-    (g.S.Source.faults c.run.new.script) (g.H.HostNet.faults c.run.new.host) (g.K.Sink.faults c.run.new.out)) c.run.result text c.run.ensures.does two told
+    (g.S.Source.faults c.run.new.script) (g.H.HostNet.faults c.run.new.host) (g.K.Sink.faults c.run.new.out) (g.G.Gate.pauses c.run.new.gate)) c.run.result text c.run.ensures.does two told
 
 pub returns-clause-headline : goal.returns-clause-headline
 returns-clause-headline g c = each_script
@@ -40,54 +40,54 @@ pub returns-clause-status_1 : goal.returns-clause-status_1
 returns-clause-status_1 g c = λ is.
     cause_at (command_of (map string_bytes c.args.words.now))
     (lent (g.S.Source.contents c.args.script.now) (g.H.HostNet.contents c.args.host.now) (g.K.Sink.contents c.args.out.now)
-    (g.S.Source.faults c.args.script.now) (g.H.HostNet.faults c.args.host.now) (g.K.Sink.faults c.args.out.now))
+    (g.S.Source.faults c.args.script.now) (g.H.HostNet.faults c.args.host.now) (g.K.Sink.faults c.args.out.now) (g.G.Gate.pauses c.args.gate.now))
     (lent (g.S.Source.contents c.run.new.script) (g.H.HostNet.contents c.run.new.host) (g.K.Sink.contents c.run.new.out)
-    (g.S.Source.faults c.run.new.script) (g.H.HostNet.faults c.run.new.host) (g.K.Sink.faults c.run.new.out)) c.run.result 1 c.run.ensures.does is
+    (g.S.Source.faults c.run.new.script) (g.H.HostNet.faults c.run.new.host) (g.K.Sink.faults c.run.new.out) (g.G.Gate.pauses c.run.new.gate)) c.run.result 1 c.run.ensures.does is
 
 pub returns-clause-status_3 : goal.returns-clause-status_3
 returns-clause-status_3 g c = λ is.
     cause_at (command_of (map string_bytes c.args.words.now))
     (lent (g.S.Source.contents c.args.script.now) (g.H.HostNet.contents c.args.host.now) (g.K.Sink.contents c.args.out.now)
-    (g.S.Source.faults c.args.script.now) (g.H.HostNet.faults c.args.host.now) (g.K.Sink.faults c.args.out.now))
+    (g.S.Source.faults c.args.script.now) (g.H.HostNet.faults c.args.host.now) (g.K.Sink.faults c.args.out.now) (g.G.Gate.pauses c.args.gate.now))
     (lent (g.S.Source.contents c.run.new.script) (g.H.HostNet.contents c.run.new.host) (g.K.Sink.contents c.run.new.out)
-    (g.S.Source.faults c.run.new.script) (g.H.HostNet.faults c.run.new.host) (g.K.Sink.faults c.run.new.out)) c.run.result 3 c.run.ensures.does is
+    (g.S.Source.faults c.run.new.script) (g.H.HostNet.faults c.run.new.host) (g.K.Sink.faults c.run.new.out) (g.G.Gate.pauses c.run.new.gate)) c.run.result 3 c.run.ensures.does is
 
 pub returns-clause-status_4 : goal.returns-clause-status_4
 returns-clause-status_4 g c = λ is.
     cause_at (command_of (map string_bytes c.args.words.now))
     (lent (g.S.Source.contents c.args.script.now) (g.H.HostNet.contents c.args.host.now) (g.K.Sink.contents c.args.out.now)
-    (g.S.Source.faults c.args.script.now) (g.H.HostNet.faults c.args.host.now) (g.K.Sink.faults c.args.out.now))
+    (g.S.Source.faults c.args.script.now) (g.H.HostNet.faults c.args.host.now) (g.K.Sink.faults c.args.out.now) (g.G.Gate.pauses c.args.gate.now))
     (lent (g.S.Source.contents c.run.new.script) (g.H.HostNet.contents c.run.new.host) (g.K.Sink.contents c.run.new.out)
-    (g.S.Source.faults c.run.new.script) (g.H.HostNet.faults c.run.new.host) (g.K.Sink.faults c.run.new.out)) c.run.result 4 c.run.ensures.does is
+    (g.S.Source.faults c.run.new.script) (g.H.HostNet.faults c.run.new.host) (g.K.Sink.faults c.run.new.out) (g.G.Gate.pauses c.run.new.gate)) c.run.result 4 c.run.ensures.does is
 
 pub returns-clause-status_5 : goal.returns-clause-status_5
 returns-clause-status_5 g c = λ is.
     cause_at (command_of (map string_bytes c.args.words.now))
     (lent (g.S.Source.contents c.args.script.now) (g.H.HostNet.contents c.args.host.now) (g.K.Sink.contents c.args.out.now)
-    (g.S.Source.faults c.args.script.now) (g.H.HostNet.faults c.args.host.now) (g.K.Sink.faults c.args.out.now))
+    (g.S.Source.faults c.args.script.now) (g.H.HostNet.faults c.args.host.now) (g.K.Sink.faults c.args.out.now) (g.G.Gate.pauses c.args.gate.now))
     (lent (g.S.Source.contents c.run.new.script) (g.H.HostNet.contents c.run.new.host) (g.K.Sink.contents c.run.new.out)
-    (g.S.Source.faults c.run.new.script) (g.H.HostNet.faults c.run.new.host) (g.K.Sink.faults c.run.new.out)) c.run.result 5 c.run.ensures.does is
+    (g.S.Source.faults c.run.new.script) (g.H.HostNet.faults c.run.new.host) (g.K.Sink.faults c.run.new.out) (g.G.Gate.pauses c.run.new.gate)) c.run.result 5 c.run.ensures.does is
 
 pub returns-clause-status_6 : goal.returns-clause-status_6
 returns-clause-status_6 g c = λ is.
     cause_at (command_of (map string_bytes c.args.words.now))
     (lent (g.S.Source.contents c.args.script.now) (g.H.HostNet.contents c.args.host.now) (g.K.Sink.contents c.args.out.now)
-    (g.S.Source.faults c.args.script.now) (g.H.HostNet.faults c.args.host.now) (g.K.Sink.faults c.args.out.now))
+    (g.S.Source.faults c.args.script.now) (g.H.HostNet.faults c.args.host.now) (g.K.Sink.faults c.args.out.now) (g.G.Gate.pauses c.args.gate.now))
     (lent (g.S.Source.contents c.run.new.script) (g.H.HostNet.contents c.run.new.host) (g.K.Sink.contents c.run.new.out)
-    (g.S.Source.faults c.run.new.script) (g.H.HostNet.faults c.run.new.host) (g.K.Sink.faults c.run.new.out)) c.run.result 6 c.run.ensures.does is
+    (g.S.Source.faults c.run.new.script) (g.H.HostNet.faults c.run.new.host) (g.K.Sink.faults c.run.new.out) (g.G.Gate.pauses c.run.new.gate)) c.run.result 6 c.run.ensures.does is
 
 pub returns-clause-status_8 : goal.returns-clause-status_8
 returns-clause-status_8 g c = λ is.
     cause_at (command_of (map string_bytes c.args.words.now))
     (lent (g.S.Source.contents c.args.script.now) (g.H.HostNet.contents c.args.host.now) (g.K.Sink.contents c.args.out.now)
-    (g.S.Source.faults c.args.script.now) (g.H.HostNet.faults c.args.host.now) (g.K.Sink.faults c.args.out.now))
+    (g.S.Source.faults c.args.script.now) (g.H.HostNet.faults c.args.host.now) (g.K.Sink.faults c.args.out.now) (g.G.Gate.pauses c.args.gate.now))
     (lent (g.S.Source.contents c.run.new.script) (g.H.HostNet.contents c.run.new.host) (g.K.Sink.contents c.run.new.out)
-    (g.S.Source.faults c.run.new.script) (g.H.HostNet.faults c.run.new.host) (g.K.Sink.faults c.run.new.out)) c.run.result 8 c.run.ensures.does is
+    (g.S.Source.faults c.run.new.script) (g.H.HostNet.faults c.run.new.host) (g.K.Sink.faults c.run.new.out) (g.G.Gate.pauses c.run.new.gate)) c.run.result 8 c.run.ensures.does is
 
 pub returns-clause-statuses : goal.returns-clause-statuses
 returns-clause-statuses g c =
     is_known (command_of (map string_bytes c.args.words.now))
     (lent (g.S.Source.contents c.args.script.now) (g.H.HostNet.contents c.args.host.now) (g.K.Sink.contents c.args.out.now)
-    (g.S.Source.faults c.args.script.now) (g.H.HostNet.faults c.args.host.now) (g.K.Sink.faults c.args.out.now))
+    (g.S.Source.faults c.args.script.now) (g.H.HostNet.faults c.args.host.now) (g.K.Sink.faults c.args.out.now) (g.G.Gate.pauses c.args.gate.now))
     (lent (g.S.Source.contents c.run.new.script) (g.H.HostNet.contents c.run.new.host) (g.K.Sink.contents c.run.new.out)
-    (g.S.Source.faults c.run.new.script) (g.H.HostNet.faults c.run.new.host) (g.K.Sink.faults c.run.new.out)) c.run.result c.run.ensures.does
+    (g.S.Source.faults c.run.new.script) (g.H.HostNet.faults c.run.new.host) (g.K.Sink.faults c.run.new.out) (g.G.Gate.pauses c.run.new.gate)) c.run.result c.run.ensures.does
