@@ -47,6 +47,7 @@ changed first s t l step rest = (
     none_refused = step.broken ∙ rest.1.none_refused;
     matches = step.matches first l.entries rest.1.matches;
     fair = rest.1.fair;
+    marks = rest.1.marks;
   },
   rest.2,
 )
@@ -307,6 +308,7 @@ module _ (size port id : ℕ) (port_fits : port ≤ LAST_PORT) where
         none_refused = refl;
         matches = start_matches Driver cid port;
         fair = λ f. tt;
+        marks = tt;
       } in
       (made_fits cid less, subst P (sym fresh.0) left, fresh.1)
 

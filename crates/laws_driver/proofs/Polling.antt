@@ -1,12 +1,13 @@
 -- What a poll keeps, part by part.
 use Rattle.std.proofs.Common.{◌≡◌, ℕ, ◌+◌, ◌<◌, ◌^◌, ◌==◌, nat_le, nat_lt, Bool, true, false, cond, List, [], ◌∷◌, length, Option, Some}
-use Rattle.std.proofs.Common.{None, refl, sym, ap, subst, ◌∙◌}
+use Rattle.std.proofs.Common.{None, refl, sym, ap, subst, ◌∙◌, arith}
+use Rattle.std.proofs.lemmas.Bool.Decides.{nat_tests}
 use Rattle.vs_contents.specs.CallTree.{Done, Ask, bind}
 use Rattle.vs_conn.specs.{End.owes_of, declared.end.Owed.Owed, declared.end.TheConstants.OWED_MAX}
 use Rattle.vs_flow.specs.Table.{entry_under, slots}
 use Rattle.vs_header.specs.Packet.{header_bytes}
 use Rattle.laws_history.specs.declared.packet.Packet.{Packet}
-use Rattle.vs_page.specs.{Fair.IsFairLog, Held.event_held, Held.packet_held, Log.Driver, Log.Log, declared.log.LogEntry.LogEntry}
+use Rattle.vs_page.specs.{Fair.IsFairLog, Held.event_held, Held.packet_held, Log.Driver, Log.Log}
 use Rattle.vs_page.specs.declared.log.LogEntry.TheVariants.{GotEvent, GotPacket, Mark}
 use Rattle.vs_page.proofs.Holding.{packet_whole}
 use Rattle.vs_replies.specs.declared.Reply.{Reply}
@@ -29,7 +30,7 @@ use Rattle.laws_driver.specs.{Honest.IsFitState, Honest.ends_of_state, Honest.sl
 use Rattle.laws_driver.proofs.{Putting.owed_puts, Putting.reply_puts, Resetting.resets, Tabling.Stands, Taking.gets_packet, Keeping.Keeps}
 use Rattle.laws_driver.proofs.{Keeping.keeps_bind, Keeping.keeps_each, Keeping.keeps_weaker, Keeping.keeps_while, Staging.Rests}
 use Rattle.laws_driver.proofs.Staging.{SameBut, Ties, publish_other, publish_tx, reap_keeps, rests_tied, stage_other, stage_tx}
-use Rattle.laws_driver.proofs.Ringing.{IsAtRest, Tells, moves, tells_weaker}
+use Rattle.laws_driver.proofs.Ringing.{IsAtRest, Tells, moves}
 use Rattle.laws_driver.proofs.Carrying.{Carries, Fact, RestsWith}
 
 pub not_tx_rx : Rx ≡ Tx → ⊥
@@ -46,7 +47,7 @@ gets_by : (first : ℕ) (s : DriverState) (page : List ℕ) (o : Option Packet) 
 gets_by first s page None entries is fits ports left fair = (fits, left)
 gets_by first s page (Some p) entries is fits ports left fair =
     let g = gets_packet first p s entries fits (ports p is) (packet_whole page p is).0 left.matches fair in
-    (g.fits, record { none_refused = g.broken ∙ left.none_refused; matches = g.matches; fair = fair })
+    (g.fits, record { none_refused = g.broken ∙ left.none_refused; matches = g.matches; fair = fair; marks = left.marks })
 
 gets_page : (first : ℕ) (s : DriverState) (page : List ℕ) (l : EndLog) → BringsFit page → IsAtRest first s l → IsFairLog Driver (log_reaped Rx (Some page) l).entries
     → IsAtRest first (on_page page s) (log_reaped Rx (Some page) l)
@@ -64,62 +65,60 @@ gets_with first fact steps s page l ports rest fair = (gets_page first s page l 
     by (Some p) is fair =
         steps.got p s l.entries rest.0.0 (ports p is) (packet_whole page p is).0 rest.0.1.matches rest.0.1.fair fair rest.1
 
--- An event comes back. Where it tells a reset, something passed.
-abbrev HasPassed : Bool → Log → Type 0
-HasPassed true entries = (entry : LogEntry) × (older : Log) × (entries ≡ entry ∷ older)
-HasPassed false entries = Unit {0}
-
-abbrev AfterEvent : ℕ → List ℕ → DriverState → EndLog → Type 0
-AfterEvent first page s l = IsAtRest first s l × HasPassed (is_reset_event page) l.entries
-
-passed : (b : Bool) (entry : LogEntry) (older : Log) → HasPassed b (entry ∷ older)
-passed true entry older = (entry, older, refl)
-passed false entry older = tt
+-- An event comes back. Where it tells a reset, its Mark is still to come.
+abbrev LeftBehind : Bool → ℕ → DriverState → Log → Type 0
+LeftBehind true first s entries =
+    (older : Log) × (entries ≡ GotEvent 0 ∷ older) × IsLeft first s.broken (ends_of_state s) [] older × IsFairLog Driver entries
+LeftBehind false first s entries = IsLeft first s.broken (ends_of_state s) [] entries
 
 event_by : (first : ℕ) (s : DriverState) (o : Option ℕ) (entries : Log) → IsLeft first s.broken (ends_of_state s) [] entries
     → IsFairLog Driver (with_event (λ id. GotEvent id) o entries)
-    → IsLeft first s.broken (ends_of_state s) [] (with_event (λ id. GotEvent id) o entries)
-    × HasPassed (elim o [ None ↦ false | Some id ↦ id == 0 ]) (with_event (λ id. GotEvent id) o entries)
-event_by first s None entries left fair = (left, tt)
-event_by first s (Some id) entries left fair = (
-  record { none_refused = left.none_refused; matches = takes_event Driver first id (ends_of_state s) entries left.matches; fair = fair },
-  passed (id == 0) (GotEvent id) entries,
-)
+    → LeftBehind (elim o [ None ↦ false | Some id ↦ id == 0 ]) first s (with_event (λ id. GotEvent id) o entries)
+event_by first s None entries left fair = left
+event_by first s (Some id) entries left fair = by (id == 0) refl
+  where
+    by : (b : Bool) → (id == 0) ≡ b → LeftBehind b first s (GotEvent id ∷ entries)
+    by true is = let zero : id ≡ 0 = grind (arith, nat_tests, is) in (entries, ap (λ (n : ℕ). GotEvent n ∷ entries) zero, left, fair)
+    by false is = record {
+      none_refused = left.none_refused;
+      matches = takes_event Driver first id (ends_of_state s) entries left.matches;
+      fair = fair;
+      marks = (λ zero. grind (arith, nat_tests, is, zero), left.marks);
+    }
 
-gets_event : (first : ℕ) (s : DriverState) (page : List ℕ) (l : EndLog) → IsAtRest first s l → IsFairLog Driver (log_reaped Event (Some page) l).entries
-    → AfterEvent first page s (log_reaped Event (Some page) l)
-gets_event first s page l rest fair =
-    let e = event_by first s (event_held page) l.entries rest.1 fair in ((rest.0, e.0, rest.2), e.1)
-
-loads : (first cid : ℕ) (s : DriverState) (l : EndLog) → cid < 2 ^ 64 → IsAtRest first s l → HasPassed true l.entries → IsAtRest first (after_reset cid s) (log_loaded cid l)
-loads first cid s l less rest has =
-    let r = resets cid s less rest.0 in
-    let marked : entries_marked cid l.entries ≡ Mark cid ∷ l.entries = ap (entries_marked cid) has.2 ∙ ap (λ (log : Log). Mark cid ∷ log) (sym has.2) in
-    let left : IsLeft first (after_reset cid s).broken (ends_of_state (after_reset cid s)) [] (Mark cid ∷ l.entries) = record {
-      none_refused = r.broken ∙ rest.1.none_refused;
-      matches = r.matches first l.entries rest.1.matches;
-      fair = rest.1.fair;
-    } in
-    (r.fits, subst (λ (log : Log). IsLeft first (after_reset cid s).broken (ends_of_state (after_reset cid s)) [] log) (sym marked) left, rest.2)
-
-abbrev EventWith : ℕ → Fact → List ℕ → DriverState → EndLog → Type 0
-EventWith first fact page s l = RestsWith first fact s l × HasPassed (is_reset_event page) l.entries
+abbrev EventWith : ℕ → Fact → Bool → DriverState → EndLog → Type 0
+EventWith first fact b s l = (IsFitState s × LeftBehind b first s l.entries × (l.staged.tx ≡ [])) × fact (slots_of s) l.entries
 
 event_with : (first : ℕ) (fact : Fact) → Carries first fact → (s : DriverState) (page : List ℕ) (l : EndLog) → RestsWith first fact s l
-    → IsFairLog Driver (log_reaped Event (Some page) l).entries → EventWith first fact page s (log_reaped Event (Some page) l)
+    → IsFairLog Driver (log_reaped Event (Some page) l).entries
+    → EventWith first fact (is_reset_event page) s (log_reaped Event (Some page) l)
 event_with first fact steps s page l rest fair =
-    let e = gets_event first s page l rest.0 fair in ((e.0, by (event_held page)), e.1)
+    ((rest.0.0, event_by first s (event_held page) l.entries rest.0.1 fair, rest.0.2), by (event_held page))
   where
     by : (o : Option ℕ) → fact (slots_of s) (with_event (λ id. GotEvent id) o l.entries)
     by None = rest.1
     by (Some id) = steps.event id (slots_of s) l.entries rest.1
 
-loads_with : (first : ℕ) (fact : Fact) → Carries first fact → (cid : ℕ) (s : DriverState) (l : EndLog) → cid < 2 ^ 64 → RestsWith first fact s l
-    → HasPassed true l.entries → RestsWith first fact (after_reset cid s) (log_loaded cid l)
-loads_with first fact steps cid s l less rest has =
-    let marked : entries_marked cid l.entries ≡ Mark cid ∷ l.entries = ap (entries_marked cid) has.2 ∙ ap (λ (log : Log). Mark cid ∷ log) (sym has.2) in (
-      loads first cid s l less rest.0 has,
-      subst (λ (log : Log). fact (slots_of (after_reset cid s)) log) (sym marked) (steps.reset cid s l.entries less rest.0.0 rest.1),
+loads_with : (first : ℕ) (fact : Fact) → Carries first fact → (cid : ℕ) (s : DriverState) (l : EndLog) → cid < 2 ^ 64
+    → EventWith first fact true s l → RestsWith first fact (after_reset cid s) (log_loaded cid l)
+loads_with first fact steps cid s l less with =
+    let fits = with.0.0 in
+    let left = with.0.1 in
+    let r = resets cid s less fits in
+    let marked : entries_marked cid l.entries ≡ Mark cid ∷ GotEvent 0 ∷ left.0 = ap (entries_marked cid) left.1 in
+    let here : entries_marked cid l.entries ≡ Mark cid ∷ l.entries = marked ∙ ap (λ (log : Log). Mark cid ∷ log) (sym left.1) in
+    let now : IsLeft first (after_reset cid s).broken (ends_of_state (after_reset cid s)) [] (Mark cid ∷ GotEvent 0 ∷ left.0) = record {
+      none_refused = r.broken ∙ left.2.none_refused;
+      matches = r.matches first (GotEvent 0 ∷ left.0) (takes_event Driver first 0 (ends_of_state s) left.0 left.2.matches);
+      fair = subst (λ (log : Log). IsFairLog Driver log) left.1 left.3;
+      marks = (refl, left.2.marks);
+    } in (
+      (
+        r.fits,
+        subst (λ (log : Log). IsLeft first (after_reset cid s).broken (ends_of_state (after_reset cid s)) [] log) (sym marked) now,
+        with.0.2,
+      ),
+      subst (λ (log : Log). fact (slots_of (after_reset cid s)) log) (sym here) (steps.reset cid s l.entries less fits with.1),
     )
 
 module _ (first : ℕ) (fact : Fact) (steps : Carries first fact) where
@@ -136,15 +135,15 @@ module _ (first : ℕ) (fact : Fact) (steps : Carries first fact) where
   PairTies x c = RoundTies x.0 c
 
   -- Events.
-  taken_by : (b : Bool) (r : Round) (c : RingContents) → Tells (λ l. RestsWith first fact r.state l × HasPassed b l.entries) c
+  taken_by : (b : Bool) (r : Round) (c : RingContents) → Tells (EventWith first fact b r.state) c
       → Keeps RoundRests (cond b (Ask LoadCid (λ cid. Done (record r { state = after_reset cid r.state; count = r.count + 1; reset = true })))
       (Done (record r { count = r.count + 1 }))) c
   taken_by true r c tells = (
     tt,
-    λ cid d made. moves _ _ _ _ _ (log_loaded cid) c d made.1 (λ l. RestsWith first fact r.state l × HasPassed true l.entries) (RestsWith first fact (after_reset cid r.state))
-        (λ l both fair. loads_with first fact steps cid r.state l made.0 both.0 both.1) tells,
+    λ cid d made. moves _ _ _ _ _ (log_loaded cid) c d made.1 (EventWith first fact true r.state) (RestsWith first fact (after_reset cid r.state))
+        (λ l both fair. loads_with first fact steps cid r.state l made.0 both) tells,
   )
-  taken_by false r c tells = tells_weaker (λ l. RestsWith first fact r.state l × HasPassed false l.entries) (RestsWith first fact r.state) (λ l both. both.0) c tells
+  taken_by false r c tells = tells
 
   again : (queue : Queue) → (queue ≡ Tx → ⊥) → (r : Round) (c : RingContents) → RoundRests r c → Keeps PairRests (staged_again queue r) c
   again queue other r c rests = keeps_bind PairRests (stage_of queue [] r.state) (goes_on_with r) c (stage_other first fact queue other r.state [] c rests)
@@ -157,7 +156,7 @@ module _ (first : ℕ) (fact : Fact) (steps : Carries first fact) where
       keeps_bind PairRests (event_taken page r) (staged_again Event) d
       (keeps_weaker RoundRests (λ x e. Keeps PairRests (staged_again Event x) e) (λ x e kept. again Event not_tx_event x e kept) (event_taken page r) d
       (taken_by (is_reset_event page) r d
-      (moves _ _ _ _ _ (log_reaped Event (Some page)) c d made.1 (RestsWith first fact r.state) (EventWith first fact page r.state)
+      (moves _ _ _ _ _ (log_reaped Event (Some page)) c d made.1 (RestsWith first fact r.state) (EventWith first fact (is_reset_event page) r.state)
       (λ l rest fair. event_with first fact steps r.state page l rest fair) rests)))
 
   event_step : (b : Bool) (r : Round) (c : RingContents) → RoundRests r c → Keeps PairRests (cond b (Done (r, false)) (Ask (Reap Event) (event_reaped r))) c

@@ -11,6 +11,7 @@ use Rattle.vs_ring_port.specs.Contents.{RingContents}
 use Rattle.laws_tables.specs.Matches.{Matches}
 use Rattle.vs_driver_parts.specs.State.{DriverState}
 use Rattle.laws_driver.specs.{Honest.AgreesWith, Honest.IsFitState, Honest.ends_of_state, Staged.IsLeft, Staged.IsTied}
+use Rattle.laws_driver.specs.Resets.{MarksResets}
 
 -- P holds of the log of an honest ring, where it tells it.
 abbrev pub Tells : (EndLog → Type 0) → RingContents → Type 0
@@ -23,7 +24,7 @@ IsAtRest first s l = IsFitState s × IsLeft first s.broken (ends_of_state s) [] 
 pub at_rest : (first : ℕ) (s : DriverState) (l : EndLog) → AgreesWith first s l → IsAtRest first s l
 at_rest first s l agrees = (
   agrees.fits,
-  record { none_refused = agrees.none_refused; matches = agrees.matches; fair = agrees.fair },
+  record { none_refused = agrees.none_refused; matches = agrees.matches; fair = agrees.fair; marks = agrees.marks },
   agrees.published,
 )
 
@@ -34,6 +35,7 @@ agrees first s l rest = record {
   none_refused = rest.1.none_refused;
   matches = rest.1.matches;
   fair = rest.1.fair;
+  marks = rest.1.marks;
 }
 
 pub tied : (first : ℕ) (s : DriverState) (l : EndLog) → IsAtRest first s l → IsTied first s l
@@ -66,7 +68,7 @@ can_publish_other Tx c other = absurd (other refl)
 pub publishes : (first : ℕ) (s : DriverState) (l : EndLog) → IsTied first s l → IsAtRest first s (log_published Tx l)
 publishes first s l tie = (
   tie.0,
-  record { none_refused = tie.1.none_refused; matches = tie.1.matches; fair = tie.1.fair },
+  record { none_refused = tie.1.none_refused; matches = tie.1.matches; fair = tie.1.fair; marks = tie.1.marks },
   refl,
 )
 
@@ -111,5 +113,6 @@ stages first p s t page l puts tie =
         none_refused = puts.broken ∙ tie.1.none_refused;
         matches = subst (λ (log : Log). Matches Driver first (ends_of_state t) log) (sym last) matches;
         fair = subst (λ (log : Log). IsFairLog Driver log) (sym last) fair;
+        marks = subst MarksResets (sym last) tie.1.marks;
       },
     )

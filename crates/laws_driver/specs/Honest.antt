@@ -9,6 +9,7 @@ use Rattle.vs_page.specs.{Fair.IsFairLog, Log.Driver, Open.is_open}
 use Rattle.vs_replies.specs.declared.Reply.{Reply}
 use Rattle.vs_ring_port.specs.{Contents.RingContents, EndLog.EndLog}
 use Rattle.laws_tables.specs.{Ends.Ends, Ends.entries_of, Ends.is_among, Ends.replied, Matches.Matches}
+use Rattle.laws_driver.specs.Resets.{MarksResets}
 use Rattle.vs_driver_parts.specs.{Held.HeldSlots, Room.HasRoom, State.DriverConnection, State.DriverEntry, State.DriverState}
 
 -- The driver's connections, the replies that it owes, its next port, and the guest's CID. It keeps no flow to be used again.
@@ -60,13 +61,14 @@ abbrev pub IsFitState : DriverState → Type 0
 IsFitState s = IsFit s.cid s.next_port s.next_id s.table s.replies
 
 -- The driver and its log, where this was the guest's CID at first: no page is left unpublished, no packet was refused, each connection is
--- the one that the log left, and the log is fair.
+-- the one that the log left, the log is fair, and each reset of the transport that the driver was told of has its Mark.
 pub record AgreesWith (first : ℕ) (s : DriverState) (l : EndLog) : Type 0 where
   pub fits : IsFitState s
   pub published : l.staged.tx ≡ []
   pub none_refused : s.broken ≡ 0
   pub matches : Matches Driver first (ends_of_state s) l.entries
   pub fair : IsFairLog Driver l.entries
+  pub marks : MarksResets l.entries
 
 -- The same where the ring is honest and tells the log. Of any other ring nothing is said.
 abbrev pub IsHonestWith : ℕ → DriverState → RingContents → Type 0

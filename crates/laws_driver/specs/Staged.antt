@@ -5,13 +5,14 @@ use Rattle.vs_ring_port.specs.{Contents.RingContents, EndLog.EndLog, EndLog.all_
 use Rattle.vs_ring_port.specs.declared.queue.Queue.TheVariants.{Tx}
 use Rattle.laws_tables.specs.{Ends.Ends, Matches.Matches}
 use Rattle.vs_driver_parts.specs.State.{DriverState}
-use Rattle.laws_driver.specs.Honest.{IsFitState, IsHonestWith, ends_of_state}
+use Rattle.laws_driver.specs.{Honest.IsFitState, Honest.IsHonestWith, Honest.ends_of_state, Resets.MarksResets}
 
 -- The driver's connections are those that the log leaves with the packets that are staged, and it is fair with them.
 pub record IsLeft (first broken : ℕ) (part : Ends) (staged : List (List ℕ)) (entries : Log) : Type 0 where
   pub none_refused : broken ≡ 0
   pub matches : Matches Driver first part (all_put staged entries)
   pub fair : IsFairLog Driver (all_put staged entries)
+  pub marks : MarksResets (all_put staged entries)
 
 abbrev pub IsTied : ℕ → DriverState → EndLog → Type 0
 IsTied first s l = IsFitState s × IsLeft first s.broken (ends_of_state s) l.staged.tx l.entries

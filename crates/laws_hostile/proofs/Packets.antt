@@ -1,80 +1,100 @@
--- Each packet that the device read in a run was judged.
-use Rattle.std.proofs.Common.{◌&&◌, nat_le, Bool, true, false, cond, List, [], ◌∷◌, subst}
+-- The packets that the device took in a run were judged, and what its counts come to.
+use Rattle.std.proofs.Common.{◌≡◌, ◌&&◌, nat_le, Bool, true, false, cond, List, [], ◌∷◌, refl, subst}
 use Rattle.vs_limits.specs.declared.TheConstants.{GUEST_CID_MIN, GUEST_CID_MAX}
-use Rattle.vs_contents.specs.CallTree.{Leads}
+use Rattle.vs_contents.specs.CallTree.{Leads, played}
 use Rattle.vs_ring_plain.specs.Device.{DeviceState}
 use Rattle.vs_device_parts.specs.Calls.{DeviceTree}
-use Rattle.vs_hostile.specs.{Answer.state_after, Answers.Around, Run.Done, Run.GuestState, Run.HasMemory, Run.HasRings, Run.HasTurned}
-use Rattle.vs_hostile.specs.Run.{HostileState, Nothing, Said, WasReset, hostile_does, line_in, outside_does, over, over_rings}
+use Rattle.vs_hostile.specs.{Answer.state_after, Answers.Around, Answers.answer_around, Run.Done, Run.GuestState, Run.HasMemory}
+use Rattle.vs_hostile.specs.Run.{HasRings, HostileState, Nothing, WasReset, hostile_does, line_in, over}
 use Rattle.vs_proxy_parts.specs.{State.ProxyState, Turns.proxy_reset_of, Turns.turn_of}
-use Rattle.laws_proxy_bytes.specs.{Made.Made, Made.Makes, Made.account_of, Packets.AreJudged, Tied.AccountsFor, Told.Shows}
-use Rattle.laws_proxy_bytes.proofs.{Keeping.Keeps, Turning.keeps_proxy_reset, Turning.keeps_turn, Packets.joined, Packets.nothing_judged}
-use Rattle.laws_proxy_bytes.proofs.Packets.{reset_is_judged, turn_is_judged}
+use Rattle.laws_proxy_bytes.specs.{Counts.DeviceCounts, Counts.counts_of, Counts.counts_shown, Made.Made, Made.Makes, Made.account_of}
+use Rattle.laws_proxy_bytes.specs.{Packets.chains_taken, Tied.AccountsFor, Told.Shows}
+use Rattle.laws_proxy_bytes.proofs.{Keeping.Keeps, Packets.reset_counts, Packets.reset_takes_none, Packets.turn_counts}
+use Rattle.laws_proxy_bytes.proofs.{Packets.turn_is_judged, Turning.keeps_proxy_reset, Turning.keeps_turn}
 use Rattle.vs_script.specs.Hostile.{Hostile, Write, WriteDesc, Give, Index, Packet, Before, Look}
 use Rattle.vs_script.specs.Outside.{Client, OfHost, Outside, Reset, Tick}
-use Rattle.laws_hostile.specs.Recorded.{calls_of, made_in, made_over, outside_made, recorded}
+use Rattle.laws_hostile.specs.{Isolated.AreLinesJudged, Isolated.IsLineJudged, Recorded.calls_of, Recorded.made_in, Recorded.recorded}
 use Rattle.laws_hostile.proofs.{Lines.Holds, Lines.line_holds, Steps.played_makes, Steps.played_same}
 use Rattle.vs_script.specs.Hostile.{Memory as SetMemory}
 use Rattle.vs_script.specs.Hostile.{Rings as SetRings}
 use Rattle.vs_script.specs.Hostile.{Around as OfOutside}
 use Rattle.vs_script.specs.Outside.{Turn as TakeTurn}
 
-over_judged : {A : Type 0} (tree : DeviceTree (ProxyState × A)) (said : A → Said) (ring : DeviceState) (s : HostileState) (calls : List Made)
+-- What a conversation was played to, its calls led to.
+over_leads : {A : Type 0} (tree : DeviceTree (ProxyState × A)) (ring : DeviceState) (s : HostileState) (calls : List Made)
     → Keeps (λ x later. AccountsFor x.0 later) tree calls → Shows (account_of calls) s.host
-    → ((later : List Made) (x : ProxyState × A) → Leads Makes tree calls x later → AreJudged s.proxy.device calls x.0.device later)
-    → AreJudged s.proxy.device calls (over tree said ring s).0.proxy.device (recorded tree ring s.host calls)
-over_judged {A} tree said ring s calls keeps shows judges =
+    → Leads Makes tree calls (played answer_around tree (record { ring = ring; host = s.host })).0 (recorded tree ring s.host calls)
+over_leads {A} tree ring s calls keeps shows =
     let around : Around = record { ring = ring; host = s.host } in
-    let leads = played_makes (λ x later. AccountsFor x.0 later) tree around calls keeps shows in
-    subst (λ (x : ProxyState × A). AreJudged s.proxy.device calls x.0.device (recorded tree ring s.host calls))
-    (played_same tree around calls).end (judges _ _ leads)
+    subst (λ (x : ProxyState × A). Leads Makes tree calls x (recorded tree ring s.host calls)) (played_same tree around calls).end
+    (played_makes (λ x later. AccountsFor x.0 later) tree around calls keeps shows)
 
-outside_judged : (line : Outside) (ring : DeviceState) (s : HostileState) (calls : List Made) → Holds s calls
-    → AreJudged s.proxy.device calls (outside_does line ring s).0.proxy.device (outside_made line ring s calls)
-outside_judged TakeTurn ring s calls holds =
-    over_judged (turn_of ring.size s.now s.proxy) (λ t. HasTurned t) ring s calls
-    (keeps_turn ring.size s.now s.proxy calls holds.accounts) holds.shows
-    (λ later x leads. turn_is_judged ring.size s.now s.proxy calls later x leads)
-outside_judged (Reset cid) ring s calls holds = by (nat_le GUEST_CID_MIN cid && nat_le cid GUEST_CID_MAX)
+-- A line: its packets are judged, and the counts go on.
+abbrev Goes : GuestState → Hostile → HostileState → List Made → Type 0
+Goes guest line s calls =
+    IsLineJudged guest line s calls × ((first : DeviceCounts) → counts_shown s.proxy.device ≡ counts_of first calls
+    → counts_shown (line_in guest line s).0.proxy.device ≡ counts_of first (made_in guest line s calls))
+
+outside_goes : (line : Outside) (ring : DeviceState) (s : HostileState) (calls : List Made) → Holds s calls
+    → Goes (HasRings ring) (OfOutside line) s calls
+outside_goes TakeTurn ring s calls holds =
+    let tree = turn_of ring.size s.now s.proxy in
+    let x = (played answer_around tree (record { ring = ring; host = s.host })).0 in
+    let later = recorded tree ring s.host calls in
+    let leads = over_leads tree ring s calls (keeps_turn ring.size s.now s.proxy calls holds.accounts) holds.shows in (
+      (x.1, refl, turn_is_judged ring.size s.now s.proxy calls later x leads),
+      λ first. turn_counts ring.size s.now s.proxy calls later x first leads,
+    )
+outside_goes (Reset cid) ring s calls holds = by (nat_le GUEST_CID_MIN cid && nat_le cid GUEST_CID_MAX)
   where
-    by : (b : Bool) → AreJudged s.proxy.device calls
-        (cond b (over (proxy_reset_of cid s.proxy) (λ r. WasReset r) ring s) (s, Done)).0.proxy.device
-        (cond b (recorded (proxy_reset_of cid s.proxy) ring s.host calls) calls)
+    by : (b : Bool) → (chains_taken (cond b (recorded (proxy_reset_of cid s.proxy) ring s.host calls) calls) ≡ chains_taken calls)
+        × ((first : DeviceCounts) → counts_shown s.proxy.device ≡ counts_of first calls
+        → counts_shown (cond b (over (proxy_reset_of cid s.proxy) (λ r. WasReset r) ring s) (s, Done)).0.proxy.device
+        ≡ counts_of first (cond b (recorded (proxy_reset_of cid s.proxy) ring s.host calls) calls))
     by true =
-        over_judged (proxy_reset_of cid s.proxy) (λ r. WasReset r) ring s calls (keeps_proxy_reset cid s.proxy calls holds.accounts)
-        holds.shows (λ later x leads. reset_is_judged cid s.proxy calls later x leads)
-    by false = nothing_judged s.proxy.device calls
-outside_judged (Tick ms) ring s calls holds = nothing_judged s.proxy.device calls
-outside_judged Client ring s calls holds = nothing_judged s.proxy.device calls
-outside_judged (OfHost line) ring s calls holds = nothing_judged s.proxy.device calls
+        let tree = proxy_reset_of cid s.proxy in
+        let x = (played answer_around tree (record { ring = ring; host = s.host })).0 in
+        let later = recorded tree ring s.host calls in
+        let leads = over_leads tree ring s calls (keeps_proxy_reset cid s.proxy calls holds.accounts) holds.shows in (
+          reset_takes_none cid s.proxy calls later x leads,
+          λ first. reset_counts cid s.proxy calls later x first leads,
+        )
+    by false = (refl, λ first is. is)
+outside_goes (Tick ms) ring s calls holds = (refl, λ first is. is)
+outside_goes Client ring s calls holds = (refl, λ first is. is)
+outside_goes (OfHost line) ring s calls holds = (refl, λ first is. is)
 
-rings_judged : (line : Hostile) (ring : DeviceState) (s : HostileState) (calls : List Made) → Holds s calls
-    → AreJudged s.proxy.device calls (over_rings line ring s).0.proxy.device (made_over line ring s calls)
-rings_judged (SetMemory memory) ring s calls holds = nothing_judged s.proxy.device calls
-rings_judged (SetRings n) ring s calls holds = nothing_judged s.proxy.device calls
-rings_judged (Write addr bytes) ring s calls holds = nothing_judged s.proxy.device calls
-rings_judged (WriteDesc queue number desc) ring s calls holds = nothing_judged s.proxy.device calls
-rings_judged (Give queue place head) ring s calls holds = nothing_judged s.proxy.device calls
-rings_judged (Index queue value) ring s calls holds = nothing_judged s.proxy.device calls
-rings_judged (Packet addr header bytes) ring s calls holds = nothing_judged s.proxy.device calls
-rings_judged (Before nth addr bytes) ring s calls holds = nothing_judged s.proxy.device calls
-rings_judged (Look addr len) ring s calls holds = nothing_judged s.proxy.device calls
-rings_judged (OfOutside line) ring s calls holds = outside_judged line ring s calls holds
+rings_go : (line : Hostile) (ring : DeviceState) (s : HostileState) (calls : List Made) → Holds s calls → Goes (HasRings ring) line s calls
+rings_go (SetMemory memory) ring s calls holds = (refl, λ first is. is)
+rings_go (SetRings n) ring s calls holds = (refl, λ first is. is)
+rings_go (Write addr bytes) ring s calls holds = (refl, λ first is. is)
+rings_go (WriteDesc queue number desc) ring s calls holds = (refl, λ first is. is)
+rings_go (Give queue place head) ring s calls holds = (refl, λ first is. is)
+rings_go (Index queue value) ring s calls holds = (refl, λ first is. is)
+rings_go (Packet addr header bytes) ring s calls holds = (refl, λ first is. is)
+rings_go (Before nth addr bytes) ring s calls holds = (refl, λ first is. is)
+rings_go (Look addr len) ring s calls holds = (refl, λ first is. is)
+rings_go (OfOutside line) ring s calls holds = outside_goes line ring s calls holds
 
-line_judged : (line : Hostile) (s : HostileState) (calls : List Made) → Holds s calls
-    → AreJudged s.proxy.device calls (hostile_does line s).0.proxy.device (made_in s.guest line s calls)
-line_judged line s calls holds = by s.guest
+line_goes : (line : Hostile) (s : HostileState) (calls : List Made) → Holds s calls → Goes s.guest line s calls
+line_goes line s calls holds = by s.guest
   where
-    by : (guest : GuestState) → AreJudged s.proxy.device calls (line_in guest line s).0.proxy.device (made_in guest line s calls)
-    by Nothing = nothing_judged s.proxy.device calls
-    by (HasMemory memory) = nothing_judged s.proxy.device calls
-    by (HasRings ring) = rings_judged line ring s calls holds
+    by : (guest : GuestState) → Goes guest line s calls
+    by Nothing = (refl, λ first is. is)
+    by (HasMemory memory) = (refl, λ first is. is)
+    by (HasRings ring) = rings_go line ring s calls holds
 
-pub lines_judged : (lines : List Hostile) (s : HostileState) (calls : List Made) → Holds s calls
-    → AreJudged s.proxy.device calls (state_after lines s).proxy.device (calls_of lines s calls)
-lines_judged [] s calls holds = nothing_judged s.proxy.device calls
-lines_judged (line ∷ lines) s calls holds =
-    let next : HostileState = (hostile_does line s).0 in
-    let made : List Made = made_in s.guest line s calls in
-    joined s.proxy.device next.proxy.device (state_after lines next).proxy.device calls made (calls_of lines next made)
-    (line_judged line s calls holds) (lines_judged lines next made (line_holds line s calls holds))
+pub lines_judged : (lines : List Hostile) (s : HostileState) (calls : List Made) → Holds s calls → AreLinesJudged lines s calls
+lines_judged [] s calls holds = tt
+lines_judged (line ∷ lines) s calls holds = (
+  (line_goes line s calls holds).0,
+  lines_judged lines (hostile_does line s).0 (made_in s.guest line s calls) (line_holds line s calls holds),
+)
+
+pub lines_counted : (first : DeviceCounts) (lines : List Hostile) (s : HostileState) (calls : List Made) → Holds s calls
+    → counts_shown s.proxy.device ≡ counts_of first calls
+    → counts_shown (state_after lines s).proxy.device ≡ counts_of first (calls_of lines s calls)
+lines_counted first [] s calls holds is = is
+lines_counted first (line ∷ lines) s calls holds is =
+    lines_counted first lines (hostile_does line s).0 (made_in s.guest line s calls) (line_holds line s calls holds)
+    ((line_goes line s calls holds).1 first is)

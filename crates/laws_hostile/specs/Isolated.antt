@@ -1,5 +1,5 @@
 -- What a hostile guest can't do: what a stream of the host may be given, what is put on a flow, and what a failed device does.
-use Rattle.std.specs.Prelude.{◌≡◌, ℕ, ◌≤◌, ◌++◌, List, [], Option, Some, None, Err}
+use Rattle.std.specs.Prelude.{◌≡◌, ℕ, ◌≤◌, ◌++◌, List, [], ◌∷◌, Option, Some, None, Err}
 use Rattle.std.specs.Option.{option_map_or, option_and_then}
 use Rattle.vs_limits.specs.declared.TheConstants.{GUEST_CID_MIN, GUEST_CID_MAX}
 use Rattle.vs_flow.specs.declared.flow.Flow.{Flow}
@@ -7,12 +7,13 @@ use Rattle.vs_outside.specs.{Host.Stream, Host.stream_at, HostBytes.read_after_o
 use Rattle.vs_page.specs.Fair.{IsPrefixOf}
 use Rattle.vs_ring_plain.specs.Device.{DeviceState}
 use Rattle.vs_ring_port.specs.declared.failure.Failure.{Failure}
-use Rattle.vs_proxy_parts.specs.declared.answers.Turn.TheVariants.{Failed}
-use Rattle.laws_proxy_bytes.specs.{Carried.Carries, Made.Made, Made.account_of, Packets.AreJudged, Tied.ok_line_of}
+use Rattle.vs_proxy_parts.specs.declared.answers.Turn.{Turn as Turning, TheVariants.Failed}
+use Rattle.laws_proxy_bytes.specs.{Carried.Carries, Counts.counts_of, Counts.counts_shown, Made.Made, Made.account_of, Packets.AreJudged}
+use Rattle.laws_proxy_bytes.specs.{Packets.chains_taken, Tied.ok_line_of}
 use Rattle.vs_script.specs.{Hostile.Around, Hostile.Hostile, Outside.Reset, Outside.Turn}
-use Rattle.vs_hostile.specs.Run.{HasRings, HasTurned, HostileState, WasReset, beginning, hostile_does}
+use Rattle.vs_hostile.specs.Run.{GuestState, HasRings, HasTurned, HostileState, WasReset, beginning, hostile_does, line_in}
 use Rattle.vs_hostile.specs.Answer.{state_after}
-use Rattle.laws_hostile.specs.Recorded.{calls_of}
+use Rattle.laws_hostile.specs.Recorded.{calls_of, made_in}
 
 -- The payloads delivered on the connection of a stream, joined: those of packets of its flow, read while it had its label and wasn't
 -- closed.
@@ -47,6 +48,20 @@ pub record StaysFailed (s : HostileState) (f : Failure) : Type 0 where
   pub turn : hostile_does (Around Turn) s ≡ (s, HasTurned (Failed f))
   pub reset : (cid : ℕ) → GUEST_CID_MIN ≤ cid → cid ≤ GUEST_CID_MAX → hostile_does (Around (Reset cid)) s ≡ (s, WasReset (Err f))
 
+-- A turn takes the guest's packets and judges each; no other line takes a chain of tx.
+abbrev pub IsLineJudged : GuestState → Hostile → HostileState → List Made → Type 0
+IsLineJudged (HasRings ring) (Around Turn) s calls =
+    (answer : Turning) × ((line_in (HasRings ring) (Around Turn) s).1 ≡ HasTurned answer)
+    × AreJudged ring.size s.now s.proxy calls ((line_in (HasRings ring) (Around Turn) s).0.proxy, answer)
+    (made_in (HasRings ring) (Around Turn) s calls)
+IsLineJudged guest line s calls = chains_taken (made_in guest line s calls) ≡ chains_taken calls
+
+-- Line after line, each from where the one before it led.
+abbrev pub AreLinesJudged : List Hostile → HostileState → List Made → Type 0
+AreLinesJudged [] s calls = Unit {0}
+AreLinesJudged (line ∷ lines) s calls =
+    IsLineJudged s.guest line s calls × AreLinesJudged lines (hostile_does line s).0 (made_in s.guest line s calls)
+
 -- What lines of a hostile guest's script lead to, with the calls that the proxy made by then.
 pub record IsSafe (lines : List Hostile) : Type 0 where
   -- Each stream has what is its own, and no other.
@@ -54,8 +69,11 @@ pub record IsSafe (lines : List Hostile) : Type 0 where
       → IsIsolated id s (calls_of lines beginning [])
   -- What was carried: no two streams have one connection, and what is put on a flow is what was taken of its streams, in order.
   pub carried : Carries (calls_of lines beginning []) (state_after lines beginning).proxy.device.table
-  -- Each packet that the device read was judged: an invalid one got RST, was dropped and counted, or was the device's failure.
-  pub packets : AreJudged beginning.proxy.device [] (state_after lines beginning).proxy.device (calls_of lines beginning [])
+  -- Each chain that the device took was read and judged: an invalid packet got RST, was dropped and counted, or was the device's failure.
+  pub packets : AreLinesJudged lines beginning []
+  -- Packets dropped and faults are counted as the calls made say: so many headers from a wrong CID were read, so many calls failed.
+  pub counts : counts_shown (state_after lines beginning).proxy.device
+      ≡ counts_of (counts_shown beginning.proxy.device) (calls_of lines beginning [])
   -- A failure is kept.
   pub kept : (ring : DeviceState) (f : Failure) → (state_after lines beginning).guest ≡ HasRings ring
       → (state_after lines beginning).proxy.device.failed ≡ Some f → StaysFailed (state_after lines beginning) f

@@ -13,11 +13,11 @@ use Rattle.vs_device_parts.specs.{State.DeviceState, Streams.closing, Streams.le
 use Rattle.vs_conn.specs.End.{aborted}
 use Rattle.vs_proxy_parts.specs.State.{Handshake}
 use Rattle.laws_bytes.proofs.Changes.{changed, others_left}
-use Rattle.laws_proxy_bytes.specs.{Made.Account, Made.Made, Made.account_of, Made.payload_put, Made.payload_taken, Made.shut, Tied.Agree}
-use Rattle.laws_proxy_bytes.specs.Tied.{AgreesWith, IsLawful, IsOver, IsTied, IsTiedTo}
+use Rattle.laws_proxy_bytes.specs.{Made.Account, Made.Made, Made.account_of, Made.made, Made.payload_put, Made.payload_taken, Made.shut}
+use Rattle.laws_proxy_bytes.specs.Tied.{Agree, AgreesWith, IsLawful, IsOver, IsTied, IsTiedTo}
 use Rattle.laws_proxy_bytes.proofs.{Accounts.Changes, Accounts.changes, Accounts.changing, Accounts.stays, Entries.given_of}
 use Rattle.laws_proxy_bytes.proofs.{Entries.given_shut, Entries.join_of, Entries.left, Entries.moved, Keeping.Keeps, Keeping.keeps_each}
-use Rattle.laws_proxy_bytes.proofs.{Keeping.keeps_then, Keeping.made, Ties.closed_before, Ties.closes}
+use Rattle.laws_proxy_bytes.proofs.{Keeping.keeps_then, Ties.closed_before, Ties.closes}
 
 pub there_under : (t : Table DeviceConnection) (slot : ℕ) (e : DeviceEntry) → entry_under t slot ≡ Some e → Contains t.entries e
 there_under t slot e found = (found_by (λ (x : DeviceEntry). x.slot == slot) t.entries e found).0

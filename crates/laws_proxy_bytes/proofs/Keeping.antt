@@ -4,10 +4,8 @@ use Rattle.vs_contents.specs.CallTree.{Done, Ask, bind, for_each, while_up_to, L
 use Rattle.vs_limits.specs.declared.TheConstants.{ASSIGNED_LAST}
 use Rattle.vs_device_parts.specs.Calls.{Call, Answer, DeviceTree, Ring, Accept, Dial, Label, ReadStream, WriteStream, ShutWrite}
 use Rattle.vs_device_parts.specs.Calls.{CloseStream}
-use Rattle.laws_proxy_bytes.specs.{Made.Account, Made.Made, Made.MayGet, Made.Makes, Made.account_of, Tied.IsWhole, Tied.reading_account}
-
-abbrev pub made : (call : Call) → Answer call → Made
-made call answer = record { call = call; answer = answer }
+use Rattle.laws_proxy_bytes.specs.{Made.Account, Made.Made, Made.MayGet, Made.Makes, Made.account_of, Made.made, Tied.IsWhole}
+use Rattle.laws_proxy_bytes.specs.Tied.{reading_account}
 
 -- A stream that is read or written to is one that was given. One that is labelled is a client's whose line is whole; its port is assigned,
 -- or below.

@@ -13,5 +13,6 @@ pub mod Judging
 pub mod Shown
 pub mod Carrying
 pub mod Telling
+pub mod Walks
 pub mod Quiet
 pub mod Packets

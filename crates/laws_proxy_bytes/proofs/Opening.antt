@@ -15,12 +15,12 @@ use Rattle.vs_device_parts.specs.Connections.{new_connection, stream_closed, wit
 use Rattle.vs_device_parts.specs.Calls.{CloseStream, DeviceTree, Label, Ring}
 use Rattle.vs_device_parts.specs.Turns.{after_reset, close_slot, open_of, reset_of}
 use Rattle.vs_proxy_parts.specs.State.{Handshake}
-use Rattle.laws_proxy_bytes.specs.Made.{Account, Made, account_of, labelled, payload_put, payload_taken, shut}
+use Rattle.laws_proxy_bytes.specs.Made.{Account, Made, account_of, labelled, made, payload_put, payload_taken, shut}
 use Rattle.laws_proxy_bytes.specs.Tied.{Agree, IsLawful, IsOver, IsTied, IsTiedTo, IsWhole, reading_account}
 use Rattle.vs_uds.specs.{Reading.is_decided, declared.connect.TheConstants.CONNECT_MAX}
 use Rattle.laws_proxy_bytes.proofs.{Accounts.Changes, Accounts.changes, Accounts.changing, Accounts.stays, Closing.Has}
 use Rattle.laws_proxy_bytes.proofs.Entries.{added, given_shut, hands_changed, one_account}
-use Rattle.laws_proxy_bytes.proofs.Keeping.{Keeps, keeps_each, keeps_then, keeps_weaker, made}
+use Rattle.laws_proxy_bytes.proofs.Keeping.{Keeps, keeps_each, keeps_then, keeps_weaker}
 use Rattle.laws_device_streams.proofs.Opening.{empty_sound}
 use Rattle.vs_header.specs.declared.Kind.TheVariants.{Stream}
 

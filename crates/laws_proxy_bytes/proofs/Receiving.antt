@@ -28,12 +28,12 @@ use Rattle.vs_device_parts.specs.Receiving.{read_stream, read_with_chain, reply_
 use Rattle.vs_device_parts.specs.{State.DeviceConnection, State.DeviceEntry, State.DeviceState, Streams.closing}
 use Rattle.laws_device_streams.proofs.{Ends.shut_over, Receiving.holding_table}
 use Rattle.vs_proxy_parts.specs.State.{Handshake}
-use Rattle.laws_proxy_bytes.specs.Made.{Account, Made, account_of, is_for, is_of, payload_put, payload_taken, ports_of, with_taken}
+use Rattle.laws_proxy_bytes.specs.Made.{Account, Made, account_of, is_for, is_of, made, payload_put, payload_taken, ports_of, with_taken}
 use Rattle.laws_proxy_bytes.specs.Tied.{Agree, AgreesWith, IsTied, reading_account}
 use Rattle.laws_proxy_bytes.proofs.Closing.{Has, agree_same, join, keeps_cut_off, keeps_leaving, over_there, there_under}
 use Rattle.laws_proxy_bytes.proofs.{Accounts.Changes, Accounts.changes, Accounts.changing, Accounts.stays, Entries.hand_other}
 use Rattle.laws_proxy_bytes.proofs.{Entries.taken_tied, Keeping.Keeps, Keeping.keeps_each, Keeping.keeps_then, Keeping.keeps_while}
-use Rattle.laws_proxy_bytes.proofs.{Keeping.made, Ties.end_changes, Ties.shuts}
+use Rattle.laws_proxy_bytes.proofs.{Ties.end_changes, Ties.shuts}
 
 module _ (hands : List Handshake) where
   -- A connection has another end, and nothing else of it changes.

@@ -18,11 +18,11 @@ use Rattle.vs_proxy_parts.specs.Handshakes.{accept_answered, accept_one, byte_re
 use Rattle.vs_proxy_parts.specs.Handshakes.{may_open, opening, read_byte, read_line, shake_hands, streams_of, tick_handshake}
 use Rattle.vs_proxy_parts.specs.Handshakes.{tick_handshakes, with_line, without_handshake, without_stream}
 use Rattle.vs_proxy_parts.specs.State.{Handshake, ProxyState, Turning, with_device}
-use Rattle.laws_proxy_bytes.specs.Made.{Account, Made, MayGet, account_of, is_of, new_account, payload_put, payload_taken, shut, with_taken}
-use Rattle.laws_proxy_bytes.specs.Tied.{AccountsFor, AgreesWith, IsWhole, reading_account}
+use Rattle.laws_proxy_bytes.specs.Made.{Account, Made, MayGet, account_of, is_of, made, new_account, payload_put, payload_taken, shut}
+use Rattle.laws_proxy_bytes.specs.{Made.with_taken, Tied.AccountsFor, Tied.AgreesWith, Tied.IsWhole, Tied.reading_account}
 use Rattle.laws_proxy_bytes.proofs.{Accounts.Changes, Accounts.changes, Accounts.comes, Closing.Has, Entries.hands_changed}
 use Rattle.laws_proxy_bytes.proofs.{Entries.taken_tied, Entries.waiting_kept, Keeping.Keeps, Keeping.keeps_each, Keeping.keeps_then}
-use Rattle.laws_proxy_bytes.proofs.{Keeping.keeps_while, Keeping.made, Opening.keeps_open, Opening.waits_unlabelled}
+use Rattle.laws_proxy_bytes.proofs.{Keeping.keeps_while, Opening.keeps_open, Opening.waits_unlabelled}
 use Rattle.vs_outside.specs.declared.host_net.Accepted.TheVariants as accepted
 use Rattle.vs_outside.specs.declared.host_net.StreamRead.TheVariants as read
 use Rattle.vs_uds.specs.declared.scan.Step.TheVariants as step

@@ -17,10 +17,11 @@ use Rattle.vs_ring_port.specs.Contents.{DeviceAnswer, DeviceCall, Take, Read, Wr
 use Rattle.vs_device_parts.specs.{Playing.Runs, State.DeviceConnection, Calls.Answer, Calls.Call, Calls.DeviceTree, Calls.Ring}
 use Rattle.vs_device_parts.specs.Calls.{Accept, Dial, Label, ReadStream, WriteStream, ShutWrite, CloseStream, Allows, IsReadOf, Situation}
 use Rattle.vs_device_parts.specs.Calls.{TakesWithin}
-use Rattle.laws_proxy_bytes.specs.Made.{Account, Made, MayGet, account_of, delivering, header_in, labelled, new_account, shut, with_given}
+use Rattle.laws_proxy_bytes.specs.Made.{Account, Made, MayGet, account_of, delivering, header_in, labelled, made, new_account, shut}
+use Rattle.laws_proxy_bytes.specs.Made.{with_given}
 use Rattle.laws_proxy_bytes.specs.{Made.took, Made.with_taken, Tied.IsRead, Tied.IsWhole, Tied.reading_account, Tied.AgreesWith}
 use Rattle.laws_proxy_bytes.specs.Told.{AreAccounted, Shows, ShowsAt, ShowsIn, StayAccounted}
-use Rattle.laws_proxy_bytes.proofs.{Carrying.carries, Keeping.Asks, Keeping.Keeps, Keeping.keeps_answer, Keeping.made, Shown.change_shows}
+use Rattle.laws_proxy_bytes.proofs.{Carrying.carries, Keeping.Asks, Keeping.Keeps, Keeping.keeps_answer, Shown.change_shows}
 use Rattle.laws_proxy_bytes.proofs.Shown.{delivers_same, new_shows, none_there, read_same, same_seen, unseen_shows}
 use Rattle.laws_proxy_bytes.proofs.Accounts.{Changes, changes, changing, comes, differs, self_is}
 use Rattle.vs_proxy_parts.specs.State.{Handshake}

@@ -28,9 +28,10 @@ use Rattle.vs_device_parts.specs.Transmitting.{failing, heard, on_header, on_kno
 use Rattle.vs_device_parts.specs.{Transmitting.try_request, Transmitting.unknown_why, Connections.new_connection}
 use Rattle.vs_device_parts.specs.Connections.{with_connection, with_reply}
 use Rattle.vs_proxy_parts.specs.State.{Handshake}
-use Rattle.laws_proxy_bytes.specs.Made.{Account, Made, MayGet, account_of, delivering, header_in, new_account, payload_put, payload_taken}
+use Rattle.laws_proxy_bytes.specs.Made.{Account, Made, MayGet, account_of, delivering, header_in, made, new_account, payload_put}
+use Rattle.laws_proxy_bytes.specs.Made.{payload_taken}
 use Rattle.laws_proxy_bytes.specs.{Made.with_delivery, Tied.Agree, Tied.IsOver, Tied.IsTied, Tied.IsTiedTo, Tied.ok_line_of, Tied.stream_of}
-use Rattle.laws_proxy_bytes.proofs.{Entries.added, Entries.waiting_kept, Keeping.Keeps, Keeping.keeps_then, Keeping.made, Accounts.Changes}
+use Rattle.laws_proxy_bytes.proofs.{Entries.added, Entries.waiting_kept, Keeping.Keeps, Keeping.keeps_then, Accounts.Changes}
 use Rattle.laws_proxy_bytes.proofs.{Accounts.comes, Accounts.is_delivered, Accounts.not_delivered, Accounts.self_is, Closing.Has}
 use Rattle.laws_proxy_bytes.proofs.Closing.{agree_moved, agree_same, join, keeps_leaving, over_there, there_of}
 use Rattle.laws_proxy_bytes.proofs.Ties.{answers, delivers, end_changes}

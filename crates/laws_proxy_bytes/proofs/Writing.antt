@@ -13,11 +13,11 @@ use Rattle.vs_device_parts.specs.Streams.{pump_slot, shut_write, to_write, write
 use Rattle.vs_device_parts.proofs.Under.{has_slot}
 use Rattle.laws_device_streams.proofs.Ends.{forwarded_over, shut_over}
 use Rattle.vs_proxy_parts.specs.State.{Handshake}
-use Rattle.laws_proxy_bytes.specs.Made.{Made, MayGet, account_of, payload_put, payload_taken, with_given}
+use Rattle.laws_proxy_bytes.specs.Made.{Made, MayGet, account_of, made, payload_put, payload_taken, with_given}
 use Rattle.laws_proxy_bytes.specs.Tied.{IsTied}
 use Rattle.laws_proxy_bytes.proofs.{Accounts.changes, Closing.Has, Closing.agree_moved, Closing.agree_same, Closing.join}
 use Rattle.laws_proxy_bytes.proofs.{Closing.keeps_cut_off, Closing.over_there, Closing.there_under, Keeping.Keeps, Keeping.keeps_each}
-use Rattle.laws_proxy_bytes.proofs.{Keeping.keeps_then, Keeping.made, Ties.end_changes, Ties.shuts, Ties.writes}
+use Rattle.laws_proxy_bytes.proofs.{Keeping.keeps_then, Ties.end_changes, Ties.shuts, Ties.writes}
 
 module _ (hands : List Handshake) where
   abbrev pub HasNow : Writing → List Made → Type 0

@@ -18,6 +18,9 @@ pub record Made : Type 0 where
   pub call : Call
   pub answer : Answer call
 
+abbrev pub made : (call : Call) → Answer call → Made
+made call answer = record { call = call; answer = answer }
+
 -- Of one stream: the flow that it is labelled with, whether a client of the host made it, whether the proxy closed it or the transport
 -- was reset; the bytes that it was given, and the payloads delivered on its connection; the bytes that were taken of it before it had a
 -- label, which are its client's line, and since.
@@ -147,4 +150,4 @@ MayGet call answer calls = Unit {0}
 
 -- One call more was made.
 abbrev pub Makes : (call : Call) → Answer call → List Made → List Made → Type 0
-Makes call answer calls later = MayGet call answer calls × (later ≡ record { call = call; answer = answer } ∷ calls)
+Makes call answer calls later = MayGet call answer calls × (later ≡ made call answer ∷ calls)

@@ -1,15 +1,14 @@
 -- What a call gives to the host's streams and takes of them, from the conversation that it ran: the calls made account for the streams,
 -- before it and after it.
 use Rattle.std.proofs.Common.{ℕ, Bool, List, [], Result}
-use Rattle.vs_contents.specs.CallTree.{Leads}
 use Rattle.vs_flow.specs.declared.{flow.Flow.Flow, table.TableFault.TableFault}
 use Rattle.vs_ring_port.specs.declared.failure.Failure.{Failure}
 use Rattle.vs_device_parts.specs.{Calls.Situation, Playing.Runs, Receiving.fill_rx_of, Receiving.pay_event_of, State.DeviceState}
 use Rattle.vs_device_parts.specs.{Streams.Writing, Streams.pump_of, Streams.tick_of, Transmitting.take_tx_of, Turns.open_of, Turns.reset_of}
 use Rattle.vs_device_parts.specs.declared.answers.{Filled.Filled, Taken.Taken}
 use Rattle.vs_proxy_parts.specs.State.{Handshake}
-use Rattle.laws_proxy_bytes.specs.{Judged.IsJudged, Made.Made, Made.Makes, Told.AreAccounted, Told.IsAsking, Told.StayAccounted}
-use Rattle.laws_proxy_bytes.proofs.{Closing.keeps_tick, Judging.take_tx_judged, Keeping.keeps_end, Opening.keeps_open}
+use Rattle.laws_proxy_bytes.specs.{Made.Made, Told.AreAccounted, Told.IsAsking, Told.StayAccounted}
+use Rattle.laws_proxy_bytes.proofs.{Closing.keeps_tick, Opening.keeps_open}
 use Rattle.laws_proxy_bytes.proofs.{Opening.keeps_reset_alone, Receiving.keeps_fill_rx, Receiving.keeps_pay_event, Telling.stay_accounted}
 use Rattle.laws_proxy_bytes.proofs.{Transmitting.keeps_take_tx, Writing.keeps_pump}
 
@@ -57,8 +56,3 @@ module _ (s : DeviceState) (a b : Situation) where
       stay_accounted (λ y. y.0.table) (λ y. hands) (open_of flow stream s) calls a b x s.table hands
       (keeps_open hands hands flow stream asking.line s calls asking.port asking.whole asking.waits was.accounts.tied.undecided
       was.accounts.tied.waiting asking.apart was.accounts.tied.apart was.accounts) was runs
-
--- What became of a packet, whatever ring and host answered.
-pub take_judged : (s t : DeviceState) (answer : Taken) (calls later : List Made) → Leads Makes (take_tx_of s) calls (t, answer) later
-    → IsJudged answer s t calls later
-take_judged s t answer calls later leads = keeps_end _ (take_tx_of s) calls later (t, answer) (take_tx_judged s calls) leads

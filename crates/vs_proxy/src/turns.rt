@@ -12,7 +12,8 @@ ghost use Rattle.laws_device.specs.Honest.{AgreesWith, IsLeftOpen};
 ghost use Rattle.laws_proxy.specs.{Honest.IsProxyWith, Order.IsInOrder};
 ghost use Rattle.vs_proxy_parts.specs.{Handshakes.streams_of, State.ProxyState, Turning.turning_of, Turns.close_handshake};
 ghost use Rattle.vs_proxy_parts.specs.Turns.{proxy_reset_of, turn_of, turned};
-ghost use Rattle.laws_proxy_bytes.specs.{Made.Made, Made.Makes, Packets.AreJudged, Told.AreAccounted, Told.StayAccounted};
+ghost use Rattle.laws_proxy_bytes.specs.{Counts.CountsFaults, Counts.DeviceCounts, Counts.counts_of, Counts.counts_shown, Made.Made};
+ghost use Rattle.laws_proxy_bytes.specs.{Made.Makes, Packets.AreJudged, Packets.chains_taken, Told.AreAccounted, Told.StayAccounted};
 ghost use Rattle.vs_proxy_parts.specs.declared.answers.Turn.TheVariants as turn;
 
 use crate::proxy::Proxy;
@@ -49,9 +50,14 @@ impl Proxy {
             → AreAccounted calls self.old.device.table self.old.handshakes (H.contents host.old)
             → StayAccounted (turn_of (R.size ring.old) now self.old) calls (self.new, result)
             self.new.device.table self.new.handshakes (H.contents host.new) }
-        // Each packet of the guest that was read was judged: an invalid one got RST, was dropped and counted, or is the ring's failure.
+        // Each chain of the guest was taken, read and judged in the transmit stage, one after the other: an invalid packet got RST, was dropped
+        // and counted, or is the ring's failure.
         ensures judged { (calls later : List Made) → Leads Makes (turn_of (R.size ring.old) now self.old) calls (self.new, result) later
-            → AreJudged self.old.device calls self.new.device later }
+            → AreJudged (R.size ring.old) now self.old calls (self.new, result) later }
+        // The counts of packets dropped and of faults are what the calls made come to, where they were before; the faults are the host's.
+        ensures counts { (calls later : List Made) → Leads Makes (turn_of (R.size ring.old) now self.old) calls (self.new, result) later
+            → (first : DeviceCounts) → counts_shown self.old.device ≡ counts_of first calls → counts_shown self.new.device ≡ counts_of first later }
+        ensures faults { CountsFaults self.old.device.faults (H.faults host.old) → CountsFaults self.new.device.faults (H.faults host.new) }
     {
         let size = ring.size();
         let before = self.device.counters();
@@ -118,6 +124,12 @@ impl Proxy {
             → AreAccounted calls self.old.device.table self.old.handshakes (H.contents host.old)
             → StayAccounted (proxy_reset_of cid self.old) calls (self.new, result)
             self.new.device.table self.new.handshakes (H.contents host.new) }
+        // No chain of the guest is taken. The counts are what the calls made come to, and the faults the host's, as before.
+        ensures none_taken { (calls later : List Made) → Leads Makes (proxy_reset_of cid self.old) calls (self.new, result) later
+            → chains_taken later ≡ chains_taken calls }
+        ensures counts { (calls later : List Made) → Leads Makes (proxy_reset_of cid self.old) calls (self.new, result) later
+            → (first : DeviceCounts) → counts_shown self.old.device ≡ counts_of first calls → counts_shown self.new.device ≡ counts_of first later }
+        ensures faults { CountsFaults self.old.device.faults (H.faults host.old) → CountsFaults self.new.device.faults (H.faults host.new) }
     {
         self.reset_all(ring, host, cid)
     }

@@ -4,7 +4,8 @@ use Rattle.vs_ring_port.specs.declared.queue.Queue.TheVariants.{Tx}
 use Rattle.vs_device_parts.specs.{Calls.Allows, Calls.Ring, State.DeviceState, Playing.MayRun, Playing.situation, Transmitting.on_next}
 use Rattle.vs_limits.specs.declared.TheConstants.{DEVICE_REPLIES}
 use Rattle.vs_device.proofs.{Takings.may_next, Takings.took_next, Takings.by_next, Ordered.take_honest, Ordered.take_streams}
-use Rattle.vs_device.proofs.Accounted.{take_accounted, take_judged}
+use Rattle.vs_device.proofs.Accounted.{take_accounted}
+use Rattle.laws_proxy_bytes.proofs.Judging.{take_judged}
 use Rattle.vs_ring_port.specs.declared.device_ring.Next.TheVariants as next
 use Rattle.vs_device_parts.specs.declared.answers.Taken.TheVariants as taken
 use Rattle.vs_device.proofs.device.Device.take_tx.Goals as goal
@@ -135,10 +136,10 @@ returns-in-Failed-clause-bytes g c =
     (returns-in-Failed-clause-calls g c)
 
 pub returns-in-Chain-clause-judged : goal.returns-in-Chain-clause-judged
-returns-in-Chain-clause-judged g c = take_judged c.args.self.now c.take_chain.new.self c.take_chain.result
+returns-in-Chain-clause-judged g c calls later = take_judged c.args.self.now calls later (c.take_chain.new.self, c.take_chain.result)
 
 pub returns-in-None-clause-judged : goal.returns-in-None-clause-judged
-returns-in-None-clause-judged g c = take_judged c.args.self.now c.args.self.now taken.None
+returns-in-None-clause-judged g c calls later = take_judged c.args.self.now calls later (c.args.self.now, taken.None)
 
 pub returns-in-Failed-clause-judged : goal.returns-in-Failed-clause-judged
-returns-in-Failed-clause-judged g c = take_judged c.args.self.now c.fail.new.self (taken.Failed c.in-Failed.failure)
+returns-in-Failed-clause-judged g c calls later = take_judged c.args.self.now calls later (c.fail.new.self, taken.Failed c.in-Failed.failure)

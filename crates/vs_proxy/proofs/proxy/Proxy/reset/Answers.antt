@@ -1,7 +1,7 @@
 use Rattle.std.proofs.Common.{arith}
 use Rattle.vs_device_parts.specs.Playing.{situation}
 use Rattle.laws_proxy.proofs.Ordered.{reset_honest, reset_may, reset_streams}
-use Rattle.laws_proxy_bytes.proofs.Turning.{reset_accounted}
+use Rattle.laws_proxy_bytes.proofs.{Packets.reset_counts, Packets.reset_faults, Packets.reset_takes_none, Turning.reset_accounted}
 use Rattle.vs_proxy.proofs.proxy.Proxy.reset.Goals as goal
 
 pub reset_all-requires-clause-may : goal.reset_all-requires-clause-may
@@ -30,3 +30,16 @@ returns-clause-bytes g c =
     let x = situation (g.R.DeviceRing.contents c.args.ring.now) (g.H.HostNet.contents c.args.host.now) (g.H.HostNet.faults c.args.host.now) in
     let z = situation (g.R.DeviceRing.contents c.reset_all.new.ring) (g.H.HostNet.contents c.reset_all.new.host) (g.H.HostNet.faults c.reset_all.new.host) in
     reset_accounted c.args.cid c.args.self.now x z (c.reset_all.new.self, c.reset_all.result) c.reset_all.ensures.calls
+
+pub returns-clause-none_taken : goal.returns-clause-none_taken
+returns-clause-none_taken g c calls later = reset_takes_none c.args.cid c.args.self.now calls later (c.reset_all.new.self, c.reset_all.result)
+
+pub returns-clause-counts : goal.returns-clause-counts
+returns-clause-counts g c calls later leads first =
+    reset_counts c.args.cid c.args.self.now calls later (c.reset_all.new.self, c.reset_all.result) first leads
+
+pub returns-clause-faults : goal.returns-clause-faults
+returns-clause-faults g c =
+    let x = situation (g.R.DeviceRing.contents c.args.ring.now) (g.H.HostNet.contents c.args.host.now) (g.H.HostNet.faults c.args.host.now) in
+    let z = situation (g.R.DeviceRing.contents c.reset_all.new.ring) (g.H.HostNet.contents c.reset_all.new.host) (g.H.HostNet.faults c.reset_all.new.host) in
+    reset_faults c.args.cid c.args.self.now x z (c.reset_all.new.self, c.reset_all.result) c.reset_all.ensures.calls
