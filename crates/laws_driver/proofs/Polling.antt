@@ -25,12 +25,12 @@ use Rattle.vs_driver_parts.specs.Receiving.{after_reset, is_reset_event, on_pack
 use Rattle.vs_driver_parts.specs.Playing.{BringsFit, RingAllows}
 use Rattle.vs_limits.specs.declared.TheConstants.{DRIVER_REPLIES_FULL}
 use Rattle.vs_driver_parts.proofs.Ids.{has_slot}
-use Rattle.laws_driver.specs.{Honest.IsFitState, Honest.ends_of_state, Honest.slots_of, Staged.IsLeft}
+use Rattle.laws_driver.specs.{Honest.IsFitState, Honest.ends_of_state, Staged.IsLeft}
 use Rattle.laws_driver.proofs.{Putting.owed_puts, Putting.reply_puts, Resetting.resets, Tabling.Stands, Taking.gets_packet, Keeping.Keeps}
 use Rattle.laws_driver.proofs.{Keeping.keeps_bind, Keeping.keeps_each, Keeping.keeps_weaker, Keeping.keeps_while, Staging.Rests}
 use Rattle.laws_driver.proofs.Staging.{SameBut, Ties, publish_other, publish_tx, reap_keeps, rests_tied, stage_other, stage_tx}
 use Rattle.laws_driver.proofs.Ringing.{IsAtRest, Tells, moves, tells_weaker}
-use Rattle.laws_driver.proofs.Carrying.{Carries, Fact, RestsWith}
+use Rattle.laws_driver.proofs.Carrying.{Carries, Fact, Holds, RestsWith}
 
 pub not_tx_rx : Rx ≡ Tx → ⊥
 not_tx_rx is = absurd cc
@@ -59,7 +59,7 @@ gets_with : (first : ℕ) (fact : Fact) → Carries first fact → (s : DriverSt
 gets_with first fact steps s page l ports rest fair = (gets_page first s page l ports rest.0 fair, by (packet_held page) refl fair)
   where
     by : (o : Option Packet) → packet_held page ≡ o → IsFairLog Driver (with_packet (λ p. GotPacket p) o l.entries)
-        → let t : DriverState = elim o [ None ↦ s | Some p ↦ on_packet p s ] in fact (slots_of t) (with_packet (λ p. GotPacket p) o l.entries)
+        → let t : DriverState = elim o [ None ↦ s | Some p ↦ on_packet p s ] in Holds fact t (with_packet (λ p. GotPacket p) o l.entries)
     by None is fair = rest.1
     by (Some p) is fair =
         steps.got p s l.entries rest.0.0 (ports p is) (packet_whole page p is).0 rest.0.1.matches rest.0.1.fair fair rest.1
@@ -110,16 +110,16 @@ event_with : (first : ℕ) (fact : Fact) → Carries first fact → (s : DriverS
 event_with first fact steps s page l rest fair =
     let e = gets_event first s page l rest.0 fair in ((e.0, by (event_held page)), e.1)
   where
-    by : (o : Option ℕ) → fact (slots_of s) (with_event (λ id. GotEvent id) o l.entries)
+    by : (o : Option ℕ) → Holds fact s (with_event (λ id. GotEvent id) o l.entries)
     by None = rest.1
-    by (Some id) = steps.event id (slots_of s) l.entries rest.1
+    by (Some id) = steps.event id s l.entries rest.1
 
 loads_with : (first : ℕ) (fact : Fact) → Carries first fact → (cid : ℕ) (s : DriverState) (l : EndLog) → cid < 2 ^ 64 → RestsWith first fact s l
     → HasPassed true l.entries → RestsWith first fact (after_reset cid s) (log_loaded cid l)
 loads_with first fact steps cid s l less rest has =
     let marked : entries_marked cid l.entries ≡ Mark cid ∷ l.entries = ap (entries_marked cid) has.2 ∙ ap (λ (log : Log). Mark cid ∷ log) (sym has.2) in (
       loads first cid s l less rest.0 has,
-      subst (λ (log : Log). fact (slots_of (after_reset cid s)) log) (sym marked) (steps.reset cid s l.entries less rest.0.0 rest.1),
+      subst (λ (log : Log). Holds fact (after_reset cid s) log) (sym marked) (steps.reset cid s l.entries less rest.0.0 rest.1),
     )
 
 module _ (first : ℕ) (fact : Fact) (steps : Carries first fact) where
@@ -208,7 +208,7 @@ module _ (first : ℕ) (fact : Fact) (steps : Carries first fact) where
           (stage_tx first fact (reply_on Driver r.state.cid reply) r.state (record r.state { replies = rest }) (header_bytes (reply_header r.state.cid reply)) c
           (λ l tie. record {
             puts = reply_puts reply rest r.state tie.0 is;
-            carries = λ log m was fair held. steps.reply reply r.state log was fair held;
+            carries = λ log m was fair held. steps.reply reply rest r.state log tie.0 is held;
           }) ties)
       by false = ties
 
