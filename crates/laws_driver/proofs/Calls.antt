@@ -14,20 +14,21 @@ use Rattle.vs_ring_port.specs.declared.queue.Queue.TheVariants.{Rx, Tx, Event}
 use Rattle.laws_tables.specs.{Matches.Matches, Steps.payload_on, Steps.request_on}
 use Rattle.laws_tables.proofs.Keeps.{start_matches}
 use Rattle.vs_driver_parts.specs.declared.answers.{ConnectError.ConnectError, Polled.Polled, Sent.Sent}
-use Rattle.vs_driver_parts.specs.{Connections.connect_refusal, Connections.connected, Connections.next_flow, Held.HeldSlots, Playing.MayPublishAll, Playing.Plays}
-use Rattle.vs_driver_parts.specs.Conversations.{connect_of, connect_with_page, has_page, load_cid, new_of, new_state, no_credit, not_sent}
+use Rattle.vs_driver_parts.specs.{Connections.connect_refusal, Connections.connected, Connections.next_flow, Playing.MayPublishAll, Playing.Plays}
+use Rattle.vs_driver_parts.specs.Conversations.{DriverTree, connect_of, connect_with_page, has_page, load_cid, new_of, new_state, no_credit, not_sent}
 use Rattle.vs_driver_parts.specs.Conversations.{one_more_in_flight, payload_bytes, payload_of, poll_of, post_all, post_events, post_one}
-use Rattle.vs_driver_parts.specs.Conversations.{post_packet, posts, publish_of, reap_all, request_bytes, send_of, send_on, send_stopped}
-use Rattle.vs_driver_parts.specs.{Conversations.send_with_credit, Conversations.send_with_page, Conversations.stage_of, State.DriverEntry}
+use Rattle.vs_driver_parts.specs.Conversations.{post_packet, posts, publish_of, reap_all, request_bytes, send_of, send_stopped}
+use Rattle.vs_driver_parts.specs.{Conversations.send_with_page, Conversations.stage_of, State.DriverEntry}
 use Rattle.vs_driver_parts.specs.State.{DriverState, entry_known_as}
 use Rattle.vs_limits.specs.declared.TheConstants.{LAST_PORT}
-use Rattle.laws_driver.specs.Honest.{AgreesWith, IsFitState, IsFresh, IsHonestWith, ends_of_state, slots_of}
+use Rattle.vs_driver_parts.specs.Steps.{connects, sends}
+use Rattle.laws_driver.specs.Honest.{AgreesWith, IsFitState, IsFresh, IsHonestWith, ends_of_state}
 use Rattle.laws_driver.specs.Staged.{IsLeft}
 use Rattle.laws_driver.proofs.{Putting.connect_puts, Putting.send_puts, Polling.not_tx_event, Polling.not_tx_rx, Polling.poll_keeps}
 use Rattle.laws_driver.proofs.{Tabling.Stands, Changing.Changes, Changing.stands_known, Changing.wanting_changes, Keeping.Keeps}
 use Rattle.laws_driver.proofs.Keeping.{keeps_bind, keeps_end, keeps_may, keeps_weaker, keeps_while}
 use Rattle.laws_driver.proofs.Ringing.{IsAtRest, Tells, agrees, at_rest, can_publish_other, moves, tells_weaker, can_stage_other}
-use Rattle.laws_driver.proofs.Carrying.{Fact, RestsWith, carries_nothing, nothing}
+use Rattle.laws_driver.proofs.Carrying.{Fact, Holds, RestsWith, carries_nothing, nothing}
 use Rattle.laws_driver.proofs.Staging.{Rests, SameBut, post_tx, reap_keeps}
 use Rattle.vs_driver_parts.specs.declared.answers.ConnectError.TheVariants as refused
 use Rattle.vs_driver_parts.specs.declared.answers.Sent.TheVariants as sent
@@ -52,56 +53,62 @@ changed first s t l step rest = (
   rest.2,
 )
 
+-- It carries one fact to another.
+pub changed_rests : (first : ℕ) (before after : Fact) (s t : DriverState) (c : RingContents) → (IsFitState s → Changes s t)
+    → ((log : Log) → IsFitState s → Matches Driver first (ends_of_state s) log → Holds before s log → Holds after t log)
+    → Rests first before s c → Rests first after t c
+changed_rests first before after s t c step carries rests =
+    tells_weaker (RestsWith first before s) (RestsWith first after t)
+    (λ l rest. (changed first s t l (step rest.0.0) rest.0, carries l.entries rest.0.0 rest.0.1.matches rest.1)) c rests
+
 pub still_honest : (first : ℕ) (s t : DriverState) (c : RingContents) → (IsFitState s → Changes s t) → IsHonestWith first s c → IsHonestWith first t c
 still_honest first s t c step honest =
-    honest_of first nothing t c
-    (tells_weaker (RestsWith first nothing s) (RestsWith first nothing t) (λ l rest. (changed first s t l (step rest.0.0) rest.0, tt)) c
-    (rests_of first s c honest))
+    honest_of first nothing t c (changed_rests first nothing nothing s t c step (λ log fits m held. tt) (rests_of first s c honest))
 
 -- A connect carries one fact to another, by its answer: where it is refused, and where its REQUEST is put.
 pub record CarriesConnect (first host : ℕ) (before : Fact) (after : Result ℕ ConnectError → Fact) : Type 0 where
-  pub refused : (why : ConnectError) (slots : HeldSlots) (log : Log) → before slots log → after (Err why) slots log
+  pub refused : (why : ConnectError) (s : DriverState) (log : Log) → Holds before s log → Holds (after (Err why)) s log
   pub opens : (s : DriverState) (log : Log) → let p = request_on Driver s.cid (next_flow host s) Stream in
       IsFitState s → connect_refusal host s ≡ None → Matches Driver first (ends_of_state s) log → IsFairLog Driver log
-      → IsFairLog Driver (PutPacket p ∷ log) → before (slots_of s) log → after (Ok s.next_id) (slots_of (connected host s)) (PutPacket p ∷ log)
+      → IsFairLog Driver (PutPacket p ∷ log) → Holds before s log → Holds (after (Ok s.next_id)) (connected host s) (PutPacket p ∷ log)
 
 -- The same of a send: where nothing goes, where credit is wanted, and where payload is put.
 pub record CarriesSend (first id : ℕ) (bytes : List ℕ) (before : Fact) (after : Sent → Fact) : Type 0 where
-  pub stopped : (why : Stop) (slots : HeldSlots) (log : Log) → before slots log → after (send_stopped why) slots log
-  pub unknown : (s : DriverState) (log : Log) → entry_known_as id s ≡ None → before (slots_of s) log → after (not_sent id s) (slots_of s) log
-  pub empty : (slots : HeldSlots) (log : Log) → before slots log → after (sent.Took 0) slots log
-  pub full : (n : ℕ) (slots : HeldSlots) (log : Log) → before slots log → after (sent.NoDescriptor n) slots log
-  pub wants : (e : DriverEntry) (s : DriverState) (log : Log) → IsFitState s → Stands s e → before (slots_of s) log
-      → after (no_credit e.value.end) (slots_of (connections.with_end (wanting_credit e.value.end) e s)) log
+  pub stopped : (why : Stop) (s : DriverState) (log : Log) → Holds before s log → Holds (after (send_stopped why)) s log
+  pub unknown : (s : DriverState) (log : Log) → entry_known_as id s ≡ None → Holds before s log → Holds (after (not_sent id s)) s log
+  pub empty : (s : DriverState) (log : Log) → Holds before s log → Holds (after (sent.Took 0)) s log
+  pub full : (n : ℕ) (s : DriverState) (log : Log) → Holds before s log → Holds (after (sent.NoDescriptor n)) s log
+  pub wants : (e : DriverEntry) (s : DriverState) (log : Log) → IsFitState s → Stands s e → Matches Driver first (ends_of_state s) log
+      → Holds before s log → Holds (after (no_credit e.value.end)) (connections.with_end (wanting_credit e.value.end) e s) log
   pub sends : (e : DriverEntry) (n : ℕ) (s : DriverState) (log : Log) → let payload = take n bytes in
       let p = payload_on Driver s.cid e.flow e.value.end payload in
-      IsFitState s → Stands s e → entry_known_as id s ≡ Some e → Matches Driver first (ends_of_state s) log → IsFairLog Driver log
-      → IsFairLog Driver (PutPacket p ∷ log) → before (slots_of s) log
-      → after (sent.Took (length payload)) (slots_of (connections.with_end (with_payload_sent e.value.end (length payload)) e s)) (PutPacket p ∷ log)
+      IsFitState s → Stands s e → entry_known_as id s ≡ Some e → CanSend e.value.end (length payload) → length payload ≤ PAYLOAD_MAX
+      → Matches Driver first (ends_of_state s) log → IsFairLog Driver log → IsFairLog Driver (PutPacket p ∷ log) → Holds before s log
+      → Holds (after (sent.Took (length payload))) (connections.with_end (with_payload_sent e.value.end (length payload)) e s) (PutPacket p ∷ log)
 
 pub connect_nothing : (first host : ℕ) → CarriesConnect first host nothing (λ answer. nothing)
 connect_nothing first host = record {
-  refused = λ why slots log held. tt;
+  refused = λ why s log held. tt;
   opens = λ s log fits free m was fair held. tt;
 }
 
 pub send_nothing : (first id : ℕ) (bytes : List ℕ) → CarriesSend first id bytes nothing (λ answer. nothing)
 send_nothing first id bytes = record {
-  stopped = λ why slots log held. tt;
+  stopped = λ why s log held. tt;
   unknown = λ s log none held. tt;
-  empty = λ slots log held. tt;
-  full = λ n slots log held. tt;
-  wants = λ e s log fits stands held. tt;
-  sends = λ e n s log fits stands known m was fair held. tt;
+  empty = λ s log held. tt;
+  full = λ n s log held. tt;
+  wants = λ e s log fits stands m held. tt;
+  sends = λ e n s log fits stands known can few m was fair held. tt;
 }
 
 -- A fact goes over to another, and nothing else changes.
-pub goes_over : (first : ℕ) (before after : Fact) (s : DriverState) (c : RingContents)
-    → ((log : Log) → before (slots_of s) log → after (slots_of s) log) → Rests first before s c → Rests first after s c
+goes_over : (first : ℕ) (before after : Fact) (s : DriverState) (c : RingContents)
+    → ((log : Log) → Holds before s log → Holds after s log) → Rests first before s c → Rests first after s c
 goes_over first before after s c go rests =
     tells_weaker (RestsWith first before s) (RestsWith first after s) (λ l rest. (rest.0, go l.entries rest.1)) c rests
 
-pub can_send : (e : DriverEntry) (credit : ℕ) (bytes : List ℕ) → may_send_of e.value.end ≡ Ok credit
+can_send : (e : DriverEntry) (credit : ℕ) (bytes : List ℕ) → may_send_of e.value.end ≡ Ok credit
     → CanSend e.value.end (length (payload_of credit bytes)) × (length (payload_of credit bytes) ≤ PAYLOAD_MAX)
 can_send e credit bytes is =
     let short = length-take (min credit PAYLOAD_MAX) bytes in
@@ -130,14 +137,14 @@ module _ (first host : ℕ) (before : Fact) (after : Result ℕ ConnectError →
       }) rests))
   opened_by false s c port free rests =
       goes_over first before (after (Err (refused.NoDescriptor s.in_flight))) s c
-      (λ log held. steps.refused (refused.NoDescriptor s.in_flight) (slots_of s) log held) rests
+      (λ log held. steps.refused (refused.NoDescriptor s.in_flight) s log held) rests
 
-  pub connect_page_keeps : (s : DriverState) (c : RingContents) → host < 2 ^ 32 → connect_refusal host s ≡ None → Rests first before s c
+  connect_page_keeps : (s : DriverState) (c : RingContents) → host < 2 ^ 32 → connect_refusal host s ≡ None → Rests first before s c
       → Keeps ConnectRests (connect_with_page host s) c
   connect_page_keeps s c port free rests = opened_by (has_page s) s c port free rests
 
-  pub is_refused : (why : ConnectError) (s : DriverState) (c : RingContents) → Rests first before s c → Rests first (after (Err why)) s c
-  is_refused why s c rests = goes_over first before (after (Err why)) s c (λ log held. steps.refused why (slots_of s) log held) rests
+  is_refused : (why : ConnectError) (s : DriverState) (c : RingContents) → Rests first before s c → Rests first (after (Err why)) s c
+  is_refused why s c rests = goes_over first before (after (Err why)) s c (λ log held. steps.refused why s log held) rests
 
   connect_by : (o : Option ConnectError) (s : DriverState) (c : RingContents) → connect_refusal host s ≡ o → host < 2 ^ 32 → Rests first before s c
       → Keeps ConnectRests (elim o [ Some refusal ↦ Done (s, Err refusal) | None ↦ bind (reap_all s) (connect_with_page host) ]) c
@@ -148,6 +155,14 @@ module _ (first host : ℕ) (before : Fact) (after : Result ℕ ConnectError →
       (λ t d same. subst (λ (x : DriverState). Keeps ConnectRests (connect_with_page host x) d) (sym same.0)
       (connect_page_keeps (record s { in_flight = t.in_flight }) d port is same.1)) (reap_all s) c (reap_keeps first before s c rests))
 
+  connects_by : (o : Option ConnectError) (s : DriverState) (c : RingContents) → connect_refusal host s ≡ o → host < 2 ^ 32 → Rests first before s c
+      → Keeps ConnectRests (elim o [ Some refusal ↦ Done (s, Err refusal) | None ↦ connect_with_page host s ]) c
+  connects_by (Some refusal) s c is port rests = is_refused refusal s c rests
+  connects_by None s c is port rests = connect_page_keeps s c port is rests
+
+  pub connects_with : (s : DriverState) (c : RingContents) → host < 2 ^ 32 → Rests first before s c → Keeps ConnectRests (connects host s) c
+  connects_with s c port rests = connects_by (connect_refusal host s) s c refl port rests
+
   pub connect_keeps : (s : DriverState) (c : RingContents) → host < 2 ^ 32 → Rests first before s c → Keeps ConnectRests (connect_of host s) c
   connect_keeps s c port rests = connect_by (connect_refusal host s) s c refl port rests
 
@@ -156,7 +171,7 @@ module _ (first id : ℕ) (bytes : List ℕ) (before : Fact) (after : Sent → F
   abbrev pub SendRests : DriverState × Sent → RingContents → Type 0
   SendRests x c = Rests first (after x.1) x.0 c
 
-  pub paged_by : (b : Bool) (e : DriverEntry) (n : ℕ) (s : DriverState) (c : RingContents) → let payload = take n bytes in
+  paged_by : (b : Bool) (e : DriverEntry) (n : ℕ) (s : DriverState) (c : RingContents) → let payload = take n bytes in
       entry_known_as id s ≡ Some e → (IsFitState s → Stands s e) → CanSend e.value.end (length payload) → length payload ≤ PAYLOAD_MAX
       → Rests first before s c
       → Keeps SendRests (cond b (bind (post_packet (payload_bytes e payload s) s)
@@ -173,30 +188,67 @@ module _ (first id : ℕ) (bytes : List ℕ) (before : Fact) (after : Sent → F
       (post_tx first before now (payload_on Driver s.cid e.flow e.value.end payload) s (then s) (payload_bytes e payload s) c
       (λ l rest. record {
         puts = send_puts e payload s rest.0 (stands rest.0) can few;
-        carries = λ log m was fair held. steps.sends e n s log rest.0 (stands rest.0) known m was fair held;
+        carries = λ log m was fair held. steps.sends e n s log rest.0 (stands rest.0) known can few m was fair held;
       }) rests))
   paged_by false e n s c known stands can few rests =
-      goes_over first before (after (sent.NoDescriptor s.in_flight)) s c (λ log held. steps.full s.in_flight (slots_of s) log held) rests
+      goes_over first before (after (sent.NoDescriptor s.in_flight)) s c (λ log held. steps.full s.in_flight s log held) rests
 
   -- No credit is there.
-  pub wanting : (e : DriverEntry) (s : DriverState) (c : RingContents) → (IsFitState s → Stands s e) → Rests first before s c
+  wanting : (e : DriverEntry) (s : DriverState) (c : RingContents) → (IsFitState s → Stands s e) → Rests first before s c
       → Rests first (after (no_credit e.value.end)) (connections.with_end (wanting_credit e.value.end) e s) c
   wanting e s c stands rests =
       let t : DriverState = connections.with_end (wanting_credit e.value.end) e s in
-      tells_weaker (RestsWith first before s) (RestsWith first (after (no_credit e.value.end)) t)
-      (λ l rest. (
-        changed first s t l (wanting_changes s e rest.0.0 (stands rest.0.0)) rest.0,
-        steps.wants e s l.entries rest.0.0 (stands rest.0.0) rest.1,
-      )) c rests
+      changed_rests first before (after (no_credit e.value.end)) s t c (λ fits. wanting_changes s e fits (stands fits))
+      (λ log fits m held. steps.wants e s log fits (stands fits) m held) rests
 
-  credit_by : (a b : Bool) (e : DriverEntry) (credit : ℕ) (s : DriverState) (c : RingContents) → entry_known_as id s ≡ Some e
-      → (IsFitState s → Stands s e) → may_send_of e.value.end ≡ Ok credit → Rests first before s c
-      → Keeps SendRests (cond a (Done (s, sent.Took 0)) (cond b (Done (connections.with_end (wanting_credit e.value.end) e s, no_credit e.value.end))
-      (bind (reap_all s) (send_with_page e (payload_of credit bytes))))) c
-  credit_by true b e credit s c known stands is rests =
-      goes_over first before (after (sent.Took 0)) s c (λ log held. steps.empty (slots_of s) log held) rests
-  credit_by false true e credit s c known stands is rests = wanting e s c stands rests
-  credit_by false false e credit s c known stands is rests =
+  -- The connection may not send.
+  stops : (why : Stop) (s : DriverState) (c : RingContents) → Rests first before s c → Rests first (after (send_stopped why)) s c
+  stops why s c rests = goes_over first before (after (send_stopped why)) s c (λ log held. steps.stopped why s log held) rests
+
+  knows_none : (s : DriverState) (c : RingContents) → entry_known_as id s ≡ None → Rests first before s c → Rests first (after (not_sent id s)) s c
+  knows_none s c none rests = goes_over first before (after (not_sent id s)) s c (λ log held. steps.unknown s log none held) rests
+
+  -- Of the whole call, which gets pages back first, and on the pages as they stand.
+  module _ (page : DriverEntry → List ℕ → DriverState → DriverTree (DriverState × Sent))
+      (paged : (e : DriverEntry) (credit : ℕ) (s : DriverState) (c : RingContents) → entry_known_as id s ≡ Some e → (IsFitState s → Stands s e)
+      → may_send_of e.value.end ≡ Ok credit → Rests first before s c → Keeps SendRests (page e (payload_of credit bytes) s) c) where
+    credit_by : (a b : Bool) (e : DriverEntry) (credit : ℕ) (s : DriverState) (c : RingContents) → entry_known_as id s ≡ Some e
+        → (IsFitState s → Stands s e) → may_send_of e.value.end ≡ Ok credit → Rests first before s c
+        → Keeps SendRests (cond a (Done (s, sent.Took 0)) (cond b (Done (connections.with_end (wanting_credit e.value.end) e s, no_credit e.value.end))
+        (page e (payload_of credit bytes) s))) c
+    credit_by true b e credit s c known stands is rests =
+        goes_over first before (after (sent.Took 0)) s c (λ log held. steps.empty s log held) rests
+    credit_by false true e credit s c known stands is rests = wanting e s c stands rests
+    credit_by false false e credit s c known stands is rests = paged e credit s c known stands is rests
+
+    stop_by : (r : Result ℕ Stop) (e : DriverEntry) (s : DriverState) (c : RingContents) → entry_known_as id s ≡ Some e
+        → (IsFitState s → Stands s e) → may_send_of e.value.end ≡ r → Rests first before s c
+        → Keeps SendRests (elim r [
+          | Err why ↦ Done (s, send_stopped why)
+          | Ok credit ↦ cond (length bytes == 0) (Done (s, sent.Took 0))
+              (cond (credit == 0) (Done (connections.with_end (wanting_credit e.value.end) e s, no_credit e.value.end))
+              (page e (payload_of credit bytes) s))
+        ]) c
+    stop_by (Err why) e s c known stands is rests = stops why s c rests
+    stop_by (Ok credit) e s c known stands is rests = credit_by (length bytes == 0) (credit == 0) e credit s c known stands is rests
+
+    sent_by : (o : Option DriverEntry) (s : DriverState) (c : RingContents) → entry_known_as id s ≡ o → Rests first before s c
+        → Keeps SendRests (elim o [
+          | None ↦ Done (s, not_sent id s)
+          | Some e ↦ elim (may_send_of e.value.end) [
+            | Err why ↦ Done (s, send_stopped why)
+            | Ok credit ↦ cond (length bytes == 0) (Done (s, sent.Took 0))
+                (cond (credit == 0) (Done (connections.with_end (wanting_credit e.value.end) e s, no_credit e.value.end))
+                (page e (payload_of credit bytes) s))
+          ]
+        ]) c
+    sent_by None s c is rests = knows_none s c is rests
+    sent_by (Some e) s c is rests = stop_by (may_send_of e.value.end) e s c is (λ fits. stands_known id s e fits is) refl rests
+
+  reaped_first : (e : DriverEntry) (credit : ℕ) (s : DriverState) (c : RingContents) → entry_known_as id s ≡ Some e → (IsFitState s → Stands s e)
+      → may_send_of e.value.end ≡ Ok credit → Rests first before s c
+      → Keeps SendRests (bind (reap_all s) (send_with_page e (payload_of credit bytes))) c
+  reaped_first e credit s c known stands is rests =
       let payload : List ℕ = payload_of credit bytes in
       let can = can_send e credit bytes is in
       keeps_bind SendRests (reap_all s) (send_with_page e payload) c
@@ -207,26 +259,13 @@ module _ (first id : ℕ) (bytes : List ℕ) (before : Fact) (after : Sent → F
       (λ fits. let st = stands fits in record { under = st.under; contains = st.contains }) can.0 can.1 same.1))
       (reap_all s) c (reap_keeps first before s c rests))
 
-  -- The connection may not send.
-  pub stops : (why : Stop) (s : DriverState) (c : RingContents) → Rests first before s c → Rests first (after (send_stopped why)) s c
-  stops why s c rests = goes_over first before (after (send_stopped why)) s c (λ log held. steps.stopped why (slots_of s) log held) rests
-
-  pub knows_none : (s : DriverState) (c : RingContents) → entry_known_as id s ≡ None → Rests first before s c → Rests first (after (not_sent id s)) s c
-  knows_none s c none rests = goes_over first before (after (not_sent id s)) s c (λ log held. steps.unknown s log none held) rests
-
-  stop_by : (r : Result ℕ Stop) (e : DriverEntry) (s : DriverState) (c : RingContents) → entry_known_as id s ≡ Some e
-      → (IsFitState s → Stands s e) → may_send_of e.value.end ≡ r → Rests first before s c
-      → Keeps SendRests (elim r [ Err why ↦ Done (s, send_stopped why) | Ok credit ↦ send_with_credit e credit bytes s ]) c
-  stop_by (Err why) e s c known stands is rests = stops why s c rests
-  stop_by (Ok credit) e s c known stands is rests = credit_by (length bytes == 0) (credit == 0) e credit s c known stands is rests
-
-  send_by : (o : Option DriverEntry) (s : DriverState) (c : RingContents) → entry_known_as id s ≡ o → Rests first before s c
-      → Keeps SendRests (elim o [ None ↦ Done (s, not_sent id s) | Some e ↦ send_on e bytes s ]) c
-  send_by None s c is rests = knows_none s c is rests
-  send_by (Some e) s c is rests = stop_by (may_send_of e.value.end) e s c is (λ fits. stands_known id s e fits is) refl rests
-
   pub send_keeps : (s : DriverState) (c : RingContents) → Rests first before s c → Keeps SendRests (send_of id bytes s) c
-  send_keeps s c rests = send_by (entry_known_as id s) s c refl rests
+  send_keeps s c rests = sent_by (λ e payload t. bind (reap_all t) (send_with_page e payload)) reaped_first (entry_known_as id s) s c refl rests
+
+  pub sends_with : (s : DriverState) (c : RingContents) → Rests first before s c → Keeps SendRests (sends id bytes s) c
+  sends_with s c rests = sent_by send_with_page
+      (λ e credit t d known stands is kept. let can = can_send e credit bytes is in
+      paged_by (has_page t) e (min credit PAYLOAD_MAX) t d known stands can.0 can.1 kept) (entry_known_as id s) s c refl rests
 
 -- Making a driver.
 abbrev Fresh : EndLog → Type 0
@@ -289,7 +328,7 @@ module _ (size port id : ℕ) (port_fits : port ≤ LAST_PORT) where
     slots_left = omega arith;
   }
 
-  made_fits : (cid : ℕ) → cid < 2 ^ 64 → IsFitState (record made { cid = cid })
+  pub made_fits : (cid : ℕ) → cid < 2 ^ 64 → IsFitState (record made { cid = cid })
   made_fits cid less = record {
     cid_fits = less;
     port_left = omega (arith, port_fits);
@@ -313,11 +352,11 @@ module _ (size port id : ℕ) (port_fits : port ≤ LAST_PORT) where
       (made_fits cid less, subst P (sym fresh.0) left, fresh.1)
 
   -- What holds of the slots and a log in which nothing passed.
-  module _ (fact : Fact) (starts : fact (slots_of made) []) where
+  module _ (fact : Fact) (starts : (cid : ℕ) → Holds fact (record made { cid = cid }) []) where
     loaded_with : (cid : ℕ) (l : EndLog) → cid < 2 ^ 64 → Fresh l → RestsWith cid fact (record made { cid = cid }) (log_loaded cid l)
     loaded_with cid l less fresh =
-        let P : Log → Type 0 = λ entries. fact (slots_of made) (entries_marked cid entries) in
-        (loaded cid l less fresh, subst P (sym fresh.0) starts)
+        let P : Log → Type 0 = λ entries. Holds fact (record made { cid = cid }) (entries_marked cid entries) in
+        (loaded cid l less fresh, subst P (sym fresh.0) (starts cid))
 
     load_made : (s : DriverState) (c : RingContents) → IsMade s c → Keeps (λ t d. Rests t.cid fact t d) (load_cid s) c
     load_made s c is = (
@@ -377,9 +416,9 @@ module _ (first : ℕ) where
   poll_honest s c d x honest plays = honest_of first nothing x.0 d (keeps_end _ (poll_of s) c d x (poll_kept s c honest) plays)
 
 pub new_may : (size port id : ℕ) (c : RingContents) → port ≤ LAST_PORT → IsFresh c → MayPublishAll (new_of size port id) c
-new_may size port id c fits fresh = keeps_may _ (new_of size port id) c (new_keeps size port id fits nothing tt c fresh)
+new_may size port id c fits fresh = keeps_may _ (new_of size port id) c (new_keeps size port id fits nothing (λ cid. tt) c fresh)
 
 pub new_honest : (size port id : ℕ) (c d : RingContents) (s : DriverState) → port ≤ LAST_PORT → IsFresh c → Plays (new_of size port id) c s d
     → IsHonestWith s.cid s d
 new_honest size port id c d s fits fresh plays =
-    honest_of s.cid nothing s d (keeps_end _ (new_of size port id) c d s (new_keeps size port id fits nothing tt c fresh) plays)
+    honest_of s.cid nothing s d (keeps_end _ (new_of size port id) c d s (new_keeps size port id fits nothing (λ cid. tt) c fresh) plays)

@@ -1,4 +1,5 @@
--- What a walk over the driver's conversations carries besides: a fact of the driver's slots and of its log, with the packets that are staged.
+-- What a walk over the driver's conversations carries besides: a fact of the driver's connections, of its slots and of its log, with the
+-- packets that are staged.
 use Rattle.std.proofs.Common.{◌≡◌, ℕ, ◌<◌, ◌^◌, List, ◌∷◌, Option, Some, None, refl, sym, subst}
 use Rattle.vs_conn.specs.{End.owes_of, declared.end.Owed.Owed}
 use Rattle.laws_history.specs.declared.packet.Packet.{Packet}
@@ -7,36 +8,39 @@ use Rattle.vs_page.specs.declared.log.LogEntry.TheVariants.{GotPacket, Mark, Put
 use Rattle.vs_replies.specs.declared.Reply.{Reply}
 use Rattle.vs_ring_port.specs.{EndLog.EndLog, EndLog.all_put, EndLog.log_published, EndLog.log_reaped, EndLog.log_staged}
 use Rattle.vs_ring_port.specs.declared.queue.Queue.{Queue, TheVariants.Event, TheVariants.Rx, TheVariants.Tx}
-use Rattle.laws_tables.specs.{Matches.Matches, Steps.owed_on, Steps.reply_on}
+use Rattle.laws_tables.specs.{Ends.Ends, Matches.Matches, Steps.owed_on, Steps.reply_on}
 use Rattle.vs_driver_parts.specs.{Conversations.after_paying, Held.HeldSlots, Playing.FitsPorts, Receiving.after_reset, Receiving.on_packet}
 use Rattle.vs_driver_parts.specs.State.{DriverEntry, DriverState}
 use Rattle.laws_driver.specs.{Honest.IsFitState, Honest.ends_of_state, Honest.slots_of, Staged.IsTied}
 use Rattle.laws_driver.proofs.{Ringing.IsAtRest, Ringing.Puts, Ringing.publishes, Ringing.put_last, Ringing.stages, Ringing.tied, Tabling.Stands}
 
 abbrev pub Fact : Type 1
-Fact = HeldSlots → Log → Type 0
+Fact = Ends → HeldSlots → Log → Type 0
+
+abbrev pub Holds : Fact → DriverState → Log → Type 0
+Holds fact s log = fact (ends_of_state s) (slots_of s) log
 
 -- Nothing is carried.
 abbrev pub nothing : Fact
-nothing slots log = Unit {0}
+nothing part slots log = Unit {0}
 
 -- It holds of the driver and its log, where no packet is staged, and where some may be.
 abbrev pub RestsWith : ℕ → Fact → DriverState → EndLog → Type 0
-RestsWith first fact s l = IsAtRest first s l × fact (slots_of s) l.entries
+RestsWith first fact s l = IsAtRest first s l × Holds fact s l.entries
 
 abbrev pub IsTiedBy : ℕ → Fact → DriverState → EndLog → Type 0
-IsTiedBy first fact s l = IsTied first s l × fact (slots_of s) (all_put l.staged.tx l.entries)
+IsTiedBy first fact s l = IsTied first s l × Holds fact s (all_put l.staged.tx l.entries)
 
 -- A step that puts a packet carries one fact to another.
 pub record PutsWith (first : ℕ) (before after : Fact) (p : Packet) (s : DriverState) (page : List ℕ) (t : DriverState) : Type 0 where
   pub puts : Puts p s page t
   pub carries : (log : Log) → Matches Driver first (ends_of_state s) log → IsFairLog Driver log → IsFairLog Driver (PutPacket p ∷ log)
-      → before (slots_of s) log → after (slots_of t) (PutPacket p ∷ log)
+      → Holds before s log → Holds after t (PutPacket p ∷ log)
 
 module _ (first : ℕ) (fact : Fact) where
   pub rest_tied : (s : DriverState) (l : EndLog) → RestsWith first fact s l → IsTiedBy first fact s l
   rest_tied s l rest =
-      let P : List (List ℕ) → Type 0 = λ pages. fact (slots_of s) (all_put pages l.entries) in
+      let P : List (List ℕ) → Type 0 = λ pages. Holds fact s (all_put pages l.entries) in
       (tied first s l rest.0, subst P (sym rest.0.2) rest.1)
 
   pub published_rest : (s : DriverState) (l : EndLog) → IsTiedBy first fact s l → RestsWith first fact s (log_published Tx l)
@@ -67,27 +71,27 @@ staged_with first before after p s t page l step tie =
     let last = put_last l.staged.tx page p l.entries step.puts.held in
     let fair = subst (λ (log : Log). IsFairLog Driver log) last now.1.fair in
     let held = step.carries (all_put l.staged.tx l.entries) tie.0.1.matches tie.0.1.fair fair tie.1 in
-    (now, subst (λ (log : Log). after (slots_of t) log) (sym last) held)
+    (now, subst (λ (log : Log). Holds after t log) (sym last) held)
 
 -- A poll's steps carry it: what a connection owes is put, and the oldest reply; a packet and an event are got; a transport reset is taken.
 pub record Carries (first : ℕ) (fact : Fact) : Type 0 where
   pub owed : (what : Owed) (e : DriverEntry) (s : DriverState) (log : Log) → let p = owed_on Driver s.cid e.flow e.value.end what in
       IsFitState s → Stands s e → owes_of e.value.end ≡ Some what → Matches Driver first (ends_of_state s) log
-      → IsFairLog Driver log → IsFairLog Driver (PutPacket p ∷ log) → fact (slots_of s) log
-      → fact (slots_of (after_paying what e s)) (PutPacket p ∷ log)
-  pub reply : (r : Reply) (s : DriverState) (log : Log) → let p = reply_on Driver s.cid r in
-      IsFairLog Driver log → IsFairLog Driver (PutPacket p ∷ log) → fact (slots_of s) log → fact (slots_of s) (PutPacket p ∷ log)
+      → IsFairLog Driver log → IsFairLog Driver (PutPacket p ∷ log) → Holds fact s log → Holds fact (after_paying what e s) (PutPacket p ∷ log)
+  pub reply : (r : Reply) (rest : List Reply) (s : DriverState) (log : Log) → let p = reply_on Driver s.cid r in
+      IsFitState s → s.replies ≡ r ∷ rest → Holds fact s log → Holds fact (record s { replies = rest }) (PutPacket p ∷ log)
   pub got : (p : Packet) (s : DriverState) (log : Log) → IsFitState s → FitsPorts p.header → IsWhole p
-      → Matches Driver first (ends_of_state s) log → IsFairLog Driver log → IsFairLog Driver (GotPacket p ∷ log) → fact (slots_of s) log
-      → fact (slots_of (on_packet p s)) (GotPacket p ∷ log)
-  pub event : (id : ℕ) (slots : HeldSlots) (log : Log) → fact slots log → fact slots (GotEvent id ∷ log)
-  pub reset : (cid : ℕ) (s : DriverState) (log : Log) → cid < 2 ^ 64 → IsFitState s → fact (slots_of s) log → fact (slots_of (after_reset cid s)) (Mark cid ∷ log)
+      → Matches Driver first (ends_of_state s) log → IsFairLog Driver log → IsFairLog Driver (GotPacket p ∷ log) → Holds fact s log
+      → Holds fact (on_packet p s) (GotPacket p ∷ log)
+  pub event : (id : ℕ) (s : DriverState) (log : Log) → Holds fact s log → Holds fact s (GotEvent id ∷ log)
+  pub reset : (cid : ℕ) (s : DriverState) (log : Log) → cid < 2 ^ 64 → IsFitState s → Holds fact s log
+      → Holds fact (after_reset cid s) (Mark cid ∷ log)
 
 pub carries_nothing : (first : ℕ) → Carries first nothing
 carries_nothing first = record {
   owed = λ what e s log fits stands owes m was fair held. tt;
-  reply = λ r s log was fair held. tt;
+  reply = λ r rest s log fits is held. tt;
   got = λ p s log fits ports whole m was fair held. tt;
-  event = λ id slots log held. tt;
+  event = λ id s log held. tt;
   reset = λ cid s log less fits held. tt;
 }

@@ -1,12 +1,13 @@
 -- Calls that make no use of the ring: the driver still matches its log.
 use Rattle.std.proofs.Common.{◌≡◌, ℕ, ◌≤◌, ◌==◌, Bool, true, false, cond, min, List, [], ◌∷◌, length, Option, Some, None, refl, sym, subst}
-use Rattle.std.proofs.Common.{◌∙◌, arith}
+use Rattle.std.proofs.Common.{◌∙◌, ap, arith}
 use Rattle.vs_conn.specs.{End.ConnectionEnd, End.wanting_credit, Follows.Follows, declared.end.State.State}
 use Rattle.vs_conn.proofs.Steps.{abort_follows, ask_follows, forward_follows, shut_follows}
 use Rattle.vs_credit.specs.Credit.{unread_of}
 use Rattle.laws_history.specs.History.{Side, gots, puts, History}
 use Rattle.vs_page.specs.Log.{Driver, Log, side_of}
-use Rattle.laws_tables.specs.{Ends.Ends, Heard.heard_of, Matches.Matches}
+use Rattle.laws_tables.specs.{Both.Aborts, Both.Decides, Both.Decision, Both.Forwards, Both.MayDecide, Both.Shuts, Both.WantsCredit}
+use Rattle.laws_tables.specs.{Both.decided, Ends.Ends, Heard.heard_of, Matches.Matches, Steps.with_end}
 use Rattle.laws_tables.proofs.{Keeps.changes, Slots.found_by, Tables.driver_begun}
 use Rattle.vs_driver_parts.specs.State.{DriverConnection, DriverEntry, DriverState, GoneConnection, entry_known_as, gone_known_as}
 use Rattle.vs_driver_parts.specs.State.{is_known_as}
@@ -16,6 +17,7 @@ use Rattle.vs_driver_parts.specs.Connections.{after_unlisten, all_closed, all_go
 use Rattle.vs_driver_parts.specs.Connections.{shut_in, waiting_on, with_connection, without_gone}
 use Rattle.vs_driver_parts.proofs.Ids.{found_under}
 use Rattle.laws_driver.specs.Honest.{IsFitState, ends_of_state}
+use Rattle.laws_driver.proofs.{Going.Goes, Going.at_log, Going.goes_then, Going.one_step, Going.seat, Going.stays}
 use Rattle.laws_driver.proofs.Tabling.{Stands, connection_ends, connection_fits, entry_fits, has_end}
 use Rattle.laws_driver.proofs.Fits.{IsHeldBy, closing_fits, holds_same, read_fits, shut_fits}
 use Rattle.vs_conn.specs.declared.end.State.TheVariants as state
@@ -26,9 +28,10 @@ pub record Changes (s t : DriverState) : Type 0 where
   pub matches : (first : ℕ) (log : Log) → Matches Driver first (ends_of_state s) log → Matches Driver first (ends_of_state t) log
   pub fits : IsFitState t
   pub broken : t.broken ≡ s.broken
+  pub goes : (first : ℕ) (log : Log) → Matches Driver first (ends_of_state s) log → Goes (seat s log) (seat t log)
 
-same : (s : DriverState) → IsFitState s → Changes s s
-same s fits = record { matches = λ first log m. m; fits = fits; broken = refl }
+pub same : (s : DriverState) → IsFitState s → Changes s s
+same s fits = record { matches = λ first log m. m; fits = fits; broken = refl; goes = λ first log m. stays (seat s log) (seat s log) refl }
 
 pub stands_known : (id : ℕ) (s : DriverState) (e : DriverEntry) → IsFitState s → entry_known_as id s ≡ Some e → Stands s e
 stands_known id s e fits found =
@@ -39,9 +42,10 @@ stands_known id s e fits found =
 abbrev pub FollowsAs : ConnectionEnd → ConnectionEnd → Type 0
 FollowsAs old new = (side : Side) (h : History) → Follows side (puts h) (gots h) old → Follows side (puts h) (gots h) new
 
-connection_changes : (s : DriverState) (e : DriverEntry) (c : DriverConnection) → IsFitState s → Stands s e → IsHeldBy c
-    → c.end.kind ≡ e.value.end.kind → FollowsAs e.value.end c.end → Changes s (with_connection e.slot c s)
-connection_changes s e c fits stands held kind follows = record {
+connection_changes : (s : DriverState) (e : DriverEntry) (c : DriverConnection) (what : Decision) → IsFitState s → Stands s e → IsHeldBy c
+    → c.end.kind ≡ e.value.end.kind → FollowsAs e.value.end c.end → c.end ≡ decided e.value.end what → MayDecide e.value.end what
+    → Changes s (with_connection e.slot c s)
+connection_changes s e c what fits stands held kind follows is may = record {
   matches = λ first log m.
       let has = has_end s e fits stands in
       let begun = driver_begun first (ends_of_state s) log e.flow e.value.end m.flows has in
@@ -50,14 +54,19 @@ connection_changes s e c fits stands held kind follows = record {
       (follows (side_of Driver e.flow) (heard_of Driver first e.flow log)));
   fits = connection_fits s e.slot c fits held (kind ∙ (entry_fits s e fits stands).kind);
   broken = refl;
+  goes = λ first log m.
+      let has = has_end s e fits stands in
+      one_step (seat s log) (seat (with_connection e.slot c s) log) (Decides e.flow e.value.end what)
+      (has, driver_begun first (ends_of_state s) log e.flow e.value.end m.flows has, may)
+      (at_log log _ _ (ap (λ (x : ConnectionEnd). with_end e.flow x (ends_of_state s)) (sym is) ∙ sym (connection_ends s e c fits stands)));
 }
 
 -- Credit is wanted.
 pub wanting_changes : (s : DriverState) (e : DriverEntry) → IsFitState s → Stands s e → Changes s (connections.with_end (wanting_credit e.value.end) e s)
 wanting_changes s e fits stands =
     let held = (entry_fits s e fits stands).buffer in
-    connection_changes s e (record e.value { end = wanting_credit e.value.end }) fits stands (holds_same e.value.end.credit _ e.value.unread held refl refl refl) refl
-    (λ side h follows. ask_follows _ _ _ e.value.end follows)
+    connection_changes s e (record e.value { end = wanting_credit e.value.end }) WantsCredit fits stands (holds_same e.value.end.credit _ e.value.unread held refl refl refl) refl
+    (λ side h follows. ask_follows _ _ _ e.value.end follows) refl tt
 
 -- recv.
 read_changes : (n : ℕ) (s : DriverState) (e : DriverEntry) → IsFitState s → Stands s e → Changes s (with_connection e.slot (after_read n e.value) s)
@@ -66,8 +75,8 @@ read_changes n s e fits stands =
     let k : ℕ = min n (length e.value.unread) in
     let within : k ≤ length e.value.unread = omega arith in
     let least : k ≤ unread_of e.value.end.credit = omega (arith, within, held.unread) in
-    connection_changes s e (after_read n e.value) fits stands (read_fits n e.value held) refl
-    (λ side h follows. forward_follows _ _ _ e.value.end k follows least)
+    connection_changes s e (after_read n e.value) (Forwards k) fits stands (read_fits n e.value held) refl
+    (λ side h follows. forward_follows _ _ _ e.value.end k follows least) refl least
 
 entry_read_changes : (n : ℕ) (b : Bool) (s : DriverState) (e : DriverEntry) → IsFitState s → Stands s e
     → Changes s (cond b s (with_connection e.slot (after_read n e.value) s))
@@ -79,15 +88,15 @@ recv_changes id n s fits = by (entry_known_as id s) refl
   where
     by : (o : Option DriverEntry) → entry_known_as id s ≡ o
         → Changes s (elim o [ Some e ↦ entry_read n e s | None ↦ record s { gone = all_gone_after_read id n s.gone } ])
-    by None none = record { matches = λ first log m. m; fits = fits; broken = refl }
+    by None none = record { matches = λ first log m. m; fits = fits; broken = refl; goes = λ first log m. stays _ _ refl }
     by (Some e) found = entry_read_changes n (length e.value.unread == 0) s e fits (stands_known id s e fits found)
 
 -- shutdown.
 shut_changes : (bits : ℕ) (s : DriverState) (e : DriverEntry) → IsFitState s → Stands s e → Changes s (with_connection e.slot (after_shut bits e.value) s)
 shut_changes bits s e fits stands =
     let held = (entry_fits s e fits stands).buffer in
-    connection_changes s e (after_shut bits e.value) fits stands (shut_fits bits e.value held) refl
-    (λ side h follows. shut_follows _ _ _ e.value.end bits follows)
+    connection_changes s e (after_shut bits e.value) (Shuts bits) fits stands (shut_fits bits e.value held) refl
+    (λ side h follows. shut_follows _ _ _ e.value.end bits follows) refl tt
 
 shut_by : (st : State) (bits : ℕ) (s : DriverState) (e : DriverEntry) → IsFitState s → Stands s e → Changes s (shut_in st bits e s)
 shut_by state.Live bits s e fits stands = shut_changes bits s e fits stands
@@ -109,6 +118,18 @@ closing_follows state.Asked c = λ side h follows. abort_follows _ _ _ c.end fol
 closing_follows state.Answering c = λ side h follows. abort_follows _ _ _ c.end follows
 closing_follows state.Ended c = λ side h follows. abort_follows _ _ _ c.end follows
 
+abbrev closing : State → Decision
+closing state.Live = Shuts 3
+closing state.Asked = Aborts
+closing state.Answering = Aborts
+closing state.Ended = Aborts
+
+closing_is : (st : State) (c : DriverConnection) → ((after_closing st c).end ≡ decided c.end (closing st)) × MayDecide c.end (closing st)
+closing_is state.Live c = (refl, tt)
+closing_is state.Asked c = (refl, tt)
+closing_is state.Answering c = (refl, tt)
+closing_is state.Ended c = (refl, tt)
+
 closing_kind : (st : State) (c : DriverConnection) → (after_closing st c).end.kind ≡ c.end.kind
 closing_kind state.Live c = refl
 closing_kind state.Asked c = refl
@@ -118,16 +139,17 @@ closing_kind state.Ended c = refl
 entry_closed_changes : (s : DriverState) (e : DriverEntry) → IsFitState s → Stands s e → Changes s (entry_closed e s)
 entry_closed_changes s e fits stands =
     let held = (entry_fits s e fits stands).buffer in
-    let c = connection_changes s e (after_closing e.value.end.state e.value) fits stands (closing_fits e.value.end.state e.value held)
-    (closing_kind e.value.end.state e.value) (closing_follows e.value.end.state e.value) in
-    record { matches = c.matches; fits = c.fits; broken = c.broken }
+    let is = closing_is e.value.end.state e.value in
+    let c = connection_changes s e (after_closing e.value.end.state e.value) (closing e.value.end.state) fits stands (closing_fits e.value.end.state e.value held)
+    (closing_kind e.value.end.state e.value) (closing_follows e.value.end.state e.value) is.0 is.1 in
+    record { matches = c.matches; fits = c.fits; broken = c.broken; goes = c.goes }
 
 gone_closed_by : (o : Option GoneConnection) (id : ℕ) (s : DriverState) → IsFitState s → Changes s (elim o [
   | None ↦ s
   | Some g ↦ record s { gone = without_gone id s.gone; listeners = with_waiting g.flow.guest (without_id id) s.listeners }
 ])
 gone_closed_by None id s fits = same s fits
-gone_closed_by (Some g) id s fits = record { matches = λ first log m. m; fits = fits; broken = refl }
+gone_closed_by (Some g) id s fits = record { matches = λ first log m. m; fits = fits; broken = refl; goes = λ first log m. stays _ _ refl }
 
 pub close_changes : (id : ℕ) (s : DriverState) → IsFitState s → Changes s (after_close id s)
 close_changes id s fits = by (entry_known_as id s) refl
@@ -146,21 +168,22 @@ all_closed_changes (id ∷ ids) s fits =
       matches = λ first log m. rest.matches first log (one.matches first log m);
       fits = rest.fits;
       broken = rest.broken ∙ one.broken;
+      goes = λ first log m. goes_then _ _ _ (one.goes first log m) (rest.goes first log (one.matches first log m));
     }
 
 pub unlisten_changes : (port : ℕ) (s : DriverState) → IsFitState s → Changes s (after_unlisten port s)
 unlisten_changes port s fits =
     let c = all_closed_changes (waiting_on port s) s fits in
-    record { matches = c.matches; fits = c.fits; broken = c.broken }
+    record { matches = c.matches; fits = c.fits; broken = c.broken; goes = c.goes }
 
 -- listen and accept.
 pub listen_changes : (port : ℕ) (s : DriverState) → IsFitState s → Changes s (listening port s)
-listen_changes port s fits = record { matches = λ first log m. m; fits = fits; broken = refl }
+listen_changes port s fits = record { matches = λ first log m. m; fits = fits; broken = refl; goes = λ first log m. stays _ _ refl }
 
 accept_by : (o : Option ℕ) (port : ℕ) (s : DriverState) → IsFitState s
     → Changes s (elim o [ None ↦ s | Some id ↦ record s { listeners = with_waiting port (without_id id) s.listeners } ])
 accept_by None port s fits = same s fits
-accept_by (Some id) port s fits = record { matches = λ first log m. m; fits = fits; broken = refl }
+accept_by (Some id) port s fits = record { matches = λ first log m. m; fits = fits; broken = refl; goes = λ first log m. stays _ _ refl }
 
 pub accept_changes : (port : ℕ) (s : DriverState) → IsFitState s → Changes s (after_accept port s)
 accept_changes port s fits = accept_by (next_accepted port s) port s fits

@@ -1,4 +1,5 @@
 pub mod Keeping
+pub mod Going
 pub mod Ringing
 pub mod Fits
 pub mod Tabling
@@ -14,3 +15,4 @@ pub mod Calls
 pub mod Shown
 pub mod Stepping
 pub mod Stopping
+pub mod Walking

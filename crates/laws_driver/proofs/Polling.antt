@@ -26,12 +26,12 @@ use Rattle.vs_driver_parts.specs.Receiving.{after_reset, is_reset_event, on_pack
 use Rattle.vs_driver_parts.specs.Playing.{BringsFit, RingAllows}
 use Rattle.vs_limits.specs.declared.TheConstants.{DRIVER_REPLIES_FULL}
 use Rattle.vs_driver_parts.proofs.Ids.{has_slot}
-use Rattle.laws_driver.specs.{Honest.IsFitState, Honest.ends_of_state, Honest.slots_of, Staged.IsLeft}
+use Rattle.laws_driver.specs.{Honest.IsFitState, Honest.ends_of_state, Staged.IsLeft}
 use Rattle.laws_driver.proofs.{Putting.owed_puts, Putting.reply_puts, Resetting.resets, Tabling.Stands, Taking.gets_packet, Keeping.Keeps}
 use Rattle.laws_driver.proofs.{Keeping.keeps_bind, Keeping.keeps_each, Keeping.keeps_weaker, Keeping.keeps_while, Staging.Rests}
 use Rattle.laws_driver.proofs.Staging.{SameBut, Ties, publish_other, publish_tx, reap_keeps, rests_tied, stage_other, stage_tx}
-use Rattle.laws_driver.proofs.Ringing.{IsAtRest, Tells, moves}
-use Rattle.laws_driver.proofs.Carrying.{Carries, Fact, RestsWith}
+use Rattle.laws_driver.proofs.Ringing.{IsAtRest, Tells, moves, tells_weaker}
+use Rattle.laws_driver.proofs.Carrying.{Carries, Fact, Holds, RestsWith}
 
 pub not_tx_rx : Rx ≡ Tx → ⊥
 not_tx_rx is = absurd cc
@@ -60,7 +60,7 @@ gets_with : (first : ℕ) (fact : Fact) → Carries first fact → (s : DriverSt
 gets_with first fact steps s page l ports rest fair = (gets_page first s page l ports rest.0 fair, by (packet_held page) refl fair)
   where
     by : (o : Option Packet) → packet_held page ≡ o → IsFairLog Driver (with_packet (λ p. GotPacket p) o l.entries)
-        → let t : DriverState = elim o [ None ↦ s | Some p ↦ on_packet p s ] in fact (slots_of t) (with_packet (λ p. GotPacket p) o l.entries)
+        → let t : DriverState = elim o [ None ↦ s | Some p ↦ on_packet p s ] in Holds fact t (with_packet (λ p. GotPacket p) o l.entries)
     by None is fair = rest.1
     by (Some p) is fair =
         steps.got p s l.entries rest.0.0 (ports p is) (packet_whole page p is).0 rest.0.1.matches rest.0.1.fair fair rest.1
@@ -87,7 +87,7 @@ event_by first s (Some id) entries left fair = by (id == 0) refl
     }
 
 abbrev EventWith : ℕ → Fact → Bool → DriverState → EndLog → Type 0
-EventWith first fact b s l = (IsFitState s × LeftBehind b first s l.entries × (l.staged.tx ≡ [])) × fact (slots_of s) l.entries
+EventWith first fact b s l = (IsFitState s × LeftBehind b first s l.entries × (l.staged.tx ≡ [])) × Holds fact s l.entries
 
 event_with : (first : ℕ) (fact : Fact) → Carries first fact → (s : DriverState) (page : List ℕ) (l : EndLog) → RestsWith first fact s l
     → IsFairLog Driver (log_reaped Event (Some page) l).entries
@@ -95,9 +95,9 @@ event_with : (first : ℕ) (fact : Fact) → Carries first fact → (s : DriverS
 event_with first fact steps s page l rest fair =
     ((rest.0.0, event_by first s (event_held page) l.entries rest.0.1 fair, rest.0.2), by (event_held page))
   where
-    by : (o : Option ℕ) → fact (slots_of s) (with_event (λ id. GotEvent id) o l.entries)
+    by : (o : Option ℕ) → Holds fact s (with_event (λ id. GotEvent id) o l.entries)
     by None = rest.1
-    by (Some id) = steps.event id (slots_of s) l.entries rest.1
+    by (Some id) = steps.event id s l.entries rest.1
 
 loads_with : (first : ℕ) (fact : Fact) → Carries first fact → (cid : ℕ) (s : DriverState) (l : EndLog) → cid < 2 ^ 64
     → EventWith first fact true s l → RestsWith first fact (after_reset cid s) (log_loaded cid l)
@@ -118,7 +118,7 @@ loads_with first fact steps cid s l less with =
         subst (λ (log : Log). IsLeft first (after_reset cid s).broken (ends_of_state (after_reset cid s)) [] log) (sym marked) now,
         with.0.2,
       ),
-      subst (λ (log : Log). fact (slots_of (after_reset cid s)) log) (sym here) (steps.reset cid s l.entries less fits with.1),
+      subst (λ (log : Log). Holds fact (after_reset cid s) log) (sym here) (steps.reset cid s l.entries less fits with.1),
     )
 
 module _ (first : ℕ) (fact : Fact) (steps : Carries first fact) where
@@ -207,7 +207,7 @@ module _ (first : ℕ) (fact : Fact) (steps : Carries first fact) where
           (stage_tx first fact (reply_on Driver r.state.cid reply) r.state (record r.state { replies = rest }) (header_bytes (reply_header r.state.cid reply)) c
           (λ l tie. record {
             puts = reply_puts reply rest r.state tie.0 is;
-            carries = λ log m was fair held. steps.reply reply r.state log was fair held;
+            carries = λ log m was fair held. steps.reply reply rest r.state log tie.0 is held;
           }) ties)
       by false = ties
 

@@ -25,12 +25,13 @@ use Rattle.vs_driver_parts.specs.{declared.answers.ConnectError.ConnectError, St
 use Rattle.vs_driver_parts.specs.State.{slots_held}
 use Rattle.laws_driver.specs.Honest.{IsFitFlow, IsFitReply, IsFitState, end_in, ends_of_state}
 use Rattle.vs_page.proofs.Packets.{held_alone, held_payload}
-use Rattle.laws_driver.proofs.{Bytes.header_fits, Bytes.reset_fits, Fits.IsHeldBy, Fits.paid_fits, Fits.sent_fits, Ringing.Puts}
+use Rattle.laws_driver.proofs.{Bytes.header_fits, Bytes.reset_fits, Fits.IsHeldBy, Fits.paid_fits, Fits.sent_fits, Going.at_log, Ringing.Puts}
 use Rattle.laws_driver.proofs.Tabling.{Stands, connection_ends, connection_fits, entry_fits, has_end, leaves, opening_fits}
 use Rattle.vs_conn.specs.declared.end.Owed.TheVariants as owed
 use Rattle.vs_header.specs.declared.Op.TheVariants as op
 use Rattle.vs_driver_parts.specs.declared.answers.ConnectError.TheVariants as refused
 use Rattle.vs_driver_parts.specs.Connections as connections
+use Rattle.laws_tables.specs.Both as seats
 
 -- The packet that a connection owes is put.
 pub record Pays (what : Owed) (e : DriverEntry) (s t : DriverState) : Type 0 where
@@ -71,6 +72,10 @@ owed_puts what e s fits stands owes =
           subst (λ (part : Ends). Matches Driver first part (PutPacket (owed_on Driver s.cid e.flow end what) ∷ log)) (sym step.ends)
           (pays Driver first s.cid e.flow end what (ends_of_state s) log m has owes);
       fair = λ first log m fair. pays_fair Driver first s.cid e.flow end what (ends_of_state s) log m fair has owes;
+      wire = wire;
+      step = seats.Pays e.flow end what;
+      may = λ log. (has, owes);
+      leads = λ log. at_log (PutPacket (owed_on Driver s.cid e.flow end what) ∷ log) _ _ (sym step.ends);
     }
 
 -- The oldest reply is put.
@@ -95,6 +100,10 @@ reply_puts reply rest s fits is =
       broken = refl;
       matches = λ first log m. replies Driver first s.cid reply rest (ends_of_state s) log m is;
       fair = λ first log m fair. replies_fair Driver first s.cid reply rest (ends_of_state s) log m fair is;
+      wire = wire;
+      step = seats.Replies reply rest;
+      may = λ log. is;
+      leads = λ log. refl;
     }
 
 -- Payload is sent.
@@ -120,6 +129,10 @@ send_puts e payload s fits stands can few =
           subst (λ (part : Ends). Matches Driver first part (PutPacket (payload_on Driver s.cid e.flow end payload) ∷ log)) (sym (connection_ends s e now fits stands))
           (sends Driver first s.cid e.flow end payload (ends_of_state s) log m has can (fits_message log));
       fair = λ first log m fair. sends_fair Driver first s.cid e.flow end payload (ends_of_state s) log m fair has can (fits_message log);
+      wire = wire;
+      step = seats.Sends e.flow end payload;
+      may = λ log. (has, can, fits_message log);
+      leads = λ log. at_log (PutPacket (payload_on Driver s.cid e.flow end payload) ∷ log) _ _ (sym (connection_ends s e now fits stands));
     }
 
 -- A connection is asked for.
@@ -180,4 +193,8 @@ connect_puts host s host_fits fits free =
           subst (λ (part : Ends). Matches Driver first part (PutPacket (request_on Driver s.cid f Stream) ∷ log)) (sym ends)
           (opens Driver first s.cid f Stream (ends_of_state s) log m next);
       fair = λ first log m fair. opens_fair Driver first s.cid f Stream (ends_of_state s) log m fair next;
+      wire = wire;
+      step = seats.Opens f Stream;
+      may = λ log. (next, omega arith);
+      leads = λ log. at_log (PutPacket (request_on Driver s.cid f Stream) ∷ log) _ _ (sym ends);
     }

@@ -5,7 +5,7 @@ use Rattle.std.specs.{List.filter, List.slice_get, Prelude.Contains}
 use Rattle.vs_flow.specs.Table.{IsRising}
 use Rattle.vs_page.specs.{Log.Driver, Log.Log, declared.log.LogEntry.TheVariants.Mark}
 use Rattle.vs_replies.specs.declared.Reply.{Reply}
-use Rattle.laws_tables.specs.{Ends.Ends, Ends.FlowEnd, Ends.replies_of, Matches.Matches}
+use Rattle.laws_tables.specs.{Ends.Ends, Ends.FlowEnd, Ends.replies_of, Matches.Matches, Steps.reset}
 use Rattle.laws_tables.proofs.Keeps.{takes_reset}
 use Rattle.vs_driver_parts.specs.{State.DriverEntry, State.DriverState, Connections.after_leaving}
 use Rattle.vs_driver_parts.specs.Receiving.{after_reset, all_left, reset_reply, with_reply}
@@ -14,7 +14,7 @@ use Rattle.laws_driver.specs.Honest.{IsFitState, ends_of_state}
 use Rattle.laws_driver.proofs.{Tabling.Stands, Tabling.entry_fits, Tabling.leaves, Taking.with_reply_fits}
 
 -- An entry as it counts among the ends.
-abbrev out : DriverEntry → FlowEnd
+abbrev pub out : DriverEntry → FlowEnd
 out e = record { flow = e.flow; end = e.value.end }
 
 -- The driver after these connections left, which were all.
@@ -60,6 +60,7 @@ pub record Resets (cid : ℕ) (s t : DriverState) : Type 0 where
   pub matches : (first : ℕ) (log : Log) → Matches Driver first (ends_of_state s) log → Matches Driver first (ends_of_state t) (Mark cid ∷ log)
   pub fits : IsFitState t
   pub broken : t.broken ≡ s.broken
+  pub ends : ends_of_state t ≡ reset cid (ends_of_state s)
 
 pub with_cid : (cid : ℕ) (s : DriverState) → cid < 2 ^ 64 → IsFitState s → IsFitState (record s { cid = cid })
 with_cid cid s less fits = record {
@@ -80,4 +81,5 @@ resets cid s less fits =
       matches = λ first log m. subst (λ (x : Ends). Matches Driver first x (Mark cid ∷ log)) (sym all.ends) (takes_reset first cid (ends_of_state s) log m);
       fits = all.fits;
       broken = all.broken;
+      ends = all.ends;
     }

@@ -3,15 +3,16 @@ use Rattle.std.proofs.Common.{◌≡◌, ℕ, true, List, [], ◌∷◌, ◌++�
 use Rattle.std.specs.{Prelude.IsSomeAnd, Option.ForSome}
 use Rattle.vs_contents.specs.Contents.{Exposes}
 use Rattle.laws_history.specs.{declared.packet.Packet.Packet, Packets.packet_bytes}
-use Rattle.vs_page.specs.{Fair.IsFairLog, Held.packet_held, Log.Driver, Log.Log, declared.log.LogEntry.TheVariants.PutPacket}
+use Rattle.vs_page.specs.{Fair.IsFairLog, Held.FitsWire, Held.packet_held, Log.Driver, Log.Log, declared.log.LogEntry.TheVariants.PutPacket}
 use Rattle.vs_ring_port.specs.{EndLog.EndLog, EndLog.all_put, EndLog.log_published, EndLog.log_staged, EndLog.with_packet, Lists.Rings}
 use Rattle.vs_ring_port.specs.DriverCalls.{CanPublish, CanStage, DriverAnswer, DriverCall, DriverMoves, HoldsPacket}
 use Rattle.vs_ring_port.specs.declared.queue.Queue.{Queue, TheVariants.Rx, TheVariants.Tx, TheVariants.Event}
 use Rattle.vs_ring_port.specs.Contents.{RingContents}
-use Rattle.laws_tables.specs.Matches.{Matches}
+use Rattle.laws_tables.specs.{Both.Step, Both.after, Matches.Matches}
 use Rattle.vs_driver_parts.specs.State.{DriverState}
 use Rattle.laws_driver.specs.{Honest.AgreesWith, Honest.IsFitState, Honest.ends_of_state, Staged.IsLeft, Staged.IsTied}
 use Rattle.laws_driver.specs.Resets.{MarksResets}
+use Rattle.laws_driver.proofs.Going.{MayDo, seat}
 
 -- P holds of the log of an honest ring, where it tells it.
 abbrev pub Tells : (EndLog → Type 0) → RingContents → Type 0
@@ -75,7 +76,7 @@ publishes first s l tie = (
 pub can_publish : (first : ℕ) (s : DriverState) (c : RingContents) → Tells (IsTied first s) c → CanPublish Tx c
 can_publish first s c tells = λ honest l is. let tie = tells honest l is in tie.1.fair
 
--- What a step on the driver does that puts a packet, in a page that holds it.
+-- What a step on the driver does that puts a packet, in a page that holds it: which step of its seat it is.
 pub record Puts (packet : Packet) (s : DriverState) (page : List ℕ) (t : DriverState) : Type 0 where
   pub held : packet_held page ≡ Some packet
   pub bytes : page ≡ packet_bytes packet
@@ -85,6 +86,10 @@ pub record Puts (packet : Packet) (s : DriverState) (page : List ℕ) (t : Drive
       → Matches Driver first (ends_of_state t) (PutPacket packet ∷ log)
   pub fair : (first : ℕ) (log : Log) → Matches Driver first (ends_of_state s) log → IsFairLog Driver log
       → IsFairLog Driver (PutPacket packet ∷ log)
+  pub wire : FitsWire packet.header
+  pub step : Step
+  pub may : (log : Log) → MayDo step (seat s log)
+  pub leads : (log : Log) → after Driver step (seat s log) ≡ seat t (PutPacket packet ∷ log)
 
 pub put_last : (pages : List (List ℕ)) (page : List ℕ) (p : Packet) (log : Log) → packet_held page ≡ Some p
     → all_put (pages ++ page ∷ []) log ≡ PutPacket p ∷ all_put pages log

@@ -1,124 +1,93 @@
 -- What each single step of the driver keeps over an honest ring.
-use Rattle.std.proofs.Common.{◌≡◌, ℕ, ◌<◌, ◌^◌, ◌==◌, Bool, true, false, cond, min, List, length, Option, Some, None}
-use Rattle.std.proofs.Common.{Result, Ok, Err, refl}
-use Rattle.vs_page.specs.declared.page.TheConstants.{PAYLOAD_MAX}
+use Rattle.std.proofs.Common.{ℕ, ◌<◌, ◌^◌, ◌==◌, Bool, true, false, cond, List, Option, Some, None}
+use Rattle.std.proofs.Common.{Result}
 use Rattle.vs_contents.specs.CallTree.{Done, Ask}
-use Rattle.vs_conn.specs.{End.may_send_of, End.wanting_credit, declared.end.Stop.Stop}
 use Rattle.vs_ring_port.specs.{Contents.RingContents, DriverCalls.Reap, EndLog.EndLog, EndLog.log_reaped, declared.queue.Queue.Queue}
 use Rattle.vs_ring_port.specs.declared.queue.Queue.TheVariants.{Rx, Tx, Event}
-use Rattle.vs_driver_parts.specs.{declared.answers.ConnectError.ConnectError, declared.answers.Sent.Sent, State.DriverEntry}
-use Rattle.vs_driver_parts.specs.{State.DriverState, State.entry_known_as, Connections.connect_refusal, Conversations.connect_with_page}
-use Rattle.vs_driver_parts.specs.Conversations.{has_page, no_credit, not_sent, payload_of, publish_of, put_owed, put_reply, reap_one}
-use Rattle.vs_driver_parts.specs.Conversations.{reaped, send_stopped, send_with_page, start, take_event, take_packet}
-use Rattle.vs_driver_parts.specs.Steps.{connects, sends, sends_on, sends_with_credit, stages_owed, stages_reply, takes_page}
-use Rattle.laws_driver.specs.{Honest.IsFitState, Honest.IsHonestWith, Honest.slots_of, Staged.IsTied, Staged.IsTiedWith, Staged.IsWorkingWith}
-use Rattle.laws_driver.proofs.{Changing.stands_known, Keeping.Keeps, Keeping.keeps_bind, Keeping.keeps_weaker}
-use Rattle.laws_driver.proofs.{Staging.Rests, Staging.Ties, Staging.publish_other, Staging.publish_tx, Tabling.Stands}
-use Rattle.laws_driver.proofs.Calls.{CarriesConnect, CarriesSend, ConnectRests, can_send, connect_nothing, connect_page_keeps, goes_over}
-use Rattle.laws_driver.proofs.Calls.{honest_of, is_refused, knows_none, paged_by, rests_of, send_nothing, stops, wanting}
-use Rattle.laws_driver.proofs.{Carrying.Fact, Carrying.IsTiedBy, Carrying.carries_nothing, Carrying.nothing}
-use Rattle.laws_driver.proofs.Polling.{PairRests, PairTies, not_tx_event, not_tx_rx, put_owed_keeps, put_reply_keeps, take_event_keeps}
+use Rattle.vs_driver_parts.specs.{declared.answers.ConnectError.ConnectError, declared.answers.Sent.Sent}
+use Rattle.vs_driver_parts.specs.State.{DriverState}
+use Rattle.vs_driver_parts.specs.Conversations.{publish_of, put_owed, put_reply, reap_one}
+use Rattle.vs_driver_parts.specs.Conversations.{reaped, start, take_event, take_packet}
+use Rattle.vs_driver_parts.specs.Steps.{connects, sends, stages_owed, stages_reply, takes_page}
+use Rattle.laws_driver.specs.{Honest.IsHonestWith, Staged.IsTied, Staged.IsTiedWith, Staged.IsWorkingWith}
+use Rattle.laws_driver.proofs.{Keeping.Keeps, Keeping.keeps_bind, Keeping.keeps_weaker}
+use Rattle.laws_driver.proofs.{Staging.Rests, Staging.Ties, Staging.publish_other, Staging.publish_tx}
+use Rattle.laws_driver.proofs.Calls.{connect_nothing, connects_with, honest_of, rests_of, send_nothing, sends_with}
+use Rattle.laws_driver.proofs.{Carrying.Carries, Carrying.Fact, Carrying.IsTiedBy, Carrying.carries_nothing, Carrying.nothing}
+use Rattle.laws_driver.proofs.Polling.{not_tx_event, not_tx_rx, put_owed_keeps, put_reply_keeps, take_event_keeps}
 use Rattle.laws_driver.proofs.{Polling.take_packet_keeps, Ringing.moves, Ringing.tells_weaker}
-use Rattle.vs_driver_parts.specs.declared.answers.Sent.TheVariants as sent
-use Rattle.vs_driver_parts.specs.Connections as connections
 
-module _ (first : ℕ) where
-  tied_of : (s : DriverState) (c : RingContents) → Ties first nothing s c → IsTiedWith first s c
-  tied_of s c ties = tells_weaker (IsTiedBy first nothing s) (IsTied first s) (λ l tie. tie.0) c ties
+-- What holds while a queue is worked on: on tx packets may be staged.
+abbrev pub Works : Queue → ℕ → Fact → DriverState → RingContents → Type 0
+Works Tx first fact s c = Ties first fact s c
+Works _ first fact s c = Rests first fact s c
 
-  ties_of : (s : DriverState) (c : RingContents) → IsTiedWith first s c → Ties first nothing s c
-  ties_of s c ties = tells_weaker (IsTied first s) (IsTiedBy first nothing s) (λ l tie. (tie, tt)) c ties
-
-  abbrev Honest : DriverState → RingContents → Type 0
-  Honest s c = IsHonestWith first s c
-
+module _ (first : ℕ) (fact : Fact) (steps : Carries first fact) where
   -- A transmit page comes back.
-  back_same : (s : DriverState) (page : Option (List ℕ)) (l : EndLog) → IsTied first s l → IsTied first (reaped s page).0 (log_reaped Tx page l)
+  back_same : (s : DriverState) (page : Option (List ℕ)) (l : EndLog) → IsTiedBy first fact s l → IsTiedBy first fact (reaped s page).0 (log_reaped Tx page l)
   back_same s None l tie = tie
   back_same s (Some page) l tie = tie
 
-  back_by : (b : Bool) (s : DriverState) (c : RingContents) → IsTiedWith first s c
-      → Keeps (λ r d. IsTiedWith first r.0 d) (cond b (Done (s, false)) (Ask (Reap Tx) (λ page. Done (reaped s page)))) c
+  back_by : (b : Bool) (s : DriverState) (c : RingContents) → Ties first fact s c
+      → Keeps (λ r d. Ties first fact r.0 d) (cond b (Done (s, false)) (Ask (Reap Tx) (λ page. Done (reaped s page)))) c
   back_by true s c ties = ties
   back_by false s c ties = (
     tt,
-    λ page d made. moves _ _ _ _ _ (log_reaped Tx page) c d made.1 (IsTied first s) (IsTied first (reaped s page).0) (λ l tie fair. back_same s page l tie) ties,
+    λ page d made. moves _ _ _ _ _ (log_reaped Tx page) c d made.1 (IsTiedBy first fact s) (IsTiedBy first fact (reaped s page).0)
+        (λ l tie fair. back_same s page l tie) ties,
   )
 
   -- A page is taken, and a receive or event page staged again.
+  pub takes_with : (queue : Queue) (s : DriverState) (c : RingContents) → Works queue first fact s c
+      → Keeps (Works queue first fact) (takes_page queue s) c
+  takes_with Tx s c ties = keeps_bind (Ties first fact) (reap_one s) (λ r. Done r.0) c (back_by (s.in_flight == 0) s c ties)
+  takes_with Rx s c rests =
+      keeps_bind (Rests first fact) (take_packet (start s)) (λ r. Done r.0.state) c (take_packet_keeps first fact steps (start s) c rests)
+  takes_with Event s c rests =
+      keeps_bind (Rests first fact) (take_event (start s)) (λ r. Done r.0.state) c (take_event_keeps first fact steps (start s) c rests)
+
+  pub publish_with : (queue : Queue) (s : DriverState) (c : RingContents) → Works queue first fact s c → Keeps (Rests first fact) (publish_of queue s) c
+  publish_with Tx s c ties = publish_tx first fact s c ties
+  publish_with Rx s c rests = publish_other first fact Rx not_tx_rx s c rests
+  publish_with Event s c rests = publish_other first fact Event not_tx_event s c rests
+
+  pub reply_with : (s : DriverState) (c : RingContents) → Ties first fact s c → Keeps (Ties first fact) (stages_reply s) c
+  reply_with s c ties = keeps_bind (Ties first fact) (put_reply (start s)) (λ r. Done r.0.state) c (put_reply_keeps first fact steps (start s) c ties)
+
+  pub owed_with : (slot : ℕ) (s : DriverState) (c : RingContents) → Ties first fact s c → Keeps (Ties first fact) (stages_owed slot s) c
+  owed_with slot s c ties = keeps_bind (Ties first fact) (put_owed slot (start s)) (λ r. Done r.0.state) c (put_owed_keeps first fact steps slot (start s) c ties)
+
+-- The same of the driver and its log alone.
+module _ (first : ℕ) where
+  working_of : (queue : Queue) (s : DriverState) (c : RingContents) → Works queue first nothing s c → IsWorkingWith queue first s c
+  working_of Tx s c ties = tells_weaker (IsTiedBy first nothing s) (IsTied first s) (λ l tie. tie.0) c ties
+  working_of Rx s c rests = honest_of first nothing s c rests
+  working_of Event s c rests = honest_of first nothing s c rests
+
+  works_of : (queue : Queue) (s : DriverState) (c : RingContents) → IsWorkingWith queue first s c → Works queue first nothing s c
+  works_of Tx s c ties = tells_weaker (IsTied first s) (IsTiedBy first nothing s) (λ l tie. (tie, tt)) c ties
+  works_of Rx s c honest = rests_of first s c honest
+  works_of Event s c honest = rests_of first s c honest
+
   pub takes_keeps : (queue : Queue) (s : DriverState) (c : RingContents) → IsWorkingWith queue first s c
       → Keeps (IsWorkingWith queue first) (takes_page queue s) c
-  takes_keeps Tx s c ties =
-      keeps_bind (IsTiedWith first) (reap_one s) (λ r. Done r.0) c (back_by (s.in_flight == 0) s c ties)
-  takes_keeps Rx s c honest =
-      keeps_bind Honest (take_packet (start s)) (λ r. Done r.0.state) c
-      (keeps_weaker (PairRests first nothing (carries_nothing first)) (λ r d. Honest r.0.state d) (λ r d. honest_of first nothing r.0.state d) (take_packet (start s)) c
-      (take_packet_keeps first nothing (carries_nothing first) (start s) c (rests_of first s c honest)))
-  takes_keeps Event s c honest =
-      keeps_bind Honest (take_event (start s)) (λ r. Done r.0.state) c
-      (keeps_weaker (PairRests first nothing (carries_nothing first)) (λ r d. Honest r.0.state d) (λ r d. honest_of first nothing r.0.state d) (take_event (start s)) c
-      (take_event_keeps first nothing (carries_nothing first) (start s) c (rests_of first s c honest)))
+  takes_keeps queue s c working = keeps_weaker (Works queue first nothing) (IsWorkingWith queue first) (working_of queue) (takes_page queue s) c
+      (takes_with first nothing (carries_nothing first) queue s c (works_of queue s c working))
 
-  pub publish_keeps : (queue : Queue) (s : DriverState) (c : RingContents) → IsWorkingWith queue first s c → Keeps Honest (publish_of queue s) c
-  publish_keeps Tx s c ties = keeps_weaker (Rests first nothing) Honest (honest_of first nothing) (publish_of Tx s) c (publish_tx first nothing s c (ties_of s c ties))
-  publish_keeps Rx s c honest =
-      keeps_weaker (Rests first nothing) Honest (honest_of first nothing) (publish_of Rx s) c (publish_other first nothing Rx not_tx_rx s c (rests_of first s c honest))
-  publish_keeps Event s c honest =
-      keeps_weaker (Rests first nothing) Honest (honest_of first nothing) (publish_of Event s) c
-      (publish_other first nothing Event not_tx_event s c (rests_of first s c honest))
+  pub publish_keeps : (queue : Queue) (s : DriverState) (c : RingContents) → IsWorkingWith queue first s c
+      → Keeps (IsHonestWith first) (publish_of queue s) c
+  publish_keeps queue s c working = keeps_weaker (Rests first nothing) (IsHonestWith first) (honest_of first nothing) (publish_of queue s) c
+      (publish_with first nothing (carries_nothing first) queue s c (works_of queue s c working))
 
   pub reply_keeps : (s : DriverState) (c : RingContents) → IsTiedWith first s c → Keeps (IsTiedWith first) (stages_reply s) c
-  reply_keeps s c ties =
-      keeps_bind (IsTiedWith first) (put_reply (start s)) (λ r. Done r.0.state) c
-      (keeps_weaker (PairTies first nothing (carries_nothing first)) (λ r d. IsTiedWith first r.0.state d) (λ r d kept. tied_of r.0.state d kept)
-      (put_reply (start s)) c (put_reply_keeps first nothing (carries_nothing first) (start s) c (ties_of s c ties)))
+  reply_keeps s c ties = keeps_weaker (Ties first nothing) (IsTiedWith first) (working_of Tx) (stages_reply s) c
+      (reply_with first nothing (carries_nothing first) s c (works_of Tx s c ties))
 
   pub owed_keeps : (slot : ℕ) (s : DriverState) (c : RingContents) → IsTiedWith first s c → Keeps (IsTiedWith first) (stages_owed slot s) c
-  owed_keeps slot s c ties =
-      keeps_bind (IsTiedWith first) (put_owed slot (start s)) (λ r. Done r.0.state) c
-      (keeps_weaker (PairTies first nothing (carries_nothing first)) (λ r d. IsTiedWith first r.0.state d) (λ r d kept. tied_of r.0.state d kept)
-      (put_owed slot (start s)) c (put_owed_keeps first nothing (carries_nothing first) slot (start s) c (ties_of s c ties)))
+  owed_keeps slot s c ties = keeps_weaker (Ties first nothing) (IsTiedWith first) (working_of Tx) (stages_owed slot s) c
+      (owed_with first nothing (carries_nothing first) slot s c (works_of Tx s c ties))
 
 -- connect and send, on the pages as they stand.
-module _ (first host : ℕ) (before : Fact) (after : Result ℕ ConnectError → Fact) (steps : CarriesConnect first host before after) where
-  connect_by : (o : Option ConnectError) (s : DriverState) (c : RingContents) → connect_refusal host s ≡ o → host < 2 ^ 32 → Rests first before s c
-      → Keeps (ConnectRests first host before after steps) (elim o [ Some refusal ↦ Done (s, Err refusal) | None ↦ connect_with_page host s ]) c
-  connect_by (Some refusal) s c is port rests = is_refused first host before after steps refusal s c rests
-  connect_by None s c is port rests = connect_page_keeps first host before after steps s c port is rests
-
-  pub connects_with : (s : DriverState) (c : RingContents) → host < 2 ^ 32 → Rests first before s c
-      → Keeps (ConnectRests first host before after steps) (connects host s) c
-  connects_with s c port rests = connect_by (connect_refusal host s) s c refl port rests
-
-module _ (first id : ℕ) (bytes : List ℕ) (before : Fact) (after : Sent → Fact) (steps : CarriesSend first id bytes before after) where
-  abbrev Ends : DriverState × Sent → RingContents → Type 0
-  Ends x c = Rests first (after x.1) x.0 c
-
-  credit_by : (a b : Bool) (e : DriverEntry) (credit : ℕ) (s : DriverState) (c : RingContents) → entry_known_as id s ≡ Some e
-      → (IsFitState s → Stands s e) → may_send_of e.value.end ≡ Ok credit → Rests first before s c
-      → Keeps Ends (cond a (Done (s, sent.Took 0)) (cond b (Done (connections.with_end (wanting_credit e.value.end) e s, no_credit e.value.end))
-      (send_with_page e (payload_of credit bytes) s))) c
-  credit_by true b e credit s c known stands is rests =
-      goes_over first before (after (sent.Took 0)) s c (λ log held. steps.empty (slots_of s) log held) rests
-  credit_by false true e credit s c known stands is rests = wanting first id bytes before after steps e s c stands rests
-  credit_by false false e credit s c known stands is rests =
-      let can = can_send e credit bytes is in
-      paged_by first id bytes before after steps (has_page s) e (min credit PAYLOAD_MAX) s c known stands can.0 can.1 rests
-
-  stop_by : (r : Result ℕ Stop) (e : DriverEntry) (s : DriverState) (c : RingContents) → entry_known_as id s ≡ Some e
-      → (IsFitState s → Stands s e) → may_send_of e.value.end ≡ r → Rests first before s c
-      → Keeps Ends (elim r [ Err why ↦ Done (s, send_stopped why) | Ok credit ↦ sends_with_credit e credit bytes s ]) c
-  stop_by (Err why) e s c known stands is rests = stops first id bytes before after steps why s c rests
-  stop_by (Ok credit) e s c known stands is rests = credit_by (length bytes == 0) (credit == 0) e credit s c known stands is rests
-
-  send_by : (o : Option DriverEntry) (s : DriverState) (c : RingContents) → entry_known_as id s ≡ o → Rests first before s c
-      → Keeps Ends (elim o [ None ↦ Done (s, not_sent id s) | Some e ↦ sends_on e bytes s ]) c
-  send_by None s c is rests = knows_none first id bytes before after steps s c is rests
-  send_by (Some e) s c is rests = stop_by (may_send_of e.value.end) e s c is (λ fits. stands_known id s e fits is) refl rests
-
-  pub sends_with : (s : DriverState) (c : RingContents) → Rests first before s c → Keeps Ends (sends id bytes s) c
-  sends_with s c rests = send_by (entry_known_as id s) s c refl rests
-
 module _ (first : ℕ) where
   abbrev pub ConnectHonest : DriverState × Result ℕ ConnectError → RingContents → Type 0
   ConnectHonest x c = IsHonestWith first x.0 c

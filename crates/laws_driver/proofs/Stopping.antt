@@ -1,6 +1,6 @@
 -- Where a stage of a poll ends for want of a page: the last load showed none that isn't taken.
 use Rattle.std.proofs.Common.{◌≡◌, ◌<◌, ◌≤◌, ◌+◌, ◌==◌, ℕ, zero, suc, nat_lt, nat_le, Bool, true, false, cond, List, [], length, Option}
-use Rattle.std.proofs.Common.{Some, None, refl, sym, ap, subst, ◌∙◌, arith}
+use Rattle.std.proofs.Common.{Some, None, refl, sym, subst, arith}
 use Rattle.std.proofs.lemmas.Bool.{eqb-true, leb-true, ltb-true}
 use Rattle.vs_contents.specs.{CallTree.Ask, CallTree.Done, CallTree.bind, CallTree.while_up_to, Contents.Relates}
 use Rattle.vs_limits.specs.declared.TheConstants.{DRIVER_REPLIES_FULL}

@@ -1,11 +1,11 @@
 -- A packet that is got: the driver's connections are those that the log with it leaves, and a fair one is never refused.
-use Rattle.std.proofs.lemmas.{Bool.Decides.nat_tests, List.Elements.All-push, Bool.and_parts, Bool.eqb-true}
+use Rattle.std.proofs.lemmas.{Bool.Decides.nat_tests, Grind.common_steps, List.Elements.All-push, Bool.and_parts, Bool.eqb-true}
 use Rattle.std.proofs.Common.{◌≡◌, ℕ, ◌<◌, ◌≤◌, ◌&&◌, nat_le, Bool, true, false, cond, not, List, [], ◌∷◌, Option, Some, None, refl, sym}
 use Rattle.std.proofs.Common.{ap, subst, ◌∙◌, arith, rules}
 use Rattle.vs_conn.specs.End.{ConnectionEnd, answering, end_after, is_of, is_refused, is_reset, verdict_of}
 use Rattle.vs_conn.specs.declared.end.Verdict.{Verdict}
 use Rattle.vs_conn.proofs.Frames.{got_kind}
-use Rattle.vs_header.specs.declared.{Header.Header, Kind.TheVariants.Stream}
+use Rattle.vs_header.specs.declared.{Header.Header, Kind.Kind, Kind.TheVariants.Stream}
 use Rattle.laws_history.specs.{Packets.is_rst, declared.packet.Packet.Packet}
 use Rattle.vs_limits.specs.declared.TheConstants.{BUF_ALLOC, HOST_CID, LAST_ID, DRIVER_CONNECTIONS}
 use Rattle.vs_flow.specs.{Flow.is_assigned, Flow.is_host, Flow.same_flow, Table.entry_of, declared.flow.Flow.Flow}
@@ -14,7 +14,7 @@ use Rattle.vs_page.specs.{Fair.IsFairLog, Held.IsWhole, Log.Driver, Log.Log, Log
 use Rattle.vs_page.specs.declared.log.LogEntry.TheVariants.{GotPacket}
 use Rattle.vs_page.proofs.Flows.{same_is}
 use Rattle.vs_replies.specs.{Owed.reply_to, declared.Reply.Reply}
-use Rattle.laws_tables.specs.{Ends.Ends, Ends.FlowEnd, Heard.IsInOrder, Heard.heard_of, Matches.Matches, Steps.HasEnd, Steps.HasNone}
+use Rattle.laws_tables.specs.{Both.after_taking, Both.answered, Ends.Ends, Ends.FlowEnd, Ends.answer_kind, Ends.ends_of, Heard.IsInOrder, Heard.heard_of, Matches.Matches, Steps.HasEnd, Steps.HasNone}
 use Rattle.laws_tables.specs.Steps.{accepted, forgotten, is_kept, is_message, left, taken, with_clean, with_end}
 use Rattle.laws_tables.proofs.{Keeps.accepts, Keeps.drops, Keeps.forgets, Keeps.ignores, Keeps.refuses, Keeps.takes, Fair.got_in_order}
 use Rattle.laws_tables.proofs.{Fair.got_is_taken, Fair.got_not_refused, Fair.heard_all, Slots.added_slot, Slots.found_by, Slots.no_entry}
@@ -28,12 +28,23 @@ use Rattle.laws_driver.proofs.Tabling.{Stands, connection_ends, connection_fits,
 use Rattle.laws_driver.proofs.Fits.{IsHeldBy, packet_fits}
 use Rattle.vs_conn.specs.declared.end.Verdict.TheVariants as verdict
 use Rattle.laws_history.specs.Packets as packets
+use Rattle.laws_tables.specs.Both.{after_packet as after_packet_on}
 
--- The driver t after it got a packet, whose log was this.
+-- The driver t after it got a packet, whose log was this: it took the packet, and keeps no flow.
 pub record Gets (first : ℕ) (p : Packet) (s : DriverState) (log : Log) (t : DriverState) : Type 0 where
   pub matches : Matches Driver first (ends_of_state t) (GotPacket p ∷ log)
   pub fits : IsFitState t
   pub broken : t.broken ≡ s.broken
+  pub answer : Bool
+  pub ends : ends_of_state t ≡ forgotten (after_taking Driver p answer (ends_of_state s))
+
+-- A packet that isn't dropped, by the ends of its flow.
+by_ends : (p : Packet) (answer : Bool) (part : Ends) (es : List ConnectionEnd) → is_dropped Driver part.cid p.header ≡ false
+    → ends_of (flow_got Driver p) part.entries ≡ es
+    → forgotten (after_packet_on Driver es p (flow_got Driver p) answer part) ≡ forgotten (after_taking Driver p answer part)
+by_ends p answer part es kept are =
+    ap (λ (xs : List ConnectionEnd). forgotten (after_packet_on Driver xs p (flow_got Driver p) answer part)) (sym are)
+    ∙ ap (λ (b : Bool). forgotten (cond b part (after_packet_on Driver (ends_of (flow_got Driver p) part.entries) p (flow_got Driver p) answer part))) (sym kept)
 
 module _ (p : Packet) (e : DriverEntry) (s : DriverState) (fits : IsFitState s) (stands : Stands s e) where
   stays : (c : DriverConnection) → c.end ≡ end_after e.value.end p.header → IsHeldBy c
@@ -107,7 +118,13 @@ known first p e s log fits stands same whole kept_in m fair =
     forgets Driver first (taken Driver f end p part) (GotPacket p ∷ log)
     (takes Driver first p end part log m kept_in has (got_in_order Driver first p log (fair f)) (got_is_taken Driver p log (fair f))) in
     let at : forgotten (taken Driver f end p part) ≡ ends_of_state (on_known p e s) = ap (λ (g : Flow). forgotten (taken Driver g end p part)) same ∙ sym ends in
-    record { matches = subst (λ (x : Ends). Matches Driver first x (GotPacket p ∷ log)) at now; fits = by.1; broken = by.2 }
+    record {
+      matches = subst (λ (x : Ends). Matches Driver first x (GotPacket p ∷ log)) at now;
+      fits = by.1;
+      broken = by.2;
+      answer = false;
+      ends = sym at ∙ by_ends p false part (end ∷ []) kept_in has;
+    }
 
 -- A packet of an unknown flow.
 pub with_reply_fits : (s : DriverState) (r : Reply) → IsFitState s → IsFitFlow r.flow → IsFitState (with_reply r s)
@@ -158,10 +175,26 @@ module _ (first : ℕ) (p : Packet) (s : DriverState) (log : Log) (fits : IsFitS
     matches = refuses Driver first p (ends_of_state s) log m kept_in no_end other order;
     fits = with_reply_fits s (reply_to (flow_to_guest p.header) p.header) fits flow_fits;
     broken = refl;
+    answer = false;
+    ends = refused_by (packets.is_request p)
+        ∙ ap (λ (b : Bool). forgotten (cond b (ends_of_state s) (answered (packets.is_request p) false p (flow_got Driver p) (ends_of_state s)))) (sym other)
+        ∙ by_ends p false (ends_of_state s) [] kept_in no_end;
   }
+    where
+      refused_by : (b : Bool) → ends_of_state (with_reply (reply_to (flow_to_guest p.header) p.header) s)
+          ≡ forgotten (answered b false p (flow_got Driver p) (ends_of_state s))
+      refused_by true = refl
+      refused_by false = refl
 
   was_ignored : is_rst p ≡ true → Gets first p s log s
-  was_ignored rst = record { matches = ignores Driver first p (ends_of_state s) log m kept_in no_end rst order; fits = fits; broken = refl }
+  was_ignored rst = record {
+    matches = ignores Driver first p (ends_of_state s) log m kept_in no_end rst order;
+    fits = fits;
+    broken = refl;
+    answer = false;
+    ends = ap (λ (b : Bool). forgotten (cond b (ends_of_state s) (answered (packets.is_request p) false p (flow_got Driver p) (ends_of_state s)))) (sym rst)
+        ∙ by_ends p false (ends_of_state s) [] kept_in no_end;
+  }
 
   was_accepted : is_request p.header ≡ true → may_open (flow_to_guest p.header) s ≡ true → Gets first p s log (with_request (flow_to_guest p.header) p.header s)
   was_accepted asks may =
@@ -180,7 +213,16 @@ module _ (first : ℕ) (p : Packet) (s : DriverState) (log : Log) (fits : IsFitS
         fits = opening_fits s f c s.next_port fits free flow_fits room.peer (answering_held p.header s.next_id) refl fits.port_left (omega arith)
             (λ own. let both : true ≡ false = sym room.assigned ∙ own in absurd cc);
         broken = refl;
+        answer = true;
+        ends = ends
+            ∙ ap (λ (k : Kind). forgotten (accepted f k p.header (ends_of_state s))) (sym (ap answer_kind (eqb-true p.header.kind 1 asks_for.0)))
+            ∙ ap (λ (b : Bool). forgotten (answered b true p f (ends_of_state s))) (sym request)
+            ∙ ap (λ (b : Bool). forgotten (cond b (ends_of_state s) (answered (packets.is_request p) true p f (ends_of_state s)))) (sym (not_rst request))
+            ∙ by_ends p true (ends_of_state s) [] kept_in no_end;
       }
+    where
+      not_rst : packets.is_request p ≡ true → is_rst p ≡ false
+      not_rst is = grind (arith, nat_tests, common_steps, is)
 
   unknown : Gets first p s log (on_unknown p s)
   unknown = by (is_reset p.header) (is_request p.header) (may_open (flow_to_guest p.header) s) refl refl refl
@@ -212,5 +254,8 @@ gets_packet first p s log fits ports whole m fair = drop_by (is_dropped Driver s
       matches = drops Driver first p (ends_of_state s) log m dropped (λ asks. got_in_order Driver first p log (fair (flow_got Driver p)));
       fits = fits;
       broken = refl;
+      answer = false;
+      ends = ap (λ (b : Bool). forgotten (cond b (ends_of_state s)
+          (after_packet_on Driver (ends_of (flow_got Driver p) (ends_of_state s).entries) p (flow_got Driver p) false (ends_of_state s)))) (sym dropped);
     }
     drop_by false kept_in = by (entry_of s.table (flow_to_guest p.header)) refl kept_in

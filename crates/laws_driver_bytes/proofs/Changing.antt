@@ -1,18 +1,20 @@
 -- Calls that read nothing keep the account: those that make no use of the ring, and a send.
-use Rattle.std.proofs.Common.{◌≡◌, ℕ, ◌==◌, not, Bool, true, false, cond, List, [], ◌∷◌, take, length, Option, Some, None, refl}
-use Rattle.std.proofs.Common.{Contains, ◌∙◌}
+use Rattle.std.proofs.Common.{◌≡◌, ℕ, ◌==◌, not, Bool, true, false, cond, List, [], ◌∷◌, take, length, Option, Some, None, refl, Contains}
+use Rattle.std.proofs.Common.{Result, Ok, Err, ◌∙◌}
 use Rattle.std.proofs.lemmas.List.Elements.{All-filter}
 use Rattle.vs_conn.specs.{End.with_payload_sent, End.wanting_credit, declared.end.State.State}
-use Rattle.vs_conn.specs.declared.end.State.TheVariants as state
 use Rattle.vs_flow.specs.{Flow.same_flow, Table.IsTable, declared.flow.Flow.Flow}
-use Rattle.laws_history.specs.{declared.packet.Packet.Packet, Packets.is_request}
-use Rattle.laws_history.specs.History.{Got, History, Put, Side, gots, puts}
+use Rattle.laws_history.specs.{declared.packet.Packet.Packet, Packets.is_request, History.Got, History.History, History.Put, History.Side}
+use Rattle.laws_history.specs.History.{gots, puts}
 use Rattle.vs_page.specs.{Fair.asked_by, Fair.number_of, Fair.payload_got, Log.Driver, Log.Log, Log.Role, Log.flow_got, Log.flow_put}
-use Rattle.vs_page.specs.{Log.side_of, Log.whole_of, declared.log.LogEntry.TheVariants.GotPacket, declared.log.LogEntry.TheVariants.PutPacket}
-use Rattle.vs_driver_parts.specs.{Held.with_connection_in, Listening.with_waiting, Listening.without_id, State.DriverConnection, State.DriverEntry}
-use Rattle.vs_driver_parts.specs.State.{DriverState, GoneConnection, entry_known_as, gone_known_as, is_known_as}
-use Rattle.vs_driver_parts.specs.Connections.{after_close, after_closing, after_shut, after_shutdown, after_unlisten, all_closed, entry_closed}
-use Rattle.vs_driver_parts.specs.Connections.{gone_closed, shut_in, waiting_on, without_gone}
+use Rattle.vs_page.specs.{Log.side_of, Log.whole_of, declared.log.LogEntry.TheVariants.GotPacket}
+use Rattle.vs_page.specs.declared.log.LogEntry.TheVariants.{PutPacket}
+use Rattle.vs_driver_parts.specs.Listening.{after_accept, listening, next_accepted, with_waiting, without_id}
+use Rattle.vs_driver_parts.specs.{Held.with_connection_in, State.DriverConnection, State.DriverEntry, State.DriverState}
+use Rattle.vs_driver_parts.specs.State.{GoneConnection, entry_known_as, gone_known_as, is_known_as}
+use Rattle.vs_driver_parts.specs.{declared.answers.ListenError.ListenError, Connections.after_close, Connections.after_closing}
+use Rattle.vs_driver_parts.specs.Connections.{after_shut, after_shutdown, after_unlisten, all_closed, entry_closed, gone_closed, shut_in}
+use Rattle.vs_driver_parts.specs.Connections.{waiting_on, without_gone}
 use Rattle.vs_driver_parts.proofs.Numbers.{numbers_gone_without}
 use Rattle.laws_tables.proofs.Slots.{found_by}
 use Rattle.laws_tables.specs.Steps.{payload_on}
@@ -20,9 +22,10 @@ use Rattle.laws_bytes.specs.Drains.{receives}
 use Rattle.laws_bytes.proofs.Steps.{Goes, ended_goes, shut_goes, stays_still}
 use Rattle.laws_driver.specs.Honest.{IsFitState, slots_of}
 use Rattle.laws_driver.proofs.{Calls.CarriesSend, Changing.close_changes}
-use Rattle.laws_driver_bytes.specs.{Received.Account, Received.AreReceived, Received.ReceivedOn}
-use Rattle.laws_driver_bytes.proofs.{Adding.asked_after, Adding.asked_still, Adding.got_over_put, Reading.given_none, Receiving.changed_received}
-use Rattle.vs_driver_parts.specs.Connections as connections
+use Rattle.laws_driver_bytes.specs.Received.{Account, AreReceived, ReceivedOn}
+use Rattle.laws_driver_bytes.proofs.{Adding.asked_after, Adding.asked_still, Adding.got_over_put, Reading.given_none}
+use Rattle.laws_driver_bytes.proofs.Receiving.{changed_received}
+use Rattle.vs_conn.specs.declared.end.State.TheVariants as state
 
 -- The number of a flow's present connection stays at all packets but REQUESTs.
 put_by : (side : Side) (p : Packet) (w : History) (b : Bool) → is_request p ≡ false
@@ -116,18 +119,34 @@ pub unlisten_received : (a : Account) (log : Log) (port : ℕ) (s : DriverState)
     → AreReceived a log (slots_of (after_unlisten port s))
 unlisten_received a log port s fits x = all_received a log (waiting_on port s) s fits x
 
+-- listen and accept change no slot.
+pub listen_slots : (port : ℕ) (s : DriverState) (r : Result (Unit {0}) ListenError)
+    → slots_of (elim r as (λ _. DriverState) [ Ok x ↦ listening port s | Err why ↦ s ]) ≡ slots_of s
+listen_slots port s (Ok x) = refl
+listen_slots port s (Err why) = refl
+
+pub accept_slots : (port : ℕ) (s : DriverState) → slots_of (after_accept port s) ≡ slots_of s
+accept_slots port s = by (next_accepted port s)
+  where
+    by : (o : Option ℕ) → slots_of (elim o as (λ _. DriverState) [
+      | None ↦ s
+      | Some id ↦ record s { listeners = with_waiting port (without_id id) s.listeners }
+    ]) ≡ slots_of s
+    by None = refl
+    by (Some id) = refl
+
 -- send.
 pub send_receives : (first id : ℕ) (bytes : List ℕ) (a : Account)
-    → CarriesSend first id bytes (λ slots log. AreReceived a log slots) (λ answer slots log. AreReceived a log slots)
+    → CarriesSend first id bytes (λ part slots log. AreReceived a log slots) (λ answer part slots log. AreReceived a log slots)
 send_receives first id bytes a = record {
-  stopped = λ why slots log x. x;
+  stopped = λ why s log x. x;
   unknown = λ s log none x. x;
-  empty = λ slots log x. x;
-  full = λ n slots log x. x;
-  wants = λ e s log fits stands x.
+  empty = λ s log x. x;
+  full = λ n s log x. x;
+  wants = λ e s log fits stands m x.
       alters a log s x e (record e.value { end = wanting_credit e.value.end }) fits.sound stands.contains refl
       (stays_still (receives e.value.end) (receives e.value.end) e.value.unread [] (λ on. on) (λ on. refl));
-  sends = λ e n s log fits stands known m was fair x.
+  sends = λ e n s log fits stands known can few m was fair x.
       puts_and_alters a log s x (payload_on Driver s.cid e.flow e.value.end (take n bytes)) e
       (record e.value { end = with_payload_sent e.value.end (length (take n bytes)) }) refl fits.sound stands.contains refl
       (stays_still (receives e.value.end) (receives e.value.end) e.value.unread [] (λ on. on) (λ on. refl));

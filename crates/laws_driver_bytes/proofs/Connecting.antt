@@ -1,25 +1,26 @@
 -- A connect opens a connection on which nothing was delivered; and the account of a driver that was just made.
 use Rattle.std.proofs.Common.{◌≡◌, ◌≢◌, ℕ, ◌+◌, ◌<◌, Bool, true, false, cond, None, List, [], ◌∷◌, refl, ap, ◌∙◌, arith}
 use Rattle.std.specs.List.{All}
-use Rattle.vs_conn.specs.{End.asked, End.paid_of}
-use Rattle.vs_conn.specs.declared.end.Owed.TheVariants as owed
+use Rattle.vs_conn.specs.End.{asked, paid_of}
 use Rattle.vs_flow.specs.{Connection.Connection, Flow.is_assigned, declared.flow.Flow.Flow}
 use Rattle.vs_flow.proofs.Entries.{same_flow_false}
 use Rattle.vs_header.specs.declared.Kind.TheVariants.{Stream}
 use Rattle.vs_limits.specs.declared.TheConstants.{BUF_ALLOC}
-use Rattle.laws_history.specs.{declared.packet.Packet.Packet, Again.count, Packets.is_request}
-use Rattle.laws_history.specs.History.{Answerer, Asker, Put, Side, gots, puts}
-use Rattle.vs_page.specs.{Fair.IsFairLog, Fair.asked_by, Fair.current, Fair.number_of, Fair.payload_got, Fair.payload_of, Log.Driver, Log.Log}
-use Rattle.vs_page.specs.{Log.and_then, Log.history_of, Log.side_by, Log.side_of, Log.whole_of}
+use Rattle.laws_history.specs.{declared.packet.Packet.Packet, Again.count, Packets.is_request, History.Answerer, History.Asker, History.Put}
+use Rattle.laws_history.specs.History.{Side, gots, puts}
+use Rattle.vs_page.specs.{Fair.IsFairLog, Fair.asked_by, Fair.current, Fair.number_of, Fair.payload_got, Fair.payload_of, Log.Driver}
+use Rattle.vs_page.specs.Log.{Log, and_then, history_of, side_by, side_of, whole_of}
 use Rattle.vs_page.specs.declared.log.LogEntry.TheVariants.{PutPacket}
 use Rattle.vs_page.proofs.{Flows.same_self, Present.present_got}
 use Rattle.laws_tables.specs.Steps.{request_on}
-use Rattle.vs_driver_parts.specs.{Connections.connect_refusal, Connections.connected, Connections.next_flow, Held.HeldSlots, State.DriverConnection}
-use Rattle.vs_driver_parts.specs.{Conversations.new_state, State.DriverState}
+use Rattle.vs_driver_parts.specs.{Connections.connect_refusal, Connections.connected, Connections.next_flow, Held.HeldSlots}
+use Rattle.vs_driver_parts.specs.{State.DriverConnection, State.DriverState, Conversations.new_state}
 use Rattle.laws_driver.specs.Honest.{IsFitState, slots_of}
 use Rattle.laws_driver.proofs.{Calls.CarriesConnect, Putting.may_connect}
 use Rattle.laws_driver_bytes.specs.Received.{Account, AreReceived, no_account, with_opened}
-use Rattle.laws_driver_bytes.proofs.{Adding.got_over_put, Logging.opened_goes_on, Logging.opened_received, Polling.Further, Polling.goes_then}
+use Rattle.laws_driver_bytes.proofs.{Adding.got_over_put, Logging.opened_goes_on, Logging.opened_received, Polling.Further}
+use Rattle.laws_driver_bytes.proofs.Polling.{IsFurther, goes_then}
+use Rattle.vs_conn.specs.declared.end.Owed.TheVariants as owed
 
 -- The numbers given last don't count.
 with_last : (a : Account) (log : Log) (slots : HeldSlots) (port id : ℕ) → AreReceived a log slots
@@ -40,8 +41,8 @@ number_rises Asker put got p is request = ap (λ (b : Bool). cond b (count is_re
 number_rises Answerer put got p is request = absurd cc
 
 connected_received : (a : Account) (host : ℕ) (s : DriverState) (log : Log) → let p = request_on Driver s.cid (next_flow host s) Stream in
-    IsFitState s → connect_refusal host s ≡ None → IsFairLog Driver (PutPacket p ∷ log) → Further a (slots_of s) log
-    → Further a (slots_of (connected host s)) (PutPacket p ∷ log)
+    IsFitState s → connect_refusal host s ≡ None → IsFairLog Driver (PutPacket p ∷ log) → IsFurther a (slots_of s) log
+    → IsFurther a (slots_of (connected host s)) (PutPacket p ∷ log)
 connected_received a host s log fits free fair x =
     let f : Flow = next_flow host s in
     let p : Packet = request_on Driver s.cid f Stream in
@@ -76,7 +77,7 @@ connected_received a host s log fits free fair x =
 
 pub connect_carries : (first host : ℕ) (a : Account) → CarriesConnect first host (Further a) (λ answer. Further a)
 connect_carries first host a = record {
-  refused = λ why slots log x. x;
+  refused = λ why s log x. x;
   opens = λ s log fits free m was fair x. connected_received a host s log fits free fair x;
 }
 

@@ -1,19 +1,19 @@
 -- What calls on the ring carry to their ends.
-use Rattle.std.proofs.Common.{ℕ, ◌<◌, ◌≤◌, ◌^◌, List, Result}
+use Rattle.std.proofs.Common.{ℕ, ◌<◌, ◌≤◌, ◌^◌, List, Result, refl}
 use Rattle.vs_limits.specs.declared.TheConstants.{LAST_PORT}
-use Rattle.vs_ring_port.specs.{Contents.RingContents}
-use Rattle.std.proofs.Common.{refl}
+use Rattle.vs_ring_port.specs.Contents.{RingContents}
 use Rattle.vs_driver_parts.specs.declared.answers.{ConnectError.ConnectError, Polled.Polled, Sent.Sent}
-use Rattle.vs_driver_parts.specs.{Conversations.connect_of, Conversations.new_of, Conversations.poll_of, Conversations.send_of, Playing.Plays, State.DriverState}
-use Rattle.laws_driver.proofs.Polling.{poll_keeps}
+use Rattle.vs_driver_parts.specs.Conversations.{connect_of, new_of, poll_of, send_of}
+use Rattle.vs_driver_parts.specs.{Playing.Plays, State.DriverState}
+use Rattle.laws_driver.proofs.{Polling.poll_keeps, Calls.connect_keeps, Calls.new_keeps, Calls.send_keeps, Carrying.Fact, Keeping.keeps_end}
+use Rattle.laws_driver.proofs.{Ringing.at_rest, Staging.Rests}
 use Rattle.laws_driver_bytes.proofs.{Connecting.connect_carries, Connecting.none_received, Polling.Further, Polling.poll_carries}
-use Rattle.laws_driver.specs.Honest.{IsFresh, IsHonestWith}
-use Rattle.laws_driver.proofs.{Calls.connect_keeps, Calls.new_keeps, Calls.send_keeps, Carrying.Fact, Keeping.keeps_end, Ringing.at_rest, Staging.Rests}
-use Rattle.laws_driver_bytes.specs.Received.{Account, AreReceived, GoesOn, GoesOnWith, IsReceivedWith, no_account}
 use Rattle.laws_driver_bytes.proofs.Changing.{send_receives}
+use Rattle.laws_driver.specs.Honest.{IsFresh, IsHonestWith}
+use Rattle.laws_driver_bytes.specs.Received.{Account, AreReceived, GoesOn, GoesOnWith, IsReceivedWith, no_account}
 
 abbrev pub received_by : Account → Fact
-received_by a slots log = AreReceived a log slots
+received_by a part slots log = AreReceived a log slots
 
 pub starts_received : (first : ℕ) (a : Account) (s : DriverState) (c : RingContents) → IsHonestWith first s c → IsReceivedWith a s c
     → Rests first (received_by a) s c
@@ -62,4 +62,4 @@ new_ends size port id c d s fits fresh plays = λ on l is. (kept on l is).1
     kept : Rests s.cid (received_by (no_account id)) s d
     kept =
         keeps_end (λ t e. Rests t.cid (received_by (no_account id)) t e) (new_of size port id) c d s
-        (new_keeps size port id fits (received_by (no_account id)) (none_received size port id) c fresh) plays
+        (new_keeps size port id fits (received_by (no_account id)) (λ cid. none_received size port id) c fresh) plays

@@ -9,3 +9,5 @@ pub mod Ending
 pub mod Logging
 pub mod Polling
 pub mod Connecting
+pub mod Making
+pub mod Journaling

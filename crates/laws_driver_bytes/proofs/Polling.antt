@@ -3,29 +3,26 @@ use Rattle.std.proofs.Common.{◌≡◌, ◌≢◌, ℕ, ◌+◌, ◌<◌, ◌�
 use Rattle.std.proofs.Common.{Some, None, refl, sym, ap, subst, ◌∙◌, arith}
 use Rattle.std.proofs.lemmas.{Bool.Decides.nat_tests, Grind.common_steps}
 use Rattle.std.specs.List.{All, filter, slice_get}
-use Rattle.vs_conn.specs.{End.ConnectionEnd, End.answering, End.end_after, End.is_refused, End.is_reset, End.owes_of, End.paid_of, End.verdict_of}
+use Rattle.vs_conn.specs.End.{ConnectionEnd, answering, end_after, is_refused, is_reset, owes_of, paid_of, verdict_of}
 use Rattle.vs_conn.specs.declared.end.{Owed.Owed, Verdict.Verdict}
-use Rattle.vs_conn.specs.declared.end.Owed.TheVariants as owed
-use Rattle.vs_conn.specs.declared.end.Verdict.TheVariants as verdict
-use Rattle.vs_flow.specs.{Connection.Connection, Flow.is_assigned, Flow.same_flow, Table.IsRising, Table.IsTable, Table.entry_of, Table.without}
-use Rattle.vs_flow.specs.declared.flow.Flow.{Flow}
+use Rattle.vs_flow.specs.{Connection.Connection, Flow.is_assigned, Flow.same_flow, Table.IsRising, Table.IsTable, Table.entry_of}
+use Rattle.vs_flow.specs.{Table.without, declared.flow.Flow.Flow}
 use Rattle.vs_flow.proofs.Entries.{none_found, same_flow_false}
 use Rattle.vs_limits.specs.declared.TheConstants.{BUF_ALLOC, HOST_CID}
-use Rattle.laws_history.specs.{declared.packet.Packet.Packet, Packets.is_rw, Again.count}
-use Rattle.laws_history.specs.History.{Answerer, Asker, Got, Side, gots, puts}
-use Rattle.laws_history.specs.Packets as packets
-use Rattle.vs_page.specs.{Fair.IsFairLog, Fair.asked_by, Fair.current, Fair.number_of, Fair.payload_got, Fair.payload_of, Held.IsWhole, Log.Driver}
-use Rattle.vs_page.specs.{Log.Log, Log.and_then, Log.flow_got, Log.history_of, Log.side_by, Log.side_of, Log.whole_of, Open.is_dropped}
-use Rattle.vs_page.specs.declared.log.LogEntry.TheVariants.{GotEvent, GotPacket, Mark, PutPacket}
+use Rattle.laws_history.specs.{declared.packet.Packet.Packet, Packets.is_rw, Again.count, History.Answerer, History.Asker, History.Got}
+use Rattle.laws_history.specs.History.{Side, gots, puts}
+use Rattle.vs_page.specs.{Fair.IsFairLog, Fair.asked_by, Fair.current, Fair.number_of, Fair.payload_got, Fair.payload_of, Held.IsWhole}
+use Rattle.vs_page.specs.Log.{Driver, Log, and_then, flow_got, history_of, side_by, side_of, whole_of}
+use Rattle.vs_page.specs.{Open.is_dropped, declared.log.LogEntry.TheVariants.GotEvent, declared.log.LogEntry.TheVariants.GotPacket}
+use Rattle.vs_page.specs.declared.log.LogEntry.TheVariants.{Mark, PutPacket}
 use Rattle.vs_page.proofs.{Flows.same_is, Flows.same_self, PayloadLogs.got_none, Present.present_got}
-use Rattle.vs_replies.specs.{Owed.reply_to}
+use Rattle.vs_replies.specs.Owed.{reply_to}
 use Rattle.laws_tables.specs.{Ends.is_new, Matches.Matches, Steps.HasEnd, Steps.owed_on, Steps.reply_on}
 use Rattle.laws_tables.proofs.{Fair.got_goes_on, Fair.got_not_refused, Fair.heard_all, Slots.found_by, Tables.driver_begun}
-use Rattle.vs_driver_parts.specs.{Conversations.after_paying, Held.HeldSlots, State.DriverConnection}
-use Rattle.vs_driver_parts.specs.State.{DriverEntry, DriverState}
-use Rattle.vs_driver_parts.specs.Connections.{after_leaving, gone_as, is_let_go, paid_connection, with_connection, with_request, waits_no_more}
-use Rattle.vs_driver_parts.specs.Receiving.{after_packet, after_verdict, all_left, is_request, may_open, on_heard, on_known, on_packet}
-use Rattle.vs_driver_parts.specs.Receiving.{on_unknown, reset_reply, with_reply}
+use Rattle.vs_driver_parts.specs.{Conversations.after_paying, Held.HeldSlots, State.DriverConnection, State.DriverEntry, State.DriverState}
+use Rattle.vs_driver_parts.specs.Connections.{after_leaving, gone_as, is_let_go, paid_connection, with_connection, with_request}
+use Rattle.vs_driver_parts.specs.{Connections.waits_no_more, Receiving.after_packet, Receiving.after_verdict, Receiving.all_left}
+use Rattle.vs_driver_parts.specs.Receiving.{is_request, may_open, on_heard, on_known, on_packet, on_unknown, reset_reply, with_reply}
 use Rattle.vs_driver_parts.proofs.{Ids.found_under, Packets.first_under, Packets.others_left, Packets.packet_known, Packets.packet_unknown}
 use Rattle.laws_bytes.specs.Drains.{receives}
 use Rattle.laws_bytes.proofs.Steps.{Goes, comes_in, delivers_to, hears_less, only_delivered, pays_less, stays_still}
@@ -34,9 +31,12 @@ use Rattle.laws_driver.proofs.{Carrying.Carries, Carrying.Fact, Tabling.Stands, 
 use Rattle.laws_driver.proofs.{Resetting.with_cid, Taking.with_reply_fits}
 use Rattle.laws_driver_bytes.specs.{Received.Account, Received.AreReceived, Received.GoesOn, Received.with_opened, Sent.only_on}
 use Rattle.vs_header.specs.declared.Kind.TheVariants.{Stream}
-use Rattle.laws_driver_bytes.proofs.{Adding.got_adds, Adding.got_over_put, Changing.number_got, Changing.number_put, Changing.puts_and_alters}
-use Rattle.laws_driver_bytes.proofs.{Logging.leaves_received, Logging.opened_goes_on, Logging.opened_received, Logging.passes_by, Logging.same_received}
-use Rattle.laws_driver_bytes.proofs.{Reading.given_none, Receiving.changed_received}
+use Rattle.laws_driver_bytes.proofs.{Adding.got_adds, Adding.got_over_put, Changing.number_got, Changing.number_put}
+use Rattle.laws_driver_bytes.proofs.{Changing.puts_and_alters, Logging.leaves_received, Logging.opened_goes_on, Logging.opened_received}
+use Rattle.laws_driver_bytes.proofs.{Logging.passes_by, Logging.same_received, Reading.given_none, Receiving.changed_received}
+use Rattle.vs_conn.specs.declared.end.Owed.TheVariants as owed
+use Rattle.vs_conn.specs.declared.end.Verdict.TheVariants as verdict
+use Rattle.laws_history.specs.Packets as packets
 
 -- A packet that the driver puts, which opens nothing.
 pub puts_received : (a : Account) (p : Packet) (log : Log) (slots : HeldSlots) → packets.is_request p ≡ false → AreReceived a log slots
@@ -157,8 +157,11 @@ module _ (first : ℕ) (a : Account) (p : Packet) (e : DriverEntry) (s : DriverS
   known_received = by_verdict (verdict_of e.value.end p.header) refl kept
 
 -- An account that goes on from another.
+abbrev pub IsFurther : Account → HeldSlots → Log → Type 0
+IsFurther a slots log = (b : Account) × GoesOn a b × AreReceived b log slots
+
 abbrev pub Further : Account → Fact
-Further a slots log = (b : Account) × GoesOn a b × AreReceived b log slots
+Further a part slots log = IsFurther a slots log
 
 pub goes_then : (a b c : Account) → GoesOn a b → GoesOn b c → GoesOn a c
 goes_then a b c one two = record {
@@ -174,14 +177,14 @@ number_rises Asker put got p is request = absurd cc
 
 -- Of a flow that has no connection.
 module _ (a : Account) (p : Packet) (s : DriverState) (log : Log) (whole : IsWhole p) (fair : IsFairLog Driver (GotPacket p ∷ log))
-    (absent : All (λ e. e.flow ≢ flow_got Driver p) s.table.entries) (x : Further a (slots_of s) log) where
+    (absent : All (λ e. e.flow ≢ flow_got Driver p) s.table.entries) (x : IsFurther a (slots_of s) log) where
   abbrev f : Flow
   f = flow_got Driver p
 
-  passes : Further a (slots_of s) (GotPacket p ∷ log)
+  passes : IsFurther a (slots_of s) (GotPacket p ∷ log)
   passes = (x.0, x.1, passes_by x.0 p log (slots_of s) absent x.2)
 
-  opens : is_request p.header ≡ true → may_open f s ≡ true → Further a (slots_of (with_request f p.header s)) (GotPacket p ∷ log)
+  opens : is_request p.header ≡ true → may_open f s ≡ true → IsFurther a (slots_of (with_request f p.header s)) (GotPacket p ∷ log)
   opens asks may =
       let is_one : packets.is_request p ≡ true = asked_by_header asks in
       let none : p.payload ≡ [] = whole.none (no_payload is_one) in
@@ -217,11 +220,11 @@ module _ (a : Account) (p : Packet) (s : DriverState) (log : Log) (whole : IsWho
       assigned_by : may_open (flow_got Driver p) s ≡ true → is_assigned (flow_got Driver p).host ≡ true
       assigned_by is = grind (arith, nat_tests, common_steps, is)
 
-  pub unknown_received : Further a (slots_of (on_unknown p s)) (GotPacket p ∷ log)
+  pub unknown_received : IsFurther a (slots_of (on_unknown p s)) (GotPacket p ∷ log)
   unknown_received = by (is_reset p.header) (is_request p.header) (may_open f s) refl refl
     where
       by : (r q o : Bool) → is_request p.header ≡ q → may_open f s ≡ o
-          → Further a (slots_of (cond r s (cond (q && o) (with_request f p.header s) (with_reply (reply_to f p.header) s)))) (GotPacket p ∷ log)
+          → IsFurther a (slots_of (cond r s (cond (q && o) (with_request f p.header s) (with_reply (reply_to f p.header) s)))) (GotPacket p ∷ log)
       by true q o asks may = passes
       by false true true asks may = opens asks may
       by false true false asks may = passes
@@ -229,7 +232,7 @@ module _ (a : Account) (p : Packet) (s : DriverState) (log : Log) (whole : IsWho
 
 -- A packet.
 heard_received : (first : ℕ) (a : Account) (p : Packet) (s : DriverState) (log : Log) → IsFitState s → IsWhole p → Matches Driver first (ends_of_state s) log
-    → IsFairLog Driver log → IsFairLog Driver (GotPacket p ∷ log) → Further a (slots_of s) log → Further a (slots_of (on_packet p s)) (GotPacket p ∷ log)
+    → IsFairLog Driver log → IsFairLog Driver (GotPacket p ∷ log) → IsFurther a (slots_of s) log → IsFurther a (slots_of (on_packet p s)) (GotPacket p ∷ log)
 heard_received first a p s log fits whole m was fair x = drop_by (is_dropped Driver s.cid p.header) refl
   where
     absent_of : entry_of s.table (flow_got Driver p) ≡ None → All (λ e. e.flow ≢ flow_got Driver p) s.table.entries
@@ -238,21 +241,21 @@ heard_received first a p s log fits whole m was fair x = drop_by (is_dropped Dri
         let both : true ≡ false = sym (same_self (flow_got Driver p)) ∙ ap (λ (f : Flow). same_flow (flow_got Driver p) f) (sym on) ∙ fails in
         cc
 
-    found : (o : Option DriverEntry) → entry_of s.table (flow_got Driver p) ≡ o → Further a (slots_of (on_heard p s)) (GotPacket p ∷ log)
+    found : (o : Option DriverEntry) → entry_of s.table (flow_got Driver p) ≡ o → IsFurther a (slots_of (on_heard p s)) (GotPacket p ∷ log)
     found None none =
-        subst (λ (t : DriverState). Further a (slots_of t) (GotPacket p ∷ log)) (sym (packet_unknown p s none))
+        subst (λ (t : DriverState). IsFurther a (slots_of t) (GotPacket p ∷ log)) (sym (packet_unknown p s none))
         (unknown_received a p s log whole fair (absent_of none) x)
     found (Some e) is =
         let passes = found_by (λ (y : DriverEntry). same_flow (flow_got Driver p) y.flow) s.table.entries e is in
         let stands : Stands s e = record { under = found_under _ s.table e fits.sound is; contains = passes.0 } in
         let same = same_is (flow_got Driver p) e.flow passes.1 in
-        subst (λ (t : DriverState). Further a (slots_of t) (GotPacket p ∷ log)) (sym (packet_known p s e is))
+        subst (λ (t : DriverState). IsFurther a (slots_of t) (GotPacket p ∷ log)) (sym (packet_known p s e is))
         (x.0, x.1, known_received first x.0 p e s log fits stands same whole m was fair x.2)
 
     of_host : p.header.src_cid ≡ HOST_CID → is_dropped Driver s.cid p.header ≡ false
     of_host is = grind (arith, nat_tests, common_steps, is)
 
-    drop_by : (b : Bool) → is_dropped Driver s.cid p.header ≡ b → Further a (slots_of (cond b s (on_heard p s))) (GotPacket p ∷ log)
+    drop_by : (b : Bool) → is_dropped Driver s.cid p.header ≡ b → IsFurther a (slots_of (cond b s (on_heard p s))) (GotPacket p ∷ log)
     drop_by false kept = found (entry_of s.table (flow_got Driver p)) refl
     drop_by true dropped = (x.0, x.1, passes_by x.0 p log (slots_of s) apart x.2)
       where
@@ -267,9 +270,9 @@ poll_carries first a = record {
   owed = λ what e s log fits stands owes m was fair x.
       let old = driver_begun first (ends_of_state s) log e.flow e.value.end m.flows (has_end s e fits stands) in
       (x.0, x.1, pays_received what x.0 e s log fits stands owes old x.2);
-  reply = λ r s log was fair x. (x.0, x.1, puts_received x.0 (reply_on Driver s.cid r) log (slots_of s) refl x.2);
+  reply = λ r rest s log fits is x. (x.0, x.1, puts_received x.0 (reply_on Driver s.cid r) log (slots_of s) refl x.2);
   got = λ p s log fits ports whole m was fair x. heard_received first a p s log fits whole m was fair x;
-  event = λ id slots log x. (x.0, x.1, same_received x.0 log (GotEvent id ∷ log) slots (λ c. refl) (λ f. refl) x.2);
+  event = λ id s log x. (x.0, x.1, same_received x.0 log (GotEvent id ∷ log) (slots_of s) (λ c. refl) (λ f. refl) x.2);
   reset = λ cid s log less fits x. (
     x.0,
     x.1,

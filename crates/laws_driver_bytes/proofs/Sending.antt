@@ -1,76 +1,61 @@
 -- The payload that the driver's calls put.
-use Rattle.std.proofs.Common.{◌≡◌, ℕ, zero, suc, ◌<◌, ◌^◌, Bool, true, false, cond, List, [], ◌∷◌, ◌++◌, length, take, Option, Some, None}
-use Rattle.std.proofs.Common.{Result, Ok, Err, ◌||◌, refl, sym, ap, subst, ◌∙◌, append-nil}
+use Rattle.std.proofs.Common.{◌≡◌, ℕ, zero, suc, Bool, true, false, cond, List, [], ◌∷◌, ◌++◌, length, take, Option, Some, None, Result, Ok}
+use Rattle.std.proofs.Common.{Err, ◌||◌, refl, sym, ap, subst, ◌∙◌, append-nil}
 use Rattle.std.specs.Prelude.{find, is_some}
 use Rattle.vs_contents.specs.CallTree.{Done}
 use Rattle.vs_conn.specs.{End.ConnectionEnd, End.state_may_send, declared.end.State.State, declared.end.Stop.Stop}
-use Rattle.vs_conn.specs.declared.end.State.TheVariants as state
 use Rattle.vs_credit.specs.Credit.{free_of}
-use Rattle.vs_conn.specs.declared.end.Stop.TheVariants as stop
 use Rattle.vs_flow.specs.{Connection.Connection, Table.Table}
-use Rattle.vs_header.specs.declared.Kind.TheVariants.{Stream}
 use Rattle.vs_page.specs.{Fair.IsFairLog, Fair.current, Fair.payload_put, Log.Driver, Log.Log, declared.log.LogEntry.TheVariants.PutPacket}
 use Rattle.vs_page.proofs.PayloadLogs.{put_none}
 use Rattle.vs_ring_port.specs.{Contents.RingContents, EndLog.EndLog}
-use Rattle.laws_tables.specs.Steps.{payload_on, request_on}
-use Rattle.vs_driver_parts.specs.declared.answers.{ConnectError.ConnectError, Polled.Polled, Sent.Sent}
-use Rattle.vs_driver_parts.specs.Conversations.{DriverTree, connect_of, no_credit, not_sent, poll_of, send_of, send_on, send_stopped}
-use Rattle.vs_driver_parts.specs.{Conversations.send_with_credit, Connections.next_flow, Playing.Plays, State.DriverEntry}
-use Rattle.vs_driver_parts.specs.State.{DriverState, entry_known_as, DriverConnection, gone_known_as, is_known_as}
-use Rattle.laws_driver.specs.Honest.{IsHonestWith, slots_of}
-use Rattle.laws_driver.proofs.{Calls.CarriesConnect, Calls.CarriesSend, Calls.connect_keeps, Calls.send_keeps, Carrying.Carries}
-use Rattle.laws_driver.proofs.{Carrying.Fact, Keeping.keeps_end, Polling.poll_keeps, Ringing.at_rest, Staging.Rests}
+use Rattle.laws_tables.specs.Steps.{payload_on}
+use Rattle.vs_driver_parts.specs.{declared.answers.Polled.Polled, declared.answers.Sent.Sent, Conversations.DriverTree}
+use Rattle.vs_driver_parts.specs.Conversations.{no_credit, not_sent, poll_of, send_of, send_on, send_stopped, send_with_credit}
+use Rattle.vs_driver_parts.specs.{Playing.Plays, State.DriverEntry, State.DriverState, State.entry_known_as, State.DriverConnection}
+use Rattle.vs_driver_parts.specs.State.{gone_known_as, is_known_as}
+use Rattle.laws_driver.specs.Honest.{IsHonestWith}
+use Rattle.laws_driver.proofs.{Calls.CarriesSend, Carrying.Carries, Carrying.Fact, Carrying.Holds, Keeping.keeps_end, Polling.poll_keeps}
+use Rattle.laws_driver.proofs.{Ringing.at_rest, Staging.Rests}
 use Rattle.laws_driver_bytes.specs.Sent.{PutsJust, none_on, only_on, sent_by, took}
 use Rattle.laws_driver_bytes.proofs.{Adding.put_adds, Adding.put_over_got, Growing.honest_stays}
+use Rattle.vs_conn.specs.declared.end.State.TheVariants as state
+use Rattle.vs_conn.specs.declared.end.Stop.TheVariants as stop
 use Rattle.vs_driver_parts.specs.declared.answers.Sent.TheVariants as sent
 
 -- Where a fact holds of the log that a ring tells before a call, it is carried from there.
-pub begins : (first : ℕ) (fact : Fact) (s : DriverState) (c : RingContents) (l : EndLog) → c.log ≡ Some l → fact (slots_of s) l.entries
+pub begins : (first : ℕ) (fact : Fact) (s : DriverState) (c : RingContents) (l : EndLog) → c.log ≡ Some l → Holds fact s l.entries
     → IsHonestWith first s c → Rests first fact s c
 begins first fact s c l is held honest = λ on m told.
     let same : l ≡ m = some_same (sym is ∙ told) in
-    (at_rest first s m (honest on m told), subst (λ (k : EndLog). fact (slots_of s) k.entries) same held)
+    (at_rest first s m (honest on m told), subst (λ (k : EndLog). Holds fact s k.entries) same held)
   where
     some_same : {A : Type 0} {x y : A} → Some x ≡ Some y → x ≡ y
     some_same e = cc
 
 -- The payload put is what it was.
-abbrev puts_as : Log → Fact
-puts_as log slots now = (c : Connection) → payload_put Driver c now ≡ payload_put Driver c log
+abbrev pub puts_as : Log → Fact
+puts_as log part slots now = (c : Connection) → payload_put Driver c now ≡ payload_put Driver c log
 
 more_none : (log now : Log) (c : Connection) → payload_put Driver c now ≡ payload_put Driver c log → payload_put Driver c now ≡ payload_put Driver c log ++ []
 more_none log now c is = is ∙ sym (append-nil (payload_put Driver c log))
 
-connect_carries : (first host : ℕ) (log : Log) → CarriesConnect first host (puts_as log) (λ answer. puts_as log)
-connect_carries first host log = record {
-  refused = λ why slots now held. held;
-  opens = λ s now fits free m was fair held c. put_none Driver now (request_on Driver s.cid (next_flow host s) Stream) c refl ∙ held c;
-}
-
-poll_carries : (first : ℕ) (log : Log) → Carries first (puts_as log)
-poll_carries first log = record {
+pub poll_puts : (first : ℕ) (log : Log) → Carries first (puts_as log)
+poll_puts first log = record {
   owed = λ what e s now fits stands owes m was fair held c. put_none Driver now _ c refl ∙ held c;
-  reply = λ r s now was fair held c. put_none Driver now _ c refl ∙ held c;
+  reply = λ r rest s now fits is held c. put_none Driver now _ c refl ∙ held c;
   got = λ p s now fits ports whole m was fair held c. put_over_got Driver p now c ∙ held c;
-  event = λ id slots now held. held;
+  event = λ id s now held. held;
   reset = λ cid s now less fits held. held;
 }
 
 -- A call that puts none.
-pub connect_sent : (first host : ℕ) (s : DriverState) (c d : RingContents) (x : DriverState × Result ℕ ConnectError) → host < 2 ^ 32
-    → IsHonestWith first s c → Plays (connect_of host s) c x d → PutsJust none_on c d
-connect_sent first host s c d x port honest plays = λ on l is m told k.
-    let rests = begins first (puts_as l.entries) s c l is (λ k. refl) honest in
-    let kept : Rests first (puts_as l.entries) x.0 d =
-    keeps_end _ (connect_of host s) c d x (connect_keeps first host _ _ (connect_carries first host l.entries) s c port rests) plays in
-    more_none l.entries m.entries k ((kept (honest_stays (connect_of host s) c d x plays ∙ on) m told).1 k)
-
 pub poll_sent : (first : ℕ) (s : DriverState) (c d : RingContents) (x : DriverState × Polled) → IsHonestWith first s c → Plays (poll_of s) c x d
     → PutsJust none_on c d
 poll_sent first s c d x honest plays = λ on l is m told k.
     let rests = begins first (puts_as l.entries) s c l is (λ k. refl) honest in
     let kept : Rests first (puts_as l.entries) x.0 d =
-    keeps_end _ (poll_of s) c d x (poll_keeps first _ (poll_carries first l.entries) s c rests) plays in
+    keeps_end _ (poll_of s) c d x (poll_keeps first _ (poll_puts first l.entries) s c rests) plays in
     more_none l.entries m.entries k ((kept (honest_stays (poll_of s) c d x plays ∙ on) m told).1 k)
 
 -- send.
@@ -86,12 +71,12 @@ stop_none bytes stop.ShutDown = refl
 
 module _ (first id : ℕ) (bytes : List ℕ) (s : DriverState) (log : Log) where
   -- Nothing happened so far.
-  abbrev before : Fact
-  before slots now = (slots.table ≡ s.table) × (now ≡ log)
+  abbrev pub before : Fact
+  before part slots now = (slots.table ≡ s.table) × (now ≡ log)
 
   -- The payload has grown by what was taken.
-  abbrev after : Sent → Fact
-  after answer slots now = (c : Connection) → payload_put Driver c now ≡ payload_put Driver c log ++ sent_by id bytes answer s log c
+  abbrev pub after : Sent → Fact
+  after answer part slots now = (c : Connection) → payload_put Driver c now ≡ payload_put Driver c log ++ sent_by id bytes answer s log c
 
   on_none : (b : Bool) (taken : List ℕ) → taken ≡ [] → cond b taken [] ≡ []
   on_none true taken none = none
@@ -129,14 +114,14 @@ module _ (first id : ℕ) (bytes : List ℕ) (s : DriverState) (log : Log) where
   known_then : (t : DriverState) (e : DriverEntry) → t.table ≡ s.table → entry_known_as id t ≡ Some e → entry_known_as id s ≡ Some e
   known_then t e same known = ap (λ (table : Table DriverConnection). find (is_known_as id) table.entries) (sym same) ∙ known
 
-  send_carries : CarriesSend first id bytes before after
-  send_carries = record {
-    stopped = λ why slots now held. nothing_sent (send_stopped why) now (stop_none bytes why) held.1;
+  pub send_puts : CarriesSend first id bytes before after
+  send_puts = record {
+    stopped = λ why t now held. nothing_sent (send_stopped why) now (stop_none bytes why) held.1;
     unknown = λ t now none held. nothing_sent (not_sent id t) now (unknown_none t) held.1;
-    empty = λ slots now held. nothing_sent (sent.Took 0) now refl held.1;
-    full = λ n slots now held. nothing_sent (sent.NoDescriptor n) now refl held.1;
-    wants = λ e t now fits stands held. nothing_sent (no_credit e.value.end) now refl held.1;
-    sends = λ e n t now fits stands known m was fair held.
+    empty = λ t now held. nothing_sent (sent.Took 0) now refl held.1;
+    full = λ n t now held. nothing_sent (sent.NoDescriptor n) now refl held.1;
+    wants = λ e t now fits stands m held. nothing_sent (no_credit e.value.end) now refl held.1;
+    sends = λ e n t now fits stands known can few m was fair held.
         let P : Log → Type 0 = λ k. IsFairLog Driver k → IsFairLog Driver (PutPacket (payload_on Driver t.cid e.flow e.value.end (take n bytes)) ∷ k)
         → (c : Connection) → payload_put Driver c (PutPacket (payload_on Driver t.cid e.flow e.value.end (take n bytes)) ∷ k)
         ≡ payload_put Driver c log ++ sent_by id bytes (sent.Took (length (take n bytes))) s log c in
@@ -164,11 +149,3 @@ shut_sent id bytes e s c d x known shut plays =
     ]) c x d in
     let done : Q (Err stops.0) = subst Q stops.1 (subst P known plays) in
     ap (λ (y : DriverState × Sent). took bytes y.1) (sym done.0) ∙ stop_none bytes stops.0
-
-pub send_sent : (first id : ℕ) (bytes : List ℕ) (s : DriverState) (c d : RingContents) (x : DriverState × Sent) → IsHonestWith first s c
-    → Plays (send_of id bytes s) c x d → PutsJust (sent_by id bytes x.1 s) c d
-send_sent first id bytes s c d x honest plays = λ on l is m told k.
-    let rests = begins first (before first id bytes s l.entries) s c l is (refl, refl) honest in
-    let kept : Rests first (after first id bytes s l.entries x.1) x.0 d =
-    keeps_end _ (send_of id bytes s) c d x (send_keeps first id bytes _ _ (send_carries first id bytes s l.entries) s c rests) plays in
-    (kept (honest_stays (send_of id bytes s) c d x plays ∙ on) m told).1 k

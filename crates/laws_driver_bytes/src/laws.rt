@@ -1,6 +1,7 @@
 //! Laws on the bytes of the driver's connections.
 
 ghost use Rattle.std.specs.Prelude.{◌≡◌, ◌<◌, ◌≤◌, ◌^◌, ◌++◌, ℕ, true, List, [], Result, Some};
+ghost use Rattle.vs_flow.specs.Connection.{Connection};
 ghost use Rattle.vs_page.specs.Log.{Driver};
 ghost use Rattle.vs_ring_port.specs.Contents.{IsSound, RingContents};
 ghost use Rattle.vs_driver_parts.specs.declared.answers.{ConnectError.ConnectError, Polled.Polled, Sent.Sent};
@@ -10,16 +11,18 @@ ghost use Rattle.vs_driver_parts.specs.Connections.{after_recv, after_shutdown, 
 ghost use Rattle.vs_driver_parts.specs.Listening.{after_accept, listening};
 ghost use Rattle.vs_limits.specs.declared.TheConstants.{LAST_PORT};
 ghost use Rattle.laws_driver.specs.Honest.{IsFresh, IsHonestWith};
+ghost use Rattle.laws_driver_bytes.specs.Calls.{GuestCall, IsJournaledWith, Journal, ReplyTo, account_of, is_right, makes_call, sent_of};
+ghost use Rattle.laws_driver_bytes.specs.Calls.{whole_call, with_call};
 ghost use Rattle.laws_driver_bytes.specs.Received.{Account, GoesOnWith, IsReceivedWith, after_receive, no_account};
-ghost use Rattle.laws_driver_bytes.specs.Sent.{PutsJust, StaysShut, TellsMore, none_on, sent_by, took};
+ghost use Rattle.laws_driver_bytes.specs.Sent.{PutsJust, StaysShut, TellsMore, none_on, took};
 
-/// Over an honest ring that tells its log a send puts just the bytes that it took, on the connection of its id, and none on any other. A
-/// connect and a poll put no payload. The calls that make no use of the ring put nothing (Virtio 1.2, section 5.10.6.3).
+/// Over an honest ring that tells its log a call, whole or on the pages as they stand, puts just the bytes that its reply says a send took, on
+/// the connection of the send's id, and none on any other. A poll puts no payload (Virtio 1.2, section 5.10.6.3).
 pub fn law_of_sent()
-    ensures send { (first id : ℕ) (bytes : List ℕ) (s : DriverState) (c d : RingContents) (x : DriverState × Sent) → IsHonestWith first s c
-        → Plays (send_of id bytes s) c x d → PutsJust (sent_by id bytes x.1 s) c d }
-    ensures connect { (first host : ℕ) (s : DriverState) (c d : RingContents) (x : DriverState × Result ℕ ConnectError) → host < 2 ^ 32
-        → IsHonestWith first s c → Plays (connect_of host s) c x d → PutsJust none_on c d }
+    ensures call { (first : ℕ) (call : GuestCall) (s : DriverState) (c d : RingContents) (x : DriverState × ReplyTo call) → is_right call ≡ true
+        → IsHonestWith first s c → Plays (whole_call call s) c x d → PutsJust (sent_of call x.1 s) c d }
+    ensures step { (first : ℕ) (call : GuestCall) (s : DriverState) (c d : RingContents) (x : DriverState × ReplyTo call) → is_right call ≡ true
+        → IsHonestWith first s c → Plays (makes_call call s) c x d → PutsJust (sent_of call x.1 s) c d }
     ensures poll { (first : ℕ) (s : DriverState) (c d : RingContents) (x : DriverState × Polled) → IsHonestWith first s c
         → Plays (poll_of s) c x d → PutsJust none_on c d }
     // A send takes nothing once its end has shut its sending.
@@ -58,4 +61,15 @@ pub fn law_of_received()
         → IsReceivedWith a (after_unlisten port s) c }
     ensures accept { (first port : ℕ) (a : Account) (s : DriverState) (c : RingContents) → IsHonestWith first s c → IsReceivedWith a s c
         → IsReceivedWith a (after_accept port s) c }
+{}
+
+/// What the journal says was received: over an honest ring that tells its log the account is right that the journal comes to, once a call was
+/// made, whole or on the pages as they stand, with its reply.
+pub fn law_of_journals()
+    ensures call { (first id : ℕ) (opened : ℕ → Connection) (journal : Journal) (call : GuestCall) (s : DriverState) (c d : RingContents)
+        (x : DriverState × ReplyTo call) → is_right call ≡ true → IsHonestWith first s c → IsReceivedWith (account_of id opened journal) s c
+        → Plays (whole_call call s) c x d → IsJournaledWith id opened (with_call call s x.1 journal) x.0 d }
+    ensures step { (first id : ℕ) (opened : ℕ → Connection) (journal : Journal) (call : GuestCall) (s : DriverState) (c d : RingContents)
+        (x : DriverState × ReplyTo call) → is_right call ≡ true → IsHonestWith first s c → IsReceivedWith (account_of id opened journal) s c
+        → Plays (makes_call call s) c x d → IsJournaledWith id opened (with_call call s x.1 journal) x.0 d }
 {}

@@ -12,11 +12,12 @@ use Rattle.std.specs.List.{Contains}
 use Rattle.vs_page.specs.Log.{Device, Driver, Log, Role, history_of}
 use Rattle.vs_script.specs.{Play.Event, Script.Plays, Script.parse_of, Bounds.AreBounded}
 use Rattle.vs_report.specs.Report.{counts_text, device_open_text, guest_open_text, stream_texts}
-use Rattle.laws_world.specs.{Calls.sent_on, Events.is_at_rest, Events.is_guest_cid, Events.reset_made, Laws.IsEmptied, Pipes.IsFresh}
-use Rattle.laws_world.specs.{Sides.both_of, Sides.device_ends, Sides.driver_ends, Steps.Leads, World.World, World.first_cid}
+use Rattle.laws_world.specs.{Events.is_at_rest, Events.is_guest_cid, Events.reset_made, Laws.IsEmptied, Pipes.IsFresh, Sides.both_of}
+use Rattle.laws_world.specs.{Sides.device_ends, Sides.driver_ends, Steps.Leads, World.World, World.first_cid}
+use Rattle.laws_driver_bytes.specs.Calls.{sent_on}
 use Rattle.laws_world.proofs.{Bytes.wrote_is_put, CallRests.opening_rests, GuestLines.possible_is, Opening.opening_well, Opening.run_goes}
 use Rattle.laws_world.proofs.{ResetTables.device_emptied, ScriptLines.script_leads, ScriptLines.script_rests, Sound.Goes, Sound.IsWell}
-use Rattle.laws_world.proofs.Carried.{sent_stays, wrote_stays}
+use Rattle.laws_world.proofs.Carried.{sent_all, sent_stays, wrote_stays}
 use Rattle.vs_play.specs.{Answer.base_path, Answer.opened_play, Answer.texts_of, Answer.world_after, Lines.PlayWorld}
 use Rattle.laws_play.specs.Headline.{IsLawful, StaysShut, world_of}
 use Rattle.laws_play.proofs.{Shutting.IsShut, Shutting.is_shut, Shutting.run_shut, Unfailed.script_fine, PlayLines.after_both}
@@ -68,12 +69,12 @@ module _ (w v : World) (f : Flow) (well : IsWell Fresh w) (goes : Goes Fresh w v
   guest_decided : (e : DriverEntry) → Contains w.driver.table.entries e → e.flow ≡ f → e.value.end.own.send ≡ true
       → sent_on f v.journal ≡ sent_on f w.journal
   guest_decided e there own shut =
-      goes.well.sent f
+      sent_all v goes.well f
       ∙ decided_put Driver (is_shut Driver first_cid f (driver_ends w.driver) (both_of w).driver.log e.value.end
       (well.sound.matches Driver).flows
       (subst (λ (g : Flow). HasEnd g e.value.end (driver_ends w.driver)) own (one_end
       (λ c. c.end) w.driver.table e well.driver.sound there)) shut)
-      ∙ sym (well.sent f)
+      ∙ sym (sent_all w well f)
 
   device_decided : (e : DeviceEntry) → Contains w.proxy.device.table.entries e → e.flow ≡ f → e.value.end.own.send ≡ true
       → host_wrote (first_of f) v.host ≡ host_wrote (first_of f) w.host

@@ -5,15 +5,15 @@ use Rattle.vs_limits.specs.declared.TheConstants.{GUEST_CID_MIN, GUEST_CID_MAX}
 use Rattle.vs_driver_parts.specs.Connections.{flow_of}
 use Rattle.vs_flow.specs.declared.flow.Flow.{Flow}
 use Rattle.vs_script.specs.{Data.bytes_of, Outside.Host, Outside.Outside, Play.Event, Bounds.AreBounded, Bounds.IsBounded}
-use Rattle.laws_world.specs.{Calls.is_on, Calls.received_on, Calls.sent_on, Events.is_guest_cid, GuestSteps.flow_named}
-use Rattle.laws_world.specs.{Plays.AreRight, Plays.Line, Plays.after, Plays.is_given_right, World.World}
-use Rattle.laws_world.proofs.Payloads.{either_none}
+use Rattle.laws_world.specs.{Events.is_guest_cid, Plays.AreRight, Plays.Line, Plays.after, Plays.is_given_right, World.World}
+use Rattle.laws_driver_bytes.specs.Calls.{is_on, received_on, sent_on, flow_named}
+use Rattle.laws_world.proofs.Journals.{either_none}
 use Rattle.vs_play.specs.{Answer.world_after, Lines.PlayWorld, Lines.event_played, Lines.host_line}
 use Rattle.laws_play.specs.Said.{received_by, received_in, sent_by, sent_in}
 use Rattle.laws_bytes.proofs.Logs.{nothing_more}
 use Rattle.vs_script.specs.Outside as outside
 use Rattle.vs_script.specs.Play as script
-use Rattle.laws_world.specs.Calls as call
+use Rattle.laws_driver_bytes.specs.Calls as call
 use Rattle.laws_world.specs.Plays as world
 
 -- The line of the world that an event line is, at a moment. That time passes is none.
@@ -149,7 +149,7 @@ around_journal (outside.OfHost host) p = by host
 
 -- A call that moves no bytes, on the flow or not.
 none_moved : (bytes : List ℕ) (b : Bool) → bytes ++ cond b [] [] ≡ bytes ++ []
-none_moved bytes b = ap (λ (more : List ℕ). bytes ++ more) (either_none b)
+none_moved bytes b = ap (λ (more : List ℕ). bytes ++ more) (either_none b [] refl)
 
 event_sends : (e : Event) (p : PlayWorld) (f : Flow) → sent_on f (event_played e p).0.world.journal
     ≡ sent_on f p.world.journal ++ sent_by f e p

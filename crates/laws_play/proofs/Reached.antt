@@ -1,9 +1,9 @@
 -- What holds of a world in which nothing is staged, where it is well.
 use Rattle.vs_flow.specs.{Connection.first_of, declared.flow.Flow.Flow}
 use Rattle.std.proofs.lemmas.{List.length-map, Bool.and_parts, List.Elements.All-map, List.Elements.Contains-get_or}
+use Rattle.std.proofs.lemmas.List.Kept.{AllPairs-cons}
 use Rattle.std.proofs.Common.{[], ap, Bool, false, get_or, length, List, not, refl, subst, suc, sym, true, ℕ, ◌&&◌, ◌++◌, ◌∷◌, ◌≡◌, ◌≢◌}
 use Rattle.std.proofs.Common.{◌∙◌, arith}
-use Rattle.std.proofs.lemmas.List.Kept.{AllPairs-cons}
 use Rattle.std.specs.List.{AllPairs}
 use Rattle.laws_history.specs.History.{History, IsFair, MayPut, Put, Side, gots, puts}
 use Rattle.laws_history.specs.declared.packet.Packet.{Packet}
@@ -14,8 +14,9 @@ use Rattle.vs_page.specs.{Fair.IsFairLog, Fair.IsPrefixOf, Fair.payload_got, Fai
 use Rattle.vs_page.specs.{Log.Log, Log.Role, Log.side_of, Open.WasOpened, Open.is_left_open, Open.is_open}
 use Rattle.vs_page.proofs.Opened.{was_opened}
 use Rattle.laws_bytes.specs.Drains.{Drains, receives}
-use Rattle.laws_world.specs.{Calls.received_on, Calls.sent_on, Events.is_at_rest, Events.none_staged, Sides.device_ends, Sides.driver_ends}
-use Rattle.laws_world.specs.{Sides.log_with_staged, World.World, World.first_cid}
+use Rattle.laws_world.specs.{Events.is_at_rest, Events.none_staged, Sides.device_ends, Sides.driver_ends, Sides.log_with_staged}
+use Rattle.laws_world.specs.World.{World, first_cid}
+use Rattle.laws_driver_bytes.specs.Calls.{received_on, sent_on}
 use Rattle.laws_world.proofs.{Bytes.read_own, Bytes.wrote_own, Sound.IsWell, Carried.given_is, Carried.gone_of, Carried.one_stream}
 use Rattle.laws_world.proofs.Carried.{pending_of, received_is, sent_is, to_device, to_driver, to_guest, to_host, unread_of, wrote_is}
 use Rattle.laws_play.specs.Headline.{Carries, HasOwnStreams, HoldsOpen, HoldsTheRest, IsQueued, KeepsCredit, PutsWithinCredit, device_flows}
@@ -140,7 +141,7 @@ module _ {fresh : Type 0} (w : World) (well : IsWell fresh w) (yes : fresh) (res
     device = within Device (device_log w) device_fair;
     driver_fair = driver_fair;
     device_fair = device_fair;
-    unread = λ i d less. let fits = (well.driver.ends i d less).credit in omega (arith, fits.unread, fits.within, fits.alloc);
+    unread = λ i d less. (well.driver.entries i d less).buffer.fits;
     pending = λ i d less. let fits = (well.device.ends i d less).credit in omega (arith, fits.unread, fits.within, fits.alloc);
     broken = well.broken;
     overrun = well.overrun;

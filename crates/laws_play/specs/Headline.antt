@@ -18,8 +18,8 @@ use Rattle.laws_device_bytes.specs.Streamed.{gives, line_for}
 use Rattle.vs_script.specs.{Data.Content, Play.Event}
 use Rattle.vs_report.specs.{Report.counts_text, Report.device_open_text, Report.guest_open_text, Report.stream_texts, GuestLines.recv_text}
 use Rattle.vs_report.specs.GuestLines.{send_text}
-use Rattle.laws_world.specs.{Calls.received_on, Calls.sent_on, Laws.IsEmptied, Sides.device_ends, Sides.driver_ends, Steps.Leads}
-use Rattle.laws_world.specs.World.{World, first_cid}
+use Rattle.laws_world.specs.{Laws.IsEmptied, Sides.device_ends, Sides.driver_ends, Steps.Leads, World.World, World.first_cid}
+use Rattle.laws_driver_bytes.specs.Calls.{received_on, sent_on}
 use Rattle.vs_play.specs.{Answer.opened_play, Answer.printed, Answer.texts_of, Answer.world_after, Lines.event_played}
 use Rattle.laws_play.specs.Said.{received_in, recv_answer, recv_bytes, send_answer, sent_in}
 use Rattle.vs_script.specs.Outside as outside

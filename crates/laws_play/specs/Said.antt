@@ -4,9 +4,10 @@ use Rattle.vs_flow.specs.declared.flow.Flow.{Flow}
 use Rattle.vs_driver_parts.specs.{Connections.flow_of, Connections.recv_of, Connections.unread_of_id, Conversations.send_of}
 use Rattle.vs_driver_parts.specs.declared.answers.{Received.Received, Sent.Sent}
 use Rattle.vs_script.specs.{Data.Content, Data.bytes_of, Play.Event}
-use Rattle.vs_script.specs.Play as script
-use Rattle.laws_world.specs.{Calls.is_on, Calls.took, GuestSteps.bytes_got, World.driver_plays}
+use Rattle.laws_world.specs.World.{driver_plays}
+use Rattle.laws_driver_bytes.specs.{Calls.is_on, Sent.took, Received.bytes_got}
 use Rattle.vs_play.specs.Lines.{PlayWorld, event_played}
+use Rattle.vs_script.specs.Play as script
 
 -- The answer of `send C DATA`.
 abbrev pub send_answer : ℕ → Content → PlayWorld → Sent

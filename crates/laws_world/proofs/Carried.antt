@@ -1,24 +1,26 @@
 -- What a world that is well says of the bytes of its connections. Packets that the driver staged count as put.
-use Rattle.std.proofs.Common.{◌≡◌, ℕ, ◌≤◌, ◌++◌, true, List, Contains, Some, sym, ap, subst, ◌∙◌}
+use Rattle.std.proofs.Common.{◌≡◌, ℕ, ◌≤◌, ◌++◌, ◌⊎◌, inl, inr, true, List, [], Contains, Some, sym, ap, subst, ◌∙◌, arith}
 use Rattle.std.proofs.lemmas.List.Elements.{All-contains}
 use Rattle.std.specs.Option.{option_map}
 use Rattle.vs_driver_parts.specs.State.{DriverEntry, GoneConnection}
 use Rattle.vs_device_parts.specs.State.{DeviceEntry}
-use Rattle.vs_flow.specs.{Connection.first_of, declared.flow.Flow.Flow}
+use Rattle.vs_flow.specs.{Connection.Connection, Connection.first_of, declared.flow.Flow.Flow}
 use Rattle.laws_history.specs.{History.puts, Packets.has, Packets.shuts_send}
 use Rattle.vs_outside.specs.{Host.Stream, Host.stream_at, HostBytes.host_read, HostBytes.host_wrote}
-use Rattle.vs_page.specs.Fair.{IsFairLog, IsPrefixOf, number_of, payload_got, payload_put}
-use Rattle.vs_page.specs.Log.{Device, Driver, Log, Role, history_of}
+use Rattle.vs_page.specs.{Fair.IsFairLog, Fair.IsPrefixOf, Fair.number_of, Fair.payload_got, Fair.payload_put, Log.Device, Log.Driver}
+use Rattle.vs_page.specs.Log.{Log, Role, history_of}
 use Rattle.vs_page.proofs.{PayloadLogs.prefix, Shut.shut_put}
 use Rattle.laws_tables.specs.Both.{at}
-use Rattle.laws_bytes.specs.Drains.{Drains, got_on, receives}
+use Rattle.laws_bytes.specs.Drains.{Drains, got_on, put_on, receives}
 use Rattle.laws_device_bytes.specs.Streamed.{IsJoined, Seen, gives, line_for, look, seen}
 use Rattle.laws_bytes.proofs.Logs.{prefix_then}
-use Rattle.laws_world.specs.{Calls.received_on, Calls.sent_on, Received.ReceivedOn, Received.ReceivesOn, Sides.both_of}
-use Rattle.laws_world.specs.World.{World, first_cid}
-use Rattle.laws_world.proofs.{Firsts.once_got, Firsts.once_put, Firsts.put_begun, Once.number_of_once, Bytes.read_is_got, Bytes.wrote_is_put}
-use Rattle.laws_world.proofs.{Growing.Grows, Growing.runs_grow, Sound.Goes, Sound.IsWell}
-use Rattle.laws_device_bytes.proofs.Hosts.there as is_there
+use Rattle.laws_world.specs.{Sides.both_of, World.World, World.first_cid}
+use Rattle.laws_driver_bytes.specs.{Received.ReceivedOn, Received.ReceivesOn, Calls.account_of, Calls.received_by, Calls.received_on}
+use Rattle.laws_driver_bytes.specs.Calls.{sent_on}
+use Rattle.laws_world.proofs.{Firsts.once_got, Firsts.once_put, Firsts.put_begun, Once.number_of_once, Bytes.read_is_got}
+use Rattle.laws_world.proofs.{Bytes.wrote_is_put, Growing.Grows, Growing.runs_grow, Journals.by_flow, Journals.received_some, Sound.Goes}
+use Rattle.laws_world.proofs.Sound.{IsWell}
+use Rattle.laws_device_bytes.proofs.Hosts.{there as is_there}
 
 abbrev pub ToGuest : Flow → World → Type 0
 ToGuest f w = IsPrefixOf (received_on f w.journal) (host_wrote (first_of f) w.host)
@@ -37,28 +39,63 @@ module _ {fresh : Type 0} (w : World) (well : IsWell fresh w) where
   once : (role : Role) (f : Flow) → number_of role f (at role (both_of w)).log ≤ 1
   once role f = number_of_once role first_cid (both_of w) well.sound well.once f
 
-  guest_got : (f : Flow) → got_on Driver f guest ≡ payload_got Driver (first_of f) guest
-  guest_got f = sym (once_got Driver f guest (well.sound.fair Driver f) (once Driver f))
+  -- The connection of an id is the first of its flow, and what was received on the flow was received on the id.
+  first_is : (c : Connection) → 1 ≤ c.number → c.number ≤ 1 → c ≡ first_of c.flow
+  first_is c some most = ap (λ (n : ℕ). let d : Connection = record { flow = c.flow; number = n } in d) (omega (arith, some, most))
+
+  is_first : (id : ℕ) → 1 ≤ (well.opened id).number → well.opened id ≡ first_of (well.opened id).flow
+  is_first id some =
+      let past = well.received.passed id in
+      let most = once Driver (well.opened id).flow in
+      first_is (well.opened id) some (omega (arith, past, most))
+
+  one_id : (i j : ℕ) → 1 ≤ (well.opened i).number → 1 ≤ (well.opened j).number → (well.opened i).flow ≡ (well.opened j).flow → i ≡ j
+  one_id i j some also same = well.received.once i j some (is_first i some ∙ ap (λ (g : Flow). first_of g) same ∙ sym (is_first j also))
+
+  named : (id : ℕ) (f : Flow) → (well.opened id).flow ≡ f → 1 ≤ (well.opened id).number
+      → (received_by id w.journal ≡ received_on f w.journal) × (well.opened id ≡ first_of f)
+  named id f flow some = (
+    sym (by_flow well.opened one_id id some w.journal well.agrees) ∙ ap (λ (g : Flow). received_on g w.journal) flow,
+    is_first id some ∙ ap (λ (g : Flow). first_of g) flow,
+  )
 
   device_got : (f : Flow) → got_on Device f device ≡ payload_got Device (first_of f) device
   device_got f = sym (once_got Device f device (well.sound.fair Device f) (once Device f))
 
   -- What the sends took is what the driver put. What was received is a prefix of what it got.
   pub sent_is : (f : Flow) → payload_put Driver (first_of f) guest ≡ sent_on f w.journal
-  sent_is f = once_put Driver f guest (well.sound.fair Driver f) (once Driver f) ∙ sym (well.sent f)
+  sent_is f = sym (well.sent f)
+
+  pub sent_all : (f : Flow) → sent_on f w.journal ≡ put_on Driver f guest
+  sent_all f = well.sent f ∙ once_put Driver f guest (well.sound.fair Driver f) (once Driver f)
 
   pub received_is : (f : Flow) → IsPrefixOf (received_on f w.journal) (payload_got Driver (first_of f) guest)
-  received_is f = subst (λ (bytes : List ℕ). IsPrefixOf (received_on f w.journal) bytes) (guest_got f) (well.received.front f)
+  received_is f = by (received_some well.opened f w.journal well.agrees)
+    where
+      by : (received_on f w.journal ≡ []) ⊎ ((id : ℕ) × (1 ≤ (well.opened id).number) × ((well.opened id).flow ≡ f))
+          → IsPrefixOf (received_on f w.journal) (payload_got Driver (first_of f) guest)
+      by (inl none) = (payload_got Driver (first_of f) guest, ap (λ (bytes : List ℕ). bytes ++ payload_got Driver (first_of f) guest) (sym none))
+      by (inr (id, some, flow)) =
+          let n = named id f flow some in
+          subst (λ (bytes : List ℕ). IsPrefixOf bytes (payload_got Driver (first_of f) guest)) n.0
+          (subst (λ (c : Connection). IsPrefixOf (received_by id w.journal) (payload_got Driver c guest)) n.1 (well.received.front id))
 
   pub unread_of : (e : DriverEntry) → Contains w.driver.table.entries e
       → Drains (receives e.value.end) (received_on e.flow w.journal) e.value.unread (payload_got Driver (first_of e.flow) guest)
-  unread_of e there = subst (λ (bytes : List ℕ). Drains (receives e.value.end) (received_on e.flow w.journal) e.value.unread bytes) (guest_got e.flow)
-      (All-contains (ReceivesOn (λ f. received_on f w.journal) guest) w.driver.table.entries e well.received.held there).drains
+  unread_of e there =
+      let on = All-contains (ReceivesOn (account_of 1 well.opened w.journal) guest) w.driver.table.entries e well.received.held there in
+      let n = named e.value.id e.flow (ap (λ (c : Connection). c.flow) on.present) (subst (λ (c : Connection). 1 ≤ c.number) (sym on.present) on.some) in
+      subst (λ (bytes : List ℕ). Drains (receives e.value.end) bytes e.value.unread (payload_got Driver (first_of e.flow) guest)) n.0
+      (subst (λ (c : Connection). Drains (receives e.value.end) (received_by e.value.id w.journal) e.value.unread (payload_got Driver c guest))
+      (sym on.present ∙ n.1) on.drains)
 
   pub gone_of : (g : GoneConnection) → Contains w.driver.gone g
       → IsPrefixOf (received_on g.flow w.journal ++ g.unread) (payload_got Driver (first_of g.flow) guest)
-  gone_of g there = subst (λ (bytes : List ℕ). IsPrefixOf (received_on g.flow w.journal ++ g.unread) bytes) (guest_got g.flow)
-      (All-contains (ReceivedOn (λ f. received_on f w.journal) guest) w.driver.gone g well.received.left there).front
+  gone_of g there =
+      let on = All-contains (ReceivedOn (account_of 1 well.opened w.journal) guest) w.driver.gone g well.received.left there in
+      let n = named g.id g.flow on.flow on.some in
+      subst (λ (bytes : List ℕ). IsPrefixOf (bytes ++ g.unread) (payload_got Driver (first_of g.flow) guest)) n.0
+      (subst (λ (c : Connection). IsPrefixOf (received_by g.id w.journal ++ g.unread) (payload_got Driver c guest)) n.1 on.front)
 
   pub to_driver : (f : Flow) → IsPrefixOf (payload_got Driver (first_of f) guest) (payload_put Device (first_of f) device)
   to_driver f = prefix Driver guest device (first_of f) (well.sound.ties Driver)

@@ -53,7 +53,7 @@ module _ {T : Type 0} (end_of : T → ConnectionEnd) (held_of : T → ℕ) where
   fits_at xs x (i, less, is) all = subst EntryFits is (all i x less)
 
   -- A flow that has an end is one with the host.
-  host_among : (f : Flow) (e : ConnectionEnd) (xs : List (Entry T)) → All EntryFits xs
+  host_among : (f : Flow) (e : ConnectionEnd) (xs : List (Entry T)) → All (λ x. x.flow.peer ≡ HOST_CID) xs
       → ends_of f (map (λ x. record { flow = x.flow; end = end_of x.value }) xs) ≡ e ∷ [] → f.peer ≡ HOST_CID
   host_among f e [] all has = absurd cc
   host_among f e (x ∷ xs) all has = by (same_flow f x.flow) refl has (host_among f e xs (λ i d less. all (suc i) d (omega (arith, less))))
@@ -61,10 +61,11 @@ module _ {T : Type 0} (end_of : T → ConnectionEnd) (held_of : T → ℕ) where
       by : (b : Bool) → same_flow f x.flow ≡ b
           → (let rest = ends_of f (map (λ x. record { flow = x.flow; end = end_of x.value }) xs) in cond b (end_of x.value ∷ rest) rest) ≡ e ∷ []
           → (ends_of f (map (λ x. record { flow = x.flow; end = end_of x.value }) xs) ≡ e ∷ [] → f.peer ≡ HOST_CID) → f.peer ≡ HOST_CID
-      by true same has later = ap (λ (g : Flow). g.peer) (same_flow_true f x.flow same) ∙ (all 0 x (omega arith)).peer
+      by true same has later = ap (λ (g : Flow). g.peer) (same_flow_true f x.flow same) ∙ all 0 x (omega arith)
       by false other has later = later has
 
-  pub host_of : (t : Table T) (f : Flow) (e : ConnectionEnd) → All EntryFits t.entries → ends_of f (entries_of end_of t) ≡ e ∷ [] → f.peer ≡ HOST_CID
+  pub host_of : (t : Table T) (f : Flow) (e : ConnectionEnd) → All (λ x. x.flow.peer ≡ HOST_CID) t.entries → ends_of f (entries_of end_of t) ≡ e ∷ []
+      → f.peer ≡ HOST_CID
   host_of t f e all has = host_among f e t.entries all has
 
   -- A change of an entry that then leaves.

@@ -3,14 +3,13 @@ use Rattle.vs_page.proofs.{Present.first_got, Present.first_put, Entries.present
 use Rattle.vs_flow.specs.{Connection.first_of, declared.flow.Flow.Flow}
 use Rattle.std.proofs.Common.{◌≡◌, ℕ, zero, suc, ◌+◌, ◌≤◌, Bool, true, false, cond, ◌||◌, List, [], ◌∷◌, refl, sym, ap, subst, ◌∙◌, arith}
 use Rattle.std.proofs.lemmas.Grind.{common_steps}
-use Rattle.vs_limits.specs.declared.TheConstants.{HOST_CID}
 use Rattle.laws_history.specs.{Again.IsFairAll, Again.count, Again.present, Packets.has, Packets.is_request, declared.packet.Packet.Packet}
 use Rattle.laws_history.specs.History.{Answerer, Asker, Got, History, IsFair, MayPut, Put, Side, gots, is_begun, puts}
 use Rattle.laws_history.proofs.Present.{fair_once}
-use Rattle.vs_page.specs.Fair.{IsFairOn, asked_by, number_of, payload_got, payload_of, payload_put}
-use Rattle.vs_page.specs.Log.{Driver, Log, Role, history_of, side_of, whole_of}
+use Rattle.vs_page.specs.{Fair.IsFairOn, Fair.asked_by, Fair.number_of, Fair.payload_got, Fair.payload_of, Fair.payload_put, Log.Log}
+use Rattle.vs_page.specs.Log.{Role, history_of, side_of, whole_of}
 use Rattle.laws_tables.specs.Heard.{heard_of}
-use Rattle.laws_tables.proofs.Fair.{fair_begun, fair_now, heard_all, heard_puts}
+use Rattle.laws_tables.proofs.Fair.{fair_begun, fair_now, heard_puts}
 
 -- A present connection without entries is that of a flow on which nothing passed.
 pub present_none : (w : History) → present w ≡ [] → w ≡ []
@@ -131,12 +130,9 @@ put_begun role f log test fair is = by (number_of role f log) refl
         let both : true ≡ false = sym is ∙ ap (λ (h : History). has test (puts h)) nothing in absurd cc
     by (suc n) some = omega arith
 
--- Where nothing was heard nothing passed: at the driver on the host's flows, and at an end that asks.
+-- Where nothing was heard nothing passed, at an end that asks.
 no_present : (role : Role) (f : Flow) (log : Log) → history_of role f log ≡ [] → whole_of role f log ≡ []
 no_present role f log none = present_none (whole_of role f log) (present_is role f log ∙ none)
-
-pub unheard : (first : ℕ) (f : Flow) (log : Log) → f.peer ≡ HOST_CID → heard_of Driver first f log ≡ [] → whole_of Driver f log ≡ []
-unheard first f log host none = no_present Driver f log (sym (heard_all first f log host) ∙ none)
 
 pub silent_whole : (role : Role) (first : ℕ) (f : Flow) (log : Log) → IsFairOn role f log → side_of role f ≡ Asker → heard_of role first f log ≡ []
     → whole_of role f log ≡ []

@@ -3,20 +3,20 @@ use Rattle.std.proofs.Common.{◌≡◌, ℕ, zero, suc, ◌==◌, ◌&&◌, Boo
 use Rattle.std.proofs.Common.{sym, ap, subst, ◌∙◌, Result, Ok, Err}
 use Rattle.vs_contents.specs.CallTree.{Done, Ask, bind, played, while_up_to}
 use Rattle.vs_ring_port.specs.{DriverCalls.driver_answer, DriverCalls.Reap, EndLog.EndLog, EndLog.Pages, Lists.Rings, Lists.oldest}
-use Rattle.vs_ring_port.specs.declared.queue.Queue.TheVariants as q
 use Rattle.vs_driver_parts.specs.Conversations.{DriverTree, reap_all, reap_one, reaped, connect_with_page, no_credit, not_sent, payload_of}
 use Rattle.vs_driver_parts.specs.Conversations.{send_on, send_stopped, send_with_credit, send_with_page}
 use Rattle.vs_driver_parts.specs.{State.DriverState, State.DriverEntry, State.entry_known_as, Connections.connect_refusal}
-use Rattle.vs_driver_parts.specs.Connections.{flow_of, next_flow, with_end}
-use Rattle.vs_driver_parts.specs.{declared.answers.ConnectError.ConnectError, declared.answers.Sent.Sent, Steps.connects, Steps.sends}
-use Rattle.vs_driver_parts.specs.Steps.{sends_on, sends_with_credit, takes_page}
+use Rattle.vs_driver_parts.specs.{Connections.with_end, declared.answers.ConnectError.ConnectError, declared.answers.Sent.Sent}
+use Rattle.vs_driver_parts.specs.Steps.{connects, sends, sends_on, sends_with_credit, takes_page}
 use Rattle.vs_conn.specs.{End.may_send_of, End.wanting_credit, declared.end.Stop.Stop}
 use Rattle.vs_flow.specs.declared.flow.Flow.{Flow}
-use Rattle.vs_driver_parts.specs.declared.answers.Sent.TheVariants as sent
-use Rattle.laws_world.specs.Calls.{GuestCall, ReplyTo, Connect, Listen, Unlisten, Accept, Send, Recv, Shutdown, Close, LookAt, is_right}
-use Rattle.laws_world.specs.{GuestSteps.flow_named, GuestSteps.makes_call, Plays.guest_line, Events.call_made, Events.Event}
-use Rattle.laws_world.specs.Events.{GuestCalls, GuestTakes, driver_step, happens, is_at_rest, none_staged, run, where_possible, works_on}
+use Rattle.laws_driver_bytes.specs.Calls.{GuestCall, ReplyTo, Connect, Listen, Unlisten, Accept, Send, Recv, Shutdown, Close, LookAt}
+use Rattle.laws_driver_bytes.specs.Calls.{is_right, flow_named, id_named, makes_call, with_call}
+use Rattle.laws_world.specs.{Plays.guest_line, Events.call_made, Events.Event, Events.GuestCalls, Events.GuestTakes, Events.driver_step}
+use Rattle.laws_world.specs.Events.{happens, is_at_rest, none_staged, run, where_possible, works_on}
 use Rattle.laws_world.specs.{Steps.Leads, World.World}
+use Rattle.vs_ring_port.specs.declared.queue.Queue.TheVariants as q
+use Rattle.vs_driver_parts.specs.declared.answers.Sent.TheVariants as sent
 
 run_append : (xs ys : List Event) (w : World) → run (xs ++ ys) w ≡ run ys (run xs w)
 run_append [] ys w = refl
@@ -163,35 +163,38 @@ module _ (id : ℕ) (bytes : List ℕ) (s : DriverState) (e : DriverEntry) (know
   sends_no_credit credit may some none = sends_known ∙ rw (may, sends_on) (rw (some, none, sends_with_credit) refl)
 
 -- What a call of the guest's leads to, by its conversation.
-abbrev after_call : (call : GuestCall) → DriverTree (DriverState × ReplyTo call) → Option Flow → World → World
-after_call call tree flow w =
+abbrev named : GuestCall → DriverState → Option ℕ × Option Flow
+named call s = (id_named call s, flow_named call s)
+
+abbrev after_call : (call : GuestCall) → DriverTree (DriverState × ReplyTo call) → Option ℕ × Option Flow → World → World
+after_call call tree on w =
     let r = played driver_answer tree (w.rings.lists, w.rings.driver) in
-    record (with_driver r.0.0 r.1 w) { journal = record { call = call; flow = flow; reply = r.0.1 } ∷ w.journal }
+    record (with_driver r.0.0 r.1 w) { journal = record { call = call; id = on.0; flow = on.1; reply = r.0.1 } ∷ w.journal }
 
 module _ (w : World) (rest : is_at_rest w.rings.driver.staged ≡ true) where
   -- One that reaps first.
   reaped_call : (call : GuestCall) (k : DriverState → DriverTree (DriverState × ReplyTo call)) → is_right call ≡ true
       → ((m : ℕ) → makes_call call (record w.driver { in_flight = m }) ≡ k (record w.driver { in_flight = m }))
-      → ((m : ℕ) → flow_named call (record w.driver { in_flight = m }) ≡ flow_named call w.driver)
-      → Leads w (after_call call (bind (reap_all w.driver) k) (flow_named call w.driver) w)
+      → ((m : ℕ) → named call (record w.driver { in_flight = m }) ≡ named call w.driver)
+      → Leads w (after_call call (bind (reap_all w.driver) k) (named call w.driver) w)
   reaped_call call k right same flow =
       let r = played driver_answer (reap_all w.driver) (w.rings.lists, w.rings.driver) in
       let reaps = reaps_all w.driver.in_flight w rest in
       let v = with_driver r.0 r.1 w in
       let at_rest : is_at_rest v.rings.driver.staged ≡ true = ap is_at_rest reaps.staged ∙ rest in
       leads_then w v _ reaps.leads (leads_one (GuestCalls call) v _ (call_possible call v at_rest right
-      ∙ ap (λ (tree : DriverTree (DriverState × ReplyTo call)). after_call call tree (flow_named call r.0) v)
+      ∙ ap (λ (tree : DriverTree (DriverState × ReplyTo call)). after_call call tree (named call r.0) v)
       (ap (makes_call call) reaps.only ∙ same r.0.in_flight ∙ ap k (sym reaps.only))
-      ∙ ap (λ (g : Option Flow). after_call call (k r.0) g v) (ap (flow_named call) reaps.only ∙ flow r.0.in_flight)
+      ∙ ap (λ (g : Option ℕ × Option Flow). after_call call (k r.0) g v) (ap (named call) reaps.only ∙ flow r.0.in_flight)
       ∙ ap (λ (x : (DriverState × ReplyTo call) × (Rings × EndLog)).
-      let u : World = record (with_driver x.0.0 x.1 w) { journal = record { call = call; flow = flow_named call w.driver; reply = x.0.1 } ∷ w.journal } in u)
+      let u : World = record (with_driver x.0.0 x.1 w) { journal = with_call call w.driver x.0.1 w.journal } in u)
       (sym (played_bind (reap_all w.driver) k (w.rings.lists, w.rings.driver)))))
 
   -- One that doesn't.
   plain_call : (call : GuestCall) (tree : DriverTree (DriverState × ReplyTo call)) → is_right call ≡ true → makes_call call w.driver ≡ tree
-      → Leads w (after_call call tree (flow_named call w.driver) w)
+      → Leads w (after_call call tree (named call w.driver) w)
   plain_call call tree right same = leads_one (GuestCalls call) w _ (call_possible call w rest right
-      ∙ ap (λ (t : DriverTree (DriverState × ReplyTo call)). after_call call t (flow_named call w.driver) w) same)
+      ∙ ap (λ (t : DriverTree (DriverState × ReplyTo call)). after_call call t (named call w.driver) w) same)
 
   connect_leads : (port : ℕ) → is_right (Connect port) ≡ true → Leads w (guest_line (Connect port) w).0
   connect_leads port right = by (connect_refusal port w.driver) refl
@@ -200,7 +203,7 @@ module _ (w : World) (rest : is_at_rest w.rings.driver.staged ≡ true) where
           (elim o as (λ _. DriverTree (DriverState × Result ℕ ConnectError)) [
             | Some refusal ↦ Done (w.driver, Err refusal)
             | None ↦ bind (reap_all w.driver) (connect_with_page port)
-          ]) (Some (next_flow port w.driver)) w)
+          ]) (named (Connect port) w.driver) w)
       by (Some refusal) is = plain_call (Connect port) (Done (w.driver, Err refusal)) right (connects_refused port w.driver refusal is)
       by None is = reaped_call (Connect port) (connect_with_page port) right (λ m. connects_free port (record w.driver { in_flight = m }) is) (λ m. refl)
 
@@ -211,7 +214,7 @@ module _ (w : World) (rest : is_at_rest w.rings.driver.staged ≡ true) where
           → (length bytes == 0) ≡ a → (credit == 0) ≡ b
           → Leads w (after_call (Send id bytes) (cond a (Done (w.driver, sent.Took 0)) (cond b
           (Done (with_end (wanting_credit e.value.end) e w.driver, no_credit e.value.end))
-          (bind (reap_all w.driver) (send_with_page e (payload_of credit bytes))))) (flow_of id w.driver) w)
+          (bind (reap_all w.driver) (send_with_page e (payload_of credit bytes))))) (named (Send id bytes) w.driver) w)
       with_credit e credit known may true b empty none =
           plain_call (Send id bytes) (Done (w.driver, sent.Took 0)) refl (sends_nothing id bytes w.driver e known credit may empty)
       with_credit e credit known may false true empty none =
@@ -225,7 +228,7 @@ module _ (w : World) (rest : is_at_rest w.rings.driver.staged ≡ true) where
           → Leads w (after_call (Send id bytes) (elim r as (λ _. DriverTree (DriverState × Sent)) [
             | Err why ↦ Done (w.driver, send_stopped why)
             | Ok credit ↦ send_with_credit e credit bytes w.driver
-          ]) (flow_of id w.driver) w)
+          ]) (named (Send id bytes) w.driver) w)
       on e known (Err why) may =
           plain_call (Send id bytes) (Done (w.driver, send_stopped why)) refl (sends_stopped id bytes w.driver e known why may)
       on e known (Ok credit) may = with_credit e credit known may (length bytes == 0) (credit == 0) refl refl
@@ -234,7 +237,7 @@ module _ (w : World) (rest : is_at_rest w.rings.driver.staged ≡ true) where
           → Leads w (after_call (Send id bytes) (elim o as (λ _. DriverTree (DriverState × Sent)) [
             | None ↦ Done (w.driver, not_sent id w.driver)
             | Some e ↦ send_on e bytes w.driver
-          ]) (flow_of id w.driver) w)
+          ]) (named (Send id bytes) w.driver) w)
       by None is = plain_call (Send id bytes) (Done (w.driver, not_sent id w.driver)) refl (sends_unknown id bytes w.driver is)
       by (Some e) is = on e is (may_send_of e.value.end) refl
 

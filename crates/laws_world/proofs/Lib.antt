@@ -6,12 +6,9 @@ pub mod Firsts
 pub mod Once
 pub mod Entries
 pub mod Wire
-pub mod Received
-pub mod Gone
-pub mod DriverSide
-pub mod DriverTakes
-pub mod DriverResets
-pub mod DriverEvents
+pub mod Journals
+pub mod DriverWalks
+pub mod DriverGoes
 pub mod DeviceSide
 pub mod DeviceTakes
 pub mod Chains
@@ -25,8 +22,6 @@ pub mod ProxyResets
 pub mod Rings
 pub mod Sound
 pub mod Opening
-pub mod Payloads
-pub mod Receives
 pub mod Streams
 pub mod Bytes
 pub mod Growing

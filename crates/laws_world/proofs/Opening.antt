@@ -2,26 +2,29 @@
 use Rattle.std.proofs.Common.{◌≡◌, ℕ, zero, suc, ◌+◌, ◌^◌, ◌<◌, ◌==◌, Bool, true, false, cond, List, [], ◌∷◌, refl, sym, ap, subst, ◌∙◌}
 use Rattle.std.proofs.Common.{arith, ◌-◌, slice_get, Some, None}
 use Rattle.vs_contents.specs.CallTree.{Done, Ask, bind, while_up_to, played}
-use Rattle.vs_flow.specs.Table.{IsTable}
+use Rattle.vs_flow.specs.Connection.{first_of}
 use Rattle.vs_limits.specs.declared.TheConstants.{ASSIGNED_FIRST, FIRST_PORT}
 use Rattle.vs_outside.specs.Host.{HostContents, Stream}
-use Rattle.vs_page.specs.Log.{Driver, Log}
-use Rattle.laws_bytes.specs.Drains.{got_on}
+use Rattle.vs_page.specs.{Fair.payload_put, Log.Driver, Log.Log}
 use Rattle.laws_device_bytes.specs.Streamed.{IsStreamed, Seen, look, seen}
 use Rattle.std.specs.Option.{option_map}
 use Rattle.laws_tables.proofs.{Voices.AreVoiced, Voices.voices_start, Both.start_sound}
 use Rattle.vs_proxy_parts.specs.Turns.{new_proxy}
-use Rattle.laws_world.specs.{Received.IsReceived, Pipes.IsFresh, Pipes.put_on, Pages.AllHold, Events.happens, Events.run}
-use Rattle.laws_world.specs.{Sides.both_of, Sides.driver_ends, Sides.log_with_staged, World.World, World.opening, World.first_cid}
-use Rattle.vs_ring_port.specs.{EndLog.EndLog, EndLog.all_put, EndLog.entries_marked, Lists.Rings}
-use Rattle.vs_ring_port.specs.DriverCalls.{driver_answer, Stage, Publish}
-use Rattle.vs_ring_port.specs.declared.queue.Queue.TheVariants.{Rx, Event}
+use Rattle.laws_world.specs.{Pipes.IsFresh, Pages.AllHold, Pages.AllPacked, Events.happens, Events.run, Sides.both_of, Sides.driver_ends}
+use Rattle.laws_world.specs.{Sides.log_with_staged, World.World, World.opening, World.first_cid}
+use Rattle.vs_ring_port.specs.{EndLog.EndLog, EndLog.all_put, EndLog.entries_marked, Lists.Rings, DriverCalls.driver_answer}
+use Rattle.vs_ring_port.specs.{DriverCalls.Stage, DriverCalls.Publish, declared.queue.Queue.TheVariants.Rx}
+use Rattle.vs_ring_port.specs.declared.queue.Queue.TheVariants.{Event}
 use Rattle.vs_ring_list.specs.Ends.{empty_ends}
 use Rattle.laws_tables.specs.Both.{Both}
 use Rattle.vs_driver_parts.specs.Conversations.{DriverTree, load_cid, new_of, new_state, post_events, post_one, posts, publish_of}
 use Rattle.vs_driver_parts.specs.State.{DriverState}
-use Rattle.laws_world.proofs.{DriverSide.DriverHolds, Once.AreOnce, Once.start_once, Played.opening_queued, Runs.and_then}
-use Rattle.laws_world.proofs.{Sound.Goes, Sound.IsWell, Sound.goes_still, Sound.happens_goes, Wire.PutsFit}
+use Rattle.laws_driver.specs.Honest.{IsFitState, slots_of}
+use Rattle.laws_driver.proofs.Calls.{made_fits}
+use Rattle.laws_driver_bytes.specs.Received.{AreReceived, no_account}
+use Rattle.laws_driver_bytes.proofs.Connecting.{none_received}
+use Rattle.laws_world.proofs.{Once.AreOnce, Once.start_once, Played.opening_queued, Runs.and_then, Sound.Goes, Sound.IsWell}
+use Rattle.laws_world.proofs.{Sound.goes_still, Sound.happens_goes, Wire.PutsFit}
 use Rattle.laws_tables.specs.Both as both
 use Rattle.laws_world.specs.Events as events
 
@@ -103,43 +106,6 @@ new_made n = twice (MadeBy n) (posts Rx (made n 0 0)) (publish_of Rx) post_event
     after_rx m lists log quiet = twice (MadeBy n) (posts Event (made n 0 0)) (publish_of Event) load_cid _ (posts_event (MadeBy n) n (λ s. bind (publish_of Event s) load_cid) loaded n 0 _ _
         (record { entries = quiet.entries; staged = quiet.staged; given = quiet.given; cid = quiet.cid }))
 
-no_table : IsTable (made 0 3 0).table
-no_table = record {
-  within = omega arith;
-  rising = λ i j d less within. absurd (omega (arith, within));
-  distinct = λ i j d less within. absurd (omega (arith, within));
-  were_given = λ i d within. absurd (omega (arith, within));
-  slots_left = omega arith;
-}
-
-driver_holds : (n : ℕ) (s : DriverState) → s ≡ made n 3 0 → DriverHolds s
-driver_holds n s is = subst DriverHolds (sym is) (record {
-  sound = no_table;
-  room = refl;
-  given = refl;
-  ends = λ i d within. absurd (omega (arith, within));
-  owed = λ i d within. absurd (omega (arith, within));
-  port = omega arith;
-  known = omega arith;
-})
-
-none_received : (n : ℕ) (s : DriverState) (log : Log) → s ≡ made n 3 0 → IsReceived (λ f. []) log s
-none_received n s log is = subst (IsReceived (λ f. []) log) (sym is) (record {
-  numbers = record {
-    given = refl;
-    slots = λ i d within. absurd (omega (arith, within));
-    below = λ i d within. absurd (omega (arith, within));
-    apart = λ i d within. absurd (omega (arith, within));
-    distinct = λ i j d less within. absurd (omega (arith, within));
-    ports = λ i d within. absurd (omega (arith, within));
-  };
-  front = λ f. (got_on Driver f log, refl);
-  held = λ i d within. absurd (omega (arith, within));
-  left = λ i d within. absurd (omega (arith, within));
-  apart = λ i d within. absurd (omega (arith, within));
-  distinct = λ i j d less within. absurd (omega (arith, within));
-})
-
 -- A host without streams.
 none_streamed : (host : HostContents) (port : ℕ) → IsFresh host → IsStreamed host [] port (new_proxy first_cid host.base).device.table []
 none_streamed host port fresh = record {
@@ -185,7 +151,7 @@ module _ (n : ℕ) (host : HostContents) where
   opening_well = record {
     queued = opening_queued n host;
     sound = subst (λ (b : Both). both.IsSound first_cid b) opening_is (start_sound first_cid FIRST_PORT ASSIGNED_FIRST);
-    driver = driver_holds n (opening n host).driver new.state;
+    driver = subst IsFitState (sym new.state) (made_fits n FIRST_PORT 1 (omega arith) first_cid (omega arith));
     device = record {
       sound = record {
         within = omega arith;
@@ -202,7 +168,7 @@ module _ (n : ℕ) (host : HostContents) where
     };
     driver_puts = subst PutsFit (sym log_empty) tt;
     device_puts = tt;
-    pages = (subst AllHold (sym new.given) tt, subst AllHold (sym new.staged) tt);
+    pages = (subst AllHold (sym new.given) tt, subst AllPacked (sym new.staged) tt);
     chain = tt;
     known = subst (λ (c : ℕ). c < 2 ^ 64) (sym new.cid) (omega arith);
     broken = ap (λ (s : DriverState). s.broken) new.state;
@@ -210,8 +176,11 @@ module _ (n : ℕ) (host : HostContents) where
     cids = subst (AreVoiced first_cid) opening_is (voices_start first_cid FIRST_PORT ASSIGNED_FIRST);
     once = subst AreOnce opening_is (start_once first_cid FIRST_PORT ASSIGNED_FIRST);
     streams = none_streamed host (opening n host).proxy.next_port;
-    received = none_received n (opening n host).driver (log_with_staged (opening n host).rings.driver) new.state;
-    sent = λ f. ap (put_on f) (sym log_empty);
+    opened = (no_account 1).opened;
+    received = subst (λ (log : Log). AreReceived (no_account 1) log (slots_of (opening n host).driver)) (sym log_empty)
+        (subst (λ (s : DriverState). AreReceived (no_account 1) [] (slots_of s)) (sym new.state) (none_received n FIRST_PORT 1));
+    agrees = tt;
+    sent = λ f. ap (payload_put Driver (first_of f)) (sym log_empty);
   }
 
 -- After any list of events.

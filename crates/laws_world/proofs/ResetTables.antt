@@ -1,6 +1,6 @@
 -- At the step at which an end takes a transport reset its table is empty.
-use Rattle.std.proofs.Common.{◌≡◌, ℕ, ◌+◌, ◌==◌, nat_lt, Bool, true, false, cond, List, [], length, Option, Some, None, Result, Ok, Err}
-use Rattle.std.proofs.Common.{refl, sym, ap, subst, ◌∙◌}
+use Rattle.std.proofs.Common.{◌≡◌, ℕ, ◌+◌, ◌==◌, nat_lt, Bool, true, false, cond, List, [], ◌∷◌, map, length, Option, Some, None, Result}
+use Rattle.std.proofs.Common.{Ok, Err, refl, sym, ap, subst, ◌∙◌}
 use Rattle.vs_contents.specs.CallTree.{Done, Ask, bind, for_each, played}
 use Rattle.vs_contents.proofs.Leads.{AllEnds, ends_bind}
 use Rattle.vs_flow.specs.Table.{slots}
@@ -9,12 +9,14 @@ use Rattle.vs_ring_port.specs.{Contents.PublishCid, DriverCalls.LoadCid, DriverC
 use Rattle.vs_ring_port.specs.{DriverCalls.driver_answer, declared.failure.Failure.Failure}
 use Rattle.vs_device_parts.specs.{Calls.DeviceTree, Calls.Ring, State.DeviceState, Turns.after_reset, Turns.close_slot}
 use Rattle.vs_driver_parts.specs.{Receiving.is_reset_event, Steps.takes_page, Conversations.Round, Conversations.event_reaped}
-use Rattle.vs_driver_parts.specs.Conversations.{goes_on_with, staged_again, start}
+use Rattle.vs_driver_parts.specs.{Conversations.goes_on_with, Conversations.staged_again, Conversations.start, State.DriverEntry}
 use Rattle.vs_limits.specs.declared.TheConstants.{DRIVER_REPLIES_FULL}
 use Rattle.vs_proxy_parts.specs.{Handshakes.streams_of, State.ProxyState, State.with_device, Turns.close_handshake, Turns.reset_with}
 use Rattle.laws_world.specs.{Laws.IsEmptied, World.World, World.around, Events.GuestTakes, Events.Reset, Events.driver_step, Events.happens}
 use Rattle.laws_world.specs.Events.{is_guest_cid, reset_made, works_on}
-use Rattle.laws_world.proofs.{DeviceLeads.ends_played, DriverResets.left_all, GuestLines.possible_is, Sound.IsWell}
+use Rattle.laws_world.proofs.{DeviceLeads.ends_played, GuestLines.possible_is, Sound.IsWell}
+use Rattle.laws_driver.proofs.Resetting.{out, resets}
+use Rattle.laws_tables.specs.Ends.{Ends as Tables}
 use Rattle.vs_ring_port.specs.declared.queue.Queue.TheVariants as q
 use Rattle.vs_driver_parts.specs.Receiving as driver_parts
 
@@ -57,6 +59,10 @@ device_emptied cid w right fine =
     (ends_played Emptied _ (around w) (reset_ends cid w.proxy w.proxy.device.failed fine))
 
 -- The driver's.
+none_out : (es : List DriverEntry) → map out es ≡ [] → es ≡ []
+none_out [] none = refl
+none_out (e ∷ es) none = absurd cc
+
 module _ {fresh : Type 0} (w : World) (well : IsWell fresh w) (page : List ℕ) where
   abbrev reaped : Rings × EndLog
   reaped = (after_reap q.Event w.rings.lists, log_reaped q.Event (Some page) w.rings.driver)
@@ -81,7 +87,7 @@ module _ {fresh : Type 0} (w : World) (well : IsWell fresh w) (page : List ℕ) 
       let cid = w.rings.lists.cid in
       staged_table (record (start w.driver) { state = driver_parts.after_reset cid w.driver; count = 1; reset = true })
       (reaped.0, log_loaded cid reaped.1)
-      ∙ ap (λ t. t.entries) (left_all w.driver.table.entries (record w.driver { cid = cid }) refl well.driver.sound.rising).table
+      ∙ none_out (driver_parts.after_reset cid w.driver).table.entries (ap (λ (part : Tables). part.entries) (resets cid w.driver well.known well.driver).ends)
 
   came : (o : Option (List ℕ)) → o ≡ Some page → is_reset_event page ≡ true
       → (played driver_answer (bind (event_reaped (start w.driver) o) (λ r. Done r.0.state))

@@ -1,30 +1,12 @@
 -- What each end leaves alone of the rings.
-use Rattle.std.proofs.Common.{◌≡◌, ℕ, List, [], ◌∷◌, refl, ◌∙◌}
+use Rattle.std.proofs.Common.{ℕ, List, [], ◌∷◌}
 use Rattle.vs_contents.specs.CallTree.{Done, Ask, played}
 use Rattle.vs_ring_port.specs.Contents.{DeviceCall, Take, Read, Write, Return, Given, PublishCid}
-use Rattle.vs_ring_port.specs.{DeviceCalls.device_answer, DriverCalls.DriverCall, DriverCalls.Stage, DriverCalls.Publish, DriverCalls.Reap}
-use Rattle.vs_ring_port.specs.{DriverCalls.LoadCid, DriverCalls.driver_answer, EndLog.EndLog, Lists.Rings, Lists.all_but_oldest}
-use Rattle.vs_ring_port.specs.{Lists.after_return, declared.queue.Queue.Queue, declared.queue.Queue.TheVariants.Rx}
-use Rattle.vs_ring_port.specs.declared.queue.Queue.TheVariants.{Tx, Event}
-use Rattle.vs_driver_parts.specs.Conversations.{DriverTree}
+use Rattle.vs_ring_port.specs.{DeviceCalls.device_answer, EndLog.EndLog, Lists.Rings, Lists.all_but_oldest, Lists.after_return}
+use Rattle.vs_ring_port.specs.{declared.queue.Queue.Queue, declared.queue.Queue.TheVariants.Rx, declared.queue.Queue.TheVariants.Tx}
+use Rattle.vs_ring_port.specs.declared.queue.Queue.TheVariants.{Event}
 use Rattle.vs_device_parts.specs.Calls.{DeviceTree, Call, Ring, Accept, Dial, Label, ReadStream, WriteStream, ShutWrite, CloseStream}
 use Rattle.laws_world.specs.{Answers.Around, Answers.answer_around, Pages.AllHold}
-
--- The driver leaves the CID.
-cid_left : (call : DriverCall) (lists : Rings) (log : EndLog) → (driver_answer call (lists, log)).1.0.cid ≡ lists.cid
-cid_left (Stage queue page) lists log = refl
-cid_left (Publish Rx) lists log = refl
-cid_left (Publish Tx) lists log = refl
-cid_left (Publish Event) lists log = refl
-cid_left (Reap Rx) lists log = refl
-cid_left (Reap Tx) lists log = refl
-cid_left (Reap Event) lists log = refl
-cid_left LoadCid lists log = refl
-
-pub driver_leaves_cid : {A : Type 0} (tree : DriverTree A) (lists : Rings) (log : EndLog) → (played driver_answer tree (lists, log)).1.0.cid ≡ lists.cid
-driver_leaves_cid (Done x) lists log = refl
-driver_leaves_cid (Ask call k) lists log =
-    let r = driver_answer call (lists, log) in driver_leaves_cid (k r.0) r.1.0 r.1.1 ∙ cid_left call lists log
 
 -- The device takes transmit pages, and gives none.
 oldest_left : (given : List (List ℕ)) → AllHold given → AllHold (all_but_oldest given)

@@ -3,7 +3,8 @@ use Rattle.std.proofs.Common.{◌≡◌, ℕ, true, List, [], ◌∷◌, ◌++�
 use Rattle.std.proofs.lemmas.List.{append-nil}
 use Rattle.vs_flow.specs.declared.flow.Flow.{Flow}
 use Rattle.vs_outside.specs.Host.{HostContents}
-use Rattle.laws_world.specs.{Calls.sent_on, Events.ClientConnects, Events.HostCloses, Events.HostEnds, Events.HostFails, Events.HostListens}
+use Rattle.laws_world.specs.{Events.ClientConnects, Events.HostCloses, Events.HostEnds, Events.HostFails, Events.HostListens}
+use Rattle.laws_driver_bytes.specs.Calls.{sent_on}
 use Rattle.laws_world.specs.Events.{HostTakes, HostUnlistens, HostWrites, Reset, is_at_rest, is_guest_cid, reset_made}
 use Rattle.laws_world.specs.Plays.{Line, Guest, Poll, TurnAt, ResetTo, Client, HostListen, HostUnlisten, HostWrite, HostAllow, HostEnd}
 use Rattle.laws_world.specs.Plays.{HostClosed, HostFail, AreRight, after, line, is_given_right, play, report, sent_by}

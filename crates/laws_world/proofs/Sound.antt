@@ -1,43 +1,53 @@
 -- Each event is some of the steps of the two ends.
 use Rattle.std.proofs.lemmas.{Bool.Decides.nat_tests, List.Elements.Contains-get_or, Bool.and_parts}
 use Rattle.std.proofs.Common.{◌≡◌, ℕ, ◌^◌, ◌<◌, ◌≤◌, ◌&&◌, nat_le, Bool, true, false, List, [], ◌∷◌, ◌++◌, refl, sym, ap, subst, ◌∙◌, arith}
-use Rattle.std.proofs.Common.{append_assoc, get_or}
+use Rattle.std.proofs.Common.{append_assoc, get_or, Some}
 use Rattle.vs_contents.specs.CallTree.{played}
 use Rattle.laws_history.specs.declared.packet.Packet.{Packet}
 use Rattle.vs_outside.specs.{Host.HostContents, Host.with_stream, declared.mem_stream.HostWritten.HostWritten, HostProgram.after_fail}
 use Rattle.vs_outside.specs.HostProgram.{after_host_write, after_listen, after_unlisten, allowed, closed, ended, host_write_answer}
 use Rattle.vs_outside.specs.HostProgram.{with_bytes}
 use Rattle.vs_page.specs.{Open.is_dropped, Held.held_in, Held.packet_held, Log.packets_put, Log.packets_got, Log.Device, Log.IsNextPacket}
-use Rattle.vs_page.specs.Log.{Log, flow_got}
-use Rattle.vs_ring_port.specs.{DriverCalls.driver_answer, declared.queue.Queue.Queue}
-use Rattle.laws_tables.specs.{Both.IsSound, Both.Both, Ends.ends_of, Ends.entries_of}
+use Rattle.vs_page.specs.{Log.Log, Log.flow_got, Log.Driver, Fair.IsFairLog, Fair.number_of, Fair.payload_put}
+use Rattle.vs_ring_port.specs.{DriverCalls.driver_answer, declared.queue.Queue.Queue, Contents.RingContents, EndLog.EndLog, EndLog.Pages}
+use Rattle.vs_ring_port.specs.{EndLog.all_put, Lists.Rings}
+use Rattle.laws_tables.specs.{Both.IsSound, Both.Both, Both.Seat, Ends.ends_of, Ends.entries_of, Ends.Ends}
 use Rattle.vs_driver_parts.specs.{Conversations.DriverTree, Conversations.publish_of, State.DriverState, Steps.takes_page}
-use Rattle.vs_driver_parts.specs.Steps.{stages_reply, stages_owed}
+use Rattle.vs_driver_parts.specs.{Steps.stages_reply, Steps.stages_owed, Held.HeldSlots}
 use Rattle.vs_device_parts.specs.{Calls.DeviceTree, State.DeviceState, State.DeviceConnection, Streams.tick_slot, Steps.takes_chain}
 use Rattle.vs_device_parts.specs.Steps.{returns, puts_event, puts_reply, puts_owed, puts_payload, writes, shuts_write}
 use Rattle.vs_proxy_parts.specs.{State.ProxyState, State.Turning, State.start, State.with_device, State.Handshake, Turns.proxy_reset_of}
 use Rattle.vs_proxy_parts.specs.Handshakes.{accept_one, tick_handshake}
-use Rattle.laws_world.specs.{Answers.answer_around, Calls.Journal, Calls.is_right, Calls.received_on, Calls.sent_on, GuestSteps.makes_call}
-use Rattle.laws_world.specs.{Received.IsReceived, Pipes.none_on, Pipes.put_on, Laws.IsQueued, Pages.TxHolds, Events.Event}
-use Rattle.laws_world.specs.Events.{GuestCalls, GuestTakes, GuestReplies, GuestPays, GuestPublishes, DeviceTakes, DeviceReturns}
-use Rattle.laws_world.specs.Events.{DevicePutsEvent, DeviceReplies, DeviceReads, DevicePays, DeviceWrites, DeviceShutsWrite, ProxyAccepts}
-use Rattle.laws_world.specs.Events.{ProxyReads, Moment, TimesOut, HandshakeTimesOut, Reset, HostListens, HostUnlistens, ClientConnects}
-use Rattle.laws_world.specs.Events.{HostWrites, HostTakes, HostEnds, HostCloses, HostFails, at_moment, call_made, device_step, driver_step}
-use Rattle.laws_world.specs.Events.{happens, has_failed, holds, holds_event, is_at_rest, is_guest_cid, line_read, none_staged, proxy_step}
-use Rattle.laws_world.specs.{Events.reset_made, Events.unless_failed, Events.where_possible, Events.works_on, Sides.Runs, Sides.both_of}
-use Rattle.laws_world.specs.{Sides.log_with_staged, World.World, World.around, World.device_plays, World.driver_plays, World.first_cid}
-use Rattle.laws_world.proofs.{Received.same_received, Chains.HoldsRx, DeviceSide.DeviceHolds, DriverSide.DriverHolds}
-use Rattle.laws_world.proofs.{Played.device_plays_keeps, Played.driver_plays_keeps, Queues.pages_put, Rings.device_leaves_given}
-use Rattle.laws_world.proofs.{Rings.driver_leaves_cid, Runs.keeps_sound, Runs.stays, Once.AreOnce, Once.keeps_once, Wire.PutsFit}
-use Rattle.laws_world.proofs.Streams.{StreamedIf}
-use Rattle.vs_flow.specs.{declared.flow.Flow.Flow, Table.Table}
+use Rattle.laws_world.specs.{Answers.answer_around, Laws.IsQueued, Pages.TxHolds, Events.Event, Events.GuestCalls, Events.GuestTakes}
+use Rattle.laws_world.specs.Events.{GuestReplies, GuestPays, GuestPublishes, DeviceTakes, DeviceReturns, DevicePutsEvent, DeviceReplies}
+use Rattle.laws_world.specs.Events.{DeviceReads, DevicePays, DeviceWrites, DeviceShutsWrite, ProxyAccepts, ProxyReads, Moment, TimesOut}
+use Rattle.laws_world.specs.Events.{HandshakeTimesOut, Reset, HostListens, HostUnlistens, ClientConnects, HostWrites, HostTakes, HostEnds}
+use Rattle.laws_world.specs.Events.{HostCloses, HostFails, at_moment, call_made, device_step, driver_step, happens, has_failed, holds}
+use Rattle.laws_world.specs.Events.{holds_event, is_at_rest, is_guest_cid, line_read, none_staged, proxy_step, reset_made, unless_failed}
+use Rattle.laws_world.specs.{Events.where_possible, Events.works_on, Sides.Runs, Sides.both_of, Sides.log_with_staged, World.World}
+use Rattle.laws_world.specs.World.{around, device_plays, driver_plays, first_cid}
+use Rattle.laws_driver_bytes.specs.Calls.{Journal, is_right, sent_on, makes_call, GuestCall, ReplyTo, account_of, with_call}
+use Rattle.laws_driver_bytes.specs.Received.{Account, AreReceived}
+use Rattle.laws_world.proofs.{Chains.HoldsRx, DeviceSide.DeviceHolds, DriverGoes.Left, DriverGoes.Walks, DriverGoes.call_left}
+use Rattle.laws_world.proofs.{DriverGoes.call_walks, DriverGoes.poll_left, DriverGoes.poll_walks, DriverWalks.Ties, DriverWalks.first_fair}
+use Rattle.laws_world.proofs.{DriverWalks.shown, DriverWalks.walk, Journals.AllAgree, Played.device_plays_keeps, Played.driver_got}
+use Rattle.laws_world.proofs.{Queues.pages_put, Rings.device_leaves_given, Runs.goes_run, Runs.keeps_sound, Runs.stays, Once.AreOnce}
+use Rattle.laws_world.proofs.{Once.keeps_once, Once.number_of_once, Wire.PutsFit, Streams.StreamedIf}
+use Rattle.vs_flow.specs.{declared.flow.Flow.Flow, Table.Table, Connection.Connection, Connection.first_of}
 use Rattle.std.specs.List.{All}
 use Rattle.vs_limits.specs.declared.TheConstants.{GUEST_CID_MIN, GUEST_CID_MAX}
 use Rattle.laws_tables.proofs.{Both.next_is_fair, Fair.got_formed, Slots.one_end, Voices.AreVoiced, Voices.voices_run}
+use Rattle.laws_driver.specs.{Honest.IsFitState, Honest.ends_of_state, Honest.slots_of, Staged.IsLeft}
+use Rattle.laws_driver.proofs.{Carrying.Carries, Carrying.Fact, Carrying.Holds, Carrying.IsTiedBy, Carrying.RestsWith, Keeping.Keeps}
+use Rattle.laws_driver.proofs.{Keeping.keeps_weaker, Staging.Rests, Staging.rests_tied, Stepping.Works, Stepping.owed_with}
+use Rattle.laws_driver.proofs.Stepping.{publish_with, reply_with, takes_with}
+use Rattle.laws_driver_bytes.proofs.{Making.account_after, Making.at_first, Making.made_with, Making.sent_with, Polling.IsFurther}
+use Rattle.laws_driver_bytes.proofs.Sending.{puts_as}
 use Rattle.laws_device_bytes.specs.Streamed.{IsStreamed, gives}
-use Rattle.laws_bytes.proofs.Logs.{nothing_more}
 use Rattle.laws_device_bytes.proofs.{Cids.dropped_empty, HostCalls.client_host, HostCalls.same_host, Hosts.unseen}
 use Rattle.vs_ring_list.proofs.Held.{same_queue_is}
+use Rattle.laws_driver.proofs.Staging.{Ties as DriverTies}
+use Rattle.laws_driver.proofs.Going.{stays as seat_stays}
 use Rattle.vs_ring_port.specs.declared.queue.Queue.TheVariants as q
 use Rattle.laws_world.proofs.DevicePuts as device_puts
 use Rattle.laws_world.proofs.DeviceReads as device_reads
@@ -45,8 +55,6 @@ use Rattle.laws_world.proofs.DeviceSide as device_side
 use Rattle.laws_world.proofs.DeviceStreams as device_streams
 use Rattle.laws_world.proofs.DeviceTurns as device_turns
 use Rattle.laws_world.proofs.DeviceEvents as device_events
-use Rattle.laws_world.proofs.DriverEvents as driver_events
-use Rattle.laws_world.proofs.DriverSide as driver_side
 use Rattle.laws_world.proofs.ProxyResets as proxy_resets
 use Rattle.laws_world.proofs.ProxySide as proxy_side
 use Rattle.vs_header.specs.declared.Kind.TheVariants as kind
@@ -68,7 +76,7 @@ host_written id bytes written.NoStream c log port t hands x = x
 pub record IsWell (fresh : Type 0) (w : World) : Type 0 where
   pub queued : IsQueued w.rings
   pub sound : IsSound first_cid (both_of w)
-  pub driver : DriverHolds w.driver
+  pub driver : IsFitState w.driver
   pub device : DeviceHolds w.proxy.next_port w.proxy.device
   pub driver_puts : PutsFit (log_with_staged w.rings.driver)
   pub device_puts : PutsFit w.rings.device.entries
@@ -76,8 +84,11 @@ pub record IsWell (fresh : Type 0) (w : World) : Type 0 where
   pub chain : HoldsRx w.proxy.device.chain w.rings.device.held
   pub known : w.rings.lists.cid < 2 ^ 64
   pub broken : w.driver.broken ≡ 0
-  pub sent : (f : Flow) → sent_on f w.journal ≡ put_on f (log_with_staged w.rings.driver)
-  pub received : IsReceived (λ f. received_on f w.journal) (log_with_staged w.rings.driver) w.driver
+  -- Ids were given to these connections.
+  pub opened : ℕ → Connection
+  pub received : AreReceived (account_of 1 opened w.journal) (log_with_staged w.rings.driver) (slots_of w.driver)
+  pub agrees : AllAgree opened w.journal
+  pub sent : (f : Flow) → sent_on f w.journal ≡ payload_put Driver (first_of f) (log_with_staged w.rings.driver)
   pub overrun : w.proxy.device.overrun ≡ 0
   pub cids : AreVoiced first_cid (both_of w)
   -- No flow is used twice.
@@ -92,34 +103,162 @@ pub record Goes (fresh : Type 0) (w v : World) : Type 0 where
 pub goes_still : (fresh : Type 0) (w : World) → IsWell fresh w → Goes fresh w w
 goes_still fresh w well = record { well = well; runs = stays _ _ refl }
 
+-- Nothing is staged.
+pub nothing_staged : (pages : List (List ℕ)) → none_staged pages ≡ true → pages ≡ []
+nothing_staged [] is = refl
+nothing_staged (page ∷ pages) is = absurd cc
+
+tx_at_rest : (staged : Pages) → is_at_rest staged ≡ true → staged.tx ≡ []
+tx_at_rest staged is = by staged.tx (none_staged staged.rx) (none_staged staged.event) is
+  where
+    by : (pages : List (List ℕ)) (a c : Bool) → (a && none_staged pages && c) ≡ true → pages ≡ []
+    by [] a c is = refl
+    by (page ∷ pages) true c is = absurd cc
+    by (page ∷ pages) false c is = absurd cc
+
 -- The driver plays a conversation.
-driver_goes : {A : Type 0} (fresh : Type 0) (tree : DriverTree A) (state_of : A → DriverState) (extra read : Flow → List ℕ) (journal : Journal) (w : World) → IsWell fresh w
-    → ((f : Flow) → sent_on f journal ≡ sent_on f w.journal ++ extra f) → ((f : Flow) → received_on f journal ≡ received_on f w.journal ++ read f)
-    → (let r = played driver_answer tree (w.rings.lists, w.rings.driver) in
-    driver_side.KeptWith (both_of w).device extra read w.driver (log_with_staged w.rings.driver) (state_of r.0) (log_with_staged r.1.1) × TxHolds r.1.0 r.1.1)
-    → Goes fresh w (record (driver_plays tree w).1 { driver = state_of (driver_plays tree w).0; journal = journal })
-driver_goes fresh tree state_of extra read journal w well made reads (kept, pages) = record {
-  well = record {
-    queued = driver_plays_keeps tree w well.queued;
-    sound = keeps_sound first_cid _ _ kept.runs well.sound;
-    driver = kept.holds;
-    device = well.device;
-    driver_puts = kept.puts;
-    device_puts = well.device_puts;
-    pages = pages;
-    chain = well.chain;
-    known = subst (λ (n : ℕ). n < 2 ^ 64) (sym (driver_leaves_cid tree w.rings.lists w.rings.driver)) well.known;
-    broken = kept.broken ∙ well.broken;
-    sent = λ f. made f ∙ ap (λ (xs : List ℕ). xs ++ extra f) (well.sent f) ∙ sym (kept.sent f);
-    received = same_received (λ f. received_on f w.journal ++ read f) (λ f. received_on f journal) _ _ (λ f. sym (reads f)) (λ f. refl) (λ f is. is)
-        _ _ _ _ (kept.received (λ f. received_on f w.journal) well.received);
-    overrun = well.overrun;
-    cids = cids_kept first_cid _ _ kept.runs well.sound well.cids;
-    once = keeps_once first_cid _ _ kept.runs well.sound well.once;
-    streams = well.streams;
-  };
-  runs = kept.runs;
-}
+module _ (fresh : Type 0) (w : World) (well : IsWell fresh w) where
+  abbrev guest : Seat
+  guest = (both_of w).driver
+
+  abbrev rings : Rings × EndLog
+  rings = (w.rings.lists, w.rings.driver)
+
+  device_fits : IsFairLog Device w.rings.device.entries
+  device_fits = well.sound.fair Device
+
+  abbrev exposed : Rings × EndLog → RingContents
+  exposed r = shown w.rings.device device_fits well.device_puts r
+
+  tie : Ties w.rings.device device_fits well.device_puts rings
+  tie = record {
+    queued = well.queued;
+    fair = first_fair w.rings.driver.staged.tx w.rings.driver.entries (well.sound.fair Driver);
+    cid = well.known;
+    pages = well.pages;
+  }
+
+  same_told : {l m : EndLog} → Some l ≡ Some m → l ≡ m
+  same_told is = cc
+
+  -- Where nothing is staged, and where packets may be.
+  ties_at : (fact : Fact) → Holds fact w.driver (log_with_staged w.rings.driver) → DriverTies first_cid fact w.driver (exposed rings)
+  ties_at fact held = λ on l is. subst (IsTiedBy first_cid fact w.driver) (same_told is) (
+    (well.driver, record { none_refused = well.broken; matches = well.sound.matches Driver; fair = well.sound.fair Driver }),
+    held,
+  )
+
+  rests_at : (fact : Fact) → w.rings.driver.staged.tx ≡ [] → Holds fact w.driver (log_with_staged w.rings.driver) → Rests first_cid fact w.driver (exposed rings)
+  rests_at fact none held = λ on l is. subst (RestsWith first_cid fact w.driver) (same_told is) (
+    (
+      well.driver,
+      subst (λ (pages : List (List ℕ)). IsLeft first_cid w.driver.broken (ends_of_state w.driver) pages w.rings.driver.entries) none
+          (record { none_refused = well.broken; matches = well.sound.matches Driver; fair = well.sound.fair Driver }),
+      none,
+    ),
+    subst (λ (pages : List (List ℕ)). Holds fact w.driver (all_put pages w.rings.driver.entries)) none held,
+  )
+
+  driver_goes : {A : Type 0} (tree : DriverTree A) (state_of : A → DriverState) (fact : A → Fact) (journal : Journal)
+      → Keeps (λ x d. DriverTies first_cid (fact x) (state_of x) d) tree (exposed rings)
+      → ((part : Ends) (slots : HeldSlots) (log : Log) → fact (played driver_answer tree rings).0 part slots log → Left guest journal part slots log)
+      → Goes fresh w (record (driver_plays tree w).1 { driver = state_of (driver_plays tree w).0; journal = journal })
+  driver_goes tree state_of fact journal keeps left =
+      let r = played driver_answer tree rings in
+      let ends = walk w.rings.device device_fits well.device_puts (λ x d. DriverTies first_cid (fact x) (state_of x) d) tree rings tie keeps in
+      let now = ends.0 refl r.1.1 refl in
+      let after = left _ _ _ now.1 in
+      let puts = pages_put r.1.1.staged.tx r.1.1.entries in
+      let got = driver_got (record { lists = r.1.0; driver = r.1.1; device = w.rings.device }) ends.1.queued in
+      let runs = goes_run (both_of w).device guest _ after.goes (record {
+        packets = (got.packets.0, got.packets.1 ∙ ap (λ (ps : List Packet). got.packets.0 ++ ps) (sym puts.got));
+        events = (got.events.0, got.events.1 ∙ ap (λ (ids : List ℕ). got.events.0 ++ ids) (sym puts.heard));
+      }) in
+      record {
+        well = record {
+          queued = ends.1.queued;
+          sound = keeps_sound first_cid _ _ runs well.sound;
+          driver = now.0.0;
+          device = well.device;
+          driver_puts = after.fits;
+          device_puts = well.device_puts;
+          pages = ends.1.pages;
+          chain = well.chain;
+          known = ends.1.cid;
+          broken = now.0.1.none_refused;
+          opened = after.opened;
+          received = after.received;
+          agrees = after.agrees;
+          sent = after.sent;
+          overrun = well.overrun;
+          cids = cids_kept first_cid _ _ runs well.sound well.cids;
+          once = keeps_once first_cid _ _ runs well.sound well.once;
+          streams = well.streams;
+        };
+        runs = runs;
+      }
+
+  abbrev account : Account
+  account = account_of 1 well.opened w.journal
+
+  further : IsFurther account (slots_of w.driver) (log_with_staged w.rings.driver)
+  further = (account, record { first_id = refl; opened = λ id some. refl; received = λ id. refl }, well.received)
+
+  few : (f : Flow) → number_of Driver f (log_with_staged w.rings.driver) ≤ 1
+  few = number_of_once Driver first_cid (both_of w) well.sound well.once
+
+  -- A step that makes no call of the guest's.
+  abbrev step_fact : Fact
+  step_fact = Walks first_cid guest account (puts_as guest.log)
+
+  at_step : Holds step_fact w.driver guest.log
+  at_step = (seat_stays guest guest refl, well.driver_puts, further, λ c. refl)
+
+  steps : Carries first_cid step_fact
+  steps = poll_walks first_cid guest account guest.log
+
+  step_goes : (step : DriverState → DriverTree DriverState) → Keeps (DriverTies first_cid step_fact) (step w.driver) (exposed rings)
+      → Goes fresh w (driver_step step w)
+  step_goes step keeps = driver_goes (step w.driver) (λ s. s) (λ s. step_fact) w.journal keeps
+      (poll_left first_cid guest well.opened w.journal w.driver guest.log well.received well.agrees well.sent few)
+
+  works_at : (queue : Queue) → works_on queue w.rings.driver.staged ≡ true → Works queue first_cid step_fact w.driver (exposed rings)
+  works_at q.Tx may = ties_at step_fact at_step
+  works_at q.Rx may = rests_at step_fact (nothing_staged w.rings.driver.staged.tx (and_parts _ _ may).0) at_step
+  works_at q.Event may = rests_at step_fact (nothing_staged w.rings.driver.staged.tx (and_parts _ _ may).1) at_step
+
+  works_ties : (queue : Queue) (s : DriverState) (c : RingContents) → Works queue first_cid step_fact s c → DriverTies first_cid step_fact s c
+  works_ties q.Tx s c works = works
+  works_ties q.Rx s c works = rests_tied first_cid step_fact s c works
+  works_ties q.Event s c works = rests_tied first_cid step_fact s c works
+
+  takes_goes : (queue : Queue) → works_on queue w.rings.driver.staged ≡ true → Goes fresh w (driver_step (takes_page queue) w)
+  takes_goes queue may = step_goes (takes_page queue)
+      (keeps_weaker (Works queue first_cid step_fact) (DriverTies first_cid step_fact) (works_ties queue) (takes_page queue w.driver) (exposed rings)
+      (takes_with first_cid step_fact steps queue w.driver (exposed rings) (works_at queue may)))
+
+  publishes_goes : (queue : Queue) → works_on queue w.rings.driver.staged ≡ true → Goes fresh w (driver_step (publish_of queue) w)
+  publishes_goes queue may = step_goes (publish_of queue)
+      (keeps_weaker (Rests first_cid step_fact) (DriverTies first_cid step_fact) (rests_tied first_cid step_fact) (publish_of queue w.driver) (exposed rings)
+      (publish_with first_cid step_fact steps queue w.driver (exposed rings) (works_at queue may)))
+
+  replies_goes : Goes fresh w (driver_step stages_reply w)
+  replies_goes = step_goes stages_reply (reply_with first_cid step_fact steps w.driver (exposed rings) (ties_at step_fact at_step))
+
+  pays_goes : (slot : ℕ) → Goes fresh w (driver_step (stages_owed slot) w)
+  pays_goes slot = step_goes (stages_owed slot) (owed_with first_cid step_fact steps slot w.driver (exposed rings) (ties_at step_fact at_step))
+
+  -- A call of the guest's.
+  calls_goes : (call : GuestCall) → is_right call ≡ true → w.rings.driver.staged.tx ≡ [] → Goes fresh w (call_made call w).0
+  calls_goes call right none =
+      let before : Fact = Walks first_cid guest account (at_first first_cid w.driver guest.log) in
+      let after : ReplyTo call → Fact = λ reply. Walks first_cid guest (account_after call reply account) (sent_with first_cid w.driver guest.log call reply) in
+      driver_goes (makes_call call w.driver) (λ x. x.0) (λ x. after x.1) (with_call call w.driver (call_made call w).1 w.journal)
+      (keeps_weaker (λ x d. Rests first_cid (after x.1) x.0 d) (λ x d. DriverTies first_cid (after x.1) x.0 d) (λ x d rests. rests_tied first_cid (after x.1) x.0 d rests)
+      (makes_call call w.driver) (exposed rings)
+      (made_with first_cid w.driver (exposed rings) call before after right (call_walks first_cid guest account w.driver guest.log call right)
+      (rests_at before none (seat_stays guest guest refl, well.driver_puts, further, (refl, refl)))))
+      (call_left first_cid guest well.opened w.journal w.driver guest.log well.received well.agrees well.sent few rings call)
 
 -- The device plays one, and so does the proxy.
 abbrev DeviceLeft : {A : Type 0} → Type 0 → (tree : DeviceTree A) (state_of : A → ProxyState) → World → Type 0
@@ -143,8 +282,10 @@ device_goes fresh tree state_of w well (kept, chain, known, streams) = record {
     chain = chain;
     known = known;
     broken = well.broken;
-    sent = well.sent;
+    opened = well.opened;
     received = well.received;
+    agrees = well.agrees;
+    sent = well.sent;
     overrun = kept.overrun ∙ well.overrun;
     cids = cids_kept first_cid _ _ kept.runs well.sound well.cids;
     once = keeps_once first_cid _ _ kept.runs well.sound well.once;
@@ -161,18 +302,7 @@ unfailed : (fresh : Type 0) (b : Bool) (step : World → World) (w : World) → 
 unfailed fresh true step w is well goes = rw is (goes_still fresh w well)
 unfailed fresh false step w is well goes = rw is goes
 
--- Nothing is staged.
-pub nothing_staged : (pages : List (List ℕ)) → none_staged pages ≡ true → pages ≡ []
-nothing_staged [] is = refl
-nothing_staged (page ∷ pages) is = absurd cc
-
 module _ (fresh : Type 0) (w : World) (well : IsWell fresh w) where
-  driver_step_goes : (step : DriverState → DriverTree DriverState) → (let r = played driver_answer (step w.driver) (w.rings.lists, w.rings.driver) in
-      driver_side.Kept (both_of w).device w.driver (log_with_staged w.rings.driver) r.0 (log_with_staged r.1.1) × TxHolds r.1.0 r.1.1)
-      → Goes fresh w (driver_step step w)
-  driver_step_goes step kept = driver_goes fresh (step w.driver) (λ s. s) none_on none_on w.journal w well (λ f. nothing_more (sent_on f w.journal))
-      (λ f. nothing_more (received_on f w.journal)) kept
-
   device_step_goes : (step : DeviceState → DeviceTree DeviceState)
       → device_events.KeptBy (both_of w).driver first_cid w.proxy.next_port w.proxy.device w.rings.device.entries well.sound well.device well.device_puts fresh w.proxy.handshakes
       (step w.proxy.device) (around w) → Goes fresh w (device_step step w)
@@ -202,16 +332,6 @@ module _ (fresh : Type 0) (w : World) (well : IsWell fresh w) where
       (subst (λ (f : Flow). ends_of f (entries_of (λ (c : DeviceConnection). c.end) w.proxy.device.table) ≡ e.value.end ∷ []) on
       (one_end (λ (c : DeviceConnection). c.end) w.proxy.device.table e well.device.sound there)) given
 
-  takes_goes : (queue : Queue) → works_on queue w.rings.driver.staged ≡ true → Goes fresh w (driver_step (takes_page queue) w)
-  takes_goes q.Tx may = driver_step_goes (takes_page q.Tx)
-      (driver_events.reaps_tx (both_of w).device first_cid w.driver w.rings.lists w.rings.driver well.sound well.driver well.driver_puts well.pages)
-  takes_goes q.Rx may = driver_step_goes (takes_page q.Rx)
-      (driver_events.takes_page_keeps (both_of w).device first_cid w.driver w.rings.lists w.rings.driver well.sound well.driver well.driver_puts well.pages
-      (nothing_staged w.rings.driver.staged.tx (and_parts _ _ may).0) well.device_puts well.queued.rx well.queued.event well.known well.once q.Rx)
-  takes_goes q.Event may = driver_step_goes (takes_page q.Event)
-      (driver_events.takes_page_keeps (both_of w).device first_cid w.driver w.rings.lists w.rings.driver well.sound well.driver well.driver_puts well.pages
-      (nothing_staged w.rings.driver.staged.tx (and_parts _ _ may).1) well.device_puts well.queued.rx well.queued.event well.known well.once q.Event)
-
   device_takes_goes : (queue : Queue) → Goes fresh w (device_step (takes_chain queue) w)
   device_takes_goes q.Rx = device_step_goes (takes_chain q.Rx)
       (device_turns.takes_rx (both_of w).driver first_cid w.proxy.next_port w.proxy.device (around w) well.sound well.device well.device_puts well.chain well.known fresh w.proxy.handshakes well.streams)
@@ -237,8 +357,10 @@ module _ (fresh : Type 0) (w : World) (well : IsWell fresh w) where
       chain = well.chain;
       known = well.known;
       broken = well.broken;
-      sent = well.sent;
+      opened = well.opened;
       received = well.received;
+      agrees = well.agrees;
+      sent = well.sent;
       overrun = well.overrun;
       cids = well.cids;
       once = well.once;
@@ -259,19 +381,14 @@ module _ (fresh : Type 0) (w : World) (well : IsWell fresh w) where
   pub happens_goes : (e : Event) → Goes fresh w (happens e w)
   happens_goes (GuestCalls call) =
       possible fresh (is_at_rest w.rings.driver.staged && is_right call) (λ v. (call_made call v).0) w well
-      (λ may. driver_goes fresh (makes_call call w.driver) (λ r. r.0) _ _ _ w well (λ f. refl) (λ f. refl)
-      (driver_events.makes_call_keeps (both_of w).device first_cid w.driver w.rings.lists w.rings.driver well.sound well.driver well.driver_puts well.pages call
-      (and_parts _ _ may).1))
-  happens_goes (GuestTakes queue) = possible fresh (works_on queue w.rings.driver.staged) (driver_step (takes_page queue)) w well (takes_goes queue)
+      (λ may. let parts = and_parts _ _ may in calls_goes fresh w well call parts.1 (tx_at_rest w.rings.driver.staged parts.0))
+  happens_goes (GuestTakes queue) = possible fresh (works_on queue w.rings.driver.staged) (driver_step (takes_page queue)) w well (takes_goes fresh w well queue)
   happens_goes GuestReplies =
-      possible fresh (works_on q.Tx w.rings.driver.staged) (driver_step stages_reply) w well (λ may. driver_step_goes stages_reply
-      (driver_events.stages_reply_keeps (both_of w).device first_cid w.driver w.rings.lists w.rings.driver well.sound well.driver well.driver_puts well.pages))
+      possible fresh (works_on q.Tx w.rings.driver.staged) (driver_step stages_reply) w well (λ may. replies_goes fresh w well)
   happens_goes (GuestPays slot) =
-      possible fresh (works_on q.Tx w.rings.driver.staged) (driver_step (stages_owed slot)) w well (λ may. driver_step_goes (stages_owed slot)
-      (driver_events.stages_owed_keeps (both_of w).device first_cid w.driver w.rings.lists w.rings.driver well.sound well.driver well.driver_puts well.pages slot))
+      possible fresh (works_on q.Tx w.rings.driver.staged) (driver_step (stages_owed slot)) w well (λ may. pays_goes fresh w well slot)
   happens_goes (GuestPublishes queue) =
-      possible fresh (works_on queue w.rings.driver.staged) (driver_step (publish_of queue)) w well (λ may. driver_step_goes (publish_of queue)
-      (driver_events.publishes_keeps (both_of w).device first_cid w.driver w.rings.lists w.rings.driver well.sound well.driver well.driver_puts well.pages queue))
+      possible fresh (works_on queue w.rings.driver.staged) (driver_step (publish_of queue)) w well (publishes_goes fresh w well queue)
   happens_goes (DeviceTakes queue) = unfailed fresh (has_failed w) (device_step (takes_chain queue)) w refl well (device_takes_goes queue)
   happens_goes (DeviceReturns chain) =
       possible fresh (holds q.Tx chain w) (device_step (returns chain)) w well (λ may. device_step_goes (returns chain)

@@ -11,8 +11,8 @@ use Rattle.vs_device_parts.specs.{Calls.DeviceTree, State.DeviceState, Streams.t
 use Rattle.vs_device_parts.specs.Steps.{puts_event, puts_reply, puts_owed, puts_payload, writes, shuts_write}
 use Rattle.vs_proxy_parts.specs.{State.Turning, State.start, State.with_device, Turns.proxy_reset_of, Handshakes.tick_handshake}
 use Rattle.vs_proxy_parts.specs.Handshakes.{accept_one, read_byte}
-use Rattle.laws_world.specs.{Calls.GuestCall, Calls.ReplyTo, Calls.is_right, GuestSteps.makes_call, GuestSteps.flow_named, Pages.is_held}
-use Rattle.laws_world.specs.World.{World, driver_plays, device_plays}
+use Rattle.laws_world.specs.{Pages.is_held, World.World, World.driver_plays, World.device_plays}
+use Rattle.laws_driver_bytes.specs.Calls.{GuestCall, ReplyTo, is_right, makes_call, with_call}
 use Rattle.vs_header.specs.declared.Kind.TheVariants as kind
 use Rattle.vs_ring_port.specs.declared.queue.Queue.TheVariants as q
 
@@ -94,7 +94,7 @@ host_step step w = record w { host = step w.host }
 abbrev pub call_made : (call : GuestCall) → World → World × ReplyTo call
 call_made call w =
     let r = driver_plays (makes_call call w.driver) w in
-    (record r.1 { driver = r.0.0; journal = record { call = call; flow = flow_named call w.driver; reply = r.0.1 } ∷ w.journal }, r.0.1)
+    (record r.1 { driver = r.0.0; journal = with_call call w.driver r.0.1 w.journal }, r.0.1)
 
 abbrev pub line_read : ℕ → Turning → DeviceTree Turning
 line_read stream t = bind (read_byte stream t) (λ r. Done r.0)

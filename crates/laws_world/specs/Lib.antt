@@ -1,13 +1,10 @@
-pub mod Calls
 pub mod Answers
 pub mod World
-pub mod GuestSteps
 pub mod Events
 pub mod Plays
 pub mod Laws
 pub mod Sides
 pub mod Pages
-pub mod Received
 pub mod Pipes
 pub mod Steps
 pub mod Over

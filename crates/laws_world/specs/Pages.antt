@@ -3,7 +3,8 @@ use Rattle.std.specs.Prelude.{◌≡◌, ◌≤◌, ◌+◌, ℕ, Bool, true, fa
 use Rattle.vs_header.specs.declared.TheConstants.{HEADER_LEN}
 use Rattle.laws_history.specs.declared.packet.Packet.{Packet}
 use Rattle.vs_page.specs.Held.{packet_held}
-use Rattle.vs_ring_port.specs.{Chains.Held, Chains.same_chain, EndLog.EndLog, Lists.Rings, declared.device_ring.Chain.Chain}
+use Rattle.vs_ring_port.specs.{Chains.Held, Chains.same_chain, DriverCalls.HoldsPacket, EndLog.EndLog, Lists.Rings}
+use Rattle.vs_ring_port.specs.declared.device_ring.Chain.{Chain}
 
 -- A page holds a packet, with as many bytes as its header tells.
 pub record PageHolds (page : List ℕ) : Type 0 where
@@ -15,9 +16,13 @@ abbrev pub AllHold : List (List ℕ) → Type 0
 AllHold [] = Unit {0}
 AllHold (page ∷ pages) = PageHolds page × AllHold pages
 
--- Of those staged and of those given each does.
+-- Of those given each does, and of those staged each holds a packet and nothing more.
+abbrev pub AllPacked : List (List ℕ) → Type 0
+AllPacked [] = Unit {0}
+AllPacked (page ∷ pages) = HoldsPacket page × AllPacked pages
+
 abbrev pub TxHolds : Rings → EndLog → Type 0
-TxHolds lists log = AllHold lists.tx.given × AllHold log.staged.tx
+TxHolds lists log = AllHold lists.tx.given × AllPacked log.staged.tx
 
 -- A chain is held.
 abbrev pub is_held : Chain → List Held → Bool

@@ -6,12 +6,11 @@ use Rattle.vs_outside.specs.HostProgram.{after_listen, after_unlisten, after_cli
 use Rattle.vs_outside.specs.HostProgram.{allowed, ended, closed, after_fail}
 use Rattle.vs_outside.specs.declared.mem_stream.HostWritten.{HostWritten}
 use Rattle.vs_ring_port.specs.declared.failure.Failure.{Failure}
-use Rattle.vs_driver_parts.specs.{State.DriverState, declared.answers.Polled.Polled}
-use Rattle.vs_driver_parts.specs.Conversations.{connect_of, send_of, poll_of, DriverTree}
+use Rattle.vs_driver_parts.specs.{State.DriverState, declared.answers.Polled.Polled, Conversations.connect_of, Conversations.send_of}
+use Rattle.vs_driver_parts.specs.Conversations.{poll_of, DriverTree}
 use Rattle.vs_proxy_parts.specs.{Turns.turn_of, Turns.proxy_reset_of, declared.answers.Turn.Turn}
-use Rattle.laws_world.specs.{Events.is_guest_cid, GuestSteps.makes_call, GuestSteps.flow_named}
-use Rattle.laws_world.specs.Calls.{GuestCall, ReplyTo, Connect, Send, bytes_sent, is_on, is_right}
-use Rattle.laws_world.specs.World.{World, driver_plays, device_plays}
+use Rattle.laws_world.specs.{Events.is_guest_cid, World.World, World.driver_plays, World.device_plays}
+use Rattle.laws_driver_bytes.specs.Calls.{GuestCall, ReplyTo, bytes_sent, flow_named, is_on, is_right, whole_call, with_call}
 use Rattle.vs_header.specs.declared.Kind.TheVariants as kind
 
 pub data Line : Type 0 where
@@ -37,16 +36,10 @@ pub data Said : Type 0 where
   Wrote : HostWritten → Said
   IsThere : Bool → Said
 
--- A call of the guest's, whole: connect and send take pages back first.
-abbrev pub whole_call : (call : GuestCall) → DriverState → DriverTree (DriverState × ReplyTo call)
-whole_call (Connect port) s = connect_of port s
-whole_call (Send id bytes) s = send_of id bytes s
-whole_call call s = makes_call call s
-
 abbrev pub guest_line : (call : GuestCall) → World → World × Said
 guest_line call w =
     let r = driver_plays (whole_call call w.driver) w in
-    (record r.1 { driver = r.0.0; journal = record { call = call; flow = flow_named call w.driver; reply = r.0.1 } ∷ w.journal }, Replied call r.0.1)
+    (record r.1 { driver = r.0.0; journal = with_call call w.driver r.0.1 w.journal }, Replied call r.0.1)
 
 abbrev pub poll_line : World → World × Said
 poll_line w = let r = driver_plays (poll_of w.driver) w in (record r.1 { driver = r.0.0 }, HasPolled r.0.1)

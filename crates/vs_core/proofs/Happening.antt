@@ -5,7 +5,6 @@ use Rattle.std.proofs.lemmas.Bool.Decides.{nat_tests}
 use Rattle.vs_contents.specs.CallTree.{Done}
 use Rattle.vs_outside.specs.Host.{HostContents}
 use Rattle.vs_ring_port.specs.{Chains.chains_of, Contents.RingContents, EndLog.EndLog, declared.queue.Queue.Queue}
-use Rattle.vs_ring_port.specs.declared.queue.Queue.TheVariants as q
 use Rattle.vs_ring_list.specs.Ends.{Ends, driver_contents, flight_of, staged_of}
 use Rattle.vs_driver_parts.specs.{Conversations.DriverTree, Conversations.publish_of, Connections.after_unlisten, Listening.listen_of}
 use Rattle.vs_driver_parts.specs.{Listening.listener_on, Listening.listening, Playing.IsAtWork, Playing.IsRingOf, Playing.Plays}
@@ -15,16 +14,17 @@ use Rattle.laws_driver.specs.{Honest.IsHonestWith, Staged.IsWorkingWith}
 use Rattle.vs_device_parts.specs.{Calls.DeviceTree, Playing.IsAmong, State.DeviceState, Steps.takes_chain, Steps.returns, Steps.puts_event}
 use Rattle.vs_device_parts.specs.{Steps.puts_reply, Steps.puts_owed, Steps.puts_payload, Steps.writes, Steps.shuts_write, Streams.tick_slot}
 use Rattle.vs_proxy_parts.specs.{Handshakes.accept_one, Handshakes.tick_handshake, State.ProxyState}
-use Rattle.laws_world.specs.{Calls.GuestCall, Calls.ReplyTo, Calls.is_right, Events.Event, Events.call_made, Events.device_step}
-use Rattle.laws_world.specs.Events.{driver_step, happens, has_failed, holds, is_at_rest, is_guest_cid, line_read, proxy_step, reset_made}
-use Rattle.laws_world.specs.{Events.run, Events.unless_failed, Events.where_possible, Events.works_on, GuestSteps.makes_call, World.World}
-use Rattle.laws_world.specs.{World.first_cid, World.opening, Over.over_lists}
-use Rattle.laws_world.specs.Calls as call
-use Rattle.laws_world.specs.Events as event
+use Rattle.laws_world.specs.Events.{Event, call_made, device_step, driver_step, happens, has_failed, holds, is_at_rest, is_guest_cid}
+use Rattle.laws_world.specs.Events.{line_read, proxy_step, reset_made, run, unless_failed, where_possible, works_on}
+use Rattle.laws_world.specs.{World.World, World.first_cid, World.opening, Over.over_lists}
+use Rattle.laws_driver_bytes.specs.Calls.{GuestCall, ReplyTo, is_right, makes_call}
 use Rattle.laws_world.proofs.OverLists.{over}
 use Rattle.vs_core.proofs.Driven.{driven_stays, honest_rest, rested, stepped, works_with}
 use Rattle.vs_core.specs.Ready.{Happens, IsDrivenAtWork, IsReached, IsReady, IsServedAtWork, WorldState, shown, with_journal}
 use Rattle.vs_core.specs.{Views.Steps, Views.Tells, Views.TellsWhere, declared.event.Reply.Reply}
+use Rattle.vs_ring_port.specs.declared.queue.Queue.TheVariants as q
+use Rattle.laws_driver_bytes.specs.Calls as call
+use Rattle.laws_world.specs.Events as event
 use Rattle.vs_core.specs.declared.event.Reply.TheVariants as reply
 
 -- What happens doesn't look at the journal.

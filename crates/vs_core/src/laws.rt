@@ -11,7 +11,8 @@ ghost use Rattle.vs_outside.specs.Host.{HostContents};
 ghost use Rattle.vs_page.specs.{Fair.IsFairLog, Fair.IsPrefixOf, Fair.payload_got, Fair.payload_put, Log.Device, Log.Driver, Log.HasGotAll};
 ghost use Rattle.vs_page.specs.{Log.IsNextPacket, Log.Log, Log.flow_got, Open.is_dropped, Open.is_open};
 ghost use Rattle.vs_page.specs.declared.log.LogEntry.TheVariants.{Mark};
-ghost use Rattle.laws_world.specs.{Calls.GuestCall, Calls.is_right, Calls.sent_on, Events.Event, Events.happens, Events.is_at_rest};
+ghost use Rattle.laws_world.specs.{Events.Event, Events.happens, Events.is_at_rest};
+ghost use Rattle.laws_driver_bytes.specs.Calls.{GuestCall, is_right, sent_on};
 ghost use Rattle.laws_world.specs.{Events.is_guest_cid, Events.run, Laws.IsQueued, Plays.guest_line, Plays.poll_line, Plays.reset_line};
 ghost use Rattle.laws_world.specs.{Steps.Leads, Sides.Runs, Sides.both_of, World.World, World.first_cid, World.opening};
 

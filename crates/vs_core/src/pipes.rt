@@ -10,7 +10,8 @@ ghost use Rattle.vs_page.specs.{Fair.IsPrefixOf, Fair.payload_got, Fair.payload_
 ghost use Rattle.laws_bytes.specs.Drains.{Drains, receives};
 ghost use Rattle.laws_device_bytes.specs.Streamed.{gives, line_for};
 ghost use Rattle.vs_proxy_parts.specs.State.{Handshake};
-ghost use Rattle.laws_world.specs.{Calls.received_on, Calls.sent_on, Events.Event, Events.run, Pipes.IsFresh};
+ghost use Rattle.laws_world.specs.{Events.Event, Events.run, Pipes.IsFresh};
+ghost use Rattle.laws_driver_bytes.specs.Calls.{received_on, sent_on};
 ghost use Rattle.laws_world.specs.{Plays.AreRight, Plays.Line, Plays.after, Sides.both_of, World.opening};
 
 /// After any list of events the bytes that the guest received on a connection, and then the unread ones, are the payload that the driver

@@ -1,13 +1,13 @@
 -- What a line does, and what it prints, doesn't look at the journal of the calls that the guest made.
 use Rattle.std.proofs.Common.{◌≡◌, ℕ, List, [], ◌∷◌, refl, sym, ap, ◌∙◌}
 use Rattle.vs_script.specs.{Data.bytes_of, Outside.Outside, Outside.OfHost, Play.Event}
-use Rattle.vs_script.specs.Outside as outside
-use Rattle.vs_script.specs.Play as script
-use Rattle.laws_world.specs.Calls as call
 use Rattle.laws_world.specs.Plays.{Line}
-use Rattle.laws_world.specs.Plays as world
 use Rattle.vs_play.specs.{Answer.report_of, Answer.texts_of, Answer.world_after, Lines.PlayWorld, Lines.event_played, Lines.host_line}
 use Rattle.vs_play.specs.{Lines.outside_played, Lines.played_line, Ready.PlayState, Ready.shown, Ready.world_in}
+use Rattle.vs_script.specs.Outside as outside
+use Rattle.vs_script.specs.Play as script
+use Rattle.laws_driver_bytes.specs.Calls as call
+use Rattle.laws_world.specs.Plays as world
 
 -- What is left of a line, and what it printed.
 abbrev seen : PlayWorld × List ℕ → PlayState × List ℕ

@@ -1,9 +1,7 @@
-use Rattle.std.proofs.Common.{ℕ, Option, Some, None}
-use Rattle.vs_page.specs.Log.{Log}
-use Rattle.vs_driver_parts.specs.{Listening.next_accepted, Listening.with_waiting, Listening.without_id, State.DriverState}
-use Rattle.laws_driver.specs.Honest.{slots_of}
-use Rattle.laws_driver_bytes.specs.Received.{Account, AreReceived}
-use Rattle.laws_driver_bytes.proofs.Changing.{close_received, shutdown_received, unlisten_received}
+use Rattle.std.proofs.Common.{subst, sym}
+use Rattle.vs_driver_parts.specs.Held.{HeldSlots}
+use Rattle.laws_driver_bytes.specs.Received.{AreReceived}
+use Rattle.laws_driver_bytes.proofs.Changing.{accept_slots, close_received, shutdown_received, unlisten_received}
 use Rattle.laws_driver_bytes.proofs.{Ending.connect_ends, Ending.new_ends, Ending.poll_ends, Ending.send_ends, Reading.recv_received}
 use Rattle.laws_driver_bytes.proofs.laws.law_of_received.Goals as goal
 
@@ -36,12 +34,5 @@ pub returns-clause-unlisten : goal.returns-clause-unlisten
 returns-clause-unlisten c = λ first port a s r honest account on l is. unlisten_received a l.entries port s (honest on l is).fits (account on l is)
 
 pub returns-clause-accept : goal.returns-clause-accept
-returns-clause-accept c = λ first port a s r honest account on l is. by a l.entries s port (account on l is) (next_accepted port s)
-  where
-    by : (a : Account) (log : Log) (s : DriverState) (port : ℕ) → AreReceived a log (slots_of s) → (o : Option ℕ)
-        → AreReceived a log (slots_of (elim o as (λ _. DriverState) [
-          | None ↦ s
-          | Some id ↦ record s { listeners = with_waiting port (without_id id) s.listeners }
-        ]))
-    by a log s port x None = x
-    by a log s port x (Some id) = x
+returns-clause-accept c = λ first port a s r honest account on l is.
+    subst (λ (slots : HeldSlots). AreReceived a l.entries slots) (sym (accept_slots port s)) (account on l is)

@@ -5,15 +5,16 @@ use Rattle.laws_tables.specs.{Both.Both, Steps.HasEnd}
 use Rattle.laws_tables.proofs.{Both.device_has_room, Both.driver_accepts, Voices.device_takes}
 use Rattle.vs_page.specs.{Log.Device, Log.Driver, Log.IsNextPacket, Log.flow_got, Open.is_dropped}
 use Rattle.laws_world.specs.{Events.run, Sides.both_of, World.first_cid, World.opening}
-use Rattle.laws_world.proofs.{DriverSide.end_in, DriverSide.held_in, Entries.host_of, Opening.opening_is, Opening.reached, Opening.run_well}
-use Rattle.laws_world.proofs.Runs.{and_then, stays}
+use Rattle.laws_driver.specs.Honest.{end_in}
+use Rattle.laws_world.proofs.{Entries.host_of, Opening.opening_is, Opening.reached, Opening.run_well, Runs.and_then, Runs.stays}
 use Rattle.vs_core.proofs.laws.law_of_next_packets.Goals as goal
 
 pub returns-clause-driver : goal.returns-clause-driver
 returns-clause-driver c = λ n host es p e next has.
     let w = run es (opening n host) in
     let well = run_well n host es in
-    driver_accepts first_cid p e (both_of w) well.sound next has (host_of end_in held_in w.driver.table (flow_got Driver p) e well.driver.ends has)
+    driver_accepts first_cid p e (both_of w) well.sound next has
+    (host_of end_in (λ c. 0) w.driver.table (flow_got Driver p) e (λ i d within. (well.driver.entries i d within).peer) has)
 
 pub returns-clause-device : goal.returns-clause-device
 returns-clause-device c = λ n host es p e. let r = and_then _ _ _ (stays _ _ (opening_is n host)) (reached n host es).runs in

@@ -3,11 +3,11 @@ use Rattle.vs_outside.specs.Host.{HostContents}
 use Rattle.vs_page.specs.Log.{Device, Driver}
 use Rattle.vs_page.proofs.PayloadLogs.{prefix}
 use Rattle.laws_world.specs.{Events.Event, Events.run, Laws.IsQueued, World.opening}
-use Rattle.laws_world.proofs.Played.{run_keeps, opening_queued, device_got, driver_got}
+use Rattle.laws_world.proofs.{Opening.run_well, Played.device_got, Played.driver_got}
 use Rattle.vs_core.proofs.laws.law_of_queues.Goals as goal
 
 queued : (n : ℕ) (host : HostContents) (es : List Event) → IsQueued (run es (opening n host)).rings
-queued n host es = run_keeps es (opening n host) (opening_queued n host)
+queued n host es = (run_well n host es).queued
 
 pub returns-clause-queued : goal.returns-clause-queued
 returns-clause-queued c = queued

@@ -1,9 +1,9 @@
 use Rattle.std.proofs.Common.{◌++◌, ap, refl, string_bytes, ◌∙◌}
 use Rattle.std.proofs.lemmas.Result.{on_ok_weaker}
-use Rattle.laws_world.specs.Calls as call
 use Rattle.vs_report.specs.GuestLines.{accept_text}
 use Rattle.laws_world.proofs.SamePages.{accept_stays}
 use Rattle.vs_play.proofs.Driven.{replies_as}
+use Rattle.laws_driver_bytes.specs.Calls as call
 use Rattle.vs_play.proofs.guest.accept.Goals as goal
 
 pub returns : goal.returns

@@ -1,7 +1,7 @@
 use Rattle.std.proofs.{Common.◌++◌, Common.ap, Common.string_bytes, Common.◌∙◌, lemmas.Result.on_ok_weaker}
 use Rattle.vs_report.specs.GuestLines.{recv_text}
 use Rattle.vs_play.proofs.Driven.{replies}
-use Rattle.laws_world.specs.Calls as call
+use Rattle.laws_driver_bytes.specs.Calls as call
 use Rattle.vs_play.proofs.guest.recv.Goals as goal
 
 pub returns : goal.returns

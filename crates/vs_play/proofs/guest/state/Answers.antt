@@ -1,8 +1,8 @@
 use Rattle.std.proofs.Common.{◌++◌, ap, refl, string_bytes, ◌∙◌}
 use Rattle.std.proofs.lemmas.Result.{on_ok_weaker}
-use Rattle.laws_world.specs.Calls as call
 use Rattle.vs_report.specs.GuestLines.{state_text}
 use Rattle.vs_play.proofs.Driven.{replies}
+use Rattle.laws_driver_bytes.specs.Calls as call
 use Rattle.vs_play.proofs.guest.state.Goals as goal
 
 pub returns : goal.returns

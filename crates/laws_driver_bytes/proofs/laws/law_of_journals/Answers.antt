@@ -1,0 +1,11 @@
+use Rattle.laws_driver_bytes.specs.Calls.{makes_call, whole_call}
+use Rattle.laws_driver_bytes.proofs.{Journaling.journaled, Making.made_with, Making.whole_with}
+use Rattle.laws_driver_bytes.proofs.laws.law_of_journals.Goals as goal
+
+pub returns-clause-call : goal.returns-clause-call
+returns-clause-call c = λ first id opened journal call s r d x right honest account plays.
+    journaled first call (whole_call call s) s r d x (λ before after. whole_with first s r call before after right) honest plays id opened journal account
+
+pub returns-clause-step : goal.returns-clause-step
+returns-clause-step c = λ first id opened journal call s r d x right honest account plays.
+    journaled first call (makes_call call s) s r d x (λ before after. made_with first s r call before after right) honest plays id opened journal account

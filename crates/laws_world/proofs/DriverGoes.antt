@@ -1,0 +1,235 @@
+-- What the driver's conversations come to: steps of its seat, headers that fit, the account, and the payload that was put.
+use Rattle.std.proofs.Common.{◌≡◌, ℕ, ◌≤◌, ◌==◌, ◌&&◌, inl, inr, Bool, true, false, cond, List, [], ◌++◌, take, Option, Some, None}
+use Rattle.std.proofs.Common.{Contains, is_some, refl, sym, ap, subst, ◌∙◌, arith}
+use Rattle.std.proofs.lemmas.{Bool.Decides.nat_tests, List.Elements.All-contains, Option.get_or_from_slice_get, Option.slice_get_within}
+use Rattle.vs_contents.specs.CallTree.{Done, played}
+use Rattle.vs_flow.specs.{Connection.Connection, Connection.first_of, Flow.same_flow, declared.flow.Flow.Flow}
+use Rattle.vs_flow.proofs.{Entries.found_passes, Lookups.find_place}
+use Rattle.vs_page.specs.{Fair.current, Fair.number_of, Fair.payload_put, Log.Driver, Log.Log}
+use Rattle.vs_ring_port.specs.{DriverCalls.driver_answer, EndLog.EndLog, Lists.Rings}
+use Rattle.laws_tables.specs.{Both.Seat, Ends.Ends}
+use Rattle.laws_tables.proofs.Slots.{found_by}
+use Rattle.vs_driver_parts.specs.{Conversations.DriverTree, Conversations.not_sent, Connections.flow_of, Connections.recv_of}
+use Rattle.vs_driver_parts.specs.{Held.HeldSlots, State.DriverEntry, State.DriverState, State.GoneConnection, State.entry_known_as}
+use Rattle.vs_driver_parts.specs.{State.gone_known_as, State.is_known_as, Steps.sends_on, declared.answers.Sent.Sent}
+use Rattle.vs_driver_parts.proofs.Known.{flow_gone, flow_known}
+use Rattle.laws_driver.specs.Honest.{slots_of}
+use Rattle.laws_driver.proofs.{Carrying.Carries, Carrying.Fact, Going.Goes, Putting.connect_puts, Putting.owed_puts, Putting.reply_puts}
+use Rattle.laws_driver.proofs.{Putting.send_puts, Walking.poll_goes}
+use Rattle.laws_driver_bytes.specs.Calls.{Connect, GuestCall, Journal, Recv, ReplyTo, Send, account_of, bytes_sent, flow_named, id_named}
+use Rattle.laws_driver_bytes.specs.Calls.{is_on, is_right, makes_call, sent_of, sent_on, with_call}
+use Rattle.laws_driver_bytes.specs.{Received.Account, Received.AreReceived, Received.ReceivedOn, Received.ReceivesOn, Sent.only_on}
+use Rattle.laws_driver_bytes.specs.Sent.{took}
+use Rattle.laws_driver_bytes.proofs.Making.{CarriesCall, account_after, at_first, call_goes, call_received, call_sent, further_as}
+use Rattle.laws_driver_bytes.proofs.{Making.further_journal, Making.port_fits, Making.sent_with, Polling.IsFurther, Polling.poll_carries}
+use Rattle.laws_driver_bytes.proofs.Sending.{poll_puts, puts_as}
+use Rattle.laws_world.proofs.{Journals.Agrees, Journals.AllAgree, Journals.agree_on, Journals.either_none, Wire.PutsFit}
+use Rattle.vs_driver_parts.specs.declared.answers.Sent.TheVariants as answers
+
+module _ (first : ℕ) (old : Seat) where
+  abbrev pub Walks : Account → Fact → Fact
+  Walks a sent part slots log = Goes old (record { part = part; log = log }) × PutsFit log × IsFurther a slots log × sent part slots log
+
+  pub poll_walks : (a : Account) (base : Log) → Carries first (Walks a (puts_as base))
+  poll_walks a base =
+      let goes = poll_goes first old in
+      let received = poll_carries first a in
+      let sent = poll_puts first base in
+      record {
+        owed = λ what e s log fits stands owes m was fair x. (
+          goes.owed what e s log fits stands owes m was fair x.0,
+          ((owed_puts what e s fits stands owes).wire, x.1),
+          received.owed what e s log fits stands owes m was fair x.2,
+          sent.owed what e s log fits stands owes m was fair x.3,
+        );
+        reply = λ r rest s log fits is x. (
+          goes.reply r rest s log fits is x.0,
+          ((reply_puts r rest s fits is).wire, x.1),
+          received.reply r rest s log fits is x.2,
+          sent.reply r rest s log fits is x.3,
+        );
+        got = λ p s log fits ports whole m was fair x. (
+          goes.got p s log fits ports whole m was fair x.0,
+          x.1,
+          received.got p s log fits ports whole m was fair x.2,
+          sent.got p s log fits ports whole m was fair x.3,
+        );
+        event = λ id s log x. (goes.event id s log x.0, x.1, received.event id s log x.2, sent.event id s log x.3);
+        reset = λ cid s log less fits x. (
+          goes.reset cid s log less fits x.0,
+          x.1,
+          received.reset cid s log less fits x.2,
+          sent.reset cid s log less fits x.3,
+        );
+      }
+
+  module _ (a : Account) (s : DriverState) (base : Log) where
+    abbrev Before : Fact
+    Before = Walks a (at_first first s base)
+
+    abbrev After : (call : GuestCall) → ReplyTo call → Fact
+    After call reply = Walks (account_after call reply a) (sent_with first s base call reply)
+
+    pub call_walks : (call : GuestCall) → is_right call ≡ true → CarriesCall first call Before (After call)
+    call_walks (Connect port) right =
+        let goes = call_goes first old (Connect port) right in
+        let received = call_received first (Connect port) a in
+        let sent = call_sent first s base (Connect port) in
+        record {
+          refused = λ why t log x. (goes.refused why t log x.0, x.1, received.refused why t log x.2, sent.refused why t log x.3);
+          opens = λ t log fits free m was fair x. (
+            goes.opens t log fits free m was fair x.0,
+            ((connect_puts port t (port_fits port right) fits free).wire, x.1),
+            received.opens t log fits free m was fair x.2,
+            sent.opens t log fits free m was fair x.3,
+          );
+        }
+    call_walks (Send id bytes) right =
+        let goes = call_goes first old (Send id bytes) right in
+        let received = call_received first (Send id bytes) a in
+        let sent = call_sent first s base (Send id bytes) in
+        record {
+          stopped = λ why t log x. (goes.stopped why t log x.0, x.1, received.stopped why t log x.2, sent.stopped why t log x.3);
+          unknown = λ t log none x. (goes.unknown t log none x.0, x.1, received.unknown t log none x.2, sent.unknown t log none x.3);
+          empty = λ t log x. (goes.empty t log x.0, x.1, received.empty t log x.2, sent.empty t log x.3);
+          full = λ n t log x. (goes.full n t log x.0, x.1, received.full n t log x.2, sent.full n t log x.3);
+          wants = λ e t log fits stands m x. (
+            goes.wants e t log fits stands m x.0,
+            x.1,
+            received.wants e t log fits stands m x.2,
+            sent.wants e t log fits stands m x.3,
+          );
+          sends = λ e n t log fits stands known can few m was fair x. (
+            goes.sends e n t log fits stands known can few m was fair x.0,
+            ((send_puts e (take n bytes) t fits stands can few).wire, x.1),
+            received.sends e n t log fits stands known can few m was fair x.2,
+            sent.sends e n t log fits stands known can few m was fair x.3,
+          );
+        }
+    call_walks call right = λ t log fits m x. (
+      call_goes first old call right t log fits m x.0,
+      x.1,
+      call_received first call a t log fits m x.2,
+      call_sent first s base call t log fits m x.3,
+    )
+
+-- What is left with a journal.
+pub record Left (old : Seat) (journal : Journal) (part : Ends) (slots : HeldSlots) (log : Log) : Type 0 where
+  pub goes : Goes old (record { part = part; log = log })
+  pub fits : PutsFit log
+  pub opened : ℕ → Connection
+  pub received : AreReceived (account_of 1 opened journal) log slots
+  pub agrees : AllAgree opened journal
+  pub sent : (f : Flow) → sent_on f journal ≡ payload_put Driver (first_of f) log
+
+module _ (first : ℕ) (old : Seat) (opened : ℕ → Connection) (journal : Journal) (s : DriverState) (base : Log)
+    (was : AreReceived (account_of 1 opened journal) base (slots_of s)) (agrees : AllAgree opened journal)
+    (sent : (f : Flow) → sent_on f journal ≡ payload_put Driver (first_of f) base) (few : (f : Flow) → number_of Driver f base ≤ 1) where
+  abbrev account : Account
+  account = account_of 1 opened journal
+
+  pub poll_left : (part : Ends) (slots : HeldSlots) (log : Log) → Walks first old account (puts_as base) part slots log → Left old journal part slots log
+  poll_left part slots log x = record {
+    goes = x.0;
+    fits = x.1;
+    opened = x.2.0.opened;
+    received = further_as account x.2.0 _ log slots x.2.1 (λ id. refl) x.2.2;
+    agrees = agree_on opened x.2.0.opened x.2.1.opened journal agrees;
+    sent = λ f. sent f ∙ sym (x.3 (first_of f));
+  }
+
+  -- A call that was made.
+  module _ (r : Rings × EndLog) where
+    abbrev pub reply_of : (call : GuestCall) → ReplyTo call
+    reply_of call = (played driver_answer (makes_call call s) r).0.1
+
+    -- A receive gives bytes of the connection that it names.
+    received_of : (id n : ℕ) → Agrees opened (record { call = Recv id n; id = Some id; flow = flow_of id s; reply = reply_of (Recv id n) })
+    received_of id n = by (entry_known_as id s) refl
+      where
+        gone_by : (o : Option GoneConnection) → entry_known_as id s ≡ None → gone_known_as id s ≡ o
+            → Agrees opened (record { call = Recv id n; id = Some id; flow = flow_of id s; reply = reply_of (Recv id n) })
+        gone_by None unknown none = inl (rw (unknown, none, recv_of) refl)
+        gone_by (Some g) unknown found =
+            let named = found_passes (λ (h : GoneConnection). h.id == id) s.gone g found in
+            let at : g.id ≡ id = grind (arith, nat_tests, named) in
+            let place = find_place (λ (h : GoneConnection). h.id == id) s.gone g found in
+            let on = All-contains (ReceivedOn account base) s.gone g was.left
+            (place.0, slice_get_within s.gone place.0 g place.1, get_or_from_slice_get s.gone place.0 g g place.1) in
+            inr (
+              id,
+              refl,
+              flow_gone id s unknown g found ∙ ap (λ (f : Flow). Some f) (sym on.flow ∙ ap (λ (k : ℕ). (opened k).flow) at),
+              subst (λ (k : ℕ). 1 ≤ (opened k).number) at on.some,
+            )
+
+        by : (o : Option DriverEntry) → entry_known_as id s ≡ o
+            → Agrees opened (record { call = Recv id n; id = Some id; flow = flow_of id s; reply = reply_of (Recv id n) })
+        by None unknown = gone_by (gone_known_as id s) unknown refl
+        by (Some e) known =
+            let passes = found_passes (is_known_as id) s.table.entries e known in
+            let at : e.value.id ≡ id = grind (arith, nat_tests, passes) in
+            let on = All-contains (ReceivesOn account base) s.table.entries e was.held (found_by (is_known_as id) s.table.entries e known).0 in
+            let now : opened id ≡ current Driver e.flow base = ap opened (sym at) ∙ on.present in
+            inr (
+              id,
+              refl,
+              flow_known id s e known ∙ ap (λ (c : Connection). Some c.flow) (sym now),
+              subst (λ (c : Connection). 1 ≤ c.number) (sym now) on.some,
+            )
+
+    reply_agrees : (call : GuestCall) → Agrees opened (record { call = call; id = id_named call s; flow = flow_named call s; reply = reply_of call })
+    reply_agrees (Recv id n) = received_of id n
+    reply_agrees call = inl refl
+
+    -- A send puts bytes on the flow that it names.
+    sent_by_flow : (f : Flow) (id : ℕ) (bytes : List ℕ) → cond (is_on f (flow_of id s)) (took bytes (reply_of (Send id bytes))) []
+        ≡ sent_of (Send id bytes) (reply_of (Send id bytes)) s base (first_of f)
+    sent_by_flow f id bytes = by (entry_known_as id s) refl
+      where
+        none_took : (b : Bool) → took bytes (cond b answers.Reset answers.Unknown) ≡ []
+        none_took true = refl
+        none_took false = refl
+
+        one_is : (e : DriverEntry) → Contains s.table.entries e → (1 == number_of Driver e.flow base) ≡ true
+        one_is e there =
+            let some = (All-contains (ReceivesOn account base) s.table.entries e was.held there).some in
+            let most = few e.flow in
+            let one : number_of Driver e.flow base ≡ 1 = omega (arith, some, most) in grind (arith, nat_tests, one)
+
+        also : (a b : Bool) (xs : List ℕ) → b ≡ true → cond a xs [] ≡ cond (a && b) xs []
+        also true b xs is = ap (λ (c : Bool). cond c xs []) (sym is)
+        also false b xs is = refl
+
+        by : (o : Option DriverEntry) → entry_known_as id s ≡ o
+            → let reply : Sent = (played driver_answer (elim o as (λ _. DriverTree (DriverState × Sent)) [
+              | None ↦ Done (s, not_sent id s)
+              | Some e ↦ sends_on e bytes s
+            ]) r).0.1 in
+            cond (is_on f (flow_of id s)) (took bytes reply) [] ≡ elim o as (λ _. List ℕ) [
+              | None ↦ []
+              | Some e ↦ only_on (current Driver e.flow base) (took bytes reply) (first_of f)
+            ]
+        by None unknown = either_none (is_on f (flow_of id s)) _ (none_took (is_some (gone_known_as id s)))
+        by (Some e) known =
+            ap (λ (g : Option Flow). cond (is_on f g) (took bytes (played driver_answer (sends_on e bytes s) r).0.1) []) (flow_known id s e known)
+            ∙ also (same_flow f e.flow) (1 == number_of Driver e.flow base) _ (one_is e (found_by (is_known_as id) s.table.entries e known).0)
+
+    call_by_flow : (call : GuestCall) (f : Flow) → cond (is_on f (flow_named call s)) (bytes_sent call (reply_of call)) []
+        ≡ sent_of call (reply_of call) s base (first_of f)
+    call_by_flow (Send id bytes) f = sent_by_flow f id bytes
+    call_by_flow call f = either_none (is_on f (flow_named call s)) [] refl
+
+    pub call_left : (call : GuestCall) (part : Ends) (slots : HeldSlots) (log : Log)
+        → Walks first old (account_after call (reply_of call) account) (sent_with first s base call (reply_of call)) part slots log
+        → Left old (with_call call s (reply_of call) journal) part slots log
+    call_left call part slots log x = let now = further_journal 1 opened journal call s (reply_of call) slots log x.2 in record {
+      goes = x.0;
+      fits = x.1;
+      opened = now.0;
+      received = now.2;
+      agrees = agree_on opened now.0 now.1 (with_call call s (reply_of call) journal) (reply_agrees call, agrees);
+      sent = λ f.
+          ap (λ (xs : List ℕ). xs ++ cond (is_on f (flow_named call s)) (bytes_sent call (reply_of call)) []) (sent f)
+          ∙ ap (λ (xs : List ℕ). payload_put Driver (first_of f) base ++ xs) (call_by_flow call f) ∙ sym (x.3 (first_of f));
+    }

@@ -1,0 +1,170 @@
+-- The driver's conversations over list rings that are tied to the device's log: whatever such a conversation keeps, it keeps here.
+use Rattle.std.proofs.Common.{◌≡◌, ℕ, ◌+◌, ◌<◌, ◌^◌, List, [], ◌∷◌, ◌++◌, length, Option, Some, None, refl, sym, ap, subst, ◌∙◌, arith}
+use Rattle.std.proofs.Common.{true, Bool, false}
+use Rattle.std.specs.Prelude.{IsSomeAnd}
+use Rattle.vs_contents.specs.CallTree.{Ask, Done, played}
+use Rattle.laws_history.specs.{Packets.IsFormed, Packets.is_request, Packets.packet_bytes, declared.packet.Packet.Packet, History.History}
+use Rattle.laws_history.specs.{History.Put, History.Side, Again.AllowsNow}
+use Rattle.vs_page.specs.{Fair.IsFairLog, Held.FitsWire, Held.event_held, Held.held_in, Held.packet_held, Log.Device, Log.Driver}
+use Rattle.vs_page.specs.Log.{HasGotAll, Log, flow_put, history_of, packets_got, packets_put, side_of}
+use Rattle.vs_page.specs.declared.log.LogEntry.TheVariants.{GotPacket, GotEvent, PutPacket}
+use Rattle.vs_page.proofs.Entries.{next_fair, one_put}
+use Rattle.vs_ring_port.specs.{Contents.RingContents, EndLog.EndLog, EndLog.all_put, EndLog.entries_marked, EndLog.entries_reaped}
+use Rattle.vs_ring_port.specs.EndLog.{log_loaded, log_published, log_reaped, log_staged, pages_at, with_event, with_packet}
+use Rattle.vs_ring_port.specs.DriverCalls.{DriverAnswer, DriverCall, DriverMoves, HoldsPacket, LoadCid, MayPublish, Publish, Reap, Stage}
+use Rattle.vs_ring_port.specs.{DriverCalls.driver_answer, Lists.Rings, Lists.after_publish, Lists.after_reap, Lists.next_back}
+use Rattle.vs_ring_port.specs.{declared.queue.Queue.Queue, declared.queue.Queue.TheVariants.Event, declared.queue.Queue.TheVariants.Rx}
+use Rattle.vs_ring_port.specs.declared.queue.Queue.TheVariants.{Tx}
+use Rattle.vs_ring_list.specs.Ends.{driver_contents}
+use Rattle.vs_driver_parts.specs.{Conversations.DriverTree, Playing.BringsFit, Playing.CanMake, Playing.FitsPorts, Playing.IsFitPage}
+use Rattle.vs_driver_parts.specs.Playing.{RingAllows}
+use Rattle.laws_driver.proofs.Keeping.{Keeps}
+use Rattle.laws_world.specs.{Laws.AreQueued, Pages.AllHold, Pages.AllPacked, Pages.PageHolds, Pages.TxHolds}
+use Rattle.laws_world.proofs.{Played.device_got, Queues.driver_keeps, Wire.PutsFit, Wire.next_fits}
+
+-- Pages that hold packets, put in a fair log, hold them with as many bytes as their headers tell.
+put_formed : (side : Side) (h : History) (p : Packet) (b : Bool) → is_request p ≡ b → AllowsNow side h (Put p) → IsFormed p
+put_formed side h p true is may = (may.opens is).1.formed
+put_formed side h p false is may = (may.goes_on is).formed
+
+module _ (log : Log) (page : List ℕ) where
+  fair_before : (o : Option Packet) → IsFairLog Driver (with_packet (λ p. PutPacket p) o log) → IsFairLog Driver log
+  fair_before None fair = fair
+  fair_before (Some p) fair = ((one_put Driver log p).0 fair).0
+
+  page_holds : (o : Option Packet) → packet_held page ≡ o → IsFairLog Driver (with_packet (λ p. PutPacket p) o log) → IsSomeAnd o (λ p. page ≡ packet_bytes p)
+      → PageHolds page
+  page_holds None held fair packed = absurd packed
+  page_holds (Some p) held fair packed =
+      let may = ((one_put Driver log p).0 fair).1 in
+      let formed = put_formed (side_of Driver (flow_put Driver p)) (history_of Driver (flow_put Driver p) log) p (is_request p) refl may in
+      record { packet = p; held = held; long = omega (arith, ap length packed, formed.len) }
+
+pub first_fair : (pages : List (List ℕ)) (log : Log) → IsFairLog Driver (all_put pages log) → IsFairLog Driver log
+first_fair [] log fair = fair
+first_fair (page ∷ pages) log fair = fair_before log page (packet_held page) (first_fair pages (with_packet (λ p. PutPacket p) (packet_held page) log) fair)
+
+hold_all : (pages : List (List ℕ)) (log : Log) → IsFairLog Driver (all_put pages log) → AllPacked pages → AllHold pages
+hold_all [] log fair packed = tt
+hold_all (page ∷ pages) log fair packed =
+    let next : Log = with_packet (λ p. PutPacket p) (packet_held page) log in
+    (page_holds log page (packet_held page) refl (first_fair pages next fair) packed.0, hold_all pages next fair packed.1)
+
+hold_both : (xs ys : List (List ℕ)) → AllHold xs → AllHold ys → AllHold (xs ++ ys)
+hold_both [] ys first rest = rest
+hold_both (x ∷ xs) ys first rest = (first.0, hold_both xs ys first.1 rest)
+
+one_more : (xs : List (List ℕ)) (page : List ℕ) → AllPacked xs → HoldsPacket page → AllPacked (xs ++ page ∷ [])
+one_more [] page first last = (last, tt)
+one_more (x ∷ xs) page first last = (first.0, one_more xs page first.1 last)
+
+marked_fair : (cid : ℕ) (log : Log) → IsFairLog Driver log → IsFairLog Driver (entries_marked cid log)
+marked_fair cid [] fair = fair
+marked_fair cid (entry ∷ log) fair = fair
+
+module _ (device : EndLog) (there : IsFairLog Device device.entries) (fit : PutsFit device.entries) where
+  abbrev pub shown : Rings × EndLog → RingContents
+  shown s = driver_contents (record { lists = s.0; driver = s.1; device = device })
+
+  pub record Ties (s : Rings × EndLog) : Type 0 where
+    pub queued : AreQueued s.0 s.1.entries device.entries
+    pub fair : IsFairLog Driver s.1.entries
+    pub cid : s.0.cid < 2 ^ 64
+    pub pages : TxHolds s.0 s.1
+
+  moved : (call : DriverCall) (a : DriverAnswer call) (P : Rings → Type 0) (f : Rings → Rings) (Q : EndLog → Type 0) (g : EndLog → EndLog) (s : Rings × EndLog)
+      → P s.0 → Q s.1 → IsFairLog Driver (g s.1).entries → DriverMoves call a P f Q g (shown s) (shown (f s.0, g s.1))
+  moved call a P f Q g s p q fair = record {
+    lists = (p, refl);
+    log = (q, refl);
+    other = refl;
+    plain = refl;
+    known = refl;
+    honest = refl;
+    fair = λ on l is. let same : g s.1 ≡ l = cc in subst (λ (k : EndLog). IsFairLog Driver k.entries) same fair;
+  }
+
+  -- A packet that comes back is the next that the device put.
+  module _ (s : Rings × EndLog) (ties : Ties s) (page : List ℕ) where
+    came : (o : Option Packet) → packet_held page ≡ o → (lists : Rings) → AreQueued lists (with_packet (λ p. GotPacket p) o s.1.entries) device.entries
+        → IsFairLog Driver (with_packet (λ p. GotPacket p) o s.1.entries) × BringsFit page
+    came None held lists q = (ties.fair, λ p is. let both : None ≡ Some p = sym held ∙ is in absurd cc)
+    came (Some p) held lists q =
+        let next : (rest : List Packet) × (packets_put device.entries ≡ rest ++ p ∷ packets_got s.1.entries) = (held_in packet_held lists.rx.back, q.rx) in
+        let got : HasGotAll device.entries s.1.entries = device_got (record { lists = s.0; driver = s.1; device = device }) ties.queued in
+        (next_fair Driver s.1.entries device.entries p ties.fair there got next, λ r is. ports r is (next_fits s.1.entries device.entries p next fit))
+      where
+        ports : (r : Packet) → packet_held page ≡ Some r → FitsWire p.header → FitsPorts r.header
+        ports r is wire =
+            let both : Some p ≡ Some r = sym held ∙ is in
+            let same : p ≡ r = cc in
+            subst (λ (x : Packet). FitsPorts x.header) same (record { src_port = wire.src_port; dst_port = wire.dst_port; src_cid = wire.src_cid })
+
+  reaped : (queue : Queue) (s : Rings × EndLog) → Ties s → (o : Option (List ℕ)) → next_back queue s.0 ≡ o
+      → AreQueued (after_reap queue s.0) (entries_reaped queue o s.1.entries) device.entries
+      → IsFairLog Driver (entries_reaped queue o s.1.entries) × IsFitPage queue o
+  reaped Rx s ties None is q = (ties.fair, tt)
+  reaped Tx s ties None is q = (ties.fair, tt)
+  reaped Event s ties None is q = (ties.fair, tt)
+  reaped Tx s ties (Some page) is q = (ties.fair, tt)
+  reaped Event s ties (Some page) is q = (by (event_held page), tt)
+    where
+      by : (o : Option ℕ) → IsFairLog Driver (with_event (λ id. GotEvent id) o s.1.entries)
+      by None = ties.fair
+      by (Some id) = ties.fair
+  reaped Rx s ties (Some page) is q = came s ties page (packet_held page) refl (after_reap Rx s.0) q
+
+  tied : (queue : Queue) (s : Rings × EndLog) → Ties s → TxHolds (after_reap queue s.0) s.1 × ((after_reap queue s.0).cid < 2 ^ 64)
+  tied Rx s ties = (ties.pages, ties.cid)
+  tied Tx s ties = (ties.pages, ties.cid)
+  tied Event s ties = (ties.pages, ties.cid)
+
+  -- Each call gets an answer that a ring may give.
+  one : (call : DriverCall) (s : Rings × EndLog) → Ties s → CanMake call (shown s)
+      → let r = driver_answer call s in RingAllows call r.0 (shown s) (shown r.1) × Ties r.1
+  one (Stage queue page) s ties can = (
+    moved (Stage queue page) tt (λ w. Unit {0}) (λ w. w) (λ l. Unit {0}) (log_staged queue page) s tt tt ties.fair,
+    record { queued = ties.queued; fair = ties.fair; cid = ties.cid; pages = (ties.pages.0, staged queue (can refl s.1 refl)) },
+  )
+    where
+      staged : (queue : Queue) → (queue ≡ Tx → HoldsPacket page) → AllPacked (log_staged queue page s.1).staged.tx
+      staged Rx holds = ties.pages.1
+      staged Event holds = ties.pages.1
+      staged Tx holds = one_more s.1.staged.tx page ties.pages.1 (holds refl)
+  one (Publish queue) s ties can =
+      let p = published queue (can refl s.1 refl) in (
+        (
+          pages_at queue s.1.staged,
+          moved (Publish queue) tt (λ w. Unit {0}) (after_publish queue (pages_at queue s.1.staged)) (λ l. pages_at queue s.1.staged ≡ pages_at queue l.staged)
+              (log_published queue) s tt refl p.0,
+        ),
+        record { queued = driver_keeps (Publish queue) s.0 s.1 device.entries ties.queued; fair = p.0; cid = p.2; pages = p.1 },
+      )
+    where
+      published : (queue : Queue) → MayPublish queue s.1 → let r = (driver_answer (Publish queue) s).1 in
+          IsFairLog Driver r.1.entries × TxHolds r.0 r.1 × (r.0.cid < 2 ^ 64)
+      published Rx may = (ties.fair, ties.pages, ties.cid)
+      published Event may = (ties.fair, ties.pages, ties.cid)
+      published Tx may =
+          (may, (hold_both s.0.tx.given s.1.staged.tx ties.pages.0 (hold_all s.1.staged.tx s.1.entries may ties.pages.1), tt), ties.cid)
+  one (Reap queue) s ties can =
+      let page = next_back queue s.0 in
+      let q = driver_keeps (Reap queue) s.0 s.1 device.entries ties.queued in
+      let r = reaped queue s ties page refl q in
+      let t = tied queue s ties in (
+        (r.1, moved (Reap queue) page (λ w. page ≡ next_back queue w) (after_reap queue) (λ l. Unit {0}) (log_reaped queue page) s refl tt r.0),
+        record { queued = q; fair = r.0; cid = t.1; pages = t.0 },
+      )
+  one LoadCid s ties can =
+      let fair = marked_fair s.0.cid s.1.entries ties.fair in (
+        (ties.cid, moved LoadCid s.0.cid (λ w. s.0.cid ≡ w.cid) (λ w. w) (λ l. Unit {0}) (log_loaded s.0.cid) s refl tt fair),
+        record { queued = driver_keeps LoadCid s.0 s.1 device.entries ties.queued; fair = fair; cid = ties.cid; pages = ties.pages },
+      )
+
+  pub walk : {A : Type 0} (Q : A → RingContents → Type 0) (tree : DriverTree A) (s : Rings × EndLog) → Ties s → Keeps Q tree (shown s)
+      → let r = played driver_answer tree s in Q r.0 (shown r.1) × Ties r.1
+  walk Q (Done x) s ties keeps = (keeps, ties)
+  walk Q (Ask call next) s ties keeps =
+      let r = driver_answer call s in
+      let now = one call s ties keeps.0 in
+      walk Q (next r.0) r.1 now.1 (keeps.1 r.0 (shown r.1) now.0)
