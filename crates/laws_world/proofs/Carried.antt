@@ -16,9 +16,10 @@ use Rattle.laws_device_bytes.specs.Streamed.{IsJoined, Seen, gives, line_for, lo
 use Rattle.laws_bytes.proofs.Logs.{prefix_then}
 use Rattle.laws_world.specs.{Calls.received_on, Calls.sent_on, Received.ReceivedOn, Received.ReceivesOn, Sides.both_of}
 use Rattle.laws_world.specs.World.{World, first_cid}
-use Rattle.laws_world.proofs.{Firsts.once_got, Firsts.once_put, Firsts.put_begun, Once.number_of_once, Bytes.read_is_got, Bytes.wrote_is_put}
+use Rattle.laws_bytes.proofs.Firsts.{once_got, once_put, put_begun}
+use Rattle.laws_world.proofs.{Once.number_of_once, Bytes.read_is_got, Bytes.wrote_is_put}
 use Rattle.laws_world.proofs.{Growing.Grows, Growing.runs_grow, Sound.Goes, Sound.IsWell}
-use Rattle.laws_device_bytes.proofs.Hosts.there as is_there
+use Rattle.laws_device_bytes.proofs.Hosts.{there as is_there}
 
 abbrev pub ToGuest : Flow → World → Type 0
 ToGuest f w = IsPrefixOf (received_on f w.journal) (host_wrote (first_of f) w.host)

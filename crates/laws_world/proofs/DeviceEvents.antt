@@ -25,11 +25,13 @@ use Rattle.vs_device_parts.specs.Transmitting.{dial_answered, failing, heard, on
 use Rattle.vs_device_parts.specs.{Transmitting.unknown_why, Calls.CloseStream, Calls.DeviceTree, Calls.Dial}
 use Rattle.vs_wrap.specs.Wrap.{counted}
 use Rattle.laws_world.specs.Answers.{Around, answer_around}
-use Rattle.laws_world.proofs.{Chains.HoldsRx, DeviceTakes.heard_fresh, Wire.PutsFit, Firsts.once_history, DeviceSide.DeviceHolds}
+use Rattle.laws_world.proofs.{Chains.HoldsRx, DeviceTakes.heard_fresh, Wire.PutsFit, DeviceSide.DeviceHolds}
+use Rattle.laws_bytes.proofs.Firsts.{once_history}
 use Rattle.laws_world.proofs.DeviceSide.{IsFresh, Kept, end_in, entry_fits, entry_fresh, seated}
-use Rattle.laws_world.proofs.Streams.{StreamedIf, accepts_streams, called_host, delivered_rw, delivers_streams, dialed_id, empty_streams}
-use Rattle.laws_world.proofs.Streams.{failed_host, got_nothing, hears_streams, leaves_streams, passes_streams, request_empty, reset_empty}
-use Rattle.laws_world.proofs.{Streams.unknown_streams, Once.AreOnce, Once.asked_once, Once.number_of_once}
+use Rattle.laws_device_bytes.proofs.Changing.{StreamedIf, accepts_streams, called_host, delivered_rw, delivers_streams, dialed_id, empty_streams}
+use Rattle.laws_device_bytes.proofs.Changing.{failed_host, got_nothing, hears_streams, leaves_streams, passes_streams, request_empty, reset_empty}
+use Rattle.laws_device_bytes.proofs.Changing.{unknown_streams}
+use Rattle.laws_world.proofs.Once.{AreOnce, asked_once, number_of_once}
 use Rattle.laws_device.specs.Honest.{HoldsBytes}
 use Rattle.laws_device.proofs.{Fits.delivered, Fits.fits_after, Hearing.peer_resets, Hearing.rst_leaves}
 use Rattle.std.specs.List.{All}

@@ -22,7 +22,8 @@ use Rattle.laws_world.specs.{Answers.Around, Pages.is_held}
 use Rattle.laws_world.proofs.{DeviceTurns.same_cid, DeviceTurns.still, Fits.holds_header, Wire.PutsFit, Wire.not_payload, Chains.HoldsRx}
 use Rattle.laws_world.proofs.{Chains.both_written, Chains.bytes_written, Chains.first_written, Chains.held_written, DeviceEvents.KeptBy}
 use Rattle.laws_world.proofs.{DeviceEvents.Over, DeviceSide.DeviceHolds, DeviceSide.IsFresh, DeviceSide.Kept, DeviceSide.not_fresh}
-use Rattle.laws_world.proofs.{DeviceSide.seated, Streams.StreamedIf, Streams.ends_streams, Streams.leaves_streams, Streams.put_empty}
+use Rattle.laws_device_bytes.proofs.Changing.{StreamedIf, ends_streams, leaves_streams, put_empty}
+use Rattle.laws_world.proofs.DeviceSide.{seated}
 use Rattle.vs_outside.specs.Host.{HostContents, after_close}
 use Rattle.vs_proxy_parts.specs.State.{Handshake}
 use Rattle.laws_device_bytes.specs.Streamed.{gives}

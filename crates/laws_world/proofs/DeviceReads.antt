@@ -18,7 +18,7 @@ use Rattle.vs_device_parts.specs.{State.DeviceState, Steps.filling, Steps.puts_p
 use Rattle.laws_world.specs.Answers.{Around, bytes_with}
 use Rattle.laws_world.proofs.{Chains.HoldsRx, DeviceEvents.KeptBy, DeviceEvents.Over, DeviceSide.DeviceHolds, DeviceSide.Kept}
 use Rattle.laws_world.proofs.{DeviceSide.entry_fits, DeviceSide.not_fresh, DeviceSide.seated, DeviceTurns.still, Wire.PutsFit}
-use Rattle.laws_world.proofs.Streams.{StreamedIf, called_host, ends_streams, reads_streams, shuts_streams}
+use Rattle.laws_device_bytes.proofs.Changing.{StreamedIf, called_host, ends_streams, reads_streams, shuts_streams}
 use Rattle.laws_world.proofs.DeviceSide as side
 use Rattle.laws_world.proofs.DeviceStreams as streams
 use Rattle.laws_device.proofs.Filling.{live_old}

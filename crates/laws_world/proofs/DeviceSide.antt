@@ -21,7 +21,8 @@ use Rattle.laws_tables.proofs.{Both.decided_kind, Slots.changed_slot, Slots.one_
 use Rattle.vs_device_parts.specs.{State.DeviceConnection, State.DeviceEntry, State.DeviceState, Connections.with_connection}
 use Rattle.laws_world.specs.Sides.{Runs}
 use Rattle.laws_world.proofs.{Runs.one_step, Runs.stays, Wire.PutsFit, Wire.RouteFits, Wire.owed_fits, Wire.payload_fits, Wire.reset_fits}
-use Rattle.laws_world.proofs.Entries.{EntryFits, ReplyFits, fits_at, fits_with_value, fits_without, without_changed}
+use Rattle.laws_world.proofs.Entries.{EntryFits, ReplyFits, fits_at, fits_with_value, fits_without}
+use Rattle.laws_bytes.proofs.Changes.{without_changed}
 use Rattle.laws_device.specs.Honest.{HoldsBytes}
 use Rattle.laws_device.proofs.{Fits.fits_paid, Fits.fits_sent, Changing.same_replaced}
 use Rattle.vs_conn.specs.declared.end.Owed.TheVariants as owed
@@ -204,7 +205,7 @@ module _ (driver : Seat) where
 
     -- A connection leaves, after another change of it.
     pub left_holds : (slot : ℕ) (c : DeviceConnection) → DeviceHolds port (record s { table = without (with_value s.table slot c) slot })
-    left_holds slot c = subst (λ (t : Table DeviceConnection). Holds t s.replies port s.cid) (sym (without_changed end_in held_in s.table slot c)) (record {
+    left_holds slot c = subst (λ (t : Table DeviceConnection). Holds t s.replies port s.cid) (sym (without_changed s.table slot c)) (record {
       sound = without_sound s.table slot holds.sound;
       ends = fits_without end_in held_in s.table slot holds.ends;
       fresh = All-filter (λ (e : DeviceEntry). not (e.slot == slot)) FreshEntry s.table.entries holds.fresh;
@@ -216,7 +217,7 @@ module _ (driver : Seat) where
     pub left_part : (e : DeviceEntry) (c : DeviceConnection) → Contains s.table.entries e
         → left e.flow (part_of port s) ≡ part_of port (record s { table = without (with_value s.table e.slot c) e.slot })
     left_part e c there = ap (λ (entries : List FlowEnd). let part : Ends = record (part_of port s) { entries = entries } in part)
-        (sym (ap (entries_of end_in) (without_changed end_in held_in s.table e.slot c) ∙ removed_slot end_in s.table e holds.sound there))
+        (sym (ap (entries_of end_in) (without_changed s.table e.slot c) ∙ removed_slot end_in s.table e holds.sound there))
 
     pub pays_rst : (e : DeviceEntry) (c : DeviceConnection) → Contains s.table.entries e → owes_of e.value.end ≡ Some owed.Rst
         → Goes (record s { table = without (with_value s.table e.slot c) e.slot }) (PutPacket (owed_on Device s.cid e.flow e.value.end owed.Rst) ∷ log)

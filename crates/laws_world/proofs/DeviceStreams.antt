@@ -27,8 +27,8 @@ use Rattle.laws_device_bytes.proofs.{Short.write_short, HostCalls.closed_host}
 use Rattle.laws_world.specs.Answers.{Around}
 use Rattle.laws_world.proofs.{Chains.HoldsRx, DeviceEvents.KeptBy, DeviceEvents.Over, DeviceSide.DeviceHolds, DeviceSide.IsFresh}
 use Rattle.laws_world.proofs.DeviceSide.{Kept, entry_fits, entry_fresh, new_unread, not_fresh, seated}
-use Rattle.laws_world.proofs.{DeviceTurns.still, DeviceTurns.quiet, Fits.holds_payload, Wire.PutsFit, Streams.StreamedIf}
-use Rattle.laws_world.proofs.Streams.{called_host, cuts_streams, ends_streams, failed_host, shut_write_host, shuts_streams, writes_streams}
+use Rattle.laws_world.proofs.{DeviceTurns.still, DeviceTurns.quiet, Fits.holds_payload, Wire.PutsFit}
+use Rattle.laws_device_bytes.proofs.Changing.{StreamedIf, called_host, cuts_streams, ends_streams, failed_host, shut_write_host, shuts_streams, writes_streams}
 use Rattle.laws_world.proofs.DevicePuts as puts_of
 use Rattle.laws_world.proofs.DeviceSide as side
 use Rattle.laws_device.specs.Honest.{HoldsBytes}

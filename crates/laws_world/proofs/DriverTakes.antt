@@ -28,7 +28,8 @@ use Rattle.laws_bytes.specs.Drains.{receives}
 use Rattle.laws_bytes.proofs.Logs.{got_after_put, got_passes, none_passed, passed_after_got, passed_after_put, put_passes, nothing_more}
 use Rattle.laws_bytes.proofs.Steps.{comes_in, delivers_to, hears_less, only_delivered, stays_still}
 use Rattle.laws_world.proofs.{Received.opened_received, Received.same_received, Payloads.sent_empty, Payloads.sent_got, Entries.FlowFits}
-use Rattle.laws_world.proofs.{Entries.ReplyFits, Entries.fits_with_entry, Firsts.unheard, Once.AreOnce, Once.asked_once, Runs.one_step}
+use Rattle.laws_bytes.proofs.Firsts.{unheard}
+use Rattle.laws_world.proofs.{Entries.ReplyFits, Entries.fits_with_entry, Once.AreOnce, Once.asked_once, Runs.one_step}
 use Rattle.laws_world.proofs.{Runs.takes_step, Wire.PutsFit, Wire.owed_fits, Receives.after_got_empty, Receives.got_empty, Receives.hears}
 use Rattle.laws_world.proofs.{Receives.leaves, Receives.none_read, Receives.passes_by, DriverSide.DriverHolds, DriverSide.Holds}
 use Rattle.laws_world.proofs.DriverSide.{Kept, end_in, entry_fits, held_in, holds_changed, left_broken, left_ends, left_holds, seated}

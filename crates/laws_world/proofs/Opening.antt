@@ -1,27 +1,25 @@
 -- The world in which nothing has happened yet.
 use Rattle.std.proofs.Common.{◌≡◌, ℕ, zero, suc, ◌+◌, ◌^◌, ◌<◌, ◌==◌, Bool, true, false, cond, List, [], ◌∷◌, refl, sym, ap, subst, ◌∙◌}
-use Rattle.std.proofs.Common.{arith, ◌-◌, slice_get, Some, None}
+use Rattle.std.proofs.Common.{arith}
 use Rattle.vs_contents.specs.CallTree.{Done, Ask, bind, while_up_to, played}
 use Rattle.vs_flow.specs.Table.{IsTable}
 use Rattle.vs_limits.specs.declared.TheConstants.{ASSIGNED_FIRST, FIRST_PORT}
-use Rattle.vs_outside.specs.Host.{HostContents, Stream}
+use Rattle.vs_outside.specs.Host.{HostContents}
 use Rattle.vs_page.specs.Log.{Driver, Log}
 use Rattle.laws_bytes.specs.Drains.{got_on}
-use Rattle.laws_device_bytes.specs.Streamed.{IsStreamed, Seen, look, seen}
-use Rattle.std.specs.Option.{option_map}
 use Rattle.laws_tables.proofs.{Voices.AreVoiced, Voices.voices_start, Both.start_sound}
-use Rattle.vs_proxy_parts.specs.Turns.{new_proxy}
-use Rattle.laws_world.specs.{Received.IsReceived, Pipes.IsFresh, Pipes.put_on, Pages.AllHold, Events.happens, Events.run}
-use Rattle.laws_world.specs.{Sides.both_of, Sides.driver_ends, Sides.log_with_staged, World.World, World.opening, World.first_cid}
-use Rattle.vs_ring_port.specs.{EndLog.EndLog, EndLog.all_put, EndLog.entries_marked, Lists.Rings}
-use Rattle.vs_ring_port.specs.DriverCalls.{driver_answer, Stage, Publish}
-use Rattle.vs_ring_port.specs.declared.queue.Queue.TheVariants.{Rx, Event}
+use Rattle.laws_world.specs.{Received.IsReceived, Pipes.IsFresh, Pipes.put_on, Pages.AllHold, Events.happens, Events.run, Sides.both_of}
+use Rattle.laws_world.specs.{Sides.driver_ends, Sides.log_with_staged, World.World, World.opening, World.first_cid}
+use Rattle.vs_ring_port.specs.{EndLog.EndLog, EndLog.all_put, EndLog.entries_marked, Lists.Rings, DriverCalls.driver_answer}
+use Rattle.vs_ring_port.specs.{DriverCalls.Stage, DriverCalls.Publish, declared.queue.Queue.TheVariants.Rx}
+use Rattle.vs_ring_port.specs.declared.queue.Queue.TheVariants.{Event}
 use Rattle.vs_ring_list.specs.Ends.{empty_ends}
 use Rattle.laws_tables.specs.Both.{Both}
 use Rattle.vs_driver_parts.specs.Conversations.{DriverTree, load_cid, new_of, new_state, post_events, post_one, posts, publish_of}
 use Rattle.vs_driver_parts.specs.State.{DriverState}
-use Rattle.laws_world.proofs.{DriverSide.DriverHolds, Once.AreOnce, Once.start_once, Played.opening_queued, Runs.and_then}
-use Rattle.laws_world.proofs.{Sound.Goes, Sound.IsWell, Sound.goes_still, Sound.happens_goes, Wire.PutsFit}
+use Rattle.laws_world.proofs.{DriverSide.DriverHolds, Once.AreOnce, Once.start_once, Played.opening_queued, Runs.and_then, Sound.Goes}
+use Rattle.laws_world.proofs.{Sound.IsWell, Sound.goes_still, Sound.happens_goes, Wire.PutsFit}
+use Rattle.laws_device_bytes.proofs.Changing.{no_streams}
 use Rattle.laws_tables.specs.Both as both
 use Rattle.laws_world.specs.Events as events
 
@@ -140,28 +138,6 @@ none_received n s log is = subst (IsReceived (λ f. []) log) (sym is) (record {
   distinct = λ i j d less within. absurd (omega (arith, within));
 })
 
--- A host without streams.
-none_streamed : (host : HostContents) (port : ℕ) → IsFresh host → IsStreamed host [] port (new_proxy first_cid host.base).device.table []
-none_streamed host port fresh = record {
-  joined = λ i e within. absurd (omega (arith, within));
-  labels = λ id s f there label. absurd (none id s there);
-  unique = λ i j s t f a b p q. absurd (none i s a);
-  none = λ f without. refl;
-  waiting = λ id s there waits. absurd (none id s there);
-  lines = record {
-    read = λ i h within. absurd (omega (arith, within));
-    undecided = λ i h within. absurd (omega (arith, within));
-    apart = λ i j h less within. absurd (omega (arith, within));
-  };
-}
-  where
-    by : (b : Bool) (id : ℕ) (s : Seen) → option_map seen (cond b None (slice_get {X = Stream} [] (id - 1))) ≡ Some s → ⊥
-    by true id s there = cc
-    by false id s there = cc
-
-    none : (id : ℕ) (s : Seen) → look host id ≡ Some s → ⊥
-    none id s there = by (id == 0) id s (ap (λ (xs : List Stream). option_map seen (cond (id == 0) None (slice_get xs (id - 1)))) (sym fresh.streams) ∙ there)
-
 module _ (n : ℕ) (host : HostContents) where
   new : IsMade n (opening n host).driver (opening n host).rings.lists (opening n host).rings.driver
   new = new_made n
@@ -209,7 +185,7 @@ module _ (n : ℕ) (host : HostContents) where
     overrun = refl;
     cids = subst (AreVoiced first_cid) opening_is (voices_start first_cid FIRST_PORT ASSIGNED_FIRST);
     once = subst AreOnce opening_is (start_once first_cid FIRST_PORT ASSIGNED_FIRST);
-    streams = none_streamed host (opening n host).proxy.next_port;
+    streams = λ fresh. no_streams host (opening n host).proxy.next_port (opening n host).proxy.device.table refl fresh.streams;
     received = none_received n (opening n host).driver (log_with_staged (opening n host).rings.driver) new.state;
     sent = λ f. ap (put_on f) (sym log_empty);
   }

@@ -14,7 +14,8 @@ use Rattle.vs_proxy_parts.specs.{Handshakes.streams_of, State.ProxyState, State.
 use Rattle.vs_proxy_parts.specs.Turns.{close_handshake, proxy_reset_of, reset_with}
 use Rattle.laws_world.specs.Answers.{Around, answer_around}
 use Rattle.laws_world.proofs.{Chains.HoldsRx, DeviceSide.DeviceHolds, DeviceSide.Kept, DeviceSide.seated}
-use Rattle.laws_world.proofs.{ProxySide.Over, ProxySide.StreamedWith, ProxySide.stays_as, Streams.StreamedIf, Streams.emptied_streams}
+use Rattle.laws_device_bytes.proofs.Changing.{StreamedIf, emptied_streams}
+use Rattle.laws_world.proofs.ProxySide.{Over, StreamedWith, stays_as}
 use Rattle.laws_world.proofs.{Runs.one_step, Wire.PutsFit}
 use Rattle.laws_device_bytes.specs.Streamed.{look}
 use Rattle.laws_device_bytes.proofs.{HostCalls.closed_host, Opens.no_lines, Streamed.same_streamed}

@@ -22,7 +22,7 @@ use Rattle.vs_proxy_parts.specs.Handshakes.{tick_handshake, with_line, without_h
 use Rattle.vs_proxy_parts.specs.State.{Handshake, ProxyState, Turning, start, with_device}
 use Rattle.laws_world.specs.{Answers.Around, Answers.answer_around, Answers.bytes_with, Events.line_read}
 use Rattle.laws_world.proofs.{Chains.HoldsRx, DeviceSide.DeviceHolds, DeviceSide.Kept, DeviceSide.end_in, DeviceSide.seated, Wire.PutsFit}
-use Rattle.laws_world.proofs.Streams.{StreamedIf, called_host, goes_on}
+use Rattle.laws_device_bytes.proofs.Changing.{StreamedIf, called_host, goes_on}
 use Rattle.std.specs.List.{All}
 use Rattle.laws_device_bytes.specs.Streamed.{has_line, look, reading}
 use Rattle.laws_device_bytes.proofs.{HostCalls.accepted_host, HostCalls.closed_host, Lines.line_ends, Lines.line_whole, Opens.IsHand}

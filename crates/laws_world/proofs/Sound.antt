@@ -29,7 +29,7 @@ use Rattle.laws_world.specs.{Sides.log_with_staged, World.World, World.around, W
 use Rattle.laws_world.proofs.{Received.same_received, Chains.HoldsRx, DeviceSide.DeviceHolds, DriverSide.DriverHolds}
 use Rattle.laws_world.proofs.{Played.device_plays_keeps, Played.driver_plays_keeps, Queues.pages_put, Rings.device_leaves_given}
 use Rattle.laws_world.proofs.{Rings.driver_leaves_cid, Runs.keeps_sound, Runs.stays, Once.AreOnce, Once.keeps_once, Wire.PutsFit}
-use Rattle.laws_world.proofs.Streams.{StreamedIf}
+use Rattle.laws_device_bytes.proofs.Changing.{StreamedIf}
 use Rattle.vs_flow.specs.{declared.flow.Flow.Flow, Table.Table}
 use Rattle.std.specs.List.{All}
 use Rattle.vs_limits.specs.declared.TheConstants.{GUEST_CID_MIN, GUEST_CID_MAX}
