@@ -163,18 +163,19 @@ module _ (n : ℕ) (host : HostContents) where
     sound = subst (λ (b : Both). both.IsSound first_cid b) opening_is (start_sound first_cid FIRST_PORT ASSIGNED_FIRST);
     driver = driver_holds n (opening n host).driver new.state;
     device = record {
-      sound = record {
-        within = omega arith;
-        rising = λ i j d less within. absurd (omega (arith, within));
-        distinct = λ i j d less within. absurd (omega (arith, within));
-        were_given = λ i d within. absurd (omega (arith, within));
-        slots_left = omega arith;
+      fits = record {
+        cid_fits = omega arith;
+        sound = record {
+          within = omega arith;
+          rising = λ i j d less within. absurd (omega (arith, within));
+          distinct = λ i j d less within. absurd (omega (arith, within));
+          were_given = λ i d within. absurd (omega (arith, within));
+          slots_left = omega arith;
+        };
+        entries = λ i d within. absurd (omega (arith, within));
+        owed = λ i d within. absurd (omega (arith, within));
       };
-      ends = λ i d within. absurd (omega (arith, within));
-      fresh = λ i d within. absurd (omega (arith, within));
-      owed = λ i d within. absurd (omega (arith, within));
       port = omega arith;
-      known = omega arith;
     };
     driver_puts = subst PutsFit (sym log_empty) tt;
     device_puts = tt;

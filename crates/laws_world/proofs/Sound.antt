@@ -200,7 +200,7 @@ module _ (fresh : Type 0) (w : World) (well : IsWell fresh w) where
       let fair = next_is_fair Device first_cid p (both_of w) well.sound next in
       dropped_empty first_cid (both_of w) well.sound well.cids p next dropped (λ other. (got_formed Device p w.rings.device.entries (fair (flow_got Device p))).payload other) e.value.end
       (subst (λ (f : Flow). ends_of f (entries_of (λ (c : DeviceConnection). c.end) w.proxy.device.table) ≡ e.value.end ∷ []) on
-      (one_end (λ (c : DeviceConnection). c.end) w.proxy.device.table e well.device.sound there)) given
+      (one_end (λ (c : DeviceConnection). c.end) w.proxy.device.table e well.device.fits.sound there)) given
 
   takes_goes : (queue : Queue) → works_on queue w.rings.driver.staged ≡ true → Goes fresh w (driver_step (takes_page queue) w)
   takes_goes q.Tx may = driver_step_goes (takes_page q.Tx)
